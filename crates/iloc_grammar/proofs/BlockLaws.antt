@@ -1,0 +1,267 @@
+-- A text means a value block by block exactly where it means it as a whole.
+use Rattle.std.proofs.Common.{◌≡◌, ◌≢◌, ◌⊎◌, inl, inr, ℕ, Bool, true, false, cond, ◌||◌, List, [], ◌∷◌, ◌++◌, map, filter_map, refl, sym, ap, ◌∙◌, subst, arith, Option, Some, None, IfSome, MatchOption, option_map, option_to_list, true≢false}
+use Rattle.std.specs.List.{AllByRecursion, list_any}
+use Rattle.std.specs.Char.{is_ascii_alphanumeric, to_ascii_lowercase}
+use Rattle.std.specs.Ordering.{nat_cmp, eq_by_cmp}
+use Rattle.std.specs.FinMap.{find}
+use Rattle.std.proofs.lemmas.Bool.{and_parts, or_parts, or_from, cases_eq}
+use Rattle.std.proofs.lemmas.Bool.Decides.{nat_tests}
+use Rattle.iloc_grammar.specs.Pieces.{pieces}
+use Rattle.iloc_grammar.specs.Words.{IsTable, lower}
+use Rattle.iloc_grammar.specs.Written.{Unicode, Transform, Extension, unicode, transform, other, Written, extension_pieces, extension_block, blocks_of, IsOther, IsPrivate, kept, is_other_singleton, IsExtension, singleton, IsWritten, AllDifferent}
+use Rattle.iloc_grammar.specs.Meaning.{Locale, IdentifierMeans, Means, meaning, map_of, unicode_part, transform_part, private_part, other_part, by_singleton, normal_unicode, normal_transform}
+use Rattle.iloc_grammar.specs.Faults.{head, tail_blocks, SpellsIdentifier, IsBlock}
+use Rattle.iloc_grammar.specs.ByBlocks.{UnicodeMeans, TransformMeans, by_letter, other_blocks, MeansByBlocks}
+use Rattle.iloc_grammar.proofs.Readings.{head-spelling, blocks-spelling, unicode_of, unicode_of-pieces, transform_of, transform_of-pieces}
+use Rattle.iloc_grammar.proofs.IdentifierLaws.{one_meaning}
+use Rattle.iloc_grammar.proofs.PiecesLaws.{pieces_nonempty}
+use Rattle.iloc_grammar.proofs.FaultLaws.{AreGood, good_means}
+
+-- looking up a block
+
+tied : (q k : ℕ) → eq_by_cmp nat_cmp q k ≡ true → k ≡ q
+tied q k h = grind (arith, nat_tests)
+
+find_rule : (T : ℕ → Bool) (q : ℕ) (es : List (ℕ × Extension)) → AllByRecursion (λ e. IsExtension T (singleton e) e.1) es → IfSome (find nat_cmp q (by_singleton es)) (IsExtension T q)
+find_rule T q [] h = tt
+find_rule T q (e ∷ es) h = elim (eq_by_cmp nat_cmp q (singleton e)) as (λ b. eq_by_cmp nat_cmp q (singleton e) ≡ b → IfSome (cond b (Some e.1) (find nat_cmp q (by_singleton es))) (IsExtension T q)) [
+  | true ↦ λ t. subst (λ (c : ℕ). IsExtension T c e.1) (tied q (singleton e) t) h.0
+  | false ↦ λ t. find_rule T q es h.1
+] refl
+
+or_else : {X : Type 0} → Option X → Option X → Option X
+or_else None p = p
+or_else (Some x) p = Some x
+
+find_block : (q : ℕ) (es : List (ℕ × Extension)) (x : Option (ℕ × List (List ℕ))) → find nat_cmp q (by_letter (map extension_block es ++ option_to_list x)) ≡ or_else (option_map extension_pieces (find nat_cmp q (by_singleton es))) (find nat_cmp q (by_letter (option_to_list x)))
+unfolding or_else
+find_block q [] x = refl
+find_block q (e ∷ es) x = ap (cond (eq_by_cmp nat_cmp q (singleton e)) (Some (extension_pieces e.1))) (find_block q es x)
+    ∙ elim (eq_by_cmp nat_cmp q (singleton e)) as (λ b. cond b (Some (extension_pieces e.1)) (or_else (option_map extension_pieces (find nat_cmp q (by_singleton es))) (find nat_cmp q (by_letter (option_to_list x)))) ≡ or_else (option_map extension_pieces (cond b (Some e.1) (find nat_cmp q (by_singleton es)))) (find nat_cmp q (by_letter (option_to_list x)))) [ true ↦ refl | false ↦ refl ]
+
+no_private : (q : ℕ) → q ≢ 120 → (x : Option (ℕ × List (List ℕ))) → IfSome x (λ e. (singleton e ≡ 120) × IsPrivate e.1) → find nat_cmp q (by_letter (option_to_list x)) ≡ None
+no_private q n None h = refl
+no_private q n (Some b) h = ap (λ t. cond t (Some b.1) None) (untied q (singleton b) (λ e. n (sym e ∙ h.0)))
+  where
+    untied : (q k : ℕ) → k ≢ q → eq_by_cmp nat_cmp q k ≡ false
+    untied q k h = grind (arith, nat_tests)
+
+unicode_by : (T : ℕ → Bool) (o : Option Extension) → IfSome o (IsExtension T 117) → (p : Option (List (List ℕ))) → p ≡ None → MatchOption (or_else (option_map extension_pieces o) p) (unicode_part o ≡ record { attributes = []; keywords = [] }) (λ ps. UnicodeMeans ps (unicode_part o))
+unfolding or_else
+unicode_by T None h p e = subst (λ (p : Option (List (List ℕ))). MatchOption p (unicode_part None ≡ record { attributes = []; keywords = [] }) (λ ps. UnicodeMeans ps (unicode_part None))) (sym e) refl
+unicode_by T (Some (unicode u)) h p e = record { written = u; grammatical = h.1; spelled = refl; means = refl }
+unicode_by T (Some (transform m)) h p e = absurd (let k = h.0 in omega arith)
+unicode_by T (Some (other ps)) h p e = absurd (true≢false (sym h.0))
+
+transform_by : (T : ℕ → Bool) (o : Option Extension) → IfSome o (IsExtension T 116) → (p : Option (List (List ℕ))) → p ≡ None → MatchOption (or_else (option_map extension_pieces o) p) (transform_part o ≡ record { id = None; fields = [] }) (λ ps. TransformMeans T ps (transform_part o))
+unfolding or_else
+transform_by T None h p e = subst (λ (p : Option (List (List ℕ))). MatchOption p (transform_part None ≡ record { id = None; fields = [] }) (λ ps. TransformMeans T ps (transform_part None))) (sym e) refl
+transform_by T (Some (unicode u)) h p e = absurd (let k = h.0 in omega arith)
+transform_by T (Some (transform m)) h p e = record { written = m; grammatical = h.1; spelled = refl; means = refl }
+transform_by T (Some (other ps)) h p e = absurd (true≢false (sym h.0))
+
+private_by : (T : ℕ → Bool) (o : Option Extension) → IfSome o (IsExtension T 120) → (x : Option (ℕ × List (List ℕ))) → IfSome x (λ e. (singleton e ≡ 120) × IsPrivate e.1) → MatchOption (or_else (option_map extension_pieces o) (find nat_cmp 120 (by_letter (option_to_list x)))) (private_part x ≡ []) (λ ps. IsPrivate ps × (private_part x ≡ map lower ps))
+unfolding or_else
+private_by T None h None k = refl
+private_by T None h (Some b) k = subst (λ (c : ℕ). MatchOption (cond (eq_by_cmp nat_cmp 120 c) (Some b.1) None) (map lower b.1 ≡ []) (λ ps. IsPrivate ps × (map lower b.1 ≡ map lower ps))) (sym k.0) (k.1, refl)
+private_by T (Some (unicode u)) h x k = absurd (let k = h.0 in omega arith)
+private_by T (Some (transform m)) h x k = absurd (let k = h.0 in omega arith)
+private_by T (Some (other ps)) h x k = absurd (true≢false (sym h.0))
+
+-- the others
+
+abbrev kept_of : ℕ × List (List ℕ) → ℕ × List (List ℕ)
+kept_of b = (b.0, kept b.1)
+
+no_others_private : (x : Option (ℕ × List (List ℕ))) → IfSome x (λ e. (singleton e ≡ 120) × IsPrivate e.1) → other_blocks (by_letter (option_to_list x)) ≡ []
+no_others_private None h = refl
+no_others_private (Some b) h = ap (λ c. cond (is_other_singleton c) ((singleton b, b.1) ∷ []) []) h.0
+
+others_by : (T : ℕ → Bool) (es : List (ℕ × Extension)) (x : Option (ℕ × List (List ℕ))) → AllByRecursion (λ e. IsExtension T (singleton e) e.1) es → IfSome x (λ e. (singleton e ≡ 120) × IsPrivate e.1) →
+    (filter_map other_part (by_singleton es) ≡ map kept_of (other_blocks (by_letter (map extension_block es ++ option_to_list x)))) × AllByRecursion (λ b. IsOther b.1) (other_blocks (by_letter (map extension_block es ++ option_to_list x)))
+others_by T [] x h k = (ap (map kept_of) (sym (no_others_private x k)), subst (AllByRecursion (λ (b : ℕ × List (List ℕ)). IsOther b.1)) (sym (no_others_private x k)) tt)
+others_by T (e ∷ es) x h k = at_kind e.1 h.0 (others_by T es x h.1 k)
+  where
+    Goal : Extension → Type 0
+    Goal f = (filter_map other_part ((singleton e, f) ∷ by_singleton es) ≡ map kept_of (other_blocks ((singleton e, extension_pieces f) ∷ by_letter (map extension_block es ++ option_to_list x)))) × AllByRecursion (λ b. IsOther b.1) (other_blocks ((singleton e, extension_pieces f) ∷ by_letter (map extension_block es ++ option_to_list x)))
+
+    at_kind : (f : Extension) → IsExtension T (singleton e) f → (filter_map other_part (by_singleton es) ≡ map kept_of (other_blocks (by_letter (map extension_block es ++ option_to_list x)))) × AllByRecursion (λ b. IsOther b.1) (other_blocks (by_letter (map extension_block es ++ option_to_list x))) → Goal f
+    at_kind (unicode u) r rest = rw r.0 rest
+    at_kind (transform m) r rest = rw r.0 rest
+    at_kind (other ps) r rest = rw r.0 (ap (λ l. (singleton e, kept ps) ∷ l) rest.0, (r.1, rest.1))
+
+letter : (c : ℕ) → is_ascii_alphanumeric (to_ascii_lowercase c) ≡ true → is_ascii_alphanumeric c ≡ true
+letter c h = grind (arith, nat_tests)
+
+rule_letter : (T : ℕ → Bool) (c : ℕ) (e : Extension) → IsExtension T c e → is_ascii_alphanumeric c ≡ true
+rule_letter T c (unicode u) h = rw h.0
+rule_letter T c (transform m) h = rw h.0
+rule_letter T c (other ps) h = (and_parts _ _ h.0).0
+
+letters_by : (T : ℕ → Bool) (es : List (ℕ × Extension)) (x : Option (ℕ × List (List ℕ))) → AllByRecursion (λ e. IsExtension T (singleton e) e.1) es → IfSome x (λ e. (singleton e ≡ 120) × IsPrivate e.1) → AllByRecursion (λ b. is_ascii_alphanumeric b.0 ≡ true) (map extension_block es ++ option_to_list x)
+letters_by T [] None h k = tt
+letters_by T [] (Some b) h k = (letter b.0 (rw k.0), tt)
+letters_by T (e ∷ es) x h k = (letter e.0 (rule_letter T (singleton e) e.1 h.0), letters_by T es x h.1 k)
+
+rule_no_x : (T : ℕ → Bool) (c : ℕ) (e : Extension) → IsExtension T c e → eq_by_cmp nat_cmp c 120 ≡ false
+rule_no_x T c (unicode u) h = rw h.0
+rule_no_x T c (transform m) h = rw h.0
+rule_no_x T c (other ps) h = no_x c h.0
+  where
+    no_x : (c : ℕ) → is_other_singleton c ≡ true → eq_by_cmp nat_cmp c 120 ≡ false
+    no_x c h = grind (arith, nat_tests)
+
+any_by : (T : ℕ → Bool) (c : ℕ) (es : List (ℕ × Extension)) (x : Option (ℕ × List (List ℕ))) → eq_by_cmp nat_cmp c 120 ≡ false → list_any (eq_by_cmp nat_cmp c) (map (λ e. singleton e) es) ≡ false → IfSome x (λ e. (singleton e ≡ 120) × IsPrivate e.1) → list_any (eq_by_cmp nat_cmp c) (map (λ b. singleton b) (map extension_block es ++ option_to_list x)) ≡ false
+any_by T c [] None n a k = refl
+any_by T c [] (Some b) n a k = ap (λ d. eq_by_cmp nat_cmp c d || false) k.0 ∙ ap (λ t. t || false) n
+any_by T c (e ∷ es) x n a k = let parts = or_parts _ _ a in or_from _ _ parts.0 (any_by T c es x n parts.1 k)
+
+different_by : (T : ℕ → Bool) (es : List (ℕ × Extension)) (x : Option (ℕ × List (List ℕ))) → AllByRecursion (λ e. IsExtension T (singleton e) e.1) es → AllDifferent nat_cmp (map (λ e. singleton e) es) → IfSome x (λ e. (singleton e ≡ 120) × IsPrivate e.1) → AllDifferent nat_cmp (map (λ b. singleton b) (map extension_block es ++ option_to_list x))
+different_by T [] None h d k = tt
+different_by T [] (Some b) h d k = (refl, tt)
+different_by T (e ∷ es) x h d k = (any_by T (singleton e) es x (rule_no_x T (singleton e) e.1 h.0) d.0 k, different_by T es x h.1 d.1 k)
+
+by_blocks_of : (T : ℕ → Bool) (t : List ℕ) (w : Written) → IsWritten T w → IdentifierMeans T (head (pieces t)) (meaning w).id → tail_blocks (pieces t) ≡ blocks_of w → MeansByBlocks T t (meaning w)
+by_blocks_of T t w h i e =
+    let o = others_by T w.extensions w.private h.extensions h.private in record {
+      id = i;
+      letters = subst (AllByRecursion (λ (b : ℕ × List (List ℕ)). is_ascii_alphanumeric b.0 ≡ true)) (sym e) (letters_by T w.extensions w.private h.extensions h.private);
+      different = subst (λ (bs : List (ℕ × List (List ℕ))). AllDifferent nat_cmp (map (λ b. singleton b) bs)) (sym e) (different_by T w.extensions w.private h.extensions h.different h.private);
+      unicode = subst (λ (o : Option (List (List ℕ))). MatchOption o ((meaning w).unicode ≡ record { attributes = []; keywords = [] }) (λ ps. UnicodeMeans ps (meaning w).unicode)) (sym (ap (λ bs. find nat_cmp 117 (by_letter bs)) e ∙ find_block 117 w.extensions w.private)) (unicode_by T (find nat_cmp 117 (by_singleton w.extensions)) (find_rule T 117 w.extensions h.extensions) _ (no_private 117 (λ e. absurd (omega arith)) w.private h.private));
+      transform = subst (λ (o : Option (List (List ℕ))). MatchOption o ((meaning w).transform ≡ record { id = None; fields = [] }) (λ ps. TransformMeans T ps (meaning w).transform)) (sym (ap (λ bs. find nat_cmp 116 (by_letter bs)) e ∙ find_block 116 w.extensions w.private)) (transform_by T (find nat_cmp 116 (by_singleton w.extensions)) (find_rule T 116 w.extensions h.extensions) _ (no_private 116 (λ e. absurd (omega arith)) w.private h.private));
+      private = subst (λ (o : Option (List (List ℕ))). MatchOption o ((meaning w).private ≡ []) (λ ps. IsPrivate ps × ((meaning w).private ≡ map lower ps))) (sym (ap (λ bs. find nat_cmp 120 (by_letter bs)) e ∙ find_block 120 w.extensions w.private)) (private_by T (find nat_cmp 120 (by_singleton w.extensions)) (find_rule T 120 w.extensions h.extensions) w.private h.private);
+      other_rules = subst (λ (bs : List (ℕ × List (List ℕ))). AllByRecursion (λ (b : ℕ × List (List ℕ)). IsOther b.1) (other_blocks (by_letter bs))) (sym e) o.1;
+      others = ap (map_of nat_cmp) (o.0 ∙ ap (λ bs. map kept_of (other_blocks (by_letter bs))) (sym e));
+    }
+
+pub means_by_blocks : (T : ℕ → Bool) → IsTable T → (t : List ℕ) (M : Locale) → Means T t M → MeansByBlocks T t M
+means_by_blocks T table t M m = subst (MeansByBlocks T t) (sym m.means)
+    (by_blocks_of T t m.written m.grammatical
+    (record { written = m.written.id; grammatical = m.grammatical.id; spelled = ap head m.spelled ∙ head-spelling m.written m.grammatical; means = refl })
+    (ap tail_blocks m.spelled ∙ blocks-spelling table m.written m.grammatical))
+
+-- and back: each block follows its rule
+
+abbrev RuleAt : (ℕ → Bool) → ℕ → List (List ℕ) → Type 0
+RuleAt T q ps = ((q ≡ 120) × IsPrivate ps) ⊎ ((e : Extension) × IsExtension T q e × (ps ≡ extension_pieces e))
+
+self_tied : (q : ℕ) → eq_by_cmp nat_cmp q q ≡ true
+self_tied q = grind (arith, nat_tests)
+
+find_later : (P : List (List ℕ) → Type 0) (q : ℕ) (b : ℕ × List (List ℕ)) (bs : List (ℕ × List (List ℕ))) → list_any (eq_by_cmp nat_cmp (singleton b)) (map (λ b. singleton b) bs) ≡ false → IfSome (find nat_cmp q (by_letter (b ∷ bs))) P → IfSome (find nat_cmp q (by_letter bs)) P
+find_later P q b bs d h = (elim (eq_by_cmp nat_cmp q (singleton b)) as (λ t. eq_by_cmp nat_cmp q (singleton b) ≡ t → IfSome (cond t (Some b.1) (find nat_cmp q (by_letter bs))) P → IfSome (find nat_cmp q (by_letter bs)) P) [
+  | true ↦ λ t h. subst (λ (o : Option (List (List ℕ))). IfSome o P) (sym (none_found bs (subst (λ (c : ℕ). list_any (eq_by_cmp nat_cmp c) (map (λ b. singleton b) bs) ≡ false) (tied q (singleton b) t) d))) tt
+  | false ↦ λ t h. h
+]) refl h
+  where
+    none_found : (bs : List (ℕ × List (List ℕ))) → list_any (eq_by_cmp nat_cmp q) (map (λ b. singleton b) bs) ≡ false → find nat_cmp q (by_letter bs) ≡ None
+    none_found [] d = refl
+    none_found (b ∷ bs) d = let parts = or_parts _ _ d in ap (λ t. cond t (Some b.1) (find nat_cmp q (by_letter bs))) parts.0 ∙ none_found bs parts.1
+
+each_block : (P : ℕ → List (List ℕ) → Type 0) (bs : List (ℕ × List (List ℕ))) → AllDifferent nat_cmp (map (λ b. singleton b) bs) → ((q : ℕ) → IfSome (find nat_cmp q (by_letter bs)) (P q)) → AllByRecursion (λ b. P (singleton b) b.1) bs
+each_block P [] d f = tt
+each_block P (b ∷ bs) d f = (subst (λ (t : Bool). IfSome (cond t (Some b.1) (find nat_cmp (singleton b) (by_letter bs))) (P (singleton b))) (self_tied (singleton b)) (f (singleton b)), each_block P bs d.1 (λ q. find_later (P q) q b bs d.0 (f q)))
+
+-- only the rule of its singleton
+abbrev KnownAt : (ℕ → Bool) → ℕ → List (List ℕ) → Type 0
+KnownAt T q ps = (q ≡ 117 → RuleAt T q ps) × (q ≡ 116 → RuleAt T q ps) × (q ≡ 120 → RuleAt T q ps)
+
+unicode_rule : (T : ℕ → Bool) (o : Option (List (List ℕ))) (v : Unicode) (A : Type 0) → MatchOption o A (λ ps. UnicodeMeans ps v) → IfSome o (RuleAt T 117)
+unicode_rule T None v A h = tt
+unicode_rule T (Some ps) v A h = inr (unicode h.written, (refl, h.grammatical), h.spelled)
+
+transform_rule : (T : ℕ → Bool) (o : Option (List (List ℕ))) (v : Transform) (A : Type 0) → MatchOption o A (λ ps. TransformMeans T ps v) → IfSome o (RuleAt T 116)
+transform_rule T None v A h = tt
+transform_rule T (Some ps) v A h = inr (transform h.written, (refl, h.grammatical), h.spelled)
+
+private_rule : (T : ℕ → Bool) (o : Option (List (List ℕ))) (l : List (List ℕ)) (A : Type 0) → MatchOption o A (λ ps. IsPrivate ps × (l ≡ map lower ps)) → IfSome o (RuleAt T 120)
+private_rule T None l A h = tt
+private_rule T (Some ps) l A h = inl (refl, h.0)
+
+known : (T : ℕ → Bool) (q : ℕ) (f : ℕ → Option (List (List ℕ))) → IfSome (f 117) (RuleAt T 117) → IfSome (f 116) (RuleAt T 116) → IfSome (f 120) (RuleAt T 120) → IfSome (f q) (KnownAt T q)
+known T q f u t x = both (f q) (at q 117 u) (at q 116 t) (at q 120 x)
+  where
+    at : (q k : ℕ) → IfSome (f k) (RuleAt T k) → q ≡ k → IfSome (f q) (RuleAt T q)
+    at q k h e = subst (λ (c : ℕ). IfSome (f c) (RuleAt T c)) (sym e) h
+
+    both : (o : Option (List (List ℕ))) → (q ≡ 117 → IfSome o (RuleAt T q)) → (q ≡ 116 → IfSome o (RuleAt T q)) → (q ≡ 120 → IfSome o (RuleAt T q)) → IfSome o (KnownAt T q)
+    both None a b c = tt
+    both (Some ps) a b c = (a, b, c)
+
+others_each : (bs : List (ℕ × List (List ℕ))) → AllByRecursion (λ b. IsOther b.1) (other_blocks (by_letter bs)) → AllByRecursion (λ b. is_other_singleton (singleton b) ≡ true → IsOther b.1) bs
+others_each [] h = tt
+others_each (b ∷ bs) h = (elim (is_other_singleton (singleton b)) as (λ t. is_other_singleton (singleton b) ≡ t → AllByRecursion (λ b. IsOther b.1) (cond t ((singleton b, b.1) ∷ other_blocks (by_letter bs)) (other_blocks (by_letter bs))) → AllByRecursion (λ b. is_other_singleton (singleton b) ≡ true → IsOther b.1) (b ∷ bs)) [
+  | true ↦ λ t h. ((λ _. h.0), others_each bs h.1)
+  | false ↦ λ t h. ((λ e. absurd (true≢false (sym e ∙ t))), others_each bs h)
+]) refl h
+
+kind_of : (c : ℕ) → is_ascii_alphanumeric c ≡ true → ((to_ascii_lowercase c ≡ 117) ⊎ (to_ascii_lowercase c ≡ 116)) ⊎ ((to_ascii_lowercase c ≡ 120) ⊎ (is_other_singleton (to_ascii_lowercase c) ≡ true))
+kind_of c h = at (cases_eq (to_ascii_lowercase c) 117) (cases_eq (to_ascii_lowercase c) 116) (cases_eq (to_ascii_lowercase c) 120)
+  where
+    rest : (c : ℕ) → is_ascii_alphanumeric c ≡ true → (to_ascii_lowercase c ≡ 117 → ⊥) → (to_ascii_lowercase c ≡ 116 → ⊥) → (to_ascii_lowercase c ≡ 120 → ⊥) → is_other_singleton (to_ascii_lowercase c) ≡ true
+    rest c h u t x = grind (arith, nat_tests)
+
+    at : (to_ascii_lowercase c ≡ 117) ⊎ (to_ascii_lowercase c ≡ 117 → ⊥) → (to_ascii_lowercase c ≡ 116) ⊎ (to_ascii_lowercase c ≡ 116 → ⊥) → (to_ascii_lowercase c ≡ 120) ⊎ (to_ascii_lowercase c ≡ 120 → ⊥) → ((to_ascii_lowercase c ≡ 117) ⊎ (to_ascii_lowercase c ≡ 116)) ⊎ ((to_ascii_lowercase c ≡ 120) ⊎ (is_other_singleton (to_ascii_lowercase c) ≡ true))
+    at (inl e) b d = inl (inl e)
+    at (inr a) (inl e) d = inl (inr e)
+    at (inr a) (inr b) (inl e) = inr (inl e)
+    at (inr a) (inr b) (inr d) = inr (inr (rest c h a b d))
+
+good_each : (T : ℕ → Bool) (seen : List ℕ) (bs : List (ℕ × List (List ℕ))) → AllByRecursion (λ b. is_ascii_alphanumeric b.0 ≡ true) bs → AllDifferent nat_cmp (map (λ b. singleton b) bs) → AllByRecursion (λ b. list_any (eq_by_cmp nat_cmp (singleton b)) seen ≡ false) bs → AllByRecursion (λ b. KnownAt T (singleton b) b.1) bs → AllByRecursion (λ b. is_other_singleton (singleton b) ≡ true → IsOther b.1) bs → AreGood T seen bs
+good_each T seen [] l d n k o = tt
+good_each T seen (b ∷ bs) l d n k o = (((l.0, n.0), rule (kind_of b.0 l.0)), good_each T (singleton b ∷ seen) bs l.1 d.1 (see bs d.0 n.1) k.1 o.1)
+  where
+    rule : ((singleton b ≡ 117) ⊎ (singleton b ≡ 116)) ⊎ ((singleton b ≡ 120) ⊎ (is_other_singleton (singleton b) ≡ true)) → IsBlock T b
+    rule (inl (inl e)) = k.0.0 e
+    rule (inl (inr e)) = k.0.1 e
+    rule (inr (inl e)) = k.0.2 e
+    rule (inr (inr e)) = inr (other b.1, (e, o.0 e), refl)
+
+    see : (cs : List (ℕ × List (List ℕ))) → list_any (eq_by_cmp nat_cmp (singleton b)) (map (λ b. singleton b) cs) ≡ false → AllByRecursion (λ b. list_any (eq_by_cmp nat_cmp (singleton b)) seen ≡ false) cs → AllByRecursion (λ c. list_any (eq_by_cmp nat_cmp (singleton c)) (singleton b ∷ seen) ≡ false) cs
+    see [] d n = tt
+    see (c ∷ cs) d n = let parts = or_parts _ _ d in (or_from _ _ (tied_back (singleton b) (singleton c) parts.0) n.0, see cs parts.1 n.1)
+      where
+        tied_back : (a b : ℕ) → eq_by_cmp nat_cmp a b ≡ false → eq_by_cmp nat_cmp b a ≡ false
+        tied_back a b h = grind (arith, nat_tests)
+
+none_seen : (bs : List (ℕ × List (List ℕ))) → AllByRecursion (λ b. list_any (eq_by_cmp nat_cmp (singleton b)) [] ≡ false) bs
+none_seen [] = tt
+none_seen (b ∷ bs) = (refl, none_seen bs)
+
+blocks_good : (T : ℕ → Bool) (t : List ℕ) (M : Locale) → MeansByBlocks T t M → AreGood T [] (tail_blocks (pieces t))
+blocks_good T t M m = good_each T [] (tail_blocks (pieces t)) m.letters m.different (none_seen (tail_blocks (pieces t)))
+    (each_block (KnownAt T) (tail_blocks (pieces t)) m.different (λ q. known T q (λ q. find nat_cmp q (by_letter (tail_blocks (pieces t)))) (unicode_rule T _ M.unicode _ m.unicode) (transform_rule T _ M.transform _ m.transform) (private_rule T _ M.private _ m.private)))
+    (others_each (tail_blocks (pieces t)) m.other_rules)
+
+-- one value
+
+one_unicode : (o : Option (List (List ℕ))) (u v e : Unicode) → MatchOption o (u ≡ e) (λ ps. UnicodeMeans ps u) → MatchOption o (v ≡ e) (λ ps. UnicodeMeans ps v) → u ≡ v
+one_unicode None u v e a b = a ∙ sym b
+one_unicode (Some ps) u v e a b = a.means ∙ ap normal_unicode (sym (unicode_of-pieces a.written a.grammatical) ∙ ap unicode_of (sym a.spelled ∙ b.spelled) ∙ unicode_of-pieces b.written b.grammatical) ∙ sym b.means
+
+one_transform : (T : ℕ → Bool) (o : Option (List (List ℕ))) (m n e : Transform) → MatchOption o (m ≡ e) (λ ps. TransformMeans T ps m) → MatchOption o (n ≡ e) (λ ps. TransformMeans T ps n) → m ≡ n
+one_transform T None m n e a b = a ∙ sym b
+one_transform T (Some ps) m n e a b = a.means ∙ ap normal_transform (sym (transform_of-pieces a.written a.grammatical) ∙ ap transform_of (sym a.spelled ∙ b.spelled) ∙ transform_of-pieces b.written b.grammatical) ∙ sym b.means
+
+one_private : (o : Option (List (List ℕ))) (k l : List (List ℕ)) → MatchOption o (k ≡ []) (λ ps. IsPrivate ps × (k ≡ map lower ps)) → MatchOption o (l ≡ []) (λ ps. IsPrivate ps × (l ≡ map lower ps)) → k ≡ l
+one_private None k l a b = a ∙ sym b
+one_private (Some ps) k l a b = a.1 ∙ sym b.1
+
+one_by_blocks : (T : ℕ → Bool) (t : List ℕ) (L M : Locale) → MeansByBlocks T t L → MeansByBlocks T t M → L ≡ M
+one_by_blocks T t L M a b = λ i. record {
+  id = one_meaning (head (pieces t)) L.id M.id a.id b.id i;
+  unicode = one_unicode _ L.unicode M.unicode _ a.unicode b.unicode i;
+  transform = one_transform T _ L.transform M.transform _ a.transform b.transform i;
+  private = one_private _ L.private M.private a.private b.private i;
+  others = (a.others ∙ sym b.others) i;
+}
+
+pub blocks_mean : (T : ℕ → Bool) → IsTable T → (t : List ℕ) (M : Locale) → MeansByBlocks T t M → Means T t M
+blocks_mean T table t M m = at_pieces (pieces t) refl
+  where
+    at_pieces : (ps : List (List ℕ)) → pieces t ≡ ps → Means T t M
+    at_pieces [] e = absurd (pieces_nonempty t e)
+    at_pieces (p ∷ ps) e =
+        let spells : SpellsIdentifier T (head (pieces t)) = (m.id.written, m.id.grammatical, m.id.spelled) in
+        let r = good_means T t p ps e (subst (λ l. SpellsIdentifier T (head l)) e spells) (subst (λ l. AreGood T [] (tail_blocks l)) e (blocks_good T t M m)) in
+        subst (Means T t) (one_by_blocks T t r.0 M (means_by_blocks T table t r.0 r.1) m) r.1

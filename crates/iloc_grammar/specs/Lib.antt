@@ -1,0 +1,9 @@
+pub mod Pieces
+pub mod Words
+pub mod Written
+pub mod Meaning
+pub mod Values
+pub mod Faults
+pub mod ByBlocks
+pub mod Steps
+pub mod Reading

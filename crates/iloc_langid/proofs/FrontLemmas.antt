@@ -1,0 +1,159 @@
+-- From what a front is read as to what the whole or the head is read as.
+use Rattle.std.proofs.Common.{◌≡◌, ◌≢◌, ℕ, ◌<◌, ◌≤◌, Bool, true, false, cond, List, [], ◌∷◌, ◌++◌, length, map, refl, sym, ap, ◌∙◌, subst, arith, append-nil, Option, Some, None, option_map, Result, Ok, Err, true≢false, ◌==◌}
+use Rattle.std.specs.Prelude.{filter, if◌then◌else◌}
+use Rattle.std.proofs.lemmas.Bool.Decides.{nat_tests}
+use Rattle.std.proofs.lemmas.Bool.{false_from_ne_true}
+use Rattle.iloc_grammar.specs.Words.{Kind, Language, Script, Region, Variant, is_word, IsWord, normal, lower, title, upper, languages, read}
+use Rattle.iloc_grammar.specs.Meaning.{IdentifierMeans}
+use Rattle.iloc_grammar.specs.Faults.{SpellsIdentifier, front, head, is_one_byte, first_piece}
+use Rattle.iloc_grammar.specs.Reading.{first_item}
+use Rattle.iloc_grammar.specs.Reading.{take_first, skip_first, rest_of, front_of, after_front, from_block, after_head, starts_block}
+use Rattle.iloc_grammar.proofs.ReadingLaws.{EndsWords, starts_ends, from_block_starts, front-from_block, front_long, after_long, starts_empty, after_front-append, front_means, refuses_more, refuses_repeat, counts_variants, front_is_front}
+use Rattle.iloc_grammar.specs.Reading.{IdentifierFront}
+use Rattle.iloc_subtags.specs.declared.parse_error.ParseError.{ParseError}
+use Rattle.iloc_subtags.specs.declared.parse_error.ParseError.TheVariants.{InvalidLanguage, InvalidSubtag, InvalidExtension, DuplicatedExtension, OutOfMemory}
+use Rattle.iloc_langid.specs.declared.identifier.LanguageIdentifier.{LanguageIdentifier}
+use Rattle.iloc_langid.specs.Reads.{value_of, ReadsAs, FrontGives, FrontReadsAs, VariantsGive}
+
+pub no_empty_language : is_word (Language languages) [] ≡ false
+unfolding is_word languages
+no_empty_language = refl
+
+no_language : {P : Type 0} → IsWord (Language languages) [] → P
+no_language h = absurd (true≢false (sym h ∙ no_empty_language))
+
+pub accepted_from_read : {E : Type 0} (k : Kind) (e : E) (p w : List ℕ) → Ok w ≡ read k e p → IsWord k p × (w ≡ normal k p)
+accepted_from_read {E} k e p w h = by (is_word k p) refl h
+  where
+    by : (b : Bool) → is_word k p ≡ b → Ok w ≡ (if b then Ok (normal k p) else Err e) → IsWord k p × (w ≡ normal k p)
+    by true s h = (s, cc)
+    by false s h = cc
+
+-- the words of a front, one after the other
+pub front_gives : (ps : List (List ℕ)) (first : List ℕ) (qs rs us rest : List (List ℕ)) (i : LanguageIdentifier)
+    → ps ≡ first ∷ qs → IsWord (Language languages) first → i.language ≡ lower first
+    → i.script ≡ option_map title (take_first (is_word Script) qs) → rs ≡ skip_first (is_word Script) qs
+    → i.region ≡ option_map upper (take_first (is_word Region) rs) → us ≡ skip_first (is_word Region) rs
+    → VariantsGive us rest (Ok i.variants) → FrontGives ps rest (Ok i)
+unfolding front_of after_front
+front_gives ps first qs rs us rest i e w l s er r eu v =
+    let erest : us ≡ skip_first (is_word Region) (skip_first (is_word Script) qs) = eu ∙ ap (skip_first (is_word Region)) er in
+    let given : VariantsGive (skip_first (is_word Region) (skip_first (is_word Script) qs)) rest (Ok i.variants) = subst (λ x. VariantsGive x rest (Ok i.variants)) erest v in
+    subst (λ x. FrontGives x rest (Ok i)) (sym e)
+    (w, given.1, (λ j. record { language = l j; script = s j; region = (r ∙ ap (λ x. option_map upper (take_first (is_word Region) x)) er) j; variants = given.0 j }), given.2)
+
+pub front_refuses : (ps : List (List ℕ)) (first : List ℕ) (qs rs us rest rest' : List (List ℕ)) (f : ParseError)
+    → ps ≡ first ∷ qs → IsWord (Language languages) first → rs ≡ skip_first (is_word Script) qs → us ≡ skip_first (is_word Region) rs
+    → VariantsGive us rest (Err f) → FrontGives ps rest' (Err f)
+unfolding front_of
+front_refuses ps first qs rs us rest rest' f e w er eu v =
+    subst (λ x. FrontGives x rest' (Err f)) (sym e) (by f (subst (λ x. VariantsGive x rest (Err f)) (eu ∙ ap (skip_first (is_word Region)) er) v))
+  where
+    by : (f : ParseError) → VariantsGive (skip_first (is_word Region) (skip_first (is_word Script) qs)) rest (Err f) → FrontGives (first ∷ qs) rest' (Err f)
+    by InvalidSubtag v = (w, v)
+    by OutOfMemory v = (w, v)
+    by InvalidLanguage v = absurd v
+    by InvalidExtension v = absurd v
+    by DuplicatedExtension v = absurd v
+
+-- where the front should end before rest
+module _ (p : List ℕ) (qs rest : List (List ℕ)) (ends : EndsWords rest) (r : List (List ℕ)) where
+  cut_refuses : (f : ParseError) → FrontGives (p ∷ (qs ++ rest)) r (Err f) → ReadsAs (p ∷ qs) (Err f)
+  cut_refuses InvalidLanguage g = g
+  cut_refuses InvalidSubtag g = (g.0, refuses_repeat languages p qs rest ends g.1)
+  cut_refuses OutOfMemory g = let n = counts_variants languages p qs rest ends in (g.0, omega (arith, n, g.1))
+  cut_refuses InvalidExtension g = absurd g
+  cut_refuses DuplicatedExtension g = absurd g
+
+  cut_gives : (i : LanguageIdentifier) → FrontGives (p ∷ (qs ++ rest)) r (Ok i) → r ≡ rest → ReadsAs (p ∷ qs) (Ok i)
+  cut_gives i g e = subst (IdentifierMeans languages (p ∷ qs)) (sym g.2) (front_means languages p qs rest ends g.0 g.1 (sym g.3 ∙ e))
+
+  cut_more : (i : LanguageIdentifier) → FrontGives (p ∷ (qs ++ rest)) r (Ok i) → r ≢ rest → ReadsAs (p ∷ qs) (Err InvalidSubtag)
+  cut_more i g n = (g.0, refuses_more languages p qs rest ends (λ e. n (g.3 ∙ e)))
+
+ends_nowhere : EndsWords []
+ends_nowhere = record { script = tt; region = tt; variant = tt }
+
+-- all the pieces
+
+at_end : (p : List ℕ) (ps r : List (List ℕ)) (x : Result LanguageIdentifier ParseError) → FrontGives (p ∷ ps) r x → FrontGives (p ∷ (ps ++ [])) r x
+at_end p ps r x g = subst (λ l. FrontGives (p ∷ l) r x) (sym (append-nil ps)) g
+
+pub whole_refuses : (ps r : List (List ℕ)) (f : ParseError) → FrontGives ps r (Err f) → ReadsAs ps (Err f)
+whole_refuses (p ∷ ps) r f g = cut_refuses p ps [] ends_nowhere r f (at_end p ps r (Err f) g)
+whole_refuses [] r InvalidLanguage g = g
+whole_refuses [] r InvalidSubtag g = no_language g.0
+whole_refuses [] r OutOfMemory g = no_language g.0
+whole_refuses [] r InvalidExtension g = g
+whole_refuses [] r DuplicatedExtension g = g
+
+pub whole_gives : (ps r : List (List ℕ)) (i : LanguageIdentifier) → FrontGives ps r (Ok i) → r ≡ [] → ReadsAs ps (Ok i)
+whole_gives [] r i g e = no_language g.0
+whole_gives (p ∷ ps) r i g e = cut_gives p ps [] ends_nowhere r i (at_end p ps r (Ok i) g) e
+
+pub whole_more : (ps r : List (List ℕ)) (i : LanguageIdentifier) → FrontGives ps r (Ok i) → r ≢ [] → ReadsAs ps (Err InvalidSubtag)
+whole_more [] r i g n = no_language g.0
+whole_more (p ∷ ps) r i g n = cut_more p ps [] ends_nowhere r i (at_end p ps r (Ok i) g) n
+
+-- the pieces before the first block
+
+at_block : (p : List ℕ) (ps r : List (List ℕ)) (x : Result LanguageIdentifier ParseError) → FrontGives (p ∷ ps) r x → FrontGives (p ∷ (front ps ++ from_block ps)) r x
+at_block p ps r x g = subst (λ l. FrontGives (p ∷ l) r x) (sym (front-from_block ps)) g
+
+block_ends : (ps : List (List ℕ)) → EndsWords (from_block ps)
+block_ends ps = starts_ends (from_block ps) (from_block_starts ps)
+
+pub head_refuses : (ps r : List (List ℕ)) (f : ParseError) → FrontGives ps r (Err f) → ReadsAs (head ps) (Err f)
+head_refuses (p ∷ ps) r f g = cut_refuses p (front ps) (from_block ps) (block_ends ps) r f (at_block p ps r (Err f) g)
+head_refuses [] r f g = whole_refuses [] r f g
+
+starts_there : (p : List ℕ) (ps r : List (List ℕ)) (i : LanguageIdentifier) → FrontGives (p ∷ ps) r (Ok i) → starts_block r ≡ true → r ≡ from_block ps
+starts_there p ps r i g s =
+    let cut : r ≡ after_front (p ∷ front ps) ++ from_block ps = (at_block p ps r (Ok i) g).3 ∙ after_front-append p (front ps) (from_block ps) (block_ends ps) in
+    let none : after_front (p ∷ front ps) ≡ [] = starts_empty (after_front (p ∷ front ps)) (from_block ps) (after_long p (front ps) (front_long ps)) (ap starts_block (sym cut) ∙ s) in
+    cut ∙ ap (λ l. l ++ from_block ps) none
+
+pub head_gives : (ps r : List (List ℕ)) (i : LanguageIdentifier) → FrontGives ps r (Ok i) → starts_block r ≡ true → ReadsAs (head ps) (Ok i) × (r ≡ after_head ps)
+head_gives [] r i g s = no_language g.0
+head_gives (p ∷ ps) r i g s =
+    let e = starts_there p ps r i g s in
+    (cut_gives p (front ps) (from_block ps) (block_ends ps) r i (at_block p ps r (Ok i) g) e, e)
+
+pub head_more : (ps r : List (List ℕ)) (i : LanguageIdentifier) → FrontGives ps r (Ok i) → starts_block r ≡ false → ReadsAs (head ps) (Err InvalidSubtag)
+head_more [] r i g s = no_language g.0
+head_more (p ∷ ps) r i g s =
+    cut_more p (front ps) (from_block ps) (block_ends ps) r i (at_block p ps r (Ok i) g) (λ e. true≢false (sym (from_block_starts ps) ∙ ap starts_block (sym e) ∙ s))
+
+-- what a look at the next piece says
+
+pub peeked_none : (ps : List (List ℕ)) → None ≡ first_item ps → ps ≡ []
+peeked_none [] e = refl
+peeked_none (p ∷ ps) e = cc
+
+pub peeked_some : (ps : List (List ℕ)) (p : List ℕ) → Some p ≡ first_item ps → ps ≢ []
+peeked_some [] p e = cc
+peeked_some (q ∷ ps) p e = λ h. cc
+
+pub peeked_long : (ps : List (List ℕ)) (p : List ℕ) → Some p ≡ first_item ps → length p ≢ 1 → starts_block ps ≡ false
+peeked_long [] p e n = cc
+peeked_long (q ∷ ps) p e n = let k : p ≡ q = cc in subst (λ x. (length x == 1) ≡ false) k (false_from_ne_true _ (λ h. n (grind (arith, nat_tests))))
+
+pub peeked_short : (ps : List (List ℕ)) (p : List ℕ) → Some p ≡ first_item ps → length p ≡ 1 → starts_block ps ≡ true
+peeked_short [] p e n = cc
+peeked_short (q ∷ ps) p e n = let k : p ≡ q = cc in subst (λ x. (length x == 1) ≡ true) k (grind (arith, nat_tests))
+
+pub peeked_end : (ps : List (List ℕ)) → None ≡ first_item ps → starts_block ps ≡ true
+peeked_end [] e = refl
+peeked_end (p ∷ ps) e = cc
+
+-- the reading from the left is that of the longest front
+pub front_reads : (ps rest : List (List ℕ)) (r : Result LanguageIdentifier ParseError) → FrontGives ps rest r → FrontReadsAs ps rest r
+front_reads (p ∷ ps) rest (Ok i) g = (front_of (p ∷ ps), subst (IdentifierFront languages (p ∷ ps) (front_of (p ∷ ps))) (sym g.3) (front_is_front p ps g.0), g.1, g.2)
+front_reads (p ∷ ps) rest (Err InvalidSubtag) g = (front_of (p ∷ ps), after_front (p ∷ ps), front_is_front p ps g.0, g.1)
+front_reads (p ∷ ps) rest (Err OutOfMemory) g = (front_of (p ∷ ps), after_front (p ∷ ps), front_is_front p ps g.0, g.1)
+front_reads [] rest (Ok i) g = no_language g.0
+front_reads [] rest (Err InvalidSubtag) g = no_language g.0
+front_reads [] rest (Err OutOfMemory) g = no_language g.0
+front_reads ps rest (Err InvalidLanguage) g = g
+front_reads ps rest (Err InvalidExtension) g = g
+front_reads ps rest (Err DuplicatedExtension) g = g

@@ -1,0 +1,51 @@
+-- What the readers of identifiers answer.
+use Rattle.std.specs.Prelude.{◌≡◌, ℕ, ◌<◌, false, List, length, map, filter, Result, Ok, Err}
+use Rattle.iloc_grammar.specs.Words.{Language, Variant, is_word, IsWord, lower, word_cmp, languages}
+use Rattle.iloc_grammar.specs.Written.{Identifier, AllDifferent}
+use Rattle.iloc_grammar.specs.Meaning.{IdentifierMeans, normal_identifier, set_of}
+use Rattle.iloc_grammar.specs.Faults.{SpellsIdentifier, first_piece}
+use Rattle.iloc_grammar.specs.Reading.{IdentifierFront}
+use Rattle.iloc_grammar.specs.Reading.{passing, past, rest_of, front_of, after_front}
+use Rattle.iloc_subtags.specs.declared.parse_error.ParseError.{ParseError}
+use Rattle.iloc_subtags.specs.declared.parse_error.ParseError.TheVariants.{InvalidLanguage, InvalidSubtag, InvalidExtension, DuplicatedExtension, OutOfMemory}
+use Rattle.iloc_langid.specs.declared.identifier.LanguageIdentifier.{LanguageIdentifier}
+
+-- the value of an identifier
+abbrev pub value_of : LanguageIdentifier → Identifier
+value_of i = record { language = i.language; script = i.script; region = i.region; variants = i.variants }
+
+-- what the pieces are read as, as a whole identifier. Memory is wanted only for a second variant.
+abbrev pub ReadsAs : List (List ℕ) → Result LanguageIdentifier ParseError → Type 0
+ReadsAs ps (Ok i) = IdentifierMeans languages ps (value_of i)
+ReadsAs ps (Err InvalidLanguage) = is_word (Language languages) (first_piece ps) ≡ false
+ReadsAs ps (Err InvalidSubtag) = IsWord (Language languages) (first_piece ps) × ¬ (SpellsIdentifier languages ps)
+ReadsAs ps (Err InvalidExtension) = ⊥
+ReadsAs ps (Err DuplicatedExtension) = ⊥
+ReadsAs ps (Err OutOfMemory) = IsWord (Language languages) (first_piece ps) × (1 < length (filter (is_word Variant) (rest_of ps)))
+
+-- what a longest front is read as, and the pieces that are left after it
+abbrev pub FrontReadsAs : List (List ℕ) → List (List ℕ) → Result LanguageIdentifier ParseError → Type 0
+FrontReadsAs ps rest (Ok i) = (w : Identifier) × IdentifierFront languages ps w rest × AllDifferent word_cmp (map lower w.variants) × (value_of i ≡ normal_identifier w)
+FrontReadsAs ps rest (Err InvalidLanguage) = is_word (Language languages) (first_piece ps) ≡ false
+FrontReadsAs ps rest (Err InvalidSubtag) = (w : Identifier) × (more : List (List ℕ)) × IdentifierFront languages ps w more × ¬ (AllDifferent word_cmp (map lower w.variants))
+FrontReadsAs ps rest (Err InvalidExtension) = ⊥
+FrontReadsAs ps rest (Err DuplicatedExtension) = ⊥
+FrontReadsAs ps rest (Err OutOfMemory) = (w : Identifier) × (more : List (List ℕ)) × IdentifierFront languages ps w more × (1 < length w.variants)
+
+-- the same by the reading from the left
+abbrev pub FrontGives : List (List ℕ) → List (List ℕ) → Result LanguageIdentifier ParseError → Type 0
+FrontGives ps rest (Ok i) = IsWord (Language languages) (first_piece ps) × AllDifferent word_cmp (map lower (front_of ps).variants) × (value_of i ≡ normal_identifier (front_of ps)) × (rest ≡ after_front ps)
+FrontGives ps rest (Err InvalidLanguage) = is_word (Language languages) (first_piece ps) ≡ false
+FrontGives ps rest (Err InvalidSubtag) = IsWord (Language languages) (first_piece ps) × ¬ (AllDifferent word_cmp (map lower (front_of ps).variants))
+FrontGives ps rest (Err InvalidExtension) = ⊥
+FrontGives ps rest (Err DuplicatedExtension) = ⊥
+FrontGives ps rest (Err OutOfMemory) = IsWord (Language languages) (first_piece ps) × (1 < length (front_of ps).variants)
+
+-- what the variants at the front are read as, and the pieces that are left
+abbrev pub VariantsGive : List (List ℕ) → List (List ℕ) → Result (List (List ℕ)) ParseError → Type 0
+VariantsGive ps rest (Ok vs) = (vs ≡ set_of (map lower (passing (is_word Variant) ps))) × AllDifferent word_cmp (map lower (passing (is_word Variant) ps)) × (rest ≡ past (is_word Variant) ps)
+VariantsGive ps rest (Err InvalidSubtag) = ¬ (AllDifferent word_cmp (map lower (passing (is_word Variant) ps)))
+VariantsGive ps rest (Err OutOfMemory) = 1 < length (passing (is_word Variant) ps)
+VariantsGive ps rest (Err InvalidLanguage) = ⊥
+VariantsGive ps rest (Err InvalidExtension) = ⊥
+VariantsGive ps rest (Err DuplicatedExtension) = ⊥

@@ -1,0 +1,151 @@
+//! Lines that come in pieces, and their replies.
+ghost use Rattle.std.specs.Prelude.{◌≡◌, ℕ, List, [], ◌∷◌, ◌++◌, take, MatchOption, MatchResult, IfOk, OnOk, OnErr, IsOkUnless, ◌<◌, vec_len};
+ghost use Rattle.std.specs.Io.{StartsWith};
+ghost use Rattle.std.specs.Io.KnownBytes.{Appends};
+ghost use Rattle.iloc_program.specs.Output.{line_answer, output, reply, IsOneLine};
+ghost use Rattle.iloc_program.specs.Answer.{langid_answer, refusal_text};
+
+use crate::{Mode, RunError};
+use iloc_langid::LanguageIdentifier;
+use iloc_subtags::ParseError;
+use iloc_writeable::Writeable;
+use std::alloc::{AllocError, Global};
+use std::io::Write;
+
+// The bytes that are asked of the reader at once.
+const BLOCK: usize = 65536;
+
+// Room for what one read gives.
+pub(crate) fn new_block(alloc: Global) -> Result<Vec<u8>, AllocError>
+    ensures { IfOk result (λ block. 0 < vec_len block) }
+{
+    vec![in alloc; 0u8; BLOCK]
+}
+
+// Adds the words of a refusal.
+fn write_refusal(error: &ParseError, replies: &mut Vec<u8>) -> Result<(), AllocError>
+    ensures { OnOk result (replies.new.items ≡ replies.old.items ++ refusal_text error.now) }
+{
+    replies.extend_from_slice(b"! ")?;
+    replies.extend_from_slice(error.words().as_bytes())
+}
+
+// Adds the normal text of an identifier, or why there is none.
+fn answer_langid(alloc: Global, line: &[u8], replies: &mut Vec<u8>) -> Result<(), AllocError>
+    ensures { OnOk result (replies.new.items ≡ replies.old.items ++ langid_answer line.now) }
+{
+    match LanguageIdentifier::try_from_utf8(alloc, line) {
+        Ok(identifier) => match identifier.write_to(replies) {
+            Ok(()) => Ok(()),
+            Err(_) => Err(AllocError),
+        },
+        Err(error) => match error {
+            ParseError::OutOfMemory => Err(AllocError),
+            error => write_refusal(&error, replies),
+        },
+    }
+}
+
+// Adds the answer to one line.
+fn answer_line(
+    alloc: Global,
+    mode: Mode,
+    line: &[u8],
+    replies: &mut Vec<u8>,
+) -> Result<(), AllocError>
+    ensures { OnOk result (replies.new.items ≡ replies.old.items ++ line_answer mode line.now) }
+{
+    match mode {
+        Mode::Langid => answer_langid(alloc, line, replies),
+        Mode::Locale => replies.extend_from_slice(line),
+        Mode::Data => replies.extend_from_slice(line),
+    }
+}
+
+// The first line and what follows its LF, if the LF is there.
+fn split_line(bytes: &[u8]) -> Option<(&[u8], &[u8])>
+    ensures { MatchOption result (IsOneLine bytes.now)
+        (λ parts. IsOneLine parts.0.now × (bytes.now ≡ parts.0.now ++ 10 ∷ parts.1.now)) }
+{
+    let end = bytes.iter().position(|byte| *byte == b'\n')?;
+    let (line, later) = bytes.split_at(end);
+    Some((line, &later[1..]))
+}
+
+// Adds the reply to the line that is pending and goes on with these bytes.
+fn end_line(
+    alloc: Global,
+    mode: Mode,
+    pending: &mut Vec<u8>,
+    line: &[u8],
+    replies: &mut Vec<u8>,
+) -> Result<(), AllocError>
+    ensures replies { OnOk result (replies.new.items ≡ replies.old.items ++ reply mode (pending.old.items ++ line.now)) }
+    ensures pending { OnOk result (pending.new.items ≡ []) }
+{
+    if pending.is_empty() {
+        answer_line(alloc, mode, line, replies)?;
+    } else {
+        pending.extend_from_slice(line)?;
+        answer_line(alloc, mode, pending.as_slice(), replies)?;
+        pending.clear();
+    }
+    replies.push(b'\n')?;
+    Ok(())
+}
+
+// Adds the replies to the lines that this piece of the input ends, and keeps the start of the next line.
+pub(crate) fn feed(
+    alloc: Global,
+    mode: Mode,
+    pending: &mut Vec<u8>,
+    piece: &[u8],
+    replies: &mut Vec<u8>,
+) -> Result<(), AllocError>
+    requires { IsOneLine pending.old.items }
+    ensures one_line { OnOk result (IsOneLine pending.new.items) }
+    // Whatever comes next, the replies to it all are these and what is still to come.
+    ensures ahead { OnOk result ((next : List ℕ) →
+        replies.old.items ++ output mode (pending.old.items ++ (piece.now ++ next))
+        ≡ replies.new.items ++ output mode (pending.new.items ++ next)) }
+{
+    let mut rest = piece;
+    'lines: while let Some((line, later)) = split_line(rest) {
+        end_line(alloc, mode, pending, line, replies)?;
+        rest = later;
+    }
+    pending.extend_from_slice(rest)
+}
+
+// Adds the reply to a last line without LF, where there is one.
+pub(crate) fn finish(
+    alloc: Global,
+    mode: Mode,
+    pending: &mut Vec<u8>,
+    replies: &mut Vec<u8>,
+) -> Result<(), AllocError>
+    requires { IsOneLine pending.old.items }
+    ensures { OnOk result (replies.new.items ≡ replies.old.items ++ output mode pending.old.items) }
+{
+    if pending.is_empty() {
+        return Ok(());
+    }
+    end_line(alloc, mode, pending, &[], replies)
+}
+
+// Writes all of it, by as many calls as the writer takes. A write of no bytes is an error, and no error is tried again.
+pub(crate) fn write_whole<W: Write>(writer: &mut W, bytes: &[u8]) -> Result<(), RunError>
+    ensures ok { OnOk result (Appends (W.contents writer.old) (W.contents writer.new) bytes.now) }
+    ensures err { OnErr result ((written : List ℕ)
+        × Appends (W.contents writer.old) (W.contents writer.new) written × StartsWith bytes.now written) }
+    ensures error { IsOkUnless result RunError.Write }
+{
+    let mut rest = bytes;
+    'writes: while !rest.is_empty() {
+        match writer.write(rest) {
+            Ok(0) | Err(_) => return Err(RunError::Write),
+            Ok(count) => rest = rest.split_at(count).1,
+        }
+    }
+    Ok(())
+}

@@ -1,0 +1,95 @@
+-- Texts of at most one variant and one keyword, which are read without memory.
+use Rattle.std.specs.Prelude.{◌≡◌, ◌≢◌, ℕ, ◌≤◌, Bool, true, false, List, [], ◌∷◌, length, map, Option, Some, None, IfSome, option_map, option_to_list}
+use Rattle.std.specs.Char.{is_ascii_alphanumeric}
+use Rattle.iloc_grammar.specs.Pieces.{pieces}
+use Rattle.iloc_grammar.specs.Words.{Language, Script, Region, Variant, UnicodeKey, Attribute, is_word, IsWord, is_true, lower, title, upper}
+use Rattle.iloc_grammar.specs.Written.{Identifier, Extension, unicode, Written, identifier_pieces, IsIdentifier, IsWritten, spelling, singleton}
+use Rattle.iloc_grammar.specs.Meaning.{Locale, normal_values}
+use Rattle.iloc_grammar.specs.Values.{IsNormal}
+use Rattle.iloc_grammar.specs.Reading.{first_item}
+use Rattle.iloc_grammar.specs.Faults.{Fault, InvalidLanguage, InvalidSubtag, InvalidExtension, head, tail_blocks, first_piece}
+
+pub record SmallIdentifier : Type 0 where
+  pub language : List ℕ
+  pub script : Option (List ℕ)
+  pub region : Option (List ℕ)
+  pub variant : Option (List ℕ)
+
+-- an identifier, and perhaps a keyword with its key and perhaps a value
+pub record SmallLocale : Type 0 where
+  pub id : SmallIdentifier
+  pub keyword : Option (List ℕ × Option (List ℕ))
+
+-- the identifier and the locale of the same parts, the others empty
+
+abbrev pub identifier_of_small : SmallIdentifier → Identifier
+identifier_of_small r = record { language = r.language; script = r.script; region = r.region; variants = option_to_list r.variant }
+
+abbrev pub keyword_of_small : List ℕ × Option (List ℕ) → List ℕ × List (List ℕ)
+keyword_of_small k = (k.0, option_to_list k.1)
+
+abbrev pub locale_of_small : SmallLocale → Locale
+locale_of_small r = record {
+  id = identifier_of_small r.id;
+  unicode = record { attributes = []; keywords = option_to_list (option_map keyword_of_small r.keyword) };
+  transform = record { id = None; fields = [] };
+  private = [];
+  others = [];
+}
+
+-- the normal words of an identifier with at most one variant
+abbrev pub small_identifier : Identifier → SmallIdentifier
+small_identifier i = record { language = lower i.language; script = option_map title i.script; region = option_map upper i.region; variant = first_item (map lower i.variants) }
+
+-- The pieces are an identifier with at most one variant.
+pub record IsSmallIdentifier (T : ℕ → Bool) (ps : List (List ℕ)) (r : SmallIdentifier) : Type 0 where
+  pub written : Identifier
+  pub grammatical : IsIdentifier T written
+  pub spelled : ps ≡ identifier_pieces written
+  pub one_variant : length written.variants ≤ 1
+  pub means : r ≡ small_identifier written
+
+-- no extension, or one keyword after its singleton
+abbrev pub keyword_extension : Option (ℕ × (List ℕ × List (List ℕ))) → List (ℕ × Extension)
+keyword_extension None = []
+keyword_extension (Some k) = (k.0, unicode (record { attributes = []; keywords = k.1 ∷ [] })) ∷ []
+
+abbrev pub small_written : Identifier → Option (ℕ × (List ℕ × List (List ℕ))) → Written
+small_written i k = record { id = i; extensions = keyword_extension k; private = None }
+
+-- The text is an identifier with at most one variant, and perhaps one keyword with at most one value besides `true`.
+pub record IsSmall (T : ℕ → Bool) (t : List ℕ) (r : SmallLocale) : Type 0 where
+  pub id : Identifier
+  pub keyword : Option (ℕ × (List ℕ × List (List ℕ)))
+  pub grammatical : IsWritten T (small_written id keyword)
+  pub spelled : pieces t ≡ spelling (small_written id keyword)
+  pub one_variant : length id.variants ≤ 1
+  pub one_value : IfSome keyword (λ k. length (normal_values k.1.1) ≤ 1)
+  pub means : r ≡ record { id = small_identifier id; keyword = option_map (λ k. (lower k.1.0, first_item (normal_values k.1.1))) keyword }
+
+-- The pieces are no identifier with at most one variant, for this reason.
+pub data HasSmallIdentifierFault (T : ℕ → Bool) (ps : List (List ℕ)) : Fault → Type 0 where
+  no_language : is_word (Language T) (first_piece ps) ≡ false → HasSmallIdentifierFault T ps InvalidLanguage
+  no_identifier : IsWord (Language T) (first_piece ps) → ((r : SmallIdentifier) → ¬ (IsSmallIdentifier T ps r)) → HasSmallIdentifierFault T ps InvalidSubtag
+
+-- What is wrong with the first block of a text that isn't small: no singleton, not `u`, an attribute, no key, or anything after the key.
+pub data SmallBlockFault (b : ℕ × List (List ℕ)) : Fault → Type 0 where
+  no_singleton : is_ascii_alphanumeric b.0 ≡ false → SmallBlockFault b InvalidExtension
+  not_u : is_ascii_alphanumeric b.0 ≡ true → singleton b ≢ 117 → SmallBlockFault b InvalidSubtag
+  attribute : singleton b ≡ 117 → IsWord Attribute (first_piece b.1) → SmallBlockFault b InvalidSubtag
+  no_key : singleton b ≡ 117 → is_word Attribute (first_piece b.1) ≡ false → is_word UnicodeKey (first_piece b.1) ≡ false → SmallBlockFault b InvalidExtension
+  after_key : singleton b ≡ 117 → IsWord UnicodeKey (first_piece b.1) → SmallBlockFault b InvalidSubtag
+
+-- The text is not small, for this reason: its head, or else its first block.
+pub data HasSmallFault (T : ℕ → Bool) (t : List ℕ) : Fault → Type 0 where
+  bad_head : {f : Fault} → HasSmallIdentifierFault T (head (pieces t)) f → HasSmallFault T t f
+  bad_block : {f : Fault} {r : SmallIdentifier} {b : ℕ × List (List ℕ)} {bs : List (ℕ × List (List ℕ))} → IsSmallIdentifier T (head (pieces t)) r → ((r : SmallLocale) → ¬ (IsSmall T t r)) → tail_blocks (pieces t) ≡ b ∷ bs → SmallBlockFault b f → HasSmallFault T t f
+
+-- what is read is of normal words, and no value is `true`
+pub record IsSmallValue (T : ℕ → Bool) (r : SmallLocale) : Type 0 where
+  pub language : IsNormal (Language T) r.id.language
+  pub script : IfSome r.id.script (IsNormal Script)
+  pub region : IfSome r.id.region (IsNormal Region)
+  pub variant : IfSome r.id.variant (IsNormal Variant)
+  pub key : IfSome r.keyword (λ k. IsNormal UnicodeKey k.0)
+  pub value : IfSome r.keyword (λ k. IfSome k.1 (λ w. IsNormal Attribute w × (is_true w ≡ false)))

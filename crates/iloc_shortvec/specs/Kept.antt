@@ -1,0 +1,24 @@
+-- The list that a `ShortWords` holds, by how it is kept.
+use Rattle.std.specs.Prelude.{◌<◌, ◌≤◌, List, [], length}
+use Rattle.std.specs.Vec.{with_items}
+use Rattle.iloc_shortvec.specs.ShortList.{written}
+use Rattle.iloc_shortvec.specs.declared.short_words.Kept.{Kept}
+use Rattle.iloc_shortvec.specs.declared.short_words.Kept.TheVariants.{Empty, Inline, Heap}
+
+-- the items
+abbrev pub items_of : {T : Type 0} → Kept T → List T
+items_of (Empty none) = []
+items_of (Inline items) = items
+items_of (Heap items) = items.items
+
+-- one to four items are inline, and at least five on the heap
+abbrev pub IsKept : {T : Type 0} → Kept T → Type 0
+IsKept (Empty none) = Unit {0}
+IsKept (Inline items) = (0 < length items) × (length items ≤ 4)
+IsKept (Heap items) = 5 ≤ length items.items
+
+-- the same place, after a write of its items as a slice
+abbrev pub with_list : {T : Type 0} → Kept T → List T → Kept T
+with_list (Empty none) ws = Empty none
+with_list (Inline items) ws = Inline (written items ws)
+with_list (Heap items) ws = Heap (with_items items ws)

@@ -1,0 +1,84 @@
+//! One to four items in place.
+ghost use Rattle.std.specs.Prelude.{◌≡◌, ◌<◌, ◌≤◌, ◌+◌, ◌-◌, [], ◌∷◌, ◌++◌, length, insert, remove};
+ghost use Rattle.std.specs.List.{HoldsAt};
+
+use std::marker::Model;
+
+/// One to four items. The places after them hold copies, and count for nothing.
+#[derive(Drop)]
+pub struct Few<T: Copy> {
+    xs: [T; 4],
+    len: usize,
+}
+
+impl<T: Copy> Model for Few<T> {
+    ghost use Rattle.std.specs.Prelude.{◌≡◌, ◌≤◌, ◌<◌, List, length, take};
+
+    ghost Value = { List T };
+
+    ghost view = { λ f. take f.len f.xs };
+
+    ghost invariant = { λ f. (0 < f.len) × (f.len ≤ 4) × (length f.xs ≡ 4) };
+}
+
+impl<T: Copy> Few<T> {
+    pub fn one(item: T) -> Self
+        ensures { result ≡ item ∷ [] }
+    {
+        Few {
+            xs: [item; 4],
+            len: 1,
+        }
+    }
+
+    /// Copies of one to four items.
+    pub fn from_slice(items: &[T]) -> Self
+        requires not_empty { 0 < length items.now }
+        requires fits { length items.now ≤ 4 }
+        ensures { result ≡ items.now }
+    {
+        let mut all = [items[0]; 4];
+        all[..items.len()].copy_from_slice(items);
+        Few {
+            xs: all,
+            len: items.len(),
+        }
+    }
+
+    pub fn as_slice(&self) -> &[T]
+        ensures items { result.now ≡ self.now }
+        ensures not_empty { 0 < length self.now }
+        ensures fits { length self.now ≤ 4 }
+    {
+        &self.xs[..self.len]
+    }
+
+    pub fn len(&self) -> usize
+        ensures { result ≡ length self.now }
+    {
+        self.len
+    }
+
+    pub fn insert(&mut self, index: usize, item: T)
+        requires place { index ≤ length self.old }
+        requires room { length self.old < 4 }
+        ensures { self.new ≡ insert self.old index item }
+    {
+        self.xs.copy_within(index..self.len, index + 1);
+        self.xs[index] = item;
+        self.len += 1;
+    }
+
+    /// Removes an item, of several.
+    pub fn remove(&mut self, index: usize) -> T
+        requires place { index < length self.old }
+        requires several { 1 < length self.old }
+        ensures item { HoldsAt (λ x. result ≡ x) self.old index }
+        ensures removed { self.new ≡ remove self.old index }
+    {
+        let item = self.as_slice()[index];
+        self.xs.copy_within(index + 1..self.len, index);
+        self.len -= 1;
+        item
+    }
+}

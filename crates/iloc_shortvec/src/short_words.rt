@@ -1,0 +1,352 @@
+//! A list that keeps up to four items in place.
+ghost use Rattle.std.specs.Prelude.{◌≡◌, ◌<◌, ◌≤◌, ◌+◌, [], ◌∷◌, ◌++◌, length, IsOk, OnOk, OnErr, insert, remove, slice_index_or};
+ghost use Rattle.std.specs.List.{HoldsAt};
+ghost use Rattle.std.specs.List.Retain.{IsFiltered};
+ghost use Rattle.std.specs.Fn.{CalledAt};
+ghost use Rattle.std.specs.Hash as fed;
+ghost use Rattle.std.specs.Hash.{items_Alike};
+ghost use Rattle.std.specs.Iterator.{YieldsFirst, item_count};
+ghost use Rattle.std.specs.Ordering.{as_partial_cmp};
+ghost use Rattle.std.specs.Cmp.{partial_order_from_agreeing_total};
+ghost use Rattle.std.specs.Cmp.Lexicographic.{pointwise, lists_per, lists_equiv};
+ghost use Rattle.std.proofs.Common.{refl};
+ghost use Rattle.iloc_shortvec.specs.ShortOrder.{short_cmp, short_total, short_ties};
+
+use crate::few::Few;
+use crate::items::Nothing;
+use std::alloc::{AllocError, Global};
+use std::cmp::Ordering;
+use std::hash::{Hash, Hasher};
+use std::marker::Model;
+
+/// A list of `Copy` items.
+#[derive(Drop)]
+pub struct ShortWords<T: Copy> {
+    kept: Kept<T>,
+}
+
+/// Where the items are.
+#[derive(Drop)]
+enum Kept<T: Copy> {
+    Empty(Nothing<T>),
+    Inline(Few<T>),
+    Heap(Vec<T>),
+}
+
+impl<T: Copy> Model for ShortWords<T> {
+    ghost use Rattle.std.specs.Prelude.{List};
+
+    ghost Value = { List T };
+
+    ghost use Rattle.iloc_shortvec.specs.Kept.{items_of, IsKept};
+
+    ghost view = { λ s. items_of s.kept };
+
+    ghost invariant = { λ s. IsKept s.kept };
+}
+
+impl<T: Copy> ShortWords<T> {
+    pub fn new() -> Self
+        ensures { result ≡ [] }
+    {
+        ShortWords {
+            kept: Kept::Empty(Nothing::new()),
+        }
+    }
+
+    pub fn new_single(item: T) -> Self
+        ensures { result ≡ item ∷ [] }
+    {
+        ShortWords {
+            kept: Kept::Inline(Few::one(item)),
+        }
+    }
+
+    pub fn as_slice(&self) -> &[T]
+        ensures { result.now ≡ self.now }
+    {
+        match &self.kept {
+            Kept::Empty(_) => &[],
+            Kept::Inline(items) => items.as_slice(),
+            Kept::Heap(items) => items.as_slice(),
+        }
+    }
+
+    pub fn len(&self) -> usize
+        ensures { result ≡ length self.now }
+    {
+        self.as_slice().len()
+    }
+
+    /// Puts an item at a place. Up to four items take no memory.
+    pub fn insert(&mut self, alloc: Global, index: usize, item: T) -> Result<(), AllocError>
+        requires { index ≤ length self.old }
+        ensures ok { OnOk result (self.new ≡ insert self.old index item) }
+        ensures err { OnErr result (self.new ≡ self.old) }
+        ensures succeeds { length self.old < 4 → IsOk result }
+    {
+        match &mut self.kept {
+            Kept::Empty(_) => self.kept = Kept::Inline(Few::one(item)),
+            Kept::Inline(items) => {
+                if items.len() < 4 {
+                    items.insert(index, item);
+                } else {
+                    let mut more = Vec::with_capacity(alloc, 5)?;
+                    more.extend_from_slice(items.as_slice())?;
+                    more.insert(index, item)?;
+                    self.kept = Kept::Heap(more);
+                }
+            }
+            Kept::Heap(items) => items.insert(index, item)?,
+        }
+        Ok(())
+    }
+
+    pub fn push(&mut self, alloc: Global, item: T) -> Result<(), AllocError>
+        ensures ok { OnOk result (self.new ≡ self.old ++ item ∷ []) }
+        ensures err { OnErr result (self.new ≡ self.old) }
+        ensures succeeds { length self.old < 4 → IsOk result }
+    {
+        self.insert(alloc, self.len(), item)
+    }
+
+    /// Removes an item. A list that falls to four items goes in place.
+    pub fn remove(&mut self, index: usize) -> T
+        requires { index < length self.old }
+        ensures item { HoldsAt (λ x. result ≡ x) self.old index }
+        ensures removed { self.new ≡ remove self.old index }
+    {
+        match &mut self.kept {
+            Kept::Empty(_) => unreachable!(),
+            Kept::Inline(items) => {
+                if items.len() == 1 {
+                    let item = items.as_slice()[0];
+                    self.kept = Kept::Empty(Nothing::new());
+                    item
+                } else {
+                    items.remove(index)
+                }
+            }
+            Kept::Heap(items) => {
+                let item = items.remove(index);
+                if items.len() == 4 {
+                    *self = ShortWords::from_short(items.as_slice());
+                }
+                item
+            }
+        }
+    }
+
+    /// Copies of at most four items.
+    fn from_short(items: &[T]) -> Self
+        requires { length items.now ≤ 4 }
+        ensures { result ≡ items.now }
+    {
+        if items.is_empty() {
+            return ShortWords::new();
+        }
+        ShortWords {
+            kept: Kept::Inline(Few::from_slice(items)),
+        }
+    }
+
+    pub fn from_vec(items: Vec<T>) -> Self
+        ensures { result ≡ items.items }
+    {
+        if items.len() <= 4 {
+            return ShortWords::from_short(items.as_slice());
+        }
+        ShortWords {
+            kept: Kept::Heap(items),
+        }
+    }
+
+    pub fn clear(&mut self)
+        ensures { self.new ≡ [] }
+    {
+        self.kept = Kept::Empty(Nothing::new());
+    }
+
+    /// Appends an item where that takes no memory.
+    fn push_short(&mut self, item: T)
+        requires { length self.old < 4 }
+        ensures { self.new ≡ self.old ++ item ∷ [] }
+    {
+        match &mut self.kept {
+            Kept::Empty(_) => self.kept = Kept::Inline(Few::one(item)),
+            Kept::Inline(items) => items.insert(items.len(), item),
+            Kept::Heap(_) => unreachable!(),
+        }
+    }
+
+    /// Keeps the items at which `keep` says so. Each is asked once, in order.
+    pub fn retain<F: FnMut(&T) -> bool + Drop>(&mut self, mut keep: F)
+        requires { F.IsAlwaysCallable keep }
+        ensures { IsFiltered (CalledAt F.FnMut) keep self.old self.new }
+    {
+        if let Kept::Heap(items) = &mut self.kept {
+            items.retain(keep);
+            if items.len() <= 4 {
+                *self = ShortWords::from_short(items.as_slice());
+            }
+            return;
+        }
+        *self = kept_of(self.as_slice(), keep);
+    }
+}
+
+/// The items at which `keep` says so, of at most four.
+fn kept_of<T: Copy, F: FnMut(&T) -> bool + Drop>(items: &[T], mut keep: F) -> ShortWords<T>
+    requires callable { F.IsAlwaysCallable keep }
+    requires short { length items.now ≤ 4 }
+    ensures { IsFiltered (CalledAt F.FnMut) keep items.now result }
+{
+    let mut kept = ShortWords::new();
+    for item in items {
+        if keep(item) {
+            kept.push_short(*item);
+        }
+    }
+    kept
+}
+
+impl<T: Copy> Clone for ShortWords<T> {
+    ghost is_clone = { λ s t. t ≡ s };
+
+    fn clone(&self) -> Result<Self, AllocError> {
+        match &self.kept {
+            Kept::Heap(items) => {
+                let mut copies = Vec::with_capacity(*items.allocator(), items.len())?;
+                copies.extend_from_slice(items.as_slice())?;
+                Ok(ShortWords::from_vec(copies))
+            }
+            _ => Ok(ShortWords::from_short(self.as_slice())),
+        }
+    }
+}
+
+impl<T: Copy + PartialEq> PartialEq for ShortWords<T> {
+    ghost eq = { pointwise T.eq };
+
+    ghost laws = { lists_per T.laws };
+
+    fn eq(&self, other: &Self) -> bool {
+        self.as_slice() == other.as_slice()
+    }
+}
+
+impl<T: Copy + Eq> Eq for ShortWords<T> {
+    ghost laws = { lists_equiv T.Eq.laws };
+}
+
+impl<T: Copy + Hash> Hash for ShortWords<T> {
+    ghost hash_input = { fed.slice T.hash_input };
+
+    ghost respects_eq = { (items_Alike (record { fed = T.respects_eq })).fed };
+
+    fn hash<H: Hasher>(&self, state: &mut H) {
+        self.as_slice().hash(state);
+    }
+}
+
+impl<T: Copy + Ord> Ord for ShortWords<T> {
+    ghost cmp = { short_cmp T.cmp };
+
+    ghost total = { short_total T.total };
+
+    ghost matches_partial_cmp = { λ _ _. refl };
+
+    ghost matches_eq = { λ xs ys. short_ties T.cmp T.matches_eq xs ys };
+
+    fn cmp(&self, other: &Self) -> Ordering {
+        match (self.len() > 1, other.len() > 1) {
+            (false, true) => Ordering::Less,
+            (true, false) => Ordering::Greater,
+            _ => self.as_slice().cmp(&other.as_slice()),
+        }
+    }
+}
+
+impl<T: Copy + Ord> PartialOrd for ShortWords<T> {
+    ghost partial_cmp = { as_partial_cmp (short_cmp T.cmp) };
+
+    ghost laws = { partial_order_from_agreeing_total (short_cmp T.cmp) (short_total T.total) (λ _ _. refl) (λ xs ys. short_ties T.cmp T.matches_eq xs ys) };
+
+    fn partial_cmp(&self, other: &Self) -> Option<Ordering> {
+        Some(self.cmp(other))
+    }
+}
+
+/// The items of a list, seen as those that are left.
+#[derive(Drop)]
+pub struct ShortWordsIntoIter<T: Copy> {
+    words: ShortWords<T>,
+    next: usize,
+}
+
+impl<T: Copy> Model for ShortWordsIntoIter<T> {
+    ghost use Rattle.std.specs.Prelude.{List, drop};
+
+    ghost Value = { List T };
+
+    ghost view = { λ it. drop it.next it.words };
+}
+
+impl<T: Copy> Iterator for ShortWordsIntoIter<T> {
+    type Item = T;
+
+    ghost next_gives = { YieldsFirst (λ rest. rest) };
+
+    ghost remaining = { item_count (λ rest. rest) };
+
+    fn next(&mut self) -> Option<T> {
+        let item = *self.words.as_slice().get(self.next)?;
+        self.next += 1;
+        Some(item)
+    }
+}
+
+impl<T: Copy> IntoIterator for ShortWords<T> {
+    type Item = T;
+
+    type IntoIter = ShortWordsIntoIter<T>;
+
+    fn into_iter(self) -> ShortWordsIntoIter<T>
+        ensures { result ≡ self }
+    {
+        ShortWordsIntoIter {
+            words: self,
+            next: 0,
+        }
+    }
+}
+
+#[cfg(test)]
+mod tests {
+    use super::*;
+    use std::test::Fail;
+
+    #[test]
+    fn goes_to_the_heap_and_back(rt: HostRuntime) -> Result<(), Fail> {
+        let mut words = ShortWords::new_single(3u8);
+        words.push(rt.alloc(), 5)?;
+        words.insert(rt.alloc(), 0, 1)?;
+        words.push(rt.alloc(), 7)?;
+        words.push(rt.alloc(), 9)?;
+        assert_eq!(rt; words.as_slice(), [1, 3, 5, 7, 9].as_slice());
+        assert_eq!(rt; words.len(), 5);
+        let removed = words.remove(2);
+        assert_eq!(rt; removed, 5);
+        let copy = words.clone()?;
+        assert!(rt; copy == words);
+        words.retain(|word| *word > 2);
+        assert_eq!(rt; words.as_slice(), [3, 7, 9].as_slice());
+        assert!(rt; ShortWords::new_single(9u8) < words);
+        let mut sum = 0u32;
+        for word in words {
+            sum = sum.wrapping_add(word as u32);
+        }
+        assert_eq!(rt; sum, 19);
+        Ok(())
+    }
+}
