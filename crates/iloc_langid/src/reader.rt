@@ -1,29 +1,15 @@
 //! Reads identifiers from pieces.
-ghost use Rattle.std.specs.Prelude.{◌≡◌, [], OnOk, option_map};
-ghost use Rattle.iloc_grammar.specs.Words.{is_word, normal};
+ghost use Rattle.std.specs.Prelude.{◌≡◌, [], OnOk};
 ghost use Rattle.iloc_grammar.specs.Faults.{head};
-ghost use Rattle.iloc_grammar.specs.Reading.{take_first, skip_first, after_head};
+ghost use Rattle.iloc_grammar.specs.Reading.{after_head};
 ghost use Rattle.iloc_parser.specs.Left.{left};
 ghost use Rattle.iloc_langid.specs.Reads.{VariantsGive, FrontGives, FrontReadsAs, ReadsAs};
 
 use crate::identifier::LanguageIdentifier;
 use crate::variants::Variants;
-use iloc_parser::SubtagIterator;
+use iloc_parser::{SubtagIterator, take_word};
 use iloc_subtags::{Language, ParseError, RegionKind, ScriptKind, VariantKind, WordKind, WordOf};
 use std::alloc::Global;
-
-/// Takes the next piece where it is a word of the kind.
-pub fn take_word<K: WordKind<N>, const N: usize>(
-    iter: &mut SubtagIterator<'_>,
-) -> Option<WordOf<K, N>>
-    ensures word { result ≡ option_map (normal K.kind) (take_first (is_word K.kind) (left iter.old)) }
-    ensures rest { left iter.new ≡ skip_first (is_word K.kind) (left iter.old) }
-{
-    let piece = iter.peek()?;
-    let word = WordOf::<K, N>::try_from_utf8(piece).ok()?;
-    iter.next();
-    Some(word)
-}
 
 /// Takes the variants that stand at the front.
 pub fn read_variants(alloc: Global, iter: &mut SubtagIterator<'_>) -> Result<Variants, ParseError>

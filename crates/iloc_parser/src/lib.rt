@@ -1,88 +1,17 @@
-//! Cuts a text at its hyphens.
+//! The pieces of a text, one at a time.
+//!
+//! A text is cut at each hyphen and nowhere else (UTS #35 section 3 also lets underscores separate;
+//! docs/DIFFERENCES.md). The empty text is one empty piece. Contracts see an iterator as the list of
+//! pieces that it has left, and each piece is a slice of the input.
+//!
+//! Stands on the definitions of pieces (`iloc_grammar`) and on the kinds of words (`iloc_subtags`).
 #![tactic(auto)]
 
-ghost use Rattle.std.specs.Prelude.{◌≡◌, ◌≢◌, ◌∷◌, ◌++◌, MatchOption, All};
-ghost use Rattle.std.specs.Option.{option_copied};
-ghost use Rattle.iloc_grammar.specs.Pieces.{pieces};
-ghost use Rattle.iloc_grammar.specs.Reading.{rest_of};
-ghost use Rattle.iloc_grammar.specs.Reading.{first_item};
+pub mod reading;
+pub mod subtag_iterator;
 
-/// The pieces of a text, one at a time.
-#[derive(Clone, Copy)]
-pub struct SubtagIterator<'a> {
-    piece: Option<&'a [u8]>,
-    later: Option<&'a [u8]>,
-}
+pub use reading::take_word;
+pub use subtag_iterator::SubtagIterator;
 
-impl<'a> SubtagIterator<'a> {
-    ghost use Rattle.iloc_parser.specs.Left.{left};
-
-    pub fn new(text: &'a [u8]) -> Self
-        ensures { left result ≡ pieces text.now }
-    {
-        match cut(text) {
-            Some((piece, later)) => SubtagIterator {
-                piece: Some(piece),
-                later: Some(later),
-            },
-            None => SubtagIterator {
-                piece: Some(text),
-                later: None,
-            },
-        }
-    }
-
-    /// The iterator after the next piece, and that piece.
-    #[tactic(auto, unfolding(crate::specs::Left::left))]
-    pub fn next_const(self) -> (Self, Option<&'a [u8]>)
-        ensures piece { option_copied result.1 ≡ first_item (left self.entry) }
-        ensures rest { left result.0 ≡ rest_of (left self.entry) }
-    {
-        let Some(piece) = self.piece else {
-            return (self, None);
-        };
-        let rest = match self.later {
-            Some(text) => SubtagIterator::new(text),
-            None => SubtagIterator {
-                piece: None,
-                later: None,
-            },
-        };
-        (rest, Some(piece))
-    }
-
-    /// The next piece.
-    #[tactic(auto, unfolding(crate::specs::Left::left))]
-    pub fn peek(&self) -> Option<&'a [u8]>
-        ensures { option_copied result ≡ first_item (left self.now) }
-    {
-        self.piece
-    }
-}
-
-impl<'a> Iterator for SubtagIterator<'a> {
-    type Item = &'a [u8];
-
-    ghost use Rattle.std.specs.Iterator.{YieldsFirstRef, item_count};
-    ghost use Rattle.iloc_parser.specs.Left.{left};
-
-    ghost next_gives = { YieldsFirstRef left };
-
-    ghost remaining = { item_count left };
-
-    fn next(&mut self) -> Option<&'a [u8]> {
-        let (rest, piece) = self.next_const();
-        *self = rest;
-        piece
-    }
-}
-
-// The piece before the first hyphen and what follows that, if there is a hyphen.
-fn cut(text: &[u8]) -> Option<(&[u8], &[u8])>
-    ensures { MatchOption result (All (λ c. c ≢ 45) text.now)
-        (λ parts. All (λ c. c ≢ 45) parts.0.now × (text.now ≡ parts.0.now ++ 45 ∷ parts.1.now)) }
-{
-    let end = text.iter().position(|byte| *byte == b'-')?;
-    let (piece, later) = text.split_at(end);
-    Some((piece, &later[1..]))
-}
+#[cfg(test)]
+mod tests;

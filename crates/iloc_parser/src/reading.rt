@@ -1,0 +1,21 @@
+//! The brick that readers are made of.
+ghost use Rattle.std.specs.Prelude.{◌≡◌, option_map};
+ghost use Rattle.iloc_grammar.specs.Words.{is_word, normal};
+ghost use Rattle.iloc_grammar.specs.Reading.{take_first, skip_first};
+ghost use Rattle.iloc_parser.specs.Left.{left};
+
+use crate::subtag_iterator::SubtagIterator;
+use iloc_subtags::{WordKind, WordOf};
+
+/// Takes the next piece where it is a word of the kind; else nothing is taken.
+pub fn take_word<K: WordKind<N>, const N: usize>(
+    iter: &mut SubtagIterator<'_>,
+) -> Option<WordOf<K, N>>
+    ensures word { result ≡ option_map (normal K.kind) (take_first (is_word K.kind) (left iter.old)) }
+    ensures rest { left iter.new ≡ skip_first (is_word K.kind) (left iter.old) }
+{
+    let piece = iter.peek()?;
+    let word = WordOf::<K, N>::try_from_utf8(piece).ok()?;
+    iter.next();
+    Some(word)
+}
