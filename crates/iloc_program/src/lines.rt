@@ -57,8 +57,6 @@ fn answer_line(
 {
     match mode {
         Mode::Langid => answer_langid(alloc, line, replies),
-        Mode::Locale => replies.extend_from_slice(line),
-        Mode::Data => replies.extend_from_slice(line),
     }
 }
 
