@@ -1,0 +1,287 @@
+-- What is read after `t`: the longest front of an identifier, and fields.
+use Rattle.std.proofs.Common.{◌≡◌, ◌⊎◌, inl, inr, ℕ, ◌<◌, ◌≤◌, Bool, true, false, ◌||◌, ◌==◌, List, [], ◌∷◌, ◌++◌, length, length-append, map, refl, sym, ap, ◌∙◌, subst, arith, Option, Some, None, IfSome, option_to_list, true≢false, append_assoc, le_antisymm}
+use Rattle.std.specs.List.{AllByRecursion}
+use Rattle.std.proofs.lemmas.Bool.{false_from_ne_true}
+use Rattle.std.proofs.lemmas.List.{map-append}
+use Rattle.iloc_grammar.specs.Words.{Language, Script, Region, Variant, TransformKey, Attribute, is_word, IsWord, IsTable, lower, word_cmp}
+use Rattle.iloc_grammar.specs.Written.{Identifier, Fields, Transform, identifier_pieces, optional_pieces, fields_pieces, HasWords, IsIdentifier, IsField, IsTransform, AllDifferent}
+use Rattle.iloc_grammar.specs.Meaning.{normal_transform}
+use Rattle.iloc_grammar.specs.Faults.{Fault, InvalidSubtag, InvalidExtension, first_piece, RepeatsVariant}
+use Rattle.iloc_grammar.specs.ByBlocks.{TransformMeans}
+use Rattle.iloc_grammar.proofs.WordsLaws.{length-language, region_no_script, length-transform_key, length-attribute}
+use Rattle.iloc_grammar.proofs.ValuesLaws.{all_weaker, all_both}
+use Rattle.iloc_grammar.proofs.IdentifierLaws.{identifier_of, pieces-identifier_of, one_identifier}
+use Rattle.iloc_grammar.proofs.Readings.{IsLong, IsNoKey, after_language, long_after_language, identifier_no_key, language_no_key, fields_from, fields_read, fields_pass}
+use Rattle.iloc_grammar.proofs.Deciding.{dec_and, dec_all, dec_field, dec_needed, dec_different}
+use Rattle.iloc_grammar.proofs.FaultLaws.{some_repeat, front_variants, after_variants, front_are_variants, front_longest, read_longer, cut_identifier, repeats_longer, language_of, script_of, region_of, spell_cut, dec_repeats}
+use Rattle.iloc_fronts.specs.Fronts.{FrontRead, absent, present, is_field_piece, fields_front, after_fields, TransformRead, TransformFault, repeats, unread, IsPartialFunction, EndsBlock}
+use Rattle.iloc_grammar.specs.Reading.{IdentifierFront}
+use Rattle.iloc_fronts.proofs.FrontLaws.{same_fronts, same_before, Stops, all_from_pieces, front_of_fields, fields_stop, pieces_pass}
+
+-- two fronts of one list
+
+abbrev NoFirst : (List ℕ → Type 0) → List (List ℕ) → Type 0
+NoFirst P [] = Unit {0}
+NoFirst P (p ∷ ps) = ¬ (P p)
+
+not_longer : (P : List ℕ → Type 0) (xs ys a b : List (List ℕ)) → xs ++ a ≡ ys ++ b → AllByRecursion P ys → NoFirst P a → length ys ≤ length xs
+not_longer P [] [] a b e h n = omega arith
+not_longer P [] (y ∷ ys) [] b e h n = absurd (cc)
+not_longer P [] (y ∷ ys) (p ∷ a) b e h n = let same : p ≡ y = cc in absurd (n (subst P (sym same) h.0))
+not_longer P (x ∷ xs) [] a b e h n = omega arith
+not_longer P (x ∷ xs) (y ∷ ys) a b e h n = let tails : xs ++ a ≡ ys ++ b = cc in let l = not_longer P xs ys a b tails h.1 n in omega arith
+
+-- the longest front of an identifier is one
+
+front_language : {T : ℕ → Bool} (ps : List (List ℕ)) (i : Identifier) (rest : List (List ℕ)) → HasWords T i → ps ≡ identifier_pieces i ++ rest → IsWord (Language T) (first_piece ps)
+front_language {T = T} ps i rest h e = ap (λ (l : List (List ℕ)). is_word (Language T) (first_piece l)) e ∙ h.language
+
+one_longest : {T : ℕ → Bool} (ps : List (List ℕ)) (i j : Identifier) (rest more : List (List ℕ)) → IdentifierFront T ps i rest → IdentifierFront T ps j more → (i ≡ j) × (rest ≡ more)
+one_longest ps i j rest more a b =
+    let fronts = same_fronts (identifier_pieces i) (identifier_pieces j) rest more (sym a.spelled ∙ b.spelled) (le_antisymm (b.longest i rest a.words a.spelled) (a.longest j more b.words b.spelled)) in
+    (one_identifier i j a.words b.words fronts.0, fronts.1)
+
+pub one_front : {T : ℕ → Bool} (ps : List (List ℕ)) {o q : Option Identifier} {rest more : List (List ℕ)} → FrontRead T ps o rest → FrontRead T ps q more → (o ≡ q) × (rest ≡ more)
+one_front ps (absent e) (absent k) = (refl, refl)
+one_front ps (absent e) (present g b) = absurd (true≢false (sym (front_language ps _ _ b.words b.spelled) ∙ e))
+one_front ps (present h a) (absent k) = absurd (true≢false (sym (front_language ps _ _ a.words a.spelled) ∙ k))
+one_front ps (present h a) (present g b) = let same = one_longest ps _ _ _ _ a b in (ap Some same.0, same.1)
+
+-- the reading from the left is a longest front
+
+left_longest : (l : List ℕ) (s r : Option (List ℕ)) (vs more : List (List ℕ)) → IfSome s (IsWord Script) → IfSome r (IsWord Region) → AllByRecursion (IsWord Variant) vs → length (l ∷ (option_to_list s ++ (option_to_list r ++ vs))) ≤ length (identifier_pieces (cut_identifier (identifier_of ((l ∷ (option_to_list s ++ (option_to_list r ++ vs))) ++ more))))
+unfolding identifier_of
+left_longest l None None [] more hs hr hv = omega arith
+left_longest l (Some s) None [] more hs hr hv = rw hs (omega arith)
+left_longest l None (Some r) [] more hs hr hv = rw (region_no_script r hr, hr) (omega arith)
+left_longest l (Some s) (Some r) [] more hs hr hv = rw (hs, hr) (omega arith)
+left_longest l s r (v ∷ vs) more hs hr hv =
+    let read : cut_identifier (identifier_of ((l ∷ (option_to_list s ++ (option_to_list r ++ (v ∷ vs)))) ++ more)) ≡ record { language = l; script = s; region = r; variants = (v ∷ vs) ++ front_variants more } = ap cut_identifier (read_longer l s r v vs more hs hr hv.0) ∙ ap (λ ws. record { language = l; script = s; region = r; variants = ws }) (front_longest (v ∷ vs) more hv) in
+    let pieces : identifier_pieces (record { language = l; script = s; region = r; variants = (v ∷ vs) ++ front_variants more }) ≡ (l ∷ (option_to_list s ++ (option_to_list r ++ (v ∷ vs)))) ++ front_variants more = sym (ap (λ ws. l ∷ ws) (append_assoc (option_to_list s) (option_to_list r ++ (v ∷ vs)) (front_variants more) ∙ ap (λ ws. option_to_list s ++ ws) (append_assoc (option_to_list r) (v ∷ vs) (front_variants more)))) in
+    let total : length (identifier_pieces (cut_identifier (identifier_of ((l ∷ (option_to_list s ++ (option_to_list r ++ (v ∷ vs)))) ++ more)))) ≡ length ((l ∷ (option_to_list s ++ (option_to_list r ++ (v ∷ vs)))) ++ front_variants more) = ap (λ i. length (identifier_pieces i)) read ∙ ap length pieces in
+    subst (λ (n : ℕ). length (l ∷ (option_to_list s ++ (option_to_list r ++ (v ∷ vs)))) ≤ n) (sym (total ∙ length-append (l ∷ (option_to_list s ++ (option_to_list r ++ (v ∷ vs)))) (front_variants more))) (omega arith)
+
+pub left_front : (T : ℕ → Bool) (p : List ℕ) (ps : List (List ℕ)) → IsWord (Language T) p → IdentifierFront T (p ∷ ps) (cut_identifier (identifier_of (p ∷ ps))) (after_variants (identifier_of (p ∷ ps)).variants)
+left_front T p ps h = record {
+  words = record { language = subst (IsWord (Language T)) (sym (language_of p ps)) h; script = script_of p ps; region = region_of p ps; variants = front_are_variants _ };
+  spelled = sym (spell_cut (identifier_of (p ∷ ps)) ∙ pieces-identifier_of p ps);
+  longest = λ j more w e. subst (λ (l : List (List ℕ)). length (identifier_pieces j) ≤ length (identifier_pieces (cut_identifier (identifier_of l)))) (sym e) (left_longest j.language j.script j.region j.variants more w.script w.region w.variants);
+}
+
+no_repeats : {T : ℕ → Bool} (ps : List (List ℕ)) (j : Identifier) (rest : List (List ℕ)) → IsIdentifier T j → IdentifierFront T ps j rest → RepeatsVariant T ps → ⊥
+no_repeats [] j rest h f r = absurd_empty _ _ r.3
+  where
+    absurd_empty : (l : List ℕ) (ls : List (List ℕ)) → ◌≡◌ {A = List (List ℕ)} [] (l ∷ ls) → ⊥
+    absurd_empty l ls e = cc
+no_repeats {T = T} (p ∷ ps) j rest h f r =
+    let left = left_front T p ps (front_language (p ∷ ps) j rest f.words f.spelled) in
+    let same = one_longest (p ∷ ps) j _ rest _ f left in
+    let e : (identifier_of (p ∷ ps)).variants ≡ r.0.variants ++ r.1 = ap (λ l. (identifier_of l).variants) r.3 ∙ repeats_longer r.0 r.1 r.2 r.4 in
+    let vs : j.variants ≡ r.0.variants ++ front_variants r.1 = ap (λ (i : Identifier). i.variants) same.0 ∙ ap front_variants e ∙ front_longest r.0.variants r.1 r.2.variants in
+    let all : AllDifferent word_cmp (map lower (r.0.variants ++ front_variants r.1)) = subst (λ l. AllDifferent word_cmp (map lower l)) vs h.different in
+    r.4 (some_repeat word_cmp (map lower r.0.variants) (map lower (front_variants r.1)) (subst (AllDifferent word_cmp) (map-append lower r.0.variants (front_variants r.1)) all))
+
+front_cases : {T : ℕ → Bool} → IsTable T → (ps : List (List ℕ)) → ((o : Option Identifier) × (rest : List (List ℕ)) × FrontRead T ps o rest) ⊎ RepeatsVariant T ps
+front_cases {T = T} table [] = inl (None, [], absent (false_from_ne_true _ (λ h. no_word h)))
+  where
+    no_word : IsWord (Language T) [] → ⊥
+    no_word h = let l = table.least 0 (length-language T [] h) in absurd (omega arith)
+front_cases {T = T} table (p ∷ ps) = at_language (is_word (Language T) p) refl
+  where
+    Answer : Type 0
+    Answer = ((o : Option Identifier) × (rest : List (List ℕ)) × FrontRead T (p ∷ ps) o rest) ⊎ RepeatsVariant T (p ∷ ps)
+
+    at_language : (b : Bool) → is_word (Language T) p ≡ b → Answer
+    at_language false e = inl (None, p ∷ ps, absent e)
+    at_language true e = at_variants (dec_different word_cmp (map lower (cut_identifier (identifier_of (p ∷ ps))).variants))
+      where
+        left : IdentifierFront T (p ∷ ps) (cut_identifier (identifier_of (p ∷ ps))) (after_variants (identifier_of (p ∷ ps)).variants)
+        left = left_front T p ps e
+
+        at_variants : Dec (AllDifferent word_cmp (map lower (cut_identifier (identifier_of (p ∷ ps))).variants)) → Answer
+        at_variants (yes d) = inl (Some _, _, present (record { words = left.words; different = d }) left)
+        at_variants (no d) = inr (cut_identifier (identifier_of (p ∷ ps)), after_variants (identifier_of (p ∷ ps)).variants, left.words, left.spelled, d)
+
+-- fields
+
+abbrev is_key : List ℕ → Bool
+is_key p = is_word TransformKey p
+
+unfoldable pub fields_of : List (List ℕ) → Fields
+fields_of ps = fields_from is_key (fields_front ps)
+
+pub fields_spelled : (ps : List (List ℕ)) → fields_front ps ≡ fields_pieces (fields_of ps)
+unfolding fields_of
+fields_spelled ps = front_of_fields is_key is_field_piece ps
+
+pub fields_are : (ps : List (List ℕ)) (fs : Fields) → AllByRecursion IsField fs → fields_front ps ≡ fields_pieces fs → fields_of ps ≡ fs
+unfolding fields_of
+fields_are ps fs h e = ap (fields_from is_key) e ∙ fields_read is_key fs (fields_pass fs h)
+
+-- what is read is determined
+
+pub one_transform : (T : ℕ → Bool) → IsPartialFunction (TransformRead T)
+one_transform T ps v w rest more a b =
+    let fronts = one_front ps a.id b.id in
+    let fields : a.written.fields ≡ b.written.fields = sym (fields_are a.middle a.written.fields a.fields a.spelled) ∙ ap fields_of fronts.1 ∙ fields_are b.middle b.written.fields b.fields b.spelled in
+    (a.means ∙ (λ i. normal_transform (record { id = fronts.0 i; fields = fields i })) ∙ sym b.means, a.left ∙ ap after_fields fronts.1 ∙ sym b.left)
+
+pub transform_or_fault : {T : ℕ → Bool} → IsTable T → (ps : List (List ℕ)) → ((m : Transform) × (rest : List (List ℕ)) × TransformRead T ps m rest) ⊎ ((f : Fault) × TransformFault T ps f)
+transform_or_fault {T = T} table ps = at_repeats (dec_repeats T ps)
+  where
+    Answer : Type 0
+    Answer = ((m : Transform) × (rest : List (List ℕ)) × TransformRead T ps m rest) ⊎ ((f : Fault) × TransformFault T ps f)
+
+    at_repeats : Dec (RepeatsVariant T ps) → Answer
+    at_repeats (yes r) = inr (InvalidSubtag, repeats r)
+    at_repeats (no n) = at_front (front_cases table ps)
+      where
+        at_front : ((o : Option Identifier) × (rest : List (List ℕ)) × FrontRead T ps o rest) ⊎ RepeatsVariant T ps → Answer
+        at_front (inr r) = absurd (n r)
+        at_front (inl x) = at_fields (dec_and (dec_all IsField dec_field (fields_of x.1)) (dec_needed x.0 (length (fields_of x.1))))
+          where
+            at_fields : Dec (AllByRecursion IsField (fields_of x.1) × (x.0 ≡ None → 0 < length (fields_of x.1))) → Answer
+            at_fields (yes h) = inl (normal_transform (record { id = x.0; fields = fields_of x.1 }), after_fields x.1, record { written = record { id = x.0; fields = fields_of x.1 }; middle = x.1; id = x.2; fields = h.0; spelled = fields_spelled x.1; nonempty = h.1; means = refl; left = refl })
+            at_fields (no h) = inr (
+              InvalidExtension,
+              unread n (λ m rest r.
+                  let fronts = one_front ps r.id x.2 in
+                  let fields : r.written.fields ≡ fields_of x.1 = sym (fields_are r.middle r.written.fields r.fields r.spelled) ∙ ap fields_of fronts.1 in
+                  h (subst (AllByRecursion IsField) fields r.fields, λ e. subst (λ (fs : Fields). 0 < length fs) fields (r.nonempty (fronts.0 ∙ e)))),
+            )
+
+pub read_no_repeats : {T : ℕ → Bool} (ps : List (List ℕ)) {o : Option Identifier} {rest : List (List ℕ)} → FrontRead T ps o rest → RepeatsVariant T ps → ⊥
+read_no_repeats ps (absent e) r = true≢false (sym (front_language ps r.0 r.1 r.2 r.3) ∙ e)
+read_no_repeats ps (present h f) r = no_repeats ps _ _ h f r
+
+pub transform_apart : {T : ℕ → Bool} (ps : List (List ℕ)) (m : Transform) (rest : List (List ℕ)) (f : Fault) → TransformRead T ps m rest → TransformFault T ps f → ⊥
+transform_apart ps m rest f h (repeats r) = read_no_repeats ps h.id r
+transform_apart ps m rest f h (unread n u) = u m rest h
+
+pub one_transform_fault : {T : ℕ → Bool} (ps : List (List ℕ)) {f g : Fault} → TransformFault T ps f → TransformFault T ps g → f ≡ g
+one_transform_fault ps (repeats r) (repeats q) = refl
+one_transform_fault ps (repeats r) (unread n u) = absurd (n r)
+one_transform_fault ps (unread n u) (repeats q) = absurd (n q)
+one_transform_fault ps (unread n u) (unread m v) = refl
+
+-- a whole block
+
+front_spelled : {T : ℕ → Bool} (ps : List (List ℕ)) {o : Option Identifier} {rest : List (List ℕ)} → FrontRead T ps o rest → ps ≡ optional_pieces o ++ rest
+front_spelled ps (absent e) = refl
+front_spelled ps (present h f) = f.spelled
+
+front_identifier : {T : ℕ → Bool} (ps : List (List ℕ)) {o : Option Identifier} {rest : List (List ℕ)} → FrontRead T ps o rest → IfSome o (IsIdentifier T)
+front_identifier ps (absent e) = tt
+front_identifier ps (present h f) = h
+
+pub transform_whole : {T : ℕ → Bool} (ps rest : List (List ℕ)) (m : Transform) → TransformRead T (ps ++ rest) m rest → TransformMeans T ps m
+transform_whole ps rest m h =
+    let o = optional_pieces h.written.id in
+    let fs = fields_pieces h.written.fields in
+    let middle : h.middle ≡ fs ++ rest = sym (all_from_pieces is_key is_field_piece h.middle) ∙ (λ i. h.spelled i ++ sym h.left i) in
+    record {
+      written = h.written;
+      grammatical = record { id = front_identifier (ps ++ rest) h.id; fields = h.fields; nonempty = h.nonempty };
+      spelled = same_before ps (o ++ fs) rest (front_spelled (ps ++ rest) h.id ∙ ap (λ l. o ++ l) middle ∙ sym (append_assoc o fs rest));
+      means = h.means;
+    }
+
+-- pieces that no identifier goes on with
+abbrev IsInside : List ℕ → Type 0
+IsInside p = IsNoKey p × IsLong p
+
+inside_after : {T : ℕ → Bool} (i : Identifier) → HasWords T i → AllByRecursion IsInside (after_language i)
+inside_after i h = all_both IsNoKey IsLong (after_language i) (identifier_no_key i h).1 (long_after_language i h)
+
+no_key_empty : is_word TransformKey [] ≡ false
+unfolding is_word
+no_key_empty = refl
+
+fields_end : (fs : Fields) (rest : List (List ℕ)) → AllByRecursion IsField fs → EndsBlock rest → NoFirst IsInside (fields_pieces fs ++ rest)
+fields_end [] [] h e = tt
+fields_end [] (p ∷ ps) h e = λ x. true≢false (sym (one (length p) e) ∙ x.1)
+  where
+    one : (n : ℕ) → n ≡ 1 → (n == 1) ≡ true
+    one n h = rw h refl
+fields_end (f ∷ fs) rest h e = λ x. true≢false (sym h.0.0 ∙ x.0)
+
+longest_until : {T : ℕ → Bool} (i j : Identifier) (rest more : List (List ℕ)) → HasWords T j → NoFirst IsInside rest → identifier_pieces i ++ rest ≡ identifier_pieces j ++ more → length (identifier_pieces j) ≤ length (identifier_pieces i)
+longest_until i j rest more w n e =
+    let tails : after_language i ++ rest ≡ after_language j ++ more = cc in
+    let l = not_longer IsInside (after_language i) (after_language j) rest more tails (inside_after j w) n in
+    omega arith
+
+one_no_word : (p : List ℕ) → length p ≡ 1 → (is_word TransformKey p ≡ false) × (is_field_piece p ≡ false)
+one_no_word p e =
+    let k = false_from_ne_true (is_word TransformKey p) (λ h. let l = length-transform_key p h in absurd (omega arith)) in
+    let a = false_from_ne_true (is_word Attribute p) (λ h. let l = (length-attribute p h).0 in absurd (omega arith)) in
+    (k, λ i. k i || a i)
+
+rest_stops : (rest : List (List ℕ)) → EndsBlock rest → Stops is_key rest × Stops is_field_piece rest
+rest_stops [] e = (tt, tt)
+rest_stops (p ∷ ps) e = one_no_word p e
+
+pub transform_block : {T : ℕ → Bool} → (ps rest : List (List ℕ)) (m : Transform) → TransformMeans T ps m → EndsBlock rest → TransformRead T (ps ++ rest) m rest
+transform_block {T = T} ps rest m h e = subst (λ (l : List (List ℕ)). TransformRead T l m rest) (sym (ap (λ l. l ++ rest) h.spelled ∙ append_assoc (optional_pieces h.written.id) (fields_pieces fs) rest)) (record {
+  written = h.written;
+  middle = fields_pieces fs ++ rest;
+  id = front h.written.id g.id g.nonempty;
+  fields = g.fields;
+  spelled = stop.0;
+  nonempty = g.nonempty;
+  means = h.means;
+  left = sym stop.1;
+})
+  where
+    fs : Fields
+    fs = h.written.fields
+
+    g : IsTransform T h.written
+    g = h.grammatical
+
+    no_language : (fs : Fields) → AllByRecursion IsField fs → 0 < length fs → is_word (Language T) (first_piece (fields_pieces fs ++ rest)) ≡ false
+    no_language [] f n = absurd (omega arith)
+    no_language (f ∷ fs) k n = false_from_ne_true _ (λ l. true≢false (sym k.0.0 ∙ language_no_key T f.0 l))
+
+    front : (o : Option Identifier) → IfSome o (IsIdentifier T) → (o ≡ None → 0 < length fs) → FrontRead T (optional_pieces o ++ (fields_pieces fs ++ rest)) o (fields_pieces fs ++ rest)
+    front None i n = absent (no_language fs g.fields (n refl))
+    front (Some i) w n = present w (record { words = w.words; spelled = refl; longest = λ j more v q. longest_until i j (fields_pieces fs ++ rest) more v (fields_end fs rest g.fields e) q })
+
+    or_true : (b : Bool) → (b || true) ≡ true
+    or_true true = refl
+    or_true false = refl
+
+    goes_on : (f : List ℕ × List (List ℕ)) → IsField f → (is_field_piece f.0 ≡ true) × AllByRecursion (λ p. is_field_piece p ≡ true) f.1
+    goes_on f r = (ap (λ b. b || is_word Attribute f.0) r.0, all_weaker (IsWord Attribute) (λ p. is_field_piece p ≡ true) (λ p w. ap (λ b. is_word TransformKey p || b) w ∙ or_true (is_word TransformKey p)) f.1 r.1)
+
+    stop : (fields_front (fields_pieces fs ++ rest) ≡ fields_pieces fs) × (after_fields (fields_pieces fs ++ rest) ≡ rest)
+    stop = fields_stop is_key is_field_piece fs rest (pieces_pass is_field_piece fs (all_weaker IsField (λ f. (is_field_piece f.0 ≡ true) × AllByRecursion (λ p. is_field_piece p ≡ true) f.1) goes_on fs g.fields)) (all_weaker IsField (λ f. is_key f.0 ≡ true) (λ f r. r.0) fs g.fields) (rest_stops rest e).1 (rest_stops rest e).0 no_key_empty
+
+-- variants that repeat, with and without what follows the block
+
+longer_front : (xs ys a b : List (List ℕ)) → xs ++ a ≡ ys ++ b → length ys ≤ length xs → (c : List (List ℕ)) × (xs ≡ ys ++ c)
+longer_front xs [] a b e l = (xs, refl)
+longer_front [] (y ∷ ys) a b e l = absurd (omega arith)
+longer_front (x ∷ xs) (y ∷ ys) a b e l =
+    let heads : x ≡ y = cc in
+    let tails : xs ++ a ≡ ys ++ b = cc in
+    let rest = longer_front xs ys a b tails (omega arith) in
+    (rest.0, λ i. heads i ∷ rest.1 i)
+
+one_is_short : (rest : List (List ℕ)) → EndsBlock rest → NoFirst IsLong rest
+one_is_short [] e = tt
+one_is_short (p ∷ ps) e = λ l. true≢false (sym (one (length p) e) ∙ l)
+  where
+    one : (n : ℕ) → n ≡ 1 → (n == 1) ≡ true
+    one n h = rw h refl
+
+pub repeats_in_block : {T : ℕ → Bool} → (p : List ℕ) (ps rest : List (List ℕ)) → EndsBlock rest → RepeatsVariant T ((p ∷ ps) ++ rest) → RepeatsVariant T (p ∷ ps)
+repeats_in_block p ps rest e r =
+    let tails : ps ++ rest ≡ after_language r.0 ++ r.1 = cc (r.3) in
+    let heads : p ≡ r.0.language = cc (r.3) in
+    let l = not_longer IsLong ps (after_language r.0) rest r.1 tails (long_after_language r.0 r.2) (one_is_short rest e) in
+    let found = longer_front ps (after_language r.0) rest r.1 tails l in
+    (r.0, found.0, r.2, (λ i. heads i ∷ found.1 i), r.4)
+
+pub repeats_before : {T : ℕ → Bool} → (ps rest : List (List ℕ)) → RepeatsVariant T ps → RepeatsVariant T (ps ++ rest)
+repeats_before ps rest r = (r.0, r.1 ++ rest, r.2, ap (λ l. l ++ rest) r.3 ∙ append_assoc (identifier_pieces r.0) r.1 rest, r.4)

@@ -1,0 +1,4 @@
+pub mod KeywordLaws
+pub mod PreferenceLaws
+pub mod RuleRows
+pub mod ConversionLaws

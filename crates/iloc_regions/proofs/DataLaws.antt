@@ -1,0 +1,245 @@
+-- Data locales: reading and printing.
+use Rattle.std.proofs.Common.{◌≡◌, ◌≤◌, ◌⊎◌, ℕ, Bool, true, false, cond, List, [], ◌∷◌, ◌++◌, length, refl, sym, ap, ◌∙◌, subst, arith, Option, Some, None, IfSome, MatchResult, Result, Ok, Err, ok_or, option_map, option_and_then, option_to_list, true≢false, codes, append_assoc, append-nil}
+use Rattle.std.specs.Result.{result_ok}
+use Rattle.std.specs.Ordering.{is_eq}
+use Rattle.std.specs.declared.cmp.Ordering.{Ordering}
+use Rattle.std.specs.declared.cmp.Ordering.TheVariants.{Less, Equal, Greater}
+use Rattle.std.specs.Cmp.{tied_itself}
+use Rattle.std.proofs.lemmas.Bool.Decides.{nat_tests}
+use Rattle.iloc_grammar.specs.Pieces.{join}
+use Rattle.iloc_grammar.specs.Words.{Language, Script, Region, Variant, Subtag, UnicodeKey, Attribute, SubdivisionSuffix, is_word, IsWord, IsTable, lower, word_cmp, is_same, is_true}
+use Rattle.iloc_grammar.specs.Written.{identifier_pieces}
+use Rattle.iloc_grammar.specs.Meaning.{Locale}
+use Rattle.iloc_grammar.specs.Values.{IsNormal, IsValue, IsWellFormed, text}
+use Rattle.iloc_grammar.specs.Faults.{Fault, InvalidExtension}
+use Rattle.iloc_grammar.proofs.MapLaws.{word_cmp_total, same_words}
+use Rattle.iloc_grammar.proofs.WordsLaws.{is_word-lower, lower-lower}
+use Rattle.iloc_grammar.proofs.Corollaries.{same_text_same_value}
+use Rattle.iloc_small.specs.Small.{SmallIdentifier, SmallLocale, identifier_of_small, locale_of_small, IsSmall, HasSmallFault, IsSmallValue}
+use Rattle.iloc_grammar.specs.Reading.{first_item}
+use Rattle.iloc_regions.specs.Subdivisions.{Subdivision, subdivision, subdivision_text, IsSubdivision}
+use Rattle.iloc_regions.specs.DataLocales.{DataLocale, IsDataLocale, whole, whole_region, is_whole, named_subdivision, made_of, agreed, sd, small_part, data_of_small, DataMeans, HasDataFault, not_small, no_subdivision, subdivision_value, subdivision_keyword, subdivision_pieces, data_text, small_of_data, locale_of_data}
+use Rattle.iloc_small.proofs.SmallLaws.{one_small, small_result, small_answer, small_apart, one_small_fault, by_result}
+use Rattle.iloc_small.proofs.SmallBack.{small_back, small_is_value, read_is_small_value}
+use Rattle.iloc_regions.proofs.SubdivisionLaws.{subdivision_back, subdivision_is_subtag, read_is_subdivision, text_of_read, read_is_long}
+
+-- words that are the same
+
+pub same_itself : (w : List ℕ) → is_same w w ≡ true
+same_itself w = ap is_eq (tied_itself word_cmp_total w)
+
+tied : (r : Ordering) → is_eq r ≡ true → r ≡ Equal
+tied Less e = absurd (true≢false (sym e))
+tied Equal e = refl
+tied Greater e = absurd (true≢false (sym e))
+
+pub same_is : (v w : List ℕ) → is_same v w ≡ true → v ≡ w
+same_is v w e = same_words v w (tied (word_cmp v w) e)
+
+-- what is read of a text
+
+abbrev pub data_of_result : Result SmallLocale Fault → Result DataLocale Fault
+data_of_result (Ok r) = ok_or (data_of_small r) InvalidExtension
+data_of_result (Err f) = Err f
+
+unfoldable pub data_result : (ℕ → Bool) → List ℕ → Result DataLocale Fault
+data_result T t = data_of_result (small_result T t)
+
+pub data_answer : {T : ℕ → Bool} → IsTable T → (t : List ℕ) → MatchResult (data_result T t) (DataMeans T t) (HasDataFault T t)
+unfolding data_result
+data_answer {T = T} table t = at_small (small_result T t) (small_answer table t)
+  where
+    Answer : Result DataLocale Fault → Type 0
+    Answer o = MatchResult o (DataMeans T t) (HasDataFault T t)
+
+    at_data : (r : SmallLocale) → IsSmall T t r → (o : Option DataLocale) → data_of_small r ≡ o → Answer (ok_or o InvalidExtension)
+    at_data r h None e = no_subdivision h e
+    at_data r h (Some d) e = record { small = r; is_small = h; means = e }
+
+    at_small : (o : Result SmallLocale Fault) → MatchResult o (IsSmall T t) (HasSmallFault T t) → Answer (data_of_result o)
+    at_small (Ok r) h = at_data r h (data_of_small r) refl
+    at_small (Err f) h = not_small h
+
+pub one_data : {T : ℕ → Bool} → IsTable T → (t : List ℕ) (d e : DataLocale) → DataMeans T t d → DataMeans T t e → d ≡ e
+one_data table t d e a b =
+    let same : Some d ≡ Some e = sym a.means ∙ ap data_of_small (one_small table t a.small b.small a.is_small b.is_small) ∙ b.means in
+    cc
+
+pub data_apart : {T : ℕ → Bool} → IsTable T → (t : List ℕ) (d : DataLocale) (f : Fault) → DataMeans T t d → HasDataFault T t f → ⊥
+data_apart table t d f h (not_small x) = small_apart t h.small f h.is_small x
+data_apart table t d f h (no_subdivision {r = r} s e) =
+    let same : Some d ≡ None = sym h.means ∙ ap data_of_small (one_small table t h.small r h.is_small s) ∙ e in
+    cc
+
+pub one_data_fault : {T : ℕ → Bool} (t : List ℕ) {f g : Fault} → HasDataFault T t f → HasDataFault T t g → f ≡ g
+one_data_fault t (not_small x) (not_small y) = one_small_fault t x y
+one_data_fault t (not_small x) (no_subdivision s e) = absurd (small_apart t _ _ s x)
+one_data_fault t (no_subdivision s e) (not_small y) = absurd (small_apart t _ _ s y)
+one_data_fault t (no_subdivision s e) (no_subdivision q k) = refl
+
+-- printing
+
+abbrev keyword_by : Option (List ℕ) → Option (List ℕ × Option (List ℕ))
+keyword_by o = option_map (λ w. (sd, first_item (subdivision_value w))) o
+
+value_once : (w : List ℕ) → option_to_list (first_item (subdivision_value w)) ≡ subdivision_value w
+value_once w = elim (is_true (lower w)) as (λ b. option_to_list (first_item (cond b [] (lower w ∷ []))) ≡ cond b [] (lower w ∷ [])) [ true ↦ refl | false ↦ refl ]
+
+words_first : (l : List ℕ) (s r v : List (List ℕ)) (rest : List (List ℕ)) → (l ∷ (s ++ (r ++ v))) ++ rest ≡ l ∷ (s ++ (r ++ (v ++ rest)))
+words_first l s r v rest = ap (λ ws. l ∷ ws) (append_assoc s (r ++ v) rest ∙ ap (λ ws. s ++ ws) (append_assoc r v rest))
+
+pub text_of_data : (d : DataLocale) → text (locale_of_data d) ≡ data_text d
+text_of_data d = from (subdivision_keyword d)
+  where
+    id : SmallIdentifier
+    id = record { language = d.language; script = d.script; region = d.region; variant = d.variant }
+
+    from : (o : Option (List ℕ)) → text (locale_of_small (record { id = id; keyword = keyword_by o })) ≡ join (d.language ∷ (option_to_list d.script ++ (option_to_list d.region ++ (option_to_list d.variant ++ subdivision_pieces o))))
+    from None = ap join (words_first d.language (option_to_list d.script) (option_to_list d.region) (option_to_list d.variant) [])
+    from (Some w) = ap join (ap (λ vs. identifier_pieces (identifier_of_small id) ++ (codes "u" ∷ sd ∷ vs)) (append-nil _ ∙ append-nil _ ∙ value_once w)
+        ∙ words_first d.language (option_to_list d.script) (option_to_list d.region) (option_to_list d.variant) (subdivision_pieces (Some w)))
+
+-- the keyword of a data locale
+
+attribute_from : (w : List ℕ) → IsWord Subtag w → 3 ≤ length w → IsWord Attribute w
+unfolding is_word
+attribute_from w h n = grind (arith, nat_tests)
+
+sd_key : IsNormal UnicodeKey sd
+unfolding is_word lower
+sd_key = (refl, refl)
+
+abbrev IsKeywordOf : Option (List ℕ) → Type 0
+IsKeywordOf o = IfSome o (λ w. IsWord Subtag w × (3 ≤ length w))
+
+keyword_words : (o : Option (List ℕ)) → IfSome o (IsNormal Subtag) → IsKeywordOf (option_and_then (λ w. option_and_then (λ s. cond (is_whole s) None (Some w)) (named_subdivision w)) o)
+keyword_words None h = tt
+keyword_words (Some w) h = at_result (subdivision w) refl
+  where
+    at_result : (r : Result Subdivision Fault) → subdivision w ≡ r → IsKeywordOf (option_and_then (λ s. cond (is_whole s) None (Some w)) (result_ok r))
+    at_result (Err f) e = tt
+    at_result (Ok s) e = elim (is_whole s) as (λ b. IsKeywordOf (cond b None (Some w))) [ true ↦ tt | false ↦ (h.0, read_is_long w s e) ]
+
+pub small_value_of_data : {T : ℕ → Bool} (d : DataLocale) → IsDataLocale T d → IsSmallValue T (small_of_data d)
+small_value_of_data d h =
+    let k = keyword_words d.subdivision h.subdivision in
+    record { language = h.language; script = h.script; region = h.region; variant = h.variant; key = key_is (subdivision_keyword d); value = value_is (subdivision_keyword d) k }
+  where
+    key_is : (o : Option (List ℕ)) → IfSome (keyword_by o) (λ k. IsNormal UnicodeKey k.0)
+    key_is None = tt
+    key_is (Some w) = sd_key
+
+    value_is : (o : Option (List ℕ)) → IsKeywordOf o → IfSome (keyword_by o) (λ k. IfSome k.1 (λ w. IsNormal Attribute w × (is_true w ≡ false)))
+    value_is None k = tt
+    value_is (Some w) k = elim (is_true (lower w)) as (λ b. is_true (lower w) ≡ b → IfSome (first_item (cond b [] (lower w ∷ []))) (λ w. IsNormal Attribute w × (is_true w ≡ false))) [
+      | true ↦ λ e. tt
+      | false ↦ λ e. ((is_word-lower Attribute w ∙ attribute_from w k.0 k.1, lower-lower w), e)
+    ] refl
+
+-- the locale that a data locale becomes is a well-formed value
+pub locale_of_data_is_value : {T : ℕ → Bool} (d : DataLocale) → IsDataLocale T d → IsValue T (locale_of_data d) × IsWellFormed (locale_of_data d)
+locale_of_data_is_value d h = small_is_value (small_of_data d) (small_value_of_data d h)
+
+-- what is read: made of a part that spells no `true`
+
+abbrev IsReadPart : Subdivision → Type 0
+IsReadPart p = IsSubdivision p × (is_whole p ≡ false → is_true (subdivision_text p) ≡ false)
+
+record MadeOf (T : ℕ → Bool) (d : DataLocale) : Type 0 where
+  language : List ℕ
+  script : Option (List ℕ)
+  part : Option Subdivision
+  variant : Option (List ℕ)
+  language_is : IsNormal (Language T) language
+  script_is : IfSome script (IsNormal Script)
+  part_is : IfSome part IsReadPart
+  variant_is : IfSome variant (IsNormal Variant)
+  is : d ≡ made_of language script part variant
+
+whole_word : IsNormal SubdivisionSuffix whole
+unfolding is_word lower
+whole_word = (refl, refl)
+
+whole_is : (r : List ℕ) → is_whole (whole_region r) ≡ true
+whole_is r = refl
+
+pub whole_region_is : (r : List ℕ) → IsNormal Region r → IsSubdivision (whole_region r)
+whole_region_is r h = record { region = h; suffix = whole_word }
+
+whole_part : (r : List ℕ) → IsNormal Region r → IsReadPart (whole_region r)
+whole_part r h = (whole_region_is r h, λ e. absurd (true≢false (sym (whole_is r) ∙ e)))
+
+agreed_part : (region : Option (List ℕ)) (s : Subdivision) → IfSome region (IsNormal Region) → IsReadPart s → IsReadPart (agreed region s)
+agreed_part None s h p = p
+agreed_part (Some r) s h p = elim (is_same r s.region) as (λ b. IsReadPart (cond b s (whole_region r))) [ true ↦ p | false ↦ whole_part r h ]
+
+named_part : (w : List ℕ) (s : Subdivision) → subdivision w ≡ Ok s → IsNormal Attribute w → is_true w ≡ false → IsReadPart s
+named_part w s e h n = (read_is_subdivision w s e, λ k. ap is_true (text_of_read w s e ∙ h.1) ∙ n)
+
+parts_read : (region : Option (List ℕ)) (k : Option (List ℕ × Option (List ℕ))) → IfSome region (IsNormal Region) → IfSome k (λ k. IfSome k.1 (λ w. IsNormal Attribute w × (is_true w ≡ false))) → IfSome (small_part region k) (λ part. IfSome part IsReadPart)
+parts_read None None h v = tt
+parts_read (Some r) None h v = whole_part r h
+parts_read region (Some (k, o)) h v = elim (is_same k sd) as (λ b. IfSome (cond b (option_map (λ s. Some (agreed region s)) (option_and_then named_subdivision o)) None) (λ part. IfSome part IsReadPart)) [ true ↦ at_value o v | false ↦ tt ]
+  where
+    at_value : (o : Option (List ℕ)) → IfSome o (λ w. IsNormal Attribute w × (is_true w ≡ false)) → IfSome (option_map (λ s. Some (agreed region s)) (option_and_then named_subdivision o)) (λ part. IfSome part IsReadPart)
+    at_value None v = tt
+    at_value (Some w) v = at_result (subdivision w) refl
+      where
+        at_result : (r : Result Subdivision Fault) → subdivision w ≡ r → IfSome (option_map (λ s. Some (agreed region s)) (result_ok r)) (λ part. IfSome part IsReadPart)
+        at_result (Err f) e = tt
+        at_result (Ok s) e = agreed_part region s h (named_part w s e v.0 v.1)
+
+read_made : {T : ℕ → Bool} (t : List ℕ) (d : DataLocale) → DataMeans T t d → MadeOf T d
+read_made {T = T} t d h =
+    let v = read_is_small_value t h.small h.is_small in
+    from v (small_part h.small.id.region h.small.keyword) (parts_read h.small.id.region h.small.keyword v.region v.value) h.means
+  where
+    from : IsSmallValue T h.small → (o : Option (Option Subdivision)) → IfSome o (λ part. IfSome part IsReadPart) → option_map (λ part. made_of h.small.id.language h.small.id.script part h.small.id.variant) o ≡ Some d → MadeOf T d
+    from v None p e = absurd (cc)
+    from v (Some part) p e = record { language = h.small.id.language; script = h.small.id.script; part = part; variant = h.small.id.variant; language_is = v.language; script_is = v.script; part_is = p; variant_is = v.variant; is = cc }
+
+-- it prints as it was read
+
+data_is : {T : ℕ → Bool} (d : DataLocale) → MadeOf T d → IsDataLocale T d
+data_is {T = T} d m = subst (IsDataLocale T) (sym m.is) (record { language = m.language_is; script = m.script_is; region = region_is m.part m.part_is; variant = m.variant_is; subdivision = subdivision_is m.part m.part_is })
+  where
+    region_is : (p : Option Subdivision) → IfSome p IsReadPart → IfSome (option_map (λ p. p.region) p) (IsNormal Region)
+    region_is None h = tt
+    region_is (Some p) h = h.0.region
+
+    subdivision_is : (p : Option Subdivision) → IfSome p IsReadPart → IfSome (option_map subdivision_text p) (IsNormal Subtag)
+    subdivision_is None h = tt
+    subdivision_is (Some p) h = (subdivision_is_subtag p h.0, text_of_lower p h)
+      where
+        text_of_lower : (p : Subdivision) → IsReadPart p → lower (subdivision_text p) ≡ subdivision_text p
+        text_of_lower p h = sym (text_of_read _ p (subdivision_back p h.0))
+
+-- the part that is printed for a part is read as it
+part_back : (p : Option Subdivision) → IfSome p IsReadPart → small_part (option_map (λ p. p.region) p) (keyword_by (option_and_then (λ w. option_and_then (λ s. cond (is_whole s) None (Some w)) (named_subdivision w)) (option_map subdivision_text p))) ≡ Some p
+part_back None h = refl
+part_back (Some p) h = rw (subdivision_back p h.0) (elim (is_whole p) as (λ b. is_whole p ≡ b → small_part (Some p.region) (keyword_by (cond b None (Some (subdivision_text p)))) ≡ Some (Some p)) [
+  | true ↦ λ e. ap (λ x. Some (Some (record { region = p.region; suffix = x }))) (sym (same_is p.suffix whole e))
+  | false ↦ λ e. with_keyword (h.1 e)
+] refl)
+  where
+    text_stays : lower (subdivision_text p) ≡ subdivision_text p
+    text_stays = sym (text_of_read _ p (subdivision_back p h.0))
+
+    with_keyword : is_true (subdivision_text p) ≡ false → small_part (Some p.region) (keyword_by (Some (subdivision_text p))) ≡ Some (Some p)
+    with_keyword n = rw (text_stays, n, subdivision_back p h.0, same_itself p.region) refl
+
+pub read_back : {T : ℕ → Bool} (t : List ℕ) (d : DataLocale) → DataMeans T t d → DataMeans T (data_text d) d
+read_back {T = T} t d h =
+    let m = read_made t d h in
+    record {
+      small = small_of_data d;
+      is_small = subst (λ (u : List ℕ). IsSmall T u (small_of_data d)) (text_of_data d) (small_back (small_of_data d) (small_value_of_data d (data_is d m)));
+      means = ap (λ (e : DataLocale). data_of_small (small_of_data e)) m.is ∙ ap (option_map (λ part. made_of m.language m.script part m.variant)) (part_back m.part m.part_is) ∙ ap Some (sym m.is);
+    }
+
+pub data_or_fault : {T : ℕ → Bool} → IsTable T → (t : List ℕ) → ((d : DataLocale) × DataMeans T t d) ⊎ ((f : Fault) × HasDataFault T t f)
+data_or_fault {T = T} table t = by_result (DataMeans T t) (HasDataFault T t) (data_result T t) (data_answer table t)
+
+-- no other well-formed value has its text
+pub only_locale : {T : ℕ → Bool} → IsTable T → (d : DataLocale) → IsDataLocale T d → (M : Locale) → IsValue T M → IsWellFormed M → text M ≡ data_text d → M ≡ locale_of_data d
+only_locale {T = T} table d h M v w e = let l = locale_of_data_is_value d h in same_text_same_value T table M (locale_of_data d) v w l.0 l.1 (e ∙ sym (text_of_data d))

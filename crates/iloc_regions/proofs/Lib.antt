@@ -1,0 +1,4 @@
+pub mod SubdivisionLaws
+pub mod DataLaws
+pub mod DataOrderLaws
+pub mod WiderData

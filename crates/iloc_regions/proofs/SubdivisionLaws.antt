@@ -1,0 +1,157 @@
+-- A subdivision's text is read as it, and what is read has the text in lower case.
+use Rattle.std.proofs.Common.{◌≡◌, ℕ, ◌+◌, ◌≤◌, Bool, true, false, cond, ◌&&◌, ◌==◌, List, [], ◌∷◌, ◌++◌, length, take, drop, take-append-drop, length-append, refl, sym, ap, ap₂, ◌∙◌, subst, arith, Some, None, Result, Ok, Err, ok_or, inl, inr, true≢false, MatchResult, codes}
+use Rattle.std.specs.List.{list_all}
+use Rattle.std.specs.Char.{is_ascii_alphabetic, is_ascii_digit, is_ascii_alphanumeric}
+use Rattle.std.specs.Int.{is_in_range}
+use Rattle.std.proofs.lemmas.Bool.{and_parts, and_from, or_cases}
+use Rattle.std.proofs.lemmas.Bool.Decides.{nat_tests}
+use Rattle.std.proofs.lemmas.List.{map-append}
+use Rattle.iloc_grammar.specs.Words.{Region, Subtag, SubdivisionSuffix, is_word, IsWord, word, lower, upper, letters, digits}
+use Rattle.iloc_grammar.specs.Faults.{Fault, InvalidSubtag, InvalidExtension}
+use Rattle.iloc_grammar.proofs.WordsLaws.{is_word-lower, is_word-normal, normal-normal, lower-lower, lower-upper, upper-lower, length-region}
+use Rattle.iloc_regions.specs.Subdivisions.{Subdivision, IsSubdivision, region_length, both_words, subdivision, subdivision_text}
+
+-- lists
+
+take_front : (xs ys : List ℕ) → take (length xs) (xs ++ ys) ≡ xs
+take_front [] ys = refl
+take_front (x ∷ xs) ys = ap (λ l. x ∷ l) (take_front xs ys)
+
+drop_front : (xs ys : List ℕ) → drop (length xs) (xs ++ ys) ≡ ys
+drop_front [] ys = refl
+drop_front (x ∷ xs) ys = drop_front xs ys
+
+all_both : (f : ℕ → Bool) (xs ys : List ℕ) → list_all f xs ≡ true → list_all f ys ≡ true → list_all f (xs ++ ys) ≡ true
+all_both f [] ys h k = k
+all_both f (x ∷ xs) ys h k = let parts = and_parts _ _ h in and_from _ _ parts.0 (all_both f xs ys parts.1 k)
+
+length_both : (xs ys : List ℕ) → length (xs ++ ys) ≡ length xs + length ys
+length_both xs ys = length-append xs ys
+
+weaker : (f g : ℕ → Bool) → ((c : ℕ) → f c ≡ true → g c ≡ true) → (xs : List ℕ) → list_all f xs ≡ true → list_all g xs ≡ true
+weaker f g h [] a = refl
+weaker f g h (x ∷ xs) a = let parts = and_parts _ _ a in and_from _ _ (h x parts.0) (weaker f g h xs parts.1)
+
+letter_either : (c : ℕ) → is_ascii_alphabetic c ≡ true → is_ascii_alphanumeric c ≡ true
+letter_either c h = grind (arith, nat_tests)
+
+digit_either : (c : ℕ) → is_ascii_digit c ≡ true → is_ascii_alphanumeric c ≡ true
+digit_either c h = grind (arith, nat_tests)
+
+digit_no_letter : (c : ℕ) → is_ascii_digit c ≡ true → is_ascii_alphabetic c ≡ false
+digit_no_letter c h = grind (arith, nat_tests)
+
+-- regions
+
+region_both : (r : List ℕ) → IsWord Region r → list_all is_ascii_alphanumeric r ≡ true
+unfolding is_word
+region_both r h = elim (or_cases ((length r == 2) && letters r) ((length r == 3) && digits r) h) [
+  | inl a ↦ weaker _ _ letter_either r (and_parts _ _ a).1
+  | inr a ↦ weaker _ _ digit_either r (and_parts _ _ a).1
+]
+
+two : (n : ℕ) → (n == 2) ≡ true → 2 ≡ n
+two n h = grind (arith, nat_tests)
+
+three : (n : ℕ) → (n == 3) ≡ true → 3 ≡ n
+three n h = grind (arith, nat_tests)
+
+region_first : (r x : List ℕ) → IsWord Region r → region_length (r ++ x) ≡ length r
+unfolding is_word
+region_first [] x h = absurd (true≢false (sym h))
+region_first (c ∷ r) x h = elim (or_cases ((length (c ∷ r) == 2) && letters (c ∷ r)) ((length (c ∷ r) == 3) && digits (c ∷ r)) h) [
+  | inl a ↦ let parts = and_parts (length (c ∷ r) == 2) (letters (c ∷ r)) a in rw (and_parts (is_ascii_alphabetic c) (letters r) parts.1).0 (two (length (c ∷ r)) parts.0)
+  | inr a ↦ let parts = and_parts (length (c ∷ r) == 3) (digits (c ∷ r)) a in rw (digit_no_letter c (and_parts (is_ascii_digit c) (digits r) parts.1).0) (three (length (c ∷ r)) parts.0)
+]
+
+suffix_parts : (x : List ℕ) → IsWord SubdivisionSuffix x → ((1 ≤ length x) × (length x ≤ 4)) × (list_all is_ascii_alphanumeric x ≡ true)
+unfolding is_word
+suffix_parts x h = let parts = and_parts (is_in_range 1 4 (length x)) (list_all is_ascii_alphanumeric x) h in (between (length x) parts.0, parts.1)
+  where
+    between : (n : ℕ) → is_in_range 1 4 n ≡ true → (1 ≤ n) × (n ≤ 4)
+    between n h = grind (arith, nat_tests)
+
+-- a region and a suffix are a subtag
+joined_subtag : (r x : List ℕ) → IsWord Region r → IsWord SubdivisionSuffix x → IsWord Subtag (r ++ x)
+unfolding is_word
+joined_subtag r x h k =
+    let l = length-region r h in
+    let s = suffix_parts x k in
+    and_from _ _ (in_range (length (r ++ x)) (let e = length_both r x in omega arith) (let e = length_both r x in omega arith)) (all_both is_ascii_alphanumeric r x (region_both r h) s.1)
+  where
+    in_range : (n : ℕ) → 2 ≤ n → n ≤ 8 → is_in_range 2 8 n ≡ true
+    in_range n h k = grind (arith, nat_tests)
+
+read_joined : (r x : List ℕ) → IsWord Region r → IsWord SubdivisionSuffix x → subdivision (r ++ x) ≡ Ok (record { region = upper r; suffix = lower x })
+read_joined r x h k = rw (joined_subtag r x h k, region_first r x h, take_front r x, drop_front r x, h, k) refl
+
+pub subdivision_back : (s : Subdivision) → IsSubdivision s → subdivision (subdivision_text s) ≡ Ok s
+subdivision_back s h = read_joined (lower s.region) (lower s.suffix) (is_word-lower Region s.region ∙ h.region.0) (is_word-lower SubdivisionSuffix s.suffix ∙ h.suffix.0)
+    ∙ (λ i. Ok (record { region = (upper-lower s.region ∙ h.region.1) i; suffix = (lower-lower s.suffix ∙ h.suffix.1) i }))
+
+pub subdivision_is_subtag : (s : Subdivision) → IsSubdivision s → IsWord Subtag (subdivision_text s)
+subdivision_is_subtag s h = joined_subtag (lower s.region) (lower s.suffix) (is_word-lower Region s.region ∙ h.region.0) (is_word-lower SubdivisionSuffix s.suffix ∙ h.suffix.0)
+
+-- what is read
+
+record Read (w : List ℕ) (s : Subdivision) : Type 0 where
+  valid : IsSubdivision s
+  same_text : subdivision_text s ≡ lower w
+  long : 3 ≤ length w
+
+lower_joined : (a b : List ℕ) → lower a ++ lower b ≡ lower (a ++ b)
+unfolding lower
+lower_joined a b = sym (map-append _ a b)
+
+read_parts : (w a b : List ℕ) → a ++ b ≡ w → MatchResult (ok_or (both_words (word Region a) (word SubdivisionSuffix b)) InvalidExtension) (Read w) (λ f. Unit {0})
+read_parts w a b e = elim (is_word Region a) as (λ t. is_word Region a ≡ t → MatchResult (ok_or (both_words (cond t (Some (upper a)) None) (word SubdivisionSuffix b)) InvalidExtension) (Read w) (λ f. Unit {0})) [
+  | true ↦ λ r. (elim (is_word SubdivisionSuffix b) as (λ t. is_word SubdivisionSuffix b ≡ t → MatchResult (ok_or (both_words (Some (upper a)) (cond t (Some (lower b)) None)) InvalidExtension) (Read w) (λ f. Unit {0})) [
+    | true ↦ λ x. record {
+      valid = record { region = (is_word-normal Region a ∙ r, normal-normal Region a); suffix = (is_word-normal SubdivisionSuffix b ∙ x, normal-normal SubdivisionSuffix b) };
+      same_text = ap₂ ◌++◌ (lower-upper a) (lower-lower b) ∙ lower_joined a b ∙ ap lower e;
+      long = let l = length-region a r in let s = suffix_parts b x in let j = length_both a b in let m = ap length e in omega arith;
+    }
+    | false ↦ λ x. tt
+  ]) refl
+  | false ↦ λ r. tt
+] refl
+
+read_of : (w : List ℕ) → MatchResult (subdivision w) (Read w) (λ f. Unit {0})
+read_of w = elim (is_word Subtag w) as (λ t. MatchResult (cond t (ok_or (both_words (word Region (take (region_length w) w)) (word SubdivisionSuffix (drop (region_length w) w))) InvalidExtension) (Err InvalidSubtag)) (Read w) (λ f. Unit {0})) [
+  | true ↦ read_parts w _ _ (take-append-drop (region_length w) w)
+  | false ↦ tt
+]
+
+read_ok : (w : List ℕ) (s : Subdivision) → subdivision w ≡ Ok s → Read w s
+read_ok w s e = subst (λ (o : Result Subdivision Fault). MatchResult o (Read w) (λ f. Unit {0})) e (read_of w)
+
+pub read_is_subdivision : (w : List ℕ) (s : Subdivision) → subdivision w ≡ Ok s → IsSubdivision s
+read_is_subdivision w s e = (read_ok w s e).valid
+
+pub text_of_read : (w : List ℕ) (s : Subdivision) → subdivision w ≡ Ok s → subdivision_text s ≡ lower w
+text_of_read w s e = (read_ok w s e).same_text
+
+pub read_is_long : (w : List ℕ) (s : Subdivision) → subdivision w ≡ Ok s → 3 ≤ length w
+read_is_long w s e = (read_ok w s e).long
+
+-- worked texts
+
+row19 : subdivision (codes "gbzzzz") ≡ Ok (record { region = codes "GB"; suffix = codes "zzzz" })
+unfolding is_word upper lower
+row19 = refl
+
+row19b : subdivision (codes "419bel") ≡ Ok (record { region = codes "419"; suffix = codes "bel" })
+unfolding is_word upper lower
+row19b = refl
+
+row19c : subdivision (codes "gb") ≡ Err InvalidExtension
+unfolding is_word
+row19c = refl
+
+row19d : subdivision (codes "o") ≡ Err InvalidSubtag
+unfolding is_word
+row19d = refl
+
+row19e : subdivision (codes "ukabcde") ≡ Err InvalidExtension
+unfolding is_word
+row19e = refl

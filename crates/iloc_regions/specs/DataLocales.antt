@@ -1,0 +1,122 @@
+-- Data locales: language, script, region, variant and subdivision.
+use Rattle.std.specs.Prelude.{◌≡◌, ℕ, Bool, IfSome, List, [], ◌∷◌, ◌++◌, Option, Some, None, option_map, option_and_then, option_to_list, codes, if◌then◌else◌}
+use Rattle.std.specs.Option.{option_or}
+use Rattle.std.specs.Result.{result_ok}
+use Rattle.iloc_grammar.specs.Pieces.{join}
+use Rattle.iloc_grammar.specs.Words.{Language, Script, Region, Variant, Subtag, lower, is_same, is_true}
+use Rattle.iloc_grammar.specs.Written.{Identifier}
+use Rattle.iloc_grammar.specs.Meaning.{Locale}
+use Rattle.iloc_grammar.specs.Values.{IsNormal}
+use Rattle.iloc_grammar.specs.Faults.{Fault, InvalidExtension}
+use Rattle.iloc_small.specs.Small.{SmallLocale, locale_of_small, IsSmall, HasSmallFault}
+use Rattle.iloc_grammar.specs.Reading.{first_item}
+use Rattle.iloc_regions.specs.Subdivisions.{Subdivision, subdivision, subdivision_text}
+
+pub record DataLocale : Type 0 where
+  pub language : List ℕ
+  pub script : Option (List ℕ)
+  pub region : Option (List ℕ)
+  pub variant : Option (List ℕ)
+  pub subdivision : Option (List ℕ)
+
+-- what the type keeps
+pub record IsDataLocale (T : ℕ → Bool) (d : DataLocale) : Type 0 where
+  pub language : IsNormal (Language T) d.language
+  pub script : IfSome d.script (IsNormal Script)
+  pub region : IfSome d.region (IsNormal Region)
+  pub variant : IfSome d.variant (IsNormal Variant)
+  pub subdivision : IfSome d.subdivision (IsNormal Subtag)
+
+-- what a data locale stands for
+pub record DataKey : Type 0 where
+  pub language : List ℕ
+  pub script : Option (List ℕ)
+  pub region : Option Subdivision
+  pub variant : Option (List ℕ)
+
+-- the suffix of a whole region
+abbrev pub whole : List ℕ
+whole = codes "zzzz"
+
+abbrev pub whole_region : List ℕ → Subdivision
+whole_region r = record { region = r; suffix = whole }
+
+abbrev pub is_whole : Subdivision → Bool
+is_whole s = is_same s.suffix whole
+
+abbrev pub named_subdivision : List ℕ → Option Subdivision
+named_subdivision w = result_ok (subdivision w)
+
+-- the subdivision where it is readable, else the region
+abbrev pub region_part : DataLocale → Option Subdivision
+region_part d = option_or (option_and_then named_subdivision d.subdivision) (option_map whole_region d.region)
+
+abbrev pub data_key : DataLocale → DataKey
+data_key d = record { language = d.language; script = d.script; region = region_part d; variant = d.variant }
+
+-- the data locale with the given region part
+abbrev pub made_of : List ℕ → Option (List ℕ) → Option Subdivision → Option (List ℕ) → DataLocale
+made_of l s part v = record { language = l; script = s; region = option_map (λ p. p.region) part; variant = v; subdivision = option_map subdivision_text part }
+
+-- the given region where it differs from the subdivision's, else the subdivision
+abbrev pub agreed : Option (List ℕ) → Subdivision → Subdivision
+agreed None s = s
+agreed (Some r) s = if is_same r s.region then s else whole_region r
+
+abbrev pub sd : List ℕ
+sd = codes "sd"
+
+-- the region part that a region and a keyword name; only `sd` with a readable subdivision is taken
+abbrev pub small_part : Option (List ℕ) → Option (List ℕ × Option (List ℕ)) → Option (Option Subdivision)
+small_part region None = Some (option_map whole_region region)
+small_part region (Some k) = if is_same k.0 sd then option_map (λ s. Some (agreed region s)) (option_and_then named_subdivision k.1) else None
+
+-- the data locale of a small locale
+abbrev pub data_of_small : SmallLocale → Option DataLocale
+data_of_small r = option_map (λ part. made_of r.id.language r.id.script part r.id.variant) (small_part r.id.region r.keyword)
+
+-- the text means the data locale
+pub record DataMeans (T : ℕ → Bool) (t : List ℕ) (d : DataLocale) : Type 0 where
+  pub small : SmallLocale
+  pub is_small : IsSmall T t small
+  pub means : data_of_small small ≡ Some d
+
+-- the text is no data locale, for this reason
+pub data HasDataFault (T : ℕ → Bool) (t : List ℕ) : Fault → Type 0 where
+  not_small : {f : Fault} → HasSmallFault T t f → HasDataFault T t f
+  no_subdivision : {r : SmallLocale} → IsSmall T t r → data_of_small r ≡ None → HasDataFault T t InvalidExtension
+
+-- Printing: the subdivision is spelled after `u-sd` unless it is the whole region; `true` is left out.
+
+abbrev pub subdivision_value : List ℕ → List (List ℕ)
+subdivision_value w = if is_true (lower w) then [] else lower w ∷ []
+
+-- the keyword `sd` with its value, where there is a part of a region
+abbrev pub subdivision_keyword : DataLocale → Option (List ℕ)
+subdivision_keyword d = option_and_then (λ w. option_and_then (λ s. if is_whole s then None else Some w) (named_subdivision w)) d.subdivision
+
+abbrev pub subdivision_pieces : Option (List ℕ) → List (List ℕ)
+subdivision_pieces None = []
+subdivision_pieces (Some w) = codes "u" ∷ sd ∷ subdivision_value w
+
+abbrev pub data_text : DataLocale → List ℕ
+data_text d = join (d.language ∷ (option_to_list d.script ++ (option_to_list d.region ++ (option_to_list d.variant ++ subdivision_pieces (subdivision_keyword d)))))
+
+-- the small locale of the same parts
+abbrev pub small_of_data : DataLocale → SmallLocale
+small_of_data d = record {
+  id = record { language = d.language; script = d.script; region = d.region; variant = d.variant };
+  keyword = option_map (λ w. (sd, first_item (subdivision_value w))) (subdivision_keyword d);
+}
+
+-- the locale that prints the same parts
+abbrev pub locale_of_data : DataLocale → Locale
+locale_of_data d = locale_of_small (small_of_data d)
+
+-- the data locales of an identifier, and of a language, a script and a region
+
+abbrev pub data_of_identifier : Identifier → DataLocale
+data_of_identifier i = record { language = i.language; script = i.script; region = i.region; variant = first_item i.variants; subdivision = None }
+
+abbrev pub data_of_parts : List ℕ → Option (List ℕ) → Option (List ℕ) → DataLocale
+data_of_parts l s r = made_of l s (option_map whole_region r) None

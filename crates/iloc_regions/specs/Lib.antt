@@ -1,0 +1,3 @@
+pub mod Subdivisions
+pub mod DataLocales
+pub mod DataOrders

@@ -1,0 +1,52 @@
+//! Subdivisions of regions, and data locales.
+//!
+//! A text names one data locale or has one fault; a data locale that was read prints a text that reads back as
+//! it; data locales tie where they stand for the same. It stands on `iloc_grammar`, `iloc_small` and `iloc_orders`.
+#![tactic(auto)]
+
+ghost use Rattle.std.specs.Prelude.{◌≡◌, ◌↔◌, ◌⊎◌, ℕ, Bool, true, List, Ok};
+ghost use Rattle.std.specs.Cmp.{IsTotalOrder};
+ghost use Rattle.std.specs.declared.cmp.Ordering.TheVariants.{Equal};
+ghost use Rattle.iloc_grammar.specs.Words.{IsTable, lower};
+ghost use Rattle.iloc_grammar.specs.Meaning.{Locale};
+ghost use Rattle.iloc_grammar.specs.Values.{IsValue, IsWellFormed, text};
+ghost use Rattle.iloc_grammar.specs.Faults.{Fault};
+ghost use Rattle.iloc_regions.specs.Subdivisions.{Subdivision, IsSubdivision, subdivision, subdivision_text};
+ghost use Rattle.iloc_regions.specs.DataLocales.{DataLocale, DataMeans, HasDataFault, IsDataLocale, data_key, data_text, locale_of_data};
+ghost use Rattle.iloc_orders.specs.Orders.{IsExactOrder};
+ghost use Rattle.iloc_regions.specs.DataOrders.{subdivision_cmp, data_locale_cmp};
+
+/// A subdivision's text is read as it, and what is read has the text in lower case.
+pub fn subdivisions()
+    ensures back { (s : Subdivision) → IsSubdivision s → subdivision (subdivision_text s) ≡ Ok s }
+    ensures valid { (w : List ℕ) (s : Subdivision) → subdivision w ≡ Ok s → IsSubdivision s }
+    ensures same { (w : List ℕ) (s : Subdivision) → subdivision w ≡ Ok s → subdivision_text s ≡ lower w }
+{}
+
+/// Each text means one data locale or has one fault.
+pub fn data_locale_or_one_fault()
+    ensures one { (T : ℕ → Bool) → IsTable T → (t : List ℕ) (d e : DataLocale) → DataMeans T t d → DataMeans T t e → d ≡ e }
+    ensures either { (T : ℕ → Bool) → IsTable T → (t : List ℕ) → ((d : DataLocale) × DataMeans T t d) ⊎ ((f : Fault) × HasDataFault T t f) }
+    ensures apart { (T : ℕ → Bool) → IsTable T → (t : List ℕ) (d : DataLocale) (f : Fault) → DataMeans T t d → HasDataFault T t f → ⊥ }
+    ensures one_fault { (T : ℕ → Bool) (t : List ℕ) (f g : Fault) → HasDataFault T t f → HasDataFault T t g → f ≡ g }
+{}
+
+/// A data locale that was read prints a text that means it; its locale prints the same text, and no other does.
+pub fn data_locales()
+    ensures back { (T : ℕ → Bool) (t : List ℕ) (d : DataLocale) → DataMeans T t d → DataMeans T (data_text d) d }
+    ensures text { (d : DataLocale) → text (locale_of_data d) ≡ data_text d }
+    ensures value { (T : ℕ → Bool) (d : DataLocale) → IsDataLocale T d → IsValue T (locale_of_data d) × IsWellFormed (locale_of_data d) }
+    ensures only { (T : ℕ → Bool) → IsTable T → (d : DataLocale) → IsDataLocale T d → (M : Locale) → IsValue T M → IsWellFormed M → text M ≡ data_text d → M ≡ locale_of_data d }
+{}
+
+/// A total order of subdivisions, by which only equal ones tie; data locales tie where they stand for the same.
+pub fn data_orders()
+    ensures subdivisions { IsExactOrder subdivision_cmp }
+    ensures data_locales { IsTotalOrder data_locale_cmp }
+    ensures ties { (d e : DataLocale) → (data_locale_cmp d e ≡ Equal) ↔ (data_key d ≡ data_key e) }
+{}
+
+/// Over a wider table of languages a text means the data locale that it meant.
+pub fn wider_data_locales()
+    ensures { (T U : ℕ → Bool) → ((n : ℕ) → T n ≡ true → U n ≡ true) → (t : List ℕ) (d : DataLocale) → DataMeans T t d → DataMeans U t d }
+{}

@@ -1,0 +1,4 @@
+pub mod SmallLaws
+pub mod SmallBack
+pub mod InlineLaws
+pub mod WiderSmall

@@ -1,0 +1,138 @@
+-- A small value prints as a well-formed locale does, and its text is read as it.
+use Rattle.std.proofs.Common.{◌≡◌, ◌≤◌, ℕ, Bool, true, false, not, cond, List, [], ◌∷◌, length, map, filter, refl, sym, ap, ◌∙◌, subst, arith, Option, Some, None, IfSome, option_map, option_to_list}
+use Rattle.std.specs.List.{AllByRecursion}
+use Rattle.iloc_grammar.specs.Pieces.{pieces, join}
+use Rattle.iloc_grammar.specs.Words.{Kind, Language, Script, Region, Variant, UnicodeKey, Attribute, IsWord, lower, normal, is_true}
+use Rattle.iloc_grammar.specs.Written.{IsWritten, HasWords, spelling}
+use Rattle.iloc_grammar.specs.Meaning.{normal_values}
+use Rattle.iloc_grammar.specs.Values.{IsNormal, IsAscending, IsValue, IsWellFormed, IsIdentifierValue, printed, text}
+use Rattle.iloc_grammar.proofs.ReadBack.{pieces_spelled, OfWords}
+use Rattle.iloc_grammar.proofs.WordsLaws.{is_word-normal, normal-normal}
+use Rattle.iloc_grammar.proofs.ValuesLaws.{value_identifier}
+use Rattle.iloc_grammar.proofs.WellRead.{means_value, means_well_formed}
+use Rattle.iloc_small.specs.Small.{SmallLocale, identifier_of_small, keyword_of_small, locale_of_small, small_written, keyword_extension, IsSmall, IsSmallValue}
+use Rattle.iloc_grammar.specs.Reading.{first_item}
+use Rattle.iloc_small.proofs.SmallLaws.{first-option, small_means}
+
+-- a small value is a value
+
+identifier_is : {T : ℕ → Bool} (r : SmallLocale) → IsSmallValue T r → IsIdentifierValue T (identifier_of_small r.id)
+identifier_is {T = T} r h = record { language = h.language; script = h.script; region = h.region; variants = listed r.id.variant h.variant; ascending = sorted r.id.variant }
+  where
+    listed : (o : Option (List ℕ)) → IfSome o (IsNormal Variant) → AllByRecursion (IsNormal Variant) (option_to_list o)
+    listed None h = tt
+    listed (Some w) h = (h, tt)
+
+    sorted : (o : Option (List ℕ)) → IsAscending (option_to_list o)
+    sorted None = refl
+    sorted (Some w) = refl
+
+-- its text is read as it
+
+abbrev with_u : Option (List ℕ × Option (List ℕ)) → Option (ℕ × (List ℕ × List (List ℕ)))
+with_u k = option_map (λ k. (117, keyword_of_small k)) k
+
+few : (o : Option (List ℕ)) → length (option_to_list o) ≤ 1
+few None = omega arith
+few (Some w) = omega arith
+
+-- values in normal case, without `true`, stay
+values_stay : (o : Option (List ℕ)) → IfSome o (λ w. IsNormal Attribute w × (is_true w ≡ false)) → normal_values (option_to_list o) ≡ option_to_list o
+values_stay None h = refl
+values_stay (Some w) h = ap (λ v. filter (λ w. not (is_true w)) (v ∷ [])) h.0.1 ∙ ap (λ b. cond (not b) (w ∷ []) []) h.1
+
+words_of : (o : Option (List ℕ)) → IfSome o (λ w. IsNormal Attribute w × (is_true w ≡ false)) → AllByRecursion (IsWord Attribute) (option_to_list o)
+words_of None h = tt
+words_of (Some w) h = (h.0.0, tt)
+
+keyword_written : {T : ℕ → Bool} (r : SmallLocale) → IsSmallValue T r → IsWritten T (small_written (identifier_of_small r.id) (with_u r.keyword))
+keyword_written {T = T} r h = from r.keyword h.key h.value
+  where
+    from : (k : Option (List ℕ × Option (List ℕ))) → IfSome k (λ k. IsNormal UnicodeKey k.0) → IfSome k (λ k. IfSome k.1 (λ w. IsNormal Attribute w × (is_true w ≡ false))) → IsWritten T (small_written (identifier_of_small r.id) (with_u k))
+    from None a b = record { id = value_identifier _ (identifier_is r h); extensions = tt; different = tt; private = tt }
+    from (Some k) a b = record { id = value_identifier _ (identifier_is r h); extensions = ((refl, record { attributes = tt; keywords = ((a.0, words_of k.1 b), tt); nonempty = omega arith }), tt); different = (refl, tt); private = tt }
+
+printed_small : (r : SmallLocale) → printed (locale_of_small r) ≡ small_written (identifier_of_small r.id) (with_u r.keyword)
+printed_small r = from r.keyword
+  where
+    from : (k : Option (List ℕ × Option (List ℕ))) → printed (locale_of_small (record { id = r.id; keyword = k })) ≡ small_written (identifier_of_small r.id) (with_u k)
+    from None = refl
+    from (Some k) = refl
+
+option_stays : (k : Kind) (o : Option (List ℕ)) → IfSome o (IsNormal k) → option_map (normal k) o ≡ o
+option_stays k None h = refl
+option_stays k (Some w) h = ap Some h.1
+
+variant_stays : (o : Option (List ℕ)) → IfSome o (IsNormal Variant) → first_item (map lower (option_to_list o)) ≡ o
+variant_stays None h = refl
+variant_stays (Some w) h = ap Some h.1
+
+keyword_stays : (k : Option (List ℕ × Option (List ℕ))) → IfSome k (λ k. IsNormal UnicodeKey k.0) → IfSome k (λ k. IfSome k.1 (λ w. IsNormal Attribute w × (is_true w ≡ false))) → option_map (λ (k : ℕ × (List ℕ × List (List ℕ))). (lower k.1.0, first_item (normal_values k.1.1))) (with_u k) ≡ k
+keyword_stays None a b = refl
+keyword_stays (Some k) a b = λ i. Some (a.1 i, (ap first_item (values_stay k.1 b) ∙ first-option k.1) i)
+
+pub small_back : {T : ℕ → Bool} (r : SmallLocale) → IsSmallValue T r → IsSmall T (text (locale_of_small r)) r
+small_back {T = T} r h = record {
+  id = identifier_of_small r.id;
+  keyword = with_u r.keyword;
+  grammatical = keyword_written r h;
+  spelled = ap (λ w. pieces (join (spelling w))) (printed_small r) ∙ pieces_spelled _ (keyword_written r h) (of_words r.keyword);
+  one_variant = few r.id.variant;
+  one_value = one_left r.keyword h.value;
+  means = λ i. record { id = record { language = sym h.language.1 i; script = sym (option_stays Script r.id.script h.script) i; region = sym (option_stays Region r.id.region h.region) i; variant = sym (variant_stays r.id.variant h.variant) i }; keyword = sym (keyword_stays r.keyword h.key h.value) i };
+}
+  where
+    of_words : (k : Option (List ℕ × Option (List ℕ))) → AllByRecursion (λ e. OfWords e.1) (keyword_extension (with_u k))
+    of_words None = tt
+    of_words (Some k) = (tt, tt)
+
+    one_left : (k : Option (List ℕ × Option (List ℕ))) → IfSome k (λ k. IfSome k.1 (λ w. IsNormal Attribute w × (is_true w ≡ false))) → IfSome (with_u k) (λ k. length (normal_values k.1.1) ≤ 1)
+    one_left None b = tt
+    one_left (Some k) b = subst (λ (n : ℕ). n ≤ 1) (sym (ap length (values_stay k.1 b))) (few k.1)
+
+pub small_is_value : {T : ℕ → Bool} (r : SmallLocale) → IsSmallValue T r → IsValue T (locale_of_small r) × IsWellFormed (locale_of_small r)
+small_is_value r h = let m = small_means _ r (small_back r h) in (means_value _ _ m, means_well_formed _ _ m)
+
+-- what is read is a small value
+
+normal_is : (k : Kind) (p : List ℕ) → IsWord k p → IsNormal k (normal k p)
+normal_is k p h = (is_word-normal k p ∙ h, normal-normal k p)
+
+option_is : (k : Kind) (o : Option (List ℕ)) → IfSome o (IsWord k) → IfSome (option_map (normal k) o) (IsNormal k)
+option_is k None h = tt
+option_is k (Some w) h = normal_is k w h
+
+first_is : (ws : List (List ℕ)) → AllByRecursion (IsWord Variant) ws → IfSome (first_item (map lower ws)) (IsNormal Variant)
+first_is [] h = tt
+first_is (w ∷ ws) h = normal_is Variant w h.0
+
+value_is : (ws : List (List ℕ)) → AllByRecursion (IsWord Attribute) ws → IfSome (first_item (normal_values ws)) (λ w. IsNormal Attribute w × (is_true w ≡ false))
+value_is [] h = tt
+value_is (w ∷ ws) h = elim (is_true (lower w)) as (λ b. is_true (lower w) ≡ b → IfSome (first_item (cond (not b) (lower w ∷ normal_values ws) (normal_values ws))) (λ w. IsNormal Attribute w × (is_true w ≡ false))) [
+  | true ↦ λ e. value_is ws h.1
+  | false ↦ λ e. (normal_is Attribute w h.0, e)
+] refl
+
+abbrev parts_of : Option (ℕ × (List ℕ × List (List ℕ))) → Option (List ℕ × Option (List ℕ))
+parts_of k = option_map (λ k. (lower k.1.0, first_item (normal_values k.1.1))) k
+
+pub read_is_small_value : {T : ℕ → Bool} (t : List ℕ) (r : SmallLocale) → IsSmall T t r → IsSmallValue T r
+read_is_small_value {T = T} t r h = subst (IsSmallValue T) (sym h.means) (record {
+  language = normal_is (Language T) h.id.language words.language;
+  script = option_is Script h.id.script words.script;
+  region = option_is Region h.id.region words.region;
+  variant = first_is h.id.variants words.variants;
+  key = key_is h.keyword h.grammatical;
+  value = one_value_is h.keyword h.grammatical;
+})
+  where
+    words : HasWords T h.id
+    words = h.grammatical.id.words
+
+    key_is : (k : Option (ℕ × (List ℕ × List (List ℕ)))) → IsWritten T (small_written h.id k) → IfSome (parts_of k) (λ k. IsNormal UnicodeKey k.0)
+    key_is None g = tt
+    key_is (Some k) g = normal_is UnicodeKey k.1.0 g.extensions.0.1.keywords.0.0
+
+    one_value_is : (k : Option (ℕ × (List ℕ × List (List ℕ)))) → IsWritten T (small_written h.id k) → IfSome (parts_of k) (λ k. IfSome k.1 (λ w. IsNormal Attribute w × (is_true w ≡ false)))
+    one_value_is None g = tt
+    one_value_is (Some k) g = value_is k.1.1 g.extensions.0.1.keywords.0.1

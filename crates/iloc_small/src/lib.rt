@@ -1,0 +1,47 @@
+//! Small texts, which are read without memory, and inline texts, of few words in each list.
+//!
+//! A text is small or has exactly one small fault; a small text is a locale of the same parts, and inline.
+//! It stands on `iloc_grammar`.
+#![tactic(auto)]
+
+ghost use Rattle.std.specs.Prelude.{◌≡◌, ◌⊎◌, ℕ, Bool, true, List};
+ghost use Rattle.iloc_grammar.specs.Pieces.{pieces};
+ghost use Rattle.iloc_grammar.specs.Words.{IsTable};
+ghost use Rattle.iloc_grammar.specs.Meaning.{Means, IdentifierMeans};
+ghost use Rattle.iloc_grammar.specs.Values.{text};
+ghost use Rattle.iloc_grammar.specs.Faults.{Fault};
+ghost use Rattle.iloc_small.specs.Small.{SmallIdentifier, SmallLocale, IsSmallIdentifier, IsSmall, HasSmallIdentifierFault, HasSmallFault, IsSmallValue, identifier_of_small, locale_of_small};
+ghost use Rattle.iloc_small.specs.Inline.{IsInline};
+
+/// A small text is read in one way, and is a locale of the same parts and nothing else.
+pub fn small_texts()
+    ensures one { (T : ℕ → Bool) → IsTable T → (t : List ℕ) (r s : SmallLocale) → IsSmall T t r → IsSmall T t s → r ≡ s }
+    ensures locale { (T : ℕ → Bool) (t : List ℕ) (r : SmallLocale) → IsSmall T t r → Means T t (locale_of_small r) }
+    ensures back { (T : ℕ → Bool) (r : SmallLocale) → IsSmallValue T r → IsSmall T (text (locale_of_small r)) r }
+{}
+
+/// Each text is small or has a fault, never both, and one fault at most.
+pub fn small_or_one_fault()
+    ensures either { (T : ℕ → Bool) → IsTable T → (t : List ℕ) → ((r : SmallLocale) × IsSmall T t r) ⊎ ((f : Fault) × HasSmallFault T t f) }
+    ensures apart { (T : ℕ → Bool) (t : List ℕ) (r : SmallLocale) (f : Fault) → IsSmall T t r → HasSmallFault T t f → ⊥ }
+    ensures one { (T : ℕ → Bool) (t : List ℕ) (f g : Fault) → HasSmallFault T t f → HasSmallFault T t g → f ≡ g }
+{}
+
+/// The same for identifiers with at most one variant.
+pub fn small_identifiers()
+    ensures one { (T : ℕ → Bool) (ps : List (List ℕ)) (r s : SmallIdentifier) → IsSmallIdentifier T ps r → IsSmallIdentifier T ps s → r ≡ s }
+    ensures means { (T : ℕ → Bool) (ps : List (List ℕ)) (r : SmallIdentifier) → IsSmallIdentifier T ps r → IdentifierMeans T ps (identifier_of_small r) }
+    ensures either { (T : ℕ → Bool) (t : List ℕ) → ((r : SmallIdentifier) × IsSmallIdentifier T (pieces t) r) ⊎ ((f : Fault) × HasSmallIdentifierFault T (pieces t) f) }
+    ensures apart { (T : ℕ → Bool) (ps : List (List ℕ)) (r : SmallIdentifier) (f : Fault) → IsSmallIdentifier T ps r → HasSmallIdentifierFault T ps f → ⊥ }
+    ensures one_fault { (T : ℕ → Bool) (ps : List (List ℕ)) (f g : Fault) → HasSmallIdentifierFault T ps f → HasSmallIdentifierFault T ps g → f ≡ g }
+{}
+
+/// A small text is one of few words.
+pub fn small_is_inline()
+    ensures { (T : ℕ → Bool) (t : List ℕ) (r : SmallLocale) → IsSmall T t r → IsInline T t }
+{}
+
+/// Over a wider table of languages a small text stays what it is.
+pub fn wider_small()
+    ensures { (T U : ℕ → Bool) → ((n : ℕ) → T n ≡ true → U n ≡ true) → (t : List ℕ) (r : SmallLocale) → IsSmall T t r → IsSmall U t r }
+{}
