@@ -90,7 +90,7 @@ rest-low : (ps : List (List ℕ)) → rest_of (low ps) ≡ low (rest_of ps)
 rest-low [] = refl
 rest-low (p ∷ ps) = refl
 
-identifier_of-low : (ps : List (List ℕ)) → identifier_of (low ps) ≡ lower_identifier (identifier_of ps)
+pub identifier_of-low : (ps : List (List ℕ)) → identifier_of (low ps) ≡ lower_identifier (identifier_of ps)
 unfolding identifier_of
 identifier_of-low ps =
     let skipped : skip_first (is_word Script) (rest_of (low ps)) ≡ low (skip_first (is_word Script) (rest_of ps)) = ap (skip_first (is_word Script)) (rest-low ps) ∙ skip-low (is_word Script) (is_word-lower Script) (rest_of ps) in
@@ -214,13 +214,13 @@ option_from_low : (k : Kind) (o : Option (List ℕ)) → IfSome (option_map lowe
 option_from_low k None h = tt
 option_from_low k (Some p) h = from_low k p h
 
-identifier_to : (T : ℕ → Bool) (i : Identifier) → IsIdentifier T i → IsIdentifier T (lower_identifier i)
+pub identifier_to : (T : ℕ → Bool) (i : Identifier) → IsIdentifier T i → IsIdentifier T (lower_identifier i)
 identifier_to T i h = record {
   words = record { language = to_low (Language T) i.language h.words.language; script = option_to_low Script i.script h.words.script; region = option_to_low Region i.region h.words.region; variants = all_to_low Variant i.variants h.words.variants };
   different = subst (AllDifferent word_cmp) (sym (lower_twice i.variants)) h.different;
 }
 
-identifier_from : (T : ℕ → Bool) (i : Identifier) → IsIdentifier T (lower_identifier i) → IsIdentifier T i
+pub identifier_from : (T : ℕ → Bool) (i : Identifier) → IsIdentifier T (lower_identifier i) → IsIdentifier T i
 identifier_from T i h = record {
   words = record { language = from_low (Language T) i.language h.words.language; script = option_from_low Script i.script h.words.script; region = option_from_low Region i.region h.words.region; variants = all_from_low Variant i.variants h.words.variants };
   different = subst (AllDifferent word_cmp) (lower_twice i.variants) h.different;

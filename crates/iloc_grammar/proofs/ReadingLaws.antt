@@ -1,15 +1,15 @@
 -- The reading from the left takes what is spelled, and nothing else.
-use Rattle.std.proofs.Common.{◌≡◌, ◌≢◌, ℕ, ◌+◌, ◌<◌, ◌≤◌, Bool, true, false, cond, List, [], ◌∷◌, ◌++◌, length, map, refl, sym, ap, ◌∙◌, subst, arith, Option, Some, None, IfSome, option_to_list, append_assoc, append-nil, length-append, true≢false}
+use Rattle.std.proofs.Common.{◌≡◌, ◌≢◌, ℕ, ◌≤◌, Bool, true, false, cond, List, [], ◌∷◌, ◌++◌, length, map, refl, sym, ap, ◌∙◌, subst, arith, Option, Some, None, IfSome, option_to_list, append_assoc, append-nil, length-append, true≢false}
 use Rattle.std.specs.Prelude.{filter}
 use Rattle.std.specs.List.{AllByRecursion}
 use Rattle.std.proofs.lemmas.List.{append_cancel_left, append_cancel_right}
 use Rattle.std.proofs.lemmas.Bool.{false_from_ne_true}
 use Rattle.std.proofs.lemmas.Bool.Decides.{nat_tests}
 use Rattle.iloc_grammar.specs.Words.{Language, Script, Region, Variant, is_word, IsWord, lower, word_cmp}
-use Rattle.iloc_grammar.specs.Written.{Identifier, identifier_pieces, HasWords, IsIdentifier, AllDifferent}
+use Rattle.iloc_grammar.specs.Written.{Identifier, identifier_pieces, HasWords, AllDifferent}
 use Rattle.iloc_grammar.specs.Meaning.{IdentifierMeans, normal_identifier}
-use Rattle.iloc_grammar.specs.Faults.{SpellsIdentifier, is_one_byte, front, head, first_piece}
-use Rattle.iloc_grammar.specs.Reading.{take_first, skip_first, passing, past, rest_of, after_script, after_region, front_of, after_front, from_block, after_head, starts_block, EndsBefore, IdentifierFront}
+use Rattle.iloc_grammar.specs.Faults.{SpellsIdentifier, is_one_byte, front, first_piece}
+use Rattle.iloc_grammar.specs.Reading.{take_first, skip_first, passing, past, rest_of, after_script, after_region, front_of, after_front, from_block, starts_block, EndsBefore, IdentifierFront}
 use Rattle.iloc_grammar.proofs.IdentifierLaws.{all_pieces}
 use Rattle.iloc_grammar.proofs.WordsLaws.{region_no_script, variant_no_script, variant_no_region, length-script, length-region, length-variant}
 

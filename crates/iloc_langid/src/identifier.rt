@@ -48,7 +48,7 @@ impl LanguageIdentifier {
 
 impl Writeable for LanguageIdentifier {
     ghost use Rattle.iloc_langid.specs.Reads.{value_of};
-    ghost use Rattle.iloc_langid.specs.Text.{identifier_text};
+    ghost use Rattle.iloc_grammar.specs.Values.{identifier_text};
 
     ghost text = { λ i. identifier_text (value_of i) };
 
@@ -74,8 +74,8 @@ impl Writeable for LanguageIdentifier {
 }
 
 impl fmt::Display for LanguageIdentifier {
+    ghost use Rattle.iloc_grammar.specs.Values.{identifier_text};
     ghost use Rattle.iloc_langid.specs.Reads.{value_of};
-    ghost use Rattle.iloc_langid.specs.Text.{identifier_text};
     ghost use Rattle.std.specs.Prelude.{Some};
 
     ghost output = { λ i. Some (identifier_text (value_of i)) };

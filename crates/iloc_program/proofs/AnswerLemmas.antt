@@ -15,7 +15,7 @@ use Rattle.iloc_subtags.specs.declared.parse_error.ParseError.{ParseError}
 use Rattle.iloc_subtags.specs.declared.parse_error.ParseError.TheVariants.{InvalidLanguage, InvalidSubtag, InvalidExtension, DuplicatedExtension, OutOfMemory}
 use Rattle.iloc_langid.specs.declared.identifier.LanguageIdentifier.{LanguageIdentifier}
 use Rattle.iloc_langid.specs.Reads.{ReadsAs, value_of}
-use Rattle.iloc_langid.specs.Text.{identifier_text}
+use Rattle.iloc_grammar.specs.Values.{identifier_text}
 use Rattle.iloc_program.specs.Answer.{refusal_text, all_different, is_empty, spells, langid_answer, IsLangidAnswer}
 
 and_both : (a b : Bool) → a ≡ true → b ≡ true → (a && b) ≡ true

@@ -10,7 +10,7 @@ use Rattle.iloc_grammar.specs.Reading.{front_of, after_front}
 use Rattle.iloc_subtags.specs.declared.parse_error.ParseError.{ParseError}
 use Rattle.iloc_subtags.specs.declared.parse_error.ParseError.TheVariants.{InvalidLanguage, InvalidSubtag}
 use Rattle.iloc_subtags.specs.ParseError.{words_of}
-use Rattle.iloc_langid.specs.Text.{identifier_text}
+use Rattle.iloc_grammar.specs.Values.{identifier_text}
 
 abbrev pub refusal_text : ParseError → List ℕ
 refusal_text e = codes "! " ++ words_of e
