@@ -1,7 +1,7 @@
 -- Variants that are taken one at a time.
-use Rattle.std.proofs.Common.{◌≡◌, ◌≢◌, ℕ, ◌+◌, ◌<◌, Bool, true, false, cond, List, [], ◌∷◌, ◌++◌, length, map, refl, sym, ap, ◌∙◌, subst, arith, append_assoc, append-nil, length-append, Option, Some, None, option_map, true≢false}
+use Rattle.std.proofs.Common.{◌≡◌, ◌≢◌, ℕ, ◌+◌, ◌<◌, ◌≤◌, Bool, true, false, cond, List, [], ◌∷◌, ◌++◌, length, map, refl, sym, ap, ◌∙◌, subst, arith, append_assoc, append-nil, length-append, Option, Some, None, option_map, true≢false}
 use Rattle.std.specs.List.{list_any, AllByRecursion}
-use Rattle.std.proofs.lemmas.List.{map-append}
+use Rattle.std.proofs.lemmas.List.{map-append, length-map}
 use Rattle.std.proofs.lemmas.Bool.{or_parts, or_from}
 use Rattle.iloc_grammar.specs.Words.{Kind, Variant, is_word, IsWord, normal, lower, word_cmp, is_same}
 use Rattle.iloc_grammar.specs.Written.{AllDifferent}
@@ -11,7 +11,7 @@ use Rattle.iloc_grammar.specs.Reading.{take_first, skip_first, passing, past}
 use Rattle.iloc_grammar.proofs.MapLaws.{word_cmp_total}
 use Rattle.iloc_grammar.proofs.Orders.{set_of_reordered, different_reordered}
 use Rattle.iloc_grammar.proofs.Sorting.{itself}
-use Rattle.iloc_langid.proofs.SetLemmas.{any-set_of, set_of-set_of}
+use Rattle.iloc_langid.proofs.SetLemmas.{any-set_of, set_of-set_of, length-set_of}
 
 -- a word at the front
 pub took : (k : Kind) (ps : List (List ℕ)) (w : List ℕ) → Some w ≡ option_map (normal k) (take_first (is_word k) ps) → (p : List ℕ) × IsWord k p × (w ≡ normal k p) × (ps ≡ p ∷ skip_first (is_word k) ps)
@@ -98,3 +98,12 @@ module _ (before now set : List (List ℕ)) (t : Taking before now set) (w : Lis
   takes_old old =
       let (p, h, same, cut) = took Variant now w e in
       repeats before now set t p h later (cut ∙ ap (λ ps. p ∷ ps) (sym l)) (subst (λ x. list_any (is_same x) set ≡ true) same old)
+
+  -- a fifth
+  pub takes_much : 4 ≤ length set → 4 < length (passing (is_word Variant) before)
+  takes_much h =
+      let (p, q, same, cut) = took Variant now w e in
+      let more = keeps_more before now set t p q later (cut ∙ ap (λ ps. p ∷ ps) (sym l)) in
+      let few : length set ≤ length t.taken = subst (λ n. length set ≤ n) (length-map t.taken lower) (subst (λ s. length s ≤ length (map lower t.taken)) (sym t.set_is) (length-set_of (map lower t.taken))) in
+      let whole = ap length more ∙ length-append t.taken (p ∷ passing (is_word Variant) later) in
+      omega (arith, h, few, whole)

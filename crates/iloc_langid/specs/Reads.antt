@@ -14,14 +14,14 @@ use Rattle.iloc_langid.specs.declared.identifier.LanguageIdentifier.{LanguageIde
 abbrev pub value_of : LanguageIdentifier → Identifier
 value_of i = record { language = i.language; script = i.script; region = i.region; variants = i.variants }
 
--- what the pieces are read as, as a whole identifier. Memory is wanted only for a second variant.
+-- what the pieces are read as, as a whole identifier. Memory is wanted only where more than four variants stand in the text.
 abbrev pub ReadsAs : List (List ℕ) → Result LanguageIdentifier ParseError → Type 0
 ReadsAs ps (Ok i) = IdentifierMeans languages ps (value_of i)
 ReadsAs ps (Err InvalidLanguage) = is_word (Language languages) (first_piece ps) ≡ false
 ReadsAs ps (Err InvalidSubtag) = IsWord (Language languages) (first_piece ps) × ¬ (SpellsIdentifier languages ps)
 ReadsAs ps (Err InvalidExtension) = ⊥
 ReadsAs ps (Err DuplicatedExtension) = ⊥
-ReadsAs ps (Err OutOfMemory) = IsWord (Language languages) (first_piece ps) × (1 < length (filter (is_word Variant) (rest_of ps)))
+ReadsAs ps (Err OutOfMemory) = IsWord (Language languages) (first_piece ps) × (4 < length (filter (is_word Variant) (rest_of ps)))
 
 -- what a longest front is read as, and the pieces that are left after it
 abbrev pub FrontReadsAs : List (List ℕ) → List (List ℕ) → Result LanguageIdentifier ParseError → Type 0
@@ -30,7 +30,7 @@ FrontReadsAs ps rest (Err InvalidLanguage) = is_word (Language languages) (first
 FrontReadsAs ps rest (Err InvalidSubtag) = (w : Identifier) × (more : List (List ℕ)) × IdentifierFront languages ps w more × ¬ (AllDifferent word_cmp (map lower w.variants))
 FrontReadsAs ps rest (Err InvalidExtension) = ⊥
 FrontReadsAs ps rest (Err DuplicatedExtension) = ⊥
-FrontReadsAs ps rest (Err OutOfMemory) = (w : Identifier) × (more : List (List ℕ)) × IdentifierFront languages ps w more × (1 < length w.variants)
+FrontReadsAs ps rest (Err OutOfMemory) = (w : Identifier) × (more : List (List ℕ)) × IdentifierFront languages ps w more × (4 < length w.variants)
 
 -- the same by the reading from the left
 abbrev pub FrontGives : List (List ℕ) → List (List ℕ) → Result LanguageIdentifier ParseError → Type 0
@@ -39,13 +39,13 @@ FrontGives ps rest (Err InvalidLanguage) = is_word (Language languages) (first_p
 FrontGives ps rest (Err InvalidSubtag) = IsWord (Language languages) (first_piece ps) × ¬ (AllDifferent word_cmp (map lower (front_of ps).variants))
 FrontGives ps rest (Err InvalidExtension) = ⊥
 FrontGives ps rest (Err DuplicatedExtension) = ⊥
-FrontGives ps rest (Err OutOfMemory) = IsWord (Language languages) (first_piece ps) × (1 < length (front_of ps).variants)
+FrontGives ps rest (Err OutOfMemory) = IsWord (Language languages) (first_piece ps) × (4 < length (front_of ps).variants)
 
 -- what the variants at the front are read as, and the pieces that are left
 abbrev pub VariantsGive : List (List ℕ) → List (List ℕ) → Result (List (List ℕ)) ParseError → Type 0
 VariantsGive ps rest (Ok vs) = (vs ≡ set_of (map lower (passing (is_word Variant) ps))) × AllDifferent word_cmp (map lower (passing (is_word Variant) ps)) × (rest ≡ past (is_word Variant) ps)
 VariantsGive ps rest (Err InvalidSubtag) = ¬ (AllDifferent word_cmp (map lower (passing (is_word Variant) ps)))
-VariantsGive ps rest (Err OutOfMemory) = 1 < length (passing (is_word Variant) ps)
+VariantsGive ps rest (Err OutOfMemory) = 4 < length (passing (is_word Variant) ps)
 VariantsGive ps rest (Err InvalidLanguage) = ⊥
 VariantsGive ps rest (Err InvalidExtension) = ⊥
 VariantsGive ps rest (Err DuplicatedExtension) = ⊥

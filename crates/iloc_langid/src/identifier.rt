@@ -4,9 +4,9 @@ ghost use Rattle.iloc_grammar.specs.Pieces.{pieces};
 ghost use Rattle.iloc_grammar.specs.Faults.{head};
 
 use crate::reader::{read_head, read_whole};
-use crate::variants::Variants;
 use iloc_parser::SubtagIterator;
 use iloc_subtags::{Language, ParseError, Region, Script};
+use iloc_word_set::Variants;
 use iloc_writeable::writeable::{
     dashed_length_hint, optional_dashed_length_hint, write_all_dashed, write_optional_dashed,
 };

@@ -6,9 +6,9 @@ ghost use Rattle.iloc_parser.specs.Left.{left};
 ghost use Rattle.iloc_langid.specs.Reads.{VariantsGive, FrontGives, FrontReadsAs, ReadsAs};
 
 use crate::identifier::LanguageIdentifier;
-use crate::variants::Variants;
 use iloc_parser::{SubtagIterator, take_word};
 use iloc_subtags::{Language, ParseError, RegionKind, ScriptKind, VariantKind, WordKind, WordOf};
+use iloc_word_set::Variants;
 use std::alloc::Global;
 
 /// Takes the variants that stand at the front.
