@@ -8,9 +8,8 @@ use Rattle.iloc_grammar.specs.Words.{Language, TransformKey, Attribute, UnicodeK
 use Rattle.iloc_grammar.specs.Written.{Identifier, Fields, Unicode, Transform, IsField, AllDifferent}
 use Rattle.iloc_grammar.specs.Meaning.{normal_fields, normal_transform}
 use Rattle.iloc_grammar.specs.Faults.{Fault, InvalidSubtag, InvalidExtension}
-use Rattle.iloc_grammar.proofs.IdentifierLaws.{identifier_of}
+use Rattle.iloc_grammar.specs.Reading.{identifier_of, fields_from, is_two}
 use Rattle.iloc_grammar.proofs.WordsLaws.{length-language}
-use Rattle.iloc_grammar.proofs.Readings.{fields_from, is_two}
 use Rattle.iloc_grammar.proofs.FaultLaws.{cut_identifier, after_variants}
 use Rattle.iloc_fronts.specs.Fronts.{FrontRead, absent, present, after_fields, TransformRead, TransformFault, repeats, unread, has_two_bytes, keywords_front, after_keywords, after_attributes, attributes_front, attributes_read, UnicodeRead, UnicodeFault}
 use Rattle.iloc_fronts.proofs.ListTests.{all_from, all_to}

@@ -11,10 +11,10 @@ use Rattle.iloc_grammar.specs.ByBlocks.{UnicodeMeans}
 use Rattle.iloc_grammar.proofs.WordsLaws.{length-attribute, length-unicode_key}
 use Rattle.iloc_grammar.proofs.ValuesLaws.{all_weaker}
 use Rattle.iloc_grammar.proofs.ReadBack.{all_append}
-use Rattle.iloc_grammar.proofs.Readings.{is_two, before_key, fields_from, fields_all, fields_read, keywords_pass}
+use Rattle.iloc_grammar.proofs.Readings.{fields_all, fields_read, keywords_pass}
 use Rattle.iloc_grammar.proofs.Deciding.{dec_pos, dec_other, dec_private}
 use Rattle.iloc_fronts.specs.Fronts.{passing_from, past_from, attributes_front, after_attributes, attributes_read, has_two_bytes, is_keyword_piece, keywords_front, after_keywords, KeywordsRead, KeywordsFault, UnicodeRead, UnicodeFault, has_other_length, other_front, OtherRead, PrivateRead, IsPartialFunction, EndsBlock}
-use Rattle.iloc_grammar.specs.Reading.{passing, past}
+use Rattle.iloc_grammar.specs.Reading.{passing, past, is_two, before_key, fields_from}
 
 -- two lists of one whole
 

@@ -10,12 +10,12 @@ use Rattle.iloc_grammar.specs.Faults.{Fault, InvalidSubtag, InvalidExtension, fi
 use Rattle.iloc_grammar.specs.ByBlocks.{TransformMeans}
 use Rattle.iloc_grammar.proofs.WordsLaws.{length-language, region_no_script, length-transform_key, length-attribute}
 use Rattle.iloc_grammar.proofs.ValuesLaws.{all_weaker, all_both}
-use Rattle.iloc_grammar.proofs.IdentifierLaws.{identifier_of, pieces-identifier_of, one_identifier}
-use Rattle.iloc_grammar.proofs.Readings.{IsLong, IsNoKey, after_language, long_after_language, identifier_no_key, language_no_key, fields_from, fields_read, fields_pass}
+use Rattle.iloc_grammar.proofs.IdentifierLaws.{pieces-identifier_of, one_identifier}
+use Rattle.iloc_grammar.proofs.Readings.{IsLong, IsNoKey, after_language, long_after_language, identifier_no_key, language_no_key, fields_read, fields_pass}
 use Rattle.iloc_grammar.proofs.Deciding.{dec_and, dec_all, dec_field, dec_needed, dec_different}
 use Rattle.iloc_grammar.proofs.FaultLaws.{some_repeat, front_variants, after_variants, front_are_variants, front_longest, read_longer, cut_identifier, repeats_longer, language_of, script_of, region_of, spell_cut, dec_repeats}
 use Rattle.iloc_fronts.specs.Fronts.{FrontRead, absent, present, is_field_piece, fields_front, after_fields, TransformRead, TransformFault, repeats, unread, IsPartialFunction, EndsBlock}
-use Rattle.iloc_grammar.specs.Reading.{IdentifierFront}
+use Rattle.iloc_grammar.specs.Reading.{IdentifierFront, identifier_of, fields_from}
 use Rattle.iloc_fronts.proofs.FrontLaws.{same_fronts, same_before, Stops, all_from_pieces, front_of_fields, fields_stop, pieces_pass}
 
 -- two fronts of one list

@@ -12,7 +12,8 @@ use Rattle.iloc_grammar.specs.Written.{Unicode, Transform, Extension, unicode, t
 use Rattle.iloc_grammar.specs.Meaning.{Locale, IdentifierMeans, Means, meaning, map_of, unicode_part, transform_part, private_part, other_part, by_singleton, normal_unicode, normal_transform}
 use Rattle.iloc_grammar.specs.Faults.{head, tail_blocks, SpellsIdentifier, IsBlock}
 use Rattle.iloc_grammar.specs.ByBlocks.{UnicodeMeans, TransformMeans, by_letter, other_blocks, MeansByBlocks}
-use Rattle.iloc_grammar.proofs.Readings.{head-spelling, blocks-spelling, unicode_of, unicode_of-pieces, transform_of, transform_of-pieces}
+use Rattle.iloc_grammar.proofs.Readings.{head-spelling, blocks-spelling, unicode_of-pieces, transform_of-pieces}
+use Rattle.iloc_grammar.specs.Reading.{unicode_of, transform_of}
 use Rattle.iloc_grammar.proofs.IdentifierLaws.{one_meaning}
 use Rattle.iloc_grammar.proofs.PiecesLaws.{pieces_nonempty}
 use Rattle.iloc_grammar.proofs.FaultLaws.{AreGood, good_means}

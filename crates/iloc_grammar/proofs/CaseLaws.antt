@@ -16,9 +16,9 @@ use Rattle.iloc_grammar.specs.Faults.{is_one_byte, front, blocks, head, tail_blo
 use Rattle.iloc_grammar.proofs.WordsLaws.{lower-lower, length-lower, is_word-lower}
 use Rattle.iloc_grammar.proofs.PiecesLaws.{pieces_nonempty}
 use Rattle.iloc_grammar.proofs.ValuesLaws.{lower_twice, normal-lower_identifier}
-use Rattle.iloc_grammar.proofs.IdentifierLaws.{identifier_of, pieces-identifier_of}
-use Rattle.iloc_grammar.specs.Reading.{take_first, skip_first, rest_of}
-use Rattle.iloc_grammar.proofs.Readings.{before_key, fields_from, is_two, unicode_of, transform_of, optional_of, extension_by, extension_of, pieces-extension_of, extensions_in, private_in, written_of, written_of-spelling}
+use Rattle.iloc_grammar.proofs.IdentifierLaws.{pieces-identifier_of}
+use Rattle.iloc_grammar.specs.Reading.{take_first, skip_first, rest_of, identifier_of, before_key, fields_from, is_two, unicode_of, transform_of, optional_of, extension_by, extension_of, extensions_in, private_in, written_of}
+use Rattle.iloc_grammar.proofs.Readings.{pieces-extension_of, written_of-spelling}
 use Rattle.iloc_grammar.specs.Steps.{TextStep, Chain}
 use Rattle.iloc_grammar.proofs.Readings.{one_meaning}
 use Rattle.iloc_grammar.proofs.StepSizes.{step_means, step_length}

@@ -13,9 +13,9 @@ use Rattle.iloc_grammar.specs.Written.{Identifier, Fields, Transform, Extension,
 use Rattle.iloc_grammar.specs.Meaning.{Locale, Means, meaning}
 use Rattle.iloc_grammar.specs.Faults.{Fault, InvalidLanguage, InvalidSubtag, InvalidExtension, DuplicatedExtension, is_one_byte, front, blocks, head, tail_blocks, SpellsIdentifier, IsBlock, RepeatsVariant, BlockFault, no_singleton, duplicated, repeats_variant, breaks_rule, FirstBadBlock, here, later, first_piece, HasFault, no_language, no_identifier, bad_block}
 use Rattle.iloc_grammar.proofs.WordsLaws.{region_no_script, variant_no_script, variant_no_region}
-use Rattle.iloc_grammar.proofs.IdentifierLaws.{identifier_of, pieces-identifier_of, identifier_of-pieces}
-use Rattle.iloc_grammar.specs.Reading.{take_first, skip_first}
-use Rattle.iloc_grammar.proofs.Readings.{before_key, identifier_no_key, head-spelling, blocks-spelling}
+use Rattle.iloc_grammar.proofs.IdentifierLaws.{pieces-identifier_of, identifier_of-pieces}
+use Rattle.iloc_grammar.specs.Reading.{take_first, skip_first, identifier_of, before_key}
+use Rattle.iloc_grammar.proofs.Readings.{identifier_no_key, head-spelling, blocks-spelling}
 use Rattle.iloc_grammar.proofs.Deciding.{dec_spells, dec_block, dec_different}
 use Rattle.iloc_grammar.proofs.PiecesLaws.{pieces_nonempty}
 

@@ -3,17 +3,9 @@ use Rattle.std.proofs.Common.{◌≡◌, ℕ, Bool, true, false, cond, List, [],
 use Rattle.std.specs.List.{AllByRecursion}
 use Rattle.iloc_grammar.specs.Words.{Script, Region, Variant, is_word, IsWord}
 use Rattle.iloc_grammar.specs.Written.{Identifier, identifier_pieces, HasWords}
-use Rattle.iloc_grammar.specs.Reading.{take_first, skip_first, rest_of}
-use Rattle.iloc_grammar.specs.Faults.{first_piece}
+use Rattle.iloc_grammar.specs.Reading.{take_first, skip_first, identifier_of}
 use Rattle.iloc_grammar.specs.Meaning.{IdentifierMeans, normal_identifier}
 use Rattle.iloc_grammar.proofs.WordsLaws.{region_no_script, variant_no_script, variant_no_region}
-
--- the reading of the pieces from the left: each optional word is taken where it fits
-unfoldable pub identifier_of : List (List ℕ) → Identifier
-identifier_of ps =
-    let qs = rest_of ps in
-    let rs = skip_first (is_word Script) qs in
-    record { language = first_piece ps; script = take_first (is_word Script) qs; region = take_first (is_word Region) rs; variants = skip_first (is_word Region) rs }
 
 pub all_pieces : (test : List ℕ → Bool) (ps : List (List ℕ)) → option_to_list (take_first test ps) ++ skip_first test ps ≡ ps
 all_pieces test [] = refl

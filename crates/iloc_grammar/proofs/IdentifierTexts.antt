@@ -9,7 +9,8 @@ use Rattle.iloc_grammar.specs.Faults.{Fault, InvalidLanguage, InvalidSubtag, Spe
 use Rattle.iloc_grammar.specs.Steps.{IdentifierTextStep, IdentifierChain, LeadToOne}
 use Rattle.iloc_grammar.proofs.WordsLaws.{length-lower}
 use Rattle.iloc_grammar.proofs.PiecesLaws.{pieces-join, join-pieces, pieces_nonempty}
-use Rattle.iloc_grammar.proofs.IdentifierLaws.{identifier_of, pieces-identifier_of, identifier_of-pieces, one_identifier, one_meaning}
+use Rattle.iloc_grammar.proofs.IdentifierLaws.{pieces-identifier_of, identifier_of-pieces, one_identifier, one_meaning}
+use Rattle.iloc_grammar.specs.Reading.{identifier_of}
 use Rattle.iloc_grammar.proofs.ValuesLaws.{identifier_reads_back, normal-lower_identifier, value_words}
 use Rattle.iloc_grammar.proofs.WellRead.{identifier_value}
 use Rattle.iloc_grammar.proofs.ReadBack.{identifier_hyphen_free}

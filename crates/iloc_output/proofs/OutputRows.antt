@@ -5,7 +5,7 @@ use Rattle.iloc_grammar.specs.Pieces.{pieces, join}
 use Rattle.iloc_grammar.specs.Words.{IsTable, two_or_three, is_word, lower, upper, title, is_true}
 use Rattle.iloc_grammar.specs.Meaning.{Means}
 use Rattle.iloc_grammar.specs.Faults.{Fault, HasFault}
-use Rattle.iloc_grammar.proofs.IdentifierLaws.{identifier_of}
+use Rattle.iloc_grammar.specs.Reading.{identifier_of}
 use Rattle.iloc_small.specs.Small.{SmallLocale, IsSmall, HasSmallFault, locale_of_small}
 use Rattle.iloc_regions.specs.DataLocales.{DataLocale, DataMeans, HasDataFault}
 use Rattle.iloc_output.specs.Output.{OfLocales, OfDataLocales, locale, no_locale, data_locale, no_data_locale, IsOutput}

@@ -6,8 +6,7 @@ use Rattle.iloc_grammar.specs.Words.{is_word, lower, upper, title, is_true, two_
 use Rattle.iloc_grammar.specs.Meaning.{Locale, meaning}
 use Rattle.iloc_grammar.specs.Values.{text}
 use Rattle.iloc_grammar.specs.Faults.{Fault, InvalidLanguage, InvalidSubtag, InvalidExtension}
-use Rattle.iloc_grammar.proofs.IdentifierLaws.{identifier_of}
-use Rattle.iloc_grammar.proofs.Readings.{written_of, unicode_of, transform_of}
+use Rattle.iloc_grammar.specs.Reading.{identifier_of, written_of, unicode_of, transform_of}
 use Rattle.iloc_small.specs.Small.{SmallLocale}
 use Rattle.iloc_regions.specs.DataLocales.{DataLocale, DataKey, data_key, data_text}
 use Rattle.iloc_preferences_rules.specs.Preferences.{Preferences, preferences, is_strict, language_priority, region_priority, merge, locale_of_preferences, format_preferences, is_strict_format, merge_format, time_of_format, FormatPreferences}

@@ -13,8 +13,8 @@ use Rattle.iloc_grammar.specs.Meaning.{Locale, Means, meaning, set_of, normal_va
 use Rattle.iloc_grammar.specs.Faults.{Fault, InvalidLanguage, InvalidSubtag, InvalidExtension, head, tail_blocks, front, first_piece}
 use Rattle.iloc_grammar.proofs.WordsLaws.{length-attribute, length-unicode_key}
 use Rattle.iloc_grammar.proofs.IdentifierLaws as identifiers
-use Rattle.iloc_grammar.proofs.IdentifierLaws.{identifier_of, pieces-identifier_of, identifier_of-pieces}
-use Rattle.iloc_grammar.specs.Reading.{take_first, skip_first, first_item}
+use Rattle.iloc_grammar.proofs.IdentifierLaws.{pieces-identifier_of, identifier_of-pieces}
+use Rattle.iloc_grammar.specs.Reading.{take_first, skip_first, first_item, identifier_of}
 use Rattle.iloc_grammar.specs.Faults.{first_piece}
 use Rattle.iloc_grammar.proofs.Readings.{one_meaning, head-spelling, blocks-spelling}
 use Rattle.iloc_grammar.proofs.FaultLaws.{head-and-blocks}
