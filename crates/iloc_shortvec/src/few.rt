@@ -1,6 +1,5 @@
 //! One to four items in place.
-ghost use Rattle.std.specs.Prelude.{◌≡◌, ◌<◌, ◌≤◌, ◌+◌, ◌-◌, [], ◌∷◌, ◌++◌, length, insert, remove};
-ghost use Rattle.std.specs.List.{HoldsAt};
+ghost use Rattle.std.specs.Prelude.{◌≡◌, ◌<◌, ◌≤◌, ◌+◌, ◌-◌, [], ◌∷◌, ◌++◌, length, insert, remove, slice_get, Some};
 
 use std::marker::Model;
 
@@ -28,6 +27,15 @@ impl<T: Copy> Few<T> {
         Few {
             xs: [item; 4],
             len: 1,
+        }
+    }
+
+    pub fn two(first: T, second: T) -> Self
+        ensures { result ≡ first ∷ second ∷ [] }
+    {
+        Few {
+            xs: [first, second, second, second],
+            len: 2,
         }
     }
 
@@ -73,8 +81,8 @@ impl<T: Copy> Few<T> {
     pub fn remove(&mut self, index: usize) -> T
         requires place { index < length self.old }
         requires several { 1 < length self.old }
-        ensures item { HoldsAt (λ x. result ≡ x) self.old index }
-        ensures removed { self.new ≡ remove self.old index }
+        ensures value { slice_get self.old index ≡ Some result }
+        ensures rest { self.new ≡ remove self.old index }
     {
         let item = self.as_slice()[index];
         self.xs.copy_within(index + 1..self.len, index);

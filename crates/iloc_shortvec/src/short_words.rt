@@ -1,15 +1,19 @@
 //! A list that keeps up to four items in place.
-ghost use Rattle.std.specs.Prelude.{◌≡◌, ◌<◌, ◌≤◌, ◌+◌, [], ◌∷◌, ◌++◌, length, IsOk, OnOk, OnErr, insert, remove, slice_index_or};
-ghost use Rattle.std.specs.List.{HoldsAt};
+ghost use Rattle.std.specs.Prelude.{◌≡◌, ◌==◌, ◌<◌, ◌≤◌, ◌+◌, ◌^◌, List, [], ◌∷◌, ◌++◌, length, IsOk, IfOk, OnOk, OnErr, insert, remove, slice_get, Some};
+ghost use Rattle.std.specs.Option.{option_copied};
 ghost use Rattle.std.specs.List.Retain.{IsFiltered};
 ghost use Rattle.std.specs.Fn.{CalledAt};
 ghost use Rattle.std.specs.Hash as fed;
 ghost use Rattle.std.specs.Hash.{items_Alike};
-ghost use Rattle.std.specs.Iterator.{YieldsFirst, item_count};
+ghost use Rattle.std.specs.Fmt.{debug_list};
+ghost use Rattle.std.specs.Iterator.{IsFinite, Drains, YieldsFirst, item_count};
+ghost use Rattle.std.specs.Iterator.Adapters.{IterYieldsInOrder};
+ghost use Rattle.std.specs.Slice.Iter.{iter_rest};
 ghost use Rattle.std.specs.Ordering.{as_partial_cmp};
 ghost use Rattle.std.specs.Cmp.{partial_order_from_agreeing_total};
 ghost use Rattle.std.specs.Cmp.Lexicographic.{pointwise, lists_per, lists_equiv};
 ghost use Rattle.std.proofs.Common.{refl};
+ghost use Rattle.iloc_shortvec.specs.ShortList.{only_of};
 ghost use Rattle.iloc_shortvec.specs.ShortOrder.{short_cmp, short_total, short_ties};
 
 use crate::few::Few;
@@ -18,6 +22,7 @@ use std::alloc::{AllocError, Global};
 use std::cmp::Ordering;
 use std::hash::{Hash, Hasher};
 use std::marker::Model;
+use std::{fmt, slice};
 
 /// A list of `Copy` items.
 #[derive(Drop)]
@@ -62,6 +67,17 @@ impl<T: Copy> ShortWords<T> {
         }
     }
 
+    /// The list of these two items, which takes no memory.
+    pub fn new_double(_alloc: Global, first: T, second: T) -> Result<Self, AllocError>
+        ensures value { IfOk result (λ list. list ≡ first ∷ second ∷ []) }
+        ensures succeeds { IsOk result }
+    {
+        Ok(ShortWords {
+            kept: Kept::Inline(Few::two(first, second)),
+        })
+    }
+
+    /// The items.
     pub fn as_slice(&self) -> &[T]
         ensures { result.now ≡ self.now }
     {
@@ -76,6 +92,56 @@ impl<T: Copy> ShortWords<T> {
         ensures { result ≡ length self.now }
     {
         self.as_slice().len()
+    }
+
+    /// Whether there is no item.
+    pub fn is_empty(&self) -> bool
+        ensures { result ≡ (length self.now == 0) }
+    {
+        self.as_slice().is_empty()
+    }
+
+    /// The item of a list of exactly one.
+    pub fn single(&self) -> Option<&T>
+        ensures { option_copied result ≡ only_of self.now }
+    {
+        match self.as_slice() {
+            [only] => Some(only),
+            _ => None,
+        }
+    }
+
+    /// The item of a list of exactly one, by value.
+    pub fn into_single(self) -> Option<T>
+        ensures { result ≡ only_of self }
+    {
+        match self.as_slice() {
+            [only] => Some(*only),
+            _ => None,
+        }
+    }
+
+    /// The item at a place, `None` from the length on.
+    pub fn get(&self, index: usize) -> Option<&T>
+        ensures { option_copied result ≡ slice_get self.now index }
+    {
+        self.as_slice().get(index)
+    }
+
+    /// The first item, if there is one.
+    pub fn first(&self) -> Option<&T>
+        ensures { option_copied result ≡ slice_get self.now 0 }
+    {
+        self.as_slice().first()
+    }
+
+    /// References to the items, in the list's order.
+    pub fn iter(&self) -> slice::Iter<'_, T>
+        ensures rest { iter_rest result ≡ self.now }
+        ensures bound { length (iter_rest result) < 2 ^ 64 }
+        ensures runs { IterYieldsInOrder T }
+    {
+        self.as_slice().iter()
     }
 
     /// Puts an item at a place. Up to four items take no memory.
@@ -113,8 +179,8 @@ impl<T: Copy> ShortWords<T> {
     /// Removes an item. A list that falls to four items goes in place.
     pub fn remove(&mut self, index: usize) -> T
         requires { index < length self.old }
-        ensures item { HoldsAt (λ x. result ≡ x) self.old index }
-        ensures removed { self.new ≡ remove self.old index }
+        ensures value { slice_get self.old index ≡ Some result }
+        ensures rest { self.new ≡ remove self.old index }
     {
         match &mut self.kept {
             Kept::Empty(_) => unreachable!(),
@@ -210,10 +276,23 @@ fn kept_of<T: Copy, F: FnMut(&T) -> bool + Drop>(items: &[T], mut keep: F) -> Sh
     kept
 }
 
-impl<T: Copy> Clone for ShortWords<T> {
-    ghost is_clone = { λ s t. t ≡ s };
+impl<T: Copy> ShortWords<T> {
+    /// The list of what the iterator gives, in its order.
+    pub fn from_iter<I: IntoIterator<Item = T>>(alloc: Global, iter: I) -> Result<Self, AllocError>
+        requires ends { (it : I.IntoIter) → I.into_iter_gives iter it → I.IntoIter.can_next it × IsFinite (I.IntoIter.remaining it) }
+        ensures { IfOk result (λ list. (it : I.IntoIter) × I.into_iter_gives iter it × Drains I.IntoIter.next_gives it list) }
+    {
+        let mut list = ShortWords::new();
+        for item in iter {
+            list.push(alloc, item)?;
+        }
+        Ok(list)
+    }
 
-    fn clone(&self) -> Result<Self, AllocError> {
+    /// A copy.
+    pub fn clone(&self) -> Result<Self, AllocError>
+        ensures { IfOk result (λ copy. copy ≡ self.now) }
+    {
         match &self.kept {
             Kept::Heap(items) => {
                 let mut copies = Vec::with_capacity(*items.allocator(), items.len())?;
@@ -222,6 +301,23 @@ impl<T: Copy> Clone for ShortWords<T> {
             }
             _ => Ok(ShortWords::from_short(self.as_slice())),
         }
+    }
+}
+
+impl<T: Copy> Default for ShortWords<T> {
+    ghost is_default = { λ list. list ≡ [] };
+
+    fn default() -> Self {
+        ShortWords::new()
+    }
+}
+
+/// Prints as a slice of the items does.
+impl<T: Copy + fmt::Debug> fmt::Debug for ShortWords<T> {
+    ghost debug_output = { debug_list T.debug_output };
+
+    fn fmt<W: fmt::Write>(&self, f: &mut fmt::Formatter<W>) -> fmt::Result {
+        fmt::Debug::fmt(&self.as_slice(), f)
     }
 }
 
@@ -311,9 +407,9 @@ impl<T: Copy> IntoIterator for ShortWords<T> {
 
     type IntoIter = ShortWordsIntoIter<T>;
 
-    fn into_iter(self) -> ShortWordsIntoIter<T>
-        ensures { result ≡ self }
-    {
+    ghost into_iter_gives = { λ list it. it ≡ list };
+
+    fn into_iter(self) -> ShortWordsIntoIter<T> {
         ShortWordsIntoIter {
             words: self,
             next: 0,
