@@ -1,0 +1,13 @@
+//! The private extension, and the extensions that are neither unicode, transform nor private.
+//!
+//! A private extension is a list of private words, an other extension a singleton and a list of
+//! subtags. Readers take exactly what the grammar of UTS #35, section 3, allows after a singleton,
+//! by its definition in `iloc_grammar`, and print it as the normal text does.
+//! The crate stands on the words of `iloc_subtags`, the pieces of `iloc_parser` and the lists of
+//! `iloc_shortvec`.
+#![tactic(auto)]
+
+pub mod private;
+pub mod words;
+
+pub use private::Private;

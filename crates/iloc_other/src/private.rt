@@ -1,0 +1,162 @@
+//! The private extension: a list of private words.
+ghost use Rattle.std.specs.Prelude.{◌≡◌, ◌∷◌, [], ◌↔◌, IsTrue, length, slice_get, ◌++◌, ◌<◌, OnOk, IfErr, IsOk};
+ghost use Rattle.std.specs.List.{AllByRecursion};
+ghost use Rattle.std.specs.Option.{option_copied};
+ghost use Rattle.iloc_grammar.specs.Pieces.{pieces};
+ghost use Rattle.iloc_grammar.specs.Values.{IsNormal};
+ghost use Rattle.iloc_grammar.specs.Words.{PrivateSubtag as the_kind};
+ghost use Rattle.iloc_parser.specs.Left.{left};
+ghost use Rattle.iloc_other.specs.Reading.{PrivateReads, PrivateTextReads};
+
+use crate::words::are_normal;
+use iloc_parser::SubtagIterator;
+use iloc_shortvec::ShortWords;
+use iloc_subtags::{ParseError, PrivateSubtag};
+use std::alloc::Global;
+use std::marker::Model;
+
+/// A word of the private extension, as `l`.
+pub type Subtag = PrivateSubtag;
+
+/// The private extension: a list of private words.
+#[derive(Drop, PartialEq, Eq, Hash)]
+pub struct Private {
+    words: ShortWords<Subtag>,
+}
+
+impl Model for Private {
+    ghost use Rattle.std.specs.Prelude.{List, ℕ};
+    ghost use Rattle.std.specs.List.{AllByRecursion};
+    ghost use Rattle.iloc_grammar.specs.Values.{IsNormal};
+    ghost use Rattle.iloc_grammar.specs.Words.{PrivateSubtag as the_kind};
+
+    ghost Value = { List (List ℕ) };
+
+    ghost view = { λ p. p.words };
+
+    ghost invariant = { λ p. AllByRecursion (IsNormal the_kind) p.words };
+
+    ghost inverse = { λ ws. record { words = ws } };
+}
+
+impl Private {
+    /// The empty list.
+    pub fn new() -> Self
+        ensures { result ≡ [] }
+    {
+        Private {
+            words: ShortWords::new(),
+        }
+    }
+
+    /// The list of this one word.
+    pub fn new_single(input: Subtag) -> Self
+        ensures { result ≡ input ∷ [] }
+    {
+        let _ = input.as_str();
+        Private {
+            words: ShortWords::new_single(input),
+        }
+    }
+
+    /// The list of these words.
+    pub fn from_vec_unchecked(input: Vec<Subtag>) -> Self
+        ensures { result ≡ input.items }
+    {
+        are_normal(input.as_slice());
+        Private {
+            words: ShortWords::from_vec(input),
+        }
+    }
+
+    /// Leaves the empty list.
+    pub fn clear(&mut self)
+        ensures { self.new ≡ [] }
+    {
+        self.words.clear();
+    }
+
+    /// The words in list order.
+    pub fn as_slice(&self) -> &[Subtag]
+        ensures words { result.now ≡ self.now }
+        ensures normal { AllByRecursion (IsNormal the_kind) self.now }
+    {
+        self.words.as_slice()
+    }
+
+    /// Whether there is no word.
+    pub fn is_empty(&self) -> bool
+        ensures { IsTrue result ↔ (self.now ≡ []) }
+    {
+        self.as_slice().is_empty()
+    }
+
+    /// How many words there are.
+    pub fn len(&self) -> usize
+        ensures { result ≡ length self.now }
+    {
+        self.words.len()
+    }
+
+    /// The word at a place, `None` from the length on.
+    pub fn get(&self, index: usize) -> Option<&Subtag>
+        ensures { option_copied result ≡ slice_get self.now index }
+    {
+        self.as_slice().get(index)
+    }
+
+    /// The first word, if there is one.
+    pub fn first(&self) -> Option<&Subtag>
+        ensures { option_copied result ≡ slice_get self.now 0 }
+    {
+        self.as_slice().first()
+    }
+
+    /// Reads `x` in either case and all the rest, which must be private words, one at least.
+    ///
+    /// This is the private use extension of UTS #35, section 3.1. Anything else is refused with
+    /// `InvalidExtension`. `OutOfMemory` comes only where there are more than four words.
+    pub fn try_from_utf8(alloc: Global, code_units: &[u8]) -> Result<Self, ParseError>
+        ensures { PrivateTextReads code_units.now result }
+    {
+        let mut iter = SubtagIterator::new(code_units);
+        match iter.next() {
+            Some([b'x' | b'X']) => Private::try_from_iter(alloc, &mut iter),
+            _ => Err(ParseError::InvalidExtension),
+        }
+    }
+
+    /// The same on a text.
+    pub fn try_from_str(alloc: Global, s: &str) -> Result<Self, ParseError>
+        ensures { PrivateTextReads s.now result }
+    {
+        Self::try_from_utf8(alloc, s.as_bytes())
+    }
+
+    /// Reads what follows `x`: all the pieces that are left.
+    pub fn try_from_iter(alloc: Global, iter: &mut SubtagIterator<'_>) -> Result<Self, ParseError>
+        ensures { PrivateReads (left iter.old) (left iter.new) result }
+    {
+        let mut words = Private::new();
+        'words: while let Some(piece) = iter.next() {
+            let word = Subtag::try_from_utf8(piece)?;
+            words.push(alloc, word)?;
+        }
+        if words.is_empty() {
+            return Err(ParseError::InvalidExtension);
+        }
+        Ok(words)
+    }
+
+    // Adds a word at the end. Up to four take no memory.
+    fn push(&mut self, alloc: Global, word: Subtag) -> Result<(), ParseError>
+        ensures ok { OnOk result (self.new ≡ self.old ++ word ∷ []) }
+        ensures err { IfErr result (λ e. e ≡ ParseError.OutOfMemory) }
+        ensures succeeds { length self.old < 4 → IsOk result }
+    {
+        let _ = word.as_str();
+        self.words
+            .push(alloc, word)
+            .map_err(|_| ParseError::OutOfMemory)
+    }
+}
