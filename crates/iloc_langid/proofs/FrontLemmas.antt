@@ -5,7 +5,7 @@ use Rattle.std.proofs.lemmas.Bool.Decides.{nat_tests}
 use Rattle.std.proofs.lemmas.Bool.{false_from_ne_true}
 use Rattle.iloc_grammar.specs.Words.{Kind, Language, Script, Region, Variant, is_word, IsWord, normal, lower, title, upper, languages, read}
 use Rattle.iloc_grammar.specs.Meaning.{IdentifierMeans}
-use Rattle.iloc_grammar.specs.Faults.{SpellsIdentifier, front, head, is_one_byte, first_piece}
+use Rattle.iloc_grammar.specs.Faults.{HasIdentifierFault, not_a_language, not_an_identifier, front, head, is_one_byte, first_piece}
 use Rattle.iloc_grammar.specs.Reading.{first_item}
 use Rattle.iloc_grammar.specs.Reading.{take_first, skip_first, rest_of, front_of, after_front, from_block, after_head, starts_block}
 use Rattle.iloc_grammar.proofs.ReadingLaws.{EndsWords, starts_ends, from_block_starts, front-from_block, front_long, after_long, starts_empty, after_front-append, front_means, refuses_more, refuses_repeat, counts_variants, front_is_front}
@@ -59,8 +59,8 @@ front_refuses ps first qs rs us rest rest' f e w er eu v =
 -- where the front should end before rest
 module _ (p : List ℕ) (qs rest : List (List ℕ)) (ends : EndsWords rest) (r : List (List ℕ)) where
   cut_refuses : (f : ParseError) → FrontGives (p ∷ (qs ++ rest)) r (Err f) → ReadsAs (p ∷ qs) (Err f)
-  cut_refuses InvalidLanguage g = g
-  cut_refuses InvalidSubtag g = (g.0, refuses_repeat languages p qs rest ends g.1)
+  cut_refuses InvalidLanguage g = not_a_language g
+  cut_refuses InvalidSubtag g = not_an_identifier g.0 (refuses_repeat languages p qs rest ends g.1)
   cut_refuses OutOfMemory g = let n = counts_variants languages p qs rest ends in (g.0, omega (arith, n, g.1))
   cut_refuses InvalidExtension g = absurd g
   cut_refuses DuplicatedExtension g = absurd g
@@ -69,7 +69,7 @@ module _ (p : List ℕ) (qs rest : List (List ℕ)) (ends : EndsWords rest) (r :
   cut_gives i g e = subst (IdentifierMeans languages (p ∷ qs)) (sym g.2) (front_means languages p qs rest ends g.0 g.1 (sym g.3 ∙ e))
 
   cut_more : (i : LanguageIdentifier) → FrontGives (p ∷ (qs ++ rest)) r (Ok i) → r ≢ rest → ReadsAs (p ∷ qs) (Err InvalidSubtag)
-  cut_more i g n = (g.0, refuses_more languages p qs rest ends (λ e. n (g.3 ∙ e)))
+  cut_more i g n = not_an_identifier g.0 (refuses_more languages p qs rest ends (λ e. n (g.3 ∙ e)))
 
 ends_nowhere : EndsWords []
 ends_nowhere = record { script = tt; region = tt; variant = tt }
@@ -81,7 +81,7 @@ at_end p ps r x g = subst (λ l. FrontGives (p ∷ l) r x) (sym (append-nil ps))
 
 pub whole_refuses : (ps r : List (List ℕ)) (f : ParseError) → FrontGives ps r (Err f) → ReadsAs ps (Err f)
 whole_refuses (p ∷ ps) r f g = cut_refuses p ps [] ends_nowhere r f (at_end p ps r (Err f) g)
-whole_refuses [] r InvalidLanguage g = g
+whole_refuses [] r InvalidLanguage g = not_a_language g
 whole_refuses [] r InvalidSubtag g = no_language g.0
 whole_refuses [] r OutOfMemory g = no_language g.0
 whole_refuses [] r InvalidExtension g = g

@@ -3,7 +3,8 @@ use Rattle.std.specs.Prelude.{◌≡◌, ℕ, ◌<◌, false, List, length, map,
 use Rattle.iloc_grammar.specs.Words.{Language, Variant, is_word, IsWord, lower, word_cmp, languages}
 use Rattle.iloc_grammar.specs.Written.{Identifier, AllDifferent}
 use Rattle.iloc_grammar.specs.Meaning.{IdentifierMeans, normal_identifier, set_of}
-use Rattle.iloc_grammar.specs.Faults.{SpellsIdentifier, first_piece}
+use Rattle.iloc_grammar.specs.Faults as faults
+use Rattle.iloc_grammar.specs.Faults.{HasIdentifierFault, first_piece}
 use Rattle.iloc_grammar.specs.Reading.{IdentifierFront}
 use Rattle.iloc_grammar.specs.Reading.{passing, past, rest_of, front_of, after_front}
 use Rattle.iloc_subtags.specs.declared.parse_error.ParseError.{ParseError}
@@ -14,11 +15,12 @@ use Rattle.iloc_langid.specs.declared.identifier.LanguageIdentifier.{LanguageIde
 abbrev pub value_of : LanguageIdentifier → Identifier
 value_of i = record { language = i.language; script = i.script; region = i.region; variants = i.variants }
 
--- what the pieces are read as, as a whole identifier. Memory is wanted only where more than four variants stand in the text.
+-- what the pieces are read as, as a whole identifier.
+-- Memory is wanted only where more than four variants stand among them.
 abbrev pub ReadsAs : List (List ℕ) → Result LanguageIdentifier ParseError → Type 0
 ReadsAs ps (Ok i) = IdentifierMeans languages ps (value_of i)
-ReadsAs ps (Err InvalidLanguage) = is_word (Language languages) (first_piece ps) ≡ false
-ReadsAs ps (Err InvalidSubtag) = IsWord (Language languages) (first_piece ps) × ¬ (SpellsIdentifier languages ps)
+ReadsAs ps (Err InvalidLanguage) = HasIdentifierFault languages ps faults.InvalidLanguage
+ReadsAs ps (Err InvalidSubtag) = HasIdentifierFault languages ps faults.InvalidSubtag
 ReadsAs ps (Err InvalidExtension) = ⊥
 ReadsAs ps (Err DuplicatedExtension) = ⊥
 ReadsAs ps (Err OutOfMemory) = IsWord (Language languages) (first_piece ps) × (4 < length (filter (is_word Variant) (rest_of ps)))
