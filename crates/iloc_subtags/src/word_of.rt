@@ -1,5 +1,5 @@
 //! The word of a kind.
-ghost use Rattle.std.specs.Prelude.{IsTrue, ◌≡◌, ◌↔◌, ℕ, List, Some, MatchResult};
+ghost use Rattle.std.specs.Prelude.{IsTrue, ◌≡◌, ◌↔◌, ℕ, List, [], ◌∷◌, Some, MatchResult};
 ghost use Rattle.std.specs.List.{AllByRecursion};
 ghost use Rattle.std.specs.Cmp.Lexicographic.{slice_cmp};
 ghost use Rattle.std.specs.Ordering.{nat_cmp};
@@ -10,6 +10,7 @@ ghost use Rattle.iloc_subtags.specs.RawForms.{ReadsRaw};
 use crate::kind::WordKind;
 use crate::parse_error::ParseError;
 use iloc_tinystr::TinyAsciiStr;
+use iloc_writeable::pieces::{Pieces, write_piece};
 use iloc_writeable::{LengthHint, Sink, Writeable};
 use std::cmp::Ordering;
 use std::fmt;
@@ -186,6 +187,19 @@ impl<K: WordKind<N>, const N: usize> fmt::Display for WordOf<K, N> {
 
     fn fmt<W: fmt::Write>(&self, f: &mut fmt::Formatter<W>) -> fmt::Result {
         f.write_str(self.as_str())
+    }
+}
+
+/// A word is one piece.
+impl<K: WordKind<N>, const N: usize> Pieces for WordOf<K, N> {
+    ghost pieces = { λ text. text ∷ [] };
+
+    fn has_pieces(&self) -> bool {
+        true
+    }
+
+    fn write_pieces<S: Sink>(&self, sink: &mut S, first: bool) -> fmt::Result {
+        write_piece(sink, self.as_str(), first)
     }
 }
 
