@@ -1,6 +1,8 @@
 //! One to four items in place.
 ghost use Rattle.std.specs.Prelude.{◌≡◌, ◌<◌, ◌≤◌, ◌+◌, ◌-◌, [], ◌∷◌, ◌++◌, length, insert, remove, slice_get, Some};
+ghost use Rattle.std.specs.Borrow.{sem};
 
+use crate::front::front_mut;
 use std::marker::Model;
 
 /// One to four items. The places after them hold copies, and count for nothing.
@@ -21,6 +23,8 @@ impl<T: Copy> Model for Few<T> {
 }
 
 impl<T: Copy> Few<T> {
+    ghost use Rattle.iloc_shortvec.specs.FewLends.{few_lends_slice};
+
     pub fn one(item: T) -> Self
         ensures { result ≡ item ∷ [] }
     {
@@ -59,6 +63,13 @@ impl<T: Copy> Few<T> {
         ensures fits { length self.now ≤ 4 }
     {
         &self.xs[..self.len]
+    }
+
+    pub fn as_mut_slice(&mut self) -> &mut [T]
+        ensures* writes_back { sem 𝓛 (few_lends_slice T.row self.entry result) }
+        ensures value { result.now ≡ self.old }
+    {
+        front_mut(&mut self.xs, self.len)
     }
 
     pub fn len(&self) -> usize

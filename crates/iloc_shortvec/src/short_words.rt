@@ -1,5 +1,6 @@
 //! A list that keeps up to four items in place.
 ghost use Rattle.std.specs.Prelude.{◌≡◌, ◌==◌, ◌<◌, ◌≤◌, ◌+◌, ◌^◌, List, [], ◌∷◌, ◌++◌, length, IsOk, IfOk, OnOk, OnErr, insert, remove, slice_get, Some};
+ghost use Rattle.std.specs.Borrow.{sem};
 ghost use Rattle.std.specs.Option.{option_copied};
 ghost use Rattle.std.specs.List.Retain.{IsFiltered};
 ghost use Rattle.std.specs.Fn.{CalledAt};
@@ -18,6 +19,7 @@ ghost use Rattle.iloc_shortvec.specs.ShortOrder.{short_cmp, short_total, short_t
 
 use crate::few::Few;
 use crate::items::Nothing;
+use crate::kept::Kept;
 use std::alloc::{AllocError, Global};
 use std::cmp::Ordering;
 use std::hash::{Hash, Hasher};
@@ -28,14 +30,6 @@ use std::{fmt, slice};
 #[derive(Drop)]
 pub struct ShortWords<T: Copy> {
     kept: Kept<T>,
-}
-
-/// Where the items are.
-#[derive(Drop)]
-enum Kept<T: Copy> {
-    Empty(Nothing<T>),
-    Inline(Few<T>),
-    Heap(Vec<T>),
 }
 
 impl<T: Copy> Model for ShortWords<T> {
@@ -51,6 +45,8 @@ impl<T: Copy> Model for ShortWords<T> {
 }
 
 impl<T: Copy> ShortWords<T> {
+    ghost use Rattle.iloc_shortvec.specs.ShortWordsLends.{lends_slice};
+
     pub fn new() -> Self
         ensures { result ≡ [] }
     {
@@ -81,11 +77,15 @@ impl<T: Copy> ShortWords<T> {
     pub fn as_slice(&self) -> &[T]
         ensures { result.now ≡ self.now }
     {
-        match &self.kept {
-            Kept::Empty(_) => &[],
-            Kept::Inline(items) => items.as_slice(),
-            Kept::Heap(items) => items.as_slice(),
-        }
+        self.kept.as_slice()
+    }
+
+    /// The items for writing.
+    pub fn as_mut_slice(&mut self) -> &mut [T]
+        ensures* writes_back { sem 𝓛 (lends_slice T.row self.entry result) }
+        ensures value { result.now ≡ self.old }
+    {
+        self.kept.as_mut_slice()
     }
 
     pub fn len(&self) -> usize
