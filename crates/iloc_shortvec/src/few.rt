@@ -88,6 +88,17 @@ impl<T: Copy> Few<T> {
         self.len += 1;
     }
 
+    /// Adds copies of the items at the end.
+    pub fn extend_from_slice(&mut self, items: &[T])
+        requires room { length self.old + length items.now ≤ 4 }
+        ensures { self.new ≡ self.old ++ items.now }
+    {
+        let end = self.len + items.len();
+        let cells = &mut self.xs[..];
+        cells[self.len..end].copy_from_slice(items);
+        self.len = end;
+    }
+
     /// Removes an item, of several.
     pub fn remove(&mut self, index: usize) -> T
         requires place { index < length self.old }
