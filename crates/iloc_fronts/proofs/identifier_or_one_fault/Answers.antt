@@ -1,5 +1,5 @@
 -- By cases on the first piece.
-use Rattle.iloc_fronts.proofs.ReaderLaws.{text_identifier_or_fault, head_identifier_or_fault, identifier_apart, one_identifier_fault}
+use Rattle.iloc_fronts.proofs.IdentifierFaults.{text_identifier_or_fault, head_identifier_or_fault, identifier_apart, one_identifier_fault}
 use Rattle.iloc_fronts.proofs.identifier_or_one_fault.Goals as goal
 
 pub returns : goal.returns
