@@ -1,14 +1,12 @@
 -- Fields that are read from the left.
-use Rattle.std.proofs.Common.{◌≡◌, ℕ, Bool, true, false, cond, List, [], ◌∷◌, ◌++◌, refl, sym, ap, ap₂, ◌∙◌}
+use Rattle.std.proofs.Common.{◌≡◌, ℕ, Bool, true, false, cond, List, [], ◌∷◌, ◌++◌, refl, sym, ap, ◌∙◌}
 use Rattle.std.specs.List.{AllByRecursion}
 use Rattle.iloc_grammar.specs.Written.{Fields, fields_pieces}
 use Rattle.iloc_grammar.specs.Faults.{first_piece}
-use Rattle.iloc_grammar.specs.Reading.{passing, past, EndsBefore}
+use Rattle.iloc_grammar.specs.Reading.{passing, past, EndsBefore, before_key, fields_from}
 use Rattle.iloc_grammar.proofs.ReadBack.{all_append}
-use Rattle.iloc_grammar.proofs.Readings as readings
-use Rattle.iloc_grammar.proofs.Readings.{KeysPass}
+use Rattle.iloc_grammar.proofs.Readings.{fields_all}
 use Rattle.iloc_fronts.specs.Fronts.{passing_from, past_from}
-use Rattle.iloc_fronts.specs.Computing.{before_key, fields_from}
 
 -- fronts
 
@@ -38,18 +36,6 @@ passing_from_all first test ps = elim (first (first_piece ps)) as (λ b. AllByRe
 
 -- fields
 
-before_same : (key : List ℕ → Bool) (ps : List (List ℕ)) → before_key key ps ≡ readings.before_key key ps
-before_same key [] = refl
-before_same key (p ∷ ps) = ap (λ l. cond (key p) [] (p ∷ l)) (before_same key ps)
-
-fields_same : (key : List ℕ → Bool) (ps : List (List ℕ)) → fields_from key ps ≡ readings.fields_from key ps
-fields_same key [] = refl
-fields_same key (p ∷ ps) = ap₂ (λ (l : List (List ℕ)) (fs : Fields). cond (key p) ((p, l) ∷ fs) fs) (before_same key ps) (fields_same key ps)
-
--- they are those that were written
-pub fields_read : (key : List ℕ → Bool) (fs : Fields) → KeysPass key fs → fields_from key (fields_pieces fs) ≡ fs
-fields_read key fs h = fields_same key (fields_pieces fs) ∙ readings.fields_read key fs h
-
 -- a front that begins with a key is its fields
 before_first_key : (key test : List ℕ → Bool) (ps : List (List ℕ)) → before_key key (passing_from key test ps) ≡ []
 before_first_key key test [] = elim (key []) as (λ b. before_key key (cond b [] []) ≡ []) [ true ↦ refl | false ↦ refl ]
@@ -61,7 +47,7 @@ before_first_key key test (p ∷ ps) = elim (key p) as (λ b. key p ≡ b → be
 pub front_of_fields : (key test : List ℕ → Bool) (ps : List (List ℕ)) → passing_from key test ps ≡ fields_pieces (fields_from key (passing_from key test ps))
 front_of_fields key test ps =
     let f = passing_from key test ps in
-    sym (readings.fields_all key f) ∙ ap₂ (λ (l : List (List ℕ)) (fs : Fields). l ++ fields_pieces fs) (sym (before_same key f) ∙ before_first_key key test ps) (sym (fields_same key f))
+    sym (fields_all key f) ∙ ap (λ (l : List (List ℕ)). l ++ fields_pieces (fields_from key f)) (before_first_key key test ps)
 
 -- the keys and the values among pieces of which each is the one or the other
 pub fields_words : (key : List ℕ → Bool) (K V : List ℕ → Type 0) (ps : List (List ℕ)) → AllByRecursion (λ p. (key p ≡ true → K p) × (key p ≡ false → V p)) ps → AllByRecursion V (before_key key ps) × AllByRecursion (λ f. K f.0 × AllByRecursion V f.1) (fields_from key ps)

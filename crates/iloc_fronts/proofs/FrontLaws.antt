@@ -9,17 +9,17 @@ use Rattle.iloc_grammar.specs.Written.{Fields, Unicode, fields_pieces, unicode_p
 use Rattle.iloc_grammar.specs.Meaning.{set_of, normal_fields, normal_unicode}
 use Rattle.iloc_grammar.specs.Faults.{Fault, front}
 use Rattle.iloc_grammar.specs.ByBlocks.{UnicodeMeans}
-use Rattle.iloc_grammar.specs.Reading.{EndsBefore, starts_block, from_block}
+use Rattle.iloc_grammar.specs.Reading.{EndsBefore, starts_block, from_block, is_two, fields_from}
 use Rattle.iloc_grammar.proofs.WordsLaws.{length-attribute, length-unicode_key}
 use Rattle.iloc_grammar.proofs.ValuesLaws.{all_weaker}
 use Rattle.iloc_grammar.proofs.ReadBack.{all_append}
-use Rattle.iloc_grammar.proofs.Readings.{IsLong, long_attribute, long_between, is_two, keywords_pass}
+use Rattle.iloc_grammar.proofs.Readings.{IsLong, long_attribute, long_between, keywords_pass, fields_read}
 use Rattle.iloc_grammar.proofs.ReadingLaws.{front-from_block, from_block_starts}
 use Rattle.iloc_fronts.specs.Readers.{IsReader, AgreesWithBlocks}
-use Rattle.iloc_fronts.specs.Fronts.{attributes_front, after_attributes, has_two_bytes, is_keyword_piece, keywords_front, after_keywords, is_bad_key, KeywordsRead, KeywordsFault, bad_key, UnicodeRead, UnicodeFault, in_keywords, both_absent, has_other_length, other_front, OtherRead, OtherFault, no_word, OtherMeans, PrivateRead, PrivateFault, not_private}
-use Rattle.iloc_fronts.specs.Computing.{fields_from, keywords_at, keywords_result, with_attributes, unicode_result, other_result, private_result}
+use Rattle.iloc_fronts.specs.Fronts.{attributes_front, after_attributes, is_keyword_piece, keywords_front, after_keywords, is_bad_key, KeywordsRead, KeywordsFault, bad_key, UnicodeRead, UnicodeFault, in_keywords, both_absent, has_other_length, other_front, OtherRead, OtherFault, no_word, OtherMeans, PrivateRead, PrivateFault, not_private}
+use Rattle.iloc_fronts.specs.Computing.{keywords_at, keywords_result, with_attributes, unicode_result, other_result, private_result}
 use Rattle.iloc_fronts.proofs.ListTests.{all_from, all_to}
-use Rattle.iloc_fronts.proofs.FieldLaws.{all_pieces, passing_all, passing_stops, past_stops, all_from_pieces, passing_from_all, fields_read, front_of_fields, fields_words, fields_stop, pieces_pass}
+use Rattle.iloc_fronts.proofs.FieldLaws.{all_pieces, passing_all, passing_stops, past_stops, all_from_pieces, passing_from_all, front_of_fields, fields_words, fields_stop, pieces_pass}
 use Rattle.iloc_fronts.proofs.ReaderLaws.{reader_of, agreeing, until_block, Answers}
 
 -- keywords
@@ -29,9 +29,9 @@ one_keywords ps v w rest more a b =
     let same : a.written ≡ b.written = sym (fields_read is_two a.written (keywords_pass a.written a.keywords)) ∙ ap (fields_from is_two) (sym a.spelled ∙ b.spelled) ∙ fields_read is_two b.written (keywords_pass b.written b.keywords) in
     (a.means ∙ ap normal_fields same ∙ sym b.means, a.left ∙ sym b.left)
 
-good_pieces : (ps : List (List ℕ)) → AllByRecursion (λ p. is_keyword_piece p ≡ true) ps → list_any is_bad_key ps ≡ false → AllByRecursion (λ p. (has_two_bytes p ≡ true → IsWord UnicodeKey p) × (has_two_bytes p ≡ false → IsWord Attribute p)) ps
+good_pieces : (ps : List (List ℕ)) → AllByRecursion (λ p. is_keyword_piece p ≡ true) ps → list_any is_bad_key ps ≡ false → AllByRecursion (λ p. (is_two p ≡ true → IsWord UnicodeKey p) × (is_two p ≡ false → IsWord Attribute p)) ps
 good_pieces [] h n = tt
-good_pieces (p ∷ ps) h n = let parts = or_parts (is_bad_key p) (list_any is_bad_key ps) n in ((λ e. key_is (has_two_bytes p) (is_word UnicodeKey p) e parts.0, λ e. value_is (has_two_bytes p) (is_word Attribute p) e h.0), good_pieces ps h.1 parts.1)
+good_pieces (p ∷ ps) h n = let parts = or_parts (is_bad_key p) (list_any is_bad_key ps) n in ((λ e. key_is (is_two p) (is_word UnicodeKey p) e parts.0, λ e. value_is (is_two p) (is_word Attribute p) e h.0), good_pieces ps h.1 parts.1)
   where
     key_is : (a b : Bool) → a ≡ true → (a && not b) ≡ false → b ≡ true
     key_is a true e n = refl
@@ -49,7 +49,7 @@ keywords_no_fault (f ∷ fs) h = none_bad (f.0 ∷ f.1) (fields_pieces fs) (good
     none_bad (x ∷ xs) ys h n = ap₂ ◌||◌ h.0 (none_bad xs ys h.1 n)
 
     good_key : (p : List ℕ) → IsWord UnicodeKey p → is_bad_key p ≡ false
-    good_key p h = ap (λ b. has_two_bytes p && not b) h ∙ and_false (has_two_bytes p)
+    good_key p h = ap (λ b. is_two p && not b) h ∙ and_false (is_two p)
       where
         and_false : (b : Bool) → (b && false) ≡ false
         and_false true = refl
@@ -64,8 +64,8 @@ keywords_no_fault (f ∷ fs) h = none_bad (f.0 ∷ f.1) (fields_pieces fs) (good
 keywords_read_of : (ps : List (List ℕ)) → list_any is_bad_key (keywords_front ps) ≡ false → KeywordsRead ps (normal_fields (keywords_at ps)) (after_keywords ps)
 keywords_read_of ps e = record {
   written = keywords_at ps;
-  keywords = (fields_words has_two_bytes (IsWord UnicodeKey) (IsWord Attribute) (keywords_front ps) (good_pieces _ (passing_from_all has_two_bytes is_keyword_piece ps) e)).1;
-  spelled = front_of_fields has_two_bytes is_keyword_piece ps;
+  keywords = (fields_words is_two (IsWord UnicodeKey) (IsWord Attribute) (keywords_front ps) (good_pieces _ (passing_from_all is_two is_keyword_piece ps) e)).1;
+  spelled = front_of_fields is_two is_keyword_piece ps;
   means = refl;
   left = refl;
 }
@@ -131,7 +131,7 @@ unicode_reader = reader_of UnicodeRead UnicodeFault unicode_result unicode_answe
 -- and its block
 
 long_keyword_piece : (p : List ℕ) → is_keyword_piece p ≡ true → IsLong p
-long_keyword_piece p h = elim (has_two_bytes p) as (λ b. has_two_bytes p ≡ b → (b || is_word Attribute p) ≡ true → IsLong p) [
+long_keyword_piece p h = elim (is_two p) as (λ b. is_two p ≡ b → (b || is_word Attribute p) ≡ true → IsLong p) [
   | true ↦ λ e k. two (length p) e
   | false ↦ λ e k. long_attribute p k
 ] refl h
@@ -148,8 +148,8 @@ unicode_whole ps u rest h s =
     let k = h.keywords_are in
     let a = attributes_front ps in
     let front_pieces = keywords_front (after_attributes ps) in
-    let all : ps ≡ (a ++ front_pieces) ++ rest = sym (append_assoc a front_pieces rest ∙ ap (λ l. a ++ (front_pieces ++ l)) k.left ∙ ap (λ l. a ++ l) (all_from_pieces has_two_bytes is_keyword_piece (after_attributes ps)) ∙ all_pieces (is_word Attribute) ps) in
-    let long = all_append IsLong a front_pieces (all_weaker (IsWord Attribute) IsLong long_attribute a (passing_all (is_word Attribute) ps)) (all_weaker (λ p. is_keyword_piece p ≡ true) IsLong long_keyword_piece front_pieces (passing_from_all has_two_bytes is_keyword_piece (after_attributes ps))) in
+    let all : ps ≡ (a ++ front_pieces) ++ rest = sym (append_assoc a front_pieces rest ∙ ap (λ l. a ++ (front_pieces ++ l)) k.left ∙ ap (λ l. a ++ l) (all_from_pieces is_two is_keyword_piece (after_attributes ps)) ∙ all_pieces (is_word Attribute) ps) in
+    let long = all_append IsLong a front_pieces (all_weaker (IsWord Attribute) IsLong long_attribute a (passing_all (is_word Attribute) ps)) (all_weaker (λ p. is_keyword_piece p ≡ true) IsLong long_keyword_piece front_pieces (passing_from_all is_two is_keyword_piece (after_attributes ps))) in
     let ends = until_block (a ++ front_pieces) rest long s in (
       record {
         written = record { attributes = a; keywords = k.written };
@@ -166,7 +166,7 @@ not_attribute p h = false_from_ne_true _ (λ a. let l = length-attribute p a in 
 record NoneGoOn (rest : List (List ℕ)) : Type 0 where
   attribute : EndsBefore (is_word Attribute) rest
   keyword_piece : EndsBefore is_keyword_piece rest
-  two_bytes : EndsBefore has_two_bytes rest
+  two_bytes : EndsBefore is_two rest
 
 block_ends : (rest : List (List ℕ)) → starts_block rest ≡ true → NoneGoOn rest
 block_ends [] e = record { attribute = tt; keyword_piece = tt; two_bytes = tt }
@@ -183,11 +183,11 @@ or_true : (b : Bool) → (b || true) ≡ true
 or_true true = refl
 or_true false = refl
 
-two_bytes_of : (p : List ℕ) → IsWord UnicodeKey p → has_two_bytes p ≡ true
+two_bytes_of : (p : List ℕ) → IsWord UnicodeKey p → is_two p ≡ true
 two_bytes_of p k = ap (λ n. n == 2) (length-unicode_key p k)
 
 value_goes_on : (p : List ℕ) → IsWord Attribute p → is_keyword_piece p ≡ true
-value_goes_on p w = ap (λ b. has_two_bytes p || b) w ∙ or_true (has_two_bytes p)
+value_goes_on p w = ap (λ b. is_two p || b) w ∙ or_true (is_two p)
 
 keyword_goes_on : (f : List ℕ × List (List ℕ)) → IsKeyword f → (is_keyword_piece f.0 ≡ true) × AllByRecursion (λ p. is_keyword_piece p ≡ true) f.1
 keyword_goes_on f r = (ap (λ b. b || is_word Attribute f.0) (two_bytes_of f.0 r.0), all_weaker (IsWord Attribute) (λ p. is_keyword_piece p ≡ true) value_goes_on f.1 r.1)
@@ -213,9 +213,9 @@ unicode_spelled w rest g e = subst (λ (l : List (List ℕ)). UnicodeRead l (nor
     after = past_stops (is_word Attribute) w.attributes (fields_pieces w.keywords ++ rest) g.attributes (stops w.keywords g.keywords)
 
     stop : (keywords_front (fields_pieces w.keywords ++ rest) ≡ fields_pieces w.keywords) × (after_keywords (fields_pieces w.keywords ++ rest) ≡ rest)
-    stop = fields_stop has_two_bytes is_keyword_piece w.keywords rest
+    stop = fields_stop is_two is_keyword_piece w.keywords rest
         (pieces_pass is_keyword_piece w.keywords (all_weaker IsKeyword (λ f. (is_keyword_piece f.0 ≡ true) × AllByRecursion (λ p. is_keyword_piece p ≡ true) f.1) keyword_goes_on w.keywords g.keywords))
-        (all_weaker IsKeyword (λ f. has_two_bytes f.0 ≡ true) (λ f r. two_bytes_of f.0 r.0) w.keywords g.keywords)
+        (all_weaker IsKeyword (λ f. is_two f.0 ≡ true) (λ f r. two_bytes_of f.0 r.0) w.keywords g.keywords)
         none.keyword_piece none.two_bytes refl
 
     either_pieces : (n : ℕ) (fs : Fields) → 0 < n + length fs → 0 < n + length (fields_pieces fs)

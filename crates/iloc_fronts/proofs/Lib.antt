@@ -4,7 +4,6 @@ pub mod ReaderLaws
 pub mod FrontLaws
 pub mod TransformLaws
 pub mod PartLaws
-pub mod IdentifierFaults
 pub mod ValueLaws
 pub mod ExtendingLaws
 pub mod BlockRules

@@ -8,18 +8,18 @@ use Rattle.iloc_grammar.specs.Written.{Identifier, Fields, Transform, transform,
 use Rattle.iloc_grammar.specs.Meaning.{normal_transform}
 use Rattle.iloc_grammar.specs.Faults.{Fault, InvalidSubtag, first_piece, front, RepeatsVariant}
 use Rattle.iloc_grammar.specs.ByBlocks.{TransformMeans}
-use Rattle.iloc_grammar.specs.Reading.{IdentifierFront, EndsBefore, starts_block, from_block, front_of, after_front}
+use Rattle.iloc_grammar.specs.Reading.{IdentifierFront, EndsBefore, starts_block, from_block, front_of, after_front, identifier_of, fields_from}
 use Rattle.iloc_grammar.proofs.WordsLaws.{length-language, region_no_script, length-transform_key, length-attribute}
 use Rattle.iloc_grammar.proofs.ValuesLaws.{all_weaker, all_both}
-use Rattle.iloc_grammar.proofs.IdentifierLaws.{identifier_of, pieces-identifier_of, one_identifier}
-use Rattle.iloc_grammar.proofs.Readings.{IsLong, IsNoKey, after_language, long_after_language, long_extension, identifier_no_key, language_no_key, fields_pass}
+use Rattle.iloc_grammar.proofs.IdentifierLaws.{pieces-identifier_of, one_identifier}
+use Rattle.iloc_grammar.proofs.Readings.{IsLong, IsNoKey, after_language, long_after_language, long_extension, identifier_no_key, language_no_key, fields_pass, fields_read}
 use Rattle.iloc_grammar.proofs.ReadingLaws.{front_is_front, front-from_block, from_block_starts}
 use Rattle.iloc_grammar.proofs.FaultLaws.{some_repeat, front_variants, after_variants, front_are_variants, front_longest, read_longer, cut_identifier, repeats_longer, language_of, script_of, region_of, spell_cut}
 use Rattle.iloc_fronts.specs.Readers.{IsReader, AgreesWithBlocks}
 use Rattle.iloc_fronts.specs.Fronts.{FrontRead, absent, present, is_field_piece, fields_front, after_fields, TransformRead, TransformFault, repeats, unread}
-use Rattle.iloc_fronts.specs.Computing.{fields_from, fields_at, has_value, fields_result, all_different, transform_result}
+use Rattle.iloc_fronts.specs.Computing.{fields_at, has_value, fields_result, all_different, transform_result}
 use Rattle.iloc_fronts.proofs.ListTests.{all_from, all_to}
-use Rattle.iloc_fronts.proofs.FieldLaws.{all_from_pieces, passing_from_all, fields_read, front_of_fields, fields_words, fields_stop, pieces_pass}
+use Rattle.iloc_fronts.proofs.FieldLaws.{all_from_pieces, passing_from_all, front_of_fields, fields_words, fields_stop, pieces_pass}
 use Rattle.iloc_fronts.proofs.ReaderLaws.{reader_of, agreeing, until_block, Answers}
 
 -- two lists of one whole

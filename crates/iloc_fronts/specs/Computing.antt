@@ -6,23 +6,13 @@ use Rattle.iloc_grammar.specs.Words.{Language, TransformKey, PrivateSubtag, is_w
 use Rattle.iloc_grammar.specs.Written.{Identifier, Fields, Unicode, Transform, kept}
 use Rattle.iloc_grammar.specs.Meaning.{normal_fields, normal_transform}
 use Rattle.iloc_grammar.specs.Faults.{Fault, InvalidSubtag, InvalidExtension, first_piece}
-use Rattle.iloc_grammar.specs.Reading.{past, front_of, after_front}
-use Rattle.iloc_fronts.specs.Fronts.{is_bad_key, has_two_bytes, keywords_front, after_keywords, attributes_front, after_attributes, attributes_read, fields_front, after_fields, has_other_length, other_front}
-
--- the pieces before the first key
-abbrev pub before_key : (List ℕ → Bool) → List (List ℕ) → List (List ℕ)
-before_key is_key [] = []
-before_key is_key (p ∷ ps) = if is_key p then [] else p ∷ before_key is_key ps
-
--- each key with the pieces before the next
-abbrev pub fields_from : (List ℕ → Bool) → List (List ℕ) → Fields
-fields_from is_key [] = []
-fields_from is_key (p ∷ ps) = if is_key p then (p, before_key is_key ps) ∷ fields_from is_key ps else fields_from is_key ps
+use Rattle.iloc_grammar.specs.Reading.{past, front_of, after_front, is_two, fields_from}
+use Rattle.iloc_fronts.specs.Fronts.{is_bad_key, keywords_front, after_keywords, attributes_front, after_attributes, attributes_read, fields_front, after_fields, has_other_length, other_front}
 
 -- the keywords and the fields at the front, as they are written
 
 abbrev pub keywords_at : List (List ℕ) → Fields
-keywords_at ps = fields_from has_two_bytes (keywords_front ps)
+keywords_at ps = fields_from is_two (keywords_front ps)
 
 abbrev pub fields_at : List (List ℕ) → Fields
 fields_at ps = fields_from (is_word TransformKey) (fields_front ps)

@@ -1,15 +1,14 @@
 -- What the readers of single parts take from the front of the pieces after a singleton, and what they leave.
 -- The parts are those of UTS #35 (attributes and keywords after `u`, language and fields after `t`, and so on);
 -- that a part may be read alone, and that the rest of the text is then ignored, is this project's rule.
-use Rattle.std.specs.Prelude.{◌≡◌, ℕ, ◌+◌, ◌<◌, Bool, true, false, not, ◌&&◌, ◌||◌, ◌==◌, List, [], length, map, if◌then◌else◌, Option, Some, None}
+use Rattle.std.specs.Prelude.{◌≡◌, ℕ, ◌+◌, ◌<◌, Bool, true, false, not, ◌&&◌, ◌||◌, List, [], length, map, if◌then◌else◌, Option, Some, None}
 use Rattle.std.specs.Int.{is_in_range}
 use Rattle.std.specs.List.{AllByRecursion, list_any}
-use Rattle.iloc_grammar.specs.Pieces.{pieces}
-use Rattle.iloc_grammar.specs.Words.{Language, UnicodeKey, TransformKey, Attribute, is_word, IsWord, lower}
+use Rattle.iloc_grammar.specs.Words.{Language, UnicodeKey, TransformKey, Attribute, is_word, lower}
 use Rattle.iloc_grammar.specs.Written.{Identifier, Fields, Unicode, Transform, fields_pieces, IsKeyword, IsField, IsOther, IsPrivate, IsIdentifier, kept}
-use Rattle.iloc_grammar.specs.Meaning.{set_of, normal_fields, normal_transform, IdentifierMeans}
-use Rattle.iloc_grammar.specs.Reading.{passing, past, IdentifierFront}
-use Rattle.iloc_grammar.specs.Faults.{Fault, InvalidLanguage, InvalidSubtag, InvalidExtension, head, first_piece, RepeatsVariant}
+use Rattle.iloc_grammar.specs.Meaning.{set_of, normal_fields, normal_transform}
+use Rattle.iloc_grammar.specs.Reading.{passing, past, is_two, IdentifierFront}
+use Rattle.iloc_grammar.specs.Faults.{Fault, InvalidSubtag, InvalidExtension, first_piece, RepeatsVariant}
 
 -- the longest front whose pieces pass the test, but nothing where the first piece doesn't pass the first test
 abbrev pub passing_from : (List ℕ → Bool) → (List ℕ → Bool) → List (List ℕ) → List (List ℕ)
@@ -18,17 +17,6 @@ passing_from first test ps = if first (first_piece ps) then passing test ps else
 -- and what is left after it
 abbrev pub past_from : (List ℕ → Bool) → (List ℕ → Bool) → List (List ℕ) → List (List ℕ)
 past_from first test ps = if first (first_piece ps) then past test ps else ps
-
--- Identifiers, which are read whole.
-
--- why the pieces are no identifier
-pub data HasIdentifierFault (T : ℕ → Bool) (ps : List (List ℕ)) : Fault → Type 0 where
-  no_language : is_word (Language T) (first_piece ps) ≡ false → HasIdentifierFault T ps InvalidLanguage
-  no_identifier : IsWord (Language T) (first_piece ps) → ((i : Identifier) → ¬ (IdentifierMeans T ps i)) → HasIdentifierFault T ps InvalidSubtag
-
--- the identifier at the front of a locale's text
-abbrev pub LocaleBytesMean : (ℕ → Bool) → List ℕ → Identifier → Type 0
-LocaleBytesMean T t i = IdentifierMeans T (head (pieces t)) i
 
 -- After `u`: attributes, as many as there are.
 
@@ -44,17 +32,14 @@ attributes_read ps = set_of (map lower (attributes_front ps))
 
 -- Then keywords, which begin with a piece of two bytes and go on with such pieces and with 3 to 8 letters or digits.
 
-abbrev pub has_two_bytes : List ℕ → Bool
-has_two_bytes p = length p == 2
-
 abbrev pub is_keyword_piece : List ℕ → Bool
-is_keyword_piece p = has_two_bytes p || is_word Attribute p
+is_keyword_piece p = is_two p || is_word Attribute p
 
 abbrev pub keywords_front : List (List ℕ) → List (List ℕ)
-keywords_front ps = passing_from has_two_bytes is_keyword_piece ps
+keywords_front ps = passing_from is_two is_keyword_piece ps
 
 abbrev pub after_keywords : List (List ℕ) → List (List ℕ)
-after_keywords ps = past_from has_two_bytes is_keyword_piece ps
+after_keywords ps = past_from is_two is_keyword_piece ps
 
 -- the front spells keywords, which mean m
 pub record KeywordsRead (ps : List (List ℕ)) (m : Fields) (rest : List (List ℕ)) : Type 0 where
@@ -66,7 +51,7 @@ pub record KeywordsRead (ps : List (List ℕ)) (m : Fields) (rest : List (List �
 
 -- a piece of two bytes that is no key
 abbrev pub is_bad_key : List ℕ → Bool
-is_bad_key p = has_two_bytes p && not (is_word UnicodeKey p)
+is_bad_key p = is_two p && not (is_word UnicodeKey p)
 
 pub data KeywordsFault (ps : List (List ℕ)) : Fault → Type 0 where
   bad_key : list_any is_bad_key (keywords_front ps) ≡ true → KeywordsFault ps InvalidExtension

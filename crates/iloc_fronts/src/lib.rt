@@ -1,33 +1,24 @@
 //! What the readers of single parts take from the front of a text.
 //!
-//! For identifiers and for the parts of `u`, `t`, other singletons and `x` a relation says what is read
+//! For the parts of `u`, `t`, other singletons and `x` a relation says what is read
 //! and what is left, and another when nothing is; each is proved to have one answer, and to agree with the
 //! rules of blocks where nothing is left. It stands on `iloc_grammar`.
 #![tactic(auto)]
 
-ghost use Rattle.std.specs.Prelude.{◌≡◌, ◌↔◌, ◌⊎◌, ℕ, Bool, true, false, List, ◌∷◌, ◌++◌, Ok, MatchResult};
+ghost use Rattle.std.specs.Prelude.{◌≡◌, ◌↔◌, ℕ, Bool, true, false, List, Ok, MatchResult};
 ghost use Rattle.std.specs.List.{AllByRecursion};
-ghost use Rattle.iloc_grammar.specs.Pieces.{pieces, join};
+ghost use Rattle.iloc_grammar.specs.Pieces.{join};
 ghost use Rattle.iloc_grammar.specs.Words.{IsTable, Subtag, Attribute, is_true};
-ghost use Rattle.iloc_grammar.specs.Written.{Identifier, Unicode, Transform, IsOther, IsPrivate, is_other_singleton, singleton};
-ghost use Rattle.iloc_grammar.specs.Meaning.{IdentifierMeans};
+ghost use Rattle.iloc_grammar.specs.Written.{Unicode, Transform, IsOther, IsPrivate, is_other_singleton, singleton};
 ghost use Rattle.iloc_grammar.specs.Values.{IsNormal, spelled_value};
-ghost use Rattle.iloc_grammar.specs.Faults.{Fault, IsBlock, RepeatsVariant, head, front};
+ghost use Rattle.iloc_grammar.specs.Faults.{IsBlock, RepeatsVariant, front};
 ghost use Rattle.iloc_grammar.specs.ByBlocks.{UnicodeMeans, TransformMeans};
 ghost use Rattle.iloc_fronts.specs.Readers.{IsReader, AgreesWithBlocks};
-ghost use Rattle.iloc_fronts.specs.Fronts.{HasIdentifierFault, LocaleBytesMean, KeywordsRead, KeywordsFault, UnicodeRead, UnicodeFault, TransformRead, TransformFault, OtherRead, OtherFault, OtherMeans, PrivateRead, PrivateFault};
+ghost use Rattle.iloc_fronts.specs.Fronts.{KeywordsRead, KeywordsFault, UnicodeRead, UnicodeFault, TransformRead, TransformFault, OtherRead, OtherFault, OtherMeans, PrivateRead, PrivateFault};
 ghost use Rattle.iloc_fronts.specs.Parts.{PartRead, PartFault, is_letter};
 ghost use Rattle.iloc_fronts.specs.PartValues.{unicode_value, transform_value};
 ghost use Rattle.iloc_fronts.specs.Computing.{keywords_result, unicode_result, transform_result, other_result, private_result};
 ghost use Rattle.iloc_fronts.specs.Extending.{extend};
-
-/// Each text is an identifier or has a fault, never both, and one fault at most.
-pub fn identifier_or_one_fault()
-    ensures either { (T : ℕ → Bool) (t : List ℕ) → ((i : Identifier) × IdentifierMeans T (pieces t) i) ⊎ ((f : Fault) × HasIdentifierFault T (pieces t) f) }
-    ensures head { (T : ℕ → Bool) (t : List ℕ) → ((i : Identifier) × LocaleBytesMean T t i) ⊎ ((f : Fault) × HasIdentifierFault T (head (pieces t)) f) }
-    ensures apart { (T : ℕ → Bool) (ps : List (List ℕ)) (i : Identifier) (f : Fault) → IdentifierMeans T ps i → HasIdentifierFault T ps f → ⊥ }
-    ensures one { (T : ℕ → Bool) (ps : List (List ℕ)) (f g : Fault) → HasIdentifierFault T ps f → HasIdentifierFault T ps g → f ≡ g }
-{}
 
 /// Keywords are read from the front, or a piece of two bytes there is no key; and a plain program says which.
 pub fn keywords_front()
