@@ -4,7 +4,7 @@
 //! It stands on `iloc_grammar`.
 #![tactic(auto)]
 
-ghost use Rattle.std.specs.Prelude.{◌≡◌, ◌⊎◌, ℕ, Bool, true, List};
+ghost use Rattle.std.specs.Prelude.{◌≡◌, ◌⊎◌, ℕ, Bool, true, List, MatchResult};
 ghost use Rattle.iloc_grammar.specs.Pieces.{pieces};
 ghost use Rattle.iloc_grammar.specs.Words.{IsTable};
 ghost use Rattle.iloc_grammar.specs.Meaning.{Means, IdentifierMeans};
