@@ -4,6 +4,8 @@
 //! lists, pieces and printing.
 #![tactic(auto)]
 
+pub mod reader;
 pub mod value;
 
+pub use reader::read_value;
 pub use value::Value;

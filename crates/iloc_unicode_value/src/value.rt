@@ -1,6 +1,7 @@
 //! A list of subtags.
-ghost use Rattle.std.specs.Prelude.{◌≡◌, ◌<◌, ◌↔◌, ℕ, List, [], ◌∷◌, ◌++◌, length, remove, slice_get, OnOk, OnErr, IfOk, IsOk, IsTrue, true, Ok, option_to_list};
+ghost use Rattle.std.specs.Prelude.{◌≡◌, ◌<◌, ◌≤◌, ◌↔◌, ℕ, List, [], ◌∷◌, ◌++◌, length, remove, take, slice_get, OnOk, OnErr, IfOk, IsOk, IsTrue, true, Ok, option_to_list};
 ghost use Rattle.std.specs.List.{AllByRecursion};
+ghost use Rattle.std.specs.Iterator.{IsFinite, Drains};
 ghost use Rattle.std.specs.Option.{option_copied};
 ghost use Rattle.iloc_grammar.specs.Words.{Subtag, is_true};
 ghost use Rattle.iloc_grammar.specs.Values.{IsNormal};
@@ -13,7 +14,7 @@ use std::alloc::{AllocError, Global};
 use std::marker::Model;
 
 /// The value of a keyword: a list of subtags. The empty value stands for `true`.
-#[derive(Drop)]
+#[derive(Drop, PartialEq, Eq, PartialOrd, Ord, Hash)]
 pub struct Value {
     subtags: ShortWords<Subtag>,
 }
@@ -128,6 +129,93 @@ impl Value {
             _ => Value::new_empty(),
         }
     }
+
+    /// The value of these two subtags; `true` is let in. It takes no memory.
+    pub fn from_two_subtags(alloc: Global, f: Subtag, s: Subtag) -> Result<Self, AllocError>
+        ensures { result ≡ Ok (f ∷ s ∷ []) }
+    {
+        let mut value = Value::new_empty();
+        value.add(alloc, f)?;
+        value.add(alloc, s)?;
+        Ok(value)
+    }
+
+    /// The value of these subtags; `true` is let in.
+    pub fn from_vec_unchecked(input: Vec<Subtag>) -> Self
+        ensures { result ≡ input.items }
+    {
+        are_normal(input.as_slice());
+        Value {
+            subtags: ShortWords::from_vec(input),
+        }
+    }
+
+    /// The value of the items; `true` is let in.
+    pub fn from_subtags<I: IntoIterator<Item = Subtag>>(
+        alloc: Global,
+        iter: I,
+    ) -> Result<Self, AllocError>
+    where
+        I::IntoIter: Drop,
+        requires { (it : I.IntoIter) → I.into_iter_gives iter it → I.IntoIter.can_next it × IsFinite (I.IntoIter.remaining it) }
+        ensures { IfOk result (λ v. (it : I.IntoIter) × I.into_iter_gives iter it × Drains I.IntoIter.next_gives it v) }
+    {
+        let mut value = Value::new_empty();
+        value.extend(alloc, iter)?;
+        Ok(value)
+    }
+
+    /// Adds the items at the end; `true` is let in. Where memory is refused, nothing changes.
+    pub fn extend<I: IntoIterator<Item = Subtag>>(
+        &mut self,
+        alloc: Global,
+        iter: I,
+    ) -> Result<(), AllocError>
+    where
+        I::IntoIter: Drop,
+        requires { (it : I.IntoIter) → I.into_iter_gives iter it → I.IntoIter.can_next it × IsFinite (I.IntoIter.remaining it) }
+        ensures ok { OnOk result ((it : I.IntoIter) × (xs : List (List ℕ)) × I.into_iter_gives iter it × Drains I.IntoIter.next_gives it xs × (self.new ≡ self.old ++ xs)) }
+        ensures err { OnErr result (self.new ≡ self.old) }
+    {
+        let before = self.subtag_count();
+        for subtag in iter {
+            if self.add(alloc, subtag).is_err() {
+                self.cut(before);
+                return Err(AllocError);
+            }
+        }
+        Ok(())
+    }
+
+    // Adds a subtag at the end, `true` too.
+    fn add(&mut self, alloc: Global, subtag: Subtag) -> Result<(), AllocError>
+        ensures ok { OnOk result (self.new ≡ self.old ++ subtag ∷ []) }
+        ensures err { OnErr result (self.new ≡ self.old) }
+        ensures succeeds { length self.old < 4 → IsOk result }
+    {
+        let _ = subtag.as_str();
+        self.subtags.push(alloc, subtag)
+    }
+
+    // Keeps the first subtags.
+    fn cut(&mut self, count: usize)
+        requires { count ≤ length self.old }
+        ensures { self.new ≡ take count self.old }
+    {
+        while self.subtag_count() > count {
+            let last = self.subtag_count() - 1;
+            self.remove_subtag(last);
+        }
+    }
+}
+
+// Each subtag is a normal word, as the type of each says.
+fn are_normal(subtags: &[Subtag])
+    ensures { AllByRecursion (IsNormal Subtag) subtags.now }
+{
+    for subtag in subtags {
+        let _ = subtag.as_str();
+    }
 }
 
 /// Whether the subtag is `true`.
@@ -146,6 +234,18 @@ impl Clone for Value {
         Ok(Value {
             subtags: self.subtags.clone()?,
         })
+    }
+}
+
+impl IntoIterator for Value {
+    type Item = Subtag;
+
+    type IntoIter = ShortWordsIntoIter<Subtag>;
+
+    ghost into_iter_gives = { λ value it. it ≡ value };
+
+    fn into_iter(self) -> ShortWordsIntoIter<Subtag> {
+        self.subtags.into_iter()
     }
 }
 
