@@ -8,3 +8,4 @@ pub mod ByBlocks
 pub mod Steps
 pub mod Reading
 pub mod Computing
+pub mod Examples
