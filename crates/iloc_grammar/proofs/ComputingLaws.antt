@@ -1,5 +1,5 @@
 -- The answers of the plain programs are the meaning and the fault of a text.
-use Rattle.std.proofs.Common.{◌≡◌, ℕ, Bool, true, false, cond, not, ◌&&◌, ◌==◌, List, [], ◌∷◌, map, refl, sym, ap, ◌∙◌, subst, Option, Some, None, Result, Ok, Err, true≢false, ◌↔◌}
+use Rattle.std.proofs.Common.{◌≡◌, ℕ, Bool, true, false, cond, not, ◌&&◌, ◌==◌, List, [], ◌∷◌, map, refl, sym, ap, ◌∙◌, subst, Option, Some, None, Result, Ok, Err, MatchResult, true≢false, ◌↔◌}
 use Rattle.std.specs.List.{list_any}
 use Rattle.std.specs.Char.{is_ascii_alphanumeric}
 use Rattle.std.specs.Ordering.{nat_cmp, eq_by_cmp}
@@ -67,9 +67,8 @@ found T seen (b ∷ bs) = at_tests (is_ascii_alphanumeric b.0) refl (list_any (e
 
 -- whole texts
 
-abbrev Answers : (ℕ → Bool) → List ℕ → Result Locale Fault → Type 0
-Answers T t (Ok M) = Means T t M
-Answers T t (Err f) = HasFault T t f
+abbrev pub Answers : (ℕ → Bool) → List ℕ → Result Locale Fault → Type 0
+Answers T t r = MatchResult r (Means T t) (HasFault T t)
 
 -- what is read of a text is what any meaning of it is a meaning of
 pub read_means : (T : ℕ → Bool) → IsTable T → (t : List ℕ) (M : Locale) → Means T t M → meaning (written_of (pieces t)) ≡ M
@@ -113,9 +112,8 @@ computed_fault T table t f = (λ e. subst (Answers T t) e (locale_answers T tabl
 
 -- identifiers
 
-abbrev IdentifierAnswers : (ℕ → Bool) → List (List ℕ) → Result Identifier Fault → Type 0
-IdentifierAnswers T ps (Ok i) = IdentifierMeans T ps i
-IdentifierAnswers T ps (Err f) = HasIdentifierFault T ps f
+abbrev pub IdentifierAnswers : (ℕ → Bool) → List (List ℕ) → Result Identifier Fault → Type 0
+IdentifierAnswers T ps r = MatchResult r (IdentifierMeans T ps) (HasIdentifierFault T ps)
 
 pub identifier_answers : (T : ℕ → Bool) (p : List ℕ) (ps : List (List ℕ)) → IdentifierAnswers T (p ∷ ps) (identifier_result T (p ∷ ps))
 identifier_answers T p ps = at_tests (is_word (Language T) p) refl (is_identifier T (identifier_of (p ∷ ps))) refl
