@@ -1,1 +1,3 @@
 pub mod TakingLemmas
+pub mod OtherLemmas
+pub mod BlockLemmas

@@ -1,10 +1,10 @@
--- What the readers of the private extension answer.
-use Rattle.std.specs.Prelude.{ℕ, ◌<◌, List, length, Result, Ok, Err}
+-- What the readers of the private extension and of other extensions answer.
+use Rattle.std.specs.Prelude.{◌≡◌, ℕ, ◌<◌, List, length, Result, Ok, Err}
 use Rattle.iloc_grammar.specs.Pieces.{pieces}
 use Rattle.iloc_grammar.specs.Words.{PrivateSubtag, is_word}
-use Rattle.iloc_grammar.specs.Written.{IsPrivate}
+use Rattle.iloc_grammar.specs.Written.{IsOther, IsPrivate, kept}
 use Rattle.iloc_grammar.specs.Reading.{passing, rest_of}
-use Rattle.iloc_fronts.specs.Fronts.{PrivateRead, ReadsPrivate}
+use Rattle.iloc_fronts.specs.Fronts.{OtherRead, PrivateRead, ReadsOther, ReadsPrivate, other_front}
 use Rattle.iloc_subtags.specs.declared.parse_error.ParseError.{ParseError}
 use Rattle.iloc_subtags.specs.declared.parse_error.ParseError.TheVariants.{InvalidLanguage, InvalidSubtag, InvalidExtension, DuplicatedExtension, OutOfMemory}
 
@@ -29,3 +29,21 @@ PrivateTextReads t (Err OutOfMemory) = 4 < length (private_front (rest_of (piece
 PrivateTextReads t (Err InvalidLanguage) = ⊥
 PrivateTextReads t (Err InvalidSubtag) = ⊥
 PrivateTextReads t (Err DuplicatedExtension) = ⊥
+
+-- what the pieces after another singleton are read as, and the pieces that are left. Memory is wanted only for a fifth word.
+abbrev pub OtherReads : ℕ → List (List ℕ) → List (List ℕ) → Result (ℕ × List (List ℕ)) ParseError → Type 0
+OtherReads ext ps rest (Ok o) = (o.0 ≡ ext) × OtherRead ps o.1 rest
+OtherReads ext ps rest (Err InvalidExtension) = ¬ (IsOther (other_front ps))
+OtherReads ext ps rest (Err OutOfMemory) = 4 < length (kept (other_front ps))
+OtherReads ext ps rest (Err InvalidLanguage) = ⊥
+OtherReads ext ps rest (Err InvalidSubtag) = ⊥
+OtherReads ext ps rest (Err DuplicatedExtension) = ⊥
+
+-- what a text is read as
+abbrev pub OtherTextReads : List ℕ → Result (ℕ × List (List ℕ)) ParseError → Type 0
+OtherTextReads t (Ok o) = ReadsOther t o
+OtherTextReads t (Err InvalidExtension) = (o : ℕ × List (List ℕ)) → ¬ (ReadsOther t o)
+OtherTextReads t (Err OutOfMemory) = 4 < length (kept (other_front (rest_of (pieces t))))
+OtherTextReads t (Err InvalidLanguage) = ⊥
+OtherTextReads t (Err InvalidSubtag) = ⊥
+OtherTextReads t (Err DuplicatedExtension) = ⊥

@@ -1,0 +1,10 @@
+use Rattle.std.proofs.Common.{◌∙◌}
+use Rattle.iloc_parser.specs.Left.{left}
+use Rattle.iloc_other.proofs.OtherLemmas.{takes_piece}
+use Rattle.iloc_other.proofs.other.Other.try_from_iter.Goals as goal
+
+pub pieces-preserved : goal.pieces-preserved
+pieces-preserved c = record {
+  singleton = c.push_word.ensures.singleton ∙ c.pieces.invariant.singleton;
+  words = takes_piece (left c.args.iter.now) (left c.pieces.iter) c.pieces.other.1 c.in-Some.piece.now (left c.take_piece.new.iter) c.push_word.new.self.1 c.pieces.invariant.words c.in-Some.ensures.piece c.in-Some.ensures.rest c.in_ok-push_word.ensures.ok;
+}

@@ -1,0 +1,179 @@
+//! The extensions that are neither unicode, transform nor private.
+ghost use Rattle.std.specs.Prelude.{◌≡◌, ◌<◌, ◌++◌, ◌∷◌, [], length, true, OnOk, IfErr, IsOk, if◌then◌else◌};
+ghost use Rattle.std.specs.Char.{is_ascii_alphanumeric};
+ghost use Rattle.std.specs.List.{AllByRecursion};
+ghost use Rattle.std.specs.Option.{option_copied};
+ghost use Rattle.iloc_grammar.specs.Words.{Subtag as the_kind, is_word, lower};
+ghost use Rattle.iloc_grammar.specs.Written.{is_other_singleton};
+ghost use Rattle.iloc_grammar.specs.Reading.{take_first, skip_first};
+ghost use Rattle.iloc_grammar.specs.Values.{IsNormal};
+ghost use Rattle.iloc_fronts.specs.Fronts.{has_other_length};
+ghost use Rattle.iloc_parser.specs.Left.{left};
+ghost use Rattle.iloc_other.specs.Reading.{OtherReads, OtherTextReads};
+
+use crate::words::are_normal;
+use iloc_parser::SubtagIterator;
+use iloc_shortvec::ShortWords;
+use iloc_subtags::{ParseError, Subtag};
+use std::alloc::Global;
+use std::marker::Model;
+use std::slice;
+
+/// Any other extension: its singleton byte, kept as given, and a list of subtags.
+#[derive(Drop, PartialEq, Eq, Hash)]
+pub struct Other {
+    ext: u8,
+    keys: ShortWords<Subtag>,
+}
+
+impl Model for Other {
+    ghost use Rattle.std.specs.Prelude.{◌≡◌, List, ℕ, true};
+    ghost use Rattle.std.specs.Char.{is_ascii_alphanumeric};
+    ghost use Rattle.std.specs.List.{AllByRecursion};
+    ghost use Rattle.iloc_grammar.specs.Values.{IsNormal};
+    ghost use Rattle.iloc_grammar.specs.Words.{Subtag as the_kind};
+
+    ghost Value = { ℕ × List (List ℕ) };
+
+    ghost view = { λ o. (o.ext, o.keys) };
+
+    ghost invariant = { λ o. (is_ascii_alphanumeric o.ext ≡ true) × AllByRecursion (IsNormal the_kind) o.keys };
+
+    ghost inverse = { λ o. record { ext = o.0; keys = o.1 } };
+}
+
+impl Other {
+    /// The extension of these words, under this singleton.
+    ///
+    /// It needs an ASCII letter or digit, which is kept as it is, in its own case.
+    pub fn from_vec_unchecked(ext: u8, keys: Vec<Subtag>) -> Self
+        requires { is_ascii_alphanumeric ext ≡ true }
+        ensures singleton { result.0 ≡ ext }
+        ensures keys { result.1 ≡ keys.items }
+    {
+        are_normal(keys.as_slice());
+        Other {
+            ext,
+            keys: ShortWords::from_vec(keys),
+        }
+    }
+
+    /// The singleton as text.
+    pub fn get_ext_str(&self) -> &str
+        ensures { result.now ≡ self.now.0 ∷ [] }
+    {
+        match str::from_utf8(slice::from_ref(&self.ext)) {
+            Ok(text) => text,
+            Err(_) => unreachable!(),
+        }
+    }
+
+    /// The singleton as a character.
+    pub fn get_ext(&self) -> char
+        ensures { result ≡ self.now.0 }
+    {
+        self.ext as char
+    }
+
+    /// The singleton as a byte.
+    pub fn get_ext_byte(&self) -> u8
+        ensures singleton { result ≡ self.now.0 }
+        ensures letter_or_digit { is_ascii_alphanumeric self.now.0 ≡ true }
+    {
+        self.ext
+    }
+
+    /// The subtags in list order.
+    pub fn as_slice(&self) -> &[Subtag]
+        ensures words { result.now ≡ self.now.1 }
+        ensures normal { AllByRecursion (IsNormal the_kind) self.now.1 }
+    {
+        self.keys.as_slice()
+    }
+
+    /// Reads a singleton other than `t`, `u` and `x`, in either case, and then the longest front of
+    /// pieces of 2 to 8 bytes, of which it keeps those that are all letters or digits. What follows is
+    /// ignored.
+    ///
+    /// These are the other extensions of UTS #35, section 3.1, which has no pieces to drop. Anything
+    /// else is refused with `InvalidExtension`, also where no word is kept. `OutOfMemory` comes only
+    /// where more than four are.
+    pub fn try_from_utf8(alloc: Global, code_units: &[u8]) -> Result<Self, ParseError>
+        ensures { OtherTextReads code_units.now result }
+    {
+        let mut iter = SubtagIterator::new(code_units);
+        let Some([byte]) = iter.next() else {
+            return Err(ParseError::InvalidExtension);
+        };
+        let ext = byte.to_ascii_lowercase();
+        if !is_other_ext(ext) {
+            return Err(ParseError::InvalidExtension);
+        }
+        Other::try_from_iter(alloc, ext, &mut iter)
+    }
+
+    /// The same on a text.
+    pub fn try_from_str(alloc: Global, s: &str) -> Result<Self, ParseError>
+        ensures { OtherTextReads s.now result }
+    {
+        Self::try_from_utf8(alloc, s.as_bytes())
+    }
+
+    /// Reads what follows the singleton, and leaves what no such extension takes.
+    pub fn try_from_iter(
+        alloc: Global,
+        ext: u8,
+        iter: &mut SubtagIterator<'_>,
+    ) -> Result<Self, ParseError>
+        requires { is_ascii_alphanumeric ext ≡ true }
+        ensures { OtherReads ext (left iter.old) (left iter.new) result }
+    {
+        let mut other = Other {
+            ext,
+            keys: ShortWords::new(),
+        };
+        'pieces: while let Some(piece) = take_piece(iter) {
+            other.push_word(alloc, piece)?;
+        }
+        if other.as_slice().is_empty() {
+            return Err(ParseError::InvalidExtension);
+        }
+        Ok(other)
+    }
+
+    // Adds the piece at the end where it is a word. Up to four take no memory.
+    fn push_word(&mut self, alloc: Global, piece: &[u8]) -> Result<(), ParseError>
+        ensures singleton { self.new.0 ≡ self.old.0 }
+        ensures ok { OnOk result (self.new.1 ≡ (if is_word the_kind piece.now then self.old.1 ++ lower piece.now ∷ [] else self.old.1)) }
+        ensures err { IfErr result (λ e. (e ≡ ParseError.OutOfMemory) × (is_word the_kind piece.now ≡ true)) }
+        ensures succeeds { length self.old.1 < 4 → IsOk result }
+    {
+        let Ok(key) = Subtag::try_from_utf8(piece) else {
+            return Ok(());
+        };
+        let _ = key.as_str();
+        self.keys
+            .push(alloc, key)
+            .map_err(|_| ParseError::OutOfMemory)
+    }
+}
+
+/// Whether a singleton, in lower case, is neither that of `t`, `u` nor `x`.
+fn is_other_ext(ext: u8) -> bool
+    ensures { result ≡ is_other_singleton ext }
+{
+    ext.is_ascii_alphanumeric() && !matches!(ext, b't' | b'u' | b'x')
+}
+
+/// Takes the next piece where it has 2 to 8 bytes; else nothing is taken.
+fn take_piece<'a>(iter: &mut SubtagIterator<'a>) -> Option<&'a [u8]>
+    ensures piece { option_copied result ≡ take_first has_other_length (left iter.old) }
+    ensures rest { left iter.new ≡ skip_first has_other_length (left iter.old) }
+{
+    let piece = iter.peek()?;
+    if piece.len() < 2 || 8 < piece.len() {
+        return None;
+    }
+    iter.next();
+    Some(piece)
+}
