@@ -1,114 +1,37 @@
--- What is read from the front of the pieces is determined, and of a whole block it is what the block means.
-use Rattle.std.proofs.Common.{◌≡◌, ◌⊎◌, inl, inr, ℕ, ◌+◌, ◌<◌, ◌≤◌, Bool, true, false, not, cond, ◌&&◌, ◌||◌, ◌==◌, List, [], ◌∷◌, ◌++◌, length, length-append, map, refl, sym, ap, ap₂, ◌∙◌, subst, arith, true≢false, append_assoc}
-use Rattle.std.specs.List.{AllByRecursion, list_any}
-use Rattle.std.proofs.lemmas.Bool.{or_parts, false_from_ne_true}
+-- The readers of what comes after `u`, after other singletons and after `x`.
+use Rattle.std.proofs.Common.{◌≡◌, ℕ, ◌+◌, ◌<◌, ◌≤◌, Bool, true, false, not, ◌&&◌, ◌||◌, ◌==◌, nat_lt, List, [], ◌∷◌, ◌++◌, length, map, refl, sym, ap, ap₂, ◌∙◌, subst, arith, true≢false, append_assoc, Result, Ok, Err, MatchResult}
+use Rattle.std.specs.List.{AllByRecursion, list_all, list_any}
+use Rattle.std.specs.Int.{is_in_range}
+use Rattle.std.proofs.lemmas.Bool.{or_parts, and_parts, and_from, cond_both, false_from_ne_true, eqb-true, ltb-true, lt-ltb}
 use Rattle.std.proofs.lemmas.Bool.Decides.{nat_tests}
-use Rattle.iloc_grammar.specs.Words.{UnicodeKey, Attribute, is_word, IsWord, lower}
-use Rattle.iloc_grammar.specs.Written.{Fields, Unicode, fields_pieces, IsKeyword, IsOther, IsUnicode, kept}
-use Rattle.iloc_grammar.specs.Meaning.{set_of, normal_fields}
-use Rattle.iloc_grammar.specs.Faults.{first_piece}
+use Rattle.iloc_grammar.specs.Words.{UnicodeKey, Attribute, PrivateSubtag, is_word, IsWord, lower}
+use Rattle.iloc_grammar.specs.Written.{Fields, Unicode, fields_pieces, unicode_pieces, IsKeyword, IsOther, IsPrivate, IsUnicode, kept}
+use Rattle.iloc_grammar.specs.Meaning.{set_of, normal_fields, normal_unicode}
+use Rattle.iloc_grammar.specs.Faults.{Fault, front}
 use Rattle.iloc_grammar.specs.ByBlocks.{UnicodeMeans}
+use Rattle.iloc_grammar.specs.Reading.{EndsBefore, starts_block, from_block, is_two, fields_from}
 use Rattle.iloc_grammar.proofs.WordsLaws.{length-attribute, length-unicode_key}
 use Rattle.iloc_grammar.proofs.ValuesLaws.{all_weaker}
 use Rattle.iloc_grammar.proofs.ReadBack.{all_append}
-use Rattle.iloc_grammar.proofs.Readings.{fields_all, fields_read, keywords_pass}
-use Rattle.iloc_grammar.proofs.Deciding.{dec_pos, dec_other, dec_private}
-use Rattle.iloc_fronts.specs.Fronts.{passing_from, past_from, attributes_front, after_attributes, attributes_read, has_two_bytes, is_keyword_piece, keywords_front, after_keywords, KeywordsRead, KeywordsFault, UnicodeRead, UnicodeFault, has_other_length, other_front, OtherRead, PrivateRead, IsPartialFunction, EndsBlock}
-use Rattle.iloc_grammar.specs.Reading.{passing, past, is_two, before_key, fields_from}
-
--- two lists of one whole
-
-pub same_fronts : (xs ys a b : List (List ℕ)) → xs ++ a ≡ ys ++ b → length xs ≡ length ys → (xs ≡ ys) × (a ≡ b)
-same_fronts [] [] a b e l = (refl, e)
-same_fronts [] (y ∷ ys) a b e l = absurd (omega arith)
-same_fronts (x ∷ xs) [] a b e l = absurd (omega arith)
-same_fronts (x ∷ xs) (y ∷ ys) a b e l =
-    let heads : x ≡ y = cc in
-    let tails : xs ++ a ≡ ys ++ b = cc in
-    let rest = same_fronts xs ys a b tails (omega arith) in
-    (λ i. heads i ∷ rest.0 i, rest.1)
-
-pub same_before : (xs ys rest : List (List ℕ)) → xs ++ rest ≡ ys ++ rest → xs ≡ ys
-same_before xs ys rest e = (same_fronts xs ys rest rest e (let l = ap length e in let a = length-append xs rest in let b = length-append ys rest in omega arith)).0
-
--- fronts
-
-pub all_pieces : (test : List ℕ → Bool) (ps : List (List ℕ)) → passing test ps ++ past test ps ≡ ps
-all_pieces test [] = refl
-all_pieces test (p ∷ ps) = elim (test p) as (λ b. cond b (p ∷ passing test ps) [] ++ cond b (past test ps) (p ∷ ps) ≡ p ∷ ps) [ true ↦ ap (λ l. p ∷ l) (all_pieces test ps) | false ↦ refl ]
-
-pub passing_all : (test : List ℕ → Bool) (ps : List (List ℕ)) → AllByRecursion (λ p. test p ≡ true) (passing test ps)
-passing_all test [] = tt
-passing_all test (p ∷ ps) = elim (test p) as (λ b. test p ≡ b → AllByRecursion (λ p. test p ≡ true) (cond b (p ∷ passing test ps) [])) [ true ↦ λ e. (e, passing_all test ps) | false ↦ λ e. tt ] refl
-
--- no piece, or a first one that fails the test
-abbrev pub Stops : (List ℕ → Bool) → List (List ℕ) → Type 0
-Stops test [] = Unit {0}
-Stops test (p ∷ ps) = test p ≡ false
-
-pub passing_stops : (test : List ℕ → Bool) (xs ys : List (List ℕ)) → AllByRecursion (λ p. test p ≡ true) xs → Stops test ys → passing test (xs ++ ys) ≡ xs
-passing_stops test [] [] h s = refl
-passing_stops test [] (y ∷ ys) h s = rw s refl
-passing_stops test (x ∷ xs) ys h s = rw h.0 (ap (λ l. x ∷ l) (passing_stops test xs ys h.1 s))
-
-pub past_stops : (test : List ℕ → Bool) (xs ys : List (List ℕ)) → AllByRecursion (λ p. test p ≡ true) xs → Stops test ys → past test (xs ++ ys) ≡ ys
-past_stops test [] [] h s = refl
-past_stops test [] (y ∷ ys) h s = rw s refl
-past_stops test (x ∷ xs) ys h s = rw h.0 (past_stops test xs ys h.1 s)
-
-pub all_from_pieces : (first test : List ℕ → Bool) (ps : List (List ℕ)) → passing_from first test ps ++ past_from first test ps ≡ ps
-all_from_pieces first test ps = elim (first (first_piece ps)) as (λ b. cond b (passing test ps) [] ++ cond b (past test ps) ps ≡ ps) [ true ↦ all_pieces test ps | false ↦ refl ]
-
-pub passing_from_all : (first test : List ℕ → Bool) (ps : List (List ℕ)) → AllByRecursion (λ p. test p ≡ true) (passing_from first test ps)
-passing_from_all first test ps = elim (first (first_piece ps)) as (λ b. AllByRecursion (λ p. test p ≡ true) (cond b (passing test ps) [])) [ true ↦ passing_all test ps | false ↦ tt ]
-
--- fields at the front
-
--- such a front begins with a key
-before_first_key : (key test : List ℕ → Bool) (ps : List (List ℕ)) → before_key key (passing_from key test ps) ≡ []
-before_first_key key test [] = elim (key []) as (λ b. before_key key (cond b [] []) ≡ []) [ true ↦ refl | false ↦ refl ]
-before_first_key key test (p ∷ ps) = elim (key p) as (λ b. key p ≡ b → before_key key (cond b (passing test (p ∷ ps)) []) ≡ []) [
-  | true ↦ λ e. elim (test p) as (λ b. before_key key (cond b (p ∷ passing test ps) []) ≡ []) [ true ↦ ap (λ b. cond b [] (p ∷ before_key key (passing test ps))) e | false ↦ refl ]
-  | false ↦ λ e. refl
-] refl
-
-pub front_of_fields : (key test : List ℕ → Bool) (ps : List (List ℕ)) → passing_from key test ps ≡ fields_pieces (fields_from key (passing_from key test ps))
-front_of_fields key test ps = let f = passing_from key test ps in sym (fields_all key f) ∙ ap (λ l. l ++ fields_pieces (fields_from key f)) (before_first_key key test ps)
-
--- the keys and the values among pieces of which each is the one or the other
-pub fields_words : (key : List ℕ → Bool) (K V : List ℕ → Type 0) (ps : List (List ℕ)) → AllByRecursion (λ p. (key p ≡ true → K p) × (key p ≡ false → V p)) ps → AllByRecursion V (before_key key ps) × AllByRecursion (λ f. K f.0 × AllByRecursion V f.1) (fields_from key ps)
-fields_words key K V [] h = (tt, tt)
-fields_words key K V (p ∷ ps) h =
-    let rest = fields_words key K V ps h.1 in
-    elim (key p) as (λ b. key p ≡ b → AllByRecursion V (cond b [] (p ∷ before_key key ps)) × AllByRecursion (λ f. K f.0 × AllByRecursion V f.1) (cond b ((p, before_key key ps) ∷ fields_from key ps) (fields_from key ps))) [
-      | true ↦ λ e. (tt, ((h.0.0 e, rest.0), rest.1))
-      | false ↦ λ e. ((h.0.1 e, rest.0), rest.1)
-    ] refl
-
--- a front of fields, where it stops
-pub fields_stop : (key test : List ℕ → Bool) (fs : Fields) (rest : List (List ℕ)) → AllByRecursion (λ p. test p ≡ true) (fields_pieces fs) → AllByRecursion (λ f. key f.0 ≡ true) fs → Stops test rest → Stops key rest → key [] ≡ false → (passing_from key test (fields_pieces fs ++ rest) ≡ fields_pieces fs) × (past_from key test (fields_pieces fs ++ rest) ≡ rest)
-fields_stop key test [] [] h k s n e = (rw e refl, rw e refl)
-fields_stop key test [] (p ∷ ps) h k s n e = (rw n refl, rw n refl)
-fields_stop key test (f ∷ fs) rest h k s n e =
-    (ap (λ b. cond b (passing test (fields_pieces (f ∷ fs) ++ rest)) []) k.0 ∙ passing_stops test (fields_pieces (f ∷ fs)) rest h s, ap (λ b. cond b (past test (fields_pieces (f ∷ fs) ++ rest)) (fields_pieces (f ∷ fs) ++ rest)) k.0 ∙ past_stops test (fields_pieces (f ∷ fs)) rest h s)
-
-pub pieces_pass : (test : List ℕ → Bool) (fs : Fields) → AllByRecursion (λ f. (test f.0 ≡ true) × AllByRecursion (λ p. test p ≡ true) f.1) fs → AllByRecursion (λ p. test p ≡ true) (fields_pieces fs)
-pieces_pass test [] h = tt
-pieces_pass test (f ∷ fs) h = all_append (λ p. test p ≡ true) (f.0 ∷ f.1) (fields_pieces fs) h.0 (pieces_pass test fs h.1)
+use Rattle.iloc_grammar.proofs.Readings.{IsLong, long_attribute, long_between, keywords_pass, fields_read}
+use Rattle.iloc_grammar.proofs.ReadingLaws.{front-from_block, from_block_starts}
+use Rattle.iloc_fronts.specs.Readers.{IsReader, AgreesWithBlocks}
+use Rattle.iloc_fronts.specs.Fronts.{attributes_front, after_attributes, is_keyword_piece, keywords_front, after_keywords, is_bad_key, KeywordsRead, KeywordsFault, bad_key, UnicodeRead, UnicodeFault, in_keywords, both_absent, has_other_length, other_front, OtherRead, OtherFault, no_word, OtherMeans, PrivateRead, PrivateFault, not_private}
+use Rattle.iloc_fronts.specs.Computing.{keywords_at, keywords_result, with_attributes, unicode_result, other_result, private_result}
+use Rattle.iloc_fronts.proofs.ListTests.{all_from, all_to}
+use Rattle.iloc_fronts.proofs.FieldLaws.{all_pieces, passing_all, passing_stops, past_stops, all_from_pieces, passing_from_all, front_of_fields, fields_words, fields_stop, pieces_pass}
+use Rattle.iloc_fronts.proofs.ReaderLaws.{reader_of, agreeing, until_block, Answers}
 
 -- keywords
 
-pub one_keywords : IsPartialFunction KeywordsRead
+one_keywords : (ps : List (List ℕ)) (v w : Fields) (rest more : List (List ℕ)) → KeywordsRead ps v rest → KeywordsRead ps w more → (v ≡ w) × (rest ≡ more)
 one_keywords ps v w rest more a b =
     let same : a.written ≡ b.written = sym (fields_read is_two a.written (keywords_pass a.written a.keywords)) ∙ ap (fields_from is_two) (sym a.spelled ∙ b.spelled) ∙ fields_read is_two b.written (keywords_pass b.written b.keywords) in
     (a.means ∙ ap normal_fields same ∙ sym b.means, a.left ∙ sym b.left)
 
-abbrev bad_piece : List ℕ → Bool
-bad_piece p = has_two_bytes p && not (is_word UnicodeKey p)
-
-good_pieces : (ps : List (List ℕ)) → AllByRecursion (λ p. is_keyword_piece p ≡ true) ps → list_any bad_piece ps ≡ false → AllByRecursion (λ p. (is_two p ≡ true → IsWord UnicodeKey p) × (is_two p ≡ false → IsWord Attribute p)) ps
+good_pieces : (ps : List (List ℕ)) → AllByRecursion (λ p. is_keyword_piece p ≡ true) ps → list_any is_bad_key ps ≡ false → AllByRecursion (λ p. (is_two p ≡ true → IsWord UnicodeKey p) × (is_two p ≡ false → IsWord Attribute p)) ps
 good_pieces [] h n = tt
-good_pieces (p ∷ ps) h n = let parts = or_parts (bad_piece p) (list_any bad_piece ps) n in ((λ e. key_is (is_two p) (is_word UnicodeKey p) e parts.0, λ e. value_is (is_two p) (is_word Attribute p) e h.0), good_pieces ps h.1 parts.1)
+good_pieces (p ∷ ps) h n = let parts = or_parts (is_bad_key p) (list_any is_bad_key ps) n in ((λ e. key_is (is_two p) (is_word UnicodeKey p) e parts.0, λ e. value_is (is_two p) (is_word Attribute p) e h.0), good_pieces ps h.1 parts.1)
   where
     key_is : (a b : Bool) → a ≡ true → (a && not b) ≡ false → b ≡ true
     key_is a true e n = refl
@@ -117,187 +40,264 @@ good_pieces (p ∷ ps) h n = let parts = or_parts (bad_piece p) (list_any bad_pi
     value_is : (a b : Bool) → a ≡ false → (a || b) ≡ true → b ≡ true
     value_is a b e n = sym (ap (λ c. c || b) e) ∙ n
 
-keywords_no_fault : (fs : Fields) → AllByRecursion IsKeyword fs → list_any bad_piece (fields_pieces fs) ≡ false
+keywords_no_fault : (fs : Fields) → AllByRecursion IsKeyword fs → list_any is_bad_key (fields_pieces fs) ≡ false
 keywords_no_fault [] h = refl
-keywords_no_fault (f ∷ fs) h = none_bad (f.0 ∷ f.1) (fields_pieces fs) (good_key f.0 h.0.0, all_weaker (IsWord Attribute) (λ p. bad_piece p ≡ false) good_value f.1 h.0.1) (keywords_no_fault fs h.1)
+keywords_no_fault (f ∷ fs) h = none_bad (f.0 ∷ f.1) (fields_pieces fs) (good_key f.0 h.0.0, all_weaker (IsWord Attribute) (λ p. is_bad_key p ≡ false) good_value f.1 h.0.1) (keywords_no_fault fs h.1)
   where
-    none_bad : (xs ys : List (List ℕ)) → AllByRecursion (λ p. bad_piece p ≡ false) xs → list_any bad_piece ys ≡ false → list_any bad_piece (xs ++ ys) ≡ false
+    none_bad : (xs ys : List (List ℕ)) → AllByRecursion (λ p. is_bad_key p ≡ false) xs → list_any is_bad_key ys ≡ false → list_any is_bad_key (xs ++ ys) ≡ false
     none_bad [] ys h n = n
     none_bad (x ∷ xs) ys h n = ap₂ ◌||◌ h.0 (none_bad xs ys h.1 n)
 
-    good_key : (p : List ℕ) → IsWord UnicodeKey p → bad_piece p ≡ false
-    good_key p h = ap (λ b. has_two_bytes p && not b) h ∙ and_false (has_two_bytes p)
+    good_key : (p : List ℕ) → IsWord UnicodeKey p → is_bad_key p ≡ false
+    good_key p h = ap (λ b. is_two p && not b) h ∙ and_false (is_two p)
       where
         and_false : (b : Bool) → (b && false) ≡ false
         and_false true = refl
         and_false false = refl
 
-    good_value : (p : List ℕ) → IsWord Attribute p → bad_piece p ≡ false
+    good_value : (p : List ℕ) → IsWord Attribute p → is_bad_key p ≡ false
     good_value p h = ap (λ b. b && not (is_word UnicodeKey p)) (three (length p) (length-attribute p h).0)
       where
         three : (n : ℕ) → 3 ≤ n → (n == 2) ≡ false
         three n h = grind (arith, nat_tests)
 
-pub keywords_read_of : (ps : List (List ℕ)) → list_any bad_piece (keywords_front ps) ≡ false → KeywordsRead ps (normal_fields (fields_from is_two (keywords_front ps))) (after_keywords ps)
+keywords_read_of : (ps : List (List ℕ)) → list_any is_bad_key (keywords_front ps) ≡ false → KeywordsRead ps (normal_fields (keywords_at ps)) (after_keywords ps)
 keywords_read_of ps e = record {
-  written = fields_from is_two (keywords_front ps);
-  keywords = (fields_words is_two (IsWord UnicodeKey) (IsWord Attribute) (keywords_front ps) (good_pieces _ (passing_from_all has_two_bytes is_keyword_piece ps) e)).1;
-  spelled = front_of_fields has_two_bytes is_keyword_piece ps;
+  written = keywords_at ps;
+  keywords = (fields_words is_two (IsWord UnicodeKey) (IsWord Attribute) (keywords_front ps) (good_pieces _ (passing_from_all is_two is_keyword_piece ps) e)).1;
+  spelled = front_of_fields is_two is_keyword_piece ps;
   means = refl;
   left = refl;
 }
 
-pub keywords_or_fault : (ps : List (List ℕ)) → ((m : Fields) × (rest : List (List ℕ)) × KeywordsRead ps m rest) ⊎ KeywordsFault ps
-keywords_or_fault ps = at_test (list_any bad_piece (keywords_front ps)) refl
+pub keywords_answer : Answers KeywordsRead KeywordsFault keywords_result
+keywords_answer ps = cond_both (list_any is_bad_key (keywords_front ps)) _ _ Answer (λ b. bad_key b) (λ g. keywords_read_of ps g)
   where
-    at_test : (b : Bool) → list_any bad_piece (keywords_front ps) ≡ b → ((m : Fields) × (rest : List (List ℕ)) × KeywordsRead ps m rest) ⊎ KeywordsFault ps
-    at_test true e = inr e
-    at_test false e = inl (normal_fields (fields_from is_two (keywords_front ps)), after_keywords ps, keywords_read_of ps e)
+    Answer : Result (Fields × List (List ℕ)) Fault → Type 0
+    Answer o = MatchResult o (λ r. KeywordsRead ps r.0 r.1) (KeywordsFault ps)
 
-pub keywords_apart : (ps : List (List ℕ)) (m : Fields) (rest : List (List ℕ)) → KeywordsRead ps m rest → KeywordsFault ps → ⊥
-keywords_apart ps m rest h f = true≢false (sym f ∙ ap (list_any bad_piece) h.spelled ∙ keywords_no_fault h.written h.keywords)
+keywords_apart : (ps : List (List ℕ)) (m : Fields) (rest : List (List ℕ)) (f : Fault) → KeywordsRead ps m rest → KeywordsFault ps f → ⊥
+keywords_apart ps m rest f h (bad_key b) = true≢false (sym b ∙ ap (list_any is_bad_key) h.spelled ∙ keywords_no_fault h.written h.keywords)
 
--- the whole part
+one_keywords_fault : (ps : List (List ℕ)) (f g : Fault) → KeywordsFault ps f → KeywordsFault ps g → f ≡ g
+one_keywords_fault ps f g (bad_key b) (bad_key c) = refl
 
-pub one_unicode : IsPartialFunction UnicodeRead
+pub keywords_reader : IsReader KeywordsRead KeywordsFault
+keywords_reader = reader_of KeywordsRead KeywordsFault keywords_result keywords_answer one_keywords keywords_apart one_keywords_fault
+
+-- all that comes after `u`
+
+one_unicode : (ps : List (List ℕ)) (v w : Unicode) (rest more : List (List ℕ)) → UnicodeRead ps v rest → UnicodeRead ps w more → (v ≡ w) × (rest ≡ more)
 one_unicode ps v w rest more a b =
     let k = one_keywords (after_attributes ps) v.keywords w.keywords rest more a.keywords_are b.keywords_are in
     (λ i. record { attributes = (a.attributes_are ∙ sym b.attributes_are) i; keywords = k.0 i }, k.1)
 
-pub unicode_or_fault : (ps : List (List ℕ)) → ((u : Unicode) × (rest : List (List ℕ)) × UnicodeRead ps u rest) ⊎ UnicodeFault ps
-unicode_or_fault ps = at_keywords (keywords_or_fault (after_attributes ps))
+none_of : (xs ys : List (List ℕ)) → nat_lt 0 (length xs + length ys) ≡ false → (xs ≡ []) × (ys ≡ [])
+none_of xs ys h = (empty xs (no_length (length xs) (length ys) h).0, empty ys (no_length (length xs) (length ys) h).1)
   where
-    Answer : Type 0
-    Answer = ((u : Unicode) × (rest : List (List ℕ)) × UnicodeRead ps u rest) ⊎ UnicodeFault ps
+    no_length : (m n : ℕ) → nat_lt 0 (m + n) ≡ false → (m ≡ 0) × (n ≡ 0)
+    no_length m n h = (grind (arith, nat_tests), grind (arith, nat_tests))
 
-    at_keywords : ((m : Fields) × (rest : List (List ℕ)) × KeywordsRead (after_attributes ps) m rest) ⊎ KeywordsFault (after_attributes ps) → Answer
-    at_keywords (inr f) = inr (inl f)
-    at_keywords (inl x) = at_length (dec_pos (length (attributes_front ps) + length (keywords_front (after_attributes ps))))
-      where
-        at_length : Dec (0 < length (attributes_front ps) + length (keywords_front (after_attributes ps))) → Answer
-        at_length (no n) = inr (inr (zero_is _ n))
-          where
-            zero_is : (n : ℕ) → ¬ (0 < n) → n ≡ 0
-            zero_is n h = grind (arith, nat_tests)
-        at_length (yes p) = inl (record { attributes = attributes_read ps; keywords = x.0 }, x.1, record { attributes_are = refl; keywords_are = x.2; nonempty = p })
+    empty : (xs : List (List ℕ)) → length xs ≡ 0 → xs ≡ []
+    empty [] e = refl
+    empty (x ∷ xs) e = absurd (omega arith)
 
-pub unicode_apart : (ps : List (List ℕ)) (u : Unicode) (rest : List (List ℕ)) → UnicodeRead ps u rest → UnicodeFault ps → ⊥
-unicode_apart ps u rest h (inl f) = keywords_apart (after_attributes ps) u.keywords rest h.keywords_are f
-unicode_apart ps u rest h (inr z) = none_there _ z h.nonempty
+pub unicode_answer : Answers UnicodeRead UnicodeFault unicode_result
+unfolding unicode_result
+unicode_answer ps = at_keywords (keywords_result (after_attributes ps)) (keywords_answer (after_attributes ps))
   where
-    none_there : (n : ℕ) → n ≡ 0 → 0 < n → ⊥
-    none_there n e h = absurd (omega arith)
+    Answer : Result (Unicode × List (List ℕ)) Fault → Type 0
+    Answer o = MatchResult o (λ r. UnicodeRead ps r.0 r.1) (UnicodeFault ps)
 
--- a whole block
+    at_keywords : (o : Result (Fields × List (List ℕ)) Fault) → MatchResult o (λ r. KeywordsRead (after_attributes ps) r.0 r.1) (KeywordsFault (after_attributes ps)) → Answer (with_attributes ps o)
+    at_keywords (Err f) h = in_keywords h
+    at_keywords (Ok r) h = cond_both (nat_lt 0 (length (attributes_front ps) + length (keywords_front (after_attributes ps)))) _ _ Answer
+        (λ n. record { attributes_are = refl; keywords_are = h; nonempty = ltb-true 0 _ n })
+        (λ n. let none = none_of (attributes_front ps) (keywords_front (after_attributes ps)) n in both_absent none.0 none.1)
 
-some_fields : (fs : Fields) → 0 < length (fields_pieces fs) → 0 < length fs
-some_fields [] h = h
-some_fields (f ∷ fs) h = omega arith
+unicode_apart : (ps : List (List ℕ)) (u : Unicode) (rest : List (List ℕ)) (f : Fault) → UnicodeRead ps u rest → UnicodeFault ps f → ⊥
+unicode_apart ps u rest f h (in_keywords k) = keywords_apart (after_attributes ps) u.keywords rest f h.keywords_are k
+unicode_apart ps u rest f h (both_absent a k) = let none : 0 < 0 = subst (λ (n : ℕ). 0 < n) ((λ i. length (a i) + length (k i))) h.nonempty in absurd (omega arith)
 
-some_pieces : (fs : Fields) → 0 < length fs → 0 < length (fields_pieces fs)
-some_pieces [] h = h
-some_pieces (f ∷ fs) h = omega arith
+one_unicode_fault : (ps : List (List ℕ)) (f g : Fault) → UnicodeFault ps f → UnicodeFault ps g → f ≡ g
+one_unicode_fault ps f g (in_keywords h) (in_keywords k) = one_keywords_fault (after_attributes ps) f g h k
+one_unicode_fault ps f g (in_keywords (bad_key b)) (both_absent a k) = refl
+one_unicode_fault ps f g (both_absent a k) (in_keywords (bad_key b)) = refl
+one_unicode_fault ps f g (both_absent a k) (both_absent b j) = refl
 
-pub unicode_whole : (ps rest : List (List ℕ)) (u : Unicode) → UnicodeRead (ps ++ rest) u rest → UnicodeMeans ps u
-unicode_whole ps rest u h =
-    let qs : List (List ℕ) = ps ++ rest in
+pub unicode_reader : IsReader UnicodeRead UnicodeFault
+unicode_reader = reader_of UnicodeRead UnicodeFault unicode_result unicode_answer one_unicode unicode_apart one_unicode_fault
+
+-- and its block
+
+long_keyword_piece : (p : List ℕ) → is_keyword_piece p ≡ true → IsLong p
+long_keyword_piece p h = elim (is_two p) as (λ b. is_two p ≡ b → (b || is_word Attribute p) ≡ true → IsLong p) [
+  | true ↦ λ e k. two (length p) e
+  | false ↦ λ e k. long_attribute p k
+] refl h
+  where
+    two : (n : ℕ) → (n == 2) ≡ true → (n == 1) ≡ false
+    two n h = grind (arith, nat_tests)
+
+either_some : (n : ℕ) (fs : Fields) → 0 < n + length (fields_pieces fs) → 0 < n + length fs
+either_some n [] h = h
+either_some n (f ∷ fs) h = omega arith
+
+unicode_whole : (ps : List (List ℕ)) (u : Unicode) (rest : List (List ℕ)) → UnicodeRead ps u rest → starts_block rest ≡ true → UnicodeMeans (front ps) u × (rest ≡ from_block ps)
+unicode_whole ps u rest h s =
     let k = h.keywords_are in
-    let n : length (keywords_front (after_attributes qs)) ≡ length (fields_pieces k.written) = ap length k.spelled in
-    let after : after_attributes qs ≡ fields_pieces k.written ++ rest = sym (all_from_pieces has_two_bytes is_keyword_piece (after_attributes qs)) ∙ (λ i. k.spelled i ++ sym k.left i) in
-    record {
-      written = record { attributes = attributes_front qs; keywords = k.written };
-      grammatical = record { attributes = passing_all (is_word Attribute) qs; keywords = k.keywords; nonempty = either_some (length (attributes_front qs)) k.written (subst (λ (m : ℕ). 0 < length (attributes_front qs) + m) n h.nonempty) };
-      spelled = same_before ps (attributes_front qs ++ fields_pieces k.written) rest (sym (all_pieces (is_word Attribute) qs) ∙ ap (λ l. attributes_front qs ++ l) after ∙ sym (append_assoc (attributes_front qs) (fields_pieces k.written) rest));
-      means = λ i. record { attributes = h.attributes_are i; keywords = k.means i };
-    }
-  where
-    either_some : (n : ℕ) (fs : Fields) → 0 < n + length (fields_pieces fs) → 0 < n + length fs
-    either_some n [] h = h
-    either_some n (f ∷ fs) h = omega arith
+    let a = attributes_front ps in
+    let front_pieces = keywords_front (after_attributes ps) in
+    let all : ps ≡ (a ++ front_pieces) ++ rest = sym (append_assoc a front_pieces rest ∙ ap (λ l. a ++ (front_pieces ++ l)) k.left ∙ ap (λ l. a ++ l) (all_from_pieces is_two is_keyword_piece (after_attributes ps)) ∙ all_pieces (is_word Attribute) ps) in
+    let long = all_append IsLong a front_pieces (all_weaker (IsWord Attribute) IsLong long_attribute a (passing_all (is_word Attribute) ps)) (all_weaker (λ p. is_keyword_piece p ≡ true) IsLong long_keyword_piece front_pieces (passing_from_all is_two is_keyword_piece (after_attributes ps))) in
+    let ends = until_block (a ++ front_pieces) rest long s in (
+      record {
+        written = record { attributes = a; keywords = k.written };
+        grammatical = record { attributes = passing_all (is_word Attribute) ps; keywords = k.keywords; nonempty = either_some (length a) k.written (subst (λ (l : List (List ℕ)). 0 < length a + length l) k.spelled h.nonempty) };
+        spelled = ap front all ∙ ends.0 ∙ ap (λ l. a ++ l) k.spelled;
+        means = λ i. record { attributes = h.attributes_are i; keywords = k.means i };
+      },
+      sym (ap from_block all ∙ ends.1),
+    )
 
 not_attribute : (p : List ℕ) → length p ≤ 2 → is_word Attribute p ≡ false
 not_attribute p h = false_from_ne_true _ (λ a. let l = length-attribute p a in absurd (omega arith))
 
-one_stops : (rest : List (List ℕ)) → EndsBlock rest → Stops (is_word Attribute) rest × Stops is_keyword_piece rest × Stops has_two_bytes rest
-one_stops [] e = (tt, tt, tt)
-one_stops (p ∷ ps) e = let n = not_attribute p (omega arith) in let m = not_two (length p) e in (n, λ i. m i || n i, m)
+record NoneGoOn (rest : List (List ℕ)) : Type 0 where
+  attribute : EndsBefore (is_word Attribute) rest
+  keyword_piece : EndsBefore is_keyword_piece rest
+  two_bytes : EndsBefore is_two rest
+
+block_ends : (rest : List (List ℕ)) → starts_block rest ≡ true → NoneGoOn rest
+block_ends [] e = record { attribute = tt; keyword_piece = tt; two_bytes = tt }
+block_ends (p ∷ ps) e =
+    let one = eqb-true (length p) 1 e in
+    let n = not_attribute p (omega arith) in
+    let m = not_two (length p) one in
+    record { attribute = n; keyword_piece = λ i. m i || n i; two_bytes = m }
   where
     not_two : (n : ℕ) → n ≡ 1 → (n == 2) ≡ false
     not_two n h = rw h refl
 
-pub unicode_block : (ps rest : List (List ℕ)) (u : Unicode) → UnicodeMeans ps u → EndsBlock rest → UnicodeRead (ps ++ rest) u rest
-unicode_block ps rest u h e = subst (λ (l : List (List ℕ)). UnicodeRead l u rest) (sym (ap (λ l. l ++ rest) h.spelled ∙ append_assoc a (fields_pieces ks) rest)) (record {
-  attributes_are = ap (λ (v : Unicode). v.attributes) h.means ∙ ap (λ l. set_of (map lower l)) (sym front);
-  keywords_are = subst (λ (l : List (List ℕ)). KeywordsRead l u.keywords rest) (sym after) (record { written = ks; keywords = g.keywords; spelled = stop.0; means = ap (λ (v : Unicode). v.keywords) h.means; left = sym stop.1 });
-  nonempty = subst (λ (n : ℕ). 0 < n) (sym ((λ i. length (front i) + length (keywords_front (after i))) ∙ ap (λ l. length a + length l) stop.0)) (either_pieces (length a) ks g.nonempty);
+or_true : (b : Bool) → (b || true) ≡ true
+or_true true = refl
+or_true false = refl
+
+two_bytes_of : (p : List ℕ) → IsWord UnicodeKey p → is_two p ≡ true
+two_bytes_of p k = ap (λ n. n == 2) (length-unicode_key p k)
+
+value_goes_on : (p : List ℕ) → IsWord Attribute p → is_keyword_piece p ≡ true
+value_goes_on p w = ap (λ b. is_two p || b) w ∙ or_true (is_two p)
+
+keyword_goes_on : (f : List ℕ × List (List ℕ)) → IsKeyword f → (is_keyword_piece f.0 ≡ true) × AllByRecursion (λ p. is_keyword_piece p ≡ true) f.1
+keyword_goes_on f r = (ap (λ b. b || is_word Attribute f.0) (two_bytes_of f.0 r.0), all_weaker (IsWord Attribute) (λ p. is_keyword_piece p ≡ true) value_goes_on f.1 r.1)
+
+unicode_spelled : (w : Unicode) (rest : List (List ℕ)) → IsUnicode w → starts_block rest ≡ true → UnicodeRead (unicode_pieces w ++ rest) (normal_unicode w) rest
+unicode_spelled w rest g e = subst (λ (l : List (List ℕ)). UnicodeRead l (normal_unicode w) rest) (sym (append_assoc w.attributes (fields_pieces w.keywords) rest)) (record {
+  attributes_are = ap (λ l. set_of (map lower l)) (sym front_is);
+  keywords_are = subst (λ (l : List (List ℕ)). KeywordsRead l (normal_unicode w).keywords rest) (sym after) (record { written = w.keywords; keywords = g.keywords; spelled = stop.0; means = refl; left = sym stop.1 });
+  nonempty = subst (λ (n : ℕ). 0 < n) (sym ((λ i. length (front_is i) + length (keywords_front (after i))) ∙ ap (λ l. length w.attributes + length l) stop.0)) (either_pieces (length w.attributes) w.keywords g.nonempty);
 })
   where
-    a : List (List ℕ)
-    a = h.written.attributes
+    none : NoneGoOn rest
+    none = block_ends rest e
 
-    ks : Fields
-    ks = h.written.keywords
-
-    g : IsUnicode h.written
-    g = h.grammatical
-
-    stops : (fs : Fields) → AllByRecursion IsKeyword fs → Stops (is_word Attribute) (fields_pieces fs ++ rest)
-    stops [] k = (one_stops rest e).0
+    stops : (fs : Fields) → AllByRecursion IsKeyword fs → EndsBefore (is_word Attribute) (fields_pieces fs ++ rest)
+    stops [] k = none.attribute
     stops (f ∷ fs) k = not_attribute f.0 (let l = length-unicode_key f.0 k.0.0 in omega arith)
 
-    front : attributes_front (a ++ (fields_pieces ks ++ rest)) ≡ a
-    front = passing_stops (is_word Attribute) a (fields_pieces ks ++ rest) g.attributes (stops ks g.keywords)
+    front_is : attributes_front (w.attributes ++ (fields_pieces w.keywords ++ rest)) ≡ w.attributes
+    front_is = passing_stops (is_word Attribute) w.attributes (fields_pieces w.keywords ++ rest) g.attributes (stops w.keywords g.keywords)
 
-    after : after_attributes (a ++ (fields_pieces ks ++ rest)) ≡ fields_pieces ks ++ rest
-    after = past_stops (is_word Attribute) a (fields_pieces ks ++ rest) g.attributes (stops ks g.keywords)
+    after : after_attributes (w.attributes ++ (fields_pieces w.keywords ++ rest)) ≡ fields_pieces w.keywords ++ rest
+    after = past_stops (is_word Attribute) w.attributes (fields_pieces w.keywords ++ rest) g.attributes (stops w.keywords g.keywords)
 
-    two_bytes : (p : List ℕ) → IsWord UnicodeKey p → has_two_bytes p ≡ true
-    two_bytes p k = ap (λ n. n == 2) (length-unicode_key p k)
-
-    keys : (fs : Fields) → AllByRecursion IsKeyword fs → AllByRecursion (λ f. has_two_bytes f.0 ≡ true) fs
-    keys fs k = all_weaker IsKeyword (λ f. has_two_bytes f.0 ≡ true) (λ f r. two_bytes f.0 r.0) fs k
-
-    or_true : (b : Bool) → (b || true) ≡ true
-    or_true true = refl
-    or_true false = refl
-
-    value_goes_on : (p : List ℕ) → IsWord Attribute p → is_keyword_piece p ≡ true
-    value_goes_on p w = ap (λ b. has_two_bytes p || b) w ∙ or_true (has_two_bytes p)
-
-    goes_on : (f : List ℕ × List (List ℕ)) → IsKeyword f → (is_keyword_piece f.0 ≡ true) × AllByRecursion (λ p. is_keyword_piece p ≡ true) f.1
-    goes_on f r = (ap (λ b. b || is_word Attribute f.0) (two_bytes f.0 r.0), all_weaker (IsWord Attribute) (λ p. is_keyword_piece p ≡ true) value_goes_on f.1 r.1)
-
-    stop : (keywords_front (fields_pieces ks ++ rest) ≡ fields_pieces ks) × (after_keywords (fields_pieces ks ++ rest) ≡ rest)
-    stop = fields_stop has_two_bytes is_keyword_piece ks rest (pieces_pass is_keyword_piece ks (all_weaker IsKeyword (λ f. (is_keyword_piece f.0 ≡ true) × AllByRecursion (λ p. is_keyword_piece p ≡ true) f.1) goes_on ks g.keywords)) (keys ks g.keywords) (one_stops rest e).1 (one_stops rest e).2 refl
+    stop : (keywords_front (fields_pieces w.keywords ++ rest) ≡ fields_pieces w.keywords) × (after_keywords (fields_pieces w.keywords ++ rest) ≡ rest)
+    stop = fields_stop is_two is_keyword_piece w.keywords rest
+        (pieces_pass is_keyword_piece w.keywords (all_weaker IsKeyword (λ f. (is_keyword_piece f.0 ≡ true) × AllByRecursion (λ p. is_keyword_piece p ≡ true) f.1) keyword_goes_on w.keywords g.keywords))
+        (all_weaker IsKeyword (λ f. is_two f.0 ≡ true) (λ f r. two_bytes_of f.0 r.0) w.keywords g.keywords)
+        none.keyword_piece none.two_bytes refl
 
     either_pieces : (n : ℕ) (fs : Fields) → 0 < n + length fs → 0 < n + length (fields_pieces fs)
     either_pieces n [] h = h
     either_pieces n (f ∷ fs) h = omega arith
 
--- other extensions, and private words
+unicode_block : (ps : List (List ℕ)) (u : Unicode) → UnicodeMeans (front ps) u → UnicodeRead ps u (from_block ps)
+unicode_block ps u h =
+    let pieces_are : unicode_pieces h.written ++ from_block ps ≡ ps = ap (λ l. l ++ from_block ps) (sym h.spelled) ∙ front-from_block ps in
+    subst (λ (v : Unicode). UnicodeRead ps v (from_block ps)) (sym h.means) (subst (λ (l : List (List ℕ)). UnicodeRead l (normal_unicode h.written) (from_block ps)) pieces_are (unicode_spelled h.written (from_block ps) h.grammatical (from_block_starts ps)))
 
-pub one_other : IsPartialFunction OtherRead
-one_other ps v w rest more a b = (a.means ∙ sym b.means, a.left ∙ sym b.left)
+pub unicode_agrees : AgreesWithBlocks UnicodeRead UnicodeFault UnicodeMeans
+unicode_agrees = agreeing UnicodeRead UnicodeFault UnicodeMeans unicode_reader unicode_whole unicode_block
 
-pub other_or_not : (ps : List (List ℕ)) → ((ws : List (List ℕ)) × (rest : List (List ℕ)) × OtherRead ps ws rest) ⊎ ((ws rest : List (List ℕ)) → ¬ (OtherRead ps ws rest))
-other_or_not ps = elim (dec_other (other_front ps)) [ yes h ↦ inl (kept (other_front ps), past has_other_length ps, record { follows = h; means = refl; left = refl }) | no n ↦ inr (λ ws rest r. n r.follows) ]
+-- after other singletons
 
-pub other_whole : (ps rest ws : List (List ℕ)) → OtherRead (ps ++ rest) ws rest → IsOther ps × (ws ≡ kept ps)
-other_whole ps rest ws h =
-    let e : other_front (ps ++ rest) ≡ ps = same_before _ ps rest (ap (λ l. other_front (ps ++ rest) ++ l) h.left ∙ all_pieces has_other_length (ps ++ rest)) in
-    (subst IsOther e h.follows, h.means ∙ ap kept e)
-
-pub other_block : (ps rest : List (List ℕ)) → IsOther ps → EndsBlock rest → OtherRead (ps ++ rest) (kept ps) rest
-other_block ps rest h e =
-    let front : other_front (ps ++ rest) ≡ ps = passing_stops has_other_length ps rest h.lengths (stops rest e) in
-    record { follows = subst IsOther (sym front) h; means = ap kept (sym front); left = sym (past_stops has_other_length ps rest h.lengths (stops rest e)) }
+pub other_answer : Answers OtherRead OtherFault other_result
+unfolding other_result
+other_answer ps = cond_both (nat_lt 0 (length (kept (other_front ps)))) _ _ Answer
+    (λ n. record { follows = record { lengths = passing_all has_other_length ps; nonempty = ltb-true 0 _ n }; means = refl; left = refl })
+    (λ n. no_word (λ h. true≢false (sym (lt-ltb 0 _ h.nonempty) ∙ n)))
   where
-    stops : (rest : List (List ℕ)) → EndsBlock rest → Stops has_other_length rest
+    Answer : Result (List (List ℕ) × List (List ℕ)) Fault → Type 0
+    Answer o = MatchResult o (λ r. OtherRead ps r.0 r.1) (OtherFault ps)
+
+other_apart : (ps ws rest : List (List ℕ)) (f : Fault) → OtherRead ps ws rest → OtherFault ps f → ⊥
+other_apart ps ws rest f h (no_word n) = n h.follows
+
+one_other_fault : (ps : List (List ℕ)) (f g : Fault) → OtherFault ps f → OtherFault ps g → f ≡ g
+one_other_fault ps f g (no_word n) (no_word m) = refl
+
+pub other_reader : IsReader OtherRead OtherFault
+other_reader = reader_of OtherRead OtherFault other_result other_answer (λ ps v w rest more a b. (a.means ∙ sym b.means, a.left ∙ sym b.left)) other_apart one_other_fault
+
+other_whole : (ps ws rest : List (List ℕ)) → OtherRead ps ws rest → starts_block rest ≡ true → OtherMeans (front ps) ws × (rest ≡ from_block ps)
+other_whole ps ws rest h s =
+    let all : ps ≡ other_front ps ++ rest = sym (ap (λ l. other_front ps ++ l) h.left ∙ all_pieces has_other_length ps) in
+    let ends = until_block (other_front ps) rest (all_weaker (λ p. has_other_length p ≡ true) IsLong long_between (other_front ps) (passing_all has_other_length ps)) s in
+    let e : other_front ps ≡ front ps = sym (ap front all ∙ ends.0) in
+    ((subst IsOther e h.follows, h.means ∙ ap kept e), sym (ap from_block all ∙ ends.1))
+
+other_block : (ps ws : List (List ℕ)) → OtherMeans (front ps) ws → OtherRead ps ws (from_block ps)
+other_block ps ws h = subst (λ (l : List (List ℕ)). OtherRead l ws (from_block ps)) (front-from_block ps) (record { follows = subst IsOther (sym front_is) h.0; means = h.1 ∙ ap kept (sym front_is); left = sym (past_stops has_other_length (front ps) (from_block ps) h.0.lengths ends) })
+  where
+    stops : (rest : List (List ℕ)) → starts_block rest ≡ true → EndsBefore has_other_length rest
     stops [] e = tt
-    stops (p ∷ ps) e = rw e refl
+    stops (p ∷ ps) e = not_one (length p) (eqb-true (length p) 1 e)
+      where
+        not_one : (n : ℕ) → n ≡ 1 → is_in_range 2 8 n ≡ false
+        not_one n h = rw h refl
 
-pub one_private : IsPartialFunction PrivateRead
-one_private ps v w rest more a b = (a.means ∙ sym b.means, a.left ∙ sym b.left)
+    ends : EndsBefore has_other_length (from_block ps)
+    ends = stops (from_block ps) (from_block_starts ps)
 
-pub private_or_not : (ps : List (List ℕ)) → PrivateRead ps (map lower ps) [] ⊎ ((ws rest : List (List ℕ)) → ¬ (PrivateRead ps ws rest))
-private_or_not ps = elim (dec_private ps) [ yes h ↦ inl (record { follows = h; means = refl; left = refl }) | no n ↦ inr (λ ws rest r. n r.follows) ]
+    front_is : other_front (front ps ++ from_block ps) ≡ front ps
+    front_is = passing_stops has_other_length (front ps) (from_block ps) h.0.lengths ends
+
+pub other_agrees : AgreesWithBlocks OtherRead OtherFault OtherMeans
+other_agrees = agreeing OtherRead OtherFault OtherMeans other_reader other_whole other_block
+
+-- private words
+
+private_rule : (ps : List (List ℕ)) → list_all (is_word PrivateSubtag) ps && nat_lt 0 (length ps) ≡ true → IsPrivate ps
+private_rule ps h = let parts = and_parts (list_all (is_word PrivateSubtag) ps) _ h in record { words = all_from (is_word PrivateSubtag) ps parts.0; nonempty = ltb-true 0 _ parts.1 }
+
+private_tested : (ps : List (List ℕ)) → IsPrivate ps → list_all (is_word PrivateSubtag) ps && nat_lt 0 (length ps) ≡ true
+private_tested ps h = and_from _ _ (all_to (is_word PrivateSubtag) ps h.words) (lt-ltb 0 _ h.nonempty)
+
+pub private_answer : Answers PrivateRead PrivateFault private_result
+unfolding private_result
+private_answer ps = cond_both (list_all (is_word PrivateSubtag) ps && nat_lt 0 (length ps)) _ _ Answer
+    (λ h. record { follows = private_rule ps h; means = refl; left = refl })
+    (λ n. not_private (λ h. true≢false (sym (private_tested ps h) ∙ n)))
+  where
+    Answer : Result (List (List ℕ) × List (List ℕ)) Fault → Type 0
+    Answer o = MatchResult o (λ r. PrivateRead ps r.0 r.1) (PrivateFault ps)
+
+private_apart : (ps ws rest : List (List ℕ)) (f : Fault) → PrivateRead ps ws rest → PrivateFault ps f → ⊥
+private_apart ps ws rest f h (not_private n) = n h.follows
+
+one_private_fault : (ps : List (List ℕ)) (f g : Fault) → PrivateFault ps f → PrivateFault ps g → f ≡ g
+one_private_fault ps f g (not_private n) (not_private m) = refl
+
+pub private_reader : IsReader PrivateRead PrivateFault
+private_reader = reader_of PrivateRead PrivateFault private_result private_answer (λ ps v w rest more a b. (a.means ∙ sym b.means, a.left ∙ sym b.left)) private_apart one_private_fault

@@ -1,7 +1,9 @@
+pub mod ListTests
+pub mod FieldLaws
+pub mod ReaderLaws
 pub mod FrontLaws
 pub mod TransformLaws
-pub mod ReaderLaws
+pub mod PartLaws
 pub mod ValueLaws
 pub mod ExtendingLaws
-pub mod Computing
-pub mod ListTests
+pub mod BlockRules

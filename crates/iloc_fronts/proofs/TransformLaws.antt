@@ -1,22 +1,38 @@
--- What is read after `t`: the longest front of an identifier, and fields.
-use Rattle.std.proofs.Common.{◌≡◌, ◌⊎◌, inl, inr, ℕ, ◌<◌, ◌≤◌, Bool, true, false, ◌||◌, ◌==◌, List, [], ◌∷◌, ◌++◌, length, length-append, map, refl, sym, ap, ◌∙◌, subst, arith, Option, Some, None, IfSome, option_to_list, true≢false, append_assoc, le_antisymm}
-use Rattle.std.specs.List.{AllByRecursion}
-use Rattle.std.proofs.lemmas.Bool.{false_from_ne_true}
+-- The reader of what comes after `t`: the longest front of an identifier, and fields.
+use Rattle.std.proofs.Common.{◌≡◌, ◌↔◌, ℕ, ◌<◌, ◌≤◌, Bool, true, false, not, cond, ◌&&◌, ◌||◌, nat_lt, List, [], ◌∷◌, ◌++◌, length, length-append, map, refl, sym, ap, ◌∙◌, subst, arith, Option, Some, None, IfSome, is_some, option_to_list, true≢false, append_assoc, le_antisymm, Result, Err, MatchResult}
+use Rattle.std.specs.List.{AllByRecursion, list_all}
+use Rattle.std.proofs.lemmas.Bool.{and_parts, and_from, cond_both, not-true, false_from_ne_true, eqb-true, ltb-true, lt-ltb}
 use Rattle.std.proofs.lemmas.List.{map-append}
 use Rattle.iloc_grammar.specs.Words.{Language, Script, Region, Variant, TransformKey, Attribute, is_word, IsWord, IsTable, lower, word_cmp}
-use Rattle.iloc_grammar.specs.Written.{Identifier, Fields, Transform, identifier_pieces, optional_pieces, fields_pieces, HasWords, IsIdentifier, IsField, IsTransform, AllDifferent}
+use Rattle.iloc_grammar.specs.Written.{Identifier, Fields, Transform, transform, identifier_pieces, optional_pieces, fields_pieces, HasWords, IsIdentifier, IsField, IsTransform, AllDifferent}
 use Rattle.iloc_grammar.specs.Meaning.{normal_transform}
-use Rattle.iloc_grammar.specs.Faults.{Fault, InvalidSubtag, InvalidExtension, first_piece, RepeatsVariant}
+use Rattle.iloc_grammar.specs.Faults.{Fault, InvalidSubtag, first_piece, front, RepeatsVariant}
 use Rattle.iloc_grammar.specs.ByBlocks.{TransformMeans}
+use Rattle.iloc_grammar.specs.Reading.{IdentifierFront, EndsBefore, starts_block, from_block, front_of, after_front, identifier_of, fields_from}
 use Rattle.iloc_grammar.proofs.WordsLaws.{length-language, region_no_script, length-transform_key, length-attribute}
 use Rattle.iloc_grammar.proofs.ValuesLaws.{all_weaker, all_both}
 use Rattle.iloc_grammar.proofs.IdentifierLaws.{pieces-identifier_of, one_identifier}
-use Rattle.iloc_grammar.proofs.Readings.{IsLong, IsNoKey, after_language, long_after_language, identifier_no_key, language_no_key, fields_read, fields_pass}
-use Rattle.iloc_grammar.proofs.Deciding.{dec_and, dec_all, dec_field, dec_needed, dec_different}
-use Rattle.iloc_grammar.proofs.FaultLaws.{some_repeat, front_variants, after_variants, front_are_variants, front_longest, read_longer, cut_identifier, repeats_longer, language_of, script_of, region_of, spell_cut, dec_repeats}
-use Rattle.iloc_fronts.specs.Fronts.{FrontRead, absent, present, is_field_piece, fields_front, after_fields, TransformRead, TransformFault, repeats, unread, IsPartialFunction, EndsBlock}
-use Rattle.iloc_grammar.specs.Reading.{IdentifierFront, identifier_of, fields_from}
-use Rattle.iloc_fronts.proofs.FrontLaws.{same_fronts, same_before, Stops, all_from_pieces, front_of_fields, fields_stop, pieces_pass}
+use Rattle.iloc_grammar.proofs.Readings.{IsLong, IsNoKey, after_language, long_after_language, long_extension, identifier_no_key, language_no_key, fields_pass, fields_read}
+use Rattle.iloc_grammar.proofs.ReadingLaws.{front_is_front, front-from_block, from_block_starts}
+use Rattle.iloc_grammar.proofs.FaultLaws.{some_repeat, front_variants, after_variants, front_are_variants, front_longest, read_longer, cut_identifier, repeats_longer, language_of, script_of, region_of, spell_cut}
+use Rattle.iloc_fronts.specs.Readers.{IsReader, AgreesWithBlocks}
+use Rattle.iloc_fronts.specs.Fronts.{FrontRead, absent, present, is_field_piece, fields_front, after_fields, TransformRead, TransformFault, repeats, unread}
+use Rattle.iloc_fronts.specs.Computing.{fields_at, has_value, fields_result, all_different, transform_result}
+use Rattle.iloc_fronts.proofs.ListTests.{all_from, all_to}
+use Rattle.iloc_fronts.proofs.FieldLaws.{all_from_pieces, passing_from_all, front_of_fields, fields_words, fields_stop, pieces_pass}
+use Rattle.iloc_fronts.proofs.ReaderLaws.{reader_of, agreeing, until_block, Answers}
+
+-- two lists of one whole
+
+same_fronts : (xs ys a b : List (List ℕ)) → xs ++ a ≡ ys ++ b → length xs ≡ length ys → (xs ≡ ys) × (a ≡ b)
+same_fronts [] [] a b e l = (refl, e)
+same_fronts [] (y ∷ ys) a b e l = absurd (omega arith)
+same_fronts (x ∷ xs) [] a b e l = absurd (omega arith)
+same_fronts (x ∷ xs) (y ∷ ys) a b e l =
+    let heads : x ≡ y = cc in
+    let tails : xs ++ a ≡ ys ++ b = cc in
+    let rest = same_fronts xs ys a b tails (omega arith) in
+    (λ i. heads i ∷ rest.0 i, rest.1)
 
 -- two fronts of one list
 
@@ -41,7 +57,7 @@ one_longest ps i j rest more a b =
     let fronts = same_fronts (identifier_pieces i) (identifier_pieces j) rest more (sym a.spelled ∙ b.spelled) (le_antisymm (b.longest i rest a.words a.spelled) (a.longest j more b.words b.spelled)) in
     (one_identifier i j a.words b.words fronts.0, fronts.1)
 
-pub one_front : {T : ℕ → Bool} (ps : List (List ℕ)) {o q : Option Identifier} {rest more : List (List ℕ)} → FrontRead T ps o rest → FrontRead T ps q more → (o ≡ q) × (rest ≡ more)
+one_front : {T : ℕ → Bool} (ps : List (List ℕ)) {o q : Option Identifier} {rest more : List (List ℕ)} → FrontRead T ps o rest → FrontRead T ps q more → (o ≡ q) × (rest ≡ more)
 one_front ps (absent e) (absent k) = (refl, refl)
 one_front ps (absent e) (present g b) = absurd (true≢false (sym (front_language ps _ _ b.words b.spelled) ∙ e))
 one_front ps (present h a) (absent k) = absurd (true≢false (sym (front_language ps _ _ a.words a.spelled) ∙ k))
@@ -61,7 +77,7 @@ left_longest l s r (v ∷ vs) more hs hr hv =
     let total : length (identifier_pieces (cut_identifier (identifier_of ((l ∷ (option_to_list s ++ (option_to_list r ++ (v ∷ vs)))) ++ more)))) ≡ length ((l ∷ (option_to_list s ++ (option_to_list r ++ (v ∷ vs)))) ++ front_variants more) = ap (λ i. length (identifier_pieces i)) read ∙ ap length pieces in
     subst (λ (n : ℕ). length (l ∷ (option_to_list s ++ (option_to_list r ++ (v ∷ vs)))) ≤ n) (sym (total ∙ length-append (l ∷ (option_to_list s ++ (option_to_list r ++ (v ∷ vs)))) (front_variants more))) (omega arith)
 
-pub left_front : (T : ℕ → Bool) (p : List ℕ) (ps : List (List ℕ)) → IsWord (Language T) p → IdentifierFront T (p ∷ ps) (cut_identifier (identifier_of (p ∷ ps))) (after_variants (identifier_of (p ∷ ps)).variants)
+left_front : (T : ℕ → Bool) (p : List ℕ) (ps : List (List ℕ)) → IsWord (Language T) p → IdentifierFront T (p ∷ ps) (cut_identifier (identifier_of (p ∷ ps))) (after_variants (identifier_of (p ∷ ps)).variants)
 left_front T p ps h = record {
   words = record { language = subst (IsWord (Language T)) (sym (language_of p ps)) h; script = script_of p ps; region = region_of p ps; variants = front_are_variants _ };
   spelled = sym (spell_cut (identifier_of (p ∷ ps)) ∙ pieces-identifier_of p ps);
@@ -81,90 +97,106 @@ no_repeats {T = T} (p ∷ ps) j rest h f r =
     let all : AllDifferent word_cmp (map lower (r.0.variants ++ front_variants r.1)) = subst (λ l. AllDifferent word_cmp (map lower l)) vs h.different in
     r.4 (some_repeat word_cmp (map lower r.0.variants) (map lower (front_variants r.1)) (subst (AllDifferent word_cmp) (map-append lower r.0.variants (front_variants r.1)) all))
 
-front_cases : {T : ℕ → Bool} → IsTable T → (ps : List (List ℕ)) → ((o : Option Identifier) × (rest : List (List ℕ)) × FrontRead T ps o rest) ⊎ RepeatsVariant T ps
-front_cases {T = T} table [] = inl (None, [], absent (false_from_ne_true _ (λ h. no_word h)))
-  where
-    no_word : IsWord (Language T) [] → ⊥
-    no_word h = let l = table.least 0 (length-language T [] h) in absurd (omega arith)
-front_cases {T = T} table (p ∷ ps) = at_language (is_word (Language T) p) refl
-  where
-    Answer : Type 0
-    Answer = ((o : Option Identifier) × (rest : List (List ℕ)) × FrontRead T (p ∷ ps) o rest) ⊎ RepeatsVariant T (p ∷ ps)
-
-    at_language : (b : Bool) → is_word (Language T) p ≡ b → Answer
-    at_language false e = inl (None, p ∷ ps, absent e)
-    at_language true e = at_variants (dec_different word_cmp (map lower (cut_identifier (identifier_of (p ∷ ps))).variants))
-      where
-        left : IdentifierFront T (p ∷ ps) (cut_identifier (identifier_of (p ∷ ps))) (after_variants (identifier_of (p ∷ ps)).variants)
-        left = left_front T p ps e
-
-        at_variants : Dec (AllDifferent word_cmp (map lower (cut_identifier (identifier_of (p ∷ ps))).variants)) → Answer
-        at_variants (yes d) = inl (Some _, _, present (record { words = left.words; different = d }) left)
-        at_variants (no d) = inr (cut_identifier (identifier_of (p ∷ ps)), after_variants (identifier_of (p ∷ ps)).variants, left.words, left.spelled, d)
-
 -- fields
 
 abbrev is_key : List ℕ → Bool
 is_key p = is_word TransformKey p
 
-unfoldable pub fields_of : List (List ℕ) → Fields
-fields_of ps = fields_from is_key (fields_front ps)
-
-pub fields_spelled : (ps : List (List ℕ)) → fields_front ps ≡ fields_pieces (fields_of ps)
-unfolding fields_of
+fields_spelled : (ps : List (List ℕ)) → fields_front ps ≡ fields_pieces (fields_at ps)
 fields_spelled ps = front_of_fields is_key is_field_piece ps
 
-pub fields_are : (ps : List (List ℕ)) (fs : Fields) → AllByRecursion IsField fs → fields_front ps ≡ fields_pieces fs → fields_of ps ≡ fs
-unfolding fields_of
+fields_are : (ps : List (List ℕ)) (fs : Fields) → AllByRecursion IsField fs → fields_front ps ≡ fields_pieces fs → fields_at ps ≡ fs
 fields_are ps fs h e = ap (fields_from is_key) e ∙ fields_read is_key fs (fields_pass fs h)
+
+-- a key is a key, and what else is in the front is a value
+words_at : (ps : List (List ℕ)) → AllByRecursion (λ p. is_field_piece p ≡ true) ps → AllByRecursion (λ p. (is_key p ≡ true → IsWord TransformKey p) × (is_key p ≡ false → IsWord Attribute p)) ps
+words_at [] h = tt
+words_at (p ∷ ps) h = ((λ e. e, λ e. sym (ap (λ b. b || is_word Attribute p) e) ∙ h.0), words_at ps h.1)
+
+fields_good : (ps : List (List ℕ)) → list_all has_value (fields_at ps) ≡ true → AllByRecursion IsField (fields_at ps)
+fields_good ps h =
+    let words = (fields_words is_key (IsWord TransformKey) (IsWord Attribute) (fields_front ps) (words_at _ (passing_from_all is_key is_field_piece ps))).1 in
+    let both = all_both (λ f. IsWord TransformKey f.0 × AllByRecursion (IsWord Attribute) f.1) (λ f. has_value f ≡ true) (fields_at ps) words (all_from has_value (fields_at ps) h) in
+    all_weaker (λ f. (IsWord TransformKey f.0 × AllByRecursion (IsWord Attribute) f.1) × (has_value f ≡ true)) IsField (λ f r. (r.0.0, r.0.1, ltb-true 0 _ r.1)) (fields_at ps) both
+
+fields_tested : (fs : Fields) → AllByRecursion IsField fs → list_all has_value fs ≡ true
+fields_tested fs h = all_to has_value fs (all_weaker IsField (λ f. has_value f ≡ true) (λ f r. lt-ltb 0 _ r.2) fs h)
+
+needed_from : (o : Option Identifier) (n : ℕ) → (is_some o || nat_lt 0 n) ≡ true → o ≡ None → 0 < n
+needed_from None n h e = ltb-true 0 n h
+needed_from (Some i) n h e = absurd (cc)
+
+needed_to : (o : Option Identifier) (n : ℕ) → (o ≡ None → 0 < n) → (is_some o || nat_lt 0 n) ≡ true
+needed_to None n h = lt-ltb 0 n (h refl)
+needed_to (Some i) n h = refl
 
 -- what is read is determined
 
-pub one_transform : (T : ℕ → Bool) → IsPartialFunction (TransformRead T)
+one_transform : (T : ℕ → Bool) (ps : List (List ℕ)) (v w : Transform) (rest more : List (List ℕ)) → TransformRead T ps v rest → TransformRead T ps w more → (v ≡ w) × (rest ≡ more)
 one_transform T ps v w rest more a b =
     let fronts = one_front ps a.id b.id in
-    let fields : a.written.fields ≡ b.written.fields = sym (fields_are a.middle a.written.fields a.fields a.spelled) ∙ ap fields_of fronts.1 ∙ fields_are b.middle b.written.fields b.fields b.spelled in
+    let fields : a.written.fields ≡ b.written.fields = sym (fields_are a.middle a.written.fields a.fields a.spelled) ∙ ap fields_at fronts.1 ∙ fields_are b.middle b.written.fields b.fields b.spelled in
     (a.means ∙ (λ i. normal_transform (record { id = fronts.0 i; fields = fields i })) ∙ sym b.means, a.left ∙ ap after_fields fronts.1 ∙ sym b.left)
 
-pub transform_or_fault : {T : ℕ → Bool} → IsTable T → (ps : List (List ℕ)) → ((m : Transform) × (rest : List (List ℕ)) × TransformRead T ps m rest) ⊎ ((f : Fault) × TransformFault T ps f)
-transform_or_fault {T = T} table ps = at_repeats (dec_repeats T ps)
-  where
-    Answer : Type 0
-    Answer = ((m : Transform) × (rest : List (List ℕ)) × TransformRead T ps m rest) ⊎ ((f : Fault) × TransformFault T ps f)
-
-    at_repeats : Dec (RepeatsVariant T ps) → Answer
-    at_repeats (yes r) = inr (InvalidSubtag, repeats r)
-    at_repeats (no n) = at_front (front_cases table ps)
-      where
-        at_front : ((o : Option Identifier) × (rest : List (List ℕ)) × FrontRead T ps o rest) ⊎ RepeatsVariant T ps → Answer
-        at_front (inr r) = absurd (n r)
-        at_front (inl x) = at_fields (dec_and (dec_all IsField dec_field (fields_of x.1)) (dec_needed x.0 (length (fields_of x.1))))
-          where
-            at_fields : Dec (AllByRecursion IsField (fields_of x.1) × (x.0 ≡ None → 0 < length (fields_of x.1))) → Answer
-            at_fields (yes h) = inl (normal_transform (record { id = x.0; fields = fields_of x.1 }), after_fields x.1, record { written = record { id = x.0; fields = fields_of x.1 }; middle = x.1; id = x.2; fields = h.0; spelled = fields_spelled x.1; nonempty = h.1; means = refl; left = refl })
-            at_fields (no h) = inr (
-              InvalidExtension,
-              unread n (λ m rest r.
-                  let fronts = one_front ps r.id x.2 in
-                  let fields : r.written.fields ≡ fields_of x.1 = sym (fields_are r.middle r.written.fields r.fields r.spelled) ∙ ap fields_of fronts.1 in
-                  h (subst (AllByRecursion IsField) fields r.fields, λ e. subst (λ (fs : Fields). 0 < length fs) fields (r.nonempty (fronts.0 ∙ e)))),
-            )
-
-pub read_no_repeats : {T : ℕ → Bool} (ps : List (List ℕ)) {o : Option Identifier} {rest : List (List ℕ)} → FrontRead T ps o rest → RepeatsVariant T ps → ⊥
+read_no_repeats : {T : ℕ → Bool} (ps : List (List ℕ)) {o : Option Identifier} {rest : List (List ℕ)} → FrontRead T ps o rest → RepeatsVariant T ps → ⊥
 read_no_repeats ps (absent e) r = true≢false (sym (front_language ps r.0 r.1 r.2 r.3) ∙ e)
 read_no_repeats ps (present h f) r = no_repeats ps _ _ h f r
 
-pub transform_apart : {T : ℕ → Bool} (ps : List (List ℕ)) (m : Transform) (rest : List (List ℕ)) (f : Fault) → TransformRead T ps m rest → TransformFault T ps f → ⊥
-transform_apart ps m rest f h (repeats r) = read_no_repeats ps h.id r
-transform_apart ps m rest f h (unread n u) = u m rest h
+transform_apart : (T : ℕ → Bool) (ps : List (List ℕ)) (m : Transform) (rest : List (List ℕ)) (f : Fault) → TransformRead T ps m rest → TransformFault T ps f → ⊥
+transform_apart T ps m rest f h (repeats r) = read_no_repeats ps h.id r
+transform_apart T ps m rest f h (unread n u) = u m rest h
 
-pub one_transform_fault : {T : ℕ → Bool} (ps : List (List ℕ)) {f g : Fault} → TransformFault T ps f → TransformFault T ps g → f ≡ g
-one_transform_fault ps (repeats r) (repeats q) = refl
-one_transform_fault ps (repeats r) (unread n u) = absurd (n r)
-one_transform_fault ps (unread n u) (repeats q) = absurd (n q)
-one_transform_fault ps (unread n u) (unread m v) = refl
+one_transform_fault : (T : ℕ → Bool) (ps : List (List ℕ)) (f g : Fault) → TransformFault T ps f → TransformFault T ps g → f ≡ g
+one_transform_fault T ps f g (repeats r) (repeats q) = refl
+one_transform_fault T ps f g (repeats r) (unread n u) = absurd (n r)
+one_transform_fault T ps f g (unread n u) (repeats q) = absurd (n q)
+one_transform_fault T ps f g (unread n u) (unread m v) = refl
 
--- a whole block
+-- and what the program gives
+
+different_from : (ws : List (List ℕ)) → all_different ws ≡ true → AllDifferent word_cmp ws
+different_from [] h = tt
+different_from (w ∷ ws) h = let parts = and_parts _ _ h in (not-true _ parts.0, different_from ws parts.1)
+
+different_to : (ws : List (List ℕ)) → AllDifferent word_cmp ws → all_different ws ≡ true
+different_to [] h = refl
+different_to (w ∷ ws) h = and_from _ _ (ap not h.0) (different_to ws h.1)
+
+abbrev IsTransformAnswer : (ℕ → Bool) → List (List ℕ) → Result (Transform × List (List ℕ)) Fault → Type 0
+IsTransformAnswer T ps o = MatchResult o (λ r. TransformRead T ps r.0 r.1) (TransformFault T ps)
+
+abbrev are_whole : Option Identifier → Fields → Bool
+are_whole o fs = list_all has_value fs && (is_some o || nat_lt 0 (length fs))
+
+fields_answer : {T : ℕ → Bool} (ps : List (List ℕ)) (o : Option Identifier) (middle : List (List ℕ)) → FrontRead T ps o middle → IsTransformAnswer T ps (fields_result o middle)
+fields_answer {T = T} ps o middle h = cond_both (are_whole o (fields_at middle)) _ _ (IsTransformAnswer T ps)
+    (λ w.
+    let parts = and_parts (list_all has_value (fields_at middle)) _ w in
+    record { written = record { id = o; fields = fields_at middle }; middle = middle; id = h; fields = fields_good middle parts.0; spelled = fields_spelled middle; nonempty = needed_from o _ parts.1; means = refl; left = refl })
+    (λ n. unread (λ r. read_no_repeats ps h r) (λ m rest r.
+    let fronts = one_front ps r.id h in
+    let fields : r.written.fields ≡ fields_at middle = sym (fields_are r.middle r.written.fields r.fields r.spelled) ∙ ap fields_at fronts.1 in
+    let whole : are_whole r.written.id r.written.fields ≡ true = and_from _ _ (fields_tested r.written.fields r.fields) (needed_to r.written.id _ r.nonempty) in
+    true≢false (sym whole ∙ (λ i. are_whole (fronts.0 i) (fields i)) ∙ n)))
+
+no_empty_language : {T : ℕ → Bool} → IsTable T → is_word (Language T) [] ≡ false
+no_empty_language {T = T} table = false_from_ne_true _ (λ h. let l = table.least 0 (length-language T [] h) in absurd (omega arith))
+
+pub transform_answer : {T : ℕ → Bool} → IsTable T → Answers (TransformRead T) (TransformFault T) (transform_result T)
+unfolding transform_result
+transform_answer {T = T} table [] = subst (λ b. IsTransformAnswer T [] (cond b (cond (all_different (map lower (front_of []).variants)) (fields_result (Some (front_of [])) (after_front [])) (Err InvalidSubtag)) (fields_result None []))) (sym (no_empty_language table)) (fields_answer [] None [] (absent (no_empty_language table)))
+transform_answer {T = T} table (p ∷ ps) = cond_both (is_word (Language T) p) _ _ (IsTransformAnswer T (p ∷ ps))
+    (λ l.
+    let taken = front_is_front p ps l in
+    cond_both (all_different (map lower (front_of (p ∷ ps)).variants)) _ _ (IsTransformAnswer T (p ∷ ps))
+    (λ d. fields_answer (p ∷ ps) _ _ (present (record { words = taken.words; different = different_from _ d }) taken))
+    (λ n. repeats (front_of (p ∷ ps), after_front (p ∷ ps), taken.words, taken.spelled, λ d. true≢false (sym (different_to _ d) ∙ n))))
+    (λ l. fields_answer (p ∷ ps) None (p ∷ ps) (absent l))
+
+pub transform_reader : (T : ℕ → Bool) → IsTable T → IsReader (TransformRead T) (TransformFault T)
+transform_reader T table = reader_of (TransformRead T) (TransformFault T) (transform_result T) (transform_answer table) (one_transform T) (transform_apart T) (one_transform_fault T)
+
+-- its block
 
 front_spelled : {T : ℕ → Bool} (ps : List (List ℕ)) {o : Option Identifier} {rest : List (List ℕ)} → FrontRead T ps o rest → ps ≡ optional_pieces o ++ rest
 front_spelled ps (absent e) = refl
@@ -174,17 +206,15 @@ front_identifier : {T : ℕ → Bool} (ps : List (List ℕ)) {o : Option Identif
 front_identifier ps (absent e) = tt
 front_identifier ps (present h f) = h
 
-pub transform_whole : {T : ℕ → Bool} (ps rest : List (List ℕ)) (m : Transform) → TransformRead T (ps ++ rest) m rest → TransformMeans T ps m
-transform_whole ps rest m h =
+transform_whole : (T : ℕ → Bool) → IsTable T → (ps : List (List ℕ)) (m : Transform) (rest : List (List ℕ)) → TransformRead T ps m rest → starts_block rest ≡ true → TransformMeans T (front ps) m × (rest ≡ from_block ps)
+transform_whole T table ps m rest h s =
     let o = optional_pieces h.written.id in
     let fs = fields_pieces h.written.fields in
     let middle : h.middle ≡ fs ++ rest = sym (all_from_pieces is_key is_field_piece h.middle) ∙ (λ i. h.spelled i ++ sym h.left i) in
-    record {
-      written = h.written;
-      grammatical = record { id = front_identifier (ps ++ rest) h.id; fields = h.fields; nonempty = h.nonempty };
-      spelled = same_before ps (o ++ fs) rest (front_spelled (ps ++ rest) h.id ∙ ap (λ l. o ++ l) middle ∙ sym (append_assoc o fs rest));
-      means = h.means;
-    }
+    let all : ps ≡ (o ++ fs) ++ rest = front_spelled ps h.id ∙ ap (λ l. o ++ l) middle ∙ sym (append_assoc o fs rest) in
+    let g : IsTransform T h.written = record { id = front_identifier ps h.id; fields = h.fields; nonempty = h.nonempty } in
+    let ends = until_block (o ++ fs) rest (long_extension T table 116 (transform h.written) (refl, g)) s in
+    (record { written = h.written; grammatical = g; spelled = ap front all ∙ ends.0; means = h.means }, sym (ap from_block all ∙ ends.1))
 
 -- pieces that no identifier goes on with
 abbrev IsInside : List ℕ → Type 0
@@ -197,12 +227,9 @@ no_key_empty : is_word TransformKey [] ≡ false
 unfolding is_word
 no_key_empty = refl
 
-fields_end : (fs : Fields) (rest : List (List ℕ)) → AllByRecursion IsField fs → EndsBlock rest → NoFirst IsInside (fields_pieces fs ++ rest)
+fields_end : (fs : Fields) (rest : List (List ℕ)) → AllByRecursion IsField fs → starts_block rest ≡ true → NoFirst IsInside (fields_pieces fs ++ rest)
 fields_end [] [] h e = tt
-fields_end [] (p ∷ ps) h e = λ x. true≢false (sym (one (length p) e) ∙ x.1)
-  where
-    one : (n : ℕ) → n ≡ 1 → (n == 1) ≡ true
-    one n h = rw h refl
+fields_end [] (p ∷ ps) h e = λ x. true≢false (sym e ∙ x.1)
 fields_end (f ∷ fs) rest h e = λ x. true≢false (sym h.0.0 ∙ x.0)
 
 longest_until : {T : ℕ → Bool} (i j : Identifier) (rest more : List (List ℕ)) → HasWords T j → NoFirst IsInside rest → identifier_pieces i ++ rest ≡ identifier_pieces j ++ more → length (identifier_pieces j) ≤ length (identifier_pieces i)
@@ -217,15 +244,15 @@ one_no_word p e =
     let a = false_from_ne_true (is_word Attribute p) (λ h. let l = (length-attribute p h).0 in absurd (omega arith)) in
     (k, λ i. k i || a i)
 
-rest_stops : (rest : List (List ℕ)) → EndsBlock rest → Stops is_key rest × Stops is_field_piece rest
+rest_stops : (rest : List (List ℕ)) → starts_block rest ≡ true → EndsBefore is_key rest × EndsBefore is_field_piece rest
 rest_stops [] e = (tt, tt)
-rest_stops (p ∷ ps) e = one_no_word p e
+rest_stops (p ∷ ps) e = one_no_word p (eqb-true (length p) 1 e)
 
-pub transform_block : {T : ℕ → Bool} → (ps rest : List (List ℕ)) (m : Transform) → TransformMeans T ps m → EndsBlock rest → TransformRead T (ps ++ rest) m rest
-transform_block {T = T} ps rest m h e = subst (λ (l : List (List ℕ)). TransformRead T l m rest) (sym (ap (λ l. l ++ rest) h.spelled ∙ append_assoc (optional_pieces h.written.id) (fields_pieces fs) rest)) (record {
+transform_spelled : {T : ℕ → Bool} → (ps rest : List (List ℕ)) (m : Transform) → TransformMeans T ps m → starts_block rest ≡ true → TransformRead T (ps ++ rest) m rest
+transform_spelled {T = T} ps rest m h e = subst (λ (l : List (List ℕ)). TransformRead T l m rest) (sym (ap (λ l. l ++ rest) h.spelled ∙ append_assoc (optional_pieces h.written.id) (fields_pieces fs) rest)) (record {
   written = h.written;
   middle = fields_pieces fs ++ rest;
-  id = front h.written.id g.id g.nonempty;
+  id = front_is h.written.id g.id g.nonempty;
   fields = g.fields;
   spelled = stop.0;
   nonempty = g.nonempty;
@@ -243,9 +270,9 @@ transform_block {T = T} ps rest m h e = subst (λ (l : List (List ℕ)). Transfo
     no_language [] f n = absurd (omega arith)
     no_language (f ∷ fs) k n = false_from_ne_true _ (λ l. true≢false (sym k.0.0 ∙ language_no_key T f.0 l))
 
-    front : (o : Option Identifier) → IfSome o (IsIdentifier T) → (o ≡ None → 0 < length fs) → FrontRead T (optional_pieces o ++ (fields_pieces fs ++ rest)) o (fields_pieces fs ++ rest)
-    front None i n = absent (no_language fs g.fields (n refl))
-    front (Some i) w n = present w (record { words = w.words; spelled = refl; longest = λ j more v q. longest_until i j (fields_pieces fs ++ rest) more v (fields_end fs rest g.fields e) q })
+    front_is : (o : Option Identifier) → IfSome o (IsIdentifier T) → (o ≡ None → 0 < length fs) → FrontRead T (optional_pieces o ++ (fields_pieces fs ++ rest)) o (fields_pieces fs ++ rest)
+    front_is None i n = absent (no_language fs g.fields (n refl))
+    front_is (Some i) w n = present w (record { words = w.words; spelled = refl; longest = λ j more v q. longest_until i j (fields_pieces fs ++ rest) more v (fields_end fs rest g.fields e) q })
 
     or_true : (b : Bool) → (b || true) ≡ true
     or_true true = refl
@@ -256,6 +283,12 @@ transform_block {T = T} ps rest m h e = subst (λ (l : List (List ℕ)). Transfo
 
     stop : (fields_front (fields_pieces fs ++ rest) ≡ fields_pieces fs) × (after_fields (fields_pieces fs ++ rest) ≡ rest)
     stop = fields_stop is_key is_field_piece fs rest (pieces_pass is_field_piece fs (all_weaker IsField (λ f. (is_field_piece f.0 ≡ true) × AllByRecursion (λ p. is_field_piece p ≡ true) f.1) goes_on fs g.fields)) (all_weaker IsField (λ f. is_key f.0 ≡ true) (λ f r. r.0) fs g.fields) (rest_stops rest e).1 (rest_stops rest e).0 no_key_empty
+
+transform_block : (T : ℕ → Bool) (ps : List (List ℕ)) (m : Transform) → TransformMeans T (front ps) m → TransformRead T ps m (from_block ps)
+transform_block T ps m h = subst (λ (l : List (List ℕ)). TransformRead T l m (from_block ps)) (front-from_block ps) (transform_spelled (front ps) (from_block ps) m h (from_block_starts ps))
+
+pub transform_agrees : (T : ℕ → Bool) → IsTable T → AgreesWithBlocks (TransformRead T) (TransformFault T) (TransformMeans T)
+transform_agrees T table = agreeing (TransformRead T) (TransformFault T) (TransformMeans T) (transform_reader T table) (transform_whole T table) (transform_block T)
 
 -- variants that repeat, with and without what follows the block
 
@@ -268,14 +301,11 @@ longer_front (x ∷ xs) (y ∷ ys) a b e l =
     let rest = longer_front xs ys a b tails (omega arith) in
     (rest.0, λ i. heads i ∷ rest.1 i)
 
-one_is_short : (rest : List (List ℕ)) → EndsBlock rest → NoFirst IsLong rest
+one_is_short : (rest : List (List ℕ)) → starts_block rest ≡ true → NoFirst IsLong rest
 one_is_short [] e = tt
-one_is_short (p ∷ ps) e = λ l. true≢false (sym (one (length p) e) ∙ l)
-  where
-    one : (n : ℕ) → n ≡ 1 → (n == 1) ≡ true
-    one n h = rw h refl
+one_is_short (p ∷ ps) e = λ l. true≢false (sym e ∙ l)
 
-pub repeats_in_block : {T : ℕ → Bool} → (p : List ℕ) (ps rest : List (List ℕ)) → EndsBlock rest → RepeatsVariant T ((p ∷ ps) ++ rest) → RepeatsVariant T (p ∷ ps)
+repeats_in_block : {T : ℕ → Bool} → (p : List ℕ) (ps rest : List (List ℕ)) → starts_block rest ≡ true → RepeatsVariant T ((p ∷ ps) ++ rest) → RepeatsVariant T (p ∷ ps)
 repeats_in_block p ps rest e r =
     let tails : ps ++ rest ≡ after_language r.0 ++ r.1 = cc (r.3) in
     let heads : p ≡ r.0.language = cc (r.3) in
@@ -283,5 +313,20 @@ repeats_in_block p ps rest e r =
     let found = longer_front ps (after_language r.0) rest r.1 tails l in
     (r.0, found.0, r.2, (λ i. heads i ∷ found.1 i), r.4)
 
-pub repeats_before : {T : ℕ → Bool} → (ps rest : List (List ℕ)) → RepeatsVariant T ps → RepeatsVariant T (ps ++ rest)
+repeats_before : {T : ℕ → Bool} → (ps rest : List (List ℕ)) → RepeatsVariant T ps → RepeatsVariant T (ps ++ rest)
 repeats_before ps rest r = (r.0, r.1 ++ rest, r.2, ap (λ l. l ++ rest) r.3 ∙ append_assoc (identifier_pieces r.0) r.1 rest, r.4)
+
+pub repeats_by_block : (T : ℕ → Bool) → IsTable T → (ps : List (List ℕ)) → RepeatsVariant T (front ps) ↔ RepeatsVariant T ps
+repeats_by_block T table ps = (λ r. subst (RepeatsVariant T) (front-from_block ps) (repeats_before (front ps) (from_block ps) r), λ r. whole (front ps) (from_block ps) (from_block_starts ps) (subst (RepeatsVariant T) (sym (front-from_block ps)) r))
+  where
+    no_first : (rest : List (List ℕ)) → starts_block rest ≡ true → RepeatsVariant T rest → ⊥
+    no_first [] s r = let e = r.3 in absurd (cc)
+    no_first (p ∷ ps) s r =
+        let heads : p ≡ r.0.language = cc (r.3) in
+        let l = table.least _ (length-language T p (subst (IsWord (Language T)) (sym heads) r.2.language)) in
+        let one = eqb-true (length p) 1 s in
+        absurd (omega arith)
+
+    whole : (qs rest : List (List ℕ)) → starts_block rest ≡ true → RepeatsVariant T (qs ++ rest) → RepeatsVariant T qs
+    whole [] rest s r = absurd (no_first rest s r)
+    whole (q ∷ qs) rest s r = repeats_in_block q qs rest s r

@@ -9,7 +9,7 @@ use Rattle.iloc_grammar.specs.Faults.{InvalidSubtag, InvalidExtension}
 use Rattle.iloc_grammar.proofs.PiecesLaws.{pieces-join}
 use Rattle.iloc_grammar.proofs.ReadBack.{word_hyphen_free}
 use Rattle.iloc_grammar.proofs.ValuesLaws.{all_weaker, values_fixed, spelled_rule, spelled_means}
-use Rattle.iloc_fronts.specs.Fronts.{unicode_value, transform_value}
+use Rattle.iloc_fronts.specs.PartValues.{unicode_value, transform_value}
 use Rattle.iloc_fronts.proofs.ListTests.{all_to}
 
 cut : (k : Kind) (w : List ℕ) (ws : List (List ℕ)) → AllByRecursion (IsWord k) (w ∷ ws) → pieces (join (w ∷ ws)) ≡ w ∷ ws

@@ -1,2 +1,6 @@
+pub mod Readers
 pub mod Fronts
+pub mod Parts
+pub mod PartValues
+pub mod Computing
 pub mod Extending

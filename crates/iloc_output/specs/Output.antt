@@ -5,8 +5,7 @@ use Rattle.iloc_grammar.specs.Pieces.{pieces, join}
 use Rattle.iloc_grammar.specs.Written.{Identifier, identifier_pieces}
 use Rattle.iloc_grammar.specs.Meaning.{Locale, Means, IdentifierMeans}
 use Rattle.iloc_grammar.specs.Values.{text}
-use Rattle.iloc_grammar.specs.Faults.{Fault, InvalidLanguage, InvalidSubtag, InvalidExtension, DuplicatedExtension, HasFault}
-use Rattle.iloc_fronts.specs.Fronts.{HasIdentifierFault}
+use Rattle.iloc_grammar.specs.Faults.{Fault, InvalidLanguage, InvalidSubtag, InvalidExtension, DuplicatedExtension, HasIdentifierFault, HasFault}
 use Rattle.iloc_regions.specs.DataLocales.{DataLocale, DataMeans, HasDataFault, data_text}
 
 pub data Mode : Type 0 where

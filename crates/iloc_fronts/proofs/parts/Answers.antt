@@ -1,6 +1,16 @@
 -- The singleton comes first.
-use Rattle.iloc_fronts.proofs.ReaderLaws.{one_reads_unicode, one_reads_transform, one_reads_other, one_reads_private}
+use Rattle.iloc_grammar.specs.Written.{is_other_singleton}
+use Rattle.iloc_fronts.specs.Fronts.{UnicodeRead, UnicodeFault, TransformRead, TransformFault, OtherRead, OtherFault, PrivateRead, PrivateFault}
+use Rattle.iloc_fronts.specs.Parts.{is_letter}
+use Rattle.iloc_fronts.proofs.FrontLaws.{unicode_reader, other_reader, private_reader}
+use Rattle.iloc_fronts.proofs.TransformLaws.{transform_reader}
+use Rattle.iloc_fronts.proofs.PartLaws.{part_reader}
 use Rattle.iloc_fronts.proofs.parts.Goals as goal
 
 pub returns : goal.returns
-returns c = record { unicode = one_reads_unicode; transform = one_reads_transform; other = one_reads_other; private = one_reads_private }
+returns c = record {
+  unicode = part_reader (is_letter 117) UnicodeRead UnicodeFault unicode_reader;
+  transform = λ T table. part_reader (is_letter 116) (TransformRead T) (TransformFault T) (transform_reader T table);
+  other = part_reader is_other_singleton OtherRead OtherFault other_reader;
+  private = part_reader (is_letter 120) PrivateRead PrivateFault private_reader;
+}

@@ -1,0 +1,54 @@
+-- Parts with their singletons.
+use Rattle.std.proofs.Common.{◌≡◌, ◌⊎◌, inl, inr, ℕ, Bool, true, false, List, [], ◌∷◌, refl, sym, ap, ◌∙◌, subst, true≢false}
+use Rattle.std.specs.Char.{to_ascii_lowercase}
+use Rattle.iloc_grammar.specs.Faults.{Fault}
+use Rattle.iloc_fronts.specs.Readers.{IsReader}
+use Rattle.iloc_fronts.specs.Parts.{begins_part, PartRead, PartFault, no_singleton, after_singleton}
+
+-- A singleton before a reader makes a reader.
+module _ {X : Type 0} (test : ℕ → Bool) (R : List (List ℕ) → X → List (List ℕ) → Type 0) (F : List (List ℕ) → Fault → Type 0) (reader : IsReader R F) where
+  begun : (ps : List (List ℕ)) (part : ℕ × X) (rest : List (List ℕ)) → PartRead test R ps part rest → begins_part test ps ≡ true
+  begun ps part rest h = ap (begins_part test) h.spelled ∙ ap test (sym h.singleton) ∙ h.passes
+
+  one : (ps : List (List ℕ)) (v w : ℕ × X) (rest more : List (List ℕ)) → PartRead test R ps v rest → PartRead test R ps w more → (v ≡ w) × (rest ≡ more)
+  one ps v w rest more a b =
+      let same : (a.byte ∷ []) ∷ a.after ≡ (b.byte ∷ []) ∷ b.after = sym a.spelled ∙ b.spelled in
+      let bytes : a.byte ≡ b.byte = cc in
+      let afters : a.after ≡ b.after = cc in
+      let parts = reader.one b.after v.1 w.1 rest more (subst (λ (l : List (List ℕ)). R l v.1 rest) afters a.reads) b.reads in
+      (λ i. ((a.singleton ∙ ap to_ascii_lowercase bytes ∙ sym b.singleton) i, parts.0 i), parts.1)
+
+  apart : (ps : List (List ℕ)) (v : ℕ × X) (rest : List (List ℕ)) (f : Fault) → PartRead test R ps v rest → PartFault test F ps f → ⊥
+  apart ps v rest f h (no_singleton n) = true≢false (sym (begun ps v rest h) ∙ n)
+  apart ps v rest f h (after_singleton {b = b} {after = after} e p x) =
+      let same : (h.byte ∷ []) ∷ h.after ≡ (b ∷ []) ∷ after = sym h.spelled ∙ e in
+      let afters : h.after ≡ after = cc in
+      reader.apart after v.1 rest f (subst (λ (l : List (List ℕ)). R l v.1 rest) afters h.reads) x
+
+  one_fault : (ps : List (List ℕ)) (f g : Fault) → PartFault test F ps f → PartFault test F ps g → f ≡ g
+  one_fault ps f g (no_singleton n) (no_singleton m) = refl
+  one_fault ps f g (no_singleton n) (after_singleton e p x) = absurd (true≢false (sym p ∙ n))
+  one_fault ps f g (after_singleton e p x) (no_singleton n) = absurd (true≢false (sym p ∙ n))
+  one_fault ps f g (after_singleton {b = b} {after = after} e p x) (after_singleton {b = c} {after = later} k q y) =
+      let same : (b ∷ []) ∷ after ≡ (c ∷ []) ∷ later = sym e ∙ k in
+      let afters : after ≡ later = cc in
+      reader.one_fault later f g (subst (λ (l : List (List ℕ)). F l f) afters x) y
+
+  abbrev Either : List (List ℕ) → Type 0
+  Either ps = ((v : ℕ × X) × (rest : List (List ℕ)) × PartRead test R ps v rest) ⊎ ((f : Fault) × PartFault test F ps f)
+
+  at_byte : (b : ℕ) (ps : List (List ℕ)) (x : Bool) → test (to_ascii_lowercase b) ≡ x → Either ((b ∷ []) ∷ ps)
+  at_byte b ps false e = inr (_, no_singleton e)
+  at_byte b ps true e = elim (reader.either ps) [
+    | inl r ↦ inl ((to_ascii_lowercase b, r.0), r.1, record { byte = b; after = ps; spelled = refl; singleton = refl; passes = e; reads = r.2 })
+    | inr f ↦ inr (f.0, after_singleton refl e f.1)
+  ]
+
+  either : (ps : List (List ℕ)) → Either ps
+  either [] = inr (_, no_singleton refl)
+  either ([] ∷ ps) = inr (_, no_singleton refl)
+  either ((b ∷ c ∷ p) ∷ ps) = inr (_, no_singleton refl)
+  either ((b ∷ []) ∷ ps) = at_byte b ps (test (to_ascii_lowercase b)) refl
+
+  pub part_reader : IsReader (PartRead test R) (PartFault test F)
+  part_reader = record { one = one; either = either; apart = apart; one_fault = one_fault }
