@@ -7,7 +7,7 @@ use Rattle.std.specs.Prelude.{codes}
 use Rattle.iloc_grammar.specs.Words.{Kind, Language, Script, Region, Variant, Subtag, UnicodeKey, TransformKey, Attribute, is_word, IsWord, normal, lower, upper, title, word_cmp, is_true}
 use Rattle.iloc_grammar.specs.Written.{Identifier, Fields, Unicode, Transform, identifier_pieces, HasWords, IsIdentifier, IsUnicode, IsTransform, IsKeyword, IsField, AllDifferent}
 use Rattle.iloc_grammar.specs.Meaning.{map_of, set_of, normal_identifier, normal_unicode, normal_transform, normal_fields, normal_values, IdentifierMeans}
-use Rattle.iloc_grammar.specs.Values.{IsNormal, IsAscending, IsIdentifierValue, IsUnicodeValue, IsTransformValue, lower_identifier, spelled_value}
+use Rattle.iloc_grammar.specs.Values.{IsNormal, IsAscending, IsIdentifierValue, IsUnicodeValue, IsTransformValue, lower_identifier, spelled_value, spelled_fields}
 use Rattle.iloc_grammar.proofs.WordsLaws.{lower-lower, title-lower, upper-lower, is_word-lower}
 use Rattle.iloc_grammar.proofs.MapLaws.{map_of_sorted, sorted_different}
 
@@ -157,9 +157,6 @@ spelled_rule (w ∷ ws) h = (all_weaker (λ w. IsNormal Attribute w × (is_true 
 pub spelled_means : (ws : List (List ℕ)) → AllByRecursion (λ w. IsNormal Attribute w × (is_true w ≡ false)) ws → normal_values (spelled_value ws) ≡ ws
 spelled_means [] h = rw (lower_true, is_true_word)
 spelled_means (w ∷ ws) h = values_fixed (w ∷ ws) (all_weaker (λ w. IsNormal Attribute w × (is_true w ≡ false)) (λ w. lower w ≡ w) (λ w n. n.0.1) (w ∷ ws) h) (all_weaker (λ w. IsNormal Attribute w × (is_true w ≡ false)) (λ w. is_true w ≡ false) (λ w n. n.1) (w ∷ ws) h)
-
-abbrev pub spelled_fields : Fields → Fields
-spelled_fields fs = map (λ f. (f.0, spelled_value f.1)) fs
 
 fields_rule : (fs : Fields) → AllByRecursion IsTransformEntry fs → AllByRecursion IsField (spelled_fields fs)
 fields_rule [] h = tt
