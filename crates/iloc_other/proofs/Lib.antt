@@ -1,3 +1,4 @@
 pub mod TakingLemmas
 pub mod OtherLemmas
-pub mod BlockLemmas
+pub mod SingletonLemmas
+pub mod TextLemmas

@@ -11,6 +11,7 @@ ghost use Rattle.iloc_fronts.specs.Fronts.{has_other_length};
 ghost use Rattle.iloc_parser.specs.Left.{left};
 ghost use Rattle.iloc_other.specs.Reading.{OtherReads, OtherTextReads};
 
+use crate::singleton::take_singleton;
 use crate::words::are_normal;
 use iloc_parser::SubtagIterator;
 use iloc_shortvec::ShortWords;
@@ -102,10 +103,9 @@ impl Other {
         ensures { OtherTextReads code_units.now result }
     {
         let mut iter = SubtagIterator::new(code_units);
-        let Some([byte]) = iter.next() else {
+        let Some(ext) = take_singleton(&mut iter) else {
             return Err(ParseError::InvalidExtension);
         };
-        let ext = byte.to_ascii_lowercase();
         if !is_other_ext(ext) {
             return Err(ParseError::InvalidExtension);
         }
@@ -135,7 +135,7 @@ impl Other {
         'pieces: while let Some(piece) = take_piece(iter) {
             other.push_word(alloc, piece)?;
         }
-        if other.as_slice().is_empty() {
+        if other.keys.is_empty() {
             return Err(ParseError::InvalidExtension);
         }
         Ok(other)

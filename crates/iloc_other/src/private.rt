@@ -8,6 +8,7 @@ ghost use Rattle.iloc_grammar.specs.Words.{PrivateSubtag as the_kind};
 ghost use Rattle.iloc_parser.specs.Left.{left};
 ghost use Rattle.iloc_other.specs.Reading.{PrivateReads, PrivateTextReads};
 
+use crate::singleton::take_singleton;
 use crate::words::are_normal;
 use iloc_parser::SubtagIterator;
 use iloc_shortvec::ShortWords;
@@ -120,10 +121,13 @@ impl Private {
         ensures { PrivateTextReads code_units.now result }
     {
         let mut iter = SubtagIterator::new(code_units);
-        match iter.next() {
-            Some([b'x' | b'X']) => Private::try_from_iter(alloc, &mut iter),
-            _ => Err(ParseError::InvalidExtension),
+        let Some(ext) = take_singleton(&mut iter) else {
+            return Err(ParseError::InvalidExtension);
+        };
+        if ext != b'x' {
+            return Err(ParseError::InvalidExtension);
         }
+        Private::try_from_iter(alloc, &mut iter)
     }
 
     /// The same on a text.
