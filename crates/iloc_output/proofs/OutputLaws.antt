@@ -12,7 +12,8 @@ use Rattle.iloc_grammar.proofs.FaultLaws.{accepted_or_fault, accepted_no_fault, 
 use Rattle.iloc_regions.specs.DataLocales.{DataLocale, DataMeans, HasDataFault, data_text}
 use Rattle.iloc_output.specs.Output.{Mode, OfIdentifiers, OfLocales, OfDataLocales, refusal, IsAnswer, identifier, no_identifier, locale, no_locale, data_locale, no_data_locale, lines_of, ended, IsOutput}
 use Rattle.iloc_grammar.proofs.IdentifierTexts.{text_identifier_or_fault, identifier_apart, one_identifier_fault}
-use Rattle.iloc_regions.proofs.DataLaws.{data_result, data_answer, one_data, data_apart, one_data_fault}
+use Rattle.iloc_regions.proofs.DataLaws.{data_answer, one_data, data_apart, one_data_fault}
+use Rattle.iloc_regions.specs.Computing.{data_result}
 
 module _ {T : ℕ → Bool} (table : IsTable T) where
   pub an_answer : (mode : Mode) (line : List ℕ) → (answer : List ℕ) × IsAnswer T line mode answer

@@ -9,8 +9,10 @@ use Rattle.iloc_grammar.specs.Reading.{identifier_of}
 use Rattle.iloc_small.specs.Small.{SmallLocale, IsSmall, HasSmallFault, locale_of_small}
 use Rattle.iloc_regions.specs.DataLocales.{DataLocale, DataMeans, HasDataFault}
 use Rattle.iloc_output.specs.Output.{OfLocales, OfDataLocales, locale, no_locale, data_locale, no_data_locale, IsOutput}
-use Rattle.iloc_small.proofs.SmallLaws.{small_result, small_answer, small_means, small_identifier_result, after_identifier, blocks_result, block_fault}
-use Rattle.iloc_regions.proofs.DataLaws.{data_result, data_answer}
+use Rattle.iloc_small.proofs.SmallLaws.{small_answer, small_means}
+use Rattle.iloc_small.specs.Computing.{small_result, small_identifier_result, after_identifier, blocks_result, block_fault}
+use Rattle.iloc_regions.proofs.DataLaws.{data_answer}
+use Rattle.iloc_regions.specs.Computing.{data_result}
 
 table : IsTable two_or_three
 table = record { least = λ n h. at_least n h; most = λ n h. at_most n h; no_script = λ n h. no_four n h }

@@ -11,8 +11,8 @@ use Rattle.iloc_small.specs.Small.{SmallLocale}
 use Rattle.iloc_regions.specs.DataLocales.{DataLocale, DataKey, data_key, data_text}
 use Rattle.iloc_preferences_rules.specs.Preferences.{Preferences, preferences, is_strict, language_priority, region_priority, merge, locale_of_preferences, format_preferences, is_strict_format, merge_format, time_of_format, FormatPreferences}
 use Rattle.iloc_orders.specs.Orders.{locale_cmp, words_cmp}
-use Rattle.iloc_small.proofs.SmallLaws.{small_result, small_identifier_result, after_identifier, blocks_result, block_fault}
-use Rattle.iloc_regions.proofs.DataLaws.{data_result}
+use Rattle.iloc_small.specs.Computing.{small_result, small_identifier_result, after_identifier, blocks_result, block_fault}
+use Rattle.iloc_regions.specs.Computing.{data_result}
 
 -- the meaning of a text that is a locale
 unfoldable pub locale : List ℕ → Locale

@@ -18,8 +18,10 @@ use Rattle.iloc_grammar.proofs.Corollaries.{same_text_same_value}
 use Rattle.iloc_small.specs.Small.{SmallIdentifier, SmallLocale, identifier_of_small, locale_of_small, IsSmall, HasSmallFault, IsSmallValue}
 use Rattle.iloc_grammar.specs.Reading.{first_item}
 use Rattle.iloc_regions.specs.Subdivisions.{Subdivision, subdivision, subdivision_text, IsSubdivision}
+use Rattle.iloc_regions.specs.Computing.{data_of_result, data_result}
 use Rattle.iloc_regions.specs.DataLocales.{DataLocale, IsDataLocale, whole, whole_region, is_whole, named_subdivision, made_of, agreed, sd, small_part, data_of_small, DataMeans, HasDataFault, not_small, no_subdivision, subdivision_value, subdivision_keyword, subdivision_pieces, data_text, small_of_data, locale_of_data}
-use Rattle.iloc_small.proofs.SmallLaws.{one_small, small_result, small_answer, small_apart, one_small_fault, by_result}
+use Rattle.iloc_small.proofs.SmallLaws.{one_small, small_answer, small_apart, one_small_fault, by_result}
+use Rattle.iloc_small.specs.Computing.{small_result}
 use Rattle.iloc_small.proofs.SmallBack.{small_back, small_is_value, read_is_small_value}
 use Rattle.iloc_regions.proofs.SubdivisionLaws.{subdivision_back, subdivision_is_subtag, read_is_subdivision, text_of_read, read_is_long}
 
@@ -37,13 +39,6 @@ pub same_is : (v w : List ℕ) → is_same v w ≡ true → v ≡ w
 same_is v w e = same_words v w (tied (word_cmp v w) e)
 
 -- what is read of a text
-
-abbrev pub data_of_result : Result SmallLocale Fault → Result DataLocale Fault
-data_of_result (Ok r) = ok_or (data_of_small r) InvalidExtension
-data_of_result (Err f) = Err f
-
-unfoldable pub data_result : (ℕ → Bool) → List ℕ → Result DataLocale Fault
-data_result T t = data_of_result (small_result T t)
 
 pub data_answer : {T : ℕ → Bool} → IsTable T → (t : List ℕ) → MatchResult (data_result T t) (DataMeans T t) (HasDataFault T t)
 unfolding data_result

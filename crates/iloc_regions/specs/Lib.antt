@@ -1,3 +1,4 @@
 pub mod Subdivisions
 pub mod DataLocales
+pub mod Computing
 pub mod DataOrders

@@ -4,7 +4,7 @@
 //! it; data locales tie where they stand for the same. It stands on `iloc_grammar`, `iloc_small` and `iloc_orders`.
 #![tactic(auto)]
 
-ghost use Rattle.std.specs.Prelude.{◌≡◌, ◌↔◌, ◌⊎◌, ℕ, Bool, true, List, Ok};
+ghost use Rattle.std.specs.Prelude.{◌≡◌, ◌↔◌, ◌⊎◌, ℕ, Bool, true, List, MatchResult, Ok};
 ghost use Rattle.std.specs.Cmp.{IsTotalOrder};
 ghost use Rattle.std.specs.declared.cmp.Ordering.TheVariants.{Equal};
 ghost use Rattle.iloc_grammar.specs.Words.{IsTable, lower};
@@ -12,6 +12,7 @@ ghost use Rattle.iloc_grammar.specs.Meaning.{Locale};
 ghost use Rattle.iloc_grammar.specs.Values.{IsValue, IsWellFormed, text};
 ghost use Rattle.iloc_grammar.specs.Faults.{Fault};
 ghost use Rattle.iloc_regions.specs.Subdivisions.{Subdivision, IsSubdivision, subdivision, subdivision_text};
+ghost use Rattle.iloc_regions.specs.Computing.{data_result};
 ghost use Rattle.iloc_regions.specs.DataLocales.{DataLocale, DataMeans, HasDataFault, IsDataLocale, data_key, data_text, locale_of_data};
 ghost use Rattle.iloc_orders.specs.Orders.{IsExactOrder};
 ghost use Rattle.iloc_regions.specs.DataOrders.{subdivision_cmp, data_locale_cmp};
@@ -23,12 +24,13 @@ pub fn subdivisions()
     ensures same { (w : List ℕ) (s : Subdivision) → subdivision w ≡ Ok s → subdivision_text s ≡ lower w }
 {}
 
-/// Each text means one data locale or has one fault.
+/// Each text means one data locale or has one fault; and a plain program says which.
 pub fn data_locale_or_one_fault()
     ensures one { (T : ℕ → Bool) → IsTable T → (t : List ℕ) (d e : DataLocale) → DataMeans T t d → DataMeans T t e → d ≡ e }
     ensures either { (T : ℕ → Bool) → IsTable T → (t : List ℕ) → ((d : DataLocale) × DataMeans T t d) ⊎ ((f : Fault) × HasDataFault T t f) }
     ensures apart { (T : ℕ → Bool) → IsTable T → (t : List ℕ) (d : DataLocale) (f : Fault) → DataMeans T t d → HasDataFault T t f → ⊥ }
     ensures one_fault { (T : ℕ → Bool) (t : List ℕ) (f g : Fault) → HasDataFault T t f → HasDataFault T t g → f ≡ g }
+    ensures answer { (T : ℕ → Bool) → IsTable T → (t : List ℕ) → MatchResult (data_result T t) (DataMeans T t) (HasDataFault T t) }
 {}
 
 /// A data locale that was read prints a text that means it; its locale prints the same text, and no other does.

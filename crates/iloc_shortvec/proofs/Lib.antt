@@ -1,3 +1,4 @@
 pub mod Filtered
 pub mod Shifts
 pub mod ShortLemmas
+pub mod FrontLoan

@@ -2,8 +2,8 @@
 use Rattle.std.specs.Prelude.{◌<◌, ◌≤◌, List, [], length}
 use Rattle.std.specs.Vec.{with_items}
 use Rattle.iloc_shortvec.specs.ShortList.{written}
-use Rattle.iloc_shortvec.specs.declared.short_words.Kept.{Kept}
-use Rattle.iloc_shortvec.specs.declared.short_words.Kept.TheVariants.{Empty, Inline, Heap}
+use Rattle.iloc_shortvec.specs.declared.kept.Kept.{Kept}
+use Rattle.iloc_shortvec.specs.declared.kept.Kept.TheVariants.{Empty, Inline, Heap}
 
 -- the items
 abbrev pub items_of : {T : Type 0} → Kept T → List T

@@ -1,8 +1,11 @@
+pub mod FewLends
 pub mod Items
 pub mod ItemsLends
 pub mod Kept
+pub mod KeptLends
 pub mod NothingLends
 pub mod Rest
 pub mod ShortList
 pub mod ShortListLends
 pub mod ShortOrder
+pub mod ShortWordsLends

@@ -1,6 +1,8 @@
 //! One to four items in place.
 ghost use Rattle.std.specs.Prelude.{◌≡◌, ◌<◌, ◌≤◌, ◌+◌, ◌-◌, [], ◌∷◌, ◌++◌, length, insert, remove, slice_get, Some};
+ghost use Rattle.std.specs.Borrow.{sem};
 
+use crate::front::front_mut;
 use std::marker::Model;
 
 /// One to four items. The places after them hold copies, and count for nothing.
@@ -21,6 +23,8 @@ impl<T: Copy> Model for Few<T> {
 }
 
 impl<T: Copy> Few<T> {
+    ghost use Rattle.iloc_shortvec.specs.FewLends.{few_lends_slice};
+
     pub fn one(item: T) -> Self
         ensures { result ≡ item ∷ [] }
     {
@@ -61,6 +65,13 @@ impl<T: Copy> Few<T> {
         &self.xs[..self.len]
     }
 
+    pub fn as_mut_slice(&mut self) -> &mut [T]
+        ensures* writes_back { sem 𝓛 (few_lends_slice T.row self.entry result) }
+        ensures value { result.now ≡ self.old }
+    {
+        front_mut(&mut self.xs, self.len)
+    }
+
     pub fn len(&self) -> usize
         ensures { result ≡ length self.now }
     {
@@ -75,6 +86,17 @@ impl<T: Copy> Few<T> {
         self.xs.copy_within(index..self.len, index + 1);
         self.xs[index] = item;
         self.len += 1;
+    }
+
+    /// Adds copies of the items at the end.
+    pub fn extend_from_slice(&mut self, items: &[T])
+        requires room { length self.old + length items.now ≤ 4 }
+        ensures { self.new ≡ self.old ++ items.now }
+    {
+        let end = self.len + items.len();
+        let cells = &mut self.xs[..];
+        cells[self.len..end].copy_from_slice(items);
+        self.len = end;
     }
 
     /// Removes an item, of several.

@@ -2,8 +2,10 @@
 #![tactic(auto)]
 
 mod few;
+mod front;
 pub mod into_iter;
 mod items;
+mod kept;
 pub mod short_box_slice;
 pub mod short_words;
 

@@ -1,5 +1,6 @@
 //! A list that keeps up to four items in place.
 ghost use Rattle.std.specs.Prelude.{◌≡◌, ◌==◌, ◌<◌, ◌≤◌, ◌+◌, ◌^◌, List, [], ◌∷◌, ◌++◌, length, IsOk, IfOk, OnOk, OnErr, insert, remove, slice_get, Some};
+ghost use Rattle.std.specs.Borrow.{sem};
 ghost use Rattle.std.specs.Option.{option_copied};
 ghost use Rattle.std.specs.List.Retain.{IsFiltered};
 ghost use Rattle.std.specs.Fn.{CalledAt};
@@ -18,6 +19,7 @@ ghost use Rattle.iloc_shortvec.specs.ShortOrder.{short_cmp, short_total, short_t
 
 use crate::few::Few;
 use crate::items::Nothing;
+use crate::kept::Kept;
 use std::alloc::{AllocError, Global};
 use std::cmp::Ordering;
 use std::hash::{Hash, Hasher};
@@ -28,14 +30,6 @@ use std::{fmt, slice};
 #[derive(Drop)]
 pub struct ShortWords<T: Copy> {
     kept: Kept<T>,
-}
-
-/// Where the items are.
-#[derive(Drop)]
-enum Kept<T: Copy> {
-    Empty(Nothing<T>),
-    Inline(Few<T>),
-    Heap(Vec<T>),
 }
 
 impl<T: Copy> Model for ShortWords<T> {
@@ -51,6 +45,8 @@ impl<T: Copy> Model for ShortWords<T> {
 }
 
 impl<T: Copy> ShortWords<T> {
+    ghost use Rattle.iloc_shortvec.specs.ShortWordsLends.{lends_slice};
+
     pub fn new() -> Self
         ensures { result ≡ [] }
     {
@@ -81,11 +77,15 @@ impl<T: Copy> ShortWords<T> {
     pub fn as_slice(&self) -> &[T]
         ensures { result.now ≡ self.now }
     {
-        match &self.kept {
-            Kept::Empty(_) => &[],
-            Kept::Inline(items) => items.as_slice(),
-            Kept::Heap(items) => items.as_slice(),
-        }
+        self.kept.as_slice()
+    }
+
+    /// The items for writing.
+    pub fn as_mut_slice(&mut self) -> &mut [T]
+        ensures* writes_back { sem 𝓛 (lends_slice T.row self.entry result) }
+        ensures value { result.now ≡ self.old }
+    {
+        self.kept.as_mut_slice()
     }
 
     pub fn len(&self) -> usize
@@ -174,6 +174,26 @@ impl<T: Copy> ShortWords<T> {
         ensures succeeds { length self.old < 4 → IsOk result }
     {
         self.insert(alloc, self.len(), item)
+    }
+
+    /// Adds copies of the items at the end, all of them or none.
+    pub fn extend_from_slice(&mut self, alloc: Global, items: &[T]) -> Result<(), AllocError>
+        ensures ok { OnOk result (self.new ≡ self.old ++ items.now) }
+        ensures err { OnErr result (self.new ≡ self.old) }
+        ensures succeeds { length self.old + length items.now ≤ 4 → IsOk result }
+    {
+        match &mut self.kept {
+            Kept::Heap(kept) => kept.extend_from_slice(items)?,
+            Kept::Inline(few) if items.len() <= 4 - few.len() => few.extend_from_slice(items),
+            Kept::Empty(_) if items.len() <= 4 => *self = ShortWords::from_short(items),
+            _ => {
+                let mut all = Vec::with_capacity(alloc, items.len().saturating_add(4))?;
+                all.extend_from_slice(self.as_slice())?;
+                all.extend_from_slice(items)?;
+                self.kept = Kept::Heap(all);
+            }
+        }
+        Ok(())
     }
 
     /// Removes an item. A list that falls to four items goes in place.
@@ -414,35 +434,5 @@ impl<T: Copy> IntoIterator for ShortWords<T> {
             words: self,
             next: 0,
         }
-    }
-}
-
-#[cfg(test)]
-mod tests {
-    use super::*;
-    use std::test::Fail;
-
-    #[test]
-    fn goes_to_the_heap_and_back(rt: HostRuntime) -> Result<(), Fail> {
-        let mut words = ShortWords::new_single(3u8);
-        words.push(rt.alloc(), 5)?;
-        words.insert(rt.alloc(), 0, 1)?;
-        words.push(rt.alloc(), 7)?;
-        words.push(rt.alloc(), 9)?;
-        assert_eq!(rt; words.as_slice(), [1, 3, 5, 7, 9].as_slice());
-        assert_eq!(rt; words.len(), 5);
-        let removed = words.remove(2);
-        assert_eq!(rt; removed, 5);
-        let copy = words.clone()?;
-        assert!(rt; copy == words);
-        words.retain(|word| *word > 2);
-        assert_eq!(rt; words.as_slice(), [3, 7, 9].as_slice());
-        assert!(rt; ShortWords::new_single(9u8) < words);
-        let mut sum = 0u32;
-        for word in words {
-            sum = sum.wrapping_add(word as u32);
-        }
-        assert_eq!(rt; sum, 19);
-        Ok(())
     }
 }

@@ -19,6 +19,7 @@ use Rattle.iloc_grammar.specs.Faults.{first_piece}
 use Rattle.iloc_grammar.proofs.Readings.{one_meaning, head-spelling, blocks-spelling}
 use Rattle.iloc_grammar.proofs.FaultLaws.{head-and-blocks}
 use Rattle.iloc_grammar.proofs.PiecesLaws.{pieces_nonempty}
+use Rattle.iloc_small.specs.Computing.{has_small_variants, small_identifier_result, block_fault, has_small_keyword, is_u, is_small_block, keyword_read, blocks_result, after_identifier, small_result}
 use Rattle.iloc_small.specs.Small.{SmallIdentifier, SmallLocale, identifier_of_small, keyword_of_small, locale_of_small, small_identifier, IsSmallIdentifier, small_written, IsSmall, HasSmallIdentifierFault, no_language, no_identifier, SmallBlockFault, no_singleton, not_u, attribute, no_key, after_key, HasSmallFault, bad_head, bad_block}
 
 -- lists of at most one item
@@ -114,10 +115,6 @@ pub all_to : {X : Type 0} (f : X → Bool) (xs : List X) → AllByRecursion (λ 
 all_to f [] h = refl
 all_to f (x ∷ xs) h = and_from _ _ h.0 (all_to f xs h.1)
 
--- whether the pieces after a language spell a small identifier
-abbrev pub has_small_variants : List (List ℕ) → Bool
-has_small_variants vs = list_all (is_word Variant) vs && nat_le (length vs) 1
-
 taken : (k : Kind) (qs : List (List ℕ)) → IfSome (take_first (is_word k) qs) (IsWord k)
 taken k [] = tt
 taken k (q ∷ qs) = elim (is_word k q) as (λ b. is_word k q ≡ b → IfSome (cond b (Some q) None) (IsWord k)) [ true ↦ λ e. e | false ↦ λ e. tt ] refl
@@ -147,11 +144,6 @@ small_unread T p ps r h =
 spelled_language : {T : ℕ → Bool} (p : List ℕ) (ps : List (List ℕ)) (i : Identifier) → HasWords T i → p ∷ ps ≡ identifier_pieces i → IsWord (Language T) p
 spelled_language {T = T} p ps i h e = subst (λ (l : List (List ℕ)). is_word (Language T) (first_piece l) ≡ true) (sym e) h.language
 
--- what is read of pieces as a small identifier
-unfoldable pub small_identifier_result : (ℕ → Bool) → List (List ℕ) → Result SmallIdentifier Fault
-small_identifier_result T [] = Err InvalidLanguage
-small_identifier_result T (p ∷ ps) = cond (is_word (Language T) p) (cond (has_small_variants (identifier_of (p ∷ ps)).variants) (Ok (small_identifier (identifier_of (p ∷ ps)))) (Err InvalidSubtag)) (Err InvalidLanguage)
-
 pub small_identifier_answer : (T : ℕ → Bool) (p : List ℕ) (ps : List (List ℕ)) → MatchResult (small_identifier_result T (p ∷ ps)) (IsSmallIdentifier T (p ∷ ps)) (HasSmallIdentifierFault T (p ∷ ps))
 unfolding small_identifier_result
 small_identifier_answer T p ps = cond_both (is_word (Language T) p) _ _ (λ o. MatchResult o (IsSmallIdentifier T (p ∷ ps)) (HasSmallIdentifierFault T (p ∷ ps)))
@@ -174,10 +166,6 @@ one_small_identifier_fault ps (no_identifier l n) (no_identifier k m) = refl
 
 abbrev letter_or_digit : ℕ × List (List ℕ) → Bool
 letter_or_digit b = is_ascii_alphanumeric b.0
-
--- the fault that a first block has, if any
-unfoldable pub block_fault : ℕ × List (List ℕ) → Fault
-block_fault b = cond (is_ascii_alphanumeric b.0) (cond (singleton b == 117) (cond (is_word Attribute (first_piece b.1)) InvalidSubtag (cond (is_word UnicodeKey (first_piece b.1)) InvalidSubtag InvalidExtension)) InvalidSubtag) InvalidExtension
 
 eqb_false : (a b : ℕ) → (a == b) ≡ false → a ≢ b
 eqb_false a b h = grind (arith, nat_tests)
@@ -209,34 +197,6 @@ is_block_fault b (attribute u a) = rw (u_letter b.0 u, eq-eqb (singleton b) 117 
 is_block_fault b (no_key u a k) = rw (u_letter b.0 u, eq-eqb (singleton b) 117 u, a, k) refl
 is_block_fault b (after_key u k) = rw (u_letter b.0 u, eq-eqb (singleton b) 117 u, false_from_ne_true (is_word Attribute (first_piece b.1)) (λ a. no_both (first_piece b.1) a k), k) refl
 
--- one keyword: a key, and values of which at most one isn't `true`
-abbrev has_small_keyword : List (List ℕ) → Bool
-has_small_keyword [] = false
-has_small_keyword (p ∷ ps) = is_word UnicodeKey p && (list_all (is_word Attribute) ps && nat_le (length (normal_values ps)) 1)
-
-abbrev c_is_u : ℕ → Bool
-c_is_u c = to_ascii_lowercase c == 117
-
-abbrev is_small_block : ℕ × List (List ℕ) → List (ℕ × List (List ℕ)) → Bool
-is_small_block b [] = (singleton b == 117) && has_small_keyword b.1
-is_small_block b (d ∷ bs) = false
-
-abbrev keyword_read : List (List ℕ) → List ℕ × Option (List ℕ)
-keyword_read [] = ([], None)
-keyword_read (p ∷ ps) = (lower p, first_item (normal_values ps))
-
-unfoldable pub blocks_result : SmallIdentifier → List (ℕ × List (List ℕ)) → Result SmallLocale Fault
-blocks_result r [] = Ok (record { id = r; keyword = None })
-blocks_result r (b ∷ bs) = cond (is_small_block b bs) (Ok (record { id = r; keyword = Some (keyword_read b.1) })) (Err (block_fault b))
-
-unfoldable pub after_identifier : Result SmallIdentifier Fault → List (ℕ × List (List ℕ)) → Result SmallLocale Fault
-after_identifier (Ok r) bs = blocks_result r bs
-after_identifier (Err f) bs = Err f
-
--- what is read of a text as a small one
-unfoldable pub small_result : (ℕ → Bool) → List ℕ → Result SmallLocale Fault
-small_result T t = after_identifier (small_identifier_result T (head (pieces t))) (tail_blocks (pieces t))
-
 -- a small text without a block, and with one
 module _ {T : ℕ → Bool} (t : List ℕ) (p : List ℕ) (ps : List (List ℕ)) (e : pieces t ≡ p ∷ ps) (r : SmallIdentifier) (h : IsSmallIdentifier T (head (p ∷ ps)) r) where
   spelled_by : (w : List (List ℕ)) → flat_map block_pieces (tail_blocks (p ∷ ps)) ≡ w → pieces t ≡ identifier_pieces h.written ++ w
@@ -255,9 +215,9 @@ module _ {T : ℕ → Bool} (t : List ℕ) (p : List ℕ) (ps : List (List ℕ))
 
   one_block : (b : ℕ × List (List ℕ)) (bs : List (ℕ × List (List ℕ))) → tail_blocks (p ∷ ps) ≡ b ∷ bs → is_small_block b bs ≡ true → IsSmall T t (record { id = r; keyword = Some (keyword_read b.1) })
   one_block b (d ∷ bs) k s = absurd (true≢false (sym s))
-  one_block (c, []) [] k s = absurd (true≢false (sym (and_parts (c_is_u c) false s).1))
+  one_block (c, []) [] k s = absurd (true≢false (sym (and_parts (is_u c) false s).1))
   one_block (c, q ∷ qs) [] k s =
-      let parts = and_parts (c_is_u c) (has_small_keyword (q ∷ qs)) s in
+      let parts = and_parts (is_u c) (has_small_keyword (q ∷ qs)) s in
       let word = and_parts (is_word UnicodeKey q) (list_all (is_word Attribute) qs && nat_le (length (normal_values qs)) 1) parts.1 in
       let values = and_parts (list_all (is_word Attribute) qs) (nat_le (length (normal_values qs)) 1) word.1 in
       record {
@@ -278,7 +238,7 @@ has_small_block {T = T} table t r h b bs e = from h.keyword h.grammatical h.one_
     from None g o e = absurd (cc)
     from (Some k) g o e =
         let word = g.extensions.0.1.keywords.0 in
-        let here : is_small_block (k.0, k.1.0 ∷ k.1.1) [] ≡ true = and_from (c_is_u k.0) (has_small_keyword (k.1.0 ∷ k.1.1)) (eq-eqb _ _ g.extensions.0.0) (and_from (is_word UnicodeKey k.1.0) _ word.0 (and_from (list_all (is_word Attribute) k.1.1) _ (all_to (is_word Attribute) k.1.1 word.1) (le-leb _ _ o))) in
+        let here : is_small_block (k.0, k.1.0 ∷ k.1.1) [] ≡ true = and_from (is_u k.0) (has_small_keyword (k.1.0 ∷ k.1.1)) (eq-eqb _ _ g.extensions.0.0) (and_from (is_word UnicodeKey k.1.0) _ word.0 (and_from (list_all (is_word Attribute) k.1.1) _ (all_to (is_word Attribute) k.1.1 word.1) (le-leb _ _ o))) in
         let b_is : b ≡ (k.0, k.1.0 ∷ (k.1.1 ++ [])) = cc in
         let bs_is : bs ≡ [] = cc in
         (λ i. is_small_block (b_is i) (bs_is i)) ∙ ap (λ (l : List (List ℕ)). is_small_block (k.0, k.1.0 ∷ l) []) (append-nil k.1.1) ∙ here
@@ -329,9 +289,12 @@ by_result P Q (Err y) h = inr (y, h)
 pub small_or_fault : {T : ℕ → Bool} → IsTable T → (t : List ℕ) → ((r : SmallLocale) × IsSmall T t r) ⊎ ((f : Fault) × HasSmallFault T t f)
 small_or_fault {T = T} table t = by_result (IsSmall T t) (HasSmallFault T t) (small_result T t) (small_answer table t)
 
-pub small_identifier_or_fault : (T : ℕ → Bool) (t : List ℕ) → ((r : SmallIdentifier) × IsSmallIdentifier T (pieces t) r) ⊎ ((f : Fault) × HasSmallIdentifierFault T (pieces t) f)
-small_identifier_or_fault T t = at_pieces (pieces t) refl
+pub small_identifier_text_answer : (T : ℕ → Bool) (t : List ℕ) → MatchResult (small_identifier_result T (pieces t)) (IsSmallIdentifier T (pieces t)) (HasSmallIdentifierFault T (pieces t))
+small_identifier_text_answer T t = at_pieces (pieces t) refl
   where
-    at_pieces : (ps : List (List ℕ)) → pieces t ≡ ps → ((r : SmallIdentifier) × IsSmallIdentifier T ps r) ⊎ ((f : Fault) × HasSmallIdentifierFault T ps f)
+    at_pieces : (ps : List (List ℕ)) → pieces t ≡ ps → MatchResult (small_identifier_result T ps) (IsSmallIdentifier T ps) (HasSmallIdentifierFault T ps)
     at_pieces [] e = absurd (pieces_nonempty t e)
-    at_pieces (p ∷ ps) e = by_result (IsSmallIdentifier T (p ∷ ps)) (HasSmallIdentifierFault T (p ∷ ps)) (small_identifier_result T (p ∷ ps)) (small_identifier_answer T p ps)
+    at_pieces (p ∷ ps) e = small_identifier_answer T p ps
+
+pub small_identifier_or_fault : (T : ℕ → Bool) (t : List ℕ) → ((r : SmallIdentifier) × IsSmallIdentifier T (pieces t) r) ⊎ ((f : Fault) × HasSmallIdentifierFault T (pieces t) f)
+small_identifier_or_fault T t = by_result (IsSmallIdentifier T (pieces t)) (HasSmallIdentifierFault T (pieces t)) (small_identifier_result T (pieces t)) (small_identifier_text_answer T t)

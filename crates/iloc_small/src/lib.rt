@@ -4,13 +4,14 @@
 //! It stands on `iloc_grammar`.
 #![tactic(auto)]
 
-ghost use Rattle.std.specs.Prelude.{◌≡◌, ◌⊎◌, ℕ, Bool, true, List};
+ghost use Rattle.std.specs.Prelude.{◌≡◌, ◌⊎◌, ℕ, Bool, true, List, MatchResult};
 ghost use Rattle.iloc_grammar.specs.Pieces.{pieces};
 ghost use Rattle.iloc_grammar.specs.Words.{IsTable};
 ghost use Rattle.iloc_grammar.specs.Meaning.{Means, IdentifierMeans};
 ghost use Rattle.iloc_grammar.specs.Values.{text};
 ghost use Rattle.iloc_grammar.specs.Faults.{Fault};
 ghost use Rattle.iloc_small.specs.Small.{SmallIdentifier, SmallLocale, IsSmallIdentifier, IsSmall, HasSmallIdentifierFault, HasSmallFault, IsSmallValue, identifier_of_small, locale_of_small};
+ghost use Rattle.iloc_small.specs.Computing.{small_identifier_result, small_result};
 ghost use Rattle.iloc_small.specs.Inline.{IsInline};
 
 /// A small text is read in one way, and is a locale of the same parts and nothing else.
@@ -20,11 +21,12 @@ pub fn small_texts()
     ensures back { (T : ℕ → Bool) (r : SmallLocale) → IsSmallValue T r → IsSmall T (text (locale_of_small r)) r }
 {}
 
-/// Each text is small or has a fault, never both, and one fault at most.
+/// Each text is small or has a fault, never both, and one fault at most; and a plain program says which.
 pub fn small_or_one_fault()
     ensures either { (T : ℕ → Bool) → IsTable T → (t : List ℕ) → ((r : SmallLocale) × IsSmall T t r) ⊎ ((f : Fault) × HasSmallFault T t f) }
     ensures apart { (T : ℕ → Bool) (t : List ℕ) (r : SmallLocale) (f : Fault) → IsSmall T t r → HasSmallFault T t f → ⊥ }
     ensures one { (T : ℕ → Bool) (t : List ℕ) (f g : Fault) → HasSmallFault T t f → HasSmallFault T t g → f ≡ g }
+    ensures answer { (T : ℕ → Bool) → IsTable T → (t : List ℕ) → MatchResult (small_result T t) (IsSmall T t) (HasSmallFault T t) }
 {}
 
 /// The same for identifiers with at most one variant.
@@ -34,6 +36,7 @@ pub fn small_identifiers()
     ensures either { (T : ℕ → Bool) (t : List ℕ) → ((r : SmallIdentifier) × IsSmallIdentifier T (pieces t) r) ⊎ ((f : Fault) × HasSmallIdentifierFault T (pieces t) f) }
     ensures apart { (T : ℕ → Bool) (ps : List (List ℕ)) (r : SmallIdentifier) (f : Fault) → IsSmallIdentifier T ps r → HasSmallIdentifierFault T ps f → ⊥ }
     ensures one_fault { (T : ℕ → Bool) (ps : List (List ℕ)) (f g : Fault) → HasSmallIdentifierFault T ps f → HasSmallIdentifierFault T ps g → f ≡ g }
+    ensures answer { (T : ℕ → Bool) (t : List ℕ) → MatchResult (small_identifier_result T (pieces t)) (IsSmallIdentifier T (pieces t)) (HasSmallIdentifierFault T (pieces t)) }
 {}
 
 /// A small text is one of few words.

@@ -1,2 +1,3 @@
-pub mod Kinds
+pub mod KindLaws
 pub mod ParseError
+pub mod RawForms

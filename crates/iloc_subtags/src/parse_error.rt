@@ -1,21 +1,26 @@
-//! Words: their refusals and laws.
+//! Why a text is refused.
 
 ghost use Rattle.std.specs.Prelude.{◌≡◌};
 
 use std::alloc::AllocError;
 use thiserror::Error;
 
-/// Why a text is refused.
+/// Why a text is refused, or that there is no memory. It prints its words.
 #[derive(Clone, Debug, Drop, Error, PartialEq, Eq)]
 pub enum ParseError {
+    /// The first piece is no language, or a text that is to be a language is none.
     #[error("The given language subtag is invalid")]
     InvalidLanguage,
+    /// A piece does not fit where it stands, or a text is no script, region, variant or subtag.
     #[error("Invalid subtag")]
     InvalidSubtag,
+    /// An extension does not follow its rules, or a text is no word of an extension.
     #[error("Invalid extension")]
     InvalidExtension,
+    /// An extension begins a second time.
     #[error("Duplicated extension")]
     DuplicatedExtension,
+    /// Memory was refused.
     #[error("Out of memory")]
     OutOfMemory,
 }
@@ -23,7 +28,7 @@ pub enum ParseError {
 impl ParseError {
     ghost use Rattle.iloc_subtags.specs.ParseError.{words_of};
 
-    /// The words of this refusal.
+    /// The words of this refusal, which `Display` prints too.
     pub fn words(&self) -> &'static str
         ensures { result.now ≡ words_of self.now }
     {
@@ -37,6 +42,7 @@ impl ParseError {
     }
 }
 
+/// A refused request for memory is `OutOfMemory`.
 impl From<AllocError> for ParseError {
     ghost use Rattle.iloc_subtags.specs.declared.parse_error.ParseError.TheVariants.{OutOfMemory};
 

@@ -1,0 +1,169 @@
+-- Pieces that are, in whatever order and case, the words of a set.
+use Rattle.std.proofs.Common.{◌≡◌, ℕ, ◌+◌, Bool, true, false, ◌||◌, List, [], ◌∷◌, length, map, refl, sym, ap, ◌∙◌, subst, arith, true≢false}
+use Rattle.std.specs.List.{AllByRecursion, list_any, list_all}
+use Rattle.std.specs.Cmp.{eq_by_cmp_equiv}
+use Rattle.std.specs.Ordering.{is_eq}
+use Rattle.std.specs.Char.{to_ascii_lowercase}
+use Rattle.std.specs.FinMap.{put}
+use Rattle.std.specs.declared.cmp.Ordering.{Ordering}
+use Rattle.std.specs.declared.cmp.Ordering.TheVariants.{Less, Equal, Greater}
+use Rattle.std.proofs.lemmas.Bool.{and_parts, and_from, or_parts}
+use Rattle.std.proofs.lemmas.List.{length-map}
+use Rattle.iloc_grammar.specs.Words.{Variant, is_word, IsWord, normal, lower, word_cmp, is_same}
+use Rattle.iloc_grammar.specs.Written.{AllDifferent}
+use Rattle.iloc_grammar.specs.Meaning.{set_of, map_of}
+use Rattle.iloc_grammar.specs.Values.{IsNormal, IsAscending}
+use Rattle.iloc_grammar.specs.Steps.{Reordered, none, front_kept, first_two, in_turn}
+use Rattle.iloc_grammar.proofs.WordsLaws.{is_word-lower}
+use Rattle.iloc_grammar.proofs.MapLaws.{word_cmp_total, same_words}
+use Rattle.iloc_grammar.proofs.Orders.{any_reordered, all_reordered, different_reordered, set_of_reordered}
+use Rattle.iloc_grammar.proofs.Sorting.{itself}
+use Rattle.iloc_grammar.proofs.ValuesLaws.{set_of_ascending, ascending_different}
+use Rattle.iloc_langid.specs.Agreeing.{is_among, are_all_among}
+use Rattle.iloc_langid.proofs.SetLemmas.{any-set_of}
+
+pub same_itself : (w : List ℕ) → is_same w w ≡ true
+same_itself w = (eq_by_cmp_equiv word_cmp_total).refl w
+
+equal : (o : Ordering) → is_eq o ≡ true → o ≡ Equal
+equal Less h = absurd (true≢false (sym h))
+equal Equal h = refl
+equal Greater h = absurd (true≢false (sym h))
+
+pub same_word : (v w : List ℕ) → is_same v w ≡ true → v ≡ w
+same_word v w h = same_words v w (equal (word_cmp v w) h)
+
+turned : {X : Type 0} {xs ys : List X} → Reordered xs ys → Reordered ys xs
+turned none = none
+turned (front_kept r) = front_kept (turned r)
+turned first_two = first_two
+turned (in_turn r s) = in_turn (turned s) (turned r)
+
+length_reordered : {X : Type 0} {xs ys : List X} → Reordered xs ys → length xs ≡ length ys
+length_reordered none = refl
+length_reordered (front_kept r) = let e = length_reordered r in omega (arith, e)
+length_reordered first_two = refl
+length_reordered (in_turn r s) = length_reordered r ∙ length_reordered s
+
+among-any : (ps : List (List ℕ)) (w : List ℕ) → is_among ps w ≡ list_any (is_same w) (map lower ps)
+among-any [] w = refl
+among-any (p ∷ ps) w = ap (λ b. is_same w (lower p) || b) (among-any ps w)
+
+-- a word that is there, taken to the front
+taken_out : (w : List ℕ) (qs : List (List ℕ)) → list_any (is_same w) qs ≡ true → (rest : List (List ℕ)) × Reordered qs (w ∷ rest)
+taken_out w [] h = absurd (true≢false (sym h))
+taken_out w (q ∷ qs) h = by (is_same w q) refl h (λ k. taken_out w qs k)
+  where
+    by : (b : Bool) → is_same w q ≡ b → (b || list_any (is_same w) qs) ≡ true → (list_any (is_same w) qs ≡ true → (rest : List (List ℕ)) × Reordered qs (w ∷ rest)) → (rest : List (List ℕ)) × Reordered (q ∷ qs) (w ∷ rest)
+    by true e k more = (qs, subst (λ x. Reordered (q ∷ qs) (x ∷ qs)) (sym (same_word w q e)) (itself (q ∷ qs)))
+    by false e k more = let (rest, r) = more k in (q ∷ rest, in_turn (front_kept r) first_two)
+
+later : (a b : Bool) → (a || b) ≡ true → a ≡ false → b ≡ true
+later a b h e = subst (λ x. (x || b) ≡ true) e h
+
+still_there : (w : List ℕ) (qs rest : List (List ℕ)) → Reordered qs (w ∷ rest) → (vs : List (List ℕ)) → list_any (is_same w) vs ≡ false
+    → AllByRecursion (λ v. list_any (is_same v) qs ≡ true) vs → AllByRecursion (λ v. list_any (is_same v) rest ≡ true) vs
+still_there w qs rest r [] d h = tt
+still_there w qs rest r (v ∷ vs) d h =
+    let parts = or_parts _ _ d in
+    (later _ _ (sym (any_reordered (is_same v) r) ∙ h.0) (apart parts.0), still_there w qs rest r vs parts.1 h.1)
+  where
+    apart : is_same w v ≡ false → is_same v w ≡ false
+    apart e = by (is_same v w) refl
+      where
+        by : (b : Bool) → is_same v w ≡ b → b ≡ false
+        by true s = absurd (true≢false (sym (subst (λ x. is_same w x ≡ true) (sym (same_word v w s)) (same_itself w)) ∙ e))
+        by false s = refl
+
+-- as many words, and each of them there: the same ones
+all_there : (ws qs : List (List ℕ)) → AllDifferent word_cmp ws → length qs ≡ length ws → AllByRecursion (λ w. list_any (is_same w) qs ≡ true) ws → Reordered qs ws
+all_there [] [] d e h = none
+all_there [] (q ∷ qs) d e h = absurd (omega (arith, e))
+all_there (w ∷ ws) qs d e h =
+    let (rest, r) = taken_out w qs h.0 in
+    let l = length_reordered r in
+    let k : length rest ≡ length ws = omega (arith, e, l) in
+    in_turn r (front_kept (all_there ws rest d.1 k (still_there w qs rest r ws d.0 h.1)))
+
+-- a set of different words has these words
+put_reordered : (w : List ℕ) (es : List (List ℕ × Unit {0})) → list_any (is_same w) (map (λ e. e.0) es) ≡ false → Reordered (w ∷ map (λ e. e.0) es) (map (λ e. e.0) (put word_cmp w (tt {0}) es))
+put_reordered w [] h = itself (w ∷ [])
+put_reordered w (e ∷ es) h = by (word_cmp w e.0) refl (put_reordered w es (or_parts _ _ h).1)
+  where
+    by : (o : Ordering) → word_cmp w e.0 ≡ o → Reordered (w ∷ map (λ e. e.0) es) (map (λ e. e.0) (put word_cmp w (tt {0}) es)) → Reordered (w ∷ e.0 ∷ map (λ e. e.0) es) (map (λ e. e.0) (put word_cmp w (tt {0}) (e ∷ es)))
+    by Less l more = rw l (itself (w ∷ e.0 ∷ map (λ e. e.0) es))
+    by Equal l more = absurd (true≢false (sym (ap is_eq l) ∙ (or_parts _ _ h).0))
+    by Greater l more = rw l (in_turn first_two (front_kept more))
+
+set_reordered : (ws : List (List ℕ)) → AllDifferent word_cmp ws → Reordered ws (set_of ws)
+set_reordered [] d = none
+set_reordered (w ∷ ws) d = in_turn (front_kept (set_reordered ws d.1)) (put_reordered w (map_of word_cmp (map (λ w. (w, tt {0})) ws)) (any-set_of w ws ∙ d.0))
+
+all_tests : (test : List ℕ → Bool) (ws : List (List ℕ)) → list_all test ws ≡ true → AllByRecursion (λ w. test w ≡ true) ws
+all_tests test [] h = tt
+all_tests test (w ∷ ws) h = let parts = and_parts _ _ h in (parts.0, all_tests test ws parts.1)
+
+tests_all : (test : List ℕ → Bool) (ws : List (List ℕ)) → AllByRecursion (λ w. test w ≡ true) ws → list_all test ws ≡ true
+tests_all test [] h = refl
+tests_all test (w ∷ ws) h = and_from _ _ h.0 (tests_all test ws h.1)
+
+among_all : (ps ws : List (List ℕ)) → AllByRecursion (λ w. is_among ps w ≡ true) ws → AllByRecursion (λ w. list_any (is_same w) (map lower ps) ≡ true) ws
+among_all ps [] h = tt
+among_all ps (w ∷ ws) h = (sym (among-any ps w) ∙ h.0, among_all ps ws h.1)
+
+all_among : (ps ws : List (List ℕ)) → AllByRecursion (λ w. list_any (is_same w) (map lower ps) ≡ true) ws → AllByRecursion (λ w. is_among ps w ≡ true) ws
+all_among ps [] h = tt
+all_among ps (w ∷ ws) h = (among-any ps w ∙ h.0, all_among ps ws h.1)
+
+lower_variants : (ps : List (List ℕ)) → AllByRecursion (IsWord Variant) (map lower ps) → AllByRecursion (IsWord Variant) ps
+lower_variants [] h = tt
+lower_variants (p ∷ ps) h = (sym (is_word-lower Variant p) ∙ h.0, lower_variants ps h.1)
+
+normal_variants : (ws : List (List ℕ)) → AllByRecursion (IsNormal Variant) ws → AllByRecursion (IsWord Variant) ws
+normal_variants [] h = tt
+normal_variants (w ∷ ws) h = (h.0.0, normal_variants ws h.1)
+
+-- pieces that have the variants are variants, all different, and their set is that of the variants
+pub record AreThese (ps ws : List (List ℕ)) : Type 0 where
+  pub words : AllByRecursion (IsWord Variant) ps
+  pub different : AllDifferent word_cmp (map lower ps)
+  pub set_is : ws ≡ set_of (map lower ps)
+
+pub are_these : (ps ws : List (List ℕ)) → IsAscending ws → AllByRecursion (IsNormal Variant) ws → length ps ≡ length ws → are_all_among ps ws ≡ true → AreThese ps ws
+are_these ps ws up n e h =
+    let r = all_there ws (map lower ps) (ascending_different ws up) (length-map ps lower ∙ e) (among_all ps ws (all_tests (is_among ps) ws h)) in
+    record {
+      words = lower_variants ps (all_reordered (IsWord Variant) (turned r) (normal_variants ws n));
+      different = different_reordered word_cmp word_cmp_total (turned r) (ascending_different ws up);
+      set_is = sym (set_of_reordered r ∙ set_of_ascending ws up);
+    }
+
+each_there : (ws qs : List (List ℕ)) → ((w : List ℕ) → list_any (is_same w) ws ≡ true → list_any (is_same w) qs ≡ true) → AllByRecursion (λ w. list_any (is_same w) qs ≡ true) ws
+each_there [] qs f = tt
+each_there (w ∷ ws) qs f = (f w (ap (λ b. b || list_any (is_same w) ws) (same_itself w)), each_there ws qs (λ v h. f v (or_later (is_same v w) _ h)))
+  where
+    or_later : (a b : Bool) → b ≡ true → (a || b) ≡ true
+    or_later true b h = refl
+    or_later false b h = h
+
+pub these_are : (ps ws : List (List ℕ)) → AreThese ps ws → (length ps ≡ length ws) × (are_all_among ps ws ≡ true)
+these_are ps ws t =
+    let r : Reordered (map lower ps) ws = subst (Reordered (map lower ps)) (sym t.set_is) (set_reordered (map lower ps) t.different) in
+    (sym (length-map ps lower) ∙ length_reordered r, tests_all (is_among ps) ws (all_among ps ws (each_there ws (map lower ps) (λ w h. any_reordered (is_same w) r ∙ h))))
+
+-- one piece more of those that are looked through
+
+pub found_piece : (ps now rest : List (List ℕ)) (p w : List ℕ) → is_among ps w ≡ is_among now w → now ≡ p ∷ rest → IsNormal Variant w → map to_ascii_lowercase p ≡ map to_ascii_lowercase w → true ≡ is_among ps w
+unfolding lower
+found_piece ps now rest p w i e n h =
+    let same : is_same w (lower p) ≡ true = subst (λ x. is_same w x ≡ true) (sym (h ∙ n.1)) (same_itself w) in
+    sym (i ∙ ap (λ l. is_among l w) e ∙ ap (λ b. b || is_among rest w) same)
+
+pub other_piece : (ps now rest : List (List ℕ)) (p w : List ℕ) → is_among ps w ≡ is_among now w → now ≡ p ∷ rest → IsNormal Variant w → (map to_ascii_lowercase p ≡ map to_ascii_lowercase w → ⊥) → is_among ps w ≡ is_among rest w
+unfolding lower
+other_piece ps now rest p w i e n h =
+    i ∙ ap (λ l. is_among l w) e ∙ ap (λ b. b || is_among rest w) (by (is_same w (lower p)) refl)
+  where
+    by : (b : Bool) → is_same w (lower p) ≡ b → b ≡ false
+    by true s = absurd (h (sym (same_word w (lower p) s) ∙ sym n.1))
+    by false s = refl

@@ -1,0 +1,13 @@
+-- A plain program for data locales: what a text means, or the fault.
+use Rattle.std.specs.Prelude.{ℕ, Bool, List, Result, Ok, Err, ok_or}
+use Rattle.iloc_grammar.specs.Faults.{Fault, InvalidExtension}
+use Rattle.iloc_small.specs.Small.{SmallLocale}
+use Rattle.iloc_small.specs.Computing.{small_result}
+use Rattle.iloc_regions.specs.DataLocales.{DataLocale, data_of_small}
+
+abbrev pub data_of_result : Result SmallLocale Fault → Result DataLocale Fault
+data_of_result (Ok r) = ok_or (data_of_small r) InvalidExtension
+data_of_result (Err f) = Err f
+
+unfoldable pub data_result : (ℕ → Bool) → List ℕ → Result DataLocale Fault
+data_result T t = data_of_result (small_result T t)

@@ -1,0 +1,296 @@
+//! The words of identifiers: languages, scripts, regions, variants, and subtags of any sort.
+ghost use Rattle.std.specs.Prelude.{codes, IsTrue, ◌≡◌, ◌↔◌, ◌==◌, ◌≤◌, length};
+ghost use Rattle.iloc_tinystr.specs.TinyText.{is_tiny_text};
+ghost use Rattle.iloc_grammar.specs.Words.{lower, letters, read, two_or_three};
+ghost use Rattle.iloc_grammar.specs.Words as words;
+ghost use Rattle.iloc_grammar.specs.Values.{IsNormal};
+ghost use Rattle.iloc_subtags.specs.declared.parse_error.ParseError.TheVariants.{InvalidLanguage, InvalidSubtag};
+ghost use Rattle.iloc_subtags.specs.RawForms.{ReadsRaw};
+
+use crate::bytes::{all_digits, all_letters, all_letters_or_digits};
+use crate::kind::WordKind;
+use crate::parse_error::ParseError;
+use crate::word_of::WordOf;
+use iloc_tinystr::TinyAsciiStr;
+
+/// The kind of languages.
+pub struct LanguageKind;
+
+impl WordKind<8> for LanguageKind {
+    ghost use Rattle.std.specs.Prelude.{refl};
+    ghost use Rattle.iloc_grammar.specs.Words.{Language as the_kind, languages};
+    ghost use Rattle.iloc_subtags.specs.declared.parse_error.ParseError.TheVariants.{InvalidLanguage};
+    ghost use Rattle.iloc_subtags.specs.KindLaws.{language_fits};
+
+    ghost kind = { the_kind languages };
+
+    ghost refusal = { InvalidLanguage };
+
+    ghost fits = { language_fits };
+
+    ghost size = { refl };
+
+    #[tactic(auto, unfolding(iloc_grammar::specs::Words::is_word, iloc_grammar::specs::Words::languages))]
+    fn accepts(piece: &[u8]) -> bool {
+        matches!(piece.len(), 2..=3 | 5..=8) && all_letters(piece)
+    }
+
+    #[tactic(auto, unfolding(iloc_grammar::specs::Words::lower))]
+    fn normal(text: &TinyAsciiStr<8>) -> TinyAsciiStr<8> {
+        text.to_ascii_lowercase()
+    }
+
+    fn refusal() -> ParseError {
+        ParseError::InvalidLanguage
+    }
+}
+
+/// A language, as `en`, `und` or `german`: 2, 3 or 5 to 8 letters, in lower case
+/// (`unicode_language_subtag` of UTS #35, section 3). Other texts are refused with `InvalidLanguage`.
+pub type Language = WordOf<LanguageKind, 8>;
+
+impl WordOf<LanguageKind, 8> {
+    /// The unknown language, `und`.
+    #[tactic(auto, unfolding(iloc_grammar::specs::Words::is_word, iloc_grammar::specs::Words::languages, iloc_grammar::specs::Words::lower))]
+    pub fn unknown() -> Language
+        ensures { result ≡ codes "und" }
+    {
+        match Language::try_from_utf8(b"und") {
+            Ok(word) => word,
+            Err(_) => unreachable!(),
+        }
+    }
+
+    /// Whether the language is `und`.
+    pub fn is_unknown(self) -> bool
+        ensures { IsTrue result ↔ (self ≡ codes "und") }
+    {
+        self.as_str() == "und"
+    }
+
+    /// The language of a raw form of three bytes, as they were when languages had 2 or 3 letters: the
+    /// normal text, followed by zeros. Any other bytes are refused with `InvalidLanguage`.
+    pub fn try_from_raw_v1(raw: [u8; 3]) -> Result<Language, ParseError>
+        ensures { ReadsRaw 3 (words.Language two_or_three) InvalidLanguage raw result }
+    {
+        let Some(text) = TinyAsciiStr::<3>::try_from_raw(raw) else {
+            return Err(ParseError::InvalidLanguage);
+        };
+        Language::from_normal(text.resize())
+    }
+}
+
+/// The kind of scripts.
+pub struct ScriptKind;
+
+impl WordKind<4> for ScriptKind {
+    ghost use Rattle.std.specs.Prelude.{refl};
+    ghost use Rattle.iloc_grammar.specs.Words.{Script as the_kind};
+    ghost use Rattle.iloc_subtags.specs.declared.parse_error.ParseError.TheVariants.{InvalidSubtag};
+    ghost use Rattle.iloc_subtags.specs.KindLaws.{script_fits};
+
+    ghost kind = { the_kind };
+
+    ghost refusal = { InvalidSubtag };
+
+    ghost fits = { script_fits };
+
+    ghost size = { refl };
+
+    #[tactic(auto, unfolding(iloc_grammar::specs::Words::is_word))]
+    fn accepts(piece: &[u8]) -> bool {
+        piece.len() == 4 && all_letters(piece)
+    }
+
+    #[tactic(auto, unfolding(iloc_grammar::specs::Words::title))]
+    fn normal(text: &TinyAsciiStr<4>) -> TinyAsciiStr<4> {
+        text.to_ascii_titlecase()
+    }
+
+    fn refusal() -> ParseError {
+        ParseError::InvalidSubtag
+    }
+}
+
+/// A script, as `Latn`: 4 letters, the first in upper case and the others in lower case
+/// (`unicode_script_subtag` of UTS #35, section 3). Other texts are refused with `InvalidSubtag`.
+pub type Script = WordOf<ScriptKind, 4>;
+
+/// The kind of regions.
+pub struct RegionKind;
+
+impl WordKind<3> for RegionKind {
+    ghost use Rattle.std.specs.Prelude.{refl};
+    ghost use Rattle.iloc_grammar.specs.Words.{Region as the_kind};
+    ghost use Rattle.iloc_subtags.specs.declared.parse_error.ParseError.TheVariants.{InvalidSubtag};
+    ghost use Rattle.iloc_subtags.specs.KindLaws.{region_fits};
+
+    ghost kind = { the_kind };
+
+    ghost refusal = { InvalidSubtag };
+
+    ghost fits = { region_fits };
+
+    ghost size = { refl };
+
+    #[tactic(auto, unfolding(iloc_grammar::specs::Words::is_word))]
+    fn accepts(piece: &[u8]) -> bool {
+        match piece.len() {
+            2 => all_letters(piece),
+            3 => all_digits(piece),
+            _ => false,
+        }
+    }
+
+    #[tactic(auto, unfolding(iloc_grammar::specs::Words::upper))]
+    fn normal(text: &TinyAsciiStr<3>) -> TinyAsciiStr<3> {
+        text.to_ascii_uppercase()
+    }
+
+    fn refusal() -> ParseError {
+        ParseError::InvalidSubtag
+    }
+}
+
+/// A region, as `US` or `419`: 2 letters, in upper case, or 3 digits (`unicode_region_subtag` of UTS #35,
+/// section 3). Other texts are refused with `InvalidSubtag`.
+pub type Region = WordOf<RegionKind, 3>;
+
+impl WordOf<RegionKind, 3> {
+    /// Whether the region is one of two letters, and not one of three digits.
+    pub fn is_alphabetic(&self) -> bool
+        ensures two { result ≡ (length self.now == 2) }
+        ensures letters { result ≡ letters self.now }
+    {
+        self.as_str().len() == 2
+    }
+}
+
+/// The kind of variants.
+pub struct VariantKind;
+
+impl WordKind<8> for VariantKind {
+    ghost use Rattle.std.specs.Prelude.{refl};
+    ghost use Rattle.iloc_grammar.specs.Words.{Variant as the_kind};
+    ghost use Rattle.iloc_subtags.specs.declared.parse_error.ParseError.TheVariants.{InvalidSubtag};
+    ghost use Rattle.iloc_subtags.specs.KindLaws.{variant_fits};
+
+    ghost kind = { the_kind };
+
+    ghost refusal = { InvalidSubtag };
+
+    ghost fits = { variant_fits };
+
+    ghost size = { refl };
+
+    #[tactic(auto, unfolding(iloc_grammar::specs::Words::is_word))]
+    fn accepts(piece: &[u8]) -> bool {
+        match piece.len() {
+            4 => piece[0].is_ascii_digit() && all_letters_or_digits(piece),
+            5..=8 => all_letters_or_digits(piece),
+            _ => false,
+        }
+    }
+
+    #[tactic(auto, unfolding(iloc_grammar::specs::Words::lower))]
+    fn normal(text: &TinyAsciiStr<8>) -> TinyAsciiStr<8> {
+        text.to_ascii_lowercase()
+    }
+
+    fn refusal() -> ParseError {
+        ParseError::InvalidSubtag
+    }
+}
+
+/// A variant, as `posix` or `1996`: 5 to 8 letters or digits, or a digit and 3 letters or digits, in lower
+/// case (`unicode_variant_subtag` of UTS #35, section 3). Other texts are refused with `InvalidSubtag`.
+pub type Variant = WordOf<VariantKind, 8>;
+
+/// The kind of subtags of any sort.
+pub struct SubtagKind;
+
+impl WordKind<8> for SubtagKind {
+    ghost use Rattle.std.specs.Prelude.{refl};
+    ghost use Rattle.iloc_grammar.specs.Words.{Subtag as the_kind};
+    ghost use Rattle.iloc_subtags.specs.declared.parse_error.ParseError.TheVariants.{InvalidSubtag};
+    ghost use Rattle.iloc_subtags.specs.KindLaws.{subtag_fits};
+
+    ghost kind = { the_kind };
+
+    ghost refusal = { InvalidSubtag };
+
+    ghost fits = { subtag_fits };
+
+    ghost size = { refl };
+
+    #[tactic(auto, unfolding(iloc_grammar::specs::Words::is_word))]
+    fn accepts(piece: &[u8]) -> bool {
+        matches!(piece.len(), 2..=8) && all_letters_or_digits(piece)
+    }
+
+    #[tactic(auto, unfolding(iloc_grammar::specs::Words::lower))]
+    fn normal(text: &TinyAsciiStr<8>) -> TinyAsciiStr<8> {
+        text.to_ascii_lowercase()
+    }
+
+    fn refusal() -> ParseError {
+        ParseError::InvalidSubtag
+    }
+}
+
+/// Any subtag, as `buddhist`: 2 to 8 letters or digits, in lower case (`alphanum{2,8}` of UTS #35,
+/// section 3). Other texts are refused with `InvalidSubtag`.
+pub type Subtag = WordOf<SubtagKind, 8>;
+
+impl WordOf<SubtagKind, 8> {
+    /// How many bytes the text has: 2 to 8.
+    pub fn len(&self) -> usize
+        ensures value { result ≡ length self.now }
+        ensures least { 2 ≤ result }
+        ensures most { result ≤ 8 }
+    {
+        self.as_str().len()
+    }
+
+    /// The text as a short text.
+    pub fn as_tinystr(&self) -> TinyAsciiStr<8>
+        ensures { result ≡ self.now }
+    {
+        self.to_tinystr()
+    }
+
+    /// Whether the text is exactly this one, its case too.
+    pub fn eq_str(&self, other: &str) -> bool
+        ensures { IsTrue result ↔ (self.now ≡ other.now) }
+    {
+        self.as_str() == other
+    }
+
+    /// The subtag of a text of 2 to 8 lower-case letters or digits.
+    pub fn from_tinystr_unvalidated(input: TinyAsciiStr<8>) -> Subtag
+        requires { IsNormal words.Subtag input }
+        ensures { result ≡ input }
+    {
+        Subtag::from_known(input)
+    }
+}
+
+/// The subtag of a short text, in any case. Other texts are refused with `InvalidSubtag`.
+impl<const M: usize> TryFrom<TinyAsciiStr<M>> for Subtag {
+    type Error = ParseError;
+
+    ghost try_from_gives = { λ text r. r ≡ read words.Subtag InvalidSubtag text };
+
+    fn try_from(value: TinyAsciiStr<M>) -> Result<Subtag, ParseError> {
+        Subtag::try_from_utf8(value.as_str().as_bytes())
+    }
+}
+
+/// The script in lower case.
+impl From<Script> for Subtag {
+    ghost from_gives = { λ script subtag. subtag ≡ lower script };
+
+    fn from(script: Script) -> Subtag {
+        Subtag::from_known(script.to_tinystr().resize::<8>().to_ascii_lowercase())
+    }
+}

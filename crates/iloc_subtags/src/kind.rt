@@ -1,0 +1,37 @@
+//! What makes a kind of word.
+ghost use Rattle.std.specs.Prelude.{◌≡◌, ℕ, List, true};
+ghost use Rattle.iloc_tinystr.specs.TinyText.{is_tiny_text};
+ghost use Rattle.iloc_grammar.specs.Words.{Kind, is_word, IsWord, normal, greatest};
+ghost use Rattle.iloc_subtags.specs.declared.parse_error.ParseError.{ParseError};
+
+use crate::parse_error::ParseError;
+use iloc_tinystr::TinyAsciiStr;
+
+/// A kind of word of at most `N` bytes: which pieces it takes, their normal case, and its refusal.
+///
+/// The marker types that have it, as `LanguageKind`, have no values: they name a kind in a type.
+pub trait WordKind<const N: usize> {
+    /// The kind in the definitions.
+    ghost kind: { Kind };
+
+    /// What is answered to a piece that is no word of the kind.
+    ghost refusal: { ParseError };
+
+    /// Whether the piece is a word of the kind, in any case.
+    fn accepts(piece: &[u8]) -> bool
+        ensures { result ≡ is_word kind piece.now };
+
+    /// The text in the case of the kind.
+    fn normal(text: &TinyAsciiStr<N>) -> TinyAsciiStr<N>
+        ensures { result ≡ normal kind text.now };
+
+    /// The refusal of the kind.
+    fn refusal() -> ParseError
+        ensures { result ≡ refusal };
+
+    /// Each word of the kind is a short text of at most `N` bytes.
+    ghost fits: { (text : List ℕ) → IsWord kind text → is_tiny_text N text ≡ true };
+
+    /// `N` is the greatest length of the kind.
+    ghost size: { greatest 8 kind ≡ N };
+}

@@ -1,0 +1,223 @@
+//! The word of a kind.
+ghost use Rattle.std.specs.Prelude.{IsTrue, ◌≡◌, ◌↔◌, ℕ, List, [], ◌∷◌, Some, MatchResult};
+ghost use Rattle.std.specs.List.{AllByRecursion};
+ghost use Rattle.std.specs.Cmp.Lexicographic.{slice_cmp};
+ghost use Rattle.std.specs.Ordering.{nat_cmp};
+ghost use Rattle.iloc_grammar.specs.Words.{lower, word, read, raw};
+ghost use Rattle.iloc_grammar.specs.Values.{IsNormal};
+ghost use Rattle.iloc_subtags.specs.RawForms.{ReadsRaw};
+
+use crate::kind::WordKind;
+use crate::parse_error::ParseError;
+use iloc_tinystr::TinyAsciiStr;
+use iloc_writeable::pieces::{Pieces, write_piece};
+use iloc_writeable::{LengthHint, Sink, Writeable};
+use std::cmp::Ordering;
+use std::fmt;
+use std::marker::{Model, PhantomData};
+use std::str::FromStr;
+
+/// A word of the kind `K`, in its normal case, of at most `N` bytes.
+///
+/// Contracts see it as its text. Words are equal where their texts are, and stand in the byte order of
+/// their texts.
+#[derive_where(Clone, Copy, PartialEq, Eq, PartialOrd, Ord, Hash)]
+pub struct WordOf<K: WordKind<N>, const N: usize> {
+    text: TinyAsciiStr<N>,
+    #[derive_where(skip)]
+    kind: PhantomData<K>,
+}
+
+impl<K: WordKind<N>, const N: usize> Model for WordOf<K, N> {
+    ghost use Rattle.std.specs.Prelude.{List, ℕ};
+    ghost use Rattle.iloc_grammar.specs.Values.{IsNormal};
+
+    ghost Value = { List ℕ };
+
+    ghost view = { λ w. w.text };
+
+    ghost invariant = { λ w. IsNormal K.kind w.text };
+
+    ghost inverse = { λ text. record { text = text; kind = record {} } };
+}
+
+impl<K: WordKind<N>, const N: usize> WordOf<K, N> {
+    /// The word of a text, in any case. It refuses every other text with the refusal of the kind.
+    pub fn try_from_str(s: &str) -> Result<Self, ParseError>
+        ensures { result ≡ read K.kind K.refusal s.now }
+    {
+        Self::try_from_utf8(s.as_bytes())
+    }
+
+    /// The word of some bytes, in any case. It refuses all other bytes with the refusal of the kind.
+    pub fn try_from_utf8(code_units: &[u8]) -> Result<Self, ParseError>
+        ensures { result ≡ read K.kind K.refusal code_units.now }
+    {
+        if !K::accepts(code_units) {
+            return Err(K::refusal());
+        }
+        let Some(text) = TinyAsciiStr::<N>::try_from_utf8(code_units) else {
+            return Err(K::refusal());
+        };
+        Ok(WordOf {
+            text: K::normal(&text),
+            kind: PhantomData,
+        })
+    }
+
+    /// The word of a raw form: its normal text, followed by zeros up to `N` bytes. Any other bytes, those
+    /// of a text in another case too, are refused with the refusal of the kind.
+    pub fn try_from_raw(raw: [u8; N]) -> Result<Self, ParseError>
+        ensures { ReadsRaw 8 K.kind K.refusal raw.entry result }
+    {
+        let Some(text) = TinyAsciiStr::<N>::try_from_raw(raw) else {
+            return Err(K::refusal());
+        };
+        Self::from_normal(text)
+    }
+
+    /// The word of its normal text.
+    pub(crate) fn from_normal(text: TinyAsciiStr<N>) -> Result<Self, ParseError>
+        ensures { MatchResult result (λ word. (word ≡ text.entry) × IsNormal K.kind text.entry) (λ e. (e ≡ K.refusal) × ¬ (IsNormal K.kind text.entry)) }
+    {
+        if !K::accepts(text.as_str().as_bytes()) {
+            return Err(K::refusal());
+        }
+        if K::normal(&text) != text {
+            return Err(K::refusal());
+        }
+        Ok(WordOf {
+            text,
+            kind: PhantomData,
+        })
+    }
+
+    /// The word of a text that is known to be normal.
+    pub(crate) fn from_known(text: TinyAsciiStr<N>) -> Self
+        requires { IsNormal K.kind text }
+        ensures { result ≡ text.entry }
+    {
+        WordOf {
+            text,
+            kind: PhantomData,
+        }
+    }
+
+    /// The raw form: the text, followed by zeros up to `N` bytes.
+    pub fn into_raw(self) -> [u8; N]
+        ensures { result ≡ raw 8 K.kind self }
+    {
+        *self.text.all_bytes()
+    }
+
+    /// The text of the word, which is in the normal case of its kind.
+    pub fn as_str(&self) -> &str
+        ensures value { result.now ≡ self.now }
+        ensures normal { IsNormal K.kind self.now }
+    {
+        self.text.as_str()
+    }
+
+    /// The text of the word as a short text.
+    pub fn to_tinystr(&self) -> TinyAsciiStr<N>
+        ensures value { result ≡ self.now }
+        ensures normal { IsNormal K.kind self.now }
+    {
+        self.text
+    }
+
+    /// The byte order of the word's text against the bytes.
+    pub fn strict_cmp(self, other: &[u8]) -> Ordering
+        ensures { result ≡ slice_cmp nat_cmp self other.now }
+    {
+        self.as_str().as_bytes().cmp(other)
+    }
+
+    /// Whether the text equals the word's without case, which is whether the text reads as this word.
+    pub fn normalizing_eq(self, other: &str) -> bool
+        ensures without_case { IsTrue result ↔ (lower self ≡ lower other.now) }
+        ensures reads { IsTrue result ↔ (word K.kind other.now ≡ Some self) }
+    {
+        self.as_str().eq_ignore_ascii_case(other)
+    }
+}
+
+/// A word is in the normal case of its kind: for a proof that has only the word. It does nothing.
+pub fn is_normal<K: WordKind<N>, const N: usize>(word: &WordOf<K, N>)
+    ensures { IsNormal K.kind word.now }
+{
+    let _ = &word.text;
+}
+
+/// So is each word of a list. It does nothing.
+pub fn are_normal<K: WordKind<N>, const N: usize>(words: &[WordOf<K, N>])
+    ensures { AllByRecursion (IsNormal K.kind) words.now }
+{
+    for word in words {
+        is_normal(word);
+    }
+}
+
+impl<K: WordKind<N>, const N: usize> FromStr for WordOf<K, N> {
+    type Err = ParseError;
+
+    ghost from_str_gives = { λ text r. r ≡ read K.kind K.refusal text };
+
+    fn from_str(s: &str) -> Result<Self, ParseError> {
+        Self::try_from_str(s)
+    }
+}
+
+impl<K: WordKind<N>, const N: usize> From<WordOf<K, N>> for TinyAsciiStr<N> {
+    ghost from_gives = { λ word text. text ≡ word };
+
+    fn from(word: WordOf<K, N>) -> TinyAsciiStr<N> {
+        word.text
+    }
+}
+
+impl<K: WordKind<N>, const N: usize> fmt::Debug for WordOf<K, N> {
+    fn fmt<W: fmt::Write>(&self, f: &mut fmt::Formatter<W>) -> fmt::Result {
+        fmt::Debug::fmt(&self.as_str(), f)
+    }
+}
+
+impl<K: WordKind<N>, const N: usize> fmt::Display for WordOf<K, N> {
+    ghost output = { λ text. Some text };
+
+    fn fmt<W: fmt::Write>(&self, f: &mut fmt::Formatter<W>) -> fmt::Result {
+        f.write_str(self.as_str())
+    }
+}
+
+/// A word is one piece.
+impl<K: WordKind<N>, const N: usize> Pieces for WordOf<K, N> {
+    ghost pieces = { λ text. text ∷ [] };
+
+    fn has_pieces(&self) -> bool {
+        true
+    }
+
+    fn write_pieces<S: Sink>(&self, sink: &mut S, first: bool) -> fmt::Result {
+        write_piece(sink, self.as_str(), first)
+    }
+}
+
+/// Prints the text, which can always be lent.
+impl<K: WordKind<N>, const N: usize> Writeable for WordOf<K, N> {
+    ghost text = { λ text. text };
+
+    ghost lends = { λ _. Unit {0} };
+
+    fn write_to<S: Sink>(&self, sink: &mut S) -> fmt::Result {
+        sink.write_str(self.as_str())
+    }
+
+    fn writeable_length_hint(&self) -> LengthHint {
+        LengthHint::exact(self.as_str().len())
+    }
+
+    fn writeable_borrow(&self) -> Option<&str> {
+        Some(self.as_str())
+    }
+}

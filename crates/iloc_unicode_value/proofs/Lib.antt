@@ -1,0 +1,3 @@
+mod CutLemmas
+mod ReadingLemmas
+mod WholeLemmas

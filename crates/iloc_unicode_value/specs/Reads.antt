@@ -1,0 +1,19 @@
+-- What a text is read as, as a whole value.
+use Rattle.std.specs.Prelude.{◌≡◌, ℕ, ◌<◌, List, length, Result, Ok, Err}
+use Rattle.iloc_grammar.specs.Pieces.{pieces}
+use Rattle.iloc_grammar.specs.Words.{Subtag, is_word}
+use Rattle.iloc_grammar.specs.Meaning.{normal_values}
+use Rattle.iloc_grammar.specs.Reading.{passing}
+use Rattle.iloc_grammar.specs.Faults as faults
+use Rattle.iloc_fronts.specs.Fronts.{unicode_value}
+use Rattle.iloc_subtags.specs.declared.parse_error.ParseError.{ParseError}
+use Rattle.iloc_subtags.specs.declared.parse_error.ParseError.TheVariants.{InvalidLanguage, InvalidSubtag, InvalidExtension, DuplicatedExtension, OutOfMemory}
+
+-- by cases on the answer; memory is wanted only for a fifth word besides `true`
+abbrev pub ReadsAs : List ℕ → Result (List (List ℕ)) ParseError → Type 0
+ReadsAs t (Ok v) = unicode_value t ≡ Ok v
+ReadsAs t (Err InvalidSubtag) = unicode_value t ≡ Err faults.InvalidSubtag
+ReadsAs t (Err OutOfMemory) = 4 < length (normal_values (passing (is_word Subtag) (pieces t)))
+ReadsAs t (Err InvalidLanguage) = ⊥
+ReadsAs t (Err InvalidExtension) = ⊥
+ReadsAs t (Err DuplicatedExtension) = ⊥

@@ -1,0 +1,11 @@
+-- Lists of subtags in which `true` isn't kept.
+use Rattle.std.specs.Prelude.{ℕ, not, List, [], ◌∷◌, ◌++◌, filter}
+use Rattle.iloc_grammar.specs.Words.{is_true}
+
+-- the words other than `true`
+abbrev pub without_true : List (List ℕ) → List (List ℕ)
+without_true ws = filter (λ w. not (is_true w)) ws
+
+-- a word more, unless it is `true`
+abbrev pub with_subtag : List (List ℕ) → List ℕ → List (List ℕ)
+with_subtag ws w = ws ++ without_true (w ∷ [])

@@ -1,0 +1,77 @@
+//! Reads values from pieces.
+ghost use Rattle.std.specs.Prelude.{◌≡◌, ◌≤◌, ℕ, List, [], length, map, IfOk, OnOk, IsOk};
+ghost use Rattle.iloc_grammar.specs.Pieces.{pieces};
+ghost use Rattle.iloc_grammar.specs.Words.{Attribute, Subtag, is_word, normal};
+ghost use Rattle.iloc_grammar.specs.Values.{IsNormal};
+ghost use Rattle.iloc_grammar.specs.Meaning.{normal_values};
+ghost use Rattle.iloc_grammar.specs.Reading.{passing, past};
+ghost use Rattle.iloc_parser.specs.Left.{left};
+ghost use Rattle.iloc_unicode_value.specs.Values.{without_true};
+ghost use Rattle.iloc_unicode_value.specs.Reads.{ReadsAs};
+
+use crate::value::Value;
+use iloc_parser::{SubtagIterator, take_word};
+use iloc_subtags::{AttributeKind, ParseError, Subtag, SubtagKind, WordKind, WordOf};
+use std::alloc::{AllocError, Global};
+
+impl Value {
+    /// Reads all pieces of the text as subtags, of which `true` is dropped; the empty text is the
+    /// empty value. Refuses any other piece by `InvalidSubtag`.
+    pub fn try_from_utf8(alloc: Global, code_units: &[u8]) -> Result<Self, ParseError>
+        ensures { ReadsAs code_units.now result }
+    {
+        if code_units.is_empty() {
+            return Ok(Value::new_empty());
+        }
+        let mut iter = SubtagIterator::new(code_units);
+        let value = read_words::<SubtagKind>(alloc, &mut iter)?;
+        match iter.peek() {
+            Some(_) => Err(ParseError::InvalidSubtag),
+            None => Ok(value),
+        }
+    }
+
+    /// The same of a text that is UTF-8.
+    pub fn try_from_str(alloc: Global, s: &str) -> Result<Self, ParseError>
+        ensures { ReadsAs s.now result }
+    {
+        Value::try_from_utf8(alloc, s.as_bytes())
+    }
+}
+
+/// Reads the longest front of pieces that values are made of: 3 to 8 letters or digits. Up to four
+/// besides `true` take no memory.
+#[tactic(auto, using(crate::proofs::ReadingLemmas::attribute_is_subtag))]
+pub fn read_value(alloc: Global, iter: &mut SubtagIterator<'_>) -> Result<Value, AllocError>
+    ensures value { IfOk result (λ v. v ≡ normal_values (passing (is_word Attribute) (left iter.old))) }
+    ensures rest { OnOk result (left iter.new ≡ past (is_word Attribute) (left iter.old)) }
+    ensures succeeds { length (normal_values (passing (is_word Attribute) (left iter.old))) ≤ 4 → IsOk result }
+{
+    read_words::<AttributeKind>(alloc, iter)
+}
+
+// Reads the longest front of words of a kind, all of which are subtags.
+fn read_words<K: WordKind<8>>(
+    alloc: Global,
+    iter: &mut SubtagIterator<'_>,
+) -> Result<Value, AllocError>
+    requires { (w : List ℕ) → IsNormal K.kind w → IsNormal Subtag w }
+    ensures value { IfOk result (λ v. v ≡ without_true (map (normal K.kind) (passing (is_word K.kind) (left iter.old)))) }
+    ensures rest { OnOk result (left iter.new ≡ past (is_word K.kind) (left iter.old)) }
+    ensures succeeds { length (without_true (map (normal K.kind) (passing (is_word K.kind) (left iter.old)))) ≤ 4 → IsOk result }
+{
+    let mut value = Value::new_empty();
+    'words: while let Some(word) = take_word::<K, 8>(iter) {
+        value.push_subtag(alloc, subtag_of(&word))?;
+    }
+    Ok(value)
+}
+
+// The word as a subtag.
+fn subtag_of<K: WordKind<8>>(word: &WordOf<K, 8>) -> Subtag
+    requires { (w : List ℕ) → IsNormal K.kind w → IsNormal Subtag w }
+    ensures { result ≡ word.now }
+{
+    let _ = word.as_str();
+    Subtag::from_tinystr_unvalidated(word.to_tinystr())
+}

@@ -1,0 +1,258 @@
+//! A list of subtags.
+ghost use Rattle.std.specs.Prelude.{◌≡◌, ◌<◌, ◌≤◌, ◌↔◌, ℕ, List, [], ◌∷◌, ◌++◌, length, remove, take, slice_get, OnOk, OnErr, IfOk, IsOk, IsTrue, true, Ok, option_to_list};
+ghost use Rattle.std.specs.List.{AllByRecursion};
+ghost use Rattle.std.specs.Iterator.{IsFinite, Drains};
+ghost use Rattle.std.specs.Option.{option_copied};
+ghost use Rattle.iloc_grammar.specs.Words.{Subtag, is_true};
+ghost use Rattle.iloc_grammar.specs.Values.{IsNormal};
+ghost use Rattle.iloc_shortvec.specs.ShortList.{only_of};
+ghost use Rattle.iloc_unicode_value.specs.Values.{without_true, with_subtag};
+
+use iloc_shortvec::{ShortWords, ShortWordsIntoIter};
+use iloc_subtags::Subtag;
+use std::alloc::{AllocError, Global};
+use std::marker::Model;
+
+/// The value of a keyword: a list of subtags. The empty value stands for `true`.
+#[derive(Drop, PartialEq, Eq, PartialOrd, Ord, Hash)]
+pub struct Value {
+    subtags: ShortWords<Subtag>,
+}
+
+impl Model for Value {
+    ghost use Rattle.std.specs.Prelude.{List, ℕ};
+    ghost use Rattle.std.specs.List.{AllByRecursion};
+    ghost use Rattle.iloc_grammar.specs.Words.{Subtag};
+    ghost use Rattle.iloc_grammar.specs.Values.{IsNormal};
+
+    ghost Value = { List (List ℕ) };
+
+    ghost view = { λ v. v.subtags };
+
+    ghost invariant = { λ v. AllByRecursion (IsNormal Subtag) v.subtags };
+
+    ghost inverse = { λ ws. record { subtags = ws } };
+}
+
+impl Value {
+    /// The empty value.
+    pub fn new_empty() -> Self
+        ensures { result ≡ [] }
+    {
+        Value {
+            subtags: ShortWords::new(),
+        }
+    }
+
+    /// The subtags in order.
+    pub fn as_subtags_slice(&self) -> &[Subtag]
+        ensures subtags { result.now ≡ self.now }
+        ensures normal { AllByRecursion (IsNormal Subtag) self.now }
+    {
+        self.subtags.as_slice()
+    }
+
+    /// The number of subtags.
+    pub fn subtag_count(&self) -> usize
+        ensures { result ≡ length self.now }
+    {
+        self.subtags.len()
+    }
+
+    /// Whether there is no subtag.
+    pub fn is_empty(&self) -> bool
+        ensures { IsTrue result ↔ (self.now ≡ []) }
+    {
+        self.as_subtags_slice().is_empty()
+    }
+
+    /// The subtag of a value of exactly one.
+    pub fn as_single_subtag(&self) -> Option<&Subtag>
+        ensures { option_copied result ≡ only_of self.now }
+    {
+        match self.as_subtags_slice() {
+            [only] => Some(only),
+            _ => None,
+        }
+    }
+
+    /// The subtag of a value of exactly one, by value.
+    pub fn into_single_subtag(self) -> Option<Subtag>
+        ensures { result ≡ only_of self }
+    {
+        match self.as_subtags_slice() {
+            [only] => Some(*only),
+            _ => None,
+        }
+    }
+
+    /// The subtag at a place; `None` from the length on.
+    pub fn get_subtag(&self, idx: usize) -> Option<&Subtag>
+        ensures { option_copied result ≡ slice_get self.now idx }
+    {
+        self.as_subtags_slice().get(idx)
+    }
+
+    /// Takes out the subtag at a place; `None` from the length on, and then nothing changes.
+    pub fn remove_subtag(&mut self, idx: usize) -> Option<Subtag>
+        ensures taken { result ≡ slice_get self.old idx }
+        ensures rest { self.new ≡ remove self.old idx }
+    {
+        if idx < self.subtags.len() {
+            Some(self.subtags.remove(idx))
+        } else {
+            None
+        }
+    }
+
+    /// Adds a subtag at the end; `true` changes nothing. Up to four subtags take no memory.
+    pub fn push_subtag(&mut self, alloc: Global, subtag: Subtag) -> Result<(), AllocError>
+        ensures ok { OnOk result (self.new ≡ with_subtag self.old subtag) }
+        ensures err { OnErr result (self.new ≡ self.old) }
+        ensures succeeds { length self.old < 4 → IsOk result }
+        ensures ignores { is_true subtag ≡ true → IsOk result }
+    {
+        if spells_true(&subtag) {
+            return Ok(());
+        }
+        self.subtags.push(alloc, subtag)
+    }
+
+    /// The value of at most one subtag; `true` gives the empty value.
+    pub fn from_subtag(subtag: Option<Subtag>) -> Self
+        ensures { result ≡ without_true (option_to_list subtag) }
+    {
+        match subtag {
+            Some(subtag) if !spells_true(&subtag) => Value {
+                subtags: ShortWords::new_single(subtag),
+            },
+            _ => Value::new_empty(),
+        }
+    }
+
+    /// The value of these two subtags; `true` is let in. It takes no memory.
+    pub fn from_two_subtags(alloc: Global, f: Subtag, s: Subtag) -> Result<Self, AllocError>
+        ensures { result ≡ Ok (f ∷ s ∷ []) }
+    {
+        let mut value = Value::new_empty();
+        value.add(alloc, f)?;
+        value.add(alloc, s)?;
+        Ok(value)
+    }
+
+    /// The value of these subtags; `true` is let in.
+    pub fn from_vec_unchecked(input: Vec<Subtag>) -> Self
+        ensures { result ≡ input.items }
+    {
+        are_normal(input.as_slice());
+        Value {
+            subtags: ShortWords::from_vec(input),
+        }
+    }
+
+    /// The value of the items; `true` is let in.
+    pub fn from_subtags<I: IntoIterator<Item = Subtag>>(
+        alloc: Global,
+        iter: I,
+    ) -> Result<Self, AllocError>
+    where
+        I::IntoIter: Drop,
+        requires { (it : I.IntoIter) → I.into_iter_gives iter it → I.IntoIter.can_next it × IsFinite (I.IntoIter.remaining it) }
+        ensures { IfOk result (λ v. (it : I.IntoIter) × I.into_iter_gives iter it × Drains I.IntoIter.next_gives it v) }
+    {
+        let mut value = Value::new_empty();
+        value.extend(alloc, iter)?;
+        Ok(value)
+    }
+
+    /// Adds the items at the end; `true` is let in. Where memory is refused, nothing changes.
+    pub fn extend<I: IntoIterator<Item = Subtag>>(
+        &mut self,
+        alloc: Global,
+        iter: I,
+    ) -> Result<(), AllocError>
+    where
+        I::IntoIter: Drop,
+        requires { (it : I.IntoIter) → I.into_iter_gives iter it → I.IntoIter.can_next it × IsFinite (I.IntoIter.remaining it) }
+        ensures ok { OnOk result ((it : I.IntoIter) × (xs : List (List ℕ)) × I.into_iter_gives iter it × Drains I.IntoIter.next_gives it xs × (self.new ≡ self.old ++ xs)) }
+        ensures err { OnErr result (self.new ≡ self.old) }
+    {
+        let before = self.subtag_count();
+        for subtag in iter {
+            if self.add(alloc, subtag).is_err() {
+                self.cut(before);
+                return Err(AllocError);
+            }
+        }
+        Ok(())
+    }
+
+    // Adds a subtag at the end, `true` too.
+    fn add(&mut self, alloc: Global, subtag: Subtag) -> Result<(), AllocError>
+        ensures ok { OnOk result (self.new ≡ self.old ++ subtag ∷ []) }
+        ensures err { OnErr result (self.new ≡ self.old) }
+        ensures succeeds { length self.old < 4 → IsOk result }
+    {
+        let _ = subtag.as_str();
+        self.subtags.push(alloc, subtag)
+    }
+
+    // Keeps the first subtags.
+    fn cut(&mut self, count: usize)
+        requires { count ≤ length self.old }
+        ensures { self.new ≡ take count self.old }
+    {
+        while self.subtag_count() > count {
+            let last = self.subtag_count() - 1;
+            self.remove_subtag(last);
+        }
+    }
+}
+
+// Each subtag is a normal word, as the type of each says.
+fn are_normal(subtags: &[Subtag])
+    ensures { AllByRecursion (IsNormal Subtag) subtags.now }
+{
+    for subtag in subtags {
+        let _ = subtag.as_str();
+    }
+}
+
+/// Whether the subtag is `true`.
+#[tactic(auto, unfolding(iloc_grammar::specs::Words::is_true))]
+fn spells_true(subtag: &Subtag) -> bool
+    ensures value { result ≡ is_true subtag.now }
+    ensures normal { IsNormal Subtag subtag.now }
+{
+    subtag.as_str() == "true"
+}
+
+impl Clone for Value {
+    ghost is_clone = { λ a b. b ≡ a };
+
+    fn clone(&self) -> Result<Self, AllocError> {
+        Ok(Value {
+            subtags: self.subtags.clone()?,
+        })
+    }
+}
+
+impl IntoIterator for Value {
+    type Item = Subtag;
+
+    type IntoIter = ShortWordsIntoIter<Subtag>;
+
+    ghost into_iter_gives = { λ value it. it ≡ value };
+
+    fn into_iter(self) -> ShortWordsIntoIter<Subtag> {
+        self.subtags.into_iter()
+    }
+}
+
+impl Default for Value {
+    ghost is_default = { λ v. v ≡ [] };
+
+    fn default() -> Self {
+        Value::new_empty()
+    }
+}
