@@ -7,7 +7,7 @@ use Rattle.iloc_grammar.specs.Pieces.{pieces}
 use Rattle.iloc_grammar.specs.Words.{Language, is_word, IsWord, is_same, lower, word_cmp, languages}
 use Rattle.iloc_grammar.specs.Written.{Identifier, identifier_pieces, AllDifferent, IsIdentifier}
 use Rattle.iloc_grammar.specs.Meaning.{IdentifierMeans, normal_identifier}
-use Rattle.iloc_grammar.specs.Faults.{SpellsIdentifier, first_piece}
+use Rattle.iloc_grammar.specs.Faults.{SpellsIdentifier, first_piece, not_a_language, not_an_identifier}
 use Rattle.iloc_grammar.specs.Reading.{front_of, after_front}
 use Rattle.iloc_grammar.proofs.PiecesLaws.{pieces_nonempty}
 use Rattle.iloc_grammar.proofs.ReadingLaws.{front_of-pieces, after_front-pieces, pieces-front_of, front_words}
@@ -77,8 +77,8 @@ unfolding langid_answer
 answer_no_identifier t w n = rw (w, spells_not (pieces t) (pieces_nonempty t) w n) refl
 
 pub answer_refused : (t : List ℕ) (e : ParseError) → ReadsAs (pieces t) (Err e) → e ≢ OutOfMemory → langid_answer t ≡ refusal_text e
-answer_refused t InvalidLanguage r n = answer_no_language t r
-answer_refused t InvalidSubtag r n = answer_no_identifier t r.0 r.1
+answer_refused t InvalidLanguage (not_a_language h) n = answer_no_language t h
+answer_refused t InvalidSubtag (not_an_identifier w h) n = answer_no_identifier t w h
 answer_refused t InvalidExtension r n = absurd r
 answer_refused t DuplicatedExtension r n = absurd r
 answer_refused t OutOfMemory r n = absurd (n refl)
