@@ -1,19 +1,19 @@
 -- From what a front is read as to what the whole or the head is read as.
-use Rattle.std.proofs.Common.{◌≡◌, ◌≢◌, ℕ, ◌<◌, ◌≤◌, Bool, true, false, cond, List, [], ◌∷◌, ◌++◌, length, map, refl, sym, ap, ◌∙◌, subst, arith, append-nil, Option, Some, None, option_map, Result, Ok, Err, true≢false, ◌==◌}
-use Rattle.std.specs.Prelude.{filter, if◌then◌else◌}
+use Rattle.std.proofs.Common.{◌≡◌, ◌≢◌, ℕ, Bool, true, false, List, [], ◌∷◌, ◌++◌, length, refl, sym, ap, ◌∙◌, subst, arith, append-nil, Some, None, option_map, Result, Ok, Err, true≢false, ◌==◌}
+use Rattle.std.specs.Prelude.{if◌then◌else◌}
 use Rattle.std.proofs.lemmas.Bool.Decides.{nat_tests}
 use Rattle.std.proofs.lemmas.Bool.{false_from_ne_true}
-use Rattle.iloc_grammar.specs.Words.{Kind, Language, Script, Region, Variant, is_word, IsWord, normal, lower, title, upper, languages, read}
+use Rattle.iloc_grammar.specs.Words.{Kind, Language, Script, Region, is_word, IsWord, normal, lower, title, upper, languages, read}
 use Rattle.iloc_grammar.specs.Meaning.{IdentifierMeans}
-use Rattle.iloc_grammar.specs.Faults.{HasIdentifierFault, not_a_language, not_an_identifier, front, head, is_one_byte, first_piece}
+use Rattle.iloc_grammar.specs.Faults.{not_a_language, not_an_identifier, front, head}
 use Rattle.iloc_grammar.specs.Reading.{first_item}
-use Rattle.iloc_grammar.specs.Reading.{take_first, skip_first, rest_of, front_of, after_front, from_block, after_head, starts_block}
+use Rattle.iloc_grammar.specs.Reading.{take_first, skip_first, front_of, after_front, from_block, after_head, starts_block}
 use Rattle.iloc_grammar.proofs.ReadingLaws.{EndsWords, starts_ends, from_block_starts, front-from_block, front_long, after_long, starts_empty, after_front-append, front_means, refuses_more, refuses_repeat, counts_variants, front_is_front}
 use Rattle.iloc_grammar.specs.Reading.{IdentifierFront}
 use Rattle.iloc_subtags.specs.declared.parse_error.ParseError.{ParseError}
 use Rattle.iloc_subtags.specs.declared.parse_error.ParseError.TheVariants.{InvalidLanguage, InvalidSubtag, InvalidExtension, DuplicatedExtension, OutOfMemory}
 use Rattle.iloc_langid.specs.declared.identifier.LanguageIdentifier.{LanguageIdentifier}
-use Rattle.iloc_langid.specs.Reads.{value_of, ReadsAs, FrontGives, FrontReadsAs, VariantsGive}
+use Rattle.iloc_langid.specs.Reads.{ReadsAs, FrontGives, FrontReadsAs, VariantsGive}
 
 pub no_empty_language : is_word (Language languages) [] ≡ false
 unfolding is_word languages

@@ -1,6 +1,6 @@
 -- Variants that are taken one at a time.
-use Rattle.std.proofs.Common.{◌≡◌, ◌≢◌, ℕ, ◌+◌, ◌<◌, ◌≤◌, Bool, true, false, cond, List, [], ◌∷◌, ◌++◌, length, map, refl, sym, ap, ◌∙◌, subst, arith, append_assoc, append-nil, length-append, Option, Some, None, option_map, true≢false}
-use Rattle.std.specs.List.{list_any, AllByRecursion}
+use Rattle.std.proofs.Common.{◌≡◌, ℕ, ◌<◌, ◌≤◌, Bool, true, false, cond, List, [], ◌∷◌, ◌++◌, length, map, refl, sym, ap, ◌∙◌, subst, arith, append_assoc, append-nil, length-append, Some, None, option_map, true≢false}
+use Rattle.std.specs.List.{list_any}
 use Rattle.std.proofs.lemmas.List.{map-append, length-map}
 use Rattle.std.proofs.lemmas.Bool.{or_parts, or_from}
 use Rattle.iloc_grammar.specs.Words.{Kind, Variant, is_word, IsWord, normal, lower, word_cmp, is_same}
@@ -10,7 +10,6 @@ use Rattle.iloc_grammar.specs.Steps.{Reordered, none, front_kept, first_two, in_
 use Rattle.iloc_grammar.specs.Reading.{take_first, skip_first, passing, past}
 use Rattle.iloc_grammar.proofs.MapLaws.{word_cmp_total}
 use Rattle.iloc_grammar.proofs.Orders.{set_of_reordered, different_reordered}
-use Rattle.iloc_grammar.proofs.Sorting.{itself}
 use Rattle.iloc_langid.proofs.SetLemmas.{any-set_of, set_of-set_of, length-set_of}
 
 -- a word at the front

@@ -7,10 +7,7 @@ use crate::reader::{read_head, read_whole};
 use iloc_parser::SubtagIterator;
 use iloc_subtags::{Language, ParseError, Region, Script};
 use iloc_word_set::Variants;
-use iloc_writeable::writeable::{
-    dashed_length_hint, optional_dashed_length_hint, write_all_dashed, write_optional_dashed,
-};
-use iloc_writeable::{LengthHint, Sink, Writeable};
+use iloc_writeable::{Pieces, Sink, Writeable};
 use std::alloc::Global;
 use std::fmt;
 
@@ -46,26 +43,32 @@ impl LanguageIdentifier {
     }
 }
 
+impl Pieces for LanguageIdentifier {
+    ghost use Rattle.iloc_grammar.specs.Written.{identifier_pieces};
+    ghost use Rattle.iloc_langid.specs.Reads.{value_of};
+
+    ghost pieces = { λ i. identifier_pieces (value_of i) };
+
+    fn has_pieces(&self) -> bool {
+        true
+    }
+
+    #[tactic(auto, using(iloc_writeable::proofs::PiecesLemmas::flat_map_words))]
+    fn write_pieces<S: Sink>(&self, sink: &mut S, first: bool) -> fmt::Result {
+        let variants = self.variants.as_slice();
+        (&self.language, &self.script, &self.region, variants).write_pieces(sink, first)
+    }
+}
+
 impl Writeable for LanguageIdentifier {
     ghost use Rattle.iloc_langid.specs.Reads.{value_of};
     ghost use Rattle.iloc_grammar.specs.Values.{identifier_text};
 
     ghost text = { λ i. identifier_text (value_of i) };
 
-    ghost lends = { λ _. ⊥ };
-
+    #[tactic(auto, unfolding(iloc_grammar::specs::Values::identifier_text, iloc_grammar::specs::Pieces::join))]
     fn write_to<S: Sink>(&self, sink: &mut S) -> fmt::Result {
-        self.language.write_to(sink)?;
-        write_optional_dashed(sink, self.script.as_ref())?;
-        write_optional_dashed(sink, self.region.as_ref())?;
-        write_all_dashed(sink, self.variants.as_slice())
-    }
-
-    fn writeable_length_hint(&self) -> LengthHint {
-        self.language.writeable_length_hint()
-            + optional_dashed_length_hint(self.script.as_ref())
-            + optional_dashed_length_hint(self.region.as_ref())
-            + dashed_length_hint(self.variants.as_slice())
+        self.write_joined(sink)
     }
 
     fn writeable_borrow(&self) -> Option<&str> {

@@ -79,3 +79,9 @@ is_there-at f xs i x h e t =
     or_true : (b : Bool) → (b || true) ≡ true
     or_true false = refl
     or_true true = refl
+
+-- words are a piece each
+pub flat_map_words : (ws : List (List ℕ)) → flat_map (λ w. w ∷ []) ws ≡ ws
+flat_map_words [] = refl
+flat_map_words (w ∷ ws) = ap (λ vs. w ∷ vs) (flat_map_words ws)
+

@@ -1,7 +1,5 @@
-use Rattle.std.proofs.Common.{◌≡◌, ◌∷◌, sym, ap, ◌∙◌, Err, true, false}
 use Rattle.std.proofs.lemmas.Result.{err_from_is_err_and}
 use Rattle.iloc_grammar.specs.Words.{Language, languages}
-use Rattle.iloc_grammar.specs.Faults.{first_piece}
 use Rattle.iloc_parser.specs.Left.{left}
 use Rattle.iloc_langid.proofs.FrontLemmas.{no_empty_language, accepted_from_read, front_gives, front_refuses}
 use Rattle.iloc_langid.proofs.reader.front.Goals as goal
