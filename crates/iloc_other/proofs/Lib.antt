@@ -2,3 +2,4 @@ pub mod TakingLemmas
 pub mod OtherLemmas
 pub mod SingletonLemmas
 pub mod TextLemmas
+pub mod PrintLemmas

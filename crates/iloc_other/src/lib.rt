@@ -8,6 +8,9 @@
 //! `iloc_shortvec`.
 #![tactic(auto)]
 
+ghost use Rattle.std.specs.Prelude.{◌≡◌, ℕ, List};
+ghost use Rattle.iloc_orders.specs.Orders.{words_cmp, other_cmp};
+
 pub mod other;
 pub mod private;
 pub mod singleton;
@@ -15,3 +18,9 @@ pub mod words;
 
 pub use other::Other;
 pub use private::Private;
+
+/// Both stand in the orders of the definitions.
+pub fn orders()
+    ensures private { (v w : List (List ℕ)) → ⟦<Private as Ord>⟧.cmp v w ≡ words_cmp v w }
+    ensures other { (o q : ℕ × List (List ℕ)) → ⟦<Other as Ord>⟧.cmp o q ≡ other_cmp o q }
+{}
