@@ -1,3 +1,5 @@
 pub mod TakingLemmas
 pub mod OtherLemmas
-pub mod BlockLemmas
+pub mod SingletonLemmas
+pub mod TextLemmas
+pub mod PrintLemmas

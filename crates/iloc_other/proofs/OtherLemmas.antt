@@ -1,5 +1,5 @@
 -- Pieces of other extensions that are taken one at a time.
-use Rattle.std.proofs.Common.{◌≡◌, ℕ, suc, ◌+◌, ◌<◌, ◌≤◌, Bool, true, false, cond, List, [], ◌∷◌, ◌++◌, length, map, filter, refl, sym, ap, ◌∙◌, subst, arith, append_assoc, append-nil, length-append, Option, Some, None, true≢false, if◌then◌else◌, All, rules}
+use Rattle.std.proofs.Common.{◌≡◌, ℕ, suc, ◌+◌, ◌<◌, ◌≤◌, Bool, true, false, cond, List, [], ◌∷◌, ◌++◌, length, map, filter, refl, sym, ap, ◌∙◌, subst, arith, append_assoc, append-nil, length-append, Option, Some, None, true≢false, if◌then◌else◌, All, rules, ◌==◌}
 use Rattle.std.specs.List.{AllByRecursion}
 use Rattle.std.specs.Char.{is_ascii_alphanumeric}
 use Rattle.std.specs.Str.{IsUtf8}
@@ -10,8 +10,9 @@ use Rattle.std.proofs.lemmas.Str.{IsUtf8-from_ascii}
 use Rattle.std.proofs.lemmas.Str.Ascii.{IsAscii-from_all}
 use Rattle.iloc_grammar.specs.Words.{Subtag, is_word, lower}
 use Rattle.iloc_grammar.specs.Written.{IsOther, kept}
+use Rattle.iloc_grammar.specs.Faults as faults
 use Rattle.iloc_grammar.specs.Reading.{take_first, skip_first, passing, past}
-use Rattle.iloc_fronts.specs.Fronts.{has_other_length, other_front, OtherRead}
+use Rattle.iloc_fronts.specs.Fronts.{has_other_length, other_front, OtherRead, OtherFault, no_word}
 
 -- a piece of the front was taken, or none
 pub took : (test : List ℕ → Bool) (ps : List (List ℕ)) (p : List ℕ) → Some p ≡ take_first test ps → (test p ≡ true) × (ps ≡ p ∷ skip_first test ps)
@@ -103,12 +104,12 @@ takes_all before now ws h e n =
       left = sym w.1;
     }
 
-pub takes_none : (before now ws : List (List ℕ)) → TakingPieces before now ws → None ≡ take_first has_other_length now → length ws ≡ 0 → ¬ (IsOther (other_front before))
-takes_none before now ws h e n i =
+pub takes_none : (before now ws : List (List ℕ)) → TakingPieces before now ws → None ≡ take_first has_other_length now → length ws ≡ 0 → OtherFault before faults.InvalidExtension
+takes_none before now ws h e n = no_word (λ i.
     let w = whole before now ws h e in
     let z : length (kept (other_front before)) ≡ 0 = ap (λ l. length (kept l)) w.0 ∙ sym (ap length h.means) ∙ n in
     let p = i.nonempty in
-    absurd (omega (arith, z, p))
+    absurd (omega (arith, z, p)))
 
 -- a letter or digit alone is text
 pub letter_is_utf8 : (c : ℕ) → is_ascii_alphanumeric c ≡ true → IsUtf8 (c ∷ [])
@@ -119,3 +120,9 @@ letter_is_utf8 c h = IsUtf8-from_ascii (c ∷ []) (IsAscii-from_all (c ∷ []) (
 
     below : (c : ℕ) → is_ascii_alphanumeric c ≡ true → c < 128
     below c h = grind (arith, nat_tests)
+
+pub no_item : (n : ℕ) → (n == 0) ≡ true → n ≡ 0
+no_item n h = grind (arith, nat_tests)
+
+pub some_item : (n : ℕ) → (n == 0) ≡ false → n ≡ 0 → ⊥
+some_item n h e = grind (arith, nat_tests)

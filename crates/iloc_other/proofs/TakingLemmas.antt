@@ -4,9 +4,10 @@ use Rattle.std.specs.List.{AllByRecursion}
 use Rattle.std.proofs.lemmas.List.{map-append, length-map}
 use Rattle.iloc_grammar.specs.Words.{Kind, PrivateSubtag, is_word, IsWord, normal, lower, read}
 use Rattle.iloc_grammar.specs.Written.{IsPrivate}
+use Rattle.iloc_grammar.specs.Faults as faults
 use Rattle.iloc_grammar.specs.Reading.{passing}
-use Rattle.iloc_fronts.specs.Fronts.{PrivateRead}
-use Rattle.iloc_other.specs.Reading.{private_front}
+use Rattle.iloc_fronts.specs.Fronts.{PrivateRead, PrivateFault, not_private}
+use Rattle.iloc_other.specs.Reading.{private_words}
 
 -- one item more of the front
 pub all_one_more : {X : Type 0} (P : X → Type 0) (xs : List X) (i : ℕ) (x : X) → i < length xs → x ≡ get_or xs i x → AllByRecursion P (take i xs) → P x → AllByRecursion P (take (suc i) xs)
@@ -56,18 +57,18 @@ at_place [] p ys h = h.0
 at_place (x ∷ xs) p ys h = at_place xs p ys h.1
 
 -- a piece that is no word
-pub refuses_piece : (before now ws : List (List ℕ)) (p : List ℕ) (more : List (List ℕ)) → TakingWords before now ws → now ≡ p ∷ more → is_word PrivateSubtag p ≡ false → ¬ (IsPrivate before)
-refuses_piece before now ws p more h e w i = true≢false (sym (at_place h.taken p more (subst (AllByRecursion (IsWord PrivateSubtag)) (h.spelled ∙ ap (λ l. h.taken ++ l) e) i.words)) ∙ w)
+pub refuses_piece : (before now ws : List (List ℕ)) (p : List ℕ) (more : List (List ℕ)) → TakingWords before now ws → now ≡ p ∷ more → is_word PrivateSubtag p ≡ false → PrivateFault before faults.InvalidExtension
+refuses_piece before now ws p more h e w = not_private (λ i. true≢false (sym (at_place h.taken p more (subst (AllByRecursion (IsWord PrivateSubtag)) (h.spelled ∙ ap (λ l. h.taken ++ l) e) i.words)) ∙ w))
 
-passing_more : (xs ys : List (List ℕ)) → AllByRecursion (IsWord PrivateSubtag) xs → private_front (xs ++ ys) ≡ xs ++ private_front ys
+passing_more : (xs ys : List (List ℕ)) → AllByRecursion (IsWord PrivateSubtag) xs → private_words (xs ++ ys) ≡ xs ++ private_words ys
 passing_more [] ys h = refl
 passing_more (x ∷ xs) ys h = rw h.0 (ap (λ l. x ∷ l) (passing_more xs ys h.1))
 
 -- a fifth word
-pub wants_memory : (before now ws : List (List ℕ)) (p : List ℕ) (more : List (List ℕ)) → TakingWords before now ws → now ≡ p ∷ more → IsWord PrivateSubtag p → (length ws < 4 → ⊥) → 4 < length (private_front before)
+pub wants_memory : (before now ws : List (List ℕ)) (p : List ℕ) (more : List (List ℕ)) → TakingWords before now ws → now ≡ p ∷ more → IsWord PrivateSubtag p → (length ws < 4 → ⊥) → 4 < length (private_words before)
 wants_memory before now ws p more h e w n =
-    let all : private_front before ≡ h.taken ++ (p ∷ private_front more) = ap private_front (h.spelled ∙ ap (λ l. h.taken ++ l) e) ∙ passing_more h.taken (p ∷ more) h.words ∙ ap (λ b. h.taken ++ cond b (p ∷ private_front more) []) w in
-    let many : length (private_front before) ≡ length h.taken + suc (length (private_front more)) = ap length all ∙ length-append h.taken (p ∷ private_front more) in
+    let all : private_words before ≡ h.taken ++ (p ∷ private_words more) = ap private_words (h.spelled ∙ ap (λ l. h.taken ++ l) e) ∙ passing_more h.taken (p ∷ more) h.words ∙ ap (λ b. h.taken ++ cond b (p ∷ private_words more) []) w in
+    let many : length (private_words before) ≡ length h.taken + suc (length (private_words more)) = ap length all ∙ length-append h.taken (p ∷ private_words more) in
     let same : length ws ≡ length h.taken = ap length h.means ∙ length-map h.taken lower in
     omega (arith, many, same, n)
 
@@ -85,9 +86,9 @@ takes_all before now ws h e n =
     some [] h = absurd (h refl)
     some (x ∷ xs) h = omega arith
 
-pub takes_none : (before now ws : List (List ℕ)) → TakingWords before now ws → now ≡ [] → ws ≡ [] → ¬ (IsPrivate before)
-takes_none before now ws h e n i = by h.taken (sym (append-nil h.taken) ∙ ap (λ l. h.taken ++ l) (sym e) ∙ sym h.spelled) (sym n ∙ h.means)
+pub takes_none : (before now ws : List (List ℕ)) → TakingWords before now ws → now ≡ [] → ws ≡ [] → PrivateFault before faults.InvalidExtension
+takes_none before now ws h e n = not_private (λ i. by i h.taken (sym (append-nil h.taken) ∙ ap (λ l. h.taken ++ l) (sym e) ∙ sym h.spelled) (sym n ∙ h.means))
   where
-    by : (xs : List (List ℕ)) → xs ≡ before → [] ≡ map lower xs → ⊥
-    by [] a m = let z = subst (λ (l : List (List ℕ)). 0 < length l) (sym a) i.nonempty in absurd (omega (arith, z))
-    by (x ∷ xs) a m = cc
+    by : IsPrivate before → (xs : List (List ℕ)) → xs ≡ before → [] ≡ map lower xs → ⊥
+    by i [] a m = let z = subst (λ (l : List (List ℕ)). 0 < length l) (sym a) i.nonempty in absurd (omega (arith, z))
+    by i (x ∷ xs) a m = cc

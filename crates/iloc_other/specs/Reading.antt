@@ -2,38 +2,40 @@
 use Rattle.std.specs.Prelude.{◌≡◌, ℕ, ◌<◌, List, length, Result, Ok, Err}
 use Rattle.iloc_grammar.specs.Pieces.{pieces}
 use Rattle.iloc_grammar.specs.Words.{PrivateSubtag, is_word}
-use Rattle.iloc_grammar.specs.Written.{IsOther, IsPrivate, kept}
+use Rattle.iloc_grammar.specs.Written.{kept}
+use Rattle.iloc_grammar.specs.Faults as faults
 use Rattle.iloc_grammar.specs.Reading.{passing, rest_of}
-use Rattle.iloc_fronts.specs.Fronts.{OtherRead, PrivateRead, ReadsOther, ReadsPrivate, other_front}
+use Rattle.iloc_fronts.specs.Fronts.{OtherRead, OtherFault, PrivateRead, PrivateFault, other_front}
+use Rattle.iloc_fronts.specs.Parts.{OtherText, OtherTextFault, PrivateText, PrivateTextFault}
 use Rattle.iloc_subtags.specs.declared.parse_error.ParseError.{ParseError}
 use Rattle.iloc_subtags.specs.declared.parse_error.ParseError.TheVariants.{InvalidLanguage, InvalidSubtag, InvalidExtension, DuplicatedExtension, OutOfMemory}
 
 -- the private words at the front
-abbrev pub private_front : List (List ℕ) → List (List ℕ)
-private_front ps = passing (is_word PrivateSubtag) ps
+abbrev pub private_words : List (List ℕ) → List (List ℕ)
+private_words ps = passing (is_word PrivateSubtag) ps
 
--- what the pieces after `x` are read as, and the pieces that are left. Memory is wanted only for a fifth word.
+-- What the pieces after `x` are read as, and the pieces that are left. Memory is wanted only for a fifth word.
 abbrev pub PrivateReads : List (List ℕ) → List (List ℕ) → Result (List (List ℕ)) ParseError → Type 0
 PrivateReads ps rest (Ok ws) = PrivateRead ps ws rest
-PrivateReads ps rest (Err InvalidExtension) = ¬ (IsPrivate ps)
-PrivateReads ps rest (Err OutOfMemory) = 4 < length (private_front ps)
+PrivateReads ps rest (Err InvalidExtension) = PrivateFault ps faults.InvalidExtension
+PrivateReads ps rest (Err OutOfMemory) = 4 < length (private_words ps)
 PrivateReads ps rest (Err InvalidLanguage) = ⊥
 PrivateReads ps rest (Err InvalidSubtag) = ⊥
 PrivateReads ps rest (Err DuplicatedExtension) = ⊥
 
 -- what a text is read as
 abbrev pub PrivateTextReads : List ℕ → Result (List (List ℕ)) ParseError → Type 0
-PrivateTextReads t (Ok ws) = ReadsPrivate t ws
-PrivateTextReads t (Err InvalidExtension) = (ws : List (List ℕ)) → ¬ (ReadsPrivate t ws)
-PrivateTextReads t (Err OutOfMemory) = 4 < length (private_front (rest_of (pieces t)))
+PrivateTextReads t (Ok ws) = PrivateText t ws
+PrivateTextReads t (Err InvalidExtension) = PrivateTextFault t faults.InvalidExtension
+PrivateTextReads t (Err OutOfMemory) = 4 < length (private_words (rest_of (pieces t)))
 PrivateTextReads t (Err InvalidLanguage) = ⊥
 PrivateTextReads t (Err InvalidSubtag) = ⊥
 PrivateTextReads t (Err DuplicatedExtension) = ⊥
 
--- what the pieces after another singleton are read as, and the pieces that are left. Memory is wanted only for a fifth word.
+-- What the pieces after the singleton ext are read as, and the pieces that are left. Memory is wanted only for a fifth word.
 abbrev pub OtherReads : ℕ → List (List ℕ) → List (List ℕ) → Result (ℕ × List (List ℕ)) ParseError → Type 0
 OtherReads ext ps rest (Ok o) = (o.0 ≡ ext) × OtherRead ps o.1 rest
-OtherReads ext ps rest (Err InvalidExtension) = ¬ (IsOther (other_front ps))
+OtherReads ext ps rest (Err InvalidExtension) = OtherFault ps faults.InvalidExtension
 OtherReads ext ps rest (Err OutOfMemory) = 4 < length (kept (other_front ps))
 OtherReads ext ps rest (Err InvalidLanguage) = ⊥
 OtherReads ext ps rest (Err InvalidSubtag) = ⊥
@@ -41,8 +43,8 @@ OtherReads ext ps rest (Err DuplicatedExtension) = ⊥
 
 -- what a text is read as
 abbrev pub OtherTextReads : List ℕ → Result (ℕ × List (List ℕ)) ParseError → Type 0
-OtherTextReads t (Ok o) = ReadsOther t o
-OtherTextReads t (Err InvalidExtension) = (o : ℕ × List (List ℕ)) → ¬ (ReadsOther t o)
+OtherTextReads t (Ok o) = OtherText t o
+OtherTextReads t (Err InvalidExtension) = OtherTextFault t faults.InvalidExtension
 OtherTextReads t (Err OutOfMemory) = 4 < length (kept (other_front (rest_of (pieces t))))
 OtherTextReads t (Err InvalidLanguage) = ⊥
 OtherTextReads t (Err InvalidSubtag) = ⊥

@@ -1,26 +1,28 @@
 //! The extensions that are neither unicode, transform nor private.
-ghost use Rattle.std.specs.Prelude.{◌≡◌, ◌<◌, ◌++◌, ◌∷◌, [], length, true, OnOk, IfErr, IsOk, if◌then◌else◌};
+ghost use Rattle.std.specs.Prelude.{◌≡◌, ◌<◌, ◌++◌, ◌∷◌, [], length, true, OnOk, IfErr, IsOk, Some, if◌then◌else◌};
 ghost use Rattle.std.specs.Char.{is_ascii_alphanumeric};
 ghost use Rattle.std.specs.List.{AllByRecursion};
 ghost use Rattle.std.specs.Option.{option_copied};
 ghost use Rattle.iloc_grammar.specs.Words.{Subtag as the_kind, is_word, lower};
 ghost use Rattle.iloc_grammar.specs.Written.{is_other_singleton};
 ghost use Rattle.iloc_grammar.specs.Reading.{take_first, skip_first};
-ghost use Rattle.iloc_grammar.specs.Values.{IsNormal};
+ghost use Rattle.iloc_grammar.specs.Values.{IsNormal, other_text};
 ghost use Rattle.iloc_fronts.specs.Fronts.{has_other_length};
 ghost use Rattle.iloc_parser.specs.Left.{left};
 ghost use Rattle.iloc_other.specs.Reading.{OtherReads, OtherTextReads};
 
+use crate::singleton::take_singleton;
 use crate::words::are_normal;
 use iloc_parser::SubtagIterator;
 use iloc_shortvec::ShortWords;
 use iloc_subtags::{ParseError, Subtag};
-use std::alloc::Global;
+use iloc_writeable::{Pieces, Sink, Writeable};
+use std::alloc::{AllocError, Global};
 use std::marker::Model;
-use std::slice;
+use std::{fmt, slice};
 
 /// Any other extension: its singleton byte, kept as given, and a list of subtags.
-#[derive(Drop, PartialEq, Eq, Hash)]
+#[derive(Drop, Debug, PartialEq, Eq, PartialOrd, Ord, Hash)]
 pub struct Other {
     ext: u8,
     keys: ShortWords<Subtag>,
@@ -102,10 +104,9 @@ impl Other {
         ensures { OtherTextReads code_units.now result }
     {
         let mut iter = SubtagIterator::new(code_units);
-        let Some([byte]) = iter.next() else {
+        let Some(ext) = take_singleton(&mut iter) else {
             return Err(ParseError::InvalidExtension);
         };
-        let ext = byte.to_ascii_lowercase();
         if !is_other_ext(ext) {
             return Err(ParseError::InvalidExtension);
         }
@@ -135,7 +136,7 @@ impl Other {
         'pieces: while let Some(piece) = take_piece(iter) {
             other.push_word(alloc, piece)?;
         }
-        if other.as_slice().is_empty() {
+        if other.keys.is_empty() {
             return Err(ParseError::InvalidExtension);
         }
         Ok(other)
@@ -155,6 +156,43 @@ impl Other {
         self.keys
             .push(alloc, key)
             .map_err(|_| ParseError::OutOfMemory)
+    }
+}
+
+impl Clone for Other {
+    ghost is_clone = { λ o q. q ≡ o };
+
+    fn clone(&self) -> Result<Self, AllocError> {
+        Ok(Other {
+            ext: self.ext,
+            keys: self.keys.clone()?,
+        })
+    }
+}
+
+/// The singleton and the subtags; one without subtags prints nothing.
+impl Writeable for Other {
+    ghost text = { other_text };
+
+    fn write_to<S: Sink>(&self, sink: &mut S) -> fmt::Result {
+        let keys = self.as_slice();
+        if keys.is_empty() {
+            return Ok(());
+        }
+        let ext = self.get_ext_str();
+        (ext, keys).write_joined(sink)
+    }
+
+    fn writeable_borrow(&self) -> Option<&str> {
+        None
+    }
+}
+
+impl fmt::Display for Other {
+    ghost output = { λ o. Some (other_text o) };
+
+    fn fmt<W: fmt::Write>(&self, f: &mut fmt::Formatter<W>) -> fmt::Result {
+        self.write_to(f)
     }
 }
 

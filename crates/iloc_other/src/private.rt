@@ -1,25 +1,30 @@
 //! The private extension: a list of private words.
-ghost use Rattle.std.specs.Prelude.{◌≡◌, ◌∷◌, [], ◌↔◌, IsTrue, length, slice_get, ◌++◌, ◌<◌, OnOk, IfErr, IsOk};
+ghost use Rattle.std.specs.Prelude.{◌≡◌, ◌∷◌, [], ◌↔◌, IsTrue, length, slice_get, ◌++◌, ◌<◌, OnOk, IfErr, IsOk, Some};
 ghost use Rattle.std.specs.List.{AllByRecursion};
 ghost use Rattle.std.specs.Option.{option_copied};
+ghost use Rattle.std.specs.Slice.Iter.{iter_rest};
+ghost use Rattle.iloc_grammar.specs.Values.{private_text};
 ghost use Rattle.iloc_grammar.specs.Pieces.{pieces};
 ghost use Rattle.iloc_grammar.specs.Values.{IsNormal};
 ghost use Rattle.iloc_grammar.specs.Words.{PrivateSubtag as the_kind};
 ghost use Rattle.iloc_parser.specs.Left.{left};
 ghost use Rattle.iloc_other.specs.Reading.{PrivateReads, PrivateTextReads};
 
+use crate::singleton::take_singleton;
 use crate::words::are_normal;
 use iloc_parser::SubtagIterator;
 use iloc_shortvec::ShortWords;
 use iloc_subtags::{ParseError, PrivateSubtag};
-use std::alloc::Global;
+use iloc_writeable::{Pieces, Sink, Writeable};
+use std::alloc::{AllocError, Global};
 use std::marker::Model;
+use std::{fmt, slice};
 
 /// A word of the private extension, as `l`.
 pub type Subtag = PrivateSubtag;
 
 /// The private extension: a list of private words.
-#[derive(Drop, PartialEq, Eq, Hash)]
+#[derive(Drop, Debug, PartialEq, Eq, PartialOrd, Ord, Hash)]
 pub struct Private {
     words: ShortWords<Subtag>,
 }
@@ -120,10 +125,13 @@ impl Private {
         ensures { PrivateTextReads code_units.now result }
     {
         let mut iter = SubtagIterator::new(code_units);
-        match iter.next() {
-            Some([b'x' | b'X']) => Private::try_from_iter(alloc, &mut iter),
-            _ => Err(ParseError::InvalidExtension),
+        let Some(ext) = take_singleton(&mut iter) else {
+            return Err(ParseError::InvalidExtension);
+        };
+        if ext != b'x' {
+            return Err(ParseError::InvalidExtension);
         }
+        Private::try_from_iter(alloc, &mut iter)
     }
 
     /// The same on a text.
@@ -148,6 +156,13 @@ impl Private {
         Ok(words)
     }
 
+    /// The words in list order.
+    pub fn iter(&self) -> slice::Iter<'_, Subtag>
+        ensures { iter_rest result ≡ self.now }
+    {
+        self.as_slice().iter()
+    }
+
     // Adds a word at the end. Up to four take no memory.
     fn push(&mut self, alloc: Global, word: Subtag) -> Result<(), ParseError>
         ensures ok { OnOk result (self.new ≡ self.old ++ word ∷ []) }
@@ -158,5 +173,48 @@ impl Private {
         self.words
             .push(alloc, word)
             .map_err(|_| ParseError::OutOfMemory)
+    }
+}
+
+impl Default for Private {
+    ghost is_default = { λ p. p ≡ [] };
+
+    fn default() -> Self {
+        Private::new()
+    }
+}
+
+impl Clone for Private {
+    ghost is_clone = { λ p q. q ≡ p };
+
+    fn clone(&self) -> Result<Self, AllocError> {
+        Ok(Private {
+            words: self.words.clone()?,
+        })
+    }
+}
+
+/// `x` and the words; an empty list prints nothing.
+impl Writeable for Private {
+    ghost text = { private_text };
+
+    fn write_to<S: Sink>(&self, sink: &mut S) -> fmt::Result {
+        if self.is_empty() {
+            return Ok(());
+        }
+        let words = self.as_slice();
+        ("x", words).write_joined(sink)
+    }
+
+    fn writeable_borrow(&self) -> Option<&str> {
+        None
+    }
+}
+
+impl fmt::Display for Private {
+    ghost output = { λ p. Some (private_text p) };
+
+    fn fmt<W: fmt::Write>(&self, f: &mut fmt::Formatter<W>) -> fmt::Result {
+        self.write_to(f)
     }
 }

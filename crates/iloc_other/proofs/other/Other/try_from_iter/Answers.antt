@@ -1,6 +1,6 @@
-use Rattle.std.proofs.Common.{◌∙◌}
+use Rattle.std.proofs.Common.{◌≡◌, ℕ, List, length, sym, ap, ◌∙◌}
 use Rattle.iloc_parser.specs.Left.{left}
-use Rattle.iloc_other.proofs.OtherLemmas.{takes_piece}
+use Rattle.iloc_other.proofs.OtherLemmas.{takes_piece, takes_none, no_item}
 use Rattle.iloc_other.proofs.other.Other.try_from_iter.Goals as goal
 
 pub pieces-preserved : goal.pieces-preserved
@@ -8,3 +8,6 @@ pieces-preserved c = record {
   singleton = c.push_word.ensures.singleton ∙ c.pieces.invariant.singleton;
   words = takes_piece (left c.args.iter.now) (left c.pieces.iter) c.pieces.other.1 c.in-Some.piece.now (left c.take_piece.new.iter) c.push_word.new.self.1 c.pieces.invariant.words c.in-Some.ensures.piece c.in-Some.ensures.rest c.in_ok-push_word.ensures.ok;
 }
+
+pub returns-then-is_empty : goal.returns-then-is_empty
+returns-then-is_empty c = takes_none (left c.args.iter.now) (left c.pieces.iter) c.pieces.other.1 c.pieces.invariant.words c.in_default.ensures.piece (ap (λ (o : ℕ × List (List ℕ)). length o.1) (sym c.other-2.view_is) ∙ no_item _ (sym c.is_empty.ensures ∙ c.if-is_empty.true))

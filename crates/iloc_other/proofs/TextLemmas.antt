@@ -1,0 +1,47 @@
+-- Texts that are read as a part with its singleton.
+use Rattle.std.proofs.Common.{◌≡◌, ◌≢◌, ℕ, ◌<◌, ◌==◌, Bool, true, false, List, length, refl, sym, ap, ◌∙◌, subst, arith, Option, Some, None, Result, Ok, Err}
+use Rattle.std.proofs.lemmas.Bool.Decides.{nat_tests}
+use Rattle.iloc_grammar.specs.Pieces.{pieces}
+use Rattle.iloc_grammar.specs.Written.{kept, is_other_singleton}
+use Rattle.iloc_grammar.specs.Faults as faults
+use Rattle.iloc_grammar.specs.Reading.{rest_of}
+use Rattle.iloc_fronts.specs.Fronts.{OtherRead, OtherFault, PrivateRead, PrivateFault, other_front}
+use Rattle.iloc_fronts.specs.Parts.{PartRead, is_letter, OtherTextFault, PrivateTextFault}
+use Rattle.iloc_subtags.specs.declared.parse_error.ParseError.{ParseError}
+use Rattle.iloc_subtags.specs.declared.parse_error.ParseError.TheVariants.{InvalidLanguage, InvalidSubtag, InvalidExtension, DuplicatedExtension, OutOfMemory}
+use Rattle.iloc_other.specs.Reading.{private_words, PrivateReads, PrivateTextReads, OtherReads, OtherTextReads}
+use Rattle.iloc_other.specs.Singleton.{singleton_at}
+use Rattle.iloc_other.proofs.SingletonLemmas.{part_reads, part_fault, part_other, part_none}
+
+pub another_letter : (c d : ℕ) → d ≢ c → is_letter c d ≡ false
+another_letter c d h = grind (arith, nat_tests)
+
+module _ (t : List ℕ) where
+  pub private_none : None ≡ singleton_at (pieces t) → PrivateTextFault t faults.InvalidExtension
+  private_none e = part_none (is_letter 120) (pieces t) PrivateFault e
+
+  pub private_other : (c : ℕ) → Some c ≡ singleton_at (pieces t) → c ≢ 120 → PrivateTextFault t faults.InvalidExtension
+  private_other c e n = part_other (is_letter 120) (pieces t) PrivateFault c e (another_letter 120 c n)
+
+  pub other_none : None ≡ singleton_at (pieces t) → OtherTextFault t faults.InvalidExtension
+  other_none e = part_none is_other_singleton (pieces t) OtherFault e
+
+  pub other_other : (c : ℕ) → Some c ≡ singleton_at (pieces t) → is_other_singleton c ≡ false → OtherTextFault t faults.InvalidExtension
+  other_other c e n = part_other is_other_singleton (pieces t) OtherFault c e n
+
+  module _ (c : ℕ) (found : Some c ≡ singleton_at (pieces t)) (more rest : List (List ℕ)) (after : more ≡ rest_of (pieces t)) where
+    pub private_text : c ≡ 120 → (r : Result (List (List ℕ)) ParseError) → PrivateReads more rest r → PrivateTextReads t r
+    private_text x (Ok ws) h = (rest, part_reads (is_letter 120) (pieces t) PrivateRead 120 ws rest (ap (λ d. Some d) (sym x) ∙ found) refl (subst (λ l. PrivateRead l ws rest) after h))
+    private_text x (Err InvalidExtension) h = part_fault (is_letter 120) (pieces t) PrivateFault 120 faults.InvalidExtension (ap (λ d. Some d) (sym x) ∙ found) refl (subst (λ l. PrivateFault l faults.InvalidExtension) after h)
+    private_text x (Err OutOfMemory) h = subst (λ l. 4 < length (private_words l)) after h
+    private_text x (Err InvalidLanguage) h = h
+    private_text x (Err InvalidSubtag) h = h
+    private_text x (Err DuplicatedExtension) h = h
+
+    pub other_text : is_other_singleton c ≡ true → (r : Result (ℕ × List (List ℕ)) ParseError) → OtherReads c more rest r → OtherTextReads t r
+    other_text x (Ok o) h = (rest, subst (λ d. PartRead is_other_singleton OtherRead (pieces t) (d, o.1) rest) (sym h.0) (part_reads is_other_singleton (pieces t) OtherRead c o.1 rest found x (subst (λ l. OtherRead l o.1 rest) after h.1)))
+    other_text x (Err InvalidExtension) h = part_fault is_other_singleton (pieces t) OtherFault c faults.InvalidExtension found x (subst (λ l. OtherFault l faults.InvalidExtension) after h)
+    other_text x (Err OutOfMemory) h = subst (λ l. 4 < length (kept (other_front l))) after h
+    other_text x (Err InvalidLanguage) h = h
+    other_text x (Err InvalidSubtag) h = h
+    other_text x (Err DuplicatedExtension) h = h

@@ -1,0 +1,19 @@
+//! The singleton that a part begins with.
+ghost use Rattle.std.specs.Prelude.{◌≡◌};
+ghost use Rattle.iloc_grammar.specs.Reading.{rest_of};
+ghost use Rattle.iloc_parser.specs.Left.{left};
+ghost use Rattle.iloc_other.specs.Singleton.{singleton_at};
+
+use iloc_parser::SubtagIterator;
+
+/// Takes the next piece, and answers its byte in lower case where it has just one.
+pub fn take_singleton(iter: &mut SubtagIterator<'_>) -> Option<u8>
+    ensures byte { result ≡ singleton_at (left iter.old) }
+    ensures rest { left iter.new ≡ rest_of (left iter.old) }
+{
+    let piece = iter.next()?;
+    match piece {
+        [byte] => Some(byte.to_ascii_lowercase()),
+        _ => None,
+    }
+}

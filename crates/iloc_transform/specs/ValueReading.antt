@@ -1,0 +1,37 @@
+-- What the readers of a field's value answer.
+use Rattle.std.specs.Prelude.{◌≡◌, ℕ, ◌<◌, false, List, [], length, Result, Ok, Err}
+use Rattle.iloc_grammar.specs.Pieces.{pieces}
+use Rattle.iloc_grammar.specs.Words.{Attribute, is_word, is_true}
+use Rattle.iloc_grammar.specs.Meaning.{normal_values}
+use Rattle.iloc_grammar.specs.Values.{IsNormal}
+use Rattle.iloc_grammar.specs.Reading.{passing, past}
+use Rattle.iloc_grammar.specs.Faults as faults
+use Rattle.iloc_fronts.specs.Fronts.{transform_value}
+use Rattle.iloc_subtags.specs.declared.parse_error.ParseError.{ParseError}
+use Rattle.iloc_subtags.specs.declared.parse_error.ParseError.TheVariants.{InvalidLanguage, InvalidSubtag, InvalidExtension, DuplicatedExtension, OutOfMemory}
+
+-- what a value holds: words of 3 to 8 letters or digits in lower case, and none is `true`
+abbrev pub IsValueWord : List ℕ → Type 0
+IsValueWord w = IsNormal Attribute w × (is_true w ≡ false)
+
+-- the value pieces at the front
+abbrev pub values_front : List (List ℕ) → List (List ℕ)
+values_front ps = passing (is_word Attribute) ps
+
+-- What the pieces at the front are read as, and the pieces that are left. Memory is wanted only for a fifth subtag.
+abbrev pub ValueFrontReads : List (List ℕ) → List (List ℕ) → Result (List (List ℕ)) ParseError → Type 0
+ValueFrontReads ps rest (Ok v) = (0 < length (values_front ps)) × (v ≡ normal_values (values_front ps)) × (rest ≡ past (is_word Attribute) ps)
+ValueFrontReads ps rest (Err InvalidExtension) = values_front ps ≡ []
+ValueFrontReads ps rest (Err OutOfMemory) = 4 < length (normal_values (values_front ps))
+ValueFrontReads ps rest (Err InvalidLanguage) = ⊥
+ValueFrontReads ps rest (Err InvalidSubtag) = ⊥
+ValueFrontReads ps rest (Err DuplicatedExtension) = ⊥
+
+-- what a text is read as
+abbrev pub ValueReads : List ℕ → Result (List (List ℕ)) ParseError → Type 0
+ValueReads t (Ok v) = transform_value t ≡ Ok v
+ValueReads t (Err InvalidExtension) = transform_value t ≡ Err faults.InvalidExtension
+ValueReads t (Err OutOfMemory) = 4 < length (normal_values (values_front (pieces t)))
+ValueReads t (Err InvalidLanguage) = ⊥
+ValueReads t (Err InvalidSubtag) = ⊥
+ValueReads t (Err DuplicatedExtension) = ⊥
