@@ -49,7 +49,7 @@ not_longer P (x ∷ xs) (y ∷ ys) a b e h n = let tails : xs ++ a ≡ ys ++ b =
 
 -- the longest front of an identifier is one
 
-front_language : {T : ℕ → Bool} (ps : List (List ℕ)) (i : Identifier) (rest : List (List ℕ)) → HasWords T i → ps ≡ identifier_pieces i ++ rest → IsWord (Language T) (first_piece ps)
+pub front_language : {T : ℕ → Bool} (ps : List (List ℕ)) (i : Identifier) (rest : List (List ℕ)) → HasWords T i → ps ≡ identifier_pieces i ++ rest → IsWord (Language T) (first_piece ps)
 front_language {T = T} ps i rest h e = ap (λ (l : List (List ℕ)). is_word (Language T) (first_piece l)) e ∙ h.language
 
 one_longest : {T : ℕ → Bool} (ps : List (List ℕ)) (i j : Identifier) (rest more : List (List ℕ)) → IdentifierFront T ps i rest → IdentifierFront T ps j more → (i ≡ j) × (rest ≡ more)
@@ -84,7 +84,7 @@ left_front T p ps h = record {
   longest = λ j more w e. subst (λ (l : List (List ℕ)). length (identifier_pieces j) ≤ length (identifier_pieces (cut_identifier (identifier_of l)))) (sym e) (left_longest j.language j.script j.region j.variants more w.script w.region w.variants);
 }
 
-no_repeats : {T : ℕ → Bool} (ps : List (List ℕ)) (j : Identifier) (rest : List (List ℕ)) → IsIdentifier T j → IdentifierFront T ps j rest → RepeatsVariant T ps → ⊥
+pub no_repeats : {T : ℕ → Bool} (ps : List (List ℕ)) (j : Identifier) (rest : List (List ℕ)) → IsIdentifier T j → IdentifierFront T ps j rest → RepeatsVariant T ps → ⊥
 no_repeats [] j rest h f r = absurd_empty _ _ r.3
   where
     absurd_empty : (l : List ℕ) (ls : List (List ℕ)) → ◌≡◌ {A = List (List ℕ)} [] (l ∷ ls) → ⊥
@@ -154,11 +154,11 @@ one_transform_fault T ps f g (unread n u) (unread m v) = refl
 
 -- and what the program gives
 
-different_from : (ws : List (List ℕ)) → all_different ws ≡ true → AllDifferent word_cmp ws
+pub different_from : (ws : List (List ℕ)) → all_different ws ≡ true → AllDifferent word_cmp ws
 different_from [] h = tt
 different_from (w ∷ ws) h = let parts = and_parts _ _ h in (not-true _ parts.0, different_from ws parts.1)
 
-different_to : (ws : List (List ℕ)) → AllDifferent word_cmp ws → all_different ws ≡ true
+pub different_to : (ws : List (List ℕ)) → AllDifferent word_cmp ws → all_different ws ≡ true
 different_to [] h = refl
 different_to (w ∷ ws) h = and_from _ _ (ap not h.0) (different_to ws h.1)
 

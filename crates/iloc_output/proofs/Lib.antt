@@ -1,2 +1,4 @@
+pub mod ComputingLaws
+pub mod LineCuts
+pub mod LineLaws
 pub mod OutputLaws
-pub mod OutputRows
