@@ -1,4 +1,3 @@
-pub mod ComputingLaws
 pub mod LineCuts
 pub mod LineLaws
 pub mod OutputLaws

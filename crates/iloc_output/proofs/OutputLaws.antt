@@ -13,10 +13,10 @@ use Rattle.iloc_grammar.proofs.FaultLaws.{accepted_no_fault, one_fault}
 use Rattle.iloc_regions.specs.DataLocales.{DataMeans, HasDataFault, data_text}
 use Rattle.iloc_regions.specs.Computing.{data_result}
 use Rattle.iloc_regions.proofs.DataLaws.{data_answer, one_data, data_apart, one_data_fault}
-use Rattle.iloc_output.specs.Computing.{identifier_result, locale_result}
+use Rattle.iloc_grammar.specs.Computing.{identifier_result, locale_result}
 use Rattle.iloc_output.specs.Lines.{lines_of, ended}
 use Rattle.iloc_output.specs.Output.{Mode, OfIdentifiers, OfLocales, OfDataLocales, refusal, IsAnswer, identifier, no_identifier, locale, no_locale, data_locale, no_data_locale, IsOutput, text_or_refusal, line_answer, reply, output}
-use Rattle.iloc_output.proofs.ComputingLaws.{identifier_text_answer, locale_answer}
+use Rattle.iloc_grammar.proofs.ComputingLaws.{text_identifier_answers, locale_answers}
 
 -- an answer to each result
 by_result : {X : Type 0} (P : X → Type 0) (F : Fault → Type 0) (A : List ℕ → Type 0) (print : X → List ℕ) → ((x : X) → P x → A (print x)) → ((f : Fault) → F f → A (refusal f)) → (o : Result X Fault) → MatchResult o P F → A (text_or_refusal print o)
@@ -26,8 +26,8 @@ by_result P F A print ok err (Err f) h = err f h
 module _ {T : ℕ → Bool} (table : IsTable T) where
   pub is_answer : (mode : Mode) (line : List ℕ) → IsAnswer T line mode (line_answer T mode line)
   unfolding line_answer
-  is_answer OfIdentifiers line = by_result (IdentifierMeans T (pieces line)) (HasIdentifierFault T (pieces line)) (IsAnswer T line OfIdentifiers) identifier_text (λ x h. identifier h) (λ f h. no_identifier h) (identifier_result T (pieces line)) (identifier_text_answer T line)
-  is_answer OfLocales line = by_result (Means T line) (HasFault T line) (IsAnswer T line OfLocales) text (λ x h. locale h) (λ f h. no_locale h) (locale_result T line) (locale_answer table line)
+  is_answer OfIdentifiers line = by_result (IdentifierMeans T (pieces line)) (HasIdentifierFault T (pieces line)) (IsAnswer T line OfIdentifiers) identifier_text (λ x h. identifier h) (λ f h. no_identifier h) (identifier_result T (pieces line)) (text_identifier_answers T line)
+  is_answer OfLocales line = by_result (Means T line) (HasFault T line) (IsAnswer T line OfLocales) text (λ x h. locale h) (λ f h. no_locale h) (locale_result T line) (locale_answers T table line)
   is_answer OfDataLocales line = by_result (DataMeans T line) (HasDataFault T line) (IsAnswer T line OfDataLocales) data_text (λ x h. data_locale h) (λ f h. no_data_locale h) (data_result T line) (data_answer table line)
 
   one_answer : (mode : Mode) (line : List ℕ) {a b : List ℕ} → IsAnswer T line mode a → IsAnswer T line mode b → a ≡ b

@@ -1,3 +1,2 @@
-pub mod Computing
 pub mod Lines
 pub mod Output

@@ -8,7 +8,7 @@ use Rattle.iloc_grammar.specs.Values.{identifier_text, text}
 use Rattle.iloc_grammar.specs.Faults.{Fault, InvalidLanguage, InvalidSubtag, InvalidExtension, DuplicatedExtension, HasIdentifierFault, HasFault}
 use Rattle.iloc_regions.specs.DataLocales.{DataLocale, DataMeans, HasDataFault, data_text}
 use Rattle.iloc_regions.specs.Computing.{data_result}
-use Rattle.iloc_output.specs.Computing.{identifier_result, locale_result}
+use Rattle.iloc_grammar.specs.Computing.{identifier_result, locale_result}
 use Rattle.iloc_output.specs.Lines.{lines_of, ended}
 
 -- what each line is read as

@@ -1,24 +1,14 @@
 //! What the program answers to an input.
 //!
-//! A plain program says what each text means as an identifier, a locale or a data locale, or its fault; from it the
+//! From the plain programs that say what a text means as an identifier, a locale or a data locale, or its fault, the
 //! answer to each line and the output for each input are computed. They are proved to be the one answer and the one
-//! output that the grammar allows. It stands on `iloc_grammar`, `iloc_fronts` and `iloc_regions`.
+//! output that the grammar allows. It stands on `iloc_grammar`, `iloc_small` and `iloc_regions`.
 #![tactic(auto)]
 
-ghost use Rattle.std.specs.Prelude.{◌≡◌, ℕ, ◌<◌, Bool, List, ◌∷◌, ◌++◌, length, MatchResult};
-ghost use Rattle.iloc_grammar.specs.Pieces.{pieces};
+ghost use Rattle.std.specs.Prelude.{◌≡◌, ℕ, ◌<◌, Bool, List, ◌∷◌, ◌++◌, length};
 ghost use Rattle.iloc_grammar.specs.Words.{IsTable};
-ghost use Rattle.iloc_grammar.specs.Meaning.{Means, IdentifierMeans};
-ghost use Rattle.iloc_grammar.specs.Faults.{HasIdentifierFault, HasFault};
-ghost use Rattle.iloc_output.specs.Computing.{identifier_result, locale_result};
 ghost use Rattle.iloc_output.specs.Lines.{IsOneLine, ReadsEnded, ReadsOpen, IsEndedOrOpen};
 ghost use Rattle.iloc_output.specs.Output.{Mode, IsAnswer, IsOutput, line_answer, reply, output};
-
-/// What is computed of a text is what it means, or its fault.
-pub fn texts()
-    ensures identifier { (T : ℕ → Bool) (t : List ℕ) → MatchResult (identifier_result T (pieces t)) (IdentifierMeans T (pieces t)) (HasIdentifierFault T (pieces t)) }
-    ensures locale { (T : ℕ → Bool) → IsTable T → (t : List ℕ) → MatchResult (locale_result T t) (Means T t) (HasFault T t) }
-{}
 
 /// What is computed of a line is its one answer in the words of the grammar.
 pub fn line_answers()
