@@ -11,14 +11,14 @@ use Rattle.iloc_grammar.proofs.WordsLaws.{length-lower}
 use Rattle.iloc_grammar.proofs.PiecesLaws.{pieces-join, join-pieces, pieces_nonempty}
 use Rattle.iloc_grammar.proofs.IdentifierLaws.{pieces-identifier_of, identifier_of-pieces, one_identifier, one_meaning}
 use Rattle.iloc_grammar.specs.Reading.{identifier_of}
-use Rattle.iloc_grammar.proofs.ValuesLaws.{identifier_reads_back, normal-lower_identifier, value_words}
+use Rattle.iloc_grammar.proofs.ValuesLaws.{identifier_reads_back, normal-lower_identifier, value_words, lower_is_identifier}
 use Rattle.iloc_grammar.proofs.WellRead.{identifier_value}
 use Rattle.iloc_grammar.proofs.ReadBack.{identifier_hyphen_free}
 use Rattle.iloc_grammar.proofs.Deciding.{dec_spells}
 use Rattle.iloc_grammar.proofs.StepLaws.{identifier_step}
 use Rattle.iloc_grammar.proofs.Orders.{total}
 use Rattle.iloc_grammar.proofs.StepSizes.{identifier_size, piece_length, length-join}
-use Rattle.iloc_grammar.proofs.CaseLaws.{pieces-lower, identifier_of-low, identifier_to, identifier_from}
+use Rattle.iloc_grammar.proofs.CaseLaws.{pieces-lower, identifier_of-low, identifier_from}
 use Rattle.iloc_grammar.proofs.Canonical.{sort_identifier, identifier_step4, canonical_identifier}
 use Rattle.iloc_grammar.proofs.Chains.{identifier_pieces-low, lower-join}
 
@@ -60,7 +60,7 @@ case_means T t u i e m =
     let same : lower_identifier v ≡ lower_identifier w = ap lower_identifier (sym v_is) ∙ sym (identifier_of-low (pieces t)) ∙ ap identifier_of (sym (pieces-lower t) ∙ ap pieces e ∙ pieces-lower u) ∙ identifier_of-low (pieces u) in
     record {
       written = w;
-      grammatical = identifier_from T w (subst (IsIdentifier T) same (identifier_to T v m.grammatical));
+      grammatical = identifier_from T w (subst (IsIdentifier T) same (lower_is_identifier v m.grammatical));
       spelled = spelled-of u (pieces u) refl;
       means = m.means ∙ sym (normal-lower_identifier v) ∙ ap normal_identifier same ∙ normal-lower_identifier w;
     }
