@@ -206,10 +206,6 @@ all_to_low k ps h = all_to (IsWord k) (IsWord k) lower (to_low k) ps h
 all_from_low : (k : Kind) (ps : List (List ℕ)) → AllByRecursion (IsWord k) (low ps) → AllByRecursion (IsWord k) ps
 all_from_low k ps h = all_from (IsWord k) (IsWord k) lower (from_low k) ps h
 
-option_to_low : (k : Kind) (o : Option (List ℕ)) → IfSome o (IsWord k) → IfSome (option_map lower o) (IsWord k)
-option_to_low k None h = tt
-option_to_low k (Some p) h = to_low k p h
-
 option_from_low : (k : Kind) (o : Option (List ℕ)) → IfSome (option_map lower o) (IsWord k) → IfSome o (IsWord k)
 option_from_low k None h = tt
 option_from_low k (Some p) h = from_low k p h

@@ -224,7 +224,7 @@ unsee_one : (s : ℕ) (seen : List ℕ) (es : List (ℕ × Extension)) → NotSe
 unsee_one s seen [] n = (refl, tt)
 unsee_one s seen (e ∷ es) n = let parts = or_parts _ _ n.0 in let rest = unsee_one s seen es n.1 in (or_from _ _ (tied_back (singleton e) s parts.0) rest.0, (parts.1, rest.1))
 
-letter : (c : ℕ) → is_ascii_alphanumeric (to_ascii_lowercase c) ≡ true → is_ascii_alphanumeric c ≡ true
+pub letter : (c : ℕ) → is_ascii_alphanumeric (to_ascii_lowercase c) ≡ true → is_ascii_alphanumeric c ≡ true
 letter c h = grind (arith, nat_tests)
 
 extension_byte : (T : ℕ → Bool) (c : ℕ) (e : Extension) → IsExtension T c e → (is_ascii_alphanumeric c ≡ true) × (c ≢ 120)

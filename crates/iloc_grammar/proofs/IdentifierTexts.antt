@@ -19,7 +19,7 @@ use Rattle.iloc_grammar.proofs.StepLaws.{identifier_step}
 use Rattle.iloc_grammar.proofs.Orders.{total}
 use Rattle.iloc_grammar.proofs.StepSizes.{identifier_size, piece_length, length-join}
 use Rattle.iloc_grammar.proofs.CaseLaws.{pieces-lower, identifier_of-low, identifier_from}
-use Rattle.iloc_grammar.proofs.Canonical.{sort_identifier, identifier_step4, canonical_identifier}
+use Rattle.iloc_grammar.proofs.Canonical.{sort_identifier, identifier_order_step, canonical_identifier}
 use Rattle.iloc_grammar.proofs.Chains.{identifier_pieces-low, lower-join}
 
 -- the text has the pieces that were joined
@@ -104,10 +104,10 @@ pub identifier_chain_to_text : (T : ℕ → Bool) (t : List ℕ) (i : Identifier
 identifier_chain_to_text T t i m =
     let v = m.written in
     let w = sort_identifier v in
-    let sorted : normal_identifier w ≡ i = (identifier_step (identifier_step4 v) m.grammatical).1 ∙ sym m.means in
+    let sorted : normal_identifier w ≡ i = (identifier_step (identifier_order_step v) m.grammatical).1 ∙ sym m.means in
     let case : lower (identifier_text w) ≡ lower (identifier_text i) =
     lower-identifier_text w ∙ ap (λ j. join (identifier_pieces j)) (sym (canonical_identifier v m.grammatical.different) ∙ ap lower_identifier sorted) ∙ sym (lower-identifier_text i) in
-    inr (identifier_text w, IdentifierTextStep.variant_order m.grammatical m.spelled (identifier_step4 v), inr (identifier_text i, IdentifierTextStep.letter_case case, refl))
+    inr (identifier_text w, IdentifierTextStep.variant_order m.grammatical m.spelled (identifier_order_step v), inr (identifier_text i, IdentifierTextStep.letter_case case, refl))
 
 pub identifier_chain_means : (T : ℕ → Bool) (n : ℕ) (t u : List ℕ) (i : Identifier) → IdentifierChain T n t u → IdentifierMeans T (pieces t) i → IdentifierMeans T (pieces u) i
 identifier_chain_means T zero t u i c m = subst (λ (s : List ℕ). IdentifierMeans T (pieces s) i) c m
