@@ -10,7 +10,8 @@ use Rattle.iloc_grammar.specs.Pieces.{pieces}
 use Rattle.iloc_grammar.specs.Words.{IsTable, lower}
 use Rattle.iloc_grammar.specs.Written.{Unicode, Transform, Extension, unicode, transform, other, Written, extension_pieces, extension_block, blocks_of, IsOther, IsPrivate, kept, is_other_singleton, IsExtension, singleton, IsWritten, AllDifferent}
 use Rattle.iloc_grammar.specs.Meaning.{Locale, IdentifierMeans, Means, meaning, map_of, unicode_part, transform_part, private_part, other_part, by_singleton, normal_unicode, normal_transform}
-use Rattle.iloc_grammar.specs.Faults.{head, tail_blocks, SpellsIdentifier, IsBlock}
+use Rattle.iloc_grammar.specs.Faults.{SpellsIdentifier, IsBlock}
+use Rattle.iloc_grammar.specs.Blocks.{head, tail_blocks}
 use Rattle.iloc_grammar.specs.ByBlocks.{UnicodeMeans, TransformMeans, by_letter, other_blocks, MeansByBlocks}
 use Rattle.iloc_grammar.proofs.Readings.{head-spelling, blocks-spelling, unicode_of-pieces, transform_of-pieces}
 use Rattle.iloc_grammar.specs.Reading.{unicode_of, transform_of}

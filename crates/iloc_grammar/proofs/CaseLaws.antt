@@ -12,7 +12,7 @@ use Rattle.iloc_grammar.specs.Words.{Kind, Language, Script, Region, Variant, Su
 use Rattle.iloc_grammar.specs.Written.{Identifier, Fields, Extension, unicode, transform, other, Written, extension_block, block_pieces, spelling, IsIdentifier, IsKeyword, IsField, IsPrivate, kept, IsExtension, singleton, IsWritten, AllDifferent}
 use Rattle.iloc_grammar.specs.Meaning.{map_of, set_of, normal_identifier, normal_values, Locale, unicode_part, transform_part, private_part, other_part, by_singleton, meaning, Means}
 use Rattle.iloc_grammar.specs.Values.{lower_identifier}
-use Rattle.iloc_grammar.specs.Faults.{is_one_byte, front, blocks, head, tail_blocks, first_piece}
+use Rattle.iloc_grammar.specs.Blocks.{is_one_byte, front, blocks, head, tail_blocks, first_piece}
 use Rattle.iloc_grammar.proofs.WordsLaws.{lower-lower, length-lower, is_word-lower}
 use Rattle.iloc_grammar.proofs.PiecesLaws.{pieces_nonempty}
 use Rattle.iloc_grammar.proofs.ValuesLaws.{lower_twice, normal-lower_identifier, lower_is_identifier}

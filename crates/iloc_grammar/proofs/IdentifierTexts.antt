@@ -5,7 +5,8 @@ use Rattle.iloc_grammar.specs.Words.{Language, is_word, lower}
 use Rattle.iloc_grammar.specs.Written.{Identifier, identifier_pieces, HasWords, IsIdentifier}
 use Rattle.iloc_grammar.specs.Meaning.{normal_identifier, IdentifierMeans}
 use Rattle.iloc_grammar.specs.Values.{IsIdentifierValue, lower_identifier, identifier_text}
-use Rattle.iloc_grammar.specs.Faults.{Fault, InvalidLanguage, InvalidSubtag, SpellsIdentifier, HasIdentifierFault, not_a_language, not_an_identifier, first_piece, head, front}
+use Rattle.iloc_grammar.specs.Faults.{Fault, InvalidLanguage, InvalidSubtag, SpellsIdentifier, HasIdentifierFault, not_a_language, not_an_identifier}
+use Rattle.iloc_grammar.specs.Blocks.{first_piece, head, front}
 use Rattle.iloc_grammar.specs.Steps.{IdentifierTextStep, IdentifierChain, LeadToOne}
 use Rattle.iloc_grammar.proofs.WordsLaws.{length-lower}
 use Rattle.iloc_grammar.proofs.PiecesLaws.{pieces-join, join-pieces, pieces_nonempty}

@@ -1,7 +1,7 @@
 //! Language identifiers.
 ghost use Rattle.std.specs.Prelude.{◌≡◌, ℕ, List};
 ghost use Rattle.iloc_grammar.specs.Pieces.{pieces};
-ghost use Rattle.iloc_grammar.specs.Faults.{head};
+ghost use Rattle.iloc_grammar.specs.Blocks.{head};
 
 use crate::reader::{read_head, read_whole};
 use iloc_parser::SubtagIterator;
