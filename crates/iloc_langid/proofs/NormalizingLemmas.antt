@@ -5,7 +5,7 @@ use Rattle.iloc_grammar.specs.Words.{Language, IsWord, languages}
 use Rattle.iloc_grammar.specs.Written.{Identifier}
 use Rattle.iloc_grammar.specs.Meaning.{IdentifierMeans}
 use Rattle.iloc_grammar.specs.Values.{identifier_text}
-use Rattle.iloc_grammar.specs.Faults.{first_piece}
+use Rattle.iloc_grammar.specs.Blocks.{first_piece}
 use Rattle.iloc_grammar.specs.Steps.{IdentifierChain}
 use Rattle.iloc_grammar.proofs.IdentifierLaws.{one_meaning}
 use Rattle.iloc_grammar.proofs.IdentifierTexts.{identifier_means_again, same_identifier_meaning, length-identifier_means, identifier_chain_to_text}

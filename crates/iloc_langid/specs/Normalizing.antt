@@ -6,7 +6,8 @@ use Rattle.iloc_grammar.specs.Written.{Identifier}
 use Rattle.iloc_grammar.specs.Meaning.{IdentifierMeans}
 use Rattle.iloc_grammar.specs.Values.{identifier_text}
 use Rattle.iloc_grammar.specs.Faults as faults
-use Rattle.iloc_grammar.specs.Faults.{HasIdentifierFault, first_piece}
+use Rattle.iloc_grammar.specs.Faults.{HasIdentifierFault}
+use Rattle.iloc_grammar.specs.Blocks.{first_piece}
 use Rattle.iloc_grammar.specs.Reading.{rest_of}
 use Rattle.iloc_grammar.specs.Steps.{IdentifierChain}
 use Rattle.iloc_subtags.specs.declared.parse_error.ParseError.{ParseError}

@@ -3,7 +3,7 @@ ghost use Rattle.std.specs.Prelude.{◌≡◌, ◌↔◌, IsTrue};
 ghost use Rattle.std.specs.Ordering.{nat_cmp};
 ghost use Rattle.std.specs.Cmp.Lexicographic.{slice_cmp};
 ghost use Rattle.iloc_grammar.specs.Pieces.{pieces};
-ghost use Rattle.iloc_grammar.specs.Faults.{head};
+ghost use Rattle.iloc_grammar.specs.Blocks.{head};
 ghost use Rattle.iloc_grammar.specs.Values.{identifier_text};
 ghost use Rattle.iloc_orders.specs.Orders.{identifier_cmp};
 ghost use Rattle.iloc_langid.specs.Unknown.{unknown_identifier};

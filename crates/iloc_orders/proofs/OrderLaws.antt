@@ -9,8 +9,8 @@ use Rattle.std.specs.Cmp.Lexicographic.{nat_list_cmp_total, lists_total, options
 use Rattle.std.specs.FinMap.{IsAntisymmetric, nat_cmp-IsAntisymmetric, slice_cmp-IsAntisymmetric}
 use Rattle.iloc_grammar.specs.Words.{word_cmp}
 use Rattle.iloc_grammar.specs.Written.{Identifier, Unicode, Transform}
-use Rattle.iloc_grammar.specs.Meaning.{Locale}
-use Rattle.iloc_orders.specs.Orders.{IsExactOrder, short_list_cmp, pair_cmp, words_cmp, identifier_cmp, keywords_cmp, fields_cmp, unicode_cmp, transform_cmp, other_cmp, Extensions, extensions_of, extensions_cmp, locale_cmp}
+use Rattle.iloc_grammar.specs.Meaning.{Locale, Extensions, extensions_of}
+use Rattle.iloc_orders.specs.Orders.{IsExactOrder, short_list_cmp, pair_cmp, words_cmp, identifier_cmp, keywords_cmp, fields_cmp, unicode_cmp, transform_cmp, other_cmp, extensions_cmp, locale_cmp}
 
 -- parts of a tie
 

@@ -6,7 +6,8 @@ use Rattle.iloc_grammar.specs.Pieces.{pieces}
 use Rattle.iloc_grammar.specs.Words.{Language, Variant, UnicodeKey, Attribute, is_word, lower}
 use Rattle.iloc_grammar.specs.Written.{singleton}
 use Rattle.iloc_grammar.specs.Meaning.{normal_values}
-use Rattle.iloc_grammar.specs.Faults.{Fault, InvalidLanguage, InvalidSubtag, InvalidExtension, head, tail_blocks, first_piece}
+use Rattle.iloc_grammar.specs.Faults.{Fault, InvalidLanguage, InvalidSubtag, InvalidExtension}
+use Rattle.iloc_grammar.specs.Blocks.{head, tail_blocks, first_piece}
 use Rattle.iloc_grammar.specs.Reading.{identifier_of, first_item}
 use Rattle.iloc_small.specs.Small.{SmallIdentifier, SmallLocale, small_identifier}
 
