@@ -1,6 +1,6 @@
 use Rattle.std.proofs.Common.{refl, ap}
 use Rattle.iloc_litemap.proofs.Edits.{set_pair_is, same_place}
-use Rattle.iloc_litemap.proofs.store.ShortBoxSliceTuple2Store.lm_value_mut.Goals as goal
+use Rattle.iloc_litemap.proofs.short_store.ShortBoxSliceTuple2Store.lm_value_mut.Goals as goal
 
 -- the pair that was lent is the one at the place
 pub returns : goal.returns

@@ -1,7 +1,7 @@
 use Rattle.std.proofs.Common.{of_calls, subst}
 use Rattle.iloc_litemap.specs.Calls.{CalledAtKeyValue}
 use Rattle.iloc_litemap.proofs.Filtered.{filtered_same}
-use Rattle.iloc_litemap.proofs.store.VecTuple2Store.lm_retain.Goals as goal
+use Rattle.iloc_litemap.proofs.vec_store.VecTuple2Store.lm_retain.Goals as goal
 use denote.Param.Always.{always_mut, mut_by}
 
 pub retain-requires : goal.retain-requires
