@@ -112,8 +112,7 @@ impl Pieces for LanguageIdentifier {
 
     #[tactic(auto, using(iloc_writeable::proofs::PiecesLemmas::flat_map_words))]
     fn write_pieces<S: Sink>(&self, sink: &mut S, first: bool) -> fmt::Result {
-        let variants = self.variants.as_slice();
-        (&self.language, &self.script, &self.region, variants).write_pieces(sink, first)
+        (&self.language, &self.script, &self.region, &self.variants).write_pieces(sink, first)
     }
 }
 
@@ -139,6 +138,19 @@ impl Writeable for LanguageIdentifier {
             return Some(self.language.as_str());
         }
         None
+    }
+}
+
+/// Prints the text itself.
+impl fmt::Debug for LanguageIdentifier {
+    ghost use Rattle.iloc_grammar.specs.Values.{identifier_text};
+    ghost use Rattle.iloc_langid.specs.Reads.{value_of};
+    ghost use Rattle.std.specs.Prelude.{Some};
+
+    ghost debug_output = { λ i. Some (identifier_text (value_of i)) };
+
+    fn fmt<W: fmt::Write>(&self, f: &mut fmt::Formatter<W>) -> fmt::Result {
+        self.write_to(f)
     }
 }
 
