@@ -9,7 +9,7 @@ use Rattle.iloc_grammar.specs.Reading.{take_first, skip_first, passing, past}
 use Rattle.iloc_grammar.specs.Reading.{first_item}
 use Rattle.iloc_grammar.specs.Faults as faults
 use Rattle.iloc_grammar.proofs.PiecesLaws.{pieces_nonempty}
-use Rattle.iloc_fronts.specs.Fronts.{transform_value}
+use Rattle.iloc_fronts.specs.PartValues.{transform_value}
 use Rattle.iloc_subtags.specs.declared.parse_error.ParseError.{ParseError}
 use Rattle.iloc_subtags.specs.declared.parse_error.ParseError.TheVariants.{InvalidLanguage, InvalidSubtag, InvalidExtension, DuplicatedExtension, OutOfMemory}
 use Rattle.iloc_langid.proofs.TakingLemmas.{took, took_none}

@@ -6,7 +6,7 @@ use Rattle.iloc_grammar.specs.Meaning.{normal_values}
 use Rattle.iloc_grammar.specs.Values.{IsNormal}
 use Rattle.iloc_grammar.specs.Reading.{passing, past}
 use Rattle.iloc_grammar.specs.Faults as faults
-use Rattle.iloc_fronts.specs.Fronts.{transform_value}
+use Rattle.iloc_fronts.specs.PartValues.{transform_value}
 use Rattle.iloc_subtags.specs.declared.parse_error.ParseError.{ParseError}
 use Rattle.iloc_subtags.specs.declared.parse_error.ParseError.TheVariants.{InvalidLanguage, InvalidSubtag, InvalidExtension, DuplicatedExtension, OutOfMemory}
 
