@@ -1,0 +1,120 @@
+-- Identifiers with at most one variant, read from the left.
+use Rattle.std.proofs.Common.{◌≡◌, ◌≢◌, ℕ, ◌≤◌, Bool, true, false, cond, List, [], ◌∷◌, ◌++◌, length, map, refl, sym, ap, ◌∙◌, subst, arith, append-nil, Option, Some, None, option_map, Result, Ok, Err, true≢false}
+use Rattle.std.specs.List.{AllByRecursion}
+use Rattle.iloc_grammar.specs.Words.{Language, Script, Region, Variant, is_word, IsWord, lower, title, upper, word_cmp, languages}
+use Rattle.iloc_grammar.specs.Written.{Identifier, AllDifferent, HasWords, identifier_pieces}
+use Rattle.iloc_grammar.specs.Faults.{first_piece}
+use Rattle.iloc_grammar.specs.Reading.{first_item, take_first, skip_first, passing, past, rest_of, after_script, after_region, front_of, after_front}
+use Rattle.iloc_grammar.proofs.ReadingLaws.{all_while, pieces-front_of, front_words, front_of-pieces, after_front-pieces}
+use Rattle.iloc_small.specs.Small.{SmallIdentifier, IsSmallIdentifier, HasSmallIdentifierFault, no_language, no_identifier}
+use Rattle.iloc_subtags.specs.declared.parse_error.ParseError.{ParseError}
+use Rattle.iloc_subtags.specs.declared.parse_error.ParseError.TheVariants.{InvalidLanguage, InvalidSubtag, InvalidExtension, DuplicatedExtension, OutOfMemory}
+use Rattle.iloc_langid.specs.SmallReads.{Parts, small_of, SmallReadsAs, front_parts, after_parts, SmallFrontGives}
+use Rattle.iloc_langid.proofs.FrontLemmas.{no_empty_language}
+
+abbrev variant : List ℕ → Bool
+variant p = is_word Variant p
+
+-- after one variant at most nothing is left: there is one at most
+few : (us : List (List ℕ)) → skip_first variant us ≡ [] → (passing variant us ≡ us) × (length us ≤ 1) × (first_item (map lower us) ≡ option_map lower (take_first variant us))
+few [] e = (refl, omega arith, refl)
+few (u ∷ us) e = by (variant u) refl e
+  where
+    by : (b : Bool) → variant u ≡ b → cond b us (u ∷ us) ≡ [] → (passing variant (u ∷ us) ≡ u ∷ us) × (length (u ∷ us) ≤ 1) × (first_item (map lower (u ∷ us)) ≡ option_map lower (take_first variant (u ∷ us)))
+    by true h e = rw (e, h) (refl, omega arith, refl)
+    by false h e = absurd (nonempty e)
+      where
+        nonempty : u ∷ us ≡ [] → ⊥
+        nonempty e = cc
+
+-- one variant at most, and nothing else, leaves nothing
+none_left : (us : List (List ℕ)) → length us ≤ 1 → AllByRecursion (IsWord Variant) us → skip_first variant us ≡ []
+none_left [] l h = refl
+none_left (u ∷ []) l h = rw h.0 refl
+none_left (u ∷ v ∷ us) l h = absurd (omega (arith, l))
+
+different_few : (us : List (List ℕ)) → length us ≤ 1 → AllDifferent word_cmp (map lower us)
+different_few [] l = tt
+different_few (u ∷ []) l = (refl, tt)
+different_few (u ∷ v ∷ us) l = absurd (omega (arith, l))
+
+-- the variants at the front, and what follows them
+kept_are : (ps : List (List ℕ)) → (front_of ps).variants ≡ passing variant (after_region ps)
+unfolding front_of
+kept_are ps = refl
+
+left_are : (ps : List (List ℕ)) → after_front ps ≡ past variant (after_region ps)
+unfolding after_front
+left_are ps = refl
+
+parts_are : (ps : List (List ℕ)) → ((front_of ps).language ≡ first_piece ps) × ((front_of ps).script ≡ take_first (is_word Script) (rest_of ps)) × ((front_of ps).region ≡ take_first (is_word Region) (after_script ps))
+unfolding front_of
+parts_are ps = (refl, refl, refl)
+
+-- what is read whole
+pub small_read : (p : List ℕ) (ps : List (List ℕ)) → IsWord (Language languages) p → after_parts (p ∷ ps) ≡ [] → IsSmallIdentifier languages (p ∷ ps) (small_of (front_parts (p ∷ ps)))
+small_read p ps h e =
+    let us = after_region (p ∷ ps) in
+    let (all, one, first) = few us e in
+    let kept : (front_of (p ∷ ps)).variants ≡ us = kept_are (p ∷ ps) ∙ all in
+    let short : length (front_of (p ∷ ps)).variants ≤ 1 = subst (λ l. length l ≤ 1) (sym kept) one in
+    let nothing : after_front (p ∷ ps) ≡ [] = left_are (p ∷ ps) ∙ past_none us all in
+    let parts = parts_are (p ∷ ps) in
+    record {
+      written = front_of (p ∷ ps);
+      grammatical = record { words = front_words (p ∷ ps) h; different = different_few (front_of (p ∷ ps)).variants short };
+      spelled = sym (sym (append-nil (identifier_pieces (front_of (p ∷ ps)))) ∙ ap (λ l. identifier_pieces (front_of (p ∷ ps)) ++ l) (sym nothing) ∙ pieces-front_of p ps);
+      one_variant = short;
+      means = let l = sym parts.0 in let c = sym parts.1 in let r = sym parts.2 in λ i. record { language = lower (l i); script = option_map title (c i); region = option_map upper (r i); variant = (sym first ∙ ap (λ l. first_item (map lower l)) (sym kept)) i };
+    }
+  where
+    past_none : (us : List (List ℕ)) → passing variant us ≡ us → past variant us ≡ []
+    past_none us e = nothing_after us (past variant us) (ap (λ l. l ++ past variant us) (sym e) ∙ all_while variant us)
+      where
+        nothing_after : (xs ys : List (List ℕ)) → xs ++ ys ≡ xs → ys ≡ []
+        nothing_after [] ys e = e
+        nothing_after (x ∷ xs) ys e = nothing_after xs ys cc
+
+-- what follows the region of an identifier are its variants
+pub after_region-pieces : (w : Identifier) → HasWords languages w → after_region (identifier_pieces w) ≡ w.variants
+after_region-pieces w h =
+    let qs = identifier_pieces w in
+    sym (all_while variant (after_region qs))
+    ∙ ap (λ l. l ++ past variant (after_region qs)) (sym (kept_are qs) ∙ ap (λ (i : Identifier). i.variants) (front_of-pieces w h))
+    ∙ ap (λ l. w.variants ++ l) (sym (left_are qs) ∙ after_front-pieces w h)
+    ∙ append-nil w.variants
+
+-- an identifier with one variant at most leaves nothing
+pub small_left : (ps : List (List ℕ)) (r : SmallIdentifier) → IsSmallIdentifier languages ps r → after_parts ps ≡ []
+small_left ps r h =
+    let e = after_region-pieces h.written h.grammatical.words in
+    subst (λ l. after_parts l ≡ []) (sym h.spelled)
+    (ap (skip_first variant) e ∙ none_left h.written.variants h.one_variant h.grammatical.words.variants)
+
+no_parts : {P : Type 0} → IsWord (Language languages) [] → P
+no_parts h = absurd (true≢false (sym h ∙ no_empty_language))
+
+pub parts_whole : (ps rest : List (List ℕ)) (p : Parts) → SmallFrontGives ps rest (Ok p) → rest ≡ [] → SmallReadsAs ps (Ok p)
+parts_whole [] rest p g e = no_parts g.0
+parts_whole (q ∷ ps) rest p g e = subst (λ x. IsSmallIdentifier languages (q ∷ ps) (small_of x)) (sym g.1) (small_read q ps g.0 (sym g.2 ∙ e))
+
+pub parts_more : (ps rest : List (List ℕ)) (p : Parts) → SmallFrontGives ps rest (Ok p) → rest ≢ [] → SmallReadsAs ps (Err InvalidSubtag)
+parts_more ps rest p g n = no_identifier g.0 (λ r h. n (g.2 ∙ small_left ps r h))
+
+pub parts_refused : (ps rest : List (List ℕ)) (e : ParseError) → SmallFrontGives ps rest (Err e) → SmallReadsAs ps (Err e)
+parts_refused ps rest InvalidLanguage g = no_language g
+parts_refused ps rest InvalidSubtag g = absurd g
+parts_refused ps rest InvalidExtension g = g
+parts_refused ps rest DuplicatedExtension g = g
+parts_refused ps rest OutOfMemory g = g
+
+-- the parts at the front, taken one after the other
+pub parts_give : (ps : List (List ℕ)) (first : List ℕ) (qs rs us rest : List (List ℕ)) (p : Parts)
+    → ps ≡ first ∷ qs → IsWord (Language languages) first → p.0 ≡ lower first
+    → p.1 ≡ option_map title (take_first (is_word Script) qs) → rs ≡ skip_first (is_word Script) qs
+    → p.2 ≡ option_map upper (take_first (is_word Region) rs) → us ≡ skip_first (is_word Region) rs
+    → p.3 ≡ option_map lower (take_first variant us) → rest ≡ skip_first variant us → SmallFrontGives ps rest (Ok p)
+parts_give ps first qs rs us rest p e w l s er r eu v el =
+    let erest : us ≡ skip_first (is_word Region) (skip_first (is_word Script) qs) = eu ∙ ap (skip_first (is_word Region)) er in
+    subst (λ x. SmallFrontGives x rest (Ok p)) (sym e)
+    (w, (λ i. (l i, s i, (r ∙ ap (λ x. option_map upper (take_first (is_word Region) x)) er) i, (v ∙ ap (λ x. option_map lower (take_first variant x)) erest) i)), el ∙ ap (skip_first variant) erest)
