@@ -1,11 +1,11 @@
 -- The readers of what comes after `u`, after other singletons and after `x`.
 use Rattle.std.proofs.Common.{◌≡◌, ℕ, ◌+◌, ◌<◌, ◌≤◌, Bool, true, false, not, ◌&&◌, ◌||◌, ◌==◌, nat_lt, List, [], ◌∷◌, ◌++◌, length, map, refl, sym, ap, ap₂, ◌∙◌, subst, arith, true≢false, append_assoc, Result, Ok, Err, MatchResult}
-use Rattle.std.specs.List.{AllByRecursion, list_all, list_any}
+use Rattle.std.specs.List.{AllByRecursion, list_any}
 use Rattle.std.specs.Int.{is_in_range}
-use Rattle.std.proofs.lemmas.Bool.{or_parts, and_parts, and_from, cond_both, false_from_ne_true, eqb-true, ltb-true, lt-ltb}
+use Rattle.std.proofs.lemmas.Bool.{or_parts, cond_both, false_from_ne_true, eqb-true, ltb-true}
 use Rattle.std.proofs.lemmas.Bool.Decides.{nat_tests}
-use Rattle.iloc_grammar.specs.Words.{UnicodeKey, Attribute, PrivateSubtag, is_word, IsWord, lower}
-use Rattle.iloc_grammar.specs.Written.{Fields, Unicode, fields_pieces, unicode_pieces, IsKeyword, IsOther, IsPrivate, IsUnicode, kept}
+use Rattle.iloc_grammar.specs.Words.{UnicodeKey, Attribute, is_word, IsWord, lower}
+use Rattle.iloc_grammar.specs.Written.{Fields, Unicode, fields_pieces, unicode_pieces, IsKeyword, IsOther, IsUnicode, kept}
 use Rattle.iloc_grammar.specs.Meaning.{set_of, normal_fields, normal_unicode}
 use Rattle.iloc_grammar.specs.Faults.{Fault, front}
 use Rattle.iloc_grammar.specs.ByBlocks.{UnicodeMeans}
@@ -15,10 +15,11 @@ use Rattle.iloc_grammar.proofs.ValuesLaws.{all_weaker}
 use Rattle.iloc_grammar.proofs.ReadBack.{all_append}
 use Rattle.iloc_grammar.proofs.Readings.{IsLong, long_attribute, long_between, keywords_pass, fields_read}
 use Rattle.iloc_grammar.proofs.ReadingLaws.{front-from_block, from_block_starts}
+use Rattle.iloc_grammar.specs.Computing.{is_other, is_private}
+use Rattle.iloc_grammar.proofs.RuleTests.{tests_other, tests_private, tests_not}
 use Rattle.iloc_fronts.specs.Readers.{IsReader, AgreesWithBlocks}
 use Rattle.iloc_fronts.specs.Fronts.{attributes_front, after_attributes, is_keyword_piece, keywords_front, after_keywords, is_bad_key, KeywordsRead, KeywordsFault, bad_key, UnicodeRead, UnicodeFault, in_keywords, both_absent, has_other_length, other_front, OtherRead, OtherFault, no_word, OtherMeans, PrivateRead, PrivateFault, not_private}
 use Rattle.iloc_fronts.specs.Computing.{keywords_at, keywords_result, with_attributes, unicode_result, other_result, private_result}
-use Rattle.iloc_fronts.proofs.ListTests.{all_from, all_to}
 use Rattle.iloc_fronts.proofs.FieldLaws.{all_pieces, passing_all, passing_stops, past_stops, all_from_pieces, passing_from_all, front_of_fields, fields_words, fields_stop, pieces_pass}
 use Rattle.iloc_fronts.proofs.ReaderLaws.{reader_of, agreeing, until_block, Answers}
 
@@ -234,9 +235,9 @@ unicode_agrees = agreeing UnicodeRead UnicodeFault UnicodeMeans unicode_reader u
 
 pub other_answer : Answers OtherRead OtherFault other_result
 unfolding other_result
-other_answer ps = cond_both (nat_lt 0 (length (kept (other_front ps)))) _ _ Answer
-    (λ n. record { follows = record { lengths = passing_all has_other_length ps; nonempty = ltb-true 0 _ n }; means = refl; left = refl })
-    (λ n. no_word (λ h. true≢false (sym (lt-ltb 0 _ h.nonempty) ∙ n)))
+other_answer ps = cond_both (is_other (other_front ps)) _ _ Answer
+    (λ h. record { follows = (tests_other (other_front ps)).holds h; means = refl; left = refl })
+    (λ n. no_word (tests_not (tests_other (other_front ps)) n))
   where
     Answer : Result (List (List ℕ) × List (List ℕ)) Fault → Type 0
     Answer o = MatchResult o (λ r. OtherRead ps r.0 r.1) (OtherFault ps)
@@ -278,17 +279,11 @@ other_agrees = agreeing OtherRead OtherFault OtherMeans other_reader other_whole
 
 -- private words
 
-private_rule : (ps : List (List ℕ)) → list_all (is_word PrivateSubtag) ps && nat_lt 0 (length ps) ≡ true → IsPrivate ps
-private_rule ps h = let parts = and_parts (list_all (is_word PrivateSubtag) ps) _ h in record { words = all_from (is_word PrivateSubtag) ps parts.0; nonempty = ltb-true 0 _ parts.1 }
-
-private_tested : (ps : List (List ℕ)) → IsPrivate ps → list_all (is_word PrivateSubtag) ps && nat_lt 0 (length ps) ≡ true
-private_tested ps h = and_from _ _ (all_to (is_word PrivateSubtag) ps h.words) (lt-ltb 0 _ h.nonempty)
-
 pub private_answer : Answers PrivateRead PrivateFault private_result
 unfolding private_result
-private_answer ps = cond_both (list_all (is_word PrivateSubtag) ps && nat_lt 0 (length ps)) _ _ Answer
-    (λ h. record { follows = private_rule ps h; means = refl; left = refl })
-    (λ n. not_private (λ h. true≢false (sym (private_tested ps h) ∙ n)))
+private_answer ps = cond_both (is_private ps) _ _ Answer
+    (λ h. record { follows = (tests_private ps).holds h; means = refl; left = refl })
+    (λ n. not_private (tests_not (tests_private ps) n))
   where
     Answer : Result (List (List ℕ) × List (List ℕ)) Fault → Type 0
     Answer o = MatchResult o (λ r. PrivateRead ps r.0 r.1) (PrivateFault ps)

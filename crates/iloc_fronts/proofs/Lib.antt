@@ -1,4 +1,3 @@
-pub mod ListTests
 pub mod FieldLaws
 pub mod ReaderLaws
 pub mod FrontLaws

@@ -1,7 +1,7 @@
 -- The reader of what comes after `t`: the longest front of an identifier, and fields.
-use Rattle.std.proofs.Common.{◌≡◌, ◌↔◌, ℕ, ◌<◌, ◌≤◌, Bool, true, false, not, cond, ◌&&◌, ◌||◌, nat_lt, List, [], ◌∷◌, ◌++◌, length, length-append, map, refl, sym, ap, ◌∙◌, subst, arith, Option, Some, None, IfSome, is_some, option_to_list, true≢false, append_assoc, le_antisymm, Result, Err, MatchResult}
+use Rattle.std.proofs.Common.{◌≡◌, ◌↔◌, ℕ, ◌<◌, ◌≤◌, Bool, true, false, cond, ◌&&◌, ◌||◌, nat_lt, List, [], ◌∷◌, ◌++◌, length, length-append, map, refl, sym, ap, ◌∙◌, subst, arith, Option, Some, None, IfSome, is_some, option_to_list, true≢false, append_assoc, le_antisymm, Result, Err, MatchResult}
 use Rattle.std.specs.List.{AllByRecursion, list_all}
-use Rattle.std.proofs.lemmas.Bool.{and_parts, and_from, cond_both, not-true, false_from_ne_true, eqb-true, ltb-true, lt-ltb}
+use Rattle.std.proofs.lemmas.Bool.{cond_both, false_from_ne_true, eqb-true}
 use Rattle.std.proofs.lemmas.List.{map-append}
 use Rattle.iloc_grammar.specs.Words.{Language, Script, Region, Variant, TransformKey, Attribute, is_word, IsWord, IsTable, lower, word_cmp}
 use Rattle.iloc_grammar.specs.Written.{Identifier, Fields, Transform, transform, identifier_pieces, optional_pieces, fields_pieces, HasWords, IsIdentifier, IsField, IsTransform, AllDifferent}
@@ -15,11 +15,12 @@ use Rattle.iloc_grammar.proofs.IdentifierLaws.{pieces-identifier_of, one_identif
 use Rattle.iloc_grammar.proofs.Readings.{IsLong, IsNoKey, after_language, long_after_language, long_extension, identifier_no_key, language_no_key, fields_pass, fields_read}
 use Rattle.iloc_grammar.proofs.ReadingLaws.{front_is_front, front-from_block, from_block_starts}
 use Rattle.iloc_grammar.proofs.FaultLaws.{some_repeat, front_variants, after_variants, front_are_variants, front_longest, read_longer, cut_identifier, repeats_longer, language_of, script_of, region_of, spell_cut}
+use Rattle.iloc_grammar.specs.Computing.{all_different, is_field}
+use Rattle.iloc_grammar.proofs.RuleTests.{Tests, tests_not, tests_and, tests_all, tests_field, tests_needed, tests_different}
 use Rattle.iloc_fronts.specs.Readers.{IsReader, AgreesWithBlocks}
 use Rattle.iloc_fronts.specs.Fronts.{FrontRead, absent, present, is_field_piece, fields_front, after_fields, TransformRead, TransformFault, repeats, unread}
-use Rattle.iloc_fronts.specs.Computing.{fields_at, has_value, fields_result, all_different, transform_result}
-use Rattle.iloc_fronts.proofs.ListTests.{all_from, all_to}
-use Rattle.iloc_fronts.proofs.FieldLaws.{all_from_pieces, passing_from_all, front_of_fields, fields_words, fields_stop, pieces_pass}
+use Rattle.iloc_fronts.specs.Computing.{fields_at, fields_result, transform_result}
+use Rattle.iloc_fronts.proofs.FieldLaws.{all_from_pieces, front_of_fields, fields_stop, pieces_pass}
 use Rattle.iloc_fronts.proofs.ReaderLaws.{reader_of, agreeing, until_block, Answers}
 
 -- two lists of one whole
@@ -108,27 +109,8 @@ fields_spelled ps = front_of_fields is_key is_field_piece ps
 fields_are : (ps : List (List ℕ)) (fs : Fields) → AllByRecursion IsField fs → fields_front ps ≡ fields_pieces fs → fields_at ps ≡ fs
 fields_are ps fs h e = ap (fields_from is_key) e ∙ fields_read is_key fs (fields_pass fs h)
 
--- a key is a key, and what else is in the front is a value
-words_at : (ps : List (List ℕ)) → AllByRecursion (λ p. is_field_piece p ≡ true) ps → AllByRecursion (λ p. (is_key p ≡ true → IsWord TransformKey p) × (is_key p ≡ false → IsWord Attribute p)) ps
-words_at [] h = tt
-words_at (p ∷ ps) h = ((λ e. e, λ e. sym (ap (λ b. b || is_word Attribute p) e) ∙ h.0), words_at ps h.1)
-
-fields_good : (ps : List (List ℕ)) → list_all has_value (fields_at ps) ≡ true → AllByRecursion IsField (fields_at ps)
-fields_good ps h =
-    let words = (fields_words is_key (IsWord TransformKey) (IsWord Attribute) (fields_front ps) (words_at _ (passing_from_all is_key is_field_piece ps))).1 in
-    let both = all_both (λ f. IsWord TransformKey f.0 × AllByRecursion (IsWord Attribute) f.1) (λ f. has_value f ≡ true) (fields_at ps) words (all_from has_value (fields_at ps) h) in
-    all_weaker (λ f. (IsWord TransformKey f.0 × AllByRecursion (IsWord Attribute) f.1) × (has_value f ≡ true)) IsField (λ f r. (r.0.0, r.0.1, ltb-true 0 _ r.1)) (fields_at ps) both
-
-fields_tested : (fs : Fields) → AllByRecursion IsField fs → list_all has_value fs ≡ true
-fields_tested fs h = all_to has_value fs (all_weaker IsField (λ f. has_value f ≡ true) (λ f r. lt-ltb 0 _ r.2) fs h)
-
-needed_from : (o : Option Identifier) (n : ℕ) → (is_some o || nat_lt 0 n) ≡ true → o ≡ None → 0 < n
-needed_from None n h e = ltb-true 0 n h
-needed_from (Some i) n h e = absurd (cc)
-
-needed_to : (o : Option Identifier) (n : ℕ) → (o ≡ None → 0 < n) → (is_some o || nat_lt 0 n) ≡ true
-needed_to None n h = lt-ltb 0 n (h refl)
-needed_to (Some i) n h = refl
+fields_test : (o : Option Identifier) (fs : Fields) → Tests (list_all is_field fs && (is_some o || nat_lt 0 (length fs))) (AllByRecursion IsField fs × (o ≡ None → 0 < length fs))
+fields_test o fs = tests_and (tests_all is_field IsField tests_field fs) (tests_needed o (length fs))
 
 -- what is read is determined
 
@@ -154,43 +136,31 @@ one_transform_fault T ps f g (unread n u) (unread m v) = refl
 
 -- and what the program gives
 
-different_from : (ws : List (List ℕ)) → all_different ws ≡ true → AllDifferent word_cmp ws
-different_from [] h = tt
-different_from (w ∷ ws) h = let parts = and_parts _ _ h in (not-true _ parts.0, different_from ws parts.1)
-
-different_to : (ws : List (List ℕ)) → AllDifferent word_cmp ws → all_different ws ≡ true
-different_to [] h = refl
-different_to (w ∷ ws) h = and_from _ _ (ap not h.0) (different_to ws h.1)
-
 abbrev IsTransformAnswer : (ℕ → Bool) → List (List ℕ) → Result (Transform × List (List ℕ)) Fault → Type 0
 IsTransformAnswer T ps o = MatchResult o (λ r. TransformRead T ps r.0 r.1) (TransformFault T ps)
 
-abbrev are_whole : Option Identifier → Fields → Bool
-are_whole o fs = list_all has_value fs && (is_some o || nat_lt 0 (length fs))
-
 fields_answer : {T : ℕ → Bool} (ps : List (List ℕ)) (o : Option Identifier) (middle : List (List ℕ)) → FrontRead T ps o middle → IsTransformAnswer T ps (fields_result o middle)
-fields_answer {T = T} ps o middle h = cond_both (are_whole o (fields_at middle)) _ _ (IsTransformAnswer T ps)
+fields_answer {T = T} ps o middle h = cond_both (list_all is_field (fields_at middle) && (is_some o || nat_lt 0 (length (fields_at middle)))) _ _ (IsTransformAnswer T ps)
     (λ w.
-    let parts = and_parts (list_all has_value (fields_at middle)) _ w in
-    record { written = record { id = o; fields = fields_at middle }; middle = middle; id = h; fields = fields_good middle parts.0; spelled = fields_spelled middle; nonempty = needed_from o _ parts.1; means = refl; left = refl })
+    let rules = (fields_test o (fields_at middle)).holds w in
+    record { written = record { id = o; fields = fields_at middle }; middle = middle; id = h; fields = rules.0; spelled = fields_spelled middle; nonempty = rules.1; means = refl; left = refl })
     (λ n. unread (λ r. read_no_repeats ps h r) (λ m rest r.
     let fronts = one_front ps r.id h in
     let fields : r.written.fields ≡ fields_at middle = sym (fields_are r.middle r.written.fields r.fields r.spelled) ∙ ap fields_at fronts.1 in
-    let whole : are_whole r.written.id r.written.fields ≡ true = and_from _ _ (fields_tested r.written.fields r.fields) (needed_to r.written.id _ r.nonempty) in
-    true≢false (sym whole ∙ (λ i. are_whole (fronts.0 i) (fields i)) ∙ n)))
+    tests_not (fields_test o (fields_at middle)) n (subst (AllByRecursion IsField) fields r.fields, λ e. subst (λ (fs : Fields). 0 < length fs) fields (r.nonempty (fronts.0 ∙ e)))))
 
 no_empty_language : {T : ℕ → Bool} → IsTable T → is_word (Language T) [] ≡ false
 no_empty_language {T = T} table = false_from_ne_true _ (λ h. let l = table.least 0 (length-language T [] h) in absurd (omega arith))
 
 pub transform_answer : {T : ℕ → Bool} → IsTable T → Answers (TransformRead T) (TransformFault T) (transform_result T)
 unfolding transform_result
-transform_answer {T = T} table [] = subst (λ b. IsTransformAnswer T [] (cond b (cond (all_different (map lower (front_of []).variants)) (fields_result (Some (front_of [])) (after_front [])) (Err InvalidSubtag)) (fields_result None []))) (sym (no_empty_language table)) (fields_answer [] None [] (absent (no_empty_language table)))
+transform_answer {T = T} table [] = subst (λ b. IsTransformAnswer T [] (cond b (cond (all_different word_cmp (map lower (front_of []).variants)) (fields_result (Some (front_of [])) (after_front [])) (Err InvalidSubtag)) (fields_result None []))) (sym (no_empty_language table)) (fields_answer [] None [] (absent (no_empty_language table)))
 transform_answer {T = T} table (p ∷ ps) = cond_both (is_word (Language T) p) _ _ (IsTransformAnswer T (p ∷ ps))
     (λ l.
     let taken = front_is_front p ps l in
-    cond_both (all_different (map lower (front_of (p ∷ ps)).variants)) _ _ (IsTransformAnswer T (p ∷ ps))
-    (λ d. fields_answer (p ∷ ps) _ _ (present (record { words = taken.words; different = different_from _ d }) taken))
-    (λ n. repeats (front_of (p ∷ ps), after_front (p ∷ ps), taken.words, taken.spelled, λ d. true≢false (sym (different_to _ d) ∙ n))))
+    cond_both (all_different word_cmp (map lower (front_of (p ∷ ps)).variants)) _ _ (IsTransformAnswer T (p ∷ ps))
+    (λ d. fields_answer (p ∷ ps) _ _ (present (record { words = taken.words; different = (tests_different word_cmp _).holds d }) taken))
+    (λ n. repeats (front_of (p ∷ ps), after_front (p ∷ ps), taken.words, taken.spelled, tests_not (tests_different word_cmp _) n)))
     (λ l. fields_answer (p ∷ ps) None (p ∷ ps) (absent l))
 
 pub transform_reader : (T : ℕ → Bool) → IsTable T → IsReader (TransformRead T) (TransformFault T)

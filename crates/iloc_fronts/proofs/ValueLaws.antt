@@ -10,7 +10,7 @@ use Rattle.iloc_grammar.proofs.PiecesLaws.{pieces-join}
 use Rattle.iloc_grammar.proofs.ReadBack.{word_hyphen_free}
 use Rattle.iloc_grammar.proofs.ValuesLaws.{all_weaker, values_fixed, spelled_rule, spelled_means}
 use Rattle.iloc_fronts.specs.PartValues.{unicode_value, transform_value}
-use Rattle.iloc_fronts.proofs.ListTests.{all_to}
+use Rattle.iloc_grammar.proofs.RuleTests.{tests_all, tests_word}
 
 cut : (k : Kind) (w : List ℕ) (ws : List (List ℕ)) → AllByRecursion (IsWord k) (w ∷ ws) → pieces (join (w ∷ ws)) ≡ w ∷ ws
 cut k w ws h = pieces-join w ws (all_weaker (IsWord k) IsHyphenFree (word_hyphen_free k) (w ∷ ws) h)
@@ -37,7 +37,7 @@ unicode_value_back (w ∷ ws) h =
     let words = all_weaker (λ w. IsNormal Subtag w × (is_true w ≡ false)) (IsWord Subtag) (λ w n. n.0.0) (w ∷ ws) h in
     value_of (join (w ∷ ws)) (joined_nonempty w ws words)
     ∙ ap (λ ps. cond (list_all (is_word Subtag) ps) (Ok (normal_values ps)) (Err InvalidSubtag)) (cut Subtag w ws words)
-    ∙ ap (λ b. cond b (Ok (normal_values (w ∷ ws))) (Err InvalidSubtag)) (all_to (is_word Subtag) (w ∷ ws) words)
+    ∙ ap (λ b. cond b (Ok (normal_values (w ∷ ws))) (Err InvalidSubtag)) ((tests_all (is_word Subtag) (IsWord Subtag) (tests_word Subtag) (w ∷ ws)).passes words)
     ∙ ap Ok (values_fixed (w ∷ ws) (all_weaker (λ w. IsNormal Subtag w × (is_true w ≡ false)) (λ w. lower w ≡ w) (λ w n. n.0.1) (w ∷ ws) h) (all_weaker (λ w. IsNormal Subtag w × (is_true w ≡ false)) (λ w. is_true w ≡ false) (λ w n. n.1) (w ∷ ws) h))
 
 -- an empty one of a transform is spelled `true`
@@ -51,5 +51,5 @@ transform_value_back ws h = from (spelled_value ws) (spelled_rule ws h).0 (spell
     from : (vs : List (List ℕ)) → AllByRecursion (IsWord Attribute) vs → normal_values vs ≡ ws → vs ≢ [] → transform_value (join vs) ≡ Ok ws
     from [] a m n = absurd (n refl)
     from (v ∷ vs) a m n = ap (λ ps. cond (list_all (is_word Attribute) ps) (Ok (normal_values ps)) (Err InvalidExtension)) (cut Attribute v vs a)
-        ∙ ap (λ b. cond b (Ok (normal_values (v ∷ vs))) (Err InvalidExtension)) (all_to (is_word Attribute) (v ∷ vs) a)
+        ∙ ap (λ b. cond b (Ok (normal_values (v ∷ vs))) (Err InvalidExtension)) ((tests_all (is_word Attribute) (IsWord Attribute) (tests_word Attribute) (v ∷ vs)).passes a)
         ∙ ap Ok m

@@ -1,12 +1,12 @@
 -- A plain program for each reader of a front: the value and what is left, or the fault.
-use Rattle.std.specs.Prelude.{ℕ, ◌+◌, Bool, true, not, ◌&&◌, ◌||◌, nat_lt, List, [], ◌∷◌, length, map, if◌then◌else◌, Option, Some, None, is_some, Result, Ok, Err}
+use Rattle.std.specs.Prelude.{ℕ, ◌+◌, Bool, ◌&&◌, ◌||◌, nat_lt, List, [], length, map, if◌then◌else◌, Option, Some, None, is_some, Result, Ok, Err}
 use Rattle.std.specs.List.{list_all, list_any}
-use Rattle.std.specs.Ordering.{eq_by_cmp}
-use Rattle.iloc_grammar.specs.Words.{Language, TransformKey, PrivateSubtag, is_word, lower, word_cmp}
+use Rattle.iloc_grammar.specs.Words.{Language, TransformKey, is_word, lower, word_cmp}
 use Rattle.iloc_grammar.specs.Written.{Identifier, Fields, Unicode, Transform, kept}
 use Rattle.iloc_grammar.specs.Meaning.{normal_fields, normal_transform}
 use Rattle.iloc_grammar.specs.Faults.{Fault, InvalidSubtag, InvalidExtension, first_piece}
 use Rattle.iloc_grammar.specs.Reading.{past, front_of, after_front, is_two, fields_from}
+use Rattle.iloc_grammar.specs.Computing.{all_different, is_field, is_other, is_private}
 use Rattle.iloc_fronts.specs.Fronts.{is_bad_key, keywords_front, after_keywords, attributes_front, after_attributes, attributes_read, fields_front, after_fields, has_other_length, other_front}
 
 -- the keywords and the fields at the front, as they are written
@@ -30,27 +30,19 @@ with_attributes ps (Ok r) = if nat_lt 0 (length (attributes_front ps) + length (
 unfoldable pub unicode_result : List (List ℕ) → Result (Unicode × List (List ℕ)) Fault
 unicode_result ps = with_attributes ps (keywords_result (after_attributes ps))
 
--- no word stands twice
-abbrev pub all_different : List (List ℕ) → Bool
-all_different [] = true
-all_different (w ∷ ws) = not (list_any (eq_by_cmp word_cmp w) ws) && all_different ws
-
-abbrev pub has_value : List ℕ × List (List ℕ) → Bool
-has_value f = nat_lt 0 (length f.1)
-
 -- the fields after an identifier, or after none
 abbrev pub fields_result : Option Identifier → List (List ℕ) → Result (Transform × List (List ℕ)) Fault
-fields_result o ps = if list_all has_value (fields_at ps) && (is_some o || nat_lt 0 (length (fields_at ps)))
+fields_result o ps = if list_all is_field (fields_at ps) && (is_some o || nat_lt 0 (length (fields_at ps)))
     then Ok (normal_transform (record { id = o; fields = fields_at ps }), after_fields ps)
     else Err InvalidExtension
 
 unfoldable pub transform_result : (ℕ → Bool) → List (List ℕ) → Result (Transform × List (List ℕ)) Fault
 transform_result T ps = if is_word (Language T) (first_piece ps)
-    then (if all_different (map lower (front_of ps).variants) then fields_result (Some (front_of ps)) (after_front ps) else Err InvalidSubtag)
+    then (if all_different word_cmp (map lower (front_of ps).variants) then fields_result (Some (front_of ps)) (after_front ps) else Err InvalidSubtag)
     else fields_result None ps
 
 unfoldable pub other_result : List (List ℕ) → Result (List (List ℕ) × List (List ℕ)) Fault
-other_result ps = if nat_lt 0 (length (kept (other_front ps))) then Ok (kept (other_front ps), past has_other_length ps) else Err InvalidExtension
+other_result ps = if is_other (other_front ps) then Ok (kept (other_front ps), past has_other_length ps) else Err InvalidExtension
 
 unfoldable pub private_result : List (List ℕ) → Result (List (List ℕ) × List (List ℕ)) Fault
-private_result ps = if list_all (is_word PrivateSubtag) ps && nat_lt 0 (length ps) then Ok (map lower ps, []) else Err InvalidExtension
+private_result ps = if is_private ps then Ok (map lower ps, []) else Err InvalidExtension

@@ -14,7 +14,7 @@ use Rattle.iloc_grammar.specs.Meaning.{Locale, Means, meaning}
 use Rattle.iloc_grammar.specs.Faults.{Fault, InvalidLanguage, InvalidSubtag, InvalidExtension, DuplicatedExtension, is_one_byte, front, blocks, head, tail_blocks, SpellsIdentifier, IsBlock, RepeatsVariant, BlockFault, no_singleton, duplicated, repeats_variant, breaks_rule, FirstBadBlock, here, later, first_piece, HasFault, no_language, no_identifier, bad_block}
 use Rattle.iloc_grammar.proofs.WordsLaws.{region_no_script, variant_no_script, variant_no_region}
 use Rattle.iloc_grammar.proofs.IdentifierLaws.{pieces-identifier_of, identifier_of-pieces}
-use Rattle.iloc_grammar.specs.Reading.{take_first, skip_first, identifier_of, before_key}
+use Rattle.iloc_grammar.specs.Reading.{take_first, skip_first, passing, past, identifier_of, before_key}
 use Rattle.iloc_grammar.proofs.Readings.{identifier_no_key, head-spelling, blocks-spelling}
 use Rattle.iloc_grammar.proofs.Deciding.{dec_spells, dec_block, dec_different}
 use Rattle.iloc_grammar.proofs.PiecesLaws.{pieces_nonempty}
@@ -31,12 +31,10 @@ some_repeat {X = X} cmp (x ∷ xs) ys h = (none_left xs h.0, some_repeat cmp xs 
 
 -- the variants at the front of the pieces, and the pieces after them
 abbrev pub front_variants : List (List ℕ) → List (List ℕ)
-front_variants [] = []
-front_variants (p ∷ ps) = cond (is_word Variant p) (p ∷ front_variants ps) []
+front_variants ps = passing (is_word Variant) ps
 
 abbrev pub after_variants : List (List ℕ) → List (List ℕ)
-after_variants [] = []
-after_variants (p ∷ ps) = cond (is_word Variant p) (after_variants ps) (p ∷ ps)
+after_variants ps = past (is_word Variant) ps
 
 pub front-after : (ps : List (List ℕ)) → front_variants ps ++ after_variants ps ≡ ps
 front-after [] = refl
@@ -91,12 +89,15 @@ spell_cut i = ap (λ l. i.language ∷ l) (append_assoc (option_to_list i.script
     ∙ ap (λ l. option_to_list i.script ++ l) (append_assoc (option_to_list i.region) (front_variants i.variants) (after_variants i.variants) ∙ ap (λ l. option_to_list i.region ++ l) (front-after i.variants)))
 
 -- the variants at the front of the pieces after a language decide
-repeats_by_front : (T : ℕ → Bool) (p : List ℕ) (ps : List (List ℕ)) → IsWord (Language T) p → Dec (AllDifferent word_cmp (map lower (front_variants (identifier_of (p ∷ ps)).variants))) → Dec (RepeatsVariant T (p ∷ ps))
-repeats_by_front T p ps h (yes d) = no (λ r.
+
+pub front_no_repeat : (T : ℕ → Bool) (p : List ℕ) (ps : List (List ℕ)) → AllDifferent word_cmp (map lower (front_variants (identifier_of (p ∷ ps)).variants)) → ¬ (RepeatsVariant T (p ∷ ps))
+front_no_repeat T p ps d r =
     let e : (identifier_of (p ∷ ps)).variants ≡ r.0.variants ++ r.1 = ap (λ l. (identifier_of l).variants) r.3 ∙ repeats_longer r.0 r.1 r.2 r.4 in
     let all : AllDifferent word_cmp (map lower (r.0.variants ++ front_variants r.1)) = subst (λ l. AllDifferent word_cmp (map lower l)) (ap front_variants e ∙ front_longest r.0.variants r.1 r.2.variants) d in
-    r.4 (some_repeat word_cmp (map lower r.0.variants) (map lower (front_variants r.1)) (subst (AllDifferent word_cmp) (map-append lower r.0.variants (front_variants r.1)) all)))
-repeats_by_front T p ps h (no d) = yes (
+    r.4 (some_repeat word_cmp (map lower r.0.variants) (map lower (front_variants r.1)) (subst (AllDifferent word_cmp) (map-append lower r.0.variants (front_variants r.1)) all))
+
+pub front_repeats : (T : ℕ → Bool) (p : List ℕ) (ps : List (List ℕ)) → IsWord (Language T) p → ¬ (AllDifferent word_cmp (map lower (front_variants (identifier_of (p ∷ ps)).variants))) → RepeatsVariant T (p ∷ ps)
+front_repeats T p ps h d = (
   cut_identifier (identifier_of (p ∷ ps)),
   after_variants (identifier_of (p ∷ ps)).variants,
   record { language = subst (IsWord (Language T)) (sym (language_of p ps)) h; script = script_of p ps; region = region_of p ps; variants = front_are_variants _ },
@@ -104,16 +105,23 @@ repeats_by_front T p ps h (no d) = yes (
   d,
 )
 
-pub dec_repeats : (T : ℕ → Bool) (ps : List (List ℕ)) → Dec (RepeatsVariant T ps)
-dec_repeats T [] = no (λ r. absurd_empty r.0.language _ r.3)
+pub repeats_nothing : (T : ℕ → Bool) → ¬ (RepeatsVariant T [])
+repeats_nothing T r = absurd_empty r.0.language _ r.3
   where
     absurd_empty : (l : List ℕ) (ls : List (List ℕ)) → ◌≡◌ {A = List (List ℕ)} [] (l ∷ ls) → ⊥
     absurd_empty l ls e = cc
-dec_repeats T (p ∷ ps) = by_language (is_word (Language T) p) refl
+
+pub repeats_after_language : (T : ℕ → Bool) (p : List ℕ) (ps : List (List ℕ)) → RepeatsVariant T (p ∷ ps) → IsWord (Language T) p
+repeats_after_language T p ps r = ap (λ l. is_word (Language T) (first_piece l)) r.3 ∙ r.2.language
+
+pub dec_repeats : (T : ℕ → Bool) (ps : List (List ℕ)) → Dec (RepeatsVariant T ps)
+dec_repeats T [] = no (repeats_nothing T)
+dec_repeats T (p ∷ ps) = by_language (is_word (Language T) p) refl (dec_different word_cmp (map lower (front_variants (identifier_of (p ∷ ps)).variants)))
   where
-    by_language : (b : Bool) → is_word (Language T) p ≡ b → Dec (RepeatsVariant T (p ∷ ps))
-    by_language true e = repeats_by_front T p ps e (dec_different word_cmp _)
-    by_language false e = no (λ r. true≢false (sym r.2.language ∙ ap (λ l. is_word (Language T) (first_piece l)) (sym r.3) ∙ e))
+    by_language : (b : Bool) → is_word (Language T) p ≡ b → Dec (AllDifferent word_cmp (map lower (front_variants (identifier_of (p ∷ ps)).variants))) → Dec (RepeatsVariant T (p ∷ ps))
+    by_language true e (yes d) = no (front_no_repeat T p ps d)
+    by_language true e (no d) = yes (front_repeats T p ps e d)
+    by_language false e d = no (λ r. true≢false (sym (repeats_after_language T p ps r) ∙ e))
 
 -- a transform whose identifier is good repeats no variant
 

@@ -7,3 +7,5 @@ pub mod Faults
 pub mod ByBlocks
 pub mod Steps
 pub mod Reading
+pub mod Computing
+pub mod Examples

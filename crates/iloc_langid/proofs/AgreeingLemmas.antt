@@ -1,5 +1,7 @@
 -- Pieces that are, in whatever order and case, the words of a set.
-use Rattle.std.proofs.Common.{◌≡◌, ℕ, ◌+◌, Bool, true, false, ◌||◌, List, [], ◌∷◌, length, map, refl, sym, ap, ◌∙◌, subst, arith, true≢false}
+use Rattle.std.proofs.Common.{◌≡◌, ℕ, ◌+◌, Bool, true, false, ◌||◌, List, [], ◌∷◌, length, map, refl, sym, ap, ◌∙◌, subst, arith, true≢false, Option, Some, None, option_map, nat_eq, Ok}
+use Rattle.std.specs.Option.{option_eq}
+use Rattle.std.specs.Cmp.Lexicographic.{pointwise, same_text, other_text}
 use Rattle.std.specs.List.{AllByRecursion, list_any, list_all}
 use Rattle.std.specs.Cmp.{eq_by_cmp_equiv}
 use Rattle.std.specs.Ordering.{is_eq}
@@ -9,9 +11,9 @@ use Rattle.std.specs.declared.cmp.Ordering.{Ordering}
 use Rattle.std.specs.declared.cmp.Ordering.TheVariants.{Less, Equal, Greater}
 use Rattle.std.proofs.lemmas.Bool.{and_parts, and_from, or_parts}
 use Rattle.std.proofs.lemmas.List.{length-map}
-use Rattle.iloc_grammar.specs.Words.{Variant, is_word, IsWord, normal, lower, word_cmp, is_same}
-use Rattle.iloc_grammar.specs.Written.{AllDifferent}
-use Rattle.iloc_grammar.specs.Meaning.{set_of, map_of}
+use Rattle.iloc_grammar.specs.Words.{Language, Script, Region, Variant, is_word, IsWord, normal, lower, title, upper, word_cmp, is_same, languages}
+use Rattle.iloc_grammar.specs.Written.{Identifier, AllDifferent}
+use Rattle.iloc_grammar.specs.Meaning.{IdentifierMeans, set_of, map_of}
 use Rattle.iloc_grammar.specs.Values.{IsNormal, IsAscending}
 use Rattle.iloc_grammar.specs.Steps.{Reordered, none, front_kept, first_two, in_turn}
 use Rattle.iloc_grammar.proofs.WordsLaws.{is_word-lower}
@@ -20,7 +22,14 @@ use Rattle.iloc_grammar.proofs.Orders.{any_reordered, all_reordered, different_r
 use Rattle.iloc_grammar.proofs.Sorting.{itself}
 use Rattle.iloc_grammar.proofs.ValuesLaws.{set_of_ascending, ascending_different}
 use Rattle.iloc_langid.specs.Agreeing.{is_among, are_all_among}
+use Rattle.iloc_grammar.specs.Faults.{first_piece}
+use Rattle.iloc_grammar.specs.Reading.{take_first, skip_first, passing, past, rest_of, after_region, front_of}
+use Rattle.iloc_grammar.proofs.ReadingLaws.{front_of-pieces, keep_all}
+use Rattle.iloc_langid.specs.declared.identifier.LanguageIdentifier.{LanguageIdentifier}
+use Rattle.iloc_langid.specs.Reads.{value_of}
 use Rattle.iloc_langid.proofs.SetLemmas.{any-set_of}
+use Rattle.iloc_langid.proofs.FrontLemmas.{front_gives, whole_gives}
+use Rattle.iloc_langid.proofs.SmallLemmas.{parts_are, after_region-pieces, past_none}
 
 pub same_itself : (w : List ℕ) → is_same w w ≡ true
 same_itself w = (eq_by_cmp_equiv word_cmp_total).refl w
@@ -167,3 +176,54 @@ other_piece ps now rest p w i e n h =
     by : (b : Bool) → is_same w (lower p) ≡ b → b ≡ false
     by true s = absurd (h (sym (same_word w (lower p) s) ∙ sym n.1))
     by false s = refl
+
+-- what a test of two optional words has told
+
+pub same_option : (a b : Option (List ℕ)) → option_eq (pointwise nat_eq) a b ≡ true → a ≡ b
+same_option None None h = refl
+same_option None (Some w) h = absurd (true≢false (sym h))
+same_option (Some v) None h = absurd (true≢false (sym h))
+same_option (Some v) (Some w) h = ap Some (same_text v w (sym h))
+
+pub other_option : (a b : Option (List ℕ)) → option_eq (pointwise nat_eq) a b ≡ false → a ≡ b → ⊥
+other_option None None h e = true≢false h
+other_option None (Some w) h e = cc
+other_option (Some v) None h e = cc
+other_option (Some v) (Some w) h e = other_text v w (sym h) cc
+
+-- The parts of an identifier, taken one after the other from pieces.
+module _ (ps : List (List ℕ)) (first : List ℕ) (qs rs us : List (List ℕ)) (i : LanguageIdentifier) (l : List ℕ) (s r : Option (List ℕ))
+    (e : ps ≡ first ∷ qs) (w : IsWord (Language languages) first) (le : l ≡ lower first)
+    (se : s ≡ option_map title (take_first (is_word Script) qs)) (er : rs ≡ skip_first (is_word Script) qs)
+    (re : r ≡ option_map upper (take_first (is_word Region) rs)) (eu : us ≡ skip_first (is_word Region) rs) where
+  after : us ≡ after_region ps
+  after = eu ∙ ap (skip_first (is_word Region)) (er ∙ ap (λ x. skip_first (is_word Script) (rest_of x)) (sym e))
+
+  module _ (m : IdentifierMeans languages ps (value_of i)) where
+    front_is : front_of ps ≡ m.written
+    front_is = ap front_of m.spelled ∙ front_of-pieces m.written m.grammatical.words
+
+    pub language_is : l ≡ i.language
+    language_is = le ∙ ap (λ x. lower (first_piece x)) (sym e) ∙ ap lower (sym (parts_are ps).0 ∙ ap (λ (j : Identifier). j.language) front_is) ∙ sym (ap (λ (j : Identifier). j.language) m.means)
+
+    pub script_is : s ≡ i.script
+    script_is = se ∙ ap (λ x. option_map title (take_first (is_word Script) (rest_of x))) (sym e) ∙ ap (option_map title) (sym (parts_are ps).1 ∙ ap (λ (j : Identifier). j.script) front_is) ∙ sym (ap (λ (j : Identifier). j.script) m.means)
+
+    pub region_is : r ≡ i.region
+    region_is = re ∙ ap (λ x. option_map upper (take_first (is_word Region) x)) (er ∙ ap (λ x. skip_first (is_word Script) (rest_of x)) (sym e)) ∙ ap (option_map upper) (sym (parts_are ps).2 ∙ ap (λ (j : Identifier). j.region) front_is) ∙ sym (ap (λ (j : Identifier). j.region) m.means)
+
+    pub variants_are : AreThese us i.variants
+    variants_are =
+        let v : us ≡ m.written.variants = after ∙ ap after_region m.spelled ∙ after_region-pieces m.written m.grammatical.words in
+        subst (λ x. AreThese x i.variants) (sym v) (record { words = m.grammatical.words.variants; different = m.grammatical.different; set_is = ap (λ (j : Identifier). j.variants) m.means })
+
+  pub all_mean : l ≡ i.language → s ≡ i.script → r ≡ i.region → AreThese us i.variants → IdentifierMeans languages ps (value_of i)
+  all_mean a b c v =
+      whole_gives ps [] i (front_gives ps first qs rs us [] i e w (sym a ∙ le) (sym b ∙ se) er (sym c ∙ re) eu
+      (v.set_is ∙ ap (λ x. set_of (map lower x)) (sym all), subst (λ x. AllDifferent word_cmp (map lower x)) (sym all) v.different, sym none_after)) refl
+    where
+      all : passing (is_word Variant) us ≡ us
+      all = keep_all (is_word Variant) us v.words
+
+      none_after : past (is_word Variant) us ≡ []
+      none_after = past_none us all

@@ -47,9 +47,17 @@ left_are : (ps : List (List ℕ)) → after_front ps ≡ past variant (after_reg
 unfolding after_front
 left_are ps = refl
 
-parts_are : (ps : List (List ℕ)) → ((front_of ps).language ≡ first_piece ps) × ((front_of ps).script ≡ take_first (is_word Script) (rest_of ps)) × ((front_of ps).region ≡ take_first (is_word Region) (after_script ps))
+pub parts_are : (ps : List (List ℕ)) → ((front_of ps).language ≡ first_piece ps) × ((front_of ps).script ≡ take_first (is_word Script) (rest_of ps)) × ((front_of ps).region ≡ take_first (is_word Region) (after_script ps))
 unfolding front_of
 parts_are ps = (refl, refl, refl)
+
+nothing_after : (xs ys : List (List ℕ)) → xs ++ ys ≡ xs → ys ≡ []
+nothing_after [] ys e = e
+nothing_after (x ∷ xs) ys e = nothing_after xs ys cc
+
+-- where all pieces are variants, none are left
+pub past_none : (us : List (List ℕ)) → passing variant us ≡ us → past variant us ≡ []
+past_none us e = nothing_after us (past variant us) (ap (λ l. l ++ past variant us) (sym e) ∙ all_while variant us)
 
 -- what is read whole
 pub small_read : (p : List ℕ) (ps : List (List ℕ)) → IsWord (Language languages) p → after_parts (p ∷ ps) ≡ [] → IsSmallIdentifier languages (p ∷ ps) (small_of (front_parts (p ∷ ps)))
@@ -67,13 +75,6 @@ small_read p ps h e =
       one_variant = short;
       means = let l = sym parts.0 in let c = sym parts.1 in let r = sym parts.2 in λ i. record { language = lower (l i); script = option_map title (c i); region = option_map upper (r i); variant = (sym first ∙ ap (λ l. first_item (map lower l)) (sym kept)) i };
     }
-  where
-    past_none : (us : List (List ℕ)) → passing variant us ≡ us → past variant us ≡ []
-    past_none us e = nothing_after us (past variant us) (ap (λ l. l ++ past variant us) (sym e) ∙ all_while variant us)
-      where
-        nothing_after : (xs ys : List (List ℕ)) → xs ++ ys ≡ xs → ys ≡ []
-        nothing_after [] ys e = e
-        nothing_after (x ∷ xs) ys e = nothing_after xs ys cc
 
 -- what follows the region of an identifier are its variants
 pub after_region-pieces : (w : Identifier) → HasWords languages w → after_region (identifier_pieces w) ≡ w.variants

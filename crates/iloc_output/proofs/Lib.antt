@@ -1,2 +1,3 @@
+pub mod LineCuts
+pub mod LineLaws
 pub mod OutputLaws
-pub mod OutputRows

@@ -1,32 +1,37 @@
--- There is one output for each input.
-use Rattle.std.proofs.Common.{◌≡◌, inl, inr, ℕ, Bool, List, [], ◌∷◌, refl, sym, ap, ◌∙◌, MatchResult, Result, Ok, Err}
-use Rattle.std.specs.List.{AllZip}
-use Rattle.iloc_grammar.specs.Pieces.{pieces, join}
+-- Each line has one answer, and each input one output: those that are computed.
+use Rattle.std.proofs.Common.{◌≡◌, ℕ, Bool, List, [], ◌∷◌, ◌++◌, map, refl, sym, ap, ◌∙◌, MatchResult, Result, Ok, Err}
+use Rattle.std.specs.List.{AllZip, flat_map}
+use Rattle.iloc_grammar.specs.Pieces.{pieces}
 use Rattle.iloc_grammar.specs.Words.{IsTable}
-use Rattle.iloc_grammar.specs.Written.{identifier_pieces}
-use Rattle.iloc_grammar.specs.Values.{text}
-use Rattle.iloc_grammar.specs.Faults.{Fault}
+use Rattle.iloc_grammar.specs.Meaning.{Means, IdentifierMeans}
+use Rattle.iloc_grammar.specs.Values.{identifier_text, text}
+use Rattle.iloc_grammar.specs.Faults.{Fault, HasIdentifierFault, HasFault}
 use Rattle.iloc_grammar.proofs.IdentifierLaws as identifiers
+use Rattle.iloc_grammar.proofs.IdentifierTexts.{identifier_apart, one_identifier_fault}
 use Rattle.iloc_grammar.proofs.Readings as readings
-use Rattle.iloc_grammar.proofs.FaultLaws.{accepted_or_fault, accepted_no_fault, one_fault}
-use Rattle.iloc_regions.specs.DataLocales.{DataLocale, DataMeans, HasDataFault, data_text}
-use Rattle.iloc_output.specs.Output.{Mode, OfIdentifiers, OfLocales, OfDataLocales, refusal, IsAnswer, identifier, no_identifier, locale, no_locale, data_locale, no_data_locale, lines_of, ended, IsOutput}
-use Rattle.iloc_grammar.proofs.IdentifierTexts.{text_identifier_or_fault, identifier_apart, one_identifier_fault}
-use Rattle.iloc_regions.proofs.DataLaws.{data_answer, one_data, data_apart, one_data_fault}
+use Rattle.iloc_grammar.proofs.FaultLaws.{accepted_no_fault, one_fault}
+use Rattle.iloc_regions.specs.DataLocales.{DataMeans, HasDataFault, data_text}
 use Rattle.iloc_regions.specs.Computing.{data_result}
+use Rattle.iloc_regions.proofs.DataLaws.{data_answer, one_data, data_apart, one_data_fault}
+use Rattle.iloc_grammar.specs.Computing.{identifier_result, locale_result}
+use Rattle.iloc_output.specs.Lines.{lines_of, ended}
+use Rattle.iloc_output.specs.Output.{Mode, OfIdentifiers, OfLocales, OfDataLocales, refusal, IsAnswer, identifier, no_identifier, locale, no_locale, data_locale, no_data_locale, IsOutput, text_or_refusal, line_answer, reply, output}
+use Rattle.iloc_grammar.proofs.ComputingLaws.{text_identifier_answers, locale_answers}
+
+-- an answer to each result
+by_result : {X : Type 0} (P : X → Type 0) (F : Fault → Type 0) (A : List ℕ → Type 0) (print : X → List ℕ) → ((x : X) → P x → A (print x)) → ((f : Fault) → F f → A (refusal f)) → (o : Result X Fault) → MatchResult o P F → A (text_or_refusal print o)
+by_result P F A print ok err (Ok x) h = ok x h
+by_result P F A print ok err (Err f) h = err f h
 
 module _ {T : ℕ → Bool} (table : IsTable T) where
-  pub an_answer : (mode : Mode) (line : List ℕ) → (answer : List ℕ) × IsAnswer T line mode answer
-  an_answer OfIdentifiers line = elim (text_identifier_or_fault T line) [ inl x ↦ (join (identifier_pieces x.0), identifier x.1) | inr x ↦ (refusal x.0, no_identifier x.1) ]
-  an_answer OfLocales line = elim (accepted_or_fault T line) [ inl x ↦ (text x.0, locale x.1) | inr x ↦ (refusal x.0, no_locale x.1) ]
-  an_answer OfDataLocales line = at_result (data_result T line) (data_answer table line)
-    where
-      at_result : (o : Result DataLocale Fault) → MatchResult o (DataMeans T line) (HasDataFault T line) → (answer : List ℕ) × IsAnswer T line OfDataLocales answer
-      at_result (Ok d) h = (data_text d, data_locale h)
-      at_result (Err f) h = (refusal f, no_data_locale h)
+  pub is_answer : (mode : Mode) (line : List ℕ) → IsAnswer T line mode (line_answer T mode line)
+  unfolding line_answer
+  is_answer OfIdentifiers line = by_result (IdentifierMeans T (pieces line)) (HasIdentifierFault T (pieces line)) (IsAnswer T line OfIdentifiers) identifier_text (λ x h. identifier h) (λ f h. no_identifier h) (identifier_result T (pieces line)) (text_identifier_answers T line)
+  is_answer OfLocales line = by_result (Means T line) (HasFault T line) (IsAnswer T line OfLocales) text (λ x h. locale h) (λ f h. no_locale h) (locale_result T line) (locale_answers T table line)
+  is_answer OfDataLocales line = by_result (DataMeans T line) (HasDataFault T line) (IsAnswer T line OfDataLocales) data_text (λ x h. data_locale h) (λ f h. no_data_locale h) (data_result T line) (data_answer table line)
 
-  pub one_answer : (mode : Mode) (line : List ℕ) {a b : List ℕ} → IsAnswer T line mode a → IsAnswer T line mode b → a ≡ b
-  one_answer mode line (identifier x) (identifier y) = ap (λ i. join (identifier_pieces i)) (identifiers.one_meaning (pieces line) _ _ x y)
+  one_answer : (mode : Mode) (line : List ℕ) {a b : List ℕ} → IsAnswer T line mode a → IsAnswer T line mode b → a ≡ b
+  one_answer mode line (identifier x) (identifier y) = ap identifier_text (identifiers.one_meaning (pieces line) _ _ x y)
   one_answer mode line (identifier x) (no_identifier y) = absurd (identifier_apart _ _ _ x y)
   one_answer mode line (no_identifier x) (identifier y) = absurd (identifier_apart _ _ _ y x)
   one_answer mode line (no_identifier x) (no_identifier y) = ap refusal (one_identifier_fault _ x y)
@@ -39,20 +44,25 @@ module _ {T : ℕ → Bool} (table : IsTable T) where
   one_answer mode line (no_data_locale x) (data_locale y) = absurd (data_apart table line _ _ y x)
   one_answer mode line (no_data_locale x) (no_data_locale y) = ap refusal (one_data_fault line x y)
 
-  some_answers : (mode : Mode) (lines : List (List ℕ)) → (answers : List (List ℕ)) × AllZip (λ line answer. IsAnswer T line mode answer) lines answers
-  some_answers mode [] = ([], tt)
-  some_answers mode (line ∷ lines) = let a = an_answer mode line in let rest = some_answers mode lines in (a.0 ∷ rest.0, (a.1, rest.1))
+  pub only_answer : (mode : Mode) (line answer : List ℕ) → IsAnswer T line mode answer → answer ≡ line_answer T mode line
+  only_answer mode line answer h = one_answer mode line h (is_answer mode line)
 
-  one_list : (mode : Mode) (lines xs bs : List (List ℕ)) → AllZip (λ line answer. IsAnswer T line mode answer) lines xs → AllZip (λ line answer. IsAnswer T line mode answer) lines bs → xs ≡ bs
-  one_list mode [] [] [] h k = refl
-  one_list mode [] [] (b ∷ bs) h k = absurd k
-  one_list mode [] (a ∷ xs) bs h k = absurd h
-  one_list mode (l ∷ lines) [] bs h k = absurd h
-  one_list mode (l ∷ lines) (a ∷ xs) [] h k = absurd k
-  one_list mode (l ∷ lines) (a ∷ xs) (b ∷ bs) h k = λ i. one_answer mode l h.0 k.0 i ∷ one_list mode lines xs bs h.1 k.1 i
+  all_answers : (mode : Mode) (lines : List (List ℕ)) → AllZip (λ line answer. IsAnswer T line mode answer) lines (map (line_answer T mode) lines)
+  all_answers mode [] = tt
+  all_answers mode (line ∷ lines) = (is_answer mode line, all_answers mode lines)
 
-  pub an_output : (mode : Mode) (input : List ℕ) → (output : List ℕ) × IsOutput T mode input output
-  an_output mode input = let a = some_answers mode (lines_of input) in (ended a.0, record { answers = a.0; each = a.1; are = refl })
+  only_answers : (mode : Mode) (lines answers : List (List ℕ)) → AllZip (λ line answer. IsAnswer T line mode answer) lines answers → answers ≡ map (line_answer T mode) lines
+  only_answers mode [] [] h = refl
+  only_answers mode [] (a ∷ xs) h = absurd h
+  only_answers mode (line ∷ lines) [] h = absurd h
+  only_answers mode (line ∷ lines) (a ∷ xs) h = λ i. only_answer mode line a h.0 i ∷ only_answers mode lines xs h.1 i
 
-  pub one_output : (mode : Mode) (input a b : List ℕ) → IsOutput T mode input a → IsOutput T mode input b → a ≡ b
-  one_output mode input a b h k = h.are ∙ ap ended (one_list mode (lines_of input) h.answers k.answers h.each k.each) ∙ sym k.are
+  replies : (mode : Mode) (lines : List (List ℕ)) → flat_map (reply T mode) lines ≡ ended (map (line_answer T mode) lines)
+  replies mode [] = refl
+  replies mode (line ∷ lines) = ap (λ (l : List ℕ). reply T mode line ++ l) (replies mode lines)
+
+  pub is_output : (mode : Mode) (input : List ℕ) → IsOutput T mode input (output T mode input)
+  is_output mode input = record { answers = map (line_answer T mode) (lines_of input); each = all_answers mode (lines_of input); are = replies mode (lines_of input) }
+
+  pub only_output : (mode : Mode) (input written : List ℕ) → IsOutput T mode input written → written ≡ output T mode input
+  only_output mode input written h = h.are ∙ ap ended (only_answers mode (lines_of input) h.answers h.each) ∙ sym (replies mode (lines_of input))

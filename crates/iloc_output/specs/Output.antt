@@ -1,13 +1,17 @@
--- What the program writes for what it reads.
-use Rattle.std.specs.Prelude.{◌≡◌, ℕ, ◌==◌, Bool, List, [], ◌∷◌, ◌++◌, codes, if◌then◌else◌}
+-- What the program writes for what it reads: the answer to each line. This project's rule.
+use Rattle.std.specs.Prelude.{◌≡◌, ℕ, Bool, List, [], ◌∷◌, ◌++◌, codes, Result, Ok, Err}
 use Rattle.std.specs.List.{flat_map, AllZip}
-use Rattle.iloc_grammar.specs.Pieces.{pieces, join}
-use Rattle.iloc_grammar.specs.Written.{Identifier, identifier_pieces}
+use Rattle.iloc_grammar.specs.Pieces.{pieces}
+use Rattle.iloc_grammar.specs.Written.{Identifier}
 use Rattle.iloc_grammar.specs.Meaning.{Locale, Means, IdentifierMeans}
-use Rattle.iloc_grammar.specs.Values.{text}
+use Rattle.iloc_grammar.specs.Values.{identifier_text, text}
 use Rattle.iloc_grammar.specs.Faults.{Fault, InvalidLanguage, InvalidSubtag, InvalidExtension, DuplicatedExtension, HasIdentifierFault, HasFault}
 use Rattle.iloc_regions.specs.DataLocales.{DataLocale, DataMeans, HasDataFault, data_text}
+use Rattle.iloc_regions.specs.Computing.{data_result}
+use Rattle.iloc_grammar.specs.Computing.{identifier_result, locale_result}
+use Rattle.iloc_output.specs.Lines.{lines_of, ended}
 
+-- what each line is read as
 pub data Mode : Type 0 where
   OfIdentifiers OfLocales OfDataLocales : Mode
 
@@ -20,30 +24,35 @@ fault_words DuplicatedExtension = codes "Duplicated extension"
 abbrev pub refusal : Fault → List ℕ
 refusal f = codes "! " ++ fault_words f
 
--- the answer to a line: its normal text, or why there is none
+-- The answer to a line, in the words of the grammar: the text of its meaning, or why there is none.
 pub data IsAnswer (T : ℕ → Bool) (line : List ℕ) : Mode → List ℕ → Type 0 where
-  identifier : {i : Identifier} → IdentifierMeans T (pieces line) i → IsAnswer T line OfIdentifiers (join (identifier_pieces i))
+  identifier : {i : Identifier} → IdentifierMeans T (pieces line) i → IsAnswer T line OfIdentifiers (identifier_text i)
   no_identifier : {f : Fault} → HasIdentifierFault T (pieces line) f → IsAnswer T line OfIdentifiers (refusal f)
   locale : {M : Locale} → Means T line M → IsAnswer T line OfLocales (text M)
   no_locale : {f : Fault} → HasFault T line f → IsAnswer T line OfLocales (refusal f)
   data_locale : {d : DataLocale} → DataMeans T line d → IsAnswer T line OfDataLocales (data_text d)
   no_data_locale : {f : Fault} → HasDataFault T line f → IsAnswer T line OfDataLocales (refusal f)
 
--- c at the front of the first line, which it begins where there is none
-abbrev pub onto_first : ℕ → List (List ℕ) → List (List ℕ)
-onto_first c [] = (c ∷ []) ∷ []
-onto_first c (line ∷ lines) = (c ∷ line) ∷ lines
-
--- the lines of a text: it is cut at each LF, and a last line without one counts where it isn't empty
-abbrev pub lines_of : List ℕ → List (List ℕ)
-lines_of [] = []
-lines_of (c ∷ cs) = if c == 10 then [] ∷ lines_of cs else onto_first c (lines_of cs)
-
-abbrev pub ended : List (List ℕ) → List ℕ
-ended lines = flat_map (λ line. line ++ 10 ∷ []) lines
-
--- the whole answer to an input: its lines' answers, each with an LF
+-- The answer to an input: its lines' answers, each with an LF.
 pub record IsOutput (T : ℕ → Bool) (mode : Mode) (input output : List ℕ) : Type 0 where
   pub answers : List (List ℕ)
   pub each : AllZip (λ line answer. IsAnswer T line mode answer) (lines_of input) answers
   pub are : output ≡ ended answers
+
+-- Both by computing.
+
+abbrev pub text_or_refusal : {X : Type 0} → (X → List ℕ) → Result X Fault → List ℕ
+text_or_refusal print (Ok x) = print x
+text_or_refusal print (Err f) = refusal f
+
+unfoldable pub line_answer : (ℕ → Bool) → Mode → List ℕ → List ℕ
+line_answer T OfIdentifiers line = text_or_refusal identifier_text (identifier_result T (pieces line))
+line_answer T OfLocales line = text_or_refusal text (locale_result T line)
+line_answer T OfDataLocales line = text_or_refusal data_text (data_result T line)
+
+-- what is written for a line, and for all
+abbrev pub reply : (ℕ → Bool) → Mode → List ℕ → List ℕ
+reply T mode line = line_answer T mode line ++ 10 ∷ []
+
+abbrev pub output : (ℕ → Bool) → Mode → List ℕ → List ℕ
+output T mode input = flat_map (reply T mode) (lines_of input)

@@ -1,14 +1,33 @@
 //! What the program answers to an input.
 //!
-//! Each input has one output in each mode. It stands on `iloc_grammar`, `iloc_fronts` and `iloc_regions`.
+//! From the plain programs that say what a text means as an identifier, a locale or a data locale, or its fault, the
+//! answer to each line and the output for each input are computed. They are proved to be the one answer and the one
+//! output that the grammar allows. It stands on `iloc_grammar`, `iloc_small` and `iloc_regions`.
 #![tactic(auto)]
 
-ghost use Rattle.std.specs.Prelude.{◌≡◌, ℕ, Bool, List};
+ghost use Rattle.std.specs.Prelude.{◌≡◌, ℕ, ◌<◌, Bool, List, ◌∷◌, ◌++◌, length};
 ghost use Rattle.iloc_grammar.specs.Words.{IsTable};
-ghost use Rattle.iloc_output.specs.Output.{Mode, IsOutput};
+ghost use Rattle.iloc_output.specs.Lines.{IsOneLine, ReadsEnded, ReadsOpen, IsEndedOrOpen};
+ghost use Rattle.iloc_output.specs.Output.{Mode, IsAnswer, IsOutput, line_answer, reply, output};
 
-/// There is one output for each input.
+/// What is computed of a line is its one answer in the words of the grammar.
+pub fn line_answers()
+    ensures is { (T : ℕ → Bool) → IsTable T → (mode : Mode) (line : List ℕ) → IsAnswer T line mode (line_answer T mode line) }
+    ensures only { (T : ℕ → Bool) → IsTable T → (mode : Mode) (line answer : List ℕ) → IsAnswer T line mode answer → answer ≡ line_answer T mode line }
+{}
+
+/// What is computed of an input is its one output.
 pub fn outputs()
-    ensures some { (T : ℕ → Bool) → IsTable T → (mode : Mode) (input : List ℕ) → (output : List ℕ) × IsOutput T mode input output }
-    ensures one { (T : ℕ → Bool) → IsTable T → (mode : Mode) (input a b : List ℕ) → IsOutput T mode input a → IsOutput T mode input b → a ≡ b }
+    ensures is { (T : ℕ → Bool) → IsTable T → (mode : Mode) (input : List ℕ) → IsOutput T mode input (output T mode input) }
+    ensures only { (T : ℕ → Bool) → IsTable T → (mode : Mode) (input written : List ℕ) → IsOutput T mode input written → written ≡ output T mode input }
+{}
+
+/// Lines are cut at each LF, and a last one without LF counts where it isn't empty; so the output goes on line by line.
+pub fn lines()
+    ensures ended { ReadsEnded }
+    ensures open { ReadsOpen }
+    ensures all { IsEndedOrOpen }
+    ensures line { (T : ℕ → Bool) (mode : Mode) (line rest : List ℕ) → IsOneLine line → output T mode (line ++ 10 ∷ rest) ≡ reply T mode line ++ output T mode rest }
+    ensures last { (T : ℕ → Bool) (mode : Mode) (line : List ℕ) → IsOneLine line → 0 < length line → output T mode line ≡ reply T mode line }
+    ensures cut { (T : ℕ → Bool) (mode : Mode) (pending piece line later next : List ℕ) → IsOneLine pending → IsOneLine line → piece ≡ line ++ 10 ∷ later → output T mode (pending ++ (piece ++ next)) ≡ reply T mode (pending ++ line) ++ output T mode (later ++ next) }
 {}

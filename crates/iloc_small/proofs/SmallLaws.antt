@@ -10,7 +10,7 @@ use Rattle.iloc_grammar.specs.Pieces.{pieces}
 use Rattle.iloc_grammar.specs.Words.{Kind, Language, Script, Region, Variant, UnicodeKey, Attribute, is_word, IsWord, IsTable, lower, word_cmp}
 use Rattle.iloc_grammar.specs.Written.{Identifier, Unicode, Extension, unicode, identifier_pieces, HasWords, IsWritten, singleton, block_pieces, blocks_of, AllDifferent}
 use Rattle.iloc_grammar.specs.Meaning.{Locale, Means, meaning, set_of, normal_values, unicode_part, transform_part, IdentifierMeans, normal_identifier}
-use Rattle.iloc_grammar.specs.Faults.{Fault, InvalidLanguage, InvalidSubtag, InvalidExtension, head, tail_blocks, front, first_piece}
+use Rattle.iloc_grammar.specs.Faults.{Fault, head, tail_blocks, front, first_piece}
 use Rattle.iloc_grammar.proofs.WordsLaws.{length-attribute, length-unicode_key}
 use Rattle.iloc_grammar.proofs.IdentifierLaws as identifiers
 use Rattle.iloc_grammar.proofs.IdentifierLaws.{pieces-identifier_of, identifier_of-pieces}
@@ -19,6 +19,7 @@ use Rattle.iloc_grammar.specs.Faults.{first_piece}
 use Rattle.iloc_grammar.proofs.Readings.{one_meaning, head-spelling, blocks-spelling}
 use Rattle.iloc_grammar.proofs.FaultLaws.{head-and-blocks}
 use Rattle.iloc_grammar.proofs.PiecesLaws.{pieces_nonempty}
+use Rattle.iloc_grammar.proofs.RuleTests.{Tests, tests_all, tests_word}
 use Rattle.iloc_small.specs.Computing.{has_small_variants, small_identifier_result, block_fault, has_small_keyword, is_u, is_small_block, keyword_read, blocks_result, after_identifier, small_result}
 use Rattle.iloc_small.specs.Small.{SmallIdentifier, SmallLocale, identifier_of_small, keyword_of_small, locale_of_small, small_identifier, IsSmallIdentifier, small_written, IsSmall, HasSmallIdentifierFault, no_language, no_identifier, SmallBlockFault, no_singleton, not_u, attribute, no_key, after_key, HasSmallFault, bad_head, bad_block}
 
@@ -107,13 +108,8 @@ one_small table t r s a b = sym (small_of-locale_of_small r) ∙ ap small_of_loc
 
 -- reading an identifier
 
-pub all_from : {X : Type 0} (f : X → Bool) (xs : List X) → list_all f xs ≡ true → AllByRecursion (λ x. f x ≡ true) xs
-all_from f [] h = tt
-all_from f (x ∷ xs) h = let parts = and_parts _ _ h in (parts.0, all_from f xs parts.1)
-
-pub all_to : {X : Type 0} (f : X → Bool) (xs : List X) → AllByRecursion (λ x. f x ≡ true) xs → list_all f xs ≡ true
-all_to f [] h = refl
-all_to f (x ∷ xs) h = and_from _ _ h.0 (all_to f xs h.1)
+all_words : (k : Kind) (ps : List (List ℕ)) → Tests (list_all (is_word k) ps) (AllByRecursion (IsWord k) ps)
+all_words k ps = tests_all (is_word k) (IsWord k) (tests_word k) ps
 
 taken : (k : Kind) (qs : List (List ℕ)) → IfSome (take_first (is_word k) qs) (IsWord k)
 taken k [] = tt
@@ -130,7 +126,7 @@ small_read T p ps h v =
     let few : length i.variants ≤ 1 = leb-true _ _ parts.1 in
     record {
       written = i;
-      grammatical = record { words = words_read T p ps h (all_from (is_word Variant) i.variants parts.0); different = short_different i.variants few };
+      grammatical = record { words = words_read T p ps h ((all_words Variant i.variants).holds parts.0); different = short_different i.variants few };
       spelled = sym (pieces-identifier_of p ps);
       one_variant = few;
       means = refl;
@@ -139,7 +135,7 @@ small_read T p ps h v =
 small_unread : (T : ℕ → Bool) (p : List ℕ) (ps : List (List ℕ)) (r : SmallIdentifier) → IsSmallIdentifier T (p ∷ ps) r → has_small_variants (identifier_of (p ∷ ps)).variants ≡ true
 small_unread T p ps r h =
     let e : identifier_of (p ∷ ps) ≡ h.written = ap identifier_of h.spelled ∙ identifier_of-pieces h.written h.grammatical.words in
-    ap (λ (i : Identifier). has_small_variants i.variants) e ∙ and_from _ _ (all_to (is_word Variant) h.written.variants h.grammatical.words.variants) (le-leb _ _ h.one_variant)
+    ap (λ (i : Identifier). has_small_variants i.variants) e ∙ and_from _ _ ((all_words Variant h.written.variants).passes h.grammatical.words.variants) (le-leb _ _ h.one_variant)
 
 spelled_language : {T : ℕ → Bool} (p : List ℕ) (ps : List (List ℕ)) (i : Identifier) → HasWords T i → p ∷ ps ≡ identifier_pieces i → IsWord (Language T) p
 spelled_language {T = T} p ps i h e = subst (λ (l : List (List ℕ)). is_word (Language T) (first_piece l) ≡ true) (sym e) h.language
@@ -223,7 +219,7 @@ module _ {T : ℕ → Bool} (t : List ℕ) (p : List ℕ) (ps : List (List ℕ))
       record {
         id = h.written;
         keyword = Some (c, (q, qs));
-        grammatical = record { id = h.grammatical; extensions = ((eqb-true _ _ parts.0, record { attributes = tt; keywords = ((word.0, all_from (is_word Attribute) qs values.0), tt); nonempty = omega arith }), tt); different = (refl, tt); private = tt };
+        grammatical = record { id = h.grammatical; extensions = ((eqb-true _ _ parts.0, record { attributes = tt; keywords = ((word.0, (all_words Attribute qs).holds values.0), tt); nonempty = omega arith }), tt); different = (refl, tt); private = tt };
         spelled = spelled_by ((c ∷ []) ∷ (q ∷ (qs ++ [])) ++ []) (ap (flat_map block_pieces) k ∙ ap (λ (l : List (List ℕ)). (c ∷ []) ∷ q ∷ (l ++ [])) (sym (append-nil qs)));
         one_variant = h.one_variant;
         one_value = leb-true _ _ values.1;
@@ -238,7 +234,7 @@ has_small_block {T = T} table t r h b bs e = from h.keyword h.grammatical h.one_
     from None g o e = absurd (cc)
     from (Some k) g o e =
         let word = g.extensions.0.1.keywords.0 in
-        let here : is_small_block (k.0, k.1.0 ∷ k.1.1) [] ≡ true = and_from (is_u k.0) (has_small_keyword (k.1.0 ∷ k.1.1)) (eq-eqb _ _ g.extensions.0.0) (and_from (is_word UnicodeKey k.1.0) _ word.0 (and_from (list_all (is_word Attribute) k.1.1) _ (all_to (is_word Attribute) k.1.1 word.1) (le-leb _ _ o))) in
+        let here : is_small_block (k.0, k.1.0 ∷ k.1.1) [] ≡ true = and_from (is_u k.0) (has_small_keyword (k.1.0 ∷ k.1.1)) (eq-eqb _ _ g.extensions.0.0) (and_from (is_word UnicodeKey k.1.0) _ word.0 (and_from (list_all (is_word Attribute) k.1.1) _ ((all_words Attribute k.1.1).passes word.1) (le-leb _ _ o))) in
         let b_is : b ≡ (k.0, k.1.0 ∷ (k.1.1 ++ [])) = cc in
         let bs_is : bs ≡ [] = cc in
         (λ i. is_small_block (b_is i) (bs_is i)) ∙ ap (λ (l : List (List ℕ)). is_small_block (k.0, k.1.0 ∷ l) []) (append-nil k.1.1) ∙ here

@@ -6,7 +6,7 @@ use Rattle.iloc_grammar.specs.Words.{Subtag, is_word}
 use Rattle.iloc_grammar.specs.Meaning.{normal_values}
 use Rattle.iloc_grammar.specs.Reading.{passing, past, first_item}
 use Rattle.iloc_grammar.specs.Faults as faults
-use Rattle.iloc_fronts.specs.Fronts.{unicode_value}
+use Rattle.iloc_fronts.specs.PartValues.{unicode_value}
 
 all_past : (test : List ℕ → Bool) (ps : List (List ℕ)) → first_item (past test ps) ≡ None → (list_all test ps ≡ true) × (passing test ps ≡ ps)
 all_past test [] e = (refl, refl)

@@ -5,7 +5,7 @@ use Rattle.iloc_grammar.specs.Words.{Subtag, is_word}
 use Rattle.iloc_grammar.specs.Meaning.{normal_values}
 use Rattle.iloc_grammar.specs.Reading.{passing}
 use Rattle.iloc_grammar.specs.Faults as faults
-use Rattle.iloc_fronts.specs.Fronts.{unicode_value}
+use Rattle.iloc_fronts.specs.PartValues.{unicode_value}
 use Rattle.iloc_subtags.specs.declared.parse_error.ParseError.{ParseError}
 use Rattle.iloc_subtags.specs.declared.parse_error.ParseError.TheVariants.{InvalidLanguage, InvalidSubtag, InvalidExtension, DuplicatedExtension, OutOfMemory}
 

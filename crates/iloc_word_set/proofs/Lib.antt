@@ -1,1 +1,3 @@
+pub mod AscendingLaws
+pub mod PrintLaws
 pub mod SetLaws

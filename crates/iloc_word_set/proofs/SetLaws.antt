@@ -1,19 +1,21 @@
--- A set of words as an ascending list: where a search ends, and one word more or less.
-use Rattle.std.proofs.Common.{◌≡◌, ℕ, zero, suc, ◌<◌, ◌≤◌, true, false, ◌||◌, List, [], ◌∷◌, length, map, refl, sym, ap, ◌∙◌, arith}
-use Rattle.std.specs.Prelude.{insert}
+-- A set of words as an ascending list: where a search ends, and words more or less.
+use Rattle.std.proofs.Common.{◌≡◌, ℕ, zero, suc, ◌<◌, ◌≤◌, Bool, true, false, cond, not, ◌||◌, T, List, [], ◌∷◌, ◌++◌, length, map, filter, remove, drop, get_or, append-nil, ◌+◌, refl, sym, ap, ◌∙◌, subst, arith, Option, Some, None}
+use Rattle.std.specs.Prelude.{insert, is_some}
 use Rattle.std.specs.List.{AllByRecursion, HoldsAt, list_any, slice_index_or}
 use Rattle.std.specs.List.Sorted.{IsNonDecreasingBy, IsPartitionPoint}
 use Rattle.std.specs.Ordering.{ordering_index, ordering_reverse, is_lt}
 use Rattle.std.specs.declared.cmp.Ordering.{Ordering}
 use Rattle.std.specs.declared.cmp.Ordering.TheVariants.{Less, Equal, Greater}
-use Rattle.std.specs.FinMap.{put}
-use Rattle.std.specs.FinMap.Entries.{below_all}
+use Rattle.std.specs.FinMap.{put, find, is_sorted}
+use Rattle.std.specs.FinMap.Entries.{by_order, below_all, is_some-find, where_key, is_sorted-where_key}
 use Rattle.std.proofs.lemmas.Bool.{and_parts}
+use Rattle.std.proofs.Math.Seq.{drop-cons}
 use Rattle.iloc_grammar.specs.Words.{word_cmp, is_same}
-use Rattle.iloc_grammar.specs.Meaning.{set_of}
+use Rattle.iloc_grammar.specs.Meaning.{map_of, set_of}
 use Rattle.iloc_grammar.specs.Values.{IsAscending}
-use Rattle.iloc_grammar.proofs.MapLaws.{word_cmp_total, same_words, map_of_sorted}
-use Rattle.iloc_grammar.proofs.ValuesLaws.{unmarked}
+use Rattle.iloc_grammar.proofs.MapLaws.{word_cmp_total, same_words, to_T, find-map_of, map_of_same, map_of_sorted}
+use Rattle.iloc_grammar.proofs.ValuesLaws.{unmarked, set_of_ascending}
+use Rattle.iloc_word_set.specs.Ascending.{ascends}
 
 abbrev marked : List (List ℕ) → List (List ℕ × Unit {0})
 marked ws = map (λ w. (w, tt {0})) ws
@@ -137,3 +139,137 @@ pub record IsThere (x : List ℕ) (ws : List (List ℕ)) : Type 0 where
 pub search_old : (slice ws : List (List ℕ)) (x : List ℕ) (i : ℕ) → slice ≡ ws → IsAscending ws → i < length slice → HoldsAt (λ y. word_cmp y x ≡ Equal) slice i → IsThere x ws
 search_old slice ws x i e s l h =
     rw (← e) (record { present = tied_is_there x slice i l h; set = sym (set_of-put x slice (rw e s) ∙ put_there x slice i l (rw e s) h) })
+
+-- one word less
+
+kept_above : (x : List ℕ) (ws : List (List ℕ)) → AllByRecursion (λ v. word_cmp x v ≡ Less) ws → filter (λ w. not (is_same x w)) ws ≡ ws
+kept_above x [] h = refl
+kept_above x (w ∷ ws) h = rw h.0 (ap (λ l. w ∷ l) (kept_above x ws h.1))
+
+remove_is_filter : (x : List ℕ) (ws : List (List ℕ)) (i : ℕ) → i < length ws → IsAscending ws → HoldsAt (λ y. word_cmp y x ≡ Equal) ws i → remove ws i ≡ filter (λ w. not (is_same x w)) ws
+remove_is_filter x [] i l s h = absurd (omega (arith, l))
+remove_is_filter x (y ∷ ys) zero l s h =
+    let same : y ≡ x = same_words y x (h y) in
+    rw (turned x y Equal (h y)) (sym (kept_above x ys (subst (λ z. AllByRecursion (λ v. word_cmp z v ≡ Less) ys) same (first_below y ys s))))
+remove_is_filter x (y ∷ ys) (suc i) l s h =
+    rw (before_tied x y ys i (omega (arith, l)) (first_below y ys s) h) (ap (λ l. y ∷ l) (remove_is_filter x ys i (omega (arith, l)) (rest_ascends y ys s) h))
+
+kept_first : (x w : List ℕ) (ws left : List (List ℕ)) → left ≡ ws → (is_same x w || list_any (is_same x) ws) ≡ false → cond (not (is_same x w)) (w ∷ left) left ≡ w ∷ ws
+kept_first x w ws left e h = elim (is_same x w) as (λ b. (b || list_any (is_same x) ws) ≡ false → cond (not b) (w ∷ left) left ≡ w ∷ ws) [ true ↦ λ k. cc | false ↦ λ k. ap (λ l. w ∷ l) e ] h
+
+later_absent : (a b : Bool) → (a || b) ≡ false → b ≡ false
+later_absent true b h = cc
+later_absent false b h = h
+
+-- what is not there is not taken out
+pub kept_all : (x : List ℕ) (ws : List (List ℕ)) → list_any (is_same x) ws ≡ false → filter (λ w. not (is_same x w)) ws ≡ ws
+kept_all x [] h = refl
+kept_all x (w ∷ ws) h = kept_first x w ws _ (kept_all x ws (later_absent (is_same x w) _ h)) h
+
+pub search_removed : (slice ws : List (List ℕ)) (x : List ℕ) (i : ℕ) → slice ≡ ws → IsAscending ws → i < length slice → HoldsAt (λ y. word_cmp y x ≡ Equal) slice i → remove ws i ≡ filter (λ w. not (is_same x w)) ws
+search_removed slice ws x i e s l h = rw (← e) (remove_is_filter x slice i l (rw e s) h)
+
+holds : (b : Bool) → T b → b ≡ true
+holds true h = refl
+holds false h = absurd h
+
+marked-filter : (p : List ℕ → Bool) (ws : List (List ℕ)) → where_key word_cmp p (marked ws) ≡ marked (filter p ws)
+marked-filter p [] = refl
+marked-filter p (w ∷ ws) = elim (p w) as (λ b. cond b ((w, tt {0}) ∷ where_key word_cmp p (marked ws)) (where_key word_cmp p (marked ws)) ≡ marked (cond b (w ∷ filter p ws) (filter p ws))) [
+  | true ↦ ap (λ l. (w, tt {0}) ∷ l) (marked-filter p ws)
+  | false ↦ marked-filter p ws
+]
+
+pub ascending-filter : (p : List ℕ → Bool) (ws : List (List ℕ)) → IsAscending ws → IsAscending (filter p ws)
+ascending-filter p ws h = holds _ (subst (λ es. T (is_sorted word_cmp es)) (marked-filter p ws) (is_sorted-where_key word_cmp p (marked ws) (to_T _ h)))
+
+pub all-filter : (P : List ℕ → Type 0) (p : List ℕ → Bool) (ws : List (List ℕ)) → AllByRecursion P ws → AllByRecursion P (filter p ws)
+all-filter P p [] h = tt
+all-filter P p (w ∷ ws) h = elim (p w) as (λ b. AllByRecursion P (cond b (w ∷ filter p ws) (filter p ws))) [ true ↦ (h.0, all-filter P p ws h.1) | false ↦ all-filter P p ws h.1 ]
+
+-- the words of two sets
+
+same_mark : (a b : Option (Unit {0})) → is_some a ≡ is_some b → a ≡ b
+same_mark None None e = refl
+same_mark None (Some y) e = cc
+same_mark (Some x) None e = cc
+same_mark (Some x) (Some y) e = refl
+
+is_some-marked : (q : List ℕ) (ws : List (List ℕ)) → is_some (find word_cmp q (marked ws)) ≡ list_any (is_same q) ws
+is_some-marked q ws = is_some-find word_cmp q (marked ws) ∙ ap (list_any (is_same q)) (unmarked ws)
+
+-- lists with the same words have one set
+pub same_set : (vs ws : List (List ℕ)) → ((q : List ℕ) → list_any (is_same q) vs ≡ list_any (is_same q) ws) → set_of vs ≡ set_of ws
+same_set vs ws h = ap keys (map_of_same word_cmp word_cmp_total same_words (marked vs) (marked ws) (λ q. same_mark _ _ (is_some-marked q vs ∙ h q ∙ sym (is_some-marked q ws))))
+
+-- a word is in the set where it is in the list
+pub any-set_of : (q : List ℕ) (ws : List (List ℕ)) → list_any (is_same q) (set_of ws) ≡ list_any (is_same q) ws
+any-set_of q ws = sym (is_some-find word_cmp q (map_of word_cmp (marked ws))) ∙ ap is_some (find-map_of word_cmp word_cmp_total q (marked ws)) ∙ is_some-marked q ws
+
+any-append : (q : List ℕ) (vs ws : List (List ℕ)) → list_any (is_same q) (vs ++ ws) ≡ (list_any (is_same q) vs || list_any (is_same q) ws)
+any-append q [] ws = refl
+any-append q (v ∷ vs) ws = elim (is_same q v) as (λ b. (b || list_any (is_same q) (vs ++ ws)) ≡ ((b || list_any (is_same q) vs) || list_any (is_same q) ws)) [ true ↦ refl | false ↦ any-append q vs ws ]
+
+moved : (a b c : Bool) → ((a || b) || c) ≡ (b || (a || c))
+moved true true c = refl
+moved true false c = refl
+moved false true c = refl
+moved false false c = refl
+
+-- a word moves from the words that are left to the set
+pub union_step : (x : List ℕ) (ws rest : List (List ℕ)) → set_of (set_of (x ∷ ws) ++ rest) ≡ set_of (ws ++ x ∷ rest)
+union_step x ws rest = same_set _ _ (λ q.
+    any-append q (set_of (x ∷ ws)) rest
+    ∙ ap (λ b. b || list_any (is_same q) rest) (any-set_of q (x ∷ ws))
+    ∙ moved (is_same q x) (list_any (is_same q) ws) (list_any (is_same q) rest)
+    ∙ sym (any-append q ws (x ∷ rest)))
+
+length-keys_put : (x : List ℕ) (ws : List (List ℕ)) → length (keys (put word_cmp x (tt {0}) (marked ws))) ≤ suc (length ws)
+length-keys_put x [] = omega arith
+length-keys_put x (y ∷ ys) =
+    let same = ap length (unmarked ys) in
+    let more = length-keys_put x ys in
+    elim (word_cmp x y) as (λ r. length (keys (by_order r ((x, tt {0}) ∷ (y, tt {0}) ∷ marked ys) ((y, tt {0}) ∷ marked ys) ((y, tt {0}) ∷ put word_cmp x (tt {0}) (marked ys)))) ≤ suc (suc (length ys))) [
+      | Less ↦ omega (arith, same)
+      | Equal ↦ omega (arith, same)
+      | Greater ↦ omega (arith, more)
+    ]
+
+-- a set grows by one word at most
+pub length-set_of : (x : List ℕ) (ws : List (List ℕ)) → IsAscending ws → length (set_of (x ∷ ws)) ≤ suc (length ws)
+length-set_of x ws h = rw (set_of-put x ws h) (length-keys_put x ws)
+
+-- lists that ascend
+
+below_later : (x y : List ℕ) (ws : List (List ℕ)) → word_cmp x y ≡ Less → below_all word_cmp y (marked ws) ≡ true → below_all word_cmp x (marked ws) ≡ true
+below_later x y [] l h = refl
+below_later x y (w ∷ ws) l h = let parts = and_parts _ _ h in rw (word_cmp_total.trans x y w l (less _ parts.0)) (below_later x y ws l parts.1)
+
+-- the test for a set is what a set keeps
+pub set_ascends : (ws : List (List ℕ)) → ascends word_cmp ws ≡ true → IsAscending ws
+set_ascends [] h = refl
+set_ascends (x ∷ []) h = refl
+set_ascends (x ∷ (y ∷ ws)) h =
+    let parts = and_parts _ _ h in
+    let later = set_ascends (y ∷ ws) parts.1 in
+    let down = less _ parts.0 in
+    rw (down, below_later x y ws down (and_parts _ _ later).0) later
+
+past_end : (xs : List (List ℕ)) (i : ℕ) → length xs ≤ i → drop i xs ≡ []
+past_end [] zero h = refl
+past_end [] (suc i) h = refl
+past_end (x ∷ xs) zero h = absurd (omega (arith, h))
+past_end (x ∷ xs) (suc i) h = past_end xs i (omega (arith, h))
+
+-- the end of a union
+pub union_done : (ws items all : List (List ℕ)) (i : ℕ) → length items ≤ i → IsAscending ws → set_of (ws ++ drop i items) ≡ set_of all → ws ≡ set_of all
+union_done ws items all i l s e =
+    sym (set_of_ascending ws s) ∙ ap set_of (sym (append-nil ws) ∙ ap (λ rest. ws ++ rest) (sym (past_end items i l))) ∙ e
+
+pub union_next : (x : List ℕ) (ws items new all : List (List ℕ)) (i : ℕ) → i < length items → x ≡ get_or items i x → new ≡ set_of (x ∷ ws) → set_of (ws ++ drop i items) ≡ all → set_of (new ++ drop (i + 1) items) ≡ all
+union_next x ws items new all i l is e h =
+    let next : i + 1 ≡ suc i = omega arith in
+    ap (λ s. set_of (s ++ drop (i + 1) items)) e ∙ union_step x ws (drop (i + 1) items)
+    ∙ ap (λ n. set_of (ws ++ x ∷ drop n items)) next
+    ∙ ap (λ y. set_of (ws ++ y ∷ drop (suc i) items)) is
+    ∙ ap (λ l. set_of (ws ++ l)) (sym (drop-cons items i x l)) ∙ h

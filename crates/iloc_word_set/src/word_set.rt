@@ -1,17 +1,26 @@
 //! The ascending set of words of a kind.
-ghost use Rattle.std.specs.Prelude.{◌≡◌, ◌<◌, ◌≤◌, ◌==◌, [], ◌∷◌, ◌++◌, true, not, length, filter, IfOk, OnOk, OnErr, IsOk};
+ghost use Rattle.std.specs.Prelude.{◌≡◌, ◌<◌, ◌≤◌, ◌+◌, ◌==◌, [], ◌∷◌, ◌++◌, true, not, length, filter, IfOk, OnOk, OnErr, IsOk};
 ghost use Rattle.std.specs.List.{list_any, AllByRecursion};
-ghost use Rattle.iloc_grammar.specs.Words.{is_same};
+ghost use Rattle.std.specs.Slice.{IsItemAt};
+ghost use Rattle.std.specs.Slice.Iter.{iter_rest};
+ghost use Rattle.iloc_grammar.specs.Words.{is_same, word_cmp};
+ghost use Rattle.iloc_word_set.specs.Ascending.{ascends};
 ghost use Rattle.iloc_grammar.specs.Meaning.{set_of};
 ghost use Rattle.iloc_grammar.specs.Values.{IsNormal, IsAscending};
 
 use iloc_shortvec::ShortWords;
-use iloc_subtags::{Variant, VariantKind, WordKind, WordOf};
+use iloc_subtags::{Variant, VariantKind, WordKind, WordOf, are_normal, is_normal};
 use std::alloc::{AllocError, Global};
 use std::marker::Model;
+use std::mem::replace;
+use std::slice::Iter;
 
 /// A set of words of the kind `K`, seen by contracts as the list of their texts, which ascends strictly.
+///
+/// Sets are equal where they have the same words. They stand in the order of short lists: those of at
+/// most one word before all larger ones, and word by word within each class.
 #[derive(Drop)]
+#[derive_where(PartialEq, Eq, PartialOrd, Ord, Hash)]
 pub struct WordSet<K: WordKind<N>, const N: usize> {
     words: ShortWords<WordOf<K, N>>,
 }
@@ -26,9 +35,11 @@ impl<K: WordKind<N>, const N: usize> Model for WordSet<K, N> {
     ghost view = { λ s. s.words };
 
     ghost invariant = { λ s. IsAscending s.words × AllByRecursion (IsNormal K.kind) s.words };
+
+    ghost inverse = { λ words. record { words = words } };
 }
 
-/// The variants of an identifier: each a word of 4 to 8 letters or digits, in lower case.
+/// The variants of an identifier, as `macos` and `posix`.
 pub type Variants = WordSet<VariantKind, 8>;
 
 impl WordSet<VariantKind, 8> {
@@ -54,9 +65,20 @@ impl<K: WordKind<N>, const N: usize> WordSet<K, N> {
     pub fn from_word(word: WordOf<K, N>) -> Self
         ensures { result ≡ word ∷ [] }
     {
-        let _ = word.as_str();
+        is_normal(&word);
         WordSet {
             words: ShortWords::new_single(word),
+        }
+    }
+
+    /// The set of these words, which have to ascend strictly: `is_strictly_ascending` is the test.
+    pub fn from_vec_unchecked(input: Vec<WordOf<K, N>>) -> Self
+        requires { ascends word_cmp input.items ≡ true }
+        ensures { result ≡ input.items }
+    {
+        are_normal(input.as_slice());
+        WordSet {
+            words: ShortWords::from_vec(input),
         }
     }
 
@@ -83,6 +105,27 @@ impl<K: WordKind<N>, const N: usize> WordSet<K, N> {
         self.as_slice().len()
     }
 
+    /// The words in order, lent one by one.
+    pub fn iter(&self) -> Iter<'_, WordOf<K, N>>
+        ensures { iter_rest result ≡ self.now }
+    {
+        self.as_slice().iter()
+    }
+
+    /// The word at a place; `None` from the length on.
+    pub fn get(&self, index: usize) -> Option<&WordOf<K, N>>
+        ensures { IsItemAt self.now index result }
+    {
+        self.as_slice().get(index)
+    }
+
+    /// The first word, if there is one.
+    pub fn first(&self) -> Option<&WordOf<K, N>>
+        ensures { IsItemAt self.now 0 result }
+    {
+        self.as_slice().first()
+    }
+
     /// Adds a word; true where it is new. It takes memory only where the set holds four words or more
     /// and the word is new.
     pub fn push(&mut self, alloc: Global, word: WordOf<K, N>) -> Result<bool, AllocError>
@@ -92,7 +135,7 @@ impl<K: WordKind<N>, const N: usize> WordSet<K, N> {
         ensures succeeds { length self.old < 4 → IsOk result }
         ensures known { list_any (is_same word) self.old ≡ true → IsOk result }
     {
-        let _ = word.as_str();
+        is_normal(&word);
         match self.as_slice().binary_search(&word) {
             Ok(_) => Ok(false),
             Err(at) => {
@@ -100,5 +143,73 @@ impl<K: WordKind<N>, const N: usize> WordSet<K, N> {
                 Ok(true)
             }
         }
+    }
+
+    /// Takes a word out; true where it was there.
+    pub fn remove(&mut self, word: &WordOf<K, N>) -> bool
+        ensures removed { result ≡ list_any (is_same word.now) self.old }
+        ensures left { self.new ≡ filter (λ w. not (is_same word.now w)) self.old }
+    {
+        match self.as_slice().binary_search(word) {
+            Ok(at) => {
+                self.words.remove(at);
+                true
+            }
+            Err(_) => false,
+        }
+    }
+
+    /// Leaves the empty set, and answers the old one.
+    pub fn clear(&mut self) -> Self
+        ensures old { result ≡ self.old }
+        ensures new { self.new ≡ [] }
+    {
+        replace(self, WordSet::new())
+    }
+
+    /// A set of the same words. It takes memory only where there are more than four.
+    pub(crate) fn copied(&self) -> Result<Self, AllocError>
+        ensures { IfOk result (λ s. s ≡ self.now) }
+    {
+        Ok(WordSet {
+            words: self.words.clone()?,
+        })
+    }
+
+    /// Adds each word of the other set.
+    fn add_all(&mut self, alloc: Global, other: &Self) -> Result<(), AllocError>
+        ensures ok { OnOk result (self.new ≡ set_of (self.old ++ other.now)) }
+        ensures succeeds { length self.old + length other.now ≤ 4 → IsOk result }
+    {
+        let _ = &self.words;
+        for word in other.as_slice() {
+            self.push(alloc, word.clone()?)?;
+        }
+        Ok(())
+    }
+
+    /// The words of both sets.
+    pub fn union(&self, alloc: Global, other: &Self) -> Result<Self, AllocError>
+        ensures { IfOk result (λ s. s ≡ set_of (self.now ++ other.now)) }
+    {
+        let mut all = self.copied()?;
+        all.add_all(alloc, other)?;
+        Ok(all)
+    }
+
+    /// Adds the words of the other set. It takes no memory where the two have four words at most together;
+    /// where memory is refused, the set is as before.
+    pub fn extend(&mut self, alloc: Global, other: &Self) -> Result<(), AllocError>
+        ensures ok { OnOk result (self.new ≡ set_of (self.old ++ other.now)) }
+        ensures err { OnErr result (self.new ≡ self.old) }
+        ensures succeeds { length self.old + length other.now ≤ 4 → IsOk result }
+    {
+        if self.len() <= 4 {
+            if other.len() <= 4 - self.len() {
+                return self.add_all(alloc, other);
+            }
+        }
+        *self = self.union(alloc, other)?;
+        Ok(())
     }
 }

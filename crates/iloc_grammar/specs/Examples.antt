@@ -1,0 +1,16 @@
+-- How worked examples are told: a text means something whose normal text is another, or it is refused.
+use Rattle.std.specs.Prelude.{◌≡◌, ℕ, List}
+use Rattle.iloc_grammar.specs.Words.{languages}
+use Rattle.iloc_grammar.specs.Meaning.{Locale, Means}
+use Rattle.iloc_grammar.specs.Values.{text}
+use Rattle.iloc_grammar.specs.Faults.{Fault, HasFault}
+
+-- the text t is accepted, and u is the normal text of its meaning
+pub record Normalises (t u : List ℕ) : Type 0 where
+  pub value : Locale
+  pub means : Means languages t value
+  pub printed : text value ≡ u
+
+-- the text is refused with the fault
+abbrev pub IsRefused : List ℕ → Fault → Type 0
+IsRefused t f = HasFault languages t f

@@ -1,0 +1,77 @@
+//! The traits of sets of words.
+ghost use Rattle.std.specs.Prelude.{◌≡◌, [], Some, length};
+ghost use Rattle.iloc_grammar.specs.Pieces.{join};
+
+use crate::word_set::WordSet;
+use iloc_subtags::WordKind;
+use iloc_writeable::pieces::Pieces;
+use iloc_writeable::{Sink, Writeable};
+use std::alloc::AllocError;
+use std::fmt;
+
+/// The empty set.
+impl<K: WordKind<N>, const N: usize> Default for WordSet<K, N> {
+    ghost is_default = { λ s. s ≡ [] };
+
+    fn default() -> Self {
+        WordSet::new()
+    }
+}
+
+/// The same set. It takes memory only where there are more than four words.
+impl<K: WordKind<N>, const N: usize> Clone for WordSet<K, N> {
+    ghost is_clone = { λ s t. t ≡ s };
+
+    fn clone(&self) -> Result<Self, AllocError> {
+        self.copied()
+    }
+}
+
+/// The list of the words.
+impl<K: WordKind<N>, const N: usize> fmt::Debug for WordSet<K, N> {
+    fn fmt<W: fmt::Write>(&self, f: &mut fmt::Formatter<W>) -> fmt::Result {
+        fmt::Debug::fmt(&self.as_slice(), f)
+    }
+}
+
+/// The words are the pieces.
+impl<K: WordKind<N>, const N: usize> Pieces for WordSet<K, N> {
+    ghost pieces = { λ s. s };
+
+    fn has_pieces(&self) -> bool {
+        !self.is_empty()
+    }
+
+    #[tactic(auto, using(crate::proofs::PrintLaws::flat_map_words))]
+    fn write_pieces<S: Sink>(&self, sink: &mut S, first: bool) -> fmt::Result {
+        self.as_slice().write_pieces(sink, first)
+    }
+}
+
+/// Prints the words, ascending, with a hyphen between each two. The text of a set of one word can be lent.
+impl<K: WordKind<N>, const N: usize> Writeable for WordSet<K, N> {
+    ghost text = { λ s. join s };
+
+    ghost lends = { λ s. length s ≡ 1 };
+
+    #[tactic(auto, unfolding(iloc_grammar::specs::Pieces::join))]
+    fn write_to<S: Sink>(&self, sink: &mut S) -> fmt::Result {
+        self.write_joined(sink)
+    }
+
+    fn writeable_borrow(&self) -> Option<&str> {
+        match self.as_slice() {
+            [word] => Some(word.as_str()),
+            _ => None,
+        }
+    }
+}
+
+/// Prints the words, ascending, with a hyphen between each two.
+impl<K: WordKind<N>, const N: usize> fmt::Display for WordSet<K, N> {
+    ghost output = { λ s. Some (join s) };
+
+    fn fmt<W: fmt::Write>(&self, f: &mut fmt::Formatter<W>) -> fmt::Result {
+        self.write_to(f)
+    }
+}
