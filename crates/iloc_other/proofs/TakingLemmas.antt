@@ -9,12 +9,6 @@ use Rattle.iloc_grammar.specs.Reading.{passing}
 use Rattle.iloc_fronts.specs.Fronts.{PrivateRead, PrivateFault, not_private}
 use Rattle.iloc_other.specs.Reading.{private_words}
 
--- one item more of the front
-pub all_one_more : {X : Type 0} (P : X → Type 0) (xs : List X) (i : ℕ) (x : X) → i < length xs → x ≡ get_or xs i x → AllByRecursion P (take i xs) → P x → AllByRecursion P (take (suc i) xs)
-all_one_more P [] i x h e a p = absurd (omega (arith, h))
-all_one_more P (y ∷ xs) zero x h e a p = (subst P e p, tt)
-all_one_more P (y ∷ xs) (suc i) x h e a p = (a.0, all_one_more P xs i x (omega (arith, h)) e a.1 p)
-
 -- what reading a word tells
 pub accepted_from_read : {E : Type 0} (k : Kind) (e : E) (p w : List ℕ) → Ok w ≡ read k e p → IsWord k p × (w ≡ normal k p)
 accepted_from_read {E = E} k e p w h = by (is_word k p) refl h

@@ -14,7 +14,6 @@ ghost use Rattle.iloc_orders.specs.Orders.{words_cmp, other_cmp};
 pub mod other;
 pub mod private;
 pub mod singleton;
-pub mod words;
 
 pub use other::Other;
 pub use private::Private;

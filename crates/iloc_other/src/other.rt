@@ -12,10 +12,9 @@ ghost use Rattle.iloc_parser.specs.Left.{left};
 ghost use Rattle.iloc_other.specs.Reading.{OtherReads, OtherTextReads};
 
 use crate::singleton::take_singleton;
-use crate::words::are_normal;
 use iloc_parser::SubtagIterator;
 use iloc_shortvec::ShortWords;
-use iloc_subtags::{ParseError, Subtag};
+use iloc_subtags::{ParseError, Subtag, are_normal, is_normal};
 use iloc_writeable::{Pieces, Sink, Writeable};
 use std::alloc::{AllocError, Global};
 use std::marker::Model;
@@ -152,7 +151,7 @@ impl Other {
         let Ok(key) = Subtag::try_from_utf8(piece) else {
             return Ok(());
         };
-        let _ = key.as_str();
+        is_normal(&key);
         self.keys
             .push(alloc, key)
             .map_err(|_| ParseError::OutOfMemory)

@@ -11,10 +11,9 @@ ghost use Rattle.iloc_parser.specs.Left.{left};
 ghost use Rattle.iloc_other.specs.Reading.{PrivateReads, PrivateTextReads};
 
 use crate::singleton::take_singleton;
-use crate::words::are_normal;
 use iloc_parser::SubtagIterator;
 use iloc_shortvec::ShortWords;
-use iloc_subtags::{ParseError, PrivateSubtag};
+use iloc_subtags::{ParseError, PrivateSubtag, are_normal, is_normal};
 use iloc_writeable::{Pieces, Sink, Writeable};
 use std::alloc::{AllocError, Global};
 use std::marker::Model;
@@ -58,7 +57,7 @@ impl Private {
     pub fn new_single(input: Subtag) -> Self
         ensures { result ≡ input ∷ [] }
     {
-        let _ = input.as_str();
+        is_normal(&input);
         Private {
             words: ShortWords::new_single(input),
         }
@@ -169,7 +168,7 @@ impl Private {
         ensures err { IfErr result (λ e. e ≡ ParseError.OutOfMemory) }
         ensures succeeds { length self.old < 4 → IsOk result }
     {
-        let _ = word.as_str();
+        is_normal(&word);
         self.words
             .push(alloc, word)
             .map_err(|_| ParseError::OutOfMemory)

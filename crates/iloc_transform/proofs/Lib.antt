@@ -1,1 +1,4 @@
 pub mod ValueLemmas
+pub mod PrintLemmas
+pub mod FieldsLemmas
+pub mod MapLemmas

@@ -1,1 +1,2 @@
 pub mod ValueReading
+pub mod FieldsReading

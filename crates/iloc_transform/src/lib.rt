@@ -7,6 +7,8 @@
 //! `iloc_shortvec`.
 #![tactic(auto)]
 
+pub mod fields;
 pub mod value;
 
+pub use fields::{Fields, Key};
 pub use value::Value;

@@ -1,21 +1,25 @@
 //! The value of a transform field.
-ghost use Rattle.std.specs.Prelude.{◌≡◌, ◌<◌, ◌++◌, ◌∷◌, [], length, false, OnOk, OnErr, IfErr, IfOk, IsOk, if◌then◌else◌};
+ghost use Rattle.std.specs.Prelude.{◌≡◌, ◌<◌, ◌++◌, ◌∷◌, [], length, false, OnOk, IfErr, IsOk, Some, if◌then◌else◌};
 ghost use Rattle.std.specs.List.{AllByRecursion};
 ghost use Rattle.iloc_grammar.specs.Pieces.{pieces};
 ghost use Rattle.iloc_grammar.specs.Words.{Attribute as the_kind, is_true};
+ghost use Rattle.iloc_grammar.specs.Values.{field_value_text, spelled_value};
 ghost use Rattle.iloc_parser.specs.Left.{left};
 ghost use Rattle.iloc_transform.specs.ValueReading.{IsValueWord, ValueFrontReads, ValueReads};
 
 use iloc_parser::{SubtagIterator, take_word};
 use iloc_shortvec::ShortWords;
-use iloc_subtags::{Attribute, AttributeKind, ParseError};
+use iloc_subtags::{Attribute, AttributeKind, ParseError, is_normal};
+use iloc_writeable::pieces::write_piece;
+use iloc_writeable::{Pieces, Sink, Writeable};
 use std::alloc::{AllocError, Global};
+use std::fmt;
 use std::marker::Model;
 
 /// The value of a field: a list of subtags of 3 to 8 letters or digits other than `true`.
 ///
 /// The empty value stands for `true`.
-#[derive(Drop, Debug, PartialEq, Eq, Hash)]
+#[derive(Drop, Debug, PartialEq, Eq, PartialOrd, Ord, Hash)]
 pub struct Value {
     subtags: ShortWords<Attribute>,
 }
@@ -98,7 +102,7 @@ impl Value {
         ensures err { IfErr result (λ e. (e ≡ ParseError.OutOfMemory) × (is_true word ≡ false)) }
         ensures succeeds { length self.old < 4 → IsOk result }
     {
-        let _ = word.as_str();
+        is_normal(&word);
         if spells_true(&word) {
             return Ok(());
         }
@@ -130,5 +134,49 @@ impl Clone for Value {
         Ok(Value {
             subtags: self.subtags.clone()?,
         })
+    }
+}
+
+/// The subtags, or `true` where there is none.
+impl Pieces for Value {
+    ghost pieces = { spelled_value };
+
+    fn has_pieces(&self) -> bool {
+        true
+    }
+
+    fn write_pieces<S: Sink>(&self, sink: &mut S, first: bool) -> fmt::Result {
+        let subtags = self.as_slice();
+        if subtags.is_empty() {
+            return write_piece(sink, "true", first);
+        }
+        subtags.write_pieces(sink, first)
+    }
+}
+
+/// The subtags with hyphens between them, or `true`, which is lent, where there is none.
+impl Writeable for Value {
+    ghost text = { field_value_text };
+
+    ghost lends = { λ v. v ≡ [] };
+
+    #[tactic(auto, unfolding(iloc_grammar::specs::Values::field_value_text, iloc_grammar::specs::Pieces::join))]
+    fn write_to<S: Sink>(&self, sink: &mut S) -> fmt::Result {
+        self.write_joined(sink)
+    }
+
+    fn writeable_borrow(&self) -> Option<&str> {
+        if self.subtags.is_empty() {
+            return Some("true");
+        }
+        None
+    }
+}
+
+impl fmt::Display for Value {
+    ghost output = { λ v. Some (field_value_text v) };
+
+    fn fmt<W: fmt::Write>(&self, f: &mut fmt::Formatter<W>) -> fmt::Result {
+        self.write_to(f)
     }
 }

@@ -1,0 +1,201 @@
+//! The fields of a transform.
+ghost use Rattle.std.specs.Prelude.{◌≡◌, ◌==◌, ℕ, List, [], true, length, OnOk, OnErr, IfOk, IsOk, if◌then◌else◌};
+ghost use Rattle.std.specs.Fn.{CalledAt};
+ghost use Rattle.std.specs.FinMap.{find, put};
+ghost use Rattle.std.specs.Iterator.{IsFiniteIterable, Drains};
+ghost use Rattle.std.specs.List.{AllByRecursion};
+ghost use Rattle.std.specs.List.Retain.{IsFiltered};
+ghost use Rattle.std.specs.Option.{option_copied, is_some};
+ghost use Rattle.iloc_grammar.specs.Words.{word_cmp};
+ghost use Rattle.iloc_litemap.specs.Pairs.{IsAscending, insert_all};
+ghost use Rattle.iloc_parser.specs.Left.{left};
+ghost use Rattle.iloc_transform.specs.FieldsReading.{IsFieldPair, FieldsFrontRead};
+
+use crate::value::Value;
+use iloc_litemap::LiteMap;
+use iloc_parser::{SubtagIterator, take_word};
+use iloc_subtags::{ParseError, TransformKey, TransformKeyKind, is_normal};
+use std::alloc::{AllocError, Global};
+use std::marker::Model;
+use std::mem;
+
+/// The key of a field, as `m0`.
+pub type Key = TransformKey;
+
+/// A map from keys to values, kept by ascending key.
+#[derive(Drop, Debug, PartialEq, Eq, Hash)]
+pub struct Fields {
+    map: LiteMap<Key, Value>,
+}
+
+impl Model for Fields {
+    ghost use Rattle.std.specs.List.{AllByRecursion};
+    ghost use Rattle.iloc_grammar.specs.Written as written;
+    ghost use Rattle.iloc_transform.specs.FieldsReading.{IsFieldPair};
+
+    ghost Value = { written.Fields };
+
+    ghost view = { λ f. f.map };
+
+    ghost invariant = { λ f. AllByRecursion IsFieldPair f.map };
+
+    ghost inverse = { λ es. record { map = es } };
+}
+
+impl Fields {
+    /// The empty map.
+    pub fn new(alloc: Global) -> Self
+        ensures { result ≡ [] }
+    {
+        Fields {
+            map: LiteMap::new(alloc),
+        }
+    }
+
+    /// The pairs by ascending key.
+    pub fn as_slice(&self) -> &[(Key, Value)]
+        ensures pairs { result.now ≡ self.now }
+        ensures ascending { IsAscending word_cmp self.now }
+        ensures normal { AllByRecursion IsFieldPair self.now }
+    {
+        self.map.as_slice()
+    }
+
+    /// Whether there is no key.
+    pub fn is_empty(&self) -> bool
+        ensures { result ≡ (length self.now == 0) }
+    {
+        self.map.is_empty()
+    }
+
+    /// Leaves the empty map, and answers the old one.
+    pub fn clear(&mut self, alloc: Global) -> Self
+        ensures old { result ≡ self.old }
+        ensures empty { self.new ≡ [] }
+    {
+        mem::replace(self, Fields::new(alloc))
+    }
+
+    // Leaves the empty map.
+    pub(crate) fn empty(&mut self)
+        ensures { self.new ≡ [] }
+    {
+        self.map.clear();
+    }
+
+    /// Whether the key is there.
+    pub fn contains_key(&self, key: &Key) -> bool
+        ensures { result ≡ is_some (find word_cmp key.now self.now) }
+    {
+        self.map.contains_key(key)
+    }
+
+    /// The value of the key.
+    pub fn get(&self, key: &Key) -> Option<&Value>
+        ensures { option_copied result ≡ find word_cmp key.now self.now }
+    {
+        self.map.get(key)
+    }
+
+    /// Sets the value of the key, and answers the old one. A key that is there takes no memory.
+    ///
+    /// Where memory is refused, nothing changes.
+    pub fn set(
+        &mut self,
+        alloc: Global,
+        key: Key,
+        value: Value,
+    ) -> Result<Option<Value>, AllocError>
+        ensures before { IfOk result (λ before. before ≡ find word_cmp key self.old) }
+        ensures ok { OnOk result (self.new ≡ put word_cmp key value self.old) }
+        ensures err { OnErr result (self.new ≡ self.old) }
+        ensures known { is_some (find word_cmp key self.old) ≡ true → IsOk result }
+    {
+        is_normal(&key);
+        let _ = value.as_slice();
+        self.map.insert(alloc, key, value)
+    }
+
+    // Sets the value of a key that isn't there; else nothing changes.
+    fn add(&mut self, alloc: Global, key: Key, value: Value) -> Result<(), AllocError>
+        ensures { OnOk result (self.new ≡ (if is_some (find word_cmp key self.old) then self.old else put word_cmp key value self.old)) }
+    {
+        is_normal(&key);
+        let _ = value.as_slice();
+        self.map.try_insert(alloc, key, value)?;
+        Ok(())
+    }
+
+    /// Keeps the keys at which `predicate` says so. Each is asked once, ascending.
+    pub fn retain_by_key<F: FnMut(&Key) -> bool + Drop>(&mut self, mut predicate: F)
+        requires { F.IsAlwaysCallable predicate }
+        ensures { IsFiltered (λ f e b g. CalledAt F.FnMut f e.0 b g) predicate self.old self.new }
+    {
+        self.map.retain(
+            move |key: &Key, _value: &Value| -> bool
+                requires { F.IsAlwaysCallable predicate }
+                ensures asked { CalledAt F.FnMut predicate.entry key.now result predicate.exit }
+                ensures callable { F.IsAlwaysCallable predicate.exit }
+            { predicate(key) },
+        );
+    }
+
+    /// The map of these pairs, where the last of equal keys stays.
+    pub fn from_pairs<I: IntoIterator<Item = (Key, Value)>>(
+        alloc: Global,
+        pairs: I,
+    ) -> Result<Self, AllocError>
+        requires { IsFiniteIterable I.into_iter_gives I.IntoIter.can_next I.IntoIter.remaining pairs }
+        ensures { IfOk result (λ m. (it : I.IntoIter) × (xs : List (List ℕ × List (List ℕ))) × I.into_iter_gives pairs it × Drains I.IntoIter.next_gives it xs × (m ≡ insert_all word_cmp [] xs)) }
+    {
+        let map = LiteMap::from_pairs(alloc, pairs)?;
+        Ok(Fields::from(map))
+    }
+
+    // Reads keys with their values, as many as there are; of equal keys the first stays.
+    pub(crate) fn read_front(
+        alloc: Global,
+        iter: &mut SubtagIterator<'_>,
+    ) -> Result<Self, ParseError>
+        ensures { FieldsFrontRead (left iter.old) (left iter.new) result }
+    {
+        let mut fields = Fields::new(alloc);
+        'fields: while let Some(key) = take_word::<TransformKeyKind, 2>(iter) {
+            let value = Value::read_front(alloc, iter)?;
+            match fields.add(alloc, key, value) {
+                Ok(()) => {}
+                Err(_) => return Err(ParseError::OutOfMemory),
+            }
+        }
+        Ok(fields)
+    }
+}
+
+impl From<LiteMap<Key, Value>> for Fields {
+    ghost from_gives = { λ map fields. fields ≡ map };
+
+    fn from(map: LiteMap<Key, Value>) -> Self {
+        are_pairs(map.as_slice());
+        Fields { map }
+    }
+}
+
+impl Clone for Fields {
+    ghost is_clone = { λ f g. g ≡ f };
+
+    fn clone(&self) -> Result<Self, AllocError> {
+        Ok(Fields {
+            map: self.map.clone()?,
+        })
+    }
+}
+
+// Looks at each pair, so that keys and values are known to be normal.
+fn are_pairs(pairs: &[(Key, Value)])
+    ensures { AllByRecursion IsFieldPair pairs.now }
+{
+    for pair in pairs {
+        is_normal(&pair.0);
+        let _ = pair.1.as_slice();
+    }
+}
