@@ -58,7 +58,7 @@ one_longest ps i j rest more a b =
     let fronts = same_fronts (identifier_pieces i) (identifier_pieces j) rest more (sym a.spelled ∙ b.spelled) (le_antisymm (b.longest i rest a.words a.spelled) (a.longest j more b.words b.spelled)) in
     (one_identifier i j a.words b.words fronts.0, fronts.1)
 
-one_front : {T : ℕ → Bool} (ps : List (List ℕ)) {o q : Option Identifier} {rest more : List (List ℕ)} → FrontRead T ps o rest → FrontRead T ps q more → (o ≡ q) × (rest ≡ more)
+pub one_front : {T : ℕ → Bool} (ps : List (List ℕ)) {o q : Option Identifier} {rest more : List (List ℕ)} → FrontRead T ps o rest → FrontRead T ps q more → (o ≡ q) × (rest ≡ more)
 one_front ps (absent e) (absent k) = (refl, refl)
 one_front ps (absent e) (present g b) = absurd (true≢false (sym (front_language ps _ _ b.words b.spelled) ∙ e))
 one_front ps (present h a) (absent k) = absurd (true≢false (sym (front_language ps _ _ a.words a.spelled) ∙ k))
@@ -103,7 +103,7 @@ no_repeats {T = T} (p ∷ ps) j rest h f r =
 abbrev is_key : List ℕ → Bool
 is_key p = is_word TransformKey p
 
-fields_spelled : (ps : List (List ℕ)) → fields_front ps ≡ fields_pieces (fields_at ps)
+pub fields_spelled : (ps : List (List ℕ)) → fields_front ps ≡ fields_pieces (fields_at ps)
 fields_spelled ps = front_of_fields is_key is_field_piece ps
 
 fields_are : (ps : List (List ℕ)) (fs : Fields) → AllByRecursion IsField fs → fields_front ps ≡ fields_pieces fs → fields_at ps ≡ fs
@@ -136,10 +136,10 @@ one_transform_fault T ps f g (unread n u) (unread m v) = refl
 
 -- and what the program gives
 
-abbrev IsTransformAnswer : (ℕ → Bool) → List (List ℕ) → Result (Transform × List (List ℕ)) Fault → Type 0
+abbrev pub IsTransformAnswer : (ℕ → Bool) → List (List ℕ) → Result (Transform × List (List ℕ)) Fault → Type 0
 IsTransformAnswer T ps o = MatchResult o (λ r. TransformRead T ps r.0 r.1) (TransformFault T ps)
 
-fields_answer : {T : ℕ → Bool} (ps : List (List ℕ)) (o : Option Identifier) (middle : List (List ℕ)) → FrontRead T ps o middle → IsTransformAnswer T ps (fields_result o middle)
+pub fields_answer : {T : ℕ → Bool} (ps : List (List ℕ)) (o : Option Identifier) (middle : List (List ℕ)) → FrontRead T ps o middle → IsTransformAnswer T ps (fields_result o middle)
 fields_answer {T = T} ps o middle h = cond_both (list_all is_field (fields_at middle) && (is_some o || nat_lt 0 (length (fields_at middle)))) _ _ (IsTransformAnswer T ps)
     (λ w.
     let rules = (fields_test o (fields_at middle)).holds w in

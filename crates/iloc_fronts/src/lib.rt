@@ -5,16 +5,16 @@
 //! rules of blocks where nothing is left. It stands on `iloc_grammar`.
 #![tactic(auto)]
 
-ghost use Rattle.std.specs.Prelude.{◌≡◌, ◌↔◌, ℕ, Bool, true, false, List, Ok, MatchResult};
+ghost use Rattle.std.specs.Prelude.{◌≡◌, ◌↔◌, ℕ, Bool, true, false, List, [], ◌∷◌, Some, None, Ok, Err, MatchResult, codes};
 ghost use Rattle.std.specs.List.{AllByRecursion};
-ghost use Rattle.iloc_grammar.specs.Pieces.{join};
-ghost use Rattle.iloc_grammar.specs.Words.{IsTable, Subtag, Attribute, is_true};
+ghost use Rattle.iloc_grammar.specs.Pieces.{pieces, join};
+ghost use Rattle.iloc_grammar.specs.Words.{IsTable, Subtag, Attribute, is_true, languages};
 ghost use Rattle.iloc_grammar.specs.Written.{Unicode, Transform, IsOther, IsPrivate, is_other_singleton, singleton};
 ghost use Rattle.iloc_grammar.specs.Values.{IsNormal, spelled_value};
-ghost use Rattle.iloc_grammar.specs.Faults.{IsBlock, RepeatsVariant, front};
+ghost use Rattle.iloc_grammar.specs.Faults.{InvalidSubtag, InvalidExtension, IsBlock, RepeatsVariant, front};
 ghost use Rattle.iloc_grammar.specs.ByBlocks.{UnicodeMeans, TransformMeans};
 ghost use Rattle.iloc_fronts.specs.Readers.{IsReader, AgreesWithBlocks};
-ghost use Rattle.iloc_fronts.specs.Fronts.{KeywordsRead, KeywordsFault, UnicodeRead, UnicodeFault, TransformRead, TransformFault, OtherRead, OtherFault, OtherMeans, PrivateRead, PrivateFault};
+ghost use Rattle.iloc_fronts.specs.Fronts.{attributes_read, KeywordsRead, KeywordsFault, UnicodeRead, UnicodeFault, TransformRead, TransformFault, OtherRead, OtherFault, OtherMeans, PrivateRead, PrivateFault};
 ghost use Rattle.iloc_fronts.specs.Parts.{PartRead, PartFault, is_letter};
 ghost use Rattle.iloc_fronts.specs.PartValues.{unicode_value, transform_value};
 ghost use Rattle.iloc_fronts.specs.Computing.{keywords_result, unicode_result, transform_result, other_result, private_result};
@@ -79,4 +79,25 @@ pub fn values()
 /// Extending is associative.
 pub fn extending()
     ensures { (u v w : Unicode) → extend (extend u v) w ≡ extend u (extend v w) }
+{}
+
+/// Worked fronts.
+pub fn by_example()
+    ensures attributes { attributes_read (pieces (codes "foo-bar-FOO-ca-baz")) ≡ codes "bar" ∷ codes "foo" ∷ [] }
+    ensures keywords { keywords_result (pieces (codes "hc-H12-ca-true-ca-foo-x-bar")) ≡ Ok ((codes "ca", []) ∷ (codes "hc", codes "h12" ∷ []) ∷ [], pieces (codes "x-bar")) }
+    ensures no_keywords { keywords_result (pieces (codes "foo-ca")) ≡ Ok ([], pieces (codes "foo-ca")) }
+    ensures bad_key { keywords_result (pieces (codes "ca-foo-a8")) ≡ Err InvalidExtension }
+    ensures unicode { unicode_result (pieces (codes "foo-ca-!-bar")) ≡ Ok (record { attributes = codes "foo" ∷ []; keywords = (codes "ca", []) ∷ [] }, pieces (codes "!-bar")) }
+    ensures no_unicode { unicode_result (pieces (codes "x-foo")) ≡ Err InvalidExtension }
+    ensures transform { transform_result languages (pieces (codes "EN-latn-m0-true-FOO-u-ca")) ≡ Ok (record { id = Some (record { language = codes "en"; script = Some (codes "Latn"); region = None; variants = [] }); fields = (codes "m0", codes "foo" ∷ []) ∷ [] }, pieces (codes "u-ca")) }
+    ensures variant_twice { transform_result languages (pieces (codes "en-posix-POSIX")) ≡ Err InvalidSubtag }
+    ensures no_value { transform_result languages (pieces (codes "en-m0")) ≡ Err InvalidExtension }
+    ensures identifier_first { transform_result languages (pieces (codes "foo-m0-bar")) ≡ Ok (record { id = Some (record { language = codes "foo"; script = None; region = None; variants = [] }); fields = (codes "m0", codes "bar" ∷ []) ∷ [] }, []) }
+    ensures other { other_result (pieces (codes "foo-!!-BAR-b-ca")) ≡ Ok (codes "foo" ∷ codes "bar" ∷ [], pieces (codes "b-ca")) }
+    ensures no_word { other_result (pieces (codes "!!")) ≡ Err InvalidExtension }
+    ensures private { private_result (pieces (codes "A-foo-x")) ≡ Ok (codes "a" ∷ codes "foo" ∷ codes "x" ∷ [], []) }
+    ensures empty_value { unicode_value [] ≡ Ok [] }
+    ensures value { unicode_value (codes "Islamic-true-civil") ≡ Ok (codes "islamic" ∷ codes "civil" ∷ []) }
+    ensures bad_value { unicode_value (codes "a") ≡ Err InvalidSubtag }
+    ensures short_value { transform_value (codes "no") ≡ Err InvalidExtension }
 {}

@@ -4,6 +4,10 @@
 #![tactic(auto)]
 
 ghost use Rattle.iloc_orders.specs.Orders.{IsExactOrder, words_cmp, identifier_cmp, keywords_cmp, fields_cmp, unicode_cmp, transform_cmp, other_cmp, extensions_cmp, locale_cmp};
+ghost use Rattle.std.specs.Prelude.{◌≡◌, [], ◌∷◌, codes};
+ghost use Rattle.std.specs.declared.cmp.Ordering.TheVariants.{Less, Equal, Greater};
+ghost use Rattle.iloc_grammar.specs.Words.{word_cmp};
+ghost use Rattle.iloc_orders.specs.Examples.{meaning_of};
 
 /// Total orders, by which only equal values tie.
 pub fn orders()
@@ -16,4 +20,16 @@ pub fn orders()
     ensures others { IsExactOrder other_cmp }
     ensures locales { IsExactOrder locale_cmp }
     ensures extensions { IsExactOrder extensions_cmp }
+{}
+
+/// Worked comparisons.
+pub fn by_example()
+    ensures fewer_variants { locale_cmp (meaning_of (codes "en-posix")) (meaning_of (codes "en-macos-posix")) ≡ Less }
+    ensures fewer_items { words_cmp (codes "b" ∷ []) (codes "a" ∷ codes "b" ∷ []) ≡ Less }
+    ensures bytes { word_cmp (codes "en-posix") (codes "en-macos-posix") ≡ Greater }
+    ensures no_script_first { locale_cmp (meaning_of (codes "en-US")) (meaning_of (codes "en-Latn")) ≡ Less }
+    ensures unicode_first { locale_cmp (meaning_of (codes "und-t-m0-foo")) (meaning_of (codes "und-u-ca")) ≡ Less }
+    ensures singletons { locale_cmp (meaning_of (codes "und-1-bar")) (meaning_of (codes "und-a-foo")) ≡ Less }
+    ensures one_value_first { keywords_cmp ((codes "ca", codes "b" ∷ []) ∷ []) ((codes "ca", codes "a" ∷ codes "a" ∷ []) ∷ []) ≡ Less }
+    ensures itself { locale_cmp (meaning_of (codes "und-t-fr-u-ca")) (meaning_of (codes "und-u-ca-true-t-FR")) ≡ Equal }
 {}

@@ -1,4 +1,3 @@
 pub mod KeywordLaws
 pub mod PreferenceLaws
-pub mod RuleRows
 pub mod ConversionLaws

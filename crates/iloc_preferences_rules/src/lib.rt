@@ -4,16 +4,17 @@
 //! locale that they are turned into. It stands on `iloc_grammar`, `iloc_small` and `iloc_regions`.
 #![tactic(auto)]
 
-ghost use Rattle.std.specs.Prelude.{◌≡◌, ℕ, Bool, true, false, List, Some, IfSome};
+ghost use Rattle.std.specs.Prelude.{◌≡◌, ℕ, Bool, true, false, List, [], ◌∷◌, Some, None, Ok, IfSome, codes};
 ghost use Rattle.std.specs.List.{AllByRecursion};
-ghost use Rattle.iloc_grammar.specs.Words.{IsTable, CurrencyType, Script, Region, is_true};
+ghost use Rattle.iloc_grammar.specs.Words.{IsTable, CurrencyType, Script, Region, is_true, languages};
 ghost use Rattle.iloc_grammar.specs.Written.{Identifier};
 ghost use Rattle.iloc_grammar.specs.Meaning.{Locale, Means};
 ghost use Rattle.iloc_grammar.specs.Values.{IsNormal, IsValue, IsWellFormed};
 ghost use Rattle.iloc_regions.specs.Subdivisions.{Subdivision, IsSubdivision, subdivision_text};
 ghost use Rattle.iloc_regions.specs.DataLocales.{DataLocale, DataMeans, data_key, data_of_identifier};
-ghost use Rattle.iloc_preferences_rules.specs.Keywords.{EnumKeyword, ReadsWhatItGives, currency_reads, currency_gives, subtag_reads, subtag_gives, scripts_read, scripts_give, subdivision_reads, subdivision_gives};
-ghost use Rattle.iloc_preferences_rules.specs.Preferences.{Preferences, FormatPreferences, TimePreferences, default_format, default_time, merge_format, merge_time, is_strict, IsPreferences, SpellsNoTrue, default_preferences, preferences, identifier_preferences, language_priority, merge, locale_of_preferences};
+ghost use Rattle.iloc_preferences_rules.specs.Keywords.{EnumKeyword, CalendarAlgorithm, CollationNumericOrdering, HourCycle, enum_reads, enum_gives, ReadsWhatItGives, currency_reads, currency_gives, subtag_reads, subtag_gives, scripts_read, scripts_give, subdivision_reads, subdivision_gives};
+ghost use Rattle.iloc_preferences_rules.specs.Preferences.{Preferences, FormatPreferences, TimePreferences, default_format, default_time, merge_format, merge_time, is_strict, is_strict_format, format_preferences, time_of_format, IsPreferences, SpellsNoTrue, default_preferences, preferences, identifier_preferences, language_priority, merge, locale_of_preferences};
+ghost use Rattle.iloc_preferences_rules.specs.Examples.{meaning_of, preferences_of, conversions, text_of_preferences};
 
 /// Each keyword turned into a list and read is itself; a list that would spell `true` is empty, and lost where words are read.
 pub fn keywords()
@@ -54,4 +55,52 @@ pub fn preferences_of_locales()
 pub fn data_locales_of_locales()
     ensures read { (T : ℕ → Bool) → IsTable T → (t : List ℕ) (d : DataLocale) (M : Locale) → DataMeans T t d → Means T t M → d ≡ language_priority (preferences M) }
     ensures identifier { (i : Identifier) → IfSome i.region (IsNormal Region) → data_key (data_of_identifier i) ≡ data_key (language_priority (identifier_preferences i)) }
+{}
+
+/// Worked texts.
+pub fn by_example()
+    ensures both { conversions languages (codes "en-US-u-rg-gbeng-sd-ustx") ≡ Ok (true, codes "en-US-u-sd-ustx", codes "en-GB-u-sd-gbeng") }
+    ensures subdivision { conversions languages (codes "en-u-sd-ustx") ≡ Ok (true, codes "en-US-u-sd-ustx", codes "en-US-u-sd-ustx") }
+    ensures override_whole { conversions languages (codes "en-u-rg-gbzzzz") ≡ Ok (true, codes "en", codes "en-GB") }
+    ensures another_region { conversions languages (codes "en-US-u-sd-gbzzzz") ≡ Ok (false, codes "en-US", codes "en-US") }
+    ensures override_first { conversions languages (codes "en-u-rg-gbzzzz-sd-ustx") ≡ Ok (true, codes "en-US-u-sd-ustx", codes "en-GB") }
+    ensures second_key { conversions languages (codes "en-US-u-sd-tx") ≡ Ok (false, codes "en-US", codes "en-US") }
+    ensures second_key_override { conversions languages (codes "en-GB-u-rg-tx") ≡ Ok (false, codes "en-GB", codes "en-GB") }
+    ensures true_override { conversions languages (codes "en-TR-u-rg-true") ≡ Ok (false, codes "en-TR", codes "en-TR") }
+    ensures number { conversions languages (codes "en-001-u-sd-001") ≡ Ok (false, codes "en-001", codes "en-001") }
+    ensures other_region_override { conversions languages (codes "en-US-u-rg-eng") ≡ Ok (true, codes "en-US", codes "en-EN-u-sd-eng") }
+    ensures whole_keeps { text_of_preferences (merge (preferences_of (codes "en-US-u-sd-ustx")) (preferences_of (codes "en-US"))) ≡ codes "en-US-u-sd-ustx" }
+    ensures one_by_one { text_of_preferences (merge (merge (preferences_of (codes "en-US-u-sd-ustx")) (preferences_of (codes "en-GB"))) (preferences_of (codes "en-US"))) ≡ codes "en-US" }
+    ensures grouped { text_of_preferences (merge (preferences_of (codes "en-US-u-sd-ustx")) (merge (preferences_of (codes "en-GB")) (preferences_of (codes "en-US")))) ≡ codes "en-US-u-sd-ustx" }
+    ensures spells_true { text_of_preferences (record { language = codes "en"; script = None; region = Some (record { region = codes "TR"; suffix = codes "ue" }); variant = None; region_override = None }) ≡ codes "en-TR-u-sd" }
+    ensures back { text_of_preferences (preferences_of (codes "en-US-u-sd-ustx-rg-gbeng")) ≡ codes "en-US-u-rg-gbeng-sd-ustx" }
+    ensures formatter { format_preferences (meaning_of (codes "en-US-u-ca-buddhist-nu-thai")) ≡ record { locale_preferences = preferences_of (codes "en-US"); numbering_system = Some (codes "thai"); hour_cycle = None; calendar_algorithm = Some (0, None) } }
+    ensures formatter_strict { is_strict_format (meaning_of (codes "en-US-u-ca-buddhist-nu-thai")) ≡ true }
+    ensures two_systems { format_preferences (meaning_of (codes "en-u-hc-h12-nu-arab-latn")) ≡ record { locale_preferences = preferences_of (codes "en"); numbering_system = None; hour_cycle = Some (0, None); calendar_algorithm = None } }
+    ensures two_systems_strict { is_strict_format (meaning_of (codes "en-u-hc-h12-nu-arab-latn")) ≡ false }
+    ensures no_calendar { is_strict_format (meaning_of (codes "en-u-ca")) ≡ false }
+    ensures merged_formatters { time_of_format (merge_format (format_preferences (meaning_of (codes "en-u-hc-h12"))) (format_preferences (meaning_of (codes "de-u-ca-roc")))) ≡ record { locale_preferences = preferences_of (codes "de"); numbering_system = None; hour_cycle = Some (0, None) } }
+{}
+
+/// Worked keywords.
+pub fn keywords_by_example()
+    ensures calendar { enum_reads CalendarAlgorithm (codes "islamic" ∷ []) ≡ Some (9, None) }
+    ensures with_kind { enum_reads CalendarAlgorithm (codes "islamic" ∷ codes "civil" ∷ []) ≡ Some (9, Some 2) }
+    ensures too_many { enum_reads CalendarAlgorithm (codes "islamic" ∷ codes "civil" ∷ codes "foo" ∷ []) ≡ None }
+    ensures old_form { enum_reads CalendarAlgorithm (codes "islamicc" ∷ []) ≡ Some (9, Some 2) }
+    ensures old_form_alone { enum_reads CalendarAlgorithm (codes "islamicc" ∷ codes "foo" ∷ []) ≡ None }
+    ensures long_form { enum_reads CalendarAlgorithm (codes "ethiopic" ∷ codes "amete" ∷ codes "alem" ∷ []) ≡ Some (4, None) }
+    ensures half_a_form { enum_reads CalendarAlgorithm (codes "ethiopic" ∷ codes "amete" ∷ []) ≡ None }
+    ensures given { enum_gives CalendarAlgorithm (9, Some 2) ≡ Some (codes "islamic" ∷ codes "civil" ∷ []) }
+    ensures empty_calendar { enum_reads CalendarAlgorithm [] ≡ None }
+    ensures empty_is_true { enum_reads CollationNumericOrdering [] ≡ Some (0, None) }
+    ensures true_is_empty { enum_gives CollationNumericOrdering (0, None) ≡ Some [] }
+    ensures hour_cycle { enum_reads HourCycle (codes "c12" ∷ []) ≡ Some (3, None) }
+    ensures no_hour_cycle { enum_reads HourCycle (codes "h24" ∷ []) ≡ None }
+    ensures currency { currency_reads (codes "usd" ∷ []) ≡ Some (codes "usd") }
+    ensures no_currency { currency_reads (codes "us1" ∷ []) ≡ None }
+    ensures scripts { scripts_read (codes "latn" ∷ codes "hani" ∷ []) ≡ Some (codes "Latn" ∷ codes "Hani" ∷ []) }
+    ensures given_scripts { scripts_give (codes "Latn" ∷ codes "Hani" ∷ []) ≡ codes "latn" ∷ codes "hani" ∷ [] }
+    ensures region { subdivision_reads (codes "gbeng" ∷ []) ≡ Some (record { region = codes "GB"; suffix = codes "eng" }) }
+    ensures lost_region { subdivision_gives (record { region = codes "TR"; suffix = codes "ue" }) ≡ [] }
 {}

@@ -2,3 +2,4 @@ pub mod Subdivisions
 pub mod DataLocales
 pub mod Computing
 pub mod DataOrders
+pub mod Examples

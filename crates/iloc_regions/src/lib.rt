@@ -4,18 +4,19 @@
 //! it; data locales tie where they stand for the same. It stands on `iloc_grammar`, `iloc_small` and `iloc_orders`.
 #![tactic(auto)]
 
-ghost use Rattle.std.specs.Prelude.{◌≡◌, ◌↔◌, ◌⊎◌, ℕ, Bool, true, List, MatchResult, Ok};
+ghost use Rattle.std.specs.Prelude.{◌≡◌, ◌↔◌, ◌⊎◌, ℕ, Bool, true, List, Some, None, Ok, Err, MatchResult, codes};
 ghost use Rattle.std.specs.Cmp.{IsTotalOrder};
 ghost use Rattle.std.specs.declared.cmp.Ordering.TheVariants.{Equal};
-ghost use Rattle.iloc_grammar.specs.Words.{IsTable, lower};
+ghost use Rattle.iloc_grammar.specs.Words.{IsTable, lower, languages};
 ghost use Rattle.iloc_grammar.specs.Meaning.{Locale};
 ghost use Rattle.iloc_grammar.specs.Values.{IsValue, IsWellFormed, text};
-ghost use Rattle.iloc_grammar.specs.Faults.{Fault};
+ghost use Rattle.iloc_grammar.specs.Faults.{Fault, InvalidLanguage, InvalidSubtag, InvalidExtension};
 ghost use Rattle.iloc_regions.specs.Subdivisions.{Subdivision, IsSubdivision, subdivision, subdivision_text};
 ghost use Rattle.iloc_regions.specs.Computing.{data_result};
 ghost use Rattle.iloc_regions.specs.DataLocales.{DataLocale, DataMeans, HasDataFault, IsDataLocale, data_key, data_text, locale_of_data};
 ghost use Rattle.iloc_orders.specs.Orders.{IsExactOrder};
 ghost use Rattle.iloc_regions.specs.DataOrders.{subdivision_cmp, data_locale_cmp};
+ghost use Rattle.iloc_regions.specs.Examples.{english, data_text_of};
 
 /// A subdivision's text is read as it, and what is read has the text in lower case.
 pub fn subdivisions()
@@ -51,4 +52,25 @@ pub fn data_orders()
 /// Over a wider table of languages a text means the data locale that it meant.
 pub fn wider_data_locales()
     ensures { (T U : ℕ → Bool) → ((n : ℕ) → T n ≡ true → U n ≡ true) → (t : List ℕ) (d : DataLocale) → DataMeans T t d → DataMeans U t d }
+{}
+
+/// Worked texts.
+pub fn by_example()
+    ensures by_subdivision { data_text_of (data_result languages (codes "und-u-sd-sdd")) ≡ Ok (codes "und-SD-u-sd-sdd") }
+    ensures another_region { data_text_of (data_result languages (codes "en-ZA-u-sd-sdd")) ≡ Ok (codes "en-ZA") }
+    ensures whole_region { data_text_of (data_result languages (codes "und-u-sd-gbzzzz")) ≡ Ok (codes "und-GB") }
+    ensures same_region { data_text_of (data_result languages (codes "en-US-u-sd-USTX")) ≡ Ok (codes "en-US-u-sd-ustx") }
+    ensures no_sd { data_result languages (codes "und-u-cu-gbp") ≡ Err InvalidExtension }
+    ensures unreadable { data_result languages (codes "en-TR-u-sd-true") ≡ Err InvalidExtension }
+    ensures no_value { data_result languages (codes "en-u-sd") ≡ Err InvalidExtension }
+    ensures short_region { data_result languages (codes "en-001-u-sd-001") ≡ Err InvalidExtension }
+    ensures no_language { data_result languages (codes "en...") ≡ Err InvalidLanguage }
+    ensures transform { data_result languages (codes "en-t-en") ≡ Err InvalidSubtag }
+    ensures subdivision { subdivision (codes "GBeng") ≡ Ok (record { region = codes "GB"; suffix = codes "eng" }) }
+    ensures by_number { subdivision (codes "001a") ≡ Ok (record { region = codes "001"; suffix = codes "a" }) }
+    ensures no_suffix { subdivision (codes "gb") ≡ Err InvalidExtension }
+    ensures no_subtag { subdivision (codes "g") ≡ Err InvalidSubtag }
+    ensures same_key { data_key (english (Some (codes "US")) (Some (codes "uszzzz"))) ≡ data_key (english (Some (codes "US")) None) }
+    ensures region_ignored { data_key (english (Some (codes "GB")) (Some (codes "ustx"))) ≡ data_key (english (Some (codes "US")) (Some (codes "ustx"))) }
+    ensures stored_region { data_text (english (Some (codes "GB")) (Some (codes "uszzzz"))) ≡ codes "en-GB" }
 {}

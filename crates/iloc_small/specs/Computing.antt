@@ -6,9 +6,10 @@ use Rattle.iloc_grammar.specs.Pieces.{pieces}
 use Rattle.iloc_grammar.specs.Words.{Language, Variant, UnicodeKey, Attribute, is_word, lower}
 use Rattle.iloc_grammar.specs.Written.{singleton}
 use Rattle.iloc_grammar.specs.Meaning.{normal_values}
+use Rattle.iloc_grammar.specs.Values.{text}
 use Rattle.iloc_grammar.specs.Faults.{Fault, InvalidLanguage, InvalidSubtag, InvalidExtension, head, tail_blocks, first_piece}
 use Rattle.iloc_grammar.specs.Reading.{identifier_of, first_item}
-use Rattle.iloc_small.specs.Small.{SmallIdentifier, SmallLocale, small_identifier}
+use Rattle.iloc_small.specs.Small.{SmallIdentifier, SmallLocale, locale_of_small, small_identifier}
 
 -- Identifiers: after the words at the front there is at most one piece, a variant.
 
@@ -57,3 +58,8 @@ after_identifier (Err f) bs = Err f
 -- the whole text
 unfoldable pub small_result : (ℕ → Bool) → List ℕ → Result SmallLocale Fault
 small_result T t = after_identifier (small_identifier_result T (head (pieces t))) (tail_blocks (pieces t))
+
+-- the normal text of what is read
+abbrev pub small_text : Result SmallLocale Fault → Result (List ℕ) Fault
+small_text (Ok r) = Ok (text (locale_of_small r))
+small_text (Err f) = Err f

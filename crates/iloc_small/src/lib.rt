@@ -4,14 +4,14 @@
 //! It stands on `iloc_grammar`.
 #![tactic(auto)]
 
-ghost use Rattle.std.specs.Prelude.{◌≡◌, ◌⊎◌, ℕ, Bool, true, List, MatchResult};
+ghost use Rattle.std.specs.Prelude.{◌≡◌, ◌⊎◌, ℕ, Bool, true, List, Ok, Err, MatchResult, codes};
 ghost use Rattle.iloc_grammar.specs.Pieces.{pieces};
-ghost use Rattle.iloc_grammar.specs.Words.{IsTable};
+ghost use Rattle.iloc_grammar.specs.Words.{IsTable, languages};
 ghost use Rattle.iloc_grammar.specs.Meaning.{Means, IdentifierMeans};
 ghost use Rattle.iloc_grammar.specs.Values.{text};
-ghost use Rattle.iloc_grammar.specs.Faults.{Fault};
+ghost use Rattle.iloc_grammar.specs.Faults.{Fault, InvalidLanguage, InvalidSubtag, InvalidExtension};
 ghost use Rattle.iloc_small.specs.Small.{SmallIdentifier, SmallLocale, IsSmallIdentifier, IsSmall, HasSmallIdentifierFault, HasSmallFault, IsSmallValue, identifier_of_small, locale_of_small};
-ghost use Rattle.iloc_small.specs.Computing.{small_identifier_result, small_result};
+ghost use Rattle.iloc_small.specs.Computing.{small_identifier_result, small_result, small_text};
 ghost use Rattle.iloc_small.specs.Inline.{IsInline};
 
 /// A small text is read in one way, and is a locale of the same parts and nothing else.
@@ -47,4 +47,22 @@ pub fn small_is_inline()
 /// Over a wider table of languages a small text stays what it is.
 pub fn wider_small()
     ensures { (T U : ℕ → Bool) → ((n : ℕ) → T n ≡ true → U n ≡ true) → (t : List ℕ) (r : SmallLocale) → IsSmall T t r → IsSmall U t r }
+{}
+
+/// Worked texts.
+pub fn by_example()
+    ensures identifier { small_text (small_result languages (codes "EN-us-Posix")) ≡ Ok (codes "en-US-posix") }
+    ensures keyword { small_text (small_result languages (codes "EN-U-CA-true-Buddhist")) ≡ Ok (codes "en-u-ca-buddhist") }
+    ensures two_trues { small_text (small_result languages (codes "en-u-ca-true-true")) ≡ Ok (codes "en-u-ca") }
+    ensures no_language { small_result languages (codes "e") ≡ Err InvalidLanguage }
+    ensures two_variants { small_result languages (codes "en-macos-posix") ≡ Err InvalidSubtag }
+    ensures no_singleton { small_result languages (codes "en-!") ≡ Err InvalidExtension }
+    ensures another_singleton { small_result languages (codes "en-t-en") ≡ Err InvalidSubtag }
+    ensures attribute { small_result languages (codes "en-u-foo") ≡ Err InvalidSubtag }
+    ensures nothing_after_u { small_result languages (codes "en-u") ≡ Err InvalidExtension }
+    ensures no_key { small_result languages (codes "en-u-a8") ≡ Err InvalidExtension }
+    ensures two_keys { small_result languages (codes "en-u-ca-foo-ca-foo") ≡ Err InvalidSubtag }
+    ensures two_values { small_result languages (codes "en-u-ca-foo-bar") ≡ Err InvalidSubtag }
+    ensures another_block { small_result languages (codes "en-u-ca-foo-x-bar") ≡ Err InvalidSubtag }
+    ensures two_bytes_after_the_key { small_result languages (codes "en-u-ca-a8") ≡ Err InvalidSubtag }
 {}
