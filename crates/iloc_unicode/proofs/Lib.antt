@@ -1,2 +1,4 @@
 mod AttributeLemmas
+mod Filtered
+mod MapLemmas
 mod TakingLemmas

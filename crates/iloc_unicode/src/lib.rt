@@ -8,6 +8,8 @@
 #![tactic(auto)]
 
 pub mod attributes;
+pub mod keywords;
 pub mod reader;
 
 pub use attributes::Attributes;
+pub use keywords::{Keywords, KeywordsIter};
