@@ -1,10 +1,9 @@
 -- Attributes that are taken one at a time.
-use Rattle.std.proofs.Common.{◌≡◌, ℕ, suc, ◌+◌, ◌<◌, ◌≤◌, Bool, true, false, cond, List, [], ◌∷◌, ◌++◌, length, map, refl, sym, ap, ◌∙◌, arith, append-nil, Option, Some, None, option_map, is_some}
+use Rattle.std.proofs.Common.{◌≡◌, ℕ, ◌+◌, ◌<◌, ◌≤◌, Bool, true, false, cond, List, [], ◌∷◌, ◌++◌, length, map, refl, sym, ap, ◌∙◌, arith, append-nil, Some, None, option_map, is_some}
 use Rattle.std.specs.List.{list_any}
-use Rattle.std.specs.FinMap.{put, find}
 use Rattle.std.specs.FinMap.Entries.{is_some-find, length-put}
 use Rattle.std.proofs.lemmas.List.{map-append, length-map}
-use Rattle.iloc_grammar.specs.Words.{Attribute, is_word, IsWord, lower, word_cmp, is_same}
+use Rattle.iloc_grammar.specs.Words.{Attribute, is_word, lower, word_cmp, is_same}
 use Rattle.iloc_grammar.specs.Meaning.{map_of, set_of}
 use Rattle.iloc_grammar.specs.Steps.{Reordered}
 use Rattle.iloc_grammar.specs.Reading.{take_first, skip_first, passing, past}
@@ -75,7 +74,7 @@ set_longer w set more is new =
     let same : length (map_of word_cmp (mark set)) ≡ length set = sym (length-set set) ∙ ap length is in
     let l = grows more (w ∷ set) in
     let whole : length (set_of (set ++ w ∷ more)) ≡ length (map_of word_cmp (mark (more ++ w ∷ set))) =
-        ap length (sym (set_of_reordered (moved w set more)) ∙ set_of_reordered (swapped (w ∷ set) more)) ∙ length-set (more ++ w ∷ set) in
+    ap length (sym (set_of_reordered (moved w set more)) ∙ set_of_reordered (swapped (w ∷ set) more)) ∙ length-set (more ++ w ∷ set) in
     omega arith
 
 -- of the words before, those up to now are in the set

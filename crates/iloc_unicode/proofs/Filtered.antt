@@ -1,5 +1,5 @@
 -- What a test in turn keeps of a list.
-use Rattle.std.proofs.Common.{◌≡◌, Bool, List, [], ◌∷◌}
+use Rattle.std.proofs.Common.{Bool, List, [], ◌∷◌}
 use Rattle.std.specs.List.Retain.{IsFiltered, ReturnsInTurn}
 
 module _ {P Q X : Type 0} (R : P → X → Bool → P → Type 0) (S : Q → X → Bool → Q → Type 0) (h : P → Q) (each : (p : P) (x : X) (b : Bool) (q : P) → R p x b q → S (h p) x b (h q)) where

@@ -1,4 +1,5 @@
 mod AttributeLemmas
 mod Filtered
+mod KeywordLemmas
 mod MapLemmas
 mod TakingLemmas

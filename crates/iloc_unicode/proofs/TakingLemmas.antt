@@ -1,5 +1,5 @@
 -- What a take of a word tells.
-use Rattle.std.proofs.Common.{◌≡◌, ℕ, Bool, true, false, cond, List, [], ◌∷◌, refl, Option, Some, None, option_map}
+use Rattle.std.proofs.Common.{◌≡◌, ℕ, Bool, true, false, cond, List, [], ◌∷◌, refl, Some, None, option_map}
 use Rattle.iloc_grammar.specs.Words.{Kind, is_word, IsWord, normal}
 use Rattle.iloc_grammar.specs.Reading.{take_first, skip_first, passing, past}
 
@@ -19,4 +19,3 @@ took_none k (p ∷ ps) e = by (is_word k p) refl e
     by : (b : Bool) → is_word k p ≡ b → None ≡ option_map (normal k) (cond b (Some p) None) → (passing (is_word k) (p ∷ ps) ≡ []) × (past (is_word k) (p ∷ ps) ≡ p ∷ ps) × (skip_first (is_word k) (p ∷ ps) ≡ p ∷ ps)
     by true h e = cc
     by false h e = (rw h refl, rw h refl, rw h refl)
-

@@ -1,13 +1,17 @@
-//! Reads attributes from pieces.
+//! Reads attributes and keywords from pieces.
 ghost use Rattle.std.specs.Prelude.{◌≡◌, ◌≤◌, length, IfOk, OnOk, IsOk};
 ghost use Rattle.iloc_grammar.specs.Words.{Attribute, is_word};
-ghost use Rattle.iloc_grammar.specs.Reading.{past};
+ghost use Rattle.iloc_grammar.specs.Faults.{first_piece};
+ghost use Rattle.iloc_grammar.specs.Reading.{is_two};
 ghost use Rattle.iloc_fronts.specs.Fronts.{attributes_read, after_attributes};
 ghost use Rattle.iloc_parser.specs.Left.{left};
+ghost use Rattle.iloc_unicode.specs.Reads.{KeywordsGive};
 
 use crate::attributes::Attributes;
+use crate::keywords::Keywords;
 use iloc_parser::{SubtagIterator, take_word};
-use iloc_subtags::AttributeKind;
+use iloc_subtags::{AttributeKind, ParseError, UnicodeKeyKind};
+use iloc_unicode_value::read_value;
 use std::alloc::{AllocError, Global};
 
 /// Reads the longest front of attribute words, as a set. Up to four attributes take no memory.
@@ -24,4 +28,31 @@ pub fn read_attributes(
         attributes.add(alloc, word)?;
     }
     Ok(attributes)
+}
+
+/// Reads the longest front of keys with their values; of equal keys the first stays. A piece of two
+/// bytes there that is no key is refused by `InvalidExtension`. One key with up to four subtags takes
+/// no memory.
+pub fn read_keywords(alloc: Global, iter: &mut SubtagIterator<'_>) -> Result<Keywords, ParseError>
+    ensures { KeywordsGive (left iter.old) (left iter.new) result }
+{
+    let mut keywords = Keywords::new();
+    'keys: while let Some(key) = take_word::<UnicodeKeyKind, 2>(iter) {
+        let value = read_value(alloc, iter)?;
+        keywords.add(alloc, key, value)?;
+    }
+    if has_two_bytes(iter) {
+        return Err(ParseError::InvalidExtension);
+    }
+    Ok(keywords)
+}
+
+// Whether the next piece has two bytes.
+fn has_two_bytes(iter: &SubtagIterator<'_>) -> bool
+    ensures { result ≡ is_two (first_piece (left iter.now)) }
+{
+    match iter.peek() {
+        Some(piece) => piece.len() == 2,
+        None => false,
+    }
 }

@@ -1,4 +1,3 @@
-use Rattle.std.proofs.Common.{sym, subst, List, ℕ}
 use Rattle.std.specs.List.Sorted.{IsStrictlySortedBy}
 use Rattle.iloc_unicode.proofs.keywords.Keywords.new_single.Goals as goal
 
