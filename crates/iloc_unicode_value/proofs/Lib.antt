@@ -1,3 +1,4 @@
 mod CutLemmas
+mod PrintLemmas
 mod ReadingLemmas
 mod WholeLemmas

@@ -4,6 +4,7 @@
 //! lists, pieces and printing.
 #![tactic(auto)]
 
+pub mod printing;
 pub mod reader;
 pub mod value;
 
