@@ -1,4 +1,5 @@
 mod CutLemmas
+mod EqualityLemmas
 mod PrintLemmas
 mod ReadingLemmas
 mod WholeLemmas
