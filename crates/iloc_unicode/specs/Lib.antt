@@ -1,1 +1,3 @@
+pub mod KeywordsOrder
 pub mod Reads
+pub mod UnicodeValue

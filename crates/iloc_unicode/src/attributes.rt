@@ -1,18 +1,25 @@
 //! The attributes of a unicode extension.
-ghost use Rattle.std.specs.Prelude.{◌≡◌, ◌<◌, ◌==◌, ◌++◌, [], ◌∷◌, true, length, slice_get, OnOk, OnErr, IfOk, IsOk};
+ghost use Rattle.std.specs.Prelude.{◌≡◌, ◌<◌, ◌≤◌, ◌+◌, ◌==◌, ◌++◌, [], ◌∷◌, true, length, OnOk, OnErr, IfOk, IsOk, Some};
 ghost use Rattle.std.specs.List.{AllByRecursion, list_any};
-ghost use Rattle.std.specs.Option.{option_copied};
-ghost use Rattle.iloc_grammar.specs.Words.{Attribute, is_same};
+ghost use Rattle.std.specs.Slice.{IsItemAt};
+ghost use Rattle.std.specs.Slice.Iter.{iter_rest};
+ghost use Rattle.iloc_grammar.specs.Pieces.{join};
+ghost use Rattle.iloc_grammar.specs.Words.{Attribute, is_same, word_cmp};
 ghost use Rattle.iloc_grammar.specs.Meaning.{set_of};
 ghost use Rattle.iloc_grammar.specs.Values.{IsNormal, IsAscending};
+ghost use Rattle.iloc_word_set.specs.Ascending.{ascends};
 
 use iloc_subtags::{Attribute, AttributeKind};
 use iloc_word_set::WordSet;
+use iloc_writeable::pieces::Pieces;
+use iloc_writeable::{Sink, Writeable};
 use std::alloc::{AllocError, Global};
+use std::fmt;
 use std::marker::Model;
+use std::slice::Iter;
 
-/// A set of attributes, kept strictly ascending.
-#[derive(Drop)]
+/// A set of attributes, kept strictly ascending. Contracts see the list of their texts.
+#[derive(Drop, Debug, PartialEq, Eq, PartialOrd, Ord, Hash)]
 pub struct Attributes {
     words: WordSet<AttributeKind, 8>,
 }
@@ -37,6 +44,47 @@ impl Attributes {
         }
     }
 
+    /// The set of these attributes, which have to ascend strictly:
+    /// `iloc_word_set::is_strictly_ascending` is the test.
+    pub fn from_vec_unchecked(input: Vec<Attribute>) -> Self
+        requires { ascends word_cmp input.items ≡ true }
+        ensures { result ≡ input.items }
+    {
+        Attributes {
+            words: WordSet::from_vec_unchecked(input),
+        }
+    }
+
+    /// Leaves the empty set, and answers the old one.
+    pub fn clear(&mut self) -> Self
+        ensures old { result ≡ self.old }
+        ensures empty { self.new ≡ [] }
+    {
+        Attributes {
+            words: self.words.clear(),
+        }
+    }
+
+    /// Adds the attributes of the other set. Where memory is refused, nothing changes.
+    pub fn extend_from_attributes(
+        &mut self,
+        alloc: Global,
+        other: Attributes,
+    ) -> Result<(), AllocError>
+        ensures ok { OnOk result (self.new ≡ set_of (self.old ++ other)) }
+        ensures err { OnErr result (self.new ≡ self.old) }
+        ensures succeeds { length self.old + length other ≤ 4 → IsOk result }
+    {
+        self.words.extend(alloc, &other.words)
+    }
+
+    /// Whether there is none.
+    pub fn is_empty(&self) -> bool
+        ensures { result ≡ (length self.now == 0) }
+    {
+        self.words.is_empty()
+    }
+
     /// The attributes, ascending.
     pub fn as_slice(&self) -> &[Attribute]
         ensures words { result.now ≡ self.now }
@@ -46,11 +94,11 @@ impl Attributes {
         self.words.as_slice()
     }
 
-    /// Whether there is none.
-    pub fn is_empty(&self) -> bool
-        ensures { result ≡ (length self.now == 0) }
+    /// The attributes in order, lent one by one.
+    pub fn iter(&self) -> Iter<'_, Attribute>
+        ensures { iter_rest result ≡ self.now }
     {
-        self.words.is_empty()
+        self.words.iter()
     }
 
     /// How many attributes there are.
@@ -62,16 +110,16 @@ impl Attributes {
 
     /// The attribute at a place; `None` from the length on.
     pub fn get(&self, index: usize) -> Option<&Attribute>
-        ensures { option_copied result ≡ slice_get self.now index }
+        ensures { IsItemAt self.now index result }
     {
-        self.as_slice().get(index)
+        self.words.get(index)
     }
 
     /// The first attribute, if there is one.
     pub fn first(&self) -> Option<&Attribute>
-        ensures { option_copied result ≡ slice_get self.now 0 }
+        ensures { IsItemAt self.now 0 result }
     {
-        self.as_slice().first()
+        self.words.first()
     }
 
     // Adds an attribute.
@@ -83,5 +131,69 @@ impl Attributes {
     {
         self.words.push(alloc, word)?;
         Ok(())
+    }
+
+    // The attributes of both sets.
+    pub(crate) fn union(&self, alloc: Global, other: &Attributes) -> Result<Attributes, AllocError>
+        ensures { IfOk result (λ a. a ≡ set_of (self.now ++ other.now)) }
+    {
+        Ok(Attributes {
+            words: self.words.union(alloc, &other.words)?,
+        })
+    }
+}
+
+impl Clone for Attributes {
+    ghost is_clone = { λ a b. b ≡ a };
+
+    fn clone(&self) -> Result<Self, AllocError> {
+        Ok(Attributes {
+            words: self.words.clone()?,
+        })
+    }
+}
+
+impl Default for Attributes {
+    ghost is_default = { λ a. a ≡ [] };
+
+    fn default() -> Self {
+        Attributes::new()
+    }
+}
+
+/// The attributes are the pieces.
+impl Pieces for Attributes {
+    ghost pieces = { λ a. a };
+
+    fn has_pieces(&self) -> bool {
+        self.words.has_pieces()
+    }
+
+    fn write_pieces<S: Sink>(&self, sink: &mut S, first: bool) -> fmt::Result {
+        self.words.write_pieces(sink, first)
+    }
+}
+
+/// Prints the attributes, ascending, with a hyphen between each two. The text of one can be lent.
+impl Writeable for Attributes {
+    ghost text = { λ a. join a };
+
+    ghost lends = { λ a. length a ≡ 1 };
+
+    fn write_to<S: Sink>(&self, sink: &mut S) -> fmt::Result {
+        self.words.write_to(sink)
+    }
+
+    fn writeable_borrow(&self) -> Option<&str> {
+        self.words.writeable_borrow()
+    }
+}
+
+/// Prints the attributes, ascending, with a hyphen between each two.
+impl fmt::Display for Attributes {
+    ghost output = { λ a. Some (join a) };
+
+    fn fmt<W: fmt::Write>(&self, f: &mut fmt::Formatter<W>) -> fmt::Result {
+        self.write_to(f)
     }
 }

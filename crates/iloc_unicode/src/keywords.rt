@@ -1,5 +1,5 @@
 //! The keywords of a unicode extension.
-ghost use Rattle.std.specs.Prelude.{◌≡◌, ◌<◌, ◌==◌, ◌↔◌, ℕ, List, [], ◌∷◌, true, length, IsSome, IsTrue, OnOk, OnErr, IfOk, IsOk, if◌then◌else◌};
+ghost use Rattle.std.specs.Prelude.{◌≡◌, ◌<◌, ◌==◌, ◌↔◌, ℕ, List, [], ◌∷◌, ◌++◌, true, length, IsSome, IsTrue, OnOk, OnErr, IfOk, IsOk, if◌then◌else◌};
 ghost use Rattle.std.specs.Fn.{CalledAt};
 ghost use Rattle.std.specs.FinMap.{find, put};
 ghost use Rattle.std.specs.Iterator.{IsFiniteIterable, Drains, YieldsFirstBy, item_count};
@@ -7,7 +7,11 @@ ghost use Rattle.std.specs.List.Retain.{IsFiltered};
 ghost use Rattle.std.specs.Map.{remove_entry};
 ghost use Rattle.std.specs.BTreeMap.{is_at};
 ghost use Rattle.std.specs.Option.{option_copied, is_some};
+ghost use Rattle.std.specs.Ordering.{as_partial_cmp};
+ghost use Rattle.std.specs.Cmp.{partial_order_from_agreeing_total};
+ghost use Rattle.std.proofs.Common.{refl};
 ghost use Rattle.iloc_grammar.specs.Words.{word_cmp};
+ghost use Rattle.iloc_grammar.specs.Meaning.{map_of};
 ghost use Rattle.iloc_litemap.specs.Pairs.{IsAscending, insert_all};
 
 use iloc_litemap::LiteMap;
@@ -15,11 +19,12 @@ use iloc_shortvec::ShortBoxSlice;
 use iloc_subtags::UnicodeKey as Key;
 use iloc_unicode_value::Value;
 use std::alloc::{AllocError, Global};
+use std::cmp::Ordering;
 use std::marker::Model;
 use std::mem;
 
 /// A map from keys to values, kept by ascending key. One pair takes no memory.
-#[derive(Drop)]
+#[derive(Drop, Debug, PartialEq, Eq, Hash)]
 pub struct Keywords {
     map: LiteMap<Key, Value, ShortBoxSlice<(Key, Value)>>,
 }
@@ -151,9 +156,11 @@ impl Keywords {
     /// Sets each pair of the other, so that for equal keys the other's value wins. Where memory is
     /// refused, nothing changes.
     pub fn extend_from_keywords(&mut self, alloc: Global, other: Keywords) -> Result<(), AllocError>
-        ensures ok { OnOk result (self.new ≡ insert_all word_cmp self.old other) }
+        ensures ok { OnOk result (self.new ≡ map_of word_cmp (other ++ self.old)) }
         ensures err { OnErr result (self.new ≡ self.old) }
     {
+        let _ = self.as_slice();
+        let _ = other.as_slice();
         let Keywords { map } = other;
         self.map.extend_from_map(alloc, map)
     }
@@ -176,6 +183,41 @@ impl From<LiteMap<Key, Value, ShortBoxSlice<(Key, Value)>>> for Keywords {
 
     fn from(map: LiteMap<Key, Value, ShortBoxSlice<(Key, Value)>>) -> Self {
         Keywords { map }
+    }
+}
+
+/// The pairs in order, as a short list, the key first.
+impl Ord for Keywords {
+    ghost use Rattle.iloc_orders.specs.Orders.{keywords_cmp};
+    ghost use Rattle.iloc_unicode.specs.KeywordsOrder.{keywords_total, keywords_ties};
+
+    ghost cmp = { keywords_cmp };
+
+    ghost total = { keywords_total };
+
+    ghost matches_partial_cmp = { λ _ _. refl };
+
+    ghost matches_eq = { keywords_ties };
+
+    fn cmp(&self, other: &Self) -> Ordering {
+        match (self.map.len() > 1, other.map.len() > 1) {
+            (false, true) => Ordering::Less,
+            (true, false) => Ordering::Greater,
+            _ => self.as_slice().cmp(&other.as_slice()),
+        }
+    }
+}
+
+impl PartialOrd for Keywords {
+    ghost use Rattle.iloc_orders.specs.Orders.{keywords_cmp};
+    ghost use Rattle.iloc_unicode.specs.KeywordsOrder.{keywords_total, keywords_ties};
+
+    ghost partial_cmp = { as_partial_cmp keywords_cmp };
+
+    ghost laws = { partial_order_from_agreeing_total keywords_cmp keywords_total (λ _ _. refl) keywords_ties };
+
+    fn partial_cmp(&self, other: &Self) -> Option<Ordering> {
+        Some(self.cmp(other))
     }
 }
 

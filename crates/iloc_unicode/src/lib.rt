@@ -10,6 +10,8 @@
 pub mod attributes;
 pub mod keywords;
 pub mod reader;
+pub mod unicode;
 
 pub use attributes::Attributes;
 pub use keywords::{Keywords, KeywordsIter};
+pub use unicode::Unicode;
