@@ -3,3 +3,4 @@ mod Filtered
 mod KeywordLemmas
 mod MapLemmas
 mod TakingLemmas
+mod UnicodeLemmas

@@ -1,10 +1,12 @@
 -- What the readers of attributes, of keywords and of what follows `u` answer, by cases on the whole answer.
 use Rattle.std.specs.Prelude.{◌≡◌, ℕ, ◌<◌, true, List, length, nat_lt, Bool, Result, Ok, Err}
 use Rattle.std.specs.List.{list_any}
+use Rattle.iloc_grammar.specs.Pieces.{pieces}
 use Rattle.iloc_grammar.specs.Written.{Fields}
 use Rattle.iloc_grammar.specs.Meaning.{normal_values, normal_fields}
 use Rattle.iloc_grammar.specs.Faults as faults
-use Rattle.iloc_fronts.specs.Fronts.{KeywordsRead, KeywordsFault}
+use Rattle.iloc_fronts.specs.Fronts.{attributes_read, KeywordsRead, KeywordsFault}
+use Rattle.iloc_fronts.specs.Parts.{AttributesText, KeywordsText, KeywordsTextFault}
 use Rattle.iloc_fronts.specs.Computing.{keywords_at}
 use Rattle.iloc_subtags.specs.declared.parse_error.ParseError.{ParseError}
 use Rattle.iloc_subtags.specs.declared.parse_error.ParseError.TheVariants.{InvalidLanguage, InvalidSubtag, InvalidExtension, DuplicatedExtension, OutOfMemory}
@@ -26,3 +28,21 @@ KeywordsGive ps rest (Err OutOfMemory) = KeywordsWantMemory ps
 KeywordsGive ps rest (Err InvalidLanguage) = ⊥
 KeywordsGive ps rest (Err InvalidSubtag) = ⊥
 KeywordsGive ps rest (Err DuplicatedExtension) = ⊥
+
+-- the text is read as attributes: the longest front of them, as a set
+abbrev pub AttributesReadAs : List ℕ → Result (List (List ℕ)) ParseError → Type 0
+AttributesReadAs t (Ok a) = AttributesText t a
+AttributesReadAs t (Err OutOfMemory) = 4 < length (attributes_read (pieces t))
+AttributesReadAs t (Err InvalidLanguage) = ⊥
+AttributesReadAs t (Err InvalidSubtag) = ⊥
+AttributesReadAs t (Err InvalidExtension) = ⊥
+AttributesReadAs t (Err DuplicatedExtension) = ⊥
+
+-- the text is read as keywords
+abbrev pub KeywordsReadAs : List ℕ → Result Fields ParseError → Type 0
+KeywordsReadAs t (Ok m) = KeywordsText t m
+KeywordsReadAs t (Err InvalidExtension) = KeywordsTextFault t faults.InvalidExtension
+KeywordsReadAs t (Err OutOfMemory) = KeywordsWantMemory (pieces t)
+KeywordsReadAs t (Err InvalidLanguage) = ⊥
+KeywordsReadAs t (Err InvalidSubtag) = ⊥
+KeywordsReadAs t (Err DuplicatedExtension) = ⊥

@@ -7,9 +7,12 @@ ghost use Rattle.iloc_grammar.specs.Pieces.{join};
 ghost use Rattle.iloc_grammar.specs.Words.{Attribute, is_same, word_cmp};
 ghost use Rattle.iloc_grammar.specs.Meaning.{set_of};
 ghost use Rattle.iloc_grammar.specs.Values.{IsNormal, IsAscending};
+ghost use Rattle.iloc_unicode.specs.Reads.{AttributesReadAs};
 ghost use Rattle.iloc_word_set.specs.Ascending.{ascends};
 
-use iloc_subtags::{Attribute, AttributeKind};
+use crate::reader::read_attributes;
+use iloc_parser::SubtagIterator;
+use iloc_subtags::{Attribute, AttributeKind, ParseError};
 use iloc_word_set::WordSet;
 use iloc_writeable::pieces::Pieces;
 use iloc_writeable::{Sink, Writeable};
@@ -42,6 +45,23 @@ impl Attributes {
         Attributes {
             words: WordSet::new(),
         }
+    }
+
+    /// Reads the longest front of attribute words, 3 to 8 letters or digits each, as a set, and ignores
+    /// the rest of the text. It is refused by `OutOfMemory` alone, and where there are at most four
+    /// different ones not at all.
+    pub fn try_from_utf8(alloc: Global, code_units: &[u8]) -> Result<Self, ParseError>
+        ensures { AttributesReadAs code_units.now result }
+    {
+        let mut iter = SubtagIterator::new(code_units);
+        Ok(read_attributes(alloc, &mut iter)?)
+    }
+
+    /// The same on a text that is UTF-8.
+    pub fn try_from_str(alloc: Global, s: &str) -> Result<Self, ParseError>
+        ensures { AttributesReadAs s.now result }
+    {
+        Attributes::try_from_utf8(alloc, s.as_bytes())
     }
 
     /// The set of these attributes, which have to ascend strictly:

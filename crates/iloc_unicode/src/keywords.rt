@@ -12,11 +12,14 @@ ghost use Rattle.std.specs.Cmp.{partial_order_from_agreeing_total};
 ghost use Rattle.std.proofs.Common.{refl};
 ghost use Rattle.iloc_grammar.specs.Words.{word_cmp};
 ghost use Rattle.iloc_grammar.specs.Meaning.{map_of};
+ghost use Rattle.iloc_unicode.specs.Reads.{KeywordsReadAs};
 ghost use Rattle.iloc_litemap.specs.Pairs.{IsAscending, insert_all};
 
+use crate::reader::read_keywords;
 use iloc_litemap::LiteMap;
+use iloc_parser::SubtagIterator;
 use iloc_shortvec::ShortBoxSlice;
-use iloc_subtags::UnicodeKey as Key;
+use iloc_subtags::{ParseError, UnicodeKey as Key};
 use iloc_unicode_value::Value;
 use std::alloc::{AllocError, Global};
 use std::cmp::Ordering;
@@ -56,6 +59,23 @@ impl Keywords {
         Keywords {
             map: LiteMap::from_sorted_store_unchecked(ShortBoxSlice::new_single((key, value))),
         }
+    }
+
+    /// Reads keys, each with the pieces after it, up to the first piece that is neither a key nor 3 to
+    /// 8 letters or digits, and ignores the rest of the text. Of equal keys the first stays; `true` is
+    /// dropped. A piece of two bytes that is met and is no key is refused by `InvalidExtension`. One key
+    /// with at most four subtags takes no memory.
+    pub fn try_from_utf8(alloc: Global, code_units: &[u8]) -> Result<Self, ParseError>
+        ensures { KeywordsReadAs code_units.now result }
+    {
+        read_keywords(alloc, &mut SubtagIterator::new(code_units))
+    }
+
+    /// The same on a text that is UTF-8.
+    pub fn try_from_str(alloc: Global, s: &str) -> Result<Self, ParseError>
+        ensures { KeywordsReadAs s.now result }
+    {
+        Keywords::try_from_utf8(alloc, s.as_bytes())
     }
 
     /// Whether there is no key.

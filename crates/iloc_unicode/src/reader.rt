@@ -1,14 +1,17 @@
-//! Reads attributes and keywords from pieces.
+//! Reads attributes, keywords and the whole extension from pieces.
 ghost use Rattle.std.specs.Prelude.{◌≡◌, ◌≤◌, length, IfOk, OnOk, IsOk};
 ghost use Rattle.iloc_grammar.specs.Words.{Attribute, is_word};
 ghost use Rattle.iloc_grammar.specs.Faults.{first_piece};
-ghost use Rattle.iloc_grammar.specs.Reading.{is_two};
+ghost use Rattle.iloc_grammar.specs.Reading.{is_two, rest_of};
 ghost use Rattle.iloc_fronts.specs.Fronts.{attributes_read, after_attributes};
 ghost use Rattle.iloc_parser.specs.Left.{left};
+ghost use Rattle.iloc_fronts.specs.Parts.{begins_part, is_letter};
 ghost use Rattle.iloc_unicode.specs.Reads.{KeywordsGive};
+ghost use Rattle.iloc_unicode.specs.UnicodeReads.{UnicodeGives};
 
 use crate::attributes::Attributes;
 use crate::keywords::Keywords;
+use crate::unicode::Unicode;
 use iloc_parser::{SubtagIterator, take_word};
 use iloc_subtags::{AttributeKind, ParseError, UnicodeKeyKind};
 use iloc_unicode_value::read_value;
@@ -54,5 +57,33 @@ fn has_two_bytes(iter: &SubtagIterator<'_>) -> bool
     match iter.peek() {
         Some(piece) => piece.len() == 2,
         None => false,
+    }
+}
+
+/// Reads what follows `u`: attributes, and then keywords, not both empty, which is refused by
+/// `InvalidExtension`.
+pub fn read_unicode(alloc: Global, iter: &mut SubtagIterator<'_>) -> Result<Unicode, ParseError>
+    ensures { UnicodeGives (left iter.old) (left iter.new) result }
+{
+    let attributes = read_attributes(alloc, iter)?;
+    let keywords = read_keywords(alloc, iter)?;
+    let unicode = Unicode {
+        keywords,
+        attributes,
+    };
+    if unicode.is_empty() {
+        return Err(ParseError::InvalidExtension);
+    }
+    Ok(unicode)
+}
+
+// Takes the next piece, and answers whether it is `u` in either case.
+pub(crate) fn takes_u(iter: &mut SubtagIterator<'_>) -> bool
+    ensures u { result ≡ begins_part (is_letter 117) (left iter.old) }
+    ensures rest { left iter.new ≡ rest_of (left iter.old) }
+{
+    match iter.next() {
+        Some([letter]) => letter.to_ascii_lowercase() == b'u',
+        _ => false,
     }
 }

@@ -6,6 +6,9 @@ ghost use Rattle.iloc_orders.specs.Orders.{unicode_cmp};
 
 use crate::attributes::Attributes;
 use crate::keywords::Keywords;
+use crate::reader::{read_unicode, takes_u};
+use iloc_parser::SubtagIterator;
+use iloc_subtags::ParseError;
 use std::alloc::{AllocError, Global};
 use std::cmp::Ordering;
 
@@ -17,6 +20,7 @@ pub struct Unicode {
 }
 
 impl Unicode {
+    ghost use Rattle.iloc_unicode.specs.UnicodeReads.{UnicodeReadsAs};
     ghost use Rattle.iloc_unicode.specs.UnicodeValue.{value_of};
 
     /// The empty extension.
@@ -28,6 +32,26 @@ impl Unicode {
             keywords: Keywords::new(),
             attributes: Attributes::new(),
         }
+    }
+
+    /// Reads `u` in either case, then attributes, then keywords, and ignores the rest of the text
+    /// (UTS #35 section 3.2). Refused by `InvalidExtension` are another first piece, a piece of two bytes
+    /// that is met among the keywords and is no key, and an extension in which both parts are empty.
+    pub fn try_from_utf8(alloc: Global, code_units: &[u8]) -> Result<Self, ParseError>
+        ensures { UnicodeReadsAs code_units.now result }
+    {
+        let mut iter = SubtagIterator::new(code_units);
+        if !takes_u(&mut iter) {
+            return Err(ParseError::InvalidExtension);
+        }
+        read_unicode(alloc, &mut iter)
+    }
+
+    /// The same on a text that is UTF-8.
+    pub fn try_from_str(alloc: Global, s: &str) -> Result<Self, ParseError>
+        ensures { UnicodeReadsAs s.now result }
+    {
+        Unicode::try_from_utf8(alloc, s.as_bytes())
     }
 
     /// Whether both parts are empty.
