@@ -12,8 +12,7 @@ use crate::reader::{read_head, read_whole};
 use iloc_parser::SubtagIterator;
 use iloc_subtags::{Language, ParseError, Region, Script};
 use iloc_word_set::Variants;
-use iloc_writeable::compare::cmp_utf8;
-use iloc_writeable::{Pieces, Sink, Writeable};
+use iloc_writeable::{Pieces, Sink, Writeable, cmp_utf8};
 use std::alloc::Global;
 use std::cmp::Ordering;
 use std::fmt;
@@ -163,12 +162,5 @@ impl fmt::Display for LanguageIdentifier {
 
     fn fmt<W: fmt::Write>(&self, f: &mut fmt::Formatter<W>) -> fmt::Result {
         self.write_to(f)
-    }
-}
-
-/// Prints the text itself.
-impl fmt::Debug for LanguageIdentifier {
-    fn fmt<W: fmt::Write>(&self, f: &mut fmt::Formatter<W>) -> fmt::Result {
-        fmt::Display::fmt(self, f)
     }
 }
