@@ -4,13 +4,14 @@ use Rattle.iloc_grammar.specs.Pieces.{pieces, join}
 use Rattle.iloc_grammar.specs.Words.{is_word, lower, upper, title, is_true, languages}
 use Rattle.iloc_grammar.specs.Written.{Identifier, transform}
 use Rattle.iloc_grammar.specs.Meaning.{Locale}
+use Rattle.iloc_grammar.specs.Values.{identifier_text}
 use Rattle.iloc_grammar.specs.Faults.{Fault, InvalidLanguage, InvalidSubtag, InvalidExtension, DuplicatedExtension}
 use Rattle.iloc_grammar.specs.Reading.{identifier_of, front_of, unicode_of, transform_of, written_of}
-use Rattle.iloc_grammar.specs.Computing.{locale_result, text_of}
+use Rattle.iloc_grammar.specs.Computing.{locale_result, text_of, identifier_result, identifier_text_of}
 use Rattle.iloc_grammar.specs.Steps.{Without, keys_differ, Trues, IdentifierStep, ExtensionStep, Step, TextStep}
-use Rattle.iloc_grammar.specs.Examples.{Normalises, IsRefused}
+use Rattle.iloc_grammar.specs.Examples.{Normalises, IsRefused, NormalisesIdentifier, IsRefusedIdentifier}
 use Rattle.iloc_grammar.proofs.RawLaws.{languages_table}
-use Rattle.iloc_grammar.proofs.ComputingLaws.{computed_means, computed_fault}
+use Rattle.iloc_grammar.proofs.ComputingLaws.{computed_means, computed_fault, computed_identifier, computed_identifier_fault}
 
 -- what the program answers, as a text
 unfoldable answer : List ℕ → Result (List ℕ) Fault
@@ -140,6 +141,48 @@ no_private_word = refused (codes "en-x") InvalidExtension refl
 pub twice : IsRefused (codes "en-a-foo-A-!") DuplicatedExtension
 unfolding answer
 twice = refused (codes "en-a-foo-A-!") DuplicatedExtension refl
+
+-- identifiers
+
+unfoldable identifier_answer : List ℕ → Result (List ℕ) Fault
+unfolding identifier_text identifier_of pieces join is_word lower upper title languages
+identifier_answer t = identifier_text_of (identifier_result languages (pieces t))
+
+identifier_from : (t u : List ℕ) (r : Result Identifier Fault) → identifier_result languages (pieces t) ≡ r → identifier_text_of r ≡ Ok u → NormalisesIdentifier t u
+identifier_from t u (Ok i) e h = record { value = i; means = (computed_identifier languages t i).0 e; printed = cc }
+identifier_from t u (Err f) e h = cc
+
+no_identifier_from : (t : List ℕ) (f : Fault) (r : Result Identifier Fault) → identifier_result languages (pieces t) ≡ r → identifier_text_of r ≡ Err f → IsRefusedIdentifier t f
+no_identifier_from t f (Ok i) e h = cc
+no_identifier_from t f (Err g) e h = (computed_identifier_fault languages t f).0 cc
+
+normalises_identifier : (t u : List ℕ) → identifier_answer t ≡ Ok u → NormalisesIdentifier t u
+unfolding identifier_answer
+normalises_identifier t u h = identifier_from t u (identifier_result languages (pieces t)) refl h
+
+refused_identifier : (t : List ℕ) (f : Fault) → identifier_answer t ≡ Err f → IsRefusedIdentifier t f
+unfolding identifier_answer
+refused_identifier t f h = no_identifier_from t f (identifier_result languages (pieces t)) refl h
+
+pub identifier_everything : NormalisesIdentifier (codes "EN-latn-us-POSIX-macos") (codes "en-Latn-US-macos-posix")
+unfolding identifier_answer
+identifier_everything = normalises_identifier (codes "EN-latn-us-POSIX-macos") (codes "en-Latn-US-macos-posix") refl
+
+pub identifier_of_digits : NormalisesIdentifier (codes "de-419-1996") (codes "de-419-1996")
+unfolding identifier_answer
+identifier_of_digits = normalises_identifier (codes "de-419-1996") (codes "de-419-1996") refl
+
+pub identifier_of_nothing : IsRefusedIdentifier [] InvalidLanguage
+unfolding identifier_answer
+identifier_of_nothing = refused_identifier [] InvalidLanguage refl
+
+pub identifier_with_extension : IsRefusedIdentifier (codes "en-u-ca") InvalidSubtag
+unfolding identifier_answer
+identifier_with_extension = refused_identifier (codes "en-u-ca") InvalidSubtag refl
+
+pub identifier_variant_twice : IsRefusedIdentifier (codes "en-macos-posix-MACOS") InvalidSubtag
+unfolding identifier_answer
+identifier_variant_twice = refused_identifier (codes "en-macos-posix-MACOS") InvalidSubtag refl
 
 -- the two settled readings of the steps
 

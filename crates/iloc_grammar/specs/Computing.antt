@@ -10,7 +10,7 @@ use Rattle.iloc_grammar.specs.Pieces.{pieces}
 use Rattle.iloc_grammar.specs.Words.{Language, Script, Region, Variant, UnicodeKey, TransformKey, Attribute, PrivateSubtag, is_word, lower, word_cmp}
 use Rattle.iloc_grammar.specs.Written.{Identifier, Unicode, Transform, Extension, unicode, transform, other, kept, is_other_singleton, singleton}
 use Rattle.iloc_grammar.specs.Meaning.{Locale, normal_identifier, meaning}
-use Rattle.iloc_grammar.specs.Values.{text}
+use Rattle.iloc_grammar.specs.Values.{text, identifier_text}
 use Rattle.iloc_grammar.specs.Faults.{Fault, InvalidLanguage, InvalidSubtag, InvalidExtension, DuplicatedExtension}
 use Rattle.iloc_grammar.specs.Blocks.{first_piece, head, tail_blocks}
 use Rattle.iloc_grammar.specs.Reading.{identifier_of, front_of, extension_of, written_of}
@@ -90,7 +90,12 @@ locale_result T t =
     if not (is_identifier T (identifier_of (head (pieces t)))) then Err InvalidSubtag else
     unless_fault (first_fault T [] (tail_blocks (pieces t))) (meaning (written_of (pieces t)))
 
--- the normal text of what a text means
+-- the normal text of what a text means, as an identifier and as a locale
+
+abbrev pub identifier_text_of : Result Identifier Fault → Result (List ℕ) Fault
+identifier_text_of (Ok i) = Ok (identifier_text i)
+identifier_text_of (Err f) = Err f
+
 abbrev pub text_of : Result Locale Fault → Result (List ℕ) Fault
 text_of (Ok M) = Ok (text M)
 text_of (Err f) = Err f
