@@ -1,0 +1,191 @@
+//! Identifiers on outside examples, each public call once at least.
+use crate::{LanguageIdentifier, Lowercase};
+use iloc_subtags::{Language, ParseError, Region, Script, Variant};
+use iloc_writeable::{LengthHint, Pieces, Writeable};
+use std::alloc::Global;
+use std::cmp::Ordering;
+use std::test::Fail;
+
+fn read(alloc: Global, text: &str) -> Result<LanguageIdentifier, ParseError> {
+    LanguageIdentifier::try_from_str(alloc, text)
+}
+
+#[test]
+fn reads_and_prints(rt: HostRuntime) -> Result<(), Fail> {
+    let alloc = rt.alloc();
+    let cases = [
+        ("EN-latn-us-POSIX-macos", "en-Latn-US-macos-posix"),
+        ("German-DE", "german-DE"),
+        ("posix-posix", "posix-posix"),
+        ("en-abcdefgh", "en-abcdefgh"),
+        ("und", "und"),
+        ("es-419", "es-419"),
+        ("sl-1994-ROZAJ-biske", "sl-1994-biske-rozaj"),
+        (
+            "en-aaaaa-bbbbb-ccccc-ddddd-eeeee",
+            "en-aaaaa-bbbbb-ccccc-ddddd-eeeee",
+        ),
+    ];
+    for (text, normal) in cases {
+        let identifier = read(alloc, text)?;
+        let printed = identifier.write_to_string(alloc)?;
+        assert_eq!(rt; printed.as_str(), normal);
+        assert_eq!(rt;
+            identifier.writeable_length_hint(),
+            LengthHint::exact(normal.len())
+        );
+        let shown = format!(in alloc; "{identifier} {identifier:?}")?;
+        let twice = format!(in alloc; "{normal} {normal}")?;
+        assert_eq!(rt; shown.as_str(), twice.as_str());
+        assert!(rt; identifier.normalizing_eq(text));
+        assert!(rt; identifier == identifier.clone()?);
+    }
+    Ok(())
+}
+
+#[test]
+fn refuses_by_name(rt: HostRuntime) -> Result<(), Fail> {
+    let alloc = rt.alloc();
+    for text in [
+        "",
+        "x-foo",
+        "419",
+        "latn",
+        "german1",
+        "abcdefghi",
+        "\u{e9}",
+        "-",
+    ] {
+        assert_eq!(rt; read(alloc, text).err(), Some(ParseError::InvalidLanguage));
+    }
+    for text in [
+        "en-",
+        "en-foo",
+        "en-u-ca",
+        "en-posix-POSIX",
+        "en-abcdefghi",
+        "en-US-Latn",
+        "en--US",
+    ] {
+        assert_eq!(rt; read(alloc, text).err(), Some(ParseError::InvalidSubtag));
+    }
+    let mut hyphens = Vec::new(alloc);
+    hyphens.resize(4000, b'-')?;
+    let refused = LanguageIdentifier::try_from_utf8(alloc, hyphens.as_slice());
+    assert_eq!(rt; refused.err(), Some(ParseError::InvalidLanguage));
+    Ok(())
+}
+
+#[test]
+fn reads_the_head_of_a_locale(rt: HostRuntime) -> Result<(), Fail> {
+    let alloc = rt.alloc();
+    for (text, normal) in [("en-US-u-ca", "en-US"), ("en-!", "en"), ("en-us", "en-US")] {
+        let head = LanguageIdentifier::try_from_locale_bytes(alloc, text.as_bytes())?;
+        assert!(rt; head.strict_cmp(normal.as_bytes()) == Ordering::Equal);
+    }
+    let refused = LanguageIdentifier::try_from_locale_bytes(alloc, b"en-foo-u-ca");
+    assert_eq!(rt; refused.err(), Some(ParseError::InvalidSubtag));
+    Ok(())
+}
+
+#[test]
+fn reads_one_variant_without_memory(rt: HostRuntime) -> Result<(), Fail> {
+    let (language, script, region, variant) = LanguageIdentifier::try_from_utf8_with_single_variant(
+        b"EN-latn-us-MACOS",
+    )?;
+    assert_eq!(rt; language, Language::try_from_str("en")?);
+    assert_eq!(rt; script, Some(Script::try_from_str("Latn")?));
+    assert_eq!(rt; region, Some(Region::try_from_str("US")?));
+    assert_eq!(rt; variant, Some(Variant::try_from_str("macos")?));
+    for (text, refusal) in [
+        ("en-u-ca", ParseError::InvalidSubtag),
+        ("en-macos-posix", ParseError::InvalidSubtag),
+        ("en-macos-macos", ParseError::InvalidSubtag),
+        ("latn", ParseError::InvalidLanguage),
+    ] {
+        let refused = LanguageIdentifier::try_from_utf8_with_single_variant(text.as_bytes());
+        assert_eq!(rt; refused.err(), Some(refusal));
+    }
+    Ok(())
+}
+
+#[test]
+fn compares(rt: HostRuntime) -> Result<(), Fail> {
+    let alloc = rt.alloc();
+    let read_one = read(alloc, "en-posix-macos")?;
+    assert!(rt; read_one.normalizing_eq("en-posix-macos"));
+    assert!(rt; read_one.normalizing_eq("EN-MACOS-posix"));
+    assert!(rt; !read_one.normalizing_eq("en-posix"));
+    assert!(rt; !read_one.normalizing_eq("en-posix-posix"));
+    let english = read(alloc, "en")?;
+    assert!(rt; !english.normalizing_eq("en-US"));
+    assert!(rt; !english.normalizing_eq("en-"));
+    let american = read(alloc, "en-US")?;
+    assert!(rt; american.strict_cmp(b"en-US-") == Ordering::Less);
+    assert!(rt; american.strict_cmp(b"en") == Ordering::Greater);
+    let posix = read(alloc, "en-posix")?;
+    let both = read(alloc, "en-macos-posix")?;
+    assert!(rt; posix.total_cmp(&both) == Ordering::Less);
+    assert!(rt; posix.strict_cmp(b"en-macos-posix") == Ordering::Greater);
+    Ok(())
+}
+
+#[test]
+fn normalizes(rt: HostRuntime) -> Result<(), Fail> {
+    let alloc = rt.alloc();
+    let kept = LanguageIdentifier::normalize(alloc, "en-US")?;
+    assert!(rt; matches!(&kept, std::borrow::CowStr::Borrowed(_)));
+    assert_eq!(rt; kept.as_str(), "en-US");
+    let made = LanguageIdentifier::normalize(alloc, "en-us")?;
+    assert!(rt; matches!(&made, std::borrow::CowStr::Owned(_)));
+    assert_eq!(rt; made.as_str(), "en-US");
+    let refused = LanguageIdentifier::normalize_utf8(alloc, b"en-\xff");
+    assert_eq!(rt; refused.err(), Some(ParseError::InvalidSubtag));
+    Ok(())
+}
+
+#[test]
+fn converts(rt: HostRuntime) -> Result<(), Fail> {
+    let alloc = rt.alloc();
+    let language = Language::try_from_str("fr")?;
+    let script = Some(Script::try_from_str("Latn")?);
+    let region = Some(Region::try_from_str("CA")?);
+    let whole = LanguageIdentifier::from((language, script, region));
+    assert!(rt; whole == read(alloc, "fr-Latn-CA")?);
+    assert!(rt; LanguageIdentifier::from(language) == read(alloc, "fr")?);
+    assert!(rt; LanguageIdentifier::from(script) == read(alloc, "und-Latn")?);
+    assert!(rt; LanguageIdentifier::from(region) == read(alloc, "und-CA")?);
+    let parts = <(Language, Option<Script>, Option<Region>)>::from(&whole);
+    assert_eq!(rt; parts.0, language);
+    assert_eq!(rt; parts.2, region);
+    assert!(rt; LanguageIdentifier::unknown().is_unknown());
+    assert!(rt; !whole.is_unknown());
+    let mut lower = String::new(alloc);
+    let outcome = Lowercase(&whole).write_joined(&mut lower);
+    assert!(rt; outcome.is_ok());
+    assert_eq!(rt; lower.as_str(), "fr-latn-ca");
+    Ok(())
+}
+
+#[test]
+fn sorts_two_thousand_variants(rt: HostRuntime) -> Result<(), Fail> {
+    let alloc = rt.alloc();
+    let mut text = String::from_str(alloc, "en")?;
+    for n in 0..2000u32 {
+        let left = 1999 - n;
+        let piece = format!(in alloc; "-{left:05}")?;
+        text.push_str(piece.as_str())?;
+    }
+    let identifier = read(alloc, text.as_str())?;
+    assert_eq!(rt; identifier.variants.len(), 2000);
+    let printed = identifier.write_to_string(alloc)?;
+    assert_eq!(rt; printed.as_str().len(), 12002);
+    assert!(rt; printed.as_str().starts_with("en-00000-00001-00002-"));
+    assert!(rt; printed.as_str().ends_with("-01998-01999"));
+    text.push_str("-01999")?;
+    assert_eq!(rt;
+        read(alloc, text.as_str()).err(),
+        Some(ParseError::InvalidSubtag)
+    );
+    Ok(())
+}
