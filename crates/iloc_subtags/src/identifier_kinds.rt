@@ -249,14 +249,14 @@ impl WordOf<SubtagKind, 8> {
         ensures least { 2 ≤ result }
         ensures most { result ≤ 8 }
     {
-        self.as_str().len()
+        self.to_tinystr().len()
     }
 
     /// The text as a short text.
     pub fn as_tinystr(&self) -> TinyAsciiStr<8>
         ensures { result ≡ self.now }
     {
-        self.to_tinystr()
+        TinyAsciiStr::from(*self)
     }
 
     /// Whether the text is exactly this one, its case too.

@@ -49,6 +49,6 @@ impl From<AllocError> for ParseError {
     ghost from_gives = { λ _ error. error ≡ OutOfMemory };
 
     fn from(_error: AllocError) -> ParseError {
-        ParseError::OutOfMemory
+        Self::OutOfMemory
     }
 }

@@ -123,7 +123,8 @@ impl<K: WordKind<N>, const N: usize> WordOf<K, N> {
         ensures value { result ≡ self.now }
         ensures normal { IsNormal K.kind self.now }
     {
-        self.text
+        let text = &self.text;
+        *text
     }
 
     /// The byte order of the word's text against the bytes.
@@ -172,7 +173,7 @@ impl<K: WordKind<N>, const N: usize> From<WordOf<K, N>> for TinyAsciiStr<N> {
     ghost from_gives = { λ word text. text ≡ word };
 
     fn from(word: WordOf<K, N>) -> TinyAsciiStr<N> {
-        word.text
+        word.to_tinystr()
     }
 }
 

@@ -1,0 +1,117 @@
+//! Times reading and comparing words: `words_bench CALL ROUNDS` makes so many calls and prints a checksum,
+//! and whoever runs it takes the time.
+#![tactic(auto)]
+
+use iloc_subtags::{Language, Subtag};
+use std::cmp::Ordering;
+use std::io;
+use std::rt::Env;
+
+const TEXTS: [&str; 4] = ["en", "GERMAN", "sr", "und"];
+
+const SUBTAGS: [&str; 4] = ["buddhist", "Latn", "1996", "posix"];
+
+/// The lengths of what is read, summed.
+fn read_languages(rounds: u32) -> usize {
+    let mut sum = 0usize;
+    for i in 0..rounds {
+        let text = TEXTS[(i % 4) as usize];
+        if let Ok(word) = Language::try_from_utf8(text.as_bytes()) {
+            sum = sum.wrapping_add(word.as_str().len());
+        }
+    }
+    sum
+}
+
+fn read_subtags(rounds: u32) -> usize {
+    let mut sum = 0usize;
+    for i in 0..rounds {
+        let text = SUBTAGS[(i % 4) as usize];
+        if let Ok(word) = Subtag::try_from_utf8(text.as_bytes()) {
+            sum = sum.wrapping_add(word.as_str().len());
+        }
+    }
+    sum
+}
+
+/// The words of the texts.
+fn words() -> [Language; 4] {
+    let mut words = [Language::unknown(); 4];
+    for i in 0..4 {
+        if let Ok(word) = Language::try_from_str(TEXTS[i]) {
+            words[i] = word;
+        }
+    }
+    words
+}
+
+/// How many words are less than another.
+fn compare(rounds: u32) -> usize {
+    let words = words();
+    let mut less = 0usize;
+    for i in 0..rounds {
+        let next = i / 4;
+        let word = words[(i % 4) as usize];
+        let other = words[(next % 4) as usize];
+        if word < other {
+            less = less.wrapping_add(1);
+        }
+    }
+    less
+}
+
+fn compare_texts(rounds: u32) -> usize {
+    let words = words();
+    let mut less = 0usize;
+    for i in 0..rounds {
+        let other = i / 4;
+        let text = TEXTS[(other % 4) as usize];
+        if words[(i % 4) as usize].strict_cmp(text.as_bytes()) == Ordering::Less {
+            less = less.wrapping_add(1);
+        }
+    }
+    less
+}
+
+fn match_texts(rounds: u32) -> usize {
+    let words = words();
+    let mut same = 0usize;
+    for i in 0..rounds {
+        let other = i / 4;
+        if words[(i % 4) as usize].normalizing_eq(TEXTS[(other % 4) as usize]) {
+            same = same.wrapping_add(1);
+        }
+    }
+    same
+}
+
+/// The checksum of so many calls.
+fn checksum(call: &str, rounds: u32) -> Option<usize> {
+    match call {
+        "read_language" => Some(read_languages(rounds)),
+        "read_subtag" => Some(read_subtags(rounds)),
+        "cmp" => Some(compare(rounds)),
+        "strict_cmp" => Some(compare_texts(rounds)),
+        "normalizing_eq" => Some(match_texts(rounds)),
+        _ => None,
+    }
+}
+
+/// The argument at a place, where it is a text of at most 16 bytes.
+fn argument<'a>(rt: &impl Env, place: usize, buffer: &'a mut [u8; 16]) -> Option<&'a str> {
+    let length = rt.arg(place, buffer).ok()?;
+    str::from_utf8(&buffer[..length]).ok()
+}
+
+fn main(rt: HostRuntime) -> io::Result<()> {
+    let mut call = [0u8; 16];
+    let mut rounds = [0u8; 16];
+    let sum = argument(&rt, 1, &mut call).and_then(|call| {
+        let rounds = argument(&rt, 2, &mut rounds)?.parse::<u32>().ok()?;
+        checksum(call, rounds)
+    });
+    match sum {
+        Some(sum) => println!(rt; "{sum}"),
+        None => println!(rt; "words_bench CALL ROUNDS"),
+    }
+}
