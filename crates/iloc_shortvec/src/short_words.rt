@@ -215,7 +215,7 @@ impl<T: Copy> ShortWords<T> {
             Kept::Inline(items) => {
                 if items.len() == 1 {
                     let item = items.as_slice()[0];
-                    self.kept = Kept::Empty(Nothing::new());
+                    *self = ShortWords::new();
                     item
                 } else {
                     items.remove(index)
