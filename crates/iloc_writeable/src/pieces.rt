@@ -1,5 +1,5 @@
 //! What prints as pieces with hyphens between them.
-ghost use Rattle.std.specs.Prelude.{◌≡◌, ℕ, List, [], ◌∷◌, ◌++◌, Bool, true, false, not, ◌&&◌, option_to_list, encode_utf8};
+ghost use Rattle.std.specs.Prelude.{◌≡◌, ℕ, List, [], ◌∷◌, ◌++◌, true, false, not, ◌&&◌, option_to_list, encode_utf8};
 ghost use Rattle.std.specs.List.{flat_map, join_with_byte};
 ghost use Rattle.iloc_writeable.specs.Writing.{Writes};
 ghost use Rattle.iloc_writeable.specs.Pieces.{hyphened, is_there};
