@@ -1,5 +1,4 @@
 //! The length of a printed text, without the text.
-ghost use Rattle.std.specs.Prelude.{◌≡◌, ◌+◌, ℕ, length};
 
 use crate::hint::LengthHint;
 use crate::sink::Sink;

@@ -1,5 +1,5 @@
 //! What prints as pieces with hyphens between them.
-ghost use Rattle.std.specs.Prelude.{◌≡◌, ℕ, List, [], ◌∷◌, ◌++◌, Bool, true, false, not, ◌&&◌, option_to_list, encode_utf8};
+ghost use Rattle.std.specs.Prelude.{◌≡◌, ℕ, List, [], ◌∷◌, ◌++◌, true, false, not, ◌&&◌, option_to_list, encode_utf8};
 ghost use Rattle.std.specs.List.{flat_map, join_with_byte};
 ghost use Rattle.iloc_writeable.specs.Writing.{Writes};
 ghost use Rattle.iloc_writeable.specs.Pieces.{hyphened, is_there};
@@ -8,6 +8,10 @@ use crate::sink::Sink;
 use std::fmt;
 
 /// What prints as pieces, with a hyphen between each two.
+///
+/// A printer is one expression over the parts: a tuple of parts has the pieces of each in order, an `Option`
+/// those of its part if there is one, a slice those of each item, a reference those of what it refers to.
+/// So a slice of pairs of a key and a list prints each key and then its list.
 pub trait Pieces {
     /// The pieces, in order.
     ghost pieces: { Self → List (List ℕ) };
@@ -73,6 +77,7 @@ impl Pieces for char {
     }
 }
 
+/// The pieces of what is referred to.
 impl<P: Pieces> Pieces for &P {
     ghost pieces = { λ part. P.pieces part.now };
 
@@ -142,6 +147,7 @@ impl<P: Pieces> Pieces for &[P] {
     }
 }
 
+/// The pieces of three parts, in order.
 impl<P: Pieces, Q: Pieces, R: Pieces> Pieces for (P, Q, R) {
     ghost pieces = { λ parts. P.pieces parts.0 ++ (Q.pieces parts.1 ++ R.pieces parts.2) };
 
@@ -154,6 +160,7 @@ impl<P: Pieces, Q: Pieces, R: Pieces> Pieces for (P, Q, R) {
     }
 }
 
+/// The pieces of four parts, in order.
 impl<P: Pieces, Q: Pieces, R: Pieces, T: Pieces> Pieces for (P, Q, R, T) {
     ghost pieces = { λ parts. P.pieces parts.0 ++ (Q.pieces parts.1 ++ (R.pieces parts.2 ++ T.pieces parts.3)) };
 
@@ -166,6 +173,7 @@ impl<P: Pieces, Q: Pieces, R: Pieces, T: Pieces> Pieces for (P, Q, R, T) {
     }
 }
 
+/// The pieces of five parts, in order.
 impl<P: Pieces, Q: Pieces, R: Pieces, T: Pieces, U: Pieces> Pieces for (P, Q, R, T, U) {
     ghost pieces = { λ parts. P.pieces parts.0 ++ (Q.pieces parts.1 ++ (R.pieces parts.2 ++ (T.pieces parts.3 ++ U.pieces parts.4))) };
 

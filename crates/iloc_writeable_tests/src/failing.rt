@@ -1,5 +1,5 @@
 //! Sinks for tests.
-ghost use Rattle.std.specs.Prelude.{◌≡◌, ℕ, ◌<◌, ◌≤◌, List, [], ◌++◌};
+ghost use Rattle.std.specs.Prelude.{◌≡◌, []};
 ghost use Rattle.std.specs.String.{string_bytes};
 
 use iloc_writeable::Sink;

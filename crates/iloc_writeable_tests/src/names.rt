@@ -1,6 +1,6 @@
 //! Words joined by hyphens.
-ghost use Rattle.std.specs.Prelude.{◌≡◌, ◌∷◌, Some};
-ghost use Rattle.std.specs.List.{flat_map, join_with_byte};
+ghost use Rattle.std.specs.Prelude.{◌≡◌, Some};
+ghost use Rattle.std.specs.List.{join_with_byte};
 
 use iloc_writeable::{Pieces, Sink, Writeable};
 use std::fmt;
