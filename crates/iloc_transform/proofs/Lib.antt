@@ -2,3 +2,4 @@ pub mod ValueLemmas
 pub mod PrintLemmas
 pub mod FieldsLemmas
 pub mod MapLemmas
+pub mod TransformLemmas
