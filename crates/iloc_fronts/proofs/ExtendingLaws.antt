@@ -1,13 +1,18 @@
--- Extending is associative.
-use Rattle.std.proofs.Common.{◌≡◌, ℕ, true, false, cond, List, [], ◌∷◌, ◌++◌, map, refl, sym, ap, ◌∙◌, Some, append_assoc}
+-- Extending is override of maps and union of sets, and so associative.
+use Rattle.std.proofs.Common.{◌≡◌, ℕ, true, false, cond, ◌||◌, List, [], ◌∷◌, ◌++◌, map, refl, sym, ap, ◌∙◌, Some, is_some, append_assoc, append-nil}
+use Rattle.std.specs.List.{AllByRecursion, list_any}
 use Rattle.std.specs.Option.{option_or}
 use Rattle.std.specs.Ordering.{eq_by_cmp}
 use Rattle.std.specs.FinMap.{find}
 use Rattle.std.proofs.lemmas.List.{map-append}
-use Rattle.iloc_grammar.specs.Words.{word_cmp}
+use Rattle.iloc_grammar.specs.Words.{UnicodeKey, Subtag, Attribute, word_cmp, is_same}
 use Rattle.iloc_grammar.specs.Written.{Unicode}
 use Rattle.iloc_grammar.specs.Meaning.{map_of, set_of}
-use Rattle.iloc_grammar.proofs.MapLaws.{word_cmp_total, same_words, find-map_of, map_of_same}
+use Rattle.iloc_grammar.specs.Values.{IsNormal, IsUnicodeValue}
+use Rattle.iloc_grammar.proofs.MapLaws.{word_cmp_total, same_words, find-map_of, map_of_same, all-map_of, is_sorted-map_of, map_of_sorted}
+use Rattle.iloc_grammar.proofs.ReadBack.{all_append}
+use Rattle.iloc_grammar.proofs.ValuesLaws.{set_of_ascending}
+use Rattle.iloc_grammar.proofs.WellRead.{all-set_of, set_of-ascending}
 use Rattle.iloc_fronts.specs.Extending.{extend}
 
 module _ {X : Type 0} where
@@ -46,3 +51,43 @@ extend_associative u v w = λ i. record {
   attributes = (set_first (u.attributes ++ v.attributes) w.attributes ∙ ap set_of (append_assoc u.attributes v.attributes w.attributes) ∙ sym (set_last u.attributes (v.attributes ++ w.attributes))) i;
   keywords = (map_last w.keywords (v.keywords ++ u.keywords) ∙ ap (map_of word_cmp) (sym (append_assoc w.keywords v.keywords u.keywords)) ∙ sym (map_first (w.keywords ++ v.keywords) u.keywords)) i;
 }
+
+-- sets and maps
+
+pub extend_overrides : (u v : Unicode) (k : List ℕ) → find word_cmp k (extend u v).keywords ≡ option_or (find word_cmp k v.keywords) (find word_cmp k u.keywords)
+extend_overrides u v k = find-map_of word_cmp word_cmp_total k (v.keywords ++ u.keywords) ∙ find_both k v.keywords u.keywords
+
+-- a word is in a set where some mark is found
+
+find_marked : (w : List ℕ) (ws : List (List ℕ)) → list_any (is_same w) ws ≡ is_some (find word_cmp w (mark ws))
+find_marked w [] = refl
+find_marked w (v ∷ ws) = ap (λ b. is_same w v || b) (find_marked w ws) ∙ elim (is_same w v) as (λ b. (b || is_some (find word_cmp w (mark ws))) ≡ is_some (cond b (Some tt) (find word_cmp w (mark ws)))) [ true ↦ refl | false ↦ refl ]
+
+in_set : (w : List ℕ) (ws : List (List ℕ)) → list_any (is_same w) (set_of ws) ≡ list_any (is_same w) ws
+in_set w ws = find_marked w (set_of ws) ∙ ap (λ es. is_some (find word_cmp w es)) (remark (map_of word_cmp (mark ws))) ∙ ap is_some (find-map_of word_cmp word_cmp_total w (mark ws)) ∙ sym (find_marked w ws)
+
+in_both : (w : List ℕ) (vs ws : List (List ℕ)) → list_any (is_same w) (vs ++ ws) ≡ (list_any (is_same w) vs || list_any (is_same w) ws)
+in_both w [] ws = refl
+in_both w (v ∷ vs) ws = ap (λ b. is_same w v || b) (in_both w vs ws) ∙ elim (is_same w v) as (λ b. (b || (list_any (is_same w) vs || list_any (is_same w) ws)) ≡ ((b || list_any (is_same w) vs) || list_any (is_same w) ws)) [ true ↦ refl | false ↦ refl ]
+
+pub extend_unites : (u v : Unicode) (w : List ℕ) → list_any (is_same w) (extend u v).attributes ≡ (list_any (is_same w) u.attributes || list_any (is_same w) v.attributes)
+extend_unites u v w = in_set w (u.attributes ++ v.attributes) ∙ in_both w u.attributes v.attributes
+
+-- values stay values
+
+abbrev IsKeywordValue : List ℕ × List (List ℕ) → Type 0
+IsKeywordValue f = IsNormal UnicodeKey f.0 × AllByRecursion (IsNormal Subtag) f.1
+
+pub extend_is_value : (u v : Unicode) → IsUnicodeValue u → IsUnicodeValue v → IsUnicodeValue (extend u v)
+extend_is_value u v h k = record {
+  attributes = all-set_of (IsNormal Attribute) (u.attributes ++ v.attributes) (all_append (IsNormal Attribute) u.attributes v.attributes h.attributes k.attributes);
+  ascending = set_of-ascending (u.attributes ++ v.attributes);
+  keywords = all-map_of word_cmp same_words IsKeywordValue (v.keywords ++ u.keywords) (all_append IsKeywordValue v.keywords u.keywords k.keywords h.keywords);
+  keys_ascend = is_sorted-map_of word_cmp word_cmp_total (v.keywords ++ u.keywords);
+}
+
+pub extend_nothing : (u : Unicode) → IsUnicodeValue u → extend u (record { attributes = []; keywords = [] }) ≡ u
+extend_nothing u h = λ i. record { attributes = (ap set_of (append-nil u.attributes) ∙ set_of_ascending u.attributes h.ascending) i; keywords = map_of_sorted word_cmp u.keywords h.keys_ascend i }
+
+pub nothing_extended : (u : Unicode) → IsUnicodeValue u → extend (record { attributes = []; keywords = [] }) u ≡ u
+nothing_extended u h = λ i. record { attributes = set_of_ascending u.attributes h.ascending i; keywords = (ap (map_of word_cmp) (append-nil u.keywords) ∙ map_of_sorted word_cmp u.keywords h.keys_ascend) i }

@@ -2,7 +2,7 @@
 use Rattle.std.proofs.Common.{◌≡◌, ℕ, Bool, true, false, cond, List, [], ◌∷◌, ◌++◌, refl, sym, ap, ◌∙◌}
 use Rattle.std.specs.List.{AllByRecursion}
 use Rattle.iloc_grammar.specs.Written.{Fields, fields_pieces}
-use Rattle.iloc_grammar.specs.Faults.{first_piece}
+use Rattle.iloc_grammar.specs.Blocks.{first_piece}
 use Rattle.iloc_grammar.specs.Reading.{passing, past, EndsBefore, before_key, fields_from}
 use Rattle.iloc_grammar.proofs.ReadBack.{all_append}
 use Rattle.iloc_grammar.proofs.Readings.{fields_all}

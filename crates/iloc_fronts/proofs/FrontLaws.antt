@@ -7,7 +7,8 @@ use Rattle.std.proofs.lemmas.Bool.Decides.{nat_tests}
 use Rattle.iloc_grammar.specs.Words.{UnicodeKey, Attribute, is_word, IsWord, lower}
 use Rattle.iloc_grammar.specs.Written.{Fields, Unicode, fields_pieces, unicode_pieces, IsKeyword, IsOther, IsUnicode, kept}
 use Rattle.iloc_grammar.specs.Meaning.{set_of, normal_fields, normal_unicode}
-use Rattle.iloc_grammar.specs.Faults.{Fault, front}
+use Rattle.iloc_grammar.specs.Faults.{Fault}
+use Rattle.iloc_grammar.specs.Blocks.{front}
 use Rattle.iloc_grammar.specs.ByBlocks.{UnicodeMeans}
 use Rattle.iloc_grammar.specs.Reading.{EndsBefore, starts_block, from_block, is_two, fields_from}
 use Rattle.iloc_grammar.proofs.WordsLaws.{length-attribute, length-unicode_key}

@@ -1,7 +1,8 @@
 -- What follows for every reader of a front.
 use Rattle.std.proofs.Common.{◌≡◌, ◌⊎◌, inl, inr, ℕ, true, List, [], ◌∷◌, ◌++◌, refl, sym, ap, ◌∙◌, true≢false, Result, Ok, Err, MatchResult}
 use Rattle.std.specs.List.{AllByRecursion}
-use Rattle.iloc_grammar.specs.Faults.{Fault, front}
+use Rattle.iloc_grammar.specs.Faults.{Fault}
+use Rattle.iloc_grammar.specs.Blocks.{front}
 use Rattle.iloc_grammar.specs.Reading.{starts_block, from_block}
 use Rattle.iloc_grammar.proofs.Readings.{IsLong}
 use Rattle.iloc_grammar.proofs.ReadingLaws.{from_block_starts}

@@ -6,7 +6,8 @@ use Rattle.std.proofs.lemmas.List.{map-append}
 use Rattle.iloc_grammar.specs.Words.{Language, Script, Region, Variant, TransformKey, Attribute, is_word, IsWord, IsTable, lower, word_cmp}
 use Rattle.iloc_grammar.specs.Written.{Identifier, Fields, Transform, transform, identifier_pieces, optional_pieces, fields_pieces, HasWords, IsIdentifier, IsField, IsTransform, AllDifferent}
 use Rattle.iloc_grammar.specs.Meaning.{normal_transform}
-use Rattle.iloc_grammar.specs.Faults.{Fault, InvalidSubtag, first_piece, front, RepeatsVariant}
+use Rattle.iloc_grammar.specs.Faults.{Fault, InvalidSubtag, RepeatsVariant}
+use Rattle.iloc_grammar.specs.Blocks.{first_piece, front}
 use Rattle.iloc_grammar.specs.ByBlocks.{TransformMeans}
 use Rattle.iloc_grammar.specs.Reading.{IdentifierFront, EndsBefore, starts_block, from_block, front_of, after_front, identifier_of, fields_from}
 use Rattle.iloc_grammar.proofs.WordsLaws.{length-language, region_no_script, length-transform_key, length-attribute}

@@ -4,7 +4,8 @@ use Rattle.std.specs.List.{list_all, list_any}
 use Rattle.iloc_grammar.specs.Words.{Language, TransformKey, is_word, lower, word_cmp}
 use Rattle.iloc_grammar.specs.Written.{Identifier, Fields, Unicode, Transform, kept}
 use Rattle.iloc_grammar.specs.Meaning.{normal_fields, normal_transform}
-use Rattle.iloc_grammar.specs.Faults.{Fault, InvalidSubtag, InvalidExtension, first_piece}
+use Rattle.iloc_grammar.specs.Faults.{Fault, InvalidSubtag, InvalidExtension}
+use Rattle.iloc_grammar.specs.Blocks.{first_piece}
 use Rattle.iloc_grammar.specs.Reading.{past, front_of, after_front, is_two, fields_from}
 use Rattle.iloc_grammar.specs.Computing.{all_different, is_field, is_other, is_private}
 use Rattle.iloc_fronts.specs.Fronts.{is_bad_key, keywords_front, after_keywords, attributes_front, after_attributes, attributes_read, fields_front, after_fields, has_other_length, other_front}

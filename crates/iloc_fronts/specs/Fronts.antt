@@ -8,7 +8,8 @@ use Rattle.iloc_grammar.specs.Words.{Language, UnicodeKey, TransformKey, Attribu
 use Rattle.iloc_grammar.specs.Written.{Identifier, Fields, Unicode, Transform, fields_pieces, IsKeyword, IsField, IsOther, IsPrivate, IsIdentifier, kept}
 use Rattle.iloc_grammar.specs.Meaning.{set_of, normal_fields, normal_transform}
 use Rattle.iloc_grammar.specs.Reading.{passing, past, is_two, IdentifierFront}
-use Rattle.iloc_grammar.specs.Faults.{Fault, InvalidSubtag, InvalidExtension, first_piece, RepeatsVariant}
+use Rattle.iloc_grammar.specs.Faults.{Fault, InvalidSubtag, InvalidExtension, RepeatsVariant}
+use Rattle.iloc_grammar.specs.Blocks.{first_piece}
 
 -- the longest front whose pieces pass the test, but nothing where the first piece doesn't pass the first test
 abbrev pub passing_from : (List ℕ → Bool) → (List ℕ → Bool) → List (List ℕ) → List (List ℕ)

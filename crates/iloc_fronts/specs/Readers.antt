@@ -1,6 +1,7 @@
 -- What every reader of a front keeps to.
 use Rattle.std.specs.Prelude.{◌≡◌, ◌⊎◌, ℕ, true, false, List}
-use Rattle.iloc_grammar.specs.Faults.{Fault, front}
+use Rattle.iloc_grammar.specs.Faults.{Fault}
+use Rattle.iloc_grammar.specs.Blocks.{front}
 use Rattle.iloc_grammar.specs.Reading.{starts_block, from_block}
 
 -- R: a value is read from the front of the pieces, and the rest is left. F: the pieces have a fault.

@@ -5,12 +5,14 @@
 //! rules of blocks where nothing is left. It stands on `iloc_grammar`.
 #![tactic(auto)]
 
-ghost use Rattle.std.specs.Prelude.{◌≡◌, ◌↔◌, ℕ, Bool, true, false, List, [], ◌∷◌, Some, None, Ok, Err, MatchResult, codes};
-ghost use Rattle.std.specs.List.{AllByRecursion};
+ghost use Rattle.std.specs.Prelude.{◌≡◌, ◌↔◌, ℕ, Bool, true, false, ◌||◌, List, [], ◌∷◌, Some, None, Ok, Err, MatchResult, codes};
+ghost use Rattle.std.specs.FinMap.{find};
+ghost use Rattle.std.specs.List.{AllByRecursion, list_any};
+ghost use Rattle.std.specs.Option.{option_or};
 ghost use Rattle.iloc_grammar.specs.Pieces.{pieces, join};
-ghost use Rattle.iloc_grammar.specs.Words.{IsTable, Subtag, Attribute, is_true, languages};
+ghost use Rattle.iloc_grammar.specs.Words.{IsTable, Subtag, Attribute, is_true, is_same, word_cmp, languages};
 ghost use Rattle.iloc_grammar.specs.Written.{Unicode, Transform, IsOther, IsPrivate, is_other_singleton, singleton};
-ghost use Rattle.iloc_grammar.specs.Values.{IsNormal, spelled_value};
+ghost use Rattle.iloc_grammar.specs.Values.{IsNormal, IsUnicodeValue, spelled_value};
 ghost use Rattle.iloc_grammar.specs.Faults.{InvalidSubtag, InvalidExtension, IsBlock, RepeatsVariant, front};
 ghost use Rattle.iloc_grammar.specs.ByBlocks.{UnicodeMeans, TransformMeans};
 ghost use Rattle.iloc_fronts.specs.Readers.{IsReader, AgreesWithBlocks};
@@ -76,9 +78,14 @@ pub fn values()
     ensures transform { (ws : List (List ℕ)) → AllByRecursion (λ w. IsNormal Attribute w × (is_true w ≡ false)) ws → transform_value (join (spelled_value ws)) ≡ Ok ws }
 {}
 
-/// Extending is associative.
+/// Extending is override of maps and union of sets: it is associative, and the empty part changes nothing.
 pub fn extending()
-    ensures { (u v w : Unicode) → extend (extend u v) w ≡ extend u (extend v w) }
+    ensures associative { (u v w : Unicode) → extend (extend u v) w ≡ extend u (extend v w) }
+    ensures keywords { (u v : Unicode) (k : List ℕ) → find word_cmp k (extend u v).keywords ≡ option_or (find word_cmp k v.keywords) (find word_cmp k u.keywords) }
+    ensures attributes { (u v : Unicode) (w : List ℕ) → list_any (is_same w) (extend u v).attributes ≡ (list_any (is_same w) u.attributes || list_any (is_same w) v.attributes) }
+    ensures value { (u v : Unicode) → IsUnicodeValue u → IsUnicodeValue v → IsUnicodeValue (extend u v) }
+    ensures by_nothing { (u : Unicode) → IsUnicodeValue u → extend u (record { attributes = []; keywords = [] }) ≡ u }
+    ensures nothing { (u : Unicode) → IsUnicodeValue u → extend (record { attributes = []; keywords = [] }) u ≡ u }
 {}
 
 /// Worked fronts.

@@ -4,24 +4,24 @@ use Rattle.std.specs.List.{AllByRecursion, list_any}
 use Rattle.std.specs.Char.{is_ascii_alphanumeric, to_ascii_lowercase}
 use Rattle.std.specs.Ordering.{nat_cmp, eq_by_cmp}
 use Rattle.std.specs.FinMap.{find}
-use Rattle.std.proofs.lemmas.Bool.{and_parts, or_parts, or_from, cases_eq}
+use Rattle.std.proofs.lemmas.Bool.{or_parts, or_from, cases_eq}
 use Rattle.std.proofs.lemmas.Bool.Decides.{nat_tests}
 use Rattle.iloc_grammar.specs.Pieces.{pieces}
 use Rattle.iloc_grammar.specs.Words.{IsTable, lower}
 use Rattle.iloc_grammar.specs.Written.{Unicode, Transform, Extension, unicode, transform, other, Written, extension_pieces, extension_block, blocks_of, IsOther, IsPrivate, kept, is_other_singleton, IsExtension, singleton, IsWritten, AllDifferent}
 use Rattle.iloc_grammar.specs.Meaning.{Locale, IdentifierMeans, Means, meaning, map_of, unicode_part, transform_part, private_part, other_part, by_singleton, normal_unicode, normal_transform}
-use Rattle.iloc_grammar.specs.Faults.{head, tail_blocks, SpellsIdentifier, IsBlock}
+use Rattle.iloc_grammar.specs.Faults.{SpellsIdentifier, IsBlock}
+use Rattle.iloc_grammar.specs.Blocks.{head, tail_blocks}
 use Rattle.iloc_grammar.specs.ByBlocks.{UnicodeMeans, TransformMeans, by_letter, other_blocks, MeansByBlocks}
 use Rattle.iloc_grammar.proofs.Readings.{head-spelling, blocks-spelling, unicode_of-pieces, transform_of-pieces}
 use Rattle.iloc_grammar.specs.Reading.{unicode_of, transform_of}
 use Rattle.iloc_grammar.proofs.IdentifierLaws.{one_meaning}
 use Rattle.iloc_grammar.proofs.PiecesLaws.{pieces_nonempty}
-use Rattle.iloc_grammar.proofs.FaultLaws.{AreGood, good_means}
+use Rattle.iloc_grammar.proofs.FaultLaws.{AreGood, good_means, letter}
+use Rattle.iloc_grammar.proofs.MapLaws.{tied}
+use Rattle.iloc_grammar.proofs.ReadBack.{extension_singleton}
 
 -- looking up a block
-
-tied : (q k : ℕ) → eq_by_cmp nat_cmp q k ≡ true → k ≡ q
-tied q k h = grind (arith, nat_tests)
 
 find_rule : (T : ℕ → Bool) (q : ℕ) (es : List (ℕ × Extension)) → AllByRecursion (λ e. IsExtension T (singleton e) e.1) es → IfSome (find nat_cmp q (by_singleton es)) (IsExtension T q)
 find_rule T q [] h = tt
@@ -91,18 +91,10 @@ others_by T (e ∷ es) x h k = at_kind e.1 h.0 (others_by T es x h.1 k)
     at_kind (transform m) r rest = rw r.0 rest
     at_kind (other ps) r rest = rw r.0 (ap (λ l. (singleton e, kept ps) ∷ l) rest.0, (r.1, rest.1))
 
-letter : (c : ℕ) → is_ascii_alphanumeric (to_ascii_lowercase c) ≡ true → is_ascii_alphanumeric c ≡ true
-letter c h = grind (arith, nat_tests)
-
-rule_letter : (T : ℕ → Bool) (c : ℕ) (e : Extension) → IsExtension T c e → is_ascii_alphanumeric c ≡ true
-rule_letter T c (unicode u) h = rw h.0
-rule_letter T c (transform m) h = rw h.0
-rule_letter T c (other ps) h = (and_parts _ _ h.0).0
-
 letters_by : (T : ℕ → Bool) (es : List (ℕ × Extension)) (x : Option (ℕ × List (List ℕ))) → AllByRecursion (λ e. IsExtension T (singleton e) e.1) es → IfSome x (λ e. (singleton e ≡ 120) × IsPrivate e.1) → AllByRecursion (λ b. is_ascii_alphanumeric b.0 ≡ true) (map extension_block es ++ option_to_list x)
 letters_by T [] None h k = tt
 letters_by T [] (Some b) h k = (letter b.0 (rw k.0), tt)
-letters_by T (e ∷ es) x h k = (letter e.0 (rule_letter T (singleton e) e.1 h.0), letters_by T es x h.1 k)
+letters_by T (e ∷ es) x h k = (letter e.0 (extension_singleton T (singleton e) e.1 h.0), letters_by T es x h.1 k)
 
 rule_no_x : (T : ℕ → Bool) (c : ℕ) (e : Extension) → IsExtension T c e → eq_by_cmp nat_cmp c 120 ≡ false
 rule_no_x T c (unicode u) h = rw h.0

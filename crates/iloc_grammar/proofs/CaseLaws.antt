@@ -12,10 +12,10 @@ use Rattle.iloc_grammar.specs.Words.{Kind, Language, Script, Region, Variant, Su
 use Rattle.iloc_grammar.specs.Written.{Identifier, Fields, Extension, unicode, transform, other, Written, extension_block, block_pieces, spelling, IsIdentifier, IsKeyword, IsField, IsPrivate, kept, IsExtension, singleton, IsWritten, AllDifferent}
 use Rattle.iloc_grammar.specs.Meaning.{map_of, set_of, normal_identifier, normal_values, Locale, unicode_part, transform_part, private_part, other_part, by_singleton, meaning, Means}
 use Rattle.iloc_grammar.specs.Values.{lower_identifier}
-use Rattle.iloc_grammar.specs.Faults.{is_one_byte, front, blocks, head, tail_blocks, first_piece}
+use Rattle.iloc_grammar.specs.Blocks.{is_one_byte, front, blocks, head, tail_blocks, first_piece}
 use Rattle.iloc_grammar.proofs.WordsLaws.{lower-lower, length-lower, is_word-lower}
 use Rattle.iloc_grammar.proofs.PiecesLaws.{pieces_nonempty}
-use Rattle.iloc_grammar.proofs.ValuesLaws.{lower_twice, normal-lower_identifier}
+use Rattle.iloc_grammar.proofs.ValuesLaws.{lower_twice, normal-lower_identifier, lower_is_identifier}
 use Rattle.iloc_grammar.proofs.IdentifierLaws.{pieces-identifier_of}
 use Rattle.iloc_grammar.specs.Reading.{take_first, skip_first, rest_of, identifier_of, before_key, fields_from, is_two, unicode_of, transform_of, optional_of, extension_by, extension_of, extensions_in, private_in, written_of}
 use Rattle.iloc_grammar.proofs.Readings.{pieces-extension_of, written_of-spelling}
@@ -206,19 +206,9 @@ all_to_low k ps h = all_to (IsWord k) (IsWord k) lower (to_low k) ps h
 all_from_low : (k : Kind) (ps : List (List ℕ)) → AllByRecursion (IsWord k) (low ps) → AllByRecursion (IsWord k) ps
 all_from_low k ps h = all_from (IsWord k) (IsWord k) lower (from_low k) ps h
 
-option_to_low : (k : Kind) (o : Option (List ℕ)) → IfSome o (IsWord k) → IfSome (option_map lower o) (IsWord k)
-option_to_low k None h = tt
-option_to_low k (Some p) h = to_low k p h
-
 option_from_low : (k : Kind) (o : Option (List ℕ)) → IfSome (option_map lower o) (IsWord k) → IfSome o (IsWord k)
 option_from_low k None h = tt
 option_from_low k (Some p) h = from_low k p h
-
-pub identifier_to : (T : ℕ → Bool) (i : Identifier) → IsIdentifier T i → IsIdentifier T (lower_identifier i)
-identifier_to T i h = record {
-  words = record { language = to_low (Language T) i.language h.words.language; script = option_to_low Script i.script h.words.script; region = option_to_low Region i.region h.words.region; variants = all_to_low Variant i.variants h.words.variants };
-  different = subst (AllDifferent word_cmp) (sym (lower_twice i.variants)) h.different;
-}
 
 pub identifier_from : (T : ℕ → Bool) (i : Identifier) → IsIdentifier T (lower_identifier i) → IsIdentifier T i
 identifier_from T i h = record {
@@ -247,7 +237,7 @@ fields_from_low = all_from IsField IsField low_field (λ f h. (from_low Transfor
 
 optional_to : (T : ℕ → Bool) (o : Option Identifier) → IfSome o (IsIdentifier T) → IfSome (option_map lower_identifier o) (IsIdentifier T)
 optional_to T None h = tt
-optional_to T (Some i) h = identifier_to T i h
+optional_to T (Some i) h = lower_is_identifier i h
 
 optional_from : (T : ℕ → Bool) (o : Option Identifier) → IfSome (option_map lower_identifier o) (IsIdentifier T) → IfSome o (IsIdentifier T)
 optional_from T None h = tt
@@ -300,7 +290,7 @@ IsEntry T e = IsExtension T (singleton e) e.1
 
 written_to : (T : ℕ → Bool) (w : Written) → IsWritten T w → IsWritten T (low_written w)
 written_to T w h = record {
-  id = identifier_to T w.id h.id;
+  id = lower_is_identifier w.id h.id;
   extensions = all_to (IsEntry T) (IsEntry T) low_entry (λ e k. subst (λ (c : ℕ). IsExtension T c (low_extension e.1)) (sym (lowercase-lowercase e.0)) (extension_to T (singleton e) e.1 k)) w.extensions h.extensions;
   different = subst (AllDifferent nat_cmp) (sym (singletons-low w.extensions)) h.different;
   private = private_to w.private h.private;

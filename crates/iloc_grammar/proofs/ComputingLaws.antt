@@ -8,7 +8,8 @@ use Rattle.iloc_grammar.specs.Pieces.{pieces}
 use Rattle.iloc_grammar.specs.Words.{Language, is_word, IsWord, IsTable, lower, word_cmp}
 use Rattle.iloc_grammar.specs.Written.{Identifier, singleton, AllDifferent}
 use Rattle.iloc_grammar.specs.Meaning.{Locale, Means, IdentifierMeans, meaning, normal_identifier}
-use Rattle.iloc_grammar.specs.Faults.{Fault, InvalidLanguage, InvalidSubtag, InvalidExtension, DuplicatedExtension, first_piece, head, front, tail_blocks, SpellsIdentifier, HasIdentifierFault, not_a_language, not_an_identifier, IsBlock, RepeatsVariant, BlockFault, FirstBadBlock, HasFault}
+use Rattle.iloc_grammar.specs.Faults.{Fault, InvalidLanguage, InvalidSubtag, InvalidExtension, DuplicatedExtension, SpellsIdentifier, HasIdentifierFault, not_a_language, not_an_identifier, IsBlock, RepeatsVariant, BlockFault, FirstBadBlock, HasFault}
+use Rattle.iloc_grammar.specs.Blocks.{first_piece, head, front, tail_blocks}
 use Rattle.iloc_grammar.specs.Reading.{identifier_of, front_of, written_of}
 use Rattle.iloc_grammar.specs.Computing.{all_different, is_identifier, is_block, repeats_variant, identifier_result, first_fault, unless_fault, locale_result}
 use Rattle.iloc_grammar.proofs.RuleTests.{Tests, tests_not, tests_word, tests_and, tests_like, tests_different, tests_nat, tests_identifier, tests_spelled, tests_block}

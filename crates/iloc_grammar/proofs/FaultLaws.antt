@@ -11,7 +11,8 @@ use Rattle.iloc_grammar.specs.Pieces.{pieces}
 use Rattle.iloc_grammar.specs.Words.{Language, Script, Region, Variant, TransformKey, is_word, IsWord, IsTable, lower, word_cmp}
 use Rattle.iloc_grammar.specs.Written.{Identifier, Fields, Transform, Extension, unicode, transform, other, Written, identifier_pieces, optional_pieces, fields_pieces, transform_pieces, extension_pieces, extension_block, block_pieces, blocks_of, HasWords, IsIdentifier, IsTransform, IsField, IsPrivate, is_other_singleton, IsExtension, singleton, IsWritten, AllDifferent}
 use Rattle.iloc_grammar.specs.Meaning.{Locale, Means, meaning}
-use Rattle.iloc_grammar.specs.Faults.{Fault, InvalidLanguage, InvalidSubtag, InvalidExtension, DuplicatedExtension, is_one_byte, front, blocks, head, tail_blocks, SpellsIdentifier, IsBlock, RepeatsVariant, BlockFault, no_singleton, duplicated, repeats_variant, breaks_rule, FirstBadBlock, here, later, first_piece, HasFault, no_language, no_identifier, bad_block}
+use Rattle.iloc_grammar.specs.Faults.{Fault, InvalidLanguage, InvalidSubtag, InvalidExtension, DuplicatedExtension, SpellsIdentifier, IsBlock, RepeatsVariant, BlockFault, no_singleton, duplicated, repeats_variant, breaks_rule, FirstBadBlock, here, later, HasFault, no_language, no_identifier, bad_block}
+use Rattle.iloc_grammar.specs.Blocks.{is_one_byte, front, blocks, head, tail_blocks, first_piece}
 use Rattle.iloc_grammar.proofs.WordsLaws.{region_no_script, variant_no_script, variant_no_region}
 use Rattle.iloc_grammar.proofs.IdentifierLaws.{pieces-identifier_of, identifier_of-pieces}
 use Rattle.iloc_grammar.specs.Reading.{take_first, skip_first, passing, past, identifier_of, before_key}
@@ -224,7 +225,7 @@ unsee_one : (s : ℕ) (seen : List ℕ) (es : List (ℕ × Extension)) → NotSe
 unsee_one s seen [] n = (refl, tt)
 unsee_one s seen (e ∷ es) n = let parts = or_parts _ _ n.0 in let rest = unsee_one s seen es n.1 in (or_from _ _ (tied_back (singleton e) s parts.0) rest.0, (parts.1, rest.1))
 
-letter : (c : ℕ) → is_ascii_alphanumeric (to_ascii_lowercase c) ≡ true → is_ascii_alphanumeric c ≡ true
+pub letter : (c : ℕ) → is_ascii_alphanumeric (to_ascii_lowercase c) ≡ true → is_ascii_alphanumeric c ≡ true
 letter c h = grind (arith, nat_tests)
 
 extension_byte : (T : ℕ → Bool) (c : ℕ) (e : Extension) → IsExtension T c e → (is_ascii_alphanumeric c ≡ true) × (c ≢ 120)

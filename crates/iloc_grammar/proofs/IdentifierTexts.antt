@@ -5,21 +5,22 @@ use Rattle.iloc_grammar.specs.Words.{Language, is_word, lower}
 use Rattle.iloc_grammar.specs.Written.{Identifier, identifier_pieces, HasWords, IsIdentifier}
 use Rattle.iloc_grammar.specs.Meaning.{normal_identifier, IdentifierMeans}
 use Rattle.iloc_grammar.specs.Values.{IsIdentifierValue, lower_identifier, identifier_text}
-use Rattle.iloc_grammar.specs.Faults.{Fault, InvalidLanguage, InvalidSubtag, SpellsIdentifier, HasIdentifierFault, not_a_language, not_an_identifier, first_piece, head, front}
+use Rattle.iloc_grammar.specs.Faults.{Fault, InvalidLanguage, InvalidSubtag, SpellsIdentifier, HasIdentifierFault, not_a_language, not_an_identifier}
+use Rattle.iloc_grammar.specs.Blocks.{first_piece, head, front}
 use Rattle.iloc_grammar.specs.Steps.{IdentifierTextStep, IdentifierChain, LeadToOne}
 use Rattle.iloc_grammar.proofs.WordsLaws.{length-lower}
 use Rattle.iloc_grammar.proofs.PiecesLaws.{pieces-join, join-pieces, pieces_nonempty}
 use Rattle.iloc_grammar.proofs.IdentifierLaws.{pieces-identifier_of, identifier_of-pieces, one_identifier, one_meaning}
 use Rattle.iloc_grammar.specs.Reading.{identifier_of}
-use Rattle.iloc_grammar.proofs.ValuesLaws.{identifier_reads_back, normal-lower_identifier, value_words}
+use Rattle.iloc_grammar.proofs.ValuesLaws.{identifier_reads_back, normal-lower_identifier, value_words, lower_is_identifier}
 use Rattle.iloc_grammar.proofs.WellRead.{identifier_value}
 use Rattle.iloc_grammar.proofs.ReadBack.{identifier_hyphen_free}
 use Rattle.iloc_grammar.proofs.Deciding.{dec_spells}
 use Rattle.iloc_grammar.proofs.StepLaws.{identifier_step}
 use Rattle.iloc_grammar.proofs.Orders.{total}
 use Rattle.iloc_grammar.proofs.StepSizes.{identifier_size, piece_length, length-join}
-use Rattle.iloc_grammar.proofs.CaseLaws.{pieces-lower, identifier_of-low, identifier_to, identifier_from}
-use Rattle.iloc_grammar.proofs.Canonical.{sort_identifier, identifier_step4, canonical_identifier}
+use Rattle.iloc_grammar.proofs.CaseLaws.{pieces-lower, identifier_of-low, identifier_from}
+use Rattle.iloc_grammar.proofs.Canonical.{sort_identifier, identifier_order_step, canonical_identifier}
 use Rattle.iloc_grammar.proofs.Chains.{identifier_pieces-low, lower-join}
 
 -- the text has the pieces that were joined
@@ -60,7 +61,7 @@ case_means T t u i e m =
     let same : lower_identifier v ≡ lower_identifier w = ap lower_identifier (sym v_is) ∙ sym (identifier_of-low (pieces t)) ∙ ap identifier_of (sym (pieces-lower t) ∙ ap pieces e ∙ pieces-lower u) ∙ identifier_of-low (pieces u) in
     record {
       written = w;
-      grammatical = identifier_from T w (subst (IsIdentifier T) same (identifier_to T v m.grammatical));
+      grammatical = identifier_from T w (subst (IsIdentifier T) same (lower_is_identifier v m.grammatical));
       spelled = spelled-of u (pieces u) refl;
       means = m.means ∙ sym (normal-lower_identifier v) ∙ ap normal_identifier same ∙ normal-lower_identifier w;
     }
@@ -104,10 +105,10 @@ pub identifier_chain_to_text : (T : ℕ → Bool) (t : List ℕ) (i : Identifier
 identifier_chain_to_text T t i m =
     let v = m.written in
     let w = sort_identifier v in
-    let sorted : normal_identifier w ≡ i = (identifier_step (identifier_step4 v) m.grammatical).1 ∙ sym m.means in
+    let sorted : normal_identifier w ≡ i = (identifier_step (identifier_order_step v) m.grammatical).1 ∙ sym m.means in
     let case : lower (identifier_text w) ≡ lower (identifier_text i) =
     lower-identifier_text w ∙ ap (λ j. join (identifier_pieces j)) (sym (canonical_identifier v m.grammatical.different) ∙ ap lower_identifier sorted) ∙ sym (lower-identifier_text i) in
-    inr (identifier_text w, IdentifierTextStep.variant_order m.grammatical m.spelled (identifier_step4 v), inr (identifier_text i, IdentifierTextStep.letter_case case, refl))
+    inr (identifier_text w, IdentifierTextStep.variant_order m.grammatical m.spelled (identifier_order_step v), inr (identifier_text i, IdentifierTextStep.letter_case case, refl))
 
 pub identifier_chain_means : (T : ℕ → Bool) (n : ℕ) (t u : List ℕ) (i : Identifier) → IdentifierChain T n t u → IdentifierMeans T (pieces t) i → IdentifierMeans T (pieces u) i
 identifier_chain_means T zero t u i c m = subst (λ (s : List ℕ). IdentifierMeans T (pieces s) i) c m

@@ -8,7 +8,8 @@ use Rattle.std.proofs.lemmas.Bool.Decides.{nat_tests}
 use Rattle.iloc_grammar.specs.Words.{Language, Script, Region, Variant, is_word, IsWord, lower, word_cmp}
 use Rattle.iloc_grammar.specs.Written.{Identifier, identifier_pieces, HasWords, AllDifferent}
 use Rattle.iloc_grammar.specs.Meaning.{IdentifierMeans, normal_identifier}
-use Rattle.iloc_grammar.specs.Faults.{SpellsIdentifier, is_one_byte, front, first_piece}
+use Rattle.iloc_grammar.specs.Faults.{SpellsIdentifier}
+use Rattle.iloc_grammar.specs.Blocks.{is_one_byte, front, first_piece}
 use Rattle.iloc_grammar.specs.Reading.{take_first, skip_first, passing, past, rest_of, after_script, after_region, front_of, after_front, from_block, starts_block, EndsBefore, IdentifierFront}
 use Rattle.iloc_grammar.proofs.IdentifierLaws.{all_pieces}
 use Rattle.iloc_grammar.proofs.WordsLaws.{region_no_script, variant_no_script, variant_no_region, length-script, length-region, length-variant}

@@ -69,7 +69,7 @@ identifier_reads_back i h = record { written = i; grammatical = value_identifier
 
 -- the same in lower case, as in a transform
 
-optional_lower : (k : Kind) (o : Option (List ℕ)) → IfSome o (IsWord k) → IfSome (option_map lower o) (IsWord k)
+pub optional_lower : (k : Kind) (o : Option (List ℕ)) → IfSome o (IsWord k) → IfSome (option_map lower o) (IsWord k)
 optional_lower k None h = tt
 optional_lower k (Some w) h = is_word-lower k w ∙ h
 

@@ -11,7 +11,8 @@ use Rattle.iloc_grammar.specs.Words.{Language, Script, Region, Variant, UnicodeK
 use Rattle.iloc_grammar.specs.Written.{Identifier, Unicode, Transform, Extension, unicode, transform, other, kept, is_other_singleton, singleton}
 use Rattle.iloc_grammar.specs.Meaning.{Locale, normal_identifier, meaning}
 use Rattle.iloc_grammar.specs.Values.{text}
-use Rattle.iloc_grammar.specs.Faults.{Fault, InvalidLanguage, InvalidSubtag, InvalidExtension, DuplicatedExtension, first_piece, head, tail_blocks}
+use Rattle.iloc_grammar.specs.Faults.{Fault, InvalidLanguage, InvalidSubtag, InvalidExtension, DuplicatedExtension}
+use Rattle.iloc_grammar.specs.Blocks.{first_piece, head, tail_blocks}
 use Rattle.iloc_grammar.specs.Reading.{identifier_of, front_of, extension_of, written_of}
 
 -- Tests of the rules.

@@ -5,7 +5,7 @@
 use Rattle.std.specs.Prelude.{◌≡◌, ℕ, ◌≤◌, Bool, true, false, cond, ◌==◌, List, [], ◌∷◌, ◌++◌, length, Option, Some, None}
 use Rattle.iloc_grammar.specs.Words.{Script, Region, Variant, TransformKey, is_word}
 use Rattle.iloc_grammar.specs.Written.{Identifier, Fields, Unicode, Transform, Extension, unicode, transform, other, Written, HasWords, identifier_pieces, singleton}
-use Rattle.iloc_grammar.specs.Faults.{is_one_byte, first_piece, head, tail_blocks}
+use Rattle.iloc_grammar.specs.Blocks.{is_one_byte, first_piece, head, tail_blocks}
 
 -- Lists of pieces.
 

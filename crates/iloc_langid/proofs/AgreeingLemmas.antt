@@ -22,7 +22,7 @@ use Rattle.iloc_grammar.proofs.Orders.{any_reordered, all_reordered, different_r
 use Rattle.iloc_grammar.proofs.Sorting.{itself}
 use Rattle.iloc_grammar.proofs.ValuesLaws.{set_of_ascending, ascending_different}
 use Rattle.iloc_langid.specs.Agreeing.{is_among, are_all_among}
-use Rattle.iloc_grammar.specs.Faults.{first_piece}
+use Rattle.iloc_grammar.specs.Blocks.{first_piece}
 use Rattle.iloc_grammar.specs.Reading.{take_first, skip_first, passing, past, rest_of, after_region, front_of}
 use Rattle.iloc_grammar.proofs.ReadingLaws.{front_of-pieces, keep_all}
 use Rattle.iloc_langid.specs.declared.identifier.LanguageIdentifier.{LanguageIdentifier}

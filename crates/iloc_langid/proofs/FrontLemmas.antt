@@ -5,7 +5,8 @@ use Rattle.std.proofs.lemmas.Bool.Decides.{nat_tests}
 use Rattle.std.proofs.lemmas.Bool.{false_from_ne_true}
 use Rattle.iloc_grammar.specs.Words.{Kind, Language, Script, Region, is_word, IsWord, normal, lower, title, upper, languages, read}
 use Rattle.iloc_grammar.specs.Meaning.{IdentifierMeans}
-use Rattle.iloc_grammar.specs.Faults.{not_a_language, not_an_identifier, front, head}
+use Rattle.iloc_grammar.specs.Faults.{not_a_language, not_an_identifier}
+use Rattle.iloc_grammar.specs.Blocks.{front, head}
 use Rattle.iloc_grammar.specs.Reading.{first_item}
 use Rattle.iloc_grammar.specs.Reading.{take_first, skip_first, front_of, after_front, from_block, after_head, starts_block}
 use Rattle.iloc_grammar.proofs.ReadingLaws.{EndsWords, starts_ends, from_block_starts, front-from_block, front_long, after_long, starts_empty, after_front-append, front_means, refuses_more, refuses_repeat, counts_variants, front_is_front}

@@ -4,7 +4,8 @@ use Rattle.iloc_grammar.specs.Words.{Language, Variant, is_word, IsWord, lower, 
 use Rattle.iloc_grammar.specs.Written.{Identifier, AllDifferent}
 use Rattle.iloc_grammar.specs.Meaning.{IdentifierMeans, normal_identifier, set_of}
 use Rattle.iloc_grammar.specs.Faults as faults
-use Rattle.iloc_grammar.specs.Faults.{HasIdentifierFault, first_piece}
+use Rattle.iloc_grammar.specs.Faults.{HasIdentifierFault}
+use Rattle.iloc_grammar.specs.Blocks.{first_piece}
 use Rattle.iloc_grammar.specs.Reading.{IdentifierFront}
 use Rattle.iloc_grammar.specs.Reading.{passing, past, rest_of, front_of, after_front}
 use Rattle.iloc_subtags.specs.declared.parse_error.ParseError.{ParseError}

@@ -1,18 +1,28 @@
 //! Language identifiers.
-ghost use Rattle.std.specs.Prelude.{◌≡◌, ℕ, List};
+ghost use Rattle.std.specs.Prelude.{◌≡◌, ◌↔◌, IsTrue};
+ghost use Rattle.std.specs.Ordering.{nat_cmp};
+ghost use Rattle.std.specs.Cmp.Lexicographic.{slice_cmp};
 ghost use Rattle.iloc_grammar.specs.Pieces.{pieces};
-ghost use Rattle.iloc_grammar.specs.Faults.{head};
+ghost use Rattle.iloc_grammar.specs.Blocks.{head};
+ghost use Rattle.iloc_grammar.specs.Values.{identifier_text};
+ghost use Rattle.iloc_orders.specs.Orders.{identifier_cmp};
+ghost use Rattle.iloc_langid.specs.Unknown.{unknown_identifier};
 
 use crate::reader::{read_head, read_whole};
 use iloc_parser::SubtagIterator;
 use iloc_subtags::{Language, ParseError, Region, Script};
 use iloc_word_set::Variants;
+use iloc_writeable::compare::cmp_utf8;
 use iloc_writeable::{Pieces, Sink, Writeable};
 use std::alloc::Global;
+use std::cmp::Ordering;
 use std::fmt;
 
-/// A language, and perhaps a script, a region and variants.
-#[derive(Drop)]
+/// A language, and perhaps a script, a region and variants: a `unicode_language_id` of UTS #35 section 3.1.
+///
+/// `en-Latn-US-posix` is one. Words are kept in their normal case and variants as a set, so equal values
+/// are equal meanings.
+#[derive(Clone, Drop, PartialEq, Eq, Hash)]
 pub struct LanguageIdentifier {
     pub language: Language,
     pub script: Option<Script>,
@@ -21,25 +31,72 @@ pub struct LanguageIdentifier {
 }
 
 impl LanguageIdentifier {
-    ghost use Rattle.iloc_langid.specs.Reads.{ReadsAs};
+    ghost use Rattle.iloc_langid.specs.Reads.{value_of, ReadsAs};
 
+    /// The unknown identifier, `und`.
+    pub fn unknown() -> Self
+        ensures { value_of result ≡ unknown_identifier }
+    {
+        LanguageIdentifier {
+            language: Language::unknown(),
+            script: None,
+            region: None,
+            variants: Variants::new(),
+        }
+    }
+
+    /// Whether this is `und` and nothing else.
+    pub fn is_unknown(&self) -> bool
+        ensures { IsTrue result ↔ (value_of self.now ≡ unknown_identifier) }
+    {
+        self.language.is_unknown()
+            && self.script.is_none()
+            && self.region.is_none()
+            && self.variants.is_empty()
+    }
+
+    /// Reads all of the text, which need not be UTF-8, in whatever case.
+    ///
+    /// Refuses with `InvalidLanguage` where the first piece is no language, with `InvalidSubtag` where the
+    /// pieces are no identifier for any other reason, and with `OutOfMemory` only where more than four
+    /// variants stand in the text.
     pub fn try_from_utf8(alloc: Global, code_units: &[u8]) -> Result<Self, ParseError>
         ensures { ReadsAs (pieces code_units.now) result }
     {
         read_whole(alloc, &mut SubtagIterator::new(code_units))
     }
 
-    pub fn try_from_str(alloc: Global, text: &str) -> Result<Self, ParseError>
-        ensures { ReadsAs (pieces text.now) result }
+    /// The same of text.
+    pub fn try_from_str(alloc: Global, s: &str) -> Result<Self, ParseError>
+        ensures { ReadsAs (pieces s.now) result }
     {
-        Self::try_from_utf8(alloc, text.as_bytes())
+        Self::try_from_utf8(alloc, s.as_bytes())
     }
 
-    /// Reads the identifier of a locale.
-    pub fn try_from_locale_bytes(alloc: Global, code_units: &[u8]) -> Result<Self, ParseError>
-        ensures { ReadsAs (head (pieces code_units.now)) result }
+    /// Reads the identifier of a locale: up to the first piece of one byte that isn't the first piece. What
+    /// follows is ignored.
+    pub fn try_from_locale_bytes(alloc: Global, v: &[u8]) -> Result<Self, ParseError>
+        ensures { ReadsAs (head (pieces v.now)) result }
     {
-        read_head(alloc, &mut SubtagIterator::new(code_units))
+        read_head(alloc, &mut SubtagIterator::new(v))
+    }
+
+    /// The byte order of the printed text against the bytes. It makes no text.
+    pub fn strict_cmp(&self, other: &[u8]) -> Ordering
+        ensures { result ≡ slice_cmp nat_cmp (identifier_text (value_of self.now)) other.now }
+    {
+        cmp_utf8(self, other)
+    }
+
+    /// The order by language, script, region and variants; `Equal` exactly where the two are equal.
+    pub fn total_cmp(&self, other: &Self) -> Ordering
+        ensures { result ≡ identifier_cmp (value_of self.now) (value_of other.now) }
+    {
+        self.language
+            .cmp(&other.language)
+            .then_with(|| self.script.cmp(&other.script))
+            .then_with(|| self.region.cmp(&other.region))
+            .then_with(|| self.variants.cmp(&other.variants))
     }
 }
 
@@ -55,24 +112,45 @@ impl Pieces for LanguageIdentifier {
 
     #[tactic(auto, using(iloc_writeable::proofs::PiecesLemmas::flat_map_words))]
     fn write_pieces<S: Sink>(&self, sink: &mut S, first: bool) -> fmt::Result {
-        let variants = self.variants.as_slice();
-        (&self.language, &self.script, &self.region, variants).write_pieces(sink, first)
+        (&self.language, &self.script, &self.region, &self.variants).write_pieces(sink, first)
     }
 }
 
+/// Prints the normal text: language, script, region, variants ascending, joined by hyphens. It is borrowed
+/// where there is a language and nothing else.
 impl Writeable for LanguageIdentifier {
     ghost use Rattle.iloc_langid.specs.Reads.{value_of};
     ghost use Rattle.iloc_grammar.specs.Values.{identifier_text};
+    ghost use Rattle.std.specs.Prelude.{◌≡◌, None, []};
 
     ghost text = { λ i. identifier_text (value_of i) };
+
+    ghost lends = { λ i. (i.script ≡ None) × (i.region ≡ None) × (i.variants ≡ []) };
 
     #[tactic(auto, unfolding(iloc_grammar::specs::Values::identifier_text, iloc_grammar::specs::Pieces::join))]
     fn write_to<S: Sink>(&self, sink: &mut S) -> fmt::Result {
         self.write_joined(sink)
     }
 
+    #[tactic(auto, unfolding(iloc_grammar::specs::Values::identifier_text, iloc_grammar::specs::Pieces::join))]
     fn writeable_borrow(&self) -> Option<&str> {
+        if self.script.is_none() && self.region.is_none() && self.variants.is_empty() {
+            return Some(self.language.as_str());
+        }
         None
+    }
+}
+
+/// Prints the text itself.
+impl fmt::Debug for LanguageIdentifier {
+    ghost use Rattle.iloc_grammar.specs.Values.{identifier_text};
+    ghost use Rattle.iloc_langid.specs.Reads.{value_of};
+    ghost use Rattle.std.specs.Prelude.{Some};
+
+    ghost debug_output = { λ i. Some (identifier_text (value_of i)) };
+
+    fn fmt<W: fmt::Write>(&self, f: &mut fmt::Formatter<W>) -> fmt::Result {
+        self.write_to(f)
     }
 }
 
@@ -85,5 +163,12 @@ impl fmt::Display for LanguageIdentifier {
 
     fn fmt<W: fmt::Write>(&self, f: &mut fmt::Formatter<W>) -> fmt::Result {
         self.write_to(f)
+    }
+}
+
+/// Prints the text itself.
+impl fmt::Debug for LanguageIdentifier {
+    fn fmt<W: fmt::Write>(&self, f: &mut fmt::Formatter<W>) -> fmt::Result {
+        fmt::Display::fmt(self, f)
     }
 }

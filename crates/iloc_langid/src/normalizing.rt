@@ -4,15 +4,40 @@ ghost use Rattle.std.specs.Cow.{cow_str_bytes};
 ghost use Rattle.iloc_grammar.specs.Pieces.{pieces};
 ghost use Rattle.iloc_grammar.specs.Words.{languages};
 ghost use Rattle.iloc_grammar.specs.Meaning.{IdentifierMeans};
-ghost use Rattle.iloc_parser.specs.Left.{left};
+ghost use Rattle.iloc_writeable.specs.Writing.{IsLent};
 
 use crate::agreeing::has_variants;
 use crate::identifier::LanguageIdentifier;
 use iloc_parser::{SubtagIterator, take_word};
-use iloc_subtags::{Language, RegionKind, ScriptKind};
+use iloc_subtags::{Language, ParseError, RegionKind, ScriptKind};
+use iloc_writeable::agreeing::to_string_or_borrow_once;
+use std::alloc::Global;
+use std::borrow::CowStr;
 
 impl LanguageIdentifier {
     ghost use Rattle.iloc_langid.specs.Reads.{value_of};
+    ghost use Rattle.iloc_langid.specs.Normalizing.{IsNormalizedFrom, RefusesNormalizing};
+
+    /// The normal text of what the text means, borrowed exactly where the text is that already.
+    ///
+    /// Refuses as the reader does. It takes no memory on a normal text with at most four variants.
+    /// Normalising twice is once; texts mean the same exactly where their normal texts are equal; each text
+    /// of a meaning is as long; two steps, in case and in the order of variants, lead there.
+    pub fn normalize_utf8(alloc: Global, input: &[u8]) -> Result<CowStr<'_, Global>, ParseError>
+        ensures ok { IfOk result (λ text. IsNormalizedFrom input.now (cow_str_bytes text) × (IsLent text ↔ (input.now ≡ cow_str_bytes text))) }
+        ensures err { IfErr result (RefusesNormalizing input.now) }
+    {
+        let identifier = Self::try_from_utf8(alloc, input)?;
+        Ok(to_string_or_borrow_once(alloc, &identifier, input)?)
+    }
+
+    /// The same of text.
+    pub fn normalize(alloc: Global, input: &str) -> Result<CowStr<'_, Global>, ParseError>
+        ensures ok { IfOk result (λ text. IsNormalizedFrom input.now (cow_str_bytes text) × (IsLent text ↔ (input.now ≡ cow_str_bytes text))) }
+        ensures err { IfErr result (RefusesNormalizing input.now) }
+    {
+        Self::normalize_utf8(alloc, input.as_bytes())
+    }
 
     /// Whether the text is an identifier that means this one: in whatever case, its variants in whatever
     /// order. It takes no memory.

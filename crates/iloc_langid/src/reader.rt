@@ -1,6 +1,6 @@
 //! Reads identifiers from pieces.
 ghost use Rattle.std.specs.Prelude.{◌≡◌, [], OnOk};
-ghost use Rattle.iloc_grammar.specs.Faults.{head};
+ghost use Rattle.iloc_grammar.specs.Blocks.{head};
 ghost use Rattle.iloc_grammar.specs.Reading.{after_head};
 ghost use Rattle.iloc_parser.specs.Left.{left};
 ghost use Rattle.iloc_langid.specs.Reads.{VariantsGive, FrontGives, FrontReadsAs, ReadsAs};

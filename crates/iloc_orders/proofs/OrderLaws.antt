@@ -1,16 +1,16 @@
 -- The orders are total, and only equal values tie.
-use Rattle.std.proofs.Common.{◌≡◌, List, length, nat_lt, refl, sym, ap, subst, Some, None, true≢false}
+use Rattle.std.proofs.Common.{◌≡◌, ℕ, zero, suc, List, length, nat_lt, refl, sym, ap, ◌∙◌, subst, Some, None, true≢false}
 use Rattle.std.specs.Ordering.{ordering_then, is_eq}
 use Rattle.std.specs.Option.{option_cmp}
 use Rattle.std.specs.declared.cmp.Ordering.{Ordering}
 use Rattle.std.specs.declared.cmp.Ordering.TheVariants.{Less, Equal, Greater}
 use Rattle.std.specs.Cmp.{IsTotalOrder, nat_cmp_total, bool_cmp_total, on_total, then_total, tied_itself}
-use Rattle.std.specs.Cmp.Lexicographic.{nat_list_cmp_total, lists_total, options_total}
+use Rattle.std.specs.Cmp.Lexicographic.{slice_cmp, nat_list_cmp_total, lists_total, options_total}
 use Rattle.std.specs.FinMap.{IsAntisymmetric, nat_cmp-IsAntisymmetric, slice_cmp-IsAntisymmetric}
 use Rattle.iloc_grammar.specs.Words.{word_cmp}
 use Rattle.iloc_grammar.specs.Written.{Identifier, Unicode, Transform}
 use Rattle.iloc_grammar.specs.Meaning.{Locale}
-use Rattle.iloc_orders.specs.Orders.{IsExactOrder, short_list_cmp, pair_cmp, words_cmp, identifier_cmp, keywords_cmp, fields_cmp, unicode_cmp, transform_cmp, other_cmp, Extensions, extensions_of, extensions_cmp, locale_cmp}
+use Rattle.iloc_orders.specs.Orders.{IsExactOrder, short_list_cmp, pair_cmp, words_cmp, identifier_cmp, keywords_cmp, fields_cmp, unicode_cmp, transform_cmp, other_cmp, Extensions, extensions_of, extensions_cmp, locale_cmp, ExtensionKind, OfTransform, OfUnicode, OfPrivate, OfOther, place_of_kind, kind_cmp}
 
 -- parts of a tie
 
@@ -147,3 +147,38 @@ locale_exact = exactly locale_total locale_same
 
 pub extensions_exact : IsExactOrder extensions_cmp
 extensions_exact = exactly extensions_total extensions_same
+
+pub word_exact : IsExactOrder word_cmp
+word_exact = exactly nat_list_cmp_total word_same
+
+-- kinds of extensions
+
+kind_at : ℕ × ℕ → ExtensionKind
+kind_at (zero, b) = OfTransform
+kind_at (suc zero, b) = OfUnicode
+kind_at (suc (suc zero), b) = OfPrivate
+kind_at (suc (suc (suc n)), b) = OfOther b
+
+kind_back : (k : ExtensionKind) → kind_at (place_of_kind k) ≡ k
+unfolding kind_at
+kind_back OfTransform = refl
+kind_back OfUnicode = refl
+kind_back OfPrivate = refl
+kind_back (OfOther b) = refl
+
+pub kind_exact : IsExactOrder kind_cmp
+kind_exact = exactly (on_total place_of_kind (pair_total nat_cmp_total nat_cmp_total)) (λ k l e. sym (kind_back k) ∙ ap kind_at (pair_same nat_cmp-IsAntisymmetric nat_cmp-IsAntisymmetric (place_of_kind k) (place_of_kind l) e) ∙ kind_back l)
+
+-- from exact orders
+
+exact_same : {X : Type 0} (R : X → X → Ordering) → IsExactOrder R → IsAntisymmetric R
+exact_same R o x y e = (o.exact x y).0 e
+
+pub short_exact : (X : Type 0) (R : X → X → Ordering) → IsExactOrder R → IsExactOrder (short_list_cmp R)
+short_exact X R o = exactly (short_total o.total) (short_same (exact_same R o))
+
+pub list_exact : (X : Type 0) (R : X → X → Ordering) → IsExactOrder R → IsExactOrder (slice_cmp R)
+list_exact X R o = exactly (lists_total o.total) (slice_cmp-IsAntisymmetric (exact_same R o))
+
+pub pair_exact : (X Y : Type 0) (R : X → X → Ordering) (S : Y → Y → Ordering) → IsExactOrder R → IsExactOrder S → IsExactOrder (pair_cmp R S)
+pair_exact X Y R S o p = exactly (pair_total o.total p.total) (pair_same (exact_same R o) (exact_same S p))

@@ -3,7 +3,7 @@
 //! Each is total, and ties exactly equal values. It stands on `iloc_grammar`.
 #![tactic(auto)]
 
-ghost use Rattle.iloc_orders.specs.Orders.{IsExactOrder, words_cmp, identifier_cmp, keywords_cmp, fields_cmp, unicode_cmp, transform_cmp, other_cmp, extensions_cmp, locale_cmp};
+ghost use Rattle.iloc_orders.specs.Orders.{IsExactOrder, words_cmp, identifier_cmp, keywords_cmp, fields_cmp, unicode_cmp, transform_cmp, other_cmp, extensions_cmp, locale_cmp, kind_cmp};
 ghost use Rattle.std.specs.Prelude.{◌≡◌, [], ◌∷◌, codes};
 ghost use Rattle.std.specs.declared.cmp.Ordering.TheVariants.{Less, Equal, Greater};
 ghost use Rattle.iloc_grammar.specs.Words.{word_cmp};
@@ -11,6 +11,7 @@ ghost use Rattle.iloc_orders.specs.Examples.{meaning_of};
 
 /// Total orders, by which only equal values tie.
 pub fn orders()
+    ensures word { IsExactOrder word_cmp }
     ensures words { IsExactOrder words_cmp }
     ensures identifiers { IsExactOrder identifier_cmp }
     ensures keywords { IsExactOrder keywords_cmp }
@@ -20,6 +21,7 @@ pub fn orders()
     ensures others { IsExactOrder other_cmp }
     ensures locales { IsExactOrder locale_cmp }
     ensures extensions { IsExactOrder extensions_cmp }
+    ensures kinds { IsExactOrder kind_cmp }
 {}
 
 /// Worked comparisons.

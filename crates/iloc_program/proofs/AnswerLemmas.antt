@@ -7,7 +7,8 @@ use Rattle.iloc_grammar.specs.Pieces.{pieces}
 use Rattle.iloc_grammar.specs.Words.{Language, is_word, IsWord, is_same, lower, word_cmp, languages}
 use Rattle.iloc_grammar.specs.Written.{Identifier, identifier_pieces, AllDifferent, IsIdentifier}
 use Rattle.iloc_grammar.specs.Meaning.{IdentifierMeans, normal_identifier}
-use Rattle.iloc_grammar.specs.Faults.{SpellsIdentifier, first_piece, not_a_language, not_an_identifier}
+use Rattle.iloc_grammar.specs.Faults.{SpellsIdentifier, not_a_language, not_an_identifier}
+use Rattle.iloc_grammar.specs.Blocks.{first_piece}
 use Rattle.iloc_grammar.specs.Reading.{front_of, after_front}
 use Rattle.iloc_grammar.proofs.PiecesLaws.{pieces_nonempty}
 use Rattle.iloc_grammar.proofs.ReadingLaws.{front_of-pieces, after_front-pieces, pieces-front_of, front_words}

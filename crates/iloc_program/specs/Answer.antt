@@ -5,7 +5,8 @@ use Rattle.iloc_grammar.specs.Pieces.{pieces}
 use Rattle.iloc_grammar.specs.Words.{Language, is_word, IsWord, is_same, lower, languages}
 use Rattle.iloc_grammar.specs.Written.{Identifier}
 use Rattle.iloc_grammar.specs.Meaning.{IdentifierMeans, normal_identifier}
-use Rattle.iloc_grammar.specs.Faults.{SpellsIdentifier, first_piece}
+use Rattle.iloc_grammar.specs.Faults.{SpellsIdentifier}
+use Rattle.iloc_grammar.specs.Blocks.{first_piece}
 use Rattle.iloc_grammar.specs.Reading.{front_of, after_front}
 use Rattle.iloc_subtags.specs.declared.parse_error.ParseError.{ParseError}
 use Rattle.iloc_subtags.specs.declared.parse_error.ParseError.TheVariants.{InvalidLanguage, InvalidSubtag}

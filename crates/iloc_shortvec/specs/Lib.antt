@@ -5,7 +5,7 @@ pub mod Kept
 pub mod KeptLends
 pub mod NothingLends
 pub mod Rest
+pub mod ShortBoxSliceLends
 pub mod ShortList
-pub mod ShortListLends
 pub mod ShortOrder
 pub mod ShortWordsLends

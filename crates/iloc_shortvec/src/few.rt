@@ -8,7 +8,7 @@ use std::marker::Model;
 /// One to four items. The places after them hold copies, and count for nothing.
 #[derive(Drop)]
 pub struct Few<T: Copy> {
-    xs: [T; 4],
+    cells: [T; 4],
     len: usize,
 }
 
@@ -17,28 +17,30 @@ impl<T: Copy> Model for Few<T> {
 
     ghost Value = { List T };
 
-    ghost view = { λ f. take f.len f.xs };
+    ghost view = { λ f. take f.len f.cells };
 
-    ghost invariant = { λ f. (0 < f.len) × (f.len ≤ 4) × (length f.xs ≡ 4) };
+    ghost invariant = { λ f. (0 < f.len) × (f.len ≤ 4) × (length f.cells ≡ 4) };
 }
 
 impl<T: Copy> Few<T> {
     ghost use Rattle.iloc_shortvec.specs.FewLends.{few_lends_slice};
 
+    /// One item.
     pub fn one(item: T) -> Self
         ensures { result ≡ item ∷ [] }
     {
         Few {
-            xs: [item; 4],
+            cells: [item; 4],
             len: 1,
         }
     }
 
+    /// Two items.
     pub fn two(first: T, second: T) -> Self
         ensures { result ≡ first ∷ second ∷ [] }
     {
         Few {
-            xs: [first, second, second, second],
+            cells: [first, second, second, second],
             len: 2,
         }
     }
@@ -52,39 +54,43 @@ impl<T: Copy> Few<T> {
         let mut all = [items[0]; 4];
         all[..items.len()].copy_from_slice(items);
         Few {
-            xs: all,
+            cells: all,
             len: items.len(),
         }
     }
 
+    /// The items.
     pub fn as_slice(&self) -> &[T]
         ensures items { result.now ≡ self.now }
         ensures not_empty { 0 < length self.now }
         ensures fits { length self.now ≤ 4 }
     {
-        &self.xs[..self.len]
+        &self.cells[..self.len]
     }
 
+    /// The items for writing.
     pub fn as_mut_slice(&mut self) -> &mut [T]
         ensures* writes_back { sem 𝓛 (few_lends_slice T.row self.entry result) }
         ensures value { result.now ≡ self.old }
     {
-        front_mut(&mut self.xs, self.len)
+        front_mut(&mut self.cells, self.len)
     }
 
+    /// How many items there are.
     pub fn len(&self) -> usize
         ensures { result ≡ length self.now }
     {
         self.len
     }
 
+    /// Puts an item at a place, where there is room.
     pub fn insert(&mut self, index: usize, item: T)
         requires place { index ≤ length self.old }
         requires room { length self.old < 4 }
         ensures { self.new ≡ insert self.old index item }
     {
-        self.xs.copy_within(index..self.len, index + 1);
-        self.xs[index] = item;
+        self.cells.copy_within(index..self.len, index + 1);
+        self.cells[index] = item;
         self.len += 1;
     }
 
@@ -94,8 +100,8 @@ impl<T: Copy> Few<T> {
         ensures { self.new ≡ self.old ++ items.now }
     {
         let end = self.len + items.len();
-        let cells = &mut self.xs[..];
-        cells[self.len..end].copy_from_slice(items);
+        let all = &mut self.cells[..];
+        all[self.len..end].copy_from_slice(items);
         self.len = end;
     }
 
@@ -107,7 +113,7 @@ impl<T: Copy> Few<T> {
         ensures rest { self.new ≡ remove self.old index }
     {
         let item = self.as_slice()[index];
-        self.xs.copy_within(index + 1..self.len, index);
+        self.cells.copy_within(index + 1..self.len, index);
         self.len -= 1;
         item
     }

@@ -26,7 +26,10 @@ use std::hash::{Hash, Hasher};
 use std::marker::Model;
 use std::{fmt, slice};
 
-/// A list of `Copy` items.
+/// A list of `Copy` items. Up to four are kept in the value, and five or more in a `Vec`.
+///
+/// Contracts see it as the list of its items: an unused place counts for nothing. It is made for words, of which texts
+/// seldom have more than four in one list.
 #[derive(Drop)]
 pub struct ShortWords<T: Copy> {
     kept: Kept<T>,
@@ -47,6 +50,7 @@ impl<T: Copy> Model for ShortWords<T> {
 impl<T: Copy> ShortWords<T> {
     ghost use Rattle.iloc_shortvec.specs.ShortWordsLends.{lends_slice};
 
+    /// The empty list.
     pub fn new() -> Self
         ensures { result ≡ [] }
     {
@@ -55,6 +59,7 @@ impl<T: Copy> ShortWords<T> {
         }
     }
 
+    /// The list of this one item.
     pub fn new_single(item: T) -> Self
         ensures { result ≡ item ∷ [] }
     {
@@ -80,7 +85,7 @@ impl<T: Copy> ShortWords<T> {
         self.kept.as_slice()
     }
 
-    /// The items for writing.
+    /// The items for writing. Once the borrow ends, the list is what the slice shows last.
     pub fn as_mut_slice(&mut self) -> &mut [T]
         ensures* writes_back { sem 𝓛 (lends_slice T.row self.entry result) }
         ensures value { result.now ≡ self.old }
@@ -88,6 +93,7 @@ impl<T: Copy> ShortWords<T> {
         self.kept.as_mut_slice()
     }
 
+    /// How many items there are.
     pub fn len(&self) -> usize
         ensures { result ≡ length self.now }
     {
@@ -144,7 +150,7 @@ impl<T: Copy> ShortWords<T> {
         self.as_slice().iter()
     }
 
-    /// Puts an item at a place. Up to four items take no memory.
+    /// Puts an item at a place. Up to four items take no memory. Refusal: `AllocError`, and the list is as before.
     pub fn insert(&mut self, alloc: Global, index: usize, item: T) -> Result<(), AllocError>
         requires { index ≤ length self.old }
         ensures ok { OnOk result (self.new ≡ insert self.old index item) }
@@ -168,6 +174,7 @@ impl<T: Copy> ShortWords<T> {
         Ok(())
     }
 
+    /// Adds an item at the end. Up to four items take no memory. Refusal: `AllocError`, and the list is as before.
     pub fn push(&mut self, alloc: Global, item: T) -> Result<(), AllocError>
         ensures ok { OnOk result (self.new ≡ self.old ++ item ∷ []) }
         ensures err { OnErr result (self.new ≡ self.old) }
@@ -176,7 +183,8 @@ impl<T: Copy> ShortWords<T> {
         self.insert(alloc, self.len(), item)
     }
 
-    /// Adds copies of the items at the end, all of them or none.
+    /// Adds copies of the items at the end, all of them or none. Up to four in all take no memory. Refusal: `AllocError`,
+    /// and the list is as before.
     pub fn extend_from_slice(&mut self, alloc: Global, items: &[T]) -> Result<(), AllocError>
         ensures ok { OnOk result (self.new ≡ self.old ++ items.now) }
         ensures err { OnErr result (self.new ≡ self.old) }
@@ -196,7 +204,7 @@ impl<T: Copy> ShortWords<T> {
         Ok(())
     }
 
-    /// Removes an item. A list that falls to four items goes in place.
+    /// Takes the item at a place out. A list that falls to four items keeps them in the value.
     pub fn remove(&mut self, index: usize) -> T
         requires { index < length self.old }
         ensures value { slice_get self.old index ≡ Some result }
@@ -236,6 +244,7 @@ impl<T: Copy> ShortWords<T> {
         }
     }
 
+    /// The list of these items, over the same `Vec` where they are five or more.
     pub fn from_vec(items: Vec<T>) -> Self
         ensures { result ≡ items.items }
     {
@@ -247,6 +256,7 @@ impl<T: Copy> ShortWords<T> {
         }
     }
 
+    /// Leaves the empty list.
     pub fn clear(&mut self)
         ensures { self.new ≡ [] }
     {
@@ -297,7 +307,7 @@ fn kept_of<T: Copy, F: FnMut(&T) -> bool + Drop>(items: &[T], mut keep: F) -> Sh
 }
 
 impl<T: Copy> ShortWords<T> {
-    /// The list of what the iterator gives, in its order.
+    /// The list of what the iterator gives, in its order. Refusal: `AllocError`.
     pub fn from_iter<I: IntoIterator<Item = T>>(alloc: Global, iter: I) -> Result<Self, AllocError>
         requires ends { (it : I.IntoIter) → I.into_iter_gives iter it → I.IntoIter.can_next it × IsFinite (I.IntoIter.remaining it) }
         ensures { IfOk result (λ list. (it : I.IntoIter) × I.into_iter_gives iter it × Drains I.IntoIter.next_gives it list) }
@@ -309,7 +319,7 @@ impl<T: Copy> ShortWords<T> {
         Ok(list)
     }
 
-    /// A copy.
+    /// A copy. Refusal: `AllocError`.
     pub fn clone(&self) -> Result<Self, AllocError>
         ensures { IfOk result (λ copy. copy ≡ self.now) }
     {
@@ -324,6 +334,7 @@ impl<T: Copy> ShortWords<T> {
     }
 }
 
+/// The empty list.
 impl<T: Copy> Default for ShortWords<T> {
     ghost is_default = { λ list. list ≡ [] };
 
@@ -341,6 +352,7 @@ impl<T: Copy + fmt::Debug> fmt::Debug for ShortWords<T> {
     }
 }
 
+/// Item by item.
 impl<T: Copy + PartialEq> PartialEq for ShortWords<T> {
     ghost eq = { pointwise T.eq };
 
@@ -365,6 +377,7 @@ impl<T: Copy + Hash> Hash for ShortWords<T> {
     }
 }
 
+/// Lists of at most one item before all longer ones, and item by item within each class.
 impl<T: Copy + Ord> Ord for ShortWords<T> {
     ghost cmp = { short_cmp T.cmp };
 
@@ -393,7 +406,7 @@ impl<T: Copy + Ord> PartialOrd for ShortWords<T> {
     }
 }
 
-/// The items of a list, seen as those that are left.
+/// The items of a list by value, seen as the list of those that are left.
 #[derive(Drop)]
 pub struct ShortWordsIntoIter<T: Copy> {
     words: ShortWords<T>,

@@ -10,12 +10,12 @@ use Rattle.iloc_grammar.specs.Pieces.{pieces}
 use Rattle.iloc_grammar.specs.Words.{Kind, Language, Script, Region, Variant, UnicodeKey, Attribute, is_word, IsWord, IsTable, lower, word_cmp}
 use Rattle.iloc_grammar.specs.Written.{Identifier, Unicode, Extension, unicode, identifier_pieces, HasWords, IsWritten, singleton, block_pieces, blocks_of, AllDifferent}
 use Rattle.iloc_grammar.specs.Meaning.{Locale, Means, meaning, set_of, normal_values, unicode_part, transform_part, IdentifierMeans, normal_identifier}
-use Rattle.iloc_grammar.specs.Faults.{Fault, head, tail_blocks, front, first_piece}
+use Rattle.iloc_grammar.specs.Faults.{Fault}
+use Rattle.iloc_grammar.specs.Blocks.{head, tail_blocks, front, first_piece}
 use Rattle.iloc_grammar.proofs.WordsLaws.{length-attribute, length-unicode_key}
 use Rattle.iloc_grammar.proofs.IdentifierLaws as identifiers
 use Rattle.iloc_grammar.proofs.IdentifierLaws.{pieces-identifier_of, identifier_of-pieces}
 use Rattle.iloc_grammar.specs.Reading.{take_first, skip_first, first_item, identifier_of}
-use Rattle.iloc_grammar.specs.Faults.{first_piece}
 use Rattle.iloc_grammar.proofs.Readings.{one_meaning, head-spelling, blocks-spelling}
 use Rattle.iloc_grammar.proofs.FaultLaws.{head-and-blocks}
 use Rattle.iloc_grammar.proofs.PiecesLaws.{pieces_nonempty}

@@ -7,7 +7,8 @@ use Rattle.iloc_grammar.specs.Written.{Identifier, Extension, unicode, Written, 
 use Rattle.iloc_grammar.specs.Meaning.{Locale, normal_values}
 use Rattle.iloc_grammar.specs.Values.{IsNormal}
 use Rattle.iloc_grammar.specs.Reading.{first_item}
-use Rattle.iloc_grammar.specs.Faults.{Fault, InvalidLanguage, InvalidSubtag, InvalidExtension, head, tail_blocks, first_piece}
+use Rattle.iloc_grammar.specs.Faults.{Fault, InvalidLanguage, InvalidSubtag, InvalidExtension}
+use Rattle.iloc_grammar.specs.Blocks.{head, tail_blocks, first_piece}
 
 pub record SmallIdentifier : Type 0 where
   pub language : List ℕ

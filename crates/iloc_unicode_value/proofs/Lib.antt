@@ -1,3 +1,5 @@
 mod CutLemmas
+mod EqualityLemmas
+mod PrintLemmas
 mod ReadingLemmas
 mod WholeLemmas

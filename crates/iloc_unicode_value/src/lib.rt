@@ -4,8 +4,18 @@
 //! lists, pieces and printing.
 #![tactic(auto)]
 
+ghost use Rattle.std.specs.Prelude.{◌≡◌, ◌↔◌, ℕ, List, true};
+ghost use Rattle.iloc_orders.specs.Orders.{words_cmp};
+
+pub mod printing;
 pub mod reader;
 pub mod value;
 
 pub use reader::read_value;
 pub use value::Value;
+
+/// Values are ordered as short lists of words, and are equal exactly where their lists are.
+pub fn values_compare()
+    ensures order { (v w : List (List ℕ)) → ⟦<Value as Ord>⟧.cmp v w ≡ words_cmp v w }
+    ensures equality { (v w : List (List ℕ)) → (⟦<Value as PartialEq>⟧.eq v w ≡ true) ↔ (v ≡ w) }
+{}

@@ -1,7 +1,7 @@
 //! A list of subtags.
 ghost use Rattle.std.specs.Prelude.{◌≡◌, ◌<◌, ◌≤◌, ◌↔◌, ℕ, List, [], ◌∷◌, ◌++◌, length, remove, take, slice_get, OnOk, OnErr, IfOk, IsOk, IsTrue, true, Ok, option_to_list};
 ghost use Rattle.std.specs.List.{AllByRecursion};
-ghost use Rattle.std.specs.Iterator.{IsFinite, Drains};
+ghost use Rattle.std.specs.Iterator.{IsFiniteIterable, Drains};
 ghost use Rattle.std.specs.Option.{option_copied};
 ghost use Rattle.iloc_grammar.specs.Words.{Subtag, is_true};
 ghost use Rattle.iloc_grammar.specs.Values.{IsNormal};
@@ -9,12 +9,12 @@ ghost use Rattle.iloc_shortvec.specs.ShortList.{only_of};
 ghost use Rattle.iloc_unicode_value.specs.Values.{without_true, with_subtag};
 
 use iloc_shortvec::{ShortWords, ShortWordsIntoIter};
-use iloc_subtags::Subtag;
+use iloc_subtags::{Subtag, are_normal};
 use std::alloc::{AllocError, Global};
 use std::marker::Model;
 
 /// The value of a keyword: a list of subtags. The empty value stands for `true`.
-#[derive(Drop, PartialEq, Eq, PartialOrd, Ord, Hash)]
+#[derive(Drop, Debug, PartialEq, Eq, PartialOrd, Ord, Hash)]
 pub struct Value {
     subtags: ShortWords<Subtag>,
 }
@@ -70,20 +70,14 @@ impl Value {
     pub fn as_single_subtag(&self) -> Option<&Subtag>
         ensures { option_copied result ≡ only_of self.now }
     {
-        match self.as_subtags_slice() {
-            [only] => Some(only),
-            _ => None,
-        }
+        self.subtags.single()
     }
 
     /// The subtag of a value of exactly one, by value.
     pub fn into_single_subtag(self) -> Option<Subtag>
         ensures { result ≡ only_of self }
     {
-        match self.as_subtags_slice() {
-            [only] => Some(*only),
-            _ => None,
-        }
+        self.subtags.into_single()
     }
 
     /// The subtag at a place; `None` from the length on.
@@ -157,7 +151,7 @@ impl Value {
     ) -> Result<Self, AllocError>
     where
         I::IntoIter: Drop,
-        requires { (it : I.IntoIter) → I.into_iter_gives iter it → I.IntoIter.can_next it × IsFinite (I.IntoIter.remaining it) }
+        requires { IsFiniteIterable I.into_iter_gives I.IntoIter.can_next I.IntoIter.remaining iter }
         ensures { IfOk result (λ v. (it : I.IntoIter) × I.into_iter_gives iter it × Drains I.IntoIter.next_gives it v) }
     {
         let mut value = Value::new_empty();
@@ -173,7 +167,7 @@ impl Value {
     ) -> Result<(), AllocError>
     where
         I::IntoIter: Drop,
-        requires { (it : I.IntoIter) → I.into_iter_gives iter it → I.IntoIter.can_next it × IsFinite (I.IntoIter.remaining it) }
+        requires { IsFiniteIterable I.into_iter_gives I.IntoIter.can_next I.IntoIter.remaining iter }
         ensures ok { OnOk result ((it : I.IntoIter) × (xs : List (List ℕ)) × I.into_iter_gives iter it × Drains I.IntoIter.next_gives it xs × (self.new ≡ self.old ++ xs)) }
         ensures err { OnErr result (self.new ≡ self.old) }
     {
@@ -206,15 +200,6 @@ impl Value {
             let last = self.subtag_count() - 1;
             self.remove_subtag(last);
         }
-    }
-}
-
-// Each subtag is a normal word, as the type of each says.
-fn are_normal(subtags: &[Subtag])
-    ensures { AllByRecursion (IsNormal Subtag) subtags.now }
-{
-    for subtag in subtags {
-        let _ = subtag.as_str();
     }
 }
 

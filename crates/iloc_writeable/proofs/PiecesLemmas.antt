@@ -1,14 +1,12 @@
 -- Pieces with hyphens between them.
-use Rattle.std.proofs.Common.{◌≡◌, ℕ, suc, ◌+◌, ◌<◌, Bool, true, false, not, ◌&&◌, ◌||◌, List, [], ◌∷◌, ◌++◌, length, take, drop, get_or, refl, sym, ap, ◌∙◌, append_assoc, append-nil, add-one}
+use Rattle.std.proofs.Common.{◌≡◌, ℕ, zero, suc, ◌+◌, ◌<◌, Bool, true, false, not, ◌&&◌, ◌||◌, List, [], ◌∷◌, ◌++◌, length, take, drop, get_or, refl, sym, ap, ◌∙◌, append_assoc, append-nil, add-one, arith}
 use Rattle.std.proofs.lemmas.Grind.{flat_map-append}
 use Rattle.std.proofs.Math.Seq.{take-suc}
 use Rattle.std.specs.List.{flat_map, join_with_byte}
-use Rattle.iloc_writeable.specs.Writing.{dashed}
-use Rattle.iloc_writeable.specs.Pieces.{hyphened, is_there}
-use Rattle.iloc_writeable.proofs.WritingLemmas.{flat_map-at}
+use Rattle.iloc_writeable.specs.Pieces.{dashes, hyphened, is_there}
 
 -- the first piece, and each other after a hyphen
-pub join-cons : (p : List ℕ) (ps : List (List ℕ)) → join_with_byte 45 (p ∷ ps) ≡ p ++ dashed (λ q. q) ps
+pub join-cons : (p : List ℕ) (ps : List (List ℕ)) → join_with_byte 45 (p ∷ ps) ≡ p ++ dashes ps
 join-cons p [] = sym (append-nil p)
 join-cons p (q ∷ ps) = ap (λ t. p ++ 45 ∷ t) (join-cons q ps)
 
@@ -18,8 +16,8 @@ hyphened-append true [] qs = refl
 hyphened-append true (p ∷ ps) qs =
     join-cons p (ps ++ qs)
     ∙ ap (λ t. p ++ t) (flat_map-append (λ q. 45 ∷ q) ps qs)
-    ∙ sym (append_assoc p (dashed (λ q. q) ps) (dashed (λ q. q) qs))
-    ∙ ap (λ t. t ++ dashed (λ q. q) qs) (sym (join-cons p ps))
+    ∙ sym (append_assoc p (dashes ps) (dashes qs))
+    ∙ ap (λ t. t ++ dashes qs) (sym (join-cons p ps))
 hyphened-append false ps qs = flat_map-append (λ q. 45 ∷ q) ps qs
 
 pub hyphened-one : (p : List ℕ) → (45 ∷ []) ++ p ≡ hyphened false (p ∷ [])
@@ -28,6 +26,13 @@ hyphened-one p = ap (λ t. 45 ∷ t) (sym (append-nil p))
 pub is_there-append : (ps qs : List (List ℕ)) → is_there (ps ++ qs) ≡ (is_there ps || is_there qs)
 is_there-append [] qs = refl
 is_there-append (p ∷ ps) qs = refl
+
+-- the items' lists before a place, the one there, and those after it
+pub flat_map-at : {A X : Type 0} (f : A → List X) (xs : List A) (i : ℕ) (x : A) → i < length xs → x ≡ get_or xs i x → flat_map f (take i xs) ++ (f x ++ flat_map f (drop (suc i) xs)) ≡ flat_map f xs
+flat_map-at f [] i x h e = absurd (omega (arith, h))
+flat_map-at f (y ∷ ys) zero x h e = ap (λ z. f z ++ flat_map f ys) e
+flat_map-at f (y ∷ ys) (suc i) x h e =
+    append_assoc (f y) (flat_map f (take i ys)) (f x ++ flat_map f (drop (suc i) ys)) ∙ ap (λ l. f y ++ l) (flat_map-at f ys i x (omega (arith, h)) e)
 
 -- the pieces of the items before a place, of the one there, and of those after it
 pub hyphened-at : {A : Type 0} (f : A → List (List ℕ)) (first here : Bool) (xs : List A) (i : ℕ) (x : A) → i < length xs → x ≡ get_or xs i x → here ≡ (first && not (is_there (flat_map f (take i xs))))
@@ -84,4 +89,3 @@ is_there-at f xs i x h e t =
 pub flat_map_words : (ws : List (List ℕ)) → flat_map (λ w. w ∷ []) ws ≡ ws
 flat_map_words [] = refl
 flat_map_words (w ∷ ws) = ap (λ vs. w ∷ vs) (flat_map_words ws)
-

@@ -7,8 +7,8 @@ use std::fmt;
 
 /// Adds up the lengths of what is written to it, and keeps none of it.
 #[derive(Drop)]
-pub struct Counting {
-    pub hint: LengthHint,
+pub(crate) struct Counting {
+    pub(crate) hint: LengthHint,
 }
 
 impl Sink for Counting {

@@ -1,0 +1,33 @@
+-- The normal text of an identifier.
+use Rattle.std.proofs.Common.{◌≡◌, ◌↔◌, ℕ, false, true, List, ◌∷◌, length, refl, sym, ap, ◌∙◌, subst, true≢false}
+use Rattle.iloc_grammar.specs.Pieces.{pieces}
+use Rattle.iloc_grammar.specs.Words.{Language, IsWord, languages}
+use Rattle.iloc_grammar.specs.Written.{Identifier}
+use Rattle.iloc_grammar.specs.Meaning.{IdentifierMeans}
+use Rattle.iloc_grammar.specs.Values.{identifier_text}
+use Rattle.iloc_grammar.specs.Blocks.{first_piece}
+use Rattle.iloc_grammar.specs.Steps.{IdentifierChain}
+use Rattle.iloc_grammar.proofs.IdentifierLaws.{one_meaning}
+use Rattle.iloc_grammar.proofs.IdentifierTexts.{identifier_means_again, same_identifier_meaning, length-identifier_means, identifier_chain_to_text}
+use Rattle.iloc_subtags.specs.declared.parse_error.ParseError.TheVariants.{OutOfMemory}
+use Rattle.iloc_langid.specs.Normalizing.{IsTextOf, IsNormalizedFrom, RefusesNormalizing}
+
+-- the text of the meaning is the normal text
+pub is_normalized : (input : List ℕ) (i : Identifier) (t : List ℕ) → IdentifierMeans languages (pieces input) i → t ≡ identifier_text i → IsNormalizedFrom input t
+is_normalized input i t m e = record {
+  text_is = (i, m, e);
+  again = (i, subst (λ u. IdentifierMeans languages (pieces u) i) (sym e) (identifier_means_again (pieces input) i m), e);
+  same = λ u j k mj mk.
+      let by = same_identifier_meaning (pieces input) (pieces u) j k mj mk in
+      let is : t ≡ identifier_text j = e ∙ ap identifier_text (one_meaning (pieces input) i j m mj) in
+      (λ p. is ∙ by.0 p, λ p. by.1 (sym is ∙ p));
+  long = λ u j mj mu. sym (length-identifier_means languages u j mu) ∙ ap length (sym (e ∙ ap identifier_text (one_meaning (pieces input) i j m mj)));
+  steps = subst (IdentifierChain languages 2 input) (sym e) (identifier_chain_to_text languages input i m);
+}
+
+-- memory was refused for the text of another than the input
+pub refuses_memory : (input : List ℕ) (i : Identifier) → IdentifierMeans languages (pieces input) i → (input ≡ identifier_text i → false ≡ true) → RefusesNormalizing input OutOfMemory
+refuses_memory input i m other = (
+  subst (λ ps. IsWord (Language languages) (first_piece ps)) (sym m.spelled) m.grammatical.words.language,
+  λ n. absurd (true≢false (sym (other (n.2 ∙ ap identifier_text (one_meaning (pieces input) n.0 i n.1 m))))),
+)

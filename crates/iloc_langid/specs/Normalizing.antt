@@ -1,0 +1,38 @@
+-- What normalising an identifier's text answers.
+use Rattle.std.specs.Prelude.{◌≡◌, ◌↔◌, ℕ, ◌<◌, List, length, filter}
+use Rattle.iloc_grammar.specs.Pieces.{pieces}
+use Rattle.iloc_grammar.specs.Words.{Language, Variant, is_word, IsWord, languages}
+use Rattle.iloc_grammar.specs.Written.{Identifier}
+use Rattle.iloc_grammar.specs.Meaning.{IdentifierMeans}
+use Rattle.iloc_grammar.specs.Values.{identifier_text}
+use Rattle.iloc_grammar.specs.Faults as faults
+use Rattle.iloc_grammar.specs.Faults.{HasIdentifierFault}
+use Rattle.iloc_grammar.specs.Blocks.{first_piece}
+use Rattle.iloc_grammar.specs.Reading.{rest_of}
+use Rattle.iloc_grammar.specs.Steps.{IdentifierChain}
+use Rattle.iloc_subtags.specs.declared.parse_error.ParseError.{ParseError}
+use Rattle.iloc_subtags.specs.declared.parse_error.ParseError.TheVariants.{InvalidLanguage, InvalidSubtag, InvalidExtension, DuplicatedExtension, OutOfMemory}
+
+-- t is the text of what u means
+abbrev pub IsTextOf : List ℕ → List ℕ → Type 0
+IsTextOf u t = (i : Identifier) × IdentifierMeans languages (pieces u) i × (t ≡ identifier_text i)
+
+-- t is the normal text of input
+pub record IsNormalizedFrom (input t : List ℕ) : Type 0 where
+  -- the text of its meaning
+  pub text_is : IsTextOf input t
+  -- which is its own normal text
+  pub again : IsTextOf t t
+  -- every accepted text means the same exactly where its normal text is this one, and is as long then
+  pub same : (u : List ℕ) (i j : Identifier) → IdentifierMeans languages (pieces input) i → IdentifierMeans languages (pieces u) j → (i ≡ j) ↔ (t ≡ identifier_text j)
+  pub long : (u : List ℕ) (i : Identifier) → IdentifierMeans languages (pieces input) i → IdentifierMeans languages (pieces u) i → length u ≡ length t
+  -- two steps at most, in case and in the order of variants, lead here
+  pub steps : IdentifierChain languages 2 input t
+
+-- Why there is none. Memory is wanted only past four variants, or where the input isn't normal.
+abbrev pub RefusesNormalizing : List ℕ → ParseError → Type 0
+RefusesNormalizing t InvalidLanguage = HasIdentifierFault languages (pieces t) faults.InvalidLanguage
+RefusesNormalizing t InvalidSubtag = HasIdentifierFault languages (pieces t) faults.InvalidSubtag
+RefusesNormalizing t InvalidExtension = ⊥
+RefusesNormalizing t DuplicatedExtension = ⊥
+RefusesNormalizing t OutOfMemory = IsWord (Language languages) (first_piece (pieces t)) × (IsTextOf t t → 4 < length (filter (is_word Variant) (rest_of (pieces t))))

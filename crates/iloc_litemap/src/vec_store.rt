@@ -1,0 +1,85 @@
+//! A `Vec` of pairs.
+ghost use Rattle.std.specs.Prelude.{◌≡◌};
+ghost use Rattle.std.specs.Vec.Iter.{into_iter_items};
+ghost use Rattle.iloc_litemap.specs.Calls.{CalledAtKeyValue};
+
+use crate::store::Store;
+use std::alloc::{AllocError, Global};
+use std::vec;
+
+impl<K: Drop, V: Drop> Store<K, V> for Vec<(K, V)> {
+    type KeyValueIntoIter = vec::IntoIter<(K, V), Global>;
+
+    ghost use Rattle.iloc_litemap.specs.VecStore.{vec_with_value, vec_pairs_with_value, vec_takes_first};
+
+    ghost pairs = { λ v. v.items };
+
+    ghost with_value = { vec_with_value };
+
+    ghost free = { 0 };
+
+    ghost left = { into_iter_items };
+
+    fn lm_empty(alloc: Global) -> Self {
+        Vec::new(alloc)
+    }
+
+    fn lm_pairs(&self) -> &[(K, V)] {
+        self.as_slice()
+    }
+
+    fn lm_value_mut(&mut self, index: usize) -> &mut V {
+        let pair = &mut self[index];
+        &mut pair.1
+    }
+
+    fn lm_insert(
+        &mut self,
+        _alloc: Global,
+        index: usize,
+        key: K,
+        value: V,
+    ) -> Result<(), AllocError> {
+        Ok(self.insert(index, (key, value))?)
+    }
+
+    fn lm_remove(&mut self, index: usize) -> (K, V) {
+        self.remove(index)
+    }
+
+    fn lm_retain<F: FnMut(&K, &V) -> bool + Drop>(&mut self, mut predicate: F) {
+        self.retain(
+            move |pair: &(K, V)| -> bool
+                requires { F.IsAlwaysCallable predicate }
+                ensures asked { CalledAtKeyValue F.FnMut predicate.entry pair.now result predicate.exit }
+                ensures callable { F.IsAlwaysCallable predicate.exit }
+            { predicate(&pair.0, &pair.1) },
+        );
+    }
+
+    fn lm_clear(&mut self) {
+        self.clear();
+    }
+
+    fn lm_into_iter(self) -> vec::IntoIter<(K, V), Global> {
+        self.into_iter()
+    }
+
+    fn lm_from_vec(list: Vec<(K, V)>) -> Self
+        ensures { result.items ≡ list.items }
+    {
+        list
+    }
+
+    fn lm_clone(&self) -> Result<Self, AllocError>
+    where
+        K: Clone,
+        V: Clone,
+    {
+        self.clone()
+    }
+
+    ghost takes_first = { λ s r t h. vec_takes_first s r t h };
+
+    ghost pairs_with_value = { λ s i w. vec_pairs_with_value s i w };
+}

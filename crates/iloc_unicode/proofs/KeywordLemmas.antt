@@ -1,0 +1,305 @@
+-- Keywords that are taken one at a time.
+use Rattle.std.proofs.Common.{◌≡◌, ℕ, suc, ◌<◌, ◌≤◌, Bool, true, false, not, cond, ◌&&◌, ◌||◌, ◌==◌, List, [], ◌∷◌, ◌++◌, length, map, refl, sym, ap, ap₂, ◌∙◌, arith, true≢false, subst, Result, Ok, Err, MatchResult, append-nil, append_assoc, Option, Some, None, option_map, is_some, nat_lt}
+use Rattle.std.specs.List.{list_any}
+use Rattle.std.specs.Ordering.{is_eq, eq_by_cmp}
+use Rattle.std.specs.declared.cmp.Ordering.{Ordering}
+use Rattle.std.specs.declared.cmp.Ordering.TheVariants.{Less, Equal, Greater}
+use Rattle.std.specs.Cmp.{eq_by_cmp_equiv}
+use Rattle.std.specs.Option.{option_or}
+use Rattle.std.specs.FinMap.{put, find}
+use Rattle.std.proofs.lemmas.Bool.Decides.{nat_tests}
+use Rattle.std.proofs.lemmas.List.{map-append}
+use Rattle.iloc_grammar.specs.Words.{UnicodeKey, Attribute, is_word, IsWord, lower, word_cmp}
+use Rattle.iloc_grammar.specs.Written.{Fields}
+use Rattle.iloc_grammar.specs.Meaning.{map_of, normal_values, normal_fields}
+use Rattle.iloc_grammar.specs.Reading.{take_first, skip_first, passing, past, is_two, before_key, fields_from}
+use Rattle.iloc_grammar.specs.Faults.{Fault, InvalidExtension, first_piece}
+use Rattle.iloc_grammar.proofs.MapLaws.{word_cmp_total, same_words, find-map_of, map_of_same}
+use Rattle.iloc_grammar.proofs.WordsLaws.{length-attribute, length-unicode_key}
+use Rattle.iloc_fronts.specs.Fronts.{is_keyword_piece, keywords_front, after_keywords, is_bad_key, KeywordsRead, KeywordsFault, bad_key}
+use Rattle.iloc_fronts.specs.Computing.{keywords_at, keywords_result}
+use Rattle.iloc_fronts.proofs.FrontLaws.{keywords_answer}
+use Rattle.iloc_unicode.specs.Reads.{has_many_values, KeywordsWantMemory, second_key, fifth_value}
+use Rattle.iloc_unicode.proofs.TakingLemmas.{took, took_none}
+
+-- kinds of pieces
+
+is_two-attribute : (p : List ℕ) → IsWord Attribute p → is_two p ≡ false
+is_two-attribute p h = let l = (length-attribute p h).0 in grind (arith, nat_tests)
+
+is_two-key : (p : List ℕ) → IsWord UnicodeKey p → is_two p ≡ true
+is_two-key p h = ap (λ n. n == 2) (length-unicode_key p h)
+
+bad-attribute : (p : List ℕ) → IsWord Attribute p → is_bad_key p ≡ false
+bad-attribute p h = ap (λ b. b && not (is_word UnicodeKey p)) (is_two-attribute p h)
+
+bad-key : (p : List ℕ) → IsWord UnicodeKey p → is_bad_key p ≡ false
+bad-key p h = ap₂ (λ a b. a && not b) (is_two-key p h) h
+
+-- pieces after a key: its values, and then the next keywords
+
+or_true : (b : Bool) → (b || true) ≡ true
+or_true true = refl
+or_true false = refl
+
+module _ (test : List ℕ → Bool) where
+  passing_on : (p : List ℕ) (ps : List (List ℕ)) → test p ≡ true → passing test (p ∷ ps) ≡ p ∷ passing test ps
+  passing_on p ps h = ap (λ b. cond b (p ∷ passing test ps) []) h
+
+  passing_off : (p : List ℕ) (ps : List (List ℕ)) → test p ≡ false → passing test (p ∷ ps) ≡ []
+  passing_off p ps h = ap (λ b. cond b (p ∷ passing test ps) []) h
+
+  past_on : (p : List ℕ) (ps : List (List ℕ)) → test p ≡ true → past test (p ∷ ps) ≡ past test ps
+  past_on p ps h = ap (λ b. cond b (past test ps) (p ∷ ps)) h
+
+  past_off : (p : List ℕ) (ps : List (List ℕ)) → test p ≡ false → past test (p ∷ ps) ≡ p ∷ ps
+  past_off p ps h = ap (λ b. cond b (past test ps) (p ∷ ps)) h
+
+value_goes_on : (p : List ℕ) → IsWord Attribute p → is_keyword_piece p ≡ true
+value_goes_on p h = ap (λ b. is_two p || b) h ∙ or_true (is_two p)
+
+-- a piece that is no value begins keywords, or ends them
+no_value : (q : List ℕ) (qs : List (List ℕ)) (b : Bool) → is_two q ≡ b → is_word Attribute q ≡ false → (passing is_keyword_piece (q ∷ qs) ≡ keywords_front (q ∷ qs)) × (past is_keyword_piece (q ∷ qs) ≡ after_keywords (q ∷ qs))
+no_value q qs true t h = (ap (λ b. cond b (passing is_keyword_piece (q ∷ qs)) []) (sym t), ap (λ b. cond b (past is_keyword_piece (q ∷ qs)) (q ∷ qs)) (sym t))
+no_value q qs false t h =
+    let ends : is_keyword_piece q ≡ false = ap₂ ◌||◌ t h in
+    (passing_off is_keyword_piece q qs ends ∙ ap (λ b. cond b (passing is_keyword_piece (q ∷ qs)) []) (sym t), past_off is_keyword_piece q qs ends ∙ ap (λ b. cond b (past is_keyword_piece (q ∷ qs)) (q ∷ qs)) (sym t))
+
+after_key : (qs : List (List ℕ)) → (passing is_keyword_piece qs ≡ passing (is_word Attribute) qs ++ keywords_front (past (is_word Attribute) qs)) × (past is_keyword_piece qs ≡ after_keywords (past (is_word Attribute) qs))
+after_key [] = (refl, refl)
+after_key (q ∷ qs) = by (is_word Attribute q) refl (after_key qs)
+  where
+    by : (b : Bool) → is_word Attribute q ≡ b → (passing is_keyword_piece qs ≡ passing (is_word Attribute) qs ++ keywords_front (past (is_word Attribute) qs)) × (past is_keyword_piece qs ≡ after_keywords (past (is_word Attribute) qs)) → (passing is_keyword_piece (q ∷ qs) ≡ passing (is_word Attribute) (q ∷ qs) ++ keywords_front (past (is_word Attribute) (q ∷ qs))) × (past is_keyword_piece (q ∷ qs) ≡ after_keywords (past (is_word Attribute) (q ∷ qs)))
+    by true h more = (
+      passing_on is_keyword_piece q qs (value_goes_on q h) ∙ ap (λ l. q ∷ l) more.0 ∙ ap₂ (λ a b. a ++ keywords_front b) (sym (passing_on (is_word Attribute) q qs h)) (sym (past_on (is_word Attribute) q qs h)),
+      past_on is_keyword_piece q qs (value_goes_on q h) ∙ more.1 ∙ ap after_keywords (sym (past_on (is_word Attribute) q qs h)),
+    )
+    by false h more = let n = no_value q qs (is_two q) refl h in (
+      n.0 ∙ ap₂ (λ a b. a ++ keywords_front b) (sym (passing_off (is_word Attribute) q qs h)) (sym (past_off (is_word Attribute) q qs h)),
+      n.1 ∙ ap after_keywords (sym (past_off (is_word Attribute) q qs h)),
+    )
+
+goes_on : (p : List ℕ) → is_two p ≡ true → is_keyword_piece p ≡ true
+goes_on p h = ap (λ b. b || is_word Attribute p) h
+
+front_at : (p : List ℕ) (qs : List (List ℕ)) → is_two p ≡ true → keywords_front (p ∷ qs) ≡ p ∷ (passing (is_word Attribute) qs ++ keywords_front (past (is_word Attribute) qs))
+front_at p qs h = ap (λ b. cond b (passing is_keyword_piece (p ∷ qs)) []) h ∙ passing_on is_keyword_piece p qs (goes_on p h) ∙ ap (λ l. p ∷ l) (after_key qs).0
+
+rest_at : (p : List ℕ) (qs : List (List ℕ)) → is_two p ≡ true → after_keywords (p ∷ qs) ≡ after_keywords (past (is_word Attribute) qs)
+rest_at p qs h = ap (λ b. cond b (past is_keyword_piece (p ∷ qs)) (p ∷ qs)) h ∙ past_on is_keyword_piece p qs (goes_on p h) ∙ (after_key qs).1
+
+-- the values before the next key
+
+front_begins : (ps : List (List ℕ)) → before_key is_two (keywords_front ps) ≡ []
+front_begins [] = refl
+front_begins (p ∷ ps) = (elim (is_two p) as (λ b. is_two p ≡ b → before_key is_two (cond b (passing is_keyword_piece (p ∷ ps)) []) ≡ []) [
+  | true ↦ λ h. ap (before_key is_two) (passing_on is_keyword_piece p ps (goes_on p h)) ∙ ap (λ b. cond b [] (p ∷ before_key is_two (passing is_keyword_piece ps))) h
+  | false ↦ λ h. refl
+]) refl
+
+values_first : (qs more : List (List ℕ)) → before_key is_two more ≡ [] → (before_key is_two (passing (is_word Attribute) qs ++ more) ≡ passing (is_word Attribute) qs) × (fields_from is_two (passing (is_word Attribute) qs ++ more) ≡ fields_from is_two more)
+values_first [] more e = (e, refl)
+values_first (q ∷ qs) more e = by (is_word Attribute q) refl (values_first qs more e)
+  where
+    by : (b : Bool) → is_word Attribute q ≡ b → (before_key is_two (passing (is_word Attribute) qs ++ more) ≡ passing (is_word Attribute) qs) × (fields_from is_two (passing (is_word Attribute) qs ++ more) ≡ fields_from is_two more) → (before_key is_two (cond b (q ∷ passing (is_word Attribute) qs) [] ++ more) ≡ cond b (q ∷ passing (is_word Attribute) qs) []) × (fields_from is_two (cond b (q ∷ passing (is_word Attribute) qs) [] ++ more) ≡ fields_from is_two more)
+    by true h rest = let n = is_two-attribute q h in (
+      ap (λ b. cond b [] (q ∷ before_key is_two (passing (is_word Attribute) qs ++ more))) n ∙ ap (λ l. q ∷ l) rest.0,
+      ap (λ b. cond b ((q, before_key is_two (passing (is_word Attribute) qs ++ more)) ∷ fields_from is_two (passing (is_word Attribute) qs ++ more)) (fields_from is_two (passing (is_word Attribute) qs ++ more))) n ∙ rest.1,
+    )
+    by false h rest = (e, refl)
+
+fields_at : (p : List ℕ) (qs : List (List ℕ)) → is_two p ≡ true → keywords_at (p ∷ qs) ≡ (p, passing (is_word Attribute) qs) ∷ keywords_at (past (is_word Attribute) qs)
+fields_at p qs h =
+    let more = keywords_front (past (is_word Attribute) qs) in
+    let first = values_first qs more (front_begins (past (is_word Attribute) qs)) in
+    ap (fields_from is_two) (front_at p qs h)
+    ∙ ap (λ b. cond b ((p, before_key is_two (passing (is_word Attribute) qs ++ more)) ∷ fields_from is_two (passing (is_word Attribute) qs ++ more)) (fields_from is_two (passing (is_word Attribute) qs ++ more))) h
+    ∙ (λ i. (p, first.0 i) ∷ first.1 i)
+
+-- bad keys
+
+bad_values : (qs more : List (List ℕ)) → list_any is_bad_key (passing (is_word Attribute) qs ++ more) ≡ list_any is_bad_key more
+bad_values [] more = refl
+bad_values (q ∷ qs) more = (elim (is_word Attribute q) as (λ b. is_word Attribute q ≡ b → list_any is_bad_key (cond b (q ∷ passing (is_word Attribute) qs) [] ++ more) ≡ list_any is_bad_key more) [
+  | true ↦ λ h. ap (λ b. b || list_any is_bad_key (passing (is_word Attribute) qs ++ more)) (bad-attribute q h) ∙ bad_values qs more
+  | false ↦ λ h. refl
+]) refl
+
+bad_at : (p : List ℕ) (qs : List (List ℕ)) → IsWord UnicodeKey p → list_any is_bad_key (keywords_front (p ∷ qs)) ≡ list_any is_bad_key (keywords_front (past (is_word Attribute) qs))
+bad_at p qs h = ap (list_any is_bad_key) (front_at p qs (is_two-key p h)) ∙ ap (λ b. b || list_any is_bad_key (passing (is_word Attribute) qs ++ keywords_front (past (is_word Attribute) qs))) (bad-key p h) ∙ bad_values qs (keywords_front (past (is_word Attribute) qs))
+
+-- of the pieces before, the fields up to now are in the map
+pub record Filled (before now : List (List ℕ)) (m : Fields) : Type 0 where
+  pub fields : Fields
+  pub all : keywords_at before ≡ fields ++ keywords_at now
+  pub bad : list_any is_bad_key (keywords_front before) ≡ list_any is_bad_key (keywords_front now)
+  pub rest : after_keywords before ≡ after_keywords now
+  pub means : m ≡ normal_fields fields
+
+pub filled_none : (ps : List (List ℕ)) → Filled ps ps []
+filled_none ps = record { fields = []; all = refl; bad = refl; rest = refl; means = refl }
+
+-- one field more
+
+tied : (q k : List ℕ) → eq_by_cmp word_cmp q k ≡ true → q ≡ k
+tied q k h = same_words q k (equal (word_cmp q k) h)
+  where
+    equal : (r : Ordering) → is_eq r ≡ true → r ≡ Equal
+    equal Less h = absurd (true≢false (sym h))
+    equal Equal h = refl
+    equal Greater h = absurd (true≢false (sym h))
+
+module _ {X : Type 0} where
+  find_before : (q : List ℕ) (es fs : List (List ℕ × X)) → find word_cmp q (es ++ fs) ≡ option_or (find word_cmp q es) (find word_cmp q fs)
+  find_before q [] fs = refl
+  find_before q (e ∷ es) fs = ap (cond (eq_by_cmp word_cmp q e.0) (Some e.1)) (find_before q es fs)
+      ∙ elim (eq_by_cmp word_cmp q e.0) as (λ b. cond b (Some e.1) (option_or (find word_cmp q es) (find word_cmp q fs)) ≡ option_or (cond b (Some e.1) (find word_cmp q es)) (find word_cmp q fs)) [ true ↦ refl | false ↦ refl ]
+
+  -- a key that is there hides what comes after
+  hidden : (b : Bool) (o : Option X) (v : X) → (b ≡ true → is_some o ≡ true) → option_or o (cond b (Some v) None) ≡ o
+  hidden true None v h = absurd (true≢false (sym (h refl)))
+  hidden false None v h = refl
+  hidden b (Some x) v h = refl
+
+  -- a key that isn't there is added
+  shown : (b : Bool) (o : Option X) (v : X) → (b ≡ true → is_some o ≡ false) → option_or o (cond b (Some v) None) ≡ cond b (Some v) o
+  shown true None v h = refl
+  shown false None v h = refl
+  shown true (Some x) v h = absurd (true≢false (h refl))
+  shown false (Some x) v h = refl
+
+  at_last : (es : List (List ℕ × X)) (k : List ℕ) (v : X) (b : Bool) → is_some (find word_cmp k es) ≡ b → map_of word_cmp (es ++ (k, v) ∷ []) ≡ cond b (map_of word_cmp es) (put word_cmp k v (map_of word_cmp es))
+  at_last es k v true h = map_of_same word_cmp word_cmp_total same_words _ _ (λ q. find_before q es ((k, v) ∷ []) ∙ hidden (eq_by_cmp word_cmp q k) (find word_cmp q es) v (λ t. ap (λ x. is_some (find word_cmp x es)) (tied q k t) ∙ h))
+  at_last es k v false h = map_of_same word_cmp word_cmp_total same_words (es ++ (k, v) ∷ []) ((k, v) ∷ es) (λ q. find_before q es ((k, v) ∷ []) ∙ shown (eq_by_cmp word_cmp q k) (find word_cmp q es) v (λ t. ap (λ x. is_some (find word_cmp x es)) (tied q k t) ∙ h))
+
+  pub map_of-last : (es : List (List ℕ × X)) (k : List ℕ) (v : X) → map_of word_cmp (es ++ (k, v) ∷ []) ≡ cond (is_some (find word_cmp k (map_of word_cmp es))) (map_of word_cmp es) (put word_cmp k v (map_of word_cmp es))
+  map_of-last es k v =
+      at_last es k v (is_some (find word_cmp k es)) refl ∙ ap (λ o. cond (is_some o) (map_of word_cmp es) (put word_cmp k v (map_of word_cmp es))) (sym (find-map_of word_cmp word_cmp_total k es))
+
+  -- two keys that are there make two pairs
+  two_found : (a k : List ℕ) → (a ≡ k → ⊥) → (es : List (List ℕ × X)) → is_some (find word_cmp a es) ≡ true → is_some (find word_cmp k es) ≡ true → 1 < length es
+  two_found a k n [] h g = absurd (true≢false (sym h))
+  two_found a k n (e ∷ []) h g = absurd (n (tied a e.0 (one (eq_by_cmp word_cmp a e.0) e.1 h) ∙ sym (tied k e.0 (one (eq_by_cmp word_cmp k e.0) e.1 g))))
+    where
+      one : (b : Bool) (v : X) → is_some (cond b (Some v) None) ≡ true → b ≡ true
+      one true v h = refl
+      one false v h = absurd (true≢false (sym h))
+  two_found a k n (e ∷ f ∷ es) h g = omega arith
+
+abbrev normal_field : List ℕ × List (List ℕ) → List ℕ × List (List ℕ)
+normal_field f = (lower f.0, normal_values f.1)
+
+any_at : {X : Type 0} (test : X → Bool) (xs : List X) (x : X) (ys : List X) → test x ≡ true → list_any test (xs ++ x ∷ ys) ≡ true
+any_at test [] x ys h = ap (λ b. b || list_any test ys) h
+any_at test (y ∷ xs) x ys h = ap (λ b. test y || b) (any_at test xs x ys h) ∙ or_true (test y)
+
+module _ (before now : List (List ℕ)) (m : Fields) (t : Filled before now m) (w : List ℕ) (later : List (List ℕ)) (e : Some w ≡ option_map lower (take_first (is_word UnicodeKey) now)) (l : later ≡ skip_first (is_word UnicodeKey) now) where
+  now_is : (p : List ℕ) × IsWord UnicodeKey p × (w ≡ lower p) × (now ≡ p ∷ later)
+  now_is = let (p, h, same, cut) = took UnicodeKey now w e in (p, h, same, cut ∙ ap (λ ps. p ∷ ps) (sym l))
+
+  -- all fields: those so far, the one at the key, and more
+  all_is : (p : List ℕ) → IsWord UnicodeKey p → now ≡ p ∷ later → keywords_at before ≡ t.fields ++ (p, passing (is_word Attribute) later) ∷ keywords_at (past (is_word Attribute) later)
+  all_is p h cut = t.all ∙ ap (λ ps. t.fields ++ keywords_at ps) cut ∙ ap (λ fs. t.fields ++ fs) (fields_at p later (is_two-key p h))
+
+  shorter : (test : List ℕ → Bool) (ps : List (List ℕ)) → length (past test ps) ≤ length ps
+  shorter test [] = omega arith
+  shorter test (p ∷ ps) = let h = shorter test ps in elim (test p) as (λ b. length (cond b (past test ps) (p ∷ ps)) ≤ suc (length ps)) [ true ↦ omega arith | false ↦ omega arith ]
+
+  -- less is left
+  pub filled_less : (after : List (List ℕ)) → after ≡ past (is_word Attribute) later → length after < length now
+  filled_less after a =
+      let (p, h, same, cut) = now_is in
+      let s : length (past (is_word Attribute) later) ≤ length later = shorter (is_word Attribute) later in
+      let m : length after ≡ length (past (is_word Attribute) later) = ap length a in
+      let n : length now ≡ suc (length later) = ap length cut in
+      omega arith
+
+  pub filled_more : (value after : List (List ℕ)) (n : Fields) → value ≡ normal_values (passing (is_word Attribute) later) → after ≡ past (is_word Attribute) later → n ≡ cond (is_some (find word_cmp w m)) m (put word_cmp w value m) → Filled before after n
+  filled_more value after n v a is =
+      let (p, h, same, cut) = now_is in
+      record {
+        fields = t.fields ++ (p, passing (is_word Attribute) later) ∷ [];
+        all = all_is p h cut ∙ sym (append_assoc t.fields ((p, passing (is_word Attribute) later) ∷ []) (keywords_at (past (is_word Attribute) later))) ∙ ap (λ ps. (t.fields ++ (p, passing (is_word Attribute) later) ∷ []) ++ keywords_at ps) (sym a);
+        bad = t.bad ∙ ap (λ ps. list_any is_bad_key (keywords_front ps)) cut ∙ bad_at p later h ∙ ap (λ ps. list_any is_bad_key (keywords_front ps)) (sym a);
+        rest = t.rest ∙ ap after_keywords cut ∙ rest_at p later (is_two-key p h) ∙ ap after_keywords (sym a);
+        means = is ∙ (λ i. cond (is_some (find word_cmp (same i) (t.means i))) (t.means i) (put word_cmp (same i) (v i) (t.means i)))
+            ∙ sym (map_of-last (map normal_field t.fields) (lower p) (normal_values (passing (is_word Attribute) later)))
+            ∙ ap (map_of word_cmp) (sym (map-append normal_field t.fields ((p, passing (is_word Attribute) later) ∷ [])));
+      }
+
+  -- where memory was refused for a value
+  pub many_values : (length (normal_values (passing (is_word Attribute) later)) ≤ 4 → ⊥) → KeywordsWantMemory before
+  many_values many =
+      let (p, h, same, cut) = now_is in
+      fifth_value (ap (list_any has_many_values) (all_is p h cut) ∙ any_at has_many_values t.fields (p, passing (is_word Attribute) later) (keywords_at (past (is_word Attribute) later)) (more (length (normal_values (passing (is_word Attribute) later))) many))
+    where
+      more : (n : ℕ) → (n ≤ 4 → ⊥) → nat_lt 4 n ≡ true
+      more n h = grind (arith, nat_tests)
+
+  -- where memory was refused for a key
+  pub many_keys : is_some (find word_cmp w m) ≡ false → (length m < 1 → ⊥) → KeywordsWantMemory before
+  many_keys new some =
+      let (p, h, same, cut) = now_is in
+      second_key (by m t.means new some p same (all_is p h cut))
+    where
+      there : (q : List ℕ) (fs more : Fields) (f : List ℕ × List (List ℕ)) → is_some (option_or (find word_cmp q (map normal_field fs)) (find word_cmp q (normal_field f ∷ map normal_field more))) ≡ true → is_some (find word_cmp q (normal_fields (fs ++ f ∷ more))) ≡ true
+      there q fs more f h = ap is_some (find-map_of word_cmp word_cmp_total q (map normal_field (fs ++ f ∷ more)) ∙ ap (find word_cmp q) (map-append normal_field fs (f ∷ more)) ∙ find_before q (map normal_field fs) (normal_field f ∷ map normal_field more)) ∙ h
+
+      first : (o r : Option (List (List ℕ))) → is_some o ≡ true → is_some (option_or o r) ≡ true
+      first None r h = absurd (true≢false (sym h))
+      first (Some x) r h = refl
+
+      second : (o r : Option (List (List ℕ))) → is_some r ≡ true → is_some (option_or o r) ≡ true
+      second None r h = h
+      second (Some x) r h = refl
+
+      itself : (q : List ℕ) → eq_by_cmp word_cmp q q ≡ true
+      itself q = (eq_by_cmp_equiv word_cmp_total).refl q
+
+      by : (m : Fields) → m ≡ normal_fields t.fields → is_some (find word_cmp w m) ≡ false → (length m < 1 → ⊥) → (p : List ℕ) → w ≡ lower p → keywords_at before ≡ t.fields ++ (p, passing (is_word Attribute) later) ∷ keywords_at (past (is_word Attribute) later) → 1 < length (normal_fields (keywords_at before))
+      by [] means new some p same all = absurd (some (omega arith))
+      by (x ∷ xs) means new some p same all = rw all (two_found x.0 (lower p) differ (normal_fields (t.fields ++ (p, passing (is_word Attribute) later) ∷ keywords_at (past (is_word Attribute) later)))
+          (there x.0 t.fields (keywords_at (past (is_word Attribute) later)) (p, passing (is_word Attribute) later) (first _ _ (ap is_some (sym (find-map_of word_cmp word_cmp_total x.0 (map normal_field t.fields)) ∙ ap (find word_cmp x.0) (sym means)) ∙ found x.0 refl)))
+          (there (lower p) t.fields (keywords_at (past (is_word Attribute) later)) (p, passing (is_word Attribute) later) (second _ _ (ap (λ b. is_some (cond b (Some (normal_values (passing (is_word Attribute) later))) (find word_cmp (lower p) (map normal_field (keywords_at (past (is_word Attribute) later)))))) (itself (lower p))))))
+        where
+          found : (q : List ℕ) → q ≡ x.0 → is_some (find word_cmp q (x ∷ xs)) ≡ true
+          found q e = ap (λ k. is_some (cond (eq_by_cmp word_cmp k x.0) (Some x.1) (find word_cmp k xs))) e ∙ ap (λ b. is_some (cond b (Some x.1) (find word_cmp x.0 xs))) (itself x.0)
+
+          differ : x.0 ≡ lower p → ⊥
+          differ e = true≢false (sym (found w (same ∙ sym e)) ∙ new)
+
+-- nothing more can be taken
+
+read_of : (ps : List (List ℕ)) → list_any is_bad_key (keywords_front ps) ≡ false → KeywordsRead ps (normal_fields (keywords_at ps)) (after_keywords ps)
+read_of ps h = subst Answer is (keywords_answer ps)
+  where
+    Answer : Result (Fields × List (List ℕ)) Fault → Type 0
+    Answer o = MatchResult o (λ r. KeywordsRead ps r.0 r.1) (KeywordsFault ps)
+
+    read : Fields × List (List ℕ)
+    read = (normal_fields (keywords_at ps), after_keywords ps)
+
+    is : keywords_result ps ≡ Ok read
+    is = ap (λ b. cond b (Err InvalidExtension) (Ok read)) h
+
+no_key : (now : List (List ℕ)) → is_two (first_piece now) ≡ false → (keywords_front now ≡ []) × (after_keywords now ≡ now)
+no_key now h = (ap (λ b. cond b (passing is_keyword_piece now) []) h, ap (λ b. cond b (past is_keyword_piece now) now) h)
+
+pub filled_all : (before now rest : List (List ℕ)) (m : Fields) → Filled before now m → rest ≡ skip_first (is_word UnicodeKey) now → is_two (first_piece rest) ≡ false → None ≡ option_map lower (take_first (is_word UnicodeKey) now) → KeywordsRead before m rest
+filled_all before now rest m t stays h none =
+    let same : rest ≡ now = stays ∙ (took_none UnicodeKey now none).2 in
+    let ends = no_key now (ap (λ ps. is_two (first_piece ps)) (sym same) ∙ h) in
+    let all : keywords_at before ≡ t.fields = t.all ∙ ap (λ ps. t.fields ++ fields_from is_two ps) ends.0 ∙ append-nil t.fields in
+    let read = read_of before (t.bad ∙ ap (list_any is_bad_key) ends.0) in
+    subst (λ (r : Fields × List (List ℕ)). KeywordsRead before r.0 r.1) (λ i. ((ap normal_fields all ∙ sym t.means) i, (t.rest ∙ ends.1 ∙ sym same) i)) read
+
+not_key : (q : List ℕ) (b : Bool) → None ≡ option_map lower (cond b (Some q) None) → b ≡ false
+not_key q true h = cc
+not_key q false h = refl
+
+pub filled_bad : (before now rest : List (List ℕ)) (m : Fields) → Filled before now m → rest ≡ skip_first (is_word UnicodeKey) now → is_two (first_piece rest) ≡ true → None ≡ option_map lower (take_first (is_word UnicodeKey) now) → KeywordsFault before InvalidExtension
+filled_bad before now rest m t stays h none = at now t (ap (λ ps. is_two (first_piece ps)) (sym (stays ∙ (took_none UnicodeKey now none).2)) ∙ h) none
+  where
+    at : (now : List (List ℕ)) → Filled before now m → is_two (first_piece now) ≡ true → None ≡ option_map lower (take_first (is_word UnicodeKey) now) → KeywordsFault before InvalidExtension
+    at [] t h none = absurd (true≢false (sym h))
+    at (q ∷ qs) t h none = bad_key (t.bad ∙ ap (list_any is_bad_key) (front_at q qs h) ∙ ap (λ b. b || list_any is_bad_key (passing (is_word Attribute) qs ++ keywords_front (past (is_word Attribute) qs))) (ap₂ (λ a b. a && not b) h (not_key q (is_word UnicodeKey q) none)))

@@ -1,0 +1,6 @@
+mod AttributeLemmas
+mod Filtered
+mod KeywordLemmas
+mod MapLemmas
+mod TakingLemmas
+mod UnicodeLemmas

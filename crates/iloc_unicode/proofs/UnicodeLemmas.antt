@@ -1,0 +1,97 @@
+-- Attributes and keywords, read one after the other, and the letter before them.
+use Rattle.std.proofs.Common.{◌≡◌, ℕ, suc, ◌+◌, ◌<◌, true, false, ◌&&◌, ◌==◌, List, [], ◌∷◌, length, map, refl, sym, ap, ◌∙◌, subst, arith, true≢false, Result, Ok, Err}
+use Rattle.std.specs.Char.{to_ascii_lowercase}
+use Rattle.std.specs.FinMap.{put}
+use Rattle.std.specs.FinMap.Entries.{by_order}
+use Rattle.std.specs.declared.cmp.Ordering.TheVariants.{Less, Equal, Greater}
+use Rattle.std.proofs.lemmas.Bool.{and_parts}
+use Rattle.std.proofs.lemmas.Bool.Decides.{nat_tests}
+use Rattle.std.proofs.lemmas.List.{length-map}
+use Rattle.iloc_grammar.specs.Pieces.{pieces}
+use Rattle.iloc_grammar.specs.Words.{lower, word_cmp}
+use Rattle.iloc_grammar.specs.Written.{Fields, fields_pieces}
+use Rattle.iloc_grammar.specs.Meaning.{map_of, set_of, normal_fields}
+use Rattle.iloc_grammar.specs.Reading.{rest_of}
+use Rattle.iloc_grammar.specs.Faults as faults
+use Rattle.iloc_fronts.specs.Fronts.{attributes_front, after_attributes, attributes_read, keywords_front, KeywordsRead, UnicodeRead, UnicodeFault, in_keywords, both_absent}
+use Rattle.iloc_fronts.specs.Parts.{begins_part, is_letter, no_singleton, after_singleton, UnicodeTextFault}
+use Rattle.iloc_subtags.specs.declared.parse_error.ParseError.{ParseError}
+use Rattle.iloc_subtags.specs.declared.parse_error.ParseError.TheVariants.{InvalidLanguage, InvalidSubtag, InvalidExtension, DuplicatedExtension, OutOfMemory}
+use Rattle.iloc_unicode.specs.Reads.{KeywordsGive}
+use Rattle.iloc_unicode.specs.UnicodeReads.{UnicodeGives, UnicodeReadsAs, for_keywords}
+use Rattle.iloc_unicode.specs.declared.unicode.Unicode as shown
+
+-- what is empty
+
+some : (n : ℕ) → (suc n == 0) ≡ false
+some n = grind (arith, nat_tests)
+
+module _ {X : Type 0} where
+  put_some : (k : List ℕ) (v : X) (es : List (List ℕ × X)) → (length (put word_cmp k v es) == 0) ≡ false
+  put_some k v [] = some 0
+  put_some k v (e ∷ es) = elim (word_cmp k e.0) as (λ r. (length (by_order r ((k, v) ∷ e ∷ es) ((e.0, v) ∷ es) (e ∷ put word_cmp k v es)) == 0) ≡ false) [ Less ↦ some (suc (length es)) | Equal ↦ some (length es) | Greater ↦ some (length (put word_cmp k v es)) ]
+
+  no_entries : (es : List (List ℕ × X)) → (length (map_of word_cmp es) == 0) ≡ true → es ≡ []
+  no_entries [] h = refl
+  no_entries (e ∷ es) h = absurd (true≢false (sym h ∙ put_some e.0 e.1 (map_of word_cmp es)))
+
+unmapped : {X Y : Type 0} (f : X → Y) (xs : List X) → map f xs ≡ [] → xs ≡ []
+unmapped f [] e = refl
+unmapped f (x ∷ xs) e = absurd (cc)
+
+no_words : (ws : List (List ℕ)) → (length (set_of (map lower ws)) == 0) ≡ true → ws ≡ []
+no_words ws h = unmapped lower ws (unmapped (λ (w : List ℕ). (w, tt {0})) (map lower ws) (no_entries _ (ap (λ n. n == 0) (sym (length-map _ _)) ∙ h)))
+
+no_fields : (fs : Fields) → (length (normal_fields fs) == 0) ≡ true → fs ≡ []
+no_fields fs h = unmapped (λ (f : List ℕ × List (List ℕ)). _) fs (no_entries _ h)
+
+-- what both readers took, where that is something
+pub unicode_read : (ps middle rest a : List (List ℕ)) (m : Fields) → a ≡ attributes_read ps → middle ≡ after_attributes ps → KeywordsRead middle m rest → ((length a == 0) && (length m == 0)) ≡ false → UnicodeRead ps (record { attributes = a; keywords = m }) rest
+unicode_read ps middle rest a m ea em k more = record {
+  attributes_are = ea;
+  keywords_are = subst (λ (l : List (List ℕ)). KeywordsRead l m rest) em k;
+  nonempty = subst (λ (l : List (List ℕ)). 0 < length (attributes_front ps) + length (keywords_front l)) em (subst (λ (l : List (List ℕ)). 0 < length (attributes_front ps) + length l) (sym k.spelled) (both (attributes_front ps) k.written (subst (λ (n : Fields). ((length (attributes_read ps) == 0) && (length n == 0)) ≡ false) k.means (subst (λ (b : List (List ℕ)). ((length b == 0) && (length m == 0)) ≡ false) ea more))));
+}
+  where
+    both : (ws : List (List ℕ)) (fs : Fields) → ((length (set_of (map lower ws)) == 0) && (length (normal_fields fs) == 0)) ≡ false → 0 < length ws + length (fields_pieces fs)
+    both [] [] h = absurd (true≢false h)
+    both [] (f ∷ fs) h = omega arith
+    both (w ∷ ws) fs h = omega arith
+
+-- nothing was taken
+pub unicode_empty : (ps middle rest a : List (List ℕ)) (m : Fields) → a ≡ attributes_read ps → middle ≡ after_attributes ps → KeywordsRead middle m rest → ((length a == 0) && (length m == 0)) ≡ true → UnicodeFault ps faults.InvalidExtension
+unicode_empty ps middle rest a m ea em k empty =
+    let parts = and_parts _ _ empty in
+    both_absent (no_words _ (ap (λ (l : List (List ℕ)). length l == 0) (sym ea) ∙ parts.0)) (ap keywords_front (sym em) ∙ k.spelled ∙ ap fields_pieces (no_fields k.written (ap (λ (l : Fields). length l == 0) (sym k.means) ∙ parts.1)))
+
+-- what is wrong with the keywords is wrong with the whole
+pub keywords_refused : (ps middle rest more : List (List ℕ)) (e : ParseError) → middle ≡ after_attributes ps → KeywordsGive middle rest (Err e) → UnicodeGives ps more (Err e)
+keywords_refused ps middle rest more InvalidExtension em k = in_keywords (subst (λ (l : List (List ℕ)). KeywordsGive l rest (Err InvalidExtension)) em k)
+keywords_refused ps middle rest more OutOfMemory em k = for_keywords (subst (λ (l : List (List ℕ)). KeywordsGive l rest (Err OutOfMemory)) em k)
+keywords_refused ps middle rest more InvalidLanguage em k = k
+keywords_refused ps middle rest more InvalidSubtag em k = k
+keywords_refused ps middle rest more DuplicatedExtension em k = k
+
+-- the letter
+
+same_letter : (c : ℕ) → (117 == c) ≡ true → 117 ≡ c
+same_letter c h = grind (arith, nat_tests)
+
+begins : (ps : List (List ℕ)) → begins_part (is_letter 117) ps ≡ true → (b : ℕ) × (ps ≡ (b ∷ []) ∷ rest_of ps) × (117 ≡ to_ascii_lowercase b)
+begins [] h = absurd (true≢false (sym h))
+begins ([] ∷ ps) h = absurd (true≢false (sym h))
+begins ((b ∷ []) ∷ ps) h = (b, refl, same_letter (to_ascii_lowercase b) h)
+begins ((b ∷ c ∷ p) ∷ ps) h = absurd (true≢false (sym h))
+
+pub no_letter : (t : List ℕ) → begins_part (is_letter 117) (pieces t) ≡ false → UnicodeTextFault t faults.InvalidExtension
+no_letter t h = no_singleton h
+
+pub after_letter : (t : List ℕ) (rest : List (List ℕ)) (r : Result shown.Unicode ParseError) → begins_part (is_letter 117) (pieces t) ≡ true → UnicodeGives (rest_of (pieces t)) rest r → UnicodeReadsAs t r
+after_letter t rest (Ok u) h g =
+    let (b, spelled, same) = begins (pieces t) h in
+    (rest, record { byte = b; after = rest_of (pieces t); spelled = spelled; singleton = same; passes = refl; reads = g })
+after_letter t rest (Err InvalidExtension) h g = let (b, spelled, same) = begins (pieces t) h in after_singleton spelled h g
+after_letter t rest (Err OutOfMemory) h g = (h, g)
+after_letter t rest (Err InvalidLanguage) h g = g
+after_letter t rest (Err InvalidSubtag) h g = g
+after_letter t rest (Err DuplicatedExtension) h g = g

@@ -1,0 +1,4 @@
+pub mod KeywordsOrder
+pub mod Reads
+pub mod UnicodeReads
+pub mod UnicodeValue

@@ -1,0 +1,48 @@
+-- What the readers of attributes, of keywords and of what follows `u` answer, by cases on the whole answer.
+use Rattle.std.specs.Prelude.{◌≡◌, ℕ, ◌<◌, true, List, length, nat_lt, Bool, Result, Ok, Err}
+use Rattle.std.specs.List.{list_any}
+use Rattle.iloc_grammar.specs.Pieces.{pieces}
+use Rattle.iloc_grammar.specs.Written.{Fields}
+use Rattle.iloc_grammar.specs.Meaning.{normal_values, normal_fields}
+use Rattle.iloc_grammar.specs.Faults as faults
+use Rattle.iloc_fronts.specs.Fronts.{attributes_read, KeywordsRead, KeywordsFault}
+use Rattle.iloc_fronts.specs.Parts.{AttributesText, KeywordsText, KeywordsTextFault}
+use Rattle.iloc_fronts.specs.Computing.{keywords_at}
+use Rattle.iloc_subtags.specs.declared.parse_error.ParseError.{ParseError}
+use Rattle.iloc_subtags.specs.declared.parse_error.ParseError.TheVariants.{InvalidLanguage, InvalidSubtag, InvalidExtension, DuplicatedExtension, OutOfMemory}
+
+-- the field has more than four subtags besides `true`
+abbrev pub has_many_values : List ℕ × List (List ℕ) → Bool
+has_many_values f = nat_lt 4 (length (normal_values f.1))
+
+-- for what memory is wanted: a second key, or a fifth subtag
+pub data KeywordsWantMemory (ps : List (List ℕ)) : Type 0 where
+  second_key : 1 < length (normal_fields (keywords_at ps)) → KeywordsWantMemory ps
+  fifth_value : list_any has_many_values (keywords_at ps) ≡ true → KeywordsWantMemory ps
+
+-- of the pieces ps, keywords were read, and rest is left
+abbrev pub KeywordsGive : List (List ℕ) → List (List ℕ) → Result Fields ParseError → Type 0
+KeywordsGive ps rest (Ok m) = KeywordsRead ps m rest
+KeywordsGive ps rest (Err InvalidExtension) = KeywordsFault ps faults.InvalidExtension
+KeywordsGive ps rest (Err OutOfMemory) = KeywordsWantMemory ps
+KeywordsGive ps rest (Err InvalidLanguage) = ⊥
+KeywordsGive ps rest (Err InvalidSubtag) = ⊥
+KeywordsGive ps rest (Err DuplicatedExtension) = ⊥
+
+-- the text is read as attributes: the longest front of them, as a set
+abbrev pub AttributesReadAs : List ℕ → Result (List (List ℕ)) ParseError → Type 0
+AttributesReadAs t (Ok a) = AttributesText t a
+AttributesReadAs t (Err OutOfMemory) = 4 < length (attributes_read (pieces t))
+AttributesReadAs t (Err InvalidLanguage) = ⊥
+AttributesReadAs t (Err InvalidSubtag) = ⊥
+AttributesReadAs t (Err InvalidExtension) = ⊥
+AttributesReadAs t (Err DuplicatedExtension) = ⊥
+
+-- the text is read as keywords
+abbrev pub KeywordsReadAs : List ℕ → Result Fields ParseError → Type 0
+KeywordsReadAs t (Ok m) = KeywordsText t m
+KeywordsReadAs t (Err InvalidExtension) = KeywordsTextFault t faults.InvalidExtension
+KeywordsReadAs t (Err OutOfMemory) = KeywordsWantMemory (pieces t)
+KeywordsReadAs t (Err InvalidLanguage) = ⊥
+KeywordsReadAs t (Err InvalidSubtag) = ⊥
+KeywordsReadAs t (Err DuplicatedExtension) = ⊥

@@ -1,0 +1,219 @@
+//! The attributes of a unicode extension.
+ghost use Rattle.std.specs.Prelude.{◌≡◌, ◌<◌, ◌≤◌, ◌+◌, ◌==◌, ◌++◌, [], ◌∷◌, true, length, OnOk, OnErr, IfOk, IsOk, Some};
+ghost use Rattle.std.specs.List.{AllByRecursion, list_any};
+ghost use Rattle.std.specs.Slice.{IsItemAt};
+ghost use Rattle.std.specs.Slice.Iter.{iter_rest};
+ghost use Rattle.iloc_grammar.specs.Pieces.{join};
+ghost use Rattle.iloc_grammar.specs.Words.{Attribute, is_same, word_cmp};
+ghost use Rattle.iloc_grammar.specs.Meaning.{set_of};
+ghost use Rattle.iloc_grammar.specs.Values.{IsNormal, IsAscending};
+ghost use Rattle.iloc_unicode.specs.Reads.{AttributesReadAs};
+ghost use Rattle.iloc_word_set.specs.Ascending.{ascends};
+
+use crate::reader::read_attributes;
+use iloc_parser::SubtagIterator;
+use iloc_subtags::{Attribute, AttributeKind, ParseError};
+use iloc_word_set::WordSet;
+use iloc_writeable::pieces::Pieces;
+use iloc_writeable::{Sink, Writeable};
+use std::alloc::{AllocError, Global};
+use std::fmt;
+use std::marker::Model;
+use std::slice::Iter;
+
+/// A set of attributes, kept strictly ascending. Contracts see the list of their texts.
+#[derive(Drop, Debug, PartialEq, Eq, PartialOrd, Ord, Hash)]
+pub struct Attributes {
+    words: WordSet<AttributeKind, 8>,
+}
+
+impl Model for Attributes {
+    ghost use Rattle.std.specs.Prelude.{List, ℕ};
+
+    ghost Value = { List (List ℕ) };
+
+    ghost view = { λ a. a.words };
+
+    ghost inverse = { λ ws. record { words = ws } };
+}
+
+impl Attributes {
+    /// The empty set.
+    pub fn new() -> Self
+        ensures { result ≡ [] }
+    {
+        Attributes {
+            words: WordSet::new(),
+        }
+    }
+
+    /// Reads the longest front of attribute words, 3 to 8 letters or digits each, as a set, and ignores
+    /// the rest of the text. It is refused by `OutOfMemory` alone, and where there are at most four
+    /// different ones not at all.
+    pub fn try_from_utf8(alloc: Global, code_units: &[u8]) -> Result<Self, ParseError>
+        ensures { AttributesReadAs code_units.now result }
+    {
+        let mut iter = SubtagIterator::new(code_units);
+        Ok(read_attributes(alloc, &mut iter)?)
+    }
+
+    /// The same on a text that is UTF-8.
+    pub fn try_from_str(alloc: Global, s: &str) -> Result<Self, ParseError>
+        ensures { AttributesReadAs s.now result }
+    {
+        Attributes::try_from_utf8(alloc, s.as_bytes())
+    }
+
+    /// The set of these attributes, which have to ascend strictly:
+    /// `iloc_word_set::is_strictly_ascending` is the test.
+    pub fn from_vec_unchecked(input: Vec<Attribute>) -> Self
+        requires { ascends word_cmp input.items ≡ true }
+        ensures { result ≡ input.items }
+    {
+        Attributes {
+            words: WordSet::from_vec_unchecked(input),
+        }
+    }
+
+    /// Leaves the empty set, and answers the old one.
+    pub fn clear(&mut self) -> Self
+        ensures old { result ≡ self.old }
+        ensures empty { self.new ≡ [] }
+    {
+        Attributes {
+            words: self.words.clear(),
+        }
+    }
+
+    /// Adds the attributes of the other set. Where memory is refused, nothing changes.
+    pub fn extend_from_attributes(
+        &mut self,
+        alloc: Global,
+        other: Attributes,
+    ) -> Result<(), AllocError>
+        ensures ok { OnOk result (self.new ≡ set_of (self.old ++ other)) }
+        ensures err { OnErr result (self.new ≡ self.old) }
+        ensures succeeds { length self.old + length other ≤ 4 → IsOk result }
+    {
+        self.words.extend(alloc, &other.words)
+    }
+
+    /// Whether there is none.
+    pub fn is_empty(&self) -> bool
+        ensures { result ≡ (length self.now == 0) }
+    {
+        self.words.is_empty()
+    }
+
+    /// The attributes, ascending.
+    pub fn as_slice(&self) -> &[Attribute]
+        ensures words { result.now ≡ self.now }
+        ensures ascending { IsAscending self.now }
+        ensures normal { AllByRecursion (IsNormal Attribute) self.now }
+    {
+        self.words.as_slice()
+    }
+
+    /// The attributes in order, lent one by one.
+    pub fn iter(&self) -> Iter<'_, Attribute>
+        ensures { iter_rest result ≡ self.now }
+    {
+        self.words.iter()
+    }
+
+    /// How many attributes there are.
+    pub fn len(&self) -> usize
+        ensures { result ≡ length self.now }
+    {
+        self.words.len()
+    }
+
+    /// The attribute at a place; `None` from the length on.
+    pub fn get(&self, index: usize) -> Option<&Attribute>
+        ensures { IsItemAt self.now index result }
+    {
+        self.words.get(index)
+    }
+
+    /// The first attribute, if there is one.
+    pub fn first(&self) -> Option<&Attribute>
+        ensures { IsItemAt self.now 0 result }
+    {
+        self.words.first()
+    }
+
+    // Adds an attribute.
+    pub(crate) fn add(&mut self, alloc: Global, word: Attribute) -> Result<(), AllocError>
+        ensures ok { OnOk result (self.new ≡ set_of (word ∷ self.old)) }
+        ensures err { OnErr result (self.new ≡ self.old) }
+        ensures succeeds { length self.old < 4 → IsOk result }
+        ensures known { list_any (is_same word) self.old ≡ true → IsOk result }
+    {
+        self.words.push(alloc, word)?;
+        Ok(())
+    }
+
+    // The attributes of both sets.
+    pub(crate) fn union(&self, alloc: Global, other: &Attributes) -> Result<Attributes, AllocError>
+        ensures { IfOk result (λ a. a ≡ set_of (self.now ++ other.now)) }
+    {
+        Ok(Attributes {
+            words: self.words.union(alloc, &other.words)?,
+        })
+    }
+}
+
+impl Clone for Attributes {
+    ghost is_clone = { λ a b. b ≡ a };
+
+    fn clone(&self) -> Result<Self, AllocError> {
+        Ok(Attributes {
+            words: self.words.clone()?,
+        })
+    }
+}
+
+impl Default for Attributes {
+    ghost is_default = { λ a. a ≡ [] };
+
+    fn default() -> Self {
+        Attributes::new()
+    }
+}
+
+/// The attributes are the pieces.
+impl Pieces for Attributes {
+    ghost pieces = { λ a. a };
+
+    fn has_pieces(&self) -> bool {
+        self.words.has_pieces()
+    }
+
+    fn write_pieces<S: Sink>(&self, sink: &mut S, first: bool) -> fmt::Result {
+        self.words.write_pieces(sink, first)
+    }
+}
+
+/// Prints the attributes, ascending, with a hyphen between each two. The text of one can be lent.
+impl Writeable for Attributes {
+    ghost text = { λ a. join a };
+
+    ghost lends = { λ a. length a ≡ 1 };
+
+    fn write_to<S: Sink>(&self, sink: &mut S) -> fmt::Result {
+        self.words.write_to(sink)
+    }
+
+    fn writeable_borrow(&self) -> Option<&str> {
+        self.words.writeable_borrow()
+    }
+}
+
+/// Prints the attributes, ascending, with a hyphen between each two.
+impl fmt::Display for Attributes {
+    ghost output = { λ a. Some (join a) };
+
+    fn fmt<W: fmt::Write>(&self, f: &mut fmt::Formatter<W>) -> fmt::Result {
+        self.write_to(f)
+    }
+}

@@ -1,0 +1,288 @@
+//! The keywords of a unicode extension.
+ghost use Rattle.std.specs.Prelude.{◌≡◌, ◌<◌, ◌==◌, ◌↔◌, ℕ, List, [], ◌∷◌, ◌++◌, true, length, IsSome, IsTrue, OnOk, OnErr, IfOk, IsOk, if◌then◌else◌};
+ghost use Rattle.std.specs.Fn.{CalledAt};
+ghost use Rattle.std.specs.FinMap.{find, put};
+ghost use Rattle.std.specs.Iterator.{IsFiniteIterable, Drains, YieldsFirstBy, item_count};
+ghost use Rattle.std.specs.List.Retain.{IsFiltered};
+ghost use Rattle.std.specs.Map.{remove_entry};
+ghost use Rattle.std.specs.BTreeMap.{is_at};
+ghost use Rattle.std.specs.Option.{option_copied, is_some};
+ghost use Rattle.std.specs.Ordering.{as_partial_cmp};
+ghost use Rattle.std.specs.Cmp.{partial_order_from_agreeing_total};
+ghost use Rattle.std.proofs.Common.{refl};
+ghost use Rattle.iloc_grammar.specs.Words.{word_cmp};
+ghost use Rattle.iloc_grammar.specs.Meaning.{map_of};
+ghost use Rattle.iloc_unicode.specs.Reads.{KeywordsReadAs};
+ghost use Rattle.iloc_litemap.specs.Pairs.{IsAscending, insert_all};
+
+use crate::reader::read_keywords;
+use iloc_litemap::LiteMap;
+use iloc_parser::SubtagIterator;
+use iloc_shortvec::ShortBoxSlice;
+use iloc_subtags::{ParseError, UnicodeKey as Key};
+use iloc_unicode_value::Value;
+use std::alloc::{AllocError, Global};
+use std::cmp::Ordering;
+use std::marker::Model;
+use std::mem;
+
+/// A map from keys to values, kept by ascending key. One pair takes no memory.
+#[derive(Drop, Debug, PartialEq, Eq, Hash)]
+pub struct Keywords {
+    map: LiteMap<Key, Value, ShortBoxSlice<(Key, Value)>>,
+}
+
+impl Model for Keywords {
+    ghost use Rattle.iloc_grammar.specs.Written.{Fields};
+
+    ghost Value = { Fields };
+
+    ghost view = { λ k. k.map };
+
+    ghost inverse = { λ fs. record { map = fs } };
+}
+
+impl Keywords {
+    /// The empty map.
+    pub fn new() -> Self
+        ensures { result ≡ [] }
+    {
+        Keywords {
+            map: LiteMap::from_sorted_store_unchecked(ShortBoxSlice::new()),
+        }
+    }
+
+    /// The map of this one pair.
+    pub fn new_single(key: Key, value: Value) -> Self
+        ensures { result ≡ (key, value) ∷ [] }
+    {
+        Keywords {
+            map: LiteMap::from_sorted_store_unchecked(ShortBoxSlice::new_single((key, value))),
+        }
+    }
+
+    /// Reads keys, each with the pieces after it, up to the first piece that is neither a key nor 3 to
+    /// 8 letters or digits, and ignores the rest of the text. Of equal keys the first stays; `true` is
+    /// dropped. A piece of two bytes that is met and is no key is refused by `InvalidExtension`. One key
+    /// with at most four subtags takes no memory.
+    pub fn try_from_utf8(alloc: Global, code_units: &[u8]) -> Result<Self, ParseError>
+        ensures { KeywordsReadAs code_units.now result }
+    {
+        read_keywords(alloc, &mut SubtagIterator::new(code_units))
+    }
+
+    /// The same on a text that is UTF-8.
+    pub fn try_from_str(alloc: Global, s: &str) -> Result<Self, ParseError>
+        ensures { KeywordsReadAs s.now result }
+    {
+        Keywords::try_from_utf8(alloc, s.as_bytes())
+    }
+
+    /// Whether there is no key.
+    pub fn is_empty(&self) -> bool
+        ensures { result ≡ (length self.now == 0) }
+    {
+        self.map.is_empty()
+    }
+
+    // The pairs, by ascending key.
+    pub(crate) fn as_slice(&self) -> &[(Key, Value)]
+        ensures pairs { result.now ≡ self.now }
+        ensures ascending { IsAscending word_cmp self.now }
+    {
+        self.map.as_slice()
+    }
+
+    /// The value of the key.
+    pub fn get(&self, key: &Key) -> Option<&Value>
+        ensures { option_copied result ≡ find word_cmp key.now self.now }
+    {
+        self.map.get(key)
+    }
+
+    /// Whether the key is there.
+    pub fn contains_key(&self, key: &Key) -> bool
+        ensures { result ≡ is_some (find word_cmp key.now self.now) }
+    {
+        self.map.contains_key(key)
+    }
+
+    /// Sets the value of the key, and answers the old one. Where memory is refused, nothing changes.
+    pub fn set(
+        &mut self,
+        alloc: Global,
+        key: Key,
+        value: Value,
+    ) -> Result<Option<Value>, AllocError>
+        ensures before { IfOk result (λ before. before ≡ find word_cmp key self.old) }
+        ensures ok { OnOk result (self.new ≡ put word_cmp key value self.old) }
+        ensures err { OnErr result (self.new ≡ self.old) }
+        ensures succeeds { length self.old < 1 → IsOk result }
+        ensures known { is_some (find word_cmp key self.old) ≡ true → IsOk result }
+    {
+        self.map.insert(alloc, key, value)
+    }
+
+    // Sets the value of a key that isn't there; else nothing changes.
+    pub(crate) fn add(&mut self, alloc: Global, key: Key, value: Value) -> Result<(), AllocError>
+        ensures ok { OnOk result (self.new ≡ (if is_some (find word_cmp key self.old) then self.old else put word_cmp key value self.old)) }
+        ensures err { OnErr result (self.new ≡ self.old) }
+        ensures succeeds { length self.old < 1 → IsOk result }
+        ensures known { is_some (find word_cmp key self.old) ≡ true → IsOk result }
+    {
+        self.map.try_insert(alloc, key, value)?;
+        Ok(())
+    }
+
+    /// Takes the key out, and answers its value.
+    pub fn remove(&mut self, key: &Key) -> Option<Value>
+        ensures value { result ≡ find word_cmp key.now self.old }
+        ensures removed { self.new ≡ remove_entry (is_at (word_cmp key.now)) self.old }
+    {
+        self.map.remove(key)
+    }
+
+    /// Leaves the empty map, and answers the old one.
+    pub fn clear(&mut self) -> Self
+        ensures old { result ≡ self.old }
+        ensures empty { self.new ≡ [] }
+    {
+        mem::replace(self, Keywords::new())
+    }
+
+    /// Keeps the keys at which `predicate` says so. Each is asked once, ascending.
+    pub fn retain_by_key<F: FnMut(&Key) -> bool + Drop>(&mut self, mut predicate: F)
+        requires { F.IsAlwaysCallable predicate }
+        ensures { IsFiltered (λ f e b g. CalledAt F.FnMut f e.0 b g) predicate self.old self.new }
+    {
+        self.map.retain(
+            move |key: &Key, _value: &Value| -> bool
+                requires { F.IsAlwaysCallable predicate }
+                ensures asked { CalledAt F.FnMut predicate.entry key.now result predicate.exit }
+                ensures callable { F.IsAlwaysCallable predicate.exit }
+            { predicate(key) },
+        );
+    }
+
+    /// The pairs by ascending key.
+    pub fn iter(&self) -> KeywordsIter<'_>
+        ensures { result ≡ self.now }
+    {
+        KeywordsIter {
+            rest: self.as_slice(),
+        }
+    }
+
+    /// Sets each pair of the other, so that for equal keys the other's value wins. Where memory is
+    /// refused, nothing changes.
+    pub fn extend_from_keywords(&mut self, alloc: Global, other: Keywords) -> Result<(), AllocError>
+        ensures ok { OnOk result (self.new ≡ map_of word_cmp (other ++ self.old)) }
+        ensures err { OnErr result (self.new ≡ self.old) }
+    {
+        let _ = self.as_slice();
+        let _ = other.as_slice();
+        let Keywords { map } = other;
+        self.map.extend_from_map(alloc, map)
+    }
+
+    /// The map of these pairs, where the last of equal keys stays.
+    pub fn from_pairs<I: IntoIterator<Item = (Key, Value)>>(
+        alloc: Global,
+        pairs: I,
+    ) -> Result<Self, AllocError>
+        requires { IsFiniteIterable I.into_iter_gives I.IntoIter.can_next I.IntoIter.remaining pairs }
+        ensures { IfOk result (λ m. (it : I.IntoIter) × (xs : List (List ℕ × List (List ℕ))) × I.into_iter_gives pairs it × Drains I.IntoIter.next_gives it xs × (m ≡ insert_all word_cmp [] xs)) }
+    {
+        let map = LiteMap::from_pairs(alloc, pairs)?;
+        Ok(Keywords { map })
+    }
+}
+
+impl From<LiteMap<Key, Value, ShortBoxSlice<(Key, Value)>>> for Keywords {
+    ghost from_gives = { λ map keywords. keywords ≡ map };
+
+    fn from(map: LiteMap<Key, Value, ShortBoxSlice<(Key, Value)>>) -> Self {
+        Keywords { map }
+    }
+}
+
+/// The pairs in order, as a short list, the key first.
+impl Ord for Keywords {
+    ghost use Rattle.iloc_orders.specs.Orders.{keywords_cmp};
+    ghost use Rattle.iloc_unicode.specs.KeywordsOrder.{keywords_total, keywords_ties};
+
+    ghost cmp = { keywords_cmp };
+
+    ghost total = { keywords_total };
+
+    ghost matches_partial_cmp = { λ _ _. refl };
+
+    ghost matches_eq = { keywords_ties };
+
+    fn cmp(&self, other: &Self) -> Ordering {
+        match (self.map.len() > 1, other.map.len() > 1) {
+            (false, true) => Ordering::Less,
+            (true, false) => Ordering::Greater,
+            _ => self.as_slice().cmp(&other.as_slice()),
+        }
+    }
+}
+
+impl PartialOrd for Keywords {
+    ghost use Rattle.iloc_orders.specs.Orders.{keywords_cmp};
+    ghost use Rattle.iloc_unicode.specs.KeywordsOrder.{keywords_total, keywords_ties};
+
+    ghost partial_cmp = { as_partial_cmp keywords_cmp };
+
+    ghost laws = { partial_order_from_agreeing_total keywords_cmp keywords_total (λ _ _. refl) keywords_ties };
+
+    fn partial_cmp(&self, other: &Self) -> Option<Ordering> {
+        Some(self.cmp(other))
+    }
+}
+
+impl Default for Keywords {
+    ghost is_default = { λ keywords. keywords ≡ [] };
+
+    fn default() -> Self {
+        Keywords::new()
+    }
+}
+
+impl Clone for Keywords {
+    ghost is_clone = { λ a b. b ≡ a };
+
+    fn clone(&self) -> Result<Self, AllocError> {
+        Ok(Keywords {
+            map: self.map.clone()?,
+        })
+    }
+}
+
+/// The pairs of keywords by ascending key, seen as those that are left.
+#[derive(Drop)]
+pub struct KeywordsIter<'a> {
+    rest: &'a [(Key, Value)],
+}
+
+impl<'a> Model for KeywordsIter<'a> {
+    ghost use Rattle.iloc_grammar.specs.Written.{Fields};
+
+    ghost Value = { Fields };
+
+    ghost view = { λ it. it.rest.now };
+}
+
+impl<'a> Iterator for KeywordsIter<'a> {
+    type Item = (&'a Key, &'a Value);
+
+    ghost next_gives = { YieldsFirstBy (λ x. (x.0.now, x.1.now)) (λ rest. rest) };
+
+    ghost remaining = { item_count (λ rest. rest) };
+
+    fn next(&mut self) -> Option<(&'a Key, &'a Value)> {
+        let (first, rest) = self.rest.split_first()?;
+        self.rest = rest;
+        Some((&first.0, &first.1))
+    }
+}

@@ -1,0 +1,96 @@
+//! The unicode extension.
+ghost use Rattle.std.specs.Prelude.{◌≡◌, ◌&&◌, ◌==◌, [], length, OnOk, OnErr};
+ghost use Rattle.iloc_fronts.specs.Extending.{extend};
+ghost use Rattle.iloc_grammar.specs.Written.{Unicode as UnicodeParts};
+ghost use Rattle.iloc_orders.specs.Orders.{unicode_cmp};
+
+use crate::attributes::Attributes;
+use crate::keywords::Keywords;
+use crate::reader::{read_unicode, takes_u};
+use iloc_parser::SubtagIterator;
+use iloc_subtags::ParseError;
+use std::alloc::{AllocError, Global};
+use std::cmp::Ordering;
+
+/// The unicode extension of a locale: attributes and keywords.
+#[derive(Drop, Debug, Clone, PartialEq, Eq, Hash, Default)]
+pub struct Unicode {
+    pub keywords: Keywords,
+    pub attributes: Attributes,
+}
+
+impl Unicode {
+    ghost use Rattle.iloc_unicode.specs.UnicodeReads.{UnicodeReadsAs};
+    ghost use Rattle.iloc_unicode.specs.UnicodeValue.{value_of};
+
+    /// The empty extension.
+    pub fn new() -> Self
+        ensures keywords { result.keywords ≡ [] }
+        ensures attributes { result.attributes ≡ [] }
+    {
+        Unicode {
+            keywords: Keywords::new(),
+            attributes: Attributes::new(),
+        }
+    }
+
+    /// Reads `u` in either case, then attributes, then keywords, and ignores the rest of the text
+    /// (UTS #35 section 3.2). Refused by `InvalidExtension` are another first piece, a piece of two bytes
+    /// that is met among the keywords and is no key, and an extension in which both parts are empty.
+    pub fn try_from_utf8(alloc: Global, code_units: &[u8]) -> Result<Self, ParseError>
+        ensures { UnicodeReadsAs code_units.now result }
+    {
+        let mut iter = SubtagIterator::new(code_units);
+        if !takes_u(&mut iter) {
+            return Err(ParseError::InvalidExtension);
+        }
+        read_unicode(alloc, &mut iter)
+    }
+
+    /// The same on a text that is UTF-8.
+    pub fn try_from_str(alloc: Global, s: &str) -> Result<Self, ParseError>
+        ensures { UnicodeReadsAs s.now result }
+    {
+        Unicode::try_from_utf8(alloc, s.as_bytes())
+    }
+
+    /// Whether both parts are empty.
+    pub fn is_empty(&self) -> bool
+        ensures { result ≡ ((length self.now.attributes == 0) && (length self.now.keywords == 0)) }
+    {
+        self.attributes.is_empty() && self.keywords.is_empty()
+    }
+
+    /// Empties both parts.
+    pub fn clear(&mut self)
+        ensures keywords { self.new.keywords ≡ [] }
+        ensures attributes { self.new.attributes ≡ [] }
+    {
+        self.keywords.clear();
+        self.attributes.clear();
+    }
+
+    /// The order by attributes, then keywords.
+    pub fn total_cmp(&self, other: &Self) -> Ordering
+        ensures { result ≡ unicode_cmp (value_of self.now) (value_of other.now) }
+    {
+        match self.attributes.cmp(&other.attributes) {
+            Ordering::Equal => self.keywords.cmp(&other.keywords),
+            order => order,
+        }
+    }
+
+    /// The union of the attributes, and the keywords of both, of which the other's value wins at a key
+    /// of both. All growths come first: where memory is refused, neither part has changed.
+    #[tactic(auto, using(iloc_fronts::proofs::ExtendingLaws::extend_associative))]
+    pub fn extend(&mut self, alloc: Global, other: Unicode) -> Result<(), AllocError>
+        ensures ok { OnOk result (value_of self.new ≡ extend (value_of self.old) (value_of other)) }
+        ensures err { OnErr result (self.new ≡ self.old) }
+        ensures associative { (u v w : UnicodeParts) → extend (extend u v) w ≡ extend u (extend v w) }
+    {
+        let attributes = self.attributes.union(alloc, &other.attributes)?;
+        self.keywords.extend_from_keywords(alloc, other.keywords)?;
+        self.attributes = attributes;
+        Ok(())
+    }
+}

@@ -1,0 +1,5 @@
+use Rattle.iloc_unicode_value.proofs.EqualityLemmas.{words_exact}
+use Rattle.iloc_unicode_value.proofs.values_compare.Goals as goal
+
+pub returns-clause-equality : goal.returns-clause-equality
+returns-clause-equality c v w = words_exact v w

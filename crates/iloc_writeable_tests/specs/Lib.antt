@@ -1,0 +1,2 @@
+pub mod FailingSink
+pub mod Names
