@@ -165,10 +165,3 @@ impl fmt::Display for LanguageIdentifier {
         self.write_to(f)
     }
 }
-
-/// Prints the text itself.
-impl fmt::Debug for LanguageIdentifier {
-    fn fmt<W: fmt::Write>(&self, f: &mut fmt::Formatter<W>) -> fmt::Result {
-        fmt::Display::fmt(self, f)
-    }
-}
