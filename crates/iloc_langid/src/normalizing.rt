@@ -10,7 +10,7 @@ use crate::agreeing::has_variants;
 use crate::identifier::LanguageIdentifier;
 use iloc_parser::{SubtagIterator, take_word};
 use iloc_subtags::{Language, ParseError, RegionKind, ScriptKind};
-use iloc_writeable::agreeing::to_string_or_borrow_once;
+use iloc_writeable::to_string_or_borrow;
 use std::alloc::Global;
 use std::borrow::CowStr;
 
@@ -28,7 +28,7 @@ impl LanguageIdentifier {
         ensures err { IfErr result (RefusesNormalizing input.now) }
     {
         let identifier = Self::try_from_utf8(alloc, input)?;
-        Ok(to_string_or_borrow_once(alloc, &identifier, input)?)
+        Ok(to_string_or_borrow(alloc, &identifier, input)?)
     }
 
     /// The same of text.

@@ -1,17 +1,21 @@
 //! The transform extension.
 ghost use Rattle.std.specs.Prelude.{◌≡◌, ◌==◌, ◌&&◌, ◌∷◌, ℕ, List, [], None, Some, not, length, option_map, is_some};
+ghost use Rattle.iloc_orders.specs.Orders.{transform_cmp};
 ghost use Rattle.iloc_parser.specs.Left.{left};
 
 use crate::fields::Fields;
-use crate::lang::read_lang;
+use crate::lang::{cmp_langs, lowercase, read_lang};
 use iloc_langid::LanguageIdentifier;
 use iloc_other::singleton::take_singleton;
 use iloc_parser::SubtagIterator;
 use iloc_subtags::ParseError;
+use iloc_writeable::{Pieces, Sink, Writeable};
 use std::alloc::Global;
+use std::cmp::Ordering;
+use std::fmt;
 
 /// The transform extension: how the content was transformed, and from what.
-#[derive(Drop)]
+#[derive(Clone, Drop, Debug, PartialEq, Eq, Hash)]
 pub struct Transform {
     /// The language that was transformed.
     pub lang: Option<LanguageIdentifier>,
@@ -20,7 +24,7 @@ pub struct Transform {
 }
 
 impl Transform {
-    ghost use Rattle.iloc_transform.specs.TransformReading.{TransformReads, TransformTextReads};
+    ghost use Rattle.iloc_transform.specs.TransformReading.{value_of, TransformReads, TransformTextReads};
 
     /// The empty extension.
     pub fn new(alloc: Global) -> Self
@@ -47,6 +51,15 @@ impl Transform {
     {
         self.lang = None;
         self.fields.empty();
+    }
+
+    /// The order by identifier, none first, and then by fields; `Equal` exactly where the two are equal.
+    pub fn total_cmp(&self, other: &Self) -> Ordering
+        ensures { result ≡ transform_cmp (value_of self.now) (value_of other.now) }
+    {
+        cmp_langs(self.lang.as_ref(), other.lang.as_ref()).then_with(|| self
+            .fields
+            .cmp(&other.fields))
     }
 
     /// Reads `t` in either case, the longest front of an identifier where the next piece is a language,
@@ -88,5 +101,37 @@ impl Transform {
             return Err(ParseError::InvalidExtension);
         }
         Ok(transform)
+    }
+}
+
+/// Prints `t`, the identifier in lower case and the fields; an empty one prints nothing.
+impl Writeable for Transform {
+    ghost use Rattle.iloc_grammar.specs.Values.{transform_text};
+    ghost use Rattle.iloc_transform.specs.TransformReading.{value_of};
+
+    ghost text = { λ m. transform_text (value_of m) };
+
+    fn write_to<S: Sink>(&self, sink: &mut S) -> fmt::Result {
+        if self.is_empty() {
+            return Ok(());
+        }
+        let lang = lowercase(self.lang.as_ref());
+        ("t", lang, &self.fields).write_joined(sink)
+    }
+
+    fn writeable_borrow(&self) -> Option<&str> {
+        None
+    }
+}
+
+impl fmt::Display for Transform {
+    ghost use Rattle.iloc_grammar.specs.Values.{transform_text};
+    ghost use Rattle.iloc_transform.specs.TransformReading.{value_of};
+    ghost use Rattle.std.specs.Prelude.{Some};
+
+    ghost output = { λ m. Some (transform_text (value_of m)) };
+
+    fn fmt<W: fmt::Write>(&self, f: &mut fmt::Formatter<W>) -> fmt::Result {
+        self.write_to(f)
     }
 }
