@@ -12,7 +12,8 @@ use Rattle.iloc_grammar.specs.Reading.{take_first, skip_first, passing, past, be
 use Rattle.iloc_grammar.proofs.MapLaws.{word_cmp_total, same_words}
 use Rattle.iloc_grammar.proofs.WordsLaws.{length-attribute, length-transform_key}
 use Rattle.iloc_fronts.specs.Fronts.{is_field_piece, fields_front, after_fields}
-use Rattle.iloc_fronts.specs.Computing.{fields_at, has_value}
+use Rattle.iloc_grammar.specs.Computing.{is_field}
+use Rattle.iloc_fronts.specs.Computing.{fields_at}
 use Rattle.iloc_map_laws.proofs.Bridge as bridge
 use Rattle.iloc_langid.proofs.TakingLemmas.{took, took_none}
 use Rattle.iloc_subtags.specs.declared.parse_error.ParseError.{ParseError}
@@ -135,7 +136,14 @@ wants_memory before now m k h e =
 
 -- a key without a value
 
-later_false : (xs ys : List (List ℕ)) → list_all has_value (fields_from is_key ys) ≡ false → list_all has_value (fields_from is_key (xs ++ ys)) ≡ false
+no_field : (p : List ℕ) (b : Bool) → (is_field (p, []) && b) ≡ false
+no_field p b = by (is_word TransformKey p)
+  where
+    by : (k : Bool) → (((k && true) && false) && b) ≡ false
+    by true = refl
+    by false = refl
+
+later_false : (xs ys : List (List ℕ)) → list_all is_field (fields_from is_key ys) ≡ false → list_all is_field (fields_from is_key (xs ++ ys)) ≡ false
 later_false [] ys h = h
 later_false (x ∷ xs) ys h = by (is_key x) (later_false xs ys h)
   where
@@ -143,7 +151,7 @@ later_false (x ∷ xs) ys h = by (is_key x) (later_false xs ys h)
     and_false true c h = h
     and_false false c h = refl
 
-    by : (b : Bool) → list_all has_value (fields_from is_key (xs ++ ys)) ≡ false → list_all has_value (cond b ((x, before_key is_key (xs ++ ys)) ∷ fields_from is_key (xs ++ ys)) (fields_from is_key (xs ++ ys))) ≡ false
+    by : (b : Bool) → list_all is_field (fields_from is_key (xs ++ ys)) ≡ false → list_all is_field (cond b ((x, before_key is_key (xs ++ ys)) ∷ fields_from is_key (xs ++ ys)) (fields_from is_key (xs ++ ys))) ≡ false
     by true more = and_false _ _ more
     by false more = more
 
@@ -156,13 +164,13 @@ no_value_there (q ∷ qs) e = by (is_word Attribute q) refl (is_key q) refl e
     by false h true i e = rw (h, i) (rw i refl)
     by false h false i e = rw (h, i) refl
 
-pub lacks_value : (before now : List (List ℕ)) (m : Fields) (k : List ℕ) (qs : List (List ℕ)) → TakingFields before now m → Some k ≡ option_map lower (take_first is_key now) → qs ≡ skip_first is_key now → values_front qs ≡ [] → list_all has_value (fields_at before) ≡ false
+pub lacks_value : (before now : List (List ℕ)) (m : Fields) (k : List ℕ) (qs : List (List ℕ)) → TakingFields before now m → Some k ≡ option_map lower (take_first is_key now) → qs ≡ skip_first is_key now → values_front qs ≡ [] → list_all is_field (fields_at before) ≡ false
 lacks_value before now m k qs h e s n =
     let f = front_at before now m k h e in
     let rest : List (List ℕ) = passing is_field_piece (skip_first is_key now) in
     let none : before_key is_key rest ≡ [] = no_value_there (skip_first is_key now) (ap values_front (sym s) ∙ n) in
-    let here : list_all has_value (fields_from is_key (f.0 ∷ rest)) ≡ false = rw (f.1, none) refl in
-    ap (λ l. list_all has_value (fields_from is_key l)) f.3 ∙ later_false (fields_pieces f.2) (f.0 ∷ rest) here
+    let here : list_all is_field (fields_from is_key (f.0 ∷ rest)) ≡ false = rw (f.1, none) (no_field f.0 _) in
+    ap (λ l. list_all is_field (fields_from is_key l)) f.3 ∙ later_false (fields_pieces f.2) (f.0 ∷ rest) here
 
 -- what the reader of a value refuses, the reader of fields does
 pub refuses : (before now : List (List ℕ)) (m : Fields) (k : List ℕ) (qs rest left : List (List ℕ)) (f : ParseError) → TakingFields before now m → Some k ≡ option_map lower (take_first is_key now) → qs ≡ skip_first is_key now → ValueFrontReads qs rest (Err f) → FieldsFrontRead before left (Err f)

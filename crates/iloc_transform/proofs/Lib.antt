@@ -2,3 +2,5 @@ pub mod ValueLemmas
 pub mod PrintLemmas
 pub mod FieldsLemmas
 pub mod MapLemmas
+pub mod TransformLemmas
+pub mod TextLemmas

@@ -6,7 +6,8 @@ use Rattle.iloc_grammar.specs.Written.{Fields, fields_pieces, IsField}
 use Rattle.iloc_grammar.specs.Meaning.{normal_fields}
 use Rattle.iloc_grammar.specs.Values.{IsNormal}
 use Rattle.iloc_fronts.specs.Fronts.{fields_front, after_fields}
-use Rattle.iloc_fronts.specs.Computing.{fields_at, has_value}
+use Rattle.iloc_grammar.specs.Computing.{is_field}
+use Rattle.iloc_fronts.specs.Computing.{fields_at}
 use Rattle.iloc_subtags.specs.declared.parse_error.ParseError.{ParseError}
 use Rattle.iloc_subtags.specs.declared.parse_error.ParseError.TheVariants.{InvalidLanguage, InvalidSubtag, InvalidExtension, DuplicatedExtension, OutOfMemory}
 use Rattle.iloc_transform.specs.ValueReading.{IsValueWord}
@@ -26,7 +27,7 @@ pub record FieldsRead (ps : List (List ℕ)) (m : Fields) (rest : List (List ℕ
 -- What the pieces at the front are read as, and the pieces that are left. A field wants memory.
 abbrev pub FieldsFrontRead : List (List ℕ) → List (List ℕ) → Result Fields ParseError → Type 0
 FieldsFrontRead ps rest (Ok m) = FieldsRead ps m rest
-FieldsFrontRead ps rest (Err InvalidExtension) = list_all has_value (fields_at ps) ≡ false
+FieldsFrontRead ps rest (Err InvalidExtension) = list_all is_field (fields_at ps) ≡ false
 FieldsFrontRead ps rest (Err OutOfMemory) = 0 < length (fields_front ps)
 FieldsFrontRead ps rest (Err InvalidLanguage) = ⊥
 FieldsFrontRead ps rest (Err InvalidSubtag) = ⊥

@@ -1,5 +1,5 @@
 //! The fields of a transform.
-ghost use Rattle.std.specs.Prelude.{◌≡◌, ◌==◌, ℕ, List, [], true, length, OnOk, OnErr, IfOk, IsOk, if◌then◌else◌};
+ghost use Rattle.std.specs.Prelude.{◌≡◌, ◌==◌, ℕ, List, [], true, length, OnOk, OnErr, IfOk, IsOk, Some, if◌then◌else◌};
 ghost use Rattle.std.specs.Fn.{CalledAt};
 ghost use Rattle.std.specs.FinMap.{find, put};
 ghost use Rattle.std.specs.Iterator.{IsFiniteIterable, Drains};
@@ -7,6 +7,13 @@ ghost use Rattle.std.specs.List.{AllByRecursion};
 ghost use Rattle.std.specs.List.Retain.{IsFiltered};
 ghost use Rattle.std.specs.Option.{option_copied, is_some};
 ghost use Rattle.iloc_grammar.specs.Words.{word_cmp};
+ghost use Rattle.iloc_grammar.specs.Written.{fields_pieces};
+ghost use Rattle.iloc_grammar.specs.Values.{spelled_fields, fields_text};
+ghost use Rattle.std.specs.Ordering.{as_partial_cmp};
+ghost use Rattle.std.specs.Cmp.{partial_order_from_agreeing_total};
+ghost use Rattle.std.proofs.Common.{refl};
+ghost use Rattle.iloc_orders.specs.Orders.{fields_cmp};
+ghost use Rattle.iloc_transform.specs.FieldsOrder.{fields_ties, fields_total};
 ghost use Rattle.iloc_litemap.specs.Pairs.{IsAscending, insert_all};
 ghost use Rattle.iloc_parser.specs.Left.{left};
 ghost use Rattle.iloc_transform.specs.FieldsReading.{IsFieldPair, FieldsFrontRead};
@@ -15,9 +22,11 @@ use crate::value::Value;
 use iloc_litemap::LiteMap;
 use iloc_parser::{SubtagIterator, take_word};
 use iloc_subtags::{ParseError, TransformKey, TransformKeyKind, is_normal};
+use iloc_writeable::{Pieces, Sink, Writeable};
 use std::alloc::{AllocError, Global};
+use std::cmp::Ordering;
 use std::marker::Model;
-use std::mem;
+use std::{fmt, mem};
 
 /// The key of a field, as `m0`.
 pub type Key = TransformKey;
@@ -187,6 +196,67 @@ impl Clone for Fields {
         Ok(Fields {
             map: self.map.clone()?,
         })
+    }
+}
+
+/// Pair by pair, the key first.
+impl Ord for Fields {
+    ghost cmp = { fields_cmp };
+
+    ghost total = { fields_total };
+
+    ghost matches_partial_cmp = { λ _ _. refl };
+
+    ghost matches_eq = { fields_ties };
+
+    fn cmp(&self, other: &Self) -> Ordering {
+        self.as_slice().cmp(&other.as_slice())
+    }
+}
+
+impl PartialOrd for Fields {
+    ghost partial_cmp = { as_partial_cmp fields_cmp };
+
+    ghost laws = { partial_order_from_agreeing_total fields_cmp fields_total (λ _ _. refl) fields_ties };
+
+    fn partial_cmp(&self, other: &Self) -> Option<Ordering> {
+        Some(self.cmp(other))
+    }
+}
+
+/// The keys, each with its value.
+impl Pieces for Fields {
+    ghost pieces = { λ fs. fields_pieces (spelled_fields fs) };
+
+    fn has_pieces(&self) -> bool {
+        !self.is_empty()
+    }
+
+    fn write_pieces<S: Sink>(&self, sink: &mut S, first: bool) -> fmt::Result {
+        let pairs = self.as_slice();
+        pairs.write_pieces(sink, first)
+    }
+}
+
+/// Each key and its value with hyphens between them, an empty value as `true`.
+impl Writeable for Fields {
+    ghost text = { fields_text };
+
+    #[tactic(auto, unfolding(iloc_grammar::specs::Values::fields_text, iloc_grammar::specs::Pieces::join))]
+    fn write_to<S: Sink>(&self, sink: &mut S) -> fmt::Result {
+        self.write_joined(sink)
+    }
+
+    fn writeable_borrow(&self) -> Option<&str> {
+        None
+    }
+}
+
+impl fmt::Display for Fields {
+    ghost output = { λ fs. Some (fields_text fs) };
+
+    fn fmt<W: fmt::Write>(&self, f: &mut fmt::Formatter<W>) -> fmt::Result {
+        self.write_to(f)
     }
 }
 

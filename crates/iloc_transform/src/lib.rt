@@ -8,7 +8,10 @@
 #![tactic(auto)]
 
 pub mod fields;
+mod lang;
+pub mod transform;
 pub mod value;
 
 pub use fields::{Fields, Key};
+pub use transform::Transform;
 pub use value::Value;

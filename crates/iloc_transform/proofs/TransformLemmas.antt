@@ -1,0 +1,148 @@
+-- An identifier and fields, one after the other.
+use Rattle.std.proofs.Common.{◌≡◌, ◌≢◌, ℕ, ◌<◌, ◌==◌, Bool, true, false, not, cond, ◌&&◌, ◌||◌, List, [], ◌∷◌, length, nat_lt, refl, sym, ap, ap₂, ◌∙◌, subst, arith, Option, Some, None, option_map, is_some, Result, Ok, Err, true≢false, IsErr}
+use Rattle.std.specs.List.{list_all}
+use Rattle.std.specs.FinMap.{put}
+use Rattle.std.specs.FinMap.Entries.{by_order}
+use Rattle.std.specs.declared.cmp.Ordering.TheVariants.{Less, Equal, Greater}
+use Rattle.std.proofs.lemmas.Bool.{and_parts}
+use Rattle.std.proofs.lemmas.Bool.Decides.{nat_tests}
+use Rattle.iloc_grammar.specs.Pieces.{pieces}
+use Rattle.iloc_grammar.specs.Words.{Language, is_word, IsWord, normal, read, lower, languages, word_cmp, TransformKey}
+use Rattle.iloc_grammar.specs.Written as written
+use Rattle.iloc_grammar.specs.Written.{Identifier, IsIdentifier}
+use Rattle.iloc_grammar.specs.Meaning.{normal_identifier, normal_transform, normal_fields, normal_values}
+use Rattle.iloc_grammar.specs.Faults as faults
+use Rattle.iloc_grammar.specs.Faults.{Fault, first_piece}
+use Rattle.iloc_grammar.specs.Reading.{first_item, rest_of, fields_from}
+use Rattle.iloc_grammar.specs.Computing.{is_field}
+use Rattle.iloc_fronts.specs.Fronts.{FrontRead, absent, present, fields_front, after_fields, TransformRead, TransformFault, repeats}
+use Rattle.iloc_fronts.specs.Computing.{fields_at, fields_result}
+use Rattle.iloc_fronts.specs.Parts.{PartRead, is_letter, TransformTextFault}
+use Rattle.iloc_fronts.proofs.TransformLaws.{fields_answer, IsTransformAnswer}
+use Rattle.iloc_other.specs.Singleton.{singleton_at}
+use Rattle.iloc_other.proofs.SingletonLemmas.{part_reads, part_fault, part_other, part_none}
+use Rattle.iloc_other.proofs.TextLemmas.{another_letter}
+use Rattle.iloc_other.proofs.TakingLemmas.{accepted_from_read, refused_from_read}
+use Rattle.iloc_subtags.specs.declared.parse_error.ParseError.{ParseError}
+use Rattle.iloc_subtags.specs.declared.parse_error.ParseError.TheVariants.{InvalidLanguage, InvalidSubtag, InvalidExtension, DuplicatedExtension, OutOfMemory}
+use Rattle.iloc_langid.specs.Reads.{FrontReadsAs}
+use Rattle.iloc_langid.specs.Reads as langid
+use Rattle.iloc_langid.specs.declared.identifier.LanguageIdentifier.{LanguageIdentifier}
+use Rattle.iloc_transform.specs.FieldsReading.{FieldsRead, FieldsFrontRead}
+use Rattle.iloc_transform.specs.LangReading.{LangRead, LangReads}
+use Rattle.iloc_transform.specs.TransformReading.{value_of, WantsMemory, variants, fields, TransformReads, TransformTextReads}
+use Rattle.iloc_transform.specs.declared.transform.Transform.{Transform}
+
+-- the identifier
+
+no_empty_language : is_word (Language languages) [] ≡ false
+unfolding is_word languages
+no_empty_language = refl
+
+pub no_lang : (ps : List (List ℕ)) → None ≡ first_item ps → LangRead ps None ps
+no_lang [] e = record { written = None; front = absent no_empty_language; means = refl }
+no_lang (p ∷ ps) e = cc
+
+pub other_lang : {E : Type 0} (e f : E) (ps : List (List ℕ)) (p : List ℕ) → Some p ≡ first_item ps → Err f ≡ read (Language languages) e p → LangRead ps None ps
+other_lang e f [] p i h = cc
+other_lang e f (q ∷ ps) p i h = let same : p ≡ q = cc in record { written = None; front = absent (ap (is_word (Language languages)) (sym same) ∙ (refused_from_read (Language languages) e f p h).0); means = refl }
+
+pub some_lang : (ps rest : List (List ℕ)) (i : LanguageIdentifier) → FrontReadsAs ps rest (Ok i) → LangRead ps (Some i) rest
+some_lang ps rest i r = record { written = Some r.0; front = present (record { words = r.1.words; different = r.2 }) r.1; means = ap (λ j. Some j) r.3 }
+
+-- fields that mean none are none
+
+put_some : (k : List ℕ) (v : List (List ℕ)) (es : written.Fields) → length (put word_cmp k v es) ≡ 0 → ⊥
+put_some k v [] e = absurd (omega (arith, e))
+put_some k v (e ∷ es) h = elim (word_cmp k e.0) as (λ o. length (by_order o ((k, v) ∷ e ∷ es) ((e.0, v) ∷ es) (e ∷ put word_cmp k v es)) ≡ 0 → ⊥) [
+  | Less ↦ λ z. absurd (omega (arith, z))
+  | Equal ↦ λ z. absurd (omega (arith, z))
+  | Greater ↦ λ z. absurd (omega (arith, z))
+] h
+
+no_fields : (fs : written.Fields) → length (normal_fields fs) ≡ 0 → fs ≡ []
+no_fields [] e = refl
+no_fields (f ∷ fs) e = absurd (put_some (lower f.0) (normal_values f.1) (normal_fields fs) e)
+
+-- all of it
+
+module _ (ps middle : List (List ℕ)) (lang : Option LanguageIdentifier) (l : LangRead ps lang middle) where
+  some_written : {X Y : Type 0} (f : X → Y) (o : Option X) → is_some (option_map f o) ≡ is_some o
+  some_written f None = refl
+  some_written f (Some x) = refl
+
+  -- there is an identifier where one is written
+  same_some : is_some lang ≡ is_some l.written
+  same_some = sym (some_written langid.value_of lang) ∙ ap is_some l.means ∙ some_written normal_identifier l.written
+
+  -- the program's answer
+  answer : (f : Fault) → fields_result l.written middle ≡ Err f → TransformFault languages ps f
+  answer f e = subst (IsTransformAnswer languages ps) e (fields_answer ps l.written middle l.front)
+
+  pub whole : (m : written.Fields) (rest : List (List ℕ)) → FieldsRead middle m rest → (not (is_some lang) && (length m == 0)) ≡ false → TransformRead languages ps (record { id = option_map langid.value_of lang; fields = m }) rest
+  whole m rest r n = record {
+    written = record { id = l.written; fields = r.written };
+    middle = middle;
+    id = l.front;
+    fields = r.fields;
+    spelled = r.spelled;
+    nonempty = λ e. some r.written r.means (ap (λ b. not b && (length m == 0)) (sym (same_some ∙ ap is_some e)) ∙ n);
+    means = λ i. record { id = l.means i; fields = r.means i };
+    left = r.left;
+  }
+    where
+      some : (fs : written.Fields) → m ≡ normal_fields fs → (length m == 0) ≡ false → 0 < length fs
+      some [] e h = absurd (true≢false (sym (ap (λ l. length l == 0) e) ∙ h))
+      some (f ∷ fs) e h = omega arith
+
+  pub nothing : (m : written.Fields) (rest : List (List ℕ)) → FieldsRead middle m rest → (not (is_some lang) && (length m == 0)) ≡ true → TransformFault languages ps faults.InvalidExtension
+  nothing m rest r n =
+      let parts = and_parts (not (is_some lang)) (length m == 0) n in
+      let none : is_some l.written ≡ false = sym same_some ∙ not_true (is_some lang) parts.0 in
+      let empty : fields_at middle ≡ [] = ap (fields_from (is_word TransformKey)) (r.spelled ∙ ap written.fields_pieces (no_fields r.written (ap length (sym r.means) ∙ zero_is (length m) parts.1))) in
+      answer faults.InvalidExtension (λ i. cond (list_all is_field (empty i) && (none i || nat_lt 0 (length (empty i)))) (Ok (normal_transform (record { id = l.written; fields = empty i }), after_fields middle)) (Err faults.InvalidExtension))
+    where
+      not_true : (b : Bool) → not b ≡ true → b ≡ false
+      not_true true h = cc
+      not_true false h = refl
+
+      zero_is : (n : ℕ) → (n == 0) ≡ true → n ≡ 0
+      zero_is n h = grind (arith, nat_tests)
+
+  pub lacking : list_all is_field (fields_at middle) ≡ false → TransformFault languages ps faults.InvalidExtension
+  lacking e = answer faults.InvalidExtension (λ i. cond (e i && (is_some l.written || nat_lt 0 (length (fields_at middle)))) (Ok (normal_transform (record { id = l.written; fields = fields_at middle }), after_fields middle)) (Err faults.InvalidExtension))
+
+  pub bad_fields : (f : ParseError) (rest left : List (List ℕ)) → FieldsFrontRead middle rest (Err f) → TransformReads ps left (Err f)
+  bad_fields InvalidExtension rest left r = lacking r
+  bad_fields OutOfMemory rest left r = fields l.front r
+  bad_fields InvalidLanguage rest left r = r
+  bad_fields InvalidSubtag rest left r = absurd r
+  bad_fields DuplicatedExtension rest left r = r
+
+pub no_transform : (ps rest left : List (List ℕ)) (f : ParseError) → LangReads ps rest (Err f) → TransformReads ps left (Err f)
+no_transform ps rest left InvalidSubtag r = repeats r
+no_transform ps rest left OutOfMemory r = variants r
+no_transform ps rest left InvalidLanguage r = r
+no_transform ps rest left InvalidExtension r = absurd r
+no_transform ps rest left DuplicatedExtension r = r
+
+-- a text
+
+module _ (t : List ℕ) where
+  pub text_none : None ≡ singleton_at (pieces t) → TransformTextFault languages t faults.InvalidExtension
+  text_none e = part_none (is_letter 116) (pieces t) (TransformFault languages) e
+
+  pub text_other : (c : ℕ) → Some c ≡ singleton_at (pieces t) → c ≢ 116 → TransformTextFault languages t faults.InvalidExtension
+  text_other c e n = part_other (is_letter 116) (pieces t) (TransformFault languages) c e (another_letter 116 c n)
+
+  module _ (found : Some 116 ≡ singleton_at (pieces t)) (more rest : List (List ℕ)) (after : more ≡ rest_of (pieces t)) where
+    fault : (f : Fault) → TransformFault languages more f → TransformTextFault languages t f
+    fault f h = part_fault (is_letter 116) (pieces t) (TransformFault languages) 116 f found refl (subst (λ l. TransformFault languages l f) after h)
+
+    pub text_reads : (r : Result Transform ParseError) → TransformReads more rest r → TransformTextReads t r
+    text_reads (Ok m) h = (rest, part_reads (is_letter 116) (pieces t) (TransformRead languages) 116 (value_of m) rest found refl (subst (λ l. TransformRead languages l (value_of m) rest) after h))
+    text_reads (Err InvalidSubtag) h = fault faults.InvalidSubtag h
+    text_reads (Err InvalidExtension) h = fault faults.InvalidExtension h
+    text_reads (Err OutOfMemory) h = subst WantsMemory after h
+    text_reads (Err InvalidLanguage) h = h
+    text_reads (Err DuplicatedExtension) h = h

@@ -1,0 +1,58 @@
+//! The identifier of a transform: read, compared, put in lower case.
+ghost use Rattle.std.specs.Prelude.{◌≡◌, option_map, option_to_list};
+ghost use Rattle.std.specs.List.{flat_map};
+ghost use Rattle.std.specs.Option.{option_cmp, option_copied};
+ghost use Rattle.iloc_grammar.specs.Written.{identifier_pieces, optional_pieces};
+ghost use Rattle.iloc_grammar.specs.Values.{lower_identifier};
+ghost use Rattle.iloc_langid.specs.Reads.{value_of};
+ghost use Rattle.iloc_orders.specs.Orders.{identifier_cmp};
+ghost use Rattle.iloc_parser.specs.Left.{left};
+ghost use Rattle.iloc_transform.specs.LangReading.{LangReads};
+
+use iloc_langid::reader::read_front;
+use iloc_langid::{LanguageIdentifier, Lowercase};
+use iloc_parser::SubtagIterator;
+use iloc_subtags::{Language, ParseError};
+use std::alloc::Global;
+use std::cmp::Ordering;
+
+/// Reads the longest front of an identifier's words, where the next piece is a language.
+pub(crate) fn read_lang(
+    alloc: Global,
+    iter: &mut SubtagIterator<'_>,
+) -> Result<Option<LanguageIdentifier>, ParseError>
+    ensures { LangReads (left iter.old) (left iter.new) result }
+{
+    let Some(piece) = iter.peek() else {
+        return Ok(None);
+    };
+    match Language::try_from_utf8(piece) {
+        Ok(_) => Ok(Some(read_front(alloc, iter)?)),
+        Err(_) => Ok(None),
+    }
+}
+
+/// The order of identifiers, none first.
+pub(crate) fn cmp_langs(
+    lang: Option<&LanguageIdentifier>,
+    other: Option<&LanguageIdentifier>,
+) -> Ordering
+    ensures { result ≡ option_cmp identifier_cmp (option_map value_of (option_copied lang.entry)) (option_map value_of (option_copied other.entry)) }
+{
+    match (lang, other) {
+        (Some(lang), Some(other)) => lang.total_cmp(other),
+        (Some(_), None) => Ordering::Greater,
+        (None, Some(_)) => Ordering::Less,
+        (None, None) => Ordering::Equal,
+    }
+}
+
+/// The identifier as a transform prints it.
+pub(crate) fn lowercase(lang: Option<&LanguageIdentifier>) -> Option<Lowercase<'_>>
+    ensures { flat_map (λ l. identifier_pieces (lower_identifier (value_of l.0.now))) (option_to_list result) ≡ optional_pieces (option_map lower_identifier (option_map value_of (option_copied lang.entry))) }
+{
+    match lang {
+        Some(lang) => Some(Lowercase(lang)),
+        None => None,
+    }
+}

@@ -1,0 +1,137 @@
+//! The transform extension.
+ghost use Rattle.std.specs.Prelude.{◌≡◌, ◌==◌, ◌&&◌, ◌∷◌, ℕ, List, [], None, Some, not, length, option_map, is_some};
+ghost use Rattle.iloc_orders.specs.Orders.{transform_cmp};
+ghost use Rattle.iloc_parser.specs.Left.{left};
+
+use crate::fields::Fields;
+use crate::lang::{cmp_langs, lowercase, read_lang};
+use iloc_langid::LanguageIdentifier;
+use iloc_other::singleton::take_singleton;
+use iloc_parser::SubtagIterator;
+use iloc_subtags::ParseError;
+use iloc_writeable::{Pieces, Sink, Writeable};
+use std::alloc::Global;
+use std::cmp::Ordering;
+use std::fmt;
+
+/// The transform extension: how the content was transformed, and from what.
+#[derive(Clone, Drop, Debug, PartialEq, Eq, Hash)]
+pub struct Transform {
+    /// The language that was transformed.
+    pub lang: Option<LanguageIdentifier>,
+    /// How it was transformed.
+    pub fields: Fields,
+}
+
+impl Transform {
+    ghost use Rattle.iloc_transform.specs.TransformReading.{value_of, TransformReads, TransformTextReads};
+
+    /// The empty extension.
+    pub fn new(alloc: Global) -> Self
+        ensures lang { result.lang ≡ None }
+        ensures fields { result.fields ≡ [] }
+    {
+        Transform {
+            lang: None,
+            fields: Fields::new(alloc),
+        }
+    }
+
+    /// Whether there is neither identifier nor field.
+    pub fn is_empty(&self) -> bool
+        ensures { result ≡ (not (is_some self.now.lang) && (length self.now.fields == 0)) }
+    {
+        self.lang.is_none() && self.fields.is_empty()
+    }
+
+    /// Takes out identifier and fields.
+    pub fn clear(&mut self)
+        ensures lang { self.new.lang ≡ None }
+        ensures fields { self.new.fields ≡ [] }
+    {
+        self.lang = None;
+        self.fields.empty();
+    }
+
+    /// The order by identifier, none first, and then by fields; `Equal` exactly where the two are equal.
+    pub fn total_cmp(&self, other: &Self) -> Ordering
+        ensures { result ≡ transform_cmp (value_of self.now) (value_of other.now) }
+    {
+        cmp_langs(self.lang.as_ref(), other.lang.as_ref()).then_with(|| self
+            .fields
+            .cmp(&other.fields))
+    }
+
+    /// Reads `t` in either case, the longest front of an identifier where the next piece is a language,
+    /// and then, where the next piece is a key, fields up to a piece that is neither key nor value
+    /// piece. What follows is ignored.
+    ///
+    /// This is the transformed content of UTS #35, section 3.1. Of equal keys the first stays; a field
+    /// whose pieces are all `true` has the empty value. A repeated variant is refused with
+    /// `InvalidSubtag`; another first piece, a key without a value piece and nothing read with
+    /// `InvalidExtension`. `OutOfMemory` comes only where there is a field or more than four variants.
+    pub fn try_from_utf8(alloc: Global, code_units: &[u8]) -> Result<Self, ParseError>
+        ensures { TransformTextReads code_units.now result }
+    {
+        let mut iter = SubtagIterator::new(code_units);
+        let Some(ext) = take_singleton(&mut iter) else {
+            return Err(ParseError::InvalidExtension);
+        };
+        if ext != b't' {
+            return Err(ParseError::InvalidExtension);
+        }
+        Transform::try_from_iter(alloc, &mut iter)
+    }
+
+    /// The same on a text.
+    pub fn try_from_str(alloc: Global, s: &str) -> Result<Self, ParseError>
+        ensures { TransformTextReads s.now result }
+    {
+        Self::try_from_utf8(alloc, s.as_bytes())
+    }
+
+    /// Reads what follows `t`, and leaves what no transform takes.
+    pub fn try_from_iter(alloc: Global, iter: &mut SubtagIterator<'_>) -> Result<Self, ParseError>
+        ensures { TransformReads (left iter.old) (left iter.new) result }
+    {
+        let lang = read_lang(alloc, iter)?;
+        let fields = Fields::read_front(alloc, iter)?;
+        let transform = Transform { lang, fields };
+        if transform.is_empty() {
+            return Err(ParseError::InvalidExtension);
+        }
+        Ok(transform)
+    }
+}
+
+/// Prints `t`, the identifier in lower case and the fields; an empty one prints nothing.
+impl Writeable for Transform {
+    ghost use Rattle.iloc_grammar.specs.Values.{transform_text};
+    ghost use Rattle.iloc_transform.specs.TransformReading.{value_of};
+
+    ghost text = { λ m. transform_text (value_of m) };
+
+    fn write_to<S: Sink>(&self, sink: &mut S) -> fmt::Result {
+        if self.is_empty() {
+            return Ok(());
+        }
+        let lang = lowercase(self.lang.as_ref());
+        ("t", lang, &self.fields).write_joined(sink)
+    }
+
+    fn writeable_borrow(&self) -> Option<&str> {
+        None
+    }
+}
+
+impl fmt::Display for Transform {
+    ghost use Rattle.iloc_grammar.specs.Values.{transform_text};
+    ghost use Rattle.iloc_transform.specs.TransformReading.{value_of};
+    ghost use Rattle.std.specs.Prelude.{Some};
+
+    ghost output = { λ m. Some (transform_text (value_of m)) };
+
+    fn fmt<W: fmt::Write>(&self, f: &mut fmt::Formatter<W>) -> fmt::Result {
+        self.write_to(f)
+    }
+}
