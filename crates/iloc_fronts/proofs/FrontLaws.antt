@@ -194,13 +194,24 @@ value_goes_on p w = ap (λ b. is_two p || b) w ∙ or_true (is_two p)
 keyword_goes_on : (f : List ℕ × List (List ℕ)) → IsKeyword f → (is_keyword_piece f.0 ≡ true) × AllByRecursion (λ p. is_keyword_piece p ≡ true) f.1
 keyword_goes_on f r = (ap (λ b. b || is_word Attribute f.0) (two_bytes_of f.0 r.0), all_weaker (IsWord Attribute) (λ p. is_keyword_piece p ≡ true) value_goes_on f.1 r.1)
 
-unicode_spelled : (w : Unicode) (rest : List (List ℕ)) → IsUnicode w → starts_block rest ≡ true → UnicodeRead (unicode_pieces w ++ rest) (normal_unicode w) rest
-unicode_spelled w rest g e = subst (λ (l : List (List ℕ)). UnicodeRead l (normal_unicode w) rest) (sym (append_assoc w.attributes (fields_pieces w.keywords) rest)) (record {
-  attributes_are = ap (λ l. set_of (map lower l)) (sym front_is);
-  keywords_are = subst (λ (l : List (List ℕ)). KeywordsRead l (normal_unicode w).keywords rest) (sym after) (record { written = w.keywords; keywords = g.keywords; spelled = stop.0; means = refl; left = sym stop.1 });
-  nonempty = subst (λ (n : ℕ). 0 < n) (sym ((λ i. length (front_is i) + length (keywords_front (after i))) ∙ ap (λ l. length w.attributes + length l) stop.0)) (either_pieces (length w.attributes) w.keywords g.nonempty);
-})
+-- what is taken of spelled attributes and keywords
+pub record Taken (w : Unicode) (rest : List (List ℕ)) : Type 0 where
+  pub attributes : attributes_front (unicode_pieces w ++ rest) ≡ w.attributes
+  pub after : after_attributes (unicode_pieces w ++ rest) ≡ fields_pieces w.keywords ++ rest
+  pub keywords : keywords_front (fields_pieces w.keywords ++ rest) ≡ fields_pieces w.keywords
+  pub left : after_keywords (fields_pieces w.keywords ++ rest) ≡ rest
+
+pub unicode_taken : (w : Unicode) (rest : List (List ℕ)) → IsUnicode w → starts_block rest ≡ true → Taken w rest
+unicode_taken w rest g e = record {
+  attributes = ap attributes_front all ∙ passing_stops (is_word Attribute) w.attributes (fields_pieces w.keywords ++ rest) g.attributes (stops w.keywords g.keywords);
+  after = ap after_attributes all ∙ past_stops (is_word Attribute) w.attributes (fields_pieces w.keywords ++ rest) g.attributes (stops w.keywords g.keywords);
+  keywords = stop.0;
+  left = stop.1;
+}
   where
+    all : unicode_pieces w ++ rest ≡ w.attributes ++ (fields_pieces w.keywords ++ rest)
+    all = append_assoc w.attributes (fields_pieces w.keywords) rest
+
     none : NoneGoOn rest
     none = block_ends rest e
 
@@ -208,18 +219,27 @@ unicode_spelled w rest g e = subst (λ (l : List (List ℕ)). UnicodeRead l (nor
     stops [] k = none.attribute
     stops (f ∷ fs) k = not_attribute f.0 (let l = length-unicode_key f.0 k.0.0 in omega arith)
 
-    front_is : attributes_front (w.attributes ++ (fields_pieces w.keywords ++ rest)) ≡ w.attributes
-    front_is = passing_stops (is_word Attribute) w.attributes (fields_pieces w.keywords ++ rest) g.attributes (stops w.keywords g.keywords)
-
-    after : after_attributes (w.attributes ++ (fields_pieces w.keywords ++ rest)) ≡ fields_pieces w.keywords ++ rest
-    after = past_stops (is_word Attribute) w.attributes (fields_pieces w.keywords ++ rest) g.attributes (stops w.keywords g.keywords)
-
     stop : (keywords_front (fields_pieces w.keywords ++ rest) ≡ fields_pieces w.keywords) × (after_keywords (fields_pieces w.keywords ++ rest) ≡ rest)
     stop = fields_stop is_two is_keyword_piece w.keywords rest
         (pieces_pass is_keyword_piece w.keywords (all_weaker IsKeyword (λ f. (is_keyword_piece f.0 ≡ true) × AllByRecursion (λ p. is_keyword_piece p ≡ true) f.1) keyword_goes_on w.keywords g.keywords))
         (all_weaker IsKeyword (λ f. is_two f.0 ≡ true) (λ f r. two_bytes_of f.0 r.0) w.keywords g.keywords)
         none.keyword_piece none.two_bytes refl
 
+-- the keywords are those that were spelled
+pub keywords_taken : (w : Unicode) (rest : List (List ℕ)) → IsUnicode w → starts_block rest ≡ true → keywords_at (after_attributes (unicode_pieces w ++ rest)) ≡ w.keywords
+keywords_taken w rest g e =
+    let t = unicode_taken w rest g e in
+    ap (fields_from is_two) (ap keywords_front t.after ∙ t.keywords) ∙ fields_read is_two w.keywords (keywords_pass w.keywords g.keywords)
+
+unicode_spelled : (w : Unicode) (rest : List (List ℕ)) → IsUnicode w → starts_block rest ≡ true → UnicodeRead (unicode_pieces w ++ rest) (normal_unicode w) rest
+unicode_spelled w rest g e =
+    let t = unicode_taken w rest g e in
+    record {
+      attributes_are = ap (λ l. set_of (map lower l)) (sym t.attributes);
+      keywords_are = subst (λ (l : List (List ℕ)). KeywordsRead l (normal_unicode w).keywords rest) (sym t.after) (record { written = w.keywords; keywords = g.keywords; spelled = t.keywords; means = refl; left = sym t.left });
+      nonempty = subst (λ (n : ℕ). 0 < n) (sym ((λ i. length (t.attributes i) + length (keywords_front (t.after i))) ∙ ap (λ l. length w.attributes + length l) t.keywords)) (either_pieces (length w.attributes) w.keywords g.nonempty);
+    }
+  where
     either_pieces : (n : ℕ) (fs : Fields) → 0 < n + length fs → 0 < n + length (fields_pieces fs)
     either_pieces n [] h = h
     either_pieces n (f ∷ fs) h = omega arith

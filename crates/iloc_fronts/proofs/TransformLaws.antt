@@ -51,10 +51,10 @@ not_longer P (x ∷ xs) (y ∷ ys) a b e h n = let tails : xs ++ a ≡ ys ++ b =
 
 -- the longest front of an identifier is one
 
-front_language : {T : ℕ → Bool} (ps : List (List ℕ)) (i : Identifier) (rest : List (List ℕ)) → HasWords T i → ps ≡ identifier_pieces i ++ rest → IsWord (Language T) (first_piece ps)
+pub front_language : {T : ℕ → Bool} (ps : List (List ℕ)) (i : Identifier) (rest : List (List ℕ)) → HasWords T i → ps ≡ identifier_pieces i ++ rest → IsWord (Language T) (first_piece ps)
 front_language {T = T} ps i rest h e = ap (λ (l : List (List ℕ)). is_word (Language T) (first_piece l)) e ∙ h.language
 
-one_longest : {T : ℕ → Bool} (ps : List (List ℕ)) (i j : Identifier) (rest more : List (List ℕ)) → IdentifierFront T ps i rest → IdentifierFront T ps j more → (i ≡ j) × (rest ≡ more)
+pub one_longest : {T : ℕ → Bool} (ps : List (List ℕ)) (i j : Identifier) (rest more : List (List ℕ)) → IdentifierFront T ps i rest → IdentifierFront T ps j more → (i ≡ j) × (rest ≡ more)
 one_longest ps i j rest more a b =
     let fronts = same_fronts (identifier_pieces i) (identifier_pieces j) rest more (sym a.spelled ∙ b.spelled) (le_antisymm (b.longest i rest a.words a.spelled) (a.longest j more b.words b.spelled)) in
     (one_identifier i j a.words b.words fronts.0, fronts.1)
@@ -219,7 +219,7 @@ rest_stops : (rest : List (List ℕ)) → starts_block rest ≡ true → EndsBef
 rest_stops [] e = (tt, tt)
 rest_stops (p ∷ ps) e = one_no_word p (eqb-true (length p) 1 e)
 
-transform_spelled : {T : ℕ → Bool} → (ps rest : List (List ℕ)) (m : Transform) → TransformMeans T ps m → starts_block rest ≡ true → TransformRead T (ps ++ rest) m rest
+pub transform_spelled : {T : ℕ → Bool} → (ps rest : List (List ℕ)) (m : Transform) → TransformMeans T ps m → starts_block rest ≡ true → TransformRead T (ps ++ rest) m rest
 transform_spelled {T = T} ps rest m h e = subst (λ (l : List (List ℕ)). TransformRead T l m rest) (sym (ap (λ l. l ++ rest) h.spelled ∙ append_assoc (optional_pieces h.written.id) (fields_pieces fs) rest)) (record {
   written = h.written;
   middle = fields_pieces fs ++ rest;

@@ -1,4 +1,5 @@
--- Values of keywords and fields, which are read whole: the words other than `true`, in lower case.
+-- Values of keywords and fields, read alone and whole: the words other than `true`, in lower case.
+-- UTS #35's type and tvalue; that `true` means nothing is its rule too.
 use Rattle.std.specs.Prelude.{ℕ, List, [], ◌∷◌, if◌then◌else◌, Result, Ok, Err}
 use Rattle.std.specs.List.{list_all}
 use Rattle.iloc_grammar.specs.Pieces.{pieces}

@@ -1,4 +1,4 @@
--- What every reader of a front keeps to.
+-- What every reader of a front keeps to: it reads in one way or refuses for one reason. This project's rule.
 use Rattle.std.specs.Prelude.{◌≡◌, ◌⊎◌, ℕ, true, false, List}
 use Rattle.iloc_grammar.specs.Faults.{Fault}
 use Rattle.iloc_grammar.specs.Blocks.{front}

@@ -16,7 +16,8 @@ use Rattle.iloc_regions.specs.DataLocales.{whole_region, is_whole, whole, sd}
 use Rattle.iloc_preferences_rules.specs.Keywords.{subdivision_reads, subdivision_gives}
 use Rattle.std.proofs.lemmas.Bool.{and_parts, and_from}
 use Rattle.std.proofs.Common.{◌&&◌, ◌||◌, is_none, is_some}
-use Rattle.iloc_preferences_rules.specs.Preferences.{FormatPreferences, TimePreferences, default_format, default_time, merge_format, merge_time, is_strict, same_region, Preferences, IsPreferences, SpellsNoTrue, und, rg, default_preferences, read_keyword, region_with, preferred_region, preferences, merge_language, wins, merge_region, merge, sd_entry, rg_entry, locale_of_preferences, identifier_preferences}
+use Rattle.iloc_preferences_rules.specs.Preferences.{is_strict, same_region, Preferences, IsPreferences, SpellsNoTrue, und, rg, default_preferences, read_keyword, region_with, preferred_region, preferences, merge_language, wins, merge_region, merge, sd_entry, rg_entry, locale_of_preferences, identifier_preferences}
+use Rattle.iloc_preferences_rules.specs.Formatters.{FormatPreferences, TimePreferences, default_format, default_time, merge_format, merge_time}
 use Rattle.iloc_small.proofs.SmallLaws.{first-option}
 use Rattle.iloc_regions.proofs.SubdivisionLaws.{subdivision_back, subdivision_is_subtag, text_of_read, read_is_long, read_is_subdivision}
 use Rattle.iloc_regions.proofs.DataLaws.{same_itself, same_is, whole_region_is}

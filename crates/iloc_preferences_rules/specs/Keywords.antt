@@ -1,4 +1,6 @@
--- The types of keywords: the values that a list of subtags is read as, and the list that a value gives.
+-- The types of keywords: for each, the values that a list of subtags is read as, and the list that a value is turned into.
+-- The keys and their types are those of UTS #35 for the `u` extension (`ca`, `co`, `cu`, `dx`, ..); which of the types are
+-- known, and that a list is read as a whole or not at all, is this project's rule, as in the Rust crate.
 use Rattle.std.specs.Prelude.{◌≡◌, ℕ, ◌+◌, List, [], ◌∷◌, ◌++◌, map, Option, Some, None, option_map, option_and_then, codes, if◌then◌else◌}
 use Rattle.std.specs.List.{AllByRecursion}
 use Rattle.std.specs.Ordering.{nat_cmp}
@@ -10,7 +12,7 @@ use Rattle.iloc_grammar.specs.Words.{Script, CurrencyType, word, lower, word_cmp
 use Rattle.iloc_regions.specs.Subdivisions.{Subdivision, subdivision, subdivision_text}
 use Rattle.iloc_orders.specs.Orders.{pair_cmp}
 
--- Keywords whose values are the variants of an enum.
+-- Keywords with a fixed set of values.
 pub data EnumKeyword : Type 0 where
   CalendarAlgorithm CollationType CollationCaseFirst CollationNumericOrdering CurrencyFormatStyle EmojiPresentationStyle FirstDay HourCycle LineBreakStyle LineBreakWordHandling MeasurementSystem MeasurementUnitOverride SentenceBreakSupressions CommonVariantType : EnumKeyword
 
@@ -34,7 +36,7 @@ key MeasurementUnitOverride = codes "mu"
 key SentenceBreakSupressions = codes "ss"
 key CommonVariantType = codes "va"
 
--- the texts of the variants, in order
+-- the texts of the variants, in order; the value text of `ca-islamic` may go on with a kind
 abbrev pub variants : EnumKeyword → List (List ℕ)
 variants CalendarAlgorithm = codes "buddhist" ∷ codes "chinese" ∷ codes "coptic" ∷ codes "dangi" ∷ codes "ethioaa" ∷ codes "ethiopic" ∷ codes "gregory" ∷ codes "hebrew" ∷ codes "indian" ∷ codes "islamic" ∷ codes "iso8601" ∷ codes "japanese" ∷ codes "persian" ∷ codes "roc" ∷ []
 variants CollationType = codes "compat" ∷ codes "dict" ∷ codes "ducet" ∷ codes "emoji" ∷ codes "eor" ∷ codes "phonebk" ∷ codes "phonetic" ∷ codes "pinyin" ∷ codes "search" ∷ codes "searchjl" ∷ codes "standard" ∷ codes "stroke" ∷ codes "trad" ∷ codes "unihan" ∷ codes "zhuyin" ∷ []
@@ -109,7 +111,7 @@ enum_gives k v = option_map without_true (enum_words k v)
 abbrev pub ReadsWhatItGives : EnumKeyword → Type 0
 ReadsWhatItGives k = AllByRecursion (λ e. option_and_then (enum_reads k) (enum_gives k e.1) ≡ Some e.1) (readings k)
 
--- Keywords whose values are words.
+-- Keywords whose values are words of a kind.
 
 abbrev pub single : List (List ℕ) → Option (List ℕ)
 single (w ∷ []) = Some w
@@ -127,14 +129,14 @@ nu = codes "nu"
 abbrev pub tz : List ℕ
 tz = codes "tz"
 
--- `cu`
+-- `cu`: one word of three letters
 abbrev pub currency_reads : List (List ℕ) → Option (List ℕ)
 currency_reads ws = option_and_then (word CurrencyType) (single ws)
 
 abbrev pub currency_gives : List ℕ → List (List ℕ)
 currency_gives w = w ∷ []
 
--- `nu` and `tz`
+-- `nu` and `tz`: one subtag
 abbrev pub subtag_reads : List (List ℕ) → Option (List ℕ)
 subtag_reads ws = single ws
 
@@ -145,7 +147,7 @@ abbrev pub with_first : Option (List ℕ) → Option (List (List ℕ)) → Optio
 with_first (Some w) (Some ws) = Some (w ∷ ws)
 with_first _ _ = None
 
--- `dx`
+-- `dx`: scripts, perhaps none
 abbrev pub scripts_read : List (List ℕ) → Option (List (List ℕ))
 scripts_read [] = Some []
 scripts_read (w ∷ ws) = with_first (word Script w) (scripts_read ws)
@@ -153,7 +155,7 @@ scripts_read (w ∷ ws) = with_first (word Script w) (scripts_read ws)
 abbrev pub scripts_give : List (List ℕ) → List (List ℕ)
 scripts_give ws = map lower ws
 
--- `rg` and `sd`
+-- `rg` and `sd`: one subdivision
 abbrev pub subdivision_reads : List (List ℕ) → Option Subdivision
 subdivision_reads ws = option_and_then (λ w. result_ok (subdivision w)) (single ws)
 

@@ -1,3 +1,4 @@
 pub mod Keywords
 pub mod Preferences
+pub mod Formatters
 pub mod Examples

@@ -1,4 +1,6 @@
--- Preferences: what a locale says of language, script, region and variant.
+-- Preferences: what a locale says of language, script, region and variant, with the regional subdivision (`-u-sd-`) and the
+-- region override (`-u-rg-`) of UTS #35. How they are read, merged and turned into locales is this project's rule, as in the
+-- Rust crate.
 use Rattle.std.specs.Prelude.{◌≡◌, ℕ, Bool, IfSome, true, false, not, ◌&&◌, ◌||◌, List, [], ◌∷◌, ◌++◌, Option, Some, None, option_map, option_and_then, option_to_list, is_some, is_none, codes, if◌then◌else◌}
 use Rattle.std.specs.Option.{option_or}
 use Rattle.std.specs.FinMap.{find}
@@ -9,7 +11,9 @@ use Rattle.iloc_grammar.specs.Values.{IsNormal}
 use Rattle.iloc_grammar.specs.Reading.{first_item}
 use Rattle.iloc_regions.specs.Subdivisions.{Subdivision, IsSubdivision, subdivision_text}
 use Rattle.iloc_regions.specs.DataLocales.{DataLocale, made_of, whole_region, is_whole, sd}
-use Rattle.iloc_preferences_rules.specs.Keywords.{EnumValue, HourCycle, CalendarAlgorithm, key, nu, enum_reads, subtag_reads, subdivision_reads, subdivision_gives}
+use Rattle.iloc_preferences_rules.specs.Keywords.{subdivision_reads, subdivision_gives}
+
+-- What is kept.
 
 pub record Preferences : Type 0 where
   pub language : List ℕ
@@ -40,6 +44,8 @@ rg = codes "rg"
 abbrev pub default_preferences : Preferences
 default_preferences = record { language = und; script = None; region = None; variant = None; region_override = None }
 
+-- Reading.
+
 -- what a keyword reads as, where it is there and readable
 abbrev pub read_keyword : {X : Type 0} → (List (List ℕ) → Option X) → List ℕ → Locale → Option X
 read_keyword reads k M = option_and_then reads (find word_cmp k M.unicode.keywords)
@@ -57,6 +63,7 @@ abbrev pub preferred_region : Option (List ℕ) → Option Subdivision → Optio
 preferred_region None s = s
 preferred_region (Some r) s = Some (region_with r s)
 
+-- the preferences of a locale
 abbrev pub preferences : Locale → Preferences
 preferences M = record {
   language = M.id.language;
@@ -74,10 +81,11 @@ same_region _ _ = true
 abbrev pub is_strict : Locale → Bool
 is_strict M = is_readable subdivision_reads sd M && (is_readable subdivision_reads rg M && same_region M.id.region (read_keyword subdivision_reads sd M))
 
+-- the preferences of an identifier alone
 abbrev pub identifier_preferences : Identifier → Preferences
 identifier_preferences i = record { language = i.language; script = i.script; region = option_map whole_region i.region; variant = first_item i.variants; region_override = None }
 
--- the two data locales
+-- The two data locales: made of the region, and made of the override where there is one.
 
 abbrev pub language_priority : Preferences → DataLocale
 language_priority p = made_of p.language p.script p.region p.variant
@@ -85,7 +93,7 @@ language_priority p = made_of p.language p.script p.region p.variant
 abbrev pub region_priority : Preferences → DataLocale
 region_priority p = made_of p.language p.script (option_or p.region_override p.region) p.variant
 
--- Extending: what the second knows wins.
+-- Merging: what the second knows wins. A language `und` is unknown.
 
 abbrev pub merge_language : List ℕ → List ℕ → List ℕ
 merge_language a b = if is_same b und then a else b
@@ -126,43 +134,3 @@ locale_of_preferences p = record {
   private = [];
   others = [];
 }
-
--- Preferences with keywords of a formatter.
-
-pub record FormatPreferences : Type 0 where
-  pub locale_preferences : Preferences
-  pub numbering_system : Option (List ℕ)
-  pub hour_cycle : Option EnumValue
-  pub calendar_algorithm : Option EnumValue
-
-pub record TimePreferences : Type 0 where
-  pub locale_preferences : Preferences
-  pub numbering_system : Option (List ℕ)
-  pub hour_cycle : Option EnumValue
-
-abbrev pub format_preferences : Locale → FormatPreferences
-format_preferences M = record { locale_preferences = preferences M; numbering_system = read_keyword subtag_reads nu M; hour_cycle = read_keyword (enum_reads HourCycle) (key HourCycle) M; calendar_algorithm = read_keyword (enum_reads CalendarAlgorithm) (key CalendarAlgorithm) M }
-
-abbrev pub time_preferences : Locale → TimePreferences
-time_preferences M = record { locale_preferences = preferences M; numbering_system = read_keyword subtag_reads nu M; hour_cycle = read_keyword (enum_reads HourCycle) (key HourCycle) M }
-
-abbrev pub is_strict_time : Locale → Bool
-is_strict_time M = is_strict M && (is_readable subtag_reads nu M && is_readable (enum_reads HourCycle) (key HourCycle) M)
-
-abbrev pub is_strict_format : Locale → Bool
-is_strict_format M = is_strict_time M && is_readable (enum_reads CalendarAlgorithm) (key CalendarAlgorithm) M
-
-abbrev pub default_format : FormatPreferences
-default_format = record { locale_preferences = default_preferences; numbering_system = None; hour_cycle = None; calendar_algorithm = None }
-
-abbrev pub default_time : TimePreferences
-default_time = record { locale_preferences = default_preferences; numbering_system = None; hour_cycle = None }
-
-abbrev pub merge_format : FormatPreferences → FormatPreferences → FormatPreferences
-merge_format a b = record { locale_preferences = merge a.locale_preferences b.locale_preferences; numbering_system = option_or b.numbering_system a.numbering_system; hour_cycle = option_or b.hour_cycle a.hour_cycle; calendar_algorithm = option_or b.calendar_algorithm a.calendar_algorithm }
-
-abbrev pub merge_time : TimePreferences → TimePreferences → TimePreferences
-merge_time a b = record { locale_preferences = merge a.locale_preferences b.locale_preferences; numbering_system = option_or b.numbering_system a.numbering_system; hour_cycle = option_or b.hour_cycle a.hour_cycle }
-
-abbrev pub time_of_format : FormatPreferences → TimePreferences
-time_of_format f = record { locale_preferences = f.locale_preferences; numbering_system = f.numbering_system; hour_cycle = f.hour_cycle }

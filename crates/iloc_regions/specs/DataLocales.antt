@@ -1,4 +1,6 @@
--- Data locales: language, script, region, variant and subdivision.
+-- Data locales, by which data is looked up: language, script, variant, and a region or a subdivision of it.
+-- A text means one where it is small and its keyword, if it has one, is `sd`, the regional subdivision of UTS #35 (`-u-sd-`).
+-- What a data locale stands for, and how it is printed, is this project's rule, as in the Rust crate.
 use Rattle.std.specs.Prelude.{◌≡◌, ℕ, Bool, IfSome, List, [], ◌∷◌, ◌++◌, Option, Some, None, option_map, option_and_then, option_to_list, codes, if◌then◌else◌}
 use Rattle.std.specs.Option.{option_or}
 use Rattle.std.specs.Result.{result_ok}
@@ -11,6 +13,8 @@ use Rattle.iloc_grammar.specs.Faults.{Fault, InvalidExtension}
 use Rattle.iloc_small.specs.Small.{SmallLocale, locale_of_small, IsSmall, HasSmallFault}
 use Rattle.iloc_grammar.specs.Reading.{first_item}
 use Rattle.iloc_regions.specs.Subdivisions.{Subdivision, subdivision, subdivision_text}
+
+-- What is kept, and what it stands for.
 
 pub record DataLocale : Type 0 where
   pub language : List ℕ
@@ -34,7 +38,7 @@ pub record DataKey : Type 0 where
   pub region : Option Subdivision
   pub variant : Option (List ℕ)
 
--- the suffix of a whole region
+-- the suffix that stands for a whole region
 abbrev pub whole : List ℕ
 whole = codes "zzzz"
 
@@ -47,14 +51,17 @@ is_whole s = is_same s.suffix whole
 abbrev pub named_subdivision : List ℕ → Option Subdivision
 named_subdivision w = result_ok (subdivision w)
 
--- the subdivision where it is readable, else the region
+-- the subdivision where it is there and readable, else the region, else nothing
 abbrev pub region_part : DataLocale → Option Subdivision
 region_part d = option_or (option_and_then named_subdivision d.subdivision) (option_map whole_region d.region)
 
+-- data locales are equal where their keys are
 abbrev pub data_key : DataLocale → DataKey
 data_key d = record { language = d.language; script = d.script; region = region_part d; variant = d.variant }
 
--- the data locale with the given region part
+-- Reading.
+
+-- the data locale made of the given region part
 abbrev pub made_of : List ℕ → Option (List ℕ) → Option Subdivision → Option (List ℕ) → DataLocale
 made_of l s part v = record { language = l; script = s; region = option_map (λ p. p.region) part; variant = v; subdivision = option_map subdivision_text part }
 
@@ -66,7 +73,7 @@ agreed (Some r) s = if is_same r s.region then s else whole_region r
 abbrev pub sd : List ℕ
 sd = codes "sd"
 
--- the region part that a region and a keyword name; only `sd` with a readable subdivision is taken
+-- the region part that a region and a keyword name; no keyword but `sd` with a readable subdivision is taken
 abbrev pub small_part : Option (List ℕ) → Option (List ℕ × Option (List ℕ)) → Option (Option Subdivision)
 small_part region None = Some (option_map whole_region region)
 small_part region (Some k) = if is_same k.0 sd then option_map (λ s. Some (agreed region s)) (option_and_then named_subdivision k.1) else None
@@ -86,12 +93,13 @@ pub data HasDataFault (T : ℕ → Bool) (t : List ℕ) : Fault → Type 0 where
   not_small : {f : Fault} → HasSmallFault T t f → HasDataFault T t f
   no_subdivision : {r : SmallLocale} → IsSmall T t r → data_of_small r ≡ None → HasDataFault T t InvalidExtension
 
--- Printing: the subdivision is spelled after `u-sd` unless it is the whole region; `true` is left out.
+-- Printing: what is kept, and the subdivision after `u-sd` where it is readable and not a whole region.
+-- One that spells `true` is left out, as the value of a keyword.
 
 abbrev pub subdivision_value : List ℕ → List (List ℕ)
 subdivision_value w = if is_true (lower w) then [] else lower w ∷ []
 
--- the keyword `sd` with its value, where there is a part of a region
+-- the subdivision that is printed
 abbrev pub subdivision_keyword : DataLocale → Option (List ℕ)
 subdivision_keyword d = option_and_then (λ w. option_and_then (λ s. if is_whole s then None else Some w) (named_subdivision w)) d.subdivision
 

@@ -1,4 +1,4 @@
--- The orders of subdivisions and of data locales.
+-- The orders of subdivisions and of data locales, which are compared by what they stand for. This project's rule, as in the Rust crate.
 use Rattle.std.specs.Ordering.{on, then_cmp}
 use Rattle.std.specs.Option.{option_cmp}
 use Rattle.std.specs.declared.cmp.Ordering.{Ordering}

@@ -2,7 +2,7 @@
 use Rattle.std.proofs.Common.{◌≡◌, ◌≤◌, ℕ, Bool, List, [], length, refl, subst, arith, Option, Some, None, IfSome, option_map, option_to_list}
 use Rattle.std.specs.List.{AllByRecursion}
 use Rattle.iloc_grammar.specs.Meaning.{Locale, normal_values}
-use Rattle.iloc_small.specs.Small.{SmallLocale, small_identifier, keyword_of_small, small_written, keyword_extension, IsSmall}
+use Rattle.iloc_small.specs.Small.{WrittenKeyword, SmallLocale, small_identifier, keyword_of_small, small_written, keyword_extension, IsSmall}
 use Rattle.iloc_small.specs.Inline.{IsInline, HasFewValues}
 use Rattle.iloc_small.proofs.SmallLaws.{meaning_small}
 
@@ -31,6 +31,6 @@ small_is_inline {T = T} t r h =
       no_others = subst (λ (M : Locale). M.others ≡ []) m refl;
     }
   where
-    few_values : (k : Option (ℕ × (List ℕ × List (List ℕ)))) → IfSome k (λ k. length (normal_values k.1.1) ≤ 1) → AllByRecursion (λ e. HasFewValues e.1) (keyword_extension k)
+    few_values : (k : Option WrittenKeyword) → IfSome k (λ k. length (normal_values k.values) ≤ 1) → AllByRecursion (λ e. HasFewValues e.1) (keyword_extension k)
     few_values None h = tt
     few_values (Some k) h = ((omega arith, tt), tt)

@@ -10,7 +10,7 @@ use Rattle.iloc_grammar.proofs.ReadBack.{pieces_spelled, OfWords}
 use Rattle.iloc_grammar.proofs.WordsLaws.{is_word-normal, normal-normal}
 use Rattle.iloc_grammar.proofs.ValuesLaws.{value_identifier}
 use Rattle.iloc_grammar.proofs.WellRead.{means_value, means_well_formed}
-use Rattle.iloc_small.specs.Small.{SmallLocale, identifier_of_small, keyword_of_small, locale_of_small, small_written, keyword_extension, IsSmall, IsSmallValue}
+use Rattle.iloc_small.specs.Small.{WrittenKeyword, small_keyword, SmallLocale, identifier_of_small, locale_of_small, small_written, keyword_extension, IsSmall, IsSmallValue}
 use Rattle.iloc_grammar.specs.Reading.{first_item}
 use Rattle.iloc_small.proofs.SmallLaws.{first-option, small_means}
 
@@ -29,8 +29,8 @@ identifier_is {T = T} r h = record { language = h.language; script = h.script; r
 
 -- its text is read as it
 
-abbrev with_u : Option (List ℕ × Option (List ℕ)) → Option (ℕ × (List ℕ × List (List ℕ)))
-with_u k = option_map (λ k. (117, keyword_of_small k)) k
+abbrev with_u : Option (List ℕ × Option (List ℕ)) → Option WrittenKeyword
+with_u k = option_map (λ k. record { byte = 117; key = k.0; values = option_to_list k.1 }) k
 
 few : (o : Option (List ℕ)) → length (option_to_list o) ≤ 1
 few None = omega arith
@@ -67,7 +67,7 @@ variant_stays : (o : Option (List ℕ)) → IfSome o (IsNormal Variant) → firs
 variant_stays None h = refl
 variant_stays (Some w) h = ap Some h.1
 
-keyword_stays : (k : Option (List ℕ × Option (List ℕ))) → IfSome k (λ k. IsNormal UnicodeKey k.0) → IfSome k (λ k. IfSome k.1 (λ w. IsNormal Attribute w × (is_true w ≡ false))) → option_map (λ (k : ℕ × (List ℕ × List (List ℕ))). (lower k.1.0, first_item (normal_values k.1.1))) (with_u k) ≡ k
+keyword_stays : (k : Option (List ℕ × Option (List ℕ))) → IfSome k (λ k. IsNormal UnicodeKey k.0) → IfSome k (λ k. IfSome k.1 (λ w. IsNormal Attribute w × (is_true w ≡ false))) → option_map (λ (k : WrittenKeyword). (lower k.key, first_item (normal_values k.values))) (with_u k) ≡ k
 keyword_stays None a b = refl
 keyword_stays (Some k) a b = λ i. Some (a.1 i, (ap first_item (values_stay k.1 b) ∙ first-option k.1) i)
 
@@ -86,7 +86,7 @@ small_back {T = T} r h = record {
     of_words None = tt
     of_words (Some k) = (tt, tt)
 
-    one_left : (k : Option (List ℕ × Option (List ℕ))) → IfSome k (λ k. IfSome k.1 (λ w. IsNormal Attribute w × (is_true w ≡ false))) → IfSome (with_u k) (λ k. length (normal_values k.1.1) ≤ 1)
+    one_left : (k : Option (List ℕ × Option (List ℕ))) → IfSome k (λ k. IfSome k.1 (λ w. IsNormal Attribute w × (is_true w ≡ false))) → IfSome (with_u k) (λ k. length (normal_values k.values) ≤ 1)
     one_left None b = tt
     one_left (Some k) b = subst (λ (n : ℕ). n ≤ 1) (sym (ap length (values_stay k.1 b))) (few k.1)
 
@@ -113,8 +113,8 @@ value_is (w ∷ ws) h = elim (is_true (lower w)) as (λ b. is_true (lower w) ≡
   | false ↦ λ e. (normal_is Attribute w h.0, e)
 ] refl
 
-abbrev parts_of : Option (ℕ × (List ℕ × List (List ℕ))) → Option (List ℕ × Option (List ℕ))
-parts_of k = option_map (λ k. (lower k.1.0, first_item (normal_values k.1.1))) k
+abbrev parts_of : Option WrittenKeyword → Option (List ℕ × Option (List ℕ))
+parts_of k = option_map small_keyword k
 
 pub read_is_small_value : {T : ℕ → Bool} (t : List ℕ) (r : SmallLocale) → IsSmall T t r → IsSmallValue T r
 read_is_small_value {T = T} t r h = subst (IsSmallValue T) (sym h.means) (record {
@@ -129,10 +129,10 @@ read_is_small_value {T = T} t r h = subst (IsSmallValue T) (sym h.means) (record
     words : HasWords T h.id
     words = h.grammatical.id.words
 
-    key_is : (k : Option (ℕ × (List ℕ × List (List ℕ)))) → IsWritten T (small_written h.id k) → IfSome (parts_of k) (λ k. IsNormal UnicodeKey k.0)
+    key_is : (k : Option WrittenKeyword) → IsWritten T (small_written h.id k) → IfSome (parts_of k) (λ k. IsNormal UnicodeKey k.0)
     key_is None g = tt
-    key_is (Some k) g = normal_is UnicodeKey k.1.0 g.extensions.0.1.keywords.0.0
+    key_is (Some k) g = normal_is UnicodeKey k.key g.extensions.0.1.keywords.0.0
 
-    one_value_is : (k : Option (ℕ × (List ℕ × List (List ℕ)))) → IsWritten T (small_written h.id k) → IfSome (parts_of k) (λ k. IfSome k.1 (λ w. IsNormal Attribute w × (is_true w ≡ false)))
+    one_value_is : (k : Option WrittenKeyword) → IsWritten T (small_written h.id k) → IfSome (parts_of k) (λ k. IfSome k.1 (λ w. IsNormal Attribute w × (is_true w ≡ false)))
     one_value_is None g = tt
-    one_value_is (Some k) g = value_is k.1.1 g.extensions.0.1.keywords.0.1
+    one_value_is (Some k) g = value_is k.values g.extensions.0.1.keywords.0.1

@@ -21,7 +21,7 @@ use Rattle.iloc_grammar.proofs.FaultLaws.{head-and-blocks}
 use Rattle.iloc_grammar.proofs.PiecesLaws.{pieces_nonempty}
 use Rattle.iloc_grammar.proofs.RuleTests.{Tests, tests_all, tests_word}
 use Rattle.iloc_small.specs.Computing.{has_small_variants, small_identifier_result, block_fault, has_small_keyword, is_u, is_small_block, keyword_read, blocks_result, after_identifier, small_result}
-use Rattle.iloc_small.specs.Small.{SmallIdentifier, SmallLocale, identifier_of_small, keyword_of_small, locale_of_small, small_identifier, IsSmallIdentifier, small_written, IsSmall, HasSmallIdentifierFault, no_language, no_identifier, SmallBlockFault, no_singleton, not_u, attribute, no_key, after_key, HasSmallFault, bad_head, bad_block}
+use Rattle.iloc_small.specs.Small.{SmallIdentifier, SmallLocale, identifier_of_small, keyword_of_small, locale_of_small, small_identifier, IsSmallIdentifier, WrittenKeyword, small_keyword, small_written, IsSmall, HasSmallIdentifierFault, no_language, no_identifier, SmallBlockFault, no_singleton, not_u, attribute, no_key, after_key, HasSmallFault, bad_head, bad_block}
 
 -- lists of at most one item
 
@@ -68,17 +68,14 @@ unicode_found u c e = rw e refl
 no_transform : (u : Unicode) (c : ℕ) → c ≡ 117 → find nat_cmp 116 ((c, unicode u) ∷ []) ≡ None
 no_transform u c e = rw e refl
 
-abbrev small_keyword : ℕ × (List ℕ × List (List ℕ)) → List ℕ × Option (List ℕ)
-small_keyword k = (lower k.1.0, first_item (normal_values k.1.1))
-
-pub meaning_small : {T : ℕ → Bool} (i : Identifier) (k : Option (ℕ × (List ℕ × List (List ℕ)))) → IsWritten T (small_written i k) → length i.variants ≤ 1 → IfSome k (λ k. length (normal_values k.1.1) ≤ 1) → locale_of_small (record { id = small_identifier i; keyword = option_map small_keyword k }) ≡ meaning (small_written i k)
+pub meaning_small : {T : ℕ → Bool} (i : Identifier) (k : Option WrittenKeyword) → IsWritten T (small_written i k) → length i.variants ≤ 1 → IfSome k (λ k. length (normal_values k.values) ≤ 1) → locale_of_small (record { id = small_identifier i; keyword = option_map small_keyword k }) ≡ meaning (small_written i k)
 meaning_small i None h v o = ap (λ (j : Identifier). record (meaning (small_written i None)) { id = j }) (same_variants i v)
 meaning_small i (Some k) h v o =
-    let u : Unicode = record { attributes = []; keywords = k.1 ∷ [] } in
-    let c = singleton {X = Extension} (k.0, unicode u) in
+    let u : Unicode = record { attributes = []; keywords = (k.key, k.values) ∷ [] } in
+    let c = singleton {X = Extension} (k.byte, unicode u) in
     λ j. record {
       id = same_variants i v j;
-      unicode = (ap (λ (ws : List (List ℕ)). record { attributes = []; keywords = (lower k.1.0, ws) ∷ [] }) (short_list (normal_values k.1.1) o) ∙ sym (unicode_found u c h.extensions.0.0)) j;
+      unicode = (ap (λ (ws : List (List ℕ)). record { attributes = []; keywords = (lower k.key, ws) ∷ [] }) (short_list (normal_values k.values) o) ∙ sym (unicode_found u c h.extensions.0.0)) j;
       transform = transform_part (sym (no_transform u c h.extensions.0.0) j);
       private = [];
       others = [];
@@ -218,7 +215,7 @@ module _ {T : ℕ → Bool} (t : List ℕ) (p : List ℕ) (ps : List (List ℕ))
       let values = and_parts (list_all (is_word Attribute) qs) (nat_le (length (normal_values qs)) 1) word.1 in
       record {
         id = h.written;
-        keyword = Some (c, (q, qs));
+        keyword = Some (record { byte = c; key = q; values = qs });
         grammatical = record { id = h.grammatical; extensions = ((eqb-true _ _ parts.0, record { attributes = tt; keywords = ((word.0, (all_words Attribute qs).holds values.0), tt); nonempty = omega arith }), tt); different = (refl, tt); private = tt };
         spelled = spelled_by ((c ∷ []) ∷ (q ∷ (qs ++ [])) ++ []) (ap (flat_map block_pieces) k ∙ ap (λ (l : List (List ℕ)). (c ∷ []) ∷ q ∷ (l ++ [])) (sym (append-nil qs)));
         one_variant = h.one_variant;
@@ -230,14 +227,14 @@ module _ {T : ℕ → Bool} (t : List ℕ) (p : List ℕ) (ps : List (List ℕ))
 has_small_block : {T : ℕ → Bool} → IsTable T → (t : List ℕ) (r : SmallLocale) → IsSmall T t r → (b : ℕ × List (List ℕ)) (bs : List (ℕ × List (List ℕ))) → tail_blocks (pieces t) ≡ b ∷ bs → is_small_block b bs ≡ true
 has_small_block {T = T} table t r h b bs e = from h.keyword h.grammatical h.one_value (sym e ∙ ap tail_blocks h.spelled ∙ blocks-spelling table (small_written h.id h.keyword) h.grammatical)
   where
-    from : (k : Option (ℕ × (List ℕ × List (List ℕ)))) → IsWritten T (small_written h.id k) → IfSome k (λ k. length (normal_values k.1.1) ≤ 1) → b ∷ bs ≡ blocks_of (small_written h.id k) → is_small_block b bs ≡ true
+    from : (k : Option WrittenKeyword) → IsWritten T (small_written h.id k) → IfSome k (λ k. length (normal_values k.values) ≤ 1) → b ∷ bs ≡ blocks_of (small_written h.id k) → is_small_block b bs ≡ true
     from None g o e = absurd (cc)
     from (Some k) g o e =
         let word = g.extensions.0.1.keywords.0 in
-        let here : is_small_block (k.0, k.1.0 ∷ k.1.1) [] ≡ true = and_from (is_u k.0) (has_small_keyword (k.1.0 ∷ k.1.1)) (eq-eqb _ _ g.extensions.0.0) (and_from (is_word UnicodeKey k.1.0) _ word.0 (and_from (list_all (is_word Attribute) k.1.1) _ ((all_words Attribute k.1.1).passes word.1) (le-leb _ _ o))) in
-        let b_is : b ≡ (k.0, k.1.0 ∷ (k.1.1 ++ [])) = cc in
+        let here : is_small_block (k.byte, k.key ∷ k.values) [] ≡ true = and_from (is_u k.byte) (has_small_keyword (k.key ∷ k.values)) (eq-eqb _ _ g.extensions.0.0) (and_from (is_word UnicodeKey k.key) _ word.0 (and_from (list_all (is_word Attribute) k.values) _ ((all_words Attribute k.values).passes word.1) (le-leb _ _ o))) in
+        let b_is : b ≡ (k.byte, k.key ∷ (k.values ++ [])) = cc in
         let bs_is : bs ≡ [] = cc in
-        (λ i. is_small_block (b_is i) (bs_is i)) ∙ ap (λ (l : List (List ℕ)). is_small_block (k.0, k.1.0 ∷ l) []) (append-nil k.1.1) ∙ here
+        (λ i. is_small_block (b_is i) (bs_is i)) ∙ ap (λ (l : List (List ℕ)). is_small_block (k.byte, k.key ∷ l) []) (append-nil k.values) ∙ here
 
 pub small_answer : {T : ℕ → Bool} → IsTable T → (t : List ℕ) → MatchResult (small_result T t) (IsSmall T t) (HasSmallFault T t)
 unfolding small_result after_identifier blocks_result

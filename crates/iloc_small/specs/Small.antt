@@ -1,4 +1,6 @@
--- Texts of at most one variant and one keyword, which are read without memory.
+-- Small texts: an identifier with at most one variant, and after it nothing, or `u`, a key and at most one value besides
+-- `true`, as in `en-US-u-ca-buddhist`. They are the part of UTS #35's unicode_locale_id that is read without memory;
+-- where it ends, and how the others are refused, is this project's rule.
 use Rattle.std.specs.Prelude.{◌≡◌, ◌≢◌, ℕ, ◌≤◌, Bool, true, false, List, [], ◌∷◌, length, map, Option, Some, None, IfSome, option_map, option_to_list}
 use Rattle.std.specs.Char.{is_ascii_alphanumeric}
 use Rattle.iloc_grammar.specs.Pieces.{pieces}
@@ -9,6 +11,8 @@ use Rattle.iloc_grammar.specs.Values.{IsNormal}
 use Rattle.iloc_grammar.specs.Reading.{first_item}
 use Rattle.iloc_grammar.specs.Faults.{Fault, InvalidLanguage, InvalidSubtag, InvalidExtension}
 use Rattle.iloc_grammar.specs.Blocks.{head, tail_blocks, first_piece}
+
+-- What is read.
 
 pub record SmallIdentifier : Type 0 where
   pub language : List ℕ
@@ -21,7 +25,7 @@ pub record SmallLocale : Type 0 where
   pub id : SmallIdentifier
   pub keyword : Option (List ℕ × Option (List ℕ))
 
--- the identifier and the locale of the same parts, the others empty
+-- The identifier and the locale of the same parts, the others empty.
 
 abbrev pub identifier_of_small : SmallIdentifier → Identifier
 identifier_of_small r = record { language = r.language; script = r.script; region = r.region; variants = option_to_list r.variant }
@@ -50,23 +54,35 @@ pub record IsSmallIdentifier (T : ℕ → Bool) (ps : List (List ℕ)) (r : Smal
   pub one_variant : length written.variants ≤ 1
   pub means : r ≡ small_identifier written
 
--- no extension, or one keyword after its singleton
-abbrev pub keyword_extension : Option (ℕ × (List ℕ × List (List ℕ))) → List (ℕ × Extension)
-keyword_extension None = []
-keyword_extension (Some k) = (k.0, unicode (record { attributes = []; keywords = k.1 ∷ [] })) ∷ []
+-- a keyword as it is written: its singleton, its key, and the pieces after it
+pub record WrittenKeyword : Type 0 where
+  pub byte : ℕ
+  pub key : List ℕ
+  pub values : List (List ℕ)
 
-abbrev pub small_written : Identifier → Option (ℕ × (List ℕ × List (List ℕ))) → Written
+-- its key and its first value besides `true`
+abbrev pub small_keyword : WrittenKeyword → List ℕ × Option (List ℕ)
+small_keyword k = (lower k.key, first_item (normal_values k.values))
+
+-- no extension, or one keyword after its singleton
+abbrev pub keyword_extension : Option WrittenKeyword → List (ℕ × Extension)
+keyword_extension None = []
+keyword_extension (Some k) = (k.byte, unicode (record { attributes = []; keywords = (k.key, k.values) ∷ [] })) ∷ []
+
+abbrev pub small_written : Identifier → Option WrittenKeyword → Written
 small_written i k = record { id = i; extensions = keyword_extension k; private = None }
 
 -- The text is an identifier with at most one variant, and perhaps one keyword with at most one value besides `true`.
 pub record IsSmall (T : ℕ → Bool) (t : List ℕ) (r : SmallLocale) : Type 0 where
   pub id : Identifier
-  pub keyword : Option (ℕ × (List ℕ × List (List ℕ)))
+  pub keyword : Option WrittenKeyword
   pub grammatical : IsWritten T (small_written id keyword)
   pub spelled : pieces t ≡ spelling (small_written id keyword)
   pub one_variant : length id.variants ≤ 1
-  pub one_value : IfSome keyword (λ k. length (normal_values k.1.1) ≤ 1)
-  pub means : r ≡ record { id = small_identifier id; keyword = option_map (λ k. (lower k.1.0, first_item (normal_values k.1.1))) keyword }
+  pub one_value : IfSome keyword (λ k. length (normal_values k.values) ≤ 1)
+  pub means : r ≡ record { id = small_identifier id; keyword = option_map small_keyword keyword }
+
+-- Why a text isn't small.
 
 -- The pieces are no identifier with at most one variant, for this reason.
 pub data HasSmallIdentifierFault (T : ℕ → Bool) (ps : List (List ℕ)) : Fault → Type 0 where
