@@ -2,8 +2,8 @@
 ghost use Rattle.std.specs.Prelude.{◌≡◌, ℕ, List, [], ◌∷◌, ◌++◌, take, MatchOption, MatchResult, IfOk, OnOk, OnErr, IsOkUnless, ◌<◌, vec_len};
 ghost use Rattle.std.specs.Io.{StartsWith};
 ghost use Rattle.std.specs.Io.KnownBytes.{Appends};
-ghost use Rattle.iloc_program.specs.Output.{line_answer, output, reply, IsOneLine};
-ghost use Rattle.iloc_program.specs.Answer.{langid_answer, refusal_text};
+ghost use Rattle.iloc_program.specs.Output.{line_answer, output, refusal_text, reply};
+ghost use Rattle.iloc_output.specs.Lines.{IsOneLine};
 
 use crate::{Mode, RunError};
 use iloc_langid::LanguageIdentifier;
@@ -32,7 +32,7 @@ fn write_refusal(error: &ParseError, replies: &mut Vec<u8>) -> Result<(), AllocE
 
 // Adds the normal text of an identifier, or why there is none.
 fn answer_langid(alloc: Global, line: &[u8], replies: &mut Vec<u8>) -> Result<(), AllocError>
-    ensures { OnOk result (replies.new.items ≡ replies.old.items ++ langid_answer line.now) }
+    ensures { OnOk result (replies.new.items ≡ replies.old.items ++ line_answer Mode.Langid line.now) }
 {
     match LanguageIdentifier::try_from_utf8(alloc, line) {
         Ok(identifier) => match identifier.write_to(replies) {
