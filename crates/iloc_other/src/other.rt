@@ -148,13 +148,15 @@ impl Other {
         ensures err { IfErr result (λ e. (e ≡ ParseError.OutOfMemory) × (is_word the_kind piece.now ≡ true)) }
         ensures succeeds { length self.old.1 < 4 → IsOk result }
     {
-        let Ok(key) = Subtag::try_from_utf8(piece) else {
-            return Ok(());
-        };
-        is_normal(&key);
-        self.keys
-            .push(alloc, key)
-            .map_err(|_| ParseError::OutOfMemory)
+        match Subtag::try_from_utf8(piece) {
+            Ok(key) => {
+                is_normal(&key);
+                self.keys
+                    .push(alloc, key)
+                    .map_err(|_| ParseError::OutOfMemory)
+            }
+            Err(_) => Ok(()),
+        }
     }
 }
 
