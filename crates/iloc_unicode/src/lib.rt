@@ -9,6 +9,7 @@
 
 pub mod attributes;
 pub mod keywords;
+pub mod printing;
 pub mod reader;
 pub mod unicode;
 

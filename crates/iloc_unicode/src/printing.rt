@@ -1,0 +1,105 @@
+//! Prints keywords and the whole extension.
+ghost use Rattle.std.specs.Prelude.{◌≡◌, Some};
+ghost use Rattle.std.specs.Ordering.{nat_cmp};
+ghost use Rattle.std.specs.Cmp.Lexicographic.{slice_cmp};
+ghost use Rattle.iloc_grammar.specs.Pieces.{join};
+ghost use Rattle.iloc_grammar.specs.Written.{fields_pieces};
+ghost use Rattle.iloc_grammar.specs.Values.{unicode_spelling, unicode_text};
+
+use crate::keywords::Keywords;
+use crate::unicode::Unicode;
+use iloc_writeable::compare::cmp_utf8;
+use iloc_writeable::pieces::Pieces;
+use iloc_writeable::{Sink, Writeable};
+use std::cmp::Ordering;
+use std::fmt;
+
+/// The pieces are each key, ascending, and the subtags of its value.
+impl Pieces for Keywords {
+    ghost pieces = { fields_pieces };
+
+    fn has_pieces(&self) -> bool {
+        !self.is_empty()
+    }
+
+    fn write_pieces<S: Sink>(&self, sink: &mut S, first: bool) -> fmt::Result {
+        self.as_slice().write_pieces(sink, first)
+    }
+}
+
+/// Prints each key, ascending, and the subtags of its value, with a hyphen between each two. An empty
+/// value prints nothing after its key.
+impl Writeable for Keywords {
+    ghost text = { λ keywords. join (fields_pieces keywords) };
+
+    #[tactic(auto, unfolding(iloc_grammar::specs::Pieces::join))]
+    fn write_to<S: Sink>(&self, sink: &mut S) -> fmt::Result {
+        self.write_joined(sink)
+    }
+
+    fn writeable_borrow(&self) -> Option<&str> {
+        None
+    }
+}
+
+impl fmt::Display for Keywords {
+    ghost output = { λ keywords. Some (join (fields_pieces keywords)) };
+
+    fn fmt<W: fmt::Write>(&self, f: &mut fmt::Formatter<W>) -> fmt::Result {
+        self.write_to(f)
+    }
+}
+
+impl Keywords {
+    /// The byte order of the printed text against the bytes.
+    pub fn strict_cmp(&self, other: &[u8]) -> Ordering
+        ensures { result ≡ slice_cmp nat_cmp (join (fields_pieces self.now)) other.now }
+    {
+        cmp_utf8(self, other)
+    }
+}
+
+/// The pieces are `u`, the attributes and the keywords; an empty extension has none.
+impl Pieces for Unicode {
+    ghost use Rattle.iloc_unicode.specs.UnicodeValue.{value_of};
+
+    ghost pieces = { λ u. unicode_spelling (value_of u) };
+
+    fn has_pieces(&self) -> bool {
+        !self.is_empty()
+    }
+
+    fn write_pieces<S: Sink>(&self, sink: &mut S, first: bool) -> fmt::Result {
+        if self.is_empty() {
+            return Ok(());
+        }
+        ("u", &self.attributes, &self.keywords).write_pieces(sink, first)
+    }
+}
+
+/// Prints `u`, the attributes and the keywords, with a hyphen between each two; of an empty extension
+/// nothing.
+impl Writeable for Unicode {
+    ghost use Rattle.iloc_unicode.specs.UnicodeValue.{value_of};
+
+    ghost text = { λ u. unicode_text (value_of u) };
+
+    #[tactic(auto, unfolding(iloc_grammar::specs::Pieces::join, iloc_grammar::specs::Values::unicode_text))]
+    fn write_to<S: Sink>(&self, sink: &mut S) -> fmt::Result {
+        self.write_joined(sink)
+    }
+
+    fn writeable_borrow(&self) -> Option<&str> {
+        None
+    }
+}
+
+impl fmt::Display for Unicode {
+    ghost use Rattle.iloc_unicode.specs.UnicodeValue.{value_of};
+
+    ghost output = { λ u. Some (unicode_text (value_of u)) };
+
+    fn fmt<W: fmt::Write>(&self, f: &mut fmt::Formatter<W>) -> fmt::Result {
+        self.write_to(f)
+    }
+}
