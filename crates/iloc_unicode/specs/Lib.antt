@@ -1,4 +1,5 @@
 pub mod KeywordsOrder
+pub mod Lends
 pub mod Reads
 pub mod UnicodeReads
 pub mod UnicodeValue

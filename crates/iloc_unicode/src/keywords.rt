@@ -1,12 +1,13 @@
 //! The keywords of a unicode extension.
 ghost use Rattle.std.specs.Prelude.{◌≡◌, ◌<◌, ◌==◌, ◌↔◌, ℕ, List, [], ◌∷◌, ◌++◌, true, length, IsSome, IsTrue, OnOk, OnErr, IfOk, IsOk, if◌then◌else◌};
+ghost use Rattle.std.specs.Borrow.{sem};
 ghost use Rattle.std.specs.Fn.{CalledAt};
 ghost use Rattle.std.specs.FinMap.{find, put};
 ghost use Rattle.std.specs.Iterator.{IsFiniteIterable, Drains, YieldsFirstBy, item_count};
 ghost use Rattle.std.specs.List.Retain.{IsFiltered};
 ghost use Rattle.std.specs.Map.{remove_entry};
 ghost use Rattle.std.specs.BTreeMap.{is_at};
-ghost use Rattle.std.specs.Option.{option_copied, is_some};
+ghost use Rattle.std.specs.Option.{option_copied, option_copied_mut, is_some};
 ghost use Rattle.std.specs.Ordering.{as_partial_cmp};
 ghost use Rattle.std.specs.Cmp.{partial_order_from_agreeing_total};
 ghost use Rattle.std.proofs.Common.{refl};
@@ -43,6 +44,8 @@ impl Model for Keywords {
 }
 
 impl Keywords {
+    ghost use Rattle.iloc_unicode.specs.Lends.{lends_value};
+
     /// The empty map.
     pub fn new() -> Self
         ensures { result ≡ [] }
@@ -98,6 +101,14 @@ impl Keywords {
         ensures { option_copied result ≡ find word_cmp key.now self.now }
     {
         self.map.get(key)
+    }
+
+    /// The value of the key, for writing.
+    pub fn get_mut(&mut self, key: &Key) -> Option<&mut Value>
+        ensures* writes_back { sem 𝓛 (lends_value self.entry key.now result) }
+        ensures value { option_copied_mut result ≡ find word_cmp key.now self.old }
+    {
+        self.map.get_mut(key)
     }
 
     /// Whether the key is there.

@@ -1,0 +1,13 @@
+-- The text of a subdivision is a subtag, and read as the subdivision.
+use Rattle.std.proofs.Common.{◌≡◌, ℕ, List, ◌++◌, Ok, sym, ap₂, ◌∙◌, subst}
+use Rattle.iloc_grammar.specs.Words.{Subtag, lower}
+use Rattle.iloc_grammar.specs.Values.{IsNormal}
+use Rattle.iloc_regions.specs.Subdivisions.{Subdivision, IsSubdivision, subdivision, subdivision_text}
+use Rattle.iloc_regions.proofs.SubdivisionLaws.{subdivision_back, subdivision_is_subtag, text_of_read}
+
+-- a lower-case region and a suffix are the text
+pub joined : (s : Subdivision) → IsSubdivision s → (a b t : List ℕ) → t ≡ a ++ b → a ≡ lower s.region → b ≡ s.suffix → t ≡ subdivision_text s
+joined s h a b t e ea eb = e ∙ ap₂ ◌++◌ ea (eb ∙ sym h.suffix.1)
+
+pub joined_normal : (s : Subdivision) → IsSubdivision s → (t : List ℕ) → t ≡ subdivision_text s → IsNormal Subtag t
+joined_normal s h t e = subst (IsNormal Subtag) (sym e) (subdivision_is_subtag s h, sym (text_of_read (subdivision_text s) s (subdivision_back s h)))

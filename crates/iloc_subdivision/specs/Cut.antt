@@ -1,0 +1,7 @@
+-- Where a text is cut into region and suffix.
+use Rattle.std.specs.Prelude.{ℕ, List, length, min}
+use Rattle.iloc_regions.specs.Subdivisions.{region_length}
+
+-- the length of the region, or of the text where that is shorter
+abbrev pub cut_of : List ℕ → ℕ
+cut_of t = min (region_length t) (length t)
