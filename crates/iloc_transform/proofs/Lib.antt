@@ -4,3 +4,4 @@ pub mod FieldsLemmas
 pub mod MapLemmas
 pub mod TransformLemmas
 pub mod TextLemmas
+pub mod FewLemmas

@@ -60,7 +60,7 @@ put_some k v (e ∷ es) h = elim (word_cmp k e.0) as (λ o. length (by_order o (
   | Greater ↦ λ z. absurd (omega (arith, z))
 ] h
 
-no_fields : (fs : written.Fields) → length (normal_fields fs) ≡ 0 → fs ≡ []
+pub no_fields : (fs : written.Fields) → length (normal_fields fs) ≡ 0 → fs ≡ []
 no_fields [] e = refl
 no_fields (f ∷ fs) e = absurd (put_some (lower f.0) (normal_values f.1) (normal_fields fs) e)
 

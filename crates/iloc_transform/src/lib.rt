@@ -7,6 +7,13 @@
 //! `iloc_shortvec`.
 #![tactic(auto)]
 
+ghost use Rattle.std.specs.Prelude.{◌≡◌, ◌≤◌, ℕ, List, [], length, IfSome};
+ghost use Rattle.iloc_grammar.specs.Words.{languages};
+ghost use Rattle.iloc_grammar.specs.Written as written;
+ghost use Rattle.iloc_grammar.specs.Faults.{front};
+ghost use Rattle.iloc_grammar.specs.ByBlocks.{TransformMeans};
+ghost use Rattle.iloc_transform.specs.TransformReading.{WantsMemory};
+
 pub mod fields;
 mod lang;
 pub mod transform;
@@ -15,3 +22,8 @@ pub mod value;
 pub use fields::{Fields, Key};
 pub use transform::Transform;
 pub use value::Value;
+
+/// A block that means an identifier of at most four variants, or none, and no field takes no memory.
+pub fn few_words()
+    ensures { (ps : List (List ℕ)) (m : written.Transform) → TransformMeans languages (front ps) m → IfSome m.id (λ i. length i.variants ≤ 4) → m.fields ≡ [] → ¬ (WantsMemory ps) }
+{}
