@@ -11,6 +11,8 @@ pub mod attributes;
 pub mod keywords;
 pub mod printing;
 pub mod reader;
+#[cfg(test)]
+mod tests;
 pub mod unicode;
 
 pub use attributes::Attributes;
