@@ -142,6 +142,38 @@ pub twice : IsRefused (codes "en-a-foo-A-!") DuplicatedExtension
 unfolding answer
 twice = refused (codes "en-a-foo-A-!") DuplicatedExtension refl
 
+pub language_and_variant : Normalises (codes "posix-posix") (codes "posix-posix")
+unfolding answer
+language_and_variant = normalises (codes "posix-posix") (codes "posix-posix") refl
+
+pub transform_of_language_and_variant : Normalises (codes "en-t-posix-posix") (codes "en-t-posix-posix")
+unfolding answer
+transform_of_language_and_variant = normalises (codes "en-t-posix-posix") (codes "en-t-posix-posix") refl
+
+pub others_on_both_sides : Normalises (codes "und-a-foo-t-foo-u-foo-w-foo-z-foo-x-foo") (codes "und-a-foo-t-foo-u-foo-w-foo-z-foo-x-foo")
+unfolding answer
+others_on_both_sides = normalises (codes "und-a-foo-t-foo-u-foo-w-foo-z-foo-x-foo") (codes "und-a-foo-t-foo-u-foo-w-foo-z-foo-x-foo") refl
+
+pub true_as_attribute : Normalises (codes "en-u-true") (codes "en-u-true")
+unfolding answer
+true_as_attribute = normalises (codes "en-u-true") (codes "en-u-true") refl
+
+pub twice_whatever_it_holds : IsRefused (codes "en-a-foo-A-toolonggg") DuplicatedExtension
+unfolding answer
+twice_whatever_it_holds = refused (codes "en-a-foo-A-toolonggg") DuplicatedExtension refl
+
+pub four_letters : IsRefused (codes "latn-US") InvalidLanguage
+unfolding answer
+four_letters = refused (codes "latn-US") InvalidLanguage refl
+
+pub empty_in_the_head : IsRefused (codes "en--us") InvalidSubtag
+unfolding answer
+empty_in_the_head = refused (codes "en--us") InvalidSubtag refl
+
+pub long_in_another : IsRefused (codes "en-a-foo-toolonggg") InvalidExtension
+unfolding answer
+long_in_another = refused (codes "en-a-foo-toolonggg") InvalidExtension refl
+
 -- identifiers
 
 unfoldable identifier_answer : List ℕ → Result (List ℕ) Fault
