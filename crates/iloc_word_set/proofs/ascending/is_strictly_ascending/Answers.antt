@@ -1,4 +1,4 @@
-use Rattle.std.proofs.Common.{◌∙◌, ap, sym}
+use Rattle.std.proofs.Common.{◌∙◌, sym}
 use Rattle.iloc_word_set.proofs.AscendingLaws.{ascends_on, ascends_no_more}
 use Rattle.iloc_word_set.proofs.ascending.is_strictly_ascending.Goals as goal
 

@@ -1,4 +1,4 @@
-use Rattle.std.proofs.Common.{◌∙◌, ap, subst, length, ◌≤◌, ◌<◌, arith}
+use Rattle.std.proofs.Common.{◌∙◌, ap}
 use Rattle.iloc_grammar.specs.Pieces.{join}
 use Rattle.iloc_word_set.proofs.PrintLaws.{join_one}
 use Rattle.iloc_word_set.proofs.traits.WordSetWriteable.writeable_borrow.Goals as goal

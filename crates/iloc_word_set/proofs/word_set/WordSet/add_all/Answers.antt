@@ -1,4 +1,4 @@
-use Rattle.std.proofs.Common.{◌≡◌, ◌∷◌, ◌++◌, ◌∙◌, sym, ap, subst, arith, length}
+use Rattle.std.proofs.Common.{◌≡◌, ◌∷◌, ◌++◌, ◌∙◌, sym, ap, subst, arith}
 use Rattle.iloc_grammar.specs.Meaning.{set_of}
 use Rattle.iloc_grammar.specs.Values.{IsAscending}
 use Rattle.iloc_grammar.proofs.WellRead.{set_of-ascending}

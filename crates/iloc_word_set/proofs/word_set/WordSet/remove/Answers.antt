@@ -1,4 +1,4 @@
-use Rattle.std.proofs.Common.{◌≡◌, List, ℕ, filter, ap, sym, ◌∙◌}
+use Rattle.std.proofs.Common.{ap, sym, ◌∙◌}
 use Rattle.std.specs.Prelude.{not, remove}
 use Rattle.iloc_grammar.specs.Words.{is_same}
 use Rattle.iloc_grammar.specs.Values.{IsNormal}
