@@ -2,7 +2,7 @@
 ghost use Rattle.std.specs.Prelude.{◌≡◌, Ok, Some};
 ghost use Rattle.iloc_subdivision.specs.Cut.{cut_of};
 
-use iloc_subtags::{ParseError, Region, Subtag, SubdivisionSuffix};
+use iloc_subtags::{ParseError, Region, SubdivisionSuffix, Subtag};
 use iloc_writeable::{Sink, Writeable};
 use std::cmp::min;
 use std::fmt;

@@ -13,7 +13,10 @@ fn reads_by_the_first_byte(rt: HostRuntime) -> Result<(), Fail> {
     assert_eq!(rt; america.suffix.as_str(), "bel");
     for text in ["gb", "ukabcde", "4a9b", "41"] {
         let refused = SubdivisionId::try_from_str(text);
-        assert!(rt; matches!(refused, Err(ParseError::InvalidExtension)), "{text}");
+        assert!(rt;
+            matches!(refused, Err(ParseError::InvalidExtension)),
+            "{text}"
+        );
     }
     for text in ["o", "", "gbzzzzzzz", "gb-z"] {
         let refused = SubdivisionId::try_from_str(text);

@@ -29,33 +29,67 @@ fn keywords_end_before_what_fits_nowhere(rt: HostRuntime) -> Result<(), Fail> {
     ];
     for (text, printed) in cases {
         let read = keywords(rt.alloc(), text)?;
-        assert_eq!(rt; format!(in rt.alloc(); "{read}")?.as_str(), printed, "{text}");
+        assert_eq!(rt;
+            format!(in rt.alloc(); "{read}")?.as_str(),
+            printed,
+            "{text}"
+        );
     }
     for text in ["hc-h12-a8", "a8", "!!", "ca-é"] {
-        assert!(rt; matches!(keywords(rt.alloc(), text), Err(ParseError::InvalidExtension)), "{text}");
+        assert!(rt;
+            matches!(
+                keywords(rt.alloc(), text),
+                Err(ParseError::InvalidExtension)
+            ),
+            "{text}"
+        );
     }
     Ok(())
 }
 
 #[test]
 fn attributes_end_before_the_first_key(rt: HostRuntime) -> Result<(), Fail> {
-    for (text, printed) in [("foo-bar", "bar-foo"), ("foo-ca-bar", "foo"), ("FOO-foo", "foo"), ("f", "")] {
+    for (text, printed) in [
+        ("foo-bar", "bar-foo"),
+        ("foo-ca-bar", "foo"),
+        ("FOO-foo", "foo"),
+        ("f", ""),
+    ] {
         let read = Attributes::try_from_str(rt.alloc(), text)?;
-        assert_eq!(rt; format!(in rt.alloc(); "{read}")?.as_str(), printed, "{text}");
+        assert_eq!(rt;
+            format!(in rt.alloc(); "{read}")?.as_str(),
+            printed,
+            "{text}"
+        );
     }
     Ok(())
 }
 
 #[test]
 fn an_extension_has_one_part_at_least(rt: HostRuntime) -> Result<(), Fail> {
-    for (text, printed) in [("U-FOO", "u-foo"), ("u-foo-!", "u-foo"), ("u-hc-h12-ca", "u-ca-hc-h12")] {
+    for (text, printed) in [
+        ("U-FOO", "u-foo"),
+        ("u-foo-!", "u-foo"),
+        ("u-hc-h12-ca", "u-ca-hc-h12"),
+    ] {
         let read = unicode(rt.alloc(), text)?;
-        assert_eq!(rt; format!(in rt.alloc(); "{read}")?.as_str(), printed, "{text}");
-        assert_eq!(rt; read.write_to_string(rt.alloc())?.as_str(), printed, "{text}");
+        assert_eq!(rt;
+            format!(in rt.alloc(); "{read}")?.as_str(),
+            printed,
+            "{text}"
+        );
+        assert_eq!(rt;
+            read.write_to_string(rt.alloc())?.as_str(),
+            printed,
+            "{text}"
+        );
         assert!(rt; read.writeable_borrow().is_none());
     }
     for text in ["u-!", "u-foo-a8", "u", "", "t-foo", "uu-foo", "-u-foo"] {
-        assert!(rt; matches!(unicode(rt.alloc(), text), Err(ParseError::InvalidExtension)), "{text}");
+        assert!(rt;
+            matches!(unicode(rt.alloc(), text), Err(ParseError::InvalidExtension)),
+            "{text}"
+        );
     }
     let nothing = Unicode::new();
     assert!(rt; nothing.is_empty() && nothing == Unicode::default());
@@ -74,7 +108,10 @@ fn the_other_wins(rt: HostRuntime) -> Result<(), Fail> {
     let mut copy = whole.clone()?;
     assert!(rt; copy == whole && copy.total_cmp(&whole) == Ordering::Equal);
     whole.extend(alloc, unicode(alloc, "u-bar-ca-hebrew-hc-h12")?)?;
-    assert_eq!(rt; format!(in alloc; "{whole}")?.as_str(), "u-bar-foo-ca-hebrew-hc-h12");
+    assert_eq!(rt;
+        format!(in alloc; "{whole}")?.as_str(),
+        "u-bar-foo-ca-hebrew-hc-h12"
+    );
     assert!(rt; copy.total_cmp(&whole) == Ordering::Less);
     copy.clear();
     assert!(rt; copy.is_empty());

@@ -25,7 +25,10 @@ fn extend_changes_both_parts_or_neither(rt: HostRuntime) -> Result<(), Fail> {
         Ok(()) => {
             assert_eq!(rt; whole.attributes.len(), 5);
             assert!(rt;
-                whole.keywords.strict_cmp(b"ca-buddhist-co-emoji-hc-h12-nu-latn-tz-uslax").is_eq()
+                whole
+                    .keywords
+                    .strict_cmp(b"ca-buddhist-co-emoji-hc-h12-nu-latn-tz-uslax")
+                    .is_eq()
             );
         }
         Err(_) => assert!(rt; whole == before),

@@ -45,7 +45,10 @@ fn each_call_of_the_list(rt: HostRuntime) -> Result<(), Fail> {
     value.extend(alloc, [yes, bar, foo, foo])?;
     assert_eq!(rt; value.subtag_count(), 5);
     assert!(rt; value.eq_str("foo-true-bar-foo-foo") && !value.eq_str("foo-true-bar-foo-fo"));
-    assert_eq!(rt; value.write_to_string(alloc)?.as_str(), "foo-true-bar-foo-foo");
+    assert_eq!(rt;
+        value.write_to_string(alloc)?.as_str(),
+        "foo-true-bar-foo-foo"
+    );
     assert!(rt; value.get_subtag(1) == Some(&yes) && value.get_subtag(5).is_none());
     assert!(rt; value.remove_subtag(1) == Some(yes) && value.remove_subtag(9).is_none());
     let copy = value.clone()?;
