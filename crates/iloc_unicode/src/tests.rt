@@ -1,6 +1,5 @@
 use crate::{Attributes, Keywords, Unicode};
 use iloc_litemap::LiteMap;
-use iloc_shortvec::ShortBoxSlice;
 use iloc_subtags::{Attribute, ParseError, Subtag, UnicodeKey as Key};
 use iloc_unicode_value::Value;
 use iloc_writeable::{LengthHint, Writeable};
@@ -154,7 +153,7 @@ fn each_call_of_the_map(rt: HostRuntime) -> Result<(), Fail> {
     let before = map.clear();
     assert!(rt; map.is_empty() && before == copy && map < copy);
     let single = Keywords::new_single(ca, Value::from_subtag(Some(h12)));
-    let other = Keywords::from(LiteMap::from_sorted_store_unchecked(ShortBoxSlice::new()));
+    let other = Keywords::from(LiteMap::new(alloc));
     assert!(rt; other == Keywords::default() && other != single);
     Ok(())
 }
