@@ -9,7 +9,7 @@ use iloc_tinystr::TinyAsciiStr;
 
 /// A kind of word of at most `N` bytes: which pieces it takes, their normal case, and its refusal.
 ///
-/// The marker types that have it, as `LanguageKind`, have no values: they name a kind in a type.
+/// The marker types that have it, as `LanguageKind`, only name a kind within a type.
 pub trait WordKind<const N: usize> {
     /// The kind in the definitions.
     ghost kind: { Kind };
