@@ -1,5 +1,5 @@
 -- Pieces that are, in whatever order and case, the words of a set.
-use Rattle.std.proofs.Common.{◌≡◌, ℕ, ◌+◌, Bool, true, false, ◌||◌, List, [], ◌∷◌, length, map, refl, sym, ap, ◌∙◌, subst, arith, true≢false, Option, Some, None, option_map, nat_eq, Ok}
+use Rattle.std.proofs.Common.{◌≡◌, ℕ, Bool, true, false, ◌||◌, List, [], ◌∷◌, length, map, refl, sym, ap, ◌∙◌, subst, arith, true≢false, Option, Some, None, option_map, nat_eq}
 use Rattle.std.specs.Option.{option_eq}
 use Rattle.std.specs.Cmp.Lexicographic.{pointwise, same_text, other_text}
 use Rattle.std.specs.List.{AllByRecursion, list_any, list_all}
@@ -11,7 +11,7 @@ use Rattle.std.specs.declared.cmp.Ordering.{Ordering}
 use Rattle.std.specs.declared.cmp.Ordering.TheVariants.{Less, Equal, Greater}
 use Rattle.std.proofs.lemmas.Bool.{and_parts, and_from, or_parts}
 use Rattle.std.proofs.lemmas.List.{length-map}
-use Rattle.iloc_grammar.specs.Words.{Language, Script, Region, Variant, is_word, IsWord, normal, lower, title, upper, word_cmp, is_same, languages}
+use Rattle.iloc_grammar.specs.Words.{Language, Script, Region, Variant, is_word, IsWord, lower, title, upper, word_cmp, is_same, languages}
 use Rattle.iloc_grammar.specs.Written.{Identifier, AllDifferent}
 use Rattle.iloc_grammar.specs.Meaning.{IdentifierMeans, set_of, map_of}
 use Rattle.iloc_grammar.specs.Values.{IsNormal, IsAscending}

@@ -1,5 +1,5 @@
 -- The normal text of an identifier.
-use Rattle.std.proofs.Common.{◌≡◌, ◌↔◌, ℕ, false, true, List, ◌∷◌, length, refl, sym, ap, ◌∙◌, subst, true≢false}
+use Rattle.std.proofs.Common.{◌≡◌, ℕ, false, true, List, length, sym, ap, ◌∙◌, subst, true≢false}
 use Rattle.iloc_grammar.specs.Pieces.{pieces}
 use Rattle.iloc_grammar.specs.Words.{Language, IsWord, languages}
 use Rattle.iloc_grammar.specs.Written.{Identifier}
@@ -10,7 +10,7 @@ use Rattle.iloc_grammar.specs.Steps.{IdentifierChain}
 use Rattle.iloc_grammar.proofs.IdentifierLaws.{one_meaning}
 use Rattle.iloc_grammar.proofs.IdentifierTexts.{identifier_means_again, same_identifier_meaning, length-identifier_means, identifier_chain_to_text}
 use Rattle.iloc_subtags.specs.declared.parse_error.ParseError.TheVariants.{OutOfMemory}
-use Rattle.iloc_langid.specs.Normalizing.{IsTextOf, IsNormalizedFrom, RefusesNormalizing}
+use Rattle.iloc_langid.specs.Normalizing.{IsNormalizedFrom, RefusesNormalizing}
 
 -- the text of the meaning is the normal text
 pub is_normalized : (input : List ℕ) (i : Identifier) (t : List ℕ) → IdentifierMeans languages (pieces input) i → t ≡ identifier_text i → IsNormalizedFrom input t

@@ -1,12 +1,12 @@
 -- Identifiers with at most one variant, read from the left.
-use Rattle.std.proofs.Common.{◌≡◌, ◌≢◌, ℕ, ◌≤◌, Bool, true, false, cond, List, [], ◌∷◌, ◌++◌, length, map, refl, sym, ap, ◌∙◌, subst, arith, append-nil, Option, Some, None, option_map, Result, Ok, Err, true≢false}
+use Rattle.std.proofs.Common.{◌≡◌, ◌≢◌, ℕ, ◌≤◌, Bool, true, false, cond, List, [], ◌∷◌, ◌++◌, length, map, refl, sym, ap, ◌∙◌, subst, arith, append-nil, option_map, Ok, Err, true≢false}
 use Rattle.std.specs.List.{AllByRecursion}
 use Rattle.iloc_grammar.specs.Words.{Language, Script, Region, Variant, is_word, IsWord, lower, title, upper, word_cmp, languages}
 use Rattle.iloc_grammar.specs.Written.{Identifier, AllDifferent, HasWords, identifier_pieces}
 use Rattle.iloc_grammar.specs.Blocks.{first_piece}
 use Rattle.iloc_grammar.specs.Reading.{first_item, take_first, skip_first, passing, past, rest_of, after_script, after_region, front_of, after_front}
 use Rattle.iloc_grammar.proofs.ReadingLaws.{all_while, pieces-front_of, front_words, front_of-pieces, after_front-pieces}
-use Rattle.iloc_small.specs.Small.{SmallIdentifier, IsSmallIdentifier, HasSmallIdentifierFault, no_language, no_identifier}
+use Rattle.iloc_small.specs.Small.{SmallIdentifier, IsSmallIdentifier, no_language, no_identifier}
 use Rattle.iloc_subtags.specs.declared.parse_error.ParseError.{ParseError}
 use Rattle.iloc_subtags.specs.declared.parse_error.ParseError.TheVariants.{InvalidLanguage, InvalidSubtag, InvalidExtension, DuplicatedExtension, OutOfMemory}
 use Rattle.iloc_langid.specs.SmallReads.{Parts, small_of, SmallReadsAs, front_parts, after_parts, SmallFrontGives}

@@ -149,7 +149,7 @@ impl fmt::Debug for LanguageIdentifier {
     ghost debug_output = { λ i. Some (identifier_text (value_of i)) };
 
     fn fmt<W: fmt::Write>(&self, f: &mut fmt::Formatter<W>) -> fmt::Result {
-        self.write_to(f)
+        fmt::Display::fmt(self, f)
     }
 }
 

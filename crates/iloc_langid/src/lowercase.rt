@@ -48,7 +48,7 @@ impl<'a> Pieces for Lowercase<'a> {
     ghost pieces = { λ i. identifier_pieces (lower_identifier (value_of i.0.now)) };
 
     fn has_pieces(&self) -> bool {
-        true
+        self.0.has_pieces()
     }
 
     fn write_pieces<S: Sink>(&self, sink: &mut S, first: bool) -> fmt::Result {

@@ -76,9 +76,9 @@ pub fn read_head(
     ensures reads { ReadsAs (head (left iter.old)) result }
     ensures rest { OnOk result (left iter.new ≡ after_head (left iter.old)) }
 {
-    let identifier = front(alloc, iter)?;
+    let head = front(alloc, iter)?;
     match iter.peek() {
         Some(piece) if piece.len() != 1 => Err(ParseError::InvalidSubtag),
-        _ => Ok(identifier),
+        _ => Ok(head),
     }
 }

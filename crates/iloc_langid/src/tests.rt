@@ -4,10 +4,17 @@ use iloc_subtags::{Language, ParseError, Region, Script, Variant};
 use iloc_writeable::{LengthHint, Pieces, Writeable};
 use std::alloc::Global;
 use std::cmp::Ordering;
+use std::hash::{DefaultHasher, Hash, Hasher};
 use std::test::Fail;
 
 fn read(alloc: Global, text: &str) -> Result<LanguageIdentifier, ParseError> {
     LanguageIdentifier::try_from_str(alloc, text)
+}
+
+fn hash_of<T: Hash>(value: &T) -> u64 {
+    let mut hasher = DefaultHasher::new();
+    value.hash(&mut hasher);
+    hasher.finish()
 }
 
 #[test]
@@ -19,6 +26,11 @@ fn reads_and_prints(rt: HostRuntime) -> Result<(), Fail> {
         ("posix-posix", "posix-posix"),
         ("en-abcdefgh", "en-abcdefgh"),
         ("und", "und"),
+        ("und-001", "und-001"),
+        ("und-Mymr", "und-Mymr"),
+        ("my-Mymr-MM", "my-Mymr-MM"),
+        ("my-Mymr-MM-posix", "my-Mymr-MM-posix"),
+        ("zh-macos-posix", "zh-macos-posix"),
         ("es-419", "es-419"),
         ("sl-1994-ROZAJ-biske", "sl-1994-biske-rozaj"),
         (
@@ -39,6 +51,46 @@ fn reads_and_prints(rt: HostRuntime) -> Result<(), Fail> {
         assert_eq!(rt; shown.as_str(), twice.as_str());
         assert!(rt; identifier.normalizing_eq(text));
         assert!(rt; identifier == identifier.clone()?);
+        let again = read(alloc, normal)?;
+        assert!(rt; identifier == again);
+        assert!(rt; identifier.total_cmp(&again) == Ordering::Equal);
+        assert_eq!(rt; hash_of(&identifier), hash_of(&again));
+    }
+    Ok(())
+}
+
+#[test]
+fn lends_the_language_alone(rt: HostRuntime) -> Result<(), Fail> {
+    let alloc = rt.alloc();
+    assert_eq!(rt;
+        LanguageIdentifier::unknown().writeable_borrow(),
+        Some("und")
+    );
+    assert_eq!(rt; read(alloc, "EN")?.writeable_borrow(), Some("en"));
+    for text in ["en-Latn", "en-US", "en-posix"] {
+        assert_eq!(rt; read(alloc, text)?.writeable_borrow(), None);
+    }
+    Ok(())
+}
+
+#[test]
+fn differs_in_each_part(rt: HostRuntime) -> Result<(), Fail> {
+    let alloc = rt.alloc();
+    let whole = read(alloc, "en-Latn-US-posix")?;
+    for text in [
+        "de-Latn-US-posix",
+        "en-Cyrl-US-posix",
+        "en-US-posix",
+        "en-Latn-GB-posix",
+        "en-Latn-posix",
+        "en-Latn-US-macos",
+        "en-Latn-US",
+        "en-Latn-US-macos-posix",
+    ] {
+        let other = read(alloc, text)?;
+        assert!(rt; whole != other, "{text}");
+        assert!(rt; whole.total_cmp(&other) != Ordering::Equal, "{text}");
+        assert!(rt; !whole.normalizing_eq(text), "{text}");
     }
     Ok(())
 }
@@ -85,6 +137,49 @@ fn reads_the_head_of_a_locale(rt: HostRuntime) -> Result<(), Fail> {
     }
     let refused = LanguageIdentifier::try_from_locale_bytes(alloc, b"en-foo-u-ca");
     assert_eq!(rt; refused.err(), Some(ParseError::InvalidSubtag));
+    Ok(())
+}
+
+#[test]
+fn compares_with_texts_by_their_bytes(rt: HostRuntime) -> Result<(), Fail> {
+    let alloc = rt.alloc();
+    let normal_texts = [
+        "en",
+        "en-US",
+        "en-Latn-US",
+        "en-posix",
+        "en-macos-posix",
+        "und",
+        "und-001",
+        "es-419",
+        "zh-Hans",
+        "german-DE",
+    ];
+    let more_texts = [
+        "", "en!", "en-", "en-US-", "en-us", "EN", "-", "zz", "en\u{e9}",
+    ];
+    for text in normal_texts {
+        let identifier = read(alloc, text)?;
+        for other in normal_texts.iter().chain(more_texts.iter()) {
+            assert!(rt;
+                identifier.strict_cmp(other.as_bytes()) == text.as_bytes().cmp(other.as_bytes()),
+                "{text} and {other}"
+            );
+        }
+    }
+    Ok(())
+}
+
+#[test]
+fn reads_one_variant_as_the_whole_reader_does(rt: HostRuntime) -> Result<(), Fail> {
+    let whole = read(rt.alloc(), "de-at-foobar")?;
+    let (language, script, region, variant) = LanguageIdentifier::try_from_utf8_with_single_variant(
+        b"de-at-foobar",
+    )?;
+    assert_eq!(rt; language, whole.language);
+    assert_eq!(rt; script, whole.script);
+    assert_eq!(rt; region, whole.region);
+    assert_eq!(rt; variant.as_ref(), whole.variants.first());
     Ok(())
 }
 
@@ -141,6 +236,10 @@ fn normalizes(rt: HostRuntime) -> Result<(), Fail> {
     assert_eq!(rt; made.as_str(), "en-US");
     let refused = LanguageIdentifier::normalize_utf8(alloc, b"en-\xff");
     assert_eq!(rt; refused.err(), Some(ParseError::InvalidSubtag));
+    let refused = LanguageIdentifier::normalize(alloc, "x-foo");
+    assert_eq!(rt; refused.err(), Some(ParseError::InvalidLanguage));
+    let sorted = LanguageIdentifier::normalize_utf8(alloc, b"SL-rozaj-BISKE-1994")?;
+    assert_eq!(rt; sorted.as_str(), "sl-1994-biske-rozaj");
     Ok(())
 }
 
@@ -157,6 +256,7 @@ fn converts(rt: HostRuntime) -> Result<(), Fail> {
     assert!(rt; LanguageIdentifier::from(region) == read(alloc, "und-CA")?);
     let parts = <(Language, Option<Script>, Option<Region>)>::from(&whole);
     assert_eq!(rt; parts.0, language);
+    assert_eq!(rt; parts.1, script);
     assert_eq!(rt; parts.2, region);
     assert!(rt; LanguageIdentifier::unknown().is_unknown());
     assert!(rt; !whole.is_unknown());
@@ -171,17 +271,17 @@ fn converts(rt: HostRuntime) -> Result<(), Fail> {
 fn sorts_two_thousand_variants(rt: HostRuntime) -> Result<(), Fail> {
     let alloc = rt.alloc();
     let mut text = String::from_str(alloc, "en")?;
+    let mut ascending = String::from_str(alloc, "en")?;
     for n in 0..2000u32 {
         let left = 1999 - n;
-        let piece = format!(in alloc; "-{left:05}")?;
-        text.push_str(piece.as_str())?;
+        text.push_str(format!(in alloc; "-{left:05}")?.as_str())?;
+        ascending.push_str(format!(in alloc; "-{n:05}")?.as_str())?;
     }
     let identifier = read(alloc, text.as_str())?;
     assert_eq!(rt; identifier.variants.len(), 2000);
     let printed = identifier.write_to_string(alloc)?;
     assert_eq!(rt; printed.as_str().len(), 12002);
-    assert!(rt; printed.as_str().starts_with("en-00000-00001-00002-"));
-    assert!(rt; printed.as_str().ends_with("-01998-01999"));
+    assert_eq!(rt; printed.as_str(), ascending.as_str());
     text.push_str("-01999")?;
     assert_eq!(rt;
         read(alloc, text.as_str()).err(),

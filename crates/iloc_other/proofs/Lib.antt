@@ -3,3 +3,4 @@ pub mod OtherLemmas
 pub mod SingletonLemmas
 pub mod TextLemmas
 pub mod PrintLemmas
+pub mod EqualityLemmas

@@ -1,5 +1,5 @@
 -- Pieces of other extensions that are taken one at a time.
-use Rattle.std.proofs.Common.{◌≡◌, ℕ, suc, ◌+◌, ◌<◌, ◌≤◌, Bool, true, false, cond, List, [], ◌∷◌, ◌++◌, length, map, filter, refl, sym, ap, ◌∙◌, subst, arith, append_assoc, append-nil, length-append, Option, Some, None, true≢false, if◌then◌else◌, All, rules, ◌==◌}
+use Rattle.std.proofs.Common.{◌≡◌, ℕ, suc, ◌+◌, ◌<◌, Bool, true, false, cond, List, [], ◌∷◌, ◌++◌, length, map, filter, refl, sym, ap, ◌∙◌, subst, arith, append_assoc, append-nil, length-append, Option, Some, None, if◌then◌else◌, All, rules, ◌==◌}
 use Rattle.std.specs.List.{AllByRecursion}
 use Rattle.std.specs.Char.{is_ascii_alphanumeric}
 use Rattle.std.specs.Str.{IsUtf8}
@@ -9,7 +9,7 @@ use Rattle.std.proofs.lemmas.List.Elements.{All-cons}
 use Rattle.std.proofs.lemmas.Str.{IsUtf8-from_ascii}
 use Rattle.std.proofs.lemmas.Str.Ascii.{IsAscii-from_all}
 use Rattle.iloc_grammar.specs.Words.{Subtag, is_word, lower}
-use Rattle.iloc_grammar.specs.Written.{IsOther, kept}
+use Rattle.iloc_grammar.specs.Written.{kept}
 use Rattle.iloc_grammar.specs.Faults as faults
 use Rattle.iloc_grammar.specs.Reading.{take_first, skip_first, passing, past}
 use Rattle.iloc_fronts.specs.Fronts.{has_other_length, other_front, OtherRead, OtherFault, no_word}

@@ -1,28 +1,59 @@
--- The printed texts, by the pieces that are written.
-use Rattle.std.proofs.Common.{◌≡◌, ℕ, ◌<◌, Bool, true, false, cond, List, [], ◌∷◌, ◌++◌, length, nat_lt, refl, sym, ap, ◌∙◌, arith}
-use Rattle.std.specs.List.{flat_map, join_with_byte}
+-- The pieces that are written.
+use Rattle.std.proofs.Common.{◌≡◌, ℕ, Bool, true, false, not, cond, List, [], ◌∷◌, length, nat_lt, ◌==◌, IsTrue, ◌↔◌, refl, sym, ap, ◌∙◌, arith}
+use Rattle.std.specs.List.{flat_map}
 use Rattle.std.proofs.lemmas.Bool.Decides.{nat_tests}
+use Rattle.iloc_writeable.specs.Pieces.{hyphened, is_there}
 use Rattle.iloc_writeable.proofs.PiecesLemmas.{flat_map_words}
-use Rattle.iloc_grammar.specs.Pieces.{join}
-use Rattle.iloc_grammar.specs.Values.{private_text, other_text}
+use Rattle.iloc_grammar.specs.Values.{private_spelling, other_spelling}
 use Rattle.iloc_grammar.proofs.PartTexts.{private_spelling_is, private_spelling_none, other_spelling_is}
 
-pub private_text_none : (ws : List (List ℕ)) → ws ≡ [] → private_text ws ≡ []
-unfolding private_text join
-private_text_none ws e = rw e (ap join private_spelling_none)
+-- where there is no piece, nothing is written
+nothing_written : (first : Bool) (ps : List (List ℕ)) → ps ≡ [] → [] ≡ hyphened first ps
+nothing_written first ps e = none first ∙ ap (hyphened first) (sym e)
+  where
+    none : (first : Bool) → [] ≡ hyphened first []
+    none true = refl
+    none false = refl
 
-pub private_text_some : (ws vs : List (List ℕ)) → vs ≡ ws → (ws ≡ [] → ⊥) → join_with_byte 45 ((120 ∷ []) ∷ flat_map (λ w. w ∷ []) vs) ≡ private_text ws
-unfolding private_text join
-private_text_some [] vs e n = absurd (n refl)
-private_text_some (w ∷ ws) vs e n = ap (λ l. join ((120 ∷ []) ∷ l)) (flat_map_words vs ∙ e) ∙ ap join (sym (private_spelling_is w ws))
+-- a private list
 
-other_lt : (n : ℕ) → (n ≡ 0 → ⊥) → nat_lt 0 n ≡ true
-other_lt n h = grind (arith, nat_tests)
+is_not : (b : Bool) → (b ≡ true → ⊥) → not b ≡ true
+is_not true n = absurd (n refl)
+is_not false n = refl
 
-pub other_text_none : (o : ℕ × List (List ℕ)) → length o.1 ≡ 0 → other_text o ≡ []
-unfolding other_text join
-other_text_none o e = ap join (other_spelling_is o ∙ ap (λ n. cond (nat_lt 0 n) ((o.0 ∷ []) ∷ o.1) []) e)
+pub private_there : (ws : List (List ℕ)) (b : Bool) → (IsTrue b ↔ (ws ≡ [])) → not b ≡ is_there (private_spelling ws)
+private_there [] b h = ap not (h.1 refl) ∙ ap is_there (sym private_spelling_none)
+private_there (w ∷ ws) b h = is_not b (λ e. no_word (h.0 e)) ∙ ap is_there (sym (private_spelling_is w ws))
+  where
+    no_word : w ∷ ws ≡ [] → ⊥
+    no_word e = cc
 
-pub other_text_some : (o : ℕ × List (List ℕ)) (c : List ℕ) (vs : List (List ℕ)) → c ≡ o.0 ∷ [] → vs ≡ o.1 → (length o.1 ≡ 0 → ⊥) → join_with_byte 45 (c ∷ flat_map (λ w. w ∷ []) vs) ≡ other_text o
-unfolding other_text join
-other_text_some o c vs d e n = (λ i. join (d i ∷ (flat_map_words vs ∙ e) i)) ∙ ap (λ b. join (cond b ((o.0 ∷ []) ∷ o.1) [])) (sym (other_lt (length o.1) n)) ∙ ap join (sym (other_spelling_is o))
+pub private_none : (first : Bool) (ws : List (List ℕ)) → ws ≡ [] → [] ≡ hyphened first (private_spelling ws)
+private_none first ws e = nothing_written first (private_spelling ws) (ap private_spelling e ∙ private_spelling_none)
+
+pub private_some : (ws vs : List (List ℕ)) → vs ≡ ws → (ws ≡ [] → ⊥) → (120 ∷ []) ∷ flat_map (λ w. w ∷ []) vs ≡ private_spelling ws
+private_some [] vs e n = absurd (n refl)
+private_some (w ∷ ws) vs e n = ap (λ l. (120 ∷ []) ∷ l) (flat_map_words vs ∙ e) ∙ sym (private_spelling_is w ws)
+
+-- another extension
+
+other_test : (n : ℕ) → nat_lt 0 n ≡ not (n == 0)
+other_test n = grind (arith, nat_tests)
+
+spelling_by : (o : ℕ × List (List ℕ)) → other_spelling o ≡ cond (not (length o.1 == 0)) ((o.0 ∷ []) ∷ o.1) []
+spelling_by o = other_spelling_is o ∙ ap (λ b. cond b ((o.0 ∷ []) ∷ o.1) []) (other_test (length o.1))
+
+there_by : (b : Bool) (p : List ℕ) (ps : List (List ℕ)) → b ≡ is_there (cond b (p ∷ ps) [])
+there_by true p ps = refl
+there_by false p ps = refl
+
+pub other_there : (o : ℕ × List (List ℕ)) (vs : List (List ℕ)) → vs ≡ o.1 → not (length vs == 0) ≡ is_there (other_spelling o)
+other_there o vs e = ap (λ (l : List (List ℕ)). not (length l == 0)) e ∙ there_by (not (length o.1 == 0)) (o.0 ∷ []) o.1 ∙ ap is_there (sym (spelling_by o))
+
+pub other_none : (first : Bool) (o : ℕ × List (List ℕ)) (vs : List (List ℕ)) → vs ≡ o.1 → (length vs == 0) ≡ true → [] ≡ hyphened first (other_spelling o)
+other_none first o vs e h = nothing_written first (other_spelling o) (spelling_by o ∙ ap (λ b. cond (not b) ((o.0 ∷ []) ∷ o.1) []) (ap (λ (l : List (List ℕ)). length l == 0) (sym e) ∙ h))
+
+pub other_some : (o : ℕ × List (List ℕ)) (c : List ℕ) (vs : List (List ℕ)) → c ≡ o.0 ∷ [] → vs ≡ o.1 → (length vs == 0) ≡ false → c ∷ flat_map (λ w. w ∷ []) vs ≡ other_spelling o
+other_some o c vs d e h =
+    (λ i. d i ∷ (flat_map_words vs ∙ e) i)
+    ∙ sym (spelling_by o ∙ ap (λ b. cond (not b) ((o.0 ∷ []) ∷ o.1) []) (ap (λ (l : List (List ℕ)). length l == 0) (sym e) ∙ h))

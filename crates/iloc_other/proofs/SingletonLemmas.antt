@@ -1,5 +1,5 @@
 -- A part that begins with a singleton.
-use Rattle.std.proofs.Common.{◌≡◌, ℕ, Bool, true, false, List, [], ◌∷◌, refl, sym, ap, ◌∙◌, subst, Option, Some, None}
+use Rattle.std.proofs.Common.{◌≡◌, ℕ, Bool, true, false, List, [], ◌∷◌, refl, sym, ap, ◌∙◌, Some, None}
 use Rattle.std.specs.Char.{to_ascii_lowercase}
 use Rattle.iloc_grammar.specs.Faults.{Fault, InvalidExtension}
 use Rattle.iloc_grammar.specs.Reading.{rest_of}

@@ -1,11 +1,10 @@
 -- Private words that are taken one at a time.
-use Rattle.std.proofs.Common.{◌≡◌, ◌≢◌, ℕ, suc, zero, ◌+◌, ◌<◌, ◌≤◌, Bool, true, false, cond, List, [], ◌∷◌, ◌++◌, length, map, take, get_or, refl, sym, ap, ◌∙◌, subst, arith, append_assoc, append-nil, length-append, Result, Ok, Err, true≢false}
+use Rattle.std.proofs.Common.{◌≡◌, ℕ, suc, ◌+◌, ◌<◌, Bool, true, false, cond, List, [], ◌∷◌, ◌++◌, length, map, refl, sym, ap, ◌∙◌, subst, arith, append_assoc, append-nil, length-append, Result, Ok, Err, true≢false}
 use Rattle.std.specs.List.{AllByRecursion}
 use Rattle.std.proofs.lemmas.List.{map-append, length-map}
 use Rattle.iloc_grammar.specs.Words.{Kind, PrivateSubtag, is_word, IsWord, normal, lower, read}
 use Rattle.iloc_grammar.specs.Written.{IsPrivate}
 use Rattle.iloc_grammar.specs.Faults as faults
-use Rattle.iloc_grammar.specs.Reading.{passing}
 use Rattle.iloc_fronts.specs.Fronts.{PrivateRead, PrivateFault, not_private}
 use Rattle.iloc_other.specs.Reading.{private_words}
 

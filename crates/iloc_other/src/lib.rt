@@ -8,7 +8,7 @@
 //! `iloc_shortvec`.
 #![tactic(auto)]
 
-ghost use Rattle.std.specs.Prelude.{◌≡◌, ℕ, List};
+ghost use Rattle.std.specs.Prelude.{◌≡◌, ◌↔◌, IsTrue, ℕ, List};
 ghost use Rattle.iloc_orders.specs.Orders.{words_cmp, other_cmp};
 
 pub mod other;
@@ -22,4 +22,10 @@ pub use private::Private;
 pub fn orders()
     ensures private { (v w : List (List ℕ)) → ⟦<Private as Ord>⟧.cmp v w ≡ words_cmp v w }
     ensures other { (o q : ℕ × List (List ℕ)) → ⟦<Other as Ord>⟧.cmp o q ≡ other_cmp o q }
+{}
+
+/// `==` answers whether the two are the same.
+pub fn equality()
+    ensures private { (v w : List (List ℕ)) → IsTrue (⟦<Private as PartialEq>⟧.eq v w) ↔ (v ≡ w) }
+    ensures other { (o q : ℕ × List (List ℕ)) → IsTrue (⟦<Other as PartialEq>⟧.eq o q) ↔ (o ≡ q) }
 {}

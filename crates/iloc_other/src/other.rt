@@ -6,7 +6,7 @@ ghost use Rattle.std.specs.Option.{option_copied};
 ghost use Rattle.iloc_grammar.specs.Words.{Subtag as the_kind, is_word, lower};
 ghost use Rattle.iloc_grammar.specs.Written.{is_other_singleton};
 ghost use Rattle.iloc_grammar.specs.Reading.{take_first, skip_first};
-ghost use Rattle.iloc_grammar.specs.Values.{IsNormal, other_text};
+ghost use Rattle.iloc_grammar.specs.Values.{IsNormal, other_spelling, other_text};
 ghost use Rattle.iloc_fronts.specs.Fronts.{has_other_length};
 ghost use Rattle.iloc_parser.specs.Left.{left};
 ghost use Rattle.iloc_other.specs.Reading.{OtherReads, OtherTextReads};
@@ -171,17 +171,31 @@ impl Clone for Other {
     }
 }
 
-/// The singleton and the subtags; one without subtags prints nothing.
-impl Writeable for Other {
-    ghost text = { other_text };
+/// The pieces are the singleton and the subtags; one without subtags has none.
+impl Pieces for Other {
+    ghost pieces = { other_spelling };
 
-    fn write_to<S: Sink>(&self, sink: &mut S) -> fmt::Result {
+    fn has_pieces(&self) -> bool {
+        !self.as_slice().is_empty()
+    }
+
+    fn write_pieces<S: Sink>(&self, sink: &mut S, first: bool) -> fmt::Result {
         let keys = self.as_slice();
         if keys.is_empty() {
             return Ok(());
         }
         let ext = self.get_ext_str();
-        (ext, keys).write_joined(sink)
+        (ext, keys).write_pieces(sink, first)
+    }
+}
+
+/// The singleton and the subtags; one without subtags prints nothing.
+impl Writeable for Other {
+    ghost text = { other_text };
+
+    #[tactic(auto, unfolding(iloc_grammar::specs::Values::other_text, iloc_grammar::specs::Pieces::join))]
+    fn write_to<S: Sink>(&self, sink: &mut S) -> fmt::Result {
+        self.write_joined(sink)
     }
 
     fn writeable_borrow(&self) -> Option<&str> {

@@ -3,7 +3,7 @@ ghost use Rattle.std.specs.Prelude.{◌≡◌, ◌∷◌, [], ◌↔◌, IsTrue,
 ghost use Rattle.std.specs.List.{AllByRecursion};
 ghost use Rattle.std.specs.Option.{option_copied};
 ghost use Rattle.std.specs.Slice.Iter.{iter_rest};
-ghost use Rattle.iloc_grammar.specs.Values.{private_text};
+ghost use Rattle.iloc_grammar.specs.Values.{private_text, private_spelling};
 ghost use Rattle.iloc_grammar.specs.Pieces.{pieces};
 ghost use Rattle.iloc_grammar.specs.Values.{IsNormal};
 ghost use Rattle.iloc_grammar.specs.Words.{PrivateSubtag as the_kind};
@@ -193,16 +193,30 @@ impl Clone for Private {
     }
 }
 
-/// `x` and the words; an empty list prints nothing.
-impl Writeable for Private {
-    ghost text = { private_text };
+/// The pieces are `x` and the words; an empty list has none.
+impl Pieces for Private {
+    ghost pieces = { private_spelling };
 
-    fn write_to<S: Sink>(&self, sink: &mut S) -> fmt::Result {
+    fn has_pieces(&self) -> bool {
+        !self.is_empty()
+    }
+
+    fn write_pieces<S: Sink>(&self, sink: &mut S, first: bool) -> fmt::Result {
         if self.is_empty() {
             return Ok(());
         }
         let words = self.as_slice();
-        ("x", words).write_joined(sink)
+        ("x", words).write_pieces(sink, first)
+    }
+}
+
+/// `x` and the words; an empty list prints nothing.
+impl Writeable for Private {
+    ghost text = { private_text };
+
+    #[tactic(auto, unfolding(iloc_grammar::specs::Values::private_text, iloc_grammar::specs::Pieces::join))]
+    fn write_to<S: Sink>(&self, sink: &mut S) -> fmt::Result {
+        self.write_joined(sink)
     }
 
     fn writeable_borrow(&self) -> Option<&str> {

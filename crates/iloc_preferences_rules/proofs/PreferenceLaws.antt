@@ -1,5 +1,5 @@
 -- Preferences: what extending and the way to a locale and back keep.
-use Rattle.std.proofs.Common.{◌≡◌, ◌≢◌, ℕ, Bool, true, false, cond, List, [], ◌∷◌, ◌++◌, length, arith, refl, sym, ap, ◌∙◌, Option, Some, None, Result, Ok, Err, IfSome, option_map, option_and_then, option_to_list}
+use Rattle.std.proofs.Common.{◌≡◌, ◌≢◌, ℕ, Bool, true, false, cond, List, [], ◌∷◌, ◌++◌, length, arith, refl, sym, ap, ◌∙◌, Option, Some, None, Result, Ok, Err, IfSome, option_map, option_and_then, option_to_list, codes, length-append, true≢false}
 use Rattle.std.specs.Option.{option_or}
 use Rattle.std.specs.Result.{result_ok}
 use Rattle.std.specs.List.{AllByRecursion}
@@ -10,6 +10,7 @@ use Rattle.iloc_grammar.specs.Meaning.{Locale}
 use Rattle.iloc_grammar.specs.Values.{IsNormal, IsValue, IsWellFormed, IsAscending}
 use Rattle.iloc_grammar.specs.Faults.{Fault}
 use Rattle.iloc_grammar.proofs.ValuesLaws.{all_weaker}
+use Rattle.iloc_grammar.proofs.WordsLaws.{length-lower, length-region}
 use Rattle.iloc_grammar.specs.Reading.{first_item}
 use Rattle.iloc_regions.specs.Subdivisions.{Subdivision, IsSubdivision, subdivision, subdivision_text}
 use Rattle.iloc_regions.specs.DataLocales.{whole_region, is_whole, whole, sd}
@@ -240,3 +241,53 @@ strict_locale p h n =
     and_from _ _ (ap (λ o. is_none o || is_some (option_and_then subdivision_reads o)) found ∙ both.0)
     (and_from _ _ (ap (λ o. is_none o || is_some (option_and_then subdivision_reads o)) (find_rg p.region_override p.region) ∙ rg_readable p.region_override h.region_override n.region_override)
     (ap (λ o. same_region (option_map (λ s. s.region) p.region) (option_and_then subdivision_reads o)) found ∙ both.1))
+
+-- preferences come back only where no subdivision spells `true`
+
+override_only : (s : Subdivision) → subdivision_reads (subdivision_gives s) ≡ Some s → is_true (subdivision_text s) ≡ false
+override_only s e = (elim (is_true (subdivision_text s)) as (λ b. subdivision_reads (cond b [] (subdivision_text s ∷ [])) ≡ Some s → b ≡ false) [ true ↦ λ e. absurd (cc) | false ↦ λ e. refl ]) e
+
+-- a whole region spells more than four letters
+whole_spells : (s : Subdivision) → IsSubdivision s → s.suffix ≡ whole → is_true (subdivision_text s) ≡ false
+unfolding is_true
+whole_spells s h e = elim (is_same (codes "true") (subdivision_text s)) as (λ b. is_same (codes "true") (subdivision_text s) ≡ b → b ≡ false) [
+  | true ↦ λ q. absurd (too_long (ap length (same_is (codes "true") (subdivision_text s) q)))
+  | false ↦ λ q. refl
+] refl
+  where
+    too_long : 4 ≡ length (subdivision_text s) → ⊥
+    too_long q =
+        let l = length-append (lower s.region) (lower s.suffix) in
+        let m = length-lower s.region in
+        let n = length-lower s.suffix in
+        let k : length s.suffix ≡ 4 = ap length e in
+        let r = length-region s.region h.region.0 in
+        omega arith
+
+suffix_of : Option Subdivision → List ℕ
+suffix_of None = []
+suffix_of (Some s) = s.suffix
+
+region_only : (s : Subdivision) → IsSubdivision s → preferred_region (Some s.region) (option_and_then subdivision_reads (find word_cmp sd (sd_entry (Some s)))) ≡ Some s → is_true (subdivision_text s) ≡ false
+unfolding suffix_of
+region_only s h e = (elim (is_whole s) as (λ b. is_whole s ≡ b → Some (region_with s.region (option_and_then subdivision_reads (find word_cmp sd (cond b [] ((sd, subdivision_gives s) ∷ []))))) ≡ Some s → is_true (subdivision_text s) ≡ false) [
+  | true ↦ λ w e. whole_spells s h (same_is s.suffix whole w)
+  | false ↦ λ w e. (elim (is_true (subdivision_text s)) as (λ b. Some (region_with s.region (subdivision_reads (cond b [] (subdivision_text s ∷ [])))) ≡ Some s → b ≡ false) [
+    | true ↦ λ e. absurd (true≢false (sym (ap (λ x. is_same x whole) (sym (ap suffix_of e)) ∙ same_itself whole) ∙ w))
+    | false ↦ λ e. refl
+  ]) e
+]) refl e
+
+pub back_only : {T : ℕ → Bool} (p : Preferences) → IsPreferences T p → preferences (locale_of_preferences p) ≡ p → SpellsNoTrue p
+back_only p h e = record {
+  region = of_region p.region h.region (sym (ap (λ o. preferred_region (option_map (λ s. s.region) p.region) (option_and_then subdivision_reads o)) (find_sd p.region_override p.region)) ∙ ap (λ q. q.region) e);
+  region_override = of_override p.region_override (sym (ap (option_and_then subdivision_reads) (find_rg p.region_override p.region)) ∙ ap (λ q. q.region_override) e);
+}
+  where
+    of_region : (o : Option Subdivision) → IfSome o IsSubdivision → preferred_region (option_map (λ s. s.region) o) (option_and_then subdivision_reads (find word_cmp sd (sd_entry o))) ≡ o → IfSome o (λ s. is_true (subdivision_text s) ≡ false)
+    of_region None h e = tt
+    of_region (Some s) h e = region_only s h e
+
+    of_override : (o : Option Subdivision) → option_and_then subdivision_reads (find word_cmp rg (rg_entry o)) ≡ o → IfSome o (λ s. is_true (subdivision_text s) ≡ false)
+    of_override None e = tt
+    of_override (Some s) e = override_only s e

@@ -43,17 +43,19 @@ pub fn merging_formatters()
     ensures time_onto_default { (a : TimePreferences) → merge_time default_time a ≡ a }
 {}
 
-/// The locale of preferences is well-formed, and has these preferences where no subdivision spells `true`.
+/// The locale of preferences is well-formed, and has these preferences exactly where no subdivision spells `true`.
 pub fn preferences_of_locales()
     ensures valid { (T : ℕ → Bool) (M : Locale) → IsValue T M → IsPreferences T (preferences M) }
     ensures well_formed { (T : ℕ → Bool) (p : Preferences) → IsPreferences T p → IsValue T (locale_of_preferences p) × IsWellFormed (locale_of_preferences p) }
     ensures back { (T : ℕ → Bool) (p : Preferences) → IsPreferences T p → SpellsNoTrue p → preferences (locale_of_preferences p) ≡ p }
+    ensures only { (T : ℕ → Bool) (p : Preferences) → IsPreferences T p → preferences (locale_of_preferences p) ≡ p → SpellsNoTrue p }
     ensures strict { (T : ℕ → Bool) (p : Preferences) → IsPreferences T p → SpellsNoTrue p → is_strict (locale_of_preferences p) ≡ true }
 {}
 
-/// A data locale that was read is the conversion of the locale that its text means, and that of an identifier
-/// stands for the conversion of its preferences.
+/// A text that means a data locale means a locale, of which that data locale is the conversion; the data locale of an
+/// identifier stands for the conversion of its preferences.
 pub fn data_locales_of_locales()
+    ensures accepted { (T : ℕ → Bool) (t : List ℕ) (d : DataLocale) → DataMeans T t d → (M : Locale) × Means T t M }
     ensures read { (T : ℕ → Bool) → IsTable T → (t : List ℕ) (d : DataLocale) (M : Locale) → DataMeans T t d → Means T t M → d ≡ language_priority (preferences M) }
     ensures identifier { (i : Identifier) → IfSome i.region (IsNormal Region) → data_key (data_of_identifier i) ≡ data_key (language_priority (identifier_preferences i)) }
 {}

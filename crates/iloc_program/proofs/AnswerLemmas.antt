@@ -3,15 +3,17 @@ use Rattle.std.proofs.Common.{◌≡◌, ◌≢◌, ℕ, List, refl, sym, Err}
 use Rattle.iloc_grammar.specs.Pieces.{pieces}
 use Rattle.iloc_grammar.specs.Words.{languages}
 use Rattle.iloc_grammar.specs.Written.{Identifier}
-use Rattle.iloc_grammar.specs.Meaning.{IdentifierMeans}
-use Rattle.iloc_grammar.specs.Values.{identifier_text}
+use Rattle.iloc_grammar.specs.Meaning as meaning
+use Rattle.iloc_grammar.specs.Meaning.{IdentifierMeans, Means}
+use Rattle.iloc_grammar.specs.Values.{identifier_text, text}
 use Rattle.iloc_grammar.proofs.RawLaws.{languages_table}
-use Rattle.iloc_output.specs.Output.{OfIdentifiers, identifier, no_identifier}
+use Rattle.iloc_output.specs.Output.{OfIdentifiers, OfLocales, identifier, no_identifier, locale, no_locale}
 use Rattle.iloc_output.proofs.OutputLaws.{only_answer}
 use Rattle.iloc_subtags.specs.declared.parse_error.ParseError.{ParseError}
 use Rattle.iloc_subtags.specs.declared.parse_error.ParseError.TheVariants.{InvalidLanguage, InvalidSubtag, InvalidExtension, DuplicatedExtension, OutOfMemory}
 use Rattle.iloc_langid.specs.Reads.{ReadsAs}
-use Rattle.iloc_program.specs.declared.Mode.TheVariants.{Langid}
+use Rattle.iloc_locale.specs.Reads.{LocaleReadsAs}
+use Rattle.iloc_program.specs.declared.Mode.TheVariants.{Langid, Locale}
 use Rattle.iloc_program.specs.Output.{line_answer, refusal_text}
 
 pub answer_accepted : (t : List ℕ) (i : Identifier) → IdentifierMeans languages (pieces t) i → line_answer Langid t ≡ identifier_text i
@@ -23,3 +25,13 @@ answer_refused t InvalidSubtag r n = sym (only_answer languages_table OfIdentifi
 answer_refused t InvalidExtension r n = absurd r
 answer_refused t DuplicatedExtension r n = absurd r
 answer_refused t OutOfMemory r n = absurd (n refl)
+
+pub locale_accepted : (t : List ℕ) (M : meaning.Locale) → Means languages t M → line_answer Locale t ≡ text M
+locale_accepted t M m = sym (only_answer languages_table OfLocales t (text M) (locale m))
+
+pub locale_refused : (t : List ℕ) (e : ParseError) → LocaleReadsAs t (Err e) → e ≢ OutOfMemory → line_answer Locale t ≡ refusal_text e
+locale_refused t InvalidLanguage r n = sym (only_answer languages_table OfLocales t (refusal_text InvalidLanguage) (no_locale r))
+locale_refused t InvalidSubtag r n = sym (only_answer languages_table OfLocales t (refusal_text InvalidSubtag) (no_locale r))
+locale_refused t InvalidExtension r n = sym (only_answer languages_table OfLocales t (refusal_text InvalidExtension) (no_locale r))
+locale_refused t DuplicatedExtension r n = sym (only_answer languages_table OfLocales t (refusal_text DuplicatedExtension) (no_locale r))
+locale_refused t OutOfMemory r n = absurd (n refl)

@@ -7,6 +7,7 @@ ghost use Rattle.iloc_output.specs.Lines.{IsOneLine};
 
 use crate::{Mode, RunError};
 use iloc_langid::LanguageIdentifier;
+use iloc_locale::Locale;
 use iloc_subtags::ParseError;
 use iloc_writeable::Writeable;
 use std::alloc::{AllocError, Global};
@@ -46,6 +47,22 @@ fn answer_langid(alloc: Global, line: &[u8], replies: &mut Vec<u8>) -> Result<()
     }
 }
 
+// Adds the normal text of a locale, or why there is none.
+fn answer_locale(alloc: Global, line: &[u8], replies: &mut Vec<u8>) -> Result<(), AllocError>
+    ensures { OnOk result (replies.new.items ≡ replies.old.items ++ line_answer Mode.Locale line.now) }
+{
+    match Locale::try_from_utf8(alloc, line) {
+        Ok(locale) => match locale.write_to(replies) {
+            Ok(()) => Ok(()),
+            Err(_) => Err(AllocError),
+        },
+        Err(error) => match error {
+            ParseError::OutOfMemory => Err(AllocError),
+            error => write_refusal(&error, replies),
+        },
+    }
+}
+
 // Adds the answer to one line.
 fn answer_line(
     alloc: Global,
@@ -57,6 +74,7 @@ fn answer_line(
 {
     match mode {
         Mode::Langid => answer_langid(alloc, line, replies),
+        Mode::Locale => answer_locale(alloc, line, replies),
     }
 }
 

@@ -209,6 +209,9 @@ data_is {T = T} d m = subst (IsDataLocale T) (sym m.is) (record { language = m.l
         text_of_lower : (p : Subdivision) → IsReadPart p → lower (subdivision_text p) ≡ subdivision_text p
         text_of_lower p h = sym (text_of_read _ p (subdivision_back p h.0))
 
+pub read_is_data_locale : {T : ℕ → Bool} (t : List ℕ) (d : DataLocale) → DataMeans T t d → IsDataLocale T d
+read_is_data_locale t d h = data_is d (read_made t d h)
+
 -- the part that is printed for a part is read as it
 part_back : (p : Option Subdivision) → IfSome p IsReadPart → small_part (option_map (λ p. p.region) p) (keyword_by (option_and_then (λ w. option_and_then (λ s. cond (is_whole s) None (Some w)) (named_subdivision w)) (option_map subdivision_text p))) ≡ Some p
 part_back None h = refl

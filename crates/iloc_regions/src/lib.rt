@@ -15,7 +15,9 @@ ghost use Rattle.iloc_regions.specs.Subdivisions.{Subdivision, IsSubdivision, su
 ghost use Rattle.iloc_regions.specs.Computing.{data_result};
 ghost use Rattle.iloc_regions.specs.DataLocales.{DataLocale, DataMeans, HasDataFault, IsDataLocale, data_key, data_text, locale_of_data};
 ghost use Rattle.iloc_orders.specs.Orders.{IsExactOrder};
+ghost use Rattle.iloc_orders.specs.Hashes.{HashesByOrder};
 ghost use Rattle.iloc_regions.specs.DataOrders.{subdivision_cmp, data_locale_cmp};
+ghost use Rattle.iloc_regions.specs.DataHashes.{subdivision_fed, data_locale_fed};
 ghost use Rattle.iloc_regions.specs.Examples.{english, data_text_of};
 
 /// A subdivision's text is read as it, and what is read has the text in lower case.
@@ -34,8 +36,9 @@ pub fn data_locale_or_one_fault()
     ensures answer { (T : ℕ → Bool) → IsTable T → (t : List ℕ) → MatchResult (data_result T t) (DataMeans T t) (HasDataFault T t) }
 {}
 
-/// A data locale that was read prints a text that means it; its locale prints the same text, and no other does.
+/// A data locale that was read is of normal words, and prints a text that means it; its locale prints the same text, and no other does.
 pub fn data_locales()
+    ensures read { (T : ℕ → Bool) (t : List ℕ) (d : DataLocale) → DataMeans T t d → IsDataLocale T d }
     ensures back { (T : ℕ → Bool) (t : List ℕ) (d : DataLocale) → DataMeans T t d → DataMeans T (data_text d) d }
     ensures text { (d : DataLocale) → text (locale_of_data d) ≡ data_text d }
     ensures value { (T : ℕ → Bool) (d : DataLocale) → IsDataLocale T d → IsValue T (locale_of_data d) × IsWellFormed (locale_of_data d) }
@@ -47,6 +50,12 @@ pub fn data_orders()
     ensures subdivisions { IsExactOrder subdivision_cmp }
     ensures data_locales { IsTotalOrder data_locale_cmp }
     ensures ties { (d e : DataLocale) → (data_locale_cmp d e ≡ Equal) ↔ (data_key d ≡ data_key e) }
+{}
+
+/// Subdivisions are told apart by what they feed a hasher; data locales feed it alike exactly where they stand for the same.
+pub fn data_hashes()
+    ensures subdivisions { HashesByOrder subdivision_cmp subdivision_fed }
+    ensures data_locales { (d e : DataLocale) → (data_locale_fed d ≡ data_locale_fed e) ↔ (data_key d ≡ data_key e) }
 {}
 
 /// Over a wider table of languages a text means the data locale that it meant.

@@ -319,9 +319,10 @@ impl<T: Copy> ShortWords<T> {
         Ok(list)
     }
 
-    /// A copy. Refusal: `AllocError`.
+    /// A copy. Up to four items take no memory. Refusal: `AllocError`.
     pub fn clone(&self) -> Result<Self, AllocError>
-        ensures { IfOk result (λ copy. copy ≡ self.now) }
+        ensures value { IfOk result (λ copy. copy ≡ self.now) }
+        ensures succeeds { length self.now ≤ 4 → IsOk result }
     {
         match &self.kept {
             Kept::Heap(items) => {

@@ -141,6 +141,21 @@ fn writes_and_clears(rt: HostRuntime) -> Result<(), Fail> {
 }
 
 #[test]
+fn writes_at_each_place(rt: HostRuntime) -> Result<(), Fail> {
+    for count in 0..7 {
+        for index in 0..count {
+            let mut wanted = ITEMS[..count].to_vec(rt.alloc())?;
+            wanted[index] = 99;
+            let mut list = list_of(&rt, &ITEMS[..count])?;
+            assert!(rt; index < list.len());
+            *list.item_mut(index) = 99;
+            assert_eq!(rt; list.as_slice(), wanted.as_slice());
+        }
+    }
+    Ok(())
+}
+
+#[test]
 fn orders_as_short_lists(rt: HostRuntime) -> Result<(), Fail> {
     let (a, b, c, d, e) = (1u8, 2, 3, 4, 5);
     let rows: [(&[u8], &[u8], Ordering); 6] = [

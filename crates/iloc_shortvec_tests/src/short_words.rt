@@ -81,6 +81,19 @@ fn inserts_at_each_place(rt: HostRuntime) -> Result<(), Fail> {
 }
 
 #[test]
+fn extends_at_each_length(rt: HostRuntime) -> Result<(), Fail> {
+    for count in 0..7 {
+        for cut in 0..count + 1 {
+            let mut list = list_of(&rt, &ITEMS[..cut])?;
+            list.extend_from_slice(rt.alloc(), &ITEMS[cut..count])?;
+            assert_eq!(rt; list.as_slice(), &ITEMS[..count]);
+            assert_eq!(rt; list, list_of(&rt, &ITEMS[..count])?);
+        }
+    }
+    Ok(())
+}
+
+#[test]
 fn removes_at_each_place(rt: HostRuntime) -> Result<(), Fail> {
     for count in 0..7 {
         for index in 0..count {

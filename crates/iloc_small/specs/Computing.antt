@@ -1,14 +1,15 @@
--- A plain program for small texts: what is read, or the fault.
-use Rattle.std.specs.Prelude.{ℕ, Bool, false, ◌&&◌, ◌==◌, nat_le, List, [], ◌∷◌, length, if◌then◌else◌, Option, Some, None, Result, Ok, Err}
+-- Plain programs: what is read of a small text, or the fault; and whether a text is inline.
+use Rattle.std.specs.Prelude.{ℕ, Bool, true, false, ◌&&◌, ◌==◌, nat_le, List, [], ◌∷◌, length, if◌then◌else◌, Option, Some, None, Result, Ok, Err}
 use Rattle.std.specs.Char.{is_ascii_alphanumeric, to_ascii_lowercase}
 use Rattle.std.specs.List.{list_all}
 use Rattle.iloc_grammar.specs.Pieces.{pieces}
 use Rattle.iloc_grammar.specs.Words.{Language, Variant, UnicodeKey, Attribute, is_word, lower}
-use Rattle.iloc_grammar.specs.Written.{singleton}
-use Rattle.iloc_grammar.specs.Meaning.{normal_values}
+use Rattle.iloc_grammar.specs.Written.{Extension, unicode, Written, singleton}
+use Rattle.iloc_grammar.specs.Meaning.{Locale, normal_values}
 use Rattle.iloc_grammar.specs.Values.{text}
 use Rattle.iloc_grammar.specs.Faults.{Fault, InvalidLanguage, InvalidSubtag, InvalidExtension, head, tail_blocks, first_piece}
-use Rattle.iloc_grammar.specs.Reading.{identifier_of, first_item}
+use Rattle.iloc_grammar.specs.Reading.{identifier_of, first_item, written_of}
+use Rattle.iloc_grammar.specs.Computing.{holds_if_some, locale_result}
 use Rattle.iloc_small.specs.Small.{SmallIdentifier, SmallLocale, locale_of_small, small_identifier}
 
 -- Identifiers: after the words at the front there is at most one piece, a variant.
@@ -63,3 +64,21 @@ small_result T t = after_identifier (small_identifier_result T (head (pieces t))
 abbrev pub small_text : Result SmallLocale Fault → Result (List ℕ) Fault
 small_text (Ok r) = Ok (text (locale_of_small r))
 small_text (Err f) = Err f
+
+-- Inline texts.
+
+abbrev pub has_few_values : Extension → Bool
+has_few_values (unicode u) = list_all (λ f. nat_le (length (normal_values f.1)) 4) u.keywords
+has_few_values _ = true
+
+-- few words in the lists of what the text means, and at each keyword as it is written
+abbrev pub has_few_words : Written → Locale → Bool
+has_few_words w M = (((nat_le (length M.id.variants) 4 && nat_le (length M.unicode.attributes) 4) && (nat_le (length M.unicode.keywords) 1 && list_all (λ e. has_few_values e.1) w.extensions))
+    && ((holds_if_some (λ i. nat_le (length i.variants) 4) M.transform.id && nat_le (length M.transform.fields) 0) && (nat_le (length M.private) 4 && nat_le (length M.others) 0)))
+
+abbrev pub few_where_read : Written → Result Locale Fault → Bool
+few_where_read w (Ok M) = has_few_words w M
+few_where_read w (Err f) = false
+
+unfoldable pub is_inline : (ℕ → Bool) → List ℕ → Bool
+is_inline T t = few_where_read (written_of (pieces t)) (locale_result T t)

@@ -1,23 +1,25 @@
 //! Small texts, which are read without memory, and inline texts, of few words in each list.
 //!
 //! A text is small or has exactly one small fault; a small text is a locale of the same parts, and inline.
+//! Plain programs say which texts are the one or the other.
 //! It stands on `iloc_grammar`.
 #![tactic(auto)]
 
-ghost use Rattle.std.specs.Prelude.{◌≡◌, ◌⊎◌, ℕ, Bool, true, List, Ok, Err, MatchResult, codes};
+ghost use Rattle.std.specs.Prelude.{◌≡◌, ◌↔◌, ◌⊎◌, ℕ, Bool, true, false, List, Ok, Err, MatchResult, codes};
 ghost use Rattle.iloc_grammar.specs.Pieces.{pieces};
 ghost use Rattle.iloc_grammar.specs.Words.{IsTable, languages};
-ghost use Rattle.iloc_grammar.specs.Meaning.{Means, IdentifierMeans};
+ghost use Rattle.iloc_grammar.specs.Meaning.{Locale, Means, IdentifierMeans};
 ghost use Rattle.iloc_grammar.specs.Values.{text};
 ghost use Rattle.iloc_grammar.specs.Faults.{Fault, InvalidLanguage, InvalidSubtag, InvalidExtension};
 ghost use Rattle.iloc_small.specs.Small.{SmallIdentifier, SmallLocale, IsSmallIdentifier, IsSmall, HasSmallIdentifierFault, HasSmallFault, IsSmallValue, identifier_of_small, locale_of_small};
-ghost use Rattle.iloc_small.specs.Computing.{small_identifier_result, small_result, small_text};
+ghost use Rattle.iloc_small.specs.Computing.{small_identifier_result, small_result, small_text, is_inline};
 ghost use Rattle.iloc_small.specs.Inline.{IsInline};
 
-/// A small text is read in one way, and is a locale of the same parts and nothing else.
+/// A small text is read in one way, as a value of normal words, and is a locale of the same parts and nothing else.
 pub fn small_texts()
     ensures one { (T : ℕ → Bool) → IsTable T → (t : List ℕ) (r s : SmallLocale) → IsSmall T t r → IsSmall T t s → r ≡ s }
     ensures locale { (T : ℕ → Bool) (t : List ℕ) (r : SmallLocale) → IsSmall T t r → Means T t (locale_of_small r) }
+    ensures value { (T : ℕ → Bool) (t : List ℕ) (r : SmallLocale) → IsSmall T t r → IsSmallValue T r }
     ensures back { (T : ℕ → Bool) (r : SmallLocale) → IsSmallValue T r → IsSmall T (text (locale_of_small r)) r }
 {}
 
@@ -44,6 +46,12 @@ pub fn small_is_inline()
     ensures { (T : ℕ → Bool) (t : List ℕ) (r : SmallLocale) → IsSmall T t r → IsInline T t }
 {}
 
+/// An inline text is a locale; and a plain program says whether a text is inline.
+pub fn inline_texts()
+    ensures locale { (T : ℕ → Bool) (t : List ℕ) → IsInline T t → (M : Locale) × Means T t M }
+    ensures answer { (T : ℕ → Bool) → IsTable T → (t : List ℕ) → (is_inline T t ≡ true) ↔ IsInline T t }
+{}
+
 /// Over a wider table of languages a small text stays what it is.
 pub fn wider_small()
     ensures { (T U : ℕ → Bool) → ((n : ℕ) → T n ≡ true → U n ≡ true) → (t : List ℕ) (r : SmallLocale) → IsSmall T t r → IsSmall U t r }
@@ -65,4 +73,12 @@ pub fn by_example()
     ensures two_values { small_result languages (codes "en-u-ca-foo-bar") ≡ Err InvalidSubtag }
     ensures another_block { small_result languages (codes "en-u-ca-foo-x-bar") ≡ Err InvalidSubtag }
     ensures two_bytes_after_the_key { small_result languages (codes "en-u-ca-a8") ≡ Err InvalidSubtag }
+    ensures inline { is_inline languages (codes "en-1994-1995-t-fr-Latn-u-foo-bar-ca-islamic-civil-x-a-b-c-d") ≡ true }
+    ensures repeated_key { is_inline languages (codes "en-u-ca-foo-ca-bar") ≡ true }
+    ensures five_variants { is_inline languages (codes "en-1994-1995-1996-1997-1998") ≡ false }
+    ensures inline_two_keys { is_inline languages (codes "en-u-ca-hc") ≡ false }
+    ensures five_values_of_a_repeat { is_inline languages (codes "en-u-ca-ca-foo1-foo2-foo3-foo4-foo5") ≡ false }
+    ensures field { is_inline languages (codes "en-t-m0-foo") ≡ false }
+    ensures other { is_inline languages (codes "en-a-foo") ≡ false }
+    ensures five_private_words { is_inline languages (codes "en-x-a-b-c-d-e") ≡ false }
 {}

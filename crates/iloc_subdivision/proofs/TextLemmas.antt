@@ -1,8 +1,8 @@
 -- The text of a subdivision is a subtag, and read as the subdivision.
-use Rattle.std.proofs.Common.{◌≡◌, ℕ, List, ◌++◌, Ok, sym, ap₂, ◌∙◌, subst}
+use Rattle.std.proofs.Common.{◌≡◌, ℕ, List, ◌++◌, sym, ap₂, ◌∙◌, subst}
 use Rattle.iloc_grammar.specs.Words.{Subtag, lower}
 use Rattle.iloc_grammar.specs.Values.{IsNormal}
-use Rattle.iloc_regions.specs.Subdivisions.{Subdivision, IsSubdivision, subdivision, subdivision_text}
+use Rattle.iloc_regions.specs.Subdivisions.{Subdivision, IsSubdivision, subdivision_text}
 use Rattle.iloc_regions.proofs.SubdivisionLaws.{subdivision_back, subdivision_is_subtag, text_of_read}
 
 -- a lower-case region and a suffix are the text

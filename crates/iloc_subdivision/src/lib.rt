@@ -6,8 +6,19 @@
 //! printing.
 #![tactic(auto)]
 
+ghost use Rattle.std.specs.Prelude.{◌≡◌, ◌↔◌, true};
+ghost use Rattle.std.specs.Ordering.{on, then_cmp};
+ghost use Rattle.iloc_grammar.specs.Words.{word_cmp};
+ghost use Rattle.iloc_subdivision.specs.Reads.{value_of};
+
 pub mod subdivision_id;
 #[cfg(test)]
 mod tests;
 
 pub use subdivision_id::SubdivisionId;
+
+/// Subdivisions are ordered by region and then by suffix, and what is equal has the same value.
+pub fn subdivisions_compare()
+    ensures order { (s t : SubdivisionId) → ⟦<SubdivisionId as Ord>⟧.cmp s t ≡ then_cmp (on (λ s. s.region) word_cmp) (on (λ s. s.suffix) word_cmp) (value_of s) (value_of t) }
+    ensures equality { (s t : SubdivisionId) → (⟦<SubdivisionId as PartialEq>⟧.eq s t ≡ true) ↔ (value_of s ≡ value_of t) }
+{}

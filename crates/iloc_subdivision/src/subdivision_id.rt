@@ -78,7 +78,7 @@ impl FromStr for SubdivisionId {
     ghost from_str_gives = { ReadsAs };
 
     fn from_str(s: &str) -> Result<Self, ParseError> {
-        SubdivisionId::try_from_utf8(s.as_bytes())
+        SubdivisionId::try_from_str(s)
     }
 }
 

@@ -8,6 +8,7 @@ fn reads_by_the_first_byte(rt: HostRuntime) -> Result<(), Fail> {
     let britain = SubdivisionId::try_from_str("gbzzzz")?;
     assert_eq!(rt; britain.region.as_str(), "GB");
     assert_eq!(rt; britain.suffix.as_str(), "zzzz");
+    assert_eq!(rt; format!(in rt.alloc(); "{britain}")?.as_str(), "gbzzzz");
     let america = SubdivisionId::try_from_utf8(b"419bel")?;
     assert_eq!(rt; america.region.as_str(), "419");
     assert_eq!(rt; america.suffix.as_str(), "bel");

@@ -177,7 +177,12 @@ impl<K: WordKind<N>, const N: usize> From<WordOf<K, N>> for TinyAsciiStr<N> {
     }
 }
 
+/// Prints as the text does, in quotes.
 impl<K: WordKind<N>, const N: usize> fmt::Debug for WordOf<K, N> {
+    ghost use Rattle.std.specs.Fmt.{debug_str};
+
+    ghost debug_output = { debug_str };
+
     fn fmt<W: fmt::Write>(&self, f: &mut fmt::Formatter<W>) -> fmt::Result {
         fmt::Debug::fmt(&self.as_str(), f)
     }

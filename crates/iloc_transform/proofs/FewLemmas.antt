@@ -1,10 +1,10 @@
 -- A transform of few words takes no memory.
-use Rattle.std.proofs.Common.{◌≡◌, ℕ, suc, ◌+◌, ◌<◌, ◌≤◌, true, false, List, [], ◌∷◌, ◌++◌, length, map, refl, sym, ap, ◌∙◌, subst, arith, length-append, Option, Some, None, IfSome, option_map, true≢false}
+use Rattle.std.proofs.Common.{◌≡◌, ℕ, ◌<◌, ◌≤◌, List, [], ◌∷◌, ◌++◌, length, map, refl, sym, ap, ◌∙◌, subst, arith, Option, IfSome, option_map, true≢false}
 use Rattle.std.proofs.lemmas.List.{length-map}
-use Rattle.iloc_grammar.specs.Words.{Language, is_word, IsWord, lower, languages}
+use Rattle.iloc_grammar.specs.Words.{Language, IsWord, lower, languages}
 use Rattle.iloc_grammar.specs.Written.{Identifier, HasWords, IsIdentifier, identifier_pieces, fields_pieces}
 use Rattle.iloc_grammar.specs.Written as written
-use Rattle.iloc_grammar.specs.Meaning.{normal_identifier, normal_fields}
+use Rattle.iloc_grammar.specs.Meaning.{normal_identifier}
 use Rattle.iloc_grammar.specs.Faults.{front, first_piece}
 use Rattle.iloc_grammar.specs.Reading.{IdentifierFront, from_block}
 use Rattle.iloc_grammar.specs.ByBlocks.{TransformMeans}

@@ -1,21 +1,18 @@
 -- Fields that are taken one at a time.
-use Rattle.std.proofs.Common.{◌≡◌, ℕ, suc, ◌+◌, ◌<◌, ◌≤◌, Bool, true, false, cond, ◌||◌, ◌&&◌, List, [], ◌∷◌, ◌++◌, length, map, refl, sym, ap, ap₂, ◌∙◌, subst, arith, append_assoc, append-nil, length-append, Option, Some, None, option_map, is_some, true≢false, if◌then◌else◌, Err}
+use Rattle.std.proofs.Common.{◌≡◌, ℕ, suc, ◌+◌, ◌<◌, ◌≤◌, Bool, true, false, cond, ◌&&◌, List, [], ◌∷◌, ◌++◌, length, map, refl, sym, ap, ◌∙◌, arith, append_assoc, append-nil, length-append, Option, Some, None, option_map, is_some, if◌then◌else◌, Err}
 use Rattle.std.specs.List.{AllByRecursion, list_all}
 use Rattle.std.specs.FinMap.{find, put}
-use Rattle.std.proofs.lemmas.Bool.{false_from_ne_true}
-use Rattle.std.proofs.lemmas.Bool.Decides.{nat_tests}
 use Rattle.std.proofs.lemmas.List.{map-append}
 use Rattle.iloc_grammar.specs.Words.{TransformKey, Attribute, is_word, IsWord, lower, word_cmp}
 use Rattle.iloc_grammar.specs.Written.{Fields, fields_pieces, IsField}
 use Rattle.iloc_grammar.specs.Meaning.{map_of, normal_fields, normal_values}
 use Rattle.iloc_grammar.specs.Reading.{take_first, skip_first, passing, past, before_key, fields_from}
 use Rattle.iloc_grammar.proofs.MapLaws.{word_cmp_total, same_words}
-use Rattle.iloc_grammar.proofs.WordsLaws.{length-attribute, length-transform_key}
 use Rattle.iloc_fronts.specs.Fronts.{is_field_piece, fields_front, after_fields}
 use Rattle.iloc_grammar.specs.Computing.{is_field}
 use Rattle.iloc_fronts.specs.Computing.{fields_at}
 use Rattle.iloc_map_laws.proofs.Bridge as bridge
-use Rattle.iloc_langid.proofs.TakingLemmas.{took, took_none}
+use Rattle.iloc_langid.proofs.TakingLemmas.{took}
 use Rattle.iloc_subtags.specs.declared.parse_error.ParseError.{ParseError}
 use Rattle.iloc_subtags.specs.declared.parse_error.ParseError.TheVariants.{InvalidLanguage, InvalidSubtag, InvalidExtension, DuplicatedExtension, OutOfMemory}
 use Rattle.iloc_transform.specs.ValueReading.{values_front, ValueFrontReads}

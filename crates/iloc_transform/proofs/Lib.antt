@@ -5,3 +5,4 @@ pub mod MapLemmas
 pub mod TransformLemmas
 pub mod TextLemmas
 pub mod FewLemmas
+pub mod EqualityLemmas

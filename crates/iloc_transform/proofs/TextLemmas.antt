@@ -1,33 +1,51 @@
--- The printed text of a transform, by the pieces that are written.
-use Rattle.std.proofs.Common.{◌≡◌, ℕ, suc, zero, Bool, true, false, not, cond, ◌&&◌, ◌||◌, ◌==◌, List, [], ◌∷◌, ◌++◌, length, nat_lt, refl, sym, ap, ◌∙◌, arith, Option, Some, None, option_map, is_some}
-use Rattle.std.specs.List.{join_with_byte}
+-- The pieces that a transform writes.
+use Rattle.std.proofs.Common.{◌≡◌, ℕ, Bool, true, false, not, cond, ◌&&◌, ◌||◌, ◌==◌, List, [], ◌∷◌, ◌++◌, length, nat_lt, refl, sym, ap, ◌∙◌, arith, Option, Some, None, option_map, is_some}
 use Rattle.std.proofs.lemmas.Bool.Decides.{nat_tests}
-use Rattle.iloc_grammar.specs.Pieces.{join}
-use Rattle.iloc_grammar.specs.Written.{Identifier, Fields, fields_pieces, optional_pieces, transform_pieces}
-use Rattle.iloc_grammar.specs.Values.{lower_identifier, spelled_fields, transform_text}
+use Rattle.iloc_grammar.specs.Written.{Fields, Transform, fields_pieces, optional_pieces, transform_pieces}
+use Rattle.iloc_grammar.specs.Values.{lower_identifier, spelled_fields, transform_spelling}
 use Rattle.iloc_grammar.proofs.PartTexts.{transform_spelling_is}
 use Rattle.iloc_langid.specs.Reads.{value_of}
 use Rattle.iloc_langid.specs.declared.identifier.LanguageIdentifier.{LanguageIdentifier}
+use Rattle.iloc_writeable.specs.Pieces.{hyphened, is_there}
 
-no_part : (b : Bool) (n : ℕ) → (not b && (n == 0)) ≡ true → (b || nat_lt 0 n) ≡ false
-no_part true n h = cc
-no_part false n h = grind (arith, nat_tests)
-
-some_part : (b : Bool) (n : ℕ) → (not b && (n == 0)) ≡ false → (b || nat_lt 0 n) ≡ true
-some_part true n h = refl
-some_part false n h = grind (arith, nat_tests)
+part_test : (b : Bool) (n : ℕ) → (b || nat_lt 0 n) ≡ not (not b && (n == 0))
+part_test true n = refl
+part_test false n = grind (arith, nat_tests)
 
 same_some : (o : Option LanguageIdentifier) → is_some (option_map value_of o) ≡ is_some o
 same_some None = refl
 same_some (Some i) = refl
 
-module _ (o : Option LanguageIdentifier) (fs : Fields) where
-  pub text_nothing : (not (is_some o) && (length fs == 0)) ≡ true → transform_text (record { id = option_map value_of o; fields = fs }) ≡ []
-  unfolding transform_text join
-  text_nothing h = ap join (transform_spelling_is (record { id = option_map value_of o; fields = fs }) ∙ ap (λ b. cond b ((116 ∷ []) ∷ transform_pieces (record { id = option_map lower_identifier (option_map value_of o); fields = spelled_fields fs })) []) (ap (λ b. b || nat_lt 0 (length fs)) (same_some o) ∙ no_part (is_some o) (length fs) h))
+there_by : (b : Bool) (p : List ℕ) (ps : List (List ℕ)) → b ≡ is_there (cond b (p ∷ ps) [])
+there_by true p ps = refl
+there_by false p ps = refl
 
-  pub text_some : (ps : List (List ℕ)) → ps ≡ optional_pieces (option_map lower_identifier (option_map value_of o)) → (not (is_some o) && (length fs == 0)) ≡ false → join_with_byte 45 ((116 ∷ []) ∷ (ps ++ fields_pieces (spelled_fields fs))) ≡ transform_text (record { id = option_map value_of o; fields = fs })
-  unfolding transform_text join
-  text_some ps e h =
-      ap (λ l. join ((116 ∷ []) ∷ (l ++ fields_pieces (spelled_fields fs)))) e
-      ∙ ap join (sym (transform_spelling_is (record { id = option_map value_of o; fields = fs }) ∙ ap (λ b. cond b ((116 ∷ []) ∷ transform_pieces (record { id = option_map lower_identifier (option_map value_of o); fields = spelled_fields fs })) []) (ap (λ b. b || nat_lt 0 (length fs)) (same_some o) ∙ some_part (is_some o) (length fs) h)))
+module _ (o : Option LanguageIdentifier) (fs : Fields) where
+  abbrev written : Transform
+  written = record { id = option_map value_of o; fields = fs }
+
+  -- the pieces of the identifier in lower case, and those of the fields
+  abbrev lowered : List (List ℕ)
+  lowered = transform_pieces (record { id = option_map lower_identifier (option_map value_of o); fields = spelled_fields fs })
+
+  -- whether there is neither
+  abbrev empty : Bool
+  empty = not (is_some o) && (length fs == 0)
+
+  spelling_by : transform_spelling written ≡ cond (not empty) ((116 ∷ []) ∷ lowered) []
+  spelling_by = transform_spelling_is written ∙ ap (λ b. cond b ((116 ∷ []) ∷ lowered) []) (ap (λ b. b || nat_lt 0 (length fs)) (same_some o) ∙ part_test (is_some o) (length fs))
+
+  pub transform_there : not empty ≡ is_there (transform_spelling written)
+  transform_there = there_by (not empty) (116 ∷ []) lowered ∙ ap is_there (sym spelling_by)
+
+  pub transform_none : (first : Bool) → empty ≡ true → [] ≡ hyphened first (transform_spelling written)
+  transform_none first h = none first ∙ ap (hyphened first) (sym (spelling_by ∙ ap (λ b. cond (not b) ((116 ∷ []) ∷ lowered) []) h))
+    where
+      none : (first : Bool) → [] ≡ hyphened first []
+      none true = refl
+      none false = refl
+
+  pub transform_some : (ps : List (List ℕ)) → ps ≡ optional_pieces (option_map lower_identifier (option_map value_of o)) → empty ≡ false → (116 ∷ []) ∷ (ps ++ fields_pieces (spelled_fields fs)) ≡ transform_spelling written
+  transform_some ps e h =
+      ap (λ l. (116 ∷ []) ∷ (l ++ fields_pieces (spelled_fields fs))) e
+      ∙ sym (spelling_by ∙ ap (λ b. cond (not b) ((116 ∷ []) ∷ lowered) []) h)

@@ -1,5 +1,5 @@
 -- An identifier and fields, one after the other.
-use Rattle.std.proofs.Common.{◌≡◌, ◌≢◌, ℕ, ◌<◌, ◌==◌, Bool, true, false, not, cond, ◌&&◌, ◌||◌, List, [], ◌∷◌, length, nat_lt, refl, sym, ap, ap₂, ◌∙◌, subst, arith, Option, Some, None, option_map, is_some, Result, Ok, Err, true≢false, IsErr}
+use Rattle.std.proofs.Common.{◌≡◌, ◌≢◌, ℕ, ◌<◌, ◌==◌, Bool, true, false, not, cond, ◌&&◌, ◌||◌, List, [], ◌∷◌, length, nat_lt, refl, sym, ap, ◌∙◌, subst, arith, Option, Some, None, option_map, is_some, Result, Ok, Err, true≢false}
 use Rattle.std.specs.List.{list_all}
 use Rattle.std.specs.FinMap.{put}
 use Rattle.std.specs.FinMap.Entries.{by_order}
@@ -7,7 +7,7 @@ use Rattle.std.specs.declared.cmp.Ordering.TheVariants.{Less, Equal, Greater}
 use Rattle.std.proofs.lemmas.Bool.{and_parts}
 use Rattle.std.proofs.lemmas.Bool.Decides.{nat_tests}
 use Rattle.iloc_grammar.specs.Pieces.{pieces}
-use Rattle.iloc_grammar.specs.Words.{Language, is_word, IsWord, normal, read, lower, languages, word_cmp, TransformKey}
+use Rattle.iloc_grammar.specs.Words.{Language, is_word, read, lower, languages, word_cmp, TransformKey}
 use Rattle.iloc_grammar.specs.Written as written
 use Rattle.iloc_grammar.specs.Written.{Identifier, IsIdentifier}
 use Rattle.iloc_grammar.specs.Meaning.{normal_identifier, normal_transform, normal_fields, normal_values}
@@ -15,14 +15,14 @@ use Rattle.iloc_grammar.specs.Faults as faults
 use Rattle.iloc_grammar.specs.Faults.{Fault, first_piece}
 use Rattle.iloc_grammar.specs.Reading.{first_item, rest_of, fields_from}
 use Rattle.iloc_grammar.specs.Computing.{is_field}
-use Rattle.iloc_fronts.specs.Fronts.{FrontRead, absent, present, fields_front, after_fields, TransformRead, TransformFault, repeats}
+use Rattle.iloc_fronts.specs.Fronts.{absent, present, after_fields, TransformRead, TransformFault, repeats}
 use Rattle.iloc_fronts.specs.Computing.{fields_at, fields_result}
-use Rattle.iloc_fronts.specs.Parts.{PartRead, is_letter, TransformTextFault}
+use Rattle.iloc_fronts.specs.Parts.{is_letter, TransformTextFault}
 use Rattle.iloc_fronts.proofs.TransformLaws.{fields_answer, IsTransformAnswer}
 use Rattle.iloc_other.specs.Singleton.{singleton_at}
 use Rattle.iloc_other.proofs.SingletonLemmas.{part_reads, part_fault, part_other, part_none}
 use Rattle.iloc_other.proofs.TextLemmas.{another_letter}
-use Rattle.iloc_other.proofs.TakingLemmas.{accepted_from_read, refused_from_read}
+use Rattle.iloc_other.proofs.TakingLemmas.{refused_from_read}
 use Rattle.iloc_subtags.specs.declared.parse_error.ParseError.{ParseError}
 use Rattle.iloc_subtags.specs.declared.parse_error.ParseError.TheVariants.{InvalidLanguage, InvalidSubtag, InvalidExtension, DuplicatedExtension, OutOfMemory}
 use Rattle.iloc_langid.specs.Reads.{FrontReadsAs}

@@ -1,5 +1,5 @@
 -- Subtags of a value that are taken one at a time.
-use Rattle.std.proofs.Common.{◌≡◌, ℕ, suc, ◌+◌, ◌<◌, ◌≤◌, Bool, true, false, not, cond, ◌&&◌, List, [], ◌∷◌, ◌++◌, length, map, filter, refl, sym, ap, ap₂, ◌∙◌, subst, arith, append_assoc, append-nil, length-append, Option, Some, None, option_map, Result, Ok, Err, true≢false, if◌then◌else◌}
+use Rattle.std.proofs.Common.{◌≡◌, ℕ, suc, ◌+◌, ◌<◌, Bool, true, false, not, cond, List, [], ◌∷◌, ◌++◌, length, refl, sym, ap, ◌∙◌, subst, arith, append_assoc, append-nil, length-append, Some, None, option_map, Ok, Err, if◌then◌else◌}
 use Rattle.std.specs.List.{list_all}
 use Rattle.std.proofs.lemmas.Bool.{and_parts, false_from_ne_true}
 use Rattle.iloc_grammar.specs.Pieces.{pieces}
@@ -7,9 +7,7 @@ use Rattle.iloc_grammar.specs.Words.{Attribute, is_word, IsWord, lower, is_true}
 use Rattle.iloc_grammar.specs.Meaning.{normal_values}
 use Rattle.iloc_grammar.specs.Reading.{take_first, skip_first, passing, past}
 use Rattle.iloc_grammar.specs.Reading.{first_item}
-use Rattle.iloc_grammar.specs.Faults as faults
 use Rattle.iloc_grammar.proofs.PiecesLaws.{pieces_nonempty}
-use Rattle.iloc_fronts.specs.PartValues.{transform_value}
 use Rattle.iloc_subtags.specs.declared.parse_error.ParseError.{ParseError}
 use Rattle.iloc_subtags.specs.declared.parse_error.ParseError.TheVariants.{InvalidLanguage, InvalidSubtag, InvalidExtension, DuplicatedExtension, OutOfMemory}
 use Rattle.iloc_langid.proofs.TakingLemmas.{took, took_none}

@@ -7,12 +7,14 @@
 //! `iloc_shortvec`.
 #![tactic(auto)]
 
-ghost use Rattle.std.specs.Prelude.{◌≡◌, ◌≤◌, ℕ, List, [], length, IfSome};
+ghost use Rattle.std.specs.Prelude.{◌≡◌, ◌≤◌, ◌↔◌, IsTrue, ℕ, List, [], length, IfSome};
 ghost use Rattle.iloc_grammar.specs.Words.{languages};
 ghost use Rattle.iloc_grammar.specs.Written as written;
 ghost use Rattle.iloc_grammar.specs.Faults.{front};
 ghost use Rattle.iloc_grammar.specs.ByBlocks.{TransformMeans};
-ghost use Rattle.iloc_transform.specs.TransformReading.{WantsMemory};
+ghost use Rattle.iloc_orders.specs.Orders.{words_cmp, fields_cmp};
+ghost use Rattle.iloc_transform.specs.declared.transform.Transform.{Transform};
+ghost use Rattle.iloc_transform.specs.TransformReading.{WantsMemory, value_of};
 
 pub mod fields;
 mod lang;
@@ -26,4 +28,17 @@ pub use value::Value;
 /// A block that means an identifier of at most four variants, or none, and no field takes no memory.
 pub fn few_words()
     ensures { (ps : List (List ℕ)) (m : written.Transform) → TransformMeans languages (front ps) m → IfSome m.id (λ i. length i.variants ≤ 4) → m.fields ≡ [] → ¬ (WantsMemory ps) }
+{}
+
+/// Values and fields stand in the orders of the definitions.
+pub fn orders()
+    ensures values { (v w : List (List ℕ)) → ⟦<Value as Ord>⟧.cmp v w ≡ words_cmp v w }
+    ensures fields { (f g : written.Fields) → ⟦<Fields as Ord>⟧.cmp f g ≡ fields_cmp f g }
+{}
+
+/// `==` answers whether the two stand for the same.
+pub fn equality()
+    ensures values { (v w : List (List ℕ)) → IsTrue (⟦<Value as PartialEq>⟧.eq v w) ↔ (v ≡ w) }
+    ensures fields { (f g : written.Fields) → IsTrue (⟦<Fields as PartialEq>⟧.eq f g) ↔ (f ≡ g) }
+    ensures transforms { (m n : Transform) → IsTrue (⟦<Transform as PartialEq>⟧.eq m n) ↔ (value_of m ≡ value_of n) }
 {}

@@ -104,6 +104,27 @@ impl Transform {
     }
 }
 
+/// The pieces are `t`, those of the identifier in lower case and those of the fields; an empty one has
+/// none.
+impl Pieces for Transform {
+    ghost use Rattle.iloc_grammar.specs.Values.{transform_spelling};
+    ghost use Rattle.iloc_transform.specs.TransformReading.{value_of};
+
+    ghost pieces = { λ m. transform_spelling (value_of m) };
+
+    fn has_pieces(&self) -> bool {
+        !self.is_empty()
+    }
+
+    fn write_pieces<S: Sink>(&self, sink: &mut S, first: bool) -> fmt::Result {
+        if self.is_empty() {
+            return Ok(());
+        }
+        let lang = lowercase(self.lang.as_ref());
+        ("t", lang, &self.fields).write_pieces(sink, first)
+    }
+}
+
 /// Prints `t`, the identifier in lower case and the fields; an empty one prints nothing.
 impl Writeable for Transform {
     ghost use Rattle.iloc_grammar.specs.Values.{transform_text};
@@ -111,12 +132,9 @@ impl Writeable for Transform {
 
     ghost text = { λ m. transform_text (value_of m) };
 
+    #[tactic(auto, unfolding(iloc_grammar::specs::Values::transform_text, iloc_grammar::specs::Pieces::join))]
     fn write_to<S: Sink>(&self, sink: &mut S) -> fmt::Result {
-        if self.is_empty() {
-            return Ok(());
-        }
-        let lang = lowercase(self.lang.as_ref());
-        ("t", lang, &self.fields).write_joined(sink)
+        self.write_joined(sink)
     }
 
     fn writeable_borrow(&self) -> Option<&str> {

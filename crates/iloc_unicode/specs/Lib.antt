@@ -1,3 +1,4 @@
+pub mod Equality
 pub mod KeywordsOrder
 pub mod Lends
 pub mod Reads

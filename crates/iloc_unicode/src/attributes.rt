@@ -1,6 +1,9 @@
 //! The attributes of a unicode extension.
-ghost use Rattle.std.specs.Prelude.{◌≡◌, ◌<◌, ◌≤◌, ◌+◌, ◌==◌, ◌++◌, [], ◌∷◌, true, length, OnOk, OnErr, IfOk, IsOk, Some};
+ghost use Rattle.std.specs.Prelude.{◌≡◌, ◌↔◌, ◌<◌, ◌≤◌, ◌+◌, ◌==◌, ◌++◌, [], ◌∷◌, true, length, OnOk, OnErr, IfOk, IsOk, IsTrue, Some};
 ghost use Rattle.std.specs.List.{AllByRecursion, list_any};
+ghost use Rattle.std.specs.Cmp.Rules.{comparing};
+ghost use Rattle.std.specs.Hash.{same_Alike};
+ghost use Rattle.std.proofs.Common.{rules};
 ghost use Rattle.std.specs.Slice.{IsItemAt};
 ghost use Rattle.std.specs.Slice.Iter.{iter_rest};
 ghost use Rattle.iloc_grammar.specs.Pieces.{join};
@@ -8,6 +11,7 @@ ghost use Rattle.iloc_grammar.specs.Words.{Attribute, is_same, word_cmp};
 ghost use Rattle.iloc_grammar.specs.Meaning.{set_of};
 ghost use Rattle.iloc_grammar.specs.Values.{IsNormal, IsAscending};
 ghost use Rattle.iloc_unicode.specs.Reads.{AttributesReadAs};
+ghost use Rattle.iloc_unicode_value.specs.Equality.{words_eq, words_exact};
 ghost use Rattle.iloc_word_set.specs.Ascending.{ascends};
 
 use crate::reader::read_attributes;
@@ -22,7 +26,7 @@ use std::marker::Model;
 use std::slice::Iter;
 
 /// A set of attributes, kept strictly ascending. Contracts see the list of their texts.
-#[derive(Drop, Debug, PartialEq, Eq, PartialOrd, Ord, Hash)]
+#[derive(Drop, Debug, Eq, PartialOrd, Ord, Hash)]
 pub struct Attributes {
     words: WordSet<AttributeKind, 8>,
 }
@@ -161,6 +165,25 @@ impl Attributes {
             words: self.words.union(alloc, &other.words)?,
         })
     }
+}
+
+/// Equal are the same sets.
+impl PartialEq for Attributes {
+    ghost eq = { words_eq };
+
+    ghost laws = { Prim.search (comparing, rules) };
+
+    fn eq(&self, other: &Self) -> bool
+        ensures value { result ≡ words_eq self.now other.now }
+        ensures equality { IsTrue result ↔ (self.now ≡ other.now) }
+    {
+        self.words == other.words
+    }
+}
+
+#[derived]
+impl Hash for Attributes {
+    ghost respects_eq = { (same_Alike _ words_exact).fed };
 }
 
 impl Clone for Attributes {

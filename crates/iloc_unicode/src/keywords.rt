@@ -1,5 +1,5 @@
 //! The keywords of a unicode extension.
-ghost use Rattle.std.specs.Prelude.{◌≡◌, ◌<◌, ◌==◌, ◌↔◌, ℕ, List, [], ◌∷◌, ◌++◌, true, length, IsSome, IsTrue, OnOk, OnErr, IfOk, IsOk, if◌then◌else◌};
+ghost use Rattle.std.specs.Prelude.{◌≡◌, ◌<◌, ◌==◌, ◌↔◌, ℕ, List, [], ◌∷◌, ◌++◌, true, length, reverse, IsSome, IsTrue, OnOk, OnErr, IfOk, IsOk, if◌then◌else◌};
 ghost use Rattle.std.specs.Borrow.{sem};
 ghost use Rattle.std.specs.Fn.{CalledAt};
 ghost use Rattle.std.specs.FinMap.{find, put};
@@ -9,12 +9,14 @@ ghost use Rattle.std.specs.Map.{remove_entry};
 ghost use Rattle.std.specs.BTreeMap.{is_at};
 ghost use Rattle.std.specs.Option.{option_copied, option_copied_mut, is_some};
 ghost use Rattle.std.specs.Ordering.{as_partial_cmp};
-ghost use Rattle.std.specs.Cmp.{partial_order_from_agreeing_total};
+ghost use Rattle.std.specs.Cmp.{decided, partial_equiv_from_equiv, partial_order_from_agreeing_total};
+ghost use Rattle.std.specs.Hash.{same_Alike};
 ghost use Rattle.std.proofs.Common.{refl};
 ghost use Rattle.iloc_grammar.specs.Words.{word_cmp};
 ghost use Rattle.iloc_grammar.specs.Meaning.{map_of};
+ghost use Rattle.iloc_unicode.specs.Equality.{fields_eq, fields_exact};
 ghost use Rattle.iloc_unicode.specs.Reads.{KeywordsReadAs};
-ghost use Rattle.iloc_litemap.specs.Pairs.{IsAscending, insert_all};
+ghost use Rattle.iloc_litemap.specs.Pairs.{IsAscending};
 
 use crate::reader::read_keywords;
 use iloc_litemap::LiteMap;
@@ -28,7 +30,7 @@ use std::marker::Model;
 use std::mem;
 
 /// A map from keys to values, kept by ascending key. One pair takes no memory.
-#[derive(Drop, Debug, PartialEq, Eq, Hash)]
+#[derive(Drop, Debug, Eq, Hash)]
 pub struct Keywords {
     map: LiteMap<Key, Value, ShortBoxSlice<(Key, Value)>>,
 }
@@ -202,7 +204,7 @@ impl Keywords {
         pairs: I,
     ) -> Result<Self, AllocError>
         requires { IsFiniteIterable I.into_iter_gives I.IntoIter.can_next I.IntoIter.remaining pairs }
-        ensures { IfOk result (λ m. (it : I.IntoIter) × (xs : List (List ℕ × List (List ℕ))) × I.into_iter_gives pairs it × Drains I.IntoIter.next_gives it xs × (m ≡ insert_all word_cmp [] xs)) }
+        ensures { IfOk result (λ m. (it : I.IntoIter) × (xs : List (List ℕ × List (List ℕ))) × I.into_iter_gives pairs it × Drains I.IntoIter.next_gives it xs × (m ≡ map_of word_cmp (reverse xs))) }
     {
         let map = LiteMap::from_pairs(alloc, pairs)?;
         Ok(Keywords { map })
@@ -215,6 +217,30 @@ impl From<LiteMap<Key, Value, ShortBoxSlice<(Key, Value)>>> for Keywords {
     fn from(map: LiteMap<Key, Value, ShortBoxSlice<(Key, Value)>>) -> Self {
         Keywords { map }
     }
+}
+
+/// Equal are maps of the same keys to the same values.
+impl PartialEq for Keywords {
+    ghost eq = { fields_eq };
+
+    ghost laws = { partial_equiv_from_equiv (decided fields_eq fields_exact) };
+
+    fn eq(&self, other: &Self) -> bool
+        ensures value { result ≡ fields_eq self.now other.now }
+        ensures equality { IsTrue result ↔ (self.now ≡ other.now) }
+    {
+        self.map == other.map
+    }
+}
+
+#[derived]
+impl Eq for Keywords {
+    ghost laws = { decided fields_eq fields_exact };
+}
+
+#[derived]
+impl Hash for Keywords {
+    ghost respects_eq = { (same_Alike _ fields_exact).fed };
 }
 
 /// The pairs in order, as a short list, the key first.

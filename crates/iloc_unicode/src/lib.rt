@@ -4,8 +4,13 @@
 //! Readers take exactly the front of the pieces that `iloc_fronts` defines and leave the rest; of equal
 //! keys the first stays, and repeated attributes are dropped. Printing is the normal text of the part.
 //! Up to four attributes, and one key with up to four subtags, take no memory. It stands on the set of
-//! words, the map over short lists, values, pieces and printing.
+//! words, the map over short lists and its laws, values, pieces and printing.
 #![tactic(auto)]
+
+ghost use Rattle.std.specs.Prelude.{◌≡◌, ◌↔◌, ℕ, List, true};
+ghost use Rattle.iloc_grammar.specs.Written.{Fields};
+ghost use Rattle.iloc_orders.specs.Orders.{words_cmp, keywords_cmp};
+ghost use Rattle.iloc_unicode.specs.UnicodeValue.{value_of};
 
 pub mod attributes;
 pub mod keywords;
@@ -18,3 +23,12 @@ pub mod unicode;
 pub use attributes::Attributes;
 pub use keywords::{Keywords, KeywordsIter};
 pub use unicode::Unicode;
+
+/// Attributes and keywords are ordered as short lists, and what is equal has the same value.
+pub fn parts_compare()
+    ensures attributes_order { (v w : List (List ℕ)) → ⟦<Attributes as Ord>⟧.cmp v w ≡ words_cmp v w }
+    ensures attributes_equality { (v w : List (List ℕ)) → (⟦<Attributes as PartialEq>⟧.eq v w ≡ true) ↔ (v ≡ w) }
+    ensures keywords_order { (v w : Fields) → ⟦<Keywords as Ord>⟧.cmp v w ≡ keywords_cmp v w }
+    ensures keywords_equality { (v w : Fields) → (⟦<Keywords as PartialEq>⟧.eq v w ≡ true) ↔ (v ≡ w) }
+    ensures unicode_equality { (u v : Unicode) → (⟦<Unicode as PartialEq>⟧.eq u v ≡ true) ↔ (value_of u ≡ value_of v) }
+{}

@@ -1,13 +1,11 @@
-//! Prints keywords and the whole extension.
+//! Prints keywords.
 ghost use Rattle.std.specs.Prelude.{◌≡◌, Some};
 ghost use Rattle.std.specs.Ordering.{nat_cmp};
 ghost use Rattle.std.specs.Cmp.Lexicographic.{slice_cmp};
 ghost use Rattle.iloc_grammar.specs.Pieces.{join};
 ghost use Rattle.iloc_grammar.specs.Written.{fields_pieces};
-ghost use Rattle.iloc_grammar.specs.Values.{unicode_spelling, unicode_text};
 
 use crate::keywords::Keywords;
-use crate::unicode::Unicode;
 use iloc_writeable::compare::cmp_utf8;
 use iloc_writeable::pieces::Pieces;
 use iloc_writeable::{Sink, Writeable};
@@ -56,50 +54,5 @@ impl Keywords {
         ensures { result ≡ slice_cmp nat_cmp (join (fields_pieces self.now)) other.now }
     {
         cmp_utf8(self, other)
-    }
-}
-
-/// The pieces are `u`, the attributes and the keywords; an empty extension has none.
-impl Pieces for Unicode {
-    ghost use Rattle.iloc_unicode.specs.UnicodeValue.{value_of};
-
-    ghost pieces = { λ u. unicode_spelling (value_of u) };
-
-    fn has_pieces(&self) -> bool {
-        !self.is_empty()
-    }
-
-    fn write_pieces<S: Sink>(&self, sink: &mut S, first: bool) -> fmt::Result {
-        if self.is_empty() {
-            return Ok(());
-        }
-        ("u", &self.attributes, &self.keywords).write_pieces(sink, first)
-    }
-}
-
-/// Prints `u`, the attributes and the keywords, with a hyphen between each two; of an empty extension
-/// nothing.
-impl Writeable for Unicode {
-    ghost use Rattle.iloc_unicode.specs.UnicodeValue.{value_of};
-
-    ghost text = { λ u. unicode_text (value_of u) };
-
-    #[tactic(auto, unfolding(iloc_grammar::specs::Pieces::join, iloc_grammar::specs::Values::unicode_text))]
-    fn write_to<S: Sink>(&self, sink: &mut S) -> fmt::Result {
-        self.write_joined(sink)
-    }
-
-    fn writeable_borrow(&self) -> Option<&str> {
-        None
-    }
-}
-
-impl fmt::Display for Unicode {
-    ghost use Rattle.iloc_unicode.specs.UnicodeValue.{value_of};
-
-    ghost output = { λ u. Some (unicode_text (value_of u)) };
-
-    fn fmt<W: fmt::Write>(&self, f: &mut fmt::Formatter<W>) -> fmt::Result {
-        self.write_to(f)
     }
 }

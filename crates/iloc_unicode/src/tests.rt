@@ -5,6 +5,7 @@ use iloc_unicode_value::Value;
 use iloc_writeable::{LengthHint, Writeable};
 use std::alloc::Global;
 use std::cmp::Ordering;
+use std::hash::{FoldHasher, Hash, Hasher};
 use std::test::Fail;
 
 fn keywords(alloc: Global, text: &str) -> Result<Keywords, ParseError> {
@@ -15,6 +16,12 @@ fn unicode(alloc: Global, text: &str) -> Result<Unicode, ParseError> {
     Unicode::try_from_str(alloc, text)
 }
 
+fn hash_of(value: &Unicode) -> u64 {
+    let mut hasher = FoldHasher::default();
+    value.hash(&mut hasher);
+    hasher.finish()
+}
+
 #[test]
 fn keywords_end_before_what_fits_nowhere(rt: HostRuntime) -> Result<(), Fail> {
     let cases = [
@@ -22,6 +29,7 @@ fn keywords_end_before_what_fits_nowhere(rt: HostRuntime) -> Result<(), Fail> {
         ("ca-foo-x-bar", "ca-foo"),
         ("foo", ""),
         ("", ""),
+        ("hc-h12", "hc-h12"),
         ("hc-h12-!", "hc-h12"),
         ("hc-CA-True-abc", "ca-abc-hc"),
         ("ca-ca-foo", "ca"),
@@ -67,6 +75,7 @@ fn attributes_end_before_the_first_key(rt: HostRuntime) -> Result<(), Fail> {
 #[test]
 fn an_extension_has_one_part_at_least(rt: HostRuntime) -> Result<(), Fail> {
     for (text, printed) in [
+        ("u-foo-hc-h12", "u-foo-hc-h12"),
         ("U-FOO", "u-foo"),
         ("u-foo-!", "u-foo"),
         ("u-hc-h12-ca", "u-ca-hc-h12"),
@@ -160,14 +169,34 @@ fn each_call_of_the_map(rt: HostRuntime) -> Result<(), Fail> {
 
 #[test]
 fn each_key_is_asked_once(rt: HostRuntime) -> Result<(), Fail> {
-    let mut map = keywords(rt.alloc(), "hc-h12-ca-roc-co-emoji")?;
+    let mut map = keywords(rt.alloc(), "ca-roc-co-emoji-hc-h12")?;
     let mut asked = 0u32;
-    map.retain_by_key(|key| {
+    map.retain_by_key(|_key| {
         asked = asked.saturating_add(1);
-        key.as_str() != "co"
+        asked != 2
     });
     assert_eq!(rt; asked, 3);
     assert_eq!(rt; format!(in rt.alloc(); "{map}")?.as_str(), "ca-roc-hc-h12");
+    Ok(())
+}
+
+#[test]
+fn equal_is_each_part(rt: HostRuntime) -> Result<(), Fail> {
+    let alloc = rt.alloc();
+    let whole = unicode(alloc, "u-foo-bar-ca-roc-hc")?;
+    for (text, same) in [
+        ("U-BAR-FOO-HC-TRUE-CA-ROC", true),
+        ("u-foo-bar-foo-ca-roc-hc-ca-foo", true),
+        ("u-foo-ca-roc-hc", false),
+        ("u-foo-bar-ca-roc", false),
+        ("u-foo-bar-ca-roc-hc-h12", false),
+        ("u-foo-baz-ca-roc-hc", false),
+    ] {
+        let other = unicode(alloc, text)?;
+        assert_eq!(rt; whole == other, same, "{text}");
+        assert_eq!(rt; whole.total_cmp(&other) == Ordering::Equal, same, "{text}");
+        assert!(rt; !same || hash_of(&whole) == hash_of(&other), "{text}");
+    }
     Ok(())
 }
 

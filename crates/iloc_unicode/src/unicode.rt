@@ -1,6 +1,9 @@
 //! The unicode extension.
-ghost use Rattle.std.specs.Prelude.{◌≡◌, ◌&&◌, ◌==◌, [], length, OnOk, OnErr};
+ghost use Rattle.std.specs.Prelude.{◌≡◌, ◌↔◌, ◌&&◌, ◌==◌, [], length, IsTrue, OnOk, OnErr, Some};
+ghost use Rattle.std.specs.Cmp.{decided, partial_equiv_from_equiv};
+ghost use Rattle.std.specs.Hash.{same_Alike};
 ghost use Rattle.iloc_fronts.specs.Extending.{extend};
+ghost use Rattle.iloc_grammar.specs.Values.{unicode_spelling, unicode_text};
 ghost use Rattle.iloc_grammar.specs.Written.{Unicode as UnicodeParts};
 ghost use Rattle.iloc_orders.specs.Orders.{unicode_cmp};
 
@@ -9,11 +12,14 @@ use crate::keywords::Keywords;
 use crate::reader::{read_unicode, takes_u};
 use iloc_parser::SubtagIterator;
 use iloc_subtags::ParseError;
+use iloc_writeable::pieces::Pieces;
+use iloc_writeable::{Sink, Writeable};
 use std::alloc::{AllocError, Global};
 use std::cmp::Ordering;
+use std::fmt;
 
 /// The unicode extension of a locale: attributes and keywords.
-#[derive(Drop, Debug, Clone, PartialEq, Eq, Hash, Default)]
+#[derive(Drop, Debug, Clone, Eq, Hash, Default)]
 pub struct Unicode {
     pub keywords: Keywords,
     pub attributes: Attributes,
@@ -92,5 +98,80 @@ impl Unicode {
         self.keywords.extend_from_keywords(alloc, other.keywords)?;
         self.attributes = attributes;
         Ok(())
+    }
+}
+
+/// Equal are extensions of the same attributes and the same keywords.
+impl PartialEq for Unicode {
+    ghost use Rattle.iloc_unicode.specs.UnicodeValue.{value_of, shown_eq, shown_exact};
+
+    ghost eq = { shown_eq };
+
+    ghost laws = { partial_equiv_from_equiv (decided shown_eq shown_exact) };
+
+    fn eq(&self, other: &Self) -> bool
+        ensures value { result ≡ shown_eq self.now other.now }
+        ensures equality { IsTrue result ↔ (value_of self.now ≡ value_of other.now) }
+    {
+        self.keywords == other.keywords && self.attributes == other.attributes
+    }
+}
+
+#[derived]
+impl Eq for Unicode {
+    ghost use Rattle.iloc_unicode.specs.UnicodeValue.{shown_eq, shown_exact};
+
+    ghost laws = { decided shown_eq shown_exact };
+}
+
+#[derived]
+impl Hash for Unicode {
+    ghost use Rattle.iloc_unicode.specs.UnicodeValue.{shown_exact};
+
+    ghost respects_eq = { (same_Alike _ shown_exact).fed };
+}
+
+/// The pieces are `u`, the attributes and the keywords; an empty extension has none.
+impl Pieces for Unicode {
+    ghost use Rattle.iloc_unicode.specs.UnicodeValue.{value_of};
+
+    ghost pieces = { λ u. unicode_spelling (value_of u) };
+
+    fn has_pieces(&self) -> bool {
+        !self.is_empty()
+    }
+
+    fn write_pieces<S: Sink>(&self, sink: &mut S, first: bool) -> fmt::Result {
+        if self.is_empty() {
+            return Ok(());
+        }
+        ("u", &self.attributes, &self.keywords).write_pieces(sink, first)
+    }
+}
+
+/// Prints `u`, the attributes and the keywords, with a hyphen between each two; of an empty extension
+/// nothing.
+impl Writeable for Unicode {
+    ghost use Rattle.iloc_unicode.specs.UnicodeValue.{value_of};
+
+    ghost text = { λ u. unicode_text (value_of u) };
+
+    #[tactic(auto, unfolding(iloc_grammar::specs::Pieces::join, iloc_grammar::specs::Values::unicode_text))]
+    fn write_to<S: Sink>(&self, sink: &mut S) -> fmt::Result {
+        self.write_joined(sink)
+    }
+
+    fn writeable_borrow(&self) -> Option<&str> {
+        None
+    }
+}
+
+impl fmt::Display for Unicode {
+    ghost use Rattle.iloc_unicode.specs.UnicodeValue.{value_of};
+
+    ghost output = { λ u. Some (unicode_text (value_of u)) };
+
+    fn fmt<W: fmt::Write>(&self, f: &mut fmt::Formatter<W>) -> fmt::Result {
+        self.write_to(f)
     }
 }

@@ -1,5 +1,4 @@
 mod CutLemmas
-mod EqualityLemmas
 mod PrintLemmas
 mod ReadingLemmas
 mod WholeLemmas

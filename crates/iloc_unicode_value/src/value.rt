@@ -3,9 +3,12 @@ ghost use Rattle.std.specs.Prelude.{◌≡◌, ◌<◌, ◌≤◌, ◌↔◌, �
 ghost use Rattle.std.specs.List.{AllByRecursion};
 ghost use Rattle.std.specs.Iterator.{IsFiniteIterable, Drains};
 ghost use Rattle.std.specs.Option.{option_copied};
+ghost use Rattle.std.specs.Cmp.Rules.{comparing};
+ghost use Rattle.std.proofs.Common.{rules};
 ghost use Rattle.iloc_grammar.specs.Words.{Subtag, is_true};
 ghost use Rattle.iloc_grammar.specs.Values.{IsNormal};
 ghost use Rattle.iloc_shortvec.specs.ShortList.{only_of};
+ghost use Rattle.iloc_unicode_value.specs.Equality.{words_eq, words_exact, alike};
 ghost use Rattle.iloc_unicode_value.specs.Values.{without_true, with_subtag};
 
 use iloc_shortvec::{ShortWords, ShortWordsIntoIter};
@@ -14,7 +17,7 @@ use std::alloc::{AllocError, Global};
 use std::marker::Model;
 
 /// The value of a keyword: a list of subtags. The empty value stands for `true`.
-#[derive(Drop, Debug, PartialEq, Eq, PartialOrd, Ord, Hash)]
+#[derive(Drop, Debug, Eq, PartialOrd, Ord, Hash)]
 pub struct Value {
     subtags: ShortWords<Subtag>,
 }
@@ -210,6 +213,25 @@ fn spells_true(subtag: &Subtag) -> bool
     ensures normal { IsNormal Subtag subtag.now }
 {
     subtag.as_str() == "true"
+}
+
+/// Equal are values of the same subtags in the same order.
+impl PartialEq for Value {
+    ghost eq = { words_eq };
+
+    ghost laws = { Prim.search (comparing, rules) };
+
+    fn eq(&self, other: &Self) -> bool
+        ensures value { result ≡ words_eq self.now other.now }
+        ensures equality { IsTrue result ↔ (self.now ≡ other.now) }
+    {
+        self.subtags == other.subtags
+    }
+}
+
+#[derived]
+impl Hash for Value {
+    ghost respects_eq = { alike _ words_exact };
 }
 
 impl Clone for Value {

@@ -27,8 +27,12 @@ impl<K: WordKind<N>, const N: usize> Clone for WordSet<K, N> {
     }
 }
 
-/// The list of the words.
+/// Prints the list of the words, each in quotes.
 impl<K: WordKind<N>, const N: usize> fmt::Debug for WordSet<K, N> {
+    ghost use Rattle.std.specs.Fmt.{debug_list, debug_str};
+
+    ghost debug_output = { debug_list debug_str };
+
     fn fmt<W: fmt::Write>(&self, f: &mut fmt::Formatter<W>) -> fmt::Result {
         fmt::Debug::fmt(&self.as_slice(), f)
     }

@@ -169,7 +169,8 @@ impl<K: WordKind<N>, const N: usize> WordSet<K, N> {
 
     /// A set of the same words. It takes memory only where there are more than four.
     pub(crate) fn copied(&self) -> Result<Self, AllocError>
-        ensures { IfOk result (λ s. s ≡ self.now) }
+        ensures value { IfOk result (λ s. s ≡ self.now) }
+        ensures succeeds { length self.now ≤ 4 → IsOk result }
     {
         Ok(WordSet {
             words: self.words.clone()?,
@@ -188,9 +189,10 @@ impl<K: WordKind<N>, const N: usize> WordSet<K, N> {
         Ok(())
     }
 
-    /// The words of both sets.
+    /// The words of both sets. It takes no memory where the two have four words at most together.
     pub fn union(&self, alloc: Global, other: &Self) -> Result<Self, AllocError>
-        ensures { IfOk result (λ s. s ≡ set_of (self.now ++ other.now)) }
+        ensures words { IfOk result (λ s. s ≡ set_of (self.now ++ other.now)) }
+        ensures succeeds { length self.now + length other.now ≤ 4 → IsOk result }
     {
         let mut all = self.copied()?;
         all.add_all(alloc, other)?;

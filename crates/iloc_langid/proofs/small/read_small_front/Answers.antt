@@ -1,4 +1,3 @@
-use Rattle.std.proofs.Common.{sym, ap, ◌∙◌}
 use Rattle.iloc_grammar.specs.Words.{Language, languages}
 use Rattle.iloc_parser.specs.Left.{left}
 use Rattle.iloc_langid.proofs.FrontLemmas.{no_empty_language, accepted_from_read}

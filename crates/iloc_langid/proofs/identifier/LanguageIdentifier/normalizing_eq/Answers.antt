@@ -1,10 +1,9 @@
-use Rattle.std.proofs.Common.{◌≡◌, ◌∷◌, ◌∙◌, ◌==◌, ◌&&◌, Bool, true, false, not, length, List, ℕ, sym, ap, subst, refl, true≢false, option_map, eq-eqb}
+use Rattle.std.proofs.Common.{◌≡◌, ◌∷◌, ◌∙◌, ◌==◌, ◌&&◌, Bool, true, false, not, length, sym, ap, refl, true≢false, eq-eqb}
 use borrow.Author.Tests.{eqb-true}
 use Rattle.std.proofs.lemmas.Bool.{and_parts, and_from}
 use Rattle.std.specs.Cmp.Lexicographic.{same_text}
 use Rattle.iloc_grammar.specs.Pieces.{pieces}
-use Rattle.iloc_grammar.specs.Words.{Language, Region, is_word, lower, upper, languages}
-use Rattle.iloc_grammar.specs.Reading.{take_first, skip_first}
+use Rattle.iloc_grammar.specs.Words.{Language, languages}
 use Rattle.iloc_parser.specs.Left.{left}
 use Rattle.iloc_langid.specs.Agreeing.{are_all_among}
 use Rattle.iloc_langid.proofs.FrontLemmas.{accepted_from_read}

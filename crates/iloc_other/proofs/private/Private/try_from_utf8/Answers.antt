@@ -1,4 +1,4 @@
-use Rattle.std.proofs.Common.{sym, ap, ◌∙◌}
+use Rattle.std.proofs.Common.{ap, ◌∙◌}
 use Rattle.iloc_grammar.specs.Reading.{rest_of}
 use Rattle.iloc_parser.specs.Left.{left}
 use Rattle.iloc_other.specs.Singleton.{singleton_at}

@@ -1,6 +1,6 @@
 use Rattle.std.proofs.lemmas.Result.{err_from_is_err_and}
 use Rattle.iloc_parser.specs.Left.{left}
-use Rattle.iloc_transform.proofs.FieldsLemmas.{takes_field, refuses, shorter, wants_memory}
+use Rattle.iloc_transform.proofs.FieldsLemmas.{takes_field, refuses, shorter}
 use Rattle.iloc_transform.proofs.fields.Fields.read_front.Goals as goal
 
 pub returns-in_err-value : goal.returns-in_err-value

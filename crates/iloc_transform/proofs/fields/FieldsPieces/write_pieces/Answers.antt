@@ -1,4 +1,4 @@
-use Rattle.std.proofs.Common.{◌∙◌, sym, ap}
+use Rattle.std.proofs.Common.{◌∙◌, ap}
 use Rattle.iloc_grammar.specs.Written.{fields_pieces}
 use Rattle.iloc_grammar.specs.Values.{spelled_fields}
 use Rattle.iloc_transform.proofs.PrintLemmas.{pairs_pieces}

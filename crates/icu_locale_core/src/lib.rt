@@ -1,0 +1,112 @@
+//! Unicode locale identifiers such as `ar-SA-u-ca-islamic-civil`, read, changed, compared and printed.
+//!
+//! It is the Rust crate `icu_locale_core` 2.4.0 in Rattle, at that crate's paths; the syntax is that of
+//! UTS #35 section 3. Each item is made in a lower crate and only passed on here.
+//!
+//! What it promises, by the contracts of the calls:
+//!
+//! - For all bytes, `Locale::try_from_utf8` accepts exactly the texts of the grammar, each with its meaning.
+//!   Every other text is refused with the fault that the grammar names.
+//! - What is read is well-formed: its printed text reads back as it.
+//! - `Locale::normalize` answers the one normal text of the meaning, borrowed where the input is normal already.
+//!   Normalising twice is once; two texts have the same normal text exactly where they mean the same; no
+//!   accepted text of that meaning is shorter; and at most eight steps of rewriting lead there.
+//! - Printing, length hints, comparison with bytes and orders are those of the printed text and of the
+//!   definitions, for every value, also for one that was built and that no text means.
+//! - Want of memory is an answer, never an end of the program. Words take none, and short texts fit in place.
+//!
+//! A first example:
+//!
+//! ```text
+//! let mut locale = Locale::try_from_str(alloc, "EN-us-u-ca-Buddhist")?;
+//! locale.write_to_string(alloc)?;                           // en-US-u-ca-buddhist
+//! locale.id.region = Some(Region::try_from_str("gb")?);
+//! locale == Locale::try_from_str(alloc, "en-GB-u-ca-buddhist")?; // true
+//! ```
+//!
+//! Not here yet: data locales (`data`, `DataLocale`), `preferences`, `json` and `bench`.
+//! In the Rust crate some of these modules are private, and `tinystr`, `writeable` and `litemap` are crates.
+#![tactic(auto)]
+
+#[cfg(test)]
+mod tests;
+
+/// Short ASCII texts.
+pub mod tinystr {
+    pub use iloc_tinystr::TinyAsciiStr;
+}
+
+/// Printing to a sink.
+pub mod writeable {
+    pub use iloc_writeable::{LengthHint, Sink, Writeable, cmp_utf8, to_string_or_borrow};
+}
+
+/// Lists that keep a few items in place.
+pub mod shortvec {
+    pub use iloc_shortvec::{ShortBoxSlice, ShortBoxSliceIntoIter, ShortWords, ShortWordsIntoIter};
+}
+
+/// A sorted map over a list of pairs.
+pub mod litemap {
+    pub use iloc_litemap::{LiteMap, Probe, Store, place};
+}
+
+/// The words of identifiers, and sets of variants.
+pub mod subtags {
+    pub use iloc_subtags::{Language, Region, Script, Subtag, Variant, Word};
+    pub use iloc_word_set::{Variants, is_strictly_ascending};
+}
+
+/// The pieces of a text, and why a text is refused.
+pub mod parser {
+    pub use iloc_parser::SubtagIterator;
+    pub use iloc_subtags::ParseError;
+}
+
+/// Language identifiers.
+pub mod langid {
+    pub use iloc_langid::LanguageIdentifier;
+}
+
+/// All extensions of a locale.
+pub mod extensions {
+    pub use iloc_extensions::{ExtensionType, Extensions};
+
+    /// The unicode extension: attributes and keywords.
+    pub mod unicode {
+        pub use iloc_subdivision::SubdivisionId;
+        pub use iloc_subtags::{Attribute, SubdivisionSuffix, UnicodeKey as Key};
+        pub use iloc_unicode::{Attributes, Keywords, KeywordsIter, Unicode};
+        pub use iloc_unicode_value::Value;
+    }
+
+    /// The transform extension: an identifier and fields.
+    pub mod transform {
+        pub use iloc_transform::{Fields, Key, Transform, Value};
+    }
+
+    /// Extensions that are neither unicode, transform nor private.
+    pub mod other {
+        pub use iloc_other::Other;
+    }
+
+    /// The private extension: a list of private words.
+    pub mod private {
+        pub use iloc_other::Private;
+        pub use iloc_subtags::PrivateSubtag as Subtag;
+    }
+}
+
+/// Locales: identifiers with extensions.
+pub mod locale {
+    pub use iloc_locale::Locale;
+}
+
+/// The library of the program `locale_normal`.
+pub mod program {
+    pub use iloc_program::{Mode, RunError, ending, run};
+}
+
+pub use iloc_langid::LanguageIdentifier;
+pub use iloc_locale::Locale;
+pub use iloc_subtags::ParseError;

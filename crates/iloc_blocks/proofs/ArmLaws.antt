@@ -1,0 +1,153 @@
+-- One block more: what it adds to what was read, and which singletons were read.
+use Rattle.std.proofs.Common.{◌≡◌, ◌⊎◌, inl, inr, ℕ, suc, ◌+◌, ◌<◌, Bool, true, false, cond, ◌||◌, ◌&&◌, not, ◌==◌, List, [], ◌∷◌, length, map, refl, sym, ap, ap₂, ◌∙◌, subst, arith, Option, Some, None, is_some, option_map, MatchOption, true≢false}
+use Rattle.std.specs.Prelude.{if◌then◌else◌}
+use Rattle.std.specs.List.{list_any}
+use Rattle.std.specs.Char.{is_ascii_alphanumeric}
+use Rattle.std.specs.Ordering.{nat_cmp, eq_by_cmp}
+use Rattle.std.specs.declared.cmp.Ordering.{Ordering}
+use Rattle.std.specs.declared.cmp.Ordering.TheVariants.{Less, Equal, Greater}
+use Rattle.std.specs.Cmp.{nat_cmp_total}
+use Rattle.std.specs.FinMap.{find, put}
+use Rattle.std.specs.FinMap.Entries.{by_order, is_some-find}
+use Rattle.std.proofs.lemmas.Bool.{cases_eq}
+use Rattle.std.proofs.lemmas.Bool.Decides.{nat_tests}
+use Rattle.iloc_grammar.specs.Words.{lower, word_cmp}
+use Rattle.iloc_grammar.specs.Written.{Identifier, Unicode, Transform, Fields, IsPrivate, kept, singleton, is_other_singleton}
+use Rattle.iloc_grammar.specs.Meaning.{Extensions, map_of, set_of, normal_fields, normal_identifier}
+use Rattle.iloc_grammar.specs.ByBlocks.{UnicodeMeans, TransformMeans, by_letter, other_blocks}
+use Rattle.iloc_grammar.proofs.MapLaws.{find-map_of, tied}
+use Rattle.iloc_blocks.specs.Blocks.{BlocksMean, is_read}
+
+-- what is put into a map is there
+
+not_zero : (n : ℕ) → (suc n == 0) ≡ false
+not_zero n = grind (arith, nat_tests)
+
+length-put : {K X : Type 0} (R : K → K → Ordering) (k : K) (v : X) (es : List (K × X)) → (length (put R k v es) == 0) ≡ false
+length-put R k v [] = refl
+length-put R k v (e ∷ es) = elim (R k e.0) as (λ r. (length (by_order r ((k, v) ∷ e ∷ es) ((e.0, v) ∷ es) (e ∷ put R k v es)) == 0) ≡ false) [ Less ↦ not_zero _ | Equal ↦ not_zero _ | Greater ↦ not_zero _ ]
+
+length-keys : {K X : Type 0} (es : List (K × X)) → length (map (λ e. e.0) es) ≡ length es
+length-keys [] = refl
+length-keys (e ∷ es) = ap suc (length-keys es)
+
+set_there : (w : List ℕ) (ws : List (List ℕ)) → (length (set_of (map lower (w ∷ ws))) == 0) ≡ false
+set_there w ws = ap (λ n. n == 0) (length-keys (map_of word_cmp (map (λ v. (v, tt {0})) (map lower (w ∷ ws))))) ∙ length-put word_cmp (lower w) (tt {0}) (map_of word_cmp (map (λ v. (v, tt {0})) (map lower ws)))
+
+fields_there : (f : List ℕ × List (List ℕ)) (fs : Fields) → (length (normal_fields (f ∷ fs)) == 0) ≡ false
+fields_there f fs = length-put word_cmp _ _ (normal_fields fs)
+
+-- a part that was read isn't empty
+
+pub some_unicode : (ps : List (List ℕ)) (v : Unicode) → UnicodeMeans ps v → ((length v.attributes == 0) && (length v.keywords == 0)) ≡ false
+some_unicode ps v m = ap (λ (u : Unicode). (length u.attributes == 0) && (length u.keywords == 0)) m.means ∙ at m.written.attributes m.written.keywords m.grammatical.nonempty
+  where
+    at : (ws : List (List ℕ)) (fs : Fields) → 0 < length ws + length fs → ((length (set_of (map lower ws)) == 0) && (length (normal_fields fs) == 0)) ≡ false
+    at [] [] h = absurd (omega (arith, h))
+    at [] (f ∷ fs) h = fields_there f fs
+    at (w ∷ ws) fs h = ap (λ b. b && (length (normal_fields fs) == 0)) (set_there w ws)
+
+pub some_transform : (T : ℕ → Bool) (ps : List (List ℕ)) (v : Transform) → TransformMeans T ps v → (not (is_some v.id) && (length v.fields == 0)) ≡ false
+some_transform T ps v m = ap (λ (u : Transform). not (is_some u.id) && (length u.fields == 0)) m.means ∙ at m.written.id m.written.fields m.grammatical.nonempty
+  where
+    at : (o : Option Identifier) (fs : Fields) → (o ≡ None → 0 < length fs) → (not (is_some (option_map normal_identifier o)) && (length (normal_fields fs) == 0)) ≡ false
+    at (Some i) fs h = refl
+    at None [] h = absurd (let l = h refl in omega (arith, l))
+    at None (f ∷ fs) h = fields_there f fs
+
+pub some_private : (ps ws : List (List ℕ)) → IsPrivate ps → ws ≡ map lower ps → (length ws == 0) ≡ false
+some_private [] ws h e = absurd (let l = h.nonempty in omega (arith, l))
+some_private (p ∷ ps) ws h e = ap (λ (l : List (List ℕ)). length l == 0) e ∙ not_zero (length (map lower ps))
+
+-- singletons that were read
+
+known : (T : ℕ → Bool) (q : ℕ) (ds : List (ℕ × List (List ℕ))) → is_some (find nat_cmp q (by_letter ds)) ≡ list_any (eq_by_cmp nat_cmp q) (map (λ b. singleton b) ds)
+known T q ds = is_some-find nat_cmp q (by_letter ds) ∙ ap (list_any (eq_by_cmp nat_cmp q)) (keys ds)
+  where
+    keys : (bs : List (ℕ × List (List ℕ))) → map (λ e. e.0) (by_letter bs) ≡ map (λ b. singleton b) bs
+    keys [] = refl
+    keys (b ∷ bs) = ap (λ l. singleton b ∷ l) (keys bs)
+
+unicode_known : (o : Option (List (List ℕ))) (v : Unicode) → MatchOption o (v ≡ record { attributes = []; keywords = [] }) (λ ps. UnicodeMeans ps v) → not ((length v.attributes == 0) && (length v.keywords == 0)) ≡ is_some o
+unicode_known None v h = ap (λ (u : Unicode). not ((length u.attributes == 0) && (length u.keywords == 0))) h
+unicode_known (Some ps) v h = ap not (some_unicode ps v h)
+
+transform_known : (T : ℕ → Bool) (o : Option (List (List ℕ))) (v : Transform) → MatchOption o (v ≡ record { id = None; fields = [] }) (λ ps. TransformMeans T ps v) → not (not (is_some v.id) && (length v.fields == 0)) ≡ is_some o
+transform_known T None v h = ap (λ (u : Transform). not (not (is_some u.id) && (length u.fields == 0))) h
+transform_known T (Some ps) v h = ap not (some_transform T ps v h)
+
+private_known : (o : Option (List (List ℕ))) (v : List (List ℕ)) → MatchOption o (v ≡ []) (λ ps. IsPrivate ps × (v ≡ map lower ps)) → not (length v == 0) ≡ is_some o
+private_known None v h = ap (λ (u : List (List ℕ)). not (length u == 0)) h
+private_known (Some ps) v h = ap not (some_private ps v h.0 h.1)
+
+same_test : (a b : ℕ) → (a == b) ≡ eq_by_cmp nat_cmp b a
+same_test a b = grind (arith, nat_tests)
+
+any_key : (q : ℕ) (os : List (ℕ × List (List ℕ))) → list_any (λ o. o.0 == q) os ≡ is_some (find nat_cmp q os)
+any_key q [] = refl
+any_key q (o ∷ os) = ap₂ ◌||◌ (same_test o.0 q) (any_key q os) ∙ elim (eq_by_cmp nat_cmp q o.0) as (λ b. (b || is_some (find nat_cmp q os)) ≡ is_some (cond b (Some o.1) (find nat_cmp q os))) [ true ↦ refl | false ↦ refl ]
+
+others_known : (q : ℕ) (bs : List (ℕ × List (List ℕ))) → is_other_singleton q ≡ true → is_some (find nat_cmp q (map (λ b. (b.0, kept b.1)) (other_blocks (by_letter bs)))) ≡ is_some (find nat_cmp q (by_letter bs))
+others_known q [] h = refl
+others_known q (b ∷ bs) h = at (eq_by_cmp nat_cmp q (singleton b)) (is_other_singleton (singleton b)) (others_known q bs h) refl refl
+  where
+    at : (t k : Bool) → is_some (find nat_cmp q (map (λ b. (b.0, kept b.1)) (other_blocks (by_letter bs)))) ≡ is_some (find nat_cmp q (by_letter bs)) → eq_by_cmp nat_cmp q (singleton b) ≡ t → is_other_singleton (singleton b) ≡ k
+        → is_some (find nat_cmp q (map (λ b. (b.0, kept b.1)) (cond k ((singleton b, b.1) ∷ other_blocks (by_letter bs)) (other_blocks (by_letter bs))))) ≡ is_some (cond t (Some b.1) (find nat_cmp q (by_letter bs)))
+    at true true more e k = ap (λ t. is_some (cond t (Some (kept b.1)) (find nat_cmp q (map (λ b. (b.0, kept b.1)) (other_blocks (by_letter bs)))))) e
+    at true false more e k = absurd (true≢false (sym h ∙ ap is_other_singleton (sym (tied q (singleton b) e)) ∙ k))
+    at false true more e k = ap (λ t. is_some (cond t (Some (kept b.1)) (find nat_cmp q (map (λ b. (b.0, kept b.1)) (other_blocks (by_letter bs)))))) e ∙ more
+    at false false more e k = more
+
+-- a singleton in lower case: that of u, t or x, or of another part
+data IsKind (c : ℕ) : Type 0 where
+  u : c ≡ 117 → IsKind c
+  t : c ≡ 116 → IsKind c
+  x : c ≡ 120 → IsKind c
+  another : is_other_singleton c ≡ true → IsKind c
+
+kind_of : (c : ℕ) → is_ascii_alphanumeric c ≡ true → IsKind c
+kind_of c h = at (cases_eq c 117) (cases_eq c 116) (cases_eq c 120)
+  where
+    rest : (c : ℕ) → is_ascii_alphanumeric c ≡ true → (c ≡ 117 → ⊥) → (c ≡ 116 → ⊥) → (c ≡ 120 → ⊥) → is_other_singleton c ≡ true
+    rest c h a b d = grind (arith, nat_tests)
+
+    at : (c ≡ 117) ⊎ (c ≡ 117 → ⊥) → (c ≡ 116) ⊎ (c ≡ 116 → ⊥) → (c ≡ 120) ⊎ (c ≡ 120 → ⊥) → IsKind c
+    at (inl e) b d = u e
+    at (inr a) (inl e) d = t e
+    at (inr a) (inr b) (inl e) = x e
+    at (inr a) (inr b) (inr d) = another (rest c h a b d)
+
+is_read-other : (M : Extensions) (c : ℕ) → is_other_singleton c ≡ true → is_read M c ≡ list_any (λ o. o.0 == c) M.others
+is_read-other M c h = at (c == 117) (c == 116) (c == 120) (no c 117 h (λ e. u_no c e h)) (no c 116 h (λ e. t_no c e h)) (no c 120 h (λ e. x_no c e h))
+  where
+    u_no : (c : ℕ) → c ≡ 117 → is_other_singleton c ≡ true → ⊥
+    u_no c e h = grind (arith, nat_tests)
+
+    t_no : (c : ℕ) → c ≡ 116 → is_other_singleton c ≡ true → ⊥
+    t_no c e h = grind (arith, nat_tests)
+
+    x_no : (c : ℕ) → c ≡ 120 → is_other_singleton c ≡ true → ⊥
+    x_no c e h = grind (arith, nat_tests)
+
+    no : (c k : ℕ) → is_other_singleton c ≡ true → (c ≡ k → ⊥) → (c == k) ≡ false
+    no c k h n = grind (arith, nat_tests)
+
+    at : (a b d : Bool) → a ≡ false → b ≡ false → d ≡ false →
+        (if a then not ((length M.unicode.attributes == 0) && (length M.unicode.keywords == 0)) else
+        if b then not (not (is_some M.transform.id) && (length M.transform.fields == 0)) else
+        if d then not (length M.private == 0) else
+        list_any (λ o. o.0 == c) M.others) ≡ list_any (λ o. o.0 == c) M.others
+    at true b d e f g = absurd (true≢false e)
+    at false true d e f g = absurd (true≢false f)
+    at false false true e f g = absurd (true≢false g)
+    at false false false e f g = refl
+
+-- which singletons were read shows in the parts
+pub read_is_known : (T : ℕ → Bool) (ds : List (ℕ × List (List ℕ))) (M : Extensions) (c : ℕ) → BlocksMean T ds M → is_ascii_alphanumeric c ≡ true → is_read M c ≡ list_any (eq_by_cmp nat_cmp c) (map (λ b. singleton b) ds)
+read_is_known T ds M c m h = at (kind_of c h) ∙ known T c ds
+  where
+    at : IsKind c → is_read M c ≡ is_some (find nat_cmp c (by_letter ds))
+    at (u e) = subst (λ (q : ℕ). is_read M q ≡ is_some (find nat_cmp q (by_letter ds))) (sym e) (unicode_known (find nat_cmp 117 (by_letter ds)) M.unicode m.unicode)
+    at (t e) = subst (λ (q : ℕ). is_read M q ≡ is_some (find nat_cmp q (by_letter ds))) (sym e) (transform_known T (find nat_cmp 116 (by_letter ds)) M.transform m.transform)
+    at (x e) = subst (λ (q : ℕ). is_read M q ≡ is_some (find nat_cmp q (by_letter ds))) (sym e) (private_known (find nat_cmp 120 (by_letter ds)) M.private m.private)
+    at (another o) = is_read-other M c o ∙ any_key c M.others ∙ ap (λ os. is_some (find nat_cmp c os)) m.others ∙ ap is_some (find-map_of nat_cmp nat_cmp_total c (map (λ b. (b.0, kept b.1)) (other_blocks (by_letter ds)))) ∙ others_known c ds o

@@ -1,0 +1,7 @@
+pub mod DoneLaws
+pub mod ArmLaws
+pub mod StepLaws
+pub mod RoundLaws
+pub mod PartLemmas
+pub mod AnswerLemmas
+pub mod PlaceLemmas

@@ -1,0 +1,146 @@
+-- One round of the reader of blocks: from the byte that begins a block to the next block, or to a refusal.
+use Rattle.std.proofs.Common.{◌≡◌, ℕ, suc, ◌≤◌, Bool, true, false, cond, ◌==◌, List, [], ◌∷◌, length, map, refl, sym, ap, ◌∙◌, subst, arith}
+use Rattle.std.specs.List.{AllByRecursion, list_any}
+use Rattle.std.specs.Char.{is_ascii_alphanumeric, to_ascii_lowercase}
+use Rattle.std.specs.Ordering.{nat_cmp, eq_by_cmp}
+use Rattle.std.specs.FinMap.{put}
+use Rattle.std.proofs.lemmas.Bool.Decides.{nat_tests}
+use Rattle.iloc_grammar.specs.Words.{lower}
+use Rattle.iloc_grammar.specs.Written.{Unicode, Transform, IsOther, IsPrivate, kept, AllDifferent, singleton, is_other_singleton}
+use Rattle.iloc_grammar.specs.Meaning.{Extensions}
+use Rattle.iloc_grammar.specs.ByBlocks.{UnicodeMeans, TransformMeans}
+use Rattle.iloc_grammar.specs.Blocks.{front, blocks}
+use Rattle.iloc_grammar.specs.Reading.{starts_block, from_block}
+use Rattle.iloc_grammar.specs.Faults.{Fault, InvalidSubtag, InvalidExtension, DuplicatedExtension, IsBlock, RepeatsVariant, BlockFault, no_singleton, duplicated, repeats_variant, breaks_rule, FirstBadBlock, here, later}
+use Rattle.iloc_grammar.proofs.ReadingLaws.{front-from_block, from_block_starts}
+use Rattle.iloc_fronts.specs.Fronts.{OtherMeans}
+use Rattle.iloc_fronts.proofs.BlockRules.{unicode_rule, transform_rule, private_rule, other_rule}
+use Rattle.iloc_inline.specs.Blocks.{IsShortUnicode, IsShortTransform, IsShortBlock}
+use Rattle.iloc_blocks.specs.Blocks.{BlocksMean, BlocksDone, BlockAt, onto, is_read}
+use Rattle.iloc_blocks.proofs.ArmLaws.{read_is_known}
+use Rattle.iloc_blocks.proofs.StepLaws.{unicode_added, transform_added, private_added, other_added}
+
+-- blocks of pieces
+
+pub blocks-from_block : (ps : List (List ℕ)) → blocks (from_block ps) ≡ blocks ps
+blocks-from_block [] = refl
+blocks-from_block ([] ∷ ps) = blocks-from_block ps
+blocks-from_block ((c ∷ []) ∷ ps) = refl
+blocks-from_block ((c ∷ d ∷ p) ∷ ps) = ap (λ b. blocks (cond b ((c ∷ d ∷ p) ∷ ps) (from_block ps))) (two (length p)) ∙ blocks-from_block ps
+  where
+    two : (n : ℕ) → (suc (suc n) == 1) ≡ false
+    two n = grind (arith, nat_tests)
+
+block_until : (c : ℕ) (ps : List (List ℕ)) → (to_ascii_lowercase c == 120) ≡ false → blocks ((c ∷ []) ∷ ps) ≡ (c, front ps) ∷ blocks (from_block ps)
+block_until c ps e = ap (λ b. cond b ((c, ps) ∷ []) ((c, front ps) ∷ blocks ps)) e ∙ ap (λ bs. (c, front ps) ∷ bs) (sym (blocks-from_block ps))
+
+block_of_x : (c : ℕ) (ps : List (List ℕ)) → to_ascii_lowercase c ≡ 120 → blocks ((c ∷ []) ∷ ps) ≡ (c, ps) ∷ []
+block_of_x c ps e = ap (λ b. cond b ((c, ps) ∷ []) ((c, front ps) ∷ blocks ps)) (same (to_ascii_lowercase c) e)
+  where
+    same : (n : ℕ) → n ≡ 120 → (n == 120) ≡ true
+    same n e = grind (arith, nat_tests)
+
+some_block : (c : ℕ) (ps : List (List ℕ)) → (qs : List (List ℕ)) × (bs : List (ℕ × List (List ℕ))) × (blocks ((c ∷ []) ∷ ps) ≡ (c, qs) ∷ bs)
+some_block c ps = at (to_ascii_lowercase c == 120)
+  where
+    at : (b : Bool) → (qs : List (List ℕ)) × (bs : List (ℕ × List (List ℕ))) × (cond b ((c, ps) ∷ []) ((c, front ps) ∷ blocks ps) ≡ (c, qs) ∷ bs)
+    at true = (ps, [], refl)
+    at false = (front ps, blocks ps, refl)
+
+other_than : (n k : ℕ) → n ≡ k → (k ≡ 120 → ⊥) → (n == 120) ≡ false
+other_than n k e d = grind (arith, nat_tests)
+
+no_x : (n : ℕ) → is_other_singleton n ≡ true → (n == 120) ≡ false
+no_x n h = grind (arith, nat_tests)
+
+no_t : (n : ℕ) → is_other_singleton n ≡ true → n ≡ 116 → ⊥
+no_t n h e = grind (arith, nat_tests)
+
+apart : (n k m : ℕ) → n ≡ k → n ≡ m → (k == m) ≡ false → ⊥
+apart n k m e f h = grind (arith, nat_tests)
+
+-- a letter or digit is one in lower case too
+lower_letter : (c : ℕ) → is_ascii_alphanumeric c ≡ true → is_ascii_alphanumeric (to_ascii_lowercase c) ≡ true
+lower_letter c h = grind (arith, nat_tests)
+
+-- the blocks that were read, one after the other
+
+bad_after : {T : ℕ → Bool} (ds bs : List (ℕ × List (List ℕ))) {f : Fault} → AllByRecursion (λ b. is_ascii_alphanumeric b.0 ≡ true) ds → AllDifferent nat_cmp (map (λ b. singleton b) ds) → AllByRecursion (IsBlock T) ds → FirstBadBlock T (map (λ b. singleton b) ds) bs f → FirstBadBlock T [] (onto ds bs) f
+bad_after [] bs l n r h = h
+bad_after (d ∷ ds) bs l n r h = bad_after ds (d ∷ bs) l.1 n.1 r.1 (later l.0 n.0 r.0 h)
+
+all_after : {X : Type 0} (P : X → Type 0) (xs ys : List X) → AllByRecursion P (onto xs ys) → AllByRecursion P ys
+all_after P [] ys h = h
+all_after P (x ∷ xs) ys h = (all_after P xs (x ∷ ys) h).1
+
+module _ {T : ℕ → Bool} {start : List (List ℕ)} {c : ℕ} {ps : List (List ℕ)} {M : Extensions} where
+  bad_here : (qs : List (List ℕ)) (bs : List (ℕ × List (List ℕ))) → blocks ((c ∷ []) ∷ ps) ≡ (c, qs) ∷ bs → (d : BlocksDone T start ((c ∷ []) ∷ ps) M) → (f : Fault) → BlockFault T (map (λ b. singleton b) d.done) (c, qs) f → FirstBadBlock T [] (blocks start) f
+  bad_here qs bs e d f h = subst (λ l. FirstBadBlock T [] l f) (sym (d.together ∙ ap (onto d.done) e)) (bad_after d.done ((c, qs) ∷ bs) d.means.letters d.means.different d.rules (here h))
+
+  -- the singleton is no letter or digit
+  pub no_letter : BlocksDone T start ((c ∷ []) ∷ ps) M → is_ascii_alphanumeric c ≡ false → FirstBadBlock T [] (blocks start) InvalidExtension
+  no_letter d h = let b = some_block c ps in bad_here b.0 b.1 b.2 d InvalidExtension (no_singleton h)
+
+  -- it was met before
+  pub met_before : BlocksDone T start ((c ∷ []) ∷ ps) M → is_ascii_alphanumeric c ≡ true → is_read M (to_ascii_lowercase c) ≡ true → FirstBadBlock T [] (blocks start) DuplicatedExtension
+  met_before d h r = let b = some_block c ps in bad_here b.0 b.1 b.2 d DuplicatedExtension (duplicated h (sym (read_is_known T d.done M (to_ascii_lowercase c) d.means (lower_letter c h)) ∙ r))
+
+  module _ (a : BlockAt T start c ps M) where
+    fresh : list_any (eq_by_cmp nat_cmp (to_ascii_lowercase c)) (map (λ b. singleton b) a.before.done) ≡ false
+    fresh = sym (read_is_known T a.before.done M (to_ascii_lowercase c) a.before.means (lower_letter c a.letter)) ∙ a.new
+
+    good : (qs rest : List (List ℕ)) (N : Extensions) → blocks ((c ∷ []) ∷ ps) ≡ (c, qs) ∷ blocks rest → starts_block rest ≡ true → IsBlock T (c, qs) → BlocksMean T ((c, qs) ∷ a.before.done) N → BlocksDone T start rest N
+    good qs rest N e s r m = record { done = (c, qs) ∷ a.before.done; together = a.before.together ∙ ap (onto a.before.done) e; begins = s; rules = (r, a.before.rules); means = m }
+
+    breaks : (qs : List (List ℕ)) (bs : List (ℕ × List (List ℕ))) → blocks ((c ∷ []) ∷ ps) ≡ (c, qs) ∷ bs → ¬ ((to_ascii_lowercase c ≡ 116) × RepeatsVariant T qs) → ¬ (IsBlock T (c, qs)) → FirstBadBlock T [] (blocks start) InvalidExtension
+    breaks qs bs e v r = bad_here qs bs e a.before InvalidExtension (breaks_rule a.letter fresh v r)
+
+    short : (qs : List (List ℕ)) (bs : List (ℕ × List (List ℕ))) → blocks ((c ∷ []) ∷ ps) ≡ (c, qs) ∷ bs → AllByRecursion (IsShortBlock T) (blocks start) → IsShortBlock T (c, qs)
+    short qs bs e h = (all_after (IsShortBlock T) a.before.done ((c, qs) ∷ bs) (subst (AllByRecursion (IsShortBlock T)) (a.before.together ∙ ap (onto a.before.done) e) h)).0
+
+    -- after `u`
+
+    pub unicode_done : to_ascii_lowercase c ≡ 117 → (v : Unicode) → UnicodeMeans (front ps) v → BlocksDone T start (from_block ps) (record M { unicode = v })
+    unicode_done e v m = good (front ps) (from_block ps) (record M { unicode = v }) (block_until c ps (other_than (to_ascii_lowercase c) 117 e (λ d. absurd (omega (arith, d))))) (from_block_starts ps) ((unicode_rule T (c, front ps) e).1 (v, m)) (unicode_added (c, front ps) a.before.means a.letter fresh e v m)
+
+    pub unicode_bad : to_ascii_lowercase c ≡ 117 → ((v : Unicode) → ¬ (UnicodeMeans (front ps) v)) → FirstBadBlock T [] (blocks start) InvalidExtension
+    unicode_bad e n = breaks (front ps) (blocks (from_block ps)) (block_until c ps (other_than (to_ascii_lowercase c) 117 e (λ d. absurd (omega (arith, d))))) (λ h. apart (to_ascii_lowercase c) 117 116 e h.0 refl) (λ r. let s = (unicode_rule T (c, front ps) e).0 r in n s.0 s.1)
+
+    pub unicode_short : to_ascii_lowercase c ≡ 117 → AllByRecursion (IsShortBlock T) (blocks start) → IsShortUnicode ps
+    unicode_short e h = subst IsShortUnicode (front-from_block ps) ((short (front ps) (blocks (from_block ps)) (block_until c ps (other_than (to_ascii_lowercase c) 117 e (λ d. absurd (omega (arith, d))))) h).unicode e (from_block ps) (from_block_starts ps))
+
+    -- after `t`
+
+    pub transform_done : to_ascii_lowercase c ≡ 116 → (v : Transform) → TransformMeans T (front ps) v → BlocksDone T start (from_block ps) (record M { transform = v })
+    transform_done e v m = good (front ps) (from_block ps) (record M { transform = v }) (block_until c ps (other_than (to_ascii_lowercase c) 116 e (λ d. absurd (omega (arith, d))))) (from_block_starts ps) ((transform_rule T (c, front ps) e).1 (v, m)) (transform_added (c, front ps) a.before.means a.letter fresh e v m)
+
+    pub transform_repeats : to_ascii_lowercase c ≡ 116 → RepeatsVariant T (front ps) → FirstBadBlock T [] (blocks start) InvalidSubtag
+    transform_repeats e r = bad_here (front ps) (blocks (from_block ps)) (block_until c ps (other_than (to_ascii_lowercase c) 116 e (λ d. absurd (omega (arith, d))))) a.before InvalidSubtag (repeats_variant a.letter fresh e r)
+
+    pub transform_bad : to_ascii_lowercase c ≡ 116 → ¬ (RepeatsVariant T (front ps)) → ((v : Transform) → ¬ (TransformMeans T (front ps) v)) → FirstBadBlock T [] (blocks start) InvalidExtension
+    transform_bad e v n = breaks (front ps) (blocks (from_block ps)) (block_until c ps (other_than (to_ascii_lowercase c) 116 e (λ d. absurd (omega (arith, d))))) (λ h. v h.1) (λ r. let s = (transform_rule T (c, front ps) e).0 r in n s.0 s.1)
+
+    pub transform_short : to_ascii_lowercase c ≡ 116 → AllByRecursion (IsShortBlock T) (blocks start) → IsShortTransform T ps
+    transform_short e h = subst (IsShortTransform T) (front-from_block ps) ((short (front ps) (blocks (from_block ps)) (block_until c ps (other_than (to_ascii_lowercase c) 116 e (λ d. absurd (omega (arith, d))))) h).transform e (from_block ps) (from_block_starts ps))
+
+    -- after another singleton
+
+    pub other_done : is_other_singleton (to_ascii_lowercase c) ≡ true → OtherMeans (front ps) (kept (front ps)) → BlocksDone T start (from_block ps) (record M { others = put nat_cmp (to_ascii_lowercase c) (kept (front ps)) M.others })
+    other_done o m = good (front ps) (from_block ps) (record M { others = put nat_cmp (to_ascii_lowercase c) (kept (front ps)) M.others }) (block_until c ps (no_x (to_ascii_lowercase c) o)) (from_block_starts ps) ((other_rule T (c, front ps) o).1 m.0) (other_added (c, front ps) a.before.means a.letter fresh o m)
+
+    pub other_bad : is_other_singleton (to_ascii_lowercase c) ≡ true → ¬ (IsOther (front ps)) → FirstBadBlock T [] (blocks start) InvalidExtension
+    other_bad o n = breaks (front ps) (blocks (from_block ps)) (block_until c ps (no_x (to_ascii_lowercase c) o)) (λ h. no_t (to_ascii_lowercase c) o h.0) (λ r. n ((other_rule T (c, front ps) o).0 r))
+
+    pub other_long : is_other_singleton (to_ascii_lowercase c) ≡ true → ¬ (AllByRecursion (IsShortBlock T) (blocks start))
+    other_long o h = (short (front ps) (blocks (from_block ps)) (block_until c ps (no_x (to_ascii_lowercase c) o)) h).no_other o
+
+    -- after `x`
+
+    pub private_done : to_ascii_lowercase c ≡ 120 → (v : List (List ℕ)) → IsPrivate ps × (v ≡ map lower ps) → BlocksDone T start [] (record M { private = v })
+    private_done e v m = good ps [] (record M { private = v }) (block_of_x c ps e) refl ((private_rule T (c, ps) e).1 m.0) (private_added (c, ps) a.before.means a.letter fresh e v m)
+
+    pub private_bad : to_ascii_lowercase c ≡ 120 → ¬ (IsPrivate ps) → FirstBadBlock T [] (blocks start) InvalidExtension
+    private_bad e n = breaks ps [] (block_of_x c ps e) (λ h. apart (to_ascii_lowercase c) 120 116 e h.0 refl) (λ r. n ((private_rule T (c, ps) e).0 r))
+
+    pub private_short : to_ascii_lowercase c ≡ 120 → AllByRecursion (IsShortBlock T) (blocks start) → length ps ≤ 4
+    private_short e h = (short ps [] (block_of_x c ps e) h).private e

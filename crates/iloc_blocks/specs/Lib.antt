@@ -1,0 +1,4 @@
+pub mod Blocks
+pub mod Reads
+pub mod Place
+pub mod Whole

@@ -1,0 +1,24 @@
+//! Reads the blocks of a locale: what follows its head, from one singleton to the next.
+//!
+//! It promises that what is read is what the blocks mean together, and that a text is refused with the fault
+//! of its first bad block (UTS #35 section 3, `unicode_locale_id`). Blocks of few words take no memory.
+//!
+//! It composes the readers of the unicode, transform, private and other extensions by their public contracts
+//! alone, each of which leaves exactly what follows its block.
+#![tactic(auto)]
+
+ghost use Rattle.std.specs.Prelude.{ℕ, Bool, List, []};
+ghost use Rattle.iloc_grammar.specs.Meaning.{Extensions as Parts};
+ghost use Rattle.iloc_blocks.specs.Blocks.{BlocksMean, onto};
+
+pub mod blocks;
+mod others;
+mod parts;
+mod taking;
+
+pub use blocks::read_blocks;
+
+/// Blocks mean the same from the last to the first.
+pub fn in_turn()
+    ensures { (T : ℕ → Bool) (bs : List (ℕ × List (List ℕ))) (M : Parts) → BlocksMean T bs M → BlocksMean T (onto bs []) M }
+{}

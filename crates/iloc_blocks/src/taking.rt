@@ -1,0 +1,75 @@
+//! Takes the block of one part into the extensions.
+ghost use Rattle.std.specs.Prelude.{◌≡◌, ◌==◌, ◌≤◌, ℕ, List, true, false, length, OnOk};
+ghost use Rattle.std.specs.Char.{to_ascii_lowercase};
+ghost use Rattle.std.specs.List.{list_any};
+ghost use Rattle.iloc_grammar.specs.Meaning.{Extensions as Parts};
+ghost use Rattle.iloc_grammar.specs.Words.{languages};
+ghost use Rattle.iloc_grammar.specs.Written.{is_other_singleton};
+ghost use Rattle.iloc_unicode.specs.UnicodeValue as unicode_value;
+ghost use Rattle.iloc_transform.specs.TransformReading as transform_value;
+ghost use Rattle.iloc_parser.specs.Left.{left};
+ghost use Rattle.iloc_blocks.specs.Blocks.{BlockAt, BlockReads};
+
+use crate::others::insert_other;
+use crate::parts::{other_block, transform_block, unicode_block};
+use iloc_other::{Other, Private};
+use iloc_parser::SubtagIterator;
+use iloc_subtags::ParseError;
+use iloc_transform::Transform;
+use iloc_unicode::Unicode;
+use std::alloc::Global;
+
+/// Takes the block after `u`.
+pub(crate) fn take_unicode(
+    alloc: Global,
+    iter: &mut SubtagIterator<'_>,
+    unicode: &mut Unicode,
+) -> Result<(), ParseError>
+    ensures reads { (start : List (List ℕ)) (c : ℕ) (M : Parts) → BlockAt languages start c (left iter.old) M → to_ascii_lowercase c ≡ 117 → BlockReads start (left iter.new) (record M { unicode = unicode_value.value_of unicode.new }) result }
+    ensures shorter { OnOk result (length (left iter.new) ≤ length (left iter.old)) }
+{
+    *unicode = unicode_block(alloc, iter)?;
+    Ok(())
+}
+
+/// Takes the block after `t`.
+pub(crate) fn take_transform(
+    alloc: Global,
+    iter: &mut SubtagIterator<'_>,
+    transform: &mut Transform,
+) -> Result<(), ParseError>
+    ensures reads { (start : List (List ℕ)) (c : ℕ) (M : Parts) → BlockAt languages start c (left iter.old) M → to_ascii_lowercase c ≡ 116 → BlockReads start (left iter.new) (record M { transform = transform_value.value_of transform.new }) result }
+    ensures shorter { OnOk result (length (left iter.new) ≤ length (left iter.old)) }
+{
+    *transform = transform_block(alloc, iter)?;
+    Ok(())
+}
+
+/// Takes the block after `x`, which is all the rest.
+pub(crate) fn take_private(
+    alloc: Global,
+    iter: &mut SubtagIterator<'_>,
+    private: &mut Private,
+) -> Result<(), ParseError>
+    ensures reads { (start : List (List ℕ)) (c : ℕ) (M : Parts) → BlockAt languages start c (left iter.old) M → to_ascii_lowercase c ≡ 120 → BlockReads start (left iter.new) (record M { private = private.new }) result }
+    ensures shorter { OnOk result (length (left iter.new) ≤ length (left iter.old)) }
+{
+    *private = Private::try_from_iter(alloc, iter)?;
+    Ok(())
+}
+
+/// Takes the block after another singleton, which none of the others has.
+pub(crate) fn take_other(
+    alloc: Global,
+    ext: u8,
+    iter: &mut SubtagIterator<'_>,
+    others: &mut Vec<Other>,
+) -> Result<(), ParseError>
+    requires other { is_other_singleton ext ≡ true }
+    requires new { list_any (λ o. o.0 == ext) others.old.items ≡ false }
+    ensures reads { (start : List (List ℕ)) (c : ℕ) (M : Parts) → BlockAt languages start c (left iter.old) M → to_ascii_lowercase c ≡ ext → M.others ≡ others.old.items → BlockReads start (left iter.new) (record M { others = others.new.items }) result }
+    ensures shorter { OnOk result (length (left iter.new) ≤ length (left iter.old)) }
+{
+    let other = other_block(alloc, ext, iter)?;
+    insert_other(others, other)
+}

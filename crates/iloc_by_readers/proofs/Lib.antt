@@ -1,0 +1,2 @@
+pub mod ReaderBlocks
+pub mod PartAnswers

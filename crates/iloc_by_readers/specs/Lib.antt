@@ -1,0 +1,2 @@
+pub mod ByReaders
+pub mod PartComputing

@@ -1,0 +1,3 @@
+pub mod ExtensionsValue
+pub mod Kinds
+pub mod Retaining

@@ -1,0 +1,23 @@
+//! All extensions of a locale: unicode, transform, private, and the others.
+//!
+//! It promises that emptiness, the order and the printed text are those of the definitions, for
+//! every value, also for one that no text means; and that `retain_by_type` asks each part in turn
+//! and clears what is answered false. None of it takes memory, but for clones and new texts.
+//! The crate stands on the parts: `iloc_unicode`, `iloc_transform` and `iloc_other`.
+#![tactic(auto)]
+
+ghost use Rattle.std.specs.Prelude.{◌≡◌};
+ghost use Rattle.iloc_orders.specs.Orders.{kind_cmp};
+ghost use Rattle.iloc_extensions.specs.Kinds.{kind_of};
+
+pub mod extension_type;
+pub mod extensions;
+pub mod printing;
+
+pub use extension_type::ExtensionType;
+pub use extensions::Extensions;
+
+/// The kinds stand in the order of the definitions: `t`, `u`, `x`, and then the others by their singletons.
+pub fn orders()
+    ensures { (a b : ExtensionType) → ⟦<ExtensionType as Ord>⟧.cmp a b ≡ kind_cmp (kind_of a) (kind_of b) }
+{}

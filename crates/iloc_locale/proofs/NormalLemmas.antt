@@ -1,0 +1,89 @@
+-- From the locale that was read to its normal text.
+use Rattle.std.proofs.Common.{◌≡◌, ◌↔◌, IsTrue, ℕ, ◌≤◌, Bool, true, false, List, [], ◌∷◌, length, refl, sym, ap, ◌∙◌, subst, append-nil, true≢false, IfOk, Err, Ok, Result}
+use Rattle.iloc_grammar.specs.Words.{languages}
+use Rattle.iloc_grammar.specs.Meaning as meaning
+use Rattle.iloc_grammar.specs.Meaning.{Extensions}
+use Rattle.iloc_grammar.specs.Meaning.{Means}
+use Rattle.iloc_grammar.specs.Values.{text, identifier_text}
+use Rattle.iloc_grammar.specs.Written.{Identifier}
+use Rattle.iloc_grammar.specs.Pieces.{pieces, join}
+use Rattle.iloc_grammar.specs.Words.{Language, IsWord}
+use Rattle.iloc_grammar.specs.Blocks.{head, first_piece}
+use Rattle.iloc_grammar.specs.Faults as faults
+use Rattle.iloc_grammar.proofs.BlockLaws.{means_by_blocks}
+use Rattle.iloc_grammar.proofs.FaultLaws.{accepted_no_fault}
+use Rattle.std.specs.Ordering.{is_eq}
+use Rattle.std.specs.declared.cmp.Ordering.{Ordering}
+use Rattle.std.specs.declared.cmp.Ordering.TheVariants.{Less, Equal, Greater}
+use Rattle.iloc_orders.specs.Orders.{locale_cmp}
+use Rattle.iloc_orders.proofs.OrderLaws.{locale_exact}
+use Rattle.iloc_extensions.specs.ExtensionsValue.{none, locale_of}
+use Rattle.iloc_grammar.proofs.RawLaws.{languages_table}
+use Rattle.iloc_grammar.proofs.Corollaries.{texts_lead_to_one, same_meaning, means_again}
+use Rattle.iloc_grammar.proofs.Chains.{chain_to_text, shortest}
+use Rattle.iloc_grammar.proofs.Readings as readings
+use Rattle.iloc_subtags.specs.declared.parse_error.ParseError.{ParseError}
+use Rattle.iloc_subtags.specs.declared.parse_error.ParseError.TheVariants.{InvalidLanguage, InvalidSubtag, InvalidExtension, DuplicatedExtension, OutOfMemory}
+use Rattle.iloc_locale.specs.Reads.{LocaleReadsAs}
+use Rattle.iloc_locale.specs.Normalizing.{IsNormalizedFrom, RefusesNormalizing}
+
+pub is_normalized : (t u : List ℕ) (M : meaning.Locale) → Means languages t M → u ≡ text M → IsNormalizedFrom t u
+is_normalized t u M m e = subst (IsNormalizedFrom t) (sym e) (record {
+  text_is = (M, m, refl);
+  again = (M, means_again t M m, refl);
+  same = λ v L N l n. subst (λ (K : meaning.Locale). (L ≡ N) ↔ (text K ≡ text N)) (readings.one_meaning languages_table t L M l m) (same_meaning languages languages_table t v L N l n);
+  shortest = λ v N l n. subst (λ (K : meaning.Locale). length (text K) ≤ length v) (readings.one_meaning languages_table t N M l m) (shortest languages v N n);
+  steps = chain_to_text languages t M m;
+  together = λ v L N l n. texts_lead_to_one languages languages_table t v L N l n;
+})
+
+pub refuses : (t : List ℕ) (e : ParseError) → LocaleReadsAs t (Err e) → RefusesNormalizing t e
+refuses t InvalidLanguage h = h
+refuses t InvalidSubtag h = h
+refuses t InvalidExtension h = h
+refuses t DuplicatedExtension h = h
+refuses t OutOfMemory h = (h.0, λ _. h.1)
+
+-- a language stands first in each accepted text
+language_first : (t : List ℕ) (M : meaning.Locale) → Means languages t M → IsWord (Language languages) (first_piece (pieces t))
+language_first t M m =
+    let i = (means_by_blocks languages languages_table t M m).id in
+    subst (λ p. IsWord (Language languages) p) (sym (ap first_piece i.spelled) ∙ same_first (pieces t)) i.grammatical.words.language
+  where
+    same_first : (ps : List (List ℕ)) → first_piece (head ps) ≡ first_piece ps
+    same_first [] = refl
+    same_first (p ∷ ps) = refl
+
+pub refuses_memory : (t : List ℕ) (M : meaning.Locale) → Means languages t M → (t ≡ text M → false ≡ true) → RefusesNormalizing t OutOfMemory
+refuses_memory t M m other = (
+  language_first t M m,
+  λ n. absurd (true≢false (sym (other (n.2 ∙ ap text (readings.one_meaning languages_table t n.0 M n.1 m))))),
+)
+
+-- the text of an identifier alone
+pub text_alone : (i : Identifier) (e : Extensions) → e ≡ none → text (locale_of i e) ≡ identifier_text i
+unfolding identifier_text
+text_alone i e n = ap (λ (x : Extensions). text (locale_of i x)) n ∙ ap join (append-nil _)
+
+-- two values that tie are equal
+is_equal : (o : Ordering) → is_eq o ≡ true → o ≡ Equal
+is_equal Less h = absurd (true≢false (sym h))
+is_equal Equal h = refl
+is_equal Greater h = absurd (true≢false (sym h))
+
+pub same_meaning_ties : (t : List ℕ) (L M : meaning.Locale) (same : Bool) → Means languages t L → same ≡ is_eq (locale_cmp M L) → IsTrue same ↔ Means languages t M
+same_meaning_ties t L M same m e = (
+  λ s. subst (Means languages t) (sym ((locale_exact.exact M L).0 (is_equal (locale_cmp M L) (sym e ∙ s)))) m,
+  λ n. e ∙ ap is_eq ((locale_exact.exact M L).1 (readings.one_meaning languages_table t M L n m)),
+)
+
+pub no_meaning : (t : List ℕ) (M : meaning.Locale) (f : ParseError) → LocaleReadsAs t (Err f) → (f ≡ OutOfMemory → ⊥) → Means languages t M → ⊥
+no_meaning t M InvalidLanguage h n m = accepted_no_fault languages_table t M faults.InvalidLanguage m h
+no_meaning t M InvalidSubtag h n m = accepted_no_fault languages_table t M faults.InvalidSubtag m h
+no_meaning t M InvalidExtension h n m = accepted_no_fault languages_table t M faults.InvalidExtension m h
+no_meaning t M DuplicatedExtension h n m = accepted_no_fault languages_table t M faults.DuplicatedExtension m h
+no_meaning t M OutOfMemory h n m = n refl
+
+pub refusal_differs : (t : List ℕ) (M : meaning.Locale) (f : ParseError) {E : Type 0} (r : Result Bool E) → LocaleReadsAs t (Err f) → IfOk r (λ same. (same ≡ false) × ¬ (f ≡ OutOfMemory)) → IfOk r (λ same. IsTrue same ↔ Means languages t M)
+refusal_differs t M f (Ok same) h d = (λ s. absurd (true≢false (sym s ∙ d.0)), λ m. absurd (no_meaning t M f h d.1 m))
+refusal_differs t M f (Err e) h d = tt

@@ -1,0 +1,16 @@
+use Rattle.iloc_grammar.specs.Words.{languages}
+use Rattle.iloc_grammar.proofs.RawLaws.{languages_table}
+use Rattle.iloc_grammar.proofs.ReadBack.{reads_back}
+use Rattle.iloc_grammar.proofs.Corollaries.{same_text_same_value}
+use Rattle.iloc_langid.specs.Reads as langid
+use Rattle.iloc_locale.specs.LocaleValue.{value_of}
+use Rattle.iloc_locale.proofs.locale.Locale.is_well_formed.Goals as goal
+
+pub returns-clause-exactly : goal.returns-clause-exactly
+returns-clause-exactly c = c.is_well_formed.ensures (langid.value_of c.args.self.now.id)
+
+pub returns-clause-back : goal.returns-clause-back
+returns-clause-back c = λ t v. reads_back (value_of c.args.self.now) v ((c.is_well_formed.ensures (langid.value_of c.args.self.now.id)).0 t)
+
+pub returns-clause-one : goal.returns-clause-one
+returns-clause-one c = λ t v M k w e. same_text_same_value languages languages_table M (value_of c.args.self.now) k w v ((c.is_well_formed.ensures (langid.value_of c.args.self.now.id)).0 t) e

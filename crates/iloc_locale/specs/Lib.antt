@@ -1,0 +1,3 @@
+pub mod LocaleValue
+pub mod Reads
+pub mod Normalizing

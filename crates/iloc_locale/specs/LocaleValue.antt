@@ -1,0 +1,13 @@
+-- What a `Locale` stands for.
+use Rattle.iloc_grammar.specs.Meaning as meaning
+use Rattle.iloc_langid.specs.Reads as langid
+use Rattle.iloc_langid.specs.Unknown.{unknown_identifier}
+use Rattle.iloc_extensions.specs.ExtensionsValue as extensions
+use Rattle.iloc_locale.specs.declared.locale.Locale.{Locale}
+
+abbrev pub value_of : Locale → meaning.Locale
+value_of l = extensions.locale_of (langid.value_of l.id) (extensions.value_of l.extensions)
+
+-- `und` and no extension
+abbrev pub unknown_locale : meaning.Locale
+unknown_locale = extensions.locale_of unknown_identifier extensions.none

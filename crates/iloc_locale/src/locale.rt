@@ -1,0 +1,64 @@
+//! The type, and its readers.
+ghost use Rattle.std.specs.Prelude.{◌≡◌, ℕ, List, IfOk, IfErr};
+ghost use Rattle.iloc_grammar.specs.Words.{languages, two_or_three};
+ghost use Rattle.iloc_grammar.specs.Meaning as meaning;
+ghost use Rattle.iloc_grammar.specs.Meaning.{Means};
+ghost use Rattle.iloc_grammar.specs.Steps.{Chain};
+ghost use Rattle.iloc_grammar.specs.Values.{IsValue, IsWellFormed};
+
+use crate::reader::read;
+use iloc_extensions::Extensions;
+use iloc_langid::LanguageIdentifier;
+use iloc_subtags::ParseError;
+use std::alloc::Global;
+
+/// An identifier with extensions: a `unicode_locale_id` of UTS #35 section 3.
+///
+/// `en-US-u-ca-buddhist` is one. Both parts can be set to what no text means: `is_well_formed` tells whether
+/// the text of a locale reads back as it.
+#[derive(Clone, Drop, PartialEq, Eq, Hash)]
+pub struct Locale {
+    /// The identifier.
+    pub id: LanguageIdentifier,
+    /// All else.
+    pub extensions: Extensions,
+}
+
+impl Locale {
+    ghost use Rattle.iloc_locale.specs.LocaleValue.{value_of, unknown_locale};
+    ghost use Rattle.iloc_locale.specs.Reads.{LocaleReadsAs};
+
+    /// The unknown locale, `und`.
+    pub fn unknown(alloc: Global) -> Self
+        ensures { value_of result ≡ unknown_locale }
+    {
+        Locale {
+            id: LanguageIdentifier::unknown(),
+            extensions: Extensions::new(alloc),
+        }
+    }
+
+    /// Reads all of the text, which need not be UTF-8, in whatever case.
+    ///
+    /// A text is accepted exactly where the grammar gives it a meaning, and what is read is that meaning.
+    /// Every other is refused with the fault that the grammar names: `InvalidLanguage` where the first piece is
+    /// no language, `InvalidSubtag` where the head is no identifier, and else the fault of the first bad block.
+    /// `OutOfMemory` comes only where a language stands first and some list is longer than is kept inline.
+    pub fn try_from_utf8(alloc: Global, code_units: &[u8]) -> Result<Self, ParseError>
+        ensures reads { LocaleReadsAs code_units.now result }
+        ensures well_formed { IfOk result (λ l. IsValue languages (value_of l) × IsWellFormed (value_of l)) }
+        ensures steps { IfOk result (λ l. (n : ℕ) (u : List ℕ) → Chain languages n code_units.now u → Means languages u (value_of l)) }
+        ensures narrow { (M : meaning.Locale) → Means two_or_three code_units.now M → IfOk result (λ l. value_of l ≡ M) }
+        ensures narrow_accepted { (M : meaning.Locale) → Means two_or_three code_units.now M → IfErr result (λ e. e ≡ ParseError.OutOfMemory) }
+    {
+        read(alloc, code_units)
+    }
+
+    /// The same of text.
+    pub fn try_from_str(alloc: Global, s: &str) -> Result<Self, ParseError>
+        ensures reads { LocaleReadsAs s.now result }
+        ensures well_formed { IfOk result (λ l. IsValue languages (value_of l) × IsWellFormed (value_of l)) }
+    {
+        Self::try_from_utf8(alloc, s.as_bytes())
+    }
+}

@@ -1,0 +1,77 @@
+//! Normal texts of locales, and whether a locale has one.
+ghost use Rattle.std.specs.Prelude.{◌≡◌, ◌↔◌, IsTrue, IfOk, IfErr};
+ghost use Rattle.std.specs.Cow.{cow_str_bytes};
+ghost use Rattle.iloc_grammar.specs.Words.{languages};
+ghost use Rattle.iloc_grammar.specs.Meaning as meaning;
+ghost use Rattle.iloc_grammar.specs.Meaning.{Means};
+ghost use Rattle.iloc_grammar.specs.Values.{IsValue, IsWellFormed, text};
+ghost use Rattle.iloc_writeable.specs.Writing.{IsLent};
+ghost use Rattle.iloc_small_reader.specs.SmallLocaleReads.{SmallLocaleReadsAs};
+
+use crate::locale::Locale;
+use iloc_small_reader::read_small_locale;
+use iloc_subtags::{Language, ParseError, Region, Script, Subtag, UnicodeKey, Variant};
+use iloc_well_formed::is_well_formed;
+use iloc_writeable::to_string_or_borrow;
+use std::alloc::Global;
+use std::borrow::CowStr;
+
+impl Locale {
+    ghost use Rattle.iloc_locale.specs.LocaleValue.{value_of};
+    ghost use Rattle.iloc_locale.specs.Normalizing.{IsNormalizedFrom, RefusesNormalizing};
+
+    /// The normal text of what the text means, borrowed exactly where the text is that already.
+    ///
+    /// Refuses as the reader does. It takes no memory on a normal text that is inline. Normalising twice is
+    /// once; texts mean the same exactly where their normal texts are equal; no text of a meaning is shorter;
+    /// at most eight steps of rewriting lead there.
+    pub fn normalize_utf8(alloc: Global, input: &[u8]) -> Result<CowStr<'_, Global>, ParseError>
+        ensures ok { IfOk result (λ text. IsNormalizedFrom input.now (cow_str_bytes text) × (IsLent text ↔ (input.now ≡ cow_str_bytes text))) }
+        ensures err { IfErr result (RefusesNormalizing input.now) }
+    {
+        let locale = Self::try_from_utf8(alloc, input)?;
+        Ok(to_string_or_borrow(alloc, &locale, input)?)
+    }
+
+    /// The same of text.
+    pub fn normalize(alloc: Global, input: &str) -> Result<CowStr<'_, Global>, ParseError>
+        ensures ok { IfOk result (λ text. IsNormalizedFrom input.now (cow_str_bytes text) × (IsLent text ↔ (input.now ≡ cow_str_bytes text))) }
+        ensures err { IfErr result (RefusesNormalizing input.now) }
+    {
+        Self::normalize_utf8(alloc, input.as_bytes())
+    }
+
+    /// Whether the text of this locale reads back as it: the others ascend by singletons of their own, each
+    /// with a word, and no value of a keyword holds `true` or a subtag of two characters.
+    ///
+    /// Where it is, the text means this locale, and no other well-formed value has the same text.
+    pub fn is_well_formed(&self) -> bool
+        ensures exactly { IsTrue result ↔ IsWellFormed (value_of self.now) }
+        ensures back { IsTrue result → IsValue languages (value_of self.now) → Means languages (text (value_of self.now)) (value_of self.now) }
+        ensures one { IsTrue result → IsValue languages (value_of self.now) → (M : meaning.Locale) → IsValue languages M → IsWellFormed M → text M ≡ text (value_of self.now) → M ≡ value_of self.now }
+    {
+        is_well_formed(&self.extensions)
+    }
+
+    /// Reads a locale of at most one variant, and one keyword of at most one subtag besides `true`, without
+    /// memory.
+    ///
+    /// What is accepted is a locale of the same parts. `InvalidSubtag` and `InvalidExtension` also refuse what
+    /// is a locale with more than that; `OutOfMemory` never comes.
+    pub fn try_from_utf8_with_single_variant_single_keyword_unicode_extension(
+        code_units: &[u8],
+    ) -> Result<
+        (
+            Language,
+            Option<Script>,
+            Option<Region>,
+            Option<Variant>,
+            Option<(UnicodeKey, Option<Subtag>)>,
+        ),
+        ParseError,
+    >
+        ensures { SmallLocaleReadsAs code_units.now result }
+    {
+        read_small_locale(code_units)
+    }
+}

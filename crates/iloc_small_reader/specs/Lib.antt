@@ -1,0 +1,2 @@
+pub mod SmallLocaleReads
+pub mod BlockReads

@@ -1,0 +1,2 @@
+pub mod AnySteps
+pub mod StepExamples

@@ -1,0 +1,24 @@
+-- The tests of single extensions and subtags.
+use Rattle.std.specs.Prelude.{ℕ, Bool, not, ◌&&◌, ◌==◌, List, length, nat_lt}
+use Rattle.std.specs.Char.{to_ascii_lowercase}
+use Rattle.std.specs.FinMap.{is_sorted}
+use Rattle.std.specs.List.{list_all}
+use Rattle.std.specs.Ordering.{nat_cmp}
+use Rattle.iloc_grammar.specs.Words.{is_true}
+use Rattle.iloc_grammar.specs.Written.{Fields, is_other_singleton}
+
+-- an other extension has a singleton of its own, and a word
+abbrev pub has_own_place : ℕ × List (List ℕ) → Bool
+has_own_place o = is_other_singleton o.0 && ((to_ascii_lowercase o.0 == o.0) && nat_lt 0 (length o.1))
+
+-- a subtag in a value is no `true`, and no key
+abbrev pub is_plain : List ℕ → Bool
+is_plain w = not (is_true w) && not (length w == 2)
+
+-- the others ascend, and each is in its own place
+abbrev pub is_in_place : List (ℕ × List (List ℕ)) → Bool
+is_in_place os = is_sorted nat_cmp os && list_all has_own_place os
+
+-- no value has anything else
+abbrev pub is_read_back : Fields → Bool
+is_read_back fs = list_all (λ f. list_all is_plain f.1) fs
