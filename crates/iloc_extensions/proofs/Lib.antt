@@ -1,3 +1,4 @@
+mod EqualityLemmas
 mod KeptLemmas
 mod OrderLemmas
 mod SplitLemmas

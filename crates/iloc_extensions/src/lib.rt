@@ -6,13 +6,15 @@
 //! The crate stands on the parts: `iloc_unicode`, `iloc_transform` and `iloc_other`.
 #![tactic(auto)]
 
-ghost use Rattle.std.specs.Prelude.{◌≡◌};
+ghost use Rattle.std.specs.Prelude.{◌≡◌, ◌↔◌, IsTrue};
 ghost use Rattle.iloc_orders.specs.Orders.{kind_cmp};
+ghost use Rattle.iloc_extensions.specs.ExtensionsValue.{value_of};
 ghost use Rattle.iloc_extensions.specs.Kinds.{kind_of};
 
 pub mod extension_type;
 pub mod extensions;
 pub mod printing;
+pub mod values;
 
 pub use extension_type::ExtensionType;
 pub use extensions::Extensions;
@@ -20,4 +22,9 @@ pub use extensions::Extensions;
 /// The kinds stand in the order of the definitions: `t`, `u`, `x`, and then the others by their singletons.
 pub fn orders()
     ensures { (a b : ExtensionType) → ⟦<ExtensionType as Ord>⟧.cmp a b ≡ kind_cmp (kind_of a) (kind_of b) }
+{}
+
+/// `==` answers whether the two stand for the same.
+pub fn equality()
+    ensures { (d e : Extensions) → IsTrue (⟦<Extensions as PartialEq>⟧.eq d e) ↔ (value_of d ≡ value_of e) }
 {}

@@ -6,14 +6,18 @@
 #![tactic(auto)]
 
 ghost use Rattle.std.specs.Prelude.{◌≡◌, fold};
-ghost use Rattle.iloc_orders.specs.Hashes.{word_fed, words_fed, identifier_fed, fields_fed, unicode_fed, transform_fed, other_fed};
+ghost use Rattle.iloc_orders.specs.Hashes.{word_fed, words_fed, identifier_fed, fields_fed, unicode_fed, transform_fed, other_fed, extensions_fed, locale_fed};
 ghost use Rattle.iloc_regions.specs.DataHashes.{subdivision_fed};
 ghost use Rattle.iloc_langid.specs.Reads as identifiers;
 ghost use Rattle.iloc_unicode.specs.UnicodeValue as unicode_parts;
 ghost use Rattle.iloc_transform.specs.TransformReading as transforms;
+ghost use Rattle.iloc_extensions.specs.ExtensionsValue as all_extensions;
+ghost use Rattle.iloc_locale.specs.LocaleValue as locales;
 ghost use Rattle.iloc_subdivision.specs.Reads as subdivisions;
 
+use iloc_extensions::Extensions;
 use iloc_langid::LanguageIdentifier;
+use iloc_locale::Locale;
 use iloc_other::{Other, Private};
 use iloc_subdivision::SubdivisionId;
 use iloc_subtags::{WordKind, WordOf};
@@ -105,6 +109,20 @@ pub fn hash_private<H: Hasher>(private: &Private, state: &mut H)
     ensures { state.new ≡ fold H.write state.old (words_fed private.now) }
 {
     private.hash(state);
+}
+
+/// Extensions feed the unicode extension, the transform, the private words and the others.
+pub fn hash_extensions<H: Hasher>(extensions: &Extensions, state: &mut H)
+    ensures { state.new ≡ fold H.write state.old (extensions_fed (all_extensions.value_of extensions.now)) }
+{
+    extensions.hash(state);
+}
+
+/// A locale feeds its identifier and its extensions.
+pub fn hash_locale<H: Hasher>(locale: &Locale, state: &mut H)
+    ensures { state.new ≡ fold H.write state.old (locale_fed (locales.value_of locale.now)) }
+{
+    locale.hash(state);
 }
 
 /// A subdivision feeds its region and its suffix.

@@ -2,7 +2,7 @@
 use crate::{LanguageIdentifier, Lowercase};
 use iloc_subtags::{Language, ParseError, Region, Script, Variant};
 use iloc_writeable::{LengthHint, Pieces, Writeable};
-use std::alloc::Global;
+use std::alloc::{AllocError, Global};
 use std::cmp::Ordering;
 use std::hash::{DefaultHasher, Hash, Hasher};
 use std::test::Fail;
@@ -15,6 +15,17 @@ fn hash_of<T: Hash>(value: &T) -> u64 {
     let mut hasher = DefaultHasher::new();
     value.hash(&mut hasher);
     hasher.finish()
+}
+
+// Whether both ways of formatting print the text.
+fn shows(
+    alloc: Global,
+    identifier: &LanguageIdentifier,
+    text: &str,
+) -> Result<bool, AllocError> {
+    let shown = format!(in alloc; "{identifier} {identifier:?}")?;
+    let twice = format!(in alloc; "{text} {text}")?;
+    Ok(shown.as_str() == twice.as_str())
 }
 
 #[test]
@@ -46,9 +57,7 @@ fn reads_and_prints(rt: HostRuntime) -> Result<(), Fail> {
             identifier.writeable_length_hint(),
             LengthHint::exact(normal.len())
         );
-        let shown = format!(in alloc; "{identifier} {identifier:?}")?;
-        let twice = format!(in alloc; "{normal} {normal}")?;
-        assert_eq!(rt; shown.as_str(), twice.as_str());
+        assert!(rt; shows(alloc, &identifier, normal)?);
         assert!(rt; identifier.normalizing_eq(text));
         assert!(rt; identifier == identifier.clone()?);
         let again = read(alloc, normal)?;

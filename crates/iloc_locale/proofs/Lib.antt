@@ -1,2 +1,3 @@
+mod EqualityLemmas
 mod ReadLemmas
 mod NormalLemmas

@@ -10,11 +10,25 @@
 //! their reader (`iloc_blocks`) and the laws of the grammar (`iloc_grammar`).
 #![tactic(auto)]
 
+ghost use Rattle.std.specs.Prelude.{◌≡◌, ◌↔◌, IsTrue};
+ghost use Rattle.iloc_locale.specs.LocaleValue.{value_of};
+
 pub mod comparing;
 pub mod conversions;
 pub mod locale;
 pub mod normalizing;
 pub mod printing;
 mod reader;
+pub mod values;
 
 pub use locale::Locale;
+
+use iloc_langid::identifiers_compare;
+
+/// `==` answers whether two locales stand for the same.
+pub fn equality()
+    ensures { (l m : Locale) → IsTrue (⟦<Locale as PartialEq>⟧.eq l m) ↔ (value_of l ≡ value_of m) }
+{
+    identifiers_compare();
+    iloc_extensions::equality();
+}

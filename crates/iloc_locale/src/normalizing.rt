@@ -9,6 +9,7 @@ ghost use Rattle.iloc_writeable.specs.Writing.{IsLent};
 ghost use Rattle.iloc_small_reader.specs.SmallLocaleReads.{SmallLocaleReadsAs};
 
 use crate::locale::Locale;
+use crate::values::is_value;
 use iloc_small_reader::read_small_locale;
 use iloc_subtags::{Language, ParseError, Region, Script, Subtag, UnicodeKey, Variant};
 use iloc_well_formed::is_well_formed;
@@ -47,9 +48,10 @@ impl Locale {
     /// Where it is, the text means this locale, and no other well-formed value has the same text.
     pub fn is_well_formed(&self) -> bool
         ensures exactly { IsTrue result ↔ IsWellFormed (value_of self.now) }
-        ensures back { IsTrue result → IsValue languages (value_of self.now) → Means languages (text (value_of self.now)) (value_of self.now) }
-        ensures one { IsTrue result → IsValue languages (value_of self.now) → (M : meaning.Locale) → IsValue languages M → IsWellFormed M → text M ≡ text (value_of self.now) → M ≡ value_of self.now }
+        ensures back { IsTrue result → Means languages (text (value_of self.now)) (value_of self.now) }
+        ensures one { IsTrue result → (M : meaning.Locale) → IsValue languages M → IsWellFormed M → text M ≡ text (value_of self.now) → M ≡ value_of self.now }
     {
+        is_value(self);
         is_well_formed(&self.extensions)
     }
 

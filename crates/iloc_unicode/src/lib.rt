@@ -19,6 +19,7 @@ pub mod reader;
 #[cfg(test)]
 mod tests;
 pub mod unicode;
+pub mod values;
 
 pub use attributes::Attributes;
 pub use keywords::{Keywords, KeywordsIter};

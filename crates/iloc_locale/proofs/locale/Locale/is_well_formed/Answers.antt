@@ -10,7 +10,7 @@ pub returns-clause-exactly : goal.returns-clause-exactly
 returns-clause-exactly c = c.is_well_formed.ensures (langid.value_of c.args.self.now.id)
 
 pub returns-clause-back : goal.returns-clause-back
-returns-clause-back c = λ t v. reads_back (value_of c.args.self.now) v ((c.is_well_formed.ensures (langid.value_of c.args.self.now.id)).0 t)
+returns-clause-back c = λ t. reads_back (value_of c.args.self.now) c.is_value.ensures ((c.is_well_formed.ensures (langid.value_of c.args.self.now.id)).0 t)
 
 pub returns-clause-one : goal.returns-clause-one
-returns-clause-one c = λ t v M k w e. same_text_same_value languages languages_table M (value_of c.args.self.now) k w v ((c.is_well_formed.ensures (langid.value_of c.args.self.now.id)).0 t) e
+returns-clause-one c = λ t M k w e. same_text_same_value languages languages_table M (value_of c.args.self.now) k w c.is_value.ensures ((c.is_well_formed.ensures (langid.value_of c.args.self.now.id)).0 t) e

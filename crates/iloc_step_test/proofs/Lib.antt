@@ -1,0 +1,5 @@
+pub mod Equality
+pub mod ListTests
+pub mod PartTests
+pub mod TextTests
+pub mod Examples
