@@ -18,11 +18,7 @@ fn hash_of<T: Hash>(value: &T) -> u64 {
 }
 
 // Whether both ways of formatting print the text.
-fn shows(
-    alloc: Global,
-    identifier: &LanguageIdentifier,
-    text: &str,
-) -> Result<bool, AllocError> {
+fn shows(alloc: Global, identifier: &LanguageIdentifier, text: &str) -> Result<bool, AllocError> {
     let shown = format!(in alloc; "{identifier} {identifier:?}")?;
     let twice = format!(in alloc; "{text} {text}")?;
     Ok(shown.as_str() == twice.as_str())

@@ -21,9 +21,8 @@ pub mod printing;
 mod reader;
 pub mod values;
 
-pub use locale::Locale;
-
 use iloc_langid::identifiers_compare;
+pub use locale::Locale;
 
 /// `==` answers whether two locales stand for the same.
 pub fn equality()

@@ -54,7 +54,7 @@ impl fmt::Debug for Locale {
     ghost debug_output = { λ l. Some (text (value_of l)) };
 
     fn fmt<W: fmt::Write>(&self, f: &mut fmt::Formatter<W>) -> fmt::Result {
-        self.write_to(f)
+        fmt::Display::fmt(self, f)
     }
 }
 

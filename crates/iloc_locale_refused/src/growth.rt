@@ -8,12 +8,15 @@ use std::borrow::CowStr;
 use std::test::Fail;
 
 // Each part has more words than are kept inline.
-const LONG: &str = "EN-posix-macos-bbbbb-aaaaa-ccccc-w-foo-a-bar-baz-ab-cd-ef-T-FR-m0-foo-u-eee-ddd-ccc-bbb-aaa-hc-h12-ca-foo-x-e-d-c-b-a";
+const LONG: &str =
+    "EN-posix-macos-bbbbb-aaaaa-ccccc-w-foo-a-bar-baz-ab-cd-ef-T-FR-m0-foo-u-eee-ddd-ccc-bbb-aaa-hc-h12-ca-foo-x-e-d-c-b-a";
 
-const NORMAL: &str = "en-aaaaa-bbbbb-ccccc-macos-posix-a-bar-baz-ab-cd-ef-t-fr-m0-foo-u-aaa-bbb-ccc-ddd-eee-ca-foo-hc-h12-w-foo-x-e-d-c-b-a";
+const NORMAL: &str =
+    "en-aaaaa-bbbbb-ccccc-macos-posix-a-bar-baz-ab-cd-ef-t-fr-m0-foo-u-aaa-bbb-ccc-ddd-eee-ca-foo-hc-h12-w-foo-x-e-d-c-b-a";
 
 // Four variants and attributes, a key with four subtags, four private words.
-const INLINE: &str = "en-Latn-US-aaaaa-bbbbb-ccccc-ddddd-u-aaa-bbb-ccc-ddd-ca-eee-fff-ggg-hhh-x-a-b-c-d";
+const INLINE: &str =
+    "en-Latn-US-aaaaa-bbbbb-ccccc-ddddd-u-aaa-bbb-ccc-ddd-ca-eee-fff-ggg-hhh-x-a-b-c-d";
 
 #[test]
 fn readers_refuse_by_name(rt: HostRuntime) {
@@ -25,7 +28,8 @@ fn readers_refuse_by_name(rt: HostRuntime) {
     match Locale::try_from_str(alloc, "en-aaaaa-bbbbb-ccccc-macos-posix-a-bar-!") {
         Ok(_) => assert!(rt; false),
         Err(refusal) => assert!(rt;
-            refusal == ParseError::OutOfMemory || refusal == ParseError::InvalidExtension),
+            refusal == ParseError::OutOfMemory || refusal == ParseError::InvalidExtension
+        ),
     }
     let unread = Locale::try_from_str(alloc, "419-aaaaa-bbbbb-ccccc-macos-posix-a-bar");
     assert_eq!(rt; unread.err(), Some(ParseError::InvalidLanguage));
@@ -48,7 +52,11 @@ fn inline_texts_take_none(rt: HostRuntime) -> Result<(), Fail> {
 #[test]
 fn normal_texts_or_refused(rt: HostRuntime) {
     let alloc = rt.alloc();
-    for (text, normal) in [(LONG, NORMAL), (NORMAL, NORMAL), ("EN-u-ca-ROC", "en-u-ca-roc")] {
+    for (text, normal) in [
+        (LONG, NORMAL),
+        (NORMAL, NORMAL),
+        ("EN-u-ca-ROC", "en-u-ca-roc"),
+    ] {
         match Locale::normalize(alloc, text) {
             Ok(answer) => assert_eq!(rt; answer.as_str(), normal),
             Err(refusal) => assert_eq!(rt; refusal, ParseError::OutOfMemory),
@@ -90,7 +98,11 @@ fn another_extension_or_as_before(rt: HostRuntime) -> Result<(), Fail> {
     let Ok(words) = [foo].to_vec(alloc) else {
         return Ok(());
     };
-    match locale.extensions.other.push(Other::from_vec_unchecked(b'a', words)) {
+    match locale
+        .extensions
+        .other
+        .push(Other::from_vec_unchecked(b'a', words))
+    {
         Ok(()) => assert!(rt; locale.strict_cmp(b"en-a-foo").is_eq()),
         Err(_) => assert!(rt; locale == Locale::try_from_str(alloc, "EN")?),
     }
