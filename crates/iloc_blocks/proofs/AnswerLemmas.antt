@@ -161,7 +161,7 @@ nothing_done ps M s e = record {
 pub all_done : (start : List (List ℕ)) (M : Extensions) → BlocksDone languages start [] M → BlocksMean languages (blocks start) M
 all_done start M d = subst (λ (bs : List (ℕ × List (List ℕ))). BlocksMean languages bs M) (sym d.together) (turned languages d.done M d.means)
 
-pub whole_fails : (start rest more : List (List ℕ)) (M : Extensions) (f : ParseError) → BlockReads start rest M (Err f) → BlocksReadAs start (Err f)
+pub whole_fails : (start rest more : List (List ℕ)) (M : Extensions) (f : ParseError) → BlockReads start rest M (Err f) → BlocksReadAs start M (Err f)
 whole_fails start rest more M InvalidLanguage h = h
 whole_fails start rest more M InvalidSubtag h = h
 whole_fails start rest more M InvalidExtension h = h

@@ -3,7 +3,7 @@ ghost use Rattle.std.specs.Prelude.{◌≡◌, ◌∷◌, ℕ, List, [], true, �
 ghost use Rattle.iloc_grammar.specs.Reading.{starts_block, rest_of};
 ghost use Rattle.iloc_grammar.specs.Words.{languages};
 ghost use Rattle.iloc_parser.specs.Left.{left};
-ghost use Rattle.iloc_extensions.specs.ExtensionsValue.{value_of};
+ghost use Rattle.iloc_extensions.specs.ExtensionsValue.{value_of, none};
 ghost use Rattle.iloc_blocks.specs.Blocks.{BlocksDone, BlockReads, is_read};
 ghost use Rattle.iloc_blocks.specs.Place.{byte_at};
 ghost use Rattle.iloc_blocks.specs.Whole.{BlocksReadAs};
@@ -15,22 +15,26 @@ use iloc_parser::SubtagIterator;
 use iloc_subtags::ParseError;
 use std::alloc::Global;
 
-/// Reads all the blocks that are left.
+/// Reads all the blocks that are left into empty extensions.
 ///
 /// Refuses with the fault of the first bad block: `InvalidExtension` for a singleton that is no letter or
 /// digit, `DuplicatedExtension` for one met before, `InvalidSubtag` after `t` where a variant is repeated, and
 /// `InvalidExtension` for anything else. `OutOfMemory` comes only where some block has more words than are
 /// kept inline.
-pub fn read_blocks(alloc: Global, iter: &mut SubtagIterator<'_>) -> Result<Extensions, ParseError>
-    requires { starts_block (left iter.old) ≡ true }
-    ensures reads { BlocksReadAs (left iter.old) result }
+pub fn read_blocks(
+    alloc: Global,
+    iter: &mut SubtagIterator<'_>,
+    extensions: &mut Extensions,
+) -> Result<(), ParseError>
+    requires starts { starts_block (left iter.old) ≡ true }
+    requires empty { value_of extensions.old ≡ none }
+    ensures reads { BlocksReadAs (left iter.old) (value_of extensions.new) result }
     ensures rest { OnOk result (left iter.new ≡ []) }
 {
-    let mut extensions = Extensions::new(alloc);
     'blocks: while let Some(byte) = take_byte(iter) {
-        read_block(alloc, byte, iter, &mut extensions)?;
+        read_block(alloc, byte, iter, extensions)?;
     }
-    Ok(extensions)
+    Ok(())
 }
 
 // Takes the next piece, and answers its byte where it has just one.

@@ -30,7 +30,6 @@ use Rattle.iloc_subtags.specs.declared.parse_error.ParseError.TheVariants.{Inval
 use Rattle.iloc_langid.specs.declared.identifier.LanguageIdentifier.{LanguageIdentifier}
 use Rattle.iloc_langid.specs.Reads as langid
 use Rattle.iloc_langid.specs.Reads.{ReadsAs}
-use Rattle.iloc_extensions.specs.declared.extensions.Extensions.{Extensions}
 use Rattle.iloc_extensions.specs.ExtensionsValue as extensions
 use Rattle.iloc_blocks.specs.Blocks.{BlocksMean}
 use Rattle.iloc_blocks.specs.Whole.{BlocksReadAs}
@@ -52,10 +51,10 @@ same_first : (ps : List (List ℕ)) → first_piece (head ps) ≡ first_piece ps
 same_first [] = refl
 same_first (p ∷ ps) = refl
 
-pub accepts : (t : List ℕ) (id : LanguageIdentifier) (e : Extensions) → ReadsAs (head (pieces t)) (Ok id) → BlocksReadAs (after_head (pieces t)) (Ok e) → Means languages t (extensions.locale_of (langid.value_of id) (extensions.value_of e))
+pub accepts : (t : List ℕ) (id : LanguageIdentifier) (e : meaning.Extensions) → ReadsAs (head (pieces t)) (Ok id) → BlocksMean languages (blocks (after_head (pieces t))) e → Means languages t (extensions.locale_of (langid.value_of id) e)
 accepts t id e h b =
-    let m : BlocksMean languages (tail_blocks (pieces t)) (extensions.value_of e) = subst (λ bs. BlocksMean languages bs (extensions.value_of e)) (tail_is (pieces t)) b in
-    blocks_mean languages languages_table t (extensions.locale_of (langid.value_of id) (extensions.value_of e)) (record {
+    let m : BlocksMean languages (tail_blocks (pieces t)) e = subst (λ bs. BlocksMean languages bs e) (tail_is (pieces t)) b in
+    blocks_mean languages languages_table t (extensions.locale_of (langid.value_of id) e) (record {
       id = h;
       letters = m.letters;
       different = m.different;
@@ -114,12 +113,12 @@ head_refused t OutOfMemory h = (subst (λ p. IsWord (Language languages) p) (sam
 spells : (t : List ℕ) (id : LanguageIdentifier) → ReadsAs (head (pieces t)) (Ok id) → SpellsIdentifier languages (head (pieces t))
 spells t id h = (h.written, h.grammatical, h.spelled)
 
-pub blocks_refused : (t : List ℕ) (id : LanguageIdentifier) (e : ParseError) → ReadsAs (head (pieces t)) (Ok id) → BlocksReadAs (after_head (pieces t)) (Err e) → LocaleReadsAs t (Err e)
-blocks_refused t id InvalidLanguage h b = absurd b
-blocks_refused t id InvalidSubtag h b = bad_block (spells t id h) (subst (λ bs. faults.FirstBadBlock languages [] bs faults.InvalidSubtag) (tail_is (pieces t)) b)
-blocks_refused t id InvalidExtension h b = bad_block (spells t id h) (subst (λ bs. faults.FirstBadBlock languages [] bs faults.InvalidExtension) (tail_is (pieces t)) b)
-blocks_refused t id DuplicatedExtension h b = bad_block (spells t id h) (subst (λ bs. faults.FirstBadBlock languages [] bs faults.DuplicatedExtension) (tail_is (pieces t)) b)
-blocks_refused t id OutOfMemory h b = (
+pub blocks_refused : (t : List ℕ) (id : LanguageIdentifier) (x : meaning.Extensions) (e : ParseError) → ReadsAs (head (pieces t)) (Ok id) → BlocksReadAs (after_head (pieces t)) x (Err e) → LocaleReadsAs t (Err e)
+blocks_refused t id x InvalidLanguage h b = absurd b
+blocks_refused t id x InvalidSubtag h b = bad_block (spells t id h) (subst (λ bs. faults.FirstBadBlock languages [] bs faults.InvalidSubtag) (tail_is (pieces t)) b)
+blocks_refused t id x InvalidExtension h b = bad_block (spells t id h) (subst (λ bs. faults.FirstBadBlock languages [] bs faults.InvalidExtension) (tail_is (pieces t)) b)
+blocks_refused t id x DuplicatedExtension h b = bad_block (spells t id h) (subst (λ bs. faults.FirstBadBlock languages [] bs faults.DuplicatedExtension) (tail_is (pieces t)) b)
+blocks_refused t id x OutOfMemory h b = (
   subst (λ p. IsWord (Language languages) p) (sym (ap first_piece h.spelled) ∙ same_first (pieces t)) h.grammatical.words.language,
   λ i. b (subst (AllByRecursion (IsShortBlock languages)) (sym (tail_is (pieces t))) (inline_by_blocks languages languages_table t i).blocks),
 )
