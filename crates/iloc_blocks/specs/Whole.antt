@@ -13,7 +13,7 @@ use Rattle.iloc_blocks.specs.Blocks.{BlocksMean}
 
 -- the blocks of the pieces mean the extensions e, or the first bad one has the fault; memory is wanted only where a block isn't short
 abbrev pub BlocksReadAs : List (List ℕ) → Extensions → Result (Unit {0}) ParseError → Type 0
-BlocksReadAs ps e (Ok done) = BlocksMean languages (blocks ps) e
+BlocksReadAs ps e (Ok x) = BlocksMean languages (blocks ps) e
 BlocksReadAs ps e (Err InvalidLanguage) = ⊥
 BlocksReadAs ps e (Err InvalidSubtag) = FirstBadBlock languages [] (blocks ps) faults.InvalidSubtag
 BlocksReadAs ps e (Err InvalidExtension) = FirstBadBlock languages [] (blocks ps) faults.InvalidExtension

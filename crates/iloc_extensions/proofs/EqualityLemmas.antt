@@ -1,5 +1,5 @@
 -- `==` at extensions decides whether they stand for the same.
-use Rattle.std.proofs.Common.{◌≡◌, Bool, ◌&&◌, List, nat_eq, ap}
+use Rattle.std.proofs.Common.{◌≡◌, Bool, ◌&&◌, nat_eq, ap}
 use Rattle.std.specs.Bool.{Decides}
 use Rattle.std.proofs.lemmas.Bool.Decides.{Decides-and, Decides-like}
 use lib.Pointwise.{pointwise, pointwise_decides}
@@ -7,7 +7,6 @@ use Rattle.iloc_unicode.specs.Equality.{unicode_exact}
 use Rattle.iloc_unicode.specs.UnicodeValue as unicode
 use Rattle.iloc_transform.specs.TransformReading as transform
 use Rattle.iloc_transform.specs.declared.transform.Transform.{Transform}
-use Rattle.iloc_transform.proofs.EqualityLemmas.{fields_decide, identifier_decides, transform_decides}
 use Rattle.iloc_other.proofs.EqualityLemmas.{words_decide, other_decides}
 use Rattle.iloc_extensions.specs.ExtensionsValue.{value_of}
 use Rattle.iloc_extensions.specs.declared.extensions.Extensions.{Extensions}
