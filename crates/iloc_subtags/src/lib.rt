@@ -17,8 +17,6 @@ pub mod extension_kinds;
 pub mod identifier_kinds;
 pub mod kind;
 pub mod parse_error;
-#[cfg(test)]
-mod tests;
 pub mod word_of;
 
 pub use any_kind::Word;

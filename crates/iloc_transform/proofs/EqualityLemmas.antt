@@ -1,5 +1,5 @@
 -- `==` at fields, identifiers and transforms decides whether they stand for the same.
-use Rattle.std.proofs.Common.{◌≡◌, ℕ, Bool, ◌&&◌, List, Option, Some, None, nat_eq, refl, sym, ap, ◌∙◌, option_map, true≢false}
+use Rattle.std.proofs.Common.{◌≡◌, ℕ, Bool, ◌&&◌, List, Option, Some, None, nat_eq, refl, sym, ap, option_map, true≢false}
 use Rattle.std.specs.Option.{option_eq}
 use Rattle.std.specs.Bool.{Decides}
 use Rattle.std.proofs.lemmas.Bool.Decides.{Decides-and, Decides-like}
@@ -7,6 +7,7 @@ use lib.Pointwise.{pointwise, pointwise_decides}
 use Rattle.iloc_grammar.specs.Written as written
 use Rattle.iloc_langid.specs.Reads as langid
 use Rattle.iloc_langid.specs.declared.identifier.LanguageIdentifier.{LanguageIdentifier}
+use Rattle.iloc_langid.proofs.EqualityLemmas.{same_value, equal_values}
 use Rattle.iloc_other.proofs.EqualityLemmas.{word_decides, words_decide}
 use Rattle.iloc_transform.specs.TransformReading.{value_of}
 use Rattle.iloc_transform.specs.declared.transform.Transform.{Transform}
@@ -19,7 +20,7 @@ pair_decides f g = Decides-like _ (λ e i. (e.0 i, e.1 i)) (λ e. (ap (λ p. p.0
 pub fields_decide : (f g : written.Fields) → Decides (pointwise (λ (x y : List ℕ × List (List ℕ)). pointwise nat_eq x.0 y.0 && pointwise (pointwise nat_eq) x.1 y.1) f g) (f ≡ g)
 fields_decide = pointwise_decides pair_decides
 
--- identifiers and transforms, field by field
+-- transforms, field by field: identifiers by what is proved of them below
 
 option_decides : {X V : Type 0} (E : X → X → Bool) (f : X → V) → ((x y : X) → Decides (E x y) (f x ≡ f y)) → (o q : Option X) → Decides (option_eq E o q) (option_map f o ≡ option_map f q)
 option_decides E f each None None = (λ h. refl, λ e. refl)
@@ -30,18 +31,8 @@ option_decides E f each (Some x) (Some y) = ((λ h. ap Some ((each x y).0 h)), (
     inside : Some (f x) ≡ Some (f y) → f x ≡ f y
     inside e = cc
 
-same_option : {X : Type 0} (o : Option X) → option_map (λ (x : X). x) o ≡ o
-same_option None = refl
-same_option (Some x) = refl
-
-option_word_decides : (o q : Option (List ℕ)) → Decides (option_eq (pointwise nat_eq) o q) (o ≡ q)
-option_word_decides o q = Decides-like _ (λ e. sym (same_option o) ∙ e ∙ same_option q) (λ e. ap (option_map (λ (w : List ℕ). w)) e) (option_decides (pointwise nat_eq) (λ (w : List ℕ). w) word_decides o q)
-
 pub identifier_decides : (i j : LanguageIdentifier) → Decides (pointwise nat_eq i.language j.language && (option_eq (pointwise nat_eq) i.script j.script && (option_eq (pointwise nat_eq) i.region j.region && pointwise (pointwise nat_eq) i.variants j.variants))) (langid.value_of i ≡ langid.value_of j)
-identifier_decides i j = Decides-like _
-    (λ e k. record { language = e.0 k; script = e.1.0 k; region = e.1.1.0 k; variants = e.1.1.1 k })
-    (λ e. (ap (λ v. v.language) e, (ap (λ v. v.script) e, (ap (λ v. v.region) e, ap (λ v. v.variants) e))))
-    (Decides-and _ _ (word_decides i.language j.language) (Decides-and _ _ (option_word_decides i.script j.script) (Decides-and _ _ (option_word_decides i.region j.region) (words_decide i.variants j.variants))))
+identifier_decides i j = (same_value i j, equal_values i j)
 
 module _ (E : LanguageIdentifier → LanguageIdentifier → Bool) (F : written.Fields → written.Fields → Bool) where
   pub transform_decides : ((i j : LanguageIdentifier) → Decides (E i j) (langid.value_of i ≡ langid.value_of j)) → ((f g : written.Fields) → Decides (F f g) (f ≡ g)) → (m n : Transform) → Decides (option_eq E m.lang n.lang && F m.fields n.fields) (value_of m ≡ value_of n)

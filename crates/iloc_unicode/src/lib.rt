@@ -16,8 +16,6 @@ pub mod attributes;
 pub mod keywords;
 pub mod printing;
 pub mod reader;
-#[cfg(test)]
-mod tests;
 pub mod unicode;
 pub mod values;
 

@@ -9,8 +9,6 @@
 #![tactic(auto)]
 
 pub mod ascending;
-#[cfg(test)]
-mod tests;
 pub mod traits;
 pub mod word_set;
 

@@ -1,7 +1,7 @@
 //! What no contract says: that the definitions are the ones that were meant, and printed text.
 //!
 //! The examples are those of the Rust crate's documentation and tests, written anew.
-use crate::{
+use iloc_subtags::{
     Attribute, AttributeKind, CurrencyType, CurrencyTypeKind, Language, LanguageKind, ParseError,
     PrivateSubtagKind, Region, RegionKind, Script, ScriptKind, SubdivisionSuffix,
     SubdivisionSuffixKind, Subtag, SubtagKind, TransformKey, TransformKeyKind, UnicodeKey,

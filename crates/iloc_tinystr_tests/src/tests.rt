@@ -1,5 +1,5 @@
 //! What no contract says: that the definitions are the ones that were meant.
-use crate::TinyAsciiStr;
+use iloc_tinystr::TinyAsciiStr;
 use std::cmp::Ordering;
 use std::test::Fail;
 

@@ -1,7 +1,7 @@
 //! Each call once over both lists, and look-ups by the number of keys.
 ghost use Rattle.std.specs.Prelude.{◌<◌};
 
-use crate::{LiteMap, Probe, Store, place};
+use iloc_litemap::{LiteMap, Probe, Store, place};
 use iloc_shortvec::ShortBoxSlice;
 use std::alloc::{AllocError, Global};
 use std::fmt::Debug;

@@ -1,6 +1,6 @@
 //! What no contract says: that calls succeed with ample memory, and printed text.
-use crate::{Variants, is_strictly_ascending};
 use iloc_subtags::{ParseError, Variant};
+use iloc_word_set::{Variants, is_strictly_ascending};
 use iloc_writeable::Writeable;
 use std::cmp::Ordering;
 use std::hash::{DefaultHasher, Hash, Hasher};
