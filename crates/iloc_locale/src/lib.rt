@@ -18,7 +18,6 @@ pub mod conversions;
 pub mod locale;
 pub mod normalizing;
 pub mod printing;
-mod reader;
 pub mod values;
 
 use iloc_langid::identifiers_compare;

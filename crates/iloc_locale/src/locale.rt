@@ -6,9 +6,11 @@ ghost use Rattle.iloc_grammar.specs.Meaning.{Means};
 ghost use Rattle.iloc_grammar.specs.Steps.{Chain};
 ghost use Rattle.iloc_grammar.specs.Values.{IsValue, IsWellFormed};
 
-use crate::reader::read;
+use iloc_blocks::read_blocks;
 use iloc_extensions::Extensions;
 use iloc_langid::LanguageIdentifier;
+use iloc_langid::reader::read_head;
+use iloc_parser::SubtagIterator;
 use iloc_subtags::ParseError;
 use std::alloc::Global;
 
@@ -51,7 +53,14 @@ impl Locale {
         ensures narrow { (M : meaning.Locale) → Means two_or_three code_units.now M → IfOk result (λ l. value_of l ≡ M) }
         ensures narrow_accepted { (M : meaning.Locale) → Means two_or_three code_units.now M → IfErr result (λ e. e ≡ ParseError.OutOfMemory) }
     {
-        read(alloc, code_units)
+        let mut iter = SubtagIterator::new(code_units);
+        let id = read_head(alloc, &mut iter)?;
+        let mut locale = Locale {
+            id,
+            extensions: Extensions::new(alloc),
+        };
+        read_blocks(alloc, &mut iter, &mut locale.extensions)?;
+        Ok(locale)
     }
 
     /// The same of text.

@@ -4,7 +4,7 @@ use iloc_extensions::ExtensionType;
 use iloc_langid::LanguageIdentifier;
 use iloc_locale::Locale;
 use iloc_subtags::{Language, ParseError, Region, Script};
-use iloc_writeable::Writeable;
+use iloc_writeable::{LengthHint, Writeable};
 use std::alloc::Global;
 use std::cmp::Ordering;
 use std::hash::{DefaultHasher, Hash, Hasher};
@@ -25,6 +25,19 @@ fn a_language_alone_is_lent(rt: HostRuntime) -> Result<(), Fail> {
     ] {
         assert!(rt; lends(alloc, text, None)?);
     }
+    Ok(())
+}
+
+// The length of its text that the locale of the text foretells.
+fn hint(alloc: Global, text: &str) -> Result<LengthHint, ParseError> {
+    let locale = Locale::try_from_str(alloc, text)?;
+    Ok(locale.writeable_length_hint())
+}
+
+#[test]
+fn the_length_is_foretold(rt: HostRuntime) -> Result<(), Fail> {
+    let text = "EN-latn-us-POSIX-macos-u-foo-ca-true-hc-H12";
+    assert_eq!(rt; hint(rt.alloc(), text)?, LengthHint(38, Some(38)));
     Ok(())
 }
 

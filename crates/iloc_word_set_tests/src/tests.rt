@@ -2,6 +2,7 @@
 use iloc_subtags::{ParseError, Variant};
 use iloc_word_set::{Variants, is_strictly_ascending};
 use iloc_writeable::Writeable;
+use std::alloc::{AllocError, Global};
 use std::cmp::Ordering;
 use std::hash::{DefaultHasher, Hash, Hasher};
 use std::test::Fail;
@@ -18,12 +19,19 @@ fn six() -> Result<[Variant; 6], ParseError> {
     ])
 }
 
-/// The set of these variants.
-fn set_of(rt: &HostRuntime, variants: &[Variant]) -> Result<Variants, Fail> {
-    let mut set = Variants::new();
+/// Adds these variants, and tells whether each was new.
+fn add(alloc: Global, set: &mut Variants, variants: &[Variant]) -> Result<bool, AllocError> {
+    let mut all_new = true;
     for variant in variants {
-        set.push(rt.alloc(), *variant)?;
+        all_new = set.push(alloc, *variant)? && all_new;
     }
+    Ok(all_new)
+}
+
+/// The set of these variants.
+fn set_of(alloc: Global, variants: &[Variant]) -> Result<Variants, AllocError> {
+    let mut set = Variants::new();
+    add(alloc, &mut set, variants)?;
     Ok(set)
 }
 
@@ -33,31 +41,33 @@ fn hash_of(set: &Variants) -> u64 {
     state.finish()
 }
 
+/// Whether both ways of formatting print these.
+fn shows(alloc: Global, set: &Variants, text: &str, debug: &str) -> Result<bool, AllocError> {
+    let shown = format!(in alloc; "{set}")?.as_str() == text;
+    Ok(shown && format!(in alloc; "{set:?}")?.as_str() == debug)
+}
+
 #[test]
 fn keeps_each_variant_once(rt: HostRuntime) -> Result<(), Fail> {
-    let mut variants = Variants::default();
+    let macos = Variant::try_from_str("macos")?;
     let posix = Variant::try_from_str("posix")?;
-    assert!(rt; variants.push(rt.alloc(), posix)?);
-    assert!(rt; variants.push(rt.alloc(), Variant::try_from_str("macos")?)?);
-    assert!(rt; !variants.push(rt.alloc(), posix)?);
-    assert_eq!(rt;
-        format!(in rt.alloc(); "{variants}")?.as_str(),
-        "macos-posix"
-    );
-    assert_eq!(rt;
-        format!(in rt.alloc(); "{variants:?}")?.as_str(),
-        "[\"macos\", \"posix\"]"
-    );
-    assert!(rt; variants.remove(&posix));
-    assert!(rt; !variants.remove(&posix));
-    assert_eq!(rt; variants.len(), 1);
-    let old = variants.clear();
-    assert!(rt; variants.is_empty());
+    let mut set = Variants::default();
+    assert!(rt; add(rt.alloc(), &mut set, &[posix, macos])?);
+    assert!(rt; !add(rt.alloc(), &mut set, &[posix])?);
+    assert!(rt; shows(rt.alloc(), &set, "macos-posix", "[\"macos\", \"posix\"]")?);
+    assert!(rt; set.remove(&posix) && !set.remove(&posix));
+    assert_eq!(rt; set.len(), 1);
+    Ok(())
+}
+
+#[test]
+fn clearing_gives_what_was_there(rt: HostRuntime) -> Result<(), Fail> {
+    let macos = Variant::try_from_str("macos")?;
+    let mut set = Variants::from_variant(macos);
+    assert_eq!(rt; set.writeable_borrow(), Some("macos"));
+    let old = set.clear();
+    assert!(rt; set.is_empty());
     assert_eq!(rt; old.writeable_borrow(), Some("macos"));
-    assert_eq!(rt;
-        Variants::from_variant(posix).writeable_borrow(),
-        Some("posix")
-    );
     Ok(())
 }
 
@@ -65,7 +75,6 @@ fn keeps_each_variant_once(rt: HostRuntime) -> Result<(), Fail> {
 fn takes_six_in_any_order(rt: HostRuntime) -> Result<(), Fail> {
     let variants = six()?;
     let all = variants.as_slice();
-    let least = &all[..4];
     let mut set = Variants::new();
     for index in [3usize, 0, 5, 4, 1, 2] {
         assert!(rt; set.push(rt.alloc(), all[index])?);
@@ -75,26 +84,59 @@ fn takes_six_in_any_order(rt: HostRuntime) -> Result<(), Fail> {
     assert_eq!(rt; set.get(6), None);
     assert_eq!(rt; set.first(), Some(&all[0]));
     assert!(rt; set.iter().eq(all.iter()));
-    let copy = set.clone()?;
-    assert!(rt; set.remove(&all[5]) && set.remove(&all[4]));
-    assert_eq!(rt; set.as_slice(), least);
-    let four = set_of(&rt, least)?;
-    assert!(rt; set == four && hash_of(&set) == hash_of(&four));
-    assert_eq!(rt; copy.len(), 6);
     Ok(())
+}
+
+/// Whether a copy stays when the set loses its last two.
+fn copy_stays(set: &mut Variants, all: &[Variant]) -> Result<bool, AllocError> {
+    let copy = set.clone()?;
+    let removed = match all {
+        [.., fifth, sixth] => set.remove(sixth) && set.remove(fifth),
+        _ => false,
+    };
+    Ok(removed && copy.as_slice() == all)
+}
+
+/// Whether the set is that of these, in each way of asking.
+fn is_set_of(alloc: Global, set: &Variants, variants: &[Variant]) -> Result<bool, AllocError> {
+    let other = set_of(alloc, variants)?;
+    Ok(*set == other && hash_of(set) == hash_of(&other) && set.cmp(&other).is_eq())
+}
+
+#[test]
+fn a_copy_stays_as_it_is(rt: HostRuntime) -> Result<(), Fail> {
+    let variants = six()?;
+    let all = variants.as_slice();
+    let mut set = set_of(rt.alloc(), all)?;
+    assert!(rt; copy_stays(&mut set, all)?);
+    assert_eq!(rt; set.as_slice(), &all[..4]);
+    assert!(rt; is_set_of(rt.alloc(), &set, &all[..4])?);
+    Ok(())
+}
+
+/// Adds the set of these variants.
+fn extend(alloc: Global, set: &mut Variants, variants: &[Variant]) -> Result<(), AllocError> {
+    let other = set_of(alloc, variants)?;
+    set.extend(alloc, &other)
+}
+
+/// Whether the union of the two variants is both in order.
+fn unite(alloc: Global, first: Variant, second: Variant) -> Result<bool, AllocError> {
+    let second = Variants::from_variant(second);
+    let both = Variants::from_variant(first).union(alloc, &second)?;
+    Ok(both.len() == 2 && is_strictly_ascending(both.as_slice()))
 }
 
 #[test]
 fn unites(rt: HostRuntime) -> Result<(), Fail> {
     let variants = six()?;
     let all = variants.as_slice();
-    let mut set = set_of(&rt, &all[..2])?;
-    set.extend(rt.alloc(), &set_of(&rt, &all[1..3])?)?;
+    let mut set = set_of(rt.alloc(), &all[..2])?;
+    extend(rt.alloc(), &mut set, &all[1..3])?;
     assert_eq!(rt; set.as_slice(), &all[..3]);
-    set.extend(rt.alloc(), &set_of(&rt, &all[2..])?)?;
+    extend(rt.alloc(), &mut set, &all[2..])?;
     assert_eq!(rt; set.as_slice(), all);
-    let both = Variants::from_variant(all[1]).union(rt.alloc(), &Variants::from_variant(all[0]))?;
-    assert_eq!(rt; both.as_slice(), &all[..2]);
+    assert!(rt; unite(rt.alloc(), all[1], all[0])?);
     Ok(())
 }
 
@@ -106,22 +148,29 @@ fn takes_an_ascending_list(rt: HostRuntime) -> Result<(), Fail> {
     }
     let set = Variants::from_vec_unchecked(list);
     assert_eq!(rt; set.len(), 6);
+    Ok(())
+}
+
+#[test]
+fn tells_what_ascends(rt: HostRuntime) {
     assert!(rt; is_strictly_ascending::<u8>(&[]) && is_strictly_ascending(&[7u8]));
     assert!(rt; !is_strictly_ascending(&[1u8, 2, 2]) && !is_strictly_ascending(&[1u8, 3, 2]));
-    Ok(())
+}
+
+/// How the sets of these variants compare.
+fn order(alloc: Global, first: &[Variant], second: &[Variant]) -> Result<Ordering, AllocError> {
+    let first = set_of(alloc, first)?;
+    let second = set_of(alloc, second)?;
+    Ok(first.cmp(&second))
 }
 
 #[test]
 fn small_sets_come_first(rt: HostRuntime) -> Result<(), Fail> {
     let variants = six()?;
     let all = variants.as_slice();
-    let last = Variants::from_variant(all[5]);
-    let two = set_of(&rt, &all[..2])?;
-    let other_two = set_of(&rt, &all[1..3])?;
-    let five = set_of(&rt, &all[..5])?;
-    assert_eq!(rt; last.cmp(&two), Ordering::Less);
-    assert_eq!(rt; other_two.cmp(&five), Ordering::Greater);
-    assert_eq!(rt; set_of(&rt, &all[..4])?.cmp(&five), Ordering::Less);
-    assert_eq!(rt; Variants::new().cmp(&last), Ordering::Less);
+    assert!(rt; order(rt.alloc(), &all[5..], &all[..2])?.is_lt());
+    assert!(rt; order(rt.alloc(), &all[1..3], &all[..5])?.is_gt());
+    assert!(rt; order(rt.alloc(), &all[..4], &all[..5])?.is_lt());
+    assert!(rt; order(rt.alloc(), &[], &all[5..])?.is_lt());
     Ok(())
 }
