@@ -9,8 +9,6 @@ ghost use Rattle.iloc_orders.specs.Orders.{words_cmp};
 
 pub mod printing;
 pub mod reader;
-#[cfg(test)]
-mod tests;
 pub mod value;
 
 pub use reader::read_value;
