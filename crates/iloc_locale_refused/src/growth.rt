@@ -10,7 +10,7 @@ use std::test::Fail;
 // A text, and its normal text.
 type Pair = (&'static str, &'static str);
 
-// Each part has more words than are kept inline, here and in the next.
+// Each part has more words than are kept inline: head and others here, private words and the rest in the next two.
 const LEFT: Pair = (
     "EN-posix-macos-bbbbb-aaaaa-ccccc-w-foo-a-bar-baz-ab-cd-ef",
     "en-aaaaa-bbbbb-ccccc-macos-posix-a-bar-baz-ab-cd-ef-w-foo",
