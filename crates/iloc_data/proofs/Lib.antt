@@ -1,0 +1,3 @@
+mod RegionLemmas
+mod EqualityLemmas
+mod ReadLemmas

@@ -1,0 +1,62 @@
+-- From the small locale that was read, or its refusal, to what the reader of data locales answers.
+use Rattle.std.proofs.Common.{◌≡◌, ℕ, List, Option, Some, None, refl, sym, ap, ◌∙◌, IsOk, Result, Ok, Err, option_map}
+use Rattle.iloc_grammar.specs.Words.{languages, two_or_three}
+use Rattle.iloc_grammar.specs.Meaning as meaning
+use Rattle.iloc_grammar.specs.Meaning.{Means}
+use Rattle.iloc_grammar.specs.Faults as faults
+use Rattle.iloc_grammar.specs.Faults.{Fault}
+use Rattle.iloc_grammar.proofs.RawLaws.{languages_table, narrow_in_wide}
+use Rattle.iloc_small_reader.specs.SmallLocaleReads.{LocaleParts, small_locale_of, SmallLocaleReadsAs}
+use Rattle.iloc_regions.specs.Subdivisions.{Subdivision}
+use Rattle.iloc_regions.specs.DataLocales as parts
+use Rattle.iloc_regions.specs.DataLocales.{DataMeans, HasDataFault, not_small, no_subdivision, made_of, small_part, data_text}
+use Rattle.iloc_regions.proofs.DataLaws.{data_apart, one_data, read_back}
+use Rattle.iloc_regions.proofs.WiderData.{data_wider}
+use Rattle.iloc_preferences_rules.specs.Preferences.{language_priority, preferences}
+use Rattle.iloc_preferences_rules.proofs.ConversionLaws.{agrees}
+use Rattle.iloc_subtags.specs.declared.parse_error.ParseError.{ParseError}
+use Rattle.iloc_subtags.specs.declared.parse_error.ParseError.TheVariants.{InvalidLanguage, InvalidSubtag, InvalidExtension, DuplicatedExtension, OutOfMemory}
+use Rattle.iloc_data.specs.declared.data_locale.DataLocale.{DataLocale}
+use Rattle.iloc_data.specs.Reads.{DataReadsAs}
+
+-- the parts of the small locale, with its region part
+abbrev of_part : LocaleParts → Option (Option Subdivision) → Option parts.DataLocale
+of_part p o = option_map (λ part. made_of p.0 p.1 part p.3) o
+
+pub accepted : (t : List ℕ) (p : LocaleParts) (part : Option Subdivision) (d : parts.DataLocale) → SmallLocaleReadsAs t (Ok p) → small_part p.2 p.4 ≡ Some part → d ≡ made_of p.0 p.1 part p.3 → DataMeans languages t d
+accepted t p part d s h e = record { small = small_locale_of p; is_small = s; means = ap (of_part p) h ∙ ap Some (sym e) }
+
+pub not_read : (t : List ℕ) (e : ParseError) → SmallLocaleReadsAs t (Err e) → DataReadsAs t (Err e)
+not_read t InvalidLanguage h = not_small h
+not_read t InvalidSubtag h = not_small h
+not_read t InvalidExtension h = not_small h
+not_read t DuplicatedExtension h = absurd h
+not_read t OutOfMemory h = absurd h
+
+pub no_part : (t : List ℕ) (p : LocaleParts) → SmallLocaleReadsAs t (Ok p) → small_part p.2 p.4 ≡ None → DataReadsAs t (Err InvalidExtension)
+no_part t p s h = no_subdivision s (ap (of_part p) h)
+
+-- what else is known of what is read
+
+ours : (t : List ℕ) (d : parts.DataLocale) → DataMeans two_or_three t d → DataMeans languages t d
+ours t d h = data_wider narrow_in_wide t d h
+
+pub reads_back : (t : List ℕ) (d : parts.DataLocale) → DataMeans languages t d → DataMeans languages (data_text d) d
+reads_back t d h = read_back t d h
+
+pub is_converted : (t : List ℕ) (d : parts.DataLocale) → DataMeans languages t d → (M : meaning.Locale) → Means languages t M → d ≡ language_priority (preferences M)
+is_converted t d h M m = agrees languages_table t d M h m
+
+pub keeps_narrow : (t : List ℕ) (d : parts.DataLocale) → DataMeans languages t d → (e : parts.DataLocale) → DataMeans two_or_three t e → d ≡ e
+keeps_narrow t d h e n = one_data languages_table t d e h (ours t e n)
+
+faultless : (t : List ℕ) (f : Fault) → HasDataFault languages t f → (d : parts.DataLocale) → DataMeans two_or_three t d → ⊥
+faultless t f h d n = data_apart languages_table t d f (ours t d n) h
+
+pub accepts_narrow : (t : List ℕ) (r : Result DataLocale ParseError) → DataReadsAs t r → (d : parts.DataLocale) → DataMeans two_or_three t d → IsOk r
+accepts_narrow t (Ok e) h d n = refl
+accepts_narrow t (Err InvalidLanguage) h d n = absurd (faultless t faults.InvalidLanguage h d n)
+accepts_narrow t (Err InvalidSubtag) h d n = absurd (faultless t faults.InvalidSubtag h d n)
+accepts_narrow t (Err InvalidExtension) h d n = absurd (faultless t faults.InvalidExtension h d n)
+accepts_narrow t (Err DuplicatedExtension) h d n = absurd h
+accepts_narrow t (Err OutOfMemory) h d n = absurd h

@@ -1,0 +1,35 @@
+use Rattle.std.proofs.Common.{◌∙◌}
+use Rattle.std.proofs.lemmas.Result.{err_from_is_err_and}
+use Rattle.iloc_data.specs.DataValue.{value_of}
+use Rattle.iloc_data.proofs.ReadLemmas.{accepted, not_read, no_part, reads_back, is_converted, keeps_narrow, accepts_narrow}
+use Rattle.iloc_data.proofs.data_locale.DataLocale.try_from_utf8.Goals as goal
+
+-- each way out reads the text as the definitions say; the other clauses follow from that
+
+pub returns-in_err-language-clause-reads : goal.returns-in_err-language-clause-reads
+returns-in_err-language-clause-reads c =
+    let p = err_from_is_err_and c.from_residual.result c.from_residual.ensures.1 in
+    rw (p.1, p.2) (not_read c.args.code_units.now c.in_err-language.field-0.0 c.in_err-language.ensures)
+
+pub returns-in_err-part-clause-reads : goal.returns-in_err-part-clause-reads
+returns-in_err-part-clause-reads c =
+    let p = err_from_is_err_and c.from_residual-in_err-part.result c.from_residual-in_err-part.ensures.1 in
+    rw (p.1, p.2 ∙ c.in_err-part.ensures.0) (no_part c.args.code_units.now _ c.in_ok-language.ensures c.in_err-part.ensures.1)
+
+pub returns-clause-reads : goal.returns-clause-reads
+returns-clause-reads c = accepted c.args.code_units.now _ _ (value_of c.made_of.result) c.in_ok-language.ensures c.in_ok-part.ensures c.made_of.ensures
+
+pub returns-in_err-language-clause-narrow_accepted : goal.returns-in_err-language-clause-narrow_accepted
+returns-in_err-language-clause-narrow_accepted c = accepts_narrow c.args.code_units.now c.from_residual.result (returns-in_err-language-clause-reads c)
+
+pub returns-in_err-part-clause-narrow_accepted : goal.returns-in_err-part-clause-narrow_accepted
+returns-in_err-part-clause-narrow_accepted c = accepts_narrow c.args.code_units.now c.from_residual-in_err-part.result (returns-in_err-part-clause-reads c)
+
+pub returns-clause-back : goal.returns-clause-back
+returns-clause-back c = reads_back c.args.code_units.now (value_of c.made_of.result) (returns-clause-reads c)
+
+pub returns-clause-converted : goal.returns-clause-converted
+returns-clause-converted c = is_converted c.args.code_units.now (value_of c.made_of.result) (returns-clause-reads c)
+
+pub returns-clause-narrow : goal.returns-clause-narrow
+returns-clause-narrow c = keeps_narrow c.args.code_units.now (value_of c.made_of.result) (returns-clause-reads c)

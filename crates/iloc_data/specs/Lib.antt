@@ -1,0 +1,3 @@
+pub mod DataValue
+pub mod DataEquality
+pub mod Reads

@@ -1,0 +1,174 @@
+//! Data locales from identifiers and parts, and locales from data locales.
+ghost use Rattle.std.specs.Prelude.{◌≡◌, ℕ, List, option_map};
+ghost use Rattle.iloc_grammar.specs.Words.{languages};
+ghost use Rattle.iloc_grammar.specs.Meaning as meaning;
+ghost use Rattle.iloc_grammar.specs.Values.{IsValue, IsWellFormed, text};
+ghost use Rattle.iloc_locale.specs.LocaleValue.{value_of as locale_value};
+ghost use Rattle.iloc_regions.specs.DataLocales.{data_text, locale_of_data, sd};
+ghost use Rattle.iloc_preferences_rules.specs.Keywords.{subdivision_reads};
+ghost use Rattle.iloc_preferences_rules.specs.Preferences.{preferred_region, read_keyword};
+ghost use Rattle.iloc_subdivision.specs.Reads.{value_of as subdivision_of};
+
+use crate::data_locale::DataLocale;
+use crate::region_part::{agreed, named, whole_region};
+use crate::values::is_data_locale;
+use iloc_extensions::Extensions;
+use iloc_langid::LanguageIdentifier;
+use iloc_locale::Locale;
+use iloc_subdivision::SubdivisionId;
+use iloc_subtags::{Language, Region, Script, UnicodeKey};
+use iloc_unicode::{Attributes, Keywords, Unicode};
+use iloc_word_set::Variants;
+use std::alloc::Global;
+
+// The key of subdivisions.
+#[tactic(auto, unfolding(iloc_grammar::specs::Words::is_word, iloc_grammar::specs::Words::lower))]
+fn subdivision_key() -> UnicodeKey
+    ensures { result ≡ sd }
+{
+    match UnicodeKey::try_from_utf8(b"sd") {
+        Ok(key) => key,
+        Err(_) => unreachable!(),
+    }
+}
+
+impl DataLocale {
+    ghost use Rattle.iloc_data.specs.DataValue.{value_of};
+
+    /// The locale of the same parts: the one well-formed locale that prints the same text. It takes no memory.
+    pub fn into_locale(self, alloc: Global) -> Locale
+        ensures parts { locale_value result ≡ locale_of_data (value_of self) }
+        ensures text { text (locale_value result) ≡ data_text (value_of self) }
+        ensures well_formed { IsWellFormed (locale_value result) }
+        ensures only { (M : meaning.Locale) → IsValue languages M → IsWellFormed M → text M ≡ data_text (value_of self) → M ≡ locale_value result }
+    {
+        is_data_locale(&self);
+        self.as_locale(alloc)
+    }
+
+    // The locale of the same parts.
+    fn as_locale(&self, alloc: Global) -> Locale
+        ensures { locale_value result ≡ locale_of_data (value_of self.now) }
+    {
+        let variants = match self.variant {
+            Some(variant) => Variants::from_variant(variant),
+            None => Variants::new(),
+        };
+        let keywords = match self.subdivision_value() {
+            Some(value) => Keywords::new_single(subdivision_key(), value),
+            None => Keywords::new(),
+        };
+        let unicode = Unicode {
+            keywords,
+            attributes: Attributes::new(),
+        };
+        Locale {
+            id: LanguageIdentifier {
+                language: self.language,
+                script: self.script,
+                region: self.region,
+                variants,
+            },
+            extensions: Extensions::from_unicode(alloc, unicode),
+        }
+    }
+}
+
+// The subdivision that the keyword `sd` names, where it is there and readable.
+fn keyword_subdivision(locale: &Locale) -> Option<SubdivisionId>
+    ensures { option_map subdivision_of result ≡ read_keyword subdivision_reads sd (locale_value locale.now) }
+{
+    let value = locale.extensions.unicode.keywords.get(&subdivision_key())?;
+    named(value.as_single_subtag()?)
+}
+
+// The given region with the suffix of the subdivision where that is of it, and else as a whole; the subdivision
+// where no region is given.
+#[tactic(auto, using(crate::proofs::RegionLemmas::agreed_is_preferred))]
+fn preferred(region: Option<Region>, id: Option<SubdivisionId>) -> Option<SubdivisionId>
+    ensures { option_map subdivision_of result ≡ preferred_region region (option_map subdivision_of id) }
+{
+    match id {
+        Some(id) => Some(agreed(region, id)),
+        None => region.map(whole_region),
+    }
+}
+
+/// The data locale of its preferences, language first: its parts with the first variant, and of its region the
+/// subdivision that `sd` names, where that is readable and of this region. Without a region, `sd` names both.
+impl From<&Locale> for DataLocale {
+    ghost use Rattle.std.specs.Prelude.{◌≡◌};
+    ghost use Rattle.iloc_locale.specs.LocaleValue.{value_of as locale_value};
+    ghost use Rattle.iloc_preferences_rules.specs.Preferences.{language_priority, preferences};
+    ghost use Rattle.iloc_data.specs.DataValue.{value_of};
+
+    ghost from_gives = { λ locale d. value_of d ≡ language_priority (preferences (locale_value locale.now)) };
+
+    fn from(locale: &Locale) -> Self {
+        let id = &locale.id;
+        let part = preferred(id.region, keyword_subdivision(locale));
+        DataLocale::made_of(id.language, id.script, part, id.variants.first().copied())
+    }
+}
+
+/// The same of a locale that is handed over.
+impl From<Locale> for DataLocale {
+    ghost use Rattle.std.specs.Prelude.{◌≡◌};
+    ghost use Rattle.iloc_locale.specs.LocaleValue.{value_of as locale_value};
+    ghost use Rattle.iloc_preferences_rules.specs.Preferences.{language_priority, preferences};
+    ghost use Rattle.iloc_data.specs.DataValue.{value_of};
+
+    ghost from_gives = { λ locale d. value_of d ≡ language_priority (preferences (locale_value locale)) };
+
+    fn from(locale: Locale) -> Self {
+        DataLocale::from(&locale)
+    }
+}
+
+/// Its parts with the first variant, and no subdivision.
+impl From<&LanguageIdentifier> for DataLocale {
+    ghost use Rattle.std.specs.Prelude.{◌≡◌};
+    ghost use Rattle.iloc_langid.specs.Reads.{value_of as identifier_of};
+    ghost use Rattle.iloc_regions.specs.DataLocales.{data_of_identifier};
+    ghost use Rattle.iloc_data.specs.DataValue.{value_of};
+
+    ghost from_gives = { λ langid d. value_of d ≡ data_of_identifier (identifier_of langid.now) };
+
+    fn from(langid: &LanguageIdentifier) -> Self {
+        DataLocale {
+            language: langid.language,
+            script: langid.script,
+            region: langid.region,
+            variant: langid.variants.first().copied(),
+            subdivision: None,
+        }
+    }
+}
+
+/// The same of an identifier that is handed over.
+impl From<LanguageIdentifier> for DataLocale {
+    ghost use Rattle.std.specs.Prelude.{◌≡◌};
+    ghost use Rattle.iloc_langid.specs.Reads.{value_of as identifier_of};
+    ghost use Rattle.iloc_regions.specs.DataLocales.{data_of_identifier};
+    ghost use Rattle.iloc_data.specs.DataValue.{value_of};
+
+    ghost from_gives = { λ langid d. value_of d ≡ data_of_identifier (identifier_of langid) };
+
+    fn from(langid: LanguageIdentifier) -> Self {
+        DataLocale::from(&langid)
+    }
+}
+
+/// Made of the whole of the region.
+impl From<(Language, Option<Script>, Option<Region>)> for DataLocale {
+    ghost use Rattle.std.specs.Prelude.{◌≡◌};
+    ghost use Rattle.iloc_regions.specs.DataLocales.{data_of_parts};
+    ghost use Rattle.iloc_data.specs.DataValue.{value_of};
+
+    ghost from_gives = { λ lsr d. value_of d ≡ data_of_parts lsr.0 lsr.1 lsr.2 };
+
+    fn from(lsr: (Language, Option<Script>, Option<Region>)) -> Self {
+        let (language, script, region) = lsr;
+        DataLocale::made_of(language, script, region.map(whole_region), None)
+    }
+}

@@ -1,0 +1,134 @@
+//! The type, and its readers.
+ghost use Rattle.std.specs.Prelude.{◌≡◌, ◌↔◌, IsTrue, IfOk, IsOk, option_map};
+ghost use Rattle.iloc_preferences_rules.specs.Preferences.{language_priority, preferences};
+ghost use Rattle.iloc_subdivision.specs.Reads.{value_of as subdivision_of};
+ghost use Rattle.iloc_grammar.specs.Words.{languages, two_or_three};
+ghost use Rattle.iloc_grammar.specs.Meaning as meaning;
+ghost use Rattle.iloc_grammar.specs.Meaning.{Means};
+ghost use Rattle.iloc_regions.specs.DataLocales as parts;
+ghost use Rattle.iloc_regions.specs.DataLocales.{DataMeans, data_text};
+
+use crate::region_part::part_of;
+use iloc_small_reader::read_small_locale;
+use iloc_subdivision::SubdivisionId;
+use iloc_subtags::{Language, ParseError, Region, Script, Subtag, Variant};
+use std::str::FromStr;
+
+/// The parts of a locale by which data is looked up, as `en-US-u-sd-ustx`.
+///
+/// Fields can be set to what no text means. The region and the subdivision stand for one thing: the subdivision
+/// where it is there and readable, and else the region as a whole.
+#[derive(Clone, Copy)]
+pub struct DataLocale {
+    /// The language.
+    pub language: Language,
+    /// The script.
+    pub script: Option<Script>,
+    /// The region.
+    pub region: Option<Region>,
+    /// The only variant.
+    pub variant: Option<Variant>,
+    /// The subdivision of the region, with the region, as `ustx`.
+    pub subdivision: Option<Subtag>,
+}
+
+impl DataLocale {
+    ghost use Rattle.iloc_data.specs.DataValue.{value_of, unknown_data};
+    ghost use Rattle.iloc_data.specs.Reads.{DataReadsAs};
+
+    /// The unknown data locale, `und`.
+    pub fn default() -> Self
+        ensures { value_of result ≡ unknown_data }
+    {
+        DataLocale {
+            language: Language::unknown(),
+            script: None,
+            region: None,
+            variant: None,
+            subdivision: None,
+        }
+    }
+
+    /// Reads all of the text, which need not be UTF-8, in whatever case. It takes no memory.
+    ///
+    /// Accepted are an identifier with at most one variant, and after it nothing, or `u`, the key `sd` and a
+    /// readable subdivision; where that is of another region than the one given, the region as a whole counts.
+    /// What is read is also the conversion of the locale that the text means.
+    ///
+    /// Refuses with `InvalidLanguage` where the first piece is no language, with `InvalidSubtag` and
+    /// `InvalidExtension` as `iloc_small_reader` tells, and with `InvalidExtension` another keyword.
+    pub fn try_from_utf8(code_units: &[u8]) -> Result<Self, ParseError>
+        ensures reads { DataReadsAs code_units.now result }
+        ensures back { IfOk result (λ d. DataMeans languages (data_text (value_of d)) (value_of d)) }
+        ensures converted { IfOk result (λ d. (M : meaning.Locale) → Means languages code_units.now M → value_of d ≡ language_priority (preferences M)) }
+        ensures narrow { (d : parts.DataLocale) → DataMeans two_or_three code_units.now d → IfOk result (λ e. value_of e ≡ d) }
+        ensures narrow_accepted { (d : parts.DataLocale) → DataMeans two_or_three code_units.now d → IsOk result }
+    {
+        let (language, script, region, variant, keyword) = read_small_locale(code_units)?;
+        let part = part_of(region, keyword)?;
+        Ok(DataLocale::made_of(language, script, part, variant))
+    }
+
+    /// The same of text.
+    pub fn try_from_str(s: &str) -> Result<Self, ParseError>
+        ensures { DataReadsAs s.now result }
+    {
+        DataLocale::try_from_utf8(s.as_bytes())
+    }
+
+    /// Whether this is `und` and nothing else.
+    pub fn is_unknown(&self) -> bool
+        ensures { IsTrue result ↔ (value_of self.now ≡ unknown_data) }
+    {
+        self.language.is_unknown()
+            && self.script.is_none()
+            && self.region.is_none()
+            && self.variant.is_none()
+            && self.subdivision.is_none()
+    }
+
+    // The data locale made of that region part: its region, and its text as the subdivision.
+    pub(crate) fn made_of(
+        language: Language,
+        script: Option<Script>,
+        part: Option<SubdivisionId>,
+        variant: Option<Variant>,
+    ) -> Self
+        ensures { value_of result ≡ parts.made_of language script (option_map subdivision_of part) variant }
+    {
+        let (region, subdivision) = match part {
+            Some(id) => (Some(id.region), Some(id.into_subtag())),
+            None => (None, None),
+        };
+        DataLocale {
+            language,
+            script,
+            region,
+            variant,
+            subdivision,
+        }
+    }
+}
+
+/// The unknown data locale, `und`.
+impl Default for DataLocale {
+    ghost use Rattle.iloc_data.specs.DataValue.{value_of, unknown_data};
+
+    ghost is_default = { λ d. value_of d ≡ unknown_data };
+
+    fn default() -> Self {
+        DataLocale::default()
+    }
+}
+
+impl FromStr for DataLocale {
+    type Err = ParseError;
+
+    ghost use Rattle.iloc_data.specs.Reads.{DataReadsAs};
+
+    ghost from_str_gives = { DataReadsAs };
+
+    fn from_str(s: &str) -> Result<Self, ParseError> {
+        DataLocale::try_from_str(s)
+    }
+}

@@ -1,0 +1,21 @@
+//! Data locales: the few parts of a locale by which data is looked up.
+//!
+//! A data locale has a language, and perhaps a script, a region, a variant and a subdivision of the region. It is
+//! read without memory from the small texts whose keyword, if there is one, is `sd` (UTS #35 section 3.6.5), and
+//! promises that these are read as the definitions of `iloc_regions` say, and that every other text is refused with
+//! the fault that they name; what was read prints a text that reads back as it. Two data locales are equal, tie and
+//! hash alike where they stand for the same: a subdivision that is readable counts before the region, and a region
+//! alone is the whole of it.
+//!
+//! It stands on the reader of small locales (`iloc_small_reader`), on subdivisions (`iloc_subdivision`) and on
+//! identifiers and locales (`iloc_langid`, `iloc_locale`).
+#![tactic(auto)]
+
+pub mod comparing;
+pub mod conversions;
+pub mod data_locale;
+pub mod printing;
+mod region_part;
+pub mod values;
+
+pub use data_locale::DataLocale;

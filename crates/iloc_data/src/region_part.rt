@@ -1,0 +1,99 @@
+//! What a region and a subdivision stand for together.
+ghost use Rattle.std.specs.Prelude.{◌≡◌, ◌↔◌, IsTrue, true, MatchResult, codes, option_map, Some, None};
+ghost use Rattle.iloc_regions.specs.DataLocales as parts;
+ghost use Rattle.iloc_regions.specs.DataLocales.{named_subdivision, small_part, subdivision_keyword, subdivision_value};
+ghost use Rattle.iloc_subdivision.specs.Reads.{value_of as subdivision_of};
+ghost use Rattle.iloc_data.specs.DataValue.{value_of};
+
+use crate::data_locale::DataLocale;
+use iloc_small_reader::SmallKeyword;
+use iloc_subdivision::SubdivisionId;
+use iloc_subtags::{ParseError, Region, SubdivisionSuffix, Subtag, is_normal};
+use iloc_unicode_value::Value;
+
+// The suffix that stands for a whole region.
+#[tactic(auto, unfolding(iloc_grammar::specs::Words::is_word, iloc_grammar::specs::Words::lower))]
+fn whole() -> SubdivisionSuffix
+    ensures { result ≡ parts.whole }
+{
+    match SubdivisionSuffix::try_from_utf8(b"zzzz") {
+        Ok(suffix) => suffix,
+        Err(_) => unreachable!(),
+    }
+}
+
+/// The whole of the region.
+pub(crate) fn whole_region(region: Region) -> SubdivisionId
+    ensures { subdivision_of result ≡ parts.whole_region region }
+{
+    SubdivisionId::new(region, whole())
+}
+
+/// The subdivision that the word names.
+pub(crate) fn named(word: &Subtag) -> Option<SubdivisionId>
+    ensures { option_map subdivision_of result ≡ named_subdivision word.now }
+{
+    SubdivisionId::try_from_str(word.as_str()).ok()
+}
+
+/// The given region where it differs from the subdivision's, else the subdivision.
+#[tactic(auto, using(crate::proofs::RegionLemmas::words_tie))]
+pub(crate) fn agreed(region: Option<Region>, id: SubdivisionId) -> SubdivisionId
+    ensures { subdivision_of result ≡ parts.agreed region (subdivision_of id) }
+{
+    let Some(region) = region else {
+        return id;
+    };
+    if region == id.region {
+        return id;
+    }
+    whole_region(region)
+}
+
+/// The region part that a region and a keyword name. No keyword but `sd` with a readable subdivision is taken;
+/// another is refused with `InvalidExtension`.
+#[tactic(auto, using(crate::proofs::RegionLemmas::words_tie))]
+pub(crate) fn part_of(
+    region: Option<Region>,
+    keyword: Option<SmallKeyword>,
+) -> Result<Option<SubdivisionId>, ParseError>
+    ensures { MatchResult result (λ part. small_part region keyword ≡ Some (option_map subdivision_of part)) (λ e. (e ≡ ParseError.InvalidExtension) × (small_part region keyword ≡ None)) }
+{
+    let Some((key, value)) = keyword else {
+        return Ok(region.map(whole_region));
+    };
+    if key.as_str() != "sd" {
+        return Err(ParseError::InvalidExtension);
+    }
+    match value.as_ref().and_then(named) {
+        Some(id) => Ok(Some(agreed(region, id))),
+        None => Err(ParseError::InvalidExtension),
+    }
+}
+
+impl DataLocale {
+    /// The subdivision where it is there and readable, else the region as a whole, else nothing.
+    pub(crate) fn region_part(&self) -> Option<SubdivisionId>
+        ensures { option_map subdivision_of result ≡ parts.region_part (value_of self.now) }
+    {
+        match self.subdivision.as_ref().and_then(named) {
+            Some(id) => Some(id),
+            None => self.region.map(whole_region),
+        }
+    }
+
+    /// The value of `sd` as it is printed: the subdivision where it is readable and not a whole region, and
+    /// nothing of one that spells `true`.
+    #[tactic(auto, using(crate::proofs::RegionLemmas::printed_value, crate::proofs::RegionLemmas::words_tie))]
+    pub(crate) fn subdivision_value(&self) -> Option<Value>
+        ensures { result ≡ option_map subdivision_value (subdivision_keyword (value_of self.now)) }
+    {
+        let word = self.subdivision?;
+        let id = named(&word)?;
+        if id.suffix.as_str() == "zzzz" {
+            return None;
+        }
+        is_normal(&word);
+        Some(Value::from_subtag(Some(word)))
+    }
+}
