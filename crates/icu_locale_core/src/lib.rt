@@ -13,6 +13,8 @@
 //!   accepted text of that meaning is shorter; and at most eight steps of rewriting lead there.
 //! - Printing, length hints, comparison with bytes and orders are those of the printed text and of the
 //!   definitions, for every value, also for one that was built and that no text means.
+//! - A data locale is read without memory, exactly where the definition says so; data locales are equal where they
+//!   stand for the same.
 //! - Want of memory is an answer, never an end of the program. Words take none, and short texts fit in place.
 //!
 //! A first example:
@@ -24,7 +26,7 @@
 //! locale == Locale::try_from_str(alloc, "en-GB-u-ca-buddhist")?; // true
 //! ```
 //!
-//! Not here yet: data locales (`data`, `DataLocale`), `preferences`, `json` and `bench`.
+//! Not here yet: `preferences`, `json` and `bench`.
 //! In the Rust crate some of these modules are private, and `tinystr`, `writeable` and `litemap` are crates.
 #![tactic(auto)]
 
@@ -102,11 +104,17 @@ pub mod locale {
     pub use iloc_locale::Locale;
 }
 
+/// Data locales: the parts of a locale by which data is looked up.
+pub mod data {
+    pub use iloc_data::DataLocale;
+}
+
 /// The library of the program `locale_normal`.
 pub mod program {
     pub use iloc_program::{Mode, RunError, ending, run};
 }
 
+pub use iloc_data::DataLocale;
 pub use iloc_langid::LanguageIdentifier;
 pub use iloc_locale::Locale;
 pub use iloc_subtags::ParseError;

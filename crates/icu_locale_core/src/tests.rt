@@ -1,5 +1,6 @@
 //! The crate as a user meets it: by its paths alone.
 use crate::Locale;
+use crate::data::DataLocale;
 use crate::subtags::{Language, Region};
 use crate::writeable::Writeable;
 use std::test::Fail;
@@ -27,5 +28,15 @@ fn a_region_that_is_set_makes_the_other_locale(rt: HostRuntime) -> Result<(), Fa
     assert!(rt; locale != british);
     locale.id.region = Some(Region::try_from_str("GB")?);
     assert!(rt; locale == british);
+    Ok(())
+}
+
+#[test]
+fn a_data_locale_has_the_path_of_the_rust_crate(rt: HostRuntime) -> Result<(), Fail> {
+    let mut locale = DataLocale::default();
+    locale.language = Language::try_from_str("en")?;
+    locale.region = Some(Region::try_from_str("us")?);
+    assert!(rt; locale.strict_cmp(b"en-US").is_eq());
+    assert!(rt; locale == DataLocale::from((locale.language, None, locale.region)));
     Ok(())
 }

@@ -1,20 +1,23 @@
 //! What the types of this library feed a hasher.
 //!
 //! Each call hashes a value by the `Hash` of its type, and promises that what it feeds is what the definitions say. By
-//! the laws `hashes` and `data_hashes` that is alike for equal values alone. Users call `hash` itself.
+//! the laws `hashes` and `data_hashes` that is alike for equal values alone, of data locales for those that are
+//! equal. Users call `hash` itself.
 //! It stands on the crates of the types, on `iloc_orders` and `iloc_regions`.
 #![tactic(auto)]
 
 ghost use Rattle.std.specs.Prelude.{◌≡◌, fold};
 ghost use Rattle.iloc_orders.specs.Hashes.{word_fed, words_fed, identifier_fed, fields_fed, unicode_fed, transform_fed, other_fed, extensions_fed, locale_fed};
-ghost use Rattle.iloc_regions.specs.DataHashes.{subdivision_fed};
+ghost use Rattle.iloc_regions.specs.DataHashes.{subdivision_fed, data_locale_fed};
 ghost use Rattle.iloc_langid.specs.Reads as identifiers;
 ghost use Rattle.iloc_unicode.specs.UnicodeValue as unicode_parts;
 ghost use Rattle.iloc_transform.specs.TransformReading as transforms;
 ghost use Rattle.iloc_extensions.specs.ExtensionsValue as all_extensions;
 ghost use Rattle.iloc_locale.specs.LocaleValue as locales;
 ghost use Rattle.iloc_subdivision.specs.Reads as subdivisions;
+ghost use Rattle.iloc_data.specs.DataValue as data_locales;
 
+use iloc_data::DataLocale;
 use iloc_extensions::Extensions;
 use iloc_langid::LanguageIdentifier;
 use iloc_locale::Locale;
@@ -130,4 +133,11 @@ pub fn hash_subdivision<H: Hasher>(subdivision: &SubdivisionId, state: &mut H)
     ensures { state.new ≡ fold H.write state.old (subdivision_fed (subdivisions.value_of subdivision.now)) }
 {
     subdivision.hash(state);
+}
+
+/// A data locale feeds what it stands for: language, script, region with its suffix, variant.
+pub fn hash_data_locale<H: Hasher>(data_locale: &DataLocale, state: &mut H)
+    ensures { state.new ≡ fold H.write state.old (data_locale_fed (data_locales.value_of data_locale.now)) }
+{
+    data_locale.hash(state);
 }

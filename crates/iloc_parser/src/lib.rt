@@ -12,6 +12,3 @@ pub mod subtag_iterator;
 
 pub use reading::take_word;
 pub use subtag_iterator::SubtagIterator;
-
-#[cfg(test)]
-mod tests;

@@ -7,13 +7,15 @@ use Rattle.iloc_grammar.specs.Meaning as meaning
 use Rattle.iloc_grammar.specs.Meaning.{IdentifierMeans, Means}
 use Rattle.iloc_grammar.specs.Values.{identifier_text, text}
 use Rattle.iloc_grammar.proofs.RawLaws.{languages_table}
-use Rattle.iloc_output.specs.Output.{OfIdentifiers, OfLocales, identifier, no_identifier, locale, no_locale}
+use Rattle.iloc_output.specs.Output.{OfIdentifiers, OfLocales, OfDataLocales, identifier, no_identifier, locale, no_locale, data_locale, no_data_locale}
 use Rattle.iloc_output.proofs.OutputLaws.{only_answer}
 use Rattle.iloc_subtags.specs.declared.parse_error.ParseError.{ParseError}
 use Rattle.iloc_subtags.specs.declared.parse_error.ParseError.TheVariants.{InvalidLanguage, InvalidSubtag, InvalidExtension, DuplicatedExtension, OutOfMemory}
 use Rattle.iloc_langid.specs.Reads.{ReadsAs}
 use Rattle.iloc_locale.specs.Reads.{LocaleReadsAs}
-use Rattle.iloc_program.specs.declared.Mode.TheVariants.{Langid, Locale}
+use Rattle.iloc_regions.specs.DataLocales.{DataLocale, DataMeans, data_text}
+use Rattle.iloc_data.specs.Reads.{DataReadsAs}
+use Rattle.iloc_program.specs.declared.Mode.TheVariants.{Langid, Locale, Data}
 use Rattle.iloc_program.specs.Output.{line_answer, refusal_text}
 
 pub answer_accepted : (t : List ℕ) (i : Identifier) → IdentifierMeans languages (pieces t) i → line_answer Langid t ≡ identifier_text i
@@ -35,3 +37,13 @@ locale_refused t InvalidSubtag r n = sym (only_answer languages_table OfLocales 
 locale_refused t InvalidExtension r n = sym (only_answer languages_table OfLocales t (refusal_text InvalidExtension) (no_locale r))
 locale_refused t DuplicatedExtension r n = sym (only_answer languages_table OfLocales t (refusal_text DuplicatedExtension) (no_locale r))
 locale_refused t OutOfMemory r n = absurd (n refl)
+
+pub data_accepted : (t : List ℕ) (d : DataLocale) → DataMeans languages t d → line_answer Data t ≡ data_text d
+data_accepted t d m = sym (only_answer languages_table OfDataLocales t (data_text d) (data_locale m))
+
+pub data_refused : (t : List ℕ) (e : ParseError) → DataReadsAs t (Err e) → line_answer Data t ≡ refusal_text e
+data_refused t InvalidLanguage r = sym (only_answer languages_table OfDataLocales t (refusal_text InvalidLanguage) (no_data_locale r))
+data_refused t InvalidSubtag r = sym (only_answer languages_table OfDataLocales t (refusal_text InvalidSubtag) (no_data_locale r))
+data_refused t InvalidExtension r = sym (only_answer languages_table OfDataLocales t (refusal_text InvalidExtension) (no_data_locale r))
+data_refused t DuplicatedExtension r = absurd r
+data_refused t OutOfMemory r = absurd r

@@ -6,6 +6,7 @@ ghost use Rattle.iloc_program.specs.Output.{line_answer, output, refusal_text, r
 ghost use Rattle.iloc_output.specs.Lines.{IsOneLine};
 
 use crate::{Mode, RunError};
+use iloc_data::DataLocale;
 use iloc_langid::LanguageIdentifier;
 use iloc_locale::Locale;
 use iloc_subtags::ParseError;
@@ -63,6 +64,19 @@ fn answer_locale(alloc: Global, line: &[u8], replies: &mut Vec<u8>) -> Result<()
     }
 }
 
+// Adds the normal text of a data locale, or why there is none.
+fn answer_data(line: &[u8], replies: &mut Vec<u8>) -> Result<(), AllocError>
+    ensures { OnOk result (replies.new.items ≡ replies.old.items ++ line_answer Mode.Data line.now) }
+{
+    match DataLocale::try_from_utf8(line) {
+        Ok(locale) => match locale.write_to(replies) {
+            Ok(()) => Ok(()),
+            Err(_) => Err(AllocError),
+        },
+        Err(error) => write_refusal(&error, replies),
+    }
+}
+
 // Adds the answer to one line.
 fn answer_line(
     alloc: Global,
@@ -75,6 +89,7 @@ fn answer_line(
     match mode {
         Mode::Langid => answer_langid(alloc, line, replies),
         Mode::Locale => answer_locale(alloc, line, replies),
+        Mode::Data => answer_data(line, replies),
     }
 }
 

@@ -13,6 +13,3 @@
 pub mod reader;
 
 pub use reader::{SmallKeyword, SmallLocaleParts, read_small_locale};
-
-#[cfg(test)]
-mod tests;

@@ -12,8 +12,6 @@ ghost use Rattle.iloc_grammar.specs.Words.{word_cmp};
 ghost use Rattle.iloc_subdivision.specs.Reads.{value_of};
 
 pub mod subdivision_id;
-#[cfg(test)]
-mod tests;
 
 pub use subdivision_id::SubdivisionId;
 

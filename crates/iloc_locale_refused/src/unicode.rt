@@ -1,3 +1,4 @@
+//! Growths of unicode extensions.
 use iloc_subtags::{Attribute, ParseError, Subtag, UnicodeKey as Key};
 use iloc_unicode::{Attributes, Keywords, Unicode};
 use iloc_unicode_value::Value;

@@ -10,15 +10,15 @@ use std::test::Fail;
 // A text, and its normal text.
 type Pair = (&'static str, &'static str);
 
-// Each part has more words than are kept inline: head and others here, private words and the rest in the next two.
-const LEFT: Pair = (
+// Three texts with more words than are kept inline, each in other parts.
+const VARIANTS_AND_OTHERS: Pair = (
     "EN-posix-macos-bbbbb-aaaaa-ccccc-w-foo-a-bar-baz-ab-cd-ef",
     "en-aaaaa-bbbbb-ccccc-macos-posix-a-bar-baz-ab-cd-ef-w-foo",
 );
 
-const RIGHT: Pair = ("EN-x-e-d-c-b-a", "en-x-e-d-c-b-a");
+const PRIVATE_WORDS: Pair = ("EN-x-e-d-c-b-a", "en-x-e-d-c-b-a");
 
-const MIDDLE: Pair = (
+const FIELDS_AND_KEYWORDS: Pair = (
     "EN-T-FR-m0-foo-u-eee-ddd-ccc-bbb-aaa-hc-h12-ca-foo",
     "en-t-fr-m0-foo-u-aaa-bbb-ccc-ddd-eee-ca-foo-hc-h12",
 );
@@ -157,28 +157,28 @@ fn tells(alloc: Global, (text, normal): Pair) -> bool {
 
 #[test]
 fn copies_change_nothing(rt: HostRuntime) {
-    assert!(rt; copies(rt.alloc(), LEFT));
-    assert!(rt; copies(rt.alloc(), RIGHT));
+    assert!(rt; copies(rt.alloc(), VARIANTS_AND_OTHERS));
+    assert!(rt; copies(rt.alloc(), PRIVATE_WORDS));
 }
 
 #[test]
 fn copies_of_keywords_change_nothing(rt: HostRuntime) {
-    assert!(rt; copies(rt.alloc(), MIDDLE));
+    assert!(rt; copies(rt.alloc(), FIELDS_AND_KEYWORDS));
 }
 
 #[test]
 fn comparisons_change_nothing(rt: HostRuntime) {
-    assert!(rt; tells(rt.alloc(), LEFT));
+    assert!(rt; tells(rt.alloc(), VARIANTS_AND_OTHERS));
 }
 
 #[test]
 fn comparisons_of_keywords_change_nothing(rt: HostRuntime) {
-    assert!(rt; tells(rt.alloc(), MIDDLE));
+    assert!(rt; tells(rt.alloc(), FIELDS_AND_KEYWORDS));
 }
 
 #[test]
 fn comparisons_of_private_words_change_nothing(rt: HostRuntime) {
-    assert!(rt; tells(rt.alloc(), RIGHT));
+    assert!(rt; tells(rt.alloc(), PRIVATE_WORDS));
 }
 
 // Whether the other extension is added, or the locale is as before.

@@ -1,4 +1,5 @@
-use crate::{SubtagIterator, take_word};
+//! The pieces of a text.
+use iloc_parser::{SubtagIterator, take_word};
 use iloc_subtags::RegionKind;
 use std::test::Fail;
 

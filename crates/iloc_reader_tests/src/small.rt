@@ -1,5 +1,5 @@
 //! Small texts and others, each with what it is read as.
-use crate::{SmallLocaleParts, read_small_locale};
+use iloc_small_reader::{SmallLocaleParts, read_small_locale};
 use iloc_subtags::{ParseError, WordKind, WordOf};
 use std::alloc::{AllocError, Global};
 use std::test::Fail;

@@ -1,3 +1,4 @@
+//! Printing, and texts that are borrowed.
 use iloc_writeable::{Writeable, to_string_or_borrow};
 use iloc_writeable_tests::Names;
 use std::alloc::{AllocError, Global};

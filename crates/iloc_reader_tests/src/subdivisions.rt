@@ -1,4 +1,5 @@
-use crate::SubdivisionId;
+//! Subdivisions.
+use iloc_subdivision::SubdivisionId;
 use iloc_subtags::{ParseError, Region, SubdivisionSuffix};
 use iloc_writeable::Writeable;
 use std::test::Fail;

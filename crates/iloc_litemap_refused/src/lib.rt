@@ -1,7 +1,0 @@
-//! Tests of the map where a request for memory is refused. Each accepts the answer or the named refusal, and looks at
-//! the receiver: after a refusal it is as before.
-//! `tools/refuse_growth` runs them with each request refused in turn. It stands on `iloc_litemap` and `iloc_shortvec`.
-#![tactic(auto)]
-
-#[cfg(test)]
-mod growth;
