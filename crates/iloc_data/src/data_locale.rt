@@ -55,8 +55,9 @@ impl DataLocale {
     /// readable subdivision; where that is of another region than the one given, the region as a whole counts.
     /// What is read is also the conversion of the locale that the text means.
     ///
-    /// Refuses with `InvalidLanguage` where the first piece is no language, with `InvalidSubtag` and
-    /// `InvalidExtension` as `iloc_small_reader` tells, and with `InvalidExtension` another keyword.
+    /// Refuses with `InvalidLanguage` where the first piece is no language. With `InvalidExtension` it refuses a
+    /// singleton that is no letter or digit, a `u` that neither a key nor an attribute follows, and one keyword that
+    /// is not `sd` with a readable subdivision; and with `InvalidSubtag` everything else.
     pub fn try_from_utf8(code_units: &[u8]) -> Result<Self, ParseError>
         ensures reads { DataReadsAs code_units.now result }
         ensures back { IfOk result (λ d. DataMeans languages (data_text (value_of d)) (value_of d)) }
