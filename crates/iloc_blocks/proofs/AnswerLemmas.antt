@@ -30,7 +30,7 @@ use Rattle.iloc_transform.specs.TransformReading as transform
 use Rattle.iloc_other.specs.Reading.{PrivateReads}
 use Rattle.iloc_blocks.specs.Blocks.{BlocksMean, BlocksDone, BlockAt, BlockReads, is_read}
 use Rattle.iloc_blocks.specs.Reads.{UnicodeBlock, TransformBlock, OtherBlock}
-use Rattle.iloc_blocks.proofs.RoundLaws.{no_letter, met_before, unicode_done, unicode_bad, unicode_short, transform_done, transform_repeats, transform_bad, transform_short, other_done, other_bad, other_long, private_done, private_bad, private_short}
+use Rattle.iloc_blocks.proofs.RoundLaws.{no_letter, met_before, unicode_done, unicode_bad, unicode_long, transform_done, transform_repeats, transform_bad, transform_long, other_done, other_bad, other_long, private_done, private_bad, private_long}
 
 -- few words want no memory
 
@@ -71,7 +71,7 @@ module _ {start : List (List ℕ)} {c : ℕ} {ps : List (List ℕ)} {M : Extensi
   unicode_fails e rest more N InvalidSubtag h = absurd h
   unicode_fails e rest more N InvalidExtension h = unicode_bad a e h
   unicode_fails e rest more N DuplicatedExtension h = absurd h
-  unicode_fails e rest more N OutOfMemory h = λ s. short_unicode ps (unicode_short a e s) h
+  unicode_fails e rest more N OutOfMemory h = unicode_long a e (λ s. short_unicode ps s h)
 
   pub transform_goes : to_ascii_lowercase c ≡ 116 → (rest : List (List ℕ)) (m : Transform) → TransformBlock ps rest (Ok m) → BlocksDone languages start rest (record M { transform = transform.value_of m })
   transform_goes e rest m h = subst (λ (r : List (List ℕ)). BlocksDone languages start r (record M { transform = transform.value_of m })) (sym h.1) (transform_done a e (transform.value_of m) h.0)
@@ -81,7 +81,7 @@ module _ {start : List (List ℕ)} {c : ℕ} {ps : List (List ℕ)} {M : Extensi
   transform_fails e rest more N InvalidSubtag h = transform_repeats a e h
   transform_fails e rest more N InvalidExtension h = transform_bad a e h.0 h.1
   transform_fails e rest more N DuplicatedExtension h = absurd h
-  transform_fails e rest more N OutOfMemory h = λ s. short_transform ps (transform_short a e s) h
+  transform_fails e rest more N OutOfMemory h = transform_long a e (λ s. short_transform ps s h)
 
   pub private_goes : to_ascii_lowercase c ≡ 120 → (rest ws : List (List ℕ)) → PrivateReads ps rest (Ok ws) → BlocksDone languages start rest (record M { private = ws })
   private_goes e rest ws h = subst (λ (r : List (List ℕ)). BlocksDone languages start r (record M { private = ws })) (sym h.left) (private_done a e ws (h.follows, h.means))
@@ -91,7 +91,7 @@ module _ {start : List (List ℕ)} {c : ℕ} {ps : List (List ℕ)} {M : Extensi
   private_fails e rest more N InvalidSubtag h = absurd h
   private_fails e rest more N InvalidExtension (not_private n) = private_bad a e n
   private_fails e rest more N DuplicatedExtension h = absurd h
-  private_fails e rest more N OutOfMemory h = λ s. let l = private_short a e s in let k = passing_short (is_word PrivateSubtag) ps in omega (arith, l, k, h)
+  private_fails e rest more N OutOfMemory h = private_long a e (λ l. let k = passing_short (is_word PrivateSubtag) ps in omega (arith, l, k, h))
 
   pub other_goes : is_other_singleton (to_ascii_lowercase c) ≡ true → (rest : List (List ℕ)) (o : ℕ × List (List ℕ)) (os : List (ℕ × List (List ℕ))) → OtherBlock (to_ascii_lowercase c) ps rest (Ok o) → os ≡ put nat_cmp o.0 o.1 M.others → BlocksDone languages start rest (record M { others = os })
   other_goes k rest o os h e =

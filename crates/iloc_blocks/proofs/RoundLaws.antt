@@ -15,7 +15,8 @@ use Rattle.iloc_grammar.specs.Faults.{Fault, InvalidSubtag, InvalidExtension, Du
 use Rattle.iloc_grammar.proofs.ReadingLaws.{front-from_block, from_block_starts}
 use Rattle.iloc_fronts.specs.Fronts.{OtherMeans}
 use Rattle.iloc_fronts.proofs.BlockRules.{unicode_rule, transform_rule, private_rule, other_rule}
-use Rattle.iloc_inline.specs.Blocks.{IsShortUnicode, IsShortTransform, IsShortBlock}
+use Rattle.iloc_inline.specs.Blocks as long
+use Rattle.iloc_inline.specs.Blocks.{IsShortUnicode, IsShortTransform, IsShortBlock, ReachesLongBlock}
 use Rattle.iloc_blocks.specs.Blocks.{BlocksMean, BlocksDone, BlockAt, onto, is_read}
 use Rattle.iloc_blocks.proofs.ArmLaws.{read_is_known}
 use Rattle.iloc_blocks.proofs.StepLaws.{unicode_added, transform_added, private_added, other_added}
@@ -65,17 +66,16 @@ lower_letter c h = grind (arith, nat_tests)
 
 -- the blocks that were read, one after the other
 
-bad_after : {T : ℕ → Bool} (ds bs : List (ℕ × List (List ℕ))) {f : Fault} → AllByRecursion (λ b. is_ascii_alphanumeric b.0 ≡ true) ds → AllDifferent nat_cmp (map (λ b. singleton b) ds) → AllByRecursion (IsBlock T) ds → FirstBadBlock T (map (λ b. singleton b) ds) bs f → FirstBadBlock T [] (onto ds bs) f
-bad_after [] bs l n r h = h
-bad_after (d ∷ ds) bs l n r h = bad_after ds (d ∷ bs) l.1 n.1 r.1 (later l.0 n.0 r.0 h)
-
-all_after : {X : Type 0} (P : X → Type 0) (xs ys : List X) → AllByRecursion P (onto xs ys) → AllByRecursion P ys
-all_after P [] ys h = h
-all_after P (x ∷ xs) ys h = (all_after P xs (x ∷ ys) h).1
+-- what holds from here on, after the singletons of the blocks that were read, holds of all
+after : {T : ℕ → Bool} (P : List ℕ → List (ℕ × List (List ℕ)) → Type 0)
+    → ((seen : List ℕ) (b : ℕ × List (List ℕ)) (bs : List (ℕ × List (List ℕ))) → is_ascii_alphanumeric b.0 ≡ true → list_any (eq_by_cmp nat_cmp (singleton b)) seen ≡ false → IsBlock T b → P (singleton b ∷ seen) bs → P seen (b ∷ bs))
+    → (ds bs : List (ℕ × List (List ℕ))) → AllByRecursion (λ b. is_ascii_alphanumeric b.0 ≡ true) ds → AllDifferent nat_cmp (map (λ b. singleton b) ds) → AllByRecursion (IsBlock T) ds → P (map (λ b. singleton b) ds) bs → P [] (onto ds bs)
+after P step [] bs l n r h = h
+after P step (d ∷ ds) bs l n r h = after P step ds (d ∷ bs) l.1 n.1 r.1 (step (map (λ b. singleton b) ds) d bs l.0 n.0 r.0 h)
 
 module _ {T : ℕ → Bool} {start : List (List ℕ)} {c : ℕ} {ps : List (List ℕ)} {M : Extensions} where
   bad_here : (qs : List (List ℕ)) (bs : List (ℕ × List (List ℕ))) → blocks ((c ∷ []) ∷ ps) ≡ (c, qs) ∷ bs → (d : BlocksDone T start ((c ∷ []) ∷ ps) M) → (f : Fault) → BlockFault T (map (λ b. singleton b) d.done) (c, qs) f → FirstBadBlock T [] (blocks start) f
-  bad_here qs bs e d f h = subst (λ l. FirstBadBlock T [] l f) (sym (d.together ∙ ap (onto d.done) e)) (bad_after d.done ((c, qs) ∷ bs) d.means.letters d.means.different d.rules (here h))
+  bad_here qs bs e d f h = subst (λ l. FirstBadBlock T [] l f) (sym (d.together ∙ ap (onto d.done) e)) (after (λ seen l. FirstBadBlock T seen l f) (λ seen b l k n r x. later k n r x) d.done ((c, qs) ∷ bs) d.means.letters d.means.different d.rules (here h))
 
   -- the singleton is no letter or digit
   pub no_letter : BlocksDone T start ((c ∷ []) ∷ ps) M → is_ascii_alphanumeric c ≡ false → FirstBadBlock T [] (blocks start) InvalidExtension
@@ -95,8 +95,9 @@ module _ {T : ℕ → Bool} {start : List (List ℕ)} {c : ℕ} {ps : List (List
     breaks : (qs : List (List ℕ)) (bs : List (ℕ × List (List ℕ))) → blocks ((c ∷ []) ∷ ps) ≡ (c, qs) ∷ bs → ¬ ((to_ascii_lowercase c ≡ 116) × RepeatsVariant T qs) → ¬ (IsBlock T (c, qs)) → FirstBadBlock T [] (blocks start) InvalidExtension
     breaks qs bs e v r = bad_here qs bs e a.before InvalidExtension (breaks_rule a.letter fresh v r)
 
-    short : (qs : List (List ℕ)) (bs : List (ℕ × List (List ℕ))) → blocks ((c ∷ []) ∷ ps) ≡ (c, qs) ∷ bs → AllByRecursion (IsShortBlock T) (blocks start) → IsShortBlock T (c, qs)
-    short qs bs e h = (all_after (IsShortBlock T) a.before.done ((c, qs) ∷ bs) (subst (AllByRecursion (IsShortBlock T)) (a.before.together ∙ ap (onto a.before.done) e) h)).0
+    long_here : (qs : List (List ℕ)) (bs : List (ℕ × List (List ℕ))) → blocks ((c ∷ []) ∷ ps) ≡ (c, qs) ∷ bs → ¬ (IsShortBlock T (c, qs)) → ReachesLongBlock T [] (blocks start)
+    long_here qs bs e n = subst (ReachesLongBlock T []) (sym (a.before.together ∙ ap (onto a.before.done) e))
+        (after (ReachesLongBlock T) (λ seen b l k m r x. long.later k m r x) a.before.done ((c, qs) ∷ bs) a.before.means.letters a.before.means.different a.before.rules (long.here a.letter fresh n))
 
     -- after `u`
 
@@ -106,8 +107,8 @@ module _ {T : ℕ → Bool} {start : List (List ℕ)} {c : ℕ} {ps : List (List
     pub unicode_bad : to_ascii_lowercase c ≡ 117 → ((v : Unicode) → ¬ (UnicodeMeans (front ps) v)) → FirstBadBlock T [] (blocks start) InvalidExtension
     unicode_bad e n = breaks (front ps) (blocks (from_block ps)) (block_until c ps (other_than (to_ascii_lowercase c) 117 e (λ d. absurd (omega (arith, d))))) (λ h. apart (to_ascii_lowercase c) 117 116 e h.0 refl) (λ r. let s = (unicode_rule T (c, front ps) e).0 r in n s.0 s.1)
 
-    pub unicode_short : to_ascii_lowercase c ≡ 117 → AllByRecursion (IsShortBlock T) (blocks start) → IsShortUnicode ps
-    unicode_short e h = subst IsShortUnicode (front-from_block ps) ((short (front ps) (blocks (from_block ps)) (block_until c ps (other_than (to_ascii_lowercase c) 117 e (λ d. absurd (omega (arith, d))))) h).unicode e (from_block ps) (from_block_starts ps))
+    pub unicode_long : to_ascii_lowercase c ≡ 117 → ¬ (IsShortUnicode ps) → ReachesLongBlock T [] (blocks start)
+    unicode_long e n = long_here (front ps) (blocks (from_block ps)) (block_until c ps (other_than (to_ascii_lowercase c) 117 e (λ d. absurd (omega (arith, d))))) (λ s. n (subst IsShortUnicode (front-from_block ps) (s.unicode e (from_block ps) (from_block_starts ps))))
 
     -- after `t`
 
@@ -120,8 +121,8 @@ module _ {T : ℕ → Bool} {start : List (List ℕ)} {c : ℕ} {ps : List (List
     pub transform_bad : to_ascii_lowercase c ≡ 116 → ¬ (RepeatsVariant T (front ps)) → ((v : Transform) → ¬ (TransformMeans T (front ps) v)) → FirstBadBlock T [] (blocks start) InvalidExtension
     transform_bad e v n = breaks (front ps) (blocks (from_block ps)) (block_until c ps (other_than (to_ascii_lowercase c) 116 e (λ d. absurd (omega (arith, d))))) (λ h. v h.1) (λ r. let s = (transform_rule T (c, front ps) e).0 r in n s.0 s.1)
 
-    pub transform_short : to_ascii_lowercase c ≡ 116 → AllByRecursion (IsShortBlock T) (blocks start) → IsShortTransform T ps
-    transform_short e h = subst (IsShortTransform T) (front-from_block ps) ((short (front ps) (blocks (from_block ps)) (block_until c ps (other_than (to_ascii_lowercase c) 116 e (λ d. absurd (omega (arith, d))))) h).transform e (from_block ps) (from_block_starts ps))
+    pub transform_long : to_ascii_lowercase c ≡ 116 → ¬ (IsShortTransform T ps) → ReachesLongBlock T [] (blocks start)
+    transform_long e n = long_here (front ps) (blocks (from_block ps)) (block_until c ps (other_than (to_ascii_lowercase c) 116 e (λ d. absurd (omega (arith, d))))) (λ s. n (subst (IsShortTransform T) (front-from_block ps) (s.transform e (from_block ps) (from_block_starts ps))))
 
     -- after another singleton
 
@@ -131,8 +132,8 @@ module _ {T : ℕ → Bool} {start : List (List ℕ)} {c : ℕ} {ps : List (List
     pub other_bad : is_other_singleton (to_ascii_lowercase c) ≡ true → ¬ (IsOther (front ps)) → FirstBadBlock T [] (blocks start) InvalidExtension
     other_bad o n = breaks (front ps) (blocks (from_block ps)) (block_until c ps (no_x (to_ascii_lowercase c) o)) (λ h. no_t (to_ascii_lowercase c) o h.0) (λ r. n ((other_rule T (c, front ps) o).0 r))
 
-    pub other_long : is_other_singleton (to_ascii_lowercase c) ≡ true → ¬ (AllByRecursion (IsShortBlock T) (blocks start))
-    other_long o h = (short (front ps) (blocks (from_block ps)) (block_until c ps (no_x (to_ascii_lowercase c) o)) h).no_other o
+    pub other_long : is_other_singleton (to_ascii_lowercase c) ≡ true → ReachesLongBlock T [] (blocks start)
+    other_long o = long_here (front ps) (blocks (from_block ps)) (block_until c ps (no_x (to_ascii_lowercase c) o)) (λ s. s.no_other o)
 
     -- after `x`
 
@@ -142,5 +143,5 @@ module _ {T : ℕ → Bool} {start : List (List ℕ)} {c : ℕ} {ps : List (List
     pub private_bad : to_ascii_lowercase c ≡ 120 → ¬ (IsPrivate ps) → FirstBadBlock T [] (blocks start) InvalidExtension
     private_bad e n = breaks ps [] (block_of_x c ps e) (λ h. apart (to_ascii_lowercase c) 120 116 e h.0 refl) (λ r. n ((private_rule T (c, ps) e).0 r))
 
-    pub private_short : to_ascii_lowercase c ≡ 120 → AllByRecursion (IsShortBlock T) (blocks start) → length ps ≤ 4
-    private_short e h = (short ps [] (block_of_x c ps e) h).private e
+    pub private_long : to_ascii_lowercase c ≡ 120 → ¬ (length ps ≤ 4) → ReachesLongBlock T [] (blocks start)
+    private_long e n = long_here ps [] (block_of_x c ps e) (λ s. n (s.private e))

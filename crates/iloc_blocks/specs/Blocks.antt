@@ -13,7 +13,7 @@ use Rattle.iloc_grammar.specs.Blocks.{blocks}
 use Rattle.iloc_grammar.specs.Reading.{starts_block}
 use Rattle.iloc_grammar.specs.Faults.{IsBlock, FirstBadBlock}
 use Rattle.iloc_grammar.specs.Faults as faults
-use Rattle.iloc_inline.specs.Blocks.{IsShortBlock}
+use Rattle.iloc_inline.specs.Blocks.{ReachesLongBlock}
 use Rattle.iloc_subtags.specs.declared.parse_error.ParseError.{ParseError}
 use Rattle.iloc_subtags.specs.declared.parse_error.ParseError.TheVariants.{InvalidLanguage, InvalidSubtag, InvalidExtension, DuplicatedExtension, OutOfMemory}
 
@@ -55,11 +55,11 @@ pub record BlockAt (T : ℕ → Bool) (start : List (List ℕ)) (c : ℕ) (ps : 
   pub letter : is_ascii_alphanumeric c ≡ true
   pub new : is_read M (to_ascii_lowercase c) ≡ false
 
--- What reading one block answers, after the blocks that were read since start. Memory is wanted only where a block isn't short.
+-- What reading one block answers, after the blocks that were read since start. Memory is wanted only where a block is reached that isn't short.
 abbrev pub BlockReads : List (List ℕ) → List (List ℕ) → Extensions → Result (Unit {0}) ParseError → Type 0
 BlockReads start rest M (Ok x) = BlocksDone languages start rest M
 BlockReads start rest M (Err InvalidLanguage) = ⊥
 BlockReads start rest M (Err InvalidSubtag) = FirstBadBlock languages [] (blocks start) faults.InvalidSubtag
 BlockReads start rest M (Err InvalidExtension) = FirstBadBlock languages [] (blocks start) faults.InvalidExtension
 BlockReads start rest M (Err DuplicatedExtension) = FirstBadBlock languages [] (blocks start) faults.DuplicatedExtension
-BlockReads start rest M (Err OutOfMemory) = ¬ (AllByRecursion (IsShortBlock languages) (blocks start))
+BlockReads start rest M (Err OutOfMemory) = ReachesLongBlock languages [] (blocks start)

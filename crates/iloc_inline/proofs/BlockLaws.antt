@@ -24,7 +24,7 @@ use Rattle.iloc_small.specs.Inline.{IsInline, HasFewValues}
 use Rattle.iloc_fronts.specs.Fronts.{FrontRead, absent, present, fields_front}
 use Rattle.iloc_fronts.proofs.FrontLaws.{unicode_taken, keywords_taken}
 use Rattle.iloc_fronts.proofs.TransformLaws.{one_front, one_longest, front_language, transform_spelled}
-use Rattle.iloc_inline.specs.Blocks.{IsShortUnicode, IsShortTransform, IsShortBlock, IsInlineByBlocks}
+use Rattle.iloc_inline.specs.Blocks.{IsShortUnicode, IsShortTransform, IsShortBlock, IsInlineByBlocks, ReachesLongBlock, here, later}
 
 -- maps that are empty
 
@@ -173,3 +173,8 @@ inline_by_blocks T table t h = record {
   variants = identifier_few T t h;
   blocks = subst (AllByRecursion (IsShortBlock T)) (sym (ap tail_blocks h.spelled ∙ blocks-spelling table h.written h.grammatical)) (all_blocks T t h);
 }
+
+-- no long block is reached where all are short
+pub none_long : {T : ℕ → Bool} {seen : List ℕ} {bs : List (ℕ × List (List ℕ))} → ReachesLongBlock T seen bs → AllByRecursion (IsShortBlock T) bs → ⊥
+none_long (here l n x) h = x h.0
+none_long (later l n r x) h = none_long x h.1

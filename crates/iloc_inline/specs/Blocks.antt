@@ -1,10 +1,12 @@
 -- Inline texts, told block by block: what the reader of each part finds at its front, whatever follows the block.
-use Rattle.std.specs.Prelude.{◌≡◌, ℕ, ◌≤◌, Bool, true, List, [], ◌++◌, length, Option}
-use Rattle.std.specs.List.{AllByRecursion}
+use Rattle.std.specs.Prelude.{◌≡◌, ℕ, ◌≤◌, Bool, true, false, List, [], ◌∷◌, ◌++◌, length, Option}
+use Rattle.std.specs.Char.{is_ascii_alphanumeric}
+use Rattle.std.specs.List.{AllByRecursion, list_any}
+use Rattle.std.specs.Ordering.{nat_cmp, eq_by_cmp}
 use Rattle.iloc_grammar.specs.Pieces.{pieces}
 use Rattle.iloc_grammar.specs.Written.{Identifier, identifier_pieces, IsIdentifier, is_other_singleton, singleton}
 use Rattle.iloc_grammar.specs.Meaning.{normal_fields, normal_values}
-use Rattle.iloc_grammar.specs.Faults.{head, tail_blocks}
+use Rattle.iloc_grammar.specs.Faults.{head, tail_blocks, IsBlock}
 use Rattle.iloc_grammar.specs.Reading.{starts_block, IdentifierFront}
 use Rattle.iloc_fronts.specs.Fronts.{attributes_read, after_attributes, FrontRead, fields_front}
 use Rattle.iloc_fronts.specs.Computing.{keywords_at}
@@ -26,6 +28,12 @@ pub record IsShortBlock (T : ℕ → Bool) (b : ℕ × List (List ℕ)) : Type 0
   pub transform : singleton b ≡ 116 → (rest : List (List ℕ)) → starts_block rest ≡ true → IsShortTransform T (b.1 ++ rest)
   pub private : singleton b ≡ 120 → length b.1 ≤ 4
   pub no_other : is_other_singleton (singleton b) ≡ true → ⊥
+
+-- A block that isn't short is reached: those before it are good, and its own singleton is a letter or digit, and new.
+-- Only there may a reader of blocks want memory.
+pub data ReachesLongBlock (T : ℕ → Bool) : List ℕ → List (ℕ × List (List ℕ)) → Type 0 where
+  here : {seen : List ℕ} {b : ℕ × List (List ℕ)} {bs : List (ℕ × List (List ℕ))} → is_ascii_alphanumeric b.0 ≡ true → list_any (eq_by_cmp nat_cmp (singleton b)) seen ≡ false → ¬ (IsShortBlock T b) → ReachesLongBlock T seen (b ∷ bs)
+  later : {seen : List ℕ} {b : ℕ × List (List ℕ)} {bs : List (ℕ × List (List ℕ))} → is_ascii_alphanumeric b.0 ≡ true → list_any (eq_by_cmp nat_cmp (singleton b)) seen ≡ false → IsBlock T b → ReachesLongBlock T (singleton b ∷ seen) bs → ReachesLongBlock T seen (b ∷ bs)
 
 pub record IsInlineByBlocks (T : ℕ → Bool) (t : List ℕ) : Type 0 where
   pub variants : (i : Identifier) → IsIdentifier T i → head (pieces t) ≡ identifier_pieces i → length i.variants ≤ 4

@@ -1,15 +1,16 @@
 -- The normal text of an identifier.
-use Rattle.std.proofs.Common.{◌≡◌, ℕ, false, true, List, length, sym, ap, ◌∙◌, subst, true≢false}
+use Rattle.std.proofs.Common.{◌≡◌, inl, inr, Err, ℕ, false, true, List, length, sym, ap, ◌∙◌, subst, true≢false}
 use Rattle.iloc_grammar.specs.Pieces.{pieces}
-use Rattle.iloc_grammar.specs.Words.{Language, IsWord, languages}
+use Rattle.iloc_grammar.specs.Words.{languages}
 use Rattle.iloc_grammar.specs.Written.{Identifier}
 use Rattle.iloc_grammar.specs.Meaning.{IdentifierMeans}
 use Rattle.iloc_grammar.specs.Values.{identifier_text}
-use Rattle.iloc_grammar.specs.Blocks.{first_piece}
 use Rattle.iloc_grammar.specs.Steps.{IdentifierChain}
 use Rattle.iloc_grammar.proofs.IdentifierLaws.{one_meaning}
-use Rattle.iloc_grammar.proofs.IdentifierTexts.{identifier_means_again, same_identifier_meaning, length-identifier_means, identifier_chain_to_text}
-use Rattle.iloc_subtags.specs.declared.parse_error.ParseError.TheVariants.{OutOfMemory}
+use Rattle.iloc_grammar.proofs.IdentifierTexts.{identifier_means_again, same_identifier_meaning, length-identifier_means, identifier_chain_to_text, identifiers_lead_to_one}
+use Rattle.iloc_subtags.specs.declared.parse_error.ParseError.{ParseError}
+use Rattle.iloc_subtags.specs.declared.parse_error.ParseError.TheVariants.{InvalidLanguage, InvalidSubtag, InvalidExtension, DuplicatedExtension, OutOfMemory}
+use Rattle.iloc_langid.specs.Reads.{ReadsAs}
 use Rattle.iloc_langid.specs.Normalizing.{IsNormalizedFrom, RefusesNormalizing}
 
 -- the text of the meaning is the normal text
@@ -23,11 +24,17 @@ is_normalized input i t m e = record {
       (λ p. is ∙ by.0 p, λ p. by.1 (sym is ∙ p));
   long = λ u j mj mu. sym (length-identifier_means languages u j mu) ∙ ap length (sym (e ∙ ap identifier_text (one_meaning (pieces input) i j m mj)));
   steps = subst (IdentifierChain languages 2 input) (sym e) (identifier_chain_to_text languages input i m);
+  together = λ u j k mj mk. identifiers_lead_to_one languages input u j k mj mk;
 }
 
 -- memory was refused for the text of another than the input
 pub refuses_memory : (input : List ℕ) (i : Identifier) → IdentifierMeans languages (pieces input) i → (input ≡ identifier_text i → false ≡ true) → RefusesNormalizing input OutOfMemory
-refuses_memory input i m other = (
-  subst (λ ps. IsWord (Language languages) (first_piece ps)) (sym m.spelled) m.grammatical.words.language,
-  λ n. absurd (true≢false (sym (other (n.2 ∙ ap identifier_text (one_meaning (pieces input) n.0 i n.1 m))))),
-)
+refuses_memory input i m other = inr (i, m, λ e. absurd (true≢false (sym (other e))))
+
+-- as the reader refuses
+pub refuses : (t : List ℕ) (e : ParseError) → ReadsAs (pieces t) (Err e) → RefusesNormalizing t e
+refuses t InvalidLanguage h = h
+refuses t InvalidSubtag h = h
+refuses t InvalidExtension h = h
+refuses t DuplicatedExtension h = h
+refuses t OutOfMemory h = inl h

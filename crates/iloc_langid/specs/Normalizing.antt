@@ -1,17 +1,16 @@
 -- What normalising an identifier's text answers.
-use Rattle.std.specs.Prelude.{◌≡◌, ◌↔◌, ℕ, ◌<◌, List, length, filter}
+use Rattle.std.specs.Prelude.{◌≡◌, ◌↔◌, ◌⊎◌, ℕ, List, length}
 use Rattle.iloc_grammar.specs.Pieces.{pieces}
-use Rattle.iloc_grammar.specs.Words.{Language, Variant, is_word, IsWord, languages}
+use Rattle.iloc_grammar.specs.Words.{languages}
 use Rattle.iloc_grammar.specs.Written.{Identifier}
 use Rattle.iloc_grammar.specs.Meaning.{IdentifierMeans}
 use Rattle.iloc_grammar.specs.Values.{identifier_text}
 use Rattle.iloc_grammar.specs.Faults as faults
 use Rattle.iloc_grammar.specs.Faults.{HasIdentifierFault}
-use Rattle.iloc_grammar.specs.Blocks.{first_piece}
-use Rattle.iloc_grammar.specs.Reading.{rest_of}
-use Rattle.iloc_grammar.specs.Steps.{IdentifierChain}
+use Rattle.iloc_grammar.specs.Steps.{IdentifierChain, IdentifierTextStep, LeadToOne}
 use Rattle.iloc_subtags.specs.declared.parse_error.ParseError.{ParseError}
 use Rattle.iloc_subtags.specs.declared.parse_error.ParseError.TheVariants.{InvalidLanguage, InvalidSubtag, InvalidExtension, DuplicatedExtension, OutOfMemory}
+use Rattle.iloc_langid.specs.Reads.{WantsMemory}
 
 -- t is the text of what u means
 abbrev pub IsTextOf : List ℕ → List ℕ → Type 0
@@ -28,11 +27,13 @@ pub record IsNormalizedFrom (input t : List ℕ) : Type 0 where
   pub long : (u : List ℕ) (i : Identifier) → IdentifierMeans languages (pieces input) i → IdentifierMeans languages (pieces u) i → length u ≡ length t
   -- two steps at most, in case and in the order of variants, lead here
   pub steps : IdentifierChain languages 2 input t
+  -- so every accepted text means the same exactly where such steps lead both to one text
+  pub together : (u : List ℕ) (i j : Identifier) → IdentifierMeans languages (pieces input) i → IdentifierMeans languages (pieces u) j → (i ≡ j) ↔ LeadToOne (IdentifierTextStep languages) 2 input u
 
--- Why there is none. Memory is wanted only past four variants, or where the input isn't normal.
+-- Why there is none. Memory is wanted only where the reader wants it, or where the input is accepted and isn't normal.
 abbrev pub RefusesNormalizing : List ℕ → ParseError → Type 0
 RefusesNormalizing t InvalidLanguage = HasIdentifierFault languages (pieces t) faults.InvalidLanguage
 RefusesNormalizing t InvalidSubtag = HasIdentifierFault languages (pieces t) faults.InvalidSubtag
 RefusesNormalizing t InvalidExtension = ⊥
 RefusesNormalizing t DuplicatedExtension = ⊥
-RefusesNormalizing t OutOfMemory = IsWord (Language languages) (first_piece (pieces t)) × (IsTextOf t t → 4 < length (filter (is_word Variant) (rest_of (pieces t))))
+RefusesNormalizing t OutOfMemory = WantsMemory (pieces t) ⊎ ((i : Identifier) × IdentifierMeans languages (pieces t) i × ¬ (t ≡ identifier_text i))

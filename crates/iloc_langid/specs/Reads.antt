@@ -1,12 +1,14 @@
 -- What the readers of identifiers answer.
-use Rattle.std.specs.Prelude.{◌≡◌, ℕ, ◌<◌, false, List, length, map, filter, Result, Ok, Err}
-use Rattle.iloc_grammar.specs.Words.{Language, Variant, is_word, IsWord, lower, word_cmp, languages}
+use Rattle.std.specs.Prelude.{◌≡◌, ℕ, ◌<◌, false, List, length, map, filter, Result, Ok, Err, IfOk, IfErr}
+use Rattle.iloc_grammar.specs.Words.{Language, Variant, is_word, IsWord, lower, word_cmp, languages, two_or_three}
 use Rattle.iloc_grammar.specs.Written.{Identifier, AllDifferent}
 use Rattle.iloc_grammar.specs.Meaning.{IdentifierMeans, normal_identifier, set_of}
 use Rattle.iloc_grammar.specs.Faults as faults
 use Rattle.iloc_grammar.specs.Faults.{HasIdentifierFault}
 use Rattle.iloc_grammar.specs.Blocks.{first_piece}
 use Rattle.iloc_grammar.specs.Reading.{IdentifierFront}
+use Rattle.iloc_grammar.specs.Pieces.{pieces}
+use Rattle.iloc_grammar.specs.Steps.{IdentifierChain}
 use Rattle.iloc_grammar.specs.Reading.{passing, past, rest_of, front_of, after_front}
 use Rattle.iloc_subtags.specs.declared.parse_error.ParseError.{ParseError}
 use Rattle.iloc_subtags.specs.declared.parse_error.ParseError.TheVariants.{InvalidLanguage, InvalidSubtag, InvalidExtension, DuplicatedExtension, OutOfMemory}
@@ -16,15 +18,29 @@ use Rattle.iloc_langid.specs.declared.identifier.LanguageIdentifier.{LanguageIde
 abbrev pub value_of : LanguageIdentifier → Identifier
 value_of i = record { language = i.language; script = i.script; region = i.region; variants = i.variants }
 
--- what the pieces are read as, as a whole identifier.
--- Memory is wanted only where more than four variants stand among them.
+-- a language stands first, and more than four variants after it: only there may a reader want memory
+abbrev pub WantsMemory : List (List ℕ) → Type 0
+WantsMemory ps = IsWord (Language languages) (first_piece ps) × (4 < length (filter (is_word Variant) (rest_of ps)))
+
+-- what the pieces are read as, as a whole identifier
 abbrev pub ReadsAs : List (List ℕ) → Result LanguageIdentifier ParseError → Type 0
 ReadsAs ps (Ok i) = IdentifierMeans languages ps (value_of i)
 ReadsAs ps (Err InvalidLanguage) = HasIdentifierFault languages ps faults.InvalidLanguage
 ReadsAs ps (Err InvalidSubtag) = HasIdentifierFault languages ps faults.InvalidSubtag
 ReadsAs ps (Err InvalidExtension) = ⊥
 ReadsAs ps (Err DuplicatedExtension) = ⊥
-ReadsAs ps (Err OutOfMemory) = IsWord (Language languages) (first_piece ps) × (4 < length (filter (is_word Variant) (rest_of ps)))
+ReadsAs ps (Err OutOfMemory) = WantsMemory ps
+
+-- what the table of two or three letters accepts is read with the same value, unless memory is wanted
+abbrev pub KeepsNarrow : List ℕ → Result LanguageIdentifier ParseError → Type 0
+KeepsNarrow t r = (i : Identifier) → IdentifierMeans two_or_three (pieces t) i → IfOk r (λ j. value_of j ≡ i)
+
+abbrev pub AcceptsNarrow : List ℕ → Result LanguageIdentifier ParseError → Type 0
+AcceptsNarrow t r = (i : Identifier) → IdentifierMeans two_or_three (pieces t) i → IfErr r (λ e. e ≡ OutOfMemory)
+
+-- every text that steps of rewriting lead to means what was read
+abbrev pub KeepsThroughSteps : List ℕ → Result LanguageIdentifier ParseError → Type 0
+KeepsThroughSteps t r = IfOk r (λ i. (n : ℕ) (u : List ℕ) → IdentifierChain languages n t u → IdentifierMeans languages (pieces u) (value_of i))
 
 -- what a longest front is read as, and the pieces that are left after it
 abbrev pub FrontReadsAs : List (List ℕ) → List (List ℕ) → Result LanguageIdentifier ParseError → Type 0

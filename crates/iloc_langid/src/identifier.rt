@@ -30,7 +30,7 @@ pub struct LanguageIdentifier {
 }
 
 impl LanguageIdentifier {
-    ghost use Rattle.iloc_langid.specs.Reads.{value_of, ReadsAs};
+    ghost use Rattle.iloc_langid.specs.Reads.{value_of, ReadsAs, KeepsNarrow, AcceptsNarrow, KeepsThroughSteps};
 
     /// The unknown identifier, `und`.
     pub fn unknown() -> Self
@@ -58,16 +58,23 @@ impl LanguageIdentifier {
     ///
     /// Refuses with `InvalidLanguage` where the first piece is no language, with `InvalidSubtag` where the
     /// pieces are no identifier for any other reason, and with `OutOfMemory` only where more than four
-    /// variants stand in the text.
+    /// variants stand in the text. Steps of rewriting keep what is read, and so does the wider table of
+    /// languages: what is accepted with languages of two or three letters is read with the same value.
     pub fn try_from_utf8(alloc: Global, code_units: &[u8]) -> Result<Self, ParseError>
-        ensures { ReadsAs (pieces code_units.now) result }
+        ensures reads { ReadsAs (pieces code_units.now) result }
+        ensures steps { KeepsThroughSteps code_units.now result }
+        ensures narrow { KeepsNarrow code_units.now result }
+        ensures narrow_accepted { AcceptsNarrow code_units.now result }
     {
         read_whole(alloc, &mut SubtagIterator::new(code_units))
     }
 
     /// The same of text.
     pub fn try_from_str(alloc: Global, s: &str) -> Result<Self, ParseError>
-        ensures { ReadsAs (pieces s.now) result }
+        ensures reads { ReadsAs (pieces s.now) result }
+        ensures steps { KeepsThroughSteps s.now result }
+        ensures narrow { KeepsNarrow s.now result }
+        ensures narrow_accepted { AcceptsNarrow s.now result }
     {
         Self::try_from_utf8(alloc, s.as_bytes())
     }
