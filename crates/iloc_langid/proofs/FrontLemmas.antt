@@ -1,5 +1,5 @@
 -- From what a front is read as to what the whole or the head is read as.
-use Rattle.std.proofs.Common.{◌≡◌, ◌≢◌, ℕ, Bool, true, false, List, [], ◌∷◌, ◌++◌, length, refl, sym, ap, ◌∙◌, subst, arith, append-nil, Some, None, option_map, Result, Ok, Err, true≢false, ◌==◌}
+use Rattle.std.proofs.Common.{◌≡◌, ◌≢◌, ◌<◌, ℕ, Bool, true, false, List, [], ◌∷◌, ◌++◌, length, refl, sym, ap, ◌∙◌, subst, arith, append-nil, Some, None, option_map, Result, Ok, Err, true≢false, ◌==◌}
 use Rattle.std.specs.Prelude.{if◌then◌else◌}
 use Rattle.std.proofs.lemmas.Bool.Decides.{nat_tests}
 use Rattle.std.proofs.lemmas.Bool.{false_from_ne_true}
@@ -9,7 +9,7 @@ use Rattle.iloc_grammar.specs.Faults.{not_a_language, not_an_identifier}
 use Rattle.iloc_grammar.specs.Blocks.{front, head}
 use Rattle.iloc_grammar.specs.Reading.{first_item}
 use Rattle.iloc_grammar.specs.Reading.{take_first, skip_first, front_of, after_front, from_block, after_head, starts_block}
-use Rattle.iloc_grammar.proofs.ReadingLaws.{EndsWords, starts_ends, from_block_starts, front-from_block, front_long, after_long, starts_empty, after_front-append, front_means, refuses_more, refuses_repeat, counts_variants, front_is_front}
+use Rattle.iloc_grammar.proofs.ReadingLaws.{EndsWords, starts_ends, from_block_starts, front-from_block, front_long, after_long, starts_empty, after_front-append, front_means, refuses_more, refuses_repeat, front_of-append, front_is_front}
 use Rattle.iloc_grammar.specs.Reading.{IdentifierFront}
 use Rattle.iloc_subtags.specs.declared.parse_error.ParseError.{ParseError}
 use Rattle.iloc_subtags.specs.declared.parse_error.ParseError.TheVariants.{InvalidLanguage, InvalidSubtag, InvalidExtension, DuplicatedExtension, OutOfMemory}
@@ -62,7 +62,7 @@ module _ (p : List ℕ) (qs rest : List (List ℕ)) (ends : EndsWords rest) (r :
   cut_refuses : (f : ParseError) → FrontGives (p ∷ (qs ++ rest)) r (Err f) → ReadsAs (p ∷ qs) (Err f)
   cut_refuses InvalidLanguage g = not_a_language g
   cut_refuses InvalidSubtag g = not_an_identifier g.0 (refuses_repeat languages p qs rest ends g.1)
-  cut_refuses OutOfMemory g = let n = counts_variants languages p qs rest ends in (g.0, omega (arith, n, g.1))
+  cut_refuses OutOfMemory g = (g.0, subst (λ i. 4 < length i.variants) (front_of-append p qs rest ends) g.1)
   cut_refuses InvalidExtension g = absurd g
   cut_refuses DuplicatedExtension g = absurd g
 

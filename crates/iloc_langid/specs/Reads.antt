@@ -1,5 +1,5 @@
 -- What the readers of identifiers answer.
-use Rattle.std.specs.Prelude.{◌≡◌, ℕ, ◌<◌, false, List, length, map, filter, Result, Ok, Err, IfOk, IfErr}
+use Rattle.std.specs.Prelude.{◌≡◌, ℕ, ◌<◌, false, List, length, map, Result, Ok, Err, IfOk, IfErr}
 use Rattle.iloc_grammar.specs.Words.{Language, Variant, is_word, IsWord, lower, word_cmp, languages, two_or_three}
 use Rattle.iloc_grammar.specs.Written.{Identifier, AllDifferent}
 use Rattle.iloc_grammar.specs.Meaning.{IdentifierMeans, normal_identifier, set_of}
@@ -9,7 +9,7 @@ use Rattle.iloc_grammar.specs.Blocks.{first_piece}
 use Rattle.iloc_grammar.specs.Reading.{IdentifierFront}
 use Rattle.iloc_grammar.specs.Pieces.{pieces}
 use Rattle.iloc_grammar.specs.Steps.{IdentifierChain}
-use Rattle.iloc_grammar.specs.Reading.{passing, past, rest_of, front_of, after_front}
+use Rattle.iloc_grammar.specs.Reading.{passing, past, front_of, after_front}
 use Rattle.iloc_subtags.specs.declared.parse_error.ParseError.{ParseError}
 use Rattle.iloc_subtags.specs.declared.parse_error.ParseError.TheVariants.{InvalidLanguage, InvalidSubtag, InvalidExtension, DuplicatedExtension, OutOfMemory}
 use Rattle.iloc_langid.specs.declared.identifier.LanguageIdentifier.{LanguageIdentifier}
@@ -18,9 +18,10 @@ use Rattle.iloc_langid.specs.declared.identifier.LanguageIdentifier.{LanguageIde
 abbrev pub value_of : LanguageIdentifier → Identifier
 value_of i = record { language = i.language; script = i.script; region = i.region; variants = i.variants }
 
--- a language stands first, and more than four variants after it: only there may a reader want memory
+-- a language stands first, and more than four variants at the front of an identifier's words: only there may a reader
+-- want memory
 abbrev pub WantsMemory : List (List ℕ) → Type 0
-WantsMemory ps = IsWord (Language languages) (first_piece ps) × (4 < length (filter (is_word Variant) (rest_of ps)))
+WantsMemory ps = IsWord (Language languages) (first_piece ps) × (4 < length (front_of ps).variants)
 
 -- what the pieces are read as, as a whole identifier
 abbrev pub ReadsAs : List (List ℕ) → Result LanguageIdentifier ParseError → Type 0

@@ -1,16 +1,13 @@
 -- From the locale that was read to its normal text.
-use Rattle.std.proofs.Common.{◌≡◌, ◌↔◌, IsTrue, ℕ, ◌≤◌, Bool, true, false, List, [], ◌∷◌, length, refl, sym, ap, ◌∙◌, subst, append-nil, true≢false, IfOk, Err, Ok, Result}
+use Rattle.std.proofs.Common.{◌≡◌, inl, inr, ◌↔◌, IsTrue, ℕ, ◌≤◌, Bool, true, false, List, [], ◌∷◌, length, refl, sym, ap, ◌∙◌, subst, append-nil, true≢false, IfOk, Err, Ok, Result}
 use Rattle.iloc_grammar.specs.Words.{languages}
 use Rattle.iloc_grammar.specs.Meaning as meaning
 use Rattle.iloc_grammar.specs.Meaning.{Extensions}
 use Rattle.iloc_grammar.specs.Meaning.{Means}
 use Rattle.iloc_grammar.specs.Values.{text, identifier_text}
 use Rattle.iloc_grammar.specs.Written.{Identifier}
-use Rattle.iloc_grammar.specs.Pieces.{pieces, join}
-use Rattle.iloc_grammar.specs.Words.{Language, IsWord}
-use Rattle.iloc_grammar.specs.Blocks.{head, first_piece}
+use Rattle.iloc_grammar.specs.Pieces.{join}
 use Rattle.iloc_grammar.specs.Faults as faults
-use Rattle.iloc_grammar.proofs.BlockLaws.{means_by_blocks}
 use Rattle.iloc_grammar.proofs.FaultLaws.{accepted_no_fault}
 use Rattle.std.specs.Ordering.{is_eq}
 use Rattle.std.specs.declared.cmp.Ordering.{Ordering}
@@ -25,7 +22,9 @@ use Rattle.iloc_grammar.proofs.Readings as readings
 use Rattle.iloc_subtags.specs.declared.parse_error.ParseError.{ParseError}
 use Rattle.iloc_subtags.specs.declared.parse_error.ParseError.TheVariants.{InvalidLanguage, InvalidSubtag, InvalidExtension, DuplicatedExtension, OutOfMemory}
 use Rattle.iloc_locale.specs.Reads.{LocaleReadsAs}
-use Rattle.iloc_locale.specs.Normalizing.{IsNormalizedFrom, RefusesNormalizing}
+use Rattle.iloc_locale.specs.Normalizing.{IsTextOf, IsNormalizedFrom, RefusesNormalizing}
+use Rattle.iloc_locale.proofs.ReadLemmas.{no_fault, inline_wants_none}
+use Rattle.iloc_small.specs.Inline.{IsInline}
 
 pub is_normalized : (t u : List ℕ) (M : meaning.Locale) → Means languages t M → u ≡ text M → IsNormalizedFrom t u
 is_normalized t u M m e = subst (IsNormalizedFrom t) (sym e) (record {
@@ -42,23 +41,19 @@ refuses t InvalidLanguage h = h
 refuses t InvalidSubtag h = h
 refuses t InvalidExtension h = h
 refuses t DuplicatedExtension h = h
-refuses t OutOfMemory h = (h.0, λ _. h.1)
-
--- a language stands first in each accepted text
-language_first : (t : List ℕ) (M : meaning.Locale) → Means languages t M → IsWord (Language languages) (first_piece (pieces t))
-language_first t M m =
-    let i = (means_by_blocks languages languages_table t M m).id in
-    subst (λ p. IsWord (Language languages) p) (sym (ap first_piece i.spelled) ∙ same_first (pieces t)) i.grammatical.words.language
-  where
-    same_first : (ps : List (List ℕ)) → first_piece (head ps) ≡ first_piece ps
-    same_first [] = refl
-    same_first (p ∷ ps) = refl
+refuses t OutOfMemory h = inl h
 
 pub refuses_memory : (t : List ℕ) (M : meaning.Locale) → Means languages t M → (t ≡ text M → false ≡ true) → RefusesNormalizing t OutOfMemory
-refuses_memory t M m other = (
-  language_first t M m,
-  λ n. absurd (true≢false (sym (other (n.2 ∙ ap text (readings.one_meaning languages_table t n.0 M n.1 m))))),
-)
+refuses_memory t M m other = inr (M, m, λ e. absurd (true≢false (sym (other e))))
+
+-- a normal text that is inline isn't refused
+pub normal_inline : (t : List ℕ) (e : ParseError) → RefusesNormalizing t e → IsInline languages t → IsTextOf t t → ⊥
+normal_inline t InvalidLanguage h i n = no_fault t i faults.InvalidLanguage h
+normal_inline t InvalidSubtag h i n = no_fault t i faults.InvalidSubtag h
+normal_inline t InvalidExtension h i n = no_fault t i faults.InvalidExtension h
+normal_inline t DuplicatedExtension h i n = no_fault t i faults.DuplicatedExtension h
+normal_inline t OutOfMemory (inl h) i n = inline_wants_none t i h
+normal_inline t OutOfMemory (inr h) i n = h.2 (n.2 ∙ ap text (readings.one_meaning languages_table t n.0 h.0 n.1 h.1))
 
 -- the text of an identifier alone
 pub text_alone : (i : Identifier) (e : Extensions) → e ≡ none → text (locale_of i e) ≡ identifier_text i

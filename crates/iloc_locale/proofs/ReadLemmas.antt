@@ -1,5 +1,5 @@
 -- From what the readers of the head and of the blocks answer to what the whole text is read as.
-use Rattle.std.proofs.Common.{◌≡◌, inl, inr, ℕ, zero, suc, ◌<◌, ◌≤◌, Bool, true, false, cond, List, [], ◌∷◌, ◌++◌, length, filter, refl, sym, ap, ◌∙◌, subst, arith, Option, Some, None, IfSome, option_to_list, Result, Ok, Err, IfOk, IfErr, true≢false}
+use Rattle.std.proofs.Common.{◌≡◌, ◌⊎◌, inl, inr, IsOk, ℕ, zero, suc, ◌<◌, ◌≤◌, Bool, true, false, cond, List, [], ◌∷◌, ◌++◌, length, filter, refl, sym, ap, ◌∙◌, subst, arith, Option, Some, None, IfSome, option_to_list, Result, Ok, Err, IfOk, IfErr, true≢false}
 use Rattle.std.specs.List.{AllByRecursion}
 use Rattle.iloc_grammar.specs.Pieces.{pieces}
 use Rattle.iloc_grammar.specs.Words.{Language, Script, Region, Variant, is_word, IsWord, languages, two_or_three}
@@ -8,23 +8,22 @@ use Rattle.iloc_grammar.specs.Meaning as meaning
 use Rattle.iloc_grammar.specs.Meaning.{Means, IdentifierMeans}
 use Rattle.iloc_grammar.specs.Values.{IsValue, IsWellFormed}
 use Rattle.iloc_grammar.specs.Blocks.{head, blocks, tail_blocks, first_piece}
-use Rattle.iloc_grammar.specs.Reading.{rest_of, after_head, starts_block}
+use Rattle.iloc_grammar.specs.Reading.{rest_of, front_of, after_head, starts_block}
 use Rattle.iloc_grammar.specs.Faults as faults
-use Rattle.iloc_grammar.specs.Faults.{HasFault, no_language, no_identifier, bad_block, SpellsIdentifier, HasIdentifierFault, not_a_language, not_an_identifier}
+use Rattle.iloc_grammar.specs.Faults.{Fault, HasFault, no_language, no_identifier, bad_block, SpellsIdentifier, HasIdentifierFault, not_a_language, not_an_identifier}
 use Rattle.iloc_grammar.specs.Steps.{Chain}
 use Rattle.iloc_grammar.proofs.RawLaws.{languages_table}
-use Rattle.iloc_grammar.proofs.WordsLaws.{variant_no_script, variant_no_region}
 use Rattle.iloc_grammar.proofs.BlockLaws.{blocks_mean}
-use Rattle.iloc_grammar.proofs.FaultLaws.{accepted_no_fault}
+use Rattle.iloc_grammar.proofs.FaultLaws.{accepted_no_fault, one_fault}
 use Rattle.iloc_grammar.proofs.WellRead.{means_value, means_well_formed}
 use Rattle.iloc_grammar.proofs.WiderTables.{means_ours}
 use Rattle.iloc_grammar.proofs.CaseLaws.{text_step_means}
 use Rattle.iloc_grammar.proofs.Readings as readings
 use Rattle.iloc_grammar.proofs.Readings.{head-spelling}
-use Rattle.iloc_grammar.proofs.ReadingLaws.{from_block_starts}
+use Rattle.iloc_grammar.proofs.ReadingLaws.{from_block_starts, front_of-pieces}
 use Rattle.iloc_small.specs.Inline.{IsInline}
-use Rattle.iloc_inline.specs.Blocks.{IsShortBlock}
-use Rattle.iloc_inline.proofs.BlockLaws.{inline_by_blocks}
+use Rattle.iloc_inline.specs.Blocks.{ReachesLongBlock}
+use Rattle.iloc_inline.proofs.BlockLaws.{inline_by_blocks, none_long}
 use Rattle.iloc_subtags.specs.declared.parse_error.ParseError.{ParseError}
 use Rattle.iloc_subtags.specs.declared.parse_error.ParseError.TheVariants.{InvalidLanguage, InvalidSubtag, InvalidExtension, DuplicatedExtension, OutOfMemory}
 use Rattle.iloc_langid.specs.declared.identifier.LanguageIdentifier.{LanguageIdentifier}
@@ -36,7 +35,7 @@ use Rattle.iloc_blocks.specs.Whole.{BlocksReadAs}
 use Rattle.iloc_blocks.proofs.RoundLaws.{blocks-from_block}
 use Rattle.iloc_locale.specs.declared.locale.Locale.{Locale}
 use Rattle.iloc_locale.specs.LocaleValue.{value_of}
-use Rattle.iloc_locale.specs.Reads.{LocaleReadsAs}
+use Rattle.iloc_locale.specs.Reads.{WantsMemory, LocaleReadsAs, Accepts, Refuses, error_of}
 
 -- the head and the blocks after it
 
@@ -65,50 +64,29 @@ accepts t id e h b =
       others = m.others;
     })
 
--- how many variants stand in the head
+-- where no memory is wanted
 
-no_variant : (w : List ℕ) → (IsWord Variant w → is_word Script w ≡ false) → IsWord Script w → is_word Variant w ≡ false
-no_variant w f s = at (is_word Variant w) refl
-  where
-    at : (b : Bool) → is_word Variant w ≡ b → b ≡ false
-    at true e = absurd (true≢false (sym s ∙ f e))
-    at false e = refl
-
-no_variant_region : (w : List ℕ) → (IsWord Variant w → is_word Region w ≡ false) → IsWord Region w → is_word Variant w ≡ false
-no_variant_region w f s = at (is_word Variant w) refl
-  where
-    at : (b : Bool) → is_word Variant w ≡ b → b ≡ false
-    at true e = absurd (true≢false (sym s ∙ f e))
-    at false e = refl
-
-filter_short : (test : List ℕ → Bool) (ps : List (List ℕ)) → length (filter test ps) ≤ length ps
-filter_short test [] = omega arith
-filter_short test (p ∷ ps) = let h = filter_short test ps in elim (test p) as (λ b. length (cond b (p ∷ filter test ps) (filter test ps)) ≤ suc (length ps)) [ true ↦ omega (arith, h) | false ↦ omega (arith, h) ]
-
-dropped : (test : List ℕ → Bool) (p : List ℕ) (ps : List (List ℕ)) → test p ≡ false → filter test (p ∷ ps) ≡ filter test ps
-dropped test p ps e = ap (λ b. cond b (p ∷ filter test ps) (filter test ps)) e
-
-few_variants : (s r : Option (List ℕ)) (vs : List (List ℕ)) → IfSome s (IsWord Script) → IfSome r (IsWord Region) → length (filter (is_word Variant) (option_to_list s ++ (option_to_list r ++ vs))) ≤ length vs
-few_variants None None vs hs hr = filter_short (is_word Variant) vs
-few_variants None (Some r) vs hs hr = subst (λ (l : List (List ℕ)). length l ≤ length vs) (sym (dropped (is_word Variant) r vs (no_variant_region r (variant_no_region r) hr))) (filter_short (is_word Variant) vs)
-few_variants (Some s) None vs hs hr = subst (λ (l : List (List ℕ)). length l ≤ length vs) (sym (dropped (is_word Variant) s vs (no_variant s (variant_no_script s) hs))) (filter_short (is_word Variant) vs)
-few_variants (Some s) (Some r) vs hs hr = subst (λ (l : List (List ℕ)). length l ≤ length vs) (sym (dropped (is_word Variant) s (r ∷ vs) (no_variant s (variant_no_script s) hs) ∙ dropped (is_word Variant) r vs (no_variant_region r (variant_no_region r) hr))) (filter_short (is_word Variant) vs)
-
-head_short : (t : List ℕ) → IsInline languages t → 4 < length (filter (is_word Variant) (rest_of (head (pieces t)))) → ⊥
-head_short t i h =
+head_few : (t : List ℕ) → IsInline languages t → 4 < length (front_of (head (pieces t))).variants → ⊥
+head_few t i h =
     let w = i.written.id in
     let e : head (pieces t) ≡ identifier_pieces w = ap head i.spelled ∙ head-spelling i.written i.grammatical in
     let few = (inline_by_blocks languages languages_table t i).variants w i.grammatical.id e in
-    let all = few_variants w.script w.region w.variants i.grammatical.id.words.script i.grammatical.id.words.region in
-    let k : length (filter (is_word Variant) (rest_of (head (pieces t)))) ≡ length (filter (is_word Variant) (rest_of (identifier_pieces w))) = ap (λ ps. length (filter (is_word Variant) (rest_of ps))) e in
-    omega (arith, few, all, k, h)
+    let k : length (front_of (head (pieces t))).variants ≡ length w.variants = ap (λ ps. length (front_of ps).variants) e ∙ ap (λ j. length j.variants) (front_of-pieces w i.grammatical.id.words) in
+    omega (arith, few, k, h)
+
+pub inline_wants_none : (t : List ℕ) → IsInline languages t → WantsMemory t → ⊥
+inline_wants_none t i h = by h.1
+  where
+    by : langid.WantsMemory (head (pieces t)) ⊎ (SpellsIdentifier languages (head (pieces t)) × ReachesLongBlock languages [] (tail_blocks (pieces t))) → ⊥
+    by (inl x) = head_few t i x.1
+    by (inr x) = none_long x.1 (inline_by_blocks languages languages_table t i).blocks
 
 pub head_refused : (t : List ℕ) (e : ParseError) → ReadsAs (head (pieces t)) (Err e) → LocaleReadsAs t (Err e)
 head_refused t InvalidLanguage (not_a_language h) = no_language (subst (λ p. is_word (Language languages) p ≡ false) (same_first (pieces t)) h)
 head_refused t InvalidSubtag (not_an_identifier w n) = no_identifier (subst (λ p. IsWord (Language languages) p) (same_first (pieces t)) w) n
 head_refused t InvalidExtension h = absurd h
 head_refused t DuplicatedExtension h = absurd h
-head_refused t OutOfMemory h = (subst (λ p. IsWord (Language languages) p) (same_first (pieces t)) h.0, λ i. head_short t i h.1)
+head_refused t OutOfMemory h = (subst (λ p. IsWord (Language languages) p) (same_first (pieces t)) h.0, inl h)
 
 spells : (t : List ℕ) (id : LanguageIdentifier) → ReadsAs (head (pieces t)) (Ok id) → SpellsIdentifier languages (head (pieces t))
 spells t id h = (h.written, h.grammatical, h.spelled)
@@ -120,7 +98,7 @@ blocks_refused t id x InvalidExtension h b = bad_block (spells t id h) (subst (�
 blocks_refused t id x DuplicatedExtension h b = bad_block (spells t id h) (subst (λ bs. faults.FirstBadBlock languages [] bs faults.DuplicatedExtension) (tail_is (pieces t)) b)
 blocks_refused t id x OutOfMemory h b = (
   subst (λ p. IsWord (Language languages) p) (sym (ap first_piece h.spelled) ∙ same_first (pieces t)) h.grammatical.words.language,
-  λ i. b (subst (AllByRecursion (IsShortBlock languages)) (sym (tail_is (pieces t))) (inline_by_blocks languages languages_table t i).blocks),
+  inr (spells t id h, subst (ReachesLongBlock languages []) (tail_is (pieces t)) b),
 )
 
 -- what else is known of what is read
@@ -138,14 +116,37 @@ pub reads_steps : (t : List ℕ) (r : Result Locale ParseError) → LocaleReadsA
 reads_steps t (Ok l) h = λ n u c. chain_means n t u (value_of l) c h
 reads_steps t (Err e) h = tt
 
+pub reads_accepts : (t : List ℕ) (r : Result Locale ParseError) → LocaleReadsAs t r → (M : meaning.Locale) → Means languages t M → Accepts M r
+reads_accepts t (Ok l) h M m = readings.one_meaning languages_table t (value_of l) M h m
+reads_accepts t (Err InvalidLanguage) h M m = absurd (accepted_no_fault languages_table t M faults.InvalidLanguage m h)
+reads_accepts t (Err InvalidSubtag) h M m = absurd (accepted_no_fault languages_table t M faults.InvalidSubtag m h)
+reads_accepts t (Err InvalidExtension) h M m = absurd (accepted_no_fault languages_table t M faults.InvalidExtension m h)
+reads_accepts t (Err DuplicatedExtension) h M m = absurd (accepted_no_fault languages_table t M faults.DuplicatedExtension m h)
+reads_accepts t (Err OutOfMemory) h M m = refl
+
+pub reads_refuses : (t : List ℕ) (r : Result Locale ParseError) → LocaleReadsAs t r → (f : Fault) → HasFault languages t f → Refuses f r
+reads_refuses t (Ok l) h f g = accepted_no_fault languages_table t (value_of l) f h g
+reads_refuses t (Err InvalidLanguage) h f g = inl (ap error_of (one_fault t h g))
+reads_refuses t (Err InvalidSubtag) h f g = inl (ap error_of (one_fault t h g))
+reads_refuses t (Err InvalidExtension) h f g = inl (ap error_of (one_fault t h g))
+reads_refuses t (Err DuplicatedExtension) h f g = inl (ap error_of (one_fault t h g))
+reads_refuses t (Err OutOfMemory) h f g = inr refl
+
+pub no_fault : (t : List ℕ) → IsInline languages t → (f : Fault) → HasFault languages t f → ⊥
+no_fault t i f h = accepted_no_fault languages_table t (meaning.meaning i.written) f (record { written = i.written; grammatical = i.grammatical; spelled = i.spelled; means = refl }) h
+
+pub reads_inline : (t : List ℕ) (r : Result Locale ParseError) → LocaleReadsAs t r → IsInline languages t → IsOk r
+reads_inline t (Ok l) h i = refl
+reads_inline t (Err OutOfMemory) h i = absurd (inline_wants_none t i h)
+reads_inline t (Err InvalidLanguage) h i = absurd (no_fault t i faults.InvalidLanguage h)
+reads_inline t (Err InvalidSubtag) h i = absurd (no_fault t i faults.InvalidSubtag h)
+reads_inline t (Err InvalidExtension) h i = absurd (no_fault t i faults.InvalidExtension h)
+reads_inline t (Err DuplicatedExtension) h i = absurd (no_fault t i faults.DuplicatedExtension h)
+
 pub reads_narrow : (t : List ℕ) (r : Result Locale ParseError) → LocaleReadsAs t r → (M : meaning.Locale) → Means two_or_three t M → IfOk r (λ l. value_of l ≡ M)
-reads_narrow t (Ok l) h M m = readings.one_meaning languages_table t (value_of l) M h (means_ours t M m)
+reads_narrow t (Ok l) h M m = reads_accepts t (Ok l) h M (means_ours t M m)
 reads_narrow t (Err e) h M m = tt
 
 pub accepts_narrow : (t : List ℕ) (r : Result Locale ParseError) → LocaleReadsAs t r → (M : meaning.Locale) → Means two_or_three t M → IfErr r (λ e. e ≡ OutOfMemory)
 accepts_narrow t (Ok l) h M m = tt
-accepts_narrow t (Err InvalidLanguage) h M m = absurd (accepted_no_fault languages_table t M faults.InvalidLanguage (means_ours t M m) h)
-accepts_narrow t (Err InvalidSubtag) h M m = absurd (accepted_no_fault languages_table t M faults.InvalidSubtag (means_ours t M m) h)
-accepts_narrow t (Err InvalidExtension) h M m = absurd (accepted_no_fault languages_table t M faults.InvalidExtension (means_ours t M m) h)
-accepts_narrow t (Err DuplicatedExtension) h M m = absurd (accepted_no_fault languages_table t M faults.DuplicatedExtension (means_ours t M m) h)
-accepts_narrow t (Err OutOfMemory) h M m = refl
+accepts_narrow t (Err e) h M m = reads_accepts t (Err e) h M (means_ours t M m)

@@ -1,16 +1,14 @@
 -- What normalising a locale's text answers.
-use Rattle.std.specs.Prelude.{◌≡◌, ◌↔◌, ℕ, ◌≤◌, List, length}
-use Rattle.iloc_grammar.specs.Pieces.{pieces}
-use Rattle.iloc_grammar.specs.Words.{Language, IsWord, languages}
+use Rattle.std.specs.Prelude.{◌≡◌, ◌↔◌, ◌⊎◌, ℕ, ◌≤◌, List, length}
+use Rattle.iloc_grammar.specs.Words.{languages}
 use Rattle.iloc_grammar.specs.Meaning.{Locale, Means}
 use Rattle.iloc_grammar.specs.Values.{text}
 use Rattle.iloc_grammar.specs.Faults as faults
 use Rattle.iloc_grammar.specs.Faults.{HasFault}
-use Rattle.iloc_grammar.specs.Blocks.{first_piece}
 use Rattle.iloc_grammar.specs.Steps.{TextStep, Chain, LeadToOne}
-use Rattle.iloc_small.specs.Inline.{IsInline}
 use Rattle.iloc_subtags.specs.declared.parse_error.ParseError.{ParseError}
 use Rattle.iloc_subtags.specs.declared.parse_error.ParseError.TheVariants.{InvalidLanguage, InvalidSubtag, InvalidExtension, DuplicatedExtension, OutOfMemory}
+use Rattle.iloc_locale.specs.Reads.{WantsMemory}
 
 -- t is the text of what u means
 abbrev pub IsTextOf : List ℕ → List ℕ → Type 0
@@ -31,10 +29,10 @@ pub record IsNormalizedFrom (input t : List ℕ) : Type 0 where
   -- so every accepted text means the same exactly where such steps lead both to one text
   pub together : (u : List ℕ) (L M : Locale) → Means languages input L → Means languages u M → (L ≡ M) ↔ LeadToOne (TextStep languages) 8 input u
 
--- Why there is none. Memory is wanted only where a language stands first, and not where the input is inline and normal.
+-- Why there is none. Memory is wanted only where the reader wants it, or where the input is accepted and isn't normal.
 abbrev pub RefusesNormalizing : List ℕ → ParseError → Type 0
 RefusesNormalizing t InvalidLanguage = HasFault languages t faults.InvalidLanguage
 RefusesNormalizing t InvalidSubtag = HasFault languages t faults.InvalidSubtag
 RefusesNormalizing t InvalidExtension = HasFault languages t faults.InvalidExtension
 RefusesNormalizing t DuplicatedExtension = HasFault languages t faults.DuplicatedExtension
-RefusesNormalizing t OutOfMemory = IsWord (Language languages) (first_piece (pieces t)) × (IsTextOf t t → ¬ (IsInline languages t))
+RefusesNormalizing t OutOfMemory = WantsMemory t ⊎ ((M : Locale) × Means languages t M × ¬ (t ≡ text M))

@@ -1,10 +1,12 @@
 //! The type, and its readers.
-ghost use Rattle.std.specs.Prelude.{◌≡◌, ℕ, List, IfOk, IfErr};
+ghost use Rattle.std.specs.Prelude.{◌≡◌, ℕ, List, IsOk, IfOk, IfErr};
 ghost use Rattle.iloc_grammar.specs.Words.{languages, two_or_three};
 ghost use Rattle.iloc_grammar.specs.Meaning as meaning;
 ghost use Rattle.iloc_grammar.specs.Meaning.{Means};
+ghost use Rattle.iloc_grammar.specs.Faults.{Fault, HasFault};
 ghost use Rattle.iloc_grammar.specs.Steps.{Chain};
 ghost use Rattle.iloc_grammar.specs.Values.{IsValue, IsWellFormed};
+ghost use Rattle.iloc_small.specs.Inline.{IsInline};
 
 use iloc_blocks::read_blocks;
 use iloc_extensions::Extensions;
@@ -28,7 +30,7 @@ pub struct Locale {
 
 impl Locale {
     ghost use Rattle.iloc_locale.specs.LocaleValue.{value_of, unknown_locale};
-    ghost use Rattle.iloc_locale.specs.Reads.{LocaleReadsAs};
+    ghost use Rattle.iloc_locale.specs.Reads.{LocaleReadsAs, Accepts, Refuses};
 
     /// The unknown locale, `und`.
     pub fn unknown(alloc: Global) -> Self
@@ -45,13 +47,31 @@ impl Locale {
     /// A text is accepted exactly where the grammar gives it a meaning, and what is read is that meaning.
     /// Every other is refused with the fault that the grammar names: `InvalidLanguage` where the first piece is
     /// no language, `InvalidSubtag` where the head is no identifier, and else the fault of the first bad block.
-    /// `OutOfMemory` comes only where a language stands first and some list is longer than is kept inline.
+    /// `OutOfMemory` comes only where some list before the fault is longer than is kept inline.
     pub fn try_from_utf8(alloc: Global, code_units: &[u8]) -> Result<Self, ParseError>
         ensures reads { LocaleReadsAs code_units.now result }
-        ensures well_formed { IfOk result (λ l. IsValue languages (value_of l) × IsWellFormed (value_of l)) }
-        ensures steps { IfOk result (λ l. (n : ℕ) (u : List ℕ) → Chain languages n code_units.now u → Means languages u (value_of l)) }
-        ensures narrow { (M : meaning.Locale) → Means two_or_three code_units.now M → IfOk result (λ l. value_of l ≡ M) }
-        ensures narrow_accepted { (M : meaning.Locale) → Means two_or_three code_units.now M → IfErr result (λ e. e ≡ ParseError.OutOfMemory) }
+        ensures accepted {
+            (M : meaning.Locale) → Means languages code_units.now M → Accepts M result
+        }
+        ensures refused {
+            (f : Fault) → HasFault languages code_units.now f → Refuses f result
+        }
+        ensures succeeds { IsInline languages code_units.now → IsOk result }
+        ensures well_formed {
+            IfOk result (λ l. IsValue languages (value_of l) × IsWellFormed (value_of l))
+        }
+        ensures steps {
+            IfOk result (λ l. (n : ℕ) (u : List ℕ)
+                → Chain languages n code_units.now u → Means languages u (value_of l))
+        }
+        ensures narrow {
+            (M : meaning.Locale) → Means two_or_three code_units.now M
+                → IfOk result (λ l. value_of l ≡ M)
+        }
+        ensures narrow_accepted {
+            (M : meaning.Locale) → Means two_or_three code_units.now M
+                → IfErr result (λ e. e ≡ ParseError.OutOfMemory)
+        }
     {
         let mut iter = SubtagIterator::new(code_units);
         let id = read_head(alloc, &mut iter)?;
@@ -66,7 +86,28 @@ impl Locale {
     /// The same of text.
     pub fn try_from_str(alloc: Global, s: &str) -> Result<Self, ParseError>
         ensures reads { LocaleReadsAs s.now result }
-        ensures well_formed { IfOk result (λ l. IsValue languages (value_of l) × IsWellFormed (value_of l)) }
+        ensures accepted {
+            (M : meaning.Locale) → Means languages s.now M → Accepts M result
+        }
+        ensures refused {
+            (f : Fault) → HasFault languages s.now f → Refuses f result
+        }
+        ensures succeeds { IsInline languages s.now → IsOk result }
+        ensures well_formed {
+            IfOk result (λ l. IsValue languages (value_of l) × IsWellFormed (value_of l))
+        }
+        ensures steps {
+            IfOk result (λ l. (n : ℕ) (u : List ℕ)
+                → Chain languages n s.now u → Means languages u (value_of l))
+        }
+        ensures narrow {
+            (M : meaning.Locale) → Means two_or_three s.now M
+                → IfOk result (λ l. value_of l ≡ M)
+        }
+        ensures narrow_accepted {
+            (M : meaning.Locale) → Means two_or_three s.now M
+                → IfErr result (λ e. e ≡ ParseError.OutOfMemory)
+        }
     {
         Self::try_from_utf8(alloc, s.as_bytes())
     }

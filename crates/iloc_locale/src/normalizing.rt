@@ -1,10 +1,11 @@
 //! Normal texts of locales, and whether a locale has one.
-ghost use Rattle.std.specs.Prelude.{◌≡◌, ◌↔◌, IsTrue, IfOk, IfErr};
+ghost use Rattle.std.specs.Prelude.{◌≡◌, ◌↔◌, IsTrue, IsOk, IfOk, IfErr};
 ghost use Rattle.std.specs.Cow.{cow_str_bytes};
 ghost use Rattle.iloc_grammar.specs.Words.{languages};
 ghost use Rattle.iloc_grammar.specs.Meaning as meaning;
 ghost use Rattle.iloc_grammar.specs.Meaning.{Means};
 ghost use Rattle.iloc_grammar.specs.Values.{IsValue, IsWellFormed, text};
+ghost use Rattle.iloc_small.specs.Inline.{IsInline};
 ghost use Rattle.iloc_writeable.specs.Writing.{IsLent};
 ghost use Rattle.iloc_small_reader.specs.SmallLocaleReads.{SmallLocaleReadsAs};
 
@@ -19,7 +20,7 @@ use std::borrow::CowStr;
 
 impl Locale {
     ghost use Rattle.iloc_locale.specs.LocaleValue.{value_of};
-    ghost use Rattle.iloc_locale.specs.Normalizing.{IsNormalizedFrom, RefusesNormalizing};
+    ghost use Rattle.iloc_locale.specs.Normalizing.{IsTextOf, IsNormalizedFrom, RefusesNormalizing};
 
     /// The normal text of what the text means, borrowed exactly where the text is that already.
     ///
@@ -27,8 +28,14 @@ impl Locale {
     /// once; texts mean the same exactly where their normal texts are equal; no text of a meaning is shorter;
     /// at most eight steps of rewriting lead there.
     pub fn normalize_utf8(alloc: Global, input: &[u8]) -> Result<CowStr<'_, Global>, ParseError>
-        ensures ok { IfOk result (λ text. IsNormalizedFrom input.now (cow_str_bytes text) × (IsLent text ↔ (input.now ≡ cow_str_bytes text))) }
+        ensures ok {
+            IfOk result (λ text. IsNormalizedFrom input.now (cow_str_bytes text)
+                × (IsLent text ↔ (input.now ≡ cow_str_bytes text)))
+        }
         ensures err { IfErr result (RefusesNormalizing input.now) }
+        ensures succeeds {
+            IsInline languages input.now → IsTextOf input.now input.now → IsOk result
+        }
     {
         let locale = Self::try_from_utf8(alloc, input)?;
         Ok(to_string_or_borrow(alloc, &locale, input)?)
@@ -36,8 +43,14 @@ impl Locale {
 
     /// The same of text.
     pub fn normalize(alloc: Global, input: &str) -> Result<CowStr<'_, Global>, ParseError>
-        ensures ok { IfOk result (λ text. IsNormalizedFrom input.now (cow_str_bytes text) × (IsLent text ↔ (input.now ≡ cow_str_bytes text))) }
+        ensures ok {
+            IfOk result (λ text. IsNormalizedFrom input.now (cow_str_bytes text)
+                × (IsLent text ↔ (input.now ≡ cow_str_bytes text)))
+        }
         ensures err { IfErr result (RefusesNormalizing input.now) }
+        ensures succeeds {
+            IsInline languages input.now → IsTextOf input.now input.now → IsOk result
+        }
     {
         Self::normalize_utf8(alloc, input.as_bytes())
     }

@@ -9,7 +9,7 @@ use Rattle.iloc_extensions.specs.ExtensionsValue.{value_of}
 use Rattle.iloc_blocks.specs.Blocks.{BlocksMean}
 use Rattle.iloc_blocks.specs.Whole.{BlocksReadAs}
 use Rattle.iloc_locale.specs.declared.locale.Locale.{Locale}
-use Rattle.iloc_locale.proofs.ReadLemmas.{after_head_starts, accepts, head_refused, blocks_refused, reads_well_formed, reads_steps, reads_narrow, accepts_narrow}
+use Rattle.iloc_locale.proofs.ReadLemmas.{after_head_starts, accepts, head_refused, blocks_refused, reads_well_formed, reads_steps, reads_accepts, reads_refuses, reads_inline, reads_narrow, accepts_narrow}
 use Rattle.iloc_locale.proofs.locale.Locale.try_from_utf8.Goals as goal
 
 -- each way out reads the text as the grammar says; the other clauses follow from that
@@ -34,6 +34,24 @@ returns-clause-reads c = accepts c.args.code_units.now c.in_ok-id.id (value_of c
     (subst (λ (ps : List (List ℕ)). ReadsAs (head ps) (Ok c.in_ok-id.id)) c.new-iter.ensures c.in_ok-id.ensures.reads)
     (subst (λ (ps : List (List ℕ)). BlocksMean languages (blocks ps) (value_of c.read_blocks.new.extensions)) (c.in_ok-id.ensures.rest ∙ ap after_head c.new-iter.ensures) c.in_ok-read_blocks.ensures.reads)
 
+pub returns-in_err-id-clause-accepted : goal.returns-in_err-id-clause-accepted
+returns-in_err-id-clause-accepted c = reads_accepts c.args.code_units.now c.from_residual.result (returns-in_err-id-clause-reads c)
+
+pub returns-in_err-id-clause-refused : goal.returns-in_err-id-clause-refused
+returns-in_err-id-clause-refused c = reads_refuses c.args.code_units.now c.from_residual.result (returns-in_err-id-clause-reads c)
+
+pub returns-in_err-id-clause-succeeds : goal.returns-in_err-id-clause-succeeds
+returns-in_err-id-clause-succeeds c = reads_inline c.args.code_units.now c.from_residual.result (returns-in_err-id-clause-reads c)
+
+pub returns-in_err-read_blocks-clause-accepted : goal.returns-in_err-read_blocks-clause-accepted
+returns-in_err-read_blocks-clause-accepted c = reads_accepts c.args.code_units.now c.from_residual-in_err-read_blocks.result (returns-in_err-read_blocks-clause-reads c)
+
+pub returns-in_err-read_blocks-clause-refused : goal.returns-in_err-read_blocks-clause-refused
+returns-in_err-read_blocks-clause-refused c = reads_refuses c.args.code_units.now c.from_residual-in_err-read_blocks.result (returns-in_err-read_blocks-clause-reads c)
+
+pub returns-in_err-read_blocks-clause-succeeds : goal.returns-in_err-read_blocks-clause-succeeds
+returns-in_err-read_blocks-clause-succeeds c = reads_inline c.args.code_units.now c.from_residual-in_err-read_blocks.result (returns-in_err-read_blocks-clause-reads c)
+
 pub returns-in_err-id-clause-narrow_accepted : goal.returns-in_err-id-clause-narrow_accepted
 returns-in_err-id-clause-narrow_accepted c = accepts_narrow c.args.code_units.now c.from_residual.result (returns-in_err-id-clause-reads c)
 
@@ -54,3 +72,13 @@ pub returns-clause-narrow : goal.returns-clause-narrow
 returns-clause-narrow c =
     let l : Locale = record { id = c.in_ok-id.id; extensions = c.read_blocks.new.extensions } in
     reads_narrow c.args.code_units.now (Ok l) (returns-clause-reads c)
+
+pub returns-clause-accepted : goal.returns-clause-accepted
+returns-clause-accepted c =
+    let l : Locale = record { id = c.in_ok-id.id; extensions = c.read_blocks.new.extensions } in
+    reads_accepts c.args.code_units.now (Ok l) (returns-clause-reads c)
+
+pub returns-clause-refused : goal.returns-clause-refused
+returns-clause-refused c =
+    let l : Locale = record { id = c.in_ok-id.id; extensions = c.read_blocks.new.extensions } in
+    reads_refuses c.args.code_units.now (Ok l) (returns-clause-reads c)
