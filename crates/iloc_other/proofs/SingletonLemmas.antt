@@ -14,7 +14,7 @@ found ((b ∷ []) ∷ ps) c e = (b, cc, refl)
 found ((b ∷ d ∷ p) ∷ ps) c e = cc
 
 module _ (test : ℕ → Bool) (ps : List (List ℕ)) where
-  begins : (c : ℕ) → Some c ≡ singleton_at ps → begins_part test ps ≡ test c
+  pub begins : (c : ℕ) → Some c ≡ singleton_at ps → begins_part test ps ≡ test c
   begins c e = let f = found ps c e in ap (begins_part test) f.2 ∙ ap test (sym f.1)
 
   begins_none : (qs : List (List ℕ)) → None ≡ singleton_at qs → begins_part test qs ≡ false

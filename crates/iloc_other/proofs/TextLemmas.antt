@@ -11,7 +11,7 @@ use Rattle.iloc_subtags.specs.declared.parse_error.ParseError.{ParseError}
 use Rattle.iloc_subtags.specs.declared.parse_error.ParseError.TheVariants.{InvalidLanguage, InvalidSubtag, InvalidExtension, DuplicatedExtension, OutOfMemory}
 use Rattle.iloc_other.specs.Reading.{private_words, PrivateReads, PrivateTextReads, OtherReads, OtherTextReads}
 use Rattle.iloc_other.specs.Singleton.{singleton_at}
-use Rattle.iloc_other.proofs.SingletonLemmas.{part_reads, part_fault, part_other, part_none}
+use Rattle.iloc_other.proofs.SingletonLemmas.{begins, part_reads, part_fault, part_other, part_none}
 
 pub another_letter : (c d : ℕ) → d ≢ c → is_letter c d ≡ false
 another_letter c d h = grind (arith, nat_tests)
@@ -33,7 +33,7 @@ module _ (t : List ℕ) where
     pub private_text : c ≡ 120 → (r : Result (List (List ℕ)) ParseError) → PrivateReads more rest r → PrivateTextReads t r
     private_text x (Ok ws) h = (rest, part_reads (is_letter 120) (pieces t) PrivateRead 120 ws rest (ap (λ d. Some d) (sym x) ∙ found) refl (subst (λ l. PrivateRead l ws rest) after h))
     private_text x (Err InvalidExtension) h = part_fault (is_letter 120) (pieces t) PrivateFault 120 faults.InvalidExtension (ap (λ d. Some d) (sym x) ∙ found) refl (subst (λ l. PrivateFault l faults.InvalidExtension) after h)
-    private_text x (Err OutOfMemory) h = subst (λ l. 4 < length (private_words l)) after h
+    private_text x (Err OutOfMemory) h = (begins (is_letter 120) (pieces t) 120 (ap (λ d. Some d) (sym x) ∙ found), subst (λ l. 4 < length (private_words l)) after h)
     private_text x (Err InvalidLanguage) h = h
     private_text x (Err InvalidSubtag) h = h
     private_text x (Err DuplicatedExtension) h = h
@@ -41,7 +41,7 @@ module _ (t : List ℕ) where
     pub other_text : is_other_singleton c ≡ true → (r : Result (ℕ × List (List ℕ)) ParseError) → OtherReads c more rest r → OtherTextReads t r
     other_text x (Ok o) h = (rest, subst (λ d. PartRead is_other_singleton OtherRead (pieces t) (d, o.1) rest) (sym h.0) (part_reads is_other_singleton (pieces t) OtherRead c o.1 rest found x (subst (λ l. OtherRead l o.1 rest) after h.1)))
     other_text x (Err InvalidExtension) h = part_fault is_other_singleton (pieces t) OtherFault c faults.InvalidExtension found x (subst (λ l. OtherFault l faults.InvalidExtension) after h)
-    other_text x (Err OutOfMemory) h = subst (λ l. 4 < length (kept (other_front l))) after h
+    other_text x (Err OutOfMemory) h = (begins is_other_singleton (pieces t) c found ∙ x, subst (λ l. 4 < length (kept (other_front l))) after h)
     other_text x (Err InvalidLanguage) h = h
     other_text x (Err InvalidSubtag) h = h
     other_text x (Err DuplicatedExtension) h = h

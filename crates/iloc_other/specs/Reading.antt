@@ -1,12 +1,12 @@
 -- What the readers of the private extension and of other extensions answer.
-use Rattle.std.specs.Prelude.{◌≡◌, ℕ, ◌<◌, List, length, Result, Ok, Err}
+use Rattle.std.specs.Prelude.{◌≡◌, ℕ, ◌<◌, true, List, length, Result, Ok, Err}
 use Rattle.iloc_grammar.specs.Pieces.{pieces}
 use Rattle.iloc_grammar.specs.Words.{PrivateSubtag, is_word}
-use Rattle.iloc_grammar.specs.Written.{kept}
+use Rattle.iloc_grammar.specs.Written.{kept, is_other_singleton}
 use Rattle.iloc_grammar.specs.Faults as faults
 use Rattle.iloc_grammar.specs.Reading.{passing, rest_of}
 use Rattle.iloc_fronts.specs.Fronts.{OtherRead, OtherFault, PrivateRead, PrivateFault, other_front}
-use Rattle.iloc_fronts.specs.Parts.{OtherText, OtherTextFault, PrivateText, PrivateTextFault}
+use Rattle.iloc_fronts.specs.Parts.{begins_part, is_letter, OtherText, OtherTextFault, PrivateText, PrivateTextFault}
 use Rattle.iloc_subtags.specs.declared.parse_error.ParseError.{ParseError}
 use Rattle.iloc_subtags.specs.declared.parse_error.ParseError.TheVariants.{InvalidLanguage, InvalidSubtag, InvalidExtension, DuplicatedExtension, OutOfMemory}
 
@@ -23,11 +23,11 @@ PrivateReads ps rest (Err InvalidLanguage) = ⊥
 PrivateReads ps rest (Err InvalidSubtag) = ⊥
 PrivateReads ps rest (Err DuplicatedExtension) = ⊥
 
--- what a text is read as
+-- What a text is read as. Memory is wanted only after `x` (120), the letter of such an extension.
 abbrev pub PrivateTextReads : List ℕ → Result (List (List ℕ)) ParseError → Type 0
 PrivateTextReads t (Ok ws) = PrivateText t ws
 PrivateTextReads t (Err InvalidExtension) = PrivateTextFault t faults.InvalidExtension
-PrivateTextReads t (Err OutOfMemory) = 4 < length (private_words (rest_of (pieces t)))
+PrivateTextReads t (Err OutOfMemory) = (begins_part (is_letter 120) (pieces t) ≡ true) × (4 < length (private_words (rest_of (pieces t))))
 PrivateTextReads t (Err InvalidLanguage) = ⊥
 PrivateTextReads t (Err InvalidSubtag) = ⊥
 PrivateTextReads t (Err DuplicatedExtension) = ⊥
@@ -41,11 +41,11 @@ OtherReads ext ps rest (Err InvalidLanguage) = ⊥
 OtherReads ext ps rest (Err InvalidSubtag) = ⊥
 OtherReads ext ps rest (Err DuplicatedExtension) = ⊥
 
--- what a text is read as
+-- What a text is read as. Memory is wanted only after the singleton of such an extension.
 abbrev pub OtherTextReads : List ℕ → Result (ℕ × List (List ℕ)) ParseError → Type 0
 OtherTextReads t (Ok o) = OtherText t o
 OtherTextReads t (Err InvalidExtension) = OtherTextFault t faults.InvalidExtension
-OtherTextReads t (Err OutOfMemory) = 4 < length (kept (other_front (rest_of (pieces t))))
+OtherTextReads t (Err OutOfMemory) = (begins_part is_other_singleton (pieces t) ≡ true) × (4 < length (kept (other_front (rest_of (pieces t)))))
 OtherTextReads t (Err InvalidLanguage) = ⊥
 OtherTextReads t (Err InvalidSubtag) = ⊥
 OtherTextReads t (Err DuplicatedExtension) = ⊥

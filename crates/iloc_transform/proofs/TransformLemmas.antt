@@ -20,7 +20,7 @@ use Rattle.iloc_fronts.specs.Computing.{fields_at, fields_result}
 use Rattle.iloc_fronts.specs.Parts.{is_letter, TransformTextFault}
 use Rattle.iloc_fronts.proofs.TransformLaws.{fields_answer, IsTransformAnswer}
 use Rattle.iloc_other.specs.Singleton.{singleton_at}
-use Rattle.iloc_other.proofs.SingletonLemmas.{part_reads, part_fault, part_other, part_none}
+use Rattle.iloc_other.proofs.SingletonLemmas.{begins, part_reads, part_fault, part_other, part_none}
 use Rattle.iloc_other.proofs.TextLemmas.{another_letter}
 use Rattle.iloc_other.proofs.TakingLemmas.{refused_from_read}
 use Rattle.iloc_subtags.specs.declared.parse_error.ParseError.{ParseError}
@@ -143,6 +143,6 @@ module _ (t : List ℕ) where
     text_reads (Ok m) h = (rest, part_reads (is_letter 116) (pieces t) (TransformRead languages) 116 (value_of m) rest found refl (subst (λ l. TransformRead languages l (value_of m) rest) after h))
     text_reads (Err InvalidSubtag) h = fault faults.InvalidSubtag h
     text_reads (Err InvalidExtension) h = fault faults.InvalidExtension h
-    text_reads (Err OutOfMemory) h = subst WantsMemory after h
+    text_reads (Err OutOfMemory) h = (begins (is_letter 116) (pieces t) 116 found, subst WantsMemory after h)
     text_reads (Err InvalidLanguage) h = h
     text_reads (Err DuplicatedExtension) h = h

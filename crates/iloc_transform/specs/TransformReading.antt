@@ -1,12 +1,12 @@
 -- What the readers of transforms answer.
-use Rattle.std.specs.Prelude.{ℕ, ◌<◌, List, length, Option, option_map, Result, Ok, Err}
+use Rattle.std.specs.Prelude.{◌≡◌, ℕ, ◌<◌, true, List, length, Option, option_map, Result, Ok, Err}
 use Rattle.iloc_grammar.specs.Pieces.{pieces}
 use Rattle.iloc_grammar.specs.Words.{languages}
 use Rattle.iloc_grammar.specs.Written as written
 use Rattle.iloc_grammar.specs.Faults as faults
 use Rattle.iloc_grammar.specs.Reading.{rest_of}
 use Rattle.iloc_fronts.specs.Fronts.{FrontRead, fields_front, TransformRead, TransformFault}
-use Rattle.iloc_fronts.specs.Parts.{TransformText, TransformTextFault}
+use Rattle.iloc_fronts.specs.Parts.{begins_part, is_letter, TransformText, TransformTextFault}
 use Rattle.iloc_subtags.specs.declared.parse_error.ParseError.{ParseError}
 use Rattle.iloc_subtags.specs.declared.parse_error.ParseError.TheVariants.{InvalidLanguage, InvalidSubtag, InvalidExtension, DuplicatedExtension, OutOfMemory}
 use Rattle.iloc_langid.specs.Reads as langid
@@ -31,11 +31,11 @@ TransformReads ps rest (Err OutOfMemory) = WantsMemory ps
 TransformReads ps rest (Err InvalidLanguage) = ⊥
 TransformReads ps rest (Err DuplicatedExtension) = ⊥
 
--- what a text is read as
+-- What a text is read as. Memory is wanted only after `t` (116), the letter of such an extension.
 abbrev pub TransformTextReads : List ℕ → Result Transform ParseError → Type 0
 TransformTextReads t (Ok m) = TransformText languages t (value_of m)
 TransformTextReads t (Err InvalidSubtag) = TransformTextFault languages t faults.InvalidSubtag
 TransformTextReads t (Err InvalidExtension) = TransformTextFault languages t faults.InvalidExtension
-TransformTextReads t (Err OutOfMemory) = WantsMemory (rest_of (pieces t))
+TransformTextReads t (Err OutOfMemory) = (begins_part (is_letter 116) (pieces t) ≡ true) × WantsMemory (rest_of (pieces t))
 TransformTextReads t (Err InvalidLanguage) = ⊥
 TransformTextReads t (Err DuplicatedExtension) = ⊥
