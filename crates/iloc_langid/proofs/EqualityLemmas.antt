@@ -9,7 +9,7 @@ use Rattle.iloc_langid.specs.declared.identifier.LanguageIdentifier.{LanguageIde
 use Rattle.iloc_langid.specs.Reads.{value_of}
 use Rattle.iloc_langid.proofs.AgreeingLemmas.{same_option}
 
-same_words : (vs ws : List (List ℕ)) → pointwise (pointwise nat_eq) vs ws ≡ true → vs ≡ ws
+pub same_words : (vs ws : List (List ℕ)) → pointwise (pointwise nat_eq) vs ws ≡ true → vs ≡ ws
 same_words [] [] h = refl
 same_words [] (w ∷ ws) h = cc
 same_words (v ∷ vs) [] h = cc
@@ -18,6 +18,9 @@ same_words (v ∷ vs) (w ∷ ws) h = let parts = and_parts _ _ h in λ i. same_t
 words_themselves : (ws : List (List ℕ)) → pointwise (pointwise nat_eq) ws ws ≡ true
 words_themselves [] = refl
 words_themselves (w ∷ ws) = and_from _ _ (nat_list_eq_equiv.refl w) (words_themselves ws)
+
+pub equal_words : (vs ws : List (List ℕ)) → vs ≡ ws → pointwise (pointwise nat_eq) vs ws ≡ true
+equal_words vs ws e = subst (λ x. pointwise (pointwise nat_eq) vs x ≡ true) e (words_themselves vs)
 
 option_itself : (a : Option (List ℕ)) → option_eq (pointwise nat_eq) a a ≡ true
 option_itself None = refl

@@ -20,13 +20,12 @@ pub mod normalizing;
 pub mod printing;
 pub mod values;
 
-use iloc_langid::identifiers_compare;
 pub use locale::Locale;
 
 /// `==` answers whether two locales stand for the same.
 pub fn equality()
     ensures { (l m : Locale) → IsTrue (⟦<Locale as PartialEq>⟧.eq l m) ↔ (value_of l ≡ value_of m) }
 {
-    identifiers_compare();
+    iloc_langid::equality();
     iloc_extensions::equality();
 }

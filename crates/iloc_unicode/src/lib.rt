@@ -7,7 +7,7 @@
 //! words, the map over short lists and its laws, values, pieces and printing.
 #![tactic(auto)]
 
-ghost use Rattle.std.specs.Prelude.{◌≡◌, ◌↔◌, ℕ, List, true};
+ghost use Rattle.std.specs.Prelude.{◌≡◌, ◌↔◌, ℕ, List, IsTrue};
 ghost use Rattle.iloc_grammar.specs.Written.{Fields};
 ghost use Rattle.iloc_orders.specs.Orders.{words_cmp, keywords_cmp};
 ghost use Rattle.iloc_unicode.specs.UnicodeValue.{value_of};
@@ -23,11 +23,19 @@ pub use attributes::Attributes;
 pub use keywords::{Keywords, KeywordsIter};
 pub use unicode::Unicode;
 
-/// Attributes and keywords are ordered as short lists, and what is equal has the same value.
-pub fn parts_compare()
-    ensures attributes_order { (v w : List (List ℕ)) → ⟦<Attributes as Ord>⟧.cmp v w ≡ words_cmp v w }
-    ensures attributes_equality { (v w : List (List ℕ)) → (⟦<Attributes as PartialEq>⟧.eq v w ≡ true) ↔ (v ≡ w) }
-    ensures keywords_order { (v w : Fields) → ⟦<Keywords as Ord>⟧.cmp v w ≡ keywords_cmp v w }
-    ensures keywords_equality { (v w : Fields) → (⟦<Keywords as PartialEq>⟧.eq v w ≡ true) ↔ (v ≡ w) }
-    ensures unicode_equality { (u v : Unicode) → (⟦<Unicode as PartialEq>⟧.eq u v ≡ true) ↔ (value_of u ≡ value_of v) }
+/// Attributes and keywords stand in the orders of the definitions.
+pub fn orders()
+    ensures attributes { (v w : List (List ℕ)) → ⟦<Attributes as Ord>⟧.cmp v w ≡ words_cmp v w }
+    ensures keywords { (v w : Fields) → ⟦<Keywords as Ord>⟧.cmp v w ≡ keywords_cmp v w }
+{}
+
+/// `==` answers whether two parts, or two unicode extensions, are the same.
+pub fn equality()
+    ensures attributes {
+        (v w : List (List ℕ)) → IsTrue (⟦<Attributes as PartialEq>⟧.eq v w) ↔ (v ≡ w)
+    }
+    ensures keywords { (v w : Fields) → IsTrue (⟦<Keywords as PartialEq>⟧.eq v w) ↔ (v ≡ w) }
+    ensures unicode {
+        (u v : Unicode) → IsTrue (⟦<Unicode as PartialEq>⟧.eq u v) ↔ (value_of u ≡ value_of v)
+    }
 {}

@@ -4,7 +4,7 @@
 //! lists, pieces and printing.
 #![tactic(auto)]
 
-ghost use Rattle.std.specs.Prelude.{◌≡◌, ◌↔◌, ℕ, List, true};
+ghost use Rattle.std.specs.Prelude.{◌≡◌, ◌↔◌, ℕ, List, IsTrue};
 ghost use Rattle.iloc_orders.specs.Orders.{words_cmp};
 
 pub mod printing;
@@ -14,8 +14,12 @@ pub mod value;
 pub use reader::read_value;
 pub use value::Value;
 
-/// Values are ordered as short lists of words, and are equal exactly where their lists are.
-pub fn values_compare()
-    ensures order { (v w : List (List ℕ)) → ⟦<Value as Ord>⟧.cmp v w ≡ words_cmp v w }
-    ensures equality { (v w : List (List ℕ)) → (⟦<Value as PartialEq>⟧.eq v w ≡ true) ↔ (v ≡ w) }
+/// Values stand in the order of the definitions.
+pub fn orders()
+    ensures { (v w : List (List ℕ)) → ⟦<Value as Ord>⟧.cmp v w ≡ words_cmp v w }
+{}
+
+/// `==` answers whether two values are the same.
+pub fn equality()
+    ensures { (v w : List (List ℕ)) → IsTrue (⟦<Value as PartialEq>⟧.eq v w) ↔ (v ≡ w) }
 {}

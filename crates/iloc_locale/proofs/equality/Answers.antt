@@ -2,4 +2,4 @@ use Rattle.iloc_locale.proofs.EqualityLemmas.{locales_decide}
 use Rattle.iloc_locale.proofs.equality.Goals as goal
 
 pub returns : goal.returns
-returns c = locales_decide _ _ c.identifiers_compare.ensures.equality c.equality.ensures
+returns c = locales_decide _ _ c.equality.ensures.identifiers c.equality-2.ensures
