@@ -1,0 +1,93 @@
+"""Sums that tell whether a verdict on a crate's edits still holds, and the record of verdicts."""
+import hashlib
+import os
+import re
+import threading
+
+from edit_places import functions
+from kit import ROOT, TOOLCHAIN, read, rtlib
+
+RECORD = f"{ROOT}/tools/edits.record"
+ABOUT = """\
+# Written by tools/edits: a line for each crate whose edits were all tried, and all refused.
+# crate, sum of its text, of its edits and of the contracts below it, outcome, toolchain
+"""
+WRITING = threading.Lock()
+EDIT_NAME = re.compile(r"[A-Za-z0-9_-][A-Za-z0-9_.-]*\.edit")
+
+
+def digest(*given):
+    parts = [it if isinstance(it, bytes) else it.encode() for it in given]
+    return hashlib.sha256(b"".join(b"%d:%b" % (len(it), it) for it in parts)).hexdigest()[:24]
+
+
+def files_of(folder, *below):
+    walked = [(at, names) for part in below for at, _, names in os.walk(f"{folder}/{part}")]
+    return sorted(f"{at}/{it}" for at, names in walked for it in names)
+
+
+def is_open(text, start, body):
+    """Returns whether others may read the body of this function."""
+    return re.search(rb"\b(const|impl)\b", text[max(start - 20, 0) : body])
+
+
+def without_bodies(path, blanked):
+    """Returns the text of a source file without the bodies that no other crate may read."""
+    text, blanked = read(path), blanked.encode()
+    if len(text) != len(blanked):
+        return text
+    kept, at = b"", 0
+    for start, body, end, _, _ in functions(blanked):
+        if not is_open(blanked, start, body):
+            kept, at = kept + text[at:body], end
+    return kept + text[at:]
+
+
+def interface(crate):
+    """Returns a sum of what a verdict on a crate above may rest on: the definitions, the lemmas
+    and the code without bodies."""
+    parts = []
+    for path, blanked in sorted(rtlib.blanked(crate.folder).items()):
+        text = without_bodies(path, blanked) if path.endswith(".rt") else read(path)
+        parts += [os.path.relpath(path, crate.folder), text]
+    proofs = f"{crate.folder}/proofs"
+    for name in sorted(os.listdir(proofs)) if os.path.isdir(proofs) else ():
+        parts += [name, read(f"{proofs}/{name}")]
+    return digest(*parts)
+
+
+def sum_of(crate):
+    """Returns a sum of what a verdict on an edit of the crate rests on, but the edit."""
+    own = []
+    for path in files_of(crate.folder, "src", "specs", "proofs"):
+        own += [os.path.relpath(path, crate.folder), read(path)]
+    below = sorted(f"{it.name} {interface(it)}" for it in crate.below())
+    return digest(TOOLCHAIN, repr(crate.of_kit), *below, *own)
+
+
+def whole_sum(crate, folder):
+    """Returns a sum of what a verdict on all edits of the crate rests on."""
+    edits = [part for it in edits_of(crate, folder)[0] for part in (os.path.basename(it), read(it))]
+    return digest(sum_of(crate), *edits)
+
+
+def edits_of(crate, folder):
+    """Returns the paths of the crate's edits, and of what stands among them and is none."""
+    there = files_of(crate.folder, folder)
+    inside = lambda it: os.path.relpath(it, f"{crate.folder}/{folder}")
+    good = [it for it in there if EDIT_NAME.fullmatch(inside(it))]
+    return good, [it for it in there if it not in good and not it.endswith(".md")]
+
+
+def recorded():
+    rows = [it.split() for it in read(RECORD).decode().splitlines() if it.strip() and it[0] != "#"]
+    return {row[0]: row[1:] for row in rows}
+
+
+def record(name, row):
+    """Puts the crate's line into the record, or takes it out where there is none."""
+    with WRITING:
+        rows = sorted({**recorded(), name: row}.items())
+        with open(RECORD, "w") as it:
+            it.write(ABOUT)
+            it.writelines(" ".join([name, *row]) + "\n" for name, row in rows if row)

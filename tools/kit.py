@@ -1,0 +1,40 @@
+"""The toolchain's command rt, loaded as a module: `rt` itself and `rtlib`, on which it stands.
+
+What the tools use of them: rt.read_edit, rt.checked, rt.unread, rt.must_fail, rt.KIT, and rtlib's
+Crate, blanked, crates_below, guarded, lock, STALE. A new toolchain may change them."""
+import importlib.machinery
+import importlib.util
+import os
+import shutil
+import sys
+
+ROOT = os.path.dirname(os.path.dirname(os.path.abspath(__file__)))
+
+
+def load():
+    path = shutil.which("rt") or sys.exit("no rt on the PATH: it is the toolchain's command")
+    loader = importlib.machinery.SourceFileLoader("rt_main", os.path.realpath(path))
+    made = importlib.util.module_from_spec(importlib.util.spec_from_loader("rt_main", loader))
+    loader.exec_module(made)
+    return made
+
+
+rt = load()
+rtlib = rt.rtlib
+
+
+def read(path):
+    """Returns the bytes of the file, or none where there is no file."""
+    if not os.path.isfile(path):
+        return b""
+    with open(path, "rb") as it:
+        return it.read()
+
+
+def lanes():
+    """Returns how many checks run side by side: RT_JOBS of them, or one a processor."""
+    number = os.environ.get("RT_JOBS", "")
+    return int(number) if number.isdigit() and int(number) else rt.processors()
+
+
+TOOLCHAIN = read(f"{rt.KIT}/KIT-ID").decode().strip()

@@ -1,0 +1,67 @@
+"""Proves the libraries that some crates stand on, side by side, lowest and longest chain first."""
+import subprocess
+import time
+
+from kit import lanes, rt
+
+# About what the proof of a library from nothing takes, in processor seconds: for reading what it
+# stands on, and for each line of its source.
+EACH, A_LINE = 20, 0.25
+KEY = "proof"
+
+
+def lacking(crates):
+    """Returns the libraries below these crates that are not built of their present text."""
+    below = {it.name: it for crate in crates for it in crate.below()}
+    return [it for it in below.values() if not it.is_built()]
+
+
+def seconds(crate):
+    return EACH + A_LINE * crate.count(rb"\n")
+
+
+def estimate(crates):
+    """Returns about how many minutes the proofs take on these processors."""
+    names, chain = {it.name for it in crates}, {}
+    for it in crates:
+        below = [chain[dep.name] for dep in it.below() if dep.name in names]
+        chain[it.name] = seconds(it) + max(below, default=0)
+    total = sum(map(seconds, crates)) / lanes()
+    return max(total, *chain.values()) / 60
+
+
+class Proofs:
+    """The proofs of a list of libraries, and how far they are."""
+
+    def __init__(self, crates, say, until=None):
+        self.crates, self.say, self.until = crates, say, until
+        self.began, self.done, self.failed = time.time(), 0, []
+
+    def prove(self, crate, given, jobs):
+        """Proves a library and returns whether it is proved. One that stands on a library that is
+        not proved is not tried, and none is once the time is out."""
+        if not all(given.get((it.name, KEY), True) for it in crate.below()):
+            return False
+        if self.until and time.time() > self.until:
+            return False
+        how = {"cwd": crate.folder, "stdin": subprocess.DEVNULL, "stdout": subprocess.PIPE}
+        words = ["rt", "lib", "--jobs", str(jobs)]
+        ran = subprocess.run(words, stderr=subprocess.STDOUT, errors="replace", **how)
+        self.done += 1
+        minutes = (time.time() - self.began) / 60
+        far = f"{self.done} of {len(self.crates)} crates, {minutes:.0f} min"
+        if ran.returncode:
+            self.failed.append(crate.name)
+            self.say(f"{crate.name} is NOT PROVED ({far}):\n{ran.stdout[-3000:]}")
+        else:
+            self.say(f"proved {far} ({crate.name})")
+        return ran.returncode == 0
+
+    def run(self):
+        """Returns whether all are proved."""
+        names, tasks = {it.name for it in self.crates}, {}
+        for crate in self.crates:
+            waits = [(it.name, KEY) for it in crate.below() if it.name in names]
+            call = lambda given, jobs, crate=crate: self.prove(crate, given, jobs)
+            tasks[crate.name, KEY] = waits, crate.count(rb"\n"), rt.need(crate), call
+        return all(rt.in_lanes(tasks).values())
