@@ -28,7 +28,7 @@ pub fn carry_v1(alloc: Global, row: &[u8]) -> Result<Vec<u8>, CarryError>
     }
     let mut carried = Vec::new(alloc);
     let mut rest = row;
-    let mut count = 0;
+    let mut count = 0usize;
     'words: while rest.len() >= 3 {
         let Ok(language) = Language::try_from_raw_v1([rest[0], rest[1], rest[2]]) else {
             return Err(CarryError::Word(count));
