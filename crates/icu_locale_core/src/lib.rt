@@ -114,7 +114,7 @@ pub mod json {
     pub use iloc_json::{JsonError, JsonText, TextValue};
 }
 
-/// What users of the library wrote for themselves.
+/// Old raw forms of languages, moved to the new ones.
 pub mod bench {
     pub use iloc_carry::{CarryError, carry_v1};
 }
