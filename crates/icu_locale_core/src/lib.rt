@@ -26,7 +26,7 @@
 //! locale == Locale::try_from_str(alloc, "en-GB-u-ca-buddhist")?; // true
 //! ```
 //!
-//! Not here yet: `preferences`, `json` and `bench`.
+//! Not here yet: `preferences`, and of `bench` the preferences of formatters.
 //! In the Rust crate some of these modules are private, and `tinystr`, `writeable` and `litemap` are crates.
 #![tactic(auto)]
 
@@ -107,6 +107,16 @@ pub mod locale {
 /// Data locales: the parts of a locale by which data is looked up.
 pub mod data {
     pub use iloc_data::DataLocale;
+}
+
+/// JSON strings of texts.
+pub mod json {
+    pub use iloc_json::{JsonError, JsonText, TextValue};
+}
+
+/// Old raw forms of languages, moved to the new ones.
+pub mod bench {
+    pub use iloc_carry::{CarryError, carry_v1};
 }
 
 /// The library of the program `locale_normal`.

@@ -1,0 +1,2 @@
+pub mod CarryError
+pub mod Carrying

@@ -1,0 +1,34 @@
+//! Why a row is refused.
+
+ghost use Rattle.std.specs.Prelude.{◌≡◌};
+
+use thiserror::Error;
+
+/// Why a row of old raw forms is refused, or that there is no memory. It prints its words.
+#[derive(Clone, Debug, Drop, Error, PartialEq, Eq)]
+pub enum CarryError {
+    /// The length is no multiple of three.
+    #[error("Length is not a multiple of three")]
+    Length,
+    /// The word at that place, counted from 0, is no old raw form of a language.
+    #[error("Invalid language word")]
+    Word(usize),
+    /// Memory was refused.
+    #[error("Out of memory")]
+    OutOfMemory,
+}
+
+impl CarryError {
+    ghost use Rattle.iloc_carry.specs.CarryError.{words_of};
+
+    /// The words of this refusal, which `Display` prints too.
+    pub fn words(&self) -> &'static str
+        ensures { result.now ≡ words_of self.now }
+    {
+        match self {
+            CarryError::Length => "Length is not a multiple of three",
+            CarryError::Word(_) => "Invalid language word",
+            CarryError::OutOfMemory => "Out of memory",
+        }
+    }
+}

@@ -1,0 +1,48 @@
+//! Why a JSON value is refused.
+ghost use Rattle.std.specs.Prelude.{◌≡◌};
+
+use iloc_subtags::ParseError;
+use thiserror::Error;
+
+/// Why a JSON value is refused, or that there is no memory. It prints its words.
+#[derive(Clone, Debug, Drop, Error, PartialEq, Eq)]
+pub enum JsonError {
+    /// The value is no string.
+    #[error("Expected a JSON string")]
+    NotText,
+    /// The string is refused by the reader.
+    #[error(transparent)]
+    Parse(ParseError),
+    /// Memory was refused.
+    #[error("Out of memory")]
+    OutOfMemory,
+}
+
+impl JsonError {
+    ghost use Rattle.iloc_json.specs.Errors.{words_of};
+
+    /// The words of this refusal, which `Display` prints too.
+    pub fn words(&self) -> &'static str
+        ensures { result.now ≡ words_of self.now }
+    {
+        match self {
+            JsonError::NotText => "Expected a JSON string",
+            JsonError::Parse(error) => error.words(),
+            JsonError::OutOfMemory => "Out of memory",
+        }
+    }
+}
+
+/// The refusal of a reader; want of memory is `OutOfMemory`.
+impl From<ParseError> for JsonError {
+    ghost use Rattle.iloc_json.specs.Errors.{json_error};
+
+    ghost from_gives = { λ refusal error. error ≡ json_error refusal };
+
+    fn from(refusal: ParseError) -> JsonError {
+        match refusal {
+            ParseError::OutOfMemory => JsonError::OutOfMemory,
+            other => JsonError::Parse(other),
+        }
+    }
+}

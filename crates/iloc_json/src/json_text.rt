@@ -1,0 +1,45 @@
+//! What is written as a JSON string.
+ghost use Rattle.std.specs.Prelude.{◌≡◌, Result, IfOk};
+ghost use Rattle.serde_json.specs.View.{view};
+ghost use Rattle.serde_json.specs.Find.{as_str};
+ghost use Rattle.iloc_json.specs.declared.errors.JsonError.{JsonError};
+ghost use Rattle.iloc_json.specs.Json.{WritesText, ReadsText, IsReadBackAs};
+
+use crate::errors::JsonError;
+use crate::text_value::TextValue;
+use serde_json::Value;
+use std::alloc::Global;
+
+/// What is written as the JSON string of its printed text.
+pub trait JsonText: TextValue {
+    /// The JSON string of the printed text. It is read back as this value wherever the text is.
+    fn to_json(&self, alloc: Global) -> Result<Value, JsonError>
+        ensures text { WritesText (Self.text self.now) result }
+        ensures back { IfOk result (λ v. Self.reads_back self.now → (r : Result Self JsonError) → ReadsText Self.reads (as_str (view v)) r → IsReadBackAs (Self.same self.now) r) };
+
+    /// What the JSON string reads as. Anything else than a string is `NotText`.
+    fn from_json(alloc: Global, value: &Value) -> Result<Self, JsonError>
+        ensures { ReadsText Self.reads (as_str (view value.now)) result };
+}
+
+/// All words, identifiers and locales are.
+impl<T: TextValue> JsonText for T {
+    #[tactic(auto, using(crate::proofs::ReadBack::json_back))]
+    fn to_json(&self, alloc: Global) -> Result<Value, JsonError> {
+        self.is_read_back();
+        let Ok(text) = self.write_to_string(alloc) else {
+            return Err(JsonError::OutOfMemory);
+        };
+        match text.into_owned(alloc) {
+            Ok(text) => Ok(Value::String(text)),
+            Err(_) => Err(JsonError::OutOfMemory),
+        }
+    }
+
+    fn from_json(alloc: Global, value: &Value) -> Result<Self, JsonError> {
+        let Some(text) = value.as_str() else {
+            return Err(JsonError::NotText);
+        };
+        Self::read_text(alloc, text).map_err(JsonError::from)
+    }
+}

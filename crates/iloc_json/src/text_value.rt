@@ -1,0 +1,88 @@
+//! What has a printed text and a reader of texts.
+ghost use Rattle.std.specs.Prelude.{◌≡◌, ℕ, List, Result};
+ghost use Rattle.iloc_grammar.specs.Words.{read};
+ghost use Rattle.iloc_grammar.specs.Pieces.{pieces};
+ghost use Rattle.iloc_grammar.specs.Values.{IsWellFormed};
+ghost use Rattle.iloc_subtags.specs.declared.parse_error.ParseError.{ParseError};
+ghost use Rattle.iloc_langid.specs.Reads.{value_of as identifier_of, ReadsAs};
+ghost use Rattle.iloc_locale.specs.LocaleValue.{value_of as locale_of};
+ghost use Rattle.iloc_locale.specs.Reads.{LocaleReadsAs};
+ghost use Rattle.iloc_json.specs.Json.{IsReadAs};
+
+use iloc_langid::LanguageIdentifier;
+use iloc_locale::Locale;
+use iloc_subtags::{ParseError, WordKind, WordOf, is_normal};
+use iloc_writeable::Writeable;
+use std::alloc::Global;
+
+/// What prints a text and is read of one.
+pub trait TextValue: Writeable + Sized {
+    /// What the reader answers.
+    ghost reads: { List ℕ → Result Self ParseError → Type 0 };
+
+    /// The text of the value is read as the value.
+    ghost reads_back: { Self → Type 0 };
+
+    /// The other stands for the same.
+    ghost same: { Self → Self → Type 0 };
+
+    /// Reads a text.
+    fn read_text(alloc: Global, text: &str) -> Result<Self, ParseError>
+        ensures { reads text.now result };
+
+    /// Where the text of the value reads back, it is read as the value, but for want of memory. It does nothing.
+    fn is_read_back(&self)
+        ensures { reads_back self.now → (r : Result Self ParseError) → reads (Self.text self.now) r → IsReadAs (same self.now) r };
+}
+
+impl<K: WordKind<N>, const N: usize> TextValue for WordOf<K, N> {
+    ghost reads = { λ text r. r ≡ read K.kind K.refusal text };
+
+    ghost reads_back = { λ _. Unit {0} };
+
+    ghost same = { λ word other. other ≡ word };
+
+    fn read_text(_alloc: Global, text: &str) -> Result<Self, ParseError> {
+        WordOf::try_from_str(text)
+    }
+
+    #[tactic(auto, using(crate::proofs::ReadBack::word_back))]
+    fn is_read_back(&self) {
+        is_normal(self);
+    }
+}
+
+impl TextValue for LanguageIdentifier {
+    ghost reads = { λ text r. ReadsAs (pieces text) r };
+
+    ghost reads_back = { λ _. Unit {0} };
+
+    ghost same = { λ id other. identifier_of other ≡ identifier_of id };
+
+    fn read_text(alloc: Global, text: &str) -> Result<Self, ParseError> {
+        LanguageIdentifier::try_from_str(alloc, text)
+    }
+
+    #[tactic(auto, using(crate::proofs::ReadBack::identifier_back))]
+    fn is_read_back(&self) {
+        iloc_langid::values::is_value(self);
+    }
+}
+
+/// A locale reads back where it is well-formed.
+impl TextValue for Locale {
+    ghost reads = { LocaleReadsAs };
+
+    ghost reads_back = { λ locale. IsWellFormed (locale_of locale) };
+
+    ghost same = { λ locale other. locale_of other ≡ locale_of locale };
+
+    fn read_text(alloc: Global, text: &str) -> Result<Self, ParseError> {
+        Locale::try_from_str(alloc, text)
+    }
+
+    #[tactic(auto, using(crate::proofs::ReadBack::locale_back))]
+    fn is_read_back(&self) {
+        iloc_locale::values::is_value(self);
+    }
+}
