@@ -195,6 +195,28 @@ fn locales(alloc: Global, a: &[u8], b: &[u8], out: &mut String) {
     both(one, Locale::try_from_utf8(alloc, b), out)
 }
 
+// What is read without memory.
+trait Plain: Sized {
+    fn read(text: &[u8]) -> Result<Self, ParseError>;
+}
+
+impl Plain for DataLocale {
+    fn read(text: &[u8]) -> Result<Self, ParseError> {
+        DataLocale::try_from_utf8(text)
+    }
+}
+
+impl Plain for SubdivisionId {
+    fn read(text: &[u8]) -> Result<Self, ParseError> {
+        SubdivisionId::try_from_utf8(text)
+    }
+}
+
+fn plains<W: Plain + Compared + PartialEq + Hash + Drop>(a: &[u8], b: &[u8], out: &mut String) {
+    let one = W::read(a);
+    both(one, W::read(b), out)
+}
+
 fn extensions(alloc: Global, a: &[u8], b: &[u8], out: &mut String) {
     let one = Locale::try_from_utf8(alloc, a);
     parts::<Locale, Extensions>(one, Locale::try_from_utf8(alloc, b), out)
@@ -264,16 +286,8 @@ pub fn answer(alloc: Global, what: &str, a: &[u8], b: &[u8], out: &mut String) {
     match what {
         "locale" => locales(alloc, a, b, out),
         "langid" => identifiers(alloc, a, b, out),
-        "data" => both(
-            DataLocale::try_from_utf8(a),
-            DataLocale::try_from_utf8(b),
-            out,
-        ),
-        "subdivision" => both(
-            SubdivisionId::try_from_utf8(a),
-            SubdivisionId::try_from_utf8(b),
-            out,
-        ),
+        "data" => plains::<DataLocale>(a, b, out),
+        "subdivision" => plains::<SubdivisionId>(a, b, out),
         "extensions" => extensions(alloc, a, b, out),
         "unicode" => unicodes(alloc, a, b, out),
         "transform" => transforms(alloc, a, b, out),

@@ -62,7 +62,7 @@ impl Room {
 fn call(alloc: Global, word: &str, a: &[u8], b: &[u8], out: &mut String) {
     match word.split_once('-') {
         Some(("two", what)) => comparing::answer(alloc, what, a, b, out),
-        Some(("steps", what)) => steps::answer(alloc, what, a, b, out),
+        Some(("change", what)) => steps::answer(alloc, what, a, b, out),
         Some(("made", what)) => built::answer(alloc, what, a, b, out),
         Some(("text", what)) => texts::answer(alloc, what, a, out),
         Some((what, asked)) => readers::answer(alloc, what, a, asked, b, out),
