@@ -1,14 +1,6 @@
-//! Tests of locales that no vector asks for: built ones, which no text means; conversions; what a hasher is fed;
-//! what is borrowed; which extensions are kept; and the reader without memory.
-//!
-//! Each answer is that of the Rust crate, or of docs/DEFINITIONS.md. It stands on `iloc_locale`.
+//! Tests of what no row of `locale_rows` can say: the room that a text takes, and parts of different types that print
+//! as one text. It stands on `iloc_locale`, `iloc_transform`, `iloc_other` and `iloc_writeable`.
 #![tactic(auto)]
 
 #[cfg(test)]
-mod built;
-#[cfg(test)]
-mod helpers;
-#[cfg(test)]
-mod small;
-#[cfg(test)]
-mod whole;
+mod tests;
