@@ -70,7 +70,7 @@ impl DictionaryBreakScriptExclusions {
     pub fn to_value(&self, alloc: Global) -> Result<Value, AllocError>
         ensures { IfOk result (λ value. value ≡ scripts_give self.now) }
     {
-        let mut subtags = Vec::new_in(alloc);
+        let mut subtags = Vec::new(alloc);
         for script in self.as_inner() {
             subtags.push(Subtag::from(*script))?;
         }
