@@ -109,6 +109,41 @@ pub mod data {
     pub use iloc_data::DataLocale;
 }
 
+/// What a locale prefers, and the keywords that say so.
+pub mod preferences {
+    pub use iloc_preference_key::PreferenceKey;
+
+    /// Extensions that hold preferences.
+    pub mod extensions {
+        /// The unicode extension.
+        pub mod unicode {
+            /// Why the value of a keyword is refused.
+            pub mod errors {
+                pub use iloc_unicode_value::PreferencesParseError;
+            }
+
+            /// The types of keywords.
+            pub mod keywords {
+                pub use iloc_calendar_keyword::{CalendarAlgorithm, HijriCalendarAlgorithm};
+                pub use iloc_enum_keywords::{
+                    CommonVariantType, CurrencyFormatStyle, FirstDay, HourCycle, MeasurementSystem,
+                    MeasurementUnitOverride,
+                };
+                pub use iloc_struct_keywords::{
+                    DictionaryBreakScriptExclusions, NumberingSystem, RegionOverride,
+                    RegionalSubdivision, TimeZoneShortId,
+                };
+                pub use iloc_subtags::CurrencyType;
+                pub use iloc_text_keywords::{
+                    CollationCaseFirst, CollationNumericOrdering, CollationType,
+                    EmojiPresentationStyle, LineBreakStyle, LineBreakWordHandling,
+                    SentenceBreakSupressions,
+                };
+            }
+        }
+    }
+}
+
 /// JSON strings of texts.
 pub mod json {
     pub use iloc_json::{JsonError, JsonText, TextValue};

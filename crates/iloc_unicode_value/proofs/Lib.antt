@@ -1,3 +1,4 @@
+mod CurrencyLemmas
 mod CutLemmas
 mod PrintLemmas
 mod ReadingLemmas

@@ -1,3 +1,4 @@
 pub mod Equality
 pub mod Reads
+pub mod Refusals
 pub mod Values

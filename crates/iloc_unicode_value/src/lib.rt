@@ -2,15 +2,22 @@
 //! those of UTS #35, section 3.2 (`ufield`): the pieces in lower case, without `true`, which is
 //! what an empty value stands for. Up to four subtags take no memory. It stands on words, short
 //! lists, pieces and printing.
+//!
+//! Why the type of a keyword refuses a value (`PreferencesParseError`), and currencies as values, stand here
+//! too, for the conversions of foreign words into values and back can stand nowhere else.
 #![tactic(auto)]
 
 ghost use Rattle.std.specs.Prelude.{◌≡◌, ◌↔◌, ℕ, List, IsTrue};
 ghost use Rattle.iloc_orders.specs.Orders.{words_cmp};
 
+pub mod currency;
+pub mod errors;
 pub mod printing;
 pub mod reader;
 pub mod value;
 
+pub use currency::subtag_of;
+pub use errors::PreferencesParseError;
 pub use reader::read_value;
 pub use value::Value;
 

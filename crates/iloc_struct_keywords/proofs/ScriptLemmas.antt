@@ -1,0 +1,54 @@
+-- Lists of scripts, read and written one by one.
+use Rattle.std.proofs.Common.{◌≡◌, ℕ, zero, suc, ◌+◌, ◌<◌, ◌≤◌, List, [], ◌∷◌, ◌++◌, length, map, get_or, drop, refl, sym, ap, ◌∙◌, subst, arith, append-nil, append_assoc, Option, Some, None}
+use Rattle.std.proofs.Math.Seq.{drop-cons}
+use Rattle.iloc_grammar.specs.Words.{Script, word, lower}
+use Rattle.iloc_preferences_rules.specs.Keywords.{with_first, scripts_read, scripts_give}
+
+-- the scripts so far, and what the rest reads as
+abbrev pub together : List (List ℕ) → Option (List (List ℕ)) → Option (List (List ℕ))
+together ss None = None
+together ss (Some rs) = Some (ss ++ rs)
+
+pub none_before : (o : Option (List (List ℕ))) → together [] o ≡ o
+none_before None = refl
+none_before (Some rs) = refl
+
+one_more : (ss : List (List ℕ)) (s : List ℕ) (o : Option (List (List ℕ))) → together ss (with_first (Some s) o) ≡ together (ss ++ s ∷ []) o
+one_more ss s None = refl
+one_more ss s (Some rs) = ap Some (sym (append_assoc ss (s ∷ []) rs))
+
+-- the item at a place, and those after it
+at : (ws : List (List ℕ)) (i : ℕ) (w : List ℕ) → i < length ws → w ≡ get_or ws i w → drop i ws ≡ w ∷ drop (i + 1) ws
+at ws i w lt is = drop-cons ws i w lt ∙ (λ j. sym is j ∷ drop (next j) ws)
+  where
+    next : suc i ≡ i + 1
+    next = omega arith
+
+pub takes_script : (ws ss : List (List ℕ)) (i : ℕ) (w s : List ℕ) → i < length ws → w ≡ get_or ws i w → word Script w ≡ Some s → together ss (scripts_read (drop i ws)) ≡ scripts_read ws → together (ss ++ s ∷ []) (scripts_read (drop (i + 1) ws)) ≡ scripts_read ws
+takes_script ws ss i w s lt is read h =
+    sym (one_more ss s (scripts_read (drop (i + 1) ws)))
+    ∙ ap (λ o. together ss (with_first o (scripts_read (drop (i + 1) ws)))) (sym read)
+    ∙ ap (λ xs. together ss (scripts_read xs)) (sym (at ws i w lt is))
+    ∙ h
+
+pub refuses_word : (ws ss : List (List ℕ)) (i : ℕ) (w : List ℕ) → i < length ws → w ≡ get_or ws i w → word Script w ≡ None → together ss (scripts_read (drop i ws)) ≡ scripts_read ws → scripts_read ws ≡ None
+refuses_word ws ss i w lt is read h =
+    sym (ap (λ o. together ss (with_first o (scripts_read (drop (i + 1) ws)))) (sym read)
+    ∙ ap (λ xs. together ss (scripts_read xs)) (sym (at ws i w lt is))
+    ∙ h)
+
+past : (ws : List (List ℕ)) (i : ℕ) → length ws ≤ i → drop i ws ≡ []
+past [] i h = elim i as (λ i. drop i [] ≡ []) [ zero ↦ refl | suc i ↦ refl ]
+past (w ∷ ws) zero h = absurd (omega (arith, h))
+past (w ∷ ws) (suc i) h = past ws i (omega (arith, h))
+
+pub ends : (ws ss : List (List ℕ)) (i : ℕ) → length ws ≤ i → together ss (scripts_read (drop i ws)) ≡ scripts_read ws → scripts_read ws ≡ Some ss
+ends ws ss i h so = sym so ∙ ap (λ xs. together ss (scripts_read xs)) (past ws i h) ∙ ap Some (append-nil ss)
+
+-- writing
+
+pub gives_one : (ws vs : List (List ℕ)) (i : ℕ) (w : List ℕ) → i < length ws → w ≡ get_or ws i w → vs ++ scripts_give (drop i ws) ≡ scripts_give ws → (vs ++ lower w ∷ []) ++ scripts_give (drop (i + 1) ws) ≡ scripts_give ws
+gives_one ws vs i w lt is h = append_assoc vs (lower w ∷ []) (scripts_give (drop (i + 1) ws)) ∙ ap (λ xs. vs ++ scripts_give xs) (sym (at ws i w lt is)) ∙ h
+
+pub gives_all : (ws vs : List (List ℕ)) (i : ℕ) → length ws ≤ i → vs ++ scripts_give (drop i ws) ≡ scripts_give ws → vs ≡ scripts_give ws
+gives_all ws vs i h so = sym (append-nil vs) ∙ ap (λ xs. vs ++ scripts_give xs) (sym (past ws i h)) ∙ so

@@ -1,0 +1,114 @@
+//! What is told of a keyword. Only the generic functions here own one.
+use iloc_calendar_keyword::CalendarAlgorithm;
+use iloc_preference_key::{EnumKeyword, PreferenceKey, PreferencesParseError};
+use iloc_struct_keywords::{
+    DictionaryBreakScriptExclusions, SubdivisionKeyword, SubdivisionKeywordKind, SubtagKeyword,
+    SubtagKeywordKind,
+};
+use iloc_subtags::{CurrencyType, UnicodeKey};
+use iloc_unicode_value::Value;
+use row_page::{put, refused, say};
+use std::alloc::Global;
+use std::fmt::Write;
+
+/// What a row asks of a keyword.
+pub struct Asked<'a> {
+    pub alloc: Global,
+    pub value: &'a Value,
+    pub key: UnicodeKey,
+}
+
+/// A keyword that has a text.
+pub trait Shown: PreferenceKey {
+    /// Says its text.
+    fn show(&self, out: &mut String);
+}
+
+impl<E: EnumKeyword> Shown for E {
+    fn show(&self, out: &mut String) {
+        say(out, self.word())
+    }
+}
+
+impl Shown for CalendarAlgorithm {
+    fn show(&self, out: &mut String) {
+        say(out, self.as_str())
+    }
+}
+
+impl Shown for CurrencyType {
+    fn show(&self, out: &mut String) {
+        put(out, &self.iso_code())
+    }
+}
+
+impl<K: SubtagKeywordKind> Shown for SubtagKeyword<K> {
+    fn show(&self, out: &mut String) {
+        put(out, self.as_inner())
+    }
+}
+
+impl<K: SubdivisionKeywordKind> Shown for SubdivisionKeyword<K> {
+    fn show(&self, out: &mut String) {
+        put(out, self.as_inner())
+    }
+}
+
+impl Shown for DictionaryBreakScriptExclusions {
+    fn show(&self, out: &mut String) {
+        for script in self.as_inner() {
+            put(out, script);
+            say(out, " ");
+        }
+    }
+}
+
+/// Says the words of the refusal, and what it prints.
+pub fn refuse_keyword(out: &mut String, error: &PreferencesParseError) {
+    say(out, "! ");
+    say(out, error.words());
+    say(out, " | ");
+    let _ = write!(out, "{error}");
+}
+
+/// Says the text of the default.
+pub fn default_of<T: Shown + Default + Drop>(out: &mut String) {
+    let keyword = T::default();
+    keyword.show(out)
+}
+
+/// Says the text of the keyword, its value, and what is read under the other key; or why it was refused.
+pub fn told<T: Shown + Drop>(
+    read: Result<T, PreferencesParseError>,
+    asked: &Asked<'_>,
+    out: &mut String,
+) {
+    match read {
+        Ok(keyword) => {
+            keyword.show(out);
+            say(out, " | ");
+            turned(&keyword, asked.alloc, out);
+            say(out, " | ");
+            keyed::<T>(asked, out)
+        }
+        Err(error) => refuse_keyword(out, &error),
+    }
+}
+
+// Says the value that the keyword is turned into.
+fn turned<T: Shown>(keyword: &T, alloc: Global, out: &mut String) {
+    match keyword.unicode_extension_value(alloc) {
+        Ok(Some(value)) => put(out, &value),
+        Ok(None) => say(out, "none"),
+        Err(_) => refused(out),
+    }
+}
+
+// Says what is read of the value under the other key.
+fn keyed<T: Shown + Drop>(asked: &Asked<'_>, out: &mut String) {
+    match T::try_from_key_value(asked.alloc, &asked.key, asked.value) {
+        Ok(Some(keyword)) => keyword.show(out),
+        Ok(None) => say(out, "none"),
+        Err(error) => refuse_keyword(out, &error),
+    }
+}
