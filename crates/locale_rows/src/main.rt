@@ -1,5 +1,7 @@
 //! Rows of the calls of identifiers, extensions, locales and data locales: `CALL TAB argument TAB argument` in, a line
-//! out. The first word of a call is the type that the first argument is read as, the second what is asked of it.
+//! out. The first word of a call is the type that the first argument is read as, the second what is asked of it:
+//! `locale-cmp`. `two-TYPE` reads both arguments and compares them, `change-TYPE` takes the steps of the second argument
+//! on the first, `made-TYPE` makes a value of parts and asks the second of it, and `text-CALL` is a call of a text.
 //!
 //! In an argument `\xFF` stands for the byte, and braces for what repeats (`argument`); all else is as it looks. An
 //! answer is the printed text, or what each call says. A refusal is `! ` and its words. Calls that change a value, and
