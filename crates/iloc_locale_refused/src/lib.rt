@@ -13,8 +13,6 @@ mod locale;
 #[cfg(test)]
 mod maps;
 #[cfg(test)]
-mod printing;
-#[cfg(test)]
 mod rows;
 #[cfg(test)]
 mod unicode;
