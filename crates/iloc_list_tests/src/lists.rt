@@ -22,7 +22,10 @@ fn without_the_second(alloc: Global) -> Result<(ShortBoxSlice<String>, String), 
 fn a_list_of_texts(rt: HostRuntime) -> Result<(), Fail> {
     let (list, second) = without_the_second(rt.alloc())?;
     assert_eq!(rt; second.as_str(), "cd");
-    assert_eq!(rt; format!(in rt.alloc(); "{list:?}")?.as_str(), "[\"ab\", \"ef\"]");
+    assert_eq!(rt;
+        format!(in rt.alloc(); "{list:?}")?.as_str(),
+        "[\"ab\", \"ef\"]"
+    );
     Ok(())
 }
 

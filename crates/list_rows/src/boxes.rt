@@ -26,7 +26,14 @@ fn made(alloc: Global, step: &Step<'_>) -> Result<ShortBoxSlice<u8>, AllocError>
 
 /// Says what the list lends: whether it is empty, its only letter, the first, each of seven places, and all in turn.
 fn tell(list: &ShortBoxSlice<u8>, out: &mut String) {
-    say(out, if list.is_empty() { "empty only " } else { "only " });
+    say(
+        out,
+        if list.is_empty() {
+            "empty only "
+        } else {
+            "only "
+        },
+    );
     say_letter(list.single().copied(), out);
     say(out, " first ");
     say_letter(list.first().copied(), out);

@@ -72,7 +72,14 @@ fn extend_from_map<S: Store<u8, u8>>(
 
 /// Says whether the map is empty, and its pairs in turn.
 fn tell<S: Store<u8, u8>>(map: &LiteMap<u8, u8, S>, out: &mut String) {
-    say(out, if map.is_empty() { "empty lent " } else { "lent " });
+    say(
+        out,
+        if map.is_empty() {
+            "empty lent "
+        } else {
+            "lent "
+        },
+    );
     for (key, value) in map.iter() {
         bytes(out, &[*key, *value]);
     }
@@ -102,12 +109,7 @@ fn compared<S: Store<u8, u8>>(
 }
 
 /// Writes a value over that of the key, where there is one, and says whether there is.
-fn write<S: Store<u8, u8>>(
-    map: &mut LiteMap<u8, u8, S>,
-    key: u8,
-    value: u8,
-    out: &mut String,
-) {
+fn write<S: Store<u8, u8>>(map: &mut LiteMap<u8, u8, S>, key: u8, value: u8, out: &mut String) {
     match map.get_mut(&key) {
         Some(place) => {
             *place = value;

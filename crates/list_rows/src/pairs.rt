@@ -1,15 +1,14 @@
 //! Two values of one type: their order, whether they are equal, and whether their hashes are.
+use crate::boxes::boxes_of;
+use crate::few::few_of;
+use crate::maps::{Long, Short, map_of};
+use crate::sets::set_of;
 use iloc_shortvec::{ShortBoxSlice, ShortWords};
 use iloc_subtags::ParseError;
 use iloc_tinystr::TinyAsciiStr;
 use row_page::{order, refuse, refused, say, truth};
 use std::alloc::{AllocError, Global};
 use std::hash::{DefaultHasher, Hash, Hasher};
-
-use crate::boxes::boxes_of;
-use crate::few::few_of;
-use crate::maps::{Long, Short, map_of};
-use crate::sets::set_of;
 
 /// What the value feeds a hasher.
 pub fn hash_of<T: Hash>(value: &T) -> u64 {

@@ -20,7 +20,10 @@ fn hint(hint: LengthHint, out: &mut String) {
 fn hint_of(text: &[u8]) -> LengthHint {
     let text = str::from_utf8(text).unwrap_or("");
     let (least, most) = text.split_once("..").unwrap_or((text, text));
-    LengthHint(least.parse::<usize>().unwrap_or(0), most.parse::<usize>().ok())
+    LengthHint(
+        least.parse::<usize>().unwrap_or(0),
+        most.parse::<usize>().ok(),
+    )
 }
 
 /// Says the sum of bounds, and that of bounds and a length, each made in two ways.

@@ -60,7 +60,14 @@ fn say_word(word: Option<&Variant>, out: &mut String) {
 
 /// Says what the set lends: whether it is empty, its first word, each of seven places, all in turn, and its text.
 fn tell(set: &Variants, out: &mut String) {
-    say(out, if set.is_empty() { "empty first " } else { "first " });
+    say(
+        out,
+        if set.is_empty() {
+            "empty first "
+        } else {
+            "first "
+        },
+    );
     say_word(set.first(), out);
     for index in 0..7 {
         say(out, " ");

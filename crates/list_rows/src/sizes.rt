@@ -311,12 +311,7 @@ fn search<S: Store<u16, u16>>(
 }
 
 /// Says the length and the room of the set's text, as one that is borrowed nowhere, or against other bytes.
-fn printed(
-    alloc: Global,
-    made: Result<Variants, AllocError>,
-    bytes: &[u8],
-    out: &mut String,
-) {
+fn printed(alloc: Global, made: Result<Variants, AllocError>, bytes: &[u8], out: &mut String) {
     let Ok(set) = made else {
         return refused(out);
     };

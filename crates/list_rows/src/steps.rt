@@ -1,9 +1,8 @@
 //! Steps on a value: `call.first.second` with blanks between. Each type that steps change has a file of its own.
+use crate::pairs::is_same;
 use row_page::{bytes, refused, say};
 use std::alloc::{AllocError, Global};
 use std::hash::Hash;
-
-use crate::pairs::is_same;
 
 /// A step: what is called, and with what.
 #[derive(Clone, Copy)]
@@ -99,7 +98,14 @@ pub fn compared<T: Ord + Hash + Drop>(
     out: &mut String,
 ) -> bool {
     match made {
-        Ok(made) => answered(if is_same(value, &made) { "same" } else { "other" }, out),
+        Ok(made) => answered(
+            if is_same(value, &made) {
+                "same"
+            } else {
+                "other"
+            },
+            out,
+        ),
         Err(_) => false,
     }
 }

@@ -19,9 +19,21 @@ fn classes<const N: usize>(text: &TinyAsciiStr<N>, out: &mut String) {
     class(text.is_ascii_alphanumeric(), "alphanumeric", out);
     class(text.is_ascii_numeric(), "numeric", out);
     class(text.is_ascii_lowercase(), "lowercase", out);
-    class(text.is_ascii_alphabetic_lowercase(), "alphabetic_lowercase", out);
-    class(text.is_ascii_alphabetic_uppercase(), "alphabetic_uppercase", out);
-    class(text.is_ascii_alphabetic_titlecase(), "alphabetic_titlecase", out);
+    class(
+        text.is_ascii_alphabetic_lowercase(),
+        "alphabetic_lowercase",
+        out,
+    );
+    class(
+        text.is_ascii_alphabetic_uppercase(),
+        "alphabetic_uppercase",
+        out,
+    );
+    class(
+        text.is_ascii_alphabetic_titlecase(),
+        "alphabetic_titlecase",
+        out,
+    );
 }
 
 /// Says the text, its length, its raw form, and the text in lower, upper and title case, and quoted, then its classes.

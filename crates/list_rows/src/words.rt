@@ -1,9 +1,9 @@
 //! Words of any kind: `word-KIND` reads a text, `raw-KIND` a raw form, and the others make the calls of a word.
 use crate::pairs;
 use iloc_subtags::{
-    AttributeKind, CurrencyTypeKind, LanguageKind, PrivateSubtagKind, RegionKind,
-    ScriptKind, SubdivisionSuffixKind, SubtagKind, TransformKeyKind, UnicodeKeyKind, VariantKind,
-    Word, WordKind, WordOf, is_normal,
+    AttributeKind, CurrencyTypeKind, LanguageKind, PrivateSubtagKind, RegionKind, ScriptKind,
+    SubdivisionSuffixKind, SubtagKind, TransformKeyKind, UnicodeKeyKind, VariantKind, Word,
+    WordKind, WordOf, is_normal,
 };
 use iloc_tinystr::TinyAsciiStr;
 use iloc_writeable::Writeable;
