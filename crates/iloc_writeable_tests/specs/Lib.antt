@@ -1,2 +1,0 @@
-pub mod FailingSink
-pub mod Names
