@@ -2,6 +2,7 @@
 ghost use Rattle.std.specs.Prelude.{◌≡◌, ◌↔◌, IsTrue, true, MatchResult, codes, option_map, Some, None};
 ghost use Rattle.iloc_regions.specs.DataLocales as parts;
 ghost use Rattle.iloc_regions.specs.DataLocales.{named_subdivision, small_part, subdivision_keyword, subdivision_value};
+ghost use Rattle.iloc_preferences_rules.specs.Preferences.{preferred_region, same_region};
 ghost use Rattle.iloc_subdivision.specs.Reads.{value_of as subdivision_of};
 ghost use Rattle.iloc_data.specs.DataValue.{value_of};
 
@@ -29,6 +30,14 @@ pub(crate) fn whole_region(region: Region) -> SubdivisionId
     SubdivisionId::new(region, whole())
 }
 
+/// Whether it is the whole of its region.
+#[tactic(auto, using(crate::proofs::RegionLemmas::words_tie))]
+pub(crate) fn is_whole(id: &SubdivisionId) -> bool
+    ensures { result ≡ parts.is_whole (subdivision_of id.now) }
+{
+    id.suffix.as_str() == "zzzz"
+}
+
 /// The subdivision that the word names.
 pub(crate) fn named(word: &Subtag) -> Option<SubdivisionId>
     ensures { option_map subdivision_of result ≡ named_subdivision word.now }
@@ -48,6 +57,32 @@ pub(crate) fn agreed(region: Option<Region>, id: SubdivisionId) -> SubdivisionId
         return id;
     }
     whole_region(region)
+}
+
+/// The given region with the suffix of the subdivision where that is of it, and else as a whole; the subdivision
+/// where no region is given.
+#[tactic(auto, using(crate::proofs::RegionLemmas::agreed_is_preferred))]
+pub(crate) fn preferred(
+    region: Option<Region>,
+    id: Option<SubdivisionId>,
+) -> Option<SubdivisionId>
+    ensures { option_map subdivision_of result ≡ preferred_region region (option_map subdivision_of id) }
+{
+    match id {
+        Some(id) => Some(agreed(region, id)),
+        None => region.map(whole_region),
+    }
+}
+
+/// Whether the subdivision is of the region, where both are there.
+#[tactic(auto, using(crate::proofs::RegionLemmas::words_tie))]
+pub(crate) fn same_region(region: Option<Region>, id: Option<SubdivisionId>) -> bool
+    ensures { result ≡ same_region region (option_map subdivision_of id) }
+{
+    match (region, id) {
+        (Some(region), Some(id)) => region == id.region,
+        _ => true,
+    }
 }
 
 /// The region part that a region and a keyword name. No keyword but `sd` with a readable subdivision is taken;
@@ -89,8 +124,7 @@ impl DataLocale {
         ensures { result ≡ option_map subdivision_value (subdivision_keyword (value_of self.now)) }
     {
         let word = self.subdivision?;
-        let id = named(&word)?;
-        if id.suffix.as_str() == "zzzz" {
+        if is_whole(&named(&word)?) {
             return None;
         }
         is_normal(&word);
