@@ -15,6 +15,8 @@
 //!   definitions, for every value, also for one that was built and that no text means.
 //! - A data locale is read without memory, exactly where the definition says so; data locales are equal where they
 //!   stand for the same.
+//! - Preferences of a locale are read, extended by others and turned into data locales and a locale as the definitions
+//!   say; the data locale of a locale is that of its preferences.
 //! - Want of memory is an answer, never an end of the program. Words take none, and short texts fit in place.
 //!
 //! A first example:
@@ -26,7 +28,7 @@
 //! locale == Locale::try_from_str(alloc, "en-GB-u-ca-buddhist")?; // true
 //! ```
 //!
-//! Not here yet: `preferences`, `json` and `bench`.
+//! Not here yet: types of keywords under `preferences::extensions`, and `json`.
 //! In the Rust crate some of these modules are private, and `tinystr`, `writeable` and `litemap` are crates.
 #![tactic(auto)]
 
@@ -107,6 +109,16 @@ pub mod locale {
 /// Data locales: the parts of a locale by which data is looked up.
 pub mod data {
     pub use iloc_data::DataLocale;
+}
+
+/// Preferences: what a locale says of language, script, region and variant.
+pub mod preferences {
+    pub use iloc_data::LocalePreferences;
+}
+
+/// Preferences of formatters, as users define them.
+pub mod bench {
+    pub use iloc_bench::{FormatPreferences, TimePreferences};
 }
 
 /// The library of the program `locale_normal`.

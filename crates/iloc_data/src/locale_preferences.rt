@@ -6,9 +6,10 @@ ghost use Rattle.iloc_data.specs.DataValue.{value_of as data_of};
 
 use crate::data_locale::DataLocale;
 use crate::region_keywords::{id_of, keyword};
-use crate::region_part::{is_whole, preferred, same_region, whole_region};
+use crate::region_part::{is_whole, preferred, whole_region};
 use iloc_langid::LanguageIdentifier;
 use iloc_locale::Locale;
+use iloc_struct_keywords::subdivision_keyword::RegionalSubdivisionKind;
 use iloc_struct_keywords::{RegionOverride, RegionalSubdivision, keyword_of};
 use iloc_subtags::{Language, Region, Script, Variant};
 use std::marker::Model;
@@ -53,18 +54,17 @@ impl LocalePreferences {
         ensures value { MatchResult result (λ p. p ≡ preferences (locale_value loc.now)) (λ p. p ≡ preferences (locale_value loc.now)) }
         ensures strict { MatchResult result (λ _. is_strict (locale_value loc.now) ≡ true) (λ _. is_strict (locale_value loc.now) ≡ false) }
     {
-        let (subdivision, is_subdivision_readable) = keyword(loc);
+        let (subdivision, is_subdivision_readable) = keyword::<RegionalSubdivisionKind>(loc);
         let (region_override, is_override_readable) = keyword(loc);
-        let id = id_of(subdivision);
+        let (region, agrees) = preferred(loc.id.region, id_of(subdivision));
         let preferences = LocalePreferences {
             language: loc.id.language,
             script: loc.id.script,
-            region: preferred(loc.id.region, id).map(keyword_of),
+            region: region.map(keyword_of),
             variant: loc.id.variants.first().copied(),
             region_override,
         };
-        let is_same = same_region(loc.id.region, id);
-        if is_subdivision_readable && is_override_readable && is_same {
+        if is_subdivision_readable && is_override_readable && agrees {
             Ok(preferences)
         } else {
             Err(preferences)

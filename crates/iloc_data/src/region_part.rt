@@ -45,44 +45,36 @@ pub(crate) fn named(word: &Subtag) -> Option<SubdivisionId>
     SubdivisionId::try_from_str(word.as_str()).ok()
 }
 
-/// The given region where it differs from the subdivision's, else the subdivision.
+/// The given region where it differs from the subdivision's, else the subdivision; and whether the two agree.
 #[tactic(auto, using(crate::proofs::RegionLemmas::words_tie))]
-pub(crate) fn agreed(region: Option<Region>, id: SubdivisionId) -> SubdivisionId
-    ensures { subdivision_of result ≡ parts.agreed region (subdivision_of id) }
+pub(crate) fn agreed(region: Option<Region>, id: SubdivisionId) -> (SubdivisionId, bool)
+    ensures part { subdivision_of result.0 ≡ parts.agreed region (subdivision_of id) }
+    ensures agrees { result.1 ≡ same_region region (Some (subdivision_of id)) }
 {
     let Some(region) = region else {
-        return id;
+        return (id, true);
     };
     if region == id.region {
-        return id;
+        return (id, true);
     }
-    whole_region(region)
+    (whole_region(region), false)
 }
 
 /// The given region with the suffix of the subdivision where that is of it, and else as a whole; the subdivision
-/// where no region is given.
+/// where no region is given. And whether the two agree, where both are there.
 #[tactic(auto, using(crate::proofs::RegionLemmas::agreed_is_preferred))]
 pub(crate) fn preferred(
     region: Option<Region>,
     id: Option<SubdivisionId>,
-) -> Option<SubdivisionId>
-    ensures { option_map subdivision_of result ≡ preferred_region region (option_map subdivision_of id) }
+) -> (Option<SubdivisionId>, bool)
+    ensures part { option_map subdivision_of result.0 ≡ preferred_region region (option_map subdivision_of id) }
+    ensures agrees { result.1 ≡ same_region region (option_map subdivision_of id) }
 {
-    match id {
-        Some(id) => Some(agreed(region, id)),
-        None => region.map(whole_region),
-    }
-}
-
-/// Whether the subdivision is of the region, where both are there.
-#[tactic(auto, using(crate::proofs::RegionLemmas::words_tie))]
-pub(crate) fn same_region(region: Option<Region>, id: Option<SubdivisionId>) -> bool
-    ensures { result ≡ same_region region (option_map subdivision_of id) }
-{
-    match (region, id) {
-        (Some(region), Some(id)) => region == id.region,
-        _ => true,
-    }
+    let Some(id) = id else {
+        return (region.map(whole_region), true);
+    };
+    let (part, agrees) = agreed(region, id);
+    (Some(part), agrees)
 }
 
 /// The region part that a region and a keyword name. No keyword but `sd` with a readable subdivision is taken;
@@ -101,7 +93,7 @@ pub(crate) fn part_of(
         return Err(ParseError::InvalidExtension);
     }
     match value.as_ref().and_then(named) {
-        Some(id) => Ok(Some(agreed(region, id))),
+        Some(id) => Ok(Some(agreed(region, id).0)),
         None => Err(ParseError::InvalidExtension),
     }
 }

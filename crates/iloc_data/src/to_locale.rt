@@ -36,7 +36,10 @@ impl LocalePreferences {
             override_value(self.region_override),
             subdivision_value(self.region),
         )?;
-        Ok(self.to_data_locale_language_priority().with_keywords(alloc, keywords))
+        Ok(
+            self.to_data_locale_language_priority()
+                .with_keywords(alloc, keywords),
+        )
     }
 }
 
