@@ -15,6 +15,8 @@
 //!   definitions, for every value, also for one that was built and that no text means.
 //! - A data locale is read without memory, exactly where the definition says so; data locales are equal where they
 //!   stand for the same.
+//! - Preferences of a locale are read, extended by others and turned into data locales and a locale as the definitions
+//!   say; the data locale of a locale is that of its preferences.
 //! - Want of memory is an answer, never an end of the program. Words take none, and short texts fit in place.
 //!
 //! A first example:
@@ -26,7 +28,6 @@
 //! locale == Locale::try_from_str(alloc, "en-GB-u-ca-buddhist")?; // true
 //! ```
 //!
-//! Not here yet: `preferences`, and of `bench` the preferences of formatters.
 //! In the Rust crate some of these modules are private, and `tinystr`, `writeable` and `litemap` are crates.
 #![tactic(auto)]
 
@@ -111,6 +112,7 @@ pub mod data {
 
 /// What a locale prefers, and the keywords that say so.
 pub mod preferences {
+    pub use iloc_data::LocalePreferences;
     pub use iloc_preference_key::PreferenceKey;
 
     /// Extensions that hold preferences.
@@ -149,8 +151,9 @@ pub mod json {
     pub use iloc_json::{JsonError, JsonText, TextValue};
 }
 
-/// Old raw forms of languages, moved to the new ones.
+/// Preferences of formatters, as users define them, and old raw forms of languages, moved to the new ones.
 pub mod bench {
+    pub use iloc_bench::{FormatPreferences, TimePreferences};
     pub use iloc_carry::{CarryError, carry_v1};
 }
 

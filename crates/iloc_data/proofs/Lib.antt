@@ -1,3 +1,4 @@
 mod RegionLemmas
 mod EqualityLemmas
 mod ReadLemmas
+pub mod KeywordLemmas

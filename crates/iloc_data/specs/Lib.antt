@@ -1,3 +1,4 @@
 pub mod DataValue
 pub mod DataEquality
 pub mod Reads
+pub mod WithKeywords

@@ -1,39 +1,28 @@
 //! Data locales from identifiers and parts, and locales from data locales.
-ghost use Rattle.std.specs.Prelude.{◌≡◌, ℕ, List, option_map};
+ghost use Rattle.std.specs.Prelude.{◌≡◌, ℕ, List};
 ghost use Rattle.iloc_grammar.specs.Words.{languages};
 ghost use Rattle.iloc_grammar.specs.Meaning as meaning;
 ghost use Rattle.iloc_grammar.specs.Values.{IsValue, IsWellFormed, text};
 ghost use Rattle.iloc_locale.specs.LocaleValue.{value_of as locale_value};
-ghost use Rattle.iloc_regions.specs.DataLocales.{data_text, locale_of_data, sd};
-ghost use Rattle.iloc_preferences_rules.specs.Keywords.{subdivision_reads};
-ghost use Rattle.iloc_preferences_rules.specs.Preferences.{preferred_region, read_keyword};
-ghost use Rattle.iloc_subdivision.specs.Reads.{value_of as subdivision_of};
+ghost use Rattle.iloc_regions.specs.DataLocales.{data_text, locale_of_data};
 
 use crate::data_locale::DataLocale;
-use crate::region_part::{agreed, named, whole_region};
+use crate::locale_preferences::LocalePreferences;
+use crate::region_part::whole_region;
 use crate::values::is_data_locale;
 use iloc_extensions::Extensions;
 use iloc_langid::LanguageIdentifier;
 use iloc_locale::Locale;
-use iloc_subdivision::SubdivisionId;
-use iloc_subtags::{Language, Region, Script, UnicodeKey};
+use iloc_struct_keywords::SubdivisionKeywordKind;
+use iloc_struct_keywords::subdivision_keyword::RegionalSubdivisionKind;
+use iloc_subtags::{Language, Region, Script};
 use iloc_unicode::{Attributes, Keywords, Unicode};
 use iloc_word_set::Variants;
 use std::alloc::Global;
 
-// The key of subdivisions.
-#[tactic(auto, unfolding(iloc_grammar::specs::Words::is_word, iloc_grammar::specs::Words::lower))]
-fn subdivision_key() -> UnicodeKey
-    ensures { result ≡ sd }
-{
-    match UnicodeKey::try_from_utf8(b"sd") {
-        Ok(key) => key,
-        Err(_) => unreachable!(),
-    }
-}
-
 impl DataLocale {
     ghost use Rattle.iloc_data.specs.DataValue.{value_of};
+    ghost use Rattle.iloc_data.specs.WithKeywords.{with_keywords};
 
     /// The locale of the same parts: the one well-formed locale that prints the same text. It takes no memory.
     pub fn into_locale(self, alloc: Global) -> Locale
@@ -50,13 +39,20 @@ impl DataLocale {
     fn as_locale(&self, alloc: Global) -> Locale
         ensures { locale_value result ≡ locale_of_data (value_of self.now) }
     {
+        let keywords = match self.subdivision_value() {
+            Some(value) => Keywords::new_single(RegionalSubdivisionKind::key(), value),
+            None => Keywords::new(),
+        };
+        self.with_keywords(alloc, keywords)
+    }
+
+    /// The locale of the identifier's parts and these keywords.
+    pub(crate) fn with_keywords(&self, alloc: Global, keywords: Keywords) -> Locale
+        ensures { locale_value result ≡ with_keywords (value_of self.now) keywords }
+    {
         let variants = match self.variant {
             Some(variant) => Variants::from_variant(variant),
             None => Variants::new(),
-        };
-        let keywords = match self.subdivision_value() {
-            Some(value) => Keywords::new_single(subdivision_key(), value),
-            None => Keywords::new(),
         };
         let unicode = Unicode {
             keywords,
@@ -74,28 +70,8 @@ impl DataLocale {
     }
 }
 
-// The subdivision that the keyword `sd` names, where it is there and readable.
-fn keyword_subdivision(locale: &Locale) -> Option<SubdivisionId>
-    ensures { option_map subdivision_of result ≡ read_keyword subdivision_reads sd (locale_value locale.now) }
-{
-    let value = locale.extensions.unicode.keywords.get(&subdivision_key())?;
-    named(value.as_single_subtag()?)
-}
-
-// The given region with the suffix of the subdivision where that is of it, and else as a whole; the subdivision
-// where no region is given.
-#[tactic(auto, using(crate::proofs::RegionLemmas::agreed_is_preferred))]
-fn preferred(region: Option<Region>, id: Option<SubdivisionId>) -> Option<SubdivisionId>
-    ensures { option_map subdivision_of result ≡ preferred_region region (option_map subdivision_of id) }
-{
-    match id {
-        Some(id) => Some(agreed(region, id)),
-        None => region.map(whole_region),
-    }
-}
-
-/// The data locale of its preferences, language first: its parts with the first variant, and of its region the
-/// subdivision that `sd` names, where that is readable and of this region. Without a region, `sd` names both.
+/// That of its preferences, language first: its parts with the first variant, and of its region the subdivision
+/// that `sd` names, where that is readable and of this region. Without a region, `sd` names both.
 impl From<&Locale> for DataLocale {
     ghost use Rattle.std.specs.Prelude.{◌≡◌};
     ghost use Rattle.iloc_locale.specs.LocaleValue.{value_of as locale_value};
@@ -105,9 +81,7 @@ impl From<&Locale> for DataLocale {
     ghost from_gives = { λ locale d. value_of d ≡ language_priority (preferences (locale_value locale.now)) };
 
     fn from(locale: &Locale) -> Self {
-        let id = &locale.id;
-        let part = preferred(id.region, keyword_subdivision(locale));
-        DataLocale::made_of(id.language, id.script, part, id.variants.first().copied())
+        LocalePreferences::from(locale).to_data_locale_language_priority()
     }
 }
 

@@ -1,4 +1,4 @@
-//! Data locales: the few parts of a locale by which data is looked up.
+//! Data locales, the few parts of a locale by which data is looked up, and the preferences that they are made of.
 //!
 //! A data locale has a language, and perhaps a script, a region, a variant and a subdivision of the region. It is
 //! read without memory from the small texts whose keyword, if there is one, is `sd` (UTS #35 section 3.6.5), and
@@ -7,15 +7,23 @@
 //! hash alike where they stand for the same: a subdivision that is readable counts before the region, and a region
 //! alone is the whole of it.
 //!
-//! It stands on the reader of small locales (`iloc_small_reader`), on subdivisions (`iloc_subdivision`) and on
-//! identifiers and locales (`iloc_langid`, `iloc_locale`).
+//! Preferences are what a locale says of the same parts, with the region that `rg` puts in the place of its own. They
+//! are those of the definitions of `iloc_preferences_rules`: read of a locale, extended by others, and turned into a
+//! locale and into data locales. The data locale of a locale is that of its preferences, language first.
+//!
+//! It stands on the reader of small locales (`iloc_small_reader`), on subdivisions (`iloc_subdivision`) and their
+//! keywords (`iloc_struct_keywords`), and on identifiers and locales (`iloc_langid`, `iloc_locale`).
 #![tactic(auto)]
 
 pub mod comparing;
 pub mod conversions;
 pub mod data_locale;
+pub mod locale_preferences;
 pub mod printing;
+mod region_keywords;
 mod region_part;
+pub mod to_locale;
 pub mod values;
 
 pub use data_locale::DataLocale;
+pub use locale_preferences::LocalePreferences;

@@ -2,6 +2,7 @@
 ghost use Rattle.std.specs.Prelude.{◌≡◌, ◌↔◌, IsTrue, true, MatchResult, codes, option_map, Some, None};
 ghost use Rattle.iloc_regions.specs.DataLocales as parts;
 ghost use Rattle.iloc_regions.specs.DataLocales.{named_subdivision, small_part, subdivision_keyword, subdivision_value};
+ghost use Rattle.iloc_preferences_rules.specs.Preferences.{preferred_region, same_region};
 ghost use Rattle.iloc_subdivision.specs.Reads.{value_of as subdivision_of};
 ghost use Rattle.iloc_data.specs.DataValue.{value_of};
 
@@ -29,6 +30,14 @@ pub(crate) fn whole_region(region: Region) -> SubdivisionId
     SubdivisionId::new(region, whole())
 }
 
+/// Whether it is the whole of its region.
+#[tactic(auto, using(crate::proofs::RegionLemmas::words_tie))]
+pub(crate) fn is_whole(id: &SubdivisionId) -> bool
+    ensures { result ≡ parts.is_whole (subdivision_of id.now) }
+{
+    id.suffix.as_str() == "zzzz"
+}
+
 /// The subdivision that the word names.
 pub(crate) fn named(word: &Subtag) -> Option<SubdivisionId>
     ensures { option_map subdivision_of result ≡ named_subdivision word.now }
@@ -36,18 +45,36 @@ pub(crate) fn named(word: &Subtag) -> Option<SubdivisionId>
     SubdivisionId::try_from_str(word.as_str()).ok()
 }
 
-/// The given region where it differs from the subdivision's, else the subdivision.
+/// The given region where it differs from the subdivision's, else the subdivision; and whether the two agree.
 #[tactic(auto, using(crate::proofs::RegionLemmas::words_tie))]
-pub(crate) fn agreed(region: Option<Region>, id: SubdivisionId) -> SubdivisionId
-    ensures { subdivision_of result ≡ parts.agreed region (subdivision_of id) }
+pub(crate) fn agreed(region: Option<Region>, id: SubdivisionId) -> (SubdivisionId, bool)
+    ensures part { subdivision_of result.0 ≡ parts.agreed region (subdivision_of id) }
+    ensures agrees { result.1 ≡ same_region region (Some (subdivision_of id)) }
 {
     let Some(region) = region else {
-        return id;
+        return (id, true);
     };
     if region == id.region {
-        return id;
+        return (id, true);
     }
-    whole_region(region)
+    (whole_region(region), false)
+}
+
+/// The given region with the suffix of the subdivision where that is of it, and else as a whole; the subdivision
+/// where no region is given. And whether the two agree, where both are there.
+#[tactic(auto, using(crate::proofs::RegionLemmas::agreed_is_preferred))]
+pub(crate) fn preferred(
+    region: Option<Region>,
+    id: Option<SubdivisionId>,
+) -> (Option<SubdivisionId>, bool)
+    ensures part { option_map subdivision_of result.0 ≡ preferred_region region (option_map subdivision_of id) }
+    ensures agrees { result.1 ≡ same_region region (option_map subdivision_of id) }
+{
+    let Some(id) = id else {
+        return (region.map(whole_region), true);
+    };
+    let (part, agrees) = agreed(region, id);
+    (Some(part), agrees)
 }
 
 /// The region part that a region and a keyword name. No keyword but `sd` with a readable subdivision is taken;
@@ -66,7 +93,7 @@ pub(crate) fn part_of(
         return Err(ParseError::InvalidExtension);
     }
     match value.as_ref().and_then(named) {
-        Some(id) => Ok(Some(agreed(region, id))),
+        Some(id) => Ok(Some(agreed(region, id).0)),
         None => Err(ParseError::InvalidExtension),
     }
 }
@@ -89,8 +116,7 @@ impl DataLocale {
         ensures { result ≡ option_map subdivision_value (subdivision_keyword (value_of self.now)) }
     {
         let word = self.subdivision?;
-        let id = named(&word)?;
-        if id.suffix.as_str() == "zzzz" {
+        if is_whole(&named(&word)?) {
             return None;
         }
         is_normal(&word);

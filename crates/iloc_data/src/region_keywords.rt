@@ -1,0 +1,36 @@
+//! What the keywords `sd` and `rg` of a locale say.
+ghost use Rattle.std.specs.Prelude.{◌≡◌, option_map};
+ghost use Rattle.iloc_locale.specs.LocaleValue.{value_of as locale_value};
+ghost use Rattle.iloc_preferences_rules.specs.Keywords.{subdivision_reads};
+ghost use Rattle.iloc_preferences_rules.specs.Preferences.{is_readable, read_keyword};
+ghost use Rattle.iloc_subdivision.specs.Reads.{value_of as subdivision_of};
+
+use iloc_locale::Locale;
+use iloc_struct_keywords::{SubdivisionKeyword, SubdivisionKeywordKind};
+use iloc_subdivision::SubdivisionId;
+
+/// The keyword of a locale, where it is there and readable, and whether it is absent or readable.
+#[tactic(auto, using(crate::proofs::KeywordLemmas::absent, crate::proofs::KeywordLemmas::there))]
+pub(crate) fn keyword<K: SubdivisionKeywordKind>(
+    locale: &Locale,
+) -> (Option<SubdivisionKeyword<K>>, bool)
+    ensures value { result.0 ≡ read_keyword subdivision_reads K.key_text (locale_value locale.now) }
+    ensures readable { result.1 ≡ is_readable subdivision_reads K.key_text (locale_value locale.now) }
+{
+    match locale.extensions.unicode.keywords.get(&K::key()) {
+        Some(value) => match SubdivisionKeyword::<K>::try_from(value) {
+            Ok(keyword) => (Some(keyword), true),
+            Err(_) => (None, false),
+        },
+        None => (None, true),
+    }
+}
+
+/// The subdivision of the keyword.
+pub(crate) fn id_of<K: SubdivisionKeywordKind>(
+    keyword: Option<SubdivisionKeyword<K>>,
+) -> Option<SubdivisionId>
+    ensures { option_map subdivision_of result ≡ keyword }
+{
+    Some(*keyword?.as_inner())
+}

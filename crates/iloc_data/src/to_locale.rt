@@ -1,0 +1,82 @@
+//! The locale that preferences are turned into.
+ghost use Rattle.std.specs.Prelude.{◌≡◌, ◌≤◌, ◌++◌, true, length, IfOk, IsOk};
+ghost use Rattle.iloc_grammar.specs.Values.{IsWellFormed};
+ghost use Rattle.iloc_locale.specs.LocaleValue.{value_of as locale_value};
+ghost use Rattle.iloc_regions.specs.DataLocales.{sd};
+ghost use Rattle.iloc_preferences_rules.specs.Preferences.{SpellsNoTrue, preferences, is_strict, rg, sd_entry, rg_entry, locale_of_preferences};
+ghost use Rattle.iloc_data.specs.WithKeywords.{entry};
+
+use crate::locale_preferences::LocalePreferences;
+use crate::region_part::is_whole;
+use crate::values::is_preferences;
+use iloc_locale::Locale;
+use iloc_struct_keywords::subdivision_keyword::{RegionOverrideKind, RegionalSubdivisionKind};
+use iloc_struct_keywords::{RegionOverride, RegionalSubdivision, SubdivisionKeywordKind};
+use iloc_unicode::Keywords;
+use iloc_unicode_value::Value;
+use std::alloc::{AllocError, Global};
+
+impl LocalePreferences {
+    /// The locale of these parts, with `sd` where the region is not whole, and `rg` where there is an override. It
+    /// takes no memory where at most one of the two is written.
+    ///
+    /// The locale is well-formed. It has these preferences again, and strictly, exactly where neither of the two
+    /// spells `true`, which is no value of a keyword.
+    pub fn to_locale(self, alloc: Global) -> Result<Locale, AllocError>
+        ensures value { IfOk result (λ locale. locale_value locale ≡ locale_of_preferences self) }
+        ensures succeeds { length (rg_entry self.region_override ++ sd_entry self.region) ≤ 1 → IsOk result }
+        ensures well_formed { IfOk result (λ locale. IsWellFormed (locale_value locale)) }
+        ensures back { SpellsNoTrue self → IfOk result (λ locale. preferences (locale_value locale) ≡ self) }
+        ensures strict { SpellsNoTrue self → IfOk result (λ locale. is_strict (locale_value locale) ≡ true) }
+        ensures only { IfOk result (λ locale. preferences (locale_value locale) ≡ self → SpellsNoTrue self) }
+    {
+        is_preferences(&self);
+        let keywords = keywords_of(
+            alloc,
+            override_value(self.region_override),
+            subdivision_value(self.region),
+        )?;
+        Ok(
+            self.to_data_locale_language_priority()
+                .with_keywords(alloc, keywords),
+        )
+    }
+}
+
+// The keywords of an override and of a subdivision, where they are there.
+fn keywords_of(
+    alloc: Global,
+    region_override: Option<Value>,
+    subdivision: Option<Value>,
+) -> Result<Keywords, AllocError>
+    ensures value { IfOk result (λ keywords. keywords ≡ entry rg region_override ++ entry sd subdivision) }
+    ensures succeeds { length (entry rg region_override ++ entry sd subdivision) ≤ 1 → IsOk result }
+{
+    let mut keywords = Keywords::new();
+    if let Some(value) = region_override {
+        keywords.set(alloc, RegionOverrideKind::key(), value)?;
+    }
+    if let Some(value) = subdivision {
+        keywords.set(alloc, RegionalSubdivisionKind::key(), value)?;
+    }
+    Ok(keywords)
+}
+
+// The value of `rg`.
+fn override_value(region_override: Option<RegionOverride>) -> Option<Value>
+    ensures { entry rg result ≡ rg_entry region_override }
+{
+    Some(Value::from(region_override?))
+}
+
+// The value of `sd`: none of a whole region.
+fn subdivision_value(region: Option<RegionalSubdivision>) -> Option<Value>
+    ensures { entry sd result ≡ sd_entry region }
+{
+    let region = region?;
+    if is_whole(region.as_inner()) {
+        None
+    } else {
+        Some(Value::from(region))
+    }
+}
