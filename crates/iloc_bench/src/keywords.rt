@@ -15,7 +15,7 @@ use iloc_subtags::UnicodeKey;
 use iloc_unicode_value::Value;
 
 /// A type of keywords that formatters know.
-pub(crate) trait Keyword: Copy {
+pub(crate) trait FormatterKeyword: Copy {
     /// What a keyword stands for.
     ghost Meaning: { Type 0 };
 
@@ -39,7 +39,7 @@ pub(crate) trait Keyword: Copy {
 
 /// The keyword of a locale, where it is there and readable, and whether it is absent or readable.
 #[tactic(auto, using(iloc_data::proofs::KeywordLemmas::absent, iloc_data::proofs::KeywordLemmas::there))]
-pub(crate) fn keyword<K: Keyword>(locale: &Locale) -> (Option<K>, bool)
+pub(crate) fn keyword<K: FormatterKeyword>(locale: &Locale) -> (Option<K>, bool)
     ensures value { option_map K.meaning result.0 ≡ read_keyword K.reads K.key_text (locale_value locale.now) }
     ensures readable { result.1 ≡ is_readable K.reads K.key_text (locale_value locale.now) }
 {
@@ -52,7 +52,7 @@ pub(crate) fn keyword<K: Keyword>(locale: &Locale) -> (Option<K>, bool)
     }
 }
 
-impl Keyword for NumberingSystem {
+impl FormatterKeyword for NumberingSystem {
     ghost Meaning = { List ℕ };
 
     ghost meaning = { λ w. w };
@@ -72,7 +72,7 @@ impl Keyword for NumberingSystem {
     }
 }
 
-impl Keyword for HourCycle {
+impl FormatterKeyword for HourCycle {
     ghost use Rattle.iloc_preferences_rules.specs.Keywords.{EnumValue};
 
     ghost Meaning = { EnumValue };
@@ -94,7 +94,7 @@ impl Keyword for HourCycle {
     }
 }
 
-impl Keyword for CalendarAlgorithm {
+impl FormatterKeyword for CalendarAlgorithm {
     ghost use Rattle.iloc_preferences_rules.specs.Keywords.{EnumValue};
 
     ghost Meaning = { EnumValue };
