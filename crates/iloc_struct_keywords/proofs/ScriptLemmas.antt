@@ -1,5 +1,5 @@
 -- Lists of scripts, read and written one by one.
-use Rattle.std.proofs.Common.{◌≡◌, ℕ, zero, suc, ◌+◌, ◌<◌, ◌≤◌, List, [], ◌∷◌, ◌++◌, length, map, get_or, drop, refl, sym, ap, ◌∙◌, subst, arith, append-nil, append_assoc, Option, Some, None}
+use Rattle.std.proofs.Common.{◌≡◌, ℕ, zero, suc, ◌+◌, ◌<◌, ◌≤◌, List, [], ◌∷◌, ◌++◌, length, map, get_or, drop, refl, sym, ap, ◌∙◌, subst, arith, append-nil, append_assoc, true, false, true≢false, Option, Some, None}
 use Rattle.std.proofs.Math.Seq.{drop-cons}
 use Rattle.iloc_grammar.specs.Words.{Script, word, lower}
 use Rattle.iloc_preferences_rules.specs.Keywords.{with_first, scripts_read, scripts_give}
@@ -38,12 +38,23 @@ refuses_word ws ss i w lt is read h =
     ∙ h)
 
 past : (ws : List (List ℕ)) (i : ℕ) → length ws ≤ i → drop i ws ≡ []
-past [] i h = elim i as (λ i. drop i [] ≡ []) [ zero ↦ refl | suc i ↦ refl ]
+past [] i h = elim i as (λ i. drop {A = List ℕ} i [] ≡ []) [ zero ↦ refl | suc i ↦ refl ]
 past (w ∷ ws) zero h = absurd (omega (arith, h))
 past (w ∷ ws) (suc i) h = past ws i (omega (arith, h))
 
 pub ends : (ws ss : List (List ℕ)) (i : ℕ) → length ws ≤ i → together ss (scripts_read (drop i ws)) ≡ scripts_read ws → scripts_read ws ≡ Some ss
 ends ws ss i h so = sym so ∙ ap (λ xs. together ss (scripts_read xs)) (past ws i h) ∙ ap Some (append-nil ss)
+
+pub lengthens : (ss : List (List ℕ)) (s : List ℕ) (i : ℕ) → length ss ≡ i → length (ss ++ s ∷ []) ≡ i + 1
+lengthens [] s i h = omega (arith, h)
+lengthens (x ∷ ss) s i h = let r = lengthens ss s (length ss) refl in omega (arith, h, r)
+
+pub no_room : (n m i : ℕ) → (n < 4 → false ≡ true) → n ≡ i → i < m → 4 < m
+no_room zero m i f e l = absurd (true≢false (sym (f (omega arith))))
+no_room (suc zero) m i f e l = absurd (true≢false (sym (f (omega arith))))
+no_room (suc (suc zero)) m i f e l = absurd (true≢false (sym (f (omega arith))))
+no_room (suc (suc (suc zero))) m i f e l = absurd (true≢false (sym (f (omega arith))))
+no_room (suc (suc (suc (suc n)))) m i f e l = omega (arith, e, l)
 
 -- writing
 

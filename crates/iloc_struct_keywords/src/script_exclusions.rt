@@ -1,5 +1,6 @@
 //! A keyword whose value is a list of scripts.
 ghost use Rattle.std.specs.Prelude.{◌≡◌, ◌++◌, ◌∷◌, [], ◌<◌, ℕ, Ok, Some, OnOk, OnErr, IfOk, IsOk, length};
+ghost use Rattle.iloc_grammar.specs.Words.{word, Script as the_kind};
 ghost use Rattle.iloc_preferences_rules.specs.Keywords.{dx, scripts_read, scripts_give};
 ghost use Rattle.iloc_struct_keywords.specs.Scripts.{ReadsScripts, ReadsScriptsKeyed};
 
@@ -49,7 +50,7 @@ impl DictionaryBreakScriptExclusions {
             scripts: ShortWords::new(),
         };
         for subtag in subtags {
-            let Ok(script) = Script::try_from_str(subtag.as_str()) else {
+            let Some(script) = script_of(subtag) else {
                 return Err(PreferencesParseError::InvalidKeywordValue);
             };
             exclusions.push(alloc, script)?;
@@ -76,6 +77,13 @@ impl DictionaryBreakScriptExclusions {
         }
         Ok(Value::from_vec_unchecked(subtags))
     }
+}
+
+// The script that the subtag is, where it is one.
+fn script_of(subtag: &Subtag) -> Option<Script>
+    ensures { result ≡ word the_kind subtag.now }
+{
+    Script::try_from_str(subtag.as_str()).ok()
 }
 
 impl Clone for DictionaryBreakScriptExclusions {

@@ -8,6 +8,7 @@
 //! what was read, so that letting it go is proved but once.
 #![tactic(auto)]
 
+mod enums;
 mod told;
 
 use iloc_calendar_keyword::CalendarAlgorithm;

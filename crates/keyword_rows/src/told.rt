@@ -1,6 +1,6 @@
 //! What is told of a keyword. Only the generic functions here own one.
 use iloc_calendar_keyword::CalendarAlgorithm;
-use iloc_preference_key::{EnumKeyword, PreferenceKey, PreferencesParseError};
+use iloc_preference_key::{PreferenceKey, PreferencesParseError};
 use iloc_struct_keywords::{
     DictionaryBreakScriptExclusions, SubdivisionKeyword, SubdivisionKeywordKind, SubtagKeyword,
     SubtagKeywordKind,
@@ -22,12 +22,6 @@ pub struct Asked<'a> {
 pub trait Shown: PreferenceKey {
     /// Says its text.
     fn show(&self, out: &mut String);
-}
-
-impl<E: EnumKeyword> Shown for E {
-    fn show(&self, out: &mut String) {
-        say(out, self.word())
-    }
 }
 
 impl Shown for CalendarAlgorithm {

@@ -1,0 +1,89 @@
+//! The texts of enums.
+use crate::told::Shown;
+use iloc_enum_keywords::{
+    CommonVariantType, CurrencyFormatStyle, FirstDay, HourCycle, MeasurementSystem,
+    MeasurementUnitOverride,
+};
+use iloc_text_keywords::{
+    CollationCaseFirst, CollationNumericOrdering, CollationType, EmojiPresentationStyle,
+    LineBreakStyle, LineBreakWordHandling, SentenceBreakSupressions,
+};
+use row_page::say;
+
+impl Shown for CollationCaseFirst {
+    fn show(&self, out: &mut String) {
+        say(out, self.as_str())
+    }
+}
+
+impl Shown for CollationNumericOrdering {
+    fn show(&self, out: &mut String) {
+        say(out, self.as_str())
+    }
+}
+
+impl Shown for CollationType {
+    fn show(&self, out: &mut String) {
+        say(out, self.as_str())
+    }
+}
+
+impl Shown for CommonVariantType {
+    fn show(&self, out: &mut String) {
+        say(out, self.as_str())
+    }
+}
+
+impl Shown for CurrencyFormatStyle {
+    fn show(&self, out: &mut String) {
+        say(out, self.as_str())
+    }
+}
+
+impl Shown for EmojiPresentationStyle {
+    fn show(&self, out: &mut String) {
+        say(out, self.as_str())
+    }
+}
+
+impl Shown for FirstDay {
+    fn show(&self, out: &mut String) {
+        say(out, self.as_str())
+    }
+}
+
+impl Shown for HourCycle {
+    fn show(&self, out: &mut String) {
+        say(out, self.as_str())
+    }
+}
+
+impl Shown for LineBreakStyle {
+    fn show(&self, out: &mut String) {
+        say(out, self.as_str())
+    }
+}
+
+impl Shown for LineBreakWordHandling {
+    fn show(&self, out: &mut String) {
+        say(out, self.as_str())
+    }
+}
+
+impl Shown for MeasurementSystem {
+    fn show(&self, out: &mut String) {
+        say(out, self.as_str())
+    }
+}
+
+impl Shown for MeasurementUnitOverride {
+    fn show(&self, out: &mut String) {
+        say(out, self.as_str())
+    }
+}
+
+impl Shown for SentenceBreakSupressions {
+    fn show(&self, out: &mut String) {
+        say(out, self.as_str())
+    }
+}
