@@ -17,8 +17,6 @@ pub fn by_blocks()
 
 /// Where all blocks are short, none that is long is reached.
 pub fn short_blocks()
-    ensures {
-        (T : ℕ → Bool) (seen : List ℕ) (bs : List (ℕ × List (List ℕ)))
-            → ReachesLongBlock T seen bs → ¬ (AllByRecursion (IsShortBlock T) bs)
-    }
+    ensures { (T : ℕ → Bool) (seen : List ℕ) (bs : List (ℕ × List (List ℕ)))
+        → ReachesLongBlock T seen bs → ¬ (AllByRecursion (IsShortBlock T) bs) }
 {}

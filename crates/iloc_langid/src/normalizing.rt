@@ -24,10 +24,8 @@ impl LanguageIdentifier {
     /// Normalising twice is once; texts mean the same exactly where their normal texts are equal; each text
     /// of a meaning is as long; two steps, in case and in the order of variants, lead there.
     pub fn normalize_utf8(alloc: Global, input: &[u8]) -> Result<CowStr<'_, Global>, ParseError>
-        ensures ok {
-            IfOk result (λ text. IsNormalizedFrom input.now (cow_str_bytes text)
-                × (IsLent text ↔ (input.now ≡ cow_str_bytes text)))
-        }
+        ensures ok { IfOk result (λ text. IsNormalizedFrom input.now (cow_str_bytes text)
+            × (IsLent text ↔ (input.now ≡ cow_str_bytes text))) }
         ensures err { IfErr result (RefusesNormalizing input.now) }
     {
         let identifier = Self::try_from_utf8(alloc, input)?;
@@ -36,10 +34,8 @@ impl LanguageIdentifier {
 
     /// The same of text.
     pub fn normalize(alloc: Global, input: &str) -> Result<CowStr<'_, Global>, ParseError>
-        ensures ok {
-            IfOk result (λ text. IsNormalizedFrom input.now (cow_str_bytes text)
-                × (IsLent text ↔ (input.now ≡ cow_str_bytes text)))
-        }
+        ensures ok { IfOk result (λ text. IsNormalizedFrom input.now (cow_str_bytes text)
+            × (IsLent text ↔ (input.now ≡ cow_str_bytes text))) }
         ensures err { IfErr result (RefusesNormalizing input.now) }
     {
         Self::normalize_utf8(alloc, input.as_bytes())

@@ -50,28 +50,16 @@ impl Locale {
     /// `OutOfMemory` comes only where some list before the fault is longer than is kept inline.
     pub fn try_from_utf8(alloc: Global, code_units: &[u8]) -> Result<Self, ParseError>
         ensures reads { LocaleReadsAs code_units.now result }
-        ensures accepted {
-            (M : meaning.Locale) → Means languages code_units.now M → Accepts M result
-        }
-        ensures refused {
-            (f : Fault) → HasFault languages code_units.now f → Refuses f result
-        }
+        ensures accepted { (M : meaning.Locale) → Means languages code_units.now M → Accepts M result }
+        ensures refused { (f : Fault) → HasFault languages code_units.now f → Refuses f result }
         ensures succeeds { IsInline languages code_units.now → IsOk result }
-        ensures well_formed {
-            IfOk result (λ l. IsValue languages (value_of l) × IsWellFormed (value_of l))
-        }
-        ensures steps {
-            IfOk result (λ l. (n : ℕ) (u : List ℕ)
-                → Chain languages n code_units.now u → Means languages u (value_of l))
-        }
-        ensures narrow {
-            (M : meaning.Locale) → Means two_or_three code_units.now M
-                → IfOk result (λ l. value_of l ≡ M)
-        }
-        ensures narrow_accepted {
-            (M : meaning.Locale) → Means two_or_three code_units.now M
-                → IfErr result (λ e. e ≡ ParseError.OutOfMemory)
-        }
+        ensures well_formed { IfOk result (λ l. IsValue languages (value_of l) × IsWellFormed (value_of l)) }
+        ensures steps { IfOk result (λ l. (n : ℕ) (u : List ℕ)
+            → Chain languages n code_units.now u → Means languages u (value_of l)) }
+        ensures narrow { (M : meaning.Locale) → Means two_or_three code_units.now M
+            → IfOk result (λ l. value_of l ≡ M) }
+        ensures narrow_accepted { (M : meaning.Locale) → Means two_or_three code_units.now M
+            → IfErr result (λ e. e ≡ ParseError.OutOfMemory) }
     {
         let mut iter = SubtagIterator::new(code_units);
         let id = read_head(alloc, &mut iter)?;
@@ -86,28 +74,16 @@ impl Locale {
     /// The same of text.
     pub fn try_from_str(alloc: Global, s: &str) -> Result<Self, ParseError>
         ensures reads { LocaleReadsAs s.now result }
-        ensures accepted {
-            (M : meaning.Locale) → Means languages s.now M → Accepts M result
-        }
-        ensures refused {
-            (f : Fault) → HasFault languages s.now f → Refuses f result
-        }
+        ensures accepted { (M : meaning.Locale) → Means languages s.now M → Accepts M result }
+        ensures refused { (f : Fault) → HasFault languages s.now f → Refuses f result }
         ensures succeeds { IsInline languages s.now → IsOk result }
-        ensures well_formed {
-            IfOk result (λ l. IsValue languages (value_of l) × IsWellFormed (value_of l))
-        }
-        ensures steps {
-            IfOk result (λ l. (n : ℕ) (u : List ℕ)
-                → Chain languages n s.now u → Means languages u (value_of l))
-        }
-        ensures narrow {
-            (M : meaning.Locale) → Means two_or_three s.now M
-                → IfOk result (λ l. value_of l ≡ M)
-        }
-        ensures narrow_accepted {
-            (M : meaning.Locale) → Means two_or_three s.now M
-                → IfErr result (λ e. e ≡ ParseError.OutOfMemory)
-        }
+        ensures well_formed { IfOk result (λ l. IsValue languages (value_of l) × IsWellFormed (value_of l)) }
+        ensures steps { IfOk result (λ l. (n : ℕ) (u : List ℕ)
+            → Chain languages n s.now u → Means languages u (value_of l)) }
+        ensures narrow { (M : meaning.Locale) → Means two_or_three s.now M
+            → IfOk result (λ l. value_of l ≡ M) }
+        ensures narrow_accepted { (M : meaning.Locale) → Means two_or_three s.now M
+            → IfErr result (λ e. e ≡ ParseError.OutOfMemory) }
     {
         Self::try_from_utf8(alloc, s.as_bytes())
     }

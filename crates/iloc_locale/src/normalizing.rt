@@ -28,14 +28,10 @@ impl Locale {
     /// once; texts mean the same exactly where their normal texts are equal; no text of a meaning is shorter;
     /// at most eight steps of rewriting lead there.
     pub fn normalize_utf8(alloc: Global, input: &[u8]) -> Result<CowStr<'_, Global>, ParseError>
-        ensures ok {
-            IfOk result (λ text. IsNormalizedFrom input.now (cow_str_bytes text)
-                × (IsLent text ↔ (input.now ≡ cow_str_bytes text)))
-        }
+        ensures ok { IfOk result (λ text. IsNormalizedFrom input.now (cow_str_bytes text)
+            × (IsLent text ↔ (input.now ≡ cow_str_bytes text))) }
         ensures err { IfErr result (RefusesNormalizing input.now) }
-        ensures succeeds {
-            IsInline languages input.now → IsTextOf input.now input.now → IsOk result
-        }
+        ensures succeeds { IsInline languages input.now → IsTextOf input.now input.now → IsOk result }
     {
         let locale = Self::try_from_utf8(alloc, input)?;
         Ok(to_string_or_borrow(alloc, &locale, input)?)
@@ -43,14 +39,10 @@ impl Locale {
 
     /// The same of text.
     pub fn normalize(alloc: Global, input: &str) -> Result<CowStr<'_, Global>, ParseError>
-        ensures ok {
-            IfOk result (λ text. IsNormalizedFrom input.now (cow_str_bytes text)
-                × (IsLent text ↔ (input.now ≡ cow_str_bytes text)))
-        }
+        ensures ok { IfOk result (λ text. IsNormalizedFrom input.now (cow_str_bytes text)
+            × (IsLent text ↔ (input.now ≡ cow_str_bytes text))) }
         ensures err { IfErr result (RefusesNormalizing input.now) }
-        ensures succeeds {
-            IsInline languages input.now → IsTextOf input.now input.now → IsOk result
-        }
+        ensures succeeds { IsInline languages input.now → IsTextOf input.now input.now → IsOk result }
     {
         Self::normalize_utf8(alloc, input.as_bytes())
     }
