@@ -1,17 +1,17 @@
 //! Preferences of formatters.
-use crate::told::Made;
+use crate::told::Making;
 use iloc_bench::{FormatPreferences, TimePreferences};
 use iloc_langid::LanguageIdentifier;
 use iloc_locale::Locale;
 use row_page::{put, say};
 
-impl Made for TimePreferences {
+impl Making for TimePreferences {
     fn said(&self, out: &mut String) {
         time(self, out)
     }
 }
 
-impl Made for FormatPreferences {
+impl Making for FormatPreferences {
     fn said(&self, out: &mut String) {
         format(self, out)
     }

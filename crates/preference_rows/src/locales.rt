@@ -1,6 +1,6 @@
 //! Preferences of locales.
 use crate::formatters;
-use crate::told::{Answering, Made, made};
+use crate::told::{Answering, Making, made};
 use iloc_data::{DataLocale, LocalePreferences};
 use iloc_langid::LanguageIdentifier;
 use iloc_locale::Locale;
@@ -32,7 +32,7 @@ impl Answering for Locale {
     }
 }
 
-impl Made for DataLocale {
+impl Making for DataLocale {
     fn said(&self, out: &mut String) {
         put(out, self)
     }

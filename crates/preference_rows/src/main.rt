@@ -16,12 +16,14 @@ mod formatters;
 mod locales;
 mod told;
 
+use iloc_bench::{FormatPreferences, TimePreferences};
+use iloc_data::DataLocale;
 use iloc_langid::LanguageIdentifier;
 use iloc_locale::Locale;
 use row_page::{say, unescape};
 use std::alloc::{AllocError, Global};
 use std::io;
-use told::{extended, told};
+use told::{extended, handed_over, told};
 
 /// Room for an argument.
 const ROOM: usize = 65_536;

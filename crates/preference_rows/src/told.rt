@@ -52,13 +52,13 @@ pub fn made<W: Writeable + Drop>(out: &mut String, value: Result<W, AllocError>)
 }
 
 /// What can be made of a value that is handed over.
-pub trait Made: Sized {
+pub trait Making: Sized {
     /// Says it.
     fn said(&self, out: &mut String);
 }
 
 /// Says what is made of a value that is handed over.
-pub fn handed_over<W: Drop, P: From<W> + Made + Drop>(
+pub fn handed_over<W: Drop, P: From<W> + Making + Drop>(
     out: &mut String,
     read: Result<W, ParseError>,
 ) {
