@@ -2,8 +2,8 @@
 use Rattle.std.proofs.Common.{◌≡◌, Option, Some, None, Result, Ok, Err, sym, option_map}
 use Rattle.std.specs.Result.{result_ok}
 use Rattle.iloc_preference_key.specs.Reads.{Reads}
-use Rattle.iloc_preference_key.specs.declared.errors.PreferencesParseError.{PreferencesParseError}
-use Rattle.iloc_preference_key.specs.declared.errors.PreferencesParseError.TheVariants.{InvalidKeywordValue, OutOfMemory}
+use Rattle.iloc_unicode_value.specs.declared.errors.PreferencesParseError.{PreferencesParseError}
+use Rattle.iloc_unicode_value.specs.declared.errors.PreferencesParseError.TheVariants.{InvalidKeywordValue, OutOfMemory}
 
 module _ {X V : Type 0} (stands : X → V) where
   pub what_is_read : (o : Option V) (r : Result X PreferencesParseError) → Reads stands o r → option_map stands (result_ok r) ≡ o
