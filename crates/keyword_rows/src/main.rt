@@ -88,7 +88,15 @@ fn read(
     out: &mut String,
 ) {
     match (value, key) {
-        (Ok(value), Ok(key)) => keyword(word, &Asked { alloc, value: &value, key }, out),
+        (Ok(value), Ok(key)) => keyword(
+            word,
+            &Asked {
+                alloc,
+                value: &value,
+                key,
+            },
+            out,
+        ),
         (Err(error), _) => refuse(out, error),
         (_, Err(error)) => refuse(out, error),
     }
