@@ -12,6 +12,7 @@ use std::alloc::Global;
 use std::fmt::Write;
 
 /// What a row asks of a keyword.
+#[derive(Drop)]
 pub struct Asked<'a> {
     pub alloc: Global,
     pub value: &'a Value,
@@ -32,7 +33,7 @@ impl Shown for CalendarAlgorithm {
 
 impl Shown for CurrencyType {
     fn show(&self, out: &mut String) {
-        put(out, &self.iso_code())
+        say(out, self.iso_code().as_str())
     }
 }
 
