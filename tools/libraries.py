@@ -1,4 +1,5 @@
 """Proves the libraries that some crates stand on, side by side, lowest and longest chain first."""
+import os
 import subprocess
 import time
 
@@ -8,6 +9,21 @@ from kit import lanes, rt
 # stands on, and for each line of its source.
 EACH, A_LINE = 20, 0.25
 KEY = "proof"
+
+
+def texts_of(crate):
+    """Returns the paths of the texts of the crate, and of all below it."""
+    folders = [f"{it.folder}/{part}" for it in [crate, *crate.below()] for part in ("src", "specs", "proofs")]
+    return [f"{at}/{it}" for folder in folders for at, _, names in os.walk(folder) for it in names]
+
+
+def is_fresh(crate):
+    """Returns whether the crate's library is there, and newer than its text and that of the
+    libraries below, as is what the gate left; or else is of that text, which takes long to tell."""
+    made = f"{crate.rlib}/format"
+    if os.path.isfile(made) and os.path.getmtime(made) > max(map(os.path.getmtime, texts_of(crate))):
+        return True
+    return crate.is_built()
 
 
 def lacking(crates):

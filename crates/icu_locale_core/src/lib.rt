@@ -128,19 +128,16 @@ pub mod preferences {
             pub mod keywords {
                 pub use iloc_calendar_keyword::{CalendarAlgorithm, HijriCalendarAlgorithm};
                 pub use iloc_enum_keywords::{
-                    CommonVariantType, CurrencyFormatStyle, FirstDay, HourCycle, MeasurementSystem,
-                    MeasurementUnitOverride,
+                    CollationCaseFirst, CollationNumericOrdering, CollationType, CommonVariantType,
+                    CurrencyFormatStyle, EmojiPresentationStyle, FirstDay, HourCycle,
+                    LineBreakStyle, LineBreakWordHandling, MeasurementSystem,
+                    MeasurementUnitOverride, SentenceBreakSupressions,
                 };
                 pub use iloc_struct_keywords::{
                     DictionaryBreakScriptExclusions, NumberingSystem, RegionOverride,
                     RegionalSubdivision, TimeZoneShortId,
                 };
                 pub use iloc_subtags::CurrencyType;
-                pub use iloc_text_keywords::{
-                    CollationCaseFirst, CollationNumericOrdering, CollationType,
-                    EmojiPresentationStyle, LineBreakStyle, LineBreakWordHandling,
-                    SentenceBreakSupressions,
-                };
             }
         }
     }

@@ -30,8 +30,11 @@ impl FormatPreferences {
     /// The preferences of a locale. `Err` holds the same preferences where one of the keywords is there and can't be
     /// read, or where those of the locale are not strict.
     pub fn from_locale_strict(loc: &Locale) -> Result<Self, Self>
-        ensures value { MatchResult result (λ p. format_value p ≡ format_preferences (locale_value loc.now)) (λ p. format_value p ≡ format_preferences (locale_value loc.now)) }
-        ensures strict { MatchResult result (λ _. is_strict_format (locale_value loc.now) ≡ true) (λ _. is_strict_format (locale_value loc.now) ≡ false) }
+        ensures value { MatchResult result
+            (λ p. format_value p ≡ format_preferences (locale_value loc.now))
+            (λ p. format_value p ≡ format_preferences (locale_value loc.now)) }
+        ensures strict { MatchResult result (λ _. is_strict_format (locale_value loc.now) ≡ true)
+            (λ _. is_strict_format (locale_value loc.now) ≡ false) }
     {
         let (time, is_strict) = match TimePreferences::from_locale_strict(loc) {
             Ok(preferences) => (preferences, true),
@@ -51,7 +54,8 @@ impl FormatPreferences {
 
     /// Takes over what the other knows.
     pub fn extend(&mut self, other: FormatPreferences)
-        ensures { format_value self.new ≡ merge_format (format_value self.old) (format_value other) }
+        ensures { format_value self.new
+            ≡ merge_format (format_value self.old) (format_value other) }
     {
         self.locale_preferences.extend(other.locale_preferences);
         self.numbering_system = other.numbering_system.or(self.numbering_system);

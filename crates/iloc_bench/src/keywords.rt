@@ -40,7 +40,8 @@ pub(crate) trait FormatterKeyword: Copy {
 /// The keyword of a locale, where it is there and readable, and whether it is absent or readable.
 #[tactic(auto, using(iloc_data::proofs::KeywordLemmas::absent, iloc_data::proofs::KeywordLemmas::there))]
 pub(crate) fn keyword<K: FormatterKeyword>(locale: &Locale) -> (Option<K>, bool)
-    ensures value { option_map K.meaning result.0 ≡ read_keyword K.reads K.key_text (locale_value locale.now) }
+    ensures value { option_map K.meaning result.0
+        ≡ read_keyword K.reads K.key_text (locale_value locale.now) }
     ensures readable { result.1 ≡ is_readable K.reads K.key_text (locale_value locale.now) }
 {
     let Some(value) = locale.extensions.unicode.keywords.get(&K::key()) else {

@@ -27,8 +27,11 @@ impl TimePreferences {
     /// The preferences of a locale. `Err` holds the same preferences where one of the keywords is there and can't be
     /// read, or where those of the locale are not strict.
     pub fn from_locale_strict(loc: &Locale) -> Result<Self, Self>
-        ensures value { MatchResult result (λ p. time_value p ≡ time_preferences (locale_value loc.now)) (λ p. time_value p ≡ time_preferences (locale_value loc.now)) }
-        ensures strict { MatchResult result (λ _. is_strict_time (locale_value loc.now) ≡ true) (λ _. is_strict_time (locale_value loc.now) ≡ false) }
+        ensures value { MatchResult result
+            (λ p. time_value p ≡ time_preferences (locale_value loc.now))
+            (λ p. time_value p ≡ time_preferences (locale_value loc.now)) }
+        ensures strict { MatchResult result (λ _. is_strict_time (locale_value loc.now) ≡ true)
+            (λ _. is_strict_time (locale_value loc.now) ≡ false) }
     {
         let (locale_preferences, is_strict) = match LocalePreferences::from_locale_strict(loc) {
             Ok(preferences) => (preferences, true),

@@ -1,5 +1,7 @@
 -- From what a block's reader answers to the answer of the whole.
-use Rattle.std.proofs.Common.{◌≡◌, ◌≢◌, OnOk, IfErr, ℕ, ◌≤◌, ◌<◌, Bool, true, false, cond, ◌||◌, ◌==◌, List, [], ◌∷◌, length, refl, sym, ap, ◌∙◌, subst, arith, Some, None, Result, Ok, Err, true≢false, nat_lt, suc}
+use Rattle.std.proofs.Common.{◌≡◌, ◌≢◌, OnOk, IfErr, ℕ, ◌≤◌, ◌<◌, Bool, true, false, cond, ◌||◌, ◌==◌, List, [], ◌∷◌, length, refl, sym, ap, ◌∙◌, subst, arith, Some, None, Result, Ok, Err, true≢false, nat_lt, suc, Option, option_map, not, is_some, ◌&&◌}
+use Rattle.std.specs.Result.{result_and}
+use Rattle.iloc_langid.specs.Reads as langid
 use Rattle.std.specs.List.{AllByRecursion, list_any}
 use Rattle.std.specs.Char.{is_ascii_alphanumeric, to_ascii_lowercase}
 use Rattle.std.specs.Ordering.{nat_cmp}
@@ -18,7 +20,7 @@ use Rattle.iloc_blocks.specs.Whole.{BlocksReadAs}
 use Rattle.iloc_blocks.proofs.DoneLaws.{turned}
 use Rattle.iloc_grammar.specs.Reading.{passing, from_block, starts_block, rest_of}
 use Rattle.iloc_fronts.specs.Fronts.{not_private}
-use Rattle.iloc_inline.specs.Blocks.{IsShortUnicode, IsShortTransform}
+use Rattle.iloc_small.specs.InlineBlocks.{IsShortUnicode, IsShortTransform}
 use Rattle.iloc_subtags.specs.declared.parse_error.ParseError.{ParseError}
 use Rattle.iloc_subtags.specs.declared.parse_error.ParseError.TheVariants.{InvalidLanguage, InvalidSubtag, InvalidExtension, DuplicatedExtension, OutOfMemory}
 use Rattle.iloc_unicode.specs.declared.unicode.Unicode.{Unicode}
@@ -29,7 +31,7 @@ use Rattle.iloc_transform.specs.declared.transform.Transform.{Transform}
 use Rattle.iloc_transform.specs.TransformReading as transform
 use Rattle.iloc_other.specs.Reading.{PrivateReads}
 use Rattle.iloc_blocks.specs.Blocks.{BlocksMean, BlocksDone, BlockAt, BlockReads, is_read}
-use Rattle.iloc_blocks.specs.Reads.{UnicodeBlock, TransformBlock, OtherBlock}
+use Rattle.iloc_blocks.proofs.PartAnswers.{UnicodeBlock, TransformBlock, OtherBlock}
 use Rattle.iloc_blocks.proofs.RoundLaws.{no_letter, met_before, unicode_done, unicode_bad, unicode_long, transform_done, transform_repeats, transform_bad, transform_long, other_done, other_bad, other_long, private_done, private_bad, private_long}
 
 -- few words want no memory
@@ -93,6 +95,10 @@ module _ {start : List (List ℕ)} {c : ℕ} {ps : List (List ℕ)} {M : Extensi
   private_fails e rest more N DuplicatedExtension h = absurd h
   private_fails e rest more N OutOfMemory h = private_long a e (λ l. let k = passing_short (is_word PrivateSubtag) ps in omega (arith, l, k, h))
 
+  pub private_reads : to_ascii_lowercase c ≡ 120 → (rest ws : List (List ℕ)) (r : Result (Unit {0}) ParseError) → PrivateReads ps rest (result_and r (Ok ws)) → BlockReads start rest (record M { private = ws }) r
+  private_reads e rest ws (Ok x) h = private_goes e rest ws h
+  private_reads e rest ws (Err f) h = private_fails e rest rest (record M { private = ws }) f h
+
   pub other_goes : is_other_singleton (to_ascii_lowercase c) ≡ true → (rest : List (List ℕ)) (o : ℕ × List (List ℕ)) (os : List (ℕ × List (List ℕ))) → OtherBlock (to_ascii_lowercase c) ps rest (Ok o) → os ≡ put nat_cmp o.0 o.1 M.others → BlocksDone languages start rest (record M { others = os })
   other_goes k rest o os h e =
       let same : os ≡ put nat_cmp (to_ascii_lowercase c) (kept (front ps)) M.others = e ∙ ap (λ (x : ℕ × List (List ℕ)). put nat_cmp x.0 x.1 M.others) h.0 in
@@ -146,6 +152,48 @@ none_short ps rest e = let k = ap (λ (l : List (List ℕ)). length l) e in omeg
 pub on_any : {A X E : Type 0} (r : Result X E) → A → OnOk r A
 on_any (Ok x) a = a
 on_any (Err e) a = tt
+
+pub private_shorter : (ps rest ws : List (List ℕ)) (r : Result (Unit {0}) ParseError) → PrivateReads ps rest (result_and r (Ok ws)) → OnOk r (length rest ≤ length ps)
+private_shorter ps rest ws (Ok x) h = none_short ps rest h.left
+private_shorter ps rest ws (Err e) h = tt
+
+-- a part that wasn't read is empty
+
+no_items : {X : Type 0} (xs : List X) → (length xs == 0) ≡ true → xs ≡ []
+no_items [] h = refl
+no_items (x ∷ xs) h = absurd (more (length xs) h)
+  where
+    more : (n : ℕ) → (suc n == 0) ≡ true → ⊥
+    more n h = grind (arith, nat_tests)
+
+both_true : (a b : Bool) → not (a && b) ≡ false → (a ≡ true) × (b ≡ true)
+both_true true true h = (refl, refl)
+both_true true false h = absurd (true≢false h)
+both_true false b h = absurd (true≢false h)
+
+is_true : (a : Bool) → not a ≡ false → a ≡ true
+is_true true h = refl
+is_true false h = absurd (true≢false h)
+
+no_value : {X Y : Type 0} (f : X → Y) (o : Option X) → not (is_some (option_map f o)) ≡ true → o ≡ None
+no_value f None h = refl
+no_value f (Some x) h = absurd (true≢false (sym h))
+
+read_at : (M : Extensions) (c d : ℕ) → c ≡ d → is_read M c ≡ false → is_read M d ≡ false
+read_at M c d e h = ap (is_read M) (sym e) ∙ h
+
+pub no_unicode : (M : Extensions) (c : ℕ) → c ≡ 117 → is_read M c ≡ false → (M.unicode.attributes ≡ []) × (M.unicode.keywords ≡ [])
+no_unicode M c e h =
+    let p = both_true _ _ (read_at M c 117 e h) in
+    (no_items M.unicode.attributes p.0, no_items M.unicode.keywords p.1)
+
+pub no_transform : (M : Extensions) (m : Transform) (c : ℕ) → M.transform ≡ transform.value_of m → c ≡ 116 → is_read M c ≡ false → (m.lang ≡ None) × (m.fields ≡ [])
+no_transform M m c v e h =
+    let p = both_true _ _ (ap (λ (t : written.Transform). not (not (is_some t.id) && (length t.fields == 0))) (sym v) ∙ read_at M c 116 e h) in
+    (no_value langid.value_of m.lang p.0, no_items m.fields p.1)
+
+pub no_private : (M : Extensions) (c : ℕ) → c ≡ 120 → is_read M c ≡ false → M.private ≡ []
+no_private M c e h = no_items M.private (is_true _ (read_at M c 120 e h))
 
 -- the whole loop
 

@@ -17,7 +17,7 @@ use Rattle.iloc_unicode.specs.UnicodeValue as unicode
 use Rattle.iloc_transform.specs.declared.transform.Transform.{Transform}
 use Rattle.iloc_transform.specs.TransformReading as transform
 use Rattle.iloc_other.specs.Reading.{OtherReads}
-use Rattle.iloc_blocks.specs.Reads.{UnicodeBlock, TransformBlock, OtherBlock}
+use Rattle.iloc_blocks.proofs.PartAnswers.{UnicodeBlock, TransformBlock, OtherBlock}
 
 pub unicode_refused : (ps rest more : List (List ℕ)) (e : ParseError) → UnicodeGives ps rest (Err e) → UnicodeBlock ps more (Err e)
 unicode_refused ps rest more InvalidLanguage g = g

@@ -15,8 +15,8 @@ use Rattle.iloc_grammar.specs.Faults.{Fault, InvalidSubtag, InvalidExtension, Du
 use Rattle.iloc_grammar.proofs.ReadingLaws.{front-from_block, from_block_starts}
 use Rattle.iloc_fronts.specs.Fronts.{OtherMeans}
 use Rattle.iloc_fronts.proofs.BlockRules.{unicode_rule, transform_rule, private_rule, other_rule}
-use Rattle.iloc_inline.specs.Blocks as long
-use Rattle.iloc_inline.specs.Blocks.{IsShortUnicode, IsShortTransform, IsShortBlock, ReachesLongBlock}
+use Rattle.iloc_small.specs.InlineBlocks as long
+use Rattle.iloc_small.specs.InlineBlocks.{IsShortUnicode, IsShortTransform, IsShortBlock, ReachesLongBlock}
 use Rattle.iloc_blocks.specs.Blocks.{BlocksMean, BlocksDone, BlockAt, onto, is_read}
 use Rattle.iloc_blocks.proofs.ArmLaws.{read_is_known}
 use Rattle.iloc_blocks.proofs.StepLaws.{unicode_added, transform_added, private_added, other_added}

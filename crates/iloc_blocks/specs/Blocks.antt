@@ -13,7 +13,7 @@ use Rattle.iloc_grammar.specs.Blocks.{blocks}
 use Rattle.iloc_grammar.specs.Reading.{starts_block}
 use Rattle.iloc_grammar.specs.Faults.{IsBlock, FirstBadBlock}
 use Rattle.iloc_grammar.specs.Faults as faults
-use Rattle.iloc_inline.specs.Blocks.{ReachesLongBlock}
+use Rattle.iloc_small.specs.InlineBlocks.{ReachesLongBlock}
 use Rattle.iloc_subtags.specs.declared.parse_error.ParseError.{ParseError}
 use Rattle.iloc_subtags.specs.declared.parse_error.ParseError.TheVariants.{InvalidLanguage, InvalidSubtag, InvalidExtension, DuplicatedExtension, OutOfMemory}
 

@@ -1,4 +1,3 @@
 pub mod Blocks
-pub mod Reads
 pub mod Place
 pub mod Whole

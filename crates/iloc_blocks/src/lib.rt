@@ -13,7 +13,6 @@ ghost use Rattle.iloc_blocks.specs.Blocks.{BlocksMean, onto};
 
 pub mod blocks;
 mod others;
-mod parts;
 mod taking;
 
 pub use blocks::read_blocks;

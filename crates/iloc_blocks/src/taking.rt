@@ -1,8 +1,9 @@
 //! Takes the block of one part into the extensions.
-ghost use Rattle.std.specs.Prelude.{◌≡◌, ◌==◌, ◌≤◌, ℕ, List, true, false, length, OnOk};
+ghost use Rattle.std.specs.Prelude.{◌≡◌, ◌==◌, ◌≤◌, ℕ, List, [], None, true, false, length, OnOk};
 ghost use Rattle.std.specs.Char.{to_ascii_lowercase};
 ghost use Rattle.std.specs.List.{list_any};
 ghost use Rattle.iloc_grammar.specs.Meaning.{Extensions as Parts};
+ghost use Rattle.iloc_grammar.specs.Reading.{starts_block};
 ghost use Rattle.iloc_grammar.specs.Words.{languages};
 ghost use Rattle.iloc_grammar.specs.Written.{is_other_singleton};
 ghost use Rattle.iloc_unicode.specs.UnicodeValue as unicode_value;
@@ -11,51 +12,61 @@ ghost use Rattle.iloc_parser.specs.Left.{left};
 ghost use Rattle.iloc_blocks.specs.Blocks.{BlockAt, BlockReads};
 
 use crate::others::insert_other;
-use crate::parts::{other_block, transform_block, unicode_block};
 use iloc_other::{Other, Private};
 use iloc_parser::SubtagIterator;
 use iloc_subtags::ParseError;
 use iloc_transform::Transform;
 use iloc_unicode::Unicode;
+use iloc_unicode::reader::fill_unicode;
 use std::alloc::Global;
 
-/// Takes the block after `u`.
+/// Takes the block after `u`, where there was none. It must mean a unicode extension as a whole.
 pub(crate) fn take_unicode(
     alloc: Global,
     iter: &mut SubtagIterator<'_>,
     unicode: &mut Unicode,
 ) -> Result<(), ParseError>
+    requires keywords { unicode.old.keywords ≡ [] }
+    requires attributes { unicode.old.attributes ≡ [] }
     ensures reads { (start : List (List ℕ)) (c : ℕ) (M : Parts) → BlockAt languages start c (left iter.old) M → to_ascii_lowercase c ≡ 117 → BlockReads start (left iter.new) (record M { unicode = unicode_value.value_of unicode.new }) result }
     ensures shorter { OnOk result (length (left iter.new) ≤ length (left iter.old)) }
 {
-    *unicode = unicode_block(alloc, iter)?;
+    fill_unicode(alloc, iter, unicode)?;
+    if !is_at_block(iter) {
+        return Err(ParseError::InvalidExtension);
+    }
     Ok(())
 }
 
-/// Takes the block after `t`.
+/// Takes the block after `t`, where there was none.
 pub(crate) fn take_transform(
     alloc: Global,
     iter: &mut SubtagIterator<'_>,
     transform: &mut Transform,
 ) -> Result<(), ParseError>
+    requires lang { transform.old.lang ≡ None }
+    requires fields { transform.old.fields ≡ [] }
     ensures reads { (start : List (List ℕ)) (c : ℕ) (M : Parts) → BlockAt languages start c (left iter.old) M → to_ascii_lowercase c ≡ 116 → BlockReads start (left iter.new) (record M { transform = transform_value.value_of transform.new }) result }
     ensures shorter { OnOk result (length (left iter.new) ≤ length (left iter.old)) }
 {
-    *transform = transform_block(alloc, iter)?;
+    transform.fill(alloc, iter)?;
+    if !is_at_block(iter) {
+        return Err(ParseError::InvalidExtension);
+    }
     Ok(())
 }
 
-/// Takes the block after `x`, which is all the rest.
+/// Takes the block after `x`, where there was none. It is all the rest.
 pub(crate) fn take_private(
     alloc: Global,
     iter: &mut SubtagIterator<'_>,
     private: &mut Private,
 ) -> Result<(), ParseError>
+    requires { private.old ≡ [] }
     ensures reads { (start : List (List ℕ)) (c : ℕ) (M : Parts) → BlockAt languages start c (left iter.old) M → to_ascii_lowercase c ≡ 120 → BlockReads start (left iter.new) (record M { private = private.new }) result }
     ensures shorter { OnOk result (length (left iter.new) ≤ length (left iter.old)) }
 {
-    *private = Private::try_from_iter(alloc, iter)?;
-    Ok(())
+    private.fill(alloc, iter)
 }
 
 /// Takes the block after another singleton, which none of the others has.
@@ -70,6 +81,19 @@ pub(crate) fn take_other(
     ensures reads { (start : List (List ℕ)) (c : ℕ) (M : Parts) → BlockAt languages start c (left iter.old) M → to_ascii_lowercase c ≡ ext → M.others ≡ others.old.items → BlockReads start (left iter.new) (record M { others = others.new.items }) result }
     ensures shorter { OnOk result (length (left iter.new) ≤ length (left iter.old)) }
 {
-    let other = other_block(alloc, ext, iter)?;
+    let other = Other::try_from_iter(alloc, ext, iter)?;
+    if !is_at_block(iter) {
+        return Err(ParseError::InvalidExtension);
+    }
     insert_other(others, other)
+}
+
+// Whether nothing is left, or a block begins here.
+fn is_at_block(iter: &SubtagIterator<'_>) -> bool
+    ensures { result ≡ starts_block (left iter.now) }
+{
+    match iter.peek() {
+        Some(piece) => piece.len() == 1,
+        None => true,
+    }
 }

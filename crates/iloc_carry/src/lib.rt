@@ -20,7 +20,8 @@ use std::alloc::Global;
 ///
 /// A length that is no multiple of three is told first, and then the first bad word.
 pub fn carry_v1(alloc: Global, row: &[u8]) -> Result<Vec<u8>, CarryError>
-    ensures ok { IfOk result (λ v. (ws : List (List ℕ)) × IsOldRow row.now ws × (v.items ≡ new_row ws)) }
+    ensures ok { IfOk result
+        (λ v. (ws : List (List ℕ)) × IsOldRow row.now ws × (v.items ≡ new_row ws)) }
     ensures err { IfErr result (λ e. Refused row.now e) }
 {
     if row.len() % 3 != 0 {

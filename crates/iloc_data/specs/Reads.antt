@@ -1,8 +1,12 @@
 -- What the reader of data locales answers, by cases on the whole answer. It takes no memory.
-use Rattle.std.specs.Prelude.{ℕ, List, Result, Ok, Err}
-use Rattle.iloc_grammar.specs.Words.{languages}
+use Rattle.std.specs.Prelude.{◌≡◌, ℕ, List, Result, Ok, Err, IfOk, IsOk}
+use Rattle.iloc_grammar.specs.Words.{languages, two_or_three}
+use Rattle.iloc_grammar.specs.Meaning as meaning
+use Rattle.iloc_grammar.specs.Meaning.{Means}
 use Rattle.iloc_grammar.specs.Faults as faults
-use Rattle.iloc_regions.specs.DataLocales.{DataMeans, HasDataFault}
+use Rattle.iloc_regions.specs.DataLocales as parts
+use Rattle.iloc_regions.specs.DataLocales.{DataMeans, HasDataFault, data_text}
+use Rattle.iloc_preferences_rules.specs.Preferences.{language_priority, preferences}
 use Rattle.iloc_subtags.specs.declared.parse_error.ParseError.{ParseError}
 use Rattle.iloc_subtags.specs.declared.parse_error.ParseError.TheVariants.{InvalidLanguage, InvalidSubtag, InvalidExtension, DuplicatedExtension, OutOfMemory}
 use Rattle.iloc_data.specs.declared.data_locale.DataLocale.{DataLocale}
@@ -15,3 +19,11 @@ DataReadsAs t (Err InvalidSubtag) = HasDataFault languages t faults.InvalidSubta
 DataReadsAs t (Err InvalidExtension) = HasDataFault languages t faults.InvalidExtension
 DataReadsAs t (Err DuplicatedExtension) = ⊥
 DataReadsAs t (Err OutOfMemory) = ⊥
+
+-- all that is promised of the answer on a text: each clause of `try_from_str`
+pub record IsDataAnswer (t : List ℕ) (r : Result DataLocale ParseError) : Type 0 where
+  pub reads : DataReadsAs t r
+  pub back : IfOk r (λ d. DataMeans languages (data_text (value_of d)) (value_of d))
+  pub converted : IfOk r (λ d. (M : meaning.Locale) → Means languages t M → value_of d ≡ language_priority (preferences M))
+  pub narrow : (d : parts.DataLocale) → DataMeans two_or_three t d → IfOk r (λ e. value_of e ≡ d)
+  pub narrow_accepted : (d : parts.DataLocale) → DataMeans two_or_three t d → IsOk r

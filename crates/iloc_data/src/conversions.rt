@@ -9,7 +9,7 @@ ghost use Rattle.iloc_regions.specs.DataLocales.{data_text, locale_of_data};
 use crate::data_locale::DataLocale;
 use crate::locale_preferences::LocalePreferences;
 use crate::region_part::whole_region;
-use crate::values::is_data_locale;
+use crate::values::look_at_data_locale;
 use iloc_extensions::Extensions;
 use iloc_langid::LanguageIdentifier;
 use iloc_locale::Locale;
@@ -31,7 +31,7 @@ impl DataLocale {
         ensures well_formed { IsWellFormed (locale_value result) }
         ensures only { (M : meaning.Locale) → IsValue languages M → IsWellFormed M → text M ≡ data_text (value_of self) → M ≡ locale_value result }
     {
-        is_data_locale(&self);
+        look_at_data_locale(&self);
         self.as_locale(alloc)
     }
 

@@ -130,12 +130,13 @@ impl Default for DataLocale {
     }
 }
 
+/// Reads as `try_from_str` does, with the same promises.
 impl FromStr for DataLocale {
     type Err = ParseError;
 
-    ghost use Rattle.iloc_data.specs.Reads.{DataReadsAs};
+    ghost use Rattle.iloc_data.specs.Reads.{IsDataAnswer};
 
-    ghost from_str_gives = { DataReadsAs };
+    ghost from_str_gives = { IsDataAnswer };
 
     fn from_str(s: &str) -> Result<Self, ParseError> {
         DataLocale::try_from_str(s)

@@ -23,7 +23,7 @@ pub mod printing;
 mod region_keywords;
 mod region_part;
 pub mod to_locale;
-pub mod values;
+mod values;
 
 pub use data_locale::DataLocale;
 pub use locale_preferences::LocalePreferences;

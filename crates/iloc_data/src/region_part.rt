@@ -9,7 +9,7 @@ ghost use Rattle.iloc_data.specs.DataValue.{value_of};
 use crate::data_locale::DataLocale;
 use iloc_small_reader::SmallKeyword;
 use iloc_subdivision::SubdivisionId;
-use iloc_subtags::{ParseError, Region, SubdivisionSuffix, Subtag, is_normal};
+use iloc_subtags::{ParseError, Region, SubdivisionSuffix, Subtag};
 use iloc_unicode_value::Value;
 
 // The suffix that stands for a whole region.
@@ -119,7 +119,7 @@ impl DataLocale {
         if is_whole(&named(&word)?) {
             return None;
         }
-        is_normal(&word);
+        let _ = word.as_str();
         Some(Value::from_subtag(Some(word)))
     }
 }

@@ -8,7 +8,7 @@ ghost use Rattle.iloc_data.specs.WithKeywords.{entry};
 
 use crate::locale_preferences::LocalePreferences;
 use crate::region_part::is_whole;
-use crate::values::is_preferences;
+use crate::values::look_at_preferences;
 use iloc_locale::Locale;
 use iloc_struct_keywords::subdivision_keyword::{RegionOverrideKind, RegionalSubdivisionKind};
 use iloc_struct_keywords::{RegionOverride, RegionalSubdivision, SubdivisionKeywordKind};
@@ -30,7 +30,7 @@ impl LocalePreferences {
         ensures strict { SpellsNoTrue self → IfOk result (λ locale. is_strict (locale_value locale) ≡ true) }
         ensures only { IfOk result (λ locale. preferences (locale_value locale) ≡ self → SpellsNoTrue self) }
     {
-        is_preferences(&self);
+        look_at_preferences(&self);
         let keywords = keywords_of(
             alloc,
             override_value(self.region_override),

@@ -1,4 +1,4 @@
-//! What the types keep of each data locale and of each preferences, for a proof that has only the value.
+//! What the types keep of each data locale and of each preferences.
 ghost use Rattle.std.specs.Prelude.{IfSome};
 ghost use Rattle.iloc_grammar.specs.Words.{languages};
 ghost use Rattle.iloc_grammar.specs.Values.{IsNormal};
@@ -10,44 +10,44 @@ ghost use Rattle.iloc_data.specs.DataValue.{value_of};
 use crate::data_locale::DataLocale;
 use crate::locale_preferences::LocalePreferences;
 use iloc_struct_keywords::{SubdivisionKeyword, SubdivisionKeywordKind};
-use iloc_subtags::{WordKind, WordOf, is_normal};
+use iloc_subtags::{WordKind, WordOf};
 
-/// All words are in the normal case of their kinds. It does nothing.
-pub fn is_data_locale(locale: &DataLocale)
+// Looks at each word, so that all are known to be normal.
+pub(crate) fn look_at_data_locale(locale: &DataLocale)
     ensures { IsDataLocale languages (value_of locale.now) }
 {
-    is_normal(&locale.language);
-    is_normal_where_there(&locale.script);
-    is_normal_where_there(&locale.region);
-    is_normal_where_there(&locale.variant);
-    is_normal_where_there(&locale.subdivision);
+    let _ = locale.language.as_str();
+    look_at(&locale.script);
+    look_at(&locale.region);
+    look_at(&locale.variant);
+    look_at(&locale.subdivision);
 }
 
-/// The same of preferences. It does nothing.
-pub fn is_preferences(preferences: &LocalePreferences)
+// The same of preferences.
+pub(crate) fn look_at_preferences(preferences: &LocalePreferences)
     ensures { IsPreferences languages preferences.now }
 {
-    is_normal(&preferences.language);
-    is_normal_where_there(&preferences.script);
-    is_subdivision_where_there(&preferences.region);
-    is_normal_where_there(&preferences.variant);
-    is_subdivision_where_there(&preferences.region_override);
+    let _ = preferences.language.as_str();
+    look_at(&preferences.script);
+    look_at_subdivision(&preferences.region);
+    look_at(&preferences.variant);
+    look_at_subdivision(&preferences.region_override);
 }
 
-fn is_normal_where_there<K: WordKind<N>, const N: usize>(word: &Option<WordOf<K, N>>)
+fn look_at<K: WordKind<N>, const N: usize>(word: &Option<WordOf<K, N>>)
     ensures { IfSome word.now (IsNormal K.kind) }
 {
     if let Some(word) = word {
-        is_normal(word);
+        let _ = word.as_str();
     }
 }
 
-fn is_subdivision_where_there<K: SubdivisionKeywordKind>(keyword: &Option<SubdivisionKeyword<K>>)
+fn look_at_subdivision<K: SubdivisionKeywordKind>(keyword: &Option<SubdivisionKeyword<K>>)
     ensures { IfSome keyword.now IsSubdivision }
 {
     if let Some(keyword) = keyword {
         let id = keyword.as_inner();
-        is_normal(&id.region);
-        is_normal(&id.suffix);
+        let _ = id.region.as_str();
+        let _ = id.suffix.as_str();
     }
 }

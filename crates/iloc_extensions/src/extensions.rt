@@ -56,6 +56,19 @@ impl Extensions {
             && self.other.is_empty()
     }
 
+    /// Empties all four parts.
+    pub fn clear(&mut self)
+        ensures { value_of self.new ≡ none }
+    {
+        if self.is_empty() {
+            return;
+        }
+        self.unicode.clear();
+        self.transform.clear();
+        self.private.clear();
+        self.other.clear();
+    }
+
     /// The order by unicode, transform, private as a short list, and then the others one by one.
     pub fn total_cmp(&self, other: &Self) -> Ordering
         ensures { result ≡ extensions_cmp (compared (value_of self.now)) (compared (value_of other.now)) }

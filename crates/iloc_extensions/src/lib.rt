@@ -14,7 +14,6 @@ ghost use Rattle.iloc_extensions.specs.Kinds.{kind_of};
 pub mod extension_type;
 pub mod extensions;
 pub mod printing;
-pub mod values;
 
 pub use extension_type::ExtensionType;
 pub use extensions::Extensions;

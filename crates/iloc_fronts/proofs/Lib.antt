@@ -6,3 +6,5 @@ pub mod PartLaws
 pub mod ValueLaws
 pub mod ExtendingLaws
 pub mod BlockRules
+pub mod PartAnswers
+pub mod ReaderBlocks

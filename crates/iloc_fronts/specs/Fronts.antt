@@ -1,9 +1,11 @@
--- What the readers of single parts take from the front of the pieces after a singleton, and what they leave.
--- The parts are those of UTS #35 (attributes and keywords after `u`, language and fields after `t`, and so on);
--- that a part may be read alone, and that the rest of the text is then ignored, is this project's rule.
-use Rattle.std.specs.Prelude.{◌≡◌, ℕ, ◌+◌, ◌<◌, Bool, true, false, not, ◌&&◌, ◌||◌, List, [], length, map, if◌then◌else◌, Option, Some, None}
+-- What the readers of single parts take from the front of the pieces after a singleton, and what
+-- they leave. The parts are those of UTS #35 (attributes and keywords after `u`, language and
+-- fields after `t`, and so on); that a part may be read alone, and that the rest of the text is
+-- then ignored, is this project's rule.
+use Rattle.std.specs.Prelude.{◌≡◌, ◌+◌, ◌<◌, Bool, true, false, not, ◌&&◌, ◌||◌, List, [], length, map, if◌then◌else◌, Option, Some, None}
 use Rattle.std.specs.Int.{is_in_range}
 use Rattle.std.specs.List.{AllByRecursion, list_any}
+use Rattle.iloc_grammar.specs.Shapes.{Text, Table}
 use Rattle.iloc_grammar.specs.Words.{Language, UnicodeKey, TransformKey, Attribute, is_word, lower}
 use Rattle.iloc_grammar.specs.Written.{Identifier, Fields, Unicode, Transform, fields_pieces, IsKeyword, IsField, IsOther, IsPrivate, IsIdentifier, kept}
 use Rattle.iloc_grammar.specs.Meaning.{set_of, normal_fields, normal_transform}
@@ -11,39 +13,41 @@ use Rattle.iloc_grammar.specs.Reading.{passing, past, is_two, IdentifierFront}
 use Rattle.iloc_grammar.specs.Faults.{Fault, InvalidSubtag, InvalidExtension, RepeatsVariant}
 use Rattle.iloc_grammar.specs.Blocks.{first_piece}
 
--- the longest front whose pieces pass the test, but nothing where the first piece doesn't pass the first test
-abbrev pub passing_from : (List ℕ → Bool) → (List ℕ → Bool) → List (List ℕ) → List (List ℕ)
+-- the longest front whose pieces pass the test, but nothing where the first piece doesn't pass the
+-- first test
+abbrev pub passing_from : (Text → Bool) → (Text → Bool) → List Text → List Text
 passing_from first test ps = if first (first_piece ps) then passing test ps else []
 
 -- and what is left after it
-abbrev pub past_from : (List ℕ → Bool) → (List ℕ → Bool) → List (List ℕ) → List (List ℕ)
+abbrev pub past_from : (Text → Bool) → (Text → Bool) → List Text → List Text
 past_from first test ps = if first (first_piece ps) then past test ps else ps
 
 -- After `u`: attributes, as many as there are.
 
-abbrev pub attributes_front : List (List ℕ) → List (List ℕ)
+abbrev pub attributes_front : List Text → List Text
 attributes_front ps = passing (is_word Attribute) ps
 
-abbrev pub after_attributes : List (List ℕ) → List (List ℕ)
+abbrev pub after_attributes : List Text → List Text
 after_attributes ps = past (is_word Attribute) ps
 
 -- the attributes that are read, as a set
-abbrev pub attributes_read : List (List ℕ) → List (List ℕ)
+abbrev pub attributes_read : List Text → List Text
 attributes_read ps = set_of (map lower (attributes_front ps))
 
--- Then keywords, which begin with a piece of two bytes and go on with such pieces and with 3 to 8 letters or digits.
+-- Then keywords, which begin with a piece of two bytes and go on with such pieces and with 3 to 8
+-- letters or digits.
 
-abbrev pub is_keyword_piece : List ℕ → Bool
+abbrev pub is_keyword_piece : Text → Bool
 is_keyword_piece p = is_two p || is_word Attribute p
 
-abbrev pub keywords_front : List (List ℕ) → List (List ℕ)
+abbrev pub keywords_front : List Text → List Text
 keywords_front ps = passing_from is_two is_keyword_piece ps
 
-abbrev pub after_keywords : List (List ℕ) → List (List ℕ)
+abbrev pub after_keywords : List Text → List Text
 after_keywords ps = past_from is_two is_keyword_piece ps
 
 -- the front spells keywords, which mean m
-pub record KeywordsRead (ps : List (List ℕ)) (m : Fields) (rest : List (List ℕ)) : Type 0 where
+pub record KeywordsRead (ps : List Text) (m : Fields) (rest : List Text) : Type 0 where
   pub written : Fields
   pub keywords : AllByRecursion IsKeyword written
   pub spelled : keywords_front ps ≡ fields_pieces written
@@ -51,43 +55,45 @@ pub record KeywordsRead (ps : List (List ℕ)) (m : Fields) (rest : List (List �
   pub left : rest ≡ after_keywords ps
 
 -- a piece of two bytes that is no key
-abbrev pub is_bad_key : List ℕ → Bool
+abbrev pub is_bad_key : Text → Bool
 is_bad_key p = is_two p && not (is_word UnicodeKey p)
 
-pub data KeywordsFault (ps : List (List ℕ)) : Fault → Type 0 where
+pub data KeywordsFault (ps : List Text) : Fault → Type 0 where
   bad_key : list_any is_bad_key (keywords_front ps) ≡ true → KeywordsFault ps InvalidExtension
 
 -- attributes and keywords, one after the other, not both absent
-pub record UnicodeRead (ps : List (List ℕ)) (u : Unicode) (rest : List (List ℕ)) : Type 0 where
+pub record UnicodeRead (ps : List Text) (u : Unicode) (rest : List Text) : Type 0 where
   pub attributes_are : u.attributes ≡ attributes_read ps
   pub keywords_are : KeywordsRead (after_attributes ps) u.keywords rest
   pub nonempty : 0 < length (attributes_front ps) + length (keywords_front (after_attributes ps))
 
-pub data UnicodeFault (ps : List (List ℕ)) : Fault → Type 0 where
+pub data UnicodeFault (ps : List Text) : Fault → Type 0 where
   in_keywords : {f : Fault} → KeywordsFault (after_attributes ps) f → UnicodeFault ps f
-  both_absent : attributes_front ps ≡ [] → keywords_front (after_attributes ps) ≡ [] → UnicodeFault ps InvalidExtension
+  both_absent : attributes_front ps ≡ [] → keywords_front (after_attributes ps) ≡ []
+      → UnicodeFault ps InvalidExtension
 
 -- After `t`: where the first piece is a language, the longest front of an identifier's words.
 
-pub data FrontRead (T : ℕ → Bool) (ps : List (List ℕ)) : Option Identifier → List (List ℕ) → Type 0 where
+pub data FrontRead (T : Table) (ps : List Text) : Option Identifier → List Text → Type 0 where
   absent : is_word (Language T) (first_piece ps) ≡ false → FrontRead T ps None ps
-  present : {i : Identifier} {rest : List (List ℕ)} → IsIdentifier T i → IdentifierFront T ps i rest → FrontRead T ps (Some i) rest
+  present : {i : Identifier} {rest : List Text} → IsIdentifier T i → IdentifierFront T ps i rest
+      → FrontRead T ps (Some i) rest
 
 -- Then fields, which begin with a key and go on with keys and with 3 to 8 letters or digits.
 
-abbrev pub is_field_piece : List ℕ → Bool
+abbrev pub is_field_piece : Text → Bool
 is_field_piece p = is_word TransformKey p || is_word Attribute p
 
-abbrev pub fields_front : List (List ℕ) → List (List ℕ)
+abbrev pub fields_front : List Text → List Text
 fields_front ps = passing_from (is_word TransformKey) is_field_piece ps
 
-abbrev pub after_fields : List (List ℕ) → List (List ℕ)
+abbrev pub after_fields : List Text → List Text
 after_fields ps = past_from (is_word TransformKey) is_field_piece ps
 
 -- an identifier and fields, one after the other, not both absent
-pub record TransformRead (T : ℕ → Bool) (ps : List (List ℕ)) (m : Transform) (rest : List (List ℕ)) : Type 0 where
+pub record TransformRead (T : Table) (ps : List Text) (m : Transform) (rest : List Text) : Type 0 where
   pub written : Transform
-  pub middle : List (List ℕ)
+  pub middle : List Text
   pub id : FrontRead T ps written.id middle
   pub fields : AllByRecursion IsField written.fields
   pub spelled : fields_front middle ≡ fields_pieces written.fields
@@ -96,36 +102,38 @@ pub record TransformRead (T : ℕ → Bool) (ps : List (List ℕ)) (m : Transfor
   pub left : rest ≡ after_fields middle
 
 -- a repeated variant, or else a key without a value or nothing there
-pub data TransformFault (T : ℕ → Bool) (ps : List (List ℕ)) : Fault → Type 0 where
+pub data TransformFault (T : Table) (ps : List Text) : Fault → Type 0 where
   repeats : RepeatsVariant T ps → TransformFault T ps InvalidSubtag
-  unread : ¬ (RepeatsVariant T ps) → ((m : Transform) (rest : List (List ℕ)) → ¬ (TransformRead T ps m rest)) → TransformFault T ps InvalidExtension
+  unread : ¬ (RepeatsVariant T ps)
+      → ((m : Transform) (rest : List Text) → ¬ (TransformRead T ps m rest))
+      → TransformFault T ps InvalidExtension
 
 -- After another singleton: the longest front of pieces of 2 to 8 bytes, of which a word is kept.
 
-abbrev pub has_other_length : List ℕ → Bool
+abbrev pub has_other_length : Text → Bool
 has_other_length p = is_in_range 2 8 (length p)
 
-abbrev pub other_front : List (List ℕ) → List (List ℕ)
+abbrev pub other_front : List Text → List Text
 other_front ps = passing has_other_length ps
 
-pub record OtherRead (ps ws rest : List (List ℕ)) : Type 0 where
+pub record OtherRead (ps ws rest : List Text) : Type 0 where
   pub follows : IsOther (other_front ps)
   pub means : ws ≡ kept (other_front ps)
   pub left : rest ≡ past has_other_length ps
 
-pub data OtherFault (ps : List (List ℕ)) : Fault → Type 0 where
+pub data OtherFault (ps : List Text) : Fault → Type 0 where
   no_word : ¬ (IsOther (other_front ps)) → OtherFault ps InvalidExtension
 
 -- what the pieces of such a block mean
-abbrev pub OtherMeans : List (List ℕ) → List (List ℕ) → Type 0
+abbrev pub OtherMeans : List Text → List Text → Type 0
 OtherMeans ps ws = IsOther ps × (ws ≡ kept ps)
 
 -- After `x`: all the rest, which is private words.
 
-pub record PrivateRead (ps ws rest : List (List ℕ)) : Type 0 where
+pub record PrivateRead (ps ws rest : List Text) : Type 0 where
   pub follows : IsPrivate ps
   pub means : ws ≡ map lower ps
   pub left : rest ≡ []
 
-pub data PrivateFault (ps : List (List ℕ)) : Fault → Type 0 where
+pub data PrivateFault (ps : List Text) : Fault → Type 0 where
   not_private : ¬ (IsPrivate ps) → PrivateFault ps InvalidExtension

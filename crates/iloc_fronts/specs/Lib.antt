@@ -4,3 +4,5 @@ pub mod Parts
 pub mod PartValues
 pub mod Computing
 pub mod Extending
+pub mod PartComputing
+pub mod ByReaders

@@ -1,3 +1,4 @@
+pub mod Shapes
 -- In the order in which they read.
 pub mod Pieces
 pub mod Words

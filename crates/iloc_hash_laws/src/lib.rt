@@ -74,7 +74,8 @@ pub fn hash_keywords<H: Hasher>(keywords: &Keywords, state: &mut H)
 
 /// A unicode extension feeds keywords and attributes.
 pub fn hash_unicode<H: Hasher>(unicode: &Unicode, state: &mut H)
-    ensures { state.new ≡ fold H.write state.old (unicode_fed (unicode_parts.value_of unicode.now)) }
+    ensures { state.new
+        ≡ fold H.write state.old (unicode_fed (unicode_parts.value_of unicode.now)) }
 {
     unicode.hash(state);
 }
@@ -95,7 +96,8 @@ pub fn hash_fields<H: Hasher>(fields: &Fields, state: &mut H)
 
 /// A transform feeds its identifier and its fields.
 pub fn hash_transform<H: Hasher>(transform: &Transform, state: &mut H)
-    ensures { state.new ≡ fold H.write state.old (transform_fed (transforms.value_of transform.now)) }
+    ensures { state.new
+        ≡ fold H.write state.old (transform_fed (transforms.value_of transform.now)) }
 {
     transform.hash(state);
 }
@@ -116,7 +118,8 @@ pub fn hash_private<H: Hasher>(private: &Private, state: &mut H)
 
 /// Extensions feed the unicode extension, the transform, the private words and the others.
 pub fn hash_extensions<H: Hasher>(extensions: &Extensions, state: &mut H)
-    ensures { state.new ≡ fold H.write state.old (extensions_fed (all_extensions.value_of extensions.now)) }
+    ensures { state.new
+        ≡ fold H.write state.old (extensions_fed (all_extensions.value_of extensions.now)) }
 {
     extensions.hash(state);
 }
@@ -130,14 +133,16 @@ pub fn hash_locale<H: Hasher>(locale: &Locale, state: &mut H)
 
 /// A subdivision feeds its region and its suffix.
 pub fn hash_subdivision<H: Hasher>(subdivision: &SubdivisionId, state: &mut H)
-    ensures { state.new ≡ fold H.write state.old (subdivision_fed (subdivisions.value_of subdivision.now)) }
+    ensures { state.new
+        ≡ fold H.write state.old (subdivision_fed (subdivisions.value_of subdivision.now)) }
 {
     subdivision.hash(state);
 }
 
 /// A data locale feeds what it stands for: language, script, region with its suffix, variant.
 pub fn hash_data_locale<H: Hasher>(data_locale: &DataLocale, state: &mut H)
-    ensures { state.new ≡ fold H.write state.old (data_locale_fed (data_locales.value_of data_locale.now)) }
+    ensures { state.new
+        ≡ fold H.write state.old (data_locale_fed (data_locales.value_of data_locale.now)) }
 {
     data_locale.hash(state);
 }

@@ -26,11 +26,7 @@ pub trait JsonText: TextValue {
 impl<T: TextValue> JsonText for T {
     #[tactic(auto, using(crate::proofs::ReadBack::json_back))]
     fn to_json(&self, alloc: Global) -> Result<Value, JsonError> {
-        self.is_read_back();
-        let Ok(text) = self.write_to_string(alloc) else {
-            return Err(JsonError::OutOfMemory);
-        };
-        match text.into_owned(alloc) {
+        match self.write_text(alloc) {
             Ok(text) => Ok(Value::String(text)),
             Err(_) => Err(JsonError::OutOfMemory),
         }

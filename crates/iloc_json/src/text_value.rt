@@ -1,5 +1,6 @@
 //! What has a printed text and a reader of texts.
-ghost use Rattle.std.specs.Prelude.{◌≡◌, ℕ, List, Result};
+ghost use Rattle.std.specs.Prelude.{◌≡◌, ℕ, List, Result, IfOk};
+ghost use Rattle.std.specs.String.{string_bytes};
 ghost use Rattle.iloc_grammar.specs.Words.{read};
 ghost use Rattle.iloc_grammar.specs.Pieces.{pieces};
 ghost use Rattle.iloc_grammar.specs.Values.{IsWellFormed};
@@ -11,9 +12,9 @@ ghost use Rattle.iloc_json.specs.Json.{IsReadAs};
 
 use iloc_langid::LanguageIdentifier;
 use iloc_locale::Locale;
-use iloc_subtags::{ParseError, WordKind, WordOf, is_normal};
+use iloc_subtags::{ParseError, WordKind, WordOf};
 use iloc_writeable::Writeable;
-use std::alloc::Global;
+use std::alloc::{AllocError, Global};
 
 /// What prints a text and is read of one.
 pub trait TextValue: Writeable + Sized {
@@ -30,9 +31,18 @@ pub trait TextValue: Writeable + Sized {
     fn read_text(alloc: Global, text: &str) -> Result<Self, ParseError>
         ensures { reads text.now result };
 
-    /// Where the text of the value reads back, it is read as the value, but for want of memory. It does nothing.
-    fn is_read_back(&self)
-        ensures { reads_back self.now → (r : Result Self ParseError) → reads (Self.text self.now) r → IsReadAs (same self.now) r };
+    /// Writes the text of the value. Where that reads back, it is read as the value, but for want of memory.
+    fn write_text(&self, alloc: Global) -> Result<String, AllocError>
+        ensures text { IfOk result (λ written. string_bytes written ≡ Self.text self.now) }
+        ensures back { reads_back self.now → (r : Result Self ParseError)
+            → reads (Self.text self.now) r → IsReadAs (same self.now) r };
+}
+
+// The printed text, in a `String` of its own.
+fn printed<W: Writeable>(value: &W, alloc: Global) -> Result<String, AllocError>
+    ensures { IfOk result (λ written. string_bytes written ≡ W.text value.now) }
+{
+    value.write_to_string(alloc)?.into_owned(alloc)
 }
 
 impl<K: WordKind<N>, const N: usize> TextValue for WordOf<K, N> {
@@ -47,8 +57,8 @@ impl<K: WordKind<N>, const N: usize> TextValue for WordOf<K, N> {
     }
 
     #[tactic(auto, using(crate::proofs::ReadBack::word_back))]
-    fn is_read_back(&self) {
-        is_normal(self);
+    fn write_text(&self, alloc: Global) -> Result<String, AllocError> {
+        String::from_str(alloc, self.as_str())
     }
 }
 
@@ -64,8 +74,9 @@ impl TextValue for LanguageIdentifier {
     }
 
     #[tactic(auto, using(crate::proofs::ReadBack::identifier_back))]
-    fn is_read_back(&self) {
-        iloc_langid::values::is_value(self);
+    fn write_text(&self, alloc: Global) -> Result<String, AllocError> {
+        let _ = self.is_unknown();
+        printed(self, alloc)
     }
 }
 
@@ -82,7 +93,8 @@ impl TextValue for Locale {
     }
 
     #[tactic(auto, using(crate::proofs::ReadBack::locale_back))]
-    fn is_read_back(&self) {
-        iloc_locale::values::is_value(self);
+    fn write_text(&self, alloc: Global) -> Result<String, AllocError> {
+        let _ = self.is_well_formed();
+        printed(self, alloc)
     }
 }

@@ -27,7 +27,7 @@ use Rattle.iloc_grammar.specs.Reading.{take_first, skip_first, passing, past, re
 use Rattle.iloc_grammar.proofs.ReadingLaws.{front_of-pieces, keep_all}
 use Rattle.iloc_langid.specs.declared.identifier.LanguageIdentifier.{LanguageIdentifier}
 use Rattle.iloc_langid.specs.Reads.{value_of}
-use Rattle.iloc_langid.proofs.SetLemmas.{any-set_of}
+use Rattle.iloc_grammar.proofs.SetLaws.{any-set_of}
 use Rattle.iloc_langid.proofs.FrontLemmas.{front_gives, whole_gives}
 use Rattle.iloc_langid.proofs.SmallLemmas.{parts_are, after_region-pieces, past_none}
 

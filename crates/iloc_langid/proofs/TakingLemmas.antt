@@ -1,16 +1,27 @@
 -- Variants that are taken one at a time.
-use Rattle.std.proofs.Common.{◌≡◌, ℕ, ◌<◌, ◌≤◌, Bool, true, false, cond, List, [], ◌∷◌, ◌++◌, length, map, refl, sym, ap, ◌∙◌, subst, arith, append_assoc, append-nil, length-append, Some, None, option_map, true≢false}
-use Rattle.std.specs.List.{list_any}
+use Rattle.std.proofs.Common.{◌≡◌, ℕ, ◌<◌, ◌≤◌, Bool, true, false, cond, not, List, [], ◌∷◌, ◌++◌, length, map, refl, sym, ap, ◌∙◌, subst, arith, append_assoc, append-nil, length-append, Some, None, option_map, true≢false}
+use Rattle.std.specs.Prelude.{Result, Ok, Err}
+use Rattle.std.specs.List.{AllByRecursion, list_any}
+use Rattle.std.specs.List.Sorted.{IsPermutation}
 use Rattle.std.proofs.lemmas.List.{map-append, length-map}
 use Rattle.std.proofs.lemmas.Bool.{or_parts, or_from}
+use Rattle.std.proofs.lemmas.List.Sorted.{IsPermutation-refl, IsPermutation-sym, IsPermutation-push_more, IsPermutation-append_left, length_permutation, list_any-IsPermutation}
 use Rattle.iloc_grammar.specs.Words.{Kind, Variant, is_word, IsWord, normal, lower, word_cmp, is_same}
 use Rattle.iloc_grammar.specs.Written.{AllDifferent}
 use Rattle.iloc_grammar.specs.Meaning.{set_of}
+use Rattle.iloc_grammar.specs.Values.{IsNormal, IsAscending}
 use Rattle.iloc_grammar.specs.Steps.{Reordered, none, front_kept, first_two, in_turn}
 use Rattle.iloc_grammar.specs.Reading.{take_first, skip_first, passing, past}
 use Rattle.iloc_grammar.proofs.MapLaws.{word_cmp_total}
-use Rattle.iloc_grammar.proofs.Orders.{set_of_reordered, different_reordered}
-use Rattle.iloc_langid.proofs.SetLemmas.{any-set_of, set_of-set_of, length-set_of}
+use Rattle.iloc_grammar.proofs.Orders.{different_reordered}
+use Rattle.iloc_grammar.proofs.SetLaws.{length-set_of, length-set_of-different}
+use Rattle.iloc_grammar.proofs.ReadWords.{IsNormal-normal}
+use Rattle.iloc_grammar.proofs.ValuesLaws.{set_of_ascending}
+use Rattle.iloc_grammar.proofs.WellRead.{set_of-ascending, all-set_of}
+use Rattle.iloc_word_set.proofs.CollectorLaws.{permuted_set, differ, taken_in, known_there, one_more}
+use Rattle.iloc_subtags.specs.declared.parse_error.ParseError.{ParseError}
+use Rattle.iloc_subtags.specs.declared.parse_error.ParseError.TheVariants.{InvalidLanguage, InvalidSubtag, InvalidExtension, DuplicatedExtension, OutOfMemory}
+use Rattle.iloc_langid.specs.Reads.{VariantsGive}
 
 -- a word at the front
 pub took : (k : Kind) (ps : List (List ℕ)) (w : List ℕ) → Some w ≡ option_map (normal k) (take_first (is_word k) ps) → (p : List ℕ) × IsWord k p × (w ≡ normal k p) × (ps ≡ p ∷ skip_first (is_word k) ps)
@@ -29,20 +40,15 @@ took_none k (p ∷ ps) e = by (is_word k p) refl e
     by true h e = cc
     by false h e = (rw h refl, rw h refl, rw h refl)
 
--- of the variants before, those up to now are taken, as this set
-pub record Taking (before now set : List (List ℕ)) : Type 0 where
+-- of the variants before, those up to now are taken, as these words
+pub record Taking (before now words : List (List ℕ)) : Type 0 where
   pub taken : List (List ℕ)
   pub keeps : passing (is_word Variant) before ≡ taken ++ passing (is_word Variant) now
   pub skips : past (is_word Variant) before ≡ past (is_word Variant) now
-  pub set_is : set ≡ set_of (map lower taken)
-  pub different : AllDifferent word_cmp (map lower taken)
+  pub permutes : IsPermutation (map lower taken) words
 
 pub taking_none : (ps : List (List ℕ)) → Taking ps ps []
-taking_none ps = record { taken = []; keeps = refl; skips = refl; set_is = refl; different = tt }
-
-rotated : {X : Type 0} (x : X) (xs : List X) → Reordered (x ∷ xs) (xs ++ x ∷ [])
-rotated x [] = front_kept none
-rotated x (y ∷ xs) = in_turn first_two (front_kept (rotated x xs))
+taking_none ps = record { taken = []; keeps = refl; skips = refl; permutes = IsPermutation-refl [] }
 
 back : {X : Type 0} (x : X) (xs : List X) → Reordered (xs ++ x ∷ []) (x ∷ xs)
 back x [] = front_kept none
@@ -59,50 +65,172 @@ different_front (x ∷ xs) ys h = (any_front (is_same x) xs ys h.0, different_fr
 map-last : (xs : List (List ℕ)) (p : List ℕ) → map lower (xs ++ p ∷ []) ≡ map lower xs ++ lower p ∷ []
 map-last xs p = map-append lower xs (p ∷ [])
 
-module _ (before now set : List (List ℕ)) (t : Taking before now set) (p : List ℕ) (h : IsWord Variant p) (later : List (List ℕ)) (e : now ≡ p ∷ later) where
+module _ (before now words : List (List ℕ)) (t : Taking before now words) (p : List ℕ) (h : IsWord Variant p) (later : List (List ℕ)) (e : now ≡ p ∷ later) where
   keeps_more : passing (is_word Variant) before ≡ t.taken ++ p ∷ passing (is_word Variant) later
   keeps_more = t.keeps ∙ ap (λ ps. t.taken ++ passing (is_word Variant) ps) e ∙ rw h refl
 
-  pub taking_one_more : list_any (is_same (lower p)) set ≡ false → Taking before later (set_of (lower p ∷ set))
-  taking_one_more new = record {
+  pub taking_one_more : (more : List (List ℕ)) → IsPermutation (lower p ∷ words) more → Taking before later more
+  taking_one_more more m = record {
     taken = t.taken ++ p ∷ [];
     keeps = keeps_more ∙ sym (append_assoc t.taken (p ∷ []) (passing (is_word Variant) later));
     skips = t.skips ∙ ap (past (is_word Variant)) e ∙ rw h refl;
-    set_is = ap (λ s. set_of (lower p ∷ s)) t.set_is ∙ set_of-set_of (lower p) (map lower t.taken) ∙ set_of_reordered (rotated (lower p) (map lower t.taken)) ∙ ap set_of (sym (map-last t.taken p));
-    different = subst (AllDifferent word_cmp) (sym (map-last t.taken p)) (different_reordered word_cmp word_cmp_total (rotated (lower p) (map lower t.taken)) (sym (any-set_of (lower p) (map lower t.taken)) ∙ ap (list_any (is_same (lower p))) (sym t.set_is) ∙ new, t.different));
+    permutes = subst (λ vs. IsPermutation vs more) (sym (map-last t.taken p)) (IsPermutation-push_more (map lower t.taken) words more (lower p) t.permutes m);
   }
 
-  pub repeats : list_any (is_same (lower p)) set ≡ true → ¬ (AllDifferent word_cmp (map lower (passing (is_word Variant) before)))
+  pub repeats : list_any (is_same (lower p)) words ≡ true → ¬ (AllDifferent word_cmp (map lower (passing (is_word Variant) before)))
   repeats old d =
       let whole : map lower (passing (is_word Variant) before) ≡ (map lower t.taken ++ lower p ∷ []) ++ map lower (passing (is_word Variant) later) =
       ap (map lower) (keeps_more ∙ sym (append_assoc t.taken (p ∷ []) (passing (is_word Variant) later))) ∙ map-append lower (t.taken ++ p ∷ []) (passing (is_word Variant) later) ∙ ap (λ l. l ++ map lower (passing (is_word Variant) later)) (map-last t.taken p) in
       let first = different_front _ _ (subst (AllDifferent word_cmp) whole d) in
       let turned = different_reordered word_cmp word_cmp_total (back (lower p) (map lower t.taken)) first in
-      true≢false (sym old ∙ ap (list_any (is_same (lower p))) t.set_is ∙ any-set_of (lower p) (map lower t.taken) ∙ turned.0)
+      true≢false (sym old ∙ sym (list_any-IsPermutation (is_same (lower p)) (map lower t.taken) words t.permutes) ∙ turned.0)
+
+not_fewer : (m n : ℕ) → (m < n → ⊥) → m ≤ n → m ≡ n
+not_fewer m n h l = omega (arith, h, l)
+
+-- words that are known to be variants stand before
+
+few_pass : (ws ps : List (List ℕ)) → AllByRecursion (IsNormal Variant) ws → (passing (is_word Variant) (ws ++ ps) ≡ ws ++ passing (is_word Variant) ps) × (past (is_word Variant) (ws ++ ps) ≡ past (is_word Variant) ps)
+few_pass [] ps n = (refl, refl)
+few_pass (w ∷ ws) ps n = let more = few_pass ws ps n.1 in let h = n.0.0 in rw h (ap (λ l. w ∷ l) more.0, more.1)
+
+few_lower : (ws : List (List ℕ)) → AllByRecursion (IsNormal Variant) ws → map lower ws ≡ ws
+few_lower [] n = refl
+few_lower (w ∷ ws) n = rw (n.0.1, few_lower ws n.1) refl
+
+pub taking_few : (ws ps : List (List ℕ)) → AllByRecursion (IsNormal Variant) ws → Taking (ws ++ ps) ps ws
+taking_few ws ps n = record {
+  taken = ws;
+  keeps = (few_pass ws ps n).0;
+  skips = (few_pass ws ps n).1;
+  permutes = subst (λ vs. IsPermutation vs ws) (sym (few_lower ws n)) (IsPermutation-refl ws);
+}
+
+different_permutation : (vs ws : List (List ℕ)) → IsPermutation vs ws → AllDifferent word_cmp vs → AllDifferent word_cmp ws
+different_permutation vs ws p d = differ ws (ap length (sym (permuted_set vs ws p)) ∙ length-set_of-different vs d ∙ sym (length_permutation vs ws p))
+
+-- what is read after them is read of all
+pub taken_after : (before now ws rest : List (List ℕ)) → Taking before now ws → AllByRecursion (IsNormal Variant) ws → (r : Result (List (List ℕ)) ParseError) → VariantsGive (ws ++ now) rest r → VariantsGive before rest r
+taken_after before now ws rest t n r = by r
+  where
+    kept : map lower (passing (is_word Variant) (ws ++ now)) ≡ ws ++ map lower (passing (is_word Variant) now)
+    kept = ap (map lower) (few_pass ws now n).0 ∙ map-append lower ws _ ∙ ap (λ vs. vs ++ map lower (passing (is_word Variant) now)) (few_lower ws n)
+
+    whole : map lower (passing (is_word Variant) before) ≡ map lower t.taken ++ map lower (passing (is_word Variant) now)
+    whole = ap (map lower) t.keeps ∙ map-append lower t.taken _
+
+    same : IsPermutation (map lower (passing (is_word Variant) before)) (map lower (passing (is_word Variant) (ws ++ now)))
+    same = rw (whole, kept) (IsPermutation-append_left (map lower (passing (is_word Variant) now)) (map lower t.taken) ws t.permutes)
+
+    as_many : length (passing (is_word Variant) (ws ++ now)) ≡ length (passing (is_word Variant) before)
+    as_many = sym (length-map _ lower) ∙ length_permutation _ _ same ∙ length-map _ lower
+
+    by : (r : Result (List (List ℕ)) ParseError) → VariantsGive (ws ++ now) rest r → VariantsGive before rest r
+    by (Ok vs) v = (v.0 ∙ sym (permuted_set _ _ same), different_permutation _ _ (IsPermutation-sym _ _ same) v.1, v.2 ∙ (few_pass ws now n).1 ∙ sym t.skips)
+    by (Err InvalidSubtag) v = λ d. v (different_permutation _ _ same d)
+    by (Err OutOfMemory) v = subst (λ k. 4 < k) as_many v
+    by (Err InvalidLanguage) v = v
+    by (Err InvalidExtension) v = v
+    by (Err DuplicatedExtension) v = v
 
 -- all are taken
-pub taken_all : (before now set : List (List ℕ)) → Taking before now set → (passing (is_word Variant) now ≡ []) × (past (is_word Variant) now ≡ now) → (set ≡ set_of (map lower (passing (is_word Variant) before))) × AllDifferent word_cmp (map lower (passing (is_word Variant) before)) × (now ≡ past (is_word Variant) before)
-taken_all before now set t e =
-    let whole : passing (is_word Variant) before ≡ t.taken = t.keeps ∙ ap (λ l. t.taken ++ l) e.0 ∙ append-nil t.taken in
-    (t.set_is ∙ ap (λ l. set_of (map lower l)) (sym whole), subst (λ l. AllDifferent word_cmp (map lower l)) (sym whole) t.different, sym (t.skips ∙ e.1))
+module _ (before now words : List (List ℕ)) (t : Taking before now words) (none : (passing (is_word Variant) now ≡ []) × (past (is_word Variant) now ≡ now)) (set : List (List ℕ)) (e : set ≡ set_of words) where
+  all_of : IsPermutation (map lower (passing (is_word Variant) before)) words
+  all_of = subst (λ ps. IsPermutation (map lower ps) words) (sym (t.keeps ∙ ap (λ l. t.taken ++ l) none.0 ∙ append-nil t.taken)) t.permutes
+
+  set_is : set ≡ set_of (map lower (passing (is_word Variant) before))
+  set_is = e ∙ sym (permuted_set _ _ all_of)
+
+  -- as many in the set: all differ
+  pub taken_all : (length set < length words → ⊥) → VariantsGive before now (Ok set)
+  taken_all many =
+      let l = length_permutation _ _ all_of in
+      let n = length-set_of words in
+      let k = ap length e in
+      let as_long : length (set_of (map lower (passing (is_word Variant) before))) ≡ length (map lower (passing (is_word Variant) before)) = ap length (sym set_is) ∙ not_fewer _ _ many (omega (arith, n, k)) ∙ l in
+      (set_is, differ _ as_long, sym (t.skips ∙ none.1))
+
+  -- fewer: two are equal
+  pub taken_twice : length set < length words → ¬ (AllDifferent word_cmp (map lower (passing (is_word Variant) before)))
+  taken_twice fewer d =
+      let l = length_permutation _ _ all_of in
+      let n = ap length set_is ∙ length-set_of-different _ d in
+      omega (arith, fewer, l, n)
+
+pub more_done : (before now words later set : List (List ℕ)) → Taking before now words → None ≡ option_map (normal Variant) (take_first (is_word Variant) now) → later ≡ skip_first (is_word Variant) now → set ≡ set_of words → (length set < length words → ⊥) → VariantsGive before later (Ok set)
+more_done before now words later set t e l is many =
+    let (ended, past_is, stays) = took_none Variant now e in
+    subst (λ rest. VariantsGive before rest (Ok set)) (sym (l ∙ stays)) (taken_all before now words t (ended, past_is) set is many)
+
+pub more_twice : (before now words set : List (List ℕ)) → Taking before now words → None ≡ option_map (normal Variant) (take_first (is_word Variant) now) → set ≡ set_of words → length set < length words → ¬ (AllDifferent word_cmp (map lower (passing (is_word Variant) before)))
+more_twice before now words set t e is fewer =
+    let (ended, past_is, stays) = took_none Variant now e in
+    taken_twice before now words t (ended, past_is) set is fewer
 
 -- the same, of what a take of a word says
-module _ (before now set : List (List ℕ)) (t : Taking before now set) (w : List ℕ) (later : List (List ℕ)) (e : Some w ≡ option_map (normal Variant) (take_first (is_word Variant) now)) (l : later ≡ skip_first (is_word Variant) now) where
-  pub takes_new : list_any (is_same w) set ≡ false → Taking before later (set_of (w ∷ set))
-  takes_new new =
+module _ (before now words : List (List ℕ)) (t : Taking before now words) (w : List ℕ) (later : List (List ℕ)) (e : Some w ≡ option_map (normal Variant) (take_first (is_word Variant) now)) (l : later ≡ skip_first (is_word Variant) now) where
+  pub takes_new : (more : List (List ℕ)) → IsPermutation (w ∷ words) more → Taking before later more
+  takes_new more m =
       let (p, h, same, cut) = took Variant now w e in
-      subst (λ x. Taking before later (set_of (x ∷ set))) (sym same) (taking_one_more before now set t p h later (cut ∙ ap (λ ps. p ∷ ps) (sym l)) (subst (λ x. list_any (is_same x) set ≡ false) same new))
+      taking_one_more before now words t p h later (cut ∙ ap (λ ps. p ∷ ps) (sym l)) more (subst (λ x. IsPermutation (x ∷ words) more) same m)
 
-  pub takes_old : list_any (is_same w) set ≡ true → ¬ (AllDifferent word_cmp (map lower (passing (is_word Variant) before)))
+  pub takes_old : list_any (is_same w) words ≡ true → ¬ (AllDifferent word_cmp (map lower (passing (is_word Variant) before)))
   takes_old old =
       let (p, h, same, cut) = took Variant now w e in
-      repeats before now set t p h later (cut ∙ ap (λ ps. p ∷ ps) (sym l)) (subst (λ x. list_any (is_same x) set ≡ true) same old)
+      repeats before now words t p h later (cut ∙ ap (λ ps. p ∷ ps) (sym l)) (subst (λ x. list_any (is_same x) words ≡ true) same old)
 
   -- a fifth
-  pub takes_much : 4 ≤ length set → 4 < length (passing (is_word Variant) before)
+  pub takes_much : 4 < length (set_of (w ∷ words)) → 4 < length (passing (is_word Variant) before)
   takes_much h =
       let (p, q, same, cut) = took Variant now w e in
-      let more = keeps_more before now set t p q later (cut ∙ ap (λ ps. p ∷ ps) (sym l)) in
-      let few : length set ≤ length t.taken = subst (λ n. length set ≤ n) (length-map t.taken lower) (subst (λ s. length s ≤ length (map lower t.taken)) (sym t.set_is) (length-set_of (map lower t.taken))) in
-      let whole = ap length more ∙ length-append t.taken (p ∷ passing (is_word Variant) later) in
-      omega (arith, h, few, whole)
+      let more = ap length (keeps_more before now words t p q later (cut ∙ ap (λ ps. p ∷ ps) (sym l))) ∙ length-append t.taken (p ∷ passing (is_word Variant) later) in
+      let n = length_permutation _ _ t.permutes ∙ length-map t.taken lower in
+      omega (arith, h, length-set_of (w ∷ words), n, more)
+
+-- fewer than four variants, as a set
+
+below : (n : ℕ) → n ≤ 4 → (n ≡ 4 → ⊥) → n < 4
+below n l h = omega (arith, l, h)
+
+pub record TakingFew (before now set : List (List ℕ)) : Type 0 where
+  pub taking : Taking before now set
+  pub ascending : IsAscending set
+  pub normal : AllByRecursion (IsNormal Variant) set
+  pub short : length set < 4
+
+pub few_none : (ps : List (List ℕ)) → TakingFew ps ps []
+few_none ps = record { taking = taking_none ps; ascending = refl; normal = tt; short = omega arith }
+
+module _ (before now set : List (List ℕ)) (t : TakingFew before now set) (w : List ℕ) (later : List (List ℕ)) (e : Some w ≡ option_map (normal Variant) (take_first (is_word Variant) now)) (l : later ≡ skip_first (is_word Variant) now)
+    (more : List (List ℕ)) (added : Bool) (a : added ≡ not (list_any (is_same w) set)) (is : more ≡ set_of (w ∷ set)) where
+  normal_word : IsNormal Variant w
+  normal_word = let (p, h, same, cut) = took Variant now w e in subst (IsNormal Variant) (sym same) (IsNormal-normal Variant p h)
+
+  few_taken : added ≡ true → Taking before later more
+  few_taken new = takes_new before now set t.taking w later e l more (one_more w set more added (taken_in added w set more t.ascending a is) new)
+
+  few_normal : AllByRecursion (IsNormal Variant) more
+  few_normal = subst (AllByRecursion (IsNormal Variant)) (sym is) (all-set_of (IsNormal Variant) (w ∷ set) (normal_word, t.normal))
+
+  few_length : length more ≤ 4
+  few_length = omega (arith, t.short, length-set_of (w ∷ set), ap length is)
+
+  pub few_new : added ≡ true → (length more ≡ 4 → ⊥) → TakingFew before later more
+  few_new new fewer = record {
+    taking = few_taken new;
+    ascending = subst IsAscending (sym is) (set_of-ascending (w ∷ set));
+    normal = few_normal;
+    short = below _ few_length fewer;
+  }
+
+  pub few_more : added ≡ true → (rest : List (List ℕ)) (r : Result (List (List ℕ)) ParseError) → VariantsGive (more ++ later) rest r → VariantsGive before rest r
+  few_more new rest r = taken_after before later more rest (few_taken new) few_normal r
+
+  pub few_old : added ≡ false → ¬ (AllDifferent word_cmp (map lower (passing (is_word Variant) before)))
+  few_old old = takes_old before now set t.taking w later e l (known_there w set more added (taken_in added w set more t.ascending a is) old)
+
+not_less : (n : ℕ) → n < n → ⊥
+not_less n l = omega (arith, l)
+
+pub few_done : (before now set later : List (List ℕ)) → TakingFew before now set → None ≡ option_map (normal Variant) (take_first (is_word Variant) now) → later ≡ skip_first (is_word Variant) now → VariantsGive before later (Ok set)
+few_done before now set later t e l = more_done before now set later set t.taking e l (sym (set_of_ascending set t.ascending)) (not_less (length set))

@@ -1,16 +1,18 @@
 //! Language identifiers.
-ghost use Rattle.std.specs.Prelude.{◌≡◌, ◌↔◌, IsTrue};
+ghost use Rattle.std.specs.Prelude.{◌≡◌, ◌↔◌, IsTrue, IfSome, Ok, OnErr};
+ghost use Rattle.std.specs.Result.{result_and};
 ghost use Rattle.std.specs.Ordering.{nat_cmp};
 ghost use Rattle.std.specs.Cmp.Lexicographic.{slice_cmp};
+ghost use Rattle.iloc_grammar.specs.Words.{languages};
 ghost use Rattle.iloc_grammar.specs.Pieces.{pieces};
 ghost use Rattle.iloc_grammar.specs.Blocks.{head};
-ghost use Rattle.iloc_grammar.specs.Values.{identifier_text};
+ghost use Rattle.iloc_grammar.specs.Values.{IsIdentifierValue, IsNormal, identifier_text};
 ghost use Rattle.iloc_orders.specs.Orders.{identifier_cmp};
 ghost use Rattle.iloc_langid.specs.Unknown.{unknown_identifier};
 
-use crate::reader::{read_head, read_whole};
+use crate::reader::{fill_whole, read_head, read_whole};
 use iloc_parser::SubtagIterator;
-use iloc_subtags::{Language, ParseError, Region, Script};
+use iloc_subtags::{Language, ParseError, Region, Script, WordKind, WordOf};
 use iloc_word_set::Variants;
 use iloc_writeable::{Pieces, Sink, Writeable, cmp_utf8};
 use std::alloc::Global;
@@ -45,9 +47,14 @@ impl LanguageIdentifier {
     }
 
     /// Whether this is `und` and nothing else.
+    ///
+    /// In every identifier, read or built, all words are in the normal case of their kinds, and the variants
+    /// ascend strictly.
     pub fn is_unknown(&self) -> bool
-        ensures { IsTrue result ↔ (value_of self.now ≡ unknown_identifier) }
+        ensures exactly { IsTrue result ↔ (value_of self.now ≡ unknown_identifier) }
+        ensures value { IsIdentifierValue languages (value_of self.now) }
     {
+        self.look_at_words();
         self.language.is_unknown()
             && self.script.is_none()
             && self.region.is_none()
@@ -67,6 +74,28 @@ impl LanguageIdentifier {
         ensures narrow_accepted { AcceptsNarrow code_units.now result }
     {
         read_whole(alloc, &mut SubtagIterator::new(code_units))
+    }
+
+    /// The same in place of what this identifier was: `und` after a refusal.
+    pub fn read(&mut self, alloc: Global, code_units: &[u8]) -> Result<(), ParseError>
+        ensures reads { ReadsAs (pieces code_units.now) (result_and result (Ok self.new)) }
+        ensures refused { OnErr result (value_of self.new ≡ unknown_identifier) }
+    {
+        let answer = fill_whole(alloc, &mut SubtagIterator::new(code_units), self);
+        if answer.is_err() {
+            self.clear();
+        }
+        answer
+    }
+
+    /// Leaves the unknown identifier, `und`.
+    pub fn clear(&mut self)
+        ensures { value_of self.new ≡ unknown_identifier }
+    {
+        self.language = Language::unknown();
+        self.script = None;
+        self.region = None;
+        self.variants.clear();
     }
 
     /// The same of text.
@@ -103,6 +132,25 @@ impl LanguageIdentifier {
             .then_with(|| self.script.cmp(&other.script))
             .then_with(|| self.region.cmp(&other.region))
             .then_with(|| self.variants.cmp(&other.variants))
+    }
+
+    // Looks at each word, so that all are known to be normal.
+    fn look_at_words(&self)
+        ensures { IsIdentifierValue languages (value_of self.now) }
+    {
+        let _ = self.language.as_str();
+        look_at(&self.script);
+        look_at(&self.region);
+        let _ = self.variants.as_slice();
+    }
+}
+
+// Looks at the word, where there is one.
+fn look_at<K: WordKind<N>, const N: usize>(word: &Option<WordOf<K, N>>)
+    ensures { IfSome word.now (IsNormal K.kind) }
+{
+    if let Some(word) = word {
+        let _ = word.as_str();
     }
 }
 

@@ -1,5 +1,6 @@
 //! Reads identifiers from pieces.
-ghost use Rattle.std.specs.Prelude.{◌≡◌, [], OnOk};
+ghost use Rattle.std.specs.Prelude.{◌≡◌, ◌++◌, [], length, Ok, OnOk};
+ghost use Rattle.std.specs.Result.{result_and};
 ghost use Rattle.iloc_grammar.specs.Blocks.{head};
 ghost use Rattle.iloc_grammar.specs.Reading.{after_head};
 ghost use Rattle.iloc_parser.specs.Left.{left};
@@ -8,39 +9,67 @@ ghost use Rattle.iloc_langid.specs.Reads.{VariantsGive, FrontGives, FrontReadsAs
 use crate::identifier::LanguageIdentifier;
 use iloc_parser::{SubtagIterator, take_word};
 use iloc_subtags::{Language, ParseError, RegionKind, ScriptKind, VariantKind, WordKind, WordOf};
-use iloc_word_set::Variants;
+use iloc_word_set::{Variants, WordCollector};
 use std::alloc::Global;
 
-/// Takes the variants that stand at the front.
+/// Takes the variants that stand at the front. A set of n variants costs n log n, in whatever order they
+/// stand.
 pub fn read_variants(alloc: Global, iter: &mut SubtagIterator<'_>) -> Result<Variants, ParseError>
     ensures { VariantsGive (left iter.old) (left iter.new) result }
 {
     let mut variants = Variants::new();
-    'words: while let Some(variant) = take_word::<VariantKind, 8>(iter) {
+    'few: while let Some(variant) = take_word::<VariantKind, 8>(iter) {
         if !variants.push(alloc, variant)? {
             return Err(ParseError::InvalidSubtag);
+        }
+        if variants.len() == 4 {
+            return read_more_variants(alloc, iter, variants);
         }
     }
     Ok(variants)
 }
 
+// The same where these four variants stood before.
+#[inline(never)]
+fn read_more_variants(
+    alloc: Global,
+    iter: &mut SubtagIterator<'_>,
+    four: Variants,
+) -> Result<Variants, ParseError>
+    requires { length four ≡ 4 }
+    ensures { VariantsGive (four ++ left iter.old) (left iter.new) result }
+{
+    four.as_slice();
+    let mut words = WordCollector::from_set(four);
+    'words: while let Some(variant) = take_word::<VariantKind, 8>(iter) {
+        if !words.push(alloc, variant)? {
+            return Err(ParseError::InvalidSubtag);
+        }
+    }
+    let taken = words.len();
+    let variants = words.into_set();
+    if variants.len() < taken {
+        return Err(ParseError::InvalidSubtag);
+    }
+    Ok(variants)
+}
+
 // Reads the words at the front, each where it fits.
-fn front(alloc: Global, iter: &mut SubtagIterator<'_>) -> Result<LanguageIdentifier, ParseError>
-    ensures { FrontGives (left iter.old) (left iter.new) result }
+fn fill(
+    alloc: Global,
+    iter: &mut SubtagIterator<'_>,
+    identifier: &mut LanguageIdentifier,
+) -> Result<(), ParseError>
+    ensures { FrontGives (left iter.old) (left iter.new) (result_and result (Ok identifier.new)) }
 {
     let Some(first) = iter.next() else {
         return Err(ParseError::InvalidLanguage);
     };
-    let language = Language::try_from_utf8(first)?;
-    let script = take_word::<ScriptKind, 4>(iter);
-    let region = take_word::<RegionKind, 3>(iter);
-    let variants = read_variants(alloc, iter)?;
-    Ok(LanguageIdentifier {
-        language,
-        script,
-        region,
-        variants,
-    })
+    identifier.language = Language::try_from_utf8(first)?;
+    identifier.script = take_word::<ScriptKind, 4>(iter);
+    identifier.region = take_word::<RegionKind, 3>(iter);
+    identifier.variants = read_variants(alloc, iter)?;
+    Ok(())
 }
 
 /// Reads the longest front of an identifier's words.
@@ -50,7 +79,20 @@ pub fn read_front(
 ) -> Result<LanguageIdentifier, ParseError>
     ensures { FrontReadsAs (left iter.old) (left iter.new) result }
 {
-    front(alloc, iter)
+    let mut identifier = LanguageIdentifier::unknown();
+    fill_front(alloc, iter, &mut identifier)?;
+    Ok(identifier)
+}
+
+/// The same in place of what the identifier was. After a refusal it holds some of its words.
+pub fn fill_front(
+    alloc: Global,
+    iter: &mut SubtagIterator<'_>,
+    identifier: &mut LanguageIdentifier,
+) -> Result<(), ParseError>
+    ensures { FrontReadsAs (left iter.old) (left iter.new) (result_and result (Ok identifier.new)) }
+{
+    fill(alloc, iter, identifier)
 }
 
 /// Reads all the pieces as an identifier.
@@ -61,10 +103,24 @@ pub fn read_whole(
     ensures reads { ReadsAs (left iter.old) result }
     ensures rest { OnOk result (left iter.new ≡ []) }
 {
-    let identifier = front(alloc, iter)?;
+    let mut identifier = LanguageIdentifier::unknown();
+    fill_whole(alloc, iter, &mut identifier)?;
+    Ok(identifier)
+}
+
+/// The same in place of what the identifier was. After a refusal it holds some of its words.
+pub fn fill_whole(
+    alloc: Global,
+    iter: &mut SubtagIterator<'_>,
+    identifier: &mut LanguageIdentifier,
+) -> Result<(), ParseError>
+    ensures reads { ReadsAs (left iter.old) (result_and result (Ok identifier.new)) }
+    ensures rest { OnOk result (left iter.new ≡ []) }
+{
+    fill(alloc, iter, identifier)?;
     match iter.peek() {
         Some(_) => Err(ParseError::InvalidSubtag),
-        None => Ok(identifier),
+        None => Ok(()),
     }
 }
 
@@ -76,9 +132,23 @@ pub fn read_head(
     ensures reads { ReadsAs (head (left iter.old)) result }
     ensures rest { OnOk result (left iter.new ≡ after_head (left iter.old)) }
 {
-    let head = front(alloc, iter)?;
+    let mut identifier = LanguageIdentifier::unknown();
+    fill_head(alloc, iter, &mut identifier)?;
+    Ok(identifier)
+}
+
+/// The same in place of what the identifier was. After a refusal it holds some of its words.
+pub fn fill_head(
+    alloc: Global,
+    iter: &mut SubtagIterator<'_>,
+    identifier: &mut LanguageIdentifier,
+) -> Result<(), ParseError>
+    ensures reads { ReadsAs (head (left iter.old)) (result_and result (Ok identifier.new)) }
+    ensures rest { OnOk result (left iter.new ≡ after_head (left iter.old)) }
+{
+    fill(alloc, iter, identifier)?;
     match iter.peek() {
         Some(piece) if piece.len() != 1 => Err(ParseError::InvalidSubtag),
-        _ => Ok(head),
+        _ => Ok(()),
     }
 }

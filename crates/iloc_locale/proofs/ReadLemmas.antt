@@ -1,6 +1,7 @@
 -- From what the readers of the head and of the blocks answer to what the whole text is read as.
 use Rattle.std.proofs.Common.{◌≡◌, ◌⊎◌, inl, inr, IsOk, ℕ, zero, suc, ◌<◌, ◌≤◌, Bool, true, false, cond, List, [], ◌∷◌, ◌++◌, length, filter, refl, sym, ap, ◌∙◌, subst, arith, Option, Some, None, IfSome, option_to_list, Result, Ok, Err, IfOk, IfErr, true≢false}
 use Rattle.std.specs.List.{AllByRecursion}
+use Rattle.std.specs.Result.{result_and}
 use Rattle.iloc_grammar.specs.Pieces.{pieces}
 use Rattle.iloc_grammar.specs.Words.{Language, Script, Region, Variant, is_word, IsWord, languages, two_or_three}
 use Rattle.iloc_grammar.specs.Written.{identifier_pieces}
@@ -22,8 +23,8 @@ use Rattle.iloc_grammar.proofs.Readings as readings
 use Rattle.iloc_grammar.proofs.Readings.{head-spelling}
 use Rattle.iloc_grammar.proofs.ReadingLaws.{from_block_starts, front_of-pieces}
 use Rattle.iloc_small.specs.Inline.{IsInline}
-use Rattle.iloc_inline.specs.Blocks.{ReachesLongBlock}
-use Rattle.iloc_inline.proofs.BlockLaws.{inline_by_blocks, none_long}
+use Rattle.iloc_small.specs.InlineBlocks.{ReachesLongBlock}
+use Rattle.iloc_small.proofs.InlineBlockLaws.{inline_by_blocks, none_long}
 use Rattle.iloc_subtags.specs.declared.parse_error.ParseError.{ParseError}
 use Rattle.iloc_subtags.specs.declared.parse_error.ParseError.TheVariants.{InvalidLanguage, InvalidSubtag, InvalidExtension, DuplicatedExtension, OutOfMemory}
 use Rattle.iloc_langid.specs.declared.identifier.LanguageIdentifier.{LanguageIdentifier}
@@ -34,7 +35,7 @@ use Rattle.iloc_blocks.specs.Blocks.{BlocksMean}
 use Rattle.iloc_blocks.specs.Whole.{BlocksReadAs}
 use Rattle.iloc_blocks.proofs.RoundLaws.{blocks-from_block}
 use Rattle.iloc_locale.specs.declared.locale.Locale.{Locale}
-use Rattle.iloc_locale.specs.LocaleValue.{value_of}
+use Rattle.iloc_locale.specs.LocaleValue.{value_of, unknown_locale}
 use Rattle.iloc_locale.specs.Reads.{WantsMemory, LocaleReadsAs, Accepts, Refuses, error_of}
 
 -- the head and the blocks after it
@@ -100,6 +101,13 @@ blocks_refused t id x OutOfMemory h b = (
   subst (λ p. IsWord (Language languages) p) (sym (ap first_piece h.spelled) ∙ same_first (pieces t)) h.grammatical.words.language,
   inr (spells t id h, subst (ReachesLongBlock languages []) (tail_is (pieces t)) b),
 )
+
+pub blocks_read : (t : List ℕ) (l : Locale) (r : Result (Unit {0}) ParseError) → ReadsAs (head (pieces t)) (Ok l.id) → BlocksReadAs (after_head (pieces t)) (extensions.value_of l.extensions) r → LocaleReadsAs t (result_and r (Ok l))
+blocks_read t l (Ok x) h b = accepts t l.id (extensions.value_of l.extensions) h b
+blocks_read t l (Err e) h b = blocks_refused t l.id (extensions.value_of l.extensions) e h b
+
+pub no_extensions : (l : Locale) → value_of l ≡ unknown_locale → extensions.value_of l.extensions ≡ extensions.none
+no_extensions l e = ap (λ (M : meaning.Locale). record { unicode = M.unicode; transform = M.transform; private = M.private; others = M.others }) e
 
 -- what else is known of what is read
 

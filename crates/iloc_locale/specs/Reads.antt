@@ -7,7 +7,7 @@ use Rattle.iloc_grammar.specs.Meaning.{Means}
 use Rattle.iloc_grammar.specs.Faults as faults
 use Rattle.iloc_grammar.specs.Faults.{Fault, HasFault, SpellsIdentifier}
 use Rattle.iloc_grammar.specs.Blocks.{first_piece, head, tail_blocks}
-use Rattle.iloc_inline.specs.Blocks.{ReachesLongBlock}
+use Rattle.iloc_small.specs.InlineBlocks.{ReachesLongBlock}
 use Rattle.iloc_langid.specs.Reads as langid
 use Rattle.iloc_subtags.specs.declared.parse_error.ParseError.{ParseError}
 use Rattle.iloc_subtags.specs.declared.parse_error.ParseError.TheVariants.{InvalidLanguage, InvalidSubtag, InvalidExtension, DuplicatedExtension, OutOfMemory}

@@ -18,7 +18,6 @@ pub mod conversions;
 pub mod locale;
 pub mod normalizing;
 pub mod printing;
-pub mod values;
 
 pub use locale::Locale;
 

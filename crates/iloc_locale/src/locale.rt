@@ -1,5 +1,6 @@
 //! The type, and its readers.
-ghost use Rattle.std.specs.Prelude.{◌≡◌, ℕ, List, IsOk, IfOk, IfErr};
+ghost use Rattle.std.specs.Prelude.{◌≡◌, ℕ, List, IsOk, IfOk, IfErr, Ok, OnErr};
+ghost use Rattle.std.specs.Result.{result_and};
 ghost use Rattle.iloc_grammar.specs.Words.{languages, two_or_three};
 ghost use Rattle.iloc_grammar.specs.Meaning as meaning;
 ghost use Rattle.iloc_grammar.specs.Meaning.{Means};
@@ -11,7 +12,7 @@ ghost use Rattle.iloc_small.specs.Inline.{IsInline};
 use iloc_blocks::read_blocks;
 use iloc_extensions::Extensions;
 use iloc_langid::LanguageIdentifier;
-use iloc_langid::reader::read_head;
+use iloc_langid::reader::fill_head;
 use iloc_parser::SubtagIterator;
 use iloc_subtags::ParseError;
 use std::alloc::Global;
@@ -29,6 +30,8 @@ pub struct Locale {
 }
 
 impl Locale {
+    ghost use Rattle.iloc_extensions.specs.ExtensionsValue as extensions;
+    ghost use Rattle.iloc_extensions.specs.ExtensionsValue.{none};
     ghost use Rattle.iloc_locale.specs.LocaleValue.{value_of, unknown_locale};
     ghost use Rattle.iloc_locale.specs.Reads.{LocaleReadsAs, Accepts, Refuses};
 
@@ -61,14 +64,40 @@ impl Locale {
         ensures narrow_accepted { (M : meaning.Locale) → Means two_or_three code_units.now M
             → IfErr result (λ e. e ≡ ParseError.OutOfMemory) }
     {
-        let mut iter = SubtagIterator::new(code_units);
-        let id = read_head(alloc, &mut iter)?;
-        let mut locale = Locale {
-            id,
-            extensions: Extensions::new(alloc),
-        };
-        read_blocks(alloc, &mut iter, &mut locale.extensions)?;
+        let mut locale = Locale::unknown(alloc);
+        locale.fill(alloc, code_units)?;
         Ok(locale)
+    }
+
+    /// The same in place of what this locale was: `und` after a refusal. Memory that it holds is used again.
+    pub fn read(&mut self, alloc: Global, code_units: &[u8]) -> Result<(), ParseError>
+        ensures reads { LocaleReadsAs code_units.now (result_and result (Ok self.new)) }
+        ensures refused { OnErr result (value_of self.new ≡ unknown_locale) }
+    {
+        self.extensions.clear();
+        let answer = self.fill(alloc, code_units);
+        if answer.is_err() {
+            self.clear();
+        }
+        answer
+    }
+
+    /// Leaves the unknown locale, `und`.
+    pub fn clear(&mut self)
+        ensures { value_of self.new ≡ unknown_locale }
+    {
+        self.id.clear();
+        self.extensions.clear();
+    }
+
+    // Reads all of the text in place of an identifier.
+    fn fill(&mut self, alloc: Global, code_units: &[u8]) -> Result<(), ParseError>
+        requires { extensions.value_of self.old.extensions ≡ none }
+        ensures { LocaleReadsAs code_units.now (result_and result (Ok self.new)) }
+    {
+        let mut iter = SubtagIterator::new(code_units);
+        fill_head(alloc, &mut iter, &mut self.id)?;
+        read_blocks(alloc, &mut iter, &mut self.extensions)
     }
 
     /// The same of text.

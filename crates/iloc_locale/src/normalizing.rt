@@ -10,7 +10,6 @@ ghost use Rattle.iloc_writeable.specs.Writing.{IsLent};
 ghost use Rattle.iloc_small_reader.specs.SmallLocaleReads.{SmallLocaleReadsAs};
 
 use crate::locale::Locale;
-use crate::values::is_value;
 use iloc_small_reader::read_small_locale;
 use iloc_subtags::{Language, ParseError, Region, Script, Subtag, UnicodeKey, Variant};
 use iloc_well_formed::is_well_formed;
@@ -50,13 +49,17 @@ impl Locale {
     /// Whether the text of this locale reads back as it: the others ascend by singletons of their own, each
     /// with a word, and no value of a keyword holds `true` or a subtag of two characters.
     ///
-    /// Where it is, the text means this locale, and no other well-formed value has the same text.
+    /// Where it is, the text means this locale, and no other well-formed value has the same text. Every
+    /// locale, well-formed or not, read or built, is a value: sets and maps ascend strictly, and all words
+    /// are in the normal case of their kinds.
     pub fn is_well_formed(&self) -> bool
         ensures exactly { IsTrue result ↔ IsWellFormed (value_of self.now) }
+        ensures value { IsValue languages (value_of self.now) }
         ensures back { IsTrue result → Means languages (text (value_of self.now)) (value_of self.now) }
-        ensures one { IsTrue result → (M : meaning.Locale) → IsValue languages M → IsWellFormed M → text M ≡ text (value_of self.now) → M ≡ value_of self.now }
+        ensures one { IsTrue result → (M : meaning.Locale) → IsValue languages M → IsWellFormed M
+            → text M ≡ text (value_of self.now) → M ≡ value_of self.now }
     {
-        is_value(self);
+        let _ = self.id.is_unknown();
         is_well_formed(&self.extensions)
     }
 

@@ -1,4 +1,5 @@
 //! The room of texts, and parts that print after one another.
+use iloc_langid::LanguageIdentifier;
 use iloc_locale::Locale;
 use iloc_other::{Other, Private};
 use iloc_subtags::ParseError;
@@ -6,6 +7,7 @@ use iloc_transform::Transform;
 use iloc_writeable::{Pieces, Writeable, to_string_or_borrow};
 use std::alloc::{AllocError, Global};
 use std::borrow::CowStr;
+use std::cmp::Ordering;
 use std::test::Fail;
 
 // Whether the text is owned, and takes no more room than it needs.
@@ -58,5 +60,38 @@ fn nothing_stands_before_the_first_part(rt: HostRuntime) -> Result<(), Fail> {
     let mut text = String::new(rt.alloc());
     (&none, &other).write_joined(&mut text)?;
     assert_eq!(rt; text.as_str(), "o-bar");
+    Ok(())
+}
+
+#[test]
+fn a_locale_is_read_in_place_of_another(rt: HostRuntime) -> Result<(), Fail> {
+    let alloc = rt.alloc();
+    let mut locale = Locale::unknown(alloc);
+    locale.read(alloc, b"sl-NEDIS-u-nu-latn-ca-roc-t-fr-m0-true-x-y")?;
+    let text = b"sl-nedis-t-fr-m0-true-u-ca-roc-nu-latn-x-y";
+    assert_eq!(rt; locale.strict_cmp(text), Ordering::Equal);
+    locale.read(alloc, b"DE")?;
+    assert_eq!(rt; locale.strict_cmp(b"de"), Ordering::Equal);
+    assert_eq!(rt;
+        locale.read(alloc, b"fr-u-ca-roc-t"),
+        Err(ParseError::InvalidExtension)
+    );
+    assert_eq!(rt; locale.strict_cmp(b"und"), Ordering::Equal);
+    Ok(())
+}
+
+#[test]
+fn an_identifier_is_read_in_place_of_another(rt: HostRuntime) -> Result<(), Fail> {
+    let alloc = rt.alloc();
+    let mut identifier = LanguageIdentifier::unknown();
+    identifier.read(alloc, b"SL-latn-nedis")?;
+    assert_eq!(rt; identifier.strict_cmp(b"sl-Latn-nedis"), Ordering::Equal);
+    identifier.read(alloc, b"de")?;
+    assert_eq!(rt; identifier.strict_cmp(b"de"), Ordering::Equal);
+    assert_eq!(rt;
+        identifier.read(alloc, b"fr-u"),
+        Err(ParseError::InvalidSubtag)
+    );
+    assert_eq!(rt; identifier.strict_cmp(b"und"), Ordering::Equal);
     Ok(())
 }

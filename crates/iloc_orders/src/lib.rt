@@ -42,14 +42,23 @@ pub fn hashes()
 
 /// Worked comparisons and hashes.
 pub fn by_example()
-    ensures fewer_variants { locale_cmp (meaning_of (codes "en-posix")) (meaning_of (codes "en-macos-posix")) ≡ Less }
+    ensures fewer_variants { locale_cmp (meaning_of (codes "en-posix"))
+        (meaning_of (codes "en-macos-posix")) ≡ Less }
     ensures fewer_items { words_cmp (codes "b" ∷ []) (codes "a" ∷ codes "b" ∷ []) ≡ Less }
     ensures bytes { word_cmp (codes "en-posix") (codes "en-macos-posix") ≡ Greater }
-    ensures no_script_first { locale_cmp (meaning_of (codes "en-US")) (meaning_of (codes "en-Latn")) ≡ Less }
-    ensures unicode_first { locale_cmp (meaning_of (codes "und-t-m0-foo")) (meaning_of (codes "und-u-ca")) ≡ Less }
-    ensures singletons { locale_cmp (meaning_of (codes "und-1-bar")) (meaning_of (codes "und-a-foo")) ≡ Less }
-    ensures one_value_first { keywords_cmp ((codes "ca", codes "b" ∷ []) ∷ []) ((codes "ca", codes "a" ∷ codes "a" ∷ []) ∷ []) ≡ Less }
-    ensures itself { locale_cmp (meaning_of (codes "und-t-fr-u-ca")) (meaning_of (codes "und-u-ca-true-t-FR")) ≡ Equal }
-    ensures fed { identifier_fed (meaning_of (codes "EN-us")).id ≡ codes "en" ∷ (255 ∷ []) ∷ (0 ∷ replicate 7 0) ∷ (1 ∷ replicate 7 0) ∷ codes "US" ∷ (255 ∷ []) ∷ (0 ∷ replicate 7 0) ∷ [] }
-    ensures fed_alike { locale_fed (meaning_of (codes "und-t-fr-u-ca")) ≡ locale_fed (meaning_of (codes "und-u-ca-true-t-FR")) }
+    ensures no_script_first { locale_cmp (meaning_of (codes "en-US")) (meaning_of (codes "en-Latn"))
+        ≡ Less }
+    ensures unicode_first { locale_cmp (meaning_of (codes "und-t-m0-foo"))
+        (meaning_of (codes "und-u-ca")) ≡ Less }
+    ensures singletons { locale_cmp (meaning_of (codes "und-1-bar"))
+        (meaning_of (codes "und-a-foo")) ≡ Less }
+    ensures one_value_first { keywords_cmp ((codes "ca", codes "b" ∷ []) ∷ [])
+        ((codes "ca", codes "a" ∷ codes "a" ∷ []) ∷ []) ≡ Less }
+    ensures itself { locale_cmp (meaning_of (codes "und-t-fr-u-ca"))
+        (meaning_of (codes "und-u-ca-true-t-FR")) ≡ Equal }
+    ensures fed { identifier_fed (meaning_of (codes "EN-us")).id
+        ≡ codes "en" ∷ (255 ∷ []) ∷ (0 ∷ replicate 7 0) ∷ (1 ∷ replicate 7 0) ∷ codes "US"
+        ∷ (255 ∷ []) ∷ (0 ∷ replicate 7 0) ∷ [] }
+    ensures fed_alike { locale_fed (meaning_of (codes "und-t-fr-u-ca"))
+        ≡ locale_fed (meaning_of (codes "und-u-ca-true-t-FR")) }
 {}

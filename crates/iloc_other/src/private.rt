@@ -1,7 +1,8 @@
 //! The private extension: a list of private words.
-ghost use Rattle.std.specs.Prelude.{◌≡◌, ◌∷◌, [], ◌↔◌, IsTrue, length, slice_get, ◌++◌, ◌<◌, OnOk, IfErr, IsOk, Some};
+ghost use Rattle.std.specs.Prelude.{◌≡◌, ◌∷◌, [], ◌↔◌, IsTrue, length, slice_get, ◌++◌, ◌<◌, OnOk, IfErr, IsOk, Some, Ok};
 ghost use Rattle.std.specs.List.{AllByRecursion};
 ghost use Rattle.std.specs.Option.{option_copied};
+ghost use Rattle.std.specs.Result.{result_and};
 ghost use Rattle.std.specs.Slice.Iter.{iter_rest};
 ghost use Rattle.iloc_grammar.specs.Values.{private_text, private_spelling};
 ghost use Rattle.iloc_grammar.specs.Pieces.{pieces};
@@ -145,14 +146,23 @@ impl Private {
         ensures { PrivateReads (left iter.old) (left iter.new) result }
     {
         let mut words = Private::new();
+        words.fill(alloc, iter)?;
+        Ok(words)
+    }
+
+    /// The same into an empty list. After a refusal it holds the words before the fault.
+    pub fn fill(&mut self, alloc: Global, iter: &mut SubtagIterator<'_>) -> Result<(), ParseError>
+        requires { self.old ≡ [] }
+        ensures { PrivateReads (left iter.old) (left iter.new) (result_and result (Ok self.new)) }
+    {
         'words: while let Some(piece) = iter.next() {
             let word = Subtag::try_from_utf8(piece)?;
-            words.push(alloc, word)?;
+            self.push(alloc, word)?;
         }
-        if words.is_empty() {
+        if self.is_empty() {
             return Err(ParseError::InvalidExtension);
         }
-        Ok(words)
+        Ok(())
     }
 
     /// The words in list order.

@@ -1,9 +1,10 @@
--- Preferences: what a locale says of language, script, region and variant, with the regional subdivision (`-u-sd-`) and the
--- region override (`-u-rg-`) of UTS #35. How they are read, merged and turned into locales is this project's rule, as in the
--- Rust crate.
-use Rattle.std.specs.Prelude.{◌≡◌, ℕ, Bool, IfSome, true, false, not, ◌&&◌, ◌||◌, List, [], ◌∷◌, ◌++◌, Option, Some, None, option_map, option_and_then, option_to_list, is_some, is_none, codes, if◌then◌else◌}
+-- Preferences: what a locale says of language, script, region and variant, with the regional
+-- subdivision (`-u-sd-`) and the region override (`-u-rg-`) of UTS #35. How they are read, merged
+-- and turned into locales is this project's rule, as in the Rust crate.
+use Rattle.std.specs.Prelude.{◌≡◌, Bool, IfSome, true, false, not, ◌&&◌, ◌||◌, List, [], ◌∷◌, ◌++◌, Option, Some, None, option_map, option_and_then, option_to_list, is_some, is_none, codes, if◌then◌else◌}
 use Rattle.std.specs.Option.{option_or}
 use Rattle.std.specs.FinMap.{find}
+use Rattle.iloc_grammar.specs.Shapes.{Text, Table}
 use Rattle.iloc_grammar.specs.Words.{Language, Script, Variant, word_cmp, is_same, is_true}
 use Rattle.iloc_grammar.specs.Written.{Identifier, Fields}
 use Rattle.iloc_grammar.specs.Meaning.{Locale}
@@ -16,14 +17,14 @@ use Rattle.iloc_preferences_rules.specs.Keywords.{subdivision_reads, subdivision
 -- What is kept.
 
 pub record Preferences : Type 0 where
-  pub language : List ℕ
-  pub script : Option (List ℕ)
+  pub language : Text
+  pub script : Option Text
   pub region : Option Subdivision
-  pub variant : Option (List ℕ)
+  pub variant : Option Text
   pub region_override : Option Subdivision
 
 -- what the type keeps
-pub record IsPreferences (T : ℕ → Bool) (p : Preferences) : Type 0 where
+pub record IsPreferences (T : Table) (p : Preferences) : Type 0 where
   pub language : IsNormal (Language T) p.language
   pub script : IfSome p.script (IsNormal Script)
   pub region : IfSome p.region IsSubdivision
@@ -35,31 +36,34 @@ pub record SpellsNoTrue (p : Preferences) : Type 0 where
   pub region : IfSome p.region (λ s. is_true (subdivision_text s) ≡ false)
   pub region_override : IfSome p.region_override (λ s. is_true (subdivision_text s) ≡ false)
 
-abbrev pub und : List ℕ
+abbrev pub und : Text
 und = codes "und"
 
-abbrev pub rg : List ℕ
+abbrev pub rg : Text
 rg = codes "rg"
 
 abbrev pub default_preferences : Preferences
-default_preferences = record { language = und; script = None; region = None; variant = None; region_override = None }
+default_preferences =
+    record { language = und; script = None; region = None; variant = None; region_override = None }
 
 -- Reading.
 
 -- what a keyword reads as, where it is there and readable
-abbrev pub read_keyword : {X : Type 0} → (List (List ℕ) → Option X) → List ℕ → Locale → Option X
+abbrev pub read_keyword : {X : Type 0} → (List Text → Option X) → Text → Locale → Option X
 read_keyword reads k M = option_and_then reads (find word_cmp k M.unicode.keywords)
 
 -- the keyword is absent or readable
-abbrev pub is_readable : {X : Type 0} → (List (List ℕ) → Option X) → List ℕ → Locale → Bool
-is_readable reads k M = is_none (find word_cmp k M.unicode.keywords) || is_some (read_keyword reads k M)
+abbrev pub is_readable : {X : Type 0} → (List Text → Option X) → Text → Locale → Bool
+is_readable reads k M = is_none (find word_cmp k M.unicode.keywords)
+    || is_some (read_keyword reads k M)
 
 -- the identifier's region, with the suffix of the subdivision where that is in it
-abbrev pub region_with : List ℕ → Option Subdivision → Subdivision
+abbrev pub region_with : Text → Option Subdivision → Subdivision
 region_with r None = whole_region r
-region_with r (Some s) = if is_same r s.region then record { region = r; suffix = s.suffix } else whole_region r
+region_with r (Some s) = if is_same r s.region then record { region = r; suffix = s.suffix }
+    else whole_region r
 
-abbrev pub preferred_region : Option (List ℕ) → Option Subdivision → Option Subdivision
+abbrev pub preferred_region : Option Text → Option Subdivision → Option Subdivision
 preferred_region None s = s
 preferred_region (Some r) s = Some (region_with r s)
 
@@ -73,17 +77,26 @@ preferences M = record {
   region_override = read_keyword subdivision_reads rg M;
 }
 
-abbrev pub same_region : Option (List ℕ) → Option Subdivision → Bool
+abbrev pub same_region : Option Text → Option Subdivision → Bool
 same_region (Some r) (Some s) = is_same r s.region
 same_region _ _ = true
 
--- `sd` and `rg` are absent or readable, and the region of `sd` is the identifier's where there is one
+-- `sd` and `rg` are absent or readable, and the region of `sd` is the identifier's where there is
+-- one
 abbrev pub is_strict : Locale → Bool
-is_strict M = is_readable subdivision_reads sd M && (is_readable subdivision_reads rg M && same_region M.id.region (read_keyword subdivision_reads sd M))
+is_strict M = is_readable subdivision_reads sd M
+    && (is_readable subdivision_reads rg M
+    && same_region M.id.region (read_keyword subdivision_reads sd M))
 
 -- the preferences of an identifier alone
 abbrev pub identifier_preferences : Identifier → Preferences
-identifier_preferences i = record { language = i.language; script = i.script; region = option_map whole_region i.region; variant = first_item i.variants; region_override = None }
+identifier_preferences i = record {
+  language = i.language;
+  script = i.script;
+  region = option_map whole_region i.region;
+  variant = first_item i.variants;
+  region_override = None;
+}
 
 -- The two data locales: made of the region, and made of the override where there is one.
 
@@ -95,7 +108,7 @@ region_priority p = made_of p.language p.script (option_or p.region_override p.r
 
 -- Merging: what the second knows wins. A language `und` is unknown.
 
-abbrev pub merge_language : List ℕ → List ℕ → List ℕ
+abbrev pub merge_language : Text → Text → Text
 merge_language a b = if is_same b und then a else b
 
 -- a whole region wins only over none or another region
@@ -128,7 +141,12 @@ rg_entry (Some s) = (rg, subdivision_gives s) ∷ []
 
 abbrev pub locale_of_preferences : Preferences → Locale
 locale_of_preferences p = record {
-  id = record { language = p.language; script = p.script; region = option_map (λ s. s.region) p.region; variants = option_to_list p.variant };
+  id = record {
+    language = p.language;
+    script = p.script;
+    region = option_map (λ s. s.region) p.region;
+    variants = option_to_list p.variant;
+  };
   unicode = record { attributes = []; keywords = rg_entry p.region_override ++ sd_entry p.region };
   transform = record { id = None; fields = [] };
   private = [];

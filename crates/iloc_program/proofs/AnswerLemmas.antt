@@ -1,5 +1,5 @@
 -- The answers to lines, from what their readers say.
-use Rattle.std.proofs.Common.{◌≡◌, ◌≢◌, ℕ, List, refl, sym, Err}
+use Rattle.std.proofs.Common.{◌≡◌, ◌≢◌, ℕ, List, refl, sym, Result, Ok, Err, OnOk}
 use Rattle.iloc_grammar.specs.Pieces.{pieces}
 use Rattle.iloc_grammar.specs.Words.{languages}
 use Rattle.iloc_grammar.specs.Written.{Identifier}
@@ -47,3 +47,8 @@ data_refused t InvalidSubtag r = sym (only_answer languages_table OfDataLocales 
 data_refused t InvalidExtension r = sym (only_answer languages_table OfDataLocales t (refusal_text InvalidExtension) (no_data_locale r))
 data_refused t DuplicatedExtension r = absurd r
 data_refused t OutOfMemory r = absurd r
+
+-- two facts of an answer
+pub on_ok_both : {X E P Q R : Type 0} (r : Result X E) → OnOk r P → OnOk r Q → (P → Q → R) → OnOk r R
+on_ok_both (Ok x) p q f = f p q
+on_ok_both (Err e) p q f = tt

@@ -2,15 +2,11 @@
 ghost use Rattle.std.specs.Prelude.{◌≡◌, ℕ, List, [], ◌∷◌, ◌++◌, take, MatchOption, MatchResult, IfOk, OnOk, OnErr, IsOkUnless, ◌<◌, vec_len};
 ghost use Rattle.std.specs.Io.{StartsWith};
 ghost use Rattle.std.specs.Io.KnownBytes.{Appends};
-ghost use Rattle.iloc_program.specs.Output.{line_answer, output, refusal_text, reply};
+ghost use Rattle.iloc_program.specs.Output.{output, reply};
 ghost use Rattle.iloc_output.specs.Lines.{IsOneLine};
 
-use crate::{Mode, RunError};
-use iloc_data::DataLocale;
-use iloc_langid::LanguageIdentifier;
-use iloc_locale::Locale;
-use iloc_subtags::ParseError;
-use iloc_writeable::Writeable;
+use crate::RunError;
+use crate::answers::Answers;
 use std::alloc::{AllocError, Global};
 use std::io::Write;
 
@@ -24,75 +20,6 @@ pub(crate) fn new_block(alloc: Global) -> Result<Vec<u8>, AllocError>
     vec![in alloc; 0u8; BLOCK]
 }
 
-// Adds the words of a refusal.
-fn write_refusal(error: &ParseError, replies: &mut Vec<u8>) -> Result<(), AllocError>
-    ensures { OnOk result (replies.new.items ≡ replies.old.items ++ refusal_text error.now) }
-{
-    replies.extend_from_slice(b"! ")?;
-    replies.extend_from_slice(error.words().as_bytes())
-}
-
-// Adds the normal text of an identifier, or why there is none.
-fn answer_langid(alloc: Global, line: &[u8], replies: &mut Vec<u8>) -> Result<(), AllocError>
-    ensures { OnOk result (replies.new.items ≡ replies.old.items ++ line_answer Mode.Langid line.now) }
-{
-    match LanguageIdentifier::try_from_utf8(alloc, line) {
-        Ok(identifier) => match identifier.write_to(replies) {
-            Ok(()) => Ok(()),
-            Err(_) => Err(AllocError),
-        },
-        Err(error) => match error {
-            ParseError::OutOfMemory => Err(AllocError),
-            error => write_refusal(&error, replies),
-        },
-    }
-}
-
-// Adds the normal text of a locale, or why there is none.
-fn answer_locale(alloc: Global, line: &[u8], replies: &mut Vec<u8>) -> Result<(), AllocError>
-    ensures { OnOk result (replies.new.items ≡ replies.old.items ++ line_answer Mode.Locale line.now) }
-{
-    match Locale::try_from_utf8(alloc, line) {
-        Ok(locale) => match locale.write_to(replies) {
-            Ok(()) => Ok(()),
-            Err(_) => Err(AllocError),
-        },
-        Err(error) => match error {
-            ParseError::OutOfMemory => Err(AllocError),
-            error => write_refusal(&error, replies),
-        },
-    }
-}
-
-// Adds the normal text of a data locale, or why there is none.
-fn answer_data(line: &[u8], replies: &mut Vec<u8>) -> Result<(), AllocError>
-    ensures { OnOk result (replies.new.items ≡ replies.old.items ++ line_answer Mode.Data line.now) }
-{
-    match DataLocale::try_from_utf8(line) {
-        Ok(locale) => match locale.write_to(replies) {
-            Ok(()) => Ok(()),
-            Err(_) => Err(AllocError),
-        },
-        Err(error) => write_refusal(&error, replies),
-    }
-}
-
-// Adds the answer to one line.
-fn answer_line(
-    alloc: Global,
-    mode: Mode,
-    line: &[u8],
-    replies: &mut Vec<u8>,
-) -> Result<(), AllocError>
-    ensures { OnOk result (replies.new.items ≡ replies.old.items ++ line_answer mode line.now) }
-{
-    match mode {
-        Mode::Langid => answer_langid(alloc, line, replies),
-        Mode::Locale => answer_locale(alloc, line, replies),
-        Mode::Data => answer_data(line, replies),
-    }
-}
-
 // The first line and what follows its LF, if the LF is there.
 fn split_line(bytes: &[u8]) -> Option<(&[u8], &[u8])>
     ensures { MatchOption result (IsOneLine bytes.now)
@@ -104,21 +31,20 @@ fn split_line(bytes: &[u8]) -> Option<(&[u8], &[u8])>
 }
 
 // Adds the reply to the line that is pending and goes on with these bytes.
-fn end_line(
-    alloc: Global,
-    mode: Mode,
+fn end_line<A: Answers>(
+    answers: &mut A,
     pending: &mut Vec<u8>,
     line: &[u8],
     replies: &mut Vec<u8>,
 ) -> Result<(), AllocError>
-    ensures replies { OnOk result (replies.new.items ≡ replies.old.items ++ reply mode (pending.old.items ++ line.now)) }
+    ensures replies { OnOk result (replies.new.items ≡ replies.old.items ++ reply A.mode (pending.old.items ++ line.now)) }
     ensures pending { OnOk result (pending.new.items ≡ []) }
 {
     if pending.is_empty() {
-        answer_line(alloc, mode, line, replies)?;
+        answers.answer(line, replies)?;
     } else {
         pending.extend_from_slice(line)?;
-        answer_line(alloc, mode, pending.as_slice(), replies)?;
+        answers.answer(pending.as_slice(), replies)?;
         pending.clear();
     }
     replies.push(b'\n')?;
@@ -126,9 +52,8 @@ fn end_line(
 }
 
 // Adds the replies to the lines that this piece of the input ends, and keeps the start of the next line.
-pub(crate) fn feed(
-    alloc: Global,
-    mode: Mode,
+pub(crate) fn feed<A: Answers>(
+    answers: &mut A,
     pending: &mut Vec<u8>,
     piece: &[u8],
     replies: &mut Vec<u8>,
@@ -137,31 +62,30 @@ pub(crate) fn feed(
     ensures one_line { OnOk result (IsOneLine pending.new.items) }
     // Whatever comes next, the replies to it all are these and what is still to come.
     ensures ahead { OnOk result ((next : List ℕ) →
-        replies.old.items ++ output mode (pending.old.items ++ (piece.now ++ next))
-        ≡ replies.new.items ++ output mode (pending.new.items ++ next)) }
+        replies.old.items ++ output A.mode (pending.old.items ++ (piece.now ++ next))
+        ≡ replies.new.items ++ output A.mode (pending.new.items ++ next)) }
 {
     let mut rest = piece;
     'lines: while let Some((line, later)) = split_line(rest) {
-        end_line(alloc, mode, pending, line, replies)?;
+        end_line(answers, pending, line, replies)?;
         rest = later;
     }
     pending.extend_from_slice(rest)
 }
 
 // Adds the reply to a last line without LF, where there is one.
-pub(crate) fn finish(
-    alloc: Global,
-    mode: Mode,
+pub(crate) fn finish<A: Answers>(
+    answers: &mut A,
     pending: &mut Vec<u8>,
     replies: &mut Vec<u8>,
 ) -> Result<(), AllocError>
     requires { IsOneLine pending.old.items }
-    ensures { OnOk result (replies.new.items ≡ replies.old.items ++ output mode pending.old.items) }
+    ensures { OnOk result (replies.new.items ≡ replies.old.items ++ output A.mode pending.old.items) }
 {
     if pending.is_empty() {
         return Ok(());
     }
-    end_line(alloc, mode, pending, &[], replies)
+    end_line(answers, pending, &[], replies)
 }
 
 // Writes all of it, by as many calls as the writer takes. A write of no bytes is an error, and no error is tried again.

@@ -1,5 +1,6 @@
 -- A plain program for data locales: what a text means, or the fault.
-use Rattle.std.specs.Prelude.{ℕ, Bool, List, Result, Ok, Err, ok_or}
+use Rattle.std.specs.Prelude.{Result, Ok, Err, ok_or}
+use Rattle.iloc_grammar.specs.Shapes.{Text, Table}
 use Rattle.iloc_grammar.specs.Faults.{Fault, InvalidExtension}
 use Rattle.iloc_small.specs.Small.{SmallLocale}
 use Rattle.iloc_small.specs.Computing.{small_result}
@@ -9,5 +10,5 @@ abbrev pub data_of_result : Result SmallLocale Fault → Result DataLocale Fault
 data_of_result (Ok r) = ok_or (data_of_small r) InvalidExtension
 data_of_result (Err f) = Err f
 
-unfoldable pub data_result : (ℕ → Bool) → List ℕ → Result DataLocale Fault
+unfoldable pub data_result : Table → Text → Result DataLocale Fault
 data_result T t = data_of_result (small_result T t)

@@ -6,11 +6,21 @@ use crate::few::Few;
 use crate::items::Nothing;
 
 /// No items, one to four in place, or a `Vec`.
-#[derive(Drop)]
 pub(crate) enum Kept<T: Copy> {
     Empty(Nothing<T>),
     Inline(Few<T>),
     Heap(Vec<T>),
+}
+
+// Written out, so that whoever lets a list go proves a call.
+impl<T: Copy> Drop for Kept<T> {
+    fn drop(self) {
+        match self {
+            Kept::Empty(_none) => {}
+            Kept::Inline(_items) => {}
+            Kept::Heap(_items) => {}
+        }
+    }
 }
 
 impl<T: Copy> Kept<T> {

@@ -2,3 +2,4 @@ pub mod SmallLaws
 pub mod SmallBack
 pub mod InlineLaws
 pub mod WiderSmall
+pub mod InlineBlockLaws

@@ -1,3 +1,4 @@
 pub mod Small
 pub mod Computing
 pub mod Inline
+pub mod InlineBlocks

@@ -1,11 +1,12 @@
 //! Small texts, which are read without memory, and inline texts, of few words in each list.
 //!
 //! A text is small or has exactly one small fault; a small text is a locale of the same parts, and inline.
-//! Plain programs say which texts are the one or the other.
-//! It stands on `iloc_grammar`.
+//! Plain programs say which texts are the one or the other. A text that is inline as a whole has few words in each of
+//! its blocks, so that no reader of a part needs memory. It stands on `iloc_grammar` and `iloc_fronts`.
 #![tactic(auto)]
 
-ghost use Rattle.std.specs.Prelude.{◌≡◌, ◌↔◌, ◌⊎◌, ℕ, Bool, true, false, List, Ok, Err, MatchResult, codes};
+ghost use Rattle.std.specs.Prelude.{◌≡◌, ◌↔◌, ◌⊎◌, ℕ, true, false, List, Ok, Err, MatchResult, codes};
+ghost use Rattle.iloc_grammar.specs.Shapes.{Text, Table, Block};
 ghost use Rattle.iloc_grammar.specs.Pieces.{pieces};
 ghost use Rattle.iloc_grammar.specs.Words.{IsTable, languages};
 ghost use Rattle.iloc_grammar.specs.Meaning.{Locale, Means, IdentifierMeans};
@@ -14,54 +15,75 @@ ghost use Rattle.iloc_grammar.specs.Faults.{Fault, InvalidLanguage, InvalidSubta
 ghost use Rattle.iloc_small.specs.Small.{SmallIdentifier, SmallLocale, IsSmallIdentifier, IsSmall, HasSmallIdentifierFault, HasSmallFault, IsSmallValue, identifier_of_small, locale_of_small};
 ghost use Rattle.iloc_small.specs.Computing.{small_identifier_result, small_result, small_text, is_inline};
 ghost use Rattle.iloc_small.specs.Inline.{IsInline};
+ghost use Rattle.std.specs.List.{AllByRecursion};
+ghost use Rattle.iloc_small.specs.InlineBlocks.{IsInlineByBlocks, IsShortBlock, ReachesLongBlock};
 
 /// A small text is read in one way, as a value of normal words, and is a locale of the same parts and nothing else.
 pub fn small_texts()
-    ensures one { (T : ℕ → Bool) → IsTable T → (t : List ℕ) (r s : SmallLocale) → IsSmall T t r → IsSmall T t s → r ≡ s }
-    ensures locale { (T : ℕ → Bool) (t : List ℕ) (r : SmallLocale) → IsSmall T t r → Means T t (locale_of_small r) }
-    ensures value { (T : ℕ → Bool) (t : List ℕ) (r : SmallLocale) → IsSmall T t r → IsSmallValue T r }
-    ensures back { (T : ℕ → Bool) (r : SmallLocale) → IsSmallValue T r → IsSmall T (text (locale_of_small r)) r }
+    ensures one { (T : Table) → IsTable T → (t : Text) (r s : SmallLocale) → IsSmall T t r
+        → IsSmall T t s → r ≡ s }
+    ensures locale { (T : Table) (t : Text) (r : SmallLocale) → IsSmall T t r
+        → Means T t (locale_of_small r) }
+    ensures value { (T : Table) (t : Text) (r : SmallLocale) → IsSmall T t r → IsSmallValue T r }
+    ensures back { (T : Table) (r : SmallLocale) → IsSmallValue T r
+        → IsSmall T (text (locale_of_small r)) r }
 {}
 
 /// Each text is small or has a fault, never both, and one fault at most; and a plain program says which.
 pub fn small_or_one_fault()
-    ensures either { (T : ℕ → Bool) → IsTable T → (t : List ℕ) → ((r : SmallLocale) × IsSmall T t r) ⊎ ((f : Fault) × HasSmallFault T t f) }
-    ensures apart { (T : ℕ → Bool) (t : List ℕ) (r : SmallLocale) (f : Fault) → IsSmall T t r → HasSmallFault T t f → ⊥ }
-    ensures one { (T : ℕ → Bool) (t : List ℕ) (f g : Fault) → HasSmallFault T t f → HasSmallFault T t g → f ≡ g }
-    ensures answer { (T : ℕ → Bool) → IsTable T → (t : List ℕ) → MatchResult (small_result T t) (IsSmall T t) (HasSmallFault T t) }
+    ensures either { (T : Table) → IsTable T → (t : Text)
+        → ((r : SmallLocale) × IsSmall T t r) ⊎ ((f : Fault) × HasSmallFault T t f) }
+    ensures apart { (T : Table) (t : Text) (r : SmallLocale) (f : Fault) → IsSmall T t r
+        → HasSmallFault T t f → ⊥ }
+    ensures one { (T : Table) (t : Text) (f g : Fault) → HasSmallFault T t f → HasSmallFault T t g
+        → f ≡ g }
+    ensures answer { (T : Table) → IsTable T → (t : Text)
+        → MatchResult (small_result T t) (IsSmall T t) (HasSmallFault T t) }
 {}
 
 /// The same for identifiers with at most one variant.
 pub fn small_identifiers()
-    ensures one { (T : ℕ → Bool) (ps : List (List ℕ)) (r s : SmallIdentifier) → IsSmallIdentifier T ps r → IsSmallIdentifier T ps s → r ≡ s }
-    ensures means { (T : ℕ → Bool) (ps : List (List ℕ)) (r : SmallIdentifier) → IsSmallIdentifier T ps r → IdentifierMeans T ps (identifier_of_small r) }
-    ensures either { (T : ℕ → Bool) (t : List ℕ) → ((r : SmallIdentifier) × IsSmallIdentifier T (pieces t) r) ⊎ ((f : Fault) × HasSmallIdentifierFault T (pieces t) f) }
-    ensures apart { (T : ℕ → Bool) (ps : List (List ℕ)) (r : SmallIdentifier) (f : Fault) → IsSmallIdentifier T ps r → HasSmallIdentifierFault T ps f → ⊥ }
-    ensures one_fault { (T : ℕ → Bool) (ps : List (List ℕ)) (f g : Fault) → HasSmallIdentifierFault T ps f → HasSmallIdentifierFault T ps g → f ≡ g }
-    ensures answer { (T : ℕ → Bool) (t : List ℕ) → MatchResult (small_identifier_result T (pieces t)) (IsSmallIdentifier T (pieces t)) (HasSmallIdentifierFault T (pieces t)) }
+    ensures one { (T : Table) (ps : List Text) (r s : SmallIdentifier) → IsSmallIdentifier T ps r
+        → IsSmallIdentifier T ps s → r ≡ s }
+    ensures means { (T : Table) (ps : List Text) (r : SmallIdentifier) → IsSmallIdentifier T ps r
+        → IdentifierMeans T ps (identifier_of_small r) }
+    ensures either { (T : Table) (t : Text)
+        → ((r : SmallIdentifier) × IsSmallIdentifier T (pieces t) r)
+        ⊎ ((f : Fault) × HasSmallIdentifierFault T (pieces t) f) }
+    ensures apart { (T : Table) (ps : List Text) (r : SmallIdentifier) (f : Fault)
+        → IsSmallIdentifier T ps r → HasSmallIdentifierFault T ps f → ⊥ }
+    ensures one_fault { (T : Table) (ps : List Text) (f g : Fault) → HasSmallIdentifierFault T ps f
+        → HasSmallIdentifierFault T ps g → f ≡ g }
+    ensures answer { (T : Table) (t : Text)
+        → MatchResult (small_identifier_result T (pieces t)) (IsSmallIdentifier T (pieces t))
+        (HasSmallIdentifierFault T (pieces t)) }
 {}
 
 /// A small text is one of few words.
 pub fn small_is_inline()
-    ensures { (T : ℕ → Bool) (t : List ℕ) (r : SmallLocale) → IsSmall T t r → IsInline T t }
+    ensures { (T : Table) (t : Text) (r : SmallLocale) → IsSmall T t r → IsInline T t }
 {}
 
 /// An inline text is a locale; and a plain program says whether a text is inline.
 pub fn inline_texts()
-    ensures locale { (T : ℕ → Bool) (t : List ℕ) → IsInline T t → (M : Locale) × Means T t M }
-    ensures answer { (T : ℕ → Bool) → IsTable T → (t : List ℕ) → (is_inline T t ≡ true) ↔ IsInline T t }
+    ensures locale { (T : Table) (t : Text) → IsInline T t → (M : Locale) × Means T t M }
+    ensures answer { (T : Table) → IsTable T → (t : Text) → (is_inline T t ≡ true) ↔ IsInline T t }
 {}
 
 /// Over a wider table of languages a small text stays what it is.
 pub fn wider_small()
-    ensures { (T U : ℕ → Bool) → ((n : ℕ) → T n ≡ true → U n ≡ true) → (t : List ℕ) (r : SmallLocale) → IsSmall T t r → IsSmall U t r }
+    ensures { (T U : Table) → ((n : ℕ) → T n ≡ true → U n ≡ true) → (t : Text) (r : SmallLocale)
+        → IsSmall T t r → IsSmall U t r }
 {}
 
 /// Worked texts.
 pub fn by_example()
-    ensures identifier { small_text (small_result languages (codes "EN-us-Posix")) ≡ Ok (codes "en-US-posix") }
-    ensures keyword { small_text (small_result languages (codes "EN-U-CA-true-Buddhist")) ≡ Ok (codes "en-u-ca-buddhist") }
-    ensures two_trues { small_text (small_result languages (codes "en-u-ca-true-true")) ≡ Ok (codes "en-u-ca") }
+    ensures identifier { small_text (small_result languages (codes "EN-us-Posix"))
+        ≡ Ok (codes "en-US-posix") }
+    ensures keyword { small_text (small_result languages (codes "EN-U-CA-true-Buddhist"))
+        ≡ Ok (codes "en-u-ca-buddhist") }
+    ensures two_trues { small_text (small_result languages (codes "en-u-ca-true-true"))
+        ≡ Ok (codes "en-u-ca") }
     ensures no_language { small_result languages (codes "e") ≡ Err InvalidLanguage }
     ensures two_variants { small_result languages (codes "en-macos-posix") ≡ Err InvalidSubtag }
     ensures no_singleton { small_result languages (codes "en-!") ≡ Err InvalidExtension }
@@ -72,13 +94,27 @@ pub fn by_example()
     ensures two_keys { small_result languages (codes "en-u-ca-foo-ca-foo") ≡ Err InvalidSubtag }
     ensures two_values { small_result languages (codes "en-u-ca-foo-bar") ≡ Err InvalidSubtag }
     ensures another_block { small_result languages (codes "en-u-ca-foo-x-bar") ≡ Err InvalidSubtag }
-    ensures two_bytes_after_the_key { small_result languages (codes "en-u-ca-a8") ≡ Err InvalidSubtag }
-    ensures inline { is_inline languages (codes "en-1994-1995-t-fr-Latn-u-foo-bar-ca-islamic-civil-x-a-b-c-d") ≡ true }
+    ensures two_bytes_after_the_key { small_result languages (codes "en-u-ca-a8")
+        ≡ Err InvalidSubtag }
+    ensures inline { is_inline languages
+        (codes "en-1994-1995-t-fr-Latn-u-foo-bar-ca-islamic-civil-x-a-b-c-d") ≡ true }
     ensures repeated_key { is_inline languages (codes "en-u-ca-foo-ca-bar") ≡ true }
     ensures five_variants { is_inline languages (codes "en-1994-1995-1996-1997-1998") ≡ false }
     ensures inline_two_keys { is_inline languages (codes "en-u-ca-hc") ≡ false }
-    ensures five_values_of_a_repeat { is_inline languages (codes "en-u-ca-ca-foo1-foo2-foo3-foo4-foo5") ≡ false }
+    ensures five_values_of_a_repeat { is_inline languages
+        (codes "en-u-ca-ca-foo1-foo2-foo3-foo4-foo5") ≡ false }
     ensures field { is_inline languages (codes "en-t-m0-foo") ≡ false }
     ensures other { is_inline languages (codes "en-a-foo") ≡ false }
     ensures five_private_words { is_inline languages (codes "en-x-a-b-c-d-e") ≡ false }
+{}
+
+/// Each block of an inline text has few words.
+pub fn by_blocks()
+    ensures { (T : Table) → IsTable T → (t : Text) → IsInline T t → IsInlineByBlocks T t }
+{}
+
+/// Where all blocks are short, none that is long is reached.
+pub fn short_blocks()
+    ensures { (T : Table) (seen : List ℕ) (bs : List Block)
+        → ReachesLongBlock T seen bs → ¬ (AllByRecursion (IsShortBlock T) bs) }
 {}

@@ -1,2 +1,7 @@
 pub mod AnySteps
 pub mod StepExamples
+pub mod Equality
+pub mod ListTests
+pub mod PartTests
+pub mod TextTests
+pub mod TestExamples

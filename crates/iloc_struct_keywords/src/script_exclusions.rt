@@ -6,7 +6,7 @@ ghost use Rattle.iloc_struct_keywords.specs.Scripts.{ReadsScripts, ReadsScriptsK
 
 use iloc_preference_key::{PreferenceKey, PreferencesParseError, key_of};
 use iloc_shortvec::ShortWords;
-use iloc_subtags::{Script, Subtag, UnicodeKey, is_normal};
+use iloc_subtags::{Script, Subtag, UnicodeKey};
 use iloc_unicode_value::Value;
 use std::alloc::{AllocError, Global};
 use std::marker::Model;
@@ -63,7 +63,7 @@ impl DictionaryBreakScriptExclusions {
         ensures ok { OnOk result (self.new ≡ self.old ++ script ∷ []) }
         ensures succeeds { length self.old < 4 → IsOk result }
     {
-        is_normal(&script);
+        let _ = script.as_str();
         self.scripts.push(alloc, script)
     }
 

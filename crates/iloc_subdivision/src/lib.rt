@@ -17,6 +17,10 @@ pub use subdivision_id::SubdivisionId;
 
 /// Subdivisions are ordered by region and then by suffix, and what is equal has the same value.
 pub fn subdivisions_compare()
-    ensures order { (s t : SubdivisionId) → ⟦<SubdivisionId as Ord>⟧.cmp s t ≡ then_cmp (on (λ s. s.region) word_cmp) (on (λ s. s.suffix) word_cmp) (value_of s) (value_of t) }
-    ensures equality { (s t : SubdivisionId) → (⟦<SubdivisionId as PartialEq>⟧.eq s t ≡ true) ↔ (value_of s ≡ value_of t) }
+    ensures order { (s t : SubdivisionId)
+        → ⟦<SubdivisionId as Ord>⟧.cmp s t
+        ≡ then_cmp (on (λ s. s.region) word_cmp) (on (λ s. s.suffix) word_cmp) (value_of s)
+        (value_of t) }
+    ensures equality { (s t : SubdivisionId)
+        → (⟦<SubdivisionId as PartialEq>⟧.eq s t ≡ true) ↔ (value_of s ≡ value_of t) }
 {}

@@ -2,10 +2,10 @@
 ghost use Rattle.std.specs.Prelude.{◌≡◌};
 ghost use Rattle.iloc_grammar.specs.Words.{upper};
 
-use crate::bytes::{all_letters, all_letters_or_digits};
 use crate::kind::WordKind;
 use crate::parse_error::ParseError;
 use crate::word_of::WordOf;
+use iloc_short_pieces::ShortPiece;
 use iloc_tinystr::TinyAsciiStr;
 
 /// The kind of keys of a unicode extension.
@@ -26,16 +26,15 @@ impl WordKind<2> for UnicodeKeyKind {
     ghost size = { refl };
 
     #[tactic(auto, unfolding(iloc_grammar::specs::Words::is_word))]
-    fn accepts(piece: &[u8]) -> bool {
-        match piece {
-            [first, second] => first.is_ascii_alphanumeric() && second.is_ascii_alphabetic(),
-            _ => false,
-        }
+    fn accepts(piece: ShortPiece) -> bool {
+        piece.len() == 2
+            && piece.first().is_ascii_alphanumeric()
+            && piece.second().is_ascii_alphabetic()
     }
 
     #[tactic(auto, unfolding(iloc_grammar::specs::Words::lower))]
-    fn normal(text: &TinyAsciiStr<2>) -> TinyAsciiStr<2> {
-        text.to_ascii_lowercase()
+    fn normal(piece: ShortPiece) -> ShortPiece {
+        piece.to_ascii_lowercase()
     }
 
     fn refusal() -> ParseError {
@@ -65,16 +64,13 @@ impl WordKind<2> for TransformKeyKind {
     ghost size = { refl };
 
     #[tactic(auto, unfolding(iloc_grammar::specs::Words::is_word))]
-    fn accepts(piece: &[u8]) -> bool {
-        match piece {
-            [first, second] => first.is_ascii_alphabetic() && second.is_ascii_digit(),
-            _ => false,
-        }
+    fn accepts(piece: ShortPiece) -> bool {
+        piece.len() == 2 && piece.first().is_ascii_alphabetic() && piece.second().is_ascii_digit()
     }
 
     #[tactic(auto, unfolding(iloc_grammar::specs::Words::lower))]
-    fn normal(text: &TinyAsciiStr<2>) -> TinyAsciiStr<2> {
-        text.to_ascii_lowercase()
+    fn normal(piece: ShortPiece) -> ShortPiece {
+        piece.to_ascii_lowercase()
     }
 
     fn refusal() -> ParseError {
@@ -104,13 +100,13 @@ impl WordKind<8> for AttributeKind {
     ghost size = { refl };
 
     #[tactic(auto, unfolding(iloc_grammar::specs::Words::is_word))]
-    fn accepts(piece: &[u8]) -> bool {
-        matches!(piece.len(), 3..=8) && all_letters_or_digits(piece)
+    fn accepts(piece: ShortPiece) -> bool {
+        matches!(piece.len(), 3..=8) && piece.is_ascii_alphanumeric()
     }
 
     #[tactic(auto, unfolding(iloc_grammar::specs::Words::lower))]
-    fn normal(text: &TinyAsciiStr<8>) -> TinyAsciiStr<8> {
-        text.to_ascii_lowercase()
+    fn normal(piece: ShortPiece) -> ShortPiece {
+        piece.to_ascii_lowercase()
     }
 
     fn refusal() -> ParseError {
@@ -140,13 +136,13 @@ impl WordKind<8> for PrivateSubtagKind {
     ghost size = { refl };
 
     #[tactic(auto, unfolding(iloc_grammar::specs::Words::is_word))]
-    fn accepts(piece: &[u8]) -> bool {
-        matches!(piece.len(), 1..=8) && all_letters_or_digits(piece)
+    fn accepts(piece: ShortPiece) -> bool {
+        matches!(piece.len(), 1..=8) && piece.is_ascii_alphanumeric()
     }
 
     #[tactic(auto, unfolding(iloc_grammar::specs::Words::lower))]
-    fn normal(text: &TinyAsciiStr<8>) -> TinyAsciiStr<8> {
-        text.to_ascii_lowercase()
+    fn normal(piece: ShortPiece) -> ShortPiece {
+        piece.to_ascii_lowercase()
     }
 
     fn refusal() -> ParseError {
@@ -176,13 +172,13 @@ impl WordKind<4> for SubdivisionSuffixKind {
     ghost size = { refl };
 
     #[tactic(auto, unfolding(iloc_grammar::specs::Words::is_word))]
-    fn accepts(piece: &[u8]) -> bool {
-        matches!(piece.len(), 1..=4) && all_letters_or_digits(piece)
+    fn accepts(piece: ShortPiece) -> bool {
+        matches!(piece.len(), 1..=4) && piece.is_ascii_alphanumeric()
     }
 
     #[tactic(auto, unfolding(iloc_grammar::specs::Words::lower))]
-    fn normal(text: &TinyAsciiStr<4>) -> TinyAsciiStr<4> {
-        text.to_ascii_lowercase()
+    fn normal(piece: ShortPiece) -> ShortPiece {
+        piece.to_ascii_lowercase()
     }
 
     fn refusal() -> ParseError {
@@ -212,13 +208,13 @@ impl WordKind<3> for CurrencyTypeKind {
     ghost size = { refl };
 
     #[tactic(auto, unfolding(iloc_grammar::specs::Words::is_word))]
-    fn accepts(piece: &[u8]) -> bool {
-        piece.len() == 3 && all_letters(piece)
+    fn accepts(piece: ShortPiece) -> bool {
+        piece.len() == 3 && piece.is_ascii_alphabetic()
     }
 
     #[tactic(auto, unfolding(iloc_grammar::specs::Words::lower))]
-    fn normal(text: &TinyAsciiStr<3>) -> TinyAsciiStr<3> {
-        text.to_ascii_lowercase()
+    fn normal(piece: ShortPiece) -> ShortPiece {
+        piece.to_ascii_lowercase()
     }
 
     fn refusal() -> ParseError {

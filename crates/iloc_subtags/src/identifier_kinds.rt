@@ -7,10 +7,10 @@ ghost use Rattle.iloc_grammar.specs.Values.{IsNormal};
 ghost use Rattle.iloc_subtags.specs.declared.parse_error.ParseError.TheVariants.{InvalidLanguage, InvalidSubtag};
 ghost use Rattle.iloc_subtags.specs.RawForms.{ReadsRaw};
 
-use crate::bytes::{all_digits, all_letters, all_letters_or_digits};
 use crate::kind::WordKind;
 use crate::parse_error::ParseError;
 use crate::word_of::WordOf;
+use iloc_short_pieces::ShortPiece;
 use iloc_tinystr::TinyAsciiStr;
 
 /// The kind of languages.
@@ -31,13 +31,13 @@ impl WordKind<8> for LanguageKind {
     ghost size = { refl };
 
     #[tactic(auto, unfolding(iloc_grammar::specs::Words::is_word, iloc_grammar::specs::Words::languages))]
-    fn accepts(piece: &[u8]) -> bool {
-        matches!(piece.len(), 2..=3 | 5..=8) && all_letters(piece)
+    fn accepts(piece: ShortPiece) -> bool {
+        matches!(piece.len(), 2..=3 | 5..=8) && piece.is_ascii_alphabetic()
     }
 
     #[tactic(auto, unfolding(iloc_grammar::specs::Words::lower))]
-    fn normal(text: &TinyAsciiStr<8>) -> TinyAsciiStr<8> {
-        text.to_ascii_lowercase()
+    fn normal(piece: ShortPiece) -> ShortPiece {
+        piece.to_ascii_lowercase()
     }
 
     fn refusal() -> ParseError {
@@ -98,13 +98,13 @@ impl WordKind<4> for ScriptKind {
     ghost size = { refl };
 
     #[tactic(auto, unfolding(iloc_grammar::specs::Words::is_word))]
-    fn accepts(piece: &[u8]) -> bool {
-        piece.len() == 4 && all_letters(piece)
+    fn accepts(piece: ShortPiece) -> bool {
+        piece.len() == 4 && piece.is_ascii_alphabetic()
     }
 
     #[tactic(auto, unfolding(iloc_grammar::specs::Words::title))]
-    fn normal(text: &TinyAsciiStr<4>) -> TinyAsciiStr<4> {
-        text.to_ascii_titlecase()
+    fn normal(piece: ShortPiece) -> ShortPiece {
+        piece.to_ascii_titlecase()
     }
 
     fn refusal() -> ParseError {
@@ -134,17 +134,17 @@ impl WordKind<3> for RegionKind {
     ghost size = { refl };
 
     #[tactic(auto, unfolding(iloc_grammar::specs::Words::is_word))]
-    fn accepts(piece: &[u8]) -> bool {
+    fn accepts(piece: ShortPiece) -> bool {
         match piece.len() {
-            2 => all_letters(piece),
-            3 => all_digits(piece),
+            2 => piece.is_ascii_alphabetic(),
+            3 => piece.is_ascii_numeric(),
             _ => false,
         }
     }
 
     #[tactic(auto, unfolding(iloc_grammar::specs::Words::upper))]
-    fn normal(text: &TinyAsciiStr<3>) -> TinyAsciiStr<3> {
-        text.to_ascii_uppercase()
+    fn normal(piece: ShortPiece) -> ShortPiece {
+        piece.to_ascii_uppercase()
     }
 
     fn refusal() -> ParseError {
@@ -184,17 +184,17 @@ impl WordKind<8> for VariantKind {
     ghost size = { refl };
 
     #[tactic(auto, unfolding(iloc_grammar::specs::Words::is_word))]
-    fn accepts(piece: &[u8]) -> bool {
+    fn accepts(piece: ShortPiece) -> bool {
         match piece.len() {
-            4 => piece[0].is_ascii_digit() && all_letters_or_digits(piece),
-            5..=8 => all_letters_or_digits(piece),
+            4 => piece.first().is_ascii_digit() && piece.is_ascii_alphanumeric(),
+            5..=8 => piece.is_ascii_alphanumeric(),
             _ => false,
         }
     }
 
     #[tactic(auto, unfolding(iloc_grammar::specs::Words::lower))]
-    fn normal(text: &TinyAsciiStr<8>) -> TinyAsciiStr<8> {
-        text.to_ascii_lowercase()
+    fn normal(piece: ShortPiece) -> ShortPiece {
+        piece.to_ascii_lowercase()
     }
 
     fn refusal() -> ParseError {
@@ -224,13 +224,13 @@ impl WordKind<8> for SubtagKind {
     ghost size = { refl };
 
     #[tactic(auto, unfolding(iloc_grammar::specs::Words::is_word))]
-    fn accepts(piece: &[u8]) -> bool {
-        matches!(piece.len(), 2..=8) && all_letters_or_digits(piece)
+    fn accepts(piece: ShortPiece) -> bool {
+        matches!(piece.len(), 2..=8) && piece.is_ascii_alphanumeric()
     }
 
     #[tactic(auto, unfolding(iloc_grammar::specs::Words::lower))]
-    fn normal(text: &TinyAsciiStr<8>) -> TinyAsciiStr<8> {
-        text.to_ascii_lowercase()
+    fn normal(piece: ShortPiece) -> ShortPiece {
+        piece.to_ascii_lowercase()
     }
 
     fn refusal() -> ParseError {

@@ -5,7 +5,7 @@ ghost use Rattle.iloc_grammar.specs.Words.{Kind, is_word, IsWord, normal, greate
 ghost use Rattle.iloc_subtags.specs.declared.parse_error.ParseError.{ParseError};
 
 use crate::parse_error::ParseError;
-use iloc_tinystr::TinyAsciiStr;
+use iloc_short_pieces::ShortPiece;
 
 /// A kind of word of at most `N` bytes: which pieces it takes, their normal case, and its refusal.
 ///
@@ -18,12 +18,12 @@ pub trait WordKind<const N: usize> {
     ghost refusal: { ParseError };
 
     /// Whether the piece is a word of the kind, in any case.
-    fn accepts(piece: &[u8]) -> bool
-        ensures { result ≡ is_word kind piece.now };
+    fn accepts(piece: ShortPiece) -> bool
+        ensures { result ≡ is_word kind piece };
 
-    /// The text in the case of the kind.
-    fn normal(text: &TinyAsciiStr<N>) -> TinyAsciiStr<N>
-        ensures { result ≡ normal kind text.now };
+    /// The piece in the case of the kind.
+    fn normal(piece: ShortPiece) -> ShortPiece
+        ensures { result ≡ normal kind piece };
 
     /// The refusal of the kind.
     fn refusal() -> ParseError

@@ -8,11 +8,11 @@
 //! There is one generic struct, `WordOf<K, N>`, over a kind `K` and its greatest length `N`; the kinds'
 //! names, as `Language`, are aliases of it. Code over any kind of word has the trait `Word` and its laws.
 //!
-//! It stands on `iloc_grammar` (definitions), `iloc_tinystr` (short texts) and `iloc_writeable` (printing).
+//! It stands on `iloc_grammar` (definitions), `iloc_short_pieces` and `iloc_tinystr` (short texts) and
+//! `iloc_writeable` (printing).
 #![tactic(auto)]
 
 pub mod any_kind;
-mod bytes;
 pub mod extension_kinds;
 pub mod identifier_kinds;
 pub mod kind;

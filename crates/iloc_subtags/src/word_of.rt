@@ -9,6 +9,7 @@ ghost use Rattle.iloc_subtags.specs.RawForms.{ReadsRaw};
 
 use crate::kind::WordKind;
 use crate::parse_error::ParseError;
+use iloc_short_pieces::ShortPiece;
 use iloc_tinystr::TinyAsciiStr;
 use iloc_writeable::pieces::{Pieces, write_piece};
 use iloc_writeable::{LengthHint, Sink, Writeable};
@@ -53,14 +54,23 @@ impl<K: WordKind<N>, const N: usize> WordOf<K, N> {
     pub fn try_from_utf8(code_units: &[u8]) -> Result<Self, ParseError>
         ensures { result ≡ read K.kind K.refusal code_units.now }
     {
-        if !K::accepts(code_units) {
+        match ShortPiece::of(code_units) {
+            Some(piece) => Self::from_piece(piece),
+            None => Err(K::refusal()),
+        }
+    }
+
+    /// The word of a piece of at most eight bytes, in any case. It refuses every other piece with the refusal
+    /// of the kind.
+    #[inline(always)]
+    pub fn from_piece(piece: ShortPiece) -> Result<Self, ParseError>
+        ensures { result ≡ read K.kind K.refusal piece }
+    {
+        if !K::accepts(piece) {
             return Err(K::refusal());
         }
-        let Some(text) = TinyAsciiStr::<N>::try_from_utf8(code_units) else {
-            return Err(K::refusal());
-        };
         Ok(WordOf {
-            text: K::normal(&text),
+            text: TinyAsciiStr::from_piece(K::normal(piece)),
             kind: PhantomData,
         })
     }
@@ -80,10 +90,11 @@ impl<K: WordKind<N>, const N: usize> WordOf<K, N> {
     pub(crate) fn from_normal(text: TinyAsciiStr<N>) -> Result<Self, ParseError>
         ensures { MatchResult result (λ word. (word ≡ text.entry) × IsNormal K.kind text.entry) (λ e. (e ≡ K.refusal) × ¬ (IsNormal K.kind text.entry)) }
     {
-        if !K::accepts(text.as_str().as_bytes()) {
+        let piece = text.to_piece();
+        if !K::accepts(piece) {
             return Err(K::refusal());
         }
-        if K::normal(&text) != text {
+        if K::normal(piece) != piece {
             return Err(K::refusal());
         }
         Ok(WordOf {

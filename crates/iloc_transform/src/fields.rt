@@ -1,11 +1,12 @@
 //! The fields of a transform.
-ghost use Rattle.std.specs.Prelude.{◌≡◌, ◌==◌, ℕ, List, [], true, length, OnOk, OnErr, IfOk, IsOk, Some, if◌then◌else◌};
+ghost use Rattle.std.specs.Prelude.{◌≡◌, ◌==◌, ℕ, List, [], true, length, OnOk, OnErr, IfOk, IsOk, Ok, Some, if◌then◌else◌};
 ghost use Rattle.std.specs.Fn.{CalledAt};
 ghost use Rattle.std.specs.FinMap.{find, put};
 ghost use Rattle.std.specs.Iterator.{IsFiniteIterable, Drains};
 ghost use Rattle.std.specs.List.{AllByRecursion};
 ghost use Rattle.std.specs.List.Retain.{IsFiltered};
 ghost use Rattle.std.specs.Option.{option_copied, is_some};
+ghost use Rattle.std.specs.Result.{result_and};
 ghost use Rattle.iloc_grammar.specs.Words.{word_cmp};
 ghost use Rattle.iloc_grammar.specs.Written.{fields_pieces};
 ghost use Rattle.iloc_grammar.specs.Values.{spelled_fields, fields_text};
@@ -21,7 +22,7 @@ ghost use Rattle.iloc_transform.specs.FieldsReading.{IsFieldPair, FieldsFrontRea
 use crate::value::Value;
 use iloc_litemap::LiteMap;
 use iloc_parser::{SubtagIterator, take_word};
-use iloc_subtags::{ParseError, TransformKey, TransformKeyKind, is_normal};
+use iloc_subtags::{ParseError, TransformKey, TransformKeyKind};
 use iloc_writeable::{Pieces, Sink, Writeable};
 use std::alloc::{AllocError, Global};
 use std::cmp::Ordering;
@@ -120,7 +121,7 @@ impl Fields {
         ensures err { OnErr result (self.new ≡ self.old) }
         ensures known { is_some (find word_cmp key self.old) ≡ true → IsOk result }
     {
-        is_normal(&key);
+        let _ = key.as_str();
         let _ = value.as_slice();
         self.map.insert(alloc, key, value)
     }
@@ -129,7 +130,7 @@ impl Fields {
     fn add(&mut self, alloc: Global, key: Key, value: Value) -> Result<(), AllocError>
         ensures { OnOk result (self.new ≡ (if is_some (find word_cmp key self.old) then self.old else put word_cmp key value self.old)) }
     {
-        is_normal(&key);
+        let _ = key.as_str();
         let _ = value.as_slice();
         self.map.try_insert(alloc, key, value)?;
         Ok(())
@@ -161,22 +162,23 @@ impl Fields {
         Ok(Fields::from(map))
     }
 
-    // Reads keys with their values, as many as there are; of equal keys the first stays.
-    pub(crate) fn read_front(
+    // Reads keys with their values, as many as there are, into the empty map; of equal keys the first stays.
+    pub(crate) fn fill_front(
+        &mut self,
         alloc: Global,
         iter: &mut SubtagIterator<'_>,
-    ) -> Result<Self, ParseError>
-        ensures { FieldsFrontRead (left iter.old) (left iter.new) result }
+    ) -> Result<(), ParseError>
+        requires { self.old ≡ [] }
+        ensures { FieldsFrontRead (left iter.old) (left iter.new) (result_and result (Ok self.new)) }
     {
-        let mut fields = Fields::new(alloc);
         'fields: while let Some(key) = take_word::<TransformKeyKind, 2>(iter) {
             let value = Value::read_front(alloc, iter)?;
-            match fields.add(alloc, key, value) {
+            match self.add(alloc, key, value) {
                 Ok(()) => {}
                 Err(_) => return Err(ParseError::OutOfMemory),
             }
         }
-        Ok(fields)
+        Ok(())
     }
 }
 
@@ -265,7 +267,7 @@ fn are_pairs(pairs: &[(Key, Value)])
     ensures { AllByRecursion IsFieldPair pairs.now }
 {
     for pair in pairs {
-        is_normal(&pair.0);
+        let _ = pair.0.as_str();
         let _ = pair.1.as_slice();
     }
 }

@@ -1,7 +1,8 @@
 //! The identifier of a transform: read, compared, put in lower case.
-ghost use Rattle.std.specs.Prelude.{◌≡◌, option_map, option_to_list};
+ghost use Rattle.std.specs.Prelude.{◌≡◌, Ok, None, option_map, option_to_list};
 ghost use Rattle.std.specs.List.{flat_map};
 ghost use Rattle.std.specs.Option.{option_cmp, option_copied};
+ghost use Rattle.std.specs.Result.{result_and};
 ghost use Rattle.iloc_grammar.specs.Written.{identifier_pieces, optional_pieces};
 ghost use Rattle.iloc_grammar.specs.Values.{lower_identifier};
 ghost use Rattle.iloc_langid.specs.Reads.{value_of};
@@ -9,26 +10,33 @@ ghost use Rattle.iloc_orders.specs.Orders.{identifier_cmp};
 ghost use Rattle.iloc_parser.specs.Left.{left};
 ghost use Rattle.iloc_transform.specs.LangReading.{LangReads};
 
-use iloc_langid::reader::read_front;
+use iloc_langid::reader::fill_front;
 use iloc_langid::{LanguageIdentifier, Lowercase};
 use iloc_parser::SubtagIterator;
 use iloc_subtags::{Language, ParseError};
 use std::alloc::Global;
 use std::cmp::Ordering;
 
-/// Reads the longest front of an identifier's words, where the next piece is a language.
-pub(crate) fn read_lang(
+/// Reads the longest front of an identifier's words, where the next piece is a language. Where it is none, there is none.
+pub(crate) fn fill_lang(
     alloc: Global,
     iter: &mut SubtagIterator<'_>,
-) -> Result<Option<LanguageIdentifier>, ParseError>
-    ensures { LangReads (left iter.old) (left iter.new) result }
+    lang: &mut Option<LanguageIdentifier>,
+) -> Result<(), ParseError>
+    requires { lang.old ≡ None }
+    ensures { LangReads (left iter.old) (left iter.new) (result_and result (Ok lang.new)) }
 {
     let Some(piece) = iter.peek() else {
-        return Ok(None);
+        return Ok(());
     };
     match Language::try_from_utf8(piece) {
-        Ok(_) => Ok(Some(read_front(alloc, iter)?)),
-        Err(_) => Ok(None),
+        Ok(_) => {
+            let mut identifier = LanguageIdentifier::unknown();
+            fill_front(alloc, iter, &mut identifier)?;
+            *lang = Some(identifier);
+            Ok(())
+        }
+        Err(_) => Ok(()),
     }
 }
 

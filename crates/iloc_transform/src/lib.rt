@@ -20,7 +20,6 @@ pub mod fields;
 mod lang;
 pub mod transform;
 pub mod value;
-pub mod values;
 
 pub use fields::{Fields, Key};
 pub use transform::Transform;

@@ -1,10 +1,11 @@
 //! The transform extension.
-ghost use Rattle.std.specs.Prelude.{◌≡◌, ◌==◌, ◌&&◌, ◌∷◌, ℕ, List, [], None, Some, not, length, option_map, is_some};
+ghost use Rattle.std.specs.Prelude.{◌≡◌, ◌==◌, ◌&&◌, ◌∷◌, ℕ, List, [], None, Some, Ok, not, length, option_map, is_some};
+ghost use Rattle.std.specs.Result.{result_and};
 ghost use Rattle.iloc_orders.specs.Orders.{transform_cmp};
 ghost use Rattle.iloc_parser.specs.Left.{left};
 
 use crate::fields::Fields;
-use crate::lang::{cmp_langs, lowercase, read_lang};
+use crate::lang::{cmp_langs, fill_lang, lowercase};
 use iloc_langid::LanguageIdentifier;
 use iloc_other::singleton::take_singleton;
 use iloc_parser::SubtagIterator;
@@ -94,13 +95,23 @@ impl Transform {
     pub fn try_from_iter(alloc: Global, iter: &mut SubtagIterator<'_>) -> Result<Self, ParseError>
         ensures { TransformReads (left iter.old) (left iter.new) result }
     {
-        let lang = read_lang(alloc, iter)?;
-        let fields = Fields::read_front(alloc, iter)?;
-        let transform = Transform { lang, fields };
-        if transform.is_empty() {
+        let mut transform = Transform::new(alloc);
+        transform.fill(alloc, iter)?;
+        Ok(transform)
+    }
+
+    /// The same into an empty extension. After a refusal it holds what was read before the fault.
+    pub fn fill(&mut self, alloc: Global, iter: &mut SubtagIterator<'_>) -> Result<(), ParseError>
+        requires lang { self.old.lang ≡ None }
+        requires fields { self.old.fields ≡ [] }
+        ensures { TransformReads (left iter.old) (left iter.new) (result_and result (Ok self.new)) }
+    {
+        fill_lang(alloc, iter, &mut self.lang)?;
+        self.fields.fill_front(alloc, iter)?;
+        if self.is_empty() {
             return Err(ParseError::InvalidExtension);
         }
-        Ok(transform)
+        Ok(())
     }
 }
 

@@ -9,7 +9,7 @@ ghost use Rattle.iloc_transform.specs.ValueReading.{IsValueWord, ValueFrontReads
 
 use iloc_parser::{SubtagIterator, take_word};
 use iloc_shortvec::ShortWords;
-use iloc_subtags::{Attribute, AttributeKind, ParseError, is_normal};
+use iloc_subtags::{Attribute, AttributeKind, ParseError};
 use iloc_writeable::pieces::write_piece;
 use iloc_writeable::{Pieces, Sink, Writeable};
 use std::alloc::{AllocError, Global};
@@ -102,7 +102,7 @@ impl Value {
         ensures err { IfErr result (λ e. (e ≡ ParseError.OutOfMemory) × (is_true word ≡ false)) }
         ensures succeeds { length self.old < 4 → IsOk result }
     {
-        is_normal(&word);
+        let _ = word.as_str();
         if spells_true(&word) {
             return Ok(());
         }

@@ -1,94 +1,39 @@
 -- Attributes that are taken one at a time.
-use Rattle.std.proofs.Common.{◌≡◌, ℕ, ◌+◌, ◌<◌, ◌≤◌, Bool, true, false, cond, List, [], ◌∷◌, ◌++◌, length, map, refl, sym, ap, ◌∙◌, arith, append-nil, Some, None, option_map, is_some}
-use Rattle.std.specs.List.{list_any}
-use Rattle.std.specs.FinMap.Entries.{is_some-find, length-put}
-use Rattle.std.proofs.lemmas.List.{map-append, length-map}
-use Rattle.iloc_grammar.specs.Words.{Attribute, is_word, lower, word_cmp, is_same}
-use Rattle.iloc_grammar.specs.Meaning.{map_of, set_of}
-use Rattle.iloc_grammar.specs.Steps.{Reordered}
+use Rattle.std.proofs.Common.{◌≡◌, ℕ, ◌<◌, ◌≤◌, cond, List, [], ◌∷◌, ◌++◌, length, map, refl, sym, ap, ◌∙◌, subst, arith, append-nil, Some, None, option_map}
+use Rattle.std.specs.List.{AllByRecursion}
+use Rattle.std.proofs.lemmas.List.Sorted.{IsPermutation-sym, IsPermutation-middle}
+use Rattle.iloc_grammar.specs.Words.{Attribute, is_word, lower}
+use Rattle.iloc_grammar.specs.Meaning.{set_of}
 use Rattle.iloc_grammar.specs.Reading.{take_first, skip_first, passing, past}
-use Rattle.iloc_grammar.proofs.MapLaws.{word_cmp_total, sorted-map_of, find-map_of}
-use Rattle.iloc_grammar.proofs.ValuesLaws.{unmarked}
-use Rattle.iloc_grammar.proofs.Orders.{set_of_reordered}
-use Rattle.iloc_grammar.proofs.Sorting.{itself}
+use Rattle.iloc_grammar.specs.Values.{IsNormal, IsAscending}
+use Rattle.iloc_grammar.proofs.ReadWords.{IsNormal-normal}
+use Rattle.iloc_grammar.proofs.SetLaws.{set_of-first, set_of-set_of, length-set_of}
+use Rattle.iloc_grammar.proofs.ValuesLaws.{set_of_ascending}
+use Rattle.iloc_grammar.proofs.WellRead.{set_of-ascending, all-set_of}
+use Rattle.iloc_word_set.proofs.CollectorLaws.{permuted_set, set_grows}
 use Rattle.iloc_fronts.specs.Fronts.{attributes_read, after_attributes}
-use Rattle.iloc_fronts.proofs.ExtendingLaws.{map_first}
 use Rattle.iloc_unicode.proofs.TakingLemmas.{took, took_none}
 
-abbrev mark : List (List ℕ) → List (List ℕ × Unit {0})
-mark ws = map (λ w. (w, tt {0})) ws
-
-abbrev bare : List (List ℕ × Unit {0}) → List (List ℕ)
-bare es = map (λ e. e.0) es
-
-remark : (es : List (List ℕ × Unit {0})) → mark (bare es) ≡ es
-remark [] = refl
-remark (e ∷ es) = ap (λ l. e ∷ l) (remark es)
-
--- the set of a set and more is that of the lists
-pub set_first : (vs ws : List (List ℕ)) → set_of (set_of vs ++ ws) ≡ set_of (vs ++ ws)
-set_first vs ws = ap (λ es. bare (map_of word_cmp es)) (map-append (λ (w : List ℕ). (w, tt {0})) (set_of vs) ws ∙ ap (λ es. es ++ mark ws) (remark (map_of word_cmp (mark vs))))
-    ∙ ap bare (map_first (mark vs) (mark ws)) ∙ ap (λ es. bare (map_of word_cmp es)) (sym (map-append (λ (w : List ℕ). (w, tt {0})) vs ws))
-
-pub set_twice : (ws : List (List ℕ)) → set_of (set_of ws) ≡ set_of ws
-set_twice ws = ap set_of (sym (append-nil (set_of ws))) ∙ set_first ws [] ∙ ap set_of (append-nil ws)
-
--- a word moved behind others, and all of them moved
-moved : (w : List ℕ) (xs ys : List (List ℕ)) → Reordered ((w ∷ xs) ++ ys) (xs ++ w ∷ ys)
-moved w [] ys = itself (w ∷ ys)
-moved w (x ∷ xs) ys = Reordered.in_turn Reordered.first_two (Reordered.front_kept (moved w xs ys))
-
-swapped : (xs ys : List (List ℕ)) → Reordered (xs ++ ys) (ys ++ xs)
-swapped [] ys = same ys
-  where
-    same : (ys : List (List ℕ)) → Reordered ys (ys ++ [])
-    same [] = Reordered.none
-    same (y ∷ ys) = Reordered.front_kept (same ys)
-swapped (x ∷ xs) ys = Reordered.in_turn (Reordered.front_kept (swapped xs ys)) (moved x ys xs)
-
--- the lengths of sets
-
-length-set : (ws : List (List ℕ)) → length (set_of ws) ≡ length (map_of word_cmp (mark ws))
-length-set ws = length-map (map_of word_cmp (mark ws)) _
-
-put_grows : (w : List ℕ) (ws : List (List ℕ)) → length (map_of word_cmp (mark (w ∷ ws))) ≡ cond (list_any (is_same w) ws) (length (map_of word_cmp (mark ws))) (length (map_of word_cmp (mark ws)) + 1)
-put_grows w ws =
-    length-put word_cmp word_cmp_total w (tt {0}) (map_of word_cmp (mark ws)) (sorted-map_of word_cmp word_cmp_total (mark ws))
-    ∙ ap (λ b. cond b (length (map_of word_cmp (mark ws))) (length (map_of word_cmp (mark ws)) + 1)) (ap is_some (find-map_of word_cmp word_cmp_total w (mark ws)) ∙ is_some-find word_cmp w (mark ws) ∙ ap (list_any (is_same w)) (unmarked ws))
-
-longer : (b : Bool) (m n : ℕ) → m ≡ cond b n (n + 1) → n ≤ m
-longer true m n e = omega arith
-longer false m n e = omega arith
-
-grows : (xs ys : List (List ℕ)) → length (map_of word_cmp (mark ys)) ≤ length (map_of word_cmp (mark (xs ++ ys)))
-grows [] ys = omega arith
-grows (x ∷ xs) ys =
-    let h = grows xs ys in
-    let l : length (map_of word_cmp (mark (xs ++ ys))) ≤ length (map_of word_cmp (mark (x ∷ (xs ++ ys)))) = longer (list_any (is_same x) (xs ++ ys)) _ _ (put_grows x (xs ++ ys)) in
-    omega arith
-
--- a word that a set lacks, with more words, makes a longer set
-pub set_longer : (w : List ℕ) (set more : List (List ℕ)) → set_of set ≡ set → list_any (is_same w) set ≡ false → length set < length (set_of (set ++ w ∷ more))
-set_longer w set more is new =
-    let first : length (map_of word_cmp (mark (w ∷ set))) ≡ length (map_of word_cmp (mark set)) + 1 = put_grows w set ∙ ap (λ b. cond b (length (map_of word_cmp (mark set))) (length (map_of word_cmp (mark set)) + 1)) new in
-    let same : length (map_of word_cmp (mark set)) ≡ length set = sym (length-set set) ∙ ap length is in
-    let l = grows more (w ∷ set) in
-    let whole : length (set_of (set ++ w ∷ more)) ≡ length (map_of word_cmp (mark (more ++ w ∷ set))) =
-    ap length (sym (set_of_reordered (moved w set more)) ∙ set_of_reordered (swapped (w ∷ set) more)) ∙ length-set (more ++ w ∷ set) in
-    omega arith
-
--- of the words before, those up to now are in the set
-pub record Gathered (before now set : List (List ℕ)) : Type 0 where
-  pub gives : set_of (set ++ map lower (passing (is_word Attribute) now)) ≡ attributes_read before
+-- of the words before, those up to now are taken, as these words
+pub record Gathered (before now words : List (List ℕ)) : Type 0 where
+  pub gives : set_of (words ++ map lower (passing (is_word Attribute) now)) ≡ attributes_read before
   pub skips : past (is_word Attribute) now ≡ after_attributes before
-  pub is_set : set_of set ≡ set
 
 pub gathered_none : (ps : List (List ℕ)) → Gathered ps ps []
-gathered_none ps = record { gives = refl; skips = refl; is_set = refl }
+gathered_none ps = record { gives = refl; skips = refl }
 
-module _ (before now set : List (List ℕ)) (t : Gathered before now set) (w : List ℕ) (later : List (List ℕ)) (e : Some w ≡ option_map lower (take_first (is_word Attribute) now)) (l : later ≡ skip_first (is_word Attribute) now) where
-  words : map lower (passing (is_word Attribute) now) ≡ w ∷ map lower (passing (is_word Attribute) later)
-  words =
+-- a word that stands behind others stands before them as well
+moved : (w : List ℕ) (vs more : List (List ℕ)) → set_of ((w ∷ vs) ++ more) ≡ set_of (vs ++ w ∷ more)
+moved w vs more = permuted_set _ _ (IsPermutation-sym _ _ (IsPermutation-middle vs w more))
+
+-- words more make no shorter set
+grows : (more vs : List (List ℕ)) → length (set_of vs) ≤ length (set_of (vs ++ more))
+grows [] vs = rw (append-nil vs) (omega arith)
+grows (w ∷ more) vs = let h = set_grows w (vs ++ more) in let e = ap length (moved w vs more) in omega (arith, grows more vs, h, e)
+
+module _ (before now words : List (List ℕ)) (t : Gathered before now words) (w : List ℕ) (later : List (List ℕ)) (e : Some w ≡ option_map lower (take_first (is_word Attribute) now)) (l : later ≡ skip_first (is_word Attribute) now) where
+  found : map lower (passing (is_word Attribute) now) ≡ w ∷ map lower (passing (is_word Attribute) later)
+  found =
       let (p, h, same, cut) = took Attribute now w e in
       ap (λ ps. map lower (passing (is_word Attribute) ps)) (cut ∙ ap (λ ps. p ∷ ps) (sym l)) ∙ ap (λ b. map lower (cond b (p ∷ passing (is_word Attribute) later) [])) h ∙ ap (λ v. v ∷ map lower (passing (is_word Attribute) later)) (sym same)
 
@@ -97,22 +42,83 @@ module _ (before now set : List (List ℕ)) (t : Gathered before now set) (w : L
       let (p, h, same, cut) = took Attribute now w e in
       ap (past (is_word Attribute)) (cut ∙ ap (λ ps. p ∷ ps) (sym l)) ∙ ap (λ b. cond b (past (is_word Attribute) later) (p ∷ later)) h
 
-  pub gathered_more : (more : List (List ℕ)) → more ≡ set_of (w ∷ set) → Gathered before later more
+  with_word : set_of ((w ∷ words) ++ map lower (passing (is_word Attribute) later)) ≡ attributes_read before
+  with_word = moved w words _ ∙ ap (λ vs. set_of (words ++ vs)) (sym found) ∙ t.gives
+
+  pub gathered_more : (more : List (List ℕ)) → set_of more ≡ set_of (w ∷ words) → Gathered before later more
   gathered_more more is = record {
-    gives = ap (λ s. set_of (s ++ map lower (passing (is_word Attribute) later))) is ∙ set_first (w ∷ set) (map lower (passing (is_word Attribute) later)) ∙ set_of_reordered (moved w set (map lower (passing (is_word Attribute) later))) ∙ ap (λ ws. set_of (set ++ ws)) (sym words) ∙ t.gives;
+    gives = sym (set_of-first more _) ∙ ap (λ s. set_of (s ++ map lower (passing (is_word Attribute) later))) is ∙ set_of-first (w ∷ words) _ ∙ with_word;
     skips = sym rest ∙ t.skips;
-    is_set = ap set_of is ∙ set_twice (w ∷ set) ∙ sym is;
   }
 
   -- where memory was refused, more than four words stand there
-  pub gathered_many : list_any (is_same w) set ≡ false → 4 ≤ length set → length (attributes_read before) ≤ 4 → ⊥
-  gathered_many new many few =
-      let longer = set_longer w set (map lower (passing (is_word Attribute) later)) t.is_set new in
-      let same : length (set_of (set ++ w ∷ map lower (passing (is_word Attribute) later))) ≡ length (attributes_read before) = ap length (ap (λ ws. set_of (set ++ ws)) (sym words) ∙ t.gives) in
-      omega arith
+  pub gathered_many : 4 < length (set_of (w ∷ words)) → length (attributes_read before) ≤ 4 → ⊥
+  gathered_many many few =
+      let h = grows (map lower (passing (is_word Attribute) later)) (w ∷ words) in
+      let e = ap length with_word in
+      omega (arith, many, few, h, e)
+
+-- words that are known to be attributes stand before
+
+few_pass : (ws ps : List (List ℕ)) → AllByRecursion (IsNormal Attribute) ws → (map lower (passing (is_word Attribute) (ws ++ ps)) ≡ ws ++ map lower (passing (is_word Attribute) ps)) × (past (is_word Attribute) (ws ++ ps) ≡ past (is_word Attribute) ps)
+few_pass [] ps n = (refl, refl)
+few_pass (w ∷ ws) ps n =
+    let more = few_pass ws ps n.1 in
+    let h = n.0.0 in
+    let l = n.0.1 in
+    rw h (rw l (ap (λ vs. w ∷ vs) more.0), more.1)
+
+pub gathered_few : (ws ps : List (List ℕ)) → AllByRecursion (IsNormal Attribute) ws → Gathered (ws ++ ps) ps ws
+gathered_few ws ps n = record { gives = ap set_of (sym (few_pass ws ps n).0); skips = sym (few_pass ws ps n).1 }
+
+-- what is read after them is read of all
+pub gathered_after : (before now ws : List (List ℕ)) → Gathered before now ws → AllByRecursion (IsNormal Attribute) ws → (attributes_read (ws ++ now) ≡ attributes_read before) × (after_attributes (ws ++ now) ≡ after_attributes before)
+gathered_after before now ws t n = (ap set_of (few_pass ws now n).0 ∙ t.gives, (few_pass ws now n).1 ∙ t.skips)
 
 -- all are taken
-pub gathered_all : (before now set : List (List ℕ)) → Gathered before now set → None ≡ option_map lower (take_first (is_word Attribute) now) → (set ≡ attributes_read before) × (skip_first (is_word Attribute) now ≡ after_attributes before)
-gathered_all before now set t e =
+pub gathered_all : (before now words set : List (List ℕ)) → Gathered before now words → None ≡ option_map lower (take_first (is_word Attribute) now) → set ≡ set_of words → (set ≡ attributes_read before) × (skip_first (is_word Attribute) now ≡ after_attributes before)
+gathered_all before now words set t e is =
     let (none, rest, stays) = took_none Attribute now e in
-    (sym t.is_set ∙ ap set_of (sym (append-nil set)) ∙ ap (λ l. set_of (set ++ map lower l)) (sym none) ∙ t.gives, stays ∙ sym rest ∙ t.skips)
+    (is ∙ ap set_of (sym (append-nil words)) ∙ ap (λ l. set_of (words ++ map lower l)) (sym none) ∙ t.gives, stays ∙ sym rest ∙ t.skips)
+
+-- fewer than four attributes, as a set
+
+below : (n : ℕ) → n ≤ 4 → (n ≡ 4 → ⊥) → n < 4
+below n l h = omega (arith, l, h)
+
+pub record GatheredFew (before now set : List (List ℕ)) : Type 0 where
+  pub gathered : Gathered before now set
+  pub ascending : IsAscending set
+  pub normal : AllByRecursion (IsNormal Attribute) set
+  pub short : length set < 4
+
+pub few_none : (ps : List (List ℕ)) → GatheredFew ps ps []
+few_none ps = record { gathered = gathered_none ps; ascending = refl; normal = tt; short = omega arith }
+
+module _ (before now set : List (List ℕ)) (t : GatheredFew before now set) (w : List ℕ) (later : List (List ℕ)) (e : Some w ≡ option_map lower (take_first (is_word Attribute) now)) (l : later ≡ skip_first (is_word Attribute) now)
+    (more : List (List ℕ)) (is : more ≡ set_of (w ∷ set)) where
+  few_gathered : Gathered before later more
+  few_gathered = gathered_more before now set t.gathered w later e l more (ap set_of is ∙ set_of-set_of (w ∷ set))
+
+  few_normal : AllByRecursion (IsNormal Attribute) more
+  few_normal =
+      let (p, h, same, cut) = took Attribute now w e in
+      let n : IsNormal Attribute w = subst (IsNormal Attribute) (sym same) (IsNormal-normal Attribute p h) in
+      subst (AllByRecursion (IsNormal Attribute)) (sym is) (all-set_of (IsNormal Attribute) (w ∷ set) (n, t.normal))
+
+  few_length : length more ≤ 4
+  few_length = omega (arith, t.short, length-set_of (w ∷ set), ap length is)
+
+  pub few_new : (length more ≡ 4 → ⊥) → GatheredFew before later more
+  few_new fewer = record {
+    gathered = few_gathered;
+    ascending = subst IsAscending (sym is) (set_of-ascending (w ∷ set));
+    normal = few_normal;
+    short = below _ few_length fewer;
+  }
+
+  pub few_more : (attributes_read (more ++ later) ≡ attributes_read before) × (after_attributes (more ++ later) ≡ after_attributes before)
+  few_more = gathered_after before later more few_gathered few_normal
+
+pub few_done : (before now set : List (List ℕ)) → GatheredFew before now set → None ≡ option_map lower (take_first (is_word Attribute) now) → (set ≡ attributes_read before) × (skip_first (is_word Attribute) now ≡ after_attributes before)
+few_done before now set t e = gathered_all before now set set t.gathered e (sym (set_of_ascending set t.ascending))

@@ -146,15 +146,11 @@ impl Attributes {
         self.words.first()
     }
 
-    // Adds an attribute.
-    pub(crate) fn add(&mut self, alloc: Global, word: Attribute) -> Result<(), AllocError>
-        ensures ok { OnOk result (self.new ≡ set_of (word ∷ self.old)) }
-        ensures err { OnErr result (self.new ≡ self.old) }
-        ensures succeeds { length self.old < 4 → IsOk result }
-        ensures known { list_any (is_same word) self.old ≡ true → IsOk result }
+    // The attributes of a set of words.
+    pub(crate) fn from_set(words: WordSet<AttributeKind, 8>) -> Self
+        ensures { result ≡ words }
     {
-        self.words.push(alloc, word)?;
-        Ok(())
+        Attributes { words }
     }
 
     // The attributes of both sets.

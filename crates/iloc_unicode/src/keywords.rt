@@ -90,8 +90,8 @@ impl Keywords {
         self.map.is_empty()
     }
 
-    // The pairs, by ascending key.
-    pub(crate) fn as_slice(&self) -> &[(Key, Value)]
+    /// The pairs by ascending key.
+    pub fn as_slice(&self) -> &[(Key, Value)]
         ensures pairs { result.now ≡ self.now }
         ensures ascending { IsAscending word_cmp self.now }
     {

@@ -17,7 +17,6 @@ pub mod keywords;
 pub mod printing;
 pub mod reader;
 pub mod unicode;
-pub mod values;
 
 pub use attributes::Attributes;
 pub use keywords::{Keywords, KeywordsIter};

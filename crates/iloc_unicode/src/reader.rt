@@ -1,5 +1,6 @@
 //! Reads attributes, keywords and the whole extension from pieces.
-ghost use Rattle.std.specs.Prelude.{◌≡◌, ◌≤◌, length, IfOk, OnOk, IsOk};
+ghost use Rattle.std.specs.Prelude.{◌≡◌, ◌≤◌, ◌++◌, [], length, Ok, IfOk, OnOk, IsOk};
+ghost use Rattle.std.specs.Result.{result_and};
 ghost use Rattle.iloc_grammar.specs.Words.{Attribute, is_word};
 ghost use Rattle.iloc_grammar.specs.Faults.{first_piece};
 ghost use Rattle.iloc_grammar.specs.Reading.{is_two, rest_of};
@@ -15,9 +16,11 @@ use crate::unicode::Unicode;
 use iloc_parser::{SubtagIterator, take_word};
 use iloc_subtags::{AttributeKind, ParseError, UnicodeKeyKind};
 use iloc_unicode_value::read_value;
+use iloc_word_set::{WordCollector, WordSet};
 use std::alloc::{AllocError, Global};
 
-/// Reads the longest front of attribute words, as a set. Up to four attributes take no memory.
+/// Reads the longest front of attribute words, as a set. Up to four different attributes take no memory,
+/// and n words cost n log n, in whatever order they stand.
 pub fn read_attributes(
     alloc: Global,
     iter: &mut SubtagIterator<'_>,
@@ -26,11 +29,34 @@ pub fn read_attributes(
     ensures rest { OnOk result (left iter.new ≡ after_attributes (left iter.old)) }
     ensures succeeds { length (attributes_read (left iter.old)) ≤ 4 → IsOk result }
 {
-    let mut attributes = Attributes::new();
-    'words: while let Some(word) = take_word::<AttributeKind, 8>(iter) {
-        attributes.add(alloc, word)?;
+    let mut attributes = WordSet::new();
+    'few: while let Some(word) = take_word::<AttributeKind, 8>(iter) {
+        attributes.push(alloc, word)?;
+        if attributes.len() == 4 {
+            return read_more_attributes(alloc, iter, attributes);
+        }
     }
-    Ok(attributes)
+    Ok(Attributes::from_set(attributes))
+}
+
+// The same where these four attributes stood before.
+#[inline(never)]
+fn read_more_attributes(
+    alloc: Global,
+    iter: &mut SubtagIterator<'_>,
+    four: WordSet<AttributeKind, 8>,
+) -> Result<Attributes, AllocError>
+    requires { length four ≡ 4 }
+    ensures value { IfOk result (λ a. a ≡ attributes_read (four ++ left iter.old)) }
+    ensures rest { OnOk result (left iter.new ≡ after_attributes (four ++ left iter.old)) }
+    ensures succeeds { length (attributes_read (four ++ left iter.old)) ≤ 4 → IsOk result }
+{
+    four.as_slice();
+    let mut words = WordCollector::from_set(four);
+    'words: while let Some(word) = take_word::<AttributeKind, 8>(iter) {
+        words.push(alloc, word)?;
+    }
+    Ok(Attributes::from_set(words.into_set()))
 }
 
 /// Reads the longest front of keys with their values; of equal keys the first stays. A piece of two
@@ -40,6 +66,19 @@ pub fn read_keywords(alloc: Global, iter: &mut SubtagIterator<'_>) -> Result<Key
     ensures { KeywordsGive (left iter.old) (left iter.new) result }
 {
     let mut keywords = Keywords::new();
+    fill_keywords(alloc, iter, &mut keywords)?;
+    Ok(keywords)
+}
+
+/// The same into the empty map. After a refusal it holds the keywords before the fault.
+pub fn fill_keywords(
+    alloc: Global,
+    iter: &mut SubtagIterator<'_>,
+    keywords: &mut Keywords,
+) -> Result<(), ParseError>
+    requires { keywords.old ≡ [] }
+    ensures { KeywordsGive (left iter.old) (left iter.new) (result_and result (Ok keywords.new)) }
+{
     'keys: while let Some(key) = take_word::<UnicodeKeyKind, 2>(iter) {
         let value = read_value(alloc, iter)?;
         keywords.add(alloc, key, value)?;
@@ -47,7 +86,7 @@ pub fn read_keywords(alloc: Global, iter: &mut SubtagIterator<'_>) -> Result<Key
     if has_two_bytes(iter) {
         return Err(ParseError::InvalidExtension);
     }
-    Ok(keywords)
+    Ok(())
 }
 
 // Whether the next piece has two bytes.
@@ -65,16 +104,27 @@ fn has_two_bytes(iter: &SubtagIterator<'_>) -> bool
 pub fn read_unicode(alloc: Global, iter: &mut SubtagIterator<'_>) -> Result<Unicode, ParseError>
     ensures { UnicodeGives (left iter.old) (left iter.new) result }
 {
-    let attributes = read_attributes(alloc, iter)?;
-    let keywords = read_keywords(alloc, iter)?;
-    let unicode = Unicode {
-        keywords,
-        attributes,
-    };
+    let mut unicode = Unicode::new();
+    fill_unicode(alloc, iter, &mut unicode)?;
+    Ok(unicode)
+}
+
+/// The same into an empty extension. After a refusal it holds what was read before the fault.
+pub fn fill_unicode(
+    alloc: Global,
+    iter: &mut SubtagIterator<'_>,
+    unicode: &mut Unicode,
+) -> Result<(), ParseError>
+    requires keywords { unicode.old.keywords ≡ [] }
+    requires attributes { unicode.old.attributes ≡ [] }
+    ensures { UnicodeGives (left iter.old) (left iter.new) (result_and result (Ok unicode.new)) }
+{
+    unicode.attributes = read_attributes(alloc, iter)?;
+    fill_keywords(alloc, iter, &mut unicode.keywords)?;
     if unicode.is_empty() {
         return Err(ParseError::InvalidExtension);
     }
-    Ok(unicode)
+    Ok(())
 }
 
 // Takes the next piece, and answers whether it is `u` in either case.

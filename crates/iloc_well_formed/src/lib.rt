@@ -2,18 +2,23 @@
 //!
 //! It promises exactly the definition: the other extensions ascend strictly by singletons of their own,
 //! each with a word, and no value of a keyword holds `true` or a subtag of two characters. The identifier
-//! of a locale has no part in it. It takes no memory. The crate stands on `iloc_extensions`.
+//! of a locale has no part in it. It says too that extensions, with the words of any identifier, are a value. It
+//! takes no memory. The crate stands on `iloc_extensions`.
 #![tactic(auto)]
 
 ghost use Rattle.std.specs.Prelude.{◌≡◌, ◌↔◌, IsTrue};
 ghost use Rattle.std.specs.FinMap.{is_sorted};
 ghost use Rattle.std.specs.List.{list_all};
 ghost use Rattle.std.specs.Ordering.{nat_cmp};
+ghost use Rattle.iloc_grammar.specs.Words.{languages};
 ghost use Rattle.iloc_grammar.specs.Written.{Identifier};
-ghost use Rattle.iloc_grammar.specs.Values.{IsWellFormed};
+ghost use Rattle.iloc_grammar.specs.Values.{IsIdentifierValue, IsValue, IsWellFormed};
 ghost use Rattle.iloc_extensions.specs.ExtensionsValue.{value_of, locale_of};
 ghost use Rattle.iloc_well_formed.specs.Tests.{has_own_place, is_in_place, is_plain, is_read_back};
 
+mod kept;
+
+use crate::kept::look_at;
 use iloc_extensions::Extensions;
 use iloc_other::Other;
 use iloc_unicode::Keywords;
@@ -22,10 +27,15 @@ use iloc_unicode_value::Value;
 /// Whether the extensions are well-formed, with any identifier.
 ///
 /// The others ascend strictly by singleton, each a digit or a lower-case letter other than `t`, `u` and
-/// `x`, and have a word each; no value of a keyword holds `true` or a subtag of two characters.
+/// `x`, and have a word each; no value of a keyword holds `true` or a subtag of two characters. With the
+/// words of an identifier all extensions, well-formed or not, are a value: sets and maps ascend strictly,
+/// and all words are in the normal case of their kinds.
 pub fn is_well_formed(extensions: &Extensions) -> bool
-    ensures { (id : Identifier) → IsTrue result ↔ IsWellFormed (locale_of id (value_of extensions.now)) }
+    ensures exactly { (id : Identifier) → IsTrue result ↔ IsWellFormed (locale_of id (value_of extensions.now)) }
+    ensures value { (id : Identifier) → IsIdentifierValue languages id
+        → IsValue languages (locale_of id (value_of extensions.now)) }
 {
+    look_at(extensions);
     are_in_place(&extensions.other) && are_read_back(&extensions.unicode.keywords)
 }
 

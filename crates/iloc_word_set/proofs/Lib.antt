@@ -1,3 +1,4 @@
 pub mod AscendingLaws
 pub mod PrintLaws
 pub mod SetLaws
+pub mod CollectorLaws

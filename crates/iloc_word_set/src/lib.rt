@@ -10,7 +10,9 @@
 
 pub mod ascending;
 pub mod traits;
+pub mod word_collector;
 pub mod word_set;
 
 pub use ascending::is_strictly_ascending;
+pub use word_collector::WordCollector;
 pub use word_set::{Variants, WordSet};

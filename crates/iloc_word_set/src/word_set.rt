@@ -9,7 +9,7 @@ ghost use Rattle.iloc_grammar.specs.Meaning.{set_of};
 ghost use Rattle.iloc_grammar.specs.Values.{IsNormal, IsAscending};
 
 use iloc_shortvec::ShortWords;
-use iloc_subtags::{Variant, VariantKind, WordKind, WordOf, are_normal, is_normal};
+use iloc_subtags::{Variant, VariantKind, WordKind, WordOf};
 use std::alloc::{AllocError, Global};
 use std::marker::Model;
 use std::mem::replace;
@@ -65,7 +65,7 @@ impl<K: WordKind<N>, const N: usize> WordSet<K, N> {
     pub fn from_word(word: WordOf<K, N>) -> Self
         ensures { result ≡ word ∷ [] }
     {
-        is_normal(&word);
+        let _ = word.as_str();
         WordSet {
             words: ShortWords::new_single(word),
         }
@@ -76,7 +76,7 @@ impl<K: WordKind<N>, const N: usize> WordSet<K, N> {
         requires { ascends word_cmp input.items ≡ true }
         ensures { result ≡ input.items }
     {
-        are_normal(input.as_slice());
+        look_at_each(input.as_slice());
         WordSet {
             words: ShortWords::from_vec(input),
         }
@@ -135,7 +135,7 @@ impl<K: WordKind<N>, const N: usize> WordSet<K, N> {
         ensures succeeds { length self.old < 4 → IsOk result }
         ensures known { list_any (is_same word) self.old ≡ true → IsOk result }
     {
-        is_normal(&word);
+        let _ = word.as_str();
         match self.as_slice().binary_search(&word) {
             Ok(_) => Ok(false),
             Err(at) => {
@@ -213,5 +213,14 @@ impl<K: WordKind<N>, const N: usize> WordSet<K, N> {
         }
         *self = self.union(alloc, other)?;
         Ok(())
+    }
+}
+
+// Looks at the text of each word, so that it is known to be normal.
+fn look_at_each<K: WordKind<N>, const N: usize>(words: &[WordOf<K, N>])
+    ensures { AllByRecursion (IsNormal K.kind) words.now }
+{
+    for word in words {
+        let _ = word.as_str();
     }
 }

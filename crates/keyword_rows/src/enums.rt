@@ -1,12 +1,9 @@
 //! The texts of enums.
 use crate::told::Shown;
 use iloc_enum_keywords::{
-    CommonVariantType, CurrencyFormatStyle, FirstDay, HourCycle, MeasurementSystem,
-    MeasurementUnitOverride,
-};
-use iloc_text_keywords::{
-    CollationCaseFirst, CollationNumericOrdering, CollationType, EmojiPresentationStyle,
-    LineBreakStyle, LineBreakWordHandling, SentenceBreakSupressions,
+    CollationCaseFirst, CollationNumericOrdering, CollationType, CommonVariantType,
+    CurrencyFormatStyle, EmojiPresentationStyle, FirstDay, HourCycle, LineBreakStyle,
+    LineBreakWordHandling, MeasurementSystem, MeasurementUnitOverride, SentenceBreakSupressions,
 };
 use row_page::say;
 

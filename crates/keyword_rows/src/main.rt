@@ -1,10 +1,12 @@
 //! Rows of the types of keywords: `KEY TAB value TAB other key` in, a line out.
 //!
 //! The value is read as the keyword. The line is its text, the value that it is turned into, and what is read of the
-//! value under the other key (of no third argument, the keyword's own), joined by `|`. A refusal is `! `, its words,
-//! and what it prints. `default TAB KEY` answers the text of the default, `memory` the refusal for want of memory.
+//! value under the other key (of no third argument, the keyword's own), joined by `|`. `read-KEY`, `value-KEY` and
+//! `keyed-KEY` say one of the three. A refusal is `! `, its words, and what it prints. `default TAB KEY` answers the text
+//! of the default, `memory` the refusal for want of memory.
 //!
-//! `stdin` and `stdout` are the rows with their answers, made of the table of keywords. Only generic functions own
+//! `stdin` and `stdout` are the rows with their answers, made of the table of keywords; `grow.in` has rows that may want
+//! memory, `still.in` those that take none. Only generic functions own
 //! what was read, so that letting it go is proved but once.
 #![tactic(auto)]
 
@@ -13,8 +15,9 @@ mod told;
 
 use iloc_calendar_keyword::CalendarAlgorithm;
 use iloc_enum_keywords::{
-    CommonVariantType, CurrencyFormatStyle, FirstDay, HourCycle, MeasurementSystem,
-    MeasurementUnitOverride,
+    CollationCaseFirst, CollationNumericOrdering, CollationType, CommonVariantType,
+    CurrencyFormatStyle, EmojiPresentationStyle, FirstDay, HourCycle, LineBreakStyle,
+    LineBreakWordHandling, MeasurementSystem, MeasurementUnitOverride, SentenceBreakSupressions,
 };
 use iloc_preference_key::PreferencesParseError;
 use iloc_struct_keywords::{
@@ -22,10 +25,6 @@ use iloc_struct_keywords::{
     TimeZoneShortId,
 };
 use iloc_subtags::{CurrencyType, ParseError, UnicodeKey};
-use iloc_text_keywords::{
-    CollationCaseFirst, CollationNumericOrdering, CollationType, EmojiPresentationStyle,
-    LineBreakStyle, LineBreakWordHandling, SentenceBreakSupressions,
-};
 use iloc_unicode_value::Value;
 use row_page::{refuse, say};
 use std::alloc::{AllocError, Global};
@@ -79,10 +78,11 @@ fn default(word: &str, out: &mut String) {
     }
 }
 
-// The answer to a row of a keyword.
+// The answer to a row of a keyword, or of one call of it.
 fn read(
     alloc: Global,
     word: &str,
+    call: &str,
     value: Result<Value, ParseError>,
     key: Result<UnicodeKey, ParseError>,
     out: &mut String,
@@ -92,6 +92,7 @@ fn read(
             word,
             &Asked {
                 alloc,
+                call,
                 value: &value,
                 key,
             },
@@ -105,6 +106,7 @@ fn read(
 // The answer to a row.
 fn row(alloc: Global, line: &str, out: &mut String) {
     let (word, rest) = line.split_once('\t').unwrap_or((line, ""));
+    let (call, word) = word.split_once('-').unwrap_or(("", word));
     let (value, key) = rest.split_once('\t').unwrap_or((rest, word));
     match word {
         "default" => default(value, out),
@@ -112,6 +114,7 @@ fn row(alloc: Global, line: &str, out: &mut String) {
         _ => read(
             alloc,
             word,
+            call,
             Value::try_from_str(alloc, value),
             UnicodeKey::try_from_str(key),
             out,

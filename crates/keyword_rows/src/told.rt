@@ -11,10 +11,11 @@ use row_page::{put, refused, say};
 use std::alloc::Global;
 use std::fmt::Write;
 
-/// What a row asks of a keyword.
+/// What a row asks of a keyword: `read`, `value` or `keyed`, or nothing for all three.
 #[derive(Drop)]
 pub struct Asked<'a> {
     pub alloc: Global,
+    pub call: &'a str,
     pub value: &'a Value,
     pub key: UnicodeKey,
 }
@@ -72,21 +73,40 @@ pub fn default_of<T: Shown + Default + Drop>(out: &mut String) {
     keyword.show(out)
 }
 
-/// Says the text of the keyword, its value, and what is read under the other key; or why it was refused.
+/// Says what is asked of the keyword, or why it was refused.
 pub fn told<T: Shown + Drop>(
     read: Result<T, PreferencesParseError>,
     asked: &Asked<'_>,
     out: &mut String,
 ) {
     match read {
-        Ok(keyword) => {
+        Ok(keyword) => answer(&keyword, asked, out),
+        Err(error) => refuse_call(asked, &error, out),
+    }
+}
+
+// Says what one call answers of the keyword; of no call its text, its value, and what is read under the other key.
+fn answer<T: Shown + Drop>(keyword: &T, asked: &Asked<'_>, out: &mut String) {
+    match asked.call {
+        "read" => keyword.show(out),
+        "value" => turned(keyword, asked.alloc, out),
+        "keyed" => keyed::<T>(asked, out),
+        _ => {
             keyword.show(out);
             say(out, " | ");
-            turned(&keyword, asked.alloc, out);
+            turned(keyword, asked.alloc, out);
             say(out, " | ");
             keyed::<T>(asked, out)
         }
-        Err(error) => refuse_keyword(out, &error),
+    }
+}
+
+// Says why one call was refused: for want of memory in two words, as every call that reads does.
+fn refuse_call(asked: &Asked<'_>, error: &PreferencesParseError, out: &mut String) {
+    if !asked.call.is_empty() && matches!(error, PreferencesParseError::OutOfMemory) {
+        refused(out)
+    } else {
+        refuse_keyword(out, error)
     }
 }
 
@@ -104,6 +124,6 @@ fn keyed<T: Shown + Drop>(asked: &Asked<'_>, out: &mut String) {
     match T::try_from_key_value(asked.alloc, &asked.key, asked.value) {
         Ok(Some(keyword)) => keyword.show(out),
         Ok(None) => say(out, "none"),
-        Err(error) => refuse_keyword(out, &error),
+        Err(error) => refuse_call(asked, &error, out),
     }
 }

@@ -1,17 +1,13 @@
 //! Steps on a map of letters, over a `Vec` and over a list that keeps one pair in place.
-use crate::pairs::hash_of;
-use crate::steps::{Step, Stepping, answered, is_done, letter, replaced, say_letter};
+use crate::steps::{Step, Stepping, answered, is_done, replaced, say_letter};
 use iloc_litemap::{LiteMap, Store};
-use iloc_shortvec::ShortBoxSlice;
-use row_page::{bytes, number, say, truth};
+use row_page::{hash_of, number, say, truth};
 use std::alloc::{AllocError, Global};
 
-pub type Long = LiteMap<u8, u8>;
-
-pub type Short = LiteMap<u8, u8, ShortBoxSlice<(u8, u8)>>;
+pub type Long = LiteMap<u16, u16>;
 
 /// The pairs of a key and a value that the letters are.
-fn pairs_of(alloc: Global, letters: &[u8]) -> Result<Vec<(u8, u8)>, AllocError> {
+fn pairs_of(alloc: Global, letters: &[u16]) -> Result<Vec<(u16, u16)>, AllocError> {
     let mut pairs = Vec::new(alloc);
     for pair in letters.chunks(2) {
         if let [key, value] = pair {
@@ -21,82 +17,98 @@ fn pairs_of(alloc: Global, letters: &[u8]) -> Result<Vec<(u8, u8)>, AllocError> 
     Ok(pairs)
 }
 
-/// The map of these pairs, set one by one.
-pub fn map_of<S: Store<u8, u8>>(
+/// Sets each of the pairs, one by one.
+fn set_all<S: Store<u16, u16>>(
     alloc: Global,
-    letters: &[u8],
-) -> Result<LiteMap<u8, u8, S>, AllocError> {
-    let mut map = LiteMap::new(alloc);
-    for (key, value) in pairs_of(alloc, letters)? {
-        map.insert(alloc, key, value)?;
+    map: &mut LiteMap<u16, u16, S>,
+    pairs: &[(u16, u16)],
+) -> Result<(), AllocError> {
+    for (key, value) in pairs {
+        map.insert(alloc, *key, *value)?;
     }
-    Ok(map)
+    Ok(())
 }
 
-/// The map of these pairs, made at once.
-fn collected<S: Store<u8, u8>>(
+/// The map of these pairs, set one by one.
+pub fn map_of<S: Store<u16, u16>>(
     alloc: Global,
-    letters: &[u8],
-) -> Result<LiteMap<u8, u8, S>, AllocError> {
-    LiteMap::from_pairs(alloc, pairs_of(alloc, letters)?)
+    letters: &[u16],
+) -> Result<LiteMap<u16, u16, S>, AllocError> {
+    let mut map = LiteMap::new(alloc);
+    match pairs_of(alloc, letters) {
+        Ok(pairs) => match set_all(alloc, &mut map, pairs.as_slice()) {
+            Ok(()) => Ok(map),
+            Err(error) => Err(error),
+        },
+        Err(error) => Err(error),
+    }
 }
 
-/// The map of the pairs of another.
-fn stored<S: Store<u8, u8>>(
+/// The map that the call makes: of the letters' pairs at once, a copy, or one that takes the pairs of another.
+fn made<S: Store<u16, u16>>(
     alloc: Global,
-    map: &LiteMap<u8, u8, S>,
-) -> Result<LiteMap<u8, u8, S>, AllocError> {
-    let pairs = map.as_slice().to_vec(alloc)?;
-    Ok(LiteMap::from_sorted_store_unchecked(S::lm_from_vec(pairs)))
+    map: &LiteMap<u16, u16, S>,
+    step: &Step<'_>,
+) -> Result<LiteMap<u16, u16, S>, AllocError> {
+    match step.call {
+        b"pairs" => LiteMap::from_pairs(alloc, pairs_of(alloc, step.letters)?),
+        b"clone" | b"give" => map.clone(),
+        _ => {
+            let pairs = map.as_slice().to_vec(alloc)?;
+            Ok(LiteMap::from_sorted_store_unchecked(S::lm_from_vec(pairs)))
+        }
+    }
 }
 
-/// Sets each of the pairs.
-fn extend<S: Store<u8, u8>>(
+/// Sets each of the pairs of the letters, at once or by their map.
+fn extend<S: Store<u16, u16>>(
     alloc: Global,
-    map: &mut LiteMap<u8, u8, S>,
-    letters: &[u8],
+    map: &mut LiteMap<u16, u16, S>,
+    step: &Step<'_>,
 ) -> Result<(), AllocError> {
-    let pairs = pairs_of(alloc, letters)?;
-    map.extend(alloc, pairs)
+    match step.call {
+        b"map" => map.extend_from_map(alloc, map_of(alloc, step.letters)?),
+        _ => map.extend(alloc, pairs_of(alloc, step.letters)?),
+    }
 }
 
-/// Sets each pair of the map of these pairs.
-fn extend_from_map<S: Store<u8, u8>>(
-    alloc: Global,
-    map: &mut LiteMap<u8, u8, S>,
-    letters: &[u8],
-) -> Result<(), AllocError> {
-    let other = map_of(alloc, letters)?;
-    map.extend_from_map(alloc, other)
+/// Says the pair.
+fn say_pair(key: u16, value: u16, out: &mut String) {
+    say_letter(Some(key), out);
+    say_letter(Some(value), out);
 }
 
 /// Says whether the map is empty, and its pairs in turn.
-fn tell<S: Store<u8, u8>>(map: &LiteMap<u8, u8, S>, out: &mut String) {
-    say(
-        out,
-        if map.is_empty() {
-            "empty lent "
-        } else {
-            "lent "
-        },
-    );
+fn tell<S: Store<u16, u16>>(map: &LiteMap<u16, u16, S>, out: &mut String) {
+    if map.is_empty() {
+        say(out, "empty ");
+    }
+    say(out, "lent ");
     for (key, value) in map.iter() {
-        bytes(out, &[*key, *value]);
+        say_pair(*key, *value, out);
     }
 }
 
 /// Says the pairs that a map gives by value.
-fn give<S: Store<u8, u8>>(map: LiteMap<u8, u8, S>, out: &mut String) -> bool {
-    for (key, value) in map {
-        bytes(out, &[key, value]);
+fn give<S: Store<u16, u16>>(
+    made: Result<LiteMap<u16, u16, S>, AllocError>,
+    out: &mut String,
+) -> bool {
+    match made {
+        Ok(map) => {
+            for (key, value) in map {
+                say_pair(key, value, out);
+            }
+            true
+        }
+        Err(_) => false,
     }
-    true
 }
 
 /// Says whether a map that was made another way is the same.
-fn compared<S: Store<u8, u8>>(
-    map: &LiteMap<u8, u8, S>,
-    made: Result<LiteMap<u8, u8, S>, AllocError>,
+fn compared<S: Store<u16, u16>>(
+    map: &LiteMap<u16, u16, S>,
+    made: Result<LiteMap<u16, u16, S>, AllocError>,
     out: &mut String,
 ) -> bool {
     match made {
@@ -109,10 +121,10 @@ fn compared<S: Store<u8, u8>>(
 }
 
 /// Writes a value over that of the key, where there is one, and says whether there is.
-fn write<S: Store<u8, u8>>(map: &mut LiteMap<u8, u8, S>, key: u8, value: u8, out: &mut String) {
-    match map.get_mut(&key) {
+fn write<S: Store<u16, u16>>(map: &mut LiteMap<u16, u16, S>, step: &Step<'_>, out: &mut String) {
+    match map.get_mut(&step.key) {
         Some(place) => {
-            *place = value;
+            *place = step.value;
             say(out, "written");
         }
         None => say(out, "none"),
@@ -120,22 +132,21 @@ fn write<S: Store<u8, u8>>(map: &mut LiteMap<u8, u8, S>, key: u8, value: u8, out
 }
 
 /// The answer to a step that takes no memory.
-fn shrink<S: Store<u8, u8>>(
-    map: &mut LiteMap<u8, u8, S>,
+fn shrink<S: Store<u16, u16>>(
+    map: &mut LiteMap<u16, u16, S>,
     step: &Step<'_>,
     out: &mut String,
 ) -> bool {
-    let key = letter(step.first);
     match step.call {
-        b"get" => say_letter(map.get(&key).copied(), out),
-        b"has" => truth(out, map.contains_key(&key)),
-        b"write" => write(map, key, letter(step.second), out),
-        b"remove" => say_letter(map.remove(&key), out),
+        b"get" => say_letter(map.get(&step.key).copied(), out),
+        b"has" => truth(out, map.contains_key(&step.key)),
+        b"write" => write(map, step, out),
+        b"remove" => say_letter(map.remove(&step.key), out),
         b"clear" => map.clear(),
         b"tell" => tell(map, out),
-        b"retain" => map.retain(|k: &u8, v: &u8| {
-            bytes(out, &[*k, *v]);
-            *k > key
+        b"retain" => map.retain(|key: &u16, value: &u16| {
+            say_pair(*key, *value, out);
+            *key > step.key
         }),
         _ => say(out, "no step"),
     }
@@ -143,13 +154,13 @@ fn shrink<S: Store<u8, u8>>(
 }
 
 /// The answer to a step that sets a key.
-fn set<S: Store<u8, u8>>(
+fn set<S: Store<u16, u16>>(
     alloc: Global,
-    map: &mut LiteMap<u8, u8, S>,
+    map: &mut LiteMap<u16, u16, S>,
     step: &Step<'_>,
     out: &mut String,
 ) -> bool {
-    match map.insert(alloc, letter(step.first), letter(step.second)) {
+    match map.insert(alloc, step.key, step.value) {
         Ok(old) => {
             say_letter(old, out);
             true
@@ -159,15 +170,15 @@ fn set<S: Store<u8, u8>>(
 }
 
 /// The answer to a step that adds a key where it is new.
-fn add<S: Store<u8, u8>>(
+fn add<S: Store<u16, u16>>(
     alloc: Global,
-    map: &mut LiteMap<u8, u8, S>,
+    map: &mut LiteMap<u16, u16, S>,
     step: &Step<'_>,
     out: &mut String,
 ) -> bool {
-    match map.try_insert(alloc, letter(step.first), letter(step.second)) {
+    match map.try_insert(alloc, step.key, step.value) {
         Ok(Some((key, value))) => {
-            bytes(out, &[key, value]);
+            say_pair(key, value, out);
             true
         }
         Ok(None) => answered("none", out),
@@ -175,12 +186,25 @@ fn add<S: Store<u8, u8>>(
     }
 }
 
-impl<S: Store<u8, u8>> Stepping for LiteMap<u8, u8, S> {
+impl<S: Store<u16, u16>> Stepping for LiteMap<u16, u16, S> {
     fn state(&self, out: &mut String) {
         number(out, self.len());
         say(out, ":");
         for (key, value) in self.as_slice() {
-            bytes(out, &[*key, *value]);
+            say_pair(*key, *value, out);
+        }
+    }
+
+    fn ends(&self, out: &mut String) {
+        let count = self.len();
+        number(out, count);
+        for place in [0, count.saturating_sub(1)] {
+            say(out, " ");
+            if let Some((key, value)) = self.as_slice().get(place) {
+                number(out, usize::from(*key));
+                say(out, "=");
+                number(out, usize::from(*value));
+            }
         }
     }
 
@@ -188,25 +212,13 @@ impl<S: Store<u8, u8>> Stepping for LiteMap<u8, u8, S> {
         match step.call {
             b"set" => set(alloc, self, step, out),
             b"try" => add(alloc, self, step, out),
-            b"extend" => is_done(extend(alloc, self, step.first), out),
-            b"map" => is_done(extend_from_map(alloc, self, step.first), out),
-            b"pairs" => replaced(self, collected(alloc, step.first), out),
-            b"stored" => {
-                let map = stored(alloc, self);
-                replaced(self, map, out)
+            b"extend" | b"map" => is_done(extend(alloc, self, step), out),
+            b"pairs" | b"stored" | b"clone" => {
+                let made = made(alloc, self, step);
+                replaced(self, made, out)
             }
-            b"clone" => {
-                let copy = self.clone();
-                replaced(self, copy, out)
-            }
-            b"give" => match self.clone() {
-                Ok(copy) => give(copy, out),
-                Err(_) => false,
-            },
-            b"fresh" => {
-                let made = stored(alloc, self);
-                compared(self, made, out)
-            }
+            b"give" => give(made(alloc, self, step), out),
+            b"fresh" => compared(self, made(alloc, self, step), out),
             _ => shrink(self, step, out),
         }
     }

@@ -1,6 +1,7 @@
 //! Printing, of sets of variants and of texts.
 use crate::maps::{Long, map_of};
 use crate::sets::set_of;
+use crate::steps::spell;
 use iloc_writeable::{LengthHint, Writeable, cmp_utf8, to_string_or_borrow};
 use row_page::{number, order, refused, say, truth};
 use std::alloc::{AllocError, Global};
@@ -43,7 +44,7 @@ fn sums(a: &[u8], b: &[u8], out: &mut String) {
 }
 
 /// Says that a printed text is lent, or its length and the room that it has.
-fn say_room(text: &CowStr<'_, Global>, out: &mut String) {
+fn lent_or_room(text: &CowStr<'_, Global>, out: &mut String) {
     match text {
         CowStr::Borrowed(_) => say(out, "lent"),
         CowStr::Owned(text) => {
@@ -55,9 +56,9 @@ fn say_room(text: &CowStr<'_, Global>, out: &mut String) {
 }
 
 /// Says what room a printed text has.
-pub fn room(printed: Result<CowStr<'_, Global>, AllocError>, out: &mut String) {
+pub fn say_room(printed: Result<CowStr<'_, Global>, AllocError>, out: &mut String) {
     match printed {
-        Ok(text) => say_room(&text, out),
+        Ok(text) => lent_or_room(&text, out),
         Err(_) => refused(out),
     }
 }
@@ -68,7 +69,7 @@ fn text(printed: Result<CowStr<'_, Global>, AllocError>, out: &mut String) {
         Ok(text) => {
             say(out, text.as_str());
             say(out, " ");
-            say_room(&text, out);
+            lent_or_room(&text, out);
         }
         Err(_) => refused(out),
     }
@@ -111,21 +112,31 @@ fn made<W: Writeable + Drop>(
 }
 
 /// Whether the debug text of a map has the other text in it.
-fn shows(alloc: Global, letters: &[u8], text: &[u8]) -> Result<bool, AllocError> {
+fn shows(alloc: Global, letters: &[u16], text: &[u8]) -> Result<bool, AllocError> {
     let map: Long = map_of(alloc, letters)?;
     let shown = format!(in alloc; "{map:?}")?;
     Ok(shown.as_str().contains(str::from_utf8(text).unwrap_or("")))
 }
 
 /// The answer to a call that prints: `TEXT_CALL` of a text, else of a set.
-pub fn answer(alloc: Global, what: &str, a: &[u8], b: &[u8], out: &mut String) {
+pub fn answer(
+    alloc: Global,
+    room: &mut Vec<u16>,
+    what: &str,
+    a: &[u8],
+    b: &[u8],
+    out: &mut String,
+) {
     match what.split_once('_') {
         Some(("text", call)) => tell(alloc, call, &str::from_utf8(a).unwrap_or(""), b, out),
-        Some(("set", call)) => made(alloc, call, set_of(alloc, a), b, out),
+        Some((_, call)) => made(alloc, call, set_of(alloc, a), b, out),
         _ if what == "sums" => sums(a, b, out),
-        _ => match shows(alloc, a, b) {
-            Ok(is_shown) => truth(out, is_shown),
-            Err(_) => refused(out),
-        },
+        _ => {
+            spell(a, room);
+            match shows(alloc, room.as_slice(), b) {
+                Ok(is_shown) => truth(out, is_shown),
+                Err(_) => refused(out),
+            }
+        }
     }
 }

@@ -17,15 +17,23 @@ fn variants_of(alloc: Global, text: &[u8]) -> Result<Vec<Variant>, AllocError> {
     Ok(words)
 }
 
-/// The set of the variants of the text, pushed one by one.
-pub fn set_of(alloc: Global, text: &[u8]) -> Result<Variants, AllocError> {
-    let mut set = Variants::new();
+/// Adds the variants of the text one by one.
+fn push_all(alloc: Global, set: &mut Variants, text: &[u8]) -> Result<(), AllocError> {
     for piece in text.split(|byte: &u8| *byte == b'/') {
         if let Ok(word) = Variant::try_from_utf8(piece) {
             set.push(alloc, word)?;
         }
     }
-    Ok(set)
+    Ok(())
+}
+
+/// The set of the variants of the text, pushed one by one.
+pub fn set_of(alloc: Global, text: &[u8]) -> Result<Variants, AllocError> {
+    let mut set = Variants::new();
+    match push_all(alloc, &mut set, text) {
+        Ok(()) => Ok(set),
+        Err(error) => Err(error),
+    }
 }
 
 /// The set of the variants of the text, which ascend; else the empty one.
@@ -38,16 +46,20 @@ fn ascending(alloc: Global, text: &[u8]) -> Result<Variants, AllocError> {
     }
 }
 
-/// Adds the variants of the text.
+/// Adds the variants of the text at once.
 fn extend(alloc: Global, set: &mut Variants, text: &[u8]) -> Result<(), AllocError> {
     let other = set_of(alloc, text)?;
     set.extend(alloc, &other)
 }
 
-/// The set with the variants of the text.
-fn union(alloc: Global, set: &Variants, text: &[u8]) -> Result<Variants, AllocError> {
-    let other = set_of(alloc, text)?;
-    set.union(alloc, &other)
+/// The set that the call makes: with the variants of the text, of just them, or a copy, by `clone` or by a union.
+fn made(alloc: Global, set: &Variants, call: &[u8], text: &[u8]) -> Result<Variants, AllocError> {
+    match call {
+        b"union" => set.union(alloc, &set_of(alloc, text)?),
+        b"vec" => ascending(alloc, text),
+        b"clone" => set.clone(),
+        _ => Variants::new().union(alloc, set),
+    }
 }
 
 /// Says the word, or that there is none.
@@ -60,14 +72,10 @@ fn say_word(word: Option<&Variant>, out: &mut String) {
 
 /// Says what the set lends: whether it is empty, its first word, each of seven places, all in turn, and its text.
 fn tell(set: &Variants, out: &mut String) {
-    say(
-        out,
-        if set.is_empty() {
-            "empty first "
-        } else {
-            "first "
-        },
-    );
+    if set.is_empty() {
+        say(out, "empty ");
+    }
+    say(out, "first ");
     say_word(set.first(), out);
     for index in 0..7 {
         say(out, " ");
@@ -82,6 +90,17 @@ fn tell(set: &Variants, out: &mut String) {
     let _ = write!(out, " {set:?}");
 }
 
+/// The answer to a step that adds a word or takes one out.
+fn change(alloc: Global, set: &mut Variants, call: &[u8], word: Variant, out: &mut String) -> bool {
+    match call {
+        b"push" => match set.push(alloc, word) {
+            Ok(is_new) => answered(if is_new { "new" } else { "known" }, out),
+            Err(_) => false,
+        },
+        _ => answered(if set.remove(&word) { "gone" } else { "absent" }, out),
+    }
+}
+
 /// The answer to a step with a word.
 fn with_word(
     alloc: Global,
@@ -91,13 +110,9 @@ fn with_word(
     out: &mut String,
 ) -> bool {
     match step.call {
-        b"push" => match set.push(alloc, word) {
-            Ok(is_new) => answered(if is_new { "new" } else { "known" }, out),
-            Err(_) => false,
-        },
-        b"remove" => answered(if set.remove(&word) { "gone" } else { "absent" }, out),
         b"word" => replaced(set, Ok(WordSet::from_word(word)), out),
-        _ => replaced(set, Ok(Variants::from_variant(word)), out),
+        b"variant" => replaced(set, Ok(Variants::from_variant(word)), out),
+        call => change(alloc, set, call, word, out),
     }
 }
 
@@ -108,28 +123,31 @@ impl Stepping for Variants {
         put(out, self);
     }
 
+    fn ends(&self, out: &mut String) {
+        let count = self.len();
+        number(out, count);
+        for place in [0, count.saturating_sub(1)] {
+            say(out, " ");
+            if let Some(word) = self.get(place) {
+                put(out, word);
+            }
+        }
+    }
+
     fn step(&mut self, alloc: Global, step: &Step<'_>, out: &mut String) -> bool {
         match step.call {
             b"push" | b"remove" | b"word" | b"variant" => {
-                match Variant::try_from_utf8(step.first) {
+                match Variant::try_from_utf8(step.text) {
                     Ok(word) => with_word(alloc, self, step, word, out),
                     Err(_) => answered("no word", out),
                 }
             }
-            b"extend" => is_done(extend(alloc, self, step.first), out),
-            b"union" => {
-                let all = union(alloc, self, step.first);
-                replaced(self, all, out)
+            b"extend" => is_done(extend(alloc, self, step.text), out),
+            b"union" | b"vec" | b"clone" => {
+                let made = made(alloc, self, step.call, step.text);
+                replaced(self, made, out)
             }
-            b"vec" => replaced(self, ascending(alloc, step.first), out),
-            b"clone" => {
-                let copy: Result<Variants, AllocError> = self.clone();
-                replaced(self, copy, out)
-            }
-            b"fresh" => {
-                let made = Variants::new().union(alloc, self);
-                compared(self, made, out)
-            }
+            b"fresh" => compared(self, made(alloc, self, b"fresh", b""), out),
             b"clear" => {
                 let old = self.clear();
                 old.state(out);

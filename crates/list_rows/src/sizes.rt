@@ -1,147 +1,31 @@
-//! Lists, sets and maps of many items, built by each call that grows: how many there are, the first and the last.
-use crate::printing::room;
+//! Lists, sets and maps of many numbers, built by each step that grows: how many there are, the first and the last.
+use crate::lists::{List, Listed};
+use crate::maps::Long;
+use crate::printing::say_room;
+use crate::steps::{Step, Stepping, number_of};
 use iloc_litemap::{LiteMap, Probe, Store, place};
 use iloc_shortvec::{ShortBoxSlice, ShortWords};
-use iloc_subtags::Variant;
-use iloc_word_set::{Variants, is_strictly_ascending};
+use iloc_word_set::Variants;
 use iloc_writeable::{Writeable, to_string_or_borrow};
-use row_page::{number, put, refused, say};
+use row_page::{number, refused, say};
 use std::alloc::{AllocError, Global};
-use std::str;
 
-/// What a row says of many items.
-trait Many {
-    fn count(&self) -> usize;
-
-    /// Says the item at a place, where there is one.
-    fn say_at(&self, index: usize, out: &mut String);
+/// Room for the numbers of a row, for their words, and for the answers of steps, which no row says.
+#[derive(Drop)]
+pub struct Room {
+    pub numbers: Vec<u16>,
+    pub words: Vec<u8>,
+    pub answer: String,
 }
 
-impl Many for ShortWords<u16> {
-    fn count(&self) -> usize {
-        self.len()
-    }
-
-    fn say_at(&self, index: usize, out: &mut String) {
-        if let Some(item) = self.get(index) {
-            number(out, usize::from(*item));
-        }
-    }
-}
-
-impl Many for ShortBoxSlice<u16> {
-    fn count(&self) -> usize {
-        self.len()
-    }
-
-    fn say_at(&self, index: usize, out: &mut String) {
-        if let Some(item) = self.get(index) {
-            number(out, usize::from(*item));
-        }
-    }
-}
-
-impl Many for Variants {
-    fn count(&self) -> usize {
-        self.len()
-    }
-
-    fn say_at(&self, index: usize, out: &mut String) {
-        if let Some(word) = self.get(index) {
-            put(out, word);
-        }
-    }
-}
-
-impl<S: Store<u16, u16>> Many for LiteMap<u16, u16, S> {
-    fn count(&self) -> usize {
-        self.len()
-    }
-
-    fn say_at(&self, index: usize, out: &mut String) {
-        if let Some((key, value)) = self.as_slice().get(index) {
-            number(out, usize::from(*key));
-            say(out, "=");
-            number(out, usize::from(*value));
-        }
-    }
-}
-
-/// Says how many items there are, the first and the last.
-fn tell<M: Many + Drop>(made: Result<M, AllocError>, out: &mut String) {
-    match made {
-        Ok(many) => {
-            let count = many.count();
-            number(out, count);
-            say(out, " ");
-            many.say_at(0, out);
-            say(out, " ");
-            many.say_at(count.saturating_sub(1), out);
-        }
-        Err(_) => refused(out),
-    }
-}
-
-/// Adds the items at the end, one by one.
-fn few_pushed(alloc: Global, count: u16) -> Result<ShortWords<u16>, AllocError> {
-    let mut list = ShortWords::new();
-    for item in 0..count {
-        list.push(alloc, item)?;
-    }
-    Ok(list)
-}
-
-/// The items, built by a call.
-fn few(alloc: Global, call: &[u8], count: u16) -> Result<ShortWords<u16>, AllocError> {
-    let mut list = ShortWords::new();
-    match call {
-        b"push" => return few_pushed(alloc, count),
-        b"insert" => {
-            for item in (0..count).rev() {
-                list.insert(alloc, 0, item)?;
-            }
-        }
-        b"extend" => {
-            for item in 0..count {
-                list.extend_from_slice(alloc, &[item])?;
-            }
-        }
-        b"extend_once" => {
-            let items: Vec<u16> = Vec::from_iter(alloc, 0..count)?;
-            list.extend_from_slice(alloc, items.as_slice())?;
-        }
-        b"iter" => return ShortWords::from_iter(alloc, 0..count),
-        b"vec" => return Ok(ShortWords::from_vec(Vec::from_iter(alloc, 0..count)?)),
-        _ => {
-            list = few_pushed(alloc, count)?;
-            return list.clone();
-        }
-    }
-    Ok(list)
-}
-
-fn boxes_pushed(alloc: Global, count: u16) -> Result<ShortBoxSlice<u16>, AllocError> {
-    let mut list = ShortBoxSlice::new();
-    for item in 0..count {
-        list.push(alloc, item)?;
-    }
-    Ok(list)
-}
-
-/// The items, built by a call.
-fn boxes(alloc: Global, call: &[u8], count: u16) -> Result<ShortBoxSlice<u16>, AllocError> {
-    match call {
-        b"push" => boxes_pushed(alloc, count),
-        b"insert" => {
-            let mut list = ShortBoxSlice::new();
-            for item in (0..count).rev() {
-                list.insert(alloc, 0, item)?;
-            }
-            Ok(list)
-        }
-        b"iter" => ShortBoxSlice::from_iter(alloc, 0..count),
-        b"vec" => Ok(ShortBoxSlice::from_vec(Vec::from_iter(alloc, 0..count)?)),
-        _ => boxes_pushed(alloc, count)?.clone(),
+impl Room {
+    /// Room for 65,536 numbers, for the words of 10,000, and for an answer.
+    pub fn new(alloc: Global) -> Result<Self, AllocError> {
+        Ok(Room {
+            numbers: Vec::with_capacity(alloc, 65_536)?,
+            words: Vec::with_capacity(alloc, 65_536)?,
+            answer: String::with_capacity(alloc, 65_536)?,
+        })
     }
 }
 
@@ -150,140 +34,204 @@ fn digit(number: u16) -> u8 {
     b'0' + (number % 10) as u8
 }
 
-/// The variant of a number below 10,000, as `n0037`.
-fn variant_of(number: u16) -> Option<Variant> {
-    let text = [
+/// The word of a number below 10,000, as `n0037`.
+fn word_of(number: u16) -> [u8; 5] {
+    [
         b'n',
         digit(number / 1000),
         digit(number / 100),
         digit(number / 10),
         digit(number),
-    ];
-    Variant::try_from_utf8(text.as_slice()).ok()
+    ]
 }
 
-/// Adds the variants of the numbers that leave the remainder, of two.
-fn push_all(
+/// Takes a step with one number.
+fn take_one<V: Stepping>(
     alloc: Global,
-    set: &mut Variants,
-    count: u16,
-    remainder: u16,
-) -> Result<(), AllocError> {
-    for number in 0..count {
+    value: &mut V,
+    call: &[u8],
+    number: u16,
+    answer: &mut String,
+) -> bool {
+    let word = word_of(number);
+    let step = Step {
+        call,
+        text: word.as_slice(),
+        letters: &[number],
+        place: 0,
+        key: number,
+        value: number,
+    };
+    answer.clear();
+    value.step(alloc, &step, answer)
+}
+
+/// Takes a step with each number in turn.
+fn take_each<V: Stepping>(alloc: Global, value: &mut V, call: &[u8], room: &mut Room) -> bool {
+    for number in room.numbers.as_slice() {
+        if !take_one(alloc, value, call, *number, &mut room.answer) {
+            return false;
+        }
+    }
+    true
+}
+
+/// Takes a step with all numbers at once, and with their words.
+fn take_all<V: Stepping>(alloc: Global, value: &mut V, call: &[u8], room: &mut Room) -> bool {
+    let step = Step {
+        call,
+        text: room.words.as_slice(),
+        letters: room.numbers.as_slice(),
+        place: 0,
+        key: 0,
+        value: 0,
+    };
+    room.answer.clear();
+    value.step(alloc, &step, &mut room.answer)
+}
+
+/// Puts the numbers below one into the room, each as often as is said.
+fn count_all(room: &mut Vec<u16>, below: u16, often: u16) {
+    room.clear();
+    for number in 0..below {
+        for _ in 0..often {
+            let _ = room.push(number);
+        }
+    }
+}
+
+/// Puts the numbers below one that leave the remainder, of two, into the room.
+fn count_half(room: &mut Vec<u16>, below: u16, remainder: u16) {
+    for number in 0..below {
         if number % 2 == remainder {
-            if let Some(word) = variant_of(number) {
-                set.push(alloc, word)?;
-            }
+            let _ = room.push(number);
         }
     }
-    Ok(())
 }
 
-/// The set of the variants of the numbers that leave the remainder, of two.
-fn half(alloc: Global, count: u16, remainder: u16) -> Result<Variants, AllocError> {
-    let mut set = Variants::new();
-    push_all(alloc, &mut set, count, remainder)?;
-    Ok(set)
-}
-
-/// The variants as a list, which the set then takes.
-fn listed(alloc: Global, count: u16) -> Result<Variants, AllocError> {
-    let mut words = Vec::new(alloc);
-    for number in 0..count {
-        if let Some(word) = variant_of(number) {
-            words.push(word)?;
-        }
-    }
-    if is_strictly_ascending(words.as_slice()) {
-        Ok(Variants::from_vec_unchecked(words))
-    } else {
-        Ok(Variants::new())
+/// Puts the words of the numbers into the room, with slashes between.
+fn spell_words(room: &mut Room) {
+    room.words.clear();
+    for number in room.numbers.as_slice() {
+        let _ = room.words.extend_from_slice(word_of(*number).as_slice());
+        let _ = room.words.push(b'/');
     }
 }
 
-/// The set of the variants of the numbers, built by a call.
-fn set(alloc: Global, call: &[u8], count: u16) -> Result<Variants, AllocError> {
+/// Fills a list without items, by a call.
+fn fill_list<V: Stepping>(
+    alloc: Global,
+    list: &mut V,
+    call: &[u8],
+    below: u16,
+    room: &mut Room,
+) -> bool {
+    count_all(&mut room.numbers, below, 1);
     match call {
-        b"vec" => listed(alloc, count),
-        b"clone" => {
-            let set = listed(alloc, count)?;
-            Ok(set.clone()?)
+        b"push" | b"extend" => take_each(alloc, list, call, room),
+        b"insert" => {
+            room.numbers.reverse();
+            take_each(alloc, list, call, room)
         }
-        b"union" => half(alloc, count, 0)?.union(alloc, &half(alloc, count, 1)?),
-        b"extend" => {
-            let mut all = half(alloc, count, 1)?;
-            let evens = half(alloc, count, 0)?;
-            all.extend(alloc, &evens)?;
-            Ok(all)
+        b"extend_once" => take_all(alloc, list, b"extend", room),
+        b"clone" => take_each(alloc, list, b"push", room) && take_all(alloc, list, call, room),
+        _ => take_all(alloc, list, call, room),
+    }
+}
+
+/// Fills a map without pairs, by a call.
+fn fill_map<V: Stepping>(
+    alloc: Global,
+    map: &mut V,
+    call: &[u8],
+    below: u16,
+    room: &mut Room,
+) -> bool {
+    count_all(&mut room.numbers, below, 1);
+    match call {
+        b"try" => take_each(alloc, map, call, room),
+        b"insert" => {
+            room.numbers.reverse();
+            take_each(alloc, map, b"set", room)
+        }
+        b"clone" => take_each(alloc, map, b"set", room) && take_all(alloc, map, call, room),
+        _ => {
+            count_all(&mut room.numbers, below, 2);
+            take_all(alloc, map, call, room)
+        }
+    }
+}
+
+/// Fills a set without words, by a call.
+fn fill_set<V: Stepping>(
+    alloc: Global,
+    set: &mut V,
+    call: &[u8],
+    below: u16,
+    room: &mut Room,
+) -> bool {
+    room.numbers.clear();
+    match call {
+        b"union" | b"extend" => {
+            count_half(&mut room.numbers, below, 0);
+            let is_done = take_each(alloc, set, b"push", room);
+            room.numbers.clear();
+            count_half(&mut room.numbers, below, 1);
+            spell_words(room);
+            is_done && take_all(alloc, set, call, room)
+        }
+        b"vec" | b"clone" => {
+            count_all(&mut room.numbers, below, 1);
+            spell_words(room);
+            let is_copied = matches!(call, b"clone");
+            take_all(alloc, set, b"vec", room) && (!is_copied || take_all(alloc, set, call, room))
         }
         _ => {
-            let mut all = half(alloc, count, 1)?;
-            push_all(alloc, &mut all, count, 0)?;
-            Ok(all)
+            count_half(&mut room.numbers, below, 1);
+            count_half(&mut room.numbers, below, 0);
+            take_each(alloc, set, b"push", room)
         }
     }
 }
 
-/// The pair of a number.
-fn pair_of(number: u16) -> (u16, u16) {
-    (number, number)
-}
-
-/// The map of the numbers, set one by one from the last down.
-fn inserted<S: Store<u16, u16>>(
-    alloc: Global,
-    count: u16,
-) -> Result<LiteMap<u16, u16, S>, AllocError> {
-    let mut map = LiteMap::new(alloc);
-    for number in (0..count).rev() {
-        map.insert(alloc, number, number)?;
+/// Says how many there are, the first and the last, or that memory was refused.
+fn say_ends<V: Stepping>(value: &V, is_done: bool, out: &mut String) {
+    if is_done {
+        value.ends(out);
+    } else {
+        refused(out);
     }
-    Ok(map)
 }
 
-/// The map of the numbers, added one by one.
-fn added<S: Store<u16, u16>>(
-    alloc: Global,
-    count: u16,
-) -> Result<LiteMap<u16, u16, S>, AllocError> {
-    let mut map = LiteMap::new(alloc);
-    for number in 0..count {
-        map.try_insert(alloc, number, number)?;
-    }
-    Ok(map)
+/// Says what a list has that the call fills.
+fn list<L: List>(alloc: Global, call: &[u8], below: u16, room: &mut Room, out: &mut String) {
+    let mut list = Listed(L::default());
+    let is_done = fill_list(alloc, &mut list, call, below, room);
+    say_ends(&list, is_done, out)
 }
 
-/// The map of the numbers, built by a call.
+/// Says what a map has that the call fills.
 fn map<S: Store<u16, u16>>(
     alloc: Global,
     call: &[u8],
-    count: u16,
-) -> Result<LiteMap<u16, u16, S>, AllocError> {
-    match call {
-        b"insert" => inserted(alloc, count),
-        b"try" => added(alloc, count),
-        b"pairs" => LiteMap::from_pairs(alloc, (0..count).map(pair_of)),
-        b"clone" => inserted(alloc, count)?.clone(),
-        b"extend" => {
-            let mut map = LiteMap::new(alloc);
-            map.extend(alloc, (0..count).map(pair_of))?;
-            Ok(map)
-        }
-        _ => {
-            let mut map = LiteMap::new(alloc);
-            map.extend_from_map(alloc, inserted(alloc, count)?)?;
-            Ok(map)
-        }
-    }
+    below: u16,
+    room: &mut Room,
+    out: &mut String,
+) {
+    let mut map: LiteMap<u16, u16, S> = LiteMap::new(alloc);
+    let is_done = fill_map(alloc, &mut map, call, below, room);
+    say_ends(&map, is_done, out)
+}
+
+/// Says what a set has that the call fills.
+fn set(alloc: Global, call: &[u8], below: u16, room: &mut Room, out: &mut String) {
+    let mut set = Variants::new();
+    let is_done = fill_set(alloc, &mut set, call, below, room);
+    say_ends(&set, is_done, out)
 }
 
 /// Finds a key in the map; the most comparisons so far.
-fn found<S: Store<u16, u16>>(
-    map: &LiteMap<u16, u16, S>,
-    key: u16,
-    count: &mut usize,
-    most: u32,
-) -> u32 {
+fn found(map: &Long, key: u16, count: &mut usize, most: u32) -> u32 {
     let mut probe = Probe::new(map.as_slice());
     if place(&mut probe, &key).is_ok() {
         *count = count.saturating_add(1);
@@ -292,44 +240,49 @@ fn found<S: Store<u16, u16>>(
 }
 
 /// Says how many of the numbers, and of as many beyond them, stand in the map, and the most comparisons that took.
-fn search<S: Store<u16, u16>>(
-    made: Result<LiteMap<u16, u16, S>, AllocError>,
-    count: u16,
-    out: &mut String,
-) {
-    let Ok(map) = made else {
-        return refused(out);
-    };
+fn search(map: &Long, below: u16, out: &mut String) {
     let mut there = 0usize;
     let mut most = 0u32;
-    for key in 0..count.saturating_mul(2) {
-        most = found(&map, key, &mut there, most);
+    for key in 0..below.saturating_mul(2) {
+        most = found(map, key, &mut there, most);
     }
     number(out, there);
     say(out, " within ");
     number(out, most as usize);
 }
 
+/// Says how the numbers are found in a map of them.
+fn searched(alloc: Global, below: u16, room: &mut Room, out: &mut String) {
+    let mut map = Long::new(alloc);
+    if fill_map(alloc, &mut map, b"insert", below, room) {
+        search(&map, below, out);
+    } else {
+        refused(out);
+    }
+}
+
 /// Says the length and the room of the set's text, as one that is borrowed nowhere, or against other bytes.
-fn printed(alloc: Global, made: Result<Variants, AllocError>, bytes: &[u8], out: &mut String) {
-    let Ok(set) = made else {
-        return refused(out);
-    };
-    room(set.write_to_string(alloc), out);
-    say(out, " ");
-    room(to_string_or_borrow(alloc, &set, bytes), out);
+fn printed(alloc: Global, below: u16, room: &mut Room, bytes: &[u8], out: &mut String) {
+    let mut set = Variants::new();
+    if fill_set(alloc, &mut set, b"vec", below, room) {
+        say_room(set.write_to_string(alloc), out);
+        say(out, " ");
+        say_room(to_string_or_borrow(alloc, &set, bytes), out);
+    } else {
+        refused(out);
+    }
 }
 
 /// The answer to a row of many items.
-pub fn answer(alloc: Global, kind: &str, a: &[u8], call: &[u8], out: &mut String) {
-    let count = str::from_utf8(a).unwrap_or("").parse::<u16>().unwrap_or(0);
+pub fn answer(alloc: Global, room: &mut Room, kind: &str, a: &[u8], call: &[u8], out: &mut String) {
+    let below = u16::try_from(number_of(a)).unwrap_or(0);
     match kind {
-        "words" => tell(few(alloc, call, count), out),
-        "boxes" => tell(boxes(alloc, call, count), out),
-        "set" => tell(set(alloc, call, count), out),
-        "map" => tell::<LiteMap<u16, u16, ShortBoxSlice<(u16, u16)>>>(map(alloc, call, count), out),
-        "vecmap" => tell::<LiteMap<u16, u16>>(map(alloc, call, count), out),
-        "place" => search::<Vec<(u16, u16)>>(inserted(alloc, count), count, out),
-        _ => printed(alloc, listed(alloc, count), call, out),
+        "words" => list::<ShortWords<u16>>(alloc, call, below, room, out),
+        "boxes" => list::<ShortBoxSlice<u16>>(alloc, call, below, room, out),
+        "set" => set(alloc, call, below, room, out),
+        "map" => map::<ShortBoxSlice<(u16, u16)>>(alloc, call, below, room, out),
+        "vecmap" => map::<Vec<(u16, u16)>>(alloc, call, below, room, out),
+        "place" => searched(alloc, below, room, out),
+        _ => printed(alloc, below, room, call, out),
     }
 }

@@ -1,43 +1,40 @@
-//! Steps on a value: `call.first.second` with blanks between. Each type that steps change has a file of its own.
-use crate::pairs::is_same;
-use row_page::{bytes, refused, say};
+//! Steps on a value: `call.first.second` with blanks between. Each kind of value that steps change has a file of its own.
+//! In lists and maps a letter stands as its number.
+use row_page::{bytes, hash_of, refused, say};
 use std::alloc::{AllocError, Global};
 use std::hash::Hash;
+use std::str;
 
-/// A step: what is called, and with what.
+/// A step: what is called, the text that stands first, its letters, its number, and the first letters of both texts.
 #[derive(Clone, Copy)]
 pub struct Step<'a> {
     pub call: &'a [u8],
-    pub first: &'a [u8],
-    pub second: &'a [u8],
+    pub text: &'a [u8],
+    pub letters: &'a [u16],
+    pub place: usize,
+    pub key: u16,
+    pub value: u16,
 }
 
-impl<'a> Step<'a> {
-    /// The step that stands in the text.
-    fn from_text(text: &'a [u8]) -> Step<'a> {
-        let mut parts = text.split(|byte: &u8| *byte == b'.');
-        Step {
-            call: parts.next().unwrap_or(b""),
-            first: parts.next().unwrap_or(b""),
-            second: parts.next().unwrap_or(b""),
-        }
-    }
-
-    /// The number that stands first, at most 99.
-    pub fn place(&self) -> usize {
-        match self.first {
-            [digit @ b'0'..=b'9'] => usize::from(*digit - b'0'),
-            [tens @ b'0'..=b'9', digit @ b'0'..=b'9'] => {
-                usize::from(*tens - b'0') * 10 + usize::from(*digit - b'0')
-            }
-            _ => 0,
-        }
-    }
+/// The number that the digits spell, or 0.
+pub fn number_of(digits: &[u8]) -> usize {
+    str::from_utf8(digits)
+        .unwrap_or("")
+        .parse::<usize>()
+        .unwrap_or(0)
 }
 
-/// The first letter.
-pub fn letter(text: &[u8]) -> u8 {
-    text.first().copied().unwrap_or(b'-')
+/// The number of the first letter.
+fn letter(text: &[u8]) -> u16 {
+    u16::from(text.first().copied().unwrap_or(b'-'))
+}
+
+/// Puts the numbers of the letters into the room.
+pub fn spell(text: &[u8], room: &mut Vec<u16>) {
+    room.clear();
+    for byte in text {
+        let _ = room.push(u16::from(*byte));
+    }
 }
 
 /// A value that steps change.
@@ -47,17 +44,51 @@ pub trait Stepping {
 
     /// Takes a step and says its answer; false where memory was refused, and then it says nothing.
     fn step(&mut self, alloc: Global, step: &Step<'_>, out: &mut String) -> bool;
+
+    /// Says how many parts the value has, the first and the last, where letters stand for numbers.
+    fn ends(&self, out: &mut String);
+}
+
+/// Takes the step of the text, and says its answer or that it was refused.
+fn take_one<V: Stepping>(
+    alloc: Global,
+    room: &mut Vec<u16>,
+    value: &mut V,
+    text: &[u8],
+    out: &mut String,
+) -> bool {
+    let mut parts = text.split(|byte: &u8| *byte == b'.');
+    let call = parts.next().unwrap_or(b"");
+    let text = parts.next().unwrap_or(b"");
+    let second = parts.next().unwrap_or(b"");
+    spell(text, room);
+    let step = Step {
+        call,
+        text,
+        letters: room.as_slice(),
+        place: number_of(text),
+        key: letter(text),
+        value: letter(second),
+    };
+    let is_done = value.step(alloc, &step, out);
+    if !is_done {
+        refused(out);
+    }
+    is_done
 }
 
 /// Takes the steps one by one, up to one that is refused, and says the value before and after each.
-pub fn take<V: Stepping + Drop>(alloc: Global, mut value: V, script: &[u8], out: &mut String) {
+pub fn take<V: Stepping + Drop>(
+    alloc: Global,
+    room: &mut Vec<u16>,
+    mut value: V,
+    script: &[u8],
+    out: &mut String,
+) {
     value.state(out);
     for text in script.split(|byte: &u8| *byte == b' ') {
         say(out, " | ");
-        let is_done = value.step(alloc, &Step::from_text(text), out);
-        if !is_done {
-            refused(out);
-        }
+        let is_done = take_one(alloc, room, &mut value, text, out);
         say(out, " | ");
         value.state(out);
         if !is_done {
@@ -91,29 +122,33 @@ pub fn replaced<T: Drop>(place: &mut T, value: Result<T, AllocError>, out: &mut 
     }
 }
 
-/// Says whether the value is the same as one that was made another way.
+/// Says whether the value is the same as one that was made another way, in each way of asking.
 pub fn compared<T: Ord + Hash + Drop>(
     value: &T,
     made: Result<T, AllocError>,
     out: &mut String,
 ) -> bool {
     match made {
-        Ok(made) => answered(
-            if is_same(value, &made) {
-                "same"
-            } else {
-                "other"
-            },
-            out,
-        ),
+        Ok(made) => {
+            let is_equal = *value == made && value.cmp(&made).is_eq();
+            let is_same = is_equal && hash_of(value) == hash_of(&made);
+            answered(if is_same { "same" } else { "other" }, out)
+        }
         Err(_) => false,
     }
 }
 
 /// Says the letter, or that there is none.
-pub fn say_letter(item: Option<u8>, out: &mut String) {
+pub fn say_letter(item: Option<u16>, out: &mut String) {
     match item {
-        Some(item) => bytes(out, &[item]),
+        Some(item) => bytes(out, &[u8::try_from(item).unwrap_or(b'?')]),
         None => say(out, "none"),
+    }
+}
+
+/// Says the letters.
+pub fn say_letters(items: &[u16], out: &mut String) {
+    for item in items {
+        say_letter(Some(*item), out);
     }
 }

@@ -6,10 +6,17 @@
 use iloc_subtags::ParseError;
 use iloc_writeable::Writeable;
 use std::cmp::Ordering;
+use std::hash::{DefaultHasher, Hash, Hasher};
 
 /// Says the text.
 pub fn say(out: &mut String, text: &str) {
     let _ = out.push_str(text);
+}
+
+/// Says the text after a blank.
+pub fn field(out: &mut String, text: &str) {
+    say(out, " ");
+    say(out, text)
 }
 
 /// Says why something was refused.
@@ -58,6 +65,32 @@ pub fn order(out: &mut String, order: Ordering) {
 /// Says the word for the truth.
 pub fn truth(out: &mut String, is_so: bool) {
     say(out, if is_so { "true" } else { "false" })
+}
+
+/// What the value feeds a hasher.
+pub fn hash_of<T: Hash>(value: &T) -> u64 {
+    let mut hasher = DefaultHasher::new();
+    value.hash(&mut hasher);
+    hasher.finish()
+}
+
+/// Says whether the two are equal, and whether their hashes are.
+pub fn equal<T: PartialEq + Hash>(out: &mut String, one: &T, other: &T) {
+    truth(out, *one == *other);
+    say(out, " ");
+    truth(out, hash_of(one) == hash_of(other))
+}
+
+/// Says the order of the two, by `cmp` and by `partial_cmp`, whether they are equal, and whether their hashes are.
+pub fn ordered<T: Ord + Hash>(out: &mut String, one: &T, other: &T) {
+    order(out, one.cmp(other));
+    say(out, " ");
+    match one.partial_cmp(other) {
+        Some(partial) => order(out, partial),
+        None => say(out, "none"),
+    }
+    say(out, " ");
+    equal(out, one, other)
 }
 
 /// Says whether a step was done; the value that it changed is said after it.

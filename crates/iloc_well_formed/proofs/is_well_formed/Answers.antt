@@ -4,12 +4,12 @@ use Rattle.iloc_well_formed.specs.Tests.{is_in_place, is_read_back}
 use Rattle.iloc_well_formed.proofs.WellFormedLemmas.{by_tests}
 use Rattle.iloc_well_formed.proofs.is_well_formed.Goals as goal
 
-pub returns-then-are_in_place : goal.returns-then-are_in_place
-returns-then-are_in_place c id =
+pub returns-then-are_in_place-clause-exactly : goal.returns-then-are_in_place-clause-exactly
+returns-then-are_in_place-clause-exactly c id =
     let in_place = sym c.if-are_in_place.true ∙ c.are_in_place.ensures ∙ ap is_in_place c.deref.ensures.value in
     by_tests (locale_of id (value_of c.args.extensions.now)) _ (c.are_read_back.ensures ∙ ap (λ b. b && is_read_back (value_of c.args.extensions.now).unicode.keywords) in_place)
 
-pub returns-else-are_in_place : goal.returns-else-are_in_place
-returns-else-are_in_place c id =
+pub returns-else-are_in_place-clause-exactly : goal.returns-else-are_in_place-clause-exactly
+returns-else-are_in_place-clause-exactly c id =
     let out_of_place = sym c.if-are_in_place.false ∙ c.are_in_place.ensures ∙ ap is_in_place c.deref.ensures.value in
     by_tests (locale_of id (value_of c.args.extensions.now)) _ (c.if-are_in_place.false ∙ ap (λ b. b && is_read_back (value_of c.args.extensions.now).unicode.keywords) out_of_place)

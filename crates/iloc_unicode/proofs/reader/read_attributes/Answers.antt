@@ -1,24 +1,29 @@
-use Rattle.std.proofs.Common.{◌≡◌, ◌≤◌, ◌<◌, ℕ, true, true≢false, false, length, sym, arith}
-use Rattle.std.specs.List.{list_any}
-use Rattle.std.proofs.lemmas.Bool.{false_from_ne_true}
-use Rattle.iloc_grammar.specs.Words.{is_same}
+use Rattle.std.proofs.Common.{◌≡◌, ◌≤◌, ◌∙◌, length, subst, IfOk, OnOk, IsOk}
 use Rattle.iloc_parser.specs.Left.{left}
-use Rattle.iloc_unicode.proofs.AttributeLemmas.{gathered_more, gathered_many}
+use Rattle.iloc_unicode.proofs.AttributeLemmas.{few_none, few_new, few_more, few_done}
 use Rattle.iloc_unicode.proofs.reader.read_attributes.Goals as goal
 
-pub words-preserved : goal.words-preserved
-words-preserved c =
-    gathered_more (left c.args.iter.now) (left c.words.iter) c.words.attributes c.words.invariant c.in-Some.word (left c.take_word.new.iter) c.in-Some.ensures.word c.in-Some.ensures.rest c.add.new.self c.in_ok-add.ensures.ok
+pub few-init : goal.few-init
+few-init c = rw c.new-attributes.ensures (few_none (left c.args.iter.now))
 
-refused_not : false ≡ true → ⊥
-refused_not h = true≢false (sym h)
+pub few-preserved : goal.few-preserved
+few-preserved c =
+    few_new (left c.args.iter.now) (left c.few.iter) c.few.attributes c.few.invariant c.in-Some.word (left c.take_word.new.iter) c.in-Some.ensures.word c.in-Some.ensures.rest c.push.new.self c.in_ok-push.ensures.ok (λ e. c.if-len-eq4.false (c.len.ensures ∙ e))
 
-not_less : (n : ℕ) → (n < 4 → ⊥) → 4 ≤ n
-not_less n h = omega (arith, h)
+pub returns-then-len-eq4-clause-value : goal.returns-then-len-eq4-clause-value
+returns-then-len-eq4-clause-value c =
+    let all = few_more (left c.args.iter.now) (left c.few.iter) c.few.attributes c.few.invariant c.in-Some.word (left c.take_word.new.iter) c.in-Some.ensures.word c.in-Some.ensures.rest c.push.new.self c.in_ok-push.ensures.ok in
+    subst (λ b. IfOk c.read_more_attributes.result (λ a. a ≡ b)) all.0 c.read_more_attributes.ensures.value
 
-pub returns-in_err-add-clause-succeeds : goal.returns-in_err-add-clause-succeeds
-returns-in_err-add-clause-succeeds c few =
-    let failed = c.in_err-add.ensures in
-    let new : list_any (is_same c.in-Some.word) c.words.attributes ≡ false = false_from_ne_true _ (λ t. refused_not (failed.known t)) in
-    let many : 4 ≤ length c.words.attributes = not_less _ (λ l. refused_not (failed.succeeds l)) in
-    absurd (gathered_many (left c.args.iter.now) (left c.words.iter) c.words.attributes c.words.invariant c.in-Some.word (left c.take_word.new.iter) c.in-Some.ensures.word c.in-Some.ensures.rest new many few)
+pub returns-then-len-eq4-clause-rest : goal.returns-then-len-eq4-clause-rest
+returns-then-len-eq4-clause-rest c =
+    let all = few_more (left c.args.iter.now) (left c.few.iter) c.few.attributes c.few.invariant c.in-Some.word (left c.take_word.new.iter) c.in-Some.ensures.word c.in-Some.ensures.rest c.push.new.self c.in_ok-push.ensures.ok in
+    subst (λ b. OnOk c.read_more_attributes.result (left c.read_more_attributes.new.iter ≡ b)) all.1 c.read_more_attributes.ensures.rest
+
+pub returns-then-len-eq4-clause-succeeds : goal.returns-then-len-eq4-clause-succeeds
+returns-then-len-eq4-clause-succeeds c =
+    let all = few_more (left c.args.iter.now) (left c.few.iter) c.few.attributes c.few.invariant c.in-Some.word (left c.take_word.new.iter) c.in-Some.ensures.word c.in-Some.ensures.rest c.push.new.self c.in_ok-push.ensures.ok in
+    subst (λ b. length b ≤ 4 → IsOk c.read_more_attributes.result) all.0 c.read_more_attributes.ensures.succeeds
+
+pub returns-clause-value : goal.returns-clause-value
+returns-clause-value c = c.from_set.ensures ∙ (few_done (left c.args.iter.now) (left c.few.iter) c.few.attributes c.few.invariant c.in_default.ensures.word).0

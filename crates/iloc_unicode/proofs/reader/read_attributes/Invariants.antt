@@ -1,11 +1,11 @@
 -- The words so far are in the set.
 use Rattle.std.proofs.Common.{length}
 use Rattle.iloc_parser.specs.Left.{left}
-use Rattle.iloc_unicode.proofs.AttributeLemmas.{Gathered}
+use Rattle.iloc_unicode.proofs.AttributeLemmas.{GatheredFew}
 use Rattle.iloc_unicode.proofs.reader.read_attributes.Given as goal
 
-abbrev pub invariant-words : goal.invariant-words
-invariant-words l = Gathered (left l.fn.iter) (left l.iter) l.attributes
+abbrev pub invariant-few : goal.invariant-few
+invariant-few l = GatheredFew (left l.fn.iter) (left l.iter) l.attributes
 
-abbrev pub decreases-words : goal.decreases-words
-decreases-words l = length (left l.iter)
+abbrev pub decreases-few : goal.decreases-few
+decreases-few l = length (left l.iter)

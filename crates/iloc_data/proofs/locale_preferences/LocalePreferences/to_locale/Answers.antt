@@ -9,13 +9,13 @@ pub returns-clause-value : goal.returns-clause-value
 returns-clause-value c = search rules
 
 pub returns-clause-well_formed : goal.returns-clause-well_formed
-returns-clause-well_formed c = subst IsWellFormed (sym (returns-clause-value c)) (locale_is_value c.args.self c.is_preferences.ensures).1
+returns-clause-well_formed c = subst IsWellFormed (sym (returns-clause-value c)) (locale_is_value c.args.self c.look_at_preferences.ensures).1
 
 pub returns-clause-back : goal.returns-clause-back
-returns-clause-back c = λ s. ap preferences (returns-clause-value c) ∙ preferences_back c.args.self c.is_preferences.ensures s
+returns-clause-back c = λ s. ap preferences (returns-clause-value c) ∙ preferences_back c.args.self c.look_at_preferences.ensures s
 
 pub returns-clause-strict : goal.returns-clause-strict
-returns-clause-strict c = λ s. ap is_strict (returns-clause-value c) ∙ strict_locale c.args.self c.is_preferences.ensures s
+returns-clause-strict c = λ s. ap is_strict (returns-clause-value c) ∙ strict_locale c.args.self c.look_at_preferences.ensures s
 
 pub returns-clause-only : goal.returns-clause-only
-returns-clause-only c = λ h. back_only c.args.self c.is_preferences.ensures (sym (ap preferences (returns-clause-value c)) ∙ h)
+returns-clause-only c = λ h. back_only c.args.self c.look_at_preferences.ensures (sym (ap preferences (returns-clause-value c)) ∙ h)

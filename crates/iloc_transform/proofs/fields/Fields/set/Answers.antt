@@ -6,7 +6,7 @@ use Rattle.iloc_transform.proofs.MapLemmas.{looked_up, inserted, there, set_pair
 use Rattle.iloc_transform.proofs.fields.Fields.set.Goals as goal
 
 pub invariant_of-self : goal.invariant_of-self
-invariant_of-self c = set_pairs c.args.key c.args.value c.is_normal.ensures c.as_slice.ensures.normal c.self.inside.map c.self.invariant c.insert.new.self c.insert.result c.insert.ensures.ok c.insert.ensures.err
+invariant_of-self c = set_pairs c.args.key c.args.value c.as_str.ensures.normal c.as_slice.ensures.normal c.self.inside.map c.self.invariant c.insert.new.self c.insert.result c.insert.ensures.ok c.insert.ensures.err
 
 pub returns-clause-before : goal.returns-clause-before
 returns-clause-before c = IfOk-weaker c.insert.result _ (λ before. before ≡ find word_cmp c.args.key c.args.self.now) (λ before is. is ∙ looked_up c.args.key c.self.inside.map c.args.self.now c.self.view_is) c.insert.ensures.before

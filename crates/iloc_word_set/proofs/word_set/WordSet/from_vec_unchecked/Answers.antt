@@ -6,4 +6,4 @@ use Rattle.iloc_word_set.proofs.word_set.WordSet.from_vec_unchecked.Goals as goa
 
 pub invariant_of-result : goal.invariant_of-result
 invariant_of-result g c =
-    rw c.from_vec.ensures ((set_ascends c.args.input.items c.requires, subst (AllByRecursion (IsNormal g.K.WordKind.kind)) c.as_slice.ensures.value c.are_normal.ensures))
+    rw c.from_vec.ensures ((set_ascends c.args.input.items c.requires, subst (AllByRecursion (IsNormal g.K.WordKind.kind)) c.as_slice.ensures.value c.look_at_each.ensures))

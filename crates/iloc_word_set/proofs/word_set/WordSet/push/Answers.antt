@@ -35,4 +35,4 @@ pub invariant_of-self-in-Err : goal.invariant_of-self-in-Err
 invariant_of-self-in-Err g c =
     let new = search_new c.as_slice.result.now c.args.self.now c.args.word c.in-Err.at c.as_slice.ensures.value c.as_slice.ensures.ascending c.in-Err.ensures.bound c.in-Err.ensures.position in
     let is : c.insert.new.self ≡ set_of (c.args.word ∷ c.args.self.now) = c.in_ok-insert-in-Err.ensures.ok ∙ ap (λ ws. insert ws c.in-Err.at c.args.word) c.self.view_is ∙ new.set in
-    rw is ((set_of-ascending (c.args.word ∷ c.args.self.now), all-set_of (IsNormal g.K.WordKind.kind) (c.args.word ∷ c.args.self.now) (c.is_normal.ensures, c.as_slice.ensures.normal)))
+    rw is ((set_of-ascending (c.args.word ∷ c.args.self.now), all-set_of (IsNormal g.K.WordKind.kind) (c.args.word ∷ c.args.self.now) (c.as_str.ensures.normal, c.as_slice.ensures.normal)))

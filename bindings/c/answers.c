@@ -1,0 +1,175 @@
+/* Answers each line of standard input, for tools/try_bindings.
+ *
+ * answers langid|locale|data   the normal text of the line, or "! " and the words of the refusal
+ * answers pairs                of each two lines the byte order of the first, normalised, against the second, and
+ *                              whether they mean the same, as "-1 0"; or the refusal of the first
+ * answers buffers              nothing, where each line is answered alike in buffers of every size, in every mode
+ *
+ * It asks for no memory itself. The status is 0 where it could read, write and answer all. */
+#include "icu_locale.h"
+
+#include <stdio.h>
+#include <stdlib.h>
+#include <string.h>
+
+#define LINE 262144
+#define UNTOUCHED 99
+
+struct line {
+    uint8_t bytes[LINE];
+    size_t length;
+};
+
+static struct line first, second;
+static uint8_t reply[LINE];
+
+static void stop(const char *why)
+{
+    fprintf(stderr, "answers: %s: %.*s\n", why, (int)first.length, (const char *)first.bytes);
+    exit(1);
+}
+
+/* Reads a line without its LF, and tells whether there was one. */
+static int read_line(struct line *line)
+{
+    int byte;
+    line->length = 0;
+    while ((byte = getchar()) != EOF && byte != '\n') {
+        if (line->length == LINE)
+            stop("a line is too long");
+        line->bytes[line->length++] = (uint8_t)byte;
+    }
+    return byte == '\n' || line->length > 0;
+}
+
+static void write_line(const char *before, const uint8_t *bytes, size_t length)
+{
+    fputs(before, stdout);
+    fwrite(bytes, 1, length, stdout);
+    putchar('\n');
+}
+
+static void write_refusal(icu_locale_status status)
+{
+    size_t length;
+    if (icu_locale_words(status, reply, sizeof reply, &length) != ICU_LOCALE_DONE)
+        stop("a status has no words");
+    write_line("! ", reply, length);
+}
+
+static void answer_lines(icu_locale_mode mode)
+{
+    while (read_line(&first)) {
+        size_t length;
+        icu_locale_status status =
+            icu_locale_normalize(mode, first.bytes, first.length, reply, sizeof reply, &length);
+        if (status == ICU_LOCALE_DONE)
+            write_line("", reply, length);
+        else
+            write_refusal(status);
+    }
+}
+
+/* Compares the first line with the second in both ways, and returns why not, where one is refused. */
+static icu_locale_status compare(int8_t *order, uint8_t *same)
+{
+    *order = UNTOUCHED;
+    *same = UNTOUCHED;
+    icu_locale_status compared =
+        icu_locale_strict_cmp(first.bytes, first.length, second.bytes, second.length, order);
+    icu_locale_status told =
+        icu_locale_normalizing_eq(first.bytes, first.length, second.bytes, second.length, same);
+    if ((compared == ICU_LOCALE_DONE) == (*order == UNTOUCHED) || (told == ICU_LOCALE_DONE) == (*same == UNTOUCHED))
+        stop("a refused comparison has written, or another has not");
+    if (compared == told || told == ICU_LOCALE_OUT_OF_MEMORY)
+        return told;
+    if (compared != ICU_LOCALE_OUT_OF_MEMORY)
+        stop("the two comparisons end otherwise");
+    return compared;
+}
+
+static void answer_pairs(void)
+{
+    while (read_line(&first) && read_line(&second)) {
+        int8_t order;
+        uint8_t same;
+        icu_locale_status status = compare(&order, &same);
+        if (status == ICU_LOCALE_DONE)
+            printf("%d %d\n", order, same);
+        else
+            write_refusal(status);
+    }
+}
+
+/* In a buffer of this room the answer is the one that is known, and no byte but the answer's is written. */
+static void try_room(icu_locale_mode mode, size_t room, icu_locale_status known, const uint8_t *normal, size_t length)
+{
+    uint8_t *buffer = second.bytes;
+    size_t needed = UNTOUCHED, written = known == ICU_LOCALE_DONE && length <= room ? length : 0;
+    memset(buffer, '#', length + 2);
+    icu_locale_status status = icu_locale_normalize(mode, first.bytes, first.length, buffer, room, &needed);
+    if (known == ICU_LOCALE_DONE && length > room)
+        known = ICU_LOCALE_BUFFER_TOO_SMALL;
+    if (status != known || needed != length)
+        stop("the status or the length changes with the buffer");
+    if (memcmp(buffer, normal, written) != 0)
+        stop("the answer changes with the buffer");
+    for (size_t i = written; i < length + 2; i++)
+        if (buffer[i] != '#')
+            stop("a byte behind the answer is written");
+}
+
+static void try_mode(icu_locale_mode mode)
+{
+    size_t length;
+    icu_locale_status status = icu_locale_normalize(mode, first.bytes, first.length, reply, sizeof reply, &length);
+    if ((mode > ICU_LOCALE_DATA_LOCALE) != (status == ICU_LOCALE_UNKNOWN_NUMBER))
+        stop("a mode is not known, or another is");
+    if (icu_locale_check(mode, first.bytes, first.length) != status)
+        stop("checking says otherwise");
+    for (size_t room = 0; room <= length + 1; room++)
+        try_room(mode, room, status, reply, length);
+}
+
+static void try_buffers(void)
+{
+    static const icu_locale_mode modes[] = {ICU_LOCALE_IDENTIFIER, ICU_LOCALE_LOCALE, ICU_LOCALE_DATA_LOCALE, 3, 255};
+    while (read_line(&first))
+        for (size_t i = 0; i < sizeof modes; i++)
+            try_mode(modes[i]);
+}
+
+/* Each status has words, and no other number. */
+static void try_words(void)
+{
+    for (int status = 0; status < 256; status++) {
+        size_t length = UNTOUCHED;
+        int is_known = status <= ICU_LOCALE_UNKNOWN_NUMBER;
+        icu_locale_status ended = icu_locale_words((icu_locale_status)status, reply, 64, &length);
+        if (ended != (is_known ? ICU_LOCALE_DONE : ICU_LOCALE_UNKNOWN_NUMBER) || (length > 0) != is_known)
+            stop("the words of a status");
+    }
+}
+
+int main(int count, char **words)
+{
+    static char in[65536], out[65536];
+    const char *word = count == 2 ? words[1] : "";
+    setvbuf(stdin, in, _IOFBF, sizeof in);
+    setvbuf(stdout, out, _IOFBF, sizeof out);
+    if (icu_locale_version() != ICU_LOCALE_VERSION)
+        stop("the library is of another header");
+    if (strcmp(word, "langid") == 0)
+        answer_lines(ICU_LOCALE_IDENTIFIER);
+    else if (strcmp(word, "locale") == 0)
+        answer_lines(ICU_LOCALE_LOCALE);
+    else if (strcmp(word, "data") == 0)
+        answer_lines(ICU_LOCALE_DATA_LOCALE);
+    else if (strcmp(word, "pairs") == 0)
+        answer_pairs();
+    else if (strcmp(word, "buffers") == 0)
+        try_buffers(), try_words();
+    else
+        stop("usage: answers langid|locale|data|pairs|buffers");
+    return ferror(stdin) || fflush(stdout) != 0;
+}

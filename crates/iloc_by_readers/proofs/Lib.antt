@@ -1,2 +1,0 @@
-pub mod ReaderBlocks
-pub mod PartAnswers

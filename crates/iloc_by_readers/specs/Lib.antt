@@ -1,2 +1,0 @@
-pub mod ByReaders
-pub mod PartComputing

@@ -1,0 +1,10 @@
+use Rattle.iloc_data.proofs.data_locale.DataLocaleFromStr.from_str.Goals as goal
+
+pub returns : goal.returns
+returns c = record {
+  reads = c.try_from_str.ensures.reads;
+  back = c.try_from_str.ensures.back;
+  converted = c.try_from_str.ensures.converted;
+  narrow = c.try_from_str.ensures.narrow;
+  narrow_accepted = c.try_from_str.ensures.narrow_accepted;
+}

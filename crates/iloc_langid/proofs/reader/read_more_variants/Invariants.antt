@@ -1,0 +1,10 @@
+use Rattle.std.proofs.Common.{◌++◌, length}
+use Rattle.iloc_parser.specs.Left.{left}
+use Rattle.iloc_langid.proofs.TakingLemmas.{Taking}
+use Rattle.iloc_langid.proofs.reader.read_more_variants.Given as goal
+
+abbrev pub invariant-words : goal.invariant-words
+invariant-words l = Taking (l.fn.four ++ left l.fn.iter) (left l.iter) l.words
+
+abbrev pub decreases-words : goal.decreases-words
+decreases-words l = length (left l.iter)

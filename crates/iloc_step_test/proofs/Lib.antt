@@ -1,5 +1,0 @@
-pub mod Equality
-pub mod ListTests
-pub mod PartTests
-pub mod TextTests
-pub mod Examples

@@ -1,0 +1,12 @@
+use Rattle.iloc_parser.specs.Left.{left}
+use Rattle.iloc_transform.proofs.TransformLemmas.{no_lang, other_lang, some_lang}
+use Rattle.iloc_transform.proofs.lang.fill_lang.Goals as goal
+
+pub returns-in_default : goal.returns-in_default
+returns-in_default c = rw c.requires (no_lang (left c.args.iter.now) c.in_default.ensures)
+
+pub returns-in_ok-fill_front-in-Ok : goal.returns-in_ok-fill_front-in-Ok
+returns-in_ok-fill_front-in-Ok c = some_lang (left c.args.iter.now) (left c.fill_front.new.iter) c.fill_front.new.identifier c.in_ok-fill_front-in-Ok.ensures
+
+pub returns-in-Err : goal.returns-in-Err
+returns-in-Err c = rw c.requires (other_lang _ c.in-Err.field-0 (left c.args.iter.now) c.in-Some.piece.now c.in-Some.ensures c.in-Err.ensures)

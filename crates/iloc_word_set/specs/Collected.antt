@@ -1,0 +1,16 @@
+-- The words that a collector holds, by how they are kept.
+use Rattle.std.specs.Prelude.{◌≡◌, ℕ, ◌<◌, true, List, length}
+use Rattle.iloc_grammar.specs.Meaning.{set_of}
+use Rattle.iloc_grammar.specs.Values.{IsAscending}
+use Rattle.iloc_word_set.specs.declared.word_collector.Collected.{Collected}
+use Rattle.iloc_word_set.specs.declared.word_collector.Collected.TheVariants.{Four, Many}
+
+-- the words
+abbrev pub words_of : {K : Type 0} {N : ℕ} → Collected K N → List (List ℕ)
+words_of (Four set) = set
+words_of (Many words ascend) = words.items
+
+-- a set of four, or more than four different ones, which ascend where that is said
+abbrev pub IsCollected : {K : Type 0} {N : ℕ} → Collected K N → Type 0
+IsCollected (Four set) = IsAscending set × (length set ≡ 4)
+IsCollected (Many words ascend) = (4 < length (set_of words.items)) × (ascend ≡ true → IsAscending words.items)

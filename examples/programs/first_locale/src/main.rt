@@ -1,0 +1,19 @@
+//! The example of README: a locale is read, printed, normalised, changed and compared.
+#![tactic(auto)]
+
+use icu_locale_core::Locale;
+use icu_locale_core::subtags::Region;
+
+fn main(rt: HostRuntime) -> anyhow::Result<()> {
+    let alloc = rt.alloc();
+    let mut locale = Locale::try_from_str(alloc, "EN-us-u-ca-Buddhist")?;
+    println!(rt; "{locale}")?; // en-US-u-ca-buddhist
+
+    let normal = Locale::normalize(alloc, "en-US")?; // borrowed: it is normal already
+    println!(rt; "{normal}")?; // en-US
+
+    locale.id.region = Some(Region::try_from_str("gb")?);
+    let same = locale.normalizing_eq(alloc, "en-gb-u-ca-buddhist")?;
+    println!(rt; "{same}")?; // true
+    Ok(())
+}

@@ -1,0 +1,32 @@
+//! JSON strings of locales, and the library of the program.
+use icu_locale_core::json::{JsonError, JsonText};
+use icu_locale_core::program::{Mode, RunError, run};
+use icu_locale_core::{Locale, ParseError};
+use std::alloc::Global;
+use std::fmt::Write;
+
+/// The JSON string of the locale, and whether it is read back as it.
+pub fn json(alloc: Global, locale: &Locale, out: &mut String) -> Result<(), ParseError> {
+    match round_trip(alloc, locale, out) {
+        Ok(()) => Ok(()),
+        Err(JsonError::Parse(refusal)) => Err(refusal),
+        Err(JsonError::NotText) => Ok(out.push_str("no string")?),
+        Err(JsonError::OutOfMemory) => Err(ParseError::OutOfMemory),
+    }
+}
+
+fn round_trip(alloc: Global, locale: &Locale, out: &mut String) -> Result<(), JsonError> {
+    let json = locale.to_json(alloc)?;
+    let text = json.to_string(alloc).map_err(|_| JsonError::OutOfMemory)?;
+    let same = Locale::from_json(alloc, &json)? == *locale;
+    write!(out, "{text}, read back: {same}").map_err(|_| JsonError::OutOfMemory)
+}
+
+/// What the program `locale_normal` answers to these lines.
+pub fn normalize(alloc: Global, lines: &str, out: &mut String) -> Result<(), RunError> {
+    let mut written = Vec::new(alloc);
+    run(alloc, Mode::Locale, &mut lines.as_bytes(), &mut written)?;
+    out.clear();
+    out.push_str(std::str::from_utf8(written.as_slice()).unwrap_or("no text"))?;
+    Ok(())
+}
