@@ -1,7 +1,12 @@
 """The toolchain's command rt, loaded as a module: `rt` itself and `rtlib`, on which it stands.
 
 What the tools use of them: rt.read_edit, rt.checked, rt.unread, rt.must_fail, rt.KIT, and rtlib's
-Crate, blanked, crates_below, guarded, lock, STALE. A new toolchain may change them."""
+Crate, blanked, crates_below, guarded, lock, STALE. A new toolchain may change them.
+
+A crate's stamp, by which rt tells whether its library is that of the present text, is asked for once
+in each run of a tool: rt's own reads a crate's files once for each path of lines of crates.txt that
+leads to it."""
+import functools
 import importlib.machinery
 import importlib.util
 import os
@@ -21,6 +26,7 @@ def load():
 
 rt = load()
 rtlib = rt.rtlib
+rtlib.Crate.stamp = functools.cache(rtlib.Crate.stamp)
 
 
 def read(path):

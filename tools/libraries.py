@@ -1,9 +1,10 @@
 """Proves the libraries that some crates stand on, side by side, lowest and longest chain first."""
+import copy
 import os
-import subprocess
+import tempfile
 import time
 
-from kit import lanes, rt
+from kit import lanes, rt, rtlib
 
 # About what the proof of a library from nothing takes, in processor seconds: for reading what it
 # stands on, and for each line of its source.
@@ -46,6 +47,16 @@ def estimate(crates):
     return max(total, *chain.values()) / 60
 
 
+def build(crate, jobs):
+    """Proves a library and keeps it, as rt lib does, and returns the status and what was said. rt lib
+    keeps out whoever works on a library below, so that it proves one crate at a time."""
+    crate = copy.copy(crate)
+    with tempfile.TemporaryFile("a+", errors="replace") as crate.out:
+        status = crate.build_rlib(["--jobs", str(jobs)], anew=False)
+        crate.out.seek(0)
+        return status, crate.out.read()
+
+
 class Proofs:
     """The proofs of a list of libraries, and how far they are."""
 
@@ -60,21 +71,28 @@ class Proofs:
             return False
         if self.until and time.time() > self.until:
             return False
-        how = {"cwd": crate.folder, "stdin": subprocess.DEVNULL, "stdout": subprocess.PIPE}
-        words = ["rt", "lib", "--jobs", str(jobs)]
-        ran = subprocess.run(words, stderr=subprocess.STDOUT, errors="replace", **how)
+        status, said = build(crate, jobs)
         self.done += 1
         minutes = (time.time() - self.began) / 60
         far = f"{self.done} of {len(self.crates)} crates, {minutes:.0f} min"
-        if ran.returncode:
+        if status:
             self.failed.append(crate.name)
-            self.say(f"{crate.name} is NOT PROVED ({far}):\n{ran.stdout[-3000:]}")
+            self.say(f"{crate.name} is NOT PROVED ({far}):\n{said[-3000:]}")
         else:
             self.say(f"proved {far} ({crate.name})")
-        return ran.returncode == 0
+        return status == 0
 
     def run(self):
-        """Returns whether all are proved."""
+        """Returns whether all are proved. Meanwhile no other rt works on them."""
+        rtlib.guarded()  # in this thread first, which alone may say what a signal does
+        held = rtlib.lock(self.crates)
+        try:
+            return self.run_alone()
+        finally:
+            for it in held:
+                os.close(it)
+
+    def run_alone(self):
         names, tasks = {it.name for it in self.crates}, {}
         for crate in self.crates:
             waits = [(it.name, KEY) for it in crate.below() if it.name in names]
