@@ -32,13 +32,20 @@ impl<'a> Sink for Filling<'a> {
         }
     }
 
-    ghost use Rattle.icu_locale_c.specs.Filling.{filled_nothing, filled_both, overflowed_after, overflowed_more};
+    ghost use Rattle.icu_locale_c.specs.Filling.{
+      filled_nothing,
+      filled_both,
+      overflowed_after,
+      overflowed_more,
+    };
 
     ghost took_nothing = { λ s. filled_nothing s.buffer s.count };
 
-    ghost took_then_took = { λ a b c s t p q. filled_both a.buffer a.count b.buffer b.count c.buffer c.count s t p q };
+    ghost took_then_took = { λ a b c s t p q. filled_both a.buffer a.count b.buffer b.count c.buffer
+        c.count s t p q };
 
-    ghost took_then_failed = { λ a b c s t u p q. overflowed_after a.buffer a.count b.buffer b.count s t u p q };
+    ghost took_then_failed = { λ a b c s t u p q. overflowed_after a.buffer a.count b.buffer
+        b.count s t u p q };
 
     ghost failed_of_more = { λ a b t u v q. overflowed_more (length a.buffer.now) a.count t u v q };
 }

@@ -9,7 +9,13 @@
 ghost use Rattle.std.specs.Prelude.{◌≡◌, ◌<◌};
 ghost use Rattle.iloc_program.specs.declared.Mode.{Mode};
 ghost use Rattle.icu_locale_c.specs.declared.status.Status.{Status};
-ghost use Rattle.icu_locale_c.specs.Answers.{ComparesTo, HandsOut, JudgedAs, NormalizesTo, TellsSame};
+ghost use Rattle.icu_locale_c.specs.Answers.{
+  ComparesTo,
+  HandsOut,
+  JudgedAs,
+  NormalizesTo,
+  TellsSame,
+};
 ghost use Rattle.icu_locale_c.specs.Numbers.{EndsAs, mode_number, number_of, words_of};
 
 mod answers;

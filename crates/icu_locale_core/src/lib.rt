@@ -28,6 +28,16 @@
 //! locale == Locale::try_from_str(alloc, "en-GB-u-ca-buddhist")?; // true
 //! ```
 //!
+//! Which calls take the allocator, as the first argument:
+//!
+//! | Calls | Allocator |
+//! |---|---|
+//! | `try_from_utf8`, `try_from_str`, `try_from_locale_bytes`, `try_from_iter`, `read`, `fill`, `normalize`, `normalize_utf8`, `try_from_value`, `try_from_key_value`, `from_json`, `to_json`, `read_text`, `run` | taken; want of memory is one of the refusals |
+//! | `write_to_string`, `to_string_or_borrow`, `Locale::normalizing_eq`, `push`, `push_subtag`, `insert`, `try_insert`, `set`, `extend` and its kin, `union`, `new_double`, `from_iter`, `from_pairs`, `from_subtags`, `from_two_subtags`, `to_value`, `unicode_extension_value`, `to_locale`, `write_text`, `carry_v1` | taken; want of memory is `AllocError`, or the refusal of that name |
+//! | `Locale::unknown`, `new` of `LiteMap`, `Fields`, `Transform` and `Extensions`, `from_langid`, `from_language`, `from_script`, `from_region`, `from_parts`, `from_unicode`, `into_locale`, `Fields::clear` | taken and kept: these want no memory |
+//! | `clone` of what may own memory | not taken: the value's own; want of memory is `AllocError` |
+//! | words, data locales, `try_from_utf8_with_single_variant` and its kin, look-ups, removals, `retain`, iterators, comparisons, orders, hashes, `write_to` | none, and no want of memory |
+//!
 //! In the Rust crate some of these modules are private, and `tinystr`, `writeable` and `litemap` are crates.
 #![tactic(auto)]
 
@@ -41,6 +51,7 @@ pub mod tinystr {
 
 /// Printing to a sink.
 pub mod writeable {
+    pub use iloc_io_sink::{IoSink, write_to_io};
     pub use iloc_writeable::{LengthHint, Sink, Writeable, cmp_utf8, to_string_or_borrow};
 }
 
@@ -56,8 +67,17 @@ pub mod litemap {
 
 /// The words of identifiers, and sets of variants.
 pub mod subtags {
-    pub use iloc_subtags::{Language, Region, Script, Subtag, Variant, Word};
+    pub use iloc_subtags::{Language, Region, Script, Subtag, Variant, Word, WordKind, WordOf};
     pub use iloc_word_set::{Variants, is_strictly_ascending};
+
+    /// The kinds of words by name, for code that is generic over them: each word is a `WordOf<Kind, N>`.
+    pub mod kinds {
+        pub use iloc_subtags::{
+            AttributeKind, CurrencyTypeKind, LanguageKind, PrivateSubtagKind, RegionKind,
+            ScriptKind, SubdivisionSuffixKind, SubtagKind, TransformKeyKind, UnicodeKeyKind,
+            VariantKind,
+        };
+    }
 }
 
 /// The pieces of a text, and why a text is refused.
@@ -81,6 +101,13 @@ pub mod extensions {
         pub use iloc_subtags::{Attribute, SubdivisionSuffix, UnicodeKey as Key};
         pub use iloc_unicode::{Attributes, Keywords, KeywordsIter, Unicode};
         pub use iloc_unicode_value::Value;
+
+        /// Keys by their names, as `key::ca()`.
+        pub mod key {
+            pub use iloc_preference_key::known_keys::{
+                ca, cf, co, cu, dx, em, fw, hc, kf, kn, lb, lw, ms, mu, nu, rg, sd, ss, tz, va,
+            };
+        }
     }
 
     /// The transform extension: an identifier and fields.
@@ -103,6 +130,7 @@ pub mod extensions {
 /// Locales: identifiers with extensions.
 pub mod locale {
     pub use iloc_locale::Locale;
+    pub use iloc_ordered::OrderedLocale;
 }
 
 /// Data locales: the parts of a locale by which data is looked up.

@@ -1,7 +1,11 @@
 //! Preferences of a formatter of dates and times.
 ghost use Rattle.std.specs.Prelude.{◌≡◌, true, false, MatchResult};
 ghost use Rattle.iloc_locale.specs.LocaleValue.{value_of as locale_value};
-ghost use Rattle.iloc_preferences_rules.specs.Formatters.{format_preferences, is_strict_format, merge_format};
+ghost use Rattle.iloc_preferences_rules.specs.Formatters.{
+  format_preferences,
+  is_strict_format,
+  merge_format,
+};
 ghost use Rattle.iloc_bench.specs.Values.{format_of_time, format_value, time_value};
 
 use crate::keywords::keyword;
@@ -96,7 +100,8 @@ impl From<&Locale> for FormatPreferences {
     ghost use Rattle.iloc_preferences_rules.specs.Formatters.{format_preferences};
     ghost use Rattle.iloc_bench.specs.Values.{format_value};
 
-    ghost from_gives = { λ locale p. format_value p ≡ format_preferences (locale_value locale.now) };
+    ghost from_gives = { λ locale p. format_value p
+        ≡ format_preferences (locale_value locale.now) };
 
     fn from(loc: &Locale) -> Self {
         match FormatPreferences::from_locale_strict(loc) {
@@ -126,7 +131,8 @@ impl From<&LanguageIdentifier> for FormatPreferences {
     ghost use Rattle.iloc_langid.specs.Reads.{value_of as identifier_of};
     ghost use Rattle.iloc_bench.specs.Values.{format_of_time, format_value, time_of_identifier};
 
-    ghost from_gives = { λ langid p. format_value p ≡ format_of_time (time_of_identifier (identifier_of langid.now)) };
+    ghost from_gives = { λ langid p. format_value p
+        ≡ format_of_time (time_of_identifier (identifier_of langid.now)) };
 
     fn from(lid: &LanguageIdentifier) -> Self {
         FormatPreferences::of_time(&TimePreferences::from(lid))
@@ -139,7 +145,8 @@ impl From<LanguageIdentifier> for FormatPreferences {
     ghost use Rattle.iloc_langid.specs.Reads.{value_of as identifier_of};
     ghost use Rattle.iloc_bench.specs.Values.{format_of_time, format_value, time_of_identifier};
 
-    ghost from_gives = { λ langid p. format_value p ≡ format_of_time (time_of_identifier (identifier_of langid)) };
+    ghost from_gives = { λ langid p. format_value p
+        ≡ format_of_time (time_of_identifier (identifier_of langid)) };
 
     fn from(lid: LanguageIdentifier) -> Self {
         FormatPreferences::from(&lid)

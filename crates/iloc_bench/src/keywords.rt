@@ -1,7 +1,14 @@
 //! The keywords of formatters: each as it reads, and whether it is absent or readable.
 ghost use Rattle.std.specs.Prelude.{◌≡◌, ℕ, List, Option, None, option_map};
 ghost use Rattle.iloc_locale.specs.LocaleValue.{value_of as locale_value};
-ghost use Rattle.iloc_preferences_rules.specs.Keywords.{CalendarAlgorithm as the_calendars, HourCycle as the_hours, key as key_of_keyword, enum_reads, nu, subtag_reads};
+ghost use Rattle.iloc_preferences_rules.specs.Keywords.{
+  CalendarAlgorithm as the_calendars,
+  HourCycle as the_hours,
+  key as key_of_keyword,
+  enum_reads,
+  nu,
+  subtag_reads,
+};
 ghost use Rattle.iloc_preferences_rules.specs.Preferences.{is_readable, read_keyword};
 ghost use Rattle.iloc_calendar_keyword.specs.Calendars.{value_of as calendar_value};
 ghost use Rattle.iloc_bench.specs.Values.{hours_value};

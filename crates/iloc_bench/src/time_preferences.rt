@@ -1,7 +1,11 @@
 //! Preferences of a time formatter.
 ghost use Rattle.std.specs.Prelude.{◌≡◌, true, false, MatchResult};
 ghost use Rattle.iloc_locale.specs.LocaleValue.{value_of as locale_value};
-ghost use Rattle.iloc_preferences_rules.specs.Formatters.{is_strict_time, merge_time, time_preferences};
+ghost use Rattle.iloc_preferences_rules.specs.Formatters.{
+  is_strict_time,
+  merge_time,
+  time_preferences,
+};
 ghost use Rattle.iloc_bench.specs.Values.{time_value};
 
 use crate::format_preferences::FormatPreferences;

@@ -1,6 +1,6 @@
 -- What the blocks after the head of a locale mean together, and what it takes to read them.
 -- Restates UTS #35, section 3: the extensions and the private part of unicode_locale_id.
-use Rattle.std.specs.Prelude.{◌≡◌, ℕ, Bool, true, false, not, ◌&&◌, ◌==◌, List, [], ◌∷◌, length, map, None, is_some, MatchOption, if◌then◌else◌, Result, Ok, Err}
+use Rattle.std.specs.Prelude.{◌≡◌, ℕ, Bool, true, false, not, ◌&&◌, ◌==◌, List, [], ◌∷◌, length, map, None, is_some, MatchOption, if◌then◌else◌, Result}
 use Rattle.std.specs.Char.{is_ascii_alphanumeric, to_ascii_lowercase}
 use Rattle.std.specs.List.{AllByRecursion, list_any}
 use Rattle.std.specs.Ordering.{nat_cmp}
@@ -12,10 +12,9 @@ use Rattle.iloc_grammar.specs.ByBlocks.{UnicodeMeans, TransformMeans, by_letter,
 use Rattle.iloc_grammar.specs.Blocks.{blocks}
 use Rattle.iloc_grammar.specs.Reading.{starts_block}
 use Rattle.iloc_grammar.specs.Faults.{IsBlock, FirstBadBlock}
-use Rattle.iloc_grammar.specs.Faults as faults
 use Rattle.iloc_small.specs.InlineBlocks.{ReachesLongBlock}
 use Rattle.iloc_subtags.specs.declared.parse_error.ParseError.{ParseError}
-use Rattle.iloc_subtags.specs.declared.parse_error.ParseError.TheVariants.{InvalidLanguage, InvalidSubtag, InvalidExtension, DuplicatedExtension, OutOfMemory}
+use Rattle.iloc_subtags.specs.Answers.{Answers, ButLanguage}
 
 -- The parts are those of `MeansByBlocks`: singletons are letters or digits and differ, and each block means its part;
 -- where the block of `u` (117), `t` (116) or `x` (120) is absent the part is empty.
@@ -57,9 +56,6 @@ pub record BlockAt (T : ℕ → Bool) (start : List (List ℕ)) (c : ℕ) (ps : 
 
 -- What reading one block answers, after the blocks that were read since start. Memory is wanted only where a block is reached that isn't short.
 abbrev pub BlockReads : List (List ℕ) → List (List ℕ) → Extensions → Result (Unit {0}) ParseError → Type 0
-BlockReads start rest M (Ok x) = BlocksDone languages start rest M
-BlockReads start rest M (Err InvalidLanguage) = ⊥
-BlockReads start rest M (Err InvalidSubtag) = FirstBadBlock languages [] (blocks start) faults.InvalidSubtag
-BlockReads start rest M (Err InvalidExtension) = FirstBadBlock languages [] (blocks start) faults.InvalidExtension
-BlockReads start rest M (Err DuplicatedExtension) = FirstBadBlock languages [] (blocks start) faults.DuplicatedExtension
-BlockReads start rest M (Err OutOfMemory) = ReachesLongBlock languages [] (blocks start)
+BlockReads start rest M = Answers (λ _. BlocksDone languages start rest M)
+    (ButLanguage (FirstBadBlock languages [] (blocks start)))
+    (ReachesLongBlock languages [] (blocks start))

@@ -19,8 +19,8 @@ use std::alloc::Global;
 ///
 /// Refuses with the fault of the first bad block: `InvalidExtension` for a singleton that is no letter or
 /// digit, `DuplicatedExtension` for one met before, `InvalidSubtag` after `t` where a variant is repeated, and
-/// `InvalidExtension` for anything else. `OutOfMemory` comes only where some block has more words than are
-/// kept inline.
+/// `InvalidExtension` for anything else. `OutOfMemory` comes only where a block is reached that is
+/// not short (`IsShortBlock`).
 pub fn read_blocks(
     alloc: Global,
     iter: &mut SubtagIterator<'_>,
@@ -56,7 +56,9 @@ fn read_block(
     iter: &mut SubtagIterator<'_>,
     extensions: &mut Extensions,
 ) -> Result<(), ParseError>
-    ensures reads { (start : List (List ℕ)) → BlocksDone languages start ((byte ∷ []) ∷ left iter.old) (value_of extensions.old) → BlockReads start (left iter.new) (value_of extensions.new) result }
+    ensures reads { (start : List (List ℕ))
+        → BlocksDone languages start ((byte ∷ []) ∷ left iter.old) (value_of extensions.old)
+        → BlockReads start (left iter.new) (value_of extensions.new) result }
     ensures shorter { OnOk result (length (left iter.new) ≤ length (left iter.old)) }
 {
     if !byte.is_ascii_alphanumeric() {

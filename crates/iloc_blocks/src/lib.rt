@@ -1,7 +1,8 @@
 //! Reads the blocks of a locale: what follows its head, from one singleton to the next.
 //!
 //! It promises that what is read is what the blocks mean together, and that a text is refused with the fault
-//! of its first bad block (UTS #35 section 3, `unicode_locale_id`). Blocks of few words take no memory.
+//! of its first bad block (UTS #35 section 3, `unicode_locale_id`). Short blocks take no memory:
+//! of `u` with few words, of `t` with few variants and no field, of `x` with few words.
 //!
 //! It composes the readers of the unicode, transform, private and other extensions by their public contracts
 //! alone, each of which leaves exactly what follows its block.
@@ -19,5 +20,6 @@ pub use blocks::read_blocks;
 
 /// Blocks mean the same from the last to the first.
 pub fn in_turn()
-    ensures { (T : ℕ → Bool) (bs : List (ℕ × List (List ℕ))) (M : Parts) → BlocksMean T bs M → BlocksMean T (onto bs []) M }
+    ensures { (T : ℕ → Bool) (bs : List (ℕ × List (List ℕ))) (M : Parts) → BlocksMean T bs M
+        → BlocksMean T (onto bs []) M }
 {}

@@ -28,7 +28,10 @@ pub(crate) fn take_unicode(
 ) -> Result<(), ParseError>
     requires keywords { unicode.old.keywords ≡ [] }
     requires attributes { unicode.old.attributes ≡ [] }
-    ensures reads { (start : List (List ℕ)) (c : ℕ) (M : Parts) → BlockAt languages start c (left iter.old) M → to_ascii_lowercase c ≡ 117 → BlockReads start (left iter.new) (record M { unicode = unicode_value.value_of unicode.new }) result }
+    ensures reads { (start : List (List ℕ)) (c : ℕ) (M : Parts)
+        → BlockAt languages start c (left iter.old) M → to_ascii_lowercase c ≡ 117
+        → BlockReads start (left iter.new)
+        (record M { unicode = unicode_value.value_of unicode.new }) result }
     ensures shorter { OnOk result (length (left iter.new) ≤ length (left iter.old)) }
 {
     fill_unicode(alloc, iter, unicode)?;
@@ -46,7 +49,10 @@ pub(crate) fn take_transform(
 ) -> Result<(), ParseError>
     requires lang { transform.old.lang ≡ None }
     requires fields { transform.old.fields ≡ [] }
-    ensures reads { (start : List (List ℕ)) (c : ℕ) (M : Parts) → BlockAt languages start c (left iter.old) M → to_ascii_lowercase c ≡ 116 → BlockReads start (left iter.new) (record M { transform = transform_value.value_of transform.new }) result }
+    ensures reads { (start : List (List ℕ)) (c : ℕ) (M : Parts)
+        → BlockAt languages start c (left iter.old) M → to_ascii_lowercase c ≡ 116
+        → BlockReads start (left iter.new)
+        (record M { transform = transform_value.value_of transform.new }) result }
     ensures shorter { OnOk result (length (left iter.new) ≤ length (left iter.old)) }
 {
     transform.fill(alloc, iter)?;
@@ -63,7 +69,9 @@ pub(crate) fn take_private(
     private: &mut Private,
 ) -> Result<(), ParseError>
     requires { private.old ≡ [] }
-    ensures reads { (start : List (List ℕ)) (c : ℕ) (M : Parts) → BlockAt languages start c (left iter.old) M → to_ascii_lowercase c ≡ 120 → BlockReads start (left iter.new) (record M { private = private.new }) result }
+    ensures reads { (start : List (List ℕ)) (c : ℕ) (M : Parts)
+        → BlockAt languages start c (left iter.old) M → to_ascii_lowercase c ≡ 120
+        → BlockReads start (left iter.new) (record M { private = private.new }) result }
     ensures shorter { OnOk result (length (left iter.new) ≤ length (left iter.old)) }
 {
     private.fill(alloc, iter)
@@ -78,7 +86,10 @@ pub(crate) fn take_other(
 ) -> Result<(), ParseError>
     requires other { is_other_singleton ext ≡ true }
     requires new { list_any (λ o. o.0 == ext) others.old.items ≡ false }
-    ensures reads { (start : List (List ℕ)) (c : ℕ) (M : Parts) → BlockAt languages start c (left iter.old) M → to_ascii_lowercase c ≡ ext → M.others ≡ others.old.items → BlockReads start (left iter.new) (record M { others = others.new.items }) result }
+    ensures reads { (start : List (List ℕ)) (c : ℕ) (M : Parts)
+        → BlockAt languages start c (left iter.old) M → to_ascii_lowercase c ≡ ext
+        → M.others ≡ others.old.items
+        → BlockReads start (left iter.new) (record M { others = others.new.items }) result }
     ensures shorter { OnOk result (length (left iter.new) ≤ length (left iter.old)) }
 {
     let other = Other::try_from_iter(alloc, ext, iter)?;

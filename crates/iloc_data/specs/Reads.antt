@@ -1,24 +1,19 @@
 -- What the reader of data locales answers, by cases on the whole answer. It takes no memory.
-use Rattle.std.specs.Prelude.{◌≡◌, ℕ, List, Result, Ok, Err, IfOk, IsOk}
+use Rattle.std.specs.Prelude.{◌≡◌, ℕ, List, Result, IfOk, IsOk}
 use Rattle.iloc_grammar.specs.Words.{languages, two_or_three}
 use Rattle.iloc_grammar.specs.Meaning as meaning
 use Rattle.iloc_grammar.specs.Meaning.{Means}
-use Rattle.iloc_grammar.specs.Faults as faults
 use Rattle.iloc_regions.specs.DataLocales as parts
 use Rattle.iloc_regions.specs.DataLocales.{DataMeans, HasDataFault, data_text}
 use Rattle.iloc_preferences_rules.specs.Preferences.{language_priority, preferences}
 use Rattle.iloc_subtags.specs.declared.parse_error.ParseError.{ParseError}
-use Rattle.iloc_subtags.specs.declared.parse_error.ParseError.TheVariants.{InvalidLanguage, InvalidSubtag, InvalidExtension, DuplicatedExtension, OutOfMemory}
+use Rattle.iloc_subtags.specs.Answers.{Answers, ButDuplicate}
 use Rattle.iloc_data.specs.declared.data_locale.DataLocale.{DataLocale}
 use Rattle.iloc_data.specs.DataValue.{value_of}
 
 abbrev pub DataReadsAs : List ℕ → Result DataLocale ParseError → Type 0
-DataReadsAs t (Ok d) = DataMeans languages t (value_of d)
-DataReadsAs t (Err InvalidLanguage) = HasDataFault languages t faults.InvalidLanguage
-DataReadsAs t (Err InvalidSubtag) = HasDataFault languages t faults.InvalidSubtag
-DataReadsAs t (Err InvalidExtension) = HasDataFault languages t faults.InvalidExtension
-DataReadsAs t (Err DuplicatedExtension) = ⊥
-DataReadsAs t (Err OutOfMemory) = ⊥
+DataReadsAs t = Answers (λ d. DataMeans languages t (value_of d))
+    (ButDuplicate (HasDataFault languages t)) ⊥
 
 -- all that is promised of the answer on a text: each clause of `try_from_str`
 pub record IsDataAnswer (t : List ℕ) (r : Result DataLocale ParseError) : Type 0 where

@@ -47,7 +47,8 @@ impl PartialEq for DataLocale {
     #[tactic(auto, using(crate::proofs::EqualityLemmas::same_key_decides))]
     fn eq(&self, other: &Self) -> bool
         ensures value { result ≡ same_key self.now other.now }
-        ensures equality { IsTrue result ↔ (data_key (value_of self.now) ≡ data_key (value_of other.now)) }
+        ensures equality { IsTrue result
+            ↔ (data_key (value_of self.now) ≡ data_key (value_of other.now)) }
     {
         self.total_cmp(other).is_eq()
     }

@@ -29,7 +29,8 @@ impl DataLocale {
         ensures parts { locale_value result ≡ locale_of_data (value_of self) }
         ensures text { text (locale_value result) ≡ data_text (value_of self) }
         ensures well_formed { IsWellFormed (locale_value result) }
-        ensures only { (M : meaning.Locale) → IsValue languages M → IsWellFormed M → text M ≡ data_text (value_of self) → M ≡ locale_value result }
+        ensures only { (M : meaning.Locale) → IsValue languages M → IsWellFormed M
+            → text M ≡ data_text (value_of self) → M ≡ locale_value result }
     {
         look_at_data_locale(&self);
         self.as_locale(alloc)
@@ -78,7 +79,8 @@ impl From<&Locale> for DataLocale {
     ghost use Rattle.iloc_preferences_rules.specs.Preferences.{language_priority, preferences};
     ghost use Rattle.iloc_data.specs.DataValue.{value_of};
 
-    ghost from_gives = { λ locale d. value_of d ≡ language_priority (preferences (locale_value locale.now)) };
+    ghost from_gives = { λ locale d. value_of d
+        ≡ language_priority (preferences (locale_value locale.now)) };
 
     fn from(locale: &Locale) -> Self {
         LocalePreferences::from(locale).to_data_locale_language_priority()
@@ -92,7 +94,8 @@ impl From<Locale> for DataLocale {
     ghost use Rattle.iloc_preferences_rules.specs.Preferences.{language_priority, preferences};
     ghost use Rattle.iloc_data.specs.DataValue.{value_of};
 
-    ghost from_gives = { λ locale d. value_of d ≡ language_priority (preferences (locale_value locale)) };
+    ghost from_gives = { λ locale d. value_of d
+        ≡ language_priority (preferences (locale_value locale)) };
 
     fn from(locale: Locale) -> Self {
         DataLocale::from(&locale)

@@ -60,12 +60,14 @@ impl DataLocale {
     /// is not `sd` with a readable subdivision; and with `InvalidSubtag` everything else.
     pub fn try_from_utf8(code_units: &[u8]) -> Result<Self, ParseError>
         ensures reads { DataReadsAs code_units.now result }
-        ensures back { IfOk result (λ d. DataMeans languages (data_text (value_of d)) (value_of d)) }
+        ensures back { IfOk result
+            (λ d. DataMeans languages (data_text (value_of d)) (value_of d)) }
         ensures converted { IfOk result (λ d. (M : meaning.Locale)
             → Means languages code_units.now M → value_of d ≡ language_priority (preferences M)) }
         ensures narrow { (d : parts.DataLocale) → DataMeans two_or_three code_units.now d
             → IfOk result (λ e. value_of e ≡ d) }
-        ensures narrow_accepted { (d : parts.DataLocale) → DataMeans two_or_three code_units.now d → IsOk result }
+        ensures narrow_accepted { (d : parts.DataLocale) → DataMeans two_or_three code_units.now d
+            → IsOk result }
     {
         let (language, script, region, variant, keyword) = read_small_locale(code_units)?;
         let part = part_of(region, keyword)?;
@@ -75,12 +77,14 @@ impl DataLocale {
     /// The same of text.
     pub fn try_from_str(s: &str) -> Result<Self, ParseError>
         ensures reads { DataReadsAs s.now result }
-        ensures back { IfOk result (λ d. DataMeans languages (data_text (value_of d)) (value_of d)) }
+        ensures back { IfOk result
+            (λ d. DataMeans languages (data_text (value_of d)) (value_of d)) }
         ensures converted { IfOk result (λ d. (M : meaning.Locale)
             → Means languages s.now M → value_of d ≡ language_priority (preferences M)) }
         ensures narrow { (d : parts.DataLocale) → DataMeans two_or_three s.now d
             → IfOk result (λ e. value_of e ≡ d) }
-        ensures narrow_accepted { (d : parts.DataLocale) → DataMeans two_or_three s.now d → IsOk result }
+        ensures narrow_accepted { (d : parts.DataLocale) → DataMeans two_or_three s.now d
+            → IsOk result }
     {
         DataLocale::try_from_utf8(s.as_bytes())
     }
@@ -103,7 +107,8 @@ impl DataLocale {
         part: Option<SubdivisionId>,
         variant: Option<Variant>,
     ) -> Self
-        ensures { value_of result ≡ parts.made_of language script (option_map subdivision_of part) variant }
+        ensures { value_of result
+            ≡ parts.made_of language script (option_map subdivision_of part) variant }
     {
         let (region, subdivision) = match part {
             Some(id) => (Some(id.region), Some(id.into_subtag())),

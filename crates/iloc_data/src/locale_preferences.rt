@@ -1,7 +1,17 @@
 //! What locales say of language, script, region and variant: how it is read, extended, and made a data locale.
 ghost use Rattle.std.specs.Prelude.{◌≡◌, true, false, MatchResult};
 ghost use Rattle.iloc_locale.specs.LocaleValue.{value_of as locale_value};
-ghost use Rattle.iloc_preferences_rules.specs.Preferences.{Preferences, preferences, default_preferences, is_strict, merge, merge_language, merge_region, language_priority, region_priority};
+ghost use Rattle.iloc_preferences_rules.specs.Preferences.{
+  Preferences,
+  preferences,
+  default_preferences,
+  is_strict,
+  merge,
+  merge_language,
+  merge_region,
+  language_priority,
+  region_priority,
+};
 ghost use Rattle.iloc_data.specs.DataValue.{value_of as data_of};
 
 use crate::data_locale::DataLocale;
@@ -29,9 +39,21 @@ impl Model for LocalePreferences {
 
     ghost Value = { Preferences };
 
-    ghost view = { λ p. record { language = p.language; script = p.script; region = p.region; variant = p.variant; region_override = p.region_override } };
+    ghost view = { λ p. record {
+      language = p.language;
+      script = p.script;
+      region = p.region;
+      variant = p.variant;
+      region_override = p.region_override;
+    } };
 
-    ghost inverse = { λ p. record { language = p.language; script = p.script; region = p.region; variant = p.variant; region_override = p.region_override } };
+    ghost inverse = { λ p. record {
+      language = p.language;
+      script = p.script;
+      region = p.region;
+      variant = p.variant;
+      region_override = p.region_override;
+    } };
 }
 
 impl LocalePreferences {
@@ -51,8 +73,10 @@ impl LocalePreferences {
     /// The preferences of a locale. `Err` holds the same preferences where `sd` or `rg` is there and can't be read,
     /// or where `sd` is of another region than the locale's.
     pub fn from_locale_strict(loc: &Locale) -> Result<Self, Self>
-        ensures value { MatchResult result (λ p. p ≡ preferences (locale_value loc.now)) (λ p. p ≡ preferences (locale_value loc.now)) }
-        ensures strict { MatchResult result (λ _. is_strict (locale_value loc.now) ≡ true) (λ _. is_strict (locale_value loc.now) ≡ false) }
+        ensures value { MatchResult result (λ p. p ≡ preferences (locale_value loc.now))
+            (λ p. p ≡ preferences (locale_value loc.now)) }
+        ensures strict { MatchResult result (λ _. is_strict (locale_value loc.now) ≡ true)
+            (λ _. is_strict (locale_value loc.now) ≡ false) }
     {
         let (subdivision, is_subdivision_readable) = keyword::<RegionalSubdivisionKind>(loc);
         let (region_override, is_override_readable) = keyword(loc);

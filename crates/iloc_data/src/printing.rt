@@ -35,7 +35,8 @@ impl Writeable for DataLocale {
 
     ghost text = { λ d. data_text (value_of d) };
 
-    ghost lends = { λ d. (d.script ≡ None) × (d.region ≡ None) × (d.variant ≡ None) × (d.subdivision ≡ None) };
+    ghost lends = { λ d. (d.script ≡ None) × (d.region ≡ None) × (d.variant ≡ None)
+        × (d.subdivision ≡ None) };
 
     #[tactic(auto, unfolding(iloc_grammar::specs::Pieces::join))]
     fn write_to<S: Sink>(&self, sink: &mut S) -> fmt::Result {

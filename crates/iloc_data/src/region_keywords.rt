@@ -15,7 +15,8 @@ pub(crate) fn keyword<K: SubdivisionKeywordKind>(
     locale: &Locale,
 ) -> (Option<SubdivisionKeyword<K>>, bool)
     ensures value { result.0 ≡ read_keyword subdivision_reads K.key_text (locale_value locale.now) }
-    ensures readable { result.1 ≡ is_readable subdivision_reads K.key_text (locale_value locale.now) }
+    ensures readable { result.1
+        ≡ is_readable subdivision_reads K.key_text (locale_value locale.now) }
 {
     match locale.extensions.unicode.keywords.get(&K::key()) {
         Some(value) => match SubdivisionKeyword::<K>::try_from(value) {

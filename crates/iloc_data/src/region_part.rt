@@ -1,7 +1,22 @@
 //! What a region and a subdivision stand for together.
-ghost use Rattle.std.specs.Prelude.{◌≡◌, ◌↔◌, IsTrue, true, MatchResult, codes, option_map, Some, None};
+ghost use Rattle.std.specs.Prelude.{
+  ◌≡◌,
+  ◌↔◌,
+  IsTrue,
+  true,
+  MatchResult,
+  codes,
+  option_map,
+  Some,
+  None,
+};
 ghost use Rattle.iloc_regions.specs.DataLocales as parts;
-ghost use Rattle.iloc_regions.specs.DataLocales.{named_subdivision, small_part, subdivision_keyword, subdivision_value};
+ghost use Rattle.iloc_regions.specs.DataLocales.{
+  named_subdivision,
+  small_part,
+  subdivision_keyword,
+  subdivision_value,
+};
 ghost use Rattle.iloc_preferences_rules.specs.Preferences.{preferred_region, same_region};
 ghost use Rattle.iloc_subdivision.specs.Reads.{value_of as subdivision_of};
 ghost use Rattle.iloc_data.specs.DataValue.{value_of};
@@ -67,7 +82,8 @@ pub(crate) fn preferred(
     region: Option<Region>,
     id: Option<SubdivisionId>,
 ) -> (Option<SubdivisionId>, bool)
-    ensures part { option_map subdivision_of result.0 ≡ preferred_region region (option_map subdivision_of id) }
+    ensures part { option_map subdivision_of result.0
+        ≡ preferred_region region (option_map subdivision_of id) }
     ensures agrees { result.1 ≡ same_region region (option_map subdivision_of id) }
 {
     let Some(id) = id else {
@@ -84,7 +100,9 @@ pub(crate) fn part_of(
     region: Option<Region>,
     keyword: Option<SmallKeyword>,
 ) -> Result<Option<SubdivisionId>, ParseError>
-    ensures { MatchResult result (λ part. small_part region keyword ≡ Some (option_map subdivision_of part)) (λ e. (e ≡ ParseError.InvalidExtension) × (small_part region keyword ≡ None)) }
+    ensures { MatchResult result
+        (λ part. small_part region keyword ≡ Some (option_map subdivision_of part))
+        (λ e. (e ≡ ParseError.InvalidExtension) × (small_part region keyword ≡ None)) }
 {
     let Some((key, value)) = keyword else {
         return Ok(region.map(whole_region));

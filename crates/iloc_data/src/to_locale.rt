@@ -3,7 +3,15 @@ ghost use Rattle.std.specs.Prelude.{◌≡◌, ◌≤◌, ◌++◌, true, length
 ghost use Rattle.iloc_grammar.specs.Values.{IsWellFormed};
 ghost use Rattle.iloc_locale.specs.LocaleValue.{value_of as locale_value};
 ghost use Rattle.iloc_regions.specs.DataLocales.{sd};
-ghost use Rattle.iloc_preferences_rules.specs.Preferences.{SpellsNoTrue, preferences, is_strict, rg, sd_entry, rg_entry, locale_of_preferences};
+ghost use Rattle.iloc_preferences_rules.specs.Preferences.{
+  SpellsNoTrue,
+  preferences,
+  is_strict,
+  rg,
+  sd_entry,
+  rg_entry,
+  locale_of_preferences,
+};
 ghost use Rattle.iloc_data.specs.WithKeywords.{entry};
 
 use crate::locale_preferences::LocalePreferences;
@@ -24,11 +32,15 @@ impl LocalePreferences {
     /// spells `true`, which is no value of a keyword.
     pub fn to_locale(self, alloc: Global) -> Result<Locale, AllocError>
         ensures value { IfOk result (λ locale. locale_value locale ≡ locale_of_preferences self) }
-        ensures succeeds { length (rg_entry self.region_override ++ sd_entry self.region) ≤ 1 → IsOk result }
+        ensures succeeds { length (rg_entry self.region_override ++ sd_entry self.region) ≤ 1
+            → IsOk result }
         ensures well_formed { IfOk result (λ locale. IsWellFormed (locale_value locale)) }
-        ensures back { SpellsNoTrue self → IfOk result (λ locale. preferences (locale_value locale) ≡ self) }
-        ensures strict { SpellsNoTrue self → IfOk result (λ locale. is_strict (locale_value locale) ≡ true) }
-        ensures only { IfOk result (λ locale. preferences (locale_value locale) ≡ self → SpellsNoTrue self) }
+        ensures back { SpellsNoTrue self
+            → IfOk result (λ locale. preferences (locale_value locale) ≡ self) }
+        ensures strict { SpellsNoTrue self
+            → IfOk result (λ locale. is_strict (locale_value locale) ≡ true) }
+        ensures only { IfOk result
+            (λ locale. preferences (locale_value locale) ≡ self → SpellsNoTrue self) }
     {
         look_at_preferences(&self);
         let keywords = keywords_of(
@@ -49,7 +61,8 @@ fn keywords_of(
     region_override: Option<Value>,
     subdivision: Option<Value>,
 ) -> Result<Keywords, AllocError>
-    ensures value { IfOk result (λ keywords. keywords ≡ entry rg region_override ++ entry sd subdivision) }
+    ensures value { IfOk result
+        (λ keywords. keywords ≡ entry rg region_override ++ entry sd subdivision) }
     ensures succeeds { length (entry rg region_override ++ entry sd subdivision) ≤ 1 → IsOk result }
 {
     let mut keywords = Keywords::new();

@@ -71,7 +71,8 @@ impl Extensions {
 
     /// The order by unicode, transform, private as a short list, and then the others one by one.
     pub fn total_cmp(&self, other: &Self) -> Ordering
-        ensures { result ≡ extensions_cmp (compared (value_of self.now)) (compared (value_of other.now)) }
+        ensures { result
+            ≡ extensions_cmp (compared (value_of self.now)) (compared (value_of other.now)) }
     {
         self.unicode
             .total_cmp(&other.unicode)
@@ -100,7 +101,8 @@ impl Extensions {
         self.other.retain(
             move |other: &Other| -> bool
                 requires { F.IsAlwaysCallable predicate }
-                ensures asked { F.step predicate.entry (ExtensionType.Other other.now.0) result predicate.exit }
+                ensures asked { F.step predicate.entry (ExtensionType.Other other.now.0) result
+                    predicate.exit }
                 ensures callable { F.IsAlwaysCallable predicate.exit }
             { predicate(ExtensionType::Other(other.get_ext_byte())) },
         );

@@ -20,10 +20,12 @@ pub use extensions::Extensions;
 
 /// The kinds stand in the order of the definitions: `t`, `u`, `x`, and then the others by their singletons.
 pub fn orders()
-    ensures { (a b : ExtensionType) → ⟦<ExtensionType as Ord>⟧.cmp a b ≡ kind_cmp (kind_of a) (kind_of b) }
+    ensures { (a b : ExtensionType)
+        → ⟦<ExtensionType as Ord>⟧.cmp a b ≡ kind_cmp (kind_of a) (kind_of b) }
 {}
 
 /// `==` answers whether the two stand for the same.
 pub fn equality()
-    ensures { (d e : Extensions) → IsTrue (⟦<Extensions as PartialEq>⟧.eq d e) ↔ (value_of d ≡ value_of e) }
+    ensures { (d e : Extensions)
+        → IsTrue (⟦<Extensions as PartialEq>⟧.eq d e) ↔ (value_of d ≡ value_of e) }
 {}

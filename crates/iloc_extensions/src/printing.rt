@@ -1,6 +1,11 @@
 //! Prints extensions.
 ghost use Rattle.std.specs.Prelude.{◌≡◌, Some};
-ghost use Rattle.iloc_grammar.specs.Values.{extensions_spelling, extensions_text, before_t, after_t};
+ghost use Rattle.iloc_grammar.specs.Values.{
+  extensions_spelling,
+  extensions_text,
+  before_t,
+  after_t,
+};
 
 use crate::extensions::Extensions;
 use iloc_other::{Other, Private};
@@ -37,6 +42,9 @@ impl Pieces for Extensions {
 
     #[tactic(auto, unfolding(iloc_grammar::specs::Values::extensions_spelling))]
     fn write_pieces<S: Sink>(&self, sink: &mut S, first: bool) -> fmt::Result {
+        if self.is_empty() {
+            return Ok(());
+        }
         self.parts().write_pieces(sink, first)
     }
 }

@@ -1,7 +1,8 @@
 //! What the readers of single parts take from the front of a text, and meaning told by these readers.
 //!
 //! For the parts of `u`, `t`, other singletons and `x` a relation says what is read and what is left, and another when
-//! nothing is; each is proved to have one answer, and to agree with the rules of blocks where nothing is left. So a
+//! nothing is; each is proved to have one answer, and those of `u`, `t` and other singletons to agree with the rules of blocks where
+//! nothing is left. So a
 //! text means a locale exactly where the reader of each part reads the whole of its block as that part of the locale,
 //! which is how a reader of locales composes them. Plain programs read parts, also with their singletons. It stands
 //! on `iloc_grammar`.

@@ -1,13 +1,23 @@
 //! What the types of this library feed a hasher.
 //!
 //! Each call hashes a value by the `Hash` of its type, and promises that what it feeds is what the definitions say. By
-//! the laws `hashes` and `data_hashes` that is alike for equal values alone, of data locales for those that are
-//! equal. Users call `hash` itself.
+//! the laws `hashes` and `data_hashes` that is alike for equal values alone (of fewer than 2^64 writes), of data
+//! locales for those that are equal. Users call `hash` itself.
 //! It stands on the crates of the types, on `iloc_orders` and `iloc_regions`.
 #![tactic(auto)]
 
 ghost use Rattle.std.specs.Prelude.{◌≡◌, fold};
-ghost use Rattle.iloc_orders.specs.Hashes.{word_fed, words_fed, identifier_fed, fields_fed, unicode_fed, transform_fed, other_fed, extensions_fed, locale_fed};
+ghost use Rattle.iloc_orders.specs.Hashes.{
+  word_fed,
+  words_fed,
+  identifier_fed,
+  fields_fed,
+  unicode_fed,
+  transform_fed,
+  other_fed,
+  extensions_fed,
+  locale_fed,
+};
 ghost use Rattle.iloc_regions.specs.DataHashes.{subdivision_fed, data_locale_fed};
 ghost use Rattle.iloc_langid.specs.Reads as identifiers;
 ghost use Rattle.iloc_unicode.specs.UnicodeValue as unicode_parts;

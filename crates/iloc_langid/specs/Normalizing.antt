@@ -5,11 +5,10 @@ use Rattle.iloc_grammar.specs.Words.{languages}
 use Rattle.iloc_grammar.specs.Written.{Identifier}
 use Rattle.iloc_grammar.specs.Meaning.{IdentifierMeans}
 use Rattle.iloc_grammar.specs.Values.{identifier_text}
-use Rattle.iloc_grammar.specs.Faults as faults
 use Rattle.iloc_grammar.specs.Faults.{HasIdentifierFault}
 use Rattle.iloc_grammar.specs.Steps.{IdentifierChain, IdentifierTextStep, LeadToOne}
 use Rattle.iloc_subtags.specs.declared.parse_error.ParseError.{ParseError}
-use Rattle.iloc_subtags.specs.declared.parse_error.ParseError.TheVariants.{InvalidLanguage, InvalidSubtag, InvalidExtension, DuplicatedExtension, OutOfMemory}
+use Rattle.iloc_subtags.specs.Answers.{Refusal, OfIdentifier}
 use Rattle.iloc_langid.specs.Reads.{WantsMemory}
 
 -- t is the text of what u means
@@ -32,8 +31,7 @@ pub record IsNormalizedFrom (input t : List ℕ) : Type 0 where
 
 -- Why there is none. Memory is wanted only where the reader wants it, or where the input is accepted and isn't normal.
 abbrev pub RefusesNormalizing : List ℕ → ParseError → Type 0
-RefusesNormalizing t InvalidLanguage = HasIdentifierFault languages (pieces t) faults.InvalidLanguage
-RefusesNormalizing t InvalidSubtag = HasIdentifierFault languages (pieces t) faults.InvalidSubtag
-RefusesNormalizing t InvalidExtension = ⊥
-RefusesNormalizing t DuplicatedExtension = ⊥
-RefusesNormalizing t OutOfMemory = WantsMemory (pieces t) ⊎ ((i : Identifier) × IdentifierMeans languages (pieces t) i × ¬ (t ≡ identifier_text i))
+RefusesNormalizing t = Refusal
+    (OfIdentifier (HasIdentifierFault languages (pieces t)))
+    (WantsMemory (pieces t)
+    ⊎ ((i : Identifier) × IdentifierMeans languages (pieces t) i × ¬ (t ≡ identifier_text i)))

@@ -1,9 +1,8 @@
 -- What the readers of identifiers answer.
-use Rattle.std.specs.Prelude.{◌≡◌, ℕ, ◌<◌, false, List, length, map, Result, Ok, Err, IfOk, IfErr}
+use Rattle.std.specs.Prelude.{◌≡◌, ℕ, ◌<◌, false, List, length, map, Result, IfOk, IfErr}
 use Rattle.iloc_grammar.specs.Words.{Language, Variant, is_word, IsWord, lower, word_cmp, languages, two_or_three}
 use Rattle.iloc_grammar.specs.Written.{Identifier, AllDifferent}
 use Rattle.iloc_grammar.specs.Meaning.{IdentifierMeans, normal_identifier, set_of}
-use Rattle.iloc_grammar.specs.Faults as faults
 use Rattle.iloc_grammar.specs.Faults.{HasIdentifierFault}
 use Rattle.iloc_grammar.specs.Blocks.{first_piece}
 use Rattle.iloc_grammar.specs.Reading.{IdentifierFront}
@@ -11,7 +10,8 @@ use Rattle.iloc_grammar.specs.Pieces.{pieces}
 use Rattle.iloc_grammar.specs.Steps.{IdentifierChain}
 use Rattle.iloc_grammar.specs.Reading.{passing, past, front_of, after_front}
 use Rattle.iloc_subtags.specs.declared.parse_error.ParseError.{ParseError}
-use Rattle.iloc_subtags.specs.declared.parse_error.ParseError.TheVariants.{InvalidLanguage, InvalidSubtag, InvalidExtension, DuplicatedExtension, OutOfMemory}
+use Rattle.iloc_subtags.specs.Answers.{Answers, SubtagFault, IdentifierFaults, OfIdentifier}
+use Rattle.iloc_subtags.specs.declared.parse_error.ParseError.TheVariants.{OutOfMemory}
 use Rattle.iloc_langid.specs.declared.identifier.LanguageIdentifier.{LanguageIdentifier}
 
 -- the value of an identifier
@@ -25,12 +25,8 @@ WantsMemory ps = IsWord (Language languages) (first_piece ps) × (4 < length (fr
 
 -- what the pieces are read as, as a whole identifier
 abbrev pub ReadsAs : List (List ℕ) → Result LanguageIdentifier ParseError → Type 0
-ReadsAs ps (Ok i) = IdentifierMeans languages ps (value_of i)
-ReadsAs ps (Err InvalidLanguage) = HasIdentifierFault languages ps faults.InvalidLanguage
-ReadsAs ps (Err InvalidSubtag) = HasIdentifierFault languages ps faults.InvalidSubtag
-ReadsAs ps (Err InvalidExtension) = ⊥
-ReadsAs ps (Err DuplicatedExtension) = ⊥
-ReadsAs ps (Err OutOfMemory) = WantsMemory ps
+ReadsAs ps = Answers (λ i. IdentifierMeans languages ps (value_of i))
+    (OfIdentifier (HasIdentifierFault languages ps)) (WantsMemory ps)
 
 -- what the table of two or three letters accepts is read with the same value, unless memory is wanted
 abbrev pub KeepsNarrow : List ℕ → Result LanguageIdentifier ParseError → Type 0
@@ -45,27 +41,31 @@ KeepsThroughSteps t r = IfOk r (λ i. (n : ℕ) (u : List ℕ) → IdentifierCha
 
 -- what a longest front is read as, and the pieces that are left after it
 abbrev pub FrontReadsAs : List (List ℕ) → List (List ℕ) → Result LanguageIdentifier ParseError → Type 0
-FrontReadsAs ps rest (Ok i) = (w : Identifier) × IdentifierFront languages ps w rest × AllDifferent word_cmp (map lower w.variants) × (value_of i ≡ normal_identifier w)
-FrontReadsAs ps rest (Err InvalidLanguage) = is_word (Language languages) (first_piece ps) ≡ false
-FrontReadsAs ps rest (Err InvalidSubtag) = (w : Identifier) × (more : List (List ℕ)) × IdentifierFront languages ps w more × ¬ (AllDifferent word_cmp (map lower w.variants))
-FrontReadsAs ps rest (Err InvalidExtension) = ⊥
-FrontReadsAs ps rest (Err DuplicatedExtension) = ⊥
-FrontReadsAs ps rest (Err OutOfMemory) = (w : Identifier) × (more : List (List ℕ)) × IdentifierFront languages ps w more × (4 < length w.variants)
+FrontReadsAs ps rest = Answers
+    (λ i. (w : Identifier) × IdentifierFront languages ps w rest
+    × AllDifferent word_cmp (map lower w.variants) × (value_of i ≡ normal_identifier w))
+    (IdentifierFaults (is_word (Language languages) (first_piece ps) ≡ false)
+    ((w : Identifier) × (more : List (List ℕ)) × IdentifierFront languages ps w more
+    × ¬ (AllDifferent word_cmp (map lower w.variants))))
+    ((w : Identifier) × (more : List (List ℕ)) × IdentifierFront languages ps w more
+    × (4 < length w.variants))
 
 -- the same by the reading from the left
 abbrev pub FrontGives : List (List ℕ) → List (List ℕ) → Result LanguageIdentifier ParseError → Type 0
-FrontGives ps rest (Ok i) = IsWord (Language languages) (first_piece ps) × AllDifferent word_cmp (map lower (front_of ps).variants) × (value_of i ≡ normal_identifier (front_of ps)) × (rest ≡ after_front ps)
-FrontGives ps rest (Err InvalidLanguage) = is_word (Language languages) (first_piece ps) ≡ false
-FrontGives ps rest (Err InvalidSubtag) = IsWord (Language languages) (first_piece ps) × ¬ (AllDifferent word_cmp (map lower (front_of ps).variants))
-FrontGives ps rest (Err InvalidExtension) = ⊥
-FrontGives ps rest (Err DuplicatedExtension) = ⊥
-FrontGives ps rest (Err OutOfMemory) = IsWord (Language languages) (first_piece ps) × (4 < length (front_of ps).variants)
+FrontGives ps rest = Answers
+    (λ i. IsWord (Language languages) (first_piece ps)
+    × AllDifferent word_cmp (map lower (front_of ps).variants)
+    × (value_of i ≡ normal_identifier (front_of ps)) × (rest ≡ after_front ps))
+    (IdentifierFaults (is_word (Language languages) (first_piece ps) ≡ false)
+    (IsWord (Language languages) (first_piece ps)
+    × ¬ (AllDifferent word_cmp (map lower (front_of ps).variants))))
+    (WantsMemory ps)
 
 -- what the variants at the front are read as, and the pieces that are left
 abbrev pub VariantsGive : List (List ℕ) → List (List ℕ) → Result (List (List ℕ)) ParseError → Type 0
-VariantsGive ps rest (Ok vs) = (vs ≡ set_of (map lower (passing (is_word Variant) ps))) × AllDifferent word_cmp (map lower (passing (is_word Variant) ps)) × (rest ≡ past (is_word Variant) ps)
-VariantsGive ps rest (Err InvalidSubtag) = ¬ (AllDifferent word_cmp (map lower (passing (is_word Variant) ps)))
-VariantsGive ps rest (Err OutOfMemory) = 4 < length (passing (is_word Variant) ps)
-VariantsGive ps rest (Err InvalidLanguage) = ⊥
-VariantsGive ps rest (Err InvalidExtension) = ⊥
-VariantsGive ps rest (Err DuplicatedExtension) = ⊥
+VariantsGive ps rest = Answers
+    (λ vs. (vs ≡ set_of (map lower (passing (is_word Variant) ps)))
+    × AllDifferent word_cmp (map lower (passing (is_word Variant) ps))
+    × (rest ≡ past (is_word Variant) ps))
+    (SubtagFault (¬ (AllDifferent word_cmp (map lower (passing (is_word Variant) ps)))))
+    (4 < length (passing (is_word Variant) ps))

@@ -1,12 +1,11 @@
 -- What the readers of identifiers with at most one variant answer.
-use Rattle.std.specs.Prelude.{◌≡◌, ℕ, false, List, Option, option_map, Result, Ok, Err}
+use Rattle.std.specs.Prelude.{◌≡◌, ℕ, false, List, Option, option_map, Result}
 use Rattle.iloc_grammar.specs.Words.{Language, Script, Region, Variant, is_word, IsWord, lower, title, upper, languages}
-use Rattle.iloc_grammar.specs.Faults as faults
 use Rattle.iloc_grammar.specs.Blocks.{first_piece}
 use Rattle.iloc_grammar.specs.Reading.{take_first, skip_first, rest_of, after_script, after_region}
 use Rattle.iloc_small.specs.Small.{SmallIdentifier, IsSmallIdentifier, HasSmallIdentifierFault}
 use Rattle.iloc_subtags.specs.declared.parse_error.ParseError.{ParseError}
-use Rattle.iloc_subtags.specs.declared.parse_error.ParseError.TheVariants.{InvalidLanguage, InvalidSubtag, InvalidExtension, DuplicatedExtension, OutOfMemory}
+use Rattle.iloc_subtags.specs.Answers.{Answers, LanguageFault, OfIdentifier}
 
 -- a language, and perhaps a script, a region and a variant
 abbrev pub Parts : Type 0
@@ -17,12 +16,8 @@ small_of p = record { language = p.0; script = p.1; region = p.2; variant = p.3 
 
 -- what the pieces are read as, as a whole; it takes no memory
 abbrev pub SmallReadsAs : List (List ℕ) → Result Parts ParseError → Type 0
-SmallReadsAs ps (Ok p) = IsSmallIdentifier languages ps (small_of p)
-SmallReadsAs ps (Err InvalidLanguage) = HasSmallIdentifierFault languages ps faults.InvalidLanguage
-SmallReadsAs ps (Err InvalidSubtag) = HasSmallIdentifierFault languages ps faults.InvalidSubtag
-SmallReadsAs ps (Err InvalidExtension) = ⊥
-SmallReadsAs ps (Err DuplicatedExtension) = ⊥
-SmallReadsAs ps (Err OutOfMemory) = ⊥
+SmallReadsAs ps = Answers (λ p. IsSmallIdentifier languages ps (small_of p))
+    (OfIdentifier (HasSmallIdentifierFault languages ps)) ⊥
 
 -- the parts that stand at the front, each where it fits
 abbrev pub front_parts : List (List ℕ) → Parts
@@ -39,9 +34,8 @@ after_parts ps = skip_first (is_word Variant) (after_region ps)
 
 -- what the front is read as, and what is left
 abbrev pub SmallFrontGives : List (List ℕ) → List (List ℕ) → Result Parts ParseError → Type 0
-SmallFrontGives ps rest (Ok p) = IsWord (Language languages) (first_piece ps) × (p ≡ front_parts ps) × (rest ≡ after_parts ps)
-SmallFrontGives ps rest (Err InvalidLanguage) = is_word (Language languages) (first_piece ps) ≡ false
-SmallFrontGives ps rest (Err InvalidSubtag) = ⊥
-SmallFrontGives ps rest (Err InvalidExtension) = ⊥
-SmallFrontGives ps rest (Err DuplicatedExtension) = ⊥
-SmallFrontGives ps rest (Err OutOfMemory) = ⊥
+SmallFrontGives ps rest = Answers
+    (λ p. IsWord (Language languages) (first_piece ps) × (p ≡ front_parts ps)
+    × (rest ≡ after_parts ps))
+    (LanguageFault (is_word (Language languages) (first_piece ps) ≡ false))
+    ⊥

@@ -3,11 +3,10 @@ use Rattle.std.specs.Prelude.{◌≡◌, ◌↔◌, ◌⊎◌, ℕ, ◌≤◌, L
 use Rattle.iloc_grammar.specs.Words.{languages}
 use Rattle.iloc_grammar.specs.Meaning.{Locale, Means}
 use Rattle.iloc_grammar.specs.Values.{text}
-use Rattle.iloc_grammar.specs.Faults as faults
 use Rattle.iloc_grammar.specs.Faults.{HasFault}
 use Rattle.iloc_grammar.specs.Steps.{TextStep, Chain, LeadToOne}
 use Rattle.iloc_subtags.specs.declared.parse_error.ParseError.{ParseError}
-use Rattle.iloc_subtags.specs.declared.parse_error.ParseError.TheVariants.{InvalidLanguage, InvalidSubtag, InvalidExtension, DuplicatedExtension, OutOfMemory}
+use Rattle.iloc_subtags.specs.Answers.{Refusal}
 use Rattle.iloc_locale.specs.Reads.{WantsMemory}
 
 -- t is the text of what u means
@@ -31,8 +30,5 @@ pub record IsNormalizedFrom (input t : List ℕ) : Type 0 where
 
 -- Why there is none. Memory is wanted only where the reader wants it, or where the input is accepted and isn't normal.
 abbrev pub RefusesNormalizing : List ℕ → ParseError → Type 0
-RefusesNormalizing t InvalidLanguage = HasFault languages t faults.InvalidLanguage
-RefusesNormalizing t InvalidSubtag = HasFault languages t faults.InvalidSubtag
-RefusesNormalizing t InvalidExtension = HasFault languages t faults.InvalidExtension
-RefusesNormalizing t DuplicatedExtension = HasFault languages t faults.DuplicatedExtension
-RefusesNormalizing t OutOfMemory = WantsMemory t ⊎ ((M : Locale) × Means languages t M × ¬ (t ≡ text M))
+RefusesNormalizing t = Refusal (HasFault languages t)
+    (WantsMemory t ⊎ ((M : Locale) × Means languages t M × ¬ (t ≡ text M)))

@@ -10,6 +10,7 @@ use Rattle.iloc_grammar.specs.Blocks.{first_piece, head, tail_blocks}
 use Rattle.iloc_small.specs.InlineBlocks.{ReachesLongBlock}
 use Rattle.iloc_langid.specs.Reads as langid
 use Rattle.iloc_subtags.specs.declared.parse_error.ParseError.{ParseError}
+use Rattle.iloc_subtags.specs.Answers.{Answers}
 use Rattle.iloc_subtags.specs.declared.parse_error.ParseError.TheVariants.{InvalidLanguage, InvalidSubtag, InvalidExtension, DuplicatedExtension, OutOfMemory}
 use Rattle.iloc_locale.specs.declared.locale.Locale.{Locale}
 use Rattle.iloc_locale.specs.LocaleValue.{value_of}
@@ -23,12 +24,7 @@ WantsMemory t =
 
 -- what the text is read as: the value that it means, or the fault that the grammar names
 abbrev pub LocaleReadsAs : List ℕ → Result Locale ParseError → Type 0
-LocaleReadsAs t (Ok l) = Means languages t (value_of l)
-LocaleReadsAs t (Err InvalidLanguage) = HasFault languages t faults.InvalidLanguage
-LocaleReadsAs t (Err InvalidSubtag) = HasFault languages t faults.InvalidSubtag
-LocaleReadsAs t (Err InvalidExtension) = HasFault languages t faults.InvalidExtension
-LocaleReadsAs t (Err DuplicatedExtension) = HasFault languages t faults.DuplicatedExtension
-LocaleReadsAs t (Err OutOfMemory) = WantsMemory t
+LocaleReadsAs t = Answers (λ l. Means languages t (value_of l)) (HasFault languages t) (WantsMemory t)
 
 -- the answer to a text that means M: its locale, or want of memory
 abbrev pub Accepts : meaning.Locale → Result Locale ParseError → Type 0

@@ -34,7 +34,8 @@ impl Locale {
 
     /// Whether the text is a locale that means this one. It reads the text, and so may want memory.
     pub fn normalizing_eq(&self, alloc: Global, other: &str) -> Result<bool, AllocError>
-        ensures { IfOk result (λ same. IsTrue same ↔ Means languages other.now (value_of self.now)) }
+        ensures { IfOk result
+            (λ same. IsTrue same ↔ Means languages other.now (value_of self.now)) }
     {
         match Locale::try_from_str(alloc, other) {
             Ok(locale) => Ok(self.total_cmp(&locale).is_eq()),

@@ -31,28 +31,52 @@ impl Locale {
 
     /// The language alone.
     pub fn from_language(alloc: Global, language: Language) -> Self
-        ensures { value_of result ≡ locale_of (record { language = language; script = None; region = None; variants = [] }) none }
+        ensures { value_of result
+            ≡ locale_of (record {
+              language = language;
+              script = None;
+              region = None;
+              variants = [];
+            }) none }
     {
         Self::from_langid(alloc, LanguageIdentifier::from(language))
     }
 
     /// `und` with that script.
     pub fn from_script(alloc: Global, script: Option<Script>) -> Self
-        ensures { value_of result ≡ locale_of (record { language = codes "und"; script = script; region = None; variants = [] }) none }
+        ensures { value_of result
+            ≡ locale_of (record {
+              language = codes "und";
+              script = script;
+              region = None;
+              variants = [];
+            }) none }
     {
         Self::from_langid(alloc, LanguageIdentifier::from(script))
     }
 
     /// `und` with that region.
     pub fn from_region(alloc: Global, region: Option<Region>) -> Self
-        ensures { value_of result ≡ locale_of (record { language = codes "und"; script = None; region = region; variants = [] }) none }
+        ensures { value_of result
+            ≡ locale_of (record {
+              language = codes "und";
+              script = None;
+              region = region;
+              variants = [];
+            }) none }
     {
         Self::from_langid(alloc, LanguageIdentifier::from(region))
     }
 
     /// These three parts, and nothing else.
     pub fn from_parts(alloc: Global, lsr: (Language, Option<Script>, Option<Region>)) -> Self
-        ensures { value_of result ≡ locale_of (record { language = lsr.0; script = lsr.1; region = lsr.2; variants = [] }) none }
+        ensures { value_of result
+            ≡ locale_of (record {
+              language = lsr.0;
+              script = lsr.1;
+              region = lsr.2;
+              variants = [];
+            }) none }
     {
         Self::from_langid(alloc, LanguageIdentifier::from(lsr))
     }

@@ -4,7 +4,7 @@
 //! of the grammar (UTS #35 section 3, `unicode_locale_id`), with their meaning, and refuses every other with
 //! the fault that the grammar names; the text of a well-formed locale reads back as it; normalising twice is
 //! once, texts have equal normal texts exactly where they mean the same, none of that meaning is shorter, and
-//! eight steps of rewriting lead there.
+//! at most eight steps of rewriting lead there.
 //!
 //! It stands on the public contracts of the identifiers (`iloc_langid`), the extensions (`iloc_extensions`),
 //! their reader (`iloc_blocks`) and the laws of the grammar (`iloc_grammar`).

@@ -50,13 +50,16 @@ impl Locale {
     /// A text is accepted exactly where the grammar gives it a meaning, and what is read is that meaning.
     /// Every other is refused with the fault that the grammar names: `InvalidLanguage` where the first piece is
     /// no language, `InvalidSubtag` where the head is no identifier, and else the fault of the first bad block.
-    /// `OutOfMemory` comes only where some list before the fault is longer than is kept inline.
+    /// `OutOfMemory` comes only where the front of the head has more than four variants, or a block is reached
+    /// that is not short.
     pub fn try_from_utf8(alloc: Global, code_units: &[u8]) -> Result<Self, ParseError>
         ensures reads { LocaleReadsAs code_units.now result }
-        ensures accepted { (M : meaning.Locale) → Means languages code_units.now M → Accepts M result }
+        ensures accepted { (M : meaning.Locale) → Means languages code_units.now M
+            → Accepts M result }
         ensures refused { (f : Fault) → HasFault languages code_units.now f → Refuses f result }
         ensures succeeds { IsInline languages code_units.now → IsOk result }
-        ensures well_formed { IfOk result (λ l. IsValue languages (value_of l) × IsWellFormed (value_of l)) }
+        ensures well_formed { IfOk result
+            (λ l. IsValue languages (value_of l) × IsWellFormed (value_of l)) }
         ensures steps { IfOk result (λ l. (n : ℕ) (u : List ℕ)
             → Chain languages n code_units.now u → Means languages u (value_of l)) }
         ensures narrow { (M : meaning.Locale) → Means two_or_three code_units.now M
@@ -106,7 +109,8 @@ impl Locale {
         ensures accepted { (M : meaning.Locale) → Means languages s.now M → Accepts M result }
         ensures refused { (f : Fault) → HasFault languages s.now f → Refuses f result }
         ensures succeeds { IsInline languages s.now → IsOk result }
-        ensures well_formed { IfOk result (λ l. IsValue languages (value_of l) × IsWellFormed (value_of l)) }
+        ensures well_formed { IfOk result
+            (λ l. IsValue languages (value_of l) × IsWellFormed (value_of l)) }
         ensures steps { IfOk result (λ l. (n : ℕ) (u : List ℕ)
             → Chain languages n s.now u → Means languages u (value_of l)) }
         ensures narrow { (M : meaning.Locale) → Means two_or_three s.now M

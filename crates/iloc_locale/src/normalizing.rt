@@ -30,7 +30,8 @@ impl Locale {
         ensures ok { IfOk result (λ text. IsNormalizedFrom input.now (cow_str_bytes text)
             × (IsLent text ↔ (input.now ≡ cow_str_bytes text))) }
         ensures err { IfErr result (RefusesNormalizing input.now) }
-        ensures succeeds { IsInline languages input.now → IsTextOf input.now input.now → IsOk result }
+        ensures succeeds { IsInline languages input.now → IsTextOf input.now input.now
+            → IsOk result }
     {
         let locale = Self::try_from_utf8(alloc, input)?;
         Ok(to_string_or_borrow(alloc, &locale, input)?)
@@ -41,7 +42,8 @@ impl Locale {
         ensures ok { IfOk result (λ text. IsNormalizedFrom input.now (cow_str_bytes text)
             × (IsLent text ↔ (input.now ≡ cow_str_bytes text))) }
         ensures err { IfErr result (RefusesNormalizing input.now) }
-        ensures succeeds { IsInline languages input.now → IsTextOf input.now input.now → IsOk result }
+        ensures succeeds { IsInline languages input.now → IsTextOf input.now input.now
+            → IsOk result }
     {
         Self::normalize_utf8(alloc, input.as_bytes())
     }
@@ -55,7 +57,8 @@ impl Locale {
     pub fn is_well_formed(&self) -> bool
         ensures exactly { IsTrue result ↔ IsWellFormed (value_of self.now) }
         ensures value { IsValue languages (value_of self.now) }
-        ensures back { IsTrue result → Means languages (text (value_of self.now)) (value_of self.now) }
+        ensures back { IsTrue result
+            → Means languages (text (value_of self.now)) (value_of self.now) }
         ensures one { IsTrue result → (M : meaning.Locale) → IsValue languages M → IsWellFormed M
             → text M ≡ text (value_of self.now) → M ≡ value_of self.now }
     {

@@ -30,7 +30,8 @@ impl Writeable for Locale {
 
     ghost text = { λ l. text (value_of l) };
 
-    ghost lends = { λ l. (extensions_of l.extensions ≡ none) × (l.id.script ≡ None) × (l.id.region ≡ None) × (l.id.variants ≡ []) };
+    ghost lends = { λ l. (extensions_of l.extensions ≡ none) × (l.id.script ≡ None)
+        × (l.id.region ≡ None) × (l.id.variants ≡ []) };
 
     #[tactic(auto, unfolding(iloc_grammar::specs::Pieces::join))]
     fn write_to<S: Sink>(&self, sink: &mut S) -> fmt::Result {

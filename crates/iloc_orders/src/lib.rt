@@ -1,6 +1,7 @@
 //! The orders of values, and what values feed a hasher.
 //!
-//! Each order is total, and ties exactly equal values; and what is fed tells values apart as the order does.
+//! Each order is total, and ties exactly equal values; and what is fed tells values apart as the order does (of
+//! fewer than 2^64 writes).
 //! It stands on `iloc_grammar`.
 #![tactic(auto)]
 

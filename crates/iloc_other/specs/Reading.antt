@@ -1,5 +1,5 @@
 -- What the readers of the private extension and of other extensions answer.
-use Rattle.std.specs.Prelude.{◌≡◌, ℕ, ◌<◌, true, List, length, Result, Ok, Err}
+use Rattle.std.specs.Prelude.{◌≡◌, ℕ, ◌<◌, true, List, length, Result}
 use Rattle.iloc_grammar.specs.Pieces.{pieces}
 use Rattle.iloc_grammar.specs.Words.{PrivateSubtag, is_word}
 use Rattle.iloc_grammar.specs.Written.{kept, is_other_singleton}
@@ -8,7 +8,7 @@ use Rattle.iloc_grammar.specs.Reading.{passing, rest_of}
 use Rattle.iloc_fronts.specs.Fronts.{OtherRead, OtherFault, PrivateRead, PrivateFault, other_front}
 use Rattle.iloc_fronts.specs.Parts.{begins_part, is_letter, OtherText, OtherTextFault, PrivateText, PrivateTextFault}
 use Rattle.iloc_subtags.specs.declared.parse_error.ParseError.{ParseError}
-use Rattle.iloc_subtags.specs.declared.parse_error.ParseError.TheVariants.{InvalidLanguage, InvalidSubtag, InvalidExtension, DuplicatedExtension, OutOfMemory}
+use Rattle.iloc_subtags.specs.Answers.{Answers, ExtensionFault}
 
 -- the private words at the front
 abbrev pub private_words : List (List ℕ) → List (List ℕ)
@@ -16,36 +16,24 @@ private_words ps = passing (is_word PrivateSubtag) ps
 
 -- What the pieces after `x` are read as, and the pieces that are left. Memory is wanted only for a fifth word.
 abbrev pub PrivateReads : List (List ℕ) → List (List ℕ) → Result (List (List ℕ)) ParseError → Type 0
-PrivateReads ps rest (Ok ws) = PrivateRead ps ws rest
-PrivateReads ps rest (Err InvalidExtension) = PrivateFault ps faults.InvalidExtension
-PrivateReads ps rest (Err OutOfMemory) = 4 < length (private_words ps)
-PrivateReads ps rest (Err InvalidLanguage) = ⊥
-PrivateReads ps rest (Err InvalidSubtag) = ⊥
-PrivateReads ps rest (Err DuplicatedExtension) = ⊥
+PrivateReads ps rest = Answers (λ ws. PrivateRead ps ws rest)
+    (ExtensionFault (PrivateFault ps faults.InvalidExtension))
+    (4 < length (private_words ps))
 
 -- What a text is read as. Memory is wanted only after `x` (120), the letter of such an extension.
 abbrev pub PrivateTextReads : List ℕ → Result (List (List ℕ)) ParseError → Type 0
-PrivateTextReads t (Ok ws) = PrivateText t ws
-PrivateTextReads t (Err InvalidExtension) = PrivateTextFault t faults.InvalidExtension
-PrivateTextReads t (Err OutOfMemory) = (begins_part (is_letter 120) (pieces t) ≡ true) × (4 < length (private_words (rest_of (pieces t))))
-PrivateTextReads t (Err InvalidLanguage) = ⊥
-PrivateTextReads t (Err InvalidSubtag) = ⊥
-PrivateTextReads t (Err DuplicatedExtension) = ⊥
+PrivateTextReads t = Answers (PrivateText t)
+    (ExtensionFault (PrivateTextFault t faults.InvalidExtension))
+    ((begins_part (is_letter 120) (pieces t) ≡ true) × (4 < length (private_words (rest_of (pieces t)))))
 
 -- What the pieces after the singleton ext are read as, and the pieces that are left. Memory is wanted only for a fifth word.
 abbrev pub OtherReads : ℕ → List (List ℕ) → List (List ℕ) → Result (ℕ × List (List ℕ)) ParseError → Type 0
-OtherReads ext ps rest (Ok o) = (o.0 ≡ ext) × OtherRead ps o.1 rest
-OtherReads ext ps rest (Err InvalidExtension) = OtherFault ps faults.InvalidExtension
-OtherReads ext ps rest (Err OutOfMemory) = 4 < length (kept (other_front ps))
-OtherReads ext ps rest (Err InvalidLanguage) = ⊥
-OtherReads ext ps rest (Err InvalidSubtag) = ⊥
-OtherReads ext ps rest (Err DuplicatedExtension) = ⊥
+OtherReads ext ps rest = Answers (λ o. (o.0 ≡ ext) × OtherRead ps o.1 rest)
+    (ExtensionFault (OtherFault ps faults.InvalidExtension))
+    (4 < length (kept (other_front ps)))
 
 -- What a text is read as. Memory is wanted only after the singleton of such an extension.
 abbrev pub OtherTextReads : List ℕ → Result (ℕ × List (List ℕ)) ParseError → Type 0
-OtherTextReads t (Ok o) = OtherText t o
-OtherTextReads t (Err InvalidExtension) = OtherTextFault t faults.InvalidExtension
-OtherTextReads t (Err OutOfMemory) = (begins_part is_other_singleton (pieces t) ≡ true) × (4 < length (kept (other_front (rest_of (pieces t)))))
-OtherTextReads t (Err InvalidLanguage) = ⊥
-OtherTextReads t (Err InvalidSubtag) = ⊥
-OtherTextReads t (Err DuplicatedExtension) = ⊥
+OtherTextReads t = Answers (OtherText t)
+    (ExtensionFault (OtherTextFault t faults.InvalidExtension))
+    ((begins_part is_other_singleton (pieces t) ≡ true) × (4 < length (kept (other_front (rest_of (pieces t))))))

@@ -1,7 +1,7 @@
 //! The types of keywords, and preferences.
 //!
-//! What a keyword is turned into reads as itself; preferences merge by three laws, and come back from the
-//! locale that they are turned into. It stands on `iloc_grammar`, `iloc_small` and `iloc_regions`.
+//! What a keyword is turned into reads as itself, and preferences come back from their locale, where nothing spells
+//! `true`; preferences merge by three laws. It stands on `iloc_grammar`, `iloc_small` and `iloc_regions`.
 #![tactic(auto)]
 
 ghost use Rattle.std.specs.Prelude.{◌≡◌, true, false, List, [], ◌∷◌, Some, None, Ok, IfSome, codes};

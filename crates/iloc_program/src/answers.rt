@@ -17,7 +17,8 @@ pub(crate) trait Answers {
 
     /// Adds the answer to one line.
     fn answer(&mut self, line: &[u8], replies: &mut Vec<u8>) -> Result<(), AllocError>
-        ensures { OnOk result (replies.new.items ≡ replies.old.items ++ line_answer mode line.now) };
+        ensures { OnOk result (replies.new.items
+            ≡ replies.old.items ++ line_answer mode line.now) };
 }
 
 /// Answers lines as language identifiers.

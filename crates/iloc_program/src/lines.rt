@@ -1,5 +1,21 @@
 //! Lines that come in pieces, and their replies.
-ghost use Rattle.std.specs.Prelude.{◌≡◌, ℕ, List, [], ◌∷◌, ◌++◌, take, MatchOption, MatchResult, IfOk, OnOk, OnErr, IsOkUnless, ◌<◌, vec_len};
+ghost use Rattle.std.specs.Prelude.{
+  ◌≡◌,
+  ℕ,
+  List,
+  [],
+  ◌∷◌,
+  ◌++◌,
+  take,
+  MatchOption,
+  MatchResult,
+  IfOk,
+  OnOk,
+  OnErr,
+  IsOkUnless,
+  ◌<◌,
+  vec_len,
+};
 ghost use Rattle.std.specs.Io.{StartsWith};
 ghost use Rattle.std.specs.Io.KnownBytes.{Appends};
 ghost use Rattle.iloc_program.specs.Output.{output, reply};
@@ -31,13 +47,15 @@ fn split_line(bytes: &[u8]) -> Option<(&[u8], &[u8])>
 }
 
 // Adds the reply to the line that is pending and goes on with these bytes.
+#[inline(always)]
 fn end_line<A: Answers>(
     answers: &mut A,
     pending: &mut Vec<u8>,
     line: &[u8],
     replies: &mut Vec<u8>,
 ) -> Result<(), AllocError>
-    ensures replies { OnOk result (replies.new.items ≡ replies.old.items ++ reply A.mode (pending.old.items ++ line.now)) }
+    ensures replies { OnOk result (replies.new.items
+        ≡ replies.old.items ++ reply A.mode (pending.old.items ++ line.now)) }
     ensures pending { OnOk result (pending.new.items ≡ []) }
 {
     if pending.is_empty() {
@@ -80,7 +98,8 @@ pub(crate) fn finish<A: Answers>(
     replies: &mut Vec<u8>,
 ) -> Result<(), AllocError>
     requires { IsOneLine pending.old.items }
-    ensures { OnOk result (replies.new.items ≡ replies.old.items ++ output A.mode pending.old.items) }
+    ensures { OnOk result (replies.new.items
+        ≡ replies.old.items ++ output A.mode pending.old.items) }
 {
     if pending.is_empty() {
         return Ok(());
@@ -92,7 +111,8 @@ pub(crate) fn finish<A: Answers>(
 pub(crate) fn write_whole<W: Write>(writer: &mut W, bytes: &[u8]) -> Result<(), RunError>
     ensures ok { OnOk result (Appends (W.contents writer.old) (W.contents writer.new) bytes.now) }
     ensures err { OnErr result ((written : List ℕ)
-        × Appends (W.contents writer.old) (W.contents writer.new) written × StartsWith bytes.now written) }
+        × Appends (W.contents writer.old) (W.contents writer.new) written
+        × StartsWith bytes.now written) }
     ensures error { IsOkUnless result RunError.Write }
 {
     let mut rest = bytes;

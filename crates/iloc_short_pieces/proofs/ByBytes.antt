@@ -84,6 +84,12 @@ unfolding bytes
 length-bytes zero x = refl
 length-bytes (suc n) x = ap suc (length-bytes n (x / 256))
 
+pub fit-bytes : (n x k : ℕ) → get_or (bytes n x) k 0 < 256
+unfolding bytes
+fit-bytes zero x k = omega arith
+fit-bytes (suc n) x zero = omega arith
+fit-bytes (suc n) x (suc k) = fit-bytes n (x / 256) k
+
 -- the number of a list of bytes has those bytes
 pub bytes-number : (xs : List ℕ) → ((k : ℕ) → get_or xs k 0 < 256) → bytes (length xs) (number xs) ≡ xs
 unfolding bytes

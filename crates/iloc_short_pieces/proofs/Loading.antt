@@ -1,14 +1,14 @@
 -- The number of a piece, and the piece of a text's number.
-use Rattle.std.proofs.Common.{◌≡◌, ℕ, zero, suc, ◌+◌, ◌-◌, ◌*◌, ◌/◌, ◌%◌, ◌^◌, ◌<◌, ◌≤◌, true, get_or, List, [], ◌∷◌, length, refl, sym, ◌∙◌, ap, arith, pow-suc}
+use Rattle.std.proofs.Common.{◌≡◌, ℕ, zero, suc, ◌+◌, ◌-◌, ◌*◌, ◌/◌, ◌%◌, ◌^◌, ◌<◌, ◌≤◌, true, get_or, List, [], ◌∷◌, length, refl, sym, ◌∙◌, arith, pow-suc}
 use Rattle.std.specs.Int.Count.{count_leading_zeros, leading_of_zero}
-use Rattle.std.proofs.lemmas.Nat.{pow-add, leading_top}
+use Rattle.std.proofs.lemmas.Nat.{leading_top}
 use Rattle.std.proofs.Math.Nat.{pow-le-pow_right}
 use Rattle.std.proofs.lemmas.Bool.Decides.{nat_tests}
 use Rattle.std.specs.List.{list_all}
 use Rattle.iloc_short_pieces.specs.Number.{number, bytes, IsPacked}
 use Rattle.iloc_short_pieces.specs.Text.{is_text_byte}
 use Rattle.iloc_short_pieces.proofs.ByBytes.{and_right, and_left, number-bytes, length-bytes, bytes-number}
-use Rattle.iloc_short_pieces.proofs.Packed.{Makes, makes}
+use Rattle.iloc_short_pieces.proofs.Packed.{Makes, makes, same_power}
 
 pub makes_piece : (xs : List ℕ) → ((k : ℕ) → get_or xs k 0 < 256) → length xs ≤ 8 → (y : ℕ) → y ≡ number xs → Makes (length xs) y xs
 makes_piece xs fit few y e = makes (length xs) y xs refl few fit e
@@ -46,12 +46,6 @@ number-text-lt (b ∷ text) h =
     let later = number-text-lt text (and_right (is_text_byte b) (list_all is_text_byte text) h) in
     let p : 256 ^ suc (length text) ≡ 256 ^ length text * 256 = pow-suc 256 (length text) in
     omega arith
-
-same_power : (m : ℕ) → 256 ^ m ≡ 2 ^ (8 * m)
-same_power zero = refl
-same_power (suc m) =
-    let turned : 8 * suc m ≡ 8 * m + 8 = omega arith in
-    pow-suc 256 m ∙ ap (λ y. y * 256) (same_power m) ∙ sym (pow-add 2 (8 * m) 8) ∙ ap (λ k. 2 ^ k) (sym turned)
 
 from_power : (i j : ℕ) → 2 ^ i < 2 ^ j → i < j
 from_power i j h =

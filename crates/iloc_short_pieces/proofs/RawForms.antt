@@ -4,8 +4,8 @@ use Rattle.std.proofs.lemmas.Nat.{le_bytes_8}
 use Rattle.std.specs.Int.{w64, from_le_bytes, to_le_bytes}
 use Rattle.std.proofs.Math.ListN.{replicate}
 use Rattle.std.proofs.lemmas.List.{length-append, length-replicate, drop-replicate}
-use Rattle.iloc_short_pieces.specs.Number.{number, bytes}
-use Rattle.iloc_short_pieces.proofs.ByBytes.{number-bytes, length-bytes, bytes-number}
+use Rattle.iloc_short_pieces.specs.Number.{number, bytes, IsPacked}
+use Rattle.iloc_short_pieces.proofs.ByBytes.{number-bytes, length-bytes, bytes-number, fit-bytes}
 
 pub from_eight : (xs : List ℕ) → length xs ≡ 8 → from_le_bytes w64 xs ≡ number xs
 from_eight [] h = absurd (omega arith)
@@ -18,12 +18,6 @@ from_eight (a ∷ b ∷ c ∷ d ∷ e ∷ f ∷ []) h = absurd (omega arith)
 from_eight (a ∷ b ∷ c ∷ d ∷ e ∷ f ∷ g ∷ []) h = absurd (omega arith)
 from_eight (a ∷ b ∷ c ∷ d ∷ e ∷ f ∷ g ∷ i ∷ []) h = omega arith
 from_eight (a ∷ b ∷ c ∷ d ∷ e ∷ f ∷ g ∷ i ∷ j ∷ xs) h = absurd (omega arith)
-
-fit-bytes : (n x k : ℕ) → get_or (bytes n x) k 0 < 256
-unfolding bytes
-fit-bytes zero x k = omega arith
-fit-bytes (suc n) x zero = omega arith
-fit-bytes (suc n) x (suc k) = fit-bytes n (x / 256) k
 
 pub eight_bytes : (x : ℕ) → x < 2 ^ 64 → to_le_bytes w64 x ≡ bytes 8 x
 eight_bytes x small =
@@ -58,9 +52,20 @@ bytes-text text k fit =
     padded (x ∷ text) fit zero = fit 0
     padded (x ∷ text) fit (suc i) = padded text (λ j. fit (suc j)) i
 
-pub number-padded : (n : ℕ) (raw copied : List ℕ) → n ≤ 8 → length raw ≡ n → copied ≡ raw → (y : ℕ) → y ≡ from_le_bytes w64 (copied ++ drop n (replicate 8 0)) → y ≡ number raw
-number-padded n raw copied few long same y e =
-    let zeros : drop n (replicate {A = ℕ} 8 0) ≡ replicate {A = ℕ} (8 - n) 0 = drop-replicate n 8 0 in
+-- a raw form that was copied over zeros
+pub widened_is : (n : ℕ) (raw copied : List ℕ) → copied ≡ raw → copied ++ drop n (replicate {A = ℕ} 8 0) ≡ raw ++ replicate (8 - n) 0
+widened_is n raw copied same = λ i. same i ++ drop-replicate n 8 0 i
+
+-- its number
+pub number-widened : (n : ℕ) (raw : List ℕ) → n ≤ 8 → length raw ≡ n → from_le_bytes w64 (raw ++ replicate (8 - n) 0) ≡ number raw
+number-widened n raw few long =
     let padded = raw ++ replicate (8 - n) 0 in
     let eight : length padded ≡ 8 = omega (arith, length-append raw (replicate (8 - n) 0), length-replicate {A = ℕ} (8 - n) 0) in
-    e ∙ (λ i. from_le_bytes w64 (same i ++ zeros i)) ∙ from_eight padded eight ∙ number-zeros raw (8 - n)
+    from_eight padded eight ∙ number-zeros raw (8 - n)
+
+-- the eight bytes of a packed number are its bytes, followed by zeros
+pub eight_padded : (n x : ℕ) (xs : List ℕ) → IsPacked n x → x < 2 ^ 64 → bytes n x ≡ xs → to_le_bytes w64 x ≡ xs ++ replicate (8 - length xs) 0
+eight_padded n x xs h small e =
+    let whole : 8 ≡ length xs + (8 - length xs) = omega (arith, h.few, h.counted, ap length e) in
+    eight_bytes x small ∙ (λ i. bytes (whole i) (sym h.whole i)) ∙ ap (λ ys. bytes (length xs + (8 - length xs)) (number ys)) e
+    ∙ bytes-text xs (8 - length xs) (λ k. rw (← e) (fit-bytes n x k))

@@ -1,5 +1,5 @@
 //! The high bit of each byte of a number that has a property.
-ghost use Rattle.std.specs.Prelude.{◌≡◌, ◌≤◌};
+ghost use Rattle.std.specs.Prelude.{◌≡◌, ◌==◌, ◌≤◌};
 ghost use Rattle.std.specs.Char.{is_ascii_alphabetic, is_ascii_digit};
 ghost use Rattle.iloc_short_pieces.specs.Number.{flags, spread};
 
@@ -23,6 +23,17 @@ pub(crate) fn digit_flags(x: u64) -> u64
     let low = x & 0x7f7f_7f7f_7f7f_7f7f;
     // From `0` on, but not past `9`, and not above 127.
     ((low + 0x5050_5050_5050_5050) ^ (low + 0x4646_4646_4646_4646)) & (x ^ HIGH) & HIGH
+}
+
+// The high bit of each byte that is a hyphen.
+#[inline(always)]
+pub(crate) fn hyphen_flags(x: u64) -> u64
+    ensures { result ≡ flags (λ b. b == 45) x }
+{
+    let other = x ^ 0x2d2d_2d2d_2d2d_2d2d;
+    let low = other & 0x7f7f_7f7f_7f7f_7f7f;
+    // The high bit of each byte that is not zero, turned.
+    (((low + 0x7f7f_7f7f_7f7f_7f7f) | other) & HIGH) ^ HIGH
 }
 
 // The high bit of each of the lowest bytes.

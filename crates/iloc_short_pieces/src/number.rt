@@ -21,26 +21,3 @@ pub fn number_of(piece: &[u8]) -> u64
     }
     if n == 1 { piece[0] as u64 } else { 0 }
 }
-
-/// The number of a raw form of at most eight bytes.
-#[inline(always)]
-pub fn number_of_raw<const N: usize>(raw: &[u8; N]) -> u64
-    requires { N ≤ 8 }
-    ensures { result ≡ number raw.now }
-{
-    let mut all = [0; 8];
-    all[..N].copy_from_slice(raw);
-    u64::from_le_bytes(all)
-}
-
-/// The lowest bytes of a number, as many as the raw form has.
-#[inline(always)]
-pub fn raw_of_number<const N: usize>(packed: u64) -> [u8; N]
-    requires { N ≤ 8 }
-    ensures { result ≡ bytes N packed }
-{
-    let all = packed.to_le_bytes();
-    let mut raw = [0; N];
-    raw.copy_from_slice(&all[..N]);
-    raw
-}

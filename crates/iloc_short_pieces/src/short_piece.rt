@@ -1,12 +1,12 @@
 //! A piece that is held as its number.
-ghost use Rattle.std.specs.Prelude.{◌≡◌, ℕ, ◌≤◌, ◌<◌, List, length, true, slice_index, IfSome, IfNone};
+ghost use Rattle.std.specs.Prelude.{◌≡◌, ℕ, ◌-◌, ◌≤◌, ◌<◌, ◌++◌, List, length, replicate, true, slice_index, IfSome, IfNone};
 ghost use Rattle.std.specs.Prelude.{nat_eq};
 ghost use Rattle.std.specs.Cmp.Lexicographic.{pointwise};
 ghost use Rattle.std.specs.Cmp.Rules.{comparing};
 ghost use Rattle.std.proofs.Common.{rules};
 ghost use Rattle.std.specs.Char.{is_ascii_alphabetic, is_ascii_alphanumeric, is_ascii_digit};
 ghost use Rattle.std.specs.List.{list_all};
-ghost use Rattle.iloc_short_pieces.specs.Number.{number};
+ghost use Rattle.iloc_short_pieces.specs.Number.{number, bytes};
 ghost use Rattle.iloc_short_pieces.specs.Text.{is_text_byte, lower, upper, title};
 
 use crate::flags::{digit_flags, high_bits, letter_flags};
@@ -62,12 +62,38 @@ impl ShortPiece {
         }
     }
 
+    /// The piece of the lowest bytes of a number.
+    #[inline(always)]
+    pub fn lowest(number: u64, len: usize) -> Self
+        requires { len ≤ 8 }
+        ensures { result ≡ bytes len number }
+    {
+        if len == 8 {
+            return ShortPiece {
+                packed: number,
+                len,
+            };
+        }
+        ShortPiece {
+            packed: number % (1 << (8 * len)),
+            len,
+        }
+    }
+
     /// The number of its bytes, the first lowest.
     #[inline(always)]
     pub fn number(self) -> u64
         ensures { result ≡ number self }
     {
         self.packed
+    }
+
+    /// Its bytes, followed by zeros.
+    #[inline(always)]
+    pub fn to_bytes(self) -> [u8; 8]
+        ensures { result ≡ self ++ replicate (8 - length self) 0 }
+    {
+        self.packed.to_le_bytes()
     }
 
     /// How many bytes it has.

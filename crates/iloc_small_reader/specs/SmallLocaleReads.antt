@@ -1,10 +1,9 @@
 -- What the reader of small locales answers.
-use Rattle.std.specs.Prelude.{ℕ, List, Option, Result, Ok, Err}
+use Rattle.std.specs.Prelude.{ℕ, List, Option, Result}
 use Rattle.iloc_grammar.specs.Words.{languages}
-use Rattle.iloc_grammar.specs.Faults as faults
 use Rattle.iloc_small.specs.Small.{SmallLocale, IsSmall, HasSmallFault}
 use Rattle.iloc_subtags.specs.declared.parse_error.ParseError.{ParseError}
-use Rattle.iloc_subtags.specs.declared.parse_error.ParseError.TheVariants.{InvalidLanguage, InvalidSubtag, InvalidExtension, DuplicatedExtension, OutOfMemory}
+use Rattle.iloc_subtags.specs.Answers.{Answers, ButDuplicate}
 
 -- a key, and perhaps a value
 abbrev pub Keyword : Type 0
@@ -19,9 +18,5 @@ small_locale_of p = record { id = record { language = p.0; script = p.1; region 
 
 -- what a text is read as, as a whole; it takes no memory
 abbrev pub SmallLocaleReadsAs : List ℕ → Result LocaleParts ParseError → Type 0
-SmallLocaleReadsAs t (Ok p) = IsSmall languages t (small_locale_of p)
-SmallLocaleReadsAs t (Err InvalidLanguage) = HasSmallFault languages t faults.InvalidLanguage
-SmallLocaleReadsAs t (Err InvalidSubtag) = HasSmallFault languages t faults.InvalidSubtag
-SmallLocaleReadsAs t (Err InvalidExtension) = HasSmallFault languages t faults.InvalidExtension
-SmallLocaleReadsAs t (Err DuplicatedExtension) = ⊥
-SmallLocaleReadsAs t (Err OutOfMemory) = ⊥
+SmallLocaleReadsAs t = Answers (λ p. IsSmall languages t (small_locale_of p))
+    (ButDuplicate (HasSmallFault languages t)) ⊥

@@ -3,7 +3,12 @@ ghost use Rattle.std.specs.Prelude.{◌≡◌, []};
 ghost use Rattle.iloc_grammar.specs.Words as words;
 ghost use Rattle.iloc_parser.specs.Left.{left};
 ghost use Rattle.iloc_small_reader.specs.SmallLocaleReads.{SmallLocaleReadsAs};
-ghost use Rattle.iloc_small_reader.specs.BlockReads.{answer_of, block_result, refusal_without_key, value_result};
+ghost use Rattle.iloc_small_reader.specs.BlockReads.{
+  answer_of,
+  block_result,
+  refusal_without_key,
+  value_result,
+};
 
 use iloc_langid::small::read_small_front;
 use iloc_parser::{SubtagIterator, take_word};

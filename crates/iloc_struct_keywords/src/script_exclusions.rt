@@ -1,5 +1,19 @@
 //! A keyword whose value is a list of scripts.
-ghost use Rattle.std.specs.Prelude.{◌≡◌, ◌++◌, ◌∷◌, [], ◌<◌, ℕ, Ok, Some, OnOk, OnErr, IfOk, IsOk, length};
+ghost use Rattle.std.specs.Prelude.{
+  ◌≡◌,
+  ◌++◌,
+  ◌∷◌,
+  [],
+  ◌<◌,
+  ℕ,
+  Ok,
+  Some,
+  OnOk,
+  OnErr,
+  IfOk,
+  IsOk,
+  length,
+};
 ghost use Rattle.iloc_grammar.specs.Words.{word, Script as the_kind};
 ghost use Rattle.iloc_preferences_rules.specs.Keywords.{dx, scripts_read, scripts_give};
 ghost use Rattle.iloc_struct_keywords.specs.Scripts.{ReadsScripts, ReadsScriptsKeyed};

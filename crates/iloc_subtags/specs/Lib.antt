@@ -1,3 +1,4 @@
+pub mod Answers
 pub mod KindLaws
 pub mod ParseError
 pub mod RawForms

@@ -2,7 +2,7 @@
 
 ghost use Rattle.std.specs.Prelude.{◌≡◌};
 
-use std::alloc::AllocError;
+use std::alloc::{AllocError, AllocFailed};
 use thiserror::Error;
 
 /// Why a text is refused, or that there is no memory. It prints its words.
@@ -49,6 +49,17 @@ impl From<AllocError> for ParseError {
     ghost from_gives = { λ _ error. error ≡ OutOfMemory };
 
     fn from(_error: AllocError) -> ParseError {
+        Self::OutOfMemory
+    }
+}
+
+/// So is that of a collection, as of `Vec::push`; what could not be stored is let go.
+impl<T: Drop> From<AllocFailed<T>> for ParseError {
+    ghost use Rattle.iloc_subtags.specs.declared.parse_error.ParseError.TheVariants.{OutOfMemory};
+
+    ghost from_gives = { λ _ error. error ≡ OutOfMemory };
+
+    fn from(_failed: AllocFailed<T>) -> ParseError {
         Self::OutOfMemory
     }
 }

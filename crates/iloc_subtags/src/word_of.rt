@@ -11,7 +11,7 @@ use crate::kind::WordKind;
 use crate::parse_error::ParseError;
 use iloc_short_pieces::ShortPiece;
 use iloc_tinystr::TinyAsciiStr;
-use iloc_writeable::pieces::{Pieces, write_piece};
+use iloc_writeable::pieces::Pieces;
 use iloc_writeable::{LengthHint, Sink, Writeable};
 use std::cmp::Ordering;
 use std::fmt;
@@ -216,7 +216,7 @@ impl<K: WordKind<N>, const N: usize> Pieces for WordOf<K, N> {
     }
 
     fn write_pieces<S: Sink>(&self, sink: &mut S, first: bool) -> fmt::Result {
-        write_piece(sink, self.as_str(), first)
+        sink.write_short_piece(self.text.to_piece(), first)
     }
 }
 

@@ -1,5 +1,5 @@
 -- What the reader of fields answers.
-use Rattle.std.specs.Prelude.{◌≡◌, ℕ, ◌<◌, false, List, length, Result, Ok, Err}
+use Rattle.std.specs.Prelude.{◌≡◌, ℕ, ◌<◌, false, List, length, Result}
 use Rattle.std.specs.List.{AllByRecursion, list_all}
 use Rattle.iloc_grammar.specs.Words.{TransformKey}
 use Rattle.iloc_grammar.specs.Written.{Fields, fields_pieces, IsField}
@@ -9,7 +9,7 @@ use Rattle.iloc_fronts.specs.Fronts.{fields_front, after_fields}
 use Rattle.iloc_grammar.specs.Computing.{is_field}
 use Rattle.iloc_fronts.specs.Computing.{fields_at}
 use Rattle.iloc_subtags.specs.declared.parse_error.ParseError.{ParseError}
-use Rattle.iloc_subtags.specs.declared.parse_error.ParseError.TheVariants.{InvalidLanguage, InvalidSubtag, InvalidExtension, DuplicatedExtension, OutOfMemory}
+use Rattle.iloc_subtags.specs.Answers.{Answers, ExtensionFault}
 use Rattle.iloc_transform.specs.ValueReading.{IsValueWord}
 
 -- what fields hold: a key with the words of a value
@@ -26,9 +26,5 @@ pub record FieldsRead (ps : List (List ℕ)) (m : Fields) (rest : List (List ℕ
 
 -- What the pieces at the front are read as, and the pieces that are left. A field wants memory.
 abbrev pub FieldsFrontRead : List (List ℕ) → List (List ℕ) → Result Fields ParseError → Type 0
-FieldsFrontRead ps rest (Ok m) = FieldsRead ps m rest
-FieldsFrontRead ps rest (Err InvalidExtension) = list_all is_field (fields_at ps) ≡ false
-FieldsFrontRead ps rest (Err OutOfMemory) = 0 < length (fields_front ps)
-FieldsFrontRead ps rest (Err InvalidLanguage) = ⊥
-FieldsFrontRead ps rest (Err InvalidSubtag) = ⊥
-FieldsFrontRead ps rest (Err DuplicatedExtension) = ⊥
+FieldsFrontRead ps rest = Answers (λ m. FieldsRead ps m rest)
+    (ExtensionFault (list_all is_field (fields_at ps) ≡ false)) (0 < length (fields_front ps))

@@ -1,5 +1,5 @@
 -- What the reader of a transform's identifier answers.
-use Rattle.std.specs.Prelude.{◌≡◌, ℕ, ◌<◌, List, length, Option, option_map, Result, Ok, Err}
+use Rattle.std.specs.Prelude.{◌≡◌, ℕ, ◌<◌, List, length, Option, option_map, Result}
 use Rattle.iloc_grammar.specs.Words.{languages}
 use Rattle.iloc_grammar.specs.Written.{Identifier}
 use Rattle.iloc_grammar.specs.Meaning.{normal_identifier}
@@ -7,7 +7,7 @@ use Rattle.iloc_grammar.specs.Faults.{RepeatsVariant}
 use Rattle.iloc_grammar.specs.Reading.{IdentifierFront}
 use Rattle.iloc_fronts.specs.Fronts.{FrontRead}
 use Rattle.iloc_subtags.specs.declared.parse_error.ParseError.{ParseError}
-use Rattle.iloc_subtags.specs.declared.parse_error.ParseError.TheVariants.{InvalidLanguage, InvalidSubtag, InvalidExtension, DuplicatedExtension, OutOfMemory}
+use Rattle.iloc_subtags.specs.Answers.{Answers, SubtagFault}
 use Rattle.iloc_langid.specs.Reads.{value_of}
 use Rattle.iloc_langid.specs.declared.identifier.LanguageIdentifier.{LanguageIdentifier}
 
@@ -26,9 +26,5 @@ pub record HasFiveVariants (ps : List (List ℕ)) : Type 0 where
 
 -- what the pieces are read as, and the pieces that are left
 abbrev pub LangReads : List (List ℕ) → List (List ℕ) → Result (Option LanguageIdentifier) ParseError → Type 0
-LangReads ps rest (Ok lang) = LangRead ps lang rest
-LangReads ps rest (Err InvalidSubtag) = RepeatsVariant languages ps
-LangReads ps rest (Err OutOfMemory) = HasFiveVariants ps
-LangReads ps rest (Err InvalidLanguage) = ⊥
-LangReads ps rest (Err InvalidExtension) = ⊥
-LangReads ps rest (Err DuplicatedExtension) = ⊥
+LangReads ps rest = Answers (λ lang. LangRead ps lang rest) (SubtagFault (RepeatsVariant languages ps))
+    (HasFiveVariants ps)

@@ -8,7 +8,7 @@ use Rattle.iloc_grammar.specs.Reading.{passing, past}
 use Rattle.iloc_grammar.specs.Faults as faults
 use Rattle.iloc_fronts.specs.PartValues.{transform_value}
 use Rattle.iloc_subtags.specs.declared.parse_error.ParseError.{ParseError}
-use Rattle.iloc_subtags.specs.declared.parse_error.ParseError.TheVariants.{InvalidLanguage, InvalidSubtag, InvalidExtension, DuplicatedExtension, OutOfMemory}
+use Rattle.iloc_subtags.specs.Answers.{Answers, ExtensionFault}
 
 -- what a value holds: words of 3 to 8 letters or digits in lower case, and none is `true`
 abbrev pub IsValueWord : List ℕ → Type 0
@@ -20,18 +20,14 @@ values_front ps = passing (is_word Attribute) ps
 
 -- What the pieces at the front are read as, and the pieces that are left. Memory is wanted only for a fifth subtag.
 abbrev pub ValueFrontReads : List (List ℕ) → List (List ℕ) → Result (List (List ℕ)) ParseError → Type 0
-ValueFrontReads ps rest (Ok v) = (0 < length (values_front ps)) × (v ≡ normal_values (values_front ps)) × (rest ≡ past (is_word Attribute) ps)
-ValueFrontReads ps rest (Err InvalidExtension) = values_front ps ≡ []
-ValueFrontReads ps rest (Err OutOfMemory) = 4 < length (normal_values (values_front ps))
-ValueFrontReads ps rest (Err InvalidLanguage) = ⊥
-ValueFrontReads ps rest (Err InvalidSubtag) = ⊥
-ValueFrontReads ps rest (Err DuplicatedExtension) = ⊥
+ValueFrontReads ps rest = Answers
+    (λ v. (0 < length (values_front ps)) × (v ≡ normal_values (values_front ps))
+    × (rest ≡ past (is_word Attribute) ps))
+    (ExtensionFault (values_front ps ≡ []))
+    (4 < length (normal_values (values_front ps)))
 
 -- what a text is read as
 abbrev pub ValueReads : List ℕ → Result (List (List ℕ)) ParseError → Type 0
-ValueReads t (Ok v) = transform_value t ≡ Ok v
-ValueReads t (Err InvalidExtension) = transform_value t ≡ Err faults.InvalidExtension
-ValueReads t (Err OutOfMemory) = 4 < length (normal_values (values_front (pieces t)))
-ValueReads t (Err InvalidLanguage) = ⊥
-ValueReads t (Err InvalidSubtag) = ⊥
-ValueReads t (Err DuplicatedExtension) = ⊥
+ValueReads t = Answers (λ v. transform_value t ≡ Ok v)
+    (ExtensionFault (transform_value t ≡ Err faults.InvalidExtension))
+    (4 < length (normal_values (values_front (pieces t))))

@@ -1,5 +1,20 @@
 //! The fields of a transform.
-ghost use Rattle.std.specs.Prelude.{◌≡◌, ◌==◌, ℕ, List, [], true, length, OnOk, OnErr, IfOk, IsOk, Ok, Some, if◌then◌else◌};
+ghost use Rattle.std.specs.Prelude.{
+  ◌≡◌,
+  ◌==◌,
+  ℕ,
+  List,
+  [],
+  true,
+  length,
+  OnOk,
+  OnErr,
+  IfOk,
+  IsOk,
+  Ok,
+  Some,
+  if◌then◌else◌,
+};
 ghost use Rattle.std.specs.Fn.{CalledAt};
 ghost use Rattle.std.specs.FinMap.{find, put};
 ghost use Rattle.std.specs.Iterator.{IsFiniteIterable, Drains};
@@ -33,9 +48,16 @@ use std::{fmt, mem};
 pub type Key = TransformKey;
 
 /// A map from keys to values, kept by ascending key.
-#[derive(Drop, Debug, PartialEq, Eq, Hash)]
+#[derive(Debug, PartialEq, Eq, Hash)]
 pub struct Fields {
     map: LiteMap<Key, Value>,
+}
+
+// Written rather than derived: who lets one go then proves a call, and not what it holds.
+impl Drop for Fields {
+    fn drop(self) {
+        let Fields { map: _map } = self;
+    }
 }
 
 impl Model for Fields {
@@ -128,7 +150,9 @@ impl Fields {
 
     // Sets the value of a key that isn't there; else nothing changes.
     fn add(&mut self, alloc: Global, key: Key, value: Value) -> Result<(), AllocError>
-        ensures { OnOk result (self.new ≡ (if is_some (find word_cmp key self.old) then self.old else put word_cmp key value self.old)) }
+        ensures { OnOk result (self.new
+            ≡ (if is_some (find word_cmp key self.old) then self.old
+            else put word_cmp key value self.old)) }
     {
         let _ = key.as_str();
         let _ = value.as_slice();
@@ -156,7 +180,10 @@ impl Fields {
         pairs: I,
     ) -> Result<Self, AllocError>
         requires { IsFiniteIterable I.into_iter_gives I.IntoIter.can_next I.IntoIter.remaining pairs }
-        ensures { IfOk result (λ m. (it : I.IntoIter) × (xs : List (List ℕ × List (List ℕ))) × I.into_iter_gives pairs it × Drains I.IntoIter.next_gives it xs × (m ≡ insert_all word_cmp [] xs)) }
+        ensures { IfOk result
+            (λ m. (it : I.IntoIter) × (xs : List (List ℕ × List (List ℕ)))
+            × I.into_iter_gives pairs it × Drains I.IntoIter.next_gives it xs
+            × (m ≡ insert_all word_cmp [] xs)) }
     {
         let map = LiteMap::from_pairs(alloc, pairs)?;
         Ok(Fields::from(map))
@@ -169,7 +196,8 @@ impl Fields {
         iter: &mut SubtagIterator<'_>,
     ) -> Result<(), ParseError>
         requires { self.old ≡ [] }
-        ensures { FieldsFrontRead (left iter.old) (left iter.new) (result_and result (Ok self.new)) }
+        ensures { FieldsFrontRead (left iter.old) (left iter.new)
+            (result_and result (Ok self.new)) }
     {
         'fields: while let Some(key) = take_word::<TransformKeyKind, 2>(iter) {
             let value = Value::read_front(alloc, iter)?;
@@ -219,7 +247,8 @@ impl Ord for Fields {
 impl PartialOrd for Fields {
     ghost partial_cmp = { as_partial_cmp fields_cmp };
 
-    ghost laws = { partial_order_from_agreeing_total fields_cmp fields_total (λ _ _. refl) fields_ties };
+    ghost laws = { partial_order_from_agreeing_total fields_cmp fields_total
+        (λ _ _. refl) fields_ties };
 
     fn partial_cmp(&self, other: &Self) -> Option<Ordering> {
         Some(self.cmp(other))

@@ -45,7 +45,9 @@ pub(crate) fn cmp_langs(
     lang: Option<&LanguageIdentifier>,
     other: Option<&LanguageIdentifier>,
 ) -> Ordering
-    ensures { result ≡ option_cmp identifier_cmp (option_map value_of (option_copied lang.entry)) (option_map value_of (option_copied other.entry)) }
+    ensures { result
+        ≡ option_cmp identifier_cmp (option_map value_of (option_copied lang.entry))
+        (option_map value_of (option_copied other.entry)) }
 {
     match (lang, other) {
         (Some(lang), Some(other)) => lang.total_cmp(other),
@@ -57,7 +59,10 @@ pub(crate) fn cmp_langs(
 
 /// The identifier as a transform prints it.
 pub(crate) fn lowercase(lang: Option<&LanguageIdentifier>) -> Option<Lowercase<'_>>
-    ensures { flat_map (λ l. identifier_pieces (lower_identifier (value_of l.0.now))) (option_to_list result) ≡ optional_pieces (option_map lower_identifier (option_map value_of (option_copied lang.entry))) }
+    ensures { flat_map (λ l. identifier_pieces (lower_identifier (value_of l.0.now)))
+        (option_to_list result)
+        ≡ optional_pieces (option_map lower_identifier
+        (option_map value_of (option_copied lang.entry))) }
 {
     match lang {
         Some(lang) => Some(Lowercase(lang)),

@@ -2,7 +2,7 @@
 //!
 //! A value is a list of subtags, fields a map from keys to values, a transform an optional identifier
 //! and fields. Readers take exactly what the grammar of UTS #35, section 3, allows after `t`, by its
-//! definition in `iloc_grammar`, and print it as the normal text does, the identifier in lower case.
+//! definition in `iloc_fronts`, and print it as the normal text does, the identifier in lower case.
 //! The crate stands on the identifiers of `iloc_langid`, the maps of `iloc_litemap` and the lists of
 //! `iloc_shortvec`.
 #![tactic(auto)]
@@ -27,7 +27,8 @@ pub use value::Value;
 
 /// A block that means an identifier of at most four variants, or none, and no field takes no memory.
 pub fn few_words()
-    ensures { (ps : List (List ℕ)) (m : written.Transform) → TransformMeans languages (front ps) m → IfSome m.id (λ i. length i.variants ≤ 4) → m.fields ≡ [] → ¬ (WantsMemory ps) }
+    ensures { (ps : List (List ℕ)) (m : written.Transform) → TransformMeans languages (front ps) m
+        → IfSome m.id (λ i. length i.variants ≤ 4) → m.fields ≡ [] → ¬ (WantsMemory ps) }
 {}
 
 /// Values and fields stand in the orders of the definitions.
@@ -40,5 +41,6 @@ pub fn orders()
 pub fn equality()
     ensures values { (v w : List (List ℕ)) → IsTrue (⟦<Value as PartialEq>⟧.eq v w) ↔ (v ≡ w) }
     ensures fields { (f g : written.Fields) → IsTrue (⟦<Fields as PartialEq>⟧.eq f g) ↔ (f ≡ g) }
-    ensures transforms { (m n : Transform) → IsTrue (⟦<Transform as PartialEq>⟧.eq m n) ↔ (value_of m ≡ value_of n) }
+    ensures transforms { (m n : Transform)
+        → IsTrue (⟦<Transform as PartialEq>⟧.eq m n) ↔ (value_of m ≡ value_of n) }
 {}

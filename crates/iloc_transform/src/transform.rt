@@ -1,5 +1,20 @@
 //! The transform extension.
-ghost use Rattle.std.specs.Prelude.{◌≡◌, ◌==◌, ◌&&◌, ◌∷◌, ℕ, List, [], None, Some, Ok, not, length, option_map, is_some};
+ghost use Rattle.std.specs.Prelude.{
+  ◌≡◌,
+  ◌==◌,
+  ◌&&◌,
+  ◌∷◌,
+  ℕ,
+  List,
+  [],
+  None,
+  Some,
+  Ok,
+  not,
+  length,
+  option_map,
+  is_some,
+};
 ghost use Rattle.std.specs.Result.{result_and};
 ghost use Rattle.iloc_orders.specs.Orders.{transform_cmp};
 ghost use Rattle.iloc_parser.specs.Left.{left};
@@ -25,7 +40,11 @@ pub struct Transform {
 }
 
 impl Transform {
-    ghost use Rattle.iloc_transform.specs.TransformReading.{value_of, TransformReads, TransformTextReads};
+    ghost use Rattle.iloc_transform.specs.TransformReading.{
+      value_of,
+      TransformReads,
+      TransformTextReads,
+    };
 
     /// The empty extension.
     pub fn new(alloc: Global) -> Self

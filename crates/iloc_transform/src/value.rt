@@ -1,5 +1,18 @@
 //! The value of a transform field.
-ghost use Rattle.std.specs.Prelude.{◌≡◌, ◌<◌, ◌++◌, ◌∷◌, [], length, false, OnOk, IfErr, IsOk, Some, if◌then◌else◌};
+ghost use Rattle.std.specs.Prelude.{
+  ◌≡◌,
+  ◌<◌,
+  ◌++◌,
+  ◌∷◌,
+  [],
+  length,
+  false,
+  OnOk,
+  IfErr,
+  IsOk,
+  Some,
+  if◌then◌else◌,
+};
 ghost use Rattle.std.specs.List.{AllByRecursion};
 ghost use Rattle.iloc_grammar.specs.Pieces.{pieces};
 ghost use Rattle.iloc_grammar.specs.Words.{Attribute as the_kind, is_true};
@@ -98,7 +111,8 @@ impl Value {
 
     // Adds the word at the end, unless it is `true`. Up to four take no memory.
     fn push(&mut self, alloc: Global, word: Attribute) -> Result<(), ParseError>
-        ensures ok { OnOk result (self.new ≡ (if is_true word then self.old else self.old ++ word ∷ [])) }
+        ensures ok { OnOk result (self.new
+            ≡ (if is_true word then self.old else self.old ++ word ∷ [])) }
         ensures err { IfErr result (λ e. (e ≡ ParseError.OutOfMemory) × (is_true word ≡ false)) }
         ensures succeeds { length self.old < 4 → IsOk result }
     {

@@ -1,5 +1,5 @@
 -- What the readers of attributes, of keywords and of what follows `u` answer, by cases on the whole answer.
-use Rattle.std.specs.Prelude.{◌≡◌, ℕ, ◌<◌, true, List, length, nat_lt, Bool, Result, Ok, Err}
+use Rattle.std.specs.Prelude.{◌≡◌, ℕ, ◌<◌, true, List, length, nat_lt, Bool, Result}
 use Rattle.std.specs.List.{list_any}
 use Rattle.iloc_grammar.specs.Pieces.{pieces}
 use Rattle.iloc_grammar.specs.Written.{Fields}
@@ -9,7 +9,7 @@ use Rattle.iloc_fronts.specs.Fronts.{attributes_read, KeywordsRead, KeywordsFaul
 use Rattle.iloc_fronts.specs.Parts.{AttributesText, KeywordsText, KeywordsTextFault}
 use Rattle.iloc_fronts.specs.Computing.{keywords_at}
 use Rattle.iloc_subtags.specs.declared.parse_error.ParseError.{ParseError}
-use Rattle.iloc_subtags.specs.declared.parse_error.ParseError.TheVariants.{InvalidLanguage, InvalidSubtag, InvalidExtension, DuplicatedExtension, OutOfMemory}
+use Rattle.iloc_subtags.specs.Answers.{Answers, NoFault, ExtensionFault}
 
 -- the field has more than four subtags besides `true`
 abbrev pub has_many_values : List ℕ × List (List ℕ) → Bool
@@ -22,27 +22,14 @@ pub data KeywordsWantMemory (ps : List (List ℕ)) : Type 0 where
 
 -- of the pieces ps, keywords were read, and rest is left
 abbrev pub KeywordsGive : List (List ℕ) → List (List ℕ) → Result Fields ParseError → Type 0
-KeywordsGive ps rest (Ok m) = KeywordsRead ps m rest
-KeywordsGive ps rest (Err InvalidExtension) = KeywordsFault ps faults.InvalidExtension
-KeywordsGive ps rest (Err OutOfMemory) = KeywordsWantMemory ps
-KeywordsGive ps rest (Err InvalidLanguage) = ⊥
-KeywordsGive ps rest (Err InvalidSubtag) = ⊥
-KeywordsGive ps rest (Err DuplicatedExtension) = ⊥
+KeywordsGive ps rest = Answers (λ m. KeywordsRead ps m rest)
+    (ExtensionFault (KeywordsFault ps faults.InvalidExtension)) (KeywordsWantMemory ps)
 
 -- the text is read as attributes: the longest front of them, as a set
 abbrev pub AttributesReadAs : List ℕ → Result (List (List ℕ)) ParseError → Type 0
-AttributesReadAs t (Ok a) = AttributesText t a
-AttributesReadAs t (Err OutOfMemory) = 4 < length (attributes_read (pieces t))
-AttributesReadAs t (Err InvalidLanguage) = ⊥
-AttributesReadAs t (Err InvalidSubtag) = ⊥
-AttributesReadAs t (Err InvalidExtension) = ⊥
-AttributesReadAs t (Err DuplicatedExtension) = ⊥
+AttributesReadAs t = Answers (AttributesText t) NoFault (4 < length (attributes_read (pieces t)))
 
 -- the text is read as keywords
 abbrev pub KeywordsReadAs : List ℕ → Result Fields ParseError → Type 0
-KeywordsReadAs t (Ok m) = KeywordsText t m
-KeywordsReadAs t (Err InvalidExtension) = KeywordsTextFault t faults.InvalidExtension
-KeywordsReadAs t (Err OutOfMemory) = KeywordsWantMemory (pieces t)
-KeywordsReadAs t (Err InvalidLanguage) = ⊥
-KeywordsReadAs t (Err InvalidSubtag) = ⊥
-KeywordsReadAs t (Err DuplicatedExtension) = ⊥
+KeywordsReadAs t = Answers (KeywordsText t)
+    (ExtensionFault (KeywordsTextFault t faults.InvalidExtension)) (KeywordsWantMemory (pieces t))

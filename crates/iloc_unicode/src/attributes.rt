@@ -1,5 +1,23 @@
 //! The attributes of a unicode extension.
-ghost use Rattle.std.specs.Prelude.{◌≡◌, ◌↔◌, ◌<◌, ◌≤◌, ◌+◌, ◌==◌, ◌++◌, [], ◌∷◌, true, length, OnOk, OnErr, IfOk, IsOk, IsTrue, Some};
+ghost use Rattle.std.specs.Prelude.{
+  ◌≡◌,
+  ◌↔◌,
+  ◌<◌,
+  ◌≤◌,
+  ◌+◌,
+  ◌==◌,
+  ◌++◌,
+  [],
+  ◌∷◌,
+  true,
+  length,
+  OnOk,
+  OnErr,
+  IfOk,
+  IsOk,
+  IsTrue,
+  Some,
+};
 ghost use Rattle.std.specs.List.{AllByRecursion, list_any};
 ghost use Rattle.std.specs.Cmp.Rules.{comparing};
 ghost use Rattle.std.specs.Hash.{same_Alike};

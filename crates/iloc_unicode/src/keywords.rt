@@ -1,5 +1,25 @@
 //! The keywords of a unicode extension.
-ghost use Rattle.std.specs.Prelude.{◌≡◌, ◌<◌, ◌==◌, ◌↔◌, ℕ, List, [], ◌∷◌, ◌++◌, true, length, reverse, IsSome, IsTrue, OnOk, OnErr, IfOk, IsOk, if◌then◌else◌};
+ghost use Rattle.std.specs.Prelude.{
+  ◌≡◌,
+  ◌<◌,
+  ◌==◌,
+  ◌↔◌,
+  ℕ,
+  List,
+  [],
+  ◌∷◌,
+  ◌++◌,
+  true,
+  length,
+  reverse,
+  IsSome,
+  IsTrue,
+  OnOk,
+  OnErr,
+  IfOk,
+  IsOk,
+  if◌then◌else◌,
+};
 ghost use Rattle.std.specs.Borrow.{sem};
 ghost use Rattle.std.specs.Fn.{CalledAt};
 ghost use Rattle.std.specs.FinMap.{find, put};
@@ -9,7 +29,11 @@ ghost use Rattle.std.specs.Map.{remove_entry};
 ghost use Rattle.std.specs.BTreeMap.{is_at};
 ghost use Rattle.std.specs.Option.{option_copied, option_copied_mut, is_some};
 ghost use Rattle.std.specs.Ordering.{as_partial_cmp};
-ghost use Rattle.std.specs.Cmp.{decided, partial_equiv_from_equiv, partial_order_from_agreeing_total};
+ghost use Rattle.std.specs.Cmp.{
+  decided,
+  partial_equiv_from_equiv,
+  partial_order_from_agreeing_total,
+};
 ghost use Rattle.std.specs.Hash.{same_Alike};
 ghost use Rattle.std.proofs.Common.{refl};
 ghost use Rattle.iloc_grammar.specs.Words.{word_cmp};
@@ -30,9 +54,16 @@ use std::marker::Model;
 use std::mem;
 
 /// A map from keys to values, kept by ascending key. One pair takes no memory.
-#[derive(Drop, Debug, Eq, Hash)]
+#[derive(Debug, Eq, Hash)]
 pub struct Keywords {
     map: LiteMap<Key, Value, ShortBoxSlice<(Key, Value)>>,
+}
+
+// Written rather than derived: who lets one go then proves a call, and not what it holds.
+impl Drop for Keywords {
+    fn drop(self) {
+        let Keywords { map: _map } = self;
+    }
 }
 
 impl Model for Keywords {
@@ -138,7 +169,9 @@ impl Keywords {
 
     // Sets the value of a key that isn't there; else nothing changes.
     pub(crate) fn add(&mut self, alloc: Global, key: Key, value: Value) -> Result<(), AllocError>
-        ensures ok { OnOk result (self.new ≡ (if is_some (find word_cmp key self.old) then self.old else put word_cmp key value self.old)) }
+        ensures ok { OnOk result (self.new
+            ≡ (if is_some (find word_cmp key self.old) then self.old
+            else put word_cmp key value self.old)) }
         ensures err { OnErr result (self.new ≡ self.old) }
         ensures succeeds { length self.old < 1 → IsOk result }
         ensures known { is_some (find word_cmp key self.old) ≡ true → IsOk result }
@@ -204,7 +237,10 @@ impl Keywords {
         pairs: I,
     ) -> Result<Self, AllocError>
         requires { IsFiniteIterable I.into_iter_gives I.IntoIter.can_next I.IntoIter.remaining pairs }
-        ensures { IfOk result (λ m. (it : I.IntoIter) × (xs : List (List ℕ × List (List ℕ))) × I.into_iter_gives pairs it × Drains I.IntoIter.next_gives it xs × (m ≡ map_of word_cmp (reverse xs))) }
+        ensures { IfOk result
+            (λ m. (it : I.IntoIter) × (xs : List (List ℕ × List (List ℕ)))
+            × I.into_iter_gives pairs it × Drains I.IntoIter.next_gives it xs
+            × (m ≡ map_of word_cmp (reverse xs))) }
     {
         let map = LiteMap::from_pairs(alloc, pairs)?;
         Ok(Keywords { map })
@@ -271,7 +307,8 @@ impl PartialOrd for Keywords {
 
     ghost partial_cmp = { as_partial_cmp keywords_cmp };
 
-    ghost laws = { partial_order_from_agreeing_total keywords_cmp keywords_total (λ _ _. refl) keywords_ties };
+    ghost laws = { partial_order_from_agreeing_total keywords_cmp keywords_total
+        (λ _ _. refl) keywords_ties };
 
     fn partial_cmp(&self, other: &Self) -> Option<Ordering> {
         Some(self.cmp(other))

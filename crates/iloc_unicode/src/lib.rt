@@ -30,7 +30,9 @@ pub fn orders()
 
 /// `==` answers whether two parts, or two unicode extensions, are the same.
 pub fn equality()
-    ensures attributes { (v w : List (List ℕ)) → IsTrue (⟦<Attributes as PartialEq>⟧.eq v w) ↔ (v ≡ w) }
+    ensures attributes { (v w : List (List ℕ))
+        → IsTrue (⟦<Attributes as PartialEq>⟧.eq v w) ↔ (v ≡ w) }
     ensures keywords { (v w : Fields) → IsTrue (⟦<Keywords as PartialEq>⟧.eq v w) ↔ (v ≡ w) }
-    ensures unicode { (u v : Unicode) → IsTrue (⟦<Unicode as PartialEq>⟧.eq u v) ↔ (value_of u ≡ value_of v) }
+    ensures unicode { (u v : Unicode)
+        → IsTrue (⟦<Unicode as PartialEq>⟧.eq u v) ↔ (value_of u ≡ value_of v) }
 {}

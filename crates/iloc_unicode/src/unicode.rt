@@ -92,7 +92,8 @@ impl Unicode {
     pub fn extend(&mut self, alloc: Global, other: Unicode) -> Result<(), AllocError>
         ensures ok { OnOk result (value_of self.new ≡ extend (value_of self.old) (value_of other)) }
         ensures err { OnErr result (self.new ≡ self.old) }
-        ensures associative { (u v w : UnicodeParts) → extend (extend u v) w ≡ extend u (extend v w) }
+        ensures associative { (u v w : UnicodeParts)
+            → extend (extend u v) w ≡ extend u (extend v w) }
     {
         let attributes = self.attributes.union(alloc, &other.attributes)?;
         self.keywords.extend_from_keywords(alloc, other.keywords)?;

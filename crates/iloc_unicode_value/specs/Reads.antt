@@ -7,13 +7,10 @@ use Rattle.iloc_grammar.specs.Reading.{passing}
 use Rattle.iloc_grammar.specs.Faults as faults
 use Rattle.iloc_fronts.specs.PartValues.{unicode_value}
 use Rattle.iloc_subtags.specs.declared.parse_error.ParseError.{ParseError}
-use Rattle.iloc_subtags.specs.declared.parse_error.ParseError.TheVariants.{InvalidLanguage, InvalidSubtag, InvalidExtension, DuplicatedExtension, OutOfMemory}
+use Rattle.iloc_subtags.specs.Answers.{Answers, SubtagFault}
 
 -- by cases on the answer; memory is wanted only for a fifth word besides `true`
 abbrev pub ReadsAs : List ℕ → Result (List (List ℕ)) ParseError → Type 0
-ReadsAs t (Ok v) = unicode_value t ≡ Ok v
-ReadsAs t (Err InvalidSubtag) = unicode_value t ≡ Err faults.InvalidSubtag
-ReadsAs t (Err OutOfMemory) = 4 < length (normal_values (passing (is_word Subtag) (pieces t)))
-ReadsAs t (Err InvalidLanguage) = ⊥
-ReadsAs t (Err InvalidExtension) = ⊥
-ReadsAs t (Err DuplicatedExtension) = ⊥
+ReadsAs t = Answers (λ v. unicode_value t ≡ Ok v)
+    (SubtagFault (unicode_value t ≡ Err faults.InvalidSubtag))
+    (4 < length (normal_values (passing (is_word Subtag) (pieces t))))

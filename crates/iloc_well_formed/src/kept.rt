@@ -3,7 +3,13 @@ ghost use Rattle.std.specs.Prelude.{IfSome};
 ghost use Rattle.std.specs.List.{AllByRecursion};
 ghost use Rattle.iloc_grammar.specs.Words.{languages, Subtag as the_kind};
 ghost use Rattle.iloc_grammar.specs.Written.{Identifier};
-ghost use Rattle.iloc_grammar.specs.Values.{IsIdentifierValue, IsNormal, IsTransformValue, IsUnicodeValue, IsValue};
+ghost use Rattle.iloc_grammar.specs.Values.{
+  IsIdentifierValue,
+  IsNormal,
+  IsTransformValue,
+  IsUnicodeValue,
+  IsValue,
+};
 ghost use Rattle.iloc_langid.specs.Reads as identifiers;
 ghost use Rattle.iloc_transform.specs.TransformReading as transforms;
 ghost use Rattle.iloc_unicode.specs.UnicodeValue as unicodes;

@@ -31,7 +31,8 @@ use iloc_unicode_value::Value;
 /// words of an identifier all extensions, well-formed or not, are a value: sets and maps ascend strictly,
 /// and all words are in the normal case of their kinds.
 pub fn is_well_formed(extensions: &Extensions) -> bool
-    ensures exactly { (id : Identifier) → IsTrue result ↔ IsWellFormed (locale_of id (value_of extensions.now)) }
+    ensures exactly { (id : Identifier)
+        → IsTrue result ↔ IsWellFormed (locale_of id (value_of extensions.now)) }
     ensures value { (id : Identifier) → IsIdentifierValue languages id
         → IsValue languages (locale_of id (value_of extensions.now)) }
 {

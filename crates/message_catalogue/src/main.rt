@@ -1,0 +1,94 @@
+//! Messages keyed by locales, and looked up by texts.
+//!
+//! A line `LOCALE TAB MESSAGE` of the input gives a locale its message; of equal locales the first one wins. A line
+//! `LOCALE` asks for the message: it is answered by the message, by `-` where there is none, or by why the text is no
+//! locale. A text that is normal is found by its bytes alone, and no locale is made of it.
+#![tactic(auto)]
+
+ghost use Rattle.std.specs.Prelude.{◌≡◌, ◌↔◌, All, Any, IfSome, IsNone, IsTrue};
+ghost use Rattle.icu_locale_core.specs.Values.{text as text_of};
+ghost use Rattle.icu_locale_core.specs.LocaleValue.{value_of};
+
+use icu_locale_core::{Locale, ParseError};
+use std::alloc::{AllocError, Global};
+use std::fmt::Write;
+use std::io;
+
+/// Whether the locale prints this text. It takes no memory.
+fn prints(locale: &Locale, text: &[u8]) -> bool
+    ensures { IsTrue result ↔ (text_of (value_of locale.now) ≡ text.now) }
+{
+    locale.strict_cmp(text).is_eq()
+}
+
+/// The first message of a locale that prints this text.
+fn message<'a>(entries: &[(Locale, &'a str)], text: &[u8]) -> Option<&'a str>
+    ensures found { IfSome result (λ m. Any
+        (λ e. (text_of (value_of e.0) ≡ text.now) × (e.1 ≡ m)) entries.now) }
+    ensures absent { IsNone result
+        → All (λ e. ¬ (text_of (value_of e.0) ≡ text.now)) entries.now }
+{
+    for entry in entries {
+        if prints(&entry.0, text) {
+            return Some(entry.1);
+        }
+    }
+    None
+}
+
+/// The first message of a locale that the text means, however it is spelled.
+fn find<'a>(
+    alloc: Global,
+    entries: &[(Locale, &'a str)],
+    text: &str,
+) -> Result<Option<&'a str>, ParseError> {
+    if let Some(found) = message(entries, text.as_bytes()) {
+        return Ok(Some(found));
+    }
+    let normal = Locale::normalize(alloc, text)?;
+    Ok(message(entries, normal.as_str().as_bytes()))
+}
+
+/// Gives the locale that the text means this message.
+fn put<'a>(
+    alloc: Global,
+    entries: &mut Vec<(Locale, &'a str)>,
+    text: &str,
+    message: &'a str,
+) -> Result<(), ParseError> {
+    let locale = Locale::try_from_str(alloc, text)?;
+    match entries.push((locale, message)) {
+        Ok(()) => Ok(()),
+        Err(_) => Err(ParseError::OutOfMemory),
+    }
+}
+
+/// Says the message of the locale that the text means.
+fn say(
+    alloc: Global,
+    entries: &[(Locale, &str)],
+    text: &str,
+    out: &mut String,
+) -> Result<(), AllocError> {
+    match find(alloc, entries, text) {
+        Ok(Some(found)) => writeln!(out, "{text}: {found}"),
+        Ok(None) => writeln!(out, "{text}: -"),
+        Err(ParseError::OutOfMemory) => Err(AllocError),
+        Err(refusal) => writeln!(out, "{text}: {refusal}"),
+    }
+}
+
+fn main(rt: HostRuntime) -> anyhow::Result<()> {
+    let alloc = rt.alloc();
+    let input = io::read_to_string(alloc, rt.reader())?;
+    let mut entries = Vec::new(alloc);
+    let mut out = String::new(alloc);
+    for line in input.as_str().lines() {
+        match line.split_once('\t') {
+            Some((text, message)) => put(alloc, &mut entries, text, message)?,
+            None => say(alloc, entries.as_slice(), line, &mut out)?,
+        }
+    }
+    print!(rt; "{out}")?;
+    Ok(())
+}
