@@ -18,6 +18,12 @@ use std::str::FromStr;
 ///
 /// Fields can be set to what no text means. The region and the subdivision stand for one thing: the subdivision
 /// where it is there and readable, and else the region as a whole.
+///
+/// ```text
+/// let locale = DataLocale::try_from_str("en-us-u-sd-USTX")?; // en-US-u-sd-ustx, which takes no memory
+/// locale.strict_cmp(b"en-US-u-sd-ustx").is_eq(); // true
+/// DataLocale::from(&Locale::try_from_str(alloc, "en-GB-u-ca-buddhist")?); // en-GB
+/// ```
 #[derive(Clone, Copy)]
 pub struct DataLocale {
     /// The language.

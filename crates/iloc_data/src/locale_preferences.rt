@@ -25,6 +25,13 @@ use iloc_subtags::{Language, Region, Script, Variant};
 use std::marker::Model;
 
 /// What a locale says of language, script, region and variant, with the region that stands in the place of its own.
+///
+/// ```text
+/// let locale = Locale::try_from_str(alloc, "en-u-rg-gbzzzz")?;
+/// let preferences = LocalePreferences::from(&locale);
+/// preferences.to_data_locale_language_priority(); // en
+/// preferences.to_data_locale_region_priority(); // en-GB
+/// ```
 #[derive(Clone, Copy, Debug, PartialEq, Eq, Hash)]
 pub struct LocalePreferences {
     pub(crate) language: Language,

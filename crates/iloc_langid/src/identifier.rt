@@ -23,6 +23,12 @@ use std::fmt;
 ///
 /// `en-Latn-US-posix` is one. Words are kept in their normal case and variants as a set, so equal values
 /// are equal meanings.
+///
+/// ```text
+/// let identifier = LanguageIdentifier::try_from_str(alloc, "EN-latn-us-POSIX")?; // en-Latn-US-posix
+/// identifier.region == Some(Region::try_from_str("us")?); // true
+/// identifier.normalizing_eq("en-LATN-US-posix"); // true
+/// ```
 #[derive(Clone, Drop, PartialEq, Eq, Hash)]
 pub struct LanguageIdentifier {
     pub language: Language,

@@ -21,6 +21,12 @@ use std::alloc::Global;
 ///
 /// `en-US-u-ca-buddhist` is one. Both parts can be set to what no text means: `is_well_formed` tells whether
 /// the text of a locale reads back as it.
+///
+/// ```text
+/// let mut locale = Locale::try_from_str(alloc, "EN-us-u-ca-Buddhist")?; // en-US-u-ca-buddhist
+/// locale.id.region = Some(Region::try_from_str("gb")?);
+/// locale.normalizing_eq(alloc, "en-gb-u-ca-buddhist")?; // true
+/// ```
 #[derive(Clone, Drop, PartialEq, Eq, Hash)]
 pub struct Locale {
     /// The identifier.

@@ -54,6 +54,12 @@ use std::marker::Model;
 use std::mem;
 
 /// A map from keys to values, kept by ascending key. One pair takes no memory.
+///
+/// ```text
+/// let mut keywords = Keywords::try_from_str(alloc, "hc-h12-ca-roc")?; // ca-roc-hc-h12
+/// keywords.set(alloc, key::ca(), Value::try_from_str(alloc, "buddhist")?)?; // the old value, roc
+/// keywords.get(&key::nu()); // None
+/// ```
 #[derive(Debug, Eq, Hash)]
 pub struct Keywords {
     map: LiteMap<Key, Value, ShortBoxSlice<(Key, Value)>>,

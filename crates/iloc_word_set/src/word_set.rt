@@ -40,6 +40,13 @@ impl<K: WordKind<N>, const N: usize> Model for WordSet<K, N> {
 }
 
 /// The variants of an identifier, as `macos` and `posix`.
+///
+/// ```text
+/// let mut variants = Variants::new();
+/// variants.push(alloc, Variant::try_from_str("POSIX")?)?; // true
+/// variants.push(alloc, Variant::try_from_str("macos")?)?; // true: macos-posix
+/// variants.push(alloc, Variant::try_from_str("macos")?)?; // false, for it is there
+/// ```
 pub type Variants = WordSet<VariantKind, 8>;
 
 impl WordSet<VariantKind, 8> {
