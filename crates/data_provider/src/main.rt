@@ -89,7 +89,8 @@ impl<'a> Provider<'a> {
 
     /// The payload of the first data locale of the chain that has one.
     fn load(&self, locale: DataLocale, priority: Priority) -> Option<Response<'a>>
-        ensures found { IfSome result (λ r. get same_key self.now.payloads r.locale ≡ Some r.payload) }
+        ensures found { IfSome result
+            (λ r. get same_key self.now.payloads r.locale ≡ Some r.payload) }
         ensures itself { ContainsKey same_key self.now.payloads locale
             → IfSome result (λ r. r.locale ≡ locale) }
     {

@@ -37,7 +37,9 @@ fn has_as_many(iter: SubtagIterator<'_>, count: usize) -> bool
 
 /// Whether the pieces that are left are as many as the variants, and each variant is among them.
 pub(crate) fn has_variants(iter: SubtagIterator<'_>, variants: &[Variant]) -> bool
-    ensures { result ≡ ((length (left iter.entry) == length variants.now) && are_all_among (left iter.entry) variants.now) }
+    ensures { result
+        ≡ ((length (left iter.entry) == length variants.now) && are_all_among (left iter.entry)
+        variants.now) }
 {
     if !has_as_many(iter, variants.len()) {
         return false;

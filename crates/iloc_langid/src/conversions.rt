@@ -10,7 +10,8 @@ impl From<Language> for LanguageIdentifier {
     ghost use Rattle.std.specs.Prelude.{◌≡◌, None, []};
     ghost use Rattle.iloc_langid.specs.Reads.{value_of};
 
-    ghost from_gives = { λ language i. value_of i ≡ record { language = language; script = None; region = None; variants = [] } };
+    ghost from_gives = { λ language i. value_of i
+        ≡ record { language = language; script = None; region = None; variants = [] } };
 
     fn from(language: Language) -> Self {
         LanguageIdentifier {
@@ -27,7 +28,8 @@ impl From<Option<Script>> for LanguageIdentifier {
     ghost use Rattle.std.specs.Prelude.{◌≡◌, None, [], codes};
     ghost use Rattle.iloc_langid.specs.Reads.{value_of};
 
-    ghost from_gives = { λ script i. value_of i ≡ record { language = codes "und"; script = script; region = None; variants = [] } };
+    ghost from_gives = { λ script i. value_of i
+        ≡ record { language = codes "und"; script = script; region = None; variants = [] } };
 
     fn from(script: Option<Script>) -> Self {
         LanguageIdentifier {
@@ -44,7 +46,8 @@ impl From<Option<Region>> for LanguageIdentifier {
     ghost use Rattle.std.specs.Prelude.{◌≡◌, None, [], codes};
     ghost use Rattle.iloc_langid.specs.Reads.{value_of};
 
-    ghost from_gives = { λ region i. value_of i ≡ record { language = codes "und"; script = None; region = region; variants = [] } };
+    ghost from_gives = { λ region i. value_of i
+        ≡ record { language = codes "und"; script = None; region = region; variants = [] } };
 
     fn from(region: Option<Region>) -> Self {
         LanguageIdentifier {
@@ -61,7 +64,8 @@ impl From<(Language, Option<Script>, Option<Region>)> for LanguageIdentifier {
     ghost use Rattle.std.specs.Prelude.{◌≡◌, []};
     ghost use Rattle.iloc_langid.specs.Reads.{value_of};
 
-    ghost from_gives = { λ lsr i. value_of i ≡ record { language = lsr.0; script = lsr.1; region = lsr.2; variants = [] } };
+    ghost from_gives = { λ lsr i. value_of i
+        ≡ record { language = lsr.0; script = lsr.1; region = lsr.2; variants = [] } };
 
     fn from(lsr: (Language, Option<Script>, Option<Region>)) -> Self {
         LanguageIdentifier {
@@ -77,7 +81,8 @@ impl From<(Language, Option<Script>, Option<Region>)> for LanguageIdentifier {
 impl From<&LanguageIdentifier> for (Language, Option<Script>, Option<Region>) {
     ghost use Rattle.std.specs.Prelude.{◌≡◌};
 
-    ghost from_gives = { λ langid parts. parts ≡ (langid.now.language, langid.now.script, langid.now.region) };
+    ghost from_gives = { λ langid parts. parts
+        ≡ (langid.now.language, langid.now.script, langid.now.region) };
 
     fn from(langid: &LanguageIdentifier) -> Self {
         (langid.language, langid.script, langid.region)

@@ -32,7 +32,8 @@ impl<const N: usize> Pieces for LowerWord<N> {
 
 #[tactic(auto, unfolding(iloc_grammar::specs::Words::lower))]
 fn lower_word<K: WordKind<N>, const N: usize>(word: &Option<WordOf<K, N>>) -> Option<LowerWord<N>>
-    ensures { flat_map (λ w. w.0 ∷ []) (option_to_list result) ≡ option_to_list (option_map lower word.now) }
+    ensures { flat_map (λ w. w.0 ∷ []) (option_to_list result)
+        ≡ option_to_list (option_map lower word.now) }
 {
     match word {
         Some(word) => Some(LowerWord(word.to_tinystr().to_ascii_lowercase())),

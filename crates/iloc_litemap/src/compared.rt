@@ -12,7 +12,8 @@ impl<K: Ord + Drop, V: PartialEq + Drop, S: Store<K, V>> PartialEq for LiteMap<K
 
     ghost eq = { pointwise (λ x y. K.eq x.0 y.0 && V.eq x.1 y.1) };
 
-    ghost laws = { lists_per (and_per (on_per (λ x. x.0) K.PartialEq.laws) (on_per (λ x. x.1) V.PartialEq.laws)) };
+    ghost laws = { lists_per (and_per (on_per (λ x. x.0) K.PartialEq.laws)
+        (on_per (λ x. x.1) V.PartialEq.laws)) };
 
     fn eq(&self, other: &Self) -> bool {
         self.as_slice() == other.as_slice()
@@ -22,7 +23,8 @@ impl<K: Ord + Drop, V: PartialEq + Drop, S: Store<K, V>> PartialEq for LiteMap<K
 impl<K: Ord + Drop, V: Eq + Drop, S: Store<K, V>> Eq for LiteMap<K, V, S> {
     ghost use Rattle.std.specs.Cmp.{and_equiv, on_equiv};
 
-    ghost laws = { lists_equiv (and_equiv (on_equiv (λ x. x.0) K.Eq.laws) (on_equiv (λ x. x.1) V.Eq.laws)) };
+    ghost laws = { lists_equiv (and_equiv (on_equiv (λ x. x.0) K.Eq.laws)
+        (on_equiv (λ x. x.1) V.Eq.laws)) };
 }
 
 impl<K: Ord + Hash + Drop, V: Hash + Drop, S: Store<K, V>> Hash for LiteMap<K, V, S> {
@@ -31,7 +33,9 @@ impl<K: Ord + Hash + Drop, V: Hash + Drop, S: Store<K, V>> Hash for LiteMap<K, V
 
     ghost hash_input = { fed.slice (λ x. K.hash_input x.0 ++ V.hash_input x.1) };
 
-    ghost respects_eq = { (items_Alike (and-Alike (on_Alike (λ x. x.0) (record { fed = K.respects_eq })) (on_Alike (λ x. x.1) (record { fed = V.respects_eq })))).fed };
+    ghost respects_eq = { (items_Alike (and-Alike
+        (on_Alike (λ x. x.0) (record { fed = K.respects_eq }))
+        (on_Alike (λ x. x.1) (record { fed = V.respects_eq })))).fed };
 
     fn hash<H: Hasher>(&self, state: &mut H) {
         self.as_slice().hash(state);

@@ -51,7 +51,8 @@ impl<K: Drop, V: Drop> Store<K, V> for ShortBoxSlice<(K, V)> {
         self.retain(
             move |pair: &(K, V)| -> bool
                 requires { F.IsAlwaysCallable predicate }
-                ensures asked { CalledAtKeyValue F.FnMut predicate.entry pair.now result predicate.exit }
+                ensures asked { CalledAtKeyValue F.FnMut predicate.entry pair.now result
+                    predicate.exit }
                 ensures callable { F.IsAlwaysCallable predicate.exit }
             { predicate(&pair.0, &pair.1) },
         );

@@ -48,7 +48,8 @@ impl Model for Other {
 
     ghost view = { λ o. (o.ext, o.keys) };
 
-    ghost invariant = { λ o. (is_ascii_alphanumeric o.ext ≡ true) × AllByRecursion (IsNormal the_kind) o.keys };
+    ghost invariant = { λ o. (is_ascii_alphanumeric o.ext ≡ true)
+        × AllByRecursion (IsNormal the_kind) o.keys };
 
     ghost inverse = { λ o. record { ext = o.0; keys = o.1 } };
 }
@@ -154,8 +155,11 @@ impl Other {
     // Adds the piece at the end where it is a word. Up to four take no memory.
     fn push_word(&mut self, alloc: Global, piece: &[u8]) -> Result<(), ParseError>
         ensures singleton { self.new.0 ≡ self.old.0 }
-        ensures ok { OnOk result (self.new.1 ≡ (if is_word the_kind piece.now then self.old.1 ++ lower piece.now ∷ [] else self.old.1)) }
-        ensures err { IfErr result (λ e. (e ≡ ParseError.OutOfMemory) × (is_word the_kind piece.now ≡ true)) }
+        ensures ok { OnOk result (self.new.1
+            ≡ (if is_word the_kind piece.now then self.old.1 ++ lower piece.now ∷ []
+            else self.old.1)) }
+        ensures err { IfErr result
+            (λ e. (e ≡ ParseError.OutOfMemory) × (is_word the_kind piece.now ≡ true)) }
         ensures succeeds { length self.old.1 < 4 → IsOk result }
     {
         match Subtag::try_from_utf8(piece) {

@@ -11,7 +11,8 @@ use iloc_subtags::{WordKind, WordOf};
 pub fn take_word<K: WordKind<N>, const N: usize>(
     iter: &mut SubtagIterator<'_>,
 ) -> Option<WordOf<K, N>>
-    ensures word { result ≡ option_map (normal K.kind) (take_first (is_word K.kind) (left iter.old)) }
+    ensures word { result
+        ≡ option_map (normal K.kind) (take_first (is_word K.kind) (left iter.old)) }
     ensures rest { left iter.new ≡ skip_first (is_word K.kind) (left iter.old) }
 {
     let piece = iter.peek()?;

@@ -54,7 +54,8 @@ impl ShortPiece {
     /// The piece of a text, from its number.
     #[inline(always)]
     pub fn of_number(packed: u64) -> Self
-        ensures { (text : List ℕ) → list_all is_text_byte text ≡ true → packed ≡ number text → result ≡ text }
+        ensures { (text : List ℕ) → list_all is_text_byte text ≡ true → packed ≡ number text
+            → result ≡ text }
     {
         ShortPiece {
             packed,

@@ -6,7 +6,8 @@ ghost use Rattle.iloc_shortvec.specs.ShortList.{written};
 /// The first `len` of four cells. Once the borrow ends, the four are what was written and, after it, those that were there.
 pub(crate) fn front_mut<T>(cells: &mut [T; 4], len: usize) -> &mut [T]
     requires { len ≤ 4 }
-    ensures* writes_back { sem 𝓛 (Lends (Array T.row 4) (Array T.row 0) cells.entry result (written cells.old)) }
+    ensures* writes_back { sem 𝓛 (Lends (Array T.row 4) (Array T.row 0) cells.entry result
+        (written cells.old)) }
     ensures value { result.now ≡ take len cells.old }
 {
     &mut cells[..len]

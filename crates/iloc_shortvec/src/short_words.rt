@@ -309,8 +309,11 @@ fn kept_of<T: Copy, F: FnMut(&T) -> bool + Drop>(items: &[T], mut keep: F) -> Sh
 impl<T: Copy> ShortWords<T> {
     /// The list of what the iterator gives, in its order. Refusal: `AllocError`.
     pub fn from_iter<I: IntoIterator<Item = T>>(alloc: Global, iter: I) -> Result<Self, AllocError>
-        requires ends { (it : I.IntoIter) → I.into_iter_gives iter it → I.IntoIter.can_next it × IsFinite (I.IntoIter.remaining it) }
-        ensures { IfOk result (λ list. (it : I.IntoIter) × I.into_iter_gives iter it × Drains I.IntoIter.next_gives it list) }
+        requires ends { (it : I.IntoIter) → I.into_iter_gives iter it
+            → I.IntoIter.can_next it × IsFinite (I.IntoIter.remaining it) }
+        ensures { IfOk result
+            (λ list. (it : I.IntoIter) × I.into_iter_gives iter it
+            × Drains I.IntoIter.next_gives it list) }
     {
         let mut list = ShortWords::new();
         for item in iter {
@@ -400,7 +403,8 @@ impl<T: Copy + Ord> Ord for ShortWords<T> {
 impl<T: Copy + Ord> PartialOrd for ShortWords<T> {
     ghost partial_cmp = { as_partial_cmp (short_cmp T.cmp) };
 
-    ghost laws = { partial_order_from_agreeing_total (short_cmp T.cmp) (short_total T.total) (λ _ _. refl) (λ xs ys. short_ties T.cmp T.matches_eq xs ys) };
+    ghost laws = { partial_order_from_agreeing_total (short_cmp T.cmp) (short_total T.total)
+        (λ _ _. refl) (λ xs ys. short_ties T.cmp T.matches_eq xs ys) };
 
     fn partial_cmp(&self, other: &Self) -> Option<Ordering> {
         Some(self.cmp(other))

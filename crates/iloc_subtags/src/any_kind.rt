@@ -25,7 +25,8 @@ pub trait Word: Copy + Ord + Hash {
 
     /// Reads a word, in any case.
     fn try_from_utf8(code_units: &[u8]) -> Result<Self, ParseError>
-        ensures { MatchResult result (λ w. normal_text code_units.now ≡ Some (shown w)) (λ e. (e ≡ fault) × (normal_text code_units.now ≡ None)) };
+        ensures { MatchResult result (λ w. normal_text code_units.now ≡ Some (shown w))
+            (λ e. (e ≡ fault) × (normal_text code_units.now ≡ None)) };
 
     /// The text of the word, which is its own normal text.
     fn as_str(&self) -> &str
@@ -33,13 +34,16 @@ pub trait Word: Copy + Ord + Hash {
         ensures normal { normal_text (shown self.now) ≡ Some (shown self.now) };
 
     /// A normal text is accepted, and is its own normal text.
-    ghost normal_again: { (t normal : List ℕ) → normal_text t ≡ Some normal → normal_text normal ≡ Some normal };
+    ghost normal_again: { (t normal : List ℕ) → normal_text t ≡ Some normal
+        → normal_text normal ≡ Some normal };
 
     /// It is as long as the text.
-    ghost length_kept: { (t normal : List ℕ) → normal_text t ≡ Some normal → length normal ≡ length t };
+    ghost length_kept: { (t normal : List ℕ) → normal_text t ≡ Some normal
+        → length normal ≡ length t };
 
     /// Two accepted texts have one normal text exactly where they are equal without case.
-    ghost one_normal: { (a b v w : List ℕ) → normal_text a ≡ Some v → normal_text b ≡ Some w → (v ≡ w) ↔ (lower a ≡ lower b) };
+    ghost one_normal: { (a b v w : List ℕ) → normal_text a ≡ Some v → normal_text b ≡ Some w
+        → (v ≡ w) ↔ (lower a ≡ lower b) };
 
     /// Words stand in the byte order of their texts.
     ghost by_bytes: { (a b : Self) → Self.cmp a b ≡ slice_cmp nat_cmp (shown a) (shown b) };

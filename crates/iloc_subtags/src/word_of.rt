@@ -88,7 +88,8 @@ impl<K: WordKind<N>, const N: usize> WordOf<K, N> {
 
     /// The word of its normal text.
     pub(crate) fn from_normal(text: TinyAsciiStr<N>) -> Result<Self, ParseError>
-        ensures { MatchResult result (λ word. (word ≡ text.entry) × IsNormal K.kind text.entry) (λ e. (e ≡ K.refusal) × ¬ (IsNormal K.kind text.entry)) }
+        ensures { MatchResult result (λ word. (word ≡ text.entry) × IsNormal K.kind text.entry)
+            (λ e. (e ≡ K.refusal) × ¬ (IsNormal K.kind text.entry)) }
     {
         let piece = text.to_piece();
         if !K::accepts(piece) {

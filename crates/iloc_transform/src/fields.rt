@@ -179,7 +179,8 @@ impl Fields {
         alloc: Global,
         pairs: I,
     ) -> Result<Self, AllocError>
-        requires { IsFiniteIterable I.into_iter_gives I.IntoIter.can_next I.IntoIter.remaining pairs }
+        requires { IsFiniteIterable I.into_iter_gives I.IntoIter.can_next
+            I.IntoIter.remaining pairs }
         ensures { IfOk result
             (λ m. (it : I.IntoIter) × (xs : List (List ℕ × List (List ℕ)))
             × I.into_iter_gives pairs it × Drains I.IntoIter.next_gives it xs

@@ -230,6 +230,7 @@ impl Keywords {
     pub fn extend_from_keywords(&mut self, alloc: Global, other: Keywords) -> Result<(), AllocError>
         ensures ok { OnOk result (self.new ≡ map_of word_cmp (other ++ self.old)) }
         ensures err { OnErr result (self.new ≡ self.old) }
+        ensures succeeds { length other ≡ 0 → IsOk result }
     {
         let _ = self.as_slice();
         let _ = other.as_slice();
@@ -242,7 +243,8 @@ impl Keywords {
         alloc: Global,
         pairs: I,
     ) -> Result<Self, AllocError>
-        requires { IsFiniteIterable I.into_iter_gives I.IntoIter.can_next I.IntoIter.remaining pairs }
+        requires { IsFiniteIterable I.into_iter_gives I.IntoIter.can_next
+            I.IntoIter.remaining pairs }
         ensures { IfOk result
             (λ m. (it : I.IntoIter) × (xs : List (List ℕ × List (List ℕ)))
             × I.into_iter_gives pairs it × Drains I.IntoIter.next_gives it xs

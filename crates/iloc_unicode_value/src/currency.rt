@@ -34,7 +34,8 @@ fn currency_of(value: &Value) -> Option<CurrencyType>
 impl TryFrom<&Value> for CurrencyType {
     type Error = PreferencesParseError;
 
-    ghost try_from_gives = { λ value result. Reads (λ code. code) (currency_reads value.now) result };
+    ghost try_from_gives = { λ value result. Reads
+        (λ code. code) (currency_reads value.now) result };
 
     fn try_from(input: &Value) -> Result<Self, PreferencesParseError> {
         currency_of(input).ok_or(PreferencesParseError::InvalidKeywordValue)

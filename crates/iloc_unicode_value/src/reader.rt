@@ -43,9 +43,11 @@ impl Value {
 /// besides `true` take no memory.
 #[tactic(auto, using(crate::proofs::ReadingLemmas::attribute_is_subtag))]
 pub fn read_value(alloc: Global, iter: &mut SubtagIterator<'_>) -> Result<Value, AllocError>
-    ensures value { IfOk result (λ v. v ≡ normal_values (passing (is_word Attribute) (left iter.old))) }
+    ensures value { IfOk result
+        (λ v. v ≡ normal_values (passing (is_word Attribute) (left iter.old))) }
     ensures rest { OnOk result (left iter.new ≡ past (is_word Attribute) (left iter.old)) }
-    ensures succeeds { length (normal_values (passing (is_word Attribute) (left iter.old))) ≤ 4 → IsOk result }
+    ensures succeeds { length (normal_values (passing (is_word Attribute) (left iter.old))) ≤ 4
+        → IsOk result }
 {
     read_words::<AttributeKind>(alloc, iter)
 }
@@ -56,9 +58,11 @@ fn read_words<K: WordKind<8>>(
     iter: &mut SubtagIterator<'_>,
 ) -> Result<Value, AllocError>
     requires { (w : List ℕ) → IsNormal K.kind w → IsNormal Subtag w }
-    ensures value { IfOk result (λ v. v ≡ without_true (map (normal K.kind) (passing (is_word K.kind) (left iter.old)))) }
+    ensures value { IfOk result
+        (λ v. v ≡ without_true (map (normal K.kind) (passing (is_word K.kind) (left iter.old)))) }
     ensures rest { OnOk result (left iter.new ≡ past (is_word K.kind) (left iter.old)) }
-    ensures succeeds { length (without_true (map (normal K.kind) (passing (is_word K.kind) (left iter.old)))) ≤ 4 → IsOk result }
+    ensures succeeds { length (without_true
+        (map (normal K.kind) (passing (is_word K.kind) (left iter.old)))) ≤ 4 → IsOk result }
 {
     let mut value = Value::new_empty();
     'words: while let Some(word) = take_word::<K, 8>(iter) {

@@ -154,8 +154,11 @@ impl Value {
     ) -> Result<Self, AllocError>
     where
         I::IntoIter: Drop,
-        requires { IsFiniteIterable I.into_iter_gives I.IntoIter.can_next I.IntoIter.remaining iter }
-        ensures { IfOk result (λ v. (it : I.IntoIter) × I.into_iter_gives iter it × Drains I.IntoIter.next_gives it v) }
+        requires { IsFiniteIterable I.into_iter_gives I.IntoIter.can_next
+            I.IntoIter.remaining iter }
+        ensures { IfOk result
+            (λ v. (it : I.IntoIter) × I.into_iter_gives iter it
+            × Drains I.IntoIter.next_gives it v) }
     {
         let mut value = Value::new_empty();
         value.extend(alloc, iter)?;
@@ -170,8 +173,11 @@ impl Value {
     ) -> Result<(), AllocError>
     where
         I::IntoIter: Drop,
-        requires { IsFiniteIterable I.into_iter_gives I.IntoIter.can_next I.IntoIter.remaining iter }
-        ensures ok { OnOk result ((it : I.IntoIter) × (xs : List (List ℕ)) × I.into_iter_gives iter it × Drains I.IntoIter.next_gives it xs × (self.new ≡ self.old ++ xs)) }
+        requires { IsFiniteIterable I.into_iter_gives I.IntoIter.can_next
+            I.IntoIter.remaining iter }
+        ensures ok { OnOk result ((it : I.IntoIter) × (xs : List (List ℕ))
+            × I.into_iter_gives iter it × Drains I.IntoIter.next_gives it xs
+            × (self.new ≡ self.old ++ xs)) }
         ensures err { OnErr result (self.new ≡ self.old) }
     {
         let before = self.subtag_count();

@@ -48,7 +48,8 @@ fn with_word<K: WordKind<N>, const N: usize>(
     word: WordOf<K, N>,
 ) -> Result<Option<Vec<WordOf<K, N>>>, AllocError>
     ensures known { IfOk result (λ more. is_none more ≡ list_any (is_same word) set.now) }
-    ensures more { IfOk result (λ more. IfSome more (λ words. words.items ≡ set_of (word ∷ set.now))) }
+    ensures more { IfOk result
+        (λ more. IfSome more (λ words. words.items ≡ set_of (word ∷ set.now))) }
     ensures err { OnErr result (list_any (is_same word) set.now ≡ false) }
 {
     match set.as_slice().binary_search(&word) {

@@ -17,7 +17,8 @@ pub fn held_texts<S: Sink, A: Allocator>()
     ensures added { (held : S → List ℕ) → HoldsText S.took S.failed held
         → (old new : S) (text : List ℕ) (r : Result (Unit {0}) Error)
         → Writes S.took S.failed old text new r → Adds S.failed held old text new r }
-    ensures strings { HoldsText ⟦<String<A> as Sink>⟧.took ⟦<String<A> as Sink>⟧.failed string_bytes }
+    ensures strings { HoldsText ⟦<String<A> as Sink>⟧.took
+        ⟦<String<A> as Sink>⟧.failed string_bytes }
     ensures strings_full { (old new : String A) (text rest : List ℕ)
         → ⟦<String<A> as Sink>⟧.failed old text rest new
         → string_capacity old < string_len old + length (text ++ rest) }

@@ -22,11 +22,13 @@ pub trait Pieces {
 
     /// Writes the pieces, each after a hyphen, but for one that stands first of all.
     fn write_pieces<S: Sink>(&self, sink: &mut S, first: bool) -> fmt::Result
-        ensures { Writes S.took S.failed sink.old (hyphened first (pieces self.now)) sink.new result };
+        ensures { Writes S.took S.failed sink.old (hyphened first (pieces self.now))
+            sink.new result };
 
     /// Writes the pieces with a hyphen between each two.
     final fn write_joined<S: Sink>(&self, sink: &mut S) -> fmt::Result
-        ensures { Writes S.took S.failed sink.old (join_with_byte 45 (pieces self.now)) sink.new result }
+        ensures { Writes S.took S.failed sink.old (join_with_byte 45 (pieces self.now))
+            sink.new result }
     {
         self.write_pieces(sink, true)
     }
@@ -162,7 +164,8 @@ impl<P: Pieces, Q: Pieces, R: Pieces> Pieces for (P, Q, R) {
 
 /// The pieces of four parts, in order.
 impl<P: Pieces, Q: Pieces, R: Pieces, T: Pieces> Pieces for (P, Q, R, T) {
-    ghost pieces = { λ parts. P.pieces parts.0 ++ (Q.pieces parts.1 ++ (R.pieces parts.2 ++ T.pieces parts.3)) };
+    ghost pieces = { λ parts. P.pieces parts.0
+        ++ (Q.pieces parts.1 ++ (R.pieces parts.2 ++ T.pieces parts.3)) };
 
     fn has_pieces(&self) -> bool {
         (&self.0, (&self.1, (&self.2, &self.3))).has_pieces()
@@ -175,7 +178,8 @@ impl<P: Pieces, Q: Pieces, R: Pieces, T: Pieces> Pieces for (P, Q, R, T) {
 
 /// The pieces of five parts, in order.
 impl<P: Pieces, Q: Pieces, R: Pieces, T: Pieces, U: Pieces> Pieces for (P, Q, R, T, U) {
-    ghost pieces = { λ parts. P.pieces parts.0 ++ (Q.pieces parts.1 ++ (R.pieces parts.2 ++ (T.pieces parts.3 ++ U.pieces parts.4))) };
+    ghost pieces = { λ parts. P.pieces parts.0
+        ++ (Q.pieces parts.1 ++ (R.pieces parts.2 ++ (T.pieces parts.3 ++ U.pieces parts.4))) };
 
     fn has_pieces(&self) -> bool {
         (&self.0, (&self.1, (&self.2, (&self.3, &self.4)))).has_pieces()
