@@ -1,5 +1,5 @@
--- What readers answer: what was read, a fault that is there, or want of memory. Since a text has one
--- meaning or one fault and never both, each case of an answer says both directions.
+-- What readers answer: what was read, a fault that is there, or want of memory. Where a text has one
+-- meaning or one fault and never both, each case but want of memory says both directions.
 use Rattle.std.specs.Prelude.{Result, Ok, Err}
 use Rattle.iloc_grammar.specs.Faults as faults
 use Rattle.iloc_grammar.specs.Faults.{Fault}
@@ -54,7 +54,7 @@ IdentifierFaults L S faults.InvalidSubtag = S
 IdentifierFaults L S faults.InvalidExtension = ⊥
 IdentifierFaults L S faults.DuplicatedExtension = ⊥
 
--- the same of a relation that names each
+-- the same two, taken from a relation that says of each fault when it is there
 abbrev pub OfIdentifier : (Fault → Type 0) → Fault → Type 0
 OfIdentifier F = IdentifierFaults (F faults.InvalidLanguage) (F faults.InvalidSubtag)
 
