@@ -49,7 +49,8 @@ fn take_byte(iter: &mut SubtagIterator<'_>) -> Option<u8>
     }
 }
 
-// Reads the block after a byte that was taken.
+// Reads the block after a byte that was taken. It stands apart, so that a text without blocks pays nothing for it.
+#[inline(never)]
 fn read_block(
     alloc: Global,
     byte: u8,

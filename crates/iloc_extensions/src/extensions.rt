@@ -57,6 +57,7 @@ impl Extensions {
     }
 
     /// Empties all four parts.
+    #[inline(always)]
     pub fn clear(&mut self)
         ensures { value_of self.new ≡ none }
     {

@@ -1,6 +1,7 @@
 -- From what a front is read as to what the whole or the head is read as.
 use Rattle.std.proofs.Common.{◌≡◌, ◌≢◌, ◌<◌, ℕ, Bool, true, false, List, [], ◌∷◌, ◌++◌, length, refl, sym, ap, ◌∙◌, subst, arith, append-nil, Some, None, option_map, Result, Ok, Err, true≢false, ◌==◌}
 use Rattle.std.specs.Prelude.{if◌then◌else◌}
+use Rattle.std.specs.Result.{result_and}
 use Rattle.std.proofs.lemmas.Bool.Decides.{nat_tests}
 use Rattle.std.proofs.lemmas.Bool.{false_from_ne_true}
 use Rattle.iloc_grammar.specs.Words.{Kind, Language, Script, Region, is_word, IsWord, normal, lower, title, upper, languages, read}
@@ -56,6 +57,15 @@ front_refuses ps first qs rs us rest rest' f e w er eu v =
     by InvalidLanguage v = absurd v
     by InvalidExtension v = absurd v
     by DuplicatedExtension v = absurd v
+
+-- the same by the answer of what fills in the variants
+pub front_filled : (ps : List (List ℕ)) (first : List ℕ) (qs rs us rest : List (List ℕ)) (i : LanguageIdentifier) (r : Result (Unit {0}) ParseError)
+    → ps ≡ first ∷ qs → IsWord (Language languages) first → i.language ≡ lower first
+    → i.script ≡ option_map title (take_first (is_word Script) qs) → rs ≡ skip_first (is_word Script) qs
+    → i.region ≡ option_map upper (take_first (is_word Region) rs) → us ≡ skip_first (is_word Region) rs
+    → VariantsGive us rest (result_and r (Ok i.variants)) → FrontGives ps rest (result_and r (Ok i))
+front_filled ps first qs rs us rest i (Ok _) e w l s er r eu v = front_gives ps first qs rs us rest i e w l s er r eu v
+front_filled ps first qs rs us rest i (Err f) e w l s er r eu v = front_refuses ps first qs rs us rest rest f e w er eu v
 
 -- where the front should end before rest
 module _ (p : List ℕ) (qs rest : List (List ℕ)) (ends : EndsWords rest) (r : List (List ℕ)) where

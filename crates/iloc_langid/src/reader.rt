@@ -1,8 +1,9 @@
 //! Reads identifiers from pieces.
-ghost use Rattle.std.specs.Prelude.{◌≡◌, ◌++◌, [], length, Ok, OnOk};
+ghost use Rattle.std.specs.Prelude.{◌≡◌, ◌++◌, [], false, length, Ok, OnOk};
 ghost use Rattle.std.specs.Result.{result_and};
 ghost use Rattle.iloc_grammar.specs.Blocks.{head};
-ghost use Rattle.iloc_grammar.specs.Reading.{after_head};
+ghost use Rattle.iloc_grammar.specs.Reading.{after_head, EndsBefore};
+ghost use Rattle.iloc_grammar.specs.Words.{Variant, is_word};
 ghost use Rattle.iloc_parser.specs.Left.{left};
 ghost use Rattle.iloc_langid.specs.Reads.{VariantsGive, FrontGives, FrontReadsAs, ReadsAs};
 
@@ -62,14 +63,42 @@ fn fill(
 ) -> Result<(), ParseError>
     ensures { FrontGives (left iter.old) (left iter.new) (result_and result (Ok identifier.new)) }
 {
-    let Some(first) = iter.next() else {
+    let mut pieces = *iter;
+    let Some(first) = pieces.next() else {
         return Err(ParseError::InvalidLanguage);
     };
     identifier.language = Language::try_from_utf8(first)?;
-    identifier.script = take_word::<ScriptKind, 4>(iter);
-    identifier.region = take_word::<RegionKind, 3>(iter);
-    identifier.variants = read_variants(alloc, iter)?;
+    identifier.script = take_word::<ScriptKind, 4>(&mut pieces);
+    identifier.region = take_word::<RegionKind, 3>(&mut pieces);
+    *iter = pieces;
+    fill_variants(alloc, iter, &mut identifier.variants)
+}
+
+// Takes the variants that stand at the front, in place of those before.
+#[inline(always)]
+fn fill_variants(
+    alloc: Global,
+    iter: &mut SubtagIterator<'_>,
+    variants: &mut Variants,
+) -> Result<(), ParseError>
+    ensures { VariantsGive (left iter.old) (left iter.new) (result_and result (Ok variants.new)) }
+{
+    variants.clear();
+    if may_be_variant(iter) {
+        *variants = read_variants(alloc, iter)?;
+    }
     Ok(())
+}
+
+// Whether the next piece is long enough for a variant.
+#[inline(always)]
+fn may_be_variant(iter: &SubtagIterator<'_>) -> bool
+    ensures { result ≡ false → EndsBefore (is_word Variant) (left iter.now) }
+{
+    match iter.peek() {
+        Some(piece) => piece.len() >= 4,
+        None => false,
+    }
 }
 
 /// Reads the longest front of an identifier's words.

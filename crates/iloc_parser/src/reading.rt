@@ -5,9 +5,11 @@ ghost use Rattle.iloc_grammar.specs.Reading.{take_first, skip_first};
 ghost use Rattle.iloc_parser.specs.Left.{left};
 
 use crate::subtag_iterator::SubtagIterator;
+use iloc_short_pieces::ShortPiece;
 use iloc_subtags::{WordKind, WordOf};
 
 /// Takes the next piece where it is a word of the kind; else nothing is taken.
+#[inline(always)]
 pub fn take_word<K: WordKind<N>, const N: usize>(
     iter: &mut SubtagIterator<'_>,
 ) -> Option<WordOf<K, N>>
@@ -16,7 +18,7 @@ pub fn take_word<K: WordKind<N>, const N: usize>(
     ensures rest { left iter.new ≡ skip_first (is_word K.kind) (left iter.old) }
 {
     let piece = iter.peek()?;
-    let word = WordOf::<K, N>::try_from_utf8(piece).ok()?;
+    let word = WordOf::<K, N>::from_piece(ShortPiece::of(piece)?).ok()?;
     iter.next();
     Some(word)
 }

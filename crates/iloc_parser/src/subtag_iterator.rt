@@ -1,62 +1,70 @@
 //! The iterator over the pieces of a text.
-ghost use Rattle.std.specs.Prelude.{◌≡◌, ◌≢◌, ◌∷◌, ◌++◌, MatchOption, All};
+ghost use Rattle.std.specs.Prelude.{◌≡◌, ◌≢◌, ◌∷◌, ◌++◌, ◌≤◌, length, MatchOption, All};
 ghost use Rattle.std.specs.Option.{option_copied};
 ghost use Rattle.iloc_grammar.specs.Pieces.{pieces};
 ghost use Rattle.iloc_grammar.specs.Reading.{first_item, rest_of};
+ghost use Rattle.iloc_parser.specs.FirstLength.{IsFirstLength};
 
 /// The pieces of a text that are left, from the left.
 ///
-/// The next piece is kept beside the text that follows its hyphen, so that a look ahead costs nothing.
+/// It holds the text from the next piece on, and the length of that piece, so that a look ahead costs
+/// nothing.
 #[derive(Clone, Copy)]
 pub struct SubtagIterator<'a> {
-    piece: Option<&'a [u8]>,
-    later: Option<&'a [u8]>,
+    text: &'a [u8],
+    len: usize,
+    ended: bool,
+    ghost within: { len ≤ length text.now },
+    ghost first: { IsFirstLength text.now len },
 }
 
 impl<'a> SubtagIterator<'a> {
     ghost use Rattle.iloc_parser.specs.Left.{left};
 
     /// The pieces of this text.
+    #[inline(always)]
+    #[tactic(auto, unfolding(crate::specs::Left::left))]
     pub fn new(rest: &'a [u8]) -> Self
         ensures { left result ≡ pieces rest.now }
     {
-        match cut(rest) {
-            Some((piece, later)) => SubtagIterator {
-                piece: Some(piece),
-                later: Some(later),
-            },
-            None => SubtagIterator {
-                piece: Some(rest),
-                later: None,
-            },
+        SubtagIterator {
+            text: rest,
+            len: first_len(rest),
+            ended: false,
         }
     }
 
     /// What is left after the next piece, and that piece; `None` where none is left.
+    #[inline(always)]
     #[tactic(auto, unfolding(crate::specs::Left::left))]
     pub fn next_const(self) -> (Self, Option<&'a [u8]>)
         ensures piece { option_copied result.1 ≡ first_item (left self.entry) }
         ensures rest { left result.0 ≡ rest_of (left self.entry) }
     {
-        let Some(piece) = self.piece else {
+        let Some(piece) = self.peek() else {
             return (self, None);
         };
-        let rest = match self.later {
-            Some(text) => SubtagIterator::new(text),
-            None => SubtagIterator {
-                piece: None,
-                later: None,
-            },
-        };
-        (rest, Some(piece))
+        if self.len == self.text.len() {
+            let ended = SubtagIterator {
+                text: self.text,
+                len: self.len,
+                ended: true,
+            };
+            return (ended, Some(piece));
+        }
+        (SubtagIterator::new(&self.text[self.len + 1..]), Some(piece))
     }
 
     /// The next piece, which stays; `None` where none is left.
+    #[inline(always)]
     #[tactic(auto, unfolding(crate::specs::Left::left))]
     pub fn peek(&self) -> Option<&'a [u8]>
         ensures { option_copied result ≡ first_item (left self.now) }
     {
-        self.piece
+        if self.ended {
+            return None;
+        }
+        Some(&self.text[..self.len])
     }
 }
 
@@ -70,6 +78,7 @@ impl<'a> Iterator for SubtagIterator<'a> {
 
     ghost remaining = { item_count left };
 
+    #[inline(always)]
     fn next(&mut self) -> Option<&'a [u8]> {
         let (rest, piece) = self.next_const();
         *self = rest;
@@ -77,7 +86,20 @@ impl<'a> Iterator for SubtagIterator<'a> {
     }
 }
 
+// The length of the first piece of a text.
+#[inline(always)]
+fn first_len(text: &[u8]) -> usize
+    ensures within { result ≤ length text.now }
+    ensures first { IsFirstLength text.now result }
+{
+    match cut(text) {
+        Some((piece, _)) => piece.len(),
+        None => text.len(),
+    }
+}
+
 // The piece before the first hyphen and the text after that, if there is a hyphen.
+#[inline(always)]
 fn cut(text: &[u8]) -> Option<(&[u8], &[u8])>
     ensures { MatchOption result (All (λ c. c ≢ 45) text.now)
         (λ parts. All (λ c. c ≢ 45) parts.0.now × (text.now ≡ parts.0.now ++ 45 ∷ parts.1.now)) }

@@ -121,6 +121,18 @@ fn write_refusal(error: ParseError, replies: &mut Vec<u8>) -> Result<(), AllocEr
 fn write_words(error: &ParseError, replies: &mut Vec<u8>) -> Result<(), AllocError>
     ensures { OnOk result (replies.new.items ≡ replies.old.items ++ refusal_text error.now) }
 {
-    replies.extend_from_slice(b"! ")?;
-    replies.extend_from_slice(error.words().as_bytes())
+    replies.extend_from_slice(refusal_line(error).as_bytes())
+}
+
+// The words of a refusal after its mark, at once.
+fn refusal_line(error: &ParseError) -> &'static str
+    ensures { result.now ≡ refusal_text error.now }
+{
+    match error {
+        ParseError::InvalidLanguage => "! The given language subtag is invalid",
+        ParseError::InvalidSubtag => "! Invalid subtag",
+        ParseError::InvalidExtension => "! Invalid extension",
+        ParseError::DuplicatedExtension => "! Duplicated extension",
+        ParseError::OutOfMemory => "! Out of memory",
+    }
 }

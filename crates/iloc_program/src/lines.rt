@@ -23,6 +23,7 @@ ghost use Rattle.iloc_output.specs.Lines.{IsOneLine};
 
 use crate::RunError;
 use crate::answers::Answers;
+use memchr::memchr;
 use std::alloc::{AllocError, Global};
 use std::io::Write;
 
@@ -37,11 +38,12 @@ pub(crate) fn new_block(alloc: Global) -> Result<Vec<u8>, AllocError>
 }
 
 // The first line and what follows its LF, if the LF is there.
+#[inline(always)]
 fn split_line(bytes: &[u8]) -> Option<(&[u8], &[u8])>
     ensures { MatchOption result (IsOneLine bytes.now)
         (λ parts. IsOneLine parts.0.now × (bytes.now ≡ parts.0.now ++ 10 ∷ parts.1.now)) }
 {
-    let end = bytes.iter().position(|byte| *byte == b'\n')?;
+    let end = memchr(b'\n', bytes)?;
     let (line, later) = bytes.split_at(end);
     Some((line, &later[1..]))
 }
