@@ -2,3 +2,4 @@ mod EqualityLemmas
 mod KeptLemmas
 mod OrderLemmas
 mod SplitLemmas
+mod WellFormedLemmas

@@ -1,3 +1,4 @@
 pub mod ExtensionsValue
 pub mod Kinds
 pub mod Retaining
+pub mod WellFormed

@@ -2,8 +2,15 @@
 //!
 //! It promises that emptiness, the order and the printed text are those of the definitions, for
 //! every value, also for one that no text means; and that `retain_by_type` asks each part in turn
-//! and clears what is answered false. None of it takes memory, but for clones and new texts.
-//! The crate stands on the parts: `iloc_unicode`, `iloc_transform` and `iloc_other`.
+//! and clears what is answered false.
+//!
+//! `is_well_formed` answers exactly the definition, whether the text reads back: the other extensions
+//! ascend strictly by singletons of their own, each with a word, and no value of a keyword holds `true`
+//! or a subtag of two characters. The identifier of a locale has no part in it. It says too that
+//! extensions, with the words of any identifier, are a value.
+//!
+//! None of it takes memory, but for clones and new texts. The crate stands on the parts:
+//! `iloc_unicode`, `iloc_transform` and `iloc_other`.
 #![tactic(auto)]
 
 ghost use Rattle.std.specs.Prelude.{◌≡◌, ◌↔◌, IsTrue};
@@ -13,10 +20,13 @@ ghost use Rattle.iloc_extensions.specs.Kinds.{kind_of};
 
 pub mod extension_type;
 pub mod extensions;
+mod kept;
 pub mod printing;
+pub mod well_formed;
 
 pub use extension_type::ExtensionType;
 pub use extensions::Extensions;
+pub use well_formed::is_well_formed;
 
 /// The kinds stand in the order of the definitions: `t`, `u`, `x`, and then the others by their singletons.
 pub fn orders()

@@ -10,9 +10,9 @@ ghost use Rattle.iloc_writeable.specs.Writing.{IsLent};
 ghost use Rattle.iloc_small_reader.specs.SmallLocaleReads.{SmallLocaleReadsAs};
 
 use crate::locale::Locale;
+use iloc_extensions::is_well_formed;
 use iloc_small_reader::read_small_locale;
 use iloc_subtags::{Language, ParseError, Region, Script, Subtag, UnicodeKey, Variant};
-use iloc_well_formed::is_well_formed;
 use iloc_writeable::to_string_or_borrow;
 use std::alloc::Global;
 use std::borrow::CowStr;

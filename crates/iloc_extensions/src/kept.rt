@@ -16,7 +16,7 @@ ghost use Rattle.iloc_unicode.specs.UnicodeValue as unicodes;
 ghost use Rattle.iloc_unicode.specs.UnicodeValue.{IsKeyword};
 ghost use Rattle.iloc_extensions.specs.ExtensionsValue.{value_of, locale_of};
 
-use iloc_extensions::Extensions;
+use crate::extensions::Extensions;
 use iloc_langid::LanguageIdentifier;
 use iloc_other::Other;
 use iloc_subtags::UnicodeKey;

@@ -1,11 +1,4 @@
 //! Whether extensions are well-formed: whether their text reads back as them.
-//!
-//! It promises exactly the definition: the other extensions ascend strictly by singletons of their own,
-//! each with a word, and no value of a keyword holds `true` or a subtag of two characters. The identifier
-//! of a locale has no part in it. It says too that extensions, with the words of any identifier, are a value. It
-//! takes no memory. The crate stands on `iloc_extensions`.
-#![tactic(auto)]
-
 ghost use Rattle.std.specs.Prelude.{◌≡◌, ◌↔◌, IsTrue};
 ghost use Rattle.std.specs.FinMap.{is_sorted};
 ghost use Rattle.std.specs.List.{list_all};
@@ -14,12 +7,10 @@ ghost use Rattle.iloc_grammar.specs.Words.{languages};
 ghost use Rattle.iloc_grammar.specs.Written.{Identifier};
 ghost use Rattle.iloc_grammar.specs.Values.{IsIdentifierValue, IsValue, IsWellFormed};
 ghost use Rattle.iloc_extensions.specs.ExtensionsValue.{value_of, locale_of};
-ghost use Rattle.iloc_well_formed.specs.Tests.{has_own_place, is_in_place, is_plain, is_read_back};
+ghost use Rattle.iloc_extensions.specs.WellFormed.{has_own_place, is_in_place, is_plain, is_read_back};
 
-mod kept;
-
+use crate::extensions::Extensions;
 use crate::kept::look_at;
-use iloc_extensions::Extensions;
 use iloc_other::Other;
 use iloc_unicode::Keywords;
 use iloc_unicode_value::Value;

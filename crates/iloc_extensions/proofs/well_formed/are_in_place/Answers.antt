@@ -3,8 +3,8 @@ use Rattle.std.specs.List.{list_all}
 use Rattle.std.proofs.lemmas.Iterator.{YieldsList-from_slice}
 use Rattle.std.proofs.lemmas.Iterator.Search.{all_from_yields_List}
 use borrow.Author.Tests.{tests}
-use Rattle.iloc_well_formed.specs.Tests.{has_own_place}
-use Rattle.iloc_well_formed.proofs.are_in_place.Goals as goal
+use Rattle.iloc_extensions.specs.WellFormed.{has_own_place}
+use Rattle.iloc_extensions.proofs.well_formed.are_in_place.Goals as goal
 
 pub returns-then-is_ascending : goal.returns-then-is_ascending
 returns-then-is_ascending c =

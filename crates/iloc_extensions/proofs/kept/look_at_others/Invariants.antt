@@ -3,7 +3,7 @@ use Rattle.std.proofs.Common.{take}
 use Rattle.std.specs.List.{AllByRecursion}
 use Rattle.iloc_grammar.specs.Words.{Subtag}
 use Rattle.iloc_grammar.specs.Values.{IsNormal}
-use Rattle.iloc_well_formed.proofs.kept.look_at_others.Given as goal
+use Rattle.iloc_extensions.proofs.kept.look_at_others.Given as goal
 
 abbrev pub invariant-loop-other : goal.invariant-loop-other
 invariant-loop-other l = AllByRecursion (λ o. AllByRecursion (IsNormal Subtag) o.1) (take l.other-index l.others)

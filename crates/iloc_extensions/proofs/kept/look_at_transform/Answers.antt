@@ -4,7 +4,7 @@ use Rattle.iloc_grammar.specs.Values.{IsIdentifierValue}
 use Rattle.iloc_langid.specs.Reads as identifiers
 use Rattle.iloc_langid.specs.declared.identifier.LanguageIdentifier.{LanguageIdentifier}
 use Rattle.iloc_map_laws.proofs.Bridge.{ascending_sorted}
-use Rattle.iloc_well_formed.proofs.kept.look_at_transform.Goals as goal
+use Rattle.iloc_extensions.proofs.kept.look_at_transform.Goals as goal
 
 value_where_there : (o : Option LanguageIdentifier) → IfSome o (λ i. IsIdentifierValue languages (identifiers.value_of i)) → IfSome (option_map identifiers.value_of o) (IsIdentifierValue languages)
 value_where_there None h = h

@@ -13,7 +13,7 @@ use Rattle.iloc_grammar.specs.Words.{is_true}
 use Rattle.iloc_grammar.specs.Written.{is_other_singleton}
 use Rattle.iloc_grammar.specs.Meaning.{Locale}
 use Rattle.iloc_grammar.specs.Values.{IsWellFormed}
-use Rattle.iloc_well_formed.specs.Tests.{has_own_place, is_in_place, is_plain, is_read_back}
+use Rattle.iloc_extensions.specs.WellFormed.{has_own_place, is_in_place, is_plain, is_read_back}
 
 both_true : (a b : Bool) → (a && b) ≡ true → (a ≡ true) × (b ≡ true)
 both_true true b h = (refl, h)

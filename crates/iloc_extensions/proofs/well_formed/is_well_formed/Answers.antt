@@ -1,8 +1,8 @@
 use Rattle.std.proofs.Common.{sym, ap, ◌&&◌, ◌∙◌}
 use Rattle.iloc_extensions.specs.ExtensionsValue.{value_of, locale_of}
-use Rattle.iloc_well_formed.specs.Tests.{is_in_place, is_read_back}
-use Rattle.iloc_well_formed.proofs.WellFormedLemmas.{by_tests}
-use Rattle.iloc_well_formed.proofs.is_well_formed.Goals as goal
+use Rattle.iloc_extensions.specs.WellFormed.{is_in_place, is_read_back}
+use Rattle.iloc_extensions.proofs.WellFormedLemmas.{by_tests}
+use Rattle.iloc_extensions.proofs.well_formed.is_well_formed.Goals as goal
 
 pub returns-then-are_in_place-clause-exactly : goal.returns-then-are_in_place-clause-exactly
 returns-then-are_in_place-clause-exactly c id =

@@ -3,7 +3,7 @@ use Rattle.std.specs.List.{AllByRecursion}
 use Rattle.iloc_grammar.specs.Words.{word_cmp}
 use Rattle.iloc_unicode.specs.UnicodeValue.{IsKeyword}
 use Rattle.iloc_map_laws.proofs.Bridge.{ascending_sorted}
-use Rattle.iloc_well_formed.proofs.kept.look_at_unicode.Goals as goal
+use Rattle.iloc_extensions.proofs.kept.look_at_unicode.Goals as goal
 
 pub returns : goal.returns
 returns c = record {
