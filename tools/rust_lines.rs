@@ -12,11 +12,11 @@ const BLOCK: usize = 65536;
 
 fn words(error: ParseError) -> &'static str {
     match error {
-        ParseError::InvalidLanguage => "The given language subtag is invalid",
-        ParseError::InvalidSubtag => "Invalid subtag",
-        ParseError::InvalidExtension => "Invalid extension",
-        ParseError::DuplicatedExtension => "Duplicated extension",
-        _ => "another refusal",
+        ParseError::InvalidLanguage => "! The given language subtag is invalid",
+        ParseError::InvalidSubtag => "! Invalid subtag",
+        ParseError::InvalidExtension => "! Invalid extension",
+        ParseError::DuplicatedExtension => "! Duplicated extension",
+        _ => "! another refusal",
     }
 }
 
@@ -24,11 +24,22 @@ fn answer<T: Writeable>(read: Result<T, ParseError>, replies: &mut String) {
     match read {
         Ok(value) => value.write_to(replies).expect("a String takes all"),
         Err(error) => {
-            replies.push_str("! ");
             replies.push_str(words(error));
         }
     }
     replies.push('\n');
+}
+
+// The place of the first LF, sought eight bytes at a time as this library's program does.
+fn line_end(bytes: &[u8]) -> Option<usize> {
+    const ONES: u64 = 0x0101_0101_0101_0101;
+    let has_end = |eight: &[u8]| {
+        let other = u64::from_le_bytes(eight.try_into().expect("eight bytes")) ^ (ONES * 10);
+        other.wrapping_sub(ONES) & !other & (ONES << 7) != 0
+    };
+    let start = 8 * bytes.chunks_exact(8).take_while(|eight| !has_end(eight)).count();
+    let place = bytes[start..].iter().position(|byte| *byte == b'\n')?;
+    Some(start + place)
 }
 
 fn run<T: Writeable>(read: impl Fn(&[u8]) -> Result<T, ParseError>) -> io::Result<()> {
@@ -47,7 +58,7 @@ fn run<T: Writeable>(read: impl Fn(&[u8]) -> Result<T, ParseError>) -> io::Resul
             return writer.write_all(replies.as_bytes());
         }
         let mut rest = &room[..count];
-        while let Some(end) = rest.iter().position(|byte| *byte == b'\n') {
+        while let Some(end) = line_end(rest) {
             if pending.is_empty() {
                 answer(read(&rest[..end]), &mut replies);
             } else {
