@@ -1,5 +1,5 @@
 -- What else is known of an identifier that was read.
-use Rattle.std.proofs.Common.{◌≡◌, ℕ, List, Result, Ok, Err, refl}
+use Rattle.std.proofs.Common.{ℕ, List, Result, Ok, Err, refl}
 use Rattle.iloc_grammar.specs.Pieces.{pieces}
 use Rattle.iloc_grammar.specs.Words.{languages, two_or_three}
 use Rattle.iloc_grammar.specs.Written.{Identifier}
