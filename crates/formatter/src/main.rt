@@ -6,9 +6,9 @@
 #![tactic(auto)]
 
 ghost use Rattle.std.specs.Prelude.{◌≡◌};
-ghost use Rattle.iloc_locale.specs.LocaleValue.{value_of};
-ghost use Rattle.iloc_preferences_rules.specs.Formatters.{format_preferences, merge_format};
-ghost use Rattle.iloc_bench.specs.Values.{format_value};
+ghost use Rattle.icu_locale_core.specs.LocaleValue.{value_of};
+ghost use Rattle.icu_locale_core.specs.Formatters.{format_preferences, merge_format};
+ghost use Rattle.icu_locale_core.specs.FormatterValues.{format_value};
 
 mod shown;
 

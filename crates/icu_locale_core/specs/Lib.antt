@@ -18,3 +18,4 @@ pub use Rattle.iloc_locale.specs.LocaleValue
 pub use Rattle.iloc_data.specs.DataValue
 pub use Rattle.iloc_data.specs.DataEquality
 pub use Rattle.iloc_bench.specs.Values as FormatterValues
+pub use Rattle.iloc_enum_keywords.specs.declared.hour_cycle.HourCycle as HourCycles

@@ -88,7 +88,7 @@ pub mod parser {
 
 /// Language identifiers.
 pub mod langid {
-    pub use iloc_langid::LanguageIdentifier;
+    pub use iloc_langid::{LanguageIdentifier, equality};
 }
 
 /// All extensions of a locale.
@@ -97,14 +97,14 @@ pub mod extensions {
 
     /// The unicode extension: attributes and keywords.
     pub mod unicode {
-        pub use iloc_subdivision::SubdivisionId;
+        pub use iloc_keyword_types::SubdivisionId;
         pub use iloc_subtags::{Attribute, SubdivisionSuffix, UnicodeKey as Key};
         pub use iloc_unicode::{Attributes, Keywords, KeywordsIter, Unicode};
         pub use iloc_unicode_value::Value;
 
         /// Keys by their names, as `key::ca()`.
         pub mod key {
-            pub use iloc_preference_key::known_keys::{
+            pub use iloc_keyword_types::known_keys::{
                 ca, cf, co, cu, dx, em, fw, hc, kf, kn, lb, lw, ms, mu, nu, rg, sd, ss, tz, va,
             };
         }
@@ -129,8 +129,7 @@ pub mod extensions {
 
 /// Locales: identifiers with extensions.
 pub mod locale {
-    pub use iloc_locale::Locale;
-    pub use iloc_ordered::OrderedLocale;
+    pub use iloc_locale::{Locale, OrderedLocale, equality};
 }
 
 /// Data locales: the parts of a locale by which data is looked up.
@@ -141,7 +140,7 @@ pub mod data {
 /// What a locale prefers, and the keywords that say so.
 pub mod preferences {
     pub use iloc_data::LocalePreferences;
-    pub use iloc_preference_key::PreferenceKey;
+    pub use iloc_keyword_types::PreferenceKey;
 
     /// Extensions that hold preferences.
     pub mod extensions {
@@ -154,16 +153,15 @@ pub mod preferences {
 
             /// The types of keywords.
             pub mod keywords {
-                pub use iloc_calendar_keyword::{CalendarAlgorithm, HijriCalendarAlgorithm};
                 pub use iloc_enum_keywords::{
                     CollationCaseFirst, CollationNumericOrdering, CollationType, CommonVariantType,
                     CurrencyFormatStyle, EmojiPresentationStyle, FirstDay, HourCycle,
                     LineBreakStyle, LineBreakWordHandling, MeasurementSystem,
                     MeasurementUnitOverride, SentenceBreakSupressions,
                 };
-                pub use iloc_struct_keywords::{
-                    DictionaryBreakScriptExclusions, NumberingSystem, RegionOverride,
-                    RegionalSubdivision, TimeZoneShortId,
+                pub use iloc_keyword_types::{
+                    CalendarAlgorithm, DictionaryBreakScriptExclusions, HijriCalendarAlgorithm,
+                    NumberingSystem, RegionOverride, RegionalSubdivision, TimeZoneShortId,
                 };
                 pub use iloc_subtags::CurrencyType;
             }

@@ -6,7 +6,7 @@ use Rattle.iloc_preferences_rules.specs.Preferences.{identifier_preferences}
 use Rattle.iloc_preferences_rules.specs.Formatters as rules
 use Rattle.iloc_enum_keywords.specs.declared.hour_cycle.HourCycle.{HourCycle}
 use Rattle.iloc_enum_keywords.specs.HourCycle.{place}
-use Rattle.iloc_calendar_keyword.specs.Calendars.{value_of}
+use Rattle.iloc_keyword_types.specs.Calendars.{value_of}
 use Rattle.iloc_bench.specs.declared.time_preferences.TimePreferences.{TimePreferences}
 use Rattle.iloc_bench.specs.declared.format_preferences.FormatPreferences.{FormatPreferences}
 

@@ -10,12 +10,11 @@ ghost use Rattle.iloc_bench.specs.Values.{format_of_time, format_value, time_val
 
 use crate::keywords::keyword;
 use crate::time_preferences::TimePreferences;
-use iloc_calendar_keyword::CalendarAlgorithm;
 use iloc_data::LocalePreferences;
 use iloc_enum_keywords::HourCycle;
+use iloc_keyword_types::{CalendarAlgorithm, NumberingSystem};
 use iloc_langid::LanguageIdentifier;
 use iloc_locale::Locale;
-use iloc_struct_keywords::NumberingSystem;
 
 /// Preferences of a formatter: those of a locale, its numbering system, its hours and its calendar.
 #[derive(Clone, Copy, Debug, PartialEq, Eq, Hash)]

@@ -10,14 +10,12 @@ ghost use Rattle.iloc_preferences_rules.specs.Keywords.{
   subtag_reads,
 };
 ghost use Rattle.iloc_preferences_rules.specs.Preferences.{is_readable, read_keyword};
-ghost use Rattle.iloc_calendar_keyword.specs.Calendars.{value_of as calendar_value};
+ghost use Rattle.iloc_keyword_types.specs.Calendars.{value_of as calendar_value};
 ghost use Rattle.iloc_bench.specs.Values.{hours_value};
 
-use iloc_calendar_keyword::CalendarAlgorithm;
 use iloc_enum_keywords::HourCycle;
+use iloc_keyword_types::{CalendarAlgorithm, NumberingSystem, key_of};
 use iloc_locale::Locale;
-use iloc_preference_key::key_of;
-use iloc_struct_keywords::NumberingSystem;
 use iloc_subtags::UnicodeKey;
 use iloc_unicode_value::Value;
 

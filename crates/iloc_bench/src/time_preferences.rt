@@ -12,9 +12,9 @@ use crate::format_preferences::FormatPreferences;
 use crate::keywords::keyword;
 use iloc_data::LocalePreferences;
 use iloc_enum_keywords::HourCycle;
+use iloc_keyword_types::NumberingSystem;
 use iloc_langid::LanguageIdentifier;
 use iloc_locale::Locale;
-use iloc_struct_keywords::NumberingSystem;
 
 /// Preferences of a time formatter: those of a locale, its numbering system and its hours.
 #[derive(Clone, Copy, Debug, PartialEq, Eq, Hash)]

@@ -2,6 +2,7 @@
 
 ghost use Rattle.std.specs.Prelude.{◌≡◌};
 
+use std::alloc::{AllocError, AllocFailed};
 use thiserror::Error;
 
 /// Why a row of old raw forms is refused, or that there is no memory. It prints its words.
@@ -30,5 +31,27 @@ impl CarryError {
             CarryError::Word(_) => "Invalid language word",
             CarryError::OutOfMemory => "Out of memory",
         }
+    }
+}
+
+/// A refused request for memory is `OutOfMemory`.
+impl From<AllocError> for CarryError {
+    ghost use Rattle.iloc_carry.specs.declared.errors.CarryError.TheVariants.{OutOfMemory};
+
+    ghost from_gives = { λ _ error. error ≡ OutOfMemory };
+
+    fn from(_error: AllocError) -> CarryError {
+        Self::OutOfMemory
+    }
+}
+
+/// So is that of a collection, as of `Vec::push`; what could not be stored is let go.
+impl<T: Drop> From<AllocFailed<T>> for CarryError {
+    ghost use Rattle.iloc_carry.specs.declared.errors.CarryError.TheVariants.{OutOfMemory};
+
+    ghost from_gives = { λ _ error. error ≡ OutOfMemory };
+
+    fn from(_failed: AllocFailed<T>) -> CarryError {
+        Self::OutOfMemory
     }
 }

@@ -6,7 +6,7 @@ ghost use Rattle.iloc_regions.specs.DataLocales.{data_key, data_text};
 ghost use Rattle.iloc_regions.specs.DataOrders.{data_locale_cmp};
 
 use crate::data_locale::DataLocale;
-use iloc_subdivision::subdivisions_compare;
+use iloc_keyword_types::subdivisions_compare;
 use iloc_writeable::cmp_utf8;
 use std::cmp::Ordering;
 use std::hash::{Hash, Hasher};

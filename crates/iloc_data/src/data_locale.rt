@@ -1,7 +1,7 @@
 //! The type, and its readers.
 ghost use Rattle.std.specs.Prelude.{◌≡◌, ◌↔◌, IsTrue, IfOk, IsOk, option_map};
 ghost use Rattle.iloc_preferences_rules.specs.Preferences.{language_priority, preferences};
-ghost use Rattle.iloc_subdivision.specs.Reads.{value_of as subdivision_of};
+ghost use Rattle.iloc_keyword_types.specs.Subdivisions.{value_of as subdivision_of};
 ghost use Rattle.iloc_grammar.specs.Words.{languages, two_or_three};
 ghost use Rattle.iloc_grammar.specs.Meaning as meaning;
 ghost use Rattle.iloc_grammar.specs.Meaning.{Means};
@@ -9,8 +9,8 @@ ghost use Rattle.iloc_regions.specs.DataLocales as parts;
 ghost use Rattle.iloc_regions.specs.DataLocales.{DataMeans, data_text};
 
 use crate::region_part::part_of;
+use iloc_keyword_types::SubdivisionId;
 use iloc_small_reader::read_small_locale;
-use iloc_subdivision::SubdivisionId;
 use iloc_subtags::{Language, ParseError, Region, Script, Subtag, Variant};
 use std::str::FromStr;
 

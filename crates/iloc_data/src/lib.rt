@@ -11,8 +11,8 @@
 //! are those of the definitions of `iloc_preferences_rules`: read of a locale, extended by others, and turned into a
 //! locale and into data locales. The data locale of a locale is that of its preferences, language first.
 //!
-//! It stands on the reader of small locales (`iloc_small_reader`), on subdivisions (`iloc_subdivision`) and their
-//! keywords (`iloc_struct_keywords`), and on identifiers and locales (`iloc_langid`, `iloc_locale`).
+//! It stands on the reader of small locales (`iloc_small_reader`), on subdivisions and their keywords
+//! (`iloc_keyword_types`), and on identifiers and locales (`iloc_langid`, `iloc_locale`).
 #![tactic(auto)]
 
 pub mod comparing;

@@ -17,10 +17,10 @@ ghost use Rattle.iloc_data.specs.DataValue.{value_of as data_of};
 use crate::data_locale::DataLocale;
 use crate::region_keywords::{id_of, keyword};
 use crate::region_part::{is_whole, preferred, whole_region};
+use iloc_keyword_types::subdivision_keyword::RegionalSubdivisionKind;
+use iloc_keyword_types::{RegionOverride, RegionalSubdivision, keyword_of};
 use iloc_langid::LanguageIdentifier;
 use iloc_locale::Locale;
-use iloc_struct_keywords::subdivision_keyword::RegionalSubdivisionKind;
-use iloc_struct_keywords::{RegionOverride, RegionalSubdivision, keyword_of};
 use iloc_subtags::{Language, Region, Script, Variant};
 use std::marker::Model;
 

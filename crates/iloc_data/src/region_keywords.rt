@@ -3,11 +3,10 @@ ghost use Rattle.std.specs.Prelude.{◌≡◌, option_map};
 ghost use Rattle.iloc_locale.specs.LocaleValue.{value_of as locale_value};
 ghost use Rattle.iloc_preferences_rules.specs.Keywords.{subdivision_reads};
 ghost use Rattle.iloc_preferences_rules.specs.Preferences.{is_readable, read_keyword};
-ghost use Rattle.iloc_subdivision.specs.Reads.{value_of as subdivision_of};
+ghost use Rattle.iloc_keyword_types.specs.Subdivisions.{value_of as subdivision_of};
 
+use iloc_keyword_types::{SubdivisionId, SubdivisionKeyword, SubdivisionKeywordKind};
 use iloc_locale::Locale;
-use iloc_struct_keywords::{SubdivisionKeyword, SubdivisionKeywordKind};
-use iloc_subdivision::SubdivisionId;
 
 /// The keyword of a locale, where it is there and readable, and whether it is absent or readable.
 #[tactic(auto, using(crate::proofs::KeywordLemmas::absent, crate::proofs::KeywordLemmas::there))]

@@ -18,12 +18,12 @@ ghost use Rattle.iloc_regions.specs.DataLocales.{
   subdivision_value,
 };
 ghost use Rattle.iloc_preferences_rules.specs.Preferences.{preferred_region, same_region};
-ghost use Rattle.iloc_subdivision.specs.Reads.{value_of as subdivision_of};
+ghost use Rattle.iloc_keyword_types.specs.Subdivisions.{value_of as subdivision_of};
 ghost use Rattle.iloc_data.specs.DataValue.{value_of};
 
 use crate::data_locale::DataLocale;
+use iloc_keyword_types::SubdivisionId;
 use iloc_small_reader::SmallKeyword;
-use iloc_subdivision::SubdivisionId;
 use iloc_subtags::{ParseError, Region, SubdivisionSuffix, Subtag};
 use iloc_unicode_value::Value;
 

@@ -9,7 +9,7 @@ ghost use Rattle.iloc_data.specs.DataValue.{value_of};
 
 use crate::data_locale::DataLocale;
 use crate::locale_preferences::LocalePreferences;
-use iloc_struct_keywords::{SubdivisionKeyword, SubdivisionKeywordKind};
+use iloc_keyword_types::{SubdivisionKeyword, SubdivisionKeywordKind};
 use iloc_subtags::{WordKind, WordOf};
 
 // Looks at each word, so that all are known to be normal.

@@ -15,8 +15,11 @@
 
 ghost use Rattle.std.specs.Prelude.{◌≡◌, ◌↔◌, IsTrue};
 ghost use Rattle.iloc_orders.specs.Orders.{kind_cmp};
+ghost use Rattle.iloc_orders.specs.Hashes.{extensions_fed};
 ghost use Rattle.iloc_extensions.specs.ExtensionsValue.{value_of};
 ghost use Rattle.iloc_extensions.specs.Kinds.{kind_of};
+
+use std::hash::Hash;
 
 pub mod extension_type;
 pub mod extensions;
@@ -38,4 +41,10 @@ pub fn orders()
 pub fn equality()
     ensures { (d e : Extensions)
         → IsTrue (⟦<Extensions as PartialEq>⟧.eq d e) ↔ (value_of d ≡ value_of e) }
+{}
+
+/// A hasher is fed the unicode extension, the transform, the private words and the others.
+pub fn hashes()
+    ensures { (e : Extensions)
+        → ⟦<Extensions as Hash>⟧.hash_input e ≡ extensions_fed (value_of e) }
 {}

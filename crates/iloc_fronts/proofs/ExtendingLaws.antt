@@ -46,7 +46,3 @@ extend_nothing u h = λ i. record { attributes = (ap set_of (append-nil u.attrib
 
 pub nothing_extended : (u : Unicode) → IsUnicodeValue u → extend (record { attributes = []; keywords = [] }) u ≡ u
 nothing_extended u h = λ i. record { attributes = set_of_ascending u.attributes h.ascending i; keywords = (ap (map_of word_cmp) (append-nil u.keywords) ∙ map_of_sorted word_cmp u.keywords h.keys_ascend) i }
-
--- the map of a map and more is that of the lists
-pub map_first : {X : Type 0} (es fs : List (List ℕ × X)) → map_of word_cmp (map_of word_cmp es ++ fs) ≡ map_of word_cmp (es ++ fs)
-map_first es fs = map_of-first word_cmp word_cmp_total same_words es fs

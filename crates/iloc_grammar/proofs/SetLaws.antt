@@ -57,10 +57,6 @@ set_of-last vs ws = ap (λ es. keys (map_of word_cmp es)) (marked-append vs (set
 pub set_of-set_of : (ws : List (List ℕ)) → set_of (set_of ws) ≡ set_of ws
 set_of-set_of ws = set_of-last [] ws
 
--- one more word
-pub set_of-cons : (w : List ℕ) (ws : List (List ℕ)) → set_of (w ∷ set_of ws) ≡ set_of (w ∷ ws)
-set_of-cons w ws = set_of-last (w ∷ []) ws
-
 -- a word is in the set where it is in the list
 pub any-set_of : (w : List ℕ) (ws : List (List ℕ)) → list_any (is_same w) (set_of ws) ≡ list_any (is_same w) ws
 any-set_of w ws =

@@ -2,6 +2,7 @@
 ghost use Rattle.std.specs.Prelude.{◌≡◌};
 
 use iloc_subtags::ParseError;
+use std::alloc::{AllocError, AllocFailed};
 use thiserror::Error;
 
 /// Why a JSON value is refused, or that there is no memory. It prints its words.
@@ -44,5 +45,27 @@ impl From<ParseError> for JsonError {
             ParseError::OutOfMemory => JsonError::OutOfMemory,
             other => JsonError::Parse(other),
         }
+    }
+}
+
+/// A refused request for memory is `OutOfMemory`.
+impl From<AllocError> for JsonError {
+    ghost use Rattle.iloc_json.specs.declared.errors.JsonError.TheVariants.{OutOfMemory};
+
+    ghost from_gives = { λ _ error. error ≡ OutOfMemory };
+
+    fn from(_error: AllocError) -> JsonError {
+        Self::OutOfMemory
+    }
+}
+
+/// So is that of a collection, as of `Vec::push`; what could not be stored is let go.
+impl<T: Drop> From<AllocFailed<T>> for JsonError {
+    ghost use Rattle.iloc_json.specs.declared.errors.JsonError.TheVariants.{OutOfMemory};
+
+    ghost from_gives = { λ _ error. error ≡ OutOfMemory };
+
+    fn from(_failed: AllocFailed<T>) -> JsonError {
+        Self::OutOfMemory
     }
 }

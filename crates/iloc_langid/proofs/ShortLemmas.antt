@@ -1,12 +1,10 @@
 -- A piece that is too short for a variant, and none.
-use Rattle.std.proofs.Common.{◌≡◌, ◌<◌, arith, leb, ℕ, List, [], ◌∷◌, length, Some, None, Ok, false, refl}
+use Rattle.std.proofs.Common.{◌≡◌, ◌<◌, arith, leb, ℕ, List, [], ◌∷◌, length, Some, None, false}
 use Rattle.std.proofs.lemmas.Bool.{false_from_ne_true}
 use Rattle.std.proofs.lemmas.Bool.Decides.{nat_tests}
 use Rattle.iloc_grammar.specs.Reading.{first_item, EndsBefore}
 use Rattle.iloc_grammar.specs.Words.{Variant, is_word}
 use Rattle.iloc_grammar.proofs.WordsLaws.{length-variant}
-use Rattle.iloc_langid.specs.Reads.{VariantsGive}
-use Rattle.iloc_langid.proofs.TakingLemmas.{few_none, few_done}
 
 too_short : (ps : List (List ℕ)) (p : List ℕ) → Some p ≡ first_item ps → length p < 4 → EndsBefore (is_word Variant) ps
 too_short [] p e l = cc
@@ -20,7 +18,3 @@ too_few ps p e h = too_short ps p e (grind (arith, nat_tests))
 pub none_left : (ps : List (List ℕ)) → None ≡ first_item ps → EndsBefore (is_word Variant) ps
 none_left [] e = tt
 none_left (q ∷ ps) e = cc
-
-pub no_variants : (ps : List (List ℕ)) → EndsBefore (is_word Variant) ps → VariantsGive ps ps (Ok [])
-no_variants [] h = few_done [] [] [] [] (few_none []) refl refl
-no_variants (p ∷ ps) h = few_done (p ∷ ps) (p ∷ ps) [] (p ∷ ps) (few_none (p ∷ ps)) (rw h refl) (rw h refl)

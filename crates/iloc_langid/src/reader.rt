@@ -83,7 +83,9 @@ fn fill_variants(
 ) -> Result<(), ParseError>
     ensures { VariantsGive (left iter.old) (left iter.new) (result_and result (Ok variants.new)) }
 {
-    variants.clear();
+    if !variants.is_empty() {
+        variants.clear();
+    }
     if may_be_variant(iter) {
         *variants = read_variants(alloc, iter)?;
     }

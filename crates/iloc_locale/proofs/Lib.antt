@@ -1,3 +1,3 @@
 mod EqualityLemmas
-mod ReadLemmas
-mod NormalLemmas
+pub mod ReadLemmas
+pub mod NormalLemmas

@@ -1,5 +1,5 @@
 -- From the locale that was read to its normal text.
-use Rattle.std.proofs.Common.{◌≡◌, inl, inr, ◌↔◌, IsTrue, ℕ, ◌≤◌, Bool, true, false, List, [], ◌∷◌, length, refl, sym, ap, ◌∙◌, subst, append-nil, true≢false, IfOk, Err, Ok, Result}
+use Rattle.std.proofs.Common.{◌≡◌, inl, inr, ◌↔◌, IsTrue, ℕ, ◌≤◌, Bool, true, false, List, length, refl, sym, ap, ◌∙◌, subst, append-nil, true≢false, IfOk, Err, Ok, Result}
 use Rattle.iloc_grammar.specs.Words.{languages}
 use Rattle.iloc_grammar.specs.Meaning as meaning
 use Rattle.iloc_grammar.specs.Meaning.{Extensions}

@@ -1,9 +1,8 @@
 -- From what the readers of the head and of the blocks answer to what the whole text is read as.
-use Rattle.std.proofs.Common.{◌≡◌, ◌⊎◌, inl, inr, IsOk, ℕ, zero, suc, ◌<◌, ◌≤◌, Bool, true, false, cond, List, [], ◌∷◌, ◌++◌, length, filter, refl, sym, ap, ◌∙◌, subst, arith, Option, Some, None, IfSome, option_to_list, Result, Ok, Err, IfOk, IfErr, true≢false}
-use Rattle.std.specs.List.{AllByRecursion}
+use Rattle.std.proofs.Common.{◌≡◌, ◌⊎◌, inl, inr, IsOk, ℕ, zero, suc, ◌<◌, true, false, List, [], ◌∷◌, length, refl, sym, ap, ◌∙◌, subst, arith, Result, Ok, Err, IfOk, IfErr}
 use Rattle.std.specs.Result.{result_and}
 use Rattle.iloc_grammar.specs.Pieces.{pieces}
-use Rattle.iloc_grammar.specs.Words.{Language, Script, Region, Variant, is_word, IsWord, languages, two_or_three}
+use Rattle.iloc_grammar.specs.Words.{Language, is_word, IsWord, languages, two_or_three}
 use Rattle.iloc_grammar.specs.Written.{identifier_pieces}
 use Rattle.iloc_grammar.specs.Meaning as meaning
 use Rattle.iloc_grammar.specs.Meaning.{Means, IdentifierMeans}

@@ -1,3 +1,4 @@
 pub mod LocaleValue
 pub mod Reads
 pub mod Normalizing
+pub mod Order

@@ -11,15 +11,20 @@
 #![tactic(auto)]
 
 ghost use Rattle.std.specs.Prelude.{◌≡◌, ◌↔◌, IsTrue};
+ghost use Rattle.iloc_orders.specs.Hashes.{locale_fed};
 ghost use Rattle.iloc_locale.specs.LocaleValue.{value_of};
+
+use std::hash::Hash;
 
 pub mod comparing;
 pub mod conversions;
 pub mod locale;
 pub mod normalizing;
+pub mod ordered;
 pub mod printing;
 
 pub use locale::Locale;
+pub use ordered::OrderedLocale;
 
 /// `==` answers whether two locales stand for the same.
 pub fn equality()
@@ -28,3 +33,8 @@ pub fn equality()
     iloc_langid::equality();
     iloc_extensions::equality();
 }
+
+/// A hasher is fed the identifier and the extensions.
+pub fn hashes()
+    ensures { (l : Locale) → ⟦<Locale as Hash>⟧.hash_input l ≡ locale_fed (value_of l) }
+{}

@@ -1,13 +1,19 @@
 //! The type, and its readers.
-ghost use Rattle.std.specs.Prelude.{◌≡◌, ℕ, List, IsOk, IfOk, IfErr, Ok, OnErr};
+ghost use Rattle.std.specs.Prelude.{◌≡◌, ℕ, true, List, IsOk, IfOk, IfErr, Ok, OnErr};
 ghost use Rattle.std.specs.Result.{result_and};
+ghost use Rattle.iloc_grammar.specs.Pieces.{pieces};
 ghost use Rattle.iloc_grammar.specs.Words.{languages, two_or_three};
 ghost use Rattle.iloc_grammar.specs.Meaning as meaning;
 ghost use Rattle.iloc_grammar.specs.Meaning.{Means};
+ghost use Rattle.iloc_grammar.specs.Blocks.{head};
+ghost use Rattle.iloc_grammar.specs.Reading.{after_head, starts_block};
 ghost use Rattle.iloc_grammar.specs.Faults.{Fault, HasFault};
 ghost use Rattle.iloc_grammar.specs.Steps.{Chain};
 ghost use Rattle.iloc_grammar.specs.Values.{IsValue, IsWellFormed};
 ghost use Rattle.iloc_small.specs.Inline.{IsInline};
+ghost use Rattle.iloc_parser.specs.Left.{left};
+ghost use Rattle.iloc_langid.specs.Reads as langid;
+ghost use Rattle.iloc_locale.specs.Reads.{LocaleReadsAs};
 
 use iloc_blocks::read_blocks;
 use iloc_extensions::Extensions;
@@ -39,7 +45,7 @@ impl Locale {
     ghost use Rattle.iloc_extensions.specs.ExtensionsValue as extensions;
     ghost use Rattle.iloc_extensions.specs.ExtensionsValue.{none};
     ghost use Rattle.iloc_locale.specs.LocaleValue.{value_of, unknown_locale};
-    ghost use Rattle.iloc_locale.specs.Reads.{LocaleReadsAs, Accepts, Refuses};
+    ghost use Rattle.iloc_locale.specs.Reads.{Accepts, Refuses};
 
     /// The unknown locale, `und`.
     pub fn unknown(alloc: Global) -> Self
@@ -126,4 +132,22 @@ impl Locale {
     {
         Self::try_from_utf8(alloc, s.as_bytes())
     }
+}
+
+/// Reads the pieces that are left as the blocks after the head, which this locale's identifier was read of:
+/// the other half of `Locale::read`, for callers that look at the head first. What extensions there were go;
+/// after a refusal the locale holds some of what was read.
+#[inline(never)]
+pub fn read_rest(
+    alloc: Global,
+    iter: &mut SubtagIterator<'_>,
+    locale: &mut Locale,
+) -> Result<(), ParseError>
+    requires starts { starts_block (left iter.old) ≡ true }
+    ensures { (t : List ℕ) → langid.ReadsAs (head (pieces t)) (Ok locale.old.id)
+        → left iter.old ≡ after_head (pieces t)
+        → LocaleReadsAs t (result_and result (Ok locale.new)) }
+{
+    locale.extensions.clear();
+    read_blocks(alloc, iter, &mut locale.extensions)
 }

@@ -5,7 +5,7 @@ use Rattle.std.specs.Option.{option_cmp}
 use Rattle.std.specs.declared.cmp.Ordering.{Ordering}
 use Rattle.std.specs.declared.cmp.Ordering.TheVariants.{Less, Equal, Greater}
 use Rattle.std.specs.Cmp.{IsTotalOrder, nat_cmp_total, bool_cmp_total, on_total, then_total, tied_itself}
-use Rattle.std.specs.Cmp.Lexicographic.{slice_cmp, nat_list_cmp_total, lists_total, options_total}
+use Rattle.std.specs.Cmp.Lexicographic.{nat_list_cmp_total, lists_total, options_total}
 use Rattle.std.specs.FinMap.{IsAntisymmetric, nat_cmp-IsAntisymmetric, slice_cmp-IsAntisymmetric}
 use Rattle.iloc_grammar.specs.Words.{word_cmp}
 use Rattle.iloc_grammar.specs.Written.{Identifier, Unicode, Transform}
@@ -173,12 +173,6 @@ kind_exact = exactly (on_total place_of_kind (pair_total nat_cmp_total nat_cmp_t
 
 exact_same : {X : Type 0} (R : X → X → Ordering) → IsExactOrder R → IsAntisymmetric R
 exact_same R o x y e = (o.exact x y).0 e
-
-pub short_exact : (X : Type 0) (R : X → X → Ordering) → IsExactOrder R → IsExactOrder (short_list_cmp R)
-short_exact X R o = exactly (short_total o.total) (short_same (exact_same R o))
-
-pub list_exact : (X : Type 0) (R : X → X → Ordering) → IsExactOrder R → IsExactOrder (slice_cmp R)
-list_exact X R o = exactly (lists_total o.total) (slice_cmp-IsAntisymmetric (exact_same R o))
 
 pub pair_exact : (X Y : Type 0) (R : X → X → Ordering) (S : Y → Y → Ordering) → IsExactOrder R → IsExactOrder S → IsExactOrder (pair_cmp R S)
 pair_exact X Y R S o p = exactly (pair_total o.total p.total) (pair_same (exact_same R o) (exact_same S p))

@@ -123,6 +123,3 @@ letter_is_utf8 c h = IsUtf8-from_ascii (c ∷ []) (IsAscii-from_all (c ∷ []) (
 
 pub no_item : (n : ℕ) → (n == 0) ≡ true → n ≡ 0
 no_item n h = grind (arith, nat_tests)
-
-pub some_item : (n : ℕ) → (n == 0) ≡ false → n ≡ 0 → ⊥
-some_item n h e = grind (arith, nat_tests)

@@ -10,6 +10,9 @@
 
 ghost use Rattle.std.specs.Prelude.{◌≡◌, ◌↔◌, IsTrue, ℕ, List};
 ghost use Rattle.iloc_orders.specs.Orders.{words_cmp, other_cmp};
+ghost use Rattle.iloc_orders.specs.Hashes.{words_fed, other_fed};
+
+use std::hash::Hash;
 
 pub mod other;
 pub mod private;
@@ -28,4 +31,10 @@ pub fn orders()
 pub fn equality()
     ensures private { (v w : List (List ℕ)) → IsTrue (⟦<Private as PartialEq>⟧.eq v w) ↔ (v ≡ w) }
     ensures other { (o q : ℕ × List (List ℕ)) → IsTrue (⟦<Other as PartialEq>⟧.eq o q) ↔ (o ≡ q) }
+{}
+
+/// What a hasher is fed is what the definitions say.
+pub fn hashes()
+    ensures private { (v : List (List ℕ)) → ⟦<Private as Hash>⟧.hash_input v ≡ words_fed v }
+    ensures other { (o : ℕ × List (List ℕ)) → ⟦<Other as Hash>⟧.hash_input o ≡ other_fed o }
 {}

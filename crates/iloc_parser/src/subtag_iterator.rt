@@ -8,14 +8,12 @@ ghost use Rattle.iloc_parser.specs.FirstLength.{IsFirstLength};
 /// The pieces of a text that are left, from the left.
 ///
 /// It holds the text from the next piece on, and the length of that piece, so that a look ahead costs
-/// nothing.
+/// nothing. A length beyond the text says that none is left.
 #[derive(Clone, Copy)]
 pub struct SubtagIterator<'a> {
     text: &'a [u8],
     len: usize,
-    ended: bool,
-    ghost within: { len ≤ length text.now },
-    ghost first: { IsFirstLength text.now len },
+    ghost first: { len ≤ length text.now → IsFirstLength text.now len },
 }
 
 impl<'a> SubtagIterator<'a> {
@@ -30,7 +28,6 @@ impl<'a> SubtagIterator<'a> {
         SubtagIterator {
             text: rest,
             len: first_len(rest),
-            ended: false,
         }
     }
 
@@ -47,8 +44,7 @@ impl<'a> SubtagIterator<'a> {
         if self.len == self.text.len() {
             let ended = SubtagIterator {
                 text: self.text,
-                len: self.len,
-                ended: true,
+                len: self.len + 1,
             };
             return (ended, Some(piece));
         }
@@ -61,10 +57,7 @@ impl<'a> SubtagIterator<'a> {
     pub fn peek(&self) -> Option<&'a [u8]>
         ensures { option_copied result ≡ first_item (left self.now) }
     {
-        if self.ended {
-            return None;
-        }
-        Some(&self.text[..self.len])
+        self.text.get(..self.len)
     }
 }
 

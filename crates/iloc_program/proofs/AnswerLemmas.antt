@@ -1,5 +1,6 @@
 -- The answers to lines, from what their readers say.
-use Rattle.std.proofs.Common.{◌≡◌, ◌≢◌, ℕ, List, refl, sym, Result, Ok, Err, OnOk}
+use Rattle.std.proofs.Common.{◌≡◌, ◌≢◌, ℕ, false, List, [], ◌∷◌, refl, sym, ap, ◌∙◌, subst, Option, Some, None, option_map, Result, Ok, Err, OnOk, true≢false}
+use Rattle.std.specs.Prelude.{is_some}
 use Rattle.iloc_grammar.specs.Pieces.{pieces}
 use Rattle.iloc_grammar.specs.Words.{languages}
 use Rattle.iloc_grammar.specs.Written.{Identifier}
@@ -11,7 +12,14 @@ use Rattle.iloc_output.specs.Output.{OfIdentifiers, OfLocales, OfDataLocales, id
 use Rattle.iloc_output.proofs.OutputLaws.{only_answer}
 use Rattle.iloc_subtags.specs.declared.parse_error.ParseError.{ParseError}
 use Rattle.iloc_subtags.specs.declared.parse_error.ParseError.TheVariants.{InvalidLanguage, InvalidSubtag, InvalidExtension, DuplicatedExtension, OutOfMemory}
-use Rattle.iloc_langid.specs.Reads.{ReadsAs}
+use Rattle.iloc_grammar.specs.Blocks.{blocks, head}
+use Rattle.iloc_grammar.specs.Reading.{after_head, first_item}
+use Rattle.iloc_langid.specs.declared.identifier.LanguageIdentifier.{LanguageIdentifier}
+use Rattle.iloc_langid.specs.Reads.{ReadsAs, value_of}
+use Rattle.iloc_extensions.specs.ExtensionsValue.{locale_of, none}
+use Rattle.iloc_blocks.specs.Blocks.{BlocksMean}
+use Rattle.iloc_locale.proofs.NormalLemmas.{text_alone}
+use Rattle.iloc_locale.proofs.ReadLemmas.{accepts, head_refused}
 use Rattle.iloc_locale.specs.Reads.{LocaleReadsAs}
 use Rattle.iloc_regions.specs.DataLocales.{DataLocale, DataMeans, data_text}
 use Rattle.iloc_data.specs.Reads.{DataReadsAs}
@@ -37,6 +45,19 @@ locale_refused t InvalidSubtag r n = sym (only_answer languages_table OfLocales 
 locale_refused t InvalidExtension r n = sym (only_answer languages_table OfLocales t (refusal_text InvalidExtension) (no_locale r))
 locale_refused t DuplicatedExtension r n = sym (only_answer languages_table OfLocales t (refusal_text DuplicatedExtension) (no_locale r))
 locale_refused t OutOfMemory r n = absurd (n refl)
+
+-- where no piece is left after the head, and where the head is bad
+
+pub nothing_left : {X : Type 0} (f : X → List ℕ) (ps : List (List ℕ)) (o : Option X) → option_map f o ≡ first_item ps → is_some o ≡ false → ps ≡ []
+nothing_left f [] o e n = refl
+nothing_left f (p ∷ ps) None e n = absurd (true≢false (sym (ap is_some e)))
+nothing_left f (p ∷ ps) (Some x) e n = absurd (true≢false n)
+
+pub head_alone : (t : List ℕ) (id : LanguageIdentifier) (ps : List (List ℕ)) → ReadsAs (head (pieces t)) (Ok id) → ps ≡ after_head (pieces t) → ps ≡ [] → line_answer Locale t ≡ identifier_text (value_of id)
+head_alone t id ps h r e = locale_accepted t (locale_of (value_of id) none) (accepts t id none h (subst (λ rest. BlocksMean languages (blocks rest) none) (sym e ∙ r) (record { letters = tt; different = tt; unicode = refl; transform = refl; private = refl; other_rules = tt; others = refl }))) ∙ text_alone (value_of id) none refl
+
+pub head_bad : (t : List ℕ) (e : ParseError) → ReadsAs (head (pieces t)) (Err e) → e ≢ OutOfMemory → line_answer Locale t ≡ refusal_text e
+head_bad t e h n = locale_refused t e (head_refused t e h) n
 
 pub data_accepted : (t : List ℕ) (d : DataLocale) → DataMeans languages t d → line_answer Data t ≡ data_text d
 data_accepted t d m = sym (only_answer languages_table OfDataLocales t (data_text d) (data_locale m))

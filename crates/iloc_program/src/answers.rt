@@ -4,7 +4,10 @@ ghost use Rattle.iloc_program.specs.Output.{line_answer, refusal_text};
 
 use iloc_data::DataLocale;
 use iloc_langid::LanguageIdentifier;
+use iloc_langid::reader::fill_head;
 use iloc_locale::Locale;
+use iloc_locale::locale::read_rest;
+use iloc_parser::SubtagIterator;
 use iloc_subtags::ParseError;
 use iloc_writeable::Writeable;
 use std::alloc::{AllocError, Global};
@@ -71,8 +74,16 @@ impl Answers for Locales {
 
     ghost mode = { Locale };
 
+    // Extensions are touched only where a block comes.
     fn answer(&mut self, line: &[u8], replies: &mut Vec<u8>) -> Result<(), AllocError> {
-        match self.locale.read(self.alloc, line) {
+        let mut iter = SubtagIterator::new(line);
+        if let Err(error) = fill_head(self.alloc, &mut iter, &mut self.locale.id) {
+            return write_refusal(error, replies);
+        }
+        if iter.peek().is_none() {
+            return write_text(&self.locale.id, replies);
+        }
+        match read_rest(self.alloc, &mut iter, &mut self.locale) {
             Ok(()) => write_text(&self.locale, replies),
             Err(error) => write_refusal(error, replies),
         }

@@ -67,10 +67,6 @@ xor_first k r c lt byte =
     let none : bit_xor r 0 ≡ r = xor_comm r 0 in
     (λ i. bit_xor (left i) (right i)) ∙ xor_block 8 r 0 k c lt byte ∙ omega (arith, none)
 
-titles : (x : ℕ) → number (title (bytes 8 x)) ≡ to_ascii_uppercase (x % 256) + 256 * number (map to_ascii_lowercase (bytes 7 (x / 256)))
-unfolding bytes
-titles x = refl
-
 title_wide : (n x : ℕ) → n ≤ 8 → x < 256 ^ n → number (title (bytes 8 x)) ≡ number (title (bytes n x))
 unfolding bytes
 title_wide zero x few lt =

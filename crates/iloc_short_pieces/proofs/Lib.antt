@@ -1,7 +1,6 @@
 mod ByBytes
 mod Cases
 mod Classes
-mod HyphenPlace
 mod Loading
 mod Packed
 mod RawOrder

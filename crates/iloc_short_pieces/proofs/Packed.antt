@@ -1,10 +1,10 @@
 -- Numbers that are those of at most eight bytes.
 use Rattle.std.proofs.Common.{◌≡◌, ℕ, zero, suc, ◌+◌, ◌*◌, ◌/◌, ◌%◌, ◌^◌, ◌<◌, ◌≤◌, leb, get_or, List, length, map, refl, sym, ◌∙◌, ap, arith, pow-suc}
 use borrow.Author.Tests.{leb-true}
-use Rattle.std.proofs.lemmas.Nat.{div_below, mod-mul-add, one_shl, pow-add}
+use Rattle.std.proofs.lemmas.Nat.{div_below, pow-add}
 use Rattle.std.proofs.lemmas.List.{length-map}
 use Rattle.iloc_short_pieces.specs.Number.{number, bytes, IsPacked}
-use Rattle.iloc_short_pieces.proofs.ByBytes.{length-bytes, bytes-number, number-bytes, fit-bytes, tried, Keeps}
+use Rattle.iloc_short_pieces.proofs.ByBytes.{length-bytes, bytes-number, tried, Keeps}
 
 pub number-lt : (n x : ℕ) → number (bytes n x) < 256 ^ n
 unfolding bytes
@@ -84,21 +84,3 @@ above (suc n) x =
     let p : 256 ^ suc n ≡ 256 ^ n * 256 = pow-suc 256 n in
     let q : r * 256 ^ suc n ≡ r * (256 ^ n * 256) = ap (λ y. r * y) p in
     (r, omega (arith, rest.1, q))
-
-lowest_number : (n x : ℕ) → x % 256 ^ n ≡ number (bytes n x)
-lowest_number n x =
-    let split = above n x in
-    ap (λ y. y % 256 ^ n) split.1 ∙ mod-mul-add split.0 (256 ^ n) (number (bytes n x)) (number-lt n x)
-
-makes_lowest : (n x y : ℕ) → n ≤ 8 → y ≡ x % 256 ^ n → Makes n y (bytes n x)
-makes_lowest n x y few e = makes n y (bytes n x) (length-bytes n x) few (fit-bytes n x) (e ∙ lowest_number n x)
-
-pub makes_low : (n x y : ℕ) → n ≤ 8 → (n ≡ 8 → ⊥) → y ≡ x % (1 * 2 ^ (8 * n) % 2 ^ 64) → Makes n y (bytes n x)
-makes_low n x y few some e =
-    let room : 8 * n < 64 = omega arith in
-    makes_lowest n x y few (e ∙ ap (λ m. x % m) (one_shl (8 * n) 64 room ∙ sym (same_power n)))
-
-pub makes_all : (x : ℕ) → x < 2 ^ 64 → Makes 8 x (bytes 8 x)
-makes_all x small =
-    let low : x < 256 ^ 8 = omega arith in
-    makes 8 x (bytes 8 x) (length-bytes 8 x) (omega arith) (fit-bytes 8 x) (sym (number-bytes 8 x low))

@@ -25,17 +25,6 @@ pub(crate) fn digit_flags(x: u64) -> u64
     ((low + 0x5050_5050_5050_5050) ^ (low + 0x4646_4646_4646_4646)) & (x ^ HIGH) & HIGH
 }
 
-// The high bit of each byte that is a hyphen.
-#[inline(always)]
-pub(crate) fn hyphen_flags(x: u64) -> u64
-    ensures { result ≡ flags (λ b. b == 45) x }
-{
-    let other = x ^ 0x2d2d_2d2d_2d2d_2d2d;
-    let low = other & 0x7f7f_7f7f_7f7f_7f7f;
-    // The high bit of each byte that is not zero, turned.
-    (((low + 0x7f7f_7f7f_7f7f_7f7f) | other) & HIGH) ^ HIGH
-}
-
 // The high bit of each of the lowest bytes.
 #[inline(always)]
 pub(crate) fn high_bits(n: usize) -> u64

@@ -6,12 +6,10 @@
 #![tactic(auto)]
 
 mod flags;
-pub mod front;
 pub mod number;
 pub mod raw_form;
 pub mod short_piece;
 
-pub use front::before_hyphen;
 pub use number::number_of;
 pub use raw_form::{cmp_raw, eq_raw, number_of_raw, raw_of_number};
 pub use short_piece::ShortPiece;

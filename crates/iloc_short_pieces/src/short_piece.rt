@@ -63,24 +63,6 @@ impl ShortPiece {
         }
     }
 
-    /// The piece of the lowest bytes of a number.
-    #[inline(always)]
-    pub fn lowest(number: u64, len: usize) -> Self
-        requires { len ≤ 8 }
-        ensures { result ≡ bytes len number }
-    {
-        if len == 8 {
-            return ShortPiece {
-                packed: number,
-                len,
-            };
-        }
-        ShortPiece {
-            packed: number % (1 << (8 * len)),
-            len,
-        }
-    }
-
     /// The number of its bytes, the first lowest.
     #[inline(always)]
     pub fn number(self) -> u64

@@ -134,9 +134,6 @@ small_unread T p ps r h =
     let e : identifier_of (p ∷ ps) ≡ h.written = ap identifier_of h.spelled ∙ identifier_of-pieces h.written h.grammatical.words in
     ap (λ (i : Identifier). has_small_variants i.variants) e ∙ and_from _ _ ((all_words Variant h.written.variants).passes h.grammatical.words.variants) (le-leb _ _ h.one_variant)
 
-spelled_language : {T : ℕ → Bool} (p : List ℕ) (ps : List (List ℕ)) (i : Identifier) → HasWords T i → p ∷ ps ≡ identifier_pieces i → IsWord (Language T) p
-spelled_language {T = T} p ps i h e = subst (λ (l : List (List ℕ)). is_word (Language T) (first_piece l) ≡ true) (sym e) h.language
-
 pub small_identifier_answer : (T : ℕ → Bool) (p : List ℕ) (ps : List (List ℕ)) → MatchResult (small_identifier_result T (p ∷ ps)) (IsSmallIdentifier T (p ∷ ps)) (HasSmallIdentifierFault T (p ∷ ps))
 unfolding small_identifier_result
 small_identifier_answer T p ps = cond_both (is_word (Language T) p) _ _ (λ o. MatchResult o (IsSmallIdentifier T (p ∷ ps)) (HasSmallIdentifierFault T (p ∷ ps)))

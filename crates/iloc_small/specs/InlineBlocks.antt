@@ -1,6 +1,6 @@
 -- Inline texts, told block by block: what the reader of each part finds at its front, whatever
 -- follows the block.
-use Rattle.std.specs.Prelude.{◌≡◌, ℕ, ◌≤◌, true, false, List, [], ◌∷◌, ◌++◌, length, Option}
+use Rattle.std.specs.Prelude.{◌≡◌, ℕ, ◌≤◌, true, List, [], ◌∷◌, ◌++◌, length, Option}
 use Rattle.std.specs.List.{AllByRecursion}
 use Rattle.iloc_grammar.specs.Shapes.{Text, Table, Block}
 use Rattle.iloc_grammar.specs.Pieces.{pieces}

@@ -65,7 +65,3 @@ module _ {P Q X : Type 0} (R : P → X → Bool → P → Type 0) (S : Q → X �
 pub set_pairs : {X Z : Type 0} (k : List ℕ) (v : List (List ℕ)) → IsNormal TransformKey k → AllByRecursion IsValueWord v → (es : Fields) → AllByRecursion IsFieldPair es → (fs : Fields) (r : Result X Z) → OnOk r (fs ≡ insert_entry word_cmp es k v) → OnErr r (fs ≡ es) → AllByRecursion IsFieldPair fs
 set_pairs k v n w es h fs (Ok x) a b = rw a (inserted_pairs k v n w es h)
 set_pairs k v n w es h fs (Err x) a b = rw b h
-
-pub add_pairs : {X Z : Type 0} (k : List ℕ) (v : List (List ℕ)) → IsNormal TransformKey k → AllByRecursion IsValueWord v → (es : Fields) → AllByRecursion IsFieldPair es → (fs : Fields) (r : Result X Z) → OnOk r (fs ≡ cond (is_some (lookup (is_at (word_cmp k)) es)) es (insert_entry word_cmp es k v)) → OnErr r (fs ≡ es) → AllByRecursion IsFieldPair fs
-add_pairs k v n w es h fs (Ok x) a b = rw a (inserted_new_pairs k v n w es h)
-add_pairs k v n w es h fs (Err x) a b = rw b h

@@ -1,5 +1,5 @@
 -- Subtags of a value that are taken one at a time.
-use Rattle.std.proofs.Common.{◌≡◌, ℕ, suc, ◌+◌, ◌<◌, Bool, true, false, not, cond, List, [], ◌∷◌, ◌++◌, length, refl, sym, ap, ◌∙◌, subst, arith, append_assoc, append-nil, length-append, Some, None, option_map, Ok, Err, if◌then◌else◌}
+use Rattle.std.proofs.Common.{◌≡◌, ℕ, suc, ◌+◌, ◌<◌, Bool, true, false, not, cond, List, [], ◌∷◌, ◌++◌, length, refl, sym, ap, ◌∙◌, subst, arith, append-nil, length-append, Some, None, option_map, Ok, Err}
 use Rattle.std.specs.List.{list_all}
 use Rattle.std.proofs.lemmas.Bool.{and_parts, false_from_ne_true}
 use Rattle.iloc_grammar.specs.Pieces.{pieces}
@@ -21,22 +21,8 @@ pub record TakingValues (before now v : List (List ℕ)) : Type 0 where
 pub takes_nothing : (ps : List (List ℕ)) → TakingValues ps ps []
 takes_nothing ps = record { front = refl; rest = refl }
 
-value_more : (v : List (List ℕ)) (p : List ℕ) (ps : List (List ℕ)) → (if is_true (lower p) then v else v ++ lower p ∷ []) ++ normal_values ps ≡ v ++ normal_values (p ∷ ps)
-value_more v p ps = elim (is_true (lower p)) as (λ b. cond b v (v ++ lower p ∷ []) ++ normal_values ps ≡ v ++ cond (not b) (lower p ∷ normal_values ps) (normal_values ps)) [ true ↦ refl | false ↦ append_assoc v (lower p ∷ []) (normal_values ps) ]
-
 front_first : (p : List ℕ) (ps : List (List ℕ)) → IsWord Attribute p → (values_front (p ∷ ps) ≡ p ∷ values_front ps) × (past (is_word Attribute) (p ∷ ps) ≡ past (is_word Attribute) ps)
 front_first p ps h = (rw h refl, rw h refl)
-
--- one word more
-pub takes_value : (before now v : List (List ℕ)) (w : List ℕ) (more u : List (List ℕ)) → TakingValues before now v → Some w ≡ option_map lower (take_first (is_word Attribute) now) → more ≡ skip_first (is_word Attribute) now → u ≡ (if is_true w then v else v ++ w ∷ []) → TakingValues before more u
-takes_value before now v w more u h e s i =
-    let t = took Attribute now w e in
-    let first : now ≡ t.0 ∷ more = t.3 ∙ ap (λ l. t.0 ∷ l) (sym s) in
-    let f = front_first t.0 more t.1 in
-    record {
-      front = ap (λ l. l ++ normal_values (values_front more)) (i ∙ ap (λ x. if is_true x then v else v ++ x ∷ []) t.2) ∙ value_more v t.0 (values_front more) ∙ ap (λ l. v ++ normal_values l) (sym (ap values_front first ∙ f.0)) ∙ h.front;
-      rest = sym (ap (past (is_word Attribute)) first ∙ f.1) ∙ h.rest;
-    }
 
 -- a fifth subtag
 pub wants_memory : (before now v : List (List ℕ)) (w : List ℕ) → TakingValues before now v → Some w ≡ option_map lower (take_first (is_word Attribute) now) → is_true w ≡ false → (length v < 4 → ⊥) → 4 < length (normal_values (values_front before))
@@ -55,16 +41,6 @@ pub takes_all : (before now v : List (List ℕ)) → TakingValues before now v �
 takes_all before now v h e =
     let t = took_none Attribute now e in
     (sym (append-nil v) ∙ ap (λ l. v ++ normal_values l) (sym t.0) ∙ h.front, sym t.1 ∙ h.rest)
-
--- the first word
-pub some_front : (ps : List (List ℕ)) (w : List ℕ) → Some w ≡ option_map lower (take_first (is_word Attribute) ps) → 0 < length (values_front ps)
-some_front ps w e =
-    let t = took Attribute ps w e in
-    let n : length (values_front ps) ≡ suc (length (values_front (skip_first (is_word Attribute) ps))) = ap length (ap values_front t.3 ∙ (front_first t.0 (skip_first (is_word Attribute) ps) t.1).0) in
-    omega (arith, n)
-
-pub no_front : (ps : List (List ℕ)) → None ≡ option_map lower (take_first (is_word Attribute) ps) → values_front ps ≡ []
-no_front ps e = (took_none Attribute ps e).0
 
 -- a whole text
 

@@ -13,8 +13,11 @@ ghost use Rattle.iloc_grammar.specs.Written as written;
 ghost use Rattle.iloc_grammar.specs.Faults.{front};
 ghost use Rattle.iloc_grammar.specs.ByBlocks.{TransformMeans};
 ghost use Rattle.iloc_orders.specs.Orders.{words_cmp, fields_cmp};
+ghost use Rattle.iloc_orders.specs.Hashes.{words_fed, fields_fed, transform_fed};
 ghost use Rattle.iloc_transform.specs.declared.transform.Transform.{Transform};
 ghost use Rattle.iloc_transform.specs.TransformReading.{WantsMemory, value_of};
+
+use std::hash::Hash;
 
 pub mod fields;
 mod lang;
@@ -43,4 +46,12 @@ pub fn equality()
     ensures fields { (f g : written.Fields) → IsTrue (⟦<Fields as PartialEq>⟧.eq f g) ↔ (f ≡ g) }
     ensures transforms { (m n : Transform)
         → IsTrue (⟦<Transform as PartialEq>⟧.eq m n) ↔ (value_of m ≡ value_of n) }
+{}
+
+/// What a hasher is fed is what the definitions say.
+pub fn hashes()
+    ensures values { (v : List (List ℕ)) → ⟦<Value as Hash>⟧.hash_input v ≡ words_fed v }
+    ensures fields { (f : written.Fields) → ⟦<Fields as Hash>⟧.hash_input f ≡ fields_fed f }
+    ensures transforms { (m : Transform)
+        → ⟦<Transform as Hash>⟧.hash_input m ≡ transform_fed (value_of m) }
 {}

@@ -136,9 +136,6 @@ pub record Filled (before now : List (List ℕ)) (m : Fields) : Type 0 where
   pub rest : after_keywords before ≡ after_keywords now
   pub means : m ≡ normal_fields fields
 
-pub filled_none : (ps : List (List ℕ)) → Filled ps ps []
-filled_none ps = record { fields = []; all = refl; bad = refl; rest = refl; means = refl }
-
 -- one field more
 
 tied : (q k : List ℕ) → eq_by_cmp word_cmp q k ≡ true → q ≡ k

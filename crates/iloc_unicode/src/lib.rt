@@ -10,7 +10,10 @@
 ghost use Rattle.std.specs.Prelude.{◌≡◌, ◌↔◌, ℕ, List, IsTrue};
 ghost use Rattle.iloc_grammar.specs.Written.{Fields};
 ghost use Rattle.iloc_orders.specs.Orders.{words_cmp, keywords_cmp};
+ghost use Rattle.iloc_orders.specs.Hashes.{words_fed, fields_fed, unicode_fed};
 ghost use Rattle.iloc_unicode.specs.UnicodeValue.{value_of};
+
+use std::hash::Hash;
 
 pub mod attributes;
 pub mod keywords;
@@ -35,4 +38,12 @@ pub fn equality()
     ensures keywords { (v w : Fields) → IsTrue (⟦<Keywords as PartialEq>⟧.eq v w) ↔ (v ≡ w) }
     ensures unicode { (u v : Unicode)
         → IsTrue (⟦<Unicode as PartialEq>⟧.eq u v) ↔ (value_of u ≡ value_of v) }
+{}
+
+/// What a hasher is fed is what the definitions say.
+pub fn hashes()
+    ensures attributes { (v : List (List ℕ)) → ⟦<Attributes as Hash>⟧.hash_input v ≡ words_fed v }
+    ensures keywords { (f : Fields) → ⟦<Keywords as Hash>⟧.hash_input f ≡ fields_fed f }
+    ensures unicode { (u : Unicode)
+        → ⟦<Unicode as Hash>⟧.hash_input u ≡ unicode_fed (value_of u) }
 {}

@@ -43,9 +43,6 @@ pub record Valued (k : Kind) (before now value : List (List ℕ)) : Type 0 where
   pub gives : value ++ without_true (words_read k now) ≡ without_true (words_read k before)
   pub skips : past (is_word k) now ≡ past (is_word k) before
 
-pub valued_none : (k : Kind) (ps : List (List ℕ)) → Valued k ps ps []
-valued_none k ps = record { gives = refl; skips = refl }
-
 one_more : (v : List (List ℕ)) (w : List ℕ) (ws : List (List ℕ)) → with_subtag v w ++ without_true ws ≡ v ++ without_true (w ∷ ws)
 one_more v w ws = elim (is_true w) as (λ b. (v ++ cond (not b) (w ∷ []) []) ++ without_true ws ≡ v ++ cond (not b) (w ∷ without_true ws) (without_true ws)) [
   | true ↦ ap (λ l. l ++ without_true ws) (append-nil v)
@@ -72,9 +69,3 @@ module _ (k : Kind) (before now value : List (List ℕ)) (t : Valued k before no
       let n : length (value ++ (w ∷ without_true (words_read k later))) ≡ length (without_true (words_read k before)) = ap length (ap (λ l. value ++ l) (sym front) ∙ t.gives) in
       let m : length (value ++ (w ∷ without_true (words_read k later))) ≡ length value + suc (length (without_true (words_read k later))) = length-append value (w ∷ without_true (words_read k later)) in
       omega arith
-
--- all are taken
-pub valued_all : (k : Kind) (before now value : List (List ℕ)) → Valued k before now value → None ≡ option_map (normal k) (take_first (is_word k) now) → (value ≡ without_true (words_read k before)) × (skip_first (is_word k) now ≡ past (is_word k) before)
-valued_all k before now value t e =
-    let (none, rest, stays) = took_none k now e in
-    (sym (append-nil value) ∙ ap (λ l. value ++ without_true (map (normal k) l)) (sym none) ∙ t.gives, stays ∙ sym rest ∙ t.skips)

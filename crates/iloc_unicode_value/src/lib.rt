@@ -9,6 +9,9 @@
 
 ghost use Rattle.std.specs.Prelude.{◌≡◌, ◌↔◌, ℕ, List, IsTrue};
 ghost use Rattle.iloc_orders.specs.Orders.{words_cmp};
+ghost use Rattle.iloc_orders.specs.Hashes.{words_fed};
+
+use std::hash::Hash;
 
 pub mod currency;
 pub mod errors;
@@ -29,4 +32,9 @@ pub fn orders()
 /// `==` answers whether two values are the same.
 pub fn equality()
     ensures { (v w : List (List ℕ)) → IsTrue (⟦<Value as PartialEq>⟧.eq v w) ↔ (v ≡ w) }
+{}
+
+/// A hasher is fed the subtags of a value.
+pub fn hashes()
+    ensures { (v : List (List ℕ)) → ⟦<Value as Hash>⟧.hash_input v ≡ words_fed v }
 {}

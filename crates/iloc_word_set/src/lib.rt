@@ -4,9 +4,15 @@
 //! as the list of their texts. Up to four words stand in place; beyond them a set takes memory, and one
 //! that is refused memory is as before. Searches go by halves.
 //!
-//! It stands on `iloc_grammar` (definitions), `iloc_subtags` (words), `iloc_shortvec` (lists that keep
-//! four words in place) and `iloc_writeable` (printing).
+//! It stands on `iloc_grammar` and `iloc_orders` (definitions), `iloc_subtags` (words), `iloc_shortvec` (lists
+//! that keep four words in place) and `iloc_writeable` (printing).
 #![tactic(auto)]
+
+ghost use Rattle.std.specs.Prelude.{◌≡◌, ℕ, List};
+ghost use Rattle.iloc_orders.specs.Hashes.{word_fed, words_fed};
+
+use iloc_subtags::{WordKind, WordOf};
+use std::hash::Hash;
 
 pub mod ascending;
 pub mod traits;
@@ -16,3 +22,9 @@ pub mod word_set;
 pub use ascending::is_strictly_ascending;
 pub use word_collector::WordCollector;
 pub use word_set::{Variants, WordSet};
+
+/// A hasher is fed the text of a word, and the words of a set.
+pub fn hashes<K: WordKind<N>, const N: usize>()
+    ensures words { (w : List ℕ) → ⟦<WordOf<K, N> as Hash>⟧.hash_input w ≡ word_fed w }
+    ensures sets { (ws : List (List ℕ)) → ⟦<WordSet<K, N> as Hash>⟧.hash_input ws ≡ words_fed ws }
+{}

@@ -6,6 +6,7 @@
 //! - `from KIND DOCUMENT`: what is read of the one value of the document.
 //! - `each KIND DOCUMENT`: what is read of each item of the document, an array; and then the document, as it is
 //!   written with the JSON string of what was read in the place of each.
+//! - `io KIND TEXT`: what two writers hold of what the text is read as, one lent and the own one of a sink.
 //! - `carry BYTES`: the row of new raw forms.
 //! - `error TYPE CASE`: what the refusal prints, and its words.
 //!

@@ -1,6 +1,8 @@
 //! What is told of values that are written as JSON strings. Each call answers whether memory was there.
+use iloc_io_sink::{IoSink, write_to_io};
 use iloc_json::{JsonError, JsonText};
-use row_page::{put, say, truth};
+use iloc_writeable::Writeable;
+use row_page::{bytes, put, say, truth};
 use serde_json::Value;
 use std::alloc::Global;
 
@@ -16,8 +18,25 @@ pub fn told<T: JsonText + PartialEq + Drop>(
             Ok(value) => written(alloc, &value, out),
             Err(error) => refuse(out, &JsonError::from(error)),
         },
+        "io" => match T::read_text(alloc, text) {
+            Ok(value) => to_writers(alloc, &value, out),
+            Err(error) => refuse(out, &JsonError::from(error)),
+        },
         _ => of_document::<T>(alloc, call, text, out),
     }
+}
+
+/// What writers hold that the value was printed to: one that was lent, and the own one of a sink.
+fn to_writers<T: Writeable>(alloc: Global, value: &T, out: &mut String) -> bool {
+    let mut lent = Vec::new(alloc);
+    let mut sink = IoSink::new(Vec::new(alloc));
+    if write_to_io(value, &mut lent).is_err() || value.write_to(&mut sink).is_err() {
+        return false;
+    }
+    bytes(out, lent.as_slice());
+    say(out, " | ");
+    bytes(out, sink.into_inner().as_slice());
+    true
 }
 
 /// Says why there is no value.

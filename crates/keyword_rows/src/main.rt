@@ -3,7 +3,7 @@
 //! The value is read as the keyword. The line is its text, the value that it is turned into, and what is read of the
 //! value under the other key (of no third argument, the keyword's own), joined by `|`. `read-KEY`, `value-KEY` and
 //! `keyed-KEY` say one of the three. A refusal is `! `, its words, and what it prints. `default TAB KEY` answers the text
-//! of the default, `memory` the refusal for want of memory.
+//! of the default, `key TAB KEY` the key that the function of its name makes, `memory` the refusal for want of memory.
 //!
 //! `stdin` and `stdout` are the rows with their answers, made of the table of keywords; `grow.in` has rows that may want
 //! memory, `still.in` those that take none. Only generic functions own
@@ -13,20 +13,18 @@
 mod enums;
 mod told;
 
-use iloc_calendar_keyword::CalendarAlgorithm;
 use iloc_enum_keywords::{
     CollationCaseFirst, CollationNumericOrdering, CollationType, CommonVariantType,
     CurrencyFormatStyle, EmojiPresentationStyle, FirstDay, HourCycle, LineBreakStyle,
     LineBreakWordHandling, MeasurementSystem, MeasurementUnitOverride, SentenceBreakSupressions,
 };
-use iloc_preference_key::PreferencesParseError;
-use iloc_struct_keywords::{
-    DictionaryBreakScriptExclusions, NumberingSystem, RegionOverride, RegionalSubdivision,
-    TimeZoneShortId,
+use iloc_keyword_types::{
+    CalendarAlgorithm, DictionaryBreakScriptExclusions, NumberingSystem, PreferencesParseError,
+    RegionOverride, RegionalSubdivision, TimeZoneShortId, known_keys,
 };
 use iloc_subtags::{CurrencyType, ParseError, UnicodeKey};
 use iloc_unicode_value::Value;
-use row_page::{refuse, say};
+use row_page::{put, refuse, say};
 use std::alloc::{AllocError, Global};
 use std::io;
 use told::{Asked, default_of, refuse_keyword, told};
@@ -78,6 +76,33 @@ fn default(word: &str, out: &mut String) {
     }
 }
 
+// The key of this name.
+fn key_named(name: &str, out: &mut String) {
+    match name {
+        "ca" => put(out, &known_keys::ca()),
+        "cf" => put(out, &known_keys::cf()),
+        "co" => put(out, &known_keys::co()),
+        "cu" => put(out, &known_keys::cu()),
+        "dx" => put(out, &known_keys::dx()),
+        "em" => put(out, &known_keys::em()),
+        "fw" => put(out, &known_keys::fw()),
+        "hc" => put(out, &known_keys::hc()),
+        "kf" => put(out, &known_keys::kf()),
+        "kn" => put(out, &known_keys::kn()),
+        "lb" => put(out, &known_keys::lb()),
+        "lw" => put(out, &known_keys::lw()),
+        "ms" => put(out, &known_keys::ms()),
+        "mu" => put(out, &known_keys::mu()),
+        "nu" => put(out, &known_keys::nu()),
+        "rg" => put(out, &known_keys::rg()),
+        "sd" => put(out, &known_keys::sd()),
+        "ss" => put(out, &known_keys::ss()),
+        "tz" => put(out, &known_keys::tz()),
+        "va" => put(out, &known_keys::va()),
+        _ => say(out, "no such call"),
+    }
+}
+
 // The answer to a row of a keyword, or of one call of it.
 fn read(
     alloc: Global,
@@ -110,6 +135,7 @@ fn row(alloc: Global, line: &str, out: &mut String) {
     let (value, key) = rest.split_once('\t').unwrap_or((rest, word));
     match word {
         "default" => default(value, out),
+        "key" => key_named(value, out),
         "memory" => refuse_keyword(out, &PreferencesParseError::from(AllocError)),
         _ => read(
             alloc,

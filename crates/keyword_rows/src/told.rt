@@ -1,9 +1,7 @@
 //! What is told of a keyword. Only the generic functions here own one.
-use iloc_calendar_keyword::CalendarAlgorithm;
-use iloc_preference_key::{PreferenceKey, PreferencesParseError};
-use iloc_struct_keywords::{
-    DictionaryBreakScriptExclusions, SubdivisionKeyword, SubdivisionKeywordKind, SubtagKeyword,
-    SubtagKeywordKind,
+use iloc_keyword_types::{
+    CalendarAlgorithm, DictionaryBreakScriptExclusions, PreferenceKey, PreferencesParseError,
+    SubdivisionKeyword, SubdivisionKeywordKind, SubtagKeyword, SubtagKeywordKind,
 };
 use iloc_subtags::{CurrencyType, UnicodeKey};
 use iloc_unicode_value::Value;

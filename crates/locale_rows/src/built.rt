@@ -4,11 +4,11 @@ use crate::told::told;
 use crate::{lists, locale_steps};
 use iloc_data::DataLocale;
 use iloc_extensions::Extensions;
+use iloc_keyword_types::SubdivisionId;
 use iloc_langid::LanguageIdentifier;
 use iloc_litemap::LiteMap;
 use iloc_locale::Locale;
 use iloc_other::Private;
-use iloc_subdivision::SubdivisionId;
 use iloc_subtags::{
     AttributeKind, Language, ParseError, PrivateSubtag, PrivateSubtagKind, Region, Script,
     SubdivisionSuffix, Subtag, SubtagKind, TransformKeyKind, UnicodeKey, UnicodeKeyKind, WordKind,

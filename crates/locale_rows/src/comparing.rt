@@ -1,10 +1,10 @@
 //! Two values of one type, compared: their order, whether they are equal, and where they are whether their hashes are.
 use iloc_data::DataLocale;
 use iloc_extensions::Extensions;
+use iloc_keyword_types::SubdivisionId;
 use iloc_langid::LanguageIdentifier;
-use iloc_locale::Locale;
+use iloc_locale::{Locale, OrderedLocale};
 use iloc_other::{Other, Private};
-use iloc_subdivision::SubdivisionId;
 use iloc_subtags::ParseError;
 use iloc_transform::{Fields, Transform, Value as FieldValue};
 use iloc_unicode::{Attributes, Keywords, Unicode};
@@ -195,6 +195,34 @@ fn locales(alloc: Global, a: &[u8], b: &[u8], out: &mut String) {
     both(one, Locale::try_from_utf8(alloc, b), out)
 }
 
+// The key of a sorted map that was read.
+fn key(read: Result<Locale, ParseError>) -> Result<OrderedLocale, ParseError> {
+    match read {
+        Ok(locale) => Ok(OrderedLocale { locale }),
+        Err(error) => Err(error),
+    }
+}
+
+fn both_keys<K: Ord + Drop>(
+    one: Result<K, ParseError>,
+    other: Result<K, ParseError>,
+    out: &mut String,
+) {
+    match (&one, &other) {
+        (Ok(one), Ok(other)) => {
+            order(out, one.cmp(other));
+            say(out, " ");
+            truth(out, one == other)
+        }
+        _ => say(out, "no locale"),
+    }
+}
+
+fn keys(alloc: Global, a: &[u8], b: &[u8], out: &mut String) {
+    let one = key(Locale::try_from_utf8(alloc, a));
+    both_keys(one, key(Locale::try_from_utf8(alloc, b)), out)
+}
+
 // What is read without memory.
 trait Plain: Sized {
     fn read(text: &[u8]) -> Result<Self, ParseError>;
@@ -285,6 +313,7 @@ fn lower(alloc: Global, what: &str, a: &[u8], b: &[u8], out: &mut String) {
 pub fn answer(alloc: Global, what: &str, a: &[u8], b: &[u8], out: &mut String) {
     match what {
         "locale" => locales(alloc, a, b, out),
+        "ordered" => keys(alloc, a, b, out),
         "langid" => identifiers(alloc, a, b, out),
         "data" => plains::<DataLocale>(a, b, out),
         "subdivision" => plains::<SubdivisionId>(a, b, out),

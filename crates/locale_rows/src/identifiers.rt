@@ -2,9 +2,9 @@
 use crate::told::Answering;
 use iloc_data::DataLocale;
 use iloc_extensions::{Extensions, is_well_formed};
+use iloc_keyword_types::SubdivisionId;
 use iloc_langid::{LanguageIdentifier, Lowercase};
 use iloc_locale::Locale;
-use iloc_subdivision::SubdivisionId;
 use iloc_subtags::{Language, Region, Script};
 use iloc_writeable::{Pieces, Writeable};
 use row_page::{order, put, put_some, refused, say, truth};

@@ -1,10 +1,10 @@
 //! The readers, and what is asked of what they read.
 use crate::told::told;
 use iloc_data::DataLocale;
+use iloc_keyword_types::SubdivisionId;
 use iloc_langid::LanguageIdentifier;
 use iloc_locale::Locale;
 use iloc_other::{Other, Private};
-use iloc_subdivision::SubdivisionId;
 use iloc_transform::{Transform, Value as FieldValue};
 use iloc_unicode::{Attributes, Keywords, Unicode};
 use iloc_unicode_value::Value;

@@ -1,12 +1,12 @@
 //! Calls of a text: readers without memory, pieces, normal texts, and the readers that take a `str`.
 use crate::told::lent;
 use iloc_data::DataLocale;
+use iloc_keyword_types::SubdivisionId;
 use iloc_langid::LanguageIdentifier;
 use iloc_locale::Locale;
 use iloc_other::{Other, Private};
 use iloc_parser::{SubtagIterator, take_word};
 use iloc_small_reader::{SmallLocaleParts, read_small_locale};
-use iloc_subdivision::SubdivisionId;
 use iloc_subtags::{Language, ParseError, Region, RegionKind, Script, Variant};
 use iloc_transform::{Transform, Value as FieldValue};
 use iloc_unicode::{Attributes, Keywords, Unicode};

@@ -11,6 +11,7 @@ ghost use Rattle.std.specs.Prelude.{◌≡◌, Contains, IfSome};
 ghost use Rattle.icu_locale_core.specs.Reads.{value_of};
 ghost use Rattle.negotiate.specs.Fallback.{IsLeftOf};
 
+use icu_locale_core::langid::equality;
 use icu_locale_core::{LanguageIdentifier, Locale, ParseError};
 use std::alloc::{AllocError, Global};
 use std::fmt::Write;
@@ -53,7 +54,7 @@ fn find<'a>(
     ensures there { IfSome result (λ one. Contains available.now one.now) }
     ensures same { IfSome result (λ one. value_of one.now ≡ value_of wanted.now) }
 {
-    iloc_langid::equality();
+    equality();
     for one in available {
         if *one == *wanted {
             return Some(one);

@@ -1,5 +1,5 @@
 //! Reads and changes keywords of the unicode extension.
-use icu_locale_core::extensions::unicode::{Key, Value};
+use icu_locale_core::extensions::unicode::{Key, Value, key};
 use icu_locale_core::preferences::extensions::unicode::keywords::CalendarAlgorithm;
 use icu_locale_core::{Locale, ParseError};
 use std::alloc::Global;
@@ -26,7 +26,7 @@ pub fn set(
 
 /// Says the calendar that the locale asks for, and makes it the Buddhist one.
 pub fn calendar(alloc: Global, locale: &mut Locale, out: &mut String) -> Result<(), ParseError> {
-    let key = Key::try_from_str("ca")?;
+    let key = key::ca();
     let keywords = &mut locale.extensions.unicode.keywords;
     let asked = match keywords.get(&key) {
         Some(value) => CalendarAlgorithm::try_from(value).ok(),

@@ -1,0 +1,37 @@
+use Rattle.std.proofs.Common.{◌≡◌, ℕ, List, [], ◌∷◌, sym, ap, ◌∙◌, refl, subst, Some}
+use Rattle.iloc_grammar.specs.Words.{Subtag}
+use Rattle.iloc_grammar.specs.Values.{IsNormal}
+use Rattle.iloc_preferences_rules.specs.Keywords as keywords
+use Rattle.iloc_preferences_rules.specs.Keywords.{variants, hijri_kinds, enum_gives}
+use Rattle.iloc_unicode_value.specs.Values.{without_true}
+use Rattle.iloc_keyword_types.specs.WordTables.{word_at}
+use Rattle.iloc_keyword_types.proofs.EnumLemmas.{normal_word}
+use Rattle.iloc_keyword_types.specs.Calendars.{place, placed_at}
+use Rattle.iloc_keyword_types.specs.Hijri.{kind_place}
+use Rattle.iloc_keyword_types.proofs.GivenLemmas.{reads_back, kind_normal, given_kind, given_plain, hijri_place}
+use Rattle.iloc_keyword_types.proofs.calendar_algorithm.CalendarAlgorithm.to_value.Goals as goal
+
+pub subtag_of-word-requires : goal.subtag_of-word-requires
+subtag_of-word-requires c = subst (IsNormal Subtag) (sym c.word.ensures) (normal_word keywords.CalendarAlgorithm (variants keywords.CalendarAlgorithm) refl (place c.args.self.now) _ (placed_at c.args.self.now))
+
+pub subtag_of-requires : goal.subtag_of-requires
+subtag_of-requires c = subst (IsNormal Subtag) (sym c.word-in-Some.ensures) (kind_normal c.in-Some.kind)
+
+pub returns-in-None-clause-value : goal.returns-in-None-clause-value
+returns-in-None-clause-value c = (c.from_subtag.result, given_plain c.args.self.now (sym c.in-None.ensures) ∙ ap Some (sym (c.from_subtag.ensures ∙ ap (λ (w : List ℕ). without_true (w ∷ [])) (c.subtag_of-word.ensures ∙ c.word.ensures))), refl)
+
+pub returns-in-None-clause-back : goal.returns-in-None-clause-back
+unfolding returns-in-None-clause-value
+returns-in-None-clause-back c = reads_back c.args.self.now c.from_subtag.result (returns-in-None-clause-value c).1
+
+pub returns-in-Some-clause-value : goal.returns-in-Some-clause-value
+returns-in-Some-clause-value c = (_, given_kind c.args.self.now c.in-Some.kind c.in-Some.ensures ∙ sym (λ i. Some (first i ∷ second i ∷ [])), c.from_two_subtags.ensures)
+  where
+    first : c.subtag_of-word.result ≡ word_at (variants keywords.CalendarAlgorithm) 9
+    first = c.subtag_of-word.ensures ∙ c.word.ensures ∙ ap (word_at (variants keywords.CalendarAlgorithm)) (hijri_place c.args.self.now (kind_place c.in-Some.kind) c.in-Some.ensures)
+
+    second : c.subtag_of.result ≡ word_at hijri_kinds (kind_place c.in-Some.kind)
+    second = c.subtag_of.ensures ∙ c.word-in-Some.ensures
+
+pub returns-in-Some-clause-back : goal.returns-in-Some-clause-back
+returns-in-Some-clause-back c = let given = returns-in-Some-clause-value c in rw given.2 (reads_back c.args.self.now given.0 given.1)

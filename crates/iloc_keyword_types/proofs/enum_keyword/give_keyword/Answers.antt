@@ -1,0 +1,35 @@
+-- The word of the variant is a subtag, and reads as the variant.
+use Rattle.std.proofs.Common.{◌≡◌, List, [], ◌∷◌, ℕ, Some, ap, ◌∙◌, sym, subst, slice_get}
+use Rattle.iloc_grammar.specs.Words.{Subtag}
+use Rattle.iloc_grammar.specs.Values.{IsNormal}
+use Rattle.iloc_preferences_rules.specs.Keywords.{EnumKeyword, variants, enum_gives}
+use Rattle.iloc_unicode_value.specs.Values.{without_true}
+use Rattle.iloc_keyword_types.specs.WordTables.{word_at}
+use Rattle.iloc_keyword_types.proofs.EnumLemmas.{given, read_back, normal_word, variant}
+use Rattle.iloc_keyword_types.proofs.enum_keyword.give_keyword.Goals as goal
+
+pub subtag_of-requires : goal.subtag_of-requires
+subtag_of-requires g c =
+    subst (IsNormal Subtag) (sym c.word.ensures)
+    (normal_word g.E.EnumKeyword.keyword g.E.WordEnum.words g.met.E.EnumKeyword.same_words (g.E.WordEnum.place c.args.keyword) _ (g.met.E.WordEnum.placed c.args.keyword))
+
+pub returns : goal.returns
+returns g c = (value, read_back keyword words same g.met.E.EnumKeyword.plain place _ at c.from_subtag.result value)
+  where
+    keyword : EnumKeyword
+    keyword = g.E.EnumKeyword.keyword
+
+    words : List (List ℕ)
+    words = g.E.WordEnum.words
+
+    same : words ≡ variants keyword
+    same = g.met.E.EnumKeyword.same_words
+
+    place : ℕ
+    place = g.E.WordEnum.place c.args.keyword
+
+    at : slice_get words place ≡ Some (word_at words place)
+    at = g.met.E.WordEnum.placed c.args.keyword
+
+    value : enum_gives keyword (variant place) ≡ Some c.from_subtag.result
+    value = given keyword words same g.met.E.EnumKeyword.plain place at c.from_subtag.result (c.from_subtag.ensures ∙ ap (λ (w : List ℕ). without_true (w ∷ [])) (c.subtag_of.ensures ∙ c.word.ensures))

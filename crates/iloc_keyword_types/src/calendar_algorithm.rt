@@ -1,0 +1,147 @@
+//! Calendars.
+ghost use Rattle.std.specs.Prelude.{◌≡◌, Some, None, option_map};
+ghost use Rattle.iloc_preferences_rules.specs.Keywords.{CalendarAlgorithm as the_keyword, variants};
+ghost use Rattle.iloc_keyword_types.specs.WordTables.{word_at};
+ghost use Rattle.iloc_keyword_types.specs.Hijri.{kind_place};
+ghost use Rattle.iloc_keyword_types.specs.Calendars.{place, kind, placed_at, value_of, text_of};
+
+use crate::WordEnum;
+use crate::hijri::HijriCalendarAlgorithm;
+
+/// A calendar (`ca`).
+#[derive(Clone, Copy, Debug, PartialEq, Eq, Hash)]
+pub enum CalendarAlgorithm {
+    /// `buddhist`.
+    Buddhist,
+    /// `chinese`.
+    Chinese,
+    /// `coptic`.
+    Coptic,
+    /// `dangi`.
+    Dangi,
+    /// `ethioaa`.
+    Ethioaa,
+    /// `ethiopic`.
+    Ethiopic,
+    /// `gregory`.
+    Gregory,
+    /// `hebrew`.
+    Hebrew,
+    /// `indian`.
+    Indian,
+    /// `islamic`, perhaps with a kind.
+    Hijri(Option<HijriCalendarAlgorithm>),
+    /// `iso8601`.
+    Iso8601,
+    /// `japanese`.
+    Japanese,
+    /// `persian`.
+    Persian,
+    /// `roc`.
+    Roc,
+}
+
+impl CalendarAlgorithm {
+    /// The text of the calendar: of a Hijri calendar of a kind, `islamic-` and the word of the kind.
+    #[tactic(auto, unfolding(iloc_grammar::specs::Pieces::join))]
+    pub fn as_str(&self) -> &'static str
+        ensures { text_of (value_of self.now) ≡ Some result.now }
+    {
+        match self {
+            Self::Buddhist => "buddhist",
+            Self::Chinese => "chinese",
+            Self::Coptic => "coptic",
+            Self::Dangi => "dangi",
+            Self::Ethioaa => "ethioaa",
+            Self::Ethiopic => "ethiopic",
+            Self::Gregory => "gregory",
+            Self::Hebrew => "hebrew",
+            Self::Indian => "indian",
+            Self::Hijri(kind) => hijri_text(*kind),
+            Self::Iso8601 => "iso8601",
+            Self::Japanese => "japanese",
+            Self::Persian => "persian",
+            Self::Roc => "roc",
+        }
+    }
+
+    // The kind of a Hijri calendar.
+    pub(crate) fn kind(&self) -> Option<HijriCalendarAlgorithm>
+        ensures { option_map kind_place result ≡ kind self.now }
+    {
+        match self {
+            Self::Hijri(kind) => *kind,
+            _ => None,
+        }
+    }
+
+    // The calendar without its kind.
+    pub(crate) fn of_any_kind(self) -> Self
+        ensures { value_of result ≡ (place self, None) }
+    {
+        match self {
+            Self::Hijri(_) => Self::Hijri(None),
+            other => other,
+        }
+    }
+}
+
+// The text of a Hijri calendar.
+#[tactic(auto, unfolding(iloc_grammar::specs::Pieces::join))]
+fn hijri_text(kind: Option<HijriCalendarAlgorithm>) -> &'static str
+    ensures { text_of (9, option_map kind_place kind) ≡ Some result.now }
+{
+    match kind {
+        None => "islamic",
+        Some(HijriCalendarAlgorithm::Umalqura) => "islamic-umalqura",
+        Some(HijriCalendarAlgorithm::Tbla) => "islamic-tbla",
+        Some(HijriCalendarAlgorithm::Civil) => "islamic-civil",
+        Some(HijriCalendarAlgorithm::Rgsa) => "islamic-rgsa",
+    }
+}
+
+impl WordEnum for CalendarAlgorithm {
+    ghost words = { variants the_keyword };
+
+    ghost place = { place };
+
+    ghost placed = { placed_at };
+
+    fn all() -> &'static [Self] {
+        &[
+            Self::Buddhist,
+            Self::Chinese,
+            Self::Coptic,
+            Self::Dangi,
+            Self::Ethioaa,
+            Self::Ethiopic,
+            Self::Gregory,
+            Self::Hebrew,
+            Self::Indian,
+            Self::Hijri(None),
+            Self::Iso8601,
+            Self::Japanese,
+            Self::Persian,
+            Self::Roc,
+        ]
+    }
+
+    fn word(&self) -> &'static str {
+        match self {
+            Self::Buddhist => "buddhist",
+            Self::Chinese => "chinese",
+            Self::Coptic => "coptic",
+            Self::Dangi => "dangi",
+            Self::Ethioaa => "ethioaa",
+            Self::Ethiopic => "ethiopic",
+            Self::Gregory => "gregory",
+            Self::Hebrew => "hebrew",
+            Self::Indian => "indian",
+            Self::Hijri(_) => "islamic",
+            Self::Iso8601 => "iso8601",
+            Self::Japanese => "japanese",
+            Self::Persian => "persian",
+            Self::Roc => "roc",
+        }
+    }
+}

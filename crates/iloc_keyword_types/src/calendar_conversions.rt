@@ -1,0 +1,140 @@
+//! Calendars as values of their keyword.
+ghost use Rattle.std.specs.Prelude.{◌≡◌, ℕ, List, [], ◌∷◌, Some, IfOk, option_map};
+ghost use Rattle.iloc_preferences_rules.specs.Keywords.{
+  CalendarAlgorithm as the_keyword,
+  key as key_of_keyword,
+  enum_reads,
+  enum_gives,
+};
+ghost use Rattle.iloc_keyword_types.specs.Reads.{Reads, ReadsKeyed, GivesKeyed, GivesValue};
+ghost use Rattle.iloc_keyword_types.specs.Calendars.{value_of};
+ghost use Rattle.iloc_keyword_types.specs.CalendarReading.{calendar_reads};
+
+use crate::calendar_algorithm::CalendarAlgorithm;
+use crate::hijri::HijriCalendarAlgorithm;
+use crate::{PreferenceKey, WordEnum, find_word, key_of};
+use iloc_subtags::UnicodeKey;
+use iloc_unicode_value::{PreferencesParseError, Value, subtag_of};
+use std::alloc::{AllocError, Global};
+
+// The calendar of one word: that of a variant, or an old form.
+fn of_one(word: &str) -> Option<CalendarAlgorithm>
+    ensures { option_map value_of result ≡ calendar_reads (word.now ∷ []) }
+{
+    if word == "islamicc" {
+        return Some(CalendarAlgorithm::Hijri(Some(HijriCalendarAlgorithm::Civil)));
+    }
+    match find_word::<CalendarAlgorithm>(word) {
+        Some(calendar) => Some(calendar.of_any_kind()),
+        None => None,
+    }
+}
+
+// The calendar of two words: a Hijri calendar of a kind.
+fn of_two(first: &str, kind: &str) -> Option<CalendarAlgorithm>
+    ensures { option_map value_of result ≡ calendar_reads (first.now ∷ kind.now ∷ []) }
+{
+    if first == "islamic" {
+        match find_word::<HijriCalendarAlgorithm>(kind) {
+            Some(kind) => Some(CalendarAlgorithm::Hijri(Some(kind))),
+            None => None,
+        }
+    } else {
+        None
+    }
+}
+
+// The calendar of three words: an old form.
+fn of_three(first: &str, second: &str, third: &str) -> Option<CalendarAlgorithm>
+    ensures { option_map value_of result
+        ≡ calendar_reads (first.now ∷ second.now ∷ third.now ∷ []) }
+{
+    if first == "ethiopic" && second == "amete" && third == "alem" {
+        Some(CalendarAlgorithm::Ethioaa)
+    } else {
+        None
+    }
+}
+
+// What the value reads as.
+fn calendar_of(value: &Value) -> Option<CalendarAlgorithm>
+    ensures { option_map value_of result ≡ calendar_reads value.now }
+{
+    match value.as_subtags_slice() {
+        [word] => of_one(word.as_str()),
+        [first, kind] => of_two(first.as_str(), kind.as_str()),
+        [first, second, third] => of_three(first.as_str(), second.as_str(), third.as_str()),
+        [] => None,
+        [_, _, _, _, ..] => None,
+    }
+}
+
+/// What the value reads as.
+impl TryFrom<&Value> for CalendarAlgorithm {
+    type Error = PreferencesParseError;
+
+    ghost try_from_gives = { λ value result. Reads value_of
+        (enum_reads the_keyword value.now) result };
+
+    fn try_from(value: &Value) -> Result<Self, PreferencesParseError> {
+        calendar_of(value).ok_or(PreferencesParseError::InvalidKeywordValue)
+    }
+}
+
+impl CalendarAlgorithm {
+    /// The value of the keyword: the one or two words of the text, which reads as the calendar. It takes no memory.
+    pub fn to_value(&self, alloc: Global) -> Result<Value, AllocError>
+        ensures value { GivesValue (enum_gives the_keyword (value_of self.now)) result }
+        ensures back { IfOk result (λ value. calendar_reads value ≡ Some (value_of self.now)) }
+    {
+        let word = subtag_of(self.word());
+        match self.kind() {
+            Some(kind) => Value::from_two_subtags(alloc, word, subtag_of(kind.word())),
+            None => Ok(Value::from_subtag(Some(word))),
+        }
+    }
+}
+
+/// Its key, what its value reads as, and the value that it is turned into.
+impl PreferenceKey for CalendarAlgorithm {
+    ghost own_key = { Some (key_of_keyword the_keyword) };
+
+    ghost reads = { λ q ws result. ReadsKeyed value_of (key_of_keyword the_keyword)
+        (enum_reads the_keyword ws) q result };
+
+    ghost gives = { λ c result. GivesKeyed (enum_gives the_keyword (value_of c)) result };
+
+    fn try_from_key_value(
+        alloc: Global,
+        key: &UnicodeKey,
+        value: &Value,
+    ) -> Result<Option<Self>, PreferencesParseError>
+        ensures { ReadsKeyed value_of (key_of_keyword the_keyword)
+            (enum_reads the_keyword value.now) key.now result }
+    {
+        if *key != calendar_key() {
+            return Ok(None);
+        }
+        Ok(Some(CalendarAlgorithm::try_from(value)?))
+    }
+
+    fn unicode_extension_key() -> Option<UnicodeKey>
+        ensures { result ≡ Some (key_of_keyword the_keyword) }
+    {
+        Some(calendar_key())
+    }
+
+    fn unicode_extension_value(&self, alloc: Global) -> Result<Option<Value>, AllocError>
+        ensures { GivesKeyed (enum_gives the_keyword (value_of self.now)) result }
+    {
+        Ok(Some(self.to_value(alloc)?))
+    }
+}
+
+// The key of calendars.
+#[tactic(auto, unfolding(iloc_grammar::specs::Words::is_word, iloc_grammar::specs::Words::lower))]
+fn calendar_key() -> UnicodeKey
+    ensures { result ≡ key_of_keyword the_keyword }
+{
+    key_of("ca")
+}

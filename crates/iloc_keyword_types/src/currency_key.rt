@@ -1,0 +1,51 @@
+//! Currencies as the preference of their keyword (`cu`).
+ghost use Rattle.std.specs.Prelude.{◌≡◌, Some};
+ghost use Rattle.iloc_preferences_rules.specs.Keywords.{cu, currency_reads, currency_gives};
+ghost use Rattle.iloc_keyword_types.specs.Reads.{ReadsKeyed, GivesKeyed};
+
+use crate::preference_key::{PreferenceKey, key_of};
+use iloc_subtags::{CurrencyType, UnicodeKey};
+use iloc_unicode_value::{PreferencesParseError, Value};
+use std::alloc::{AllocError, Global};
+
+/// Its key, what its value reads as, and the value that it is turned into.
+impl PreferenceKey for CurrencyType {
+    ghost own_key = { Some cu };
+
+    ghost reads = { λ q ws result. ReadsKeyed (λ code. code) cu (currency_reads ws) q result };
+
+    ghost gives = { λ code result. GivesKeyed (Some (currency_gives code)) result };
+
+    fn try_from_key_value(
+        alloc: Global,
+        key: &UnicodeKey,
+        value: &Value,
+    ) -> Result<Option<Self>, PreferencesParseError>
+        ensures { ReadsKeyed (λ code. code) cu (currency_reads value.now) key.now result }
+    {
+        if *key != currency_key() {
+            return Ok(None);
+        }
+        Ok(Some(CurrencyType::try_from(value)?))
+    }
+
+    fn unicode_extension_key() -> Option<UnicodeKey>
+        ensures { result ≡ Some cu }
+    {
+        Some(currency_key())
+    }
+
+    fn unicode_extension_value(&self, alloc: Global) -> Result<Option<Value>, AllocError>
+        ensures { GivesKeyed (Some (currency_gives self.now)) result }
+    {
+        Ok(Some(Value::from(self)))
+    }
+}
+
+// The key of currencies.
+#[tactic(auto, unfolding(iloc_grammar::specs::Words::is_word, iloc_grammar::specs::Words::lower))]
+fn currency_key() -> UnicodeKey
+    ensures { result ≡ cu }
+{
+    key_of("cu")
+}

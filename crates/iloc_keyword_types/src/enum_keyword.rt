@@ -1,0 +1,105 @@
+//! Keywords with a fixed set of values, but calendars: how they are read and written.
+ghost use Rattle.std.specs.Prelude.{◌≡◌, ℕ, List, [], Some, None, codes, option_and_then};
+ghost use Rattle.iloc_preferences_rules.specs.Keywords.{
+  EnumKeyword as Keyword,
+  key as key_of_keyword,
+  variants,
+  further_readings,
+  enum_reads,
+  enum_gives,
+  single,
+  or_true,
+};
+ghost use Rattle.std.specs.Option.{option_copied};
+ghost use Rattle.iloc_keyword_types.specs.Reads.{
+  ReadsKeyed,
+  GivesKeyed,
+  ReadsVariant,
+  GivesVariant,
+};
+
+use crate::preference_key::PreferenceKey;
+use crate::word_enum::{WordEnum, find_word};
+use iloc_subtags::UnicodeKey;
+use iloc_unicode_value::{PreferencesParseError, Value, subtag_of};
+use std::alloc::{AllocError, Global};
+
+/// A keyword whose values are the words of its variants, one each.
+pub trait EnumKeyword: WordEnum {
+    /// Which of the keywords it is.
+    ghost keyword: { Keyword };
+
+    /// Its key.
+    fn key() -> UnicodeKey
+        ensures { result ≡ key_of_keyword keyword };
+
+    /// Its words are those of the keyword.
+    ghost same_words: { Self.words ≡ variants keyword };
+
+    /// Nothing else is read.
+    ghost plain: { further_readings keyword ≡ [] };
+}
+
+/// What the value reads as: the variant of its only subtag, where the empty value counts as `true`.
+pub fn read_keyword<E: EnumKeyword>(value: &Value) -> Result<E, PreferencesParseError>
+    ensures { ReadsVariant E.keyword E.place value.now result }
+{
+    let Some(word) = only_word(value) else {
+        return Err(PreferencesParseError::InvalidKeywordValue);
+    };
+    find_word(word).ok_or(PreferencesParseError::InvalidKeywordValue)
+}
+
+// The word of the only subtag of the value; of the empty value it is `true`.
+fn only_word(value: &Value) -> Option<&str>
+    ensures { option_copied result ≡ single (or_true value.now) }
+{
+    match value.as_subtags_slice() {
+        [] => Some("true"),
+        [word] => Some(word.as_str()),
+        _ => None,
+    }
+}
+
+/// The value of the variant's word; of `true` it is empty. Reading it gives the variant back.
+pub fn give_keyword<E: EnumKeyword>(keyword: E) -> Value
+    ensures { GivesVariant E.keyword (E.place keyword) result }
+{
+    Value::from_subtag(Some(subtag_of(keyword.word())))
+}
+
+/// Its key, what its value reads as, and the value that it is turned into, are those of the keyword.
+impl<E: EnumKeyword> PreferenceKey for E {
+    ghost own_key = { Some (key_of_keyword E.keyword) };
+
+    ghost reads = { λ q ws result. ReadsKeyed
+        (λ e. (E.place e, None)) (key_of_keyword E.keyword) (enum_reads E.keyword ws) q result };
+
+    ghost gives = { λ e result. GivesKeyed (enum_gives E.keyword (E.place e, None)) result };
+
+    fn try_from_key_value(
+        alloc: Global,
+        key: &UnicodeKey,
+        value: &Value,
+    ) -> Result<Option<Self>, PreferencesParseError>
+        ensures { ReadsKeyed (λ e. (E.place e, None)) (key_of_keyword E.keyword)
+            (enum_reads E.keyword value.now) key.now result }
+    {
+        if *key != E::key() {
+            return Ok(None);
+        }
+        Ok(Some(read_keyword(value)?))
+    }
+
+    fn unicode_extension_key() -> Option<UnicodeKey>
+        ensures { result ≡ Some (key_of_keyword E.keyword) }
+    {
+        Some(E::key())
+    }
+
+    fn unicode_extension_value(&self, alloc: Global) -> Result<Option<Value>, AllocError>
+        ensures { GivesKeyed (enum_gives E.keyword (E.place self.now, None)) result }
+    {
+        Ok(Some(give_keyword(*self)))
+    }
+}

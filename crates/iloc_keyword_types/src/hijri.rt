@@ -1,0 +1,41 @@
+//! The kinds of Hijri calendars.
+ghost use Rattle.std.specs.Prelude.{◌≡◌};
+ghost use Rattle.iloc_preferences_rules.specs.Keywords.{hijri_kinds};
+ghost use Rattle.iloc_keyword_types.specs.WordTables.{word_at};
+ghost use Rattle.iloc_keyword_types.specs.Hijri.{kind_place, kind_placed};
+
+use crate::WordEnum;
+
+/// A kind of Hijri calendar: what may follow `islamic` in the value of `ca`.
+#[derive(Clone, Copy, Debug, PartialEq, Eq, Hash)]
+pub enum HijriCalendarAlgorithm {
+    /// `umalqura`.
+    Umalqura,
+    /// `tbla`.
+    Tbla,
+    /// `civil`.
+    Civil,
+    /// `rgsa`.
+    Rgsa,
+}
+
+impl WordEnum for HijriCalendarAlgorithm {
+    ghost words = { hijri_kinds };
+
+    ghost place = { kind_place };
+
+    ghost placed = { kind_placed };
+
+    fn all() -> &'static [Self] {
+        &[Self::Umalqura, Self::Tbla, Self::Civil, Self::Rgsa]
+    }
+
+    fn word(&self) -> &'static str {
+        match self {
+            Self::Umalqura => "umalqura",
+            Self::Tbla => "tbla",
+            Self::Civil => "civil",
+            Self::Rgsa => "rgsa",
+        }
+    }
+}

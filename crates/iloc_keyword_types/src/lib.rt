@@ -1,0 +1,64 @@
+//! The types of keywords, and what they stand on.
+//!
+//! `PreferenceKey` is the trait of a preference that a keyword carries: its key, its reader and the value that it
+//! is turned into. Enums of which each variant has a word (`WordEnum`) are found by it, and those that are keywords
+//! (`EnumKeyword`) are read and written by one reader and one writer, proved here once for any table: what is
+//! read is exactly what the definitions say, and each variant is read of the value that it gives. Such enums stand
+//! in `iloc_enum_keywords`. Currencies have their key here; `known_keys` has each key by its name.
+//!
+//! The types here are those whose values are more than a word of a table: calendars (`ca`), numbering systems and
+//! time zones (one subtag), regions and subdivisions (one `SubdivisionId`, as `ustx`: a region and a suffix in one
+//! word, UTS #35 section 3.6.5), and scripts (a list). Each is read of the value of its keyword exactly where the
+//! definitions say, and turned into the value that they say. Only the list of scripts may take memory: to be read
+//! of more than four, and to be turned into a value.
+//!
+//! It stands on the definitions of keywords (`iloc_preferences_rules`) and of regions (`iloc_regions`), on words and
+//! on values (`iloc_subtags`, `iloc_unicode_value`).
+#![tactic(auto)]
+
+ghost use Rattle.std.specs.Prelude.{◌≡◌, ◌↔◌, true};
+ghost use Rattle.std.specs.Ordering.{on, then_cmp};
+ghost use Rattle.iloc_grammar.specs.Words.{word_cmp};
+ghost use Rattle.iloc_regions.specs.DataHashes.{subdivision_fed};
+ghost use Rattle.iloc_keyword_types.specs.Subdivisions.{value_of};
+
+use std::hash::Hash;
+
+pub mod calendar_algorithm;
+pub mod calendar_conversions;
+pub mod currency_key;
+pub mod enum_keyword;
+pub mod hijri;
+pub mod known_keys;
+pub mod preference_key;
+pub mod script_exclusions;
+pub mod subdivision_id;
+pub mod subdivision_keyword;
+pub mod subtag_keyword;
+pub mod word_enum;
+
+pub use calendar_algorithm::CalendarAlgorithm;
+pub use enum_keyword::{EnumKeyword, give_keyword, read_keyword};
+pub use hijri::HijriCalendarAlgorithm;
+pub use iloc_unicode_value::{PreferencesParseError, subtag_of};
+pub use preference_key::{PreferenceKey, key_of};
+pub use script_exclusions::DictionaryBreakScriptExclusions;
+pub use subdivision_id::SubdivisionId;
+pub use subdivision_keyword::{
+    RegionOverride, RegionalSubdivision, SubdivisionKeyword, SubdivisionKeywordKind, keyword_of,
+};
+pub use subtag_keyword::{NumberingSystem, SubtagKeyword, SubtagKeywordKind, TimeZoneShortId};
+pub use word_enum::{WordEnum, find_word};
+
+/// Subdivisions are ordered by region and then by suffix, what is equal has the same value, and that is what a
+/// hasher is fed.
+pub fn subdivisions_compare()
+    ensures order { (s t : SubdivisionId)
+        → ⟦<SubdivisionId as Ord>⟧.cmp s t
+        ≡ then_cmp (on (λ s. s.region) word_cmp) (on (λ s. s.suffix) word_cmp) (value_of s)
+        (value_of t) }
+    ensures equality { (s t : SubdivisionId)
+        → (⟦<SubdivisionId as PartialEq>⟧.eq s t ≡ true) ↔ (value_of s ≡ value_of t) }
+    ensures fed { (s : SubdivisionId)
+        → ⟦<SubdivisionId as Hash>⟧.hash_input s ≡ subdivision_fed (value_of s) }
+{}

@@ -1,0 +1,153 @@
+//! A keyword whose value is a list of scripts.
+ghost use Rattle.std.specs.Prelude.{
+  ◌≡◌,
+  ◌++◌,
+  ◌∷◌,
+  [],
+  ◌<◌,
+  ℕ,
+  Ok,
+  Some,
+  OnOk,
+  OnErr,
+  IfOk,
+  IsOk,
+  length,
+};
+ghost use Rattle.iloc_grammar.specs.Words.{word, Script as the_kind};
+ghost use Rattle.iloc_preferences_rules.specs.Keywords.{dx, scripts_read, scripts_give};
+ghost use Rattle.iloc_keyword_types.specs.Scripts.{ReadsScripts, ReadsScriptsKeyed};
+
+use crate::{PreferenceKey, PreferencesParseError, key_of};
+use iloc_shortvec::ShortWords;
+use iloc_subtags::{Script, Subtag, UnicodeKey};
+use iloc_unicode_value::Value;
+use std::alloc::{AllocError, Global};
+use std::marker::Model;
+
+/// Scripts that are left out where words are broken by a dictionary, as `hani-hira` (`dx`).
+#[derive(Drop, Debug, PartialEq, Eq, Hash)]
+pub struct DictionaryBreakScriptExclusions {
+    scripts: ShortWords<Script>,
+}
+
+impl Model for DictionaryBreakScriptExclusions {
+    ghost use Rattle.std.specs.Prelude.{List, ℕ};
+    ghost use Rattle.std.specs.List.{AllByRecursion};
+    ghost use Rattle.iloc_grammar.specs.Values.{IsNormal};
+    ghost use Rattle.iloc_grammar.specs.Words.{Script as the_kind};
+
+    ghost Value = { List (List ℕ) };
+
+    ghost view = { λ d. d.scripts };
+
+    ghost invariant = { λ d. AllByRecursion (IsNormal the_kind) d.scripts };
+
+    ghost inverse = { λ ws. record { scripts = ws } };
+}
+
+impl DictionaryBreakScriptExclusions {
+    /// The scripts in order.
+    pub fn as_inner(&self) -> &[Script]
+        ensures { result.now ≡ self.now }
+    {
+        self.scripts.as_slice()
+    }
+
+    /// The scripts that the subtags of the value are, in order; a value with another subtag is refused. The empty
+    /// value is the empty list. `OutOfMemory` comes only where there are more than four subtags.
+    pub fn try_from_value(alloc: Global, value: &Value) -> Result<Self, PreferencesParseError>
+        ensures { ReadsScripts value.now result }
+    {
+        let subtags = value.as_subtags_slice();
+        let mut exclusions = DictionaryBreakScriptExclusions {
+            scripts: ShortWords::new(),
+        };
+        for subtag in subtags {
+            let Some(script) = script_of(subtag) else {
+                return Err(PreferencesParseError::InvalidKeywordValue);
+            };
+            exclusions.push(alloc, script)?;
+        }
+        Ok(exclusions)
+    }
+
+    // Adds a script at the end. Up to four take no memory.
+    fn push(&mut self, alloc: Global, script: Script) -> Result<(), AllocError>
+        ensures ok { OnOk result (self.new ≡ self.old ++ script ∷ []) }
+        ensures succeeds { length self.old < 4 → IsOk result }
+    {
+        let _ = script.as_str();
+        self.scripts.push(alloc, script)
+    }
+
+    /// The scripts as subtags, in order.
+    pub fn to_value(&self, alloc: Global) -> Result<Value, AllocError>
+        ensures { IfOk result (λ value. value ≡ scripts_give self.now) }
+    {
+        let mut subtags = Vec::new(alloc);
+        for script in self.as_inner() {
+            subtags.push(Subtag::from(*script))?;
+        }
+        Ok(Value::from_vec_unchecked(subtags))
+    }
+}
+
+// The script that the subtag is, where it is one.
+fn script_of(subtag: &Subtag) -> Option<Script>
+    ensures { result ≡ word the_kind subtag.now }
+{
+    Script::try_from_str(subtag.as_str()).ok()
+}
+
+impl Clone for DictionaryBreakScriptExclusions {
+    ghost is_clone = { λ d e. e ≡ d };
+
+    fn clone(&self) -> Result<Self, AllocError> {
+        Ok(DictionaryBreakScriptExclusions {
+            scripts: self.scripts.clone()?,
+        })
+    }
+}
+
+/// Its key, what its value reads as, and the value that it is turned into.
+impl PreferenceKey for DictionaryBreakScriptExclusions {
+    ghost own_key = { Some dx };
+
+    ghost reads = { λ q ws result. ReadsScriptsKeyed q ws result };
+
+    ghost gives = { λ scripts result. IfOk result (λ o. o ≡ Some (scripts_give scripts)) };
+
+    fn try_from_key_value(
+        alloc: Global,
+        key: &UnicodeKey,
+        value: &Value,
+    ) -> Result<Option<Self>, PreferencesParseError>
+        ensures { ReadsScriptsKeyed key.now value.now result }
+    {
+        if *key != exclusions_key() {
+            return Ok(None);
+        }
+        Ok(Some(DictionaryBreakScriptExclusions::try_from_value(alloc, value)?))
+    }
+
+    fn unicode_extension_key() -> Option<UnicodeKey>
+        ensures { result ≡ Some dx }
+    {
+        Some(exclusions_key())
+    }
+
+    fn unicode_extension_value(&self, alloc: Global) -> Result<Option<Value>, AllocError>
+        ensures { IfOk result (λ o. o ≡ Some (scripts_give self.now)) }
+    {
+        Ok(Some(self.to_value(alloc)?))
+    }
+}
+
+// The key of the list.
+#[tactic(auto, unfolding(iloc_grammar::specs::Words::is_word, iloc_grammar::specs::Words::lower))]
+fn exclusions_key() -> UnicodeKey
+    ensures { result ≡ dx }
+{
+    key_of("dx")
+}

@@ -1,0 +1,110 @@
+//! A subdivision of a region.
+ghost use Rattle.std.specs.Prelude.{◌≡◌, Ok, Some};
+ghost use Rattle.iloc_keyword_types.specs.Cut.{cut_of};
+
+use iloc_subtags::{ParseError, Region, SubdivisionSuffix, Subtag};
+use iloc_writeable::{Sink, Writeable};
+use std::cmp::min;
+use std::fmt;
+use std::str::FromStr;
+
+/// A subdivision of a region, as `ustx`.
+#[derive(Clone, Copy, Debug, PartialEq, Eq, PartialOrd, Ord, Hash)]
+pub struct SubdivisionId {
+    pub region: Region,
+    pub suffix: SubdivisionSuffix,
+}
+
+impl SubdivisionId {
+    ghost use Rattle.iloc_regions.specs.Subdivisions.{subdivision, subdivision_text};
+    ghost use Rattle.iloc_keyword_types.specs.Subdivisions.{value_of, ReadsAs};
+
+    /// The subdivision of that region with that suffix.
+    pub fn new(region: Region, suffix: SubdivisionSuffix) -> Self
+        ensures region { result.region ≡ region }
+        ensures suffix { result.suffix ≡ suffix }
+    {
+        SubdivisionId { region, suffix }
+    }
+
+    /// Reads a subtag as a region of two bytes where it begins with a letter, and of three where it begins
+    /// with a digit, and then the suffix. What is no subtag is refused by `InvalidSubtag`, a bad region or
+    /// suffix by `InvalidExtension`.
+    pub fn try_from_utf8(code_units: &[u8]) -> Result<Self, ParseError>
+        ensures { ReadsAs code_units.now result }
+    {
+        let _subtag = Subtag::try_from_utf8(code_units)?;
+        let (region, suffix) = code_units.split_at(region_length(code_units));
+        let Ok(region) = Region::try_from_utf8(region) else {
+            return Err(ParseError::InvalidExtension);
+        };
+        let suffix = SubdivisionSuffix::try_from_utf8(suffix)?;
+        Ok(SubdivisionId { region, suffix })
+    }
+
+    /// The same on a text that is UTF-8.
+    pub fn try_from_str(s: &str) -> Result<Self, ParseError>
+        ensures { ReadsAs s.now result }
+    {
+        SubdivisionId::try_from_utf8(s.as_bytes())
+    }
+
+    /// Region and suffix in lower case, one after the other. Reading that text gives the subdivision back.
+    pub fn into_subtag(self) -> Subtag
+        ensures text { result ≡ subdivision_text (value_of self) }
+        ensures back { subdivision (subdivision_text (value_of self)) ≡ Ok (value_of self) }
+    {
+        let region = self.region.to_tinystr().to_ascii_lowercase();
+        let text = region.concat::<4, 8>(self.suffix.to_tinystr());
+        Subtag::from_tinystr_unvalidated(text)
+    }
+}
+
+// How many bytes of the text stand for the region.
+fn region_length(code_units: &[u8]) -> usize
+    ensures { result ≡ cut_of code_units.now }
+{
+    match code_units.first() {
+        Some(first) if first.is_ascii_alphabetic() => min(2, code_units.len()),
+        _ => min(3, code_units.len()),
+    }
+}
+
+impl FromStr for SubdivisionId {
+    type Err = ParseError;
+
+    ghost use Rattle.iloc_keyword_types.specs.Subdivisions.{ReadsAs};
+
+    ghost from_str_gives = { ReadsAs };
+
+    fn from_str(s: &str) -> Result<Self, ParseError> {
+        SubdivisionId::try_from_str(s)
+    }
+}
+
+/// Prints region and suffix in lower case, without a hyphen.
+impl Writeable for SubdivisionId {
+    ghost use Rattle.iloc_regions.specs.Subdivisions.{subdivision_text};
+    ghost use Rattle.iloc_keyword_types.specs.Subdivisions.{value_of};
+
+    ghost text = { λ s. subdivision_text (value_of s) };
+
+    fn write_to<S: Sink>(&self, sink: &mut S) -> fmt::Result {
+        sink.write_str(self.into_subtag().as_str())
+    }
+
+    fn writeable_borrow(&self) -> Option<&str> {
+        None
+    }
+}
+
+impl fmt::Display for SubdivisionId {
+    ghost use Rattle.iloc_regions.specs.Subdivisions.{subdivision_text};
+    ghost use Rattle.iloc_keyword_types.specs.Subdivisions.{value_of};
+
+    ghost output = { λ s. Some (subdivision_text (value_of s)) };
+
+    fn fmt<W: fmt::Write>(&self, f: &mut fmt::Formatter<W>) -> fmt::Result {
+        self.write_to(f)
+    }
+}

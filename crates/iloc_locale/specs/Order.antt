@@ -1,0 +1,24 @@
+-- The order of locales as keys.
+use Rattle.std.specs.Prelude.{◌≡◌, ◌↔◌}
+use Rattle.std.specs.declared.cmp.Ordering.{Ordering}
+use Rattle.std.specs.declared.cmp.Ordering.TheVariants.{Equal}
+use Rattle.std.specs.Cmp.{IsTotalOrder, on_total}
+use Rattle.iloc_grammar.specs.Meaning.{Locale}
+use Rattle.iloc_orders.specs.Orders.{locale_cmp}
+use Rattle.iloc_orders.proofs.OrderLaws.{locale_exact}
+use Rattle.iloc_locale.specs.LocaleValue as locale
+use Rattle.iloc_locale.specs.declared.ordered.OrderedLocale.{OrderedLocale}
+
+-- the value of the locale
+abbrev pub value_of : OrderedLocale → Locale
+value_of k = locale.value_of k.locale
+
+-- by identifier, then by extensions
+abbrev pub order : OrderedLocale → OrderedLocale → Ordering
+order a b = locale_cmp (value_of a) (value_of b)
+
+pub order_total : IsTotalOrder order
+order_total = on_total value_of locale_exact.total
+
+pub order_exact : (a b : OrderedLocale) → (order a b ≡ Equal) ↔ (value_of a ≡ value_of b)
+order_exact a b = locale_exact.exact (value_of a) (value_of b)

@@ -1,7 +1,0 @@
--- The subtags so far, and those of the rest, are those of all.
-use Rattle.std.proofs.Common.{◌≡◌, ◌++◌, drop}
-use Rattle.iloc_preferences_rules.specs.Keywords.{scripts_give}
-use Rattle.iloc_struct_keywords.proofs.script_exclusions.DictionaryBreakScriptExclusions.to_value.Given as goal
-
-abbrev pub invariant-loop-script : goal.invariant-loop-script
-invariant-loop-script l = l.subtags.items ++ scripts_give (drop l.script-index l.script-items) ≡ scripts_give l.script-items

@@ -1,8 +1,0 @@
--- The scripts so far, with what the rest reads as, are what all reads as.
-use Rattle.std.proofs.Common.{◌≡◌, length, drop}
-use Rattle.iloc_preferences_rules.specs.Keywords.{scripts_read}
-use Rattle.iloc_struct_keywords.proofs.ScriptLemmas.{together}
-use Rattle.iloc_struct_keywords.proofs.script_exclusions.DictionaryBreakScriptExclusions.try_from_value.Given as goal
-
-abbrev pub invariant-loop-subtag : goal.invariant-loop-subtag
-invariant-loop-subtag l = (together l.exclusions (scripts_read (drop l.subtag-index l.subtags)) ≡ scripts_read l.subtags) × (length l.exclusions ≡ l.subtag-index)
