@@ -16,10 +16,14 @@ use icu_locale_core::subtags::Language;
 use icu_locale_core::{DataLocale, Locale, ParseError};
 use std::alloc::{AllocError, Global};
 use std::collections::HashMap;
+use std::fmt::Write;
 use std::io;
 
 /// Payloads by data locales.
 type Payloads<'a> = HashMap<DataLocale, &'a str>;
+
+/// A data locale, and the payload that it has.
+type Found<'a> = (DataLocale, &'a str);
 
 /// The next data locale of the chain; `None` after `und`.
 fn parent(locale: DataLocale, by_region: bool) -> Option<DataLocale>
@@ -44,11 +48,7 @@ fn parent(locale: DataLocale, by_region: bool) -> Option<DataLocale>
 }
 
 /// The first data locale of the chain that has a payload, and this payload.
-fn load<'a>(
-    payloads: &Payloads<'a>,
-    locale: DataLocale,
-    by_region: bool,
-) -> Option<(DataLocale, &'a str)>
+fn load<'a>(payloads: &Payloads<'a>, locale: DataLocale, by_region: bool) -> Option<Found<'a>>
     ensures found { IfSome result (λ r. get same_key payloads.now r.0 ≡ Some r.1) }
     ensures itself { ContainsKey same_key payloads.now locale → IfSome result (λ r. r.0 ≡ locale) }
 {
@@ -71,11 +71,17 @@ fn put<'a>(payloads: &mut Payloads<'a>, text: &str, payload: &'a str) -> Result<
     }
 }
 
-/// A payload, and where it was found.
-fn shown(alloc: Global, found: Option<(DataLocale, &str)>) -> Result<String, AllocError> {
-    match found {
-        Some((locale, payload)) => format!(in alloc; "{payload} at {locale}"),
-        None => format!(in alloc; "nothing"),
+/// Says what is loaded for these preferences: by language first, and by region first.
+fn say(out: &mut String, from: &Payloads<'_>, asked: LocalePreferences) -> Result<(), AllocError> {
+    let by_language = asked.to_data_locale_language_priority();
+    match load(from, by_language, false) {
+        Some(found) => writeln!(out, "  by language: {} at {}", found.1, found.0)?,
+        None => writeln!(out, "  by language: nothing")?,
+    }
+    let by_region = asked.to_data_locale_region_priority();
+    match load(from, by_region, true) {
+        Some(found) => writeln!(out, "  by region: {} at {}", found.1, found.0),
+        None => writeln!(out, "  by region: nothing"),
     }
 }
 
@@ -83,17 +89,16 @@ fn main(rt: HostRuntime) -> anyhow::Result<()> {
     let alloc = rt.alloc();
     let input = io::read_to_string(alloc, rt.reader())?;
     let mut payloads = HashMap::new(alloc);
+    let mut out = String::new(alloc);
     for line in input.as_str().lines() {
         if let Some((text, payload)) = line.split_once('\t') {
             put(&mut payloads, text, payload)?;
             continue;
         }
-        let asked = LocalePreferences::from(&Locale::try_from_str(alloc, line)?);
-        let by_language = asked.to_data_locale_language_priority();
-        let by_language = shown(alloc, load(&payloads, by_language, false))?;
-        let by_region = asked.to_data_locale_region_priority();
-        let by_region = shown(alloc, load(&payloads, by_region, true))?;
-        println!(rt; "{line}\n  by language: {by_language}\n  by region: {by_region}")?;
+        writeln!(out, "{line}")?;
+        let locale = Locale::try_from_str(alloc, line)?;
+        say(&mut out, &payloads, LocalePreferences::from(&locale))?;
     }
+    print!(rt; "{out}")?;
     Ok(())
 }
