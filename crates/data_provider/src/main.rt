@@ -71,18 +71,15 @@ fn put<'a>(payloads: &mut Payloads<'a>, text: &str, payload: &'a str) -> Result<
     }
 }
 
-/// Says what is loaded for these preferences: by language first, and by region first.
+/// Says what is loaded for these preferences, by language and by region; what has no payload is not said.
 fn say(out: &mut String, from: &Payloads<'_>, asked: LocalePreferences) -> Result<(), AllocError> {
-    let by_language = asked.to_data_locale_language_priority();
-    match load(from, by_language, false) {
-        Some(found) => writeln!(out, "  by language: {} at {}", found.1, found.0)?,
-        None => writeln!(out, "  by language: nothing")?,
+    if let Some(found) = load(from, asked.to_data_locale_language_priority(), false) {
+        writeln!(out, "  by language: {} at {}", found.1, found.0)?;
     }
-    let by_region = asked.to_data_locale_region_priority();
-    match load(from, by_region, true) {
-        Some(found) => writeln!(out, "  by region: {} at {}", found.1, found.0),
-        None => writeln!(out, "  by region: nothing"),
+    if let Some(found) = load(from, asked.to_data_locale_region_priority(), true) {
+        writeln!(out, "  by region: {} at {}", found.1, found.0)?;
     }
+    Ok(())
 }
 
 fn main(rt: HostRuntime) -> anyhow::Result<()> {
