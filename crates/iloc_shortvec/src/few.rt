@@ -1,23 +1,9 @@
 //! One to four items in place.
-ghost use Rattle.std.specs.Prelude.{◌≡◌, ◌<◌, ◌≤◌, ◌+◌, ◌-◌, [], ◌∷◌, ◌++◌, length, insert, remove, slice_get, Some, IfOk};
+ghost use Rattle.std.specs.Prelude.{◌≡◌, ◌<◌, ◌≤◌, ◌+◌, ◌-◌, [], ◌∷◌, ◌++◌, length, insert, remove, slice_get, Some};
 ghost use Rattle.std.specs.Borrow.{sem};
 
 use crate::front::front_mut;
-use std::alloc::{AllocError, Global};
 use std::marker::Model;
-
-/// Copies of the items, in a `Vec` of this capacity or more. Refusal: `AllocError`.
-pub(crate) fn copies<T: Copy>(
-    alloc: Global,
-    items: &[T],
-    capacity: usize,
-) -> Result<Vec<T>, AllocError>
-    ensures { IfOk result (λ copies. copies.items ≡ items.now) }
-{
-    let mut copies = Vec::with_capacity(alloc, capacity)?;
-    copies.extend_from_slice(items)?;
-    Ok(copies)
-}
 
 /// One to four items. The places after them hold copies, and count for nothing.
 #[derive(Drop)]

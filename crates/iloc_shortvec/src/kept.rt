@@ -1,10 +1,23 @@
 //! Where a `ShortWords` keeps its items.
-ghost use Rattle.std.specs.Prelude.{◌≡◌, ◌≤◌, ◌<◌, ◌+◌, ◌++◌, length, insert, remove, slice_get, Some, OnOk, OnErr};
+ghost use Rattle.std.specs.Prelude.{◌≡◌, ◌≤◌, ◌<◌, ◌+◌, ◌++◌, length, insert, remove, slice_get, Some, IfOk, OnOk, OnErr};
 ghost use Rattle.std.specs.Borrow.{sem};
 
-use crate::few::{Few, copies};
+use crate::few::Few;
 use crate::items::Nothing;
 use std::alloc::{AllocError, Global};
+
+/// Copies of the items, in a `Vec` of this capacity or more. Refusal: `AllocError`.
+pub(crate) fn copies<T: Copy>(
+    alloc: Global,
+    items: &[T],
+    capacity: usize,
+) -> Result<Vec<T>, AllocError>
+    ensures { IfOk result (λ copies. copies.items ≡ items.now) }
+{
+    let mut copies = Vec::with_capacity(alloc, capacity)?;
+    copies.extend_from_slice(items)?;
+    Ok(copies)
+}
 
 /// No items, one to four in place, or a `Vec`.
 pub(crate) enum Kept<T: Copy> {

@@ -17,9 +17,9 @@ ghost use Rattle.std.proofs.Common.{refl};
 ghost use Rattle.iloc_shortvec.specs.ShortList.{only_of};
 ghost use Rattle.iloc_shortvec.specs.ShortOrder.{short_cmp, short_total, short_ties};
 
-use crate::few::{Few, copies};
+use crate::few::Few;
 use crate::items::Nothing;
-use crate::kept::Kept;
+use crate::kept::{Kept, copies};
 use std::alloc::{AllocError, Global};
 use std::cmp::Ordering;
 use std::hash::{Hash, Hasher};
