@@ -16,6 +16,7 @@ use Rattle.iloc_grammar.specs.Written.{Identifier, Unicode, Transform, Fields, I
 use Rattle.iloc_grammar.specs.Meaning.{Extensions, map_of, set_of, normal_fields, normal_identifier}
 use Rattle.iloc_grammar.specs.ByBlocks.{UnicodeMeans, TransformMeans, by_letter, other_blocks}
 use Rattle.iloc_grammar.proofs.MapLaws.{find-map_of, tied}
+use Rattle.iloc_fronts.proofs.BlockRules.{no_u, no_t, no_x}
 use Rattle.iloc_blocks.specs.Blocks.{BlocksMean, is_read}
 
 -- what is put into a map is there
@@ -118,17 +119,8 @@ kind_of c h = at (cases_eq c 117) (cases_eq c 116) (cases_eq c 120)
     at (inr a) (inr b) (inr d) = another (rest c h a b d)
 
 is_read-other : (M : Extensions) (c : ℕ) → is_other_singleton c ≡ true → is_read M c ≡ list_any (λ o. o.0 == c) M.others
-is_read-other M c h = at (c == 117) (c == 116) (c == 120) (no c 117 h (λ e. u_no c e h)) (no c 116 h (λ e. t_no c e h)) (no c 120 h (λ e. x_no c e h))
+is_read-other M c h = at (c == 117) (c == 116) (c == 120) (no c 117 h (λ e. no_u c e h)) (no c 116 h (λ e. no_t c e h)) (no c 120 h (λ e. no_x c e h))
   where
-    u_no : (c : ℕ) → c ≡ 117 → is_other_singleton c ≡ true → ⊥
-    u_no c e h = grind (arith, nat_tests)
-
-    t_no : (c : ℕ) → c ≡ 116 → is_other_singleton c ≡ true → ⊥
-    t_no c e h = grind (arith, nat_tests)
-
-    x_no : (c : ℕ) → c ≡ 120 → is_other_singleton c ≡ true → ⊥
-    x_no c e h = grind (arith, nat_tests)
-
     no : (c k : ℕ) → is_other_singleton c ≡ true → (c ≡ k → ⊥) → (c == k) ≡ false
     no c k h n = grind (arith, nat_tests)
 

@@ -8,16 +8,16 @@ use Rattle.iloc_grammar.specs.ByBlocks.{UnicodeMeans, TransformMeans}
 
 -- the kinds of singletons are apart
 
-no_u : (c : ℕ) → c ≡ 117 → is_other_singleton c ≡ true → ⊥
+pub no_u : (c : ℕ) → c ≡ 117 → is_other_singleton c ≡ true → ⊥
 no_u c e h = grind (arith, nat_tests)
 
-no_t : (c : ℕ) → c ≡ 116 → is_other_singleton c ≡ true → ⊥
+pub no_t : (c : ℕ) → c ≡ 116 → is_other_singleton c ≡ true → ⊥
 no_t c e h = grind (arith, nat_tests)
 
-no_x : (c : ℕ) → c ≡ 120 → is_other_singleton c ≡ true → ⊥
+pub no_x : (c : ℕ) → c ≡ 120 → is_other_singleton c ≡ true → ⊥
 no_x c e h = grind (arith, nat_tests)
 
-apart : (c m n : ℕ) → c ≡ m → c ≡ n → (m ≡ n → ⊥) → ⊥
+pub apart : (c m n : ℕ) → c ≡ m → c ≡ n → (m ≡ n → ⊥) → ⊥
 apart c m n e k d = d (sym e ∙ k)
 
 module _ (T : ℕ → Bool) (b : ℕ × List (List ℕ)) where

@@ -1,5 +1,5 @@
 -- Texts of parts: the text of a locale is the join of its parts.
-use Rattle.std.proofs.Common.{◌≡◌, ℕ, ◌+◌, true, false, cond, ◌||◌, List, [], ◌∷◌, ◌++◌, length, map, filter, flat_map, refl, sym, ap, ◌∙◌, option_map, option_to_list, is_some, nat_lt, append_assoc, append-nil}
+use Rattle.std.proofs.Common.{◌≡◌, ℕ, ◌+◌, ◌<◌, ◌≤◌, arith, get_or, true, false, cond, ◌||◌, List, [], ◌∷◌, ◌++◌, length, map, filter, flat_map, refl, sym, ap, ◌∙◌, option_map, option_to_list, is_some, nat_lt, append_assoc, append-nil}
 use Rattle.std.proofs.lemmas.List.{map-append}
 use Rattle.std.proofs.lemmas.List.Concat.{flat_map-append}
 use Rattle.iloc_grammar.specs.Pieces.{join, dashes}
@@ -12,6 +12,13 @@ use Rattle.iloc_grammar.specs.Values.{lower_identifier, spelled_fields, transfor
 pub join-nothing : join [] ≡ []
 unfolding join
 join-nothing = refl
+
+-- the text of one word is that word
+pub join_one : (ws : List (List ℕ)) (d : List ℕ) → 1 ≤ length ws → length ws < 2 → get_or ws 0 d ≡ join ws
+unfolding join
+join_one [] d l m = absurd (omega (arith, l))
+join_one (w ∷ []) d l m = refl
+join_one (w ∷ (v ∷ ws)) d l m = absurd (omega (arith, m))
 
 -- the first piece, and each other after a hyphen
 pub join-dashes : (p : List ℕ) (ps : List (List ℕ)) → join (p ∷ ps) ≡ p ++ dashes ps

@@ -1,9 +1,23 @@
 //! Where a `ShortWords` keeps its items.
-ghost use Rattle.std.specs.Prelude.{◌≡◌};
+ghost use Rattle.std.specs.Prelude.{◌≡◌, ◌≤◌, ◌<◌, ◌+◌, ◌++◌, length, insert, remove, slice_get, Some, IfOk, OnOk, OnErr};
 ghost use Rattle.std.specs.Borrow.{sem};
 
 use crate::few::Few;
 use crate::items::Nothing;
+use std::alloc::{AllocError, Global};
+
+/// Copies of the items, in a `Vec` of this capacity or more. Refusal: `AllocError`.
+pub(crate) fn copies<T: Copy>(
+    alloc: Global,
+    items: &[T],
+    capacity: usize,
+) -> Result<Vec<T>, AllocError>
+    ensures { IfOk result (λ copies. copies.items ≡ items.now) }
+{
+    let mut copies = Vec::with_capacity(alloc, capacity)?;
+    copies.extend_from_slice(items)?;
+    Ok(copies)
+}
 
 /// No items, one to four in place, or a `Vec`.
 pub(crate) enum Kept<T: Copy> {
@@ -24,7 +38,7 @@ impl<T: Copy> Drop for Kept<T> {
 }
 
 impl<T: Copy> Kept<T> {
-    ghost use Rattle.iloc_shortvec.specs.Kept.{items_of};
+    ghost use Rattle.iloc_shortvec.specs.Kept.{items_of, IsKept};
     ghost use Rattle.iloc_shortvec.specs.KeptLends.{kept_lends_slice};
 
     pub(crate) fn as_slice(&self) -> &[T]
@@ -46,5 +60,121 @@ impl<T: Copy> Kept<T> {
             Kept::Inline(items) => items.as_mut_slice(),
             Kept::Heap(items) => items.as_mut_slice(),
         }
+    }
+
+    /// Puts an item at a place, where that takes no memory.
+    pub(crate) fn insert_short(&mut self, index: usize, item: T)
+        requires kept { IsKept self.old }
+        requires place { index ≤ length (items_of self.old) }
+        requires short { length (items_of self.old) < 4 }
+        ensures items { items_of self.new ≡ insert (items_of self.old) index item }
+        ensures kept { IsKept self.new }
+    {
+        if let Kept::Inline(few) = self {
+            few.insert(index, item);
+        } else {
+            *self = Kept::Inline(Few::one(item));
+        }
+    }
+
+    /// Puts an item at a place of four items or more.
+    pub(crate) fn insert_long(
+        &mut self,
+        alloc: Global,
+        index: usize,
+        item: T,
+    ) -> Result<(), AllocError>
+        requires kept { IsKept self.old }
+        requires place { index ≤ length (items_of self.old) }
+        requires long { 4 ≤ length (items_of self.old) }
+        ensures ok { OnOk result (items_of self.new ≡ insert (items_of self.old) index item) }
+        ensures err { OnErr result (items_of self.new ≡ items_of self.old) }
+        ensures kept { IsKept self.new }
+    {
+        if let Kept::Heap(items) = self {
+            return Ok(items.insert(index, item)?);
+        }
+        let mut more = copies(alloc, self.as_slice(), 5)?;
+        more.insert(index, item)?;
+        *self = Kept::Heap(more);
+        Ok(())
+    }
+
+    /// Adds copies of the items at the end, where that takes no memory.
+    pub(crate) fn extend_short(&mut self, items: &[T])
+        requires kept { IsKept self.old }
+        requires short { length (items_of self.old) + length items.now ≤ 4 }
+        ensures items { items_of self.new ≡ items_of self.old ++ items.now }
+        ensures kept { IsKept self.new }
+    {
+        if let Kept::Inline(few) = self {
+            few.extend_from_slice(items);
+        } else {
+            *self = Kept::from_short(items);
+        }
+    }
+
+    /// Adds copies of the items at the end, to five or more in all.
+    pub(crate) fn extend_long(&mut self, alloc: Global, items: &[T]) -> Result<(), AllocError>
+        requires kept { IsKept self.old }
+        requires long { 4 < length (items_of self.old) + length items.now }
+        ensures ok { OnOk result (items_of self.new ≡ items_of self.old ++ items.now) }
+        ensures err { OnErr result (items_of self.new ≡ items_of self.old) }
+        ensures kept { IsKept self.new }
+    {
+        if let Kept::Heap(all) = self {
+            return all.extend_from_slice(items);
+        }
+        let mut all = copies(alloc, self.as_slice(), items.len().saturating_add(4))?;
+        all.extend_from_slice(items)?;
+        *self = Kept::Heap(all);
+        Ok(())
+    }
+
+    /// Takes the item at a place out. Four items that are left are kept in place.
+    pub(crate) fn remove(&mut self, index: usize) -> T
+        requires kept { IsKept self.old }
+        requires place { index < length (items_of self.old) }
+        ensures value { slice_get (items_of self.old) index ≡ Some result }
+        ensures rest { items_of self.new ≡ remove (items_of self.old) index }
+        ensures kept { IsKept self.new }
+    {
+        if let Kept::Heap(items) = self {
+            let item = items.remove(index);
+            if items.len() == 4 {
+                *self = Kept::from_short(items.as_slice());
+            }
+            return item;
+        }
+        let item = self.as_slice()[index];
+        self.remove_short(index);
+        item
+    }
+
+    /// Takes an item out of at most four.
+    fn remove_short(&mut self, index: usize)
+        requires kept { IsKept self.old }
+        requires place { index < length (items_of self.old) }
+        requires short { length (items_of self.old) ≤ 4 }
+        ensures rest { items_of self.new ≡ remove (items_of self.old) index }
+        ensures kept { IsKept self.new }
+    {
+        if self.as_slice().len() == 1 {
+            *self = Kept::Empty(Nothing::new());
+        } else if let Kept::Inline(few) = self {
+            few.remove(index);
+        }
+    }
+
+    /// Copies of at most four items.
+    pub(crate) fn from_short(items: &[T]) -> Self
+        requires { length items.now ≤ 4 }
+        ensures value { items_of result ≡ items.now }
+        ensures kept { IsKept result }
+    {
+        if items.is_empty() {
+            return Kept::Empty(Nothing::new());
+        }
+        Kept::Inline(Few::from_slice(items))
     }
 }

@@ -19,7 +19,7 @@ ghost use Rattle.iloc_shortvec.specs.ShortOrder.{short_cmp, short_total, short_t
 
 use crate::few::Few;
 use crate::items::Nothing;
-use crate::kept::Kept;
+use crate::kept::{Kept, copies};
 use std::alloc::{AllocError, Global};
 use std::cmp::Ordering;
 use std::hash::{Hash, Hasher};
@@ -157,21 +157,11 @@ impl<T: Copy> ShortWords<T> {
         ensures err { OnErr result (self.new ≡ self.old) }
         ensures succeeds { length self.old < 4 → IsOk result }
     {
-        match &mut self.kept {
-            Kept::Empty(_) => self.kept = Kept::Inline(Few::one(item)),
-            Kept::Inline(items) => {
-                if items.len() < 4 {
-                    items.insert(index, item);
-                } else {
-                    let mut more = Vec::with_capacity(alloc, 5)?;
-                    more.extend_from_slice(items.as_slice())?;
-                    more.insert(index, item)?;
-                    self.kept = Kept::Heap(more);
-                }
-            }
-            Kept::Heap(items) => items.insert(index, item)?,
+        if self.len() < 4 {
+            self.kept.insert_short(index, item);
+            return Ok(());
         }
-        Ok(())
+        self.kept.insert_long(alloc, index, item)
     }
 
     /// Adds an item at the end. Up to four items take no memory. Refusal: `AllocError`, and the list is as before.
@@ -190,18 +180,12 @@ impl<T: Copy> ShortWords<T> {
         ensures err { OnErr result (self.new ≡ self.old) }
         ensures succeeds { length self.old + length items.now ≤ 4 → IsOk result }
     {
-        match &mut self.kept {
-            Kept::Heap(kept) => kept.extend_from_slice(items)?,
-            Kept::Inline(few) if items.len() <= 4 - few.len() => few.extend_from_slice(items),
-            Kept::Empty(_) if items.len() <= 4 => *self = ShortWords::from_short(items),
-            _ => {
-                let mut all = Vec::with_capacity(alloc, items.len().saturating_add(4))?;
-                all.extend_from_slice(self.as_slice())?;
-                all.extend_from_slice(items)?;
-                self.kept = Kept::Heap(all);
-            }
+        let len = self.len();
+        if len <= 4 && items.len() <= 4 - len {
+            self.kept.extend_short(items);
+            return Ok(());
         }
-        Ok(())
+        self.kept.extend_long(alloc, items)
     }
 
     /// Takes the item at a place out. A list that falls to four items keeps them in the value.
@@ -210,25 +194,7 @@ impl<T: Copy> ShortWords<T> {
         ensures value { slice_get self.old index ≡ Some result }
         ensures rest { self.new ≡ remove self.old index }
     {
-        match &mut self.kept {
-            Kept::Empty(_) => unreachable!(),
-            Kept::Inline(items) => {
-                if items.len() == 1 {
-                    let item = items.as_slice()[0];
-                    *self = ShortWords::new();
-                    item
-                } else {
-                    items.remove(index)
-                }
-            }
-            Kept::Heap(items) => {
-                let item = items.remove(index);
-                if items.len() == 4 {
-                    *self = ShortWords::from_short(items.as_slice());
-                }
-                item
-            }
-        }
+        self.kept.remove(index)
     }
 
     /// Copies of at most four items.
@@ -236,11 +202,8 @@ impl<T: Copy> ShortWords<T> {
         requires { length items.now ≤ 4 }
         ensures { result ≡ items.now }
     {
-        if items.is_empty() {
-            return ShortWords::new();
-        }
         ShortWords {
-            kept: Kept::Inline(Few::from_slice(items)),
+            kept: Kept::from_short(items),
         }
     }
 
@@ -268,11 +231,8 @@ impl<T: Copy> ShortWords<T> {
         requires { length self.old < 4 }
         ensures { self.new ≡ self.old ++ item ∷ [] }
     {
-        match &mut self.kept {
-            Kept::Empty(_) => self.kept = Kept::Inline(Few::one(item)),
-            Kept::Inline(items) => items.insert(items.len(), item),
-            Kept::Heap(_) => unreachable!(),
-        }
+        let end = self.len();
+        self.kept.insert_short(end, item);
     }
 
     /// Keeps the items at which `keep` says so. Each is asked once, in order.
@@ -329,9 +289,8 @@ impl<T: Copy> ShortWords<T> {
     {
         match &self.kept {
             Kept::Heap(items) => {
-                let mut copies = Vec::with_capacity(*items.allocator(), items.len())?;
-                copies.extend_from_slice(items.as_slice())?;
-                Ok(ShortWords::from_vec(copies))
+                let all = copies(*items.allocator(), items.as_slice(), items.len())?;
+                Ok(ShortWords::from_vec(all))
             }
             _ => Ok(ShortWords::from_short(self.as_slice())),
         }

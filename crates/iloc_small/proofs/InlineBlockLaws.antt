@@ -21,6 +21,7 @@ use Rattle.iloc_grammar.proofs.ReadBack.{all_append}
 use Rattle.iloc_grammar.proofs.Readings.{head-spelling, blocks-spelling}
 use Rattle.iloc_grammar.proofs.SetLaws.{length-set_of-different}
 use Rattle.iloc_small.specs.Inline.{IsInline, HasFewValues}
+use Rattle.iloc_fronts.proofs.BlockRules.{no_u, no_t, no_x, apart}
 use Rattle.iloc_fronts.specs.Fronts.{FrontRead, absent, present, fields_front}
 use Rattle.iloc_fronts.proofs.FrontLaws.{unicode_taken, keywords_taken}
 use Rattle.iloc_fronts.proofs.TransformLaws.{one_front, one_longest, front_language, transform_spelled}
@@ -100,18 +101,6 @@ short_transform {T = T} m g v n rest s =
     }
 
 -- the blocks
-
-no_u : (c : ℕ) → c ≡ 117 → is_other_singleton c ≡ true → ⊥
-no_u c e h = grind (arith, nat_tests)
-
-no_t : (c : ℕ) → c ≡ 116 → is_other_singleton c ≡ true → ⊥
-no_t c e h = grind (arith, nat_tests)
-
-no_x : (c : ℕ) → c ≡ 120 → is_other_singleton c ≡ true → ⊥
-no_x c e h = grind (arith, nat_tests)
-
-apart : (c m n : ℕ) → c ≡ m → c ≡ n → (m ≡ n → ⊥) → ⊥
-apart c m n e k d = d (sym e ∙ k)
 
 abbrev IsGood : (ℕ → Bool) → List (ℕ × Extension) → ℕ × Extension → Type 0
 IsGood T es e = (IsExtension T (singleton e) e.1 × IsFoundIn (by_singleton es) e) × (HasFewValues e.1 × IsNoOther e)

@@ -11,8 +11,8 @@ use Rattle.iloc_grammar.proofs.MapLaws.{word_cmp_total, same_words}
 use Rattle.iloc_fronts.specs.Fronts.{is_field_piece, fields_front, after_fields}
 use Rattle.iloc_grammar.specs.Computing.{is_field}
 use Rattle.iloc_fronts.specs.Computing.{fields_at}
-use Rattle.iloc_map_laws.proofs.Bridge as bridge
-use Rattle.iloc_langid.proofs.TakingLemmas.{took}
+use Rattle.iloc_litemap.proofs.Maps.{map_of_more}
+use Rattle.iloc_parser.proofs.TakingLemmas.{took}
 use Rattle.iloc_subtags.specs.declared.parse_error.ParseError.{ParseError}
 use Rattle.iloc_subtags.specs.declared.parse_error.ParseError.TheVariants.{InvalidLanguage, InvalidSubtag, InvalidExtension, DuplicatedExtension, OutOfMemory}
 use Rattle.iloc_transform.specs.ValueReading.{values_front, ValueFrontReads}
@@ -72,10 +72,8 @@ values_are (p ∷ ps) = by (is_word Attribute p) refl (values_are ps)
 
 normal-last : (fs : Fields) (p : List ℕ) (vs : List (List ℕ)) → normal_fields (fs ++ (p, vs) ∷ []) ≡ (if is_some (find word_cmp (lower p) (normal_fields fs)) then normal_fields fs else put word_cmp (lower p) (normal_values vs) (normal_fields fs))
 normal-last fs p vs =
-    let m : Fields = normal_fields fs in
     ap (map_of word_cmp) (map-append (λ f. (lower f.0, normal_values f.1)) fs ((p, vs) ∷ []))
-    ∙ bridge.map_of_last word_cmp word_cmp_total same_words (map (λ f. (lower f.0, normal_values f.1)) fs) (lower p) (normal_values vs)
-    ∙ (λ i. if is_some (bridge.lookup_find word_cmp (lower p) m i) then m else bridge.insert_put word_cmp m (lower p) (normal_values vs) i)
+    ∙ map_of_more word_cmp word_cmp_total same_words (map (λ f. (lower f.0, normal_values f.1)) fs) (lower p) (normal_values vs)
 
 -- a key with its values
 pub takes_field : (before now : List (List ℕ)) (m : Fields) (k : List ℕ) (qs more v : List (List ℕ)) (n : Fields) → TakingFields before now m

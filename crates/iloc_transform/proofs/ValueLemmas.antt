@@ -10,7 +10,7 @@ use Rattle.iloc_grammar.specs.Reading.{first_item}
 use Rattle.iloc_grammar.proofs.PiecesLaws.{pieces_nonempty}
 use Rattle.iloc_subtags.specs.declared.parse_error.ParseError.{ParseError}
 use Rattle.iloc_subtags.specs.declared.parse_error.ParseError.TheVariants.{InvalidLanguage, InvalidSubtag, InvalidExtension, DuplicatedExtension, OutOfMemory}
-use Rattle.iloc_langid.proofs.TakingLemmas.{took, took_none}
+use Rattle.iloc_parser.proofs.TakingLemmas.{took, took_none}
 use Rattle.iloc_transform.specs.ValueReading.{values_front, ValueFrontReads, ValueReads}
 
 -- of the pieces before, those up to now are taken, and gave the value

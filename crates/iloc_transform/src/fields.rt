@@ -7,6 +7,7 @@ ghost use Rattle.std.specs.Prelude.{
   [],
   true,
   length,
+  reverse,
   OnOk,
   OnErr,
   IfOk,
@@ -23,6 +24,7 @@ ghost use Rattle.std.specs.List.Retain.{IsFiltered};
 ghost use Rattle.std.specs.Option.{option_copied, is_some};
 ghost use Rattle.std.specs.Result.{result_and};
 ghost use Rattle.iloc_grammar.specs.Words.{word_cmp};
+ghost use Rattle.iloc_grammar.specs.Meaning.{map_of};
 ghost use Rattle.iloc_grammar.specs.Written.{fields_pieces};
 ghost use Rattle.iloc_grammar.specs.Values.{spelled_fields, fields_text};
 ghost use Rattle.std.specs.Ordering.{as_partial_cmp};
@@ -30,7 +32,7 @@ ghost use Rattle.std.specs.Cmp.{partial_order_from_agreeing_total};
 ghost use Rattle.std.proofs.Common.{refl};
 ghost use Rattle.iloc_orders.specs.Orders.{fields_cmp};
 ghost use Rattle.iloc_transform.specs.FieldsOrder.{fields_ties, fields_total};
-ghost use Rattle.iloc_litemap.specs.Pairs.{IsAscending, insert_all};
+ghost use Rattle.iloc_litemap.specs.Pairs.{IsAscending};
 ghost use Rattle.iloc_parser.specs.Left.{left};
 ghost use Rattle.iloc_transform.specs.FieldsReading.{IsFieldPair, FieldsFrontRead};
 
@@ -184,7 +186,7 @@ impl Fields {
         ensures { IfOk result
             (λ m. (it : I.IntoIter) × (xs : List (List ℕ × List (List ℕ)))
             × I.into_iter_gives pairs it × Drains I.IntoIter.next_gives it xs
-            × (m ≡ insert_all word_cmp [] xs)) }
+            × (m ≡ map_of word_cmp (reverse xs))) }
     {
         let map = LiteMap::from_pairs(alloc, pairs)?;
         Ok(Fields::from(map))

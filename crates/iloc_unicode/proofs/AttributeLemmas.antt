@@ -12,7 +12,7 @@ use Rattle.iloc_grammar.proofs.ValuesLaws.{set_of_ascending}
 use Rattle.iloc_grammar.proofs.WellRead.{set_of-ascending, all-set_of}
 use Rattle.iloc_word_set.proofs.CollectorLaws.{permuted_set, set_grows}
 use Rattle.iloc_fronts.specs.Fronts.{attributes_read, after_attributes}
-use Rattle.iloc_unicode.proofs.TakingLemmas.{took, took_none}
+use Rattle.iloc_parser.proofs.TakingLemmas.{took, took_none}
 
 -- of the words before, those up to now are taken, as these words
 pub record Gathered (before now words : List (List ℕ)) : Type 0 where

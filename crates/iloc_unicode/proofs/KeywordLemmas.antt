@@ -14,13 +14,15 @@ use Rattle.iloc_grammar.specs.Written.{Fields}
 use Rattle.iloc_grammar.specs.Meaning.{map_of, normal_values, normal_fields}
 use Rattle.iloc_grammar.specs.Reading.{take_first, skip_first, passing, past, is_two, before_key, fields_from}
 use Rattle.iloc_grammar.specs.Faults.{Fault, InvalidExtension, first_piece}
-use Rattle.iloc_grammar.proofs.MapLaws.{word_cmp_total, same_words, find-map_of, map_of_same}
+use Rattle.iloc_grammar.proofs.MapLaws.{word_cmp_total, same_words, find-map_of}
+use Rattle.iloc_grammar.proofs.SetLaws.{find-append}
 use Rattle.iloc_grammar.proofs.WordsLaws.{length-attribute, length-unicode_key}
 use Rattle.iloc_fronts.specs.Fronts.{is_keyword_piece, keywords_front, after_keywords, is_bad_key, KeywordsRead, KeywordsFault, bad_key}
 use Rattle.iloc_fronts.specs.Computing.{keywords_at, keywords_result}
 use Rattle.iloc_fronts.proofs.FrontLaws.{keywords_answer}
+use Rattle.iloc_litemap.proofs.Maps.{tied, map_of_more}
 use Rattle.iloc_unicode.specs.Reads.{has_many_values, KeywordsWantMemory, second_key, fifth_value}
-use Rattle.iloc_unicode.proofs.TakingLemmas.{took, took_none}
+use Rattle.iloc_parser.proofs.TakingLemmas.{took, took_none}
 
 -- kinds of pieces
 
@@ -138,45 +140,11 @@ pub record Filled (before now : List (List ℕ)) (m : Fields) : Type 0 where
 
 -- one field more
 
-tied : (q k : List ℕ) → eq_by_cmp word_cmp q k ≡ true → q ≡ k
-tied q k h = same_words q k (equal (word_cmp q k) h)
-  where
-    equal : (r : Ordering) → is_eq r ≡ true → r ≡ Equal
-    equal Less h = absurd (true≢false (sym h))
-    equal Equal h = refl
-    equal Greater h = absurd (true≢false (sym h))
-
 module _ {X : Type 0} where
-  find_before : (q : List ℕ) (es fs : List (List ℕ × X)) → find word_cmp q (es ++ fs) ≡ option_or (find word_cmp q es) (find word_cmp q fs)
-  find_before q [] fs = refl
-  find_before q (e ∷ es) fs = ap (cond (eq_by_cmp word_cmp q e.0) (Some e.1)) (find_before q es fs)
-      ∙ elim (eq_by_cmp word_cmp q e.0) as (λ b. cond b (Some e.1) (option_or (find word_cmp q es) (find word_cmp q fs)) ≡ option_or (cond b (Some e.1) (find word_cmp q es)) (find word_cmp q fs)) [ true ↦ refl | false ↦ refl ]
-
-  -- a key that is there hides what comes after
-  hidden : (b : Bool) (o : Option X) (v : X) → (b ≡ true → is_some o ≡ true) → option_or o (cond b (Some v) None) ≡ o
-  hidden true None v h = absurd (true≢false (sym (h refl)))
-  hidden false None v h = refl
-  hidden b (Some x) v h = refl
-
-  -- a key that isn't there is added
-  shown : (b : Bool) (o : Option X) (v : X) → (b ≡ true → is_some o ≡ false) → option_or o (cond b (Some v) None) ≡ cond b (Some v) o
-  shown true None v h = refl
-  shown false None v h = refl
-  shown true (Some x) v h = absurd (true≢false (h refl))
-  shown false (Some x) v h = refl
-
-  at_last : (es : List (List ℕ × X)) (k : List ℕ) (v : X) (b : Bool) → is_some (find word_cmp k es) ≡ b → map_of word_cmp (es ++ (k, v) ∷ []) ≡ cond b (map_of word_cmp es) (put word_cmp k v (map_of word_cmp es))
-  at_last es k v true h = map_of_same word_cmp word_cmp_total same_words _ _ (λ q. find_before q es ((k, v) ∷ []) ∙ hidden (eq_by_cmp word_cmp q k) (find word_cmp q es) v (λ t. ap (λ x. is_some (find word_cmp x es)) (tied q k t) ∙ h))
-  at_last es k v false h = map_of_same word_cmp word_cmp_total same_words (es ++ (k, v) ∷ []) ((k, v) ∷ es) (λ q. find_before q es ((k, v) ∷ []) ∙ shown (eq_by_cmp word_cmp q k) (find word_cmp q es) v (λ t. ap (λ x. is_some (find word_cmp x es)) (tied q k t) ∙ h))
-
-  pub map_of-last : (es : List (List ℕ × X)) (k : List ℕ) (v : X) → map_of word_cmp (es ++ (k, v) ∷ []) ≡ cond (is_some (find word_cmp k (map_of word_cmp es))) (map_of word_cmp es) (put word_cmp k v (map_of word_cmp es))
-  map_of-last es k v =
-      at_last es k v (is_some (find word_cmp k es)) refl ∙ ap (λ o. cond (is_some o) (map_of word_cmp es) (put word_cmp k v (map_of word_cmp es))) (sym (find-map_of word_cmp word_cmp_total k es))
-
   -- two keys that are there make two pairs
   two_found : (a k : List ℕ) → (a ≡ k → ⊥) → (es : List (List ℕ × X)) → is_some (find word_cmp a es) ≡ true → is_some (find word_cmp k es) ≡ true → 1 < length es
   two_found a k n [] h g = absurd (true≢false (sym h))
-  two_found a k n (e ∷ []) h g = absurd (n (tied a e.0 (one (eq_by_cmp word_cmp a e.0) e.1 h) ∙ sym (tied k e.0 (one (eq_by_cmp word_cmp k e.0) e.1 g))))
+  two_found a k n (e ∷ []) h g = absurd (n (tied word_cmp same_words a e.0 (one (eq_by_cmp word_cmp a e.0) e.1 h) ∙ sym (tied word_cmp same_words k e.0 (one (eq_by_cmp word_cmp k e.0) e.1 g))))
     where
       one : (b : Bool) (v : X) → is_some (cond b (Some v) None) ≡ true → b ≡ true
       one true v h = refl
@@ -220,7 +188,7 @@ module _ (before now : List (List ℕ)) (m : Fields) (t : Filled before now m) (
         bad = t.bad ∙ ap (λ ps. list_any is_bad_key (keywords_front ps)) cut ∙ bad_at p later h ∙ ap (λ ps. list_any is_bad_key (keywords_front ps)) (sym a);
         rest = t.rest ∙ ap after_keywords cut ∙ rest_at p later (is_two-key p h) ∙ ap after_keywords (sym a);
         means = is ∙ (λ i. cond (is_some (find word_cmp (same i) (t.means i))) (t.means i) (put word_cmp (same i) (v i) (t.means i)))
-            ∙ sym (map_of-last (map normal_field t.fields) (lower p) (normal_values (passing (is_word Attribute) later)))
+            ∙ sym (map_of_more word_cmp word_cmp_total same_words (map normal_field t.fields) (lower p) (normal_values (passing (is_word Attribute) later)))
             ∙ ap (map_of word_cmp) (sym (map-append normal_field t.fields ((p, passing (is_word Attribute) later) ∷ [])));
       }
 
@@ -240,7 +208,7 @@ module _ (before now : List (List ℕ)) (m : Fields) (t : Filled before now m) (
       second_key (by m t.means new some p same (all_is p h cut))
     where
       there : (q : List ℕ) (fs more : Fields) (f : List ℕ × List (List ℕ)) → is_some (option_or (find word_cmp q (map normal_field fs)) (find word_cmp q (normal_field f ∷ map normal_field more))) ≡ true → is_some (find word_cmp q (normal_fields (fs ++ f ∷ more))) ≡ true
-      there q fs more f h = ap is_some (find-map_of word_cmp word_cmp_total q (map normal_field (fs ++ f ∷ more)) ∙ ap (find word_cmp q) (map-append normal_field fs (f ∷ more)) ∙ find_before q (map normal_field fs) (normal_field f ∷ map normal_field more)) ∙ h
+      there q fs more f h = ap is_some (find-map_of word_cmp word_cmp_total q (map normal_field (fs ++ f ∷ more)) ∙ ap (find word_cmp q) (map-append normal_field fs (f ∷ more)) ∙ find-append word_cmp q (map normal_field fs) (normal_field f ∷ map normal_field more)) ∙ h
 
       first : (o r : Option (List (List ℕ))) → is_some o ≡ true → is_some (option_or o r) ≡ true
       first None r h = absurd (true≢false (sym h))

@@ -1,7 +1,4 @@
 mod AttributeLemmas
-mod Filtered
 mod KeywordLemmas
-mod MapLemmas
 mod PrintLemmas
-mod TakingLemmas
 mod UnicodeLemmas

@@ -1,8 +1,7 @@
 -- What keywords end as, where one of their values is lent.
 use Rattle.std.specs.Prelude.{ℕ, List, Option}
 use Rattle.std.specs.Borrow.{LendsIf, Fml, MutBor}
-use Rattle.std.specs.BTreeMap.{is_at}
-use Rattle.std.specs.Map.{set_value}
+use Rattle.std.specs.FinMap.{put}
 use Rattle.iloc_grammar.specs.Words.{word_cmp}
 use Rattle.iloc_grammar.specs.Written.{Fields}
 use Rattle.iloc_unicode_value.specs.contracts.value.Value as value
@@ -10,4 +9,4 @@ use Rattle.iloc_unicode.specs.contracts.keywords.Keywords as keywords
 
 -- once the borrow r ends, the key has the last value written through r, and at `None` the map stays as it is
 abbrev pub lends_value : MutBor Fields → List ℕ → Option (MutBor (List (List ℕ))) → Fml
-lends_value m k r = LendsIf keywords.the_row value.the_row m r (set_value (is_at (word_cmp k)) m.now) m.now
+lends_value m k r = LendsIf keywords.the_row value.the_row m r (λ v. put word_cmp k v m.now) m.now

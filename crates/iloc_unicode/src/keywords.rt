@@ -232,7 +232,6 @@ impl Keywords {
         ensures err { OnErr result (self.new ≡ self.old) }
         ensures succeeds { length other ≡ 0 → IsOk result }
     {
-        let _ = self.as_slice();
         let _ = other.as_slice();
         let Keywords { map } = other;
         self.map.extend_from_map(alloc, map)

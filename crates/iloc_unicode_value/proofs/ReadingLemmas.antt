@@ -4,6 +4,7 @@ use Rattle.std.proofs.lemmas.Bool.Decides.{nat_tests}
 use Rattle.iloc_grammar.specs.Words.{Kind, Attribute, Subtag, is_word, IsWord, normal, is_true}
 use Rattle.iloc_grammar.specs.Values.{IsNormal}
 use Rattle.iloc_grammar.specs.Reading.{take_first, skip_first, passing, past}
+use Rattle.iloc_parser.proofs.TakingLemmas.{took, took_none}
 use Rattle.iloc_unicode_value.specs.Values.{without_true, with_subtag}
 
 attribute_is_word : (w : List ℕ) → IsWord Attribute w → IsWord Subtag w
@@ -13,23 +14,6 @@ attribute_is_word w h = grind (arith, nat_tests)
 -- a word of values is a subtag
 pub attribute_is_subtag : (w : List ℕ) → IsNormal Attribute w → IsNormal Subtag w
 attribute_is_subtag w h = (attribute_is_word w h.0, h.1)
-
--- a word at the front
-pub took : (k : Kind) (ps : List (List ℕ)) (w : List ℕ) → Some w ≡ option_map (normal k) (take_first (is_word k) ps) → (p : List ℕ) × IsWord k p × (w ≡ normal k p) × (ps ≡ p ∷ skip_first (is_word k) ps)
-took k [] w e = cc
-took k (p ∷ ps) w e = by (is_word k p) refl e
-  where
-    by : (b : Bool) → is_word k p ≡ b → Some w ≡ option_map (normal k) (cond b (Some p) None) → (q : List ℕ) × IsWord k q × (w ≡ normal k q) × (p ∷ ps ≡ q ∷ skip_first (is_word k) (p ∷ ps))
-    by true h e = (p, h, cc, rw h refl)
-    by false h e = cc
-
-pub took_none : (k : Kind) (ps : List (List ℕ)) → None ≡ option_map (normal k) (take_first (is_word k) ps) → (passing (is_word k) ps ≡ []) × (past (is_word k) ps ≡ ps) × (skip_first (is_word k) ps ≡ ps)
-took_none k [] e = (refl, refl, refl)
-took_none k (p ∷ ps) e = by (is_word k p) refl e
-  where
-    by : (b : Bool) → is_word k p ≡ b → None ≡ option_map (normal k) (cond b (Some p) None) → (passing (is_word k) (p ∷ ps) ≡ []) × (past (is_word k) (p ∷ ps) ≡ p ∷ ps) × (skip_first (is_word k) (p ∷ ps) ≡ p ∷ ps)
-    by true h e = cc
-    by false h e = (rw h refl, rw h refl, rw h refl)
 
 -- the words of the kind at the front, normal
 abbrev pub words_read : Kind → List (List ℕ) → List (List ℕ)

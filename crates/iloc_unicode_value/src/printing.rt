@@ -16,7 +16,7 @@ impl Pieces for Value {
         !self.is_empty()
     }
 
-    #[tactic(auto, using(crate::proofs::PrintLemmas::flat_map_words))]
+    #[tactic(auto, using(iloc_writeable::proofs::PiecesLemmas::flat_map_words))]
     fn write_pieces<S: Sink>(&self, sink: &mut S, first: bool) -> fmt::Result {
         self.as_subtags_slice().write_pieces(sink, first)
     }

@@ -1,4 +1,3 @@
 pub mod AscendingLaws
-pub mod PrintLaws
 pub mod SetLaws
 pub mod CollectorLaws

@@ -46,7 +46,7 @@ impl<K: WordKind<N>, const N: usize> Pieces for WordSet<K, N> {
         !self.is_empty()
     }
 
-    #[tactic(auto, using(crate::proofs::PrintLaws::flat_map_words))]
+    #[tactic(auto, using(iloc_writeable::proofs::PiecesLemmas::flat_map_words))]
     fn write_pieces<S: Sink>(&self, sink: &mut S, first: bool) -> fmt::Result {
         self.as_slice().write_pieces(sink, first)
     }

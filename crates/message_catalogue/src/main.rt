@@ -1,8 +1,8 @@
 //! Messages keyed by locales, and looked up by texts.
 //!
 //! A line `LOCALE TAB MESSAGE` of the input gives a locale its message; of equal locales the first one wins. A line
-//! `LOCALE` asks for the message: it is answered by the message, by `-` where there is none, or by why the text is no
-//! locale. A text that is normal is found by its bytes alone, and no locale is made of it.
+//! `LOCALE` is answered by the message, by `-` where there is none, or by why it is no locale (UTS #35, section 3).
+//! A text that is normal is found by its bytes alone, and no locale is made of it.
 #![tactic(auto)]
 
 ghost use Rattle.std.specs.Prelude.{◌≡◌, ◌↔◌, All, Any, IfSome, IsNone, IsTrue};
@@ -10,8 +10,7 @@ ghost use Rattle.icu_locale_core.specs.Values.{text as text_of};
 ghost use Rattle.icu_locale_core.specs.LocaleValue.{value_of};
 
 use icu_locale_core::{Locale, ParseError};
-use std::alloc::{AllocError, Global};
-use std::fmt::Write;
+use std::alloc::Global;
 use std::io;
 
 /// Whether the locale prints this text. It takes no memory.
@@ -63,32 +62,19 @@ fn put<'a>(
     }
 }
 
-/// Says the message of the locale that the text means.
-fn say(
-    alloc: Global,
-    entries: &[(Locale, &str)],
-    text: &str,
-    out: &mut String,
-) -> Result<(), AllocError> {
-    match find(alloc, entries, text) {
-        Ok(Some(found)) => writeln!(out, "{text}: {found}"),
-        Ok(None) => writeln!(out, "{text}: -"),
-        Err(ParseError::OutOfMemory) => Err(AllocError),
-        Err(refusal) => writeln!(out, "{text}: {refusal}"),
-    }
-}
-
 fn main(rt: HostRuntime) -> anyhow::Result<()> {
     let alloc = rt.alloc();
     let input = io::read_to_string(alloc, rt.reader())?;
     let mut entries = Vec::new(alloc);
-    let mut out = String::new(alloc);
     for line in input.as_str().lines() {
         match line.split_once('\t') {
             Some((text, message)) => put(alloc, &mut entries, text, message)?,
-            None => say(alloc, entries.as_slice(), line, &mut out)?,
+            None => match find(alloc, entries.as_slice(), line) {
+                Ok(found) => println!(rt; "{line}: {}", found.unwrap_or("-"))?,
+                Err(ParseError::OutOfMemory) => return Err(ParseError::OutOfMemory.into()),
+                Err(refusal) => println!(rt; "{line}: {refusal}")?,
+            },
         }
     }
-    print!(rt; "{out}")?;
     Ok(())
 }

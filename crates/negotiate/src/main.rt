@@ -1,128 +1,64 @@
-//! Picks, of the languages that a program has, the best for the locales that a user asks for.
+//! Picks, of the languages that a program has, the best for what a user asks for.
 //!
-//! The first line of the input names the identifiers that the program has. Each further line names the locales that a
-//! user asks for, the most wanted first. It is answered by the first of them for which there is one: by that
-//! identifier with the user's extensions, or by `none`. An identifier that is not there is looked up without what
-//! matters least: variants, region and script, in this order (UTS #35, "Locale Inheritance and Matching"). A text
-//! that is none is passed over.
+//! The first line of the input names the locales that the program has. Each further line names those that a user asks
+//! for, the most wanted first, and is answered by the first of them that is there, with its extensions, or by `none`.
+//! One that is not there is looked up without what matters least: variants, region and script, in this order (UTS #35,
+//! "Locale Inheritance and Matching"). A text that is no locale is passed over.
 #![tactic(auto)]
 
-ghost use Rattle.std.specs.Prelude.{◌≡◌, Contains, IfSome};
+ghost use Rattle.std.specs.Prelude.{◌≡◌, Any, IsTrue};
 ghost use Rattle.icu_locale_core.specs.Reads.{value_of};
 ghost use Rattle.negotiate.specs.Fallback.{IsLeftOf};
 
 use icu_locale_core::langid::equality;
 use icu_locale_core::{LanguageIdentifier, Locale, ParseError};
 use std::alloc::{AllocError, Global};
-use std::fmt::Write;
 use std::io;
 
-/// The identifiers of a line.
-fn read_all(alloc: Global, line: &str) -> Result<Vec<LanguageIdentifier>, AllocError> {
-    let mut identifiers = Vec::new(alloc);
+/// The locales of a line.
+fn read_all(alloc: Global, line: &str) -> Result<Vec<Locale>, AllocError> {
+    let mut locales = Vec::new(alloc);
     for text in line.split_ascii_whitespace() {
-        match LanguageIdentifier::try_from_str(alloc, text) {
-            Ok(identifier) => identifiers.push(identifier)?,
+        match Locale::try_from_str(alloc, text) {
+            Ok(locale) => locales.push(locale)?,
             Err(ParseError::OutOfMemory) => return Err(AllocError),
             Err(_) => (),
         }
     }
-    Ok(identifiers)
+    Ok(locales)
 }
 
-/// Drops what matters least; false where only the language is left.
-fn shorten(wanted: &mut LanguageIdentifier) -> bool
-    ensures { IsLeftOf (value_of wanted.old) (value_of wanted.new) }
-{
-    if !wanted.variants.is_empty() {
-        let _ = wanted.variants.clear();
-    } else if wanted.region.is_some() {
-        wanted.region = None;
-    } else if wanted.script.is_some() {
-        wanted.script = None;
-    } else {
-        return false;
-    }
-    true
-}
-
-/// The wanted identifier, where it is there.
-fn find<'a>(
-    wanted: &LanguageIdentifier,
-    available: &'a [LanguageIdentifier],
-) -> Option<&'a LanguageIdentifier>
-    ensures there { IfSome result (λ one. Contains available.now one.now) }
-    ensures same { IfSome result (λ one. value_of one.now ≡ value_of wanted.now) }
+/// Drops what matters least of the identifier, until it is there or the language alone is left; whether it is there.
+fn fall_back(wanted: &mut LanguageIdentifier, available: &[Locale]) -> bool
+    ensures there { IsTrue result → Any (λ one. value_of one.id ≡ value_of wanted.new) available.now }
+    ensures left { IsLeftOf (value_of wanted.old) (value_of wanted.new) }
 {
     equality();
-    for one in available {
-        if *one == *wanted {
-            return Some(one);
-        }
-    }
-    None
-}
-
-/// The wanted identifier where it is there, or else what is left of it.
-fn best_of<'a>(
-    wanted: &mut LanguageIdentifier,
-    available: &'a [LanguageIdentifier],
-) -> Option<&'a LanguageIdentifier>
-    ensures there { IfSome result (λ one. Contains available.now one.now) }
-    ensures left { IfSome result (λ one. IsLeftOf (value_of wanted.old) (value_of one.now)) }
-{
     for _ in 0..4u8 {
-        if let Some(found) = find(wanted, available) {
-            return Some(found);
+        for one in available {
+            if one.id == *wanted {
+                return true;
+            }
         }
-        if !shorten(wanted) {
-            break;
+        if !wanted.variants.is_empty() {
+            let _ = wanted.variants.clear();
+        } else if wanted.region.is_some() {
+            wanted.region = None;
+        } else {
+            wanted.script = None;
+        }
+    }
+    false
+}
+
+/// The first of the wanted locales that is there, or what is left of it.
+fn negotiate<'a>(wanted: &'a mut [Locale], available: &[Locale]) -> Option<&'a Locale> {
+    for locale in wanted {
+        if fall_back(&mut locale.id, available) {
+            return Some(locale);
         }
     }
     None
-}
-
-/// Says the best for the locale, with its extensions; whether there is one.
-fn say_best(
-    wanted: &mut Locale,
-    available: &[LanguageIdentifier],
-    out: &mut String,
-) -> Result<bool, AllocError> {
-    let Some(found) = best_of(&mut wanted.id, available) else {
-        return Ok(false);
-    };
-    wanted.id = found.clone()?;
-    write!(out, "{wanted}")?;
-    Ok(true)
-}
-
-/// The same for the locale that a text means.
-fn say_best_for(
-    alloc: Global,
-    text: &str,
-    available: &[LanguageIdentifier],
-    out: &mut String,
-) -> Result<bool, AllocError> {
-    match Locale::try_from_str(alloc, text) {
-        Ok(mut wanted) => say_best(&mut wanted, available, out),
-        Err(ParseError::OutOfMemory) => Err(AllocError),
-        Err(_) => Ok(false),
-    }
-}
-
-/// Says the best for the first text of the line for which there is one.
-fn negotiate(
-    alloc: Global,
-    line: &str,
-    available: &[LanguageIdentifier],
-    out: &mut String,
-) -> Result<(), AllocError> {
-    for text in line.split_ascii_whitespace() {
-        if say_best_for(alloc, text, available, out)? {
-            return Ok(());
-        }
-    }
-    out.push_str("none")
 }
 
 fn main(rt: HostRuntime) -> anyhow::Result<()> {
@@ -130,11 +66,12 @@ fn main(rt: HostRuntime) -> anyhow::Result<()> {
     let input = io::read_to_string(alloc, rt.reader())?;
     let (first, others) = input.as_str().split_once('\n').unwrap_or(("", ""));
     let available = read_all(alloc, first)?;
-    let mut out = String::new(alloc);
     for line in others.lines() {
-        negotiate(alloc, line, available.as_slice(), &mut out)?;
-        out.push('\n')?;
+        let mut wanted = read_all(alloc, line)?;
+        match negotiate(wanted.as_mut_slice(), available.as_slice()) {
+            Some(locale) => println!(rt; "{locale}")?,
+            None => println!(rt; "none")?,
+        }
     }
-    print!(rt; "{out}")?;
     Ok(())
 }

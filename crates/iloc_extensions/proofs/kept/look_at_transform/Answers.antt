@@ -1,9 +1,8 @@
 use Rattle.std.proofs.Common.{Option, Some, None, IfSome, option_map}
-use Rattle.iloc_grammar.specs.Words.{languages, word_cmp}
+use Rattle.iloc_grammar.specs.Words.{languages}
 use Rattle.iloc_grammar.specs.Values.{IsIdentifierValue}
 use Rattle.iloc_langid.specs.Reads as identifiers
 use Rattle.iloc_langid.specs.declared.identifier.LanguageIdentifier.{LanguageIdentifier}
-use Rattle.iloc_map_laws.proofs.Bridge.{ascending_sorted}
 use Rattle.iloc_extensions.proofs.kept.look_at_transform.Goals as goal
 
 value_where_there : (o : Option LanguageIdentifier) → IfSome o (λ i. IsIdentifierValue languages (identifiers.value_of i)) → IfSome (option_map identifiers.value_of o) (IsIdentifierValue languages)
@@ -14,5 +13,5 @@ pub returns : goal.returns
 returns c = record {
   id = value_where_there c.args.transform.now.lang c.look_at_lang.ensures;
   fields = c.as_slice.ensures.normal;
-  keys_ascend = ascending_sorted word_cmp c.args.transform.now.fields c.as_slice.ensures.ascending;
+  keys_ascend = c.as_slice.ensures.ascending;
 }

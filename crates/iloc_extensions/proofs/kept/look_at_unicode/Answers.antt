@@ -1,8 +1,6 @@
 use Rattle.std.proofs.Common.{subst}
 use Rattle.std.specs.List.{AllByRecursion}
-use Rattle.iloc_grammar.specs.Words.{word_cmp}
 use Rattle.iloc_unicode.specs.UnicodeValue.{IsKeyword}
-use Rattle.iloc_map_laws.proofs.Bridge.{ascending_sorted}
 use Rattle.iloc_extensions.proofs.kept.look_at_unicode.Goals as goal
 
 pub returns : goal.returns
@@ -10,5 +8,5 @@ returns c = record {
   attributes = c.as_slice.ensures.normal;
   ascending = c.as_slice.ensures.ascending;
   keywords = subst (AllByRecursion IsKeyword) c.as_slice-2.ensures.pairs c.look_at_keywords.ensures;
-  keys_ascend = ascending_sorted word_cmp c.args.unicode.now.keywords c.as_slice-2.ensures.ascending;
+  keys_ascend = c.as_slice-2.ensures.ascending;
 }

@@ -2,7 +2,7 @@ use Rattle.std.proofs.Common.{of_calls, ◌≡◌, [], cond, refl, subst, ap, �
 use Rattle.std.specs.List.Retain.{IsFiltered}
 use Rattle.std.specs.Option.{option_map}
 use Rattle.iloc_langid.specs.Reads as langid
-use Rattle.iloc_transform.proofs.MapLemmas.{filtered_same}
+use Rattle.iloc_litemap.proofs.Filtered.{filtered_same}
 use Rattle.iloc_extensions.specs.ExtensionsValue.{value_of, no_unicode, no_transform}
 use Rattle.iloc_extensions.specs.declared.extension_type.ExtensionType.TheVariants.{Other}
 use Rattle.iloc_extensions.proofs.KeptLemmas.{gone, stays}

@@ -1,11 +1,13 @@
-use Rattle.std.proofs.Common.{rules, sym, ap, ◌∙◌, []}
-use Rattle.std.specs.BTreeMap.{insert_entry}
-use Rattle.iloc_litemap.proofs.Edits.{insert_all_last}
+use Rattle.std.proofs.Common.{rules, sym, ap, ◌∙◌, [], ◌∷◌}
+use Rattle.std.specs.FinMap.{put}
+use Rattle.std.proofs.lemmas.List.{reverse-append}
+use Rattle.iloc_grammar.specs.Meaning.{map_of}
 use Rattle.iloc_litemap.proofs.map.LiteMap.from_pairs.Goals as goal
 
 pub loop-key-preserved : goal.loop-key-preserved
-loop-key-preserved g c = record {
-  can = search rules;
-  finite = search rules;
-  pairs = c.in_ok-put.ensures.ok ∙ (ap (λ es. insert_entry g.K.Ord.cmp es c.in-Some.key c.in-Some.value) c.loop-key.invariant.pairs ∙ sym (insert_all_last g.K.Ord.cmp [] c.loop-key.yielded c.in-Some.key c.in-Some.value));
-}
+loop-key-preserved g c =
+    record {
+      can = search rules;
+      finite = search rules;
+      pairs = c.in_ok-put.ensures.ok ∙ (ap (put g.K.Ord.cmp c.in-Some.key c.in-Some.value) c.loop-key.invariant.pairs ∙ ap (map_of g.K.Ord.cmp) (sym (reverse-append c.loop-key.yielded ((c.in-Some.key, c.in-Some.value) ∷ []))));
+    }

@@ -3,7 +3,8 @@ use Rattle.std.specs.Fn.{CalledAt}
 use Rattle.std.specs.List.{AllByRecursion}
 use Rattle.std.specs.List.Retain.{IsFiltered}
 use Rattle.iloc_transform.specs.FieldsReading.{IsFieldPair}
-use Rattle.iloc_transform.proofs.MapLemmas.{filtered_same, kept_pairs}
+use Rattle.iloc_litemap.proofs.Filtered.{filtered_same}
+use Rattle.iloc_transform.proofs.MapLemmas.{kept_pairs}
 use Rattle.iloc_transform.proofs.fields.Fields.retain_by_key.Goals as goal
 use denote.Param.Always.{always_mut, mut_by}
 

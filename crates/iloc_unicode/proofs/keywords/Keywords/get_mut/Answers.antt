@@ -1,15 +1,13 @@
 use Rattle.std.proofs.Common.{ap, ◌∙◌}
-use Rattle.std.specs.BTreeMap.{is_at}
-use Rattle.std.specs.Map.{set_value}
+use Rattle.std.specs.FinMap.{find, put}
 use Rattle.std.specs.Option.{ghost_name_of}
 use Rattle.iloc_grammar.specs.Words.{word_cmp}
 use Rattle.iloc_grammar.specs.Written.{Fields}
-use Rattle.iloc_unicode.proofs.MapLemmas.{looked_up}
 use Rattle.iloc_unicode.proofs.keywords.Keywords.get_mut.Goals as goal
 use borrow.Follows.Closed.{read_of}
 
 pub returns : goal.returns
 returns c = (
-  ap (λ (es : Fields). read_of (ghost_name_of c.get_mut.result) (set_value (is_at (word_cmp c.args.key.now)) es) es) c.self.view_is,
-  record { writes_back = tt; value = c.get_mut.ensures.value ∙ looked_up c.args.key.now c.self.inside.map c.args.self.now c.self.view_is },
+  ap (λ (es : Fields). read_of (ghost_name_of c.get_mut.result) (λ v. put word_cmp c.args.key.now v es) es) c.self.view_is,
+  record { writes_back = tt; value = c.get_mut.ensures.value ∙ ap (find word_cmp c.args.key.now) c.self.view_is },
 )

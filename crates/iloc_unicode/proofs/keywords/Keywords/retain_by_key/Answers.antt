@@ -1,7 +1,7 @@
 use Rattle.std.proofs.Common.{of_calls, subst}
 use Rattle.std.specs.Fn.{CalledAt}
 use Rattle.std.specs.List.Retain.{IsFiltered}
-use Rattle.iloc_unicode.proofs.Filtered.{filtered_same}
+use Rattle.iloc_litemap.proofs.Filtered.{filtered_same}
 use Rattle.iloc_unicode.proofs.keywords.Keywords.retain_by_key.Goals as goal
 use denote.Param.Always.{always_mut, mut_by}
 
