@@ -14,7 +14,7 @@ use Rattle.std.proofs.lemmas.List.{reverse-append}
 use Rattle.iloc_grammar.specs.Meaning.{map_of}
 use Rattle.iloc_grammar.proofs.MapLaws.{less, map_of_sorted, map_of_same, find-map_of}
 use Rattle.iloc_grammar.proofs.SetLaws.{find-append}
-use Rattle.iloc_litemap.specs.Pairs.{IsAscending, put_all}
+use Rattle.iloc_litemap.specs.Pairs.{IsAscending}
 
 -- keys that tie are one
 pub tied : {K : Type 0} (R : K → K → Ordering) → IsAntisymmetric R → (q k : K) → eq_by_cmp R q k ≡ true → q ≡ k
@@ -24,6 +24,11 @@ tied R same q k h = same q k (equal (R q k) h)
     equal Less h = absurd (true≢false (sym h))
     equal Equal h = refl
     equal Greater h = absurd (true≢false (sym h))
+
+-- the pairs xs put in one by one, so that the last of equal keys stays
+abbrev pub put_all : {K X : Type 0} → (K → K → Ordering) → List (K × X) → List (K × X) → List (K × X)
+put_all R es [] = es
+put_all R es (x ∷ xs) = put_all R (put R x.0 x.1 es) xs
 
 module _ {K X : Type 0} (R : K → K → Ordering) where
   put_over : (es fs : List (K × X)) → put_all R (map_of R es) fs ≡ map_of R (reverse fs ++ es)
