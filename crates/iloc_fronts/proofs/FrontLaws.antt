@@ -9,7 +9,7 @@ use Rattle.iloc_grammar.specs.Written.{Fields, Unicode, fields_pieces, unicode_p
 use Rattle.iloc_grammar.specs.Meaning.{set_of, normal_fields, normal_unicode}
 use Rattle.iloc_grammar.specs.Faults.{Fault}
 use Rattle.iloc_grammar.specs.Blocks.{front}
-use Rattle.iloc_grammar.specs.ByBlocks.{UnicodeMeans}
+use Rattle.iloc_grammar.specs.ByBlocks.{UnicodeMeans, OtherMeans}
 use Rattle.iloc_grammar.specs.Reading.{EndsBefore, starts_block, from_block, is_two, fields_from}
 use Rattle.iloc_grammar.proofs.WordsLaws.{length-attribute, length-unicode_key}
 use Rattle.iloc_grammar.proofs.ValuesLaws.{all_weaker}
@@ -19,7 +19,7 @@ use Rattle.iloc_grammar.proofs.ReadingLaws.{front-from_block, from_block_starts}
 use Rattle.iloc_grammar.specs.Computing.{is_other, is_private}
 use Rattle.iloc_grammar.proofs.RuleTests.{tests_other, tests_private, tests_not}
 use Rattle.iloc_fronts.specs.Readers.{IsReader, AgreesWithBlocks}
-use Rattle.iloc_fronts.specs.Fronts.{attributes_front, after_attributes, is_keyword_piece, keywords_front, after_keywords, is_bad_key, KeywordsRead, KeywordsFault, bad_key, UnicodeRead, UnicodeFault, in_keywords, both_absent, has_other_length, other_front, OtherRead, OtherFault, no_word, OtherMeans, PrivateRead, PrivateFault, not_private}
+use Rattle.iloc_fronts.specs.Fronts.{attributes_front, after_attributes, is_keyword_piece, keywords_front, after_keywords, is_bad_key, KeywordsRead, KeywordsFault, bad_key, UnicodeRead, UnicodeFault, in_keywords, both_absent, has_other_length, other_front, OtherRead, OtherFault, no_word, PrivateRead, PrivateFault, not_private}
 use Rattle.iloc_fronts.specs.Computing.{keywords_at, keywords_result, with_attributes, unicode_result, other_result, private_result}
 use Rattle.iloc_fronts.proofs.FieldLaws.{all_pieces, passing_all, passing_stops, past_stops, all_from_pieces, passing_from_all, front_of_fields, fields_words, fields_stop, pieces_pass}
 use Rattle.iloc_fronts.proofs.ReaderLaws.{reader_of, agreeing, until_block, Answers}

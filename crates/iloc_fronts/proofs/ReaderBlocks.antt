@@ -7,19 +7,19 @@ use Rattle.std.specs.FinMap.{find}
 use Rattle.std.proofs.lemmas.Bool.Decides.{nat_tests}
 use Rattle.iloc_grammar.specs.Pieces.{pieces}
 use Rattle.iloc_grammar.specs.Words.{IsTable, lower}
-use Rattle.iloc_grammar.specs.Written.{IsOther, IsPrivate, kept, is_other_singleton, singleton}
-use Rattle.iloc_grammar.specs.Meaning.{Locale, Means}
+use Rattle.iloc_grammar.specs.Written.{Unicode, Transform, kept, is_other_singleton, singleton}
+use Rattle.iloc_grammar.specs.Meaning.{Locale, Extensions, Means, no_unicode, no_transform}
 use Rattle.iloc_grammar.specs.Faults.{Fault}
 use Rattle.iloc_grammar.specs.Blocks.{is_one_byte, front, blocks, tail_blocks}
-use Rattle.iloc_grammar.specs.ByBlocks.{UnicodeMeans, TransformMeans, by_letter, other_blocks, MeansByBlocks}
+use Rattle.iloc_grammar.specs.ByBlocks.{UnicodeMeans, TransformMeans, OtherMeans, Rules, grammar_rules, by_letter, other_blocks, PartIs, BlocksGive, MeansBy}
 use Rattle.iloc_grammar.specs.Reading.{from_block}
 use Rattle.iloc_grammar.proofs.BlockLaws.{means_by_blocks, blocks_mean}
 use Rattle.iloc_grammar.proofs.MapLaws.{tied}
 use Rattle.iloc_fronts.specs.Readers.{AgreesWithBlocks}
-use Rattle.iloc_fronts.specs.Fronts.{UnicodeRead, TransformRead, OtherRead, OtherMeans, PrivateRead}
+use Rattle.iloc_fronts.specs.Fronts.{UnicodeRead, TransformRead, OtherRead}
 use Rattle.iloc_fronts.proofs.FrontLaws.{unicode_agrees, other_agrees}
 use Rattle.iloc_fronts.proofs.TransformLaws.{transform_agrees}
-use Rattle.iloc_fronts.specs.ByReaders.{MeansByReaders}
+use Rattle.iloc_fronts.specs.ByReaders.{reading_rules, MeansByReaders}
 
 -- what follows the singleton of a block other than that of `x` has no piece of one byte
 
@@ -86,71 +86,56 @@ module _ {X : Type 0} (R : List (List ℕ) → X → List (List ℕ) → Type 0)
   pub read_block : R ps v [] → B ps v
   read_block h = subst (λ (qs : List (List ℕ)). B qs v) c.whole (a.whole ps v [] h refl).0
 
--- part by part
+-- rules by which the blocks of another give the same
 
-matched : {X : Type 0} (o : Option X) (N : Type 0) (C P Q : X → Type 0) → ((x : X) → C x → P x → Q x) → IfSome o C → MatchOption o N P → MatchOption o N Q
-matched None N C P Q f h m = m
-matched (Some x) N C P Q f h m = f x h m
+pub record Carries (R S : Rules) : Type 0 where
+  pub unicode : (ps : List (List ℕ)) (v : Unicode) → IsClosed ps → R.unicode ps v → S.unicode ps v
+  pub transform : (ps : List (List ℕ)) (m : Transform) → IsClosed ps → R.transform ps m → S.transform ps m
+  pub private : (ps ws : List (List ℕ)) → R.private ps ws → S.private ps ws
+  pub other : (ps ws : List (List ℕ)) → IsClosed ps → R.other ps ws → S.other ps ws
 
-matched_all : {X : Type 0} (o : Option X) (N : Type 0) (P Q : X → Type 0) → ((x : X) → P x → Q x) → MatchOption o N P → MatchOption o N Q
-matched_all None N P Q f m = m
-matched_all (Some x) N P Q f m = f x m
+part_carried : {X : Type 0} (o : Option (List (List ℕ))) (C : List (List ℕ) → Type 0) (R S : List (List ℕ) → X → Type 0) → ((ps : List (List ℕ)) (v : X) → C ps → R ps v → S ps v) → (empty v : X) → IfSome o C → PartIs R empty o v → PartIs S empty o v
+part_carried None C R S f empty v h m = m
+part_carried (Some ps) C R S f empty v h m = f ps v h m
 
-all_from : {X : Type 0} (xs : List X) (C P Q : X → Type 0) → ((x : X) → C x → P x → Q x) → AllByRecursion C xs → AllByRecursion P xs → AllByRecursion Q xs
-all_from [] C P Q f h k = tt
-all_from (x ∷ xs) C P Q f h k = (f x h.0 k.0, all_from xs C P Q f h.1 k.1)
+others_carried : (R S : List (List ℕ) → List (List ℕ) → Type 0) → ((ps ws : List (List ℕ)) → IsClosed ps → R ps ws → S ps ws) → (bs : List (ℕ × List (List ℕ))) → AllByRecursion (λ b. IsClosed b.1) bs → AllByRecursion (λ b. R b.1 (kept b.1)) bs → AllByRecursion (λ b. S b.1 (kept b.1)) bs
+others_carried R S f [] h m = tt
+others_carried R S f (b ∷ bs) h m = (f b.1 (kept b.1) h.0 m.0, others_carried R S f bs h.1 m.1)
 
-module _ (T : ℕ → Bool) (table : IsTable T) (t : List ℕ) (M : Locale) where
-  abbrev bs : List (ℕ × List (List ℕ))
-  bs = tail_blocks (pieces t)
+any_some : {X : Type 0} (o : Option X) → IfSome o (λ _. Unit {0})
+any_some None = tt
+any_some (Some x) = tt
 
-  abbrev found : ℕ → Option (List (List ℕ))
-  found q = find nat_cmp q (by_letter bs)
+carried : {R S : Rules} → Carries R S → (bs : List (ℕ × List (List ℕ))) (e : Extensions) → AllByRecursion IsXOrClosed bs → BlocksGive R bs e → BlocksGive S bs e
+carried {R = R} {S = S} c bs e closed m = record {
+  letters = m.letters;
+  different = m.different;
+  unicode = part_carried _ IsClosed R.unicode S.unicode c.unicode no_unicode e.unicode (found_closed 117 (λ e. absurd (omega arith)) bs closed) m.unicode;
+  transform = part_carried _ IsClosed R.transform S.transform c.transform no_transform e.transform (found_closed 116 (λ e. absurd (omega arith)) bs closed) m.transform;
+  private = part_carried _ (λ _. Unit {0}) R.private S.private (λ ps ws _. c.private ps ws) [] e.private (any_some _) m.private;
+  each_other = others_carried R.other S.other c.other (other_blocks (by_letter bs)) (others_closed bs closed) m.each_other;
+  others = m.others;
+}
 
-  abbrev rest : List (ℕ × List (List ℕ))
-  rest = other_blocks (by_letter bs)
-
-  closed : AllByRecursion IsXOrClosed bs
-  closed = tail_closed (pieces t)
-
-  closed_u : IfSome (found 117) IsClosed
-  closed_u = found_closed 117 (λ e. absurd (omega arith)) bs closed
-
-  closed_t : IfSome (found 116) IsClosed
-  closed_t = found_closed 116 (λ e. absurd (omega arith)) bs closed
-
-  closed_rest : AllByRecursion (λ b. IsClosed b.1) rest
-  closed_rest = others_closed bs closed
-
-  abbrev no_unicode : Type 0
-  no_unicode = M.unicode ≡ record { attributes = []; keywords = [] }
-
-  abbrev no_transform : Type 0
-  no_transform = M.transform ≡ record { id = None; fields = [] }
-
-  to_readers : MeansByBlocks T t M → MeansByReaders T t M
-  to_readers m = record {
-    id = m.id;
-    letters = m.letters;
-    different = m.different;
-    unicode = matched (found 117) no_unicode IsClosed (λ ps. UnicodeMeans ps M.unicode) (λ ps. UnicodeRead ps M.unicode []) (λ ps c. block_read UnicodeRead _ UnicodeMeans unicode_agrees ps M.unicode c) closed_u m.unicode;
-    transform = matched (found 116) no_transform IsClosed (λ ps. TransformMeans T ps M.transform) (λ ps. TransformRead T ps M.transform []) (λ ps c. block_read (TransformRead T) _ (TransformMeans T) (transform_agrees T table) ps M.transform c) closed_t m.transform;
-    private = matched_all (found 120) (M.private ≡ []) (λ ps. IsPrivate ps × (M.private ≡ map lower ps)) (λ ps. PrivateRead ps M.private []) (λ ps h. record { follows = h.0; means = h.1; left = refl }) m.private;
-    each_other = all_from rest (λ b. IsClosed b.1) (λ b. IsOther b.1) (λ b. OtherRead b.1 (kept b.1) []) (λ b c h. block_read OtherRead _ OtherMeans other_agrees b.1 (kept b.1) c (h, refl)) closed_rest m.other_rules;
-    others = m.others;
+module _ (T : ℕ → Bool) (table : IsTable T) where
+  read_by_grammar : Carries (grammar_rules T) (reading_rules T)
+  read_by_grammar = record {
+    unicode = λ ps v c. block_read UnicodeRead _ UnicodeMeans unicode_agrees ps v c;
+    transform = λ ps m c. block_read (TransformRead T) _ (TransformMeans T) (transform_agrees T table) ps m c;
+    private = λ ps ws h. record { follows = h.0; means = h.1; left = refl };
+    other = λ ps ws c. block_read OtherRead _ OtherMeans other_agrees ps ws c;
   }
 
-  from_readers : MeansByReaders T t M → MeansByBlocks T t M
-  from_readers m = record {
-    id = m.id;
-    letters = m.letters;
-    different = m.different;
-    unicode = matched (found 117) no_unicode IsClosed (λ ps. UnicodeRead ps M.unicode []) (λ ps. UnicodeMeans ps M.unicode) (λ ps c. read_block UnicodeRead _ UnicodeMeans unicode_agrees ps M.unicode c) closed_u m.unicode;
-    transform = matched (found 116) no_transform IsClosed (λ ps. TransformRead T ps M.transform []) (λ ps. TransformMeans T ps M.transform) (λ ps c. read_block (TransformRead T) _ (TransformMeans T) (transform_agrees T table) ps M.transform c) closed_t m.transform;
-    private = matched_all (found 120) (M.private ≡ []) (λ ps. PrivateRead ps M.private []) (λ ps. IsPrivate ps × (M.private ≡ map lower ps)) (λ ps h. (h.follows, h.means)) m.private;
-    other_rules = all_from rest (λ b. IsClosed b.1) (λ b. OtherRead b.1 (kept b.1) []) (λ b. IsOther b.1) (λ b c h. (read_block OtherRead _ OtherMeans other_agrees b.1 (kept b.1) c h).0) closed_rest m.each_other;
-    others = m.others;
+  grammar_by_reading : Carries (reading_rules T) (grammar_rules T)
+  grammar_by_reading = record {
+    unicode = λ ps v c. read_block UnicodeRead _ UnicodeMeans unicode_agrees ps v c;
+    transform = λ ps m c. read_block (TransformRead T) _ (TransformMeans T) (transform_agrees T table) ps m c;
+    private = λ ps ws h. (h.follows, h.means);
+    other = λ ps ws c. read_block OtherRead _ OtherMeans other_agrees ps ws c;
   }
 
-  pub by_readers : Means T t M ↔ MeansByReaders T t M
-  by_readers = (λ m. to_readers (means_by_blocks T table t M m), λ m. blocks_mean T table t M (from_readers m))
+  all_carried : {R S : Rules} → Carries R S → (t : List ℕ) (M : Locale) → MeansBy R T t M → MeansBy S T t M
+  all_carried c t M m = record { id = m.id; blocks = carried c (tail_blocks (pieces t)) M.extensions (tail_closed (pieces t)) m.blocks }
+
+  pub by_readers : (t : List ℕ) (M : Locale) → Means T t M ↔ MeansByReaders T t M
+  by_readers t M = (λ m. all_carried read_by_grammar t M (means_by_blocks T table t M m), λ m. blocks_mean T table t M (all_carried grammar_by_reading t M m))

@@ -124,10 +124,6 @@ pub record OtherRead (ps ws rest : List Text) : Type 0 where
 pub data OtherFault (ps : List Text) : Fault → Type 0 where
   no_word : ¬ (IsOther (other_front ps)) → OtherFault ps InvalidExtension
 
--- what the pieces of such a block mean
-abbrev pub OtherMeans : List Text → List Text → Type 0
-OtherMeans ps ws = IsOther ps × (ws ≡ kept ps)
-
 -- After `x`: all the rest, which is private words.
 
 pub record PrivateRead (ps ws rest : List Text) : Type 0 where

@@ -18,9 +18,9 @@ ghost use Rattle.iloc_grammar.specs.Words.{IsTable, Subtag, Attribute, is_true, 
 ghost use Rattle.iloc_grammar.specs.Written.{Unicode, Transform, IsOther, IsPrivate, is_other_singleton, singleton};
 ghost use Rattle.iloc_grammar.specs.Values.{IsNormal, IsUnicodeValue, spelled_value};
 ghost use Rattle.iloc_grammar.specs.Faults.{InvalidSubtag, InvalidExtension, IsBlock, RepeatsVariant, front};
-ghost use Rattle.iloc_grammar.specs.ByBlocks.{UnicodeMeans, TransformMeans};
+ghost use Rattle.iloc_grammar.specs.ByBlocks.{UnicodeMeans, TransformMeans, OtherMeans};
 ghost use Rattle.iloc_fronts.specs.Readers.{IsReader, AgreesWithBlocks};
-ghost use Rattle.iloc_fronts.specs.Fronts.{attributes_read, KeywordsRead, KeywordsFault, UnicodeRead, UnicodeFault, TransformRead, TransformFault, OtherRead, OtherFault, OtherMeans, PrivateRead, PrivateFault};
+ghost use Rattle.iloc_fronts.specs.Fronts.{attributes_read, KeywordsRead, KeywordsFault, UnicodeRead, UnicodeFault, TransformRead, TransformFault, OtherRead, OtherFault, PrivateRead, PrivateFault};
 ghost use Rattle.iloc_fronts.specs.Parts.{PartRead, PartFault, is_letter};
 ghost use Rattle.iloc_fronts.specs.PartValues.{unicode_value, transform_value};
 ghost use Rattle.iloc_fronts.specs.Computing.{keywords_result, unicode_result, transform_result, other_result, private_result};

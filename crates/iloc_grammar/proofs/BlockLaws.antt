@@ -9,10 +9,10 @@ use Rattle.std.proofs.lemmas.Bool.Decides.{nat_tests}
 use Rattle.iloc_grammar.specs.Pieces.{pieces}
 use Rattle.iloc_grammar.specs.Words.{IsTable, lower}
 use Rattle.iloc_grammar.specs.Written.{Unicode, Transform, Extension, unicode, transform, other, Written, extension_pieces, extension_block, blocks_of, IsOther, IsPrivate, kept, is_other_singleton, IsExtension, singleton, IsWritten, AllDifferent}
-use Rattle.iloc_grammar.specs.Meaning.{Locale, IdentifierMeans, Means, meaning, map_of, unicode_part, transform_part, private_part, other_part, by_singleton, normal_unicode, normal_transform}
+use Rattle.iloc_grammar.specs.Meaning.{Locale, Extensions, Means, extensions_meaning, map_of, no_unicode, no_transform, unicode_part, transform_part, private_part, other_part, by_singleton, normal_unicode, normal_transform}
 use Rattle.iloc_grammar.specs.Faults.{SpellsIdentifier, IsBlock}
 use Rattle.iloc_grammar.specs.Blocks.{head, tail_blocks}
-use Rattle.iloc_grammar.specs.ByBlocks.{UnicodeMeans, TransformMeans, by_letter, other_blocks, MeansByBlocks}
+use Rattle.iloc_grammar.specs.ByBlocks.{UnicodeMeans, TransformMeans, PrivateMeans, OtherMeans, by_letter, other_blocks, grammar_rules, PartIs, BlocksGive, MeansByBlocks}
 use Rattle.iloc_grammar.proofs.Readings.{head-spelling, blocks-spelling, unicode_of-pieces, transform_of-pieces}
 use Rattle.iloc_grammar.specs.Reading.{unicode_of, transform_of}
 use Rattle.iloc_grammar.proofs.IdentifierLaws.{one_meaning}
@@ -47,24 +47,26 @@ no_private q n (Some b) h = ap (λ t. cond t (Some b.1) None) (untied q (singlet
     untied : (q k : ℕ) → k ≢ q → eq_by_cmp nat_cmp q k ≡ false
     untied q k h = grind (arith, nat_tests)
 
-unicode_by : (T : ℕ → Bool) (o : Option Extension) → IfSome o (IsExtension T 117) → (p : Option (List (List ℕ))) → p ≡ None → MatchOption (or_else (option_map extension_pieces o) p) (unicode_part o ≡ record { attributes = []; keywords = [] }) (λ ps. UnicodeMeans ps (unicode_part o))
+-- what is found gives its part
+
+unicode_by : (T : ℕ → Bool) (o : Option Extension) → IfSome o (IsExtension T 117) → (p : Option (List (List ℕ))) → p ≡ None → PartIs UnicodeMeans no_unicode (or_else (option_map extension_pieces o) p) (unicode_part o)
 unfolding or_else
-unicode_by T None h p e = subst (λ (p : Option (List (List ℕ))). MatchOption p (unicode_part None ≡ record { attributes = []; keywords = [] }) (λ ps. UnicodeMeans ps (unicode_part None))) (sym e) refl
+unicode_by T None h p e = subst (λ p. PartIs UnicodeMeans no_unicode p no_unicode) (sym e) refl
 unicode_by T (Some (unicode u)) h p e = record { written = u; grammatical = h.1; spelled = refl; means = refl }
 unicode_by T (Some (transform m)) h p e = absurd (let k = h.0 in omega arith)
 unicode_by T (Some (other ps)) h p e = absurd (true≢false (sym h.0))
 
-transform_by : (T : ℕ → Bool) (o : Option Extension) → IfSome o (IsExtension T 116) → (p : Option (List (List ℕ))) → p ≡ None → MatchOption (or_else (option_map extension_pieces o) p) (transform_part o ≡ record { id = None; fields = [] }) (λ ps. TransformMeans T ps (transform_part o))
+transform_by : (T : ℕ → Bool) (o : Option Extension) → IfSome o (IsExtension T 116) → (p : Option (List (List ℕ))) → p ≡ None → PartIs (TransformMeans T) no_transform (or_else (option_map extension_pieces o) p) (transform_part o)
 unfolding or_else
-transform_by T None h p e = subst (λ (p : Option (List (List ℕ))). MatchOption p (transform_part None ≡ record { id = None; fields = [] }) (λ ps. TransformMeans T ps (transform_part None))) (sym e) refl
+transform_by T None h p e = subst (λ p. PartIs (TransformMeans T) no_transform p no_transform) (sym e) refl
 transform_by T (Some (unicode u)) h p e = absurd (let k = h.0 in omega arith)
 transform_by T (Some (transform m)) h p e = record { written = m; grammatical = h.1; spelled = refl; means = refl }
 transform_by T (Some (other ps)) h p e = absurd (true≢false (sym h.0))
 
-private_by : (T : ℕ → Bool) (o : Option Extension) → IfSome o (IsExtension T 120) → (x : Option (ℕ × List (List ℕ))) → IfSome x (λ e. (singleton e ≡ 120) × IsPrivate e.1) → MatchOption (or_else (option_map extension_pieces o) (find nat_cmp 120 (by_letter (option_to_list x)))) (private_part x ≡ []) (λ ps. IsPrivate ps × (private_part x ≡ map lower ps))
+private_by : (T : ℕ → Bool) (o : Option Extension) → IfSome o (IsExtension T 120) → (x : Option (ℕ × List (List ℕ))) → IfSome x (λ e. (singleton e ≡ 120) × IsPrivate e.1) → PartIs PrivateMeans [] (or_else (option_map extension_pieces o) (find nat_cmp 120 (by_letter (option_to_list x)))) (private_part x)
 unfolding or_else
 private_by T None h None k = refl
-private_by T None h (Some b) k = subst (λ (c : ℕ). MatchOption (cond (eq_by_cmp nat_cmp 120 c) (Some b.1) None) (map lower b.1 ≡ []) (λ ps. IsPrivate ps × (map lower b.1 ≡ map lower ps))) (sym k.0) (k.1, refl)
+private_by T None h (Some b) k = subst (λ (c : ℕ). PartIs PrivateMeans [] (cond (eq_by_cmp nat_cmp 120 c) (Some b.1) None) (map lower b.1)) (sym k.0) (k.1, refl)
 private_by T (Some (unicode u)) h x k = absurd (let k = h.0 in omega arith)
 private_by T (Some (transform m)) h x k = absurd (let k = h.0 in omega arith)
 private_by T (Some (other ps)) h x k = absurd (true≢false (sym h.0))
@@ -74,22 +76,25 @@ private_by T (Some (other ps)) h x k = absurd (true≢false (sym h.0))
 abbrev kept_of : ℕ × List (List ℕ) → ℕ × List (List ℕ)
 kept_of b = (b.0, kept b.1)
 
+abbrev KeepsWords : ℕ × List (List ℕ) → Type 0
+KeepsWords b = OtherMeans b.1 (kept b.1)
+
 no_others_private : (x : Option (ℕ × List (List ℕ))) → IfSome x (λ e. (singleton e ≡ 120) × IsPrivate e.1) → other_blocks (by_letter (option_to_list x)) ≡ []
 no_others_private None h = refl
 no_others_private (Some b) h = ap (λ c. cond (is_other_singleton c) ((singleton b, b.1) ∷ []) []) h.0
 
 others_by : (T : ℕ → Bool) (es : List (ℕ × Extension)) (x : Option (ℕ × List (List ℕ))) → AllByRecursion (λ e. IsExtension T (singleton e) e.1) es → IfSome x (λ e. (singleton e ≡ 120) × IsPrivate e.1) →
-    (filter_map other_part (by_singleton es) ≡ map kept_of (other_blocks (by_letter (map extension_block es ++ option_to_list x)))) × AllByRecursion (λ b. IsOther b.1) (other_blocks (by_letter (map extension_block es ++ option_to_list x)))
-others_by T [] x h k = (ap (map kept_of) (sym (no_others_private x k)), subst (AllByRecursion (λ (b : ℕ × List (List ℕ)). IsOther b.1)) (sym (no_others_private x k)) tt)
+    (filter_map other_part (by_singleton es) ≡ map kept_of (other_blocks (by_letter (map extension_block es ++ option_to_list x)))) × AllByRecursion KeepsWords (other_blocks (by_letter (map extension_block es ++ option_to_list x)))
+others_by T [] x h k = (ap (map kept_of) (sym (no_others_private x k)), subst (AllByRecursion KeepsWords) (sym (no_others_private x k)) tt)
 others_by T (e ∷ es) x h k = at_kind e.1 h.0 (others_by T es x h.1 k)
   where
     Goal : Extension → Type 0
-    Goal f = (filter_map other_part ((singleton e, f) ∷ by_singleton es) ≡ map kept_of (other_blocks ((singleton e, extension_pieces f) ∷ by_letter (map extension_block es ++ option_to_list x)))) × AllByRecursion (λ b. IsOther b.1) (other_blocks ((singleton e, extension_pieces f) ∷ by_letter (map extension_block es ++ option_to_list x)))
+    Goal f = (filter_map other_part ((singleton e, f) ∷ by_singleton es) ≡ map kept_of (other_blocks ((singleton e, extension_pieces f) ∷ by_letter (map extension_block es ++ option_to_list x)))) × AllByRecursion KeepsWords (other_blocks ((singleton e, extension_pieces f) ∷ by_letter (map extension_block es ++ option_to_list x)))
 
-    at_kind : (f : Extension) → IsExtension T (singleton e) f → (filter_map other_part (by_singleton es) ≡ map kept_of (other_blocks (by_letter (map extension_block es ++ option_to_list x)))) × AllByRecursion (λ b. IsOther b.1) (other_blocks (by_letter (map extension_block es ++ option_to_list x))) → Goal f
+    at_kind : (f : Extension) → IsExtension T (singleton e) f → (filter_map other_part (by_singleton es) ≡ map kept_of (other_blocks (by_letter (map extension_block es ++ option_to_list x)))) × AllByRecursion KeepsWords (other_blocks (by_letter (map extension_block es ++ option_to_list x))) → Goal f
     at_kind (unicode u) r rest = rw r.0 rest
     at_kind (transform m) r rest = rw r.0 rest
-    at_kind (other ps) r rest = rw r.0 (ap (λ l. (singleton e, kept ps) ∷ l) rest.0, (r.1, rest.1))
+    at_kind (other ps) r rest = rw r.0 (ap (λ l. (singleton e, kept ps) ∷ l) rest.0, ((r.1, refl), rest.1))
 
 letters_by : (T : ℕ → Bool) (es : List (ℕ × Extension)) (x : Option (ℕ × List (List ℕ))) → AllByRecursion (λ e. IsExtension T (singleton e) e.1) es → IfSome x (λ e. (singleton e ≡ 120) × IsPrivate e.1) → AllByRecursion (λ b. is_ascii_alphanumeric b.0 ≡ true) (map extension_block es ++ option_to_list x)
 letters_by T [] None h k = tt
@@ -114,24 +119,23 @@ different_by T [] None h d k = tt
 different_by T [] (Some b) h d k = (refl, tt)
 different_by T (e ∷ es) x h d k = (any_by T (singleton e) es x (rule_no_x T (singleton e) e.1 h.0) d.0 k, different_by T es x h.1 d.1 k)
 
-by_blocks_of : (T : ℕ → Bool) (t : List ℕ) (w : Written) → IsWritten T w → IdentifierMeans T (head (pieces t)) (meaning w).id → tail_blocks (pieces t) ≡ blocks_of w → MeansByBlocks T t (meaning w)
-by_blocks_of T t w h i e =
+blocks_give : (T : ℕ → Bool) (w : Written) → IsWritten T w → BlocksGive (grammar_rules T) (blocks_of w) (extensions_meaning w)
+blocks_give T w h =
     let o = others_by T w.extensions w.private h.extensions h.private in record {
-      id = i;
-      letters = subst (AllByRecursion (λ (b : ℕ × List (List ℕ)). is_ascii_alphanumeric b.0 ≡ true)) (sym e) (letters_by T w.extensions w.private h.extensions h.private);
-      different = subst (λ (bs : List (ℕ × List (List ℕ))). AllDifferent nat_cmp (map (λ b. singleton b) bs)) (sym e) (different_by T w.extensions w.private h.extensions h.different h.private);
-      unicode = subst (λ (o : Option (List (List ℕ))). MatchOption o ((meaning w).unicode ≡ record { attributes = []; keywords = [] }) (λ ps. UnicodeMeans ps (meaning w).unicode)) (sym (ap (λ bs. find nat_cmp 117 (by_letter bs)) e ∙ find_block 117 w.extensions w.private)) (unicode_by T (find nat_cmp 117 (by_singleton w.extensions)) (find_rule T 117 w.extensions h.extensions) _ (no_private 117 (λ e. absurd (omega arith)) w.private h.private));
-      transform = subst (λ (o : Option (List (List ℕ))). MatchOption o ((meaning w).transform ≡ record { id = None; fields = [] }) (λ ps. TransformMeans T ps (meaning w).transform)) (sym (ap (λ bs. find nat_cmp 116 (by_letter bs)) e ∙ find_block 116 w.extensions w.private)) (transform_by T (find nat_cmp 116 (by_singleton w.extensions)) (find_rule T 116 w.extensions h.extensions) _ (no_private 116 (λ e. absurd (omega arith)) w.private h.private));
-      private = subst (λ (o : Option (List (List ℕ))). MatchOption o ((meaning w).private ≡ []) (λ ps. IsPrivate ps × ((meaning w).private ≡ map lower ps))) (sym (ap (λ bs. find nat_cmp 120 (by_letter bs)) e ∙ find_block 120 w.extensions w.private)) (private_by T (find nat_cmp 120 (by_singleton w.extensions)) (find_rule T 120 w.extensions h.extensions) w.private h.private);
-      other_rules = subst (λ (bs : List (ℕ × List (List ℕ))). AllByRecursion (λ (b : ℕ × List (List ℕ)). IsOther b.1) (other_blocks (by_letter bs))) (sym e) o.1;
-      others = ap (map_of nat_cmp) (o.0 ∙ ap (λ bs. map kept_of (other_blocks (by_letter bs))) (sym e));
+      letters = letters_by T w.extensions w.private h.extensions h.private;
+      different = different_by T w.extensions w.private h.extensions h.different h.private;
+      unicode = subst (λ o. PartIs UnicodeMeans no_unicode o (extensions_meaning w).unicode) (sym (find_block 117 w.extensions w.private)) (unicode_by T (find nat_cmp 117 (by_singleton w.extensions)) (find_rule T 117 w.extensions h.extensions) _ (no_private 117 (λ e. absurd (omega arith)) w.private h.private));
+      transform = subst (λ o. PartIs (TransformMeans T) no_transform o (extensions_meaning w).transform) (sym (find_block 116 w.extensions w.private)) (transform_by T (find nat_cmp 116 (by_singleton w.extensions)) (find_rule T 116 w.extensions h.extensions) _ (no_private 116 (λ e. absurd (omega arith)) w.private h.private));
+      private = subst (λ o. PartIs PrivateMeans [] o (extensions_meaning w).private) (sym (find_block 120 w.extensions w.private)) (private_by T (find nat_cmp 120 (by_singleton w.extensions)) (find_rule T 120 w.extensions h.extensions) w.private h.private);
+      each_other = o.1;
+      others = ap (map_of nat_cmp) o.0;
     }
 
 pub means_by_blocks : (T : ℕ → Bool) → IsTable T → (t : List ℕ) (M : Locale) → Means T t M → MeansByBlocks T t M
-means_by_blocks T table t M m = subst (MeansByBlocks T t) (sym m.means)
-    (by_blocks_of T t m.written m.grammatical
-    (record { written = m.written.id; grammatical = m.grammatical.id; spelled = ap head m.spelled ∙ head-spelling m.written m.grammatical; means = refl })
-    (ap tail_blocks m.spelled ∙ blocks-spelling table m.written m.grammatical))
+means_by_blocks T table t M m = subst (MeansByBlocks T t) (sym m.means) (record {
+  id = record { written = m.written.id; grammatical = m.grammatical.id; spelled = ap head m.spelled ∙ head-spelling m.written m.grammatical; means = refl };
+  blocks = subst (λ bs. BlocksGive (grammar_rules T) bs (extensions_meaning m.written)) (sym (ap tail_blocks m.spelled ∙ blocks-spelling table m.written m.grammatical)) (blocks_give T m.written m.grammatical);
+})
 
 -- and back: each block follows its rule
 
@@ -159,17 +163,9 @@ each_block P (b ∷ bs) d f = (subst (λ (t : Bool). IfSome (cond t (Some b.1) (
 abbrev KnownAt : (ℕ → Bool) → ℕ → List (List ℕ) → Type 0
 KnownAt T q ps = (q ≡ 117 → RuleAt T q ps) × (q ≡ 116 → RuleAt T q ps) × (q ≡ 120 → RuleAt T q ps)
 
-unicode_rule : (T : ℕ → Bool) (o : Option (List (List ℕ))) (v : Unicode) (A : Type 0) → MatchOption o A (λ ps. UnicodeMeans ps v) → IfSome o (RuleAt T 117)
-unicode_rule T None v A h = tt
-unicode_rule T (Some ps) v A h = inr (unicode h.written, (refl, h.grammatical), h.spelled)
-
-transform_rule : (T : ℕ → Bool) (o : Option (List (List ℕ))) (v : Transform) (A : Type 0) → MatchOption o A (λ ps. TransformMeans T ps v) → IfSome o (RuleAt T 116)
-transform_rule T None v A h = tt
-transform_rule T (Some ps) v A h = inr (transform h.written, (refl, h.grammatical), h.spelled)
-
-private_rule : (T : ℕ → Bool) (o : Option (List (List ℕ))) (l : List (List ℕ)) (A : Type 0) → MatchOption o A (λ ps. IsPrivate ps × (l ≡ map lower ps)) → IfSome o (RuleAt T 120)
-private_rule T None l A h = tt
-private_rule T (Some ps) l A h = inl (refl, h.0)
+part_rule : {X : Type 0} (T : ℕ → Bool) (q : ℕ) (R : List (List ℕ) → X → Type 0) → ((ps : List (List ℕ)) (v : X) → R ps v → RuleAt T q ps) → (empty : X) (o : Option (List (List ℕ))) (v : X) → PartIs R empty o v → IfSome o (RuleAt T q)
+part_rule T q R f empty None v h = tt
+part_rule T q R f empty (Some ps) v h = f ps v h
 
 known : (T : ℕ → Bool) (q : ℕ) (f : ℕ → Option (List (List ℕ))) → IfSome (f 117) (RuleAt T 117) → IfSome (f 116) (RuleAt T 116) → IfSome (f 120) (RuleAt T 120) → IfSome (f q) (KnownAt T q)
 known T q f u t x = both (f q) (at q 117 u) (at q 116 t) (at q 120 x)
@@ -181,10 +177,10 @@ known T q f u t x = both (f q) (at q 117 u) (at q 116 t) (at q 120 x)
     both None a b c = tt
     both (Some ps) a b c = (a, b, c)
 
-others_each : (bs : List (ℕ × List (List ℕ))) → AllByRecursion (λ b. IsOther b.1) (other_blocks (by_letter bs)) → AllByRecursion (λ b. is_other_singleton (singleton b) ≡ true → IsOther b.1) bs
+others_each : (bs : List (ℕ × List (List ℕ))) → AllByRecursion KeepsWords (other_blocks (by_letter bs)) → AllByRecursion (λ b. is_other_singleton (singleton b) ≡ true → IsOther b.1) bs
 others_each [] h = tt
-others_each (b ∷ bs) h = (elim (is_other_singleton (singleton b)) as (λ t. is_other_singleton (singleton b) ≡ t → AllByRecursion (λ b. IsOther b.1) (cond t ((singleton b, b.1) ∷ other_blocks (by_letter bs)) (other_blocks (by_letter bs))) → AllByRecursion (λ b. is_other_singleton (singleton b) ≡ true → IsOther b.1) (b ∷ bs)) [
-  | true ↦ λ t h. ((λ _. h.0), others_each bs h.1)
+others_each (b ∷ bs) h = (elim (is_other_singleton (singleton b)) as (λ t. is_other_singleton (singleton b) ≡ t → AllByRecursion KeepsWords (cond t ((singleton b, b.1) ∷ other_blocks (by_letter bs)) (other_blocks (by_letter bs))) → AllByRecursion (λ b. is_other_singleton (singleton b) ≡ true → IsOther b.1) (b ∷ bs)) [
+  | true ↦ λ t h. ((λ _. h.0.0), others_each bs h.1)
   | false ↦ λ t h. ((λ e. absurd (true≢false (sym e ∙ t))), others_each bs h)
 ]) refl h
 
@@ -221,32 +217,38 @@ none_seen : (bs : List (ℕ × List (List ℕ))) → AllByRecursion (λ b. list_
 none_seen [] = tt
 none_seen (b ∷ bs) = (refl, none_seen bs)
 
-blocks_good : (T : ℕ → Bool) (t : List ℕ) (M : Locale) → MeansByBlocks T t M → AreGood T [] (tail_blocks (pieces t))
-blocks_good T t M m = good_each T [] (tail_blocks (pieces t)) m.letters m.different (none_seen (tail_blocks (pieces t)))
-    (each_block (KnownAt T) (tail_blocks (pieces t)) m.different (λ q. known T q (λ q. find nat_cmp q (by_letter (tail_blocks (pieces t)))) (unicode_rule T _ M.unicode _ m.unicode) (transform_rule T _ M.transform _ m.transform) (private_rule T _ M.private _ m.private)))
-    (others_each (tail_blocks (pieces t)) m.other_rules)
+blocks_good : (T : ℕ → Bool) (bs : List (ℕ × List (List ℕ))) (e : Extensions) → BlocksGive (grammar_rules T) bs e → AreGood T [] bs
+blocks_good T bs e m = good_each T [] bs m.letters m.different (none_seen bs)
+    (each_block (KnownAt T) bs m.different (λ q. known T q (λ q. find nat_cmp q (by_letter bs))
+    (part_rule T 117 UnicodeMeans (λ ps v h. inr (unicode h.written, (refl, h.grammatical), h.spelled)) no_unicode _ e.unicode m.unicode)
+    (part_rule T 116 (TransformMeans T) (λ ps v h. inr (transform h.written, (refl, h.grammatical), h.spelled)) no_transform _ e.transform m.transform)
+    (part_rule T 120 PrivateMeans (λ ps v h. inl (refl, h.0)) [] _ e.private m.private)))
+    (others_each bs m.each_other)
 
 -- one value
 
-one_unicode : (o : Option (List (List ℕ))) (u v e : Unicode) → MatchOption o (u ≡ e) (λ ps. UnicodeMeans ps u) → MatchOption o (v ≡ e) (λ ps. UnicodeMeans ps v) → u ≡ v
-one_unicode None u v e a b = a ∙ sym b
-one_unicode (Some ps) u v e a b = a.means ∙ ap normal_unicode (sym (unicode_of-pieces a.written a.grammatical) ∙ ap unicode_of (sym a.spelled ∙ b.spelled) ∙ unicode_of-pieces b.written b.grammatical) ∙ sym b.means
+one_part : {X : Type 0} (R : List (List ℕ) → X → Type 0) → ((ps : List (List ℕ)) (u v : X) → R ps u → R ps v → u ≡ v) → (empty : X) (o : Option (List (List ℕ))) (u v : X) → PartIs R empty o u → PartIs R empty o v → u ≡ v
+one_part R f empty None u v a b = a ∙ sym b
+one_part R f empty (Some ps) u v a b = f ps u v a b
 
-one_transform : (T : ℕ → Bool) (o : Option (List (List ℕ))) (m n e : Transform) → MatchOption o (m ≡ e) (λ ps. TransformMeans T ps m) → MatchOption o (n ≡ e) (λ ps. TransformMeans T ps n) → m ≡ n
-one_transform T None m n e a b = a ∙ sym b
-one_transform T (Some ps) m n e a b = a.means ∙ ap normal_transform (sym (transform_of-pieces a.written a.grammatical) ∙ ap transform_of (sym a.spelled ∙ b.spelled) ∙ transform_of-pieces b.written b.grammatical) ∙ sym b.means
+one_unicode : (ps : List (List ℕ)) (u v : Unicode) → UnicodeMeans ps u → UnicodeMeans ps v → u ≡ v
+one_unicode ps u v a b = a.means ∙ ap normal_unicode (sym (unicode_of-pieces a.written a.grammatical) ∙ ap unicode_of (sym a.spelled ∙ b.spelled) ∙ unicode_of-pieces b.written b.grammatical) ∙ sym b.means
 
-one_private : (o : Option (List (List ℕ))) (k l : List (List ℕ)) → MatchOption o (k ≡ []) (λ ps. IsPrivate ps × (k ≡ map lower ps)) → MatchOption o (l ≡ []) (λ ps. IsPrivate ps × (l ≡ map lower ps)) → k ≡ l
-one_private None k l a b = a ∙ sym b
-one_private (Some ps) k l a b = a.1 ∙ sym b.1
+one_transform : (T : ℕ → Bool) (ps : List (List ℕ)) (m n : Transform) → TransformMeans T ps m → TransformMeans T ps n → m ≡ n
+one_transform T ps m n a b = a.means ∙ ap normal_transform (sym (transform_of-pieces a.written a.grammatical) ∙ ap transform_of (sym a.spelled ∙ b.spelled) ∙ transform_of-pieces b.written b.grammatical) ∙ sym b.means
+
+one_extensions : (T : ℕ → Bool) (bs : List (ℕ × List (List ℕ))) (d e : Extensions) → BlocksGive (grammar_rules T) bs d → BlocksGive (grammar_rules T) bs e → d ≡ e
+one_extensions T bs d e a b = λ i. record {
+  unicode = one_part UnicodeMeans one_unicode no_unicode _ d.unicode e.unicode a.unicode b.unicode i;
+  transform = one_part (TransformMeans T) (one_transform T) no_transform _ d.transform e.transform a.transform b.transform i;
+  private = one_part PrivateMeans (λ ps k l x y. x.1 ∙ sym y.1) [] _ d.private e.private a.private b.private i;
+  others = (a.others ∙ sym b.others) i;
+}
 
 one_by_blocks : (T : ℕ → Bool) (t : List ℕ) (L M : Locale) → MeansByBlocks T t L → MeansByBlocks T t M → L ≡ M
 one_by_blocks T t L M a b = λ i. record {
   id = one_meaning (head (pieces t)) L.id M.id a.id b.id i;
-  unicode = one_unicode _ L.unicode M.unicode _ a.unicode b.unicode i;
-  transform = one_transform T _ L.transform M.transform _ a.transform b.transform i;
-  private = one_private _ L.private M.private a.private b.private i;
-  others = (a.others ∙ sym b.others) i;
+  extensions = one_extensions T (tail_blocks (pieces t)) L.extensions M.extensions a.blocks b.blocks i;
 }
 
 pub blocks_mean : (T : ℕ → Bool) → IsTable T → (t : List ℕ) (M : Locale) → MeansByBlocks T t M → Means T t M
@@ -256,5 +258,5 @@ blocks_mean T table t M m = at_pieces (pieces t) refl
     at_pieces [] e = absurd (pieces_nonempty t e)
     at_pieces (p ∷ ps) e =
         let spells : SpellsIdentifier T (head (pieces t)) = (m.id.written, m.id.grammatical, m.id.spelled) in
-        let r = good_means T t p ps e (subst (λ l. SpellsIdentifier T (head l)) e spells) (subst (λ l. AreGood T [] (tail_blocks l)) e (blocks_good T t M m)) in
+        let r = good_means T t p ps e (subst (λ l. SpellsIdentifier T (head l)) e spells) (subst (λ l. AreGood T [] (tail_blocks l)) e (blocks_good T (tail_blocks (pieces t)) M.extensions m.blocks)) in
         subst (Means T t) (one_by_blocks T t r.0 M (means_by_blocks T table t r.0 r.1) m) r.1

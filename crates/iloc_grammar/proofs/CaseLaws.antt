@@ -21,6 +21,7 @@ use Rattle.iloc_grammar.specs.Reading.{take_first, skip_first, rest_of, identifi
 use Rattle.iloc_grammar.proofs.Readings.{pieces-extension_of, written_of-spelling}
 use Rattle.iloc_grammar.specs.Steps.{TextStep, Chain}
 use Rattle.iloc_grammar.proofs.Readings.{one_meaning}
+use Rattle.iloc_grammar.proofs.StepLaws.{same_parts}
 use Rattle.iloc_grammar.proofs.StepSizes.{step_means, step_length}
 use Rattle.iloc_grammar.proofs.FaultLaws.{EndsAtX, ends_at_x, head-and-blocks}
 
@@ -345,13 +346,10 @@ private_part-low None = refl
 private_part-low (Some e) = lower_twice e.1
 
 meaning-low : (w : Written) → meaning (low_written w) ≡ meaning w
-meaning-low w = λ i. record {
-  id = normal-lower_identifier w.id i;
-  unicode = (ap unicode_part (find-low 117 w.extensions) ∙ unicode_part-low (find nat_cmp 117 (by_singleton w.extensions))) i;
-  transform = (ap transform_part (find-low 116 w.extensions) ∙ transform_part-low (find nat_cmp 116 (by_singleton w.extensions))) i;
-  private = private_part-low w.private i;
-  others = map_of nat_cmp (others-low w.extensions i);
-}
+meaning-low w = same_parts (low_written w) w (normal-lower_identifier w.id)
+    (ap unicode_part (find-low 117 w.extensions) ∙ unicode_part-low (find nat_cmp 117 (by_singleton w.extensions)))
+    (ap transform_part (find-low 116 w.extensions) ∙ transform_part-low (find nat_cmp 116 (by_singleton w.extensions)))
+    (private_part-low w.private) (ap (map_of nat_cmp) (others-low w.extensions))
 
 spelling-pieces : (u : List ℕ) (ps : List (List ℕ)) → pieces u ≡ ps → ps ≡ spelling (written_of ps)
 spelling-pieces u [] e = absurd (pieces_nonempty u e)

@@ -4,7 +4,7 @@ use Rattle.std.proofs.lemmas.List.{map-append}
 use Rattle.std.proofs.lemmas.List.Concat.{flat_map-append}
 use Rattle.iloc_grammar.specs.Pieces.{join, dashes}
 use Rattle.iloc_grammar.specs.Written.{Unicode, unicode, Transform, transform, Extension, other, identifier_pieces, unicode_pieces, transform_pieces, extension_block, block_pieces, spelling}
-use Rattle.iloc_grammar.specs.Meaning.{Locale, extensions_of}
+use Rattle.iloc_grammar.specs.Meaning.{Locale}
 use Rattle.iloc_grammar.specs.Values.{lower_identifier, spelled_fields, transform_form, unicode_form, others_form, private_form, before_t, after_t, printed, text, form_pieces, unicode_spelling, transform_spelling, other_spelling, private_spelling, extensions_spelling, identifier_text}
 
 -- joins
@@ -46,14 +46,14 @@ others_pieces (o ∷ os) = elim (nat_lt 0 (length o.1)) as (λ b. form_pieces (m
 ]
 
 -- a locale gives the pieces of its identifier, and of each other part
-pub printed_pieces : (M : Locale) → spelling (printed M) ≡ identifier_pieces M.id ++ extensions_spelling (extensions_of M)
+pub printed_pieces : (M : Locale) → spelling (printed M) ≡ identifier_pieces M.id ++ extensions_spelling M.extensions
 unfolding extensions_spelling transform_spelling unicode_spelling private_spelling
 printed_pieces M =
-    let o = others_form (before_t M.others) in
-    let t = transform_form M.transform in
-    let u = unicode_form M.unicode in
-    let r = others_form (after_t M.others) in
-    let x = private_form M.private in
+    let o = others_form (before_t M.extensions.others) in
+    let t = transform_form M.extensions.transform in
+    let u = unicode_form M.extensions.unicode in
+    let r = others_form (after_t M.extensions.others) in
+    let x = private_form M.extensions.private in
     let p = flat_map block_pieces (option_to_list x) in
     let extensions : form_pieces (o ++ (t ++ (u ++ r))) ≡ form_pieces o ++ (form_pieces t ++ (form_pieces u ++ form_pieces r)) =
     form_pieces-append o (t ++ (u ++ r)) ∙ ap (λ l. form_pieces o ++ l) (form_pieces-append t (u ++ r) ∙ ap (λ l. form_pieces t ++ l) (form_pieces-append u r)) in
@@ -62,11 +62,11 @@ printed_pieces M =
     ∙ ap (λ l. l ++ p) extensions
     ∙ append_assoc (form_pieces o) (form_pieces t ++ (form_pieces u ++ form_pieces r)) p
     ∙ ap (λ l. form_pieces o ++ l) (append_assoc (form_pieces t) (form_pieces u ++ form_pieces r) p ∙ ap (λ l. form_pieces t ++ l) (append_assoc (form_pieces u) (form_pieces r) p))
-    ∙ (λ k. others_pieces (before_t M.others) k ++ (form_pieces t ++ (form_pieces u ++ (others_pieces (after_t M.others) k ++ p)))))
+    ∙ (λ k. others_pieces (before_t M.extensions.others) k ++ (form_pieces t ++ (form_pieces u ++ (others_pieces (after_t M.extensions.others) k ++ p)))))
 
-pub text_of_parts : (M : Locale) → text M ≡ identifier_text M.id ++ dashes (extensions_spelling (extensions_of M))
+pub text_of_parts : (M : Locale) → text M ≡ identifier_text M.id ++ dashes (extensions_spelling M.extensions)
 unfolding identifier_text
-text_of_parts M = ap join (printed_pieces M) ∙ join-append M.id.language _ (extensions_spelling (extensions_of M))
+text_of_parts M = ap join (printed_pieces M) ∙ join-append M.id.language _ (extensions_spelling M.extensions)
 
 -- each part, where it is empty and where it isn't
 

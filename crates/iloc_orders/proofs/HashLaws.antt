@@ -7,7 +7,7 @@ use Rattle.std.specs.List.{flat_map}
 use Rattle.std.specs.Hash.{HashWrites, u8, slice, option, le_bytes}
 use Rattle.std.specs.declared.cmp.Ordering.{Ordering}
 use Rattle.iloc_grammar.specs.Written.{Identifier, Fields, Unicode, Transform}
-use Rattle.iloc_grammar.specs.Meaning.{Extensions, extensions_of}
+use Rattle.iloc_grammar.specs.Meaning.{Extensions}
 use Rattle.iloc_orders.specs.Orders.{IsExactOrder}
 use Rattle.iloc_orders.specs.Hashes.{HashesByOrder, word_fed, words_fed, identifier_fed, fields_fed, unicode_fed, transform_fed, other_fed, extensions_fed, locale_fed}
 
@@ -149,8 +149,8 @@ extensions_tell = through {Y = ((Unicode × Transform) × List (List ℕ)) × Li
     (both_tell (both_tell (both_tell unicode_tells transform_tells) words_tell) (list_tells other_tells))
 
 pub locale_tells : Tells locale_fed
-locale_tells = through {Y = Identifier × Extensions} (λ M. (M.id, extensions_of M))
-    (λ p. record { id = p.0; unicode = p.1.unicode; transform = p.1.transform; private = p.1.private; others = p.1.others })
+locale_tells = through {Y = Identifier × Extensions} (λ M. (M.id, M.extensions))
+    (λ p. record { id = p.0; extensions = p.1 })
     (λ M. refl)
     (both_tell identifier_tells extensions_tell)
 

@@ -9,8 +9,8 @@ use Rattle.std.specs.Cmp.Lexicographic.{nat_list_cmp_total, lists_total, options
 use Rattle.std.specs.FinMap.{IsAntisymmetric, nat_cmp-IsAntisymmetric, slice_cmp-IsAntisymmetric}
 use Rattle.iloc_grammar.specs.Words.{word_cmp}
 use Rattle.iloc_grammar.specs.Written.{Identifier, Unicode, Transform}
-use Rattle.iloc_grammar.specs.Meaning.{Locale}
-use Rattle.iloc_orders.specs.Orders.{IsExactOrder, short_list_cmp, pair_cmp, words_cmp, identifier_cmp, keywords_cmp, fields_cmp, unicode_cmp, transform_cmp, other_cmp, Extensions, extensions_of, extensions_cmp, locale_cmp, ExtensionKind, OfTransform, OfUnicode, OfPrivate, OfOther, place_of_kind, kind_cmp}
+use Rattle.iloc_grammar.specs.Meaning.{Locale, Extensions}
+use Rattle.iloc_orders.specs.Orders.{IsExactOrder, short_list_cmp, pair_cmp, words_cmp, identifier_cmp, keywords_cmp, fields_cmp, unicode_cmp, transform_cmp, other_cmp, extensions_cmp, locale_cmp, ExtensionKind, OfTransform, OfUnicode, OfPrivate, OfOther, place_of_kind, kind_cmp}
 
 -- parts of a tie
 
@@ -107,19 +107,12 @@ extensions_same e f h =
     }
 
 locale_total : IsTotalOrder locale_cmp
-locale_total = then_total (on_total (λ (M : Locale). M.id) identifier_total) (on_total extensions_of extensions_total)
+locale_total = then_total (on_total (λ (M : Locale). M.id) identifier_total) (on_total (λ (M : Locale). M.extensions) extensions_total)
 
 locale_same : IsAntisymmetric locale_cmp
 locale_same L M h =
     let parts = tie_parts _ _ h in
-    let e = extensions_same (extensions_of L) (extensions_of M) parts.1 in
-    λ k. record {
-      id = identifier_same L.id M.id parts.0 k;
-      unicode = (e k).unicode;
-      transform = (e k).transform;
-      private = (e k).private;
-      others = (e k).others;
-    }
+    λ k. record { id = identifier_same L.id M.id parts.0 k; extensions = extensions_same L.extensions M.extensions parts.1 k }
 
 pub words_exact : IsExactOrder words_cmp
 words_exact = exactly words_total words_same

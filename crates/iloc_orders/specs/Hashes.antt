@@ -8,7 +8,7 @@ use Rattle.std.specs.declared.cmp.Ordering.{Ordering}
 use Rattle.std.specs.declared.cmp.Ordering.TheVariants.{Equal}
 use Rattle.iloc_grammar.specs.Shapes.{Text, Block}
 use Rattle.iloc_grammar.specs.Written.{Identifier, Fields, Unicode, Transform}
-use Rattle.iloc_grammar.specs.Meaning.{Locale, Extensions, extensions_of}
+use Rattle.iloc_grammar.specs.Meaning.{Locale, Extensions}
 
 -- Values that tie in the order feed a hasher alike; and those that feed it alike tie, so nothing of
 -- a value is left out. The length of a list is fed in eight bytes: so the second is said of fewer
@@ -51,4 +51,4 @@ extensions_fed e = unicode_fed e.unicode ++ transform_fed e.transform ++ words_f
 
 -- identifier, extensions
 abbrev pub locale_fed : Locale → HashWrites
-locale_fed M = identifier_fed M.id ++ extensions_fed (extensions_of M)
+locale_fed M = identifier_fed M.id ++ extensions_fed M.extensions

@@ -6,7 +6,7 @@ use Rattle.std.specs.List.{AllByRecursion}
 use Rattle.std.specs.FinMap.{find, is_sorted}
 use Rattle.iloc_grammar.specs.Words.{Region, Variant, Subtag, UnicodeKey, word_cmp, is_same, is_word, lower, is_true}
 use Rattle.iloc_grammar.specs.Written.{Identifier}
-use Rattle.iloc_grammar.specs.Meaning.{Locale}
+use Rattle.iloc_grammar.specs.Meaning.{Locale, no_extensions}
 use Rattle.iloc_grammar.specs.Values.{IsNormal, IsValue, IsWellFormed, IsAscending}
 use Rattle.iloc_grammar.specs.Faults.{Fault}
 use Rattle.iloc_grammar.proofs.ValuesLaws.{all_weaker}
@@ -140,10 +140,12 @@ pub locale_is_value : {T : ℕ → Bool} (p : Preferences) → IsPreferences T p
 locale_is_value {T = T} p h = (
   record {
     id = record { language = h.language; script = h.script; region = region_is p.region h.region; variants = variant_is p.variant h.variant; ascending = variant_ascends p.variant };
-    unicode = record { attributes = tt; ascending = refl; keywords = all_weaker IsEntry (λ f. IsNormal UnicodeKey f.0 × AllByRecursion (IsNormal Subtag) f.1) (λ f e. e.0) _ entries; keys_ascend = entries_ascend p.region_override p.region };
-    transform = record { id = tt; fields = tt; keys_ascend = refl };
-    private = tt;
-    others = tt;
+    extensions = record {
+      unicode = record { attributes = tt; ascending = refl; keywords = all_weaker IsEntry (λ f. IsNormal UnicodeKey f.0 × AllByRecursion (IsNormal Subtag) f.1) (λ f e. e.0) _ entries; keys_ascend = entries_ascend p.region_override p.region };
+      transform = record { id = tt; fields = tt; keys_ascend = refl };
+      private = tt;
+      others = tt;
+    };
   },
   record { ascending = refl; singletons = tt; nonempty = tt; values = all_weaker IsEntry (λ f. AllByRecursion (λ w. (is_true w ≡ false) × (length w ≢ 2)) f.1) (λ f e. e.1) _ entries },
 )
@@ -179,9 +181,9 @@ pub preferences_are : {T : ℕ → Bool} (M : Locale) → IsValue T M → IsPref
 preferences_are {T = T} M h = record {
   language = h.id.language;
   script = h.id.script;
-  region = region_is M.id.region h.id.region (read_keyword subdivision_reads sd M) (read_subdivision (find word_cmp sd M.unicode.keywords));
+  region = region_is M.id.region h.id.region (read_keyword subdivision_reads sd M) (read_subdivision (find word_cmp sd M.extensions.unicode.keywords));
   variant = first_is M.id.variants h.id.variants;
-  region_override = read_subdivision (find word_cmp rg M.unicode.keywords);
+  region_override = read_subdivision (find word_cmp rg M.extensions.unicode.keywords);
 }
   where
     first_is : (ws : List (List ℕ)) → AllByRecursion (IsNormal Variant) ws → IfSome (first_item ws) (IsNormal Variant)
@@ -194,7 +196,7 @@ preferences_are {T = T} M h = record {
     region_is (Some r) h (Some s) k = elim (is_same r s.region) as (λ b. IsSubdivision (cond b (record { region = r; suffix = s.suffix }) (whole_region r))) [ true ↦ record { region = h; suffix = k.suffix } | false ↦ whole_region_is r h ]
 
 -- an identifier's preferences are those of the locale that has nothing else
-pub of_identifier : (i : Identifier) → preferences (record { id = i; unicode = record { attributes = []; keywords = [] }; transform = record { id = None; fields = [] }; private = []; others = [] }) ≡ identifier_preferences i
+pub of_identifier : (i : Identifier) → preferences (record { id = i; extensions = no_extensions }) ≡ identifier_preferences i
 of_identifier i = λ k. record { language = i.language; script = i.script; region = whole_or_none i.region k; variant = first_item i.variants; region_override = None }
   where
     whole_or_none : (o : Option (List ℕ)) → preferred_region o None ≡ option_map whole_region o

@@ -7,7 +7,7 @@ use Rattle.std.specs.FinMap.{find}
 use Rattle.iloc_grammar.specs.Shapes.{Text, Table}
 use Rattle.iloc_grammar.specs.Words.{Language, Script, Variant, word_cmp, is_same, is_true}
 use Rattle.iloc_grammar.specs.Written.{Identifier, Fields}
-use Rattle.iloc_grammar.specs.Meaning.{Locale}
+use Rattle.iloc_grammar.specs.Meaning.{Locale, just_unicode}
 use Rattle.iloc_grammar.specs.Values.{IsNormal}
 use Rattle.iloc_grammar.specs.Reading.{first_item}
 use Rattle.iloc_regions.specs.Subdivisions.{Subdivision, IsSubdivision, subdivision_text}
@@ -50,11 +50,11 @@ default_preferences =
 
 -- what a keyword reads as, where it is there and readable
 abbrev pub read_keyword : {X : Type 0} → (List Text → Option X) → Text → Locale → Option X
-read_keyword reads k M = option_and_then reads (find word_cmp k M.unicode.keywords)
+read_keyword reads k M = option_and_then reads (find word_cmp k M.extensions.unicode.keywords)
 
 -- the keyword is absent or readable
 abbrev pub is_readable : {X : Type 0} → (List Text → Option X) → Text → Locale → Bool
-is_readable reads k M = is_none (find word_cmp k M.unicode.keywords)
+is_readable reads k M = is_none (find word_cmp k M.extensions.unicode.keywords)
     || is_some (read_keyword reads k M)
 
 -- the identifier's region, with the suffix of the subdivision where that is in it
@@ -147,8 +147,6 @@ locale_of_preferences p = record {
     region = option_map (λ s. s.region) p.region;
     variants = option_to_list p.variant;
   };
-  unicode = record { attributes = []; keywords = rg_entry p.region_override ++ sd_entry p.region };
-  transform = record { id = None; fields = [] };
-  private = [];
-  others = [];
+  extensions = just_unicode
+      (record { attributes = []; keywords = rg_entry p.region_override ++ sd_entry p.region });
 }

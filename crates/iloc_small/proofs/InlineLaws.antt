@@ -33,13 +33,13 @@ small_is_inline {T = T} t r h =
       grammatical = h.grammatical;
       spelled = h.spelled;
       variants = subst (λ (M : Locale). length M.id.variants ≤ 4) m (at_most_one (small_identifier h.id).variant);
-      attributes = subst (λ (M : Locale). length M.unicode.attributes ≤ 4) m (omega arith);
-      keywords = subst (λ (M : Locale). length M.unicode.keywords ≤ 1) m (at_most_one_key keyword_of_small _);
+      attributes = subst (λ (M : Locale). length M.extensions.unicode.attributes ≤ 4) m (omega arith);
+      keywords = subst (λ (M : Locale). length M.extensions.unicode.keywords ≤ 1) m (at_most_one_key keyword_of_small _);
       values = few_values h.keyword h.one_value;
-      transform_variants = subst (λ (M : Locale). IfSome M.transform.id (λ i. length i.variants ≤ 4)) m tt;
-      no_fields = subst (λ (M : Locale). M.transform.fields ≡ []) m refl;
-      private = subst (λ (M : Locale). length M.private ≤ 4) m (omega arith);
-      no_others = subst (λ (M : Locale). M.others ≡ []) m refl;
+      transform_variants = subst (λ (M : Locale). IfSome M.extensions.transform.id (λ i. length i.variants ≤ 4)) m tt;
+      no_fields = subst (λ (M : Locale). M.extensions.transform.fields ≡ []) m refl;
+      private = subst (λ (M : Locale). length M.extensions.private ≤ 4) m (omega arith);
+      no_others = subst (λ (M : Locale). M.extensions.others ≡ []) m refl;
     }
   where
     few_values : (k : Option WrittenKeyword) → IfSome k (λ k. length (normal_values k.values) ≤ 1) → AllByRecursion (λ e. HasFewValues e.1) (keyword_extension k)
@@ -66,10 +66,10 @@ tests_values (unicode u) = tests_all (λ f. nat_le (length (normal_values f.1)) 
 tests_values (transform m) = record { holds = λ e. tt; passes = λ h. refl }
 tests_values (other ps) = record { holds = λ e. tt; passes = λ h. refl }
 
-tests_few : (w : Written) (M : Locale) → Tests (has_few_words w M) ((((length M.id.variants ≤ 4) × (length M.unicode.attributes ≤ 4)) × ((length M.unicode.keywords ≤ 1) × AllByRecursion (λ e. HasFewValues e.1) w.extensions)) × ((IfSome M.transform.id (λ i. length i.variants ≤ 4) × (M.transform.fields ≡ [])) × ((length M.private ≤ 4) × (M.others ≡ []))))
+tests_few : (w : Written) (M : Locale) → Tests (has_few_words w M) ((((length M.id.variants ≤ 4) × (length M.extensions.unicode.attributes ≤ 4)) × ((length M.extensions.unicode.keywords ≤ 1) × AllByRecursion (λ e. HasFewValues e.1) w.extensions)) × ((IfSome M.extensions.transform.id (λ i. length i.variants ≤ 4) × (M.extensions.transform.fields ≡ [])) × ((length M.extensions.private ≤ 4) × (M.extensions.others ≡ []))))
 tests_few w M = tests_and
     (tests_and (tests_and (tests_at_most _ 4) (tests_at_most _ 4)) (tests_and (tests_at_most _ 1) (tests_all (λ e. has_few_values e.1) (λ e. HasFewValues e.1) (λ e. tests_values e.1) w.extensions)))
-    (tests_and (tests_and (tests_if_some (λ i. nat_le (length i.variants) 4) (λ i. length i.variants ≤ 4) (λ i. tests_at_most _ 4) M.transform.id) (tests_empty M.transform.fields)) (tests_and (tests_at_most _ 4) (tests_empty M.others)))
+    (tests_and (tests_and (tests_if_some (λ i. nat_le (length i.variants) 4) (λ i. length i.variants ≤ 4) (λ i. tests_at_most _ 4) M.extensions.transform.id) (tests_empty M.extensions.transform.fields)) (tests_and (tests_at_most _ 4) (tests_empty M.extensions.others)))
 
 pub inline_means : {T : ℕ → Bool} (t : List ℕ) → IsInline T t → (M : Locale) × Means T t M
 inline_means t h = (meaning h.written, record { written = h.written; grammatical = h.grammatical; spelled = h.spelled; means = refl })

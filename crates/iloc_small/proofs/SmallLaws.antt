@@ -75,10 +75,12 @@ meaning_small i (Some k) h v o =
     let c = singleton {X = Extension} (k.byte, unicode u) in
     λ j. record {
       id = same_variants i v j;
-      unicode = (ap (λ (ws : List (List ℕ)). record { attributes = []; keywords = (lower k.key, ws) ∷ [] }) (short_list (normal_values k.values) o) ∙ sym (unicode_found u c h.extensions.0.0)) j;
-      transform = transform_part (sym (no_transform u c h.extensions.0.0) j);
-      private = [];
-      others = [];
+      extensions = record {
+        unicode = (ap (λ (ws : List (List ℕ)). record { attributes = []; keywords = (lower k.key, ws) ∷ [] }) (short_list (normal_values k.values) o) ∙ sym (unicode_found u c h.extensions.0.0)) j;
+        transform = transform_part (sym (no_transform u c h.extensions.0.0) j);
+        private = [];
+        others = [];
+      };
     }
 
 pub small_means : {T : ℕ → Bool} (t : List ℕ) (r : SmallLocale) → IsSmall T t r → Means T t (locale_of_small r)
@@ -89,7 +91,7 @@ small_means t r h = record { written = small_written h.id h.keyword; grammatical
 small_of_locale : Locale → SmallLocale
 small_of_locale M = record {
   id = record { language = M.id.language; script = M.id.script; region = M.id.region; variant = first_item M.id.variants };
-  keyword = option_map (λ f. (f.0, first_item f.1)) (first_item M.unicode.keywords);
+  keyword = option_map (λ f. (f.0, first_item f.1)) (first_item M.extensions.unicode.keywords);
 }
 
 keyword_back : (o : Option (List ℕ × Option (List ℕ))) → option_map (λ (f : List ℕ × List (List ℕ)). (f.0, first_item f.1)) (first_item (option_to_list (option_map keyword_of_small o))) ≡ o

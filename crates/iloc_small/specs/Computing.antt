@@ -81,11 +81,12 @@ has_few_values _ = true
 
 -- few words in the lists of what the text means, and at each keyword as it is written
 abbrev pub has_few_words : Written → Locale → Bool
-has_few_words w M = (((nat_le (length M.id.variants) 4 && nat_le (length M.unicode.attributes) 4)
-    && (nat_le (length M.unicode.keywords) 1 && list_all (λ e. has_few_values e.1) w.extensions))
-    && ((holds_if_some (λ i. nat_le (length i.variants) 4) M.transform.id
-    && nat_le (length M.transform.fields) 0)
-    && (nat_le (length M.private) 4 && nat_le (length M.others) 0)))
+has_few_words w M = let e = M.extensions in
+    ((nat_le (length M.id.variants) 4 && nat_le (length e.unicode.attributes) 4)
+    && (nat_le (length e.unicode.keywords) 1 && list_all (λ e. has_few_values e.1) w.extensions))
+    && ((holds_if_some (λ i. nat_le (length i.variants) 4) e.transform.id
+    && nat_le (length e.transform.fields) 0)
+    && (nat_le (length e.private) 4 && nat_le (length e.others) 0))
 
 abbrev pub few_where_read : Written → Result Locale Fault → Bool
 few_where_read w (Ok M) = has_few_words w M

@@ -8,7 +8,7 @@ use Rattle.iloc_grammar.specs.Shapes.{Text, Table, Field, Block}
 use Rattle.iloc_grammar.specs.Pieces.{pieces}
 use Rattle.iloc_grammar.specs.Words.{Language, Script, Region, Variant, UnicodeKey, Attribute, is_word, IsWord, is_true, lower, title, upper}
 use Rattle.iloc_grammar.specs.Written.{Identifier, Extension, unicode, Written, identifier_pieces, IsIdentifier, IsWritten, spelling, singleton}
-use Rattle.iloc_grammar.specs.Meaning.{Locale, normal_values}
+use Rattle.iloc_grammar.specs.Meaning.{Locale, just_unicode, normal_values}
 use Rattle.iloc_grammar.specs.Values.{IsNormal}
 use Rattle.iloc_grammar.specs.Reading.{first_item}
 use Rattle.iloc_grammar.specs.Faults.{Fault, InvalidLanguage, InvalidSubtag, InvalidExtension}
@@ -43,11 +43,8 @@ keyword_of_small k = (k.0, option_to_list k.1)
 abbrev pub locale_of_small : SmallLocale → Locale
 locale_of_small r = record {
   id = identifier_of_small r.id;
-  unicode =
-      record { attributes = []; keywords = option_to_list (option_map keyword_of_small r.keyword) };
-  transform = record { id = None; fields = [] };
-  private = [];
-  others = [];
+  extensions = just_unicode
+      (record { attributes = []; keywords = option_to_list (option_map keyword_of_small r.keyword) });
 }
 
 -- the normal words of an identifier with at most one variant
