@@ -10,11 +10,11 @@ use Rattle.std.proofs.lemmas.Bool.Decides.{nat_tests}
 use Rattle.iloc_grammar.specs.Words.{languages, is_word, PrivateSubtag}
 use Rattle.iloc_grammar.specs.Written as written
 use Rattle.iloc_grammar.specs.Written.{is_other_singleton, kept}
-use Rattle.iloc_grammar.specs.Meaning.{Extensions, normal_values}
+use Rattle.iloc_grammar.specs.Meaning.{Extensions, no_extensions, normal_values}
+use Rattle.iloc_grammar.specs.ByBlocks.{OtherMeans, BlocksMean}
 use Rattle.iloc_grammar.specs.Blocks.{is_one_byte, front, blocks}
 use Rattle.iloc_grammar.specs.Faults as faults
 use Rattle.iloc_grammar.specs.Faults.{FirstBadBlock}
-use Rattle.iloc_extensions.specs.ExtensionsValue.{none}
 use Rattle.iloc_blocks.specs.Place.{byte_at}
 use Rattle.iloc_blocks.specs.Whole.{BlocksReadAs}
 use Rattle.iloc_blocks.proofs.DoneLaws.{turned}
@@ -30,7 +30,7 @@ use Rattle.iloc_unicode.specs.UnicodeValue as unicode
 use Rattle.iloc_transform.specs.declared.transform.Transform.{Transform}
 use Rattle.iloc_transform.specs.TransformReading as transform
 use Rattle.iloc_other.specs.Reading.{PrivateReads}
-use Rattle.iloc_blocks.specs.Blocks.{BlocksMean, BlocksDone, BlockAt, BlockReads, is_read}
+use Rattle.iloc_blocks.specs.Blocks.{BlocksDone, BlockAt, BlockReads, is_read}
 use Rattle.iloc_blocks.proofs.PartAnswers.{UnicodeBlock, TransformBlock, OtherBlock}
 use Rattle.iloc_blocks.proofs.RoundLaws.{no_letter, met_before, unicode_done, unicode_bad, unicode_long, transform_done, transform_repeats, transform_bad, transform_long, other_done, other_bad, other_long, private_done, private_bad, private_long}
 
@@ -102,7 +102,7 @@ module _ {start : List (List ℕ)} {c : ℕ} {ps : List (List ℕ)} {M : Extensi
   pub other_goes : is_other_singleton (to_ascii_lowercase c) ≡ true → (rest : List (List ℕ)) (o : ℕ × List (List ℕ)) (os : List (ℕ × List (List ℕ))) → OtherBlock (to_ascii_lowercase c) ps rest (Ok o) → os ≡ put nat_cmp o.0 o.1 M.others → BlocksDone languages start rest (record M { others = os })
   other_goes k rest o os h e =
       let same : os ≡ put nat_cmp (to_ascii_lowercase c) (kept (front ps)) M.others = e ∙ ap (λ (x : ℕ × List (List ℕ)). put nat_cmp x.0 x.1 M.others) h.0 in
-      let means = subst (λ (w : List (List ℕ)). written.IsOther (front ps) × (w ≡ kept (front ps))) (ap (λ (x : ℕ × List (List ℕ)). x.1) h.0) h.1 in
+      let means = subst (λ (w : List (List ℕ)). OtherMeans (front ps) w) (ap (λ (x : ℕ × List (List ℕ)). x.1) h.0) h.1 in
       subst (λ (r : List (List ℕ)). BlocksDone languages start r (record M { others = os })) (sym h.2) (subst (λ (l : List (ℕ × List (List ℕ))). BlocksDone languages start (from_block ps) (record M { others = l })) (sym same) (other_done a k means))
 
   pub other_fails : is_other_singleton (to_ascii_lowercase c) ≡ true → (rest more : List (List ℕ)) (N : Extensions) (f : ParseError) → OtherBlock (to_ascii_lowercase c) ps rest (Err f) → BlockReads start more N (Err f)
@@ -197,17 +197,17 @@ no_private M c e h = no_items M.private (is_true _ (read_at M c 120 e h))
 
 -- the whole loop
 
-pub nothing_done : (ps : List (List ℕ)) (M : Extensions) → starts_block ps ≡ true → M ≡ none → BlocksDone languages ps ps M
+pub nothing_done : (ps : List (List ℕ)) (M : Extensions) → starts_block ps ≡ true → M ≡ no_extensions → BlocksDone languages ps ps M
 nothing_done ps M s e = record {
   done = [];
   together = refl;
   begins = s;
   rules = tt;
-  means = subst (BlocksMean languages []) (sym e) (record { letters = tt; different = tt; unicode = refl; transform = refl; private = refl; other_rules = tt; others = refl });
+  means = subst (BlocksMean languages []) (sym e) (record { letters = tt; different = tt; unicode = refl; transform = refl; private = refl; each_other = tt; others = refl });
 }
 
 pub all_done : (start : List (List ℕ)) (M : Extensions) → BlocksDone languages start [] M → BlocksMean languages (blocks start) M
-all_done start M d = subst (λ (bs : List (ℕ × List (List ℕ))). BlocksMean languages bs M) (sym d.together) (turned languages d.done M d.means)
+all_done start M d = subst (λ (bs : List (ℕ × List (List ℕ))). BlocksMean languages bs M) (sym d.together) (turned d.done M d.means)
 
 pub whole_fails : (start rest more : List (List ℕ)) (M : Extensions) (f : ParseError) → BlockReads start rest M (Err f) → BlocksReadAs start M (Err f)
 whole_fails start rest more M InvalidLanguage h = h

@@ -13,11 +13,12 @@ use Rattle.std.proofs.lemmas.Bool.{cases_eq}
 use Rattle.std.proofs.lemmas.Bool.Decides.{nat_tests}
 use Rattle.iloc_grammar.specs.Words.{lower, word_cmp}
 use Rattle.iloc_grammar.specs.Written.{Identifier, Unicode, Transform, Fields, IsPrivate, kept, singleton, is_other_singleton}
-use Rattle.iloc_grammar.specs.Meaning.{Extensions, map_of, set_of, normal_fields, normal_identifier}
-use Rattle.iloc_grammar.specs.ByBlocks.{UnicodeMeans, TransformMeans, by_letter, other_blocks}
+use Rattle.iloc_grammar.specs.Meaning.{Extensions, map_of, set_of, normal_fields, normal_identifier, no_unicode, no_transform}
+use Rattle.iloc_grammar.specs.ByBlocks.{UnicodeMeans, TransformMeans, PrivateMeans, by_letter, other_blocks, PartIs, BlocksMean}
+use Rattle.iloc_grammar.proofs.BlockLaws.{IsKind, of_u, of_t, of_x, another, kind_of}
 use Rattle.iloc_grammar.proofs.MapLaws.{find-map_of, tied}
 use Rattle.iloc_fronts.proofs.BlockRules.{no_u, no_t, no_x}
-use Rattle.iloc_blocks.specs.Blocks.{BlocksMean, is_read}
+use Rattle.iloc_blocks.specs.Blocks.{is_read}
 
 -- what is put into a map is there
 
@@ -69,17 +70,9 @@ known T q ds = is_some-find nat_cmp q (by_letter ds) ∙ ap (list_any (eq_by_cmp
     keys [] = refl
     keys (b ∷ bs) = ap (λ l. singleton b ∷ l) (keys bs)
 
-unicode_known : (o : Option (List (List ℕ))) (v : Unicode) → MatchOption o (v ≡ record { attributes = []; keywords = [] }) (λ ps. UnicodeMeans ps v) → not ((length v.attributes == 0) && (length v.keywords == 0)) ≡ is_some o
-unicode_known None v h = ap (λ (u : Unicode). not ((length u.attributes == 0) && (length u.keywords == 0))) h
-unicode_known (Some ps) v h = ap not (some_unicode ps v h)
-
-transform_known : (T : ℕ → Bool) (o : Option (List (List ℕ))) (v : Transform) → MatchOption o (v ≡ record { id = None; fields = [] }) (λ ps. TransformMeans T ps v) → not (not (is_some v.id) && (length v.fields == 0)) ≡ is_some o
-transform_known T None v h = ap (λ (u : Transform). not (not (is_some u.id) && (length u.fields == 0))) h
-transform_known T (Some ps) v h = ap not (some_transform T ps v h)
-
-private_known : (o : Option (List (List ℕ))) (v : List (List ℕ)) → MatchOption o (v ≡ []) (λ ps. IsPrivate ps × (v ≡ map lower ps)) → not (length v == 0) ≡ is_some o
-private_known None v h = ap (λ (u : List (List ℕ)). not (length u == 0)) h
-private_known (Some ps) v h = ap not (some_private ps v h.0 h.1)
+part_known : {X : Type 0} (Rule : List (List ℕ) → X → Type 0) (is_empty : X → Bool) → ((ps : List (List ℕ)) (v : X) → Rule ps v → is_empty v ≡ false) → (empty : X) → is_empty empty ≡ true → (o : Option (List (List ℕ))) (v : X) → PartIs Rule empty o v → not (is_empty v) ≡ is_some o
+part_known Rule is_empty some empty none None v h = ap (λ u. not (is_empty u)) h ∙ ap not none
+part_known Rule is_empty some empty none (Some ps) v h = ap not (some ps v h)
 
 same_test : (a b : ℕ) → (a == b) ≡ eq_by_cmp nat_cmp b a
 same_test a b = grind (arith, nat_tests)
@@ -98,25 +91,6 @@ others_known q (b ∷ bs) h = at (eq_by_cmp nat_cmp q (singleton b)) (is_other_s
     at true false more e k = absurd (true≢false (sym h ∙ ap is_other_singleton (sym (tied q (singleton b) e)) ∙ k))
     at false true more e k = ap (λ t. is_some (cond t (Some (kept b.1)) (find nat_cmp q (map (λ b. (b.0, kept b.1)) (other_blocks (by_letter bs)))))) e ∙ more
     at false false more e k = more
-
--- a singleton in lower case: that of u, t or x, or of another part
-data IsKind (c : ℕ) : Type 0 where
-  u : c ≡ 117 → IsKind c
-  t : c ≡ 116 → IsKind c
-  x : c ≡ 120 → IsKind c
-  another : is_other_singleton c ≡ true → IsKind c
-
-kind_of : (c : ℕ) → is_ascii_alphanumeric c ≡ true → IsKind c
-kind_of c h = at (cases_eq c 117) (cases_eq c 116) (cases_eq c 120)
-  where
-    rest : (c : ℕ) → is_ascii_alphanumeric c ≡ true → (c ≡ 117 → ⊥) → (c ≡ 116 → ⊥) → (c ≡ 120 → ⊥) → is_other_singleton c ≡ true
-    rest c h a b d = grind (arith, nat_tests)
-
-    at : (c ≡ 117) ⊎ (c ≡ 117 → ⊥) → (c ≡ 116) ⊎ (c ≡ 116 → ⊥) → (c ≡ 120) ⊎ (c ≡ 120 → ⊥) → IsKind c
-    at (inl e) b d = u e
-    at (inr a) (inl e) d = t e
-    at (inr a) (inr b) (inl e) = x e
-    at (inr a) (inr b) (inr d) = another (rest c h a b d)
 
 is_read-other : (M : Extensions) (c : ℕ) → is_other_singleton c ≡ true → is_read M c ≡ list_any (λ o. o.0 == c) M.others
 is_read-other M c h = at (c == 117) (c == 116) (c == 120) (no c 117 h (λ e. no_u c e h)) (no c 116 h (λ e. no_t c e h)) (no c 120 h (λ e. no_x c e h))
@@ -139,7 +113,7 @@ pub read_is_known : (T : ℕ → Bool) (ds : List (ℕ × List (List ℕ))) (M :
 read_is_known T ds M c m h = at (kind_of c h) ∙ known T c ds
   where
     at : IsKind c → is_read M c ≡ is_some (find nat_cmp c (by_letter ds))
-    at (u e) = subst (λ (q : ℕ). is_read M q ≡ is_some (find nat_cmp q (by_letter ds))) (sym e) (unicode_known (find nat_cmp 117 (by_letter ds)) M.unicode m.unicode)
-    at (t e) = subst (λ (q : ℕ). is_read M q ≡ is_some (find nat_cmp q (by_letter ds))) (sym e) (transform_known T (find nat_cmp 116 (by_letter ds)) M.transform m.transform)
-    at (x e) = subst (λ (q : ℕ). is_read M q ≡ is_some (find nat_cmp q (by_letter ds))) (sym e) (private_known (find nat_cmp 120 (by_letter ds)) M.private m.private)
+    at (of_u e) = subst (λ (q : ℕ). is_read M q ≡ is_some (find nat_cmp q (by_letter ds))) (sym e) (part_known UnicodeMeans (λ v. (length v.attributes == 0) && (length v.keywords == 0)) some_unicode no_unicode refl (find nat_cmp 117 (by_letter ds)) M.unicode m.unicode)
+    at (of_t e) = subst (λ (q : ℕ). is_read M q ≡ is_some (find nat_cmp q (by_letter ds))) (sym e) (part_known (TransformMeans T) (λ v. not (is_some v.id) && (length v.fields == 0)) (some_transform T) no_transform refl (find nat_cmp 116 (by_letter ds)) M.transform m.transform)
+    at (of_x e) = subst (λ (q : ℕ). is_read M q ≡ is_some (find nat_cmp q (by_letter ds))) (sym e) (part_known PrivateMeans (λ v. length v == 0) (λ ps ws h. some_private ps ws h.0 h.1) [] refl (find nat_cmp 120 (by_letter ds)) M.private m.private)
     at (another o) = is_read-other M c o ∙ any_key c M.others ∙ ap (λ os. is_some (find nat_cmp c os)) m.others ∙ ap is_some (find-map_of nat_cmp nat_cmp_total c (map (λ b. (b.0, kept b.1)) (other_blocks (by_letter ds)))) ∙ others_known c ds o

@@ -1,20 +1,19 @@
 -- Blocks that were read, in whatever order: what they mean, and one block more.
-use Rattle.std.proofs.Common.{◌≡◌, ℕ, Bool, true, false, cond, List, [], ◌∷◌, ◌++◌, map, filter, refl, sym, ap, ◌∙◌, subst, append-nil, Option, None, MatchOption}
+use Rattle.std.proofs.Common.{◌≡◌, ℕ, Bool, true, false, cond, List, [], ◌∷◌, ◌++◌, map, filter, refl, sym, ap, ◌∙◌, subst, append-nil, Option}
 use Rattle.std.specs.List.{list_any}
 use Rattle.std.specs.Char.{is_ascii_alphanumeric}
 use Rattle.std.specs.Ordering.{nat_cmp, eq_by_cmp}
 use Rattle.std.specs.Cmp.{nat_cmp_total}
 use Rattle.std.specs.FinMap.{find, nat_cmp-IsAntisymmetric}
 use Rattle.std.proofs.lemmas.Bool.{or_parts, or_from}
-use Rattle.iloc_grammar.specs.Words.{lower}
-use Rattle.iloc_grammar.specs.Written.{IsOther, IsPrivate, kept, AllDifferent, singleton, is_other_singleton}
-use Rattle.iloc_grammar.specs.Meaning.{Extensions}
-use Rattle.iloc_grammar.specs.ByBlocks.{UnicodeMeans, TransformMeans, by_letter, other_blocks}
+use Rattle.iloc_grammar.specs.Written.{kept, AllDifferent, singleton, is_other_singleton}
+use Rattle.iloc_grammar.specs.Meaning.{Extensions, no_unicode, no_transform}
+use Rattle.iloc_grammar.specs.ByBlocks.{Rules, by_letter, other_blocks, PartIs, BlocksGive}
 use Rattle.iloc_grammar.specs.Steps.{Reordered, none, front_kept, first_two, in_turn}
 use Rattle.iloc_grammar.proofs.Orders.{all_reordered, map_reordered, different_reordered, find_reordered}
 use Rattle.iloc_grammar.proofs.MapLaws.{map_of_same}
 use Rattle.iloc_grammar.proofs.Sorting.{itself}
-use Rattle.iloc_blocks.specs.Blocks.{BlocksMean, onto}
+use Rattle.iloc_blocks.specs.Blocks.{onto}
 
 -- the last one first
 
@@ -71,9 +70,9 @@ still_different test (b ∷ bs) h =
       | false ↦ still_different test bs h.1
     ]
 
--- Blocks mean the same in another order.
-reordered : (T : ℕ → Bool) {bs cs : List (ℕ × List (List ℕ))} (M : Extensions) → Reordered bs cs → BlocksMean T bs M → BlocksMean T cs M
-reordered T {bs = bs} {cs = cs} M r m =
+-- Blocks give the same in another order.
+reordered : {R : Rules} {bs cs : List (ℕ × List (List ℕ))} (e : Extensions) → Reordered bs cs → BlocksGive R bs e → BlocksGive R cs e
+reordered {R = R} {bs = bs} {cs = cs} e r m =
     let letters = map_reordered letter_of r in
     let keys : AllDifferent nat_cmp (map (λ e. e.0) (by_letter bs)) = subst (AllDifferent nat_cmp) (sym (letter_keys bs)) m.different in
     let found : (q : ℕ) → find nat_cmp q (by_letter bs) ≡ find nat_cmp q (by_letter cs) = λ q. find_reordered nat_cmp nat_cmp_total q letters keys in
@@ -82,12 +81,12 @@ reordered T {bs = bs} {cs = cs} M r m =
     record {
       letters = all_reordered (λ b. is_ascii_alphanumeric b.0 ≡ true) r m.letters;
       different = different_reordered nat_cmp nat_cmp_total (map_reordered (λ b. singleton b) r) m.different;
-      unicode = subst (λ (o : Option (List (List ℕ))). MatchOption o (M.unicode ≡ record { attributes = []; keywords = [] }) (λ ps. UnicodeMeans ps M.unicode)) (found 117) m.unicode;
-      transform = subst (λ (o : Option (List (List ℕ))). MatchOption o (M.transform ≡ record { id = None; fields = [] }) (λ ps. TransformMeans T ps M.transform)) (found 116) m.transform;
-      private = subst (λ (o : Option (List (List ℕ))). MatchOption o (M.private ≡ []) (λ ps. IsPrivate ps × (M.private ≡ map lower ps))) (found 120) m.private;
-      other_rules = all_reordered (λ b. IsOther b.1) others m.other_rules;
+      unicode = subst (λ o. PartIs R.unicode no_unicode o e.unicode) (found 117) m.unicode;
+      transform = subst (λ o. PartIs R.transform no_transform o e.transform) (found 116) m.transform;
+      private = subst (λ o. PartIs R.private [] o e.private) (found 120) m.private;
+      each_other = all_reordered (λ b. R.other b.1 (kept b.1)) others m.each_other;
       others = m.others ∙ map_of_same nat_cmp nat_cmp_total nat_cmp-IsAntisymmetric (map kept_of (other_blocks (by_letter bs))) (map kept_of (other_blocks (by_letter cs))) (λ q. find_reordered nat_cmp nat_cmp_total q (map_reordered kept_of others) kinds);
     }
 
-pub turned : (T : ℕ → Bool) (bs : List (ℕ × List (List ℕ))) (M : Extensions) → BlocksMean T bs M → BlocksMean T (onto bs []) M
-turned T bs M m = reordered T M (subst (λ (l : List (ℕ × List (List ℕ))). Reordered l (onto bs [])) (append-nil bs) (onto_reordered bs [])) m
+pub turned : {R : Rules} (bs : List (ℕ × List (List ℕ))) (e : Extensions) → BlocksGive R bs e → BlocksGive R (onto bs []) e
+turned bs e m = reordered e (subst (λ (l : List (ℕ × List (List ℕ))). Reordered l (onto bs [])) (append-nil bs) (onto_reordered bs [])) m

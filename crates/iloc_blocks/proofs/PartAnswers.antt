@@ -5,9 +5,8 @@ use Rattle.iloc_grammar.specs.Written as written
 use Rattle.iloc_grammar.specs.Written.{IsOther, kept}
 use Rattle.iloc_grammar.specs.Blocks.{front}
 use Rattle.iloc_grammar.specs.Reading.{from_block}
-use Rattle.iloc_grammar.specs.ByBlocks.{UnicodeMeans, TransformMeans}
+use Rattle.iloc_grammar.specs.ByBlocks.{UnicodeMeans, TransformMeans, OtherMeans}
 use Rattle.iloc_grammar.specs.Faults.{RepeatsVariant}
-use Rattle.iloc_fronts.specs.Fronts.{OtherMeans}
 use Rattle.iloc_subtags.specs.declared.parse_error.ParseError.{ParseError}
 use Rattle.iloc_subtags.specs.declared.parse_error.ParseError.TheVariants.{InvalidLanguage, InvalidSubtag, InvalidExtension, DuplicatedExtension, OutOfMemory}
 use Rattle.iloc_unicode.specs.declared.unicode.Unicode.{Unicode}

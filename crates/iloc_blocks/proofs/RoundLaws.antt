@@ -5,19 +5,18 @@ use Rattle.std.specs.Char.{is_ascii_alphanumeric, to_ascii_lowercase}
 use Rattle.std.specs.Ordering.{nat_cmp, eq_by_cmp}
 use Rattle.std.specs.FinMap.{put}
 use Rattle.std.proofs.lemmas.Bool.Decides.{nat_tests}
-use Rattle.iloc_grammar.specs.Words.{lower}
 use Rattle.iloc_grammar.specs.Written.{Unicode, Transform, IsOther, IsPrivate, kept, AllDifferent, singleton, is_other_singleton}
 use Rattle.iloc_grammar.specs.Meaning.{Extensions}
-use Rattle.iloc_grammar.specs.ByBlocks.{UnicodeMeans, TransformMeans}
+use Rattle.iloc_grammar.specs.ByBlocks.{UnicodeMeans, TransformMeans, PrivateMeans, OtherMeans, BlocksMean}
 use Rattle.iloc_grammar.specs.Blocks.{front, blocks}
 use Rattle.iloc_grammar.specs.Reading.{starts_block, from_block}
 use Rattle.iloc_grammar.specs.Faults.{Fault, InvalidSubtag, InvalidExtension, DuplicatedExtension, IsBlock, RepeatsVariant, BlockFault, no_singleton, duplicated, repeats_variant, breaks_rule, FirstBadBlock, here, later}
+use Rattle.iloc_grammar.proofs.BlockLaws.{lower_letter}
 use Rattle.iloc_grammar.proofs.ReadingLaws.{front-from_block, from_block_starts}
-use Rattle.iloc_fronts.specs.Fronts.{OtherMeans}
 use Rattle.iloc_fronts.proofs.BlockRules.{unicode_rule, transform_rule, private_rule, other_rule}
 use Rattle.iloc_small.specs.InlineBlocks as long
 use Rattle.iloc_small.specs.InlineBlocks.{IsShortUnicode, IsShortTransform, IsShortBlock, ReachesLongBlock}
-use Rattle.iloc_blocks.specs.Blocks.{BlocksMean, BlocksDone, BlockAt, onto, is_read}
+use Rattle.iloc_blocks.specs.Blocks.{BlocksDone, BlockAt, onto, is_read}
 use Rattle.iloc_blocks.proofs.ArmLaws.{read_is_known}
 use Rattle.iloc_blocks.proofs.StepLaws.{unicode_added, transform_added, private_added, other_added}
 
@@ -59,10 +58,6 @@ no_t n h e = grind (arith, nat_tests)
 
 apart : (n k m : ℕ) → n ≡ k → n ≡ m → (k == m) ≡ false → ⊥
 apart n k m e f h = grind (arith, nat_tests)
-
--- a letter or digit is one in lower case too
-lower_letter : (c : ℕ) → is_ascii_alphanumeric c ≡ true → is_ascii_alphanumeric (to_ascii_lowercase c) ≡ true
-lower_letter c h = grind (arith, nat_tests)
 
 -- the blocks that were read, one after the other
 
@@ -137,7 +132,7 @@ module _ {T : ℕ → Bool} {start : List (List ℕ)} {c : ℕ} {ps : List (List
 
     -- after `x`
 
-    pub private_done : to_ascii_lowercase c ≡ 120 → (v : List (List ℕ)) → IsPrivate ps × (v ≡ map lower ps) → BlocksDone T start [] (record M { private = v })
+    pub private_done : to_ascii_lowercase c ≡ 120 → (v : List (List ℕ)) → PrivateMeans ps v → BlocksDone T start [] (record M { private = v })
     private_done e v m = good ps [] (record M { private = v }) (block_of_x c ps e) refl ((private_rule T (c, ps) e).1 m.0) (private_added (c, ps) a.before.means a.letter fresh e v m)
 
     pub private_bad : to_ascii_lowercase c ≡ 120 → ¬ (IsPrivate ps) → FirstBadBlock T [] (blocks start) InvalidExtension

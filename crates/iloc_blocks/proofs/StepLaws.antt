@@ -5,12 +5,9 @@ use Rattle.std.specs.Char.{is_ascii_alphanumeric}
 use Rattle.std.specs.Ordering.{nat_cmp, eq_by_cmp}
 use Rattle.std.specs.FinMap.{find, put}
 use Rattle.std.proofs.lemmas.Bool.Decides.{nat_tests}
-use Rattle.iloc_grammar.specs.Words.{lower}
-use Rattle.iloc_grammar.specs.Written.{Unicode, Transform, IsOther, IsPrivate, kept, singleton, is_other_singleton}
-use Rattle.iloc_grammar.specs.Meaning.{Extensions, map_of}
-use Rattle.iloc_grammar.specs.ByBlocks.{UnicodeMeans, TransformMeans, by_letter, other_blocks}
-use Rattle.iloc_fronts.specs.Fronts.{OtherMeans}
-use Rattle.iloc_blocks.specs.Blocks.{BlocksMean}
+use Rattle.iloc_grammar.specs.Written.{Unicode, Transform, kept, singleton, is_other_singleton}
+use Rattle.iloc_grammar.specs.Meaning.{Extensions, map_of, no_unicode, no_transform}
+use Rattle.iloc_grammar.specs.ByBlocks.{Rules, by_letter, other_blocks, PartIs, BlocksGive}
 
 -- numbers of singletons
 
@@ -58,7 +55,7 @@ differ : (m n : ℕ) → ((m == n) ≡ false) → m ≡ n → ⊥
 differ m n h e = grind (arith, nat_tests)
 
 -- What a new block adds to what was read.
-module _ {T : ℕ → Bool} {ds : List (ℕ × List (List ℕ))} {M : Extensions} (b : ℕ × List (List ℕ)) (m : BlocksMean T ds M)
+module _ {R : Rules} {ds : List (ℕ × List (List ℕ))} {M : Extensions} (b : ℕ × List (List ℕ)) (m : BlocksGive R ds M)
     (l : is_ascii_alphanumeric b.0 ≡ true) (n : list_any (eq_by_cmp nat_cmp (singleton b)) (map (λ d. singleton d) ds) ≡ false) where
   present : (q : ℕ) → singleton b ≡ q → find nat_cmp q (by_letter (b ∷ ds)) ≡ Some b.1
   present q e = ap (λ t. cond t (Some b.1) (find nat_cmp q (by_letter ds))) (tied_itself q (singleton b) e)
@@ -72,70 +69,62 @@ module _ {T : ℕ → Bool} {ds : List (ℕ × List (List ℕ))} {M : Extensions
   more_others : is_other_singleton (singleton b) ≡ true → other_blocks (by_letter (b ∷ ds)) ≡ (singleton b, b.1) ∷ other_blocks (by_letter ds)
   more_others e = ap (λ t. cond t ((singleton b, b.1) ∷ other_blocks (by_letter ds)) (other_blocks (by_letter ds))) e
 
-  abbrev UnicodeAt : Unicode → Option (List (List ℕ)) → Type 0
-  UnicodeAt v o = MatchOption o (v ≡ record { attributes = []; keywords = [] }) (λ ps. UnicodeMeans ps v)
+  -- the part of another singleton stays; that of this one is given
+  part_kept : {X : Type 0} (Rule : List (List ℕ) → X → Type 0) (empty v : X) (k q : ℕ) → singleton b ≡ q → (q == k) ≡ false → PartIs Rule empty (find nat_cmp k (by_letter ds)) v → PartIs Rule empty (find nat_cmp k (by_letter (b ∷ ds))) v
+  part_kept Rule empty v k q e d = subst (λ o. PartIs Rule empty o v) (sym (absent k (tied_no k q (singleton b) e (differ q k d))))
 
-  abbrev TransformAt : Transform → Option (List (List ℕ)) → Type 0
-  TransformAt v o = MatchOption o (v ≡ record { id = None; fields = [] }) (λ ps. TransformMeans T ps v)
+  part_given : {X : Type 0} (Rule : List (List ℕ) → X → Type 0) (empty v : X) (q : ℕ) → singleton b ≡ q → Rule b.1 v → PartIs Rule empty (find nat_cmp q (by_letter (b ∷ ds))) v
+  part_given Rule empty v q e h = subst (λ o. PartIs Rule empty o v) (sym (present q e)) h
 
-  abbrev PrivateAt : List (List ℕ) → Option (List (List ℕ)) → Type 0
-  PrivateAt v o = MatchOption o (v ≡ []) (λ ps. IsPrivate ps × (v ≡ map lower ps))
+  part_beside : {X : Type 0} (Rule : List (List ℕ) → X → Type 0) (empty v : X) (k : ℕ) → is_other_singleton (singleton b) ≡ true → (k ≡ 117) ⊎ ((k ≡ 116) ⊎ (k ≡ 120)) → PartIs Rule empty (find nat_cmp k (by_letter ds)) v → PartIs Rule empty (find nat_cmp k (by_letter (b ∷ ds))) v
+  part_beside Rule empty v k o h = subst (λ o. PartIs Rule empty o v) (sym (absent k (no_other (singleton b) k o h)))
 
-  kept_unicode : (q : ℕ) → singleton b ≡ q → (q ≡ 117 → ⊥) → UnicodeAt M.unicode (find nat_cmp 117 (by_letter (b ∷ ds)))
-  kept_unicode q e d = subst (UnicodeAt M.unicode) (sym (absent 117 (tied_no 117 q (singleton b) e d))) m.unicode
+  rules_kept : is_other_singleton (singleton b) ≡ false → AllByRecursion (λ b. R.other b.1 (kept b.1)) (other_blocks (by_letter (b ∷ ds)))
+  rules_kept e = subst (AllByRecursion (λ b. R.other b.1 (kept b.1))) (sym (same_others e)) m.each_other
 
-  kept_transform : (q : ℕ) → singleton b ≡ q → (q ≡ 116 → ⊥) → TransformAt M.transform (find nat_cmp 116 (by_letter (b ∷ ds)))
-  kept_transform q e d = subst (TransformAt M.transform) (sym (absent 116 (tied_no 116 q (singleton b) e d))) m.transform
+  others_kept : is_other_singleton (singleton b) ≡ false → M.others ≡ map_of nat_cmp (map (λ b. (b.0, kept b.1)) (other_blocks (by_letter (b ∷ ds))))
+  others_kept e = m.others ∙ ap (λ bs. map_of nat_cmp (map (λ b. (b.0, kept b.1)) bs)) (sym (same_others e))
 
-  kept_private : (q : ℕ) → singleton b ≡ q → (q ≡ 120 → ⊥) → PrivateAt M.private (find nat_cmp 120 (by_letter (b ∷ ds)))
-  kept_private q e d = subst (PrivateAt M.private) (sym (absent 120 (tied_no 120 q (singleton b) e d))) m.private
-
-  kept_rules : is_other_singleton (singleton b) ≡ false → AllByRecursion (λ b. IsOther b.1) (other_blocks (by_letter (b ∷ ds)))
-  kept_rules e = subst (AllByRecursion (λ b. IsOther b.1)) (sym (same_others e)) m.other_rules
-
-  kept_others : is_other_singleton (singleton b) ≡ false → M.others ≡ map_of nat_cmp (map (λ b. (b.0, kept b.1)) (other_blocks (by_letter (b ∷ ds))))
-  kept_others e = m.others ∙ ap (λ bs. map_of nat_cmp (map (λ b. (b.0, kept b.1)) bs)) (sym (same_others e))
-
-  pub unicode_added : singleton b ≡ 117 → (v : Unicode) → UnicodeMeans b.1 v → BlocksMean T (b ∷ ds) (record M { unicode = v })
+  pub unicode_added : singleton b ≡ 117 → (v : Unicode) → R.unicode b.1 v → BlocksGive R (b ∷ ds) (record M { unicode = v })
   unicode_added e v h = record {
     letters = (l, m.letters);
     different = (n, m.different);
-    unicode = subst (UnicodeAt v) (sym (present 117 e)) h;
-    transform = kept_transform 117 e (differ 117 116 refl);
-    private = kept_private 117 e (differ 117 120 refl);
-    other_rules = kept_rules (is_no_other (singleton b) 117 e (inl refl));
-    others = kept_others (is_no_other (singleton b) 117 e (inl refl));
+    unicode = part_given R.unicode no_unicode v 117 e h;
+    transform = part_kept R.transform no_transform M.transform 116 117 e refl m.transform;
+    private = part_kept R.private [] M.private 120 117 e refl m.private;
+    each_other = rules_kept (is_no_other (singleton b) 117 e (inl refl));
+    others = others_kept (is_no_other (singleton b) 117 e (inl refl));
   }
 
-  pub transform_added : singleton b ≡ 116 → (v : Transform) → TransformMeans T b.1 v → BlocksMean T (b ∷ ds) (record M { transform = v })
+  pub transform_added : singleton b ≡ 116 → (v : Transform) → R.transform b.1 v → BlocksGive R (b ∷ ds) (record M { transform = v })
   transform_added e v h = record {
     letters = (l, m.letters);
     different = (n, m.different);
-    unicode = kept_unicode 116 e (differ 116 117 refl);
-    transform = subst (TransformAt v) (sym (present 116 e)) h;
-    private = kept_private 116 e (differ 116 120 refl);
-    other_rules = kept_rules (is_no_other (singleton b) 116 e (inr (inl refl)));
-    others = kept_others (is_no_other (singleton b) 116 e (inr (inl refl)));
+    unicode = part_kept R.unicode no_unicode M.unicode 117 116 e refl m.unicode;
+    transform = part_given R.transform no_transform v 116 e h;
+    private = part_kept R.private [] M.private 120 116 e refl m.private;
+    each_other = rules_kept (is_no_other (singleton b) 116 e (inr (inl refl)));
+    others = others_kept (is_no_other (singleton b) 116 e (inr (inl refl)));
   }
 
-  pub private_added : singleton b ≡ 120 → (v : List (List ℕ)) → IsPrivate b.1 × (v ≡ map lower b.1) → BlocksMean T (b ∷ ds) (record M { private = v })
+  pub private_added : singleton b ≡ 120 → (v : List (List ℕ)) → R.private b.1 v → BlocksGive R (b ∷ ds) (record M { private = v })
   private_added e v h = record {
     letters = (l, m.letters);
     different = (n, m.different);
-    unicode = kept_unicode 120 e (differ 120 117 refl);
-    transform = kept_transform 120 e (differ 120 116 refl);
-    private = subst (PrivateAt v) (sym (present 120 e)) h;
-    other_rules = kept_rules (is_no_other (singleton b) 120 e (inr (inr refl)));
-    others = kept_others (is_no_other (singleton b) 120 e (inr (inr refl)));
+    unicode = part_kept R.unicode no_unicode M.unicode 117 120 e refl m.unicode;
+    transform = part_kept R.transform no_transform M.transform 116 120 e refl m.transform;
+    private = part_given R.private [] v 120 e h;
+    each_other = rules_kept (is_no_other (singleton b) 120 e (inr (inr refl)));
+    others = others_kept (is_no_other (singleton b) 120 e (inr (inr refl)));
   }
 
-  pub other_added : is_other_singleton (singleton b) ≡ true → OtherMeans b.1 (kept b.1) → BlocksMean T (b ∷ ds) (record M { others = put nat_cmp (singleton b) (kept b.1) M.others })
+  pub other_added : is_other_singleton (singleton b) ≡ true → R.other b.1 (kept b.1) → BlocksGive R (b ∷ ds) (record M { others = put nat_cmp (singleton b) (kept b.1) M.others })
   other_added o h = record {
     letters = (l, m.letters);
     different = (n, m.different);
-    unicode = subst (UnicodeAt M.unicode) (sym (absent 117 (no_other (singleton b) 117 o (inl refl)))) m.unicode;
-    transform = subst (TransformAt M.transform) (sym (absent 116 (no_other (singleton b) 116 o (inr (inl refl))))) m.transform;
-    private = subst (PrivateAt M.private) (sym (absent 120 (no_other (singleton b) 120 o (inr (inr refl))))) m.private;
-    other_rules = subst (AllByRecursion (λ b. IsOther b.1)) (sym (more_others o)) (h.0, m.other_rules);
+    unicode = part_beside R.unicode no_unicode M.unicode 117 o (inl refl) m.unicode;
+    transform = part_beside R.transform no_transform M.transform 116 o (inr (inl refl)) m.transform;
+    private = part_beside R.private [] M.private 120 o (inr (inr refl)) m.private;
+    each_other = subst (AllByRecursion (λ b. R.other b.1 (kept b.1))) (sym (more_others o)) (h, m.each_other);
     others = ap (put nat_cmp (singleton b) (kept b.1)) m.others ∙ ap (λ bs. map_of nat_cmp (map (λ b. (b.0, kept b.1)) bs)) (sym (more_others o));
   }

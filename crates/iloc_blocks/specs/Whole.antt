@@ -1,16 +1,18 @@
 -- What the reader of all blocks answers, by cases on the whole answer.
-use Rattle.std.specs.Prelude.{ℕ, List, [], Result}
+use Rattle.std.specs.Prelude.{List, [], Result}
+use Rattle.iloc_grammar.specs.Shapes.{Text}
 use Rattle.iloc_grammar.specs.Words.{languages}
 use Rattle.iloc_grammar.specs.Meaning.{Extensions}
+use Rattle.iloc_grammar.specs.ByBlocks.{BlocksMean}
 use Rattle.iloc_grammar.specs.Blocks.{blocks}
 use Rattle.iloc_grammar.specs.Faults.{FirstBadBlock}
 use Rattle.iloc_small.specs.InlineBlocks.{ReachesLongBlock}
 use Rattle.iloc_subtags.specs.declared.parse_error.ParseError.{ParseError}
 use Rattle.iloc_subtags.specs.Answers.{Answers, ButLanguage}
-use Rattle.iloc_blocks.specs.Blocks.{BlocksMean}
 
--- the blocks of the pieces mean the extensions e, or the first bad one has the fault; memory is wanted only where a block is reached that isn't short
-abbrev pub BlocksReadAs : List (List ℕ) → Extensions → Result (Unit {0}) ParseError → Type 0
+-- The blocks of the pieces mean the extensions e, or the first bad one has the fault; memory is
+-- wanted only where a block is reached that isn't short.
+abbrev pub BlocksReadAs : List Text → Extensions → Result (Unit {0}) ParseError → Type 0
 BlocksReadAs ps e = Answers (λ _. BlocksMean languages (blocks ps) e)
     (ButLanguage (FirstBadBlock languages [] (blocks ps)))
     (ReachesLongBlock languages [] (blocks ps))

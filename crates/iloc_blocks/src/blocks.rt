@@ -2,8 +2,9 @@
 ghost use Rattle.std.specs.Prelude.{◌≡◌, ◌∷◌, ℕ, List, [], true, ◌≤◌, length, OnOk};
 ghost use Rattle.iloc_grammar.specs.Reading.{starts_block, rest_of};
 ghost use Rattle.iloc_grammar.specs.Words.{languages};
+ghost use Rattle.iloc_grammar.specs.Meaning.{no_extensions};
 ghost use Rattle.iloc_parser.specs.Left.{left};
-ghost use Rattle.iloc_extensions.specs.ExtensionsValue.{value_of, none};
+ghost use Rattle.iloc_extensions.specs.ExtensionsValue.{value_of};
 ghost use Rattle.iloc_blocks.specs.Blocks.{BlocksDone, BlockReads, is_read};
 ghost use Rattle.iloc_blocks.specs.Place.{byte_at};
 ghost use Rattle.iloc_blocks.specs.Whole.{BlocksReadAs};
@@ -27,7 +28,7 @@ pub fn read_blocks(
     extensions: &mut Extensions,
 ) -> Result<(), ParseError>
     requires starts { starts_block (left iter.old) ≡ true }
-    requires empty { value_of extensions.old ≡ none }
+    requires empty { value_of extensions.old ≡ no_extensions }
     ensures reads { BlocksReadAs (left iter.old) (value_of extensions.new) result }
     ensures rest { OnOk result (left iter.new ≡ []) }
 {

@@ -8,9 +8,11 @@
 //! alone, each of which leaves exactly what follows its block.
 #![tactic(auto)]
 
-ghost use Rattle.std.specs.Prelude.{ℕ, Bool, List, []};
+ghost use Rattle.std.specs.Prelude.{List, []};
+ghost use Rattle.iloc_grammar.specs.Shapes.{Block};
 ghost use Rattle.iloc_grammar.specs.Meaning.{Extensions as Parts};
-ghost use Rattle.iloc_blocks.specs.Blocks.{BlocksMean, onto};
+ghost use Rattle.iloc_grammar.specs.ByBlocks.{Rules, BlocksGive};
+ghost use Rattle.iloc_blocks.specs.Blocks.{onto};
 
 pub mod blocks;
 mod others;
@@ -18,8 +20,8 @@ mod taking;
 
 pub use blocks::read_blocks;
 
-/// Blocks mean the same from the last to the first.
+/// Blocks give the same from the last to the first, by any rules.
 pub fn in_turn()
-    ensures { (T : ℕ → Bool) (bs : List (ℕ × List (List ℕ))) (M : Parts) → BlocksMean T bs M
-        → BlocksMean T (onto bs []) M }
+    ensures { (R : Rules) (bs : List Block) (e : Parts) → BlocksGive R bs e
+        → BlocksGive R (onto bs []) e }
 {}

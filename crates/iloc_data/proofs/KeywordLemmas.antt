@@ -6,8 +6,8 @@ use Rattle.iloc_grammar.specs.Meaning.{Locale}
 use Rattle.iloc_preferences_rules.specs.Preferences.{read_keyword, is_readable}
 
 module _ {X : Type 0} (reads : List (List ℕ) → Option X) where
-  pub absent : (k : List ℕ) (M : Locale) → None ≡ find word_cmp k M.unicode.keywords → (None ≡ read_keyword reads k M) × (true ≡ is_readable reads k M)
+  pub absent : (k : List ℕ) (M : Locale) → None ≡ find word_cmp k M.extensions.unicode.keywords → (None ≡ read_keyword reads k M) × (true ≡ is_readable reads k M)
   absent k M h = (ap (option_and_then reads) h, ap (λ o. is_none o || is_some (option_and_then reads o)) h)
 
-  pub there : (k : List ℕ) (M : Locale) (v : List (List ℕ)) → Some v ≡ find word_cmp k M.unicode.keywords → (reads v ≡ read_keyword reads k M) × (is_some (reads v) ≡ is_readable reads k M)
+  pub there : (k : List ℕ) (M : Locale) (v : List (List ℕ)) → Some v ≡ find word_cmp k M.extensions.unicode.keywords → (reads v ≡ read_keyword reads k M) × (is_some (reads v) ≡ is_readable reads k M)
   there k M v h = (ap (option_and_then reads) h, ap (λ o. is_none o || is_some (option_and_then reads o)) h)

@@ -11,8 +11,8 @@ use Rattle.std.specs.Char.{to_ascii_lowercase}
 use Rattle.std.proofs.lemmas.Bool.Decides.{nat_tests}
 use Rattle.iloc_grammar.specs.Words.{is_true}
 use Rattle.iloc_grammar.specs.Written.{is_other_singleton}
-use Rattle.iloc_grammar.specs.Meaning.{Locale}
-use Rattle.iloc_grammar.specs.Values.{IsWellFormed}
+use Rattle.iloc_grammar.specs.Meaning.{Extensions}
+use Rattle.iloc_grammar.specs.Values.{AreWellFormed}
 use Rattle.iloc_extensions.specs.WellFormed.{has_own_place, is_in_place, is_plain, is_read_back}
 
 both_true : (a b : Bool) → (a && b) ≡ true → (a ≡ true) × (b ≡ true)
@@ -80,22 +80,22 @@ plain_met w e n = are_true _ _ (ap not e) (ap not (no_two n))
 abbrev Plain : List ℕ → Type 0
 Plain w = (is_true w ≡ false) × (length w ≢ 2)
 
-pub by_tests : (M : Locale) (b : Bool) → b ≡ (is_in_place M.others && is_read_back M.unicode.keywords) → IsTrue b ↔ IsWellFormed M
-by_tests M b e = (λ h. shown (sym e ∙ h), λ w. e ∙ met w)
+pub by_tests : (e : Extensions) (b : Bool) → b ≡ (is_in_place e.others && is_read_back e.unicode.keywords) → IsTrue b ↔ AreWellFormed e
+by_tests e b same = (λ h. shown (sym same ∙ h), λ w. same ∙ met w)
   where
-    shown : (is_in_place M.others && is_read_back M.unicode.keywords) ≡ true → IsWellFormed M
+    shown : (is_in_place e.others && is_read_back e.unicode.keywords) ≡ true → AreWellFormed e
     shown h =
         let both = both_true _ _ h in
         let others = both_true _ _ both.0 in
         record {
           ascending = others.0;
-          singletons = all_shown has_own_place (λ o. (is_other_singleton o.0 ≡ true) × (to_ascii_lowercase o.0 ≡ o.0)) (λ o t. let own = own_singleton o t in (own.0, own.1)) M.others others.1;
-          nonempty = all_shown has_own_place (λ o. 0 < length o.1) (λ o t. (own_singleton o t).2) M.others others.1;
-          values = all_shown (λ f. list_all is_plain f.1) (λ f. AllByRecursion Plain f.1) (λ f. all_shown is_plain Plain plain_shown f.1) M.unicode.keywords both.1;
+          singletons = all_shown has_own_place (λ o. (is_other_singleton o.0 ≡ true) × (to_ascii_lowercase o.0 ≡ o.0)) (λ o t. let own = own_singleton o t in (own.0, own.1)) e.others others.1;
+          nonempty = all_shown has_own_place (λ o. 0 < length o.1) (λ o t. (own_singleton o t).2) e.others others.1;
+          values = all_shown (λ f. list_all is_plain f.1) (λ f. AllByRecursion Plain f.1) (λ f. all_shown is_plain Plain plain_shown f.1) e.unicode.keywords both.1;
         }
 
-    met : IsWellFormed M → (is_in_place M.others && is_read_back M.unicode.keywords) ≡ true
-    met w = are_true _ _ (are_true _ _ w.ascending (places_met M.others w.singletons w.nonempty)) (all_met (λ f. list_all is_plain f.1) (λ f. AllByRecursion Plain f.1) (λ f. all_met is_plain Plain (λ v p. plain_met v p.0 p.1) f.1) M.unicode.keywords w.values)
+    met : AreWellFormed e → (is_in_place e.others && is_read_back e.unicode.keywords) ≡ true
+    met w = are_true _ _ (are_true _ _ w.ascending (places_met e.others w.singletons w.nonempty)) (all_met (λ f. list_all is_plain f.1) (λ f. AllByRecursion Plain f.1) (λ f. all_met is_plain Plain (λ v p. plain_met v p.0 p.1) f.1) e.unicode.keywords w.values)
 
 -- Each is below the next, and so below all that follow.
 

@@ -25,11 +25,12 @@ pub struct Extensions {
 }
 
 impl Extensions {
-    ghost use Rattle.iloc_extensions.specs.ExtensionsValue.{value_of, none, just_unicode, compared};
+    ghost use Rattle.iloc_grammar.specs.Meaning.{just_unicode, no_extensions};
+    ghost use Rattle.iloc_extensions.specs.ExtensionsValue.{value_of};
 
     /// No extension.
     pub fn new(alloc: Global) -> Self
-        ensures { value_of result ≡ none }
+        ensures { value_of result ≡ no_extensions }
     {
         Extensions::from_unicode(alloc, Unicode::new())
     }
@@ -48,7 +49,7 @@ impl Extensions {
 
     /// Whether all four parts are empty. An other extension counts as there, also without words.
     pub fn is_empty(&self) -> bool
-        ensures { IsTrue result ↔ (value_of self.now ≡ none) }
+        ensures { IsTrue result ↔ (value_of self.now ≡ no_extensions) }
     {
         self.unicode.is_empty()
             && self.transform.is_empty()
@@ -59,7 +60,7 @@ impl Extensions {
     /// Empties all four parts.
     #[inline(always)]
     pub fn clear(&mut self)
-        ensures { value_of self.new ≡ none }
+        ensures { value_of self.new ≡ no_extensions }
     {
         if self.is_empty() {
             return;
@@ -72,8 +73,7 @@ impl Extensions {
 
     /// The order by unicode, transform, private as a short list, and then the others one by one.
     pub fn total_cmp(&self, other: &Self) -> Ordering
-        ensures { result
-            ≡ extensions_cmp (compared (value_of self.now)) (compared (value_of other.now)) }
+        ensures { result ≡ extensions_cmp (value_of self.now) (value_of other.now) }
     {
         self.unicode
             .total_cmp(&other.unicode)

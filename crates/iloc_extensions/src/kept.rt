@@ -2,19 +2,18 @@
 ghost use Rattle.std.specs.Prelude.{IfSome};
 ghost use Rattle.std.specs.List.{AllByRecursion};
 ghost use Rattle.iloc_grammar.specs.Words.{languages, Subtag as the_kind};
-ghost use Rattle.iloc_grammar.specs.Written.{Identifier};
 ghost use Rattle.iloc_grammar.specs.Values.{
+  IsExtensionsValue,
   IsIdentifierValue,
   IsNormal,
   IsTransformValue,
   IsUnicodeValue,
-  IsValue,
 };
 ghost use Rattle.iloc_langid.specs.Reads as identifiers;
 ghost use Rattle.iloc_transform.specs.TransformReading as transforms;
 ghost use Rattle.iloc_unicode.specs.UnicodeValue as unicodes;
 ghost use Rattle.iloc_unicode.specs.UnicodeValue.{IsKeyword};
-ghost use Rattle.iloc_extensions.specs.ExtensionsValue.{value_of, locale_of};
+ghost use Rattle.iloc_extensions.specs.ExtensionsValue.{value_of};
 
 use crate::extensions::Extensions;
 use iloc_langid::LanguageIdentifier;
@@ -24,10 +23,9 @@ use iloc_transform::Transform;
 use iloc_unicode::Unicode;
 use iloc_unicode_value::Value;
 
-// Looks at each part, so that with any identifier they are known to be the extensions of a value.
+// Looks at each part, so that they are known to be a value.
 pub(crate) fn look_at(extensions: &Extensions)
-    ensures { (id : Identifier) → IsIdentifierValue languages id
-        → IsValue languages (locale_of id (value_of extensions.now)) }
+    ensures { IsExtensionsValue languages (value_of extensions.now) }
 {
     look_at_unicode(&extensions.unicode);
     look_at_transform(&extensions.transform);

@@ -4,9 +4,8 @@ ghost use Rattle.std.specs.FinMap.{is_sorted};
 ghost use Rattle.std.specs.List.{list_all};
 ghost use Rattle.std.specs.Ordering.{nat_cmp};
 ghost use Rattle.iloc_grammar.specs.Words.{languages};
-ghost use Rattle.iloc_grammar.specs.Written.{Identifier};
-ghost use Rattle.iloc_grammar.specs.Values.{IsIdentifierValue, IsValue, IsWellFormed};
-ghost use Rattle.iloc_extensions.specs.ExtensionsValue.{value_of, locale_of};
+ghost use Rattle.iloc_grammar.specs.Values.{AreWellFormed, IsExtensionsValue};
+ghost use Rattle.iloc_extensions.specs.ExtensionsValue.{value_of};
 ghost use Rattle.iloc_extensions.specs.WellFormed.{has_own_place, is_in_place, is_plain, is_read_back};
 
 use crate::extensions::Extensions;
@@ -15,17 +14,15 @@ use iloc_other::Other;
 use iloc_unicode::Keywords;
 use iloc_unicode_value::Value;
 
-/// Whether the extensions are well-formed, with any identifier.
+/// Whether the extensions are well-formed.
 ///
 /// The others ascend strictly by singleton, each a digit or a lower-case letter other than `t`, `u` and
-/// `x`, and have a word each; no value of a keyword holds `true` or a subtag of two characters. With the
-/// words of an identifier all extensions, well-formed or not, are a value: sets and maps ascend strictly,
-/// and all words are in the normal case of their kinds.
+/// `x`, and have a word each; no value of a keyword holds `true` or a subtag of two characters. All
+/// extensions, well-formed or not, are a value: sets and maps ascend strictly, and all words are in the
+/// normal case of their kinds.
 pub fn is_well_formed(extensions: &Extensions) -> bool
-    ensures exactly { (id : Identifier)
-        → IsTrue result ↔ IsWellFormed (locale_of id (value_of extensions.now)) }
-    ensures value { (id : Identifier) → IsIdentifierValue languages id
-        → IsValue languages (locale_of id (value_of extensions.now)) }
+    ensures exactly { IsTrue result ↔ AreWellFormed (value_of extensions.now) }
+    ensures value { IsExtensionsValue languages (value_of extensions.now) }
 {
     look_at(extensions);
     are_in_place(&extensions.other) && are_read_back(&extensions.unicode.keywords)

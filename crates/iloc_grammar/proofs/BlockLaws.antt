@@ -184,27 +184,38 @@ others_each (b ∷ bs) h = (elim (is_other_singleton (singleton b)) as (λ t. is
   | false ↦ λ t h. ((λ e. absurd (true≢false (sym e ∙ t))), others_each bs h)
 ]) refl h
 
-kind_of : (c : ℕ) → is_ascii_alphanumeric c ≡ true → ((to_ascii_lowercase c ≡ 117) ⊎ (to_ascii_lowercase c ≡ 116)) ⊎ ((to_ascii_lowercase c ≡ 120) ⊎ (is_other_singleton (to_ascii_lowercase c) ≡ true))
-kind_of c h = at (cases_eq (to_ascii_lowercase c) 117) (cases_eq (to_ascii_lowercase c) 116) (cases_eq (to_ascii_lowercase c) 120)
-  where
-    rest : (c : ℕ) → is_ascii_alphanumeric c ≡ true → (to_ascii_lowercase c ≡ 117 → ⊥) → (to_ascii_lowercase c ≡ 116 → ⊥) → (to_ascii_lowercase c ≡ 120 → ⊥) → is_other_singleton (to_ascii_lowercase c) ≡ true
-    rest c h u t x = grind (arith, nat_tests)
+-- a singleton in lower case: that of `u`, `t` or `x`, or of another part
+pub data IsKind (c : ℕ) : Type 0 where
+  of_u : c ≡ 117 → IsKind c
+  of_t : c ≡ 116 → IsKind c
+  of_x : c ≡ 120 → IsKind c
+  another : is_other_singleton c ≡ true → IsKind c
 
-    at : (to_ascii_lowercase c ≡ 117) ⊎ (to_ascii_lowercase c ≡ 117 → ⊥) → (to_ascii_lowercase c ≡ 116) ⊎ (to_ascii_lowercase c ≡ 116 → ⊥) → (to_ascii_lowercase c ≡ 120) ⊎ (to_ascii_lowercase c ≡ 120 → ⊥) → ((to_ascii_lowercase c ≡ 117) ⊎ (to_ascii_lowercase c ≡ 116)) ⊎ ((to_ascii_lowercase c ≡ 120) ⊎ (is_other_singleton (to_ascii_lowercase c) ≡ true))
-    at (inl e) b d = inl (inl e)
-    at (inr a) (inl e) d = inl (inr e)
-    at (inr a) (inr b) (inl e) = inr (inl e)
-    at (inr a) (inr b) (inr d) = inr (inr (rest c h a b d))
+pub kind_of : (c : ℕ) → is_ascii_alphanumeric c ≡ true → IsKind c
+kind_of c h = at (cases_eq c 117) (cases_eq c 116) (cases_eq c 120)
+  where
+    rest : (c : ℕ) → is_ascii_alphanumeric c ≡ true → (c ≡ 117 → ⊥) → (c ≡ 116 → ⊥) → (c ≡ 120 → ⊥) → is_other_singleton c ≡ true
+    rest c h a b d = grind (arith, nat_tests)
+
+    at : (c ≡ 117) ⊎ (c ≡ 117 → ⊥) → (c ≡ 116) ⊎ (c ≡ 116 → ⊥) → (c ≡ 120) ⊎ (c ≡ 120 → ⊥) → IsKind c
+    at (inl e) b d = of_u e
+    at (inr a) (inl e) d = of_t e
+    at (inr a) (inr b) (inl e) = of_x e
+    at (inr a) (inr b) (inr d) = another (rest c h a b d)
+
+-- a letter or digit is one in lower case too
+pub lower_letter : (c : ℕ) → is_ascii_alphanumeric c ≡ true → is_ascii_alphanumeric (to_ascii_lowercase c) ≡ true
+lower_letter c h = grind (arith, nat_tests)
 
 good_each : (T : ℕ → Bool) (seen : List ℕ) (bs : List (ℕ × List (List ℕ))) → AllByRecursion (λ b. is_ascii_alphanumeric b.0 ≡ true) bs → AllDifferent nat_cmp (map (λ b. singleton b) bs) → AllByRecursion (λ b. list_any (eq_by_cmp nat_cmp (singleton b)) seen ≡ false) bs → AllByRecursion (λ b. KnownAt T (singleton b) b.1) bs → AllByRecursion (λ b. is_other_singleton (singleton b) ≡ true → IsOther b.1) bs → AreGood T seen bs
 good_each T seen [] l d n k o = tt
-good_each T seen (b ∷ bs) l d n k o = (((l.0, n.0), rule (kind_of b.0 l.0)), good_each T (singleton b ∷ seen) bs l.1 d.1 (see bs d.0 n.1) k.1 o.1)
+good_each T seen (b ∷ bs) l d n k o = (((l.0, n.0), rule (kind_of (singleton b) (lower_letter b.0 l.0))), good_each T (singleton b ∷ seen) bs l.1 d.1 (see bs d.0 n.1) k.1 o.1)
   where
-    rule : ((singleton b ≡ 117) ⊎ (singleton b ≡ 116)) ⊎ ((singleton b ≡ 120) ⊎ (is_other_singleton (singleton b) ≡ true)) → IsBlock T b
-    rule (inl (inl e)) = k.0.0 e
-    rule (inl (inr e)) = k.0.1 e
-    rule (inr (inl e)) = k.0.2 e
-    rule (inr (inr e)) = inr (other b.1, (e, o.0 e), refl)
+    rule : IsKind (singleton b) → IsBlock T b
+    rule (of_u e) = k.0.0 e
+    rule (of_t e) = k.0.1 e
+    rule (of_x e) = k.0.2 e
+    rule (another e) = inr (other b.1, (e, o.0 e), refl)
 
     see : (cs : List (ℕ × List (List ℕ))) → list_any (eq_by_cmp nat_cmp (singleton b)) (map (λ b. singleton b) cs) ≡ false → AllByRecursion (λ b. list_any (eq_by_cmp nat_cmp (singleton b)) seen ≡ false) cs → AllByRecursion (λ c. list_any (eq_by_cmp nat_cmp (singleton c)) (singleton b ∷ seen) ≡ false) cs
     see [] d n = tt

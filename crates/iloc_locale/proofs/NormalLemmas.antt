@@ -2,8 +2,7 @@
 use Rattle.std.proofs.Common.{◌≡◌, inl, inr, ◌↔◌, IsTrue, ℕ, ◌≤◌, Bool, true, false, List, length, refl, sym, ap, ◌∙◌, subst, append-nil, true≢false, IfOk, Err, Ok, Result}
 use Rattle.iloc_grammar.specs.Words.{languages}
 use Rattle.iloc_grammar.specs.Meaning as meaning
-use Rattle.iloc_grammar.specs.Meaning.{Extensions}
-use Rattle.iloc_grammar.specs.Meaning.{Means}
+use Rattle.iloc_grammar.specs.Meaning.{Extensions, Means, no_extensions}
 use Rattle.iloc_grammar.specs.Values.{text, identifier_text}
 use Rattle.iloc_grammar.specs.Written.{Identifier}
 use Rattle.iloc_grammar.specs.Pieces.{join}
@@ -14,7 +13,6 @@ use Rattle.std.specs.declared.cmp.Ordering.{Ordering}
 use Rattle.std.specs.declared.cmp.Ordering.TheVariants.{Less, Equal, Greater}
 use Rattle.iloc_orders.specs.Orders.{locale_cmp}
 use Rattle.iloc_orders.proofs.OrderLaws.{locale_exact}
-use Rattle.iloc_extensions.specs.ExtensionsValue.{none, locale_of}
 use Rattle.iloc_grammar.proofs.RawLaws.{languages_table}
 use Rattle.iloc_grammar.proofs.Corollaries.{texts_lead_to_one, same_meaning, means_again}
 use Rattle.iloc_grammar.proofs.Chains.{chain_to_text, shortest}
@@ -56,9 +54,9 @@ normal_inline t OutOfMemory (inl h) i n = inline_wants_none t i h
 normal_inline t OutOfMemory (inr h) i n = h.2 (n.2 ∙ ap text (readings.one_meaning languages_table t n.0 h.0 n.1 h.1))
 
 -- the text of an identifier alone
-pub text_alone : (i : Identifier) (e : Extensions) → e ≡ none → text (locale_of i e) ≡ identifier_text i
+pub text_alone : (i : Identifier) (e : Extensions) → e ≡ no_extensions → text (record { id = i; extensions = e }) ≡ identifier_text i
 unfolding identifier_text
-text_alone i e n = ap (λ (x : Extensions). text (locale_of i x)) n ∙ ap join (append-nil _)
+text_alone i e n = ap (λ (x : Extensions). text (record { id = i; extensions = x })) n ∙ ap join (append-nil _)
 
 -- two values that tie are equal
 is_equal : (o : Ordering) → is_eq o ≡ true → o ≡ Equal

@@ -6,6 +6,7 @@ use Rattle.iloc_grammar.specs.Words.{Language, is_word, IsWord, languages, two_o
 use Rattle.iloc_grammar.specs.Written.{identifier_pieces}
 use Rattle.iloc_grammar.specs.Meaning as meaning
 use Rattle.iloc_grammar.specs.Meaning.{Means, IdentifierMeans}
+use Rattle.iloc_grammar.specs.ByBlocks.{BlocksMean}
 use Rattle.iloc_grammar.specs.Values.{IsValue, IsWellFormed}
 use Rattle.iloc_grammar.specs.Blocks.{head, blocks, tail_blocks, first_piece}
 use Rattle.iloc_grammar.specs.Reading.{rest_of, front_of, after_head, starts_block}
@@ -30,7 +31,6 @@ use Rattle.iloc_langid.specs.declared.identifier.LanguageIdentifier.{LanguageIde
 use Rattle.iloc_langid.specs.Reads as langid
 use Rattle.iloc_langid.specs.Reads.{ReadsAs}
 use Rattle.iloc_extensions.specs.ExtensionsValue as extensions
-use Rattle.iloc_blocks.specs.Blocks.{BlocksMean}
 use Rattle.iloc_blocks.specs.Whole.{BlocksReadAs}
 use Rattle.iloc_blocks.proofs.RoundLaws.{blocks-from_block}
 use Rattle.iloc_locale.specs.declared.locale.Locale.{Locale}
@@ -50,19 +50,8 @@ same_first : (ps : List (List ℕ)) → first_piece (head ps) ≡ first_piece ps
 same_first [] = refl
 same_first (p ∷ ps) = refl
 
-pub accepts : (t : List ℕ) (id : LanguageIdentifier) (e : meaning.Extensions) → ReadsAs (head (pieces t)) (Ok id) → BlocksMean languages (blocks (after_head (pieces t))) e → Means languages t (extensions.locale_of (langid.value_of id) e)
-accepts t id e h b =
-    let m : BlocksMean languages (tail_blocks (pieces t)) e = subst (λ bs. BlocksMean languages bs e) (tail_is (pieces t)) b in
-    blocks_mean languages languages_table t (extensions.locale_of (langid.value_of id) e) (record {
-      id = h;
-      letters = m.letters;
-      different = m.different;
-      unicode = m.unicode;
-      transform = m.transform;
-      private = m.private;
-      other_rules = m.other_rules;
-      others = m.others;
-    })
+pub accepts : (t : List ℕ) (id : LanguageIdentifier) (e : meaning.Extensions) → ReadsAs (head (pieces t)) (Ok id) → BlocksMean languages (blocks (after_head (pieces t))) e → Means languages t (record { id = langid.value_of id; extensions = e })
+accepts t id e h b = blocks_mean languages languages_table t (record { id = langid.value_of id; extensions = e }) (record { id = h; blocks = subst (λ bs. BlocksMean languages bs e) (tail_is (pieces t)) b })
 
 -- where no memory is wanted
 
@@ -105,8 +94,8 @@ pub blocks_read : (t : List ℕ) (l : Locale) (r : Result (Unit {0}) ParseError)
 blocks_read t l (Ok x) h b = accepts t l.id (extensions.value_of l.extensions) h b
 blocks_read t l (Err e) h b = blocks_refused t l.id (extensions.value_of l.extensions) e h b
 
-pub no_extensions : (l : Locale) → value_of l ≡ unknown_locale → extensions.value_of l.extensions ≡ extensions.none
-no_extensions l e = ap (λ (M : meaning.Locale). record { unicode = M.unicode; transform = M.transform; private = M.private; others = M.others }) e
+pub none_after_unknown : (l : Locale) → value_of l ≡ unknown_locale → extensions.value_of l.extensions ≡ meaning.no_extensions
+none_after_unknown l e = ap (λ (M : meaning.Locale). M.extensions) e
 
 -- what else is known of what is read
 

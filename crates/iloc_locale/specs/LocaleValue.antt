@@ -6,8 +6,9 @@ use Rattle.iloc_extensions.specs.ExtensionsValue as extensions
 use Rattle.iloc_locale.specs.declared.locale.Locale.{Locale}
 
 abbrev pub value_of : Locale → meaning.Locale
-value_of l = extensions.locale_of (langid.value_of l.id) (extensions.value_of l.extensions)
+value_of l =
+    record { id = langid.value_of l.id; extensions = extensions.value_of l.extensions }
 
 -- `und` and no extension
 abbrev pub unknown_locale : meaning.Locale
-unknown_locale = extensions.locale_of unknown_identifier extensions.none
+unknown_locale = meaning.without_extensions unknown_identifier

@@ -1,6 +1,6 @@
 //! Locales from their parts, and back.
 ghost use Rattle.std.specs.Prelude.{◌≡◌, None, [], codes};
-ghost use Rattle.iloc_extensions.specs.ExtensionsValue.{none, locale_of};
+ghost use Rattle.iloc_grammar.specs.Meaning.{without_extensions};
 ghost use Rattle.iloc_langid.specs.Reads.{value_of as identifier_of};
 
 use crate::locale::Locale;
@@ -21,7 +21,7 @@ impl Locale {
 
     /// This identifier, and no extension.
     pub fn from_langid(alloc: Global, id: LanguageIdentifier) -> Self
-        ensures { value_of result ≡ locale_of (identifier_of id) none }
+        ensures { value_of result ≡ without_extensions (identifier_of id) }
     {
         Locale {
             id,
@@ -32,12 +32,12 @@ impl Locale {
     /// The language alone.
     pub fn from_language(alloc: Global, language: Language) -> Self
         ensures { value_of result
-            ≡ locale_of (record {
+            ≡ without_extensions (record {
               language = language;
               script = None;
               region = None;
               variants = [];
-            }) none }
+            }) }
     {
         Self::from_langid(alloc, LanguageIdentifier::from(language))
     }
@@ -45,12 +45,12 @@ impl Locale {
     /// `und` with that script.
     pub fn from_script(alloc: Global, script: Option<Script>) -> Self
         ensures { value_of result
-            ≡ locale_of (record {
+            ≡ without_extensions (record {
               language = codes "und";
               script = script;
               region = None;
               variants = [];
-            }) none }
+            }) }
     {
         Self::from_langid(alloc, LanguageIdentifier::from(script))
     }
@@ -58,12 +58,12 @@ impl Locale {
     /// `und` with that region.
     pub fn from_region(alloc: Global, region: Option<Region>) -> Self
         ensures { value_of result
-            ≡ locale_of (record {
+            ≡ without_extensions (record {
               language = codes "und";
               script = None;
               region = region;
               variants = [];
-            }) none }
+            }) }
     {
         Self::from_langid(alloc, LanguageIdentifier::from(region))
     }
@@ -71,12 +71,12 @@ impl Locale {
     /// These three parts, and nothing else.
     pub fn from_parts(alloc: Global, lsr: (Language, Option<Script>, Option<Region>)) -> Self
         ensures { value_of result
-            ≡ locale_of (record {
+            ≡ without_extensions (record {
               language = lsr.0;
               script = lsr.1;
               region = lsr.2;
               variants = [];
-            }) none }
+            }) }
     {
         Self::from_langid(alloc, LanguageIdentifier::from(lsr))
     }

@@ -43,7 +43,7 @@ pub struct Locale {
 
 impl Locale {
     ghost use Rattle.iloc_extensions.specs.ExtensionsValue as extensions;
-    ghost use Rattle.iloc_extensions.specs.ExtensionsValue.{none};
+    ghost use Rattle.iloc_grammar.specs.Meaning.{no_extensions};
     ghost use Rattle.iloc_locale.specs.LocaleValue.{value_of, unknown_locale};
     ghost use Rattle.iloc_locale.specs.Reads.{Accepts, Refuses};
 
@@ -107,7 +107,7 @@ impl Locale {
 
     // Reads all of the text in place of an identifier.
     fn fill(&mut self, alloc: Global, code_units: &[u8]) -> Result<(), ParseError>
-        requires { extensions.value_of self.old.extensions ≡ none }
+        requires { extensions.value_of self.old.extensions ≡ no_extensions }
         ensures { LocaleReadsAs code_units.now (result_and result (Ok self.new)) }
     {
         let mut iter = SubtagIterator::new(code_units);

@@ -25,12 +25,12 @@ impl Pieces for Locale {
 impl Writeable for Locale {
     ghost use Rattle.std.specs.Prelude.{◌≡◌, None, []};
     ghost use Rattle.iloc_grammar.specs.Values.{text};
-    ghost use Rattle.iloc_extensions.specs.ExtensionsValue.{none, value_of as extensions_of};
+    ghost use Rattle.iloc_grammar.specs.Meaning.{no_extensions};
     ghost use Rattle.iloc_locale.specs.LocaleValue.{value_of};
 
     ghost text = { λ l. text (value_of l) };
 
-    ghost lends = { λ l. (extensions_of l.extensions ≡ none) × (l.id.script ≡ None)
+    ghost lends = { λ l. ((value_of l).extensions ≡ no_extensions) × (l.id.script ≡ None)
         × (l.id.region ≡ None) × (l.id.variants ≡ []) };
 
     #[tactic(auto, unfolding(iloc_grammar::specs::Pieces::join))]

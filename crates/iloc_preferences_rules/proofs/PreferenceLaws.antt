@@ -6,7 +6,7 @@ use Rattle.std.specs.List.{AllByRecursion}
 use Rattle.std.specs.FinMap.{find, is_sorted}
 use Rattle.iloc_grammar.specs.Words.{Region, Variant, Subtag, UnicodeKey, word_cmp, is_same, is_word, lower, is_true}
 use Rattle.iloc_grammar.specs.Written.{Identifier}
-use Rattle.iloc_grammar.specs.Meaning.{Locale, no_extensions}
+use Rattle.iloc_grammar.specs.Meaning.{Locale, without_extensions}
 use Rattle.iloc_grammar.specs.Values.{IsNormal, IsValue, IsWellFormed, IsAscending}
 use Rattle.iloc_grammar.specs.Faults.{Fault}
 use Rattle.iloc_grammar.proofs.ValuesLaws.{all_weaker}
@@ -196,7 +196,7 @@ preferences_are {T = T} M h = record {
     region_is (Some r) h (Some s) k = elim (is_same r s.region) as (λ b. IsSubdivision (cond b (record { region = r; suffix = s.suffix }) (whole_region r))) [ true ↦ record { region = h; suffix = k.suffix } | false ↦ whole_region_is r h ]
 
 -- an identifier's preferences are those of the locale that has nothing else
-pub of_identifier : (i : Identifier) → preferences (record { id = i; extensions = no_extensions }) ≡ identifier_preferences i
+pub of_identifier : (i : Identifier) → preferences (without_extensions i) ≡ identifier_preferences i
 of_identifier i = λ k. record { language = i.language; script = i.script; region = whole_or_none i.region k; variant = first_item i.variants; region_override = None }
   where
     whole_or_none : (o : Option (List ℕ)) → preferred_region o None ≡ option_map whole_region o

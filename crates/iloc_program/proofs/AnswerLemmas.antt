@@ -5,7 +5,8 @@ use Rattle.iloc_grammar.specs.Pieces.{pieces}
 use Rattle.iloc_grammar.specs.Words.{languages}
 use Rattle.iloc_grammar.specs.Written.{Identifier}
 use Rattle.iloc_grammar.specs.Meaning as meaning
-use Rattle.iloc_grammar.specs.Meaning.{IdentifierMeans, Means}
+use Rattle.iloc_grammar.specs.Meaning.{IdentifierMeans, Means, no_extensions, without_extensions}
+use Rattle.iloc_grammar.specs.ByBlocks.{BlocksMean}
 use Rattle.iloc_grammar.specs.Values.{identifier_text, text}
 use Rattle.iloc_grammar.proofs.RawLaws.{languages_table}
 use Rattle.iloc_output.specs.Output.{OfIdentifiers, OfLocales, OfDataLocales, identifier, no_identifier, locale, no_locale, data_locale, no_data_locale}
@@ -16,8 +17,6 @@ use Rattle.iloc_grammar.specs.Blocks.{blocks, head}
 use Rattle.iloc_grammar.specs.Reading.{after_head, first_item}
 use Rattle.iloc_langid.specs.declared.identifier.LanguageIdentifier.{LanguageIdentifier}
 use Rattle.iloc_langid.specs.Reads.{ReadsAs, value_of}
-use Rattle.iloc_extensions.specs.ExtensionsValue.{locale_of, none}
-use Rattle.iloc_blocks.specs.Blocks.{BlocksMean}
 use Rattle.iloc_locale.proofs.NormalLemmas.{text_alone}
 use Rattle.iloc_locale.proofs.ReadLemmas.{accepts, head_refused}
 use Rattle.iloc_locale.specs.Reads.{LocaleReadsAs}
@@ -54,7 +53,7 @@ nothing_left f (p ∷ ps) None e n = absurd (true≢false (sym (ap is_some e)))
 nothing_left f (p ∷ ps) (Some x) e n = absurd (true≢false n)
 
 pub head_alone : (t : List ℕ) (id : LanguageIdentifier) (ps : List (List ℕ)) → ReadsAs (head (pieces t)) (Ok id) → ps ≡ after_head (pieces t) → ps ≡ [] → line_answer Locale t ≡ identifier_text (value_of id)
-head_alone t id ps h r e = locale_accepted t (locale_of (value_of id) none) (accepts t id none h (subst (λ rest. BlocksMean languages (blocks rest) none) (sym e ∙ r) (record { letters = tt; different = tt; unicode = refl; transform = refl; private = refl; other_rules = tt; others = refl }))) ∙ text_alone (value_of id) none refl
+head_alone t id ps h r e = locale_accepted t (without_extensions (value_of id)) (accepts t id no_extensions h (subst (λ rest. BlocksMean languages (blocks rest) no_extensions) (sym e ∙ r) (record { letters = tt; different = tt; unicode = refl; transform = refl; private = refl; each_other = tt; others = refl }))) ∙ text_alone (value_of id) no_extensions refl
 
 pub head_bad : (t : List ℕ) (e : ParseError) → ReadsAs (head (pieces t)) (Err e) → e ≢ OutOfMemory → line_answer Locale t ≡ refusal_text e
 head_bad t e h n = locale_refused t e (head_refused t e h) n

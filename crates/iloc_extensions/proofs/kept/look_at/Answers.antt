@@ -5,8 +5,7 @@ use Rattle.iloc_grammar.specs.Values.{IsNormal}
 use Rattle.iloc_extensions.proofs.kept.look_at.Goals as goal
 
 pub returns : goal.returns
-returns c = λ id h. record {
-  id = h;
+returns c = record {
   unicode = c.look_at_unicode.ensures;
   transform = c.look_at_transform.ensures;
   private = c.as_slice.ensures.normal;

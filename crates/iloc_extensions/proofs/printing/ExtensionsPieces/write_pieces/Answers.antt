@@ -2,10 +2,10 @@
 use Rattle.std.proofs.Common.{◌≡◌, ℕ, List, [], Bool, true, false, refl, sym, ap, ◌∙◌, subst}
 use Rattle.iloc_grammar.specs.Values.{extensions_spelling, transform_spelling, unicode_spelling, private_spelling}
 use Rattle.iloc_writeable.specs.Pieces.{hyphened}
-use Rattle.iloc_extensions.specs.ExtensionsValue.{none}
+use Rattle.iloc_grammar.specs.Meaning.{no_extensions}
 use Rattle.iloc_extensions.proofs.printing.ExtensionsPieces.write_pieces.Goals as goal
 
-nothing : (first : Bool) → [] ≡ hyphened first (extensions_spelling none)
+nothing : (first : Bool) → [] ≡ hyphened first (extensions_spelling no_extensions)
 unfolding extensions_spelling transform_spelling unicode_spelling private_spelling
 nothing true = refl
 nothing false = refl

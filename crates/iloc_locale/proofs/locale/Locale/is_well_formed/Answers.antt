@@ -2,18 +2,14 @@ use Rattle.iloc_grammar.specs.Words.{languages}
 use Rattle.iloc_grammar.proofs.RawLaws.{languages_table}
 use Rattle.iloc_grammar.proofs.ReadBack.{reads_back}
 use Rattle.iloc_grammar.proofs.Corollaries.{same_text_same_value}
-use Rattle.iloc_langid.specs.Reads as langid
 use Rattle.iloc_locale.specs.LocaleValue.{value_of}
 use Rattle.iloc_locale.proofs.locale.Locale.is_well_formed.Goals as goal
 
-pub returns-clause-exactly : goal.returns-clause-exactly
-returns-clause-exactly c = c.is_well_formed.ensures.exactly (langid.value_of c.args.self.now.id)
-
 pub returns-clause-value : goal.returns-clause-value
-returns-clause-value c = c.is_well_formed.ensures.value (langid.value_of c.args.self.now.id) c.is_unknown.ensures.value
+returns-clause-value c = record { id = c.is_unknown.ensures.value; extensions = c.is_well_formed.ensures.value }
 
 pub returns-clause-back : goal.returns-clause-back
-returns-clause-back c = λ t. reads_back (value_of c.args.self.now) (returns-clause-value c) ((returns-clause-exactly c).0 t)
+returns-clause-back c = λ t. reads_back (value_of c.args.self.now) (returns-clause-value c) (c.is_well_formed.ensures.exactly.0 t)
 
 pub returns-clause-one : goal.returns-clause-one
-returns-clause-one c = λ t M k w e. same_text_same_value languages languages_table M (value_of c.args.self.now) k w (returns-clause-value c) ((returns-clause-exactly c).0 t) e
+returns-clause-one c = λ t M k w e. same_text_same_value languages languages_table M (value_of c.args.self.now) k w (returns-clause-value c) (c.is_well_formed.ensures.exactly.0 t) e

@@ -1,10 +1,10 @@
 use Rattle.std.proofs.Common.{Ok}
 use Rattle.std.proofs.lemmas.Result.{err_from_is_err_and}
-use Rattle.iloc_locale.proofs.ReadLemmas.{reads_well_formed, reads_steps, reads_accepts, reads_refuses, reads_inline, reads_narrow, accepts_narrow, no_extensions}
+use Rattle.iloc_locale.proofs.ReadLemmas.{reads_well_formed, reads_steps, reads_accepts, reads_refuses, reads_inline, reads_narrow, accepts_narrow, none_after_unknown}
 use Rattle.iloc_locale.proofs.locale.Locale.try_from_utf8.Goals as goal
 
 pub fill-requires : goal.fill-requires
-fill-requires c = no_extensions c.unknown-locale.result c.unknown-locale.ensures
+fill-requires c = none_after_unknown c.unknown-locale.result c.unknown-locale.ensures
 
 -- each way out reads the text as the grammar says; the other clauses follow from that
 
