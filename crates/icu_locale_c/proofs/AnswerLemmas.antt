@@ -3,8 +3,6 @@ use Rattle.std.proofs.Common.{◌≡◌, ℕ, ◌<◌, Bool, true, false, IsTrue
 use Rattle.std.specs.Prelude.{MatchResult}
 use Rattle.std.specs.Int.{from_bool}
 use Rattle.std.specs.Ordering.{is_eq}
-use Rattle.std.specs.declared.cmp.Ordering.{Ordering}
-use Rattle.std.specs.declared.cmp.Ordering.TheVariants.{Less, Equal, Greater}
 use Rattle.iloc_grammar.specs.Pieces.{pieces}
 use Rattle.iloc_grammar.specs.Words.{languages}
 use Rattle.iloc_grammar.specs.Meaning as meaning
@@ -31,6 +29,7 @@ use Rattle.icu_locale_c.specs.Answers.{IsNormalText, JudgedAs, TellsSame}
 use Rattle.icu_locale_c.specs.Numbers.{mode_number, number_of, status_of}
 use Rattle.icu_locale_c.specs.declared.status.Status.{Status}
 use Rattle.icu_locale_c.specs.declared.status.Status.TheVariants.{Done, InvalidLanguage, InvalidSubtag, InvalidExtension, DuplicatedExtension, OutOfMemory, BufferTooSmall, UnknownNumber}
+use Rattle.std.specs.Cmp.{Equal-is}
 
 -- no mode has a number above 2
 pub no_mode : (m : Mode) (k : ℕ) → k ≡ mode_number m → 2 < k → ⊥
@@ -95,15 +94,10 @@ pub judged : {X : Type 0} (mode : Mode) (t : List ℕ) (text_of : X → List ℕ
 judged mode t text_of (Ok x) s h e = subst (JudgedAs mode t) (sym e) (text_of x, h)
 judged mode t text_of (Err f) s h e = subst (JudgedAs mode t) (sym e) h
 
-is_equal : (o : Ordering) → is_eq o ≡ true → o ≡ Equal
-is_equal Less e = absurd (true≢false (sym e))
-is_equal Equal e = refl
-is_equal Greater e = absurd (true≢false (sym e))
-
 means_same : (other : List ℕ) (M N : meaning.Locale) (same : Bool) → Means languages other N
     → same ≡ is_eq (locale_cmp M N) → IsTrue same ↔ Means languages other M
 means_same other M N same n e = (
-  λ s. subst (Means languages other) (sym ((locale_exact.exact M N).0 (is_equal (locale_cmp M N) (sym e ∙ s)))) n,
+  λ s. subst (Means languages other) (sym ((locale_exact.exact M N).0 ((Equal-is (locale_cmp M N)).0 (sym e ∙ s)))) n,
   λ m. e ∙ ap is_eq ((locale_exact.exact M N).1 (readings.one_meaning languages_table other M N m n)),
 )
 

@@ -1,5 +1,5 @@
 -- From what a block's reader answers to the answer of the whole.
-use Rattle.std.proofs.Common.{◌≡◌, ◌≢◌, OnOk, IfErr, ℕ, ◌≤◌, ◌<◌, Bool, true, false, cond, ◌||◌, ◌==◌, List, [], ◌∷◌, length, refl, sym, ap, ◌∙◌, subst, arith, Some, None, Result, Ok, Err, true≢false, nat_lt, suc, Option, option_map, not, is_some, ◌&&◌}
+use Rattle.std.proofs.Common.{◌≡◌, ◌≢◌, OnOk, IfErr, ℕ, ◌≤◌, Bool, true, false, cond, ◌||◌, ◌==◌, List, [], ◌∷◌, length, refl, sym, ap, ◌∙◌, subst, arith, Some, None, Result, Ok, Err, true≢false, nat_lt, suc, Option, option_map, not, is_some, ◌&&◌}
 use Rattle.std.specs.Result.{result_and}
 use Rattle.iloc_langid.specs.Reads as langid
 use Rattle.std.specs.List.{AllByRecursion, list_any}
@@ -10,7 +10,7 @@ use Rattle.std.proofs.lemmas.Bool.Decides.{nat_tests}
 use Rattle.iloc_grammar.specs.Words.{languages, is_word, PrivateSubtag}
 use Rattle.iloc_grammar.specs.Written as written
 use Rattle.iloc_grammar.specs.Written.{is_other_singleton, kept}
-use Rattle.iloc_grammar.specs.Meaning.{Extensions, no_extensions, normal_values}
+use Rattle.iloc_grammar.specs.Meaning.{Extensions, normal_values}
 use Rattle.iloc_grammar.specs.ByBlocks.{OtherMeans, BlocksMean}
 use Rattle.iloc_grammar.specs.Blocks.{is_one_byte, front, blocks}
 use Rattle.iloc_grammar.specs.Faults as faults
@@ -33,6 +33,8 @@ use Rattle.iloc_other.specs.Reading.{PrivateReads}
 use Rattle.iloc_blocks.specs.Blocks.{BlocksDone, BlockAt, BlockReads, is_read}
 use Rattle.iloc_blocks.proofs.PartAnswers.{UnicodeBlock, TransformBlock, OtherBlock}
 use Rattle.iloc_blocks.proofs.RoundLaws.{no_letter, met_before, unicode_done, unicode_bad, unicode_long, transform_done, transform_repeats, transform_bad, transform_long, other_done, other_bad, other_long, private_done, private_bad, private_long}
+use Rattle.std.proofs.lemmas.Bool.{not-false}
+use Rattle.iloc_grammar.proofs.Singletons.{two_more}
 
 -- few words want no memory
 
@@ -129,9 +131,6 @@ block_at {M = M} ext d h e r = record { before = d; letter = h; new = ap (is_rea
 pub at_letter : (c ext : ℕ) → to_ascii_lowercase c ≡ ext → is_other_singleton ext ≡ true → is_other_singleton (to_ascii_lowercase c) ≡ true
 at_letter c ext e o = ap is_other_singleton e ∙ o
 
-pub other_letter : (c : ℕ) → is_ascii_alphanumeric c ≡ true → c ≢ 117 → c ≢ 116 → c ≢ 120 → is_other_singleton c ≡ true
-other_letter c h u t x = grind (arith, nat_tests)
-
 pub other_inserted : {start : List (List ℕ)} {c : ℕ} {ps : List (List ℕ)} {M : Extensions} → BlockAt languages start c ps M → (ext : ℕ) → to_ascii_lowercase c ≡ ext → is_other_singleton ext ≡ true → (rest : List (List ℕ)) (o : ℕ × List (List ℕ)) (old os : List (ℕ × List (List ℕ))) (r : Result (Unit {0}) ParseError)
     → OtherBlock ext ps rest (Ok o) → M.others ≡ old → OnOk r (os ≡ put nat_cmp o.0 o.1 old) → IfErr r (λ f. f ≡ OutOfMemory) → BlockReads start rest (record M { others = os }) r
 other_inserted {c = c} {ps = ps} {M = M} a ext e k rest o old os (Ok x) h m g i = other_goes a (at_letter c ext e k) rest o os (subst (λ (q : ℕ). OtherBlock q ps rest (Ok o)) (sym e) h) (g ∙ ap (put nat_cmp o.0 o.1) (sym m))
@@ -171,10 +170,6 @@ both_true true true h = (refl, refl)
 both_true true false h = absurd (true≢false h)
 both_true false b h = absurd (true≢false h)
 
-is_true : (a : Bool) → not a ≡ false → a ≡ true
-is_true true h = refl
-is_true false h = absurd (true≢false h)
-
 no_value : {X Y : Type 0} (f : X → Y) (o : Option X) → not (is_some (option_map f o)) ≡ true → o ≡ None
 no_value f None h = refl
 no_value f (Some x) h = absurd (true≢false (sym h))
@@ -193,18 +188,9 @@ no_transform M m c v e h =
     (no_value langid.value_of m.lang p.0, no_items m.fields p.1)
 
 pub no_private : (M : Extensions) (c : ℕ) → c ≡ 120 → is_read M c ≡ false → M.private ≡ []
-no_private M c e h = no_items M.private (is_true _ (read_at M c 120 e h))
+no_private M c e h = no_items M.private (not-false _ (read_at M c 120 e h))
 
 -- the whole loop
-
-pub nothing_done : (ps : List (List ℕ)) (M : Extensions) → starts_block ps ≡ true → M ≡ no_extensions → BlocksDone languages ps ps M
-nothing_done ps M s e = record {
-  done = [];
-  together = refl;
-  begins = s;
-  rules = tt;
-  means = subst (BlocksMean languages []) (sym e) (record { letters = tt; different = tt; unicode = refl; transform = refl; private = refl; each_other = tt; others = refl });
-}
 
 pub all_done : (start : List (List ℕ)) (M : Extensions) → BlocksDone languages start [] M → BlocksMean languages (blocks start) M
 all_done start M d = subst (λ (bs : List (ℕ × List (List ℕ))). BlocksMean languages bs M) (sym d.together) (turned d.done M d.means)
@@ -226,20 +212,11 @@ pub no_byte : (ps : List (List ℕ)) → starts_block ps ≡ true → byte_at ps
 no_byte [] s e = refl
 no_byte ([] ∷ ps) s e = absurd (true≢false (sym s))
 no_byte ((c ∷ []) ∷ ps) s e = absurd (cc)
-no_byte ((c ∷ d ∷ p) ∷ ps) s e = absurd (true≢false (sym s ∙ longer (length p)))
-  where
-    longer : (n : ℕ) → (suc (suc n) == 1) ≡ false
-    longer n = grind (arith, nat_tests)
+no_byte ((c ∷ d ∷ p) ∷ ps) s e = absurd (true≢false (sym s ∙ two_more (length p)))
 
 -- the loop goes on after a byte
 pub goes_on : {start : List (List ℕ)} {M : Extensions} (now rest : List (List ℕ)) (b : ℕ) → BlocksDone languages start now M → byte_at now ≡ Some b → rest ≡ rest_of now → BlocksDone languages start ((b ∷ []) ∷ rest) M
 goes_on {start = start} {M = M} now rest b d e r = subst (λ (l : List (List ℕ)). BlocksDone languages start l M) (byte_of now b e ∙ ap (λ (l : List (List ℕ)). (b ∷ []) ∷ l) (sym r)) d
 
-pub smaller : (now rest more : List (List ℕ)) (b : ℕ) → byte_at now ≡ Some b → rest ≡ rest_of now → length more ≤ length rest → length more < length now
-smaller now rest more b e r h = let k = ap (λ (l : List (List ℕ)). length l) (byte_of now b e) in let n = ap (λ (l : List (List ℕ)). length l) r in omega (arith, h, k, n)
-
 pub stops : (start now : List (List ℕ)) (M : Extensions) → BlocksDone languages start now M → byte_at now ≡ None → BlocksMean languages (blocks start) M
 stops start now M d e = all_done start M (subst (λ (l : List (List ℕ)). BlocksDone languages start l M) (no_byte now d.begins e) d)
-
-pub left_none : {start : List (List ℕ)} {M : Extensions} (now rest : List (List ℕ)) → BlocksDone languages start now M → byte_at now ≡ None → rest ≡ rest_of now → rest ≡ []
-left_none now rest d e r = r ∙ ap rest_of (no_byte now d.begins e)

@@ -1,5 +1,5 @@
 -- One block more: what it adds to what was read, and which singletons were read.
-use Rattle.std.proofs.Common.{◌≡◌, ◌⊎◌, inl, inr, ℕ, suc, ◌+◌, ◌<◌, Bool, true, false, cond, ◌||◌, ◌&&◌, not, ◌==◌, List, [], ◌∷◌, length, map, refl, sym, ap, ap₂, ◌∙◌, subst, arith, Option, Some, None, is_some, option_map, MatchOption, true≢false}
+use Rattle.std.proofs.Common.{◌≡◌, ℕ, suc, ◌+◌, ◌<◌, Bool, true, false, cond, ◌||◌, ◌&&◌, not, ◌==◌, List, [], ◌∷◌, length, map, refl, sym, ap, ap₂, ◌∙◌, subst, arith, Option, Some, None, is_some, option_map, true≢false}
 use Rattle.std.specs.Prelude.{if◌then◌else◌}
 use Rattle.std.specs.List.{list_any}
 use Rattle.std.specs.Char.{is_ascii_alphanumeric}
@@ -9,16 +9,15 @@ use Rattle.std.specs.declared.cmp.Ordering.TheVariants.{Less, Equal, Greater}
 use Rattle.std.specs.Cmp.{nat_cmp_total}
 use Rattle.std.specs.FinMap.{find, put}
 use Rattle.std.specs.FinMap.Entries.{by_order, is_some-find}
-use Rattle.std.proofs.lemmas.Bool.{cases_eq}
 use Rattle.std.proofs.lemmas.Bool.Decides.{nat_tests}
 use Rattle.iloc_grammar.specs.Words.{lower, word_cmp}
 use Rattle.iloc_grammar.specs.Written.{Identifier, Unicode, Transform, Fields, IsPrivate, kept, singleton, is_other_singleton}
 use Rattle.iloc_grammar.specs.Meaning.{Extensions, map_of, set_of, normal_fields, normal_identifier, no_unicode, no_transform}
 use Rattle.iloc_grammar.specs.ByBlocks.{UnicodeMeans, TransformMeans, PrivateMeans, by_letter, other_blocks, PartIs, BlocksMean}
-use Rattle.iloc_grammar.proofs.BlockLaws.{IsKind, of_u, of_t, of_x, another, kind_of}
-use Rattle.iloc_grammar.proofs.MapLaws.{find-map_of, tied}
-use Rattle.iloc_fronts.proofs.BlockRules.{no_u, no_t, no_x}
+use Rattle.iloc_grammar.proofs.MapLaws.{find-map_of}
 use Rattle.iloc_blocks.specs.Blocks.{is_read}
+use Rattle.iloc_grammar.proofs.Singletons.{tied, no_u, no_t, no_x, IsKind, of_u, of_t, of_x, another, kind_of}
+use Rattle.iloc_blocks.proofs.DoneLaws.{letter_keys}
 
 -- what is put into a map is there
 
@@ -64,11 +63,7 @@ some_private (p ∷ ps) ws h e = ap (λ (l : List (List ℕ)). length l == 0) e 
 -- singletons that were read
 
 known : (T : ℕ → Bool) (q : ℕ) (ds : List (ℕ × List (List ℕ))) → is_some (find nat_cmp q (by_letter ds)) ≡ list_any (eq_by_cmp nat_cmp q) (map (λ b. singleton b) ds)
-known T q ds = is_some-find nat_cmp q (by_letter ds) ∙ ap (list_any (eq_by_cmp nat_cmp q)) (keys ds)
-  where
-    keys : (bs : List (ℕ × List (List ℕ))) → map (λ e. e.0) (by_letter bs) ≡ map (λ b. singleton b) bs
-    keys [] = refl
-    keys (b ∷ bs) = ap (λ l. singleton b ∷ l) (keys bs)
+known T q ds = is_some-find nat_cmp q (by_letter ds) ∙ ap (list_any (eq_by_cmp nat_cmp q)) (letter_keys ds)
 
 part_known : {X : Type 0} (Rule : List (List ℕ) → X → Type 0) (is_empty : X → Bool) → ((ps : List (List ℕ)) (v : X) → Rule ps v → is_empty v ≡ false) → (empty : X) → is_empty empty ≡ true → (o : Option (List (List ℕ))) (v : X) → PartIs Rule empty o v → not (is_empty v) ≡ is_some o
 part_known Rule is_empty some empty none None v h = ap (λ u. not (is_empty u)) h ∙ ap not none

@@ -1,5 +1,5 @@
 -- Blocks that were read, in whatever order: what they mean, and one block more.
-use Rattle.std.proofs.Common.{◌≡◌, ℕ, Bool, true, false, cond, List, [], ◌∷◌, ◌++◌, map, filter, refl, sym, ap, ◌∙◌, subst, append-nil, Option}
+use Rattle.std.proofs.Common.{◌≡◌, ℕ, Bool, true, false, cond, List, [], ◌∷◌, ◌++◌, map, filter, refl, sym, ap, ◌∙◌, subst, append-nil}
 use Rattle.std.specs.List.{list_any}
 use Rattle.std.specs.Char.{is_ascii_alphanumeric}
 use Rattle.std.specs.Ordering.{nat_cmp, eq_by_cmp}
@@ -45,7 +45,7 @@ letter_of b = (singleton b, b.1)
 abbrev kept_of : ℕ × List (List ℕ) → ℕ × List (List ℕ)
 kept_of b = (b.0, kept b.1)
 
-letter_keys : (bs : List (ℕ × List (List ℕ))) → map (λ e. e.0) (by_letter bs) ≡ map (λ b. singleton b) bs
+pub letter_keys : (bs : List (ℕ × List (List ℕ))) → map (λ e. e.0) (by_letter bs) ≡ map (λ b. singleton b) bs
 letter_keys [] = refl
 letter_keys (b ∷ bs) = ap (λ l. singleton b ∷ l) (letter_keys bs)
 

@@ -1,5 +1,5 @@
 -- One round of the reader of blocks: from the byte that begins a block to the next block, or to a refusal.
-use Rattle.std.proofs.Common.{◌≡◌, ℕ, suc, ◌≤◌, Bool, true, false, cond, ◌==◌, List, [], ◌∷◌, length, map, refl, sym, ap, ◌∙◌, subst, arith}
+use Rattle.std.proofs.Common.{◌≡◌, ℕ, ◌≤◌, Bool, true, false, cond, ◌==◌, List, [], ◌∷◌, length, map, refl, sym, ap, ◌∙◌, subst, arith}
 use Rattle.std.specs.List.{AllByRecursion, list_any}
 use Rattle.std.specs.Char.{is_ascii_alphanumeric, to_ascii_lowercase}
 use Rattle.std.specs.Ordering.{nat_cmp, eq_by_cmp}
@@ -11,7 +11,6 @@ use Rattle.iloc_grammar.specs.ByBlocks.{UnicodeMeans, TransformMeans, PrivateMea
 use Rattle.iloc_grammar.specs.Blocks.{front, blocks}
 use Rattle.iloc_grammar.specs.Reading.{starts_block, from_block}
 use Rattle.iloc_grammar.specs.Faults.{Fault, InvalidSubtag, InvalidExtension, DuplicatedExtension, IsBlock, RepeatsVariant, BlockFault, no_singleton, duplicated, repeats_variant, breaks_rule, FirstBadBlock, here, later}
-use Rattle.iloc_grammar.proofs.BlockLaws.{lower_letter}
 use Rattle.iloc_grammar.proofs.ReadingLaws.{front-from_block, from_block_starts}
 use Rattle.iloc_fronts.proofs.BlockRules.{unicode_rule, transform_rule, private_rule, other_rule}
 use Rattle.iloc_small.specs.InlineBlocks as long
@@ -19,6 +18,7 @@ use Rattle.iloc_small.specs.InlineBlocks.{IsShortUnicode, IsShortTransform, IsSh
 use Rattle.iloc_blocks.specs.Blocks.{BlocksDone, BlockAt, onto, is_read}
 use Rattle.iloc_blocks.proofs.ArmLaws.{read_is_known}
 use Rattle.iloc_blocks.proofs.StepLaws.{unicode_added, transform_added, private_added, other_added}
+use Rattle.iloc_grammar.proofs.Singletons.{lower_letter, two_more, no_t}
 
 -- blocks of pieces
 
@@ -26,10 +26,7 @@ pub blocks-from_block : (ps : List (List ℕ)) → blocks (from_block ps) ≡ bl
 blocks-from_block [] = refl
 blocks-from_block ([] ∷ ps) = blocks-from_block ps
 blocks-from_block ((c ∷ []) ∷ ps) = refl
-blocks-from_block ((c ∷ d ∷ p) ∷ ps) = ap (λ b. blocks (cond b ((c ∷ d ∷ p) ∷ ps) (from_block ps))) (two (length p)) ∙ blocks-from_block ps
-  where
-    two : (n : ℕ) → (suc (suc n) == 1) ≡ false
-    two n = grind (arith, nat_tests)
+blocks-from_block ((c ∷ d ∷ p) ∷ ps) = ap (λ b. blocks (cond b ((c ∷ d ∷ p) ∷ ps) (from_block ps))) (two_more (length p)) ∙ blocks-from_block ps
 
 block_until : (c : ℕ) (ps : List (List ℕ)) → (to_ascii_lowercase c == 120) ≡ false → blocks ((c ∷ []) ∷ ps) ≡ (c, front ps) ∷ blocks (from_block ps)
 block_until c ps e = ap (λ b. cond b ((c, ps) ∷ []) ((c, front ps) ∷ blocks ps)) e ∙ ap (λ bs. (c, front ps) ∷ bs) (sym (blocks-from_block ps))
@@ -52,9 +49,6 @@ other_than n k e d = grind (arith, nat_tests)
 
 no_x : (n : ℕ) → is_other_singleton n ≡ true → (n == 120) ≡ false
 no_x n h = grind (arith, nat_tests)
-
-no_t : (n : ℕ) → is_other_singleton n ≡ true → n ≡ 116 → ⊥
-no_t n h e = grind (arith, nat_tests)
 
 apart : (n k m : ℕ) → n ≡ k → n ≡ m → (k == m) ≡ false → ⊥
 apart n k m e f h = grind (arith, nat_tests)
@@ -125,7 +119,7 @@ module _ {T : ℕ → Bool} {start : List (List ℕ)} {c : ℕ} {ps : List (List
     other_done o m = good (front ps) (from_block ps) (record M { others = put nat_cmp (to_ascii_lowercase c) (kept (front ps)) M.others }) (block_until c ps (no_x (to_ascii_lowercase c) o)) (from_block_starts ps) ((other_rule T (c, front ps) o).1 m.0) (other_added (c, front ps) a.before.means a.letter fresh o m)
 
     pub other_bad : is_other_singleton (to_ascii_lowercase c) ≡ true → ¬ (IsOther (front ps)) → FirstBadBlock T [] (blocks start) InvalidExtension
-    other_bad o n = breaks (front ps) (blocks (from_block ps)) (block_until c ps (no_x (to_ascii_lowercase c) o)) (λ h. no_t (to_ascii_lowercase c) o h.0) (λ r. n ((other_rule T (c, front ps) o).0 r))
+    other_bad o n = breaks (front ps) (blocks (from_block ps)) (block_until c ps (no_x (to_ascii_lowercase c) o)) (λ h. no_t (to_ascii_lowercase c) h.0 o) (λ r. n ((other_rule T (c, front ps) o).0 r))
 
     pub other_long : is_other_singleton (to_ascii_lowercase c) ≡ true → ReachesLongBlock T [] (blocks start)
     other_long o = long_here (front ps) (blocks (from_block ps)) (block_until c ps (no_x (to_ascii_lowercase c) o)) (λ s. s.no_other o)

@@ -14,30 +14,24 @@ use Rattle.iloc_grammar.specs.Written.{is_other_singleton}
 use Rattle.iloc_grammar.specs.Meaning.{Extensions}
 use Rattle.iloc_grammar.specs.Values.{AreWellFormed}
 use Rattle.iloc_extensions.specs.WellFormed.{has_own_place, is_in_place, is_plain, is_read_back}
-
-both_true : (a b : Bool) → (a && b) ≡ true → (a ≡ true) × (b ≡ true)
-both_true true b h = (refl, h)
-both_true false b h = absurd (true≢false (sym h))
-
-are_true : (a b : Bool) → a ≡ true → b ≡ true → (a && b) ≡ true
-are_true a b e f = ap (λ z. z && b) e ∙ f
+use Rattle.std.proofs.lemmas.Bool.{not-true, and_parts, and_from}
 
 module _ {X : Type 0} (test : X → Bool) (P : X → Type 0) where
   all_shown : ((x : X) → test x ≡ true → P x) → (xs : List X) → list_all test xs ≡ true → AllByRecursion P xs
   all_shown shows [] h = tt
-  all_shown shows (x ∷ xs) h = let parts = both_true _ _ h in (shows x parts.0, all_shown shows xs parts.1)
+  all_shown shows (x ∷ xs) h = let parts = and_parts _ _ h in (shows x parts.0, all_shown shows xs parts.1)
 
   all_met : ((x : X) → P x → test x ≡ true) → (xs : List X) → AllByRecursion P xs → list_all test xs ≡ true
   all_met meets [] h = refl
-  all_met meets (x ∷ xs) h = are_true _ _ (meets x h.0) (all_met meets xs h.1)
+  all_met meets (x ∷ xs) h = and_from _ _ (meets x h.0) (all_met meets xs h.1)
 
 abbrev Others : Type 0
 Others = List (ℕ × List (List ℕ))
 
 own_singleton : (o : ℕ × List (List ℕ)) → has_own_place o ≡ true → (is_other_singleton o.0 ≡ true) × (to_ascii_lowercase o.0 ≡ o.0) × (0 < length o.1)
 own_singleton o h =
-    let first = both_true (is_other_singleton o.0) ((to_ascii_lowercase o.0 == o.0) && nat_lt 0 (length o.1)) h in
-    let second = both_true (to_ascii_lowercase o.0 == o.0) (nat_lt 0 (length o.1)) first.1 in
+    let first = and_parts (is_other_singleton o.0) ((to_ascii_lowercase o.0 == o.0) && nat_lt 0 (length o.1)) h in
+    let second = and_parts (to_ascii_lowercase o.0 == o.0) (nat_lt 0 (length o.1)) first.1 in
     (first.0, same second.0, some second.1)
   where
     same : (to_ascii_lowercase o.0 == o.0) ≡ true → to_ascii_lowercase o.0 ≡ o.0
@@ -47,7 +41,7 @@ own_singleton o h =
     some e = grind (arith, nat_tests)
 
 place_met : (o : ℕ × List (List ℕ)) → is_other_singleton o.0 ≡ true → to_ascii_lowercase o.0 ≡ o.0 → 0 < length o.1 → has_own_place o ≡ true
-place_met o a b n = are_true (is_other_singleton o.0) ((to_ascii_lowercase o.0 == o.0) && nat_lt 0 (length o.1)) a (are_true (to_ascii_lowercase o.0 == o.0) (nat_lt 0 (length o.1)) (same b) (some n))
+place_met o a b n = and_from (is_other_singleton o.0) ((to_ascii_lowercase o.0 == o.0) && nat_lt 0 (length o.1)) a (and_from (to_ascii_lowercase o.0 == o.0) (nat_lt 0 (length o.1)) (same b) (some n))
   where
     same : to_ascii_lowercase o.0 ≡ o.0 → (to_ascii_lowercase o.0 == o.0) ≡ true
     same e = grind (arith, nat_tests)
@@ -57,22 +51,18 @@ place_met o a b n = are_true (is_other_singleton o.0) ((to_ascii_lowercase o.0 =
 
 places_met : (os : Others) → AllByRecursion (λ o. (is_other_singleton o.0 ≡ true) × (to_ascii_lowercase o.0 ≡ o.0)) os → AllByRecursion (λ o. 0 < length o.1) os → list_all has_own_place os ≡ true
 places_met [] s n = refl
-places_met (o ∷ os) s n = are_true _ _ (place_met o s.0.0 s.0.1 n.0) (places_met os s.1 n.1)
+places_met (o ∷ os) s n = and_from _ _ (place_met o s.0.0 s.0.1 n.0) (places_met os s.1 n.1)
 
 plain_shown : (w : List ℕ) → is_plain w ≡ true → (is_true w ≡ false) × (length w ≢ 2)
 plain_shown w h =
-    let parts = both_true _ _ h in
-    (flip (is_true w) parts.0, λ e. true≢false (sym parts.1 ∙ ap not (two e)))
+    let parts = and_parts _ _ h in
+    (not-true (is_true w) parts.0, λ e. true≢false (sym parts.1 ∙ ap not (two e)))
   where
-    flip : (b : Bool) → not b ≡ true → b ≡ false
-    flip true e = sym e
-    flip false e = refl
-
     two : length w ≡ 2 → (length w == 2) ≡ true
     two e = grind (arith, nat_tests)
 
 plain_met : (w : List ℕ) → is_true w ≡ false → length w ≢ 2 → is_plain w ≡ true
-plain_met w e n = are_true _ _ (ap not e) (ap not (no_two n))
+plain_met w e n = and_from _ _ (ap not e) (ap not (no_two n))
   where
     no_two : length w ≢ 2 → (length w == 2) ≡ false
     no_two n = grind (arith, nat_tests)
@@ -85,8 +75,8 @@ by_tests e b same = (λ h. shown (sym same ∙ h), λ w. same ∙ met w)
   where
     shown : (is_in_place e.others && is_read_back e.unicode.keywords) ≡ true → AreWellFormed e
     shown h =
-        let both = both_true _ _ h in
-        let others = both_true _ _ both.0 in
+        let both = and_parts _ _ h in
+        let others = and_parts _ _ both.0 in
         record {
           ascending = others.0;
           singletons = all_shown has_own_place (λ o. (is_other_singleton o.0 ≡ true) × (to_ascii_lowercase o.0 ≡ o.0)) (λ o t. let own = own_singleton o t in (own.0, own.1)) e.others others.1;
@@ -95,7 +85,7 @@ by_tests e b same = (λ h. shown (sym same ∙ h), λ w. same ∙ met w)
         }
 
     met : AreWellFormed e → (is_in_place e.others && is_read_back e.unicode.keywords) ≡ true
-    met w = are_true _ _ (are_true _ _ w.ascending (places_met e.others w.singletons w.nonempty)) (all_met (λ f. list_all is_plain f.1) (λ f. AllByRecursion Plain f.1) (λ f. all_met is_plain Plain (λ v p. plain_met v p.0 p.1) f.1) e.unicode.keywords w.values)
+    met w = and_from _ _ (and_from _ _ w.ascending (places_met e.others w.singletons w.nonempty)) (all_met (λ f. list_all is_plain f.1) (λ f. AllByRecursion Plain f.1) (λ f. all_met is_plain Plain (λ v p. plain_met v p.0 p.1) f.1) e.unicode.keywords w.values)
 
 -- Each is below the next, and so below all that follow.
 
@@ -113,9 +103,9 @@ lt_met x y l = ap is_lt (sym (nat_cmp_is x y Less l))
 below_lower : (x y : ℕ) → x < y → (os : Others) → below_all nat_cmp y os ≡ true → below_all nat_cmp x os ≡ true
 below_lower x y l [] h = refl
 below_lower x y l (o ∷ os) h =
-    let parts = both_true _ _ h in
+    let parts = and_parts _ _ h in
     let above = lt_shown y o.0 parts.0 in
-    are_true _ _ (lt_met x o.0 (omega arith)) (below_lower x y l os parts.1)
+    and_from _ _ (lt_met x o.0 (omega arith)) (below_lower x y l os parts.1)
 
 -- each is below the next
 abbrev Adjacent : Others → Type 0
@@ -133,15 +123,15 @@ ascending (o ∷ []) h = refl
 ascending (o ∷ p ∷ os) h =
     let first : o.0 < p.0 = h 0 o (omega arith) in
     let rest = ascending (p ∷ os) (later o (p ∷ os) h) in
-    are_true _ _ (are_true _ _ (lt_met o.0 p.0 first) (below_lower o.0 p.0 first os (both_true _ _ rest).0)) rest
+    and_from _ _ (and_from _ _ (lt_met o.0 p.0 first) (below_lower o.0 p.0 first os (and_parts _ _ rest).0)) rest
 
 adjacent : (os : Others) → is_sorted nat_cmp os ≡ true → Adjacent os
 adjacent [] h k d l = absurd (omega (arith, l))
 adjacent (o ∷ []) h k d l = absurd (omega (arith, l))
-adjacent (o ∷ p ∷ os) h zero d l = lt_shown o.0 p.0 (both_true _ _ (both_true _ _ h).0).0
+adjacent (o ∷ p ∷ os) h zero d l = lt_shown o.0 p.0 (and_parts _ _ (and_parts _ _ h).0).0
 adjacent (o ∷ p ∷ os) h (suc k) d l =
     let steps : k + 1 ≡ suc k = omega arith in
-    subst (λ n. (get_or (p ∷ os) k d).0 < (get_or (o ∷ p ∷ os) (n + 1) d).0) steps (subst (λ x. (get_or (p ∷ os) k d).0 < x.0) (sym (next_of o (p ∷ os) (k + 1) d)) (adjacent (p ∷ os) (both_true _ _ h).1 k d (omega (arith, l))))
+    subst (λ n. (get_or (p ∷ os) k d).0 < (get_or (o ∷ p ∷ os) (n + 1) d).0) steps (subst (λ x. (get_or (p ∷ os) k d).0 < x.0) (sym (next_of o (p ∷ os) (k + 1) d)) (adjacent (p ∷ os) (and_parts _ _ h).1 k d (omega (arith, l))))
 
 pub ascends : (os : Others) (r : Bool) → IsAllAdjacentAnswer (λ x y b. b ≡ nat_lt x.0 y.0) os r → r ≡ is_sorted nat_cmp os
 ascends os true h = sym (ascending os (λ k d l. below (h k d l)))

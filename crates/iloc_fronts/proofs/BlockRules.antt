@@ -1,21 +1,10 @@
 -- The rule of a block, by its singleton.
 use Rattle.std.proofs.Common.{◌≡◌, ◌↔◌, inl, inr, ℕ, Bool, true, List, sym, refl, ◌∙◌, subst, arith}
-use Rattle.std.proofs.lemmas.Bool.Decides.{nat_tests}
 use Rattle.iloc_grammar.specs.Written.{Unicode, Transform, Extension, unicode, transform, other, extension_pieces, IsExtension, IsOther, IsPrivate, is_other_singleton, singleton}
 use Rattle.iloc_grammar.specs.Meaning.{normal_unicode, normal_transform}
 use Rattle.iloc_grammar.specs.Faults.{IsBlock}
 use Rattle.iloc_grammar.specs.ByBlocks.{UnicodeMeans, TransformMeans}
-
--- the kinds of singletons are apart
-
-pub no_u : (c : ℕ) → c ≡ 117 → is_other_singleton c ≡ true → ⊥
-no_u c e h = grind (arith, nat_tests)
-
-pub no_t : (c : ℕ) → c ≡ 116 → is_other_singleton c ≡ true → ⊥
-no_t c e h = grind (arith, nat_tests)
-
-pub no_x : (c : ℕ) → c ≡ 120 → is_other_singleton c ≡ true → ⊥
-no_x c e h = grind (arith, nat_tests)
+use Rattle.iloc_grammar.proofs.Singletons.{no_u, no_t, no_x}
 
 pub apart : (c m n : ℕ) → c ≡ m → c ≡ n → (m ≡ n → ⊥) → ⊥
 apart c m n e k d = d (sym e ∙ k)

@@ -7,12 +7,9 @@ use Rattle.iloc_grammar.specs.Reading.{passing, past, EndsBefore, before_key, fi
 use Rattle.iloc_grammar.proofs.ReadBack.{all_append}
 use Rattle.iloc_grammar.proofs.Readings.{fields_all}
 use Rattle.iloc_fronts.specs.Fronts.{passing_from, past_from}
+use Rattle.iloc_grammar.proofs.ReadingLaws.{all_while}
 
 -- fronts
-
-pub all_pieces : (test : List ℕ → Bool) (ps : List (List ℕ)) → passing test ps ++ past test ps ≡ ps
-all_pieces test [] = refl
-all_pieces test (p ∷ ps) = elim (test p) as (λ b. cond b (p ∷ passing test ps) [] ++ cond b (past test ps) (p ∷ ps) ≡ p ∷ ps) [ true ↦ ap (λ l. p ∷ l) (all_pieces test ps) | false ↦ refl ]
 
 pub passing_all : (test : List ℕ → Bool) (ps : List (List ℕ)) → AllByRecursion (λ p. test p ≡ true) (passing test ps)
 passing_all test [] = tt
@@ -29,7 +26,7 @@ past_stops test [] (y ∷ ys) h s = rw s refl
 past_stops test (x ∷ xs) ys h s = rw h.0 (past_stops test xs ys h.1 s)
 
 pub all_from_pieces : (first test : List ℕ → Bool) (ps : List (List ℕ)) → passing_from first test ps ++ past_from first test ps ≡ ps
-all_from_pieces first test ps = elim (first (first_piece ps)) as (λ b. cond b (passing test ps) [] ++ cond b (past test ps) ps ≡ ps) [ true ↦ all_pieces test ps | false ↦ refl ]
+all_from_pieces first test ps = elim (first (first_piece ps)) as (λ b. cond b (passing test ps) [] ++ cond b (past test ps) ps ≡ ps) [ true ↦ all_while test ps | false ↦ refl ]
 
 pub passing_from_all : (first test : List ℕ → Bool) (ps : List (List ℕ)) → AllByRecursion (λ p. test p ≡ true) (passing_from first test ps)
 passing_from_all first test ps = elim (first (first_piece ps)) as (λ b. AllByRecursion (λ p. test p ≡ true) (cond b (passing test ps) [])) [ true ↦ passing_all test ps | false ↦ tt ]

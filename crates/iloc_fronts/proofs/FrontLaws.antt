@@ -15,14 +15,15 @@ use Rattle.iloc_grammar.proofs.WordsLaws.{length-attribute, length-unicode_key}
 use Rattle.iloc_grammar.proofs.ValuesLaws.{all_weaker}
 use Rattle.iloc_grammar.proofs.ReadBack.{all_append}
 use Rattle.iloc_grammar.proofs.Readings.{IsLong, long_attribute, long_between, keywords_pass, fields_read}
-use Rattle.iloc_grammar.proofs.ReadingLaws.{front-from_block, from_block_starts}
+use Rattle.iloc_grammar.proofs.ReadingLaws.{front-from_block, from_block_starts, all_while}
 use Rattle.iloc_grammar.specs.Computing.{is_other, is_private}
 use Rattle.iloc_grammar.proofs.RuleTests.{tests_other, tests_private, tests_not}
 use Rattle.iloc_fronts.specs.Readers.{IsReader, AgreesWithBlocks}
 use Rattle.iloc_fronts.specs.Fronts.{attributes_front, after_attributes, is_keyword_piece, keywords_front, after_keywords, is_bad_key, KeywordsRead, KeywordsFault, bad_key, UnicodeRead, UnicodeFault, in_keywords, both_absent, has_other_length, other_front, OtherRead, OtherFault, no_word, PrivateRead, PrivateFault, not_private}
 use Rattle.iloc_fronts.specs.Computing.{keywords_at, keywords_result, with_attributes, unicode_result, other_result, private_result}
-use Rattle.iloc_fronts.proofs.FieldLaws.{all_pieces, passing_all, passing_stops, past_stops, all_from_pieces, passing_from_all, front_of_fields, fields_words, fields_stop, pieces_pass}
+use Rattle.iloc_fronts.proofs.FieldLaws.{passing_all, passing_stops, past_stops, all_from_pieces, passing_from_all, front_of_fields, fields_words, fields_stop, pieces_pass}
 use Rattle.iloc_fronts.proofs.ReaderLaws.{reader_of, agreeing, until_block, Answers}
+use Rattle.std.proofs.Math.Bool.{or-true, and-false}
 
 -- keywords
 
@@ -42,6 +43,18 @@ good_pieces (p ∷ ps) h n = let parts = or_parts (is_bad_key p) (list_any is_ba
     value_is : (a b : Bool) → a ≡ false → (a || b) ≡ true → b ≡ true
     value_is a b e n = sym (ap (λ c. c || b) e) ∙ n
 
+pub two_bytes_of : (p : List ℕ) → IsWord UnicodeKey p → is_two p ≡ true
+two_bytes_of p k = ap (λ n. n == 2) (length-unicode_key p k)
+
+pub not_two_bytes : (p : List ℕ) → IsWord Attribute p → is_two p ≡ false
+not_two_bytes p h = let l = (length-attribute p h).0 in grind (arith, nat_tests)
+
+pub good_key : (p : List ℕ) → IsWord UnicodeKey p → is_bad_key p ≡ false
+good_key p h = ap (λ b. is_two p && not b) h ∙ and-false (is_two p)
+
+pub good_value : (p : List ℕ) → IsWord Attribute p → is_bad_key p ≡ false
+good_value p h = ap (λ b. b && not (is_word UnicodeKey p)) (not_two_bytes p h)
+
 keywords_no_fault : (fs : Fields) → AllByRecursion IsKeyword fs → list_any is_bad_key (fields_pieces fs) ≡ false
 keywords_no_fault [] h = refl
 keywords_no_fault (f ∷ fs) h = none_bad (f.0 ∷ f.1) (fields_pieces fs) (good_key f.0 h.0.0, all_weaker (IsWord Attribute) (λ p. is_bad_key p ≡ false) good_value f.1 h.0.1) (keywords_no_fault fs h.1)
@@ -50,20 +63,7 @@ keywords_no_fault (f ∷ fs) h = none_bad (f.0 ∷ f.1) (fields_pieces fs) (good
     none_bad [] ys h n = n
     none_bad (x ∷ xs) ys h n = ap₂ ◌||◌ h.0 (none_bad xs ys h.1 n)
 
-    good_key : (p : List ℕ) → IsWord UnicodeKey p → is_bad_key p ≡ false
-    good_key p h = ap (λ b. is_two p && not b) h ∙ and_false (is_two p)
-      where
-        and_false : (b : Bool) → (b && false) ≡ false
-        and_false true = refl
-        and_false false = refl
-
-    good_value : (p : List ℕ) → IsWord Attribute p → is_bad_key p ≡ false
-    good_value p h = ap (λ b. b && not (is_word UnicodeKey p)) (three (length p) (length-attribute p h).0)
-      where
-        three : (n : ℕ) → 3 ≤ n → (n == 2) ≡ false
-        three n h = grind (arith, nat_tests)
-
-keywords_read_of : (ps : List (List ℕ)) → list_any is_bad_key (keywords_front ps) ≡ false → KeywordsRead ps (normal_fields (keywords_at ps)) (after_keywords ps)
+pub keywords_read_of : (ps : List (List ℕ)) → list_any is_bad_key (keywords_front ps) ≡ false → KeywordsRead ps (normal_fields (keywords_at ps)) (after_keywords ps)
 keywords_read_of ps e = record {
   written = keywords_at ps;
   keywords = (fields_words is_two (IsWord UnicodeKey) (IsWord Attribute) (keywords_front ps) (good_pieces _ (passing_from_all is_two is_keyword_piece ps) e)).1;
@@ -150,7 +150,7 @@ unicode_whole ps u rest h s =
     let k = h.keywords_are in
     let a = attributes_front ps in
     let front_pieces = keywords_front (after_attributes ps) in
-    let all : ps ≡ (a ++ front_pieces) ++ rest = sym (append_assoc a front_pieces rest ∙ ap (λ l. a ++ (front_pieces ++ l)) k.left ∙ ap (λ l. a ++ l) (all_from_pieces is_two is_keyword_piece (after_attributes ps)) ∙ all_pieces (is_word Attribute) ps) in
+    let all : ps ≡ (a ++ front_pieces) ++ rest = sym (append_assoc a front_pieces rest ∙ ap (λ l. a ++ (front_pieces ++ l)) k.left ∙ ap (λ l. a ++ l) (all_from_pieces is_two is_keyword_piece (after_attributes ps)) ∙ all_while (is_word Attribute) ps) in
     let long = all_append IsLong a front_pieces (all_weaker (IsWord Attribute) IsLong long_attribute a (passing_all (is_word Attribute) ps)) (all_weaker (λ p. is_keyword_piece p ≡ true) IsLong long_keyword_piece front_pieces (passing_from_all is_two is_keyword_piece (after_attributes ps))) in
     let ends = until_block (a ++ front_pieces) rest long s in (
       record {
@@ -181,15 +181,8 @@ block_ends (p ∷ ps) e =
     not_two : (n : ℕ) → n ≡ 1 → (n == 2) ≡ false
     not_two n h = rw h refl
 
-or_true : (b : Bool) → (b || true) ≡ true
-or_true true = refl
-or_true false = refl
-
-two_bytes_of : (p : List ℕ) → IsWord UnicodeKey p → is_two p ≡ true
-two_bytes_of p k = ap (λ n. n == 2) (length-unicode_key p k)
-
-value_goes_on : (p : List ℕ) → IsWord Attribute p → is_keyword_piece p ≡ true
-value_goes_on p w = ap (λ b. is_two p || b) w ∙ or_true (is_two p)
+pub value_goes_on : (p : List ℕ) → IsWord Attribute p → is_keyword_piece p ≡ true
+value_goes_on p w = ap (λ b. is_two p || b) w ∙ or-true (is_two p)
 
 keyword_goes_on : (f : List ℕ × List (List ℕ)) → IsKeyword f → (is_keyword_piece f.0 ≡ true) × AllByRecursion (λ p. is_keyword_piece p ≡ true) f.1
 keyword_goes_on f r = (ap (λ b. b || is_word Attribute f.0) (two_bytes_of f.0 r.0), all_weaker (IsWord Attribute) (λ p. is_keyword_piece p ≡ true) value_goes_on f.1 r.1)
@@ -274,7 +267,7 @@ other_reader = reader_of OtherRead OtherFault other_result other_answer (λ ps v
 
 other_whole : (ps ws rest : List (List ℕ)) → OtherRead ps ws rest → starts_block rest ≡ true → OtherMeans (front ps) ws × (rest ≡ from_block ps)
 other_whole ps ws rest h s =
-    let all : ps ≡ other_front ps ++ rest = sym (ap (λ l. other_front ps ++ l) h.left ∙ all_pieces has_other_length ps) in
+    let all : ps ≡ other_front ps ++ rest = sym (ap (λ l. other_front ps ++ l) h.left ∙ all_while has_other_length ps) in
     let ends = until_block (other_front ps) rest (all_weaker (λ p. has_other_length p ≡ true) IsLong long_between (other_front ps) (passing_all has_other_length ps)) s in
     let e : other_front ps ≡ front ps = sym (ap front all ∙ ends.0) in
     ((subst IsOther e h.follows, h.means ∙ ap kept e), sym (ap from_block all ∙ ends.1))

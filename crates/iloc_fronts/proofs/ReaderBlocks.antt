@@ -1,12 +1,12 @@
 -- A reader reads the whole of a block exactly where the block means what is read.
-use Rattle.std.proofs.Common.{◌≡◌, ◌≢◌, ◌⊎◌, inl, inr, ◌↔◌, ℕ, Bool, true, false, cond, ◌==◌, List, [], ◌∷◌, map, refl, sym, ap, ◌∙◌, subst, arith, Option, Some, None, IfSome, MatchOption}
+use Rattle.std.proofs.Common.{◌≡◌, ◌≢◌, ◌⊎◌, inl, inr, ◌↔◌, ℕ, Bool, true, false, cond, ◌==◌, List, [], ◌∷◌, refl, sym, ap, ◌∙◌, subst, arith, Option, Some, None, IfSome}
 use Rattle.std.specs.List.{AllByRecursion}
 use Rattle.std.specs.Char.{to_ascii_lowercase}
 use Rattle.std.specs.Ordering.{nat_cmp, eq_by_cmp}
 use Rattle.std.specs.FinMap.{find}
 use Rattle.std.proofs.lemmas.Bool.Decides.{nat_tests}
 use Rattle.iloc_grammar.specs.Pieces.{pieces}
-use Rattle.iloc_grammar.specs.Words.{IsTable, lower}
+use Rattle.iloc_grammar.specs.Words.{IsTable}
 use Rattle.iloc_grammar.specs.Written.{Unicode, Transform, kept, is_other_singleton, singleton}
 use Rattle.iloc_grammar.specs.Meaning.{Locale, Extensions, Means, no_unicode, no_transform}
 use Rattle.iloc_grammar.specs.Faults.{Fault}
@@ -14,12 +14,12 @@ use Rattle.iloc_grammar.specs.Blocks.{is_one_byte, front, blocks, tail_blocks}
 use Rattle.iloc_grammar.specs.ByBlocks.{UnicodeMeans, TransformMeans, OtherMeans, Rules, grammar_rules, by_letter, other_blocks, PartIs, BlocksGive, MeansBy}
 use Rattle.iloc_grammar.specs.Reading.{from_block}
 use Rattle.iloc_grammar.proofs.BlockLaws.{means_by_blocks, blocks_mean}
-use Rattle.iloc_grammar.proofs.MapLaws.{tied}
 use Rattle.iloc_fronts.specs.Readers.{AgreesWithBlocks}
 use Rattle.iloc_fronts.specs.Fronts.{UnicodeRead, TransformRead, OtherRead}
 use Rattle.iloc_fronts.proofs.FrontLaws.{unicode_agrees, other_agrees}
 use Rattle.iloc_fronts.proofs.TransformLaws.{transform_agrees}
 use Rattle.iloc_fronts.specs.ByReaders.{reading_rules, MeansByReaders}
+use Rattle.iloc_grammar.proofs.Singletons.{no_x, tied}
 
 -- what follows the singleton of a block other than that of `x` has no piece of one byte
 
@@ -67,13 +67,10 @@ found_closed q n (b ∷ bs) h = elim (eq_by_cmp nat_cmp q (singleton b)) as (λ 
   | false ↦ λ e. found_closed q n bs h.1
 ] refl
 
-no_x : (c : ℕ) → is_other_singleton c ≡ true → c ≢ 120
-no_x c h = grind (arith, nat_tests)
-
 others_closed : (bs : List (ℕ × List (List ℕ))) → AllByRecursion IsXOrClosed bs → AllByRecursion (λ b. IsClosed b.1) (other_blocks (by_letter bs))
 others_closed [] h = tt
 others_closed (b ∷ bs) h = elim (is_other_singleton (singleton b)) as (λ t. is_other_singleton (singleton b) ≡ t → AllByRecursion (λ b. IsClosed b.1) (cond t ((singleton b, b.1) ∷ other_blocks (by_letter bs)) (other_blocks (by_letter bs)))) [
-  | true ↦ λ e. (closed_of (singleton b) (no_x (singleton b) e) (singleton b) b.1 refl h.0, others_closed bs h.1)
+  | true ↦ λ e. (closed_of (singleton b) (λ x. no_x (singleton b) x e) (singleton b) b.1 refl h.0, others_closed bs h.1)
   | false ↦ λ e. others_closed bs h.1
 ] refl
 

@@ -23,6 +23,7 @@ use Rattle.iloc_fronts.specs.Fronts.{FrontRead, absent, present, is_field_piece,
 use Rattle.iloc_fronts.specs.Computing.{fields_at, fields_result, transform_result}
 use Rattle.iloc_fronts.proofs.FieldLaws.{all_from_pieces, front_of_fields, fields_stop, pieces_pass}
 use Rattle.iloc_fronts.proofs.ReaderLaws.{reader_of, agreeing, until_block, Answers}
+use Rattle.std.proofs.Math.Bool.{or-true}
 
 -- two lists of one whole
 
@@ -245,12 +246,8 @@ transform_spelled {T = T} ps rest m h e = subst (λ (l : List (List ℕ)). Trans
     front_is None i n = absent (no_language fs g.fields (n refl))
     front_is (Some i) w n = present w (record { words = w.words; spelled = refl; longest = λ j more v q. longest_until i j (fields_pieces fs ++ rest) more v (fields_end fs rest g.fields e) q })
 
-    or_true : (b : Bool) → (b || true) ≡ true
-    or_true true = refl
-    or_true false = refl
-
     goes_on : (f : List ℕ × List (List ℕ)) → IsField f → (is_field_piece f.0 ≡ true) × AllByRecursion (λ p. is_field_piece p ≡ true) f.1
-    goes_on f r = (ap (λ b. b || is_word Attribute f.0) r.0, all_weaker (IsWord Attribute) (λ p. is_field_piece p ≡ true) (λ p w. ap (λ b. is_word TransformKey p || b) w ∙ or_true (is_word TransformKey p)) f.1 r.1)
+    goes_on f r = (ap (λ b. b || is_word Attribute f.0) r.0, all_weaker (IsWord Attribute) (λ p. is_field_piece p ≡ true) (λ p w. ap (λ b. is_word TransformKey p || b) w ∙ or-true (is_word TransformKey p)) f.1 r.1)
 
     stop : (fields_front (fields_pieces fs ++ rest) ≡ fields_pieces fs) × (after_fields (fields_pieces fs ++ rest) ≡ rest)
     stop = fields_stop is_key is_field_piece fs rest (pieces_pass is_field_piece fs (all_weaker IsField (λ f. (is_field_piece f.0 ≡ true) × AllByRecursion (λ p. is_field_piece p ≡ true) f.1) goes_on fs g.fields)) (all_weaker IsField (λ f. is_key f.0 ≡ true) (λ f r. r.0) fs g.fields) (rest_stops rest e).1 (rest_stops rest e).0 no_key_empty

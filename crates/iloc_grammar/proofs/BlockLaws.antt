@@ -1,10 +1,10 @@
 -- A text means a value block by block exactly where it means it as a whole.
-use Rattle.std.proofs.Common.{◌≡◌, ◌≢◌, ◌⊎◌, inl, inr, ℕ, Bool, true, false, cond, ◌||◌, List, [], ◌∷◌, ◌++◌, map, filter_map, refl, sym, ap, ◌∙◌, subst, arith, Option, Some, None, IfSome, MatchOption, option_map, option_to_list, true≢false}
+use Rattle.std.proofs.Common.{◌≡◌, ◌≢◌, ◌⊎◌, inl, inr, ℕ, Bool, true, false, cond, ◌||◌, List, [], ◌∷◌, ◌++◌, map, filter_map, refl, sym, ap, ◌∙◌, subst, arith, Option, Some, None, IfSome, option_map, option_to_list, true≢false}
 use Rattle.std.specs.List.{AllByRecursion, list_any}
-use Rattle.std.specs.Char.{is_ascii_alphanumeric, to_ascii_lowercase}
+use Rattle.std.specs.Char.{is_ascii_alphanumeric}
 use Rattle.std.specs.Ordering.{nat_cmp, eq_by_cmp}
 use Rattle.std.specs.FinMap.{find}
-use Rattle.std.proofs.lemmas.Bool.{or_parts, or_from, cases_eq}
+use Rattle.std.proofs.lemmas.Bool.{or_parts, or_from}
 use Rattle.std.proofs.lemmas.Bool.Decides.{nat_tests}
 use Rattle.iloc_grammar.specs.Pieces.{pieces}
 use Rattle.iloc_grammar.specs.Words.{IsTable, lower}
@@ -18,8 +18,8 @@ use Rattle.iloc_grammar.specs.Reading.{unicode_of, transform_of}
 use Rattle.iloc_grammar.proofs.IdentifierLaws.{one_meaning}
 use Rattle.iloc_grammar.proofs.PiecesLaws.{pieces_nonempty}
 use Rattle.iloc_grammar.proofs.FaultLaws.{AreGood, good_means, letter}
-use Rattle.iloc_grammar.proofs.MapLaws.{tied}
 use Rattle.iloc_grammar.proofs.ReadBack.{extension_singleton}
+use Rattle.iloc_grammar.proofs.Singletons.{tied, untied, self_tied, tied_back, IsKind, of_u, of_t, of_x, another, kind_of, lower_letter}
 
 -- looking up a block
 
@@ -43,9 +43,6 @@ find_block q (e ∷ es) x = ap (cond (eq_by_cmp nat_cmp q (singleton e)) (Some (
 no_private : (q : ℕ) → q ≢ 120 → (x : Option (ℕ × List (List ℕ))) → IfSome x (λ e. (singleton e ≡ 120) × IsPrivate e.1) → find nat_cmp q (by_letter (option_to_list x)) ≡ None
 no_private q n None h = refl
 no_private q n (Some b) h = ap (λ t. cond t (Some b.1) None) (untied q (singleton b) (λ e. n (sym e ∙ h.0)))
-  where
-    untied : (q k : ℕ) → k ≢ q → eq_by_cmp nat_cmp q k ≡ false
-    untied q k h = grind (arith, nat_tests)
 
 -- what is found gives its part
 
@@ -142,9 +139,6 @@ means_by_blocks T table t M m = subst (MeansByBlocks T t) (sym m.means) (record 
 abbrev RuleAt : (ℕ → Bool) → ℕ → List (List ℕ) → Type 0
 RuleAt T q ps = ((q ≡ 120) × IsPrivate ps) ⊎ ((e : Extension) × IsExtension T q e × (ps ≡ extension_pieces e))
 
-self_tied : (q : ℕ) → eq_by_cmp nat_cmp q q ≡ true
-self_tied q = grind (arith, nat_tests)
-
 find_later : (P : List (List ℕ) → Type 0) (q : ℕ) (b : ℕ × List (List ℕ)) (bs : List (ℕ × List (List ℕ))) → list_any (eq_by_cmp nat_cmp (singleton b)) (map (λ b. singleton b) bs) ≡ false → IfSome (find nat_cmp q (by_letter (b ∷ bs))) P → IfSome (find nat_cmp q (by_letter bs)) P
 find_later P q b bs d h = (elim (eq_by_cmp nat_cmp q (singleton b)) as (λ t. eq_by_cmp nat_cmp q (singleton b) ≡ t → IfSome (cond t (Some b.1) (find nat_cmp q (by_letter bs))) P → IfSome (find nat_cmp q (by_letter bs)) P) [
   | true ↦ λ t h. subst (λ (o : Option (List (List ℕ))). IfSome o P) (sym (none_found bs (subst (λ (c : ℕ). list_any (eq_by_cmp nat_cmp c) (map (λ b. singleton b) bs) ≡ false) (tied q (singleton b) t) d))) tt
@@ -184,29 +178,6 @@ others_each (b ∷ bs) h = (elim (is_other_singleton (singleton b)) as (λ t. is
   | false ↦ λ t h. ((λ e. absurd (true≢false (sym e ∙ t))), others_each bs h)
 ]) refl h
 
--- a singleton in lower case: that of `u`, `t` or `x`, or of another part
-pub data IsKind (c : ℕ) : Type 0 where
-  of_u : c ≡ 117 → IsKind c
-  of_t : c ≡ 116 → IsKind c
-  of_x : c ≡ 120 → IsKind c
-  another : is_other_singleton c ≡ true → IsKind c
-
-pub kind_of : (c : ℕ) → is_ascii_alphanumeric c ≡ true → IsKind c
-kind_of c h = at (cases_eq c 117) (cases_eq c 116) (cases_eq c 120)
-  where
-    rest : (c : ℕ) → is_ascii_alphanumeric c ≡ true → (c ≡ 117 → ⊥) → (c ≡ 116 → ⊥) → (c ≡ 120 → ⊥) → is_other_singleton c ≡ true
-    rest c h a b d = grind (arith, nat_tests)
-
-    at : (c ≡ 117) ⊎ (c ≡ 117 → ⊥) → (c ≡ 116) ⊎ (c ≡ 116 → ⊥) → (c ≡ 120) ⊎ (c ≡ 120 → ⊥) → IsKind c
-    at (inl e) b d = of_u e
-    at (inr a) (inl e) d = of_t e
-    at (inr a) (inr b) (inl e) = of_x e
-    at (inr a) (inr b) (inr d) = another (rest c h a b d)
-
--- a letter or digit is one in lower case too
-pub lower_letter : (c : ℕ) → is_ascii_alphanumeric c ≡ true → is_ascii_alphanumeric (to_ascii_lowercase c) ≡ true
-lower_letter c h = grind (arith, nat_tests)
-
 good_each : (T : ℕ → Bool) (seen : List ℕ) (bs : List (ℕ × List (List ℕ))) → AllByRecursion (λ b. is_ascii_alphanumeric b.0 ≡ true) bs → AllDifferent nat_cmp (map (λ b. singleton b) bs) → AllByRecursion (λ b. list_any (eq_by_cmp nat_cmp (singleton b)) seen ≡ false) bs → AllByRecursion (λ b. KnownAt T (singleton b) b.1) bs → AllByRecursion (λ b. is_other_singleton (singleton b) ≡ true → IsOther b.1) bs → AreGood T seen bs
 good_each T seen [] l d n k o = tt
 good_each T seen (b ∷ bs) l d n k o = (((l.0, n.0), rule (kind_of (singleton b) (lower_letter b.0 l.0))), good_each T (singleton b ∷ seen) bs l.1 d.1 (see bs d.0 n.1) k.1 o.1)
@@ -220,9 +191,6 @@ good_each T seen (b ∷ bs) l d n k o = (((l.0, n.0), rule (kind_of (singleton b
     see : (cs : List (ℕ × List (List ℕ))) → list_any (eq_by_cmp nat_cmp (singleton b)) (map (λ b. singleton b) cs) ≡ false → AllByRecursion (λ b. list_any (eq_by_cmp nat_cmp (singleton b)) seen ≡ false) cs → AllByRecursion (λ c. list_any (eq_by_cmp nat_cmp (singleton c)) (singleton b ∷ seen) ≡ false) cs
     see [] d n = tt
     see (c ∷ cs) d n = let parts = or_parts _ _ d in (or_from _ _ (tied_back (singleton b) (singleton c) parts.0) n.0, see cs parts.1 n.1)
-      where
-        tied_back : (a b : ℕ) → eq_by_cmp nat_cmp a b ≡ false → eq_by_cmp nat_cmp b a ≡ false
-        tied_back a b h = grind (arith, nat_tests)
 
 none_seen : (bs : List (ℕ × List (List ℕ))) → AllByRecursion (λ b. list_any (eq_by_cmp nat_cmp (singleton b)) [] ≡ false) bs
 none_seen [] = tt

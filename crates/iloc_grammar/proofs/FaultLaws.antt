@@ -1,5 +1,5 @@
 -- A text is a locale or has exactly one fault.
-use Rattle.std.proofs.Common.{◌≡◌, ◌≢◌, ◌⊎◌, inl, inr, ℕ, suc, Bool, true, false, cond, ◌==◌, List, [], ◌∷◌, ◌++◌, length, map, flat_map, refl, sym, ap, ◌∙◌, subst, arith, Option, Some, None, IfSome, option_to_list, true≢false, append_assoc, append-nil}
+use Rattle.std.proofs.Common.{◌≡◌, ◌≢◌, ◌⊎◌, inl, inr, ℕ, Bool, true, false, cond, ◌==◌, List, [], ◌∷◌, ◌++◌, length, map, flat_map, refl, sym, ap, ◌∙◌, subst, arith, Option, Some, None, IfSome, option_to_list, true≢false, append_assoc, append-nil}
 use Rattle.std.specs.List.{AllByRecursion, list_any}
 use Rattle.std.specs.Char.{is_ascii_alphanumeric, to_ascii_lowercase}
 use Rattle.std.specs.Ordering.{nat_cmp, eq_by_cmp}
@@ -9,7 +9,7 @@ use Rattle.std.proofs.lemmas.Bool.Decides.{nat_tests}
 use Rattle.std.proofs.lemmas.List.{map-append}
 use Rattle.iloc_grammar.specs.Pieces.{pieces}
 use Rattle.iloc_grammar.specs.Words.{Language, Script, Region, Variant, TransformKey, is_word, IsWord, IsTable, lower, word_cmp}
-use Rattle.iloc_grammar.specs.Written.{Identifier, Fields, Transform, Extension, unicode, transform, other, Written, identifier_pieces, optional_pieces, fields_pieces, transform_pieces, extension_pieces, extension_block, block_pieces, blocks_of, HasWords, IsIdentifier, IsTransform, IsField, IsPrivate, is_other_singleton, IsExtension, singleton, IsWritten, AllDifferent}
+use Rattle.iloc_grammar.specs.Written.{Identifier, Fields, Transform, Extension, unicode, transform, other, Written, identifier_pieces, optional_pieces, fields_pieces, transform_pieces, extension_pieces, extension_block, block_pieces, blocks_of, HasWords, IsIdentifier, IsTransform, IsField, IsPrivate, IsExtension, singleton, IsWritten, AllDifferent}
 use Rattle.iloc_grammar.specs.Meaning.{Locale, Means, meaning}
 use Rattle.iloc_grammar.specs.Faults.{Fault, InvalidLanguage, InvalidSubtag, InvalidExtension, DuplicatedExtension, SpellsIdentifier, IsBlock, RepeatsVariant, BlockFault, no_singleton, duplicated, repeats_variant, breaks_rule, FirstBadBlock, here, later, HasFault, no_language, no_identifier, bad_block}
 use Rattle.iloc_grammar.specs.Blocks.{is_one_byte, front, blocks, head, tail_blocks, first_piece}
@@ -19,6 +19,7 @@ use Rattle.iloc_grammar.specs.Reading.{take_first, skip_first, passing, past, id
 use Rattle.iloc_grammar.proofs.Readings.{identifier_no_key, head-spelling, blocks-spelling}
 use Rattle.iloc_grammar.proofs.Deciding.{dec_spells, dec_block, dec_different}
 use Rattle.iloc_grammar.proofs.PiecesLaws.{pieces_nonempty}
+use Rattle.iloc_grammar.proofs.Singletons.{tied_back, untied, two_more, no_t, no_x}
 
 -- variants that repeat
 
@@ -158,9 +159,6 @@ block_no_repeat T b e (inr x) r = at_extension x.0 x.1 x.2
     at_extension (unicode u) h q = absurd (let k = h.0 in omega arith)
     at_extension (transform m) h q = good_no_repeat T m h.1 (subst (RepeatsVariant T) q r)
     at_extension (other ps) h q = absurd (no_t (singleton b) e h.0)
-      where
-        no_t : (c : ℕ) → c ≡ 116 → is_other_singleton c ≡ true → ⊥
-        no_t c e h = grind (arith, nat_tests)
 
 -- blocks one after another
 
@@ -208,12 +206,6 @@ bad_not_good (later a e b x) g = bad_not_good x g.1
 
 -- the blocks of a locale are good
 
-tied_back : (a b : ℕ) → eq_by_cmp nat_cmp a b ≡ false → eq_by_cmp nat_cmp b a ≡ false
-tied_back a b h = grind (arith, nat_tests)
-
-untied : (a b : ℕ) → a ≢ b → eq_by_cmp nat_cmp a b ≡ false
-untied a b h = grind (arith, nat_tests)
-
 abbrev NotSeen : List ℕ → List (ℕ × Extension) → Type 0
 NotSeen seen es = AllByRecursion (λ e. list_any (eq_by_cmp nat_cmp (singleton e)) seen ≡ false) es
 
@@ -231,17 +223,14 @@ letter c h = grind (arith, nat_tests)
 extension_byte : (T : ℕ → Bool) (c : ℕ) (e : Extension) → IsExtension T c e → (is_ascii_alphanumeric c ≡ true) × (c ≢ 120)
 extension_byte T c (unicode u) h = (rw h.0, let k = h.0 in omega arith)
 extension_byte T c (transform m) h = (rw h.0, let k = h.0 in omega arith)
-extension_byte T c (other ps) h = ((and_parts _ _ h.0).0, no_x c h.0)
-  where
-    no_x : (c : ℕ) → is_other_singleton c ≡ true → c ≢ 120
-    no_x c h = grind (arith, nat_tests)
+extension_byte T c (other ps) h = ((and_parts _ _ h.0).0, λ e. no_x c e h.0)
 
 good_blocks : (T : ℕ → Bool) (seen : List ℕ) (es : List (ℕ × Extension)) (x : Option (ℕ × List (List ℕ))) → AllByRecursion (λ e. IsExtension T (singleton e) e.1) es → AllDifferent nat_cmp (map (λ e. singleton e) es) → NotSeen seen es → list_any (eq_by_cmp nat_cmp 120) seen ≡ false → IfSome x (λ e. (singleton e ≡ 120) × IsPrivate e.1) → AreGood T seen (map extension_block es ++ option_to_list x)
 good_blocks T seen [] None h d n k p = tt
 good_blocks T seen [] (Some b) h d n k p = (((letter b.0 (rw p.0), ap (λ c. list_any (eq_by_cmp nat_cmp c) seen) p.0 ∙ k), inl p), tt)
 good_blocks T seen (e ∷ es) x h d n k p =
     let byte = extension_byte T (singleton e) e.1 h.0 in
-    (((letter e.0 byte.0, n.0), inr (e.1, h.0, refl)), good_blocks T (singleton e ∷ seen) es x h.1 d.1 (see_one (singleton e) seen es d.0 n.1) (or_from _ _ (untied 120 (singleton e) (λ q. byte.1 (sym q))) k) p)
+    (((letter e.0 byte.0, n.0), inr (e.1, h.0, refl)), good_blocks T (singleton e ∷ seen) es x h.1 d.1 (see_one (singleton e) seen es d.0 n.1) (or_from _ _ (untied 120 (singleton e) byte.1) k) p)
 
 none_seen : (es : List (ℕ × Extension)) → NotSeen [] es
 none_seen [] = tt
@@ -281,9 +270,6 @@ all_blocks ((c ∷ d ∷ p) ∷ ps) = rw longer (ap (λ l. (c ∷ d ∷ p) ∷ l
   where
     longer : is_one_byte (c ∷ d ∷ p) ≡ false
     longer = two_more (length p)
-      where
-        two_more : (n : ℕ) → (suc (suc n) == 1) ≡ false
-        two_more n = grind (arith, nat_tests)
 
 pub head-and-blocks : (p : List ℕ) (ps : List (List ℕ)) → head (p ∷ ps) ++ flat_map block_pieces (tail_blocks (p ∷ ps)) ≡ p ∷ ps
 head-and-blocks p ps = ap (λ l. p ∷ l) (all_blocks ps)

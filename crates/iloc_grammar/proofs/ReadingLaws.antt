@@ -179,24 +179,6 @@ keep_count : (test : List ℕ → Bool) (ps : List (List ℕ)) → length (passi
 keep_count test [] = omega arith
 keep_count test (p ∷ ps) = kept_one (test p) p (passing test ps) (filter test ps) (keep_count test ps)
 
-skipped_one : (b c : Bool) (by : List ℕ → Bool) (p : List ℕ) (ps : List (List ℕ)) → by p ≡ c → length (filter by (cond b ps (p ∷ ps))) ≤ length (cond c (p ∷ filter by ps) (filter by ps))
-skipped_one true true by p ps e = omega arith
-skipped_one true false by p ps e = omega arith
-skipped_one false true by p ps e = rw e (omega arith)
-skipped_one false false by p ps e = rw e (omega arith)
-
-skip_count : (test by : List ℕ → Bool) (ps : List (List ℕ)) → length (filter by (skip_first test ps)) ≤ length (filter by ps)
-skip_count test by [] = omega arith
-skip_count test by (p ∷ ps) = skipped_one (test p) (by p) by p ps refl
-
-variants_count : (p : List ℕ) (ps : List (List ℕ)) → length (front_of (p ∷ ps)).variants ≤ length (filter (is_word Variant) ps)
-unfolding front_of
-variants_count p ps =
-    let a = keep_count (is_word Variant) (after_region (p ∷ ps)) in
-    let b = skip_count (is_word Region) (is_word Variant) (skip_first (is_word Script) ps) in
-    let c = skip_count (is_word Script) (is_word Variant) ps in
-    omega arith
-
 -- What the reading from the left says of a front, the pieces before where it should end.
 
 module _ (T : ℕ → Bool) (p : List ℕ) (ps rest : List (List ℕ)) (ends : EndsWords rest) where
@@ -222,33 +204,30 @@ module _ (T : ℕ → Bool) (p : List ℕ) (ps rest : List (List ℕ)) (ends : E
   pub refuses_repeat : ¬ (AllDifferent word_cmp (map lower (front_of (p ∷ (ps ++ rest))).variants)) → ¬ (SpellsIdentifier T (p ∷ ps))
   refuses_repeat n s = n (subst (λ i. AllDifferent word_cmp (map lower i.variants)) (sym (front_of-append p ps rest ends ∙ spelled_front s)) s.1.different)
 
-  pub counts_variants : length (front_of (p ∷ (ps ++ rest))).variants ≤ length (filter (is_word Variant) ps)
-  counts_variants = subst (λ i. length i.variants ≤ length (filter (is_word Variant) ps)) (sym (front_of-append p ps rest ends)) (variants_count p ps)
-
 -- The reading takes as much as can be taken.
 
 skip_first-length : (test : List ℕ → Bool) (ps : List (List ℕ)) → length (skip_first test ps) ≤ length ps
 skip_first-length test [] = omega arith
 skip_first-length test (p ∷ ps) = elim (test p) as (λ b. length (cond b ps (p ∷ ps)) ≤ length (p ∷ ps)) [ true ↦ omega arith | false ↦ omega arith ]
 
-skip_while-length : (test : List ℕ → Bool) (ps : List (List ℕ)) → length (past test ps) ≤ length ps
-skip_while-length test [] = omega arith
-skip_while-length test (p ∷ ps) = let h = skip_while-length test ps in elim (test p) as (λ b. length (cond b (past test ps) (p ∷ ps)) ≤ length (p ∷ ps)) [ true ↦ omega (arith, h) | false ↦ omega arith ]
+pub length-past : (test : List ℕ → Bool) (ps : List (List ℕ)) → length (past test ps) ≤ length ps
+length-past test [] = omega arith
+length-past test (p ∷ ps) = let h = length-past test ps in elim (test p) as (λ b. length (cond b (past test ps) (p ∷ ps)) ≤ length (p ∷ ps)) [ true ↦ omega (arith, h) | false ↦ omega arith ]
 
 skip_taken : (test : List ℕ → Bool) (ps more : List (List ℕ)) → AllByRecursion (Passes test) ps → length (past test (ps ++ more)) ≤ length more
-skip_taken test [] more h = skip_while-length test more
+skip_taken test [] more h = length-past test more
 skip_taken test (p ∷ ps) more h = rw h.0 (skip_taken test ps more h.1)
 
 after_words : (s r : Option (List ℕ)) (vs more : List (List ℕ)) → IfSome s (IsWord Script) → IfSome r (IsWord Region) → AllByRecursion (IsWord Variant) vs → length (past (is_word Variant) (skip_first (is_word Region) (skip_first (is_word Script) (option_to_list s ++ (option_to_list r ++ (vs ++ more)))))) ≤ length more
 after_words None None [] more hs hr hv =
-    let a = skip_while-length (is_word Variant) (skip_first (is_word Region) (skip_first (is_word Script) more)) in
+    let a = length-past (is_word Variant) (skip_first (is_word Region) (skip_first (is_word Script) more)) in
     let b = skip_first-length (is_word Region) (skip_first (is_word Script) more) in
     let c = skip_first-length (is_word Script) more in
     omega (arith, a, b, c)
 after_words None None (v ∷ vs) more hs hr hv = rw (variant_no_script v hv.0, variant_no_region v hv.0, hv.0) (skip_taken (is_word Variant) vs more hv.1)
 after_words None (Some r) vs more hs hr hv = rw (region_no_script r hr, hr) (skip_taken (is_word Variant) vs more hv)
 after_words (Some s) None [] more hs hr hv =
-    let a = skip_while-length (is_word Variant) (skip_first (is_word Region) more) in
+    let a = length-past (is_word Variant) (skip_first (is_word Region) more) in
     let b = skip_first-length (is_word Region) more in
     rw hs (omega (arith, a, b))
 after_words (Some s) None (v ∷ vs) more hs hr hv = rw (hs, variant_no_region v hv.0, hv.0) (skip_taken (is_word Variant) vs more hv.1)

@@ -3,7 +3,7 @@ use Rattle.std.proofs.Common.{◌≡◌, ℕ, Bool, true, false, ◌||◌, List,
 use Rattle.std.specs.Option.{option_eq}
 use Rattle.std.specs.Cmp.Lexicographic.{pointwise, same_text, other_text}
 use Rattle.std.specs.List.{AllByRecursion, list_any, list_all}
-use Rattle.std.specs.Cmp.{eq_by_cmp_equiv}
+use Rattle.std.specs.Cmp.{eq_by_cmp_equiv, Equal-is}
 use Rattle.std.specs.Ordering.{is_eq}
 use Rattle.std.specs.Char.{to_ascii_lowercase}
 use Rattle.std.specs.FinMap.{put}
@@ -34,13 +34,8 @@ use Rattle.iloc_langid.proofs.SmallLemmas.{parts_are, after_region-pieces, past_
 pub same_itself : (w : List ℕ) → is_same w w ≡ true
 same_itself w = (eq_by_cmp_equiv word_cmp_total).refl w
 
-equal : (o : Ordering) → is_eq o ≡ true → o ≡ Equal
-equal Less h = absurd (true≢false (sym h))
-equal Equal h = refl
-equal Greater h = absurd (true≢false (sym h))
-
 pub same_word : (v w : List ℕ) → is_same v w ≡ true → v ≡ w
-same_word v w h = same_words v w (equal (word_cmp v w) h)
+same_word v w h = same_words v w ((Equal-is (word_cmp v w)).0 h)
 
 turned : {X : Type 0} {xs ys : List X} → Reordered xs ys → Reordered ys xs
 turned none = none

@@ -2,8 +2,7 @@
 -- does.
 use Rattle.std.proofs.Common.{◌≡◌, Bool, true, false, true≢false, cond, List, [], ◌∷◌, ◌++◌, reverse, Option, Some, None, is_some, refl, sym, ap, ap₂, ◌∙◌, append_assoc}
 use Rattle.std.specs.declared.cmp.Ordering.{Ordering}
-use Rattle.std.specs.declared.cmp.Ordering.TheVariants.{Less, Equal, Greater}
-use Rattle.std.specs.Cmp.{IsTotalOrder}
+use Rattle.std.specs.Cmp.{IsTotalOrder, Equal-is}
 use Rattle.std.specs.FinMap.{put, find, IsAntisymmetric}
 use Rattle.std.specs.FinMap.Entries.{below_all}
 use Rattle.std.specs.FinMap.Entries as entries
@@ -18,12 +17,7 @@ use Rattle.iloc_litemap.specs.Pairs.{IsAscending}
 
 -- keys that tie are one
 pub tied : {K : Type 0} (R : K → K → Ordering) → IsAntisymmetric R → (q k : K) → eq_by_cmp R q k ≡ true → q ≡ k
-tied R same q k h = same q k (equal (R q k) h)
-  where
-    equal : (r : Ordering) → is_eq r ≡ true → r ≡ Equal
-    equal Less h = absurd (true≢false (sym h))
-    equal Equal h = refl
-    equal Greater h = absurd (true≢false (sym h))
+tied R same q k h = same q k ((Equal-is (R q k)).0 h)
 
 -- the pairs xs put in one by one, so that the last of equal keys stays
 abbrev pub put_all : {K X : Type 0} → (K → K → Ordering) → List (K × X) → List (K × X) → List (K × X)

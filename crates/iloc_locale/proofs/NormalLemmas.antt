@@ -9,8 +9,6 @@ use Rattle.iloc_grammar.specs.Pieces.{join}
 use Rattle.iloc_grammar.specs.Faults as faults
 use Rattle.iloc_grammar.proofs.FaultLaws.{accepted_no_fault}
 use Rattle.std.specs.Ordering.{is_eq}
-use Rattle.std.specs.declared.cmp.Ordering.{Ordering}
-use Rattle.std.specs.declared.cmp.Ordering.TheVariants.{Less, Equal, Greater}
 use Rattle.iloc_orders.specs.Orders.{locale_cmp}
 use Rattle.iloc_orders.proofs.OrderLaws.{locale_exact}
 use Rattle.iloc_grammar.proofs.RawLaws.{languages_table}
@@ -23,6 +21,7 @@ use Rattle.iloc_locale.specs.Reads.{LocaleReadsAs}
 use Rattle.iloc_locale.specs.Normalizing.{IsTextOf, IsNormalizedFrom, RefusesNormalizing}
 use Rattle.iloc_locale.proofs.ReadLemmas.{no_fault, inline_wants_none}
 use Rattle.iloc_small.specs.Inline.{IsInline}
+use Rattle.std.specs.Cmp.{Equal-is}
 
 pub is_normalized : (t u : List ℕ) (M : meaning.Locale) → Means languages t M → u ≡ text M → IsNormalizedFrom t u
 is_normalized t u M m e = subst (IsNormalizedFrom t) (sym e) (record {
@@ -58,15 +57,9 @@ pub text_alone : (i : Identifier) (e : Extensions) → e ≡ no_extensions → t
 unfolding identifier_text
 text_alone i e n = ap (λ (x : Extensions). text (record { id = i; extensions = x })) n ∙ ap join (append-nil _)
 
--- two values that tie are equal
-is_equal : (o : Ordering) → is_eq o ≡ true → o ≡ Equal
-is_equal Less h = absurd (true≢false (sym h))
-is_equal Equal h = refl
-is_equal Greater h = absurd (true≢false (sym h))
-
 pub same_meaning_ties : (t : List ℕ) (L M : meaning.Locale) (same : Bool) → Means languages t L → same ≡ is_eq (locale_cmp M L) → IsTrue same ↔ Means languages t M
 same_meaning_ties t L M same m e = (
-  λ s. subst (Means languages t) (sym ((locale_exact.exact M L).0 (is_equal (locale_cmp M L) (sym e ∙ s)))) m,
+  λ s. subst (Means languages t) (sym ((locale_exact.exact M L).0 ((Equal-is (locale_cmp M L)).0 (sym e ∙ s)))) m,
   λ n. e ∙ ap is_eq ((locale_exact.exact M L).1 (readings.one_meaning languages_table t M L n m)),
 )
 

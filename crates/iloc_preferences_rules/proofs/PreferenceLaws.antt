@@ -1,5 +1,5 @@
 -- Preferences: what extending and the way to a locale and back keep.
-use Rattle.std.proofs.Common.{◌≡◌, ◌≢◌, ℕ, Bool, true, false, cond, List, [], ◌∷◌, ◌++◌, length, arith, refl, sym, ap, ◌∙◌, Option, Some, None, Result, Ok, Err, IfSome, option_map, option_and_then, option_to_list, codes, length-append, true≢false}
+use Rattle.std.proofs.Common.{◌≡◌, ◌≢◌, ℕ, Bool, true, false, cond, List, [], ◌∷◌, ◌++◌, length, arith, refl, sym, ap, ◌∙◌, Option, Some, None, Result, Ok, Err, IfSome, option_map, option_and_then, codes, length-append, true≢false}
 use Rattle.std.specs.Option.{option_or}
 use Rattle.std.specs.Result.{result_ok}
 use Rattle.std.specs.List.{AllByRecursion}
@@ -7,7 +7,7 @@ use Rattle.std.specs.FinMap.{find, is_sorted}
 use Rattle.iloc_grammar.specs.Words.{Region, Variant, Subtag, UnicodeKey, word_cmp, is_same, is_word, lower, is_true}
 use Rattle.iloc_grammar.specs.Written.{Identifier}
 use Rattle.iloc_grammar.specs.Meaning.{Locale, without_extensions}
-use Rattle.iloc_grammar.specs.Values.{IsNormal, IsValue, IsWellFormed, IsAscending}
+use Rattle.iloc_grammar.specs.Values.{IsNormal, IsValue, IsWellFormed}
 use Rattle.iloc_grammar.specs.Faults.{Fault}
 use Rattle.iloc_grammar.proofs.ValuesLaws.{all_weaker}
 use Rattle.iloc_grammar.proofs.WordsLaws.{length-lower, length-region}
@@ -22,6 +22,7 @@ use Rattle.iloc_preferences_rules.specs.Formatters.{FormatPreferences, TimePrefe
 use Rattle.iloc_small.proofs.SmallLaws.{first-option}
 use Rattle.iloc_regions.proofs.SubdivisionLaws.{subdivision_back, subdivision_is_subtag, text_of_read, read_is_long, read_is_subdivision}
 use Rattle.iloc_regions.proofs.DataLaws.{same_itself, same_is, whole_region_is}
+use Rattle.iloc_small.proofs.SmallBack.{one_normal, one_ascends}
 
 -- extending
 
@@ -139,7 +140,7 @@ entries_ascend (Some s) (Some q) = elim (is_whole q) as (λ b. is_sorted word_cm
 pub locale_is_value : {T : ℕ → Bool} (p : Preferences) → IsPreferences T p → IsValue T (locale_of_preferences p) × IsWellFormed (locale_of_preferences p)
 locale_is_value {T = T} p h = (
   record {
-    id = record { language = h.language; script = h.script; region = region_is p.region h.region; variants = variant_is p.variant h.variant; ascending = variant_ascends p.variant };
+    id = record { language = h.language; script = h.script; region = region_is p.region h.region; variants = one_normal Variant p.variant h.variant; ascending = one_ascends p.variant };
     extensions = record {
       unicode = record { attributes = tt; ascending = refl; keywords = all_weaker IsEntry (λ f. IsNormal UnicodeKey f.0 × AllByRecursion (IsNormal Subtag) f.1) (λ f e. e.0) _ entries; keys_ascend = entries_ascend p.region_override p.region };
       transform = record { id = tt; fields = tt; keys_ascend = refl };
@@ -156,14 +157,6 @@ locale_is_value {T = T} p h = (
     region_is : (o : Option Subdivision) → IfSome o IsSubdivision → IfSome (option_map (λ s. s.region) o) (IsNormal Region)
     region_is None h = tt
     region_is (Some s) h = h.region
-
-    variant_is : (o : Option (List ℕ)) → IfSome o (IsNormal Variant) → AllByRecursion (IsNormal Variant) (option_to_list o)
-    variant_is None h = tt
-    variant_is (Some w) h = (h, tt)
-
-    variant_ascends : (o : Option (List ℕ)) → IsAscending (option_to_list o)
-    variant_ascends None = refl
-    variant_ascends (Some w) = refl
 
 -- preferences of a value keep what the type keeps
 

@@ -2,9 +2,7 @@
 use Rattle.std.proofs.Common.{◌≡◌, ◌≤◌, ◌⊎◌, ℕ, Bool, true, false, cond, List, [], ◌∷◌, ◌++◌, length, refl, sym, ap, ◌∙◌, subst, arith, Option, Some, None, IfSome, MatchResult, Result, Ok, Err, ok_or, option_map, option_and_then, option_to_list, true≢false, codes, append_assoc, append-nil}
 use Rattle.std.specs.Result.{result_ok}
 use Rattle.std.specs.Ordering.{is_eq}
-use Rattle.std.specs.declared.cmp.Ordering.{Ordering}
-use Rattle.std.specs.declared.cmp.Ordering.TheVariants.{Less, Equal, Greater}
-use Rattle.std.specs.Cmp.{tied_itself}
+use Rattle.std.specs.Cmp.{tied_itself, Equal-is}
 use Rattle.std.proofs.lemmas.Bool.Decides.{nat_tests}
 use Rattle.iloc_grammar.specs.Pieces.{join}
 use Rattle.iloc_grammar.specs.Words.{Language, Script, Region, Variant, Subtag, UnicodeKey, Attribute, SubdivisionSuffix, is_word, IsWord, IsTable, lower, word_cmp, is_same, is_true}
@@ -30,13 +28,8 @@ use Rattle.iloc_regions.proofs.SubdivisionLaws.{subdivision_back, subdivision_is
 pub same_itself : (w : List ℕ) → is_same w w ≡ true
 same_itself w = ap is_eq (tied_itself word_cmp_total w)
 
-tied : (r : Ordering) → is_eq r ≡ true → r ≡ Equal
-tied Less e = absurd (true≢false (sym e))
-tied Equal e = refl
-tied Greater e = absurd (true≢false (sym e))
-
 pub same_is : (v w : List ℕ) → is_same v w ≡ true → v ≡ w
-same_is v w e = same_words v w (tied (word_cmp v w) e)
+same_is v w e = same_words v w ((Equal-is (word_cmp v w)).0 e)
 
 -- what is read of a text
 

@@ -1,5 +1,5 @@
 -- A subdivision's text is read as it, and what is read has the text in lower case.
-use Rattle.std.proofs.Common.{◌≡◌, ℕ, ◌+◌, ◌≤◌, Bool, true, false, cond, ◌&&◌, ◌==◌, List, [], ◌∷◌, ◌++◌, length, take, drop, take-append-drop, length-append, refl, sym, ap, ap₂, ◌∙◌, subst, arith, Some, None, Result, Ok, Err, ok_or, inl, inr, true≢false, MatchResult, codes}
+use Rattle.std.proofs.Common.{◌≡◌, ℕ, ◌+◌, ◌≤◌, Bool, true, false, cond, ◌&&◌, ◌==◌, List, [], ◌∷◌, ◌++◌, length, take, drop, take-append-drop, length-append, refl, sym, ap, ap₂, ◌∙◌, subst, arith, Some, None, Result, Ok, Err, ok_or, inl, inr, true≢false, MatchResult}
 use Rattle.std.specs.List.{list_all}
 use Rattle.std.specs.Char.{is_ascii_alphabetic, is_ascii_digit, is_ascii_alphanumeric}
 use Rattle.std.specs.Int.{is_in_range}
@@ -135,23 +135,3 @@ pub read_is_long : (w : List ℕ) (s : Subdivision) → subdivision w ≡ Ok s �
 read_is_long w s e = (read_ok w s e).long
 
 -- worked texts
-
-row19 : subdivision (codes "gbzzzz") ≡ Ok (record { region = codes "GB"; suffix = codes "zzzz" })
-unfolding is_word upper lower
-row19 = refl
-
-row19b : subdivision (codes "419bel") ≡ Ok (record { region = codes "419"; suffix = codes "bel" })
-unfolding is_word upper lower
-row19b = refl
-
-row19c : subdivision (codes "gb") ≡ Err InvalidExtension
-unfolding is_word
-row19c = refl
-
-row19d : subdivision (codes "o") ≡ Err InvalidSubtag
-unfolding is_word
-row19d = refl
-
-row19e : subdivision (codes "ukabcde") ≡ Err InvalidExtension
-unfolding is_word
-row19e = refl

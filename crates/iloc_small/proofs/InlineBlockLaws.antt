@@ -7,10 +7,9 @@ use Rattle.std.specs.Cmp.{IsTotalOrder, nat_cmp_total, tied_itself}
 use Rattle.std.specs.FinMap.{find}
 use Rattle.std.proofs.lemmas.Bool.{or_parts}
 use Rattle.std.proofs.lemmas.List.{length-map}
-use Rattle.std.proofs.lemmas.Bool.Decides.{nat_tests}
 use Rattle.iloc_grammar.specs.Pieces.{pieces}
 use Rattle.iloc_grammar.specs.Words.{IsTable, lower, word_cmp}
-use Rattle.iloc_grammar.specs.Written.{Identifier, Fields, Unicode, Transform, Extension, unicode, transform, other, identifier_pieces, fields_pieces, unicode_pieces, transform_pieces, extension_block, blocks_of, IsIdentifier, IsUnicode, IsTransform, IsExtension, IsPrivate, AllDifferent, is_other_singleton, singleton}
+use Rattle.iloc_grammar.specs.Written.{Identifier, Fields, Unicode, Transform, Extension, unicode, transform, other, identifier_pieces, fields_pieces, unicode_pieces, transform_pieces, extension_block, blocks_of, IsIdentifier, IsUnicode, IsTransform, IsExtension, IsPrivate, AllDifferent, singleton}
 use Rattle.iloc_grammar.specs.Meaning.{map_of, set_of, normal_identifier, normal_fields, normal_values, normal_unicode, normal_transform, by_singleton, unicode_part, transform_part, private_part, other_part}
 use Rattle.iloc_grammar.specs.Faults.{head, tail_blocks}
 use Rattle.iloc_grammar.specs.Reading.{starts_block, IdentifierFront}
@@ -21,11 +20,12 @@ use Rattle.iloc_grammar.proofs.ReadBack.{all_append}
 use Rattle.iloc_grammar.proofs.Readings.{head-spelling, blocks-spelling}
 use Rattle.iloc_grammar.proofs.SetLaws.{length-set_of-different}
 use Rattle.iloc_small.specs.Inline.{IsInline, HasFewValues}
-use Rattle.iloc_fronts.proofs.BlockRules.{no_u, no_t, no_x, apart}
+use Rattle.iloc_fronts.proofs.BlockRules.{apart}
 use Rattle.iloc_fronts.specs.Fronts.{FrontRead, absent, present, fields_front}
 use Rattle.iloc_fronts.proofs.FrontLaws.{unicode_taken, keywords_taken}
 use Rattle.iloc_fronts.proofs.TransformLaws.{one_front, one_longest, front_language, transform_spelled}
 use Rattle.iloc_small.specs.InlineBlocks.{IsShortUnicode, IsShortTransform, IsShortBlock, IsInlineByBlocks, ReachesLongBlock, here, later}
+use Rattle.iloc_grammar.proofs.Singletons.{self_tied, tied_back, no_u, no_t, no_x}
 
 -- maps that are empty
 
@@ -38,12 +38,6 @@ none_there {K = K} {X = X} R o (x ∷ es) e =
 
 -- each extension is found by its singleton
 
-itself : (q : ℕ) → eq_by_cmp nat_cmp q q ≡ true
-itself q = ap is_eq (tied_itself nat_cmp_total q)
-
-tied_back : (a b : ℕ) → eq_by_cmp nat_cmp a b ≡ false → eq_by_cmp nat_cmp b a ≡ false
-tied_back a b h = grind (arith, nat_tests)
-
 abbrev IsFoundIn : List (ℕ × Extension) → ℕ × Extension → Type 0
 IsFoundIn es e = find nat_cmp (singleton e) es ≡ Some e.1
 
@@ -55,7 +49,7 @@ later_found s x all (e ∷ es) n h =
 
 each_found : (es : List (ℕ × Extension)) → AllDifferent nat_cmp (map (λ e. singleton e) es) → AllByRecursion (IsFoundIn (by_singleton es)) es
 each_found [] d = tt
-each_found (e ∷ es) d = (ap (λ b. cond b (Some e.1) (find nat_cmp (singleton e) (by_singleton es))) (itself (singleton e)), later_found (singleton e) e.1 (by_singleton es) es d.0 (each_found es d.1))
+each_found (e ∷ es) d = (ap (λ b. cond b (Some e.1) (find nat_cmp (singleton e) (by_singleton es))) (self_tied (singleton e)), later_found (singleton e) e.1 (by_singleton es) es d.0 (each_found es d.1))
 
 -- none is another extension
 

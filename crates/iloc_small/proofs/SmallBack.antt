@@ -7,25 +7,26 @@ use Rattle.iloc_grammar.specs.Written.{IsWritten, HasWords, spelling}
 use Rattle.iloc_grammar.specs.Meaning.{normal_values}
 use Rattle.iloc_grammar.specs.Values.{IsNormal, IsAscending, IsValue, IsWellFormed, IsIdentifierValue, printed, text}
 use Rattle.iloc_grammar.proofs.ReadBack.{pieces_spelled, OfWords}
-use Rattle.iloc_grammar.proofs.WordsLaws.{is_word-normal, normal-normal}
 use Rattle.iloc_grammar.proofs.ValuesLaws.{value_identifier}
-use Rattle.iloc_grammar.proofs.WellRead.{means_value, means_well_formed}
+use Rattle.iloc_grammar.proofs.WellRead.{means_value, means_well_formed, option_normal}
 use Rattle.iloc_small.specs.Small.{WrittenKeyword, small_keyword, SmallLocale, identifier_of_small, locale_of_small, small_written, keyword_extension, IsSmall, IsSmallValue}
 use Rattle.iloc_grammar.specs.Reading.{first_item}
 use Rattle.iloc_small.proofs.SmallLaws.{first-option, small_means}
+use Rattle.iloc_grammar.proofs.ReadWords.{IsNormal-normal}
 
 -- a small value is a value
 
-identifier_is : {T : ℕ → Bool} (r : SmallLocale) → IsSmallValue T r → IsIdentifierValue T (identifier_of_small r.id)
-identifier_is {T = T} r h = record { language = h.language; script = h.script; region = h.region; variants = listed r.id.variant h.variant; ascending = sorted r.id.variant }
-  where
-    listed : (o : Option (List ℕ)) → IfSome o (IsNormal Variant) → AllByRecursion (IsNormal Variant) (option_to_list o)
-    listed None h = tt
-    listed (Some w) h = (h, tt)
+-- one word or none is a set
+pub one_normal : (k : Kind) (o : Option (List ℕ)) → IfSome o (IsNormal k) → AllByRecursion (IsNormal k) (option_to_list o)
+one_normal k None h = tt
+one_normal k (Some w) h = (h, tt)
 
-    sorted : (o : Option (List ℕ)) → IsAscending (option_to_list o)
-    sorted None = refl
-    sorted (Some w) = refl
+pub one_ascends : (o : Option (List ℕ)) → IsAscending (option_to_list o)
+one_ascends None = refl
+one_ascends (Some w) = refl
+
+identifier_is : {T : ℕ → Bool} (r : SmallLocale) → IsSmallValue T r → IsIdentifierValue T (identifier_of_small r.id)
+identifier_is {T = T} r h = record { language = h.language; script = h.script; region = h.region; variants = one_normal Variant r.id.variant h.variant; ascending = one_ascends r.id.variant }
 
 -- its text is read as it
 
@@ -95,22 +96,15 @@ small_is_value r h = let m = small_means _ r (small_back r h) in (means_value _ 
 
 -- what is read is a small value
 
-normal_is : (k : Kind) (p : List ℕ) → IsWord k p → IsNormal k (normal k p)
-normal_is k p h = (is_word-normal k p ∙ h, normal-normal k p)
-
-option_is : (k : Kind) (o : Option (List ℕ)) → IfSome o (IsWord k) → IfSome (option_map (normal k) o) (IsNormal k)
-option_is k None h = tt
-option_is k (Some w) h = normal_is k w h
-
 first_is : (ws : List (List ℕ)) → AllByRecursion (IsWord Variant) ws → IfSome (first_item (map lower ws)) (IsNormal Variant)
 first_is [] h = tt
-first_is (w ∷ ws) h = normal_is Variant w h.0
+first_is (w ∷ ws) h = IsNormal-normal Variant w h.0
 
 value_is : (ws : List (List ℕ)) → AllByRecursion (IsWord Attribute) ws → IfSome (first_item (normal_values ws)) (λ w. IsNormal Attribute w × (is_true w ≡ false))
 value_is [] h = tt
 value_is (w ∷ ws) h = elim (is_true (lower w)) as (λ b. is_true (lower w) ≡ b → IfSome (first_item (cond (not b) (lower w ∷ normal_values ws) (normal_values ws))) (λ w. IsNormal Attribute w × (is_true w ≡ false))) [
   | true ↦ λ e. value_is ws h.1
-  | false ↦ λ e. (normal_is Attribute w h.0, e)
+  | false ↦ λ e. (IsNormal-normal Attribute w h.0, e)
 ] refl
 
 abbrev parts_of : Option WrittenKeyword → Option (List ℕ × Option (List ℕ))
@@ -118,9 +112,9 @@ parts_of k = option_map small_keyword k
 
 pub read_is_small_value : {T : ℕ → Bool} (t : List ℕ) (r : SmallLocale) → IsSmall T t r → IsSmallValue T r
 read_is_small_value {T = T} t r h = subst (IsSmallValue T) (sym h.means) (record {
-  language = normal_is (Language T) h.id.language words.language;
-  script = option_is Script h.id.script words.script;
-  region = option_is Region h.id.region words.region;
+  language = IsNormal-normal (Language T) h.id.language words.language;
+  script = option_normal Script h.id.script words.script;
+  region = option_normal Region h.id.region words.region;
   variant = first_is h.id.variants words.variants;
   key = key_is h.keyword h.grammatical;
   value = one_value_is h.keyword h.grammatical;
@@ -131,7 +125,7 @@ read_is_small_value {T = T} t r h = subst (IsSmallValue T) (sym h.means) (record
 
     key_is : (k : Option WrittenKeyword) → IsWritten T (small_written h.id k) → IfSome (parts_of k) (λ k. IsNormal UnicodeKey k.0)
     key_is None g = tt
-    key_is (Some k) g = normal_is UnicodeKey k.key g.extensions.0.1.keywords.0.0
+    key_is (Some k) g = IsNormal-normal UnicodeKey k.key g.extensions.0.1.keywords.0.0
 
     one_value_is : (k : Option WrittenKeyword) → IsWritten T (small_written h.id k) → IfSome (parts_of k) (λ k. IfSome k.1 (λ w. IsNormal Attribute w × (is_true w ≡ false)))
     one_value_is None g = tt

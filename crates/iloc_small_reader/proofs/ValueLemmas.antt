@@ -4,8 +4,7 @@ use Rattle.std.specs.Prelude.{if◌then◌else◌}
 use Rattle.std.specs.List.{list_all}
 use Rattle.std.specs.Option.{is_some}
 use Rattle.std.proofs.lemmas.Bool.Decides.{nat_tests}
-use Rattle.iloc_grammar.specs.Words.{Attribute, Subtag, is_word, IsWord, is_true, lower, read}
-use Rattle.iloc_grammar.specs.Values.{IsNormal}
+use Rattle.iloc_grammar.specs.Words.{Attribute, is_word, IsWord, is_true, lower, read}
 use Rattle.iloc_grammar.specs.Meaning.{normal_values}
 use Rattle.iloc_grammar.specs.Reading.{first_item}
 use Rattle.iloc_grammar.specs.Faults as faults
@@ -13,14 +12,7 @@ use Rattle.iloc_subtags.specs.declared.parse_error.ParseError.{ParseError}
 use Rattle.iloc_subtags.specs.declared.parse_error.ParseError.TheVariants.{InvalidSubtag, InvalidExtension}
 use Rattle.iloc_small_reader.specs.BlockReads.{answer_of, value_result}
 
-attribute_is_word : (w : List ℕ) → IsWord Attribute w → IsWord Subtag w
-unfolding is_word
-attribute_is_word w h = grind (arith, nat_tests)
-
 -- a word of values is a subtag
-pub attribute_is_subtag : (w : List ℕ) → IsNormal Attribute w → IsNormal Subtag w
-attribute_is_subtag w h = (attribute_is_word w h.0, h.1)
-
 -- the values at the front of the pieces
 
 value_end : (v : Option (List ℕ)) → value_result (option_to_list v) [] ≡ Ok v

@@ -116,7 +116,7 @@ fn is_true(word: &Attribute) -> bool
 }
 
 // The word as a subtag.
-#[tactic(auto, using(crate::proofs::ValueLemmas::attribute_is_subtag))]
+#[tactic(auto, using(iloc_grammar::proofs::WellRead::attribute_is_subtag))]
 fn subtag_of(word: &Attribute) -> Subtag
     ensures { result ≡ word.now }
 {

@@ -1,20 +1,15 @@
 -- Steps in any number.
-use Rattle.std.proofs.Common.{◌≡◌, ◌↔◌, inl, inr, ℕ, zero, suc, ◌≤◌, Bool, List, length, ap, arith}
+use Rattle.std.proofs.Common.{◌≡◌, ◌↔◌, ℕ, Bool, List}
 use Rattle.iloc_grammar.specs.Pieces.{pieces}
 use Rattle.iloc_grammar.specs.Words.{IsTable}
 use Rattle.iloc_grammar.specs.Written.{Identifier}
 use Rattle.iloc_grammar.specs.Meaning.{Locale, Means, IdentifierMeans}
-use Rattle.iloc_grammar.specs.Steps.{TextStep, Chain, IdentifierTextStep, LeadToOne}
+use Rattle.iloc_grammar.specs.Steps.{TextStep, IdentifierTextStep, LeadToOne}
 use Rattle.iloc_grammar.proofs.Readings.{one_meaning}
 use Rattle.iloc_grammar.proofs.IdentifierLaws as identifiers
-use Rattle.iloc_grammar.proofs.CaseLaws.{chain_means, text_step_length}
+use Rattle.iloc_grammar.proofs.CaseLaws.{chain_means}
 use Rattle.iloc_grammar.proofs.IdentifierTexts.{identifier_chain_means, identifiers_lead_to_one}
 use Rattle.iloc_grammar.proofs.Corollaries.{texts_lead_to_one}
-
-pub chain_length : (T : ℕ → Bool) (n : ℕ) (t u : List ℕ) → Chain T n t u → length u ≤ length t
-chain_length T zero t u e = let l : length t ≡ length u = ap length e in omega arith
-chain_length T (suc n) t u (inl e) = let l : length t ≡ length u = ap length e in omega arith
-chain_length T (suc n) t u (inr c) = let s = text_step_length T t c.0 c.1 in let m = chain_length T n c.0 u c.2 in omega arith
 
 pub any_steps_join : (T : ℕ → Bool) → IsTable T → (t u : List ℕ) (L M : Locale) → Means T t L → Means T u M → (L ≡ M) ↔ ((n : ℕ) × LeadToOne (TextStep T) n t u)
 any_steps_join T table t u L M a b = (

@@ -1,5 +1,5 @@
 -- Fields that are taken one at a time.
-use Rattle.std.proofs.Common.{◌≡◌, ℕ, suc, ◌+◌, ◌<◌, ◌≤◌, Bool, true, false, cond, ◌&&◌, List, [], ◌∷◌, ◌++◌, length, map, refl, sym, ap, ◌∙◌, arith, append_assoc, append-nil, length-append, Option, Some, None, option_map, is_some, if◌then◌else◌, Err}
+use Rattle.std.proofs.Common.{◌≡◌, ℕ, suc, ◌+◌, ◌<◌, Bool, true, false, cond, ◌&&◌, List, [], ◌∷◌, ◌++◌, length, map, refl, sym, ap, ◌∙◌, arith, append_assoc, append-nil, length-append, Option, Some, None, option_map, is_some, if◌then◌else◌, Err}
 use Rattle.std.specs.List.{AllByRecursion, list_all}
 use Rattle.std.specs.FinMap.{find, put}
 use Rattle.std.proofs.lemmas.List.{map-append}
@@ -17,6 +17,7 @@ use Rattle.iloc_subtags.specs.declared.parse_error.ParseError.{ParseError}
 use Rattle.iloc_subtags.specs.declared.parse_error.ParseError.TheVariants.{InvalidLanguage, InvalidSubtag, InvalidExtension, DuplicatedExtension, OutOfMemory}
 use Rattle.iloc_transform.specs.ValueReading.{values_front, ValueFrontReads}
 use Rattle.iloc_transform.specs.FieldsReading.{FieldsRead, FieldsFrontRead}
+use Rattle.iloc_grammar.proofs.ReadingLaws.{length-past}
 
 abbrev is_key : List ℕ → Bool
 is_key p = is_word TransformKey p
@@ -174,10 +175,6 @@ refuses before now m k qs rest left OutOfMemory h e s r = wants_memory before no
 refuses before now m k qs rest left InvalidLanguage h e s r = r
 refuses before now m k qs rest left InvalidSubtag h e s r = r
 refuses before now m k qs rest left DuplicatedExtension h e s r = r
-
-length-past : (test : List ℕ → Bool) (ps : List (List ℕ)) → length (past test ps) ≤ length ps
-length-past test [] = omega arith
-length-past test (p ∷ ps) = let h = length-past test ps in elim (test p) as (λ b. length (cond b (past test ps) (p ∷ ps)) ≤ suc (length ps)) [ true ↦ omega arith | false ↦ omega arith ]
 
 pub shorter : (now qs more : List (List ℕ)) (k : List ℕ) → Some k ≡ option_map lower (take_first is_key now) → qs ≡ skip_first is_key now → more ≡ past (is_word Attribute) qs → length more < length now
 shorter now qs more k e s r =

@@ -1,18 +1,17 @@
 -- An identifier and fields, one after the other.
-use Rattle.std.proofs.Common.{◌≡◌, ◌≢◌, ℕ, ◌<◌, ◌==◌, Bool, true, false, not, cond, ◌&&◌, ◌||◌, List, [], ◌∷◌, length, nat_lt, refl, sym, ap, ◌∙◌, subst, arith, Option, Some, None, option_map, is_some, Result, Ok, Err, true≢false}
+use Rattle.std.proofs.Common.{◌≡◌, ◌≢◌, ℕ, ◌<◌, ◌==◌, true, false, not, cond, ◌&&◌, ◌||◌, List, [], ◌∷◌, length, nat_lt, refl, sym, ap, ◌∙◌, subst, arith, Option, Some, None, option_map, is_some, Result, Ok, Err, true≢false}
 use Rattle.std.specs.List.{list_all}
 use Rattle.std.specs.FinMap.{put}
 use Rattle.std.specs.FinMap.Entries.{by_order}
 use Rattle.std.specs.declared.cmp.Ordering.TheVariants.{Less, Equal, Greater}
-use Rattle.std.proofs.lemmas.Bool.{and_parts}
+use Rattle.std.proofs.lemmas.Bool.{and_parts, not-true}
 use Rattle.std.proofs.lemmas.Bool.Decides.{nat_tests}
 use Rattle.iloc_grammar.specs.Pieces.{pieces}
 use Rattle.iloc_grammar.specs.Words.{Language, is_word, read, lower, languages, word_cmp, TransformKey}
 use Rattle.iloc_grammar.specs.Written as written
-use Rattle.iloc_grammar.specs.Written.{Identifier, IsIdentifier}
 use Rattle.iloc_grammar.specs.Meaning.{normal_identifier, normal_transform, normal_fields, normal_values}
 use Rattle.iloc_grammar.specs.Faults as faults
-use Rattle.iloc_grammar.specs.Faults.{Fault, first_piece}
+use Rattle.iloc_grammar.specs.Faults.{Fault}
 use Rattle.iloc_grammar.specs.Reading.{first_item, rest_of, fields_from}
 use Rattle.iloc_grammar.specs.Computing.{is_field}
 use Rattle.iloc_fronts.specs.Fronts.{absent, present, after_fields, TransformRead, TransformFault, repeats}
@@ -98,14 +97,10 @@ module _ (ps middle : List (List ℕ)) (lang : Option LanguageIdentifier) (l : L
   pub nothing : (m : written.Fields) (rest : List (List ℕ)) → FieldsRead middle m rest → (not (is_some lang) && (length m == 0)) ≡ true → TransformFault languages ps faults.InvalidExtension
   nothing m rest r n =
       let parts = and_parts (not (is_some lang)) (length m == 0) n in
-      let none : is_some l.written ≡ false = sym same_some ∙ not_true (is_some lang) parts.0 in
+      let none : is_some l.written ≡ false = sym same_some ∙ not-true (is_some lang) parts.0 in
       let empty : fields_at middle ≡ [] = ap (fields_from (is_word TransformKey)) (r.spelled ∙ ap written.fields_pieces (no_fields r.written (ap length (sym r.means) ∙ zero_is (length m) parts.1))) in
       answer faults.InvalidExtension (λ i. cond (list_all is_field (empty i) && (none i || nat_lt 0 (length (empty i)))) (Ok (normal_transform (record { id = l.written; fields = empty i }), after_fields middle)) (Err faults.InvalidExtension))
     where
-      not_true : (b : Bool) → not b ≡ true → b ≡ false
-      not_true true h = cc
-      not_true false h = refl
-
       zero_is : (n : ℕ) → (n == 0) ≡ true → n ≡ 0
       zero_is n h = grind (arith, nat_tests)
 

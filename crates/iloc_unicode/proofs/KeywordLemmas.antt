@@ -1,9 +1,7 @@
 -- Keywords that are taken one at a time.
-use Rattle.std.proofs.Common.{◌≡◌, ℕ, suc, ◌<◌, ◌≤◌, Bool, true, false, not, cond, ◌&&◌, ◌||◌, ◌==◌, List, [], ◌∷◌, ◌++◌, length, map, refl, sym, ap, ap₂, ◌∙◌, arith, true≢false, subst, Result, Ok, Err, MatchResult, append-nil, append_assoc, Option, Some, None, option_map, is_some, nat_lt}
+use Rattle.std.proofs.Common.{◌≡◌, ℕ, suc, ◌<◌, ◌≤◌, Bool, true, false, not, cond, ◌&&◌, ◌||◌, List, [], ◌∷◌, ◌++◌, length, map, refl, sym, ap, ap₂, ◌∙◌, arith, true≢false, subst, append-nil, append_assoc, Option, Some, None, option_map, is_some, nat_lt}
 use Rattle.std.specs.List.{list_any}
-use Rattle.std.specs.Ordering.{is_eq, eq_by_cmp}
-use Rattle.std.specs.declared.cmp.Ordering.{Ordering}
-use Rattle.std.specs.declared.cmp.Ordering.TheVariants.{Less, Equal, Greater}
+use Rattle.std.specs.Ordering.{eq_by_cmp}
 use Rattle.std.specs.Cmp.{eq_by_cmp_equiv}
 use Rattle.std.specs.Option.{option_or}
 use Rattle.std.specs.FinMap.{put, find}
@@ -13,36 +11,19 @@ use Rattle.iloc_grammar.specs.Words.{UnicodeKey, Attribute, is_word, IsWord, low
 use Rattle.iloc_grammar.specs.Written.{Fields}
 use Rattle.iloc_grammar.specs.Meaning.{map_of, normal_values, normal_fields}
 use Rattle.iloc_grammar.specs.Reading.{take_first, skip_first, passing, past, is_two, before_key, fields_from}
-use Rattle.iloc_grammar.specs.Faults.{Fault, InvalidExtension, first_piece}
+use Rattle.iloc_grammar.specs.Faults.{InvalidExtension, first_piece}
 use Rattle.iloc_grammar.proofs.MapLaws.{word_cmp_total, same_words, find-map_of}
 use Rattle.iloc_grammar.proofs.SetLaws.{find-append}
-use Rattle.iloc_grammar.proofs.WordsLaws.{length-attribute, length-unicode_key}
 use Rattle.iloc_fronts.specs.Fronts.{is_keyword_piece, keywords_front, after_keywords, is_bad_key, KeywordsRead, KeywordsFault, bad_key}
-use Rattle.iloc_fronts.specs.Computing.{keywords_at, keywords_result}
-use Rattle.iloc_fronts.proofs.FrontLaws.{keywords_answer}
+use Rattle.iloc_fronts.specs.Computing.{keywords_at}
+use Rattle.iloc_fronts.proofs.FrontLaws.{not_two_bytes, two_bytes_of, good_value, good_key, value_goes_on, keywords_read_of}
 use Rattle.iloc_litemap.proofs.Maps.{tied, map_of_more}
 use Rattle.iloc_unicode.specs.Reads.{has_many_values, KeywordsWantMemory, second_key, fifth_value}
 use Rattle.iloc_parser.proofs.TakingLemmas.{took, took_none}
-
--- kinds of pieces
-
-is_two-attribute : (p : List ℕ) → IsWord Attribute p → is_two p ≡ false
-is_two-attribute p h = let l = (length-attribute p h).0 in grind (arith, nat_tests)
-
-is_two-key : (p : List ℕ) → IsWord UnicodeKey p → is_two p ≡ true
-is_two-key p h = ap (λ n. n == 2) (length-unicode_key p h)
-
-bad-attribute : (p : List ℕ) → IsWord Attribute p → is_bad_key p ≡ false
-bad-attribute p h = ap (λ b. b && not (is_word UnicodeKey p)) (is_two-attribute p h)
-
-bad-key : (p : List ℕ) → IsWord UnicodeKey p → is_bad_key p ≡ false
-bad-key p h = ap₂ (λ a b. a && not b) (is_two-key p h) h
+use Rattle.std.proofs.Math.Bool.{or-true}
+use Rattle.iloc_grammar.proofs.ReadingLaws.{length-past}
 
 -- pieces after a key: its values, and then the next keywords
-
-or_true : (b : Bool) → (b || true) ≡ true
-or_true true = refl
-or_true false = refl
 
 module _ (test : List ℕ → Bool) where
   passing_on : (p : List ℕ) (ps : List (List ℕ)) → test p ≡ true → passing test (p ∷ ps) ≡ p ∷ passing test ps
@@ -56,9 +37,6 @@ module _ (test : List ℕ → Bool) where
 
   past_off : (p : List ℕ) (ps : List (List ℕ)) → test p ≡ false → past test (p ∷ ps) ≡ p ∷ ps
   past_off p ps h = ap (λ b. cond b (past test ps) (p ∷ ps)) h
-
-value_goes_on : (p : List ℕ) → IsWord Attribute p → is_keyword_piece p ≡ true
-value_goes_on p h = ap (λ b. is_two p || b) h ∙ or_true (is_two p)
 
 -- a piece that is no value begins keywords, or ends them
 no_value : (q : List ℕ) (qs : List (List ℕ)) (b : Bool) → is_two q ≡ b → is_word Attribute q ≡ false → (passing is_keyword_piece (q ∷ qs) ≡ keywords_front (q ∷ qs)) × (past is_keyword_piece (q ∷ qs) ≡ after_keywords (q ∷ qs))
@@ -104,7 +82,7 @@ values_first [] more e = (e, refl)
 values_first (q ∷ qs) more e = by (is_word Attribute q) refl (values_first qs more e)
   where
     by : (b : Bool) → is_word Attribute q ≡ b → (before_key is_two (passing (is_word Attribute) qs ++ more) ≡ passing (is_word Attribute) qs) × (fields_from is_two (passing (is_word Attribute) qs ++ more) ≡ fields_from is_two more) → (before_key is_two (cond b (q ∷ passing (is_word Attribute) qs) [] ++ more) ≡ cond b (q ∷ passing (is_word Attribute) qs) []) × (fields_from is_two (cond b (q ∷ passing (is_word Attribute) qs) [] ++ more) ≡ fields_from is_two more)
-    by true h rest = let n = is_two-attribute q h in (
+    by true h rest = let n = not_two_bytes q h in (
       ap (λ b. cond b [] (q ∷ before_key is_two (passing (is_word Attribute) qs ++ more))) n ∙ ap (λ l. q ∷ l) rest.0,
       ap (λ b. cond b ((q, before_key is_two (passing (is_word Attribute) qs ++ more)) ∷ fields_from is_two (passing (is_word Attribute) qs ++ more)) (fields_from is_two (passing (is_word Attribute) qs ++ more))) n ∙ rest.1,
     )
@@ -123,12 +101,12 @@ fields_at p qs h =
 bad_values : (qs more : List (List ℕ)) → list_any is_bad_key (passing (is_word Attribute) qs ++ more) ≡ list_any is_bad_key more
 bad_values [] more = refl
 bad_values (q ∷ qs) more = (elim (is_word Attribute q) as (λ b. is_word Attribute q ≡ b → list_any is_bad_key (cond b (q ∷ passing (is_word Attribute) qs) [] ++ more) ≡ list_any is_bad_key more) [
-  | true ↦ λ h. ap (λ b. b || list_any is_bad_key (passing (is_word Attribute) qs ++ more)) (bad-attribute q h) ∙ bad_values qs more
+  | true ↦ λ h. ap (λ b. b || list_any is_bad_key (passing (is_word Attribute) qs ++ more)) (good_value q h) ∙ bad_values qs more
   | false ↦ λ h. refl
 ]) refl
 
 bad_at : (p : List ℕ) (qs : List (List ℕ)) → IsWord UnicodeKey p → list_any is_bad_key (keywords_front (p ∷ qs)) ≡ list_any is_bad_key (keywords_front (past (is_word Attribute) qs))
-bad_at p qs h = ap (list_any is_bad_key) (front_at p qs (is_two-key p h)) ∙ ap (λ b. b || list_any is_bad_key (passing (is_word Attribute) qs ++ keywords_front (past (is_word Attribute) qs))) (bad-key p h) ∙ bad_values qs (keywords_front (past (is_word Attribute) qs))
+bad_at p qs h = ap (list_any is_bad_key) (front_at p qs (two_bytes_of p h)) ∙ ap (λ b. b || list_any is_bad_key (passing (is_word Attribute) qs ++ keywords_front (past (is_word Attribute) qs))) (good_key p h) ∙ bad_values qs (keywords_front (past (is_word Attribute) qs))
 
 -- of the pieces before, the fields up to now are in the map
 pub record Filled (before now : List (List ℕ)) (m : Fields) : Type 0 where
@@ -156,7 +134,7 @@ normal_field f = (lower f.0, normal_values f.1)
 
 any_at : {X : Type 0} (test : X → Bool) (xs : List X) (x : X) (ys : List X) → test x ≡ true → list_any test (xs ++ x ∷ ys) ≡ true
 any_at test [] x ys h = ap (λ b. b || list_any test ys) h
-any_at test (y ∷ xs) x ys h = ap (λ b. test y || b) (any_at test xs x ys h) ∙ or_true (test y)
+any_at test (y ∷ xs) x ys h = ap (λ b. test y || b) (any_at test xs x ys h) ∙ or-true (test y)
 
 module _ (before now : List (List ℕ)) (m : Fields) (t : Filled before now m) (w : List ℕ) (later : List (List ℕ)) (e : Some w ≡ option_map lower (take_first (is_word UnicodeKey) now)) (l : later ≡ skip_first (is_word UnicodeKey) now) where
   now_is : (p : List ℕ) × IsWord UnicodeKey p × (w ≡ lower p) × (now ≡ p ∷ later)
@@ -164,17 +142,13 @@ module _ (before now : List (List ℕ)) (m : Fields) (t : Filled before now m) (
 
   -- all fields: those so far, the one at the key, and more
   all_is : (p : List ℕ) → IsWord UnicodeKey p → now ≡ p ∷ later → keywords_at before ≡ t.fields ++ (p, passing (is_word Attribute) later) ∷ keywords_at (past (is_word Attribute) later)
-  all_is p h cut = t.all ∙ ap (λ ps. t.fields ++ keywords_at ps) cut ∙ ap (λ fs. t.fields ++ fs) (fields_at p later (is_two-key p h))
-
-  shorter : (test : List ℕ → Bool) (ps : List (List ℕ)) → length (past test ps) ≤ length ps
-  shorter test [] = omega arith
-  shorter test (p ∷ ps) = let h = shorter test ps in elim (test p) as (λ b. length (cond b (past test ps) (p ∷ ps)) ≤ suc (length ps)) [ true ↦ omega arith | false ↦ omega arith ]
+  all_is p h cut = t.all ∙ ap (λ ps. t.fields ++ keywords_at ps) cut ∙ ap (λ fs. t.fields ++ fs) (fields_at p later (two_bytes_of p h))
 
   -- less is left
   pub filled_less : (after : List (List ℕ)) → after ≡ past (is_word Attribute) later → length after < length now
   filled_less after a =
       let (p, h, same, cut) = now_is in
-      let s : length (past (is_word Attribute) later) ≤ length later = shorter (is_word Attribute) later in
+      let s : length (past (is_word Attribute) later) ≤ length later = length-past (is_word Attribute) later in
       let m : length after ≡ length (past (is_word Attribute) later) = ap length a in
       let n : length now ≡ suc (length later) = ap length cut in
       omega arith
@@ -186,7 +160,7 @@ module _ (before now : List (List ℕ)) (m : Fields) (t : Filled before now m) (
         fields = t.fields ++ (p, passing (is_word Attribute) later) ∷ [];
         all = all_is p h cut ∙ sym (append_assoc t.fields ((p, passing (is_word Attribute) later) ∷ []) (keywords_at (past (is_word Attribute) later))) ∙ ap (λ ps. (t.fields ++ (p, passing (is_word Attribute) later) ∷ []) ++ keywords_at ps) (sym a);
         bad = t.bad ∙ ap (λ ps. list_any is_bad_key (keywords_front ps)) cut ∙ bad_at p later h ∙ ap (λ ps. list_any is_bad_key (keywords_front ps)) (sym a);
-        rest = t.rest ∙ ap after_keywords cut ∙ rest_at p later (is_two-key p h) ∙ ap after_keywords (sym a);
+        rest = t.rest ∙ ap after_keywords cut ∙ rest_at p later (two_bytes_of p h) ∙ ap after_keywords (sym a);
         means = is ∙ (λ i. cond (is_some (find word_cmp (same i) (t.means i))) (t.means i) (put word_cmp (same i) (v i) (t.means i)))
             ∙ sym (map_of_more word_cmp word_cmp_total same_words (map normal_field t.fields) (lower p) (normal_values (passing (is_word Attribute) later)))
             ∙ ap (map_of word_cmp) (sym (map-append normal_field t.fields ((p, passing (is_word Attribute) later) ∷ [])));
@@ -235,18 +209,6 @@ module _ (before now : List (List ℕ)) (m : Fields) (t : Filled before now m) (
 
 -- nothing more can be taken
 
-read_of : (ps : List (List ℕ)) → list_any is_bad_key (keywords_front ps) ≡ false → KeywordsRead ps (normal_fields (keywords_at ps)) (after_keywords ps)
-read_of ps h = subst Answer is (keywords_answer ps)
-  where
-    Answer : Result (Fields × List (List ℕ)) Fault → Type 0
-    Answer o = MatchResult o (λ r. KeywordsRead ps r.0 r.1) (KeywordsFault ps)
-
-    read : Fields × List (List ℕ)
-    read = (normal_fields (keywords_at ps), after_keywords ps)
-
-    is : keywords_result ps ≡ Ok read
-    is = ap (λ b. cond b (Err InvalidExtension) (Ok read)) h
-
 no_key : (now : List (List ℕ)) → is_two (first_piece now) ≡ false → (keywords_front now ≡ []) × (after_keywords now ≡ now)
 no_key now h = (ap (λ b. cond b (passing is_keyword_piece now) []) h, ap (λ b. cond b (past is_keyword_piece now) now) h)
 
@@ -255,7 +217,7 @@ filled_all before now rest m t stays h none =
     let same : rest ≡ now = stays ∙ (took_none UnicodeKey now none).2 in
     let ends = no_key now (ap (λ ps. is_two (first_piece ps)) (sym same) ∙ h) in
     let all : keywords_at before ≡ t.fields = t.all ∙ ap (λ ps. t.fields ++ fields_from is_two ps) ends.0 ∙ append-nil t.fields in
-    let read = read_of before (t.bad ∙ ap (list_any is_bad_key) ends.0) in
+    let read = keywords_read_of before (t.bad ∙ ap (list_any is_bad_key) ends.0) in
     subst (λ (r : Fields × List (List ℕ)). KeywordsRead before r.0 r.1) (λ i. ((ap normal_fields all ∙ sym t.means) i, (t.rest ∙ ends.1 ∙ sym same) i)) read
 
 not_key : (q : List ℕ) (b : Bool) → None ≡ option_map lower (cond b (Some q) None) → b ≡ false

@@ -4,6 +4,7 @@ use Rattle.std.proofs.lemmas.Grind.{flat_map-append}
 use Rattle.std.proofs.Math.Seq.{take-suc}
 use Rattle.std.specs.List.{flat_map, join_with_byte}
 use Rattle.iloc_writeable.specs.Pieces.{dashes, hyphened, is_there}
+use Rattle.std.proofs.Math.Bool.{or-true}
 
 -- the first piece, and each other after a hyphen
 pub join-cons : (p : List ℕ) (ps : List (List ℕ)) → join_with_byte 45 (p ∷ ps) ≡ p ++ dashes ps
@@ -78,12 +79,8 @@ is_there-at f xs i x h e t =
     ap is_there (sym (flat_map-at f xs i x h e))
     ∙ is_there-append before (f x ++ after)
     ∙ ap (λ b. is_there before || b) (is_there-append (f x) after ∙ ap (λ b. b || is_there after) t)
-    ∙ or_true (is_there before)
+    ∙ or-true (is_there before)
     )
-  where
-    or_true : (b : Bool) → (b || true) ≡ true
-    or_true false = refl
-    or_true true = refl
 
 -- words are a piece each
 pub flat_map_words : (ws : List (List ℕ)) → flat_map (λ w. w ∷ []) ws ≡ ws
