@@ -1,5 +1,5 @@
 -- The list that a `ShortWords` holds, by how it is kept.
-use Rattle.std.specs.Prelude.{◌<◌, ◌≤◌, List, [], length}
+use Rattle.std.specs.Prelude.{◌≤◌, List, [], length}
 use Rattle.std.specs.Vec.{with_items}
 use Rattle.iloc_shortvec.specs.ShortList.{written}
 use Rattle.iloc_shortvec.specs.declared.kept.Kept.{Kept}
@@ -11,10 +11,10 @@ items_of (Empty none) = []
 items_of (Inline items) = items
 items_of (Heap items) = items.items
 
--- one to four items are inline, and at least five on the heap
+-- at least five items are on the heap
 abbrev pub IsKept : {T : Type 0} → Kept T → Type 0
 IsKept (Empty none) = Unit {0}
-IsKept (Inline items) = (0 < length items) × (length items ≤ 4)
+IsKept (Inline items) = Unit {0}
 IsKept (Heap items) = 5 ≤ length items.items
 
 -- the same place, after a write of its items as a slice

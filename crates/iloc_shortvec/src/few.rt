@@ -1,5 +1,5 @@
 //! One to four items in place.
-ghost use Rattle.std.specs.Prelude.{◌≡◌, ◌<◌, ◌≤◌, ◌+◌, ◌-◌, [], ◌∷◌, ◌++◌, length, insert, remove, slice_get, Some};
+ghost use Rattle.std.specs.Prelude.{◌≡◌, ◌<◌, ◌≤◌, ◌+◌, ◌-◌, [], ◌∷◌, ◌++◌, length, insert, remove};
 ghost use Rattle.std.specs.Borrow.{sem};
 
 use crate::front::front_mut;
@@ -76,13 +76,6 @@ impl<T: Copy> Few<T> {
         front_mut(&mut self.cells, self.len)
     }
 
-    /// How many items there are.
-    pub fn len(&self) -> usize
-        ensures { result ≡ length self.now }
-    {
-        self.len
-    }
-
     /// Puts an item at a place, where there is room.
     pub fn insert(&mut self, index: usize, item: T)
         requires place { index ≤ length self.old }
@@ -106,15 +99,12 @@ impl<T: Copy> Few<T> {
     }
 
     /// Removes an item, of several.
-    pub fn remove(&mut self, index: usize) -> T
+    pub fn remove(&mut self, index: usize)
         requires place { index < length self.old }
         requires several { 1 < length self.old }
-        ensures value { slice_get self.old index ≡ Some result }
-        ensures rest { self.new ≡ remove self.old index }
+        ensures { self.new ≡ remove self.old index }
     {
-        let item = self.as_slice()[index];
         self.cells.copy_within(index + 1..self.len, index);
         self.len -= 1;
-        item
     }
 }

@@ -1,6 +1,9 @@
 //! Where a `ShortWords` keeps its items.
-ghost use Rattle.std.specs.Prelude.{◌≡◌, ◌≤◌, ◌<◌, ◌+◌, ◌++◌, length, insert, remove, slice_get, Some, IfOk, OnOk, OnErr};
+ghost use Rattle.std.specs.Prelude.{◌≡◌, ◌≤◌, ◌<◌, ◌+◌, ◌++◌, length, insert, remove, IfOk, OnOk, OnErr};
 ghost use Rattle.std.specs.Borrow.{sem};
+ghost use Rattle.std.specs.List.Retain.{IsFiltered};
+ghost use Rattle.std.specs.Fn.{CalledAt};
+ghost use Rattle.iloc_shortvec.specs.Kept.{items_of, IsKept};
 
 use crate::few::Few;
 use crate::items::Nothing;
@@ -38,7 +41,6 @@ impl<T: Copy> Drop for Kept<T> {
 }
 
 impl<T: Copy> Kept<T> {
-    ghost use Rattle.iloc_shortvec.specs.Kept.{items_of, IsKept};
     ghost use Rattle.iloc_shortvec.specs.KeptLends.{kept_lends_slice};
 
     pub(crate) fn as_slice(&self) -> &[T]
@@ -131,38 +133,35 @@ impl<T: Copy> Kept<T> {
         Ok(())
     }
 
-    /// Takes the item at a place out. Four items that are left are kept in place.
-    pub(crate) fn remove(&mut self, index: usize) -> T
-        requires kept { IsKept self.old }
-        requires place { index < length (items_of self.old) }
-        ensures value { slice_get (items_of self.old) index ≡ Some result }
-        ensures rest { items_of self.new ≡ remove (items_of self.old) index }
+    /// Takes an item out. A `Vec` keeps the others, however few.
+    pub(crate) fn take_out(&mut self, index: usize)
+        requires { index < length (items_of self.old) }
+        ensures { items_of self.new ≡ remove (items_of self.old) index }
+    {
+        match self {
+            Kept::Empty(_) => {}
+            Kept::Inline(few) => {
+                if few.as_slice().len() > 1 {
+                    few.remove(index);
+                } else {
+                    *self = Kept::Empty(Nothing::new());
+                }
+            }
+            Kept::Heap(items) => {
+                items.remove(index);
+            }
+        }
+    }
+
+    /// Keeps the items of a `Vec` in place, where they are four or fewer.
+    pub(crate) fn settle(&mut self)
+        ensures items { items_of self.new ≡ items_of self.old }
         ensures kept { IsKept self.new }
     {
         if let Kept::Heap(items) = self {
-            let item = items.remove(index);
-            if items.len() == 4 {
+            if items.len() <= 4 {
                 *self = Kept::from_short(items.as_slice());
             }
-            return item;
-        }
-        let item = self.as_slice()[index];
-        self.remove_short(index);
-        item
-    }
-
-    /// Takes an item out of at most four.
-    fn remove_short(&mut self, index: usize)
-        requires kept { IsKept self.old }
-        requires place { index < length (items_of self.old) }
-        requires short { length (items_of self.old) ≤ 4 }
-        ensures rest { items_of self.new ≡ remove (items_of self.old) index }
-        ensures kept { IsKept self.new }
-    {
-        if self.as_slice().len() == 1 {
-            *self = Kept::Empty(Nothing::new());
-        } else if let Kept::Inline(few) = self {
-            few.remove(index);
         }
     }
 
@@ -177,4 +176,21 @@ impl<T: Copy> Kept<T> {
         }
         Kept::Inline(Few::from_slice(items))
     }
+}
+
+/// The items at which `keep` says so, of at most four. Each is asked once, in order.
+pub(crate) fn kept_of<T: Copy, F: FnMut(&T) -> bool + Drop>(items: &[T], mut keep: F) -> Kept<T>
+    requires callable { F.IsAlwaysCallable keep }
+    requires short { length items.now ≤ 4 }
+    ensures items { IsFiltered (CalledAt F.FnMut) keep items.now (items_of result) }
+    ensures kept { IsKept result }
+{
+    let mut kept = Kept::Empty(Nothing::new());
+    for item in items {
+        if keep(item) {
+            let end = kept.as_slice().len();
+            kept.insert_short(end, *item);
+        }
+    }
+    kept
 }

@@ -19,7 +19,8 @@ ghost use Rattle.iloc_shortvec.specs.ShortOrder.{short_cmp, short_total, short_t
 
 use crate::few::Few;
 use crate::items::Nothing;
-use crate::kept::{Kept, copies};
+use crate::kept::{Kept, copies, kept_of};
+use crate::slices;
 use std::alloc::{AllocError, Global};
 use std::cmp::Ordering;
 use std::hash::{Hash, Hasher};
@@ -111,27 +112,21 @@ impl<T: Copy> ShortWords<T> {
     pub fn single(&self) -> Option<&T>
         ensures { option_copied result ≡ only_of self.now }
     {
-        match self.as_slice() {
-            [only] => Some(only),
-            _ => None,
-        }
+        slices::only(self.as_slice())
     }
 
     /// The item of a list of exactly one, by value.
     pub fn into_single(self) -> Option<T>
         ensures { result ≡ only_of self }
     {
-        match self.as_slice() {
-            [only] => Some(*only),
-            _ => None,
-        }
+        self.single().copied()
     }
 
     /// The item at a place, `None` from the length on.
     pub fn get(&self, index: usize) -> Option<&T>
         ensures { option_copied result ≡ slice_get self.now index }
     {
-        self.as_slice().get(index)
+        slices::item_at(self.as_slice(), index)
     }
 
     /// The first item, if there is one.
@@ -194,17 +189,10 @@ impl<T: Copy> ShortWords<T> {
         ensures value { slice_get self.old index ≡ Some result }
         ensures rest { self.new ≡ remove self.old index }
     {
-        self.kept.remove(index)
-    }
-
-    /// Copies of at most four items.
-    fn from_short(items: &[T]) -> Self
-        requires { length items.now ≤ 4 }
-        ensures { result ≡ items.now }
-    {
-        ShortWords {
-            kept: Kept::from_short(items),
-        }
+        let item = self.as_slice()[index];
+        self.kept.take_out(index);
+        self.kept.settle();
+        item
     }
 
     /// The list of these items, over the same `Vec` where they are five or more.
@@ -212,7 +200,9 @@ impl<T: Copy> ShortWords<T> {
         ensures { result ≡ items.items }
     {
         if items.len() <= 4 {
-            return ShortWords::from_short(items.as_slice());
+            return ShortWords {
+                kept: Kept::from_short(items.as_slice()),
+            };
         }
         ShortWords {
             kept: Kept::Heap(items),
@@ -226,47 +216,21 @@ impl<T: Copy> ShortWords<T> {
         self.kept = Kept::Empty(Nothing::new());
     }
 
-    /// Appends an item where that takes no memory.
-    fn push_short(&mut self, item: T)
-        requires { length self.old < 4 }
-        ensures { self.new ≡ self.old ++ item ∷ [] }
-    {
-        let end = self.len();
-        self.kept.insert_short(end, item);
-    }
-
     /// Keeps the items at which `keep` says so. Each is asked once, in order.
     pub fn retain<F: FnMut(&T) -> bool + Drop>(&mut self, mut keep: F)
         requires { F.IsAlwaysCallable keep }
         ensures { IsFiltered (CalledAt F.FnMut) keep self.old self.new }
     {
-        if let Kept::Heap(items) = &mut self.kept {
-            items.retain(keep);
-            if items.len() <= 4 {
-                *self = ShortWords::from_short(items.as_slice());
+        match &mut self.kept {
+            Kept::Empty(_) => {}
+            Kept::Inline(few) => self.kept = kept_of(few.as_slice(), keep),
+            Kept::Heap(items) => {
+                items.retain(keep);
+                self.kept.settle();
             }
-            return;
-        }
-        *self = kept_of(self.as_slice(), keep);
-    }
-}
-
-/// The items at which `keep` says so, of at most four.
-fn kept_of<T: Copy, F: FnMut(&T) -> bool + Drop>(items: &[T], mut keep: F) -> ShortWords<T>
-    requires callable { F.IsAlwaysCallable keep }
-    requires short { length items.now ≤ 4 }
-    ensures { IsFiltered (CalledAt F.FnMut) keep items.now result }
-{
-    let mut kept = ShortWords::new();
-    for item in items {
-        if keep(item) {
-            kept.push_short(*item);
         }
     }
-    kept
-}
 
-impl<T: Copy> ShortWords<T> {
     /// The list of what the iterator gives, in its order. Refusal: `AllocError`.
     pub fn from_iter<I: IntoIterator<Item = T>>(alloc: Global, iter: I) -> Result<Self, AllocError>
         requires ends { (it : I.IntoIter) → I.into_iter_gives iter it
@@ -288,11 +252,14 @@ impl<T: Copy> ShortWords<T> {
         ensures succeeds { length self.now ≤ 4 → IsOk result }
     {
         match &self.kept {
+            Kept::Empty(_) => Ok(ShortWords::new()),
+            Kept::Inline(few) => Ok(ShortWords {
+                kept: Kept::from_short(few.as_slice()),
+            }),
             Kept::Heap(items) => {
                 let all = copies(*items.allocator(), items.as_slice(), items.len())?;
                 Ok(ShortWords::from_vec(all))
             }
-            _ => Ok(ShortWords::from_short(self.as_slice())),
         }
     }
 }
@@ -351,11 +318,7 @@ impl<T: Copy + Ord> Ord for ShortWords<T> {
     ghost matches_eq = { λ xs ys. short_ties T.cmp T.matches_eq xs ys };
 
     fn cmp(&self, other: &Self) -> Ordering {
-        match (self.len() > 1, other.len() > 1) {
-            (false, true) => Ordering::Less,
-            (true, false) => Ordering::Greater,
-            _ => self.as_slice().cmp(&other.as_slice()),
-        }
+        slices::compare(self.as_slice(), other.as_slice())
     }
 }
 
@@ -393,9 +356,14 @@ impl<T: Copy> Iterator for ShortWordsIntoIter<T> {
     ghost remaining = { item_count (λ rest. rest) };
 
     fn next(&mut self) -> Option<T> {
-        let item = *self.words.as_slice().get(self.next)?;
-        self.next += 1;
-        Some(item)
+        match slices::item_at(self.words.as_slice(), self.next) {
+            Some(item) => {
+                let item = *item;
+                self.next += 1;
+                Some(item)
+            }
+            None => None,
+        }
     }
 }
 
