@@ -1,6 +1,6 @@
 -- Lists of scripts, read and written one by one.
-use Rattle.std.proofs.Common.{◌≡◌, ℕ, zero, suc, ◌+◌, ◌<◌, ◌≤◌, List, [], ◌∷◌, ◌++◌, length, get_or, drop, refl, sym, ap, ◌∙◌, arith, append-nil, append_assoc, true, false, true≢false, Option, Some, None}
-use Rattle.std.proofs.Math.Seq.{drop-cons}
+use Rattle.std.proofs.Common.{◌≡◌, ℕ, ◌+◌, ◌<◌, ◌≤◌, List, [], ◌∷◌, ◌++◌, length, get_or, drop, refl, sym, ap, ◌∙◌, arith, append-nil, append_assoc, true, false, true≢false, Option, Some, None}
+use Rattle.std.proofs.lemmas.List.{drop_all, drop_more, length_push}
 use Rattle.iloc_grammar.specs.Words.{Script, word}
 use Rattle.iloc_preferences_rules.specs.Keywords.{with_first, scripts_read}
 
@@ -19,10 +19,7 @@ one_more ss s (Some rs) = ap Some (sym (append_assoc ss (s ∷ []) rs))
 
 -- the item at a place, and those after it
 at : (ws : List (List ℕ)) (i : ℕ) (w : List ℕ) → i < length ws → w ≡ get_or ws i w → drop i ws ≡ w ∷ drop (i + 1) ws
-at ws i w lt is = drop-cons ws i w lt ∙ (λ j. sym is j ∷ drop (next j) ws)
-  where
-    next : suc i ≡ i + 1
-    next = omega arith
+at ws i w lt is = drop_more ws i w lt ∙ ap (λ v. v ∷ drop (i + 1) ws) (sym is)
 
 pub takes_script : (ws ss : List (List ℕ)) (i : ℕ) (w s : List ℕ) → i < length ws → w ≡ get_or ws i w → word Script w ≡ Some s → together ss (scripts_read (drop i ws)) ≡ scripts_read ws → together (ss ++ s ∷ []) (scripts_read (drop (i + 1) ws)) ≡ scripts_read ws
 takes_script ws ss i w s lt is read h =
@@ -37,23 +34,11 @@ refuses_word ws ss i w lt is read h =
     ∙ ap (λ xs. together ss (scripts_read xs)) (sym (at ws i w lt is))
     ∙ h)
 
-past : (ws : List (List ℕ)) (i : ℕ) → length ws ≤ i → drop i ws ≡ []
-past [] i h = elim i as (λ i. drop {A = List ℕ} i [] ≡ []) [ zero ↦ refl | suc i ↦ refl ]
-past (w ∷ ws) zero h = absurd (omega (arith, h))
-past (w ∷ ws) (suc i) h = past ws i (omega (arith, h))
-
 pub ends : (ws ss : List (List ℕ)) (i : ℕ) → length ws ≤ i → together ss (scripts_read (drop i ws)) ≡ scripts_read ws → scripts_read ws ≡ Some ss
-ends ws ss i h so = sym so ∙ ap (λ xs. together ss (scripts_read xs)) (past ws i h) ∙ ap Some (append-nil ss)
+ends ws ss i h so = sym so ∙ ap (λ xs. together ss (scripts_read xs)) (drop_all i ws h) ∙ ap Some (append-nil ss)
 
 pub lengthens : (ss : List (List ℕ)) (s : List ℕ) (i : ℕ) → length ss ≡ i → length (ss ++ s ∷ []) ≡ i + 1
-lengthens [] s i h = omega (arith, h)
-lengthens (x ∷ ss) s i h = let r = lengthens ss s (length ss) refl in omega (arith, h, r)
+lengthens ss s i h = length_push ss s ∙ ap (λ n. n + 1) h
 
 pub no_room : (n m i : ℕ) → (n < 4 → false ≡ true) → n ≡ i → i < m → 4 < m
-no_room zero m i f e l = absurd (true≢false (sym (f (omega arith))))
-no_room (suc zero) m i f e l = absurd (true≢false (sym (f (omega arith))))
-no_room (suc (suc zero)) m i f e l = absurd (true≢false (sym (f (omega arith))))
-no_room (suc (suc (suc zero))) m i f e l = absurd (true≢false (sym (f (omega arith))))
-no_room (suc (suc (suc (suc n)))) m i f e l = omega (arith, e, l)
-
--- writing
+no_room n m i f e l = let many : n < 4 → ⊥ = λ h. true≢false (sym (f h)) in omega (arith, many, e, l)

@@ -1,47 +1,28 @@
 //! A keyword whose value is a list of scripts.
-ghost use Rattle.std.specs.Prelude.{
-  ◌≡◌,
-  ◌++◌,
-  ◌∷◌,
-  [],
-  ◌<◌,
-  ℕ,
-  Ok,
-  Some,
-  OnOk,
-  OnErr,
-  IfOk,
-  IsOk,
-  length,
-};
+ghost use Rattle.std.specs.Prelude.{◌≡◌, Some, IfOk};
 ghost use Rattle.iloc_grammar.specs.Words.{word, Script as the_kind};
 ghost use Rattle.iloc_preferences_rules.specs.Keywords.{dx, scripts_read, scripts_give};
 ghost use Rattle.iloc_keyword_types.specs.Scripts.{ReadsScripts, ReadsScriptsKeyed};
 
 use crate::{PreferenceKey, PreferencesParseError, key_of};
-use iloc_shortvec::ShortWords;
-use iloc_subtags::{Script, Subtag, UnicodeKey};
+use iloc_subtags::{Script, ScriptKind, Subtag, UnicodeKey};
 use iloc_unicode_value::Value;
+use iloc_word_set::WordList;
 use std::alloc::{AllocError, Global};
 use std::marker::Model;
 
 /// Scripts that are left out where words are broken by a dictionary, as `hani-hira` (`dx`).
 #[derive(Drop, Debug, PartialEq, Eq, Hash)]
 pub struct DictionaryBreakScriptExclusions {
-    scripts: ShortWords<Script>,
+    scripts: WordList<ScriptKind, 4>,
 }
 
 impl Model for DictionaryBreakScriptExclusions {
     ghost use Rattle.std.specs.Prelude.{List, ℕ};
-    ghost use Rattle.std.specs.List.{AllByRecursion};
-    ghost use Rattle.iloc_grammar.specs.Values.{IsNormal};
-    ghost use Rattle.iloc_grammar.specs.Words.{Script as the_kind};
 
     ghost Value = { List (List ℕ) };
 
     ghost view = { λ d. d.scripts };
-
-    ghost invariant = { λ d. AllByRecursion (IsNormal the_kind) d.scripts };
 
     ghost inverse = { λ ws. record { scripts = ws } };
 }
@@ -60,25 +41,14 @@ impl DictionaryBreakScriptExclusions {
         ensures { ReadsScripts value.now result }
     {
         let subtags = value.as_subtags_slice();
-        let mut exclusions = DictionaryBreakScriptExclusions {
-            scripts: ShortWords::new(),
-        };
+        let mut scripts = WordList::new();
         for subtag in subtags {
             let Some(script) = script_of(subtag) else {
                 return Err(PreferencesParseError::InvalidKeywordValue);
             };
-            exclusions.push(alloc, script)?;
+            scripts.push(alloc, script)?;
         }
-        Ok(exclusions)
-    }
-
-    // Adds a script at the end. Up to four take no memory.
-    fn push(&mut self, alloc: Global, script: Script) -> Result<(), AllocError>
-        ensures ok { OnOk result (self.new ≡ self.old ++ script ∷ []) }
-        ensures succeeds { length self.old < 4 → IsOk result }
-    {
-        let _ = script.as_str();
-        self.scripts.push(alloc, script)
+        Ok(DictionaryBreakScriptExclusions { scripts })
     }
 
     /// The scripts as subtags, in order.

@@ -1,11 +1,11 @@
 -- Pieces of other extensions that are taken one at a time.
-use Rattle.std.proofs.Common.{◌≡◌, ℕ, suc, ◌+◌, ◌<◌, Bool, true, false, cond, List, [], ◌∷◌, ◌++◌, length, map, filter, refl, sym, ap, ◌∙◌, subst, arith, append_assoc, append-nil, length-append, Option, Some, None, if◌then◌else◌, All, rules, ◌==◌}
+use Rattle.std.proofs.Common.{◌≡◌, ℕ, suc, ◌+◌, ◌<◌, Bool, true, false, cond, List, [], ◌∷◌, ◌++◌, length, map, filter, refl, sym, ap, ◌∙◌, subst, arith, append_assoc, append-nil, length-append, Option, Some, None, if◌then◌else◌, ◌==◌}
 use Rattle.std.specs.List.{AllByRecursion}
 use Rattle.std.specs.Char.{is_ascii_alphanumeric}
 use Rattle.std.specs.Str.{IsUtf8}
 use Rattle.std.proofs.lemmas.Bool.Decides.{nat_tests}
 use Rattle.std.proofs.lemmas.List.{map-append}
-use Rattle.std.proofs.lemmas.List.Elements.{All-cons}
+use Rattle.std.proofs.lemmas.List.Elements.{All-cons, All-nil}
 use Rattle.std.proofs.lemmas.Str.{IsUtf8-from_ascii}
 use Rattle.std.proofs.lemmas.Str.Ascii.{IsAscii-from_all}
 use Rattle.iloc_grammar.specs.Words.{Subtag, is_word, lower}
@@ -91,15 +91,14 @@ wants_memory before now ws p more h e s w n =
 whole : (before now ws : List (List ℕ)) → (h : TakingPieces before now ws) → None ≡ take_first has_other_length now → (other_front before ≡ h.taken) × (past has_other_length before ≡ now)
 whole before now ws h e = let t = took_none has_other_length now e in (h.front ∙ ap (λ l. h.taken ++ l) t.0 ∙ append-nil h.taken, h.rest ∙ t.1)
 
-some : (xs : List (List ℕ)) → (length xs ≡ 0 → ⊥) → 0 < length xs
-some [] h = absurd (h refl)
-some (x ∷ xs) h = omega arith
+some : (n : ℕ) → (n ≡ 0 → ⊥) → 0 < n
+some n h = omega (arith, h)
 
 pub takes_all : (before now ws : List (List ℕ)) → TakingPieces before now ws → None ≡ take_first has_other_length now → (length ws ≡ 0 → ⊥) → OtherRead before ws now
 takes_all before now ws h e n =
     let w = whole before now ws h e in
     record {
-      follows = record { lengths = subst (AllByRecursion (λ p. has_other_length p ≡ true)) (sym w.0) h.lengths; nonempty = subst (λ (l : List (List ℕ)). 0 < length (kept l)) (sym w.0) (some (kept h.taken) (λ z. n (ap length h.means ∙ z))) };
+      follows = record { lengths = subst (AllByRecursion (λ p. has_other_length p ≡ true)) (sym w.0) h.lengths; nonempty = subst (λ (l : List (List ℕ)). 0 < length (kept l)) (sym w.0) (some (length (kept h.taken)) (λ z. n (ap length h.means ∙ z))) };
       means = h.means ∙ ap kept (sym w.0);
       left = sym w.1;
     }
@@ -113,11 +112,8 @@ takes_none before now ws h e n = no_word (λ i.
 
 -- a letter or digit alone is text
 pub letter_is_utf8 : (c : ℕ) → is_ascii_alphanumeric c ≡ true → IsUtf8 (c ∷ [])
-letter_is_utf8 c h = IsUtf8-from_ascii (c ∷ []) (IsAscii-from_all (c ∷ []) (All-cons (λ b. b < 128) c [] (below c h) none))
+letter_is_utf8 c h = IsUtf8-from_ascii (c ∷ []) (IsAscii-from_all (c ∷ []) (All-cons (λ b. b < 128) c [] (below c h) (All-nil (λ (b : ℕ). b < 128))))
   where
-    none : All (λ (b : ℕ). b < 128) []
-    none = search rules
-
     below : (c : ℕ) → is_ascii_alphanumeric c ≡ true → c < 128
     below c h = grind (arith, nat_tests)
 

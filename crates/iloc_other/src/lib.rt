@@ -4,8 +4,8 @@
 //! subtags. Readers take exactly what the grammar of UTS #35, section 3, allows after a singleton,
 //! by the relations of `iloc_fronts`, which also say what that means for a locale. Both print as the
 //! normal text does.
-//! The crate stands on the words of `iloc_subtags`, the pieces of `iloc_parser` and the lists of
-//! `iloc_shortvec`.
+//! The crate stands on the words of `iloc_subtags`, the pieces of `iloc_parser` and the lists of words of
+//! `iloc_word_set`.
 #![tactic(auto)]
 
 ghost use Rattle.std.specs.Prelude.{◌≡◌, ◌↔◌, IsTrue, ℕ, List};

@@ -13,8 +13,8 @@ ghost use Rattle.iloc_other.specs.Reading.{OtherReads, OtherTextReads};
 
 use crate::singleton::take_singleton;
 use iloc_parser::SubtagIterator;
-use iloc_shortvec::ShortWords;
-use iloc_subtags::{ParseError, Subtag, are_normal, is_normal};
+use iloc_subtags::{ParseError, Subtag, SubtagKind};
+use iloc_word_set::WordList;
 use iloc_writeable::{Pieces, Sink, Writeable};
 use std::alloc::{AllocError, Global};
 use std::marker::Model;
@@ -24,7 +24,7 @@ use std::{fmt, slice};
 #[derive(Debug, PartialEq, Eq, PartialOrd, Ord, Hash)]
 pub struct Other {
     ext: u8,
-    keys: ShortWords<Subtag>,
+    keys: WordList<SubtagKind, 8>,
 }
 
 // Written rather than derived: who lets one go then proves a call, and not what it holds.
@@ -40,16 +40,12 @@ impl Drop for Other {
 impl Model for Other {
     ghost use Rattle.std.specs.Prelude.{◌≡◌, List, ℕ, true};
     ghost use Rattle.std.specs.Char.{is_ascii_alphanumeric};
-    ghost use Rattle.std.specs.List.{AllByRecursion};
-    ghost use Rattle.iloc_grammar.specs.Values.{IsNormal};
-    ghost use Rattle.iloc_grammar.specs.Words.{Subtag as the_kind};
 
     ghost Value = { ℕ × List (List ℕ) };
 
     ghost view = { λ o. (o.ext, o.keys) };
 
-    ghost invariant = { λ o. (is_ascii_alphanumeric o.ext ≡ true)
-        × AllByRecursion (IsNormal the_kind) o.keys };
+    ghost invariant = { λ o. is_ascii_alphanumeric o.ext ≡ true };
 
     ghost inverse = { λ o. record { ext = o.0; keys = o.1 } };
 }
@@ -63,11 +59,8 @@ impl Other {
         ensures singleton { result.0 ≡ ext }
         ensures keys { result.1 ≡ keys.items }
     {
-        are_normal(keys.as_slice());
-        Other {
-            ext,
-            keys: ShortWords::from_vec(keys),
-        }
+        let keys = WordList::from_vec(keys);
+        Other { ext, keys }
     }
 
     /// The singleton as text.
@@ -141,12 +134,12 @@ impl Other {
     {
         let mut other = Other {
             ext,
-            keys: ShortWords::new(),
+            keys: WordList::new(),
         };
         'pieces: while let Some(piece) = take_piece(iter) {
             other.push_word(alloc, piece)?;
         }
-        if other.keys.is_empty() {
+        if other.as_slice().is_empty() {
             return Err(ParseError::InvalidExtension);
         }
         Ok(other)
@@ -163,12 +156,10 @@ impl Other {
         ensures succeeds { length self.old.1 < 4 → IsOk result }
     {
         match Subtag::try_from_utf8(piece) {
-            Ok(key) => {
-                is_normal(&key);
-                self.keys
-                    .push(alloc, key)
-                    .map_err(|_| ParseError::OutOfMemory)
-            }
+            Ok(key) => self
+                .keys
+                .push(alloc, key)
+                .map_err(|_| ParseError::OutOfMemory),
             Err(_) => Ok(()),
         }
     }

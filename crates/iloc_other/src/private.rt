@@ -1,5 +1,5 @@
 //! The private extension: a list of private words.
-ghost use Rattle.std.specs.Prelude.{◌≡◌, ◌∷◌, [], ◌↔◌, IsTrue, length, slice_get, ◌++◌, ◌<◌, OnOk, IfErr, IsOk, Some, Ok};
+ghost use Rattle.std.specs.Prelude.{◌≡◌, ◌∷◌, [], ◌↔◌, IsTrue, length, slice_get, Some, Ok};
 ghost use Rattle.std.specs.List.{AllByRecursion};
 ghost use Rattle.std.specs.Option.{option_copied};
 ghost use Rattle.std.specs.Result.{result_and};
@@ -13,8 +13,8 @@ ghost use Rattle.iloc_other.specs.Reading.{PrivateReads, PrivateTextReads};
 
 use crate::singleton::take_singleton;
 use iloc_parser::SubtagIterator;
-use iloc_shortvec::ShortWords;
-use iloc_subtags::{ParseError, PrivateSubtag, are_normal, is_normal};
+use iloc_subtags::{ParseError, PrivateSubtag, PrivateSubtagKind};
+use iloc_word_set::WordList;
 use iloc_writeable::{Pieces, Sink, Writeable};
 use std::alloc::{AllocError, Global};
 use std::marker::Model;
@@ -26,20 +26,15 @@ pub type Subtag = PrivateSubtag;
 /// The private extension: a list of private words.
 #[derive(Drop, Debug, PartialEq, Eq, PartialOrd, Ord, Hash)]
 pub struct Private {
-    words: ShortWords<Subtag>,
+    words: WordList<PrivateSubtagKind, 8>,
 }
 
 impl Model for Private {
     ghost use Rattle.std.specs.Prelude.{List, ℕ};
-    ghost use Rattle.std.specs.List.{AllByRecursion};
-    ghost use Rattle.iloc_grammar.specs.Values.{IsNormal};
-    ghost use Rattle.iloc_grammar.specs.Words.{PrivateSubtag as the_kind};
 
     ghost Value = { List (List ℕ) };
 
     ghost view = { λ p. p.words };
-
-    ghost invariant = { λ p. AllByRecursion (IsNormal the_kind) p.words };
 
     ghost inverse = { λ ws. record { words = ws } };
 }
@@ -50,7 +45,7 @@ impl Private {
         ensures { result ≡ [] }
     {
         Private {
-            words: ShortWords::new(),
+            words: WordList::new(),
         }
     }
 
@@ -58,9 +53,8 @@ impl Private {
     pub fn new_single(input: Subtag) -> Self
         ensures { result ≡ input ∷ [] }
     {
-        is_normal(&input);
         Private {
-            words: ShortWords::new_single(input),
+            words: WordList::from_word(input),
         }
     }
 
@@ -68,9 +62,8 @@ impl Private {
     pub fn from_vec_unchecked(input: Vec<Subtag>) -> Self
         ensures { result ≡ input.items }
     {
-        are_normal(input.as_slice());
         Private {
-            words: ShortWords::from_vec(input),
+            words: WordList::from_vec(input),
         }
     }
 
@@ -78,7 +71,7 @@ impl Private {
     pub fn clear(&mut self)
         ensures { self.new ≡ [] }
     {
-        self.words.clear();
+        self.words = WordList::new();
     }
 
     /// The words in list order.
@@ -100,7 +93,7 @@ impl Private {
     pub fn len(&self) -> usize
         ensures { result ≡ length self.now }
     {
-        self.words.len()
+        self.as_slice().len()
     }
 
     /// The word at a place, `None` from the length on.
@@ -157,7 +150,7 @@ impl Private {
     {
         'words: while let Some(piece) = iter.next() {
             let word = Subtag::try_from_utf8(piece)?;
-            self.push(alloc, word)?;
+            self.words.push(alloc, word)?;
         }
         if self.is_empty() {
             return Err(ParseError::InvalidExtension);
@@ -170,18 +163,6 @@ impl Private {
         ensures { iter_rest result ≡ self.now }
     {
         self.as_slice().iter()
-    }
-
-    // Adds a word at the end. Up to four take no memory.
-    fn push(&mut self, alloc: Global, word: Subtag) -> Result<(), ParseError>
-        ensures ok { OnOk result (self.new ≡ self.old ++ word ∷ []) }
-        ensures err { IfErr result (λ e. e ≡ ParseError.OutOfMemory) }
-        ensures succeeds { length self.old < 4 → IsOk result }
-    {
-        is_normal(&word);
-        self.words
-            .push(alloc, word)
-            .map_err(|_| ParseError::OutOfMemory)
     }
 }
 

@@ -3,9 +3,7 @@ use Rattle.std.proofs.Common.{◌≡◌, ◌&&◌, ℕ, List, [], ◌∷◌, len
 use Rattle.std.proofs.lemmas.Bool.{false_from_ne_true}
 use Rattle.std.proofs.lemmas.Bool.Decides.{nat_tests}
 use Rattle.std.specs.Int.{is_in_range}
-use Rattle.std.specs.Ordering.{is_eq}
-use Rattle.std.specs.declared.cmp.Ordering.{Ordering}
-use Rattle.std.specs.declared.cmp.Ordering.TheVariants.{Less, Equal, Greater}
+use Rattle.std.specs.Cmp.{Equal-is}
 use Rattle.iloc_grammar.specs.Words.{CurrencyType, Subtag, is_word, IsWord, is_true}
 use Rattle.iloc_grammar.specs.Values.{IsNormal}
 use Rattle.iloc_grammar.proofs.WordsLaws.{word_letters_or_digits}
@@ -27,11 +25,6 @@ currency_is_subtag : (w : List ℕ) → IsWord CurrencyType w → IsWord Subtag 
 unfolding is_word
 currency_is_subtag w h = ap₂ ◌&&◌ (ap (is_in_range 2 8) (length-currency w h)) (word_letters_or_digits CurrencyType w h)
 
-equal : (o : Ordering) → is_eq o ≡ true → o ≡ Equal
-equal Less p = absurd (true≢false (sym p))
-equal Equal p = refl
-equal Greater p = absurd (true≢false (sym p))
-
 -- `true` is none, having four letters
 currency_not_true : (w : List ℕ) → IsWord CurrencyType w → is_true w ≡ false
 unfolding is_word is_true
@@ -41,7 +34,7 @@ currency_not_true w h = false_from_ne_true (is_true w) (λ t. ne_true (subst (Is
     ne_true e = true≢false (sym e)
 
     true_word : is_true w ≡ true → codes "true" ≡ w
-    true_word t = same_words (codes "true") w (equal _ t)
+    true_word t = same_words (codes "true") w ((Equal-is _).0 t)
 
 -- so it stands in a value
 pub currency_normal : (w : List ℕ) → IsNormal CurrencyType w → IsNormal Subtag w

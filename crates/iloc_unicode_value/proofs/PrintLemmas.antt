@@ -1,17 +1,10 @@
 -- Printed values.
-use Rattle.std.proofs.Common.{◌≡◌, ℕ, List, refl, ap, sym, ◌∙◌, Bool, true, true≢false, IsTrue, ◌↔◌}
+use Rattle.std.proofs.Common.{◌≡◌, ℕ, List, ap, sym, ◌∙◌, Bool, IsTrue, ◌↔◌}
 use Rattle.std.specs.Ordering.{nat_cmp, is_eq}
-use Rattle.std.specs.declared.cmp.Ordering.{Ordering}
-use Rattle.std.specs.declared.cmp.Ordering.TheVariants.{Less, Equal, Greater}
-use Rattle.std.specs.Cmp.{eq_by_cmp_equiv}
+use Rattle.std.specs.Cmp.{Equal-is, eq_by_cmp_equiv}
 use Rattle.std.specs.Cmp.Lexicographic.{slice_cmp}
 use Rattle.iloc_grammar.proofs.MapLaws.{same_words, word_cmp_total}
 
 -- texts tie in byte order exactly where they are equal
 pub equal_texts : (v w : List ℕ) (b : Bool) → b ≡ is_eq (slice_cmp nat_cmp v w) → IsTrue b ↔ (v ≡ w)
-equal_texts v w b e = (λ h. same_words v w (tie (slice_cmp nat_cmp v w) (sym e ∙ h)), λ h. e ∙ ap (λ x. is_eq (slice_cmp nat_cmp v x)) (sym h) ∙ (eq_by_cmp_equiv word_cmp_total).refl v)
-  where
-    tie : (r : Ordering) → is_eq r ≡ true → r ≡ Equal
-    tie Less h = absurd (true≢false (sym h))
-    tie Equal h = refl
-    tie Greater h = absurd (true≢false (sym h))
+equal_texts v w b e = (λ h. same_words v w ((Equal-is _).0 (sym e ∙ h)), λ h. e ∙ ap (λ x. is_eq (slice_cmp nat_cmp v x)) (sym h) ∙ (eq_by_cmp_equiv word_cmp_total).refl v)

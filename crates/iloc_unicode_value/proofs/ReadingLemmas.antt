@@ -1,10 +1,10 @@
 -- Words that are taken one at a time, and added without `true`.
-use Rattle.std.proofs.Common.{◌≡◌, ℕ, suc, ◌+◌, ◌≤◌, Bool, true, false, not, cond, List, [], ◌∷◌, ◌++◌, length, map, refl, sym, ap, ◌∙◌, arith, append_assoc, append-nil, length-append, Some, None, option_map}
+use Rattle.std.proofs.Common.{◌≡◌, ℕ, suc, ◌+◌, ◌≤◌, true, false, not, cond, List, [], ◌∷◌, ◌++◌, length, map, sym, ap, ◌∙◌, arith, append_assoc, append-nil, length-append, Some, option_map}
 use Rattle.std.proofs.lemmas.Bool.Decides.{nat_tests}
 use Rattle.iloc_grammar.specs.Words.{Kind, Attribute, Subtag, is_word, IsWord, normal, is_true}
 use Rattle.iloc_grammar.specs.Values.{IsNormal}
 use Rattle.iloc_grammar.specs.Reading.{take_first, skip_first, passing, past}
-use Rattle.iloc_parser.proofs.TakingLemmas.{took, took_none}
+use Rattle.iloc_parser.proofs.TakingLemmas.{took}
 use Rattle.iloc_unicode_value.specs.Values.{without_true, with_subtag}
 
 attribute_is_word : (w : List ℕ) → IsWord Attribute w → IsWord Subtag w

@@ -1,30 +1,16 @@
 -- The equality test of lists, item by item, finds exactly equal lists equal.
-use Rattle.std.proofs.Common.{◌≡◌, ◌↔◌, ℕ, Bool, true, List, [], ◌∷◌, refl, sym, ap, ◌∙◌, nat_eq}
-use Rattle.std.proofs.lemmas.Bool.{and_parts, and_from}
-use Rattle.std.specs.Cmp.Lexicographic.{same_text}
-use Rattle.std.proofs.lemmas.Cmp.{nat_list_eq_equiv}
-use lib.Pointwise.{pointwise}
+use Rattle.std.proofs.Common.{◌≡◌, ◌↔◌, ℕ, Bool, true, List, ap, nat_eq}
+use lib.Pointwise.{pointwise, pointwise_decides, bytes_decides}
 
 -- the test answers true exactly at equal values
 abbrev pub IsExactTest : {X : Type 0} → (X → X → Bool) → Type 0
 IsExactTest {X} test = (x y : X) → (test x y ≡ true) ↔ (x ≡ y)
 
-module _ {X : Type 0} (test : X → X → Bool) (exact : IsExactTest test) where
-  equal : (xs ys : List X) → pointwise test xs ys ≡ true → xs ≡ ys
-  equal [] [] h = refl
-  equal [] (y ∷ ys) h = cc
-  equal (x ∷ xs) [] h = cc
-  equal (x ∷ xs) (y ∷ ys) h = let parts = and_parts _ _ h in λ i. (exact x y).0 parts.0 i ∷ equal xs ys parts.1 i
-
-  itself : (xs : List X) → pointwise test xs xs ≡ true
-  itself [] = refl
-  itself (x ∷ xs) = and_from _ _ ((exact x x).1 refl) (itself xs)
-
-  pub lists_exact : IsExactTest (pointwise test)
-  lists_exact xs ys = (equal xs ys, λ e. ap (pointwise test xs) (sym e) ∙ itself xs)
+pub lists_exact : {X : Type 0} (test : X → X → Bool) → IsExactTest test → IsExactTest (pointwise test)
+lists_exact test exact = pointwise_decides exact
 
 pub word_exact : IsExactTest (pointwise nat_eq)
-word_exact v w = (λ h. same_text v w (sym h), λ e. ap (pointwise nat_eq v) (sym e) ∙ nat_list_eq_equiv.refl v)
+word_exact = bytes_decides
 
 -- the equality test of lists of words
 abbrev pub words_eq : List (List ℕ) → List (List ℕ) → Bool

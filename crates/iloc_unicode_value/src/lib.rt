@@ -30,6 +30,7 @@ pub fn orders()
 {}
 
 /// `==` answers whether two values are the same.
+#[tactic(auto, using(crate::specs::Equality::words_exact))]
 pub fn equality()
     ensures { (v w : List (List ℕ)) → IsTrue (⟦<Value as PartialEq>⟧.eq v w) ↔ (v ≡ w) }
 {}

@@ -11,28 +11,24 @@ ghost use Rattle.iloc_shortvec.specs.ShortList.{only_of};
 ghost use Rattle.iloc_unicode_value.specs.Equality.{words_eq, words_exact, alike};
 ghost use Rattle.iloc_unicode_value.specs.Values.{without_true, with_subtag};
 
-use iloc_shortvec::{ShortWords, ShortWordsIntoIter};
-use iloc_subtags::{Subtag, are_normal};
+use iloc_shortvec::ShortWordsIntoIter;
+use iloc_subtags::{Subtag, SubtagKind};
+use iloc_word_set::WordList;
 use std::alloc::{AllocError, Global};
 use std::marker::Model;
 
 /// The value of a keyword: a list of subtags. The empty value stands for `true`.
 #[derive(Drop, Debug, Eq, PartialOrd, Ord, Hash)]
 pub struct Value {
-    subtags: ShortWords<Subtag>,
+    subtags: WordList<SubtagKind, 8>,
 }
 
 impl Model for Value {
     ghost use Rattle.std.specs.Prelude.{List, ℕ};
-    ghost use Rattle.std.specs.List.{AllByRecursion};
-    ghost use Rattle.iloc_grammar.specs.Words.{Subtag};
-    ghost use Rattle.iloc_grammar.specs.Values.{IsNormal};
 
     ghost Value = { List (List ℕ) };
 
     ghost view = { λ v. v.subtags };
-
-    ghost invariant = { λ v. AllByRecursion (IsNormal Subtag) v.subtags };
 
     ghost inverse = { λ ws. record { subtags = ws } };
 }
@@ -43,7 +39,7 @@ impl Value {
         ensures { result ≡ [] }
     {
         Value {
-            subtags: ShortWords::new(),
+            subtags: WordList::new(),
         }
     }
 
@@ -59,7 +55,7 @@ impl Value {
     pub fn subtag_count(&self) -> usize
         ensures { result ≡ length self.now }
     {
-        self.subtags.len()
+        self.as_subtags_slice().len()
     }
 
     /// Whether there is no subtag.
@@ -73,14 +69,17 @@ impl Value {
     pub fn as_single_subtag(&self) -> Option<&Subtag>
         ensures { option_copied result ≡ only_of self.now }
     {
-        self.subtags.single()
+        match self.as_subtags_slice() {
+            [only] => Some(only),
+            _ => None,
+        }
     }
 
     /// The subtag of a value of exactly one, by value.
     pub fn into_single_subtag(self) -> Option<Subtag>
         ensures { result ≡ only_of self }
     {
-        self.subtags.into_single()
+        self.as_single_subtag().copied()
     }
 
     /// The subtag at a place; `None` from the length on.
@@ -95,7 +94,7 @@ impl Value {
         ensures taken { result ≡ slice_get self.old idx }
         ensures rest { self.new ≡ remove self.old idx }
     {
-        if idx < self.subtags.len() {
+        if idx < self.subtag_count() {
             Some(self.subtags.remove(idx))
         } else {
             None
@@ -121,7 +120,7 @@ impl Value {
     {
         match subtag {
             Some(subtag) if !spells_true(&subtag) => Value {
-                subtags: ShortWords::new_single(subtag),
+                subtags: WordList::from_word(subtag),
             },
             _ => Value::new_empty(),
         }
@@ -131,19 +130,18 @@ impl Value {
     pub fn from_two_subtags(alloc: Global, f: Subtag, s: Subtag) -> Result<Self, AllocError>
         ensures { result ≡ Ok (f ∷ s ∷ []) }
     {
-        let mut value = Value::new_empty();
-        value.add(alloc, f)?;
-        value.add(alloc, s)?;
-        Ok(value)
+        let mut subtags = WordList::new();
+        subtags.push(alloc, f)?;
+        subtags.push(alloc, s)?;
+        Ok(Value { subtags })
     }
 
     /// The value of these subtags; `true` is let in.
     pub fn from_vec_unchecked(input: Vec<Subtag>) -> Self
         ensures { result ≡ input.items }
     {
-        are_normal(input.as_slice());
         Value {
-            subtags: ShortWords::from_vec(input),
+            subtags: WordList::from_vec(input),
         }
     }
 
@@ -182,22 +180,12 @@ impl Value {
     {
         let before = self.subtag_count();
         for subtag in iter {
-            if self.add(alloc, subtag).is_err() {
+            if self.subtags.push(alloc, subtag).is_err() {
                 self.cut(before);
                 return Err(AllocError);
             }
         }
         Ok(())
-    }
-
-    // Adds a subtag at the end, `true` too.
-    fn add(&mut self, alloc: Global, subtag: Subtag) -> Result<(), AllocError>
-        ensures ok { OnOk result (self.new ≡ self.old ++ subtag ∷ []) }
-        ensures err { OnErr result (self.new ≡ self.old) }
-        ensures succeeds { length self.old < 4 → IsOk result }
-    {
-        let _ = subtag.as_str();
-        self.subtags.push(alloc, subtag)
     }
 
     // Keeps the first subtags.

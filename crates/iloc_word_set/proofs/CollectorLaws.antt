@@ -2,6 +2,7 @@
 use Rattle.std.proofs.Common.{◌≡◌, ℕ, suc, ◌+◌, ◌<◌, ◌≤◌, Bool, true, false, cond, not, ◌||◌, List, [], ◌∷◌, ◌++◌, length, refl, sym, ap, ◌∙◌, subst, arith, rules, true≢false, nat_eq}
 use Rattle.std.specs.Prelude.{insert, Result, Ok, Err, IfOk, OnErr}
 use Rattle.std.specs.Cmp.Lexicographic.{pointwise}
+use Rattle.std.specs.Cmp.{Equal-is}
 use Rattle.std.specs.Cmp.Rules.{comparing}
 use Rattle.std.specs.List.{list_any, dedup, dedup_from}
 use Rattle.std.specs.List.Sorted.{IsPermutation, IsSorted, IsStrictlySortedBy}
@@ -24,11 +25,6 @@ use Rattle.iloc_grammar.proofs.WellRead.{set_of-ascending}
 use Rattle.iloc_word_set.specs.Ascending.{ascends}
 use Rattle.iloc_word_set.specs.TakingIn.{TakesIn}
 use Rattle.iloc_word_set.proofs.SetLaws.{same_set, set_ascends}
-
-tied : (o : Ordering) → is_eq o ≡ true → o ≡ Equal
-tied Less h = absurd (true≢false (sym h))
-tied Equal h = refl
-tied Greater h = absurd (true≢false (sym h))
 
 -- how long sets are
 
@@ -58,7 +54,7 @@ pub known_set : (w : List ℕ) (ws : List (List ℕ)) → list_any (is_same w) w
 known_set w ws h = same_set (w ∷ ws) ws (λ q. by q (is_same q w) refl)
   where
     by : (q : List ℕ) (b : Bool) → is_same q w ≡ b → (is_same q w || list_any (is_same q) ws) ≡ list_any (is_same q) ws
-    by q true e = rw (e, same_words q w (tied (word_cmp q w) e), h) refl
+    by q true e = rw (e, same_words q w ((Equal-is _).0 e), h) refl
     by q false e = rw e refl
 
 -- one word more in a set
@@ -178,7 +174,7 @@ sorted_out ws sorted set p up e =
     let ascend : ascends word_cmp set ≡ true = ap (ascends word_cmp) e ∙ strictly _ (IsStrictlySortedBy-dedup word_cmp_total ties sorted up) in
     record {
       ascend = ascend;
-      is = sym (set_of_ascending set (set_ascends set ascend)) ∙ same_set set ws (λ q. ap (list_any (is_same q)) e ∙ any-dedup (is_same q) (pointwise nat_eq) (λ v w h. same_words v w (tied _ (sym (ties v w) ∙ h))) sorted ∙ sym (list_any-IsPermutation (is_same q) ws sorted p));
+      is = sym (set_of_ascending set (set_ascends set ascend)) ∙ same_set set ws (λ q. ap (list_any (is_same q)) e ∙ any-dedup (is_same q) (pointwise nat_eq) (λ v w h. same_words v w ((Equal-is _).0 (sym (ties v w) ∙ h))) sorted ∙ sym (list_any-IsPermutation (is_same q) ws sorted p));
     }
 
 pub in_order : (ws : List (List ℕ)) → IsAscending ws → IsSetOf ws ws

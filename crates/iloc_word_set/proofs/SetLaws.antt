@@ -3,17 +3,18 @@ use Rattle.std.proofs.Common.{◌≡◌, ℕ, zero, suc, ◌<◌, ◌≤◌, Boo
 use Rattle.std.specs.Prelude.{insert, is_some}
 use Rattle.std.specs.List.{AllByRecursion, HoldsAt, list_any, slice_index_or}
 use Rattle.std.specs.List.Sorted.{IsNonDecreasingBy, IsPartitionPoint}
-use Rattle.std.specs.Ordering.{ordering_index, ordering_reverse, is_lt}
+use Rattle.std.specs.Ordering.{ordering_index, ordering_reverse}
 use Rattle.std.specs.declared.cmp.Ordering.{Ordering}
 use Rattle.std.specs.declared.cmp.Ordering.TheVariants.{Less, Equal, Greater}
 use Rattle.std.specs.FinMap.{put, find, is_sorted}
 use Rattle.std.specs.FinMap.Entries.{by_order, below_all, is_some-find, where_key, is_sorted-where_key}
 use Rattle.std.proofs.lemmas.Bool.{and_parts}
-use Rattle.std.proofs.Math.Seq.{drop-cons}
+use Rattle.std.proofs.lemmas.List.{drop_all, drop_more}
+use Rattle.std.proofs.lemmas.List.Elements.{All-from_recursion}
 use Rattle.iloc_grammar.specs.Words.{word_cmp, is_same}
 use Rattle.iloc_grammar.specs.Meaning.{map_of, set_of}
 use Rattle.iloc_grammar.specs.Values.{IsAscending}
-use Rattle.iloc_grammar.proofs.MapLaws.{word_cmp_total, same_words, to_T, find-map_of, map_of_same, map_of_sorted}
+use Rattle.iloc_grammar.proofs.MapLaws.{word_cmp_total, same_words, to_T, less, find-map_of, map_of_same, map_of_sorted}
 use Rattle.iloc_grammar.proofs.ValuesLaws.{unmarked, set_of_ascending}
 use Rattle.iloc_word_set.specs.Ascending.{ascends}
 
@@ -28,11 +29,6 @@ keys es = map (λ e. e.0) es
 turned : (x y : List ℕ) (r : Ordering) → word_cmp y x ≡ r → word_cmp x y ≡ ordering_reverse r
 turned x y r h = word_cmp_total.antisymm x y ∙ ap ordering_reverse h
 
-less : (o : Ordering) → is_lt o ≡ true → o ≡ Less
-less Less h = refl
-less Equal h = cc
-less Greater h = cc
-
 below : (w : List ℕ) (ws : List (List ℕ)) → below_all word_cmp w (marked ws) ≡ true → AllByRecursion (λ v. word_cmp w v ≡ Less) ws
 below w [] h = tt
 below w (v ∷ ws) h = let parts = and_parts _ _ h in (less _ parts.0, below w ws parts.1)
@@ -42,11 +38,6 @@ rest_ascends w ws h = (and_parts _ _ h).1
 
 first_below : (w : List ℕ) (ws : List (List ℕ)) → IsAscending (w ∷ ws) → AllByRecursion (λ v. word_cmp w v ≡ Less) ws
 first_below w ws h = below w ws (and_parts _ _ h).0
-
-at_index : {X : Type 0} (P : X → Type 0) (xs : List X) (j : ℕ) (d : X) → AllByRecursion P xs → j < length xs → P (slice_index_or xs j d)
-at_index P [] j d h l = absurd (omega (arith, l))
-at_index P (x ∷ xs) zero d h l = h.0
-at_index P (x ∷ xs) (suc j) d h l = at_index P xs j d h.1 (omega (arith, l))
 
 less_index : (a b x : List ℕ) → word_cmp a b ≡ Less → ordering_index (word_cmp a x) ≤ ordering_index (word_cmp b x)
 less_index a b x h = by (word_cmp b x) refl
@@ -65,7 +56,7 @@ less_index a b x h = by (word_cmp b x) refl
 rising : (x : List ℕ) (ws : List (List ℕ)) → IsAscending ws → IsNonDecreasingBy (λ y. ordering_index (word_cmp y x)) ws
 rising x [] s i j d le lt = absurd (omega (arith, lt))
 rising x (y ∷ ys) s zero zero d le lt = omega arith
-rising x (y ∷ ys) s zero (suc j) d le lt = less_index y (slice_index_or ys j d) x (at_index (λ z. word_cmp y z ≡ Less) ys j d (first_below y ys s) (omega (arith, lt)))
+rising x (y ∷ ys) s zero (suc j) d le lt = less_index y (slice_index_or ys j d) x (All-from_recursion (λ z. word_cmp y z ≡ Less) ys (first_below y ys s) j d (omega (arith, lt)))
 rising x (y ∷ ys) s (suc i) zero d le lt = absurd (omega (arith, le))
 rising x (y ∷ ys) s (suc i) (suc j) d le lt = rising x ys (rest_ascends y ys s) i j d (omega (arith, le)) (omega (arith, lt))
 
@@ -121,7 +112,7 @@ tied_is_there x (y ∷ ys) (suc i) l h = elim (is_same x y) as (λ b. (b || list
 before_tied : (x y : List ℕ) (ys : List (List ℕ)) (i : ℕ) → i < length ys → AllByRecursion (λ z. word_cmp y z ≡ Less) ys → HoldsAt (λ z. word_cmp z x ≡ Equal) ys i → word_cmp x y ≡ Greater
 before_tied x y ys i l s h =
     let z = slice_index_or ys i y in
-    let down : word_cmp y z ≡ Less = at_index (λ z. word_cmp y z ≡ Less) ys i y s (omega (arith, l)) in
+    let down : word_cmp y z ≡ Less = All-from_recursion (λ z. word_cmp y z ≡ Less) ys s i y (omega (arith, l)) in
     let same : z ≡ x = same_words z x (h y) in
     turned x y Less (ap (word_cmp y) (sym same) ∙ down)
 
@@ -182,10 +173,6 @@ marked-filter p (w ∷ ws) = elim (p w) as (λ b. cond b ((w, tt {0}) ∷ where_
 
 pub ascending-filter : (p : List ℕ → Bool) (ws : List (List ℕ)) → IsAscending ws → IsAscending (filter p ws)
 ascending-filter p ws h = holds _ (subst (λ es. T (is_sorted word_cmp es)) (marked-filter p ws) (is_sorted-where_key word_cmp p (marked ws) (to_T _ h)))
-
-pub all-filter : (P : List ℕ → Type 0) (p : List ℕ → Bool) (ws : List (List ℕ)) → AllByRecursion P ws → AllByRecursion P (filter p ws)
-all-filter P p [] h = tt
-all-filter P p (w ∷ ws) h = elim (p w) as (λ b. AllByRecursion P (cond b (w ∷ filter p ws) (filter p ws))) [ true ↦ (h.0, all-filter P p ws h.1) | false ↦ all-filter P p ws h.1 ]
 
 -- the words of two sets
 
@@ -255,21 +242,12 @@ set_ascends (x ∷ (y ∷ ws)) h =
     let down = less _ parts.0 in
     rw (down, below_later x y ws down (and_parts _ _ later).0) later
 
-past_end : (xs : List (List ℕ)) (i : ℕ) → length xs ≤ i → drop i xs ≡ []
-past_end [] zero h = refl
-past_end [] (suc i) h = refl
-past_end (x ∷ xs) zero h = absurd (omega (arith, h))
-past_end (x ∷ xs) (suc i) h = past_end xs i (omega (arith, h))
-
 -- the end of a union
 pub union_done : (ws items all : List (List ℕ)) (i : ℕ) → length items ≤ i → IsAscending ws → set_of (ws ++ drop i items) ≡ set_of all → ws ≡ set_of all
 union_done ws items all i l s e =
-    sym (set_of_ascending ws s) ∙ ap set_of (sym (append-nil ws) ∙ ap (λ rest. ws ++ rest) (sym (past_end items i l))) ∙ e
+    sym (set_of_ascending ws s) ∙ ap set_of (sym (append-nil ws) ∙ ap (λ rest. ws ++ rest) (sym (drop_all i items l))) ∙ e
 
 pub union_next : (x : List ℕ) (ws items new all : List (List ℕ)) (i : ℕ) → i < length items → x ≡ get_or items i x → new ≡ set_of (x ∷ ws) → set_of (ws ++ drop i items) ≡ all → set_of (new ++ drop (i + 1) items) ≡ all
 union_next x ws items new all i l is e h =
-    let next : i + 1 ≡ suc i = omega arith in
     ap (λ s. set_of (s ++ drop (i + 1) items)) e ∙ union_step x ws (drop (i + 1) items)
-    ∙ ap (λ n. set_of (ws ++ x ∷ drop n items)) next
-    ∙ ap (λ y. set_of (ws ++ y ∷ drop (suc i) items)) is
-    ∙ ap (λ l. set_of (ws ++ l)) (sym (drop-cons items i x l)) ∙ h
+    ∙ ap (λ y. set_of (ws ++ y ∷ drop (i + 1) items)) is ∙ ap (λ l. set_of (ws ++ l)) (sym (drop_more items i x l)) ∙ h

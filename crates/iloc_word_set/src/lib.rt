@@ -17,10 +17,12 @@ use std::hash::Hash;
 pub mod ascending;
 pub mod traits;
 pub mod word_collector;
+pub mod word_list;
 pub mod word_set;
 
 pub use ascending::is_strictly_ascending;
 pub use word_collector::WordCollector;
+pub use word_list::WordList;
 pub use word_set::{Variants, WordSet};
 
 /// A hasher is fed the text of a word, and the words of a set.

@@ -8,7 +8,7 @@ ghost use Rattle.iloc_word_set.specs.Ascending.{ascends};
 ghost use Rattle.iloc_grammar.specs.Meaning.{set_of};
 ghost use Rattle.iloc_grammar.specs.Values.{IsNormal, IsAscending};
 
-use iloc_shortvec::ShortWords;
+use crate::word_list::WordList;
 use iloc_subtags::{Variant, VariantKind, WordKind, WordOf};
 use std::alloc::{AllocError, Global};
 use std::marker::Model;
@@ -22,19 +22,18 @@ use std::slice::Iter;
 #[derive(Drop)]
 #[derive_where(PartialEq, Eq, PartialOrd, Ord, Hash)]
 pub struct WordSet<K: WordKind<N>, const N: usize> {
-    words: ShortWords<WordOf<K, N>>,
+    words: WordList<K, N>,
 }
 
 impl<K: WordKind<N>, const N: usize> Model for WordSet<K, N> {
     ghost use Rattle.std.specs.Prelude.{List, ℕ};
-    ghost use Rattle.std.specs.List.{AllByRecursion};
-    ghost use Rattle.iloc_grammar.specs.Values.{IsNormal, IsAscending};
+    ghost use Rattle.iloc_grammar.specs.Values.{IsAscending};
 
     ghost Value = { List (List ℕ) };
 
     ghost view = { λ s. s.words };
 
-    ghost invariant = { λ s. IsAscending s.words × AllByRecursion (IsNormal K.kind) s.words };
+    ghost invariant = { λ s. IsAscending s.words };
 
     ghost inverse = { λ words. record { words = words } };
 }
@@ -64,7 +63,7 @@ impl<K: WordKind<N>, const N: usize> WordSet<K, N> {
         ensures { result ≡ [] }
     {
         WordSet {
-            words: ShortWords::new(),
+            words: WordList::new(),
         }
     }
 
@@ -72,9 +71,8 @@ impl<K: WordKind<N>, const N: usize> WordSet<K, N> {
     pub fn from_word(word: WordOf<K, N>) -> Self
         ensures { result ≡ word ∷ [] }
     {
-        let _ = word.as_str();
         WordSet {
-            words: ShortWords::new_single(word),
+            words: WordList::from_word(word),
         }
     }
 
@@ -83,9 +81,8 @@ impl<K: WordKind<N>, const N: usize> WordSet<K, N> {
         requires { ascends word_cmp input.items ≡ true }
         ensures { result ≡ input.items }
     {
-        look_at_each(input.as_slice());
         WordSet {
-            words: ShortWords::from_vec(input),
+            words: WordList::from_vec(input),
         }
     }
 
@@ -142,7 +139,6 @@ impl<K: WordKind<N>, const N: usize> WordSet<K, N> {
         ensures succeeds { length self.old < 4 → IsOk result }
         ensures known { list_any (is_same word) self.old ≡ true → IsOk result }
     {
-        let _ = word.as_str();
         match self.as_slice().binary_search(&word) {
             Ok(_) => Ok(false),
             Err(at) => {
@@ -220,14 +216,5 @@ impl<K: WordKind<N>, const N: usize> WordSet<K, N> {
         }
         *self = self.union(alloc, other)?;
         Ok(())
-    }
-}
-
-// Looks at the text of each word, so that it is known to be normal.
-fn look_at_each<K: WordKind<N>, const N: usize>(words: &[WordOf<K, N>])
-    ensures { AllByRecursion (IsNormal K.kind) words.now }
-{
-    for word in words {
-        let _ = word.as_str();
     }
 }

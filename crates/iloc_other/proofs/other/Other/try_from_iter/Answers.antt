@@ -1,4 +1,4 @@
-use Rattle.std.proofs.Common.{ℕ, List, length, sym, ap, ◌∙◌}
+use Rattle.std.proofs.Common.{length, sym, ap, ◌∙◌}
 use Rattle.iloc_parser.specs.Left.{left}
 use Rattle.iloc_other.proofs.OtherLemmas.{takes_piece, takes_none, no_item}
 use Rattle.iloc_other.proofs.other.Other.try_from_iter.Goals as goal
@@ -10,4 +10,4 @@ pieces-preserved c = record {
 }
 
 pub returns-then-is_empty : goal.returns-then-is_empty
-returns-then-is_empty c = takes_none (left c.args.iter.now) (left c.pieces.iter) c.pieces.other.1 c.pieces.invariant.words c.in_default.ensures.piece (ap (λ (o : ℕ × List (List ℕ)). length o.1) (sym c.other.view_is) ∙ no_item _ (sym c.is_empty.ensures ∙ c.if-is_empty.true))
+returns-then-is_empty c = takes_none (left c.args.iter.now) (left c.pieces.iter) c.pieces.other.1 c.pieces.invariant.words c.in_default.ensures.piece (ap length (sym c.as_slice.ensures.words) ∙ no_item _ (sym c.is_empty.ensures ∙ c.if-is_empty.true))

@@ -9,18 +9,18 @@ pub returns-in_err-word : goal.returns-in_err-word
 returns-in_err-word c =
     let p = err_from_is_err_and c.from_residual.result c.from_residual.ensures.1 in
     let refused = refused_from_read PrivateSubtag _ c.in_err-word.field-0.0 c.in-Some.piece.now c.in_err-word.ensures in
-    rw (p.1, p.2, refused.1) (refuses_piece (left c.args.iter.now) (left c.words.iter) c.words.self c.in-Some.piece.now (left c.next.new.self) c.words.invariant c.in-Some.ensures.steps refused.0)
+    rw (p.1, p.2, refused.1) (refuses_piece _ _ _ c.words.invariant c.in-Some.piece.now (left c.next.new.self) c.in-Some.ensures.steps refused.0)
 
 pub words-preserved : goal.words-preserved
 words-preserved c =
     let read = accepted_from_read PrivateSubtag _ c.in-Some.piece.now c.in_ok-word.word c.in_ok-word.ensures in
-    takes_word (left c.args.iter.now) (left c.words.iter) c.words.self c.in-Some.piece.now (left c.next.new.self) c.push.new.self c.words.invariant c.in-Some.ensures.steps read.0 (c.in_ok-push.ensures.ok ∙ ap (λ w. c.words.self ++ w ∷ []) read.1)
+    takes_word _ _ _ c.words.invariant c.in-Some.piece.now (left c.next.new.self) c.in-Some.ensures.steps _ read.0 (c.in_ok-push.ensures.ok ∙ ap (λ w. c.words.self-inside.words ++ w ∷ []) read.1)
 
 pub returns-in_err-push : goal.returns-in_err-push
 returns-in_err-push c =
     let p = err_from_is_err_and c.from_residual-in_err-push.result c.from_residual-in_err-push.ensures.1 in
     let read = accepted_from_read PrivateSubtag _ c.in-Some.piece.now c.in_ok-word.word c.in_ok-word.ensures in
-    rw (p.1, p.2, c.in_err-push.ensures.err) (wants_memory (left c.args.iter.now) (left c.words.iter) c.words.self c.in-Some.piece.now (left c.next.new.self) c.words.invariant c.in-Some.ensures.steps read.0 (λ l. true≢false (sym (c.in_err-push.ensures.succeeds l))))
+    rw (p.1, p.2) (wants_memory _ _ _ c.words.invariant c.in-Some.piece.now (left c.next.new.self) c.in-Some.ensures.steps read.0 (λ l. true≢false (sym (c.in_err-push.ensures.succeeds l))))
 
 pub returns-then-is_empty : goal.returns-then-is_empty
-returns-then-is_empty c = takes_none (left c.args.iter.now) (left c.words.iter) c.words.self c.words.invariant c.in_default.ensures.steps.0 (c.is_empty.ensures.0 c.if-is_empty.true)
+returns-then-is_empty c = takes_none _ _ _ c.words.invariant c.in_default.ensures.steps.0 (c.is_empty.ensures.0 c.if-is_empty.true)

@@ -4,4 +4,4 @@ use Rattle.iloc_other.proofs.TakingLemmas.{TakingWords}
 use Rattle.iloc_other.proofs.private.Private.fill.Given as goal
 
 abbrev pub invariant-words : goal.invariant-words
-invariant-words l = TakingWords (left l.initial.iter) (left l.iter) l.self
+invariant-words l = TakingWords (left l.initial.iter) (left l.iter) l.self-inside.words

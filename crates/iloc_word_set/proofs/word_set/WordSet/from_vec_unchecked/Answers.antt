@@ -1,9 +1,5 @@
-use Rattle.std.proofs.Common.{subst}
-use Rattle.std.specs.List.{AllByRecursion}
-use Rattle.iloc_grammar.specs.Values.{IsNormal}
 use Rattle.iloc_word_set.proofs.SetLaws.{set_ascends}
 use Rattle.iloc_word_set.proofs.word_set.WordSet.from_vec_unchecked.Goals as goal
 
 pub invariant_of-result : goal.invariant_of-result
-invariant_of-result g c =
-    rw c.from_vec.ensures ((set_ascends c.args.input.items c.requires, subst (AllByRecursion (IsNormal g.K.WordKind.kind)) c.as_slice.ensures.value c.look_at_each.ensures))
+invariant_of-result g c = rw c.from_vec.ensures (set_ascends c.args.input.items c.requires)

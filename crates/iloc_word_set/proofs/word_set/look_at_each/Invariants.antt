@@ -1,8 +1,0 @@
-use Rattle.std.proofs.Common.{drop}
-use Rattle.std.specs.List.{AllByRecursion}
-use Rattle.iloc_grammar.specs.Values.{IsNormal}
-use Rattle.iloc_word_set.proofs.word_set.look_at_each.Given as goal
-
-abbrev pub invariant-loop-word : goal.invariant-loop-word
-invariant-loop-word g l =
-    AllByRecursion (IsNormal g.K.WordKind.kind) (drop l.word-index l.words) → AllByRecursion (IsNormal g.K.WordKind.kind) l.words
