@@ -9,7 +9,9 @@ ghost use Rattle.iloc_langid.specs.Reads.{VariantsGive, FrontGives, FrontReadsAs
 
 use crate::identifier::LanguageIdentifier;
 use iloc_parser::{SubtagIterator, take_word};
-use iloc_subtags::{LanguageKind, ParseError, RegionKind, ScriptKind, VariantKind, WordKind, WordOf};
+use iloc_subtags::{
+    LanguageKind, ParseError, RegionKind, ScriptKind, VariantKind, WordKind, WordOf,
+};
 use iloc_word_set::{Variants, WordCollector};
 use std::alloc::Global;
 

@@ -7,7 +7,8 @@ ghost use Rattle.iloc_langid.specs.SmallReads.{SmallFrontGives, SmallReadsAs};
 use crate::identifier::LanguageIdentifier;
 use iloc_parser::{SubtagIterator, take_word};
 use iloc_subtags::{
-    Language, LanguageKind, ParseError, Region, RegionKind, Script, ScriptKind, Variant, VariantKind,
+    Language, LanguageKind, ParseError, Region, RegionKind, Script, ScriptKind, Variant,
+    VariantKind,
 };
 
 /// A language, and perhaps a script, a region and one variant.

@@ -49,7 +49,7 @@ impl<'a> SubtagIterator<'a> {
         if self.len == self.text.len() {
             let ended = SubtagIterator {
                 text: self.text,
-                len: usize::MAX,
+                len: self.len + 9,
             };
             return (ended, Some(piece));
         }
