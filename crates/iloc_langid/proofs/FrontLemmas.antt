@@ -1,5 +1,5 @@
 -- From what a front is read as to what the whole or the head is read as.
-use Rattle.std.proofs.Common.{◌≡◌, ◌≢◌, ◌<◌, ℕ, Bool, true, false, List, [], ◌∷◌, ◌++◌, length, refl, sym, ap, ◌∙◌, subst, arith, append-nil, Some, None, option_map, Result, Ok, Err, true≢false, ◌==◌}
+use Rattle.std.proofs.Common.{◌≡◌, ◌≢◌, ◌<◌, ℕ, Bool, true, false, List, [], ◌∷◌, ◌++◌, length, refl, sym, ap, ◌∙◌, subst, arith, append-nil, cond, Some, None, option_map, Result, Ok, Err, true≢false, ◌==◌}
 use Rattle.std.specs.Prelude.{if◌then◌else◌}
 use Rattle.std.specs.Result.{result_and}
 use Rattle.std.proofs.lemmas.Bool.Decides.{nat_tests}
@@ -7,7 +7,7 @@ use Rattle.std.proofs.lemmas.Bool.{false_from_ne_true}
 use Rattle.iloc_grammar.specs.Words.{Kind, Language, Script, Region, is_word, IsWord, normal, lower, title, upper, languages, read}
 use Rattle.iloc_grammar.specs.Meaning.{IdentifierMeans}
 use Rattle.iloc_grammar.specs.Faults.{not_a_language, not_an_identifier}
-use Rattle.iloc_grammar.specs.Blocks.{front, head}
+use Rattle.iloc_grammar.specs.Blocks.{first_piece, front, head}
 use Rattle.iloc_grammar.specs.Reading.{first_item}
 use Rattle.iloc_grammar.specs.Reading.{take_first, skip_first, front_of, after_front, from_block, after_head, starts_block}
 use Rattle.iloc_grammar.proofs.ReadingLaws.{EndsWords, starts_ends, from_block_starts, front-from_block, front_long, after_long, starts_empty, after_front-append, front_means, refuses_more, refuses_repeat, front_of-append, front_is_front}
@@ -23,6 +23,15 @@ no_empty_language = refl
 
 no_language : {P : Type 0} → IsWord (Language languages) [] → P
 no_language h = absurd (true≢false (sym h ∙ no_empty_language))
+
+-- no language was taken from the front
+pub none_first : (ps : List (List ℕ)) → None ≡ option_map (normal (Language languages)) (take_first (is_word (Language languages)) ps) → is_word (Language languages) (first_piece ps) ≡ false
+none_first [] e = no_empty_language
+none_first (p ∷ ps) e = by (is_word (Language languages) p) refl e
+  where
+    by : (b : Bool) → is_word (Language languages) p ≡ b → None ≡ option_map (normal (Language languages)) (cond b (Some p) None) → is_word (Language languages) p ≡ false
+    by true h e = cc
+    by false h e = h
 
 pub accepted_from_read : {E : Type 0} (k : Kind) (e : E) (p w : List ℕ) → Ok w ≡ read k e p → IsWord k p × (w ≡ normal k p)
 accepted_from_read {E} k e p w h = by (is_word k p) refl h

@@ -185,6 +185,9 @@ pub record TakingFew (before now set : List (List ℕ)) : Type 0 where
 pub few_none : (ps : List (List ℕ)) → TakingFew ps ps []
 few_none ps = record { taking = taking_none ps; ascending = refl; normal = tt; short = omega arith }
 
+pub few_known : (ws ps : List (List ℕ)) → AllByRecursion (IsNormal Variant) ws → IsAscending ws → length ws < 4 → TakingFew (ws ++ ps) ps ws
+few_known ws ps n a l = record { taking = taking_few ws ps n; ascending = a; normal = n; short = l }
+
 module _ (before now set : List (List ℕ)) (t : TakingFew before now set) (w : List ℕ) (later : List (List ℕ)) (e : Some w ≡ option_map (normal Variant) (take_first (is_word Variant) now)) (l : later ≡ skip_first (is_word Variant) now)
     (more : List (List ℕ)) (added : Bool) (a : added ≡ not (list_any (is_same w) set)) (is : more ≡ set_of (w ∷ set)) where
   normal_word : IsNormal Variant w

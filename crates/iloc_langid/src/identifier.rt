@@ -83,6 +83,7 @@ impl LanguageIdentifier {
     }
 
     /// The same in place of what this identifier was: `und` after a refusal.
+    #[inline(always)]
     pub fn read(&mut self, alloc: Global, code_units: &[u8]) -> Result<(), ParseError>
         ensures reads { ReadsAs (pieces code_units.now) (result_and result (Ok self.new)) }
         ensures refused { OnErr result (value_of self.new ≡ unknown_identifier) }
@@ -170,6 +171,7 @@ impl Pieces for LanguageIdentifier {
         true
     }
 
+    #[inline(always)]
     #[tactic(auto, using(iloc_writeable::proofs::PiecesLemmas::flat_map_words))]
     fn write_pieces<S: Sink>(&self, sink: &mut S, first: bool) -> fmt::Result {
         (&self.language, &self.script, &self.region, &self.variants).write_pieces(sink, first)

@@ -1,5 +1,5 @@
 //! Reads identifiers from pieces.
-ghost use Rattle.std.specs.Prelude.{◌≡◌, ◌++◌, [], false, length, Ok, OnOk};
+ghost use Rattle.std.specs.Prelude.{◌≡◌, ◌<◌, ◌++◌, [], false, length, Ok, OnOk};
 ghost use Rattle.std.specs.Result.{result_and};
 ghost use Rattle.iloc_grammar.specs.Blocks.{head};
 ghost use Rattle.iloc_grammar.specs.Reading.{after_head, EndsBefore};
@@ -9,7 +9,9 @@ ghost use Rattle.iloc_langid.specs.Reads.{VariantsGive, FrontGives, FrontReadsAs
 
 use crate::identifier::LanguageIdentifier;
 use iloc_parser::{SubtagIterator, take_word};
-use iloc_subtags::{Language, ParseError, RegionKind, ScriptKind, VariantKind, WordKind, WordOf};
+use iloc_subtags::{
+    LanguageKind, ParseError, RegionKind, ScriptKind, VariantKind, WordKind, WordOf,
+};
 use iloc_word_set::{Variants, WordCollector};
 use std::alloc::Global;
 
@@ -19,15 +21,55 @@ pub fn read_variants(alloc: Global, iter: &mut SubtagIterator<'_>) -> Result<Var
     ensures { VariantsGive (left iter.old) (left iter.new) result }
 {
     let mut variants = Variants::new();
+    fill_variants(alloc, iter, &mut variants)?;
+    Ok(variants)
+}
+
+// Takes the variants that stand at the front, in place of those before.
+#[inline(always)]
+fn fill_variants(
+    alloc: Global,
+    iter: &mut SubtagIterator<'_>,
+    variants: &mut Variants,
+) -> Result<(), ParseError>
+    ensures { VariantsGive (left iter.old) (left iter.new) (result_and result (Ok variants.new)) }
+{
+    let Some(first) = take_word::<VariantKind, 8>(iter) else {
+        if !variants.is_empty() {
+            variants.clear();
+        }
+        return Ok(());
+    };
+    *variants = Variants::from_variant(first);
+    if may_be_variant(iter) {
+        return add_variants(alloc, iter, variants);
+    }
+    Ok(())
+}
+
+// Takes the variants that follow those of the set, fewer than four.
+#[inline(never)]
+fn add_variants(
+    alloc: Global,
+    iter: &mut SubtagIterator<'_>,
+    variants: &mut Variants,
+) -> Result<(), ParseError>
+    requires { length variants.old < 4 }
+    ensures { VariantsGive (variants.old ++ left iter.old) (left iter.new)
+        (result_and result (Ok variants.new)) }
+{
+    variants.as_slice();
     'few: while let Some(variant) = take_word::<VariantKind, 8>(iter) {
         if !variants.push(alloc, variant)? {
             return Err(ParseError::InvalidSubtag);
         }
         if variants.len() == 4 {
-            return read_more_variants(alloc, iter, variants);
+            let four = variants.clear();
+            *variants = read_more_variants(alloc, iter, four)?;
+            return Ok(());
         }
     }
-    Ok(variants)
+    Ok(())
 }
 
 // The same where these four variants stood before.
@@ -56,6 +98,7 @@ fn read_more_variants(
 }
 
 // Reads the words at the front, each where it fits.
+#[inline(always)]
 fn fill(
     alloc: Global,
     iter: &mut SubtagIterator<'_>,
@@ -64,32 +107,14 @@ fn fill(
     ensures { FrontGives (left iter.old) (left iter.new) (result_and result (Ok identifier.new)) }
 {
     let mut pieces = *iter;
-    let Some(first) = pieces.next() else {
+    let Some(language) = take_word::<LanguageKind, 8>(&mut pieces) else {
         return Err(ParseError::InvalidLanguage);
     };
-    identifier.language = Language::try_from_utf8(first)?;
+    identifier.language = language;
     identifier.script = take_word::<ScriptKind, 4>(&mut pieces);
     identifier.region = take_word::<RegionKind, 3>(&mut pieces);
     *iter = pieces;
     fill_variants(alloc, iter, &mut identifier.variants)
-}
-
-// Takes the variants that stand at the front, in place of those before.
-#[inline(always)]
-fn fill_variants(
-    alloc: Global,
-    iter: &mut SubtagIterator<'_>,
-    variants: &mut Variants,
-) -> Result<(), ParseError>
-    ensures { VariantsGive (left iter.old) (left iter.new) (result_and result (Ok variants.new)) }
-{
-    if !variants.is_empty() {
-        variants.clear();
-    }
-    if may_be_variant(iter) {
-        *variants = read_variants(alloc, iter)?;
-    }
-    Ok(())
 }
 
 // Whether the next piece is long enough for a variant.
@@ -140,6 +165,7 @@ pub fn read_whole(
 }
 
 /// The same in place of what the identifier was. After a refusal it holds some of its words.
+#[inline(always)]
 pub fn fill_whole(
     alloc: Global,
     iter: &mut SubtagIterator<'_>,

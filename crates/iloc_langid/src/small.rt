@@ -7,7 +7,8 @@ ghost use Rattle.iloc_langid.specs.SmallReads.{SmallFrontGives, SmallReadsAs};
 use crate::identifier::LanguageIdentifier;
 use iloc_parser::{SubtagIterator, take_word};
 use iloc_subtags::{
-    Language, ParseError, Region, RegionKind, Script, ScriptKind, Variant, VariantKind,
+    Language, LanguageKind, ParseError, Region, RegionKind, Script, ScriptKind, Variant,
+    VariantKind,
 };
 
 /// A language, and perhaps a script, a region and one variant.
@@ -18,10 +19,9 @@ pub type SmallParts = (Language, Option<Script>, Option<Region>, Option<Variant>
 pub fn read_small_front(iter: &mut SubtagIterator<'_>) -> Result<SmallParts, ParseError>
     ensures { SmallFrontGives (left iter.old) (left iter.new) result }
 {
-    let Some(first) = iter.next() else {
+    let Some(language) = take_word::<LanguageKind, 8>(iter) else {
         return Err(ParseError::InvalidLanguage);
     };
-    let language = Language::try_from_utf8(first)?;
     let script = take_word::<ScriptKind, 4>(iter);
     let region = take_word::<RegionKind, 3>(iter);
     let variant = take_word::<VariantKind, 8>(iter);

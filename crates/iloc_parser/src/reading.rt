@@ -5,7 +5,6 @@ ghost use Rattle.iloc_grammar.specs.Reading.{take_first, skip_first};
 ghost use Rattle.iloc_parser.specs.Left.{left};
 
 use crate::subtag_iterator::SubtagIterator;
-use iloc_short_pieces::ShortPiece;
 use iloc_subtags::{WordKind, WordOf};
 
 /// Takes the next piece where it is a word of the kind; else nothing is taken.
@@ -17,8 +16,8 @@ pub fn take_word<K: WordKind<N>, const N: usize>(
         ≡ option_map (normal K.kind) (take_first (is_word K.kind) (left iter.old)) }
     ensures rest { left iter.new ≡ skip_first (is_word K.kind) (left iter.old) }
 {
-    let piece = iter.peek()?;
-    let word = WordOf::<K, N>::from_piece(ShortPiece::of(piece)?).ok()?;
+    let piece = iter.peek_short::<K, N>()?;
+    let word = WordOf::<K, N>::from_piece(piece).ok()?;
     iter.next();
     Some(word)
 }

@@ -1,19 +1,24 @@
 //! The iterator over the pieces of a text.
-ghost use Rattle.std.specs.Prelude.{◌≡◌, ◌≢◌, ◌∷◌, ◌++◌, ◌≤◌, length, MatchOption, All};
+ghost use Rattle.std.specs.Prelude.{◌≡◌, ◌≢◌, ◌∷◌, ◌++◌, ◌≤◌, length, Some, None, MatchOption, All};
 ghost use Rattle.std.specs.Option.{option_copied};
 ghost use Rattle.iloc_grammar.specs.Pieces.{pieces};
-ghost use Rattle.iloc_grammar.specs.Reading.{first_item, rest_of};
+ghost use Rattle.iloc_grammar.specs.Reading.{first_item, rest_of, take_first};
+ghost use Rattle.iloc_grammar.specs.Words.{is_word};
 ghost use Rattle.iloc_parser.specs.FirstLength.{IsFirstLength};
+
+use iloc_short_pieces::ShortPiece;
+use iloc_subtags::WordKind;
 
 /// The pieces of a text that are left, from the left.
 ///
 /// It holds the text from the next piece on, and the length of that piece, so that a look ahead costs
-/// nothing. A length beyond the text says that none is left.
+/// nothing. A length beyond the text says that none is left, and it is then more than a word has.
 #[derive(Clone, Copy)]
 pub struct SubtagIterator<'a> {
     text: &'a [u8],
     len: usize,
     ghost first: { len ≤ length text.now → IsFirstLength text.now len },
+    ghost within: { len ≤ 8 → len ≤ length text.now },
 }
 
 impl<'a> SubtagIterator<'a> {
@@ -44,7 +49,7 @@ impl<'a> SubtagIterator<'a> {
         if self.len == self.text.len() {
             let ended = SubtagIterator {
                 text: self.text,
-                len: self.len + 1,
+                len: self.len + 9,
             };
             return (ended, Some(piece));
         }
@@ -58,6 +63,18 @@ impl<'a> SubtagIterator<'a> {
         ensures { option_copied result ≡ first_item (left self.now) }
     {
         self.text.get(..self.len)
+    }
+
+    // The next piece, which stays, where it is as long as words of the kind are.
+    #[inline(always)]
+    pub(crate) fn peek_short<K: WordKind<N>, const N: usize>(&self) -> Option<ShortPiece>
+        ensures { MatchOption result (take_first (is_word K.kind) (left self.now) ≡ None)
+            (λ piece. first_item (left self.now) ≡ Some piece) }
+    {
+        if !K::has_length(self.len) {
+            return None;
+        }
+        ShortPiece::of(&self.text[..self.len])
     }
 }
 

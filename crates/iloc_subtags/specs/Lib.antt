@@ -2,3 +2,4 @@ pub mod Answers
 pub mod KindLaws
 pub mod ParseError
 pub mod RawForms
+pub mod Lengths

@@ -32,6 +32,12 @@ impl WordKind<2> for UnicodeKeyKind {
             && piece.second().is_ascii_alphabetic()
     }
 
+    #[inline(always)]
+    #[tactic(auto, unfolding(crate::specs::Lengths::has_length))]
+    fn has_length(len: usize) -> bool {
+        len == 2
+    }
+
     #[tactic(auto, unfolding(iloc_grammar::specs::Words::lower))]
     fn normal(piece: ShortPiece) -> ShortPiece {
         piece.to_ascii_lowercase()
@@ -66,6 +72,12 @@ impl WordKind<2> for TransformKeyKind {
     #[tactic(auto, unfolding(iloc_grammar::specs::Words::is_word))]
     fn accepts(piece: ShortPiece) -> bool {
         piece.len() == 2 && piece.first().is_ascii_alphabetic() && piece.second().is_ascii_digit()
+    }
+
+    #[inline(always)]
+    #[tactic(auto, unfolding(crate::specs::Lengths::has_length))]
+    fn has_length(len: usize) -> bool {
+        len == 2
     }
 
     #[tactic(auto, unfolding(iloc_grammar::specs::Words::lower))]
@@ -104,6 +116,12 @@ impl WordKind<8> for AttributeKind {
         matches!(piece.len(), 3..=8) && piece.is_ascii_alphanumeric()
     }
 
+    #[inline(always)]
+    #[tactic(auto, unfolding(crate::specs::Lengths::has_length))]
+    fn has_length(len: usize) -> bool {
+        matches!(len, 3..=8)
+    }
+
     #[tactic(auto, unfolding(iloc_grammar::specs::Words::lower))]
     fn normal(piece: ShortPiece) -> ShortPiece {
         piece.to_ascii_lowercase()
@@ -138,6 +156,12 @@ impl WordKind<8> for PrivateSubtagKind {
     #[tactic(auto, unfolding(iloc_grammar::specs::Words::is_word))]
     fn accepts(piece: ShortPiece) -> bool {
         matches!(piece.len(), 1..=8) && piece.is_ascii_alphanumeric()
+    }
+
+    #[inline(always)]
+    #[tactic(auto, unfolding(crate::specs::Lengths::has_length))]
+    fn has_length(len: usize) -> bool {
+        matches!(len, 1..=8)
     }
 
     #[tactic(auto, unfolding(iloc_grammar::specs::Words::lower))]
@@ -176,6 +200,12 @@ impl WordKind<4> for SubdivisionSuffixKind {
         matches!(piece.len(), 1..=4) && piece.is_ascii_alphanumeric()
     }
 
+    #[inline(always)]
+    #[tactic(auto, unfolding(crate::specs::Lengths::has_length))]
+    fn has_length(len: usize) -> bool {
+        matches!(len, 1..=4)
+    }
+
     #[tactic(auto, unfolding(iloc_grammar::specs::Words::lower))]
     fn normal(piece: ShortPiece) -> ShortPiece {
         piece.to_ascii_lowercase()
@@ -210,6 +240,12 @@ impl WordKind<3> for CurrencyTypeKind {
     #[tactic(auto, unfolding(iloc_grammar::specs::Words::is_word))]
     fn accepts(piece: ShortPiece) -> bool {
         piece.len() == 3 && piece.is_ascii_alphabetic()
+    }
+
+    #[inline(always)]
+    #[tactic(auto, unfolding(crate::specs::Lengths::has_length))]
+    fn has_length(len: usize) -> bool {
+        len == 3
     }
 
     #[tactic(auto, unfolding(iloc_grammar::specs::Words::lower))]

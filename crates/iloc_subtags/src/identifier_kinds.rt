@@ -35,6 +35,12 @@ impl WordKind<8> for LanguageKind {
         matches!(piece.len(), 2..=3 | 5..=8) && piece.is_ascii_alphabetic()
     }
 
+    #[inline(always)]
+    #[tactic(auto, unfolding(crate::specs::Lengths::has_length, iloc_grammar::specs::Words::languages))]
+    fn has_length(len: usize) -> bool {
+        matches!(len, 2..=3 | 5..=8)
+    }
+
     #[tactic(auto, unfolding(iloc_grammar::specs::Words::lower))]
     fn normal(piece: ShortPiece) -> ShortPiece {
         piece.to_ascii_lowercase()
@@ -102,6 +108,12 @@ impl WordKind<4> for ScriptKind {
         piece.len() == 4 && piece.is_ascii_alphabetic()
     }
 
+    #[inline(always)]
+    #[tactic(auto, unfolding(crate::specs::Lengths::has_length))]
+    fn has_length(len: usize) -> bool {
+        len == 4
+    }
+
     #[tactic(auto, unfolding(iloc_grammar::specs::Words::title))]
     fn normal(piece: ShortPiece) -> ShortPiece {
         piece.to_ascii_titlecase()
@@ -140,6 +152,12 @@ impl WordKind<3> for RegionKind {
             3 => piece.is_ascii_numeric(),
             _ => false,
         }
+    }
+
+    #[inline(always)]
+    #[tactic(auto, unfolding(crate::specs::Lengths::has_length))]
+    fn has_length(len: usize) -> bool {
+        matches!(len, 2..=3)
     }
 
     #[tactic(auto, unfolding(iloc_grammar::specs::Words::upper))]
@@ -192,6 +210,12 @@ impl WordKind<8> for VariantKind {
         }
     }
 
+    #[inline(always)]
+    #[tactic(auto, unfolding(crate::specs::Lengths::has_length))]
+    fn has_length(len: usize) -> bool {
+        matches!(len, 4..=8)
+    }
+
     #[tactic(auto, unfolding(iloc_grammar::specs::Words::lower))]
     fn normal(piece: ShortPiece) -> ShortPiece {
         piece.to_ascii_lowercase()
@@ -226,6 +250,12 @@ impl WordKind<8> for SubtagKind {
     #[tactic(auto, unfolding(iloc_grammar::specs::Words::is_word))]
     fn accepts(piece: ShortPiece) -> bool {
         matches!(piece.len(), 2..=8) && piece.is_ascii_alphanumeric()
+    }
+
+    #[inline(always)]
+    #[tactic(auto, unfolding(crate::specs::Lengths::has_length))]
+    fn has_length(len: usize) -> bool {
+        matches!(len, 2..=8)
     }
 
     #[tactic(auto, unfolding(iloc_grammar::specs::Words::lower))]

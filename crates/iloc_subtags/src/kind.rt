@@ -1,7 +1,8 @@
 //! What makes a kind of word.
-ghost use Rattle.std.specs.Prelude.{◌≡◌, ℕ, List, true};
+ghost use Rattle.std.specs.Prelude.{◌≡◌, ◌≤◌, ℕ, List, IsTrue, true};
 ghost use Rattle.iloc_tinystr.specs.TinyText.{is_tiny_text};
 ghost use Rattle.iloc_grammar.specs.Words.{Kind, is_word, IsWord, normal, greatest};
+ghost use Rattle.iloc_subtags.specs.Lengths.{has_length};
 ghost use Rattle.iloc_subtags.specs.declared.parse_error.ParseError.{ParseError};
 
 use crate::parse_error::ParseError;
@@ -20,6 +21,11 @@ pub trait WordKind<const N: usize> {
     /// Whether the piece is a word of the kind, in any case.
     fn accepts(piece: ShortPiece) -> bool
         ensures { result ≡ is_word kind piece };
+
+    /// Whether a word of the kind may have so many bytes.
+    fn has_length(len: usize) -> bool
+        ensures value { result ≡ has_length kind len }
+        ensures few { IsTrue result → len ≤ 8 };
 
     /// The piece in the case of the kind.
     fn normal(piece: ShortPiece) -> ShortPiece

@@ -139,6 +139,15 @@ impl<K: WordKind<N>, const N: usize> WordOf<K, N> {
         *text
     }
 
+    /// The text of the word as a piece.
+    #[inline(always)]
+    pub fn to_piece(&self) -> ShortPiece
+        ensures value { result ≡ self.now }
+        ensures normal { IsNormal K.kind self.now }
+    {
+        self.text.to_piece()
+    }
+
     /// The byte order of the word's text against the bytes.
     pub fn strict_cmp(self, other: &[u8]) -> Ordering
         ensures { result ≡ slice_cmp nat_cmp self other.now }
