@@ -30,8 +30,5 @@ pub(crate) fn insert_other(others: &mut Vec<Other>, other: Other) -> Result<(), 
     ensures err { IfErr result (λ e. e ≡ ParseError.OutOfMemory) }
 {
     let place = place_of(others, other.get_ext_byte());
-    match others.insert(place, other) {
-        Ok(()) => Ok(()),
-        Err(_) => Err(ParseError::OutOfMemory),
-    }
+    Ok(others.insert(place, other)?)
 }

@@ -156,10 +156,7 @@ impl Other {
         ensures succeeds { length self.old.1 < 4 → IsOk result }
     {
         match Subtag::try_from_utf8(piece) {
-            Ok(key) => self
-                .keys
-                .push(alloc, key)
-                .map_err(|_| ParseError::OutOfMemory),
+            Ok(key) => Ok(self.keys.push(alloc, key)?),
             Err(_) => Ok(()),
         }
     }

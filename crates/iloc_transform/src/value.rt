@@ -120,9 +120,7 @@ impl Value {
         if spells_true(&word) {
             return Ok(());
         }
-        self.subtags
-            .push(alloc, word)
-            .map_err(|_| ParseError::OutOfMemory)
+        Ok(self.subtags.push(alloc, word)?)
     }
 }
 

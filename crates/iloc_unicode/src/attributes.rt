@@ -32,7 +32,6 @@ ghost use Rattle.iloc_unicode.specs.Reads.{AttributesReadAs};
 ghost use Rattle.iloc_unicode_value.specs.Equality.{words_eq, words_exact};
 ghost use Rattle.iloc_word_set.specs.Ascending.{ascends};
 
-use crate::reader::read_attributes;
 use iloc_parser::SubtagIterator;
 use iloc_subtags::{Attribute, AttributeKind, ParseError};
 use iloc_word_set::WordSet;
@@ -76,7 +75,7 @@ impl Attributes {
         ensures { AttributesReadAs code_units.now result }
     {
         let mut iter = SubtagIterator::new(code_units);
-        Ok(read_attributes(alloc, &mut iter)?)
+        Ok(Self::try_from_iter(alloc, &mut iter)?)
     }
 
     /// The same on a text that is UTF-8.

@@ -42,7 +42,6 @@ ghost use Rattle.iloc_unicode.specs.Equality.{fields_eq, fields_exact};
 ghost use Rattle.iloc_unicode.specs.Reads.{KeywordsReadAs};
 ghost use Rattle.iloc_litemap.specs.Pairs.{IsAscending};
 
-use crate::reader::read_keywords;
 use iloc_litemap::LiteMap;
 use iloc_parser::SubtagIterator;
 use iloc_shortvec::ShortBoxSlice;
@@ -110,7 +109,7 @@ impl Keywords {
     pub fn try_from_utf8(alloc: Global, code_units: &[u8]) -> Result<Self, ParseError>
         ensures { KeywordsReadAs code_units.now result }
     {
-        read_keywords(alloc, &mut SubtagIterator::new(code_units))
+        Self::try_from_iter(alloc, &mut SubtagIterator::new(code_units))
     }
 
     /// The same on a text that is UTF-8.

@@ -19,24 +19,23 @@ use iloc_unicode_value::read_value;
 use iloc_word_set::{WordCollector, WordSet};
 use std::alloc::{AllocError, Global};
 
-/// Reads the longest front of attribute words, as a set. Up to four different attributes take no memory,
-/// and n words cost n log n, in whatever order they stand.
-pub fn read_attributes(
-    alloc: Global,
-    iter: &mut SubtagIterator<'_>,
-) -> Result<Attributes, AllocError>
-    ensures value { IfOk result (λ a. a ≡ attributes_read (left iter.old)) }
-    ensures rest { OnOk result (left iter.new ≡ after_attributes (left iter.old)) }
-    ensures succeeds { length (attributes_read (left iter.old)) ≤ 4 → IsOk result }
-{
-    let mut attributes = WordSet::new();
-    'few: while let Some(word) = take_word::<AttributeKind, 8>(iter) {
-        attributes.push(alloc, word)?;
-        if attributes.len() == 4 {
-            return read_more_attributes(alloc, iter, attributes);
+impl Attributes {
+    /// Reads the longest front of attribute words, as a set. Up to four different attributes take no memory,
+    /// and n words cost n log n, in whatever order they stand.
+    pub fn try_from_iter(alloc: Global, iter: &mut SubtagIterator<'_>) -> Result<Self, AllocError>
+        ensures value { IfOk result (λ a. a ≡ attributes_read (left iter.old)) }
+        ensures rest { OnOk result (left iter.new ≡ after_attributes (left iter.old)) }
+        ensures succeeds { length (attributes_read (left iter.old)) ≤ 4 → IsOk result }
+    {
+        let mut attributes = WordSet::new();
+        'few: while let Some(word) = take_word::<AttributeKind, 8>(iter) {
+            attributes.push(alloc, word)?;
+            if attributes.len() == 4 {
+                return read_more_attributes(alloc, iter, attributes);
+            }
         }
+        Ok(Attributes::from_set(attributes))
     }
-    Ok(Attributes::from_set(attributes))
 }
 
 // The same where these four attributes stood before.
@@ -59,34 +58,32 @@ fn read_more_attributes(
     Ok(Attributes::from_set(words.into_set()))
 }
 
-/// Reads the longest front of keys with their values; of equal keys the first stays. A piece of two
-/// bytes there that is no key is refused by `InvalidExtension`. One key with up to four subtags takes
-/// no memory.
-pub fn read_keywords(alloc: Global, iter: &mut SubtagIterator<'_>) -> Result<Keywords, ParseError>
-    ensures { KeywordsGive (left iter.old) (left iter.new) result }
-{
-    let mut keywords = Keywords::new();
-    fill_keywords(alloc, iter, &mut keywords)?;
-    Ok(keywords)
-}
+impl Keywords {
+    /// Reads the longest front of keys with their values; of equal keys the first stays. A piece of two
+    /// bytes there that is no key is refused by `InvalidExtension`. One key with up to four subtags takes
+    /// no memory.
+    pub fn try_from_iter(alloc: Global, iter: &mut SubtagIterator<'_>) -> Result<Self, ParseError>
+        ensures { KeywordsGive (left iter.old) (left iter.new) result }
+    {
+        let mut keywords = Keywords::new();
+        keywords.fill(alloc, iter)?;
+        Ok(keywords)
+    }
 
-/// The same into the empty map. After a refusal it holds the keywords before the fault.
-pub fn fill_keywords(
-    alloc: Global,
-    iter: &mut SubtagIterator<'_>,
-    keywords: &mut Keywords,
-) -> Result<(), ParseError>
-    requires { keywords.old ≡ [] }
-    ensures { KeywordsGive (left iter.old) (left iter.new) (result_and result (Ok keywords.new)) }
-{
-    'keys: while let Some(key) = take_word::<UnicodeKeyKind, 2>(iter) {
-        let value = read_value(alloc, iter)?;
-        keywords.add(alloc, key, value)?;
+    /// The same into the empty map. After a refusal it holds the keywords before the fault.
+    pub fn fill(&mut self, alloc: Global, iter: &mut SubtagIterator<'_>) -> Result<(), ParseError>
+        requires { self.old ≡ [] }
+        ensures { KeywordsGive (left iter.old) (left iter.new) (result_and result (Ok self.new)) }
+    {
+        'keys: while let Some(key) = take_word::<UnicodeKeyKind, 2>(iter) {
+            let value = read_value(alloc, iter)?;
+            self.add(alloc, key, value)?;
+        }
+        if has_two_bytes(iter) {
+            return Err(ParseError::InvalidExtension);
+        }
+        Ok(())
     }
-    if has_two_bytes(iter) {
-        return Err(ParseError::InvalidExtension);
-    }
-    Ok(())
 }
 
 // Whether the next piece has two bytes.
@@ -99,32 +96,30 @@ fn has_two_bytes(iter: &SubtagIterator<'_>) -> bool
     }
 }
 
-/// Reads what follows `u`: attributes, and then keywords, not both empty, which is refused by
-/// `InvalidExtension`.
-pub fn read_unicode(alloc: Global, iter: &mut SubtagIterator<'_>) -> Result<Unicode, ParseError>
-    ensures { UnicodeGives (left iter.old) (left iter.new) result }
-{
-    let mut unicode = Unicode::new();
-    fill_unicode(alloc, iter, &mut unicode)?;
-    Ok(unicode)
-}
-
-/// The same into an empty extension. After a refusal it holds what was read before the fault.
-pub fn fill_unicode(
-    alloc: Global,
-    iter: &mut SubtagIterator<'_>,
-    unicode: &mut Unicode,
-) -> Result<(), ParseError>
-    requires keywords { unicode.old.keywords ≡ [] }
-    requires attributes { unicode.old.attributes ≡ [] }
-    ensures { UnicodeGives (left iter.old) (left iter.new) (result_and result (Ok unicode.new)) }
-{
-    unicode.attributes = read_attributes(alloc, iter)?;
-    fill_keywords(alloc, iter, &mut unicode.keywords)?;
-    if unicode.is_empty() {
-        return Err(ParseError::InvalidExtension);
+impl Unicode {
+    /// Reads what follows `u`: attributes, and then keywords, not both empty, which is refused by
+    /// `InvalidExtension`.
+    pub fn try_from_iter(alloc: Global, iter: &mut SubtagIterator<'_>) -> Result<Self, ParseError>
+        ensures { UnicodeGives (left iter.old) (left iter.new) result }
+    {
+        let mut unicode = Unicode::new();
+        unicode.fill(alloc, iter)?;
+        Ok(unicode)
     }
-    Ok(())
+
+    /// The same into an empty extension. After a refusal it holds what was read before the fault.
+    pub fn fill(&mut self, alloc: Global, iter: &mut SubtagIterator<'_>) -> Result<(), ParseError>
+        requires keywords { self.old.keywords ≡ [] }
+        requires attributes { self.old.attributes ≡ [] }
+        ensures { UnicodeGives (left iter.old) (left iter.new) (result_and result (Ok self.new)) }
+    {
+        self.attributes = Attributes::try_from_iter(alloc, iter)?;
+        self.keywords.fill(alloc, iter)?;
+        if self.is_empty() {
+            return Err(ParseError::InvalidExtension);
+        }
+        Ok(())
+    }
 }
 
 // Takes the next piece, and answers whether it is `u` in either case.

@@ -9,7 +9,7 @@ ghost use Rattle.iloc_orders.specs.Orders.{unicode_cmp};
 
 use crate::attributes::Attributes;
 use crate::keywords::Keywords;
-use crate::reader::{read_unicode, takes_u};
+use crate::reader::takes_u;
 use iloc_parser::SubtagIterator;
 use iloc_subtags::ParseError;
 use iloc_writeable::pieces::Pieces;
@@ -50,7 +50,7 @@ impl Unicode {
         if !takes_u(&mut iter) {
             return Err(ParseError::InvalidExtension);
         }
-        read_unicode(alloc, &mut iter)
+        Self::try_from_iter(alloc, &mut iter)
     }
 
     /// The same on a text that is UTF-8.
@@ -80,10 +80,9 @@ impl Unicode {
     pub fn total_cmp(&self, other: &Self) -> Ordering
         ensures { result ≡ unicode_cmp (value_of self.now) (value_of other.now) }
     {
-        match self.attributes.cmp(&other.attributes) {
-            Ordering::Equal => self.keywords.cmp(&other.keywords),
-            order => order,
-        }
+        self.attributes
+            .cmp(&other.attributes)
+            .then_with(|| self.keywords.cmp(&other.keywords))
     }
 
     /// The union of the attributes, and the keywords of both, of which the other's value wins at a key

@@ -3,7 +3,6 @@ use Rattle.std.specs.List.{insert}
 use Rattle.iloc_blocks.specs.Place.{place}
 use Rattle.iloc_blocks.proofs.PlaceLemmas.{place_fits, put_at_place}
 use Rattle.iloc_blocks.proofs.others.insert_other.Goals as goal
-use Rattle.iloc_blocks.proofs.others.insert_other.Goals.{in-Ok, in-Err}
 
 pub insert-requires : goal.insert-requires
 insert-requires c = let f = place_fits c.get_ext_byte.result c.deref.result.now in let e = c.place_of-place.ensures in let l = c.deref.ensures.len in omega (arith, f, e, l)
@@ -13,7 +12,4 @@ returns-clause-ok c =
     let others = c.args.others.now.items in
     let at : c.place_of-place.result ≡ place c.args.other.0 others = c.place_of-place.ensures ∙ ap (λ e. place e c.deref.result.now) c.get_ext_byte.ensures.singleton ∙ ap (place c.args.other.0) c.deref.ensures.value in
     let put = ap (λ n. insert others n c.args.other) at ∙ put_at_place c.args.other.0 c.args.other.1 others c.requires in
-    elim c.match-insert.branch [
-      | in-Ok w ↦ rw (w.result-is) (w.in-Ok.ensures.items ∙ put)
-      | in-Err w ↦ rw (w.result-is) tt
-    ]
+    c.in_ok-insert.ensures.items ∙ put

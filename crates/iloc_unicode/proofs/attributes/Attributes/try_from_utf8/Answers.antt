@@ -9,10 +9,10 @@ not_few n h = omega (arith, h)
 refused_not : false ≡ true → ⊥
 refused_not h = true≢false (sym h)
 
-pub returns-in_err-read_attributes : goal.returns-in_err-read_attributes
-returns-in_err-read_attributes c =
+pub returns-in_err-try_from_iter : goal.returns-in_err-try_from_iter
+returns-in_err-try_from_iter c =
     let p = err_from_is_err_and c.from_residual.result c.from_residual.ensures.1 in
-    rw (p.1, p.2) (not_few _ (λ few. refused_not (c.in_err-read_attributes.ensures.succeeds (subst (λ ps. length (attributes_read ps) ≤ 4) (sym c.new-iter.ensures) few))))
+    rw (p.1, p.2) (not_few _ (λ few. refused_not (c.in_err-try_from_iter.ensures.succeeds (subst (λ ps. length (attributes_read ps) ≤ 4) (sym c.new-iter.ensures) few))))
 
 pub returns : goal.returns
-returns c = c.in_ok-read_attributes.ensures.value ∙ ap attributes_read c.new-iter.ensures
+returns c = c.in_ok-try_from_iter.ensures.value ∙ ap attributes_read c.new-iter.ensures

@@ -11,5 +11,5 @@ returns-then-not-takes_u c = no_letter c.args.code_units.now (ap (begins_part (i
 
 pub returns : goal.returns
 returns c =
-    after_letter c.args.code_units.now (left c.read_unicode.new.iter) c.read_unicode.result (ap (begins_part (is_letter 117)) (sym c.new-iter.ensures) ∙ sym c.takes_u.ensures.u ∙ c.if-not-takes_u.false)
-    (subst (λ ps. UnicodeGives ps (left c.read_unicode.new.iter) c.read_unicode.result) (c.takes_u.ensures.rest ∙ ap rest_of c.new-iter.ensures) c.read_unicode.ensures)
+    after_letter c.args.code_units.now (left c.try_from_iter.new.iter) c.try_from_iter.result (ap (begins_part (is_letter 117)) (sym c.new-iter.ensures) ∙ sym c.takes_u.ensures.u ∙ c.if-not-takes_u.false)
+    (subst (λ ps. UnicodeGives ps (left c.try_from_iter.new.iter) c.try_from_iter.result) (c.takes_u.ensures.rest ∙ ap rest_of c.new-iter.ensures) c.try_from_iter.ensures)
