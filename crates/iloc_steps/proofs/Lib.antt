@@ -4,4 +4,3 @@ pub mod Equality
 pub mod ListTests
 pub mod PartTests
 pub mod TextTests
-pub mod TestExamples
