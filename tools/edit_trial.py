@@ -221,5 +221,6 @@ class Trial:
         while alone and not self.is_over():
             it = alone.pop(0)
             check = lambda kept: rt.must_fail(self.crate, it.path, self.flags, kept)
-            is_refused, text = self.timed(it.name, check)
+            verdict, text = self.timed(it.name, check)
+            is_refused = verdict in (rt.REFUSED, rt.AT_LIMIT)
             yield it, is_refused, f"{it.name}: tried alone: {text.partition(': ')[2]}"

@@ -1,7 +1,7 @@
 //! The value of a keyword of the unicode extension: a list of subtags. Readers and printers are
 //! those of UTS #35, section 3.2 (`ufield`): the pieces in lower case, without `true`, which is
-//! what an empty value stands for. Up to four subtags take no memory. It stands on words, short
-//! lists, pieces and printing.
+//! what an empty value stands for. Up to four subtags take no memory. It stands on lists of
+//! words, pieces and printing.
 //!
 //! Why the type of a keyword refuses a value (`PreferencesParseError`), and currencies as values, stand here
 //! too, for the conversions of foreign words into values and back can stand nowhere else.

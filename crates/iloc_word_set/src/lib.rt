@@ -1,8 +1,9 @@
-//! Sets of words: the variants of an identifier, and the attributes of a unicode extension.
+//! Lists and sets of words of one kind. Sets are the variants of an identifier, and the attributes of a
+//! unicode extension; lists stand under them, and under private and other extensions and values.
 //!
-//! A set is its words in ascending order, each once, and each a normal word of its kind. Contracts see it
-//! as the list of their texts. Up to four words stand in place; beyond them a set takes memory, and one
-//! that is refused memory is as before. Searches go by halves.
+//! A list is its words in order, each a normal word of its kind, and a set a list in ascending order, each
+//! word once. Contracts see both as the list of the texts. Up to four words stand in place; beyond them
+//! memory is taken, and what is refused memory is as before. Searches of sets go by halves.
 //!
 //! It stands on `iloc_grammar` and `iloc_orders` (definitions), `iloc_subtags` (words), `iloc_shortvec` (lists
 //! that keep four words in place) and `iloc_writeable` (printing).
