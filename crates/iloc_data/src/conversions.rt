@@ -11,7 +11,7 @@ use crate::locale_preferences::LocalePreferences;
 use crate::region_part::whole_region;
 use crate::values::look_at_data_locale;
 use iloc_extensions::Extensions;
-use iloc_keyword_types::SubdivisionKeywordKind;
+use iloc_keyword_types::KeywordKind;
 use iloc_keyword_types::subdivision_keyword::RegionalSubdivisionKind;
 use iloc_langid::LanguageIdentifier;
 use iloc_locale::Locale;

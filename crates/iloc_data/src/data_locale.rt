@@ -1,7 +1,6 @@
 //! The type, and its readers.
-ghost use Rattle.std.specs.Prelude.{◌≡◌, ◌↔◌, IsTrue, IfOk, IsOk, option_map};
+ghost use Rattle.std.specs.Prelude.{◌≡◌, ◌↔◌, IsTrue, IfOk, IsOk};
 ghost use Rattle.iloc_preferences_rules.specs.Preferences.{language_priority, preferences};
-ghost use Rattle.iloc_keyword_types.specs.Subdivisions.{value_of as subdivision_of};
 ghost use Rattle.iloc_grammar.specs.Words.{languages, two_or_three};
 ghost use Rattle.iloc_grammar.specs.Meaning as meaning;
 ghost use Rattle.iloc_grammar.specs.Meaning.{Means};
@@ -113,8 +112,7 @@ impl DataLocale {
         part: Option<SubdivisionId>,
         variant: Option<Variant>,
     ) -> Self
-        ensures { value_of result
-            ≡ parts.made_of language script (option_map subdivision_of part) variant }
+        ensures { value_of result ≡ parts.made_of language script part variant }
     {
         let (region, subdivision) = match part {
             Some(id) => (Some(id.region), Some(id.into_subtag())),

@@ -175,7 +175,8 @@ fn merged_region(
         (_, None) => region,
         (None, _) => other,
         (Some(old), Some(new)) => {
-            if is_whole(new.as_inner()) && old.as_inner().region == new.as_inner().region {
+            let (old, new) = (old.as_inner(), new.as_inner());
+            if is_whole(new) && old.region == new.region {
                 region
             } else {
                 other

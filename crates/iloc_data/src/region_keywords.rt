@@ -1,18 +1,15 @@
 //! What the keywords `sd` and `rg` of a locale say.
-ghost use Rattle.std.specs.Prelude.{◌≡◌, option_map};
+ghost use Rattle.std.specs.Prelude.{◌≡◌};
 ghost use Rattle.iloc_locale.specs.LocaleValue.{value_of as locale_value};
 ghost use Rattle.iloc_preferences_rules.specs.Keywords.{subdivision_reads};
 ghost use Rattle.iloc_preferences_rules.specs.Preferences.{is_readable, read_keyword};
-ghost use Rattle.iloc_keyword_types.specs.Subdivisions.{value_of as subdivision_of};
 
-use iloc_keyword_types::{SubdivisionId, SubdivisionKeyword, SubdivisionKeywordKind};
+use iloc_keyword_types::{KeywordKind, SubdivisionId, SubdivisionKeyword};
 use iloc_locale::Locale;
 
 /// The keyword of a locale, where it is there and readable, and whether it is absent or readable.
 #[tactic(auto, using(crate::proofs::KeywordLemmas::absent, crate::proofs::KeywordLemmas::there))]
-pub(crate) fn keyword<K: SubdivisionKeywordKind>(
-    locale: &Locale,
-) -> (Option<SubdivisionKeyword<K>>, bool)
+pub(crate) fn keyword<K: KeywordKind>(locale: &Locale) -> (Option<SubdivisionKeyword<K>>, bool)
     ensures value { result.0 ≡ read_keyword subdivision_reads K.key_text (locale_value locale.now) }
     ensures readable { result.1
         ≡ is_readable subdivision_reads K.key_text (locale_value locale.now) }
@@ -27,10 +24,8 @@ pub(crate) fn keyword<K: SubdivisionKeywordKind>(
 }
 
 /// The subdivision of the keyword.
-pub(crate) fn id_of<K: SubdivisionKeywordKind>(
-    keyword: Option<SubdivisionKeyword<K>>,
-) -> Option<SubdivisionId>
-    ensures { option_map subdivision_of result ≡ keyword }
+pub(crate) fn id_of<K: KeywordKind>(keyword: Option<SubdivisionKeyword<K>>) -> Option<SubdivisionId>
+    ensures { result ≡ keyword }
 {
     Some(*keyword?.as_inner())
 }

@@ -18,7 +18,6 @@ ghost use Rattle.iloc_regions.specs.DataLocales.{
   subdivision_value,
 };
 ghost use Rattle.iloc_preferences_rules.specs.Preferences.{preferred_region, same_region};
-ghost use Rattle.iloc_keyword_types.specs.Subdivisions.{value_of as subdivision_of};
 ghost use Rattle.iloc_data.specs.DataValue.{value_of};
 
 use crate::data_locale::DataLocale;
@@ -40,7 +39,7 @@ fn whole() -> SubdivisionSuffix
 
 /// The whole of the region.
 pub(crate) fn whole_region(region: Region) -> SubdivisionId
-    ensures { subdivision_of result ≡ parts.whole_region region }
+    ensures { result ≡ parts.whole_region region }
 {
     SubdivisionId::new(region, whole())
 }
@@ -48,14 +47,14 @@ pub(crate) fn whole_region(region: Region) -> SubdivisionId
 /// Whether it is the whole of its region.
 #[tactic(auto, using(crate::proofs::RegionLemmas::words_tie))]
 pub(crate) fn is_whole(id: &SubdivisionId) -> bool
-    ensures { result ≡ parts.is_whole (subdivision_of id.now) }
+    ensures { result ≡ parts.is_whole id.now }
 {
     id.suffix.as_str() == "zzzz"
 }
 
 /// The subdivision that the word names.
 pub(crate) fn named(word: &Subtag) -> Option<SubdivisionId>
-    ensures { option_map subdivision_of result ≡ named_subdivision word.now }
+    ensures { result ≡ named_subdivision word.now }
 {
     SubdivisionId::try_from_str(word.as_str()).ok()
 }
@@ -63,8 +62,8 @@ pub(crate) fn named(word: &Subtag) -> Option<SubdivisionId>
 /// The given region where it differs from the subdivision's, else the subdivision; and whether the two agree.
 #[tactic(auto, using(crate::proofs::RegionLemmas::words_tie))]
 pub(crate) fn agreed(region: Option<Region>, id: SubdivisionId) -> (SubdivisionId, bool)
-    ensures part { subdivision_of result.0 ≡ parts.agreed region (subdivision_of id) }
-    ensures agrees { result.1 ≡ same_region region (Some (subdivision_of id)) }
+    ensures part { result.0 ≡ parts.agreed region id }
+    ensures agrees { result.1 ≡ same_region region (Some id) }
 {
     let Some(region) = region else {
         return (id, true);
@@ -82,9 +81,8 @@ pub(crate) fn preferred(
     region: Option<Region>,
     id: Option<SubdivisionId>,
 ) -> (Option<SubdivisionId>, bool)
-    ensures part { option_map subdivision_of result.0
-        ≡ preferred_region region (option_map subdivision_of id) }
-    ensures agrees { result.1 ≡ same_region region (option_map subdivision_of id) }
+    ensures part { result.0 ≡ preferred_region region id }
+    ensures agrees { result.1 ≡ same_region region id }
 {
     let Some(id) = id else {
         return (region.map(whole_region), true);
@@ -101,7 +99,7 @@ pub(crate) fn part_of(
     keyword: Option<SmallKeyword>,
 ) -> Result<Option<SubdivisionId>, ParseError>
     ensures { MatchResult result
-        (λ part. small_part region keyword ≡ Some (option_map subdivision_of part))
+        (λ part. small_part region keyword ≡ Some part)
         (λ e. (e ≡ ParseError.InvalidExtension) × (small_part region keyword ≡ None)) }
 {
     let Some((key, value)) = keyword else {
@@ -119,7 +117,7 @@ pub(crate) fn part_of(
 impl DataLocale {
     /// The subdivision where it is there and readable, else the region as a whole, else nothing.
     pub(crate) fn region_part(&self) -> Option<SubdivisionId>
-        ensures { option_map subdivision_of result ≡ parts.region_part (value_of self.now) }
+        ensures { result ≡ parts.region_part (value_of self.now) }
     {
         match self.subdivision.as_ref().and_then(named) {
             Some(id) => Some(id),

@@ -18,7 +18,7 @@ use crate::locale_preferences::LocalePreferences;
 use crate::region_part::is_whole;
 use crate::values::look_at_preferences;
 use iloc_keyword_types::subdivision_keyword::{RegionOverrideKind, RegionalSubdivisionKind};
-use iloc_keyword_types::{RegionOverride, RegionalSubdivision, SubdivisionKeywordKind};
+use iloc_keyword_types::{KeywordKind, RegionOverride, RegionalSubdivision};
 use iloc_locale::Locale;
 use iloc_unicode::Keywords;
 use iloc_unicode_value::Value;

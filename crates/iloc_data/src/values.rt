@@ -9,7 +9,7 @@ ghost use Rattle.iloc_data.specs.DataValue.{value_of};
 
 use crate::data_locale::DataLocale;
 use crate::locale_preferences::LocalePreferences;
-use iloc_keyword_types::{SubdivisionKeyword, SubdivisionKeywordKind};
+use iloc_keyword_types::{KeywordKind, SubdivisionKeyword};
 use iloc_subtags::{WordKind, WordOf};
 
 // Looks at each word, so that all are known to be normal.
@@ -42,7 +42,7 @@ fn look_at<K: WordKind<N>, const N: usize>(word: &Option<WordOf<K, N>>)
     }
 }
 
-fn look_at_subdivision<K: SubdivisionKeywordKind>(keyword: &Option<SubdivisionKeyword<K>>)
+fn look_at_subdivision<K: KeywordKind>(keyword: &Option<SubdivisionKeyword<K>>)
     ensures { IfSome keyword.now IsSubdivision }
 {
     if let Some(keyword) = keyword {

@@ -27,65 +27,43 @@ of_number Tbla = refl
 of_number Civil = refl
 of_number Rgsa = refl
 
+-- what is known of a calendar: one of a kind stands at the place of Hijri calendars, one of no kind is turned into its
+-- word, and what it is turned into reads as the calendar
+record Known (c : CalendarAlgorithm) : Type 0 where
+  pub of_kind : (n : ℕ) → Some n ≡ kind c → place c ≡ 9
+  pub plain : kind c ≡ None → enum_gives keywords.CalendarAlgorithm (value_of c) ≡ Some (without_true (word_at (variants keywords.CalendarAlgorithm) (place c) ∷ []))
+  pub back : option_and_then (enum_reads keywords.CalendarAlgorithm) (enum_gives keywords.CalendarAlgorithm (value_of c)) ≡ Some (value_of c)
+
+known : (c : CalendarAlgorithm) → Known c
+unfolding is_true
+known (Hijri None) = record { of_kind = λ n h. refl; plain = λ h. refl; back = refl }
+known (Hijri (Some Umalqura)) = record { of_kind = λ n h. refl; plain = λ h. absurd (cc); back = refl }
+known (Hijri (Some Tbla)) = record { of_kind = λ n h. refl; plain = λ h. absurd (cc); back = refl }
+known (Hijri (Some Civil)) = record { of_kind = λ n h. refl; plain = λ h. absurd (cc); back = refl }
+known (Hijri (Some Rgsa)) = record { of_kind = λ n h. refl; plain = λ h. absurd (cc); back = refl }
+known Buddhist = record { of_kind = λ n h. absurd (cc); plain = λ h. refl; back = refl }
+known Chinese = record { of_kind = λ n h. absurd (cc); plain = λ h. refl; back = refl }
+known Coptic = record { of_kind = λ n h. absurd (cc); plain = λ h. refl; back = refl }
+known Dangi = record { of_kind = λ n h. absurd (cc); plain = λ h. refl; back = refl }
+known Ethioaa = record { of_kind = λ n h. absurd (cc); plain = λ h. refl; back = refl }
+known Ethiopic = record { of_kind = λ n h. absurd (cc); plain = λ h. refl; back = refl }
+known Gregory = record { of_kind = λ n h. absurd (cc); plain = λ h. refl; back = refl }
+known Hebrew = record { of_kind = λ n h. absurd (cc); plain = λ h. refl; back = refl }
+known Indian = record { of_kind = λ n h. absurd (cc); plain = λ h. refl; back = refl }
+known Iso8601 = record { of_kind = λ n h. absurd (cc); plain = λ h. refl; back = refl }
+known Japanese = record { of_kind = λ n h. absurd (cc); plain = λ h. refl; back = refl }
+known Persian = record { of_kind = λ n h. absurd (cc); plain = λ h. refl; back = refl }
+known Roc = record { of_kind = λ n h. absurd (cc); plain = λ h. refl; back = refl }
+
 pub hijri_place : (c : CalendarAlgorithm) (n : ℕ) → Some n ≡ kind c → place c ≡ 9
-hijri_place (Hijri o) n h = refl
-hijri_place Buddhist n h = absurd (cc)
-hijri_place Chinese n h = absurd (cc)
-hijri_place Coptic n h = absurd (cc)
-hijri_place Dangi n h = absurd (cc)
-hijri_place Ethioaa n h = absurd (cc)
-hijri_place Ethiopic n h = absurd (cc)
-hijri_place Gregory n h = absurd (cc)
-hijri_place Hebrew n h = absurd (cc)
-hijri_place Indian n h = absurd (cc)
-hijri_place Iso8601 n h = absurd (cc)
-hijri_place Japanese n h = absurd (cc)
-hijri_place Persian n h = absurd (cc)
-hijri_place Roc n h = absurd (cc)
+hijri_place c = (known c).of_kind
+
+pub given_plain : (c : CalendarAlgorithm) → kind c ≡ None → enum_gives keywords.CalendarAlgorithm (value_of c) ≡ Some (without_true (word_at (variants keywords.CalendarAlgorithm) (place c) ∷ []))
+given_plain c = (known c).plain
 
 pub given_kind : (c : CalendarAlgorithm) (k : HijriCalendarAlgorithm) → Some (kind_place k) ≡ kind c → enum_gives keywords.CalendarAlgorithm (value_of c) ≡ Some (codes "islamic" ∷ word_at hijri_kinds (kind_place k) ∷ [])
 given_kind c k h = ap (enum_gives keywords.CalendarAlgorithm) (λ i. (hijri_place c (kind_place k) h i, sym h i)) ∙ of_number k
 
-pub given_plain : (c : CalendarAlgorithm) → kind c ≡ None → enum_gives keywords.CalendarAlgorithm (value_of c) ≡ Some (without_true (word_at (variants keywords.CalendarAlgorithm) (place c) ∷ []))
-unfolding is_true
-given_plain Buddhist h = refl
-given_plain Chinese h = refl
-given_plain Coptic h = refl
-given_plain Dangi h = refl
-given_plain Ethioaa h = refl
-given_plain Ethiopic h = refl
-given_plain Gregory h = refl
-given_plain Hebrew h = refl
-given_plain Indian h = refl
-given_plain (Hijri None) h = refl
-given_plain (Hijri (Some k)) h = absurd (cc)
-given_plain Iso8601 h = refl
-given_plain Japanese h = refl
-given_plain Persian h = refl
-given_plain Roc h = refl
-
--- and it reads as the calendar
-gives_back : (c : CalendarAlgorithm) → option_and_then (enum_reads keywords.CalendarAlgorithm) (enum_gives keywords.CalendarAlgorithm (value_of c)) ≡ Some (value_of c)
-unfolding is_true
-gives_back (Hijri None) = refl
-gives_back (Hijri (Some Umalqura)) = refl
-gives_back (Hijri (Some Tbla)) = refl
-gives_back (Hijri (Some Civil)) = refl
-gives_back (Hijri (Some Rgsa)) = refl
-gives_back Buddhist = refl
-gives_back Chinese = refl
-gives_back Coptic = refl
-gives_back Dangi = refl
-gives_back Ethioaa = refl
-gives_back Ethiopic = refl
-gives_back Gregory = refl
-gives_back Hebrew = refl
-gives_back Indian = refl
-gives_back Iso8601 = refl
-gives_back Japanese = refl
-gives_back Persian = refl
-gives_back Roc = refl
-
 pub reads_back : (c : CalendarAlgorithm) (v : List (List ℕ)) → enum_gives keywords.CalendarAlgorithm (value_of c) ≡ Some v → calendar_reads v ≡ Some (value_of c)
 unfolding calendar_reads
-reads_back c v h = sym (ap (option_and_then (enum_reads keywords.CalendarAlgorithm)) h) ∙ gives_back c
+reads_back c v h = sym (ap (option_and_then (enum_reads keywords.CalendarAlgorithm)) h) ∙ (known c).back

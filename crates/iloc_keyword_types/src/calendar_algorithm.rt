@@ -48,20 +48,8 @@ impl CalendarAlgorithm {
         ensures { text_of (value_of self.now) ≡ Some result.now }
     {
         match self {
-            Self::Buddhist => "buddhist",
-            Self::Chinese => "chinese",
-            Self::Coptic => "coptic",
-            Self::Dangi => "dangi",
-            Self::Ethioaa => "ethioaa",
-            Self::Ethiopic => "ethiopic",
-            Self::Gregory => "gregory",
-            Self::Hebrew => "hebrew",
-            Self::Indian => "indian",
             Self::Hijri(kind) => hijri_text(*kind),
-            Self::Iso8601 => "iso8601",
-            Self::Japanese => "japanese",
-            Self::Persian => "persian",
-            Self::Roc => "roc",
+            other => other.word(),
         }
     }
 

@@ -12,7 +12,7 @@ ghost use Rattle.iloc_keyword_types.specs.CalendarReading.{calendar_reads};
 
 use crate::calendar_algorithm::CalendarAlgorithm;
 use crate::hijri::HijriCalendarAlgorithm;
-use crate::{PreferenceKey, WordEnum, find_word, key_of};
+use crate::{PreferenceKey, WordEnum, find_word, known_keys};
 use iloc_subtags::UnicodeKey;
 use iloc_unicode_value::{PreferencesParseError, Value, subtag_of};
 use std::alloc::{AllocError, Global};
@@ -112,7 +112,7 @@ impl PreferenceKey for CalendarAlgorithm {
         ensures { ReadsKeyed value_of (key_of_keyword the_keyword)
             (enum_reads the_keyword value.now) key.now result }
     {
-        if *key != calendar_key() {
+        if *key != known_keys::ca() {
             return Ok(None);
         }
         Ok(Some(CalendarAlgorithm::try_from(value)?))
@@ -121,7 +121,7 @@ impl PreferenceKey for CalendarAlgorithm {
     fn unicode_extension_key() -> Option<UnicodeKey>
         ensures { result ≡ Some (key_of_keyword the_keyword) }
     {
-        Some(calendar_key())
+        Some(known_keys::ca())
     }
 
     fn unicode_extension_value(&self, alloc: Global) -> Result<Option<Value>, AllocError>
@@ -129,12 +129,4 @@ impl PreferenceKey for CalendarAlgorithm {
     {
         Ok(Some(self.to_value(alloc)?))
     }
-}
-
-// The key of calendars.
-#[tactic(auto, unfolding(iloc_grammar::specs::Words::is_word, iloc_grammar::specs::Words::lower))]
-fn calendar_key() -> UnicodeKey
-    ensures { result ≡ key_of_keyword the_keyword }
-{
-    key_of("ca")
 }

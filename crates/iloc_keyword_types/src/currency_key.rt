@@ -3,7 +3,8 @@ ghost use Rattle.std.specs.Prelude.{◌≡◌, Some};
 ghost use Rattle.iloc_preferences_rules.specs.Keywords.{cu, currency_reads, currency_gives};
 ghost use Rattle.iloc_keyword_types.specs.Reads.{ReadsKeyed, GivesKeyed};
 
-use crate::preference_key::{PreferenceKey, key_of};
+use crate::known_keys;
+use crate::preference_key::PreferenceKey;
 use iloc_subtags::{CurrencyType, UnicodeKey};
 use iloc_unicode_value::{PreferencesParseError, Value};
 use std::alloc::{AllocError, Global};
@@ -23,7 +24,7 @@ impl PreferenceKey for CurrencyType {
     ) -> Result<Option<Self>, PreferencesParseError>
         ensures { ReadsKeyed (λ code. code) cu (currency_reads value.now) key.now result }
     {
-        if *key != currency_key() {
+        if *key != known_keys::cu() {
             return Ok(None);
         }
         Ok(Some(CurrencyType::try_from(value)?))
@@ -32,7 +33,7 @@ impl PreferenceKey for CurrencyType {
     fn unicode_extension_key() -> Option<UnicodeKey>
         ensures { result ≡ Some cu }
     {
-        Some(currency_key())
+        Some(known_keys::cu())
     }
 
     fn unicode_extension_value(&self, alloc: Global) -> Result<Option<Value>, AllocError>
@@ -40,12 +41,4 @@ impl PreferenceKey for CurrencyType {
     {
         Ok(Some(Value::from(self)))
     }
-}
-
-// The key of currencies.
-#[tactic(auto, unfolding(iloc_grammar::specs::Words::is_word, iloc_grammar::specs::Words::lower))]
-fn currency_key() -> UnicodeKey
-    ensures { result ≡ cu }
-{
-    key_of("cu")
 }

@@ -20,7 +20,6 @@ ghost use Rattle.std.specs.Prelude.{◌≡◌, ◌↔◌, true};
 ghost use Rattle.std.specs.Ordering.{on, then_cmp};
 ghost use Rattle.iloc_grammar.specs.Words.{word_cmp};
 ghost use Rattle.iloc_regions.specs.DataHashes.{subdivision_fed};
-ghost use Rattle.iloc_keyword_types.specs.Subdivisions.{value_of};
 
 use std::hash::Hash;
 
@@ -32,6 +31,7 @@ pub mod hijri;
 pub mod known_keys;
 pub mod preference_key;
 pub mod script_exclusions;
+pub mod single_keyword;
 pub mod subdivision_id;
 pub mod subdivision_keyword;
 pub mod subtag_keyword;
@@ -43,11 +43,10 @@ pub use hijri::HijriCalendarAlgorithm;
 pub use iloc_unicode_value::{PreferencesParseError, subtag_of};
 pub use preference_key::{PreferenceKey, key_of};
 pub use script_exclusions::DictionaryBreakScriptExclusions;
+pub use single_keyword::{KeywordKind, SingleKeyword, SubtagContent, keyword_of};
 pub use subdivision_id::SubdivisionId;
-pub use subdivision_keyword::{
-    RegionOverride, RegionalSubdivision, SubdivisionKeyword, SubdivisionKeywordKind, keyword_of,
-};
-pub use subtag_keyword::{NumberingSystem, SubtagKeyword, SubtagKeywordKind, TimeZoneShortId};
+pub use subdivision_keyword::{RegionOverride, RegionalSubdivision, SubdivisionKeyword};
+pub use subtag_keyword::{NumberingSystem, TimeZoneShortId};
 pub use word_enum::{WordEnum, find_word};
 
 /// Subdivisions are ordered by region and then by suffix, what is equal has the same value, and that is what a
@@ -55,10 +54,9 @@ pub use word_enum::{WordEnum, find_word};
 pub fn subdivisions_compare()
     ensures order { (s t : SubdivisionId)
         → ⟦<SubdivisionId as Ord>⟧.cmp s t
-        ≡ then_cmp (on (λ s. s.region) word_cmp) (on (λ s. s.suffix) word_cmp) (value_of s)
-        (value_of t) }
+        ≡ then_cmp (on (λ s. s.region) word_cmp) (on (λ s. s.suffix) word_cmp) s t }
     ensures equality { (s t : SubdivisionId)
-        → (⟦<SubdivisionId as PartialEq>⟧.eq s t ≡ true) ↔ (value_of s ≡ value_of t) }
+        → (⟦<SubdivisionId as PartialEq>⟧.eq s t ≡ true) ↔ (s ≡ t) }
     ensures fed { (s : SubdivisionId)
-        → ⟦<SubdivisionId as Hash>⟧.hash_input s ≡ subdivision_fed (value_of s) }
+        → ⟦<SubdivisionId as Hash>⟧.hash_input s ≡ subdivision_fed s }
 {}

@@ -6,18 +6,29 @@ use iloc_subtags::{ParseError, Region, SubdivisionSuffix, Subtag};
 use iloc_writeable::{Sink, Writeable};
 use std::cmp::min;
 use std::fmt;
+use std::marker::Model;
 use std::str::FromStr;
 
-/// A subdivision of a region, as `ustx`.
+/// A subdivision of a region, as `ustx`. Contracts see it as the definitions' subdivision.
 #[derive(Clone, Copy, Debug, PartialEq, Eq, PartialOrd, Ord, Hash)]
 pub struct SubdivisionId {
     pub region: Region,
     pub suffix: SubdivisionSuffix,
 }
 
+impl Model for SubdivisionId {
+    ghost use Rattle.iloc_regions.specs.Subdivisions.{Subdivision};
+
+    ghost Value = { Subdivision };
+
+    ghost view = { λ s. record { region = s.region; suffix = s.suffix } };
+
+    ghost inverse = { λ s. record { region = s.region; suffix = s.suffix } };
+}
+
 impl SubdivisionId {
     ghost use Rattle.iloc_regions.specs.Subdivisions.{subdivision, subdivision_text};
-    ghost use Rattle.iloc_keyword_types.specs.Subdivisions.{value_of, ReadsAs};
+    ghost use Rattle.iloc_keyword_types.specs.Subdivisions.{ReadsAs};
 
     /// The subdivision of that region with that suffix.
     pub fn new(region: Region, suffix: SubdivisionSuffix) -> Self
@@ -51,8 +62,8 @@ impl SubdivisionId {
 
     /// Region and suffix in lower case, one after the other. Reading that text gives the subdivision back.
     pub fn into_subtag(self) -> Subtag
-        ensures text { result ≡ subdivision_text (value_of self) }
-        ensures back { subdivision (subdivision_text (value_of self)) ≡ Ok (value_of self) }
+        ensures text { result ≡ subdivision_text self }
+        ensures back { subdivision (subdivision_text self) ≡ Ok self }
     {
         let region = self.region.to_tinystr().to_ascii_lowercase();
         let text = region.concat::<4, 8>(self.suffix.to_tinystr());
@@ -85,9 +96,8 @@ impl FromStr for SubdivisionId {
 /// Prints region and suffix in lower case, without a hyphen.
 impl Writeable for SubdivisionId {
     ghost use Rattle.iloc_regions.specs.Subdivisions.{subdivision_text};
-    ghost use Rattle.iloc_keyword_types.specs.Subdivisions.{value_of};
 
-    ghost text = { λ s. subdivision_text (value_of s) };
+    ghost text = { subdivision_text };
 
     fn write_to<S: Sink>(&self, sink: &mut S) -> fmt::Result {
         sink.write_str(self.into_subtag().as_str())
@@ -100,9 +110,8 @@ impl Writeable for SubdivisionId {
 
 impl fmt::Display for SubdivisionId {
     ghost use Rattle.iloc_regions.specs.Subdivisions.{subdivision_text};
-    ghost use Rattle.iloc_keyword_types.specs.Subdivisions.{value_of};
 
-    ghost output = { λ s. Some (subdivision_text (value_of s)) };
+    ghost output = { λ s. Some (subdivision_text s) };
 
     fn fmt<W: fmt::Write>(&self, f: &mut fmt::Formatter<W>) -> fmt::Result {
         self.write_to(f)

@@ -1,10 +1,11 @@
 //! What is told of a keyword. Only the generic functions here own one.
 use iloc_keyword_types::{
-    CalendarAlgorithm, DictionaryBreakScriptExclusions, PreferenceKey, PreferencesParseError,
-    SubdivisionKeyword, SubdivisionKeywordKind, SubtagKeyword, SubtagKeywordKind,
+    CalendarAlgorithm, DictionaryBreakScriptExclusions, KeywordKind, PreferenceKey,
+    PreferencesParseError, SingleKeyword, SubtagContent,
 };
 use iloc_subtags::{CurrencyType, UnicodeKey};
 use iloc_unicode_value::Value;
+use iloc_writeable::Writeable;
 use row_page::{put, refused, say};
 use std::alloc::Global;
 use std::fmt::Write;
@@ -36,13 +37,7 @@ impl Shown for CurrencyType {
     }
 }
 
-impl<K: SubtagKeywordKind> Shown for SubtagKeyword<K> {
-    fn show(&self, out: &mut String) {
-        put(out, self.as_inner())
-    }
-}
-
-impl<K: SubdivisionKeywordKind> Shown for SubdivisionKeyword<K> {
+impl<K: KeywordKind, T: SubtagContent + Writeable> Shown for SingleKeyword<K, T> {
     fn show(&self, out: &mut String) {
         put(out, self.as_inner())
     }
