@@ -1,10 +1,11 @@
 -- One word more, a bad one, or no memory for it.
-use Rattle.std.proofs.Common.{◌≡◌, ◌≢◌, ℕ, suc, ◌+◌, ◌%◌, ◌≤◌, List, [], ◌∷◌, ◌++◌, length, take, ◌-◌, drop, get_or, refl, sym, ap, ◌∙◌, arith, append_assoc, append-nil, length-append}
+use Rattle.std.proofs.Common.{◌≡◌, ◌≢◌, ℕ, ◌+◌, ◌%◌, ◌≤◌, List, [], ◌∷◌, ◌++◌, length, take, ◌-◌, drop, get_or, refl, sym, ap, ◌∙◌, arith, append_assoc, append-nil, length-append}
 use Rattle.std.specs.List.{flat_map, AllByRecursion}
 use Rattle.iloc_grammar.specs.Words.{Language, languages, two_or_three, narrow_raw, wide_raw}
 use Rattle.iloc_grammar.specs.Values.{IsNormal}
 use Rattle.iloc_carry.specs.declared.errors.CarryError.TheVariants.{Word, OutOfMemory}
-use Rattle.iloc_carry.specs.Carrying.{IsOldRow, BeginsWith, new_row, Refused, SoFar}
+use Rattle.iloc_carry.specs.Carrying.{BeginsWith, Refused, SoFar}
+use Rattle.std.proofs.Math.Seq.{take-length}
 
 abbrev pub first_three : List ℕ → List ℕ
 first_three xs = get_or xs 0 0 ∷ get_or xs 1 0 ∷ get_or xs 2 0 ∷ []
@@ -18,13 +19,9 @@ three_and_rest (a ∷ b ∷ d ∷ xs) h = refl
 length-three : (xs : List ℕ) → 3 ≤ length xs → length xs ≡ 3 + length (drop 3 xs)
 length-three xs h = ap length (three_and_rest xs h) ∙ length-append (first_three xs) (drop 3 xs)
 
-take_whole : (xs : List ℕ) → take (length xs) xs ≡ xs
-take_whole [] = refl
-take_whole (x ∷ xs) = ap (λ r. x ∷ r) (take_whole xs)
-
 -- what is left after three bytes
 pub dropped : (xs : List ℕ) → 3 ≤ length xs → take (length xs - 3) (drop 3 xs) ≡ drop 3 xs
-dropped xs h = ap (λ n. take n (drop 3 xs)) (let l = length-three xs h in let e : length xs - 3 ≡ length (drop 3 xs) = omega arith in e) ∙ take_whole (drop 3 xs)
+dropped xs h = ap (λ n. take n (drop 3 xs)) (let l = length-three xs h in let e : length xs - 3 ≡ length (drop 3 xs) = omega arith in e) ∙ take-length (drop 3 xs)
 
 -- the next three bytes are bad
 pub refused : (row rest out : List ℕ) (count : ℕ) → SoFar row rest out count → length row % 3 ≡ 0 → 3 ≤ length rest → ((w : List ℕ) → IsNormal (Language two_or_three) w → narrow_raw (Language two_or_three) w ≢ first_three rest) → Refused row (Word count)

@@ -7,8 +7,8 @@ use Rattle.iloc_grammar.specs.Values.{IsNormal}
 use Rattle.iloc_unicode_value.specs.Values.{without_true}
 use Rattle.iloc_regions.specs.Subdivisions.{Subdivision}
 use Rattle.iloc_regions.specs.DataLocales.{subdivision_value, agreed}
-use Rattle.iloc_regions.proofs.DataLaws.{same_is}
 use Rattle.iloc_preferences_rules.specs.Preferences.{region_with, preferred_region}
+use Rattle.iloc_grammar.proofs.MapLaws.{same_is}
 
 pub words_tie : (v w : List ℕ) → pointwise nat_eq v w ≡ is_same v w
 words_tie v w = texts_ties v w

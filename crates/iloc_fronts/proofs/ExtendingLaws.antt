@@ -1,5 +1,5 @@
 -- Extending is override of maps and union of sets, and so associative.
-use Rattle.std.proofs.Common.{◌≡◌, ℕ, true, false, ◌||◌, List, [], ◌∷◌, ◌++◌, sym, ap, refl, ◌∙◌, append_assoc, append-nil}
+use Rattle.std.proofs.Common.{◌≡◌, ℕ, ◌||◌, List, [], ◌++◌, sym, ap, ◌∙◌, append_assoc, append-nil}
 use Rattle.std.specs.List.{AllByRecursion, list_any}
 use Rattle.std.specs.Option.{option_or}
 use Rattle.std.specs.FinMap.{find}
@@ -13,6 +13,7 @@ use Rattle.iloc_grammar.proofs.SetLaws.{find-append, map_of-first, map_of-last, 
 use Rattle.iloc_grammar.proofs.ValuesLaws.{set_of_ascending}
 use Rattle.iloc_grammar.proofs.WellRead.{all-set_of, set_of-ascending}
 use Rattle.iloc_fronts.specs.Extending.{extend}
+use Rattle.std.proofs.lemmas.List.Folds.{list_any-append}
 
 pub extend_associative : (u v w : Unicode) → extend (extend u v) w ≡ extend u (extend v w)
 extend_associative u v w = λ i. record {
@@ -23,12 +24,8 @@ extend_associative u v w = λ i. record {
 pub extend_overrides : (u v : Unicode) (k : List ℕ) → find word_cmp k (extend u v).keywords ≡ option_or (find word_cmp k v.keywords) (find word_cmp k u.keywords)
 extend_overrides u v k = find-map_of word_cmp word_cmp_total k (v.keywords ++ u.keywords) ∙ find-append word_cmp k v.keywords u.keywords
 
-in_both : (w : List ℕ) (vs ws : List (List ℕ)) → list_any (is_same w) (vs ++ ws) ≡ (list_any (is_same w) vs || list_any (is_same w) ws)
-in_both w [] ws = refl
-in_both w (v ∷ vs) ws = ap (λ b. is_same w v || b) (in_both w vs ws) ∙ elim (is_same w v) as (λ b. (b || (list_any (is_same w) vs || list_any (is_same w) ws)) ≡ ((b || list_any (is_same w) vs) || list_any (is_same w) ws)) [ true ↦ refl | false ↦ refl ]
-
 pub extend_unites : (u v : Unicode) (w : List ℕ) → list_any (is_same w) (extend u v).attributes ≡ (list_any (is_same w) u.attributes || list_any (is_same w) v.attributes)
-extend_unites u v w = any-set_of w (u.attributes ++ v.attributes) ∙ in_both w u.attributes v.attributes
+extend_unites u v w = any-set_of w (u.attributes ++ v.attributes) ∙ list_any-append (is_same w) u.attributes v.attributes
 
 abbrev IsKeywordValue : List ℕ × List (List ℕ) → Type 0
 IsKeywordValue f = IsNormal UnicodeKey f.0 × AllByRecursion (IsNormal Subtag) f.1

@@ -195,7 +195,7 @@ IsInside p = IsNoKey p × IsLong p
 inside_after : {T : ℕ → Bool} (i : Identifier) → HasWords T i → AllByRecursion IsInside (after_language i)
 inside_after i h = all_both IsNoKey IsLong (after_language i) (identifier_no_key i h).1 (long_after_language i h)
 
-no_key_empty : is_word TransformKey [] ≡ false
+pub no_key_empty : is_word TransformKey [] ≡ false
 unfolding is_word
 no_key_empty = refl
 

@@ -11,8 +11,8 @@ use Rattle.iloc_preferences_rules.specs.Keywords as keywords
 use Rattle.iloc_preferences_rules.specs.Keywords.{EnumValue, numbered, variants, further_readings, readings, hijri_kinds, enum_reads}
 use Rattle.iloc_keyword_types.specs.WordTables.{place_of}
 use Rattle.iloc_keyword_types.proofs.EnumLemmas.{variant, one_word, more_words, entry}
-use Rattle.iloc_regions.proofs.DataLaws.{same_is}
 use Rattle.iloc_keyword_types.specs.CalendarReading.{calendar_reads}
+use Rattle.iloc_grammar.proofs.MapLaws.{same_is}
 
 abbrev cs : List (List ℕ)
 cs = variants keywords.CalendarAlgorithm

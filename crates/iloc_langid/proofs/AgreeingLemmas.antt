@@ -3,7 +3,6 @@ use Rattle.std.proofs.Common.{◌≡◌, ℕ, Bool, true, false, ◌||◌, List,
 use Rattle.std.specs.Option.{option_eq}
 use Rattle.std.specs.Cmp.Lexicographic.{pointwise, same_text, other_text}
 use Rattle.std.specs.List.{AllByRecursion, list_any, list_all}
-use Rattle.std.specs.Cmp.{eq_by_cmp_equiv, Equal-is}
 use Rattle.std.specs.Ordering.{is_eq}
 use Rattle.std.specs.Char.{to_ascii_lowercase}
 use Rattle.std.specs.FinMap.{put}
@@ -17,7 +16,7 @@ use Rattle.iloc_grammar.specs.Meaning.{IdentifierMeans, set_of, map_of}
 use Rattle.iloc_grammar.specs.Values.{IsNormal, IsAscending}
 use Rattle.iloc_grammar.specs.Steps.{Reordered, none, front_kept, first_two, in_turn}
 use Rattle.iloc_grammar.proofs.WordsLaws.{is_word-lower}
-use Rattle.iloc_grammar.proofs.MapLaws.{word_cmp_total, same_words}
+use Rattle.iloc_grammar.proofs.MapLaws.{word_cmp_total, same_itself, same_is}
 use Rattle.iloc_grammar.proofs.Orders.{any_reordered, all_reordered, different_reordered, set_of_reordered}
 use Rattle.iloc_grammar.proofs.Sorting.{itself}
 use Rattle.iloc_grammar.proofs.ValuesLaws.{set_of_ascending, ascending_different}
@@ -30,12 +29,6 @@ use Rattle.iloc_langid.specs.Reads.{value_of}
 use Rattle.iloc_grammar.proofs.SetLaws.{any-set_of}
 use Rattle.iloc_langid.proofs.FrontLemmas.{front_gives, whole_gives}
 use Rattle.iloc_langid.proofs.SmallLemmas.{parts_are, after_region-pieces, past_none}
-
-pub same_itself : (w : List ℕ) → is_same w w ≡ true
-same_itself w = (eq_by_cmp_equiv word_cmp_total).refl w
-
-pub same_word : (v w : List ℕ) → is_same v w ≡ true → v ≡ w
-same_word v w h = same_words v w ((Equal-is (word_cmp v w)).0 h)
 
 turned : {X : Type 0} {xs ys : List X} → Reordered xs ys → Reordered ys xs
 turned none = none
@@ -59,7 +52,7 @@ taken_out w [] h = absurd (true≢false (sym h))
 taken_out w (q ∷ qs) h = by (is_same w q) refl h (λ k. taken_out w qs k)
   where
     by : (b : Bool) → is_same w q ≡ b → (b || list_any (is_same w) qs) ≡ true → (list_any (is_same w) qs ≡ true → (rest : List (List ℕ)) × Reordered qs (w ∷ rest)) → (rest : List (List ℕ)) × Reordered (q ∷ qs) (w ∷ rest)
-    by true e k more = (qs, subst (λ x. Reordered (q ∷ qs) (x ∷ qs)) (sym (same_word w q e)) (itself (q ∷ qs)))
+    by true e k more = (qs, subst (λ x. Reordered (q ∷ qs) (x ∷ qs)) (sym (same_is w q e)) (itself (q ∷ qs)))
     by false e k more = let (rest, r) = more k in (q ∷ rest, in_turn (front_kept r) first_two)
 
 later : (a b : Bool) → (a || b) ≡ true → a ≡ false → b ≡ true
@@ -76,7 +69,7 @@ still_there w qs rest r (v ∷ vs) d h =
     apart e = by (is_same v w) refl
       where
         by : (b : Bool) → is_same v w ≡ b → b ≡ false
-        by true s = absurd (true≢false (sym (subst (λ x. is_same w x ≡ true) (sym (same_word v w s)) (same_itself w)) ∙ e))
+        by true s = absurd (true≢false (sym (subst (λ x. is_same w x ≡ true) (sym (same_is v w s)) (same_itself w)) ∙ e))
         by false s = refl
 
 -- as many words, and each of them there: the same ones
@@ -169,7 +162,7 @@ other_piece ps now rest p w i e n h =
     i ∙ ap (λ l. is_among l w) e ∙ ap (λ b. b || is_among rest w) (by (is_same w (lower p)) refl)
   where
     by : (b : Bool) → is_same w (lower p) ≡ b → b ≡ false
-    by true s = absurd (h (sym (same_word w (lower p) s) ∙ sym n.1))
+    by true s = absurd (h (sym (same_is w (lower p) s) ∙ sym n.1))
     by false s = refl
 
 -- what a test of two optional words has told

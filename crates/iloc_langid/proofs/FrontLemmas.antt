@@ -1,10 +1,9 @@
 -- From what a front is read as to what the whole or the head is read as.
 use Rattle.std.proofs.Common.{◌≡◌, ◌≢◌, ◌<◌, ℕ, Bool, true, false, List, [], ◌∷◌, ◌++◌, length, refl, sym, ap, ◌∙◌, subst, arith, append-nil, cond, Some, None, option_map, Result, Ok, Err, true≢false, ◌==◌}
-use Rattle.std.specs.Prelude.{if◌then◌else◌}
 use Rattle.std.specs.Result.{result_and}
 use Rattle.std.proofs.lemmas.Bool.Decides.{nat_tests}
 use Rattle.std.proofs.lemmas.Bool.{false_from_ne_true}
-use Rattle.iloc_grammar.specs.Words.{Kind, Language, Script, Region, is_word, IsWord, normal, lower, title, upper, languages, read}
+use Rattle.iloc_grammar.specs.Words.{Language, Script, Region, is_word, IsWord, normal, lower, title, upper, languages, read}
 use Rattle.iloc_grammar.specs.Meaning.{IdentifierMeans}
 use Rattle.iloc_grammar.specs.Faults.{not_a_language, not_an_identifier}
 use Rattle.iloc_grammar.specs.Blocks.{first_piece, front, head}
@@ -32,13 +31,6 @@ none_first (p ∷ ps) e = by (is_word (Language languages) p) refl e
     by : (b : Bool) → is_word (Language languages) p ≡ b → None ≡ option_map (normal (Language languages)) (cond b (Some p) None) → is_word (Language languages) p ≡ false
     by true h e = cc
     by false h e = h
-
-pub accepted_from_read : {E : Type 0} (k : Kind) (e : E) (p w : List ℕ) → Ok w ≡ read k e p → IsWord k p × (w ≡ normal k p)
-accepted_from_read {E} k e p w h = by (is_word k p) refl h
-  where
-    by : (b : Bool) → is_word k p ≡ b → Ok w ≡ (if b then Ok (normal k p) else Err e) → IsWord k p × (w ≡ normal k p)
-    by true s h = (s, cc)
-    by false s h = cc
 
 -- the words of a front, one after the other
 pub front_gives : (ps : List (List ℕ)) (first : List ℕ) (qs rs us rest : List (List ℕ)) (i : LanguageIdentifier)

@@ -1,8 +1,8 @@
 -- Identifiers with at most one variant, read from the left.
 use Rattle.std.proofs.Common.{◌≡◌, ◌≢◌, ℕ, ◌≤◌, Bool, true, false, cond, List, [], ◌∷◌, ◌++◌, length, map, refl, sym, ap, ◌∙◌, subst, arith, append-nil, option_map, Ok, Err, true≢false}
 use Rattle.std.specs.List.{AllByRecursion}
-use Rattle.iloc_grammar.specs.Words.{Language, Script, Region, Variant, is_word, IsWord, lower, title, upper, word_cmp, languages}
-use Rattle.iloc_grammar.specs.Written.{Identifier, AllDifferent, HasWords, identifier_pieces}
+use Rattle.iloc_grammar.specs.Words.{Language, Script, Region, Variant, is_word, IsWord, lower, title, upper, languages}
+use Rattle.iloc_grammar.specs.Written.{Identifier, HasWords, identifier_pieces}
 use Rattle.iloc_grammar.specs.Blocks.{first_piece}
 use Rattle.iloc_grammar.specs.Reading.{first_item, take_first, skip_first, passing, past, rest_of, after_script, after_region, front_of, after_front}
 use Rattle.iloc_grammar.proofs.ReadingLaws.{all_while, pieces-front_of, front_words, front_of-pieces, after_front-pieces}
@@ -11,6 +11,7 @@ use Rattle.iloc_subtags.specs.declared.parse_error.ParseError.{ParseError}
 use Rattle.iloc_subtags.specs.declared.parse_error.ParseError.TheVariants.{InvalidLanguage, InvalidSubtag, InvalidExtension, DuplicatedExtension, OutOfMemory}
 use Rattle.iloc_langid.specs.SmallReads.{Parts, small_of, SmallReadsAs, front_parts, after_parts, SmallFrontGives}
 use Rattle.iloc_langid.proofs.FrontLemmas.{no_empty_language}
+use Rattle.iloc_small.proofs.SmallLaws.{short_different}
 
 abbrev variant : List ℕ → Bool
 variant p = is_word Variant p
@@ -32,11 +33,6 @@ none_left : (us : List (List ℕ)) → length us ≤ 1 → AllByRecursion (IsWor
 none_left [] l h = refl
 none_left (u ∷ []) l h = rw h.0 refl
 none_left (u ∷ v ∷ us) l h = absurd (omega (arith, l))
-
-different_few : (us : List (List ℕ)) → length us ≤ 1 → AllDifferent word_cmp (map lower us)
-different_few [] l = tt
-different_few (u ∷ []) l = (refl, tt)
-different_few (u ∷ v ∷ us) l = absurd (omega (arith, l))
 
 -- the variants at the front, and what follows them
 kept_are : (ps : List (List ℕ)) → (front_of ps).variants ≡ passing variant (after_region ps)
@@ -70,7 +66,7 @@ small_read p ps h e =
     let parts = parts_are (p ∷ ps) in
     record {
       written = front_of (p ∷ ps);
-      grammatical = record { words = front_words (p ∷ ps) h; different = different_few (front_of (p ∷ ps)).variants short };
+      grammatical = record { words = front_words (p ∷ ps) h; different = short_different (front_of (p ∷ ps)).variants short };
       spelled = sym (sym (append-nil (identifier_pieces (front_of (p ∷ ps)))) ∙ ap (λ l. identifier_pieces (front_of (p ∷ ps)) ++ l) (sym nothing) ∙ pieces-front_of p ps);
       one_variant = short;
       means = let l = sym parts.0 in let c = sym parts.1 in let r = sym parts.2 in λ i. record { language = lower (l i); script = option_map title (c i); region = option_map upper (r i); variant = (sym first ∙ ap (λ l. first_item (map lower l)) (sym kept)) i };

@@ -1,12 +1,12 @@
 -- Variants that are taken one at a time.
-use Rattle.std.proofs.Common.{◌≡◌, ℕ, ◌<◌, ◌≤◌, Bool, true, false, cond, not, List, [], ◌∷◌, ◌++◌, length, map, refl, sym, ap, ◌∙◌, subst, arith, append_assoc, append-nil, length-append, Some, None, option_map, true≢false}
+use Rattle.std.proofs.Common.{◌≡◌, ℕ, ◌<◌, ◌≤◌, Bool, true, false, not, List, [], ◌∷◌, ◌++◌, length, map, refl, sym, ap, ◌∙◌, subst, arith, append_assoc, append-nil, length-append, Some, None, option_map, true≢false}
 use Rattle.std.specs.Prelude.{Result, Ok, Err}
 use Rattle.std.specs.List.{AllByRecursion, list_any}
 use Rattle.std.specs.List.Sorted.{IsPermutation}
 use Rattle.std.proofs.lemmas.List.{map-append, length-map}
 use Rattle.std.proofs.lemmas.Bool.{or_parts, or_from}
 use Rattle.std.proofs.lemmas.List.Sorted.{IsPermutation-refl, IsPermutation-sym, IsPermutation-push_more, IsPermutation-append_left, length_permutation, list_any-IsPermutation}
-use Rattle.iloc_grammar.specs.Words.{Kind, Variant, is_word, IsWord, normal, lower, word_cmp, is_same}
+use Rattle.iloc_grammar.specs.Words.{Variant, is_word, IsWord, normal, lower, word_cmp, is_same}
 use Rattle.iloc_grammar.specs.Written.{AllDifferent}
 use Rattle.iloc_grammar.specs.Meaning.{set_of}
 use Rattle.iloc_grammar.specs.Values.{IsNormal, IsAscending}
@@ -23,6 +23,7 @@ use Rattle.iloc_word_set.proofs.CollectorLaws.{permuted_set, differ, taken_in, k
 use Rattle.iloc_subtags.specs.declared.parse_error.ParseError.{ParseError}
 use Rattle.iloc_subtags.specs.declared.parse_error.ParseError.TheVariants.{InvalidLanguage, InvalidSubtag, InvalidExtension, DuplicatedExtension, OutOfMemory}
 use Rattle.iloc_langid.specs.Reads.{VariantsGive}
+use Rattle.iloc_langid.proofs.LowercaseLemmas.{lower-variants}
 
 -- of the variants before, those up to now are taken, as these words
 pub record Taking (before now words : List (List ℕ)) : Type 0 where
@@ -78,16 +79,12 @@ few_pass : (ws ps : List (List ℕ)) → AllByRecursion (IsNormal Variant) ws �
 few_pass [] ps n = (refl, refl)
 few_pass (w ∷ ws) ps n = let more = few_pass ws ps n.1 in let h = n.0.0 in rw h (ap (λ l. w ∷ l) more.0, more.1)
 
-few_lower : (ws : List (List ℕ)) → AllByRecursion (IsNormal Variant) ws → map lower ws ≡ ws
-few_lower [] n = refl
-few_lower (w ∷ ws) n = rw (n.0.1, few_lower ws n.1) refl
-
 pub taking_few : (ws ps : List (List ℕ)) → AllByRecursion (IsNormal Variant) ws → Taking (ws ++ ps) ps ws
 taking_few ws ps n = record {
   taken = ws;
   keeps = (few_pass ws ps n).0;
   skips = (few_pass ws ps n).1;
-  permutes = subst (λ vs. IsPermutation vs ws) (sym (few_lower ws n)) (IsPermutation-refl ws);
+  permutes = subst (λ vs. IsPermutation vs ws) (sym (lower-variants ws n)) (IsPermutation-refl ws);
 }
 
 different_permutation : (vs ws : List (List ℕ)) → IsPermutation vs ws → AllDifferent word_cmp vs → AllDifferent word_cmp ws
@@ -98,7 +95,7 @@ pub taken_after : (before now ws rest : List (List ℕ)) → Taking before now w
 taken_after before now ws rest t n r = by r
   where
     kept : map lower (passing (is_word Variant) (ws ++ now)) ≡ ws ++ map lower (passing (is_word Variant) now)
-    kept = ap (map lower) (few_pass ws now n).0 ∙ map-append lower ws _ ∙ ap (λ vs. vs ++ map lower (passing (is_word Variant) now)) (few_lower ws n)
+    kept = ap (map lower) (few_pass ws now n).0 ∙ map-append lower ws _ ∙ ap (λ vs. vs ++ map lower (passing (is_word Variant) now)) (lower-variants ws n)
 
     whole : map lower (passing (is_word Variant) before) ≡ map lower t.taken ++ map lower (passing (is_word Variant) now)
     whole = ap (map lower) t.keeps ∙ map-append lower t.taken _

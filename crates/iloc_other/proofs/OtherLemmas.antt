@@ -42,7 +42,7 @@ pub record TakingPieces (before now ws : List (List ℕ)) : Type 0 where
 pub takes_nothing : (ps : List (List ℕ)) → TakingPieces ps ps []
 takes_nothing ps = record { taken = []; front = refl; rest = refl; lengths = tt; means = refl }
 
-all_last : {X : Type 0} (P : X → Type 0) (xs : List X) (x : X) → AllByRecursion P xs → P x → AllByRecursion P (xs ++ x ∷ [])
+pub all_last : {X : Type 0} (P : X → Type 0) (xs : List X) (x : X) → AllByRecursion P xs → P x → AllByRecursion P (xs ++ x ∷ [])
 all_last P [] x h p = (p, tt)
 all_last P (y ∷ xs) x h p = (h.0, all_last P xs x h.1 p)
 

@@ -43,7 +43,7 @@ other_test n = grind (arith, nat_tests)
 spelling_by : (o : ℕ × List (List ℕ)) → other_spelling o ≡ cond (not (length o.1 == 0)) ((o.0 ∷ []) ∷ o.1) []
 spelling_by o = other_spelling_is o ∙ ap (λ b. cond b ((o.0 ∷ []) ∷ o.1) []) (other_test (length o.1))
 
-there_by : (b : Bool) (p : List ℕ) (ps : List (List ℕ)) → b ≡ is_there (cond b (p ∷ ps) [])
+pub there_by : (b : Bool) (p : List ℕ) (ps : List (List ℕ)) → b ≡ is_there (cond b (p ∷ ps) [])
 there_by true p ps = refl
 there_by false p ps = refl
 

@@ -1,26 +1,11 @@
 -- Private words that are taken one at a time.
-use Rattle.std.proofs.Common.{◌≡◌, ◌↔◌, ℕ, suc, ◌+◌, ◌<◌, Bool, true, false, cond, List, [], ◌∷◌, ◌++◌, length, map, refl, sym, ap, ◌∙◌, subst, arith, append_assoc, append-nil, Result, Ok, Err, true≢false}
+use Rattle.std.proofs.Common.{◌≡◌, ◌↔◌, ℕ, suc, ◌+◌, ◌<◌, true, false, cond, List, [], ◌∷◌, ◌++◌, length, map, refl, sym, ap, ◌∙◌, subst, arith, append_assoc, append-nil, true≢false}
 use Rattle.std.specs.List.{AllByRecursion}
 use Rattle.std.proofs.lemmas.List.{length-map, length_push}
-use Rattle.iloc_grammar.specs.Words.{Kind, PrivateSubtag, is_word, IsWord, normal, lower, read}
+use Rattle.iloc_grammar.specs.Words.{PrivateSubtag, is_word, IsWord, lower}
 use Rattle.iloc_grammar.specs.Faults as faults
 use Rattle.iloc_fronts.specs.Fronts.{PrivateRead, PrivateFault, not_private}
 use Rattle.iloc_other.specs.Reading.{private_words}
-
--- what reading a word tells
-pub accepted_from_read : {E : Type 0} (k : Kind) (e : E) (p w : List ℕ) → Ok w ≡ read k e p → IsWord k p × (w ≡ normal k p)
-accepted_from_read {E = E} k e p w h = by (is_word k p) refl h
-  where
-    by : (b : Bool) → is_word k p ≡ b → ◌≡◌ {A = Result (List ℕ) E} (Ok w) (cond b (Ok (normal k p)) (Err e)) → IsWord k p × (w ≡ normal k p)
-    by true i h = (i, cc)
-    by false i h = cc
-
-pub refused_from_read : {E : Type 0} (k : Kind) (e f : E) (p : List ℕ) → Err f ≡ read k e p → (is_word k p ≡ false) × (f ≡ e)
-refused_from_read {E = E} k e f p h = by (is_word k p) refl h
-  where
-    by : (b : Bool) → is_word k p ≡ b → ◌≡◌ {A = Result (List ℕ) E} (Err f) (cond b (Ok (normal k p)) (Err e)) → (is_word k p ≡ false) × (f ≡ e)
-    by true i h = cc
-    by false i h = (i, cc)
 
 abbrev AllWords : List (List ℕ) → Type 0
 AllWords ps = AllByRecursion (IsWord PrivateSubtag) ps

@@ -17,7 +17,8 @@ use Rattle.iloc_preferences_rules.specs.Keywords.{subdivision_reads}
 use Rattle.iloc_preferences_rules.specs.Preferences.{identifier_preferences, preferences, language_priority, preferred_region, read_keyword}
 use Rattle.iloc_small.proofs.SmallLaws.{first-option, small_means}
 use Rattle.iloc_regions.proofs.SubdivisionLaws.{subdivision_back}
-use Rattle.iloc_regions.proofs.DataLaws.{same_is, whole_region_is}
+use Rattle.iloc_regions.proofs.DataLaws.{whole_region_is}
+use Rattle.iloc_grammar.proofs.MapLaws.{same_is}
 
 -- the conversion of a locale
 

@@ -21,8 +21,9 @@ use Rattle.iloc_preferences_rules.specs.Preferences.{is_strict, same_region, Pre
 use Rattle.iloc_preferences_rules.specs.Formatters.{FormatPreferences, TimePreferences, default_format, default_time, merge_format, merge_time}
 use Rattle.iloc_small.proofs.SmallLaws.{first-option}
 use Rattle.iloc_regions.proofs.SubdivisionLaws.{subdivision_back, subdivision_is_subtag, text_of_read, read_is_long, read_is_subdivision}
-use Rattle.iloc_regions.proofs.DataLaws.{same_itself, same_is, whole_region_is}
+use Rattle.iloc_regions.proofs.DataLaws.{whole_region_is}
 use Rattle.iloc_small.proofs.SmallBack.{one_normal, one_ascends}
+use Rattle.iloc_grammar.proofs.MapLaws.{same_itself, same_is}
 
 -- extending
 

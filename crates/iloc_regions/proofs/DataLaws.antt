@@ -1,16 +1,14 @@
 -- Data locales: reading and printing.
 use Rattle.std.proofs.Common.{◌≡◌, ◌≤◌, ◌⊎◌, ℕ, Bool, true, false, cond, List, [], ◌∷◌, ◌++◌, length, refl, sym, ap, ◌∙◌, subst, arith, Option, Some, None, IfSome, MatchResult, Result, Ok, Err, ok_or, option_map, option_and_then, option_to_list, true≢false, codes, append_assoc, append-nil}
 use Rattle.std.specs.Result.{result_ok}
-use Rattle.std.specs.Ordering.{is_eq}
-use Rattle.std.specs.Cmp.{tied_itself, Equal-is}
 use Rattle.std.proofs.lemmas.Bool.Decides.{nat_tests}
 use Rattle.iloc_grammar.specs.Pieces.{join}
-use Rattle.iloc_grammar.specs.Words.{Language, Script, Region, Variant, Subtag, UnicodeKey, Attribute, SubdivisionSuffix, is_word, IsWord, IsTable, lower, word_cmp, is_same, is_true}
+use Rattle.iloc_grammar.specs.Words.{Language, Script, Region, Variant, Subtag, UnicodeKey, Attribute, SubdivisionSuffix, is_word, IsWord, IsTable, lower, is_same, is_true}
 use Rattle.iloc_grammar.specs.Written.{identifier_pieces}
 use Rattle.iloc_grammar.specs.Meaning.{Locale}
 use Rattle.iloc_grammar.specs.Values.{IsNormal, IsValue, IsWellFormed, text}
 use Rattle.iloc_grammar.specs.Faults.{Fault, InvalidExtension}
-use Rattle.iloc_grammar.proofs.MapLaws.{word_cmp_total, same_words}
+use Rattle.iloc_grammar.proofs.MapLaws.{same_itself, same_is}
 use Rattle.iloc_grammar.proofs.WordsLaws.{is_word-lower, lower-lower}
 use Rattle.iloc_grammar.proofs.Corollaries.{same_text_same_value}
 use Rattle.iloc_small.specs.Small.{SmallIdentifier, SmallLocale, identifier_of_small, locale_of_small, IsSmall, HasSmallFault, IsSmallValue}
@@ -22,14 +20,6 @@ use Rattle.iloc_small.proofs.SmallLaws.{one_small, small_answer, small_apart, on
 use Rattle.iloc_small.specs.Computing.{small_result}
 use Rattle.iloc_small.proofs.SmallBack.{small_back, small_is_value, read_is_small_value}
 use Rattle.iloc_regions.proofs.SubdivisionLaws.{subdivision_back, subdivision_is_subtag, read_is_subdivision, text_of_read, read_is_long}
-
--- words that are the same
-
-pub same_itself : (w : List ℕ) → is_same w w ≡ true
-same_itself w = ap is_eq (tied_itself word_cmp_total w)
-
-pub same_is : (v w : List ℕ) → is_same v w ≡ true → v ≡ w
-same_is v w e = same_words v w ((Equal-is (word_cmp v w)).0 e)
 
 -- what is read of a text
 

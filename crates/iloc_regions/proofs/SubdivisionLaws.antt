@@ -8,7 +8,7 @@ use Rattle.std.proofs.lemmas.Bool.Decides.{nat_tests}
 use Rattle.std.proofs.lemmas.List.{map-append}
 use Rattle.iloc_grammar.specs.Words.{Region, Subtag, SubdivisionSuffix, is_word, IsWord, word, lower, upper, letters, digits}
 use Rattle.iloc_grammar.specs.Faults.{Fault, InvalidSubtag, InvalidExtension}
-use Rattle.iloc_grammar.proofs.WordsLaws.{is_word-lower, is_word-normal, normal-normal, lower-lower, lower-upper, upper-lower, length-region}
+use Rattle.iloc_grammar.proofs.WordsLaws.{is_word-lower, is_word-normal, normal-normal, lower-lower, lower-upper, upper-lower, length-region, every, letter_is, digit_is, digit_no_letter}
 use Rattle.iloc_regions.specs.Subdivisions.{Subdivision, IsSubdivision, region_length, both_words, subdivision, subdivision_text}
 
 -- lists
@@ -25,29 +25,13 @@ all_both : (f : ℕ → Bool) (xs ys : List ℕ) → list_all f xs ≡ true → 
 all_both f [] ys h k = k
 all_both f (x ∷ xs) ys h k = let parts = and_parts _ _ h in and_from _ _ parts.0 (all_both f xs ys parts.1 k)
 
-length_both : (xs ys : List ℕ) → length (xs ++ ys) ≡ length xs + length ys
-length_both xs ys = length-append xs ys
-
-weaker : (f g : ℕ → Bool) → ((c : ℕ) → f c ≡ true → g c ≡ true) → (xs : List ℕ) → list_all f xs ≡ true → list_all g xs ≡ true
-weaker f g h [] a = refl
-weaker f g h (x ∷ xs) a = let parts = and_parts _ _ a in and_from _ _ (h x parts.0) (weaker f g h xs parts.1)
-
-letter_either : (c : ℕ) → is_ascii_alphabetic c ≡ true → is_ascii_alphanumeric c ≡ true
-letter_either c h = grind (arith, nat_tests)
-
-digit_either : (c : ℕ) → is_ascii_digit c ≡ true → is_ascii_alphanumeric c ≡ true
-digit_either c h = grind (arith, nat_tests)
-
-digit_no_letter : (c : ℕ) → is_ascii_digit c ≡ true → is_ascii_alphabetic c ≡ false
-digit_no_letter c h = grind (arith, nat_tests)
-
 -- regions
 
 region_both : (r : List ℕ) → IsWord Region r → list_all is_ascii_alphanumeric r ≡ true
 unfolding is_word
 region_both r h = elim (or_cases ((length r == 2) && letters r) ((length r == 3) && digits r) h) [
-  | inl a ↦ weaker _ _ letter_either r (and_parts _ _ a).1
-  | inr a ↦ weaker _ _ digit_either r (and_parts _ _ a).1
+  | inl a ↦ every _ _ letter_is r (and_parts _ _ a).1
+  | inr a ↦ every _ _ digit_is r (and_parts _ _ a).1
 ]
 
 two : (n : ℕ) → (n == 2) ≡ true → 2 ≡ n
@@ -77,7 +61,7 @@ unfolding is_word
 joined_subtag r x h k =
     let l = length-region r h in
     let s = suffix_parts x k in
-    and_from _ _ (in_range (length (r ++ x)) (let e = length_both r x in omega arith) (let e = length_both r x in omega arith)) (all_both is_ascii_alphanumeric r x (region_both r h) s.1)
+    and_from _ _ (in_range (length (r ++ x)) (let e = length-append r x in omega arith) (let e = length-append r x in omega arith)) (all_both is_ascii_alphanumeric r x (region_both r h) s.1)
   where
     in_range : (n : ℕ) → 2 ≤ n → n ≤ 8 → is_in_range 2 8 n ≡ true
     in_range n h k = grind (arith, nat_tests)
@@ -109,7 +93,7 @@ read_parts w a b e = elim (is_word Region a) as (λ t. is_word Region a ≡ t �
     | true ↦ λ x. record {
       valid = record { region = (is_word-normal Region a ∙ r, normal-normal Region a); suffix = (is_word-normal SubdivisionSuffix b ∙ x, normal-normal SubdivisionSuffix b) };
       same_text = ap₂ ◌++◌ (lower-upper a) (lower-lower b) ∙ lower_joined a b ∙ ap lower e;
-      long = let l = length-region a r in let s = suffix_parts b x in let j = length_both a b in let m = ap length e in omega arith;
+      long = let l = length-region a r in let s = suffix_parts b x in let j = length-append a b in let m = ap length e in omega arith;
     }
     | false ↦ λ x. tt
   ]) refl

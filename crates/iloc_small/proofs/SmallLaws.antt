@@ -40,7 +40,7 @@ short_lower [] h = h
 short_lower (w ∷ []) h = h
 short_lower (w ∷ v ∷ ws) h = absurd (omega arith)
 
-short_different : (ws : List (List ℕ)) → length ws ≤ 1 → AllDifferent word_cmp (map lower ws)
+pub short_different : (ws : List (List ℕ)) → length ws ≤ 1 → AllDifferent word_cmp (map lower ws)
 short_different [] h = tt
 short_different (w ∷ []) h = (refl, tt)
 short_different (w ∷ v ∷ ws) h = absurd (omega arith)

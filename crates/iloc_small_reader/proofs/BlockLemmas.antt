@@ -18,6 +18,8 @@ use Rattle.iloc_small_reader.specs.SmallLocaleReads.{Keyword}
 use Rattle.iloc_subtags.specs.declared.parse_error.ParseError.{ParseError}
 use Rattle.iloc_subtags.specs.declared.parse_error.ParseError.TheVariants.{InvalidSubtag, InvalidExtension}
 use Rattle.iloc_small_reader.specs.BlockReads.{refusal_of, answer_of, block_result, refusal_without_key, value_result}
+use Rattle.iloc_parser.proofs.TakingLemmas.{took}
+use Rattle.std.proofs.Math.Bool.{and-false}
 
 -- a word is longer than one byte
 long_attribute : (p : List ℕ) → IsWord Attribute p → is_one_byte p ≡ false
@@ -88,10 +90,6 @@ abbrev pub with_keyword : SmallIdentifier → Result Keyword Fault → Result Sm
 with_keyword r (Ok k) = Ok (record { id = r; keyword = Some k })
 with_keyword r (Err f) = Err f
 
-and_false : (b : Bool) → (b && false) ≡ false
-and_false true = refl
-and_false false = refl
-
 module _ (r : SmallIdentifier) (c : ℕ) (ps : List (List ℕ)) where
   alone : blocks_result r ((c, ps) ∷ []) ≡ with_keyword r (block_result c ps)
   unfolding blocks_result block_result
@@ -105,7 +103,7 @@ module _ (r : SmallIdentifier) (c : ℕ) (ps : List (List ℕ)) where
   unfolding blocks_result block_result
   followed d bs e =
       let none : has_small_keyword ps ≡ false = false_from_ne_true (has_small_keyword ps) (λ h. nonempty (sym e ∙ keyword_no_blocks ps h)) in
-      rw (none, and_false (is_u c)) (ap Err (fault_front c ps))
+      rw (none, and-false (is_u c)) (ap Err (fault_front c ps))
     where
       nonempty : d ∷ bs ≡ [] → ⊥
       nonempty e = cc
@@ -130,14 +128,6 @@ not_taken k empty (p ∷ ps) e = by (is_word k p) refl e
     by : (b : Bool) → is_word k p ≡ b → None ≡ option_map (normal k) (cond b (Some p) None) → (is_word k p ≡ false) × (skip_first (is_word k) (p ∷ ps) ≡ p ∷ ps)
     by true h e = cc
     by false h e = (h, rw h refl)
-
-taken : (k : Kind) (ps : List (List ℕ)) (w : List ℕ) → Some w ≡ option_map (normal k) (take_first (is_word k) ps) → (p : List ℕ) × IsWord k p × (w ≡ normal k p) × (ps ≡ p ∷ skip_first (is_word k) ps)
-taken k [] w e = cc
-taken k (p ∷ ps) w e = by (is_word k p) refl e
-  where
-    by : (b : Bool) → is_word k p ≡ b → Some w ≡ option_map (normal k) (cond b (Some p) None) → (q : List ℕ) × IsWord k q × (w ≡ normal k q) × (p ∷ ps ≡ q ∷ skip_first (is_word k) (p ∷ ps))
-    by true h e = (p, h, cc, rw h refl)
-    by false h e = cc
 
 pub no_attribute : (ps : List (List ℕ)) → None ≡ option_map lower (take_first (is_word Attribute) ps) → InvalidExtension ≡ refusal_without_key ps
 no_attribute ps e = rw (not_taken Attribute no_empty_attribute ps e).0 refl
@@ -184,7 +174,7 @@ refused-with_key k (Err g) f e = cc
 
 module _ (ps rest : List (List ℕ)) (key : List ℕ) (took : Some key ≡ option_map lower (take_first (is_word UnicodeKey) ps)) (l : rest ≡ skip_first (is_word UnicodeKey) ps) where
   block_is : block_result 117 ps ≡ with_key key (value_result [] rest)
-  block_is = let (p, h, same, cut) = taken UnicodeKey ps key took in
+  block_is = let (p, h, same, cut) = took UnicodeKey ps key took in
       ap (block_result 117) (cut ∙ ap (λ qs. p ∷ qs) (sym l)) ∙ keyed p rest h ∙ ap (λ w. with_key w (value_result [] rest)) (sym same)
 
   pub value_given : (v : Option (List ℕ)) → Ok v ≡ answer_of (value_result [] rest) → Ok (key, v) ≡ answer_of (block_result 117 ps)

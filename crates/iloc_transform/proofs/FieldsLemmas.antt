@@ -18,6 +18,8 @@ use Rattle.iloc_subtags.specs.declared.parse_error.ParseError.TheVariants.{Inval
 use Rattle.iloc_transform.specs.ValueReading.{values_front, ValueFrontReads}
 use Rattle.iloc_transform.specs.FieldsReading.{FieldsRead, FieldsFrontRead}
 use Rattle.iloc_grammar.proofs.ReadingLaws.{length-past}
+use Rattle.iloc_fronts.proofs.TransformLaws.{no_key_empty}
+use Rattle.iloc_other.proofs.OtherLemmas.{all_last}
 
 abbrev is_key : List ℕ → Bool
 is_key p = is_word TransformKey p
@@ -38,12 +40,8 @@ takes_nothing ps = record { taken = []; fields = tt; front = refl; rest = refl; 
 key_goes_on : (p : List ℕ) (ps : List (List ℕ)) → IsWord TransformKey p → (fields_front (p ∷ ps) ≡ p ∷ passing is_field_piece ps) × (after_fields (p ∷ ps) ≡ past is_field_piece ps)
 key_goes_on p ps k = (rw k refl, rw k refl)
 
-key_empty : is_word TransformKey [] ≡ false
-unfolding is_word
-key_empty = refl
-
 after_values : (ps : List (List ℕ)) → (passing is_field_piece ps ≡ values_front ps ++ fields_front (past (is_word Attribute) ps)) × (past is_field_piece ps ≡ after_fields (past (is_word Attribute) ps))
-after_values [] = (rw key_empty refl, rw key_empty refl)
+after_values [] = (rw no_key_empty refl, rw no_key_empty refl)
 after_values (p ∷ ps) = by (is_word Attribute p) refl (is_key p) refl (after_values ps)
   where
     by : (a : Bool) → is_word Attribute p ≡ a → (k : Bool) → is_key p ≡ k → (passing is_field_piece ps ≡ values_front ps ++ fields_front (past (is_word Attribute) ps)) × (past is_field_piece ps ≡ after_fields (past (is_word Attribute) ps))
@@ -54,10 +52,6 @@ after_values (p ∷ ps) = by (is_word Attribute p) refl (is_key p) refl (after_v
     by false e false i more = (rw (e, i) refl, rw (e, i) refl)
 
 -- one field more
-
-all_last : {X : Type 0} (P : X → Type 0) (xs : List X) (x : X) → AllByRecursion P xs → P x → AllByRecursion P (xs ++ x ∷ [])
-all_last P [] x h p = (p, tt)
-all_last P (y ∷ xs) x h p = (h.0, all_last P xs x h.1 p)
 
 pieces-last : (fs : Fields) (f : List ℕ × List (List ℕ)) → fields_pieces (fs ++ f ∷ []) ≡ fields_pieces fs ++ (f.0 ∷ f.1)
 pieces-last [] f = append-nil (f.0 ∷ f.1)
@@ -99,7 +93,7 @@ takes_field before now m k qs more v n h e s r i =
 
 -- where no key follows
 no_more : (now : List (List ℕ)) → None ≡ option_map lower (take_first is_key now) → (fields_front now ≡ []) × (after_fields now ≡ now)
-no_more [] e = (rw key_empty refl, rw key_empty refl)
+no_more [] e = (rw no_key_empty refl, rw no_key_empty refl)
 no_more (p ∷ ps) e = by (is_key p) refl e
   where
     by : (b : Bool) → is_key p ≡ b → ◌≡◌ {A = Option (List ℕ)} None (option_map lower (cond b (Some p) None)) → (fields_front (p ∷ ps) ≡ []) × (after_fields (p ∷ ps) ≡ p ∷ ps)

@@ -7,6 +7,7 @@ use Rattle.iloc_grammar.proofs.PartTexts.{transform_spelling_is}
 use Rattle.iloc_langid.specs.Reads.{value_of}
 use Rattle.iloc_langid.specs.declared.identifier.LanguageIdentifier.{LanguageIdentifier}
 use Rattle.iloc_writeable.specs.Pieces.{hyphened, is_there}
+use Rattle.iloc_other.proofs.PrintLemmas.{there_by}
 
 part_test : (b : Bool) (n : ℕ) → (b || nat_lt 0 n) ≡ not (not b && (n == 0))
 part_test true n = refl
@@ -15,10 +16,6 @@ part_test false n = grind (arith, nat_tests)
 same_some : (o : Option LanguageIdentifier) → is_some (option_map value_of o) ≡ is_some o
 same_some None = refl
 same_some (Some i) = refl
-
-there_by : (b : Bool) (p : List ℕ) (ps : List (List ℕ)) → b ≡ is_there (cond b (p ∷ ps) [])
-there_by true p ps = refl
-there_by false p ps = refl
 
 module _ (o : Option LanguageIdentifier) (fs : Fields) where
   abbrev written : Transform

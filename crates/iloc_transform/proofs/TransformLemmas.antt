@@ -21,7 +21,6 @@ use Rattle.iloc_fronts.proofs.TransformLaws.{fields_answer, IsTransformAnswer}
 use Rattle.iloc_other.specs.Singleton.{singleton_at}
 use Rattle.iloc_other.proofs.SingletonLemmas.{begins, part_reads, part_fault, part_other, part_none}
 use Rattle.iloc_other.proofs.TextLemmas.{another_letter}
-use Rattle.iloc_other.proofs.TakingLemmas.{refused_from_read}
 use Rattle.iloc_subtags.specs.declared.parse_error.ParseError.{ParseError}
 use Rattle.iloc_subtags.specs.declared.parse_error.ParseError.TheVariants.{InvalidLanguage, InvalidSubtag, InvalidExtension, DuplicatedExtension, OutOfMemory}
 use Rattle.iloc_langid.specs.Reads.{FrontReadsAs}
@@ -31,12 +30,10 @@ use Rattle.iloc_transform.specs.FieldsReading.{FieldsRead, FieldsFrontRead}
 use Rattle.iloc_transform.specs.LangReading.{LangRead, LangReads}
 use Rattle.iloc_transform.specs.TransformReading.{value_of, WantsMemory, variants, fields, TransformReads, TransformTextReads}
 use Rattle.iloc_transform.specs.declared.transform.Transform.{Transform}
+use Rattle.iloc_grammar.proofs.ReadWords.{refused_from_read}
+use Rattle.iloc_langid.proofs.FrontLemmas.{no_empty_language}
 
 -- the identifier
-
-no_empty_language : is_word (Language languages) [] ≡ false
-unfolding is_word languages
-no_empty_language = refl
 
 pub no_lang : (ps : List (List ℕ)) → None ≡ first_item ps → LangRead ps None ps
 no_lang [] e = record { written = None; front = absent no_empty_language; means = refl }

@@ -1,20 +1,11 @@
 -- Words that are taken one at a time, and added without `true`.
 use Rattle.std.proofs.Common.{◌≡◌, ℕ, suc, ◌+◌, ◌≤◌, true, false, not, cond, List, [], ◌∷◌, ◌++◌, length, map, sym, ap, ◌∙◌, arith, append_assoc, append-nil, length-append, Some, option_map}
-use Rattle.std.proofs.lemmas.Bool.Decides.{nat_tests}
-use Rattle.iloc_grammar.specs.Words.{Kind, Attribute, Subtag, is_word, IsWord, normal, is_true}
-use Rattle.iloc_grammar.specs.Values.{IsNormal}
+use Rattle.iloc_grammar.specs.Words.{Kind, is_word, IsWord, normal, is_true}
 use Rattle.iloc_grammar.specs.Reading.{take_first, skip_first, passing, past}
 use Rattle.iloc_parser.proofs.TakingLemmas.{took}
 use Rattle.iloc_unicode_value.specs.Values.{without_true, with_subtag}
 
-attribute_is_word : (w : List ℕ) → IsWord Attribute w → IsWord Subtag w
-unfolding is_word
-attribute_is_word w h = grind (arith, nat_tests)
-
 -- a word of values is a subtag
-pub attribute_is_subtag : (w : List ℕ) → IsNormal Attribute w → IsNormal Subtag w
-attribute_is_subtag w h = (attribute_is_word w h.0, h.1)
-
 -- the words of the kind at the front, normal
 abbrev pub words_read : Kind → List (List ℕ) → List (List ℕ)
 words_read k ps = map (normal k) (passing (is_word k) ps)

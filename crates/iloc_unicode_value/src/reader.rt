@@ -41,7 +41,7 @@ impl Value {
 
 /// Reads the longest front of pieces that values are made of: 3 to 8 letters or digits. Up to four
 /// besides `true` take no memory.
-#[tactic(auto, using(crate::proofs::ReadingLemmas::attribute_is_subtag))]
+#[tactic(auto, using(iloc_grammar::proofs::WellRead::attribute_is_subtag))]
 pub fn read_value(alloc: Global, iter: &mut SubtagIterator<'_>) -> Result<Value, AllocError>
     ensures value { IfOk result
         (λ v. v ≡ normal_values (passing (is_word Attribute) (left iter.old))) }

@@ -1,5 +1,5 @@
 -- A set of words as an ascending list: where a search ends, and words more or less.
-use Rattle.std.proofs.Common.{◌≡◌, ℕ, zero, suc, ◌<◌, ◌≤◌, Bool, true, false, cond, not, ◌||◌, T, List, [], ◌∷◌, ◌++◌, length, map, filter, remove, drop, get_or, append-nil, ◌+◌, refl, sym, ap, ◌∙◌, subst, arith, Option, Some, None}
+use Rattle.std.proofs.Common.{◌≡◌, ℕ, zero, suc, ◌<◌, ◌≤◌, Bool, true, false, cond, not, ◌||◌, T, List, [], ◌∷◌, ◌++◌, length, filter, remove, drop, get_or, append-nil, ◌+◌, refl, sym, ap, ◌∙◌, subst, arith, Option, Some, None}
 use Rattle.std.specs.Prelude.{insert, is_some}
 use Rattle.std.specs.List.{AllByRecursion, HoldsAt, list_any, slice_index_or}
 use Rattle.std.specs.List.Sorted.{IsNonDecreasingBy, IsPartitionPoint}
@@ -12,17 +12,13 @@ use Rattle.std.proofs.lemmas.Bool.{and_parts}
 use Rattle.std.proofs.lemmas.List.{drop_all, drop_more}
 use Rattle.std.proofs.lemmas.List.Elements.{All-from_recursion}
 use Rattle.iloc_grammar.specs.Words.{word_cmp, is_same}
-use Rattle.iloc_grammar.specs.Meaning.{map_of, set_of}
+use Rattle.iloc_grammar.specs.Meaning.{set_of}
 use Rattle.iloc_grammar.specs.Values.{IsAscending}
-use Rattle.iloc_grammar.proofs.MapLaws.{word_cmp_total, same_words, to_T, less, find-map_of, map_of_same, map_of_sorted}
+use Rattle.iloc_grammar.proofs.MapLaws.{word_cmp_total, same_words, to_T, less, map_of_same, map_of_sorted, from_T}
 use Rattle.iloc_grammar.proofs.ValuesLaws.{unmarked, set_of_ascending}
 use Rattle.iloc_word_set.specs.Ascending.{ascends}
-
-abbrev marked : List (List ℕ) → List (List ℕ × Unit {0})
-marked ws = map (λ w. (w, tt {0})) ws
-
-abbrev keys : List (List ℕ × Unit {0}) → List (List ℕ)
-keys es = map (λ e. e.0) es
+use Rattle.iloc_grammar.proofs.SetLaws.{marked, keys, any-set_of}
+use Rattle.std.proofs.lemmas.List.Folds.{list_any-append}
 
 -- the order
 
@@ -160,10 +156,6 @@ kept_all x (w ∷ ws) h = kept_first x w ws _ (kept_all x ws (later_absent (is_s
 pub search_removed : (slice ws : List (List ℕ)) (x : List ℕ) (i : ℕ) → slice ≡ ws → IsAscending ws → i < length slice → HoldsAt (λ y. word_cmp y x ≡ Equal) slice i → remove ws i ≡ filter (λ w. not (is_same x w)) ws
 search_removed slice ws x i e s l h = rw (← e) (remove_is_filter x slice i l (rw e s) h)
 
-holds : (b : Bool) → T b → b ≡ true
-holds true h = refl
-holds false h = absurd h
-
 marked-filter : (p : List ℕ → Bool) (ws : List (List ℕ)) → where_key word_cmp p (marked ws) ≡ marked (filter p ws)
 marked-filter p [] = refl
 marked-filter p (w ∷ ws) = elim (p w) as (λ b. cond b ((w, tt {0}) ∷ where_key word_cmp p (marked ws)) (where_key word_cmp p (marked ws)) ≡ marked (cond b (w ∷ filter p ws) (filter p ws))) [
@@ -172,7 +164,7 @@ marked-filter p (w ∷ ws) = elim (p w) as (λ b. cond b ((w, tt {0}) ∷ where_
 ]
 
 pub ascending-filter : (p : List ℕ → Bool) (ws : List (List ℕ)) → IsAscending ws → IsAscending (filter p ws)
-ascending-filter p ws h = holds _ (subst (λ es. T (is_sorted word_cmp es)) (marked-filter p ws) (is_sorted-where_key word_cmp p (marked ws) (to_T _ h)))
+ascending-filter p ws h = from_T _ (subst (λ es. T (is_sorted word_cmp es)) (marked-filter p ws) (is_sorted-where_key word_cmp p (marked ws) (to_T _ h)))
 
 -- the words of two sets
 
@@ -190,13 +182,6 @@ pub same_set : (vs ws : List (List ℕ)) → ((q : List ℕ) → list_any (is_sa
 same_set vs ws h = ap keys (map_of_same word_cmp word_cmp_total same_words (marked vs) (marked ws) (λ q. same_mark _ _ (is_some-marked q vs ∙ h q ∙ sym (is_some-marked q ws))))
 
 -- a word is in the set where it is in the list
-pub any-set_of : (q : List ℕ) (ws : List (List ℕ)) → list_any (is_same q) (set_of ws) ≡ list_any (is_same q) ws
-any-set_of q ws = sym (is_some-find word_cmp q (map_of word_cmp (marked ws))) ∙ ap is_some (find-map_of word_cmp word_cmp_total q (marked ws)) ∙ is_some-marked q ws
-
-any-append : (q : List ℕ) (vs ws : List (List ℕ)) → list_any (is_same q) (vs ++ ws) ≡ (list_any (is_same q) vs || list_any (is_same q) ws)
-any-append q [] ws = refl
-any-append q (v ∷ vs) ws = elim (is_same q v) as (λ b. (b || list_any (is_same q) (vs ++ ws)) ≡ ((b || list_any (is_same q) vs) || list_any (is_same q) ws)) [ true ↦ refl | false ↦ any-append q vs ws ]
-
 moved : (a b c : Bool) → ((a || b) || c) ≡ (b || (a || c))
 moved true true c = refl
 moved true false c = refl
@@ -206,10 +191,10 @@ moved false false c = refl
 -- a word moves from the words that are left to the set
 pub union_step : (x : List ℕ) (ws rest : List (List ℕ)) → set_of (set_of (x ∷ ws) ++ rest) ≡ set_of (ws ++ x ∷ rest)
 union_step x ws rest = same_set _ _ (λ q.
-    any-append q (set_of (x ∷ ws)) rest
+    list_any-append (is_same q) (set_of (x ∷ ws)) rest
     ∙ ap (λ b. b || list_any (is_same q) rest) (any-set_of q (x ∷ ws))
     ∙ moved (is_same q x) (list_any (is_same q) ws) (list_any (is_same q) rest)
-    ∙ sym (any-append q ws (x ∷ rest)))
+    ∙ sym (list_any-append (is_same q) ws (x ∷ rest)))
 
 length-keys_put : (x : List ℕ) (ws : List (List ℕ)) → length (keys (put word_cmp x (tt {0}) (marked ws))) ≤ suc (length ws)
 length-keys_put x [] = omega arith
