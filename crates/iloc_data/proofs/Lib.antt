@@ -2,3 +2,4 @@ mod RegionLemmas
 mod EqualityLemmas
 mod ReadLemmas
 pub mod KeywordLemmas
+mod WholeLemmas

@@ -7,6 +7,8 @@ ghost use Rattle.std.specs.Prelude.{
   MatchResult,
   codes,
   option_map,
+  option_and_then,
+  if◌then◌else◌,
   Some,
   None,
 };
@@ -50,6 +52,22 @@ pub(crate) fn is_whole(id: &SubdivisionId) -> bool
     ensures { result ≡ parts.is_whole id.now }
 {
     id.suffix.as_str() == "zzzz"
+}
+
+// Whether the word ends as the whole of a region does, after as many bytes as a region has. Such a word names
+// nothing else.
+fn ends_as_whole(word: &Subtag) -> bool
+    ensures { result ≡ true → option_and_then
+        (λ s. if parts.is_whole s then None else Some word.now) (named_subdivision word.now)
+        ≡ None }
+{
+    if word.len() < 6 {
+        return false;
+    }
+    if word.len() > 7 {
+        return false;
+    }
+    word.as_str().as_bytes().ends_with(b"zzzz")
 }
 
 /// The subdivision that the word names.
@@ -132,6 +150,9 @@ impl DataLocale {
         ensures { result ≡ option_map subdivision_value (subdivision_keyword (value_of self.now)) }
     {
         let word = self.subdivision?;
+        if ends_as_whole(&word) {
+            return None;
+        }
         if is_whole(&named(&word)?) {
             return None;
         }

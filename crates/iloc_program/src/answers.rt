@@ -45,6 +45,7 @@ impl Answers for Identifiers {
 
     ghost mode = { Langid };
 
+    #[inline(always)]
     fn answer(&mut self, line: &[u8], replies: &mut Vec<u8>) -> Result<(), AllocError> {
         match self.identifier.read(self.alloc, line) {
             Ok(()) => write_text(&self.identifier, replies),
