@@ -1,60 +1,22 @@
-//! What identifiers, locales, data locales and subdivisions are asked.
-use crate::told::Answering;
+//! What identifiers, data locales and subdivisions are asked, and their steps.
+use crate::Rows;
+use crate::changes::{says_same, variants};
 use iloc_data::DataLocale;
-use iloc_extensions::{Extensions, is_well_formed};
 use iloc_keyword_types::SubdivisionId;
 use iloc_langid::{LanguageIdentifier, Lowercase};
 use iloc_locale::Locale;
-use iloc_subtags::{Language, Region, Script};
+use iloc_subtags::{Language, ParseError, Region, Script, Subtag};
 use iloc_writeable::{Pieces, Writeable};
-use row_page::{order, put, put_some, refused, say, truth};
+use row_page::steps::{Step, fills, replaces};
+use row_page::told::told;
+use row_page::{Answering, order, put, put_some, say, truth};
 use std::alloc::Global;
+use std::cmp::Ordering;
 use std::{fmt, str};
 
-// Says what the value shows where it is looked into.
-fn debug<W: fmt::Debug>(out: &mut String, value: &W) {
+/// Says what the value shows where it is looked into.
+pub fn debug<W: fmt::Debug>(out: &mut String, value: &W) {
     let _ = write!(out, "{value:?}");
-}
-
-// Says whether the text means the locale, or that memory was refused.
-fn means(alloc: Global, locale: &Locale, text: &[u8], out: &mut String) {
-    let Ok(text) = str::from_utf8(text) else {
-        return say(out, "no text");
-    };
-    match locale.normalizing_eq(alloc, text) {
-        Ok(is_meant) => truth(out, is_meant),
-        Err(_) => refused(out),
-    }
-}
-
-impl Answering for Locale {
-    fn tell(&self, alloc: Global, call: &str, text: &[u8], out: &mut String) {
-        match call {
-            "cmp" => order(out, self.strict_cmp(text)),
-            "means" => means(alloc, self, text, out),
-            "versus" => {
-                order(out, self.strict_cmp(text));
-                say(out, " ");
-                means(alloc, self, text, out)
-            }
-            "debug" => debug(out, self),
-            "id" => put(out, self.as_langid()),
-            "extensions" => put(out, &self.extensions),
-            "data" => put(out, &DataLocale::from(self)),
-            "well" => truth(out, self.is_well_formed()),
-            _ => say(out, "no call"),
-        }
-    }
-}
-
-impl Answering for Extensions {
-    fn tell(&self, _alloc: Global, call: &str, _text: &[u8], out: &mut String) {
-        match call {
-            "empty" => truth(out, self.is_empty()),
-            "well" => truth(out, is_well_formed(self)),
-            _ => say(out, "no call"),
-        }
-    }
 }
 
 // Says language, script and region, with bars between them.
@@ -67,7 +29,15 @@ fn front(out: &mut String, parts: &(Language, Option<Script>, Option<Region>)) {
     put_some(out, region);
 }
 
-impl Answering for LanguageIdentifier {
+impl Answering<Rows> for LanguageIdentifier {
+    fn read(alloc: Global, text: &[u8]) -> Result<Self, ParseError> {
+        LanguageIdentifier::try_from_utf8(alloc, text)
+    }
+
+    fn compare(&self, other: &Self) -> Ordering {
+        self.total_cmp(other)
+    }
+
     fn tell(&self, _alloc: Global, call: &str, text: &[u8], out: &mut String) {
         match call {
             "cmp" => order(out, self.strict_cmp(text)),
@@ -88,6 +58,15 @@ impl Answering for LanguageIdentifier {
             _ => say(out, "no call"),
         }
     }
+
+    fn step(&mut self, step: &Step<'_>, _out: &mut String) -> bool {
+        match step.call {
+            b"language" => replaces(&mut self.language, Language::try_from_utf8(step.first)),
+            b"script" => fills(&mut self.script, Script::try_from_utf8(step.first)),
+            b"region" => fills(&mut self.region, Region::try_from_utf8(step.first)),
+            _ => replaces(&mut self.variants, variants(step.alloc, step.first)),
+        }
+    }
 }
 
 // Says the text of the value, which ends here.
@@ -95,7 +74,23 @@ fn put_last<W: Writeable + Drop>(out: &mut String, value: W) {
     put(out, &value)
 }
 
-impl Answering for DataLocale {
+// Says the locale of the data locale, and whether it is well-formed.
+fn locale_of(alloc: Global, data: &DataLocale, out: &mut String) {
+    told::<Rows, Locale>(alloc, Ok(data.into_locale(alloc)), "", b"", out);
+    say(out, " ");
+    told::<Rows, Locale>(alloc, Ok(data.into_locale(alloc)), "well", b"", out);
+    say(out, " ")
+}
+
+impl Answering<Rows> for DataLocale {
+    fn read(_alloc: Global, text: &[u8]) -> Result<Self, ParseError> {
+        DataLocale::try_from_utf8(text)
+    }
+
+    fn compare(&self, other: &Self) -> Ordering {
+        self.total_cmp(other)
+    }
+
     fn tell(&self, alloc: Global, call: &str, text: &[u8], out: &mut String) {
         match call {
             "cmp" => order(out, self.strict_cmp(text)),
@@ -110,9 +105,36 @@ impl Answering for DataLocale {
             _ => say(out, "no call"),
         }
     }
+
+    fn step(&mut self, step: &Step<'_>, out: &mut String) -> bool {
+        match step.call {
+            b"region" => fills(&mut self.region, Region::try_from_utf8(step.first)),
+            b"subdivision" => fills(&mut self.subdivision, Subtag::try_from_utf8(step.first)),
+            b"nosubdivision" => {
+                self.subdivision = None;
+                true
+            }
+            b"locale" => {
+                locale_of(step.alloc, self, out);
+                true
+            }
+            _ => {
+                says_same(self, DataLocale::try_from_utf8(step.first), out);
+                true
+            }
+        }
+    }
 }
 
-impl Answering for SubdivisionId {
+impl Answering<Rows> for SubdivisionId {
+    fn read(_alloc: Global, text: &[u8]) -> Result<Self, ParseError> {
+        SubdivisionId::try_from_utf8(text)
+    }
+
+    fn compare(&self, other: &Self) -> Ordering {
+        self.cmp(other)
+    }
+
     fn tell(&self, _alloc: Global, call: &str, _text: &[u8], out: &mut String) {
         match call {
             "parts" => {

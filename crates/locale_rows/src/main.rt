@@ -1,134 +1,69 @@
-//! Rows of the calls of identifiers, extensions, locales and data locales: `CALL TAB argument TAB argument` in, a line
-//! out. The first word of a call is the type that the first argument is read as, the second what is asked of it:
-//! `locale-cmp`. `two-TYPE` reads both arguments and compares them, `change-TYPE` takes the steps of the second argument
-//! on the first, `made-TYPE` makes a value of parts and asks the second of it, and `text-CALL` is a call of a text.
+//! Rows of the calls of identifiers, locales, data locales, subdivisions and extensions: `CALL TAB argument TAB argument`
+//! in, a line out. The first word of a call is the type that the first argument is read as, the second what is asked of
+//! it: `locale-cmp`. `two-TYPE` reads both arguments and compares them, `change-TYPE` takes the steps of the second
+//! argument on the first, `made-TYPE` makes a value of parts and asks the second of it, and `text-CALL` is a call of a
+//! text. Calls of parts of extensions are rows of `part_rows`.
 //!
-//! In an argument `\xFF` stands for the byte, and braces for what repeats (`argument`); all else is as it looks. An
-//! answer is the printed text, or what each call says. A refusal is `! ` and its words. Calls that change a value, and
-//! those that may want memory, say what it was, the answer, and what it is, joined by ` | `; of several steps the one
-//! that is refused ends the row. A row with a third argument names the answer that is wanted: it says only how long
+//! An answer is the printed text, or what each call says. A refusal is `! ` and its words. Calls that change a value,
+//! and those that may want memory, say what it was, the answer, and what it is, joined by ` | `; of several steps the
+//! one that is refused ends the row. A row with a third argument names the answer that is wanted: it says only how long
 //! the answer is, or the answer itself where it is another.
 //!
 //! All that the program needs for itself is asked for before the first row, so that every later request for memory
 //! is one of the libraries'. `stdin` and `stdout` are the rows with their answers, from the vectors of
 //! vectors/README.md and the tables of the Rust crate's tests; `grow.in` has rows that may want memory, `still.in`
-//! those that take none. Only generic functions own what was read, so that letting it go is proved but once.
+//! those that take none.
 #![tactic(auto)]
 
-mod argument;
 mod built;
-mod comparing;
+mod changes;
 mod identifiers;
-mod lists;
-mod locale_steps;
-mod maps;
-mod readers;
-mod steps;
+mod locales;
 mod texts;
-mod told;
-mod value_steps;
 
-use row_page::{number, say, unescape};
-use std::alloc::{AllocError, Global};
+use iloc_data::DataLocale;
+use iloc_extensions::Extensions;
+use iloc_keyword_types::SubdivisionId;
+use iloc_langid::LanguageIdentifier;
+use iloc_locale::Locale;
+use row_page::told::{answer, told};
+use row_page::{Ask, Asking, Call, Judged, page, say};
 use std::io;
 
-/// Room for an argument.
-const ARGUMENT_ROOM: usize = 1_048_576;
-
-/// Room for all answers, and for one.
-const PAGE_ROOM: usize = 8_388_608;
-
-/// Room for the arguments of a row, and for an answer that is not said.
+/// The program: what it asks of a type stands at the type's `impl` of `Answering`.
 #[derive(Drop)]
-struct Room {
-    text: String,
-    first: Vec<u8>,
-    second: Vec<u8>,
-    wanted: Vec<u8>,
-    answer: String,
-}
+pub struct Rows;
 
-impl Room {
-    fn new(alloc: Global) -> Result<Self, AllocError> {
-        Ok(Room {
-            text: String::with_capacity(alloc, ARGUMENT_ROOM)?,
-            first: Vec::with_capacity(alloc, ARGUMENT_ROOM)?,
-            second: Vec::with_capacity(alloc, ARGUMENT_ROOM)?,
-            wanted: Vec::with_capacity(alloc, ARGUMENT_ROOM)?,
-            answer: String::with_capacity(alloc, ARGUMENT_ROOM)?,
-        })
+impl Asking for Rows {
+    fn ask(&self, what: &str, ask: Ask<'_>, call: &Call<'_>, out: &mut String) {
+        match what {
+            "langid" => answer::<Rows, LanguageIdentifier>(ask, call, out),
+            "head" => {
+                let read = LanguageIdentifier::try_from_locale_bytes(call.alloc, call.first);
+                told::<Rows, LanguageIdentifier>(call.alloc, read, "", call.second, out)
+            }
+            "locale" => answer::<Rows, Locale>(ask, call, out),
+            "ordered" => locales::keys(call, out),
+            "data" => answer::<Rows, DataLocale>(ask, call, out),
+            "subdivision" => answer::<Rows, SubdivisionId>(ask, call, out),
+            "extensions" => answer::<Rows, Extensions>(ask, call, out),
+            _ => say(out, "no call"),
+        }
     }
-}
 
-// The answer to a call.
-fn call(alloc: Global, word: &str, a: &[u8], b: &[u8], out: &mut String) {
-    match word.split_once('-') {
-        Some(("two", what)) => comparing::answer(alloc, what, a, b, out),
-        Some(("change", what)) => steps::answer(alloc, what, a, b, out),
-        Some(("made", what)) => built::answer(alloc, what, a, b, out),
-        Some(("text", what)) => texts::answer(alloc, what, a, out),
-        Some((what, asked)) => readers::answer(alloc, what, a, asked, b, out),
-        None => readers::answer(alloc, word, a, "", b, out),
+    fn make(&self, what: &str, call: &Call<'_>, out: &mut String) {
+        built::answer(what, call, out)
     }
-}
 
-// Says how long the answer is, if it is the one that is wanted.
-fn judge(answer: &str, wanted: &[u8], out: &mut String) {
-    if answer.as_bytes() == wanted {
-        say(out, "as wanted, ");
-        number(out, answer.len());
-        say(out, " bytes");
-    } else {
-        say(out, answer);
+    fn text(&self, what: &str, call: &Call<'_>, out: &mut String) {
+        texts::answer(what, call, out)
     }
-}
-
-// The answer to a row.
-fn row(alloc: Global, line: &str, room: &mut Room, out: &mut String) {
-    let (word, rest) = line.split_once('\t').unwrap_or((line, ""));
-    let (first, rest) = rest.split_once('\t').unwrap_or((rest, ""));
-    let (second, wanted) = rest.split_once('\t').unwrap_or((rest, ""));
-    argument::expand(first, &mut room.text);
-    unescape(room.text.as_str(), &mut room.first);
-    argument::expand(second, &mut room.text);
-    unescape(room.text.as_str(), &mut room.second);
-    if wanted.is_empty() {
-        call(
-            alloc,
-            word,
-            room.first.as_slice(),
-            room.second.as_slice(),
-            out,
-        );
-    } else {
-        argument::expand(wanted, &mut room.text);
-        unescape(room.text.as_str(), &mut room.wanted);
-        room.answer.clear();
-        call(
-            alloc,
-            word,
-            room.first.as_slice(),
-            room.second.as_slice(),
-            &mut room.answer,
-        );
-        judge(room.answer.as_str(), room.wanted.as_slice(), out);
-    }
-    say(out, "\n");
-}
-
-// The answers to all rows.
-fn rows(alloc: Global, input: &str) -> Result<String, AllocError> {
-    let mut room = Room::new(alloc)?;
-    let mut out = String::with_capacity(alloc, PAGE_ROOM)?;
-    for line in input.lines() {
-        row(alloc, line, &mut room, &mut out);
-    }
-    Ok(out)
 }
 
 fn main(rt: HostRuntime) -> io::Result<()> {
     let alloc = rt.alloc();
     let input = io::read_to_string(alloc, rt.reader())?;
-    let page = rows(alloc, input.as_str())?;
+    let mut rows = Judged::new(alloc, Rows)?;
+    let page = page(alloc, input.as_str(), &mut rows)?;
     print!(rt; "{page}")
 }

@@ -1,12 +1,23 @@
-//! What programs of rows say of the calls that they make: `row_page`. A row is `CALL TAB argument TAB argument` in, and
-//! one line out. No function here fails: the page has its room before the first row, and what finds none is left out,
-//! so that the row is wrong. It stands on the words' refusals and on printing.
+//! What programs of rows share: `row_page`. A row is `CALL TAB argument TAB argument` in, and one line out.
+//!
+//! Here stand how rows are read and their page is made (`rows`, `argument`), what is asked of any type that is read
+//! (`told`, `steps`), and what is said. In an argument `\xFF` stands for the byte, and braces for what repeats; all
+//! else is as it looks. Nothing that says something fails: the page has its room before the first row, and what finds
+//! none is left out, so that the row is wrong. Only generic functions own what was read, so that letting it go is
+//! proved but once. It stands on the words' refusals and on printing.
 #![tactic(auto)]
+
+pub mod argument;
+pub mod rows;
+pub mod steps;
+pub mod told;
 
 use iloc_subtags::ParseError;
 use iloc_writeable::Writeable;
+pub use rows::{Asking, Call, Judged, Program, page};
 use std::cmp::Ordering;
 use std::hash::{DefaultHasher, Hash, Hasher};
+pub use told::{Answering, Ask};
 
 /// Says the text.
 pub fn say(out: &mut String, text: &str) {
@@ -39,6 +50,14 @@ pub fn put<W: Writeable>(out: &mut String, value: &W) {
 pub fn put_some<W: Writeable>(out: &mut String, value: &Option<W>) {
     if let Some(value) = value {
         put(out, value);
+    }
+}
+
+/// Says the text of the value that is lent, or `none`.
+pub fn put_or_none<W: Writeable>(out: &mut String, value: Option<&W>) {
+    match value {
+        Some(value) => put(out, value),
+        None => say(out, "none"),
     }
 }
 
@@ -91,17 +110,6 @@ pub fn ordered<T: Ord + Hash>(out: &mut String, one: &T, other: &T) {
     }
     say(out, " ");
     equal(out, one, other)
-}
-
-/// Says whether a step was done; the value that it changed is said after it.
-pub fn outcome(out: &mut String, is_done: bool) {
-    say(out, " | ");
-    if is_done {
-        say(out, "ok");
-    } else {
-        refused(out);
-    }
-    say(out, " | ");
 }
 
 const DIGITS: [char; 16] = [

@@ -3,7 +3,8 @@
 //! `{KIND.FIRST.LAST.TEXT}` stands for items from FIRST to LAST, upwards or downwards, each a hyphen and a word of the
 //! kind and then TEXT: `n` five digits, `u` the unicode keys `0a`, `0b` .. `zz`, `t` the transform keys `a0` .. `z9`,
 //! `r` neither hyphen nor word. So `en-x{r.1.3000.-a}` is `en-x` and 3,000 times `-a`.
-use row_page::say;
+use crate::say;
+use std::str;
 
 const DIGITS: &[char] = &['0', '1', '2', '3', '4', '5', '6', '7', '8', '9'];
 
@@ -56,9 +57,12 @@ fn put_word(room: &mut String, kind: &str, number: usize) {
     }
 }
 
-/// The number of the digits, or 0.
-pub fn number_of(digits: &str) -> usize {
-    digits.parse::<usize>().unwrap_or(0)
+/// The number that the digits spell, or 0.
+pub fn number_of(digits: &[u8]) -> usize {
+    str::from_utf8(digits)
+        .unwrap_or("")
+        .parse::<usize>()
+        .unwrap_or(0)
 }
 
 // Puts in all items.
@@ -82,7 +86,13 @@ fn put_short(room: &mut String, form: &str) {
     let first = parts.next().unwrap_or("");
     let last = parts.next().unwrap_or("");
     let text = parts.next().unwrap_or("");
-    put_items(room, kind, number_of(first), number_of(last), text)
+    put_items(
+        room,
+        kind,
+        number_of(first.as_bytes()),
+        number_of(last.as_bytes()),
+        text,
+    )
 }
 
 /// Puts into the room what the argument stands for, without its short forms.

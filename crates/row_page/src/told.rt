@@ -1,0 +1,197 @@
+//! What is asked of a type: how its values are read, what they tell, how two compare, and how steps change one. What
+//! each type answers by the same calls stands here once, for any type.
+use crate::rows::Call;
+use crate::steps::{Step, stepped};
+use crate::{hash_of, number, order, put, refuse, refused, say, truth};
+use iloc_subtags::ParseError;
+use iloc_writeable::{Writeable, to_string_or_borrow};
+use std::alloc::{AllocError, Global};
+use std::borrow::CowStr;
+use std::cmp::Ordering;
+use std::hash::Hash;
+use std::{fmt, str};
+
+/// A type of which the rows of the program `P` tell.
+pub trait Answering<P>: Clone + PartialEq + Hash + Writeable + fmt::Display + Drop + Sized {
+    /// Reads the text.
+    fn read(alloc: Global, text: &[u8]) -> Result<Self, ParseError>;
+
+    /// The order of the two.
+    fn compare(&self, other: &Self) -> Ordering;
+
+    /// Says what the type's own call answers, for the text.
+    fn tell(&self, alloc: Global, call: &str, text: &[u8], out: &mut String);
+
+    /// Takes the step and says its answer, with a blank after it; false where memory was refused.
+    fn step(&mut self, step: &Step<'_>, out: &mut String) -> bool {
+        say(out, "no step ");
+        true
+    }
+}
+
+/// What a row asks of a type.
+#[derive(Clone, Copy)]
+pub enum Ask<'a> {
+    /// How the two arguments compare.
+    Two,
+    /// The steps of the second argument on the first.
+    Steps,
+    /// What this call answers of the first argument, for the second.
+    One(&'a str),
+}
+
+/// Says the text, and whether it is borrowed.
+pub fn lent(out: &mut String, text: CowStr<'_, Global>) {
+    match text {
+        CowStr::Borrowed(text) => {
+            say(out, "B ");
+            say(out, text)
+        }
+        CowStr::Owned(text) => {
+            say(out, "O ");
+            say(out, text.as_str())
+        }
+    }
+}
+
+// Says a printed text.
+fn whole(out: &mut String, text: Result<CowStr<'_, Global>, AllocError>) {
+    match text {
+        Ok(text) => lent(out, text),
+        Err(_) => refused(out),
+    }
+}
+
+// Says the hint of length, and the text that is lent.
+fn hint<W: Writeable>(out: &mut String, value: &W) {
+    let hint = value.writeable_length_hint();
+    number(out, hint.0);
+    say(out, " ");
+    if let Some(most) = hint.1 {
+        number(out, most);
+    }
+    say(out, " ");
+    say(out, value.writeable_borrow().unwrap_or("-"))
+}
+
+// Says what the value shows.
+fn shown<W: fmt::Display>(out: &mut String, value: &W) {
+    let _ = write!(out, "{value}");
+}
+
+// Says the copy, and whether it is the same.
+fn copied<W: Clone + PartialEq + Writeable + Drop>(out: &mut String, value: &W) {
+    match value.clone() {
+        Ok(copy) => {
+            put(out, &copy);
+            say(out, " ");
+            truth(out, copy == *value)
+        }
+        Err(_) => refused(out),
+    }
+}
+
+// Says what is told of the value, for the text.
+fn asked<P, W: Answering<P>>(alloc: Global, value: &W, call: &str, text: &[u8], out: &mut String) {
+    match call {
+        "hint" => hint(out, value),
+        "shown" => shown(out, value),
+        "string" => whole(out, value.write_to_string(alloc)),
+        "borrow" => whole(out, to_string_or_borrow(alloc, value, text)),
+        "copy" => copied(out, value),
+        _ => value.tell(alloc, call, text, out),
+    }
+}
+
+// Whether the call may want memory.
+fn may_want(call: &str) -> bool {
+    matches!(call, "string" | "borrow" | "copy" | "means")
+}
+
+// Says the text of the value, or what is told of it. Where that may want memory, its text stands on both sides.
+fn told_of<P, W: Answering<P>>(
+    alloc: Global,
+    value: &W,
+    call: &str,
+    text: &[u8],
+    out: &mut String,
+) {
+    if call.is_empty() {
+        put(out, value);
+    } else if may_want(call) {
+        put(out, value);
+        say(out, " | ");
+        asked::<P, W>(alloc, value, call, text, out);
+        say(out, " | ");
+        put(out, value);
+    } else {
+        asked::<P, W>(alloc, value, call, text, out);
+    }
+}
+
+/// Tells of what was read, or why it was refused.
+pub fn told<P, W: Answering<P>>(
+    alloc: Global,
+    read: Result<W, ParseError>,
+    call: &str,
+    text: &[u8],
+    out: &mut String,
+) {
+    match read {
+        Ok(value) => told_of::<P, W>(alloc, &value, call, text, out),
+        Err(error) => refuse(out, error),
+    }
+}
+
+/// Tells of what was made of the first argument what the second asks.
+pub fn made<P, W: Answering<P>>(call: &Call<'_>, made: Result<W, ParseError>, out: &mut String) {
+    let asked = str::from_utf8(call.second).unwrap_or("");
+    told::<P, W>(call.alloc, made, asked, b"", out)
+}
+
+// Says how the two compare: their order, whether they are equal, and where they are whether their hashes are.
+fn compared<P, W: Answering<P>>(one: &W, other: &W, out: &mut String) {
+    let are_equal = *one == *other;
+    order(out, one.compare(other));
+    say(out, " ");
+    truth(out, are_equal);
+    if are_equal {
+        say(out, " ");
+        truth(out, hash_of(one) == hash_of(other))
+    }
+}
+
+/// Says how the value compares with what was read.
+pub fn beside<P, W: Answering<P>>(one: &W, other: Result<W, ParseError>, out: &mut String) {
+    match other {
+        Ok(other) => compared::<P, W>(one, &other, out),
+        Err(error) => refuse(out, error),
+    }
+}
+
+// Says how the two that were read compare.
+fn both<P, W: Answering<P>>(
+    one: Result<W, ParseError>,
+    other: Result<W, ParseError>,
+    out: &mut String,
+) {
+    match one {
+        Ok(one) => beside::<P, W>(&one, other, out),
+        Err(error) => refuse(out, error),
+    }
+}
+
+/// Says what is asked of the type.
+pub fn answer<P, W: Answering<P>>(asked: Ask<'_>, call: &Call<'_>, out: &mut String) {
+    let alloc = call.alloc;
+    match asked {
+        Ask::Two => {
+            let one = W::read(alloc, call.first);
+            both::<P, W>(one, W::read(alloc, call.second), out)
+        }
+        Ask::Steps => stepped::<P, W>(alloc, W::read(alloc, call.first), call.second, out),
+        Ask::One(name) => {
+            told::<P, W>(alloc, W::read(alloc, call.first), name, call.second, out)
+        }
+    }
+}
