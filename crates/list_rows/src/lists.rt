@@ -8,6 +8,25 @@ use std::alloc::{AllocError, Global};
 use std::fmt;
 use std::hash::Hash;
 
+/// What a list lends.
+#[derive(Clone, Copy)]
+pub struct Lent<'a> {
+    /// How many items there are.
+    pub count: usize,
+    /// Whether there is none.
+    pub is_empty: bool,
+    /// The items as a slice.
+    pub slice: &'a [u16],
+    /// The items in turn.
+    pub iter: &'a [u16],
+    /// The only item.
+    pub single: Option<&'a u16>,
+    /// The first item.
+    pub first: Option<&'a u16>,
+    /// The item of the place that was asked for.
+    pub item: Option<&'a u16>,
+}
+
 /// A list, however it is kept: the calls of its own. What rows say of them stands here once, for any list.
 pub trait List: Default + Ord + Hash + fmt::Debug + Drop + Sized {
     /// A list that the call makes of the letters, or a copy.
@@ -25,29 +44,76 @@ pub trait List: Default + Ord + Hash + fmt::Debug + Drop + Sized {
     /// Takes a step that asks for no memory, and says its answer.
     fn shrink(&mut self, step: &Step<'_>, out: &mut String);
 
-    /// How many items there are, and whether there is none.
-    fn size(&self) -> (usize, bool);
-
-    /// The items, as a slice or in turn.
-    fn items(&self, call: &str) -> &[u16];
-
-    /// One item: the only one, the first, or that of a place.
-    fn lent(&self, call: &str, place: usize) -> Option<&u16>;
+    /// What the list lends, with the item of the place.
+    fn lend(&self, place: usize) -> Lent<'_>;
 
     /// Says what the list gives by value: the only item, or all in turn.
     fn give(self, call: &str, out: &mut String);
 }
 
+// The two kinds of lists have calls of the same names, and no trait in common.
+
+macro_rules! made_list {
+    ($list:ident, $old:expr, $alloc:expr, $step:expr) => {
+        match $step.call {
+            b"vec" => Ok($list::from_vec($step.letters.to_vec($alloc)?)),
+            b"iter" => $list::from_iter($alloc, $step.letters.iter().copied()),
+            b"single" => Ok($list::new_single($step.key)),
+            b"double" => $list::new_double($alloc, $step.key, $step.value),
+            b"new" => Ok($list::new()),
+            _ => $old.clone(),
+        }
+    };
+}
+
+macro_rules! shrunk_list {
+    ($list:expr, $item:expr, $step:expr, $out:expr) => {{
+        let place = $step.place;
+        let is_there = place < $list.len();
+        match $step.call {
+            b"remove" if is_there => say_letter(Some($list.remove(place)), $out),
+            b"write" if is_there => $item = $step.value,
+            b"reverse" => $list.as_mut_slice().reverse(),
+            b"clear" => $list.clear(),
+            b"retain" => $list.retain(|item: &u16| {
+                say_letter(Some(*item), $out);
+                *item > $step.key
+            }),
+            _ => say($out, "no step"),
+        }
+    }};
+}
+
+macro_rules! lent_list {
+    ($list:expr, $place:expr) => {
+        Lent {
+            count: $list.len(),
+            is_empty: $list.is_empty(),
+            slice: $list.as_slice(),
+            iter: $list.iter().as_slice(),
+            single: $list.single(),
+            first: $list.first(),
+            item: $list.get($place),
+        }
+    };
+}
+
+macro_rules! given_list {
+    ($list:expr, $call:expr, $out:expr) => {
+        match $call {
+            "single" => say_letter($list.into_single(), $out),
+            _ => {
+                for item in $list {
+                    say_letter(Some(item), $out);
+                }
+            }
+        }
+    };
+}
+
 impl List for ShortWords<u16> {
     fn made(&self, alloc: Global, step: &Step<'_>) -> Result<Self, AllocError> {
-        match step.call {
-            b"vec" => Ok(ShortWords::from_vec(step.letters.to_vec(alloc)?)),
-            b"iter" => ShortWords::from_iter(alloc, step.letters.iter().copied()),
-            b"single" => Ok(ShortWords::new_single(step.key)),
-            b"double" => ShortWords::new_double(alloc, step.key, step.value),
-            b"new" => Ok(ShortWords::new()),
-            _ => self.clone(),
-        }
+        made_list!(ShortWords, self, alloc, step)
     }
 
     fn grow(
@@ -65,62 +131,21 @@ impl List for ShortWords<u16> {
     }
 
     fn shrink(&mut self, step: &Step<'_>, out: &mut String) {
-        let place = step.place;
-        let is_there = place < self.len();
-        match step.call {
-            b"remove" if is_there => say_letter(Some(self.remove(place)), out),
-            b"write" if is_there => self.as_mut_slice()[place] = step.value,
-            b"reverse" => self.as_mut_slice().reverse(),
-            b"clear" => self.clear(),
-            b"retain" => self.retain(|item: &u16| {
-                say_letter(Some(*item), out);
-                *item > step.key
-            }),
-            _ => say(out, "no step"),
-        }
+        shrunk_list!(self, self.as_mut_slice()[step.place], step, out)
     }
 
-    fn size(&self) -> (usize, bool) {
-        (self.len(), self.is_empty())
-    }
-
-    fn items(&self, call: &str) -> &[u16] {
-        match call {
-            "iter" => self.iter().as_slice(),
-            _ => self.as_slice(),
-        }
-    }
-
-    fn lent(&self, call: &str, place: usize) -> Option<&u16> {
-        match call {
-            "single" => self.single(),
-            "first" => self.first(),
-            _ => self.get(place),
-        }
+    fn lend(&self, place: usize) -> Lent<'_> {
+        lent_list!(self, place)
     }
 
     fn give(self, call: &str, out: &mut String) {
-        match call {
-            "single" => say_letter(self.into_single(), out),
-            _ => {
-                for item in self {
-                    say_letter(Some(item), out);
-                }
-            }
-        }
+        given_list!(self, call, out)
     }
 }
 
 impl List for ShortBoxSlice<u16> {
     fn made(&self, alloc: Global, step: &Step<'_>) -> Result<Self, AllocError> {
-        match step.call {
-            b"vec" => Ok(ShortBoxSlice::from_vec(step.letters.to_vec(alloc)?)),
-            b"iter" => ShortBoxSlice::from_iter(alloc, step.letters.iter().copied()),
-            b"single" => Ok(ShortBoxSlice::new_single(step.key)),
-            b"double" => ShortBoxSlice::new_double(alloc, step.key, step.value),
-            b"new" => Ok(ShortBoxSlice::new()),
-            _ => self.clone(),
-        }
+        made_list!(ShortBoxSlice, self, alloc, step)
     }
 
     fn grow(
@@ -138,49 +163,15 @@ impl List for ShortBoxSlice<u16> {
     }
 
     fn shrink(&mut self, step: &Step<'_>, out: &mut String) {
-        let place = step.place;
-        let is_there = place < self.len();
-        match step.call {
-            b"remove" if is_there => say_letter(Some(self.remove(place)), out),
-            b"write" if is_there => *self.item_mut(place) = step.value,
-            b"reverse" => self.as_mut_slice().reverse(),
-            b"clear" => self.clear(),
-            b"retain" => self.retain(|item: &u16| {
-                say_letter(Some(*item), out);
-                *item > step.key
-            }),
-            _ => say(out, "no step"),
-        }
+        shrunk_list!(self, *self.item_mut(step.place), step, out)
     }
 
-    fn size(&self) -> (usize, bool) {
-        (self.len(), self.is_empty())
-    }
-
-    fn items(&self, call: &str) -> &[u16] {
-        match call {
-            "iter" => self.iter().as_slice(),
-            _ => self.as_slice(),
-        }
-    }
-
-    fn lent(&self, call: &str, place: usize) -> Option<&u16> {
-        match call {
-            "single" => self.single(),
-            "first" => self.first(),
-            _ => self.get(place),
-        }
+    fn lend(&self, place: usize) -> Lent<'_> {
+        lent_list!(self, place)
     }
 
     fn give(self, call: &str, out: &mut String) {
-        match call {
-            "single" => say_letter(self.into_single(), out),
-            _ => {
-                for item in self {
-                    say_letter(Some(item), out);
-                }
-            }
-        }
+        given_list!(self, call, out)
     }
 }
 
@@ -203,19 +194,20 @@ pub fn pushed<L: List>(alloc: Global, items: &[u16]) -> Result<L, AllocError> {
 
 /// Says what the list lends: whether it is empty, its only letter, the first, each of seven places, and all in turn.
 fn tell<L: List>(list: &L, out: &mut String) {
-    if list.size().1 {
+    let lent = list.lend(0);
+    if lent.is_empty {
         say(out, "empty ");
     }
     say(out, "only ");
-    say_letter(list.lent("single", 0).copied(), out);
+    say_letter(lent.single.copied(), out);
     say(out, " first ");
-    say_letter(list.lent("first", 0).copied(), out);
+    say_letter(lent.first.copied(), out);
     for place in 0..7 {
         say(out, " ");
-        say_letter(list.lent("get", place).copied(), out);
+        say_letter(list.lend(place).item.copied(), out);
     }
     say(out, " lent ");
-    say_letters(list.items("iter"), out);
+    say_letters(lent.iter, out);
     let _ = write!(out, " {list:?}");
 }
 
@@ -246,7 +238,7 @@ fn grow<L: List>(alloc: Global, list: &mut L, step: &Step<'_>, out: &mut String)
     match step.call {
         b"push" => is_done(list.grow(alloc, b"push", 0, &[step.key]), out),
         b"extend" => is_done(list.grow(alloc, b"extend", 0, step.letters), out),
-        _ if place <= list.size().0 => {
+        _ if place <= list.lend(0).count => {
             is_done(list.grow(alloc, b"insert", place, &[step.value]), out)
         }
         _ => answered("no step", out),
@@ -259,17 +251,18 @@ pub struct Listed<L>(pub L);
 
 impl<L: List> Stepping for Listed<L> {
     fn state(&self, out: &mut String) {
-        number(out, self.0.size().0);
+        let lent = self.0.lend(0);
+        number(out, lent.count);
         say(out, ":");
-        say_letters(self.0.items("slice"), out);
+        say_letters(lent.slice, out);
     }
 
     fn ends(&self, out: &mut String) {
-        let count = self.0.size().0;
+        let count = self.0.lend(0).count;
         number(out, count);
         for place in [0, count.saturating_sub(1)] {
             say(out, " ");
-            if let Some(item) = self.0.lent("get", place) {
+            if let Some(item) = self.0.lend(place).item {
                 number(out, usize::from(*item));
             }
         }
@@ -287,7 +280,7 @@ impl<L: List> Stepping for Listed<L> {
                 let copy = list.made(alloc, step);
                 give(copy, list.made(alloc, step), out)
             }
-            b"fresh" => compared(list, pushed(alloc, list.items("slice")), out),
+            b"fresh" => compared(list, pushed(alloc, list.lend(0).slice), out),
             b"tell" => {
                 tell(list, out);
                 true

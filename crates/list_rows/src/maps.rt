@@ -120,17 +120,6 @@ fn compared<S: Store<u16, u16>>(
     }
 }
 
-/// Writes a value over that of the key, where there is one, and says whether there is.
-fn write<S: Store<u16, u16>>(map: &mut LiteMap<u16, u16, S>, step: &Step<'_>, out: &mut String) {
-    match map.get_mut(&step.key) {
-        Some(place) => {
-            *place = step.value;
-            say(out, "written");
-        }
-        None => say(out, "none"),
-    }
-}
-
 /// The answer to a step that takes no memory.
 fn shrink<S: Store<u16, u16>>(
     map: &mut LiteMap<u16, u16, S>,
@@ -140,7 +129,13 @@ fn shrink<S: Store<u16, u16>>(
     match step.call {
         b"get" => say_letter(map.get(&step.key).copied(), out),
         b"has" => truth(out, map.contains_key(&step.key)),
-        b"write" => write(map, step, out),
+        b"write" => match map.get_mut(&step.key) {
+            Some(place) => {
+                *place = step.value;
+                say(out, "written");
+            }
+            None => say(out, "none"),
+        },
         b"remove" => say_letter(map.remove(&step.key), out),
         b"clear" => map.clear(),
         b"tell" => tell(map, out),

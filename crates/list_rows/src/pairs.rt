@@ -5,8 +5,8 @@ use crate::sets::set_of;
 use crate::steps::spell;
 use iloc_litemap::{LiteMap, Store};
 use iloc_shortvec::{ShortBoxSlice, ShortWords};
-use row_page::{equal, ordered, refused};
-use std::alloc::{AllocError, Global};
+use row_page::{Call, equal, ordered, refused};
+use std::alloc::AllocError;
 use std::hash::Hash;
 
 /// Says how two values that were made compare.
@@ -22,31 +22,19 @@ fn made<T: Ord + Hash + Drop>(
 }
 
 /// Says how two lists compare.
-fn lists<L: List>(alloc: Global, room: &mut Vec<u16>, a: &[u8], b: &[u8], out: &mut String) {
-    spell(a, room);
-    let one: Result<L, AllocError> = pushed(alloc, room.as_slice());
-    spell(b, room);
-    made(one, pushed(alloc, room.as_slice()), out)
-}
-
-/// Says how two sets compare.
-fn sets(alloc: Global, a: &[u8], b: &[u8], out: &mut String) {
-    let one = set_of(alloc, a);
-    made(one, set_of(alloc, b), out)
+fn lists<L: List>(call: &Call<'_>, room: &mut Vec<u16>, out: &mut String) {
+    spell(call.first, room);
+    let one: Result<L, AllocError> = pushed(call.alloc, room.as_slice());
+    spell(call.second, room);
+    made(one, pushed(call.alloc, room.as_slice()), out)
 }
 
 /// Says whether two maps, which have no order, are equal.
-fn maps<S: Store<u16, u16>>(
-    alloc: Global,
-    room: &mut Vec<u16>,
-    a: &[u8],
-    b: &[u8],
-    out: &mut String,
-) {
-    spell(a, room);
-    let one: Result<LiteMap<u16, u16, S>, AllocError> = map_of(alloc, room.as_slice());
-    spell(b, room);
-    let other: Result<LiteMap<u16, u16, S>, AllocError> = map_of(alloc, room.as_slice());
+fn maps<S: Store<u16, u16>>(call: &Call<'_>, room: &mut Vec<u16>, out: &mut String) {
+    spell(call.first, room);
+    let one: Result<LiteMap<u16, u16, S>, AllocError> = map_of(call.alloc, room.as_slice());
+    spell(call.second, room);
+    let other: Result<LiteMap<u16, u16, S>, AllocError> = map_of(call.alloc, room.as_slice());
     match (one, other) {
         (Ok(one), Ok(other)) => equal(out, &one, &other),
         _ => refused(out),
@@ -54,19 +42,15 @@ fn maps<S: Store<u16, u16>>(
 }
 
 /// The answer to a comparison.
-pub fn answer(
-    alloc: Global,
-    room: &mut Vec<u16>,
-    kind: &str,
-    a: &[u8],
-    b: &[u8],
-    out: &mut String,
-) {
+pub fn answer(kind: &str, call: &Call<'_>, room: &mut Vec<u16>, out: &mut String) {
     match kind {
-        "words" => lists::<ShortWords<u16>>(alloc, room, a, b, out),
-        "boxes" => lists::<ShortBoxSlice<u16>>(alloc, room, a, b, out),
-        "set" => sets(alloc, a, b, out),
-        "map" => maps::<ShortBoxSlice<(u16, u16)>>(alloc, room, a, b, out),
-        _ => maps::<Vec<(u16, u16)>>(alloc, room, a, b, out),
+        "words" => lists::<ShortWords<u16>>(call, room, out),
+        "boxes" => lists::<ShortBoxSlice<u16>>(call, room, out),
+        "set" => {
+            let one = set_of(call.alloc, call.first);
+            made(one, set_of(call.alloc, call.second), out)
+        }
+        "map" => maps::<ShortBoxSlice<(u16, u16)>>(call, room, out),
+        _ => maps::<Vec<(u16, u16)>>(call, room, out),
     }
 }

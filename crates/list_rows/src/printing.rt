@@ -3,7 +3,7 @@ use crate::maps::{Long, map_of};
 use crate::sets::set_of;
 use crate::steps::spell;
 use iloc_writeable::{LengthHint, Writeable, cmp_utf8, to_string_or_borrow};
-use row_page::{number, order, refused, say, truth};
+use row_page::{Call, number, order, refused, say, truth};
 use std::alloc::{AllocError, Global};
 use std::borrow::CowStr;
 use std::str;
@@ -119,17 +119,11 @@ fn shows(alloc: Global, letters: &[u16], text: &[u8]) -> Result<bool, AllocError
 }
 
 /// The answer to a call that prints: `TEXT_CALL` of a text, else of a set.
-pub fn answer(
-    alloc: Global,
-    room: &mut Vec<u16>,
-    what: &str,
-    a: &[u8],
-    b: &[u8],
-    out: &mut String,
-) {
+pub fn answer(what: &str, call: &Call<'_>, room: &mut Vec<u16>, out: &mut String) {
+    let (alloc, a, b) = (call.alloc, call.first, call.second);
     match what.split_once('_') {
-        Some(("text", call)) => tell(alloc, call, &str::from_utf8(a).unwrap_or(""), b, out),
-        Some((_, call)) => made(alloc, call, set_of(alloc, a), b, out),
+        Some(("text", what)) => tell(alloc, what, &str::from_utf8(a).unwrap_or(""), b, out),
+        Some((_, what)) => made(alloc, what, set_of(alloc, a), b, out),
         _ if what == "sums" => sums(a, b, out),
         _ => {
             spell(a, room);

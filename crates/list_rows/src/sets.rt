@@ -3,7 +3,7 @@ use crate::steps::{Step, Stepping, answered, compared, is_done, replaced};
 use iloc_subtags::Variant;
 use iloc_word_set::{Variants, WordSet, is_strictly_ascending};
 use iloc_writeable::Writeable;
-use row_page::{number, put, say};
+use row_page::{number, put, put_or_none, say};
 use std::alloc::{AllocError, Global};
 
 /// The variants of the text, in its order; pieces that are none are left out.
@@ -62,24 +62,16 @@ fn made(alloc: Global, set: &Variants, call: &[u8], text: &[u8]) -> Result<Varia
     }
 }
 
-/// Says the word, or that there is none.
-fn say_word(word: Option<&Variant>, out: &mut String) {
-    match word {
-        Some(word) => put(out, word),
-        None => say(out, "none"),
-    }
-}
-
 /// Says what the set lends: whether it is empty, its first word, each of seven places, all in turn, and its text.
 fn tell(set: &Variants, out: &mut String) {
     if set.is_empty() {
         say(out, "empty ");
     }
     say(out, "first ");
-    say_word(set.first(), out);
+    put_or_none(out, set.first());
     for index in 0..7 {
         say(out, " ");
-        say_word(set.get(index), out);
+        put_or_none(out, set.get(index));
     }
     say(out, " lent ");
     for word in set.iter() {
@@ -88,17 +80,6 @@ fn tell(set: &Variants, out: &mut String) {
     say(out, " text ");
     say(out, set.writeable_borrow().unwrap_or("none"));
     let _ = write!(out, " {set:?}");
-}
-
-/// The answer to a step that adds a word or takes one out.
-fn change(alloc: Global, set: &mut Variants, call: &[u8], word: Variant, out: &mut String) -> bool {
-    match call {
-        b"push" => match set.push(alloc, word) {
-            Ok(is_new) => answered(if is_new { "new" } else { "known" }, out),
-            Err(_) => false,
-        },
-        _ => answered(if set.remove(&word) { "gone" } else { "absent" }, out),
-    }
 }
 
 /// The answer to a step with a word.
@@ -112,7 +93,11 @@ fn with_word(
     match step.call {
         b"word" => replaced(set, Ok(WordSet::from_word(word)), out),
         b"variant" => replaced(set, Ok(Variants::from_variant(word)), out),
-        call => change(alloc, set, call, word, out),
+        b"push" => match set.push(alloc, word) {
+            Ok(is_new) => answered(if is_new { "new" } else { "known" }, out),
+            Err(_) => false,
+        },
+        _ => answered(if set.remove(&word) { "gone" } else { "absent" }, out),
     }
 }
 

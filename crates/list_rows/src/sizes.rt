@@ -2,12 +2,13 @@
 use crate::lists::{List, Listed};
 use crate::maps::Long;
 use crate::printing::say_room;
-use crate::steps::{Step, Stepping, number_of};
+use crate::steps::{Step, Stepping};
 use iloc_litemap::{LiteMap, Probe, Store, place};
 use iloc_shortvec::{ShortBoxSlice, ShortWords};
 use iloc_word_set::Variants;
 use iloc_writeable::{Writeable, to_string_or_borrow};
-use row_page::{number, refused, say};
+use row_page::argument::number_of;
+use row_page::{Call, number, refused, say};
 use std::alloc::{AllocError, Global};
 
 /// Room for the numbers of a row, for their words, and for the answers of steps, which no row says.
@@ -230,21 +231,16 @@ fn set(alloc: Global, call: &[u8], below: u16, room: &mut Room, out: &mut String
     say_ends(&set, is_done, out)
 }
 
-/// Finds a key in the map; the most comparisons so far.
-fn found(map: &Long, key: u16, count: &mut usize, most: u32) -> u32 {
-    let mut probe = Probe::new(map.as_slice());
-    if place(&mut probe, &key).is_ok() {
-        *count = count.saturating_add(1);
-    }
-    most.max(probe.count())
-}
-
 /// Says how many of the numbers, and of as many beyond them, stand in the map, and the most comparisons that took.
 fn search(map: &Long, below: u16, out: &mut String) {
     let mut there = 0usize;
     let mut most = 0u32;
     for key in 0..below.saturating_mul(2) {
-        most = found(map, key, &mut there, most);
+        let mut probe = Probe::new(map.as_slice());
+        if place(&mut probe, &key).is_ok() {
+            there = there.saturating_add(1);
+        }
+        most = most.max(probe.count());
     }
     number(out, there);
     say(out, " within ");
@@ -274,15 +270,16 @@ fn printed(alloc: Global, below: u16, room: &mut Room, bytes: &[u8], out: &mut S
 }
 
 /// The answer to a row of many items.
-pub fn answer(alloc: Global, room: &mut Room, kind: &str, a: &[u8], call: &[u8], out: &mut String) {
-    let below = u16::try_from(number_of(a)).unwrap_or(0);
+pub fn answer(kind: &str, call: &Call<'_>, room: &mut Room, out: &mut String) {
+    let (alloc, fill) = (call.alloc, call.second);
+    let below = u16::try_from(number_of(call.first)).unwrap_or(0);
     match kind {
-        "words" => list::<ShortWords<u16>>(alloc, call, below, room, out),
-        "boxes" => list::<ShortBoxSlice<u16>>(alloc, call, below, room, out),
-        "set" => set(alloc, call, below, room, out),
-        "map" => map::<ShortBoxSlice<(u16, u16)>>(alloc, call, below, room, out),
-        "vecmap" => map::<Vec<(u16, u16)>>(alloc, call, below, room, out),
+        "words" => list::<ShortWords<u16>>(alloc, fill, below, room, out),
+        "boxes" => list::<ShortBoxSlice<u16>>(alloc, fill, below, room, out),
+        "set" => set(alloc, fill, below, room, out),
+        "map" => map::<ShortBoxSlice<(u16, u16)>>(alloc, fill, below, room, out),
+        "vecmap" => map::<Vec<(u16, u16)>>(alloc, fill, below, room, out),
         "place" => searched(alloc, below, room, out),
-        _ => printed(alloc, below, room, call, out),
+        _ => printed(alloc, below, room, fill, out),
     }
 }

@@ -1,9 +1,9 @@
 //! Steps on a value: `call.first.second` with blanks between. Each kind of value that steps change has a file of its own.
 //! In lists and maps a letter stands as its number.
+use row_page::argument::number_of;
 use row_page::{bytes, hash_of, refused, say};
 use std::alloc::{AllocError, Global};
 use std::hash::Hash;
-use std::str;
 
 /// A step: what is called, the text that stands first, its letters, its number, and the first letters of both texts.
 #[derive(Clone, Copy)]
@@ -14,14 +14,6 @@ pub struct Step<'a> {
     pub place: usize,
     pub key: u16,
     pub value: u16,
-}
-
-/// The number that the digits spell, or 0.
-pub fn number_of(digits: &[u8]) -> usize {
-    str::from_utf8(digits)
-        .unwrap_or("")
-        .parse::<usize>()
-        .unwrap_or(0)
 }
 
 /// The number of the first letter.

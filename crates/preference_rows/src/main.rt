@@ -1,10 +1,9 @@
 //! Rows of preferences: `CALL TAB argument TAB argument TAB argument` in, a line out.
 //!
-//! In an argument `\xFF` stands for the byte; all else is what it looks like. An argument is read as a locale, in
-//! `langid-..` as an identifier. Preferences of a locale answer by their data locales, language first and region
-//! first, and the locale that they become, joined by `|`, and before them `Ok` or `Err` where they are read strictly.
-//! Those of a formatter answer by their data locale, `nu`, `hc` and `ca`; those of a time formatter by the first
-//! three. A refusal is `! ` and its words.
+//! An argument is read as a locale, in `langid-..` as an identifier. Preferences of a locale answer by their data
+//! locales, language first and region first, and the locale that they become, joined by `|`, and before them `Ok` or
+//! `Err` where they are read strictly. Those of a formatter answer by their data locale, `nu`, `hc` and `ca`; those of
+//! a time formatter by the first three. A refusal is `! ` and its words.
 //!
 //! `stdin` and `stdout` are the rows with their answers: first worked examples, then vectors, of which
 //! vectors/README.md says where they came from. `grow.in` has rows that may want memory. All that the program needs
@@ -20,106 +19,68 @@ use iloc_bench::{FormatPreferences, TimePreferences};
 use iloc_data::DataLocale;
 use iloc_langid::LanguageIdentifier;
 use iloc_locale::Locale;
-use row_page::{say, unescape};
-use std::alloc::{AllocError, Global};
+use row_page::{Call, Program, page};
+use std::alloc::Global;
 use std::io;
 use told::{extended, handed_over, told};
 
-/// Room for an argument.
-const ROOM: usize = 65_536;
-
-/// Room for all answers.
-const PAGE: usize = 1_048_576;
-
-/// Room for the arguments of a row.
 #[derive(Drop)]
-struct Room {
-    first: Vec<u8>,
-    second: Vec<u8>,
-    third: Vec<u8>,
+struct Rows;
+
+// What is told of the first argument, extended by the second and the third; that is `und` where it is not there.
+fn merged(call: &Call<'_>, out: &mut String) {
+    let alloc = call.alloc;
+    let third = if call.third.is_empty() {
+        b"und"
+    } else {
+        call.third
+    };
+    extended(
+        alloc,
+        Locale::try_from_utf8(alloc, call.first),
+        Locale::try_from_utf8(alloc, call.second),
+        Locale::try_from_utf8(alloc, third),
+        call.name,
+        out,
+    )
 }
 
-impl Room {
-    fn new(alloc: Global) -> Result<Self, AllocError> {
-        Ok(Room {
-            first: Vec::with_capacity(alloc, ROOM)?,
-            second: Vec::with_capacity(alloc, ROOM)?,
-            third: Vec::with_capacity(alloc, ROOM)?,
-        })
+// What is told of an identifier, or made of one that is handed over.
+fn identifier(alloc: Global, name: &str, text: &[u8], out: &mut String) {
+    let read = LanguageIdentifier::try_from_utf8(alloc, text);
+    match name {
+        "langid-data-owned" => handed_over::<LanguageIdentifier, DataLocale>(out, read),
+        "langid-format-owned" => handed_over::<LanguageIdentifier, FormatPreferences>(out, read),
+        "langid-time-owned" => handed_over::<LanguageIdentifier, TimePreferences>(out, read),
+        _ => told(alloc, read, name, out),
     }
 }
 
-// The answer to a call.
-fn call(alloc: Global, word: &str, room: &Room, out: &mut String) {
-    let first = room.first.as_slice();
-    match word {
-        "default" => locales::default(alloc, out),
-        "extend" | "format-extend" | "time-extend" => extended(
-            alloc,
-            Locale::try_from_utf8(alloc, first),
-            Locale::try_from_utf8(alloc, room.second.as_slice()),
-            Locale::try_from_utf8(alloc, room.third.as_slice()),
-            word,
-            out,
-        ),
-        "langid-prefs" | "langid-format" | "langid-time" | "langid-data" => {
-            told(
-                alloc,
-                LanguageIdentifier::try_from_utf8(alloc, first),
-                word,
-                out,
-            )
+// What is told of a locale, or made of one that is handed over.
+fn locale(alloc: Global, name: &str, text: &[u8], out: &mut String) {
+    let read = Locale::try_from_utf8(alloc, text);
+    match name {
+        "data-owned" => handed_over::<Locale, DataLocale>(out, read),
+        "format-owned" => handed_over::<Locale, FormatPreferences>(out, read),
+        "time-owned" => handed_over::<Locale, TimePreferences>(out, read),
+        _ => told(alloc, read, name, out),
+    }
+}
+
+impl Program for Rows {
+    fn answer(&mut self, call: &Call<'_>, out: &mut String) {
+        match call.name {
+            "default" => locales::default(call.alloc, out),
+            "extend" | "format-extend" | "time-extend" => merged(call, out),
+            name if name.starts_with("langid-") => identifier(call.alloc, name, call.first, out),
+            name => locale(call.alloc, name, call.first, out),
         }
-        "data-owned" => handed_over::<Locale, DataLocale>(out, Locale::try_from_utf8(alloc, first)),
-        "format-owned" => handed_over::<Locale, FormatPreferences>(
-            out,
-            Locale::try_from_utf8(alloc, first),
-        ),
-        "time-owned" => handed_over::<Locale, TimePreferences>(
-            out,
-            Locale::try_from_utf8(alloc, first),
-        ),
-        "langid-data-owned" => handed_over::<LanguageIdentifier, DataLocale>(
-            out,
-            LanguageIdentifier::try_from_utf8(alloc, first),
-        ),
-        "langid-format-owned" => handed_over::<LanguageIdentifier, FormatPreferences>(
-            out,
-            LanguageIdentifier::try_from_utf8(alloc, first),
-        ),
-        "langid-time-owned" => handed_over::<LanguageIdentifier, TimePreferences>(
-            out,
-            LanguageIdentifier::try_from_utf8(alloc, first),
-        ),
-        _ => told(alloc, Locale::try_from_utf8(alloc, first), word, out),
     }
-}
-
-// The answer to a row.
-fn row(alloc: Global, line: &str, room: &mut Room, out: &mut String) {
-    let (word, rest) = line.split_once('\t').unwrap_or((line, ""));
-    let (first, rest) = rest.split_once('\t').unwrap_or((rest, ""));
-    let (second, third) = rest.split_once('\t').unwrap_or((rest, "und"));
-    unescape(first, &mut room.first);
-    unescape(second, &mut room.second);
-    unescape(third, &mut room.third);
-    call(alloc, word, room, out);
-    say(out, "\n");
-}
-
-// The answers to all rows.
-fn rows(alloc: Global, input: &str) -> Result<String, AllocError> {
-    let mut room = Room::new(alloc)?;
-    let mut out = String::with_capacity(alloc, PAGE)?;
-    for line in input.lines() {
-        row(alloc, line, &mut room, &mut out);
-    }
-    Ok(out)
 }
 
 fn main(rt: HostRuntime) -> io::Result<()> {
     let alloc = rt.alloc();
     let input = io::read_to_string(alloc, rt.reader())?;
-    let page = rows(alloc, input.as_str())?;
+    let page = page(alloc, input.as_str(), &mut Rows)?;
     print!(rt; "{page}")
 }
