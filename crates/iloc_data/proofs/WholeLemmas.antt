@@ -8,7 +8,7 @@ use Rattle.iloc_grammar.specs.Words.{Region, Subtag, SubdivisionSuffix, is_word,
 use Rattle.iloc_grammar.specs.Faults.{InvalidSubtag, InvalidExtension}
 use Rattle.iloc_regions.specs.Subdivisions.{Subdivision, both_words}
 use Rattle.iloc_regions.specs.DataLocales.{whole, is_whole, named_subdivision}
-use Rattle.iloc_regions.proofs.DataLaws.{same_is}
+use Rattle.iloc_grammar.proofs.MapLaws.{same_is}
 use Rattle.std.specs.Cmp.Lexicographic.{pointwise}
 use Rattle.iloc_data.proofs.RegionLemmas.{words_tie}
 

@@ -30,7 +30,8 @@ fn read_all(alloc: Global, line: &str) -> Result<Vec<Locale>, AllocError> {
 
 /// Drops what matters least of the identifier, until it is there or the language alone is left; whether it is there.
 fn fall_back(wanted: &mut LanguageIdentifier, available: &[Locale]) -> bool
-    ensures there { IsTrue result → Any (λ one. value_of one.id ≡ value_of wanted.new) available.now }
+    ensures there { IsTrue result
+        → Any (λ one. value_of one.id ≡ value_of wanted.new) available.now }
     ensures left { IsLeftOf (value_of wanted.old) (value_of wanted.new) }
 {
     equality();
