@@ -11,8 +11,11 @@ use row_page::told::made;
 use row_page::{Answering, Call, refuse, say};
 use std::alloc::Global;
 
-// The language, script and region of the text.
-fn front(text: &[u8]) -> Result<(Language, Option<Script>, Option<Region>), ParseError> {
+// A language, a script and a region.
+type Parts = (Language, Option<Script>, Option<Region>);
+
+// The parts of the text.
+fn front(text: &[u8]) -> Result<Parts, ParseError> {
     let (language, script, region, _) = LanguageIdentifier::try_from_utf8_with_single_variant(
         text,
     )?;
@@ -48,6 +51,12 @@ impl MadeOf<Locale> for DataLocale {
     }
 }
 
+impl MadeOf<Parts> for DataLocale {
+    fn made_of(_alloc: Global, other: Parts) -> Self {
+        DataLocale::from(other)
+    }
+}
+
 impl MadeOf<LanguageIdentifier> for DataLocale {
     fn made_of(_alloc: Global, other: LanguageIdentifier) -> Self {
         DataLocale::from(other)
@@ -62,7 +71,7 @@ fn made_of<O, W: MadeOf<O>>(call: &Call<'_>, read: Result<O, ParseError>, out: &
     }
 }
 
-// Identifiers and data locales of a language, a script and a region.
+// Identifiers of a language, a script or a region.
 fn identifier(what: &str, call: &Call<'_>, out: &mut String) {
     match (what, front(call.first)) {
         ("langid", Ok(parts)) => of(call, LanguageIdentifier::from(parts), out),
@@ -71,7 +80,6 @@ fn identifier(what: &str, call: &Call<'_>, out: &mut String) {
         }
         ("langid-script", Ok((_, script, _))) => of(call, LanguageIdentifier::from(script), out),
         ("langid-region", Ok((_, _, region))) => of(call, LanguageIdentifier::from(region), out),
-        ("data", Ok(parts)) => of(call, DataLocale::from(parts), out),
         (_, Err(error)) => refuse(out, error),
         _ => say(out, "no call"),
     }
@@ -143,9 +151,10 @@ pub fn answer(what: &str, call: &Call<'_>, out: &mut String) {
         "locale" | "locale-language" | "locale-script" | "locale-region" => {
             locale(what, call, out)
         }
-        "langid" | "langid-language" | "langid-script" | "langid-region" | "data" => {
+        "langid" | "langid-language" | "langid-script" | "langid-region" => {
             identifier(what, call, out)
         }
+        "data" => made_of::<Parts, DataLocale>(call, front(call.first), out),
         "subdivision" => made::<Rows, SubdivisionId>(call, subdivision(call.first), out),
         _ => moved(what, call, out),
     }
