@@ -172,9 +172,9 @@ refused-with_key : (k : List ℕ) (o : Result (Option (List ℕ)) Fault) (e : Pa
 refused-with_key k (Ok x) f e = cc
 refused-with_key k (Err g) f e = cc
 
-module _ (ps rest : List (List ℕ)) (key : List ℕ) (took : Some key ≡ option_map lower (take_first (is_word UnicodeKey) ps)) (l : rest ≡ skip_first (is_word UnicodeKey) ps) where
+module _ (ps rest : List (List ℕ)) (key : List ℕ) (is_key : Some key ≡ option_map lower (take_first (is_word UnicodeKey) ps)) (l : rest ≡ skip_first (is_word UnicodeKey) ps) where
   block_is : block_result 117 ps ≡ with_key key (value_result [] rest)
-  block_is = let (p, h, same, cut) = took UnicodeKey ps key took in
+  block_is = let (p, h, same, cut) = took UnicodeKey ps key is_key in
       ap (block_result 117) (cut ∙ ap (λ qs. p ∷ qs) (sym l)) ∙ keyed p rest h ∙ ap (λ w. with_key w (value_result [] rest)) (sym same)
 
   pub value_given : (v : Option (List ℕ)) → Ok v ≡ answer_of (value_result [] rest) → Ok (key, v) ≡ answer_of (block_result 117 ps)

@@ -5,7 +5,7 @@ use Rattle.std.specs.FinMap.{find}
 use Rattle.iloc_grammar.specs.Words.{word_cmp}
 use Rattle.iloc_parser.specs.Left.{left}
 use Rattle.iloc_unicode.proofs.KeywordLemmas.{filled_less, filled_more, filled_all, filled_bad, many_values, many_keys}
-use Rattle.iloc_unicode.proofs.reader.Keywords.fill.Goals as goal
+use Rattle.iloc_unicode.proofs.keywords.Keywords.fill.Goals as goal
 
 refused_not : false ≡ true → ⊥
 refused_not h = true≢false (sym h)

@@ -2,7 +2,7 @@
 use Rattle.std.proofs.Common.{length}
 use Rattle.iloc_parser.specs.Left.{left}
 use Rattle.iloc_unicode.proofs.KeywordLemmas.{Filled}
-use Rattle.iloc_unicode.proofs.reader.Keywords.fill.Given as goal
+use Rattle.iloc_unicode.proofs.keywords.Keywords.fill.Given as goal
 
 abbrev pub invariant-keys : goal.invariant-keys
 invariant-keys l = Filled (left l.fn.iter) (left l.iter) l.self

@@ -2,7 +2,7 @@
 use Rattle.std.proofs.Common.{length}
 use Rattle.iloc_parser.specs.Left.{left}
 use Rattle.iloc_unicode.proofs.AttributeLemmas.{GatheredFew}
-use Rattle.iloc_unicode.proofs.reader.Attributes.try_from_iter.Given as goal
+use Rattle.iloc_unicode.proofs.attributes.Attributes.try_from_iter.Given as goal
 
 abbrev pub invariant-few : goal.invariant-few
 invariant-few l = GatheredFew (left l.fn.iter) (left l.iter) l.attributes

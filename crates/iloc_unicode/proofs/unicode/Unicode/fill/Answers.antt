@@ -2,7 +2,7 @@ use Rattle.std.proofs.Common.{sym, ◌∙◌}
 use Rattle.std.proofs.lemmas.Result.{err_from_is_err_and}
 use Rattle.iloc_parser.specs.Left.{left}
 use Rattle.iloc_unicode.proofs.UnicodeLemmas.{unicode_read, unicode_empty, keywords_refused}
-use Rattle.iloc_unicode.proofs.reader.Unicode.fill.Goals as goal
+use Rattle.iloc_unicode.proofs.unicode.Unicode.fill.Goals as goal
 
 pub returns-in_err-fill : goal.returns-in_err-fill
 returns-in_err-fill c =

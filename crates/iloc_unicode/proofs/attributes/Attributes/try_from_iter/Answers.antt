@@ -1,7 +1,7 @@
 use Rattle.std.proofs.Common.{◌≡◌, ◌≤◌, ◌∙◌, length, subst, IfOk, OnOk, IsOk}
 use Rattle.iloc_parser.specs.Left.{left}
 use Rattle.iloc_unicode.proofs.AttributeLemmas.{few_none, few_new, few_more, few_done}
-use Rattle.iloc_unicode.proofs.reader.Attributes.try_from_iter.Goals as goal
+use Rattle.iloc_unicode.proofs.attributes.Attributes.try_from_iter.Goals as goal
 
 pub few-init : goal.few-init
 few-init c = rw c.new-attributes.ensures (few_none (left c.args.iter.now))
