@@ -9,9 +9,9 @@
 #![tactic(auto)]
 
 ghost use Rattle.std.specs.Prelude.{List, []};
-ghost use Rattle.iloc_grammar.specs.Shapes.{Block};
+ghost use Rattle.iloc_grammar.specs.Shapes.{Table, Block};
 ghost use Rattle.iloc_grammar.specs.Meaning.{Extensions as Parts};
-ghost use Rattle.iloc_grammar.specs.ByBlocks.{Rules, BlocksGive};
+ghost use Rattle.iloc_grammar.specs.ByBlocks.{BlocksMean};
 ghost use Rattle.iloc_blocks.specs.Blocks.{onto};
 
 pub mod blocks;
@@ -20,8 +20,8 @@ mod taking;
 
 pub use blocks::read_blocks;
 
-/// Blocks give the same from the last to the first, by any rules.
+/// Blocks mean the same from the last to the first.
 pub fn in_turn()
-    ensures { (R : Rules) (bs : List Block) (e : Parts) → BlocksGive R bs e
-        → BlocksGive R (onto bs []) e }
+    ensures { (T : Table) (bs : List Block) (e : Parts) → BlocksMean T bs e
+        → BlocksMean T (onto bs []) e }
 {}

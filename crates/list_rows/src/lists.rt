@@ -280,7 +280,10 @@ impl<L: List> Stepping for Listed<L> {
                 let copy = list.made(alloc, step);
                 give(copy, list.made(alloc, step), out)
             }
-            b"fresh" => compared(list, pushed(alloc, list.lend(0).slice), out),
+            b"fresh" => {
+                let fresh = pushed(alloc, list.lend(0).slice);
+                compared(list, fresh, out)
+            }
             b"tell" => {
                 tell(list, out);
                 true
