@@ -1,7 +1,7 @@
 -- The locale of a data locale's identifier with keywords, and a keyword where its value is there.
 use Rattle.std.specs.Prelude.{ℕ, List, [], ◌∷◌, Option, Some, None, option_to_list}
 use Rattle.iloc_grammar.specs.Written.{Fields}
-use Rattle.iloc_grammar.specs.Meaning.{Locale}
+use Rattle.iloc_grammar.specs.Meaning.{Locale, just_unicode}
 use Rattle.iloc_regions.specs.DataLocales.{DataLocale}
 
 abbrev pub entry : List ℕ → Option (List (List ℕ)) → Fields
@@ -11,8 +11,5 @@ entry k (Some v) = (k, v) ∷ []
 abbrev pub with_keywords : DataLocale → Fields → Locale
 with_keywords d fs = record {
   id = record { language = d.language; script = d.script; region = d.region; variants = option_to_list d.variant };
-  unicode = record { attributes = []; keywords = fs };
-  transform = record { id = None; fields = [] };
-  private = [];
-  others = [];
+  extensions = just_unicode (record { attributes = []; keywords = fs });
 }
