@@ -16,3 +16,4 @@ mod whole;
 
 pub use printing::write_to_io;
 pub use sink::IoSink;
+pub use whole::write_whole;

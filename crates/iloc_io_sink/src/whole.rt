@@ -8,7 +8,7 @@ use std::io::Write;
 
 /// Writes all of it, by as many calls as the writer takes. A write of no bytes is an error, and no
 /// error is tried again, not even `Interrupted`.
-pub(crate) fn write_whole<W: Write>(writer: &mut W, bytes: &[u8]) -> io::Result<()>
+pub fn write_whole<W: Write>(writer: &mut W, bytes: &[u8]) -> io::Result<()>
     ensures ok { OnOk result (Appends (W.contents writer.old) (W.contents writer.new) bytes.now) }
     ensures err { OnErr result
         (AddsBeginning (W.contents writer.old) (W.contents writer.new) bytes.now) }

@@ -16,14 +16,15 @@ ghost use Rattle.std.specs.Prelude.{
   ◌<◌,
   vec_len,
 };
-ghost use Rattle.std.specs.Io.{StartsWith};
 ghost use Rattle.std.specs.Io.KnownBytes.{Appends};
+ghost use Rattle.iloc_io_sink.specs.Growth.{AddsBeginning};
 ghost use Rattle.iloc_program.specs.Output.{output, reply};
 ghost use Rattle.iloc_output.specs.Lines.{IsOneLine};
+ghost use Rattle.memchr.specs.Find.{IsFirstByte, is_byte};
 
 use crate::RunError;
 use crate::answers::Answers;
-use memchr::memchr;
+use memchr::memchr_iter;
 use std::alloc::{AllocError, Global};
 use std::io::Write;
 
@@ -37,13 +38,21 @@ pub(crate) fn new_block(alloc: Global) -> Result<Vec<u8>, AllocError>
     vec![in alloc; 0u8; BLOCK]
 }
 
+// Where the first LF stands.
+#[inline(always)]
+fn line_end(bytes: &[u8]) -> Option<usize>
+    ensures { IsFirstByte (is_byte 10) bytes.now result }
+{
+    memchr_iter(b'\n', bytes).next()
+}
+
 // The first line and what follows its LF, if the LF is there.
 #[inline(always)]
 fn split_line(bytes: &[u8]) -> Option<(&[u8], &[u8])>
     ensures { MatchOption result (IsOneLine bytes.now)
         (λ parts. IsOneLine parts.0.now × (bytes.now ≡ parts.0.now ++ 10 ∷ parts.1.now)) }
 {
-    let end = memchr(b'\n', bytes)?;
+    let end = line_end(bytes)?;
     let (line, later) = bytes.split_at(end);
     Some((line, &later[1..]))
 }
@@ -112,17 +121,12 @@ pub(crate) fn finish<A: Answers>(
 // Writes all of it, by as many calls as the writer takes. A write of no bytes is an error, and no error is tried again.
 pub(crate) fn write_whole<W: Write>(writer: &mut W, bytes: &[u8]) -> Result<(), RunError>
     ensures ok { OnOk result (Appends (W.contents writer.old) (W.contents writer.new) bytes.now) }
-    ensures err { OnErr result ((written : List ℕ)
-        × Appends (W.contents writer.old) (W.contents writer.new) written
-        × StartsWith bytes.now written) }
+    ensures err { OnErr result
+        (AddsBeginning (W.contents writer.old) (W.contents writer.new) bytes.now) }
     ensures error { IsOkUnless result RunError.Write }
 {
-    let mut rest = bytes;
-    'writes: while !rest.is_empty() {
-        match writer.write(rest) {
-            Ok(0) | Err(_) => return Err(RunError::Write),
-            Ok(count) => rest = rest.split_at(count).1,
-        }
+    match iloc_io_sink::write_whole(writer, bytes) {
+        Ok(()) => Ok(()),
+        Err(_) => Err(RunError::Write),
     }
-    Ok(())
 }

@@ -30,8 +30,8 @@ returns-then-count-eq0-clause-err g c =
     let end = c.in-Ok.ensures.bytes.1 c.if-count-eq0.true room in
     let written : c.as_slice.result.now ≡ output g.A.Answers.mode c.reads.pending.items =
     c.as_slice.ensures.value ∙ c.in_ok-finish.ensures ∙ ap (λ (t : List ℕ). t ++ output g.A.Answers.mode c.reads.pending.items) c.clear.ensures.items in
-    on_err_then _ _ _ c.write_whole.ensures.err (λ took. Stands-end_part _ _ _ _ _ _ _ c.as_slice.result.now took.0
-    (Stands-read_none _ _ _ _ _ _ _ _ _ c.reads.invariant.stands c.in-Ok.ensures.bytes.0 c.if-count-eq0.true) end written took.1 took.2)
+    on_err_then _ _ _ c.write_whole.ensures.err (λ took. Stands-end_part _ _ _ _ _ _ _ c.as_slice.result.now took.written
+    (Stands-read_none _ _ _ _ _ _ _ _ _ c.reads.invariant.stands c.in-Ok.ensures.bytes.0 c.if-count-eq0.true) end written took.bytes took.begins)
 
 pub returns-in_err-feed-clause-err : goal.returns-in_err-feed-clause-err
 returns-in_err-feed-clause-err g c =
@@ -44,9 +44,9 @@ returns-in_err-write_whole-clause-err g c =
     let given : piece ≡ take count c.read.new.buf = c.split_at.ensures.front in
     let fed = Replies-fed g.A.Answers.mode c.clear.new.self.items c.reads.pending.items piece c.feed.new.pending.items c.feed.new.replies.items c.clear.ensures.items c.in_ok-feed.ensures.ahead in
     let took = c.in_err-write_whole.ensures.err in
-    on_err _ _ (Stands-part _ _ _ _ _ _ _ _ _ took.0
+    on_err _ _ (Stands-part _ _ _ _ _ _ _ _ _ took.written
     (Stands-read _ _ _ _ _ _ _ piece c.reads.invariant.stands (subst (Consumes _ _) (sym given) c.in-Ok.ensures.bytes.0))
-    fed took.1 (subst (λ (t : List ℕ). StartsWith t took.0) c.as_slice-in-reads.ensures.value took.2))
+    fed took.bytes (subst (λ (t : List ℕ). StartsWith t took.written) c.as_slice-in-reads.ensures.value took.begins))
 
 pub reads-preserved : goal.reads-preserved
 reads-preserved g c =
