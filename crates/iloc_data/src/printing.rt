@@ -14,13 +14,16 @@ impl Pieces for DataLocale {
     }
 
     fn write_pieces<S: Sink>(&self, sink: &mut S, first: bool) -> fmt::Result {
-        let keyword = self.subdivision_value().map(|value| ("u", "sd", value));
+        let Some(value) = self.subdivision_value() else {
+            return (&self.language, &self.script, &self.region, &self.variant)
+                .write_pieces(sink, first);
+        };
         (
             &self.language,
             &self.script,
             &self.region,
             &self.variant,
-            &keyword,
+            &("u", "sd", value),
         )
             .write_pieces(sink, first)
     }

@@ -39,7 +39,7 @@ pub(crate) fn new_block(alloc: Global) -> Result<Vec<u8>, AllocError>
 }
 
 // Where the first LF stands.
-#[inline(always)]
+#[inline(never)]
 fn line_end(bytes: &[u8]) -> Option<usize>
     ensures { IsFirstByte (is_byte 10) bytes.now result }
 {
@@ -57,7 +57,39 @@ fn split_line(bytes: &[u8]) -> Option<(&[u8], &[u8])>
     Some((line, &later[1..]))
 }
 
+// Adds the reply to a line.
+#[inline(always)]
+fn reply_to<A: Answers>(
+    answers: &mut A,
+    line: &[u8],
+    replies: &mut Vec<u8>,
+) -> Result<(), AllocError>
+    ensures { OnOk result (replies.new.items ≡ replies.old.items ++ reply A.mode line.now) }
+{
+    answers.answer(line, replies)?;
+    replies.push(b'\n')?;
+    Ok(())
+}
+
 // Adds the reply to the line that is pending and goes on with these bytes.
+#[inline(never)]
+fn end_pending<A: Answers>(
+    answers: &mut A,
+    pending: &mut Vec<u8>,
+    line: &[u8],
+    replies: &mut Vec<u8>,
+) -> Result<(), AllocError>
+    ensures replies { OnOk result (replies.new.items
+        ≡ replies.old.items ++ reply A.mode (pending.old.items ++ line.now)) }
+    ensures pending { OnOk result (pending.new.items ≡ []) }
+{
+    pending.extend_from_slice(line)?;
+    reply_to(answers, pending.as_slice(), replies)?;
+    pending.clear();
+    Ok(())
+}
+
+// The same where perhaps nothing is pending: then no byte of the line is copied.
 #[inline(always)]
 fn end_line<A: Answers>(
     answers: &mut A,
@@ -70,14 +102,9 @@ fn end_line<A: Answers>(
     ensures pending { OnOk result (pending.new.items ≡ []) }
 {
     if pending.is_empty() {
-        answers.answer(line, replies)?;
-    } else {
-        pending.extend_from_slice(line)?;
-        answers.answer(pending.as_slice(), replies)?;
-        pending.clear();
+        return reply_to(answers, line, replies);
     }
-    replies.push(b'\n')?;
-    Ok(())
+    end_pending(answers, pending, line, replies)
 }
 
 // Adds the replies to the lines that this piece of the input ends, and keeps the start of the next line.
@@ -115,7 +142,7 @@ pub(crate) fn finish<A: Answers>(
     if pending.is_empty() {
         return Ok(());
     }
-    end_line(answers, pending, &[], replies)
+    end_pending(answers, pending, &[], replies)
 }
 
 // Writes all of it, by as many calls as the writer takes. A write of no bytes is an error, and no error is tried again.

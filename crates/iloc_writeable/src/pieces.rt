@@ -171,6 +171,7 @@ impl<P: Pieces, Q: Pieces, R: Pieces, T: Pieces> Pieces for (P, Q, R, T) {
         (&self.0, (&self.1, (&self.2, &self.3))).has_pieces()
     }
 
+    #[inline(always)]
     fn write_pieces<S: Sink>(&self, sink: &mut S, first: bool) -> fmt::Result {
         (&self.0, (&self.1, (&self.2, &self.3))).write_pieces(sink, first)
     }
