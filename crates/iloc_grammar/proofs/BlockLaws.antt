@@ -10,13 +10,12 @@ use Rattle.iloc_grammar.specs.Pieces.{pieces}
 use Rattle.iloc_grammar.specs.Words.{IsTable, lower}
 use Rattle.iloc_grammar.specs.Written.{Unicode, Transform, Extension, unicode, transform, other, Written, extension_pieces, extension_block, blocks_of, IsOther, IsPrivate, kept, is_other_singleton, IsExtension, singleton, IsWritten, AllDifferent}
 use Rattle.iloc_grammar.specs.Meaning.{Locale, Extensions, Means, extensions_meaning, map_of, no_unicode, no_transform, unicode_part, transform_part, private_part, other_part, by_singleton, normal_unicode, normal_transform}
-use Rattle.iloc_grammar.specs.Faults.{SpellsIdentifier, IsBlock}
+use Rattle.iloc_grammar.specs.Faults.{IsBlock}
 use Rattle.iloc_grammar.specs.Blocks.{head, tail_blocks}
 use Rattle.iloc_grammar.specs.ByBlocks.{UnicodeMeans, TransformMeans, PrivateMeans, OtherMeans, by_letter, other_blocks, grammar_rules, PartIs, BlocksGive, MeansByBlocks}
 use Rattle.iloc_grammar.proofs.Readings.{head-spelling, blocks-spelling, unicode_of-pieces, transform_of-pieces}
 use Rattle.iloc_grammar.specs.Reading.{unicode_of, transform_of}
 use Rattle.iloc_grammar.proofs.IdentifierLaws.{one_meaning}
-use Rattle.iloc_grammar.proofs.PiecesLaws.{pieces_nonempty}
 use Rattle.iloc_grammar.proofs.FaultLaws.{AreGood, good_means, letter}
 use Rattle.iloc_grammar.proofs.ReadBack.{extension_singleton}
 use Rattle.iloc_grammar.proofs.Singletons.{tied, untied, self_tied, tied_back, IsKind, of_u, of_t, of_x, another, kind_of, lower_letter}
@@ -180,7 +179,7 @@ others_each (b ∷ bs) h = (elim (is_other_singleton (singleton b)) as (λ t. is
 
 good_each : (T : ℕ → Bool) (seen : List ℕ) (bs : List (ℕ × List (List ℕ))) → AllByRecursion (λ b. is_ascii_alphanumeric b.0 ≡ true) bs → AllDifferent nat_cmp (map (λ b. singleton b) bs) → AllByRecursion (λ b. list_any (eq_by_cmp nat_cmp (singleton b)) seen ≡ false) bs → AllByRecursion (λ b. KnownAt T (singleton b) b.1) bs → AllByRecursion (λ b. is_other_singleton (singleton b) ≡ true → IsOther b.1) bs → AreGood T seen bs
 good_each T seen [] l d n k o = tt
-good_each T seen (b ∷ bs) l d n k o = (((l.0, n.0), rule (kind_of (singleton b) (lower_letter b.0 l.0))), good_each T (singleton b ∷ seen) bs l.1 d.1 (see bs d.0 n.1) k.1 o.1)
+good_each T seen (b ∷ bs) l d n k o = ((l.0, n.0, rule (kind_of (singleton b) (lower_letter b.0 l.0))), good_each T (singleton b ∷ seen) bs l.1 d.1 (see bs d.0 n.1) k.1 o.1)
   where
     rule : IsKind (singleton b) → IsBlock T b
     rule (of_u e) = k.0.0 e
@@ -231,11 +230,6 @@ one_by_blocks T t L M a b = λ i. record {
 }
 
 pub blocks_mean : (T : ℕ → Bool) → IsTable T → (t : List ℕ) (M : Locale) → MeansByBlocks T t M → Means T t M
-blocks_mean T table t M m = at_pieces (pieces t) refl
-  where
-    at_pieces : (ps : List (List ℕ)) → pieces t ≡ ps → Means T t M
-    at_pieces [] e = absurd (pieces_nonempty t e)
-    at_pieces (p ∷ ps) e =
-        let spells : SpellsIdentifier T (head (pieces t)) = (m.id.written, m.id.grammatical, m.id.spelled) in
-        let r = good_means T t p ps e (subst (λ l. SpellsIdentifier T (head l)) e spells) (subst (λ l. AreGood T [] (tail_blocks l)) e (blocks_good T (tail_blocks (pieces t)) M.extensions m.blocks)) in
-        subst (Means T t) (one_by_blocks T t r.0 M (means_by_blocks T table t r.0 r.1) m) r.1
+blocks_mean T table t M m =
+    let r = good_means T t (m.id.written, m.id.grammatical, m.id.spelled) (blocks_good T (tail_blocks (pieces t)) M.extensions m.blocks) in
+    subst (Means T t) (one_by_blocks T t _ M (means_by_blocks T table t _ r) m) r

@@ -1,5 +1,5 @@
 -- Reading doesn't see the case of letters.
-use Rattle.std.proofs.Common.{◌≡◌, inl, inr, ℕ, zero, suc, ◌<◌, ◌≤◌, Bool, true, false, cond, not, ◌==◌, List, [], ◌∷◌, ◌++◌, length, map, filter, filter_map, flat_map, refl, sym, ap, ap₂, ◌∙◌, subst, arith, Option, Some, None, IfSome, option_map, option_to_list}
+use Rattle.std.proofs.Common.{◌≡◌, inl, inr, ℕ, zero, suc, ◌<◌, ◌≤◌, Bool, true, false, cond, not, ◌==◌, List, [], ◌∷◌, length, map, filter, filter_map, refl, sym, ap, ap₂, ◌∙◌, subst, arith, Option, Some, None, IfSome, option_map}
 use Rattle.std.specs.List.{AllByRecursion, cons_option, slice_split, onto_first}
 use Rattle.std.specs.Char.{to_ascii_lowercase}
 use Rattle.std.specs.Int.{is_in_range}
@@ -9,38 +9,23 @@ use Rattle.std.proofs.lemmas.Bool.Decides.{nat_tests}
 use Rattle.std.proofs.lemmas.Str.Ascii.{lowercase-lowercase}
 use Rattle.iloc_grammar.specs.Pieces.{pieces, join}
 use Rattle.iloc_grammar.specs.Words.{Kind, Language, Script, Region, Variant, Subtag, UnicodeKey, TransformKey, Attribute, PrivateSubtag, is_word, IsWord, IsTable, lower, word_cmp, is_true}
-use Rattle.iloc_grammar.specs.Written.{Identifier, Fields, Extension, unicode, transform, other, Written, extension_block, block_pieces, spelling, IsIdentifier, IsKeyword, IsField, IsPrivate, kept, IsExtension, singleton, IsWritten, AllDifferent}
+use Rattle.iloc_grammar.specs.Written.{Identifier, Fields, Extension, unicode, transform, other, Written, spelling, IsIdentifier, IsKeyword, IsField, IsPrivate, kept, IsExtension, singleton, IsWritten, AllDifferent}
 use Rattle.iloc_grammar.specs.Meaning.{map_of, set_of, normal_identifier, normal_values, Locale, unicode_part, transform_part, private_part, other_part, by_singleton, meaning, Means}
 use Rattle.iloc_grammar.specs.Values.{lower_identifier}
 use Rattle.iloc_grammar.specs.Blocks.{is_one_byte, front, blocks, head, tail_blocks, first_piece}
 use Rattle.iloc_grammar.proofs.WordsLaws.{lower-lower, length-lower, is_word-lower}
-use Rattle.iloc_grammar.proofs.PiecesLaws.{pieces_nonempty}
 use Rattle.iloc_grammar.proofs.ValuesLaws.{lower_twice, normal-lower_identifier, lower_is_identifier}
-use Rattle.iloc_grammar.proofs.IdentifierLaws.{pieces-identifier_of}
 use Rattle.iloc_grammar.specs.Reading.{take_first, skip_first, rest_of, identifier_of, before_key, fields_from, is_two, unicode_of, transform_of, optional_of, extension_by, extension_of, extensions_in, private_in, written_of}
-use Rattle.iloc_grammar.proofs.Readings.{pieces-extension_of, written_of-spelling}
+use Rattle.iloc_grammar.proofs.Readings.{written_of-spelling}
 use Rattle.iloc_grammar.specs.Steps.{TextStep, Chain}
 use Rattle.iloc_grammar.proofs.Readings.{one_meaning}
 use Rattle.iloc_grammar.proofs.StepLaws.{same_parts}
 use Rattle.iloc_grammar.proofs.StepSizes.{step_means, step_length}
-use Rattle.iloc_grammar.proofs.FaultLaws.{EndsAtX, ends_at_x, head-and-blocks}
+pub use Rattle.iloc_grammar.proofs.FaultLaws.{spelling-written_of}
+use Rattle.iloc_grammar.proofs.FaultLaws.{pieces-written_of}
 
 abbrev pub low : List (List ℕ) → List (List ℕ)
 low ps = map lower ps
-
--- reading keeps each piece
-
-extensions_kept : (bs : List (ℕ × List (List ℕ))) → EndsAtX bs → map extension_block (extensions_in bs) ++ option_to_list (private_in bs) ≡ bs
-extensions_kept [] e = refl
-extensions_kept (b ∷ bs) e = at_test (singleton b == 120) refl (extensions_kept bs e.1)
-  where
-    at_test : (t : Bool) → (singleton b == 120) ≡ t → map extension_block (extensions_in bs) ++ option_to_list (private_in bs) ≡ bs → map extension_block (cond t [] ((b.0, extension_of (singleton b) b.1) ∷ extensions_in bs)) ++ option_to_list (cond t (Some b) (private_in bs)) ≡ b ∷ bs
-    at_test true t rest = ap (λ l. b ∷ l) (sym (e.0 t))
-    at_test false t rest = λ i. (b.0, pieces-extension_of (singleton b) b.1 i) ∷ rest i
-
-pub spelling-written_of : (p : List ℕ) (ps : List (List ℕ)) → spelling (written_of (p ∷ ps)) ≡ p ∷ ps
-unfolding written_of
-spelling-written_of p ps = (λ i. pieces-identifier_of p (front ps) i ++ flat_map block_pieces (extensions_kept (blocks ps) (ends_at_x ps) i)) ∙ head-and-blocks p ps
 
 -- cutting
 
@@ -351,10 +336,6 @@ meaning-low w = same_parts (low_written w) w (normal-lower_identifier w.id)
     (ap transform_part (find-low 116 w.extensions) ∙ transform_part-low (find nat_cmp 116 (by_singleton w.extensions)))
     (private_part-low w.private) (ap (map_of nat_cmp) (others-low w.extensions))
 
-spelling-pieces : (u : List ℕ) (ps : List (List ℕ)) → pieces u ≡ ps → ps ≡ spelling (written_of ps)
-spelling-pieces u [] e = absurd (pieces_nonempty u e)
-spelling-pieces u (p ∷ ps) e = sym (spelling-written_of p ps)
-
 -- texts that are equal without case mean the same
 pub case_means : (T : ℕ → Bool) → IsTable T → (t u : List ℕ) (M : Locale) → lower t ≡ lower u → Means T t M → Means T u M
 case_means T table t u M e m =
@@ -365,7 +346,7 @@ case_means T table t u M e m =
     record {
       written = w;
       grammatical = written_from T w (subst (IsWritten T) same (written_to T v m.grammatical));
-      spelled = spelling-pieces u (pieces u) refl;
+      spelled = pieces-written_of u;
       means = m.means ∙ sym (meaning-low v) ∙ ap meaning same ∙ meaning-low w;
     }
 

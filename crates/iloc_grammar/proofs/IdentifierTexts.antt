@@ -1,21 +1,23 @@
 -- Texts of identifiers: reading them back, the two steps between texts of one meaning, and faults.
-use Rattle.std.proofs.Common.{◌≡◌, ◌⊎◌, inl, inr, ℕ, zero, suc, ◌+◌, Bool, true, false, List, [], ◌∷◌, length, refl, sym, ap, ◌∙◌, subst, arith, ◌↔◌, true≢false}
+use Rattle.std.proofs.Common.{◌≡◌, ◌⊎◌, inl, inr, ℕ, zero, suc, ◌+◌, Bool, true, false, cond, not, List, ◌∷◌, length, refl, sym, ap, ◌∙◌, subst, arith, ◌↔◌, true≢false, Result, Ok, Err, MatchResult}
 use Rattle.iloc_grammar.specs.Pieces.{pieces, join}
 use Rattle.iloc_grammar.specs.Words.{Language, is_word, lower}
 use Rattle.iloc_grammar.specs.Written.{Identifier, identifier_pieces, HasWords, IsIdentifier}
 use Rattle.iloc_grammar.specs.Meaning.{normal_identifier, IdentifierMeans}
 use Rattle.iloc_grammar.specs.Values.{IsIdentifierValue, lower_identifier, identifier_text}
-use Rattle.iloc_grammar.specs.Faults.{Fault, InvalidLanguage, InvalidSubtag, SpellsIdentifier, HasIdentifierFault, not_a_language, not_an_identifier}
+use Rattle.iloc_grammar.specs.Faults.{Fault, InvalidLanguage, InvalidSubtag, HasIdentifierFault, not_a_language, not_an_identifier}
 use Rattle.iloc_grammar.specs.Blocks.{first_piece, head, front}
 use Rattle.iloc_grammar.specs.Steps.{IdentifierTextStep, IdentifierChain, LeadToOne}
 use Rattle.iloc_grammar.proofs.WordsLaws.{length-lower}
-use Rattle.iloc_grammar.proofs.PiecesLaws.{pieces-join, join-pieces, pieces_nonempty}
+use Rattle.iloc_grammar.proofs.PiecesLaws.{pieces-join, join-pieces, at_pieces}
 use Rattle.iloc_grammar.proofs.IdentifierLaws.{pieces-identifier_of, identifier_of-pieces, one_identifier, one_meaning}
 use Rattle.iloc_grammar.specs.Reading.{identifier_of}
 use Rattle.iloc_grammar.proofs.ValuesLaws.{identifier_reads_back, normal-lower_identifier, value_words, lower_is_identifier}
 use Rattle.iloc_grammar.proofs.WellRead.{identifier_value}
 use Rattle.iloc_grammar.proofs.ReadBack.{identifier_hyphen_free}
-use Rattle.iloc_grammar.proofs.Deciding.{dec_spells}
+use Rattle.iloc_grammar.specs.Computing.{is_identifier, identifier_result}
+use Rattle.iloc_grammar.proofs.RuleTests.{tests_not, tests_identifier, tests_spelled}
+use Rattle.iloc_grammar.proofs.FaultLaws.{either}
 use Rattle.iloc_grammar.proofs.StepLaws.{identifier_step}
 use Rattle.iloc_grammar.proofs.Orders.{total}
 use Rattle.iloc_grammar.proofs.StepSizes.{identifier_size, piece_length, length-join}
@@ -49,10 +51,6 @@ same_identifier_meaning ps qs i j m n = (λ e. ap identifier_text e, λ e. same_
 
 -- a step keeps the meaning
 
-spelled-of : (u : List ℕ) (ps : List (List ℕ)) → pieces u ≡ ps → ps ≡ identifier_pieces (identifier_of ps)
-spelled-of u [] e = absurd (pieces_nonempty u e)
-spelled-of u (p ∷ ps) e = sym (pieces-identifier_of p ps)
-
 case_means : (T : ℕ → Bool) (t u : List ℕ) (i : Identifier) → lower t ≡ lower u → IdentifierMeans T (pieces t) i → IdentifierMeans T (pieces u) i
 case_means T t u i e m =
     let v = m.written in
@@ -62,7 +60,7 @@ case_means T t u i e m =
     record {
       written = w;
       grammatical = identifier_from T w (subst (IsIdentifier T) same (lower_is_identifier v m.grammatical));
-      spelled = spelled-of u (pieces u) refl;
+      spelled = at_pieces (λ ps. ps ≡ identifier_pieces (identifier_of ps)) (λ p ps. sym (pieces-identifier_of p ps)) u;
       means = m.means ∙ sym (normal-lower_identifier v) ∙ ap normal_identifier same ∙ normal-lower_identifier w;
     }
 
@@ -133,22 +131,20 @@ identifiers_lead_to_one T t u i j m n = (
 
 -- a meaning, or one fault
 
-pub spelled_means : {T : ℕ → Bool} (ps : List (List ℕ)) → (s : SpellsIdentifier T ps) → IdentifierMeans T ps (normal_identifier s.0)
-spelled_means ps s = record { written = s.0; grammatical = s.1; spelled = s.2; means = refl }
+abbrev pub IdentifierAnswers : (ℕ → Bool) → List (List ℕ) → Result Identifier Fault → Type 0
+IdentifierAnswers T ps r = MatchResult r (IdentifierMeans T ps) (HasIdentifierFault T ps)
 
-pub means_spelled : {T : ℕ → Bool} (ps : List (List ℕ)) (i : Identifier) → IdentifierMeans T ps i → SpellsIdentifier T ps
-means_spelled ps i m = (m.written, m.grammatical, m.spelled)
-
-pub identifier_or_fault : (T : ℕ → Bool) (p : List ℕ) (ps : List (List ℕ)) → ((i : Identifier) × IdentifierMeans T (p ∷ ps) i) ⊎ ((f : Fault) × HasIdentifierFault T (p ∷ ps) f)
-identifier_or_fault T p ps = at_language (is_word (Language T) p) refl
+pub identifier_answers : (T : ℕ → Bool) (p : List ℕ) (ps : List (List ℕ)) → IdentifierAnswers T (p ∷ ps) (identifier_result T (p ∷ ps))
+identifier_answers T p ps = at_tests (is_word (Language T) p) refl (is_identifier T (identifier_of (p ∷ ps))) refl
   where
-    at_language : (b : Bool) → is_word (Language T) p ≡ b → ((i : Identifier) × IdentifierMeans T (p ∷ ps) i) ⊎ ((f : Fault) × HasIdentifierFault T (p ∷ ps) f)
-    at_language false e = inr (InvalidLanguage, not_a_language e)
-    at_language true e = elim (dec_spells T p ps) [ yes s ↦ inl (normal_identifier s.0, spelled_means (p ∷ ps) s) | no n ↦ inr (InvalidSubtag, not_an_identifier e n) ]
+    at_tests : (l : Bool) → is_word (Language T) p ≡ l → (i : Bool) → is_identifier T (identifier_of (p ∷ ps)) ≡ i → IdentifierAnswers T (p ∷ ps) (cond (not l) (Err InvalidLanguage) (cond (not i) (Err InvalidSubtag) (Ok (normal_identifier (identifier_of (p ∷ ps))))))
+    at_tests false l i k = not_a_language l
+    at_tests true l false k = not_an_identifier l (tests_not (tests_spelled T p ps) k)
+    at_tests true l true k = record { written = identifier_of (p ∷ ps); grammatical = (tests_identifier T (identifier_of (p ∷ ps))).holds k; spelled = sym (pieces-identifier_of p ps); means = refl }
 
 pub identifier_apart : {T : ℕ → Bool} (ps : List (List ℕ)) (i : Identifier) (f : Fault) → IdentifierMeans T ps i → HasIdentifierFault T ps f → ⊥
 identifier_apart {T = T} ps i f h (not_a_language e) = true≢false (sym h.grammatical.words.language ∙ ap (λ (l : List (List ℕ)). is_word (Language T) (first_piece l)) (sym h.spelled) ∙ e)
-identifier_apart ps i f h (not_an_identifier l n) = n (means_spelled ps i h)
+identifier_apart ps i f h (not_an_identifier l n) = n (h.written, h.grammatical, h.spelled)
 
 pub one_identifier_fault : {T : ℕ → Bool} (ps : List (List ℕ)) {f g : Fault} → HasIdentifierFault T ps f → HasIdentifierFault T ps g → f ≡ g
 one_identifier_fault ps (not_a_language e) (not_a_language k) = refl
@@ -157,15 +153,7 @@ one_identifier_fault ps (not_an_identifier l n) (not_a_language e) = absurd (tru
 one_identifier_fault ps (not_an_identifier l n) (not_an_identifier k m) = refl
 
 pub text_identifier_or_fault : (T : ℕ → Bool) (t : List ℕ) → ((i : Identifier) × IdentifierMeans T (pieces t) i) ⊎ ((f : Fault) × HasIdentifierFault T (pieces t) f)
-text_identifier_or_fault T t = at_pieces (pieces t) refl
-  where
-    at_pieces : (ps : List (List ℕ)) → pieces t ≡ ps → ((i : Identifier) × IdentifierMeans T ps i) ⊎ ((f : Fault) × HasIdentifierFault T ps f)
-    at_pieces [] e = absurd (pieces_nonempty t e)
-    at_pieces (p ∷ ps) e = identifier_or_fault T p ps
+text_identifier_or_fault T t = at_pieces (λ ps. ((i : Identifier) × IdentifierMeans T ps i) ⊎ ((f : Fault) × HasIdentifierFault T ps f)) (λ p ps. either (identifier_result T (p ∷ ps)) (identifier_answers T p ps)) t
 
 pub head_identifier_or_fault : (T : ℕ → Bool) (t : List ℕ) → ((i : Identifier) × IdentifierMeans T (head (pieces t)) i) ⊎ ((f : Fault) × HasIdentifierFault T (head (pieces t)) f)
-head_identifier_or_fault T t = at_pieces (pieces t) refl
-  where
-    at_pieces : (ps : List (List ℕ)) → pieces t ≡ ps → ((i : Identifier) × IdentifierMeans T (head ps) i) ⊎ ((f : Fault) × HasIdentifierFault T (head ps) f)
-    at_pieces [] e = absurd (pieces_nonempty t e)
-    at_pieces (p ∷ ps) e = identifier_or_fault T p (front ps)
+head_identifier_or_fault T t = at_pieces (λ ps. ((i : Identifier) × IdentifierMeans T (head ps) i) ⊎ ((f : Fault) × HasIdentifierFault T (head ps) f)) (λ p ps. either (identifier_result T (p ∷ front ps)) (identifier_answers T p (front ps))) t

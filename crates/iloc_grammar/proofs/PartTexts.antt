@@ -32,6 +32,8 @@ dashes-append ps qs = flat_map-append (λ (p : List ℕ). 45 ∷ p) ps qs
 pub join-append : (p : List ℕ) (ps qs : List (List ℕ)) → join ((p ∷ ps) ++ qs) ≡ join (p ∷ ps) ++ dashes qs
 join-append p ps qs = join-dashes p (ps ++ qs) ∙ ap (λ l. p ++ l) (dashes-append ps qs) ∙ sym (append_assoc p (dashes ps) (dashes qs)) ∙ ap (λ l. l ++ dashes qs) (sym (join-dashes p ps))
 
+pub ruleset join_laws = (join-nothing, join-dashes, dashes-append, join-append)
+
 -- blocks one after the other
 
 form_pieces-append : (es fs : List (ℕ × Extension)) → form_pieces (es ++ fs) ≡ form_pieces es ++ form_pieces fs

@@ -108,3 +108,6 @@ wide-narrow_raw w h =
     let m = at_most_greatest 3 (Language two_or_three) w narrow_ends h in
     let n : 8 - length w ≡ (3 - length w) + 5 = omega arith in
     ap (λ n. w ++ replicate n 0) n ∙ ap (λ l. w ++ l) (zeros (3 - length w) 5) ∙ sym (append_assoc w (replicate (3 - length w) 0) (replicate 5 0))
+
+-- the laws of raw forms
+pub ruleset raw_laws = (length-raw, before_zero-raw, raw_injective, wide-narrow_raw)

@@ -36,11 +36,11 @@ pieces-front_of p ps =
 
 -- what is taken passes
 
-take_first_passes : (test : List ℕ → Bool) (ps : List (List ℕ)) → IfSome (take_first test ps) (Passes test)
+pub take_first_passes : (test : List ℕ → Bool) (ps : List (List ℕ)) → IfSome (take_first test ps) (Passes test)
 take_first_passes test [] = tt
 take_first_passes test (p ∷ ps) = elim (test p) as (λ b. test p ≡ b → IfSome (cond b (Some p) None) (Passes test)) [ true ↦ λ e. e | false ↦ λ e. tt ] refl
 
-keep_while_passes : (test : List ℕ → Bool) (ps : List (List ℕ)) → AllByRecursion (Passes test) (passing test ps)
+pub keep_while_passes : (test : List ℕ → Bool) (ps : List (List ℕ)) → AllByRecursion (Passes test) (passing test ps)
 keep_while_passes test [] = tt
 keep_while_passes test (p ∷ ps) = elim (test p) as (λ b. test p ≡ b → AllByRecursion (Passes test) (cond b (p ∷ passing test ps) [])) [ true ↦ λ e. (e, keep_while_passes test ps) | false ↦ λ e. tt ] refl
 

@@ -4,7 +4,7 @@ use Rattle.std.specs.List.{AllByRecursion, list_any, list_all}
 use Rattle.std.specs.Int.{is_in_range}
 use Rattle.std.specs.Ordering.{eq_by_cmp}
 use Rattle.std.specs.declared.cmp.Ordering.{Ordering}
-use Rattle.std.proofs.lemmas.Bool.{and_parts}
+use Rattle.std.proofs.lemmas.Bool.{and_parts, false_from_ne_true, not-true, not_from_false}
 use Rattle.std.proofs.lemmas.Bool.Decides.{nat_tests}
 use Rattle.iloc_grammar.specs.Words.{Kind, Language, Script, Region, Variant, UnicodeKey, TransformKey, Attribute, PrivateSubtag, is_word, IsWord, lower, word_cmp}
 use Rattle.iloc_grammar.specs.Written.{Identifier, Unicode, Transform, Extension, unicode, transform, other, extension_pieces, kept, HasWords, IsIdentifier, IsKeyword, IsField, IsUnicode, IsTransform, IsOther, IsPrivate, IsExtension, singleton, AllDifferent}
@@ -21,6 +21,12 @@ pub record Tests (b : Bool) (P : Type 0) : Type 0 where
 
 pub tests_not : {b : Bool} {P : Type 0} → Tests b P → b ≡ false → ¬ P
 tests_not t e p = true≢false (sym (t.passes p) ∙ e)
+
+pub tests_fails : {b : Bool} {P : Type 0} → Tests b P → ¬ P → b ≡ false
+tests_fails t n = false_from_ne_true _ (λ e. n (t.holds e))
+
+pub tests_denied : {b : Bool} {P : Type 0} → Tests b P → Tests (not b) (¬ P)
+tests_denied {b = b} t = record { holds = λ e. tests_not t (not-true b e); passes = λ n. not_from_false b (tests_fails t n) }
 
 pub tests_word : (k : Kind) (p : List ℕ) → Tests (is_word k p) (IsWord k p)
 tests_word k p = record { holds = λ e. e; passes = λ e. e }
@@ -123,10 +129,16 @@ tests_extension T c (other ps) = tests_and (record { holds = λ e. e; passes = �
 
 -- pieces that were read follow the rule, or none that spell them do
 
+pub identifier_read : {T : ℕ → Bool} {ps : List (List ℕ)} → SpellsIdentifier T ps → IsIdentifier T (identifier_of ps)
+identifier_read {T = T} s = subst (IsIdentifier T) (sym (ap identifier_of s.2 ∙ identifier_of-pieces s.0 s.1.words)) s.1
+
+pub extension_read : (T : ℕ → Bool) (c : ℕ) (ps : List (List ℕ)) → (e : Extension) × IsExtension T c e × (ps ≡ extension_pieces e) → IsExtension T c (extension_of c ps)
+extension_read T c ps h = subst (IsExtension T c) (sym (ap (extension_of c) h.2 ∙ extension_of-pieces T c h.0 h.1)) h.1
+
 pub tests_spelled : (T : ℕ → Bool) (p : List ℕ) (ps : List (List ℕ)) → Tests (is_identifier T (identifier_of (p ∷ ps))) (SpellsIdentifier T (p ∷ ps))
 tests_spelled T p ps = tests_like
     (λ (h : IsIdentifier T (identifier_of (p ∷ ps))). (identifier_of (p ∷ ps), h, sym (pieces-identifier_of p ps)))
-    (λ (h : SpellsIdentifier T (p ∷ ps)). subst (IsIdentifier T) (sym (ap identifier_of h.2 ∙ identifier_of-pieces h.0 h.1.words)) h.1)
+    identifier_read
     (tests_identifier T (identifier_of (p ∷ ps)))
 
 pub tests_either : {a b : Bool} {P Q : Type 0} → Tests a P → Tests b Q → Tests (a || b) (P ⊎ Q)
@@ -147,5 +159,5 @@ tests_either {a = a} {b = b} {P = P} {Q = Q} s t = record { holds = λ e. from a
 pub tests_block : (T : ℕ → Bool) (b : ℕ × List (List ℕ)) → Tests (is_block T b) (IsBlock T b)
 tests_block T b = tests_either (tests_and (tests_nat (singleton b) 120) (tests_private b.1)) (tests_like
     (λ (h : IsExtension T (singleton b) (extension_of (singleton b) b.1)). (extension_of (singleton b) b.1, h, sym (pieces-extension_of (singleton b) b.1)))
-    (λ (h : (e : Extension) × IsExtension T (singleton b) e × (b.1 ≡ extension_pieces e)). subst (IsExtension T (singleton b)) (sym (ap (extension_of (singleton b)) h.2 ∙ extension_of-pieces T (singleton b) h.0 h.1)) h.1)
+    (extension_read T (singleton b) b.1)
     (tests_extension T (singleton b) (extension_of (singleton b) b.1)))
