@@ -1,6 +1,6 @@
 -- Reading doesn't see the case of letters.
-use Rattle.std.proofs.Common.{◌≡◌, inl, inr, ℕ, zero, suc, ◌<◌, ◌≤◌, Bool, true, false, cond, not, ◌==◌, List, [], ◌∷◌, length, map, filter, filter_map, refl, sym, ap, ap₂, ◌∙◌, subst, arith, Option, Some, None, IfSome, option_map}
-use Rattle.std.specs.List.{AllByRecursion, cons_option, slice_split, onto_first}
+use Rattle.std.proofs.Common.{◌≡◌, inl, inr, ℕ, zero, suc, ◌+◌, ◌&&◌, ◌||◌, is_some, nat_lt, ◌≤◌, Bool, true, false, not, ◌==◌, List, [], ◌∷◌, length, map, filter, filter_map, refl, sym, ap, ap₂, ◌∙◌, subst, arith, Option, Some, None, IfSome, option_map}
+use Rattle.std.specs.List.{AllByRecursion, cons_option, slice_split, onto_first, list_all}
 use Rattle.std.specs.Char.{to_ascii_lowercase}
 use Rattle.std.specs.Int.{is_in_range}
 use Rattle.std.specs.Ordering.{nat_cmp, eq_by_cmp}
@@ -8,13 +8,17 @@ use Rattle.std.specs.FinMap.{find}
 use Rattle.std.proofs.lemmas.Bool.Decides.{nat_tests}
 use Rattle.std.proofs.lemmas.Str.Ascii.{lowercase-lowercase}
 use Rattle.iloc_grammar.specs.Pieces.{pieces, join}
-use Rattle.iloc_grammar.specs.Words.{Kind, Language, Script, Region, Variant, Subtag, UnicodeKey, TransformKey, Attribute, PrivateSubtag, is_word, IsWord, IsTable, lower, word_cmp, is_true}
-use Rattle.iloc_grammar.specs.Written.{Identifier, Fields, Extension, unicode, transform, other, Written, spelling, IsIdentifier, IsKeyword, IsField, IsPrivate, kept, IsExtension, singleton, IsWritten, AllDifferent}
+use Rattle.iloc_grammar.specs.Words.{Kind, Language, Script, Region, Variant, Subtag, UnicodeKey, TransformKey, Attribute, PrivateSubtag, is_word, IsTable, lower, word_cmp, is_true}
+use Rattle.iloc_grammar.specs.Written.{Identifier, Fields, Extension, unicode, transform, other, Written, spelling, IsIdentifier, IsPrivate, kept, is_other_singleton, IsExtension, singleton, IsWritten, AllDifferent}
 use Rattle.iloc_grammar.specs.Meaning.{map_of, set_of, normal_identifier, normal_values, Locale, unicode_part, transform_part, private_part, other_part, by_singleton, meaning, Means}
 use Rattle.iloc_grammar.specs.Values.{lower_identifier}
 use Rattle.iloc_grammar.specs.Blocks.{is_one_byte, front, blocks, head, tail_blocks, first_piece}
+use Rattle.std.proofs.lemmas.List.{length-map}
+use Rattle.iloc_grammar.specs.Computing.{holds_if_some, all_different, is_identifier, is_keyword, is_field, is_private, is_extension}
+use Rattle.iloc_grammar.proofs.RuleTests.{Tests, tests_and, tests_like, tests_all, tests_if_some, tests_different, tests_nat, tests_identifier, tests_private, tests_extension}
+use Rattle.iloc_grammar.proofs.General.{cond-map, map-then, option_map-then, list_all-mapped}
 use Rattle.iloc_grammar.proofs.WordsLaws.{lower-lower, length-lower, is_word-lower}
-use Rattle.iloc_grammar.proofs.ValuesLaws.{lower_twice, normal-lower_identifier, lower_is_identifier}
+use Rattle.iloc_grammar.proofs.ValuesLaws.{lower_twice, normal-lower_identifier}
 use Rattle.iloc_grammar.specs.Reading.{take_first, skip_first, rest_of, identifier_of, before_key, fields_from, is_two, unicode_of, transform_of, optional_of, extension_by, extension_of, extensions_in, private_in, written_of}
 use Rattle.iloc_grammar.proofs.Readings.{written_of-spelling}
 use Rattle.iloc_grammar.specs.Steps.{TextStep, Chain}
@@ -34,7 +38,7 @@ same_one p = ap (λ n. n == 1) (length-lower p)
 
 front-low : (ps : List (List ℕ)) → front (low ps) ≡ low (front ps)
 front-low [] = refl
-front-low (p ∷ ps) = ap (λ b. cond b [] (lower p ∷ front (low ps))) (same_one p) ∙ elim (is_one_byte p) as (λ b. cond b [] (lower p ∷ front (low ps)) ≡ low (cond b [] (p ∷ front ps))) [ true ↦ refl | false ↦ ap (λ l. lower p ∷ l) (front-low ps) ]
+front-low (p ∷ ps) = cond-map low _ _ (same_one p) refl (ap (λ l. lower p ∷ l) (front-low ps))
 
 abbrev pub low_block : ℕ × List (List ℕ) → ℕ × List (List ℕ)
 low_block b = (to_ascii_lowercase b.0, low b.1)
@@ -43,8 +47,7 @@ blocks-low : (ps : List (List ℕ)) → blocks (low ps) ≡ map low_block (block
 unfolding lower
 blocks-low [] = refl
 blocks-low ([] ∷ ps) = blocks-low ps
-blocks-low ((c ∷ []) ∷ ps) = ap (λ d. cond (d == 120) ((to_ascii_lowercase c, low ps) ∷ []) ((to_ascii_lowercase c, front (low ps)) ∷ blocks (low ps))) (lowercase-lowercase c)
-    ∙ elim (to_ascii_lowercase c == 120) as (λ b. cond b ((to_ascii_lowercase c, low ps) ∷ []) ((to_ascii_lowercase c, front (low ps)) ∷ blocks (low ps)) ≡ map low_block (cond b ((c, ps) ∷ []) ((c, front ps) ∷ blocks ps))) [ true ↦ refl | false ↦ λ i. (to_ascii_lowercase c, front-low ps i) ∷ blocks-low ps i ]
+blocks-low ((c ∷ []) ∷ ps) = cond-map (map low_block) _ _ (ap (λ d. d == 120) (lowercase-lowercase c)) refl (λ i. (to_ascii_lowercase c, front-low ps i) ∷ blocks-low ps i)
 blocks-low ((c ∷ d ∷ p) ∷ ps) = blocks-low ps
 
 -- identifiers
@@ -52,20 +55,19 @@ blocks-low ((c ∷ d ∷ p) ∷ ps) = blocks-low ps
 module _ (test : List ℕ → Bool) (same : (p : List ℕ) → test (lower p) ≡ test p) where
   take-low : (ps : List (List ℕ)) → take_first test (low ps) ≡ option_map lower (take_first test ps)
   take-low [] = refl
-  take-low (p ∷ ps) = ap (λ b. cond b (Some (lower p)) None) (same p) ∙ elim (test p) as (λ b. cond b (Some (lower p)) None ≡ option_map lower (cond b (Some p) None)) [ true ↦ refl | false ↦ refl ]
+  take-low (p ∷ ps) = cond-map (option_map lower) _ _ (same p) refl refl
 
   skip-low : (ps : List (List ℕ)) → skip_first test (low ps) ≡ low (skip_first test ps)
   skip-low [] = refl
-  skip-low (p ∷ ps) = ap (λ b. cond b (low ps) (lower p ∷ low ps)) (same p) ∙ elim (test p) as (λ b. cond b (low ps) (lower p ∷ low ps) ≡ low (cond b ps (p ∷ ps))) [ true ↦ refl | false ↦ refl ]
+  skip-low (p ∷ ps) = cond-map low _ _ (same p) refl refl
 
   before_key-low : (ps : List (List ℕ)) → before_key test (low ps) ≡ low (before_key test ps)
   before_key-low [] = refl
-  before_key-low (p ∷ ps) = ap (λ b. cond b [] (lower p ∷ before_key test (low ps))) (same p) ∙ elim (test p) as (λ b. cond b [] (lower p ∷ before_key test (low ps)) ≡ low (cond b [] (p ∷ before_key test ps))) [ true ↦ refl | false ↦ ap (λ l. lower p ∷ l) (before_key-low ps) ]
+  before_key-low (p ∷ ps) = cond-map low _ _ (same p) refl (ap (λ l. lower p ∷ l) (before_key-low ps))
 
   fields_from-low : (ps : List (List ℕ)) → fields_from test (low ps) ≡ map (λ f. (lower f.0, low f.1)) (fields_from test ps)
   fields_from-low [] = refl
-  fields_from-low (p ∷ ps) = ap (λ b. cond b ((lower p, before_key test (low ps)) ∷ fields_from test (low ps)) (fields_from test (low ps))) (same p)
-      ∙ elim (test p) as (λ b. cond b ((lower p, before_key test (low ps)) ∷ fields_from test (low ps)) (fields_from test (low ps)) ≡ map (λ f. (lower f.0, low f.1)) (cond b ((p, before_key test ps) ∷ fields_from test ps) (fields_from test ps))) [ true ↦ λ i. (lower p, before_key-low ps i) ∷ fields_from-low ps i | false ↦ fields_from-low ps ]
+  fields_from-low (p ∷ ps) = cond-map (map (λ f. (lower f.0, low f.1))) _ _ (same p) (λ i. (lower p, before_key-low ps i) ∷ fields_from-low ps i) (fields_from-low ps)
 
 first-low : (ps : List (List ℕ)) → first_piece (low ps) ≡ lower (first_piece ps)
 unfolding lower
@@ -121,13 +123,11 @@ low_entries es = map (λ e. (to_ascii_lowercase e.0, low_extension e.1)) es
 
 extensions_in-low : (bs : List (ℕ × List (List ℕ))) → extensions_in (map low_block bs) ≡ low_entries (extensions_in bs)
 extensions_in-low [] = refl
-extensions_in-low (b ∷ bs) = ap (λ c. cond (c == 120) [] ((to_ascii_lowercase b.0, extension_of c (low b.1)) ∷ extensions_in (map low_block bs))) (lowercase-lowercase b.0)
-    ∙ elim (singleton b == 120) as (λ t. cond t [] ((to_ascii_lowercase b.0, extension_of (singleton b) (low b.1)) ∷ extensions_in (map low_block bs)) ≡ low_entries (cond t [] ((b.0, extension_of (singleton b) b.1) ∷ extensions_in bs))) [ true ↦ refl | false ↦ λ i. (to_ascii_lowercase b.0, extension_of-low (singleton b) b.1 i) ∷ extensions_in-low bs i ]
+extensions_in-low (b ∷ bs) = cond-map low_entries _ _ (ap (λ c. c == 120) (lowercase-lowercase b.0)) refl (λ i. (to_ascii_lowercase b.0, (ap (λ c. extension_of c (low b.1)) (lowercase-lowercase b.0) ∙ extension_of-low (singleton b) b.1) i) ∷ extensions_in-low bs i)
 
 private_in-low : (bs : List (ℕ × List (List ℕ))) → private_in (map low_block bs) ≡ option_map low_block (private_in bs)
 private_in-low [] = refl
-private_in-low (b ∷ bs) = ap (λ c. cond (c == 120) (Some (low_block b)) (private_in (map low_block bs))) (lowercase-lowercase b.0)
-    ∙ elim (singleton b == 120) as (λ t. cond t (Some (low_block b)) (private_in (map low_block bs)) ≡ option_map low_block (cond t (Some b) (private_in bs))) [ true ↦ refl | false ↦ private_in-low bs ]
+private_in-low (b ∷ bs) = cond-map (option_map low_block) _ _ (ap (λ c. c == 120) (lowercase-lowercase b.0)) refl (private_in-low bs)
 
 abbrev pub low_written : Written → Written
 low_written w = record { id = lower_identifier w.id; extensions = low_entries w.extensions; private = option_map low_block w.private }
@@ -159,11 +159,7 @@ onto-low c (p ∷ ps) = refl
 
 split-low : (t : List ℕ) → slice_split (λ b. b == 45) (map to_ascii_lowercase t) ≡ map (map to_ascii_lowercase) (slice_split (λ b. b == 45) t)
 split-low [] = refl
-split-low (c ∷ t) = ap (λ b. cond b ([] ∷ slice_split (λ b. b == 45) (map to_ascii_lowercase t)) (onto_first (to_ascii_lowercase c) (slice_split (λ b. b == 45) (map to_ascii_lowercase t)))) (hyphen_stays c)
-    ∙ elim (c == 45) as (λ b. cond b ([] ∷ slice_split (λ b. b == 45) (map to_ascii_lowercase t)) (onto_first (to_ascii_lowercase c) (slice_split (λ b. b == 45) (map to_ascii_lowercase t))) ≡ map (map to_ascii_lowercase) (cond b ([] ∷ slice_split (λ b. b == 45) t) (onto_first c (slice_split (λ b. b == 45) t)))) [
-      | true ↦ ap (λ l. [] ∷ l) (split-low t)
-      | false ↦ ap (onto_first (to_ascii_lowercase c)) (split-low t) ∙ onto-low c _
-    ]
+split-low (c ∷ t) = cond-map (map (map to_ascii_lowercase)) _ _ (hyphen_stays c) (ap (λ l. [] ∷ l) (split-low t)) (ap (onto_first (to_ascii_lowercase c)) (split-low t) ∙ onto-low c _)
 
 pub pieces-lower : (t : List ℕ) → pieces (lower t) ≡ low (pieces t)
 unfolding pieces lower
@@ -171,156 +167,94 @@ pieces-lower t = split-low t
 
 -- the rules and the meaning don't see the case
 
-module _ {X : Type 0} (P Q : X → Type 0) (f : X → X) where
-  all_to : ((x : X) → P x → Q (f x)) → (xs : List X) → AllByRecursion P xs → AllByRecursion Q (map f xs)
-  all_to g [] h = tt
-  all_to g (x ∷ xs) h = (g x h.0, all_to g xs h.1)
+words-low : (k : Kind) (ps : List (List ℕ)) → list_all (is_word k) (low ps) ≡ list_all (is_word k) ps
+words-low k ps = list_all-mapped (is_word k) lower (is_word k) (is_word-lower k) ps
 
-  all_from : ((x : X) → P (f x) → Q x) → (xs : List X) → AllByRecursion P (map f xs) → AllByRecursion Q xs
-  all_from g [] h = tt
-  all_from g (x ∷ xs) h = (g x h.0, all_from g xs h.1)
+option-low : {X : Type 0} (test : X → Bool) (f : X → X) → ((x : X) → test (f x) ≡ test x) → (o : Option X) → holds_if_some test (option_map f o) ≡ holds_if_some test o
+option-low test f e None = refl
+option-low test f e (Some x) = e x
 
-to_low : (k : Kind) (p : List ℕ) → IsWord k p → IsWord k (lower p)
-to_low k p h = is_word-lower k p ∙ h
-
-from_low : (k : Kind) (p : List ℕ) → IsWord k (lower p) → IsWord k p
-from_low k p h = sym (is_word-lower k p) ∙ h
-
-all_to_low : (k : Kind) (ps : List (List ℕ)) → AllByRecursion (IsWord k) ps → AllByRecursion (IsWord k) (low ps)
-all_to_low k ps h = all_to (IsWord k) (IsWord k) lower (to_low k) ps h
-
-all_from_low : (k : Kind) (ps : List (List ℕ)) → AllByRecursion (IsWord k) (low ps) → AllByRecursion (IsWord k) ps
-all_from_low k ps h = all_from (IsWord k) (IsWord k) lower (from_low k) ps h
-
-option_from_low : (k : Kind) (o : Option (List ℕ)) → IfSome (option_map lower o) (IsWord k) → IfSome o (IsWord k)
-option_from_low k None h = tt
-option_from_low k (Some p) h = from_low k p h
-
-pub identifier_from : (T : ℕ → Bool) (i : Identifier) → IsIdentifier T (lower_identifier i) → IsIdentifier T i
-identifier_from T i h = record {
-  words = record { language = from_low (Language T) i.language h.words.language; script = option_from_low Script i.script h.words.script; region = option_from_low Region i.region h.words.region; variants = all_from_low Variant i.variants h.words.variants };
-  different = subst (AllDifferent word_cmp) (lower_twice i.variants) h.different;
-}
-
-length-low : {X : Type 0} (f : X → X) (xs : List X) → length (map f xs) ≡ length xs
-length-low f [] = refl
-length-low f (x ∷ xs) = ap suc (length-low f xs)
+pub is_identifier-low : (T : ℕ → Bool) (i : Identifier) → is_identifier T (lower_identifier i) ≡ is_identifier T i
+is_identifier-low T i =
+    let front = ap₂ ◌&&◌ (is_word-lower (Language T) i.language) (option-low (is_word Script) lower (is_word-lower Script) i.script) in
+    let rest = ap₂ ◌&&◌ (option-low (is_word Region) lower (is_word-lower Region) i.region) (words-low Variant i.variants) in
+    ap₂ ◌&&◌ (ap₂ ◌&&◌ front rest) (ap (all_different word_cmp) (lower_twice i.variants))
 
 abbrev low_field : List ℕ × List (List ℕ) → List ℕ × List (List ℕ)
 low_field f = (lower f.0, low f.1)
 
-keywords_to : (fs : Fields) → AllByRecursion IsKeyword fs → AllByRecursion IsKeyword (low_fields fs)
-keywords_to = all_to IsKeyword IsKeyword low_field (λ f h. (to_low UnicodeKey f.0 h.0, all_to_low Attribute f.1 h.1))
+is_keyword-low : (f : List ℕ × List (List ℕ)) → is_keyword (low_field f) ≡ is_keyword f
+is_keyword-low f = ap₂ ◌&&◌ (is_word-lower UnicodeKey f.0) (words-low Attribute f.1)
 
-keywords_from : (fs : Fields) → AllByRecursion IsKeyword (low_fields fs) → AllByRecursion IsKeyword fs
-keywords_from = all_from IsKeyword IsKeyword low_field (λ f h. (from_low UnicodeKey f.0 h.0, all_from_low Attribute f.1 h.1))
+is_field-low : (f : List ℕ × List (List ℕ)) → is_field (low_field f) ≡ is_field f
+is_field-low f = ap₂ ◌&&◌ (ap₂ ◌&&◌ (is_word-lower TransformKey f.0) (words-low Attribute f.1)) (ap (nat_lt 0) (length-map f.1 lower))
 
-fields_to : (fs : Fields) → AllByRecursion IsField fs → AllByRecursion IsField (low_fields fs)
-fields_to = all_to IsField IsField low_field (λ f h. (to_low TransformKey f.0 h.0, all_to_low Attribute f.1 h.1, subst (λ (n : ℕ). 0 < n) (sym (length-low lower f.1)) h.2))
-
-fields_from_low : (fs : Fields) → AllByRecursion IsField (low_fields fs) → AllByRecursion IsField fs
-fields_from_low = all_from IsField IsField low_field (λ f h. (from_low TransformKey f.0 h.0, all_from_low Attribute f.1 h.1, subst (λ (n : ℕ). 0 < n) (length-low lower f.1) h.2))
-
-optional_to : (T : ℕ → Bool) (o : Option Identifier) → IfSome o (IsIdentifier T) → IfSome (option_map lower_identifier o) (IsIdentifier T)
-optional_to T None h = tt
-optional_to T (Some i) h = lower_is_identifier i h
-
-optional_from : (T : ℕ → Bool) (o : Option Identifier) → IfSome (option_map lower_identifier o) (IsIdentifier T) → IfSome o (IsIdentifier T)
-optional_from T None h = tt
-optional_from T (Some i) h = identifier_from T i h
-
-absent_to : (o : Option Identifier) → option_map lower_identifier o ≡ None → o ≡ None
-absent_to None e = refl
-absent_to (Some i) e = cc
+is_some-low : (o : Option Identifier) → is_some (option_map lower_identifier o) ≡ is_some o
+is_some-low None = refl
+is_some-low (Some i) = refl
 
 kept-low : (ps : List (List ℕ)) → kept (low ps) ≡ kept ps
 kept-low [] = refl
-kept-low (p ∷ ps) = ap (λ b. low (cond b (lower p ∷ filter (is_word Subtag) (low ps)) (filter (is_word Subtag) (low ps)))) (is_word-lower Subtag p)
-    ∙ elim (is_word Subtag p) as (λ b. low (cond b (lower p ∷ filter (is_word Subtag) (low ps)) (filter (is_word Subtag) (low ps))) ≡ low (cond b (p ∷ filter (is_word Subtag) ps) (filter (is_word Subtag) ps))) [ true ↦ ap₂ ◌∷◌ (lower-lower p) (kept-low ps) | false ↦ kept-low ps ]
+kept-low (p ∷ ps) = sym (cond-map low _ _ refl refl refl) ∙ cond-map low _ _ (is_word-lower Subtag p) (ap₂ ◌∷◌ (lower-lower p) (kept-low ps)) (kept-low ps)
 
-abbrev IsMiddling : List ℕ → Type 0
-IsMiddling p = is_in_range 2 8 (length p) ≡ true
+is_extension-low : (T : ℕ → Bool) (c : ℕ) (e : Extension) → is_extension T c (low_extension e) ≡ is_extension T c e
+is_extension-low T c (unicode u) =
+    let words = ap₂ ◌&&◌ (words-low Attribute u.attributes) (list_all-mapped is_keyword low_field is_keyword is_keyword-low u.keywords) in
+    ap (λ b. (c == 117) && b) (ap₂ ◌&&◌ words (ap₂ (λ m n. nat_lt 0 (m + n)) (length-map u.attributes lower) (length-map u.keywords low_field)))
+is_extension-low T c (transform m) =
+    let parts = ap₂ ◌&&◌ (option-low (is_identifier T) lower_identifier (is_identifier-low T) m.id) (list_all-mapped is_field low_field is_field is_field-low m.fields) in
+    ap (λ b. (c == 116) && b) (ap₂ ◌&&◌ parts (ap₂ (λ b n. b || nat_lt 0 n) (is_some-low m.id) (length-map m.fields low_field)))
+is_extension-low T c (other ps) = ap (λ b. is_other_singleton c && b) (ap₂ ◌&&◌ (list_all-mapped (λ p. is_in_range 2 8 (length p)) lower (λ p. is_in_range 2 8 (length p)) (λ p. ap (is_in_range 2 8) (length-lower p)) ps) (ap (λ l. nat_lt 0 (length l)) (kept-low ps)))
 
-extension_to : (T : ℕ → Bool) (c : ℕ) (e : Extension) → IsExtension T c e → IsExtension T c (low_extension e)
-extension_to T c (unicode u) h = let a = length-low lower u.attributes in let b = length-low low_field u.keywords in let n = h.1.nonempty in
-    (h.0, record { attributes = all_to_low Attribute u.attributes h.1.attributes; keywords = keywords_to u.keywords h.1.keywords; nonempty = omega arith })
-extension_to T c (transform m) h = (h.0, record { id = optional_to T m.id h.1.id; fields = fields_to m.fields h.1.fields; nonempty = λ e. subst (λ (n : ℕ). 0 < n) (sym (length-low low_field m.fields)) (h.1.nonempty (absent_to m.id e)) })
-extension_to T c (other ps) h = (h.0, record { lengths = all_to IsMiddling IsMiddling lower (λ p k. ap (is_in_range 2 8) (length-lower p) ∙ k) ps h.1.lengths; nonempty = subst (λ (l : List (List ℕ)). 0 < length l) (sym (kept-low ps)) h.1.nonempty })
+-- the rules of a whole text as one test
 
-extension_from : (T : ℕ → Bool) (c : ℕ) (e : Extension) → IsExtension T c (low_extension e) → IsExtension T c e
-extension_from T c (unicode u) h = let a = length-low lower u.attributes in let b = length-low low_field u.keywords in let n = h.1.nonempty in
-    (h.0, record { attributes = all_from_low Attribute u.attributes h.1.attributes; keywords = keywords_from u.keywords h.1.keywords; nonempty = omega arith })
-extension_from T c (transform m) h = (h.0, record { id = optional_from T m.id h.1.id; fields = fields_from_low m.fields h.1.fields; nonempty = λ e. subst (λ (n : ℕ). 0 < n) (length-low low_field m.fields) (h.1.nonempty (ap (option_map lower_identifier) e)) })
-extension_from T c (other ps) h = (h.0, record { lengths = all_from IsMiddling IsMiddling lower (λ p k. sym (ap (is_in_range 2 8) (length-lower p)) ∙ k) ps h.1.lengths; nonempty = subst (λ (l : List (List ℕ)). 0 < length l) (kept-low ps) h.1.nonempty })
+abbrev is_entry : (ℕ → Bool) → ℕ × Extension → Bool
+is_entry T e = is_extension T (singleton e) e.1
+
+abbrev is_private_block : ℕ × List (List ℕ) → Bool
+is_private_block e = (singleton e == 120) && is_private e.1
+
+abbrev is_written : (ℕ → Bool) → Written → Bool
+is_written T w = (is_identifier T w.id && list_all (is_entry T) w.extensions) && (all_different nat_cmp (map (λ e. singleton e) w.extensions) && holds_if_some is_private_block w.private)
+
+tests_written : (T : ℕ → Bool) (w : Written) → Tests (is_written T w) (IsWritten T w)
+tests_written T w = tests_like
+    (λ (x : (IsIdentifier T w.id × AllByRecursion (λ e. IsExtension T (singleton e) e.1) w.extensions) × (AllDifferent nat_cmp (map (λ e. singleton e) w.extensions) × IfSome w.private (λ e. (singleton e ≡ 120) × IsPrivate e.1))). record { id = x.0.0; extensions = x.0.1; different = x.1.0; private = x.1.1 })
+    (λ (h : IsWritten T w). ((h.id, h.extensions), (h.different, h.private)))
+    (tests_and
+    (tests_and (tests_identifier T w.id) (tests_all (is_entry T) (λ e. IsExtension T (singleton e) e.1) (λ e. tests_extension T (singleton e) e.1) w.extensions))
+    (tests_and (tests_different nat_cmp _) (tests_if_some is_private_block (λ e. (singleton e ≡ 120) × IsPrivate e.1) (λ e. tests_and (tests_nat (singleton e) 120) (tests_private e.1)) w.private)))
 
 abbrev low_entry : ℕ × Extension → ℕ × Extension
 low_entry e = (to_ascii_lowercase e.0, low_extension e.1)
 
-singletons-low : (es : List (ℕ × Extension)) → map (λ (e : ℕ × Extension). singleton e) (low_entries es) ≡ map (λ e. singleton e) es
-singletons-low [] = refl
-singletons-low (e ∷ es) = ap₂ ◌∷◌ (lowercase-lowercase e.0) (singletons-low es)
-
-abbrev IsPrivateBlock : ℕ × List (List ℕ) → Type 0
-IsPrivateBlock e = (singleton e ≡ 120) × IsPrivate e.1
-
-private_to : (x : Option (ℕ × List (List ℕ))) → IfSome x IsPrivateBlock → IfSome (option_map low_block x) IsPrivateBlock
-private_to None h = tt
-private_to (Some e) h = (lowercase-lowercase e.0 ∙ h.0, record { words = all_to_low PrivateSubtag e.1 h.1.words; nonempty = subst (λ (n : ℕ). 0 < n) (sym (length-low lower e.1)) h.1.nonempty })
-
-private_from : (x : Option (ℕ × List (List ℕ))) → IfSome (option_map low_block x) IsPrivateBlock → IfSome x IsPrivateBlock
-private_from None h = tt
-private_from (Some e) h = (sym (lowercase-lowercase e.0) ∙ h.0, record { words = all_from_low PrivateSubtag e.1 h.1.words; nonempty = subst (λ (n : ℕ). 0 < n) (length-low lower e.1) h.1.nonempty })
-
-abbrev IsEntry : (ℕ → Bool) → ℕ × Extension → Type 0
-IsEntry T e = IsExtension T (singleton e) e.1
-
-written_to : (T : ℕ → Bool) (w : Written) → IsWritten T w → IsWritten T (low_written w)
-written_to T w h = record {
-  id = lower_is_identifier w.id h.id;
-  extensions = all_to (IsEntry T) (IsEntry T) low_entry (λ e k. subst (λ (c : ℕ). IsExtension T c (low_extension e.1)) (sym (lowercase-lowercase e.0)) (extension_to T (singleton e) e.1 k)) w.extensions h.extensions;
-  different = subst (AllDifferent nat_cmp) (sym (singletons-low w.extensions)) h.different;
-  private = private_to w.private h.private;
-}
-
-written_from : (T : ℕ → Bool) (w : Written) → IsWritten T (low_written w) → IsWritten T w
-written_from T w h = record {
-  id = identifier_from T w.id h.id;
-  extensions = all_from (IsEntry T) (IsEntry T) low_entry (λ e k. extension_from T (singleton e) e.1 (subst (λ (c : ℕ). IsExtension T c (low_extension e.1)) (lowercase-lowercase e.0) k)) w.extensions h.extensions;
-  different = subst (AllDifferent nat_cmp) (singletons-low w.extensions) h.different;
-  private = private_from w.private h.private;
-}
+is_written-low : (T : ℕ → Bool) (w : Written) → is_written T (low_written w) ≡ is_written T w
+is_written-low T w =
+    let entries = list_all-mapped (is_entry T) low_entry (is_entry T) (λ e. ap (λ c. is_extension T c (low_extension e.1)) (lowercase-lowercase e.0) ∙ is_extension-low T (singleton e) e.1) w.extensions in
+    let singletons = map-then (λ (e : ℕ × Extension). singleton e) low_entry (λ e. singleton e) (λ e. lowercase-lowercase e.0) w.extensions in
+    let private = option-low is_private_block low_block (λ e. ap₂ ◌&&◌ (ap (λ c. c == 120) (lowercase-lowercase e.0)) (ap₂ ◌&&◌ (words-low PrivateSubtag e.1) (ap (nat_lt 0) (length-map e.1 lower)))) w.private in
+    ap₂ ◌&&◌ (ap₂ ◌&&◌ (is_identifier-low T w.id) entries) (ap₂ ◌&&◌ (ap (all_different nat_cmp) singletons) private)
 
 -- meanings
 
-entries-low : (fs : Fields) → map {B = List ℕ × List (List ℕ)} (λ f. (lower f.0, normal_values f.1)) (low_fields fs) ≡ map {B = List ℕ × List (List ℕ)} (λ f. (lower f.0, normal_values f.1)) fs
-entries-low [] = refl
-entries-low (f ∷ fs) = λ i. (lower-lower f.0 i, filter (λ w. not (is_true w)) (lower_twice f.1 i)) ∷ entries-low fs i
-
-optional_normal-low : (o : Option Identifier) → option_map normal_identifier (option_map lower_identifier o) ≡ option_map normal_identifier o
-optional_normal-low None = refl
-optional_normal-low (Some i) = ap Some (normal-lower_identifier i)
+entries-low : (fs : Fields) → map {B = List ℕ × List (List ℕ)} (λ f. (lower f.0, normal_values f.1)) (low_fields fs) ≡ map (λ f. (lower f.0, normal_values f.1)) fs
+entries-low fs = map-then (λ f. (lower f.0, normal_values f.1)) low_field (λ f. (lower f.0, normal_values f.1)) (λ f i. (lower-lower f.0 i, filter (λ w. not (is_true w)) (lower_twice f.1 i))) fs
 
 unicode_part-low : (o : Option Extension) → unicode_part (option_map low_extension o) ≡ unicode_part o
-unicode_part-low None = refl
 unicode_part-low (Some (unicode u)) = λ i. record { attributes = set_of (lower_twice u.attributes i); keywords = map_of word_cmp (entries-low u.keywords i) }
-unicode_part-low (Some (transform m)) = refl
-unicode_part-low (Some (other ps)) = refl
+unicode_part-low _ = refl
 
 transform_part-low : (o : Option Extension) → transform_part (option_map low_extension o) ≡ transform_part o
-transform_part-low None = refl
-transform_part-low (Some (unicode u)) = refl
-transform_part-low (Some (transform m)) = λ i. record { id = optional_normal-low m.id i; fields = map_of word_cmp (entries-low m.fields i) }
-transform_part-low (Some (other ps)) = refl
+transform_part-low (Some (transform m)) = λ i. record { id = option_map-then normal_identifier lower_identifier normal_identifier normal-lower_identifier m.id i; fields = map_of word_cmp (entries-low m.fields i) }
+transform_part-low _ = refl
 
 find-low : (q : ℕ) (es : List (ℕ × Extension)) → find nat_cmp q (by_singleton (low_entries es)) ≡ option_map low_extension (find nat_cmp q (by_singleton es))
 find-low q [] = refl
-find-low q (e ∷ es) = ap (λ c. cond (eq_by_cmp nat_cmp q c) (Some (low_extension e.1)) (find nat_cmp q (by_singleton (low_entries es)))) (lowercase-lowercase e.0)
-    ∙ elim (eq_by_cmp nat_cmp q (singleton e)) as (λ b. cond b (Some (low_extension e.1)) (find nat_cmp q (by_singleton (low_entries es))) ≡ option_map low_extension (cond b (Some e.1) (find nat_cmp q (by_singleton es)))) [ true ↦ refl | false ↦ find-low q es ]
+find-low q (e ∷ es) = cond-map (option_map low_extension) _ _ (ap (eq_by_cmp nat_cmp q) (lowercase-lowercase e.0)) refl (find-low q es)
 
 other_part-low : (c d : ℕ) (x : Extension) → c ≡ d → other_part (c, low_extension x) ≡ other_part (d, x)
-other_part-low c d (unicode u) e = refl
-other_part-low c d (transform m) e = refl
 other_part-low c d (other ps) e = λ i. Some (e i, kept-low ps i)
+other_part-low c d _ e = refl
 
 others-low : (es : List (ℕ × Extension)) → filter_map other_part (by_singleton (low_entries es)) ≡ filter_map other_part (by_singleton es)
 others-low [] = refl
@@ -345,7 +279,7 @@ case_means T table t u M e m =
     let same : low_written v ≡ low_written w = ap low_written (sym v_is) ∙ sym (written_of-low (pieces t)) ∙ ap written_of (sym (pieces-lower t) ∙ ap pieces e ∙ pieces-lower u) ∙ written_of-low (pieces u) in
     record {
       written = w;
-      grammatical = written_from T w (subst (IsWritten T) same (written_to T v m.grammatical));
+      grammatical = (tests_written T w).holds (sym (is_written-low T w) ∙ ap (is_written T) (sym same) ∙ is_written-low T v ∙ (tests_written T v).passes m.grammatical);
       spelled = pieces-written_of u;
       means = m.means ∙ sym (meaning-low v) ∙ ap meaning same ∙ meaning-low w;
     }

@@ -2,7 +2,7 @@
 use Rattle.std.proofs.Common.{◌≡◌, ◌⊎◌, inl, inr, ℕ, zero, suc, ◌+◌, Bool, true, false, cond, not, List, ◌∷◌, length, refl, sym, ap, ◌∙◌, subst, arith, ◌↔◌, true≢false, Result, Ok, Err, MatchResult}
 use Rattle.iloc_grammar.specs.Pieces.{pieces, join}
 use Rattle.iloc_grammar.specs.Words.{Language, is_word, lower}
-use Rattle.iloc_grammar.specs.Written.{Identifier, identifier_pieces, HasWords, IsIdentifier}
+use Rattle.iloc_grammar.specs.Written.{Identifier, identifier_pieces, HasWords}
 use Rattle.iloc_grammar.specs.Meaning.{normal_identifier, IdentifierMeans}
 use Rattle.iloc_grammar.specs.Values.{IsIdentifierValue, lower_identifier, identifier_text}
 use Rattle.iloc_grammar.specs.Faults.{Fault, InvalidLanguage, InvalidSubtag, HasIdentifierFault, not_a_language, not_an_identifier}
@@ -12,7 +12,7 @@ use Rattle.iloc_grammar.proofs.WordsLaws.{length-lower}
 use Rattle.iloc_grammar.proofs.PiecesLaws.{pieces-join, join-pieces, at_pieces}
 use Rattle.iloc_grammar.proofs.IdentifierLaws.{pieces-identifier_of, identifier_of-pieces, one_identifier, one_meaning}
 use Rattle.iloc_grammar.specs.Reading.{identifier_of}
-use Rattle.iloc_grammar.proofs.ValuesLaws.{identifier_reads_back, normal-lower_identifier, value_words, lower_is_identifier}
+use Rattle.iloc_grammar.proofs.ValuesLaws.{identifier_reads_back, normal-lower_identifier, value_words}
 use Rattle.iloc_grammar.proofs.WellRead.{identifier_value}
 use Rattle.iloc_grammar.proofs.ReadBack.{identifier_hyphen_free}
 use Rattle.iloc_grammar.specs.Computing.{is_identifier, identifier_result}
@@ -21,7 +21,7 @@ use Rattle.iloc_grammar.proofs.FaultLaws.{either}
 use Rattle.iloc_grammar.proofs.StepLaws.{identifier_step}
 use Rattle.iloc_grammar.proofs.Orders.{total}
 use Rattle.iloc_grammar.proofs.StepSizes.{identifier_size, piece_length, length-join}
-use Rattle.iloc_grammar.proofs.CaseLaws.{pieces-lower, identifier_of-low, identifier_from}
+use Rattle.iloc_grammar.proofs.CaseLaws.{pieces-lower, identifier_of-low, is_identifier-low}
 use Rattle.iloc_grammar.proofs.Canonical.{sort_identifier, identifier_order_step, canonical_identifier}
 use Rattle.iloc_grammar.proofs.Chains.{identifier_pieces-low, lower-join}
 
@@ -59,7 +59,7 @@ case_means T t u i e m =
     let same : lower_identifier v ≡ lower_identifier w = ap lower_identifier (sym v_is) ∙ sym (identifier_of-low (pieces t)) ∙ ap identifier_of (sym (pieces-lower t) ∙ ap pieces e ∙ pieces-lower u) ∙ identifier_of-low (pieces u) in
     record {
       written = w;
-      grammatical = identifier_from T w (subst (IsIdentifier T) same (lower_is_identifier v m.grammatical));
+      grammatical = (tests_identifier T w).holds (sym (is_identifier-low T w) ∙ ap (is_identifier T) (sym same) ∙ is_identifier-low T v ∙ (tests_identifier T v).passes m.grammatical);
       spelled = at_pieces (λ ps. ps ≡ identifier_pieces (identifier_of ps)) (λ p ps. sym (pieces-identifier_of p ps)) u;
       means = m.means ∙ sym (normal-lower_identifier v) ∙ ap normal_identifier same ∙ normal-lower_identifier w;
     }
