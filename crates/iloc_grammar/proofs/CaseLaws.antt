@@ -225,7 +225,7 @@ tests_written T w = tests_like
     (tests_and (tests_identifier T w.id) (tests_all (is_entry T) (λ e. IsExtension T (singleton e) e.1) (λ e. tests_extension T (singleton e) e.1) w.extensions))
     (tests_and (tests_different nat_cmp _) (tests_if_some is_private_block (λ e. (singleton e ≡ 120) × IsPrivate e.1) (λ e. tests_and (tests_nat (singleton e) 120) (tests_private e.1)) w.private)))
 
-abbrev low_entry : ℕ × Extension → ℕ × Extension
+abbrev pub low_entry : ℕ × Extension → ℕ × Extension
 low_entry e = (to_ascii_lowercase e.0, low_extension e.1)
 
 is_written-low : (T : ℕ → Bool) (w : Written) → is_written T (low_written w) ≡ is_written T w

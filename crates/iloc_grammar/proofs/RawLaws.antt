@@ -11,28 +11,10 @@ use Rattle.iloc_grammar.proofs.WordsLaws.{word_letters_or_digits}
 -- the tables
 
 pub narrow_table : IsTable two_or_three
-narrow_table = record { least = λ n h. at_least n h; most = λ n h. at_most n h; no_script = λ n h. no_four n h }
-  where
-    at_least : (n : ℕ) → two_or_three n ≡ true → 2 ≤ n
-    at_least n h = grind (arith, nat_tests)
-
-    at_most : (n : ℕ) → two_or_three n ≡ true → n ≤ 8
-    at_most n h = grind (arith, nat_tests)
-
-    no_four : (n : ℕ) → two_or_three n ≡ true → n ≢ 4
-    no_four n h = grind (arith, nat_tests)
+narrow_table = record { least = λ n h. grind (arith, nat_tests); most = λ n h. grind (arith, nat_tests); no_script = λ n h. grind (arith, nat_tests) }
 
 pub wide_table : IsTable all_but_four
-wide_table = record { least = λ n h. at_least n h; most = λ n h. at_most n h; no_script = λ n h. no_four n h }
-  where
-    at_least : (n : ℕ) → all_but_four n ≡ true → 2 ≤ n
-    at_least n h = grind (arith, nat_tests)
-
-    at_most : (n : ℕ) → all_but_four n ≡ true → n ≤ 8
-    at_most n h = grind (arith, nat_tests)
-
-    no_four : (n : ℕ) → all_but_four n ≡ true → n ≢ 4
-    no_four n h = grind (arith, nat_tests)
+wide_table = record { least = λ n h. grind (arith, nat_tests); most = λ n h. grind (arith, nat_tests); no_script = λ n h. grind (arith, nat_tests) }
 
 pub languages_table : IsTable languages
 unfolding languages
@@ -46,26 +28,14 @@ pub wide_ends : EndsAt 8 languages
 wide_ends = languages_table.most
 
 pub narrow_ends : EndsAt 3 two_or_three
-narrow_ends n h = at_most n h
-  where
-    at_most : (n : ℕ) → two_or_three n ≡ true → n ≤ 3
-    at_most n h = grind (arith, nat_tests)
+narrow_ends n h = grind (arith, nat_tests)
 
 -- no word is longer than the greatest
 
 at_most_greatest : (n : ℕ) (k : Kind) (w : List ℕ) → Bounds n k → IsWord k w → length w ≤ greatest n k
 unfolding is_word
 at_most_greatest n (Language T) w b h = b (length w) (and_parts _ _ h).0
-at_most_greatest n Script w b h = grind (arith, nat_tests)
-at_most_greatest n Region w b h = grind (arith, nat_tests)
-at_most_greatest n Variant w b h = grind (arith, nat_tests)
-at_most_greatest n Subtag w b h = grind (arith, nat_tests)
-at_most_greatest n UnicodeKey w b h = grind (arith, nat_tests)
-at_most_greatest n TransformKey w b h = grind (arith, nat_tests)
-at_most_greatest n Attribute w b h = grind (arith, nat_tests)
-at_most_greatest n PrivateSubtag w b h = grind (arith, nat_tests)
-at_most_greatest n SubdivisionSuffix w b h = grind (arith, nat_tests)
-at_most_greatest n CurrencyType w b h = grind (arith, nat_tests)
+at_most_greatest n _ w b h = grind (arith, nat_tests)
 
 pub length-raw : (n : ℕ) (k : Kind) (w : List ℕ) → Bounds n k → IsWord k w → length (raw n k w) ≡ greatest n k
 length-raw n k w b h = let m = at_most_greatest n k w b h in let z : length (replicate {A = ℕ} (greatest n k - length w) 0) ≡ greatest n k - length w = length-replicate (greatest n k - length w) 0 in let a = length-append w (replicate (greatest n k - length w) 0) in omega arith

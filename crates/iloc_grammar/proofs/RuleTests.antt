@@ -5,7 +5,7 @@ use Rattle.std.specs.Int.{is_in_range}
 use Rattle.std.specs.Ordering.{eq_by_cmp}
 use Rattle.std.specs.declared.cmp.Ordering.{Ordering}
 use Rattle.std.proofs.lemmas.Bool.{and_parts, false_from_ne_true, not-true, not_from_false}
-use Rattle.std.proofs.lemmas.Bool.Decides.{nat_tests}
+use Rattle.std.proofs.lemmas.Bool.Decides.{nat_tests, Decides-ltb, Decides-eqb}
 use Rattle.iloc_grammar.specs.Words.{Kind, Language, Script, Region, Variant, UnicodeKey, TransformKey, Attribute, PrivateSubtag, is_word, IsWord, lower, word_cmp}
 use Rattle.iloc_grammar.specs.Written.{Identifier, Unicode, Transform, Extension, unicode, transform, other, extension_pieces, kept, HasWords, IsIdentifier, IsKeyword, IsField, IsUnicode, IsTransform, IsOther, IsPrivate, IsExtension, singleton, AllDifferent}
 use Rattle.iloc_grammar.specs.Faults.{SpellsIdentifier, IsBlock}
@@ -57,22 +57,10 @@ tests_different cmp (x ∷ xs) = tests_and (negated (list_any (eq_by_cmp cmp x) 
     negated false = record { holds = λ e. refl; passes = λ e. refl }
 
 pub tests_positive : (n : ℕ) → Tests (nat_lt 0 n) (0 < n)
-tests_positive n = record { holds = λ e. from n e; passes = λ h. to n h }
-  where
-    from : (n : ℕ) → nat_lt 0 n ≡ true → 0 < n
-    from n e = grind (arith, nat_tests)
-
-    to : (n : ℕ) → 0 < n → nat_lt 0 n ≡ true
-    to n h = grind (arith, nat_tests)
+tests_positive n = record { holds = (Decides-ltb 0 n).0; passes = (Decides-ltb 0 n).1 }
 
 pub tests_nat : (m n : ℕ) → Tests (m == n) (m ≡ n)
-tests_nat m n = record { holds = λ e. from m n e; passes = λ h. to m n h }
-  where
-    from : (m n : ℕ) → (m == n) ≡ true → m ≡ n
-    from m n e = grind (arith, nat_tests)
-
-    to : (m n : ℕ) → m ≡ n → (m == n) ≡ true
-    to m n h = grind (arith, nat_tests)
+tests_nat m n = record { holds = (Decides-eqb m n).0; passes = (Decides-eqb m n).1 }
 
 -- the rules
 
