@@ -19,6 +19,7 @@ use Rattle.iloc_grammar.proofs.IdentifierLaws.{one_meaning}
 use Rattle.iloc_grammar.proofs.FaultLaws.{AreGood, good_means, letter}
 use Rattle.iloc_grammar.proofs.ReadBack.{extension_singleton}
 use Rattle.iloc_grammar.proofs.Singletons.{tied, untied, self_tied, tied_back, IsKind, of_u, of_t, of_x, another, kind_of, lower_letter}
+use Rattle.iloc_grammar.proofs.General.{all_of}
 
 -- looking up a block
 
@@ -191,12 +192,8 @@ good_each T seen (b ∷ bs) l d n k o = ((l.0, n.0, rule (kind_of (singleton b) 
     see [] d n = tt
     see (c ∷ cs) d n = let parts = or_parts _ _ d in (or_from _ _ (tied_back (singleton b) (singleton c) parts.0) n.0, see cs parts.1 n.1)
 
-none_seen : (bs : List (ℕ × List (List ℕ))) → AllByRecursion (λ b. list_any (eq_by_cmp nat_cmp (singleton b)) [] ≡ false) bs
-none_seen [] = tt
-none_seen (b ∷ bs) = (refl, none_seen bs)
-
 blocks_good : (T : ℕ → Bool) (bs : List (ℕ × List (List ℕ))) (e : Extensions) → BlocksGive (grammar_rules T) bs e → AreGood T [] bs
-blocks_good T bs e m = good_each T [] bs m.letters m.different (none_seen bs)
+blocks_good T bs e m = good_each T [] bs m.letters m.different (all_of _ (λ b. refl) bs)
     (each_block (KnownAt T) bs m.different (λ q. known T q (λ q. find nat_cmp q (by_letter bs))
     (part_rule T 117 UnicodeMeans (λ ps v h. inr (unicode h.written, (refl, h.grammatical), h.spelled)) no_unicode _ e.unicode m.unicode)
     (part_rule T 116 (TransformMeans T) (λ ps v h. inr (transform h.written, (refl, h.grammatical), h.spelled)) no_transform _ e.transform m.transform)

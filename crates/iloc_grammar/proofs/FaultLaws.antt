@@ -23,6 +23,7 @@ use Rattle.iloc_grammar.proofs.Readings.{identifier_no_key, optional_no_key, fie
 use Rattle.iloc_grammar.proofs.RuleTests.{Tests, tests_not, tests_fails, tests_denied, tests_word, tests_and, tests_like, tests_different, tests_nat, tests_spelled, tests_block, identifier_read, extension_read}
 use Rattle.iloc_grammar.proofs.PiecesLaws.{at_pieces}
 use Rattle.iloc_grammar.proofs.Singletons.{tied_back, untied, two_more, no_t, no_x}
+use Rattle.iloc_grammar.proofs.General.{all_of}
 
 -- variants that repeat
 
@@ -182,12 +183,8 @@ good_blocks T seen (e ∷ es) x h d n k p =
     let byte = extension_byte T (singleton e) e.1 h.0 in
     ((letter e.0 byte.0, n.0, inr (e.1, h.0, refl)), good_blocks T (singleton e ∷ seen) es x h.1 d.1 (see_one (singleton e) seen es d.0 n.1) (or_from _ _ (untied 120 (singleton e) byte.1) k) p)
 
-none_seen : (es : List (ℕ × Extension)) → NotSeen [] es
-none_seen [] = tt
-none_seen (e ∷ es) = (refl, none_seen es)
-
 written_good : {T : ℕ → Bool} (w : Written) → IsWritten T w → AreGood T [] (blocks_of w)
-written_good {T = T} w h = good_blocks T [] w.extensions w.private h.extensions h.different (none_seen w.extensions) refl h.private
+written_good {T = T} w h = good_blocks T [] w.extensions w.private h.extensions h.different (all_of _ (λ e. refl) w.extensions) refl h.private
 
 -- the blocks of a text
 

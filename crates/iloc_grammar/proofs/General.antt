@@ -25,6 +25,14 @@ pub all_mapped : {X Y : Type 0} (P : X → Type 0) (Q : Y → Type 0) (f : X →
 all_mapped P Q f g [] h = tt
 all_mapped P Q f g (x ∷ xs) h = (g x h.0, all_mapped P Q f g xs h.1)
 
+pub all_of : {X : Type 0} (P : X → Type 0) → ((x : X) → P x) → (xs : List X) → AllByRecursion P xs
+all_of P f [] = tt
+all_of P f (x ∷ xs) = (f x, all_of P f xs)
+
+pub map-same : {X Y : Type 0} (f g : X → Y) (xs : List X) → AllByRecursion (λ x. f x ≡ g x) xs → map f xs ≡ map g xs
+map-same f g [] h = refl
+map-same f g (x ∷ xs) h = ap₂ ◌∷◌ h.0 (map-same f g xs h.1)
+
 pub some_mapped : {X Y : Type 0} (P : X → Type 0) (Q : Y → Type 0) (f : X → Y) → ((x : X) → P x → Q (f x)) → (o : Option X) → IfSome o P → IfSome (option_map f o) Q
 some_mapped P Q f g None h = tt
 some_mapped P Q f g (Some x) h = g x h
@@ -45,3 +53,7 @@ pub zip_weaker : {X Y : Type 0} (R S : X → Y → Type 0) → ((x : X) (y : Y) 
 zip_weaker R S f [] [] z = tt
 zip_weaker R S f (x ∷ xs) (y ∷ ys) z = (f x y z.0, zip_weaker R S f xs ys z.1)
 zip_weaker R S f _ _ z = absurd z
+
+pub zip_map : {X Y : Type 0} (R : X → Y → Type 0) (P : X → Type 0) (f : X → Y) → ((x : X) → P x → R x (f x)) → (xs : List X) → AllByRecursion P xs → AllZip R xs (map f xs)
+zip_map R P f g [] h = tt
+zip_map R P f g (x ∷ xs) h = (g x h.0, zip_map R P f g xs h.1)

@@ -10,6 +10,9 @@ use Rattle.iloc_grammar.specs.Meaning.{map_of, set_of, normal_identifier, normal
 use Rattle.iloc_grammar.specs.Values.{IsNormal, IsAscending, IsIdentifierValue, IsUnicodeValue, IsTransformValue, lower_identifier, spelled_value, spelled_fields}
 use Rattle.iloc_grammar.proofs.WordsLaws.{lower-lower, title-lower, upper-lower, is_word-lower}
 use Rattle.iloc_grammar.proofs.MapLaws.{map_of_sorted, sorted_different}
+use Rattle.iloc_grammar.proofs.General.{all_mapped, some_mapped, map-then, option_map-then}
+use Rattle.std.proofs.lemmas.List.{length-map}
+use Rattle.std.proofs.lemmas.Option.{IfSome_then}
 
 pub all_weaker : {X : Type 0} (P Q : X → Type 0) → ((x : X) → P x → Q x) → (xs : List X) → AllByRecursion P xs → AllByRecursion Q xs
 all_weaker P Q f [] h = tt
@@ -36,20 +39,12 @@ ascending_different ws h = subst (AllDifferent word_cmp) (unmarked ws) (sorted_d
 
 -- identifiers
 
-optional_words : (k : Kind) (o : Option (List ℕ)) → IfSome o (IsNormal k) → IfSome o (IsWord k)
-optional_words k None h = tt
-optional_words k (Some w) h = h.0
-
-optional_fixed : (f : List ℕ → List ℕ) (o : Option (List ℕ)) → IfSome o (λ w. f w ≡ w) → option_map f o ≡ o
-optional_fixed f None h = refl
-optional_fixed f (Some w) h = ap Some h
-
-optional_normal : (k : Kind) (o : Option (List ℕ)) → IfSome o (IsNormal k) → IfSome o (λ w. normal k w ≡ w)
-optional_normal k None h = tt
-optional_normal k (Some w) h = h.1
+optional_fixed : (k : Kind) (o : Option (List ℕ)) → IfSome o (IsNormal k) → option_map (normal k) o ≡ o
+optional_fixed k None h = refl
+optional_fixed k (Some w) h = ap Some h.1
 
 pub value_words : {T : ℕ → Bool} {i : Identifier} → IsIdentifierValue T i → HasWords T i
-value_words {i = i} h = record { language = h.language.0; script = optional_words Script i.script h.script; region = optional_words Region i.region h.region; variants = all_weaker (IsNormal Variant) (IsWord Variant) (λ w n. n.0) i.variants h.variants }
+value_words {i = i} h = record { language = h.language.0; script = IfSome_then i.script {P = IsNormal Script} h.script (λ w n. n.0); region = IfSome_then i.region {P = IsNormal Region} h.region (λ w n. n.0); variants = all_weaker (IsNormal Variant) (IsWord Variant) (λ w n. n.0) i.variants h.variants }
 
 value_variants : {T : ℕ → Bool} (i : Identifier) → IsIdentifierValue T i → map lower i.variants ≡ i.variants
 value_variants i h = map_fixed lower i.variants (all_weaker (IsNormal Variant) (λ w. lower w ≡ w) (λ w n. n.1) i.variants h.variants)
@@ -61,7 +56,7 @@ pub same_identifier : (a b : List ℕ) (s t r q : Option (List ℕ)) (vs ws : Li
 same_identifier a b s t r q vs ws e f g h = λ i. record { language = e i; script = f i; region = g i; variants = h i }
 
 pub normal_value : {T : ℕ → Bool} (i : Identifier) → IsIdentifierValue T i → normal_identifier i ≡ i
-normal_value i h = same_identifier _ _ _ _ _ _ _ _ h.language.1 (optional_fixed title i.script (optional_normal Script i.script h.script)) (optional_fixed upper i.region (optional_normal Region i.region h.region)) (ap set_of (value_variants i h) ∙ set_of_ascending i.variants h.ascending)
+normal_value i h = same_identifier _ _ _ _ _ _ _ _ h.language.1 (optional_fixed Script i.script h.script) (optional_fixed Region i.region h.region) (ap set_of (value_variants i h) ∙ set_of_ascending i.variants h.ascending)
 
 -- what is printed of an identifier means it
 pub identifier_reads_back : {T : ℕ → Bool} (i : Identifier) → IsIdentifierValue T i → IdentifierMeans T (identifier_pieces i) i
@@ -69,30 +64,20 @@ identifier_reads_back i h = record { written = i; grammatical = value_identifier
 
 -- the same in lower case, as in a transform
 
-pub optional_lower : (k : Kind) (o : Option (List ℕ)) → IfSome o (IsWord k) → IfSome (option_map lower o) (IsWord k)
-optional_lower k None h = tt
-optional_lower k (Some w) h = is_word-lower k w ∙ h
-
-all_lower : (k : Kind) (ws : List (List ℕ)) → AllByRecursion (IsWord k) ws → AllByRecursion (IsWord k) (map lower ws)
-all_lower k [] h = tt
-all_lower k (w ∷ ws) h = (is_word-lower k w ∙ h.0, all_lower k ws h.1)
+word_lower : (k : Kind) (w : List ℕ) → IsWord k w → IsWord k (lower w)
+word_lower k w h = is_word-lower k w ∙ h
 
 lower_words : {T : ℕ → Bool} (i : Identifier) → HasWords T i → HasWords T (lower_identifier i)
-lower_words {T = T} i h = record { language = is_word-lower (Language T) i.language ∙ h.language; script = optional_lower Script i.script h.script; region = optional_lower Region i.region h.region; variants = all_lower Variant i.variants h.variants }
+lower_words {T = T} i h = record { language = word_lower (Language T) i.language h.language; script = some_mapped (IsWord Script) (IsWord Script) lower (word_lower Script) i.script h.script; region = some_mapped (IsWord Region) (IsWord Region) lower (word_lower Region) i.region h.region; variants = all_mapped (IsWord Variant) (IsWord Variant) lower (word_lower Variant) i.variants h.variants }
 
 pub lower_twice : (ws : List (List ℕ)) → map lower (map lower ws) ≡ map lower ws
-lower_twice [] = refl
-lower_twice (w ∷ ws) = ap₂ ◌∷◌ (lower-lower w) (lower_twice ws)
+lower_twice ws = map-then lower lower lower lower-lower ws
 
 pub lower_is_identifier : {T : ℕ → Bool} (i : Identifier) → IsIdentifier T i → IsIdentifier T (lower_identifier i)
 lower_is_identifier i h = record { words = lower_words i h.words; different = subst (AllDifferent word_cmp) (sym (lower_twice i.variants)) h.different }
 
-pub optional_case : (f g : List ℕ → List ℕ) → ((w : List ℕ) → f (g w) ≡ f w) → (o : Option (List ℕ)) → option_map f (option_map g o) ≡ option_map f o
-optional_case f g e None = refl
-optional_case f g e (Some w) = ap Some (e w)
-
 pub normal-lower_identifier : (i : Identifier) → normal_identifier (lower_identifier i) ≡ normal_identifier i
-normal-lower_identifier i = same_identifier _ _ _ _ _ _ _ _ (lower-lower i.language) (optional_case title lower title-lower i.script) (optional_case upper lower upper-lower i.region) (ap set_of (lower_twice i.variants))
+normal-lower_identifier i = same_identifier _ _ _ _ _ _ _ _ (lower-lower i.language) (option_map-then title lower title title-lower i.script) (option_map-then upper lower upper upper-lower i.region) (ap set_of (lower_twice i.variants))
 
 -- the unicode part
 
@@ -159,16 +144,11 @@ spelled_means [] h = rw (lower_true, is_true_word)
 spelled_means (w ∷ ws) h = values_fixed (w ∷ ws) (all_weaker (λ w. IsNormal Attribute w × (is_true w ≡ false)) (λ w. lower w ≡ w) (λ w n. n.0.1) (w ∷ ws) h) (all_weaker (λ w. IsNormal Attribute w × (is_true w ≡ false)) (λ w. is_true w ≡ false) (λ w n. n.1) (w ∷ ws) h)
 
 fields_rule : (fs : Fields) → AllByRecursion IsTransformEntry fs → AllByRecursion IsField (spelled_fields fs)
-fields_rule [] h = tt
-fields_rule (f ∷ fs) h = let r = spelled_rule f.1 h.0.1 in ((h.0.0.0, r.0, r.1), fields_rule fs h.1)
+fields_rule = all_mapped IsTransformEntry IsField (λ f. (f.0, spelled_value f.1)) (λ f h. let r = spelled_rule f.1 h.1 in (h.0.0, r.0, r.1))
 
 fields_mean : (fs : Fields) → AllByRecursion IsTransformEntry fs → map (λ (f : List ℕ × List (List ℕ)). (lower f.0, normal_values f.1)) (spelled_fields fs) ≡ fs
 fields_mean [] h = refl
 fields_mean (f ∷ fs) h = λ i. (h.0.0.1 i, spelled_means f.1 h.0.1 i) ∷ fields_mean fs h.1 i
-
-optional_identifier : (T : ℕ → Bool) (o : Option Identifier) → IfSome o (IsIdentifierValue T) → IfSome (option_map lower_identifier o) (IsIdentifier T)
-optional_identifier T None h = tt
-optional_identifier T (Some i) h = lower_is_identifier i (value_identifier i h)
 
 optional_means : (T : ℕ → Bool) (o : Option Identifier) → IfSome o (IsIdentifierValue T) → option_map normal_identifier (option_map lower_identifier o) ≡ o
 optional_means T None h = refl
@@ -178,11 +158,10 @@ abbrev pub spelled_transform : Transform → Transform
 spelled_transform m = record { id = option_map lower_identifier m.id; fields = spelled_fields m.fields }
 
 pub length-spelled_fields : (fs : Fields) → length (spelled_fields fs) ≡ length fs
-length-spelled_fields [] = refl
-length-spelled_fields (f ∷ fs) = ap suc (length-spelled_fields fs)
+length-spelled_fields fs = length-map fs (λ f. (f.0, spelled_value f.1))
 
 pub value_transform : {T : ℕ → Bool} (m : Transform) → IsTransformValue T m → (option_map lower_identifier m.id ≡ None → 0 < length (spelled_fields m.fields)) → IsTransform T (spelled_transform m)
-value_transform m h n = record { id = optional_identifier _ m.id h.id; fields = fields_rule m.fields h.fields; nonempty = n }
+value_transform {T = T} m h n = record { id = some_mapped (IsIdentifierValue T) (IsIdentifier T) lower_identifier (λ i g. lower_is_identifier i (value_identifier i g)) m.id h.id; fields = fields_rule m.fields h.fields; nonempty = n }
 
 pub normal_value_transform : {T : ℕ → Bool} (m : Transform) → IsTransformValue T m → normal_transform (spelled_transform m) ≡ m
 normal_value_transform m h = λ i. record { id = optional_means _ m.id h.id i; fields = (ap (map_of word_cmp) (fields_mean m.fields h.fields) ∙ map_of_sorted word_cmp m.fields h.keys_ascend) i }
