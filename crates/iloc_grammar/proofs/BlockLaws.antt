@@ -18,17 +18,10 @@ use Rattle.iloc_grammar.specs.Reading.{unicode_of, transform_of}
 use Rattle.iloc_grammar.proofs.IdentifierLaws.{one_meaning}
 use Rattle.iloc_grammar.proofs.FaultLaws.{AreGood, good_means, letter}
 use Rattle.iloc_grammar.proofs.ReadBack.{extension_singleton}
-use Rattle.iloc_grammar.proofs.Singletons.{tied, untied, self_tied, tied_back, IsKind, of_u, of_t, of_x, another, kind_of, lower_letter}
+use Rattle.iloc_grammar.proofs.Singletons.{tied, untied, self_tied, tied_back, IsKind, of_u, of_t, of_x, another, kind_of, lower_letter, find_holds}
 use Rattle.iloc_grammar.proofs.General.{all_of}
 
 -- looking up a block
-
-find_rule : (T : ℕ → Bool) (q : ℕ) (es : List (ℕ × Extension)) → AllByRecursion (λ e. IsExtension T (singleton e) e.1) es → IfSome (find nat_cmp q (by_singleton es)) (IsExtension T q)
-find_rule T q [] h = tt
-find_rule T q (e ∷ es) h = elim (eq_by_cmp nat_cmp q (singleton e)) as (λ b. eq_by_cmp nat_cmp q (singleton e) ≡ b → IfSome (cond b (Some e.1) (find nat_cmp q (by_singleton es))) (IsExtension T q)) [
-  | true ↦ λ t. subst (λ (c : ℕ). IsExtension T c e.1) (tied q (singleton e) t) h.0
-  | false ↦ λ t. find_rule T q es h.1
-] refl
 
 or_else : {X : Type 0} → Option X → Option X → Option X
 or_else None p = p
@@ -121,9 +114,9 @@ blocks_give T w h =
     let o = others_by T w.extensions w.private h.extensions h.private in record {
       letters = letters_by T w.extensions w.private h.extensions h.private;
       different = different_by T w.extensions w.private h.extensions h.different h.private;
-      unicode = subst (λ o. PartIs UnicodeMeans no_unicode o (extensions_meaning w).unicode) (sym (find_block 117 w.extensions w.private)) (unicode_by T (find nat_cmp 117 (by_singleton w.extensions)) (find_rule T 117 w.extensions h.extensions) _ (no_private 117 (λ e. absurd (omega arith)) w.private h.private));
-      transform = subst (λ o. PartIs (TransformMeans T) no_transform o (extensions_meaning w).transform) (sym (find_block 116 w.extensions w.private)) (transform_by T (find nat_cmp 116 (by_singleton w.extensions)) (find_rule T 116 w.extensions h.extensions) _ (no_private 116 (λ e. absurd (omega arith)) w.private h.private));
-      private = subst (λ o. PartIs PrivateMeans [] o (extensions_meaning w).private) (sym (find_block 120 w.extensions w.private)) (private_by T (find nat_cmp 120 (by_singleton w.extensions)) (find_rule T 120 w.extensions h.extensions) w.private h.private);
+      unicode = subst (λ o. PartIs UnicodeMeans no_unicode o (extensions_meaning w).unicode) (sym (find_block 117 w.extensions w.private)) (unicode_by T (find nat_cmp 117 (by_singleton w.extensions)) (find_holds (IsExtension T) 117 w.extensions h.extensions) _ (no_private 117 (λ e. absurd (omega arith)) w.private h.private));
+      transform = subst (λ o. PartIs (TransformMeans T) no_transform o (extensions_meaning w).transform) (sym (find_block 116 w.extensions w.private)) (transform_by T (find nat_cmp 116 (by_singleton w.extensions)) (find_holds (IsExtension T) 116 w.extensions h.extensions) _ (no_private 116 (λ e. absurd (omega arith)) w.private h.private));
+      private = subst (λ o. PartIs PrivateMeans [] o (extensions_meaning w).private) (sym (find_block 120 w.extensions w.private)) (private_by T (find nat_cmp 120 (by_singleton w.extensions)) (find_holds (IsExtension T) 120 w.extensions h.extensions) w.private h.private);
       each_other = o.1;
       others = ap (map_of nat_cmp) o.0;
     }
