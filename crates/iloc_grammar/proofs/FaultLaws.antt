@@ -4,7 +4,7 @@ use Rattle.std.specs.List.{AllByRecursion, list_any}
 use Rattle.std.specs.Char.{is_ascii_alphanumeric, to_ascii_lowercase}
 use Rattle.std.specs.Ordering.{nat_cmp, eq_by_cmp}
 use Rattle.std.specs.declared.cmp.Ordering.{Ordering}
-use Rattle.std.proofs.lemmas.Bool.{and_parts, or_from, or_parts}
+use Rattle.std.proofs.lemmas.Bool.{and_parts, or_from, or_parts, cond_both, both_ways}
 use Rattle.std.proofs.lemmas.Bool.Decides.{nat_tests}
 use Rattle.std.proofs.lemmas.List.{map-append}
 use Rattle.std.proofs.lemmas.List.Folds.{list_any-append}
@@ -195,23 +195,14 @@ EndsAtX (b ∷ bs) = ((singleton b == 120) ≡ true → bs ≡ []) × EndsAtX bs
 pub ends_at_x : (ps : List (List ℕ)) → EndsAtX (blocks ps)
 ends_at_x [] = tt
 ends_at_x ([] ∷ ps) = ends_at_x ps
-ends_at_x ((c ∷ []) ∷ ps) = elim (to_ascii_lowercase c == 120) as (λ b. (to_ascii_lowercase c == 120) ≡ b → EndsAtX (cond b ((c, ps) ∷ []) ((c, front ps) ∷ blocks ps))) [
-  | true ↦ λ e. (λ _. refl, tt)
-  | false ↦ λ e. (λ h. absurd (true≢false (sym h ∙ e)), ends_at_x ps)
-] refl
+ends_at_x ((c ∷ []) ∷ ps) = cond_both (to_ascii_lowercase c == 120) _ _ EndsAtX (λ _. (λ _. refl, tt)) (λ e. (λ h. absurd (both_ways _ e h), ends_at_x ps))
 ends_at_x ((c ∷ d ∷ p) ∷ ps) = ends_at_x ps
 
 pub all_blocks : (ps : List (List ℕ)) → front ps ++ flat_map block_pieces (blocks ps) ≡ ps
 all_blocks [] = refl
 all_blocks ([] ∷ ps) = ap (λ l. [] ∷ l) (all_blocks ps)
-all_blocks ((c ∷ []) ∷ ps) = elim (to_ascii_lowercase c == 120) as (λ b. flat_map block_pieces (cond b ((c, ps) ∷ []) ((c, front ps) ∷ blocks ps)) ≡ (c ∷ []) ∷ ps) [
-  | true ↦ ap (λ l. (c ∷ []) ∷ l) (append-nil ps)
-  | false ↦ ap (λ l. (c ∷ []) ∷ l) (all_blocks ps)
-]
-all_blocks ((c ∷ d ∷ p) ∷ ps) = rw longer (ap (λ l. (c ∷ d ∷ p) ∷ l) (all_blocks ps))
-  where
-    longer : is_one_byte (c ∷ d ∷ p) ≡ false
-    longer = two_more (length p)
+all_blocks ((c ∷ []) ∷ ps) = cond_both (to_ascii_lowercase c == 120) _ _ (λ bs. flat_map block_pieces bs ≡ (c ∷ []) ∷ ps) (λ _. ap (λ l. (c ∷ []) ∷ l) (append-nil ps)) (λ _. ap (λ l. (c ∷ []) ∷ l) (all_blocks ps))
+all_blocks ((c ∷ d ∷ p) ∷ ps) = rw (two_more (length p)) (ap (λ l. (c ∷ d ∷ p) ∷ l) (all_blocks ps))
 
 pub head-and-blocks : (p : List ℕ) (ps : List (List ℕ)) → head (p ∷ ps) ++ flat_map block_pieces (tail_blocks (p ∷ ps)) ≡ p ∷ ps
 head-and-blocks p ps = ap (λ l. p ∷ l) (all_blocks ps)

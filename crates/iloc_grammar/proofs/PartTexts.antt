@@ -6,6 +6,7 @@ use Rattle.iloc_grammar.specs.Pieces.{join, dashes}
 use Rattle.iloc_grammar.specs.Written.{Unicode, unicode, Transform, transform, Extension, other, identifier_pieces, unicode_pieces, transform_pieces, extension_block, block_pieces, spelling}
 use Rattle.iloc_grammar.specs.Meaning.{Locale}
 use Rattle.iloc_grammar.specs.Values.{lower_identifier, spelled_fields, transform_form, unicode_form, others_form, private_form, before_t, after_t, printed, text, form_pieces, unicode_spelling, transform_spelling, other_spelling, private_spelling, extensions_spelling, identifier_text}
+use Rattle.std.proofs.lemmas.Bool.{cond_both}
 
 -- joins
 
@@ -42,10 +43,9 @@ form_pieces-append es fs = ap (flat_map block_pieces) (map-append extension_bloc
 others_pieces : (os : List (ℕ × List (List ℕ))) → form_pieces (others_form os) ≡ flat_map other_spelling os
 unfolding other_spelling
 others_pieces [] = refl
-others_pieces (o ∷ os) = elim (nat_lt 0 (length o.1)) as (λ b. form_pieces (map (λ (o : ℕ × List (List ℕ)). (o.0, other o.1)) (cond b (o ∷ filter (λ o. nat_lt 0 (length o.1)) os) (filter (λ o. nat_lt 0 (length o.1)) os))) ≡ form_pieces (map (λ (o : ℕ × List (List ℕ)). (o.0, other o.1)) (cond b (o ∷ []) [])) ++ flat_map other_spelling os) [
-  | true ↦ ap (λ l. ((o.0 ∷ []) ∷ o.1) ++ l) (others_pieces os) ∙ ap (λ l. l ++ flat_map other_spelling os) (sym (append-nil ((o.0 ∷ []) ∷ o.1)))
-  | false ↦ others_pieces os
-]
+others_pieces (o ∷ os) = cond_both (nat_lt 0 (length o.1)) _ _ (λ l. form_pieces (map (λ (o : ℕ × List (List ℕ)). (o.0, other o.1)) l) ≡ other_spelling o ++ flat_map other_spelling os)
+    (λ e. rw e (ap (λ l. ((o.0 ∷ []) ∷ o.1) ++ l) (others_pieces os) ∙ ap (λ l. l ++ flat_map other_spelling os) (sym (append-nil ((o.0 ∷ []) ∷ o.1)))))
+    (λ e. rw e (others_pieces os))
 
 -- a locale gives the pieces of its identifier, and of each other part
 pub printed_pieces : (M : Locale) → spelling (printed M) ≡ identifier_pieces M.id ++ extensions_spelling M.extensions
