@@ -3,16 +3,17 @@ use Rattle.std.proofs.Common.{◌≡◌, ◌≢◌, ℕ, ◌≤◌, Bool, true, 
 use Rattle.std.specs.Prelude.{filter}
 use Rattle.std.specs.List.{AllByRecursion}
 use Rattle.std.proofs.lemmas.List.{append_cancel_left, append_cancel_right}
-use Rattle.std.proofs.lemmas.Bool.{false_from_ne_true}
+use Rattle.std.proofs.lemmas.Bool.{false_from_ne_true, cond_both}
 use Rattle.std.proofs.lemmas.Bool.Decides.{nat_tests}
 use Rattle.iloc_grammar.specs.Words.{Language, Script, Region, Variant, is_word, IsWord, lower, word_cmp}
 use Rattle.iloc_grammar.specs.Written.{Identifier, identifier_pieces, HasWords, AllDifferent}
 use Rattle.iloc_grammar.specs.Meaning.{IdentifierMeans, normal_identifier}
 use Rattle.iloc_grammar.specs.Faults.{SpellsIdentifier}
 use Rattle.iloc_grammar.specs.Blocks.{is_one_byte, front, first_piece}
-use Rattle.iloc_grammar.specs.Reading.{take_first, skip_first, passing, past, rest_of, after_script, after_region, front_of, after_front, from_block, starts_block, EndsBefore, IdentifierFront}
-use Rattle.iloc_grammar.proofs.IdentifierLaws.{all_pieces}
+use Rattle.iloc_grammar.specs.Reading.{take_first, skip_first, passing, past, rest_of, after_script, after_region, front_of, after_front, from_block, starts_block, EndsBefore, IdentifierFront, identifier_of}
+use Rattle.iloc_grammar.proofs.IdentifierLaws.{all_pieces, identifier_of-pieces}
 use Rattle.iloc_grammar.proofs.WordsLaws.{region_no_script, variant_no_script, variant_no_region, length-script, length-region, length-variant}
+use Rattle.iloc_grammar.proofs.General.{cond-map}
 
 abbrev Passes : (List ℕ → Bool) → List ℕ → Type 0
 Passes test p = test p ≡ true
@@ -38,11 +39,11 @@ pieces-front_of p ps =
 
 pub take_first_passes : (test : List ℕ → Bool) (ps : List (List ℕ)) → IfSome (take_first test ps) (Passes test)
 take_first_passes test [] = tt
-take_first_passes test (p ∷ ps) = elim (test p) as (λ b. test p ≡ b → IfSome (cond b (Some p) None) (Passes test)) [ true ↦ λ e. e | false ↦ λ e. tt ] refl
+take_first_passes test (p ∷ ps) = cond_both (test p) _ _ (λ o. IfSome o (Passes test)) (λ e. e) (λ _. tt)
 
 pub keep_while_passes : (test : List ℕ → Bool) (ps : List (List ℕ)) → AllByRecursion (Passes test) (passing test ps)
 keep_while_passes test [] = tt
-keep_while_passes test (p ∷ ps) = elim (test p) as (λ b. test p ≡ b → AllByRecursion (Passes test) (cond b (p ∷ passing test ps) [])) [ true ↦ λ e. (e, keep_while_passes test ps) | false ↦ λ e. tt ] refl
+keep_while_passes test (p ∷ ps) = cond_both (test p) _ _ (AllByRecursion (Passes test)) (λ e. (e, keep_while_passes test ps)) (λ _. tt)
 
 pub front_words : {T : ℕ → Bool} (ps : List (List ℕ)) → IsWord (Language T) (first_piece ps) → HasWords T (front_of ps)
 unfolding front_of
@@ -59,23 +60,12 @@ pub keep_all : (test : List ℕ → Bool) (ps : List (List ℕ)) → AllByRecurs
 keep_all test [] h = refl
 keep_all test (p ∷ ps) h = rw h.0 (ap (λ l. p ∷ l) (keep_all test ps h.1))
 
-read_words : (l : List ℕ) (s r : Option (List ℕ)) (vs : List (List ℕ)) → IfSome s (IsWord Script) → IfSome r (IsWord Region) → AllByRecursion (IsWord Variant) vs → front_of (l ∷ (option_to_list s ++ (option_to_list r ++ vs))) ≡ record { language = l; script = s; region = r; variants = vs }
-unfolding front_of
-read_words l None None [] hs hr hv = refl
-read_words l None None (v ∷ vs) hs hr hv = rw (variant_no_script v hv.0, variant_no_region v hv.0, hv.0, keep_all (is_word Variant) vs hv.1)
-read_words l None (Some r) vs hs hr hv = rw (region_no_script r hr, hr, keep_all (is_word Variant) vs hv)
-read_words l (Some s) None [] hs hr hv = rw hs
-read_words l (Some s) None (v ∷ vs) hs hr hv = rw (hs, variant_no_region v hv.0, hv.0, keep_all (is_word Variant) vs hv.1)
-read_words l (Some s) (Some r) vs hs hr hv = rw (hs, hr, keep_all (is_word Variant) vs hv)
-
 pub front_of-pieces : {T : ℕ → Bool} (i : Identifier) → HasWords T i → front_of (identifier_pieces i) ≡ i
-front_of-pieces i h = read_words i.language i.script i.region i.variants h.script h.region h.variants
-
-nothing_after : (ps qs : List (List ℕ)) → ps ++ qs ≡ ps → qs ≡ []
-nothing_after ps qs e = append_cancel_left ps qs [] (e ∙ sym (append-nil ps))
+unfolding front_of identifier_of
+front_of-pieces i h = ap (λ (j : Identifier). record j { variants = passing (is_word Variant) j.variants }) (identifier_of-pieces i h) ∙ (λ k. record i { variants = keep_all (is_word Variant) i.variants h.variants k })
 
 pub after_front-pieces : {T : ℕ → Bool} (i : Identifier) → HasWords T i → after_front (identifier_pieces i) ≡ []
-after_front-pieces i h = nothing_after (identifier_pieces i) (after_front (identifier_pieces i)) (ap (λ j. identifier_pieces j ++ after_front (identifier_pieces i)) (sym (front_of-pieces i h)) ∙ pieces-front_of i.language (option_to_list i.script ++ (option_to_list i.region ++ i.variants)))
+after_front-pieces i h = append_cancel_left (identifier_pieces i) _ [] (ap (λ j. identifier_pieces j ++ after_front (identifier_pieces i)) (sym (front_of-pieces i h)) ∙ pieces-front_of i.language (option_to_list i.script ++ (option_to_list i.region ++ i.variants)) ∙ sym (append-nil _))
 
 -- what follows does not change the reading, where it begins with no such word
 
@@ -92,7 +82,7 @@ take_first-append test (p ∷ ps) rest h = refl
 skip_first-append : (test : List ℕ → Bool) (ps rest : List (List ℕ)) → EndsBefore test rest → skip_first test (ps ++ rest) ≡ skip_first test ps ++ rest
 skip_first-append test [] [] h = refl
 skip_first-append test [] (q ∷ rest) h = rw h
-skip_first-append test (p ∷ ps) rest h = elim (test p) as (λ b. cond b (ps ++ rest) (p ∷ (ps ++ rest)) ≡ cond b ps (p ∷ ps) ++ rest) [ true ↦ refl | false ↦ refl ]
+skip_first-append test (p ∷ ps) rest h = cond-map (λ l. l ++ rest) _ _ refl refl refl
 
 keep_while-append : (test : List ℕ → Bool) (ps rest : List (List ℕ)) → EndsBefore test rest → passing test (ps ++ rest) ≡ passing test ps
 keep_while-append test [] [] h = refl
@@ -102,7 +92,7 @@ keep_while-append test (p ∷ ps) rest h = ap (λ l. cond (test p) (p ∷ l) [])
 skip_while-append : (test : List ℕ → Bool) (ps rest : List (List ℕ)) → EndsBefore test rest → past test (ps ++ rest) ≡ past test ps ++ rest
 skip_while-append test [] [] h = refl
 skip_while-append test [] (q ∷ rest) h = rw h
-skip_while-append test (p ∷ ps) rest h = elim (test p) as (λ b. cond b (past test (ps ++ rest)) (p ∷ (ps ++ rest)) ≡ cond b (past test ps) (p ∷ ps) ++ rest) [ true ↦ skip_while-append test ps rest h | false ↦ refl ]
+skip_while-append test (p ∷ ps) rest h = cond-map (λ l. l ++ rest) _ _ refl (skip_while-append test ps rest h) refl
 
 pub front_of-append : (p : List ℕ) (ps rest : List (List ℕ)) → EndsWords rest → front_of (p ∷ (ps ++ rest)) ≡ front_of (p ∷ ps)
 unfolding front_of
@@ -144,22 +134,22 @@ front-from_block (p ∷ ps) = elim (is_one_byte p) as (λ b. cond b [] (p ∷ fr
 
 pub from_block_starts : (ps : List (List ℕ)) → starts_block (from_block ps) ≡ true
 from_block_starts [] = refl
-from_block_starts (p ∷ ps) = elim (is_one_byte p) as (λ b. is_one_byte p ≡ b → starts_block (cond b (p ∷ ps) (from_block ps)) ≡ true) [ true ↦ λ e. e | false ↦ λ e. from_block_starts ps ] refl
+from_block_starts (p ∷ ps) = cond_both (is_one_byte p) _ _ (λ l. starts_block l ≡ true) (λ e. e) (λ _. from_block_starts ps)
 
 abbrev IsLong : List ℕ → Type 0
 IsLong p = is_one_byte p ≡ false
 
 pub front_long : (ps : List (List ℕ)) → AllByRecursion IsLong (front ps)
 front_long [] = tt
-front_long (p ∷ ps) = elim (is_one_byte p) as (λ b. is_one_byte p ≡ b → AllByRecursion IsLong (cond b [] (p ∷ front ps))) [ true ↦ λ e. tt | false ↦ λ e. (e, front_long ps) ] refl
+front_long (p ∷ ps) = cond_both (is_one_byte p) _ _ (AllByRecursion IsLong) (λ _. tt) (λ e. (e, front_long ps))
 
 skip_first_keeps : (P : List ℕ → Type 0) (test : List ℕ → Bool) (ps : List (List ℕ)) → AllByRecursion P ps → AllByRecursion P (skip_first test ps)
 skip_first_keeps P test [] h = tt
-skip_first_keeps P test (p ∷ ps) h = elim (test p) as (λ b. AllByRecursion P (cond b ps (p ∷ ps))) [ true ↦ h.1 | false ↦ h ]
+skip_first_keeps P test (p ∷ ps) h = cond_both (test p) _ _ (AllByRecursion P) (λ _. h.1) (λ _. h)
 
 skip_while_keeps : (P : List ℕ → Type 0) (test : List ℕ → Bool) (ps : List (List ℕ)) → AllByRecursion P ps → AllByRecursion P (past test ps)
 skip_while_keeps P test [] h = tt
-skip_while_keeps P test (p ∷ ps) h = elim (test p) as (λ b. AllByRecursion P (cond b (past test ps) (p ∷ ps))) [ true ↦ skip_while_keeps P test ps h.1 | false ↦ h ]
+skip_while_keeps P test (p ∷ ps) h = cond_both (test p) _ _ (AllByRecursion P) (λ _. skip_while_keeps P test ps h.1) (λ _. h)
 
 pub after_long : (p : List ℕ) (ps : List (List ℕ)) → AllByRecursion IsLong ps → AllByRecursion IsLong (after_front (p ∷ ps))
 unfolding after_front
@@ -208,28 +198,21 @@ module _ (T : ℕ → Bool) (p : List ℕ) (ps rest : List (List ℕ)) (ends : E
 
 skip_first-length : (test : List ℕ → Bool) (ps : List (List ℕ)) → length (skip_first test ps) ≤ length ps
 skip_first-length test [] = omega arith
-skip_first-length test (p ∷ ps) = elim (test p) as (λ b. length (cond b ps (p ∷ ps)) ≤ length (p ∷ ps)) [ true ↦ omega arith | false ↦ omega arith ]
+skip_first-length test (p ∷ ps) = cond_both (test p) _ _ (λ l. length l ≤ length (p ∷ ps)) (λ _. omega arith) (λ _. omega arith)
 
 pub length-past : (test : List ℕ → Bool) (ps : List (List ℕ)) → length (past test ps) ≤ length ps
 length-past test [] = omega arith
-length-past test (p ∷ ps) = let h = length-past test ps in elim (test p) as (λ b. length (cond b (past test ps) (p ∷ ps)) ≤ length (p ∷ ps)) [ true ↦ omega (arith, h) | false ↦ omega arith ]
+length-past test (p ∷ ps) = let h = length-past test ps in cond_both (test p) _ _ (λ l. length l ≤ length (p ∷ ps)) (λ _. omega (arith, h)) (λ _. omega arith)
 
 skip_taken : (test : List ℕ → Bool) (ps more : List (List ℕ)) → AllByRecursion (Passes test) ps → length (past test (ps ++ more)) ≤ length more
 skip_taken test [] more h = length-past test more
 skip_taken test (p ∷ ps) more h = rw h.0 (skip_taken test ps more h.1)
 
 after_words : (s r : Option (List ℕ)) (vs more : List (List ℕ)) → IfSome s (IsWord Script) → IfSome r (IsWord Region) → AllByRecursion (IsWord Variant) vs → length (past (is_word Variant) (skip_first (is_word Region) (skip_first (is_word Script) (option_to_list s ++ (option_to_list r ++ (vs ++ more)))))) ≤ length more
-after_words None None [] more hs hr hv =
-    let a = length-past (is_word Variant) (skip_first (is_word Region) (skip_first (is_word Script) more)) in
-    let b = skip_first-length (is_word Region) (skip_first (is_word Script) more) in
-    let c = skip_first-length (is_word Script) more in
-    omega (arith, a, b, c)
+after_words None None [] more hs hr hv = omega (arith, length-past, skip_first-length)
 after_words None None (v ∷ vs) more hs hr hv = rw (variant_no_script v hv.0, variant_no_region v hv.0, hv.0) (skip_taken (is_word Variant) vs more hv.1)
 after_words None (Some r) vs more hs hr hv = rw (region_no_script r hr, hr) (skip_taken (is_word Variant) vs more hv)
-after_words (Some s) None [] more hs hr hv =
-    let a = length-past (is_word Variant) (skip_first (is_word Region) more) in
-    let b = skip_first-length (is_word Region) more in
-    rw hs (omega (arith, a, b))
+after_words (Some s) None [] more hs hr hv = rw hs (omega (arith, length-past, skip_first-length))
 after_words (Some s) None (v ∷ vs) more hs hr hv = rw (hs, variant_no_region v hv.0, hv.0) (skip_taken (is_word Variant) vs more hv.1)
 after_words (Some s) (Some r) vs more hs hr hv = rw (hs, hr) (skip_taken (is_word Variant) vs more hv)
 
@@ -242,11 +225,7 @@ after_spelled j more h =
     subst (λ l. length (past (is_word Variant) (skip_first (is_word Region) (skip_first (is_word Script) l))) ≤ length more) (sym e) (after_words j.script j.region j.variants more h.script h.region h.variants)
 
 longer : (xs ys zs ws : List (List ℕ)) → xs ++ ys ≡ zs ++ ws → length ys ≤ length ws → length zs ≤ length xs
-longer xs ys zs ws e h =
-    let a = length-append xs ys in
-    let b = length-append zs ws in
-    let c = ap length e in
-    omega (arith, a, b, c, h)
+longer xs ys zs ws e h = omega (arith, length-append xs ys, length-append zs ws, ap length e)
 
 pub front_is_front : {T : ℕ → Bool} (p : List ℕ) (ps : List (List ℕ)) → IsWord (Language T) p → IdentifierFront T (p ∷ ps) (front_of (p ∷ ps)) (after_front (p ∷ ps))
 front_is_front p ps h = record {

@@ -49,16 +49,16 @@ pub data IsKind (c : ℕ) : Type 0 where
   another : is_other_singleton c ≡ true → IsKind c
 
 pub kind_of : (c : ℕ) → is_ascii_alphanumeric c ≡ true → IsKind c
-kind_of c h = at (cases_eq c 117) (cases_eq c 116) (cases_eq c 120)
+kind_of c h = elim (cases_eq c 117) [
+  | inl e ↦ of_u e
+  | inr a ↦ elim (cases_eq c 116) [
+    | inl e ↦ of_t e
+    | inr b ↦ elim (cases_eq c 120) [ inl e ↦ of_x e | inr d ↦ another (rest c h a b d) ]
+  ]
+]
   where
     rest : (c : ℕ) → is_ascii_alphanumeric c ≡ true → (c ≡ 117 → ⊥) → (c ≡ 116 → ⊥) → (c ≡ 120 → ⊥) → is_other_singleton c ≡ true
     rest c h a b d = grind (arith, nat_tests)
-
-    at : (c ≡ 117) ⊎ (c ≡ 117 → ⊥) → (c ≡ 116) ⊎ (c ≡ 116 → ⊥) → (c ≡ 120) ⊎ (c ≡ 120 → ⊥) → IsKind c
-    at (inl e) b d = of_u e
-    at (inr a) (inl e) d = of_t e
-    at (inr a) (inr b) (inl e) = of_x e
-    at (inr a) (inr b) (inr d) = another (rest c h a b d)
 
 -- a letter or digit is one in lower case too
 pub lower_letter : (c : ℕ) → is_ascii_alphanumeric c ≡ true → is_ascii_alphanumeric (to_ascii_lowercase c) ≡ true
