@@ -10,16 +10,17 @@ use Rattle.iloc_grammar.specs.Pieces.{pieces}
 use Rattle.iloc_grammar.specs.Words.{IsTable, lower}
 use Rattle.iloc_grammar.specs.Written.{Unicode, Transform, Extension, unicode, transform, other, Written, extension_pieces, extension_block, blocks_of, IsOther, IsPrivate, kept, is_other_singleton, IsExtension, singleton, IsWritten, AllDifferent}
 use Rattle.iloc_grammar.specs.Meaning.{Locale, Extensions, Means, extensions_meaning, map_of, no_unicode, no_transform, unicode_part, transform_part, private_part, other_part, by_singleton, normal_unicode, normal_transform}
-use Rattle.iloc_grammar.specs.Faults.{IsBlock}
+use Rattle.iloc_grammar.specs.Faults.{IsBlock, HasSingleton}
 use Rattle.iloc_grammar.specs.Blocks.{head, tail_blocks}
 use Rattle.iloc_grammar.specs.ByBlocks.{UnicodeMeans, TransformMeans, PrivateMeans, OtherMeans, by_letter, other_blocks, grammar_rules, PartIs, BlocksGive, MeansByBlocks}
 use Rattle.iloc_grammar.proofs.Readings.{head-spelling, blocks-spelling, unicode_of-pieces, transform_of-pieces}
 use Rattle.iloc_grammar.specs.Reading.{unicode_of, transform_of}
 use Rattle.iloc_grammar.proofs.IdentifierLaws.{one_meaning}
-use Rattle.iloc_grammar.proofs.FaultLaws.{AreGood, good_means, letter}
+use Rattle.iloc_grammar.proofs.FaultLaws.{AreGood, good_means, letter, good_from, block_rules, different_by}
 use Rattle.iloc_grammar.proofs.ReadBack.{extension_singleton}
 use Rattle.iloc_grammar.proofs.Singletons.{tied, untied, self_tied, tied_back, IsKind, of_u, of_t, of_x, another, kind_of, lower_letter, find_holds}
 use Rattle.iloc_grammar.proofs.General.{all_of}
+use Rattle.iloc_grammar.proofs.ValuesLaws.{all_weaker, all_both}
 
 -- looking up a block
 
@@ -86,33 +87,10 @@ others_by T (e ∷ es) x h k = at_kind e.1 h.0 (others_by T es x h.1 k)
     at_kind (transform m) r rest = rw r.0 rest
     at_kind (other ps) r rest = rw r.0 (ap (λ l. (singleton e, kept ps) ∷ l) rest.0, ((r.1, refl), rest.1))
 
-letters_by : (T : ℕ → Bool) (es : List (ℕ × Extension)) (x : Option (ℕ × List (List ℕ))) → AllByRecursion (λ e. IsExtension T (singleton e) e.1) es → IfSome x (λ e. (singleton e ≡ 120) × IsPrivate e.1) → AllByRecursion (λ b. is_ascii_alphanumeric b.0 ≡ true) (map extension_block es ++ option_to_list x)
-letters_by T [] None h k = tt
-letters_by T [] (Some b) h k = (letter b.0 (rw k.0), tt)
-letters_by T (e ∷ es) x h k = (letter e.0 (extension_singleton T (singleton e) e.1 h.0), letters_by T es x h.1 k)
-
-rule_no_x : (T : ℕ → Bool) (c : ℕ) (e : Extension) → IsExtension T c e → eq_by_cmp nat_cmp c 120 ≡ false
-rule_no_x T c (unicode u) h = rw h.0
-rule_no_x T c (transform m) h = rw h.0
-rule_no_x T c (other ps) h = no_x c h.0
-  where
-    no_x : (c : ℕ) → is_other_singleton c ≡ true → eq_by_cmp nat_cmp c 120 ≡ false
-    no_x c h = grind (arith, nat_tests)
-
-any_by : (T : ℕ → Bool) (c : ℕ) (es : List (ℕ × Extension)) (x : Option (ℕ × List (List ℕ))) → eq_by_cmp nat_cmp c 120 ≡ false → list_any (eq_by_cmp nat_cmp c) (map (λ e. singleton e) es) ≡ false → IfSome x (λ e. (singleton e ≡ 120) × IsPrivate e.1) → list_any (eq_by_cmp nat_cmp c) (map (λ b. singleton b) (map extension_block es ++ option_to_list x)) ≡ false
-any_by T c [] None n a k = refl
-any_by T c [] (Some b) n a k = ap (λ d. eq_by_cmp nat_cmp c d || false) k.0 ∙ ap (λ t. t || false) n
-any_by T c (e ∷ es) x n a k = let parts = or_parts _ _ a in or_from _ _ parts.0 (any_by T c es x n parts.1 k)
-
-different_by : (T : ℕ → Bool) (es : List (ℕ × Extension)) (x : Option (ℕ × List (List ℕ))) → AllByRecursion (λ e. IsExtension T (singleton e) e.1) es → AllDifferent nat_cmp (map (λ e. singleton e) es) → IfSome x (λ e. (singleton e ≡ 120) × IsPrivate e.1) → AllDifferent nat_cmp (map (λ b. singleton b) (map extension_block es ++ option_to_list x))
-different_by T [] None h d k = tt
-different_by T [] (Some b) h d k = (refl, tt)
-different_by T (e ∷ es) x h d k = (any_by T (singleton e) es x (rule_no_x T (singleton e) e.1 h.0) d.0 k, different_by T es x h.1 d.1 k)
-
 blocks_give : (T : ℕ → Bool) (w : Written) → IsWritten T w → BlocksGive (grammar_rules T) (blocks_of w) (extensions_meaning w)
 blocks_give T w h =
     let o = others_by T w.extensions w.private h.extensions h.private in record {
-      letters = letters_by T w.extensions w.private h.extensions h.private;
+      letters = all_weaker (λ b. HasSingleton b × IsBlock T b) (λ b. HasSingleton b) (λ b k. k.0) _ (block_rules T w.extensions w.private h.extensions h.private);
       different = different_by T w.extensions w.private h.extensions h.different h.private;
       unicode = subst (λ o. PartIs UnicodeMeans no_unicode o (extensions_meaning w).unicode) (sym (find_block 117 w.extensions w.private)) (unicode_by T (find nat_cmp 117 (by_singleton w.extensions)) (find_holds (IsExtension T) 117 w.extensions h.extensions) _ (no_private 117 (λ e. absurd (omega arith)) w.private h.private));
       transform = subst (λ o. PartIs (TransformMeans T) no_transform o (extensions_meaning w).transform) (sym (find_block 116 w.extensions w.private)) (transform_by T (find nat_cmp 116 (by_singleton w.extensions)) (find_holds (IsExtension T) 116 w.extensions h.extensions) _ (no_private 116 (λ e. absurd (omega arith)) w.private h.private));
@@ -171,27 +149,20 @@ others_each (b ∷ bs) h = (elim (is_other_singleton (singleton b)) as (λ t. is
   | false ↦ λ t h. ((λ e. absurd (true≢false (sym e ∙ t))), others_each bs h)
 ]) refl h
 
-good_each : (T : ℕ → Bool) (seen : List ℕ) (bs : List (ℕ × List (List ℕ))) → AllByRecursion (λ b. is_ascii_alphanumeric b.0 ≡ true) bs → AllDifferent nat_cmp (map (λ b. singleton b) bs) → AllByRecursion (λ b. list_any (eq_by_cmp nat_cmp (singleton b)) seen ≡ false) bs → AllByRecursion (λ b. KnownAt T (singleton b) b.1) bs → AllByRecursion (λ b. is_other_singleton (singleton b) ≡ true → IsOther b.1) bs → AreGood T seen bs
-good_each T seen [] l d n k o = tt
-good_each T seen (b ∷ bs) l d n k o = ((l.0, n.0, rule (kind_of (singleton b) (lower_letter b.0 l.0))), good_each T (singleton b ∷ seen) bs l.1 d.1 (see bs d.0 n.1) k.1 o.1)
-  where
-    rule : IsKind (singleton b) → IsBlock T b
-    rule (of_u e) = k.0.0 e
-    rule (of_t e) = k.0.1 e
-    rule (of_x e) = k.0.2 e
-    rule (another e) = inr (other b.1, (e, o.0 e), refl)
-
-    see : (cs : List (ℕ × List (List ℕ))) → list_any (eq_by_cmp nat_cmp (singleton b)) (map (λ b. singleton b) cs) ≡ false → AllByRecursion (λ b. list_any (eq_by_cmp nat_cmp (singleton b)) seen ≡ false) cs → AllByRecursion (λ c. list_any (eq_by_cmp nat_cmp (singleton c)) (singleton b ∷ seen) ≡ false) cs
-    see [] d n = tt
-    see (c ∷ cs) d n = let parts = or_parts _ _ d in (or_from _ _ (tied_back (singleton b) (singleton c) parts.0) n.0, see cs parts.1 n.1)
+rule_of : (T : ℕ → Bool) (b : ℕ × List (List ℕ)) → KnownAt T (singleton b) b.1 → (is_other_singleton (singleton b) ≡ true → IsOther b.1) → IsKind (singleton b) → IsBlock T b
+rule_of T b k o (of_u e) = k.0 e
+rule_of T b k o (of_t e) = k.1 e
+rule_of T b k o (of_x e) = k.2 e
+rule_of T b k o (another e) = inr (other b.1, (e, o e), refl)
 
 blocks_good : (T : ℕ → Bool) (bs : List (ℕ × List (List ℕ))) (e : Extensions) → BlocksGive (grammar_rules T) bs e → AreGood T [] bs
-blocks_good T bs e m = good_each T [] bs m.letters m.different (all_of _ (λ b. refl) bs)
-    (each_block (KnownAt T) bs m.different (λ q. known T q (λ q. find nat_cmp q (by_letter bs))
+blocks_good T bs e m =
+    let known_each = each_block (KnownAt T) bs m.different (λ q. known T q (λ q. find nat_cmp q (by_letter bs))
     (part_rule T 117 UnicodeMeans (λ ps v h. inr (unicode h.written, (refl, h.grammatical), h.spelled)) no_unicode _ e.unicode m.unicode)
     (part_rule T 116 (TransformMeans T) (λ ps v h. inr (transform h.written, (refl, h.grammatical), h.spelled)) no_transform _ e.transform m.transform)
-    (part_rule T 120 PrivateMeans (λ ps v h. inl (refl, h.0)) [] _ e.private m.private)))
-    (others_each bs m.each_other)
+    (part_rule T 120 PrivateMeans (λ ps v h. inl (refl, h.0)) [] _ e.private m.private)) in
+    let rules = all_both _ _ bs m.letters (all_both _ _ bs known_each (others_each bs m.each_other)) in
+    good_from T [] bs (all_weaker _ (λ b. HasSingleton b × IsBlock T b) (λ b k. (k.0, rule_of T b k.1.0 k.1.1 (kind_of (singleton b) (lower_letter b.0 k.0)))) bs rules) m.different (all_of _ (λ b. refl) bs)
 
 -- one value
 

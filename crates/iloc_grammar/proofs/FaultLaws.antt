@@ -1,10 +1,10 @@
 -- A text is a locale or has exactly one fault.
-use Rattle.std.proofs.Common.{◌≡◌, ◌≢◌, ◌⊎◌, inl, inr, ℕ, Bool, true, false, cond, not, ◌&&◌, ◌==◌, List, [], ◌∷◌, ◌++◌, length, map, flat_map, refl, sym, ap, ◌∙◌, subst, arith, Option, Some, None, IfSome, MatchOption, Result, Ok, Err, MatchResult, option_to_list, true≢false, append_assoc, append-nil}
+use Rattle.std.proofs.Common.{◌≡◌, ◌≢◌, ◌⊎◌, inl, inr, ℕ, Bool, true, false, cond, not, ◌&&◌, ◌==◌, List, [], ◌∷◌, ◌++◌, length, map, flat_map, refl, sym, ap, ◌∙◌, subst, arith, Option, Some, None, IfSome, MatchOption, Result, Ok, Err, MatchResult, option_to_list, true≢false, append_assoc, append-nil, ◌||◌}
 use Rattle.std.specs.List.{AllByRecursion, list_any}
 use Rattle.std.specs.Char.{is_ascii_alphanumeric, to_ascii_lowercase}
 use Rattle.std.specs.Ordering.{nat_cmp, eq_by_cmp}
 use Rattle.std.specs.declared.cmp.Ordering.{Ordering}
-use Rattle.std.proofs.lemmas.Bool.{and_parts, or_from, or_parts, cond_both, both_ways}
+use Rattle.std.proofs.lemmas.Bool.{and_parts, or_from, or_parts, cond_both, both_ways, eqb-false}
 use Rattle.std.proofs.lemmas.Bool.Decides.{nat_tests}
 use Rattle.std.proofs.lemmas.List.{map-append}
 use Rattle.std.proofs.lemmas.List.Folds.{list_any-append}
@@ -24,6 +24,7 @@ use Rattle.iloc_grammar.proofs.RuleTests.{Tests, tests_not, tests_fails, tests_d
 use Rattle.iloc_grammar.proofs.PiecesLaws.{at_pieces}
 use Rattle.iloc_grammar.proofs.Singletons.{tied_back, untied, two_more, no_t, no_x}
 use Rattle.iloc_grammar.proofs.General.{all_of}
+use Rattle.iloc_grammar.proofs.ReadBack.{extension_singleton}
 
 -- variants that repeat
 
@@ -157,34 +158,45 @@ fault_first T (later {b = b} a e g x) = rw (a, e, (tests_block T b).passes g) (f
 
 -- the blocks of a locale are good
 
-abbrev NotSeen : List ℕ → List (ℕ × Extension) → Type 0
+abbrev NotSeen : {X : Type 0} → List ℕ → List (ℕ × X) → Type 0
 NotSeen seen es = AllByRecursion (λ e. list_any (eq_by_cmp nat_cmp (singleton e)) seen ≡ false) es
 
-see_one : (s : ℕ) (seen : List ℕ) (es : List (ℕ × Extension)) → list_any (eq_by_cmp nat_cmp s) (map (λ e. singleton e) es) ≡ false → NotSeen seen es → NotSeen (s ∷ seen) es
+see_one : {X : Type 0} (s : ℕ) (seen : List ℕ) (es : List (ℕ × X)) → list_any (eq_by_cmp nat_cmp s) (map (λ e. singleton e) es) ≡ false → NotSeen seen es → NotSeen (s ∷ seen) es
 see_one s seen [] h n = tt
 see_one s seen (e ∷ es) h n = let parts = or_parts _ _ h in (or_from _ _ (tied_back s (singleton e) parts.0) n.0, see_one s seen es parts.1 n.1)
 
-unsee_one : (s : ℕ) (seen : List ℕ) (es : List (ℕ × Extension)) → NotSeen (s ∷ seen) es → (list_any (eq_by_cmp nat_cmp s) (map (λ e. singleton e) es) ≡ false) × NotSeen seen es
+unsee_one : {X : Type 0} (s : ℕ) (seen : List ℕ) (es : List (ℕ × X)) → NotSeen (s ∷ seen) es → (list_any (eq_by_cmp nat_cmp s) (map (λ e. singleton e) es) ≡ false) × NotSeen seen es
 unsee_one s seen [] n = (refl, tt)
 unsee_one s seen (e ∷ es) n = let parts = or_parts _ _ n.0 in let rest = unsee_one s seen es n.1 in (or_from _ _ (tied_back (singleton e) s parts.0) rest.0, (parts.1, rest.1))
 
 pub letter : (c : ℕ) → is_ascii_alphanumeric (to_ascii_lowercase c) ≡ true → is_ascii_alphanumeric c ≡ true
 letter c h = grind (arith, nat_tests)
 
-extension_byte : (T : ℕ → Bool) (c : ℕ) (e : Extension) → IsExtension T c e → (is_ascii_alphanumeric c ≡ true) × (c ≢ 120)
-extension_byte T c (unicode u) h = (rw h.0, let k = h.0 in omega arith)
-extension_byte T c (transform m) h = (rw h.0, let k = h.0 in omega arith)
-extension_byte T c (other ps) h = ((and_parts _ _ h.0).0, λ e. no_x c e h.0)
+-- blocks that follow their rules are good where their singletons differ
+pub good_from : (T : ℕ → Bool) (seen : List ℕ) (bs : List (ℕ × List (List ℕ))) → AllByRecursion (λ b. HasSingleton b × IsBlock T b) bs → AllDifferent nat_cmp (map (λ b. singleton b) bs) → NotSeen seen bs → AreGood T seen bs
+good_from T seen [] h d n = tt
+good_from T seen (b ∷ bs) h d n = ((h.0.0, n.0, h.0.1), good_from T (singleton b ∷ seen) bs h.1 d.1 (see_one (singleton b) seen bs d.0 n.1))
 
-good_blocks : (T : ℕ → Bool) (seen : List ℕ) (es : List (ℕ × Extension)) (x : Option (ℕ × List (List ℕ))) → AllByRecursion (λ e. IsExtension T (singleton e) e.1) es → AllDifferent nat_cmp (map (λ e. singleton e) es) → NotSeen seen es → list_any (eq_by_cmp nat_cmp 120) seen ≡ false → IfSome x (λ e. (singleton e ≡ 120) × IsPrivate e.1) → AreGood T seen (map extension_block es ++ option_to_list x)
-good_blocks T seen [] None h d n k p = tt
-good_blocks T seen [] (Some b) h d n k p = ((letter b.0 (rw p.0), ap (λ c. list_any (eq_by_cmp nat_cmp c) seen) p.0 ∙ k, inl p), tt)
-good_blocks T seen (e ∷ es) x h d n k p =
-    let byte = extension_byte T (singleton e) e.1 h.0 in
-    ((letter e.0 byte.0, n.0, inr (e.1, h.0, refl)), good_blocks T (singleton e ∷ seen) es x h.1 d.1 (see_one (singleton e) seen es d.0 n.1) (or_from _ _ (untied 120 (singleton e) byte.1) k) p)
+pub block_rules : (T : ℕ → Bool) (es : List (ℕ × Extension)) (x : Option (ℕ × List (List ℕ))) → AllByRecursion (λ e. IsExtension T (singleton e) e.1) es → IfSome x (λ e. (singleton e ≡ 120) × IsPrivate e.1) → AllByRecursion (λ b. HasSingleton b × IsBlock T b) (map extension_block es ++ option_to_list x)
+block_rules T [] None h k = tt
+block_rules T [] (Some b) h k = ((letter b.0 (rw k.0), inl k), tt)
+block_rules T (e ∷ es) x h k = ((letter e.0 (extension_singleton T (singleton e) e.1 h.0), inr (e.1, h.0, refl)), block_rules T es x h.1 k)
+
+rule_no_x : (T : ℕ → Bool) (c : ℕ) (e : Extension) → IsExtension T c e → eq_by_cmp nat_cmp c 120 ≡ false
+rule_no_x T c e h = untied c 120 (λ k. eqb-false c 120 (is_no_x T c e h) (sym k))
+
+any_by : (T : ℕ → Bool) (c : ℕ) (es : List (ℕ × Extension)) (x : Option (ℕ × List (List ℕ))) → eq_by_cmp nat_cmp c 120 ≡ false → list_any (eq_by_cmp nat_cmp c) (map (λ e. singleton e) es) ≡ false → IfSome x (λ e. (singleton e ≡ 120) × IsPrivate e.1) → list_any (eq_by_cmp nat_cmp c) (map (λ b. singleton b) (map extension_block es ++ option_to_list x)) ≡ false
+any_by T c [] None n a k = refl
+any_by T c [] (Some b) n a k = ap (λ d. eq_by_cmp nat_cmp c d || false) k.0 ∙ ap (λ t. t || false) n
+any_by T c (e ∷ es) x n a k = let parts = or_parts _ _ a in or_from _ _ parts.0 (any_by T c es x n parts.1 k)
+
+pub different_by : (T : ℕ → Bool) (es : List (ℕ × Extension)) (x : Option (ℕ × List (List ℕ))) → AllByRecursion (λ e. IsExtension T (singleton e) e.1) es → AllDifferent nat_cmp (map (λ e. singleton e) es) → IfSome x (λ e. (singleton e ≡ 120) × IsPrivate e.1) → AllDifferent nat_cmp (map (λ b. singleton b) (map extension_block es ++ option_to_list x))
+different_by T [] None h d k = tt
+different_by T [] (Some b) h d k = (refl, tt)
+different_by T (e ∷ es) x h d k = (any_by T (singleton e) es x (rule_no_x T (singleton e) e.1 h.0) d.0 k, different_by T es x h.1 d.1 k)
 
 written_good : {T : ℕ → Bool} (w : Written) → IsWritten T w → AreGood T [] (blocks_of w)
-written_good {T = T} w h = good_blocks T [] w.extensions w.private h.extensions h.different (all_of _ (λ e. refl) w.extensions) refl h.private
+written_good {T = T} w h = good_from T [] (blocks_of w) (block_rules T w.extensions w.private h.extensions h.private) (different_by T w.extensions w.private h.extensions h.different h.private) (all_of _ (λ b. refl) (blocks_of w))
 
 -- the blocks of a text
 
