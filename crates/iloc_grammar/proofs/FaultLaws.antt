@@ -4,7 +4,7 @@ use Rattle.std.specs.List.{AllByRecursion, list_any}
 use Rattle.std.specs.Char.{is_ascii_alphanumeric, to_ascii_lowercase}
 use Rattle.std.specs.Ordering.{nat_cmp, eq_by_cmp}
 use Rattle.std.specs.declared.cmp.Ordering.{Ordering}
-use Rattle.std.proofs.lemmas.Bool.{and_parts, or_from, or_parts, cond_both, both_ways, eqb-false}
+use Rattle.std.proofs.lemmas.Bool.{and_parts, or_from, or_parts, cond_both, both_ways, eqb-false, cases_Bool}
 use Rattle.std.proofs.lemmas.Bool.Decides.{nat_tests}
 use Rattle.std.proofs.lemmas.List.{map-append}
 use Rattle.std.proofs.lemmas.List.Folds.{list_any-append}
@@ -14,7 +14,7 @@ use Rattle.iloc_grammar.specs.Written.{Identifier, Transform, Extension, unicode
 use Rattle.iloc_grammar.specs.Meaning.{Locale, Means, meaning}
 use Rattle.iloc_grammar.specs.Faults.{Fault, InvalidLanguage, InvalidSubtag, InvalidExtension, DuplicatedExtension, SpellsIdentifier, HasSingleton, IsNew, IsBlock, RepeatsVariant, BlockFault, no_singleton, duplicated, breaks_rule, FirstBadBlock, here, later, HasFault, no_language, no_identifier, bad_block}
 use Rattle.iloc_grammar.specs.Blocks.{is_one_byte, front, blocks, head, tail_blocks, first_piece}
-use Rattle.iloc_grammar.specs.Reading.{skip_first, passing, past, identifier_of, front_of, after_front, before_key, extension_of, extensions_in, private_in, written_of}
+use Rattle.iloc_grammar.specs.Reading.{skip_first, passing, past, identifier_of, front_of, after_front, before_key, extension_of, extensions_in, private_in, written_of, transform_of}
 use Rattle.iloc_grammar.specs.Computing.{is_identifier, is_block, repeats_variant, first_fault, unless_fault, locale_result}
 use Rattle.iloc_grammar.proofs.WordsLaws.{region_no_script, variant_no_script, variant_no_region}
 use Rattle.iloc_grammar.proofs.IdentifierLaws.{pieces-identifier_of, identifier_of-pieces}
@@ -114,12 +114,7 @@ good_no_repeat T m h r = at_id m.id h.id (sym (before_key_read (is_word Transfor
 
 block_no_repeat : (T : ℕ → Bool) (b : ℕ × List (List ℕ)) → singleton b ≡ 116 → IsBlock T b → ¬ (RepeatsVariant T b.1)
 block_no_repeat T b e (inl x) r = absurd (let k = x.0 in omega arith)
-block_no_repeat T b e (inr x) r = at_extension x.0 x.1 x.2
-  where
-    at_extension : (f : Extension) → IsExtension T (singleton b) f → b.1 ≡ extension_pieces f → ⊥
-    at_extension (unicode u) h q = absurd (let k = h.0 in omega arith)
-    at_extension (transform m) h q = good_no_repeat T m h.1 (subst (RepeatsVariant T) q r)
-    at_extension (other ps) h q = absurd (no_t (singleton b) e h.0)
+block_no_repeat T b e (inr x) r = let k = rw e at (extension_read T (singleton b) b.1 x) in good_no_repeat T (transform_of b.1) k.1 (rw pieces-transform_of r)
 
 -- blocks one after another
 
@@ -223,11 +218,10 @@ head-and-blocks p ps = ap (λ l. p ∷ l) (all_blocks ps)
 
 extensions_kept : (bs : List (ℕ × List (List ℕ))) → EndsAtX bs → map extension_block (extensions_in bs) ++ option_to_list (private_in bs) ≡ bs
 extensions_kept [] e = refl
-extensions_kept (b ∷ bs) e = at_test (singleton b == 120) refl (extensions_kept bs e.1)
-  where
-    at_test : (t : Bool) → (singleton b == 120) ≡ t → map extension_block (extensions_in bs) ++ option_to_list (private_in bs) ≡ bs → map extension_block (cond t [] ((b.0, extension_of (singleton b) b.1) ∷ extensions_in bs)) ++ option_to_list (cond t (Some b) (private_in bs)) ≡ b ∷ bs
-    at_test true t rest = ap (λ l. b ∷ l) (sym (e.0 t))
-    at_test false t rest = λ i. (b.0, pieces-extension_of (singleton b) b.1 i) ∷ rest i
+extensions_kept (b ∷ bs) e = elim (cases_Bool (singleton b == 120)) [
+  | inl t ↦ rw t (ap (λ l. b ∷ l) (sym (e.0 t)))
+  | inr t ↦ rw t (λ i. (b.0, pieces-extension_of (singleton b) b.1 i) ∷ extensions_kept bs e.1 i)
+]
 
 pub spelling-written_of : (p : List ℕ) (ps : List (List ℕ)) → spelling (written_of (p ∷ ps)) ≡ p ∷ ps
 unfolding written_of

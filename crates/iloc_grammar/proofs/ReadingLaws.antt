@@ -161,13 +161,9 @@ starts_empty (x ∷ xs) rest h s = absurd (true≢false (sym s ∙ h.0))
 
 -- How many variants are read, and how many stand there.
 
-kept_one : (b : Bool) (p : List ℕ) (k f : List (List ℕ)) → length k ≤ length f → length (cond b (p ∷ k) []) ≤ length (cond b (p ∷ f) f)
-kept_one true p k f h = omega arith
-kept_one false p k f h = omega arith
-
 keep_count : (test : List ℕ → Bool) (ps : List (List ℕ)) → length (passing test ps) ≤ length (filter test ps)
 keep_count test [] = omega arith
-keep_count test (p ∷ ps) = kept_one (test p) p (passing test ps) (filter test ps) (keep_count test ps)
+keep_count test (p ∷ ps) = let h = keep_count test ps in elim (test p) as (λ b. length (cond b (p ∷ passing test ps) []) ≤ length (cond b (p ∷ filter test ps) (filter test ps))) [ true ↦ omega arith | false ↦ omega arith ]
 
 -- What the reading from the left says of a front, the pieces before where it should end.
 

@@ -5,7 +5,7 @@ use Rattle.std.specs.Int.{is_in_range}
 use Rattle.std.specs.Ordering.{eq_by_cmp}
 use Rattle.std.specs.declared.cmp.Ordering.{Ordering}
 use Rattle.std.proofs.lemmas.Bool.{and_parts, false_from_ne_true, not-true, not_from_false}
-use Rattle.std.proofs.lemmas.Bool.Decides.{nat_tests, Decides-ltb, Decides-eqb}
+use Rattle.std.proofs.lemmas.Bool.Decides.{nat_tests, Decides-ltb, Decides-eqb, Decides-and, Decides-or}
 use Rattle.iloc_grammar.specs.Words.{Kind, Language, Script, Region, Variant, UnicodeKey, TransformKey, Attribute, PrivateSubtag, is_word, IsWord, lower, word_cmp}
 use Rattle.iloc_grammar.specs.Written.{Identifier, Unicode, Transform, Extension, unicode, transform, other, extension_pieces, kept, HasWords, IsIdentifier, IsKeyword, IsField, IsUnicode, IsTransform, IsOther, IsPrivate, IsExtension, singleton, AllDifferent}
 use Rattle.iloc_grammar.specs.Faults.{SpellsIdentifier, IsBlock}
@@ -32,10 +32,7 @@ pub tests_word : (k : Kind) (p : List ℕ) → Tests (is_word k p) (IsWord k p)
 tests_word k p = record { holds = λ e. e; passes = λ e. e }
 
 pub tests_and : {a b : Bool} {P Q : Type 0} → Tests a P → Tests b Q → Tests (a && b) (P × Q)
-tests_and {a = a} {b = b} s t = record { holds = λ e. let parts = and_parts a b e in (s.holds parts.0, t.holds parts.1); passes = λ p. both (s.passes p.0) (t.passes p.1) }
-  where
-    both : a ≡ true → b ≡ true → (a && b) ≡ true
-    both e f = ap (λ c. c && b) e ∙ f
+tests_and {a = a} {b = b} s t = let d = Decides-and a b (s.holds, s.passes) (t.holds, t.passes) in record { holds = d.0; passes = d.1 }
 
 pub tests_like : {b : Bool} {P Q : Type 0} → (P → Q) → (Q → P) → Tests b P → Tests b Q
 tests_like f g t = record { holds = λ e. f (t.holds e); passes = λ q. t.passes (g q) }
@@ -50,11 +47,7 @@ tests_if_some test P t (Some x) = t x
 
 pub tests_different : {X : Type 0} (cmp : X → X → Ordering) (xs : List X) → Tests (all_different cmp xs) (AllDifferent cmp xs)
 tests_different cmp [] = record { holds = λ e. tt; passes = λ h. refl }
-tests_different cmp (x ∷ xs) = tests_and (negated (list_any (eq_by_cmp cmp x) xs)) (tests_different cmp xs)
-  where
-    negated : (b : Bool) → Tests (not b) (b ≡ false)
-    negated true = record { holds = λ e. sym e; passes = λ e. sym e }
-    negated false = record { holds = λ e. refl; passes = λ e. refl }
+tests_different cmp (x ∷ xs) = tests_and (record { holds = not-true _; passes = not_from_false _ }) (tests_different cmp xs)
 
 pub tests_positive : (n : ℕ) → Tests (nat_lt 0 n) (0 < n)
 tests_positive n = record { holds = (Decides-ltb 0 n).0; passes = (Decides-ltb 0 n).1 }
@@ -130,19 +123,7 @@ tests_spelled T p ps = tests_like
     (tests_identifier T (identifier_of (p ∷ ps)))
 
 pub tests_either : {a b : Bool} {P Q : Type 0} → Tests a P → Tests b Q → Tests (a || b) (P ⊎ Q)
-tests_either {a = a} {b = b} {P = P} {Q = Q} s t = record { holds = λ e. from a refl e; passes = λ x. to x }
-  where
-    from : (c : Bool) → a ≡ c → (c || b) ≡ true → P ⊎ Q
-    from true h e = inl (s.holds h)
-    from false h e = inr (t.holds e)
-
-    at_first : (c : Bool) → b ≡ true → (c || b) ≡ true
-    at_first true e = refl
-    at_first false e = e
-
-    to : P ⊎ Q → (a || b) ≡ true
-    to (inl p) = ap (λ c. c || b) (s.passes p)
-    to (inr q) = at_first a (t.passes q)
+tests_either {a = a} {b = b} s t = let d = Decides-or a b (s.holds, s.passes) (t.holds, t.passes) in record { holds = d.0; passes = d.1 }
 
 pub tests_block : (T : ℕ → Bool) (b : ℕ × List (List ℕ)) → Tests (is_block T b) (IsBlock T b)
 tests_block T b = tests_either (tests_and (tests_nat (singleton b) 120) (tests_private b.1)) (tests_like

@@ -14,6 +14,7 @@ use Rattle.iloc_grammar.specs.Written.{AllDifferent}
 use Rattle.iloc_grammar.specs.Meaning.{map_of, set_of}
 use Rattle.iloc_grammar.proofs.MapLaws.{word_cmp_total, same_words, find-map_of, sorted-map_of, map_of_same, is_sorted-map_of, map_of_sorted}
 use Rattle.iloc_grammar.proofs.ValuesLaws.{unmarked}
+use Rattle.std.proofs.lemmas.Bool.{cond_both}
 
 module _ {K X : Type 0} (R : K → K → Ordering) where
   -- what is found in two lists, one after the other
@@ -82,11 +83,7 @@ length-set_of-cons w ws =
 
 pub length-set_of : (ws : List (List ℕ)) → length (set_of ws) ≤ length ws
 length-set_of [] = omega arith
-length-set_of (w ∷ ws) = let h = length-set_of ws in by (list_any (is_same w) ws) (length-set_of-cons w ws) h
-  where
-    by : (b : Bool) → length (set_of (w ∷ ws)) ≡ cond b (length (set_of ws)) (length (set_of ws) + 1) → length (set_of ws) ≤ length ws → length (set_of (w ∷ ws)) ≤ length (w ∷ ws)
-    by true e h = omega arith
-    by false e h = omega arith
+length-set_of (w ∷ ws) = let h = length-set_of ws in rw (length-set_of-cons w ws) (cond_both (list_any (is_same w) ws) _ _ (λ n. n ≤ length (w ∷ ws)) (λ _. omega arith) (λ _. omega arith))
 
 -- different words are as many in their set
 pub length-set_of-different : (ws : List (List ℕ)) → AllDifferent word_cmp ws → length (set_of ws) ≡ length ws
