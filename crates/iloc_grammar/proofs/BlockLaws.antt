@@ -1,11 +1,9 @@
 -- A text means a value block by block exactly where it means it as a whole.
-use Rattle.std.proofs.Common.{◌≡◌, ◌≢◌, ◌⊎◌, inl, inr, ℕ, Bool, true, false, cond, ◌||◌, List, [], ◌∷◌, ◌++◌, map, filter_map, refl, sym, ap, ◌∙◌, subst, arith, Option, Some, None, IfSome, option_map, option_to_list, true≢false}
+use Rattle.std.proofs.Common.{◌≡◌, ◌≢◌, ◌⊎◌, inl, inr, ℕ, Bool, true, false, cond, List, [], ◌∷◌, ◌++◌, map, filter_map, refl, sym, ap, ◌∙◌, subst, arith, Option, Some, None, IfSome, option_map, option_to_list, true≢false}
 use Rattle.std.specs.List.{AllByRecursion, list_any}
-use Rattle.std.specs.Char.{is_ascii_alphanumeric}
 use Rattle.std.specs.Ordering.{nat_cmp, eq_by_cmp}
 use Rattle.std.specs.FinMap.{find}
-use Rattle.std.proofs.lemmas.Bool.{or_parts, or_from}
-use Rattle.std.proofs.lemmas.Bool.Decides.{nat_tests}
+use Rattle.std.proofs.lemmas.Bool.{or_parts}
 use Rattle.iloc_grammar.specs.Pieces.{pieces}
 use Rattle.iloc_grammar.specs.Words.{IsTable, lower}
 use Rattle.iloc_grammar.specs.Written.{Unicode, Transform, Extension, unicode, transform, other, Written, extension_pieces, extension_block, blocks_of, IsOther, IsPrivate, kept, is_other_singleton, IsExtension, singleton, IsWritten, AllDifferent}
@@ -16,9 +14,8 @@ use Rattle.iloc_grammar.specs.ByBlocks.{UnicodeMeans, TransformMeans, PrivateMea
 use Rattle.iloc_grammar.proofs.Readings.{head-spelling, blocks-spelling, unicode_of-pieces, transform_of-pieces}
 use Rattle.iloc_grammar.specs.Reading.{unicode_of, transform_of}
 use Rattle.iloc_grammar.proofs.IdentifierLaws.{one_meaning}
-use Rattle.iloc_grammar.proofs.FaultLaws.{AreGood, good_means, letter, good_from, block_rules, different_by}
-use Rattle.iloc_grammar.proofs.ReadBack.{extension_singleton}
-use Rattle.iloc_grammar.proofs.Singletons.{tied, untied, self_tied, tied_back, IsKind, of_u, of_t, of_x, another, kind_of, lower_letter, find_holds}
+use Rattle.iloc_grammar.proofs.FaultLaws.{AreGood, good_means, good_from, block_rules, different_by}
+use Rattle.iloc_grammar.proofs.Singletons.{tied, untied, self_tied, IsKind, of_u, of_t, of_x, another, kind_of, lower_letter, find_holds}
 use Rattle.iloc_grammar.proofs.General.{all_of}
 use Rattle.iloc_grammar.proofs.ValuesLaws.{all_weaker, all_both}
 

@@ -1,20 +1,20 @@
 -- A text is a locale or has exactly one fault.
-use Rattle.std.proofs.Common.{◌≡◌, ◌≢◌, ◌⊎◌, inl, inr, ℕ, Bool, true, false, cond, not, ◌&&◌, ◌==◌, List, [], ◌∷◌, ◌++◌, length, map, flat_map, refl, sym, ap, ◌∙◌, subst, arith, Option, Some, None, IfSome, MatchOption, Result, Ok, Err, MatchResult, option_to_list, true≢false, append_assoc, append-nil, ◌||◌}
+use Rattle.std.proofs.Common.{◌≡◌, ◌⊎◌, inl, inr, ℕ, Bool, true, false, cond, not, ◌&&◌, ◌==◌, List, [], ◌∷◌, ◌++◌, length, map, flat_map, refl, sym, ap, ◌∙◌, subst, arith, Option, Some, None, IfSome, MatchOption, Result, Ok, Err, MatchResult, option_to_list, append_assoc, append-nil, ◌||◌}
 use Rattle.std.specs.List.{AllByRecursion, list_any}
 use Rattle.std.specs.Char.{is_ascii_alphanumeric, to_ascii_lowercase}
 use Rattle.std.specs.Ordering.{nat_cmp, eq_by_cmp}
 use Rattle.std.specs.declared.cmp.Ordering.{Ordering}
-use Rattle.std.proofs.lemmas.Bool.{and_parts, or_from, or_parts, cond_both, both_ways, eqb-false, cases_Bool}
+use Rattle.std.proofs.lemmas.Bool.{or_from, or_parts, cond_both, both_ways, eqb-false, cases_Bool}
 use Rattle.std.proofs.lemmas.Bool.Decides.{nat_tests}
 use Rattle.std.proofs.lemmas.List.{map-append}
 use Rattle.std.proofs.lemmas.List.Folds.{list_any-append}
 use Rattle.iloc_grammar.specs.Pieces.{pieces}
 use Rattle.iloc_grammar.specs.Words.{Language, Script, Region, Variant, TransformKey, is_word, IsWord, IsTable, lower, word_cmp}
-use Rattle.iloc_grammar.specs.Written.{Identifier, Transform, Extension, unicode, transform, other, Written, identifier_pieces, optional_pieces, transform_pieces, extension_pieces, extension_block, block_pieces, blocks_of, spelling, HasWords, IsIdentifier, IsTransform, IsPrivate, IsExtension, singleton, IsWritten, AllDifferent}
+use Rattle.iloc_grammar.specs.Written.{Identifier, Transform, Extension, Written, identifier_pieces, optional_pieces, transform_pieces, extension_block, block_pieces, blocks_of, spelling, HasWords, IsIdentifier, IsTransform, IsPrivate, IsExtension, singleton, IsWritten, AllDifferent}
 use Rattle.iloc_grammar.specs.Meaning.{Locale, Means, meaning}
 use Rattle.iloc_grammar.specs.Faults.{Fault, InvalidLanguage, InvalidSubtag, InvalidExtension, DuplicatedExtension, SpellsIdentifier, HasSingleton, IsNew, IsBlock, RepeatsVariant, BlockFault, no_singleton, duplicated, breaks_rule, FirstBadBlock, here, later, HasFault, no_language, no_identifier, bad_block}
-use Rattle.iloc_grammar.specs.Blocks.{is_one_byte, front, blocks, head, tail_blocks, first_piece}
-use Rattle.iloc_grammar.specs.Reading.{skip_first, passing, past, identifier_of, front_of, after_front, before_key, extension_of, extensions_in, private_in, written_of, transform_of}
+use Rattle.iloc_grammar.specs.Blocks.{front, blocks, head, tail_blocks, first_piece}
+use Rattle.iloc_grammar.specs.Reading.{skip_first, passing, past, identifier_of, front_of, after_front, before_key, extensions_in, private_in, written_of, transform_of}
 use Rattle.iloc_grammar.specs.Computing.{is_identifier, is_block, repeats_variant, first_fault, unless_fault, locale_result}
 use Rattle.iloc_grammar.proofs.WordsLaws.{region_no_script, variant_no_script, variant_no_region}
 use Rattle.iloc_grammar.proofs.IdentifierLaws.{pieces-identifier_of, identifier_of-pieces}
@@ -22,7 +22,7 @@ use Rattle.iloc_grammar.proofs.ReadingLaws.{all_while, take_first_passes, keep_w
 use Rattle.iloc_grammar.proofs.Readings.{identifier_no_key, optional_no_key, fields_pass, before_key_read, is_no_x, head-spelling, blocks-spelling, pieces-extension_of, unicode_of-pieces, pieces-unicode_of, transform_of-pieces, pieces-transform_of, written_of-spelling}
 use Rattle.iloc_grammar.proofs.RuleTests.{Tests, tests_not, tests_fails, tests_denied, tests_word, tests_and, tests_like, tests_different, tests_nat, tests_spelled, tests_block, identifier_read, extension_read}
 use Rattle.iloc_grammar.proofs.PiecesLaws.{at_pieces}
-use Rattle.iloc_grammar.proofs.Singletons.{tied_back, untied, two_more, no_t, no_x}
+use Rattle.iloc_grammar.proofs.Singletons.{tied_back, untied, two_more}
 use Rattle.iloc_grammar.proofs.General.{all_of}
 use Rattle.iloc_grammar.proofs.ReadBack.{extension_singleton}
 

@@ -1,8 +1,9 @@
 -- Lists, options and tests of any kind.
 use Rattle.std.proofs.Common.{◌≡◌, Bool, true, false, cond, List, [], ◌∷◌, map, refl, ap₂, ◌∙◌, Option, Some, None, IfSome, option_map}
-use Rattle.std.specs.List.{AllByRecursion, AllZip, list_all}
+use Rattle.std.specs.List.{AllByRecursion, AllZip, list_all, list_any}
 use Rattle.std.proofs.lemmas.List.Folds.{list_all-map}
 use Rattle.std.proofs.lemmas.Simd.{map-map}
+use Rattle.std.proofs.lemmas.Bool.{and_parts, or_from}
 
 -- a function goes into both branches of a test
 pub cond-map : {A B : Type 0} (f : A → B) {b c : Bool} (x y : A) {u v : B} → b ≡ c → u ≡ f x → v ≡ f y → cond b u v ≡ f (cond c x y)
@@ -19,6 +20,11 @@ option_map-then g f h e (Some x) = λ i. Some (e x i)
 -- a test after a map
 pub list_all-mapped : {X Y : Type 0} (test : Y → Bool) (f : X → Y) (own : X → Bool) → ((x : X) → test (f x) ≡ own x) → (xs : List X) → list_all test (map f xs) ≡ list_all own xs
 list_all-mapped test f own e xs = list_all-map test f xs ∙ (λ i. list_all (λ x. e x i) xs)
+
+-- where each item passes one test, and such items fail another, none passes that
+pub none_passes : {X : Type 0} (f g : X → Bool) → ((x : X) → f x ≡ true → g x ≡ false) → (xs : List X) → list_all f xs ≡ true → list_any g xs ≡ false
+none_passes f g e [] h = refl
+none_passes f g e (x ∷ xs) h = let parts = and_parts _ _ h in or_from _ _ (e x parts.0) (none_passes f g e xs parts.1)
 
 -- what holds of each item holds of each item of the map
 pub all_mapped : {X Y : Type 0} (P : X → Type 0) (Q : Y → Type 0) (f : X → Y) → ((x : X) → P x → Q (f x)) → (xs : List X) → AllByRecursion P xs → AllByRecursion Q (map f xs)

@@ -1,12 +1,13 @@
 -- Raw forms: as long as the longest word, and read back. The tables keep to what is asked of tables.
-use Rattle.std.proofs.Common.{◌≡◌, ◌≢◌, ℕ, zero, suc, ◌+◌, ◌-◌, ◌≤◌, Bool, true, false, ◌||◌, ◌==◌, List, [], ◌∷◌, ◌++◌, length, replicate, refl, sym, ap, ◌∙◌, arith, append_assoc, length-append}
-use Rattle.std.specs.List.{list_all, list_any}
+use Rattle.std.proofs.Common.{◌≡◌, ℕ, zero, suc, ◌+◌, ◌-◌, ◌≤◌, Bool, true, false, ◌==◌, List, [], ◌∷◌, ◌++◌, length, replicate, refl, sym, ap, ◌∙◌, arith, append_assoc, length-append}
+use Rattle.std.specs.List.{list_any}
 use Rattle.std.specs.Char.{is_ascii_alphanumeric}
 use Rattle.std.proofs.lemmas.Bool.{and_parts, or_parts}
 use Rattle.std.proofs.lemmas.Bool.Decides.{nat_tests}
 use Rattle.std.proofs.lemmas.List.{length-replicate, replicate-append-replicate}
-use Rattle.iloc_grammar.specs.Words.{Kind, Language, Script, Region, Variant, Subtag, UnicodeKey, TransformKey, Attribute, PrivateSubtag, SubdivisionSuffix, CurrencyType, IsTable, two_or_three, all_but_four, languages, is_word, IsWord, EndsAt, greatest, Bounds, raw, wide_raw, narrow_raw, before_zero}
+use Rattle.iloc_grammar.specs.Words.{Kind, Language, IsTable, two_or_three, all_but_four, languages, is_word, IsWord, EndsAt, greatest, Bounds, raw, wide_raw, narrow_raw, before_zero}
 use Rattle.iloc_grammar.proofs.WordsLaws.{word_letters_or_digits}
+use Rattle.iloc_grammar.proofs.General.{none_passes}
 
 -- the tables
 
@@ -45,10 +46,6 @@ length-raw n k w b h = let m = at_most_greatest n k w b h in let z : length (rep
 abbrev is_zero : ℕ → Bool
 is_zero b = b == 0
 
-no_zero : (f : ℕ → Bool) → ((c : ℕ) → f c ≡ true → is_zero c ≡ false) → (w : List ℕ) → list_all f w ≡ true → list_any is_zero w ≡ false
-no_zero f h [] a = refl
-no_zero f h (c ∷ w) a = let parts = and_parts _ _ a in ap (λ b. b || list_any is_zero w) (h c parts.0) ∙ no_zero f h w parts.1
-
 either_no_zero : (c : ℕ) → is_ascii_alphanumeric c ≡ true → is_zero c ≡ false
 either_no_zero c h = grind (arith, nat_tests)
 
@@ -63,7 +60,7 @@ before_padding [] n h = before_zeros n
 before_padding (c ∷ w) n h = let parts = or_parts (is_zero c) (list_any is_zero w) h in rw parts.0 (ap (λ l. c ∷ l) (before_padding w n parts.1))
 
 pub before_zero-raw : (n : ℕ) (k : Kind) (w : List ℕ) → IsWord k w → before_zero (raw n k w) ≡ w
-before_zero-raw n k w h = before_padding w (greatest n k - length w) (no_zero _ either_no_zero w (word_letters_or_digits k w h))
+before_zero-raw n k w h = before_padding w (greatest n k - length w) (none_passes _ is_zero either_no_zero w (word_letters_or_digits k w h))
 
 pub raw_injective : (n : ℕ) (k : Kind) (v w : List ℕ) → IsWord k v → IsWord k w → raw n k v ≡ raw n k w → v ≡ w
 raw_injective n k v w g h e = sym (before_zero-raw n k v g) ∙ ap before_zero e ∙ before_zero-raw n k w h

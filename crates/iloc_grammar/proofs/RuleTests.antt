@@ -1,11 +1,10 @@
 -- Tests of the rules: each is true exactly where the rule holds.
-use Rattle.std.proofs.Common.{◌≡◌, ◌⊎◌, inl, inr, ℕ, ◌+◌, ◌<◌, Bool, true, false, not, ◌&&◌, ◌||◌, ◌==◌, List, [], ◌∷◌, length, map, refl, sym, ap, ◌∙◌, subst, arith, Option, Some, None, IfSome, true≢false, is_some, nat_lt}
-use Rattle.std.specs.List.{AllByRecursion, list_any, list_all}
+use Rattle.std.proofs.Common.{◌≡◌, ◌⊎◌, ℕ, ◌+◌, ◌<◌, Bool, true, false, not, ◌&&◌, ◌||◌, ◌==◌, List, [], ◌∷◌, length, map, refl, sym, ap, ◌∙◌, subst, Option, Some, None, IfSome, true≢false, is_some, nat_lt}
+use Rattle.std.specs.List.{AllByRecursion, list_all}
 use Rattle.std.specs.Int.{is_in_range}
-use Rattle.std.specs.Ordering.{eq_by_cmp}
 use Rattle.std.specs.declared.cmp.Ordering.{Ordering}
-use Rattle.std.proofs.lemmas.Bool.{and_parts, false_from_ne_true, not-true, not_from_false}
-use Rattle.std.proofs.lemmas.Bool.Decides.{nat_tests, Decides-ltb, Decides-eqb, Decides-and, Decides-or}
+use Rattle.std.proofs.lemmas.Bool.{false_from_ne_true, not-true, not_from_false}
+use Rattle.std.proofs.lemmas.Bool.Decides.{Decides-ltb, Decides-eqb, Decides-and, Decides-or}
 use Rattle.iloc_grammar.specs.Words.{Kind, Language, Script, Region, Variant, UnicodeKey, TransformKey, Attribute, PrivateSubtag, is_word, IsWord, lower, word_cmp}
 use Rattle.iloc_grammar.specs.Written.{Identifier, Unicode, Transform, Extension, unicode, transform, other, extension_pieces, kept, HasWords, IsIdentifier, IsKeyword, IsField, IsUnicode, IsTransform, IsOther, IsPrivate, IsExtension, singleton, AllDifferent}
 use Rattle.iloc_grammar.specs.Faults.{SpellsIdentifier, IsBlock}

@@ -1,9 +1,8 @@
 -- A value is its own normal form, and its printed form means it.
-use Rattle.std.proofs.Common.{◌≡◌, ◌≢◌, ℕ, suc, ◌+◌, ◌<◌, Bool, true, false, not, List, [], ◌∷◌, length, map, filter, refl, sym, ap, ap₂, ◌∙◌, subst, arith, Option, Some, None, IfSome, option_map}
+use Rattle.std.proofs.Common.{◌≡◌, ◌≢◌, ℕ, ◌+◌, ◌<◌, Bool, true, false, not, List, [], ◌∷◌, length, map, filter, refl, sym, ap, ap₂, ◌∙◌, subst, arith, Option, Some, None, IfSome, option_map}
 use Rattle.std.specs.List.{AllByRecursion}
 use Rattle.std.specs.FinMap.{is_sorted}
 use Rattle.std.proofs.lemmas.Bool.Decides.{nat_tests}
-use Rattle.std.specs.Prelude.{codes}
 use Rattle.iloc_grammar.specs.Words.{Kind, Language, Script, Region, Variant, Subtag, UnicodeKey, TransformKey, Attribute, is_word, IsWord, normal, lower, upper, title, word_cmp, is_true}
 use Rattle.iloc_grammar.specs.Written.{Identifier, Fields, Unicode, Transform, identifier_pieces, HasWords, IsIdentifier, IsUnicode, IsTransform, IsKeyword, IsField, AllDifferent}
 use Rattle.iloc_grammar.specs.Meaning.{map_of, set_of, normal_identifier, normal_unicode, normal_transform, normal_fields, normal_values, IdentifierMeans}
@@ -120,27 +119,17 @@ normal_value_unicode u h v =
 
 -- the transform part
 
-pub is_true_word : is_true (codes "true") ≡ true
-unfolding is_true
-is_true_word = refl
-
-pub true_attribute : IsWord Attribute (codes "true")
-unfolding is_word
-true_attribute = refl
-
-pub lower_true : lower (codes "true") ≡ codes "true"
-unfolding lower
-lower_true = refl
-
 abbrev pub IsTransformEntry : List ℕ × List (List ℕ) → Type 0
 IsTransformEntry f = IsNormal TransformKey f.0 × AllByRecursion (λ w. IsNormal Attribute w × (is_true w ≡ false)) f.1
 
 pub spelled_rule : (ws : List (List ℕ)) → AllByRecursion (λ w. IsNormal Attribute w × (is_true w ≡ false)) ws → AllByRecursion (IsWord Attribute) (spelled_value ws) × (0 < length (spelled_value ws))
-spelled_rule [] h = ((true_attribute, tt), omega arith)
+unfolding is_word
+spelled_rule [] h = ((refl, tt), omega arith)
 spelled_rule (w ∷ ws) h = (all_weaker (λ w. IsNormal Attribute w × (is_true w ≡ false)) (IsWord Attribute) (λ w n. n.0.0) (w ∷ ws) h, omega arith)
 
 pub spelled_means : (ws : List (List ℕ)) → AllByRecursion (λ w. IsNormal Attribute w × (is_true w ≡ false)) ws → normal_values (spelled_value ws) ≡ ws
-spelled_means [] h = rw (lower_true, is_true_word)
+unfolding lower is_true
+spelled_means [] h = refl
 spelled_means (w ∷ ws) h = values_fixed (w ∷ ws) (all_weaker (λ w. IsNormal Attribute w × (is_true w ≡ false)) (λ w. lower w ≡ w) (λ w n. n.0.1) (w ∷ ws) h) (all_weaker (λ w. IsNormal Attribute w × (is_true w ≡ false)) (λ w. is_true w ≡ false) (λ w n. n.1) (w ∷ ws) h)
 
 fields_rule : (fs : Fields) → AllByRecursion IsTransformEntry fs → AllByRecursion IsField (spelled_fields fs)
