@@ -41,19 +41,22 @@ unicode_by : (T : ℕ → Bool) (o : Option Extension) → IfSome o (IsExtension
 unfolding or_else
 unicode_by T None h p e = subst (λ p. PartIs UnicodeMeans no_unicode p no_unicode) (sym e) refl
 unicode_by T (Some (unicode u)) h p e = record { written = u; grammatical = h.1; spelled = refl; means = refl }
-unicode_by T _ h p e = absurd (grind arith)
+unicode_by T (Some (transform m)) h p e = absurd (let k = h.0 in omega arith)
+unicode_by T (Some (other ps)) h p e = absurd (true≢false (sym h.0))
 
 transform_by : (T : ℕ → Bool) (o : Option Extension) → IfSome o (IsExtension T 116) → (p : Option (List (List ℕ))) → p ≡ None → PartIs (TransformMeans T) no_transform (or_else (option_map extension_pieces o) p) (transform_part o)
 unfolding or_else
 transform_by T None h p e = subst (λ p. PartIs (TransformMeans T) no_transform p no_transform) (sym e) refl
 transform_by T (Some (transform m)) h p e = record { written = m; grammatical = h.1; spelled = refl; means = refl }
-transform_by T _ h p e = absurd (grind arith)
+transform_by T (Some (unicode u)) h p e = absurd (let k = h.0 in omega arith)
+transform_by T (Some (other ps)) h p e = absurd (true≢false (sym h.0))
 
 private_by : (T : ℕ → Bool) (o : Option Extension) → IfSome o (IsExtension T 120) → (x : Option (ℕ × List (List ℕ))) → IfSome x (λ e. (singleton e ≡ 120) × IsPrivate e.1) → PartIs PrivateMeans [] (or_else (option_map extension_pieces o) (find nat_cmp 120 (by_letter (option_to_list x)))) (private_part x)
 unfolding or_else
 private_by T None h None k = refl
 private_by T None h (Some b) k = subst (λ (c : ℕ). PartIs PrivateMeans [] (cond (eq_by_cmp nat_cmp 120 c) (Some b.1) None) (map lower b.1)) (sym k.0) (k.1, refl)
-private_by T _ h x k = absurd (grind arith)
+private_by T (Some (other ps)) h x k = absurd (true≢false (sym h.0))
+private_by T _ h x k = absurd (let k = h.0 in omega arith)
 
 -- the others
 

@@ -18,8 +18,8 @@ use Rattle.iloc_grammar.specs.Reading.{skip_first, passing, past, identifier_of,
 use Rattle.iloc_grammar.specs.Computing.{is_identifier, is_block, repeats_variant, first_fault, unless_fault, locale_result}
 use Rattle.iloc_grammar.proofs.WordsLaws.{region_no_script, variant_no_script, variant_no_region}
 use Rattle.iloc_grammar.proofs.IdentifierLaws.{pieces-identifier_of, identifier_of-pieces}
-use Rattle.iloc_grammar.proofs.ReadingLaws.{all_while, take_first_passes, keep_while_passes, front_words, front_of-pieces, pieces-front_of}
-use Rattle.iloc_grammar.proofs.Readings.{identifier_no_key, optional_no_key, fields_pass, before_key_read, is_no_x, head-spelling, blocks-spelling, pieces-extension_of, unicode_of-pieces, pieces-unicode_of, transform_of-pieces, pieces-transform_of, written_of-spelling}
+use Rattle.iloc_grammar.proofs.ReadingLaws.{all_while, take_first_passes, keep_while_passes, front_words, pieces-front_of}
+use Rattle.iloc_grammar.proofs.Readings.{identifier_no_key, optional_no_key, fields_pass, before_key_read, is_no_x, head-spelling, blocks-spelling, pieces-extension_of, pieces-transform_of, written_of-spelling}
 use Rattle.iloc_grammar.proofs.RuleTests.{Tests, tests_not, tests_fails, tests_denied, tests_word, tests_and, tests_like, tests_different, tests_nat, tests_spelled, tests_block, identifier_read, extension_read}
 use Rattle.iloc_grammar.proofs.PiecesLaws.{at_pieces}
 use Rattle.iloc_grammar.proofs.Singletons.{tied_back, untied, two_more}
@@ -229,9 +229,6 @@ spelling-written_of p ps = (λ i. pieces-identifier_of p (front ps) i ++ flat_ma
 
 pub pieces-written_of : (t : List ℕ) → pieces t ≡ spelling (written_of (pieces t))
 pieces-written_of t = at_pieces (λ ps. ps ≡ spelling (written_of ps)) (λ p ps. sym (spelling-written_of p ps)) t
-
--- readings give back what is spelled, and lose nothing
-pub ruleset whole_readings = (identifier_of-pieces, pieces-identifier_of, front_of-pieces, pieces-front_of, unicode_of-pieces, pieces-unicode_of, transform_of-pieces, pieces-transform_of, written_of-spelling, spelling-written_of)
 
 -- what is read of good blocks follows the rules
 record AreRead (T : ℕ → Bool) (seen : List ℕ) (es : List (ℕ × Extension)) (x : Option (ℕ × List (List ℕ))) : Type 0 where

@@ -12,7 +12,7 @@ use Rattle.std.proofs.lemmas.List.{map-append, length-map}
 use Rattle.iloc_grammar.specs.Words.{word_cmp, is_same}
 use Rattle.iloc_grammar.specs.Written.{AllDifferent}
 use Rattle.iloc_grammar.specs.Meaning.{map_of, set_of}
-use Rattle.iloc_grammar.proofs.MapLaws.{word_cmp_total, same_words, find-map_of, sorted-map_of, map_of_same, is_sorted-map_of, map_of_sorted}
+use Rattle.iloc_grammar.proofs.MapLaws.{word_cmp_total, same_words, find-map_of, sorted-map_of, map_of_same}
 use Rattle.iloc_grammar.proofs.ValuesLaws.{unmarked}
 use Rattle.std.proofs.lemmas.Bool.{cond_both}
 
@@ -28,9 +28,6 @@ module _ {K X : Type 0} (R : K → K → Ordering) where
 
   pub map_of-last : IsTotalOrder R → IsAntisymmetric R → (es fs : List (K × X)) → map_of R (es ++ map_of R fs) ≡ map_of R (es ++ fs)
   map_of-last o same es fs = map_of_same R o same _ _ (λ q. find-append q es (map_of R fs) ∙ ap (λ p. option_or (find R q es) p) (find-map_of R o q fs) ∙ sym (find-append q es fs))
-
--- the laws of maps by words
-pub ruleset map_laws = (word_cmp_total, same_words, is_sorted-map_of, find-map_of, map_of_same, map_of_sorted, map_of-first, map_of-last)
 
 -- sets as maps to nothing
 
