@@ -30,6 +30,7 @@ ghost use Rattle.iloc_fronts.specs.PartComputing.{part_result};
 ghost use Rattle.iloc_fronts.specs.ByReaders.{MeansByReaders};
 
 /// Keywords are read from the front, or a piece of two bytes there is no key; and a plain program says which.
+#[tactic(auto, using(crate::proofs::FrontLaws::keywords_reader, crate::proofs::FrontLaws::keywords_answer))]
 pub fn keywords_front()
     ensures reader { IsReader KeywordsRead KeywordsFault }
     ensures answer { (ps : List Text)
@@ -37,6 +38,7 @@ pub fn keywords_front()
 {}
 
 /// What comes after `u` is read from the front, or has a fault; where nothing of the block is left it is what the block means.
+#[tactic(auto, using(crate::proofs::FrontLaws::unicode_reader, crate::proofs::FrontLaws::unicode_answer, crate::proofs::FrontLaws::unicode_agrees))]
 pub fn unicode_front()
     ensures reader { IsReader UnicodeRead UnicodeFault }
     ensures answer { (ps : List Text)
@@ -57,6 +59,7 @@ pub fn transform_front()
 {}
 
 /// The same after another singleton.
+#[tactic(auto, using(crate::proofs::FrontLaws::other_reader, crate::proofs::FrontLaws::other_answer, crate::proofs::FrontLaws::other_agrees))]
 pub fn other_front()
     ensures reader { IsReader OtherRead OtherFault }
     ensures answer { (ps : List Text)
@@ -65,6 +68,7 @@ pub fn other_front()
 {}
 
 /// After `x` all is read, or nothing.
+#[tactic(auto, using(crate::proofs::FrontLaws::private_reader, crate::proofs::FrontLaws::private_answer))]
 pub fn private_front()
     ensures reader { IsReader PrivateRead PrivateFault }
     ensures answer { (ps : List Text)
@@ -96,6 +100,7 @@ pub fn block_rules()
 {}
 
 /// The text of a value is read as it.
+#[tactic(auto, using(crate::proofs::ValueLaws::transform_value_back, crate::proofs::ValueLaws::unicode_value_back))]
 pub fn values()
     ensures unicode { (ws : List Text)
         → AllByRecursion (λ w. IsNormal Subtag w × (is_true w ≡ false)) ws

@@ -19,6 +19,7 @@ ghost use Rattle.iloc_preferences_rules.specs.Formatters.{FormatPreferences, Tim
 ghost use Rattle.iloc_preferences_rules.specs.Examples.{meaning_of, preferences_of, conversions, text_of_preferences};
 
 /// Each keyword turned into a list and read is itself; a list that would spell `true` is empty, and lost where words are read.
+#[tactic(auto, using(crate::proofs::PreferenceLaws::read_given, crate::proofs::KeywordLaws::reads_what_it_gives, crate::proofs::KeywordLaws::currency_read_back, crate::proofs::KeywordLaws::subtag_read_back, crate::proofs::KeywordLaws::scripts_read_back))]
 pub fn keywords()
     ensures enums { (k : EnumKeyword) → ReadsWhatItGives k }
     ensures currency { (w : Text) → IsNormal CurrencyType w
@@ -31,6 +32,7 @@ pub fn keywords()
 {}
 
 /// Preferences extended by the default ones, and by themselves, stay; and the default ones extended by others are those.
+#[tactic(auto, using(crate::proofs::PreferenceLaws::merge_itself, crate::proofs::PreferenceLaws::default_merge, crate::proofs::PreferenceLaws::merge_default))]
 pub fn merging()
     ensures default { (a : Preferences) → merge a default_preferences ≡ a }
     ensures itself { (a : Preferences) → merge a a ≡ a }
@@ -38,6 +40,7 @@ pub fn merging()
 {}
 
 /// The same for the preferences of formatters.
+#[tactic(auto, using(crate::proofs::PreferenceLaws::default_time_merge, crate::proofs::PreferenceLaws::format_default, crate::proofs::PreferenceLaws::format_itself, crate::proofs::PreferenceLaws::default_format_merge, crate::proofs::PreferenceLaws::time_default, crate::proofs::PreferenceLaws::time_itself))]
 pub fn merging_formatters()
     ensures default { (a : FormatPreferences) → merge_format a default_format ≡ a }
     ensures itself { (a : FormatPreferences) → merge_format a a ≡ a }
@@ -48,6 +51,7 @@ pub fn merging_formatters()
 {}
 
 /// The locale of preferences is well-formed, and has these preferences exactly where no subdivision spells `true`.
+#[tactic(auto, using(crate::proofs::PreferenceLaws::strict_locale, crate::proofs::PreferenceLaws::preferences_are, crate::proofs::PreferenceLaws::locale_is_value, crate::proofs::PreferenceLaws::preferences_back, crate::proofs::PreferenceLaws::back_only))]
 pub fn preferences_of_locales()
     ensures valid { (T : Table) (M : Locale) → IsValue T M → IsPreferences T (preferences M) }
     ensures well_formed { (T : Table) (p : Preferences) → IsPreferences T p

@@ -56,6 +56,7 @@ pub fn data_locales()
 {}
 
 /// A total order of subdivisions, by which only equal ones tie; data locales tie where they stand for the same.
+#[tactic(auto, using(crate::proofs::DataOrderLaws::subdivision_exact, crate::proofs::DataOrderLaws::data_locale_total, crate::proofs::DataOrderLaws::data_locale_ties))]
 pub fn data_orders()
     ensures subdivisions { IsExactOrder subdivision_cmp }
     ensures data_locales { IsTotalOrder data_locale_cmp }
@@ -63,6 +64,7 @@ pub fn data_orders()
 {}
 
 /// Subdivisions are told apart by what they feed a hasher; data locales feed it alike exactly where they stand for the same.
+#[tactic(auto, using(crate::proofs::DataHashLaws::subdivision_hashes, crate::proofs::DataHashLaws::data_locale_hashes))]
 pub fn data_hashes()
     ensures subdivisions { HashesByOrder subdivision_cmp subdivision_fed }
     ensures data_locales { (d e : DataLocale)
@@ -70,6 +72,7 @@ pub fn data_hashes()
 {}
 
 /// Over a wider table of languages a text means the data locale that it meant.
+#[tactic(auto, using(crate::proofs::WiderData::data_wider))]
 pub fn wider_data_locales()
     ensures { (T U : Table) → ((n : ℕ) → T n ≡ true → U n ≡ true) → (t : Text) (d : DataLocale)
         → DataMeans T t d → DataMeans U t d }

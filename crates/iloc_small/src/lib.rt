@@ -65,12 +65,14 @@ pub fn small_is_inline()
 {}
 
 /// An inline text is a locale; and a plain program says whether a text is inline.
+#[tactic(auto, using(crate::proofs::InlineLaws::inline_means, crate::proofs::InlineLaws::inline_answer))]
 pub fn inline_texts()
     ensures locale { (T : Table) (t : Text) → IsInline T t → (M : Locale) × Means T t M }
     ensures answer { (T : Table) → IsTable T → (t : Text) → (is_inline T t ≡ true) ↔ IsInline T t }
 {}
 
 /// Over a wider table of languages a small text stays what it is.
+#[tactic(auto, using(crate::proofs::WiderSmall::small_wider))]
 pub fn wider_small()
     ensures { (T U : Table) → ((n : ℕ) → T n ≡ true → U n ≡ true) → (t : Text) (r : SmallLocale)
         → IsSmall T t r → IsSmall U t r }
@@ -114,6 +116,7 @@ pub fn by_blocks()
 {}
 
 /// Where all blocks are short, none that is long is reached.
+#[tactic(auto, using(crate::proofs::InlineBlockLaws::none_long))]
 pub fn short_blocks()
     ensures { (T : Table) (seen : List ℕ) (bs : List Block)
         → ReachesLongBlock T seen bs → ¬ (AllByRecursion (IsShortBlock T) bs) }
