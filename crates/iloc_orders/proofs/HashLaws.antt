@@ -1,5 +1,5 @@
 -- Values that tie feed a hasher alike, and what is fed tells them apart: each part tells its value, and where it ends.
-use Rattle.std.proofs.Common.{◌≡◌, ◌≢◌, ℕ, ◌^◌, ◌<◌, ◌≤◌, List, [], ◌∷◌, ◌++◌, length, refl, sym, ap, ◌∙◌, subst, Option, Some, None, append_assoc, length-append, arith}
+use Rattle.std.proofs.Common.{◌≡◌, ℕ, ◌^◌, ◌<◌, ◌≤◌, List, [], ◌∷◌, ◌++◌, length, refl, sym, ap, ◌∙◌, subst, Option, Some, None, append_assoc, length-append, arith}
 use Rattle.std.proofs.lemmas.Nat.{from_le_bytes-to_le_bytes_8}
 use mir.Syntax.{w64}
 use Rattle.std.specs.Int.{from_le_bytes}
@@ -11,24 +11,6 @@ use Rattle.iloc_grammar.specs.Meaning.{Extensions}
 use Rattle.iloc_orders.specs.Orders.{IsExactOrder}
 use Rattle.iloc_orders.specs.Hashes.{HashesByOrder, word_fed, words_fed, identifier_fed, fields_fed, unicode_fed, transform_fed, other_fed, extensions_fed, locale_fed}
 
--- lists of writes
-
-first_of : {X : Type 0} → X → List X → X
-first_of d [] = d
-first_of d (x ∷ xs) = x
-
-rest_of : {X : Type 0} → List X → List X
-rest_of [] = []
-rest_of (x ∷ xs) = xs
-
-same_first : {X : Type 0} (x y : X) (xs ys : List X) → x ∷ xs ≡ y ∷ ys → x ≡ y
-unfolding first_of
-same_first x y xs ys e = ap (first_of x) e
-
-same_rest : {X : Type 0} (x y : X) (xs ys : List X) → x ∷ xs ≡ y ∷ ys → xs ≡ ys
-unfolding rest_of
-same_rest x y xs ys e = ap rest_of e
-
 -- A value that makes fewer writes than 2 ^ 64 is told by them, whatever follows, and so is what follows
 pub record Tells {X : Type 0} (fed : X → HashWrites) : Type 0 where
   pub some : (x : X) → 0 < length (fed x)
@@ -37,13 +19,13 @@ pub record Tells {X : Type 0} (fed : X → HashWrites) : Type 0 where
 pub word_tells : Tells word_fed
 word_tells = record {
   some = λ w. omega arith;
-  told = λ v w us vs h k e. (same_first v w _ _ e, same_rest _ _ us vs (same_rest v w _ _ e));
+  told = λ v w us vs h k e. (cc, cc);
 }
 
 byte_tells : Tells u8
 byte_tells = record {
   some = λ b. omega arith;
-  told = λ b c us vs h k e. (same_first b c [] [] (same_first _ _ us vs e), same_rest _ _ us vs e);
+  told = λ b c us vs h k e. (cc, cc);
 }
 
 -- one part after another
@@ -73,11 +55,9 @@ length_told : (m n : ℕ) → m < 2 ^ 64 → n < 2 ^ 64 → le_bytes 8 m ≡ le_
 unfolding le_bytes
 length_told m n h k e = sym (from_le_bytes-to_le_bytes_8 m h) ∙ ap (from_le_bytes w64) e ∙ from_le_bytes-to_le_bytes_8 n k
 
-marks_differ : (m n : ℕ) → m ≢ n → m < 2 ^ 64 → n < 2 ^ 64 → le_bytes 8 m ≡ le_bytes 8 n → ⊥
-marks_differ m n d h k e = d (length_told m n h k e)
-
 module _ {X : Type 0} {f : X → HashWrites} (a : Tells f) where
   pub option_tells : Tells (option f)
+  unfolding le_bytes
   option_tells = record { some = λ o. some_writes o; told = λ o p us vs h k e. option_told o p us vs h k e }
     where
       some_writes : (o : Option X) → 0 < length (option f o)
@@ -85,10 +65,10 @@ module _ {X : Type 0} {f : X → HashWrites} (a : Tells f) where
       some_writes (Some x) = omega arith
 
       option_told : (o p : Option X) (us vs : HashWrites) → length (option f o) < 2 ^ 64 → length (option f p) < 2 ^ 64 → option f o ++ us ≡ option f p ++ vs → (o ≡ p) × (us ≡ vs)
-      option_told None None us vs h k e = (refl, same_rest _ _ us vs e)
-      option_told None (Some y) us vs h k e = absurd (marks_differ 0 1 (omega arith) (omega arith) (omega arith) (same_first _ _ _ _ e))
-      option_told (Some x) None us vs h k e = absurd (marks_differ 1 0 (omega arith) (omega arith) (omega arith) (same_first _ _ _ _ e))
-      option_told (Some x) (Some y) us vs h k e = let t = a.told x y us vs (omega arith) (omega arith) (same_rest _ _ _ _ e) in (ap Some t.0, t.1)
+      option_told None None us vs h k e = (refl, cc)
+      option_told None (Some y) us vs h k e = absurd (cc)
+      option_told (Some x) None us vs h k e = absurd (cc)
+      option_told (Some x) (Some y) us vs h k e = let t = a.told x y us vs (omega arith) (omega arith) (cc) in (ap Some t.0, t.1)
 
   -- a list
 
@@ -113,8 +93,8 @@ module _ {X : Type 0} {f : X → HashWrites} (a : Tells f) where
     told = λ xs ys us vs h k e.
         let m = each_long xs in
         let n = each_long ys in
-        let l : length xs ≡ length ys = length_told (length xs) (length ys) (omega arith) (omega arith) (same_first _ _ _ _ e) in
-        each_told xs ys us vs l (omega arith) (omega arith) (same_rest _ _ _ _ e);
+        let l : length xs ≡ length ys = length_told (length xs) (length ys) (omega arith) (omega arith) (cc) in
+        each_told xs ys us vs l (omega arith) (omega arith) (cc);
   }
 
 -- the parts of a locale
@@ -161,3 +141,5 @@ hashes_by {X} {R} {fed} o a = record {
   alike = λ x y e. ap fed ((o.exact x y).0 e);
   told_apart = λ x y h e. (o.exact x y).1 (a.told x y [] [] h (subst (λ ws. length ws < 2 ^ 64) e h) (ap (λ ws. ws ++ []) e)).0;
 }
+
+pub ruleset told_parts = (word_tells, words_tell, identifier_tells, fields_tell, unicode_tells, transform_tells, other_tells, extensions_tell, locale_tells)

@@ -13,7 +13,7 @@ ghost use Rattle.iloc_grammar.specs.Words.{word_cmp};
 ghost use Rattle.iloc_orders.specs.Examples.{meaning_of};
 
 /// Total orders, by which only equal values tie.
-#[tactic(auto, using(crate::proofs::OrderLaws::word_exact, crate::proofs::OrderLaws::kind_exact, crate::proofs::OrderLaws::words_exact, crate::proofs::OrderLaws::identifier_exact, crate::proofs::OrderLaws::keywords_exact, crate::proofs::OrderLaws::fields_exact, crate::proofs::OrderLaws::unicode_exact, crate::proofs::OrderLaws::transform_exact, crate::proofs::OrderLaws::other_exact, crate::proofs::OrderLaws::locale_exact, crate::proofs::OrderLaws::extensions_exact))]
+#[tactic(auto, using(crate::proofs::OrderLaws::exact_orders))]
 pub fn orders()
     ensures word { IsExactOrder word_cmp }
     ensures words { IsExactOrder words_cmp }
@@ -29,7 +29,7 @@ pub fn orders()
 {}
 
 /// Values that tie feed a hasher alike, and those that feed it alike tie: nothing of a value is left out.
-#[tactic(auto, using(crate::proofs::OrderLaws::word_exact, crate::proofs::OrderLaws::words_exact, crate::proofs::OrderLaws::identifier_exact, crate::proofs::OrderLaws::keywords_exact, crate::proofs::OrderLaws::fields_exact, crate::proofs::OrderLaws::unicode_exact, crate::proofs::OrderLaws::transform_exact, crate::proofs::OrderLaws::other_exact, crate::proofs::OrderLaws::extensions_exact, crate::proofs::OrderLaws::locale_exact, crate::proofs::HashLaws::hashes_by, crate::proofs::HashLaws::word_tells, crate::proofs::HashLaws::words_tell, crate::proofs::HashLaws::identifier_tells, crate::proofs::HashLaws::fields_tell, crate::proofs::HashLaws::unicode_tells, crate::proofs::HashLaws::transform_tells, crate::proofs::HashLaws::other_tells, crate::proofs::HashLaws::extensions_tell, crate::proofs::HashLaws::locale_tells))]
+#[tactic(auto, using(crate::proofs::OrderLaws::exact_orders, crate::proofs::HashLaws::hashes_by, crate::proofs::HashLaws::told_parts))]
 pub fn hashes()
     ensures word { HashesByOrder word_cmp word_fed }
     ensures words { HashesByOrder words_cmp words_fed }

@@ -1,9 +1,9 @@
 -- Data locales: reading and printing.
-use Rattle.std.proofs.Common.{◌≡◌, ◌≤◌, ◌⊎◌, ℕ, Bool, true, false, cond, List, [], ◌∷◌, ◌++◌, length, refl, sym, ap, ◌∙◌, subst, arith, Option, Some, None, IfSome, MatchResult, Result, Ok, Err, ok_or, option_map, option_and_then, option_to_list, true≢false, codes, append_assoc, append-nil}
+use Rattle.std.proofs.Common.{◌≡◌, ◌≤◌, ◌⊎◌, ℕ, Bool, true, false, cond, List, [], ◌∷◌, ◌++◌, length, refl, sym, ap, ◌∙◌, subst, arith, Option, Some, None, IfSome, MatchResult, Result, Ok, Err, ok_or, option_map, option_and_then, option_to_list, codes, append_assoc, append-nil}
 use Rattle.std.specs.Result.{result_ok}
 use Rattle.std.proofs.lemmas.Bool.Decides.{nat_tests}
 use Rattle.iloc_grammar.specs.Pieces.{join}
-use Rattle.iloc_grammar.specs.Words.{Language, Script, Region, Variant, Subtag, UnicodeKey, Attribute, SubdivisionSuffix, is_word, IsWord, IsTable, lower, is_same, is_true}
+use Rattle.iloc_grammar.specs.Words.{Region, Subtag, UnicodeKey, Attribute, SubdivisionSuffix, is_word, IsWord, IsTable, lower, is_same, is_true}
 use Rattle.iloc_grammar.specs.Written.{identifier_pieces}
 use Rattle.iloc_grammar.specs.Meaning.{Locale}
 use Rattle.iloc_grammar.specs.Values.{IsNormal, IsValue, IsWellFormed, text}
@@ -123,36 +123,22 @@ locale_of_data_is_value d h = small_is_value (small_of_data d) (small_value_of_d
 abbrev IsReadPart : Subdivision → Type 0
 IsReadPart p = IsSubdivision p × (is_whole p ≡ false → is_true (subdivision_text p) ≡ false)
 
-record MadeOf (T : ℕ → Bool) (d : DataLocale) : Type 0 where
-  language : List ℕ
-  script : Option (List ℕ)
-  part : Option Subdivision
-  variant : Option (List ℕ)
-  language_is : IsNormal (Language T) language
-  script_is : IfSome script (IsNormal Script)
-  part_is : IfSome part IsReadPart
-  variant_is : IfSome variant (IsNormal Variant)
-  is : d ≡ made_of language script part variant
+abbrev MadeOf : SmallIdentifier → DataLocale → Type 0
+MadeOf i d = (p : Option Subdivision) × IfSome p IsReadPart × (d ≡ made_of i.language i.script p i.variant)
 
 whole_word : IsNormal SubdivisionSuffix whole
 unfolding is_word lower
 whole_word = (refl, refl)
 
-whole_is : (r : List ℕ) → is_whole (whole_region r) ≡ true
-whole_is r = refl
-
 pub whole_region_is : (r : List ℕ) → IsNormal Region r → IsSubdivision (whole_region r)
 whole_region_is r h = record { region = h; suffix = whole_word }
 
 whole_part : (r : List ℕ) → IsNormal Region r → IsReadPart (whole_region r)
-whole_part r h = (whole_region_is r h, λ e. absurd (true≢false (sym (whole_is r) ∙ e)))
+whole_part r h = (whole_region_is r h, λ e. absurd (cc))
 
 agreed_part : (region : Option (List ℕ)) (s : Subdivision) → IfSome region (IsNormal Region) → IsReadPart s → IsReadPart (agreed region s)
 agreed_part None s h p = p
 agreed_part (Some r) s h p = elim (is_same r s.region) as (λ b. IsReadPart (cond b s (whole_region r))) [ true ↦ p | false ↦ whole_part r h ]
-
-named_part : (w : List ℕ) (s : Subdivision) → subdivision w ≡ Ok s → IsNormal Attribute w → is_true w ≡ false → IsReadPart s
-named_part w s e h n = (read_is_subdivision w s e, λ k. ap is_true (text_of_read w s e ∙ h.1) ∙ n)
 
 parts_read : (region : Option (List ℕ)) (k : Option (List ℕ × Option (List ℕ))) → IfSome region (IsNormal Region) → IfSome k (λ k. IfSome k.1 (λ w. IsNormal Attribute w × (is_true w ≡ false))) → IfSome (small_part region k) (λ part. IfSome part IsReadPart)
 parts_read None None h v = tt
@@ -161,25 +147,28 @@ parts_read region (Some (k, o)) h v = elim (is_same k sd) as (λ b. IfSome (cond
   where
     at_value : (o : Option (List ℕ)) → IfSome o (λ w. IsNormal Attribute w × (is_true w ≡ false)) → IfSome (option_map (λ s. Some (agreed region s)) (option_and_then named_subdivision o)) (λ part. IfSome part IsReadPart)
     at_value None v = tt
-    at_value (Some w) v = at_result (subdivision w) refl
-      where
-        at_result : (r : Result Subdivision Fault) → subdivision w ≡ r → IfSome (option_map (λ s. Some (agreed region s)) (result_ok r)) (λ part. IfSome part IsReadPart)
-        at_result (Err f) e = tt
-        at_result (Ok s) e = agreed_part region s h (named_part w s e v.0 v.1)
+    at_value (Some w) v = elim (subdivision w) as (λ r. subdivision w ≡ r → IfSome (option_map (λ s. Some (agreed region s)) (result_ok r)) (λ part. IfSome part IsReadPart)) [
+      | Err f ↦ λ e. tt
+      | Ok s ↦ λ e. agreed_part region s h (read_is_subdivision w s e, λ k. ap is_true (text_of_read w s e ∙ v.0.1) ∙ v.1)
+    ] refl
 
-read_made : {T : ℕ → Bool} (t : List ℕ) (d : DataLocale) → DataMeans T t d → MadeOf T d
-read_made {T = T} t d h =
-    let v = read_is_small_value t h.small h.is_small in
-    from v (small_part h.small.id.region h.small.keyword) (parts_read h.small.id.region h.small.keyword v.region v.value) h.means
+read_made : {T : ℕ → Bool} (t : List ℕ) (d : DataLocale) (h : DataMeans T t d) → MadeOf h.small.id d
+read_made t d h = let v = read_is_small_value t h.small h.is_small in from (small_part h.small.id.region h.small.keyword) (parts_read h.small.id.region h.small.keyword v.region v.value) h.means
   where
-    from : IsSmallValue T h.small → (o : Option (Option Subdivision)) → IfSome o (λ part. IfSome part IsReadPart) → option_map (λ part. made_of h.small.id.language h.small.id.script part h.small.id.variant) o ≡ Some d → MadeOf T d
-    from v None p e = absurd (cc)
-    from v (Some part) p e = record { language = h.small.id.language; script = h.small.id.script; part = part; variant = h.small.id.variant; language_is = v.language; script_is = v.script; part_is = p; variant_is = v.variant; is = cc }
+    from : (o : Option (Option Subdivision)) → IfSome o (λ part. IfSome part IsReadPart) → option_map (λ part. made_of h.small.id.language h.small.id.script part h.small.id.variant) o ≡ Some d → MadeOf h.small.id d
+    from None p e = absurd (cc)
+    from (Some part) p e = (part, p, cc)
 
 -- it prints as it was read
 
-data_is : {T : ℕ → Bool} (d : DataLocale) → MadeOf T d → IsDataLocale T d
-data_is {T = T} d m = subst (IsDataLocale T) (sym m.is) (record { language = m.language_is; script = m.script_is; region = region_is m.part m.part_is; variant = m.variant_is; subdivision = subdivision_is m.part m.part_is })
+text_stays : (p : Subdivision) → IsSubdivision p → lower (subdivision_text p) ≡ subdivision_text p
+text_stays p h = sym (text_of_read _ p (subdivision_back p h))
+
+pub read_is_data_locale : {T : ℕ → Bool} (t : List ℕ) (d : DataLocale) → DataMeans T t d → IsDataLocale T d
+read_is_data_locale {T = T} t d h =
+    let v = read_is_small_value t h.small h.is_small in
+    let m = read_made t d h in
+    subst (IsDataLocale T) (sym m.2) (record { language = v.language; script = v.script; region = region_is m.0 m.1; variant = v.variant; subdivision = subdivision_is m.0 m.1 })
   where
     region_is : (p : Option Subdivision) → IfSome p IsReadPart → IfSome (option_map (λ p. p.region) p) (IsNormal Region)
     region_is None h = tt
@@ -187,13 +176,7 @@ data_is {T = T} d m = subst (IsDataLocale T) (sym m.is) (record { language = m.l
 
     subdivision_is : (p : Option Subdivision) → IfSome p IsReadPart → IfSome (option_map subdivision_text p) (IsNormal Subtag)
     subdivision_is None h = tt
-    subdivision_is (Some p) h = (subdivision_is_subtag p h.0, text_of_lower p h)
-      where
-        text_of_lower : (p : Subdivision) → IsReadPart p → lower (subdivision_text p) ≡ subdivision_text p
-        text_of_lower p h = sym (text_of_read _ p (subdivision_back p h.0))
-
-pub read_is_data_locale : {T : ℕ → Bool} (t : List ℕ) (d : DataLocale) → DataMeans T t d → IsDataLocale T d
-read_is_data_locale t d h = data_is d (read_made t d h)
+    subdivision_is (Some p) h = (subdivision_is_subtag p h.0, text_stays p h.0)
 
 -- the part that is printed for a part is read as it
 part_back : (p : Option Subdivision) → IfSome p IsReadPart → small_part (option_map (λ p. p.region) p) (keyword_by (option_and_then (λ w. option_and_then (λ s. cond (is_whole s) None (Some w)) (named_subdivision w)) (option_map subdivision_text p))) ≡ Some p
@@ -203,19 +186,16 @@ part_back (Some p) h = rw (subdivision_back p h.0) (elim (is_whole p) as (λ b. 
   | false ↦ λ e. with_keyword (h.1 e)
 ] refl)
   where
-    text_stays : lower (subdivision_text p) ≡ subdivision_text p
-    text_stays = sym (text_of_read _ p (subdivision_back p h.0))
-
     with_keyword : is_true (subdivision_text p) ≡ false → small_part (Some p.region) (keyword_by (Some (subdivision_text p))) ≡ Some (Some p)
-    with_keyword n = rw (text_stays, n, subdivision_back p h.0, same_itself p.region) refl
+    with_keyword n = rw (text_stays p h.0, n, subdivision_back p h.0, same_itself p.region) refl
 
 pub read_back : {T : ℕ → Bool} (t : List ℕ) (d : DataLocale) → DataMeans T t d → DataMeans T (data_text d) d
 read_back {T = T} t d h =
     let m = read_made t d h in
     record {
       small = small_of_data d;
-      is_small = subst (λ (u : List ℕ). IsSmall T u (small_of_data d)) (text_of_data d) (small_back (small_of_data d) (small_value_of_data d (data_is d m)));
-      means = ap (λ (e : DataLocale). data_of_small (small_of_data e)) m.is ∙ ap (option_map (λ part. made_of m.language m.script part m.variant)) (part_back m.part m.part_is) ∙ ap Some (sym m.is);
+      is_small = subst (λ (u : List ℕ). IsSmall T u (small_of_data d)) (text_of_data d) (small_back (small_of_data d) (small_value_of_data d (read_is_data_locale t d h)));
+      means = ap (λ (e : DataLocale). data_of_small (small_of_data e)) m.2 ∙ ap (option_map (λ part. made_of h.small.id.language h.small.id.script part h.small.id.variant)) (part_back m.0 m.1) ∙ ap Some (sym m.2);
     }
 
 pub data_or_fault : {T : ℕ → Bool} → IsTable T → (t : List ℕ) → ((d : DataLocale) × DataMeans T t d) ⊎ ((f : Fault) × HasDataFault T t f)

@@ -1,29 +1,17 @@
 -- A subdivision's text is read as it, and what is read has the text in lower case.
-use Rattle.std.proofs.Common.{◌≡◌, ℕ, ◌+◌, ◌≤◌, Bool, true, false, cond, ◌&&◌, ◌==◌, List, [], ◌∷◌, ◌++◌, length, take, drop, take-append-drop, length-append, refl, sym, ap, ap₂, ◌∙◌, subst, arith, Some, None, Result, Ok, Err, ok_or, inl, inr, true≢false, MatchResult}
+use Rattle.std.proofs.Common.{◌≡◌, ℕ, ◌≤◌, true, false, cond, ◌&&◌, ◌==◌, List, [], ◌∷◌, ◌++◌, length, take, drop, take-append-drop, length-append, refl, sym, ap, ap₂, ◌∙◌, subst, arith, Some, None, Result, Ok, Err, ok_or, inl, inr, true≢false, MatchResult}
 use Rattle.std.specs.List.{list_all}
 use Rattle.std.specs.Char.{is_ascii_alphabetic, is_ascii_digit, is_ascii_alphanumeric}
 use Rattle.std.specs.Int.{is_in_range}
-use Rattle.std.proofs.lemmas.Bool.{and_parts, and_from, or_cases}
+use Rattle.std.proofs.lemmas.Bool.{and_parts, and_from, or_cases, eqb-true}
+use Rattle.std.proofs.lemmas.List.Folds.{list_all-append}
+use Rattle.std.proofs.Math.Seq.{take-append_seam, drop-append_seam}
 use Rattle.std.proofs.lemmas.Bool.Decides.{nat_tests}
 use Rattle.std.proofs.lemmas.List.{map-append}
 use Rattle.iloc_grammar.specs.Words.{Region, Subtag, SubdivisionSuffix, is_word, IsWord, word, lower, upper, letters, digits}
 use Rattle.iloc_grammar.specs.Faults.{Fault, InvalidSubtag, InvalidExtension}
 use Rattle.iloc_grammar.proofs.WordsLaws.{is_word-lower, is_word-normal, normal-normal, lower-lower, lower-upper, upper-lower, length-region, every, letter_is, digit_is, digit_no_letter}
 use Rattle.iloc_regions.specs.Subdivisions.{Subdivision, IsSubdivision, region_length, both_words, subdivision, subdivision_text}
-
--- lists
-
-take_front : (xs ys : List ℕ) → take (length xs) (xs ++ ys) ≡ xs
-take_front [] ys = refl
-take_front (x ∷ xs) ys = ap (λ l. x ∷ l) (take_front xs ys)
-
-drop_front : (xs ys : List ℕ) → drop (length xs) (xs ++ ys) ≡ ys
-drop_front [] ys = refl
-drop_front (x ∷ xs) ys = drop_front xs ys
-
-all_both : (f : ℕ → Bool) (xs ys : List ℕ) → list_all f xs ≡ true → list_all f ys ≡ true → list_all f (xs ++ ys) ≡ true
-all_both f [] ys h k = k
-all_both f (x ∷ xs) ys h k = let parts = and_parts _ _ h in and_from _ _ parts.0 (all_both f xs ys parts.1 k)
 
 -- regions
 
@@ -34,26 +22,17 @@ region_both r h = elim (or_cases ((length r == 2) && letters r) ((length r == 3)
   | inr a ↦ every _ _ digit_is r (and_parts _ _ a).1
 ]
 
-two : (n : ℕ) → (n == 2) ≡ true → 2 ≡ n
-two n h = grind (arith, nat_tests)
-
-three : (n : ℕ) → (n == 3) ≡ true → 3 ≡ n
-three n h = grind (arith, nat_tests)
-
 region_first : (r x : List ℕ) → IsWord Region r → region_length (r ++ x) ≡ length r
 unfolding is_word
 region_first [] x h = absurd (true≢false (sym h))
 region_first (c ∷ r) x h = elim (or_cases ((length (c ∷ r) == 2) && letters (c ∷ r)) ((length (c ∷ r) == 3) && digits (c ∷ r)) h) [
-  | inl a ↦ let parts = and_parts (length (c ∷ r) == 2) (letters (c ∷ r)) a in rw (and_parts (is_ascii_alphabetic c) (letters r) parts.1).0 (two (length (c ∷ r)) parts.0)
-  | inr a ↦ let parts = and_parts (length (c ∷ r) == 3) (digits (c ∷ r)) a in rw (digit_no_letter c (and_parts (is_ascii_digit c) (digits r) parts.1).0) (three (length (c ∷ r)) parts.0)
+  | inl a ↦ let parts = and_parts (length (c ∷ r) == 2) (letters (c ∷ r)) a in rw (and_parts (is_ascii_alphabetic c) (letters r) parts.1).0 (sym (eqb-true _ _ parts.0))
+  | inr a ↦ let parts = and_parts (length (c ∷ r) == 3) (digits (c ∷ r)) a in rw (digit_no_letter c (and_parts (is_ascii_digit c) (digits r) parts.1).0) (sym (eqb-true _ _ parts.0))
 ]
 
 suffix_parts : (x : List ℕ) → IsWord SubdivisionSuffix x → ((1 ≤ length x) × (length x ≤ 4)) × (list_all is_ascii_alphanumeric x ≡ true)
 unfolding is_word
-suffix_parts x h = let parts = and_parts (is_in_range 1 4 (length x)) (list_all is_ascii_alphanumeric x) h in (between (length x) parts.0, parts.1)
-  where
-    between : (n : ℕ) → is_in_range 1 4 n ≡ true → (1 ≤ n) × (n ≤ 4)
-    between n h = grind (arith, nat_tests)
+suffix_parts x h = let parts = and_parts (is_in_range 1 4 (length x)) (list_all is_ascii_alphanumeric x) h in ((grind (arith, nat_tests), grind (arith, nat_tests)), parts.1)
 
 -- a region and a suffix are a subtag
 joined_subtag : (r x : List ℕ) → IsWord Region r → IsWord SubdivisionSuffix x → IsWord Subtag (r ++ x)
@@ -61,13 +40,11 @@ unfolding is_word
 joined_subtag r x h k =
     let l = length-region r h in
     let s = suffix_parts x k in
-    and_from _ _ (in_range (length (r ++ x)) (let e = length-append r x in omega arith) (let e = length-append r x in omega arith)) (all_both is_ascii_alphanumeric r x (region_both r h) s.1)
-  where
-    in_range : (n : ℕ) → 2 ≤ n → n ≤ 8 → is_in_range 2 8 n ≡ true
-    in_range n h k = grind (arith, nat_tests)
+    let e = length-append r x in
+    and_from _ _ (grind (arith, nat_tests)) (list_all-append is_ascii_alphanumeric r x ∙ and_from _ _ (region_both r h) s.1)
 
 read_joined : (r x : List ℕ) → IsWord Region r → IsWord SubdivisionSuffix x → subdivision (r ++ x) ≡ Ok (record { region = upper r; suffix = lower x })
-read_joined r x h k = rw (joined_subtag r x h k, region_first r x h, take_front r x, drop_front r x, h, k) refl
+read_joined r x h k = rw (joined_subtag r x h k, region_first r x h, take-append_seam r x, drop-append_seam r x, h, k) refl
 
 pub subdivision_back : (s : Subdivision) → IsSubdivision s → subdivision (subdivision_text s) ≡ Ok s
 subdivision_back s h = read_joined (lower s.region) (lower s.suffix) (is_word-lower Region s.region ∙ h.region.0) (is_word-lower SubdivisionSuffix s.suffix ∙ h.suffix.0)
@@ -117,5 +94,3 @@ text_of_read w s e = (read_ok w s e).same_text
 
 pub read_is_long : (w : List ℕ) (s : Subdivision) → subdivision w ≡ Ok s → 3 ≤ length w
 read_is_long w s e = (read_ok w s e).long
-
--- worked texts
