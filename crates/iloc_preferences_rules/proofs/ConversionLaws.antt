@@ -1,5 +1,5 @@
 -- Data locales of locales and identifiers.
-use Rattle.std.proofs.Common.{◌≡◌, ℕ, Bool, true, false, cond, List, refl, sym, ap, ◌∙◌, Option, Some, None, IfSome, Result, Ok, Err, option_map, option_and_then, option_to_list}
+use Rattle.std.proofs.Common.{◌≡◌, ℕ, Bool, true, false, cond, List, refl, sym, ap, ◌∙◌, Option, Some, None, IfSome, Ok, Err, option_map, option_and_then, option_to_list}
 use Rattle.std.specs.Option.{option_or}
 use Rattle.std.specs.Result.{result_ok}
 use Rattle.std.specs.FinMap.{find}
@@ -7,7 +7,6 @@ use Rattle.iloc_grammar.specs.Words.{Region, IsTable, word_cmp, is_same}
 use Rattle.iloc_grammar.specs.Written.{Identifier}
 use Rattle.iloc_grammar.specs.Meaning.{Locale, Means}
 use Rattle.iloc_grammar.specs.Values.{IsNormal}
-use Rattle.iloc_grammar.specs.Faults.{Fault}
 use Rattle.iloc_grammar.proofs.Readings.{one_meaning}
 use Rattle.iloc_small.specs.Small.{SmallLocale, keyword_of_small, locale_of_small}
 use Rattle.iloc_grammar.specs.Reading.{first_item}
@@ -37,20 +36,16 @@ part_of_locale r p e = from r.id.region r.keyword e
 
     at_value : (region : Option (List ℕ)) (o : Option (List ℕ)) → option_map (λ s. Some (agreed region s)) (option_and_then named_subdivision o) ≡ Some p → preferred_region region (option_and_then subdivision_reads (Some (option_to_list o))) ≡ p
     at_value region None e = absurd (cc)
-    at_value region (Some w) e = at_result (subdivision w) e
-      where
-        at_result : (x : Result Subdivision Fault) → option_map (λ s. Some (agreed region s)) (result_ok x) ≡ Some p → preferred_region region (result_ok x) ≡ p
-        at_result (Err f) e = absurd (cc)
-        at_result (Ok s) e = with_region region s ∙ cc
-
-    at_key : (region : Option (List ℕ)) (k : List ℕ) (o : Option (List ℕ)) → k ≡ sd → option_map (λ s. Some (agreed region s)) (option_and_then named_subdivision o) ≡ Some p → preferred_region region (found (Some (k, o))) ≡ p
-    at_key region k o q e = rw q (at_value region o e)
+    at_value region (Some w) e = (elim (subdivision w) as (λ x. option_map (λ s. Some (agreed region s)) (result_ok x) ≡ Some p → preferred_region region (result_ok x) ≡ p) [
+      | Err f ↦ λ e. absurd (cc)
+      | Ok s ↦ λ e. with_region region s ∙ cc
+    ]) e
 
     from : (region : Option (List ℕ)) (k : Option (List ℕ × Option (List ℕ))) → small_part region k ≡ Some p → preferred_region region (found k) ≡ p
     from None None e = cc
     from (Some r) None e = cc
     from region (Some (k, o)) e = (elim (is_same k sd) as (λ b. is_same k sd ≡ b → cond b (option_map (λ s. Some (agreed region s)) (option_and_then named_subdivision o)) None ≡ Some p → preferred_region region (found (Some (k, o))) ≡ p) [
-      | true ↦ λ q e. at_key region k o (same_is k sd q) e
+      | true ↦ λ q e. rw (same_is k sd q) (at_value region o e)
       | false ↦ λ q e. absurd (cc)
     ]) refl e
 

@@ -1,27 +1,15 @@
 -- Each value of an enum keyword is read of the list that it gives.
-use Rattle.std.proofs.Common.{◌≡◌, List, [], ◌∷◌, refl, ap, ◌∙◌, Some, false, ℕ}
+use Rattle.std.proofs.Common.{rules, ◌≡◌, List, [], ◌∷◌, refl, ap, ◌∙◌, Some, false, ℕ}
 use Rattle.std.specs.List.{AllByRecursion}
 use Rattle.iloc_grammar.specs.Words.{Script, CurrencyType, is_true, lower, word}
 use Rattle.iloc_grammar.specs.Values.{IsNormal}
 use Rattle.iloc_grammar.proofs.WordsLaws.{is_word-lower, normal-lower}
-use Rattle.iloc_preferences_rules.specs.Keywords.{EnumKeyword, CalendarAlgorithm, CollationType, CollationCaseFirst, CollationNumericOrdering, CurrencyFormatStyle, EmojiPresentationStyle, FirstDay, HourCycle, LineBreakStyle, LineBreakWordHandling, MeasurementSystem, MeasurementUnitOverride, SentenceBreakSupressions, CommonVariantType, ReadsWhatItGives, currency_reads, currency_gives, subtag_reads, subtag_gives, scripts_read, scripts_give, with_first}
+use Rattle.iloc_preferences_rules.specs.Keywords.{EnumKeyword, CommonVariantType, ReadsWhatItGives, currency_reads, currency_gives, subtag_reads, subtag_gives, scripts_read, scripts_give, with_first}
 
 pub reads_what_it_gives : (k : EnumKeyword) → ReadsWhatItGives k
 unfolding is_true
-reads_what_it_gives CalendarAlgorithm = (refl, (refl, (refl, (refl, (refl, (refl, (refl, (refl, (refl, (refl, (refl, (refl, (refl, (refl, (refl, (refl, (refl, (refl, (refl, (refl, tt))))))))))))))))))))
-reads_what_it_gives CollationType = (refl, (refl, (refl, (refl, (refl, (refl, (refl, (refl, (refl, (refl, (refl, (refl, (refl, (refl, (refl, tt)))))))))))))))
-reads_what_it_gives CollationCaseFirst = (refl, (refl, (refl, tt)))
-reads_what_it_gives CollationNumericOrdering = (refl, (refl, tt))
-reads_what_it_gives CurrencyFormatStyle = (refl, (refl, tt))
-reads_what_it_gives EmojiPresentationStyle = (refl, (refl, (refl, tt)))
-reads_what_it_gives FirstDay = (refl, (refl, (refl, (refl, (refl, (refl, (refl, tt)))))))
-reads_what_it_gives HourCycle = (refl, (refl, (refl, (refl, (refl, tt)))))
-reads_what_it_gives LineBreakStyle = (refl, (refl, (refl, tt)))
-reads_what_it_gives LineBreakWordHandling = (refl, (refl, (refl, (refl, tt))))
-reads_what_it_gives MeasurementSystem = (refl, (refl, (refl, tt)))
-reads_what_it_gives MeasurementUnitOverride = (refl, (refl, (refl, tt)))
-reads_what_it_gives SentenceBreakSupressions = (refl, (refl, tt))
 reads_what_it_gives CommonVariantType = (refl, tt)
+reads_what_it_gives _ = search rules
 
 -- keywords of words
 

@@ -1,27 +1,25 @@
 -- Preferences: what extending and the way to a locale and back keep.
-use Rattle.std.proofs.Common.{◌≡◌, ◌≢◌, ℕ, Bool, true, false, cond, List, [], ◌∷◌, ◌++◌, length, arith, refl, sym, ap, ◌∙◌, Option, Some, None, Result, Ok, Err, IfSome, option_map, option_and_then, codes, length-append, true≢false}
+use Rattle.std.proofs.Common.{◌≡◌, ◌≢◌, ℕ, Bool, true, false, cond, List, [], ◌∷◌, ◌++◌, length, arith, refl, sym, ap, ◌∙◌, Option, Some, None, Ok, Err, IfSome, option_map, option_and_then, codes, length-append, true≢false}
 use Rattle.std.specs.Option.{option_or}
 use Rattle.std.specs.Result.{result_ok}
 use Rattle.std.specs.List.{AllByRecursion}
 use Rattle.std.specs.FinMap.{find, is_sorted}
 use Rattle.iloc_grammar.specs.Words.{Region, Variant, Subtag, UnicodeKey, word_cmp, is_same, is_word, lower, is_true}
-use Rattle.iloc_grammar.specs.Written.{Identifier}
-use Rattle.iloc_grammar.specs.Meaning.{Locale, without_extensions}
+use Rattle.iloc_grammar.specs.Meaning.{Locale}
 use Rattle.iloc_grammar.specs.Values.{IsNormal, IsValue, IsWellFormed}
-use Rattle.iloc_grammar.specs.Faults.{Fault}
 use Rattle.iloc_grammar.proofs.ValuesLaws.{all_weaker}
 use Rattle.iloc_grammar.proofs.WordsLaws.{length-lower, length-region}
 use Rattle.iloc_grammar.specs.Reading.{first_item}
 use Rattle.iloc_regions.specs.Subdivisions.{Subdivision, IsSubdivision, subdivision, subdivision_text}
 use Rattle.iloc_regions.specs.DataLocales.{whole_region, is_whole, whole, sd}
 use Rattle.iloc_preferences_rules.specs.Keywords.{subdivision_reads, subdivision_gives}
-use Rattle.std.proofs.lemmas.Bool.{and_parts, and_from}
+use Rattle.std.proofs.lemmas.Bool.{and_parts, and_from, false_from_ne_true}
 use Rattle.std.proofs.Common.{◌&&◌, ◌||◌, is_none, is_some}
-use Rattle.iloc_preferences_rules.specs.Preferences.{is_strict, same_region, Preferences, IsPreferences, SpellsNoTrue, und, rg, default_preferences, read_keyword, region_with, preferred_region, preferences, merge_language, wins, merge_region, merge, sd_entry, rg_entry, locale_of_preferences, identifier_preferences}
+use Rattle.iloc_preferences_rules.specs.Preferences.{is_strict, same_region, Preferences, IsPreferences, SpellsNoTrue, und, rg, default_preferences, read_keyword, region_with, preferred_region, preferences, merge_language, wins, merge_region, merge, sd_entry, rg_entry, locale_of_preferences}
 use Rattle.iloc_preferences_rules.specs.Formatters.{FormatPreferences, TimePreferences, default_format, default_time, merge_format, merge_time}
 use Rattle.iloc_small.proofs.SmallLaws.{first-option}
 use Rattle.iloc_regions.proofs.SubdivisionLaws.{subdivision_back, subdivision_is_subtag, text_of_read, read_is_long, read_is_subdivision}
-use Rattle.iloc_regions.proofs.DataLaws.{whole_region_is}
+use Rattle.iloc_regions.proofs.DataLaws.{sd_key, whole_region_is}
 use Rattle.iloc_small.proofs.SmallBack.{one_normal, one_ascends}
 use Rattle.iloc_grammar.proofs.MapLaws.{same_itself, same_is}
 
@@ -38,9 +36,6 @@ or_same (Some x) = refl
 both_alike : {X : Type 0} (b : Bool) (x : X) → cond b x x ≡ x
 both_alike true x = refl
 both_alike false x = refl
-
-pub merge_default : (a : Preferences) → merge a default_preferences ≡ a
-merge_default a = refl
 
 pub merge_itself : (a : Preferences) → merge a a ≡ a
 merge_itself a = λ i. record {
@@ -110,10 +105,6 @@ preferences_back p h n = λ i. record {
 abbrev IsEntry : List ℕ × List (List ℕ) → Type 0
 IsEntry f = (IsNormal UnicodeKey f.0 × AllByRecursion (IsNormal Subtag) f.1) × AllByRecursion (λ w. (is_true w ≡ false) × (length w ≢ 2)) f.1
 
-key_sd : IsNormal UnicodeKey sd
-unfolding is_word lower
-key_sd = (refl, refl)
-
 key_rg : IsNormal UnicodeKey rg
 unfolding is_word lower
 key_rg = (refl, refl)
@@ -126,7 +117,7 @@ given_values s h = elim (is_true (subdivision_text s)) as (λ b. is_true (subdiv
 
 sd_is : (o : Option Subdivision) → IfSome o IsSubdivision → AllByRecursion IsEntry (sd_entry o)
 sd_is None h = tt
-sd_is (Some s) h = elim (is_whole s) as (λ b. AllByRecursion IsEntry (cond b [] ((sd, subdivision_gives s) ∷ []))) [ true ↦ tt | false ↦ let v = given_values s h in (((key_sd, v.0), v.1), tt) ]
+sd_is (Some s) h = elim (is_whole s) as (λ b. AllByRecursion IsEntry (cond b [] ((sd, subdivision_gives s) ∷ []))) [ true ↦ tt | false ↦ let v = given_values s h in (((sd_key, v.0), v.1), tt) ]
 
 entries_are : (o p : Option Subdivision) → IfSome o IsSubdivision → IfSome p IsSubdivision → AllByRecursion IsEntry (rg_entry o ++ sd_entry p)
 entries_are None p h k = sd_is p k
@@ -165,11 +156,7 @@ read_subdivision : (o : Option (List (List ℕ))) → IfSome (option_and_then su
 read_subdivision None = tt
 read_subdivision (Some []) = tt
 read_subdivision (Some (w ∷ v ∷ ws)) = tt
-read_subdivision (Some (w ∷ [])) = at_result (subdivision w) refl
-  where
-    at_result : (r : Result Subdivision Fault) → subdivision w ≡ r → IfSome (result_ok r) IsSubdivision
-    at_result (Ok s) e = read_is_subdivision w s e
-    at_result (Err f) e = tt
+read_subdivision (Some (w ∷ [])) = elim (subdivision w) as (λ r. subdivision w ≡ r → IfSome (result_ok r) IsSubdivision) [ Ok s ↦ λ e. read_is_subdivision w s e | Err f ↦ λ e. tt ] refl
 
 pub preferences_are : {T : ℕ → Bool} (M : Locale) → IsValue T M → IsPreferences T (preferences M)
 preferences_are {T = T} M h = record {
@@ -189,27 +176,13 @@ preferences_are {T = T} M h = record {
     region_is (Some r) h None k = whole_region_is r h
     region_is (Some r) h (Some s) k = elim (is_same r s.region) as (λ b. IsSubdivision (cond b (record { region = r; suffix = s.suffix }) (whole_region r))) [ true ↦ record { region = h; suffix = k.suffix } | false ↦ whole_region_is r h ]
 
--- an identifier's preferences are those of the locale that has nothing else
-pub of_identifier : (i : Identifier) → preferences (without_extensions i) ≡ identifier_preferences i
-of_identifier i = λ k. record { language = i.language; script = i.script; region = whole_or_none i.region k; variant = first_item i.variants; region_override = None }
-  where
-    whole_or_none : (o : Option (List ℕ)) → preferred_region o None ≡ option_map whole_region o
-    whole_or_none None = refl
-    whole_or_none (Some r) = refl
-
 -- formatters
-
-pub format_default : (a : FormatPreferences) → merge_format a default_format ≡ a
-format_default a = refl
 
 pub format_itself : (a : FormatPreferences) → merge_format a a ≡ a
 format_itself a = λ i. record { locale_preferences = merge_itself a.locale_preferences i; numbering_system = or_same a.numbering_system i; hour_cycle = or_same a.hour_cycle i; calendar_algorithm = or_same a.calendar_algorithm i }
 
 pub default_format_merge : (a : FormatPreferences) → merge_format default_format a ≡ a
 default_format_merge a = λ i. record { locale_preferences = default_merge a.locale_preferences i; numbering_system = or_none a.numbering_system i; hour_cycle = or_none a.hour_cycle i; calendar_algorithm = or_none a.calendar_algorithm i }
-
-pub time_default : (a : TimePreferences) → merge_time a default_time ≡ a
-time_default a = refl
 
 pub time_itself : (a : TimePreferences) → merge_time a a ≡ a
 time_itself a = λ i. record { locale_preferences = merge_itself a.locale_preferences i; numbering_system = or_same a.numbering_system i; hour_cycle = or_same a.hour_cycle i }
@@ -246,30 +219,20 @@ override_only s e = (elim (is_true (subdivision_text s)) as (λ b. subdivision_r
 -- a whole region spells more than four letters
 whole_spells : (s : Subdivision) → IsSubdivision s → s.suffix ≡ whole → is_true (subdivision_text s) ≡ false
 unfolding is_true
-whole_spells s h e = elim (is_same (codes "true") (subdivision_text s)) as (λ b. is_same (codes "true") (subdivision_text s) ≡ b → b ≡ false) [
-  | true ↦ λ q. absurd (too_long (ap length (same_is (codes "true") (subdivision_text s) q)))
-  | false ↦ λ q. refl
-] refl
-  where
-    too_long : 4 ≡ length (subdivision_text s) → ⊥
-    too_long q =
-        let l = length-append (lower s.region) (lower s.suffix) in
-        let m = length-lower s.region in
-        let n = length-lower s.suffix in
-        let k : length s.suffix ≡ 4 = ap length e in
-        let r = length-region s.region h.region.0 in
-        omega arith
-
-suffix_of : Option Subdivision → List ℕ
-suffix_of None = []
-suffix_of (Some s) = s.suffix
+whole_spells s h e = false_from_ne_true _ (λ q.
+    let four : 4 ≡ length (subdivision_text s) = ap length (same_is (codes "true") (subdivision_text s) q) in
+    let l = length-append (lower s.region) (lower s.suffix) in
+    let m = length-lower s.region in
+    let n = length-lower s.suffix in
+    let k : length s.suffix ≡ 4 = ap length e in
+    let r = length-region s.region h.region.0 in
+    absurd (omega arith))
 
 region_only : (s : Subdivision) → IsSubdivision s → preferred_region (Some s.region) (option_and_then subdivision_reads (find word_cmp sd (sd_entry (Some s)))) ≡ Some s → is_true (subdivision_text s) ≡ false
-unfolding suffix_of
 region_only s h e = (elim (is_whole s) as (λ b. is_whole s ≡ b → Some (region_with s.region (option_and_then subdivision_reads (find word_cmp sd (cond b [] ((sd, subdivision_gives s) ∷ []))))) ≡ Some s → is_true (subdivision_text s) ≡ false) [
   | true ↦ λ w e. whole_spells s h (same_is s.suffix whole w)
   | false ↦ λ w e. (elim (is_true (subdivision_text s)) as (λ b. Some (region_with s.region (subdivision_reads (cond b [] (subdivision_text s ∷ [])))) ≡ Some s → b ≡ false) [
-    | true ↦ λ e. absurd (true≢false (sym (ap (λ x. is_same x whole) (sym (ap suffix_of e)) ∙ same_itself whole) ∙ w))
+    | true ↦ λ e. absurd (let k : whole_region s.region ≡ s = cc in true≢false (ap is_whole k ∙ w))
     | false ↦ λ e. refl
   ]) e
 ]) refl e

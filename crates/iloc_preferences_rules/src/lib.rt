@@ -32,7 +32,7 @@ pub fn keywords()
 {}
 
 /// Preferences extended by the default ones, and by themselves, stay; and the default ones extended by others are those.
-#[tactic(auto, using(crate::proofs::PreferenceLaws::merge_itself, crate::proofs::PreferenceLaws::default_merge, crate::proofs::PreferenceLaws::merge_default))]
+#[tactic(auto, using(crate::proofs::PreferenceLaws::merge_itself, crate::proofs::PreferenceLaws::default_merge))]
 pub fn merging()
     ensures default { (a : Preferences) → merge a default_preferences ≡ a }
     ensures itself { (a : Preferences) → merge a a ≡ a }
@@ -40,7 +40,7 @@ pub fn merging()
 {}
 
 /// The same for the preferences of formatters.
-#[tactic(auto, using(crate::proofs::PreferenceLaws::default_time_merge, crate::proofs::PreferenceLaws::format_default, crate::proofs::PreferenceLaws::format_itself, crate::proofs::PreferenceLaws::default_format_merge, crate::proofs::PreferenceLaws::time_default, crate::proofs::PreferenceLaws::time_itself))]
+#[tactic(auto, using(crate::proofs::PreferenceLaws::default_time_merge, crate::proofs::PreferenceLaws::format_itself, crate::proofs::PreferenceLaws::default_format_merge, crate::proofs::PreferenceLaws::time_itself))]
 pub fn merging_formatters()
     ensures default { (a : FormatPreferences) → merge_format a default_format ≡ a }
     ensures itself { (a : FormatPreferences) → merge_format a a ≡ a }

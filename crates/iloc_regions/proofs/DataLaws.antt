@@ -83,7 +83,7 @@ attribute_from : (w : List ℕ) → IsWord Subtag w → 3 ≤ length w → IsWor
 unfolding is_word
 attribute_from w h n = grind (arith, nat_tests)
 
-sd_key : IsNormal UnicodeKey sd
+pub sd_key : IsNormal UnicodeKey sd
 unfolding is_word lower
 sd_key = (refl, refl)
 

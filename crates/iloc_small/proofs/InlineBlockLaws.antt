@@ -15,7 +15,6 @@ use Rattle.iloc_grammar.specs.Faults.{head, tail_blocks}
 use Rattle.iloc_grammar.specs.Reading.{starts_block, IdentifierFront}
 use Rattle.iloc_grammar.proofs.IdentifierLaws.{one_identifier}
 use Rattle.iloc_grammar.proofs.MapLaws.{word_cmp_total, find-map_of}
-use Rattle.iloc_grammar.proofs.ValuesLaws.{all_both}
 use Rattle.iloc_grammar.proofs.ReadBack.{all_append}
 use Rattle.iloc_grammar.proofs.Readings.{head-spelling, blocks-spelling}
 use Rattle.iloc_grammar.proofs.SetLaws.{length-set_of-different}
@@ -96,32 +95,29 @@ short_transform {T = T} m g v n rest s =
 
 -- the blocks
 
-abbrev IsGood : (ℕ → Bool) → List (ℕ × Extension) → ℕ × Extension → Type 0
-IsGood T es e = (IsExtension T (singleton e) e.1 × IsFoundIn (by_singleton es) e) × (HasFewValues e.1 × IsNoOther e)
-
 module _ (T : ℕ → Bool) (t : List ℕ) (h : IsInline T t) where
-  short_extension : (c : ℕ) (e : Extension) → IsGood T h.written.extensions (c, e) → IsShortBlock T (extension_block (c, e))
-  short_extension c (unicode u) g =
-      let part : unicode_part (find nat_cmp 117 (by_singleton h.written.extensions)) ≡ normal_unicode u = ap (λ q. unicode_part (find nat_cmp q (by_singleton h.written.extensions))) (sym g.0.0.0) ∙ ap unicode_part g.0.1 in
+  short_extension : (c : ℕ) (e : Extension) → IsExtension T (singleton (c, e)) e → IsFoundIn (by_singleton h.written.extensions) (c, e) → HasFewValues e → IsNoOther (c, e) → IsShortBlock T (extension_block (c, e))
+  short_extension c (unicode u) g found few n =
+      let part : unicode_part (find nat_cmp 117 (by_singleton h.written.extensions)) ≡ normal_unicode u = ap (λ q. unicode_part (find nat_cmp q (by_singleton h.written.extensions))) (sym g.0) ∙ ap unicode_part found in
       record {
-        unicode = λ s. short_unicode u g.0.0.1 (subst (λ (v : Unicode). length v.attributes ≤ 4) part h.attributes) (subst (λ (v : Unicode). length v.keywords ≤ 1) part h.keywords) g.1.0;
-        transform = λ s. absurd (apart _ 117 116 g.0.0.0 s (λ d. absurd (omega arith)));
-        private = λ s. absurd (apart _ 117 120 g.0.0.0 s (λ d. absurd (omega arith)));
-        no_other = no_u _ g.0.0.0;
+        unicode = λ s. short_unicode u g.1 (subst (λ (v : Unicode). length v.attributes ≤ 4) part h.attributes) (subst (λ (v : Unicode). length v.keywords ≤ 1) part h.keywords) few;
+        transform = λ s. absurd (apart _ 117 116 g.0 s (λ d. absurd (omega arith)));
+        private = λ s. absurd (apart _ 117 120 g.0 s (λ d. absurd (omega arith)));
+        no_other = no_u _ g.0;
       }
-  short_extension c (transform m) g =
-      let part : transform_part (find nat_cmp 116 (by_singleton h.written.extensions)) ≡ normal_transform m = ap (λ q. transform_part (find nat_cmp q (by_singleton h.written.extensions))) (sym g.0.0.0) ∙ ap transform_part g.0.1 in
+  short_extension c (transform m) g found few n =
+      let part : transform_part (find nat_cmp 116 (by_singleton h.written.extensions)) ≡ normal_transform m = ap (λ q. transform_part (find nat_cmp q (by_singleton h.written.extensions))) (sym g.0) ∙ ap transform_part found in
       record {
-        unicode = λ s. absurd (apart _ 116 117 g.0.0.0 s (λ d. absurd (omega arith)));
-        transform = λ s. short_transform m g.0.0.1 (subst (λ (v : Transform). IfSome v.id (λ i. length i.variants ≤ 4)) part h.transform_variants) (subst (λ (v : Transform). v.fields ≡ []) part h.no_fields);
-        private = λ s. absurd (apart _ 116 120 g.0.0.0 s (λ d. absurd (omega arith)));
-        no_other = no_t _ g.0.0.0;
+        unicode = λ s. absurd (apart _ 116 117 g.0 s (λ d. absurd (omega arith)));
+        transform = λ s. short_transform m g.1 (subst (λ (v : Transform). IfSome v.id (λ i. length i.variants ≤ 4)) part h.transform_variants) (subst (λ (v : Transform). v.fields ≡ []) part h.no_fields);
+        private = λ s. absurd (apart _ 116 120 g.0 s (λ d. absurd (omega arith)));
+        no_other = no_t _ g.0;
       }
-  short_extension c (other ps) g = absurd (let some = g.1.1 in cc)
+  short_extension c (other ps) g found few n = absurd (cc)
 
-  of_blocks : (fs : List (ℕ × Extension)) → AllByRecursion (IsGood T h.written.extensions) fs → AllByRecursion (IsShortBlock T) (map extension_block fs)
-  of_blocks [] g = tt
-  of_blocks (f ∷ fs) g = (short_extension f.0 f.1 g.0, of_blocks fs g.1)
+  of_blocks : (es : List (ℕ × Extension)) → AllByRecursion (λ e. IsExtension T (singleton e) e.1) es → AllByRecursion (IsFoundIn (by_singleton h.written.extensions)) es → AllByRecursion (λ e. HasFewValues e.1) es → AllByRecursion IsNoOther es → AllByRecursion (IsShortBlock T) (map extension_block es)
+  of_blocks [] g found few n = tt
+  of_blocks (e ∷ es) g found few n = (short_extension e.0 e.1 g.0 found.0 few.0 n.0, of_blocks es g.1 found.1 few.1 n.1)
 
   of_private : (x : Option (ℕ × List (List ℕ))) → IfSome x (λ e. (singleton e ≡ 120) × IsPrivate e.1) → length (private_part x) ≤ 4 → AllByRecursion (IsShortBlock T) (option_to_list x)
   of_private None p k = tt
@@ -135,16 +131,11 @@ module _ (T : ℕ → Bool) (t : List ℕ) (h : IsInline T t) where
     tt,
   )
 
-  all_good : AllByRecursion (IsGood T h.written.extensions) h.written.extensions
-  all_good =
-      let w = h.written in
-      let no_other = no_others w.extensions (none_there nat_cmp nat_cmp_total (filter_map other_part (by_singleton w.extensions)) h.no_others) in
-      all_both (λ e. IsExtension T (singleton e) e.1 × IsFoundIn (by_singleton w.extensions) e) (λ e. HasFewValues e.1 × IsNoOther e) w.extensions
-      (all_both (λ e. IsExtension T (singleton e) e.1) (IsFoundIn (by_singleton w.extensions)) w.extensions h.grammatical.extensions (each_found w.extensions h.grammatical.different))
-      (all_both (λ e. HasFewValues e.1) IsNoOther w.extensions h.values no_other)
-
   all_blocks : AllByRecursion (IsShortBlock T) (blocks_of h.written)
-  all_blocks = all_append (IsShortBlock T) (map extension_block h.written.extensions) (option_to_list h.written.private) (of_blocks h.written.extensions all_good) (of_private h.written.private h.grammatical.private h.private)
+  all_blocks =
+      let es = h.written.extensions in
+      let no_other = no_others es (none_there nat_cmp nat_cmp_total (filter_map other_part (by_singleton es)) h.no_others) in
+      all_append (IsShortBlock T) (map extension_block es) (option_to_list h.written.private) (of_blocks es h.grammatical.extensions (each_found es h.grammatical.different) h.values no_other) (of_private h.written.private h.grammatical.private h.private)
 
   identifier_few : (i : Identifier) → IsIdentifier T i → head (pieces t) ≡ identifier_pieces i → length i.variants ≤ 4
   identifier_few i g e =

@@ -1,7 +1,7 @@
 -- A small text is one of few words; a test says which texts are.
-use Rattle.std.proofs.Common.{◌≡◌, ◌≤◌, ◌↔◌, ℕ, Bool, true, nat_le, List, [], ◌∷◌, length, refl, sym, ap, ◌∙◌, subst, true≢false, arith, Result, Ok, Err, Option, Some, None, IfSome, option_map, option_to_list}
+use Rattle.std.proofs.Common.{◌≡◌, ◌≤◌, ◌↔◌, ℕ, Bool, true, nat_le, List, [], ◌∷◌, length, refl, sym, ap, ◌∙◌, subst, true≢false, arith, Result, Ok, Err, Option, Some, None, IfSome, option_map}
 use Rattle.std.specs.List.{AllByRecursion}
-use Rattle.std.proofs.lemmas.Bool.Decides.{nat_tests}
+use Rattle.std.proofs.lemmas.Bool.{leb-true, le-leb}
 use Rattle.iloc_grammar.specs.Pieces.{pieces}
 use Rattle.iloc_grammar.specs.Words.{IsTable}
 use Rattle.iloc_grammar.specs.Written.{Extension, unicode, transform, other, Written}
@@ -15,15 +15,7 @@ use Rattle.iloc_grammar.proofs.ComputingLaws.{computed_means}
 use Rattle.iloc_small.specs.Small.{WrittenKeyword, SmallLocale, small_identifier, keyword_of_small, small_written, keyword_extension, IsSmall}
 use Rattle.iloc_small.specs.Inline.{IsInline, HasFewValues}
 use Rattle.iloc_small.specs.Computing.{has_few_values, has_few_words, few_where_read, is_inline}
-use Rattle.iloc_small.proofs.SmallLaws.{meaning_small}
-
-at_most_one : {X : Type 0} (o : Option X) → length (option_to_list o) ≤ 4
-at_most_one None = omega arith
-at_most_one (Some x) = omega arith
-
-at_most_one_key : {X Y : Type 0} (f : X → Y) (o : Option X) → length (option_to_list (option_map f o)) ≤ 1
-at_most_one_key f None = omega arith
-at_most_one_key f (Some x) = omega arith
+use Rattle.iloc_small.proofs.SmallLaws.{one_at_most, meaning_small}
 
 pub small_is_inline : {T : ℕ → Bool} (t : List ℕ) (r : SmallLocale) → IsSmall T t r → IsInline T t
 small_is_inline {T = T} t r h =
@@ -32,9 +24,9 @@ small_is_inline {T = T} t r h =
       written = small_written h.id h.keyword;
       grammatical = h.grammatical;
       spelled = h.spelled;
-      variants = subst (λ (M : Locale). length M.id.variants ≤ 4) m (at_most_one (small_identifier h.id).variant);
+      variants = subst (λ (M : Locale). length M.id.variants ≤ 4) m (let l = one_at_most (small_identifier h.id).variant in omega arith);
       attributes = subst (λ (M : Locale). length M.extensions.unicode.attributes ≤ 4) m (omega arith);
-      keywords = subst (λ (M : Locale). length M.extensions.unicode.keywords ≤ 1) m (at_most_one_key keyword_of_small _);
+      keywords = subst (λ (M : Locale). length M.extensions.unicode.keywords ≤ 1) m (one_at_most (option_map keyword_of_small _));
       values = few_values h.keyword h.one_value;
       transform_variants = subst (λ (M : Locale). IfSome M.extensions.transform.id (λ i. length i.variants ≤ 4)) m tt;
       no_fields = subst (λ (M : Locale). M.extensions.transform.fields ≡ []) m refl;
@@ -49,13 +41,7 @@ small_is_inline {T = T} t r h =
 -- the test of inline texts
 
 tests_at_most : (n m : ℕ) → Tests (nat_le n m) (n ≤ m)
-tests_at_most n m = record { holds = λ e. from n m e; passes = λ h. to n m h }
-  where
-    from : (n m : ℕ) → nat_le n m ≡ true → n ≤ m
-    from n m e = grind (arith, nat_tests)
-
-    to : (n m : ℕ) → n ≤ m → nat_le n m ≡ true
-    to n m h = grind (arith, nat_tests)
+tests_at_most n m = record { holds = leb-true n m; passes = le-leb n m }
 
 tests_empty : {X : Type 0} (xs : List X) → Tests (nat_le (length xs) 0) (xs ≡ [])
 tests_empty [] = record { holds = λ e. refl; passes = λ e. refl }

@@ -11,7 +11,7 @@ use Rattle.iloc_grammar.proofs.ValuesLaws.{value_identifier}
 use Rattle.iloc_grammar.proofs.WellRead.{means_value, means_well_formed, option_normal}
 use Rattle.iloc_small.specs.Small.{WrittenKeyword, small_keyword, SmallLocale, identifier_of_small, locale_of_small, small_written, keyword_extension, IsSmall, IsSmallValue}
 use Rattle.iloc_grammar.specs.Reading.{first_item}
-use Rattle.iloc_small.proofs.SmallLaws.{first-option, small_means}
+use Rattle.iloc_small.proofs.SmallLaws.{one_at_most, first-option, small_means}
 use Rattle.iloc_grammar.proofs.ReadWords.{IsNormal-normal}
 
 -- a small value is a value
@@ -33,10 +33,6 @@ identifier_is {T = T} r h = record { language = h.language; script = h.script; r
 abbrev with_u : Option (List ℕ × Option (List ℕ)) → Option WrittenKeyword
 with_u k = option_map (λ k. record { byte = 117; key = k.0; values = option_to_list k.1 }) k
 
-few : (o : Option (List ℕ)) → length (option_to_list o) ≤ 1
-few None = omega arith
-few (Some w) = omega arith
-
 -- values in normal case, without `true`, stay
 values_stay : (o : Option (List ℕ)) → IfSome o (λ w. IsNormal Attribute w × (is_true w ≡ false)) → normal_values (option_to_list o) ≡ option_to_list o
 values_stay None h = refl
@@ -54,11 +50,7 @@ keyword_written {T = T} r h = from r.keyword h.key h.value
     from (Some k) a b = record { id = value_identifier _ (identifier_is r h); extensions = ((refl, record { attributes = tt; keywords = ((a.0, words_of k.1 b), tt); nonempty = omega arith }), tt); different = (refl, tt); private = tt }
 
 printed_small : (r : SmallLocale) → printed (locale_of_small r) ≡ small_written (identifier_of_small r.id) (with_u r.keyword)
-printed_small r = from r.keyword
-  where
-    from : (k : Option (List ℕ × Option (List ℕ))) → printed (locale_of_small (record { id = r.id; keyword = k })) ≡ small_written (identifier_of_small r.id) (with_u k)
-    from None = refl
-    from (Some k) = refl
+printed_small r = elim r.keyword as (λ k. printed (locale_of_small (record { id = r.id; keyword = k })) ≡ small_written (identifier_of_small r.id) (with_u k)) [ None ↦ refl | Some k ↦ refl ]
 
 option_stays : (k : Kind) (o : Option (List ℕ)) → IfSome o (IsNormal k) → option_map (normal k) o ≡ o
 option_stays k None h = refl
@@ -77,19 +69,15 @@ small_back {T = T} r h = record {
   id = identifier_of_small r.id;
   keyword = with_u r.keyword;
   grammatical = keyword_written r h;
-  spelled = ap (λ w. pieces (join (spelling w))) (printed_small r) ∙ pieces_spelled _ (keyword_written r h) (of_words r.keyword);
-  one_variant = few r.id.variant;
+  spelled = ap (λ w. pieces (join (spelling w))) (printed_small r) ∙ pieces_spelled _ (keyword_written r h) (elim r.keyword as (λ k. AllByRecursion (λ e. OfWords e.1) (keyword_extension (with_u k))) [ None ↦ tt | Some k ↦ (tt, tt) ]);
+  one_variant = one_at_most r.id.variant;
   one_value = one_left r.keyword h.value;
   means = λ i. record { id = record { language = sym h.language.1 i; script = sym (option_stays Script r.id.script h.script) i; region = sym (option_stays Region r.id.region h.region) i; variant = sym (variant_stays r.id.variant h.variant) i }; keyword = sym (keyword_stays r.keyword h.key h.value) i };
 }
   where
-    of_words : (k : Option (List ℕ × Option (List ℕ))) → AllByRecursion (λ e. OfWords e.1) (keyword_extension (with_u k))
-    of_words None = tt
-    of_words (Some k) = (tt, tt)
-
     one_left : (k : Option (List ℕ × Option (List ℕ))) → IfSome k (λ k. IfSome k.1 (λ w. IsNormal Attribute w × (is_true w ≡ false))) → IfSome (with_u k) (λ k. length (normal_values k.values) ≤ 1)
     one_left None b = tt
-    one_left (Some k) b = subst (λ (n : ℕ). n ≤ 1) (sym (ap length (values_stay k.1 b))) (few k.1)
+    one_left (Some k) b = subst (λ (n : ℕ). n ≤ 1) (sym (ap length (values_stay k.1 b))) (one_at_most k.1)
 
 pub small_is_value : {T : ℕ → Bool} (r : SmallLocale) → IsSmallValue T r → IsValue T (locale_of_small r) × IsWellFormed (locale_of_small r)
 small_is_value r h = let m = small_means _ r (small_back r h) in (means_value _ _ m, means_well_formed _ _ m)
@@ -107,26 +95,19 @@ value_is (w ∷ ws) h = elim (is_true (lower w)) as (λ b. is_true (lower w) ≡
   | false ↦ λ e. (IsNormal-normal Attribute w h.0, e)
 ] refl
 
-abbrev parts_of : Option WrittenKeyword → Option (List ℕ × Option (List ℕ))
-parts_of k = option_map small_keyword k
-
 pub read_is_small_value : {T : ℕ → Bool} (t : List ℕ) (r : SmallLocale) → IsSmall T t r → IsSmallValue T r
 read_is_small_value {T = T} t r h = subst (IsSmallValue T) (sym h.means) (record {
   language = IsNormal-normal (Language T) h.id.language words.language;
   script = option_normal Script h.id.script words.script;
   region = option_normal Region h.id.region words.region;
   variant = first_is h.id.variants words.variants;
-  key = key_is h.keyword h.grammatical;
-  value = one_value_is h.keyword h.grammatical;
+  key = (parts_are h.keyword h.grammatical).0;
+  value = (parts_are h.keyword h.grammatical).1;
 })
   where
     words : HasWords T h.id
     words = h.grammatical.id.words
 
-    key_is : (k : Option WrittenKeyword) → IsWritten T (small_written h.id k) → IfSome (parts_of k) (λ k. IsNormal UnicodeKey k.0)
-    key_is None g = tt
-    key_is (Some k) g = IsNormal-normal UnicodeKey k.key g.extensions.0.1.keywords.0.0
-
-    one_value_is : (k : Option WrittenKeyword) → IsWritten T (small_written h.id k) → IfSome (parts_of k) (λ k. IfSome k.1 (λ w. IsNormal Attribute w × (is_true w ≡ false)))
-    one_value_is None g = tt
-    one_value_is (Some k) g = value_is k.values g.extensions.0.1.keywords.0.1
+    parts_are : (k : Option WrittenKeyword) → IsWritten T (small_written h.id k) → IfSome (option_map small_keyword k) (λ k. IsNormal UnicodeKey k.0) × IfSome (option_map small_keyword k) (λ k. IfSome k.1 (λ w. IsNormal Attribute w × (is_true w ≡ false)))
+    parts_are None g = (tt, tt)
+    parts_are (Some k) g = let field = g.extensions.0.1.keywords.0 in (IsNormal-normal UnicodeKey k.key field.0, value_is k.values field.1)

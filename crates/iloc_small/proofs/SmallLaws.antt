@@ -1,15 +1,13 @@
 -- Small texts: each text is small in one way, or has one fault; and a small text is a locale.
-use Rattle.std.proofs.Common.{◌≡◌, ◌≢◌, ◌⊎◌, inl, inr, ℕ, ◌≤◌, Bool, true, false, cond, ◌&&◌, ◌==◌, nat_le, List, [], ◌∷◌, ◌++◌, length, map, flat_map, refl, sym, ap, ◌∙◌, subst, arith, Option, Some, None, IfSome, MatchResult, Result, Ok, Err, option_map, option_to_list, true≢false, append-nil}
+use Rattle.std.proofs.Common.{◌≡◌, ◌⊎◌, inl, inr, ℕ, ◌≤◌, Bool, true, false, cond, ◌&&◌, ◌==◌, nat_le, List, [], ◌∷◌, ◌++◌, length, map, flat_map, refl, sym, ap, ◌∙◌, subst, arith, Option, Some, None, IfSome, MatchResult, Result, Ok, Err, option_map, option_to_list, true≢false, append-nil}
 use Rattle.std.specs.List.{AllByRecursion, list_all}
 use Rattle.std.specs.Char.{is_ascii_alphanumeric, to_ascii_lowercase}
-use Rattle.std.specs.Ordering.{nat_cmp}
-use Rattle.std.specs.FinMap.{find}
-use Rattle.std.proofs.lemmas.Bool.{and_parts, and_from, cond_both, false_from_ne_true, leb-true, le-leb, eqb-true, eq-eqb}
+use Rattle.std.proofs.lemmas.Bool.{and_parts, and_from, cond_both, false_from_ne_true, leb-true, le-leb, eqb-true, eqb-false, eq-eqb, ne_eqb}
 use Rattle.std.proofs.lemmas.Bool.Decides.{nat_tests}
 use Rattle.iloc_grammar.specs.Pieces.{pieces}
 use Rattle.iloc_grammar.specs.Words.{Kind, Language, Script, Region, Variant, UnicodeKey, Attribute, is_word, IsWord, IsTable, lower, word_cmp}
-use Rattle.iloc_grammar.specs.Written.{Identifier, Unicode, Extension, unicode, identifier_pieces, HasWords, IsWritten, singleton, block_pieces, blocks_of, AllDifferent}
-use Rattle.iloc_grammar.specs.Meaning.{Locale, Means, meaning, set_of, normal_values, unicode_part, transform_part, IdentifierMeans, normal_identifier}
+use Rattle.iloc_grammar.specs.Written.{Identifier, identifier_pieces, HasWords, IsWritten, singleton, block_pieces, blocks_of, AllDifferent}
+use Rattle.iloc_grammar.specs.Meaning.{Locale, Means, meaning, set_of, normal_values, transform_part, IdentifierMeans, normal_identifier}
 use Rattle.iloc_grammar.specs.Faults.{Fault}
 use Rattle.iloc_grammar.specs.Blocks.{head, tail_blocks, front, first_piece}
 use Rattle.iloc_grammar.proofs.WordsLaws.{length-attribute, length-unicode_key}
@@ -30,20 +28,19 @@ short_list [] h = refl
 short_list (x ∷ []) h = refl
 short_list (x ∷ y ∷ xs) h = absurd (omega arith)
 
-short_set : (ws : List (List ℕ)) → length ws ≤ 1 → option_to_list (first_item ws) ≡ set_of ws
+short_set : (ws : List (List ℕ)) → length ws ≤ 1 → option_to_list (first_item (map lower ws)) ≡ set_of (map lower ws)
 short_set [] h = refl
 short_set (w ∷ []) h = refl
 short_set (w ∷ v ∷ ws) h = absurd (omega arith)
-
-short_lower : (ws : List (List ℕ)) → length ws ≤ 1 → length (map lower ws) ≤ 1
-short_lower [] h = h
-short_lower (w ∷ []) h = h
-short_lower (w ∷ v ∷ ws) h = absurd (omega arith)
 
 pub short_different : (ws : List (List ℕ)) → length ws ≤ 1 → AllDifferent word_cmp (map lower ws)
 short_different [] h = tt
 short_different (w ∷ []) h = (refl, tt)
 short_different (w ∷ v ∷ ws) h = absurd (omega arith)
+
+pub one_at_most : {X : Type 0} (o : Option X) → length (option_to_list o) ≤ 1
+one_at_most None = omega arith
+one_at_most (Some x) = omega arith
 
 pub first-option : {X : Type 0} (o : Option X) → first_item (option_to_list o) ≡ o
 first-option None = refl
@@ -52,7 +49,7 @@ first-option (Some x) = refl
 -- identifiers
 
 same_variants : (i : Identifier) → length i.variants ≤ 1 → identifier_of_small (small_identifier i) ≡ normal_identifier i
-same_variants i h = ap (λ vs. record (normal_identifier i) { variants = vs }) (short_set (map lower i.variants) (short_lower i.variants h))
+same_variants i h = ap (λ vs. record (normal_identifier i) { variants = vs }) (short_set i.variants h)
 
 pub small_identifier_means : {T : ℕ → Bool} (ps : List (List ℕ)) (r : SmallIdentifier) → IsSmallIdentifier T ps r → IdentifierMeans T ps (identifier_of_small r)
 small_identifier_means ps r h = record { written = h.written; grammatical = h.grammatical; spelled = h.spelled; means = ap identifier_of_small h.means ∙ same_variants h.written h.one_variant }
@@ -62,26 +59,17 @@ one_small_identifier ps r s a b = a.means ∙ ap small_identifier (identifiers.o
 
 -- small texts are locales
 
-unicode_found : (u : Unicode) (c : ℕ) → c ≡ 117 → unicode_part (find nat_cmp 117 ((c, unicode u) ∷ [])) ≡ unicode_part (Some (unicode u))
-unicode_found u c e = rw e refl
-
-no_transform : (u : Unicode) (c : ℕ) → c ≡ 117 → find nat_cmp 116 ((c, unicode u) ∷ []) ≡ None
-no_transform u c e = rw e refl
-
 pub meaning_small : {T : ℕ → Bool} (i : Identifier) (k : Option WrittenKeyword) → IsWritten T (small_written i k) → length i.variants ≤ 1 → IfSome k (λ k. length (normal_values k.values) ≤ 1) → locale_of_small (record { id = small_identifier i; keyword = option_map small_keyword k }) ≡ meaning (small_written i k)
 meaning_small i None h v o = ap (λ (j : Identifier). record (meaning (small_written i None)) { id = j }) (same_variants i v)
-meaning_small i (Some k) h v o =
-    let u : Unicode = record { attributes = []; keywords = (k.key, k.values) ∷ [] } in
-    let c = singleton {X = Extension} (k.byte, unicode u) in
-    λ j. record {
-      id = same_variants i v j;
-      extensions = record {
-        unicode = (ap (λ (ws : List (List ℕ)). record { attributes = []; keywords = (lower k.key, ws) ∷ [] }) (short_list (normal_values k.values) o) ∙ sym (unicode_found u c h.extensions.0.0)) j;
-        transform = transform_part (sym (no_transform u c h.extensions.0.0) j);
-        private = [];
-        others = [];
-      };
-    }
+meaning_small i (Some k) h v o = rw h.extensions.0.0 (λ j. record {
+  id = same_variants i v j;
+  extensions = record {
+    unicode = record { attributes = []; keywords = (lower k.key, short_list (normal_values k.values) o j) ∷ [] };
+    transform = transform_part None;
+    private = [];
+    others = [];
+  };
+})
 
 pub small_means : {T : ℕ → Bool} (t : List ℕ) (r : SmallLocale) → IsSmall T t r → Means T t (locale_of_small r)
 small_means t r h = record { written = small_written h.id h.keyword; grammatical = h.grammatical; spelled = h.spelled; means = ap locale_of_small h.means ∙ meaning_small h.id h.keyword h.grammatical h.one_variant h.one_value }
@@ -159,9 +147,6 @@ one_small_identifier_fault ps (no_identifier l n) (no_identifier k m) = refl
 abbrev letter_or_digit : ℕ × List (List ℕ) → Bool
 letter_or_digit b = is_ascii_alphanumeric b.0
 
-eqb_false : (a b : ℕ) → (a == b) ≡ false → a ≢ b
-eqb_false a b h = grind (arith, nat_tests)
-
 has_block_fault : (b : ℕ × List (List ℕ)) → SmallBlockFault b (block_fault b)
 unfolding block_fault
 has_block_fault b = cond_both (is_ascii_alphanumeric b.0) _ _ (SmallBlockFault b)
@@ -169,7 +154,7 @@ has_block_fault b = cond_both (is_ascii_alphanumeric b.0) _ _ (SmallBlockFault b
     (λ u. cond_both (is_word Attribute (first_piece b.1)) _ _ (SmallBlockFault b)
     (λ w. attribute (eqb-true _ _ u) w)
     (λ n. cond_both (is_word UnicodeKey (first_piece b.1)) _ _ (SmallBlockFault b) (λ k. after_key (eqb-true _ _ u) k) (λ k. no_key (eqb-true _ _ u) n k)))
-    (λ u. not_u a (eqb_false _ _ u)))
+    (λ u. not_u a (eqb-false _ _ u)))
     (λ a. no_singleton a)
 
 u_letter : (c : ℕ) → to_ascii_lowercase c ≡ 117 → is_ascii_alphanumeric c ≡ true
@@ -181,10 +166,7 @@ no_both p a k = let l = length-attribute p a in let m = length-unicode_key p k i
 is_block_fault : (b : ℕ × List (List ℕ)) {f : Fault} → SmallBlockFault b f → block_fault b ≡ f
 unfolding block_fault
 is_block_fault b (no_singleton e) = rw e refl
-is_block_fault b (not_u a n) = rw (a, ne_tested (singleton b) n) refl
-  where
-    ne_tested : (c : ℕ) → c ≢ 117 → (c == 117) ≡ false
-    ne_tested c n = grind (arith, nat_tests)
+is_block_fault b (not_u a n) = rw (a, ne_eqb (singleton b) 117 n) refl
 is_block_fault b (attribute u a) = rw (u_letter b.0 u, eq-eqb (singleton b) 117 u, a) refl
 is_block_fault b (no_key u a k) = rw (u_letter b.0 u, eq-eqb (singleton b) 117 u, a, k) refl
 is_block_fault b (after_key u k) = rw (u_letter b.0 u, eq-eqb (singleton b) 117 u, false_from_ne_true (is_word Attribute (first_piece b.1)) (λ a. no_both (first_piece b.1) a k), k) refl
@@ -268,9 +250,8 @@ one_small_fault t (bad_head x) (bad_head y) = one_small_identifier_fault _ x y
 one_small_fault t (bad_head x) (bad_block i n e y) = absurd (small_identifier_apart _ _ _ i x)
 one_small_fault t (bad_block i n e x) (bad_head y) = absurd (small_identifier_apart _ _ _ i y)
 one_small_fault t (bad_block {b = b} {bs = bs} i n e x) (bad_block {b = d} {bs = ds} j m k y) =
-    let same : b ∷ bs ≡ d ∷ ds = sym e ∙ k in
-    let same_block : b ≡ d = cc in
-    sym (is_block_fault b x) ∙ ap block_fault same_block ∙ is_block_fault d y
+    let same : b ≡ d = cc in
+    sym (is_block_fault b x) ∙ ap block_fault same ∙ is_block_fault d y
 
 -- one or the other
 
@@ -282,11 +263,10 @@ pub small_or_fault : {T : ℕ → Bool} → IsTable T → (t : List ℕ) → ((r
 small_or_fault {T = T} table t = by_result (IsSmall T t) (HasSmallFault T t) (small_result T t) (small_answer table t)
 
 pub small_identifier_text_answer : (T : ℕ → Bool) (t : List ℕ) → MatchResult (small_identifier_result T (pieces t)) (IsSmallIdentifier T (pieces t)) (HasSmallIdentifierFault T (pieces t))
-small_identifier_text_answer T t = at_pieces (pieces t) refl
-  where
-    at_pieces : (ps : List (List ℕ)) → pieces t ≡ ps → MatchResult (small_identifier_result T ps) (IsSmallIdentifier T ps) (HasSmallIdentifierFault T ps)
-    at_pieces [] e = absurd (pieces_nonempty t e)
-    at_pieces (p ∷ ps) e = small_identifier_answer T p ps
+small_identifier_text_answer T t = (elim (pieces t) as (λ ps. pieces t ≡ ps → MatchResult (small_identifier_result T ps) (IsSmallIdentifier T ps) (HasSmallIdentifierFault T ps)) [
+  | [] ↦ λ e. absurd (pieces_nonempty t e)
+  | p ∷ ps ↦ λ e. small_identifier_answer T p ps
+]) refl
 
 pub small_identifier_or_fault : (T : ℕ → Bool) (t : List ℕ) → ((r : SmallIdentifier) × IsSmallIdentifier T (pieces t) r) ⊎ ((f : Fault) × HasSmallIdentifierFault T (pieces t) f)
 small_identifier_or_fault T t = by_result (IsSmallIdentifier T (pieces t)) (HasSmallIdentifierFault T (pieces t)) (small_identifier_result T (pieces t)) (small_identifier_text_answer T t)
