@@ -1,6 +1,7 @@
 -- Fields that are read from the left.
 use Rattle.std.proofs.Common.{◌≡◌, ℕ, Bool, true, false, cond, List, [], ◌∷◌, ◌++◌, refl, sym, ap, ◌∙◌}
 use Rattle.std.specs.List.{AllByRecursion}
+use Rattle.std.proofs.lemmas.Bool.{cond_both}
 use Rattle.iloc_grammar.specs.Written.{Fields, fields_pieces}
 use Rattle.iloc_grammar.specs.Blocks.{first_piece}
 use Rattle.iloc_grammar.specs.Reading.{passing, past, EndsBefore, before_key, fields_from}
@@ -13,7 +14,7 @@ use Rattle.iloc_grammar.proofs.ReadingLaws.{all_while}
 
 pub passing_all : (test : List ℕ → Bool) (ps : List (List ℕ)) → AllByRecursion (λ p. test p ≡ true) (passing test ps)
 passing_all test [] = tt
-passing_all test (p ∷ ps) = elim (test p) as (λ b. test p ≡ b → AllByRecursion (λ p. test p ≡ true) (cond b (p ∷ passing test ps) [])) [ true ↦ λ e. (e, passing_all test ps) | false ↦ λ e. tt ] refl
+passing_all test (p ∷ ps) = cond_both (test p) _ _ (AllByRecursion (λ p. test p ≡ true)) (λ e. (e, passing_all test ps)) (λ e. tt)
 
 pub passing_stops : (test : List ℕ → Bool) (xs ys : List (List ℕ)) → AllByRecursion (λ p. test p ≡ true) xs → EndsBefore test ys → passing test (xs ++ ys) ≡ xs
 passing_stops test [] [] h s = refl
@@ -29,17 +30,16 @@ pub all_from_pieces : (first test : List ℕ → Bool) (ps : List (List ℕ)) �
 all_from_pieces first test ps = elim (first (first_piece ps)) as (λ b. cond b (passing test ps) [] ++ cond b (past test ps) ps ≡ ps) [ true ↦ all_while test ps | false ↦ refl ]
 
 pub passing_from_all : (first test : List ℕ → Bool) (ps : List (List ℕ)) → AllByRecursion (λ p. test p ≡ true) (passing_from first test ps)
-passing_from_all first test ps = elim (first (first_piece ps)) as (λ b. AllByRecursion (λ p. test p ≡ true) (cond b (passing test ps) [])) [ true ↦ passing_all test ps | false ↦ tt ]
+passing_from_all first test ps = cond_both (first (first_piece ps)) _ _ (AllByRecursion (λ p. test p ≡ true)) (λ e. passing_all test ps) (λ e. tt)
 
 -- fields
 
 -- a front that begins with a key is its fields
 before_first_key : (key test : List ℕ → Bool) (ps : List (List ℕ)) → before_key key (passing_from key test ps) ≡ []
-before_first_key key test [] = elim (key []) as (λ b. before_key key (cond b [] []) ≡ []) [ true ↦ refl | false ↦ refl ]
-before_first_key key test (p ∷ ps) = elim (key p) as (λ b. key p ≡ b → before_key key (cond b (passing test (p ∷ ps)) []) ≡ []) [
-  | true ↦ λ e. elim (test p) as (λ b. before_key key (cond b (p ∷ passing test ps) []) ≡ []) [ true ↦ ap (λ b. cond b [] (p ∷ before_key key (passing test ps))) e | false ↦ refl ]
-  | false ↦ λ e. refl
-] refl
+before_first_key key test [] = cond_both (key []) _ _ (λ ps. before_key key ps ≡ []) (λ e. refl) (λ e. refl)
+before_first_key key test (p ∷ ps) = cond_both (key p) _ _ (λ ps. before_key key ps ≡ []) (λ e. cond_both (test p) _ _ (λ ps. before_key key ps ≡ [])
+    (λ t. ap (λ b. cond b [] (p ∷ before_key key (passing test ps))) e)
+    (λ t. refl)) (λ e. refl)
 
 pub front_of_fields : (key test : List ℕ → Bool) (ps : List (List ℕ)) → passing_from key test ps ≡ fields_pieces (fields_from key (passing_from key test ps))
 front_of_fields key test ps =

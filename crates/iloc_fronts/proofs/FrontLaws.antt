@@ -1,13 +1,13 @@
 -- The readers of what comes after `u`, after other singletons and after `x`.
-use Rattle.std.proofs.Common.{◌≡◌, ℕ, ◌+◌, ◌<◌, ◌≤◌, Bool, true, false, not, ◌&&◌, ◌||◌, ◌==◌, nat_lt, List, [], ◌∷◌, ◌++◌, length, map, refl, sym, ap, ap₂, ◌∙◌, subst, arith, true≢false, append_assoc, Result, Ok, Err, MatchResult}
+use Rattle.std.proofs.Common.{◌≡◌, ◌↔◌, inl, inr, ℕ, ◌+◌, ◌<◌, ◌≤◌, true, false, not, ◌&&◌, ◌||◌, ◌==◌, nat_lt, List, [], ◌∷◌, ◌++◌, length, map, refl, sym, ap, ap₂, ◌∙◌, subst, arith, true≢false, append_assoc, Result, Ok, Err}
 use Rattle.std.specs.List.{AllByRecursion, list_any}
-use Rattle.std.specs.Int.{is_in_range}
-use Rattle.std.proofs.lemmas.Bool.{or_parts, cond_both, false_from_ne_true, eqb-true, ltb-true}
+use Rattle.std.proofs.lemmas.Bool.{or_parts, or_cases, not-false, cond_both, false_from_ne_true, eqb-true, ne_eqb, ltb-true}
+use Rattle.std.proofs.lemmas.List.{nil_from_length}
 use Rattle.std.proofs.lemmas.Bool.Decides.{nat_tests}
 use Rattle.iloc_grammar.specs.Words.{UnicodeKey, Attribute, is_word, IsWord, lower}
 use Rattle.iloc_grammar.specs.Written.{Fields, Unicode, fields_pieces, unicode_pieces, IsKeyword, IsOther, IsUnicode, kept}
 use Rattle.iloc_grammar.specs.Meaning.{set_of, normal_fields, normal_unicode}
-use Rattle.iloc_grammar.specs.Faults.{Fault}
+use Rattle.iloc_grammar.specs.Faults.{Fault, InvalidExtension}
 use Rattle.iloc_grammar.specs.Blocks.{front}
 use Rattle.iloc_grammar.specs.ByBlocks.{UnicodeMeans, OtherMeans}
 use Rattle.iloc_grammar.specs.Reading.{EndsBefore, starts_block, from_block, is_two, fields_from}
@@ -22,7 +22,7 @@ use Rattle.iloc_fronts.specs.Readers.{IsReader, AgreesWithBlocks}
 use Rattle.iloc_fronts.specs.Fronts.{attributes_front, after_attributes, is_keyword_piece, keywords_front, after_keywords, is_bad_key, KeywordsRead, KeywordsFault, bad_key, UnicodeRead, UnicodeFault, in_keywords, both_absent, has_other_length, other_front, OtherRead, OtherFault, no_word, PrivateRead, PrivateFault, not_private}
 use Rattle.iloc_fronts.specs.Computing.{keywords_at, keywords_result, with_attributes, unicode_result, other_result, private_result}
 use Rattle.iloc_fronts.proofs.FieldLaws.{passing_all, passing_stops, past_stops, all_from_pieces, passing_from_all, front_of_fields, fields_words, fields_stop, pieces_pass}
-use Rattle.iloc_fronts.proofs.ReaderLaws.{reader_of, agreeing, until_block, Answers}
+use Rattle.iloc_fronts.proofs.ReaderLaws.{reader_of, agreeing, until_block, Answer, Answers}
 use Rattle.std.proofs.Math.Bool.{or-true, and-false}
 
 -- keywords
@@ -34,14 +34,7 @@ one_keywords ps v w rest more a b =
 
 good_pieces : (ps : List (List ℕ)) → AllByRecursion (λ p. is_keyword_piece p ≡ true) ps → list_any is_bad_key ps ≡ false → AllByRecursion (λ p. (is_two p ≡ true → IsWord UnicodeKey p) × (is_two p ≡ false → IsWord Attribute p)) ps
 good_pieces [] h n = tt
-good_pieces (p ∷ ps) h n = let parts = or_parts (is_bad_key p) (list_any is_bad_key ps) n in ((λ e. key_is (is_two p) (is_word UnicodeKey p) e parts.0, λ e. value_is (is_two p) (is_word Attribute p) e h.0), good_pieces ps h.1 parts.1)
-  where
-    key_is : (a b : Bool) → a ≡ true → (a && not b) ≡ false → b ≡ true
-    key_is a true e n = refl
-    key_is a false e n = absurd (true≢false (sym (ap (λ c. c && true) e) ∙ n))
-
-    value_is : (a b : Bool) → a ≡ false → (a || b) ≡ true → b ≡ true
-    value_is a b e n = sym (ap (λ c. c || b) e) ∙ n
+good_pieces (p ∷ ps) h n = let parts = or_parts (is_bad_key p) (list_any is_bad_key ps) n in ((λ e. not-false _ (rw e at parts.0), λ e. rw e at h.0), good_pieces ps h.1 parts.1)
 
 pub two_bytes_of : (p : List ℕ) → IsWord UnicodeKey p → is_two p ≡ true
 two_bytes_of p k = ap (λ n. n == 2) (length-unicode_key p k)
@@ -73,19 +66,16 @@ keywords_read_of ps e = record {
 }
 
 pub keywords_answer : Answers KeywordsRead KeywordsFault keywords_result
-keywords_answer ps = cond_both (list_any is_bad_key (keywords_front ps)) _ _ Answer (λ b. bad_key b) (λ g. keywords_read_of ps g)
-  where
-    Answer : Result (Fields × List (List ℕ)) Fault → Type 0
-    Answer o = MatchResult o (λ r. KeywordsRead ps r.0 r.1) (KeywordsFault ps)
+keywords_answer ps = cond_both (list_any is_bad_key (keywords_front ps)) _ _ (Answer KeywordsRead KeywordsFault ps) (λ b. bad_key b) (λ g. keywords_read_of ps g)
 
 keywords_apart : (ps : List (List ℕ)) (m : Fields) (rest : List (List ℕ)) (f : Fault) → KeywordsRead ps m rest → KeywordsFault ps f → ⊥
 keywords_apart ps m rest f h (bad_key b) = true≢false (sym b ∙ ap (list_any is_bad_key) h.spelled ∙ keywords_no_fault h.written h.keywords)
 
-one_keywords_fault : (ps : List (List ℕ)) (f g : Fault) → KeywordsFault ps f → KeywordsFault ps g → f ≡ g
-one_keywords_fault ps f g (bad_key b) (bad_key c) = refl
+keywords_fault : {ps : List (List ℕ)} {f : Fault} → KeywordsFault ps f → f ≡ InvalidExtension
+keywords_fault (bad_key b) = refl
 
 pub keywords_reader : IsReader KeywordsRead KeywordsFault
-keywords_reader = reader_of KeywordsRead KeywordsFault keywords_result keywords_answer one_keywords keywords_apart one_keywords_fault
+keywords_reader = reader_of KeywordsRead KeywordsFault keywords_result keywords_answer one_keywords keywords_apart (λ ps f g x y. keywords_fault x ∙ sym (keywords_fault y))
 
 -- all that comes after `u`
 
@@ -95,25 +85,17 @@ one_unicode ps v w rest more a b =
     (λ i. record { attributes = (a.attributes_are ∙ sym b.attributes_are) i; keywords = k.0 i }, k.1)
 
 none_of : (xs ys : List (List ℕ)) → nat_lt 0 (length xs + length ys) ≡ false → (xs ≡ []) × (ys ≡ [])
-none_of xs ys h = (empty xs (no_length (length xs) (length ys) h).0, empty ys (no_length (length xs) (length ys) h).1)
-  where
-    no_length : (m n : ℕ) → nat_lt 0 (m + n) ≡ false → (m ≡ 0) × (n ≡ 0)
-    no_length m n h = (grind (arith, nat_tests), grind (arith, nat_tests))
-
-    empty : (xs : List (List ℕ)) → length xs ≡ 0 → xs ≡ []
-    empty [] e = refl
-    empty (x ∷ xs) e = absurd (omega arith)
+none_of xs ys h =
+    let none : length xs + length ys ≡ 0 = grind (arith, nat_tests) in
+    (nil_from_length xs (omega arith), nil_from_length ys (omega arith))
 
 pub unicode_answer : Answers UnicodeRead UnicodeFault unicode_result
 unfolding unicode_result
 unicode_answer ps = at_keywords (keywords_result (after_attributes ps)) (keywords_answer (after_attributes ps))
   where
-    Answer : Result (Unicode × List (List ℕ)) Fault → Type 0
-    Answer o = MatchResult o (λ r. UnicodeRead ps r.0 r.1) (UnicodeFault ps)
-
-    at_keywords : (o : Result (Fields × List (List ℕ)) Fault) → MatchResult o (λ r. KeywordsRead (after_attributes ps) r.0 r.1) (KeywordsFault (after_attributes ps)) → Answer (with_attributes ps o)
+    at_keywords : (o : Result (Fields × List (List ℕ)) Fault) → Answer KeywordsRead KeywordsFault (after_attributes ps) o → Answer UnicodeRead UnicodeFault ps (with_attributes ps o)
     at_keywords (Err f) h = in_keywords h
-    at_keywords (Ok r) h = cond_both (nat_lt 0 (length (attributes_front ps) + length (keywords_front (after_attributes ps)))) _ _ Answer
+    at_keywords (Ok r) h = cond_both (nat_lt 0 (length (attributes_front ps) + length (keywords_front (after_attributes ps)))) _ _ (Answer UnicodeRead UnicodeFault ps)
         (λ n. record { attributes_are = refl; keywords_are = h; nonempty = ltb-true 0 _ n })
         (λ n. let none = none_of (attributes_front ps) (keywords_front (after_attributes ps)) n in both_absent none.0 none.1)
 
@@ -121,29 +103,25 @@ unicode_apart : (ps : List (List ℕ)) (u : Unicode) (rest : List (List ℕ)) (f
 unicode_apart ps u rest f h (in_keywords k) = keywords_apart (after_attributes ps) u.keywords rest f h.keywords_are k
 unicode_apart ps u rest f h (both_absent a k) = let none : 0 < 0 = subst (λ (n : ℕ). 0 < n) ((λ i. length (a i) + length (k i))) h.nonempty in absurd (omega arith)
 
-one_unicode_fault : (ps : List (List ℕ)) (f g : Fault) → UnicodeFault ps f → UnicodeFault ps g → f ≡ g
-one_unicode_fault ps f g (in_keywords h) (in_keywords k) = one_keywords_fault (after_attributes ps) f g h k
-one_unicode_fault ps f g (in_keywords (bad_key b)) (both_absent a k) = refl
-one_unicode_fault ps f g (both_absent a k) (in_keywords (bad_key b)) = refl
-one_unicode_fault ps f g (both_absent a k) (both_absent b j) = refl
+unicode_fault : {ps : List (List ℕ)} {f : Fault} → UnicodeFault ps f → f ≡ InvalidExtension
+unicode_fault (in_keywords h) = keywords_fault h
+unicode_fault (both_absent a k) = refl
 
 pub unicode_reader : IsReader UnicodeRead UnicodeFault
-unicode_reader = reader_of UnicodeRead UnicodeFault unicode_result unicode_answer one_unicode unicode_apart one_unicode_fault
+unicode_reader = reader_of UnicodeRead UnicodeFault unicode_result unicode_answer one_unicode unicode_apart (λ ps f g x y. unicode_fault x ∙ sym (unicode_fault y))
 
 -- and its block
 
 long_keyword_piece : (p : List ℕ) → is_keyword_piece p ≡ true → IsLong p
-long_keyword_piece p h = elim (is_two p) as (λ b. is_two p ≡ b → (b || is_word Attribute p) ≡ true → IsLong p) [
-  | true ↦ λ e k. two (length p) e
-  | false ↦ λ e k. long_attribute p k
-] refl h
-  where
-    two : (n : ℕ) → (n == 2) ≡ true → (n == 1) ≡ false
-    two n h = grind (arith, nat_tests)
+long_keyword_piece p h = elim (or_cases _ _ h) [
+  | inl e ↦ let two = eqb-true (length p) 2 e in ne_eqb (length p) 1 (λ one. absurd (omega arith))
+  | inr k ↦ long_attribute p k
+]
 
-either_some : (n : ℕ) (fs : Fields) → 0 < n + length (fields_pieces fs) → 0 < n + length fs
-either_some n [] h = h
-either_some n (f ∷ fs) h = omega arith
+-- each field is a piece at least
+some_pieces : (n : ℕ) (fs : Fields) → (0 < n + length (fields_pieces fs)) ↔ (0 < n + length fs)
+some_pieces n [] = (λ h. h, λ h. h)
+some_pieces n (f ∷ fs) = (λ h. omega arith, λ h. omega arith)
 
 unicode_whole : (ps : List (List ℕ)) (u : Unicode) (rest : List (List ℕ)) → UnicodeRead ps u rest → starts_block rest ≡ true → UnicodeMeans (front ps) u × (rest ≡ from_block ps)
 unicode_whole ps u rest h s =
@@ -155,14 +133,14 @@ unicode_whole ps u rest h s =
     let ends = until_block (a ++ front_pieces) rest long s in (
       record {
         written = record { attributes = a; keywords = k.written };
-        grammatical = record { attributes = passing_all (is_word Attribute) ps; keywords = k.keywords; nonempty = either_some (length a) k.written (subst (λ (l : List (List ℕ)). 0 < length a + length l) k.spelled h.nonempty) };
+        grammatical = record { attributes = passing_all (is_word Attribute) ps; keywords = k.keywords; nonempty = (some_pieces (length a) k.written).0 (subst (λ (l : List (List ℕ)). 0 < length a + length l) k.spelled h.nonempty) };
         spelled = ap front all ∙ ends.0 ∙ ap (λ l. a ++ l) k.spelled;
         means = λ i. record { attributes = h.attributes_are i; keywords = k.means i };
       },
       sym (ap from_block all ∙ ends.1),
     )
 
-not_attribute : (p : List ℕ) → length p ≤ 2 → is_word Attribute p ≡ false
+pub not_attribute : (p : List ℕ) → length p ≤ 2 → is_word Attribute p ≡ false
 not_attribute p h = false_from_ne_true _ (λ a. let l = length-attribute p a in absurd (omega arith))
 
 record NoneGoOn (rest : List (List ℕ)) : Type 0 where
@@ -175,11 +153,8 @@ block_ends [] e = record { attribute = tt; keyword_piece = tt; two_bytes = tt }
 block_ends (p ∷ ps) e =
     let one = eqb-true (length p) 1 e in
     let n = not_attribute p (omega arith) in
-    let m = not_two (length p) one in
+    let m : is_two p ≡ false = rw one refl in
     record { attribute = n; keyword_piece = λ i. m i || n i; two_bytes = m }
-  where
-    not_two : (n : ℕ) → n ≡ 1 → (n == 2) ≡ false
-    not_two n h = rw h refl
 
 pub value_goes_on : (p : List ℕ) → IsWord Attribute p → is_keyword_piece p ≡ true
 value_goes_on p w = ap (λ b. is_two p || b) w ∙ or-true (is_two p)
@@ -230,12 +205,8 @@ unicode_spelled w rest g e =
     record {
       attributes_are = ap (λ l. set_of (map lower l)) (sym t.attributes);
       keywords_are = subst (λ (l : List (List ℕ)). KeywordsRead l (normal_unicode w).keywords rest) (sym t.after) (record { written = w.keywords; keywords = g.keywords; spelled = t.keywords; means = refl; left = sym t.left });
-      nonempty = subst (λ (n : ℕ). 0 < n) (sym ((λ i. length (t.attributes i) + length (keywords_front (t.after i))) ∙ ap (λ l. length w.attributes + length l) t.keywords)) (either_pieces (length w.attributes) w.keywords g.nonempty);
+      nonempty = subst (λ (n : ℕ). 0 < n) (sym ((λ i. length (t.attributes i) + length (keywords_front (t.after i))) ∙ ap (λ l. length w.attributes + length l) t.keywords)) ((some_pieces (length w.attributes) w.keywords).1 g.nonempty);
     }
-  where
-    either_pieces : (n : ℕ) (fs : Fields) → 0 < n + length fs → 0 < n + length (fields_pieces fs)
-    either_pieces n [] h = h
-    either_pieces n (f ∷ fs) h = omega arith
 
 unicode_block : (ps : List (List ℕ)) (u : Unicode) → UnicodeMeans (front ps) u → UnicodeRead ps u (from_block ps)
 unicode_block ps u h =
@@ -249,12 +220,9 @@ unicode_agrees = agreeing UnicodeRead UnicodeFault UnicodeMeans unicode_reader u
 
 pub other_answer : Answers OtherRead OtherFault other_result
 unfolding other_result
-other_answer ps = cond_both (is_other (other_front ps)) _ _ Answer
+other_answer ps = cond_both (is_other (other_front ps)) _ _ (Answer OtherRead OtherFault ps)
     (λ h. record { follows = (tests_other (other_front ps)).holds h; means = refl; left = refl })
     (λ n. no_word (tests_not (tests_other (other_front ps)) n))
-  where
-    Answer : Result (List (List ℕ) × List (List ℕ)) Fault → Type 0
-    Answer o = MatchResult o (λ r. OtherRead ps r.0 r.1) (OtherFault ps)
 
 other_apart : (ps ws rest : List (List ℕ)) (f : Fault) → OtherRead ps ws rest → OtherFault ps f → ⊥
 other_apart ps ws rest f h (no_word n) = n h.follows
@@ -277,10 +245,7 @@ other_block ps ws h = subst (λ (l : List (List ℕ)). OtherRead l ws (from_bloc
   where
     stops : (rest : List (List ℕ)) → starts_block rest ≡ true → EndsBefore has_other_length rest
     stops [] e = tt
-    stops (p ∷ ps) e = not_one (length p) (eqb-true (length p) 1 e)
-      where
-        not_one : (n : ℕ) → n ≡ 1 → is_in_range 2 8 n ≡ false
-        not_one n h = rw h refl
+    stops (p ∷ ps) e = rw (eqb-true (length p) 1 e) refl
 
     ends : EndsBefore has_other_length (from_block ps)
     ends = stops (from_block ps) (from_block_starts ps)
@@ -295,12 +260,9 @@ other_agrees = agreeing OtherRead OtherFault OtherMeans other_reader other_whole
 
 pub private_answer : Answers PrivateRead PrivateFault private_result
 unfolding private_result
-private_answer ps = cond_both (is_private ps) _ _ Answer
+private_answer ps = cond_both (is_private ps) _ _ (Answer PrivateRead PrivateFault ps)
     (λ h. record { follows = (tests_private ps).holds h; means = refl; left = refl })
     (λ n. not_private (tests_not (tests_private ps) n))
-  where
-    Answer : Result (List (List ℕ) × List (List ℕ)) Fault → Type 0
-    Answer o = MatchResult o (λ r. PrivateRead ps r.0 r.1) (PrivateFault ps)
 
 private_apart : (ps ws rest : List (List ℕ)) (f : Fault) → PrivateRead ps ws rest → PrivateFault ps f → ⊥
 private_apart ps ws rest f h (not_private n) = n h.follows

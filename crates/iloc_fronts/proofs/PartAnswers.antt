@@ -1,7 +1,8 @@
 -- The program reads a part where its reader does, and finds its fault.
-use Rattle.std.proofs.Common.{◌≡◌, ℕ, Bool, true, false, cond, List, [], ◌∷◌, refl, Result, Ok, Err, MatchResult}
+use Rattle.std.proofs.Common.{◌≡◌, ℕ, Bool, true, List, [], ◌∷◌, refl, Result, Ok, Err, MatchResult}
 use Rattle.std.specs.Char.{to_ascii_lowercase}
-use Rattle.iloc_grammar.specs.Faults.{Fault, InvalidExtension}
+use Rattle.iloc_grammar.specs.Faults.{Fault}
+use Rattle.std.proofs.lemmas.Bool.{cond_both}
 use Rattle.iloc_fronts.specs.Parts.{PartRead, PartFault, no_singleton, after_singleton}
 use Rattle.iloc_fronts.specs.PartComputing.{with_singleton, part_result}
 
@@ -17,7 +18,4 @@ module _ {X : Type 0} (test : ℕ → Bool) (program : List (List ℕ) → Resul
   part_answer [] = no_singleton refl
   part_answer ([] ∷ ps) = no_singleton refl
   part_answer ((b ∷ c ∷ p) ∷ ps) = no_singleton refl
-  part_answer ((b ∷ []) ∷ ps) = elim (test (to_ascii_lowercase b)) as (λ t. test (to_ascii_lowercase b) ≡ t → IsAnswered ((b ∷ []) ∷ ps) (cond t (with_singleton (to_ascii_lowercase b) (program ps)) (Err InvalidExtension))) [
-    | true ↦ λ e. after b ps e (program ps) (answer ps)
-    | false ↦ λ e. no_singleton e
-  ] refl
+  part_answer ((b ∷ []) ∷ ps) = cond_both (test (to_ascii_lowercase b)) _ _ (IsAnswered ((b ∷ []) ∷ ps)) (λ e. after b ps e (program ps) (answer ps)) (λ e. no_singleton e)

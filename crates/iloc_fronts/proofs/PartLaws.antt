@@ -7,21 +7,16 @@ use Rattle.iloc_fronts.specs.Parts.{begins_part, PartRead, PartFault, no_singlet
 
 -- A singleton before a reader makes a reader.
 module _ {X : Type 0} (test : ℕ → Bool) (R : List (List ℕ) → X → List (List ℕ) → Type 0) (F : List (List ℕ) → Fault → Type 0) (reader : IsReader R F) where
-  begun : (ps : List (List ℕ)) (part : ℕ × X) (rest : List (List ℕ)) → PartRead test R ps part rest → begins_part test ps ≡ true
-  begun ps part rest h = ap (begins_part test) h.spelled ∙ ap test (sym h.singleton) ∙ h.passes
-
   one : (ps : List (List ℕ)) (v w : ℕ × X) (rest more : List (List ℕ)) → PartRead test R ps v rest → PartRead test R ps w more → (v ≡ w) × (rest ≡ more)
   one ps v w rest more a b =
-      let same : (a.byte ∷ []) ∷ a.after ≡ (b.byte ∷ []) ∷ b.after = sym a.spelled ∙ b.spelled in
       let bytes : a.byte ≡ b.byte = cc in
       let afters : a.after ≡ b.after = cc in
       let parts = reader.one b.after v.1 w.1 rest more (subst (λ (l : List (List ℕ)). R l v.1 rest) afters a.reads) b.reads in
       (λ i. ((a.singleton ∙ ap to_ascii_lowercase bytes ∙ sym b.singleton) i, parts.0 i), parts.1)
 
   apart : (ps : List (List ℕ)) (v : ℕ × X) (rest : List (List ℕ)) (f : Fault) → PartRead test R ps v rest → PartFault test F ps f → ⊥
-  apart ps v rest f h (no_singleton n) = true≢false (sym (begun ps v rest h) ∙ n)
+  apart ps v rest f h (no_singleton n) = true≢false (sym (ap (begins_part test) h.spelled ∙ ap test (sym h.singleton) ∙ h.passes) ∙ n)
   apart ps v rest f h (after_singleton {b = b} {after = after} e p x) =
-      let same : (h.byte ∷ []) ∷ h.after ≡ (b ∷ []) ∷ after = sym h.spelled ∙ e in
       let afters : h.after ≡ after = cc in
       reader.apart after v.1 rest f (subst (λ (l : List (List ℕ)). R l v.1 rest) afters h.reads) x
 
@@ -30,7 +25,6 @@ module _ {X : Type 0} (test : ℕ → Bool) (R : List (List ℕ) → X → List 
   one_fault ps f g (no_singleton n) (after_singleton e p x) = absurd (true≢false (sym p ∙ n))
   one_fault ps f g (after_singleton e p x) (no_singleton n) = absurd (true≢false (sym p ∙ n))
   one_fault ps f g (after_singleton {b = b} {after = after} e p x) (after_singleton {b = c} {after = later} k q y) =
-      let same : (b ∷ []) ∷ after ≡ (c ∷ []) ∷ later = sym e ∙ k in
       let afters : after ≡ later = cc in
       reader.one_fault later f g (subst (λ (l : List (List ℕ)). F l f) afters x) y
 

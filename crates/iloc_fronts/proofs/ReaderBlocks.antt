@@ -1,10 +1,10 @@
 -- A reader reads the whole of a block exactly where the block means what is read.
-use Rattle.std.proofs.Common.{◌≡◌, ◌≢◌, ◌⊎◌, inl, inr, ◌↔◌, ℕ, Bool, true, false, cond, ◌==◌, List, [], ◌∷◌, refl, sym, ap, ◌∙◌, subst, arith, Option, Some, None, IfSome}
+use Rattle.std.proofs.Common.{◌≡◌, ◌≢◌, ◌⊎◌, inl, inr, ◌↔◌, ℕ, Bool, cond, ◌==◌, List, [], ◌∷◌, refl, sym, ap, ◌∙◌, subst, arith, Option, Some, None, IfSome}
 use Rattle.std.specs.List.{AllByRecursion}
 use Rattle.std.specs.Char.{to_ascii_lowercase}
 use Rattle.std.specs.Ordering.{nat_cmp, eq_by_cmp}
 use Rattle.std.specs.FinMap.{find}
-use Rattle.std.proofs.lemmas.Bool.Decides.{nat_tests}
+use Rattle.std.proofs.lemmas.Bool.{cond_both, eqb-true}
 use Rattle.iloc_grammar.specs.Pieces.{pieces}
 use Rattle.iloc_grammar.specs.Words.{IsTable}
 use Rattle.iloc_grammar.specs.Written.{Unicode, Transform, kept, is_other_singleton, singleton}
@@ -29,27 +29,18 @@ pub record IsClosed (ps : List (List ℕ)) : Type 0 where
 
 closed_front : (ps : List (List ℕ)) → IsClosed (front ps)
 closed_front [] = record { whole = refl; ended = refl }
-closed_front (p ∷ ps) = elim (is_one_byte p) as (λ b. is_one_byte p ≡ b → IsClosed (cond b [] (p ∷ front ps))) [
-  | true ↦ λ e. record { whole = refl; ended = refl }
-  | false ↦ λ e. record {
-    whole = ap (λ b. cond b [] (p ∷ front (front ps))) e ∙ ap (λ qs. p ∷ qs) (closed_front ps).whole;
-    ended = ap (λ b. cond b (p ∷ front ps) (from_block (front ps))) e ∙ (closed_front ps).ended;
-  }
-] refl
+closed_front (p ∷ ps) = cond_both (is_one_byte p) _ _ IsClosed (λ e. record { whole = refl; ended = refl }) (λ e. record {
+  whole = ap (λ b. cond b [] (p ∷ front (front ps))) e ∙ ap (λ qs. p ∷ qs) (closed_front ps).whole;
+  ended = ap (λ b. cond b (p ∷ front ps) (from_block (front ps))) e ∙ (closed_front ps).ended;
+})
 
 abbrev IsXOrClosed : ℕ × List (List ℕ) → Type 0
 IsXOrClosed b = (singleton b ≡ 120) ⊎ IsClosed b.1
 
-is_x : (c : ℕ) → (c == 120) ≡ true → c ≡ 120
-is_x c e = grind (arith, nat_tests)
-
 blocks_closed : (ps : List (List ℕ)) → AllByRecursion IsXOrClosed (blocks ps)
 blocks_closed [] = tt
 blocks_closed ([] ∷ ps) = blocks_closed ps
-blocks_closed ((c ∷ []) ∷ ps) = elim (to_ascii_lowercase c == 120) as (λ b. (to_ascii_lowercase c == 120) ≡ b → AllByRecursion IsXOrClosed (cond b ((c, ps) ∷ []) ((c, front ps) ∷ blocks ps))) [
-  | true ↦ λ e. (inl (is_x (to_ascii_lowercase c) e), tt)
-  | false ↦ λ e. (inr (closed_front ps), blocks_closed ps)
-] refl
+blocks_closed ((c ∷ []) ∷ ps) = cond_both (to_ascii_lowercase c == 120) _ _ (AllByRecursion IsXOrClosed) (λ e. (inl (eqb-true _ _ e), tt)) (λ e. (inr (closed_front ps), blocks_closed ps))
 blocks_closed ((c ∷ d ∷ p) ∷ ps) = blocks_closed ps
 
 tail_closed : (ps : List (List ℕ)) → AllByRecursion IsXOrClosed (tail_blocks ps)
@@ -62,17 +53,15 @@ closed_of q n c ps e (inr h) = h
 
 found_closed : (q : ℕ) → q ≢ 120 → (bs : List (ℕ × List (List ℕ))) → AllByRecursion IsXOrClosed bs → IfSome (find nat_cmp q (by_letter bs)) IsClosed
 found_closed q n [] h = tt
-found_closed q n (b ∷ bs) h = elim (eq_by_cmp nat_cmp q (singleton b)) as (λ t. eq_by_cmp nat_cmp q (singleton b) ≡ t → IfSome (cond t (Some b.1) (find nat_cmp q (by_letter bs))) IsClosed) [
-  | true ↦ λ e. closed_of q n (singleton b) b.1 (tied q (singleton b) e) h.0
-  | false ↦ λ e. found_closed q n bs h.1
-] refl
+found_closed q n (b ∷ bs) h = cond_both (eq_by_cmp nat_cmp q (singleton b)) _ _ (λ o. IfSome o IsClosed)
+    (λ e. closed_of q n (singleton b) b.1 (tied q (singleton b) e) h.0)
+    (λ e. found_closed q n bs h.1)
 
 others_closed : (bs : List (ℕ × List (List ℕ))) → AllByRecursion IsXOrClosed bs → AllByRecursion (λ b. IsClosed b.1) (other_blocks (by_letter bs))
 others_closed [] h = tt
-others_closed (b ∷ bs) h = elim (is_other_singleton (singleton b)) as (λ t. is_other_singleton (singleton b) ≡ t → AllByRecursion (λ b. IsClosed b.1) (cond t ((singleton b, b.1) ∷ other_blocks (by_letter bs)) (other_blocks (by_letter bs)))) [
-  | true ↦ λ e. (closed_of (singleton b) (λ x. no_x (singleton b) x e) (singleton b) b.1 refl h.0, others_closed bs h.1)
-  | false ↦ λ e. others_closed bs h.1
-] refl
+others_closed (b ∷ bs) h = cond_both (is_other_singleton (singleton b)) _ _ (AllByRecursion (λ b. IsClosed b.1))
+    (λ e. (closed_of (singleton b) (λ x. no_x (singleton b) x e) (singleton b) b.1 refl h.0, others_closed bs h.1))
+    (λ e. others_closed bs h.1)
 
 -- a reader that agrees with the rule of its blocks
 

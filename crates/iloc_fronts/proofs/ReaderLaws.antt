@@ -24,14 +24,18 @@ module _ {X : Type 0} (R : List (List ℕ) → X → List (List ℕ) → Type 0)
   abbrev IsOneFault : Type 0
   IsOneFault = (ps : List (List ℕ)) (f g : Fault) → F ps f → F ps g → f ≡ g
 
+  -- what is said of a program's answer, and of a program
+  abbrev pub Answer : List (List ℕ) → Result (X × List (List ℕ)) Fault → Type 0
+  Answer ps o = MatchResult o (λ r. R ps r.0 r.1) (F ps)
+
   abbrev pub Answers : (List (List ℕ) → Result (X × List (List ℕ)) Fault) → Type 0
-  Answers result = (ps : List (List ℕ)) → MatchResult (result ps) (λ r. R ps r.0 r.1) (F ps)
+  Answers result = (ps : List (List ℕ)) → Answer ps (result ps)
 
   -- a program that answers makes a reader
   pub reader_of : (result : List (List ℕ) → Result (X × List (List ℕ)) Fault) → Answers result → IsOne → IsApart → IsOneFault → IsReader R F
   reader_of result answer one apart one_fault = record { one = one; either = λ ps. at ps (result ps) (answer ps); apart = apart; one_fault = one_fault }
     where
-      at : (ps : List (List ℕ)) (o : Result (X × List (List ℕ)) Fault) → MatchResult o (λ r. R ps r.0 r.1) (F ps) → ((v : X) × (rest : List (List ℕ)) × R ps v rest) ⊎ ((f : Fault) × F ps f)
+      at : (ps : List (List ℕ)) (o : Result (X × List (List ℕ)) Fault) → Answer ps o → ((v : X) × (rest : List (List ℕ)) × R ps v rest) ⊎ ((f : Fault) × F ps f)
       at ps (Ok r) h = inl (r.0, r.1, h)
       at ps (Err f) h = inr (f, h)
 

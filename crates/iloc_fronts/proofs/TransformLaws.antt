@@ -1,8 +1,9 @@
 -- The reader of what comes after `t`: the longest front of an identifier, and fields.
-use Rattle.std.proofs.Common.{◌≡◌, ◌↔◌, ℕ, ◌<◌, ◌≤◌, Bool, true, false, cond, ◌&&◌, ◌||◌, nat_lt, List, [], ◌∷◌, ◌++◌, length, length-append, map, refl, sym, ap, ◌∙◌, subst, arith, Option, Some, None, IfSome, is_some, option_to_list, true≢false, append_assoc, le_antisymm, Result, Err, MatchResult}
+use Rattle.std.proofs.Common.{◌≡◌, ◌↔◌, ℕ, ◌<◌, ◌≤◌, Bool, true, false, cond, ◌&&◌, ◌||◌, nat_lt, List, [], ◌∷◌, ◌++◌, length, take, drop, length-append, map, refl, sym, ap, ◌∙◌, subst, arith, Option, Some, None, IfSome, is_some, option_to_list, true≢false, append_assoc, le_antisymm, Result, Err, MatchResult}
 use Rattle.std.specs.List.{AllByRecursion, list_all}
 use Rattle.std.proofs.lemmas.Bool.{cond_both, false_from_ne_true, eqb-true}
-use Rattle.std.proofs.lemmas.List.{map-append}
+use Rattle.std.proofs.lemmas.List.{map-append, take-append-le, take-append-drop}
+use Rattle.std.proofs.Math.Seq.{take-append_seam, drop-append_seam}
 use Rattle.iloc_grammar.specs.Words.{Language, Script, Region, Variant, TransformKey, Attribute, is_word, IsWord, IsTable, lower, word_cmp}
 use Rattle.iloc_grammar.specs.Written.{Identifier, Fields, Transform, transform, identifier_pieces, optional_pieces, fields_pieces, HasWords, IsIdentifier, IsField, IsTransform, AllDifferent}
 use Rattle.iloc_grammar.specs.Meaning.{normal_transform}
@@ -10,7 +11,7 @@ use Rattle.iloc_grammar.specs.Faults.{Fault, InvalidSubtag, RepeatsVariant}
 use Rattle.iloc_grammar.specs.Blocks.{first_piece, front}
 use Rattle.iloc_grammar.specs.ByBlocks.{TransformMeans}
 use Rattle.iloc_grammar.specs.Reading.{IdentifierFront, EndsBefore, starts_block, from_block, front_of, after_front, identifier_of, fields_from}
-use Rattle.iloc_grammar.proofs.WordsLaws.{length-language, region_no_script, length-transform_key, length-attribute}
+use Rattle.iloc_grammar.proofs.WordsLaws.{length-language, region_no_script, length-transform_key}
 use Rattle.iloc_grammar.proofs.ValuesLaws.{all_weaker, all_both}
 use Rattle.iloc_grammar.proofs.IdentifierLaws.{pieces-identifier_of, one_identifier}
 use Rattle.iloc_grammar.proofs.Readings.{IsLong, IsNoKey, after_language, long_after_language, long_extension, identifier_no_key, language_no_key, fields_pass, fields_read}
@@ -22,20 +23,17 @@ use Rattle.iloc_fronts.specs.Readers.{IsReader, AgreesWithBlocks}
 use Rattle.iloc_fronts.specs.Fronts.{FrontRead, absent, present, is_field_piece, fields_front, after_fields, TransformRead, TransformFault, repeats, unread}
 use Rattle.iloc_fronts.specs.Computing.{fields_at, fields_result, transform_result}
 use Rattle.iloc_fronts.proofs.FieldLaws.{all_from_pieces, front_of_fields, fields_stop, pieces_pass}
+use Rattle.iloc_fronts.proofs.FrontLaws.{not_attribute}
 use Rattle.iloc_fronts.proofs.ReaderLaws.{reader_of, agreeing, until_block, Answers}
 use Rattle.std.proofs.Math.Bool.{or-true}
 
 -- two lists of one whole
 
 same_fronts : (xs ys a b : List (List ℕ)) → xs ++ a ≡ ys ++ b → length xs ≡ length ys → (xs ≡ ys) × (a ≡ b)
-same_fronts [] [] a b e l = (refl, e)
-same_fronts [] (y ∷ ys) a b e l = absurd (omega arith)
-same_fronts (x ∷ xs) [] a b e l = absurd (omega arith)
-same_fronts (x ∷ xs) (y ∷ ys) a b e l =
-    let heads : x ≡ y = cc in
-    let tails : xs ++ a ≡ ys ++ b = cc in
-    let rest = same_fronts xs ys a b tails (omega arith) in
-    (λ i. heads i ∷ rest.0 i, rest.1)
+same_fronts xs ys a b e l = (
+  sym (take-append_seam xs a) ∙ (λ i. take (l i) (e i)) ∙ take-append_seam ys b,
+  sym (drop-append_seam xs a) ∙ (λ i. drop (l i) (e i)) ∙ drop-append_seam ys b,
+)
 
 -- two fronts of one list
 
@@ -88,10 +86,7 @@ left_front T p ps h = record {
 }
 
 no_repeats : {T : ℕ → Bool} (ps : List (List ℕ)) (j : Identifier) (rest : List (List ℕ)) → IsIdentifier T j → IdentifierFront T ps j rest → RepeatsVariant T ps → ⊥
-no_repeats [] j rest h f r = absurd_empty _ _ r.3
-  where
-    absurd_empty : (l : List ℕ) (ls : List (List ℕ)) → ◌≡◌ {A = List (List ℕ)} [] (l ∷ ls) → ⊥
-    absurd_empty l ls e = cc
+no_repeats [] j rest h f r = let e = r.3 in absurd (cc)
 no_repeats {T = T} (p ∷ ps) j rest h f r =
     let left = left_front T p ps (front_language (p ∷ ps) j rest f.words f.spelled) in
     let same = one_longest (p ∷ ps) j _ rest _ f left in
@@ -104,9 +99,6 @@ no_repeats {T = T} (p ∷ ps) j rest h f r =
 
 abbrev is_key : List ℕ → Bool
 is_key p = is_word TransformKey p
-
-pub fields_spelled : (ps : List (List ℕ)) → fields_front ps ≡ fields_pieces (fields_at ps)
-fields_spelled ps = front_of_fields is_key is_field_piece ps
 
 fields_are : (ps : List (List ℕ)) (fs : Fields) → AllByRecursion IsField fs → fields_front ps ≡ fields_pieces fs → fields_at ps ≡ fs
 fields_are ps fs h e = ap (fields_from is_key) e ∙ fields_read is_key fs (fields_pass fs h)
@@ -145,7 +137,7 @@ pub fields_answer : {T : ℕ → Bool} (ps : List (List ℕ)) (o : Option Identi
 fields_answer {T = T} ps o middle h = cond_both (list_all is_field (fields_at middle) && (is_some o || nat_lt 0 (length (fields_at middle)))) _ _ (IsTransformAnswer T ps)
     (λ w.
     let rules = (fields_test o (fields_at middle)).holds w in
-    record { written = record { id = o; fields = fields_at middle }; middle = middle; id = h; fields = rules.0; spelled = fields_spelled middle; nonempty = rules.1; means = refl; left = refl })
+    record { written = record { id = o; fields = fields_at middle }; middle = middle; id = h; fields = rules.0; spelled = front_of_fields is_key is_field_piece middle; nonempty = rules.1; means = refl; left = refl })
     (λ n. unread (λ r. read_no_repeats ps h r) (λ m rest r.
     let fronts = one_front ps r.id h in
     let fields : r.written.fields ≡ fields_at middle = sym (fields_are r.middle r.written.fields r.fields r.spelled) ∙ ap fields_at fronts.1 in
@@ -170,30 +162,24 @@ transform_reader T table = reader_of (TransformRead T) (TransformFault T) (trans
 
 -- its block
 
-front_spelled : {T : ℕ → Bool} (ps : List (List ℕ)) {o : Option Identifier} {rest : List (List ℕ)} → FrontRead T ps o rest → ps ≡ optional_pieces o ++ rest
-front_spelled ps (absent e) = refl
-front_spelled ps (present h f) = f.spelled
-
-front_identifier : {T : ℕ → Bool} (ps : List (List ℕ)) {o : Option Identifier} {rest : List (List ℕ)} → FrontRead T ps o rest → IfSome o (IsIdentifier T)
-front_identifier ps (absent e) = tt
-front_identifier ps (present h f) = h
+front_parts : {T : ℕ → Bool} (ps : List (List ℕ)) {o : Option Identifier} {rest : List (List ℕ)} → FrontRead T ps o rest → (ps ≡ optional_pieces o ++ rest) × IfSome o (IsIdentifier T)
+front_parts ps (absent e) = (refl, tt)
+front_parts ps (present h f) = (f.spelled, h)
 
 transform_whole : (T : ℕ → Bool) → IsTable T → (ps : List (List ℕ)) (m : Transform) (rest : List (List ℕ)) → TransformRead T ps m rest → starts_block rest ≡ true → TransformMeans T (front ps) m × (rest ≡ from_block ps)
 transform_whole T table ps m rest h s =
     let o = optional_pieces h.written.id in
     let fs = fields_pieces h.written.fields in
+    let front_is = front_parts ps h.id in
     let middle : h.middle ≡ fs ++ rest = sym (all_from_pieces is_key is_field_piece h.middle) ∙ (λ i. h.spelled i ++ sym h.left i) in
-    let all : ps ≡ (o ++ fs) ++ rest = front_spelled ps h.id ∙ ap (λ l. o ++ l) middle ∙ sym (append_assoc o fs rest) in
-    let g : IsTransform T h.written = record { id = front_identifier ps h.id; fields = h.fields; nonempty = h.nonempty } in
+    let all : ps ≡ (o ++ fs) ++ rest = front_is.0 ∙ ap (λ l. o ++ l) middle ∙ sym (append_assoc o fs rest) in
+    let g : IsTransform T h.written = record { id = front_is.1; fields = h.fields; nonempty = h.nonempty } in
     let ends = until_block (o ++ fs) rest (long_extension T table 116 (transform h.written) (refl, g)) s in
     (record { written = h.written; grammatical = g; spelled = ap front all ∙ ends.0; means = h.means }, sym (ap from_block all ∙ ends.1))
 
 -- pieces that no identifier goes on with
 abbrev IsInside : List ℕ → Type 0
 IsInside p = IsNoKey p × IsLong p
-
-inside_after : {T : ℕ → Bool} (i : Identifier) → HasWords T i → AllByRecursion IsInside (after_language i)
-inside_after i h = all_both IsNoKey IsLong (after_language i) (identifier_no_key i h).1 (long_after_language i h)
 
 pub no_key_empty : is_word TransformKey [] ≡ false
 unfolding is_word
@@ -207,18 +193,15 @@ fields_end (f ∷ fs) rest h e = λ x. true≢false (sym h.0.0 ∙ x.0)
 longest_until : {T : ℕ → Bool} (i j : Identifier) (rest more : List (List ℕ)) → HasWords T j → NoFirst IsInside rest → identifier_pieces i ++ rest ≡ identifier_pieces j ++ more → length (identifier_pieces j) ≤ length (identifier_pieces i)
 longest_until i j rest more w n e =
     let tails : after_language i ++ rest ≡ after_language j ++ more = cc in
-    let l = not_longer IsInside (after_language i) (after_language j) rest more tails (inside_after j w) n in
+    let l = not_longer IsInside (after_language i) (after_language j) rest more tails (all_both IsNoKey IsLong (after_language j) (identifier_no_key j w).1 (long_after_language j w)) n in
     omega arith
-
-one_no_word : (p : List ℕ) → length p ≡ 1 → (is_word TransformKey p ≡ false) × (is_field_piece p ≡ false)
-one_no_word p e =
-    let k = false_from_ne_true (is_word TransformKey p) (λ h. let l = length-transform_key p h in absurd (omega arith)) in
-    let a = false_from_ne_true (is_word Attribute p) (λ h. let l = (length-attribute p h).0 in absurd (omega arith)) in
-    (k, λ i. k i || a i)
 
 rest_stops : (rest : List (List ℕ)) → starts_block rest ≡ true → EndsBefore is_key rest × EndsBefore is_field_piece rest
 rest_stops [] e = (tt, tt)
-rest_stops (p ∷ ps) e = one_no_word p (eqb-true (length p) 1 e)
+rest_stops (p ∷ ps) e =
+    let one = eqb-true (length p) 1 e in
+    let k = false_from_ne_true (is_word TransformKey p) (λ h. let l = length-transform_key p h in absurd (omega arith)) in
+    (k, λ i. k i || not_attribute p (omega arith) i)
 
 pub transform_spelled : {T : ℕ → Bool} → (ps rest : List (List ℕ)) (m : Transform) → TransformMeans T ps m → starts_block rest ≡ true → TransformRead T (ps ++ rest) m rest
 transform_spelled {T = T} ps rest m h e = subst (λ (l : List (List ℕ)). TransformRead T l m rest) (sym (ap (λ l. l ++ rest) h.spelled ∙ append_assoc (optional_pieces h.written.id) (fields_pieces fs) rest)) (record {
@@ -261,13 +244,9 @@ transform_agrees T table = agreeing (TransformRead T) (TransformFault T) (Transf
 -- variants that repeat, with and without what follows the block
 
 longer_front : (xs ys a b : List (List ℕ)) → xs ++ a ≡ ys ++ b → length ys ≤ length xs → (c : List (List ℕ)) × (xs ≡ ys ++ c)
-longer_front xs [] a b e l = (xs, refl)
-longer_front [] (y ∷ ys) a b e l = absurd (omega arith)
-longer_front (x ∷ xs) (y ∷ ys) a b e l =
-    let heads : x ≡ y = cc in
-    let tails : xs ++ a ≡ ys ++ b = cc in
-    let rest = longer_front xs ys a b tails (omega arith) in
-    (rest.0, λ i. heads i ∷ rest.1 i)
+longer_front xs ys a b e l =
+    let first : take (length ys) xs ≡ ys = sym (take-append-le (length ys) xs a l) ∙ ap (take (length ys)) e ∙ take-append_seam ys b in
+    (drop (length ys) xs, sym (take-append-drop (length ys) xs) ∙ ap (λ l. l ++ drop (length ys) xs) first)
 
 one_is_short : (rest : List (List ℕ)) → starts_block rest ≡ true → NoFirst IsLong rest
 one_is_short [] e = tt

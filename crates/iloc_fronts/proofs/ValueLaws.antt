@@ -1,5 +1,5 @@
 -- The text of a value is read as it.
-use Rattle.std.proofs.Common.{◌≡◌, ◌≢◌, ℕ, false, cond, List, [], ◌∷◌, refl, sym, ap, ◌∙◌, Ok, Err}
+use Rattle.std.proofs.Common.{◌≡◌, ◌≢◌, ℕ, false, cond, List, [], ◌∷◌, refl, ap, ◌∙◌, Ok, Err}
 use Rattle.std.specs.List.{AllByRecursion, list_all}
 use Rattle.iloc_grammar.specs.Pieces.{pieces, join, IsHyphenFree}
 use Rattle.iloc_grammar.specs.Words.{Kind, Subtag, Attribute, is_word, IsWord, lower, is_true}
@@ -19,26 +19,19 @@ no_empty : IsWord Subtag [] → ⊥
 unfolding is_word
 no_empty h = absurd (cc)
 
-value_of : (t : List ℕ) → t ≢ [] → unicode_value t ≡ cond (list_all (is_word Subtag) (pieces t)) (Ok (normal_values (pieces t))) (Err InvalidSubtag)
-value_of [] n = absurd (n refl)
-value_of (c ∷ t) n = refl
-
-joined_nonempty : (w : List ℕ) (ws : List (List ℕ)) → AllByRecursion (IsWord Subtag) (w ∷ ws) → join (w ∷ ws) ≢ []
-unfolding pieces
-joined_nonempty w ws h e =
-    let same : [] ∷ [] ≡ w ∷ ws = ap pieces (sym e) ∙ cut Subtag w ws h in
-    let empty : w ≡ [] = cc in
-    no_empty (ap (is_word Subtag) (sym empty) ∙ h.0)
-
 pub unicode_value_back : (ws : List (List ℕ)) → AllByRecursion (λ w. IsNormal Subtag w × (is_true w ≡ false)) ws → unicode_value (join ws) ≡ Ok ws
-unfolding join
+unfolding join pieces
 unicode_value_back [] h = refl
-unicode_value_back (w ∷ ws) h =
-    let words = all_weaker (λ w. IsNormal Subtag w × (is_true w ≡ false)) (IsWord Subtag) (λ w n. n.0.0) (w ∷ ws) h in
-    value_of (join (w ∷ ws)) (joined_nonempty w ws words)
-    ∙ ap (λ ps. cond (list_all (is_word Subtag) ps) (Ok (normal_values ps)) (Err InvalidSubtag)) (cut Subtag w ws words)
-    ∙ ap (λ b. cond b (Ok (normal_values (w ∷ ws))) (Err InvalidSubtag)) ((tests_all (is_word Subtag) (IsWord Subtag) (tests_word Subtag) (w ∷ ws)).passes words)
-    ∙ ap Ok (values_fixed (w ∷ ws) (all_weaker (λ w. IsNormal Subtag w × (is_true w ≡ false)) (λ w. lower w ≡ w) (λ w n. n.0.1) (w ∷ ws) h) (all_weaker (λ w. IsNormal Subtag w × (is_true w ≡ false)) (λ w. is_true w ≡ false) (λ w n. n.1) (w ∷ ws) h))
+unicode_value_back (w ∷ ws) h = at (join (w ∷ ws)) (cut Subtag w ws words)
+  where
+    words : AllByRecursion (IsWord Subtag) (w ∷ ws)
+    words = all_weaker (λ w. IsNormal Subtag w × (is_true w ≡ false)) (IsWord Subtag) (λ w n. n.0.0) (w ∷ ws) h
+
+    at : (t : List ℕ) → pieces t ≡ w ∷ ws → unicode_value t ≡ Ok (w ∷ ws)
+    at [] e = let empty : [] ≡ w = cc in absurd (no_empty (ap (is_word Subtag) empty ∙ words.0))
+    at (c ∷ t) e = ap (λ ps. cond (list_all (is_word Subtag) ps) (Ok (normal_values ps)) (Err InvalidSubtag)) e
+        ∙ ap (λ b. cond b (Ok (normal_values (w ∷ ws))) (Err InvalidSubtag)) ((tests_all (is_word Subtag) (IsWord Subtag) (tests_word Subtag) (w ∷ ws)).passes words)
+        ∙ ap Ok (values_fixed (w ∷ ws) (all_weaker (λ w. IsNormal Subtag w × (is_true w ≡ false)) (λ w. lower w ≡ w) (λ w n. n.0.1) (w ∷ ws) h) (all_weaker (λ w. IsNormal Subtag w × (is_true w ≡ false)) (λ w. is_true w ≡ false) (λ w n. n.1) (w ∷ ws) h))
 
 -- an empty one of a transform is spelled `true`
 pub transform_value_back : (ws : List (List ℕ)) → AllByRecursion (λ w. IsNormal Attribute w × (is_true w ≡ false)) ws → transform_value (join (spelled_value ws)) ≡ Ok ws

@@ -19,7 +19,6 @@ use Rattle.iloc_grammar.proofs.ReadBack.{all_append}
 use Rattle.iloc_grammar.proofs.Readings.{head-spelling, blocks-spelling}
 use Rattle.iloc_grammar.proofs.SetLaws.{length-set_of-different}
 use Rattle.iloc_small.specs.Inline.{IsInline, HasFewValues}
-use Rattle.iloc_fronts.proofs.BlockRules.{apart}
 use Rattle.iloc_fronts.specs.Fronts.{FrontRead, absent, present, fields_front}
 use Rattle.iloc_fronts.proofs.FrontLaws.{unicode_taken, keywords_taken}
 use Rattle.iloc_fronts.proofs.TransformLaws.{one_front, one_longest, front_language, transform_spelled}
@@ -101,16 +100,16 @@ module _ (T : ℕ → Bool) (t : List ℕ) (h : IsInline T t) where
       let part : unicode_part (find nat_cmp 117 (by_singleton h.written.extensions)) ≡ normal_unicode u = ap (λ q. unicode_part (find nat_cmp q (by_singleton h.written.extensions))) (sym g.0) ∙ ap unicode_part found in
       record {
         unicode = λ s. short_unicode u g.1 (subst (λ (v : Unicode). length v.attributes ≤ 4) part h.attributes) (subst (λ (v : Unicode). length v.keywords ≤ 1) part h.keywords) few;
-        transform = λ s. absurd (apart _ 117 116 g.0 s (λ d. absurd (omega arith)));
-        private = λ s. absurd (apart _ 117 120 g.0 s (λ d. absurd (omega arith)));
+        transform = λ s. absurd (omega arith);
+        private = λ s. absurd (omega arith);
         no_other = no_u _ g.0;
       }
   short_extension c (transform m) g found few n =
       let part : transform_part (find nat_cmp 116 (by_singleton h.written.extensions)) ≡ normal_transform m = ap (λ q. transform_part (find nat_cmp q (by_singleton h.written.extensions))) (sym g.0) ∙ ap transform_part found in
       record {
-        unicode = λ s. absurd (apart _ 116 117 g.0 s (λ d. absurd (omega arith)));
+        unicode = λ s. absurd (omega arith);
         transform = λ s. short_transform m g.1 (subst (λ (v : Transform). IfSome v.id (λ i. length i.variants ≤ 4)) part h.transform_variants) (subst (λ (v : Transform). v.fields ≡ []) part h.no_fields);
-        private = λ s. absurd (apart _ 116 120 g.0 s (λ d. absurd (omega arith)));
+        private = λ s. absurd (omega arith);
         no_other = no_t _ g.0;
       }
   short_extension c (other ps) g found few n = absurd (cc)
@@ -123,8 +122,8 @@ module _ (T : ℕ → Bool) (t : List ℕ) (h : IsInline T t) where
   of_private None p k = tt
   of_private (Some b) p k = (
     record {
-      unicode = λ s. absurd (apart _ 120 117 p.0 s (λ d. absurd (omega arith)));
-      transform = λ s. absurd (apart _ 120 116 p.0 s (λ d. absurd (omega arith)));
+      unicode = λ s. absurd (omega arith);
+      transform = λ s. absurd (omega arith);
       private = λ s. subst (λ (n : ℕ). n ≤ 4) (length-map b.1 lower) k;
       no_other = no_x _ p.0;
     },
