@@ -1,67 +1,45 @@
 -- The equality tests decide equality.
-use Rattle.std.proofs.Common.{◌≡◌, ◌↔◌, Bool, true, ◌&&◌, ◌==◌, List, [], ◌∷◌, Option, Some, None, refl, sym, ap, subst, true≢false}
+use Rattle.std.proofs.Common.{◌≡◌, ◌↔◌, Bool, true, false, ◌&&◌, ◌==◌, [], ◌∷◌, Some, None, refl, sym, ap, subst, true≢false}
 use Rattle.std.specs.Bool.{IsTrue}
-use Rattle.std.specs.Cmp.{Equal-is, eq_by_cmp_equiv}
-use Rattle.std.proofs.lemmas.Bool.{and_parts, and_from}
-use Rattle.iloc_grammar.specs.Words.{is_same, word_cmp}
-use Rattle.iloc_grammar.specs.Written.{Identifier, Extension, unicode, transform, other}
-use Rattle.iloc_grammar.proofs.MapLaws.{word_cmp_total, same_words as words_same}
-use Rattle.iloc_grammar.proofs.RuleTests.{Tests, tests_nat}
+use Rattle.iloc_grammar.specs.Words.{is_same}
+use Rattle.iloc_grammar.specs.Written.{Identifier, unicode, transform, other}
+use Rattle.iloc_grammar.proofs.MapLaws.{same_is, same_itself}
+use Rattle.iloc_grammar.proofs.RuleTests.{Tests, tests_and, tests_like, tests_nat}
 use Rattle.iloc_steps.specs.StepTests.{DecidesEquality, all_zip, option_zip, block_zip, same_words, same_field, same_fields, same_but_variants, same_identifier, same_extension}
 
 pub iff_from_tests : {b : Bool} {P : Type 0} → Tests b P → IsTrue b ↔ P
 iff_from_tests t = (t.holds, t.passes)
 
--- the test is true of equal items alone, and of an item and itself
-pub record Equality {X : Type 0} (same : X → X → Bool) : Type 0 where
-  pub holds : (x y : X) → same x y ≡ true → x ≡ y
-  pub itself : (x : X) → same x x ≡ true
+-- the test is true of equal items alone, and of all of them
+abbrev pub Equality : {X : Type 0} → (X → X → Bool) → Type 0
+Equality {X = X} same = (x y : X) → Tests (same x y) (x ≡ y)
 
 pub decided_equality : {X : Type 0} (same : X → X → Bool) → DecidesEquality same → Equality same
-decided_equality same d = record { holds = λ x y. (d x y).0; itself = λ x. (d x x).1 refl }
-
-pub tests_equal : {X : Type 0} (same : X → X → Bool) → Equality same → (x y : X) → Tests (same x y) (x ≡ y)
-tests_equal same q x y = record { holds = q.holds x y; passes = λ e. subst (λ z. same x z ≡ true) e (q.itself x) }
-
-pub number_equality : Equality ◌==◌
-number_equality = record { holds = λ m n. (tests_nat m n).holds; itself = λ n. (tests_nat n n).passes refl }
+decided_equality same d x y = record { holds = (d x y).0; passes = (d x y).1 }
 
 pub word_equality : Equality is_same
-word_equality = record { holds = λ v w e. words_same v w ((Equal-is (word_cmp v w)).0 e); itself = (eq_by_cmp_equiv word_cmp_total).refl }
+word_equality v w = record { holds = same_is v w; passes = λ e. subst (λ u. is_same v u ≡ true) e (same_itself v) }
+
+-- of what never holds
+pub never : {P : Type 0} → ¬ P → Tests false P
+never n = record { holds = λ e. absurd (true≢false (sym e)); passes = λ p. absurd (n p) }
 
 -- pairs, lists and options
 
 pub pair_equality : {X Y : Type 0} (same : X → X → Bool) (alike : Y → Y → Bool) → Equality same → Equality alike → Equality {X = X × Y} (λ p q. same p.0 q.0 && alike p.1 q.1)
-pair_equality same alike a b = record {
-  holds = λ p q e. let parts = and_parts (same p.0 q.0) _ e in λ i. (a.holds p.0 q.0 parts.0 i, b.holds p.1 q.1 parts.1 i);
-  itself = λ p. and_from _ _ (a.itself p.0) (b.itself p.1);
-}
+pair_equality same alike a b p q = tests_like (λ (e : (p.0 ≡ q.0) × (p.1 ≡ q.1)). λ i. (e.0 i, e.1 i)) (λ (e : p ≡ q). (ap (λ p. p.0) e, ap (λ p. p.1) e)) (tests_and (a p.0 q.0) (b p.1 q.1))
 
 pub list_equality : {X : Type 0} (same : X → X → Bool) → Equality same → Equality (all_zip same)
-list_equality {X = X} same q = record { holds = holds; itself = itself }
-  where
-    holds : (xs ys : List X) → all_zip same xs ys ≡ true → xs ≡ ys
-    holds [] [] e = refl
-    holds [] (y ∷ ys) e = absurd (true≢false (sym e))
-    holds (x ∷ xs) [] e = absurd (true≢false (sym e))
-    holds (x ∷ xs) (y ∷ ys) e = let parts = and_parts (same x y) _ e in λ i. q.holds x y parts.0 i ∷ holds xs ys parts.1 i
-
-    itself : (xs : List X) → all_zip same xs xs ≡ true
-    itself [] = refl
-    itself (x ∷ xs) = and_from _ _ (q.itself x) (itself xs)
+list_equality same q [] [] = record { holds = λ e. refl; passes = λ e. refl }
+list_equality same q [] (y ∷ ys) = never (λ e. cc)
+list_equality same q (x ∷ xs) [] = never (λ e. cc)
+list_equality same q (x ∷ xs) (y ∷ ys) = tests_like (λ (e : (x ≡ y) × (xs ≡ ys)). λ i. e.0 i ∷ e.1 i) (λ (e : x ∷ xs ≡ y ∷ ys). (cc, cc)) (tests_and (q x y) (list_equality same q xs ys))
 
 pub option_equality : {X : Type 0} (same : X → X → Bool) → Equality same → Equality (option_zip same)
-option_equality {X = X} same q = record { holds = holds; itself = itself }
-  where
-    holds : (o p : Option X) → option_zip same o p ≡ true → o ≡ p
-    holds None None e = refl
-    holds None (Some y) e = absurd (true≢false (sym e))
-    holds (Some x) None e = absurd (true≢false (sym e))
-    holds (Some x) (Some y) e = ap Some (q.holds x y e)
-
-    itself : (o : Option X) → option_zip same o o ≡ true
-    itself None = refl
-    itself (Some x) = q.itself x
+option_equality same q None None = record { holds = λ e. refl; passes = λ e. refl }
+option_equality same q None (Some y) = never (λ e. cc)
+option_equality same q (Some x) None = never (λ e. cc)
+option_equality same q (Some x) (Some y) = tests_like (λ (e : x ≡ y). ap Some e) (λ (e : Some x ≡ Some y). cc) (q x y)
 
 -- the parts of a written locale
 
@@ -79,45 +57,34 @@ optional_word = option_equality is_same word_equality
 
 -- equal but for the variants
 abbrev pub FrontsEqual : Identifier → Identifier → Type 0
-FrontsEqual i j = (i.language ≡ j.language) × (i.script ≡ j.script) × (i.region ≡ j.region)
+FrontsEqual i j = (i.language ≡ j.language) × ((i.script ≡ j.script) × (i.region ≡ j.region))
 
-pub fronts_equal : (i j : Identifier) → same_but_variants i j ≡ true → FrontsEqual i j
-fronts_equal i j e =
-    let parts = and_parts (is_same i.language j.language) _ e in
-    let rest = and_parts (option_zip is_same i.script j.script) _ parts.1 in
-    (word_equality.holds _ _ parts.0, optional_word.holds _ _ rest.0, optional_word.holds _ _ rest.1)
-
-pub front_itself : (i : Identifier) → same_but_variants i i ≡ true
-front_itself i = and_from _ _ (word_equality.itself i.language) (and_from _ _ (optional_word.itself i.script) (optional_word.itself i.region))
+pub fronts_equality : (i j : Identifier) → Tests (same_but_variants i j) (FrontsEqual i j)
+fronts_equality i j = tests_and (word_equality i.language j.language) (tests_and (optional_word i.script j.script) (optional_word i.region j.region))
 
 pub identifier_equality : Equality same_identifier
-identifier_equality = record {
-  holds = λ i j e.
-      let parts = and_parts (same_but_variants i j) _ e in
-      let f = fronts_equal i j parts.0 in
-      λ k. record { language = f.0 k; script = f.1 k; region = f.2 k; variants = words_equality.holds i.variants j.variants parts.1 k };
-  itself = λ i. and_from _ _ (front_itself i) (words_equality.itself i.variants);
-}
+identifier_equality i j = tests_like
+    (λ (e : FrontsEqual i j × (i.variants ≡ j.variants)). λ k. record { language = e.0.0 k; script = e.0.1.0 k; region = e.0.1.1 k; variants = e.1 k })
+    (λ (e : i ≡ j). ((ap (λ i. i.language) e, (ap (λ i. i.script) e, ap (λ i. i.region) e)), ap (λ i. i.variants) e))
+    (tests_and (fronts_equality i j) (words_equality i.variants j.variants))
 
 pub optional_equality : Equality (option_zip same_identifier)
 optional_equality = option_equality same_identifier identifier_equality
 
 pub extension_equality : Equality same_extension
-extension_equality = record { holds = holds; itself = itself }
-  where
-    holds : (e f : Extension) → same_extension e f ≡ true → e ≡ f
-    holds (unicode u) (unicode v) h = let parts = and_parts (same_words u.attributes v.attributes) _ h in λ i. unicode (record { attributes = words_equality.holds u.attributes v.attributes parts.0 i; keywords = fields_equality.holds u.keywords v.keywords parts.1 i })
-    holds (transform m) (transform n) h = let parts = and_parts (option_zip same_identifier m.id n.id) _ h in λ i. transform (record { id = optional_equality.holds m.id n.id parts.0 i; fields = fields_equality.holds m.fields n.fields parts.1 i })
-    holds (other ps) (other qs) h = ap other (words_equality.holds ps qs h)
-    holds _ _ h = absurd (true≢false (sym h))
-
-    itself : (e : Extension) → same_extension e e ≡ true
-    itself (unicode u) = and_from _ _ (words_equality.itself u.attributes) (fields_equality.itself u.keywords)
-    itself (transform m) = and_from _ _ (optional_equality.itself m.id) (fields_equality.itself m.fields)
-    itself (other ps) = words_equality.itself ps
+extension_equality (unicode u) (unicode v) = tests_like
+    (λ (e : (u.attributes ≡ v.attributes) × (u.keywords ≡ v.keywords)). λ i. unicode (record { attributes = e.0 i; keywords = e.1 i }))
+    (λ (e : unicode u ≡ unicode v). let k : u ≡ v = cc in (ap (λ u. u.attributes) k, ap (λ u. u.keywords) k))
+    (tests_and (words_equality u.attributes v.attributes) (fields_equality u.keywords v.keywords))
+extension_equality (transform m) (transform n) = tests_like
+    (λ (e : (m.id ≡ n.id) × (m.fields ≡ n.fields)). λ i. transform (record { id = e.0 i; fields = e.1 i }))
+    (λ (e : transform m ≡ transform n). let k : m ≡ n = cc in (ap (λ m. m.id) k, ap (λ m. m.fields) k))
+    (tests_and (optional_equality m.id n.id) (fields_equality m.fields n.fields))
+extension_equality (other ps) (other qs) = tests_like (λ (e : ps ≡ qs). ap other e) (λ (e : other ps ≡ other qs). cc) (words_equality ps qs)
+extension_equality _ _ = never (λ e. cc)
 
 pub block_equality : Equality (block_zip same_extension)
-block_equality = pair_equality ◌==◌ same_extension number_equality extension_equality
+block_equality = pair_equality ◌==◌ same_extension tests_nat extension_equality
 
 pub private_equality : Equality (option_zip (block_zip same_words))
-private_equality = option_equality (block_zip same_words) (pair_equality ◌==◌ same_words number_equality words_equality)
+private_equality = option_equality (block_zip same_words) (pair_equality ◌==◌ same_words tests_nat words_equality)

@@ -8,15 +8,15 @@ use Rattle.iloc_grammar.proofs.Orders.{total, total_reordered}
 use Rattle.iloc_grammar.proofs.Sorting.{itself}
 use Rattle.iloc_grammar.proofs.RuleTests.{Tests, tests_and, tests_either, tests_like}
 use Rattle.iloc_steps.specs.StepTests.{all_zip, take_out, is_reordered, is_without, was_seen, is_without_repeats}
-use Rattle.iloc_steps.proofs.Equality.{Equality, tests_equal}
+use Rattle.iloc_steps.proofs.Equality.{Equality, never}
 
 tests_itself : (b : Bool) → Tests b (b ≡ true)
 tests_itself b = record { holds = λ e. e; passes = λ e. e }
 
 pub tests_zip : {X : Type 0} (test : X → X → Bool) (R : X → X → Type 0) → ((x y : X) → Tests (test x y) (R x y)) → (xs ys : List X) → Tests (all_zip test xs ys) (AllZip R xs ys)
 tests_zip test R t [] [] = record { holds = λ e. tt; passes = λ z. refl }
-tests_zip test R t [] (y ∷ ys) = record { holds = λ e. absurd (true≢false (sym e)); passes = λ z. absurd z }
-tests_zip test R t (x ∷ xs) [] = record { holds = λ e. absurd (true≢false (sym e)); passes = λ z. absurd z }
+tests_zip test R t [] (y ∷ ys) = never (λ z. z)
+tests_zip test R t (x ∷ xs) [] = never (λ z. z)
 tests_zip test R t (x ∷ xs) (y ∷ ys) = tests_and (t x y) (tests_zip test R t xs ys)
 
 module _ {X : Type 0} (same : X → X → Bool) (q : Equality same) where
@@ -24,11 +24,10 @@ module _ {X : Type 0} (same : X → X → Bool) (q : Equality same) where
 
   put_back : (x : X) (ys : List X) → list_any (same x) ys ≡ true → Reordered (x ∷ take_out same x ys) ys
   put_back x [] e = absurd (true≢false (sym e))
-  put_back x (y ∷ ys) e = at_first (same x y) refl e (λ h. put_back x ys h)
-    where
-      at_first : (b : Bool) → same x y ≡ b → (b || list_any (same x) ys) ≡ true → (list_any (same x) ys ≡ true → Reordered (x ∷ take_out same x ys) ys) → Reordered (x ∷ cond b ys (y ∷ take_out same x ys)) (y ∷ ys)
-      at_first true s e rest = subst (λ z. Reordered (x ∷ ys) (z ∷ ys)) ((tests_equal same q x y).holds s) (itself (x ∷ ys))
-      at_first false s e rest = Reordered.in_turn Reordered.first_two (Reordered.front_kept (rest e))
+  put_back x (y ∷ ys) e = (elim (same x y) as (λ b. same x y ≡ b → (b || list_any (same x) ys) ≡ true → Reordered (x ∷ cond b ys (y ∷ take_out same x ys)) (y ∷ ys)) [
+    | true ↦ λ s e. subst (λ z. Reordered (x ∷ ys) (z ∷ ys)) ((q x y).holds s) (itself (x ∷ ys))
+    | false ↦ λ s e. Reordered.in_turn Reordered.first_two (Reordered.front_kept (put_back x ys e))
+  ]) refl e
 
   reordered_holds : (xs ys : List X) → is_reordered same xs ys ≡ true → Reordered xs ys
   reordered_holds [] [] e = Reordered.none
@@ -44,14 +43,13 @@ module _ {X : Type 0} (same : X → X → Bool) (q : Equality same) where
 
   any_from_occurrences : (x : X) (ys : List X) → 0 < occurrences x ys → list_any (same x) ys ≡ true
   any_from_occurrences x [] h = absurd (omega arith)
-  any_from_occurrences x (y ∷ ys) h = at_first (same x y) h (λ l. any_from_occurrences x ys l)
-    where
-      at_first : (b : Bool) → 0 < cond b 1 0 + occurrences x ys → (0 < occurrences x ys → list_any (same x) ys ≡ true) → (b || list_any (same x) ys) ≡ true
-      at_first true h rest = refl
-      at_first false h rest = rest (omega arith)
+  any_from_occurrences x (y ∷ ys) h = (elim (same x y) as (λ b. 0 < cond b 1 0 + occurrences x ys → (b || list_any (same x) ys) ≡ true) [
+    | true ↦ λ h. refl
+    | false ↦ λ h. any_from_occurrences x ys (omega arith)
+  ]) h
 
   at_itself : (x : X) → at_one x x ≡ 1
-  at_itself x = let e : same x x ≡ true = (tests_equal same q x x).passes refl in ap (λ (b : Bool). cond b 1 0) e
+  at_itself x = let e : same x x ≡ true = (q x x).passes refl in ap (λ (b : Bool). cond b 1 0) e
 
   -- where each item occurs as often in both lists, they have the same items
   reordered_from_occurrences : (xs ys : List X) → ((z : X) → occurrences z ys ≡ occurrences z xs) → is_reordered same xs ys ≡ true
@@ -79,14 +77,11 @@ module _ {X : Type 0} (same : X → X → Bool) (q : Equality same) where
     last_without : {x : X} {xs : List X} → Without test (x ∷ xs) [] → (test x ≡ true) × Without test xs []
     last_without (Without.left_out e w) = (e, w)
 
-    none_without : {y : X} {ys : List X} → Without test [] (y ∷ ys) → ⊥
-    none_without w = elim w [ ]
-
     pub tests_without : (xs ys : List X) → Tests (is_without same test xs ys) (Without test xs ys)
     tests_without [] [] = record { holds = λ e. Without.none; passes = λ w. refl }
-    tests_without [] (y ∷ ys) = record { holds = λ e. absurd (true≢false (sym e)); passes = λ w. absurd (none_without w) }
+    tests_without [] (y ∷ ys) = never (λ w. elim w [ ])
     tests_without (x ∷ xs) [] = tests_like (λ (p : (test x ≡ true) × Without test xs []). Without.left_out p.0 p.1) last_without (tests_and (tests_itself (test x)) (tests_without xs []))
-    tests_without (x ∷ xs) (y ∷ ys) = tests_like without_next next_without (tests_either (tests_and (tests_equal same q x y) (tests_without xs ys)) (tests_and (tests_itself (test x)) (tests_without xs (y ∷ ys))))
+    tests_without (x ∷ xs) (y ∷ ys) = tests_like without_next next_without (tests_either (tests_and (q x y) (tests_without xs ys)) (tests_and (tests_itself (test x)) (tests_without xs (y ∷ ys))))
 
   -- repeats left out
 
@@ -105,11 +100,8 @@ module _ {X : Type 0} (same : X → X → Bool) (q : Equality same) where
     last_repeats : {seen : List (List ℕ)} {x : X} {xs : List X} → WithoutRepeats key seen (x ∷ xs) [] → (was_seen key seen x ≡ true) × WithoutRepeats key seen xs []
     last_repeats (WithoutRepeats.left_out e w) = (e, w)
 
-    none_repeats : {seen : List (List ℕ)} {y : X} {ys : List X} → WithoutRepeats key seen [] (y ∷ ys) → ⊥
-    none_repeats w = elim w [ ]
-
     pub tests_without_repeats : (seen : List (List ℕ)) (xs ys : List X) → Tests (is_without_repeats same key seen xs ys) (WithoutRepeats key seen xs ys)
     tests_without_repeats seen [] [] = record { holds = λ e. WithoutRepeats.none; passes = λ w. refl }
-    tests_without_repeats seen [] (y ∷ ys) = record { holds = λ e. absurd (true≢false (sym e)); passes = λ w. absurd (none_repeats w) }
+    tests_without_repeats seen [] (y ∷ ys) = never (λ w. elim w [ ])
     tests_without_repeats seen (x ∷ xs) [] = tests_like (λ (p : (was_seen key seen x ≡ true) × WithoutRepeats key seen xs []). WithoutRepeats.left_out p.0 p.1) last_repeats (tests_and (tests_itself (was_seen key seen x)) (tests_without_repeats seen xs []))
-    tests_without_repeats seen (x ∷ xs) (y ∷ ys) = tests_like repeats_next next_repeats (tests_either (tests_and (tests_equal same q x y) (tests_without_repeats (lower (key x) ∷ seen) xs ys)) (tests_and (tests_itself (was_seen key seen x)) (tests_without_repeats seen xs (y ∷ ys))))
+    tests_without_repeats seen (x ∷ xs) (y ∷ ys) = tests_like repeats_next next_repeats (tests_either (tests_and (q x y) (tests_without_repeats (lower (key x) ∷ seen) xs ys)) (tests_and (tests_itself (was_seen key seen x)) (tests_without_repeats seen xs (y ∷ ys))))

@@ -2,20 +2,20 @@
 use Rattle.std.proofs.Common.{◌≡◌, ◌⊎◌, inl, inr, ℕ, ◌<◌, Bool, true, false, not, ◌&&◌, List, [], ◌∷◌, length, map, Option, Some, None, nat_lt, refl, sym, subst, arith, true≢false}
 use Rattle.std.specs.List.{AllZip, list_any}
 use Rattle.std.proofs.lemmas.Bool.{and_parts, and_from, or_cases, or_left, or_right}
-use Rattle.std.proofs.lemmas.List.Folds.{list_any_at}
+use Rattle.std.proofs.Math.Bool.{or-true}
 use Rattle.iloc_grammar.specs.Words.{Subtag, is_word, lower, is_same, is_true, word_cmp}
 use Rattle.iloc_grammar.specs.Written.{Identifier, Fields, Unicode, Transform, Extension, unicode, transform, other, Written}
 use Rattle.iloc_grammar.specs.Steps.{Reordered, WithoutRepeats, LessTrue, keys_differ, Rule, VariantOrder, AttributeOrder, FieldOrder, Repeats, Trues, DroppedPieces, IdentifierStep, ExtensionStep, Step}
 use Rattle.iloc_grammar.proofs.RuleTests.{Tests, tests_and, tests_like, tests_different, tests_positive, tests_nat}
 use Rattle.iloc_grammar.proofs.Sorting.{itself}
-use Rattle.iloc_steps.specs.StepTests.{all_zip, option_zip, block_zip, same_words, same_field, same_fields, same_but_variants, same_identifier, same_extension, has_less_true, are_fields_reordered, are_fields_without_repeats, is_identifier_step, is_unicode_step, is_fields_step, is_transform_step, is_other_step, is_change, is_extension_step, rules, is_block_order, is_step_by, is_step}
-use Rattle.iloc_steps.proofs.Equality.{tests_equal, word_equality, words_equality, field_equality, fields_equality, FrontsEqual, fronts_equal, front_itself, identifier_equality, optional_equality, extension_equality, block_equality, private_equality}
+use Rattle.iloc_steps.specs.StepTests.{all_zip, option_zip, block_zip, same_words, same_field, same_fields, same_identifier, same_extension, has_less_true, are_fields_reordered, are_fields_without_repeats, is_identifier_step, is_unicode_step, is_fields_step, is_transform_step, is_other_step, is_change, is_extension_step, rules, is_block_order, is_step_by, is_step}
+use Rattle.iloc_steps.proofs.Equality.{word_equality, words_equality, field_equality, fields_equality, FrontsEqual, fronts_equality, identifier_equality, optional_equality, extension_equality, block_equality, private_equality}
 use Rattle.iloc_steps.proofs.ListTests.{tests_zip, tests_reordered, tests_without, tests_without_repeats}
 
 -- fields
 
 pub tests_less_true : (f g : List ℕ × List (List ℕ)) → Tests (has_less_true f g) (LessTrue f g)
-tests_less_true f g = tests_and (tests_equal is_same word_equality f.0 g.0) (tests_without is_same word_equality (λ p. is_true (lower p)) f.1 g.1)
+tests_less_true f g = tests_and (word_equality f.0 g.0) (tests_without is_same word_equality (λ p. is_true (lower p)) f.1 g.1)
 
 abbrev KeepsValue : List ℕ × List (List ℕ) → List ℕ × List (List ℕ) → Type 0
 KeepsValue f g = LessTrue f g × (0 < length g.1)
@@ -42,21 +42,18 @@ unchanged h IdentifierStep.same = refl
 unchanged h (IdentifierStep.variants p) = absurd (true≢false h)
 
 tests_unchanged : (r : Rule) → orders_variants r ≡ false → (i j : Identifier) → Tests (same_identifier i j) (IdentifierStep r i j)
-tests_unchanged r h i j = tests_like (λ (e : i ≡ j). subst (IdentifierStep r i) e IdentifierStep.same) (unchanged h) (tests_equal same_identifier identifier_equality i j)
+tests_unchanged r h i j = tests_like (λ (e : i ≡ j). subst (IdentifierStep r i) e IdentifierStep.same) (unchanged h) (identifier_equality i j)
 
 variants_step : (i j : Identifier) → FrontsEqual i j → Reordered i.variants j.variants → IdentifierStep VariantOrder i j
-variants_step i j f p = subst (IdentifierStep VariantOrder i) (λ k. record { language = f.0 k; script = f.1 k; region = f.2 k; variants = j.variants }) (IdentifierStep.variants p)
+variants_step i j f p = subst (IdentifierStep VariantOrder i) (λ k. record { language = f.0 k; script = f.1.0 k; region = f.1.1 k; variants = j.variants }) (IdentifierStep.variants p)
 
-step_variants : {i j : Identifier} → IdentifierStep VariantOrder i j → is_identifier_step VariantOrder i j ≡ true
-step_variants {i = i} IdentifierStep.same = and_from _ _ (front_itself i) ((tests_reordered is_same word_equality i.variants i.variants).passes (itself i.variants))
-step_variants {i = i} {j = j} (IdentifierStep.variants p) = and_from _ _ (front_itself i) ((tests_reordered is_same word_equality i.variants j.variants).passes p)
+step_variants : {i j : Identifier} → IdentifierStep VariantOrder i j → FrontsEqual i j × Reordered i.variants j.variants
+step_variants {i = i} IdentifierStep.same = ((refl, (refl, refl)), itself i.variants)
+step_variants (IdentifierStep.variants p) = ((refl, (refl, refl)), p)
 
 pub tests_identifier_step : (r : Rule) (i j : Identifier) → Tests (is_identifier_step r i j) (IdentifierStep r i j)
 unfolding orders_variants
-tests_identifier_step VariantOrder i j = record {
-  holds = λ e. let parts = and_parts (same_but_variants i j) _ e in variants_step i j (fronts_equal i j parts.0) ((tests_reordered is_same word_equality i.variants j.variants).holds parts.1);
-  passes = step_variants;
-}
+tests_identifier_step VariantOrder i j = tests_like (λ (p : FrontsEqual i j × Reordered i.variants j.variants). variants_step i j p.0 p.1) step_variants (tests_and (fronts_equality i j) (tests_reordered is_same word_equality i.variants j.variants))
 tests_identifier_step r i j = tests_unchanged r refl i j
 
 -- extensions
@@ -64,17 +61,17 @@ tests_identifier_step r i j = tests_unchanged r refl i j
 unicode_holds : (r : Rule) (u v : Unicode) → is_unicode_step r u v ≡ true → ExtensionStep r (unicode u) (unicode v)
 unicode_holds AttributeOrder u v e =
     let parts = and_parts _ (same_fields u.keywords v.keywords) e in
-    subst (λ fs. ExtensionStep AttributeOrder (unicode u) (unicode (record { attributes = v.attributes; keywords = fs }))) (fields_equality.holds u.keywords v.keywords parts.1) (ExtensionStep.attribute_order ((tests_reordered is_same word_equality u.attributes v.attributes).holds parts.0))
+    subst (λ fs. ExtensionStep AttributeOrder (unicode u) (unicode (record { attributes = v.attributes; keywords = fs }))) ((fields_equality u.keywords v.keywords).holds parts.1) (ExtensionStep.attribute_order ((tests_reordered is_same word_equality u.attributes v.attributes).holds parts.0))
 unicode_holds FieldOrder u v e =
     let parts = and_parts (same_words u.attributes v.attributes) _ e in
     let o = (tests_fields_reordered u.keywords v.keywords).holds parts.1 in
-    subst (λ vs. ExtensionStep FieldOrder (unicode u) (unicode (record { attributes = vs; keywords = v.keywords }))) (words_equality.holds u.attributes v.attributes parts.0) (ExtensionStep.keyword_order o.0 o.1)
+    subst (λ vs. ExtensionStep FieldOrder (unicode u) (unicode (record { attributes = vs; keywords = v.keywords }))) ((words_equality u.attributes v.attributes).holds parts.0) (ExtensionStep.keyword_order o.0 o.1)
 unicode_holds Repeats u v e =
     let parts = and_parts _ (are_fields_without_repeats u.keywords v.keywords) e in
     ExtensionStep.unicode_repeats ((tests_without_repeats is_same word_equality (λ a. a) [] u.attributes v.attributes).holds parts.0) ((tests_fields_without_repeats u.keywords v.keywords).holds parts.1)
 unicode_holds Trues u v e =
     let parts = and_parts (same_words u.attributes v.attributes) _ e in
-    subst (λ vs. ExtensionStep Trues (unicode u) (unicode (record { attributes = vs; keywords = v.keywords }))) (words_equality.holds u.attributes v.attributes parts.0) (ExtensionStep.unicode_trues ((tests_zip has_less_true LessTrue tests_less_true u.keywords v.keywords).holds parts.1))
+    subst (λ vs. ExtensionStep Trues (unicode u) (unicode (record { attributes = vs; keywords = v.keywords }))) ((words_equality u.attributes v.attributes).holds parts.0) (ExtensionStep.unicode_trues ((tests_zip has_less_true LessTrue tests_less_true u.keywords v.keywords).holds parts.1))
 unicode_holds _ u v e = absurd (true≢false (sym e))
 
 fields_holds : (r : Rule) (o : Option Identifier) (fs gs : Fields) → is_fields_step r fs gs ≡ true → ExtensionStep r (transform (record { id = o; fields = fs })) (transform (record { id = o; fields = gs }))
@@ -90,15 +87,14 @@ optional_holds r (Some i) None fs e = absurd (true≢false (sym e))
 optional_holds r (Some i) (Some j) fs e = ExtensionStep.identifier ((tests_identifier_step r i j).holds e)
 
 transform_holds : (r : Rule) (m n : Transform) → is_transform_step r m n ≡ true → ExtensionStep r (transform m) (transform n)
-transform_holds r m n e = at_case (or_cases _ _ e)
-  where
-    at_case : ((option_zip (is_identifier_step r) m.id n.id && same_fields m.fields n.fields) ≡ true) ⊎ ((option_zip same_identifier m.id n.id && is_fields_step r m.fields n.fields) ≡ true) → ExtensionStep r (transform m) (transform n)
-    at_case (inl h) =
-        let parts = and_parts (option_zip (is_identifier_step r) m.id n.id) _ h in
-        subst (λ fs. ExtensionStep r (transform m) (transform (record { id = n.id; fields = fs }))) (fields_equality.holds m.fields n.fields parts.1) (optional_holds r m.id n.id m.fields parts.0)
-    at_case (inr h) =
-        let parts = and_parts (option_zip same_identifier m.id n.id) _ h in
-        subst (λ o. ExtensionStep r (transform m) (transform (record { id = o; fields = n.fields }))) (optional_equality.holds m.id n.id parts.0) (fields_holds r m.id m.fields n.fields parts.1)
+transform_holds r m n e = elim (or_cases _ _ e) [
+  | inl h ↦
+      let parts = and_parts (option_zip (is_identifier_step r) m.id n.id) _ h in
+      subst (λ fs. ExtensionStep r (transform m) (transform (record { id = n.id; fields = fs }))) ((fields_equality m.fields n.fields).holds parts.1) (optional_holds r m.id n.id m.fields parts.0)
+  | inr h ↦
+      let parts = and_parts (option_zip same_identifier m.id n.id) _ h in
+      subst (λ o. ExtensionStep r (transform m) (transform (record { id = o; fields = n.fields }))) ((optional_equality m.id n.id).holds parts.0) (fields_holds r m.id m.fields n.fields parts.1)
+]
 
 other_holds : (r : Rule) (ps qs : List (List ℕ)) → is_other_step r ps qs ≡ true → ExtensionStep r (other ps) (other qs)
 other_holds DroppedPieces ps qs e = ExtensionStep.dropped_pieces ((tests_without is_same word_equality (λ p. not (is_word Subtag p)) ps qs).holds e)
@@ -111,22 +107,21 @@ change_holds r (other ps) (other qs) h = other_holds r ps qs h
 change_holds r _ _ h = absurd (true≢false (sym h))
 
 extension_holds : (r : Rule) (e f : Extension) → is_extension_step r e f ≡ true → ExtensionStep r e f
-extension_holds r e f h = at_case (or_cases _ _ h)
-  where
-    at_case : (same_extension e f ≡ true) ⊎ (is_change r e f ≡ true) → ExtensionStep r e f
-    at_case (inl s) = subst (ExtensionStep r e) (extension_equality.holds e f s) ExtensionStep.same
-    at_case (inr c) = change_holds r e f c
+extension_holds r e f h = elim (or_cases _ _ h) [
+  | inl s ↦ subst (ExtensionStep r e) ((extension_equality e f).holds s) ExtensionStep.same
+  | inr c ↦ change_holds r e f c
+]
 
 extension_passes : {r : Rule} {e f : Extension} → ExtensionStep r e f → is_extension_step r e f ≡ true
-extension_passes {e = e} ExtensionStep.same = or_left _ _ (extension_equality.itself e)
-extension_passes (ExtensionStep.identifier {r = r} {i = i} {j = j} {fs = fs} s) = or_right _ _ (or_left _ _ (and_from _ _ ((tests_identifier_step r i j).passes s) (fields_equality.itself fs)))
-extension_passes (ExtensionStep.attribute_order {vs = vs} {ws = ws} {fs = fs} o) = or_right _ _ (and_from _ _ ((tests_reordered is_same word_equality vs ws).passes o) (fields_equality.itself fs))
-extension_passes (ExtensionStep.keyword_order {vs = vs} {fs = fs} {gs = gs} d o) = or_right _ _ (and_from _ _ (words_equality.itself vs) ((tests_fields_reordered fs gs).passes (d, o)))
-extension_passes (ExtensionStep.field_order {i = i} {fs = fs} {gs = gs} d o) = or_right _ _ (or_right _ _ (and_from _ _ (optional_equality.itself i) ((tests_fields_reordered fs gs).passes (d, o))))
+extension_passes {e = e} ExtensionStep.same = or_left _ _ ((extension_equality e e).passes refl)
+extension_passes (ExtensionStep.identifier {r = r} {i = i} {j = j} {fs = fs} s) = or_right _ _ (or_left _ _ (and_from _ _ ((tests_identifier_step r i j).passes s) ((fields_equality fs fs).passes refl)))
+extension_passes (ExtensionStep.attribute_order {vs = vs} {ws = ws} {fs = fs} o) = or_right _ _ (and_from _ _ ((tests_reordered is_same word_equality vs ws).passes o) ((fields_equality fs fs).passes refl))
+extension_passes (ExtensionStep.keyword_order {vs = vs} {fs = fs} {gs = gs} d o) = or_right _ _ (and_from _ _ ((words_equality vs vs).passes refl) ((tests_fields_reordered fs gs).passes (d, o)))
+extension_passes (ExtensionStep.field_order {i = i} {fs = fs} {gs = gs} d o) = or_right _ _ (or_right _ _ (and_from _ _ ((optional_equality i i).passes refl) ((tests_fields_reordered fs gs).passes (d, o))))
 extension_passes (ExtensionStep.unicode_repeats {vs = vs} {ws = ws} {fs = fs} {gs = gs} a s) = or_right _ _ (and_from _ _ ((tests_without_repeats is_same word_equality (λ a. a) [] vs ws).passes a) ((tests_fields_without_repeats fs gs).passes s))
-extension_passes (ExtensionStep.transform_repeats {i = i} {fs = fs} {gs = gs} s) = or_right _ _ (or_right _ _ (and_from _ _ (optional_equality.itself i) ((tests_fields_without_repeats fs gs).passes s)))
-extension_passes (ExtensionStep.unicode_trues {vs = vs} {fs = fs} {gs = gs} z) = or_right _ _ (and_from _ _ (words_equality.itself vs) ((tests_zip has_less_true LessTrue tests_less_true fs gs).passes z))
-extension_passes (ExtensionStep.transform_trues {i = i} {fs = fs} {gs = gs} z) = or_right _ _ (or_right _ _ (and_from _ _ (optional_equality.itself i) ((tests_keeps_value fs gs).passes z)))
+extension_passes (ExtensionStep.transform_repeats {i = i} {fs = fs} {gs = gs} s) = or_right _ _ (or_right _ _ (and_from _ _ ((optional_equality i i).passes refl) ((tests_fields_without_repeats fs gs).passes s)))
+extension_passes (ExtensionStep.unicode_trues {vs = vs} {fs = fs} {gs = gs} z) = or_right _ _ (and_from _ _ ((words_equality vs vs).passes refl) ((tests_zip has_less_true LessTrue tests_less_true fs gs).passes z))
+extension_passes (ExtensionStep.transform_trues {i = i} {fs = fs} {gs = gs} z) = or_right _ _ (or_right _ _ (and_from _ _ ((optional_equality i i).passes refl) ((tests_keeps_value fs gs).passes z)))
 extension_passes (ExtensionStep.dropped_pieces {ps = ps} {qs = qs} w) = or_right _ _ ((tests_without is_same word_equality (λ p. not (is_word Subtag p)) ps qs).passes w)
 
 pub tests_extension_step : (r : Rule) (e f : Extension) → Tests (is_extension_step r e f) (ExtensionStep r e f)
@@ -143,39 +138,30 @@ tests_block_steps r es fs = tests_zip (block_zip (is_extension_step r)) (BlockSt
 -- some rule passes the test, and any that does is among them
 some_rule : {test : Rule → Bool} (rs : List Rule) → list_any test rs ≡ true → (r : Rule) × (test r ≡ true)
 some_rule [] e = absurd (true≢false (sym e))
-some_rule {test = test} (r ∷ rs) e = at_case (or_cases _ _ e) (some_rule {test = test} rs)
-  where
-    at_case : (test r ≡ true) ⊎ (list_any test rs ≡ true) → (list_any test rs ≡ true → (r : Rule) × (test r ≡ true)) → (r : Rule) × (test r ≡ true)
-    at_case (inl h) rest = (r, h)
-    at_case (inr h) rest = rest h
+some_rule {test = test} (r ∷ rs) e = elim (or_cases _ _ e) [ inl h ↦ (r, h) | inr h ↦ some_rule {test = test} rs h ]
 
 among_rules : (test : Rule → Bool) (r : Rule) → test r ≡ true → list_any test rules ≡ true
-among_rules test VariantOrder e = list_any_at test rules 0 VariantOrder (omega arith) e
-among_rules test AttributeOrder e = list_any_at test rules 1 VariantOrder (omega arith) e
-among_rules test FieldOrder e = list_any_at test rules 2 VariantOrder (omega arith) e
-among_rules test Repeats e = list_any_at test rules 3 VariantOrder (omega arith) e
-among_rules test Trues e = list_any_at test rules 4 VariantOrder (omega arith) e
-among_rules test DroppedPieces e = list_any_at test rules 5 VariantOrder (omega arith) e
+among_rules test VariantOrder e = simp e
+among_rules test _ e = simp (e, or-true)
 
 step_holds : (v w : Written) → is_step v w ≡ true → Step v w
 unfolding is_step
 step_holds v w e =
     let parts = and_parts (option_zip (block_zip same_words) v.private w.private) _ e in
-    subst (λ x. Step v (record { id = w.id; extensions = w.extensions; private = x })) (private_equality.holds v.private w.private parts.0) (at_case (or_cases _ _ parts.1))
-  where
-    at_case : (is_block_order v w ≡ true) ⊎ (list_any (λ r. is_step_by r v w) rules ≡ true) → Step v (record { id = w.id; extensions = w.extensions; private = v.private })
-    at_case (inl h) =
-        let parts = and_parts (same_identifier v.id w.id) _ h in
-        subst (λ i. Step v (record { id = i; extensions = w.extensions; private = v.private })) (identifier_equality.holds v.id w.id parts.0) (Step.block_order ((tests_reordered (block_zip same_extension) block_equality v.extensions w.extensions).holds parts.1))
-    at_case (inr h) =
-        let some = some_rule {test = λ r. is_step_by r v w} rules h in
-        let parts = and_parts (is_identifier_step some.0 v.id w.id) _ some.1 in
-        Step.inside some.0 ((tests_identifier_step some.0 v.id w.id).holds parts.0) ((tests_block_steps some.0 v.extensions w.extensions).holds parts.1)
+    subst (λ x. Step v (record { id = w.id; extensions = w.extensions; private = x })) ((private_equality v.private w.private).holds parts.0) (elim (or_cases _ _ parts.1) [
+      | inl h ↦
+          let parts = and_parts (same_identifier v.id w.id) _ h in
+          subst (λ i. Step v (record { id = i; extensions = w.extensions; private = v.private })) ((identifier_equality v.id w.id).holds parts.0) (Step.block_order ((tests_reordered (block_zip same_extension) block_equality v.extensions w.extensions).holds parts.1))
+      | inr h ↦
+          let some = some_rule {test = λ r. is_step_by r v w} rules h in
+          let parts = and_parts (is_identifier_step some.0 v.id w.id) _ some.1 in
+          Step.inside some.0 ((tests_identifier_step some.0 v.id w.id).holds parts.0) ((tests_block_steps some.0 v.extensions w.extensions).holds parts.1)
+    ])
 
 step_passes : {v w : Written} → Step v w → is_step v w ≡ true
 unfolding is_step
-step_passes {v = v} {w = w} (Step.block_order o) = and_from _ _ (private_equality.itself v.private) (or_left _ _ (and_from _ _ (identifier_equality.itself v.id) ((tests_reordered (block_zip same_extension) block_equality v.extensions w.extensions).passes o)))
-step_passes {v = v} {w = w} (Step.inside r s z) = and_from _ _ (private_equality.itself v.private) (or_right (is_block_order v w) _ (among_rules (λ r. is_step_by r v w) r (and_from _ _ ((tests_identifier_step r v.id w.id).passes s) ((tests_block_steps r v.extensions w.extensions).passes z))))
+step_passes {v = v} {w = w} (Step.block_order o) = and_from _ _ ((private_equality v.private v.private).passes refl) (or_left _ _ (and_from _ _ ((identifier_equality v.id v.id).passes refl) ((tests_reordered (block_zip same_extension) block_equality v.extensions w.extensions).passes o)))
+step_passes {v = v} {w = w} (Step.inside r s z) = and_from _ _ ((private_equality v.private v.private).passes refl) (or_right (is_block_order v w) _ (among_rules (λ r. is_step_by r v w) r (and_from _ _ ((tests_identifier_step r v.id w.id).passes s) ((tests_block_steps r v.extensions w.extensions).passes z))))
 
 pub tests_step : (v w : Written) → Tests (is_step v w) (Step v w)
 tests_step v w = record { holds = step_holds v w; passes = step_passes }
