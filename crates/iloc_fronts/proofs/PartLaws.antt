@@ -1,8 +1,11 @@
 -- Parts with their singletons.
-use Rattle.std.proofs.Common.{◌≡◌, ◌⊎◌, inl, inr, ℕ, Bool, true, false, List, [], ◌∷◌, refl, sym, ap, ◌∙◌, subst, true≢false}
+use Rattle.std.proofs.Common.{◌≡◌, ℕ, Bool, List, refl, sym, ap, ◌∙◌, subst, true≢false, Result}
 use Rattle.std.specs.Char.{to_ascii_lowercase}
 use Rattle.iloc_grammar.specs.Faults.{Fault}
 use Rattle.iloc_fronts.specs.Readers.{IsReader}
+use Rattle.iloc_fronts.specs.PartComputing.{part_result}
+use Rattle.iloc_fronts.proofs.ReaderLaws.{reader_of, Answers}
+use Rattle.iloc_fronts.proofs.PartAnswers.{part_answer}
 use Rattle.iloc_fronts.specs.Parts.{begins_part, PartRead, PartFault, no_singleton, after_singleton}
 
 -- A singleton before a reader makes a reader.
@@ -28,21 +31,5 @@ module _ {X : Type 0} (test : ℕ → Bool) (R : List (List ℕ) → X → List 
       let afters : after ≡ later = cc in
       reader.one_fault later f g (subst (λ (l : List (List ℕ)). F l f) afters x) y
 
-  abbrev Either : List (List ℕ) → Type 0
-  Either ps = ((v : ℕ × X) × (rest : List (List ℕ)) × PartRead test R ps v rest) ⊎ ((f : Fault) × PartFault test F ps f)
-
-  at_byte : (b : ℕ) (ps : List (List ℕ)) (x : Bool) → test (to_ascii_lowercase b) ≡ x → Either ((b ∷ []) ∷ ps)
-  at_byte b ps false e = inr (_, no_singleton e)
-  at_byte b ps true e = elim (reader.either ps) [
-    | inl r ↦ inl ((to_ascii_lowercase b, r.0), r.1, record { byte = b; after = ps; spelled = refl; singleton = refl; passes = e; reads = r.2 })
-    | inr f ↦ inr (f.0, after_singleton refl e f.1)
-  ]
-
-  either : (ps : List (List ℕ)) → Either ps
-  either [] = inr (_, no_singleton refl)
-  either ([] ∷ ps) = inr (_, no_singleton refl)
-  either ((b ∷ c ∷ p) ∷ ps) = inr (_, no_singleton refl)
-  either ((b ∷ []) ∷ ps) = at_byte b ps (test (to_ascii_lowercase b)) refl
-
-  pub part_reader : IsReader (PartRead test R) (PartFault test F)
-  part_reader = record { one = one; either = either; apart = apart; one_fault = one_fault }
+  pub part_reader : (program : List (List ℕ) → Result (X × List (List ℕ)) Fault) → Answers R F program → IsReader (PartRead test R) (PartFault test F)
+  part_reader program answer = reader_of (PartRead test R) (PartFault test F) (part_result test program) (part_answer test program R F answer) one apart one_fault

@@ -13,6 +13,7 @@ use Rattle.iloc_grammar.specs.Faults.{Fault}
 use Rattle.iloc_grammar.specs.Blocks.{is_one_byte, front, blocks, tail_blocks}
 use Rattle.iloc_grammar.specs.ByBlocks.{UnicodeMeans, TransformMeans, OtherMeans, Rules, grammar_rules, by_letter, other_blocks, PartIs, BlocksGive, MeansBy}
 use Rattle.iloc_grammar.specs.Reading.{from_block}
+use Rattle.iloc_grammar.proofs.ValuesLaws.{all_weaker, all_both}
 use Rattle.iloc_grammar.proofs.BlockLaws.{means_by_blocks, blocks_mean}
 use Rattle.iloc_fronts.specs.Readers.{AgreesWithBlocks}
 use Rattle.iloc_fronts.specs.Fronts.{UnicodeRead, TransformRead, OtherRead}
@@ -84,10 +85,6 @@ part_carried : {X : Type 0} (o : Option (List (List ℕ))) (C : List (List ℕ) 
 part_carried None C R S f empty v h m = m
 part_carried (Some ps) C R S f empty v h m = f ps v h m
 
-others_carried : (R S : List (List ℕ) → List (List ℕ) → Type 0) → ((ps ws : List (List ℕ)) → IsClosed ps → R ps ws → S ps ws) → (bs : List (ℕ × List (List ℕ))) → AllByRecursion (λ b. IsClosed b.1) bs → AllByRecursion (λ b. R b.1 (kept b.1)) bs → AllByRecursion (λ b. S b.1 (kept b.1)) bs
-others_carried R S f [] h m = tt
-others_carried R S f (b ∷ bs) h m = (f b.1 (kept b.1) h.0 m.0, others_carried R S f bs h.1 m.1)
-
 any_some : {X : Type 0} (o : Option X) → IfSome o (λ _. Unit {0})
 any_some None = tt
 any_some (Some x) = tt
@@ -99,7 +96,7 @@ carried {R = R} {S = S} c bs e closed m = record {
   unicode = part_carried _ IsClosed R.unicode S.unicode c.unicode no_unicode e.unicode (found_closed 117 (λ e. absurd (omega arith)) bs closed) m.unicode;
   transform = part_carried _ IsClosed R.transform S.transform c.transform no_transform e.transform (found_closed 116 (λ e. absurd (omega arith)) bs closed) m.transform;
   private = part_carried _ (λ _. Unit {0}) R.private S.private (λ ps ws _. c.private ps ws) [] e.private (any_some _) m.private;
-  each_other = others_carried R.other S.other c.other (other_blocks (by_letter bs)) (others_closed bs closed) m.each_other;
+  each_other = all_weaker (λ b. IsClosed b.1 × R.other b.1 (kept b.1)) (λ b. S.other b.1 (kept b.1)) (λ b p. c.other b.1 (kept b.1) p.0 p.1) _ (all_both (λ b. IsClosed b.1) (λ b. R.other b.1 (kept b.1)) _ (others_closed bs closed) m.each_other);
   others = m.others;
 }
 

@@ -252,14 +252,6 @@ one_is_short : (rest : List (List ℕ)) → starts_block rest ≡ true → NoFir
 one_is_short [] e = tt
 one_is_short (p ∷ ps) e = λ l. true≢false (sym e ∙ l)
 
-repeats_in_block : {T : ℕ → Bool} → (p : List ℕ) (ps rest : List (List ℕ)) → starts_block rest ≡ true → RepeatsVariant T ((p ∷ ps) ++ rest) → RepeatsVariant T (p ∷ ps)
-repeats_in_block p ps rest e r =
-    let tails : ps ++ rest ≡ after_language r.0 ++ r.1 = cc (r.3) in
-    let heads : p ≡ r.0.language = cc (r.3) in
-    let l = not_longer IsLong ps (after_language r.0) rest r.1 tails (long_after_language r.0 r.2) (one_is_short rest e) in
-    let found = longer_front ps (after_language r.0) rest r.1 tails l in
-    (r.0, found.0, r.2, (λ i. heads i ∷ found.1 i), r.4)
-
 repeats_before : {T : ℕ → Bool} → (ps rest : List (List ℕ)) → RepeatsVariant T ps → RepeatsVariant T (ps ++ rest)
 repeats_before ps rest r = (r.0, r.1 ++ rest, r.2, ap (λ l. l ++ rest) r.3 ∙ append_assoc (identifier_pieces r.0) r.1 rest, r.4)
 
@@ -276,4 +268,9 @@ repeats_by_block T table ps = (λ r. subst (RepeatsVariant T) (front-from_block 
 
     whole : (qs rest : List (List ℕ)) → starts_block rest ≡ true → RepeatsVariant T (qs ++ rest) → RepeatsVariant T qs
     whole [] rest s r = absurd (no_first rest s r)
-    whole (q ∷ qs) rest s r = repeats_in_block q qs rest s r
+    whole (q ∷ qs) rest s r =
+        let tails : qs ++ rest ≡ after_language r.0 ++ r.1 = cc (r.3) in
+        let heads : q ≡ r.0.language = cc (r.3) in
+        let l = not_longer IsLong qs (after_language r.0) rest r.1 tails (long_after_language r.0 r.2) (one_is_short rest s) in
+        let found = longer_front qs (after_language r.0) rest r.1 tails l in
+        (r.0, found.0, r.2, (λ i. heads i ∷ found.1 i), r.4)

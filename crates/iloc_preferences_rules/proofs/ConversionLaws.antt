@@ -1,5 +1,6 @@
 -- Data locales of locales and identifiers.
 use Rattle.std.proofs.Common.{◌≡◌, ℕ, Bool, true, false, cond, List, refl, sym, ap, ◌∙◌, Option, Some, None, IfSome, Ok, Err, option_map, option_and_then, option_to_list}
+use Rattle.std.proofs.lemmas.Bool.{cond_both}
 use Rattle.std.specs.Option.{option_or}
 use Rattle.std.specs.Result.{result_ok}
 use Rattle.std.specs.FinMap.{find}
@@ -44,10 +45,10 @@ part_of_locale r p e = from r.id.region r.keyword e
     from : (region : Option (List ℕ)) (k : Option (List ℕ × Option (List ℕ))) → small_part region k ≡ Some p → preferred_region region (found k) ≡ p
     from None None e = cc
     from (Some r) None e = cc
-    from region (Some (k, o)) e = (elim (is_same k sd) as (λ b. is_same k sd ≡ b → cond b (option_map (λ s. Some (agreed region s)) (option_and_then named_subdivision o)) None ≡ Some p → preferred_region region (found (Some (k, o))) ≡ p) [
-      | true ↦ λ q e. rw (same_is k sd q) (at_value region o e)
-      | false ↦ λ q e. absurd (cc)
-    ]) refl e
+    from region (Some (k, o)) e = cond_both (is_same k sd) _ _ (λ x. x ≡ Some p → preferred_region region (found (Some (k, o))) ≡ p)
+        (λ q e. rw (same_is k sd q) (at_value region o e))
+        (λ q e. absurd (cc))
+        e
 
 pub agrees : {T : ℕ → Bool} → IsTable T → (t : List ℕ) (d : DataLocale) (M : Locale) → DataMeans T t d → Means T t M → d ≡ language_priority (preferences M)
 agrees table t d M h m = from (small_part h.small.id.region h.small.keyword) refl h.means ∙ ap (λ (M : Locale). language_priority (preferences M)) (one_meaning table t _ _ (small_means t h.small h.is_small) m)

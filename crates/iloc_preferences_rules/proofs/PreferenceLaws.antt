@@ -1,5 +1,5 @@
 -- Preferences: what extending and the way to a locale and back keep.
-use Rattle.std.proofs.Common.{◌≡◌, ◌≢◌, ℕ, Bool, true, false, cond, List, [], ◌∷◌, ◌++◌, length, arith, refl, sym, ap, ◌∙◌, Option, Some, None, Ok, Err, IfSome, option_map, option_and_then, codes, length-append, true≢false}
+use Rattle.std.proofs.Common.{◌≡◌, ◌≢◌, ℕ, Bool, true, false, cond, List, [], ◌∷◌, ◌++◌, length, arith, refl, sym, ap, ◌∙◌, Option, Some, None, Ok, Err, IfSome, option_map, option_and_then, codes, length-append, true≢false, ◌&&◌, ◌||◌, is_none, is_some}
 use Rattle.std.specs.Option.{option_or}
 use Rattle.std.specs.Result.{result_ok}
 use Rattle.std.specs.List.{AllByRecursion}
@@ -13,8 +13,7 @@ use Rattle.iloc_grammar.specs.Reading.{first_item}
 use Rattle.iloc_regions.specs.Subdivisions.{Subdivision, IsSubdivision, subdivision, subdivision_text}
 use Rattle.iloc_regions.specs.DataLocales.{whole_region, is_whole, whole, sd}
 use Rattle.iloc_preferences_rules.specs.Keywords.{subdivision_reads, subdivision_gives}
-use Rattle.std.proofs.lemmas.Bool.{and_parts, and_from, false_from_ne_true}
-use Rattle.std.proofs.Common.{◌&&◌, ◌||◌, is_none, is_some}
+use Rattle.std.proofs.lemmas.Bool.{and_parts, and_from, false_from_ne_true, cond_both}
 use Rattle.iloc_preferences_rules.specs.Preferences.{is_strict, same_region, Preferences, IsPreferences, SpellsNoTrue, und, rg, default_preferences, read_keyword, region_with, preferred_region, preferences, merge_language, wins, merge_region, merge, sd_entry, rg_entry, locale_of_preferences}
 use Rattle.iloc_preferences_rules.specs.Formatters.{FormatPreferences, TimePreferences, default_format, default_time, merge_format, merge_time}
 use Rattle.iloc_small.proofs.SmallLaws.{first-option}
@@ -86,10 +85,9 @@ override_back (Some s) h n = read_given s h n
 
 region_back : (o : Option Subdivision) → IfSome o IsSubdivision → IfSome o (λ s. is_true (subdivision_text s) ≡ false) → preferred_region (option_map (λ s. s.region) o) (option_and_then subdivision_reads (find word_cmp sd (sd_entry o))) ≡ o
 region_back None h n = refl
-region_back (Some s) h n = elim (is_whole s) as (λ b. is_whole s ≡ b → Some (region_with s.region (option_and_then subdivision_reads (find word_cmp sd (cond b [] ((sd, subdivision_gives s) ∷ []))))) ≡ Some s) [
-  | true ↦ λ e. ap (λ x. Some (record { region = s.region; suffix = x })) (sym (same_is s.suffix whole e))
-  | false ↦ λ e. ap (λ o. Some (region_with s.region o)) (read_given s h n) ∙ ap (λ b. Some (cond b s (whole_region s.region))) (same_itself s.region)
-] refl
+region_back (Some s) h n = cond_both (is_whole s) _ _ (λ es. Some (region_with s.region (option_and_then subdivision_reads (find word_cmp sd es))) ≡ Some s)
+    (λ e. ap (λ x. Some (record { region = s.region; suffix = x })) (sym (same_is s.suffix whole e)))
+    (λ e. ap (λ o. Some (region_with s.region o)) (read_given s h n) ∙ ap (λ b. Some (cond b s (whole_region s.region))) (same_itself s.region))
 
 pub preferences_back : {T : ℕ → Bool} (p : Preferences) → IsPreferences T p → SpellsNoTrue p → preferences (locale_of_preferences p) ≡ p
 preferences_back p h n = λ i. record {
@@ -110,10 +108,9 @@ unfolding is_word lower
 key_rg = (refl, refl)
 
 given_values : (s : Subdivision) → IsSubdivision s → AllByRecursion (IsNormal Subtag) (subdivision_gives s) × AllByRecursion (λ w. (is_true w ≡ false) × (length w ≢ 2)) (subdivision_gives s)
-given_values s h = elim (is_true (subdivision_text s)) as (λ b. is_true (subdivision_text s) ≡ b → AllByRecursion (IsNormal Subtag) (cond b [] (subdivision_text s ∷ [])) × AllByRecursion (λ w. (is_true w ≡ false) × (length w ≢ 2)) (cond b [] (subdivision_text s ∷ []))) [
-  | true ↦ λ e. (tt, tt)
-  | false ↦ λ e. (((subdivision_is_subtag s h, sym (text_of_read _ s (subdivision_back s h))), tt), ((e, let l = read_is_long _ s (subdivision_back s h) in λ k. absurd (omega arith)), tt))
-] refl
+given_values s h = cond_both (is_true (subdivision_text s)) _ _ (λ ws. AllByRecursion (IsNormal Subtag) ws × AllByRecursion (λ w. (is_true w ≡ false) × (length w ≢ 2)) ws)
+    (λ e. (tt, tt))
+    (λ e. (((subdivision_is_subtag s h, sym (text_of_read _ s (subdivision_back s h))), tt), ((e, let l = read_is_long _ s (subdivision_back s h) in λ k. absurd (omega arith)), tt)))
 
 sd_is : (o : Option Subdivision) → IfSome o IsSubdivision → AllByRecursion IsEntry (sd_entry o)
 sd_is None h = tt
@@ -194,10 +191,9 @@ default_time_merge a = λ i. record { locale_preferences = default_merge a.local
 
 sd_readable : (o : Option Subdivision) → IfSome o IsSubdivision → IfSome o (λ s. is_true (subdivision_text s) ≡ false) → (is_none (find word_cmp sd (sd_entry o)) || is_some (option_and_then subdivision_reads (find word_cmp sd (sd_entry o)))) && same_region (option_map (λ s. s.region) o) (option_and_then subdivision_reads (find word_cmp sd (sd_entry o))) ≡ true
 sd_readable None h n = refl
-sd_readable (Some s) h n = elim (is_whole s) as (λ b. (is_none (find word_cmp sd (cond b [] ((sd, subdivision_gives s) ∷ []))) || is_some (option_and_then subdivision_reads (find word_cmp sd (cond b [] ((sd, subdivision_gives s) ∷ []))))) && same_region (Some s.region) (option_and_then subdivision_reads (find word_cmp sd (cond b [] ((sd, subdivision_gives s) ∷ [])))) ≡ true) [
-  | true ↦ refl
-  | false ↦ ap (λ o. is_some o && same_region (Some s.region) o) (read_given s h n) ∙ same_itself s.region
-]
+sd_readable (Some s) h n = cond_both (is_whole s) _ _ (λ es. (is_none (find word_cmp sd es) || is_some (option_and_then subdivision_reads (find word_cmp sd es))) && same_region (Some s.region) (option_and_then subdivision_reads (find word_cmp sd es)) ≡ true)
+    (λ e. refl)
+    (λ e. ap (λ o. is_some o && same_region (Some s.region) o) (read_given s h n) ∙ same_itself s.region)
 
 rg_readable : (o : Option Subdivision) → IfSome o IsSubdivision → IfSome o (λ s. is_true (subdivision_text s) ≡ false) → (is_none (find word_cmp rg (rg_entry o)) || is_some (option_and_then subdivision_reads (find word_cmp rg (rg_entry o)))) ≡ true
 rg_readable None h n = refl
@@ -229,13 +225,11 @@ whole_spells s h e = false_from_ne_true _ (λ q.
     absurd (omega arith))
 
 region_only : (s : Subdivision) → IsSubdivision s → preferred_region (Some s.region) (option_and_then subdivision_reads (find word_cmp sd (sd_entry (Some s)))) ≡ Some s → is_true (subdivision_text s) ≡ false
-region_only s h e = (elim (is_whole s) as (λ b. is_whole s ≡ b → Some (region_with s.region (option_and_then subdivision_reads (find word_cmp sd (cond b [] ((sd, subdivision_gives s) ∷ []))))) ≡ Some s → is_true (subdivision_text s) ≡ false) [
-  | true ↦ λ w e. whole_spells s h (same_is s.suffix whole w)
-  | false ↦ λ w e. (elim (is_true (subdivision_text s)) as (λ b. Some (region_with s.region (subdivision_reads (cond b [] (subdivision_text s ∷ [])))) ≡ Some s → b ≡ false) [
-    | true ↦ λ e. absurd (let k : whole_region s.region ≡ s = cc in true≢false (ap is_whole k ∙ w))
-    | false ↦ λ e. refl
-  ]) e
-]) refl e
+region_only s h = cond_both (is_whole s) _ _ (λ es. Some (region_with s.region (option_and_then subdivision_reads (find word_cmp sd es))) ≡ Some s → is_true (subdivision_text s) ≡ false)
+    (λ w e. whole_spells s h (same_is s.suffix whole w))
+    (λ w. cond_both (is_true (subdivision_text s)) _ _ (λ ws. Some (region_with s.region (subdivision_reads ws)) ≡ Some s → is_true (subdivision_text s) ≡ false)
+    (λ t e. absurd (let k : whole_region s.region ≡ s = cc in true≢false (ap is_whole k ∙ w)))
+    (λ t e. t))
 
 pub back_only : {T : ℕ → Bool} (p : Preferences) → IsPreferences T p → preferences (locale_of_preferences p) ≡ p → SpellsNoTrue p
 back_only p h e = record {

@@ -1,6 +1,7 @@
 -- Data locales: reading and printing.
 use Rattle.std.proofs.Common.{◌≡◌, ◌≤◌, ◌⊎◌, ℕ, Bool, true, false, cond, List, [], ◌∷◌, ◌++◌, length, refl, sym, ap, ◌∙◌, subst, arith, Option, Some, None, IfSome, MatchResult, Result, Ok, Err, ok_or, option_map, option_and_then, option_to_list, codes, append_assoc, append-nil}
 use Rattle.std.specs.Result.{result_ok}
+use Rattle.std.proofs.lemmas.Bool.{cond_both}
 use Rattle.std.proofs.lemmas.Bool.Decides.{nat_tests}
 use Rattle.iloc_grammar.specs.Pieces.{join}
 use Rattle.iloc_grammar.specs.Words.{Region, Subtag, UnicodeKey, Attribute, SubdivisionSuffix, is_word, IsWord, IsTable, lower, is_same, is_true}
@@ -92,27 +93,19 @@ IsKeywordOf o = IfSome o (λ w. IsWord Subtag w × (3 ≤ length w))
 
 keyword_words : (o : Option (List ℕ)) → IfSome o (IsNormal Subtag) → IsKeywordOf (option_and_then (λ w. option_and_then (λ s. cond (is_whole s) None (Some w)) (named_subdivision w)) o)
 keyword_words None h = tt
-keyword_words (Some w) h = at_result (subdivision w) refl
-  where
-    at_result : (r : Result Subdivision Fault) → subdivision w ≡ r → IsKeywordOf (option_and_then (λ s. cond (is_whole s) None (Some w)) (result_ok r))
-    at_result (Err f) e = tt
-    at_result (Ok s) e = elim (is_whole s) as (λ b. IsKeywordOf (cond b None (Some w))) [ true ↦ tt | false ↦ (h.0, read_is_long w s e) ]
+keyword_words (Some w) h = elim (subdivision w) as (λ r. subdivision w ≡ r → IsKeywordOf (option_and_then (λ s. cond (is_whole s) None (Some w)) (result_ok r))) [
+  | Err f ↦ λ e. tt
+  | Ok s ↦ λ e. cond_both (is_whole s) _ _ IsKeywordOf (λ w. tt) (λ w. (h.0, read_is_long _ s e))
+] refl
 
 pub small_value_of_data : {T : ℕ → Bool} (d : DataLocale) → IsDataLocale T d → IsSmallValue T (small_of_data d)
 small_value_of_data d h =
-    let k = keyword_words d.subdivision h.subdivision in
-    record { language = h.language; script = h.script; region = h.region; variant = h.variant; key = key_is (subdivision_keyword d); value = value_is (subdivision_keyword d) k }
+    let parts = parts_are (subdivision_keyword d) (keyword_words d.subdivision h.subdivision) in
+    record { language = h.language; script = h.script; region = h.region; variant = h.variant; key = parts.0; value = parts.1 }
   where
-    key_is : (o : Option (List ℕ)) → IfSome (keyword_by o) (λ k. IsNormal UnicodeKey k.0)
-    key_is None = tt
-    key_is (Some w) = sd_key
-
-    value_is : (o : Option (List ℕ)) → IsKeywordOf o → IfSome (keyword_by o) (λ k. IfSome k.1 (λ w. IsNormal Attribute w × (is_true w ≡ false)))
-    value_is None k = tt
-    value_is (Some w) k = elim (is_true (lower w)) as (λ b. is_true (lower w) ≡ b → IfSome (first_item (cond b [] (lower w ∷ []))) (λ w. IsNormal Attribute w × (is_true w ≡ false))) [
-      | true ↦ λ e. tt
-      | false ↦ λ e. ((is_word-lower Attribute w ∙ attribute_from w k.0 k.1, lower-lower w), e)
-    ] refl
+    parts_are : (o : Option (List ℕ)) → IsKeywordOf o → IfSome (keyword_by o) (λ k. IsNormal UnicodeKey k.0) × IfSome (keyword_by o) (λ k. IfSome k.1 (λ w. IsNormal Attribute w × (is_true w ≡ false)))
+    parts_are None k = (tt, tt)
+    parts_are (Some w) k = (sd_key, cond_both (is_true (lower w)) _ _ (λ ws. IfSome (first_item ws) (λ w. IsNormal Attribute w × (is_true w ≡ false))) (λ e. tt) (λ e. ((is_word-lower Attribute w ∙ attribute_from w k.0 k.1, lower-lower w), e)))
 
 -- the locale that a data locale becomes is a well-formed value
 pub locale_of_data_is_value : {T : ℕ → Bool} (d : DataLocale) → IsDataLocale T d → IsValue T (locale_of_data d) × IsWellFormed (locale_of_data d)

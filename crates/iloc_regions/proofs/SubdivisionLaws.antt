@@ -1,15 +1,15 @@
 -- A subdivision's text is read as it, and what is read has the text in lower case.
-use Rattle.std.proofs.Common.{◌≡◌, ℕ, ◌≤◌, true, false, cond, ◌&&◌, ◌==◌, List, [], ◌∷◌, ◌++◌, length, take, drop, take-append-drop, length-append, refl, sym, ap, ap₂, ◌∙◌, subst, arith, Some, None, Result, Ok, Err, ok_or, inl, inr, true≢false, MatchResult}
+use Rattle.std.proofs.Common.{◌≡◌, ℕ, ◌≤◌, true, ◌&&◌, ◌==◌, List, [], ◌∷◌, ◌++◌, length, take-append-drop, length-append, refl, sym, ap, ap₂, ◌∙◌, subst, arith, Some, Result, Ok, ok_or, inl, inr, true≢false, MatchResult}
 use Rattle.std.specs.List.{list_all}
 use Rattle.std.specs.Char.{is_ascii_alphabetic, is_ascii_digit, is_ascii_alphanumeric}
 use Rattle.std.specs.Int.{is_in_range}
-use Rattle.std.proofs.lemmas.Bool.{and_parts, and_from, or_cases, eqb-true}
+use Rattle.std.proofs.lemmas.Bool.{and_parts, and_from, or_cases, eqb-true, cond_both}
 use Rattle.std.proofs.lemmas.List.Folds.{list_all-append}
 use Rattle.std.proofs.Math.Seq.{take-append_seam, drop-append_seam}
 use Rattle.std.proofs.lemmas.Bool.Decides.{nat_tests}
 use Rattle.std.proofs.lemmas.List.{map-append}
 use Rattle.iloc_grammar.specs.Words.{Region, Subtag, SubdivisionSuffix, is_word, IsWord, word, lower, upper, letters, digits}
-use Rattle.iloc_grammar.specs.Faults.{Fault, InvalidSubtag, InvalidExtension}
+use Rattle.iloc_grammar.specs.Faults.{Fault, InvalidExtension}
 use Rattle.iloc_grammar.proofs.WordsLaws.{is_word-lower, is_word-normal, normal-normal, lower-lower, lower-upper, upper-lower, length-region, every, letter_is, digit_is, digit_no_letter}
 use Rattle.iloc_regions.specs.Subdivisions.{Subdivision, IsSubdivision, region_length, both_words, subdivision, subdivision_text}
 
@@ -65,23 +65,18 @@ unfolding lower
 lower_joined a b = sym (map-append _ a b)
 
 read_parts : (w a b : List ℕ) → a ++ b ≡ w → MatchResult (ok_or (both_words (word Region a) (word SubdivisionSuffix b)) InvalidExtension) (Read w) (λ f. Unit {0})
-read_parts w a b e = elim (is_word Region a) as (λ t. is_word Region a ≡ t → MatchResult (ok_or (both_words (cond t (Some (upper a)) None) (word SubdivisionSuffix b)) InvalidExtension) (Read w) (λ f. Unit {0})) [
-  | true ↦ λ r. (elim (is_word SubdivisionSuffix b) as (λ t. is_word SubdivisionSuffix b ≡ t → MatchResult (ok_or (both_words (Some (upper a)) (cond t (Some (lower b)) None)) InvalidExtension) (Read w) (λ f. Unit {0})) [
-    | true ↦ λ x. record {
+read_parts w a b e = cond_both (is_word Region a) _ _ (λ o. MatchResult (ok_or (both_words o (word SubdivisionSuffix b)) InvalidExtension) (Read w) (λ f. Unit {0}))
+    (λ r. cond_both (is_word SubdivisionSuffix b) _ _ (λ o. MatchResult (ok_or (both_words (Some (upper a)) o) InvalidExtension) (Read w) (λ f. Unit {0}))
+    (λ x. record {
       valid = record { region = (is_word-normal Region a ∙ r, normal-normal Region a); suffix = (is_word-normal SubdivisionSuffix b ∙ x, normal-normal SubdivisionSuffix b) };
       same_text = ap₂ ◌++◌ (lower-upper a) (lower-lower b) ∙ lower_joined a b ∙ ap lower e;
       long = let l = length-region a r in let s = suffix_parts b x in let j = length-append a b in let m = ap length e in omega arith;
-    }
-    | false ↦ λ x. tt
-  ]) refl
-  | false ↦ λ r. tt
-] refl
+    })
+    (λ x. tt))
+    (λ r. tt)
 
 read_of : (w : List ℕ) → MatchResult (subdivision w) (Read w) (λ f. Unit {0})
-read_of w = elim (is_word Subtag w) as (λ t. MatchResult (cond t (ok_or (both_words (word Region (take (region_length w) w)) (word SubdivisionSuffix (drop (region_length w) w))) InvalidExtension) (Err InvalidSubtag)) (Read w) (λ f. Unit {0})) [
-  | true ↦ read_parts w _ _ (take-append-drop (region_length w) w)
-  | false ↦ tt
-]
+read_of w = cond_both (is_word Subtag w) _ _ (λ o. MatchResult o (Read w) (λ f. Unit {0})) (λ h. read_parts w _ _ (take-append-drop (region_length w) w)) (λ h. tt)
 
 read_ok : (w : List ℕ) (s : Subdivision) → subdivision w ≡ Ok s → Read w s
 read_ok w s e = subst (λ (o : Result Subdivision Fault). MatchResult o (Read w) (λ f. Unit {0})) e (read_of w)

@@ -1,6 +1,7 @@
 -- A small value prints as a well-formed locale does, and its text is read as it.
-use Rattle.std.proofs.Common.{◌≡◌, ◌≤◌, ℕ, Bool, true, false, not, cond, List, [], ◌∷◌, length, map, filter, refl, sym, ap, ◌∙◌, subst, arith, Option, Some, None, IfSome, option_map, option_to_list}
+use Rattle.std.proofs.Common.{◌≡◌, ◌≤◌, ℕ, Bool, false, not, cond, List, [], ◌∷◌, length, map, filter, refl, sym, ap, ◌∙◌, subst, arith, Option, Some, None, IfSome, option_map, option_to_list}
 use Rattle.std.specs.List.{AllByRecursion}
+use Rattle.std.proofs.lemmas.Bool.{cond_both, not-true}
 use Rattle.iloc_grammar.specs.Pieces.{pieces, join}
 use Rattle.iloc_grammar.specs.Words.{Kind, Language, Script, Region, Variant, UnicodeKey, Attribute, IsWord, lower, normal, is_true}
 use Rattle.iloc_grammar.specs.Written.{IsWritten, HasWords, spelling}
@@ -90,10 +91,9 @@ first_is (w ∷ ws) h = IsNormal-normal Variant w h.0
 
 value_is : (ws : List (List ℕ)) → AllByRecursion (IsWord Attribute) ws → IfSome (first_item (normal_values ws)) (λ w. IsNormal Attribute w × (is_true w ≡ false))
 value_is [] h = tt
-value_is (w ∷ ws) h = elim (is_true (lower w)) as (λ b. is_true (lower w) ≡ b → IfSome (first_item (cond (not b) (lower w ∷ normal_values ws) (normal_values ws))) (λ w. IsNormal Attribute w × (is_true w ≡ false))) [
-  | true ↦ λ e. value_is ws h.1
-  | false ↦ λ e. (IsNormal-normal Attribute w h.0, e)
-] refl
+value_is (w ∷ ws) h = cond_both (not (is_true (lower w))) _ _ (λ ws. IfSome (first_item ws) (λ w. IsNormal Attribute w × (is_true w ≡ false)))
+    (λ e. (IsNormal-normal Attribute w h.0, not-true _ e))
+    (λ e. value_is ws h.1)
 
 pub read_is_small_value : {T : ℕ → Bool} (t : List ℕ) (r : SmallLocale) → IsSmall T t r → IsSmallValue T r
 read_is_small_value {T = T} t r h = subst (IsSmallValue T) (sym h.means) (record {

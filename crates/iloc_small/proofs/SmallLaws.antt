@@ -11,8 +11,7 @@ use Rattle.iloc_grammar.specs.Meaning.{Locale, Means, meaning, set_of, normal_va
 use Rattle.iloc_grammar.specs.Faults.{Fault}
 use Rattle.iloc_grammar.specs.Blocks.{head, tail_blocks, front, first_piece}
 use Rattle.iloc_grammar.proofs.WordsLaws.{length-attribute, length-unicode_key}
-use Rattle.iloc_grammar.proofs.IdentifierLaws as identifiers
-use Rattle.iloc_grammar.proofs.IdentifierLaws.{pieces-identifier_of, identifier_of-pieces}
+use Rattle.iloc_grammar.proofs.IdentifierLaws.{one_identifier, pieces-identifier_of, identifier_of-pieces}
 use Rattle.iloc_grammar.specs.Reading.{take_first, skip_first, first_item, identifier_of}
 use Rattle.iloc_grammar.proofs.Readings.{one_meaning, head-spelling, blocks-spelling}
 use Rattle.iloc_grammar.proofs.FaultLaws.{head-and-blocks}
@@ -55,7 +54,7 @@ pub small_identifier_means : {T : ℕ → Bool} (ps : List (List ℕ)) (r : Smal
 small_identifier_means ps r h = record { written = h.written; grammatical = h.grammatical; spelled = h.spelled; means = ap identifier_of_small h.means ∙ same_variants h.written h.one_variant }
 
 pub one_small_identifier : {T : ℕ → Bool} (ps : List (List ℕ)) (r s : SmallIdentifier) → IsSmallIdentifier T ps r → IsSmallIdentifier T ps s → r ≡ s
-one_small_identifier ps r s a b = a.means ∙ ap small_identifier (identifiers.one_identifier a.written b.written a.grammatical.words b.grammatical.words (sym a.spelled ∙ b.spelled)) ∙ sym b.means
+one_small_identifier ps r s a b = a.means ∙ ap small_identifier (one_identifier a.written b.written a.grammatical.words b.grammatical.words (sym a.spelled ∙ b.spelled)) ∙ sym b.means
 
 -- small texts are locales
 
