@@ -1,9 +1,10 @@
 -- What operations on a number do to each of its bytes.
-use Rattle.std.proofs.Common.{◌≡◌, ℕ, zero, suc, ◌+◌, ◌*◌, ◌/◌, ◌%◌, ◌^◌, ◌<◌, Bool, true, false, ◌&&◌, eqb, ltb, get_or, List, [], ◌∷◌, length, map, refl, sym, ◌∙◌, ap, arith, pow-suc}
+use Rattle.std.proofs.Common.{◌≡◌, ℕ, zero, suc, ◌+◌, ◌*◌, ◌/◌, ◌%◌, ◌^◌, ◌<◌, Bool, true, ◌&&◌, eqb, ltb, get_or, List, [], ◌∷◌, length, map, refl, sym, ◌∙◌, ap, arith, pow-suc}
 use Rattle.std.proofs.lemmas.List.{map-id}
 use borrow.Author.Tests.{eqb-true, ltb-true}
+use Rattle.std.specs.Cmp.{first_so, second_so}
 use Rattle.std.specs.Int.RustNames.{bit_and, bit_or, bit_xor}
-use Rattle.std.proofs.lemmas.Nat.{div_below, and_block, or_block, xor_block}
+use Rattle.std.proofs.lemmas.Nat.{and_block, or_block, xor_block}
 use Rattle.iloc_short_pieces.specs.Number.{number, bytes, spread}
 
 -- ---- facts of one byte, by trying each
@@ -12,59 +13,24 @@ abbrev pub each_below : ℕ → (ℕ → Bool) → Bool
 each_below zero t = true
 each_below (suc n) t = t 0 && each_below n (λ b. t (suc b))
 
-pub and_left : (a b : Bool) → (a && b) ≡ true → a ≡ true
-and_left true b h = refl
-and_left false b h = h
-
-pub and_right : (a b : Bool) → (a && b) ≡ true → b ≡ true
-and_right true b h = h
-and_right false b h = cc
-
 pub tried : (n : ℕ) (t : ℕ → Bool) → each_below n t ≡ true → (b : ℕ) → b < n → t b ≡ true
 tried zero t e b l = absurd (omega arith)
-tried (suc n) t e zero l = and_left (t 0) (each_below n (λ b. t (suc b))) e
-tried (suc n) t e (suc b) l = tried n (λ k. t (suc k)) (and_right (t 0) (each_below n (λ k. t (suc k))) e) b (omega arith)
-
--- ---- an operation goes by the byte
+tried (suc n) t e zero l = first_so (t 0) _ e
+tried (suc n) t e (suc b) l = tried n (λ k. t (suc k)) (second_so (t 0) _ e) b (omega arith)
 
 -- a function of bytes that gives bytes
 abbrev pub Keeps : (ℕ → ℕ) → Type 0
 Keeps f = (b : ℕ) → b < 256 → f b < 256
 
-module _ (o : ℕ → ℕ → ℕ) (zeros : o 0 0 ≡ 0) (block : (k a b r s : ℕ) → r < 2 ^ k → s < 2 ^ k → o (a * 2 ^ k + r) (b * 2 ^ k + s) ≡ o a b * 2 ^ k + o r s) where
-  by_byte : (f g : ℕ → ℕ) → Keeps f → Keeps g → (n x : ℕ) → o (number (map f (bytes n x))) (number (map g (bytes n x))) ≡ number (map (λ b. o (f b) (g b)) (bytes n x))
-  unfolding bytes
-  by_byte f g a b zero x = zeros
-  by_byte f g a b (suc n) x =
-      let c = x % 256 in
-      let small : c < 256 = omega arith in
-      let xs = bytes n (x / 256) in
-      let left : f c + 256 * number (map f xs) ≡ number (map f xs) * 2 ^ 8 + f c = omega arith in
-      let right : g c + 256 * number (map g xs) ≡ number (map g xs) * 2 ^ 8 + g c = omega arith in
-      (λ i. o (left i) (right i)) ∙ block 8 _ _ _ _ (a c small) (b c small) ∙ omega (arith, by_byte f g a b n (x / 256))
+-- a function that keeps each of the 256 bytes a byte
+pub kept : (f : ℕ → ℕ) → each_below 256 (λ b. ltb (f b) 256) ≡ true → Keeps f
+kept f e b l = ltb-true (f b) 256 (tried 256 (λ b. ltb (f b) 256) e b l)
 
-pub and_bytes : (f g : ℕ → ℕ) → Keeps f → Keeps g → (n x : ℕ) → bit_and (number (map f (bytes n x))) (number (map g (bytes n x))) ≡ number (map (λ b. bit_and (f b) (g b)) (bytes n x))
-and_bytes f g a b n x = by_byte bit_and refl and_block f g a b n x
+-- two functions that are equal at each of the 256 bytes
+pub alike : (f g : ℕ → ℕ) → each_below 256 (λ b. eqb (f b) (g b)) ≡ true → (b : ℕ) → b < 256 → f b ≡ g b
+alike f g e b l = eqb-true (f b) (g b) (tried 256 (λ b. eqb (f b) (g b)) e b l)
 
-pub or_bytes : (f g : ℕ → ℕ) → Keeps f → Keeps g → (n x : ℕ) → bit_or (number (map f (bytes n x))) (number (map g (bytes n x))) ≡ number (map (λ b. bit_or (f b) (g b)) (bytes n x))
-or_bytes f g a b n x = by_byte bit_or refl or_block f g a b n x
-
-pub xor_bytes : (f g : ℕ → ℕ) → Keeps f → Keeps g → (n x : ℕ) → bit_xor (number (map f (bytes n x))) (number (map g (bytes n x))) ≡ number (map (λ b. bit_xor (f b) (g b)) (bytes n x))
-xor_bytes f g a b n x = by_byte bit_xor refl xor_block f g a b n x
-
-pub sum_bytes : (f g : ℕ → ℕ) (n x : ℕ) → number (map f (bytes n x)) + number (map g (bytes n x)) ≡ number (map (λ b. f b + g b) (bytes n x))
-unfolding bytes
-sum_bytes f g zero x = refl
-sum_bytes f g (suc n) x = omega (arith, sum_bytes f g n (x / 256))
-
--- a constant
-pub spread_is : (c n x : ℕ) → spread c n ≡ number (map (λ _. c) (bytes n x))
-unfolding bytes spread
-spread_is c zero x = refl
-spread_is c (suc n) x = ap (λ y. c + 256 * y) (spread_is c n (x / 256))
-
--- functions that are equal at bytes
-pub same_bytes : (f g : ℕ → ℕ) → ((b : ℕ) → b < 256 → f b ≡ g b) → (n x : ℕ) → map f (bytes n x) ≡ map g (bytes n x)
+same_bytes : (f g : ℕ → ℕ) → ((b : ℕ) → b < 256 → f b ≡ g b) → (n x : ℕ) → map f (bytes n x) ≡ map g (bytes n x)
 unfolding bytes
 same_bytes f g e zero x = refl
 same_bytes f g e (suc n) x = let here = e (x % 256) (omega arith) in λ i. here i ∷ same_bytes f g e n (x / 256) i
@@ -74,10 +40,7 @@ same_bytes f g e (suc n) x = let here = e (x % 256) (omega arith) in λ i. here 
 pub number-bytes : (n x : ℕ) → x < 256 ^ n → number (bytes n x) ≡ x
 unfolding bytes
 number-bytes zero x h = omega arith
-number-bytes (suc n) x h =
-    let p : 256 ^ suc n ≡ 256 ^ n * 256 = pow-suc 256 n in
-    let q : x / 256 < 256 ^ n = div_below x 256 (256 ^ n) (omega arith) (omega arith) in
-    omega (arith, number-bytes n (x / 256) q)
+number-bytes (suc n) x h = omega (arith, number-bytes n (x / 256) (omega (arith, pow-suc 256 n)))
 
 pub length-bytes : (n x : ℕ) → length (bytes n x) ≡ n
 unfolding bytes
@@ -99,33 +62,64 @@ bytes-number (x ∷ xs) h =
     let rest : (x + 256 * number xs) / 256 ≡ number xs = omega (arith, h 0) in
     rw (low, rest, bytes-number xs (λ k. h (suc k)))
 
--- a word in its own bytes, and a constant in eight
-module _ (x : ℕ) (small : x < 2 ^ 64) where
-  abbrev pub of_bytes : (ℕ → ℕ) → ℕ
-  of_bytes f = number (map f (bytes 8 x))
+-- ---- an operation goes by the byte
 
-  pub itself : x ≡ of_bytes (λ b. b)
-  itself = let e : x < 256 ^ 8 = omega arith in sym (ap number (map-id (bytes 8 x)) ∙ number-bytes 8 x e)
+-- a number of what f gives of each of the eight bytes of x
+pub record Bytewise (x : ℕ) (f : ℕ → ℕ) (y : ℕ) : Type 0 where
+  pub keeps : Keeps f
+  pub made : y ≡ number (map f (bytes 8 x))
 
-  pub and_is : (f g : ℕ → ℕ) (a b : ℕ) → Keeps f → Keeps g → a ≡ of_bytes f → b ≡ of_bytes g → bit_and a b ≡ of_bytes (λ b. bit_and (f b) (g b))
-  and_is f g a b kf kg p q = (λ i. bit_and (p i) (q i)) ∙ and_bytes f g kf kg 8 x
+pub itself : (x : ℕ) → x < 2 ^ 64 → Bytewise x (λ b. b) x
+itself x small =
+    let e : x < 256 ^ 8 = omega arith in
+    record { keeps = λ b l. l; made = sym (ap number (map-id (bytes 8 x)) ∙ number-bytes 8 x e) }
 
-  pub or_is : (f g : ℕ → ℕ) (a b : ℕ) → Keeps f → Keeps g → a ≡ of_bytes f → b ≡ of_bytes g → bit_or a b ≡ of_bytes (λ b. bit_or (f b) (g b))
-  or_is f g a b kf kg p q = (λ i. bit_or (p i) (q i)) ∙ or_bytes f g kf kg 8 x
+pub constant : (x c : ℕ) → ltb c 256 ≡ true → Bytewise x (λ _. c) (spread c 8)
+unfolding bytes spread
+constant x c e = record { keeps = λ b l. ltb-true c 256 e; made = refl }
 
-  pub xor_is : (f g : ℕ → ℕ) (a b : ℕ) → Keeps f → Keeps g → a ≡ of_bytes f → b ≡ of_bytes g → bit_xor a b ≡ of_bytes (λ b. bit_xor (f b) (g b))
-  xor_is f g a b kf kg p q = (λ i. bit_xor (p i) (q i)) ∙ xor_bytes f g kf kg 8 x
+-- by a function that is equal at each of the 256 bytes
+pub alike_made : {x y : ℕ} {f : ℕ → ℕ} → Bytewise x f y → (g : ℕ → ℕ) → each_below 256 (λ b. eqb (f b) (g b)) ≡ true → Bytewise x g y
+alike_made {x} {f = f} p g e = record {
+  keeps = λ b l. rw (← alike f g e b l) (p.keeps b l);
+  made = p.made ∙ ap number (same_bytes f g (alike f g e) 8 x);
+}
 
-  pub sum_is : (f g : ℕ → ℕ) (a b : ℕ) → a ≡ of_bytes f → b ≡ of_bytes g → a + b ≡ of_bytes (λ b. f b + g b)
-  sum_is f g a b p q = (λ i. p i + q i) ∙ sum_bytes f g 8 x
+-- an operation that goes by blocks of bits
+pub record ByBlocks (o : ℕ → ℕ → ℕ) : Type 0 where
+  pub zeros : o 0 0 ≡ 0
+  pub block : (k a b r s : ℕ) → r < 2 ^ k → s < 2 ^ k → o (a * 2 ^ k + r) (b * 2 ^ k + s) ≡ o a b * 2 ^ k + o r s
 
--- a function that keeps each of the 256 bytes a byte
-pub kept : (f : ℕ → ℕ) → each_below 256 (λ b. ltb (f b) 256) ≡ true → Keeps f
-kept f e b l = ltb-true (f b) 256 (tried 256 (λ b. ltb (f b) 256) e b l)
+pub ands : ByBlocks bit_and
+ands = record { zeros = refl; block = and_block }
 
-pub constant : (c : ℕ) → c < 256 → Keeps (λ _. c)
-constant c h b l = h
+pub ors : ByBlocks bit_or
+ors = record { zeros = refl; block = or_block }
 
--- two functions that are equal at each of the 256 bytes
-pub alike : (f g : ℕ → ℕ) → each_below 256 (λ b. eqb (f b) (g b)) ≡ true → (b : ℕ) → b < 256 → f b ≡ g b
-alike f g e b l = eqb-true (f b) (g b) (tried 256 (λ b. eqb (f b) (g b)) e b l)
+pub xors : ByBlocks bit_xor
+xors = record { zeros = refl; block = xor_block }
+
+pub sums : ByBlocks (λ a b. a + b)
+sums = record { zeros = refl; block = λ k a b r s h j. omega arith }
+
+module _ {o : ℕ → ℕ → ℕ} (by : ByBlocks o) where
+  pub first_byte : (c d r s : ℕ) → c < 256 → d < 256 → o (c + 256 * r) (d + 256 * s) ≡ o c d + 256 * o r s
+  first_byte c d r s c-lt d-lt =
+      let left : c + 256 * r ≡ r * 2 ^ 8 + c = omega arith in
+      let right : d + 256 * s ≡ s * 2 ^ 8 + d = omega arith in
+      (λ i. o (left i) (right i)) ∙ by.block 8 r s c d c-lt d-lt ∙ omega arith
+
+  by_byte : (f g : ℕ → ℕ) → Keeps f → Keeps g → (n x : ℕ) → o (number (map f (bytes n x))) (number (map g (bytes n x))) ≡ number (map (λ b. o (f b) (g b)) (bytes n x))
+  unfolding bytes
+  by_byte f g kf kg zero x = by.zeros
+  by_byte f g kf kg (suc n) x =
+      let small : x % 256 < 256 = omega arith in
+      first_byte (f (x % 256)) (g (x % 256)) _ _ (kf _ small) (kg _ small)
+      ∙ ap (λ y. o (f (x % 256)) (g (x % 256)) + 256 * y) (by_byte f g kf kg n (x / 256))
+
+  -- of two numbers that go by bytes
+  pub of_both : {x a b : ℕ} {f g : ℕ → ℕ} → Bytewise x f a → Bytewise x g b → each_below 256 (λ b. ltb (o (f b) (g b)) 256) ≡ true → Bytewise x (λ b. o (f b) (g b)) (o a b)
+  of_both {x} {f = f} {g = g} p q e = record {
+    keeps = kept (λ b. o (f b) (g b)) e;
+    made = (λ i. o (p.made i) (q.made i)) ∙ by_byte f g p.keeps q.keeps 8 x;
+  }
