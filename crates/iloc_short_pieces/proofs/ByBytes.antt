@@ -42,10 +42,10 @@ unfolding bytes
 number-bytes zero x h = omega arith
 number-bytes (suc n) x h = omega (arith, number-bytes n (x / 256) (omega (arith, pow-suc 256 n)))
 
-pub length-bytes : (n x : ℕ) → length (bytes n x) ≡ n
+pub length_bytes : (n x : ℕ) → length (bytes n x) ≡ n
 unfolding bytes
-length-bytes zero x = refl
-length-bytes (suc n) x = ap suc (length-bytes n (x / 256))
+length_bytes zero x = refl
+length_bytes (suc n) x = ap suc (length_bytes n (x / 256))
 
 pub fit-bytes : (n x k : ℕ) → get_or (bytes n x) k 0 < 256
 unfolding bytes

@@ -1,16 +1,20 @@
 -- The number of a piece, and the piece of a text's number.
-use Rattle.std.proofs.Common.{◌≡◌, ℕ, zero, suc, ◌+◌, ◌-◌, ◌*◌, ◌/◌, ◌%◌, ◌^◌, ◌<◌, ◌≤◌, true, get_or, List, [], ◌∷◌, length, refl, sym, ◌∙◌, ap, arith, pow-suc}
+use Rattle.std.proofs.Common.{◌≡◌, ℕ, zero, suc, ◌+◌, ◌-◌, ◌*◌, ◌/◌, ◌%◌, ◌^◌, ◌<◌, ◌≤◌, true, get_or, List, [], ◌∷◌, length, refl, ◌∙◌, ap, arith, pow-suc}
 use Rattle.std.specs.Int.Count.{count_leading_zeros}
 use Rattle.std.proofs.lemmas.Nat.{leading_length, pow-add}
 use Rattle.std.proofs.lemmas.Bool.Decides.{nat_tests}
 use Rattle.std.specs.List.{list_all}
 use Rattle.iloc_short_pieces.specs.Number.{number, bytes, IsPacked}
 use Rattle.iloc_short_pieces.specs.Text.{is_text_byte}
-use Rattle.iloc_short_pieces.proofs.ByBytes.{number-bytes, length-bytes, bytes-number}
-use Rattle.iloc_short_pieces.proofs.Packed.{number-lt, Makes, makes, same_power, le_power, lt_power}
+use Rattle.iloc_short_pieces.proofs.ByBytes.{number-bytes, length_bytes, bytes-number}
+use Rattle.iloc_short_pieces.proofs.Packed.{number-lt, makes, same_power, le_power, lt_power}
 
-pub makes_piece : (xs : List ℕ) → ((k : ℕ) → get_or xs k 0 < 256) → length xs ≤ 8 → (y : ℕ) → y ≡ number xs → Makes (length xs) y xs
-makes_piece xs fit few y e = makes (length xs) y xs refl few fit e
+module _ (xs : List ℕ) (y : ℕ) (fit : (k : ℕ) → get_or xs k 0 < 256) (few : length xs ≤ 8) (e : y ≡ number xs) where
+  pub piece_word : IsPacked (length xs) y
+  piece_word = (makes (length xs) y xs refl few fit e).word
+
+  pub piece_shows : bytes (length xs) y ≡ xs
+  piece_shows = (makes (length xs) y xs refl few fit e).shows
 
 -- by its first four bytes and its last
 pub wide : (xs : List ℕ) (low high : ℕ) → ((k : ℕ) → get_or xs k 0 < 256) → 4 ≤ length xs → length xs ≤ 8
@@ -54,7 +58,7 @@ is_packed x small =
     let n = (71 - count_leading_zeros 64 x) / 8 in
     let t = leading_length 64 x small in
     let low : x < 256 ^ n = omega (arith, t.2, same_power n, le_power t.0 (8 * n) (omega (arith, t.1))) in
-    record { few = omega arith; counted = length-bytes n x; whole = number-bytes n x low }
+    record { few = omega arith; counted = length_bytes n x; whole = number-bytes n x low }
 
 -- and those of a text's number are the text
 pub shows_text : (text : List ℕ) (x : ℕ) → x < 2 ^ 64 → list_all is_text_byte text ≡ true → x ≡ number text → bytes ((71 - count_leading_zeros 64 x) / 8) x ≡ text

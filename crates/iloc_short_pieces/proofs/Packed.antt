@@ -4,7 +4,7 @@ use Rattle.std.proofs.Math.Nat.{pow-le-pow_right}
 use Rattle.std.proofs.lemmas.Nat.{pow-add}
 use Rattle.std.proofs.lemmas.List.{length-map}
 use Rattle.iloc_short_pieces.specs.Number.{number, bytes, IsPacked}
-use Rattle.iloc_short_pieces.proofs.ByBytes.{length-bytes, bytes-number, Keeps, Bytewise}
+use Rattle.iloc_short_pieces.proofs.ByBytes.{length_bytes, bytes-number, Keeps, Bytewise}
 
 pub number-lt : (n x : ℕ) → number (bytes n x) < 256 ^ n
 unfolding bytes
@@ -47,7 +47,7 @@ pub record Makes (n y : ℕ) (ys : List ℕ) : Type 0 where
 pub makes : (n y : ℕ) (ys : List ℕ) → length ys ≡ n → n ≤ 8 → ((k : ℕ) → get_or ys k 0 < 256) → y ≡ number ys → Makes n y ys
 makes n y ys long few fit e =
     let shown : bytes n y ≡ ys = rw (e, ← long) (bytes-number ys fit) in
-    record { word = record { few = few; counted = length-bytes n y; whole = ap number shown ∙ sym e }; shows = shown }
+    record { word = record { few = few; counted = length_bytes n y; whole = ap number shown ∙ sym e }; shows = shown }
 
 pub fit-map : (f : ℕ → ℕ) → Keeps f → (n x k : ℕ) → get_or (map f (bytes n x)) k 0 < 256
 unfolding bytes
@@ -57,7 +57,7 @@ fit-map f keeps (suc n) x (suc k) = fit-map f keeps n (x / 256) k
 
 pub changed : {n x y : ℕ} {f : ℕ → ℕ} → IsPacked n x → f 0 ≡ 0 → Bytewise x f y → Makes n y (map f (bytes n x))
 changed {n} {x} {y} {f} h none b =
-    makes n y (map f (bytes n x)) (length-map (bytes n x) f ∙ length-bytes n x) h.few (fit-map f b.keeps n x)
+    makes n y (map f (bytes n x)) (length-map (bytes n x) f ∙ length_bytes n x) h.few (fit-map f b.keeps n x)
     (b.made ∙ wider f none n 8 x h.few (below n x h))
 
 -- the first byte of a word that has one, and the second

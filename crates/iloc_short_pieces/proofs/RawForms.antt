@@ -5,22 +5,24 @@ use Rattle.std.specs.Int.{w64, from_le_bytes, to_le_bytes}
 use Rattle.std.proofs.Math.ListN.{replicate}
 use Rattle.std.proofs.lemmas.List.{length-append, length-replicate, drop-replicate}
 use Rattle.iloc_short_pieces.specs.Number.{number, bytes, IsPacked}
-use Rattle.iloc_short_pieces.proofs.ByBytes.{number-bytes, length-bytes, bytes-number, fit-bytes}
+use Rattle.iloc_short_pieces.proofs.ByBytes.{number-bytes, length_bytes, bytes-number, fit-bytes}
 
 pub from_eight : (xs : List ℕ) → length xs ≡ 8 → from_le_bytes w64 xs ≡ number xs
 from_eight (a ∷ b ∷ c ∷ d ∷ e ∷ f ∷ g ∷ i ∷ []) h = omega arith
 from_eight xs h = absurd (omega arith)
 
-pub eight_bytes : (x : ℕ) → x < 2 ^ 64 → to_le_bytes w64 x ≡ bytes 8 x
-eight_bytes x small =
-    let e : x < 256 ^ 8 = omega arith in
-    le_bytes_8 (bytes 8 x) x (length-bytes 8 x) (fit-bytes 8 x) (sym (from_eight (bytes 8 x) (length-bytes 8 x) ∙ number-bytes 8 x e))
-
-pub take-bytes : (n m x : ℕ) → n ≤ m → take n (bytes m x) ≡ bytes n x
+take_bytes : (n m x : ℕ) → n ≤ m → take n (bytes m x) ≡ bytes n x
 unfolding bytes
-take-bytes zero m x h = refl
-take-bytes (suc n) zero x h = absurd (omega arith)
-take-bytes (suc n) (suc m) x h = ap (λ xs. x % 256 ∷ xs) (take-bytes n m (x / 256) (omega arith))
+take_bytes zero m x h = refl
+take_bytes (suc n) zero x h = absurd (omega arith)
+take_bytes (suc n) (suc m) x h = ap (λ xs. x % 256 ∷ xs) (take_bytes n m (x / 256) (omega arith))
+
+-- the lowest bytes of a word
+pub lowest_bytes : (n x : ℕ) → n ≤ 8 → x < 2 ^ 64 → take n (to_le_bytes w64 x) ≡ bytes n x
+lowest_bytes n x few small =
+    let e : x < 256 ^ 8 = omega arith in
+    let same : from_le_bytes w64 (bytes 8 x) ≡ x = from_eight (bytes 8 x) (length_bytes 8 x) ∙ number-bytes 8 x e in
+    rw (le_bytes_8 (bytes 8 x) x (length_bytes 8 x) (fit-bytes 8 x) (sym same)) (take_bytes n 8 x few)
 
 -- ---- bytes, followed by zeros
 
@@ -53,12 +55,12 @@ pub widened_is : (n : ℕ) (raw copied : List ℕ) → copied ≡ raw → copied
 widened_is n raw copied same = λ i. same i ++ drop-replicate n 8 0 i
 
 -- its number
-pub number-widened : (n : ℕ) (raw : List ℕ) → n ≤ 8 → length raw ≡ n → from_le_bytes w64 (raw ++ replicate (8 - n) 0) ≡ number raw
-number-widened n raw few long = from_eight _ (length-padded raw n few long) ∙ number-zeros raw (8 - n)
+pub number_widened : (n : ℕ) (raw : List ℕ) → n ≤ 8 → length raw ≡ n → from_le_bytes w64 (raw ++ replicate (8 - n) 0) ≡ number raw
+number_widened n raw few long = from_eight _ (length-padded raw n few long) ∙ number-zeros raw (8 - n)
 
 -- the eight bytes of a packed number are its bytes, followed by zeros
 pub eight_padded : (n x : ℕ) (xs : List ℕ) → IsPacked n x → bytes n x ≡ xs → to_le_bytes w64 x ≡ xs ++ replicate (8 - length xs) 0
 eight_padded n x xs h e =
     let few : length xs ≤ 8 = omega (arith, h.few, h.counted, ap length e) in
     le_bytes_8 _ x (length-padded xs (length xs) few refl) (fit-padded xs _ (λ k. rw (← e) (fit-bytes n x k)))
-    (sym (number-widened (length xs) xs few refl ∙ ap number (sym e) ∙ h.whole))
+    (sym (number_widened (length xs) xs few refl ∙ ap number (sym e) ∙ h.whole))

@@ -1,8 +1,9 @@
 -- Raw forms of one size compare as their numbers do.
-use Rattle.std.proofs.Common.{Equal, Less, Greater, Ordering, ◌≡◌, ℕ, zero, suc, ◌+◌, ◌-◌, ◌*◌, ◌<◌, ◌≤◌, ◌&&◌, eqb, get_or, List, [], ◌∷◌, ◌++◌, length, refl, sym, ◌∙◌, ap, arith}
+use Rattle.std.proofs.Common.{Equal, Less, Greater, Ordering, ◌≡◌, ℕ, zero, suc, ◌+◌, ◌-◌, ◌*◌, ◌<◌, ◌≤◌, ◌&&◌, eqb, List, [], ◌∷◌, ◌++◌, length, refl, sym, ◌∙◌, ap, arith}
 use Rattle.std.specs.Prelude.{nat_eq}
 use Rattle.std.proofs.lemmas.Bool.Decides.{nat_tests}
 use Rattle.std.proofs.Math.ListN.{replicate}
+use Rattle.std.specs.Cmp.Derive.{then_next}
 use Rattle.std.specs.Cmp.Lexicographic.{slice_cmp, pointwise}
 use Rattle.std.specs.Int.{w64, from_be_bytes}
 use Rattle.std.specs.Ordering.{nat_cmp, ordering_then}
@@ -32,16 +33,11 @@ then_equal Less = refl
 then_equal Equal = refl
 then_equal Greater = refl
 
-then_assoc : (o p q : Ordering) → ordering_then (ordering_then o p) q ≡ ordering_then o (ordering_then p q)
-then_assoc Equal p q = refl
-then_assoc o p q = refl
-
 high_cmp : (a b : ℕ) (xs ys : List ℕ) → length xs ≡ length ys → Bytes xs → Bytes ys → nat_cmp (high_from a xs) (high_from b ys) ≡ ordering_then (nat_cmp a b) (slice_cmp nat_cmp xs ys)
 high_cmp a b [] [] e h k = then_equal (nat_cmp a b)
 high_cmp a b (x ∷ xs) (y ∷ ys) e h k =
     high_cmp (a * 256 + x) (b * 256 + y) xs ys (omega arith) (λ i. h (suc i)) (λ i. k (suc i))
-    ∙ ap (λ o. ordering_then o (slice_cmp nat_cmp xs ys)) (cmp_step a b x y (h 0) (k 0))
-    ∙ then_assoc (nat_cmp a b) (nat_cmp x y) (slice_cmp nat_cmp xs ys)
+    ∙ sym (then_next (nat_cmp a b) (nat_cmp x y) _ (cmp_step a b x y (h 0) (k 0)) refl)
 high_cmp a b xs ys e h k = absurd (omega arith)
 
 from_eight_high : (xs : List ℕ) → length xs ≡ 8 → from_be_bytes w64 xs ≡ high_from 0 xs

@@ -6,6 +6,7 @@ ghost use Rattle.iloc_short_pieces.specs.Number.{flags, spread};
 const HIGH: u64 = 0x8080_8080_8080_8080;
 
 // The high bit of each byte that is a letter.
+#[tactic(auto, using(crate::proofs::Classes::letters_are))]
 #[inline(always)]
 pub(crate) fn letter_flags(x: u64) -> u64
     ensures { result ≡ flags is_ascii_alphabetic x }
@@ -16,6 +17,7 @@ pub(crate) fn letter_flags(x: u64) -> u64
 }
 
 // The high bit of each byte that is a digit.
+#[tactic(auto, using(crate::proofs::Classes::digits_are))]
 #[inline(always)]
 pub(crate) fn digit_flags(x: u64) -> u64
     ensures { result ≡ flags is_ascii_digit x }
@@ -26,6 +28,7 @@ pub(crate) fn digit_flags(x: u64) -> u64
 }
 
 // The high bit of each of the lowest bytes.
+#[tactic(auto, using(crate::proofs::Classes::high_bits_are), unfolding(crate::specs::Number::spread))]
 #[inline(always)]
 pub(crate) fn high_bits(n: usize) -> u64
     requires { n ≤ 8 }

@@ -3,6 +3,7 @@ ghost use Rattle.std.specs.Prelude.{◌≡◌, ◌≤◌, length};
 ghost use Rattle.iloc_short_pieces.specs.Number.{number, bytes};
 
 /// The number of a piece of at most eight bytes.
+#[tactic(auto, using(crate::proofs::Loading::wide))]
 #[inline(always)]
 pub fn number_of(piece: &[u8]) -> u64
     requires { length piece.now ≤ 8 }

@@ -7,6 +7,7 @@ ghost use Rattle.iloc_short_pieces.specs.Number.{number, bytes};
 use std::cmp::Ordering;
 
 // The raw form, and zeros after it.
+#[tactic(auto, using(crate::proofs::RawForms::widened_is))]
 #[inline(always)]
 fn widened<const N: usize>(raw: &[u8]) -> [u8; 8]
     requires few { N ≤ 8 }
@@ -19,6 +20,7 @@ fn widened<const N: usize>(raw: &[u8]) -> [u8; 8]
 }
 
 /// The number of a raw form.
+#[tactic(auto, using(crate::proofs::RawForms::number_widened))]
 #[inline(always)]
 pub fn number_of_raw<const N: usize>(raw: &[u8; N]) -> u64
     requires { N ≤ 8 }
@@ -28,6 +30,7 @@ pub fn number_of_raw<const N: usize>(raw: &[u8; N]) -> u64
 }
 
 /// The lowest bytes of a number, as many as the raw form has.
+#[tactic(auto, using(crate::proofs::RawForms::lowest_bytes))]
 #[inline(always)]
 pub fn raw_of_number<const N: usize>(packed: u64) -> [u8; N]
     requires { N ≤ 8 }
@@ -40,6 +43,7 @@ pub fn raw_of_number<const N: usize>(packed: u64) -> [u8; N]
 }
 
 /// Whether two raw forms of `N` bytes have the same bytes.
+#[tactic(auto, using(crate::proofs::RawForms::number_widened, crate::proofs::RawOrder::number_eq))]
 #[inline(always)]
 pub fn eq_raw<const N: usize>(raw: &[u8], other: &[u8]) -> bool
     requires few { N ≤ 8 }
@@ -52,6 +56,7 @@ pub fn eq_raw<const N: usize>(raw: &[u8], other: &[u8]) -> bool
 }
 
 /// The order of two raw forms of `N` bytes, which is that of their bytes.
+#[tactic(auto, using(crate::proofs::RawOrder::raw_cmp))]
 #[inline(always)]
 pub fn cmp_raw<const N: usize>(raw: &[u8], other: &[u8]) -> Ordering
     requires few { N ≤ 8 }

@@ -37,6 +37,7 @@ impl Model for ShortPiece {
 
 impl ShortPiece {
     /// The piece of some bytes; `None` where they are more than eight.
+    #[tactic(auto, using(crate::proofs::Loading::piece_word, crate::proofs::Loading::piece_shows))]
     #[inline(always)]
     pub fn of(bytes: &[u8]) -> Option<Self>
         ensures short { IfSome result (λ piece. piece ≡ bytes.now) }
@@ -52,6 +53,7 @@ impl ShortPiece {
     }
 
     /// The piece of a text, from its number.
+    #[tactic(auto, using(crate::proofs::Loading::is_packed, crate::proofs::Loading::shows_text))]
     #[inline(always)]
     pub fn of_number(packed: u64) -> Self
         ensures { (text : List ℕ) → list_all is_text_byte text ≡ true → packed ≡ number text
@@ -72,6 +74,7 @@ impl ShortPiece {
     }
 
     /// Its bytes, followed by zeros.
+    #[tactic(auto, using(crate::proofs::RawForms::eight_padded))]
     #[inline(always)]
     pub fn to_bytes(self) -> [u8; 8]
         ensures { result ≡ self ++ replicate (8 - length self) 0 }
@@ -89,6 +92,7 @@ impl ShortPiece {
     }
 
     /// Whether all bytes are letters.
+    #[tactic(auto, using(crate::proofs::Classes::all_are))]
     #[inline(always)]
     pub fn is_ascii_alphabetic(self) -> bool
         ensures { result ≡ list_all is_ascii_alphabetic self }
@@ -97,6 +101,7 @@ impl ShortPiece {
     }
 
     /// Whether all bytes are digits.
+    #[tactic(auto, using(crate::proofs::Classes::all_are))]
     #[inline(always)]
     pub fn is_ascii_numeric(self) -> bool
         ensures { result ≡ list_all is_ascii_digit self }
@@ -105,6 +110,7 @@ impl ShortPiece {
     }
 
     /// Whether all bytes are letters or digits.
+    #[tactic(auto, using(crate::proofs::Classes::all_are, crate::proofs::Classes::either_are))]
     #[inline(always)]
     pub fn is_ascii_alphanumeric(self) -> bool
         ensures { result ≡ list_all is_ascii_alphanumeric self }
@@ -113,6 +119,7 @@ impl ShortPiece {
     }
 
     /// The piece with A to Z mapped onto a to z.
+    #[tactic(auto, using(crate::proofs::Cases::lower_whole, crate::proofs::Cases::lower_shows, crate::proofs::ByBytes::length_bytes))]
     #[inline(always)]
     pub fn to_ascii_lowercase(self) -> Self
         ensures { result ≡ lower self }
@@ -124,6 +131,7 @@ impl ShortPiece {
     }
 
     /// The piece with a to z mapped onto A to Z.
+    #[tactic(auto, using(crate::proofs::Cases::upper_whole, crate::proofs::Cases::upper_shows, crate::proofs::ByBytes::length_bytes))]
     #[inline(always)]
     pub fn to_ascii_uppercase(self) -> Self
         ensures { result ≡ upper self }
@@ -135,6 +143,7 @@ impl ShortPiece {
     }
 
     /// The piece with its first byte in upper case and the rest in lower case.
+    #[tactic(auto, using(crate::proofs::Cases::title_whole, crate::proofs::Cases::title_shows, crate::proofs::ByBytes::length_bytes))]
     #[inline(always)]
     pub fn to_ascii_titlecase(self) -> Self
         ensures { result ≡ title self }
@@ -147,6 +156,7 @@ impl ShortPiece {
     }
 
     /// The first byte.
+    #[tactic(auto, using(crate::proofs::Packed::first_is))]
     #[inline(always)]
     pub fn first(self) -> u8
         requires { 0 < length self }
@@ -156,6 +166,7 @@ impl ShortPiece {
     }
 
     /// The second byte.
+    #[tactic(auto, using(crate::proofs::Packed::second_is))]
     #[inline(always)]
     pub fn second(self) -> u8
         requires { 1 < length self }

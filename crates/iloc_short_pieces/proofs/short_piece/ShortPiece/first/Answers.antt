@@ -1,5 +1,0 @@
-use Rattle.iloc_short_pieces.proofs.Packed.{first_is}
-use Rattle.iloc_short_pieces.proofs.short_piece.ShortPiece.first.Goals as goal
-
-pub returns : goal.returns
-returns c = first_is c.self.inside.len c.self.inside.packed c.args.self c.self.view_is c.requires
