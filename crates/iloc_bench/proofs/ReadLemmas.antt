@@ -1,5 +1,5 @@
 -- A keyword that was read, as what its value reads as.
-use Rattle.std.proofs.Common.{◌≡◌, Option, Some, None, Result, Ok, Err, sym, option_map}
+use Rattle.std.proofs.Common.{◌≡◌, Option, Result, Ok, Err, sym, option_map}
 use Rattle.std.specs.Result.{result_ok}
 use Rattle.iloc_keyword_types.specs.Reads.{Reads}
 use Rattle.iloc_unicode_value.specs.declared.errors.PreferencesParseError.{PreferencesParseError}

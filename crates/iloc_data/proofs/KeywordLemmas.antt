@@ -1,5 +1,5 @@
 -- What a keyword that is there or not reads as.
-use Rattle.std.proofs.Common.{◌≡◌, ℕ, Bool, true, List, Option, Some, None, ap, is_some, is_none, ◌||◌, option_and_then}
+use Rattle.std.proofs.Common.{◌≡◌, ℕ, true, List, Option, Some, None, ap, is_some, is_none, ◌||◌, option_and_then}
 use Rattle.std.specs.FinMap.{find}
 use Rattle.iloc_grammar.specs.Words.{word_cmp}
 use Rattle.iloc_grammar.specs.Meaning.{Locale}

@@ -14,7 +14,7 @@ impl SubtagContent for SubdivisionId {
 
     ghost gives = { subdivision_gives };
 
-    #[tactic(auto, using(crate::proofs::SingleLemmas::only_is_single))]
+    #[tactic(auto, using(iloc_unicode_value::proofs::CurrencyLemmas::only_is_single))]
     fn of_value(value: &Value) -> Option<SubdivisionId> {
         let subtag = value.as_single_subtag()?;
         SubdivisionId::try_from_str(subtag.as_str()).ok()

@@ -12,7 +12,7 @@ impl SubtagContent for Subtag {
 
     ghost gives = { subtag_gives };
 
-    #[tactic(auto, using(crate::proofs::SingleLemmas::only_is_single))]
+    #[tactic(auto, using(iloc_unicode_value::proofs::CurrencyLemmas::only_is_single))]
     fn of_value(value: &Value) -> Option<Subtag> {
         Some(*value.as_single_subtag()?)
     }

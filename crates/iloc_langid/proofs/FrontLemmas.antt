@@ -3,7 +3,7 @@ use Rattle.std.proofs.Common.{◌≡◌, ◌≢◌, ◌<◌, ℕ, Bool, true, fa
 use Rattle.std.specs.Result.{result_and}
 use Rattle.std.proofs.lemmas.Bool.Decides.{nat_tests}
 use Rattle.std.proofs.lemmas.Bool.{false_from_ne_true}
-use Rattle.iloc_grammar.specs.Words.{Language, Script, Region, is_word, IsWord, normal, lower, title, upper, languages, read}
+use Rattle.iloc_grammar.specs.Words.{Language, Script, Region, is_word, IsWord, normal, lower, title, upper, languages}
 use Rattle.iloc_grammar.specs.Meaning.{IdentifierMeans}
 use Rattle.iloc_grammar.specs.Faults.{not_a_language, not_an_identifier}
 use Rattle.iloc_grammar.specs.Blocks.{first_piece, front, head}

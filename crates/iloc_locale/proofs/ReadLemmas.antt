@@ -5,13 +5,13 @@ use Rattle.iloc_grammar.specs.Pieces.{pieces}
 use Rattle.iloc_grammar.specs.Words.{Language, is_word, IsWord, languages, two_or_three}
 use Rattle.iloc_grammar.specs.Written.{identifier_pieces}
 use Rattle.iloc_grammar.specs.Meaning as meaning
-use Rattle.iloc_grammar.specs.Meaning.{Means, IdentifierMeans}
+use Rattle.iloc_grammar.specs.Meaning.{Means}
 use Rattle.iloc_grammar.specs.ByBlocks.{BlocksMean}
 use Rattle.iloc_grammar.specs.Values.{IsValue, IsWellFormed}
 use Rattle.iloc_grammar.specs.Blocks.{head, blocks, tail_blocks, first_piece}
 use Rattle.iloc_grammar.specs.Reading.{rest_of, front_of, after_head, starts_block}
 use Rattle.iloc_grammar.specs.Faults as faults
-use Rattle.iloc_grammar.specs.Faults.{Fault, HasFault, no_language, no_identifier, bad_block, SpellsIdentifier, HasIdentifierFault, not_a_language, not_an_identifier}
+use Rattle.iloc_grammar.specs.Faults.{Fault, HasFault, no_language, no_identifier, bad_block, SpellsIdentifier, not_a_language, not_an_identifier}
 use Rattle.iloc_grammar.specs.Steps.{Chain}
 use Rattle.iloc_grammar.proofs.RawLaws.{languages_table}
 use Rattle.iloc_grammar.proofs.BlockLaws.{blocks_mean}

@@ -1,5 +1,5 @@
 -- The next piece, by its length.
-use Rattle.std.proofs.Common.{◌≡◌, ℕ, ◌≤◌, Bool, true, false, cond, List, [], length, take, refl, sym, ap, ◌∙◌, arith, Option, Some, None, true≢false, nat_le}
+use Rattle.std.proofs.Common.{◌≡◌, ℕ, ◌≤◌, Bool, true, false, cond, List, [], length, take, refl, sym, ap, ◌∙◌, arith, Some, None, true≢false, nat_le}
 use Rattle.std.proofs.lemmas.Bool.Decides.{nat_tests}
 use Rattle.std.proofs.lemmas.List.{length-take-le}
 use Rattle.iloc_grammar.specs.Pieces.{pieces}

@@ -1,6 +1,5 @@
 -- Words are short pieces.
-use Rattle.std.proofs.Common.{◌≡◌, ℕ, ◌<◌, ◌≤◌, Bool, true, false, List, length, refl, sym, ◌∙◌, ap, arith}
-use Rattle.iloc_short_pieces.specs.Text.{is_text_byte}
+use Rattle.std.proofs.Common.{◌≡◌, ℕ, ◌<◌, ◌≤◌, Bool, true, false, List, length, refl, ◌∙◌, arith}
 use Rattle.iloc_tinystr.specs.TinyText.{is_tiny_text}
 use Rattle.iloc_tinystr.proofs.TinyTextLemmas.{length-le-tiny}
 use Rattle.iloc_grammar.specs.Words.{Kind, Language, Script, Region, Variant, Subtag, UnicodeKey, TransformKey, Attribute, PrivateSubtag, SubdivisionSuffix, CurrencyType, is_word, IsWord, normal, greatest}

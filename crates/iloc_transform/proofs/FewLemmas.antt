@@ -2,7 +2,7 @@
 use Rattle.std.proofs.Common.{◌≡◌, ℕ, ◌<◌, ◌≤◌, List, [], ◌∷◌, ◌++◌, length, map, refl, sym, ap, ◌∙◌, subst, arith, Option, IfSome, option_map, true≢false}
 use Rattle.std.proofs.lemmas.List.{length-map}
 use Rattle.iloc_grammar.specs.Words.{Language, IsWord, lower, languages}
-use Rattle.iloc_grammar.specs.Written.{Identifier, HasWords, IsIdentifier, identifier_pieces, fields_pieces}
+use Rattle.iloc_grammar.specs.Written.{Identifier, identifier_pieces, fields_pieces}
 use Rattle.iloc_grammar.specs.Written as written
 use Rattle.iloc_grammar.specs.Meaning.{normal_identifier}
 use Rattle.iloc_grammar.specs.Faults.{front, first_piece}

@@ -1,4 +1,4 @@
-mod CurrencyLemmas
+pub mod CurrencyLemmas
 mod CutLemmas
 mod PrintLemmas
 mod ReadingLemmas

@@ -2,7 +2,7 @@ use Rattle.std.proofs.Common.{◌≡◌, ℕ, List, [], ◌∷◌, sym, ap, ◌�
 use Rattle.iloc_grammar.specs.Words.{Subtag}
 use Rattle.iloc_grammar.specs.Values.{IsNormal}
 use Rattle.iloc_preferences_rules.specs.Keywords as keywords
-use Rattle.iloc_preferences_rules.specs.Keywords.{variants, hijri_kinds, enum_gives}
+use Rattle.iloc_preferences_rules.specs.Keywords.{variants, hijri_kinds}
 use Rattle.iloc_unicode_value.specs.Values.{without_true}
 use Rattle.iloc_keyword_types.specs.WordTables.{word_at}
 use Rattle.iloc_keyword_types.proofs.EnumLemmas.{normal_word}
