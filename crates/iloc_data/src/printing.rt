@@ -15,8 +15,9 @@ impl Pieces for DataLocale {
 
     fn write_pieces<S: Sink>(&self, sink: &mut S, first: bool) -> fmt::Result {
         let Some(value) = self.subdivision_value() else {
-            return (&self.language, &self.script, &self.region, &self.variant)
-                .write_pieces(sink, first);
+            return (&self.language, &self.script, &self.region, &self.variant).write_pieces(
+                sink, first,
+            );
         };
         (
             &self.language,
