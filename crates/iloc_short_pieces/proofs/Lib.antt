@@ -1,7 +1,7 @@
 mod ByBytes
 mod Cases
 mod Classes
-mod Loading
+pub mod Loading
 mod Packed
-mod RawOrder
+pub mod RawOrder
 pub mod RawForms

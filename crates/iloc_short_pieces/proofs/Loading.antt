@@ -28,10 +28,10 @@ wide (a ∷ b ∷ c ∷ d ∷ e ∷ f ∷ g ∷ []) low high h le ge p q = omega
 wide (a ∷ b ∷ c ∷ d ∷ e ∷ f ∷ g ∷ i ∷ []) low high h le ge p q = omega (arith, h 0, h 1, h 2, h 3, h 4, h 5, h 6, h 7)
 wide xs low high h le ge p q = absurd (omega arith)
 
-first-text : (b : ℕ) (text : List ℕ) → list_all is_text_byte (b ∷ text) ≡ true → (0 < b) × (b < 128) × (list_all is_text_byte text ≡ true)
+pub first-text : (b : ℕ) (text : List ℕ) → list_all is_text_byte (b ∷ text) ≡ true → (0 < b) × (b < 128) × (list_all is_text_byte text ≡ true)
 first-text b text h = (grind (arith, nat_tests), grind (arith, nat_tests), grind (arith, nat_tests))
 
-fit-text : (text : List ℕ) → list_all is_text_byte text ≡ true → (i : ℕ) → get_or text i 0 < 256
+pub fit-text : (text : List ℕ) → list_all is_text_byte text ≡ true → (i : ℕ) → get_or text i 0 < 256
 fit-text [] h i = omega arith
 fit-text (b ∷ text) h zero = omega (arith, (first-text b text h).1)
 fit-text (b ∷ text) h (suc i) = fit-text text (first-text b text h).2 i

@@ -45,7 +45,7 @@ from_eight_high (a ∷ b ∷ c ∷ d ∷ e ∷ f ∷ g ∷ i ∷ []) h = omega a
 from_eight_high xs h = absurd (omega arith)
 
 -- zeros after both change nothing
-level : (k : ℕ) → slice_cmp nat_cmp (replicate k 0) (replicate k 0) ≡ Equal
+pub level : (k : ℕ) → slice_cmp nat_cmp (replicate k 0) (replicate k 0) ≡ Equal
 level zero = refl
 level (suc k) = level k
 
