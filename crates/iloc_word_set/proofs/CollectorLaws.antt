@@ -28,13 +28,9 @@ use Rattle.iloc_word_set.proofs.SetLaws.{same_set, set_ascends}
 
 -- how long sets are
 
-at_least : (b : Bool) (m n : ℕ) → m ≡ cond b n (n + 1) → n ≤ m
-at_least true m n e = omega (arith, e)
-at_least false m n e = omega (arith, e)
-
 -- words more make no shorter set
 pub set_grows : (w : List ℕ) (ws : List (List ℕ)) → length (set_of ws) ≤ length (set_of (w ∷ ws))
-set_grows w ws = at_least (list_any (is_same w) ws) _ _ (length-set_of-cons w ws)
+set_grows w ws = grind (arith, length-set_of-cons w ws)
 
 -- a set that is as long as the list: all words differ
 pub differ : (ws : List (List ℕ)) → length (set_of ws) ≡ length ws → AllDifferent word_cmp ws

@@ -7,8 +7,8 @@ use Rattle.std.specs.Ordering.{ordering_index, ordering_reverse}
 use Rattle.std.specs.declared.cmp.Ordering.{Ordering}
 use Rattle.std.specs.declared.cmp.Ordering.TheVariants.{Less, Equal, Greater}
 use Rattle.std.specs.FinMap.{put, find, is_sorted}
-use Rattle.std.specs.FinMap.Entries.{by_order, below_all, is_some-find, where_key, is_sorted-where_key}
-use Rattle.std.proofs.lemmas.Bool.{and_parts}
+use Rattle.std.specs.FinMap.Entries.{below_all, is_some-find, where_key, is_sorted-where_key}
+use Rattle.std.proofs.lemmas.Bool.{and_parts, or_parts}
 use Rattle.std.proofs.lemmas.List.{drop_all, drop_more}
 use Rattle.std.proofs.lemmas.List.Elements.{All-from_recursion}
 use Rattle.iloc_grammar.specs.Words.{word_cmp, is_same}
@@ -141,17 +141,10 @@ remove_is_filter x (y ∷ ys) zero l s h =
 remove_is_filter x (y ∷ ys) (suc i) l s h =
     rw (before_tied x y ys i (omega (arith, l)) (first_below y ys s) h) (ap (λ l. y ∷ l) (remove_is_filter x ys i (omega (arith, l)) (rest_ascends y ys s) h))
 
-kept_first : (x w : List ℕ) (ws left : List (List ℕ)) → left ≡ ws → (is_same x w || list_any (is_same x) ws) ≡ false → cond (not (is_same x w)) (w ∷ left) left ≡ w ∷ ws
-kept_first x w ws left e h = elim (is_same x w) as (λ b. (b || list_any (is_same x) ws) ≡ false → cond (not b) (w ∷ left) left ≡ w ∷ ws) [ true ↦ λ k. cc | false ↦ λ k. ap (λ l. w ∷ l) e ] h
-
-later_absent : (a b : Bool) → (a || b) ≡ false → b ≡ false
-later_absent true b h = cc
-later_absent false b h = h
-
 -- what is not there is not taken out
 pub kept_all : (x : List ℕ) (ws : List (List ℕ)) → list_any (is_same x) ws ≡ false → filter (λ w. not (is_same x w)) ws ≡ ws
 kept_all x [] h = refl
-kept_all x (w ∷ ws) h = kept_first x w ws _ (kept_all x ws (later_absent (is_same x w) _ h)) h
+kept_all x (w ∷ ws) h = let parts = or_parts (is_same x w) (list_any (is_same x) ws) h in rw parts.0 (ap (λ l. w ∷ l) (kept_all x ws parts.1))
 
 pub search_removed : (slice ws : List (List ℕ)) (x : List ℕ) (i : ℕ) → slice ≡ ws → IsAscending ws → i < length slice → HoldsAt (λ y. word_cmp y x ≡ Equal) slice i → remove ws i ≡ filter (λ w. not (is_same x w)) ws
 search_removed slice ws x i e s l h = rw (← e) (remove_is_filter x slice i l (rw e s) h)
@@ -185,8 +178,7 @@ same_set vs ws h = ap keys (map_of_same word_cmp word_cmp_total same_words (mark
 moved : (a b c : Bool) → ((a || b) || c) ≡ (b || (a || c))
 moved true true c = refl
 moved true false c = refl
-moved false true c = refl
-moved false false c = refl
+moved false b c = refl
 
 -- a word moves from the words that are left to the set
 pub union_step : (x : List ℕ) (ws rest : List (List ℕ)) → set_of (set_of (x ∷ ws) ++ rest) ≡ set_of (ws ++ x ∷ rest)
@@ -195,21 +187,6 @@ union_step x ws rest = same_set _ _ (λ q.
     ∙ ap (λ b. b || list_any (is_same q) rest) (any-set_of q (x ∷ ws))
     ∙ moved (is_same q x) (list_any (is_same q) ws) (list_any (is_same q) rest)
     ∙ sym (list_any-append (is_same q) ws (x ∷ rest)))
-
-length-keys_put : (x : List ℕ) (ws : List (List ℕ)) → length (keys (put word_cmp x (tt {0}) (marked ws))) ≤ suc (length ws)
-length-keys_put x [] = omega arith
-length-keys_put x (y ∷ ys) =
-    let same = ap length (unmarked ys) in
-    let more = length-keys_put x ys in
-    elim (word_cmp x y) as (λ r. length (keys (by_order r ((x, tt {0}) ∷ (y, tt {0}) ∷ marked ys) ((y, tt {0}) ∷ marked ys) ((y, tt {0}) ∷ put word_cmp x (tt {0}) (marked ys)))) ≤ suc (suc (length ys))) [
-      | Less ↦ omega (arith, same)
-      | Equal ↦ omega (arith, same)
-      | Greater ↦ omega (arith, more)
-    ]
-
--- a set grows by one word at most
-pub length-set_of : (x : List ℕ) (ws : List (List ℕ)) → IsAscending ws → length (set_of (x ∷ ws)) ≤ suc (length ws)
-length-set_of x ws h = rw (set_of-put x ws h) (length-keys_put x ws)
 
 -- lists that ascend
 

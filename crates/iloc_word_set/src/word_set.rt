@@ -77,6 +77,7 @@ impl<K: WordKind<N>, const N: usize> WordSet<K, N> {
     }
 
     /// The set of these words, which have to ascend strictly: `is_strictly_ascending` is the test.
+    #[tactic(auto, using(crate::proofs::SetLaws::set_ascends))]
     pub fn from_vec_unchecked(input: Vec<WordOf<K, N>>) -> Self
         requires { ascends word_cmp input.items ≡ true }
         ensures { result ≡ input.items }

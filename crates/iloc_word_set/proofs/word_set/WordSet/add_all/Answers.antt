@@ -1,8 +1,9 @@
 use Rattle.std.proofs.Common.{◌≡◌, ◌∷◌, ◌++◌, ◌∙◌, sym, ap, subst, arith}
 use Rattle.iloc_grammar.specs.Meaning.{set_of}
 use Rattle.iloc_grammar.specs.Values.{IsAscending}
+use Rattle.iloc_grammar.proofs.SetLaws.{length-set_of}
 use Rattle.iloc_grammar.proofs.WellRead.{set_of-ascending}
-use Rattle.iloc_word_set.proofs.SetLaws.{union_next, union_done, length-set_of}
+use Rattle.iloc_word_set.proofs.SetLaws.{union_next, union_done}
 use Rattle.iloc_word_set.proofs.word_set.WordSet.add_all.Goals as goal
 
 pub loop-word-preserved : goal.loop-word-preserved
@@ -12,7 +13,7 @@ loop-word-preserved g c =
     record {
       set = union_next c.word-item.result c.loop-word.self c.as_slice-word-items.result.now c.push.new.self _ c.loop-word.word-index c.loop-word-test.true c.word-item.is is c.loop-word.invariant.set;
       ascending = subst IsAscending (sym is) (set_of-ascending (c.word-item.result ∷ c.loop-word.self));
-      short = rw is (omega (arith, length-set_of c.word-item.result c.loop-word.self c.loop-word.invariant.ascending, c.loop-word.invariant.short));
+      short = rw is (omega (arith, length-set_of (c.word-item.result ∷ c.loop-word.self), c.loop-word.invariant.short));
     }
 
 pub returns-clause-ok : goal.returns-clause-ok
