@@ -1,7 +1,9 @@
 //! The answer to one line, in each mode.
 ghost use Rattle.std.specs.Prelude.{◌≡◌, ◌≢◌, ◌++◌, OnOk};
 ghost use Rattle.iloc_program.specs.Output.{line_answer, refusal_text};
+ghost use Rattle.iloc_program.specs.ReplyBlock.{held};
 
+use crate::reply_block::ReplyBlock;
 use iloc_data::DataLocale;
 use iloc_langid::LanguageIdentifier;
 use iloc_langid::reader::fill_head;
@@ -19,9 +21,9 @@ pub(crate) trait Answers {
     ghost mode: { Mode };
 
     /// Adds the answer to one line.
-    fn answer(&mut self, line: &[u8], replies: &mut Vec<u8>) -> Result<(), AllocError>
-        ensures { OnOk result (replies.new.items
-            ≡ replies.old.items ++ line_answer mode line.now) };
+    fn answer(&mut self, line: &[u8], replies: &mut ReplyBlock) -> Result<(), AllocError>
+        ensures { OnOk result (held replies.new
+            ≡ held replies.old ++ line_answer mode line.now) };
 }
 
 /// Answers lines as language identifiers.
@@ -46,7 +48,7 @@ impl Answers for Identifiers {
     ghost mode = { Langid };
 
     #[inline(always)]
-    fn answer(&mut self, line: &[u8], replies: &mut Vec<u8>) -> Result<(), AllocError> {
+    fn answer(&mut self, line: &[u8], replies: &mut ReplyBlock) -> Result<(), AllocError> {
         match self.identifier.read(self.alloc, line) {
             Ok(()) => write_text(&self.identifier, replies),
             Err(error) => write_refusal(error, replies),
@@ -76,7 +78,7 @@ impl Answers for Locales {
     ghost mode = { Locale };
 
     // Extensions are touched only where a block comes.
-    fn answer(&mut self, line: &[u8], replies: &mut Vec<u8>) -> Result<(), AllocError> {
+    fn answer(&mut self, line: &[u8], replies: &mut ReplyBlock) -> Result<(), AllocError> {
         let mut iter = SubtagIterator::new(line);
         if let Err(error) = fill_head(self.alloc, &mut iter, &mut self.locale.id) {
             return write_refusal(error, replies);
@@ -100,7 +102,7 @@ impl Answers for DataLocales {
 
     ghost mode = { Data };
 
-    fn answer(&mut self, line: &[u8], replies: &mut Vec<u8>) -> Result<(), AllocError> {
+    fn answer(&mut self, line: &[u8], replies: &mut ReplyBlock) -> Result<(), AllocError> {
         match DataLocale::try_from_utf8(line) {
             Ok(locale) => write_text(&locale, replies),
             Err(error) => write_refusal(error, replies),
@@ -109,8 +111,8 @@ impl Answers for DataLocales {
 }
 
 // Adds the text of a value. A write to replies fails only where memory is refused.
-fn write_text<T: Writeable>(value: &T, replies: &mut Vec<u8>) -> Result<(), AllocError>
-    ensures { OnOk result (replies.new.items ≡ replies.old.items ++ T.text value.now) }
+fn write_text<T: Writeable>(value: &T, replies: &mut ReplyBlock) -> Result<(), AllocError>
+    ensures { OnOk result (held replies.new ≡ held replies.old ++ T.text value.now) }
 {
     match value.write_to(replies) {
         Ok(()) => Ok(()),
@@ -119,8 +121,8 @@ fn write_text<T: Writeable>(value: &T, replies: &mut Vec<u8>) -> Result<(), Allo
 }
 
 // Adds why a line has no answer. That memory is refused is no answer to a line.
-fn write_refusal(error: ParseError, replies: &mut Vec<u8>) -> Result<(), AllocError>
-    ensures text { OnOk result (replies.new.items ≡ replies.old.items ++ refusal_text error) }
+fn write_refusal(error: ParseError, replies: &mut ReplyBlock) -> Result<(), AllocError>
+    ensures text { OnOk result (held replies.new ≡ held replies.old ++ refusal_text error) }
     ensures known { OnOk result (error ≢ ParseError.OutOfMemory) }
 {
     match error {
@@ -130,8 +132,8 @@ fn write_refusal(error: ParseError, replies: &mut Vec<u8>) -> Result<(), AllocEr
 }
 
 // Adds the words of a refusal.
-fn write_words(error: &ParseError, replies: &mut Vec<u8>) -> Result<(), AllocError>
-    ensures { OnOk result (replies.new.items ≡ replies.old.items ++ refusal_text error.now) }
+fn write_words(error: &ParseError, replies: &mut ReplyBlock) -> Result<(), AllocError>
+    ensures { OnOk result (held replies.new ≡ held replies.old ++ refusal_text error.now) }
 {
     replies.extend_from_slice(refusal_line(error).as_bytes())
 }

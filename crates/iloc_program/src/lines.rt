@@ -19,11 +19,13 @@ ghost use Rattle.std.specs.Prelude.{
 ghost use Rattle.std.specs.Io.KnownBytes.{Appends};
 ghost use Rattle.iloc_io_sink.specs.Growth.{AddsBeginning};
 ghost use Rattle.iloc_program.specs.Output.{output, reply};
+ghost use Rattle.iloc_program.specs.ReplyBlock.{held};
 ghost use Rattle.iloc_output.specs.Lines.{IsOneLine};
 ghost use Rattle.memchr.specs.Find.{IsFirstByte, is_byte};
 
 use crate::RunError;
 use crate::answers::Answers;
+use crate::reply_block::ReplyBlock;
 use memchr::memchr_iter;
 use std::alloc::{AllocError, Global};
 use std::io::Write;
@@ -62,49 +64,47 @@ fn split_line(bytes: &[u8]) -> Option<(&[u8], &[u8])>
 fn reply_to<A: Answers>(
     answers: &mut A,
     line: &[u8],
-    replies: &mut Vec<u8>,
+    replies: &mut ReplyBlock,
 ) -> Result<(), AllocError>
-    ensures { OnOk result (replies.new.items ≡ replies.old.items ++ reply A.mode line.now) }
+    ensures { OnOk result (held replies.new ≡ held replies.old ++ reply A.mode line.now) }
 {
     answers.answer(line, replies)?;
-    replies.push(b'\n')?;
-    Ok(())
+    replies.push(b'\n')
 }
 
-// Adds the reply to the line that is pending and goes on with these bytes.
+// Adds the reply to the line that is pending, and forgets the line.
 #[inline(never)]
 fn end_pending<A: Answers>(
     answers: &mut A,
     pending: &mut Vec<u8>,
-    line: &[u8],
-    replies: &mut Vec<u8>,
+    replies: &mut ReplyBlock,
 ) -> Result<(), AllocError>
-    ensures replies { OnOk result (replies.new.items
-        ≡ replies.old.items ++ reply A.mode (pending.old.items ++ line.now)) }
+    ensures replies { OnOk result
+        (held replies.new ≡ held replies.old ++ reply A.mode pending.old.items) }
     ensures pending { OnOk result (pending.new.items ≡ []) }
 {
-    pending.extend_from_slice(line)?;
     reply_to(answers, pending.as_slice(), replies)?;
     pending.clear();
     Ok(())
 }
 
-// The same where perhaps nothing is pending: then no byte of the line is copied.
+// Adds the reply to what is pending and goes on with these bytes. Where nothing is pending, none is copied.
 #[inline(always)]
 fn end_line<A: Answers>(
     answers: &mut A,
     pending: &mut Vec<u8>,
     line: &[u8],
-    replies: &mut Vec<u8>,
+    replies: &mut ReplyBlock,
 ) -> Result<(), AllocError>
-    ensures replies { OnOk result (replies.new.items
-        ≡ replies.old.items ++ reply A.mode (pending.old.items ++ line.now)) }
+    ensures replies { OnOk result (held replies.new
+        ≡ held replies.old ++ reply A.mode (pending.old.items ++ line.now)) }
     ensures pending { OnOk result (pending.new.items ≡ []) }
 {
     if pending.is_empty() {
         return reply_to(answers, line, replies);
     }
-    end_pending(answers, pending, line, replies)
+    pending.extend_from_slice(line)?;
+    end_pending(answers, pending, replies)
 }
 
 // Adds the replies to the lines that this piece of the input ends, and keeps the start of the next line.
@@ -112,14 +112,14 @@ pub(crate) fn feed<A: Answers>(
     answers: &mut A,
     pending: &mut Vec<u8>,
     piece: &[u8],
-    replies: &mut Vec<u8>,
+    replies: &mut ReplyBlock,
 ) -> Result<(), AllocError>
     requires { IsOneLine pending.old.items }
     ensures one_line { OnOk result (IsOneLine pending.new.items) }
     // Whatever comes next, the replies to it all are these and what is still to come.
     ensures ahead { OnOk result ((next : List ℕ) →
-        replies.old.items ++ output A.mode (pending.old.items ++ (piece.now ++ next))
-        ≡ replies.new.items ++ output A.mode (pending.new.items ++ next)) }
+        held replies.old ++ output A.mode (pending.old.items ++ (piece.now ++ next))
+        ≡ held replies.new ++ output A.mode (pending.new.items ++ next)) }
 {
     let mut rest = piece;
     'lines: while let Some((line, later)) = split_line(rest) {
@@ -133,16 +133,16 @@ pub(crate) fn feed<A: Answers>(
 pub(crate) fn finish<A: Answers>(
     answers: &mut A,
     pending: &mut Vec<u8>,
-    replies: &mut Vec<u8>,
+    replies: &mut ReplyBlock,
 ) -> Result<(), AllocError>
     requires { IsOneLine pending.old.items }
-    ensures { OnOk result (replies.new.items
-        ≡ replies.old.items ++ output A.mode pending.old.items) }
+    ensures { OnOk result (held replies.new
+        ≡ held replies.old ++ output A.mode pending.old.items) }
 {
     if pending.is_empty() {
         return Ok(());
     }
-    end_pending(answers, pending, &[], replies)
+    end_pending(answers, pending, replies)
 }
 
 // Writes all of it, by as many calls as the writer takes. A write of no bytes is an error, and no error is tried again.

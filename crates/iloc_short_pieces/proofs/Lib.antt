@@ -1,6 +1,7 @@
 mod ByBytes
 mod Cases
 mod Classes
+mod Joined
 pub mod Loading
 mod Packed
 pub mod RawOrder

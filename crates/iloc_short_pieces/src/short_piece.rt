@@ -1,5 +1,5 @@
 //! A piece that is held as its number.
-ghost use Rattle.std.specs.Prelude.{◌≡◌, ℕ, ◌-◌, ◌≤◌, ◌<◌, ◌++◌, List, length, replicate, true, slice_index, IfSome, IfNone};
+ghost use Rattle.std.specs.Prelude.{◌≡◌, ℕ, ◌+◌, ◌-◌, ◌≤◌, ◌<◌, ◌++◌, List, length, replicate, true, slice_index, IfSome, IfNone};
 ghost use Rattle.std.specs.Prelude.{nat_eq};
 ghost use Rattle.std.specs.Cmp.Lexicographic.{pointwise};
 ghost use Rattle.std.specs.Cmp.Rules.{comparing};
@@ -152,6 +152,22 @@ impl ShortPiece {
         ShortPiece {
             packed: (self.packed | case) ^ (case & 0x20),
             len: self.len,
+        }
+    }
+
+    /// The two pieces one after the other, of at most eight bytes together.
+    #[tactic(auto, using(crate::proofs::Joined::joined_shows, crate::proofs::Joined::joined_fits))]
+    #[inline(always)]
+    pub fn concat(self, other: Self) -> Self
+        requires { length self + length other ≤ 8 }
+        ensures { result ≡ self ++ other }
+    {
+        if self.len == 8 {
+            return self;
+        }
+        ShortPiece {
+            packed: self.packed + (other.packed << (8 * self.len)),
+            len: self.len + other.len,
         }
     }
 

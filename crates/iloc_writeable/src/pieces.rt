@@ -87,6 +87,7 @@ impl<P: Pieces> Pieces for &P {
         P::has_pieces(self)
     }
 
+    #[inline(always)]
     fn write_pieces<S: Sink>(&self, sink: &mut S, first: bool) -> fmt::Result {
         P::write_pieces(self, sink, first)
     }
@@ -119,6 +120,7 @@ impl<P: Pieces, Q: Pieces> Pieces for (P, Q) {
         self.0.has_pieces() || self.1.has_pieces()
     }
 
+    #[inline(always)]
     fn write_pieces<S: Sink>(&self, sink: &mut S, first: bool) -> fmt::Result {
         let second_first = is_first_after(&self.0, first);
         self.0.write_pieces(sink, first)?;

@@ -1,15 +1,32 @@
-//! Times reading and comparing words: `words_bench CALL ROUNDS` makes so many calls and prints a checksum,
-//! and whoever runs it takes the time.
+//! Times reading and comparing words, and reading and printing identifiers, locales and data locales by value:
+//! `words_bench CALL ROUNDS` makes so many calls and prints a checksum, and whoever runs it takes the time.
+//! `tools/benchmark --words` runs the same calls of the Rust crate beside them (tools/rust_words.rs).
 #![tactic(auto)]
 
+use iloc_data::DataLocale;
+use iloc_langid::LanguageIdentifier;
+use iloc_locale::Locale;
 use iloc_subtags::{Language, Subtag};
+use iloc_writeable::Writeable;
+use std::alloc::Global;
 use std::cmp::Ordering;
 use std::io;
 use std::rt::Env;
 
-const TEXTS: [&str; 4] = ["en", "GERMAN", "sr", "und"];
+const TEXTS: [&str; 4] = ["en", "DEU", "sr", "und"];
 
 const SUBTAGS: [&str; 4] = ["buddhist", "Latn", "1996", "posix"];
+
+const IDENTIFIERS: [&str; 4] = ["en", "EN-us", "sr-latn-RS", "ca-ES-valencia"];
+
+const LOCALES: [&str; 4] = [
+    "en-GB",
+    "ar-u-nu-latn",
+    "EN-us-u-ca-Buddhist-hc-h12",
+    "de-t-en-m0-din",
+];
+
+const DATA_LOCALES: [&str; 4] = ["en", "EN-us", "sr-latn-RS", "en-us-u-sd-ustx"];
 
 /// The lengths of what is read, summed.
 fn read_languages(rounds: u32) -> usize {
@@ -85,14 +102,56 @@ fn match_texts(rounds: u32) -> usize {
     same
 }
 
+/// The length of the printed text.
+fn printed_length<T: Writeable>(alloc: Global, value: &T) -> usize {
+    match value.write_to_string(alloc) {
+        Ok(text) => text.len(),
+        Err(_) => 0,
+    }
+}
+
+/// The lengths of the texts of what is read, summed.
+fn print_identifiers(alloc: Global, rounds: u32) -> usize {
+    let mut sum = 0usize;
+    for i in 0..rounds {
+        if let Ok(id) = LanguageIdentifier::try_from_str(alloc, IDENTIFIERS[(i % 4) as usize]) {
+            sum = sum.wrapping_add(printed_length(alloc, &id));
+        }
+    }
+    sum
+}
+
+fn print_locales(alloc: Global, rounds: u32) -> usize {
+    let mut sum = 0usize;
+    for i in 0..rounds {
+        if let Ok(locale) = Locale::try_from_str(alloc, LOCALES[(i % 4) as usize]) {
+            sum = sum.wrapping_add(printed_length(alloc, &locale));
+        }
+    }
+    sum
+}
+
+fn print_data_locales(alloc: Global, rounds: u32) -> usize {
+    let mut sum = 0usize;
+    for i in 0..rounds {
+        if let Ok(locale) = DataLocale::try_from_str(DATA_LOCALES[(i % 4) as usize]) {
+            sum = sum.wrapping_add(printed_length(alloc, &locale));
+        }
+    }
+    sum
+}
+
 /// The checksum of so many calls.
-fn checksum(call: &str, rounds: u32) -> Option<usize> {
+fn checksum(alloc: Global, call: &str, rounds: u32) -> Option<usize> {
     match call {
         "read_language" => Some(read_languages(rounds)),
         "read_subtag" => Some(read_subtags(rounds)),
         "cmp" => Some(compare(rounds)),
         "strict_cmp" => Some(compare_texts(rounds)),
         "normalizing_eq" => Some(match_texts(rounds)),
+        "print_langid" => Some(print_identifiers(alloc, rounds)),
+        "print_locale" => Some(print_locales(alloc, rounds)),
+        "print_data" => Some(print_data_locales(alloc, rounds)),
         _ => None,
     }
 }
@@ -108,7 +167,7 @@ fn main(rt: HostRuntime) -> io::Result<()> {
     let mut rounds = [0u8; 16];
     let sum = argument(&rt, 1, &mut call).and_then(|call| {
         let rounds = argument(&rt, 2, &mut rounds)?.parse::<u32>().ok()?;
-        checksum(call, rounds)
+        checksum(rt.alloc(), call, rounds)
     });
     match sum {
         Some(sum) => println!(rt; "{sum}"),

@@ -1,16 +1,17 @@
 use Rattle.std.proofs.Common.{◌++◌, ap, ◌∙◌, sym}
 use Rattle.std.proofs.lemmas.Result.{on_ok_weaker}
 use Rattle.iloc_langid.specs.Reads.{value_of}
+use Rattle.iloc_program.specs.ReplyBlock.{held}
 use Rattle.iloc_program.proofs.AnswerLemmas.{answer_accepted, answer_refused, on_ok_both}
 use Rattle.iloc_program.proofs.answers.IdentifiersAnswers.answer.Goals as goal
 
 pub returns-in-Ok : goal.returns-in-Ok
 returns-in-Ok c =
     on_ok_weaker c.write_text.result
-    (λ e. e ∙ ap (λ t. c.args.replies.now.items ++ t) (sym (answer_accepted c.args.line.now (value_of c.read.new.self) c.in-Ok.ensures.reads)))
+    (λ e. e ∙ ap (λ t. held c.args.replies.now ++ t) (sym (answer_accepted c.args.line.now (value_of c.read.new.self) c.in-Ok.ensures.reads)))
     c.write_text.ensures
 
 pub returns-in-Err : goal.returns-in-Err
 returns-in-Err c =
     on_ok_both c.write_refusal.result c.write_refusal.ensures.text c.write_refusal.ensures.known
-    (λ e n. e ∙ ap (λ t. c.args.replies.now.items ++ t) (sym (answer_refused c.args.line.now c.in-Err.error c.in-Err.ensures.reads n)))
+    (λ e n. e ∙ ap (λ t. held c.args.replies.now ++ t) (sym (answer_refused c.args.line.now c.in-Err.error c.in-Err.ensures.reads n)))
