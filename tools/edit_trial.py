@@ -19,7 +19,7 @@ import tempfile
 import time
 
 from edit_places import placed
-from kit import read, rt, rtlib
+from kit import REFUSALS, read, rt, rtlib
 
 REFUSED, WAITS, ALONE = "refused", "waits", "alone"
 # Errors of a proof file that names what is gone, or cites what is not proved: not yet a reason of
@@ -222,5 +222,4 @@ class Trial:
             it = alone.pop(0)
             check = lambda kept: rt.must_fail(self.crate, it.path, self.flags, kept)
             verdict, text = self.timed(it.name, check)
-            is_refused = verdict in (rt.REFUSED, rt.AT_LIMIT)
-            yield it, is_refused, f"{it.name}: tried alone: {text.partition(': ')[2]}"
+            yield it, verdict in REFUSALS, f"{it.name}: tried alone: {text.partition(': ')[2]}"

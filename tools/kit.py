@@ -1,7 +1,7 @@
 """The toolchain's command rt, loaded as a module: `rt` itself and `rtlib`, on which it stands.
 
-What the tools use of them: rt.read_edit, rt.checked, rt.unread, rt.must_fail, rt.REFUSED, rt.AT_LIMIT,
-rt.KIT, and rtlib's Crate, blanked, crates_below, guarded, lock, STALE. A new toolchain may change them.
+What the tools use of them: rt.read_edit, rt.checked, rt.unread, rt.must_fail, rt.KIT,
+and rtlib's Crate, blanked, crates_below, guarded, lock, STALE. A new toolchain may change them.
 
 A crate's stamp, by which rt tells whether its library is that of the present text, is asked for once
 in each run of a tool: rt's own reads a crate's files once for each path of lines of crates.txt that
@@ -43,4 +43,7 @@ def lanes():
     return int(number) if number.isdigit() and int(number) else rt.processors()
 
 
+# What rt.must_fail answers of an edit that is refused: a name of rt's own, or only true in a toolchain
+# that has no such names.
+REFUSALS = {getattr(rt, name, True) for name in ("REFUSED", "AT_LIMIT")}
 TOOLCHAIN = read(f"{rt.KIT}/KIT-ID").decode().strip()
