@@ -4,7 +4,6 @@ use Rattle.std.specs.Option.{option_eq}
 use Rattle.std.specs.Cmp.Lexicographic.{pointwise, same_text, other_text}
 use Rattle.std.specs.List.{AllByRecursion, list_any, list_all}
 use Rattle.std.specs.Ordering.{is_eq}
-use Rattle.std.specs.Char.{to_ascii_lowercase}
 use Rattle.std.specs.FinMap.{put}
 use Rattle.std.specs.declared.cmp.Ordering.{Ordering}
 use Rattle.std.specs.declared.cmp.Ordering.TheVariants.{Less, Equal, Greater}
@@ -20,6 +19,7 @@ use Rattle.iloc_grammar.proofs.MapLaws.{word_cmp_total, same_itself, same_is}
 use Rattle.iloc_grammar.proofs.Orders.{any_reordered, all_reordered, different_reordered, set_of_reordered}
 use Rattle.iloc_grammar.proofs.Sorting.{itself}
 use Rattle.iloc_grammar.proofs.ValuesLaws.{set_of_ascending, ascending_different}
+use Rattle.iloc_langid.proofs.WalkLemmas.{apart}
 use Rattle.iloc_langid.specs.Agreeing.{is_among, are_all_among}
 use Rattle.iloc_grammar.specs.Blocks.{first_piece}
 use Rattle.iloc_grammar.specs.Reading.{take_first, skip_first, passing, past, rest_of, after_region, front_of}
@@ -63,14 +63,7 @@ still_there : (w : List ℕ) (qs rest : List (List ℕ)) → Reordered qs (w ∷
 still_there w qs rest r [] d h = tt
 still_there w qs rest r (v ∷ vs) d h =
     let parts = or_parts _ _ d in
-    (later _ _ (sym (any_reordered (is_same v) r) ∙ h.0) (apart parts.0), still_there w qs rest r vs parts.1 h.1)
-  where
-    apart : is_same w v ≡ false → is_same v w ≡ false
-    apart e = by (is_same v w) refl
-      where
-        by : (b : Bool) → is_same v w ≡ b → b ≡ false
-        by true s = absurd (true≢false (sym (subst (λ x. is_same w x ≡ true) (sym (same_is v w s)) (same_itself w)) ∙ e))
-        by false s = refl
+    (later _ _ (sym (any_reordered (is_same v) r) ∙ h.0) (apart w v parts.0), still_there w qs rest r vs parts.1 h.1)
 
 -- as many words, and each of them there: the same ones
 all_there : (ws qs : List (List ℕ)) → AllDifferent word_cmp ws → length qs ≡ length ws → AllByRecursion (λ w. list_any (is_same w) qs ≡ true) ws → Reordered qs ws
@@ -147,23 +140,6 @@ pub these_are : (ps ws : List (List ℕ)) → AreThese ps ws → (length ps ≡ 
 these_are ps ws t =
     let r : Reordered (map lower ps) ws = subst (Reordered (map lower ps)) (sym t.set_is) (set_reordered (map lower ps) t.different) in
     (sym (length-map ps lower) ∙ length_reordered r, tests_all (is_among ps) ws (all_among ps ws (each_there ws (map lower ps) (λ w h. any_reordered (is_same w) r ∙ h))))
-
--- one piece more of those that are looked through
-
-pub found_piece : (ps now rest : List (List ℕ)) (p w : List ℕ) → is_among ps w ≡ is_among now w → now ≡ p ∷ rest → IsNormal Variant w → map to_ascii_lowercase p ≡ map to_ascii_lowercase w → true ≡ is_among ps w
-unfolding lower
-found_piece ps now rest p w i e n h =
-    let same : is_same w (lower p) ≡ true = subst (λ x. is_same w x ≡ true) (sym (h ∙ n.1)) (same_itself w) in
-    sym (i ∙ ap (λ l. is_among l w) e ∙ ap (λ b. b || is_among rest w) same)
-
-pub other_piece : (ps now rest : List (List ℕ)) (p w : List ℕ) → is_among ps w ≡ is_among now w → now ≡ p ∷ rest → IsNormal Variant w → (map to_ascii_lowercase p ≡ map to_ascii_lowercase w → ⊥) → is_among ps w ≡ is_among rest w
-unfolding lower
-other_piece ps now rest p w i e n h =
-    i ∙ ap (λ l. is_among l w) e ∙ ap (λ b. b || is_among rest w) (by (is_same w (lower p)) refl)
-  where
-    by : (b : Bool) → is_same w (lower p) ≡ b → b ≡ false
-    by true s = absurd (h (sym (same_is w (lower p) s) ∙ sym n.1))
-    by false s = refl
 
 -- what a test of two optional words has told
 

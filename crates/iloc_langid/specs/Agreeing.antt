@@ -1,7 +1,8 @@
 -- Pieces and variants that are the same, in whatever order and case.
-use Rattle.std.specs.Prelude.{ℕ, Bool, List}
-use Rattle.std.specs.List.{list_any, list_all}
-use Rattle.iloc_grammar.specs.Words.{lower, is_same}
+use Rattle.std.specs.Prelude.{ℕ, Bool, ◌==◌, ◌&&◌, List, length}
+use Rattle.std.specs.List.{AllByRecursion, list_any, list_all}
+use Rattle.iloc_grammar.specs.Words.{Variant, lower, is_same}
+use Rattle.iloc_grammar.specs.Values.{IsNormal, IsAscending}
 
 -- some piece is the word, in whatever case
 abbrev pub is_among : List (List ℕ) → List ℕ → Bool
@@ -10,3 +11,11 @@ is_among ps w = list_any (λ p. is_same w (lower p)) ps
 -- each word is
 abbrev pub are_all_among : List (List ℕ) → List (List ℕ) → Bool
 are_all_among ps ws = list_all (is_among ps) ws
+
+-- as many pieces as words, and each word is among them
+abbrev pub are_just : List (List ℕ) → List (List ℕ) → Bool
+are_just ps ws = (length ps == length ws) && are_all_among ps ws
+
+-- a set of variants
+abbrev pub AreVariants : List (List ℕ) → Type 0
+AreVariants ws = IsAscending ws × AllByRecursion (IsNormal Variant) ws

@@ -1,24 +1,33 @@
 //! Whether a text means an identifier, without reading it into memory.
-ghost use Rattle.std.specs.Prelude.{◌≡◌, ◌==◌, ◌&&◌, List, [], length, IsTrue, ◌↔◌};
-ghost use Rattle.std.specs.List.{list_any, list_all};
-ghost use Rattle.iloc_grammar.specs.Words.{lower, is_same};
+ghost use Rattle.std.specs.Prelude.{◌≡◌, ◌==◌, ◌≤◌, length};
 ghost use Rattle.iloc_parser.specs.Left.{left};
-ghost use Rattle.iloc_langid.specs.Agreeing.{is_among, are_all_among};
+ghost use Rattle.iloc_langid.specs.Agreeing.{AreVariants, are_all_among, are_just};
 
 use iloc_parser::SubtagIterator;
 use iloc_subtags::Variant;
+use std::cmp::min;
 
-// Whether some piece that is left is the variant, in whatever case.
-fn has_variant(iter: SubtagIterator<'_>, variant: &Variant) -> bool
-    ensures { result ≡ is_among (left iter.entry) variant.now }
+// How many variants one walk over a text looks for.
+const AT_ONCE: usize = 4096;
+
+// Goes past the pieces that are the variants in their places, and answers the variants that are left.
+fn past_equal<'v>(iter: &mut SubtagIterator<'_>, variants: &'v [Variant]) -> &'v [Variant]
+    requires { AreVariants variants.now }
+    ensures set { AreVariants result.now }
+    ensures same { are_just (left iter.new) result.now ≡ are_just (left iter.old) variants.now }
 {
-    let wanted = variant.as_str().as_bytes();
-    for piece in iter {
-        if piece.eq_ignore_ascii_case(wanted) {
-            return true;
+    let mut rest = variants;
+    while let Some((variant, others)) = rest.split_first() {
+        let mut after = *iter;
+        match after.next() {
+            Some(piece) if piece.eq_ignore_ascii_case(variant.as_str().as_bytes()) => {
+                *iter = after;
+                rest = others;
+            }
+            _ => break,
         }
     }
-    false
+    rest
 }
 
 // Whether so many pieces are left.
@@ -35,19 +44,48 @@ fn has_as_many(iter: SubtagIterator<'_>, count: usize) -> bool
     missing == 0
 }
 
-/// Whether the pieces that are left are as many as the variants, and each variant is among them.
-pub(crate) fn has_variants(iter: SubtagIterator<'_>, variants: &[Variant]) -> bool
-    ensures { result
-        ≡ ((length (left iter.entry) == length variants.now) && are_all_among (left iter.entry)
-        variants.now) }
+// Whether each of these variants, at most N, is among the pieces that are left.
+fn has_block<const N: usize>(iter: SubtagIterator<'_>, block: &[Variant]) -> bool
+    requires set { AreVariants block.now }
+    requires few { length block.now ≤ N }
+    requires small { N ≤ 4096 }
+    ensures { result ≡ are_all_among (left iter.entry) block.now }
 {
-    if !has_as_many(iter, variants.len()) {
-        return false;
-    }
-    for variant in variants {
-        if !has_variant(iter, variant) {
-            return false;
+    let mut found = [false; N];
+    for piece in iter {
+        if let Ok(variant) = Variant::try_from_utf8(piece) {
+            if let Ok(at) = block.binary_search(&variant) {
+                found[at] = true;
+            }
         }
     }
+    !found[..block.len()].contains(&false)
+}
+
+// Whether each variant is among the pieces that are left.
+fn has_each(iter: SubtagIterator<'_>, variants: &[Variant]) -> bool
+    requires { AreVariants variants.now }
+    ensures { result ≡ are_all_among (left iter.entry) variants.now }
+{
+    let mut rest = variants;
+    while !rest.is_empty() {
+        let (block, later) = rest.split_at(min(rest.len(), AT_ONCE));
+        if !has_block::<AT_ONCE>(iter, block) {
+            return false;
+        }
+        rest = later;
+    }
     true
+}
+
+/// Whether the pieces that are left are as many as the variants, and each variant is among them.
+///
+/// It takes no memory: variants in the order of the text are gone past in one walk, and others are
+/// looked for in walks over the text for 4,096 of them each.
+pub(crate) fn has_variants(mut iter: SubtagIterator<'_>, variants: &[Variant]) -> bool
+    requires { AreVariants variants.now }
+    ensures { result ≡ are_just (left iter.entry) variants.now }
+{
+    let rest = past_equal(&mut iter, variants);
+    has_as_many(iter, rest.len()) && has_each(iter, rest)
 }
