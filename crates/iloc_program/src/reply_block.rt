@@ -103,7 +103,7 @@ impl ReplyBlock {
     }
 }
 
-/// It holds its text exactly, and fails only where a growth is refused.
+/// It holds its text exactly, and after a failure all that was written before it.
 impl Sink for ReplyBlock {
     ghost use Rattle.iloc_program.specs.ReplyBlock.{Added, added_nothing, added_both};
 
