@@ -1,6 +1,5 @@
 -- The reading from the left takes what is spelled, and nothing else.
 use Rattle.std.proofs.Common.{◌≡◌, ◌≢◌, ℕ, ◌≤◌, Bool, true, false, cond, List, [], ◌∷◌, ◌++◌, length, map, refl, sym, ap, ◌∙◌, subst, arith, Option, Some, None, IfSome, option_to_list, append_assoc, append-nil, length-append, true≢false}
-use Rattle.std.specs.Prelude.{filter}
 use Rattle.std.specs.List.{AllByRecursion}
 use Rattle.std.proofs.lemmas.List.{append_cancel_left, append_cancel_right}
 use Rattle.std.proofs.lemmas.Bool.{false_from_ne_true, cond_both}
@@ -158,12 +157,6 @@ after_long p ps h = skip_while_keeps IsLong (is_word Variant) (after_region (p �
 pub starts_empty : (xs rest : List (List ℕ)) → AllByRecursion IsLong xs → starts_block (xs ++ rest) ≡ true → xs ≡ []
 starts_empty [] rest h s = refl
 starts_empty (x ∷ xs) rest h s = absurd (true≢false (sym s ∙ h.0))
-
--- How many variants are read, and how many stand there.
-
-keep_count : (test : List ℕ → Bool) (ps : List (List ℕ)) → length (passing test ps) ≤ length (filter test ps)
-keep_count test [] = omega arith
-keep_count test (p ∷ ps) = let h = keep_count test ps in elim (test p) as (λ b. length (cond b (p ∷ passing test ps) []) ≤ length (cond b (p ∷ filter test ps) (filter test ps))) [ true ↦ omega arith | false ↦ omega arith ]
 
 -- What the reading from the left says of a front, the pieces before where it should end.
 

@@ -15,17 +15,8 @@ use iloc_subtags::{
 use iloc_word_set::{Variants, WordCollector};
 use std::alloc::Global;
 
-/// Takes the variants that stand at the front. A set of n variants costs n log n, in whatever order they
-/// stand.
-pub fn read_variants(alloc: Global, iter: &mut SubtagIterator<'_>) -> Result<Variants, ParseError>
-    ensures { VariantsGive (left iter.old) (left iter.new) result }
-{
-    let mut variants = Variants::new();
-    fill_variants(alloc, iter, &mut variants)?;
-    Ok(variants)
-}
-
-// Takes the variants that stand at the front, in place of those before.
+// Takes the variants that stand at the front, in place of those before. A set of n variants costs
+// n log n, in whatever order they stand.
 #[inline(always)]
 fn fill_variants(
     alloc: Global,
