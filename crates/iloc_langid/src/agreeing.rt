@@ -7,8 +7,8 @@ use iloc_parser::SubtagIterator;
 use iloc_subtags::Variant;
 use std::cmp::min;
 
-// How many variants one walk over a text looks for.
-const AT_ONCE: usize = 4096;
+// How many variants one walk over a text looks for at most.
+const AT_ONCE: usize = 65_536;
 
 // Goes past the pieces that are the variants in their places, and answers the variants that are left.
 fn past_equal<'v>(iter: &mut SubtagIterator<'_>, variants: &'v [Variant]) -> &'v [Variant]
@@ -44,11 +44,13 @@ fn has_as_many(iter: SubtagIterator<'_>, count: usize) -> bool
     missing == 0
 }
 
-// Whether each of these variants, at most N, is among the pieces that are left.
+// Whether each of these variants, at most N, is among the pieces that are left. It stands for itself,
+// so that what calls it has no room for N marks among its own locals.
+#[inline(never)]
 fn has_block<const N: usize>(iter: SubtagIterator<'_>, block: &[Variant]) -> bool
     requires set { AreVariants block.now }
     requires few { length block.now ≤ N }
-    requires small { N ≤ 4096 }
+    requires small { N ≤ 65536 }
     ensures { result ≡ are_all_among (left iter.entry) block.now }
 {
     let mut found = [false; N];
@@ -62,6 +64,22 @@ fn has_block<const N: usize>(iter: SubtagIterator<'_>, block: &[Variant]) -> boo
     !found[..block.len()].contains(&false)
 }
 
+// Whether each of these variants, at most 65,536, is among the pieces that are left. Marks are cleared
+// before the walk, so there are about as many as are wanted.
+fn has_some(iter: SubtagIterator<'_>, block: &[Variant]) -> bool
+    requires set { AreVariants block.now }
+    requires few { length block.now ≤ 65536 }
+    ensures { result ≡ are_all_among (left iter.entry) block.now }
+{
+    if block.len() <= 64 {
+        has_block::<64>(iter, block)
+    } else if block.len() <= 4096 {
+        has_block::<4096>(iter, block)
+    } else {
+        has_block::<AT_ONCE>(iter, block)
+    }
+}
+
 // Whether each variant is among the pieces that are left.
 fn has_each(iter: SubtagIterator<'_>, variants: &[Variant]) -> bool
     requires { AreVariants variants.now }
@@ -70,7 +88,7 @@ fn has_each(iter: SubtagIterator<'_>, variants: &[Variant]) -> bool
     let mut rest = variants;
     while !rest.is_empty() {
         let (block, later) = rest.split_at(min(rest.len(), AT_ONCE));
-        if !has_block::<AT_ONCE>(iter, block) {
+        if !has_some(iter, block) {
             return false;
         }
         rest = later;
@@ -81,7 +99,7 @@ fn has_each(iter: SubtagIterator<'_>, variants: &[Variant]) -> bool
 /// Whether the pieces that are left are as many as the variants, and each variant is among them.
 ///
 /// It takes no memory: variants in the order of the text are gone past in one walk, and others are
-/// looked for in walks over the text for 4,096 of them each.
+/// looked for in walks over the text for 65,536 of them each.
 pub(crate) fn has_variants(mut iter: SubtagIterator<'_>, variants: &[Variant]) -> bool
     requires { AreVariants variants.now }
     ensures { result ≡ are_just (left iter.entry) variants.now }
