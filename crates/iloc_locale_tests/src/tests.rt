@@ -7,7 +7,6 @@ use iloc_transform::Transform;
 use iloc_writeable::{Pieces, Writeable, to_string_or_borrow};
 use std::alloc::{AllocError, Global};
 use std::borrow::CowStr;
-use std::cmp::Ordering;
 use std::test::Fail;
 
 // Whether the text is owned, and takes no more room than it needs.
@@ -42,13 +41,30 @@ fn a_text_takes_one_request_of_its_length(rt: HostRuntime) -> Result<(), Fail> {
     Ok(())
 }
 
+// The text of the parts after a word, where all of them were read.
+fn joined<T: Pieces + Drop, O: Pieces + Drop, P: Pieces + Drop>(
+    alloc: Global,
+    transform: Result<T, ParseError>,
+    other: Result<O, ParseError>,
+    private: Result<P, ParseError>,
+) -> Result<String, ParseError> {
+    let (transform, other, private) = (transform?, other?, private?);
+    let mut text = String::new(alloc);
+    match ("en", &transform, &other, &private).write_joined(&mut text) {
+        Ok(()) => Ok(text),
+        Err(_) => Err(ParseError::OutOfMemory),
+    }
+}
+
 #[test]
 fn parts_print_after_a_word(rt: HostRuntime) -> Result<(), Fail> {
-    let transform = Transform::try_from_str(rt.alloc(), "t-de-m0-true")?;
-    let other = Other::try_from_str(rt.alloc(), "o-bar")?;
-    let private = Private::try_from_str(rt.alloc(), "x-baz")?;
-    let mut text = String::new(rt.alloc());
-    ("en", &transform, &other, &private).write_joined(&mut text)?;
+    let alloc = rt.alloc();
+    let text = joined(
+        alloc,
+        Transform::try_from_str(alloc, "t-de-m0-true"),
+        Other::try_from_str(alloc, "o-bar"),
+        Private::try_from_str(alloc, "x-baz"),
+    )?;
     assert_eq!(rt; text.as_str(), "en-t-de-m0-true-o-bar-x-baz");
     Ok(())
 }
@@ -63,35 +79,41 @@ fn nothing_stands_before_the_first_part(rt: HostRuntime) -> Result<(), Fail> {
     Ok(())
 }
 
-#[test]
-fn a_locale_is_read_in_place_of_another(rt: HostRuntime) -> Result<(), Fail> {
-    let alloc = rt.alloc();
-    let mut locale = Locale::unknown(alloc);
+// Whether a locale that is read in place of another is the new one, and `und` after a refusal.
+fn locale_is_replaced(alloc: Global, locale: &mut Locale) -> Result<bool, ParseError> {
     locale.read(alloc, b"sl-NEDIS-u-nu-latn-ca-roc-t-fr-m0-true-x-y")?;
-    let text = b"sl-nedis-t-fr-m0-true-u-ca-roc-nu-latn-x-y";
-    assert_eq!(rt; locale.strict_cmp(text), Ordering::Equal);
+    let whole = locale.strict_cmp(b"sl-nedis-t-fr-m0-true-u-ca-roc-nu-latn-x-y");
     locale.read(alloc, b"DE")?;
-    assert_eq!(rt; locale.strict_cmp(b"de"), Ordering::Equal);
-    assert_eq!(rt;
-        locale.read(alloc, b"fr-u-ca-roc-t"),
-        Err(ParseError::InvalidExtension)
-    );
-    assert_eq!(rt; locale.strict_cmp(b"und"), Ordering::Equal);
-    Ok(())
+    let short = locale.strict_cmp(b"de");
+    let answer = locale.read(alloc, b"fr-u-ca-roc-t");
+    let is_refused = answer == Err(ParseError::InvalidExtension);
+    Ok(is_refused && whole.is_eq() && short.is_eq() && locale.strict_cmp(b"und").is_eq())
 }
 
 #[test]
-fn an_identifier_is_read_in_place_of_another(rt: HostRuntime) -> Result<(), Fail> {
-    let alloc = rt.alloc();
-    let mut identifier = LanguageIdentifier::unknown();
+fn a_locale_is_read_in_place_of_another(rt: HostRuntime) {
+    let mut locale = Locale::unknown(rt.alloc());
+    let is_replaced = locale_is_replaced(rt.alloc(), &mut locale);
+    assert_eq!(rt; is_replaced, Ok(true));
+}
+
+// The same of an identifier.
+fn identifier_is_replaced(
+    alloc: Global,
+    identifier: &mut LanguageIdentifier,
+) -> Result<bool, ParseError> {
     identifier.read(alloc, b"SL-latn-nedis")?;
-    assert_eq!(rt; identifier.strict_cmp(b"sl-Latn-nedis"), Ordering::Equal);
+    let whole = identifier.strict_cmp(b"sl-Latn-nedis");
     identifier.read(alloc, b"de")?;
-    assert_eq!(rt; identifier.strict_cmp(b"de"), Ordering::Equal);
-    assert_eq!(rt;
-        identifier.read(alloc, b"fr-u"),
-        Err(ParseError::InvalidSubtag)
-    );
-    assert_eq!(rt; identifier.strict_cmp(b"und"), Ordering::Equal);
-    Ok(())
+    let short = identifier.strict_cmp(b"de");
+    let answer = identifier.read(alloc, b"fr-u");
+    let is_refused = answer == Err(ParseError::InvalidSubtag);
+    Ok(is_refused && whole.is_eq() && short.is_eq() && identifier.strict_cmp(b"und").is_eq())
+}
+
+#[test]
+fn an_identifier_is_read_in_place_of_another(rt: HostRuntime) {
+    let mut identifier = LanguageIdentifier::unknown();
+    let is_replaced = identifier_is_replaced(rt.alloc(), &mut identifier);
+    assert_eq!(rt; is_replaced, Ok(true));
 }
