@@ -5,7 +5,7 @@ import re
 import threading
 
 from edit_places import functions
-from kit import ROOT, TOOLCHAIN, read, rtlib
+from kit import LOGIC, ROOT, read, rtlib
 
 RECORD = f"{ROOT}/tools/edits.record"
 ABOUT = """\
@@ -62,7 +62,7 @@ def sum_of(crate):
     for path in files_of(crate.folder, "src", "specs", "proofs"):
         own += [os.path.relpath(path, crate.folder), read(path)]
     below = sorted(f"{it.name} {interface(it)}" for it in crate.below())
-    return digest(TOOLCHAIN, repr(crate.of_kit), *below, *own)
+    return digest(LOGIC, repr(crate.of_kit), *below, *own)
 
 
 def whole_sum(crate, folder):

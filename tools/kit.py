@@ -47,3 +47,6 @@ def lanes():
 # that has no such names.
 REFUSALS = {getattr(rt, name, True) for name in ("REFUSED", "AT_LIMIT")}
 TOOLCHAIN = read(f"{rt.KIT}/KIT-ID").decode().strip()
+# The logic alone, in which proofs are checked: what no proof was found for is no theorem of another kit
+# with the same logic, but for what its tactics find.
+LOGIC = TOOLCHAIN.partition(" ")[2]
