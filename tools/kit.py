@@ -47,6 +47,6 @@ def lanes():
 # that has no such names.
 REFUSALS = {getattr(rt, name, True) for name in ("REFUSED", "AT_LIMIT")}
 TOOLCHAIN = read(f"{rt.KIT}/KIT-ID").decode().strip()
-# The logic alone, in which proofs are checked: what no proof was found for is no theorem of another kit
-# with the same logic, but for what its tactics find.
+# The logic alone, without the kit's own name. Kits of one logic may still differ in what their tactics
+# find and in what their library promises (docs/GATE.md says what that means for edits).
 LOGIC = TOOLCHAIN.partition(" ")[2]
