@@ -1,17 +1,22 @@
-//! Rows of preferences: `CALL TAB argument TAB argument TAB argument` in, a line out.
+//! Rows of keywords and preferences: `CALL TAB argument TAB argument TAB argument` in, a line out.
 //!
+//! Calls that begin with `keyword-` are of the types of keywords, and stand in `keywords`; all others are of preferences.
 //! An argument is read as a locale, in `langid-..` as an identifier. Preferences of a locale answer by their data
 //! locales, language first and region first, and the locale that they become, joined by `|`, and before them `Ok` or
 //! `Err` where they are read strictly. Those of a formatter answer by their data locale, `nu`, `hc` and `ca`; those of
 //! a time formatter by the first three. A refusal is `! ` and its words.
 //!
-//! `stdin` and `stdout` are the rows with their answers: first worked examples, then vectors, of which
-//! vectors/README.md says where they came from. `grow.in` has rows that may want memory. All that the program needs
+//! `stdin` and `stdout` are the rows with their answers: those of keywords, made of their table, worked examples of
+//! preferences, then vectors, of which vectors/README.md says where they came from. `grow.in` has rows that may want
+//! memory, `still.in` those that take none. All that the program needs
 //! for itself is asked for before the first row, so that every later request is one of the library's. Only generic
 //! functions own what was read, so that letting it go is proved but once.
 #![tactic(auto)]
 
+mod enums;
 mod formatters;
+mod keyword;
+mod keywords;
 mod locales;
 mod told;
 
@@ -69,6 +74,9 @@ fn locale(alloc: Global, name: &str, text: &[u8], out: &mut String) {
 
 impl Program for Rows {
     fn answer(&mut self, call: &Call<'_>, out: &mut String) {
+        if let Some(name) = call.name.strip_prefix("keyword-") {
+            return keywords::answer(name, call, out);
+        }
         match call.name {
             "default" => locales::default(call.alloc, out),
             "extend" | "format-extend" | "time-extend" => merged(call, out),

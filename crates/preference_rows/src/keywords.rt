@@ -1,18 +1,11 @@
-//! Rows of the types of keywords: `KEY TAB value TAB other key` in, a line out.
+//! Rows of the types of keywords: `keyword-KEY TAB value TAB other key` in, a line out.
 //!
 //! The value is read as the keyword. The line is its text, the value that it is turned into, and what is read of the
-//! value under the other key (of no third argument, the keyword's own), joined by `|`. `read-KEY`, `value-KEY` and
-//! `keyed-KEY` say one of the three. A refusal is `! `, its words, and what it prints. `default TAB KEY` answers the text
-//! of the default, `key TAB KEY` the key that the function of its name makes, `memory` the refusal for want of memory.
-//!
-//! `stdin` and `stdout` are the rows with their answers, made of the table of keywords; `grow.in` has rows that may want
-//! memory, `still.in` those that take none. Only generic functions own
-//! what was read, so that letting it go is proved but once.
-#![tactic(auto)]
-
-mod enums;
-mod told;
-
+//! value under the other key (of no third argument, the keyword's own), joined by `|`. `keyword-read-KEY`,
+//! `keyword-value-KEY` and `keyword-keyed-KEY` say one of the three. A refusal is `! `, its words, and what it prints.
+//! `keyword-default TAB KEY` answers the text of the default, `keyword-key TAB KEY` the key that the function of its
+//! name makes, `keyword-memory` the refusal for want of memory.
+use crate::keyword::{Asked, default_of, refuse_keyword, told};
 use iloc_enum_keywords::{
     CollationCaseFirst, CollationNumericOrdering, CollationType, CommonVariantType,
     CurrencyFormatStyle, EmojiPresentationStyle, FirstDay, HourCycle, LineBreakStyle,
@@ -24,13 +17,9 @@ use iloc_keyword_types::{
 };
 use iloc_subtags::{CurrencyType, ParseError, UnicodeKey};
 use iloc_unicode_value::Value;
-use row_page::{put, refuse, say};
+use row_page::{Call, put, refuse, say};
 use std::alloc::{AllocError, Global};
-use std::io;
-use told::{Asked, default_of, refuse_keyword, told};
-
-/// Room for all answers.
-const PAGE: usize = 1_048_576;
+use std::str;
 
 // What the keyword is, read of the value.
 fn keyword(word: &str, asked: &Asked<'_>, out: &mut String) {
@@ -128,33 +117,32 @@ fn read(
     }
 }
 
-// The answer to a row.
-fn row(alloc: Global, line: &str, out: &mut String) {
-    let (word, rest) = line.split_once('\t').unwrap_or((line, ""));
-    let (call, word) = word.split_once('-').unwrap_or(("", word));
-    let (value, key) = rest.split_once('\t').unwrap_or((rest, word));
-    match word {
-        "default" => default(value, out),
-        "key" => key_named(value, out),
-        "memory" => refuse_keyword(out, &PreferencesParseError::from(AllocError)),
-        _ => read(
-            alloc,
-            word,
-            call,
-            Value::try_from_str(alloc, value),
-            UnicodeKey::try_from_str(key),
-            out,
-        ),
-    }
-    say(out, "\n");
+// The value, read as the keyword, and its other key; without one the keyword's own.
+fn asked(word: &str, call: &str, row: &Call<'_>, out: &mut String) {
+    let key = if row.second.is_empty() {
+        word.as_bytes()
+    } else {
+        row.second
+    };
+    let value = Value::try_from_utf8(row.alloc, row.first);
+    read(
+        row.alloc,
+        word,
+        call,
+        value,
+        UnicodeKey::try_from_utf8(key),
+        out,
+    )
 }
 
-fn main(rt: HostRuntime) -> io::Result<()> {
-    let alloc = rt.alloc();
-    let input = io::read_to_string(alloc, rt.reader())?;
-    let mut page = String::with_capacity(alloc, PAGE)?;
-    for line in input.as_str().lines() {
-        row(alloc, line, &mut page);
+/// The answer to a row whose name after `keyword-` is this.
+pub fn answer(name: &str, row: &Call<'_>, out: &mut String) {
+    let (call, word) = name.split_once('-').unwrap_or(("", name));
+    let named = str::from_utf8(row.first).unwrap_or("");
+    match word {
+        "default" => default(named, out),
+        "key" => key_named(named, out),
+        "memory" => refuse_keyword(out, &PreferencesParseError::from(AllocError)),
+        _ => asked(word, call, row, out),
     }
-    print!(rt; "{page}")
 }

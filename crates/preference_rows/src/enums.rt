@@ -1,5 +1,5 @@
 //! The texts of enums.
-use crate::told::Shown;
+use crate::keyword::Shown;
 use iloc_enum_keywords::{
     CollationCaseFirst, CollationNumericOrdering, CollationType, CommonVariantType,
     CurrencyFormatStyle, EmojiPresentationStyle, FirstDay, HourCycle, LineBreakStyle,
