@@ -1,8 +1,7 @@
-//! Tests of what no row can say, over locales (`locales`) and over the program's library (`runs`).
-//! It stands on `iloc_program`, `iloc_locale`, `iloc_transform`, `iloc_other` and `iloc_writeable`.
+//! Tests of the program's library: readers and writers that give or take one byte a call, and that fail at each call
+//! in turn. The answers to the lines of each mode are those of `tools/replay_vectors`.
+//! It stands on `iloc_program`.
 #![tactic(auto)]
 
 #[cfg(test)]
-mod locales;
-#[cfg(test)]
-mod runs;
+mod tests;

@@ -1,4 +1,4 @@
-//! What no row of `locale_rows` can say: the room that a text takes, and parts of different types that print as one text.
+//! The room of texts, and parts that print after one another.
 use iloc_langid::LanguageIdentifier;
 use iloc_locale::Locale;
 use iloc_other::{Other, Private};
