@@ -15,10 +15,10 @@ use iloc_keyword_types::{
     CalendarAlgorithm, DictionaryBreakScriptExclusions, NumberingSystem, PreferencesParseError,
     RegionOverride, RegionalSubdivision, TimeZoneShortId, known_keys,
 };
-use iloc_subtags::{CurrencyType, ParseError, UnicodeKey};
+use iloc_subtags::{CurrencyType, UnicodeKey};
 use iloc_unicode_value::Value;
 use row_page::{Call, put, refuse, say};
-use std::alloc::{AllocError, Global};
+use std::alloc::AllocError;
 use std::str;
 
 // What the keyword is, read of the value.
@@ -92,20 +92,21 @@ fn key_named(name: &str, out: &mut String) {
     }
 }
 
-// The answer to a row of a keyword, or of one call of it.
-fn read(
-    alloc: Global,
-    word: &str,
-    call: &str,
-    value: Result<Value, ParseError>,
-    key: Result<UnicodeKey, ParseError>,
-    out: &mut String,
-) {
-    match (value, key) {
+// The answer to a row of a keyword, or of one call of it. Without another key it is the keyword's own.
+fn read(word: &str, call: &str, row: &Call<'_>, out: &mut String) {
+    let key = if row.second.is_empty() {
+        word.as_bytes()
+    } else {
+        row.second
+    };
+    match (
+        Value::try_from_utf8(row.alloc, row.first),
+        UnicodeKey::try_from_utf8(key),
+    ) {
         (Ok(value), Ok(key)) => keyword(
             word,
             &Asked {
-                alloc,
+                alloc: row.alloc,
                 call,
                 value: &value,
                 key,
@@ -117,24 +118,6 @@ fn read(
     }
 }
 
-// The value, read as the keyword, and its other key; without one the keyword's own.
-fn asked(word: &str, call: &str, row: &Call<'_>, out: &mut String) {
-    let key = if row.second.is_empty() {
-        word.as_bytes()
-    } else {
-        row.second
-    };
-    let value = Value::try_from_utf8(row.alloc, row.first);
-    read(
-        row.alloc,
-        word,
-        call,
-        value,
-        UnicodeKey::try_from_utf8(key),
-        out,
-    )
-}
-
 /// The answer to a row whose name after `keyword-` is this.
 pub fn answer(name: &str, row: &Call<'_>, out: &mut String) {
     let (call, word) = name.split_once('-').unwrap_or(("", name));
@@ -143,6 +126,6 @@ pub fn answer(name: &str, row: &Call<'_>, out: &mut String) {
         "default" => default(named, out),
         "key" => key_named(named, out),
         "memory" => refuse_keyword(out, &PreferencesParseError::from(AllocError)),
-        _ => asked(word, call, row, out),
+        _ => read(word, call, row, out),
     }
 }

@@ -8,9 +8,9 @@
 //!
 //! `stdin` and `stdout` are the rows with their answers: those of keywords, made of their table, worked examples of
 //! preferences, then vectors, of which vectors/README.md says where they came from. `grow.in` has rows that may want
-//! memory, `still.in` those that take none. All that the program needs
-//! for itself is asked for before the first row, so that every later request is one of the library's. Only generic
-//! functions own what was read, so that letting it go is proved but once.
+//! memory, `still.in` those that take none. All that the program needs for itself is asked for before the first row,
+//! so that every later request is one of the library's. Only generic functions own what was read, so that letting it
+//! go is proved but once.
 #![tactic(auto)]
 
 mod enums;
