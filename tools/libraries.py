@@ -19,10 +19,11 @@ def texts_of(crate):
 
 
 def is_fresh(crate):
-    """Returns whether the crate's library is there, and newer than its text and that of the
-    libraries below, as is what the gate left; or else is of that text, which takes long to tell."""
-    made = f"{crate.rlib}/format"
-    if os.path.isfile(made) and os.path.getmtime(made) > max(map(os.path.getmtime, texts_of(crate))):
+    """Returns whether the crate's library came here after its text and that of the libraries below,
+    as is what the gate left; or else is of that text, which takes long to tell. The gate links what
+    it kept, so that the time of the folder tells when it came, and not that of a file."""
+    came = os.path.getmtime(crate.rlib) if os.path.isfile(f"{crate.rlib}/format") else 0
+    if came > max(map(os.path.getmtime, texts_of(crate))):
         return True
     return crate.is_built()
 
