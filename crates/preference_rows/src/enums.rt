@@ -1,4 +1,5 @@
 //! The texts of enums.
+// Written by tools/write_keywords from tools/keywords.txt: change that table and not this file.
 use crate::keyword::Shown;
 use iloc_enum_keywords::{
     CollationCaseFirst, CollationNumericOrdering, CollationType, CommonVariantType,
