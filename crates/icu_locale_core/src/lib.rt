@@ -3,21 +3,26 @@
 //! It is the Rust crate `icu_locale_core` 2.4.0 in Rattle, at that crate's paths; the syntax is that of
 //! UTS #35 section 3. Each item is made in a lower crate and only passed on here.
 //!
-//! What it promises, by the contracts of the calls:
+//! What it promises, by the contracts of the calls. Out of memory aside, which is an error of that name and never ends
+//! a program:
 //!
 //! - For all bytes, `Locale::try_from_utf8` accepts exactly the texts of the grammar, each with its meaning.
 //!   Every other text is refused with the fault that the grammar names.
-//! - What is read is well-formed: its printed text reads back as it.
-//! - `Locale::normalize` answers the one normal text of the meaning, borrowed where the input is normal already.
-//!   Normalising twice is once; two texts have the same normal text exactly where they mean the same; no
-//!   accepted text of that meaning is shorter; and at most eight steps of rewriting lead there.
-//! - Printing, length hints, comparison with bytes and orders are those of the printed text and of the
-//!   definitions, for every value, also for one that was built and that no text means.
-//! - A data locale is read without memory, exactly where the definition says so; data locales are equal where they
-//!   stand for the same.
+//! - The printed text of a well-formed locale parses as that locale and no other. What was parsed is well-formed.
+//! - `Locale::normalize` returns the one normal text of the meaning, borrowed if the input is normal already.
+//!   Normalizing twice is normalizing once. Two texts have the same normal text exactly if they mean the same. No
+//!   accepted text of that meaning is shorter. At most eight rewriting steps lead there.
+//! - Printing, length hints, comparison with bytes, `==`, orders and hashes are those of the definitions, for every
+//!   value, also for one that was built and that no text means. `Locale::normalizing_eq` is `true` exactly if the text
+//!   is accepted and means this locale.
+//! - A data locale is parsed without memory, exactly if the definition has one. Data locales are equal if they stand
+//!   for the same.
 //! - Preferences of a locale are read, extended by others and turned into data locales and a locale as the definitions
 //!   say; the data locale of a locale is that of its preferences.
-//! - Want of memory is an answer, never an end of the program. Words take none, and short texts fit in place.
+//! - `to_json` writes the JSON string of the printed text. It parses back to the same value, if that is well-formed.
+//! - `program::run` writes the answer to all that it read, or a beginning of it and an error. The reader's and the
+//!   writer's contracts must tell their bytes.
+//! - Subtags take no memory, and short texts fit in place.
 //!
 //! A first example:
 //!

@@ -1,10 +1,13 @@
-//! Locales: identifiers with extensions, read, printed, normalised and compared.
+//! Locales: identifiers with extensions, parsed, printed, normalized and compared.
 //!
-//! It promises the headline of this library: for all bytes, `Locale::try_from_utf8` accepts exactly the texts
-//! of the grammar (UTS #35 section 3, `unicode_locale_id`), with their meaning, and refuses every other with
-//! the fault that the grammar names; the text of a well-formed locale reads back as it; normalising twice is
-//! once, texts have equal normal texts exactly where they mean the same, none of that meaning is shorter, and
-//! at most eight steps of rewriting lead there.
+//! It promises the headline of this library, out of memory aside: for all bytes, `Locale::try_from_utf8` accepts
+//! exactly the texts of the grammar (UTS #35 section 3, `unicode_locale_id`), with their meaning, and refuses every
+//! other with the fault that the grammar names. The text of a well-formed locale parses as that locale and no other.
+//! Normalizing twice is normalizing once. Normal texts are equal exactly if the meanings are. No accepted text of a
+//! meaning is shorter. At most eight rewriting steps lead there.
+//!
+//! `==`, `total_cmp` and hashes compare what locales mean, for every locale. `normalizing_eq` does so too, out of
+//! memory aside. What needs a premise of its own says so: a text parses back only as a well-formed locale.
 //!
 //! It stands on the public contracts of the identifiers (`iloc_langid`), the extensions (`iloc_extensions`),
 //! their reader (`iloc_blocks`) and the laws of the grammar (`iloc_grammar`).
