@@ -13,8 +13,8 @@
 //!   Normalizing twice is normalizing once. Two texts have the same normal text exactly if they mean the same. No
 //!   accepted text of that meaning is shorter. At most eight rewriting steps lead there.
 //! - Printing, length hints, comparison with bytes, `==`, orders and hashes are those of the definitions, for every
-//!   value, also for one that was built and that no text means. `Locale::normalizing_eq` is `true` exactly if the text
-//!   is accepted and means this locale.
+//!   value, also for one that was built and that no text means. Of well-formed locales `==` and `normalizing_eq` are
+//!   equality of meaning.
 //! - A data locale is parsed without memory, exactly if the definition has one. Data locales are equal if they stand
 //!   for the same.
 //! - Preferences of a locale are read, extended by others and turned into data locales and a locale as the definitions

@@ -6,8 +6,9 @@
 //! Normalizing twice is normalizing once. Normal texts are equal exactly if the meanings are. No accepted text of a
 //! meaning is shorter. At most eight rewriting steps lead there.
 //!
-//! `==`, `total_cmp` and hashes compare what locales mean, for every locale. `normalizing_eq` does so too, out of
-//! memory aside. What needs a premise of its own says so: a text parses back only as a well-formed locale.
+//! `==`, `total_cmp` and hashes compare values, for every locale. Of well-formed locales this is equality of meaning,
+//! since only their texts parse back. `normalizing_eq` is `true` exactly if the text is accepted and means this value;
+//! that of a locale no text means is `false`.
 //!
 //! It stands on the public contracts of the identifiers (`iloc_langid`), the extensions (`iloc_extensions`),
 //! their reader (`iloc_blocks`) and the laws of the grammar (`iloc_grammar`).
