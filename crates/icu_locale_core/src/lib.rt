@@ -144,6 +144,7 @@ pub mod data {
 
 /// What a locale prefers, and the keywords that say so.
 pub mod preferences {
+    pub use iloc_bench::{FormatPreferences, TimePreferences};
     pub use iloc_data::LocalePreferences;
     pub use iloc_keyword_types::PreferenceKey;
 

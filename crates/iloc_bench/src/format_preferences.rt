@@ -110,7 +110,7 @@ impl From<&Locale> for FormatPreferences {
     }
 }
 
-/// The same of a locale that is handed over.
+/// As from a reference to the locale.
 impl From<Locale> for FormatPreferences {
     ghost use Rattle.std.specs.Prelude.{◌≡◌};
     ghost use Rattle.iloc_locale.specs.LocaleValue.{value_of as locale_value};
@@ -138,7 +138,7 @@ impl From<&LanguageIdentifier> for FormatPreferences {
     }
 }
 
-/// The same of an identifier that is handed over.
+/// As from a reference to the identifier.
 impl From<LanguageIdentifier> for FormatPreferences {
     ghost use Rattle.std.specs.Prelude.{◌≡◌};
     ghost use Rattle.iloc_langid.specs.Reads.{value_of as identifier_of};

@@ -99,7 +99,7 @@ impl From<&Locale> for TimePreferences {
     }
 }
 
-/// The same of a locale that is handed over.
+/// As from a reference to the locale.
 impl From<Locale> for TimePreferences {
     ghost use Rattle.std.specs.Prelude.{◌≡◌};
     ghost use Rattle.iloc_locale.specs.LocaleValue.{value_of as locale_value};
@@ -130,7 +130,7 @@ impl From<&LanguageIdentifier> for TimePreferences {
     }
 }
 
-/// The same of an identifier that is handed over.
+/// As from a reference to the identifier.
 impl From<LanguageIdentifier> for TimePreferences {
     ghost use Rattle.std.specs.Prelude.{◌≡◌};
     ghost use Rattle.iloc_langid.specs.Reads.{value_of as identifier_of};

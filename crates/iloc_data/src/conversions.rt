@@ -87,7 +87,7 @@ impl From<&Locale> for DataLocale {
     }
 }
 
-/// The same of a locale that is handed over.
+/// As from a reference to the locale.
 impl From<Locale> for DataLocale {
     ghost use Rattle.std.specs.Prelude.{◌≡◌};
     ghost use Rattle.iloc_locale.specs.LocaleValue.{value_of as locale_value};
@@ -122,7 +122,7 @@ impl From<&LanguageIdentifier> for DataLocale {
     }
 }
 
-/// The same of an identifier that is handed over.
+/// As from a reference to the identifier.
 impl From<LanguageIdentifier> for DataLocale {
     ghost use Rattle.std.specs.Prelude.{◌≡◌};
     ghost use Rattle.iloc_langid.specs.Reads.{value_of as identifier_of};

@@ -79,7 +79,7 @@ impl DataLocale {
         Ok(DataLocale::made_of(language, script, part, variant))
     }
 
-    /// The same of text.
+    /// Reads all of a `str`, as `try_from_utf8` reads bytes.
     pub fn try_from_str(s: &str) -> Result<Self, ParseError>
         ensures reads { DataReadsAs s.now result }
         ensures back { IfOk result

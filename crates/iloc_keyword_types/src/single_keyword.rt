@@ -92,7 +92,7 @@ impl<K: KeywordKind, T: SubtagContent> TryFrom<&Value> for SingleKeyword<K, T> {
     }
 }
 
-/// The same of a value that is handed over.
+/// As from a reference to the value.
 impl<K: KeywordKind, T: SubtagContent> TryFrom<Value> for SingleKeyword<K, T> {
     type Error = PreferencesParseError;
 
@@ -112,7 +112,7 @@ impl<K: KeywordKind, T: SubtagContent> From<&SingleKeyword<K, T>> for Value {
     }
 }
 
-/// The same of a keyword that is handed over.
+/// As from a reference to the keyword.
 impl<K: KeywordKind, T: SubtagContent> From<SingleKeyword<K, T>> for Value {
     ghost from_gives = { λ keyword value. value ≡ T.gives keyword };
 

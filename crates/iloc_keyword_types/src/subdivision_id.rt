@@ -53,7 +53,7 @@ impl SubdivisionId {
         Ok(SubdivisionId { region, suffix })
     }
 
-    /// The same on a text that is UTF-8.
+    /// Reads a `str`, as `try_from_utf8` reads bytes.
     pub fn try_from_str(s: &str) -> Result<Self, ParseError>
         ensures { ReadsAs s.now result }
     {

@@ -82,7 +82,8 @@ impl LanguageIdentifier {
         read_whole(alloc, &mut SubtagIterator::new(code_units))
     }
 
-    /// The same in place of what this identifier was: `und` after a refusal.
+    /// Reads all of the text in place of what this identifier was, as `try_from_utf8` does. After a refusal it
+    /// is `und`.
     #[inline(always)]
     pub fn read(&mut self, alloc: Global, code_units: &[u8]) -> Result<(), ParseError>
         ensures reads { ReadsAs (pieces code_units.now) (result_and result (Ok self.new)) }
@@ -105,7 +106,7 @@ impl LanguageIdentifier {
         self.variants.clear();
     }
 
-    /// The same of text.
+    /// Reads all of a `str`, as `try_from_utf8` reads bytes.
     pub fn try_from_str(alloc: Global, s: &str) -> Result<Self, ParseError>
         ensures reads { ReadsAs (pieces s.now) result }
         ensures steps { KeepsThroughSteps s.now result }

@@ -84,7 +84,8 @@ impl Locale {
         Ok(locale)
     }
 
-    /// The same in place of what this locale was: `und` after a refusal. Memory that it holds is used again.
+    /// Reads all of the text in place of what this locale was, as `try_from_utf8` does. After a refusal it is
+    /// `und`. Memory that it holds is used again.
     pub fn read(&mut self, alloc: Global, code_units: &[u8]) -> Result<(), ParseError>
         ensures reads { LocaleReadsAs code_units.now (result_and result (Ok self.new)) }
         ensures refused { OnErr result (value_of self.new ≡ unknown_locale) }
@@ -115,7 +116,7 @@ impl Locale {
         read_blocks(alloc, &mut iter, &mut self.extensions)
     }
 
-    /// The same of text.
+    /// Reads all of a `str`, as `try_from_utf8` reads bytes.
     pub fn try_from_str(alloc: Global, s: &str) -> Result<Self, ParseError>
         ensures reads { LocaleReadsAs s.now result }
         ensures accepted { (M : meaning.Locale) → Means languages s.now M → Accepts M result }

@@ -37,7 +37,7 @@ impl Locale {
         Ok(to_string_or_borrow(alloc, &locale, input)?)
     }
 
-    /// The same of text.
+    /// Returns the normalized text of a `str`, as `normalize_utf8` does for bytes.
     pub fn normalize(alloc: Global, input: &str) -> Result<CowStr<'_, Global>, ParseError>
         ensures ok { IfOk result (λ text. IsNormalizedFrom input.now (cow_str_bytes text)
             × (IsLent text ↔ (input.now ≡ cow_str_bytes text))) }

@@ -116,7 +116,7 @@ impl Other {
         Other::try_from_iter(alloc, ext, &mut iter)
     }
 
-    /// The same on a text.
+    /// Reads a `str`, as `try_from_utf8` reads bytes.
     pub fn try_from_str(alloc: Global, s: &str) -> Result<Self, ParseError>
         ensures { OtherTextReads s.now result }
     {

@@ -127,7 +127,7 @@ impl Private {
         Private::try_from_iter(alloc, &mut iter)
     }
 
-    /// The same on a text.
+    /// Reads a `str`, as `try_from_utf8` reads bytes.
     pub fn try_from_str(alloc: Global, s: &str) -> Result<Self, ParseError>
         ensures { PrivateTextReads s.now result }
     {
@@ -143,7 +143,7 @@ impl Private {
         Ok(words)
     }
 
-    /// The same into an empty list. After a refusal it holds the words before the fault.
+    /// Reads what follows `x` into an empty list. After a refusal it holds the words before the fault.
     pub fn fill(&mut self, alloc: Global, iter: &mut SubtagIterator<'_>) -> Result<(), ParseError>
         requires { self.old ≡ [] }
         ensures { PrivateReads (left iter.old) (left iter.new) (result_and result (Ok self.new)) }

@@ -103,7 +103,7 @@ impl Transform {
         Transform::try_from_iter(alloc, &mut iter)
     }
 
-    /// The same on a text.
+    /// Reads a `str`, as `try_from_utf8` reads bytes.
     pub fn try_from_str(alloc: Global, s: &str) -> Result<Self, ParseError>
         ensures { TransformTextReads s.now result }
     {
@@ -119,7 +119,7 @@ impl Transform {
         Ok(transform)
     }
 
-    /// The same into an empty extension. After a refusal it holds what was read before the fault.
+    /// Reads what follows `t` into an empty extension. After a refusal it holds what was read before the fault.
     pub fn fill(&mut self, alloc: Global, iter: &mut SubtagIterator<'_>) -> Result<(), ParseError>
         requires lang { self.old.lang ≡ None }
         requires fields { self.old.fields ≡ [] }

@@ -84,7 +84,7 @@ impl Value {
         }
     }
 
-    /// The same on a text.
+    /// Reads a `str`, as `try_from_utf8` reads bytes.
     pub fn try_from_str(alloc: Global, s: &str) -> Result<Self, ParseError>
         ensures { ValueReads s.now result }
     {

@@ -78,7 +78,7 @@ impl Attributes {
         Ok(Self::try_from_iter(alloc, &mut iter)?)
     }
 
-    /// The same on a text that is UTF-8.
+    /// Reads a `str`, as `try_from_utf8` reads bytes.
     pub fn try_from_str(alloc: Global, s: &str) -> Result<Self, ParseError>
         ensures { AttributesReadAs s.now result }
     {
@@ -86,7 +86,7 @@ impl Attributes {
     }
 
     /// The set of these attributes, which have to ascend strictly:
-    /// `iloc_word_set::is_strictly_ascending` is the test.
+    /// `is_strictly_ascending` of `subtags` is the test.
     pub fn from_vec_unchecked(input: Vec<Attribute>) -> Self
         requires { ascends word_cmp input.items ≡ true }
         ensures { result ≡ input.items }

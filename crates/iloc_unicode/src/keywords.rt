@@ -112,7 +112,7 @@ impl Keywords {
         Self::try_from_iter(alloc, &mut SubtagIterator::new(code_units))
     }
 
-    /// The same on a text that is UTF-8.
+    /// Reads a `str`, as `try_from_utf8` reads bytes.
     pub fn try_from_str(alloc: Global, s: &str) -> Result<Self, ParseError>
         ensures { KeywordsReadAs s.now result }
     {

@@ -70,7 +70,7 @@ impl Keywords {
         Ok(keywords)
     }
 
-    /// The same into the empty map. After a refusal it holds the keywords before the fault.
+    /// Reads keywords into the empty map. After a refusal it holds the keywords before the fault.
     pub fn fill(&mut self, alloc: Global, iter: &mut SubtagIterator<'_>) -> Result<(), ParseError>
         requires { self.old ≡ [] }
         ensures { KeywordsGive (left iter.old) (left iter.new) (result_and result (Ok self.new)) }
@@ -107,7 +107,7 @@ impl Unicode {
         Ok(unicode)
     }
 
-    /// The same into an empty extension. After a refusal it holds what was read before the fault.
+    /// Reads what follows `u` into an empty extension. After a refusal it holds what was read before the fault.
     pub fn fill(&mut self, alloc: Global, iter: &mut SubtagIterator<'_>) -> Result<(), ParseError>
         requires keywords { self.old.keywords ≡ [] }
         requires attributes { self.old.attributes ≡ [] }

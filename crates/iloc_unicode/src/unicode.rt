@@ -53,7 +53,7 @@ impl Unicode {
         Self::try_from_iter(alloc, &mut iter)
     }
 
-    /// The same on a text that is UTF-8.
+    /// Reads a `str`, as `try_from_utf8` reads bytes.
     pub fn try_from_str(alloc: Global, s: &str) -> Result<Self, ParseError>
         ensures { UnicodeReadsAs s.now result }
     {

@@ -42,7 +42,7 @@ impl TryFrom<&Value> for CurrencyType {
     }
 }
 
-/// The same of a value that is handed over.
+/// As from a reference to the value.
 impl TryFrom<Value> for CurrencyType {
     type Error = PreferencesParseError;
 
@@ -62,7 +62,7 @@ impl From<&CurrencyType> for Value {
     }
 }
 
-/// The same of a currency that is handed over.
+/// As from a reference to the currency.
 impl From<CurrencyType> for Value {
     ghost from_gives = { λ currency value. value ≡ currency_gives currency };
 

@@ -31,7 +31,7 @@ impl Value {
         }
     }
 
-    /// The same of a text that is UTF-8.
+    /// Reads a `str`, as `try_from_utf8` reads bytes.
     pub fn try_from_str(alloc: Global, s: &str) -> Result<Self, ParseError>
         ensures { ReadsAs s.now result }
     {

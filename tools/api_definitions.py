@@ -1,0 +1,132 @@
+"""Reads the definitions that contracts cite (`specs/*.antt`), and the page that tells them in words."""
+import functools
+import glob
+import os
+import re
+
+from api_source import TOP, libraries, place, read
+
+DECLARED = re.compile(r"^(?:abbrev |unfoldable )?pub (?:record |data )?([\w']+)")
+CASES = re.compile(r"^  (?:pub )?([\w' ]+) :")
+USED = re.compile(r"use Rattle\.((?:[\w']+\.)+)\{([^}]*)\}|use Rattle\.([\w.']+) as ([\w']+)")
+WORDS = "docs/DEFINITIONS.md"
+
+
+class Block:
+    """A definition with its comment, or a remark between definitions."""
+
+    def __init__(self, text, name, number):
+        self.text, self.name, self.number = text, name, number
+
+    def names(self):
+        """Returns the names that the block declares: its own, and its cases or fields."""
+        found = [self.name] if self.name else []
+        for line in self.text.split("\n"):
+            if cases := CASES.match(line):
+                found += cases.group(1).split()
+        return found
+
+
+class Definitions:
+    """A file of definitions: its blocks, and what the names in it mean."""
+
+    def __init__(self, crate, module, path):
+        self.crate, self.module, self.path = crate, module, path
+        self.text = read(path)
+        self.blocks = list(blocks_of(self.text))
+        self.own = {name for block in self.blocks for name in block.names()}
+        self.used = names_used(self.text)
+
+    def page(self):
+        return f"spec.{self.crate}.{self.module}.html"
+
+
+def blocks_of(text):
+    """Yields the blocks of a file: each ends at an empty line before the next declaration or remark."""
+    number, lines, first = 0, [], 1
+    for number, line in enumerate([*text.split("\n"), ""], 1):
+        if line.strip():
+            first = first if lines else number
+            lines.append(line)
+        elif lines:
+            if not all(it.startswith(("use ", "pub use ", "pub mod ", "mod ", "  ", "}")) for it in lines):
+                name = next((DECLARED.match(it).group(1) for it in lines if DECLARED.match(it)), "")
+                kept = [it for it in lines if not it.startswith(("use ", "pub use "))]
+                yield Block("\n".join(kept), name if name not in ("use", "mod") else "", first)
+            lines = []
+
+
+def names_used(text):
+    """Returns where the names of other files are defined: (crate, module, name)."""
+    found = {}
+    for group, names, whole, alias in USED.findall(text):
+        for name in filter(None, map(str.strip, names.split(","))):
+            made, _, shown = name.partition(" as ")
+            found[shown or made] = (*place(group.rstrip(".")), made)
+        if whole:
+            found[alias] = (*place(whole), "")
+    return found
+
+
+@functools.cache
+def files():
+    """Returns the files of definitions by crate and module."""
+    found = {}
+    for crate in libraries():
+        for path in sorted(glob.glob(f"{TOP}/crates/{crate}/specs/**/*.antt", recursive=True)):
+            module = os.path.relpath(path, f"{TOP}/crates/{crate}/specs").removesuffix(".antt").replace("/", ".")
+            if module != "Lib":
+                found[crate, module] = Definitions(crate, module, os.path.relpath(path, TOP))
+    return found
+
+
+def address(crate, module, name):
+    """Returns the page and the anchor of a definition, or nothing; what a module passes on is followed."""
+    it = files().get((crate, module))
+    if not it:
+        return ""
+    if not name:
+        return it.page()
+    if name in it.own:
+        return f"{it.page()}#{name}"
+    return address(*it.used[name]) if name in it.used and it.used[name][:2] != (crate, module) else ""
+
+
+def within(definitions, token):
+    """Returns the address of a name in a file of definitions."""
+    first, _, rest = token.partition(".")
+    if first in definitions.own and not rest:
+        return f"#{first}"
+    if first in definitions.used:
+        crate, module, name = definitions.used[first]
+        return address(crate, module, name or rest.split(".")[0])
+    return ""
+
+
+def slug(heading):
+    """Returns the anchor of a heading."""
+    return re.sub(r"[^\w -]", "", heading.lower()).strip().replace(" ", "-")
+
+
+@functools.cache
+def told():
+    """Returns the headings of docs/DEFINITIONS.md under which each name stands in code."""
+    found, heading = {}, ""
+    for line in read(WORDS).split("\n"):
+        if line.startswith("## "):
+            heading = line[3:]
+        elif heading:
+            for name in re.findall(r"`([\w']+)`", line):
+                found.setdefault(name, heading)
+    return found
+
+
+@functools.cache
+def by_name():
+    """Returns the address of each name that only one file defines."""
+    found = {}
+    for it in files().values():
+        for block in it.blocks:
+            if block.name:
+                found.setdefault(block.name, set()).add(f"{it.page()}#{block.name}")
+    return {name: next(iter(places)) for name, places in found.items() if len(places) == 1}

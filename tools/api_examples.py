@@ -1,0 +1,182 @@
+"""Finds for each call a line of a program or of a test that makes it, and that the gate runs.
+
+The programs that use the public crate come first, then the programs of rows and the tests. What a call
+is made on is told by the parameters and the `let`s of the function, and by the fields of structs."""
+import functools
+import glob
+import os
+import re
+
+from api_model import entries
+from api_source import ROOT, TOP, crate, libraries, read
+
+FIRST = ("crates/first_locale", "crates/recipes")
+FUNCTION = re.compile(r"^( *)(?:pub(?:\([a-z]+\))? )?(?:final )?fn (\w+)[^(]*\((.*?)\)(?=\s*(?:->|where|requires|ensures|\{|;))", re.S | re.M)
+USE = re.compile(r"^\s*use ([\w:]+?)::(?:\{([^}]*)\}|(\w+(?: as \w+)?));", re.M)
+IMPL = re.compile(r"^impl(?:<[^\n]*?>)? (?:[^\n]*? for )?(\w+)", re.M)
+STATIC = re.compile(r"\b([A-Z]\w*)(?:::<[^>()]*>)?::(\w+)(?:::<[^>()]*>)?\(")
+METHOD = re.compile(r"\b(\w+)((?:\.[a-z_]\w*)*)\.(\w+)(?:::<[^>()]*>)?\(")
+BARE = re.compile(r"(?<![\w.:])(\w+)(?:::<[^>()]*>)?\(")
+LET = re.compile(r"let (?:mut )?(\w+)(?:: [^=]+)? = (?:match )?(\w+)(?:::<[^>()]*>)?::(\w+)\(")
+MATCHED = re.compile(r"(?:match|let) (\w+)(?:::<[^>()]*>)?::(try_\w+|new)\([^{]*\{[^{}]*?\bOk\((?:mut )?(\w+)\)")
+BORROWED = re.compile(r"let (?:mut )?(\w+) = &(?:mut )?(\w+)((?:\.\w+)*);")
+
+
+def files():
+    """Returns the files that the gate runs: programs of users, programs of rows, tests."""
+    inner, found = set(libraries()), []
+    for name in sorted(os.listdir(f"{TOP}/crates")):
+        if name not in inner or name == ROOT:
+            found += glob.glob(f"{TOP}/crates/{name}/src/*.rt")
+    paths = [os.path.relpath(it, TOP) for it in found]
+    paths = [it for it in paths if not it.startswith(f"crates/{ROOT}/") or it.endswith("tests.rt")]
+    return sorted(paths, key=lambda it: (f"use {ROOT}::" not in read(it), not it.startswith(FIRST), it))
+
+
+@functools.cache
+def by_home():
+    return {(it.crate, made_name(it)): it for it in entries() if not it.see}
+
+
+def made_name(entry):
+    return re.search(r"pub (?:unsafe )?\w+ (\w+)", entry.item.signature).group(1)
+
+
+@functools.cache
+def by_path():
+    return {it.path: (by_home().get((it.crate, made_name(it)), it)) for it in entries()}
+
+
+@functools.cache
+def calls_of(entry):
+    return {it.name: it for it in by_home()[entry].calls}
+
+
+@functools.cache
+def only_ones():
+    """Returns the calls whose names no other type has."""
+    found = {}
+    for entry in by_home().values():
+        for call in entry.calls:
+            found.setdefault(call.name, []).append(call.key)
+    return {name: keys[0] for name, keys in found.items() if len(keys) == 1}
+
+
+def names_of(text):
+    """Returns the types that a file knows by name, as (crate, name)."""
+    known = {}
+    for path, several, one in USE.findall(text):
+        for name in filter(None, map(str.strip, (several or one).split(","))):
+            made, _, shown = name.partition(" as ")
+            path = path.replace("crate::", f"{ROOT}::").removesuffix("::self")
+            if path == "crate":
+                path = ROOT
+            entry = by_path().get(f"{path}::{made}")
+            home = (entry.crate, made_name(entry)) if entry else (path.split("::")[0], made)
+            if home in by_home():
+                known[shown or made] = home
+    return known
+
+
+def bare(kind):
+    """Returns the name of a type without its references and parameters."""
+    found = re.match(r"\s*(?:&(?:'\w+ )?)?(?:mut )?(?:dyn )?(?:[a-z_]\w*::)*([A-Z]\w*)", kind)
+    return found.group(1) if found else ""
+
+
+@functools.cache
+def fields_of(home):
+    """Returns the types of the public fields of a struct."""
+    found, by_name = {}, {made: (at, made) for at, made in by_home()}
+    for text, _ in by_home()[home].fields:
+        field = re.match(r"pub (\w+): (\w+)$", text)
+        if field and field.group(2) in by_name:
+            found[field.group(1)] = by_name[field.group(2)]
+    return found
+
+
+def along(home, fields):
+    """Returns the type at the end of a chain of fields."""
+    for field in filter(None, fields.split(".")):
+        home = fields_of(home).get(field) if home else None
+    return home
+
+
+def call_at(home, name):
+    """Returns the key of the call of the type, or of the generic type that it names."""
+    if not home:
+        return None
+    entry = by_home()[home]
+    if name in calls_of(home):
+        return calls_of(home)[name].key
+    base = (entry.crate, entry.base)
+    return calls_of(base)[name].key if entry.base and base in by_home() and name in calls_of(base) else None
+
+
+def types_in(header, body, known, own):
+    """Returns the types of the names in a function."""
+    found = {re.sub(r"(?<=.)([A-Z])", r"_\1", name).lower(): home for name, home in known.items()}
+    if own:
+        found["self"] = own
+    for part in re.split(r",(?![^<(]*[>)])", header):
+        name, _, kind = part.partition(":")
+        if bare(kind) in known:
+            found[name.strip().removeprefix("mut ")] = known[bare(kind)]
+    for name, kind, call in LET.findall(body):
+        if kind in known and re.match(r"try_from|from|new|unknown|default", call):
+            found[name] = known[kind]
+    for kind, call, name in MATCHED.findall(body):
+        if kind in known:
+            found[name] = known[kind]
+    for name, start, fields in BORROWED.findall(body):
+        if start in found and along(found[start], fields):
+            found[name] = along(found[start], fields)
+    return found
+
+
+def made_on(line, known, types):
+    """Yields the keys of the calls in a line."""
+    for kind, name in STATIC.findall(line):
+        yield call_at(known.get(kind), name) or only_ones().get(name)
+    for kind, name in re.findall(r"\b([A-Z]\w+)::[A-Z]\w+\.(\w+)\(", line):
+        yield call_at(known.get(kind), name)
+    for start, fields, name in METHOD.findall(line):
+        yield call_at(along(types.get(start), fields), name) or only_ones().get(name)
+    for name in re.findall(r"\)\??\.(\w+)\(", line):
+        yield only_ones().get(name)
+    for name in BARE.findall(line):
+        if name in known and by_home()[known[name]].kind == "fn":
+            yield (*known[name], name)
+    for name in re.findall(r"\b(?:key|known_keys)::(\w+)\(", line):
+        yield only_ones().get(name)
+
+
+def lines_of(path):
+    """Yields each line within a function, with its number, the names of the file and the types."""
+    text = read(path)
+    known = names_of(text)
+    owners = [(it.start(), known.get(it.group(1))) for it in IMPL.finditer(text)]
+    functions = list(FUNCTION.finditer(text))
+    for n, found in enumerate(functions):
+        end = functions[n + 1].start() if n + 1 < len(functions) else len(text)
+        body = text[found.end() : end]
+        own = None
+        if found.group(1):
+            own = next((kind for at, kind in reversed(owners) if at < found.start()), None)
+        types = types_in(found.group(3), body, known, own)
+        first = text.count("\n", 0, found.end()) + 1
+        for number, line in enumerate(body.split("\n"), first):
+            yield number, line.strip(), known, types
+
+
+@functools.cache
+def examples():
+    """Returns for each call's key the path, the number and the text of a line that makes it."""
+    found = {}
+    for path in files():
+        for number, line, known, types in lines_of(path):
+            if line.startswith("//") or "fn " in line:
+                continue
+            for key in filter(None, made_on(line, known, types)):
+                found.setdefault(key, (path, number, line))
+    return found

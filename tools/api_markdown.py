@@ -1,0 +1,203 @@
+"""The pages of public items as Markdown: an index, a page for each module, and the tables of other pages."""
+import re
+
+import api_words
+from api_examples import examples
+from api_model import error_of, model
+from api_source import ROOT
+
+HOME = "docs/api"
+INDEX = f"""# Public items
+
+Every public item that `{ROOT}` passes on, one page for each module. Each call has its signature, what it does, the condition that it needs, each refusal with when it comes, whether it may run out of memory, and a line of a program that the gate runs.
+
+`tools/list_api` makes these pages of the sources, and `tools/list_api --check` says whether they are current. `tools/list_api --html DIR` writes them as a web page with search, with each contract and the definitions that it cites. docs/FROM_RUST.md has the name of each item in the Rust crate.
+
+- A call that may allocate has a parameter `alloc: Global`. It returns a `Result`, and running out of memory is one of its refusals. An item that keeps its refusals apart names them in its error type.
+- *Inline* means that a text has few enough parts to need no heap: docs/DEFINITIONS.md, "Texts that are read without memory", says how many.
+- Words (subtags) of all eleven kinds are one type, `subtags::WordOf`, and sets of variants one `WordSet`. Their names, as `Language` or `Variants`, are aliases. So an error message says `WordOf<RegionKind, 3>` for a `Region`.
+"""
+
+
+def page_of(module):
+    """Returns the file of a module's page."""
+    return f"{HOME}/{module.replace(f'{ROOT}::', '').replace('::', '.')}.md"
+
+
+def anchor(title):
+    """Returns the anchor that a heading of this code has."""
+    return re.sub(r"[^\w -]", "", title.lower()).replace(" ", "-")
+
+
+def link(entry_path, within):
+    """Returns a link to an entry's heading, of a page in the same folder."""
+    module, _, name = entry_path.rpartition("::")
+    file = page_of(module).rpartition("/")[2]
+    at = "" if module == within else file
+    return f"[`{entry_path.removeprefix(f'{ROOT}::')}`]({at}#{anchor(name)})"
+
+
+def example_row(call):
+    """Returns the line of a program that makes the call, with a link."""
+    found = examples().get(call.key)
+    if not found:
+        return ""
+    path, number, line = found
+    return f"- Example: `{line}` in [{path.removeprefix('crates/')}](../../{path}#L{number})"
+
+
+def refusal_rows(call):
+    rows = [f"  - `{name}` if {when}." for name, when in call.refuses]
+    return ["- Refuses:"] + rows if rows else []
+
+
+def call_rows(call):
+    rows = [f"#### `{call.title}`", "", f"    {call.signature}", "", call.sentence or "."]
+    rows += ["", *[it for part in call.details for it in (part, "")]] if call.details else [""]
+    facts = [f"- Needs: {it}" for it in call.needs] + refusal_rows(call)
+    facts.append(f"- Memory: {call.memory}")
+    facts += [example_row(call)] if example_row(call) else []
+    labels = ", ".join(f"`{it.label}`" for it in call.item.clauses if it.label and it.kind != "requires")
+    named = f", clauses {labels}" if labels else ""
+    if call.item.clauses:
+        facts.append(f"- Contract: [{call.item.path.removeprefix('crates/')}](../../{call.item.path}#L{call.item.number}){named}")
+    return rows + facts + [""]
+
+
+def trait_rows(entry, homes):
+    """Returns the traits of a type: those of std in a line, ours linked, with what is special."""
+    plain = [f"`{it.trait}`" for it in entry.given if not it.said and it.trait not in homes]
+    rows = [f"- {link(homes[it.trait], entry.module)}" + (f": {it.said}" if it.said else "") for it in entry.given if it.trait in homes]
+    rows += [f"- `{it.trait}`: {it.said}" for it in entry.given if it.said and it.trait not in homes]
+    line = [f"Traits: {', '.join(plain)}.", ""] if plain else []
+    return line + rows + ([""] if rows else [])
+
+
+def entry_rows(entry, homes):
+    rows = [f"### `{entry.name}`", "", f"    {entry.signature.removeprefix('pub ')}", ""]
+    if entry.see:
+        return rows + [f"Described at {link(entry.see, entry.module)}.", ""]
+    if entry.kind == "fn":
+        return [it.replace("#### ", "### ") for it in call_rows(entry.calls[0])]
+    rows += [entry.sentence or ".", ""] + [it for part in entry.details for it in (part, "")]
+    if entry.refusal:
+        rows += [f"Its refusal is `{entry.refusal}`.", ""]
+    if entry.base:
+        rows += [f"It is a {link(f'{base_home(entry.base)}::{entry.base}', entry.module)}, and has its calls and traits.", ""]
+    rows += [f"- `{text}`" + (f": {said}" if said else "") for text, said in entry.fields] + ([""] if entry.fields else [])
+    rows += trait_rows(entry, homes)
+    if entry.name == "JsonText":
+        rows += ["Types that have it: " + ", ".join(json_types()) + ".", ""]
+    return rows + [it for call in entry.calls for it in call_rows(call)]
+
+
+def base_home(base):
+    """Returns the module at which a generic type is shown."""
+    return next(it.module for module in model() for it in module.entries if it.name == base and not it.see)
+
+
+def json_types():
+    """Returns the types that are written as JSON strings."""
+    has = {it.name for module in model() for it in module.entries for given in it.given if given.trait == "JsonText"}
+    aliases = [it.name for module in model() for it in module.entries if it.base == "WordOf" and not it.see]
+    return [f"`{it}`" for it in sorted(has - {"WordOf"}) + (aliases if "WordOf" in has else [])]
+
+
+def trait_homes():
+    """Returns the paths of the public traits by their names."""
+    return {it.name: it.path for module in model() for it in module.entries if it.kind == "trait" and not it.see}
+
+
+def module_page(module):
+    """Returns the page of a module."""
+    rows = [f"# `{module.path}`", "", module.comment, "", "[All modules](../API.md)", ""]
+    for entry in module.entries:
+        rows += entry_rows(entry, trait_homes())
+    return re.sub(r"\n{3,}", "\n\n", "\n".join(rows)).rstrip() + "\n"
+
+
+def index():
+    """Returns the page that leads to the others."""
+    rows = [INDEX.rstrip(), "", "| Module | Items |", "|---|---|"]
+    for module in model():
+        names = ", ".join(f"`{it.name}`" for it in module.entries)
+        file = page_of(module.path).removeprefix("docs/")
+        rows.append(f"| [`{module.path}`]({file}): {module.comment} | {names} |")
+    return "\n".join(rows) + "\n"
+
+
+def pages():
+    """Returns the text of each page by its file."""
+    made = {page_of(it.path): module_page(it) for it in model()}
+    made["docs/API.md"] = index()
+    return made
+
+
+def allocator_table():
+    """Returns the table of calls that take the allocator."""
+    kinds = {"may": {}, "keeps": {}, "own": {}}
+    for module in model():
+        for entry in module.entries:
+            for call in entry.calls:
+                takes = re.search(r"\b_?alloc: Global", call.signature)
+                kind = "may" if takes and "Result<" in call.signature else "keeps" if takes else "own" if error_of(call.item) == "AllocError" else ""
+                if kind and not entry.see:
+                    kinds[kind].setdefault(call.owner or module.short, []).append(f"`{call.name}`")
+    heads = {
+        "may": "taken; running out of memory is a refusal, so write `?`",
+        "keeps": "taken and kept; nothing is allocated, so no `?`",
+        "own": "not taken: the value's own; write `?`",
+    }
+    rows = ["| Type or module | Calls | `alloc` |", "|---|---|---|"]
+    for kind, owners in kinds.items():
+        rows += [f"| `{owner}` | {', '.join(dict.fromkeys(names))} | {heads[kind]} |" for owner, names in owners.items()]
+    return "\n".join(rows)
+
+
+def change(call):
+    """Returns what a Rust program changes at the call; nothing if only the name has to be there."""
+    title = f"{call.owner}::{call.name}"
+    if title in api_words.CHANGES:
+        return api_words.CHANGES[title]
+    takes = "`alloc` first" if re.search(r"\b_?alloc: Global", call.signature) else ""
+    fails = "`?`" if takes and "Result<" in call.signature or error_of(call.item) == "AllocError" else ""
+    return ", ".join(filter(None, [takes, fails]))
+
+
+def rust_row(entry):
+    """Returns the row of a type: what stays, what changes, what has another name."""
+    same, changed, named = [], {}, []
+    for call in entry.calls:
+        change_of = change(call)
+        if not call.rust:
+            continue
+        if call.rust.rpartition("::")[2] != call.name:
+            named.append(f"`{call.rust.removeprefix(entry.rust + '::')}`: `{call.name}`" + (f" ({change_of})" if change_of else ""))
+        elif change_of:
+            changed.setdefault(change_of, []).append(f"`{call.name}`")
+        else:
+            same.append(f"`{call.name}`")
+    if entry.kind == "fn":
+        same, changed = [], {it: [f"`{entry.name}`"] for it in filter(None, map(change, entry.calls))}
+    said = "; ".join(f"{', '.join(names)}: {how}" for how, names in changed.items())
+    here = entry.path.removeprefix(f"{ROOT}::")
+    return f"| `{entry.rust.removeprefix(f'{ROOT}::') or entry.name}` | `{here}` | {', '.join(same)} | {said} | {'; '.join(named)} |"
+
+
+def from_rust_table():
+    """Returns the table of the Rust crate's items, each with the one that stands for it here."""
+    rows = ["| Rust crate 2.4.0 | Here | As it is | Change | Rust's form: here |", "|---|---|---|---|---|"]
+    own = []
+    for module in model():
+        if module.short == "extensions::unicode::key":
+            rows.append("| macro `key!(\"ca\")` of `extensions::unicode` | `extensions::unicode::key` | | a function for each key of a keyword type, as `key::ca()` | |")
+            continue
+        for entry in module.entries:
+            is_base = entry.calls and entry.calls[0].rust and not entry.rust
+            if entry.see:
+                continue
+            if entry.rust or is_base:
+                rows.append(rust_row(entry))
+            else:
+                own.append(f"`{entry.path.removeprefix(f'{ROOT}::')}`")
+    return "\n".join(rows) + "\n\nOnly here: " + ", ".join(own) + "."

@@ -1,0 +1,398 @@
+"""The public items of icu_locale_core as the pages show them: what each call needs, refuses and takes,
+of its signature, its clauses and the table of words."""
+import dataclasses
+import functools
+import re
+
+import api_words
+from api_source import ALIAS, HEAD, ROOT, citations, crate, libraries, modules
+
+INNER = re.compile(r"pub (?!\()|[A-Z]")
+OURS = ("Writeable", "Sink", "Word", "WordKind", "Store", "PreferenceKey", "JsonText", "TextValue")
+OF_STD = (
+    "Clone Copy Debug Default Drop Display Eq Error From FromStr Hash IntoIterator Iterator Ord PartialEq "
+    "PartialOrd TryFrom Add AddAssign"
+).split()
+GIVERS = {
+    "Sink": "the sink",
+    "FnMut": "the closure",
+    "IntoIterator": "the iterator",
+    "Read": "the reader",
+    "Write": "the writer",
+}
+
+
+@dataclasses.dataclass
+class Call:
+    """A call: what it says, and the words of its contract."""
+
+    owner: str
+    name: str
+    item: object
+    crate: str
+    signature: str
+    sentence: str
+    details: list
+    needs: list
+    refuses: list
+    memory: str
+    rust: str
+    key: tuple
+
+    @property
+    def title(self):
+        return f"{self.owner}::{self.name}" if self.owner else self.name
+
+    @property
+    def is_law(self):
+        """A law has an empty body and no result: its clauses are facts of the definitions."""
+        return not self.owner and "->" not in self.signature and self.item.lines[-1].strip() == "}" and "requires" not in self.signature
+
+
+@dataclasses.dataclass
+class Given:
+    """A trait that a type has: its name, and what is special for the type."""
+
+    trait: str
+    said: str
+
+
+@dataclasses.dataclass
+class Entry:
+    """A type, a trait or a function of a module."""
+
+    module: str
+    name: str
+    kind: str
+    item: object
+    crate: str
+    signature: str
+    sentence: str
+    details: list
+    fields: list
+    calls: list
+    given: list
+    base: str
+    rust: str
+    see: str = ""
+    refusal: str = ""
+
+    @property
+    def path(self):
+        return f"{self.module}::{self.name}"
+
+
+@dataclasses.dataclass
+class Module:
+    path: str
+    comment: str
+    entries: list
+
+    @property
+    def short(self):
+        return self.path.removeprefix(ROOT).removeprefix("::") or ROOT
+
+
+def fits(table, fact):
+    """Returns the words of the first row that fits the fact, or nothing."""
+    for pattern, words in table:
+        if found := re.match(pattern, fact):
+            return found.expand(words)
+    return ""
+
+
+def needs(item):
+    """Returns the conditions of a call in words; a clause without words is shown as it is."""
+    facts = [it.fact for it in item.clauses if it.kind == "requires"]
+    return [fits(api_words.CONDITIONS, it) or f"`{it}`." for it in dict.fromkeys(facts)]
+
+
+def unworded():
+    """Returns the clauses that the table has no words for."""
+    calls = [it for module in model() for entry in module.entries for it in entry.calls]
+    return [f"{it.title} needs {need}" for it in calls for need in it.needs if need.startswith("`") and "≡" in need]
+
+
+def enough(item):
+    """Returns when the call surely takes no memory."""
+    found = []
+    for clause in item.clauses:
+        ends = re.match(r"(?:(.*) → )?(?:IsOk result|IsOkAnd result IsLent)$", clause.fact)
+        if ends and clause.kind == "ensures":
+            premise = ends.group(1) or ""
+            found.append(fits(api_words.ENOUGH, premise) or f"`{premise}`")
+        if re.match(api_words.ALWAYS, clause.fact):
+            found.append("always")
+    return list(dict.fromkeys(found))
+
+
+def reader(home, made):
+    """Returns the words of a relation: of its crate, or of its name where no other crate has it."""
+    by_name = [it for it in api_words.READERS if it.endswith(f".{made}")]
+    known = f"{home}.{made}"
+    return api_words.READERS.get(known if known in api_words.READERS or len(by_name) != 1 else by_name[0])
+
+
+def relation(item):
+    """Returns the refusals of a reader and when it wants memory, of the relation that it states."""
+    for clause in item.clauses:
+        for name in re.findall(r"\b[A-Z]\w+", clause.fact):
+            for home, _, made in citations(item.path).get(name, ()):
+                if words := reader(home, made):
+                    return words
+    return None
+
+
+def kinds():
+    """Returns each alias of a word with the refusal of its kind."""
+    it, found = crate("iloc_subtags"), {}
+    for trait, _, base, item in it.given:
+        if trait.startswith("WordKind<"):
+            refusal = re.search(r"ParseError::(\w+)\n", "\n".join(item.lines)).group(1)
+            found[base] = refusal
+    return {alias: found[re.search(r"<(\w+)", whole).group(1)] for whole, alias in it.aliases.items() if whole.startswith("WordOf<")}
+
+
+def by_refusal():
+    """Returns each refusal of words with the kinds that have it."""
+    found = {}
+    for alias, refusal in kinds().items():
+        found.setdefault(refusal, []).append(f"`{alias}`")
+    return [(refusal, ", ".join(names)) for refusal, names in found.items()]
+
+
+def refuses(item, owner, name):
+    """Returns each refusal of a call with when it comes, and when memory is wanted."""
+    ends = re.search(r"-> (?:[\w:]+::)?Result<(.*)>(?: where .*)?$", item.signature) or re.search(r"-> io::Result<(.*)>", item.signature)
+    if not ends:
+        return [], None
+    if found := api_words.BY_CALL.get(f"{owner}::{name}" if owner else name) or relation(item):
+        return found
+    if "read K.kind K.refusal" in facts(item) or "ReadsRaw" in facts(item):
+        what = "raw form of a normal word" if "ReadsRaw" in facts(item) else "word"
+        if owner == "Language":
+            return [("InvalidLanguage", "the bytes are no raw form of a language of 2 or 3 letters")], None
+        return [(name, f"the bytes are no {what} of the kind ({among})") for name, among in by_refusal()], None
+    return [], None
+
+
+def facts(item):
+    return " ".join(it.fact for it in item.clauses)
+
+
+def error_of(item):
+    """Returns the name of the call's error type."""
+    found = re.search(r"-> (?:[\w:]+::)?Result<.*, (\w+)>(?: where .*)?$", item.signature)
+    return found.group(1) if found else "io::Error" if "io::Result" in item.signature else "fmt::Error" if "fmt::Result" in item.signature else ""
+
+
+def memory(item, wants):
+    """Returns what the call says of memory, of its signature and its clauses."""
+    error, may_fail = error_of(item), "-> " in item.signature and "Result<" in item.signature
+    name = "AllocError" if error == "AllocError" else "OutOfMemory"
+    takes = re.search(r"\b_?alloc: Global", item.signature)
+    whens = enough(item)
+    if takes and not may_fail:
+        return "Keeps the allocator, and allocates nothing."
+    if not takes and error != "AllocError":
+        return "Takes no allocator, and never runs out of memory."
+    if "always" in whens or (takes and error not in ("AllocError", "JsonError") and wants is None and error == "ParseError"):
+        return "Allocates nothing: memory is never refused."
+    said = "May allocate" if takes else "May allocate, from the value's own allocator"
+    if wants and wants[0] in "`M":
+        return wants
+    if wants and error != "AllocError":
+        return f"May run out of memory (`{name}`), but only if {wants}." + nothing_if(whens)
+    said = f"{said}: `{name}` if that fails."
+    if "OnErr result (self.new ≡ self.old)" in facts(item) or "OnErr result (pairs self.new ≡ pairs self.old)" in facts(item):
+        said += " Then nothing has changed."
+    return said + nothing_if(whens)
+
+
+def nothing_if(whens):
+    return f" Allocates nothing if {', or if '.join(whens)}." if whens else ""
+
+
+def sink_or_closure(item):
+    """Returns what is said of memory where the call runs code of its caller."""
+    found = [words for name, words in GIVERS.items() if re.search(rf"[:+] (?:\w+::)?{name}\b", item.signature)]
+    return f" What {' and '.join(found)} takes is its own." if found else ""
+
+
+def rust_of_call(entry, owner, name):
+    """Returns what stands in the Rust crate for the call."""
+    if not entry:
+        return ""
+    special = api_words.OWN_CALLS_OF.get(f"{owner}::{name}", api_words.OWN_CALLS.get(name))
+    if special is None:
+        return f"{entry}::{name}"
+    return special
+
+
+def rust_of(module, name):
+    """Returns the path of the item in the Rust crate; empty if it has none."""
+    short = module.removeprefix(ROOT).removeprefix("::")
+    if short.startswith(api_words.OWN_MODULES):
+        return ""
+    special = api_words.OWN.get(f"{short}::{name}")
+    if special is not None:
+        return special
+    if short in api_words.CRATES_OF_RUST:
+        return f"{api_words.CRATES_OF_RUST[short]}::{name}"
+    if short in ("langid", "locale", "data", ""):
+        return f"{ROOT}::{name}"
+    if short == "parser":
+        return f"{ROOT}::{name}"
+    return f"{ROOT}::{short}::{name}"
+
+
+def call_of(item, owner, home, rust, made):
+    name = re.search(r"fn (\w+)", item.signature).group(1)
+    given, wants = refuses(item, owner, name)
+    sentence = api_words.SENTENCES.get(f"{owner}::{name}") or item.sentence()
+    return Call(
+        owner, name, item, home, expanded(item.signature.removeprefix("pub "), home), sentence, item.details(),
+        needs(item), given, memory(item, wants) + sink_or_closure(item), rust_of_call(rust, owner, name),
+        (home, made, name),
+    )
+
+
+@functools.cache
+def exported():
+    """Returns the names of the public crate's items, by crate and name there."""
+    return {(home, made) for _, _, uses in modules() for home, made, _ in uses}
+
+
+@functools.cache
+def short_forms(home):
+    """Returns what the aliases of tuples stand for that are no public items."""
+    found = {}
+    for name, item in crate(home).items.items():
+        alias = re.match(r"pub type (\w+) = (\(.*\))$", item.signature)
+        if alias and (home, name) not in exported():
+            found[alias.group(1)] = alias.group(2)
+    return found
+
+
+def expanded(signature, home):
+    """Returns the signature with such aliases written out."""
+    for name, meant in short_forms(home).items():
+        signature = re.sub(rf"\b{name}\b", meant, signature)
+    return signature
+
+
+def fields_of(item):
+    """Returns the comments and texts of the public fields or the variants."""
+    rows, comment = [], []
+    is_struct = item.signature.startswith("pub struct")
+    for line in item.lines[1:]:
+        bare = line.strip()
+        if bare.startswith("///"):
+            comment.append(bare[3:].strip())
+        elif bare.startswith(("//", "#", "ghost ")) or not bare:
+            comment = [] if not bare.startswith("#") else comment
+        elif len(line) - len(line.lstrip()) == 4:
+            wanted = bare.startswith("pub ") if is_struct else re.match(r"[A-Z]", bare)
+            if wanted:
+                rows.append((bare.rstrip(","), " ".join(comment).strip()))
+            comment = []
+    return rows
+
+
+def given_of(home, name):
+    """Returns the traits of the type, each with what its `impl` says."""
+    found = {it: "" for it in home.derived(name) if it in OF_STD}
+    names = {name}
+    for at in [crate(it) for it in libraries()]:
+        for trait, whole, base, item in at.given:
+            bare = re.match(r"(?:fmt::)?(\w+)", trait).group(1)
+            made_of = re.match(r"(?:Try)?From<&?(\w+)", trait)
+            if base in names and (at.name == home.name or base == name and base in home.items and owns(at, home, base)):
+                if bare in OF_STD or bare in OURS and bare != "TextValue":
+                    found[trait.removeprefix("fmt::")] = " ".join(item.paragraphs()[:1])
+                if bare == "EnumKeyword":
+                    found.setdefault("PreferenceKey", "Its key, what its value reads as, and the value that it is turned into.")
+                if bare == "TextValue":
+                    found.setdefault("JsonText", "")
+            elif made_of and made_of.group(1) in names and base != name and (at.name == home.name or owns(at, home, name)):
+                found[f"{trait} for {whole}"] = " ".join(item.paragraphs()[:1])
+    found.pop("Drop", None)
+    return [Given(trait, said) for trait, said in found.items()]
+
+
+def owns(at, home, base):
+    """Returns whether the name means the type of this crate where the other crate says it."""
+    return base not in at.items and re.search(rf"\buse (?:\w+::)*(?:\{{[^}}]*\b{base}\b[^}}]*\}}|{base});", at.text) is not None and f"{home.name}" in at.text
+
+
+def entry_of(module, home, made, shown, seen):
+    it = crate(home)
+    if made not in it.items:
+        raise SystemExit(f"list_api: no public item {made} in the crate {home}: see crates/{ROOT}/src/lib.rt")
+    item = it.items[made]
+    kind, rust = HEAD.match(item.signature).group(1), rust_of(module, shown)
+    alias = ALIAS.match(item.signature)
+    base = alias.group(3) if alias and alias.group(3) in it.items else ""
+    entry = Entry(
+        module, shown, kind, item, home, expanded(item.signature, home) if kind != "type" else item.signature,
+        api_words.SENTENCES.get(shown) or item.sentence(), item.details(), [], [], [], base, rust,
+    )
+    if (home, made) in seen:
+        entry.see = seen[home, made]
+        return entry
+    seen[home, made] = entry.path
+    if kind == "fn":
+        entry.calls = [call_of(item, "", home, rust, made)]
+        entry.calls[0].rust = rust
+    elif kind == "trait":
+        inner = [at for at in item.inner() if "fn " in at.signature]
+        entry.calls = [call_of(at, shown, home, rust, made) for at in inner]
+    else:
+        entry.fields = fields_of(item) if kind in ("struct", "enum") else []
+        entry.calls = [call_of(at, shown, home, rust, made) for at in in_order(it.calls(made), item)]
+        entry.given = given_of(it, made)
+        entry.refusal = kinds().get(made, "") if home == "iloc_subtags" else ""
+    return entry
+
+
+def in_order(calls, item):
+    """Returns the calls, those beside the type first."""
+    return sorted(calls, key=lambda at: (at.path != item.path, at.path, at.number))
+
+
+def base_entry(entry):
+    """Returns the entry of the generic type that an alias names."""
+    it = crate(entry.crate)
+    item = it.items[entry.base]
+    made = Entry(
+        entry.module, entry.base, "struct", item, entry.crate, item.signature, item.sentence(),
+        item.details(), [], [], [], "", "",
+    )
+    made.calls = [call_of(at, entry.base, entry.crate, entry.rust, entry.base) for at in it.calls(entry.base)]
+    made.given = given_of(it, entry.base)
+    return made
+
+
+@functools.cache
+def model():
+    """Returns the modules with their entries. A type that several paths lead to is shown at its own module."""
+    found, seen = [], {}
+    listed = modules()
+    for path, comment, uses in listed[1:]:
+        entries = []
+        for home, made, shown in uses:
+            if (home, made) in seen and any(it.path == seen[home, made] for it in entries):
+                continue
+            entries.append(entry_of(path, home, made, shown, seen))
+            base = entries[-1].base
+            if base and (entries[-1].crate, base) not in seen:
+                entries.append(base_entry(entries[-1]))
+                seen[entries[-1].crate, base] = entries[-1].path
+        found.append(Module(path, " ".join(comment), entries))
+    path, comment, uses = listed[0]
+    found.insert(0, Module(path, " ".join(comment), [entry_of(path, *it, seen) for it in uses]))
+    return found
+
+
+def entries():
+    return [it for module in model() for it in module.entries]
