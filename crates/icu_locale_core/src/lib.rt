@@ -48,6 +48,7 @@
 
 #[cfg(test)]
 mod tests;
+mod together;
 
 /// Short ASCII texts.
 pub mod tinystr {
@@ -57,7 +58,9 @@ pub mod tinystr {
 /// Printing to a sink.
 pub mod writeable {
     pub use iloc_io_sink::{IoSink, write_to_io};
-    pub use iloc_writeable::{LengthHint, Sink, Writeable, cmp_utf8, to_string_or_borrow};
+    pub use iloc_writeable::{
+        LengthHint, Sink, Writeable, cmp_utf8, held_texts, to_string_or_borrow,
+    };
 }
 
 /// Lists that keep a few items in place.
@@ -73,7 +76,7 @@ pub mod litemap {
 /// The words of identifiers, and sets of variants.
 pub mod subtags {
     pub use iloc_subtags::{Language, Region, Script, Subtag, Variant, Word, WordKind, WordOf};
-    pub use iloc_word_set::{Variants, is_strictly_ascending};
+    pub use iloc_word_set::{Variants, hashes, is_strictly_ascending};
 
     /// The kinds of words by name, for code that is generic over them: each word is a `WordOf<Kind, N>`.
     pub mod kinds {
@@ -93,19 +96,26 @@ pub mod parser {
 
 /// Language identifiers.
 pub mod langid {
-    pub use iloc_langid::{LanguageIdentifier, equality};
+    pub use crate::together::identifiers as together;
+    pub use iloc_langid::{LanguageIdentifier, equality, hashes, orders};
 }
 
 /// All extensions of a locale.
 pub mod extensions {
-    pub use iloc_extensions::{ExtensionType, Extensions};
+    pub use crate::together::all_extensions as together;
+    pub use iloc_extensions::{ExtensionType, Extensions, equality, hashes, orders};
 
     /// The unicode extension: attributes and keywords.
     pub mod unicode {
-        pub use iloc_keyword_types::SubdivisionId;
+        pub use crate::together::unicode_extensions as together;
+        pub use iloc_keyword_types::{SubdivisionId, subdivisions_compare};
         pub use iloc_subtags::{Attribute, SubdivisionSuffix, UnicodeKey as Key};
-        pub use iloc_unicode::{Attributes, Keywords, KeywordsIter, Unicode};
-        pub use iloc_unicode_value::Value;
+        pub use iloc_unicode::{
+            Attributes, Keywords, KeywordsIter, Unicode, equality, hashes, orders,
+        };
+        pub use iloc_unicode_value::{
+            Value, equality as value_equality, hashes as value_hashes, orders as value_orders,
+        };
 
         /// Keys by their names, as `key::ca()`.
         pub mod key {
@@ -117,28 +127,32 @@ pub mod extensions {
 
     /// The transform extension: an identifier and fields.
     pub mod transform {
-        pub use iloc_transform::{Fields, Key, Transform, Value};
+        pub use crate::together::transform_extensions as together;
+        pub use iloc_transform::{Fields, Key, Transform, Value, equality, hashes, orders};
     }
 
     /// Extensions that are neither unicode, transform nor private.
     pub mod other {
-        pub use iloc_other::Other;
+        pub use iloc_other::{Other, equality, hashes, orders};
     }
 
     /// The private extension: a list of private words.
     pub mod private {
-        pub use iloc_other::Private;
+        pub use iloc_other::{Private, equality, hashes, orders};
         pub use iloc_subtags::PrivateSubtag as Subtag;
     }
 }
 
 /// Locales: identifiers with extensions.
 pub mod locale {
-    pub use iloc_locale::{Locale, OrderedLocale, equality};
+    pub use crate::together::locales as together;
+    pub use iloc_locale::ordered::equality as ordered_equality;
+    pub use iloc_locale::{Locale, OrderedLocale, equality, hashes};
 }
 
 /// Data locales: the parts of a locale by which data is looked up.
 pub mod data {
+    pub use crate::together::data_locales as together;
     pub use iloc_data::DataLocale;
 }
 

@@ -1,5 +1,5 @@
 -- What the readers of identifiers answer.
-use Rattle.std.specs.Prelude.{◌≡◌, ℕ, ◌<◌, false, List, length, map, Result, IfOk, IfErr}
+use Rattle.std.specs.Prelude.{◌≡◌, ℕ, ◌<◌, false, List, [], length, map, None, Result, IfOk, IfErr}
 use Rattle.iloc_grammar.specs.Words.{Language, Variant, is_word, IsWord, lower, word_cmp, languages, two_or_three}
 use Rattle.iloc_grammar.specs.Written.{Identifier, AllDifferent}
 use Rattle.iloc_grammar.specs.Meaning.{IdentifierMeans, normal_identifier, set_of}
@@ -17,6 +17,15 @@ use Rattle.iloc_langid.specs.declared.identifier.LanguageIdentifier.{LanguageIde
 -- the value of an identifier
 abbrev pub value_of : LanguageIdentifier → Identifier
 value_of i = record { language = i.language; script = i.script; region = i.region; variants = i.variants }
+
+-- nothing but a language: the text is then lent
+abbrev pub IsLanguageAlone : LanguageIdentifier → Type 0
+IsLanguageAlone i = (i.script ≡ None) × (i.region ≡ None) × (i.variants ≡ [])
+
+-- the text means this identifier, and no other
+abbrev pub IdentifierMeansOnly : List ℕ → Identifier → Type 0
+IdentifierMeansOnly t i = IdentifierMeans languages (pieces t) i
+    × ((j : Identifier) → IdentifierMeans languages (pieces t) j → j ≡ i)
 
 -- a language stands first, and more than four variants at the front of an identifier's words: only there may a reader
 -- want memory

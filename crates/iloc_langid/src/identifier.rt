@@ -15,7 +15,8 @@ use iloc_parser::SubtagIterator;
 use iloc_subtags::{Language, ParseError, Region, Script, WordKind, WordOf};
 use iloc_word_set::Variants;
 use iloc_writeable::{Pieces, Sink, Writeable, cmp_utf8};
-use std::alloc::Global;
+use std::alloc::{AllocError, Global};
+use std::borrow::CowStr;
 use std::cmp::Ordering;
 use std::fmt;
 
@@ -182,13 +183,12 @@ impl Pieces for LanguageIdentifier {
 /// Prints the normal text: language, script, region, variants ascending, joined by hyphens. It is borrowed
 /// where there is a language and nothing else.
 impl Writeable for LanguageIdentifier {
-    ghost use Rattle.iloc_langid.specs.Reads.{value_of};
+    ghost use Rattle.iloc_langid.specs.Reads.{value_of, IsLanguageAlone};
     ghost use Rattle.iloc_grammar.specs.Values.{identifier_text};
-    ghost use Rattle.std.specs.Prelude.{◌≡◌, None, []};
 
     ghost text = { λ i. identifier_text (value_of i) };
 
-    ghost lends = { λ i. (i.script ≡ None) × (i.region ≡ None) × (i.variants ≡ []) };
+    ghost lends = { IsLanguageAlone };
 
     #[tactic(auto, unfolding(iloc_grammar::specs::Values::identifier_text, iloc_grammar::specs::Pieces::join))]
     fn write_to<S: Sink>(&self, sink: &mut S) -> fmt::Result {
@@ -201,6 +201,29 @@ impl Writeable for LanguageIdentifier {
             return Some(self.language.as_str());
         }
         None
+    }
+}
+
+impl LanguageIdentifier {
+    ghost use Rattle.std.specs.Prelude.{IfOk, IsOkAnd};
+    ghost use Rattle.std.specs.Cow.{cow_str_bytes};
+    ghost use Rattle.iloc_writeable.specs.Writing.{IsLent};
+    ghost use Rattle.iloc_langid.specs.Reads.{value_of, IsLanguageAlone, IdentifierMeansOnly};
+
+    /// Returns the printed text, borrowed exactly if the identifier is a language alone.
+    ///
+    /// The text parses as this identifier and as no other. Allocates once, unless the text is borrowed;
+    /// `AllocError` if that fails.
+    pub fn write_to_string(&self, alloc: Global) -> Result<CowStr<'_, Global>, AllocError>
+        ensures text { IfOk result (λ t. cow_str_bytes t ≡ identifier_text (value_of self.now)) }
+        ensures back { IfOk result
+            (λ t. IdentifierMeansOnly (cow_str_bytes t) (value_of self.now)) }
+        ensures lent { IsLanguageAlone self.now → IsOkAnd result IsLent }
+        ensures owned { IfOk result (λ t. IsLent t → IsLanguageAlone self.now) }
+    {
+        // (it states that every identifier is a value, without which `back` would not be known)
+        let _ = self.is_unknown();
+        Writeable::write_to_string(self, alloc)
     }
 }
 

@@ -3,7 +3,7 @@ use Rattle.std.proofs.Common.{◌≡◌, inl, inr, ◌↔◌, IsTrue, ℕ, ◌�
 use Rattle.iloc_grammar.specs.Words.{languages}
 use Rattle.iloc_grammar.specs.Meaning as meaning
 use Rattle.iloc_grammar.specs.Meaning.{Extensions, Means, no_extensions}
-use Rattle.iloc_grammar.specs.Values.{text, identifier_text}
+use Rattle.iloc_grammar.specs.Values.{IsValue, IsWellFormed, text, identifier_text}
 use Rattle.iloc_grammar.specs.Written.{Identifier}
 use Rattle.iloc_grammar.specs.Pieces.{join}
 use Rattle.iloc_grammar.specs.Faults as faults
@@ -14,10 +14,11 @@ use Rattle.iloc_orders.proofs.OrderLaws.{locale_exact}
 use Rattle.iloc_grammar.proofs.RawLaws.{languages_table}
 use Rattle.iloc_grammar.proofs.Corollaries.{texts_lead_to_one, same_meaning, means_again}
 use Rattle.iloc_grammar.proofs.Chains.{chain_to_text, shortest}
+use Rattle.iloc_grammar.proofs.ReadBack.{reads_back}
 use Rattle.iloc_grammar.proofs.Readings as readings
 use Rattle.iloc_subtags.specs.declared.parse_error.ParseError.{ParseError}
 use Rattle.iloc_subtags.specs.declared.parse_error.ParseError.TheVariants.{InvalidLanguage, InvalidSubtag, InvalidExtension, DuplicatedExtension, OutOfMemory}
-use Rattle.iloc_locale.specs.Reads.{LocaleReadsAs}
+use Rattle.iloc_locale.specs.Reads.{LocaleReadsAs, MeansOnly}
 use Rattle.iloc_locale.specs.Normalizing.{IsTextOf, IsNormalizedFrom, RefusesNormalizing}
 use Rattle.iloc_locale.proofs.ReadLemmas.{no_fault, inline_wants_none}
 use Rattle.iloc_small.specs.Inline.{IsInline}
@@ -73,3 +74,9 @@ no_meaning t M OutOfMemory h n m = n refl
 pub refusal_differs : (t : List ℕ) (M : meaning.Locale) (f : ParseError) {E : Type 0} (r : Result Bool E) → LocaleReadsAs t (Err f) → IfOk r (λ same. (same ≡ false) × ¬ (f ≡ OutOfMemory)) → IfOk r (λ same. IsTrue same ↔ Means languages t M)
 refusal_differs t M f (Ok same) h d = (λ s. absurd (true≢false (sym s ∙ d.0)), λ m. absurd (no_meaning t M f h d.1 m))
 refusal_differs t M f (Err e) h d = tt
+
+-- the text of a well-formed value means that value, and no other
+pub text_means_only : (M : meaning.Locale) → IsValue languages M → IsWellFormed M → MeansOnly (text M) M
+text_means_only M v w =
+    let m : Means languages (text M) M = reads_back M v w in
+    (m, λ N n. readings.one_meaning languages_table (text M) N M n m)

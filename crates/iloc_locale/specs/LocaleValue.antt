@@ -1,4 +1,5 @@
 -- What a `Locale` stands for.
+use Rattle.std.specs.Prelude.{◌≡◌, [], None}
 use Rattle.iloc_grammar.specs.Meaning as meaning
 use Rattle.iloc_langid.specs.Reads as langid
 use Rattle.iloc_langid.specs.Unknown.{unknown_identifier}
@@ -12,3 +13,8 @@ value_of l =
 -- `und` and no extension
 abbrev pub unknown_locale : meaning.Locale
 unknown_locale = meaning.without_extensions unknown_identifier
+
+-- nothing but a language: the text is then lent
+abbrev pub IsLanguageAlone : Locale → Type 0
+IsLanguageAlone l = ((value_of l).extensions ≡ meaning.no_extensions)
+    × (l.id.script ≡ None) × (l.id.region ≡ None) × (l.id.variants ≡ [])

@@ -42,3 +42,7 @@ error_of faults.DuplicatedExtension = DuplicatedExtension
 abbrev pub Refuses : Fault → Result Locale ParseError → Type 0
 Refuses f (Ok l) = ⊥
 Refuses f (Err e) = (e ≡ error_of f) ⊎ (e ≡ OutOfMemory)
+
+-- the text means this value, and no other
+abbrev pub MeansOnly : List ℕ → meaning.Locale → Type 0
+MeansOnly t M = Means languages t M × ((N : meaning.Locale) → Means languages t N → N ≡ M)

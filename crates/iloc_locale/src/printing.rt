@@ -1,7 +1,35 @@
 //! Prints locales.
+ghost use Rattle.std.specs.Prelude.{◌≡◌, IfOk, IsOkAnd};
+ghost use Rattle.std.specs.Cow.{cow_str_bytes};
+ghost use Rattle.iloc_grammar.specs.Values.{IsWellFormed, text};
+ghost use Rattle.iloc_writeable.specs.Writing.{IsLent};
+
 use crate::locale::Locale;
 use iloc_writeable::{Pieces, Sink, Writeable};
+use std::alloc::{AllocError, Global};
+use std::borrow::CowStr;
 use std::fmt;
+
+impl Locale {
+    ghost use Rattle.iloc_locale.specs.LocaleValue.{value_of, IsLanguageAlone};
+    ghost use Rattle.iloc_locale.specs.Reads.{MeansOnly};
+
+    /// Returns the printed text, borrowed exactly if the locale is a language alone.
+    ///
+    /// The text of a well-formed locale parses as that locale and as no other. Allocates once, unless the text is
+    /// borrowed; `AllocError` if that fails.
+    pub fn write_to_string(&self, alloc: Global) -> Result<CowStr<'_, Global>, AllocError>
+        ensures text { IfOk result (λ t. cow_str_bytes t ≡ text (value_of self.now)) }
+        ensures back { IsWellFormed (value_of self.now)
+            → IfOk result (λ t. MeansOnly (cow_str_bytes t) (value_of self.now)) }
+        ensures lent { IsLanguageAlone self.now → IsOkAnd result IsLent }
+        ensures owned { IfOk result (λ t. IsLent t → IsLanguageAlone self.now) }
+    {
+        // (it states that every locale is a value, without which `back` would not be known)
+        let _ = self.is_well_formed();
+        Writeable::write_to_string(self, alloc)
+    }
+}
 
 /// The pieces are those of the identifier, and then those of the extensions.
 impl Pieces for Locale {
@@ -23,15 +51,12 @@ impl Pieces for Locale {
 /// Prints the normal text: the identifier, and then the extensions, joined by hyphens. It is defined for every
 /// locale, well-formed or not, and borrowed where there is a language and nothing else.
 impl Writeable for Locale {
-    ghost use Rattle.std.specs.Prelude.{◌≡◌, None, []};
     ghost use Rattle.iloc_grammar.specs.Values.{text};
-    ghost use Rattle.iloc_grammar.specs.Meaning.{no_extensions};
-    ghost use Rattle.iloc_locale.specs.LocaleValue.{value_of};
+    ghost use Rattle.iloc_locale.specs.LocaleValue.{value_of, IsLanguageAlone};
 
     ghost text = { λ l. text (value_of l) };
 
-    ghost lends = { λ l. ((value_of l).extensions ≡ no_extensions) × (l.id.script ≡ None)
-        × (l.id.region ≡ None) × (l.id.variants ≡ []) };
+    ghost lends = { IsLanguageAlone };
 
     #[tactic(auto, unfolding(iloc_grammar::specs::Pieces::join))]
     fn write_to<S: Sink>(&self, sink: &mut S) -> fmt::Result {

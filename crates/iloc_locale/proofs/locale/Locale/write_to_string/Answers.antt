@@ -1,0 +1,13 @@
+use Rattle.std.specs.Cow.{cow_str_bytes}
+use Rattle.iloc_grammar.specs.Values.{text}
+use Rattle.iloc_langid.proofs.PrintingLemmas.{printed}
+use Rattle.iloc_locale.specs.LocaleValue.{value_of}
+use Rattle.iloc_locale.specs.Reads.{MeansOnly}
+use Rattle.iloc_locale.proofs.NormalLemmas.{text_means_only}
+use Rattle.iloc_locale.proofs.locale.Locale.write_to_string.Goals as goal
+
+pub returns-clause-back : goal.returns-clause-back
+returns-clause-back c = λ w.
+    let M = value_of c.args.self.now in
+    printed cow_str_bytes (λ t. MeansOnly t M) (text M) c.write_to_string.result
+    c.write_to_string.ensures.text (text_means_only M c.is_well_formed.ensures.value w)
