@@ -1,4 +1,3 @@
-use Rattle.std.proofs.Common.{◌↔◌}
 use Rattle.std.specs.Cmp.{Equal-is}
 use Rattle.iloc_regions.specs.DataOrders.{data_locale_cmp}
 use Rattle.iloc_data.specs.DataEquality.{fed_alike}
