@@ -69,6 +69,8 @@ class Proof:
         for line in self.process.stdout:
             self.said.append(line.replace(self.room, "."))
             proved, kept, failed = (it.match(line) for it in (PROVED, KEPT, FAILED))
+            if line.startswith("rt: note: ") and "disk" in line:
+                self.say(line[len("rt: note: ") :].rstrip())
             if failed:
                 self.failed.append(failed[1])
             if proved or kept:
