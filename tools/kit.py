@@ -1,11 +1,11 @@
 """The toolchain's command rt, loaded as a module: `rt` itself and `rtlib`, on which it stands.
 
-What the tools use of them: rt.read_edit, rt.checked, rt.unread, rt.must_fail, rt.KIT,
-and rtlib's Crate, blanked, crates_below, guarded, lock, STALE. A new toolchain may change them.
+What the tools use of them: rt.read_edit, rt.checked, rt.unread, rt.must_fail, rt.in_lanes, rt.need,
+rt.processors, rt.KIT, and rtlib's Crate, blanked, crates_below, kit_sources, guarded, lock, STALE. A
+new toolchain may change them; tools/test_scripts says which of them are gone.
 
 A crate's stamp, by which rt tells whether its library is that of the present text, is asked for once
-in each run of a tool: rt's own reads a crate's files once for each path of lines of crates.txt that
-leads to it."""
+in each run of a tool."""
 import functools
 import importlib.machinery
 import importlib.util
@@ -13,12 +13,12 @@ import os
 import shutil
 import sys
 
-ROOT = os.path.dirname(os.path.dirname(os.path.abspath(__file__)))
+from common import ROOT, toolchain
 
 
 def load():
-    path = shutil.which("rt") or sys.exit("no rt on the PATH: it is the toolchain's command")
-    loader = importlib.machinery.SourceFileLoader("rt_main", os.path.realpath(path))
+    toolchain(os.path.basename(sys.argv[0]))
+    loader = importlib.machinery.SourceFileLoader("rt_main", os.path.realpath(shutil.which("rt")))
     made = importlib.util.module_from_spec(importlib.util.spec_from_loader("rt_main", loader))
     loader.exec_module(made)
     return made

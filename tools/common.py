@@ -1,0 +1,62 @@
+"""What the scripts share: the top folder, the words they are started with, messages, and crates.txt.
+
+It needs nothing but Python, so that --help answers on a machine without the toolchain."""
+import argparse
+import os
+import shutil
+import sys
+
+ROOT = os.path.dirname(os.path.dirname(os.path.realpath(__file__)))
+
+
+class Parser(argparse.ArgumentParser):
+    """As argparse's, but an error ends with where to read more."""
+
+    def error(self, message):
+        more = f"{self.prog}: {message}. {self.prog} --help says what it takes.\n"
+        self.exit(2, self.format_usage() + more)
+
+
+def parser(name, doc):
+    """Returns a parser of the words of the script of that name, whose help is the script's text."""
+    form = argparse.RawDescriptionHelpFormatter
+    return Parser(prog=name, description=doc, formatter_class=form, allow_abbrev=False)
+
+
+def stop(name, what, then, status=1):
+    """Ends the script: what happened to what, and what to do next."""
+    print(f"{name}: {what}. {then}", file=sys.stderr)
+    sys.exit(status)
+
+
+def toolchain(name):
+    """Ends the script with what to install, unless the toolchain's command rt can be found."""
+    if not shutil.which("rt"):
+        then = "Install the Rattle toolchain, and put its folder bin/ on the PATH."
+        stop(name, "no command rt was found on the PATH", then)
+
+
+def counted(passed, failed):
+    """Prints the last line of a test, and returns its status."""
+    print(f"{int(passed)} passed, {int(failed)} failed")
+    return 1 if failed or not passed else 0
+
+
+def crates_of(path):
+    """Returns the lines of a crates.txt by their crates, lowest first as they stand, or none where
+    there is no such file."""
+    if not os.path.isfile(path):
+        return {}
+    with open(path, encoding="utf-8") as it:
+        texts = [line.split("#")[0].strip() for line in it]
+    return {it.split(":")[0].split()[0]: it for it in texts if ":" in it}
+
+
+def below(name, lines, found=None):
+    """Returns the crates of the repository that this one stands on, lowest first, and it."""
+    found = [] if found is None else found
+    if name in lines and name not in found:
+        for dep in lines[name].split(":", 1)[1].split():
+            below(dep, lines, found)
+        found.append(name)
+    return found

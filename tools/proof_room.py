@@ -1,0 +1,109 @@
+"""Proves and builds a program by `rt ci` in a folder of its own, beside which all else goes on.
+
+The room has the program's crate and the crates below it, without their must-fail edits. What `rt ci`
+proves there it keeps beside the toolchain at once, crate by crate, so that a run which is cut off
+loses nothing, and a later `rt ci` in any checkout takes it from there."""
+import os
+import re
+import shutil
+import signal
+import subprocess
+import tempfile
+import threading
+import time
+
+from common import ROOT, below, crates_of
+
+PREFIX = "icu-locale-proof-"
+LEFT_OUT = shutil.ignore_patterns("out", "edits", "must-fail", "*.in")
+PROVED = re.compile(r"rt: (\w+) proved$")
+KEPT = re.compile(r"rt: (\w+) is kept: ")
+FAILED = re.compile(r"rt: (\w+)(: its tests are)? NOT PROVED")
+
+
+def sweep():
+    """Removes the rooms of runs that were killed."""
+    at = tempfile.gettempdir()
+    for name in os.listdir(at):
+        of = re.match(rf"{PREFIX}(\d+)-", name)
+        if of and not os.path.exists(f"/proc/{of[1]}"):
+            shutil.rmtree(f"{at}/{name}", ignore_errors=True)
+
+
+def furnish(room, names, lines):
+    """Copies the crates into the room, which is the top of a repository of its own."""
+    for name in names:
+        shutil.copytree(f"{ROOT}/crates/{name}", f"{room}/crates/{name}", ignore=LEFT_OUT)
+    with open(f"{room}/crates.txt", "w", encoding="utf-8") as it:
+        it.writelines(f"{lines[name]}\n" for name in names)
+    if os.path.isfile(f"{ROOT}/HANDLES"):
+        shutil.copyfile(f"{ROOT}/HANDLES", f"{room}/HANDLES")
+    os.mkdir(f"{room}/.git")
+
+
+class Proof:
+    """A run of `rt ci` in a room. `say` is told how far it is."""
+
+    def __init__(self, name, say):
+        lines = crates_of(f"{ROOT}/crates.txt")
+        self.name, self.say, self.names = name, say, below(name, lines)
+        self.done, self.failed, self.said = set(), [], []
+        sweep()
+        self.room = tempfile.mkdtemp(prefix=f"{PREFIX}{os.getpid()}-")
+        try:
+            furnish(self.room, self.names, lines)
+            self.process = subprocess.Popen(
+                ["rt", "ci"], cwd=self.room, stdin=subprocess.DEVNULL, stdout=subprocess.PIPE,
+                stderr=subprocess.STDOUT, text=True, errors="replace", start_new_session=True,
+                preexec_fn=lambda: os.nice(5),
+            )
+        except BaseException:
+            shutil.rmtree(self.room, ignore_errors=True)
+            raise
+        self.began = time.time()
+        self.reader = threading.Thread(target=self.read, daemon=True)
+        self.reader.start()
+
+    def read(self):
+        """Follows what the run says, to its end."""
+        for line in self.process.stdout:
+            self.said.append(line.replace(self.room, "."))
+            proved, kept, failed = (it.match(line) for it in (PROVED, KEPT, FAILED))
+            if line.startswith("rt: note: ") and "disk" in line:
+                self.say(line[len("rt: note: ") :].rstrip())
+            if failed:
+                self.failed.append(failed[1])
+            if proved or kept:
+                self.done.add((proved or kept)[1])
+            if proved:
+                minutes = (time.time() - self.began) / 60
+                far = f"{len(self.done)} of {len(self.names)} crates proved, {minutes:.0f} min"
+                self.say(f"{far} ({proved[1]})")
+
+    def is_running(self):
+        return self.process.poll() is None
+
+    def program(self):
+        """Waits, and returns the path of the proved program, or None if it is not proved."""
+        self.process.wait()
+        self.reader.join()
+        made = f"{self.room}/crates/{self.name}/out/{self.name}"
+        return made if self.process.returncode == 0 and os.path.isfile(made) else None
+
+    def why(self):
+        """Returns what the run said of what failed: the text of each such crate, or its end."""
+        texts = "".join(self.said).split("\n== ")
+        told = [it for it in texts if it.split("\n")[0].split(":")[0].strip("= ") in self.failed]
+        return "\n".join(it[-4000:] for it in told) or texts[-1][-4000:]
+
+    def end(self):
+        """Ends the run, if it goes on, with all that it started, and removes the room."""
+        if self.is_running():
+            os.killpg(self.process.pid, signal.SIGTERM)
+            try:
+                self.process.wait(5)
+            except subprocess.TimeoutExpired:
+                os.killpg(self.process.pid, signal.SIGKILL)
+                self.process.wait()
+        self.reader.join(5)
+        shutil.rmtree(self.room, ignore_errors=True)

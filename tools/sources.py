@@ -1,0 +1,62 @@
+"""Sums of sources, which tell whether a program that was built of them is still of the present text."""
+import hashlib
+import os
+
+from common import ROOT, below, crates_of
+
+# What a program's proof rests on, and what its code is made of.
+PROVED_PARTS, CODE_PARTS = ("src", "specs", "proofs"), ("src",)
+
+
+def files_of(name, parts):
+    """Returns the paths of the crate's sources, in order."""
+    folders = [os.path.join(ROOT, "crates", name, part) for part in parts]
+    walked = [(at, it) for folder in folders for at, _, names in os.walk(folder) for it in names]
+    return sorted(os.path.join(at, it) for at, it in walked)
+
+
+def sum_of(path):
+    """Returns the sum of a file, or no sum if it cannot be read."""
+    try:
+        with open(path, "rb") as it:
+            return hashlib.sha256(it.read()).hexdigest()
+    except OSError:
+        return ""
+
+
+def sum_of_sources(names, parts, *more):
+    """Returns the sum of these crates and of all that they stand on, and of whatever else counts."""
+    lines = crates_of(os.path.join(ROOT, "crates.txt"))
+    every = list(dict.fromkeys(it for name in names for it in below(name, lines)))
+    total = hashlib.sha256(repr((more, [lines[it] for it in every])).encode())
+    for name in every:
+        for path in files_of(name, parts):
+            total.update(f"{os.path.relpath(path, ROOT)} {sum_of(path)}\n".encode())
+    return total.hexdigest()
+
+
+def is_current(program, sources):
+    """Returns whether the program is the one that was kept for these sources."""
+    try:
+        with open(f"{program}.stamp", encoding="ascii") as it:
+            return it.read() == f"{sources} {sum_of(program)}\n"
+    except (OSError, ValueError):
+        return False
+
+
+def keep(made, program, sources):
+    """Puts the file that was made in the place of the program, whole or not at all, with its stamp."""
+    os.makedirs(os.path.dirname(program), exist_ok=True)
+    part = f"{program}.{os.getpid()}"
+    try:
+        with open(made, "rb") as one, open(part, "wb") as other:
+            while block := one.read(1 << 20):
+                other.write(block)
+        os.chmod(part, 0o755)
+        os.replace(part, program)
+        with open(part, "w", encoding="ascii") as it:
+            it.write(f"{sources} {sum_of(program)}\n")
+        os.replace(part, f"{program}.stamp")
+    finally:
+        if os.path.exists(part):
+            os.remove(part)
