@@ -133,25 +133,27 @@ def pages():
     return made
 
 
+def allocator_kind(call):
+    """Returns in which column of the table a call stands, if in any."""
+    if re.search(r"\b_?alloc: Global", call.signature):
+        return "may" if "Result<" in call.signature else "keeps"
+    return "own" if error_of(call.item) == "AllocError" else ""
+
+
 def allocator_table():
-    """Returns the table of calls that take the allocator."""
-    kinds = {"may": {}, "keeps": {}, "own": {}}
+    """Returns the table of calls that take the allocator, or that may run out of memory without it."""
+    rows = ["| Type or module | `alloc`, and `?` | `alloc` alone: it is kept | `?` alone: the value's own allocator |", "|---|---|---|---|"]
     for module in model():
         for entry in module.entries:
+            kinds = {"may": [], "keeps": [], "own": []}
             for call in entry.calls:
-                takes = re.search(r"\b_?alloc: Global", call.signature)
-                kind = "may" if takes and "Result<" in call.signature else "keeps" if takes else "own" if error_of(call.item) == "AllocError" else ""
-                if kind and not entry.see:
-                    kinds[kind].setdefault(call.owner or module.short, []).append(f"`{call.name}`")
-    heads = {
-        "may": "taken; running out of memory is a refusal, so write `?`",
-        "keeps": "taken and kept; nothing is allocated, so no `?`",
-        "own": "not taken: the value's own; write `?`",
-    }
-    rows = ["| Type or module | Calls | `alloc` |", "|---|---|---|"]
-    for kind, owners in kinds.items():
-        rows += [f"| `{owner}` | {', '.join(dict.fromkeys(names))} | {heads[kind]} |" for owner, names in owners.items()]
-    return "\n".join(rows)
+                if kind := allocator_kind(call):
+                    kinds[kind].append(f"`{call.name}`")
+            if any(kinds.values()) and not entry.see:
+                name = entry.name if entry.kind != "fn" else module.short
+                where = "" if "::" not in module.short or entry.kind == "fn" else f" of `{module.short}`"
+                rows.append(f"| `{name}`{where} | {' | '.join(', '.join(it) for it in kinds.values())} |")
+    return "\n".join(rows) + "\n\n`clone` of what derives `Clone` takes no allocator either, and needs `?` too."
 
 
 def change(call):
