@@ -73,6 +73,12 @@ def entry_at(path):
     return f"{module_file(module)}#{name}"
 
 
+def of_type(crate, name):
+    """Returns the address of a public type that a clause names."""
+    found = [it.path for module in model() for it in module.entries if it.crate == crate and it.name == name and not it.see]
+    return entry_at(found[0]) if found else ""
+
+
 class Meanings:
     """What the names in the clauses of a file mean: by the nearest `ghost use` above the call."""
 
@@ -102,8 +108,8 @@ class Meanings:
         if not fits:
             return ""
         crate, module, name = fits[-1]
-        if not name and f"{crate}.{module}".endswith(("declared", first)) and not files().get((crate, module)):
-            return ""
+        if module.startswith("declared."):
+            return of_type(crate, module.removesuffix(".TheVariants").rpartition(".")[2])
         return api_definitions.address(crate, module, name or rest.split(".")[0])
 
 
@@ -198,7 +204,9 @@ def entry_html(entry):
     rows += [f'<p class="rust">In Rust: <code>{esc(entry.rust)}</code></p>'] if entry.rust else ['<p class="rust">The Rust crate has no such item.</p>']
     fields = "".join(f"<li><code>{esc(text)}</code>{' ' + marked(said) if said else ''}</li>" for text, said in entry.fields)
     rows += [f"<ul>{fields}</ul>"] if fields else []
-    rows += ["<p>Types that have it: " + marked(", ".join(json_types())) + ".</p>"] if entry.name == "JsonText" else []
+    if entry.name == "JsonText":
+        has = ", ".join(f'<a href="{entry_at(it)}"><code>{esc(it.removeprefix(ROOT + "::"))}</code></a>' for it in json_types())
+        rows.append(f"<p>Types that have it: {has}.</p>")
     rows += [ghosts_html(entry), given_html(entry)]
     return "\n".join(rows + [call_html(it) for it in entry.calls])
 

@@ -1,10 +1,11 @@
 """The pages of public items as Markdown: an index, a page for each module, and the tables of other pages."""
+import os
 import re
 
 import api_words
 from api_examples import examples
 from api_model import error_of, model
-from api_source import ROOT
+from api_source import ROOT, TOP
 
 HOME = "docs/api"
 INDEX = f"""# Public items
@@ -87,7 +88,7 @@ def entry_rows(entry, homes):
     rows += [f"- `{text}`" + (f": {said}" if said else "") for text, said in entry.fields] + ([""] if entry.fields else [])
     rows += trait_rows(entry, homes)
     if entry.name == "JsonText":
-        rows += ["Types that have it: " + ", ".join(json_types()) + ".", ""]
+        rows += ["Types that have it: " + ", ".join(link(it, entry.module) for it in json_types()) + ".", ""]
     return rows + [it for call in entry.calls for it in call_rows(call)]
 
 
@@ -97,10 +98,10 @@ def base_home(base):
 
 
 def json_types():
-    """Returns the types that are written as JSON strings."""
-    has = {it.name for module in model() for it in module.entries for given in it.given if given.trait == "JsonText"}
-    aliases = [it.name for module in model() for it in module.entries if it.base == "WordOf" and not it.see]
-    return [f"`{it}`" for it in sorted(has - {"WordOf"}) + (aliases if "WordOf" in has else [])]
+    """Returns the paths of the types that are written as JSON strings."""
+    found = [it for module in model() for it in module.entries if not it.see]
+    has = {it.name for it in found if any(given.trait == "JsonText" for given in it.given)}
+    return [it.path for it in found if it.name in has - {"WordOf"} or it.base == "WordOf" and "WordOf" in has]
 
 
 def trait_homes():
@@ -131,6 +132,21 @@ def pages():
     made = {page_of(it.path): module_page(it) for it in model()}
     made["docs/API.md"] = index()
     return made
+
+
+def broken_links(made):
+    """Returns each link within these pages that leads to no page or to no heading."""
+    headings = {path: {anchor(it) for it in re.findall(r"^#+ (.*)$", text, re.M)} for path, text in made.items()}
+    faults = []
+    for path, text in made.items():
+        folder = path.rpartition("/")[0]
+        for target, place in re.findall(r"\]\(([\w./]*\.md)?#?([\w-]*)\)", text):
+            page = os.path.normpath(f"{folder}/{target}") if target else path
+            if page not in headings and not os.path.isfile(f"{TOP}/{page}"):
+                faults.append(f"{path}: no page {target}")
+            elif place and page in headings and place not in headings[page]:
+                faults.append(f"{path}: no heading {place} in {page}")
+    return faults
 
 
 def allocator_kind(call):

@@ -101,6 +101,11 @@ def fits(table, fact):
     return ""
 
 
+def explained(signature):
+    """Returns what is said of names in the signature that are no public items."""
+    return [said for name, said in api_words.EXPLAINED.items() if re.search(rf"\b{name}\b", signature)]
+
+
 def needs(item):
     """Returns the conditions of a call in words; a clause without words is shown as it is."""
     facts = [it.fact for it in item.clauses if it.kind == "requires"]
@@ -250,8 +255,9 @@ def call_of(item, owner, home, rust, made):
     name = re.search(r"fn (\w+)", item.signature).group(1)
     given, wants = refuses(item, owner, name)
     sentence = api_words.SENTENCES.get(f"{owner}::{name}") or item.sentence()
+    signature = expanded(item.signature.removeprefix("pub "), home)
     return Call(
-        owner, name, item, home, expanded(item.signature.removeprefix("pub "), home), sentence, item.details(),
+        owner, name, item, home, signature, sentence, item.details() + explained(signature),
         needs(item), given, memory(item, wants) + sink_or_closure(item), rust_of_call(rust, owner, name),
         (home, made, name),
     )
@@ -317,7 +323,7 @@ def given_of(home, name):
             elif made_of and made_of.group(1) in names and base != name and (at.name == home.name or owns(at, home, name)):
                 found[f"{trait} for {whole}"] = " ".join(item.paragraphs()[:1])
     found.pop("Drop", None)
-    return [Given(trait, said) for trait, said in found.items()]
+    return [Given(trait, api_words.GIVEN.get(trait, said)) for trait, said in found.items()]
 
 
 def owns(at, home, base):
@@ -334,7 +340,7 @@ def entry_of(module, home, made, shown, seen):
     alias = ALIAS.match(item.signature)
     base = alias.group(3) if alias and alias.group(3) in it.items else ""
     entry = Entry(
-        module, shown, kind, item, home, expanded(item.signature, home) if kind != "type" else item.signature,
+        module, shown, kind, item, home, expanded(item.signature, home) if kind != "type" else item.signature.replace(f"type {made}", f"type {shown}"),
         api_words.SENTENCES.get(shown) or item.sentence(), item.details(), [], [], [], base, rust,
     )
     if (home, made) in seen:
@@ -351,7 +357,8 @@ def entry_of(module, home, made, shown, seen):
         entry.fields = fields_of(item) if kind in ("struct", "enum") else []
         entry.calls = [call_of(at, shown, home, rust, made) for at in in_order(it.calls(made), item)]
         entry.given = given_of(it, made)
-        entry.refusal = kinds().get(made, "") if home == "iloc_subtags" else ""
+        refusal = kinds().get(made, "") if home == "iloc_subtags" else ""
+        entry.refusal = refusal if refusal not in " ".join(entry.details) else ""
     return entry
 
 
@@ -366,7 +373,7 @@ def base_entry(entry):
     item = it.items[entry.base]
     made = Entry(
         entry.module, entry.base, "struct", item, entry.crate, item.signature, item.sentence(),
-        item.details(), [], [], [], "", "",
+        item.details() + explained(item.signature), [], [], [], "", "",
     )
     made.calls = [call_of(at, entry.base, entry.crate, entry.rust, entry.base) for at in it.calls(entry.base)]
     made.given = given_of(it, entry.base)

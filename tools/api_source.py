@@ -198,6 +198,10 @@ def crate(name):
 def home_of(name, made):
     """Returns the crate that makes the item, and its name there: what a crate passes on is followed."""
     it = crate(name)
+    alias = re.match(r"pub type \w+ = (\w+)$", it.items[made].signature) if made in it.items else None
+    if alias and alias.group(1) not in it.items:
+        from_there = re.search(rf"use (iloc_\w+)(?:::\w+)*::(?:\{{[^}}]*\b{alias.group(1)}\b[^}}]*\}}|{alias.group(1)});", it.text)
+        return home_of(from_there.group(1), alias.group(1)) if from_there else (name, made)
     if made in it.items or made not in it.passed or it.passed[made] == (name, made):
         return name, made
     return home_of(*it.passed[made])

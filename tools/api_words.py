@@ -168,7 +168,14 @@ SENTENCES = {
 
 # What is explained where it appears, as no path of the public crate leads to it.
 EXPLAINED = {
-    "ShortPiece": "a piece of at most eight bytes, in one machine word",
+    "ShortPiece": "`ShortPiece` is a text of at most eight bytes in one machine word. It is no public item: a program gets one from `to_piece` and hands it on.",
+    "KeywordKind": "`KeywordKind` says which keyword it is. It is no public item: use the aliases, as `NumberingSystem`.",
+    "SubtagContent": "`SubtagContent` is what one subtag can stand for: a `Subtag` or a `SubdivisionId`. It is no public item.",
+}
+
+# What an `impl` says whose comment refers to the one before it.
+GIVEN = {
+    "From<AllocFailed<T>>": "The failure of a collection to allocate, as of `Vec::push`, is `OutOfMemory`. What could not be stored is dropped.",
 }
 
 # Modules that are crates of their own in Rust.
