@@ -9,7 +9,7 @@ import shutil
 
 import api_definitions
 from api_definitions import files, slug, told, within
-from api_examples import examples
+from api_examples import examples, remark, tried
 from api_markdown import json_types, trait_homes
 from api_model import model
 from api_source import ROOT, TOP, USED, place, read
@@ -143,12 +143,21 @@ def contract_html(item):
     return f'<details open><summary>Contract ({esc(item.path)}:{item.number})</summary><pre>{lines}</pre></details>'
 
 
-def facts_html(call):
+def tried_html(path):
+    """Returns rows that the gate runs of a reader."""
+    path = path.removeprefix(f"{ROOT}::")
+    found = "".join(f"<li><code>{esc(given)}</code> is answered <code>{esc(answer)}</code> <span class=\"rust\">{file}:{number}</span></li>" for file, number, given, answer in tried(path))
+    return f"<ul>{found}</ul>{marked(remark(path))}" if found else ""
+
+
+def facts_html(call, module):
     rows = [("Needs", marked(it)) for it in call.needs]
     if call.refuses:
         items = "".join(f"<li><code>{esc(name)}</code> if {marked(when)}.</li>" for name, when in call.refuses)
         rows.append(("Refuses", f"<ul>{items}</ul>"))
     rows.append(("Memory", marked(call.memory)))
+    if rows_of := tried_html(f"{module}::{call.title}"):
+        rows.append(("Tried", rows_of))
     if found := examples().get(call.key):
         path, number, line = found
         rows.append(("Example", f"<code>{esc(line)}</code> <span class=\"rust\">{esc(path)}:{number}</span>"))
@@ -161,12 +170,12 @@ def paragraphs(sentence, details):
     return "".join(f"<p>{marked(it)}</p>" for it in [sentence, *details] if it)
 
 
-def call_html(call, level="h3"):
+def call_html(call, module, level="h3"):
     anchor = call.title.rpartition("::")[2] if level == "h2" else call.title.replace("::", ".")
     rows = [f'<{level} id="{anchor}"><code>{esc(call.title)}</code><a class="self" href="#{anchor}" aria-label="link">#</a></{level}>']
     rows.append(f"<pre>{esc(call.signature)}</pre>")
     rows.append(paragraphs(call.sentence, call.details))
-    rows.append(facts_html(call))
+    rows.append(facts_html(call, module))
     rows.append(contract_html(call.item))
     return "\n".join(rows)
 
@@ -191,12 +200,13 @@ def ghosts_html(entry):
 
 def entry_html(entry):
     if entry.kind == "fn" and not entry.see:
-        return call_html(entry.calls[0], "h2")
+        return call_html(entry.calls[0], entry.module, "h2")
     rows = [f'<h2 id="{entry.name}"><span class="kind">{entry.kind}</span> <code>{esc(entry.name)}</code><a class="self" href="#{entry.name}" aria-label="link">#</a></h2>']
     rows.append(f"<pre>{esc(entry.signature.removeprefix('pub '))}</pre>")
     if entry.see:
         return "\n".join(rows + [f'<p>Described at <a href="{entry_at(entry.see)}"><code>{esc(entry.see)}</code></a>.</p>'])
     rows.append(paragraphs(entry.sentence, entry.details))
+    rows += [f"<p>Tried:</p>{tried_html(entry.path)}"] if tried_html(entry.path) else []
     rows += [f"<p>Its refusal is <code>{entry.refusal}</code>.</p>"] if entry.refusal else []
     if entry.base:
         home = next(it for module in model() for it in module.entries if it.name == entry.base and not it.see)
@@ -208,7 +218,7 @@ def entry_html(entry):
         has = ", ".join(f'<a href="{entry_at(it)}"><code>{esc(it.removeprefix(ROOT + "::"))}</code></a>' for it in json_types())
         rows.append(f"<p>Types that have it: {has}.</p>")
     rows += [ghosts_html(entry), given_html(entry)]
-    return "\n".join(rows + [call_html(it) for it in entry.calls])
+    return "\n".join(rows + [call_html(it, entry.module) for it in entry.calls])
 
 
 def module_html(module):

@@ -3,7 +3,7 @@ import os
 import re
 
 import api_words
-from api_examples import examples
+from api_examples import examples, remark, tried
 from api_model import error_of, model
 from api_source import ROOT, TOP
 
@@ -47,17 +47,25 @@ def example_row(call):
     return f"- Example: `{line}` in [{path.removeprefix('crates/')}](../../{path}#L{number})"
 
 
+def tried_row(path):
+    """Returns rows that the gate runs of a reader: what is given, and what is answered."""
+    found = tried(path.removeprefix(f"{ROOT}::"))
+    said = "; ".join(f"[`{given}`](../../{file}#L{number}) is answered `{answer}`" for file, number, given, answer in found)
+    told = remark(path.removeprefix(f"{ROOT}::"))
+    return [f"- Tried: {said}" + (f" ({told})" if told else "") + "."] if found else []
+
+
 def refusal_rows(call):
     rows = [f"  - `{name}` if {when}." for name, when in call.refuses]
     return ["- Refuses:"] + rows if rows else []
 
 
-def call_rows(call):
+def call_rows(call, module):
     rows = [f"#### `{call.title}`", "", f"    {call.signature}", "", call.sentence or "."]
     rows += ["", *[it for part in call.details for it in (part, "")]] if call.details else [""]
     facts = [f"- Needs: {it}" for it in call.needs] + refusal_rows(call)
     facts.append(f"- Memory: {call.memory}")
-    facts += [example_row(call)] if example_row(call) else []
+    facts += tried_row(f"{module}::{call.title}") + ([example_row(call)] if example_row(call) else [])
     labels = ", ".join(f"`{it.label}`" for it in call.item.clauses if it.label and it.kind != "requires")
     named = f", clauses {labels}" if labels else ""
     if call.item.clauses:
@@ -79,8 +87,9 @@ def entry_rows(entry, homes):
     if entry.see:
         return rows + [f"Described at {link(entry.see, entry.module)}.", ""]
     if entry.kind == "fn":
-        return [it.replace("#### ", "### ") for it in call_rows(entry.calls[0])]
+        return [it.replace("#### ", "### ") for it in call_rows(entry.calls[0], entry.module)]
     rows += [entry.sentence or ".", ""] + [it for part in entry.details for it in (part, "")]
+    rows += tried_row(entry.path) + [""] if tried_row(entry.path) else []
     if entry.refusal:
         rows += [f"Its refusal is `{entry.refusal}`.", ""]
     if entry.base:
@@ -89,7 +98,7 @@ def entry_rows(entry, homes):
     rows += trait_rows(entry, homes)
     if entry.name == "JsonText":
         rows += ["Types that have it: " + ", ".join(link(it, entry.module) for it in json_types()) + ".", ""]
-    return rows + [it for call in entry.calls for it in call_rows(call)]
+    return rows + [it for call in entry.calls for it in call_rows(call, entry.module)]
 
 
 def base_home(base):
