@@ -11,7 +11,7 @@ import api_definitions
 from api_definitions import files, slug, told, within
 from api_examples import examples, remark, tried
 from api_markdown import json_types, trait_homes
-from api_model import model
+from api_model import is_law, model
 from api_source import ROOT, TOP, USED, place, read
 
 BESIDE = os.path.dirname(os.path.realpath(__file__))
@@ -155,7 +155,7 @@ def facts_html(call, module):
     if call.refuses:
         items = "".join(f"<li><code>{esc(name)}</code> if {marked(when)}.</li>" for name, when in call.refuses)
         rows.append(("Refuses", f"<ul>{items}</ul>"))
-    rows.append(("Memory", marked(call.memory)))
+    rows.append(("Use" if is_law(call.item) else "Memory", marked(call.memory)))
     if rows_of := tried_html(f"{module}::{call.title}"):
         rows.append(("Tried", rows_of))
     if found := examples().get(call.key):

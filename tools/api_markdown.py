@@ -4,7 +4,7 @@ import re
 
 import api_words
 from api_examples import examples, remark, tried
-from api_model import error_of, model
+from api_model import error_of, is_law, model
 from api_source import ROOT, TOP
 
 HOME = "docs/api"
@@ -64,8 +64,9 @@ def call_rows(call, module):
     rows = [f"#### `{call.title}`", "", f"    {call.signature}", "", call.sentence or "."]
     rows += ["", *[it for part in call.details for it in (part, "")]] if call.details else [""]
     facts = [f"- Needs: {it}" for it in call.needs] + refusal_rows(call)
-    facts.append(f"- Memory: {call.memory}")
+    facts.append(f"- {'Use' if is_law(call.item) else 'Memory'}: {call.memory}")
     facts += tried_row(f"{module}::{call.title}") + ([example_row(call)] if example_row(call) else [])
+    facts += [f"- States: `{it.fact}`" for it in call.item.clauses if is_law(call.item)]
     labels = ", ".join(f"`{it.label}`" for it in call.item.clauses if it.label and it.kind != "requires")
     named = f", clauses {labels}" if labels else ""
     if call.item.clauses:

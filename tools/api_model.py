@@ -43,11 +43,6 @@ class Call:
     def title(self):
         return f"{self.owner}::{self.name}" if self.owner else self.name
 
-    @property
-    def is_law(self):
-        """A law has an empty body and no result: its clauses are facts of the definitions."""
-        return not self.owner and "->" not in self.signature and self.item.lines[-1].strip() == "}" and "requires" not in self.signature
-
 
 @dataclasses.dataclass
 class Given:
@@ -191,8 +186,15 @@ def error_of(item):
     return found.group(1) if found else "io::Error" if "io::Result" in item.signature else "fmt::Error" if "fmt::Result" in item.signature else ""
 
 
+def is_law(item):
+    """Returns whether the function is a law: it takes and returns nothing, and ensures a fact."""
+    return bool(re.match(r"pub fn \w+\(\)$", item.signature)) and bool(item.clauses)
+
+
 def memory(item, wants):
     """Returns what the call says of memory, of its signature and its clauses."""
+    if is_law(item):
+        return "A law: the call does nothing. Make it where a proof wants its fact."
     error, may_fail = error_of(item), "-> " in item.signature and "Result<" in item.signature
     name = "AllocError" if error == "AllocError" else "OutOfMemory"
     takes = re.search(r"\b_?alloc: Global", item.signature)
