@@ -6,7 +6,10 @@ import re
 
 from api_source import TOP, libraries, place, read
 
-DECLARED = re.compile(r"^(?:\s*(?:abbrev |unfoldable )|\s*(?=pub record |pub data )|(?=pub ))pub (?:record |data )?([\w']+)")
+DECLARED = re.compile(
+    r"^(?:\s*(?:abbrev |unfoldable )|\s*(?=pub record |pub data )|(?=pub ))"
+    r"pub (?:record |data )?([\w']+)"
+)
 CASES = re.compile(r"^  (?:pub )?([\w'\s]+?) :", re.M)
 USED = re.compile(r"use Rattle\.((?:[\w']+\.)+)\{([^}]*)\}|use Rattle\.([\w.']+) as ([\w']+)")
 WORDS = "docs/DEFINITIONS.md"
@@ -73,7 +76,8 @@ def files():
     found = {}
     for crate in libraries():
         for path in sorted(glob.glob(f"{TOP}/crates/{crate}/specs/**/*.antt", recursive=True)):
-            module = os.path.relpath(path, f"{TOP}/crates/{crate}/specs").removesuffix(".antt").replace("/", ".")
+            inner = os.path.relpath(path, f"{TOP}/crates/{crate}/specs")
+            module = inner.removesuffix(".antt").replace("/", ".")
             if module != "Lib":
                 found[crate, module] = Definitions(crate, module, os.path.relpath(path, TOP))
     return found

@@ -12,14 +12,20 @@ from api_model import entries
 from api_source import ROOT, TOP, crate, libraries, read
 
 FIRST = ("crates/first_locale", "crates/recipes")
-FUNCTION = re.compile(r"^( *)(?:pub(?:\([a-z]+\))? )?(?:final )?fn (\w+)[^(]*\((.*?)\)(?=\s*(?:->|where|requires|ensures|\{|;))", re.S | re.M)
+FUNCTION = re.compile(
+    r"^( *)(?:pub(?:\([a-z]+\))? )?(?:final )?fn (\w+)[^(]*\((.*?)\)"
+    r"(?=\s*(?:->|where|requires|ensures|\{|;))",
+    re.S | re.M,
+)
 USE = re.compile(r"^\s*use ([\w:]+?)::(?:\{([^}]*)\}|(\w+(?: as \w+)?));", re.M)
 IMPL = re.compile(r"^impl(?:<[^\n]*?>)? (?:[^\n]*? for )?(\w+)", re.M)
 STATIC = re.compile(r"\b([A-Z]\w*)(?:::<[^>()]*>)?::(\w+)(?:::<[^>()]*>)?\(")
 METHOD = re.compile(r"\b(\w+)((?:\.[a-z_]\w*)*)\.(\w+)(?:::<[^>()]*>)?\(")
 BARE = re.compile(r"(?<![\w.:])(\w+)(?:::<[^>()]*>)?\(")
 LET = re.compile(r"let (?:mut )?(\w+)(?:: [^=]+)? = (?:match )?(\w+)(?:::<[^>()]*>)?::(\w+)\(")
-MATCHED = re.compile(r"(?:match|let) (\w+)(?:::<[^>()]*>)?::(try_\w+|new)\([^{]*\{[^{}]*?\bOk\((?:mut )?(\w+)\)")
+MATCHED = re.compile(
+    r"(?:match|let) (\w+)(?:::<[^>()]*>)?::(try_\w+|new)\([^{]*\{[^{}]*?\bOk\((?:mut )?(\w+)\)"
+)
 BORROWED = re.compile(r"let (?:mut )?(\w+) = &(?:mut )?(\w+)((?:\.\w+)*);")
 
 

@@ -8,6 +8,10 @@ from api_model import error_of, is_law, model
 from api_source import ROOT, TOP
 
 HOME = "docs/api"
+KEYS = (
+    '| macro `key!("ca")` of `extensions::unicode` | `extensions::unicode::key` '
+    "| | a function for each key of a keyword type, as `key::ca()` | |"
+)
 INDEX = f"""# Public items
 
 Every public item that `{ROOT}` passes on, one page for each module. Each call has its signature, what it does, the condition that it needs, each refusal with when it comes, whether it may run out of memory, and a line of a program that the gate runs.
@@ -50,7 +54,8 @@ def example_row(call):
 def tried_row(path):
     """Returns rows that the gate runs of a reader: what is given, and what is answered."""
     found = tried(path.removeprefix(f"{ROOT}::"))
-    said = "; ".join(f"[`{given}`](../../{file}#L{number}) is answered `{answer}`" for file, number, given, answer in found)
+    rows = [f"[`{given}`](../../{file}#L{number}) is answered `{answer}`" for file, number, given, answer in found]
+    said = "; ".join(rows)
     told = remark(path.removeprefix(f"{ROOT}::"))
     return [f"- Tried: {said}" + (f" ({told})" if told else "") + "."] if found else []
 
@@ -70,15 +75,23 @@ def call_rows(call, module):
     labels = ", ".join(f"`{it.label}`" for it in call.item.clauses if it.label and it.kind != "requires")
     named = f", clauses {labels}" if labels else ""
     if call.item.clauses:
-        facts.append(f"- Contract: [{call.item.path.removeprefix('crates/')}](../../{call.item.path}#L{call.item.number}){named}")
+        path = call.item.path
+        facts.append(f"- Contract: [{path.removeprefix('crates/')}](../../{path}#L{call.item.number}){named}")
     return rows + facts + [""]
+
+
+def told(said):
+    """Returns what is said of a name before it, if anything is."""
+    return f": {said}" if said else ""
 
 
 def trait_rows(entry, homes):
     """Returns the traits of a type: those of std in a line, ours linked, with what is special."""
-    plain = [f"`{it.trait}`" for it in entry.given if not it.said and it.trait not in homes]
-    rows = [f"- {link(homes[it.trait], entry.module)}" + (f": {it.said}" if it.said else "") for it in entry.given if it.trait in homes]
-    rows += [f"- `{it.trait}`: {it.said}" for it in entry.given if it.said and it.trait not in homes]
+    ours = [it for it in entry.given if it.trait in homes]
+    others = [it for it in entry.given if it.trait not in homes]
+    plain = [f"`{it.trait}`" for it in others if not it.said]
+    rows = [f"- {link(homes[it.trait], entry.module)}{told(it.said)}" for it in ours]
+    rows += [f"- `{it.trait}`{told(it.said)}" for it in others if it.said]
     line = [f"Traits: {', '.join(plain)}.", ""] if plain else []
     return line + rows + ([""] if rows else [])
 
@@ -94,8 +107,9 @@ def entry_rows(entry, homes):
     if entry.refusal:
         rows += [f"Its refusal is `{entry.refusal}`.", ""]
     if entry.base:
-        rows += [f"It is a {link(f'{base_home(entry.base)}::{entry.base}', entry.module)}, and has its calls and traits.", ""]
-    rows += [f"- `{text}`" + (f": {said}" if said else "") for text, said in entry.fields] + ([""] if entry.fields else [])
+        base = link(f"{base_home(entry.base)}::{entry.base}", entry.module)
+        rows += [f"It is a {base}, and has its calls and traits.", ""]
+    rows += [f"- `{text}`{told(said)}" for text, said in entry.fields] + [""]
     rows += trait_rows(entry, homes)
     if entry.name == "JsonText":
         rows += ["Types that have it: " + ", ".join(link(it, entry.module) for it in json_types()) + ".", ""]
@@ -116,7 +130,8 @@ def json_types():
 
 def trait_homes():
     """Returns the paths of the public traits by their names."""
-    return {it.name: it.path for module in model() for it in module.entries if it.kind == "trait" and not it.see}
+    traits = [it for module in model() for it in module.entries if it.kind == "trait" and not it.see]
+    return {it.name: it.path for it in traits}
 
 
 def module_page(module):
@@ -146,7 +161,8 @@ def pages():
 
 def broken_links(made):
     """Returns each link within these pages that leads to no page or to no heading."""
-    headings = {path: {anchor(it) for it in re.findall(r"^#+ (.*)$", text, re.M)} for path, text in made.items()}
+    heading = re.compile(r"^#+ (.*)$", re.M)
+    headings = {path: set(map(anchor, heading.findall(text))) for path, text in made.items()}
     faults = []
     for path, text in made.items():
         folder = path.rpartition("/")[0]
@@ -168,7 +184,8 @@ def allocator_kind(call):
 
 def allocator_table():
     """Returns the table of calls that take the allocator, or that may run out of memory without it."""
-    rows = ["| Type or module | `alloc`, and `?` | `alloc` alone: it is kept | `?` alone: the value's own allocator |", "|---|---|---|---|"]
+    heads = ["Type or module", "`alloc`, and `?`", "`alloc` alone: it is kept", "`?` alone: the value's own allocator"]
+    rows = [f"| {' | '.join(heads)} |", "|---|---|---|---|"]
     for module in model():
         for entry in module.entries:
             kinds = {"may": [], "keeps": [], "own": []}
@@ -200,7 +217,8 @@ def rust_row(entry):
         if not call.rust:
             continue
         if call.rust.rpartition("::")[2] != call.name:
-            named.append(f"`{call.rust.removeprefix(entry.rust + '::')}`: `{call.name}`" + (f" ({change_of})" if change_of else ""))
+            how = f" ({change_of})" if change_of else ""
+            named.append(f"`{call.rust.removeprefix(entry.rust + '::')}`: `{call.name}`{how}")
         elif change_of:
             changed.setdefault(change_of, []).append(f"`{call.name}`")
         else:
@@ -209,7 +227,8 @@ def rust_row(entry):
         same, changed = [], {it: [f"`{entry.name}`"] for it in filter(None, map(change, entry.calls))}
     said = "; ".join(f"{', '.join(names)}: {how}" for how, names in changed.items())
     here = entry.path.removeprefix(f"{ROOT}::")
-    return f"| `{entry.rust.removeprefix(f'{ROOT}::') or entry.name}` | `{here}` | {', '.join(same)} | {said} | {'; '.join(named)} |"
+    there = entry.rust.removeprefix(f"{ROOT}::") or entry.name
+    return f"| `{there}` | `{here}` | {', '.join(same)} | {said} | {'; '.join(named)} |"
 
 
 def from_rust_table():
@@ -218,7 +237,7 @@ def from_rust_table():
     own = []
     for module in model():
         if module.short == "extensions::unicode::key":
-            rows.append("| macro `key!(\"ca\")` of `extensions::unicode` | `extensions::unicode::key` | | a function for each key of a keyword type, as `key::ca()` | |")
+            rows.append(KEYS)
             continue
         for entry in module.entries:
             is_base = entry.calls and entry.calls[0].rust and not entry.rust

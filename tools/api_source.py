@@ -200,8 +200,9 @@ def home_of(name, made):
     it = crate(name)
     alias = re.match(r"pub type \w+ = (\w+)$", it.items[made].signature) if made in it.items else None
     if alias and alias.group(1) not in it.items:
-        from_there = re.search(rf"use (iloc_\w+)(?:::\w+)*::(?:\{{[^}}]*\b{alias.group(1)}\b[^}}]*\}}|{alias.group(1)});", it.text)
-        return home_of(from_there.group(1), alias.group(1)) if from_there else (name, made)
+        there = alias.group(1)
+        used = re.search(rf"use (iloc_\w+)(?:::\w+)*::(?:\{{[^}}]*\b{there}\b[^}}]*\}}|{there});", it.text)
+        return home_of(used.group(1), there) if used else (name, made)
     if made in it.items or made not in it.passed or it.passed[made] == (name, made):
         return name, made
     return home_of(*it.passed[made])

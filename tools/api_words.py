@@ -152,6 +152,11 @@ READERS = {
 BY_CALL = {
     "PreferenceKey::try_from_key_value": (KEYWORD_VALUE, "the type is `DictionaryBreakScriptExclusions` and the value has more than four scripts"),
     "TextValue::read_text": ([("ParseError", "the reader of the type refuses the text")], "`OutOfMemory` only if the reader of the type runs out of memory."),
+    "write_to_io": ([("io::Error", "the writer fails, or takes no byte (`WriteZero`); it then took a beginning of the text")], None),
+    "Writeable::write_to": ([("fmt::Error", "the sink fails; it then took a beginning of the text")], None),
+    "Sink::write_str": ([("fmt::Error", "the sink fails; it then took a beginning of the text")], None),
+    "Sink::write_short_piece": ([("fmt::Error", "the sink fails; it then took a beginning of the text")], None),
+    "Sink::write_char": ([("fmt::Error", "the sink fails; it then took a beginning of the text")], None),
     "Word::try_from_utf8": ([("ParseError", "the text is no word of the kind; each kind has one refusal")], None),
     "place": ([("Err", "the key is not there; the place is where it would go")], None),
     "FormatPreferences::from_locale_strict": ([("Err", "a keyword of these preferences is there and cannot be read, or `sd` is of another region; the same preferences are inside")], None),

@@ -10,6 +10,7 @@ ASKED = "calendar EN-latn-us-u-CA-Buddhist-x-Foo"
 PAGE = "docs/identifier.svg"
 WIDE, HIGH, GAP, EDGE, LEFT = 92, 40, 12, 20, 112
 COLOURS = {"id": "#dbe7f5", "unicode": "#e3f1dd", "private": "#f3e6d3"}
+SINGLETON = "singleton", ""
 HEADS = {"id": "identifier", "unicode": "unicode extension", "private": "private extension"}
 
 
@@ -18,7 +19,8 @@ def answer():
     rows = zip(read("crates/recipes/stdin").split("\n"), read("crates/recipes/stdout").split("\n"))
     found = [said for asked, said in rows if asked == ASKED]
     if not found:
-        raise SystemExit(f"draw_identifier: crates/recipes/stdin has no row '{ASKED}': put it back, with its answer in stdout")
+        lost = f"crates/recipes/stdin has no row '{ASKED}'"
+        raise SystemExit(f"draw_identifier: {lost}: put it back, with its answer in stdout")
     calendar, normal = re.match(r"(\S+), then (\S+)$", found[0]).groups()
     return ASKED.split(" ")[1], calendar, normal
 
@@ -28,11 +30,11 @@ def place(pieces, number):
     singletons = [it for it in pieces[: number + 1] if len(it) == 1]
     piece = pieces[number]
     if "x" in singletons:
-        return ("private", "singleton", "") if piece == "x" else ("private", "private subtag", "extensions.private")
+        return ("private", *SINGLETON) if piece == "x" else ("private", "private subtag", "extensions.private")
+    if "u" in singletons and len(piece) < 3:
+        return ("unicode", *SINGLETON) if piece == "u" else ("unicode", "key", "")
     if "u" in singletons:
-        if piece == "u":
-            return "unicode", "singleton", ""
-        return ("unicode", "key", "") if len(piece) == 2 else ("unicode", "value", "extensions.unicode.keywords")
+        return "unicode", "value", "extensions.unicode.keywords"
     if number == 0:
         return "id", "language", "id.language"
     if len(piece) == 4:
@@ -40,11 +42,15 @@ def place(pieces, number):
     return "id", "region", "id.region"
 
 
+def code(x, y, text, size, weight="normal"):
+    """Returns text of a program, in the middle of x."""
+    font = f'font-family="monospace" font-size="{size}" font-weight="{weight}"'
+    return f'<text x="{x:g}" y="{y}" text-anchor="middle" {font}>{text}</text>'
+
+
 def cell(x, y, text, fill, weight="normal"):
-    return (
-        f'<rect x="{x}" y="{y}" width="{WIDE}" height="{HIGH}" rx="5" fill="{fill}" stroke="#606060"/>'
-        f'<text x="{x + WIDE / 2:g}" y="{y + 25}" text-anchor="middle" font-family="monospace" font-size="15" font-weight="{weight}">{text}</text>'
-    )
+    box = f'<rect x="{x}" y="{y}" width="{WIDE}" height="{HIGH}" rx="5" fill="{fill}" stroke="#606060"/>'
+    return box + code(x + WIDE / 2, y + 25, text, 15, weight)
 
 
 def note(x, y, text, size=12, anchor="middle", colour="#404040"):
@@ -58,7 +64,8 @@ def columns(given, normal):
         x = LEFT + number * (WIDE + GAP)
         part, name, _ = place(normal, number)
         is_same = before == after
-        out += [cell(x, 50, before, "#ffffff"), cell(x, 130, after, COLOURS[part], "normal" if is_same else "bold")]
+        weight = "normal" if is_same else "bold"
+        out += [cell(x, 50, before, "#ffffff"), cell(x, 130, after, COLOURS[part], weight)]
         change, colour = ("unchanged", "#707070") if is_same else ("case changed", "#8a3b00")
         out.append(note(x + WIDE / 2, 114, change, 11, colour=colour))
         out.append(note(x + WIDE / 2, 188, name))
@@ -86,7 +93,7 @@ def brackets(normal, calendar):
         out.append(note((x + end) / 2, 230, HEADS[part], 13))
         fields = dict.fromkeys(place(normal, it)[2] for it in range(first, last + 1))
         for row, field in enumerate(filter(None, fields)):
-            out.append(f'<text x="{(x + end) / 2:g}" y="{252 + 18 * row}" text-anchor="middle" font-family="monospace" font-size="12">locale.{field}</text>')
+            out.append(code((x + end) / 2, 252 + 18 * row, f"locale.{field}", 12))
         if part == "unicode":
             out.append(note((x + end) / 2, 272, f"ca is {calendar}", 12))
     return out
@@ -97,10 +104,12 @@ def picture():
     text, calendar, answered = answer()
     given, normal = text.split("-"), answered.split("-")
     if [it.lower() for it in given] != [it.lower() for it in normal] or calendar not in normal:
-        raise SystemExit(f"draw_identifier: the answer '{answered}' is not '{text}' in another case: draw another row")
+        wrong = f"the answer '{answered}' is not '{text}' in another case"
+        raise SystemExit(f"draw_identifier: {wrong}: draw another row")
     width = LEFT + len(given) * (WIDE + GAP) - GAP + EDGE
     out = [
-        f'<svg xmlns="http://www.w3.org/2000/svg" viewBox="0 0 {width} 320" font-family="sans-serif" role="img">',
+        f'<svg xmlns="http://www.w3.org/2000/svg" viewBox="0 0 {width} 320"'
+        ' font-family="sans-serif" role="img">',
         f"<title>{answered}: its subtags, where each goes, and what normalizing changed</title>",
         f'<rect width="{width}" height="320" fill="white"/>',
         note(EDGE, 30, f"One locale: {text} is normalized to {answered}", 14, "start", "#000000"),
