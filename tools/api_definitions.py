@@ -6,8 +6,11 @@ import re
 
 from api_source import TOP, libraries, place, read
 
-DECLARED = re.compile(r"^(?:abbrev |unfoldable )?pub (?:record |data )?([\w']+)")
-CASES = re.compile(r"^  (?:pub )?([\w' ]+) :")
+DECLARED = re.compile(
+    r"^(?:\s*(?:abbrev |unfoldable )|\s*(?=pub record |pub data )|(?=pub ))"
+    r"pub (?:record |data )?([\w']+)"
+)
+CASES = re.compile(r"^  (?:pub )?([\w'\s]+?) :", re.M)
 USED = re.compile(r"use Rattle\.((?:[\w']+\.)+)\{([^}]*)\}|use Rattle\.([\w.']+) as ([\w']+)")
 WORDS = "docs/DEFINITIONS.md"
 
@@ -20,11 +23,10 @@ class Block:
 
     def names(self):
         """Returns the names that the block declares: its own, and its cases or fields."""
-        found = [self.name] if self.name else []
-        for line in self.text.split("\n"):
-            if cases := CASES.match(line):
-                found += cases.group(1).split()
-        return found
+        found = [DECLARED.match(line).group(1) for line in self.text.split("\n") if DECLARED.match(line)]
+        for cases in CASES.findall(self.text):
+            found += [it for it in cases.split() if it != "pub"]
+        return list(dict.fromkeys(found))
 
 
 class Definitions:
@@ -49,7 +51,7 @@ def blocks_of(text):
             first = first if lines else number
             lines.append(line)
         elif lines:
-            if not all(it.startswith(("use ", "pub use ", "pub mod ", "mod ", "  ", "}")) for it in lines):
+            if not all(it.startswith(("use ", "pub use ", "pub mod ", "mod ")) for it in lines):
                 name = next((DECLARED.match(it).group(1) for it in lines if DECLARED.match(it)), "")
                 kept = [it for it in lines if not it.startswith(("use ", "pub use "))]
                 yield Block("\n".join(kept), name if name not in ("use", "mod") else "", first)
@@ -74,7 +76,8 @@ def files():
     found = {}
     for crate in libraries():
         for path in sorted(glob.glob(f"{TOP}/crates/{crate}/specs/**/*.antt", recursive=True)):
-            module = os.path.relpath(path, f"{TOP}/crates/{crate}/specs").removesuffix(".antt").replace("/", ".")
+            inner = os.path.relpath(path, f"{TOP}/crates/{crate}/specs")
+            module = inner.removesuffix(".antt").replace("/", ".")
             if module != "Lib":
                 found[crate, module] = Definitions(crate, module, os.path.relpath(path, TOP))
     return found

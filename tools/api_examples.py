@@ -7,18 +7,25 @@ import glob
 import os
 import re
 
+import api_words
 from api_model import entries
 from api_source import ROOT, TOP, crate, libraries, read
 
 FIRST = ("crates/first_locale", "crates/recipes")
-FUNCTION = re.compile(r"^( *)(?:pub(?:\([a-z]+\))? )?(?:final )?fn (\w+)[^(]*\((.*?)\)(?=\s*(?:->|where|requires|ensures|\{|;))", re.S | re.M)
+FUNCTION = re.compile(
+    r"^( *)(?:pub(?:\([a-z]+\))? )?(?:final )?fn (\w+)[^(]*\((.*?)\)"
+    r"(?=\s*(?:->|where|requires|ensures|\{|;))",
+    re.S | re.M,
+)
 USE = re.compile(r"^\s*use ([\w:]+?)::(?:\{([^}]*)\}|(\w+(?: as \w+)?));", re.M)
 IMPL = re.compile(r"^impl(?:<[^\n]*?>)? (?:[^\n]*? for )?(\w+)", re.M)
 STATIC = re.compile(r"\b([A-Z]\w*)(?:::<[^>()]*>)?::(\w+)(?:::<[^>()]*>)?\(")
 METHOD = re.compile(r"\b(\w+)((?:\.[a-z_]\w*)*)\.(\w+)(?:::<[^>()]*>)?\(")
 BARE = re.compile(r"(?<![\w.:])(\w+)(?:::<[^>()]*>)?\(")
 LET = re.compile(r"let (?:mut )?(\w+)(?:: [^=]+)? = (?:match )?(\w+)(?:::<[^>()]*>)?::(\w+)\(")
-MATCHED = re.compile(r"(?:match|let) (\w+)(?:::<[^>()]*>)?::(try_\w+|new)\([^{]*\{[^{}]*?\bOk\((?:mut )?(\w+)\)")
+MATCHED = re.compile(
+    r"(?:match|let) (\w+)(?:::<[^>()]*>)?::(try_\w+|new)\([^{]*\{[^{}]*?\bOk\((?:mut )?(\w+)\)"
+)
 BORROWED = re.compile(r"let (?:mut )?(\w+) = &(?:mut )?(\w+)((?:\.\w+)*);")
 
 
@@ -180,3 +187,53 @@ def examples():
             for key in filter(None, made_on(line, known, types)):
                 found.setdefault(key, (path, number, line))
     return found
+
+
+@functools.cache
+def rows():
+    """Returns the rows of one argument by their first word: the file, the line, the argument, the answer."""
+    found = {}
+    for path in sorted(glob.glob(f"{TOP}/crates/*/stdin")):
+        path = os.path.relpath(path, TOP)
+        asked, answers = read(path).split("\n"), read(path.replace("/stdin", "/stdout")).split("\n")
+        if len(asked) == len(answers):
+            for number, (row, answer) in enumerate(zip(asked, answers), 1):
+                if row.count("\t") == 1:
+                    name, argument = row.split("\t")
+                    found.setdefault(name, []).append((path, number, argument, answer))
+    return found
+
+
+def is_plain(argument, answer):
+    """Returns whether a reader of the pages sees at once what the row says."""
+    return 1 < len(argument) <= 36 and len(answer) <= 60 and not re.search(r"[\\`|]", argument)
+
+
+def row_name(path):
+    """Returns the name of the rows of a call: a reader of `str` is tried as that of bytes."""
+    longer = re.sub(r"_str$", "_utf8", path) if path.endswith("_str") else f"{path}_utf8"
+    return api_words.ROWS.get(path) or api_words.ROWS.get(longer)
+
+
+def tried(path):
+    """Returns rows of the call or the type at this path: one that is accepted, one that is refused."""
+    name = row_name(path)
+    fit, changed, refused = None, None, None
+    for file, number, argument, answer in rows().get(name, []):
+        if name.startswith("word-") and not answer.startswith("! "):
+            answer = answer.split(" ")[0]
+        if not answer or not is_plain(argument, answer) or argument == "true":
+            continue
+        row = (file, number, argument, answer)
+        if answer.startswith("! ") or answer == "false":
+            refused = refused or row
+        elif answer.split(" ")[-1] == argument:
+            fit = fit or row
+        else:
+            changed = changed or row
+    return [it for it in (changed or fit, refused) if it]
+
+
+def remark(path):
+    """Returns what the answers of such rows say before the text."""
+    return api_words.ROW_REMARKS.get(row_name(path), "")

@@ -1,12 +1,17 @@
 """The pages of public items as Markdown: an index, a page for each module, and the tables of other pages."""
+import os
 import re
 
 import api_words
-from api_examples import examples
-from api_model import error_of, model
-from api_source import ROOT
+from api_examples import examples, remark, tried
+from api_model import error_of, is_law, model
+from api_source import ROOT, TOP
 
 HOME = "docs/api"
+KEYS = (
+    '| macro `key!("ca")` of `extensions::unicode` | `extensions::unicode::key` '
+    "| | a function for each key of a keyword type, as `key::ca()` | |"
+)
 INDEX = f"""# Public items
 
 Every public item that `{ROOT}` passes on, one page for each module. Each call has its signature, what it does, the condition that it needs, each refusal with when it comes, whether it may run out of memory, and a line of a program that the gate runs.
@@ -46,29 +51,47 @@ def example_row(call):
     return f"- Example: `{line}` in [{path.removeprefix('crates/')}](../../{path}#L{number})"
 
 
+def tried_row(path):
+    """Returns rows that the gate runs of a reader: what is given, and what is answered."""
+    found = tried(path.removeprefix(f"{ROOT}::"))
+    rows = [f"[`{given}`](../../{file}#L{number}) is answered `{answer}`" for file, number, given, answer in found]
+    said = "; ".join(rows)
+    told = remark(path.removeprefix(f"{ROOT}::"))
+    return [f"- Tried: {said}" + (f" ({told})" if told else "") + "."] if found else []
+
+
 def refusal_rows(call):
     rows = [f"  - `{name}` if {when}." for name, when in call.refuses]
     return ["- Refuses:"] + rows if rows else []
 
 
-def call_rows(call):
+def call_rows(call, module):
     rows = [f"#### `{call.title}`", "", f"    {call.signature}", "", call.sentence or "."]
     rows += ["", *[it for part in call.details for it in (part, "")]] if call.details else [""]
     facts = [f"- Needs: {it}" for it in call.needs] + refusal_rows(call)
-    facts.append(f"- Memory: {call.memory}")
-    facts += [example_row(call)] if example_row(call) else []
+    facts.append(f"- {'Use' if is_law(call.item) else 'Memory'}: {call.memory}")
+    facts += tried_row(f"{module}::{call.title}") + ([example_row(call)] if example_row(call) else [])
+    facts += [f"- States: `{it.fact}`" for it in call.item.clauses if is_law(call.item)]
     labels = ", ".join(f"`{it.label}`" for it in call.item.clauses if it.label and it.kind != "requires")
     named = f", clauses {labels}" if labels else ""
     if call.item.clauses:
-        facts.append(f"- Contract: [{call.item.path.removeprefix('crates/')}](../../{call.item.path}#L{call.item.number}){named}")
+        path = call.item.path
+        facts.append(f"- Contract: [{path.removeprefix('crates/')}](../../{path}#L{call.item.number}){named}")
     return rows + facts + [""]
+
+
+def told(said):
+    """Returns what is said of a name before it, if anything is."""
+    return f": {said}" if said else ""
 
 
 def trait_rows(entry, homes):
     """Returns the traits of a type: those of std in a line, ours linked, with what is special."""
-    plain = [f"`{it.trait}`" for it in entry.given if not it.said and it.trait not in homes]
-    rows = [f"- {link(homes[it.trait], entry.module)}" + (f": {it.said}" if it.said else "") for it in entry.given if it.trait in homes]
-    rows += [f"- `{it.trait}`: {it.said}" for it in entry.given if it.said and it.trait not in homes]
+    ours = [it for it in entry.given if it.trait in homes]
+    others = [it for it in entry.given if it.trait not in homes]
+    plain = [f"`{it.trait}`" for it in others if not it.said]
+    rows = [f"- {link(homes[it.trait], entry.module)}{told(it.said)}" for it in ours]
+    rows += [f"- `{it.trait}`{told(it.said)}" for it in others if it.said]
     line = [f"Traits: {', '.join(plain)}.", ""] if plain else []
     return line + rows + ([""] if rows else [])
 
@@ -78,17 +101,19 @@ def entry_rows(entry, homes):
     if entry.see:
         return rows + [f"Described at {link(entry.see, entry.module)}.", ""]
     if entry.kind == "fn":
-        return [it.replace("#### ", "### ") for it in call_rows(entry.calls[0])]
+        return [it.replace("#### ", "### ") for it in call_rows(entry.calls[0], entry.module)]
     rows += [entry.sentence or ".", ""] + [it for part in entry.details for it in (part, "")]
+    rows += tried_row(entry.path) + [""] if tried_row(entry.path) else []
     if entry.refusal:
         rows += [f"Its refusal is `{entry.refusal}`.", ""]
     if entry.base:
-        rows += [f"It is a {link(f'{base_home(entry.base)}::{entry.base}', entry.module)}, and has its calls and traits.", ""]
-    rows += [f"- `{text}`" + (f": {said}" if said else "") for text, said in entry.fields] + ([""] if entry.fields else [])
+        base = link(f"{base_home(entry.base)}::{entry.base}", entry.module)
+        rows += [f"It is a {base}, and has its calls and traits.", ""]
+    rows += [f"- `{text}`{told(said)}" for text, said in entry.fields] + [""]
     rows += trait_rows(entry, homes)
     if entry.name == "JsonText":
-        rows += ["Types that have it: " + ", ".join(json_types()) + ".", ""]
-    return rows + [it for call in entry.calls for it in call_rows(call)]
+        rows += ["Types that have it: " + ", ".join(link(it, entry.module) for it in json_types()) + ".", ""]
+    return rows + [it for call in entry.calls for it in call_rows(call, entry.module)]
 
 
 def base_home(base):
@@ -97,15 +122,16 @@ def base_home(base):
 
 
 def json_types():
-    """Returns the types that are written as JSON strings."""
-    has = {it.name for module in model() for it in module.entries for given in it.given if given.trait == "JsonText"}
-    aliases = [it.name for module in model() for it in module.entries if it.base == "WordOf" and not it.see]
-    return [f"`{it}`" for it in sorted(has - {"WordOf"}) + (aliases if "WordOf" in has else [])]
+    """Returns the paths of the types that are written as JSON strings."""
+    found = [it for module in model() for it in module.entries if not it.see]
+    has = {it.name for it in found if any(given.trait == "JsonText" for given in it.given)}
+    return [it.path for it in found if it.name in has - {"WordOf"} or it.base == "WordOf" and "WordOf" in has]
 
 
 def trait_homes():
     """Returns the paths of the public traits by their names."""
-    return {it.name: it.path for module in model() for it in module.entries if it.kind == "trait" and not it.see}
+    traits = [it for module in model() for it in module.entries if it.kind == "trait" and not it.see]
+    return {it.name: it.path for it in traits}
 
 
 def module_page(module):
@@ -133,25 +159,44 @@ def pages():
     return made
 
 
+def broken_links(made):
+    """Returns each link within these pages that leads to no page or to no heading."""
+    heading = re.compile(r"^#+ (.*)$", re.M)
+    headings = {path: set(map(anchor, heading.findall(text))) for path, text in made.items()}
+    faults = []
+    for path, text in made.items():
+        folder = path.rpartition("/")[0]
+        for target, place in re.findall(r"\]\(([\w./]*\.md)?#?([\w-]*)\)", text):
+            page = os.path.normpath(f"{folder}/{target}") if target else path
+            if page not in headings and not os.path.isfile(f"{TOP}/{page}"):
+                faults.append(f"{path}: no page {target}")
+            elif place and page in headings and place not in headings[page]:
+                faults.append(f"{path}: no heading {place} in {page}")
+    return faults
+
+
+def allocator_kind(call):
+    """Returns in which column of the table a call stands, if in any."""
+    if re.search(r"\b_?alloc: Global", call.signature):
+        return "may" if "Result<" in call.signature else "keeps"
+    return "own" if error_of(call.item) == "AllocError" else ""
+
+
 def allocator_table():
-    """Returns the table of calls that take the allocator."""
-    kinds = {"may": {}, "keeps": {}, "own": {}}
+    """Returns the table of calls that take the allocator, or that may run out of memory without it."""
+    heads = ["Type or module", "`alloc`, and `?`", "`alloc` alone: it is kept", "`?` alone: the value's own allocator"]
+    rows = [f"| {' | '.join(heads)} |", "|---|---|---|---|"]
     for module in model():
         for entry in module.entries:
+            kinds = {"may": [], "keeps": [], "own": []}
             for call in entry.calls:
-                takes = re.search(r"\b_?alloc: Global", call.signature)
-                kind = "may" if takes and "Result<" in call.signature else "keeps" if takes else "own" if error_of(call.item) == "AllocError" else ""
-                if kind and not entry.see:
-                    kinds[kind].setdefault(call.owner or module.short, []).append(f"`{call.name}`")
-    heads = {
-        "may": "taken; running out of memory is a refusal, so write `?`",
-        "keeps": "taken and kept; nothing is allocated, so no `?`",
-        "own": "not taken: the value's own; write `?`",
-    }
-    rows = ["| Type or module | Calls | `alloc` |", "|---|---|---|"]
-    for kind, owners in kinds.items():
-        rows += [f"| `{owner}` | {', '.join(dict.fromkeys(names))} | {heads[kind]} |" for owner, names in owners.items()]
-    return "\n".join(rows)
+                if kind := allocator_kind(call):
+                    kinds[kind].append(f"`{call.name}`")
+            if any(kinds.values()) and not entry.see:
+                name = entry.name if entry.kind != "fn" else module.short
+                where = "" if "::" not in module.short or entry.kind == "fn" else f" of `{module.short}`"
+                rows.append(f"| `{name}`{where} | {' | '.join(', '.join(it) for it in kinds.values())} |")
+    return "\n".join(rows) + "\n\n`clone` of what derives `Clone` takes no allocator either, and needs `?` too."
 
 
 def change(call):
@@ -172,7 +217,8 @@ def rust_row(entry):
         if not call.rust:
             continue
         if call.rust.rpartition("::")[2] != call.name:
-            named.append(f"`{call.rust.removeprefix(entry.rust + '::')}`: `{call.name}`" + (f" ({change_of})" if change_of else ""))
+            how = f" ({change_of})" if change_of else ""
+            named.append(f"`{call.rust.removeprefix(entry.rust + '::')}`: `{call.name}`{how}")
         elif change_of:
             changed.setdefault(change_of, []).append(f"`{call.name}`")
         else:
@@ -181,7 +227,8 @@ def rust_row(entry):
         same, changed = [], {it: [f"`{entry.name}`"] for it in filter(None, map(change, entry.calls))}
     said = "; ".join(f"{', '.join(names)}: {how}" for how, names in changed.items())
     here = entry.path.removeprefix(f"{ROOT}::")
-    return f"| `{entry.rust.removeprefix(f'{ROOT}::') or entry.name}` | `{here}` | {', '.join(same)} | {said} | {'; '.join(named)} |"
+    there = entry.rust.removeprefix(f"{ROOT}::") or entry.name
+    return f"| `{there}` | `{here}` | {', '.join(same)} | {said} | {'; '.join(named)} |"
 
 
 def from_rust_table():
@@ -190,7 +237,7 @@ def from_rust_table():
     own = []
     for module in model():
         if module.short == "extensions::unicode::key":
-            rows.append("| macro `key!(\"ca\")` of `extensions::unicode` | `extensions::unicode::key` | | a function for each key of a keyword type, as `key::ca()` | |")
+            rows.append(KEYS)
             continue
         for entry in module.entries:
             is_base = entry.calls and entry.calls[0].rust and not entry.rust

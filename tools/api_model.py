@@ -13,6 +13,10 @@ OF_STD = (
     "Clone Copy Debug Default Drop Display Eq Error From FromStr Hash IntoIterator Iterator Ord PartialEq "
     "PartialOrd TryFrom Add AddAssign"
 ).split()
+# A result that may be a refusal, with the name of its error type where that is written.
+RESULT = re.compile(r"-> (?:[\w:]+::)?Result<.*?(?:, (\w+))?>(?: where .*)?$")
+UNCHANGED = re.compile(r"OnErr result \((?:pairs )?self\.new ≡ (?:pairs )?self\.old\)")
+OF_PREFERENCES = "Its key, what its value reads as, and the value that it is turned into."
 GIVERS = {
     "Sink": "the sink",
     "FnMut": "the closure",
@@ -42,11 +46,6 @@ class Call:
     @property
     def title(self):
         return f"{self.owner}::{self.name}" if self.owner else self.name
-
-    @property
-    def is_law(self):
-        """A law has an empty body and no result: its clauses are facts of the definitions."""
-        return not self.owner and "->" not in self.signature and self.item.lines[-1].strip() == "}" and "requires" not in self.signature
 
 
 @dataclasses.dataclass
@@ -101,6 +100,11 @@ def fits(table, fact):
     return ""
 
 
+def explained(signature):
+    """Returns what is said of names in the signature that are no public items."""
+    return [said for name, said in api_words.EXPLAINED.items() if re.search(rf"\b{name}\b", signature)]
+
+
 def needs(item):
     """Returns the conditions of a call in words; a clause without words is shown as it is."""
     facts = [it.fact for it in item.clauses if it.kind == "requires"]
@@ -109,8 +113,8 @@ def needs(item):
 
 def unworded():
     """Returns the clauses that the table has no words for."""
-    calls = [it for module in model() for entry in module.entries for it in entry.calls]
-    return [f"{it.title} needs {need}" for it in calls for need in it.needs if need.startswith("`") and "≡" in need]
+    pairs = [(it, need) for entry in entries() for it in entry.calls for need in it.needs]
+    return [f"{it.title} needs {need}" for it, need in pairs if re.match(r"`[^`]*[ ≡][^`]*`\.$", need)]
 
 
 def enough(item):
@@ -150,7 +154,8 @@ def kinds():
         if trait.startswith("WordKind<"):
             refusal = re.search(r"ParseError::(\w+)\n", "\n".join(item.lines)).group(1)
             found[base] = refusal
-    return {alias: found[re.search(r"<(\w+)", whole).group(1)] for whole, alias in it.aliases.items() if whole.startswith("WordOf<")}
+    words = [(alias, re.match(r"WordOf<(\w+)", whole)) for whole, alias in it.aliases.items()]
+    return {alias: found[kind.group(1)] for alias, kind in words if kind}
 
 
 def by_refusal():
@@ -163,10 +168,11 @@ def by_refusal():
 
 def refuses(item, owner, name):
     """Returns each refusal of a call with when it comes, and when memory is wanted."""
-    ends = re.search(r"-> (?:[\w:]+::)?Result<(.*)>(?: where .*)?$", item.signature) or re.search(r"-> io::Result<(.*)>", item.signature)
-    if not ends:
+    if found := api_words.BY_CALL.get(f"{owner}::{name}" if owner else name):
+        return found
+    if not RESULT.search(item.signature):
         return [], None
-    if found := api_words.BY_CALL.get(f"{owner}::{name}" if owner else name) or relation(item):
+    if found := relation(item):
         return found
     if "read K.kind K.refusal" in facts(item) or "ReadsRaw" in facts(item):
         what = "raw form of a normal word" if "ReadsRaw" in facts(item) else "word"
@@ -182,12 +188,19 @@ def facts(item):
 
 def error_of(item):
     """Returns the name of the call's error type."""
-    found = re.search(r"-> (?:[\w:]+::)?Result<.*, (\w+)>(?: where .*)?$", item.signature)
-    return found.group(1) if found else "io::Error" if "io::Result" in item.signature else "fmt::Error" if "fmt::Result" in item.signature else ""
+    found = RESULT.search(item.signature)
+    return (found.group(1) or "") if found else ""
+
+
+def is_law(item):
+    """Returns whether the function is a law: it takes and returns nothing, and ensures a fact."""
+    return bool(re.match(r"pub fn \w+\(\)$", item.signature)) and bool(item.clauses)
 
 
 def memory(item, wants):
     """Returns what the call says of memory, of its signature and its clauses."""
+    if is_law(item):
+        return "A law: the call does nothing. Make it where a proof wants its fact."
     error, may_fail = error_of(item), "-> " in item.signature and "Result<" in item.signature
     name = "AllocError" if error == "AllocError" else "OutOfMemory"
     takes = re.search(r"\b_?alloc: Global", item.signature)
@@ -196,7 +209,7 @@ def memory(item, wants):
         return "Keeps the allocator, and allocates nothing."
     if not takes and error != "AllocError":
         return "Takes no allocator, and never runs out of memory."
-    if "always" in whens or (takes and error not in ("AllocError", "JsonError") and wants is None and error == "ParseError"):
+    if "always" in whens or takes and wants is None and error == "ParseError":
         return "Allocates nothing: memory is never refused."
     said = "May allocate" if takes else "May allocate, from the value's own allocator"
     if wants and wants[0] in "`M":
@@ -204,7 +217,7 @@ def memory(item, wants):
     if wants and error != "AllocError":
         return f"May run out of memory (`{name}`), but only if {wants}." + nothing_if(whens)
     said = f"{said}: `{name}` if that fails."
-    if "OnErr result (self.new ≡ self.old)" in facts(item) or "OnErr result (pairs self.new ≡ pairs self.old)" in facts(item):
+    if UNCHANGED.search(facts(item)):
         said += " Then nothing has changed."
     return said + nothing_if(whens)
 
@@ -250,8 +263,9 @@ def call_of(item, owner, home, rust, made):
     name = re.search(r"fn (\w+)", item.signature).group(1)
     given, wants = refuses(item, owner, name)
     sentence = api_words.SENTENCES.get(f"{owner}::{name}") or item.sentence()
+    signature = expanded(item.signature.removeprefix("pub "), home)
     return Call(
-        owner, name, item, home, expanded(item.signature.removeprefix("pub "), home), sentence, item.details(),
+        owner, name, item, home, signature, sentence, item.details() + explained(signature),
         needs(item), given, memory(item, wants) + sink_or_closure(item), rust_of_call(rust, owner, name),
         (home, made, name),
     )
@@ -302,27 +316,35 @@ def fields_of(item):
 def given_of(home, name):
     """Returns the traits of the type, each with what its `impl` says."""
     found = {it: "" for it in home.derived(name) if it in OF_STD}
-    names = {name}
     for at in [crate(it) for it in libraries()]:
         for trait, whole, base, item in at.given:
             bare = re.match(r"(?:fmt::)?(\w+)", trait).group(1)
             made_of = re.match(r"(?:Try)?From<&?(\w+)", trait)
-            if base in names and (at.name == home.name or base == name and base in home.items and owns(at, home, base)):
+            is_here = at.name == home.name or owns(at, home, name)
+            if base == name and is_here:
                 if bare in OF_STD or bare in OURS and bare != "TextValue":
                     found[trait.removeprefix("fmt::")] = " ".join(item.paragraphs()[:1])
                 if bare == "EnumKeyword":
-                    found.setdefault("PreferenceKey", "Its key, what its value reads as, and the value that it is turned into.")
+                    found.setdefault("PreferenceKey", OF_PREFERENCES)
                 if bare == "TextValue":
                     found.setdefault("JsonText", "")
-            elif made_of and made_of.group(1) in names and base != name and (at.name == home.name or owns(at, home, name)):
+            elif made_of and made_of.group(1) == name and is_here:
                 found[f"{trait} for {whole}"] = " ".join(item.paragraphs()[:1])
     found.pop("Drop", None)
-    return [Given(trait, said) for trait, said in found.items()]
+    return [Given(trait, api_words.GIVEN.get(trait, said)) for trait, said in found.items()]
 
 
 def owns(at, home, base):
     """Returns whether the name means the type of this crate where the other crate says it."""
-    return base not in at.items and re.search(rf"\buse (?:\w+::)*(?:\{{[^}}]*\b{base}\b[^}}]*\}}|{base});", at.text) is not None and f"{home.name}" in at.text
+    used = re.search(rf"\buse (?:\w+::)*(?:\{{[^}}]*\b{base}\b[^}}]*\}}|{base});", at.text)
+    return base not in at.items and used is not None and home.name in at.text
+
+
+def head_of(item, kind, made, shown, home):
+    """Returns the first line of an item, an alias by its public name."""
+    if kind == "type":
+        return item.signature.replace(f"type {made}", f"type {shown}")
+    return expanded(item.signature, home)
 
 
 def entry_of(module, home, made, shown, seen):
@@ -334,7 +356,7 @@ def entry_of(module, home, made, shown, seen):
     alias = ALIAS.match(item.signature)
     base = alias.group(3) if alias and alias.group(3) in it.items else ""
     entry = Entry(
-        module, shown, kind, item, home, expanded(item.signature, home) if kind != "type" else item.signature,
+        module, shown, kind, item, home, head_of(item, kind, made, shown, home),
         api_words.SENTENCES.get(shown) or item.sentence(), item.details(), [], [], [], base, rust,
     )
     if (home, made) in seen:
@@ -351,7 +373,8 @@ def entry_of(module, home, made, shown, seen):
         entry.fields = fields_of(item) if kind in ("struct", "enum") else []
         entry.calls = [call_of(at, shown, home, rust, made) for at in in_order(it.calls(made), item)]
         entry.given = given_of(it, made)
-        entry.refusal = kinds().get(made, "") if home == "iloc_subtags" else ""
+        refusal = kinds().get(made, "") if home == "iloc_subtags" else ""
+        entry.refusal = refusal if refusal not in " ".join(entry.details) else ""
     return entry
 
 
@@ -366,7 +389,7 @@ def base_entry(entry):
     item = it.items[entry.base]
     made = Entry(
         entry.module, entry.base, "struct", item, entry.crate, item.signature, item.sentence(),
-        item.details(), [], [], [], "", "",
+        item.details() + explained(item.signature), [], [], [], "", "",
     )
     made.calls = [call_of(at, entry.base, entry.crate, entry.rust, entry.base) for at in it.calls(entry.base)]
     made.given = given_of(it, entry.base)

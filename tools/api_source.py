@@ -198,6 +198,11 @@ def crate(name):
 def home_of(name, made):
     """Returns the crate that makes the item, and its name there: what a crate passes on is followed."""
     it = crate(name)
+    alias = re.match(r"pub type \w+ = (\w+)$", it.items[made].signature) if made in it.items else None
+    if alias and alias.group(1) not in it.items:
+        there = alias.group(1)
+        used = re.search(rf"use (iloc_\w+)(?:::\w+)*::(?:\{{[^}}]*\b{there}\b[^}}]*\}}|{there});", it.text)
+        return home_of(used.group(1), there) if used else (name, made)
     if made in it.items or made not in it.passed or it.passed[made] == (name, made):
         return name, made
     return home_of(*it.passed[made])

@@ -152,6 +152,11 @@ READERS = {
 BY_CALL = {
     "PreferenceKey::try_from_key_value": (KEYWORD_VALUE, "the type is `DictionaryBreakScriptExclusions` and the value has more than four scripts"),
     "TextValue::read_text": ([("ParseError", "the reader of the type refuses the text")], "`OutOfMemory` only if the reader of the type runs out of memory."),
+    "write_to_io": ([("io::Error", "the writer fails, or takes no byte (`WriteZero`); it then took a beginning of the text")], None),
+    "Writeable::write_to": ([("fmt::Error", "the sink fails; it then took a beginning of the text")], None),
+    "Sink::write_str": ([("fmt::Error", "the sink fails; it then took a beginning of the text")], None),
+    "Sink::write_short_piece": ([("fmt::Error", "the sink fails; it then took a beginning of the text")], None),
+    "Sink::write_char": ([("fmt::Error", "the sink fails; it then took a beginning of the text")], None),
     "Word::try_from_utf8": ([("ParseError", "the text is no word of the kind; each kind has one refusal")], None),
     "place": ([("Err", "the key is not there; the place is where it would go")], None),
     "FormatPreferences::from_locale_strict": ([("Err", "a keyword of these preferences is there and cannot be read, or `sd` is of another region; the same preferences are inside")], None),
@@ -168,7 +173,14 @@ SENTENCES = {
 
 # What is explained where it appears, as no path of the public crate leads to it.
 EXPLAINED = {
-    "ShortPiece": "a piece of at most eight bytes, in one machine word",
+    "ShortPiece": "`ShortPiece` is a text of at most eight bytes in one machine word. It is no public item: a program gets one from `to_piece` and hands it on.",
+    "KeywordKind": "`KeywordKind` says which keyword it is. It is no public item: use the aliases, as `NumberingSystem`.",
+    "SubtagContent": "`SubtagContent` is what one subtag can stand for: a `Subtag` or a `SubdivisionId`. It is no public item.",
+}
+
+# What an `impl` says whose comment refers to the one before it.
+GIVEN = {
+    "From<AllocFailed<T>>": "The failure of a collection to allocate, as of `Vec::push`, is `OutOfMemory`. What could not be stored is dropped.",
 }
 
 # Modules that are crates of their own in Rust.
@@ -275,3 +287,38 @@ CHANGES = {
     "Keywords::remove": "a `&Key`",
     "LiteMap::remove": "a `&K`",
 }
+
+# The rows of the gate's table tests that make a call, by their first word; those of a type for its readers.
+ROWS = {
+    "langid::LanguageIdentifier::try_from_utf8": "langid",
+    "langid::LanguageIdentifier::try_from_locale_bytes": "head",
+    "langid::LanguageIdentifier::try_from_utf8_with_single_variant": "text-single",
+    "langid::LanguageIdentifier::normalize_utf8": "text-normalid",
+    "locale::Locale::try_from_utf8": "locale",
+    "locale::Locale::normalize_utf8": "text-normal",
+    "locale::Locale::is_well_formed": "locale-well",
+    "locale::Locale::try_from_utf8_with_single_variant_single_keyword_unicode_extension": "text-heapfree",
+    "data::DataLocale::try_from_utf8": "data",
+    "extensions::unicode::SubdivisionId::try_from_utf8": "subdivision",
+    "extensions::unicode::Attributes::try_from_utf8": "attributes",
+    "extensions::unicode::Keywords::try_from_utf8": "keywords",
+    "extensions::unicode::Unicode::try_from_utf8": "unicode",
+    "extensions::unicode::Value::try_from_utf8": "uvalue",
+    "extensions::transform::Transform::try_from_utf8": "transform",
+    "extensions::transform::Value::try_from_utf8": "tvalue",
+    "extensions::other::Other::try_from_utf8": "other",
+    "extensions::private::Private::try_from_utf8": "private",
+    "subtags::Language": "word-language",
+    "subtags::Script": "word-script",
+    "subtags::Region": "word-region",
+    "subtags::Variant": "word-variant",
+    "subtags::Subtag": "word-subtag",
+    "extensions::unicode::Key": "word-ukey",
+    "extensions::unicode::Attribute": "word-attribute",
+    "extensions::unicode::SubdivisionSuffix": "word-suffix",
+    "extensions::transform::Key": "word-tkey",
+    "extensions::private::Subtag": "word-private",
+    "preferences::extensions::unicode::keywords::CurrencyType": "word-currency",
+}
+# What answers of these rows say before the text.
+ROW_REMARKS = {"text-normal": "`B`: borrowed, `O`: owned", "text-normalid": "`B`: borrowed, `O`: owned"}

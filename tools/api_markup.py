@@ -1,0 +1,105 @@
+"""Writes HTML: elements, inline code and links, and the Markdown of docs/DEFINITIONS.md."""
+import html
+import os
+import re
+
+import api_definitions
+from api_definitions import files, slug
+
+PARTS = re.compile(r"(`[^`]+`|!?\[[^\]]*\]\([^)]*\))")
+LINK = re.compile(r"(!?)\[([^\]]*)\]\(([^)]*)\)$")
+OF_SPECS = re.compile(r"\.\./crates/(\w+)/specs(?:/(\w+)\.antt)?$")
+BOLD, SLANTED = re.compile(r"\*\*(.+?)\*\*"), re.compile(r"(?<!\*)\*([^* ][^*]*)\*(?!\*)")
+CELLS, RULE = re.compile(r"(?<!\\)\|"), re.compile(r"\|[-| :]+\|?$")
+BULLET = re.compile(r"^([-*]|[0-9]+[.]) ")
+
+
+def esc(text):
+    """Returns the text with what HTML means something by written out."""
+    return html.escape(text, quote=False)
+
+
+def tag(name, inner, **attributes):
+    """Returns an element; `kind` stands for the attribute `class`."""
+    named = {"class" if it == "kind" else it: value for it, value in attributes.items()}
+    said = "".join(f' {it}="{html.escape(value)}"' for it, value in named.items())
+    return f"<{name}{said}>{inner}</{name}>"
+
+
+def code(text):
+    return tag("code", esc(text))
+
+
+def leads(target, inner):
+    """Returns a link, or what it would show where there is no target."""
+    return tag("a", inner, href=target) if target else inner
+
+
+def items(rows):
+    """Returns a list of these rows, or nothing."""
+    return tag("ul", "".join(tag("li", it) for it in rows)) if rows else ""
+
+
+def dim(inner):
+    """Returns a remark."""
+    return tag("p", inner, kind="rust")
+
+
+def marked(text):
+    """Returns text with its inline code and links as HTML."""
+    return "".join(inline(it) for it in PARTS.split(text))
+
+
+def inline(part):
+    if part.startswith("`"):
+        name = part.strip("`")
+        is_name = re.search(r"[A-Z_]", name)
+        return leads(api_definitions.by_name().get(name, "") if is_name else "", code(name))
+    if found := LINK.match(part):
+        return linked(*found.groups())
+    return SLANTED.sub(r"<i>\1</i>", BOLD.sub(r"<b>\1</b>", esc(part)))
+
+
+def linked(is_image, said, target):
+    """Returns a link of docs/DEFINITIONS.md: to a page of definitions, to a picture, or none."""
+    if is_image:
+        return f'<img src="{os.path.basename(target)}" alt="{html.escape(said)}">'
+    if found := OF_SPECS.match(target):
+        crate, module = found.groups()
+        pages = [it.page() for it in files().values() if it.crate == crate and module in (None, it.module)]
+        return leads(pages[0] if pages else "", marked(said))
+    return marked(said)
+
+
+def table(lines):
+    """Returns a table, whose first row is its head."""
+    rows = [CELLS.split(it.strip().strip("|")) for it in lines if not RULE.match(it)]
+    cells = [[marked(cell.strip()) for cell in row] for row in rows]
+    head = "".join(tag("th", it) for it in cells[0])
+    body = ["".join(tag("td", it) for it in row) for row in cells[1:]]
+    return tag("table", "".join(tag("tr", it) for it in [head, *body]))
+
+
+def block(lines):
+    """Returns a table, a list, code, or a paragraph."""
+    if lines[0].startswith("|"):
+        return table(lines)
+    if BULLET.match(lines[0]):
+        return items([marked(BULLET.sub("", it)) for it in lines])
+    if lines[0].startswith("    "):
+        return tag("pre", esc("\n".join(it[4:] for it in lines)))
+    return tag("p", marked(" ".join(lines)))
+
+
+def page(text):
+    """Returns a page of the repository as HTML."""
+    out = []
+    for part in re.split(r"\n{2,}", text.strip()):
+        lines = part.split("\n")
+        if heading := re.match(r"(#+) (.*)", lines[0]):
+            level, said = len(heading.group(1)), heading.group(2)
+            out.append(tag(f"h{level}", marked(said), id=slug(said)))
+            lines = lines[1:]
+        if lines:
+            out.append(block(lines))
+    return "\n".join(out)
