@@ -1,0 +1,211 @@
+"""The parts of docs/REVIEW.md that tools/trusted makes of the sources, and whether they are current.
+
+A part stands between `<!-- trusted: WHAT -->` and `<!-- /trusted -->`, where WHAT is one of
+
+- `counts`: how much there is to read;
+- `clause CALL NAME`: a clause of a contract, word for word;
+- `files PATH ..`: the definitions of these files on which the headline rests;
+- `types`: the types and views through which its contracts see values;
+- `memory`: what only the clauses on memory cite;
+- `outside`: how much of specs/ the headline does not rest on."""
+import difflib
+import os
+import re
+import sys
+import textwrap
+
+import trusted_graph as graph
+
+HEADLINE = ("Locale::try_from_utf8", "Locale::normalize_utf8", "Locale::is_well_formed", "Locale::write_to")
+ON_MEMORY = ("memory", "succeeds")
+PAGE = "docs/REVIEW.md"
+PART = re.compile(r"<!-- trusted: (.+?) -->\n(.*?)<!-- /trusted -->", re.S)
+
+
+class Wrong(Exception):
+    """A part of the page that cannot be made."""
+
+
+def headline(sources):
+    return [(it, ()) for name in HEADLINE for it in graph.named(sources, name)]
+
+
+def without_memory(sources, contracts):
+    """Returns the contracts without their clauses on memory; what wants memory no longer counts as cited."""
+    cites = sources.cites
+    sources.cites = lambda item: () if is_on_memory(item) else tuple(it for it in cites(item) if not is_on_memory(it))
+    kept = []
+    for it, wanted in contracts:
+        if isinstance(it, graph.Contract):
+            names = [name.split()[-1] for name, _, _ in it.clauses(wanted)]
+            kept.append((it, tuple(name for name in names if name not in ON_MEMORY) or ("",)))
+        else:
+            kept.append((it, wanted))
+    return kept
+
+
+def is_on_memory(item):
+    return getattr(item, "name", "").endswith(("WantsMemory", "WantMemory"))
+
+
+def size(definitions):
+    return f"{len(definitions)} definitions, {sum(it.count() for it in definitions)} lines, {len({it.module.path for it in definitions})} files"
+
+
+def counted(closure):
+    inner = closure.types + closure.members
+    lines = sum(it.count() for it in inner)
+    silent = sum(1 for it in closure.definitions if not it.sentence())
+    said = f"{size(closure.definitions)}; {silent} definitions have no sentence"
+    said += f"\nbeside these: {len(closure.types)} types and {len(closure.members)} members, {lines} lines"
+    if closure.behind:
+        said += f"; through them alone {size(closure.behind)}"
+    return said
+
+
+def tell_unknown(sources):
+    """Returns 1 if some name in what was read is explained by nothing in scope, and says which."""
+    for item, names in sources.unknown.items():
+        print(f"trusted: {item.where}: {item.name} cites {', '.join(sorted(names))}, which nothing in scope explains", file=sys.stderr)
+    return 1 if sources.unknown else 0
+
+
+class Page:
+    """The headline's closures, and the parts that are made of them."""
+
+    def __init__(self, sources):
+        self.sources = sources
+        self.whole = graph.closure_of(sources, headline(sources))
+        cites = sources.cites
+        self.plain = graph.closure_of(sources, without_memory(sources, headline(sources)))
+        sources.cites = cites
+        self.placed = set()
+
+    def part(self, what):
+        kind, *words = what.split()
+        made = getattr(self, f"part_{kind}", None)
+        if made is None:
+            raise Wrong(f"no part is called {kind!r}")
+        return made(*words)
+
+    def part_counts(self):
+        meaning = graph.named(self.sources, HEADLINE[0])
+        names = [name.split()[-1] for name, _, _ in meaning[0].clauses()]
+        kept = tuple(it for it in ("reads", "accepted", "refused") if it in names)
+        rows = [("meaning and fault of `Locale::try_from_utf8`: " + ", ".join(f"`{it}`" for it in kept), self.lean([(meaning[0], kept)]))]
+        rows += [("the headline without its clauses on memory: the ten stops", self.plain), ("the headline with every clause", self.whole)]
+        rows.append(("every contract that `icu_locale_core` passes on", graph.closure_of(self.sources, graph.public(self.sources))))
+        lines = ["| Contracts | Definitions | Lines | Files | Types | Members | Their lines |", "|---|---|---|---|---|---|---|"]
+        for label, it in rows:
+            inner = it.types + it.members
+            numbers = (len(it.definitions), sum(one.count() for one in it.definitions), len({one.module.path for one in it.definitions}))
+            numbers += (len(it.types), len(it.members), sum(one.count() for one in inner))
+            lines.append(f"| {label} | " + " | ".join(f"{one:,}" for one in numbers) + " |")
+        return "\n".join(lines)
+
+    def lean(self, contracts):
+        cites = self.sources.cites
+        found = graph.closure_of(self.sources, without_memory(self.sources, contracts))
+        self.sources.cites = cites
+        return found
+
+    def part_clause(self, call, name=""):
+        found = graph.named(self.sources, call)
+        if len(found) != 1:
+            raise Wrong(f"{call} names {len(found)} functions")
+        for kind, text, line in found[0].clauses():
+            if kind.split()[1:] == ([name] if name else []):
+                where = f"{found[0].stated.module.path}, `{found[0].item.name}`"
+                return f"{where}:\n\n```text\n{kind} {{ {dedented(text)} }}\n```"
+        raise Wrong(f"{call} has no clause {name!r}")
+
+    def part_files(self, *paths):
+        ordered = dict(self.plain.ordered(self.plain.definitions))
+        lines = []
+        for path in paths:
+            if path not in ordered:
+                raise Wrong(f"the headline rests on no definition of {path}")
+            self.placed.add(path)
+            found = ordered[path]
+            lines += [f"`{path}`: {len(found)} definitions, {sum(it.count() for it in found)} lines.", ""]
+            lines += [f"- `{it.name}`" + (f": {it.sentence()}" if it.sentence() else "") for it in found]
+            lines.append("")
+        return "\n".join(lines).strip()
+
+    def part_types(self):
+        seen = []
+        for it in sorted(self.plain.types, key=lambda one: (self.sources.crates.index(one.crate), one.module.path, one.line)):
+            views = [one for one in self.plain.members if one.name == "view" and one.owner.name.split(" for ")[-1].split("<")[0] == it.name and one.crate == it.crate]
+            shown = "; seen as `" + " ".join(views[0].body.split()) + "`" if views else ""
+            if it.kind in ("struct", "enum") and not it.name.endswith("Kind"):
+                seen.append(f"- `{it.name}` ({it.module.path}){shown}")
+        return "\n".join(seen)
+
+    def part_memory(self):
+        plain = set(self.plain.definitions)
+        only = [it for it in self.whole.definitions if it not in plain]
+        lines = [f"{len(only)} definitions, {sum(it.count() for it in only)} lines.", ""]
+        for path, found in self.whole.ordered(only):
+            lines.append(f"- `{path}`: {', '.join(f'`{it.name}`' for it in found)}")
+        return "\n".join(lines)
+
+    def part_outside(self):
+        library = [it for it in self.sources.modules.values() if it.name[1].startswith(("iloc_", "icu_"))]
+        every = [it for module in library for it in module.definitions]
+        lines = sum(it.count() for it in every)
+        read = sum(it.count() for it in self.plain.definitions)
+        return f"`specs/` of the library holds {len(every):,} definitions in {lines:,} lines. The ten stops hold {read:,} of these lines. The headline rests on no other, but for memory."
+
+    def made(self, text):
+        """Returns the page with its parts made anew, and what is wrong with it."""
+        wrong = []
+
+        def one(found):
+            try:
+                return f"<!-- trusted: {found[1]} -->\n{self.part(found[1])}\n<!-- /trusted -->"
+            except (Wrong, TypeError) as why:
+                wrong.append(f"{PAGE}: the part '{found[1]}': {why}")
+                return found[0]
+
+        made = PART.sub(one, text)
+        for path, _ in self.plain.ordered(self.plain.definitions):
+            if path not in self.placed:
+                wrong.append(f"{PAGE}: {path} is at no stop: name it in a part 'files'")
+        return made, wrong
+
+
+def dedented(text):
+    first, _, rest = text.partition("\n")
+    return first + ("\n" + textwrap.dedent(rest) if rest else "")
+
+
+def read(sources):
+    path = os.path.join(sources.root, PAGE)
+    with open(path, encoding="utf-8") as it:
+        return path, it.read()
+
+
+def write(sources):
+    path, text = read(sources)
+    made, wrong = Page(sources).made(text)
+    with open(path, "w", encoding="utf-8") as it:
+        it.write(made)
+    print("\n".join(wrong + [f"trusted: wrote {PAGE}"]))
+    return 1 if wrong else 0
+
+
+def check(sources):
+    """Says which parts of the page are not what the sources give."""
+    _, text = read(sources)
+    page = Page(sources)
+    made, wrong = page.made(text)
+    wrong += [f"{it.where}: {it.name} cites {', '.join(sorted(names))}, which nothing in scope explains" for it, names in sources.unknown.items()]
+    parts = list(zip(PART.finditer(text), PART.finditer(made)))
+    for old, new in parts:
+        if old[2] != new[2]:
+            changes = difflib.unified_diff(old[2].split("\n"), new[2].split("\n"), lineterm="", n=0)
+            wrong.append(f"{PAGE}: the part '{old[1]}' is not current: run tools/trusted --write\n" + "\n".join(list(changes)[2:12]))
+    print("\n".join(wrong) if wrong else f"trusted: {PAGE} is current")
+    failed = min(len(wrong), len(parts)) or len(wrong)
+    print(f"{max(len(parts) - failed, 0)} passed, {failed} failed")
+    return 1 if wrong else 0
