@@ -31,9 +31,7 @@ def headline(sources):
 
 
 def without_memory(sources, contracts):
-    """Returns the contracts without their clauses on memory; what wants memory no longer counts as cited."""
-    cites = sources.cites
-    sources.cites = lambda item: () if is_on_memory(item) else tuple(it for it in cites(item) if not is_on_memory(it))
+    """Returns the closure of the contracts but for their clauses on memory, and for what wants memory."""
     kept = []
     for it, wanted in contracts:
         if isinstance(it, graph.Contract):
@@ -41,7 +39,7 @@ def without_memory(sources, contracts):
             kept.append((it, tuple(name for name in names if name not in ON_MEMORY) or ("",)))
         else:
             kept.append((it, wanted))
-    return kept
+    return graph.closure_of(sources, kept, is_on_memory)
 
 
 def is_on_memory(item):
@@ -76,9 +74,7 @@ class Page:
     def __init__(self, sources):
         self.sources = sources
         self.whole = graph.closure_of(sources, headline(sources))
-        cites = sources.cites
-        self.plain = graph.closure_of(sources, without_memory(sources, headline(sources)))
-        sources.cites = cites
+        self.plain = without_memory(sources, headline(sources))
         self.placed = set()
 
     def part(self, what):
@@ -92,7 +88,7 @@ class Page:
         meaning = graph.named(self.sources, HEADLINE[0])
         names = [name.split()[-1] for name, _, _ in meaning[0].clauses()]
         kept = tuple(it for it in ("reads", "accepted", "refused") if it in names)
-        rows = [("meaning and fault of `Locale::try_from_utf8`: " + ", ".join(f"`{it}`" for it in kept), self.lean([(meaning[0], kept)]))]
+        rows = [("meaning and fault of `Locale::try_from_utf8`: " + ", ".join(f"`{it}`" for it in kept), without_memory(self.sources, [(meaning[0], kept)]))]
         rows += [("the headline without its clauses on memory: the ten stops", self.plain), ("the headline with every clause", self.whole)]
         rows.append(("every contract that `icu_locale_core` passes on", graph.closure_of(self.sources, graph.public(self.sources))))
         lines = ["| Contracts | Definitions | Lines | Files | Types | Members | Their lines |", "|---|---|---|---|---|---|---|"]
@@ -102,12 +98,6 @@ class Page:
             numbers += (len(it.types), len(it.members), sum(one.count() for one in inner))
             lines.append(f"| {label} | " + " | ".join(f"{one:,}" for one in numbers) + " |")
         return "\n".join(lines)
-
-    def lean(self, contracts):
-        cites = self.sources.cites
-        found = graph.closure_of(self.sources, without_memory(self.sources, contracts))
-        self.sources.cites = cites
-        return found
 
     def part_clause(self, call, name=""):
         found = graph.named(self.sources, call)
@@ -209,3 +199,55 @@ def check(sources):
     failed = min(len(wrong), len(parts)) or len(wrong)
     print(f"{max(len(parts) - failed, 0)} passed, {failed} failed")
     return 1 if wrong else 0
+
+
+def same_text(sources):
+    """Returns the groups of definitions whose texts differ in names of their own alone, signatures aside."""
+    groups = {}
+    for module in sources.modules.values():
+        for it in module.definitions:
+            if it.kind not in ("abstract", "data", "record"):
+                groups.setdefault(shape_of(sources, it), []).append(it)
+    return [it for it in groups.values() if len(it) > 1]
+
+
+def shape_of(sources, definition):
+    """Returns the clauses of a definition, with what each name means in the place of the name."""
+    text = " ;; ".join(part[0] for part in definition.parts if part[1] == "clause")
+    shape, bound = [], {}
+    for token in re.findall(r"\"[^\"]*\"|\.[^\s(){};,]+|[^\s(){};,]+|[(){};,]", text):
+        sign = definition.module.operators().get(token, token)
+        try:
+            meant = sources.lookup(definition.module, token.rstrip(".").split("."))
+        except graph.Unknown:
+            meant = None
+        if token == definition.name:
+            shape.append("itself")
+        elif meant:
+            shape.append(repr(meant[0]))
+        elif sign in definition.module.items:
+            shape.append(definition.module.items[sign][1])
+        elif re.match(r"[^\W\d]", token) and token not in graph.antt.WORDS:
+            name, dot, field = token.partition(".")
+            shape.append(f"bound {bound.setdefault(name, len(bound))}{dot}{field}")
+        else:
+            shape.append(token)
+    return tuple(shape)
+
+
+def cited_by_nothing(sources):
+    """Returns the definitions that no clause and no ghost member leads to: proofs or nothing use them."""
+    owners = [it for made in sources.rust.values() for source in made.values() for it in source.items]
+    members = [one for it in owners for one in it.inner if one.kind == "ghost"]
+    found = graph.closure_of(sources, [(it, ()) for it in graph.functions(sources) + members])
+    kept = set(found.definitions) | set(found.behind)
+    return [it for module in sources.modules.values() for it in module.definitions if it.kind != "abstract" and it not in kept]
+
+
+def twice(sources):
+    """Says which definitions stand twice, and which no contract cites."""
+    for group in same_text(sources):
+        print("the same text: " + ", ".join(f"{it.name} ({it.where})" for it in group))
+    for it in cited_by_nothing(sources):
+        print(f"cited by no contract: {it.name} ({it.where})")
+    return 0
