@@ -117,7 +117,8 @@ class Page:
                 raise Wrong(f"the headline rests on no definition of {path}")
             self.placed.add(path)
             found = ordered[path]
-            lines += [f"`{path}`: {len(found)} definitions, {sum(it.count() for it in found)} lines.", ""]
+            many = "1 definition" if len(found) == 1 else f"{len(found)} definitions"
+            lines += [f"`{path}`: {many}, {sum(it.count() for it in found)} lines.", ""]
             lines += [f"- `{it.name}`" + (f": {it.sentence()}" if it.sentence() else "") for it in found]
             lines.append("")
         return "\n".join(lines).strip()
@@ -126,9 +127,12 @@ class Page:
         seen = []
         for it in sorted(self.plain.types, key=lambda one: (self.sources.crates.index(one.crate), one.module.path, one.line)):
             views = [one for one in self.plain.members if one.name == "view" and one.owner.name.split(" for ")[-1].split("<")[0] == it.name and one.crate == it.crate]
-            shown = "; seen as `" + " ".join(views[0].body.split()) + "`" if views else ""
+            shown = "; seen as `" + " ".join(views[0].body.split()) + "`" if views else "; seen as it is"
             if it.kind in ("struct", "enum") and not it.name.endswith("Kind"):
                 seen.append(f"- `{it.name}` ({it.module.path}){shown}")
+        if self.plain.behind:
+            named = [f"`{it.name}` ({it.module.path})" for it in self.plain.behind]
+            seen += ["", f"The views cite these definitions besides: {', '.join(named)}."]
         return "\n".join(seen)
 
     def part_memory(self):
@@ -166,7 +170,7 @@ class Page:
 
 def dedented(text):
     first, _, rest = text.partition("\n")
-    return first + ("\n" + textwrap.dedent(rest) if rest else "")
+    return first + ("\n" + textwrap.indent(textwrap.dedent(rest), "    ") if rest else "")
 
 
 def read(sources):
@@ -224,7 +228,8 @@ def shape_of(sources, definition):
         if token == definition.name:
             shape.append("itself")
         elif meant:
-            shape.append(repr(meant[0]))
+            named = token.rstrip(".").split(".")[-1]
+            shape.append(f"{meant[0]!r} {named if named in getattr(meant[0], 'members', ()) else ''}")
         elif sign in definition.module.items:
             shape.append(definition.module.items[sign][1])
         elif re.match(r"[^\W\d]", token) and token not in graph.antt.WORDS:
