@@ -78,8 +78,9 @@ class Sources:
     def __init__(self, root):
         self.root = root
         with open(f"{root}/crates.txt", encoding="utf-8") as it:
-            lines = (line.split("#")[0] for line in it)
-            self.crates = [line.partition(":")[0].split()[0] for line in lines if line.strip()]
+            lines = [line.split("#")[0].partition(":") for line in it]
+            self.below = {line[0].split()[0]: line[2].split() for line in lines if line[0].strip()}
+            self.crates = list(self.below)
         self.modules, self.rust = {}, {}
         self.unknown = {}  # what cites a name that nothing explains -> names
         for crate in self.crates:
@@ -416,31 +417,31 @@ class Contract:
 
     def __init__(self, sources, item, owner=None):
         self.sources, self.item, self.owner = sources, item, owner
-        self.stated = item
-        if owner and owner.trait and not item.clauses:
-            trait = sources.trait(owner.item.module, owner.trait)
-            named = [it for it in trait.inner if it.kind == "fn" and it.name == item.name] if trait else []
-            self.stated = named[0] if named else item
+        trait = sources.trait(owner.item.module, owner.trait) if owner and owner.trait else None
+        above = [it for it in trait.inner if it.kind == "fn" and it.name == item.name] if trait else []
+        self.all_stated = above + ([item] if item.clauses or not above else [])
+        self.stated = self.all_stated[0]
 
     def label(self):
         named = self.owner.type_name if self.owner else ""
         return "::".join(filter(None, (self.item.crate, *self.item.module.path_names, named, self.item.name)))
 
     def clauses(self, wanted=()):
-        """Yields (name, text, line) of the clauses, or of those that are wanted."""
-        for (kind, name), (text, line) in self.stated.clauses.items():
-            if not wanted or (name or kind) in wanted or kind in wanted:
-                yield f"{kind} {name}".strip(), text, line
+        """Yields (name, text, where it stands) of the clauses, or of those that are wanted."""
+        for stated in self.all_stated:
+            for (kind, name), (text, _) in stated.clauses.items():
+                if not wanted or (name or kind) in wanted or kind in wanted:
+                    yield f"{kind} {name}".strip(), text, stated
 
-    def parameters(self):
-        """Returns the names that the clauses of the function bind."""
-        head = generics(self.stated.head.strip()[len(self.stated.name) :])[1]
+    def parameters(self, stated):
+        """Returns the names that the clauses of a function bind."""
+        head = generics(stated.head.strip()[len(stated.name) :])[1]
         opened = head.find("(")
         inner = head[opened + 1 : rt.closing(head, opened) - 1] if opened >= 0 else ""
         bound = {"result", "self"}
         for it in re.findall(rf"(?:^|[,(])\s*(?:mut\s+)?({rt.NAME})\s*:", inner):
             bound.add(it)
-        return bound | {name for kind, name in self.stated.clauses if kind == "ghost"}
+        return bound | {name for kind, name in stated.clauses if kind == "ghost"}
 
     def signature_types(self):
         bounds = self.sources.bounds_of(self.stated)
@@ -452,11 +453,11 @@ class Contract:
     def cites(self, wanted=()):
         """Returns what the clauses cite, and what the types of the signature are."""
         found = []
-        for _, text, _ in self.clauses(wanted):
+        for _, text, stated in self.clauses(wanted):
             try:
-                found += self.sources.cited_by_text(self.stated, text, self.parameters())
+                found += self.sources.cited_by_text(stated, text, self.parameters(stated))
             except Unknown as why:
-                self.sources.note(self.stated, str(why))
+                self.sources.note(stated, str(why))
         if self.owner and self.owner.trait:
             found = [one for it in found for one in self.given(it)]
         return list(dict.fromkeys(found))
@@ -597,9 +598,8 @@ def public(sources):
 
 
 def library(sources):
-    """Returns all public contracts of the crates below icu_locale_core, and of that one."""
-    crates = [it for it in sources.crates if it.startswith("iloc_") and not it.endswith("_tests")]
-    items = [it for crate in crates for it in offered(sources, crate)]
+    """Returns all public contracts of the crates that icu_locale_core names in crates.txt."""
+    items = [it for crate in sources.below["icu_locale_core"] if crate in sources.rust for it in offered(sources, crate)]
     return [(it, ()) for item in items for it in contracts_of(sources, item)]
 
 

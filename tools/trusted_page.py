@@ -103,9 +103,9 @@ class Page:
         found = graph.named(self.sources, call)
         if len(found) != 1:
             raise Wrong(f"{call} names {len(found)} functions")
-        for kind, text, line in found[0].clauses():
+        for kind, text, stated in found[0].clauses():
             if kind.split()[1:] == ([name] if name else []):
-                where = f"{found[0].stated.module.path}, `{found[0].item.name}`"
+                where = f"{stated.module.path}, `{stated.name}`"
                 return f"{where}:\n\n```text\n{kind} {{ {dedented(text)} }}\n```"
         raise Wrong(f"{call} has no clause {name!r}")
 
