@@ -75,7 +75,7 @@ class Page:
         self.sources = sources
         self.whole = graph.closure_of(sources, headline(sources))
         self.plain = without_memory(sources, headline(sources))
-        self.placed = set()
+        self.placed, self.shown = set(), set()
 
     def part(self, what):
         kind, *words = what.split()
@@ -102,19 +102,20 @@ class Page:
     def part_clause(self, call, name=""):
         found = graph.named(self.sources, call)
         if len(found) != 1:
-            raise Wrong(f"{call} names {len(found)} functions")
+            raise Wrong(f"{call} names {len(found)} functions: name one in full")
         for kind, text, stated in found[0].clauses():
             if kind.split()[1:] == ([name] if name else []):
+                self.shown.add((call, name))
                 where = f"{stated.module.path}, `{stated.name}`"
                 return f"{where}:\n\n```text\n{kind} {{ {dedented(text)} }}\n```"
-        raise Wrong(f"{call} has no clause {name!r}")
+        raise Wrong(f"{call} has no clause {name!r}: take the part out, or name another clause")
 
     def part_files(self, *paths):
         ordered = dict(self.plain.ordered(self.plain.definitions))
         lines = []
         for path in paths:
             if path not in ordered:
-                raise Wrong(f"the headline rests on no definition of {path}")
+                raise Wrong(f"the headline rests on no definition of {path}: take the path out")
             self.placed.add(path)
             found = ordered[path]
             many = "1 definition" if len(found) == 1 else f"{len(found)} definitions"
@@ -165,7 +166,19 @@ class Page:
         for path, _ in self.plain.ordered(self.plain.definitions):
             if path not in self.placed:
                 wrong.append(f"{PAGE}: {path} is at no stop: name it in a part 'files'")
+        for call, name in self.clauses():
+            if (call, name) not in self.shown:
+                wrong.append(f"{PAGE}: the clause {name!r} of {call} is not shown: add a part 'clause {call} {name}'")
         return made, wrong
+
+    def clauses(self):
+        """Yields (call, name) of each clause of the headline but those on memory."""
+        for call in HEADLINE:
+            for it in graph.named(self.sources, call):
+                for kind, _, _ in it.clauses():
+                    name = " ".join(kind.split()[1:])
+                    if name not in ON_MEMORY:
+                        yield call, name
 
 
 def dedented(text):
