@@ -198,7 +198,7 @@ class Reader:
 
 def tree(text):
     """Returns the tokens as nested lists; a path `a.b` is one token, and `.f` after a bracket is left out."""
-    stack, flat, at = [[]], [], 0
+    stack, flat = [[]], []
     for found in TOKEN.finditer(text):
         token = found[0]
         if token == "." and text[found.end() : found.end() + 1].strip():

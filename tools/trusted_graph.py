@@ -157,7 +157,8 @@ class Sources:
         for size in range(len(inner), -1, -1):
             source = sources.get(tuple(inner[:size]))
             wanted = inner[size] if size < len(inner) else name
-            found = [it for it in source.items if it.name == wanted and it.kind in ("struct", "enum", "trait", "type")] if source else []
+            kinds = ("struct", "enum", "trait", "type")
+            found = [it for it in (source.items if source else []) if it.name == wanted and it.kind in kinds]
             if found:
                 return found[:1]
         raise Unknown(f"no type at {'.'.join(path)}")
@@ -171,7 +172,8 @@ class Sources:
         if head in module.items:
             path, name = module.items[head]
             found = self.item(self.full(module, path), name)
-            if len(names) == 1 or head not in module.modules or any(names[1] in it.members for it in found if isinstance(it, antt.Definition)):
+            own = [it for it in found if isinstance(it, antt.Definition) and it.members]
+            if len(names) == 1 or head not in module.modules or any(names[1] in it.members for it in own):
                 return found
         if len(names) > 1 and (head in module.modules or head in module.children or head in ("Rattle", "package")):
             path = self.full(module, tuple(names[:1])) if head not in ("Rattle", "package") else ()
@@ -544,7 +546,6 @@ def contracts_of(sources, item):
     if item.kind == "fn":
         yield Contract(sources, item)
     elif item.kind == "trait":
-        owner = Impl(item)
         for it in item.inner:
             if it.kind == "fn":
                 yield Contract(sources, it)

@@ -47,7 +47,12 @@ def is_on_memory(item):
 
 
 def size(definitions):
-    return f"{len(definitions)} definitions, {sum(it.count() for it in definitions)} lines, {len({it.module.path for it in definitions})} files"
+    files = {it.module.path for it in definitions}
+    return f"{len(definitions)} definitions, {lines_of(definitions)} lines, {len(files)} files"
+
+
+def lines_of(items):
+    return sum(it.count() for it in items)
 
 
 def counted(closure):
@@ -88,14 +93,21 @@ class Page:
         meaning = graph.named(self.sources, HEADLINE[0])
         names = [name.split()[-1] for name, _, _ in meaning[0].clauses()]
         kept = tuple(it for it in ("reads", "accepted", "refused") if it in names)
-        rows = [("meaning and fault of `Locale::try_from_utf8`: " + ", ".join(f"`{it}`" for it in kept), without_memory(self.sources, [(meaning[0], kept)]))]
-        rows += [("the headline without its clauses on memory: the ten stops", self.plain), ("the headline with every clause", self.whole)]
-        rows.append(("every contract that `icu_locale_core` passes on", graph.closure_of(self.sources, graph.public(self.sources))))
-        lines = ["| Contracts | Definitions | Lines | Files | Types | Members | Their lines |", "|---|---|---|---|---|---|---|"]
+        named = ", ".join(f"`{it}`" for it in kept)
+        rows = [
+            (f"meaning and fault of `Locale::try_from_utf8`: {named}", without_memory(self.sources, [(meaning[0], kept)])),
+            ("the headline without its clauses on memory: the ten stops", self.plain),
+            ("the headline with every clause", self.whole),
+            ("every contract that `icu_locale_core` passes on", graph.closure_of(self.sources, graph.public(self.sources))),
+        ]
+        lines = [
+            "| Contracts | Definitions | Lines | Files | Types | Members | Their lines |",
+            "|---|---|---|---|---|---|---|",
+        ]
         for label, it in rows:
-            inner = it.types + it.members
-            numbers = (len(it.definitions), sum(one.count() for one in it.definitions), len({one.module.path for one in it.definitions}))
-            numbers += (len(it.types), len(it.members), sum(one.count() for one in inner))
+            files = {one.module.path for one in it.definitions}
+            numbers = (len(it.definitions), lines_of(it.definitions), len(files))
+            numbers += (len(it.types), len(it.members), lines_of(it.types + it.members))
             lines.append(f"| {label} | " + " | ".join(f"{one:,}" for one in numbers) + " |")
         return "\n".join(lines)
 
@@ -126,15 +138,19 @@ class Page:
 
     def part_types(self):
         seen = []
-        for it in sorted(self.plain.types, key=lambda one: (self.sources.crates.index(one.crate), one.module.path, one.line)):
-            views = [one for one in self.plain.members if one.name == "view" and one.owner.name.split(" for ")[-1].split("<")[0] == it.name and one.crate == it.crate]
-            shown = "; seen as `" + " ".join(views[0].body.split()) + "`" if views else "; seen as it is"
+        views = {(one.crate, of_type(one)): one for one in self.plain.members if one.name == "view"}
+        for it in sorted(self.plain.types, key=self.place):
+            view = views.get((it.crate, it.name))
+            shown = f"; seen as `{' '.join(view.body.split())}`" if view else "; seen as it is"
             if it.kind in ("struct", "enum") and not it.name.endswith("Kind"):
                 seen.append(f"- `{it.name}` ({it.module.path}){shown}")
         if self.plain.behind:
             named = [f"`{it.name}` ({it.module.path})" for it in self.plain.behind]
             seen += ["", f"The views cite these definitions besides: {', '.join(named)}."]
         return "\n".join(seen)
+
+    def place(self, item):
+        return self.sources.crates.index(item.crate), item.module.path, item.line
 
     def part_memory(self):
         plain = set(self.plain.definitions)
@@ -149,7 +165,9 @@ class Page:
         every = [it for module in library for it in module.definitions]
         lines = sum(it.count() for it in every)
         read = sum(it.count() for it in self.plain.definitions)
-        return f"`specs/` of the library holds {len(every):,} definitions in {lines:,} lines. The ten stops hold {read:,} of these lines. The headline rests on no other, but for memory."
+        said = f"`specs/` of the library holds {len(every):,} definitions in {lines:,} lines."
+        said += f" The ten stops hold {read:,} of these lines."
+        return f"{said} The headline rests on no other, but for memory."
 
     def made(self, text):
         """Returns the page with its parts made anew, and what is wrong with it."""
@@ -179,6 +197,11 @@ class Page:
                     name = " ".join(kind.split()[1:])
                     if name not in ON_MEMORY:
                         yield call, name
+
+
+def of_type(member):
+    """Returns the name of the type whose `impl` a member stands in."""
+    return member.owner.name.split(" for ")[-1].split("<")[0]
 
 
 def dedented(text):
