@@ -1,0 +1,637 @@
+"""What a contract cites: the sources of all crates, and the closure of definitions, types and members.
+
+A definition is an item of a file of specs/. Types stand in src/, and so do their members: the ghost
+members of traits and `impl`s, as the `view` by which contracts see a type. The closure ends at std."""
+import functools
+import os
+import re
+
+import trusted_antt as antt
+import trusted_rt as rt
+
+PRIMITIVE = set("u8 u16 u32 u64 u128 usize i8 i16 i32 i64 i128 isize bool char str f32 f64".split())
+QUOTE = re.compile(r"⟦<(.+?) as (\w+)(?:<[^⟧]*?>)?>⟧(?:\.(\w+))?")
+
+
+class Unknown(Exception):
+    """A name that nothing in scope explains."""
+
+
+def without_generics(text):
+    """Returns the text without what stands in angle brackets."""
+    kept, depth = [], 0
+    for place, it in enumerate(text):
+        if it == "<":
+            depth += 1
+        elif it == ">" and text[place - 1] not in "-=":
+            depth -= 1
+        elif depth == 0:
+            kept.append(it)
+    return "".join(kept)
+
+
+def generics(head):
+    """Returns the bounds of the type parameters of a head, and what follows them."""
+    text = head.strip()
+    if not text.startswith("<"):
+        return {}, text
+    depth = 0
+    for place, it in enumerate(text):
+        depth += {"<": 1, ">": -1}.get(it, 0) if text[place - 1 : place + 1] not in ("->", "=>") else 0
+        if depth == 0:
+            break
+    return bounds_in(text[1:place]), text[place + 1 :].strip()
+
+
+def bounds_in(text):
+    """Returns the bounds of parameters that are written as `K: Ord + Drop, const N: usize`."""
+    found, depth, start = {}, 0, 0
+    for place, it in enumerate(text + ","):
+        depth += {"<": 1, "(": 1, ">": -1, ")": -1}.get(it, 0)
+        if it == "," and depth <= 0:
+            name, _, bound = text[start:place].partition(":")
+            name = name.replace("const ", "").strip()
+            if name and not name.startswith("'"):
+                found[name] = found.get(name, "") + " " + bound
+            start = place + 1
+    return found
+
+
+class Impl:
+    """An `impl`: of which trait, for which type."""
+
+    def __init__(self, item):
+        self.item = item
+        self.bounds, rest = generics(item.head)
+        rest, _, where = rest.partition(" where ")
+        self.bounds.update(bounds_in(where))
+        flat = without_generics(rest)
+        parts = re.split(r"\sfor\s", flat)
+        self.type_text = re.split(r"\sfor\s", rest)[-1] if len(parts) > 1 else rest
+        self.trait = parts[0].strip().split("::")[-1] if len(parts) > 1 else None
+        self.type_name = parts[-1].strip().lstrip("&").strip()
+
+
+class Sources:
+    """All crates of a folder. Texts given by path stand in the place of the files'."""
+
+    def __init__(self, root):
+        self.root = root
+        with open(f"{root}/crates.txt", encoding="utf-8") as it:
+            lines = [line.split("#")[0].partition(":") for line in it]
+            self.below = {line[0].split()[0]: line[2].split() for line in lines if line[0].strip()}
+            self.crates = list(self.below)
+        self.modules, self.rust = {}, {}
+        self.unknown = {}  # what cites a name that nothing explains -> names
+        for crate in self.crates:
+            self.read_specs(crate)
+            self.rust[crate] = rt.read_crate(root, crate)
+        self.impls = [
+            Impl(item) for made in self.rust.values() for source in made.values() for item in source.items if item.kind == "impl"
+        ]
+
+    def read_specs(self, crate):
+        top = f"{self.root}/crates/{crate}/specs"
+        for folder, _, names in sorted(os.walk(top)):
+            for name in sorted(names):
+                if not name.endswith(".antt"):
+                    continue
+                inner = os.path.relpath(f"{folder}/{name}", top)[: -len(".antt")].split("/")
+                inner = inner[:-1] if inner[-1] == "Lib" else inner
+                path = ("Rattle", crate, "specs", *inner)
+                with open(f"{folder}/{name}", encoding="utf-8") as it:
+                    text = it.read()
+                module = antt.Module(path, os.path.relpath(f"{folder}/{name}", self.root), text)
+                antt.Reader(module)
+                self.modules[path] = module
+
+    # Names of antt.
+
+    def full(self, module, path):
+        """Returns the whole path of a module that a path names in this module."""
+        if path[0] == "package":
+            return path[1:]
+        if path[0] in module.children and path[0] != "Rattle":
+            return module.name + path
+        if path[0] in module.modules and module.modules[path[0]] != path:
+            return self.full(module, module.modules[path[0]]) + path[1:]
+        return path
+
+    def item(self, path, name):
+        """Returns the items that a name of the module at this path means; none for std's."""
+        if len(path) < 2 or path[0] != "Rattle" or path[1] not in self.rust:
+            return []
+        part = path[2] if len(path) > 2 else ""
+        if part == "proofs" or part == "goals":
+            return []
+        path = self.passed_on(path)
+        if len(path) > 3 and path[3] in ("declared", "contracts"):
+            return self.declared(path, name)
+        module = self.modules.get(path)
+        if module is None:
+            raise Unknown(f"no module {'.'.join(path)}")
+        if name in module.declared:
+            return [module.declared[name]]
+        if name in module.passed and name in module.items:
+            return self.item(self.full(module, module.items[name][0]), module.items[name][1])
+        raise Unknown(f"{'.'.join(path)} has no {name}")
+
+    def passed_on(self, path):
+        """Returns where the module of a path stands, which another module may pass on by `pub use`."""
+        for size in range(len(path) - 1, 2, -1):
+            if path in self.modules:
+                return path
+            outer = self.modules.get(path[:size])
+            if outer and path[size] in outer.passed and path[size] in outer.modules:
+                return self.passed_on(self.full(outer, outer.modules[path[size]]) + path[size + 1 :])
+        return path
+
+    def declared(self, path, name):
+        """Returns the type that a module of declared types or of contracts is of."""
+        inner = [it for it in path[4:] if it not in ("TheVariants", "TheConstants")]
+        sources = self.rust[path[1]]
+        if path[-1] == "TheConstants":
+            source = sources.get(tuple(inner)) or sources.get(())
+            found = [it for made in sources.values() for it in made.items if it.kind == "const" and it.name == name]
+            return found[:1]
+        for size in range(len(inner), -1, -1):
+            source = sources.get(tuple(inner[:size]))
+            wanted = inner[size] if size < len(inner) else name
+            kinds = ("struct", "enum", "trait", "type")
+            found = [it for it in (source.items if source else []) if it.name == wanted and it.kind in kinds]
+            if found:
+                return found[:1]
+        raise Unknown(f"no type at {'.'.join(path)}")
+
+    def lookup(self, module, names):
+        """Returns what a path means in a module: items, none for std's and locals', or None for nothing."""
+        head = names[0]
+        if head in module.declared:
+            return [module.declared[head]]
+        head = module.operators().get(head, head)
+        if head in module.items:
+            path, name = module.items[head]
+            found = self.item(self.full(module, path), name)
+            own = [it for it in found if isinstance(it, antt.Definition) and it.members]
+            if len(names) == 1 or head not in module.modules or any(names[1] in it.members for it in own):
+                return found
+        if len(names) > 1 and (head in module.modules or head in module.children or head in ("Rattle", "package")):
+            path = self.full(module, tuple(names[:1])) if head not in ("Rattle", "package") else ()
+            path = path + tuple(names[(0 if head == "Rattle" else 1) :])
+            for size in range(len(path) - 1, 1, -1):
+                try:
+                    return self.item(path[:size], path[size])
+                except Unknown:
+                    continue
+            raise Unknown(".".join(names))
+        return None
+
+    # Names of Rust.
+
+    def rust_path(self, crate, path):
+        """Returns the item at a path that begins in the root of a crate."""
+        made, inner = self.rust.get(crate, {}), ()
+        for number, name in enumerate(path):
+            source = made.get(inner)
+            if source is None:
+                return None
+            if inner + (name,) in made:
+                inner += (name,)
+                continue
+            return self.rust_name(source, path[number:])
+        return None
+
+    def rust_name(self, source, path):
+        """Returns the item that a path of Rust means in a module, or None for one of std."""
+        head = path[0]
+        found = [it for it in source.items if it.name == head and it.kind not in ("impl",)]
+        if found:
+            return found[0]
+        if head in ("crate", "self", "super"):
+            inner = {"crate": (), "self": source.path_names, "super": source.path_names[:-1]}[head]
+            return self.rust_path(source.crate, inner + tuple(path[1:]))
+        if head in source.names and source.names[head] != tuple(path):
+            return self.rust_name(source, source.names[head] + tuple(path[1:]))
+        if head in self.rust:
+            return self.rust_path(head, tuple(path[1:]))
+        if source.path_names + (head,) in self.rust[source.crate]:
+            return self.rust_path(source.crate, source.path_names + tuple(path))
+        return None
+
+    def types_in(self, source, text, without=()):
+        """Returns the types that a text of Rust names."""
+        found = []
+        for it in re.findall(rf"(?<![\w.'])(?:{rt.NAME}::)*[A-Z]\w*", rt.blanked(text)):
+            path = tuple(it.split("::"))
+            if path[0] in without or path[0] == "Self":
+                continue
+            item = self.rust_name(source, path)
+            if item and item.kind in ("struct", "enum", "type"):
+                found.append(item)
+        return found
+
+    def struct_of(self, item):
+        """Returns the struct or enum that a type is, through aliases."""
+        while item is not None and item.kind == "type":
+            named = re.search(r"=\s*([\w:]+)", without_generics(item.text))
+            item = self.rust_name(item.module, tuple(named[1].split("::"))) if named else None
+        return item
+
+    @functools.cache
+    def impls_of(self, item):
+        """Returns the `impl`s of a type, or of the type that it is another name of."""
+        found = []
+        for it in self.impls:
+            if not re.fullmatch(r"[\w:]+", it.type_name):
+                continue
+            meant = self.rust_name(it.item.module, tuple(it.type_name.split("::")))
+            if meant and (meant is item or self.struct_of(meant) is item or meant is self.struct_of(item)):
+                found.append(it)
+        return found
+
+    @functools.cache
+    def trait(self, source, name):
+        """Returns the trait of this name in scope, if a crate here declares it."""
+        item = self.rust_name(source, tuple(name.split("::")))
+        return item if item and item.kind == "trait" else None
+
+    # What an item cites.
+
+    def scope(self, item):
+        """Returns a module of antt that stands for the ghost use lines in scope of an item of src/."""
+        owner = item.owner or item
+        made = antt.Module(("Rattle", item.crate, "src"), item.module.path, "")
+        lines = item.module.ghost_uses + owner.uses + (item.uses if item is not owner else [])
+        for text, _ in lines:
+            for path, name, bound in antt.used(text):
+                if name is None:
+                    made.modules[bound] = path
+                else:
+                    made.items[bound] = (path, name)
+        return made
+
+    def member(self, owner, name, source):
+        """Returns the ghost member of an `impl`, of its trait, or of what the trait stands on."""
+        found = [it for it in owner.inner if it.kind == "ghost" and it.name == name]
+        if found:
+            return found
+        if owner.kind == "impl":
+            named = next((it.trait for it in self.impls if it.item is owner), None)
+            trait = self.trait(source, named) if named else None
+            return self.member(trait, name, trait.module) if trait else []
+        above = without_generics(owner.head.partition(":")[2])
+        for it in re.findall(r"[\w:]+", above):
+            trait = self.trait(owner.module, it)
+            found = self.member(trait, name, trait.module) if trait else []
+            if found:
+                return found
+        return []
+
+    def bounded(self, bounds, names, source):
+        """Returns the member that `T.m` means, of the traits that bound T."""
+        for it in re.findall(r"[\w:]+", without_generics(bounds.get(names[0], ""))):
+            trait = self.trait(source, it)
+            found = self.member(trait, names[-1], trait.module) if trait else []
+            if found:
+                return found
+        return []
+
+    def quoted(self, source, bounds, type_text, trait, member):
+        """Returns what `⟦<Type as Trait>⟧.member` stands for: members, or for a derived trait those of the fields."""
+        done, found = set(), []
+
+        def of(item):
+            if item is None or item in done:
+                return
+            done.add(item)
+            found.append(item)
+            inner = self.struct_of(item)
+            by_hand = [it for it in self.impls_of(inner) if it.trait == trait] if inner else []
+            if by_hand:
+                found.extend(it for one in by_hand for it in self.member(one.item, member, one.item.module))
+            elif inner and trait in inner.derives:
+                for field in self.types_in(inner.module, inner.text):
+                    of(field)
+
+        for it in self.types_in(source, type_text, bounds):
+            of(it)
+        return found
+
+    def bounds_of(self, item):
+        """Returns the bounds of all type parameters in scope of an item of src/."""
+        bounds = {}
+        if item.owner:
+            if item.owner.kind == "impl":
+                bounds.update(next(it.bounds for it in self.impls if it.item is item.owner))
+            else:
+                bounds.update(generics(item.owner.head[len(item.owner.name) + 1 :])[0])
+        head = item.head.strip()
+        if item.kind != "ghost":
+            head = head[len(item.name) :] if head.startswith(item.name) else head
+            bounds.update(generics(head)[0])
+            if " where" in head:
+                bounds.update(bounds_in(head.partition(" where")[2]))
+        return bounds
+
+    def cited_by_text(self, item, text, bound):
+        """Returns what a clause or a ghost member of src/ cites."""
+        scope, bounds, found = self.scope(item), self.bounds_of(item), []
+        for it in QUOTE.finditer(text):
+            found += self.quoted(item.module, bounds, it[1], it[2], it[3])
+        text = QUOTE.sub(" tt ", text)
+
+        def meant(names):
+            if names[0] in bounds:
+                return self.bounded(bounds, names, item.module) if len(names) > 1 else []
+            if names[0] == "Self":
+                return self.member(item.owner, names[-1], item.module) if len(names) > 1 and item.owner else []
+            in_antt = self.lookup(scope, names)
+            if in_antt is not None:
+                return in_antt
+            if item.owner:
+                member = self.member(item.owner, names[0], item.module)
+                if member:
+                    return member
+            named = self.rust_name(item.module, tuple(names))
+            if named:
+                return [named] if named.kind in ("struct", "enum", "type", "const", "static") else []
+            return [] if names[0] in PRIMITIVE or names[0] in item.module.names else None
+
+        reader = antt.Names(meant, lambda names: self.is_constructor(scope, names), lambda it: self.note(item, it))
+        reader.walk(antt.tree(text), set(bound))
+        return found + reader.cited
+
+    def is_constructor(self, module, names):
+        """Returns whether a name in a pattern is a constructor, and so binds nothing."""
+        if names[-1] in ("[]", "true", "false", "Some", "None", "Ok", "Err", "◌∷◌", "∷", "refl", "zero", "suc"):
+            return True
+        try:
+            found = self.lookup(module, names)
+        except Unknown:
+            return True
+        if found is None:
+            return False
+        if not found:
+            return names[0] in module.items or len(names) > 1
+        return any(it.kind == "enum" or names[-1] in getattr(it, "members", ()) for it in found)
+
+    def note(self, item, name):
+        self.unknown.setdefault(item, set()).add(name)
+
+    def cited_by_definition(self, item):
+        def meant(names):
+            return self.lookup(item.module, names)
+
+        reader = antt.Names(meant, lambda names: self.is_constructor(item.module, names), lambda it: self.note(item, it))
+        reader.definition(item.parts)
+        return [it for it in reader.cited if it is not item]
+
+    def cited_by_type(self, item):
+        """Returns the types of the fields, and the members by which contracts see the type."""
+        bounds = generics(item.head.strip()[len(item.name) :])[0]
+        text = re.sub(r"ghost\s+\w+\s*:\s*\{[^}]*\},?", " ", item.text)
+        found = self.types_in(item.module, text, bounds)
+        for it in self.impls_of(item) if item.kind != "type" else []:
+            if it.trait == "Model":
+                found += [one for one in it.item.inner if one.name in ("Value", "view")]
+        return [it for it in found if it is not item]
+
+    @functools.cache
+    def cites(self, item):
+        """Returns what an item cites, once each, in the order of its text."""
+        try:
+            if isinstance(item, antt.Definition):
+                found = self.cited_by_definition(item)
+            elif item.kind in ("struct", "enum", "type"):
+                found = self.cited_by_type(item)
+            elif item.kind == "ghost":
+                found = self.cited_by_text(item, item.body, ())
+            else:
+                found = []
+        except Unknown as why:
+            self.note(item, str(why))
+            found = []
+        return tuple(dict.fromkeys(found))
+
+
+class Contract:
+    """A function with the clauses that its callers rely on: its own, or those of its trait."""
+
+    def __init__(self, sources, item, owner=None):
+        self.sources, self.item, self.owner = sources, item, owner
+        trait = sources.trait(owner.item.module, owner.trait) if owner and owner.trait else None
+        above = [it for it in trait.inner if it.kind == "fn" and it.name == item.name] if trait else []
+        self.all_stated = above + ([item] if item.clauses or not above else [])
+        self.stated = self.all_stated[0]
+
+    def label(self):
+        named = self.owner.type_name if self.owner else ""
+        return "::".join(filter(None, (self.item.crate, *self.item.module.path_names, named, self.item.name)))
+
+    def clauses(self, wanted=()):
+        """Yields (name, text, where it stands) of the clauses, or of those that are wanted."""
+        for stated in self.all_stated:
+            for (kind, name), (text, _) in stated.clauses.items():
+                if not wanted or (name or kind) in wanted or kind in wanted:
+                    yield f"{kind} {name}".strip(), text, stated
+
+    def parameters(self, stated):
+        """Returns the names that the clauses of a function bind."""
+        head = generics(stated.head.strip()[len(stated.name) :])[1]
+        opened = head.find("(")
+        inner = head[opened + 1 : rt.closing(head, opened) - 1] if opened >= 0 else ""
+        bound = {"result", "self"}
+        for it in re.findall(rf"(?:^|[,(])\s*(?:mut\s+)?({rt.NAME})\s*:", inner):
+            bound.add(it)
+        return bound | {name for kind, name in stated.clauses if kind == "ghost"}
+
+    def signature_types(self):
+        bounds = self.sources.bounds_of(self.stated)
+        types = self.sources.types_in(self.stated.module, self.stated.head, bounds)
+        if self.owner and re.search(r"\bself\b|\bSelf\b", self.stated.head):
+            types += self.sources.types_in(self.owner.item.module, self.owner.type_text, self.owner.bounds)
+        return types
+
+    def cites(self, wanted=()):
+        """Returns what the clauses cite, and what the types of the signature are."""
+        found = []
+        for _, text, stated in self.clauses(wanted):
+            try:
+                found += self.sources.cited_by_text(stated, text, self.parameters(stated))
+            except Unknown as why:
+                self.sources.note(stated, str(why))
+        if self.owner and self.owner.trait:
+            found = [one for it in found for one in self.given(it)]
+        return list(dict.fromkeys(found))
+
+    def given(self, item):
+        """Returns, for a member of the trait, the member that the `impl` gives for it, or the same."""
+        if item.__class__ is rt.Item and item.kind == "ghost" and item.owner and item.owner.kind == "trait":
+            own = [it for it in self.owner.item.inner if it.kind == "ghost" and it.name == item.name]
+            return own or [item]
+        return [item]
+
+
+class Closure:
+    """All that some contracts cite, down to std. Definitions that only views and types lead to stand apart.
+    What `skips` says of an item leaves it out, and what only it cites."""
+
+    def __init__(self, sources, roots, types=(), skips=lambda item: False):
+        self.sources, self.skips = sources, skips
+        self.definitions = [it for it in self.reach(roots, through_types=False) if isinstance(it, antt.Definition)]
+        everything = self.reach([*roots, *types], through_types=True)
+        direct = set(self.definitions)
+        self.behind = [it for it in everything if isinstance(it, antt.Definition) and it not in direct]
+        self.types = [it for it in everything if isinstance(it, rt.Item) and it.kind in ("struct", "enum", "type", "const")]
+        self.members = [it for it in everything if isinstance(it, rt.Item) and it.kind == "ghost"]
+
+    def reach(self, roots, through_types):
+        """Returns all that the roots lead to; a type leads on only where types count."""
+        seen, waiting = {}, list(roots)
+        while waiting:
+            it = waiting.pop()
+            if it in seen or self.skips(it):
+                continue
+            seen[it] = True
+            if through_types or isinstance(it, antt.Definition) or it.kind == "ghost":
+                waiting += self.sources.cites(it)
+        return list(seen)
+
+    def ordered(self, definitions):
+        """Returns the definitions by files in reading order: a file after those that it rests on."""
+        files = {}
+        for it in definitions:
+            files.setdefault(it.module.path, []).append(it)
+        order, done = [], set()
+
+        def visit(path):
+            if path in done:
+                return
+            done.add(path)
+            for it in sorted(files[path], key=lambda one: one.line):
+                for cited in self.sources.cites(it):
+                    if isinstance(cited, antt.Definition) and cited.module.path in files:
+                        visit(cited.module.path)
+            order.append(path)
+
+        for path in sorted(files, key=self.place):
+            visit(path)
+        return [(path, sorted(files[path], key=lambda one: one.line)) for path in order]
+
+    def place(self, path):
+        crate = path.split("/")[1]
+        return self.sources.crates.index(crate), path
+
+
+# Which contracts there are.
+
+LAWS = set("laws respects_eq matches_eq matches_partial_cmp total remaining invariant inverse inverse_ok".split())
+
+
+def data_members(sources, owner):
+    """Returns the ghost members of a trait or an `impl` that say something; laws are proved facts about these."""
+    trait = owner
+    if owner.kind == "impl":
+        named = next(it.trait for it in sources.impls if it.item is owner)
+        trait = sources.trait(owner.module, named) if named else None
+    if trait is None:
+        return [it for it in owner.inner if it.kind == "ghost" and it.name not in LAWS]
+    last = max((n for n, it in enumerate(trait.inner) if it.kind == "fn" and "final" not in it.text[:12]), default=0)
+    data = {it.name for it in trait.inner[:last] if it.kind == "ghost"}
+    return [it for it in owner.inner if it.kind == "ghost" and it.name in data]
+
+
+def contracts_of(sources, item):
+    """Yields the public contracts of an item that users see, and the members that state some of them."""
+    if item.kind == "fn":
+        yield Contract(sources, item)
+    elif item.kind == "trait":
+        for it in item.inner:
+            if it.kind == "fn":
+                yield Contract(sources, it)
+        yield from data_members(sources, item)
+    else:
+        inner = sources.struct_of(item)
+        for it in dict.fromkeys(sources.impls_of(item) + (sources.impls_of(inner) if inner else [])):
+            for one in it.item.inner:
+                if one.kind == "fn" and (one.is_public or it.trait) and it.trait != "Drop":
+                    yield Contract(sources, one, it)
+            if it.trait and it.trait != "Model":
+                yield from data_members(sources, it.item)
+
+
+def passed_on(sources, crate):
+    """Returns the items that a crate's public modules name, at any depth."""
+    found = []
+    for source in sources.rust[crate].values():
+        if source.path_names and source.path_names[-1] == "tests":
+            continue
+        for path in source.names.values():
+            item = sources.rust_name(source, path)
+            if item is not None and item.kind != "impl" and item.crate != crate:
+                found.append(item)
+    return list(dict.fromkeys(found))
+
+
+def offered(sources, crate):
+    """Returns the public items that the root of a crate declares, or passes on from its own modules."""
+    root = sources.rust[crate][()]
+    named = [sources.rust_name(root, path) for path in root.names.values()]
+    own = [it for it in root.items + named if it is not None and it.crate == crate and it.is_public]
+    return [it for it in dict.fromkeys(own) if it.kind not in ("impl", "const")]
+
+
+def closure_of(sources, chosen, skips=lambda item: False):
+    """Returns the closure of contracts, each with the clauses that are wanted, and of members."""
+    roots, types = [], []
+    for it, wanted in chosen:
+        if isinstance(it, Contract):
+            roots += it.cites(wanted)
+            types += it.signature_types()
+        else:
+            roots.append(it)
+    return Closure(sources, roots, types, skips)
+
+
+def public(sources):
+    """Returns all contracts that users of icu_locale_core reach."""
+    return [(it, ()) for item in passed_on(sources, "icu_locale_core") for it in contracts_of(sources, item)]
+
+
+def library(sources):
+    """Returns all public contracts of the crates that icu_locale_core names in crates.txt."""
+    items = [it for crate in sources.below["icu_locale_core"] if crate in sources.rust for it in offered(sources, crate)]
+    return [(it, ()) for item in items for it in contracts_of(sources, item)]
+
+
+def functions(sources):
+    """Returns every function of the crates' sources with its `impl`."""
+    found = []
+    for made in sources.rust.values():
+        for source in made.values():
+            for item in source.items:
+                if item.kind == "fn":
+                    found.append(Contract(sources, item))
+                elif item.kind == "trait":
+                    found += [Contract(sources, it) for it in item.inner if it.kind == "fn"]
+    for one in sources.impls:
+        found += [Contract(sources, it, one) for it in one.item.inner if it.kind == "fn"]
+    return found
+
+
+def named(sources, name):
+    """Returns the contracts that a name as `Locale::try_from_utf8` or `iloc_steps::any_steps` may mean.
+
+    A method that a trait provides is found by the trait's name. A type may be named by an alias."""
+    wanted = [it for it in name.replace("::", ".").split(".") if it]
+    found = []
+    for it in functions(sources):
+        trait_name = it.item.owner.name if it.item.owner and it.item.owner.kind == "trait" else ""
+        parts = [it.item.crate, *it.item.module.path_names]
+        parts += [it.owner.type_name.split("::")[-1]] if it.owner else [trait_name] if trait_name else []
+        parts.append(it.item.name)
+        rest = iter(parts)
+        near = parts[-2:] == wanted[-2:] or len(wanted) == 1 or parts[-2] not in (it.item.name,) and not it.owner and not trait_name
+        if parts[-1] == wanted[-1] and all(one in rest for one in wanted) and near:
+            found.append(it)
+    return found

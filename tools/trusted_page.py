@@ -1,0 +1,294 @@
+"""The parts of docs/REVIEW.md that tools/trusted makes of the sources, and whether they are current.
+
+A part stands between `<!-- trusted: WHAT -->` and `<!-- /trusted -->`, where WHAT is one of
+
+- `counts`: how much there is to read;
+- `clause CALL NAME`: a clause of a contract, word for word;
+- `files PATH ..`: the definitions of these files on which the headline rests;
+- `types`: the types and views through which its contracts see values;
+- `memory`: what only the clauses on memory cite;
+- `outside`: how much of specs/ the headline does not rest on."""
+import difflib
+import os
+import re
+import sys
+import textwrap
+
+import trusted_graph as graph
+
+HEADLINE = ("Locale::try_from_utf8", "Locale::normalize_utf8", "Locale::is_well_formed", "Locale::write_to")
+ON_MEMORY = ("memory", "succeeds")
+PAGE = "docs/REVIEW.md"
+PART = re.compile(r"<!-- trusted: (.+?) -->\n(.*?)<!-- /trusted -->", re.S)
+
+
+class Wrong(Exception):
+    """A part of the page that cannot be made."""
+
+
+def headline(sources):
+    return [(it, ()) for name in HEADLINE for it in graph.named(sources, name)]
+
+
+def without_memory(sources, contracts):
+    """Returns the closure of the contracts but for their clauses on memory, and for what wants memory."""
+    kept = []
+    for it, wanted in contracts:
+        if isinstance(it, graph.Contract):
+            names = [name.split()[-1] for name, _, _ in it.clauses(wanted)]
+            kept.append((it, tuple(name for name in names if name not in ON_MEMORY) or ("",)))
+        else:
+            kept.append((it, wanted))
+    return graph.closure_of(sources, kept, is_on_memory)
+
+
+def is_on_memory(item):
+    return getattr(item, "name", "").endswith(("WantsMemory", "WantMemory"))
+
+
+def size(definitions):
+    files = {it.module.path for it in definitions}
+    return f"{len(definitions)} definitions, {lines_of(definitions)} lines, {len(files)} files"
+
+
+def lines_of(items):
+    return sum(it.count() for it in items)
+
+
+def counted(closure):
+    inner = closure.types + closure.members
+    lines = sum(it.count() for it in inner)
+    silent = sum(1 for it in closure.definitions if not it.sentence())
+    said = f"{size(closure.definitions)}; {silent} definitions have no sentence"
+    said += f"\nbeside these: {len(closure.types)} types and {len(closure.members)} members, {lines} lines"
+    if closure.behind:
+        said += f"; through them alone {size(closure.behind)}"
+    return said
+
+
+def tell_unknown(sources):
+    """Returns 1 if some name in what was read is explained by nothing in scope, and says which."""
+    for item, names in sources.unknown.items():
+        print(f"trusted: {item.where}: {item.name} cites {', '.join(sorted(names))}, which nothing in scope explains", file=sys.stderr)
+    return 1 if sources.unknown else 0
+
+
+class Page:
+    """The headline's closures, and the parts that are made of them."""
+
+    def __init__(self, sources):
+        self.sources = sources
+        self.whole = graph.closure_of(sources, headline(sources))
+        self.plain = without_memory(sources, headline(sources))
+        self.placed, self.shown = set(), set()
+
+    def part(self, what):
+        kind, *words = what.split()
+        made = getattr(self, f"part_{kind}", None)
+        if made is None:
+            raise Wrong(f"no part is called {kind!r}")
+        return made(*words)
+
+    def part_counts(self):
+        meaning = graph.named(self.sources, HEADLINE[0])
+        names = [name.split()[-1] for name, _, _ in meaning[0].clauses()]
+        kept = tuple(it for it in ("reads", "accepted", "refused") if it in names)
+        named = ", ".join(f"`{it}`" for it in kept)
+        rows = [
+            (f"meaning and fault of `Locale::try_from_utf8`: {named}", without_memory(self.sources, [(meaning[0], kept)])),
+            ("the headline without its clauses on memory: the ten stops", self.plain),
+            ("the headline with every clause", self.whole),
+            ("every contract that `icu_locale_core` passes on", graph.closure_of(self.sources, graph.public(self.sources))),
+        ]
+        lines = [
+            "| Contracts | Definitions | Lines | Files | Types | Members | Their lines |",
+            "|---|---|---|---|---|---|---|",
+        ]
+        for label, it in rows:
+            files = {one.module.path for one in it.definitions}
+            numbers = (len(it.definitions), lines_of(it.definitions), len(files))
+            numbers += (len(it.types), len(it.members), lines_of(it.types + it.members))
+            lines.append(f"| {label} | " + " | ".join(f"{one:,}" for one in numbers) + " |")
+        return "\n".join(lines)
+
+    def part_clause(self, call, name=""):
+        found = graph.named(self.sources, call)
+        if len(found) != 1:
+            raise Wrong(f"{call} names {len(found)} functions: name one in full")
+        for kind, text, stated in found[0].clauses():
+            if kind.split()[1:] == ([name] if name else []):
+                self.shown.add((call, name))
+                where = f"{stated.module.path}, `{stated.name}`"
+                return f"{where}:\n\n```text\n{kind} {{ {dedented(text)} }}\n```"
+        raise Wrong(f"{call} has no clause {name!r}: take the part out, or name another clause")
+
+    def part_files(self, *paths):
+        ordered = dict(self.plain.ordered(self.plain.definitions))
+        lines = []
+        for path in paths:
+            if path not in ordered:
+                raise Wrong(f"the headline rests on no definition of {path}: take the path out")
+            self.placed.add(path)
+            found = ordered[path]
+            many = "1 definition" if len(found) == 1 else f"{len(found)} definitions"
+            lines += [f"`{path}`: {many}, {sum(it.count() for it in found)} lines.", ""]
+            lines += [f"- `{it.name}`" + (f": {it.sentence()}" if it.sentence() else "") for it in found]
+            lines.append("")
+        return "\n".join(lines).strip()
+
+    def part_types(self):
+        seen = []
+        views = {(one.crate, of_type(one)): one for one in self.plain.members if one.name == "view"}
+        for it in sorted(self.plain.types, key=self.place):
+            view = views.get((it.crate, it.name))
+            shown = f"; seen as `{' '.join(view.body.split())}`" if view else "; seen as it is"
+            if it.kind in ("struct", "enum") and not it.name.endswith("Kind"):
+                seen.append(f"- `{it.name}` ({it.module.path}){shown}")
+        if self.plain.behind:
+            named = [f"`{it.name}` ({it.module.path})" for it in self.plain.behind]
+            seen += ["", f"The views cite these definitions besides: {', '.join(named)}."]
+        return "\n".join(seen)
+
+    def place(self, item):
+        return self.sources.crates.index(item.crate), item.module.path, item.line
+
+    def part_memory(self):
+        plain = set(self.plain.definitions)
+        only = [it for it in self.whole.definitions if it not in plain]
+        lines = [f"{len(only)} definitions, {sum(it.count() for it in only)} lines.", ""]
+        for path, found in self.whole.ordered(only):
+            lines.append(f"- `{path}`: {', '.join(f'`{it.name}`' for it in found)}")
+        return "\n".join(lines)
+
+    def part_outside(self):
+        library = [it for it in self.sources.modules.values() if it.name[1].startswith(("iloc_", "icu_"))]
+        every = [it for module in library for it in module.definitions]
+        lines = sum(it.count() for it in every)
+        read = sum(it.count() for it in self.plain.definitions)
+        said = f"`specs/` of the library holds {len(every):,} definitions in {lines:,} lines."
+        said += f" The ten stops hold {read:,} of these lines."
+        return f"{said} The headline rests on no other, but for memory."
+
+    def made(self, text):
+        """Returns the page with its parts made anew, and what is wrong with it."""
+        wrong = []
+
+        def one(found):
+            try:
+                return f"<!-- trusted: {found[1]} -->\n{self.part(found[1])}\n<!-- /trusted -->"
+            except (Wrong, TypeError) as why:
+                wrong.append(f"{PAGE}: the part '{found[1]}': {why}")
+                return found[0]
+
+        made = PART.sub(one, text)
+        for path, _ in self.plain.ordered(self.plain.definitions):
+            if path not in self.placed:
+                wrong.append(f"{PAGE}: {path} is at no stop: name it in a part 'files'")
+        for call, name in self.clauses():
+            if (call, name) not in self.shown:
+                wrong.append(f"{PAGE}: the clause {name!r} of {call} is not shown: add a part 'clause {call} {name}'")
+        return made, wrong
+
+    def clauses(self):
+        """Yields (call, name) of each clause of the headline but those on memory."""
+        for call in HEADLINE:
+            for it in graph.named(self.sources, call):
+                for kind, _, _ in it.clauses():
+                    name = " ".join(kind.split()[1:])
+                    if name not in ON_MEMORY:
+                        yield call, name
+
+
+def of_type(member):
+    """Returns the name of the type whose `impl` a member stands in."""
+    return member.owner.name.split(" for ")[-1].split("<")[0]
+
+
+def dedented(text):
+    first, _, rest = text.partition("\n")
+    return first + ("\n" + textwrap.indent(textwrap.dedent(rest), "    ") if rest else "")
+
+
+def read(sources):
+    path = os.path.join(sources.root, PAGE)
+    with open(path, encoding="utf-8") as it:
+        return path, it.read()
+
+
+def write(sources):
+    path, text = read(sources)
+    made, wrong = Page(sources).made(text)
+    with open(path, "w", encoding="utf-8") as it:
+        it.write(made)
+    print("\n".join(wrong + [f"trusted: wrote {PAGE}"]))
+    return 1 if wrong else 0
+
+
+def check(sources):
+    """Says which parts of the page are not what the sources give."""
+    _, text = read(sources)
+    page = Page(sources)
+    made, wrong = page.made(text)
+    wrong += [f"{it.where}: {it.name} cites {', '.join(sorted(names))}, which nothing in scope explains" for it, names in sources.unknown.items()]
+    parts = list(zip(PART.finditer(text), PART.finditer(made)))
+    for old, new in parts:
+        if old[2] != new[2]:
+            changes = difflib.unified_diff(old[2].split("\n"), new[2].split("\n"), lineterm="", n=0)
+            wrong.append(f"{PAGE}: the part '{old[1]}' is not current: run tools/trusted --write\n" + "\n".join(list(changes)[2:12]))
+    print("\n".join(wrong) if wrong else f"trusted: {PAGE} is current")
+    failed = min(len(wrong), len(parts)) or len(wrong)
+    print(f"{max(len(parts) - failed, 0)} passed, {failed} failed")
+    return 1 if wrong else 0
+
+
+def same_text(sources):
+    """Returns the groups of definitions whose texts differ in names of their own alone, signatures aside."""
+    groups = {}
+    for module in sources.modules.values():
+        for it in module.definitions:
+            if it.kind not in ("abstract", "data", "record"):
+                groups.setdefault(shape_of(sources, it), []).append(it)
+    return [it for it in groups.values() if len(it) > 1]
+
+
+def shape_of(sources, definition):
+    """Returns the clauses of a definition, with what each name means in the place of the name."""
+    text = " ;; ".join(part[0] for part in definition.parts if part[1] == "clause")
+    shape, bound = [], {}
+    for token in re.findall(r"\"[^\"]*\"|\.[^\s(){};,]+|[^\s(){};,]+|[(){};,]", text):
+        sign = definition.module.operators().get(token, token)
+        try:
+            meant = sources.lookup(definition.module, token.rstrip(".").split("."))
+        except graph.Unknown:
+            meant = None
+        if token == definition.name:
+            shape.append("itself")
+        elif meant:
+            named = token.rstrip(".").split(".")[-1]
+            shape.append(f"{meant[0]!r} {named if named in getattr(meant[0], 'members', ()) else ''}")
+        elif sign in definition.module.items:
+            shape.append(definition.module.items[sign][1])
+        elif re.match(r"[^\W\d]", token) and token not in graph.antt.WORDS:
+            name, dot, field = token.partition(".")
+            shape.append(f"bound {bound.setdefault(name, len(bound))}{dot}{field}")
+        else:
+            shape.append(token)
+    return tuple(shape)
+
+
+def cited_by_nothing(sources):
+    """Returns the definitions that no clause and no ghost member leads to: proofs or nothing use them."""
+    owners = [it for made in sources.rust.values() for source in made.values() for it in source.items]
+    members = [one for it in owners for one in it.inner if one.kind == "ghost"]
+    found = graph.closure_of(sources, [(it, ()) for it in graph.functions(sources) + members])
+    kept = set(found.definitions) | set(found.behind)
+    return [it for module in sources.modules.values() for it in module.definitions if it.kind != "abstract" and it not in kept]
+
+
+def twice(sources):
+    """Says which definitions stand twice, and which no contract cites."""
+    for group in same_text(sources):
+        print("the same text: " + ", ".join(f"{it.name} ({it.where})" for it in group))
+    for it in cited_by_nothing(sources):
+        print(f"cited by no contract: {it.name} ({it.where})")
+    return 0
