@@ -11,7 +11,8 @@ from kit import LOGIC, read, rtlib
 RECORD = f"{ROOT}/tools/edits.record"
 ABOUT = """\
 # Written by tools/edits: a line for each crate whose edits were all tried, and all refused.
-# crate, sum of its text, of its edits and of the contracts below it, outcome, toolchain
+# crate, sum of its text, of its edits and of the contracts below it, how many were refused, how many of
+# these only by a limit of the prover or by a name that went, toolchain
 """
 WRITING = threading.Lock()
 EDIT_NAME = re.compile(r"[A-Za-z0-9_-][A-Za-z0-9_.-]*\.edit")

@@ -19,15 +19,28 @@ import tempfile
 import time
 
 from edit_places import placed
-from kit import REFUSALS, read, rt, rtlib
+from kit import AT_LIMIT, REFUSALS, read, rt, rtlib
 
 REFUSED, WAITS, ALONE = "refused", "waits", "alone"
+# By what an edit is refused. Only the first says that a contract rules its body out. A batch refuses
+# for that reason alone: what it cannot tell apart is tried alone, and judged by rt's words.
+GOAL, LIMIT, NAME = "goal", "limit", "name"
+ONLY_NAMES = "only because a proof file names"
 # Errors of a proof file that names what is gone, or cites what is not proved: not yet a reason of
 # the function's own.
 WEAK = re.compile(r"has no field|is not in scope|has no `|was not admitted")
 KINDS = "fn|impl|struct|enum|trait|type"
 STATUS = re.compile(rf"^({KINDS}) (\S+): ((?:not proved|no proof|could not tell).*)$", re.M)
 RESTS = re.compile(r"\bit waits for\b|\bit \w+ .*\bwhich (is|are) not proved")
+
+
+def kind_of(verdict, text):
+    """Returns by what an edit was refused that was tried alone, or None where it was not."""
+    if verdict not in REFUSALS:
+        return None
+    if verdict == AT_LIMIT:
+        return LIMIT
+    return NAME if ONLY_NAMES in text else GOAL
 
 
 def say(text):
@@ -213,13 +226,14 @@ class Trial:
                     alone.append(it)
 
     def verdicts(self, edits):
-        """Yields each edit with whether it is refused and what to say, until the time is out."""
+        """Yields each edit with by what it is refused, or None, and what to say, until the time is
+        out."""
         left = [it for it in edits if it.function and not self.options.alone]
         alone = [it for it in edits if it not in left]
         for it, reason in self.in_batches(left, alone):
-            yield it, True, f"{it.name}: refused: {reason}"
+            yield it, GOAL, f"{it.name}: refused: {reason}"
         while alone and not self.is_over():
             it = alone.pop(0)
             check = lambda kept: rt.must_fail(self.crate, it.path, self.flags, kept)
             verdict, text = self.timed(it.name, check)
-            yield it, verdict in REFUSALS, f"{it.name}: tried alone: {text.partition(': ')[2]}"
+            yield it, kind_of(verdict, text), f"{it.name}: tried alone: {text.partition(': ')[2]}"

@@ -46,6 +46,7 @@ def lanes():
 # What rt.must_fail answers of an edit that is refused: a name of rt's own, or only true in a toolchain
 # that has no such names.
 REFUSALS = {getattr(rt, name, True) for name in ("REFUSED", "AT_LIMIT")}
+AT_LIMIT = getattr(rt, "AT_LIMIT", None)
 TOOLCHAIN = read(f"{rt.KIT}/KIT-ID").decode().strip()
 # The logic alone, without the kit's own name. Kits of one logic may still differ in what their tactics
 # find and in what their library promises (docs/GATE.md says what that means for edits).

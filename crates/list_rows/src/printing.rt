@@ -17,14 +17,16 @@ fn hint(hint: LengthHint, out: &mut String) {
     }
 }
 
-/// The bounds of a text `LEAST..MOST`, where the end may be left out.
+/// The bounds of a text `LEAST..MOST`, where the end may be left out, or of a length that is known.
 fn hint_of(text: &[u8]) -> LengthHint {
     let text = str::from_utf8(text).unwrap_or("");
-    let (least, most) = text.split_once("..").unwrap_or((text, text));
-    LengthHint(
-        least.parse::<usize>().unwrap_or(0),
-        most.parse::<usize>().ok(),
-    )
+    match text.split_once("..") {
+        Some((least, most)) => LengthHint(
+            least.parse::<usize>().unwrap_or(0),
+            most.parse::<usize>().ok(),
+        ),
+        None => LengthHint::exact(text.parse::<usize>().unwrap_or(0)),
+    }
 }
 
 /// Says the sum of bounds, and that of bounds and a length, each made in two ways.

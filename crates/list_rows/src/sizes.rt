@@ -8,7 +8,7 @@ use iloc_shortvec::{ShortBoxSlice, ShortWords};
 use iloc_word_set::Variants;
 use iloc_writeable::{Writeable, to_string_or_borrow};
 use row_page::argument::number_of;
-use row_page::{Call, number, refused, say};
+use row_page::{Call, number, refused, say, truth};
 use std::alloc::{AllocError, Global};
 
 /// Room for the numbers of a row, for their words, and for the answers of steps, which no row says.
@@ -257,6 +257,44 @@ fn searched(alloc: Global, below: u16, room: &mut Room, out: &mut String) {
     }
 }
 
+/// Says the number, or that there is none.
+fn say_found(found: Option<u16>, out: &mut String) {
+    match found {
+        Some(found) => number(out, usize::from(found)),
+        None => say(out, "none"),
+    }
+    say(out, " ");
+}
+
+/// Says what each look-up of the key answers, then what is taken out under it, and how many pairs are left.
+fn look<S: Store<u16, u16>>(map: &mut LiteMap<u16, u16, S>, key: u16, out: &mut String) {
+    say_found(map.get(&key).copied(), out);
+    truth(out, map.contains_key(&key));
+    say(out, " ");
+    let lent = map.get_mut(&key).map(|value: &mut u16| *value);
+    say_found(lent, out);
+    say_found(map.remove(&key), out);
+    number(out, map.len());
+}
+
+/// Looks a key up in a map of the odd numbers, as many as are said, each of which is its own value.
+fn find<S: Store<u16, u16>>(
+    alloc: Global,
+    count: u16,
+    key: u16,
+    room: &mut Room,
+    out: &mut String,
+) {
+    let mut map: LiteMap<u16, u16, S> = LiteMap::new(alloc);
+    room.numbers.clear();
+    count_half(&mut room.numbers, count.saturating_mul(2), 1);
+    if take_each(alloc, &mut map, b"set", room) {
+        look(&mut map, key, out);
+    } else {
+        refused(out);
+    }
+}
+
 /// Says the length and the room of the set's text, as one that is borrowed nowhere, or against other bytes.
 fn printed(alloc: Global, below: u16, room: &mut Room, bytes: &[u8], out: &mut String) {
     let mut set = Variants::new();
@@ -269,10 +307,15 @@ fn printed(alloc: Global, below: u16, room: &mut Room, bytes: &[u8], out: &mut S
     }
 }
 
+/// The number that the digits spell, or 0.
+fn short_of(digits: &[u8]) -> u16 {
+    u16::try_from(number_of(digits)).unwrap_or(0)
+}
+
 /// The answer to a row of many items.
 pub fn answer(kind: &str, call: &Call<'_>, room: &mut Room, out: &mut String) {
     let (alloc, fill) = (call.alloc, call.second);
-    let below = u16::try_from(number_of(call.first)).unwrap_or(0);
+    let below = short_of(call.first);
     match kind {
         "words" => list::<ShortWords<u16>>(alloc, fill, below, room, out),
         "boxes" => list::<ShortBoxSlice<u16>>(alloc, fill, below, room, out),
@@ -280,6 +323,8 @@ pub fn answer(kind: &str, call: &Call<'_>, room: &mut Room, out: &mut String) {
         "map" => map::<ShortBoxSlice<(u16, u16)>>(alloc, fill, below, room, out),
         "vecmap" => map::<Vec<(u16, u16)>>(alloc, fill, below, room, out),
         "place" => searched(alloc, below, room, out),
+        "find" => find::<ShortBoxSlice<(u16, u16)>>(alloc, below, short_of(fill), room, out),
+        "findvec" => find::<Vec<(u16, u16)>>(alloc, below, short_of(fill), room, out),
         _ => printed(alloc, below, room, fill, out),
     }
 }

@@ -6,6 +6,7 @@ use iloc_data::DataLocale;
 use iloc_extensions::{Extensions, is_well_formed};
 use iloc_locale::{Locale, OrderedLocale};
 use iloc_subtags::ParseError;
+use iloc_writeable::Writeable;
 use row_page::steps::Step;
 use row_page::{Answering, Call, order, put, refused, say, truth};
 use std::alloc::Global;
@@ -28,6 +29,7 @@ fn says(locale: &Locale, step: &Step<'_>, out: &mut String) {
     match step.call {
         b"cmp" => order(out, locale.strict_cmp(step.first)),
         b"empty" => truth(out, locale.extensions.is_empty()),
+        b"lent" => say(out, locale.writeable_borrow().unwrap_or("none")),
         _ => truth(out, locale.is_well_formed()),
     }
     say(out, " ")
@@ -73,7 +75,7 @@ impl Answering<Rows> for Locale {
                 says_same(self, Locale::try_from_utf8(step.alloc, step.first), out);
                 true
             }
-            b"cmp" | b"empty" | b"well" => {
+            b"cmp" | b"empty" | b"lent" | b"well" => {
                 says(self, step, out);
                 true
             }

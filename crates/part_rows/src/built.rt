@@ -191,6 +191,7 @@ pub fn answer(what: &str, call: &Call<'_>, out: &mut String) {
         "private-none" => made::<Rows, Private>(call, Ok(Private::new()), out),
         "private-default" => made::<Rows, Private>(call, Ok(Private::default()), out),
         "other-A" => made::<Rows, Other>(call, other(alloc, b'A', text), out),
+        "other-O" => made::<Rows, Other>(call, other(alloc, b'O', text), out),
         "other-o" => made::<Rows, Other>(call, other(alloc, b'o', text), out),
         _ => part(what, call, out),
     }

@@ -6,6 +6,7 @@
 //! `keyword-default TAB KEY` answers the text of the default, `keyword-key TAB KEY` the key that the function of its
 //! name makes, `keyword-memory` the refusal for want of memory.
 use crate::keyword::{Asked, default_of, refuse_keyword, told};
+use crate::variants;
 use iloc_enum_keywords::{
     CollationCaseFirst, CollationNumericOrdering, CollationType, CommonVariantType,
     CurrencyFormatStyle, EmojiPresentationStyle, FirstDay, HourCycle, LineBreakStyle,
@@ -123,6 +124,7 @@ pub fn answer(name: &str, row: &Call<'_>, out: &mut String) {
     let (call, word) = name.split_once('-').unwrap_or(("", name));
     let named = str::from_utf8(row.first).unwrap_or("");
     match word {
+        _ if matches!(call, "is" | "owned") => variants::answer(call, word, row, out),
         "default" => default(named, out),
         "key" => key_named(named, out),
         "memory" => refuse_keyword(out, &PreferencesParseError::from(AllocError)),

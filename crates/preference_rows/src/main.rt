@@ -19,6 +19,7 @@ mod keyword;
 mod keywords;
 mod locales;
 mod told;
+mod variants;
 
 use iloc_bench::{FormatPreferences, TimePreferences};
 use iloc_data::DataLocale;
