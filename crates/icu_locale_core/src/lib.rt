@@ -112,7 +112,8 @@ pub mod extensions {
 
     /// The transform extension: an identifier and fields.
     pub mod transform {
-        pub use iloc_transform::{Fields, Key, Transform, Value};
+        pub use iloc_fields::{Fields, Key, Value};
+        pub use iloc_transform::Transform;
     }
 
     /// Extensions that are neither unicode, transform nor private.
