@@ -52,7 +52,7 @@ pub use Rattle.iloc_data.specs.DataValue
 pub use Rattle.iloc_data.specs.DataEquality
 pub use Rattle.iloc_json.specs.Json
 pub use Rattle.iloc_carry.specs.Carrying
-pub use Rattle.iloc_program.specs.Output as ProgramOutput
+pub use Rattle.iloc_lines.specs.Output as ProgramOutput
 pub use Rattle.iloc_bench.specs.Values as FormatterValues
 pub use Rattle.iloc_enum_keywords.specs.declared.hour_cycle.HourCycle as HourCycles
 pub mod Together

@@ -128,7 +128,10 @@ pub mod extensions {
     /// The transform extension: an identifier and fields.
     pub mod transform {
         pub use crate::together::transform_extensions as together;
-        pub use iloc_transform::{Fields, Key, Transform, Value, equality, hashes, orders};
+        pub use iloc_fields::{
+            Fields, Key, Value, equality as fields_equality, hashes as fields_hashes, orders,
+        };
+        pub use iloc_transform::{Transform, equality, hashes};
     }
 
     /// Extensions that are neither unicode, transform nor private.
@@ -202,7 +205,8 @@ pub mod bench {
 
 /// The library of the program `locale_normal`.
 pub mod program {
-    pub use iloc_program::{Mode, RunError, ending, run};
+    pub use iloc_lines::{Mode, RunError, ending};
+    pub use iloc_program::run;
 }
 
 pub use iloc_data::DataLocale;

@@ -1,5 +1,6 @@
 pub mod Readers
 pub mod Fronts
+pub mod SingleValues
 pub mod Parts
 pub mod PartValues
 pub mod Computing

@@ -14,7 +14,8 @@ use Rattle.iloc_grammar.specs.Words.{Subtag, word_cmp, is_word, lower, is_same, 
 use Rattle.iloc_grammar.specs.Values.{IsNormal}
 use Rattle.iloc_orders.specs.Orders.{pair_cmp}
 use Rattle.iloc_unicode_value.specs.Values as values
-use Rattle.iloc_preferences_rules.specs.Keywords.{EnumKeyword, CalendarAlgorithm, CollationType, CollationCaseFirst, CollationNumericOrdering, CurrencyFormatStyle, EmojiPresentationStyle, FirstDay, HourCycle, LineBreakStyle, LineBreakWordHandling, MeasurementSystem, MeasurementUnitOverride, SentenceBreakSupressions, CommonVariantType, EnumValue, numbered, variants, further_readings, readings, or_true, single, without_true, enum_reads, enum_words, enum_gives}
+use Rattle.iloc_fronts.specs.SingleValues.{single}
+use Rattle.iloc_preferences_rules.specs.Keywords.{EnumKeyword, CalendarAlgorithm, CollationType, CollationCaseFirst, CollationNumericOrdering, CurrencyFormatStyle, EmojiPresentationStyle, FirstDay, HourCycle, LineBreakStyle, LineBreakWordHandling, MeasurementSystem, MeasurementUnitOverride, SentenceBreakSupressions, CommonVariantType, EnumValue, numbered, variants, further_readings, readings, or_true, without_true, enum_reads, enum_words, enum_gives}
 use Rattle.iloc_preferences_rules.proofs.KeywordLaws.{reads_what_it_gives}
 use Rattle.iloc_unicode_value.specs.declared.errors.PreferencesParseError.TheVariants.{InvalidKeywordValue}
 use Rattle.iloc_keyword_types.specs.WordTables.{place_of, word_at}

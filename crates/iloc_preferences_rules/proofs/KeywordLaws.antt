@@ -4,7 +4,8 @@ use Rattle.std.specs.List.{AllByRecursion}
 use Rattle.iloc_grammar.specs.Words.{Script, CurrencyType, is_true, lower, word}
 use Rattle.iloc_grammar.specs.Values.{IsNormal}
 use Rattle.iloc_grammar.proofs.WordsLaws.{is_word-lower, normal-lower}
-use Rattle.iloc_preferences_rules.specs.Keywords.{EnumKeyword, CommonVariantType, ReadsWhatItGives, currency_reads, currency_gives, subtag_reads, subtag_gives, scripts_read, scripts_give, with_first}
+use Rattle.iloc_fronts.specs.SingleValues.{currency_reads, currency_gives}
+use Rattle.iloc_preferences_rules.specs.Keywords.{EnumKeyword, CommonVariantType, ReadsWhatItGives, subtag_reads, subtag_gives, scripts_read, scripts_give, with_first}
 
 pub reads_what_it_gives : (k : EnumKeyword) → ReadsWhatItGives k
 unfolding is_true

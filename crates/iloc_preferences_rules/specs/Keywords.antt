@@ -10,7 +10,8 @@ use Rattle.std.specs.Result.{result_ok}
 use Rattle.std.specs.Cmp.Lexicographic.{slice_cmp}
 use Rattle.std.specs.FinMap.{find}
 use Rattle.iloc_grammar.specs.Shapes.{Text}
-use Rattle.iloc_grammar.specs.Words.{Script, CurrencyType, word, lower, word_cmp, is_true}
+use Rattle.iloc_grammar.specs.Words.{Script, word, lower, word_cmp, is_true}
+use Rattle.iloc_fronts.specs.SingleValues.{single}
 use Rattle.iloc_regions.specs.Subdivisions.{Subdivision, subdivision, subdivision_text}
 use Rattle.iloc_orders.specs.Orders.{pair_cmp}
 
@@ -125,11 +126,7 @@ abbrev pub ReadsWhatItGives : EnumKeyword → Type 0
 ReadsWhatItGives k = AllByRecursion
     (λ e. option_and_then (enum_reads k) (enum_gives k e.1) ≡ Some e.1) (readings k)
 
--- Keywords whose values are words of a kind.
-
-abbrev pub single : List Text → Option Text
-single (w ∷ []) = Some w
-single _ = None
+-- Keywords whose values are words of a kind; `cu` stands in `SingleValues` of `iloc_fronts`.
 
 abbrev pub cu : Text
 cu = codes "cu"
@@ -142,13 +139,6 @@ nu = codes "nu"
 
 abbrev pub tz : Text
 tz = codes "tz"
-
--- `cu`: one word of three letters
-abbrev pub currency_reads : List Text → Option Text
-currency_reads ws = option_and_then (word CurrencyType) (single ws)
-
-abbrev pub currency_gives : Text → List Text
-currency_gives w = w ∷ []
 
 -- `nu` and `tz`: one subtag
 abbrev pub subtag_reads : List Text → Option Text

@@ -11,9 +11,10 @@ ghost use Rattle.iloc_grammar.specs.Words.{IsTable, CurrencyType, Script, Region
 ghost use Rattle.iloc_grammar.specs.Written.{Identifier};
 ghost use Rattle.iloc_grammar.specs.Meaning.{Locale, Means};
 ghost use Rattle.iloc_grammar.specs.Values.{IsNormal, IsValue, IsWellFormed};
+ghost use Rattle.iloc_fronts.specs.SingleValues.{currency_reads, currency_gives};
 ghost use Rattle.iloc_regions.specs.Subdivisions.{Subdivision, IsSubdivision, subdivision_text};
 ghost use Rattle.iloc_regions.specs.DataLocales.{DataLocale, DataMeans, data_key, data_of_identifier};
-ghost use Rattle.iloc_preferences_rules.specs.Keywords.{EnumKeyword, CalendarAlgorithm, CollationNumericOrdering, HourCycle, enum_reads, enum_gives, ReadsWhatItGives, currency_reads, currency_gives, subtag_reads, subtag_gives, scripts_read, scripts_give, subdivision_reads, subdivision_gives};
+ghost use Rattle.iloc_preferences_rules.specs.Keywords.{EnumKeyword, CalendarAlgorithm, CollationNumericOrdering, HourCycle, enum_reads, enum_gives, ReadsWhatItGives, subtag_reads, subtag_gives, scripts_read, scripts_give, subdivision_reads, subdivision_gives};
 ghost use Rattle.iloc_preferences_rules.specs.Preferences.{Preferences, is_strict, IsPreferences, SpellsNoTrue, default_preferences, preferences, identifier_preferences, language_priority, merge, locale_of_preferences};
 ghost use Rattle.iloc_preferences_rules.specs.Formatters.{FormatPreferences, TimePreferences, default_format, default_time, merge_format, merge_time, is_strict_format, format_preferences, time_of_format};
 ghost use Rattle.iloc_preferences_rules.specs.Examples.{meaning_of, preferences_of, conversions, text_of_preferences};

@@ -1,24 +1,15 @@
--- `==` at fields, identifiers and transforms decides whether they stand for the same.
+-- `==` at identifiers and transforms decides whether they stand for the same.
 use Rattle.std.proofs.Common.{◌≡◌, ℕ, Bool, ◌&&◌, List, Option, Some, None, nat_eq, refl, sym, ap, option_map, true≢false}
 use Rattle.std.specs.Option.{option_eq}
 use Rattle.std.specs.Bool.{Decides}
 use Rattle.std.proofs.lemmas.Bool.Decides.{Decides-and, Decides-like}
-use lib.Pointwise.{pointwise, pointwise_decides}
+use lib.Pointwise.{pointwise}
 use Rattle.iloc_grammar.specs.Written as written
 use Rattle.iloc_langid.specs.Reads as langid
 use Rattle.iloc_langid.specs.declared.identifier.LanguageIdentifier.{LanguageIdentifier}
 use Rattle.iloc_langid.proofs.EqualityLemmas.{same_value, equal_values}
-use Rattle.iloc_other.proofs.EqualityLemmas.{word_decides, words_decide}
 use Rattle.iloc_transform.specs.TransformReading.{value_of}
 use Rattle.iloc_transform.specs.declared.transform.Transform.{Transform}
-
--- fields, pair by pair
-
-pair_decides : (f g : List ℕ × List (List ℕ)) → Decides (pointwise nat_eq f.0 g.0 && pointwise (pointwise nat_eq) f.1 g.1) (f ≡ g)
-pair_decides f g = Decides-like _ (λ e i. (e.0 i, e.1 i)) (λ e. (ap (λ p. p.0) e, ap (λ p. p.1) e)) (Decides-and _ _ (word_decides f.0 g.0) (words_decide f.1 g.1))
-
-pub fields_decide : (f g : written.Fields) → Decides (pointwise (λ (x y : List ℕ × List (List ℕ)). pointwise nat_eq x.0 y.0 && pointwise (pointwise nat_eq) x.1 y.1) f g) (f ≡ g)
-fields_decide = pointwise_decides pair_decides
 
 -- transforms, field by field: identifiers by what is proved of them below
 

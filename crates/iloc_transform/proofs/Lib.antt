@@ -1,7 +1,3 @@
-pub mod ValueLemmas
-pub mod PrintLemmas
-pub mod FieldsLemmas
-pub mod MapLemmas
 pub mod TransformLemmas
 pub mod TextLemmas
 pub mod FewLemmas

@@ -19,8 +19,8 @@ ghost use Rattle.std.specs.Result.{result_and};
 ghost use Rattle.iloc_orders.specs.Orders.{transform_cmp};
 ghost use Rattle.iloc_parser.specs.Left.{left};
 
-use crate::fields::Fields;
 use crate::lang::{cmp_langs, fill_lang, lowercase};
+use iloc_fields::Fields;
 use iloc_langid::LanguageIdentifier;
 use iloc_other::singleton::take_singleton;
 use iloc_parser::SubtagIterator;

@@ -10,7 +10,7 @@ use Rattle.iloc_grammar.proofs.WordsLaws.{word_letters_or_digits}
 use Rattle.iloc_grammar.proofs.MapLaws.{same_words}
 use Rattle.iloc_shortvec.specs.ShortList.{only_of}
 use Rattle.iloc_unicode_value.specs.Values.{without_true}
-use Rattle.iloc_preferences_rules.specs.Keywords.{single}
+use Rattle.iloc_fronts.specs.SingleValues.{single}
 
 pub only_is_single : (ws : List (List ℕ)) → only_of ws ≡ single ws
 only_is_single [] = refl

@@ -3,7 +3,7 @@
 ghost use Rattle.std.specs.Prelude.{◌≡◌, option_and_then};
 ghost use Rattle.iloc_grammar.specs.Words.{Subtag};
 ghost use Rattle.iloc_grammar.specs.Values.{IsNormal};
-ghost use Rattle.iloc_preferences_rules.specs.Keywords.{currency_reads, currency_gives};
+ghost use Rattle.iloc_fronts.specs.SingleValues.{currency_reads, currency_gives};
 ghost use Rattle.iloc_unicode_value.specs.Refusals.{Reads};
 
 use crate::errors::PreferencesParseError;

@@ -6,4 +6,4 @@ use Rattle.icu_locale_core.proofs.TogetherLemmas.{by_value}
 use Rattle.icu_locale_core.proofs.together.transform_extensions.Goals as goal
 
 pub returns : goal.returns
-returns c = by_value transform.value_of transform_cmp transform_exact _ transform_fed _ c.equality.ensures.transforms c.hashes.ensures.transforms
+returns c = by_value transform.value_of transform_cmp transform_exact _ transform_fed _ c.equality.ensures c.hashes.ensures

@@ -1,0 +1,5 @@
+pub mod ValueLemmas
+pub mod PrintLemmas
+pub mod FieldsLemmas
+pub mod MapLemmas
+pub mod EqualityLemmas
