@@ -364,7 +364,7 @@ def entry_of(module, home, made, shown, seen):
         return entry
     seen[home, made] = entry.path
     if kind == "fn":
-        entry.calls = [call_of(item, "", home, rust, made)]
+        entry.calls = [under_its_name(call_of(item, "", home, rust, made), shown)]
         entry.calls[0].rust = rust
     elif kind == "trait":
         inner = [at for at in item.inner() if "fn " in at.signature]
@@ -376,6 +376,12 @@ def entry_of(module, home, made, shown, seen):
         refusal = kinds().get(made, "") if home == "iloc_subtags" else ""
         entry.refusal = refusal if refusal not in " ".join(entry.details) else ""
     return entry
+
+
+def under_its_name(call, shown):
+    """Returns the call of a function by the name under which it is passed on."""
+    signature = re.sub(rf"\bfn {call.name}\b", f"fn {shown}", call.signature)
+    return dataclasses.replace(call, name=shown, signature=signature)
 
 
 def in_order(calls, item):

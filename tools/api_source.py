@@ -227,7 +227,8 @@ def passed_on(line):
     if not found:
         return []
     names = [it.partition(" as ") for it in (found.group(2) or found.group(3)).split(", ")]
-    return [(found.group(1), made, shown or made) for made, _, shown in names]
+    home = ROOT if found.group(1) == "crate" else found.group(1)
+    return [(home, made, shown or made) for made, _, shown in names]
 
 
 def in_one_line(text):
