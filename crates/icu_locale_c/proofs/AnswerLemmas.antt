@@ -23,8 +23,8 @@ use Rattle.iloc_locale.specs.declared.locale.Locale as types
 use Rattle.iloc_data.specs.DataValue as data_locale
 use Rattle.iloc_data.specs.Reads.{DataReadsAs}
 use Rattle.iloc_data.specs.declared.data_locale.DataLocale as data_types
-use Rattle.iloc_program.specs.declared.Mode.{Mode}
-use Rattle.iloc_program.specs.declared.Mode.TheVariants.{Langid, Locale, Data}
+use Rattle.iloc_lines.specs.declared.Mode.{Mode}
+use Rattle.iloc_lines.specs.declared.Mode.TheVariants.{Langid, Locale, Data}
 use Rattle.icu_locale_c.specs.Answers.{IsNormalText, JudgedAs, TellsSame}
 use Rattle.icu_locale_c.specs.Numbers.{mode_number, number_of, status_of}
 use Rattle.icu_locale_c.specs.declared.status.Status.{Status}

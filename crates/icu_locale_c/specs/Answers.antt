@@ -16,8 +16,8 @@ use Rattle.iloc_langid.specs.Normalizing as langid
 use Rattle.iloc_langid.specs.Reads as langid_reads
 use Rattle.iloc_locale.specs.Normalizing as locale
 use Rattle.iloc_locale.specs.Reads as locale_reads
-use Rattle.iloc_program.specs.declared.Mode.{Mode}
-use Rattle.iloc_program.specs.declared.Mode.TheVariants.{Langid, Locale, Data}
+use Rattle.iloc_lines.specs.declared.Mode.{Mode}
+use Rattle.iloc_lines.specs.declared.Mode.TheVariants.{Langid, Locale, Data}
 use Rattle.icu_locale_c.specs.declared.status.Status.{Status}
 use Rattle.icu_locale_c.specs.declared.status.Status.TheVariants.{Done, InvalidLanguage, InvalidSubtag, InvalidExtension, DuplicatedExtension, OutOfMemory, BufferTooSmall, UnknownNumber}
 

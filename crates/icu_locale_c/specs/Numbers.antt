@@ -3,8 +3,8 @@ use Rattle.std.specs.Prelude.{◌≡◌, ℕ, List, codes}
 use Rattle.iloc_subtags.specs.declared.parse_error.ParseError.{ParseError}
 use Rattle.iloc_subtags.specs.declared.parse_error.ParseError.TheVariants as refusals
 use Rattle.iloc_subtags.specs.ParseError as refusals_words
-use Rattle.iloc_program.specs.declared.Mode.{Mode}
-use Rattle.iloc_program.specs.declared.Mode.TheVariants.{Langid, Locale, Data}
+use Rattle.iloc_lines.specs.declared.Mode.{Mode}
+use Rattle.iloc_lines.specs.declared.Mode.TheVariants.{Langid, Locale, Data}
 use Rattle.icu_locale_c.specs.declared.status.Status.{Status}
 use Rattle.icu_locale_c.specs.declared.status.Status.TheVariants.{Done, InvalidLanguage, InvalidSubtag, InvalidExtension, DuplicatedExtension, OutOfMemory, BufferTooSmall, UnknownNumber}
 

@@ -7,7 +7,7 @@
 #![tactic(auto)]
 
 ghost use Rattle.std.specs.Prelude.{◌≡◌, ◌<◌};
-ghost use Rattle.iloc_program.specs.declared.Mode.{Mode};
+ghost use Rattle.iloc_lines.specs.declared.Mode.{Mode};
 ghost use Rattle.icu_locale_c.specs.declared.status.Status.{Status};
 ghost use Rattle.icu_locale_c.specs.Answers.{
   ComparesTo,

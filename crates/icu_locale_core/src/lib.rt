@@ -183,7 +183,8 @@ pub mod bench {
 
 /// The library of the program `locale_normal`.
 pub mod program {
-    pub use iloc_program::{Mode, RunError, ending, run};
+    pub use iloc_lines::{Mode, RunError, ending};
+    pub use iloc_program::run;
 }
 
 pub use iloc_data::DataLocale;

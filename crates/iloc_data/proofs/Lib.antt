@@ -1,4 +1,3 @@
-mod RegionLemmas
 mod EqualityLemmas
 mod ReadLemmas
 pub mod KeywordLemmas

@@ -10,7 +10,7 @@ use Rattle.iloc_regions.specs.Subdivisions.{Subdivision, both_words}
 use Rattle.iloc_regions.specs.DataLocales.{whole, is_whole, named_subdivision}
 use Rattle.iloc_grammar.proofs.MapLaws.{same_is}
 use Rattle.std.specs.Cmp.Lexicographic.{pointwise}
-use Rattle.iloc_data.proofs.RegionLemmas.{words_tie}
+use Rattle.iloc_data_parts.proofs.RegionLemmas.{words_tie}
 
 -- the word, where it names a part of a region
 abbrev part_named : Option Subdivision → List ℕ → Option (List ℕ)

@@ -8,8 +8,8 @@ ghost use Rattle.iloc_regions.specs.DataLocales.{data_text, locale_of_data};
 
 use crate::data_locale::DataLocale;
 use crate::locale_preferences::LocalePreferences;
-use crate::region_part::whole_region;
 use crate::values::look_at_data_locale;
+use iloc_data_parts::region::whole_region;
 use iloc_extensions::Extensions;
 use iloc_keyword_types::KeywordKind;
 use iloc_keyword_types::subdivision_keyword::RegionalSubdivisionKind;

@@ -7,7 +7,7 @@ ghost use Rattle.iloc_grammar.specs.Meaning.{Means};
 ghost use Rattle.iloc_regions.specs.DataLocales as parts;
 ghost use Rattle.iloc_regions.specs.DataLocales.{DataMeans, data_text};
 
-use crate::region_part::part_of;
+use iloc_data_parts::region::part_of;
 use iloc_keyword_types::SubdivisionId;
 use iloc_small_reader::read_small_locale;
 use iloc_subtags::{Language, ParseError, Region, Script, Subtag, Variant};

@@ -16,7 +16,7 @@ ghost use Rattle.iloc_data.specs.DataValue.{value_of as data_of};
 
 use crate::data_locale::DataLocale;
 use crate::region_keywords::{id_of, keyword};
-use crate::region_part::{is_whole, preferred, whole_region};
+use iloc_data_parts::region::{is_whole, preferred, whole_region};
 use iloc_keyword_types::subdivision_keyword::RegionalSubdivisionKind;
 use iloc_keyword_types::{RegionOverride, RegionalSubdivision, keyword_of};
 use iloc_langid::LanguageIdentifier;
@@ -152,7 +152,7 @@ impl LocalePreferences {
 }
 
 // The other language, where it is known.
-#[tactic(auto, using(crate::proofs::RegionLemmas::words_tie))]
+#[tactic(auto, using(iloc_data_parts::proofs::RegionLemmas::words_tie))]
 fn merged_language(language: Language, other: Language) -> Language
     ensures { result ≡ merge_language language other }
 {
@@ -164,7 +164,7 @@ fn merged_language(language: Language, other: Language) -> Language
 }
 
 // The other region, where it wins.
-#[tactic(auto, using(crate::proofs::RegionLemmas::words_tie))]
+#[tactic(auto, using(iloc_data_parts::proofs::RegionLemmas::words_tie))]
 fn merged_region(
     region: Option<RegionalSubdivision>,
     other: Option<RegionalSubdivision>,

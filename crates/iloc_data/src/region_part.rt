@@ -1,11 +1,7 @@
-//! What a region and a subdivision stand for together.
+//! What the region and the subdivision of a data locale stand for together.
 ghost use Rattle.std.specs.Prelude.{
   ◌≡◌,
-  ◌↔◌,
-  IsTrue,
   true,
-  MatchResult,
-  codes,
   option_map,
   option_and_then,
   if◌then◌else◌,
@@ -15,44 +11,16 @@ ghost use Rattle.std.specs.Prelude.{
 ghost use Rattle.iloc_regions.specs.DataLocales as parts;
 ghost use Rattle.iloc_regions.specs.DataLocales.{
   named_subdivision,
-  small_part,
   subdivision_keyword,
   subdivision_value,
 };
-ghost use Rattle.iloc_preferences_rules.specs.Preferences.{preferred_region, same_region};
 ghost use Rattle.iloc_data.specs.DataValue.{value_of};
 
 use crate::data_locale::DataLocale;
+use iloc_data_parts::region::{is_whole, named, whole_region};
 use iloc_keyword_types::SubdivisionId;
-use iloc_small_reader::SmallKeyword;
-use iloc_subtags::{ParseError, Region, SubdivisionSuffix, Subtag};
+use iloc_subtags::Subtag;
 use iloc_unicode_value::Value;
-
-// The suffix that stands for a whole region.
-#[tactic(auto, unfolding(iloc_grammar::specs::Words::is_word, iloc_grammar::specs::Words::lower))]
-fn whole() -> SubdivisionSuffix
-    ensures { result ≡ parts.whole }
-{
-    match SubdivisionSuffix::try_from_utf8(b"zzzz") {
-        Ok(suffix) => suffix,
-        Err(_) => unreachable!(),
-    }
-}
-
-/// The whole of the region.
-pub(crate) fn whole_region(region: Region) -> SubdivisionId
-    ensures { result ≡ parts.whole_region region }
-{
-    SubdivisionId::new(region, whole())
-}
-
-/// Whether it is the whole of its region.
-#[tactic(auto, using(crate::proofs::RegionLemmas::words_tie))]
-pub(crate) fn is_whole(id: &SubdivisionId) -> bool
-    ensures { result ≡ parts.is_whole id.now }
-{
-    id.suffix.as_str() == "zzzz"
-}
 
 // Whether the word ends as the whole of a region does, after as many bytes as a region has. Such a word names
 // nothing else.
@@ -70,68 +38,6 @@ fn ends_as_whole(word: &Subtag) -> bool
     word.as_str().as_bytes().ends_with(b"zzzz")
 }
 
-/// The subdivision that the word names.
-pub(crate) fn named(word: &Subtag) -> Option<SubdivisionId>
-    ensures { result ≡ named_subdivision word.now }
-{
-    SubdivisionId::try_from_str(word.as_str()).ok()
-}
-
-/// The given region where it differs from the subdivision's, else the subdivision; and whether the two agree.
-#[tactic(auto, using(crate::proofs::RegionLemmas::words_tie))]
-pub(crate) fn agreed(region: Option<Region>, id: SubdivisionId) -> (SubdivisionId, bool)
-    ensures part { result.0 ≡ parts.agreed region id }
-    ensures agrees { result.1 ≡ same_region region (Some id) }
-{
-    let Some(region) = region else {
-        return (id, true);
-    };
-    if region == id.region {
-        return (id, true);
-    }
-    (whole_region(region), false)
-}
-
-/// The given region with the suffix of the subdivision where that is of it, and else as a whole; the subdivision
-/// where no region is given. And whether the two agree, where both are there.
-#[tactic(auto, using(crate::proofs::RegionLemmas::agreed_is_preferred))]
-pub(crate) fn preferred(
-    region: Option<Region>,
-    id: Option<SubdivisionId>,
-) -> (Option<SubdivisionId>, bool)
-    ensures part { result.0 ≡ preferred_region region id }
-    ensures agrees { result.1 ≡ same_region region id }
-{
-    let Some(id) = id else {
-        return (region.map(whole_region), true);
-    };
-    let (part, agrees) = agreed(region, id);
-    (Some(part), agrees)
-}
-
-/// The region part that a region and a keyword name. No keyword but `sd` with a readable subdivision is taken;
-/// another is refused with `InvalidExtension`.
-#[tactic(auto, using(crate::proofs::RegionLemmas::words_tie))]
-pub(crate) fn part_of(
-    region: Option<Region>,
-    keyword: Option<SmallKeyword>,
-) -> Result<Option<SubdivisionId>, ParseError>
-    ensures { MatchResult result
-        (λ part. small_part region keyword ≡ Some part)
-        (λ e. (e ≡ ParseError.InvalidExtension) × (small_part region keyword ≡ None)) }
-{
-    let Some((key, value)) = keyword else {
-        return Ok(region.map(whole_region));
-    };
-    if key.as_str() != "sd" {
-        return Err(ParseError::InvalidExtension);
-    }
-    match value.as_ref().and_then(named) {
-        Some(id) => Ok(Some(agreed(region, id).0)),
-        None => Err(ParseError::InvalidExtension),
-    }
-}
-
 impl DataLocale {
     /// The subdivision where it is there and readable, else the region as a whole, else nothing.
     pub(crate) fn region_part(&self) -> Option<SubdivisionId>
@@ -145,7 +51,7 @@ impl DataLocale {
 
     /// The value of `sd` as it is printed: the subdivision where it is readable and not a whole region, and
     /// nothing of one that spells `true`.
-    #[tactic(auto, using(crate::proofs::RegionLemmas::printed_value, crate::proofs::RegionLemmas::words_tie))]
+    #[tactic(auto, using(iloc_data_parts::proofs::RegionLemmas::printed_value, iloc_data_parts::proofs::RegionLemmas::words_tie))]
     pub(crate) fn subdivision_value(&self) -> Option<Value>
         ensures { result ≡ option_map subdivision_value (subdivision_keyword (value_of self.now)) }
     {

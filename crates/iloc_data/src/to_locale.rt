@@ -15,8 +15,8 @@ ghost use Rattle.iloc_preferences_rules.specs.Preferences.{
 ghost use Rattle.iloc_data.specs.WithKeywords.{entry};
 
 use crate::locale_preferences::LocalePreferences;
-use crate::region_part::is_whole;
 use crate::values::look_at_preferences;
+use iloc_data_parts::region::is_whole;
 use iloc_keyword_types::subdivision_keyword::{RegionOverrideKind, RegionalSubdivisionKind};
 use iloc_keyword_types::{KeywordKind, RegionOverride, RegionalSubdivision};
 use iloc_locale::Locale;

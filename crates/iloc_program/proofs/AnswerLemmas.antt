@@ -21,9 +21,9 @@ use Rattle.iloc_locale.proofs.NormalLemmas.{text_alone}
 use Rattle.iloc_locale.proofs.ReadLemmas.{accepts, head_refused}
 use Rattle.iloc_locale.specs.Reads.{LocaleReadsAs}
 use Rattle.iloc_regions.specs.DataLocales.{DataLocale, DataMeans, data_text}
-use Rattle.iloc_data.specs.Reads.{DataReadsAs}
-use Rattle.iloc_program.specs.declared.Mode.TheVariants.{Langid, Locale, Data}
-use Rattle.iloc_program.specs.Output.{line_answer, refusal_text}
+use Rattle.iloc_data_parts.specs.PartsReading.{PartsReadAs}
+use Rattle.iloc_lines.specs.declared.Mode.TheVariants.{Langid, Locale, Data}
+use Rattle.iloc_lines.specs.Output.{line_answer, refusal_text}
 
 pub answer_accepted : (t : List ℕ) (i : Identifier) → IdentifierMeans languages (pieces t) i → line_answer Langid t ≡ identifier_text i
 answer_accepted t i m = sym (only_answer languages_table OfIdentifiers t (identifier_text i) (identifier m))
@@ -61,7 +61,7 @@ head_bad t e h n = locale_refused t e (head_refused t e h) n
 pub data_accepted : (t : List ℕ) (d : DataLocale) → DataMeans languages t d → line_answer Data t ≡ data_text d
 data_accepted t d m = sym (only_answer languages_table OfDataLocales t (data_text d) (data_locale m))
 
-pub data_refused : (t : List ℕ) (e : ParseError) → DataReadsAs t (Err e) → line_answer Data t ≡ refusal_text e
+pub data_refused : (t : List ℕ) (e : ParseError) → PartsReadAs t (Err e) → line_answer Data t ≡ refusal_text e
 data_refused t InvalidLanguage r = sym (only_answer languages_table OfDataLocales t (refusal_text InvalidLanguage) (no_data_locale r))
 data_refused t InvalidSubtag r = sym (only_answer languages_table OfDataLocales t (refusal_text InvalidSubtag) (no_data_locale r))
 data_refused t InvalidExtension r = sym (only_answer languages_table OfDataLocales t (refusal_text InvalidExtension) (no_data_locale r))

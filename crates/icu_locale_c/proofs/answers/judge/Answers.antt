@@ -1,5 +1,5 @@
 -- By the mode, the text is judged as its reader answered.
-use Rattle.iloc_program.specs.declared.Mode.TheVariants.{Langid, Locale, Data}
+use Rattle.iloc_lines.specs.declared.Mode.TheVariants.{Langid, Locale, Data}
 use Rattle.icu_locale_c.proofs.AnswerLemmas.{identifier_read, locale_read, data_read, judged, text_of_identifier, text_of_locale, text_of_data}
 use Rattle.icu_locale_c.proofs.answers.judge.Goals as goal
 

@@ -1,7 +1,7 @@
 use Rattle.std.proofs.Common.{◌++◌, ap, ◌∙◌, sym}
 use Rattle.std.proofs.lemmas.Result.{on_ok_weaker}
 use Rattle.iloc_langid.specs.Reads.{value_of}
-use Rattle.iloc_program.specs.ReplyBlock.{held}
+use Rattle.iloc_lines.specs.ReplyBlock.{held}
 use Rattle.iloc_program.proofs.AnswerLemmas.{answer_accepted, answer_refused, on_ok_both}
 use Rattle.iloc_program.proofs.answers.IdentifiersAnswers.answer.Goals as goal
 

@@ -6,7 +6,7 @@ use Rattle.iloc_parser.specs.Left.{left}
 use Rattle.iloc_langid.specs.Reads.{ReadsAs}
 use Rattle.iloc_locale.specs.LocaleValue.{value_of}
 use Rattle.iloc_locale.proofs.ReadLemmas.{after_head_starts}
-use Rattle.iloc_program.specs.ReplyBlock.{held}
+use Rattle.iloc_lines.specs.ReplyBlock.{held}
 use Rattle.iloc_program.proofs.AnswerLemmas.{head_alone, head_bad, locale_accepted, locale_refused, nothing_left, on_ok_both}
 use Rattle.iloc_program.proofs.answers.LocalesAnswers.answer.Goals as goal
 

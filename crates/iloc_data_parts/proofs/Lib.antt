@@ -1,0 +1,3 @@
+pub mod RegionLemmas
+mod ReadLemmas
+mod PartLemmas

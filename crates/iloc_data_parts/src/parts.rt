@@ -1,0 +1,106 @@
+//! The parts that a text names, their reader and their text.
+ghost use Rattle.std.specs.Prelude.{◌≡◌, option_map};
+ghost use Rattle.iloc_regions.specs.DataLocales.{subdivision_keyword, subdivision_value};
+
+use crate::region::{is_whole, part_of};
+use iloc_keyword_types::SubdivisionId;
+use iloc_small_reader::read_small_locale;
+use iloc_subtags::{Language, ParseError, Region, Script, Variant};
+use iloc_unicode_value::Value;
+use iloc_writeable::{Pieces, Sink, Writeable};
+use std::fmt;
+
+/// A language, and perhaps a script, a region or a subdivision of it, and a variant.
+#[derive(Clone, Copy)]
+pub struct DataParts {
+    /// The language.
+    pub language: Language,
+    /// The script.
+    pub script: Option<Script>,
+    /// The subdivision of a region, or the region as a whole.
+    pub part: Option<SubdivisionId>,
+    /// The only variant.
+    pub variant: Option<Variant>,
+}
+
+impl DataParts {
+    ghost use Rattle.iloc_data_parts.specs.PartsReading.{value_of, PartsReadAs};
+
+    /// Reads all of the text, which need not be UTF-8, in whatever case. It takes no memory.
+    pub fn try_from_utf8(code_units: &[u8]) -> Result<Self, ParseError>
+        ensures { PartsReadAs code_units.now result }
+    {
+        let (language, script, region, variant, keyword) = read_small_locale(code_units)?;
+        let part = part_of(region, keyword)?;
+        Ok(DataParts {
+            language,
+            script,
+            part,
+            variant,
+        })
+    }
+
+    // The region.
+    fn region(&self) -> Option<Region>
+        ensures { result ≡ (value_of self.now).region }
+    {
+        Some(self.part?.region)
+    }
+
+    // The value of `sd` as it is printed: the subdivision where it is not a whole region.
+    #[tactic(auto, using(crate::proofs::PartLemmas::whole_keyword, crate::proofs::PartLemmas::part_keyword))]
+    fn subdivision_value(&self) -> Option<Value>
+        ensures { result ≡ option_map subdivision_value (subdivision_keyword (value_of self.now)) }
+    {
+        let id = self.part?;
+        let word = id.into_subtag();
+        if is_whole(&id) {
+            return None;
+        }
+        let _ = word.as_str();
+        Some(Value::from_subtag(Some(word)))
+    }
+}
+
+/// The pieces are language, script, region, variant, and `u`, `sd` and the value of a subdivision that is printed.
+impl Pieces for DataParts {
+    ghost use Rattle.iloc_data_parts.specs.PartsReading.{value_of, data_pieces};
+
+    ghost pieces = { λ p. data_pieces (value_of p) };
+
+    fn has_pieces(&self) -> bool {
+        true
+    }
+
+    fn write_pieces<S: Sink>(&self, sink: &mut S, first: bool) -> fmt::Result {
+        let region = self.region();
+        let Some(value) = self.subdivision_value() else {
+            return (&self.language, &self.script, &region, &self.variant).write_pieces(sink, first);
+        };
+        (
+            &self.language,
+            &self.script,
+            &region,
+            &self.variant,
+            &("u", "sd", value),
+        )
+            .write_pieces(sink, first)
+    }
+}
+
+/// Prints the text of the data locale that is made of the parts.
+impl Writeable for DataParts {
+    ghost use Rattle.iloc_regions.specs.DataLocales.{data_text};
+    ghost use Rattle.iloc_data_parts.specs.PartsReading.{value_of};
+
+    ghost text = { λ p. data_text (value_of p) };
+
+    #[tactic(auto, unfolding(iloc_grammar::specs::Pieces::join))]
+    fn write_to<S: Sink>(&self, sink: &mut S) -> fmt::Result {
+        self.write_joined(sink)
+    }
+
+    fn writeable_borrow(&self) -> Option<&str> {
+        None
+    }
+}

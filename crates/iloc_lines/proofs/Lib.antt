@@ -1,0 +1,4 @@
+pub mod BlockLemmas
+pub mod KnownLemmas
+pub mod PlaceLemmas
+pub mod RunLemmas

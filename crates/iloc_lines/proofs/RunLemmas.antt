@@ -1,0 +1,156 @@
+-- How a run stands after each of its steps.
+use Rattle.std.proofs.Common.{◌≡◌, ℕ, List, [], ◌++◌, take, drop, length, Option, Some, None, refl, sym, ap, ◌∙◌, subst, append_assoc, append-nil}
+use Rattle.std.specs.Prelude.{IfSome, Result, Ok, Err, OnOk, OnErr}
+use Rattle.std.proofs.lemmas.List.{take-append-drop}
+use Rattle.std.proofs.Math.Seq.{take-append_seam}
+use Rattle.std.specs.Io.{StartsWith}
+use Rattle.std.specs.Io.KnownBytes.{Appends, Consumes, IsAtEnd, Keeps}
+use Rattle.iloc_lines.specs.declared.Mode.{Mode}
+use Rattle.iloc_lines.specs.Output.{output, WritesAll, WritesBeginning}
+use Rattle.iloc_io_sink.specs.Growth.{appends_both}
+use Rattle.iloc_lines.proofs.KnownLemmas.{Consumes-kept, Consumes-then}
+
+-- whatever comes next, the answer to all goes on from what is written with the answer to what is pending and that
+pub record Stands (mode : Mode) (unread unread' held held' : Option (List ℕ)) (pending : List ℕ) : Type 0 where
+  pub read : List ℕ
+  pub written : List ℕ
+  pub reads : Consumes unread unread' read
+  pub writes : Appends held held' written
+  pub ahead : (next : List ℕ) → output mode (read ++ next) ≡ written ++ output mode (pending ++ next)
+
+-- these replies bring the pending bytes to others
+pub record Replies (mode : Mode) (pending pending' replies : List ℕ) : Type 0 where
+  pub ahead : (next : List ℕ) → output mode (pending ++ next) ≡ replies ++ output mode (pending' ++ next)
+
+StartsWith-front : (whole front rest : List ℕ) → whole ≡ front ++ rest → StartsWith whole front
+StartsWith-front whole front rest e = rw e (take-append_seam front rest)
+
+-- a part of a text, after what stands before it and before what follows it
+StartsWith-within : (whole before bytes rest part : List ℕ) → StartsWith bytes part → whole ≡ before ++ (bytes ++ rest) → StartsWith whole (before ++ part)
+StartsWith-within whole before bytes rest part h e =
+    let split : bytes ≡ part ++ drop (length part) bytes =
+    sym (take-append-drop (length part) bytes) ∙ ap (λ (t : List ℕ). t ++ drop (length part) bytes) h in
+    StartsWith-front whole (before ++ part) (drop (length part) bytes ++ rest)
+    (e ∙ ap (λ (t : List ℕ). before ++ (t ++ rest)) split ∙ simp append_assoc)
+
+-- a fact that holds whatever the result
+pub on_err : {T E : Type 0} (r : Result T E) (P : Type 0) → P → OnErr r P
+on_err (Ok x) P p = tt
+on_err (Err e) P p = p
+
+pub on_ok_then : {T E : Type 0} (r : Result T E) (P Q : Type 0) → OnOk r P → (P → Q) → OnOk r Q
+on_ok_then (Ok x) P Q p f = f p
+on_ok_then (Err e) P Q p f = tt
+
+pub on_err_then : {T E : Type 0} (r : Result T E) (P Q : Type 0) → OnErr r P → (P → Q) → OnErr r Q
+on_err_then (Ok x) P Q p f = tt
+on_err_then (Err e) P Q p f = f p
+
+module _ (mode : Mode) where
+  pub Stands-kept : (u u' u2 h h' : Option (List ℕ)) (pending : List ℕ) → Stands mode u u' h h' pending → Keeps u' u2 → Stands mode u u2 h h' pending
+  Stands-kept u u' u2 h h' pending s k = record {
+    read = s.read;
+    written = s.written;
+    reads = Consumes-kept u u' u2 s.read s.reads k;
+    writes = s.writes;
+    ahead = s.ahead;
+  }
+
+  pub Stands-read : (u u' u2 h h' : Option (List ℕ)) (pending piece : List ℕ) → Stands mode u u' h h' pending → Consumes u' u2 piece
+      → Stands mode u u2 h h' (pending ++ piece)
+  Stands-read u u' u2 h h' pending piece s k = record {
+    read = s.read ++ piece;
+    written = s.written;
+    reads = Consumes-then u u' u2 s.read piece s.reads k;
+    writes = s.writes;
+    ahead = λ next. simp append_assoc (s.ahead (piece ++ next));
+  }
+
+  -- a read of no bytes
+  pub Stands-read_none : (u u' u2 h h' : Option (List ℕ)) (pending block : List ℕ) (count : ℕ) → Stands mode u u' h h' pending
+      → Consumes u' u2 (take count block) → count ≡ 0 → Stands mode u u2 h h' pending
+  Stands-read_none u u' u2 h h' pending block count s k none =
+      let nothing : take count block ≡ [] = rw none refl in
+      subst (Stands mode u u2 h h') (append-nil pending) (Stands-read u u' u2 h h' pending [] s (subst (Consumes u' u2) nothing k))
+
+  -- what `feed` ensures, from no replies
+  pub Replies-fed : (old pending piece pending' replies : List ℕ) → old ≡ []
+      → ((next : List ℕ) → old ++ output mode (pending ++ (piece ++ next)) ≡ replies ++ output mode (pending' ++ next))
+      → Replies mode (pending ++ piece) pending' replies
+  Replies-fed old pending piece pending' replies none f = record {
+    ahead = λ next. ap (output mode) (append_assoc pending piece next)
+        ∙ ap (λ (t : List ℕ). t ++ output mode (pending ++ (piece ++ next))) (sym none) ∙ f next;
+  }
+
+  pub Stands-written : (u u' h h' h2 : Option (List ℕ)) (pending pending' replies : List ℕ) → Stands mode u u' h h' pending
+      → Replies mode pending pending' replies → Appends h' h2 replies → Stands mode u u' h h2 pending'
+  Stands-written u u' h h' h2 pending pending' replies s r k = record {
+    read = s.read;
+    written = s.written ++ replies;
+    reads = s.reads;
+    writes = appends_both h h' h2 s.written replies s.writes k;
+    ahead = λ next. s.ahead next ∙ ap (λ (t : List ℕ). s.written ++ t) (r.ahead next) ∙ sym (append_assoc s.written replies (output mode (pending' ++ next)));
+  }
+
+  IfSome-all : (u : Option (List ℕ)) (P : List ℕ → Type 0) → ((left : List ℕ) → P left) → IfSome u P
+  IfSome-all None P f = tt
+  IfSome-all (Some left) P f = f left
+
+  at_end : (u : Option (List ℕ)) (P : List ℕ → Type 0) → IsAtEnd u → P [] → IfSome u P
+  at_end None P e p = tt
+  at_end (Some left) P e p = subst P (sym e) p
+
+  now : (read written out : List ℕ) → output mode (read ++ []) ≡ written ++ out → output mode read ≡ written ++ out
+  now read written out e = ap (output mode) (sym (append-nil read)) ∙ e
+
+  pub Stands-front : (u u' h h' : Option (List ℕ)) (pending : List ℕ) → Stands mode u u' h h' pending → WritesBeginning mode u u' h h'
+  Stands-front u u' h h' pending s = record {
+    read = s.read;
+    written = s.written;
+    reads = s.reads;
+    writes = s.writes;
+    begins = StartsWith-front (output mode s.read) s.written (output mode (pending ++ [])) (now s.read s.written _ (s.ahead []));
+    begins_all = IfSome-all u' _ (λ left. StartsWith-front (output mode (s.read ++ left)) s.written (output mode (pending ++ left)) (s.ahead left));
+  }
+
+  pub Stands-part : (u u' h h' h2 : Option (List ℕ)) (pending pending' replies part : List ℕ) → Stands mode u u' h h' pending
+      → Replies mode pending pending' replies → Appends h' h2 part → StartsWith replies part → WritesBeginning mode u u' h h2
+  Stands-part u u' h h' h2 pending pending' replies part s r k b =
+      let whole : (next : List ℕ) → output mode (s.read ++ next) ≡ s.written ++ (replies ++ output mode (pending' ++ next)) =
+      λ next. s.ahead next ∙ ap (λ (t : List ℕ). s.written ++ t) (r.ahead next) in
+      record {
+        read = s.read;
+        written = s.written ++ part;
+        reads = s.reads;
+        writes = appends_both h h' h2 s.written part s.writes k;
+        begins = StartsWith-within (output mode s.read) s.written replies (output mode (pending' ++ [])) part b (now s.read s.written _ (whole []));
+        begins_all = IfSome-all u' _ (λ left. StartsWith-within (output mode (s.read ++ left)) s.written replies (output mode (pending' ++ left)) part b (whole left));
+      }
+
+  last : (u u' h h' : Option (List ℕ)) (pending replies : List ℕ) → (s : Stands mode u u' h h' pending) → replies ≡ output mode pending
+      → output mode s.read ≡ s.written ++ replies
+  last u u' h h' pending replies s e =
+      now s.read s.written _ (s.ahead []) ∙ ap (λ (t : List ℕ). s.written ++ t) (ap (output mode) (append-nil pending) ∙ sym e)
+
+  pub Stands-end : (u u' h h' h2 : Option (List ℕ)) (pending replies : List ℕ) → Stands mode u u' h h' pending → IsAtEnd u'
+      → replies ≡ output mode pending → Appends h' h2 replies → WritesAll mode u u' h h2
+  Stands-end u u' h h' h2 pending replies s end e k = record {
+    read = s.read;
+    reads = s.reads;
+    all_read = end;
+    writes = rw (last u u' h h' pending replies s e) (appends_both h h' h2 s.written replies s.writes k);
+  }
+
+  pub Stands-end_part : (u u' h h' h2 : Option (List ℕ)) (pending replies part : List ℕ) → Stands mode u u' h h' pending → IsAtEnd u'
+      → replies ≡ output mode pending → Appends h' h2 part → StartsWith replies part → WritesBeginning mode u u' h h2
+  Stands-end_part u u' h h' h2 pending replies part s end e k b =
+      let whole = StartsWith-within (output mode s.read) s.written replies [] part b
+      (last u u' h h' pending replies s e ∙ ap (λ (t : List ℕ). s.written ++ t) (sym (append-nil replies))) in
+      record {
+        read = s.read;
+        written = s.written ++ part;
+        reads = s.reads;
+        writes = appends_both h h' h2 s.written part s.writes k;
+        begins = whole;
+        begins_all = at_end u' (λ left. StartsWith (output mode (s.read ++ left)) (s.written ++ part)) end (rw (append-nil s.read) whole);
+      }

@@ -1,0 +1,129 @@
+//! Lines that come in pieces, what answers them, and their replies in blocks.
+//!
+//! It promises that what `run_with` writes is the output of what it reads, as `iloc_output` defines it, where
+//! each line is answered as `Answers` says: that is what `iloc_program` adds. It stands on `iloc_output` and
+//! `iloc_io_sink`, and on no reader of lines. Memory is as long as the longest line and its answer; reads and
+//! writes are in blocks of 64 KiB.
+#![tactic(auto)]
+
+ghost use Rattle.std.specs.Prelude.{ℕ, List, ◌≡◌, ◌↔◌, ◌++◌, Some, OnOk, OnErr, option_copied};
+ghost use Rattle.iloc_lines.specs.Output.{WritesAll, WritesBeginning, line_answer};
+ghost use Rattle.iloc_lines.specs.ReplyBlock.{held};
+ghost use Rattle.iloc_lines.specs.declared.RunError.TheVariants.{OutOfMemory};
+ghost use Rattle.iloc_lines.specs.Ending.{ending_status, ending_text, word_of};
+
+mod lines;
+pub mod replies;
+pub mod reply_block;
+
+pub use replies::{write_refusal, write_text};
+pub use reply_block::ReplyBlock;
+use std::alloc::{AllocError, Global};
+use std::io::{Read, Write};
+use thiserror::Error;
+
+/// What each line is read as.
+#[derive(Clone, Copy, Debug, PartialEq, Eq)]
+pub enum Mode {
+    /// A language identifier.
+    Langid,
+    /// A locale.
+    Locale,
+    /// A data locale.
+    Data,
+}
+
+impl Mode {
+    /// The mode that the word names.
+    pub fn from_word(word: &str) -> Option<Mode>
+        ensures { (mode : Mode) → (result ≡ Some mode) ↔ (word.now ≡ word_of mode) }
+    {
+        match word {
+            "langid" => Some(Mode::Langid),
+            "locale" => Some(Mode::Locale),
+            "data" => Some(Mode::Data),
+            _ => None,
+        }
+    }
+}
+
+/// Why a run stopped before the input's end was answered.
+#[derive(Clone, Debug, Drop, Error, PartialEq, Eq)]
+pub enum RunError {
+    /// The reader answered an error, or gave no end.
+    #[error("read failed")]
+    Read,
+    /// The writer answered an error, or took no byte.
+    #[error("write failed")]
+    Write,
+    /// A growth was refused.
+    #[error("out of memory")]
+    OutOfMemory,
+}
+
+impl From<AllocError> for RunError {
+    ghost from_gives = { λ _ error. error ≡ OutOfMemory };
+
+    fn from(_error: AllocError) -> RunError {
+        RunError::OutOfMemory
+    }
+}
+
+/// What the program writes to standard error, and its status. `None` is for bad arguments.
+pub fn ending(outcome: Option<&Result<(), RunError>>) -> (&'static str, u8)
+    ensures text { result.0.now ≡ ending_text (option_copied outcome.entry) }
+    ensures status { result.1 ≡ ending_status (option_copied outcome.entry) }
+{
+    match outcome {
+        None => ("usage: locale_normal langid|locale|data\n", 2),
+        Some(Ok(())) => ("", 0),
+        Some(Err(RunError::Read)) => ("locale_normal: read failed\n", 1),
+        Some(Err(RunError::Write)) => ("locale_normal: write failed\n", 1),
+        Some(Err(RunError::OutOfMemory)) => ("locale_normal: out of memory\n", 1),
+    }
+}
+
+/// What answers lines in one mode.
+pub trait Answers {
+    ghost use Rattle.iloc_lines.specs.declared.Mode.{Mode};
+
+    ghost mode: { Mode };
+
+    /// Adds the answer to one line.
+    fn answer(&mut self, line: &[u8], replies: &mut ReplyBlock) -> Result<(), AllocError>
+        ensures { OnOk result (held replies.new
+            ≡ held replies.old ++ line_answer mode line.now) };
+}
+
+/// Writes the answer to each line of what the reader gives, up to its end. No call is made again after an error.
+pub fn run_with<A: Answers, R: Read, W: Write>(
+    alloc: Global,
+    answers: &mut A,
+    reader: &mut R,
+    writer: &mut W,
+) -> Result<(), RunError>
+    ensures ok { OnOk result (WritesAll A.mode (R.remaining reader.old) (R.remaining reader.new)
+        (W.contents writer.old) (W.contents writer.new)) }
+    ensures err { OnErr result (WritesBeginning A.mode
+        (R.remaining reader.old) (R.remaining reader.new)
+        (W.contents writer.old) (W.contents writer.new)) }
+{
+    let mut room = lines::new_block(alloc)?;
+    let block = room.as_mut_slice();
+    let mut pending = Vec::new(alloc);
+    let mut replies = ReplyBlock::new(alloc);
+    'reads: for _ in 0..u64::MAX {
+        replies.clear();
+        let Ok(count) = reader.read(block) else {
+            return Err(RunError::Read);
+        };
+        if count == 0 {
+            lines::finish(answers, &mut pending, &mut replies)?;
+            return lines::write_whole(writer, replies.as_slice());
+        }
+        let (piece, _) = block.split_at(count);
+        lines::feed(answers, &mut pending, piece, &mut replies)?;
+        lines::write_whole(writer, replies.as_slice())?;
+    }
+    Err(RunError::Read)
+}

@@ -1,0 +1,140 @@
+//! The replies to a block of lines, as they are collected.
+ghost use Rattle.std.specs.Prelude.{◌≡◌, ◌+◌, ◌≤◌, [], ◌∷◌, ◌++◌, length, take, vec_len, OnOk, OnErr};
+
+use iloc_short_pieces::ShortPiece;
+use iloc_writeable::Sink;
+use std::alloc::{AllocError, Global};
+use std::cmp::max;
+use std::fmt;
+
+/// Bytes that count, and room behind them. What stands in the room says nothing, so that a short piece is
+/// stored as eight bytes at once, whatever its length.
+#[derive(Drop)]
+pub struct ReplyBlock {
+    room: Vec<u8>,
+    len: usize,
+    ghost within: { len ≤ vec_len room },
+}
+
+impl ReplyBlock {
+    ghost use Rattle.iloc_lines.specs.ReplyBlock.{held};
+
+    /// No bytes. It takes no memory.
+    pub fn new(alloc: Global) -> Self
+        ensures { held result ≡ [] }
+    {
+        ReplyBlock {
+            room: Vec::new(alloc),
+            len: 0,
+        }
+    }
+
+    /// Forgets the bytes, and keeps their room.
+    pub fn clear(&mut self)
+        ensures { held self.new ≡ [] }
+    {
+        self.len = 0;
+    }
+
+    /// The bytes that count.
+    pub fn as_slice(&self) -> &[u8]
+        ensures { result.now ≡ held self.now }
+    {
+        &self.room.as_slice()[..self.len]
+    }
+
+    /// Adds a byte.
+    #[inline(always)]
+    pub fn push(&mut self, byte: u8) -> Result<(), AllocError>
+        ensures { OnOk result (held self.new ≡ held self.old ++ byte ∷ []) }
+    {
+        self.make_room(1)?;
+        self.put(&[byte], 1);
+        Ok(())
+    }
+
+    /// Adds these bytes.
+    pub fn extend_from_slice(&mut self, bytes: &[u8]) -> Result<(), AllocError>
+        ensures ok { OnOk result (held self.new ≡ held self.old ++ bytes.now) }
+        ensures err { OnErr result (held self.new ≡ held self.old) }
+    {
+        self.make_room(bytes.len())?;
+        self.put(bytes, bytes.len());
+        Ok(())
+    }
+
+    // Sees that there is room for so many more.
+    #[inline(always)]
+    fn make_room(&mut self, more: usize) -> Result<(), AllocError>
+        ensures held { held self.new ≡ held self.old }
+        ensures room { OnOk result (self.new.len + more ≤ vec_len self.new.room) }
+    {
+        if self.room.len() - self.len < more {
+            return self.grow(more);
+        }
+        Ok(())
+    }
+
+    // Makes room for so many more, and for twice as many as there was room for.
+    #[inline(never)]
+    fn grow(&mut self, more: usize) -> Result<(), AllocError>
+        ensures held { held self.new ≡ held self.old }
+        ensures room { OnOk result (self.new.len + more ≤ vec_len self.new.room) }
+    {
+        let Some(least) = self.len.checked_add(more) else {
+            return Err(AllocError);
+        };
+        let size = max(least, self.room.len().saturating_mul(2));
+        self.room.resize(size, 0)
+    }
+
+    // Stores these bytes behind those that count, and counts the first of them.
+    #[inline(always)]
+    fn put(&mut self, bytes: &[u8], count: usize)
+        requires room { self.old.len + length bytes.now ≤ vec_len self.old.room }
+        requires within { count ≤ length bytes.now }
+        ensures held { held self.new ≡ held self.old ++ take count bytes.now }
+        ensures len { self.new.len ≡ self.old.len + count }
+        ensures room { vec_len self.new.room ≡ vec_len self.old.room }
+    {
+        let end = self.len + bytes.len();
+        self.room.as_mut_slice()[self.len..end].copy_from_slice(bytes);
+        self.len += count;
+    }
+}
+
+/// It holds its text exactly, and after a failure all that was written before it.
+impl Sink for ReplyBlock {
+    ghost use Rattle.iloc_lines.specs.ReplyBlock.{Added, added_nothing, added_both};
+
+    ghost took = { Added };
+
+    ghost failed = { λ a t _ b. Added a t b };
+
+    fn write_str(&mut self, text: &str) -> fmt::Result {
+        match self.extend_from_slice(text.as_bytes()) {
+            Ok(()) => Ok(()),
+            Err(_) => Err(fmt::Error),
+        }
+    }
+
+    #[inline(always)]
+    fn write_short_piece(&mut self, piece: ShortPiece, first: bool) -> fmt::Result {
+        if self.make_room(9).is_err() {
+            return Err(fmt::Error);
+        }
+        if !first {
+            self.put(b"-", 1);
+        }
+        self.put(&piece.to_bytes(), piece.len());
+        Ok(())
+    }
+
+    ghost took_nothing = { added_nothing };
+
+    ghost took_then_took = { added_both };
+
+    ghost took_then_failed = { λ a b c s t _ p q. added_both a b c s t p q };
+
+    ghost failed_of_more = { λ _ _ _ _ _ p. p };
+}
