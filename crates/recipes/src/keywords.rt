@@ -17,6 +17,11 @@ pub fn set(
     let value = Value::try_from_str(alloc, value)?;
     let keywords = &mut locale.extensions.unicode.keywords;
     let before = keywords.set(alloc, key, value)?;
+    say(locale, before.as_ref(), out)
+}
+
+/// Says the locale, and the value that its keyword had.
+fn say(locale: &Locale, before: Option<&Value>, out: &mut String) -> Result<(), ParseError> {
     match before {
         Some(before) => write!(out, "{locale}, before: {before}")?,
         None => write!(out, "{locale}, before: none")?,

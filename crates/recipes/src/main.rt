@@ -34,14 +34,19 @@ fn called(
     }
 }
 
-/// The answer to a line, or why its text is no locale.
-fn answer(alloc: Global, line: &str, out: &mut String) -> Result<(), ParseError> {
-    let words = line.split(' ').collect::<Vec<&str>>(alloc)?;
-    let [call, text, others @ ..] = words.as_slice() else {
+/// The answer to the words of a line, or why its text is no locale.
+fn answer_words(alloc: Global, words: &[&str], out: &mut String) -> Result<(), ParseError> {
+    let [call, text, others @ ..] = words else {
         return Ok(out.push_str("no such call")?);
     };
     let mut locale = Locale::try_from_str(alloc, text)?;
     called(alloc, call, &mut locale, others, out)
+}
+
+/// The answer to a line.
+fn answer(alloc: Global, line: &str, out: &mut String) -> Result<(), ParseError> {
+    let words = line.split(' ').collect::<Vec<&str>>(alloc)?;
+    answer_words(alloc, words.as_slice(), out)
 }
 
 fn main(rt: HostRuntime) -> anyhow::Result<()> {
