@@ -9,7 +9,7 @@ use Rattle.std.specs.FinMap.{put}
 use Rattle.std.proofs.lemmas.Bool.Decides.{nat_tests}
 use Rattle.iloc_grammar.specs.Words.{languages, is_word, PrivateSubtag}
 use Rattle.iloc_grammar.specs.Written as written
-use Rattle.iloc_grammar.specs.Written.{is_other_singleton, kept}
+use Rattle.iloc_grammar.specs.Written.{IsOther, is_other_singleton, kept}
 use Rattle.iloc_grammar.specs.Meaning.{Extensions, normal_values}
 use Rattle.iloc_grammar.specs.ByBlocks.{OtherMeans, BlocksMean}
 use Rattle.iloc_grammar.specs.Blocks.{is_one_byte, front, blocks}
@@ -56,15 +56,7 @@ short_unicode ps s (for_keywords (fifth_value h)) = no_many _ s.values h
 
 short_transform : (ps : List (List ℕ)) → IsShortTransform languages ps → transform.WantsMemory ps → ⊥
 short_transform ps s (transform.variants h) = let a = s.variants h.written h.rest h.front in let b = h.many in omega (arith, a, b)
-short_transform ps s (transform.fields {id = id} {middle = middle} f h) = let e = ap (λ (l : List (List ℕ)). length l) (s.no_fields id middle f) in omega (arith, e, h)
-
-passing_short : (test : List ℕ → Bool) (ps : List (List ℕ)) → length (passing test ps) ≤ length ps
-passing_short test [] = omega arith
-passing_short test (p ∷ ps) = let h = passing_short test ps in at (test p) h
-  where
-    at : (b : Bool) → length (passing test ps) ≤ length ps → length (cond b (p ∷ passing test ps) []) ≤ suc (length ps)
-    at true h = omega (arith, h)
-    at false h = omega (arith, h)
+short_transform ps s (transform.fields {id = id} {middle = middle} f h) = s.no_field id middle f h
 
 module _ {start : List (List ℕ)} {c : ℕ} {ps : List (List ℕ)} {M : Extensions} (a : BlockAt languages start c ps M) where
   pub unicode_goes : to_ascii_lowercase c ≡ 117 → (rest : List (List ℕ)) (u : Unicode) → UnicodeBlock ps rest (Ok u) → BlocksDone languages start rest (record M { unicode = unicode.value_of u })
@@ -95,7 +87,7 @@ module _ {start : List (List ℕ)} {c : ℕ} {ps : List (List ℕ)} {M : Extensi
   private_fails e rest more N InvalidSubtag h = absurd h
   private_fails e rest more N InvalidExtension (not_private n) = private_bad a e n
   private_fails e rest more N DuplicatedExtension h = absurd h
-  private_fails e rest more N OutOfMemory h = private_long a e (λ l. let k = passing_short (is_word PrivateSubtag) ps in omega (arith, l, k, h))
+  private_fails e rest more N OutOfMemory h = private_long a e (λ l. omega (arith, l, h))
 
   pub private_reads : to_ascii_lowercase c ≡ 120 → (rest ws : List (List ℕ)) (r : Result (Unit {0}) ParseError) → PrivateReads ps rest (result_and r (Ok ws)) → BlockReads start rest (record M { private = ws }) r
   private_reads e rest ws (Ok x) h = private_goes e rest ws h
@@ -112,10 +104,10 @@ module _ {start : List (List ℕ)} {c : ℕ} {ps : List (List ℕ)} {M : Extensi
   other_fails k rest more N InvalidSubtag h = absurd h
   other_fails k rest more N InvalidExtension h = other_bad a k h
   other_fails k rest more N DuplicatedExtension h = absurd h
-  other_fails k rest more N OutOfMemory h = other_long a k
+  other_fails k rest more N OutOfMemory h = other_long a k (λ s. let few = s.words in omega (arith, few, h))
 
-  pub other_full : is_other_singleton (to_ascii_lowercase c) ≡ true → (more : List (List ℕ)) (N : Extensions) (f : ParseError) → f ≡ OutOfMemory → BlockReads start more N (Err f)
-  other_full k more N f e = subst (λ (x : ParseError). BlockReads start more N (Err x)) (sym e) (other_long a k)
+  pub other_full : is_other_singleton (to_ascii_lowercase c) ≡ true → IsOther (front ps) → (more : List (List ℕ)) (N : Extensions) (f : ParseError) → f ≡ OutOfMemory → BlockReads start more N (Err f)
+  other_full k whole more N f e = subst (λ (x : ParseError). BlockReads start more N (Err x)) (sym e) (other_long a k (λ s. s.broken whole))
 
 -- the byte of a block, with its form in lower case
 
@@ -134,7 +126,7 @@ at_letter c ext e o = ap is_other_singleton e ∙ o
 pub other_inserted : {start : List (List ℕ)} {c : ℕ} {ps : List (List ℕ)} {M : Extensions} → BlockAt languages start c ps M → (ext : ℕ) → to_ascii_lowercase c ≡ ext → is_other_singleton ext ≡ true → (rest : List (List ℕ)) (o : ℕ × List (List ℕ)) (old os : List (ℕ × List (List ℕ))) (r : Result (Unit {0}) ParseError)
     → OtherBlock ext ps rest (Ok o) → M.others ≡ old → OnOk r (os ≡ put nat_cmp o.0 o.1 old) → IfErr r (λ f. f ≡ OutOfMemory) → BlockReads start rest (record M { others = os }) r
 other_inserted {c = c} {ps = ps} {M = M} a ext e k rest o old os (Ok x) h m g i = other_goes a (at_letter c ext e k) rest o os (subst (λ (q : ℕ). OtherBlock q ps rest (Ok o)) (sym e) h) (g ∙ ap (put nat_cmp o.0 o.1) (sym m))
-other_inserted {c = c} {M = M} a ext e k rest o old os (Err f) h m g i = other_full a (at_letter c ext e k) rest (record M { others = os }) f i
+other_inserted {c = c} {M = M} a ext e k rest o old os (Err f) h m g i = other_full a (at_letter c ext e k) h.1.0 rest (record M { others = os }) f i
 
 -- what is left is no longer
 

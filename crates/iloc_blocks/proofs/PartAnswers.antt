@@ -1,9 +1,10 @@
 -- What the block of each kind is read as, by cases on the whole answer.
-use Rattle.std.specs.Prelude.{◌≡◌, ℕ, List, Result, Ok, Err}
+use Rattle.std.specs.Prelude.{◌≡◌, ℕ, ◌<◌, List, length, Result, Ok, Err}
 use Rattle.iloc_grammar.specs.Words.{languages}
 use Rattle.iloc_grammar.specs.Written as written
 use Rattle.iloc_grammar.specs.Written.{IsOther, kept}
 use Rattle.iloc_grammar.specs.Blocks.{front}
+use Rattle.iloc_fronts.specs.Fronts.{other_front}
 use Rattle.iloc_grammar.specs.Reading.{from_block}
 use Rattle.iloc_grammar.specs.ByBlocks.{UnicodeMeans, TransformMeans, OtherMeans}
 use Rattle.iloc_grammar.specs.Faults.{RepeatsVariant}
@@ -33,11 +34,10 @@ TransformBlock ps rest (Err OutOfMemory) = transform.WantsMemory ps
 TransformBlock ps rest (Err InvalidLanguage) = ⊥
 TransformBlock ps rest (Err DuplicatedExtension) = ⊥
 
--- that of another singleton always may want memory
 abbrev pub OtherBlock : ℕ → List (List ℕ) → List (List ℕ) → Result (ℕ × List (List ℕ)) ParseError → Type 0
 OtherBlock ext ps rest (Ok o) = (o ≡ (ext, kept (front ps))) × OtherMeans (front ps) o.1 × (rest ≡ from_block ps)
 OtherBlock ext ps rest (Err InvalidExtension) = ¬ (IsOther (front ps))
-OtherBlock ext ps rest (Err OutOfMemory) = Unit {0}
+OtherBlock ext ps rest (Err OutOfMemory) = 4 < length (kept (other_front (front ps)))
 OtherBlock ext ps rest (Err InvalidLanguage) = ⊥
 OtherBlock ext ps rest (Err InvalidSubtag) = ⊥
 OtherBlock ext ps rest (Err DuplicatedExtension) = ⊥

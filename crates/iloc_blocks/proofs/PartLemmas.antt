@@ -1,5 +1,5 @@
 -- From what a part's reader takes at the front to what the block means.
-use Rattle.std.proofs.Common.{◌≡◌, ℕ, true, false, List, refl, Ok, Err}
+use Rattle.std.proofs.Common.{◌≡◌, ℕ, ◌<◌, true, false, List, length, refl, sym, subst, Ok, Err}
 use Rattle.iloc_grammar.specs.Words.{languages}
 use Rattle.iloc_grammar.specs.Written.{kept}
 use Rattle.iloc_grammar.specs.Blocks.{front}
@@ -8,6 +8,7 @@ use Rattle.iloc_grammar.specs.Faults as faults
 use Rattle.iloc_grammar.proofs.RawLaws.{languages_table}
 use Rattle.iloc_fronts.specs.Fronts.{repeats, unread}
 use Rattle.iloc_fronts.proofs.FrontLaws.{unicode_agrees, other_agrees}
+use Rattle.iloc_fronts.proofs.KeptLaws.{other_front-front}
 use Rattle.iloc_fronts.proofs.TransformLaws.{transform_agrees, repeats_by_block, transform_reader}
 use Rattle.iloc_subtags.specs.declared.parse_error.ParseError.{ParseError}
 use Rattle.iloc_subtags.specs.declared.parse_error.ParseError.TheVariants.{InvalidLanguage, InvalidSubtag, InvalidExtension, DuplicatedExtension, OutOfMemory}
@@ -50,7 +51,7 @@ other_refused ext ps rest more InvalidLanguage g = g
 other_refused ext ps rest more InvalidSubtag g = g
 other_refused ext ps rest more InvalidExtension g = λ h. other_agrees.refused ps faults.InvalidExtension (kept (front ps)) g (h, refl)
 other_refused ext ps rest more DuplicatedExtension g = g
-other_refused ext ps rest more OutOfMemory g = tt
+other_refused ext ps rest more OutOfMemory g = subst (λ (l : List (List ℕ)). 4 < length (kept l)) (sym (other_front-front ps)) g
 
 pub other_over : (ext : ℕ) (ps rest more : List (List ℕ)) (o : ℕ × List (List ℕ)) → OtherReads ext ps rest (Ok o) → starts_block rest ≡ false → OtherBlock ext ps more (Err InvalidExtension)
 other_over ext ps rest more o g s = λ h. other_agrees.left_over ps o.1 (kept (front ps)) rest g.1 s (h, refl)

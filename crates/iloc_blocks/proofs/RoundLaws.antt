@@ -12,9 +12,10 @@ use Rattle.iloc_grammar.specs.Blocks.{front, blocks}
 use Rattle.iloc_grammar.specs.Reading.{starts_block, from_block}
 use Rattle.iloc_grammar.specs.Faults.{Fault, InvalidSubtag, InvalidExtension, DuplicatedExtension, IsBlock, RepeatsVariant, BlockFault, no_singleton, duplicated, repeats_variant, breaks_rule, FirstBadBlock, here, later}
 use Rattle.iloc_grammar.proofs.ReadingLaws.{front-from_block, from_block_starts}
+use Rattle.iloc_fronts.specs.Fronts.{private_front}
 use Rattle.iloc_fronts.proofs.BlockRules.{unicode_rule, transform_rule, private_rule, other_rule}
 use Rattle.iloc_small.specs.InlineBlocks as long
-use Rattle.iloc_small.specs.InlineBlocks.{IsShortUnicode, IsShortTransform, IsShortBlock, ReachesLongBlock}
+use Rattle.iloc_small.specs.InlineBlocks.{IsShortUnicode, IsShortTransform, IsShortOther, IsShortBlock, ReachesLongBlock}
 use Rattle.iloc_blocks.specs.Blocks.{BlocksDone, BlockAt, onto, is_read}
 use Rattle.iloc_blocks.proofs.ArmLaws.{read_is_known}
 use Rattle.iloc_blocks.proofs.StepLaws.{unicode_added, transform_added, private_added, other_added}
@@ -121,8 +122,8 @@ module _ {T : ℕ → Bool} {start : List (List ℕ)} {c : ℕ} {ps : List (List
     pub other_bad : is_other_singleton (to_ascii_lowercase c) ≡ true → ¬ (IsOther (front ps)) → FirstBadBlock T [] (blocks start) InvalidExtension
     other_bad o n = breaks (front ps) (blocks (from_block ps)) (block_until c ps (no_x (to_ascii_lowercase c) o)) (λ h. no_t (to_ascii_lowercase c) h.0 o) (λ r. n ((other_rule T (c, front ps) o).0 r))
 
-    pub other_long : is_other_singleton (to_ascii_lowercase c) ≡ true → ReachesLongBlock T [] (blocks start)
-    other_long o = long_here (front ps) (blocks (from_block ps)) (block_until c ps (no_x (to_ascii_lowercase c) o)) (λ s. s.no_other o)
+    pub other_long : is_other_singleton (to_ascii_lowercase c) ≡ true → ¬ (IsShortOther (front ps)) → ReachesLongBlock T [] (blocks start)
+    other_long o n = long_here (front ps) (blocks (from_block ps)) (block_until c ps (no_x (to_ascii_lowercase c) o)) (λ s. n (s.other o))
 
     -- after `x`
 
@@ -132,5 +133,5 @@ module _ {T : ℕ → Bool} {start : List (List ℕ)} {c : ℕ} {ps : List (List
     pub private_bad : to_ascii_lowercase c ≡ 120 → ¬ (IsPrivate ps) → FirstBadBlock T [] (blocks start) InvalidExtension
     private_bad e n = breaks ps [] (block_of_x c ps e) (λ h. apart (to_ascii_lowercase c) 120 116 e h.0 refl) (λ r. n ((private_rule T (c, ps) e).0 r))
 
-    pub private_long : to_ascii_lowercase c ≡ 120 → ¬ (length ps ≤ 4) → ReachesLongBlock T [] (blocks start)
+    pub private_long : to_ascii_lowercase c ≡ 120 → ¬ (length (private_front ps) ≤ 4) → ReachesLongBlock T [] (blocks start)
     private_long e n = long_here ps [] (block_of_x c ps e) (λ s. n (s.private e))

@@ -2,12 +2,8 @@
 use Rattle.std.specs.Prelude.{ℕ, List, ◌∷◌, ◌++◌, option_to_list, Result}
 use Rattle.iloc_grammar.specs.Words.{languages}
 use Rattle.iloc_regions.specs.DataLocales as parts
-<<<<<<< HEAD
-use Rattle.iloc_regions.specs.DataLocales.{DataMeans, HasDataFault, made_of, subdivision_pieces, subdivision_keyword}
-=======
 use Rattle.iloc_regions.specs.DataLocales.{DataMeans, HasDataFault, made_of, subdivision_keyword}
 use Rattle.iloc_regions.specs.DataLocales.{subdivision_pieces}
->>>>>>> 13d35d92afa5739013f401a12b608a18d67a2ae9
 use Rattle.iloc_subtags.specs.declared.parse_error.ParseError.{ParseError}
 use Rattle.iloc_subtags.specs.Answers.{Answers, ButDuplicate}
 use Rattle.iloc_data_parts.specs.declared.parts.DataParts.{DataParts}
@@ -18,14 +14,10 @@ value_of p = made_of p.language p.script p.part p.variant
 
 -- the pieces of a data locale's text
 abbrev pub data_pieces : parts.DataLocale → List (List ℕ)
-<<<<<<< HEAD
-data_pieces d = d.language ∷ (option_to_list d.script ++ (option_to_list d.region ++ (option_to_list d.variant ++ subdivision_pieces (subdivision_keyword d))))
-=======
 data_pieces d = d.language
     ∷ (option_to_list d.script
     ++ (option_to_list d.region
     ++ (option_to_list d.variant ++ subdivision_pieces (subdivision_keyword d))))
->>>>>>> 13d35d92afa5739013f401a12b608a18d67a2ae9
 
 -- what a text is read as, by cases on the whole answer; it takes no memory
 abbrev pub PartsReadAs : List ℕ → Result DataParts ParseError → Type 0

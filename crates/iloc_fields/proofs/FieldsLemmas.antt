@@ -8,7 +8,8 @@ use Rattle.iloc_grammar.specs.Written.{Fields, fields_pieces, IsField}
 use Rattle.iloc_grammar.specs.Meaning.{map_of, normal_fields, normal_values}
 use Rattle.iloc_grammar.specs.Reading.{take_first, skip_first, passing, past, before_key, fields_from}
 use Rattle.iloc_grammar.proofs.MapLaws.{word_cmp_total, same_words}
-use Rattle.iloc_fronts.specs.Fronts.{is_field_piece, fields_front, after_fields}
+use Rattle.iloc_fronts.specs.Fronts.{is_field_piece, fields_front, after_fields, BeginsField}
+use Rattle.iloc_fronts.proofs.KeptLaws.{begins_field}
 use Rattle.iloc_grammar.specs.Computing.{is_field}
 use Rattle.iloc_fronts.specs.Computing.{fields_at}
 use Rattle.iloc_litemap.proofs.Maps.{map_of_more}
@@ -118,11 +119,24 @@ front_at before now m k h e =
     (t.0, t.1, h.taken, h.front ∙ ap (λ l. fields_pieces h.taken ++ l) (ap fields_front t.3 ∙ (key_goes_on t.0 (skip_first is_key now) t.1).0))
 
 -- memory is wanted for a field
-pub wants_memory : (before now : List (List ℕ)) (m : Fields) (k : List ℕ) → TakingFields before now m → Some k ≡ option_map lower (take_first is_key now) → 0 < length (fields_front before)
-wants_memory before now m k h e =
-    let f = front_at before now m k h e in
-    let n : length (fields_front before) ≡ length (fields_pieces f.2) + suc (length (passing is_field_piece (skip_first is_key now))) = ap length f.3 ∙ length-append (fields_pieces f.2) _ in
-    omega (arith, n)
+
+begins : (ps : List (List ℕ)) (k : List ℕ) (vs more : List (List ℕ)) → fields_front ps ≡ (k ∷ vs) ++ more → IsWord TransformKey k → AllByRecursion (IsWord Attribute) vs → 0 < length vs → BeginsField ps
+begins ps k [] more e key all some = absurd (omega (arith, some))
+begins ps k (v ∷ vs) more e key all some = begins_field ps k v (vs ++ more) e key all.0
+
+pub wants_memory : (before now : List (List ℕ)) (m : Fields) (k : List ℕ) (qs : List (List ℕ)) → TakingFields before now m → Some k ≡ option_map lower (take_first is_key now) → qs ≡ skip_first is_key now → 0 < length (values_front qs) → BeginsField before
+wants_memory before now m k qs h e s some = at h.taken h.fields h.front
+  where
+    at : (fs : Fields) → AllByRecursion IsField fs → fields_front before ≡ fields_pieces fs ++ fields_front now → BeginsField before
+    at [] g front =
+        let t = took TransformKey now k e in
+        let first : now ≡ t.0 ∷ qs = t.3 ∙ ap (λ l. t.0 ∷ l) (sym s) in
+        begins before t.0 (values_front qs) (fields_front (past (is_word Attribute) qs)) (front ∙ ap fields_front first ∙ (key_goes_on t.0 qs t.1).0 ∙ ap (λ l. t.0 ∷ l) (after_values qs).0) t.1 (values_are qs) some
+    at (f ∷ fs) g front = begins before f.0 f.1 (fields_pieces fs ++ fields_front now) (front ∙ append_assoc (f.0 ∷ f.1) (fields_pieces fs) (fields_front now)) g.0.0 g.0.1 g.0.2
+
+some_values : (vs : List (List ℕ)) → 4 < length (normal_values vs) → 0 < length vs
+some_values [] h = absurd (omega (arith, h))
+some_values (v ∷ vs) h = omega arith
 
 -- a key without a value
 
@@ -165,7 +179,7 @@ lacks_value before now m k qs h e s n =
 -- what the reader of a value refuses, the reader of fields does
 pub refuses : (before now : List (List ℕ)) (m : Fields) (k : List ℕ) (qs rest left : List (List ℕ)) (f : ParseError) → TakingFields before now m → Some k ≡ option_map lower (take_first is_key now) → qs ≡ skip_first is_key now → ValueFrontReads qs rest (Err f) → FieldsFrontRead before left (Err f)
 refuses before now m k qs rest left InvalidExtension h e s r = lacks_value before now m k qs h e s r
-refuses before now m k qs rest left OutOfMemory h e s r = wants_memory before now m k h e
+refuses before now m k qs rest left OutOfMemory h e s r = wants_memory before now m k qs h e s (some_values (values_front qs) r)
 refuses before now m k qs rest left InvalidLanguage h e s r = r
 refuses before now m k qs rest left InvalidSubtag h e s r = r
 refuses before now m k qs rest left DuplicatedExtension h e s r = r

@@ -1,11 +1,11 @@
 -- What the reader of fields answers.
-use Rattle.std.specs.Prelude.{◌≡◌, ℕ, ◌<◌, false, List, length, Result}
+use Rattle.std.specs.Prelude.{◌≡◌, ℕ, false, List, Result}
 use Rattle.std.specs.List.{AllByRecursion, list_all}
 use Rattle.iloc_grammar.specs.Words.{TransformKey}
 use Rattle.iloc_grammar.specs.Written.{Fields, fields_pieces, IsField}
 use Rattle.iloc_grammar.specs.Meaning.{normal_fields}
 use Rattle.iloc_grammar.specs.Values.{IsNormal}
-use Rattle.iloc_fronts.specs.Fronts.{fields_front, after_fields}
+use Rattle.iloc_fronts.specs.Fronts.{fields_front, after_fields, BeginsField}
 use Rattle.iloc_grammar.specs.Computing.{is_field}
 use Rattle.iloc_fronts.specs.Computing.{fields_at}
 use Rattle.iloc_subtags.specs.declared.parse_error.ParseError.{ParseError}
@@ -24,7 +24,7 @@ pub record FieldsRead (ps : List (List ℕ)) (m : Fields) (rest : List (List ℕ
   pub means : m ≡ normal_fields written
   pub left : rest ≡ after_fields ps
 
--- What the pieces at the front are read as, and the pieces that are left. A field wants memory.
+-- What the pieces at the front are read as, and the pieces that are left. The first field wants memory.
 abbrev pub FieldsFrontRead : List (List ℕ) → List (List ℕ) → Result Fields ParseError → Type 0
 FieldsFrontRead ps rest = Answers (λ m. FieldsRead ps m rest)
-    (ExtensionFault (list_all is_field (fields_at ps) ≡ false)) (0 < length (fields_front ps))
+    (ExtensionFault (list_all is_field (fields_at ps) ≡ false)) (BeginsField ps)

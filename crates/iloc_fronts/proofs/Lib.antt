@@ -8,3 +8,4 @@ pub mod ExtendingLaws
 pub mod BlockRules
 pub mod PartAnswers
 pub mod ReaderBlocks
+pub mod KeptLaws

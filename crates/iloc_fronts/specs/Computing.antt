@@ -1,8 +1,8 @@
 -- A plain program for each reader of a front: the value and what is left, or the fault.
-use Rattle.std.specs.Prelude.{◌+◌, ◌&&◌, ◌||◌, nat_lt, List, [], length, map, if◌then◌else◌, Option, Some, None, is_some, Result, Ok, Err}
+use Rattle.std.specs.Prelude.{◌+◌, ◌&&◌, ◌||◌, nat_lt, List, [], ◌∷◌, length, map, if◌then◌else◌, Option, Some, None, is_some, Result, Ok, Err}
 use Rattle.std.specs.List.{list_all, list_any}
 use Rattle.iloc_grammar.specs.Shapes.{Text, Table}
-use Rattle.iloc_grammar.specs.Words.{Language, TransformKey, is_word, lower, word_cmp}
+use Rattle.iloc_grammar.specs.Words.{Language, UnicodeKey, TransformKey, is_word, lower, word_cmp}
 use Rattle.iloc_grammar.specs.Written.{Identifier, Fields, Unicode, Transform, kept}
 use Rattle.iloc_grammar.specs.Meaning.{normal_fields, normal_transform}
 use Rattle.iloc_grammar.specs.Faults.{Fault, InvalidSubtag, InvalidExtension}
@@ -15,6 +15,14 @@ use Rattle.iloc_fronts.specs.Fronts.{is_bad_key, keywords_front, after_keywords,
 
 abbrev pub keywords_at : List Text → Fields
 keywords_at ps = fields_from is_two (keywords_front ps)
+
+-- the keywords before the first one whose key is none: a reader keeps these, and no more
+abbrev pub before_bad_key : Fields → Fields
+before_bad_key [] = []
+before_bad_key (f ∷ fs) = if is_word UnicodeKey f.0 then f ∷ before_bad_key fs else []
+
+abbrev pub keywords_kept : List Text → Fields
+keywords_kept ps = before_bad_key (keywords_at ps)
 
 abbrev pub fields_at : List Text → Fields
 fields_at ps = fields_from (is_word TransformKey) (fields_front ps)

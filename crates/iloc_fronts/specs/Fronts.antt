@@ -6,10 +6,10 @@ use Rattle.std.specs.Prelude.{◌≡◌, ◌+◌, ◌<◌, Bool, true, false, no
 use Rattle.std.specs.Int.{is_in_range}
 use Rattle.std.specs.List.{AllByRecursion, list_any}
 use Rattle.iloc_grammar.specs.Shapes.{Text, Table}
-use Rattle.iloc_grammar.specs.Words.{Language, UnicodeKey, TransformKey, Attribute, is_word, lower}
+use Rattle.iloc_grammar.specs.Words.{Language, UnicodeKey, TransformKey, Attribute, PrivateSubtag, is_word, IsWord, lower}
 use Rattle.iloc_grammar.specs.Written.{Identifier, Fields, Unicode, Transform, fields_pieces, IsKeyword, IsField, IsOther, IsPrivate, IsIdentifier, kept}
 use Rattle.iloc_grammar.specs.Meaning.{set_of, normal_fields, normal_transform}
-use Rattle.iloc_grammar.specs.Reading.{passing, past, is_two, IdentifierFront}
+use Rattle.iloc_grammar.specs.Reading.{passing, past, is_two, rest_of, IdentifierFront}
 use Rattle.iloc_grammar.specs.Faults.{Fault, InvalidSubtag, InvalidExtension, RepeatsVariant}
 use Rattle.iloc_grammar.specs.Blocks.{first_piece}
 
@@ -90,6 +90,10 @@ fields_front ps = passing_from (is_word TransformKey) is_field_piece ps
 abbrev pub after_fields : List Text → List Text
 after_fields ps = past_from (is_word TransformKey) is_field_piece ps
 
+-- a key is first, and a value is after it: one field at least
+abbrev pub BeginsField : List Text → Type 0
+BeginsField ps = IsWord TransformKey (first_piece ps) × IsWord Attribute (first_piece (rest_of ps))
+
 -- an identifier and fields, one after the other, not both absent
 pub record TransformRead (T : Table) (ps : List Text) (m : Transform) (rest : List Text) : Type 0 where
   pub written : Transform
@@ -125,6 +129,9 @@ pub data OtherFault (ps : List Text) : Fault → Type 0 where
   no_word : ¬ (IsOther (other_front ps)) → OtherFault ps InvalidExtension
 
 -- After `x`: all the rest, which is private words.
+
+abbrev pub private_front : List Text → List Text
+private_front ps = passing (is_word PrivateSubtag) ps
 
 pub record PrivateRead (ps ws rest : List Text) : Type 0 where
   pub follows : IsPrivate ps

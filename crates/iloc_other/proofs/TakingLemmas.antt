@@ -4,8 +4,7 @@ use Rattle.std.specs.List.{AllByRecursion}
 use Rattle.std.proofs.lemmas.List.{length-map, length_push}
 use Rattle.iloc_grammar.specs.Words.{PrivateSubtag, is_word, IsWord, lower}
 use Rattle.iloc_grammar.specs.Faults as faults
-use Rattle.iloc_fronts.specs.Fronts.{PrivateRead, PrivateFault, not_private}
-use Rattle.iloc_other.specs.Reading.{private_words}
+use Rattle.iloc_fronts.specs.Fronts.{PrivateRead, PrivateFault, not_private, private_front}
 
 abbrev AllWords : List (List ℕ) → Type 0
 AllWords ps = AllByRecursion (IsWord PrivateSubtag) ps
@@ -14,15 +13,15 @@ AllWords ps = AllByRecursion (IsWord PrivateSubtag) ps
 pub record TakingWords (before now ws : List (List ℕ)) : Type 0 where
   pub words : AllWords before ↔ AllWords now
   pub means : ws ++ map lower now ≡ map lower before
-  pub front : length ws + length (private_words now) ≡ length (private_words before)
+  pub front : length ws + length (private_front now) ≡ length (private_front before)
 
 pub takes_nothing : (ps : List (List ℕ)) → TakingWords ps ps []
 takes_nothing ps = record { words = (λ h. h, λ h. h); means = refl; front = omega arith }
 
 module _ (before now ws : List (List ℕ)) (t : TakingWords before now ws) where
   module _ (p : List ℕ) (more : List (List ℕ)) (e : now ≡ p ∷ more) where
-    word_first : IsWord PrivateSubtag p → length (private_words now) ≡ suc (length (private_words more))
-    word_first w = ap (λ l. length (private_words l)) e ∙ ap (λ b. length (cond b (p ∷ private_words more) [])) w
+    word_first : IsWord PrivateSubtag p → length (private_front now) ≡ suc (length (private_front more))
+    word_first w = ap (λ l. length (private_front l)) e ∙ ap (λ b. length (cond b (p ∷ private_front more) [])) w
 
     pub takes_word : (vs : List (List ℕ)) → IsWord PrivateSubtag p → vs ≡ ws ++ lower p ∷ [] → TakingWords before more vs
     takes_word vs w v = record {
@@ -36,7 +35,7 @@ module _ (before now ws : List (List ℕ)) (t : TakingWords before now ws) where
     refuses_piece w = not_private (λ i. true≢false (sym (subst AllWords e (t.words.0 i.words)).0 ∙ w))
 
     -- a fifth word
-    pub wants_memory : IsWord PrivateSubtag p → (length ws < 4 → ⊥) → 4 < length (private_words before)
+    pub wants_memory : IsWord PrivateSubtag p → (length ws < 4 → ⊥) → 4 < length (private_front before)
     wants_memory w n = omega (arith, word_first w, t.front, n)
 
   -- at the end

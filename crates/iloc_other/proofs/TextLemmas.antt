@@ -9,7 +9,8 @@ use Rattle.iloc_fronts.specs.Fronts.{OtherRead, OtherFault, PrivateRead, Private
 use Rattle.iloc_fronts.specs.Parts.{PartRead, is_letter, OtherTextFault, PrivateTextFault}
 use Rattle.iloc_subtags.specs.declared.parse_error.ParseError.{ParseError}
 use Rattle.iloc_subtags.specs.declared.parse_error.ParseError.TheVariants.{InvalidLanguage, InvalidSubtag, InvalidExtension, DuplicatedExtension, OutOfMemory}
-use Rattle.iloc_other.specs.Reading.{private_words, PrivateReads, PrivateTextReads, OtherReads, OtherTextReads}
+use Rattle.iloc_fronts.specs.Fronts.{private_front}
+use Rattle.iloc_other.specs.Reading.{PrivateReads, PrivateTextReads, OtherReads, OtherTextReads}
 use Rattle.iloc_other.specs.Singleton.{singleton_at}
 use Rattle.iloc_other.proofs.SingletonLemmas.{begins, part_reads, part_fault, part_other, part_none}
 
@@ -33,7 +34,7 @@ module _ (t : List ℕ) where
     pub private_text : c ≡ 120 → (r : Result (List (List ℕ)) ParseError) → PrivateReads more rest r → PrivateTextReads t r
     private_text x (Ok ws) h = (rest, part_reads (is_letter 120) (pieces t) PrivateRead 120 ws rest (ap (λ d. Some d) (sym x) ∙ found) refl (subst (λ l. PrivateRead l ws rest) after h))
     private_text x (Err InvalidExtension) h = part_fault (is_letter 120) (pieces t) PrivateFault 120 faults.InvalidExtension (ap (λ d. Some d) (sym x) ∙ found) refl (subst (λ l. PrivateFault l faults.InvalidExtension) after h)
-    private_text x (Err OutOfMemory) h = (begins (is_letter 120) (pieces t) 120 (ap (λ d. Some d) (sym x) ∙ found), subst (λ l. 4 < length (private_words l)) after h)
+    private_text x (Err OutOfMemory) h = (begins (is_letter 120) (pieces t) 120 (ap (λ d. Some d) (sym x) ∙ found), subst (λ l. 4 < length (private_front l)) after h)
     private_text x (Err InvalidLanguage) h = h
     private_text x (Err InvalidSubtag) h = h
     private_text x (Err DuplicatedExtension) h = h

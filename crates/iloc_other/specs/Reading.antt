@@ -1,30 +1,25 @@
 -- What the readers of the private extension and of other extensions answer.
 use Rattle.std.specs.Prelude.{◌≡◌, ℕ, ◌<◌, true, List, length, Result}
 use Rattle.iloc_grammar.specs.Pieces.{pieces}
-use Rattle.iloc_grammar.specs.Words.{PrivateSubtag, is_word}
 use Rattle.iloc_grammar.specs.Written.{kept, is_other_singleton}
 use Rattle.iloc_grammar.specs.Faults as faults
-use Rattle.iloc_grammar.specs.Reading.{passing, rest_of}
-use Rattle.iloc_fronts.specs.Fronts.{OtherRead, OtherFault, PrivateRead, PrivateFault, other_front}
+use Rattle.iloc_grammar.specs.Reading.{rest_of}
+use Rattle.iloc_fronts.specs.Fronts.{OtherRead, OtherFault, PrivateRead, PrivateFault, other_front, private_front}
 use Rattle.iloc_fronts.specs.Parts.{begins_part, is_letter, OtherText, OtherTextFault, PrivateText, PrivateTextFault}
 use Rattle.iloc_subtags.specs.declared.parse_error.ParseError.{ParseError}
 use Rattle.iloc_subtags.specs.Answers.{Answers, ExtensionFault}
-
--- the private words at the front
-abbrev pub private_words : List (List ℕ) → List (List ℕ)
-private_words ps = passing (is_word PrivateSubtag) ps
 
 -- What the pieces after `x` are read as, and the pieces that are left. Memory is wanted only for a fifth word.
 abbrev pub PrivateReads : List (List ℕ) → List (List ℕ) → Result (List (List ℕ)) ParseError → Type 0
 PrivateReads ps rest = Answers (λ ws. PrivateRead ps ws rest)
     (ExtensionFault (PrivateFault ps faults.InvalidExtension))
-    (4 < length (private_words ps))
+    (4 < length (private_front ps))
 
 -- What a text is read as. Memory is wanted only after `x` (120), the letter of such an extension.
 abbrev pub PrivateTextReads : List ℕ → Result (List (List ℕ)) ParseError → Type 0
 PrivateTextReads t = Answers (PrivateText t)
     (ExtensionFault (PrivateTextFault t faults.InvalidExtension))
-    ((begins_part (is_letter 120) (pieces t) ≡ true) × (4 < length (private_words (rest_of (pieces t)))))
+    ((begins_part (is_letter 120) (pieces t) ≡ true) × (4 < length (private_front (rest_of (pieces t)))))
 
 -- What the pieces after the singleton ext are read as, and the pieces that are left. Memory is wanted only for a fifth word.
 abbrev pub OtherReads : ℕ → List (List ℕ) → List (List ℕ) → Result (ℕ × List (List ℕ)) ParseError → Type 0

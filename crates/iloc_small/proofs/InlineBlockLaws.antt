@@ -8,19 +8,21 @@ use Rattle.std.specs.FinMap.{find}
 use Rattle.std.proofs.lemmas.Bool.{or_parts}
 use Rattle.std.proofs.lemmas.List.{length-map}
 use Rattle.iloc_grammar.specs.Pieces.{pieces}
-use Rattle.iloc_grammar.specs.Words.{IsTable, lower, word_cmp}
+use Rattle.iloc_grammar.specs.Words.{IsTable, PrivateSubtag, is_word, lower, word_cmp}
 use Rattle.iloc_grammar.specs.Written.{Identifier, Fields, Unicode, Transform, Extension, unicode, transform, other, identifier_pieces, fields_pieces, unicode_pieces, transform_pieces, extension_block, blocks_of, IsIdentifier, IsUnicode, IsTransform, IsExtension, IsPrivate, AllDifferent, singleton}
 use Rattle.iloc_grammar.specs.Meaning.{map_of, set_of, normal_identifier, normal_fields, normal_values, normal_unicode, normal_transform, by_singleton, unicode_part, transform_part, private_part, other_part}
 use Rattle.iloc_grammar.specs.Faults.{head, tail_blocks}
-use Rattle.iloc_grammar.specs.Reading.{starts_block, IdentifierFront}
+use Rattle.iloc_grammar.specs.Reading.{passing, starts_block, IdentifierFront}
 use Rattle.iloc_grammar.proofs.IdentifierLaws.{one_identifier}
 use Rattle.iloc_grammar.proofs.MapLaws.{word_cmp_total, find-map_of}
 use Rattle.iloc_grammar.proofs.ReadBack.{all_append}
 use Rattle.iloc_grammar.proofs.Readings.{head-spelling, blocks-spelling}
 use Rattle.iloc_grammar.proofs.SetLaws.{length-set_of-different}
 use Rattle.iloc_small.specs.Inline.{IsInline, HasFewValues}
-use Rattle.iloc_fronts.specs.Fronts.{FrontRead, absent, present, fields_front}
+use Rattle.iloc_fronts.specs.Fronts.{FrontRead, absent, present, fields_front, BeginsField}
 use Rattle.iloc_fronts.proofs.FrontLaws.{unicode_taken, keywords_taken}
+use Rattle.iloc_fronts.specs.Computing.{before_bad_key}
+use Rattle.iloc_fronts.proofs.KeptLaws.{kept_all, passing_short, some_fields}
 use Rattle.iloc_fronts.proofs.TransformLaws.{one_front, one_longest, front_language, transform_spelled}
 use Rattle.iloc_small.specs.InlineBlocks.{IsShortUnicode, IsShortTransform, IsShortBlock, IsInlineByBlocks, ReachesLongBlock, here, later}
 use Rattle.iloc_grammar.proofs.Singletons.{self_tied, tied_back, no_u, no_t, no_x}
@@ -65,7 +67,7 @@ no_others ((c, other ps) ∷ es) h = absurd (cc)
 short_unicode : (u : Unicode) → IsUnicode u → length (normal_unicode u).attributes ≤ 4 → length (normal_unicode u).keywords ≤ 1 → AllByRecursion (λ f. length (normal_values f.1) ≤ 4) u.keywords → (rest : List (List ℕ)) → starts_block rest ≡ true → IsShortUnicode (unicode_pieces u ++ rest)
 short_unicode u g a k v rest s =
     let taken = unicode_taken u rest g s in
-    let keys = keywords_taken u rest g s in
+    let keys = ap before_bad_key (keywords_taken u rest g s) ∙ kept_all u.keywords g.keywords in
     record {
       attributes = subst (λ (l : List (List ℕ)). length (set_of (map lower l)) ≤ 4) (sym taken.attributes) a;
       keys = subst (λ (fs : Fields). length (normal_fields fs) ≤ 1) (sym keys) k;
@@ -89,7 +91,7 @@ short_transform {T = T} m g v n rest s =
     let fields : r.written.fields ≡ [] = no_normal_fields r.written.fields (sym (ap (λ (k : Transform). k.fields) r.means) ∙ n) in
     record {
       variants = front_few (transform_pieces m ++ rest) r.id (subst (λ (o : Option Identifier). IfSome o (λ i. length i.variants ≤ 4)) (ap (λ (k : Transform). k.id) r.means) v);
-      no_fields = λ o middle f. ap fields_front (one_front (transform_pieces m ++ rest) f r.id).1 ∙ r.spelled ∙ ap fields_pieces fields;
+      no_field = λ o middle f begins. some_fields middle begins (ap fields_front (one_front (transform_pieces m ++ rest) f r.id).1 ∙ r.spelled ∙ ap fields_pieces fields);
     }
 
 -- the blocks
@@ -102,7 +104,7 @@ module _ (T : ℕ → Bool) (t : List ℕ) (h : IsInline T t) where
         unicode = λ s. short_unicode u g.1 (subst (λ (v : Unicode). length v.attributes ≤ 4) part h.attributes) (subst (λ (v : Unicode). length v.keywords ≤ 1) part h.keywords) few;
         transform = λ s. absurd (omega arith);
         private = λ s. absurd (omega arith);
-        no_other = no_u _ g.0;
+        other = λ o. absurd (no_u _ g.0 o);
       }
   short_extension c (transform m) g found few n =
       let part : transform_part (find nat_cmp 116 (by_singleton h.written.extensions)) ≡ normal_transform m = ap (λ q. transform_part (find nat_cmp q (by_singleton h.written.extensions))) (sym g.0) ∙ ap transform_part found in
@@ -110,7 +112,7 @@ module _ (T : ℕ → Bool) (t : List ℕ) (h : IsInline T t) where
         unicode = λ s. absurd (omega arith);
         transform = λ s. short_transform m g.1 (subst (λ (v : Transform). IfSome v.id (λ i. length i.variants ≤ 4)) part h.transform_variants) (subst (λ (v : Transform). v.fields ≡ []) part h.no_fields);
         private = λ s. absurd (omega arith);
-        no_other = no_t _ g.0;
+        other = λ o. absurd (no_t _ g.0 o);
       }
   short_extension c (other ps) g found few n = absurd (cc)
 
@@ -124,11 +126,14 @@ module _ (T : ℕ → Bool) (t : List ℕ) (h : IsInline T t) where
     record {
       unicode = λ s. absurd (omega arith);
       transform = λ s. absurd (omega arith);
-      private = λ s. subst (λ (n : ℕ). n ≤ 4) (length-map b.1 lower) k;
-      no_other = no_x _ p.0;
+      private = λ s. few b.1 (subst (λ (n : ℕ). n ≤ 4) (length-map b.1 lower) k);
+      other = λ o. absurd (no_x _ p.0 o);
     },
     tt,
   )
+    where
+      few : (ps : List (List ℕ)) → length ps ≤ 4 → length (passing (is_word PrivateSubtag) ps) ≤ 4
+      few ps k = omega (arith, k, passing_short (is_word PrivateSubtag) ps)
 
   all_blocks : AllByRecursion (IsShortBlock T) (blocks_of h.written)
   all_blocks =

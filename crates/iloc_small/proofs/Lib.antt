@@ -3,3 +3,4 @@ pub mod SmallBack
 pub mod InlineLaws
 pub mod WiderSmall
 pub mod InlineBlockLaws
+pub mod BrokenBlocks

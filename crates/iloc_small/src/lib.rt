@@ -5,10 +5,14 @@
 //! its blocks, so that no reader of a part needs memory. It stands on `iloc_grammar` and `iloc_fronts`.
 #![tactic(auto)]
 
-ghost use Rattle.std.specs.Prelude.{◌≡◌, ◌↔◌, ◌⊎◌, ℕ, true, false, List, Ok, Err, MatchResult, codes};
+ghost use Rattle.std.specs.Prelude.{◌≡◌, ◌↔◌, ◌⊎◌, ℕ, true, false, List, [], Ok, Err, MatchResult, codes};
 ghost use Rattle.iloc_grammar.specs.Shapes.{Text, Table, Block};
 ghost use Rattle.iloc_grammar.specs.Pieces.{pieces};
-ghost use Rattle.iloc_grammar.specs.Words.{IsTable, languages};
+ghost use Rattle.iloc_grammar.specs.Words.{TransformKey, Attribute, is_word, IsWord, IsTable, languages};
+ghost use Rattle.iloc_grammar.specs.Written.{kept, singleton, is_other_singleton};
+ghost use Rattle.iloc_grammar.specs.Blocks.{first_piece};
+ghost use Rattle.iloc_grammar.specs.Reading.{rest_of};
+ghost use Rattle.iloc_fronts.specs.Fronts.{is_bad_key, other_front};
 ghost use Rattle.iloc_grammar.specs.Meaning.{Locale, Means, IdentifierMeans};
 ghost use Rattle.iloc_grammar.specs.Values.{text};
 ghost use Rattle.iloc_grammar.specs.Faults.{Fault, InvalidLanguage, InvalidSubtag, InvalidExtension};
@@ -120,4 +124,15 @@ pub fn by_blocks()
 pub fn short_blocks()
     ensures { (T : Table) (seen : List ℕ) (bs : List Block)
         → ReachesLongBlock T seen bs → ¬ (AllByRecursion (IsShortBlock T) bs) }
+{}
+
+/// A block that breaks its rule before anything is kept of it is short: so `en-u-a8`, `en-t-m0` and `en-a-!!` are refused without memory.
+pub fn broken_blocks()
+    ensures unicode { (T : Table) (b : Block) → singleton b ≡ 117
+        → is_bad_key (first_piece b.1) ≡ true → IsShortBlock T b }
+    ensures transform { (T : Table) (b : Block) → singleton b ≡ 116
+        → IsWord TransformKey (first_piece b.1)
+        → is_word Attribute (first_piece (rest_of b.1)) ≡ false → IsShortBlock T b }
+    ensures other { (T : Table) (b : Block) → is_other_singleton (singleton b) ≡ true
+        → kept (other_front b.1) ≡ [] → IsShortBlock T b }
 {}

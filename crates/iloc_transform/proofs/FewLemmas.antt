@@ -13,6 +13,7 @@ use Rattle.iloc_grammar.proofs.RawLaws.{languages_table}
 use Rattle.iloc_grammar.proofs.SetLaws.{length-set_of-different}
 use Rattle.iloc_fronts.specs.Fronts.{FrontRead, absent, present, fields_front, TransformRead}
 use Rattle.iloc_fronts.proofs.TransformLaws.{one_front, transform_agrees}
+use Rattle.iloc_fronts.proofs.KeptLaws.{some_fields}
 use Rattle.iloc_transform.specs.LangReading.{HasFiveVariants}
 use Rattle.iloc_transform.specs.TransformReading.{WantsMemory, variants, fields}
 use Rattle.iloc_transform.proofs.TransformLemmas.{no_fields}
@@ -52,8 +53,7 @@ read_takes_none ps m rest r few none (variants h) = few_variants ps r.written.id
 read_takes_none ps m rest r few none (fields {id = o} {middle = middle} f n) =
     let same : middle ≡ r.middle = (one_front ps f r.id).1 in
     let gone : r.written.fields ≡ [] = no_fields r.written.fields (ap (λ (fs : written.Fields). length fs) (sym (ap (λ (n : written.Transform). n.fields) r.means) ∙ none)) in
-    let nothing : length (fields_front middle) ≡ 0 = ap (λ l. length (fields_front l)) same ∙ ap length (r.spelled ∙ ap fields_pieces gone) in
-    absurd (omega (arith, nothing, n))
+    some_fields middle n (ap fields_front same ∙ r.spelled ∙ ap fields_pieces gone)
 
 pub few_take_none : (ps : List (List ℕ)) (m : written.Transform) → TransformMeans languages (front ps) m → IfSome m.id (λ i. length i.variants ≤ 4) → m.fields ≡ [] → WantsMemory ps → ⊥
 few_take_none ps m h few none w = read_takes_none ps m (from_block ps) ((transform_agrees languages languages_table).block ps m h) few none w

@@ -1,10 +1,10 @@
 -- What the readers of transforms answer.
-use Rattle.std.specs.Prelude.{◌≡◌, ℕ, ◌<◌, true, List, length, Option, option_map, Result}
+use Rattle.std.specs.Prelude.{◌≡◌, ℕ, true, List, Option, option_map, Result}
 use Rattle.iloc_grammar.specs.Pieces.{pieces}
 use Rattle.iloc_grammar.specs.Words.{languages}
 use Rattle.iloc_grammar.specs.Written as written
 use Rattle.iloc_grammar.specs.Reading.{rest_of}
-use Rattle.iloc_fronts.specs.Fronts.{FrontRead, fields_front, TransformRead, TransformFault}
+use Rattle.iloc_fronts.specs.Fronts.{FrontRead, BeginsField, TransformRead, TransformFault}
 use Rattle.iloc_fronts.specs.Parts.{begins_part, is_letter, TransformText, TransformTextFault}
 use Rattle.iloc_subtags.specs.declared.parse_error.ParseError.{ParseError}
 use Rattle.iloc_subtags.specs.Answers.{Answers, OfPart}
@@ -16,10 +16,10 @@ use Rattle.iloc_transform.specs.declared.transform.Transform.{Transform}
 abbrev pub value_of : Transform → written.Transform
 value_of m = record { id = option_map langid.value_of m.lang; fields = m.fields }
 
--- memory is wanted for a fifth variant, and for fields
+-- memory is wanted for a fifth variant, and for a field
 pub data WantsMemory (ps : List (List ℕ)) : Type 0 where
   variants : HasFiveVariants ps → WantsMemory ps
-  fields : {id : Option written.Identifier} {middle : List (List ℕ)} → FrontRead languages ps id middle → 0 < length (fields_front middle) → WantsMemory ps
+  fields : {id : Option written.Identifier} {middle : List (List ℕ)} → FrontRead languages ps id middle → BeginsField middle → WantsMemory ps
 
 -- what the pieces after `t` are read as, and the pieces that are left
 abbrev pub TransformReads : List (List ℕ) → List (List ℕ) → Result Transform ParseError → Type 0

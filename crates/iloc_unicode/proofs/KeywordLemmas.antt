@@ -1,6 +1,6 @@
 -- Keywords that are taken one at a time.
 use Rattle.std.proofs.Common.{◌≡◌, ℕ, suc, ◌<◌, ◌≤◌, Bool, true, false, not, cond, ◌&&◌, ◌||◌, List, [], ◌∷◌, ◌++◌, length, map, refl, sym, ap, ap₂, ◌∙◌, arith, true≢false, subst, append-nil, append_assoc, Option, Some, None, option_map, is_some, nat_lt}
-use Rattle.std.specs.List.{list_any}
+use Rattle.std.specs.List.{AllByRecursion, list_any}
 use Rattle.std.specs.Ordering.{eq_by_cmp}
 use Rattle.std.specs.Cmp.{eq_by_cmp_equiv}
 use Rattle.std.specs.Option.{option_or}
@@ -15,7 +15,9 @@ use Rattle.iloc_grammar.specs.Faults.{InvalidExtension, first_piece}
 use Rattle.iloc_grammar.proofs.MapLaws.{word_cmp_total, same_words, find-map_of}
 use Rattle.iloc_grammar.proofs.SetLaws.{find-append}
 use Rattle.iloc_fronts.specs.Fronts.{is_keyword_piece, keywords_front, after_keywords, is_bad_key, KeywordsRead, KeywordsFault, bad_key}
-use Rattle.iloc_fronts.specs.Computing.{keywords_at}
+use Rattle.iloc_fronts.specs.Computing.{keywords_at, before_bad_key, keywords_kept}
+use Rattle.iloc_fronts.proofs.KeptLaws.{HasKey, kept_append}
+use Rattle.iloc_grammar.proofs.ReadBack.{all_append}
 use Rattle.iloc_fronts.proofs.FrontLaws.{not_two_bytes, two_bytes_of, good_value, good_key, value_goes_on, keywords_read_of}
 use Rattle.iloc_litemap.proofs.Maps.{tied, map_of_more}
 use Rattle.iloc_unicode.specs.Reads.{has_many_values, KeywordsWantMemory, second_key, fifth_value}
@@ -111,6 +113,7 @@ bad_at p qs h = ap (list_any is_bad_key) (front_at p qs (two_bytes_of p h)) ∙ 
 -- of the pieces before, the fields up to now are in the map
 pub record Filled (before now : List (List ℕ)) (m : Fields) : Type 0 where
   pub fields : Fields
+  pub keys : AllByRecursion HasKey fields
   pub all : keywords_at before ≡ fields ++ keywords_at now
   pub bad : list_any is_bad_key (keywords_front before) ≡ list_any is_bad_key (keywords_front now)
   pub rest : after_keywords before ≡ after_keywords now
@@ -144,6 +147,13 @@ module _ (before now : List (List ℕ)) (m : Fields) (t : Filled before now m) (
   all_is : (p : List ℕ) → IsWord UnicodeKey p → now ≡ p ∷ later → keywords_at before ≡ t.fields ++ (p, passing (is_word Attribute) later) ∷ keywords_at (past (is_word Attribute) later)
   all_is p h cut = t.all ∙ ap (λ ps. t.fields ++ keywords_at ps) cut ∙ ap (λ fs. t.fields ++ fs) (fields_at p later (two_bytes_of p h))
 
+  -- those that are kept, which go on after it
+  kept_is : (p : List ℕ) → IsWord UnicodeKey p → now ≡ p ∷ later → keywords_kept before ≡ t.fields ++ (p, passing (is_word Attribute) later) ∷ keywords_kept (past (is_word Attribute) later)
+  kept_is p h cut =
+      let more : Fields = keywords_at (past (is_word Attribute) later) in
+      let f : List ℕ × List (List ℕ) = (p, passing (is_word Attribute) later) in
+      ap before_bad_key (all_is p h cut) ∙ kept_append t.fields (f ∷ more) t.keys ∙ ap (λ b. t.fields ++ cond b (f ∷ before_bad_key more) []) h
+
   -- less is left
   pub filled_less : (after : List (List ℕ)) → after ≡ past (is_word Attribute) later → length after < length now
   filled_less after a =
@@ -158,6 +168,7 @@ module _ (before now : List (List ℕ)) (m : Fields) (t : Filled before now m) (
       let (p, h, same, cut) = now_is in
       record {
         fields = t.fields ++ (p, passing (is_word Attribute) later) ∷ [];
+        keys = all_append HasKey t.fields ((p, passing (is_word Attribute) later) ∷ []) t.keys (h, tt);
         all = all_is p h cut ∙ sym (append_assoc t.fields ((p, passing (is_word Attribute) later) ∷ []) (keywords_at (past (is_word Attribute) later))) ∙ ap (λ ps. (t.fields ++ (p, passing (is_word Attribute) later) ∷ []) ++ keywords_at ps) (sym a);
         bad = t.bad ∙ ap (λ ps. list_any is_bad_key (keywords_front ps)) cut ∙ bad_at p later h ∙ ap (λ ps. list_any is_bad_key (keywords_front ps)) (sym a);
         rest = t.rest ∙ ap after_keywords cut ∙ rest_at p later (two_bytes_of p h) ∙ ap after_keywords (sym a);
@@ -170,7 +181,7 @@ module _ (before now : List (List ℕ)) (m : Fields) (t : Filled before now m) (
   pub many_values : (length (normal_values (passing (is_word Attribute) later)) ≤ 4 → ⊥) → KeywordsWantMemory before
   many_values many =
       let (p, h, same, cut) = now_is in
-      fifth_value (ap (list_any has_many_values) (all_is p h cut) ∙ any_at has_many_values t.fields (p, passing (is_word Attribute) later) (keywords_at (past (is_word Attribute) later)) (more (length (normal_values (passing (is_word Attribute) later))) many))
+      fifth_value (ap (list_any has_many_values) (kept_is p h cut) ∙ any_at has_many_values t.fields (p, passing (is_word Attribute) later) (keywords_kept (past (is_word Attribute) later)) (more (length (normal_values (passing (is_word Attribute) later))) many))
     where
       more : (n : ℕ) → (n ≤ 4 → ⊥) → nat_lt 4 n ≡ true
       more n h = grind (arith, nat_tests)
@@ -179,7 +190,7 @@ module _ (before now : List (List ℕ)) (m : Fields) (t : Filled before now m) (
   pub many_keys : is_some (find word_cmp w m) ≡ false → (length m < 1 → ⊥) → KeywordsWantMemory before
   many_keys new some =
       let (p, h, same, cut) = now_is in
-      second_key (by m t.means new some p same (all_is p h cut))
+      second_key (by m t.means new some p same (kept_is p h cut))
     where
       there : (q : List ℕ) (fs more : Fields) (f : List ℕ × List (List ℕ)) → is_some (option_or (find word_cmp q (map normal_field fs)) (find word_cmp q (normal_field f ∷ map normal_field more))) ≡ true → is_some (find word_cmp q (normal_fields (fs ++ f ∷ more))) ≡ true
       there q fs more f h = ap is_some (find-map_of word_cmp word_cmp_total q (map normal_field (fs ++ f ∷ more)) ∙ ap (find word_cmp q) (map-append normal_field fs (f ∷ more)) ∙ find-append word_cmp q (map normal_field fs) (normal_field f ∷ map normal_field more)) ∙ h
@@ -195,11 +206,11 @@ module _ (before now : List (List ℕ)) (m : Fields) (t : Filled before now m) (
       itself : (q : List ℕ) → eq_by_cmp word_cmp q q ≡ true
       itself q = (eq_by_cmp_equiv word_cmp_total).refl q
 
-      by : (m : Fields) → m ≡ normal_fields t.fields → is_some (find word_cmp w m) ≡ false → (length m < 1 → ⊥) → (p : List ℕ) → w ≡ lower p → keywords_at before ≡ t.fields ++ (p, passing (is_word Attribute) later) ∷ keywords_at (past (is_word Attribute) later) → 1 < length (normal_fields (keywords_at before))
+      by : (m : Fields) → m ≡ normal_fields t.fields → is_some (find word_cmp w m) ≡ false → (length m < 1 → ⊥) → (p : List ℕ) → w ≡ lower p → keywords_kept before ≡ t.fields ++ (p, passing (is_word Attribute) later) ∷ keywords_kept (past (is_word Attribute) later) → 1 < length (normal_fields (keywords_kept before))
       by [] means new some p same all = absurd (some (omega arith))
-      by (x ∷ xs) means new some p same all = rw all (two_found x.0 (lower p) differ (normal_fields (t.fields ++ (p, passing (is_word Attribute) later) ∷ keywords_at (past (is_word Attribute) later)))
-          (there x.0 t.fields (keywords_at (past (is_word Attribute) later)) (p, passing (is_word Attribute) later) (first _ _ (ap is_some (sym (find-map_of word_cmp word_cmp_total x.0 (map normal_field t.fields)) ∙ ap (find word_cmp x.0) (sym means)) ∙ found x.0 refl)))
-          (there (lower p) t.fields (keywords_at (past (is_word Attribute) later)) (p, passing (is_word Attribute) later) (second _ _ (ap (λ b. is_some (cond b (Some (normal_values (passing (is_word Attribute) later))) (find word_cmp (lower p) (map normal_field (keywords_at (past (is_word Attribute) later)))))) (itself (lower p))))))
+      by (x ∷ xs) means new some p same all = rw all (two_found x.0 (lower p) differ (normal_fields (t.fields ++ (p, passing (is_word Attribute) later) ∷ keywords_kept (past (is_word Attribute) later)))
+          (there x.0 t.fields (keywords_kept (past (is_word Attribute) later)) (p, passing (is_word Attribute) later) (first _ _ (ap is_some (sym (find-map_of word_cmp word_cmp_total x.0 (map normal_field t.fields)) ∙ ap (find word_cmp x.0) (sym means)) ∙ found x.0 refl)))
+          (there (lower p) t.fields (keywords_kept (past (is_word Attribute) later)) (p, passing (is_word Attribute) later) (second _ _ (ap (λ b. is_some (cond b (Some (normal_values (passing (is_word Attribute) later))) (find word_cmp (lower p) (map normal_field (keywords_kept (past (is_word Attribute) later)))))) (itself (lower p))))))
         where
           found : (q : List ℕ) → q ≡ x.0 → is_some (find word_cmp q (x ∷ xs)) ≡ true
           found q e = ap (λ k. is_some (cond (eq_by_cmp word_cmp k x.0) (Some x.1) (find word_cmp k xs))) e ∙ ap (λ b. is_some (cond b (Some x.1) (find word_cmp x.0 xs))) (itself x.0)

@@ -7,7 +7,7 @@ use Rattle.iloc_grammar.specs.Meaning.{normal_values, normal_fields}
 use Rattle.iloc_grammar.specs.Faults as faults
 use Rattle.iloc_fronts.specs.Fronts.{attributes_read, KeywordsRead, KeywordsFault}
 use Rattle.iloc_fronts.specs.Parts.{AttributesText, KeywordsText, KeywordsTextFault}
-use Rattle.iloc_fronts.specs.Computing.{keywords_at}
+use Rattle.iloc_fronts.specs.Computing.{keywords_kept}
 use Rattle.iloc_subtags.specs.declared.parse_error.ParseError.{ParseError}
 use Rattle.iloc_subtags.specs.Answers.{Answers, NoFault, ExtensionFault}
 
@@ -15,10 +15,10 @@ use Rattle.iloc_subtags.specs.Answers.{Answers, NoFault, ExtensionFault}
 abbrev pub has_many_values : List ℕ × List (List ℕ) → Bool
 has_many_values f = nat_lt 4 (length (normal_values f.1))
 
--- for what memory is wanted: a second key, or a fifth subtag
+-- for what memory is wanted: before a bad key, a second key or a fifth subtag
 pub data KeywordsWantMemory (ps : List (List ℕ)) : Type 0 where
-  second_key : 1 < length (normal_fields (keywords_at ps)) → KeywordsWantMemory ps
-  fifth_value : list_any has_many_values (keywords_at ps) ≡ true → KeywordsWantMemory ps
+  second_key : 1 < length (normal_fields (keywords_kept ps)) → KeywordsWantMemory ps
+  fifth_value : list_any has_many_values (keywords_kept ps) ≡ true → KeywordsWantMemory ps
 
 -- of the pieces ps, keywords were read, and rest is left
 abbrev pub KeywordsGive : List (List ℕ) → List (List ℕ) → Result Fields ParseError → Type 0
