@@ -1,12 +1,12 @@
 //! The answer to one line, in each mode.
-ghost use Rattle.std.specs.Prelude.{◌≡◌, ◌≢◌, ◌++◌, OnOk};
-ghost use Rattle.iloc_program.specs.Output.{line_answer, refusal_text};
+ghost use Rattle.std.specs.Prelude.{◌≡◌, ◌≢◌, [], ◌∷◌, ◌++◌, OnOk};
+ghost use Rattle.iloc_program.specs.Output.{reply, refusal_text};
 ghost use Rattle.iloc_program.specs.ReplyBlock.{held};
 
 use crate::reply_block::ReplyBlock;
 use iloc_data::DataLocale;
 use iloc_langid::LanguageIdentifier;
-use iloc_langid::reader::fill_head;
+use iloc_langid::reader::{fill_head, fill_whole};
 use iloc_locale::Locale;
 use iloc_locale::locale::read_rest;
 use iloc_parser::SubtagIterator;
@@ -20,10 +20,9 @@ pub(crate) trait Answers {
 
     ghost mode: { Mode };
 
-    /// Adds the answer to one line.
-    fn answer(&mut self, line: &[u8], replies: &mut ReplyBlock) -> Result<(), AllocError>
-        ensures { OnOk result (held replies.new
-            ≡ held replies.old ++ line_answer mode line.now) };
+    /// Adds the reply to one line.
+    fn reply(&mut self, line: &[u8], replies: &mut ReplyBlock) -> Result<(), AllocError>
+        ensures { OnOk result (held replies.new ≡ held replies.old ++ reply mode line.now) };
 }
 
 /// Answers lines as language identifiers.
@@ -48,8 +47,9 @@ impl Answers for Identifiers {
     ghost mode = { Langid };
 
     #[inline(always)]
-    fn answer(&mut self, line: &[u8], replies: &mut ReplyBlock) -> Result<(), AllocError> {
-        match self.identifier.read(self.alloc, line) {
+    fn reply(&mut self, line: &[u8], replies: &mut ReplyBlock) -> Result<(), AllocError> {
+        let mut iter = SubtagIterator::new(line);
+        match fill_whole(self.alloc, &mut iter, &mut self.identifier) {
             Ok(()) => write_text(&self.identifier, replies),
             Err(error) => write_refusal(error, replies),
         }
@@ -78,7 +78,7 @@ impl Answers for Locales {
     ghost mode = { Locale };
 
     // Extensions are touched only where a block comes.
-    fn answer(&mut self, line: &[u8], replies: &mut ReplyBlock) -> Result<(), AllocError> {
+    fn reply(&mut self, line: &[u8], replies: &mut ReplyBlock) -> Result<(), AllocError> {
         let mut iter = SubtagIterator::new(line);
         if let Err(error) = fill_head(self.alloc, &mut iter, &mut self.locale.id) {
             return write_refusal(error, replies);
@@ -102,7 +102,7 @@ impl Answers for DataLocales {
 
     ghost mode = { Data };
 
-    fn answer(&mut self, line: &[u8], replies: &mut ReplyBlock) -> Result<(), AllocError> {
+    fn reply(&mut self, line: &[u8], replies: &mut ReplyBlock) -> Result<(), AllocError> {
         match DataLocale::try_from_utf8(line) {
             Ok(locale) => write_text(&locale, replies),
             Err(error) => write_refusal(error, replies),
@@ -110,43 +110,37 @@ impl Answers for DataLocales {
     }
 }
 
-// Adds the text of a value. A write to replies fails only where memory is refused.
+// Adds the text of a value and LF. A write to replies fails only where memory is refused.
 fn write_text<T: Writeable>(value: &T, replies: &mut ReplyBlock) -> Result<(), AllocError>
-    ensures { OnOk result (held replies.new ≡ held replies.old ++ T.text value.now) }
+    ensures { OnOk result (held replies.new ≡ held replies.old ++ (T.text value.now ++ 10 ∷ [])) }
 {
     match value.write_to(replies) {
-        Ok(()) => Ok(()),
+        Ok(()) => replies.push(b'\n'),
         Err(_) => Err(AllocError),
     }
 }
 
-// Adds why a line has no answer. That memory is refused is no answer to a line.
+// Adds why a line has no answer, and LF. That memory is refused is no answer to a line.
+#[inline(always)]
 fn write_refusal(error: ParseError, replies: &mut ReplyBlock) -> Result<(), AllocError>
-    ensures text { OnOk result (held replies.new ≡ held replies.old ++ refusal_text error) }
+    ensures text { OnOk result (held replies.new
+        ≡ held replies.old ++ (refusal_text error ++ 10 ∷ [])) }
     ensures known { OnOk result (error ≢ ParseError.OutOfMemory) }
 {
     match error {
+        ParseError::InvalidLanguage => replies.push_first(INVALID_LANGUAGE, 39),
+        ParseError::InvalidSubtag => replies.push_first(INVALID_SUBTAG, 17),
+        ParseError::InvalidExtension => replies.push_first(INVALID_EXTENSION, 20),
+        ParseError::DuplicatedExtension => replies.push_first(DUPLICATED_EXTENSION, 23),
         ParseError::OutOfMemory => Err(AllocError),
-        error => write_words(&error, replies),
     }
 }
 
-// Adds the words of a refusal.
-fn write_words(error: &ParseError, replies: &mut ReplyBlock) -> Result<(), AllocError>
-    ensures { OnOk result (held replies.new ≡ held replies.old ++ refusal_text error.now) }
-{
-    replies.extend_from_slice(refusal_line(error).as_bytes())
-}
+// The words of each refusal and LF, in 48 bytes, so that they are stored at once.
+const INVALID_LANGUAGE: &[u8; 48] = b"! The given language subtag is invalid\n         ";
 
-// The words of a refusal after its mark, at once.
-fn refusal_line(error: &ParseError) -> &'static str
-    ensures { result.now ≡ refusal_text error.now }
-{
-    match error {
-        ParseError::InvalidLanguage => "! The given language subtag is invalid",
-        ParseError::InvalidSubtag => "! Invalid subtag",
-        ParseError::InvalidExtension => "! Invalid extension",
-        ParseError::DuplicatedExtension => "! Duplicated extension",
-        ParseError::OutOfMemory => "! Out of memory",
-    }
-}
+const INVALID_SUBTAG: &[u8; 48] = b"! Invalid subtag\n                               ";
+
+const INVALID_EXTENSION: &[u8; 48] = b"! Invalid extension\n                            ";
+
+const DUPLICATED_EXTENSION: &[u8; 48] = b"! Duplicated extension\n                         ";
