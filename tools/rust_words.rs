@@ -3,6 +3,7 @@
 
 use icu_locale_core::subtags::{Language, Subtag};
 use icu_locale_core::{DataLocale, LanguageIdentifier, Locale, ParseError};
+use std::borrow::Cow;
 use std::cmp::Ordering;
 use writeable::Writeable;
 
@@ -11,6 +12,9 @@ const SUBTAGS: [&str; 4] = ["buddhist", "Latn", "1996", "posix"];
 const IDENTIFIERS: [&str; 4] = ["en", "EN-us", "sr-latn-RS", "ca-ES-valencia"];
 const LOCALES: [&str; 4] = ["en-GB", "ar-u-nu-latn", "EN-us-u-ca-Buddhist-hc-h12", "de-t-en-m0-din"];
 const DATA_LOCALES: [&str; 4] = ["en", "EN-us", "sr-latn-RS", "en-us-u-sd-ustx"];
+
+const NORMAL_IDENTIFIERS: [&str; 4] = ["en", "en-US", "sr-Latn-RS", "ca-ES-valencia"];
+const NORMAL_LOCALES: [&str; 4] = ["en-GB", "en-US", "ar-u-nu-latn", "zh-Hant-TW"];
 
 // The numbers that a call answers in each round, summed.
 fn sum(rounds: u32, call: impl Fn(u32) -> usize) -> usize {
@@ -23,6 +27,11 @@ fn words() -> [Language; 4] {
 
 fn printed_length<T: Writeable>(read: Result<T, ParseError>) -> usize {
     read.map_or(0, |value| value.write_to_string().len())
+}
+
+// The length of the normal text of one that is normal, so that it is borrowed.
+fn normal_length(normal: Result<Cow<'_, str>, ParseError>) -> usize {
+    normal.map_or(0, |text| text.len())
 }
 
 fn checksum(call: &str, rounds: u32) -> Option<usize> {
@@ -52,6 +61,12 @@ fn checksum(call: &str, rounds: u32) -> Option<usize> {
         "print_data" => sum(rounds, |round| {
             printed_length(DataLocale::try_from_str(DATA_LOCALES[(round % 4) as usize]))
         }),
+        "normalize_langid" => sum(rounds, |round| {
+            normal_length(LanguageIdentifier::normalize(NORMAL_IDENTIFIERS[(round % 4) as usize]))
+        }),
+        "normalize_locale" => {
+            sum(rounds, |round| normal_length(Locale::normalize(NORMAL_LOCALES[(round % 4) as usize])))
+        }
         _ => return None,
     })
 }

@@ -1,4 +1,7 @@
 pub mod BlockLemmas
+pub mod EndLemmas
 pub mod KnownLemmas
 pub mod PlaceLemmas
+pub mod PlainAnswers
+pub mod PlainLemmas
 pub mod RunLemmas

@@ -7,7 +7,7 @@
 #![tactic(auto)]
 
 ghost use Rattle.std.specs.Prelude.{ℕ, List, ◌≡◌, ◌↔◌, ◌++◌, Some, OnOk, OnErr, option_copied};
-ghost use Rattle.iloc_lines.specs.Output.{WritesAll, WritesBeginning, line_answer};
+ghost use Rattle.iloc_lines.specs.Output.{WritesAll, WritesBeginning, reply};
 ghost use Rattle.iloc_lines.specs.ReplyBlock.{held};
 ghost use Rattle.iloc_lines.specs.declared.RunError.TheVariants.{OutOfMemory};
 ghost use Rattle.iloc_lines.specs.Ending.{ending_status, ending_text, word_of};
@@ -89,10 +89,9 @@ pub trait Answers {
 
     ghost mode: { Mode };
 
-    /// Adds the answer to one line.
-    fn answer(&mut self, line: &[u8], replies: &mut ReplyBlock) -> Result<(), AllocError>
-        ensures { OnOk result (held replies.new
-            ≡ held replies.old ++ line_answer mode line.now) };
+    /// Adds the reply to one line.
+    fn reply(&mut self, line: &[u8], replies: &mut ReplyBlock) -> Result<(), AllocError>
+        ensures { OnOk result (held replies.new ≡ held replies.old ++ reply mode line.now) };
 }
 
 /// Writes the answer to each line of what the reader gives, up to its end. No call is made again after an error.

@@ -7,6 +7,8 @@ ghost use Rattle.std.specs.Prelude.{
   ◌∷◌,
   ◌++◌,
   take,
+  length,
+  map,
   MatchOption,
   MatchResult,
   IfOk,
@@ -21,13 +23,16 @@ ghost use Rattle.iloc_io_sink.specs.Growth.{AddsBeginning};
 ghost use Rattle.iloc_lines.specs.Output.{output, reply};
 ghost use Rattle.iloc_lines.specs.ReplyBlock.{held};
 ghost use Rattle.iloc_output.specs.Lines.{IsOneLine};
+ghost use Rattle.std.specs.Simd.Lanes.{mask_l};
 ghost use Rattle.memchr.specs.Find.{IsFirstByte, is_byte};
 
 use crate::reply_block::ReplyBlock;
 use crate::{Answers, RunError};
+use iloc_plain::read_plain;
 use memchr::memchr_iter;
 use std::alloc::{AllocError, Global};
 use std::io::Write;
+use std::simd::prelude::*;
 
 // The bytes that are asked of the reader at once.
 const BLOCK: usize = 65536;
@@ -39,9 +44,31 @@ pub(crate) fn new_block(alloc: Global) -> Result<Vec<u8>, AllocError>
     vec![in alloc; 0u8; BLOCK]
 }
 
-// Where the first LF stands.
-#[inline(never)]
+// A bit for each LF among these bytes.
+#[inline(always)]
+fn line_ends(lanes: u8x32) -> u64
+    ensures { result ≡ mask_l (map (is_byte 10) lanes) }
+{
+    lanes.simd_eq(u8x32::splat(10)).to_bitmask()
+}
+
+// Where the first LF stands. Most lines end within 32 bytes.
+#[inline(always)]
 fn line_end(bytes: &[u8]) -> Option<usize>
+    ensures { IsFirstByte (is_byte 10) bytes.now result }
+{
+    if bytes.len() >= 32 {
+        let ends = line_ends(u8x32::from_slice(bytes));
+        if ends > 0 {
+            return Some(ends.trailing_zeros() as usize);
+        }
+    }
+    line_end_beyond(bytes)
+}
+
+// The same of any bytes.
+#[inline(never)]
+fn line_end_beyond(bytes: &[u8]) -> Option<usize>
     ensures { IsFirstByte (is_byte 10) bytes.now result }
 {
     memchr_iter(b'\n', bytes).next()
@@ -58,17 +85,23 @@ fn split_line(bytes: &[u8]) -> Option<(&[u8], &[u8])>
     Some((line, &later[1..]))
 }
 
-// Adds the reply to a line.
+// Adds the reply to the line that this window begins with, at once where it is plain.
 #[inline(always)]
 fn reply_to<A: Answers>(
     answers: &mut A,
+    window: &[u8],
     line: &[u8],
     replies: &mut ReplyBlock,
 ) -> Result<(), AllocError>
+    requires { take (length line.now) window.now ≡ line.now }
     ensures { OnOk result (held replies.new ≡ held replies.old ++ reply A.mode line.now) }
 {
-    answers.answer(line, replies)?;
-    replies.push(b'\n')
+    if line.len() <= 16 && window.len() >= 16 {
+        if let Some(plain) = read_plain(window, line.len()) {
+            return replies.push_plain(&plain);
+        }
+    }
+    answers.reply(line, replies)
 }
 
 // Adds the reply to the line that is pending, and forgets the line.
@@ -82,31 +115,35 @@ fn end_pending<A: Answers>(
         (held replies.new ≡ held replies.old ++ reply A.mode pending.old.items) }
     ensures pending { OnOk result (pending.new.items ≡ []) }
 {
-    reply_to(answers, pending.as_slice(), replies)?;
+    answers.reply(pending.as_slice(), replies)?;
     pending.clear();
     Ok(())
 }
 
-// Adds the reply to what is pending and goes on with these bytes. Where nothing is pending, none is copied.
-#[inline(always)]
-fn end_line<A: Answers>(
+// Adds the replies to the lines that these bytes end, where nothing is pending, and keeps the start of
+// the next line.
+fn feed_lines<A: Answers>(
     answers: &mut A,
     pending: &mut Vec<u8>,
-    line: &[u8],
+    bytes: &[u8],
     replies: &mut ReplyBlock,
 ) -> Result<(), AllocError>
-    ensures replies { OnOk result (held replies.new
-        ≡ held replies.old ++ reply A.mode (pending.old.items ++ line.now)) }
-    ensures pending { OnOk result (pending.new.items ≡ []) }
+    requires { pending.old.items ≡ [] }
+    ensures one_line { OnOk result (IsOneLine pending.new.items) }
+    ensures ahead { OnOk result ((next : List ℕ) →
+        held replies.old ++ output A.mode (bytes.now ++ next)
+        ≡ held replies.new ++ output A.mode (pending.new.items ++ next)) }
 {
-    if pending.is_empty() {
-        return reply_to(answers, line, replies);
+    let mut rest = bytes;
+    'lines: while let Some((line, later)) = split_line(rest) {
+        reply_to(answers, rest, line, replies)?;
+        rest = later;
     }
-    pending.extend_from_slice(line)?;
-    end_pending(answers, pending, replies)
+    pending.extend_from_slice(rest)
 }
 
 // Adds the replies to the lines that this piece of the input ends, and keeps the start of the next line.
+// What is pending is answered first, so that no other line asks for it.
 pub(crate) fn feed<A: Answers>(
     answers: &mut A,
     pending: &mut Vec<u8>,
@@ -120,12 +157,15 @@ pub(crate) fn feed<A: Answers>(
         held replies.old ++ output A.mode (pending.old.items ++ (piece.now ++ next))
         ≡ held replies.new ++ output A.mode (pending.new.items ++ next)) }
 {
-    let mut rest = piece;
-    'lines: while let Some((line, later)) = split_line(rest) {
-        end_line(answers, pending, line, replies)?;
-        rest = later;
+    if pending.is_empty() {
+        return feed_lines(answers, pending, piece, replies);
     }
-    pending.extend_from_slice(rest)
+    let Some((line, later)) = split_line(piece) else {
+        return pending.extend_from_slice(piece);
+    };
+    pending.extend_from_slice(line)?;
+    end_pending(answers, pending, replies)?;
+    feed_lines(answers, pending, later, replies)
 }
 
 // Adds the reply to a last line without LF, where there is one.

@@ -1,5 +1,5 @@
 //! What is replied to a line: the text of a value, or why there is none.
-ghost use Rattle.std.specs.Prelude.{◌≡◌, ◌≢◌, ◌++◌, OnOk};
+ghost use Rattle.std.specs.Prelude.{◌≡◌, ◌≢◌, [], ◌∷◌, ◌++◌, OnOk};
 ghost use Rattle.iloc_lines.specs.Output.{refusal_text};
 ghost use Rattle.iloc_lines.specs.ReplyBlock.{held};
 
@@ -8,43 +8,37 @@ use iloc_subtags::ParseError;
 use iloc_writeable::Writeable;
 use std::alloc::AllocError;
 
-/// Adds the text of a value. A write to replies fails only where memory is refused.
+/// Adds the text of a value and LF. A write to replies fails only where memory is refused.
 pub fn write_text<T: Writeable>(value: &T, replies: &mut ReplyBlock) -> Result<(), AllocError>
-    ensures { OnOk result (held replies.new ≡ held replies.old ++ T.text value.now) }
+    ensures { OnOk result (held replies.new ≡ held replies.old ++ (T.text value.now ++ 10 ∷ [])) }
 {
     match value.write_to(replies) {
-        Ok(()) => Ok(()),
+        Ok(()) => replies.push(b'\n'),
         Err(_) => Err(AllocError),
     }
 }
 
-/// Adds why a line has no answer. That memory is refused is no answer to a line.
+/// Adds why a line has no answer, and LF. That memory is refused is no answer to a line.
+#[inline(always)]
 pub fn write_refusal(error: ParseError, replies: &mut ReplyBlock) -> Result<(), AllocError>
-    ensures text { OnOk result (held replies.new ≡ held replies.old ++ refusal_text error) }
+    ensures text { OnOk result (held replies.new
+        ≡ held replies.old ++ (refusal_text error ++ 10 ∷ [])) }
     ensures known { OnOk result (error ≢ ParseError.OutOfMemory) }
 {
     match error {
+        ParseError::InvalidLanguage => replies.push_first(INVALID_LANGUAGE, 39),
+        ParseError::InvalidSubtag => replies.push_first(INVALID_SUBTAG, 17),
+        ParseError::InvalidExtension => replies.push_first(INVALID_EXTENSION, 20),
+        ParseError::DuplicatedExtension => replies.push_first(DUPLICATED_EXTENSION, 23),
         ParseError::OutOfMemory => Err(AllocError),
-        error => write_words(&error, replies),
     }
 }
 
-// Adds the words of a refusal.
-fn write_words(error: &ParseError, replies: &mut ReplyBlock) -> Result<(), AllocError>
-    ensures { OnOk result (held replies.new ≡ held replies.old ++ refusal_text error.now) }
-{
-    replies.extend_from_slice(refusal_line(error).as_bytes())
-}
+// The words of each refusal and LF, in 48 bytes, so that they are stored at once.
+const INVALID_LANGUAGE: &[u8; 48] = b"! The given language subtag is invalid\n         ";
 
-// The words of a refusal after its mark, at once.
-fn refusal_line(error: &ParseError) -> &'static str
-    ensures { result.now ≡ refusal_text error.now }
-{
-    match error {
-        ParseError::InvalidLanguage => "! The given language subtag is invalid",
-        ParseError::InvalidSubtag => "! Invalid subtag",
-        ParseError::InvalidExtension => "! Invalid extension",
-        ParseError::DuplicatedExtension => "! Duplicated extension",
-        ParseError::OutOfMemory => "! Out of memory",
-    }
-}
+const INVALID_SUBTAG: &[u8; 48] = b"! Invalid subtag\n                               ";
+
+const INVALID_EXTENSION: &[u8; 48] = b"! Invalid extension\n                            ";
+
+const DUPLICATED_EXTENSION: &[u8; 48] = b"! Duplicated extension\n                         ";

@@ -1,11 +1,15 @@
 //! The replies to a block of lines, as they are collected.
 ghost use Rattle.std.specs.Prelude.{◌≡◌, ◌+◌, ◌≤◌, [], ◌∷◌, ◌++◌, length, take, vec_len, OnOk, OnErr};
 
+use iloc_plain::Plain;
 use iloc_short_pieces::ShortPiece;
 use iloc_writeable::Sink;
 use std::alloc::{AllocError, Global};
 use std::cmp::max;
 use std::fmt;
+
+// The room that is made first, so that the replies to most blocks need no more.
+const FIRST_ROOM: usize = 131_072;
 
 /// Bytes that count, and room behind them. What stands in the room says nothing, so that a short piece is
 /// stored as eight bytes at once, whatever its length.
@@ -18,6 +22,8 @@ pub struct ReplyBlock {
 
 impl ReplyBlock {
     ghost use Rattle.iloc_lines.specs.ReplyBlock.{held};
+    ghost use Rattle.iloc_grammar.specs.Values.{identifier_text};
+    ghost use Rattle.iloc_plain.specs.Plain.{AreWords, value_of};
 
     /// No bytes. It takes no memory.
     pub fn new(alloc: Global) -> Self
@@ -53,6 +59,30 @@ impl ReplyBlock {
         Ok(())
     }
 
+    /// Adds the first of these bytes, and stores all of them.
+    #[inline(always)]
+    pub(crate) fn push_first(&mut self, bytes: &[u8; 48], count: usize) -> Result<(), AllocError>
+        requires { count ≤ 48 }
+        ensures { OnOk result (held self.new ≡ held self.old ++ take count bytes.now) }
+    {
+        self.make_room(48)?;
+        self.put(bytes, count);
+        Ok(())
+    }
+
+    /// Adds the normal text of a plain identifier, and LF.
+    #[inline(always)]
+    pub(crate) fn push_plain(&mut self, plain: &Plain) -> Result<(), AllocError>
+        requires { AreWords plain.now }
+        ensures { OnOk result (held self.new
+            ≡ held self.old ++ (identifier_text (value_of plain.now) ++ 10 ∷ [])) }
+    {
+        self.make_room(17)?;
+        self.put(plain.bytes.as_array(), plain.len);
+        self.put(b"\n", 1);
+        Ok(())
+    }
+
     /// Adds these bytes.
     pub fn extend_from_slice(&mut self, bytes: &[u8]) -> Result<(), AllocError>
         ensures ok { OnOk result (held self.new ≡ held self.old ++ bytes.now) }
@@ -84,7 +114,8 @@ impl ReplyBlock {
         let Some(least) = self.len.checked_add(more) else {
             return Err(AllocError);
         };
-        let size = max(least, self.room.len().saturating_mul(2));
+        let doubled = max(self.room.len().saturating_mul(2), FIRST_ROOM);
+        let size = max(least, doubled);
         self.room.resize(size, 0)
     }
 

@@ -1,7 +1,7 @@
 //! The answer to one line, in each mode.
 use iloc_data_parts::DataParts;
 use iloc_langid::LanguageIdentifier;
-use iloc_langid::reader::fill_head;
+use iloc_langid::reader::{fill_head, fill_whole};
 use iloc_lines::{Answers, ReplyBlock, write_refusal, write_text};
 use iloc_locale::Locale;
 use iloc_locale::locale::read_rest;
@@ -30,8 +30,9 @@ impl Answers for Identifiers {
     ghost mode = { Langid };
 
     #[inline(always)]
-    fn answer(&mut self, line: &[u8], replies: &mut ReplyBlock) -> Result<(), AllocError> {
-        match self.identifier.read(self.alloc, line) {
+    fn reply(&mut self, line: &[u8], replies: &mut ReplyBlock) -> Result<(), AllocError> {
+        let mut iter = SubtagIterator::new(line);
+        match fill_whole(self.alloc, &mut iter, &mut self.identifier) {
             Ok(()) => write_text(&self.identifier, replies),
             Err(error) => write_refusal(error, replies),
         }
@@ -60,7 +61,7 @@ impl Answers for Locales {
     ghost mode = { Locale };
 
     // Extensions are touched only where a block comes.
-    fn answer(&mut self, line: &[u8], replies: &mut ReplyBlock) -> Result<(), AllocError> {
+    fn reply(&mut self, line: &[u8], replies: &mut ReplyBlock) -> Result<(), AllocError> {
         let mut iter = SubtagIterator::new(line);
         if let Err(error) = fill_head(self.alloc, &mut iter, &mut self.locale.id) {
             return write_refusal(error, replies);
@@ -84,7 +85,7 @@ impl Answers for DataLocales {
 
     ghost mode = { Data };
 
-    fn answer(&mut self, line: &[u8], replies: &mut ReplyBlock) -> Result<(), AllocError> {
+    fn reply(&mut self, line: &[u8], replies: &mut ReplyBlock) -> Result<(), AllocError> {
         match DataParts::try_from_utf8(line) {
             Ok(parts) => write_text(&parts, replies),
             Err(error) => write_refusal(error, replies),

@@ -28,6 +28,10 @@ const LOCALES: [&str; 4] = [
 
 const DATA_LOCALES: [&str; 4] = ["en", "EN-us", "sr-latn-RS", "en-us-u-sd-ustx"];
 
+const NORMAL_IDENTIFIERS: [&str; 4] = ["en", "en-US", "sr-Latn-RS", "ca-ES-valencia"];
+
+const NORMAL_LOCALES: [&str; 4] = ["en-GB", "en-US", "ar-u-nu-latn", "zh-Hant-TW"];
+
 /// The lengths of what is read, summed.
 fn read_languages(rounds: u32) -> usize {
     let mut sum = 0usize;
@@ -141,6 +145,28 @@ fn print_data_locales(alloc: Global, rounds: u32) -> usize {
     sum
 }
 
+/// The lengths of the normal texts of texts that are normal, summed. None is copied.
+fn normalize_identifiers(alloc: Global, rounds: u32) -> usize {
+    let mut sum = 0usize;
+    for i in 0..rounds {
+        let text = NORMAL_IDENTIFIERS[(i % 4) as usize];
+        if let Ok(normal) = LanguageIdentifier::normalize(alloc, text) {
+            sum = sum.wrapping_add(normal.len());
+        }
+    }
+    sum
+}
+
+fn normalize_locales(alloc: Global, rounds: u32) -> usize {
+    let mut sum = 0usize;
+    for i in 0..rounds {
+        if let Ok(normal) = Locale::normalize(alloc, NORMAL_LOCALES[(i % 4) as usize]) {
+            sum = sum.wrapping_add(normal.len());
+        }
+    }
+    sum
+}
+
 /// The checksum of so many calls.
 fn checksum(alloc: Global, call: &str, rounds: u32) -> Option<usize> {
     match call {
@@ -152,6 +178,8 @@ fn checksum(alloc: Global, call: &str, rounds: u32) -> Option<usize> {
         "print_langid" => Some(print_identifiers(alloc, rounds)),
         "print_locale" => Some(print_locales(alloc, rounds)),
         "print_data" => Some(print_data_locales(alloc, rounds)),
+        "normalize_langid" => Some(normalize_identifiers(alloc, rounds)),
+        "normalize_locale" => Some(normalize_locales(alloc, rounds)),
         _ => None,
     }
 }

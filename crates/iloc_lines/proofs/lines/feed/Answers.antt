@@ -1,16 +1,23 @@
-use Rattle.std.proofs.Common.{◌≢◌, ℕ, List, ◌++◌, ap, ◌∙◌, sym, append_assoc}
-use Rattle.std.proofs.lemmas.List.Elements.{All-nil}
+use Rattle.std.proofs.Common.{ℕ, List, ◌++◌, ap, ◌∙◌, sym, append_assoc}
+use Rattle.std.proofs.lemmas.Result.{on_ok_weaker}
 use Rattle.iloc_grammar.specs.Words.{languages}
 use Rattle.iloc_output.proofs.LineCuts.{output-cut}
 use Rattle.iloc_lines.specs.Output.{mode_of, output, reply}
 use Rattle.iloc_lines.specs.ReplyBlock.{held}
 use Rattle.iloc_lines.proofs.lines.feed.Goals as goal
 
-pub lines-preserved : goal.lines-preserved
-lines-preserved g c = rw (c.in_ok-end_line.ensures.pending, c.in_ok-end_line.ensures.replies) (record {
-  one_line = All-nil (λ (b : ℕ). b ≢ 10);
-  ahead = λ next. c.lines.invariant.ahead next
-      ∙ ap (λ (t : List ℕ). held c.lines.replies ++ t)
-      (output-cut languages (mode_of g.A.Answers.mode) c.lines.pending.items c.lines.rest.now c.in-Some.line.now c.in-Some.later.now next c.lines.invariant.one_line c.in-Some.ensures.0 c.in-Some.ensures.1)
-      ∙ sym (append_assoc (held c.lines.replies) (reply g.A.Answers.mode (c.lines.pending.items ++ c.in-Some.line.now)) (output g.A.Answers.mode (c.in-Some.later.now ++ next)));
-})
+-- the line that was pending is answered, and then what follows it
+pub returns-clause-ahead : goal.returns-clause-ahead
+returns-clause-ahead g c =
+    let mode = g.A.Answers.mode in
+    let before = held c.args.replies.now in
+    let line = c.args.pending.now.items ++ c.in-Some.line.now in
+    let replied = c.in_ok-end_pending.ensures.replies ∙ ap (λ (t : List ℕ). before ++ reply mode t) c.in_ok-extend_from_slice.ensures.items in
+    on_ok_weaker c.feed_lines-2.result
+    (λ later next.
+    ap (λ (t : List ℕ). before ++ t)
+    (output-cut languages (mode_of mode) c.args.pending.now.items c.args.piece.now c.in-Some.line.now c.in-Some.later.now next c.requires c.in-Some.ensures.0 c.in-Some.ensures.1)
+    ∙ sym (append_assoc before (reply mode line) (output mode (c.in-Some.later.now ++ next)))
+    ∙ ap (λ (h : List ℕ). h ++ output mode (c.in-Some.later.now ++ next)) (sym replied)
+    ∙ later next)
+    c.feed_lines-2.ensures.ahead

@@ -1,6 +1,6 @@
-use Rattle.iloc_lines.proofs.PlaceLemmas.{takes_first_byte}
-use Rattle.memchr.specs.Find.{is_byte}
+use Rattle.std.proofs.Common.{arith}
+use Rattle.iloc_lines.proofs.EndLemmas.{first_end}
 use Rattle.iloc_lines.proofs.lines.line_end.Goals as goal
 
-pub returns : goal.returns
-returns c = takes_first_byte (is_byte 10) c.args.bytes.now _ _ _ c.memchr_iter.ensures.value c.next.ensures.steps
+pub returns-then-ends-gt0 : goal.returns-then-ends-gt0
+returns-then-ends-gt0 c = first_end c.args.bytes.now (omega arith) _ c.line_ends-ends.ensures (omega arith)

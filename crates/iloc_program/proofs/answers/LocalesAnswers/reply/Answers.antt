@@ -1,4 +1,4 @@
-use Rattle.std.proofs.Common.{◌≡◌, ◌++◌, ℕ, true, not, List, Ok, Err, ap, ◌∙◌, subst, sym}
+use Rattle.std.proofs.Common.{◌≡◌, ◌++◌, ℕ, true, not, List, Ok, Err, ap, ◌∙◌, subst, sym, [], ◌∷◌}
 use Rattle.std.proofs.lemmas.Result.{on_ok_weaker}
 use Rattle.iloc_grammar.specs.Blocks.{head}
 use Rattle.iloc_grammar.specs.Reading.{after_head, starts_block}
@@ -8,18 +8,18 @@ use Rattle.iloc_locale.specs.LocaleValue.{value_of}
 use Rattle.iloc_locale.proofs.ReadLemmas.{after_head_starts}
 use Rattle.iloc_lines.specs.ReplyBlock.{held}
 use Rattle.iloc_program.proofs.AnswerLemmas.{head_alone, head_bad, locale_accepted, locale_refused, nothing_left, on_ok_both}
-use Rattle.iloc_program.proofs.answers.LocalesAnswers.answer.Goals as goal
+use Rattle.iloc_program.proofs.answers.LocalesAnswers.reply.Goals as goal
 
 pub returns-in-Err : goal.returns-in-Err
 returns-in-Err c =
     on_ok_both c.write_refusal.result c.write_refusal.ensures.text c.write_refusal.ensures.known
-    (λ e n. e ∙ ap (λ t. held c.args.replies.now ++ t) (sym (head_bad c.args.line.now c.in-Err.error
+    (λ e n. e ∙ ap (λ t. held c.args.replies.now ++ (t ++ 10 ∷ [])) (sym (head_bad c.args.line.now c.in-Err.error
     (subst (λ (ps : List (List ℕ)). ReadsAs (head ps) (Err c.in-Err.error)) c.new-iter.ensures c.in-Err.ensures.reads) n)))
 
 pub returns-then-is_none : goal.returns-then-is_none
 returns-then-is_none c =
     on_ok_weaker c.write_text.result
-    (λ e. e ∙ ap (λ t. held c.args.replies.now ++ t) (sym (head_alone c.args.line.now c.fill_head.new.identifier (left c.fill_head.new.iter)
+    (λ e. e ∙ ap (λ t. held c.args.replies.now ++ (t ++ 10 ∷ [])) (sym (head_alone c.args.line.now c.fill_head.new.identifier (left c.fill_head.new.iter)
     (subst (λ (ps : List (List ℕ)). ReadsAs (head ps) (Ok c.fill_head.new.identifier)) c.new-iter.ensures c.in_default.ensures.reads)
     (c.in_default.ensures.rest ∙ ap after_head c.new-iter.ensures)
     (nothing_left (λ p. p.now) (left c.fill_head.new.iter) c.peek.result c.peek.ensures (c.is_none.ensures ∙ ap not c.if-is_none.true)))))
@@ -31,7 +31,7 @@ read_rest-requires c = record { starts = subst (λ (ps : List (List ℕ)). start
 pub returns-in-Ok : goal.returns-in-Ok
 returns-in-Ok c =
     on_ok_weaker c.write_text-in-Ok.result
-    (λ e. e ∙ ap (λ t. held c.args.replies.now ++ t) (sym (locale_accepted c.args.line.now (value_of c.read_rest.new.locale)
+    (λ e. e ∙ ap (λ t. held c.args.replies.now ++ (t ++ 10 ∷ [])) (sym (locale_accepted c.args.line.now (value_of c.read_rest.new.locale)
     (c.in-Ok.ensures c.args.line.now
     (subst (λ (ps : List (List ℕ)). ReadsAs (head ps) (Ok c.fill_head.new.identifier)) c.new-iter.ensures c.in_default.ensures.reads)
     (c.in_default.ensures.rest ∙ ap after_head c.new-iter.ensures)))))
@@ -40,7 +40,7 @@ returns-in-Ok c =
 pub returns-in-Err-read_rest : goal.returns-in-Err-read_rest
 returns-in-Err-read_rest c =
     on_ok_both c.write_refusal-in-Err-read_rest.result c.write_refusal-in-Err-read_rest.ensures.text c.write_refusal-in-Err-read_rest.ensures.known
-    (λ e n. e ∙ ap (λ t. held c.args.replies.now ++ t) (sym (locale_refused c.args.line.now c.in-Err-read_rest.error
+    (λ e n. e ∙ ap (λ t. held c.args.replies.now ++ (t ++ 10 ∷ [])) (sym (locale_refused c.args.line.now c.in-Err-read_rest.error
     (c.in-Err-read_rest.ensures c.args.line.now
     (subst (λ (ps : List (List ℕ)). ReadsAs (head ps) (Ok c.fill_head.new.identifier)) c.new-iter.ensures c.in_default.ensures.reads)
     (c.in_default.ensures.rest ∙ ap after_head c.new-iter.ensures)) n)))

@@ -1,0 +1,63 @@
+-- The first LF, told by a mask of 32 bytes.
+use Rattle.std.proofs.Common.{◌≡◌, ℕ, ◌^◌, ◌<◌, ◌≤◌, Bool, true, false, not, List, length, map, get_or, take, refl, sym, ap, ◌∙◌, subst, arith, inl, inr, Some}
+use Rattle.std.specs.List.{prefix_len}
+use Rattle.std.proofs.lemmas.Bool.{false≢true, cases_lt}
+use Rattle.std.proofs.lemmas.List.{get_or-take, length-take-le, length-map}
+use Rattle.std.proofs.lemmas.List.Sums.{prefix_len_passes, prefix_len_stops}
+use Rattle.std.proofs.lemmas.Nat.Bits.{bit_at-trailing_zeros, bit_at_above}
+use Rattle.std.proofs.lemmas.Simd.{trailing_mask_l, mask_l-lt}
+use lib.Count.{count_trailing_zeros}
+use lib.Lanes.{mask_l}
+use mir.Syntax.{w64}
+use Rattle.memchr.specs.Find.{IsFirstByte, Passes, NoneBefore, is_byte}
+
+not-false : (b : Bool) → not b ≡ true → b ≡ false
+not-false true e = sym e
+not-false false e = refl
+
+not-true : (b : Bool) → not b ≡ false → b ≡ true
+not-true true e = refl
+not-true false e = sym e
+
+-- where fewer than n of the first n bytes come before the first that passes, it stands after these
+pub first_passes : (p : ℕ → Bool) (hay : List ℕ) (n k : ℕ) → n ≤ length hay → k ≡ prefix_len (λ b. not (p b)) (take n hay) → k < n
+    → length (take n hay) ≡ n → NoneBefore (Passes p hay) 0 (length hay) k × Passes p hay k
+first_passes p hay n k within e few long =
+    let q = λ (b : ℕ). not (p b) in
+    let there : prefix_len q (take n hay) < length (take n hay) = omega arith in
+    let here : p (get_or hay k 0) ≡ true =
+    ap p (sym (get_or-take n hay k 0 few)) ∙ ap (λ i. p (get_or (take n hay) i 0)) e ∙ not-true _ (prefix_len_stops q (take n hay) 0 there) in (
+      record {
+        low = omega arith;
+        high = omega arith;
+        before = λ i low less passes.
+            let early : i < prefix_len q (take n hay) = omega arith in
+            let small : i < n = omega arith in
+            let none : p (get_or hay i 0) ≡ false = ap p (sym (get_or-take n hay i 0 small)) ∙ not-false _ (prefix_len_passes q (take n hay) i 0 early) in
+            absurd (false≢true (sym none ∙ passes));
+      },
+      here,
+    )
+
+module _ (hay : List ℕ) (long : 32 ≤ length hay) where
+  abbrev front : List ℕ
+  front = take 32 hay
+
+  size : length front ≡ 32
+  size = length-take-le 32 hay long
+
+  -- a mask of 32 bytes that is not empty has its lowest bit where the first LF stands
+  pub first_end : (m : ℕ) → m ≡ mask_l (map (is_byte 10) front) → 0 < m → IsFirstByte (is_byte 10) hay (Some (count_trailing_zeros 64 m))
+  first_end m e some =
+      let p = is_byte 10 in
+      let lanes : length (map p front) ≡ 32 = length-map front p ∙ size in
+      let below : mask_l (map p front) < 2 ^ 32 = subst (λ (k : ℕ). mask_l (map p front) < 2 ^ k) lanes (mask_l-lt (map p front)) in
+      let small : m < 2 ^ 32 = omega arith in
+      let place = count_trailing_zeros 64 m in
+      let lowest = bit_at-trailing_zeros w64 m some (omega arith) in
+      let within : place < 32 = elim (cases_lt place 32) [
+        | inl less ↦ less
+        | inr more ↦ absurd (omega (arith, lowest.1, bit_at_above m 32 place small more))
+      ] in
+      first_passes p hay 32 place long
+      (ap (count_trailing_zeros 64) e ∙ trailing_mask_l p 64 front (omega (arith, size)) (subst (λ (k : ℕ). 0 < k) e some)) within size

@@ -1,0 +1,15 @@
+use Rattle.std.proofs.Common.{◌≢◌, ℕ, List, [], ◌++◌, ap, ◌∙◌, sym, append_assoc}
+use Rattle.std.proofs.lemmas.List.Elements.{All-nil}
+use Rattle.iloc_grammar.specs.Words.{languages}
+use Rattle.iloc_output.proofs.LineCuts.{output-cut}
+use Rattle.iloc_lines.specs.Output.{mode_of, output, reply}
+use Rattle.iloc_lines.specs.ReplyBlock.{held}
+use Rattle.iloc_lines.proofs.lines.feed_lines.Goals as goal
+
+pub lines-preserved : goal.lines-preserved
+lines-preserved g c = rw (c.in_ok-reply_to.ensures) (record {
+  ahead = λ next. c.lines.invariant.ahead next
+      ∙ ap (λ (t : List ℕ). held c.lines.replies ++ t)
+      (output-cut languages (mode_of g.A.Answers.mode) [] c.lines.rest.now c.in-Some.line.now c.in-Some.later.now next (All-nil (λ (b : ℕ). b ≢ 10)) c.in-Some.ensures.0 c.in-Some.ensures.1)
+      ∙ sym (append_assoc (held c.lines.replies) (reply g.A.Answers.mode c.in-Some.line.now) (output g.A.Answers.mode (c.in-Some.later.now ++ next)));
+})
