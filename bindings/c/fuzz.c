@@ -7,6 +7,10 @@
 #include <stdlib.h>
 #include <string.h>
 
+/* The library counts nothing for libFuzzer, so the answers do: a new mode, status and number of subtags is news. */
+#define SUBTAGS 32
+__attribute__((section("__libfuzzer_extra_counters"))) static uint8_t news[3 * 8 * SUBTAGS * 2];
+
 struct text {
     const uint8_t *bytes;
     size_t length;
@@ -25,6 +29,14 @@ static icu_locale_status normalize(icu_locale_mode mode, struct text text, size_
     if (*buffer == NULL)
         stop("out of memory");
     return icu_locale_normalize(mode, text.bytes, text.length, *buffer, room, length);
+}
+
+static void note(icu_locale_mode mode, icu_locale_status status, struct text text, int is_long)
+{
+    size_t subtags = 0;
+    for (size_t i = 0; i < text.length; i++)
+        subtags += text.bytes[i] == '-';
+    news[((mode * 8 + status) * SUBTAGS + (subtags < SUBTAGS ? subtags : SUBTAGS - 1)) * 2 + (is_long != 0)] = 1;
 }
 
 static int order_of(icu_locale_mode mode, struct text a, struct text b)
@@ -64,6 +76,7 @@ static int look_at(icu_locale_mode mode, struct text text)
     icu_locale_status status = normalize(mode, text, text.length + 4, &buffer, &length);
     if (icu_locale_check(mode, text.bytes, text.length) != status || status == ICU_LOCALE_BUFFER_TOO_SMALL)
         stop("checking says otherwise");
+    note(mode, status, text, text.length > 24);
     if (status == ICU_LOCALE_DONE)
         look_at_normal(mode, text, (struct text){buffer, length});
     else if (length != 0)
