@@ -1,11 +1,13 @@
 /* Answers each line of standard input, for tools/try_bindings.
  *
  * answers langid|locale|data   the normal text of the line, or "! " and the words of the refusal
- * answers pairs                of each two lines the byte order of the first, normalised, against the second, and
- *                              whether they mean the same, as "-1 0"; or the refusal of the first
- * answers buffers              nothing, where each line is answered alike in buffers of every size, in every mode
+ * answers pairs-langid|pairs-locale|pairs-data
+ *                              of each two lines the byte order of the first, normalized, against the second, whether
+ *                              they mean the same, and the order of both normal forms, as "-1 0 -1"; a refusal stands
+ *                              in the place of the last, or of all three if the first is refused
+ * answers buffers              nothing, if each line is answered alike in buffers of every size, in every mode
  *
- * It asks for no memory itself. The status is 0 where it could read, write and answer all. */
+ * It asks for no memory itself. The status is 0 if it could read, write and answer all. */
 #include "icu_locale.h"
 
 #include <stdio.h>
@@ -29,7 +31,7 @@ static void stop(const char *why)
     exit(1);
 }
 
-/* Reads a line without its LF, and tells whether there was one. */
+/* Reads a line without its newline, and tells whether there was one. */
 static int read_line(struct line *line)
 {
     int byte;
@@ -70,15 +72,15 @@ static void answer_lines(icu_locale_mode mode)
     }
 }
 
-/* Compares the first line with the second in both ways, and returns why not, where one is refused. */
-static icu_locale_status compare(int8_t *order, uint8_t *same)
+/* Compares the first line with the second in two ways, and returns why not, if it is refused. */
+static icu_locale_status compare(icu_locale_mode mode, int8_t *order, uint8_t *same)
 {
     *order = UNTOUCHED;
     *same = UNTOUCHED;
     icu_locale_status compared =
-        icu_locale_strict_cmp(first.bytes, first.length, second.bytes, second.length, order);
+        icu_locale_strict_cmp(mode, first.bytes, first.length, second.bytes, second.length, order);
     icu_locale_status told =
-        icu_locale_normalizing_eq(first.bytes, first.length, second.bytes, second.length, same);
+        icu_locale_normalizing_eq(mode, first.bytes, first.length, second.bytes, second.length, same);
     if ((compared == ICU_LOCALE_DONE) == (*order == UNTOUCHED) || (told == ICU_LOCALE_DONE) == (*same == UNTOUCHED))
         stop("a refused comparison has written, or another has not");
     if (compared == told || told == ICU_LOCALE_OUT_OF_MEMORY)
@@ -88,14 +90,22 @@ static icu_locale_status compare(int8_t *order, uint8_t *same)
     return compared;
 }
 
-static void answer_pairs(void)
+static void answer_pairs(icu_locale_mode mode)
 {
     while (read_line(&first) && read_line(&second)) {
-        int8_t order;
+        int8_t order, both = UNTOUCHED;
         uint8_t same;
-        icu_locale_status status = compare(&order, &same);
+        icu_locale_status status = compare(mode, &order, &same);
+        if (status != ICU_LOCALE_DONE) {
+            write_refusal(status);
+            continue;
+        }
+        status = icu_locale_compare(mode, first.bytes, first.length, second.bytes, second.length, &both);
+        if ((status == ICU_LOCALE_DONE) == (both == UNTOUCHED))
+            stop("a refused comparison has written, or another has not");
+        printf("%d %d ", order, same);
         if (status == ICU_LOCALE_DONE)
-            printf("%d %d\n", order, same);
+            printf("%d\n", both);
         else
             write_refusal(status);
     }
@@ -127,15 +137,18 @@ static void try_mode(icu_locale_mode mode)
         stop("a mode is not known, or another is");
     if (icu_locale_check(mode, first.bytes, first.length) != status)
         stop("checking says otherwise");
+    if (length > first.length + (mode == ICU_LOCALE_DATA_LOCALE ? 4 : 0))
+        stop("a normal form is longer than the header says");
     for (size_t room = 0; room <= length + 1; room++)
         try_room(mode, room, status, reply, length);
 }
 
 static void try_buffers(void)
 {
-    static const icu_locale_mode modes[] = {ICU_LOCALE_IDENTIFIER, ICU_LOCALE_LOCALE, ICU_LOCALE_DATA_LOCALE, 3, 255};
+    static const icu_locale_mode modes[] = {
+        ICU_LOCALE_IDENTIFIER, ICU_LOCALE_LOCALE, ICU_LOCALE_DATA_LOCALE, 3, 255, 256, 257, (icu_locale_mode)-1};
     while (read_line(&first))
-        for (size_t i = 0; i < sizeof modes; i++)
+        for (size_t i = 0; i < sizeof modes / sizeof *modes; i++)
             try_mode(modes[i]);
 }
 
@@ -149,6 +162,29 @@ static void try_words(void)
         if (ended != (is_known ? ICU_LOCALE_DONE : ICU_LOCALE_UNKNOWN_NUMBER) || (length > 0) != is_known)
             stop("the words of a status");
     }
+}
+
+/* Null pointers with no bytes are empty texts and buffers without room. */
+static void try_nothing(void)
+{
+    size_t needed = UNTOUCHED;
+    int8_t order = UNTOUCHED;
+    uint8_t same = UNTOUCHED;
+    first.length = 0;
+    if (icu_locale_check(ICU_LOCALE_LOCALE, NULL, 0) != ICU_LOCALE_INVALID_LANGUAGE)
+        stop("an empty text at a null pointer, checked");
+    if (icu_locale_normalize(ICU_LOCALE_LOCALE, NULL, 0, NULL, 0, &needed) != ICU_LOCALE_INVALID_LANGUAGE || needed != 0)
+        stop("an empty text at a null pointer, normalized");
+    if (icu_locale_normalize(ICU_LOCALE_LOCALE, (const uint8_t *)"EN", 2, NULL, 0, &needed) != ICU_LOCALE_BUFFER_TOO_SMALL ||
+        needed != 2)
+        stop("no room at a null pointer");
+    if (icu_locale_strict_cmp(ICU_LOCALE_LOCALE, (const uint8_t *)"EN", 2, NULL, 0, &order) != ICU_LOCALE_DONE || order != 1)
+        stop("an empty text at a null pointer, compared");
+    if (icu_locale_normalizing_eq(ICU_LOCALE_DATA_LOCALE, (const uint8_t *)"EN", 2, NULL, 0, &same) != ICU_LOCALE_DONE ||
+        same != 0)
+        stop("an empty text at a null pointer, told apart");
+    if (icu_locale_compare(ICU_LOCALE_IDENTIFIER, (const uint8_t *)"EN", 2, NULL, 0, &order) != ICU_LOCALE_INVALID_LANGUAGE)
+        stop("an empty text at a null pointer, ordered");
 }
 
 int main(int count, char **words)
@@ -165,11 +201,15 @@ int main(int count, char **words)
         answer_lines(ICU_LOCALE_LOCALE);
     else if (strcmp(word, "data") == 0)
         answer_lines(ICU_LOCALE_DATA_LOCALE);
-    else if (strcmp(word, "pairs") == 0)
-        answer_pairs();
+    else if (strcmp(word, "pairs-langid") == 0)
+        answer_pairs(ICU_LOCALE_IDENTIFIER);
+    else if (strcmp(word, "pairs-locale") == 0)
+        answer_pairs(ICU_LOCALE_LOCALE);
+    else if (strcmp(word, "pairs-data") == 0)
+        answer_pairs(ICU_LOCALE_DATA_LOCALE);
     else if (strcmp(word, "buffers") == 0)
-        try_buffers(), try_words();
+        try_buffers(), try_words(), try_nothing();
     else
-        stop("usage: answers langid|locale|data|pairs|buffers");
+        stop("usage: answers langid|locale|data|pairs-langid|pairs-locale|pairs-data|buffers");
     return ferror(stdin) || fflush(stdout) != 0;
 }

@@ -1,5 +1,7 @@
-//! Unicode locale identifiers, such as `en-US-u-ca-buddhist`: normalised, checked and compared, by the library of
-//! `include/icu_locale.h`, whose every function is proved. This wrapper is not proved.
+//! Unicode locale identifiers, such as `en-US-u-ca-buddhist`: normalized, checked and compared.
+//!
+//! The work is done by the library of `include/icu_locale.h`, whose every function is proved. This wrapper is not
+//! proved.
 //!
 //! ```
 //! use icu_locale_c::{normalize, Mode, Refusal};
@@ -10,10 +12,11 @@
 
 use std::cmp::Ordering;
 use std::fmt;
+use std::sync::OnceLock;
 
 pub mod sys;
 
-/// What a text is read as.
+/// How a text is parsed.
 #[derive(Clone, Copy, Debug, PartialEq, Eq, Hash)]
 pub enum Mode {
     /// A language identifier, as `en-Latn-US-posix`.
@@ -25,7 +28,7 @@ pub enum Mode {
 }
 
 impl Mode {
-    fn number(self) -> u8 {
+    fn number(self) -> u32 {
         match self {
             Mode::Identifier => sys::IDENTIFIER,
             Mode::Locale => sys::LOCALE,
@@ -34,48 +37,51 @@ impl Mode {
     }
 }
 
-/// Why a text is refused.
+/// Why a text is refused, or why the library cannot be asked.
 #[derive(Clone, Copy, Debug, PartialEq, Eq, Hash)]
+#[non_exhaustive]
 pub enum Refusal {
-    /// It begins with no language.
+    /// The text does not begin with a language.
     InvalidLanguage,
-    /// A piece of it does not fit where it stands.
+    /// A subtag may not stand where it stands.
     InvalidSubtag,
-    /// An extension does not follow its rules.
+    /// An extension breaks its rules.
     InvalidExtension,
     /// An extension begins a second time.
     DuplicatedExtension,
-    /// Memory was refused.
+    /// An allocation failed.
     OutOfMemory,
+    /// The linked library was made for another header: no text was looked at.
+    AnotherLibrary,
+    /// The library gave a status that its header does not have here.
+    UnknownStatus(u32),
 }
 
 impl Refusal {
-    fn number(self) -> u8 {
+    fn words(self) -> &'static str {
         match self {
-            Refusal::InvalidLanguage => sys::INVALID_LANGUAGE,
-            Refusal::InvalidSubtag => sys::INVALID_SUBTAG,
-            Refusal::InvalidExtension => sys::INVALID_EXTENSION,
-            Refusal::DuplicatedExtension => sys::DUPLICATED_EXTENSION,
-            Refusal::OutOfMemory => sys::OUT_OF_MEMORY,
+            Refusal::InvalidLanguage => "The given language subtag is invalid",
+            Refusal::InvalidSubtag => "Invalid subtag",
+            Refusal::InvalidExtension => "Invalid extension",
+            Refusal::DuplicatedExtension => "Duplicated extension",
+            Refusal::OutOfMemory => "Out of memory",
+            Refusal::AnotherLibrary => "The linked libicu_locale is of another header",
+            Refusal::UnknownStatus(_) => "The linked libicu_locale gave an unknown status",
         }
     }
 }
 
-/// It prints its words.
+/// It prints its words, and honors the width and the alignment that are asked for.
 impl fmt::Display for Refusal {
     fn fmt(&self, f: &mut fmt::Formatter<'_>) -> fmt::Result {
-        let mut words = [0u8; 64];
-        let mut needed = 0;
-        // SAFETY: the pointers are of values that live here, and the room is that of the array.
-        unsafe { sys::icu_locale_words(self.number(), words.as_mut_ptr(), words.len(), &mut needed) };
-        f.write_str(&String::from_utf8_lossy(&words[..needed]))
+        f.pad(self.words())
     }
 }
 
 impl std::error::Error for Refusal {}
 
 /// A status, as a result. The functions here pass the numbers and the room that the others ask for.
-fn result(status: u8) -> Result<(), Refusal> {
+fn result(status: u32) -> Result<(), Refusal> {
     match status {
         sys::DONE => Ok(()),
         sys::INVALID_LANGUAGE => Err(Refusal::InvalidLanguage),
@@ -83,72 +89,136 @@ fn result(status: u8) -> Result<(), Refusal> {
         sys::INVALID_EXTENSION => Err(Refusal::InvalidExtension),
         sys::DUPLICATED_EXTENSION => Err(Refusal::DuplicatedExtension),
         sys::OUT_OF_MEMORY => Err(Refusal::OutOfMemory),
-        _ => unreachable!("the library is of another header"),
+        other => Err(Refusal::UnknownStatus(other)),
     }
 }
 
-/// Writes the normal text into the buffer where it fits, and returns the status and the length of that text.
-fn write_normal(mode: Mode, text: &[u8], buffer: &mut [u8]) -> (u8, usize) {
+/// Whether the linked library was made for the header of this wrapper. It is asked once.
+pub fn is_of_this_version() -> bool {
+    static IS_SAME: OnceLock<bool> = OnceLock::new();
+    // SAFETY: it takes nothing.
+    *IS_SAME.get_or_init(|| unsafe { sys::icu_locale_version() == sys::VERSION })
+}
+
+fn look_at_version() -> Result<(), Refusal> {
+    if is_of_this_version() {
+        Ok(())
+    } else {
+        Err(Refusal::AnotherLibrary)
+    }
+}
+
+/// The normal form of the text.
+pub fn normalize(mode: Mode, text: impl AsRef<[u8]>) -> Result<String, Refusal> {
+    look_at_version()?;
+    let text = text.as_ref();
+    // A normal form is at most four bytes longer than its text.
+    let mut normal = vec![0; text.len() + 4];
     let mut needed = 0;
     // SAFETY: pointers and lengths are those of slices, and what is written to is borrowed alone.
-    let status = unsafe {
+    result(unsafe {
         sys::icu_locale_normalize(
             mode.number(),
             text.as_ptr(),
             text.len(),
-            buffer.as_mut_ptr(),
-            buffer.len(),
+            normal.as_mut_ptr(),
+            normal.len(),
             &mut needed,
         )
-    };
-    (status, needed)
-}
-
-/// The normal text of what the text means.
-pub fn normalize(mode: Mode, text: impl AsRef<[u8]>) -> Result<String, Refusal> {
-    let text = text.as_ref();
-    let mut normal = vec![0; 64];
-    let (mut status, mut needed) = write_normal(mode, text, &mut normal);
-    if status == sys::BUFFER_TOO_SMALL {
-        normal.resize(needed, 0);
-        (status, needed) = write_normal(mode, text, &mut normal);
-    }
-    result(status)?;
+    })?;
     normal.truncate(needed);
-    Ok(String::from_utf8(normal).expect("a normal text is text"))
+    String::from_utf8(normal).map_err(|_| Refusal::AnotherLibrary)
 }
 
-/// Whether the text means something, or why not.
+/// Whether the text has a meaning, or why not.
 pub fn check(mode: Mode, text: impl AsRef<[u8]>) -> Result<(), Refusal> {
+    look_at_version()?;
     let text = text.as_ref();
     // SAFETY: pointer and length are those of a slice.
     result(unsafe { sys::icu_locale_check(mode.number(), text.as_ptr(), text.len()) })
 }
 
-/// The byte order of a locale's normal text against other bytes.
-pub fn strict_cmp(text: impl AsRef<[u8]>, other: impl AsRef<[u8]>) -> Result<Ordering, Refusal> {
+/// The byte order of the text's normal form against other bytes, as they stand.
+pub fn strict_cmp(mode: Mode, text: impl AsRef<[u8]>, other: impl AsRef<[u8]>) -> Result<Ordering, Refusal> {
+    look_at_version()?;
     let (text, other) = (text.as_ref(), other.as_ref());
     let mut order = 0;
     // SAFETY: pointers and lengths are those of slices, and what is written to lives here.
     result(unsafe {
-        sys::icu_locale_strict_cmp(text.as_ptr(), text.len(), other.as_ptr(), other.len(), &mut order)
+        sys::icu_locale_strict_cmp(
+            mode.number(),
+            text.as_ptr(),
+            text.len(),
+            other.as_ptr(),
+            other.len(),
+            &mut order,
+        )
     })?;
     Ok(order.cmp(&0))
 }
 
-/// Whether the other bytes are a locale that means the same as the text.
-pub fn normalizing_eq(text: impl AsRef<[u8]>, other: impl AsRef<[u8]>) -> Result<bool, Refusal> {
+/// Whether both texts have the same meaning. Only the first is refused.
+pub fn normalizing_eq(mode: Mode, text: impl AsRef<[u8]>, other: impl AsRef<[u8]>) -> Result<bool, Refusal> {
+    look_at_version()?;
     let (text, other) = (text.as_ref(), other.as_ref());
     let mut same = 0;
     // SAFETY: pointers and lengths are those of slices, and what is written to lives here.
     result(unsafe {
-        sys::icu_locale_normalizing_eq(text.as_ptr(), text.len(), other.as_ptr(), other.len(), &mut same)
+        sys::icu_locale_normalizing_eq(
+            mode.number(),
+            text.as_ptr(),
+            text.len(),
+            other.as_ptr(),
+            other.len(),
+            &mut same,
+        )
     })?;
     Ok(same == 1)
 }
 
-/// Whether the linked library was made for the header of this wrapper.
-pub fn is_of_this_version() -> bool {
-    // SAFETY: it takes nothing.
-    unsafe { sys::icu_locale_version() == sys::VERSION }
+/// The byte order of the normal forms of both texts.
+pub fn compare(mode: Mode, text: impl AsRef<[u8]>, other: impl AsRef<[u8]>) -> Result<Ordering, Refusal> {
+    look_at_version()?;
+    let (text, other) = (text.as_ref(), other.as_ref());
+    let mut order = 0;
+    // SAFETY: pointers and lengths are those of slices, and what is written to lives here.
+    result(unsafe {
+        sys::icu_locale_compare(
+            mode.number(),
+            text.as_ptr(),
+            text.len(),
+            other.as_ptr(),
+            other.len(),
+            &mut order,
+        )
+    })?;
+    Ok(order.cmp(&0))
+}
+
+#[cfg(test)]
+mod tests {
+    use super::*;
+
+    #[test]
+    fn a_refusal_honors_the_width() {
+        assert_eq!(format!("{:>16}|", Refusal::InvalidSubtag), "  Invalid subtag|");
+        assert_eq!(format!("{:-<16}|", Refusal::OutOfMemory), "Out of memory---|");
+    }
+
+    #[test]
+    fn an_unknown_status_is_an_error() {
+        assert_eq!(result(8), Err(Refusal::UnknownStatus(8)));
+        assert_eq!(result(sys::BUFFER_TOO_SMALL), Err(Refusal::UnknownStatus(6)));
+    }
+
+    #[test]
+    fn the_words_are_the_library_s() {
+        for (status, refusal) in (1..=5).map(|it| (it, result(it).unwrap_err())) {
+            let mut words = [0u8; 64];
+            let mut needed = 0;
+            // SAFETY: the pointers are of values that live here, and the room is that of the array.
+            let ended = unsafe { sys::icu_locale_words(status, words.as_mut_ptr(), words.len(), &mut needed) };
+            assert_eq!((ended, &words[..needed]), (sys::DONE, refusal.words().as_bytes()));
+        }
+    }
 }

@@ -1,0 +1,80 @@
+"""Builds the wheel of icu_locale_c for pip, with the library inside. It needs no package and no network.
+
+The library is out/bindings/libicu_locale.so, or the one that ICU_LOCALE_LIBRARY names. If there is none,
+bindings/build makes it, which needs the toolchain."""
+
+import base64
+import hashlib
+import os
+import pathlib
+import subprocess
+import zipfile
+
+HERE = pathlib.Path(__file__).resolve().parent
+TOP = HERE.parent.parent
+PACKAGE = "icu_locale_c"
+TAG = "py3-none-linux_x86_64"
+METADATA = """Metadata-Version: 2.1
+Name: {name}
+Version: {version}
+Summary: Unicode locale identifiers, by a library that is proved
+License: MIT
+Requires-Python: >=3.8
+"""
+WHEEL = """Wheel-Version: 1.0
+Generator: wheel_backend
+Root-Is-Purelib: false
+Tag: {tag}
+"""
+
+
+def version():
+    return (TOP / "VERSION").read_text(encoding="ascii").strip()
+
+
+def library():
+    """The bytes of the library, which is built first if it is not there."""
+    named = os.environ.get("ICU_LOCALE_LIBRARY")
+    path = pathlib.Path(named) if named else TOP / "out" / "bindings" / "libicu_locale.so"
+    if not named and not path.is_file():
+        subprocess.run([str(TOP / "bindings" / "build")], check=True)
+    return path.read_bytes()
+
+
+def described():
+    """The files of the wheel's description, by their paths in it."""
+    info = f"{PACKAGE}-{version()}.dist-info"
+    return {
+        f"{info}/METADATA": METADATA.format(name=PACKAGE, version=version()).encode(),
+        f"{info}/WHEEL": WHEEL.format(tag=TAG).encode(),
+        f"{info}/LICENSE": (TOP / "LICENSE").read_bytes(),
+        f"{info}/NOTICE": (TOP / "NOTICE").read_bytes(),
+    }
+
+
+def packed():
+    """The files of the package, by their paths in the wheel."""
+    return {
+        f"{PACKAGE}/__init__.py": (HERE / PACKAGE / "__init__.py").read_bytes(),
+        f"{PACKAGE}/py.typed": b"",
+        f"{PACKAGE}/VERSION": f"{version()}\n".encode(),
+        f"{PACKAGE}/libicu_locale.so": library(),
+    }
+
+
+def build_wheel(wheel_directory, config_settings=None, metadata_directory=None):
+    """Writes the wheel into the folder, and returns its name, as PEP 517 asks."""
+    files, record = {**packed(), **described()}, []
+    name = f"{PACKAGE}-{version()}-{TAG}.whl"
+    with zipfile.ZipFile(pathlib.Path(wheel_directory) / name, "w", zipfile.ZIP_DEFLATED) as wheel:
+        for path, text in files.items():
+            wheel.writestr(path, text)
+            digest = base64.urlsafe_b64encode(hashlib.sha256(text).digest()).rstrip(b"=").decode()
+            record.append(f"{path},sha256={digest},{len(text)}")
+        path = f"{PACKAGE}-{version()}.dist-info/RECORD"
+        wheel.writestr(path, "\n".join([*record, f"{path},,", ""]))
+    return name
+
+
+def build_sdist(sdist_directory, config_settings=None):
+    raise NotImplementedError("the package is built in the repository, from bindings/python alone: pip install bindings/python")

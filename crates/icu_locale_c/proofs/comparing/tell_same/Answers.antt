@@ -1,9 +1,0 @@
-use Rattle.std.proofs.Common.{◌∙◌, ap}
-use Rattle.std.specs.Ordering.{is_eq}
-use Rattle.iloc_locale.specs.LocaleValue.{value_of}
-use Rattle.icu_locale_c.proofs.AnswerLemmas.{tells_read}
-use Rattle.icu_locale_c.proofs.comparing.tell_same.Goals as goal
-
-pub returns-in-Ok-try_from_utf8 : goal.returns-in-Ok-try_from_utf8
-returns-in-Ok-try_from_utf8 c =
-    tells_read c.args.text.now c.args.other.now c.args.same.now c.from-in-Ok-try_from_utf8.result (value_of c.in-Ok.locale) (value_of c.in-Ok-try_from_utf8.other) c.is_eq.result c.in-Ok.ensures.reads c.in-Ok-try_from_utf8.ensures.reads (c.is_eq.ensures ∙ ap is_eq c.total_cmp.ensures) c.from-in-Ok-try_from_utf8.ensures

@@ -1,7 +1,0 @@
-use Rattle.std.proofs.Common.{refl}
-use Rattle.icu_locale_c.proofs.AnswerLemmas.{no_status}
-use Rattle.icu_locale_c.proofs.icu_locale_words.Goals as goal
-
-pub returns-in-Some-clause-unknown : goal.returns-in-Some-clause-unknown
-returns-in-Some-clause-unknown c far =
-    absurd (no_status c.in-Some.status c.args.status ((c.in-Some.ensures c.in-Some.status).0 refl) far)

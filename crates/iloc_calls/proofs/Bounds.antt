@@ -1,0 +1,44 @@
+-- How long a normal text is: as an identifier's text, no longer than a locale's, at most four bytes longer than a data
+-- locale's.
+use Rattle.std.proofs.Common.{◌≡◌, ℕ, ◌+◌, ◌-◌, ◌^◌, ◌≤◌, List, length, refl, ap, arith}
+use Rattle.std.proofs.lemmas.Bool.Decides.{nat_tests}
+use Rattle.iloc_grammar.specs.Words.{languages}
+use Rattle.iloc_grammar.specs.Values.{identifier_text, text}
+use Rattle.iloc_grammar.proofs.Chains.{shortest}
+use Rattle.iloc_grammar.proofs.IdentifierTexts.{length-identifier_means}
+use Rattle.iloc_regions.specs.DataLocales.{data_text}
+use Rattle.iloc_writeable.specs.Hints.{saturated}
+use Rattle.iloc_lines.specs.declared.Mode.{Mode}
+use Rattle.iloc_lines.specs.declared.Mode.TheVariants.{Langid, Locale, Data}
+use Rattle.iloc_calls.specs.declared.status.Status.{Status}
+use Rattle.iloc_calls.specs.declared.status.Status.TheVariants.{Done, InvalidLanguage, InvalidSubtag, InvalidExtension, DuplicatedExtension, OutOfMemory, BufferTooSmall, UnknownNumber}
+use Rattle.iloc_calls.specs.Answers.{IsNormalText, NormalizesTo, growth}
+use Rattle.iloc_calls.proofs.Lengths.{data_text_fits}
+
+normal_text_fits : (m : Mode) (t n : List ℕ) → IsNormalText m t n → length n ≤ length t + growth m
+normal_text_fits Langid t n h =
+    let a : length (identifier_text h.0) ≡ length t = length-identifier_means languages t h.0 h.1 in
+    let b : length n ≡ length (identifier_text h.0) = ap length h.2 in
+    omega (arith, a, b)
+normal_text_fits Locale t n h =
+    let a : length (text h.0) ≤ length t = shortest languages t h.0 h.1 in
+    let b : length n ≡ length (text h.0) = ap length h.2 in
+    omega (arith, a, b)
+normal_text_fits Data t n h =
+    let a : length (data_text h.0) ≤ length t + 4 = data_text_fits t h.0 h.1 in
+    let b : length n ≡ length (data_text h.0) = ap length h.2 in
+    omega (arith, a, b)
+
+saturated_below : (n : ℕ) → saturated n ≤ n
+saturated_below n = grind (arith, nat_tests)
+
+-- so is the room that is asked for
+pub needed_fits : (m : Mode) (t before after : List ℕ) (needed : ℕ) (s : Status) → NormalizesTo m t before after needed s → needed ≤ length t + growth m
+needed_fits m t before after needed Done h = let a = normal_text_fits m t h.0 h.1 in let b = h.2.1 in omega (arith, a, b)
+needed_fits m t before after needed BufferTooSmall h = let a = normal_text_fits m t h.0 h.1 in let b = h.2.1 in let c = saturated_below (length h.0) in omega (arith, a, b, c)
+needed_fits m t before after needed InvalidLanguage h = let b = h.1 in omega (arith, b)
+needed_fits m t before after needed InvalidSubtag h = let b = h.1 in omega (arith, b)
+needed_fits m t before after needed InvalidExtension h = let b = h.1 in omega (arith, b)
+needed_fits m t before after needed DuplicatedExtension h = let b = h.1 in omega (arith, b)
+needed_fits m t before after needed OutOfMemory h = let b = h.1 in omega (arith, b)
+needed_fits m t before after needed UnknownNumber h = let b = h.1 in omega (arith, b)

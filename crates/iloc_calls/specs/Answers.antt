@@ -1,0 +1,137 @@
+-- What a caller finds after each call, by its status.
+use Rattle.std.specs.Prelude.{◌≡◌, ◌⊎◌, ℕ, ℤ, pos, negsuc, ◌≤◌, ◌<◌, List, ◌++◌, length, drop}
+use Rattle.std.specs.Ordering.{nat_cmp}
+use Rattle.std.specs.Cmp.Lexicographic.{slice_cmp}
+use Rattle.std.specs.declared.cmp.Ordering.{Ordering}
+use Rattle.std.specs.declared.cmp.Ordering.TheVariants.{Less, Equal, Greater}
+use Rattle.iloc_grammar.specs.Pieces.{pieces}
+use Rattle.iloc_grammar.specs.Words.{languages}
+use Rattle.iloc_grammar.specs.Meaning as meaning
+use Rattle.iloc_grammar.specs.Written.{Identifier}
+use Rattle.iloc_grammar.specs.Meaning.{IdentifierMeans, Means}
+use Rattle.iloc_grammar.specs.Faults as faults
+use Rattle.iloc_grammar.specs.Faults.{Fault, HasIdentifierFault, HasFault}
+use Rattle.iloc_regions.specs.DataLocales.{DataLocale, DataMeans, HasDataFault, data_text}
+use Rattle.iloc_writeable.specs.Hints.{saturated}
+use Rattle.iloc_langid.specs.Normalizing as langid
+use Rattle.iloc_langid.specs.Reads as langid_reads
+use Rattle.iloc_locale.specs.Normalizing as locale
+use Rattle.iloc_locale.specs.Reads as locale_reads
+use Rattle.iloc_subtags.specs.declared.parse_error.ParseError.{ParseError}
+use Rattle.iloc_subtags.specs.declared.parse_error.ParseError.TheVariants as refusals
+use Rattle.iloc_lines.specs.declared.Mode.{Mode}
+use Rattle.iloc_lines.specs.declared.Mode.TheVariants.{Langid, Locale, Data}
+use Rattle.iloc_calls.specs.declared.status.Status.{Status}
+use Rattle.iloc_calls.specs.declared.status.Status.TheVariants.{Done, InvalidLanguage, InvalidSubtag, InvalidExtension, DuplicatedExtension, OutOfMemory, BufferTooSmall, UnknownNumber}
+
+-- Texts, by the mode.
+
+-- the bytes are the normal text of what the text means
+abbrev pub IsNormalText : Mode → List ℕ → List ℕ → Type 0
+IsNormalText Langid t normal = langid.IsTextOf t normal
+IsNormalText Locale t normal = locale.IsTextOf t normal
+IsNormalText Data t normal = (d : DataLocale) × DataMeans languages t d × (normal ≡ data_text d)
+
+-- the text means nothing, and has this fault
+abbrev pub IsFaulty : Mode → List ℕ → Fault → Type 0
+IsFaulty Langid t f = HasIdentifierFault languages (pieces t) f
+IsFaulty Locale t f = HasFault languages t f
+IsFaulty Data t f = HasDataFault languages t f
+
+-- where memory may be wanted to read the text: never where it is short
+abbrev pub WantsMemory : Mode → List ℕ → Type 0
+WantsMemory Langid t = langid_reads.WantsMemory (pieces t)
+WantsMemory Locale t = locale_reads.WantsMemory t
+WantsMemory Data t = ⊥
+
+-- the status of a text: it means something, or has the fault, or memory was wanted
+abbrev pub JudgedAs : Mode → List ℕ → Status → Type 0
+JudgedAs mode t Done = (normal : List ℕ) × IsNormalText mode t normal
+JudgedAs mode t InvalidLanguage = IsFaulty mode t faults.InvalidLanguage
+JudgedAs mode t InvalidSubtag = IsFaulty mode t faults.InvalidSubtag
+JudgedAs mode t InvalidExtension = IsFaulty mode t faults.InvalidExtension
+JudgedAs mode t DuplicatedExtension = IsFaulty mode t faults.DuplicatedExtension
+JudgedAs mode t OutOfMemory = WantsMemory mode t
+JudgedAs mode t BufferTooSmall = ⊥
+JudgedAs mode t UnknownNumber = ⊥
+
+-- What is written for a caller.
+
+-- the bytes are at the front of the buffer where they fit; else it is as before, and their number says how large it must be
+abbrev pub HandsOut : List ℕ → List ℕ → List ℕ → ℕ → Status → Type 0
+HandsOut bytes before after needed Done = (length bytes ≤ length before) × (needed ≡ length bytes)
+    × (after ≡ bytes ++ drop (length bytes) before)
+HandsOut bytes before after needed BufferTooSmall = (length before < length bytes)
+    × (needed ≡ saturated (length bytes)) × (after ≡ before)
+HandsOut bytes before after needed _ = ⊥
+
+-- the normal text is handed out; where there is none, nothing is
+abbrev pub NormalizesTo : Mode → List ℕ → List ℕ → List ℕ → ℕ → Status → Type 0
+NormalizesTo mode t before after needed Done = (normal : List ℕ) × IsNormalText mode t normal
+    × HandsOut normal before after needed Done
+NormalizesTo mode t before after needed BufferTooSmall = (normal : List ℕ) × IsNormalText mode t normal
+    × HandsOut normal before after needed BufferTooSmall
+NormalizesTo mode t before after needed status = JudgedAs mode t status × (needed ≡ 0) × (after ≡ before)
+
+-- how much longer than a text its normal text may be: a data locale is printed with its subdivision's region
+abbrev pub growth : Mode → ℕ
+growth Langid = 0
+growth Locale = 0
+growth Data = 4
+
+abbrev pub order_number : Ordering → ℤ
+order_number Less = negsuc 0
+order_number Equal = pos 0
+order_number Greater = pos 1
+
+-- the byte order of the normal text against other bytes is written, and else nothing is
+abbrev pub ComparesTo : Mode → List ℕ → List ℕ → ℤ → ℤ → Status → Type 0
+ComparesTo mode t other before after Done = (normal : List ℕ) × IsNormalText mode t normal
+    × (after ≡ order_number (slice_cmp nat_cmp normal other))
+ComparesTo mode t other before after status = JudgedAs mode t status × (after ≡ before)
+
+-- the normal text of the other bytes is written out of place only if they are not that text
+abbrev pub IsNotNormal : Mode → List ℕ → Type 0
+IsNotNormal mode t = (normal : List ℕ) × IsNormalText mode t normal × ¬ (t ≡ normal)
+
+-- the order of two normal texts is written; or there was no memory for the second, which is not the bytes
+abbrev pub IsOrderOf : List ℕ → List ℕ → List ℕ → ℤ → ℤ → Status → Type 0
+IsOrderOf a b bytes before after Done = after ≡ order_number (slice_cmp nat_cmp a b)
+IsOrderOf a b bytes before after OutOfMemory = ¬ (bytes ≡ b) × (after ≡ before)
+IsOrderOf a b bytes before after _ = ⊥
+
+-- the byte order of both normal texts is written; a refusal is of the first text, or else of the other
+abbrev pub OrdersTo : Mode → List ℕ → List ℕ → ℤ → ℤ → Status → Type 0
+OrdersTo mode t other before after Done = (a b : List ℕ) × IsNormalText mode t a
+    × IsNormalText mode other b × (after ≡ order_number (slice_cmp nat_cmp a b))
+OrdersTo mode t other before after OutOfMemory =
+    (WantsMemory mode t ⊎ (WantsMemory mode other ⊎ IsNotNormal mode other)) × (after ≡ before)
+OrdersTo mode t other before after status =
+    (JudgedAs mode t status ⊎ ((normal : List ℕ) × IsNormalText mode t normal × JudgedAs mode other status))
+    × (after ≡ before)
+
+-- both texts mean the same
+abbrev pub MeanSame : Mode → List ℕ → List ℕ → Type 0
+MeanSame Langid t u = (i : Identifier) × IdentifierMeans languages (pieces t) i
+    × IdentifierMeans languages (pieces u) i
+MeanSame Locale t u = (M : meaning.Locale) × Means languages t M × Means languages u M
+MeanSame Data t u = (d : DataLocale) × DataMeans languages t d × DataMeans languages u d
+
+-- where telling whether they do may want memory: to parse either; a data locale is printed to be compared
+abbrev pub TellingWantsMemory : Mode → List ℕ → List ℕ → Type 0
+TellingWantsMemory Langid t u = WantsMemory Langid t ⊎ WantsMemory Langid u
+TellingWantsMemory Locale t u = WantsMemory Locale t ⊎ WantsMemory Locale u
+TellingWantsMemory Data t u = IsNotNormal Data u
+
+-- what is told of a refused text: that it means something else, unless memory was wanted to parse it
+abbrev pub RefusedTells : ParseError → ℕ → ℕ → Status → Type 0
+RefusedTells refusal before after status =
+    ((refusal ≡ refusals.OutOfMemory) × (status ≡ OutOfMemory) × (after ≡ before))
+    ⊎ (¬ (refusal ≡ refusals.OutOfMemory) × (status ≡ Done) × (after ≡ 0))
+
+-- 1 is written if the other bytes mean what the text means, and else 0
+abbrev pub TellsSame : Mode → List ℕ → List ℕ → ℕ → ℕ → Status → Type 0
+TellsSame mode t other before after Done = ((normal : List ℕ) × IsNormalText mode t normal)
+    × (((after ≡ 1) × MeanSame mode t other) ⊎ ((after ≡ 0) × ¬ (MeanSame mode t other)))
+TellsSame mode t other before after OutOfMemory = TellingWantsMemory mode t other × (after ≡ before)
+TellsSame mode t other before after status = JudgedAs mode t status × (after ≡ before)

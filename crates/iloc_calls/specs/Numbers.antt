@@ -1,0 +1,47 @@
+-- The numbers of modes and of statuses, and the words of statuses.
+use Rattle.std.specs.Prelude.{◌≡◌, ℕ, List, codes}
+use Rattle.iloc_subtags.specs.declared.parse_error.ParseError.{ParseError}
+use Rattle.iloc_subtags.specs.declared.parse_error.ParseError.TheVariants as refusals
+use Rattle.iloc_subtags.specs.ParseError as refusals_words
+use Rattle.iloc_lines.specs.declared.Mode.{Mode}
+use Rattle.iloc_lines.specs.declared.Mode.TheVariants.{Langid, Locale, Data}
+use Rattle.iloc_calls.specs.declared.status.Status.{Status}
+use Rattle.iloc_calls.specs.declared.status.Status.TheVariants.{Done, InvalidLanguage, InvalidSubtag, InvalidExtension, DuplicatedExtension, OutOfMemory, BufferTooSmall, UnknownNumber}
+
+abbrev pub mode_number : Mode → ℕ
+mode_number Langid = 0
+mode_number Locale = 1
+mode_number Data = 2
+
+abbrev pub number_of : Status → ℕ
+number_of Done = 0
+number_of InvalidLanguage = 1
+number_of InvalidSubtag = 2
+number_of InvalidExtension = 3
+number_of DuplicatedExtension = 4
+number_of OutOfMemory = 5
+number_of BufferTooSmall = 6
+number_of UnknownNumber = 7
+
+-- the number is that of a status of which this holds
+abbrev pub EndsAs : (Status → Type 0) → ℕ → Type 0
+EndsAs P number = (status : Status) × (number ≡ number_of status) × P status
+
+-- the status of a refusal
+abbrev pub status_of : ParseError → Status
+status_of refusals.InvalidLanguage = InvalidLanguage
+status_of refusals.InvalidSubtag = InvalidSubtag
+status_of refusals.InvalidExtension = InvalidExtension
+status_of refusals.DuplicatedExtension = DuplicatedExtension
+status_of refusals.OutOfMemory = OutOfMemory
+
+-- the words of a refusal are the library's
+abbrev pub words_of : Status → List ℕ
+words_of Done = codes "Done"
+words_of InvalidLanguage = refusals_words.words_of refusals.InvalidLanguage
+words_of InvalidSubtag = refusals_words.words_of refusals.InvalidSubtag
+words_of InvalidExtension = refusals_words.words_of refusals.InvalidExtension
+words_of DuplicatedExtension = refusals_words.words_of refusals.DuplicatedExtension
+words_of OutOfMemory = refusals_words.words_of refusals.OutOfMemory
+words_of BufferTooSmall = codes "Buffer too small"
+words_of UnknownNumber = codes "Unknown number"

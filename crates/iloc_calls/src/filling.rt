@@ -1,0 +1,69 @@
+//! Handing out texts in a caller's buffer.
+ghost use Rattle.iloc_calls.specs.Answers.{HandsOut};
+
+use crate::status::Status;
+use iloc_writeable::{Sink, Writeable};
+use std::fmt;
+
+/// Fills a buffer from its front. It fails where a text does not fit, and then writes nothing of it.
+#[derive(Drop)]
+struct Filling<'a> {
+    buffer: &'a mut [u8],
+    count: usize,
+}
+
+impl<'a> Sink for Filling<'a> {
+    ghost use Rattle.std.specs.Prelude.{length};
+    ghost use Rattle.iloc_calls.specs.Filling.{Filled, Overflowed};
+
+    ghost took = { λ a t b. Filled a.buffer a.count t b.buffer b.count };
+
+    ghost failed = { λ a t u _. Overflowed (length a.buffer.now) a.count t u };
+
+    fn write_str(&mut self, text: &str) -> fmt::Result {
+        let bytes = text.as_bytes();
+        match self.count.checked_add(bytes.len()) {
+            Some(end) if end <= self.buffer.len() => {
+                self.buffer[self.count..end].copy_from_slice(bytes);
+                self.count = end;
+                Ok(())
+            }
+            _ => Err(fmt::Error),
+        }
+    }
+
+    ghost use Rattle.iloc_calls.specs.Filling.{
+      filled_nothing,
+      filled_both,
+      overflowed_after,
+      overflowed_more,
+    };
+
+    ghost took_nothing = { λ s. filled_nothing s.buffer s.count };
+
+    ghost took_then_took = { λ a b c s t p q. filled_both a.buffer a.count b.buffer b.count c.buffer
+        c.count s t p q };
+
+    ghost took_then_failed = { λ a b c s t u p q. overflowed_after a.buffer a.count b.buffer
+        b.count s t u p q };
+
+    ghost failed_of_more = { λ a b t u v q. overflowed_more (length a.buffer.now) a.count t u v q };
+}
+
+/// Writes the text into the buffer where it fits, and its length to `needed`. It takes no memory.
+pub fn hand_out<W: Writeable>(value: &W, buffer: &mut [u8], needed: &mut usize) -> Status
+    ensures { HandsOut (W.text value.now) buffer.old buffer.new needed.new result }
+{
+    let hint = value.writeable_length_hint();
+    *needed = hint.0;
+    match hint.1 {
+        Some(length) if length <= buffer.len() => {
+            let mut filling = Filling { buffer, count: 0 };
+            match value.write_to(&mut filling) {
+                Ok(()) => Status::Done,
+                Err(_) => unreachable!(),
+            }
+        }
+        _ => Status::BufferTooSmall,
+    }
+}

@@ -1,0 +1,125 @@
+//! What the calls of the C library do: the crate `icu_locale_c` exports them under their names in
+//! `include/icu_locale.h`.
+//!
+//! A text is bytes of any encoding. Each function gives the number of a status, and its contract says, status by
+//! status, what the caller finds (`NormalizesTo` and its like): the normal text, the fault that the grammar names, or
+//! the room that is needed; what is not written stays as it was. Only parsing allocates, and `compare`.
+#![tactic(auto)]
+
+ghost use Rattle.std.specs.Prelude.{◌≡◌, ◌+◌, ◌<◌, ◌≤◌, length};
+ghost use Rattle.iloc_lines.specs.declared.Mode.{Mode};
+ghost use Rattle.iloc_calls.specs.declared.status.Status.{Status};
+ghost use Rattle.iloc_calls.specs.Answers.{
+  ComparesTo,
+  HandsOut,
+  JudgedAs,
+  NormalizesTo,
+  OrdersTo,
+  TellsSame,
+  growth,
+};
+ghost use Rattle.iloc_calls.specs.Numbers.{EndsAs, mode_number, number_of, words_of};
+
+mod answers;
+mod comparing;
+mod filling;
+mod same;
+mod status;
+
+use answers::{judge, mode_of};
+pub use comparing::number;
+pub use filling::hand_out;
+pub use status::Status;
+use std::alloc::Global;
+
+/// Writes the normal text of what the text means into the buffer, and its length to `needed`.
+///
+/// The mode is 0 for identifiers, 1 for locales and 2 for data locales.
+pub fn normalize(
+    alloc: Global,
+    mode: u32,
+    text: &[u8],
+    buffer: &mut [u8],
+    needed: &mut usize,
+) -> u32
+    ensures known { (m : Mode) → mode ≡ mode_number m
+        → EndsAs (NormalizesTo m text.now buffer.old buffer.new needed.new) result }
+    ensures bounded { (m : Mode) → mode ≡ mode_number m
+        → needed.new ≤ length text.now + growth m }
+    ensures unknown { 2 < mode → (result ≡ number_of Status.UnknownNumber)
+        × (needed.new ≡ 0) × (buffer.new ≡ buffer.old) }
+{
+    match mode_of(mode) {
+        Some(mode) => answers::normalize(alloc, mode, text, buffer, needed).number(),
+        None => {
+            *needed = 0;
+            Status::UnknownNumber.number()
+        }
+    }
+}
+
+/// Whether the text means something in the mode, or why not.
+pub fn check(alloc: Global, mode: u32, text: &[u8]) -> u32
+    ensures known { (m : Mode) → mode ≡ mode_number m → EndsAs (JudgedAs m text.now) result }
+    ensures unknown { 2 < mode → result ≡ number_of Status.UnknownNumber }
+{
+    match mode_of(mode) {
+        Some(mode) => judge(alloc, mode, text).number(),
+        None => Status::UnknownNumber.number(),
+    }
+}
+
+/// Writes the byte order of the normal text against other bytes, as -1, 0 or 1.
+pub fn strict_cmp(alloc: Global, mode: u32, text: &[u8], other: &[u8], order: &mut i8) -> u32
+    ensures known { (m : Mode) → mode ≡ mode_number m
+        → EndsAs (ComparesTo m text.now other.now order.old order.new) result }
+    ensures unknown { 2 < mode
+        → (result ≡ number_of Status.UnknownNumber) × (order.new ≡ order.old) }
+{
+    match mode_of(mode) {
+        Some(mode) => comparing::strict_cmp(alloc, mode, text, other, order).number(),
+        None => Status::UnknownNumber.number(),
+    }
+}
+
+/// Writes 1 if both texts have the same meaning, and else 0.
+pub fn normalizing_eq(alloc: Global, mode: u32, text: &[u8], other: &[u8], same: &mut u8) -> u32
+    ensures known { (m : Mode) → mode ≡ mode_number m
+        → EndsAs (TellsSame m text.now other.now same.old same.new) result }
+    ensures unknown { 2 < mode
+        → (result ≡ number_of Status.UnknownNumber) × (same.new ≡ same.old) }
+{
+    match mode_of(mode) {
+        Some(mode) => same::tell_same(alloc, mode, text, other, same).number(),
+        None => Status::UnknownNumber.number(),
+    }
+}
+
+/// Writes the byte order of the normal texts of both, as -1, 0 or 1.
+pub fn compare(alloc: Global, mode: u32, text: &[u8], other: &[u8], order: &mut i8) -> u32
+    ensures known { (m : Mode) → mode ≡ mode_number m
+        → EndsAs (OrdersTo m text.now other.now order.old order.new) result }
+    ensures unknown { 2 < mode
+        → (result ≡ number_of Status.UnknownNumber) × (order.new ≡ order.old) }
+{
+    match mode_of(mode) {
+        Some(mode) => comparing::compare_both(alloc, mode, text, other, order).number(),
+        None => Status::UnknownNumber.number(),
+    }
+}
+
+/// Writes the words of a status into the buffer, and their length to `needed`.
+pub fn words(status: u32, buffer: &mut [u8], needed: &mut usize) -> u32
+    ensures known { (told : Status) → status ≡ number_of told
+        → EndsAs (HandsOut (words_of told) buffer.old buffer.new needed.new) result }
+    ensures unknown { 7 < status → (result ≡ number_of Status.UnknownNumber)
+        × (needed.new ≡ 0) × (buffer.new ≡ buffer.old) }
+{
+    match Status::from_number(status) {
+        Some(status) => hand_out(&status.words(), buffer, needed).number(),
+        None => {
+            *needed = 0;
+            Status::UnknownNumber.number()
+        }
+    }
+}

@@ -1,0 +1,100 @@
+//! Tells whether two texts have the same meaning.
+ghost use Rattle.iloc_calls.specs.Answers.{RefusedTells, TellsSame};
+ghost use Rattle.iloc_lines.specs.declared.Mode.TheVariants.{Langid, Locale as OfLocale, Data};
+
+use crate::comparing::order_of;
+use crate::status::Status;
+use iloc_data::DataLocale;
+use iloc_langid::LanguageIdentifier;
+use iloc_locale::Locale;
+use iloc_program::Mode;
+use iloc_subtags::ParseError;
+use std::alloc::Global;
+
+// A refused text means something else, unless memory was wanted to parse it.
+fn tell_refused(refusal: ParseError, same: &mut u8) -> Status
+    ensures { RefusedTells refusal same.old same.new result }
+{
+    match refusal {
+        ParseError::OutOfMemory => Status::OutOfMemory,
+        _ => {
+            *same = 0;
+            Status::Done
+        }
+    }
+}
+
+/// Writes 1 if the other bytes are an identifier that means the same as the text, and else 0.
+fn same_identifiers(alloc: Global, text: &[u8], other: &[u8], same: &mut u8) -> Status
+    ensures { TellsSame Langid text.now other.now same.old same.new result }
+{
+    let identifier = match LanguageIdentifier::try_from_utf8(alloc, text) {
+        Ok(identifier) => identifier,
+        Err(refusal) => return Status::from(refusal),
+    };
+    match LanguageIdentifier::try_from_utf8(alloc, other) {
+        Ok(other) => {
+            *same = u8::from(identifier.total_cmp(&other).is_eq());
+            Status::Done
+        }
+        Err(refusal) => tell_refused(refusal, same),
+    }
+}
+
+/// Writes 1 if the other bytes are a locale that means the same as the text, and else 0.
+fn same_locales(alloc: Global, text: &[u8], other: &[u8], same: &mut u8) -> Status
+    ensures { TellsSame OfLocale text.now other.now same.old same.new result }
+{
+    let locale = match Locale::try_from_utf8(alloc, text) {
+        Ok(locale) => locale,
+        Err(refusal) => return Status::from(refusal),
+    };
+    match Locale::try_from_utf8(alloc, other) {
+        Ok(other) => {
+            *same = u8::from(locale.total_cmp(&other).is_eq());
+            Status::Done
+        }
+        Err(refusal) => tell_refused(refusal, same),
+    }
+}
+
+/// Writes 1 if the other bytes are a data locale that means the same as the text, and else 0.
+fn same_data_locales(alloc: Global, text: &[u8], other: &[u8], same: &mut u8) -> Status
+    ensures { TellsSame Data text.now other.now same.old same.new result }
+{
+    let data = match DataLocale::try_from_utf8(text) {
+        Ok(data) => data,
+        Err(refusal) => return Status::from(refusal),
+    };
+    let second = match DataLocale::try_from_utf8(other) {
+        Ok(second) => second,
+        Err(_) => {
+            *same = 0;
+            return Status::Done;
+        }
+    };
+    match order_of(alloc, &data, &second, other) {
+        Ok(order) => {
+            *same = u8::from(order.is_eq());
+            Status::Done
+        }
+        Err(status) => status,
+    }
+}
+
+/// Writes 1 if the other bytes have the meaning of the text in the mode, and else 0.
+pub(crate) fn tell_same(
+    alloc: Global,
+    mode: Mode,
+    text: &[u8],
+    other: &[u8],
+    same: &mut u8,
+) -> Status
+    ensures { TellsSame mode text.now other.now same.old same.new result }
+{
+    match mode {
+        Mode::Langid => same_identifiers(alloc, text, other, same),
+        Mode::Locale => same_locales(alloc, text, other, same),
+        Mode::Data => same_data_locales(alloc, text, other, same),
+    }
+}
