@@ -4,7 +4,7 @@ A part stands between `<!-- trusted: WHAT -->` and `<!-- /trusted -->`, where WH
 
 - `counts`: how much there is to read;
 - `clause CALL NAME`: a clause of a contract, word for word;
-- `files PATH ..`: the definitions of these files on which the headline rests;
+- `files PATH ..`: the definitions of these files on which the headline rests; `?PATH` need not hold any;
 - `types`: the types and views through which its contracts see values;
 - `memory`: what only the clauses on memory cite;
 - `outside`: how much of specs/ the headline does not rest on."""
@@ -125,7 +125,10 @@ class Page:
     def part_files(self, *paths):
         ordered = dict(self.plain.ordered(self.plain.definitions))
         lines = []
-        for path in paths:
+        for named in paths:
+            path = named.removeprefix("?")
+            if named != path and path not in ordered:
+                continue
             if path not in ordered:
                 raise Wrong(f"the headline rests on no definition of {path}: take the path out")
             self.placed.add(path)
