@@ -13,6 +13,7 @@ use Rattle.iloc_fronts.specs.Fronts.{is_bad_key, keywords_front, after_keywords,
 
 -- the keywords and the fields at the front, as they are written
 
+-- the keywords at the front, as they are spelled
 abbrev pub keywords_at : List Text → Fields
 keywords_at ps = fields_from is_two (keywords_front ps)
 
@@ -21,6 +22,7 @@ abbrev pub before_bad_key : Fields → Fields
 before_bad_key [] = []
 before_bad_key (f ∷ fs) = if is_word UnicodeKey f.0 then f ∷ before_bad_key fs else []
 
+-- the keywords that a reader keeps before a fault, or before the end
 abbrev pub keywords_kept : List Text → Fields
 keywords_kept ps = before_bad_key (keywords_at ps)
 

@@ -24,9 +24,11 @@ past_from first test ps = if first (first_piece ps) then past test ps else ps
 
 -- After `u`: attributes, as many as there are.
 
+-- the longest front of attributes
 abbrev pub attributes_front : List Text → List Text
 attributes_front ps = passing (is_word Attribute) ps
 
+-- what is left after it
 abbrev pub after_attributes : List Text → List Text
 after_attributes ps = past (is_word Attribute) ps
 
@@ -37,9 +39,11 @@ attributes_read ps = set_of (map lower (attributes_front ps))
 -- Then keywords, which begin with a piece of two bytes and go on with such pieces and with 3 to 8
 -- letters or digits.
 
+-- whether the piece goes on with keywords: a key's two bytes, or a value
 abbrev pub is_keyword_piece : Text → Bool
 is_keyword_piece p = is_two p || is_word Attribute p
 
+-- the longest front of such pieces, if a piece of two bytes begins it
 abbrev pub keywords_front : List Text → List Text
 keywords_front ps = passing_from is_two is_keyword_piece ps
 
@@ -74,6 +78,7 @@ pub data UnicodeFault (ps : List Text) : Fault → Type 0 where
 
 -- After `t`: where the first piece is a language, the longest front of an identifier's words.
 
+-- an identifier and the longest front that is one, or none where no language is first
 pub data FrontRead (T : Table) (ps : List Text) : Option Identifier → List Text → Type 0 where
   absent : is_word (Language T) (first_piece ps) ≡ false → FrontRead T ps None ps
   present : {i : Identifier} {rest : List Text} → IsIdentifier T i → IdentifierFront T ps i rest
@@ -114,9 +119,11 @@ pub data TransformFault (T : Table) (ps : List Text) : Fault → Type 0 where
 
 -- After another singleton: the longest front of pieces of 2 to 8 bytes, of which a word is kept.
 
+-- whether the piece has the length of those after another singleton: 2 to 8 bytes
 abbrev pub has_other_length : Text → Bool
 has_other_length p = is_in_range 2 8 (length p)
 
+-- the longest front of such pieces
 abbrev pub other_front : List Text → List Text
 other_front ps = passing has_other_length ps
 
@@ -130,6 +137,7 @@ pub data OtherFault (ps : List Text) : Fault → Type 0 where
 
 -- After `x`: all the rest, which is private words.
 
+-- the longest front of private words
 abbrev pub private_front : List Text → List Text
 private_front ps = passing (is_word PrivateSubtag) ps
 

@@ -4,6 +4,7 @@ use Rattle.std.specs.Prelude.{Bool, cond, ◌==◌, List, [], ◌∷◌, length}
 use Rattle.std.specs.Char.{to_ascii_lowercase}
 use Rattle.iloc_grammar.specs.Shapes.{Text, Block}
 
+-- whether the piece may begin a block: a singleton (UTS #35 3, `unicode_locale_id`)
 abbrev pub is_one_byte : Text → Bool
 is_one_byte p = length p == 1
 

@@ -15,6 +15,7 @@ abbrev pub first_item : {X : Type 0} → List X → Option X
 first_item [] = None
 first_item (x ∷ xs) = Some x
 
+-- all pieces but the first
 abbrev pub rest_of : List Text → List Text
 rest_of [] = []
 rest_of (p ∷ ps) = ps
@@ -24,6 +25,7 @@ abbrev pub take_first : (Text → Bool) → List Text → Option Text
 take_first test [] = None
 take_first test (p ∷ ps) = cond (test p) (Some p) None
 
+-- the pieces without the first, if that passes the test
 abbrev pub skip_first : (Text → Bool) → List Text → List Text
 skip_first test [] = []
 skip_first test (p ∷ ps) = cond (test p) ps (p ∷ ps)
@@ -33,6 +35,7 @@ abbrev pub passing : (Text → Bool) → List Text → List Text
 passing test [] = []
 passing test (p ∷ ps) = cond (test p) (p ∷ passing test ps) []
 
+-- the pieces after the longest front that passes the test
 abbrev pub past : (Text → Bool) → List Text → List Text
 past test [] = []
 past test (p ∷ ps) = cond (test p) (past test ps) (p ∷ ps)
@@ -48,6 +51,7 @@ EndsBefore test (p ∷ ps) = test p ≡ false
 abbrev pub after_script : List Text → List Text
 after_script ps = skip_first (is_word Script) (rest_of ps)
 
+-- what is left after a language, perhaps a script and perhaps a region
 abbrev pub after_region : List Text → List Text
 after_region ps = skip_first (is_word Region) (after_script ps)
 
@@ -96,6 +100,7 @@ fields_from test (p ∷ ps) = cond (test p) ((p, before_key test ps) ∷ fields_
 
 -- Extensions.
 
+-- whether the piece has two bytes, as the keys of `u` and `t` have
 abbrev pub is_two : Text → Bool
 is_two p = length p == 2
 

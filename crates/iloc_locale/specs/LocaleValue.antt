@@ -6,6 +6,7 @@ use Rattle.iloc_langid.specs.Unknown.{unknown_identifier}
 use Rattle.iloc_extensions.specs.ExtensionsValue as extensions
 use Rattle.iloc_locale.specs.declared.locale.Locale.{Locale}
 
+-- the value of a locale: that of its identifier and that of its extensions
 abbrev pub value_of : Locale → meaning.Locale
 value_of l =
     record { id = langid.value_of l.id; extensions = extensions.value_of l.extensions }
