@@ -4,9 +4,8 @@ import os
 import re
 import threading
 
-from common import ROOT
 from edit_places import functions
-from kit import LOGIC, read, rtlib
+from kit import LOGIC, ROOT, read, rtlib
 
 RECORD = f"{ROOT}/tools/edits.record"
 ABOUT = """\

@@ -1,0 +1,32 @@
+"""The words that tools/edits takes."""
+import argparse
+import os
+
+from common import ROOT, parser
+
+
+def arguments(doc):
+    words = parser("tools/edits", doc)
+    flag = lambda name, text: words.add_argument(name, action="store_true", help=text)
+    flag("--all", "every crate, and every edit")
+    flag("--list", "say what would be tried")
+    flag("--alone", "try each edit alone")
+    flag("--times", "say what each check took")
+    words.add_argument(
+        "--must-fail", dest="folder", action="store_const", const="must-fail", default="edits",
+        help="try the edits of must-fail/, and record nothing",
+    )
+    words.add_argument(
+        "--minutes", type=float, default=1e6, metavar="N",
+        help="start nothing that may end later",
+    )
+    words.add_argument("--size", type=int, default=24, metavar="N", help="edits in a batch at most")
+    words.add_argument("--worker", nargs=2, help=argparse.SUPPRESS)
+    words.add_argument("names", nargs="*", metavar="NAME")
+    given = words.parse_args()
+    for it in given.names:
+        crate, _, edit = it.partition("/")
+        place = f"{ROOT}/crates/{crate}" + f"/{given.folder}/{edit}.edit" * bool(edit)
+        if not crate or not os.path.exists(place):
+            words.error(f"there is no {os.path.relpath(place, ROOT)}")
+    return given
