@@ -9,7 +9,7 @@ import re
 
 import api_words
 from api_model import entries
-from api_source import ROOT, TOP, crate, libraries, read
+from api_source import ROOT, TOP, home_of, libraries, read
 
 FIRST = ("crates/first_locale", "crates/recipes")
 FUNCTION = re.compile(
@@ -79,7 +79,10 @@ def names_of(text):
             if path == "crate":
                 path = ROOT
             entry = by_path().get(f"{path}::{made}")
-            home = (entry.crate, made_name(entry)) if entry else (path.split("::")[0], made)
+            first = path.split("::")[0]
+            home = (entry.crate, made_name(entry)) if entry else (first, made)
+            if not entry and first.startswith("iloc_") and os.path.isdir(f"{TOP}/crates/{first}"):
+                home = home_of(first, made)
             if home in by_home():
                 known[shown or made] = home
     return known

@@ -227,8 +227,8 @@ def rust_row(entry):
         same, changed = [], {it: [f"`{entry.name}`"] for it in filter(None, map(change, entry.calls))}
     said = "; ".join(f"{', '.join(names)}: {how}" for how, names in changed.items())
     here = entry.path.removeprefix(f"{ROOT}::")
-    there = entry.rust.removeprefix(f"{ROOT}::") or entry.name
-    return f"| `{there}` | `{here}` | {', '.join(same)} | {said} | {'; '.join(named)} |"
+    there = api_words.BASES.get(entry.name) or f"`{entry.rust.removeprefix(f'{ROOT}::')}`"
+    return f"| {there} | `{here}` | {', '.join(same)} | {said} | {'; '.join(named)} |"
 
 
 def from_rust_table():

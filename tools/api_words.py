@@ -218,6 +218,13 @@ OWN = {
 }
 OWN_MODULES = ("program", "subtags::kinds")
 
+# The Rust types that a generic type stands for.
+BASES = {
+    "WordOf": "each of the eleven kinds of subtags, as `subtags::Language`",
+    "WordSet": "`subtags::Variants`",
+    "SingleKeyword": "`NumberingSystem`, `TimeZoneShortId`, `RegionOverride`, `RegionalSubdivision`",
+}
+
 # Calls that stand for another item of Rust (empty: nothing does).
 OWN_CALLS = {
     "unknown": "the constant UNKNOWN",
@@ -228,7 +235,7 @@ OWN_CALLS = {
     "extend_from_map": "",
     "as_slice": "Deref",
     "as_mut_slice": "DerefMut",
-    "item_mut": "IndexMut",
+    "item_mut": "",
     "try_from_raw_v1": "",
     "from_piece": "",
     "to_piece": "",
@@ -270,6 +277,10 @@ OWN_CALLS_OF = {
     "Private::try_from_iter": "",
     "Value::extend": "Extend<Subtag>",
     "LiteMap::extend": "Extend",
+    "Fields::as_slice": "",
+    "Other::as_slice": "",
+    "LiteMap::as_slice": "",
+    "Value::as_slice": "",
     "Locale::clear": "",
     "Extensions::clear": "",
     "LanguageIdentifier::clear": "",
