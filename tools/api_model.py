@@ -313,23 +313,28 @@ def fields_of(item):
     return rows
 
 
+def given_by(trait, whole, base, item, name):
+    """Yields what an `impl` gives the type, each trait with what the `impl` says."""
+    bare = re.match(r"(?:fmt::)?(\w+)", trait).group(1)
+    said = " ".join(item.paragraphs()[:1])
+    if base != name:
+        yield f"{trait} for {whole}", said
+    elif bare == "TextValue":
+        yield "JsonText", ""
+    elif bare == "EnumKeyword":
+        yield "PreferenceKey", OF_PREFERENCES
+    elif bare in OF_STD or bare in OURS:
+        yield trait.removeprefix("fmt::"), said
+
+
 def given_of(home, name):
     """Returns the traits of the type, each with what its `impl` says."""
     found = {it: "" for it in home.derived(name) if it in OF_STD}
     for at in [crate(it) for it in libraries()]:
         for trait, whole, base, item in at.given:
-            bare = re.match(r"(?:fmt::)?(\w+)", trait).group(1)
-            made_of = re.match(r"(?:Try)?From<&?(\w+)", trait)
-            is_here = at.name == home.name or owns(at, home, name)
-            if base == name and is_here:
-                if bare in OF_STD or bare in OURS and bare != "TextValue":
-                    found[trait.removeprefix("fmt::")] = " ".join(item.paragraphs()[:1])
-                if bare == "EnumKeyword":
-                    found.setdefault("PreferenceKey", OF_PREFERENCES)
-                if bare == "TextValue":
-                    found.setdefault("JsonText", "")
-            elif made_of and made_of.group(1) == name and is_here:
-                found[f"{trait} for {whole}"] = " ".join(item.paragraphs()[:1])
+            is_made_of = re.match(rf"(?:Try)?From<&?{name}\b", trait)
+            if (base == name or is_made_of) and (at.name == home.name or owns(at, home, name)):
+                found |= dict(given_by(trait, whole, base, item, name))
     found.pop("Drop", None)
     return [Given(trait, api_words.GIVEN.get(trait, said)) for trait, said in found.items()]
 
