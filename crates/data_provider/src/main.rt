@@ -82,20 +82,42 @@ fn say(out: &mut String, from: &Payloads<'_>, asked: LocalePreferences) -> Resul
     Ok(())
 }
 
+/// Says what is loaded for the locale of the text.
+fn answer(
+    alloc: Global,
+    out: &mut String,
+    from: &Payloads<'_>,
+    text: &str,
+) -> Result<(), ParseError> {
+    let locale = Locale::try_from_str(alloc, text)?;
+    Ok(say(out, from, LocalePreferences::from(&locale))?)
+}
+
+/// Takes in the payloads and answers the other lines, in order.
+fn answer_all<'a>(
+    alloc: Global,
+    out: &mut String,
+    payloads: &mut Payloads<'a>,
+    lines: &'a str,
+) -> Result<(), ParseError> {
+    for line in lines.lines() {
+        match line.split_once('\t') {
+            Some((text, payload)) => put(payloads, text, payload)?,
+            None => {
+                writeln!(out, "{line}")?;
+                answer(alloc, out, payloads, line)?;
+            }
+        }
+    }
+    Ok(())
+}
+
 fn main(rt: HostRuntime) -> anyhow::Result<()> {
     let alloc = rt.alloc();
     let input = io::read_to_string(alloc, rt.reader())?;
     let mut payloads = HashMap::new(alloc);
     let mut out = String::new(alloc);
-    for line in input.as_str().lines() {
-        if let Some((text, payload)) = line.split_once('\t') {
-            put(&mut payloads, text, payload)?;
-            continue;
-        }
-        writeln!(out, "{line}")?;
-        let locale = Locale::try_from_str(alloc, line)?;
-        say(&mut out, &payloads, LocalePreferences::from(&locale))?;
-    }
+    answer_all(alloc, &mut out, &mut payloads, input.as_str())?;
     print!(rt; "{out}")?;
     Ok(())
 }

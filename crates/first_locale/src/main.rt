@@ -7,6 +7,11 @@ use icu_locale_core::subtags::Region;
 fn main(rt: HostRuntime) -> anyhow::Result<()> {
     let alloc = rt.alloc();
     let mut locale = Locale::try_from_str(alloc, "EN-us-u-ca-Buddhist")?;
+    show(rt, &mut locale)
+}
+
+fn show(rt: HostRuntime, locale: &mut Locale) -> anyhow::Result<()> {
+    let alloc = rt.alloc();
     println!(rt; "{locale}")?; // en-US-u-ca-buddhist
 
     let normal = Locale::normalize(alloc, "en-US")?; // borrowed: it is normal already

@@ -30,7 +30,13 @@ fn merged(system: &Locale, user: &Locale) -> FormatPreferences
 /// What the locales of two texts prefer.
 fn read(alloc: Global, system: &str, user: &str) -> Result<FormatPreferences, ParseError> {
     let system = Locale::try_from_str(alloc, system)?;
-    Ok(merged(&system, &Locale::try_from_str(alloc, user)?))
+    read_user(alloc, &system, user)
+}
+
+/// What a locale and that of a text prefer.
+fn read_user(alloc: Global, system: &Locale, user: &str) -> Result<FormatPreferences, ParseError> {
+    let user = Locale::try_from_str(alloc, user)?;
+    Ok(merged(system, &user))
 }
 
 /// The hour as it is counted, 0 to 11, 1 to 12, or 0 to 23, and the half of the day where it is counted twice.

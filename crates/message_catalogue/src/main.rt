@@ -62,19 +62,34 @@ fn put<'a>(
     }
 }
 
+/// Says the message of the text, or why it is no locale.
+fn answer(rt: HostRuntime, entries: &[(Locale, &str)], text: &str) -> anyhow::Result<()> {
+    match find(rt.alloc(), entries, text) {
+        Ok(found) => println!(rt; "{text}: {}", found.unwrap_or("-"))?,
+        Err(ParseError::OutOfMemory) => return Err(ParseError::OutOfMemory.into()),
+        Err(refusal) => println!(rt; "{text}: {refusal}")?,
+    }
+    Ok(())
+}
+
+/// Takes in the messages and answers the other lines, in order.
+fn answer_all<'a>(
+    rt: HostRuntime,
+    entries: &mut Vec<(Locale, &'a str)>,
+    lines: &'a str,
+) -> anyhow::Result<()> {
+    for line in lines.lines() {
+        match line.split_once('\t') {
+            Some((text, message)) => put(rt.alloc(), entries, text, message)?,
+            None => answer(rt, entries.as_slice(), line)?,
+        }
+    }
+    Ok(())
+}
+
 fn main(rt: HostRuntime) -> anyhow::Result<()> {
     let alloc = rt.alloc();
     let input = io::read_to_string(alloc, rt.reader())?;
     let mut entries = Vec::new(alloc);
-    for line in input.as_str().lines() {
-        match line.split_once('\t') {
-            Some((text, message)) => put(alloc, &mut entries, text, message)?,
-            None => match find(alloc, entries.as_slice(), line) {
-                Ok(found) => println!(rt; "{line}: {}", found.unwrap_or("-"))?,
-                Err(ParseError::OutOfMemory) => return Err(ParseError::OutOfMemory.into()),
-                Err(refusal) => println!(rt; "{line}: {refusal}")?,
-            },
-        }
-    }
-    Ok(())
+    answer_all(rt, &mut entries, input.as_str())
 }

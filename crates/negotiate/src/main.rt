@@ -62,17 +62,36 @@ fn negotiate<'a>(wanted: &'a mut [Locale], available: &[Locale]) -> Option<&'a L
     None
 }
 
-fn main(rt: HostRuntime) -> anyhow::Result<()> {
-    let alloc = rt.alloc();
-    let input = io::read_to_string(alloc, rt.reader())?;
-    let (first, others) = input.as_str().split_once('\n').unwrap_or(("", ""));
-    let available = read_all(alloc, first)?;
-    for line in others.lines() {
-        let mut wanted = read_all(alloc, line)?;
-        match negotiate(wanted.as_mut_slice(), available.as_slice()) {
-            Some(locale) => println!(rt; "{locale}")?,
-            None => println!(rt; "none")?,
-        }
+/// Says which locale is picked.
+fn say(rt: HostRuntime, picked: Option<&Locale>) -> io::Result<()> {
+    match picked {
+        Some(locale) => println!(rt; "{locale}"),
+        None => println!(rt; "none"),
+    }
+}
+
+/// Answers a line.
+fn answer(rt: HostRuntime, line: &str, available: &[Locale]) -> anyhow::Result<()> {
+    let mut wanted = read_all(rt.alloc(), line)?;
+    Ok(say(rt, negotiate(wanted.as_mut_slice(), available))?)
+}
+
+/// Answers each of the lines.
+fn answer_all(rt: HostRuntime, lines: &str, available: &[Locale]) -> anyhow::Result<()> {
+    for line in lines.lines() {
+        answer(rt, line, available)?;
     }
     Ok(())
+}
+
+/// Answers all lines but the first, which names what there is.
+fn run(rt: HostRuntime, input: &str) -> anyhow::Result<()> {
+    let (first, others) = input.split_once('\n').unwrap_or(("", ""));
+    let available = read_all(rt.alloc(), first)?;
+    answer_all(rt, others, available.as_slice())
+}
+
+fn main(rt: HostRuntime) -> anyhow::Result<()> {
+    let input = io::read_to_string(rt.alloc(), rt.reader())?;
+    run(rt, input.as_str())
 }
