@@ -6,7 +6,7 @@ ghost use Rattle.iloc_program.specs.ReplyBlock.{held};
 use crate::reply_block::ReplyBlock;
 use iloc_data::DataLocale;
 use iloc_langid::LanguageIdentifier;
-use iloc_langid::reader::fill_head;
+use iloc_langid::reader::{fill_head, read_into};
 use iloc_locale::Locale;
 use iloc_locale::locale::read_rest;
 use iloc_parser::SubtagIterator;
@@ -49,7 +49,7 @@ impl Answers for Identifiers {
 
     #[inline(always)]
     fn answer(&mut self, line: &[u8], replies: &mut ReplyBlock) -> Result<(), AllocError> {
-        match self.identifier.read(self.alloc, line) {
+        match read_into(self.alloc, line, &mut self.identifier) {
             Ok(()) => write_text(&self.identifier, replies),
             Err(error) => write_refusal(error, replies),
         }

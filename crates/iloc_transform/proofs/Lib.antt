@@ -6,3 +6,5 @@ pub mod TransformLemmas
 pub mod TextLemmas
 pub mod FewLemmas
 pub mod EqualityLemmas
+mod ValueOwed
+mod OwedLemmas

@@ -8,7 +8,7 @@ use Rattle.iloc_program.proofs.answers.IdentifiersAnswers.answer.Goals as goal
 pub returns-in-Ok : goal.returns-in-Ok
 returns-in-Ok c =
     on_ok_weaker c.write_text.result
-    (λ e. e ∙ ap (λ t. held c.args.replies.now ++ t) (sym (answer_accepted c.args.line.now (value_of c.read.new.self) c.in-Ok.ensures.reads)))
+    (λ e. e ∙ ap (λ t. held c.args.replies.now ++ t) (sym (answer_accepted c.args.line.now (value_of c.read_into.new.identifier) c.in-Ok.ensures.reads)))
     c.write_text.ensures
 
 pub returns-in-Err : goal.returns-in-Err
