@@ -19,6 +19,7 @@ use iloc_subtags::ParseError;
 use iloc_transform::Transform;
 use iloc_transform::transform::fill_transform;
 use iloc_unicode::Unicode;
+use iloc_unicode::reader::fill_unicode;
 use std::alloc::Global;
 
 /// Takes the block after `u`, where there was none. It must mean a unicode extension as a whole.
@@ -35,7 +36,7 @@ pub(crate) fn take_unicode(
         (record M { unicode = unicode_value.value_of unicode.new }) result }
     ensures shorter { OnOk result (length (left iter.new) ≤ length (left iter.old)) }
 {
-    unicode.fill(alloc, iter)?;
+    fill_unicode(alloc, iter, unicode)?;
     if !is_at_block(iter) {
         return Err(ParseError::InvalidExtension);
     }
