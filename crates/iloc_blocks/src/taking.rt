@@ -12,11 +12,14 @@ ghost use Rattle.iloc_parser.specs.Left.{left};
 ghost use Rattle.iloc_blocks.specs.Blocks.{BlockAt, BlockReads};
 
 use crate::others::insert_other;
+use iloc_other::private::fill_private;
 use iloc_other::{Other, Private};
 use iloc_parser::SubtagIterator;
 use iloc_subtags::ParseError;
 use iloc_transform::Transform;
+use iloc_transform::transform::fill_transform;
 use iloc_unicode::Unicode;
+use iloc_unicode::reader::fill_unicode;
 use std::alloc::Global;
 
 /// Takes the block after `u`, where there was none. It must mean a unicode extension as a whole.
@@ -33,7 +36,7 @@ pub(crate) fn take_unicode(
         (record M { unicode = unicode_value.value_of unicode.new }) result }
     ensures shorter { OnOk result (length (left iter.new) ≤ length (left iter.old)) }
 {
-    unicode.fill(alloc, iter)?;
+    fill_unicode(alloc, iter, unicode)?;
     if !is_at_block(iter) {
         return Err(ParseError::InvalidExtension);
     }
@@ -54,7 +57,7 @@ pub(crate) fn take_transform(
         (record M { transform = transform_value.value_of transform.new }) result }
     ensures shorter { OnOk result (length (left iter.new) ≤ length (left iter.old)) }
 {
-    transform.fill(alloc, iter)?;
+    fill_transform(alloc, iter, transform)?;
     if !is_at_block(iter) {
         return Err(ParseError::InvalidExtension);
     }
@@ -73,7 +76,7 @@ pub(crate) fn take_private(
         → BlockReads start (left iter.new) (record M { private = private.new }) result }
     ensures shorter { OnOk result (length (left iter.new) ≤ length (left iter.old)) }
 {
-    private.fill(alloc, iter)
+    fill_private(alloc, iter, private)
 }
 
 /// Takes the block after another singleton, which none of the others has.

@@ -3,3 +3,4 @@ pub mod PrintLemmas
 pub mod FieldsLemmas
 pub mod MapLemmas
 pub mod EqualityLemmas
+pub mod ValueOwed

@@ -26,8 +26,12 @@ ValueFrontReads ps rest = Answers
     (ExtensionFault (values_front ps ≡ []))
     (4 < length (normal_values (values_front ps)))
 
+-- memory is wanted of a text only for a fifth subtag
+abbrev pub ValueWants : List ℕ → Type 0
+ValueWants t = 4 < length (normal_values (values_front (pieces t)))
+
 -- what a text is read as
 abbrev pub ValueReads : List ℕ → Result (List (List ℕ)) ParseError → Type 0
 ValueReads t = Answers (λ v. transform_value t ≡ Ok v)
     (ExtensionFault (transform_value t ≡ Err faults.InvalidExtension))
-    (4 < length (normal_values (values_front (pieces t))))
+    (ValueWants t)

@@ -7,6 +7,10 @@ ghost use Rattle.std.specs.Prelude.{
   [],
   length,
   false,
+  ℕ,
+  List,
+  Ok,
+  Err,
   OnOk,
   IfErr,
   IsOk,
@@ -18,7 +22,10 @@ ghost use Rattle.iloc_grammar.specs.Pieces.{pieces};
 ghost use Rattle.iloc_grammar.specs.Words.{Attribute as the_kind, is_true};
 ghost use Rattle.iloc_grammar.specs.Values.{field_value_text, spelled_value};
 ghost use Rattle.iloc_parser.specs.Left.{left};
-ghost use Rattle.iloc_fields.specs.ValueReading.{IsValueWord, ValueFrontReads, ValueReads};
+ghost use Rattle.iloc_grammar.specs.Faults.{Fault};
+ghost use Rattle.iloc_fronts.specs.PartValues.{transform_value};
+ghost use Rattle.iloc_subtags.specs.Judging.{Accepts, Refuses};
+ghost use Rattle.iloc_fields.specs.ValueReading.{IsValueWord, ValueFrontReads, ValueReads, ValueWants};
 
 use iloc_parser::{SubtagIterator, take_word};
 use iloc_shortvec::ShortWords;
@@ -74,6 +81,17 @@ impl Value {
     /// Anything else is refused with `InvalidExtension`, the empty text too. `OutOfMemory` comes only
     /// where more than four subtags are to be kept. These are the `tvalue`s of UTS #35, section 3.1.
     pub fn try_from_utf8(alloc: Global, code_units: &[u8]) -> Result<Self, ParseError>
+        ensures reads { ValueReads code_units.now result }
+        ensures accepted { (v : List (List ℕ)) → transform_value code_units.now ≡ Ok v
+            → Accepts (λ v. v) (ValueWants code_units.now) v result }
+        ensures refused { (f : Fault) → transform_value code_units.now ≡ Err f
+            → Refuses (ValueWants code_units.now) f result }
+    {
+        Self::read_text(alloc, code_units)
+    }
+
+    // The same by what it reads alone.
+    fn read_text(alloc: Global, code_units: &[u8]) -> Result<Self, ParseError>
         ensures { ValueReads code_units.now result }
     {
         let mut iter = SubtagIterator::new(code_units);
@@ -86,7 +104,11 @@ impl Value {
 
     /// Reads a `str`, as `try_from_utf8` reads bytes.
     pub fn try_from_str(alloc: Global, s: &str) -> Result<Self, ParseError>
-        ensures { ValueReads s.now result }
+        ensures reads { ValueReads s.now result }
+        ensures accepted { (v : List (List ℕ)) → transform_value s.now ≡ Ok v
+            → Accepts (λ v. v) (ValueWants s.now) v result }
+        ensures refused { (f : Fault) → transform_value s.now ≡ Err f
+            → Refuses (ValueWants s.now) f result }
     {
         Self::try_from_utf8(alloc, s.as_bytes())
     }

@@ -8,4 +8,5 @@ pub mod ExtendingLaws
 pub mod BlockRules
 pub mod PartAnswers
 pub mod ReaderBlocks
+pub mod PartReaders
 pub mod KeptLaws

@@ -7,19 +7,31 @@ use Rattle.iloc_grammar.specs.Meaning.{IdentifierMeans}
 use Rattle.iloc_grammar.specs.Faults as faults
 use Rattle.iloc_grammar.specs.Faults.{Fault, HasIdentifierFault}
 use Rattle.iloc_grammar.proofs.IdentifierLaws.{one_meaning}
-use Rattle.iloc_grammar.proofs.IdentifierTexts.{identifier_chain_means, identifier_apart}
+use Rattle.iloc_grammar.proofs.IdentifierTexts.{identifier_chain_means, identifier_apart, one_identifier_fault}
 use Rattle.iloc_grammar.proofs.RawLaws.{narrow_in_wide}
 use Rattle.iloc_grammar.proofs.WiderTables.{identifier_means_wider}
 use Rattle.iloc_subtags.specs.declared.parse_error.ParseError.{ParseError}
 use Rattle.iloc_subtags.specs.declared.parse_error.ParseError.TheVariants.{InvalidLanguage, InvalidSubtag, InvalidExtension, DuplicatedExtension, OutOfMemory}
 use Rattle.iloc_langid.specs.declared.identifier.LanguageIdentifier.{LanguageIdentifier}
-use Rattle.iloc_langid.specs.Reads.{value_of, ReadsAs, KeepsThroughSteps, KeepsNarrow, AcceptsNarrow}
+use Rattle.iloc_subtags.specs.Answers.{OfIdentifier}
+use Rattle.iloc_subtags.specs.Judging.{Accepts, Refuses}
+use Rattle.iloc_subtags.proofs.Judged.{Judges, accepts, refuses, of_identifier}
+use Rattle.iloc_langid.specs.Reads.{value_of, ReadsAs, WantsMemory, KeepsThroughSteps, KeepsNarrow, AcceptsNarrow}
 
 wide : (t : List ℕ) (i : Identifier) → IdentifierMeans two_or_three (pieces t) i → IdentifierMeans languages (pieces t) i
 wide t i m = identifier_means_wider narrow_in_wide (pieces t) i m
 
 no_fault : (t : List ℕ) (i : Identifier) (f : Fault) → IdentifierMeans two_or_three (pieces t) i → HasIdentifierFault languages (pieces t) f → ⊥
 no_fault t i f m h = identifier_apart (pieces t) i f (wide t i m) h
+
+identifiers_judge : (ps : List (List ℕ)) → Judges (IdentifierMeans languages ps) (HasIdentifierFault languages ps)
+identifiers_judge ps = record { one = one_meaning ps; apart = identifier_apart ps; one_fault = λ f g. one_identifier_fault ps }
+
+pub reads_accepts : (ps : List (List ℕ)) (r : Result LanguageIdentifier ParseError) → ReadsAs ps r → (i : Identifier) → IdentifierMeans languages ps i → Accepts value_of (WantsMemory ps) i r
+reads_accepts ps r h = accepts value_of (OfIdentifier (HasIdentifierFault languages ps)) (WantsMemory ps) (identifiers_judge ps) (of_identifier (HasIdentifierFault languages ps)) r h
+
+pub reads_refuses : (ps : List (List ℕ)) (r : Result LanguageIdentifier ParseError) → ReadsAs ps r → (f : Fault) → HasIdentifierFault languages ps f → Refuses (WantsMemory ps) f r
+reads_refuses ps r h = refuses value_of (OfIdentifier (HasIdentifierFault languages ps)) (WantsMemory ps) (identifiers_judge ps) (of_identifier (HasIdentifierFault languages ps)) r h
 
 pub reads_steps : (t : List ℕ) (r : Result LanguageIdentifier ParseError) → ReadsAs (pieces t) r → KeepsThroughSteps t r
 reads_steps t (Ok i) h = λ n u c. identifier_chain_means languages n t u (value_of i) c h

@@ -1,17 +1,22 @@
 -- Identifiers with at most one variant, read from the left.
-use Rattle.std.proofs.Common.{◌≡◌, ◌≢◌, ℕ, ◌≤◌, Bool, true, false, cond, List, [], ◌∷◌, ◌++◌, length, map, refl, sym, ap, ◌∙◌, subst, arith, append-nil, option_map, Ok, Err, true≢false}
+use Rattle.std.proofs.Common.{◌≡◌, ◌≢◌, ℕ, ◌≤◌, Bool, true, false, cond, List, [], ◌∷◌, ◌++◌, length, map, refl, sym, ap, ◌∙◌, subst, arith, append-nil, option_map, Result, Ok, Err, IfOk, true≢false}
 use Rattle.std.specs.List.{AllByRecursion}
 use Rattle.iloc_grammar.specs.Words.{Language, Script, Region, Variant, is_word, IsWord, lower, title, upper, languages}
 use Rattle.iloc_grammar.specs.Written.{Identifier, HasWords, identifier_pieces}
 use Rattle.iloc_grammar.specs.Blocks.{first_piece}
 use Rattle.iloc_grammar.specs.Reading.{first_item, take_first, skip_first, passing, past, rest_of, after_script, after_region, front_of, after_front}
 use Rattle.iloc_grammar.proofs.ReadingLaws.{all_while, pieces-front_of, front_words, front_of-pieces, after_front-pieces}
-use Rattle.iloc_small.specs.Small.{SmallIdentifier, IsSmallIdentifier, no_language, no_identifier}
+use Rattle.iloc_small.specs.Small.{SmallIdentifier, IsSmallIdentifier, HasSmallIdentifierFault, no_language, no_identifier, identifier_of_small}
 use Rattle.iloc_subtags.specs.declared.parse_error.ParseError.{ParseError}
 use Rattle.iloc_subtags.specs.declared.parse_error.ParseError.TheVariants.{InvalidLanguage, InvalidSubtag, InvalidExtension, DuplicatedExtension, OutOfMemory}
 use Rattle.iloc_langid.specs.SmallReads.{Parts, small_of, SmallReadsAs, front_parts, after_parts, SmallFrontGives}
 use Rattle.iloc_langid.proofs.FrontLemmas.{no_empty_language}
-use Rattle.iloc_small.proofs.SmallLaws.{short_different}
+use Rattle.iloc_small.proofs.SmallLaws.{short_different, small_identifier_means, one_small_identifier, small_identifier_apart, one_small_identifier_fault}
+use Rattle.iloc_grammar.specs.Faults.{Fault}
+use Rattle.iloc_grammar.specs.Meaning.{IdentifierMeans}
+use Rattle.iloc_subtags.specs.Answers.{OfIdentifier}
+use Rattle.iloc_subtags.specs.Judging.{Accepts, Refuses}
+use Rattle.iloc_subtags.proofs.Judged.{Judges, accepts, refuses, of_identifier}
 
 abbrev variant : List ℕ → Bool
 variant p = is_word Variant p
@@ -115,3 +120,18 @@ parts_give ps first qs rs us rest p e w l s er r eu v el =
     let erest : us ≡ skip_first (is_word Region) (skip_first (is_word Script) qs) = eu ∙ ap (skip_first (is_word Region)) er in
     subst (λ x. SmallFrontGives x rest (Ok p)) (sym e)
     (w, (λ i. (l i, s i, (r ∙ ap (λ x. option_map upper (take_first (is_word Region) x)) er) i, (v ∙ ap (λ x. option_map lower (take_first variant x)) erest) i)), el ∙ ap (skip_first variant) erest)
+
+-- what is owed to each text
+
+small_judges : (ps : List (List ℕ)) → Judges (IsSmallIdentifier languages ps) (HasSmallIdentifierFault languages ps)
+small_judges ps = record { one = one_small_identifier ps; apart = small_identifier_apart ps; one_fault = λ f g. one_small_identifier_fault ps }
+
+pub small_accepts : (ps : List (List ℕ)) (r : Result Parts ParseError) → SmallReadsAs ps r → (s : SmallIdentifier) → IsSmallIdentifier languages ps s → Accepts small_of ⊥ s r
+small_accepts ps r h = accepts small_of (OfIdentifier (HasSmallIdentifierFault languages ps)) ⊥ (small_judges ps) (of_identifier (HasSmallIdentifierFault languages ps)) r h
+
+pub small_refuses : (ps : List (List ℕ)) (r : Result Parts ParseError) → SmallReadsAs ps r → (f : Fault) → HasSmallIdentifierFault languages ps f → Refuses ⊥ f r
+small_refuses ps r h = refuses small_of (OfIdentifier (HasSmallIdentifierFault languages ps)) ⊥ (small_judges ps) (of_identifier (HasSmallIdentifierFault languages ps)) r h
+
+pub small_means : (ps : List (List ℕ)) (r : Result Parts ParseError) → SmallReadsAs ps r → IfOk r (λ p. IdentifierMeans languages ps (identifier_of_small (small_of p)))
+small_means ps (Ok p) h = small_identifier_means ps (small_of p) h
+small_means ps (Err e) h = tt

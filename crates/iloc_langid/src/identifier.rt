@@ -6,11 +6,15 @@ ghost use Rattle.std.specs.Cmp.Lexicographic.{slice_cmp};
 ghost use Rattle.iloc_grammar.specs.Words.{languages};
 ghost use Rattle.iloc_grammar.specs.Pieces.{pieces};
 ghost use Rattle.iloc_grammar.specs.Blocks.{head};
+ghost use Rattle.iloc_grammar.specs.Written.{Identifier};
+ghost use Rattle.iloc_grammar.specs.Meaning.{IdentifierMeans};
+ghost use Rattle.iloc_grammar.specs.Faults.{Fault, HasIdentifierFault};
 ghost use Rattle.iloc_grammar.specs.Values.{IsIdentifierValue, IsNormal, identifier_text};
 ghost use Rattle.iloc_orders.specs.Orders.{identifier_cmp};
+ghost use Rattle.iloc_subtags.specs.Judging.{Accepts, Refuses};
 ghost use Rattle.iloc_langid.specs.Unknown.{unknown_identifier};
 
-use crate::reader::{fill_whole, read_head, read_whole};
+use crate::reader::{read_head, read_whole};
 use iloc_parser::SubtagIterator;
 use iloc_subtags::{Language, ParseError, Region, Script, WordKind, WordOf};
 use iloc_word_set::Variants;
@@ -39,7 +43,7 @@ pub struct LanguageIdentifier {
 }
 
 impl LanguageIdentifier {
-    ghost use Rattle.iloc_langid.specs.Reads.{value_of, ReadsAs, KeepsNarrow, AcceptsNarrow, KeepsThroughSteps};
+    ghost use Rattle.iloc_langid.specs.Reads.{value_of, ReadsAs, WantsMemory, KeepsNarrow, AcceptsNarrow, KeepsThroughSteps};
 
     /// The unknown identifier, `und`.
     pub fn unknown() -> Self
@@ -76,25 +80,15 @@ impl LanguageIdentifier {
     /// languages: what is accepted with languages of two or three letters is read with the same value.
     pub fn try_from_utf8(alloc: Global, code_units: &[u8]) -> Result<Self, ParseError>
         ensures reads { ReadsAs (pieces code_units.now) result }
+        ensures accepted { (i : Identifier) → IdentifierMeans languages (pieces code_units.now) i
+            → Accepts value_of (WantsMemory (pieces code_units.now)) i result }
+        ensures refused { (f : Fault) → HasIdentifierFault languages (pieces code_units.now) f
+            → Refuses (WantsMemory (pieces code_units.now)) f result }
         ensures steps { KeepsThroughSteps code_units.now result }
         ensures narrow { KeepsNarrow code_units.now result }
         ensures narrow_accepted { AcceptsNarrow code_units.now result }
     {
         read_whole(alloc, &mut SubtagIterator::new(code_units))
-    }
-
-    /// Reads all of the text in place of what this identifier was, as `try_from_utf8` does. After a refusal it
-    /// is `und`.
-    #[inline(always)]
-    pub fn read(&mut self, alloc: Global, code_units: &[u8]) -> Result<(), ParseError>
-        ensures reads { ReadsAs (pieces code_units.now) (result_and result (Ok self.new)) }
-        ensures refused { OnErr result (value_of self.new ≡ unknown_identifier) }
-    {
-        let answer = fill_whole(alloc, &mut SubtagIterator::new(code_units), self);
-        if answer.is_err() {
-            self.clear();
-        }
-        answer
     }
 
     /// Leaves the unknown identifier, `und`.
@@ -110,6 +104,10 @@ impl LanguageIdentifier {
     /// Reads all of a `str`, as `try_from_utf8` reads bytes.
     pub fn try_from_str(alloc: Global, s: &str) -> Result<Self, ParseError>
         ensures reads { ReadsAs (pieces s.now) result }
+        ensures accepted { (i : Identifier) → IdentifierMeans languages (pieces s.now) i
+            → Accepts value_of (WantsMemory (pieces s.now)) i result }
+        ensures refused { (f : Fault) → HasIdentifierFault languages (pieces s.now) f
+            → Refuses (WantsMemory (pieces s.now)) f result }
         ensures steps { KeepsThroughSteps s.now result }
         ensures narrow { KeepsNarrow s.now result }
         ensures narrow_accepted { AcceptsNarrow s.now result }
@@ -120,7 +118,11 @@ impl LanguageIdentifier {
     /// Reads the identifier of a locale: up to the first piece of one byte that isn't the first piece. What
     /// follows is ignored.
     pub fn try_from_locale_bytes(alloc: Global, v: &[u8]) -> Result<Self, ParseError>
-        ensures { ReadsAs (head (pieces v.now)) result }
+        ensures reads { ReadsAs (head (pieces v.now)) result }
+        ensures accepted { (i : Identifier) → IdentifierMeans languages (head (pieces v.now)) i
+            → Accepts value_of (WantsMemory (head (pieces v.now))) i result }
+        ensures refused { (f : Fault) → HasIdentifierFault languages (head (pieces v.now)) f
+            → Refuses (WantsMemory (head (pieces v.now))) f result }
     {
         read_head(alloc, &mut SubtagIterator::new(v))
     }

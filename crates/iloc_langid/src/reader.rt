@@ -1,11 +1,13 @@
 //! Reads identifiers from pieces.
-ghost use Rattle.std.specs.Prelude.{◌≡◌, ◌<◌, ◌++◌, [], false, length, Ok, OnOk};
+ghost use Rattle.std.specs.Prelude.{◌≡◌, ◌<◌, ◌++◌, [], false, length, Ok, OnOk, OnErr};
 ghost use Rattle.std.specs.Result.{result_and};
+ghost use Rattle.iloc_grammar.specs.Pieces.{pieces};
 ghost use Rattle.iloc_grammar.specs.Blocks.{head};
 ghost use Rattle.iloc_grammar.specs.Reading.{after_head, EndsBefore};
 ghost use Rattle.iloc_grammar.specs.Words.{Variant, is_word};
 ghost use Rattle.iloc_parser.specs.Left.{left};
-ghost use Rattle.iloc_langid.specs.Reads.{VariantsGive, FrontGives, FrontReadsAs, ReadsAs};
+ghost use Rattle.iloc_langid.specs.Reads.{value_of, VariantsGive, FrontGives, FrontReadsAs, ReadsAs};
+ghost use Rattle.iloc_langid.specs.Unknown.{unknown_identifier};
 
 use crate::identifier::LanguageIdentifier;
 use iloc_parser::{SubtagIterator, take_word};
@@ -170,6 +172,24 @@ pub fn fill_whole(
         Some(_) => Err(ParseError::InvalidSubtag),
         None => Ok(()),
     }
+}
+
+/// Reads all of the text in place of what the identifier was, for programs that keep one identifier for many
+/// texts. After a refusal it is `und`.
+#[inline(always)]
+pub fn read_into(
+    alloc: Global,
+    code_units: &[u8],
+    identifier: &mut LanguageIdentifier,
+) -> Result<(), ParseError>
+    ensures reads { ReadsAs (pieces code_units.now) (result_and result (Ok identifier.new)) }
+    ensures refused { OnErr result (value_of identifier.new ≡ unknown_identifier) }
+{
+    let answer = fill_whole(alloc, &mut SubtagIterator::new(code_units), identifier);
+    if answer.is_err() {
+        identifier.clear();
+    }
+    answer
 }
 
 /// Reads the pieces up to the first block as an identifier.

@@ -1,8 +1,18 @@
 //! Identifiers with at most one variant, which are read without memory.
-ghost use Rattle.std.specs.Prelude.{◌≡◌};
+ghost use Rattle.std.specs.Prelude.{◌≡◌, IfOk};
 ghost use Rattle.iloc_grammar.specs.Pieces.{pieces};
+ghost use Rattle.iloc_grammar.specs.Words.{languages};
+ghost use Rattle.iloc_grammar.specs.Meaning.{IdentifierMeans};
+ghost use Rattle.iloc_grammar.specs.Faults.{Fault};
+ghost use Rattle.iloc_small.specs.Small.{
+  SmallIdentifier,
+  IsSmallIdentifier,
+  HasSmallIdentifierFault,
+  identifier_of_small,
+};
+ghost use Rattle.iloc_subtags.specs.Judging.{Accepts, Refuses};
 ghost use Rattle.iloc_parser.specs.Left.{left};
-ghost use Rattle.iloc_langid.specs.SmallReads.{SmallFrontGives, SmallReadsAs};
+ghost use Rattle.iloc_langid.specs.SmallReads.{SmallFrontGives, SmallReadsAs, small_of};
 
 use crate::identifier::LanguageIdentifier;
 use iloc_parser::{SubtagIterator, take_word};
@@ -30,17 +40,32 @@ pub fn read_small_front(iter: &mut SubtagIterator<'_>) -> Result<SmallParts, Par
 
 impl LanguageIdentifier {
     /// The parts of an identifier with at most one variant, read from all of the text without memory.
+    /// They are those of the identifier that the text means.
     ///
     /// Refuses with `InvalidLanguage` where the first piece is no language, and with `InvalidSubtag` for
     /// anything else, a second variant among it, even an equal one.
     pub fn try_from_utf8_with_single_variant(code_units: &[u8]) -> Result<SmallParts, ParseError>
-        ensures { SmallReadsAs (pieces code_units.now) result }
+        ensures reads { SmallReadsAs (pieces code_units.now) result }
+        ensures accepted { (r : SmallIdentifier)
+            → IsSmallIdentifier languages (pieces code_units.now) r
+            → Accepts small_of ⊥ r result }
+        ensures refused { (f : Fault) → HasSmallIdentifierFault languages (pieces code_units.now) f
+            → Refuses ⊥ f result }
+        ensures meant { IfOk result (λ parts. IdentifierMeans languages (pieces code_units.now)
+            (identifier_of_small (small_of parts))) }
     {
-        let mut iter = SubtagIterator::new(code_units);
-        let parts = read_small_front(&mut iter)?;
-        match iter.peek() {
-            Some(_) => Err(ParseError::InvalidSubtag),
-            None => Ok(parts),
-        }
+        read_small_whole(code_units)
+    }
+}
+
+// Takes all of the text.
+fn read_small_whole(code_units: &[u8]) -> Result<SmallParts, ParseError>
+    ensures { SmallReadsAs (pieces code_units.now) result }
+{
+    let mut iter = SubtagIterator::new(code_units);
+    let parts = read_small_front(&mut iter)?;
+    match iter.peek() {
+        Some(_) => Err(ParseError::InvalidSubtag),
+        None => Ok(parts),
     }
 }

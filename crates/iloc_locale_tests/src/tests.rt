@@ -1,5 +1,6 @@
 //! The room of texts, and parts that print after one another.
 use iloc_langid::LanguageIdentifier;
+use iloc_langid::reader::read_into as read_identifier;
 use iloc_locale::Locale;
 use iloc_other::{Other, Private};
 use iloc_subtags::ParseError;
@@ -102,11 +103,11 @@ fn identifier_is_replaced(
     alloc: Global,
     identifier: &mut LanguageIdentifier,
 ) -> Result<bool, ParseError> {
-    identifier.read(alloc, b"SL-latn-nedis")?;
+    read_identifier(alloc, b"SL-latn-nedis", identifier)?;
     let whole = identifier.strict_cmp(b"sl-Latn-nedis");
-    identifier.read(alloc, b"de")?;
+    read_identifier(alloc, b"de", identifier)?;
     let short = identifier.strict_cmp(b"de");
-    let answer = identifier.read(alloc, b"fr-u");
+    let answer = read_identifier(alloc, b"fr-u", identifier);
     let is_refused = answer == Err(ParseError::InvalidSubtag);
     Ok(is_refused && whole.is_eq() && short.is_eq() && identifier.strict_cmp(b"und").is_eq())
 }

@@ -4,3 +4,4 @@ pub mod SingletonLemmas
 pub mod TextLemmas
 pub mod PrintLemmas
 pub mod EqualityLemmas
+mod OwedLemmas

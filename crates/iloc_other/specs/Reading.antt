@@ -15,11 +15,15 @@ PrivateReads ps rest = Answers (λ ws. PrivateRead ps ws rest)
     (ExtensionFault (PrivateFault ps faults.InvalidExtension))
     (4 < length (private_front ps))
 
--- What a text is read as. Memory is wanted only after `x` (120), the letter of such an extension.
+-- memory is wanted of a text only after `x` (120), the letter of such an extension
+abbrev pub PrivateTextWants : List ℕ → Type 0
+PrivateTextWants t = (begins_part (is_letter 120) (pieces t) ≡ true) × (4 < length (private_front (rest_of (pieces t))))
+
+-- what a text is read as
 abbrev pub PrivateTextReads : List ℕ → Result (List (List ℕ)) ParseError → Type 0
 PrivateTextReads t = Answers (PrivateText t)
     (ExtensionFault (PrivateTextFault t faults.InvalidExtension))
-    ((begins_part (is_letter 120) (pieces t) ≡ true) × (4 < length (private_front (rest_of (pieces t)))))
+    (PrivateTextWants t)
 
 -- What the pieces after the singleton ext are read as, and the pieces that are left. Memory is wanted only for a fifth word.
 abbrev pub OtherReads : ℕ → List (List ℕ) → List (List ℕ) → Result (ℕ × List (List ℕ)) ParseError → Type 0
@@ -27,8 +31,12 @@ OtherReads ext ps rest = Answers (λ o. (o.0 ≡ ext) × OtherRead ps o.1 rest)
     (ExtensionFault (OtherFault ps faults.InvalidExtension))
     (4 < length (kept (other_front ps)))
 
--- What a text is read as. Memory is wanted only after the singleton of such an extension.
+-- memory is wanted of a text only after the singleton of such an extension
+abbrev pub OtherTextWants : List ℕ → Type 0
+OtherTextWants t = (begins_part is_other_singleton (pieces t) ≡ true) × (4 < length (kept (other_front (rest_of (pieces t)))))
+
+-- what a text is read as
 abbrev pub OtherTextReads : List ℕ → Result (ℕ × List (List ℕ)) ParseError → Type 0
 OtherTextReads t = Answers (OtherText t)
     (ExtensionFault (OtherTextFault t faults.InvalidExtension))
-    ((begins_part is_other_singleton (pieces t) ≡ true) × (4 < length (kept (other_front (rest_of (pieces t))))))
+    (OtherTextWants t)

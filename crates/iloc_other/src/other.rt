@@ -1,5 +1,5 @@
 //! The extensions that are neither unicode, transform nor private.
-ghost use Rattle.std.specs.Prelude.{◌≡◌, ◌<◌, ◌++◌, ◌∷◌, [], length, true, OnOk, IfErr, IsOk, Some, if◌then◌else◌};
+ghost use Rattle.std.specs.Prelude.{◌≡◌, ℕ, List, ◌<◌, ◌++◌, ◌∷◌, [], length, true, OnOk, IfErr, IsOk, Some, if◌then◌else◌};
 ghost use Rattle.std.specs.Char.{is_ascii_alphanumeric};
 ghost use Rattle.std.specs.List.{AllByRecursion};
 ghost use Rattle.std.specs.Option.{option_copied};
@@ -7,9 +7,12 @@ ghost use Rattle.iloc_grammar.specs.Words.{Subtag as the_kind, is_word, lower};
 ghost use Rattle.iloc_grammar.specs.Written.{is_other_singleton};
 ghost use Rattle.iloc_grammar.specs.Reading.{take_first, skip_first};
 ghost use Rattle.iloc_grammar.specs.Values.{IsNormal, other_spelling, other_text};
+ghost use Rattle.iloc_grammar.specs.Faults.{Fault};
 ghost use Rattle.iloc_fronts.specs.Fronts.{has_other_length};
+ghost use Rattle.iloc_fronts.specs.Parts.{OtherText, OtherTextFault};
+ghost use Rattle.iloc_subtags.specs.Judging.{Accepts, Refuses};
 ghost use Rattle.iloc_parser.specs.Left.{left};
-ghost use Rattle.iloc_other.specs.Reading.{OtherReads, OtherTextReads};
+ghost use Rattle.iloc_other.specs.Reading.{OtherReads, OtherTextReads, OtherTextWants};
 
 use crate::singleton::take_singleton;
 use iloc_parser::SubtagIterator;
@@ -104,6 +107,17 @@ impl Other {
     /// else is refused with `InvalidExtension`, also where no word is kept. `OutOfMemory` comes only
     /// where more than four are.
     pub fn try_from_utf8(alloc: Global, code_units: &[u8]) -> Result<Self, ParseError>
+        ensures reads { OtherTextReads code_units.now result }
+        ensures accepted { (o : ℕ × List (List ℕ)) → OtherText code_units.now o
+            → Accepts (λ o. o) (OtherTextWants code_units.now) o result }
+        ensures refused { (f : Fault) → OtherTextFault code_units.now f
+            → Refuses (OtherTextWants code_units.now) f result }
+    {
+        Self::read_text(alloc, code_units)
+    }
+
+    // The same by what it reads alone.
+    fn read_text(alloc: Global, code_units: &[u8]) -> Result<Self, ParseError>
         ensures { OtherTextReads code_units.now result }
     {
         let mut iter = SubtagIterator::new(code_units);
@@ -118,7 +132,11 @@ impl Other {
 
     /// Reads a `str`, as `try_from_utf8` reads bytes.
     pub fn try_from_str(alloc: Global, s: &str) -> Result<Self, ParseError>
-        ensures { OtherTextReads s.now result }
+        ensures reads { OtherTextReads s.now result }
+        ensures accepted { (o : ℕ × List (List ℕ)) → OtherText s.now o
+            → Accepts (λ o. o) (OtherTextWants s.now) o result }
+        ensures refused { (f : Fault) → OtherTextFault s.now f
+            → Refuses (OtherTextWants s.now) f result }
     {
         Self::try_from_utf8(alloc, s.as_bytes())
     }

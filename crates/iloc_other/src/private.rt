@@ -1,5 +1,5 @@
 //! The private extension: a list of private words.
-ghost use Rattle.std.specs.Prelude.{◌≡◌, ◌∷◌, [], ◌↔◌, IsTrue, length, slice_get, Some, Ok};
+ghost use Rattle.std.specs.Prelude.{◌≡◌, ℕ, List, ◌∷◌, [], ◌↔◌, IsTrue, length, slice_get, Some, Ok};
 ghost use Rattle.std.specs.List.{AllByRecursion};
 ghost use Rattle.std.specs.Option.{option_copied};
 ghost use Rattle.std.specs.Result.{result_and};
@@ -9,7 +9,10 @@ ghost use Rattle.iloc_grammar.specs.Pieces.{pieces};
 ghost use Rattle.iloc_grammar.specs.Values.{IsNormal};
 ghost use Rattle.iloc_grammar.specs.Words.{PrivateSubtag as the_kind};
 ghost use Rattle.iloc_parser.specs.Left.{left};
-ghost use Rattle.iloc_other.specs.Reading.{PrivateReads, PrivateTextReads};
+ghost use Rattle.iloc_grammar.specs.Faults.{Fault};
+ghost use Rattle.iloc_fronts.specs.Parts.{PrivateText, PrivateTextFault};
+ghost use Rattle.iloc_subtags.specs.Judging.{Accepts, Refuses};
+ghost use Rattle.iloc_other.specs.Reading.{PrivateReads, PrivateTextReads, PrivateTextWants};
 
 use crate::singleton::take_singleton;
 use iloc_parser::SubtagIterator;
@@ -115,6 +118,17 @@ impl Private {
     /// This is the private use extension of UTS #35, section 3.1. Anything else is refused with
     /// `InvalidExtension`. `OutOfMemory` comes only where there are more than four words.
     pub fn try_from_utf8(alloc: Global, code_units: &[u8]) -> Result<Self, ParseError>
+        ensures reads { PrivateTextReads code_units.now result }
+        ensures accepted { (ws : List (List ℕ)) → PrivateText code_units.now ws
+            → Accepts (λ p. p) (PrivateTextWants code_units.now) ws result }
+        ensures refused { (f : Fault) → PrivateTextFault code_units.now f
+            → Refuses (PrivateTextWants code_units.now) f result }
+    {
+        Self::read_text(alloc, code_units)
+    }
+
+    // The same by what it reads alone.
+    fn read_text(alloc: Global, code_units: &[u8]) -> Result<Self, ParseError>
         ensures { PrivateTextReads code_units.now result }
     {
         let mut iter = SubtagIterator::new(code_units);
@@ -129,7 +143,11 @@ impl Private {
 
     /// Reads a `str`, as `try_from_utf8` reads bytes.
     pub fn try_from_str(alloc: Global, s: &str) -> Result<Self, ParseError>
-        ensures { PrivateTextReads s.now result }
+        ensures reads { PrivateTextReads s.now result }
+        ensures accepted { (ws : List (List ℕ)) → PrivateText s.now ws
+            → Accepts (λ p. p) (PrivateTextWants s.now) ws result }
+        ensures refused { (f : Fault) → PrivateTextFault s.now f
+            → Refuses (PrivateTextWants s.now) f result }
     {
         Self::try_from_utf8(alloc, s.as_bytes())
     }
@@ -139,23 +157,8 @@ impl Private {
         ensures { PrivateReads (left iter.old) (left iter.new) result }
     {
         let mut words = Private::new();
-        words.fill(alloc, iter)?;
+        fill_private(alloc, iter, &mut words)?;
         Ok(words)
-    }
-
-    /// Reads what follows `x` into an empty list. After a refusal it holds the words before the fault.
-    pub fn fill(&mut self, alloc: Global, iter: &mut SubtagIterator<'_>) -> Result<(), ParseError>
-        requires { self.old ≡ [] }
-        ensures { PrivateReads (left iter.old) (left iter.new) (result_and result (Ok self.new)) }
-    {
-        'words: while let Some(piece) = iter.next() {
-            let word = Subtag::try_from_utf8(piece)?;
-            self.words.push(alloc, word)?;
-        }
-        if self.is_empty() {
-            return Err(ParseError::InvalidExtension);
-        }
-        Ok(())
     }
 
     /// The words in list order.
@@ -164,6 +167,26 @@ impl Private {
     {
         self.as_slice().iter()
     }
+}
+
+/// What `Private::try_from_iter` reads, into an empty list, for readers of whole locales. After a refusal it
+/// holds the words before the fault.
+pub fn fill_private(
+    alloc: Global,
+    iter: &mut SubtagIterator<'_>,
+    private: &mut Private,
+) -> Result<(), ParseError>
+    requires { private.old ≡ [] }
+    ensures { PrivateReads (left iter.old) (left iter.new) (result_and result (Ok private.new)) }
+{
+    'words: while let Some(piece) = iter.next() {
+        let word = Subtag::try_from_utf8(piece)?;
+        private.words.push(alloc, word)?;
+    }
+    if private.is_empty() {
+        return Err(ParseError::InvalidExtension);
+    }
+    Ok(())
 }
 
 impl Default for Private {

@@ -3,3 +3,4 @@ pub mod KindLaws
 pub mod ParseError
 pub mod RawForms
 pub mod Lengths
+pub mod Judging

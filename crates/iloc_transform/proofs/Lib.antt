@@ -2,3 +2,4 @@ pub mod TransformLemmas
 pub mod TextLemmas
 pub mod FewLemmas
 pub mod EqualityLemmas
+mod OwedLemmas

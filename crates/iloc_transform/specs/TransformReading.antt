@@ -26,8 +26,12 @@ abbrev pub TransformReads : List (List ℕ) → List (List ℕ) → Result Trans
 TransformReads ps rest = Answers (λ m. TransformRead languages ps (value_of m) rest)
     (OfPart (TransformFault languages ps)) (WantsMemory ps)
 
--- What a text is read as. Memory is wanted only after `t` (116), the letter of such an extension.
+-- the same of a text: only after `t` (116), the letter of such an extension
+abbrev pub TransformTextWants : List ℕ → Type 0
+TransformTextWants t = (begins_part (is_letter 116) (pieces t) ≡ true) × WantsMemory (rest_of (pieces t))
+
+-- what a text is read as
 abbrev pub TransformTextReads : List ℕ → Result Transform ParseError → Type 0
 TransformTextReads t = Answers (λ m. TransformText languages t (value_of m))
     (OfPart (TransformTextFault languages t))
-    ((begins_part (is_letter 116) (pieces t) ≡ true) × WantsMemory (rest_of (pieces t)))
+    (TransformTextWants t)

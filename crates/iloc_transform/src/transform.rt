@@ -16,8 +16,14 @@ ghost use Rattle.std.specs.Prelude.{
   is_some,
 };
 ghost use Rattle.std.specs.Result.{result_and};
+ghost use Rattle.iloc_grammar.specs.Words.{languages};
+ghost use Rattle.iloc_grammar.specs.Written as written;
+ghost use Rattle.iloc_grammar.specs.Faults.{Fault};
+ghost use Rattle.iloc_fronts.specs.Parts.{TransformText, TransformTextFault};
 ghost use Rattle.iloc_orders.specs.Orders.{transform_cmp};
+ghost use Rattle.iloc_subtags.specs.Judging.{Accepts, Refuses};
 ghost use Rattle.iloc_parser.specs.Left.{left};
+ghost use Rattle.iloc_transform.specs.TransformReading.{TransformReads};
 
 use crate::lang::{cmp_langs, fill_lang, lowercase};
 use iloc_fields::Fields;
@@ -42,8 +48,8 @@ pub struct Transform {
 impl Transform {
     ghost use Rattle.iloc_transform.specs.TransformReading.{
       value_of,
-      TransformReads,
       TransformTextReads,
+      TransformTextWants,
     };
 
     /// The empty extension.
@@ -91,6 +97,17 @@ impl Transform {
     /// `InvalidSubtag`; another first piece, a key without a value piece and nothing read with
     /// `InvalidExtension`. `OutOfMemory` comes only where there is a field or more than four variants.
     pub fn try_from_utf8(alloc: Global, code_units: &[u8]) -> Result<Self, ParseError>
+        ensures reads { TransformTextReads code_units.now result }
+        ensures accepted { (m : written.Transform) → TransformText languages code_units.now m
+            → Accepts value_of (TransformTextWants code_units.now) m result }
+        ensures refused { (f : Fault) → TransformTextFault languages code_units.now f
+            → Refuses (TransformTextWants code_units.now) f result }
+    {
+        Self::read_text(alloc, code_units)
+    }
+
+    // The same by what it reads alone.
+    fn read_text(alloc: Global, code_units: &[u8]) -> Result<Self, ParseError>
         ensures { TransformTextReads code_units.now result }
     {
         let mut iter = SubtagIterator::new(code_units);
@@ -105,7 +122,11 @@ impl Transform {
 
     /// Reads a `str`, as `try_from_utf8` reads bytes.
     pub fn try_from_str(alloc: Global, s: &str) -> Result<Self, ParseError>
-        ensures { TransformTextReads s.now result }
+        ensures reads { TransformTextReads s.now result }
+        ensures accepted { (m : written.Transform) → TransformText languages s.now m
+            → Accepts value_of (TransformTextWants s.now) m result }
+        ensures refused { (f : Fault) → TransformTextFault languages s.now f
+            → Refuses (TransformTextWants s.now) f result }
     {
         Self::try_from_utf8(alloc, s.as_bytes())
     }
@@ -115,23 +136,28 @@ impl Transform {
         ensures { TransformReads (left iter.old) (left iter.new) result }
     {
         let mut transform = Transform::new(alloc);
-        transform.fill(alloc, iter)?;
+        fill_transform(alloc, iter, &mut transform)?;
         Ok(transform)
     }
+}
 
-    /// Reads what follows `t` into an empty extension. After a refusal it holds what was read before the fault.
-    pub fn fill(&mut self, alloc: Global, iter: &mut SubtagIterator<'_>) -> Result<(), ParseError>
-        requires lang { self.old.lang ≡ None }
-        requires fields { self.old.fields ≡ [] }
-        ensures { TransformReads (left iter.old) (left iter.new) (result_and result (Ok self.new)) }
-    {
-        fill_lang(alloc, iter, &mut self.lang)?;
-        self.fields.fill_front(alloc, iter)?;
-        if self.is_empty() {
-            return Err(ParseError::InvalidExtension);
-        }
-        Ok(())
+/// The same into an empty extension, for readers of whole locales. After a refusal it holds what was read
+/// before the fault.
+pub fn fill_transform(
+    alloc: Global,
+    iter: &mut SubtagIterator<'_>,
+    transform: &mut Transform,
+) -> Result<(), ParseError>
+    requires lang { transform.old.lang ≡ None }
+    requires fields { transform.old.fields ≡ [] }
+    ensures { TransformReads (left iter.old) (left iter.new) (result_and result (Ok transform.new)) }
+{
+    fill_lang(alloc, iter, &mut transform.lang)?;
+    transform.fields.fill_front(alloc, iter)?;
+    if transform.is_empty() {
+        return Err(ParseError::InvalidExtension);
     }
+    Ok(())
 }
 
 /// The pieces are `t`, those of the identifier in lower case and those of the fields; an empty one has

@@ -2,3 +2,4 @@ mod AttributeLemmas
 mod KeywordLemmas
 mod PrintLemmas
 mod UnicodeLemmas
+mod OwedLemmas

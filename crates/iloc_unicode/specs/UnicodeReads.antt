@@ -21,8 +21,12 @@ abbrev pub UnicodeGives : List (List ℕ) → List (List ℕ) → Result Unicode
 UnicodeGives ps rest = Answers (λ u. UnicodeRead ps (value_of u) rest)
     (ExtensionFault (UnicodeFault ps faults.InvalidExtension)) (UnicodeWantsMemory ps)
 
+-- the same of a text: only after `u`
+abbrev pub UnicodeTextWants : List ℕ → Type 0
+UnicodeTextWants t = (begins_part (is_letter 117) (pieces t) ≡ true) × UnicodeWantsMemory (rest_of (pieces t))
+
 -- the text is read, `u` and all
 abbrev pub UnicodeReadsAs : List ℕ → Result Unicode ParseError → Type 0
 UnicodeReadsAs t = Answers (λ u. UnicodeText t (value_of u))
     (ExtensionFault (UnicodeTextFault t faults.InvalidExtension))
-    ((begins_part (is_letter 117) (pieces t) ≡ true) × UnicodeWantsMemory (rest_of (pieces t)))
+    (UnicodeTextWants t)

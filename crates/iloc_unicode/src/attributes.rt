@@ -2,6 +2,8 @@
 ghost use Rattle.std.specs.Prelude.{
   ◌≡◌,
   ◌↔◌,
+  ℕ,
+  List,
   ◌<◌,
   ◌≤◌,
   ◌+◌,
@@ -24,10 +26,13 @@ ghost use Rattle.std.specs.Hash.{same_Alike};
 ghost use Rattle.std.proofs.Common.{rules};
 ghost use Rattle.std.specs.Slice.{IsItemAt};
 ghost use Rattle.std.specs.Slice.Iter.{iter_rest};
-ghost use Rattle.iloc_grammar.specs.Pieces.{join};
+ghost use Rattle.iloc_grammar.specs.Pieces.{pieces, join};
 ghost use Rattle.iloc_grammar.specs.Words.{Attribute, is_same, word_cmp};
 ghost use Rattle.iloc_grammar.specs.Meaning.{set_of};
 ghost use Rattle.iloc_grammar.specs.Values.{IsNormal, IsAscending};
+ghost use Rattle.iloc_fronts.specs.Fronts.{attributes_read};
+ghost use Rattle.iloc_fronts.specs.Parts.{AttributesText};
+ghost use Rattle.iloc_subtags.specs.Judging.{Accepts};
 ghost use Rattle.iloc_unicode.specs.Reads.{AttributesReadAs};
 ghost use Rattle.iloc_unicode_value.specs.Equality.{words_eq, words_exact};
 ghost use Rattle.iloc_word_set.specs.Ascending.{ascends};
@@ -72,6 +77,15 @@ impl Attributes {
     /// the rest of the text. It is refused by `OutOfMemory` alone, and where there are at most four
     /// different ones not at all.
     pub fn try_from_utf8(alloc: Global, code_units: &[u8]) -> Result<Self, ParseError>
+        ensures reads { AttributesReadAs code_units.now result }
+        ensures accepted { (ws : List (List ℕ)) → AttributesText code_units.now ws
+            → Accepts (λ a. a) (4 < length (attributes_read (pieces code_units.now))) ws result }
+    {
+        Self::read_text(alloc, code_units)
+    }
+
+    // The same by what it reads alone.
+    fn read_text(alloc: Global, code_units: &[u8]) -> Result<Self, ParseError>
         ensures { AttributesReadAs code_units.now result }
     {
         let mut iter = SubtagIterator::new(code_units);
@@ -80,7 +94,9 @@ impl Attributes {
 
     /// Reads a `str`, as `try_from_utf8` reads bytes.
     pub fn try_from_str(alloc: Global, s: &str) -> Result<Self, ParseError>
-        ensures { AttributesReadAs s.now result }
+        ensures reads { AttributesReadAs s.now result }
+        ensures accepted { (ws : List (List ℕ)) → AttributesText s.now ws
+            → Accepts (λ a. a) (4 < length (attributes_read (pieces s.now))) ws result }
     {
         Attributes::try_from_utf8(alloc, s.as_bytes())
     }

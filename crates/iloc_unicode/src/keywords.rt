@@ -39,7 +39,12 @@ ghost use Rattle.std.proofs.Common.{refl};
 ghost use Rattle.iloc_grammar.specs.Words.{word_cmp};
 ghost use Rattle.iloc_grammar.specs.Meaning.{map_of};
 ghost use Rattle.iloc_unicode.specs.Equality.{fields_eq, fields_exact};
-ghost use Rattle.iloc_unicode.specs.Reads.{KeywordsReadAs};
+ghost use Rattle.iloc_grammar.specs.Pieces.{pieces};
+ghost use Rattle.iloc_grammar.specs.Written.{Fields};
+ghost use Rattle.iloc_grammar.specs.Faults.{Fault};
+ghost use Rattle.iloc_fronts.specs.Parts.{KeywordsText, KeywordsTextFault};
+ghost use Rattle.iloc_subtags.specs.Judging.{Accepts, Refuses};
+ghost use Rattle.iloc_unicode.specs.Reads.{KeywordsReadAs, KeywordsWantMemory};
 ghost use Rattle.iloc_litemap.specs.Pairs.{IsAscending};
 
 use iloc_litemap::LiteMap;
@@ -107,6 +112,17 @@ impl Keywords {
     /// dropped. A piece of two bytes that is met and is no key is refused by `InvalidExtension`. One key
     /// with at most four subtags takes no memory.
     pub fn try_from_utf8(alloc: Global, code_units: &[u8]) -> Result<Self, ParseError>
+        ensures reads { KeywordsReadAs code_units.now result }
+        ensures accepted { (m : Fields) → KeywordsText code_units.now m
+            → Accepts (λ k. k) (KeywordsWantMemory (pieces code_units.now)) m result }
+        ensures refused { (f : Fault) → KeywordsTextFault code_units.now f
+            → Refuses (KeywordsWantMemory (pieces code_units.now)) f result }
+    {
+        Self::read_text(alloc, code_units)
+    }
+
+    // The same by what it reads alone.
+    fn read_text(alloc: Global, code_units: &[u8]) -> Result<Self, ParseError>
         ensures { KeywordsReadAs code_units.now result }
     {
         Self::try_from_iter(alloc, &mut SubtagIterator::new(code_units))
@@ -114,7 +130,11 @@ impl Keywords {
 
     /// Reads a `str`, as `try_from_utf8` reads bytes.
     pub fn try_from_str(alloc: Global, s: &str) -> Result<Self, ParseError>
-        ensures { KeywordsReadAs s.now result }
+        ensures reads { KeywordsReadAs s.now result }
+        ensures accepted { (m : Fields) → KeywordsText s.now m
+            → Accepts (λ k. k) (KeywordsWantMemory (pieces s.now)) m result }
+        ensures refused { (f : Fault) → KeywordsTextFault s.now f
+            → Refuses (KeywordsWantMemory (pieces s.now)) f result }
     {
         Keywords::try_from_utf8(alloc, s.as_bytes())
     }

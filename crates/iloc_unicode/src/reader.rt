@@ -66,24 +66,28 @@ impl Keywords {
         ensures { KeywordsGive (left iter.old) (left iter.new) result }
     {
         let mut keywords = Keywords::new();
-        keywords.fill(alloc, iter)?;
+        fill_keywords(alloc, iter, &mut keywords)?;
         Ok(keywords)
     }
+}
 
-    /// Reads keywords into the empty map. After a refusal it holds the keywords before the fault.
-    pub fn fill(&mut self, alloc: Global, iter: &mut SubtagIterator<'_>) -> Result<(), ParseError>
-        requires { self.old ≡ [] }
-        ensures { KeywordsGive (left iter.old) (left iter.new) (result_and result (Ok self.new)) }
-    {
-        'keys: while let Some(key) = take_word::<UnicodeKeyKind, 2>(iter) {
-            let value = read_value(alloc, iter)?;
-            self.add(alloc, key, value)?;
-        }
-        if has_two_bytes(iter) {
-            return Err(ParseError::InvalidExtension);
-        }
-        Ok(())
+// The same into the empty map. After a refusal it holds the keywords before the fault.
+fn fill_keywords(
+    alloc: Global,
+    iter: &mut SubtagIterator<'_>,
+    keywords: &mut Keywords,
+) -> Result<(), ParseError>
+    requires { keywords.old ≡ [] }
+    ensures { KeywordsGive (left iter.old) (left iter.new) (result_and result (Ok keywords.new)) }
+{
+    'keys: while let Some(key) = take_word::<UnicodeKeyKind, 2>(iter) {
+        let value = read_value(alloc, iter)?;
+        keywords.add(alloc, key, value)?;
     }
+    if has_two_bytes(iter) {
+        return Err(ParseError::InvalidExtension);
+    }
+    Ok(())
 }
 
 // Whether the next piece has two bytes.
@@ -103,23 +107,28 @@ impl Unicode {
         ensures { UnicodeGives (left iter.old) (left iter.new) result }
     {
         let mut unicode = Unicode::new();
-        unicode.fill(alloc, iter)?;
+        fill_unicode(alloc, iter, &mut unicode)?;
         Ok(unicode)
     }
+}
 
-    /// Reads what follows `u` into an empty extension. After a refusal it holds what was read before the fault.
-    pub fn fill(&mut self, alloc: Global, iter: &mut SubtagIterator<'_>) -> Result<(), ParseError>
-        requires keywords { self.old.keywords ≡ [] }
-        requires attributes { self.old.attributes ≡ [] }
-        ensures { UnicodeGives (left iter.old) (left iter.new) (result_and result (Ok self.new)) }
-    {
-        self.attributes = Attributes::try_from_iter(alloc, iter)?;
-        self.keywords.fill(alloc, iter)?;
-        if self.is_empty() {
-            return Err(ParseError::InvalidExtension);
-        }
-        Ok(())
+/// The same into an empty extension, for readers of whole locales. After a refusal it holds what was read
+/// before the fault.
+pub fn fill_unicode(
+    alloc: Global,
+    iter: &mut SubtagIterator<'_>,
+    unicode: &mut Unicode,
+) -> Result<(), ParseError>
+    requires keywords { unicode.old.keywords ≡ [] }
+    requires attributes { unicode.old.attributes ≡ [] }
+    ensures { UnicodeGives (left iter.old) (left iter.new) (result_and result (Ok unicode.new)) }
+{
+    unicode.attributes = Attributes::try_from_iter(alloc, iter)?;
+    fill_keywords(alloc, iter, &mut unicode.keywords)?;
+    if unicode.is_empty() {
+        return Err(ParseError::InvalidExtension);
     }
+    Ok(())
 }
 
 // Takes the next piece, and answers whether it is `u` in either case.

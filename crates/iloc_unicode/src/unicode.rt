@@ -3,6 +3,9 @@ ghost use Rattle.std.specs.Prelude.{◌≡◌, ◌↔◌, ◌&&◌, ◌==◌, []
 ghost use Rattle.std.specs.Cmp.{decided, partial_equiv_from_equiv};
 ghost use Rattle.std.specs.Hash.{same_Alike};
 ghost use Rattle.iloc_fronts.specs.Extending.{extend};
+ghost use Rattle.iloc_fronts.specs.Parts.{UnicodeText, UnicodeTextFault};
+ghost use Rattle.iloc_grammar.specs.Faults.{Fault};
+ghost use Rattle.iloc_subtags.specs.Judging.{Accepts, Refuses};
 ghost use Rattle.iloc_grammar.specs.Values.{unicode_spelling, unicode_text};
 ghost use Rattle.iloc_grammar.specs.Written.{Unicode as UnicodeParts};
 ghost use Rattle.iloc_orders.specs.Orders.{unicode_cmp};
@@ -26,7 +29,7 @@ pub struct Unicode {
 }
 
 impl Unicode {
-    ghost use Rattle.iloc_unicode.specs.UnicodeReads.{UnicodeReadsAs};
+    ghost use Rattle.iloc_unicode.specs.UnicodeReads.{UnicodeReadsAs, UnicodeTextWants};
     ghost use Rattle.iloc_unicode.specs.UnicodeValue.{value_of};
 
     /// The empty extension.
@@ -44,6 +47,17 @@ impl Unicode {
     /// (UTS #35 section 3.2). Refused by `InvalidExtension` are another first piece, a piece of two bytes
     /// that is met among the keywords and is no key, and an extension in which both parts are empty.
     pub fn try_from_utf8(alloc: Global, code_units: &[u8]) -> Result<Self, ParseError>
+        ensures reads { UnicodeReadsAs code_units.now result }
+        ensures accepted { (u : UnicodeParts) → UnicodeText code_units.now u
+            → Accepts value_of (UnicodeTextWants code_units.now) u result }
+        ensures refused { (f : Fault) → UnicodeTextFault code_units.now f
+            → Refuses (UnicodeTextWants code_units.now) f result }
+    {
+        Self::read_text(alloc, code_units)
+    }
+
+    // The same by what it reads alone.
+    fn read_text(alloc: Global, code_units: &[u8]) -> Result<Self, ParseError>
         ensures { UnicodeReadsAs code_units.now result }
     {
         let mut iter = SubtagIterator::new(code_units);
@@ -55,7 +69,11 @@ impl Unicode {
 
     /// Reads a `str`, as `try_from_utf8` reads bytes.
     pub fn try_from_str(alloc: Global, s: &str) -> Result<Self, ParseError>
-        ensures { UnicodeReadsAs s.now result }
+        ensures reads { UnicodeReadsAs s.now result }
+        ensures accepted { (u : UnicodeParts) → UnicodeText s.now u
+            → Accepts value_of (UnicodeTextWants s.now) u result }
+        ensures refused { (f : Fault) → UnicodeTextFault s.now f
+            → Refuses (UnicodeTextWants s.now) f result }
     {
         Unicode::try_from_utf8(alloc, s.as_bytes())
     }

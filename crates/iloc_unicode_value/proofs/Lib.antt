@@ -3,3 +3,4 @@ mod CutLemmas
 mod PrintLemmas
 mod ReadingLemmas
 mod WholeLemmas
+mod OwedLemmas

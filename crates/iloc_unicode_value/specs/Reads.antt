@@ -9,8 +9,12 @@ use Rattle.iloc_fronts.specs.PartValues.{unicode_value}
 use Rattle.iloc_subtags.specs.declared.parse_error.ParseError.{ParseError}
 use Rattle.iloc_subtags.specs.Answers.{Answers, SubtagFault}
 
--- by cases on the answer; memory is wanted only for a fifth word besides `true`
+-- memory is wanted only for a fifth word besides `true`
+abbrev pub ValueWants : List ℕ → Type 0
+ValueWants t = 4 < length (normal_values (passing (is_word Subtag) (pieces t)))
+
+-- by cases on the answer
 abbrev pub ReadsAs : List ℕ → Result (List (List ℕ)) ParseError → Type 0
 ReadsAs t = Answers (λ v. unicode_value t ≡ Ok v)
     (SubtagFault (unicode_value t ≡ Err faults.InvalidSubtag))
-    (4 < length (normal_values (passing (is_word Subtag) (pieces t))))
+    (ValueWants t)

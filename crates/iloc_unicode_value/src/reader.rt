@@ -1,5 +1,5 @@
 //! Reads values from pieces.
-ghost use Rattle.std.specs.Prelude.{◌≡◌, ◌≤◌, ℕ, List, [], length, map, IfOk, OnOk, IsOk};
+ghost use Rattle.std.specs.Prelude.{◌≡◌, ◌≤◌, ℕ, List, [], length, map, Ok, Err, IfOk, OnOk, IsOk};
 ghost use Rattle.iloc_grammar.specs.Pieces.{pieces};
 ghost use Rattle.iloc_grammar.specs.Words.{Attribute, Subtag, is_word, normal};
 ghost use Rattle.iloc_grammar.specs.Values.{IsNormal};
@@ -7,7 +7,10 @@ ghost use Rattle.iloc_grammar.specs.Meaning.{normal_values};
 ghost use Rattle.iloc_grammar.specs.Reading.{passing, past};
 ghost use Rattle.iloc_parser.specs.Left.{left};
 ghost use Rattle.iloc_unicode_value.specs.Values.{without_true};
-ghost use Rattle.iloc_unicode_value.specs.Reads.{ReadsAs};
+ghost use Rattle.iloc_grammar.specs.Faults.{Fault};
+ghost use Rattle.iloc_fronts.specs.PartValues.{unicode_value};
+ghost use Rattle.iloc_subtags.specs.Judging.{Accepts, Refuses};
+ghost use Rattle.iloc_unicode_value.specs.Reads.{ReadsAs, ValueWants};
 
 use crate::value::Value;
 use iloc_parser::{SubtagIterator, take_word};
@@ -18,6 +21,17 @@ impl Value {
     /// Reads all pieces of the text as subtags, of which `true` is dropped; the empty text is the
     /// empty value. Refuses any other piece by `InvalidSubtag`.
     pub fn try_from_utf8(alloc: Global, code_units: &[u8]) -> Result<Self, ParseError>
+        ensures reads { ReadsAs code_units.now result }
+        ensures accepted { (v : List (List ℕ)) → unicode_value code_units.now ≡ Ok v
+            → Accepts (λ v. v) (ValueWants code_units.now) v result }
+        ensures refused { (f : Fault) → unicode_value code_units.now ≡ Err f
+            → Refuses (ValueWants code_units.now) f result }
+    {
+        Self::read_text(alloc, code_units)
+    }
+
+    // The same by what it reads alone.
+    fn read_text(alloc: Global, code_units: &[u8]) -> Result<Self, ParseError>
         ensures { ReadsAs code_units.now result }
     {
         if code_units.is_empty() {
@@ -33,7 +47,11 @@ impl Value {
 
     /// Reads a `str`, as `try_from_utf8` reads bytes.
     pub fn try_from_str(alloc: Global, s: &str) -> Result<Self, ParseError>
-        ensures { ReadsAs s.now result }
+        ensures reads { ReadsAs s.now result }
+        ensures accepted { (v : List (List ℕ)) → unicode_value s.now ≡ Ok v
+            → Accepts (λ v. v) (ValueWants s.now) v result }
+        ensures refused { (f : Fault) → unicode_value s.now ≡ Err f
+            → Refuses (ValueWants s.now) f result }
     {
         Value::try_from_utf8(alloc, s.as_bytes())
     }

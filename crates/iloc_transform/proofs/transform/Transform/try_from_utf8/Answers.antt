@@ -1,15 +1,9 @@
-use Rattle.std.proofs.Common.{sym, ap, ◌∙◌, Some}
-use Rattle.iloc_grammar.specs.Reading.{rest_of}
-use Rattle.iloc_parser.specs.Left.{left}
-use Rattle.iloc_other.specs.Singleton.{singleton_at}
-use Rattle.iloc_transform.proofs.TransformLemmas.{text_none, text_other, text_reads}
+-- what is owed to each text follows from what is read
+use Rattle.iloc_transform.proofs.OwedLemmas.{transform_accepts, transform_refuses}
 use Rattle.iloc_transform.proofs.transform.Transform.try_from_utf8.Goals as goal
 
-pub returns-in_default : goal.returns-in_default
-returns-in_default c = text_none c.args.code_units.now (c.in_default.ensures.byte ∙ ap singleton_at c.new-iter.ensures)
+pub returns-clause-accepted : goal.returns-clause-accepted
+returns-clause-accepted c = transform_accepts c.args.code_units.now c.read_text.result c.read_text.ensures
 
-pub returns-then-ext-ne116 : goal.returns-then-ext-ne116
-returns-then-ext-ne116 c = text_other c.args.code_units.now c.in-Some.ext (c.in-Some.ensures.byte ∙ ap singleton_at c.new-iter.ensures) c.if-ext-ne116.true
-
-pub returns : goal.returns
-returns c = text_reads c.args.code_units.now (ap (λ d. Some d) (sym c.if-ext-ne116.false) ∙ c.in-Some.ensures.byte ∙ ap singleton_at c.new-iter.ensures) (left c.take_singleton.new.iter) (left c.try_from_iter.new.iter) (c.in-Some.ensures.rest ∙ ap rest_of c.new-iter.ensures) c.try_from_iter.result c.try_from_iter.ensures
+pub returns-clause-refused : goal.returns-clause-refused
+returns-clause-refused c = transform_refuses c.args.code_units.now c.read_text.result c.read_text.ensures

@@ -1,15 +1,9 @@
-use Rattle.std.proofs.Common.{sym, ap, ◌∙◌, subst}
-use Rattle.iloc_grammar.specs.Reading.{rest_of}
-use Rattle.iloc_fronts.specs.Parts.{begins_part, is_letter}
-use Rattle.iloc_parser.specs.Left.{left}
-use Rattle.iloc_unicode.specs.UnicodeReads.{UnicodeGives}
-use Rattle.iloc_unicode.proofs.UnicodeLemmas.{no_letter, after_letter}
+-- what is owed to each text follows from what is read
+use Rattle.iloc_unicode.proofs.OwedLemmas.{unicode_accepts, unicode_refuses}
 use Rattle.iloc_unicode.proofs.unicode.Unicode.try_from_utf8.Goals as goal
 
-pub returns-then-not-takes_u : goal.returns-then-not-takes_u
-returns-then-not-takes_u c = no_letter c.args.code_units.now (ap (begins_part (is_letter 117)) (sym c.new-iter.ensures) ∙ sym c.takes_u.ensures.u ∙ c.if-not-takes_u.true)
+pub returns-clause-accepted : goal.returns-clause-accepted
+returns-clause-accepted c = unicode_accepts c.args.code_units.now c.read_text.result c.read_text.ensures
 
-pub returns : goal.returns
-returns c =
-    after_letter c.args.code_units.now (left c.try_from_iter.new.iter) c.try_from_iter.result (ap (begins_part (is_letter 117)) (sym c.new-iter.ensures) ∙ sym c.takes_u.ensures.u ∙ c.if-not-takes_u.false)
-    (subst (λ ps. UnicodeGives ps (left c.try_from_iter.new.iter) c.try_from_iter.result) (c.takes_u.ensures.rest ∙ ap rest_of c.new-iter.ensures) c.try_from_iter.ensures)
+pub returns-clause-refused : goal.returns-clause-refused
+returns-clause-refused c = unicode_refuses c.args.code_units.now c.read_text.result c.read_text.ensures

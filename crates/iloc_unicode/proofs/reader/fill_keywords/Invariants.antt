@@ -2,10 +2,10 @@
 use Rattle.std.proofs.Common.{length}
 use Rattle.iloc_parser.specs.Left.{left}
 use Rattle.iloc_unicode.proofs.KeywordLemmas.{Filled}
-use Rattle.iloc_unicode.proofs.keywords.Keywords.fill.Given as goal
+use Rattle.iloc_unicode.proofs.reader.fill_keywords.Given as goal
 
 abbrev pub invariant-keys : goal.invariant-keys
-invariant-keys l = Filled (left l.fn.iter) (left l.iter) l.self
+invariant-keys l = Filled (left l.fn.iter) (left l.iter) l.keywords
 
 abbrev pub decreases-keys : goal.decreases-keys
 decreases-keys l = length (left l.iter)

@@ -3,7 +3,7 @@ use Rattle.std.proofs.lemmas.Result.{err_from_is_err_and}
 use Rattle.iloc_grammar.specs.Words.{PrivateSubtag}
 use Rattle.iloc_parser.specs.Left.{left}
 use Rattle.iloc_other.proofs.TakingLemmas.{takes_word, refuses_piece, wants_memory, takes_none}
-use Rattle.iloc_other.proofs.private.Private.fill.Goals as goal
+use Rattle.iloc_other.proofs.private.fill_private.Goals as goal
 use Rattle.iloc_grammar.proofs.ReadWords.{accepted_from_read, refused_from_read}
 
 pub returns-in_err-word : goal.returns-in_err-word
@@ -15,7 +15,7 @@ returns-in_err-word c =
 pub words-preserved : goal.words-preserved
 words-preserved c =
     let read = accepted_from_read PrivateSubtag _ c.in-Some.piece.now c.in_ok-word.word c.in_ok-word.ensures in
-    takes_word _ _ _ c.words.invariant c.in-Some.piece.now (left c.next.new.self) c.in-Some.ensures.steps _ read.0 (c.in_ok-push.ensures.ok ∙ ap (λ w. c.words.self-inside.words ++ w ∷ []) read.1)
+    takes_word _ _ _ c.words.invariant c.in-Some.piece.now (left c.next.new.self) c.in-Some.ensures.steps _ read.0 (c.in_ok-push.ensures.ok ∙ ap (λ w. c.words.private-inside.words ++ w ∷ []) read.1)
 
 pub returns-in_err-push : goal.returns-in_err-push
 returns-in_err-push c =

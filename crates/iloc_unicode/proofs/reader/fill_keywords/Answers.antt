@@ -1,0 +1,34 @@
+use Rattle.std.proofs.Common.{◌≡◌, true, true≢false, false, sym, ◌∙◌, is_some}
+use Rattle.std.proofs.lemmas.Bool.{false_from_ne_true}
+use Rattle.std.proofs.lemmas.Result.{err_from_is_err_and}
+use Rattle.std.specs.FinMap.{find}
+use Rattle.iloc_grammar.specs.Words.{word_cmp}
+use Rattle.iloc_parser.specs.Left.{left}
+use Rattle.iloc_unicode.proofs.KeywordLemmas.{filled_less, filled_more, filled_all, filled_bad, many_values, many_keys}
+use Rattle.iloc_unicode.proofs.reader.fill_keywords.Goals as goal
+
+refused_not : false ≡ true → ⊥
+refused_not h = true≢false (sym h)
+
+pub returns-in_err-value : goal.returns-in_err-value
+returns-in_err-value c =
+    let p = err_from_is_err_and c.from_residual.result c.from_residual.ensures.1 in
+    rw (p.1, p.2) (many_values (left c.args.iter.now) (left c.keys.iter) c.keys.keywords c.keys.invariant c.in-Some.key (left c.take_word.new.iter) c.in-Some.ensures.word c.in-Some.ensures.rest (λ few. refused_not (c.in_err-value.ensures.succeeds few)))
+
+pub keys-smaller : goal.keys-smaller
+keys-smaller c = filled_less (left c.args.iter.now) (left c.keys.iter) c.keys.keywords c.keys.invariant c.in-Some.key (left c.take_word.new.iter) c.in-Some.ensures.word c.in-Some.ensures.rest (left c.read_value.new.iter) c.in_ok-value.ensures.rest
+
+pub keys-preserved : goal.keys-preserved
+keys-preserved c = filled_more (left c.args.iter.now) (left c.keys.iter) c.keys.keywords c.keys.invariant c.in-Some.key (left c.take_word.new.iter) c.in-Some.ensures.word c.in-Some.ensures.rest c.in_ok-value.value (left c.read_value.new.iter) c.add.new.self c.in_ok-value.ensures.value c.in_ok-value.ensures.rest c.in_ok-add.ensures.ok
+
+pub returns-in_err-add : goal.returns-in_err-add
+returns-in_err-add c =
+    let p = err_from_is_err_and c.from_residual-in_err-add.result c.from_residual-in_err-add.ensures.1 in
+    let new : is_some (find word_cmp c.in-Some.key c.keys.keywords) ≡ false = false_from_ne_true _ (λ t. refused_not (c.in_err-add.ensures.known t)) in
+    rw (p.1, p.2) (many_keys (left c.args.iter.now) (left c.keys.iter) c.keys.keywords c.keys.invariant c.in-Some.key (left c.take_word.new.iter) c.in-Some.ensures.word c.in-Some.ensures.rest new (λ few. refused_not (c.in_err-add.ensures.succeeds few)))
+
+pub returns-then-has_two_bytes : goal.returns-then-has_two_bytes
+returns-then-has_two_bytes c = filled_bad (left c.args.iter.now) (left c.keys.iter) (left c.take_word.new.iter) c.keys.keywords c.keys.invariant c.in_default.ensures.rest (sym c.has_two_bytes.ensures ∙ c.if-has_two_bytes.true) c.in_default.ensures.word
+
+pub returns : goal.returns
+returns c = filled_all (left c.args.iter.now) (left c.keys.iter) (left c.take_word.new.iter) c.keys.keywords c.keys.invariant c.in_default.ensures.rest (sym c.has_two_bytes.ensures ∙ c.if-has_two_bytes.false) c.in_default.ensures.word
