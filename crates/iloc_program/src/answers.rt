@@ -122,7 +122,7 @@ fn write_text<T: Writeable>(value: &T, replies: &mut ReplyBlock) -> Result<(), A
 
 // Adds why a line has no answer, and LF. That memory is refused is no answer to a line.
 #[inline(always)]
-fn write_refusal(error: ParseError, replies: &mut ReplyBlock) -> Result<(), AllocError>
+pub(crate) fn write_refusal(error: ParseError, replies: &mut ReplyBlock) -> Result<(), AllocError>
     ensures text { OnOk result (held replies.new
         ≡ held replies.old ++ (refusal_text error ++ 10 ∷ [])) }
     ensures known { OnOk result (error ≢ ParseError.OutOfMemory) }
