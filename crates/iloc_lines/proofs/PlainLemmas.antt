@@ -1,10 +1,21 @@
--- Plain lines and their replies.
-use Rattle.std.proofs.Common.{◌≡◌, ℕ, List, [], ◌∷◌, ◌++◌, sym, ap}
+-- Lines that are told at once, and their replies.
+use Rattle.std.proofs.Common.{◌≡◌, ℕ, false, List, [], ◌∷◌, ◌++◌, refl, sym, ap, subst}
 use Rattle.iloc_grammar.specs.Values.{identifier_text}
 use Rattle.iloc_plain.specs.Plain.{IsPlain, value_of}
 use Rattle.iloc_plain.specs.declared.plain.Plain.{Plain}
 use Rattle.iloc_lines.proofs.PlainAnswers.{identifier_answer, locale_answer, data_answer}
-use Rattle.iloc_lines.specs.Output.{line_answer, reply}
+use Rattle.iloc_grammar.specs.Pieces.{pieces}
+use Rattle.iloc_grammar.specs.Blocks.{first_piece, head}
+use Rattle.iloc_grammar.specs.Words.{Language, is_word, languages}
+use Rattle.iloc_grammar.specs.Faults.{not_a_language}
+use Rattle.iloc_grammar.specs.Faults as faults
+use Rattle.iloc_grammar.proofs.RawLaws.{languages_table}
+use Rattle.iloc_small.specs.Small as small
+use Rattle.iloc_regions.specs.DataLocales.{not_small}
+use Rattle.iloc_output.specs.Output.{OfIdentifiers, OfLocales, OfDataLocales, no_identifier, no_locale, no_data_locale}
+use Rattle.iloc_output.proofs.OutputLaws.{only_answer}
+use Rattle.iloc_subtags.specs.declared.parse_error.ParseError.TheVariants.{InvalidLanguage}
+use Rattle.iloc_lines.specs.Output.{line_answer, reply, refusal_text}
 use Rattle.iloc_lines.specs.declared.Mode.{Mode}
 use Rattle.iloc_lines.specs.declared.Mode.TheVariants.{Langid, Locale, Data}
 
@@ -15,3 +26,19 @@ plain_answer Data t p h = data_answer t p h
 
 pub plain_reply : (mode : Mode) (t : List ℕ) (p : Plain) → IsPlain t p → identifier_text (value_of p) ++ 10 ∷ [] ≡ reply mode t
 plain_reply mode t p h = ap (λ l. l ++ 10 ∷ []) (sym (plain_answer mode t p h))
+
+-- a text that begins with no language is refused so in each mode
+
+same_first : (ps : List (List ℕ)) → first_piece ps ≡ first_piece (head ps)
+same_first [] = refl
+same_first (p ∷ ps) = refl
+
+no_language_answer : (mode : Mode) (t : List ℕ) → is_word (Language languages) (first_piece (pieces t)) ≡ false → line_answer mode t ≡ refusal_text InvalidLanguage
+no_language_answer Langid t h = sym (only_answer languages_table OfIdentifiers t (refusal_text InvalidLanguage) (no_identifier (not_a_language h)))
+no_language_answer Locale t h = sym (only_answer languages_table OfLocales t (refusal_text InvalidLanguage) (no_locale (faults.no_language h)))
+no_language_answer Data t h =
+    sym (only_answer languages_table OfDataLocales t (refusal_text InvalidLanguage)
+    (no_data_locale (not_small (small.bad_head (small.no_language (subst (λ p. is_word (Language languages) p ≡ false) (same_first (pieces t)) h))))))
+
+pub no_language_reply : (mode : Mode) (t : List ℕ) → is_word (Language languages) (first_piece (pieces t)) ≡ false → refusal_text InvalidLanguage ++ 10 ∷ [] ≡ reply mode t
+no_language_reply mode t h = ap (λ l. l ++ 10 ∷ []) (sym (no_language_answer mode t h))

@@ -26,9 +26,11 @@ ghost use Rattle.iloc_output.specs.Lines.{IsOneLine};
 ghost use Rattle.std.specs.Simd.Lanes.{mask_l};
 ghost use Rattle.memchr.specs.Find.{IsFirstByte, is_byte};
 
+use crate::replies::write_refusal;
 use crate::reply_block::ReplyBlock;
 use crate::{Answers, RunError};
-use iloc_plain::read_plain;
+use iloc_plain::{has_no_language, read_plain};
+use iloc_subtags::ParseError;
 use memchr::memchr_iter;
 use std::alloc::{AllocError, Global};
 use std::io::Write;
@@ -85,7 +87,8 @@ fn split_line(bytes: &[u8]) -> Option<(&[u8], &[u8])>
     Some((line, &later[1..]))
 }
 
-// Adds the reply to the line that this window begins with, at once where it is plain.
+// Adds the reply to the line that this window begins with: at once if it is plain or begins with no
+// language, and else as the mode parses it.
 #[inline(always)]
 fn reply_to<A: Answers>(
     answers: &mut A,
@@ -99,6 +102,9 @@ fn reply_to<A: Answers>(
     if line.len() <= 16 && window.len() >= 16 {
         if let Some(plain) = read_plain(window, line.len()) {
             return replies.push_plain(&plain);
+        }
+        if has_no_language(window, line.len()) {
+            return write_refusal(ParseError::InvalidLanguage, replies);
         }
     }
     answers.reply(line, replies)

@@ -14,11 +14,13 @@
 #![tactic(auto)]
 
 mod lanes;
+mod language;
 mod load;
 mod marks;
 pub mod plain;
 mod read;
 mod tail;
 
+pub use language::has_no_language;
 pub use plain::Plain;
 pub use read::{read_plain, read_plain_text};

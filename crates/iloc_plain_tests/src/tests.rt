@@ -1,0 +1,100 @@
+//! Each shape with each length of a language, in mixed case, and texts that begin with no language.
+use iloc_plain::{has_no_language, read_plain, read_plain_text};
+
+// A text of each shape for each length of a language, and its normal text.
+const PLAIN: [(&str, &str); 35] = [
+    ("EN", "en"),
+    ("deu", "deu"),
+    ("aBcDe", "abcde"),
+    ("abcdef", "abcdef"),
+    ("ABCDEFG", "abcdefg"),
+    ("abcdefgh", "abcdefgh"),
+    ("EN-us", "en-US"),
+    ("deu-us", "deu-US"),
+    ("aBcDe-us", "abcde-US"),
+    ("abcdef-us", "abcdef-US"),
+    ("ABCDEFG-us", "abcdefg-US"),
+    ("abcdefgh-us", "abcdefgh-US"),
+    ("EN-419", "en-419"),
+    ("deu-419", "deu-419"),
+    ("aBcDe-419", "abcde-419"),
+    ("abcdef-419", "abcdef-419"),
+    ("ABCDEFG-419", "abcdefg-419"),
+    ("abcdefgh-419", "abcdefgh-419"),
+    ("EN-LATN", "en-Latn"),
+    ("deu-LATN", "deu-Latn"),
+    ("aBcDe-LATN", "abcde-Latn"),
+    ("abcdef-LATN", "abcdef-Latn"),
+    ("ABCDEFG-LATN", "abcdefg-Latn"),
+    ("abcdefgh-LATN", "abcdefgh-Latn"),
+    ("EN-laTn-Us", "en-Latn-US"),
+    ("deu-laTn-Us", "deu-Latn-US"),
+    ("aBcDe-laTn-Us", "abcde-Latn-US"),
+    ("abcdef-laTn-Us", "abcdef-Latn-US"),
+    ("ABCDEFG-laTn-Us", "abcdefg-Latn-US"),
+    ("abcdefgh-laTn-Us", "abcdefgh-Latn-US"),
+    ("EN-Latn-001", "en-Latn-001"),
+    ("deu-Latn-001", "deu-Latn-001"),
+    ("aBcDe-Latn-001", "abcde-Latn-001"),
+    ("abcdef-Latn-001", "abcdef-Latn-001"),
+    ("ABCDEFG-Latn-001", "abcdefg-Latn-001"),
+];
+
+// Texts that have another shape, so that nothing is said of them.
+const OTHERS: [&str; 8] = [
+    "",
+    "e",
+    "abcd",
+    "en-posix",
+    "en-u-ca",
+    "en-us-",
+    "en--us",
+    "en-latn-latn",
+];
+
+// Whether the text is told at once, as this normal text.
+fn is_told(text: &str, normal: &str) -> bool {
+    let mut room = [0u8; 16];
+    match read_plain_text(text.as_bytes()) {
+        Some(plain) => {
+            plain.store(&mut room);
+            &room[..plain.len] == normal.as_bytes()
+        }
+        None => false,
+    }
+}
+
+// Whether the first bytes of a window are told at once, where other bytes follow them.
+fn is_told_in_window(text: &[u8; 20], len: usize) -> bool {
+    len <= 16 && read_plain(text, len).is_some()
+}
+
+#[test]
+fn each_shape_is_told(rt: HostRuntime) {
+    for (text, normal) in PLAIN {
+        assert!(rt; is_told(text, normal), "{text}");
+    }
+    for text in OTHERS {
+        assert!(rt; read_plain_text(text.as_bytes()).is_none(), "{text}");
+    }
+}
+
+#[test]
+fn what_follows_in_the_window_changes_nothing(rt: HostRuntime) {
+    assert!(rt; is_told_in_window(b"en-us\nde-latn-ch\nfr-", 5));
+    assert!(rt; is_told_in_window(b"sr-Latn-RS-----12345", 10));
+    assert!(rt; is_told_in_window(b"abcdefgh-Latn-US-x-y", 16));
+    assert!(rt; !is_told_in_window(b"sr-Latn-RS-----12345", 11));
+}
+
+#[test]
+fn a_text_without_a_language_is_told(rt: HostRuntime) {
+    assert!(rt; has_no_language(b"C\nen-us\nde-CH\nfr\n", 1));
+    assert!(rt; has_no_language(b"en_US.UTF-8\nde-CH\n", 11));
+    assert!(rt; has_no_language(b"\nen-us\nde-CH\nfr-FR\n", 0));
+    assert!(rt; has_no_language(b"abcd-US\nde-CH\nfr\n", 7));
+    assert!(rt; has_no_language(b"abcdefghijklmnopqrstuvw", 23));
+    assert!(rt; has_no_language(b"1en-US\nde-CH\nfr-FR\n", 6));
+    assert!(rt; !has_no_language(b"en-us\nde-CH\nfr-FR\n", 5));
+    assert!(rt; !has_no_language(b"abcdefgh\nC\nfr-FR-x\n", 8));
+}
