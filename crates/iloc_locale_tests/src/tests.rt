@@ -1,6 +1,7 @@
-//! The room of texts, and parts that print after one another.
+//! The room of texts, parts that print after one another, and a sink that fails.
 use iloc_langid::LanguageIdentifier;
 use iloc_langid::reader::read_into as read_identifier;
+use iloc_list_tests::FailingSink;
 use iloc_locale::Locale;
 use iloc_other::{Other, Private};
 use iloc_subtags::ParseError;
@@ -117,4 +118,43 @@ fn an_identifier_is_read_in_place_of_another(rt: HostRuntime) {
     let mut identifier = LanguageIdentifier::unknown();
     let is_replaced = identifier_is_replaced(rt.alloc(), &mut identifier);
     assert_eq!(rt; is_replaced, Ok(true));
+}
+
+// Whether the error of a sink that refuses a write is answered, if it refused one, with a beginning of the text before it
+// and no write after it; else the sink holds the whole text.
+fn tells_failure<W: Writeable>(alloc: Global, value: &W, whole: &str, writes: u64) -> bool {
+    let mut sink = FailingSink::new(alloc, writes);
+    let is_written = value.write_to(&mut sink).is_ok();
+    let (text, failures) = (sink.text.as_str(), sink.failures);
+    match failures {
+        0 => is_written && text == whole,
+        1 => !is_written && whole.starts_with(text),
+        _ => false,
+    }
+}
+
+// Whether each sink does that has room for fewer writes than the text has bytes, and whether the first refuses a write
+// and the last none.
+fn tells_each_failure<W: Writeable>(alloc: Global, value: &W, whole: &str) -> bool {
+    let most = whole.len() as u64;
+    let is_told = (0..most).all(|writes: u64| tells_failure(alloc, value, whole, writes));
+    let mut none = FailingSink::new(alloc, 0);
+    let mut all = FailingSink::new(alloc, most);
+    is_told && value.write_to(&mut none).is_err() && value.write_to(&mut all).is_ok()
+}
+
+// Whether the locale, its extensions and its unicode extension do, which print these texts.
+fn tells_failures(alloc: Global, locale: &Locale) -> bool {
+    let extensions = &locale.extensions;
+    tells_each_failure(alloc, locale, "en-US-a-foo-t-fr-m0-true-u-abc-ca-roc-x-y")
+        && tells_each_failure(alloc, extensions, "a-foo-t-fr-m0-true-u-abc-ca-roc-x-y")
+        && tells_each_failure(alloc, &extensions.unicode, "u-abc-ca-roc")
+}
+
+#[test]
+fn a_sink_fails_at_each_write(rt: HostRuntime) -> Result<(), Fail> {
+    let alloc = rt.alloc();
+    let locale = Locale::try_from_str(alloc, "EN-us-u-ABC-ca-roc-t-fr-m0-true-a-foo-x-y")?;
+    assert!(rt; tells_failures(alloc, &locale));
+    Ok(())
 }
