@@ -37,7 +37,7 @@
 //!
 //! | Calls | Allocator |
 //! |---|---|
-//! | `try_from_utf8`, `try_from_str`, `try_from_locale_bytes`, `try_from_iter`, `read`, `fill`, `normalize`, `normalize_utf8`, `try_from_value`, `try_from_key_value`, `from_json`, `to_json`, `read_text`, `run` | taken; want of memory is one of the refusals |
+//! | `try_from_utf8`, `try_from_str`, `try_from_locale_bytes`, `try_from_iter`, `normalize`, `normalize_utf8`, `try_from_value`, `try_from_key_value`, `from_json`, `to_json`, `read_text`, `run` | taken; want of memory is one of the refusals |
 //! | `write_to_string`, `to_string_or_borrow`, `Locale::normalizing_eq`, `push`, `push_subtag`, `insert`, `try_insert`, `set`, `extend` and its kin, `union`, `new_double`, `from_iter`, `from_pairs`, `from_subtags`, `from_two_subtags`, `to_value`, `unicode_extension_value`, `to_locale`, `write_text`, `carry_v1` | taken; want of memory is `AllocError`, or the refusal of that name |
 //! | `Locale::unknown`, `new` of `LiteMap`, `Fields`, `Transform` and `Extensions`, `from_langid`, `from_language`, `from_script`, `from_region`, `from_parts`, `from_unicode`, `into_locale`, `Fields::clear` | taken and kept: these want no memory |
 //! | `clone` of what may own memory | not taken: the value's own; want of memory is `AllocError` |

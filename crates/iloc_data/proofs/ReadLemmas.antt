@@ -10,13 +10,17 @@ use Rattle.iloc_small_reader.specs.SmallLocaleReads.{LocaleParts, small_locale_o
 use Rattle.iloc_regions.specs.Subdivisions.{Subdivision}
 use Rattle.iloc_regions.specs.DataLocales as parts
 use Rattle.iloc_regions.specs.DataLocales.{DataMeans, HasDataFault, not_small, no_subdivision, made_of, small_part, data_text}
-use Rattle.iloc_regions.proofs.DataLaws.{data_apart, one_data, read_back}
+use Rattle.iloc_regions.proofs.DataLaws.{data_apart, one_data, one_data_fault, read_back}
 use Rattle.iloc_regions.proofs.WiderData.{data_wider}
 use Rattle.iloc_preferences_rules.specs.Preferences.{language_priority, preferences}
 use Rattle.iloc_preferences_rules.proofs.ConversionLaws.{agrees}
 use Rattle.iloc_subtags.specs.declared.parse_error.ParseError.{ParseError}
 use Rattle.iloc_subtags.specs.declared.parse_error.ParseError.TheVariants.{InvalidLanguage, InvalidSubtag, InvalidExtension, DuplicatedExtension, OutOfMemory}
 use Rattle.iloc_data.specs.declared.data_locale.DataLocale.{DataLocale}
+use Rattle.iloc_subtags.specs.Answers.{ButDuplicate}
+use Rattle.iloc_subtags.specs.Judging.{Accepts, Refuses}
+use Rattle.iloc_subtags.proofs.Judged.{Judges, accepts, refuses, but_duplicate}
+use Rattle.iloc_data.specs.DataValue.{value_of}
 use Rattle.iloc_data.specs.Reads.{DataReadsAs}
 
 -- the parts of the small locale, with its region part
@@ -35,6 +39,17 @@ not_read t OutOfMemory h = absurd h
 
 pub no_part : (t : List ℕ) (p : LocaleParts) → SmallLocaleReadsAs t (Ok p) → small_part p.2 p.4 ≡ None → DataReadsAs t (Err InvalidExtension)
 no_part t p s h = no_subdivision s (ap (of_part p) h)
+
+-- what is owed to each text
+
+data_judges : (t : List ℕ) → Judges (DataMeans languages t) (HasDataFault languages t)
+data_judges t = record { one = one_data languages_table t; apart = data_apart languages_table t; one_fault = λ f g. one_data_fault t }
+
+pub data_accepts : (t : List ℕ) (r : Result DataLocale ParseError) → DataReadsAs t r → (d : parts.DataLocale) → DataMeans languages t d → Accepts value_of ⊥ d r
+data_accepts t r h = accepts value_of (ButDuplicate (HasDataFault languages t)) ⊥ (data_judges t) (but_duplicate (HasDataFault languages t)) r h
+
+pub data_refuses : (t : List ℕ) (r : Result DataLocale ParseError) → DataReadsAs t r → (f : Fault) → HasDataFault languages t f → Refuses ⊥ f r
+data_refuses t r h = refuses value_of (ButDuplicate (HasDataFault languages t)) ⊥ (data_judges t) (but_duplicate (HasDataFault languages t)) r h
 
 -- what else is known of what is read
 

@@ -7,7 +7,9 @@ use Rattle.iloc_regions.specs.DataLocales as parts
 use Rattle.iloc_regions.specs.DataLocales.{DataMeans, HasDataFault, data_text}
 use Rattle.iloc_preferences_rules.specs.Preferences.{language_priority, preferences}
 use Rattle.iloc_subtags.specs.declared.parse_error.ParseError.{ParseError}
+use Rattle.iloc_grammar.specs.Faults.{Fault}
 use Rattle.iloc_subtags.specs.Answers.{Answers, ButDuplicate}
+use Rattle.iloc_subtags.specs.Judging.{Accepts, Refuses}
 use Rattle.iloc_data.specs.declared.data_locale.DataLocale.{DataLocale}
 use Rattle.iloc_data.specs.DataValue.{value_of}
 
@@ -18,6 +20,8 @@ DataReadsAs t = Answers (λ d. DataMeans languages t (value_of d))
 -- all that is promised of the answer on a text: each clause of `try_from_str`
 pub record IsDataAnswer (t : List ℕ) (r : Result DataLocale ParseError) : Type 0 where
   pub reads : DataReadsAs t r
+  pub accepted : (d : parts.DataLocale) → DataMeans languages t d → Accepts value_of ⊥ d r
+  pub refused : (f : Fault) → HasDataFault languages t f → Refuses ⊥ f r
   pub back : IfOk r (λ d. DataMeans languages (data_text (value_of d)) (value_of d))
   pub converted : IfOk r (λ d. (M : meaning.Locale) → Means languages t M → value_of d ≡ language_priority (preferences M))
   pub narrow : (d : parts.DataLocale) → DataMeans two_or_three t d → IfOk r (λ e. value_of e ≡ d)

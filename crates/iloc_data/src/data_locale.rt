@@ -5,7 +5,9 @@ ghost use Rattle.iloc_grammar.specs.Words.{languages, two_or_three};
 ghost use Rattle.iloc_grammar.specs.Meaning as meaning;
 ghost use Rattle.iloc_grammar.specs.Meaning.{Means};
 ghost use Rattle.iloc_regions.specs.DataLocales as parts;
-ghost use Rattle.iloc_regions.specs.DataLocales.{DataMeans, data_text};
+ghost use Rattle.iloc_grammar.specs.Faults.{Fault};
+ghost use Rattle.iloc_regions.specs.DataLocales.{DataMeans, HasDataFault, data_text};
+ghost use Rattle.iloc_subtags.specs.Judging.{Accepts, Refuses};
 
 use iloc_data_parts::region::part_of;
 use iloc_keyword_types::SubdivisionId;
@@ -65,6 +67,9 @@ impl DataLocale {
     /// is not `sd` with a readable subdivision; and with `InvalidSubtag` everything else.
     pub fn try_from_utf8(code_units: &[u8]) -> Result<Self, ParseError>
         ensures reads { DataReadsAs code_units.now result }
+        ensures accepted { (d : parts.DataLocale) → DataMeans languages code_units.now d
+            → Accepts value_of ⊥ d result }
+        ensures refused { (f : Fault) → HasDataFault languages code_units.now f → Refuses ⊥ f result }
         ensures back { IfOk result
             (λ d. DataMeans languages (data_text (value_of d)) (value_of d)) }
         ensures converted { IfOk result (λ d. (M : meaning.Locale)
@@ -82,6 +87,9 @@ impl DataLocale {
     /// Reads all of a `str`, as `try_from_utf8` reads bytes.
     pub fn try_from_str(s: &str) -> Result<Self, ParseError>
         ensures reads { DataReadsAs s.now result }
+        ensures accepted { (d : parts.DataLocale) → DataMeans languages s.now d
+            → Accepts value_of ⊥ d result }
+        ensures refused { (f : Fault) → HasDataFault languages s.now f → Refuses ⊥ f result }
         ensures back { IfOk result
             (λ d. DataMeans languages (data_text (value_of d)) (value_of d)) }
         ensures converted { IfOk result (λ d. (M : meaning.Locale)

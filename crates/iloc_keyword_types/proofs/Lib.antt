@@ -4,3 +4,4 @@ pub mod CalendarLemmas
 pub mod GivenLemmas
 mod ScriptLemmas
 mod TextLemmas
+mod OwedLemmas

@@ -1,5 +1,7 @@
 //! A subdivision of a region.
-ghost use Rattle.std.specs.Prelude.{◌≡◌, Ok, Some};
+ghost use Rattle.std.specs.Prelude.{◌≡◌, Ok, Err, Some};
+ghost use Rattle.iloc_grammar.specs.Faults.{Fault};
+ghost use Rattle.iloc_subtags.specs.Judging.{Accepts, Refuses};
 ghost use Rattle.iloc_keyword_types.specs.Cut.{cut_of};
 
 use iloc_subtags::{ParseError, Region, SubdivisionSuffix, Subtag};
@@ -27,7 +29,7 @@ impl Model for SubdivisionId {
 }
 
 impl SubdivisionId {
-    ghost use Rattle.iloc_regions.specs.Subdivisions.{subdivision, subdivision_text};
+    ghost use Rattle.iloc_regions.specs.Subdivisions.{Subdivision, subdivision, subdivision_text};
     ghost use Rattle.iloc_keyword_types.specs.Subdivisions.{ReadsAs};
 
     /// The subdivision of that region with that suffix.
@@ -42,6 +44,16 @@ impl SubdivisionId {
     /// with a digit, and then the suffix. What is no subtag is refused by `InvalidSubtag`, a bad region or
     /// suffix by `InvalidExtension`.
     pub fn try_from_utf8(code_units: &[u8]) -> Result<Self, ParseError>
+        ensures reads { ReadsAs code_units.now result }
+        ensures accepted { (id : Subdivision) → subdivision code_units.now ≡ Ok id
+            → Accepts (λ id. id) ⊥ id result }
+        ensures refused { (f : Fault) → subdivision code_units.now ≡ Err f → Refuses ⊥ f result }
+    {
+        Self::read_text(code_units)
+    }
+
+    // The same by what it reads alone.
+    fn read_text(code_units: &[u8]) -> Result<Self, ParseError>
         ensures { ReadsAs code_units.now result }
     {
         let _subtag = Subtag::try_from_utf8(code_units)?;
@@ -55,7 +67,10 @@ impl SubdivisionId {
 
     /// Reads a `str`, as `try_from_utf8` reads bytes.
     pub fn try_from_str(s: &str) -> Result<Self, ParseError>
-        ensures { ReadsAs s.now result }
+        ensures reads { ReadsAs s.now result }
+        ensures accepted { (id : Subdivision) → subdivision s.now ≡ Ok id
+            → Accepts (λ id. id) ⊥ id result }
+        ensures refused { (f : Fault) → subdivision s.now ≡ Err f → Refuses ⊥ f result }
     {
         SubdivisionId::try_from_utf8(s.as_bytes())
     }

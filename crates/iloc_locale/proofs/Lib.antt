@@ -1,3 +1,4 @@
 mod EqualityLemmas
 pub mod ReadLemmas
 pub mod NormalLemmas
+pub mod SmallLemmas

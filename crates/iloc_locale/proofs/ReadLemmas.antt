@@ -35,7 +35,9 @@ use Rattle.iloc_blocks.specs.Whole.{BlocksReadAs}
 use Rattle.iloc_blocks.proofs.RoundLaws.{blocks-from_block}
 use Rattle.iloc_locale.specs.declared.locale.Locale.{Locale}
 use Rattle.iloc_locale.specs.LocaleValue.{value_of, unknown_locale}
-use Rattle.iloc_locale.specs.Reads.{WantsMemory, LocaleReadsAs, Accepts, Refuses, error_of}
+use Rattle.iloc_subtags.specs.Judging.{Accepts, Refuses}
+use Rattle.iloc_subtags.proofs.Judged.{Judges, accepts, refuses}
+use Rattle.iloc_locale.specs.Reads.{WantsMemory, LocaleReadsAs}
 
 -- the head and the blocks after it
 
@@ -50,8 +52,8 @@ same_first : (ps : List (List ℕ)) → first_piece (head ps) ≡ first_piece ps
 same_first [] = refl
 same_first (p ∷ ps) = refl
 
-pub accepts : (t : List ℕ) (id : LanguageIdentifier) (e : meaning.Extensions) → ReadsAs (head (pieces t)) (Ok id) → BlocksMean languages (blocks (after_head (pieces t))) e → Means languages t (record { id = langid.value_of id; extensions = e })
-accepts t id e h b = blocks_mean languages languages_table t (record { id = langid.value_of id; extensions = e }) (record { id = h; blocks = subst (λ bs. BlocksMean languages bs e) (tail_is (pieces t)) b })
+pub head_accepts : (t : List ℕ) (id : LanguageIdentifier) (e : meaning.Extensions) → ReadsAs (head (pieces t)) (Ok id) → BlocksMean languages (blocks (after_head (pieces t))) e → Means languages t (record { id = langid.value_of id; extensions = e })
+head_accepts t id e h b = blocks_mean languages languages_table t (record { id = langid.value_of id; extensions = e }) (record { id = h; blocks = subst (λ bs. BlocksMean languages bs e) (tail_is (pieces t)) b })
 
 -- where no memory is wanted
 
@@ -91,7 +93,7 @@ blocks_refused t id x OutOfMemory h b = (
 )
 
 pub blocks_read : (t : List ℕ) (l : Locale) (r : Result (Unit {0}) ParseError) → ReadsAs (head (pieces t)) (Ok l.id) → BlocksReadAs (after_head (pieces t)) (extensions.value_of l.extensions) r → LocaleReadsAs t (result_and r (Ok l))
-blocks_read t l (Ok x) h b = accepts t l.id (extensions.value_of l.extensions) h b
+blocks_read t l (Ok x) h b = head_accepts t l.id (extensions.value_of l.extensions) h b
 blocks_read t l (Err e) h b = blocks_refused t l.id (extensions.value_of l.extensions) e h b
 
 pub none_after_unknown : (l : Locale) → value_of l ≡ unknown_locale → extensions.value_of l.extensions ≡ meaning.no_extensions
@@ -112,21 +114,14 @@ pub reads_steps : (t : List ℕ) (r : Result Locale ParseError) → LocaleReadsA
 reads_steps t (Ok l) h = λ n u c. chain_means n t u (value_of l) c h
 reads_steps t (Err e) h = tt
 
-pub reads_accepts : (t : List ℕ) (r : Result Locale ParseError) → LocaleReadsAs t r → (M : meaning.Locale) → Means languages t M → Accepts M r
-reads_accepts t (Ok l) h M m = readings.one_meaning languages_table t (value_of l) M h m
-reads_accepts t (Err InvalidLanguage) h M m = absurd (accepted_no_fault languages_table t M faults.InvalidLanguage m h)
-reads_accepts t (Err InvalidSubtag) h M m = absurd (accepted_no_fault languages_table t M faults.InvalidSubtag m h)
-reads_accepts t (Err InvalidExtension) h M m = absurd (accepted_no_fault languages_table t M faults.InvalidExtension m h)
-reads_accepts t (Err DuplicatedExtension) h M m = absurd (accepted_no_fault languages_table t M faults.DuplicatedExtension m h)
-reads_accepts t (Err OutOfMemory) h M m = refl
+locales_judge : (t : List ℕ) → Judges (Means languages t) (HasFault languages t)
+locales_judge t = record { one = readings.one_meaning languages_table t; apart = accepted_no_fault languages_table t; one_fault = λ f g. one_fault t }
 
-pub reads_refuses : (t : List ℕ) (r : Result Locale ParseError) → LocaleReadsAs t r → (f : Fault) → HasFault languages t f → Refuses f r
-reads_refuses t (Ok l) h f g = accepted_no_fault languages_table t (value_of l) f h g
-reads_refuses t (Err InvalidLanguage) h f g = inl (ap error_of (one_fault t h g))
-reads_refuses t (Err InvalidSubtag) h f g = inl (ap error_of (one_fault t h g))
-reads_refuses t (Err InvalidExtension) h f g = inl (ap error_of (one_fault t h g))
-reads_refuses t (Err DuplicatedExtension) h f g = inl (ap error_of (one_fault t h g))
-reads_refuses t (Err OutOfMemory) h f g = inr refl
+pub reads_accepts : (t : List ℕ) (r : Result Locale ParseError) → LocaleReadsAs t r → (M : meaning.Locale) → Means languages t M → Accepts value_of (WantsMemory t) M r
+reads_accepts t r h = accepts value_of (HasFault languages t) (WantsMemory t) (locales_judge t) (λ f h. h) r h
+
+pub reads_refuses : (t : List ℕ) (r : Result Locale ParseError) → LocaleReadsAs t r → (f : Fault) → HasFault languages t f → Refuses (WantsMemory t) f r
+reads_refuses t r h = refuses value_of (HasFault languages t) (WantsMemory t) (locales_judge t) (λ f h. h) r h
 
 pub no_fault : (t : List ℕ) → IsInline languages t → (f : Fault) → HasFault languages t f → ⊥
 no_fault t i f h = accepted_no_fault languages_table t (meaning.meaning i.written) f (record { written = i.written; grammatical = i.grammatical; spelled = i.spelled; means = refl }) h
@@ -145,4 +140,4 @@ reads_narrow t (Err e) h M m = tt
 
 pub accepts_narrow : (t : List ℕ) (r : Result Locale ParseError) → LocaleReadsAs t r → (M : meaning.Locale) → Means two_or_three t M → IfErr r (λ e. e ≡ OutOfMemory)
 accepts_narrow t (Ok l) h M m = tt
-accepts_narrow t (Err e) h M m = reads_accepts t (Err e) h M (means_ours t M m)
+accepts_narrow t (Err e) h M m = (reads_accepts t (Err e) h M (means_ours t M m)).0

@@ -1,17 +1,14 @@
 -- What the readers of locales answer, by cases on the whole answer. The cases exclude one another, so each says both directions.
-use Rattle.std.specs.Prelude.{◌≡◌, ◌⊎◌, ℕ, List, [], Result, Ok, Err}
+use Rattle.std.specs.Prelude.{◌⊎◌, ℕ, List, [], Result}
 use Rattle.iloc_grammar.specs.Pieces.{pieces}
 use Rattle.iloc_grammar.specs.Words.{Language, IsWord, languages}
-use Rattle.iloc_grammar.specs.Meaning as meaning
 use Rattle.iloc_grammar.specs.Meaning.{Means}
-use Rattle.iloc_grammar.specs.Faults as faults
-use Rattle.iloc_grammar.specs.Faults.{Fault, HasFault, SpellsIdentifier}
+use Rattle.iloc_grammar.specs.Faults.{HasFault, SpellsIdentifier}
 use Rattle.iloc_grammar.specs.Blocks.{first_piece, head, tail_blocks}
 use Rattle.iloc_small.specs.InlineBlocks.{ReachesLongBlock}
 use Rattle.iloc_langid.specs.Reads as langid
 use Rattle.iloc_subtags.specs.declared.parse_error.ParseError.{ParseError}
 use Rattle.iloc_subtags.specs.Answers.{Answers}
-use Rattle.iloc_subtags.specs.declared.parse_error.ParseError.TheVariants.{InvalidLanguage, InvalidSubtag, InvalidExtension, DuplicatedExtension, OutOfMemory}
 use Rattle.iloc_locale.specs.declared.locale.Locale.{Locale}
 use Rattle.iloc_locale.specs.LocaleValue.{value_of}
 
@@ -25,23 +22,6 @@ WantsMemory t =
 -- what the text is read as: the value that it means, or the fault that the grammar names
 abbrev pub LocaleReadsAs : List ℕ → Result Locale ParseError → Type 0
 LocaleReadsAs t = Answers (λ l. Means languages t (value_of l)) (HasFault languages t) (WantsMemory t)
-
--- the answer to a text that means M: its locale, or want of memory
-abbrev pub Accepts : meaning.Locale → Result Locale ParseError → Type 0
-Accepts M (Ok l) = value_of l ≡ M
-Accepts M (Err e) = e ≡ OutOfMemory
-
--- the refusal that tells the fault
-abbrev pub error_of : Fault → ParseError
-error_of faults.InvalidLanguage = InvalidLanguage
-error_of faults.InvalidSubtag = InvalidSubtag
-error_of faults.InvalidExtension = InvalidExtension
-error_of faults.DuplicatedExtension = DuplicatedExtension
-
--- the answer to a text with this fault: the fault, or want of memory
-abbrev pub Refuses : Fault → Result Locale ParseError → Type 0
-Refuses f (Ok l) = ⊥
-Refuses f (Err e) = (e ≡ error_of f) ⊎ (e ≡ OutOfMemory)
 
 -- the text means this value, and no other
 abbrev pub MeansOnly : List ℕ → meaning.Locale → Type 0

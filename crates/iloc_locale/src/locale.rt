@@ -13,6 +13,7 @@ ghost use Rattle.iloc_grammar.specs.Values.{IsValue, IsWellFormed};
 ghost use Rattle.iloc_small.specs.Inline.{IsInline};
 ghost use Rattle.iloc_parser.specs.Left.{left};
 ghost use Rattle.iloc_langid.specs.Reads as langid;
+ghost use Rattle.iloc_locale.specs.LocaleValue.{value_of, unknown_locale};
 ghost use Rattle.iloc_locale.specs.Reads.{LocaleReadsAs};
 
 use iloc_blocks::read_blocks;
@@ -44,8 +45,8 @@ pub struct Locale {
 impl Locale {
     ghost use Rattle.iloc_extensions.specs.ExtensionsValue as extensions;
     ghost use Rattle.iloc_grammar.specs.Meaning.{no_extensions};
-    ghost use Rattle.iloc_locale.specs.LocaleValue.{value_of, unknown_locale};
-    ghost use Rattle.iloc_locale.specs.Reads.{Accepts, Refuses};
+    ghost use Rattle.iloc_locale.specs.Reads.{WantsMemory};
+    ghost use Rattle.iloc_subtags.specs.Judging.{Accepts, Refuses};
 
     /// The unknown locale, `und`.
     pub fn unknown(alloc: Global) -> Self
@@ -67,8 +68,9 @@ impl Locale {
     pub fn try_from_utf8(alloc: Global, code_units: &[u8]) -> Result<Self, ParseError>
         ensures reads { LocaleReadsAs code_units.now result }
         ensures accepted { (M : meaning.Locale) → Means languages code_units.now M
-            → Accepts M result }
-        ensures refused { (f : Fault) → HasFault languages code_units.now f → Refuses f result }
+            → Accepts value_of (WantsMemory code_units.now) M result }
+        ensures refused { (f : Fault) → HasFault languages code_units.now f
+            → Refuses (WantsMemory code_units.now) f result }
         ensures succeeds { IsInline languages code_units.now → IsOk result }
         ensures well_formed { IfOk result
             (λ l. IsValue languages (value_of l) × IsWellFormed (value_of l)) }
@@ -82,20 +84,6 @@ impl Locale {
         let mut locale = Locale::unknown(alloc);
         locale.fill(alloc, code_units)?;
         Ok(locale)
-    }
-
-    /// Reads all of the text in place of what this locale was, as `try_from_utf8` does. After a refusal it is
-    /// `und`. Memory that it holds is used again.
-    pub fn read(&mut self, alloc: Global, code_units: &[u8]) -> Result<(), ParseError>
-        ensures reads { LocaleReadsAs code_units.now (result_and result (Ok self.new)) }
-        ensures refused { OnErr result (value_of self.new ≡ unknown_locale) }
-    {
-        self.extensions.clear();
-        let answer = self.fill(alloc, code_units);
-        if answer.is_err() {
-            self.clear();
-        }
-        answer
     }
 
     /// Leaves the unknown locale, `und`.
@@ -119,8 +107,10 @@ impl Locale {
     /// Reads all of a `str`, as `try_from_utf8` reads bytes.
     pub fn try_from_str(alloc: Global, s: &str) -> Result<Self, ParseError>
         ensures reads { LocaleReadsAs s.now result }
-        ensures accepted { (M : meaning.Locale) → Means languages s.now M → Accepts M result }
-        ensures refused { (f : Fault) → HasFault languages s.now f → Refuses f result }
+        ensures accepted { (M : meaning.Locale) → Means languages s.now M
+            → Accepts value_of (WantsMemory s.now) M result }
+        ensures refused { (f : Fault) → HasFault languages s.now f
+            → Refuses (WantsMemory s.now) f result }
         ensures succeeds { IsInline languages s.now → IsOk result }
         ensures well_formed { IfOk result
             (λ l. IsValue languages (value_of l) × IsWellFormed (value_of l)) }
@@ -135,8 +125,22 @@ impl Locale {
     }
 }
 
+/// Reads all of the text in place of what the locale was, for programs that keep one locale for many texts.
+/// After a refusal it is `und`. Memory that it holds is used again.
+pub fn read_into(alloc: Global, code_units: &[u8], kept: &mut Locale) -> Result<(), ParseError>
+    ensures reads { LocaleReadsAs code_units.now (result_and result (Ok kept.new)) }
+    ensures refused { OnErr result (value_of kept.new ≡ unknown_locale) }
+{
+    kept.extensions.clear();
+    let answer = kept.fill(alloc, code_units);
+    if answer.is_err() {
+        kept.clear();
+    }
+    answer
+}
+
 /// Reads the pieces that are left as the blocks after the head, which this locale's identifier was read of:
-/// the other half of `Locale::read`, for callers that look at the head first. What extensions there were go;
+/// the other half of `read_into`, for callers that look at the head first. What extensions there were go;
 /// after a refusal the locale holds some of what was read.
 #[inline(never)]
 pub fn read_rest(

@@ -7,7 +7,10 @@ ghost use Rattle.iloc_grammar.specs.Meaning.{Means};
 ghost use Rattle.iloc_grammar.specs.Values.{IsValue, IsWellFormed, text};
 ghost use Rattle.iloc_small.specs.Inline.{IsInline};
 ghost use Rattle.iloc_writeable.specs.Writing.{IsLent};
-ghost use Rattle.iloc_small_reader.specs.SmallLocaleReads.{SmallLocaleReadsAs};
+ghost use Rattle.iloc_grammar.specs.Faults.{Fault};
+ghost use Rattle.iloc_small.specs.Small.{SmallLocale, IsSmall, HasSmallFault, locale_of_small};
+ghost use Rattle.iloc_subtags.specs.Judging.{Accepts, Refuses};
+ghost use Rattle.iloc_small_reader.specs.SmallLocaleReads.{SmallLocaleReadsAs, small_locale_of};
 
 use crate::locale::Locale;
 use iloc_extensions::is_well_formed;
@@ -67,9 +70,9 @@ impl Locale {
     }
 
     /// Reads a locale of at most one variant, and one keyword of at most one subtag besides `true`, without
-    /// memory.
+    /// memory. Each such text is accepted.
     ///
-    /// What is accepted is a locale of the same parts. `InvalidSubtag` and `InvalidExtension` also refuse what
+    /// What is accepted means the locale of the same parts. `InvalidSubtag` and `InvalidExtension` also refuse what
     /// is a locale with more than that; `OutOfMemory` never comes.
     pub fn try_from_utf8_with_single_variant_single_keyword_unicode_extension(
         code_units: &[u8],
@@ -83,7 +86,13 @@ impl Locale {
         ),
         ParseError,
     >
-        ensures { SmallLocaleReadsAs code_units.now result }
+        ensures reads { SmallLocaleReadsAs code_units.now result }
+        ensures accepted { (r : SmallLocale) → IsSmall languages code_units.now r
+            → Accepts small_locale_of ⊥ r result }
+        ensures refused { (f : Fault) → HasSmallFault languages code_units.now f
+            → Refuses ⊥ f result }
+        ensures meant { IfOk result (λ parts. Means languages code_units.now
+            (locale_of_small (small_locale_of parts))) }
     {
         read_small_locale(code_units)
     }

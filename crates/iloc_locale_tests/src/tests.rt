@@ -3,6 +3,7 @@ use iloc_langid::LanguageIdentifier;
 use iloc_langid::reader::read_into as read_identifier;
 use iloc_list_tests::FailingSink;
 use iloc_locale::Locale;
+use iloc_locale::locale::read_into as read_locale;
 use iloc_other::{Other, Private};
 use iloc_subtags::ParseError;
 use iloc_transform::Transform;
@@ -83,11 +84,11 @@ fn nothing_stands_before_the_first_part(rt: HostRuntime) -> Result<(), Fail> {
 
 // Whether a locale that is read in place of another is the new one, and `und` after a refusal.
 fn locale_is_replaced(alloc: Global, locale: &mut Locale) -> Result<bool, ParseError> {
-    locale.read(alloc, b"sl-NEDIS-u-nu-latn-ca-roc-t-fr-m0-true-x-y")?;
+    read_locale(alloc, b"sl-NEDIS-u-nu-latn-ca-roc-t-fr-m0-true-x-y", locale)?;
     let whole = locale.strict_cmp(b"sl-nedis-t-fr-m0-true-u-ca-roc-nu-latn-x-y");
-    locale.read(alloc, b"DE")?;
+    read_locale(alloc, b"DE", locale)?;
     let short = locale.strict_cmp(b"de");
-    let answer = locale.read(alloc, b"fr-u-ca-roc-t");
+    let answer = read_locale(alloc, b"fr-u-ca-roc-t", locale);
     let is_refused = answer == Err(ParseError::InvalidExtension);
     Ok(is_refused && whole.is_eq() && short.is_eq() && locale.strict_cmp(b"und").is_eq())
 }

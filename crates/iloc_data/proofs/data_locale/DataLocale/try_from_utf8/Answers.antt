@@ -1,7 +1,7 @@
-use Rattle.std.proofs.Common.{◌∙◌}
+use Rattle.std.proofs.Common.{Ok, ◌∙◌}
 use Rattle.std.proofs.lemmas.Result.{err_from_is_err_and}
 use Rattle.iloc_data.specs.DataValue.{value_of}
-use Rattle.iloc_data.proofs.ReadLemmas.{accepted, not_read, no_part, reads_back, is_converted, keeps_narrow, accepts_narrow}
+use Rattle.iloc_data.proofs.ReadLemmas.{accepted, data_accepts, data_refuses, not_read, no_part, reads_back, is_converted, keeps_narrow, accepts_narrow}
 use Rattle.iloc_data.proofs.data_locale.DataLocale.try_from_utf8.Goals as goal
 
 -- each way out reads the text as the definitions say; the other clauses follow from that
@@ -18,6 +18,24 @@ returns-in_err-part-clause-reads c =
 
 pub returns-clause-reads : goal.returns-clause-reads
 returns-clause-reads c = accepted c.args.code_units.now _ _ (value_of c.made_of.result) c.in_ok-language.ensures c.in_ok-part.ensures c.made_of.ensures
+
+pub returns-in_err-language-clause-accepted : goal.returns-in_err-language-clause-accepted
+returns-in_err-language-clause-accepted c = data_accepts c.args.code_units.now c.from_residual.result (returns-in_err-language-clause-reads c)
+
+pub returns-in_err-language-clause-refused : goal.returns-in_err-language-clause-refused
+returns-in_err-language-clause-refused c = data_refuses c.args.code_units.now c.from_residual.result (returns-in_err-language-clause-reads c)
+
+pub returns-in_err-part-clause-accepted : goal.returns-in_err-part-clause-accepted
+returns-in_err-part-clause-accepted c = data_accepts c.args.code_units.now c.from_residual-in_err-part.result (returns-in_err-part-clause-reads c)
+
+pub returns-in_err-part-clause-refused : goal.returns-in_err-part-clause-refused
+returns-in_err-part-clause-refused c = data_refuses c.args.code_units.now c.from_residual-in_err-part.result (returns-in_err-part-clause-reads c)
+
+pub returns-clause-accepted : goal.returns-clause-accepted
+returns-clause-accepted c = data_accepts c.args.code_units.now (Ok c.made_of.result) (returns-clause-reads c)
+
+pub returns-clause-refused : goal.returns-clause-refused
+returns-clause-refused c = data_refuses c.args.code_units.now (Ok c.made_of.result) (returns-clause-reads c)
 
 pub returns-in_err-language-clause-narrow_accepted : goal.returns-in_err-language-clause-narrow_accepted
 returns-in_err-language-clause-narrow_accepted c = accepts_narrow c.args.code_units.now c.from_residual.result (returns-in_err-language-clause-reads c)

@@ -1,0 +1,26 @@
+-- What the reader of small locales owes to each text.
+use Rattle.std.proofs.Common.{ℕ, List, Result, Ok, Err, IfOk}
+use Rattle.iloc_grammar.specs.Words.{languages}
+use Rattle.iloc_grammar.specs.Meaning.{Means}
+use Rattle.iloc_grammar.specs.Faults.{Fault}
+use Rattle.iloc_grammar.proofs.RawLaws.{languages_table}
+use Rattle.iloc_small.specs.Small.{SmallLocale, IsSmall, HasSmallFault, locale_of_small}
+use Rattle.iloc_small.proofs.SmallLaws.{small_means, one_small, small_apart, one_small_fault}
+use Rattle.iloc_subtags.specs.declared.parse_error.ParseError.{ParseError}
+use Rattle.iloc_subtags.specs.Answers.{ButDuplicate}
+use Rattle.iloc_subtags.specs.Judging.{Accepts, Refuses}
+use Rattle.iloc_subtags.proofs.Judged.{Judges, accepts, refuses, but_duplicate}
+use Rattle.iloc_small_reader.specs.SmallLocaleReads.{LocaleParts, small_locale_of, SmallLocaleReadsAs}
+
+small_judges : (t : List ℕ) → Judges (IsSmall languages t) (HasSmallFault languages t)
+small_judges t = record { one = one_small languages_table t; apart = small_apart t; one_fault = λ f g. one_small_fault t }
+
+pub small_accepts : (t : List ℕ) (r : Result LocaleParts ParseError) → SmallLocaleReadsAs t r → (s : SmallLocale) → IsSmall languages t s → Accepts small_locale_of ⊥ s r
+small_accepts t r h = accepts small_locale_of (ButDuplicate (HasSmallFault languages t)) ⊥ (small_judges t) (but_duplicate (HasSmallFault languages t)) r h
+
+pub small_refuses : (t : List ℕ) (r : Result LocaleParts ParseError) → SmallLocaleReadsAs t r → (f : Fault) → HasSmallFault languages t f → Refuses ⊥ f r
+small_refuses t r h = refuses small_locale_of (ButDuplicate (HasSmallFault languages t)) ⊥ (small_judges t) (but_duplicate (HasSmallFault languages t)) r h
+
+pub small_meant : (t : List ℕ) (r : Result LocaleParts ParseError) → SmallLocaleReadsAs t r → IfOk r (λ p. Means languages t (locale_of_small (small_locale_of p)))
+small_meant t (Ok p) h = small_means t (small_locale_of p) h
+small_meant t (Err e) h = tt
