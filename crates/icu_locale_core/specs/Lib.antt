@@ -26,6 +26,7 @@ pub use Rattle.iloc_preferences_rules.specs.Keywords
 pub use Rattle.iloc_preferences_rules.specs.Preferences
 pub use Rattle.iloc_preferences_rules.specs.Formatters
 pub use Rattle.iloc_subtags.specs.Answers
+pub use Rattle.iloc_subtags.specs.Judging
 pub use Rattle.iloc_writeable.specs.Writing
 pub use Rattle.iloc_writeable.specs.Hints
 pub use Rattle.iloc_io_sink.specs.Growth
