@@ -7,9 +7,9 @@ ghost use Rattle.iloc_preferences_rules.specs.Keywords.{
   further_readings,
   enum_reads,
   enum_gives,
-  single,
   or_true,
 };
+ghost use Rattle.iloc_fronts.specs.SingleValues.{single};
 ghost use Rattle.std.specs.Option.{option_copied};
 ghost use Rattle.iloc_keyword_types.specs.Reads.{
   ReadsKeyed,
