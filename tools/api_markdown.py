@@ -19,7 +19,7 @@ Every public item that `{ROOT}` passes on, one page for each module. Each call h
 `tools/list_api` makes these pages of the sources, and `tools/list_api --check` says whether they are current. `tools/list_api --html DIR` writes them as a web page with search, with each contract and the definitions that it cites. docs/FROM_RUST.md has the name of each item in the Rust crate.
 
 - A call that may allocate has a parameter `alloc: Global`. It returns a `Result`, and running out of memory is one of its refusals. An item that keeps its refusals apart names them in its error type.
-- *Inline* means that a text has few enough parts to need no heap: docs/DEFINITIONS.md, "Texts that are read without memory", says how many.
+- *Inline* means that a text has few enough parts to need no heap: docs/DEFINITIONS.md, "Texts that are parsed without memory", says how many.
 - Words (subtags) of all eleven kinds are one type, `subtags::WordOf`, and sets of variants one `WordSet`. Their names, as `Language` or `Variants`, are aliases. So an error message says `WordOf<RegionKind, 3>` for a `Region`.
 """
 
@@ -243,7 +243,8 @@ def from_rust_table():
             is_base = entry.calls and entry.calls[0].rust and not entry.rust
             if entry.see:
                 continue
-            if entry.rust or is_base:
+            is_ours = entry.kind == "fn" and is_law(entry.calls[0].item)
+            if (entry.rust or is_base) and not is_ours:
                 rows.append(rust_row(entry))
             else:
                 own.append(f"`{entry.path.removeprefix(f'{ROOT}::')}`")
