@@ -18,7 +18,7 @@ use Rattle.iloc_grammar.specs.Reading.{after_head, first_item}
 use Rattle.iloc_langid.specs.declared.identifier.LanguageIdentifier.{LanguageIdentifier}
 use Rattle.iloc_langid.specs.Reads.{ReadsAs, value_of}
 use Rattle.iloc_locale.proofs.NormalLemmas.{text_alone}
-use Rattle.iloc_locale.proofs.ReadLemmas.{accepts, head_refused}
+use Rattle.iloc_locale.proofs.ReadLemmas.{head_accepts, head_refused}
 use Rattle.iloc_locale.specs.Reads.{LocaleReadsAs}
 use Rattle.iloc_regions.specs.DataLocales.{DataLocale, DataMeans, data_text}
 use Rattle.iloc_data_parts.specs.PartsReading.{PartsReadAs}
@@ -53,7 +53,7 @@ nothing_left f (p ∷ ps) None e n = absurd (true≢false (sym (ap is_some e)))
 nothing_left f (p ∷ ps) (Some x) e n = absurd (true≢false n)
 
 pub head_alone : (t : List ℕ) (id : LanguageIdentifier) (ps : List (List ℕ)) → ReadsAs (head (pieces t)) (Ok id) → ps ≡ after_head (pieces t) → ps ≡ [] → line_answer Locale t ≡ identifier_text (value_of id)
-head_alone t id ps h r e = locale_accepted t (without_extensions (value_of id)) (accepts t id no_extensions h (subst (λ rest. BlocksMean languages (blocks rest) no_extensions) (sym e ∙ r) (record { letters = tt; different = tt; unicode = refl; transform = refl; private = refl; each_other = tt; others = refl }))) ∙ text_alone (value_of id) no_extensions refl
+head_alone t id ps h r e = locale_accepted t (without_extensions (value_of id)) (head_accepts t id no_extensions h (subst (λ rest. BlocksMean languages (blocks rest) no_extensions) (sym e ∙ r) (record { letters = tt; different = tt; unicode = refl; transform = refl; private = refl; each_other = tt; others = refl }))) ∙ text_alone (value_of id) no_extensions refl
 
 pub head_bad : (t : List ℕ) (e : ParseError) → ReadsAs (head (pieces t)) (Err e) → e ≢ OutOfMemory → line_answer Locale t ≡ refusal_text e
 head_bad t e h n = locale_refused t e (head_refused t e h) n
