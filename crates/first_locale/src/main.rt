@@ -1,4 +1,4 @@
-//! The example of README: a locale is read, printed, normalised, changed and compared.
+//! The example of README: a locale is parsed, printed, normalized, changed and compared.
 #![tactic(auto)]
 
 use icu_locale_core::Locale;

@@ -17,7 +17,7 @@ use icu_locale_core::{Locale, ParseError};
 use std::alloc::{AllocError, Global};
 use std::io;
 
-/// What both locales prefer; where both say something, the user's wins.
+/// What both locales prefer; if both say something, the user's wins.
 fn merged(system: &Locale, user: &Locale) -> FormatPreferences
     ensures { format_value result ≡ merge_format
         (format_preferences (value_of system.now)) (format_preferences (value_of user.now)) }
@@ -39,7 +39,7 @@ fn read_user(alloc: Global, system: &Locale, user: &str) -> Result<FormatPrefere
     Ok(merged(system, &user))
 }
 
-/// The hour as it is counted, 0 to 11, 1 to 12, or 0 to 23, and the half of the day where it is counted twice.
+/// The hour as it is counted, 0 to 11, 1 to 12, or 0 to 23, and the half of the day if it is counted twice.
 fn counted(hour: u8, cycle: HourCycle) -> (u8, &'static str)
     requires { hour < 24 }
     ensures from { first_hour cycle ≤ result.0 }

@@ -1,4 +1,4 @@
-//! Unicode locale identifiers such as `ar-SA-u-ca-islamic-civil`, read, changed, compared and printed.
+//! Unicode locale identifiers such as `ar-SA-u-ca-islamic-civil`, parsed, changed, compared and printed.
 //!
 //! It is the Rust crate `icu_locale_core` 2.4.0 in Rattle, at that crate's paths; the syntax is that of
 //! UTS #35 section 3. Each item is made in a lower crate and only passed on here.
@@ -15,14 +15,14 @@
 //! - Printing, length hints, comparison with bytes, `==`, orders and hashes are those of the definitions, for every
 //!   value, also for one that was built and that no text means. Of well-formed locales `==` and `normalizing_eq` are
 //!   equality of meaning.
-//! - A data locale is parsed without memory, exactly if the definition has one. Data locales are equal if they stand
+//! - A data locale is parsed without allocating, exactly if the definition has one. Data locales are equal if they stand
 //!   for the same.
-//! - Preferences of a locale are read, extended by others and turned into data locales and a locale as the definitions
+//! - Preferences of a locale are parsed, extended by others and turned into data locales and a locale as the definitions
 //!   say; the data locale of a locale is that of its preferences.
 //! - `to_json` writes the JSON string of the printed text. It parses back to the same value, if that is well-formed.
 //! - `program::run` writes the answer to all that it read, or a beginning of it and an error. The reader's and the
 //!   writer's contracts must tell their bytes.
-//! - Subtags take no memory, and short texts fit in place.
+//! - Subtags allocate nothing, and short texts fit in place.
 //!
 //! A first example:
 //!
@@ -37,11 +37,11 @@
 //!
 //! | Calls | Allocator |
 //! |---|---|
-//! | `try_from_utf8`, `try_from_str`, `try_from_locale_bytes`, `try_from_iter`, `normalize`, `normalize_utf8`, `try_from_value`, `try_from_key_value`, `from_json`, `to_json`, `read_text`, `run` | taken; want of memory is one of the refusals |
-//! | `write_to_string`, `to_string_or_borrow`, `Locale::normalizing_eq`, `push`, `push_subtag`, `insert`, `try_insert`, `set`, `extend` and its kin, `union`, `new_double`, `from_iter`, `from_pairs`, `from_subtags`, `from_two_subtags`, `to_value`, `unicode_extension_value`, `to_locale`, `write_text`, `carry_v1` | taken; want of memory is `AllocError`, or the refusal of that name |
-//! | `Locale::unknown`, `new` of `LiteMap`, `Fields`, `Transform` and `Extensions`, `from_langid`, `from_language`, `from_script`, `from_region`, `from_parts`, `from_unicode`, `into_locale`, `Fields::clear` | taken and kept: these want no memory |
-//! | `clone` of what may own memory | not taken: the value's own; want of memory is `AllocError` |
-//! | words, data locales, `try_from_utf8_with_single_variant` and its kin, look-ups, removals, `retain`, iterators, comparisons, orders, hashes, `write_to` | none, and no want of memory |
+//! | `try_from_utf8`, `try_from_str`, `try_from_locale_bytes`, `try_from_iter`, `normalize`, `normalize_utf8`, `try_from_value`, `try_from_key_value`, `from_json`, `to_json`, `read_text`, `run` | taken; running out of memory is one of the refusals |
+//! | `write_to_string`, `to_string_or_borrow`, `Locale::normalizing_eq`, `push`, `push_subtag`, `insert`, `try_insert`, `set`, `extend` and its kin, `union`, `new_double`, `from_iter`, `from_pairs`, `from_subtags`, `from_two_subtags`, `to_value`, `unicode_extension_value`, `to_locale`, `write_text`, `carry_v1` | taken; running out of memory is `AllocError`, or the refusal `OutOfMemory` |
+//! | `Locale::unknown`, `new` of `LiteMap`, `Fields`, `Transform` and `Extensions`, `from_langid`, `from_language`, `from_script`, `from_region`, `from_parts`, `from_unicode`, `into_locale`, `Fields::clear` | taken and kept: these allocate nothing |
+//! | `clone` of what may own memory | not taken: the value's own; running out of memory is `AllocError` |
+//! | words, data locales, `try_from_utf8_with_single_variant` and its kin, look-ups, removals, `retain`, iterators, comparisons, orders, hashes, `write_to` | none: these allocate nothing |
 //!
 //! In the Rust crate some of these modules are private, and `tinystr`, `writeable` and `litemap` are crates.
 #![tactic(auto)]

@@ -30,19 +30,19 @@ pub(crate) trait FormatterKeyword: Copy {
     /// The key.
     ghost key_text: { List ℕ };
 
-    /// What a value reads as.
+    /// What a value is parsed as.
     ghost reads: { List (List ℕ) → Option Meaning };
 
     /// The key.
     fn key() -> UnicodeKey
         ensures { result ≡ key_text };
 
-    /// What the value reads as.
+    /// What the value is parsed as.
     fn read(value: &Value) -> Option<Self>
         ensures { option_map meaning result ≡ reads value.now };
 }
 
-/// The keyword of a locale, where it is there and readable, and whether it is absent or readable.
+/// The keyword of a locale, if it is there and readable, and whether it is absent or readable.
 #[tactic(auto, using(iloc_data::proofs::KeywordLemmas::absent, iloc_data::proofs::KeywordLemmas::there))]
 pub(crate) fn keyword<K: FormatterKeyword>(locale: &Locale) -> (Option<K>, bool)
     ensures value { option_map K.meaning result.0

@@ -28,8 +28,8 @@ pub struct TimePreferences {
 }
 
 impl TimePreferences {
-    /// The preferences of a locale. `Err` holds the same preferences where one of the keywords is there and can't be
-    /// read, or where those of the locale are not strict.
+    /// The preferences of a locale. `Err` holds the same preferences if one of the keywords is there and can't be
+    /// parsed, or if those of the locale are not strict.
     pub fn from_locale_strict(loc: &Locale) -> Result<Self, Self>
         ensures value { MatchResult result
             (λ p. time_value p ≡ time_preferences (locale_value loc.now))

@@ -41,8 +41,8 @@ pub record BlockAt (T : Table) (start : List Text) (c : ℕ) (ps : List Text) (e
   pub letter : is_ascii_alphanumeric c ≡ true
   pub new : is_read e (to_ascii_lowercase c) ≡ false
 
--- What reading one block answers, after the blocks that were read since start. Memory is wanted
--- only where a block is reached that isn't short.
+-- What reading one block answers, after the blocks that were read since start. Memory may run
+-- out only if a block is reached that isn't short.
 abbrev pub BlockReads : List Text → List Text → Extensions → Result (Unit {0}) ParseError → Type 0
 BlockReads start rest e = Answers (λ _. BlocksDone languages start rest e)
     (ButLanguage (FirstBadBlock languages [] (blocks start)))

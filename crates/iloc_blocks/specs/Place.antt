@@ -6,7 +6,7 @@ abbrev pub place : ℕ → List (ℕ × List (List ℕ)) → ℕ
 place c [] = 0
 place c (o ∷ os) = if nat_lt c o.0 then 0 else suc (place c os)
 
--- the first piece where it has one byte
+-- the first piece if it has one byte
 abbrev pub byte_at : List (List ℕ) → Option ℕ
 byte_at [] = None
 byte_at ([] ∷ ps) = None

@@ -10,8 +10,8 @@ use Rattle.iloc_small.specs.InlineBlocks.{ReachesLongBlock}
 use Rattle.iloc_subtags.specs.declared.parse_error.ParseError.{ParseError}
 use Rattle.iloc_subtags.specs.Answers.{Answers, ButLanguage}
 
--- The blocks of the pieces mean the extensions e, or the first bad one has the fault; memory is
--- wanted only where a block is reached that isn't short.
+-- The blocks of the pieces mean the extensions e, or the first bad one has the fault; memory
+-- may run out only if a block is reached that isn't short.
 abbrev pub BlocksReadAs : List Text → Extensions → Result (Unit {0}) ParseError → Type 0
 BlocksReadAs ps e = Answers (λ _. BlocksMean languages (blocks ps) e)
     (ButLanguage (FirstBadBlock languages [] (blocks ps)))

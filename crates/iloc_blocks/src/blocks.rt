@@ -1,4 +1,4 @@
-//! Reads the blocks after the head of a locale.
+//! Parses the blocks after the head of a locale.
 ghost use Rattle.std.specs.Prelude.{◌≡◌, ◌∷◌, ℕ, List, [], true, ◌≤◌, length, OnOk};
 ghost use Rattle.iloc_grammar.specs.Reading.{starts_block, rest_of};
 ghost use Rattle.iloc_grammar.specs.Words.{languages};
@@ -16,11 +16,11 @@ use iloc_parser::SubtagIterator;
 use iloc_subtags::ParseError;
 use std::alloc::Global;
 
-/// Reads all the blocks that are left into empty extensions.
+/// Parses all the blocks that are left into empty extensions.
 ///
 /// Refuses with the fault of the first bad block: `InvalidExtension` for a singleton that is no letter or
-/// digit, `DuplicatedExtension` for one met before, `InvalidSubtag` after `t` where a variant is repeated, and
-/// `InvalidExtension` for anything else. `OutOfMemory` comes only where a block is reached that is
+/// digit, `DuplicatedExtension` for one met before, `InvalidSubtag` after `t` if a variant is repeated, and
+/// `InvalidExtension` for anything else. `OutOfMemory` comes only if a block is reached that is
 /// not short (`IsShortBlock`).
 pub fn read_blocks(
     alloc: Global,
@@ -38,7 +38,7 @@ pub fn read_blocks(
     Ok(())
 }
 
-// Takes the next piece, and answers its byte where it has just one.
+// Takes the next piece, and returns its byte if it has just one.
 fn take_byte(iter: &mut SubtagIterator<'_>) -> Option<u8>
     ensures byte { result ≡ byte_at (left iter.old) }
     ensures rest { left iter.new ≡ rest_of (left iter.old) }
@@ -50,7 +50,7 @@ fn take_byte(iter: &mut SubtagIterator<'_>) -> Option<u8>
     }
 }
 
-// Reads the block after a byte that was taken. It stands apart, so that a text without blocks pays nothing for it.
+// Parses the block after a byte that was taken. It stands apart, so that a text without blocks pays nothing for it.
 #[inline(never)]
 fn read_block(
     alloc: Global,

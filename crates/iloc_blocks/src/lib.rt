@@ -1,10 +1,10 @@
-//! Reads the blocks of a locale: what follows its head, from one singleton to the next.
+//! Parses the blocks of a locale: what follows its head, from one singleton to the next.
 //!
-//! It promises that what is read is what the blocks mean together, and that a text is refused with the fault
-//! of its first bad block (UTS #35 section 3, `unicode_locale_id`). Short blocks take no memory:
+//! It promises that what is parsed is what the blocks mean together, and that a text is refused with the fault
+//! of its first bad block (UTS #35 section 3, `unicode_locale_id`). Short blocks allocate nothing:
 //! of `u` with few words, of `t` with few variants and no field, of `x` with few words.
 //!
-//! It composes the readers of the unicode, transform, private and other extensions by their public contracts
+//! It composes the parsers of the unicode, transform, private and other extensions by their public contracts
 //! alone, each of which leaves exactly what follows its block.
 #![tactic(auto)]
 

@@ -22,7 +22,7 @@ use iloc_unicode::Unicode;
 use iloc_unicode::reader::fill_unicode;
 use std::alloc::Global;
 
-/// Takes the block after `u`, where there was none. It must mean a unicode extension as a whole.
+/// Takes the block after `u`, if there was none. It must mean a unicode extension as a whole.
 pub(crate) fn take_unicode(
     alloc: Global,
     iter: &mut SubtagIterator<'_>,
@@ -43,7 +43,7 @@ pub(crate) fn take_unicode(
     Ok(())
 }
 
-/// Takes the block after `t`, where there was none.
+/// Takes the block after `t`, if there was none.
 pub(crate) fn take_transform(
     alloc: Global,
     iter: &mut SubtagIterator<'_>,
@@ -64,7 +64,7 @@ pub(crate) fn take_transform(
     Ok(())
 }
 
-/// Takes the block after `x`, where there was none. It is all the rest.
+/// Takes the block after `x`, if there was none. It is all the rest.
 pub(crate) fn take_private(
     alloc: Global,
     iter: &mut SubtagIterator<'_>,

@@ -38,13 +38,13 @@ IsFaulty Langid t f = HasIdentifierFault languages (pieces t) f
 IsFaulty Locale t f = HasFault languages t f
 IsFaulty Data t f = HasDataFault languages t f
 
--- where memory may be wanted to read the text: never where it is short
+-- when memory may run out to read the text: never if it is short
 abbrev pub WantsMemory : Mode → List ℕ → Type 0
 WantsMemory Langid t = langid_reads.WantsMemory (pieces t)
 WantsMemory Locale t = locale_reads.WantsMemory t
 WantsMemory Data t = ⊥
 
--- the status of a text: it means something, or has the fault, or memory was wanted
+-- the status of a text: it means something, or has the fault, or memory ran out
 abbrev pub JudgedAs : Mode → List ℕ → Status → Type 0
 JudgedAs mode t Done = (normal : List ℕ) × IsNormalText mode t normal
 JudgedAs mode t InvalidLanguage = IsFaulty mode t faults.InvalidLanguage
@@ -57,7 +57,7 @@ JudgedAs mode t UnknownNumber = ⊥
 
 -- What is written for a caller.
 
--- the bytes are at the front of the buffer where they fit; else it is as before, and their number says how large it must be
+-- the bytes are at the front of the buffer if they fit; else it is as before, and their number says how large it must be
 abbrev pub HandsOut : List ℕ → List ℕ → List ℕ → ℕ → Status → Type 0
 HandsOut bytes before after needed Done = (length bytes ≤ length before) × (needed ≡ length bytes)
     × (after ≡ bytes ++ drop (length bytes) before)
@@ -65,7 +65,7 @@ HandsOut bytes before after needed BufferTooSmall = (length before < length byte
     × (needed ≡ saturated (length bytes)) × (after ≡ before)
 HandsOut bytes before after needed _ = ⊥
 
--- the normal text is handed out; where there is none, nothing is
+-- the normal text is handed out; if there is none, nothing is
 abbrev pub NormalizesTo : Mode → List ℕ → List ℕ → List ℕ → ℕ → Status → Type 0
 NormalizesTo mode t before after needed Done = (normal : List ℕ) × IsNormalText mode t normal
     × HandsOut normal before after needed Done
@@ -94,7 +94,7 @@ ComparesTo mode t other before after status = JudgedAs mode t status × (after �
 abbrev pub IsNotNormal : Mode → List ℕ → Type 0
 IsNotNormal mode t = (normal : List ℕ) × IsNormalText mode t normal × ¬ (t ≡ normal)
 
--- the order of two normal texts is written; or there was no memory for the second, which is not the bytes
+-- the order of two normal texts is written; or memory ran out for the second, which is not the bytes
 abbrev pub IsOrderOf : List ℕ → List ℕ → List ℕ → ℤ → ℤ → Status → Type 0
 IsOrderOf a b bytes before after Done = after ≡ order_number (slice_cmp nat_cmp a b)
 IsOrderOf a b bytes before after OutOfMemory = ¬ (bytes ≡ b) × (after ≡ before)
@@ -117,13 +117,13 @@ MeanSame Langid t u = (i : Identifier) × IdentifierMeans languages (pieces t) i
 MeanSame Locale t u = (M : meaning.Locale) × Means languages t M × Means languages u M
 MeanSame Data t u = (d : DataLocale) × DataMeans languages t d × DataMeans languages u d
 
--- where telling whether they do may want memory: to parse either; a data locale is printed to be compared
+-- when telling whether they do may allocate: to parse either; a data locale is printed to be compared
 abbrev pub TellingWantsMemory : Mode → List ℕ → List ℕ → Type 0
 TellingWantsMemory Langid t u = WantsMemory Langid t ⊎ WantsMemory Langid u
 TellingWantsMemory Locale t u = WantsMemory Locale t ⊎ WantsMemory Locale u
 TellingWantsMemory Data t u = IsNotNormal Data u
 
--- what is told of a refused text: that it means something else, unless memory was wanted to parse it
+-- what is told of a refused text: that it means something else, unless memory ran out to parse it
 abbrev pub RefusedTells : ParseError → ℕ → ℕ → Status → Type 0
 RefusedTells refusal before after status =
     ((refusal ≡ refusals.OutOfMemory) × (status ≡ OutOfMemory) × (after ≡ before))

@@ -5,7 +5,7 @@ use crate::status::Status;
 use iloc_writeable::{Sink, Writeable};
 use std::fmt;
 
-/// Fills a buffer from its front. It fails where a text does not fit, and then writes nothing of it.
+/// Fills a buffer from its front. It fails if a text does not fit, and then writes nothing of it.
 #[derive(Drop)]
 struct Filling<'a> {
     buffer: &'a mut [u8],
@@ -50,7 +50,7 @@ impl<'a> Sink for Filling<'a> {
     ghost failed_of_more = { λ a b t u v q. overflowed_more (length a.buffer.now) a.count t u v q };
 }
 
-/// Writes the text into the buffer where it fits, and its length to `needed`. It takes no memory.
+/// Writes the text into the buffer if it fits, and its length to `needed`. It allocates nothing.
 pub fn hand_out<W: Writeable>(value: &W, buffer: &mut [u8], needed: &mut usize) -> Status
     ensures { HandsOut (W.text value.now) buffer.old buffer.new needed.new result }
 {

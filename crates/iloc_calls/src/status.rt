@@ -50,7 +50,7 @@ impl Status {
         }
     }
 
-    /// Its words: those of the refusal, where it is one.
+    /// Its words: those of the refusal, if it is one.
     pub fn words(self) -> &'static str
         ensures { result.now ≡ words_of self }
     {

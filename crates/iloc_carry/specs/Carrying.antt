@@ -24,7 +24,7 @@ IsBad bytes = (length bytes ≡ 3) × ((w : List ℕ) → IsNormal (Language two
 abbrev pub BeginsWith : List ℕ → List (List ℕ) → List ℕ → Type 0
 BeginsWith row ws after = (before : List ℕ) × IsOldRow before ws × (row ≡ before ++ after)
 
--- Why the row is refused. Memory is wanted only where there is a word before the first bad one.
+-- Why the row is refused. Memory may run out only if there is a word before the first bad one.
 abbrev pub Refused : List ℕ → CarryError → Type 0
 Refused row Length = length row % 3 ≢ 0
 Refused row (Word n) = (length row % 3 ≡ 0) × (ws : List (List ℕ)) × (bad : List ℕ) × (after : List ℕ) × BeginsWith row ws (bad ++ after) × (length ws ≡ n) × IsBad bad

@@ -5,7 +5,7 @@ ghost use Rattle.std.specs.Prelude.{◌≡◌};
 use std::alloc::{AllocError, AllocFailed};
 use thiserror::Error;
 
-/// Why a row of old raw forms is refused, or that there is no memory. It prints its words.
+/// Why a row of old raw forms is refused, or that memory has run out. It prints its words.
 #[derive(Clone, Debug, Drop, Error, PartialEq, Eq)]
 pub enum CarryError {
     /// The length is no multiple of three.
@@ -34,7 +34,7 @@ impl CarryError {
     }
 }
 
-/// A refused request for memory is `OutOfMemory`.
+/// A failed allocation is `OutOfMemory`.
 impl From<AllocError> for CarryError {
     ghost use Rattle.iloc_carry.specs.declared.errors.CarryError.TheVariants.{OutOfMemory};
 
@@ -45,7 +45,7 @@ impl From<AllocError> for CarryError {
     }
 }
 
-/// So is that of a collection, as of `Vec::push`; what could not be stored is let go.
+/// So is that of a collection, as of `Vec::push`; what could not be stored is dropped.
 impl<T: Drop> From<AllocFailed<T>> for CarryError {
     ghost use Rattle.iloc_carry.specs.declared.errors.CarryError.TheVariants.{OutOfMemory};
 

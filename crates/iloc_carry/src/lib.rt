@@ -1,8 +1,8 @@
 //! Old raw forms of languages, three bytes each, carried over to those of eight.
 //!
 //! It promises that a row of old raw forms becomes the row of the new raw forms of the same languages, one by one.
-//! Every other row is refused: by its length first, and then by its first bad word. Memory is refused only where a
-//! word of the row has been read, so at most in place of a bad word that comes later.
+//! Every other row is refused: by its length first, and then by its first bad word. Memory runs out only after a
+//! word of the row was parsed, so at most in place of a bad word that comes later.
 //!
 //! It stands on `iloc_subtags`, whose languages read and write both forms.
 #![tactic(auto)]

@@ -1,4 +1,4 @@
--- Data locales are equal where they stand for the same, and then feed a hasher alike.
+-- Data locales are equal if they stand for the same, and then feed a hasher alike.
 use Rattle.std.proofs.Common.{◌≡◌, Bool, true, ap}
 use Rattle.std.specs.Ordering.{eq_by_cmp}
 use Rattle.std.specs.Cmp.{IsEquivalence, eq_by_cmp_equiv, on_equiv, Equal-is}

@@ -1,4 +1,4 @@
--- What the reader of data locales answers, by cases on the whole answer. It takes no memory.
+-- What the reader of data locales answers, by cases on the whole answer. It allocates nothing.
 use Rattle.std.specs.Prelude.{◌≡◌, ℕ, List, Result, IfOk, IsOk}
 use Rattle.iloc_grammar.specs.Words.{languages, two_or_three}
 use Rattle.iloc_grammar.specs.Meaning as meaning

@@ -1,4 +1,4 @@
--- The locale of a data locale's identifier with keywords, and a keyword where its value is there.
+-- The locale of a data locale's identifier with keywords, and a keyword if its value is there.
 use Rattle.std.specs.Prelude.{ℕ, List, [], ◌∷◌, Option, Some, None, option_to_list}
 use Rattle.iloc_grammar.specs.Written.{Fields}
 use Rattle.iloc_grammar.specs.Meaning.{Locale, just_unicode}

@@ -21,7 +21,7 @@ impl DataLocale {
         cmp_utf8(self, other)
     }
 
-    /// The order by language, script, region part and variant; `Equal` exactly where the two are equal.
+    /// The order by language, script, region part and variant; `Equal` exactly if the two are equal.
     pub fn total_cmp(&self, other: &Self) -> Ordering
         ensures { result ≡ data_locale_cmp (value_of self.now) (value_of other.now) }
     {

@@ -24,7 +24,7 @@ impl DataLocale {
     ghost use Rattle.iloc_data.specs.DataValue.{value_of};
     ghost use Rattle.iloc_data.specs.WithKeywords.{with_keywords};
 
-    /// The locale of the same parts: the one well-formed locale that prints the same text. It takes no memory.
+    /// The locale of the same parts: the one well-formed locale that prints the same text. It allocates nothing.
     pub fn into_locale(self, alloc: Global) -> Locale
         ensures parts { locale_value result ≡ locale_of_data (value_of self) }
         ensures text { text (locale_value result) ≡ data_text (value_of self) }
@@ -72,7 +72,7 @@ impl DataLocale {
 }
 
 /// That of its preferences, language first: its parts with the first variant, and of its region the subdivision
-/// that `sd` names, where that is readable and of this region. Without a region, `sd` names both.
+/// that `sd` names, if that is readable and of this region. Without a region, `sd` names both.
 impl From<&Locale> for DataLocale {
     ghost use Rattle.std.specs.Prelude.{◌≡◌};
     ghost use Rattle.iloc_locale.specs.LocaleValue.{value_of as locale_value};

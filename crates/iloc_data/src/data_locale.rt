@@ -1,4 +1,4 @@
-//! The type, and its readers.
+//! The type, and its parsers.
 ghost use Rattle.std.specs.Prelude.{◌≡◌, ◌↔◌, IsTrue, IfOk, IsOk};
 ghost use Rattle.iloc_preferences_rules.specs.Preferences.{language_priority, preferences};
 ghost use Rattle.iloc_grammar.specs.Words.{languages, two_or_three};
@@ -18,10 +18,10 @@ use std::str::FromStr;
 /// The parts of a locale by which data is looked up, as `en-US-u-sd-ustx`.
 ///
 /// Fields can be set to what no text means. The region and the subdivision stand for one thing: the subdivision
-/// where it is there and readable, and else the region as a whole.
+/// if it is there and readable, and else the region as a whole.
 ///
 /// ```text
-/// let locale = DataLocale::try_from_str("en-us-u-sd-USTX")?; // en-US-u-sd-ustx, which takes no memory
+/// let locale = DataLocale::try_from_str("en-us-u-sd-USTX")?; // en-US-u-sd-ustx, which allocates nothing
 /// locale.strict_cmp(b"en-US-u-sd-ustx").is_eq(); // true
 /// DataLocale::from(&Locale::try_from_str(alloc, "en-GB-u-ca-buddhist")?); // en-GB
 /// ```
@@ -56,13 +56,13 @@ impl DataLocale {
         }
     }
 
-    /// Reads all of the text, which need not be UTF-8, in whatever case. It takes no memory.
+    /// Parses all of the text, which need not be UTF-8, in whatever case. It allocates nothing.
     ///
     /// Accepted are an identifier with at most one variant, and after it nothing, or `u`, the key `sd` and a
-    /// readable subdivision; where that is of another region than the one given, the region as a whole counts.
-    /// What is read is also the conversion of the locale that the text means.
+    /// readable subdivision; if that is of another region than the one given, the region as a whole counts.
+    /// What is parsed is also the conversion of the locale that the text means.
     ///
-    /// Refuses with `InvalidLanguage` where the first piece is no language. With `InvalidExtension` it refuses a
+    /// Refuses with `InvalidLanguage` if the first piece is no language. With `InvalidExtension` it refuses a
     /// singleton that is no letter or digit, a `u` that neither a key nor an attribute follows, and one keyword that
     /// is not `sd` with a readable subdivision; and with `InvalidSubtag` everything else.
     pub fn try_from_utf8(code_units: &[u8]) -> Result<Self, ParseError>
@@ -84,7 +84,7 @@ impl DataLocale {
         Ok(DataLocale::made_of(language, script, part, variant))
     }
 
-    /// Reads all of a `str`, as `try_from_utf8` reads bytes.
+    /// Parses all of a `str`, as `try_from_utf8` parses bytes.
     pub fn try_from_str(s: &str) -> Result<Self, ParseError>
         ensures reads { DataReadsAs s.now result }
         ensures accepted { (d : parts.DataLocale) → DataMeans languages s.now d
@@ -147,7 +147,7 @@ impl Default for DataLocale {
     }
 }
 
-/// Reads as `try_from_str` does, with the same promises.
+/// Parses as `try_from_str` does, with the same promises.
 impl FromStr for DataLocale {
     type Err = ParseError;
 

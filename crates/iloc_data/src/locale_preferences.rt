@@ -1,4 +1,4 @@
-//! What locales say of language, script, region and variant: how it is read, extended, and made a data locale.
+//! What locales say of language, script, region and variant: how it is parsed, extended, and made a data locale.
 ghost use Rattle.std.specs.Prelude.{◌≡◌, true, false, MatchResult};
 ghost use Rattle.iloc_locale.specs.LocaleValue.{value_of as locale_value};
 ghost use Rattle.iloc_preferences_rules.specs.Preferences.{
@@ -77,8 +77,8 @@ impl LocalePreferences {
         }
     }
 
-    /// The preferences of a locale. `Err` holds the same preferences where `sd` or `rg` is there and can't be read,
-    /// or where `sd` is of another region than the locale's.
+    /// The preferences of a locale. `Err` holds the same preferences if `sd` or `rg` is there and can't be read,
+    /// or if `sd` is of another region than the locale's.
     pub fn from_locale_strict(loc: &Locale) -> Result<Self, Self>
         ensures value { MatchResult result (λ p. p ≡ preferences (locale_value loc.now))
             (λ p. p ≡ preferences (locale_value loc.now)) }
@@ -109,7 +109,7 @@ impl LocalePreferences {
         DataLocale::made_of(self.language, self.script, id_of(self.region), self.variant)
     }
 
-    /// The data locale made of the override where there is one, and else of the region.
+    /// The data locale made of the override if there is one, and else of the region.
     pub fn to_data_locale_region_priority(self) -> DataLocale
         ensures { data_of result ≡ region_priority self }
     {
@@ -151,7 +151,7 @@ impl LocalePreferences {
     }
 }
 
-// The other language, where it is known.
+// The other language, if it is known.
 #[tactic(auto, using(iloc_data_parts::proofs::RegionLemmas::words_tie))]
 fn merged_language(language: Language, other: Language) -> Language
     ensures { result ≡ merge_language language other }
@@ -163,7 +163,7 @@ fn merged_language(language: Language, other: Language) -> Language
     }
 }
 
-// The other region, where it wins.
+// The other region, if it wins.
 #[tactic(auto, using(iloc_data_parts::proofs::RegionLemmas::words_tie))]
 fn merged_region(
     region: Option<RegionalSubdivision>,

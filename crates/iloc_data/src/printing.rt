@@ -31,8 +31,8 @@ impl Pieces for DataLocale {
     }
 }
 
-/// Prints language, script, region and variant, and after them `u-sd-` and the subdivision where it is readable
-/// and not a whole region, joined by hyphens. It is borrowed where there is a language and nothing else.
+/// Prints language, script, region and variant, and after them `u-sd-` and the subdivision if it is readable
+/// and not a whole region, joined by hyphens. It is borrowed if there is a language and nothing else.
 impl Writeable for DataLocale {
     ghost use Rattle.std.specs.Prelude.{◌≡◌, None};
     ghost use Rattle.iloc_regions.specs.DataLocales.{data_text};

@@ -7,7 +7,7 @@ ghost use Rattle.iloc_preferences_rules.specs.Preferences.{is_readable, read_key
 use iloc_keyword_types::{KeywordKind, SubdivisionId, SubdivisionKeyword};
 use iloc_locale::Locale;
 
-/// The keyword of a locale, where it is there and readable, and whether it is absent or readable.
+/// The keyword of a locale, if it is there and readable, and whether it is absent or readable.
 #[tactic(auto, using(crate::proofs::KeywordLemmas::absent, crate::proofs::KeywordLemmas::there))]
 pub(crate) fn keyword<K: KeywordKind>(locale: &Locale) -> (Option<SubdivisionKeyword<K>>, bool)
     ensures value { result.0 ≡ read_keyword subdivision_reads K.key_text (locale_value locale.now) }

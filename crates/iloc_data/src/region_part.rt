@@ -39,7 +39,7 @@ fn ends_as_whole(word: &Subtag) -> bool
 }
 
 impl DataLocale {
-    /// The subdivision where it is there and readable, else the region as a whole, else nothing.
+    /// The subdivision if it is there and readable, else the region as a whole, else nothing.
     pub(crate) fn region_part(&self) -> Option<SubdivisionId>
         ensures { result ≡ parts.region_part (value_of self.now) }
     {
@@ -49,7 +49,7 @@ impl DataLocale {
         }
     }
 
-    /// The value of `sd` as it is printed: the subdivision where it is readable and not a whole region, and
+    /// The value of `sd` as it is printed: the subdivision if it is readable and not a whole region, and
     /// nothing of one that spells `true`.
     #[tactic(auto, using(iloc_data_parts::proofs::RegionLemmas::printed_value, iloc_data_parts::proofs::RegionLemmas::words_tie))]
     pub(crate) fn subdivision_value(&self) -> Option<Value>

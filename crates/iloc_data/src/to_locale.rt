@@ -25,10 +25,10 @@ use iloc_unicode_value::Value;
 use std::alloc::{AllocError, Global};
 
 impl LocalePreferences {
-    /// The locale of these parts, with `sd` where the region is not whole, and `rg` where there is an override. It
-    /// takes no memory where at most one of the two is written.
+    /// The locale of these parts, with `sd` if the region is not whole, and `rg` if there is an override. It
+    /// allocates nothing if at most one of the two is written.
     ///
-    /// The locale is well-formed. It has these preferences again, and strictly, exactly where neither of the two
+    /// The locale is well-formed. It has these preferences again, and strictly, exactly if neither of the two
     /// spells `true`, which is no value of a keyword.
     pub fn to_locale(self, alloc: Global) -> Result<Locale, AllocError>
         ensures value { IfOk result (λ locale. locale_value locale ≡ locale_of_preferences self) }
@@ -55,7 +55,7 @@ impl LocalePreferences {
     }
 }
 
-// The keywords of an override and of a subdivision, where they are there.
+// The keywords of an override and of a subdivision, if they are there.
 fn keywords_of(
     alloc: Global,
     region_override: Option<Value>,

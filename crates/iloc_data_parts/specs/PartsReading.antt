@@ -19,7 +19,7 @@ data_pieces d = d.language
     ++ (option_to_list d.region
     ++ (option_to_list d.variant ++ subdivision_pieces (subdivision_keyword d))))
 
--- what a text is read as, by cases on the whole answer; it takes no memory
+-- what a text is read as, by cases on the whole answer; it allocates nothing
 abbrev pub PartsReadAs : List ℕ → Result DataParts ParseError → Type 0
 PartsReadAs t = Answers (λ p. DataMeans languages t (value_of p))
     (ButDuplicate (HasDataFault languages t)) ⊥

@@ -1,4 +1,4 @@
-//! The parts that a text names, their reader and their text.
+//! The parts that a text names, their parser and their text.
 ghost use Rattle.std.specs.Prelude.{◌≡◌, option_map};
 ghost use Rattle.iloc_regions.specs.DataLocales.{subdivision_keyword, subdivision_value};
 
@@ -26,7 +26,7 @@ pub struct DataParts {
 impl DataParts {
     ghost use Rattle.iloc_data_parts.specs.PartsReading.{value_of, PartsReadAs};
 
-    /// Reads all of the text, which need not be UTF-8, in whatever case. It takes no memory.
+    /// Parses all of the text, which need not be UTF-8, in whatever case. It allocates nothing.
     pub fn try_from_utf8(code_units: &[u8]) -> Result<Self, ParseError>
         ensures { PartsReadAs code_units.now result }
     {
@@ -47,7 +47,7 @@ impl DataParts {
         Some(self.part?.region)
     }
 
-    // The value of `sd` as it is printed: the subdivision where it is not a whole region.
+    // The value of `sd` as it is printed: the subdivision if it is not a whole region.
     #[tactic(auto, using(crate::proofs::PartLemmas::whole_keyword, crate::proofs::PartLemmas::part_keyword))]
     fn subdivision_value(&self) -> Option<Value>
         ensures { result ≡ option_map subdivision_value (subdivision_keyword (value_of self.now)) }

@@ -41,7 +41,7 @@ pub fn named(word: &Subtag) -> Option<SubdivisionId>
     SubdivisionId::try_from_str(word.as_str()).ok()
 }
 
-/// The given region where it differs from the subdivision's, else the subdivision; and whether the two agree.
+/// The given region if it differs from the subdivision's, else the subdivision; and whether the two agree.
 #[tactic(auto, using(crate::proofs::RegionLemmas::words_tie))]
 pub fn agreed(region: Option<Region>, id: SubdivisionId) -> (SubdivisionId, bool)
     ensures part { result.0 ≡ parts.agreed region id }
@@ -56,8 +56,8 @@ pub fn agreed(region: Option<Region>, id: SubdivisionId) -> (SubdivisionId, bool
     (whole_region(region), false)
 }
 
-/// The given region with the suffix of the subdivision where that is of it, and else as a whole; the subdivision
-/// where no region is given. And whether the two agree, where both are there.
+/// The given region with the suffix of the subdivision if that is of it, and else as a whole; the subdivision
+/// if no region is given. And whether the two agree, if both are there.
 #[tactic(auto, using(crate::proofs::RegionLemmas::agreed_is_preferred))]
 pub fn preferred(region: Option<Region>, id: Option<SubdivisionId>) -> (Option<SubdivisionId>, bool)
     ensures part { result.0 ≡ preferred_region region id }

@@ -1,4 +1,4 @@
-//! What the types keep of all extensions, read or built.
+//! What the types keep of all extensions, parsed or built.
 ghost use Rattle.std.specs.Prelude.{IfSome};
 ghost use Rattle.std.specs.List.{AllByRecursion};
 ghost use Rattle.iloc_grammar.specs.Words.{languages, Subtag as the_kind};

@@ -2,9 +2,9 @@
 //!
 //! It promises that emptiness, the order and the printed text are those of the definitions, for
 //! every value, also for one that no text means; and that `retain_by_type` asks each part in turn
-//! and clears what is answered false.
+//! and clears those for which the closure returns `false`.
 //!
-//! `is_well_formed` answers exactly the definition, whether the text reads back: the other extensions
+//! `is_well_formed` says exactly the definition, whether the text parses back: the other extensions
 //! ascend strictly by singletons of their own, each with a word, and no value of a keyword holds `true`
 //! or a subtag of two characters. The identifier of a locale has no part in it. It says too that
 //! extensions, with the words of any identifier, are a value.
@@ -37,7 +37,7 @@ pub fn orders()
         → ⟦<ExtensionType as Ord>⟧.cmp a b ≡ kind_cmp (kind_of a) (kind_of b) }
 {}
 
-/// `==` answers whether the two stand for the same.
+/// `==` tells whether the two stand for the same.
 pub fn equality()
     ensures { (d e : Extensions)
         → IsTrue (⟦<Extensions as PartialEq>⟧.eq d e) ↔ (value_of d ≡ value_of e) }

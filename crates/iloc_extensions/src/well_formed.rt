@@ -1,4 +1,4 @@
-//! Whether extensions are well-formed: whether their text reads back as them.
+//! Whether extensions are well-formed: whether their text parses back as them.
 ghost use Rattle.std.specs.Prelude.{◌≡◌, ◌↔◌, IsTrue};
 ghost use Rattle.std.specs.FinMap.{is_sorted};
 ghost use Rattle.std.specs.List.{list_all};
@@ -50,7 +50,7 @@ fn has_own_singleton(other: &Other) -> bool
     !ext.is_ascii_uppercase() && !matches!(ext, b't' | b'u' | b'x') && !other.as_slice().is_empty()
 }
 
-// Whether each value is read back as it is.
+// Whether each value is parsed back as it is.
 fn are_read_back(keywords: &Keywords) -> bool
     ensures { result ≡ is_read_back keywords.now }
 {

@@ -24,7 +24,7 @@ pub record FieldsRead (ps : List (List ℕ)) (m : Fields) (rest : List (List ℕ
   pub means : m ≡ normal_fields written
   pub left : rest ≡ after_fields ps
 
--- What the pieces at the front are read as, and the pieces that are left. The first field wants memory.
+-- What the pieces at the front are read as, and the pieces that are left. The first field may allocate.
 abbrev pub FieldsFrontRead : List (List ℕ) → List (List ℕ) → Result Fields ParseError → Type 0
 FieldsFrontRead ps rest = Answers (λ m. FieldsRead ps m rest)
     (ExtensionFault (list_all is_field (fields_at ps) ≡ false)) (BeginsField ps)

@@ -18,7 +18,7 @@ IsValueWord w = IsNormal Attribute w × (is_true w ≡ false)
 abbrev pub values_front : List (List ℕ) → List (List ℕ)
 values_front ps = passing (is_word Attribute) ps
 
--- What the pieces at the front are read as, and the pieces that are left. Memory is wanted only for a fifth subtag.
+-- What the pieces at the front are read as, and the pieces that are left. Memory may run out only for a fifth subtag.
 abbrev pub ValueFrontReads : List (List ℕ) → List (List ℕ) → Result (List (List ℕ)) ParseError → Type 0
 ValueFrontReads ps rest = Answers
     (λ v. (0 < length (values_front ps)) × (v ≡ normal_values (values_front ps))
@@ -26,7 +26,7 @@ ValueFrontReads ps rest = Answers
     (ExtensionFault (values_front ps ≡ []))
     (4 < length (normal_values (values_front ps)))
 
--- memory is wanted of a text only for a fifth subtag
+-- memory may run out on a text only for a fifth subtag
 abbrev pub ValueWants : List ℕ → Type 0
 ValueWants t = 4 < length (normal_values (values_front (pieces t)))
 

@@ -102,7 +102,7 @@ impl Fields {
         self.map.is_empty()
     }
 
-    /// Leaves the empty map, and answers the old one.
+    /// Leaves the empty map, and returns the old one.
     pub fn clear(&mut self, alloc: Global) -> Self
         ensures old { result ≡ self.old }
         ensures empty { self.new ≡ [] }
@@ -131,9 +131,9 @@ impl Fields {
         self.map.get(key)
     }
 
-    /// Sets the value of the key, and answers the old one. A key that is there takes no memory.
+    /// Sets the value of the key, and returns the old one. A key that is there allocates nothing.
     ///
-    /// Where memory is refused, nothing changes.
+    /// If an allocation fails, nothing changes.
     pub fn set(
         &mut self,
         alloc: Global,
@@ -176,7 +176,7 @@ impl Fields {
         );
     }
 
-    /// The map of these pairs, where the last of equal keys stays.
+    /// The map of these pairs, in which the last of equal keys stays.
     pub fn from_pairs<I: IntoIterator<Item = (Key, Value)>>(
         alloc: Global,
         pairs: I,
@@ -192,7 +192,7 @@ impl Fields {
         Ok(Fields::from(map))
     }
 
-    /// Reads keys with their values, as many as there are, into the empty map; of equal keys the first stays.
+    /// Parses keys with their values, as many as there are, into the empty map; of equal keys the first stays.
     pub fn fill_front(
         &mut self,
         alloc: Global,

@@ -25,7 +25,7 @@ pub fn orders()
     ensures fields { (f g : written.Fields) → ⟦<Fields as Ord>⟧.cmp f g ≡ fields_cmp f g }
 {}
 
-/// `==` answers whether the two stand for the same.
+/// `==` tells whether the two stand for the same.
 pub fn equality()
     ensures values { (v w : List (List ℕ)) → IsTrue (⟦<Value as PartialEq>⟧.eq v w) ↔ (v ≡ w) }
     ensures fields { (f g : written.Fields) → IsTrue (⟦<Fields as PartialEq>⟧.eq f g) ↔ (f ≡ g) }

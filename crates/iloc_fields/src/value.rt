@@ -76,10 +76,10 @@ impl Value {
         self.subtags.as_slice()
     }
 
-    /// Reads all pieces, each of 3 to 8 letters or digits, and drops each `true`.
+    /// Parses all pieces, each of 3 to 8 letters or digits, and drops each `true`.
     ///
     /// Anything else is refused with `InvalidExtension`, the empty text too. `OutOfMemory` comes only
-    /// where more than four subtags are to be kept. These are the `tvalue`s of UTS #35, section 3.1.
+    /// if more than four subtags are to be kept. These are the `tvalue`s of UTS #35, section 3.1.
     pub fn try_from_utf8(alloc: Global, code_units: &[u8]) -> Result<Self, ParseError>
         ensures reads { ValueReads code_units.now result }
         ensures accepted { (v : List (List ℕ)) → transform_value code_units.now ≡ Ok v
@@ -102,7 +102,7 @@ impl Value {
         }
     }
 
-    /// Reads a `str`, as `try_from_utf8` reads bytes.
+    /// Parses a `str`, as `try_from_utf8` parses bytes.
     pub fn try_from_str(alloc: Global, s: &str) -> Result<Self, ParseError>
         ensures reads { ValueReads s.now result }
         ensures accepted { (v : List (List ℕ)) → transform_value s.now ≡ Ok v
@@ -113,7 +113,7 @@ impl Value {
         Self::try_from_utf8(alloc, s.as_bytes())
     }
 
-    // Reads the longest front of value pieces, one at least.
+    // Parses the longest front of value pieces, one at least.
     pub(crate) fn read_front(
         alloc: Global,
         iter: &mut SubtagIterator<'_>,
@@ -131,7 +131,7 @@ impl Value {
         Ok(value)
     }
 
-    // Adds the word at the end, unless it is `true`. Up to four take no memory.
+    // Adds the word at the end, unless it is `true`. Up to four allocate nothing.
     fn push(&mut self, alloc: Global, word: Attribute) -> Result<(), ParseError>
         ensures ok { OnOk result (self.new
             ≡ (if is_true word then self.old else self.old ++ word ∷ [])) }
@@ -171,7 +171,7 @@ impl Clone for Value {
     }
 }
 
-/// The subtags, or `true` where there is none.
+/// The subtags, or `true` if there is none.
 impl Pieces for Value {
     ghost pieces = { spelled_value };
 
@@ -188,7 +188,7 @@ impl Pieces for Value {
     }
 }
 
-/// The subtags with hyphens between them, or `true`, which is lent, where there is none.
+/// The subtags with hyphens between them, or `true`, which is lent, if there is none.
 impl Writeable for Value {
     ghost text = { field_value_text };
 

@@ -13,7 +13,7 @@ use Rattle.iloc_grammar.specs.Reading.{passing, past, is_two, rest_of, Identifie
 use Rattle.iloc_grammar.specs.Faults.{Fault, InvalidSubtag, InvalidExtension, RepeatsVariant}
 use Rattle.iloc_grammar.specs.Blocks.{first_piece}
 
--- the longest front whose pieces pass the test, but nothing where the first piece doesn't pass the
+-- the longest front whose pieces pass the test, but nothing if the first piece doesn't pass the
 -- first test
 abbrev pub passing_from : (Text → Bool) → (Text → Bool) → List Text → List Text
 passing_from first test ps = if first (first_piece ps) then passing test ps else []
@@ -76,9 +76,9 @@ pub data UnicodeFault (ps : List Text) : Fault → Type 0 where
   both_absent : attributes_front ps ≡ [] → keywords_front (after_attributes ps) ≡ []
       → UnicodeFault ps InvalidExtension
 
--- After `t`: where the first piece is a language, the longest front of an identifier's words.
+-- After `t`: if the first piece is a language, the longest front of an identifier's words.
 
--- an identifier and the longest front that is one, or none where no language is first
+-- an identifier and the longest front that is one, or none if no language is first
 pub data FrontRead (T : Table) (ps : List Text) : Option Identifier → List Text → Type 0 where
   absent : is_word (Language T) (first_piece ps) ≡ false → FrontRead T ps None ps
   present : {i : Identifier} {rest : List Text} → IsIdentifier T i → IdentifierFront T ps i rest

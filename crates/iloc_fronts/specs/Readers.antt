@@ -16,8 +16,8 @@ pub record IsReader {X : Type 0} (R : List Text → X → List Text → Type 0) 
   pub apart : (ps : List Text) (v : X) (rest : List Text) (f : Fault) → R ps v rest → F ps f → ⊥
   pub one_fault : (ps : List Text) (f g : Fault) → F ps f → F ps g → f ≡ g
 
--- B: what the pieces of a block mean. The block ends before the next piece of one byte. Where the
--- reader stops there, its value is the block's; where it stops before, or finds a fault, the block
+-- B: what the pieces of a block mean. The block ends before the next piece of one byte. If the
+-- reader stops there, its value is the block's; if it stops before, or finds a fault, the block
 -- means nothing.
 pub record AgreesWithBlocks {X : Type 0} (R : List Text → X → List Text → Type 0) (F : List Text → Fault → Type 0) (B : List Text → X → Type 0) : Type 0 where
   pub whole : (ps : List Text) (v : X) (rest : List Text) → R ps v rest → starts_block rest ≡ true

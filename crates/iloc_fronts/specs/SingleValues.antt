@@ -1,4 +1,4 @@
--- Values of one word: what a list of words is read as where it has one word, and no more. The type
+-- Values of one word: what a list of words is read as, if it has one word and no more. The type
 -- of `cu` (UTS #35, "Key And Type Definitions") is such a value: an ISO 4217 code of three letters.
 use Rattle.std.specs.Prelude.{List, [], ◌∷◌, Option, Some, None, option_and_then}
 use Rattle.iloc_grammar.specs.Shapes.{Text}

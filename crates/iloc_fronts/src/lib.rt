@@ -1,9 +1,9 @@
 //! What the readers of single parts take from the front of a text, and meaning told by these readers.
 //!
 //! For the parts of `u`, `t`, other singletons and `x` a relation says what is read and what is left, and another when
-//! nothing is; each is proved to have one answer, and those of `u`, `t` and other singletons to agree with the rules of blocks where
+//! nothing is; each is proved to have one answer, and those of `u`, `t` and other singletons to agree with the rules of blocks if
 //! nothing is left. So a
-//! text means a locale exactly where the reader of each part reads the whole of its block as that part of the locale,
+//! text means a locale exactly if the reader of each part reads the whole of its block as that part of the locale,
 //! which is how a reader of locales composes them. Plain programs read parts, also with their singletons. It stands
 //! on `iloc_grammar`.
 #![tactic(auto)]
@@ -37,7 +37,7 @@ pub fn keywords_front()
         → MatchResult (keywords_result ps) (λ r. KeywordsRead ps r.0 r.1) (KeywordsFault ps) }
 {}
 
-/// What comes after `u` is read from the front, or has a fault; where nothing of the block is left it is what the block means.
+/// What comes after `u` is read from the front, or has a fault; if nothing of the block is left it is what the block means.
 #[tactic(auto, using(crate::proofs::FrontLaws::unicode_reader, crate::proofs::FrontLaws::unicode_answer, crate::proofs::FrontLaws::unicode_agrees))]
 pub fn unicode_front()
     ensures reader { IsReader UnicodeRead UnicodeFault }
@@ -46,7 +46,7 @@ pub fn unicode_front()
     ensures blocks { AgreesWithBlocks UnicodeRead UnicodeFault UnicodeMeans }
 {}
 
-/// The same after `t`. A variant is repeated in the block exactly where it is at the front.
+/// The same after `t`. A variant is repeated in the block exactly if it is at the front.
 pub fn transform_front()
     ensures reader { (T : Table) → IsTable T → IsReader (TransformRead T) (TransformFault T) }
     ensures answer { (T : Table) → IsTable T → (ps : List Text)
@@ -88,7 +88,7 @@ pub fn parts()
         (PartFault (is_letter 120) PrivateFault) }
 {}
 
-/// A block follows its rule exactly where it means a part.
+/// A block follows its rule exactly if it means a part.
 pub fn block_rules()
     ensures unicode { (T : Table) (b : Block) → singleton b ≡ 117
         → IsBlock T b ↔ ((u : Unicode) × UnicodeMeans b.1 u) }
@@ -181,7 +181,7 @@ pub fn by_example()
     ensures short_value { transform_value (codes "no") ≡ Err InvalidExtension }
 {}
 
-/// A text means a value exactly where the readers of its parts read that value from its blocks and leave nothing.
+/// A text means a value exactly if the readers of its parts read that value from its blocks and leave nothing.
 pub fn by_readers()
     ensures { (T : Table) → IsTable T → (t : Text) (M : Locale)
         → Means T t M ↔ MeansByReaders T t M }

@@ -20,7 +20,7 @@ abbrev pub rest_of : List Text → List Text
 rest_of [] = []
 rest_of (p ∷ ps) = ps
 
--- the first piece where it passes the test, and what is left
+-- the first piece if it passes the test, and what is left
 abbrev pub take_first : (Text → Bool) → List Text → Option Text
 take_first test [] = None
 take_first test (p ∷ ps) = cond (test p) (Some p) None

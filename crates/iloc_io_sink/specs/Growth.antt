@@ -1,4 +1,4 @@
--- What a writer holds after a text was written to it, where that is known.
+-- What a writer holds after a text was written to it, if that is known.
 use Rattle.std.specs.Prelude.{◌≡◌, ℕ, ◌+◌, ◌<◌, List, [], ◌++◌, length, Option, Some, None, IsSome}
 use Rattle.std.specs.Io.{StartsWith}
 use Rattle.std.specs.Io.KnownBytes.{Appends}

@@ -53,7 +53,7 @@ impl<'a, W: Write> Sink for Lent<'a, W> {
 
 /// Writes the whole text of the value to the writer, as the text comes, and flushes nothing.
 ///
-/// The error is the writer's own, or `WriteZero` where it took no byte. The writer then took a
+/// The error is the writer's own, or `WriteZero` if it took no byte. The writer then took a
 /// beginning of the text, and not all of it. No error is tried again, not even `Interrupted`.
 pub fn write_to_io<V: Writeable, W: Write>(value: &V, writer: &mut W) -> io::Result<()>
     ensures ok { OnOk result

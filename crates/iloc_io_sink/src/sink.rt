@@ -14,7 +14,7 @@ use std::{fmt, io};
 pub struct IoSink<W> {
     /// Where the text goes.
     pub writer: W,
-    /// Why the last write that failed did: the writer's own error, or `WriteZero` where it took no
+    /// Why the last write that failed did: the writer's own error, or `WriteZero` if it took no
     /// byte. It stays `None` until a write fails.
     pub error: Option<io::Error>,
 }

@@ -1,4 +1,4 @@
--- What is answered where texts are written as JSON strings, and read of them.
+-- What is returned when texts are written as JSON strings, and parsed from them.
 use Rattle.std.specs.Prelude.{◌≡◌, ℕ, ⊤, List, Option, Some, None, Result, Ok, Err}
 use Rattle.serde_json.specs.Data.{string}
 use Rattle.serde_json.specs.View.{view}
@@ -9,7 +9,7 @@ use Rattle.iloc_json.specs.declared.errors.JsonError.{JsonError}
 use Rattle.iloc_json.specs.declared.errors.JsonError.TheVariants.{NotText, Parse, OutOfMemory}
 use Rattle.iloc_json.specs.Errors.{json_error}
 
--- the JSON string of the text, or want of memory
+-- the JSON string of the text, or out of memory
 abbrev pub WritesText : List ℕ → Result Value JsonError → Type 0
 WritesText t (Ok v) = view v ≡ string t
 WritesText t (Err NotText) = ⊥
@@ -26,7 +26,7 @@ abbrev pub ReadsText : {X : Type 0} → (List ℕ → Result X ParseError → Ty
 ReadsText reads None r = r ≡ Err NotText
 ReadsText {X} reads (Some t) r = (x : Result X ParseError) × reads t x × (r ≡ as_json x)
 
--- what was read is the same, or there was no memory
+-- what was read is the same, or memory ran out
 abbrev pub IsReadAs : {X : Type 0} → (X → Type 0) → Result X ParseError → Type 0
 IsReadAs same (Ok x) = same x
 IsReadAs same (Err parse_error.InvalidLanguage) = ⊥
@@ -35,7 +35,7 @@ IsReadAs same (Err parse_error.InvalidExtension) = ⊥
 IsReadAs same (Err parse_error.DuplicatedExtension) = ⊥
 IsReadAs same (Err parse_error.OutOfMemory) = ⊤
 
--- so too where it was read of a JSON string
+-- so too if it was parsed from a JSON string
 abbrev pub IsReadBackAs : {X : Type 0} → (X → Type 0) → Result X JsonError → Type 0
 IsReadBackAs same (Ok x) = same x
 IsReadBackAs same (Err NotText) = ⊥

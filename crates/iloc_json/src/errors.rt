@@ -5,13 +5,13 @@ use iloc_subtags::ParseError;
 use std::alloc::{AllocError, AllocFailed};
 use thiserror::Error;
 
-/// Why a JSON value is refused, or that there is no memory. It prints its words.
+/// Why a JSON value is refused, or that memory has run out. It prints its words.
 #[derive(Clone, Debug, Drop, Error, PartialEq, Eq)]
 pub enum JsonError {
     /// The value is no string.
     #[error("Expected a JSON string")]
     NotText,
-    /// The string is refused by the reader.
+    /// The string is refused by the parser.
     #[error(transparent)]
     Parse(ParseError),
     /// Memory was refused.
@@ -34,7 +34,7 @@ impl JsonError {
     }
 }
 
-/// The refusal of a reader; want of memory is `OutOfMemory`.
+/// The refusal of a parser. Its `OutOfMemory` is `OutOfMemory` here.
 impl From<ParseError> for JsonError {
     ghost use Rattle.iloc_json.specs.Errors.{json_error};
 
@@ -48,7 +48,7 @@ impl From<ParseError> for JsonError {
     }
 }
 
-/// A refused request for memory is `OutOfMemory`.
+/// A failed allocation is `OutOfMemory`.
 impl From<AllocError> for JsonError {
     ghost use Rattle.iloc_json.specs.declared.errors.JsonError.TheVariants.{OutOfMemory};
 
@@ -59,7 +59,7 @@ impl From<AllocError> for JsonError {
     }
 }
 
-/// So is that of a collection, as of `Vec::push`; what could not be stored is let go.
+/// So is that of a collection, as of `Vec::push`; what could not be stored is dropped.
 impl<T: Drop> From<AllocFailed<T>> for JsonError {
     ghost use Rattle.iloc_json.specs.declared.errors.JsonError.TheVariants.{OutOfMemory};
 

@@ -12,15 +12,15 @@ use std::alloc::Global;
 
 /// What is written as the JSON string of its printed text.
 pub trait JsonText: TextValue {
-    /// The JSON string of the printed text. It is read back as this value wherever the text is, unless
-    /// memory is wanted.
+    /// The JSON string of the printed text. It is parsed back as this value if the text parses back, unless
+    /// memory runs out.
     fn to_json(&self, alloc: Global) -> Result<Value, JsonError>
         ensures text { WritesText (Self.text self.now) result }
         ensures back { IfOk result
             (λ v. Self.reads_back self.now → (r : Result Self JsonError)
             → ReadsText Self.reads (as_str (view v)) r → IsReadBackAs (Self.same self.now) r) };
 
-    /// What the JSON string reads as. Anything else than a string is `NotText`.
+    /// What the JSON string is parsed as. Anything else than a string is `NotText`.
     fn from_json(alloc: Global, value: &Value) -> Result<Self, JsonError>
         ensures { ReadsText Self.reads (as_str (view value.now)) result };
 }

@@ -1,11 +1,11 @@
-//! JSON strings of texts: words, identifiers and locales as values of `serde_json`.
+//! JSON strings of texts: subtags, identifiers and locales as values of `serde_json`.
 //!
 //! It promises of all of them at once (`JsonText`) that `to_json` is the JSON string of the printed text, and that
-//! `from_json` is the reader of texts on a string, and refuses anything else; and that what `to_json` answers is read
-//! back as the same value, or memory is wanted, wherever the text is: words and identifiers always, locales where
+//! `from_json` parses a string as its text, and refuses anything else; and that what `to_json` returns parses
+//! back to the same value if the text does, unless memory runs out: subtags and identifiers always, locales if
 //! they are well-formed.
 //!
-//! It stands on the printing and the readers of `iloc_subtags`, `iloc_langid` and `iloc_locale`.
+//! It stands on the printing and the parsers of `iloc_subtags`, `iloc_langid` and `iloc_locale`.
 #![tactic(auto)]
 
 pub mod errors;

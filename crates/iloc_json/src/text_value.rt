@@ -1,4 +1,4 @@
-//! What has a printed text and a reader of texts.
+//! What has a printed text and a parser.
 ghost use Rattle.std.specs.Prelude.{◌≡◌, ℕ, List, Result, IfOk};
 ghost use Rattle.std.specs.String.{string_bytes};
 ghost use Rattle.iloc_grammar.specs.Words.{read};
@@ -16,22 +16,22 @@ use iloc_subtags::{ParseError, WordKind, WordOf};
 use iloc_writeable::Writeable;
 use std::alloc::{AllocError, Global};
 
-/// What prints a text and is read of one.
+/// What prints a text and is parsed from one.
 pub trait TextValue: Writeable + Sized {
-    /// What the reader answers.
+    /// What the parser returns.
     ghost reads: { List ℕ → Result Self ParseError → Type 0 };
 
-    /// The text of the value is read as the value.
+    /// The text of the value is parsed as the value.
     ghost reads_back: { Self → Type 0 };
 
     /// The other stands for the same.
     ghost same: { Self → Self → Type 0 };
 
-    /// Reads a text.
+    /// Parses a text.
     fn read_text(alloc: Global, text: &str) -> Result<Self, ParseError>
         ensures { reads text.now result };
 
-    /// Writes the text of the value. Where that reads back, it is read as the value, but for want of memory.
+    /// Writes the text of the value. If the text parses back, so does the string, unless memory runs out.
     fn write_text(&self, alloc: Global) -> Result<String, AllocError>
         ensures text { IfOk result (λ written. string_bytes written ≡ Self.text self.now) }
         ensures back { reads_back self.now → (r : Result Self ParseError)
@@ -80,7 +80,7 @@ impl TextValue for LanguageIdentifier {
     }
 }
 
-/// A locale reads back where it is well-formed.
+/// A locale parses back if it is well-formed.
 impl TextValue for Locale {
     ghost reads = { LocaleReadsAs };
 

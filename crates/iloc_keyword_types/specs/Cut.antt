@@ -2,6 +2,6 @@
 use Rattle.std.specs.Prelude.{ℕ, List, length, min}
 use Rattle.iloc_regions.specs.Subdivisions.{region_length}
 
--- the length of the region, or of the text where that is shorter
+-- the length of the region, or of the text if that is shorter
 abbrev pub cut_of : List ℕ → ℕ
 cut_of t = min (region_length t) (length t)

@@ -4,7 +4,7 @@ use Rattle.iloc_preferences_rules.specs.Keywords.{dx, scripts_read}
 use Rattle.iloc_unicode_value.specs.declared.errors.PreferencesParseError.{PreferencesParseError}
 use Rattle.iloc_unicode_value.specs.declared.errors.PreferencesParseError.TheVariants.{InvalidKeywordValue, OutOfMemory}
 
--- by cases on the answer; memory is wanted only for a fifth script
+-- by cases on the answer; memory may run out only for a fifth script
 abbrev pub ReadsScripts : List (List ℕ) → Result (List (List ℕ)) PreferencesParseError → Type 0
 ReadsScripts ws (Ok scripts) = scripts_read ws ≡ Some scripts
 ReadsScripts ws (Err InvalidKeywordValue) = scripts_read ws ≡ None

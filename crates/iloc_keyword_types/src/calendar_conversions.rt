@@ -56,7 +56,7 @@ fn of_three(first: &str, second: &str, third: &str) -> Option<CalendarAlgorithm>
     }
 }
 
-// What the value reads as.
+// What the value is parsed as.
 fn calendar_of(value: &Value) -> Option<CalendarAlgorithm>
     ensures { option_map value_of result ≡ calendar_reads value.now }
 {
@@ -69,7 +69,7 @@ fn calendar_of(value: &Value) -> Option<CalendarAlgorithm>
     }
 }
 
-/// What the value reads as.
+/// What the value is parsed as.
 impl TryFrom<&Value> for CalendarAlgorithm {
     type Error = PreferencesParseError;
 
@@ -82,7 +82,7 @@ impl TryFrom<&Value> for CalendarAlgorithm {
 }
 
 impl CalendarAlgorithm {
-    /// The value of the keyword: the one or two words of the text, which reads as the calendar. It takes no memory.
+    /// The value of the keyword: the one or two words of the text, which parses as the calendar. It allocates nothing.
     pub fn to_value(&self, alloc: Global) -> Result<Value, AllocError>
         ensures value { GivesValue (enum_gives the_keyword (value_of self.now)) result }
         ensures back { IfOk result (λ value. calendar_reads value ≡ Some (value_of self.now)) }
@@ -95,7 +95,7 @@ impl CalendarAlgorithm {
     }
 }
 
-/// Its key, what its value reads as, and the value that it is turned into.
+/// Its key, what its value is parsed as, and the value that it is turned into.
 impl PreferenceKey for CalendarAlgorithm {
     ghost own_key = { Some (key_of_keyword the_keyword) };
 

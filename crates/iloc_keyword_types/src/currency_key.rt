@@ -10,7 +10,7 @@ use iloc_subtags::{CurrencyType, UnicodeKey};
 use iloc_unicode_value::{PreferencesParseError, Value};
 use std::alloc::{AllocError, Global};
 
-/// Its key, what its value reads as, and the value that it is turned into.
+/// Its key, what its value is parsed as, and the value that it is turned into.
 impl PreferenceKey for CurrencyType {
     ghost own_key = { Some cu };
 

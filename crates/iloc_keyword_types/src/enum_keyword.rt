@@ -40,7 +40,7 @@ pub trait EnumKeyword: WordEnum {
     ghost plain: { further_readings keyword ≡ [] };
 }
 
-/// What the value reads as: the variant of its only subtag, where the empty value counts as `true`.
+/// What the value is parsed as: the variant of its only subtag. The empty value counts as `true`.
 pub fn read_keyword<E: EnumKeyword>(value: &Value) -> Result<E, PreferencesParseError>
     ensures { ReadsVariant E.keyword E.place value.now result }
 {
@@ -68,7 +68,7 @@ pub fn give_keyword<E: EnumKeyword>(keyword: E) -> Value
     Value::from_subtag(Some(subtag_of(keyword.word())))
 }
 
-/// Its key, what its value reads as, and the value that it is turned into, are those of the keyword.
+/// Its key, what its value is parsed as, and the value that it is turned into, are those of the keyword.
 impl<E: EnumKeyword> PreferenceKey for E {
     ghost own_key = { Some (key_of_keyword E.keyword) };
 

@@ -1,16 +1,16 @@
 //! The types of keywords, and what they stand on.
 //!
-//! `PreferenceKey` is the trait of a preference that a keyword carries: its key, its reader and the value that it
+//! `PreferenceKey` is the trait of a preference that a keyword carries: its key, its parser and the value that it
 //! is turned into. Enums of which each variant has a word (`WordEnum`) are found by it, and those that are keywords
-//! (`EnumKeyword`) are read and written by one reader and one writer, proved here once for any table: what is
-//! read is exactly what the definitions say, and each variant is read of the value that it gives. Such enums stand
+//! (`EnumKeyword`) have one parser and one writer, proved here once for any table: what is
+//! parsed is exactly what the definitions say, and each variant is parsed from the value that it gives. Such enums stand
 //! in `iloc_enum_keywords`. Currencies have their key here; `known_keys` has each key by its name.
 //!
 //! The types here are those whose values are more than a word of a table: calendars (`ca`), numbering systems and
 //! time zones (one subtag), regions and subdivisions (one `SubdivisionId`, as `ustx`: a region and a suffix in one
-//! word, UTS #35 section 3.6.5), and scripts (a list). Each is read of the value of its keyword exactly where the
-//! definitions say, and turned into the value that they say. Only the list of scripts may take memory: to be read
-//! of more than four, and to be turned into a value.
+//! word, UTS #35 section 3.6.5), and scripts (a list). Each is parsed from the value of its keyword as the
+//! definitions say, and turned into the value that they say. Only the list of scripts may allocate: to be parsed
+//! from more than four, and to be turned into a value.
 //!
 //! It stands on the definitions of keywords (`iloc_preferences_rules`) and of regions (`iloc_regions`), on words and
 //! on values (`iloc_subtags`, `iloc_unicode_value`).

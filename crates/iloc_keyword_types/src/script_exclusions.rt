@@ -36,7 +36,7 @@ impl DictionaryBreakScriptExclusions {
     }
 
     /// The scripts that the subtags of the value are, in order; a value with another subtag is refused. The empty
-    /// value is the empty list. `OutOfMemory` comes only where there are more than four subtags.
+    /// value is the empty list. `OutOfMemory` comes only if there are more than four subtags.
     pub fn try_from_value(alloc: Global, value: &Value) -> Result<Self, PreferencesParseError>
         ensures { ReadsScripts value.now result }
     {
@@ -63,7 +63,7 @@ impl DictionaryBreakScriptExclusions {
     }
 }
 
-// The script that the subtag is, where it is one.
+// The script that the subtag is, if it is one.
 fn script_of(subtag: &Subtag) -> Option<Script>
     ensures { result ≡ word the_kind subtag.now }
 {
@@ -80,7 +80,7 @@ impl Clone for DictionaryBreakScriptExclusions {
     }
 }
 
-/// Its key, what its value reads as, and the value that it is turned into.
+/// Its key, what its value is parsed as, and the value that it is turned into.
 impl PreferenceKey for DictionaryBreakScriptExclusions {
     ghost own_key = { Some dx };
 

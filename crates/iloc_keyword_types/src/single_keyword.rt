@@ -21,13 +21,13 @@ pub trait KeywordKind {
 
 /// What the only subtag of a value stands for.
 pub trait SubtagContent: Copy {
-    /// What a value reads as.
+    /// What a value is parsed as.
     ghost reads: { List (List ℕ) → Option Self };
 
     /// The value that it is turned into.
     ghost gives: { Self → List (List ℕ) };
 
-    /// What the value reads as.
+    /// What the value is parsed as.
     fn of_value(value: &Value) -> Option<Self>
         ensures { result ≡ reads value.now };
 
@@ -121,7 +121,7 @@ impl<K: KeywordKind, T: SubtagContent> From<SingleKeyword<K, T>> for Value {
     }
 }
 
-/// Its key, what its value reads as, and the value that it is turned into.
+/// Its key, what its value is parsed as, and the value that it is turned into.
 impl<K: KeywordKind, T: SubtagContent> PreferenceKey for SingleKeyword<K, T> {
     ghost own_key = { Some K.key_text };
 

@@ -40,7 +40,7 @@ impl SubdivisionId {
         SubdivisionId { region, suffix }
     }
 
-    /// Reads a subtag as a region of two bytes where it begins with a letter, and of three where it begins
+    /// Parses a subtag as a region of two bytes if it begins with a letter, and of three if it begins
     /// with a digit, and then the suffix. What is no subtag is refused by `InvalidSubtag`, a bad region or
     /// suffix by `InvalidExtension`.
     pub fn try_from_utf8(code_units: &[u8]) -> Result<Self, ParseError>
@@ -65,7 +65,7 @@ impl SubdivisionId {
         Ok(SubdivisionId { region, suffix })
     }
 
-    /// Reads a `str`, as `try_from_utf8` reads bytes.
+    /// Parses a `str`, as `try_from_utf8` parses bytes.
     pub fn try_from_str(s: &str) -> Result<Self, ParseError>
         ensures reads { ReadsAs s.now result }
         ensures accepted { (id : Subdivision) → subdivision s.now ≡ Ok id

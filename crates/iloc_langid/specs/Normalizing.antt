@@ -21,15 +21,15 @@ pub record IsNormalizedFrom (input t : List ℕ) : Type 0 where
   pub text_is : IsTextOf input t
   -- which is its own normal text
   pub again : IsTextOf t t
-  -- every accepted text means the same exactly where its normal text is this one, and is as long then
+  -- every accepted text means the same exactly if its normal text is this one, and is as long then
   pub same : (u : List ℕ) (i j : Identifier) → IdentifierMeans languages (pieces input) i → IdentifierMeans languages (pieces u) j → (i ≡ j) ↔ (t ≡ identifier_text j)
   pub long : (u : List ℕ) (i : Identifier) → IdentifierMeans languages (pieces input) i → IdentifierMeans languages (pieces u) i → length u ≡ length t
   -- two steps at most, in case and in the order of variants, lead here
   pub steps : IdentifierChain languages 2 input t
-  -- so every accepted text means the same exactly where such steps lead both to one text
+  -- so every accepted text means the same exactly if such steps lead both to one text
   pub together : (u : List ℕ) (i j : Identifier) → IdentifierMeans languages (pieces input) i → IdentifierMeans languages (pieces u) j → (i ≡ j) ↔ LeadToOne (IdentifierTextStep languages) 2 input u
 
--- Why there is none. Memory is wanted only where the reader wants it, or where the input is accepted and isn't normal.
+-- Why there is none. Memory may run out only if the reader may allocate, or if the input is accepted and isn't normal.
 abbrev pub RefusesNormalizing : List ℕ → ParseError → Type 0
 RefusesNormalizing t = Refusal
     (OfIdentifier (HasIdentifierFault languages (pieces t)))

@@ -28,7 +28,7 @@ IdentifierMeansOnly t i = IdentifierMeans languages (pieces t) i
     × ((j : Identifier) → IdentifierMeans languages (pieces t) j → j ≡ i)
 
 -- a language stands first, and more than four variants at the front of an identifier's words: only there may a reader
--- want memory
+-- allocate
 abbrev pub WantsMemory : List (List ℕ) → Type 0
 WantsMemory ps = IsWord (Language languages) (first_piece ps) × (4 < length (front_of ps).variants)
 
@@ -37,7 +37,7 @@ abbrev pub ReadsAs : List (List ℕ) → Result LanguageIdentifier ParseError �
 ReadsAs ps = Answers (λ i. IdentifierMeans languages ps (value_of i))
     (OfIdentifier (HasIdentifierFault languages ps)) (WantsMemory ps)
 
--- what the table of two or three letters accepts is read with the same value, unless memory is wanted
+-- what the table of two or three letters accepts is read with the same value, unless memory runs out
 abbrev pub KeepsNarrow : List ℕ → Result LanguageIdentifier ParseError → Type 0
 KeepsNarrow t r = (i : Identifier) → IdentifierMeans two_or_three (pieces t) i → IfOk r (λ j. value_of j ≡ i)
 

@@ -14,12 +14,12 @@ Parts = List ℕ × Option (List ℕ) × Option (List ℕ) × Option (List ℕ)
 abbrev pub small_of : Parts → SmallIdentifier
 small_of p = record { language = p.0; script = p.1; region = p.2; variant = p.3 }
 
--- what the pieces are read as, as a whole; it takes no memory
+-- what the pieces are read as, as a whole; it allocates nothing
 abbrev pub SmallReadsAs : List (List ℕ) → Result Parts ParseError → Type 0
 SmallReadsAs ps = Answers (λ p. IsSmallIdentifier languages ps (small_of p))
     (OfIdentifier (HasSmallIdentifierFault languages ps)) ⊥
 
--- the parts that stand at the front, each where it fits
+-- the parts that stand at the front, each if it fits
 abbrev pub front_parts : List (List ℕ) → Parts
 front_parts ps = (
   lower (first_piece ps),

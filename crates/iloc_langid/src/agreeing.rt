@@ -10,7 +10,7 @@ use std::cmp::min;
 // How many variants one walk over a text looks for at most.
 const AT_ONCE: usize = 65_536;
 
-// Goes past the pieces that are the variants in their places, and answers the variants that are left.
+// Goes past the pieces that are the variants in their places, and returns the variants that are left.
 fn past_equal<'v>(iter: &mut SubtagIterator<'_>, variants: &'v [Variant]) -> &'v [Variant]
     requires { AreVariants variants.now }
     ensures set { AreVariants result.now }
@@ -98,7 +98,7 @@ fn has_each(iter: SubtagIterator<'_>, variants: &[Variant]) -> bool
 
 /// Whether the pieces that are left are as many as the variants, and each variant is among them.
 ///
-/// It takes no memory: variants in the order of the text are gone past in one walk, and others are
+/// It allocates nothing: variants in the order of the text are gone past in one walk, and others are
 /// looked for in walks over the text for 65,536 of them each.
 pub(crate) fn has_variants(mut iter: SubtagIterator<'_>, variants: &[Variant]) -> bool
     requires { AreVariants variants.now }

@@ -59,7 +59,7 @@ impl LanguageIdentifier {
 
     /// Whether this is `und` and nothing else.
     ///
-    /// In every identifier, read or built, all words are in the normal case of their kinds, and the variants
+    /// In every identifier, parsed or built, all words are in the normal case of their kinds, and the variants
     /// ascend strictly.
     pub fn is_unknown(&self) -> bool
         ensures exactly { IsTrue result ↔ (value_of self.now ≡ unknown_identifier) }
@@ -72,11 +72,11 @@ impl LanguageIdentifier {
             && self.variants.is_empty()
     }
 
-    /// Reads all of the text, which need not be UTF-8, in whatever case.
+    /// Parses all of the text, which need not be UTF-8, in whatever case.
     ///
-    /// Refuses with `InvalidLanguage` where the first piece is no language, with `InvalidSubtag` where the
-    /// pieces are no identifier for any other reason, and with `OutOfMemory` only where more than four
-    /// variants stand in the text. Steps of rewriting keep what is read, and so does the wider table of
+    /// Refuses with `InvalidLanguage` if the first piece is no language, with `InvalidSubtag` if the
+    /// pieces are no identifier for any other reason, and with `OutOfMemory` only if more than four
+    /// variants stand in the text. Steps of rewriting keep what is parsed, and so does the wider table of
     /// languages: what is accepted with languages of two or three letters is read with the same value.
     pub fn try_from_utf8(alloc: Global, code_units: &[u8]) -> Result<Self, ParseError>
         ensures reads { ReadsAs (pieces code_units.now) result }
@@ -101,7 +101,7 @@ impl LanguageIdentifier {
         self.variants.clear();
     }
 
-    /// Reads all of a `str`, as `try_from_utf8` reads bytes.
+    /// Parses all of a `str`, as `try_from_utf8` parses bytes.
     pub fn try_from_str(alloc: Global, s: &str) -> Result<Self, ParseError>
         ensures reads { ReadsAs (pieces s.now) result }
         ensures accepted { (i : Identifier) → IdentifierMeans languages (pieces s.now) i
@@ -115,7 +115,7 @@ impl LanguageIdentifier {
         Self::try_from_utf8(alloc, s.as_bytes())
     }
 
-    /// Reads the identifier of a locale: up to the first piece of one byte that isn't the first piece. What
+    /// Parses the identifier of a locale: up to the first piece of one byte that isn't the first piece. What
     /// follows is ignored.
     pub fn try_from_locale_bytes(alloc: Global, v: &[u8]) -> Result<Self, ParseError>
         ensures reads { ReadsAs (head (pieces v.now)) result }
@@ -134,7 +134,7 @@ impl LanguageIdentifier {
         cmp_utf8(self, other)
     }
 
-    /// The order by language, script, region and variants; `Equal` exactly where the two are equal.
+    /// The order by language, script, region and variants; `Equal` exactly if the two are equal.
     pub fn total_cmp(&self, other: &Self) -> Ordering
         ensures { result ≡ identifier_cmp (value_of self.now) (value_of other.now) }
     {
@@ -156,7 +156,7 @@ impl LanguageIdentifier {
     }
 }
 
-// Looks at the word, where there is one.
+// Looks at the word, if there is one.
 fn look_at<K: WordKind<N>, const N: usize>(word: &Option<WordOf<K, N>>)
     ensures { IfSome word.now (IsNormal K.kind) }
 {
@@ -183,7 +183,7 @@ impl Pieces for LanguageIdentifier {
 }
 
 /// Prints the normal text: language, script, region, variants ascending, joined by hyphens. It is borrowed
-/// where there is a language and nothing else.
+/// if there is a language and nothing else.
 impl Writeable for LanguageIdentifier {
     ghost use Rattle.iloc_langid.specs.Reads.{value_of, IsLanguageAlone};
     ghost use Rattle.iloc_grammar.specs.Values.{identifier_text};

@@ -18,10 +18,10 @@ impl LanguageIdentifier {
     ghost use Rattle.iloc_langid.specs.Reads.{value_of};
     ghost use Rattle.iloc_langid.specs.Normalizing.{IsNormalizedFrom, RefusesNormalizing};
 
-    /// The normal text of what the text means, borrowed exactly where the text is that already.
+    /// The normal text of what the text means, borrowed exactly if the text is that already.
     ///
-    /// Refuses as the reader does. It takes no memory on a normal text with at most four variants.
-    /// Normalising twice is once; texts mean the same exactly where their normal texts are equal; each text
+    /// Refuses as the parser does. It allocates nothing on a normal text with at most four variants.
+    /// Normalizing twice is once; texts mean the same exactly if their normal texts are equal; each text
     /// of a meaning is as long; two steps, in case and in the order of variants, lead there.
     pub fn normalize_utf8(alloc: Global, input: &[u8]) -> Result<CowStr<'_, Global>, ParseError>
         ensures ok { IfOk result (λ text. IsNormalizedFrom input.now (cow_str_bytes text)
@@ -42,7 +42,7 @@ impl LanguageIdentifier {
     }
 
     /// Whether the text is an identifier that means this one: in whatever case, its variants in whatever
-    /// order. It takes no memory.
+    /// order. It allocates nothing.
     pub fn normalizing_eq(&self, other: &str) -> bool
         ensures { IsTrue result ↔ IdentifierMeans languages (pieces other.now) (value_of self.now) }
     {

@@ -1,4 +1,4 @@
-//! Reads identifiers from pieces.
+//! Parses identifiers from pieces.
 ghost use Rattle.std.specs.Prelude.{◌≡◌, ◌<◌, ◌++◌, [], false, length, Ok, OnOk, OnErr};
 ghost use Rattle.std.specs.Result.{result_and};
 ghost use Rattle.iloc_grammar.specs.Pieces.{pieces};
@@ -65,7 +65,7 @@ fn add_variants(
     Ok(())
 }
 
-// The same where these four variants stood before.
+// The same if these four variants stood before.
 #[inline(never)]
 fn read_more_variants(
     alloc: Global,
@@ -90,7 +90,7 @@ fn read_more_variants(
     Ok(variants)
 }
 
-// Reads the words at the front, each where it fits.
+// Parses the words at the front, each if it fits.
 #[inline(always)]
 fn fill(
     alloc: Global,
@@ -121,7 +121,7 @@ fn may_be_variant(iter: &SubtagIterator<'_>) -> bool
     }
 }
 
-/// Reads the longest front of an identifier's words.
+/// Parses the longest front of an identifier's words.
 pub fn read_front(
     alloc: Global,
     iter: &mut SubtagIterator<'_>,
@@ -144,7 +144,7 @@ pub fn fill_front(
     fill(alloc, iter, identifier)
 }
 
-/// Reads all the pieces as an identifier.
+/// Parses all the pieces as an identifier.
 pub fn read_whole(
     alloc: Global,
     iter: &mut SubtagIterator<'_>,
@@ -174,7 +174,7 @@ pub fn fill_whole(
     }
 }
 
-/// Reads all of the text in place of what the identifier was, for programs that keep one identifier for many
+/// Parses all of the text in place of what the identifier was, for programs that keep one identifier for many
 /// texts. After a refusal it is `und`.
 #[inline(always)]
 pub fn read_into(
@@ -192,7 +192,7 @@ pub fn read_into(
     answer
 }
 
-/// Reads the pieces up to the first block as an identifier.
+/// Parses the pieces up to the first block as an identifier.
 pub fn read_head(
     alloc: Global,
     iter: &mut SubtagIterator<'_>,

@@ -1,4 +1,4 @@
-//! Identifiers with at most one variant, which are read without memory.
+//! Identifiers with at most one variant, which are parsed without allocating.
 ghost use Rattle.std.specs.Prelude.{◌≡◌, IfOk};
 ghost use Rattle.iloc_grammar.specs.Pieces.{pieces};
 ghost use Rattle.iloc_grammar.specs.Words.{languages};
@@ -24,7 +24,7 @@ use iloc_subtags::{
 /// A language, and perhaps a script, a region and one variant.
 pub type SmallParts = (Language, Option<Script>, Option<Region>, Option<Variant>);
 
-/// Takes the words at the front, each where it fits, and one variant at most. `InvalidLanguage` where the
+/// Takes the words at the front, each if it fits, and one variant at most. `InvalidLanguage` if the
 /// first piece is no language.
 pub fn read_small_front(iter: &mut SubtagIterator<'_>) -> Result<SmallParts, ParseError>
     ensures { SmallFrontGives (left iter.old) (left iter.new) result }
@@ -39,10 +39,10 @@ pub fn read_small_front(iter: &mut SubtagIterator<'_>) -> Result<SmallParts, Par
 }
 
 impl LanguageIdentifier {
-    /// The parts of an identifier with at most one variant, read from all of the text without memory.
+    /// The parts of an identifier with at most one variant, parsed from all of the text without allocating.
     /// They are those of the identifier that the text means.
     ///
-    /// Refuses with `InvalidLanguage` where the first piece is no language, and with `InvalidSubtag` for
+    /// Refuses with `InvalidLanguage` if the first piece is no language, and with `InvalidSubtag` for
     /// anything else, a second variant among it, even an equal one.
     pub fn try_from_utf8_with_single_variant(code_units: &[u8]) -> Result<SmallParts, ParseError>
         ensures reads { SmallReadsAs (pieces code_units.now) result }

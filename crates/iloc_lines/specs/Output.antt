@@ -15,7 +15,7 @@ mode_of Langid = outputs.OfIdentifiers
 mode_of Locale = outputs.OfLocales
 mode_of Data = outputs.OfDataLocales
 
--- the answer to a line, the same with its LF, and what is written for an input
+-- the answer to a line, the same with its newline, and what is written for an input
 abbrev pub line_answer : Mode → List ℕ → List ℕ
 line_answer mode line = outputs.line_answer languages (mode_of mode) line
 

@@ -1,6 +1,6 @@
 //! Lines that come in pieces, what answers them, and their replies in blocks.
 //!
-//! It promises that what `run_with` writes is the output of what it reads, as `iloc_output` defines it, where
+//! It promises that what `run_with` writes is the output of what it reads, as `iloc_output` defines it, if
 //! each line is answered as `Answers` says: that is what `iloc_program` adds. It stands on `iloc_output` and
 //! `iloc_io_sink`, and on no reader of lines. Memory is as long as the longest line and its answer; reads and
 //! writes are in blocks of 64 KiB.
@@ -50,10 +50,10 @@ impl Mode {
 /// Why a run stopped before the input's end was answered.
 #[derive(Clone, Debug, Drop, Error, PartialEq, Eq)]
 pub enum RunError {
-    /// The reader answered an error, or gave no end.
+    /// The reader returned an error, or gave no end.
     #[error("read failed")]
     Read,
-    /// The writer answered an error, or took no byte.
+    /// The writer returned an error, or took no byte.
     #[error("write failed")]
     Write,
     /// A growth was refused.

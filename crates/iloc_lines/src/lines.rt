@@ -46,7 +46,7 @@ pub(crate) fn new_block(alloc: Global) -> Result<Vec<u8>, AllocError>
     vec![in alloc; 0u8; BLOCK]
 }
 
-// A bit for each LF among these bytes.
+// A bit for each newline among these bytes.
 #[inline(always)]
 fn line_ends(lanes: u8x32) -> u64
     ensures { result ≡ mask_l (map (is_byte 10) lanes) }
@@ -54,7 +54,7 @@ fn line_ends(lanes: u8x32) -> u64
     lanes.simd_eq(u8x32::splat(10)).to_bitmask()
 }
 
-// Where the first LF stands. Most lines end within 32 bytes.
+// Where the first newline stands. Most lines end within 32 bytes.
 #[inline(always)]
 fn line_end(bytes: &[u8]) -> Option<usize>
     ensures { IsFirstByte (is_byte 10) bytes.now result }
@@ -76,7 +76,7 @@ fn line_end_beyond(bytes: &[u8]) -> Option<usize>
     memchr_iter(b'\n', bytes).next()
 }
 
-// The first line and what follows its LF, if the LF is there.
+// The first line and what follows its newline, if the newline is there.
 #[inline(always)]
 fn split_line(bytes: &[u8]) -> Option<(&[u8], &[u8])>
     ensures { MatchOption result (IsOneLine bytes.now)
@@ -126,7 +126,7 @@ fn end_pending<A: Answers>(
     Ok(())
 }
 
-// Adds the replies to the lines that these bytes end, where nothing is pending, and keeps the start of
+// Adds the replies to the lines that these bytes end, if nothing is pending, and keeps the start of
 // the next line.
 fn feed_lines<A: Answers>(
     answers: &mut A,
@@ -174,7 +174,7 @@ pub(crate) fn feed<A: Answers>(
     feed_lines(answers, pending, later, replies)
 }
 
-// Adds the reply to a last line without LF, where there is one.
+// Adds the reply to a last line without a newline, if there is one.
 pub(crate) fn finish<A: Answers>(
     answers: &mut A,
     pending: &mut Vec<u8>,

@@ -8,7 +8,7 @@ use iloc_subtags::ParseError;
 use iloc_writeable::Writeable;
 use std::alloc::AllocError;
 
-/// Adds the text of a value and LF. A write to replies fails only where memory is refused.
+/// Adds the text of a value and a newline. A write to replies fails only if an allocation fails.
 pub fn write_text<T: Writeable>(value: &T, replies: &mut ReplyBlock) -> Result<(), AllocError>
     ensures { OnOk result (held replies.new ≡ held replies.old ++ (T.text value.now ++ 10 ∷ [])) }
 {
@@ -18,7 +18,7 @@ pub fn write_text<T: Writeable>(value: &T, replies: &mut ReplyBlock) -> Result<(
     }
 }
 
-/// Adds why a line has no answer, and LF. That memory is refused is no answer to a line.
+/// Adds why a line has no answer, and a newline. That an allocation fails is no answer to a line.
 #[inline(always)]
 pub fn write_refusal(error: ParseError, replies: &mut ReplyBlock) -> Result<(), AllocError>
     ensures text { OnOk result (held replies.new
@@ -34,7 +34,7 @@ pub fn write_refusal(error: ParseError, replies: &mut ReplyBlock) -> Result<(), 
     }
 }
 
-// The words of each refusal and LF, in 48 bytes, so that they are stored at once.
+// The words of each refusal and a newline, in 48 bytes, so that they are stored at once.
 const INVALID_LANGUAGE: &[u8; 48] = b"! The given language subtag is invalid\n         ";
 
 const INVALID_SUBTAG: &[u8; 48] = b"! Invalid subtag\n                               ";

@@ -25,7 +25,7 @@ impl ReplyBlock {
     ghost use Rattle.iloc_grammar.specs.Values.{identifier_text};
     ghost use Rattle.iloc_plain.specs.Plain.{AreWords, value_of};
 
-    /// No bytes. It takes no memory.
+    /// No bytes. It allocates nothing.
     pub fn new(alloc: Global) -> Self
         ensures { held result ≡ [] }
     {
@@ -70,7 +70,7 @@ impl ReplyBlock {
         Ok(())
     }
 
-    /// Adds the normal text of a plain identifier, and LF.
+    /// Adds the normal text of a plain identifier, and a newline.
     #[inline(always)]
     pub(crate) fn push_plain(&mut self, plain: &Plain) -> Result<(), AllocError>
         requires { AreWords plain.now }

@@ -19,16 +19,16 @@ pub record IsNormalizedFrom (input t : List ℕ) : Type 0 where
   pub text_is : IsTextOf input t
   -- which is its own normal text
   pub again : IsTextOf t t
-  -- every accepted text means the same exactly where its normal text is this one
+  -- every accepted text means the same exactly if its normal text is this one
   pub same : (u : List ℕ) (L M : Locale) → Means languages input L → Means languages u M → (L ≡ M) ↔ (t ≡ text M)
   -- and no text that means the same is shorter
   pub shortest : (u : List ℕ) (M : Locale) → Means languages input M → Means languages u M → length t ≤ length u
   -- eight steps of rewriting at most lead here
   pub steps : Chain languages 8 input t
-  -- so every accepted text means the same exactly where such steps lead both to one text
+  -- so every accepted text means the same exactly if such steps lead both to one text
   pub together : (u : List ℕ) (L M : Locale) → Means languages input L → Means languages u M → (L ≡ M) ↔ LeadToOne (TextStep languages) 8 input u
 
--- Why there is none. Memory is wanted only where the reader wants it, or where the input is accepted and isn't normal.
+-- Why there is none. Memory may run out only if the reader may allocate, or if the input is accepted and isn't normal.
 abbrev pub RefusesNormalizing : List ℕ → ParseError → Type 0
 RefusesNormalizing t = Refusal (HasFault languages t)
     (WantsMemory t ⊎ ((M : Locale) × Means languages t M × ¬ (t ≡ text M)))

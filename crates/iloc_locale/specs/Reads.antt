@@ -13,7 +13,7 @@ use Rattle.iloc_subtags.specs.Answers.{Answers}
 use Rattle.iloc_locale.specs.declared.locale.Locale.{Locale}
 use Rattle.iloc_locale.specs.LocaleValue.{value_of}
 
--- Where memory may be wanted: a language stands first, and the head has more than four variants at its front, or is an
+-- When memory may run out: a language stands first, and the head has more than four variants at its front, or is an
 -- identifier after which a block is reached that isn't short.
 abbrev pub WantsMemory : List ℕ → Type 0
 WantsMemory t =

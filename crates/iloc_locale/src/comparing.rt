@@ -23,7 +23,7 @@ impl Locale {
         cmp_utf8(self, other)
     }
 
-    /// The order by identifier, and then by extensions; `Equal` exactly where the two are equal.
+    /// The order by identifier, and then by extensions; `Equal` exactly if the two are equal.
     pub fn total_cmp(&self, other: &Self) -> Ordering
         ensures { result ≡ locale_cmp (value_of self.now) (value_of other.now) }
     {
@@ -32,7 +32,7 @@ impl Locale {
             .then_with(|| self.extensions.total_cmp(&other.extensions))
     }
 
-    /// Whether the text is a locale that means this one. It reads the text, and so may want memory.
+    /// Whether the text is a locale that means this one. It parses the text, and so may allocate.
     pub fn normalizing_eq(&self, alloc: Global, other: &str) -> Result<bool, AllocError>
         ensures { IfOk result
             (λ same. IsTrue same ↔ Means languages other.now (value_of self.now)) }
@@ -44,7 +44,7 @@ impl Locale {
     }
 }
 
-// What a refusal tells: another text, but for want of memory.
+// What a refusal tells: the text means something else, unless memory ran out.
 fn differs(refusal: ParseError) -> Result<bool, AllocError>
     ensures { IfOk result (λ same. (same ≡ false) × ¬ (refusal ≡ ParseError.OutOfMemory)) }
 {

@@ -11,7 +11,7 @@
 //! that of a locale no text means is `false`.
 //!
 //! It stands on the public contracts of the identifiers (`iloc_langid`), the extensions (`iloc_extensions`),
-//! their reader (`iloc_blocks`) and the laws of the grammar (`iloc_grammar`).
+//! their parser (`iloc_blocks`) and the laws of the grammar (`iloc_grammar`).
 #![tactic(auto)]
 
 ghost use Rattle.std.specs.Prelude.{◌≡◌, ◌↔◌, IsTrue};
@@ -30,7 +30,7 @@ pub mod printing;
 pub use locale::Locale;
 pub use ordered::OrderedLocale;
 
-/// `==` answers whether two locales stand for the same.
+/// `==` tells whether two locales stand for the same.
 pub fn equality()
     ensures { (l m : Locale) → IsTrue (⟦<Locale as PartialEq>⟧.eq l m) ↔ (value_of l ≡ value_of m) }
 {

@@ -1,4 +1,4 @@
-//! The type, and its readers.
+//! The type, and its parsers.
 ghost use Rattle.std.specs.Prelude.{◌≡◌, ℕ, true, List, IsOk, IfOk, IfErr, Ok, OnErr};
 ghost use Rattle.std.specs.Result.{result_and};
 ghost use Rattle.iloc_grammar.specs.Pieces.{pieces};
@@ -27,7 +27,7 @@ use std::alloc::Global;
 /// An identifier with extensions: a `unicode_locale_id` of UTS #35 section 3.
 ///
 /// `en-US-u-ca-buddhist` is one. Both parts can be set to what no text means: `is_well_formed` tells whether
-/// the text of a locale reads back as it.
+/// the text of a locale parses back as it.
 ///
 /// ```text
 /// let mut locale = Locale::try_from_str(alloc, "EN-us-u-ca-Buddhist")?; // en-US-u-ca-buddhist
@@ -58,12 +58,12 @@ impl Locale {
         }
     }
 
-    /// Reads all of the text, which need not be UTF-8, in whatever case.
+    /// Parses all of the text, which need not be UTF-8, in whatever case.
     ///
-    /// A text is accepted exactly where the grammar gives it a meaning, and what is read is that meaning.
-    /// Every other is refused with the fault that the grammar names: `InvalidLanguage` where the first piece is
-    /// no language, `InvalidSubtag` where the head is no identifier, and else the fault of the first bad block.
-    /// `OutOfMemory` comes only where the front of the head has more than four variants, or a block is reached
+    /// A text is accepted exactly if the grammar gives it a meaning, and what is parsed is that meaning.
+    /// Every other is refused with the fault that the grammar names: `InvalidLanguage` if the first piece is
+    /// no language, `InvalidSubtag` if the head is no identifier, and else the fault of the first bad block.
+    /// `OutOfMemory` comes only if the front of the head has more than four variants, or a block is reached
     /// that is not short.
     pub fn try_from_utf8(alloc: Global, code_units: &[u8]) -> Result<Self, ParseError>
         ensures reads { LocaleReadsAs code_units.now result }
@@ -94,7 +94,7 @@ impl Locale {
         self.extensions.clear();
     }
 
-    // Reads all of the text in place of an identifier.
+    // Parses all of the text in place of an identifier.
     fn fill(&mut self, alloc: Global, code_units: &[u8]) -> Result<(), ParseError>
         requires { extensions.value_of self.old.extensions ≡ no_extensions }
         ensures { LocaleReadsAs code_units.now (result_and result (Ok self.new)) }
@@ -104,7 +104,7 @@ impl Locale {
         read_blocks(alloc, &mut iter, &mut self.extensions)
     }
 
-    /// Reads all of a `str`, as `try_from_utf8` reads bytes.
+    /// Parses all of a `str`, as `try_from_utf8` parses bytes.
     pub fn try_from_str(alloc: Global, s: &str) -> Result<Self, ParseError>
         ensures reads { LocaleReadsAs s.now result }
         ensures accepted { (M : meaning.Locale) → Means languages s.now M
@@ -125,7 +125,7 @@ impl Locale {
     }
 }
 
-/// Reads all of the text in place of what the locale was, for programs that keep one locale for many texts.
+/// Parses all of the text in place of what the locale was, for programs that keep one locale for many texts.
 /// After a refusal it is `und`. Memory that it holds is used again.
 pub fn read_into(alloc: Global, code_units: &[u8], kept: &mut Locale) -> Result<(), ParseError>
     ensures reads { LocaleReadsAs code_units.now (result_and result (Ok kept.new)) }
@@ -139,9 +139,9 @@ pub fn read_into(alloc: Global, code_units: &[u8], kept: &mut Locale) -> Result<
     answer
 }
 
-/// Reads the pieces that are left as the blocks after the head, which this locale's identifier was read of:
+/// Parses the pieces that are left as the blocks after the head, which this locale's identifier was parsed from:
 /// the other half of `read_into`, for callers that look at the head first. What extensions there were go;
-/// after a refusal the locale holds some of what was read.
+/// after a refusal the locale holds some of what was parsed.
 #[inline(never)]
 pub fn read_rest(
     alloc: Global,

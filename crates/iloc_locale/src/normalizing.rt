@@ -24,10 +24,10 @@ impl Locale {
     ghost use Rattle.iloc_locale.specs.LocaleValue.{value_of};
     ghost use Rattle.iloc_locale.specs.Normalizing.{IsTextOf, IsNormalizedFrom, RefusesNormalizing};
 
-    /// The normal text of what the text means, borrowed exactly where the text is that already.
+    /// The normal text of what the text means, borrowed exactly if the text is that already.
     ///
-    /// Refuses as the reader does. It takes no memory on a normal text that is inline. Normalising twice is
-    /// once; texts mean the same exactly where their normal texts are equal; no text of a meaning is shorter;
+    /// Refuses as the parser does. It allocates nothing on a normal text that is inline. Normalizing twice is
+    /// once; texts mean the same exactly if their normal texts are equal; no text of a meaning is shorter;
     /// at most eight steps of rewriting lead there.
     pub fn normalize_utf8(alloc: Global, input: &[u8]) -> Result<CowStr<'_, Global>, ParseError>
         ensures ok { IfOk result (λ text. IsNormalizedFrom input.now (cow_str_bytes text)
@@ -51,11 +51,11 @@ impl Locale {
         Self::normalize_utf8(alloc, input.as_bytes())
     }
 
-    /// Whether the text of this locale reads back as it: the others ascend by singletons of their own, each
+    /// Whether the text of this locale parses back as it: the others ascend by singletons of their own, each
     /// with a word, and no value of a keyword holds `true` or a subtag of two characters.
     ///
-    /// Where it is, the text means this locale, and no other well-formed value has the same text. Every
-    /// locale, well-formed or not, read or built, is a value: sets and maps ascend strictly, and all words
+    /// If it is, the text means this locale, and no other well-formed value has the same text. Every
+    /// locale, well-formed or not, parsed or built, is a value: sets and maps ascend strictly, and all words
     /// are in the normal case of their kinds.
     pub fn is_well_formed(&self) -> bool
         ensures exactly { IsTrue result ↔ IsWellFormed (value_of self.now) }
@@ -69,8 +69,8 @@ impl Locale {
         is_well_formed(&self.extensions)
     }
 
-    /// Reads a locale of at most one variant, and one keyword of at most one subtag besides `true`, without
-    /// memory. Each such text is accepted.
+    /// Parses a locale of at most one variant, and one keyword of at most one subtag besides `true`, without
+    /// allocating. Each such text is accepted.
     ///
     /// What is accepted means the locale of the same parts. `InvalidSubtag` and `InvalidExtension` also refuse what
     /// is a locale with more than that; `OutOfMemory` never comes.

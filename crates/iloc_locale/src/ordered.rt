@@ -58,7 +58,7 @@ impl PartialOrd for OrderedLocale {
     }
 }
 
-/// `==` answers whether two locales stand for the same.
+/// `==` tells whether two locales stand for the same.
 pub fn equality()
     ensures { (a b : OrderedLocale)
         → IsTrue (⟦<OrderedLocale as PartialEq>⟧.eq a b) ↔ (value_of a ≡ value_of b) }

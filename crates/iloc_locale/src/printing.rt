@@ -49,7 +49,7 @@ impl Pieces for Locale {
 }
 
 /// Prints the normal text: the identifier, and then the extensions, joined by hyphens. It is defined for every
-/// locale, well-formed or not, and borrowed where there is a language and nothing else.
+/// locale, well-formed or not, and borrowed if there is a language and nothing else.
 impl Writeable for Locale {
     ghost use Rattle.iloc_grammar.specs.Values.{text};
     ghost use Rattle.iloc_locale.specs.LocaleValue.{value_of, IsLanguageAlone};

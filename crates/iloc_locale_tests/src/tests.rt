@@ -27,7 +27,7 @@ fn prints_tightly<W: Writeable>(alloc: Global, value: &W) -> Result<bool, AllocE
     Ok(is_tight(&whole) && is_tight(&other))
 }
 
-// Whether the texts of what was read are.
+// Whether the texts of what was parsed are.
 fn reads_tightly<W: Writeable + Drop>(
     alloc: Global,
     read: Result<W, ParseError>,
@@ -44,7 +44,7 @@ fn a_text_takes_one_request_of_its_length(rt: HostRuntime) -> Result<(), Fail> {
     Ok(())
 }
 
-// The text of the parts after a word, where all of them were read.
+// The text of the parts after a word, if all of them were parsed.
 fn joined<T: Pieces + Drop, O: Pieces + Drop, P: Pieces + Drop>(
     alloc: Global,
     transform: Result<T, ParseError>,

@@ -1,6 +1,6 @@
 -- Hashes: what a value feeds a hasher, as std's own `Hash` feeds it: a list of writes, each of some
 -- bytes. A text is its bytes and 0xFF, a list its length and its items, an optional part a mark and
--- the part where it is there. Parts follow one another in the order in which the types keep them.
+-- the part if it is there. Parts follow one another in the order in which the types keep them.
 -- This project's rule, as in the Rust crate.
 use Rattle.std.specs.Prelude.{◌≡◌, ◌^◌, ◌<◌, List, ◌++◌, length}
 use Rattle.std.specs.Hash.{HashWrites, u8, str, slice, option}

@@ -9,13 +9,13 @@ use Rattle.iloc_fronts.specs.Parts.{begins_part, is_letter, OtherText, OtherText
 use Rattle.iloc_subtags.specs.declared.parse_error.ParseError.{ParseError}
 use Rattle.iloc_subtags.specs.Answers.{Answers, ExtensionFault}
 
--- What the pieces after `x` are read as, and the pieces that are left. Memory is wanted only for a fifth word.
+-- What the pieces after `x` are read as, and the pieces that are left. Memory may run out only for a fifth word.
 abbrev pub PrivateReads : List (List ℕ) → List (List ℕ) → Result (List (List ℕ)) ParseError → Type 0
 PrivateReads ps rest = Answers (λ ws. PrivateRead ps ws rest)
     (ExtensionFault (PrivateFault ps faults.InvalidExtension))
     (4 < length (private_front ps))
 
--- memory is wanted of a text only after `x` (120), the letter of such an extension
+-- memory may run out on a text only after `x` (120), the letter of such an extension
 abbrev pub PrivateTextWants : List ℕ → Type 0
 PrivateTextWants t = (begins_part (is_letter 120) (pieces t) ≡ true) × (4 < length (private_front (rest_of (pieces t))))
 
@@ -25,13 +25,13 @@ PrivateTextReads t = Answers (PrivateText t)
     (ExtensionFault (PrivateTextFault t faults.InvalidExtension))
     (PrivateTextWants t)
 
--- What the pieces after the singleton ext are read as, and the pieces that are left. Memory is wanted only for a fifth word.
+-- What the pieces after the singleton ext are read as, and the pieces that are left. Memory may run out only for a fifth word.
 abbrev pub OtherReads : ℕ → List (List ℕ) → List (List ℕ) → Result (ℕ × List (List ℕ)) ParseError → Type 0
 OtherReads ext ps rest = Answers (λ o. (o.0 ≡ ext) × OtherRead ps o.1 rest)
     (ExtensionFault (OtherFault ps faults.InvalidExtension))
     (4 < length (kept (other_front ps)))
 
--- memory is wanted of a text only after the singleton of such an extension
+-- memory may run out on a text only after the singleton of such an extension
 abbrev pub OtherTextWants : List ℕ → Type 0
 OtherTextWants t = (begins_part is_other_singleton (pieces t) ≡ true) × (4 < length (kept (other_front (rest_of (pieces t)))))
 

@@ -2,7 +2,7 @@
 use Rattle.std.specs.Prelude.{ℕ, List, [], ◌∷◌, Option, Some, None}
 use Rattle.std.specs.Char.{to_ascii_lowercase}
 
--- the first piece where it has one byte, in lower case
+-- the first piece if it has one byte, in lower case
 abbrev pub singleton_at : List (List ℕ) → Option ℕ
 singleton_at [] = None
 singleton_at ([] ∷ ps) = None

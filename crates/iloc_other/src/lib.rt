@@ -27,7 +27,7 @@ pub fn orders()
     ensures other { (o q : ℕ × List (List ℕ)) → ⟦<Other as Ord>⟧.cmp o q ≡ other_cmp o q }
 {}
 
-/// `==` answers whether the two are the same.
+/// `==` tells whether the two are the same.
 pub fn equality()
     ensures private { (v w : List (List ℕ)) → IsTrue (⟦<Private as PartialEq>⟧.eq v w) ↔ (v ≡ w) }
     ensures other { (o q : ℕ × List (List ℕ)) → IsTrue (⟦<Other as PartialEq>⟧.eq o q) ↔ (o ≡ q) }

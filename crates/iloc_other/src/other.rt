@@ -99,13 +99,13 @@ impl Other {
         self.keys.as_slice()
     }
 
-    /// Reads a singleton other than `t`, `u` and `x`, in either case, and then the longest front of
+    /// Parses a singleton other than `t`, `u` and `x`, in either case, and then the longest front of
     /// pieces of 2 to 8 bytes, of which it keeps those that are all letters or digits. What follows is
     /// ignored.
     ///
     /// These are the other extensions of UTS #35, section 3.1, which has no pieces to drop. Anything
-    /// else is refused with `InvalidExtension`, also where no word is kept. `OutOfMemory` comes only
-    /// where more than four are.
+    /// else is refused with `InvalidExtension`, also if no word is kept. `OutOfMemory` comes only
+    /// if more than four are.
     pub fn try_from_utf8(alloc: Global, code_units: &[u8]) -> Result<Self, ParseError>
         ensures reads { OtherTextReads code_units.now result }
         ensures accepted { (o : ℕ × List (List ℕ)) → OtherText code_units.now o
@@ -130,7 +130,7 @@ impl Other {
         Other::try_from_iter(alloc, ext, &mut iter)
     }
 
-    /// Reads a `str`, as `try_from_utf8` reads bytes.
+    /// Parses a `str`, as `try_from_utf8` parses bytes.
     pub fn try_from_str(alloc: Global, s: &str) -> Result<Self, ParseError>
         ensures reads { OtherTextReads s.now result }
         ensures accepted { (o : ℕ × List (List ℕ)) → OtherText s.now o
@@ -141,7 +141,7 @@ impl Other {
         Self::try_from_utf8(alloc, s.as_bytes())
     }
 
-    /// Reads what follows the singleton, and leaves what no such extension takes.
+    /// Parses what follows the singleton, and leaves what no such extension takes.
     pub fn try_from_iter(
         alloc: Global,
         ext: u8,
@@ -163,7 +163,7 @@ impl Other {
         Ok(other)
     }
 
-    // Adds the piece at the end where it is a word. Up to four take no memory.
+    // Adds the piece at the end if it is a word. Up to four allocate nothing.
     fn push_word(&mut self, alloc: Global, piece: &[u8]) -> Result<(), ParseError>
         ensures singleton { self.new.0 ≡ self.old.0 }
         ensures ok { OnOk result (self.new.1
@@ -238,7 +238,7 @@ fn is_other_ext(ext: u8) -> bool
     ext.is_ascii_alphanumeric() && !matches!(ext, b't' | b'u' | b'x')
 }
 
-/// Takes the next piece where it has 2 to 8 bytes; else nothing is taken.
+/// Takes the next piece if it has 2 to 8 bytes; else nothing is taken.
 fn take_piece<'a>(iter: &mut SubtagIterator<'a>) -> Option<&'a [u8]>
     ensures piece { option_copied result ≡ take_first has_other_length (left iter.old) }
     ensures rest { left iter.new ≡ skip_first has_other_length (left iter.old) }

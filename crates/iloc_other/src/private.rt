@@ -113,10 +113,10 @@ impl Private {
         self.as_slice().first()
     }
 
-    /// Reads `x` in either case and all the rest, which must be private words, one at least.
+    /// Parses `x` in either case and all the rest, which must be private words, one at least.
     ///
     /// This is the private use extension of UTS #35, section 3.1. Anything else is refused with
-    /// `InvalidExtension`. `OutOfMemory` comes only where there are more than four words.
+    /// `InvalidExtension`. `OutOfMemory` comes only if there are more than four words.
     pub fn try_from_utf8(alloc: Global, code_units: &[u8]) -> Result<Self, ParseError>
         ensures reads { PrivateTextReads code_units.now result }
         ensures accepted { (ws : List (List ℕ)) → PrivateText code_units.now ws
@@ -141,7 +141,7 @@ impl Private {
         Private::try_from_iter(alloc, &mut iter)
     }
 
-    /// Reads a `str`, as `try_from_utf8` reads bytes.
+    /// Parses a `str`, as `try_from_utf8` parses bytes.
     pub fn try_from_str(alloc: Global, s: &str) -> Result<Self, ParseError>
         ensures reads { PrivateTextReads s.now result }
         ensures accepted { (ws : List (List ℕ)) → PrivateText s.now ws
@@ -152,7 +152,7 @@ impl Private {
         Self::try_from_utf8(alloc, s.as_bytes())
     }
 
-    /// Reads what follows `x`: all the pieces that are left.
+    /// Parses what follows `x`: all the pieces that are left.
     pub fn try_from_iter(alloc: Global, iter: &mut SubtagIterator<'_>) -> Result<Self, ParseError>
         ensures { PrivateReads (left iter.old) (left iter.new) result }
     {
@@ -169,7 +169,7 @@ impl Private {
     }
 }
 
-/// What `Private::try_from_iter` reads, into an empty list, for readers of whole locales. After a refusal it
+/// What `Private::try_from_iter` reads, into an empty list, for parsers of whole locales. After a refusal it
 /// holds the words before the fault.
 pub fn fill_private(
     alloc: Global,

@@ -6,7 +6,7 @@ ghost use Rattle.iloc_other.specs.Singleton.{singleton_at};
 
 use iloc_parser::SubtagIterator;
 
-/// Takes the next piece, and answers its byte in lower case where it has just one.
+/// Takes the next piece, and returns its byte in lower case if it has just one.
 pub fn take_singleton(iter: &mut SubtagIterator<'_>) -> Option<u8>
     ensures byte { result ≡ singleton_at (left iter.old) }
     ensures rest { left iter.new ≡ rest_of (left iter.old) }

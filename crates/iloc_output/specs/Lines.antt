@@ -1,10 +1,10 @@
--- Lines of a text: it is cut at each LF, and a last line without one counts where it isn't empty.
+-- Lines of a text: it is cut at each newline, and a last line without one counts if it isn't empty.
 -- This project's rule.
 use Rattle.std.specs.Prelude.{◌≡◌, ◌≢◌, ◌⊎◌, ℕ, ◌==◌, List, [], ◌∷◌, ◌++◌, All, if◌then◌else◌}
 use Rattle.std.specs.List.{flat_map, AllByRecursion}
 use Rattle.iloc_grammar.specs.Shapes.{Text}
 
--- c at the front of the first line, which it begins where there is none
+-- c at the front of the first line, which it begins if there is none
 abbrev pub onto_first : ℕ → List Text → List Text
 onto_first c [] = (c ∷ []) ∷ []
 onto_first c (line ∷ lines) = (c ∷ line) ∷ lines
@@ -13,7 +13,7 @@ abbrev pub lines_of : Text → List Text
 lines_of [] = []
 lines_of (c ∷ cs) = if c == 10 then [] ∷ lines_of cs else onto_first c (lines_of cs)
 
--- the lines, each with its LF
+-- the lines, each with its newline
 abbrev pub ended : List Text → Text
 ended lines = flat_map (λ line. line ++ 10 ∷ []) lines
 

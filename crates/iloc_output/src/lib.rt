@@ -27,7 +27,7 @@ pub fn outputs()
         → IsOutput T mode input written → written ≡ output T mode input }
 {}
 
-/// Lines are cut at each LF, and a last one without LF counts where it isn't empty; so the output goes on line by line.
+/// Lines are cut at each newline, and a last one without a newline counts if it isn't empty; so the output goes on line by line.
 pub fn lines()
     ensures ended { ReadsEnded }
     ensures open { ReadsOpen }

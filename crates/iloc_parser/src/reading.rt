@@ -1,4 +1,4 @@
-//! The brick that readers are made of.
+//! The brick that parsers are made of.
 ghost use Rattle.std.specs.Prelude.{◌≡◌, option_map};
 ghost use Rattle.iloc_grammar.specs.Words.{is_word, normal};
 ghost use Rattle.iloc_grammar.specs.Reading.{take_first, skip_first};
@@ -7,7 +7,7 @@ ghost use Rattle.iloc_parser.specs.Left.{left};
 use crate::subtag_iterator::SubtagIterator;
 use iloc_subtags::{WordKind, WordOf};
 
-/// Takes the next piece where it is a word of the kind; else nothing is taken.
+/// Takes the next piece if it is a word of the kind; else nothing is taken.
 #[inline(always)]
 pub fn take_word<K: WordKind<N>, const N: usize>(
     iter: &mut SubtagIterator<'_>,

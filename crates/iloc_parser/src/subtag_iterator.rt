@@ -36,7 +36,7 @@ impl<'a> SubtagIterator<'a> {
         }
     }
 
-    /// What is left after the next piece, and that piece; `None` where none is left.
+    /// What is left after the next piece, and that piece; `None` if none is left.
     #[inline(always)]
     #[tactic(auto, unfolding(crate::specs::Left::left))]
     pub fn next_const(self) -> (Self, Option<&'a [u8]>)
@@ -56,7 +56,7 @@ impl<'a> SubtagIterator<'a> {
         (SubtagIterator::new(&self.text[self.len + 1..]), Some(piece))
     }
 
-    /// The next piece, which stays; `None` where none is left.
+    /// The next piece, which stays; `None` if none is left.
     #[inline(always)]
     #[tactic(auto, unfolding(crate::specs::Left::left))]
     pub fn peek(&self) -> Option<&'a [u8]>
@@ -65,7 +65,7 @@ impl<'a> SubtagIterator<'a> {
         self.text.get(..self.len)
     }
 
-    // The next piece, which stays, where it is as long as words of the kind are.
+    // The next piece, which stays, if it is as long as words of the kind are.
     #[inline(always)]
     pub(crate) fn peek_short<K: WordKind<N>, const N: usize>(&self) -> Option<ShortPiece>
         ensures { MatchOption result (take_first (is_word K.kind) (left self.now) ≡ None)

@@ -18,7 +18,7 @@ fn leading_letters(v: u8x16) -> usize
     letters_in(v).trailing_ones() as usize
 }
 
-/// Whether the first `len` bytes begin with no language, which every reader refuses as such. `false`
+/// Whether the first `len` bytes begin with no language, which every parser refuses as such. `false`
 /// says nothing of them. The first sixteen bytes tell it: their letters, and what stands after these.
 #[inline(always)]
 pub fn has_no_language(window: &[u8], len: usize) -> bool

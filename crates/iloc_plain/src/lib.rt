@@ -3,7 +3,7 @@
 //! A text is plain here if it is a language, perhaps a script and a region, and nothing else, in at
 //! most sixteen bytes: `de`, `en-us`, `zh-HANT-tw`, `es-419`. Most identifiers in use are plain.
 //!
-//! It promises that a text for which a reader returns `Some` means the identifier of these subtags, by
+//! It promises that a text for which a parser returns `Some` means the identifier of these subtags, by
 //! the grammar (`IsPlain`), and that the bytes begin with its normal text. `None` says nothing: the
 //! caller parses the text as it would without this crate. So each caller keeps its own contract, and a
 //! shape that is not told here costs time and nothing else.

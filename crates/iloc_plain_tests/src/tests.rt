@@ -64,7 +64,7 @@ fn is_told(text: &str, normal: &str) -> bool {
     }
 }
 
-// Whether the first bytes of a window are told at once, where other bytes follow them.
+// Whether the first bytes of a window are told at once, if other bytes follow them.
 fn is_told_in_window(text: &[u8; 20], len: usize) -> bool {
     len <= 16 && read_plain(text, len).is_some()
 }

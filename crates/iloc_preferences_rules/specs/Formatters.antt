@@ -18,7 +18,7 @@ pub record TimePreferences : Type 0 where
   pub numbering_system : Option Text
   pub hour_cycle : Option EnumValue
 
--- each keyword is what it reads as, where it is there and readable
+-- each keyword is what it reads as, if it is there and readable
 abbrev pub format_preferences : Locale → FormatPreferences
 format_preferences M = record {
   locale_preferences = preferences M;

@@ -65,7 +65,7 @@ variants MeasurementUnitOverride = codes "celsius" ∷ codes "kelvin" ∷ codes 
 variants SentenceBreakSupressions = codes "none" ∷ codes "standard" ∷ []
 variants CommonVariantType = codes "posix" ∷ []
 
--- the variant by default, where there is one
+-- the variant by default, if there is one
 abbrev pub default_variant : EnumKeyword → Option ℕ
 default_variant CollationCaseFirst = Some 2
 default_variant CollationNumericOrdering = Some 1

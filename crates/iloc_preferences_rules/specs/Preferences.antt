@@ -48,7 +48,7 @@ default_preferences =
 
 -- Reading.
 
--- what a keyword reads as, where it is there and readable
+-- what a keyword reads as, if it is there and readable
 abbrev pub read_keyword : {X : Type 0} → (List Text → Option X) → Text → Locale → Option X
 read_keyword reads k M = option_and_then reads (find word_cmp k M.extensions.unicode.keywords)
 
@@ -57,7 +57,7 @@ abbrev pub is_readable : {X : Type 0} → (List Text → Option X) → Text → 
 is_readable reads k M = is_none (find word_cmp k M.extensions.unicode.keywords)
     || is_some (read_keyword reads k M)
 
--- the identifier's region, with the suffix of the subdivision where that is in it
+-- the identifier's region, with the suffix of the subdivision if that is in it
 abbrev pub region_with : Text → Option Subdivision → Subdivision
 region_with r None = whole_region r
 region_with r (Some s) = if is_same r s.region then record { region = r; suffix = s.suffix }
@@ -81,7 +81,7 @@ abbrev pub same_region : Option Text → Option Subdivision → Bool
 same_region (Some r) (Some s) = is_same r s.region
 same_region _ _ = true
 
--- `sd` and `rg` are absent or readable, and the region of `sd` is the identifier's where there is
+-- `sd` and `rg` are absent or readable, and the region of `sd` is the identifier's if there is
 -- one
 abbrev pub is_strict : Locale → Bool
 is_strict M = is_readable subdivision_reads sd M
@@ -98,7 +98,7 @@ identifier_preferences i = record {
   region_override = None;
 }
 
--- The two data locales: made of the region, and made of the override where there is one.
+-- The two data locales: made of the region, and made of the override if there is one.
 
 abbrev pub language_priority : Preferences → DataLocale
 language_priority p = made_of p.language p.script p.region p.variant
@@ -129,7 +129,7 @@ merge a b = record {
   region_override = option_or b.region_override a.region_override;
 }
 
--- The locale: `sd` where the region is not whole, `rg` where there is an override.
+-- The locale: `sd` if the region is not whole, `rg` if there is an override.
 
 abbrev pub sd_entry : Option Subdivision → Fields
 sd_entry None = []

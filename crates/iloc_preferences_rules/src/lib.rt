@@ -1,6 +1,6 @@
 //! The types of keywords, and preferences.
 //!
-//! What a keyword is turned into reads as itself, and preferences come back from their locale, where nothing spells
+//! What a keyword is turned into reads as itself, and preferences come back from their locale, if nothing spells
 //! `true`; preferences merge by three laws. It stands on `iloc_grammar`, `iloc_small` and `iloc_regions`.
 #![tactic(auto)]
 
@@ -19,7 +19,7 @@ ghost use Rattle.iloc_preferences_rules.specs.Preferences.{Preferences, is_stric
 ghost use Rattle.iloc_preferences_rules.specs.Formatters.{FormatPreferences, TimePreferences, default_format, default_time, merge_format, merge_time, is_strict_format, format_preferences, time_of_format};
 ghost use Rattle.iloc_preferences_rules.specs.Examples.{meaning_of, preferences_of, conversions, text_of_preferences};
 
-/// Each keyword turned into a list and read is itself; a list that would spell `true` is empty, and lost where words are read.
+/// Each keyword turned into a list and read is itself; a list that would spell `true` is empty, and lost for keywords that hold subtags.
 #[tactic(auto, using(crate::proofs::PreferenceLaws::read_given, crate::proofs::KeywordLaws::reads_what_it_gives, crate::proofs::KeywordLaws::currency_read_back, crate::proofs::KeywordLaws::subtag_read_back, crate::proofs::KeywordLaws::scripts_read_back))]
 pub fn keywords()
     ensures enums { (k : EnumKeyword) → ReadsWhatItGives k }
@@ -51,7 +51,7 @@ pub fn merging_formatters()
     ensures time_onto_default { (a : TimePreferences) → merge_time default_time a ≡ a }
 {}
 
-/// The locale of preferences is well-formed, and has these preferences exactly where no subdivision spells `true`.
+/// The locale of preferences is well-formed, and has these preferences exactly if no subdivision spells `true`.
 #[tactic(auto, using(crate::proofs::PreferenceLaws::strict_locale, crate::proofs::PreferenceLaws::preferences_are, crate::proofs::PreferenceLaws::locale_is_value, crate::proofs::PreferenceLaws::preferences_back, crate::proofs::PreferenceLaws::back_only))]
 pub fn preferences_of_locales()
     ensures valid { (T : Table) (M : Locale) → IsValue T M → IsPreferences T (preferences M) }

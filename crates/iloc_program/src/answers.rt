@@ -60,7 +60,7 @@ impl Answers for Locales {
 
     ghost mode = { Locale };
 
-    // Extensions are touched only where a block comes.
+    // Extensions are touched only if a block comes.
     fn reply(&mut self, line: &[u8], replies: &mut ReplyBlock) -> Result<(), AllocError> {
         let mut iter = SubtagIterator::new(line);
         if let Err(error) = fill_head(self.alloc, &mut iter, &mut self.locale.id) {

@@ -1,5 +1,5 @@
 -- Data locales, by which data is looked up: language, script, variant, and a region or a
--- subdivision of it. A text means one where it is small and its keyword, if it has one, is `sd`,
+-- subdivision of it. A text means one if it is small and its keyword, if it has one, is `sd`,
 -- the regional subdivision of UTS #35 (`-u-sd-`). What a data locale stands for, and how it is
 -- printed, is this project's rule, as in the Rust crate.
 use Rattle.std.specs.Prelude.{◌≡◌, Bool, IfSome, List, [], ◌∷◌, ◌++◌, Option, Some, None, option_map, option_and_then, option_to_list, codes, if◌then◌else◌}
@@ -53,12 +53,12 @@ is_whole s = is_same s.suffix whole
 abbrev pub named_subdivision : Text → Option Subdivision
 named_subdivision w = result_ok (subdivision w)
 
--- the subdivision where it is there and readable, else the region, else nothing
+-- the subdivision if it is there and readable, else the region, else nothing
 abbrev pub region_part : DataLocale → Option Subdivision
 region_part d = option_or (option_and_then named_subdivision d.subdivision)
     (option_map whole_region d.region)
 
--- data locales are equal where their keys are
+-- data locales are equal if their keys are
 abbrev pub data_key : DataLocale → DataKey
 data_key d =
     record { language = d.language; script = d.script; region = region_part d; variant = d.variant }
@@ -75,7 +75,7 @@ made_of l s part v = record {
   subdivision = option_map subdivision_text part;
 }
 
--- the given region where it differs from the subdivision's, else the subdivision
+-- the given region if it differs from the subdivision's, else the subdivision
 abbrev pub agreed : Option Text → Subdivision → Subdivision
 agreed None s = s
 agreed (Some r) s = if is_same r s.region then s else whole_region r
@@ -107,7 +107,7 @@ pub data HasDataFault (T : Table) (t : Text) : Fault → Type 0 where
   no_subdivision : {r : SmallLocale} → IsSmall T t r → data_of_small r ≡ None
       → HasDataFault T t InvalidExtension
 
--- Printing: what is kept, and the subdivision after `u-sd` where it is readable and not a whole
+-- Printing: what is kept, and the subdivision after `u-sd` if it is readable and not a whole
 -- region. One that spells `true` is left out, as the value of a keyword.
 
 abbrev pub subdivision_value : Text → List Text

@@ -1,7 +1,7 @@
 //! Subdivisions of regions, and data locales.
 //!
 //! A text names one data locale or has one fault; a data locale that was read prints a text that reads back as
-//! it; data locales tie where they stand for the same. It stands on `iloc_grammar`, `iloc_small` and `iloc_orders`.
+//! it; data locales tie if they stand for the same. It stands on `iloc_grammar`, `iloc_small` and `iloc_orders`.
 #![tactic(auto)]
 
 ghost use Rattle.std.specs.Prelude.{◌≡◌, ◌↔◌, ◌⊎◌, ℕ, true, Some, None, Ok, Err, MatchResult, codes};
@@ -55,7 +55,7 @@ pub fn data_locales()
         → IsValue T M → IsWellFormed M → text M ≡ data_text d → M ≡ locale_of_data d }
 {}
 
-/// A total order of subdivisions, by which only equal ones tie; data locales tie where they stand for the same.
+/// A total order of subdivisions, by which only equal ones tie; data locales tie if they stand for the same.
 #[tactic(auto, using(crate::proofs::DataOrderLaws::subdivision_exact, crate::proofs::DataOrderLaws::data_locale_total, crate::proofs::DataOrderLaws::data_locale_ties))]
 pub fn data_orders()
     ensures subdivisions { IsExactOrder subdivision_cmp }
@@ -63,7 +63,7 @@ pub fn data_orders()
     ensures ties { (d e : DataLocale) → (data_locale_cmp d e ≡ Equal) ↔ (data_key d ≡ data_key e) }
 {}
 
-/// Subdivisions are told apart by what they feed a hasher; data locales feed it alike exactly where they stand for the same.
+/// Subdivisions are told apart by what they feed a hasher; data locales feed it alike exactly if they stand for the same.
 #[tactic(auto, using(crate::proofs::DataHashLaws::subdivision_hashes, crate::proofs::DataHashLaws::data_locale_hashes))]
 pub fn data_hashes()
     ensures subdivisions { HashesByOrder subdivision_cmp subdivision_fed }

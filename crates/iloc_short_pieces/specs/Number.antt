@@ -17,11 +17,11 @@ pub record IsPacked (n x : ℕ) : Type 0 where
   pub counted : length (bytes n x) ≡ n
   pub whole : number (bytes n x) ≡ x
 
--- 128 where the test holds
+-- 128 if the test holds
 abbrev pub flag : (ℕ → Bool) → ℕ → ℕ
 flag p b = if p b then 128 else 0
 
--- the number of eight bytes, each 128 where the test holds of that byte of x
+-- the number of eight bytes, each 128 if the test holds of that byte of x
 unfoldable pub flags : (ℕ → Bool) → ℕ → ℕ
 flags p x = number (map (flag p) (bytes 8 x))
 

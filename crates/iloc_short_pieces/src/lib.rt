@@ -2,7 +2,7 @@
 //! bytes at once.
 //!
 //! Contracts see a `ShortPiece` as the list of its bytes, and every call answers exactly what it says of
-//! that list; none takes memory. The letters, digits and cases are those of ASCII. It stands on std.
+//! that list; none allocates. The letters, digits and cases are those of ASCII. It stands on std.
 #![tactic(auto)]
 
 mod flags;

@@ -36,7 +36,7 @@ impl Model for ShortPiece {
 }
 
 impl ShortPiece {
-    /// The piece of some bytes; `None` where they are more than eight.
+    /// The piece of some bytes; `None` if they are more than eight.
     #[tactic(auto, using(crate::proofs::Loading::piece_word, crate::proofs::Loading::piece_shows))]
     #[inline(always)]
     pub fn of(bytes: &[u8]) -> Option<Self>

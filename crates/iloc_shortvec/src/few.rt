@@ -76,7 +76,7 @@ impl<T: Copy> Few<T> {
         front_mut(&mut self.cells, self.len)
     }
 
-    /// Puts an item at a place, where there is room.
+    /// Puts an item at a place, if there is room.
     pub fn insert(&mut self, index: usize, item: T)
         requires place { index ≤ length self.old }
         requires room { length self.old < 4 }

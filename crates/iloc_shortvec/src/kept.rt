@@ -64,7 +64,7 @@ impl<T: Copy> Kept<T> {
         }
     }
 
-    /// Puts an item at a place, where that takes no memory.
+    /// Puts an item at a place, if that allocates nothing.
     pub(crate) fn insert_short(&mut self, index: usize, item: T)
         requires kept { IsKept self.old }
         requires place { index ≤ length (items_of self.old) }
@@ -102,7 +102,7 @@ impl<T: Copy> Kept<T> {
         Ok(())
     }
 
-    /// Adds copies of the items at the end, where that takes no memory.
+    /// Adds copies of the items at the end, if that allocates nothing.
     pub(crate) fn extend_short(&mut self, items: &[T])
         requires kept { IsKept self.old }
         requires short { length (items_of self.old) + length items.now ≤ 4 }
@@ -153,7 +153,7 @@ impl<T: Copy> Kept<T> {
         }
     }
 
-    /// Keeps the items of a `Vec` in place, where they are four or fewer.
+    /// Keeps the items of a `Vec` in place, if they are four or fewer.
     pub(crate) fn settle(&mut self)
         ensures items { items_of self.new ≡ items_of self.old }
         ensures kept { IsKept self.new }

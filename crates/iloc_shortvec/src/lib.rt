@@ -1,8 +1,8 @@
 //! Lists that keep a few items in the value: `ShortBoxSlice` none or one, `ShortWords` up to four.
 //!
 //! Contracts see either type as the plain list of its items, and how a list is kept shows in no answer. Each call gives
-//! what the list gives. A call that is refused memory leaves its receiver as it was. Reads, removals, `clear`, `retain`
-//! and comparisons take no memory, nor do `push` and `insert` while the items fit in the value.
+//! what the list gives. A call that runs out of memory leaves its receiver as it was. Look-ups, removals, `clear`, `retain`
+//! and comparisons allocate nothing, nor do `push` and `insert` while the items fit in the value.
 //!
 //! Lists of at most one item come before all longer ones, and within each class the first different item decides.
 //! Equal lists hash alike.

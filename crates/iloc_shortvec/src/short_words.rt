@@ -69,7 +69,7 @@ impl<T: Copy> ShortWords<T> {
         }
     }
 
-    /// The list of these two items, which takes no memory.
+    /// The list of these two items, which allocates nothing.
     pub fn new_double(_alloc: Global, first: T, second: T) -> Result<Self, AllocError>
         ensures value { IfOk result (λ list. list ≡ first ∷ second ∷ []) }
         ensures succeeds { IsOk result }
@@ -145,7 +145,7 @@ impl<T: Copy> ShortWords<T> {
         self.as_slice().iter()
     }
 
-    /// Puts an item at a place. Up to four items take no memory. Refusal: `AllocError`, and the list is as before.
+    /// Puts an item at a place. Up to four items allocate nothing. Refusal: `AllocError`, and the list is as before.
     pub fn insert(&mut self, alloc: Global, index: usize, item: T) -> Result<(), AllocError>
         requires { index ≤ length self.old }
         ensures ok { OnOk result (self.new ≡ insert self.old index item) }
@@ -159,7 +159,7 @@ impl<T: Copy> ShortWords<T> {
         self.kept.insert_long(alloc, index, item)
     }
 
-    /// Adds an item at the end. Up to four items take no memory. Refusal: `AllocError`, and the list is as before.
+    /// Adds an item at the end. Up to four items allocate nothing. Refusal: `AllocError`, and the list is as before.
     pub fn push(&mut self, alloc: Global, item: T) -> Result<(), AllocError>
         ensures ok { OnOk result (self.new ≡ self.old ++ item ∷ []) }
         ensures err { OnErr result (self.new ≡ self.old) }
@@ -168,7 +168,7 @@ impl<T: Copy> ShortWords<T> {
         self.insert(alloc, self.len(), item)
     }
 
-    /// Adds copies of the items at the end, all of them or none. Up to four in all take no memory. Refusal: `AllocError`,
+    /// Adds copies of the items at the end, all of them or none. Up to four in all allocate nothing. Refusal: `AllocError`,
     /// and the list is as before.
     pub fn extend_from_slice(&mut self, alloc: Global, items: &[T]) -> Result<(), AllocError>
         ensures ok { OnOk result (self.new ≡ self.old ++ items.now) }
@@ -195,7 +195,7 @@ impl<T: Copy> ShortWords<T> {
         item
     }
 
-    /// The list of these items, over the same `Vec` where they are five or more.
+    /// The list of these items, over the same `Vec` if they are five or more.
     pub fn from_vec(items: Vec<T>) -> Self
         ensures { result ≡ items.items }
     {
@@ -246,7 +246,7 @@ impl<T: Copy> ShortWords<T> {
         Ok(list)
     }
 
-    /// A copy. Up to four items take no memory. Refusal: `AllocError`.
+    /// A copy. Up to four items allocate nothing. Refusal: `AllocError`.
     pub fn clone(&self) -> Result<Self, AllocError>
         ensures value { IfOk result (λ copy. copy ≡ self.now) }
         ensures succeeds { length self.now ≤ 4 → IsOk result }

@@ -41,7 +41,7 @@ pub record IsShortBlock (T : Table) (b : Block) : Type 0 where
   pub other : is_other_singleton (singleton b) ≡ true → IsShortOther b.1
 
 -- A block that isn't short is reached: those before it are good, and its own singleton is a letter
--- or digit, and new. Only there may a reader of blocks want memory.
+-- or digit, and new. Only there may a reader of blocks allocate.
 pub data ReachesLongBlock (T : Table) : List ℕ → List Block → Type 0 where
   here : {seen : List ℕ} {b : Block} {bs : List Block} → HasSingleton b → IsNew seen b
       → ¬ (IsShortBlock T b) → ReachesLongBlock T seen (b ∷ bs)

@@ -1,6 +1,6 @@
 -- Small texts: an identifier with at most one variant, and after it nothing, or `u`, a key and at
 -- most one value besides `true`, as in `en-US-u-ca-buddhist`. They are the part of UTS #35's
--- unicode_locale_id that is read without memory; where it ends, and how the others are refused, is
+-- unicode_locale_id that is read without allocating; where it ends, and how the others are refused, is
 -- this project's rule.
 use Rattle.std.specs.Prelude.{◌≡◌, ◌≢◌, ℕ, ◌≤◌, true, false, List, [], ◌∷◌, length, map, Option, Some, None, IfSome, option_map, option_to_list}
 use Rattle.std.specs.Char.{is_ascii_alphanumeric}

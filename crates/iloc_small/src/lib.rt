@@ -1,8 +1,8 @@
-//! Small texts, which are read without memory, and inline texts, of few words in each list.
+//! Small texts, which are parsed without allocating, and inline texts, of few words in each list.
 //!
 //! A text is small or has exactly one small fault; a small text is a locale of the same parts, and inline.
 //! Plain programs say which texts are the one or the other. A text that is inline as a whole has few words in each of
-//! its blocks, so that no reader of a part needs memory. It stands on `iloc_grammar` and `iloc_fronts`.
+//! its blocks, so that no reader of a part allocates. It stands on `iloc_grammar` and `iloc_fronts`.
 #![tactic(auto)]
 
 ghost use Rattle.std.specs.Prelude.{◌≡◌, ◌↔◌, ◌⊎◌, ℕ, true, false, List, [], Ok, Err, MatchResult, codes};
@@ -119,14 +119,14 @@ pub fn by_blocks()
     ensures { (T : Table) → IsTable T → (t : Text) → IsInline T t → IsInlineByBlocks T t }
 {}
 
-/// Where all blocks are short, none that is long is reached.
+/// If all blocks are short, none that is long is reached.
 #[tactic(auto, using(crate::proofs::InlineBlockLaws::none_long))]
 pub fn short_blocks()
     ensures { (T : Table) (seen : List ℕ) (bs : List Block)
         → ReachesLongBlock T seen bs → ¬ (AllByRecursion (IsShortBlock T) bs) }
 {}
 
-/// A block that breaks its rule before anything is kept of it is short: so `en-u-a8`, `en-t-m0` and `en-a-!!` are refused without memory.
+/// A block that breaks its rule before anything is kept of it is short: so `en-u-a8`, `en-t-m0` and `en-a-!!` are refused without allocating.
 pub fn broken_blocks()
     ensures unicode { (T : Table) (b : Block) → singleton b ≡ 117
         → is_bad_key (first_piece b.1) ≡ true → IsShortBlock T b }

@@ -16,7 +16,7 @@ LocaleParts = List ℕ × Option (List ℕ) × Option (List ℕ) × Option (List
 abbrev pub small_locale_of : LocaleParts → SmallLocale
 small_locale_of p = record { id = record { language = p.0; script = p.1; region = p.2; variant = p.3 }; keyword = p.4 }
 
--- what a text is read as, as a whole; it takes no memory
+-- what a text is read as, as a whole; it allocates nothing
 abbrev pub SmallLocaleReadsAs : List ℕ → Result LocaleParts ParseError → Type 0
 SmallLocaleReadsAs t = Answers (λ p. IsSmall languages t (small_locale_of p))
     (ButDuplicate (HasSmallFault languages t)) ⊥

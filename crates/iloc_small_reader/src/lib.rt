@@ -1,4 +1,4 @@
-//! The reader of locales that takes no memory.
+//! The parser of locales that allocates nothing.
 //!
 //! It reads the small texts: an identifier with at most one variant, and after it nothing, or `u`, a key and
 //! pieces of 3 to 8 letters or digits, of which at most one is not `true`. It promises that these are read

@@ -1,4 +1,4 @@
-//! Reads small locales from the left, in one walk.
+//! Parses small locales from the left, in one walk.
 ghost use Rattle.std.specs.Prelude.{◌≡◌, []};
 ghost use Rattle.iloc_grammar.specs.Words as words;
 ghost use Rattle.iloc_parser.specs.Left.{left};
@@ -17,7 +17,7 @@ use iloc_subtags::{
     UnicodeKeyKind, Variant,
 };
 
-/// A keyword: a key and its value, which is absent where it would be `true`.
+/// A keyword: a key and its value, which is absent if it would be `true`.
 pub type SmallKeyword = (UnicodeKey, Option<Subtag>);
 
 /// A language, and perhaps a script, a region, a variant and a keyword.
@@ -30,9 +30,9 @@ pub type SmallLocaleParts = (
 );
 
 /// The parts of a locale with at most one variant and one keyword of at most one value besides `true`, read
-/// from all of the text without memory.
+/// from all of the text without allocating.
 ///
-/// Refuses with `InvalidLanguage` where the first piece is no language, and with `InvalidSubtag` where its
+/// Refuses with `InvalidLanguage` if the first piece is no language, and with `InvalidSubtag` if its
 /// head is otherwise no such identifier. After the head it refuses with `InvalidExtension` a singleton that
 /// is no letter or digit, and a `u` that neither a key nor an attribute follows; and with `InvalidSubtag`
 /// everything else.
@@ -51,7 +51,7 @@ pub fn read_small_locale(code_units: &[u8]) -> Result<SmallLocaleParts, ParseErr
     Ok((language, script, region, variant, Some(keyword)))
 }
 
-// Reads all that follows the singleton.
+// Parses all that follows the singleton.
 #[tactic(auto, using(crate::proofs::BlockLemmas::singletons))]
 fn read_block(singleton: u8, iter: &mut SubtagIterator<'_>) -> Result<SmallKeyword, ParseError>
     ensures { result ≡ answer_of (block_result singleton (left iter.old)) }
@@ -63,7 +63,7 @@ fn read_block(singleton: u8, iter: &mut SubtagIterator<'_>) -> Result<SmallKeywo
     }
 }
 
-// Reads all that follows `u`.
+// Parses all that follows `u`.
 #[tactic(auto, using(crate::proofs::BlockLemmas::keys))]
 fn read_keyword(iter: &mut SubtagIterator<'_>) -> Result<SmallKeyword, ParseError>
     ensures { result ≡ answer_of (block_result 117 (left iter.old)) }
@@ -86,7 +86,7 @@ fn refusal_of_keyless(iter: &mut SubtagIterator<'_>) -> ParseError
     }
 }
 
-// Reads the value that all the pieces left are; `None` where each of them is `true`.
+// Parses the value that all the pieces left are; `None` if each of them is `true`.
 #[tactic(auto, using(crate::proofs::ValueLemmas::values))]
 fn read_value(iter: &mut SubtagIterator<'_>) -> Result<Option<Subtag>, ParseError>
     ensures { result ≡ answer_of (value_result [] (left iter.old)) }

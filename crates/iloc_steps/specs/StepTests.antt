@@ -1,5 +1,5 @@
 -- Plain programs for the steps of rewriting: whether a step leads from one list, part or text to
--- another. The laws of this crate say that each is true exactly where the relation of that name
+-- another. The laws of this crate say that each is true exactly if the relation of that name
 -- holds, so one can compute it.
 use Rattle.std.specs.Prelude.{◌≡◌, ◌↔◌, IsTrue, ℕ, Bool, true, false, not, ◌&&◌, ◌||◌, ◌==◌, List, [], ◌∷◌, length, map, Option, Some, None, nat_lt, if◌then◌else◌}
 use Rattle.std.specs.List.{list_any}
@@ -106,7 +106,7 @@ same_extension _ _ = false
 abbrev pub has_less_true : Field → Field → Bool
 has_less_true f g = is_same f.0 g.0 && is_without is_same (λ p. is_true (lower p)) f.1 g.1
 
--- the fields in another order, where all keys differ
+-- the fields in another order, if all keys differ
 abbrev pub are_fields_reordered : Fields → Fields → Bool
 are_fields_reordered fs gs = all_different word_cmp (map (λ f. lower f.0) fs)
     && is_reordered same_field fs gs

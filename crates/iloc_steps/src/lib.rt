@@ -2,8 +2,8 @@
 //! worked examples of each step.
 //!
 //! However many steps lead from a text to another, both mean the same; so two accepted texts mean the same exactly
-//! where steps lead both to one text, and a text that steps cannot lead there means something else. For each relation
-//! on steps there is a function to `Bool`, and a law that says that it is true exactly where the relation holds: of
+//! if steps lead both to one text, and a text that steps cannot lead there means something else. For each relation
+//! on steps there is a function to `Bool`, and a law that says that it is true exactly if the relation holds: of
 //! lists, of parts, of whole written locales, and of texts. It stands on `iloc_grammar`.
 #![tactic(auto)]
 
@@ -16,7 +16,7 @@ ghost use Rattle.iloc_grammar.specs.Meaning.{Locale, Means, IdentifierMeans};
 ghost use Rattle.iloc_grammar.specs.Steps.{TextStep, Chain, IdentifierTextStep, IdentifierChain, LeadToOne, Reordered, Without, WithoutRepeats, LessTrue, Rule, IdentifierStep, ExtensionStep, Step};
 ghost use Rattle.iloc_steps.specs.StepTests.{DecidesEquality, is_reordered, is_without, is_without_repeats, has_less_true, is_identifier_step, is_extension_step, is_step, is_text_step, is_identifier_text_step};
 
-/// Any number of steps keeps the meaning and does not lengthen the text; two accepted texts mean the same exactly where some number of steps leads both to one text.
+/// Any number of steps keeps the meaning and does not lengthen the text; two accepted texts mean the same exactly if some number of steps leads both to one text.
 pub fn any_steps()
     ensures mean { (T : Table) → IsTable T → (n : ℕ) (t u : Text) (M : Locale) → Chain T n t u
         → Means T t M → Means T u M }

@@ -1,12 +1,12 @@
--- What readers answer: what was read, a fault that is there, or want of memory. Where a text has one
--- meaning or one fault and never both, each case but want of memory says both directions.
+-- What readers answer: what was read, a fault that is there, or out of memory. If a text has one
+-- meaning or one fault and never both, each case except out of memory says both directions.
 use Rattle.std.specs.Prelude.{Result, Ok, Err}
 use Rattle.iloc_grammar.specs.Faults as faults
 use Rattle.iloc_grammar.specs.Faults.{Fault}
 use Rattle.iloc_subtags.specs.declared.parse_error.ParseError.{ParseError}
 use Rattle.iloc_subtags.specs.declared.parse_error.ParseError.TheVariants.{InvalidLanguage, InvalidSubtag, InvalidExtension, DuplicatedExtension, OutOfMemory}
 
--- what a refusal says: the fault of its name is there, or memory was wanted
+-- what a refusal says: the fault of its name is there, or memory ran out
 abbrev pub Refusal : (Fault → Type 0) → Type 0 → ParseError → Type 0
 Refusal HasFault WantsMemory InvalidLanguage = HasFault faults.InvalidLanguage
 Refusal HasFault WantsMemory InvalidSubtag = HasFault faults.InvalidSubtag
@@ -72,7 +72,7 @@ ButLanguage F faults.InvalidSubtag = F faults.InvalidSubtag
 ButLanguage F faults.InvalidExtension = F faults.InvalidExtension
 ButLanguage F faults.DuplicatedExtension = F faults.DuplicatedExtension
 
--- all but that of a repeated extension: where more than one is refused by another name
+-- all but that of a repeated extension: for calls that refuse a second one by another name
 abbrev pub ButDuplicate : (Fault → Type 0) → Fault → Type 0
 ButDuplicate F faults.InvalidLanguage = F faults.InvalidLanguage
 ButDuplicate F faults.InvalidSubtag = F faults.InvalidSubtag

@@ -1,5 +1,5 @@
 -- What readers owe a text: they accept one that means something, as what it means, and refuse one
--- that has a fault, by that fault. Out of memory is the only way out, and only where it may happen.
+-- that has a fault, by that fault. Out of memory is the only way out, and only if it may happen.
 -- This project's rule.
 use Rattle.std.specs.Prelude.{◌≡◌, ◌⊎◌, Result, Ok, Err}
 use Rattle.iloc_grammar.specs.Faults as faults

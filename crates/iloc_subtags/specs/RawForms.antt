@@ -4,7 +4,7 @@ use Rattle.iloc_grammar.specs.Words.{Kind, raw}
 use Rattle.iloc_grammar.specs.Values.{IsNormal}
 use Rattle.iloc_subtags.specs.declared.parse_error.ParseError.{ParseError}
 
--- the normal word of which the bytes are the raw form, or the refusal where they are no such word's
+-- the normal word of which the bytes are the raw form, or the refusal if they are no such word's
 abbrev pub ReadsRaw : ℕ → Kind → ParseError → List ℕ → Result (List ℕ) ParseError → Type 0
 ReadsRaw n k refusal bytes (Ok w) = IsNormal k w × (raw n k w ≡ bytes)
 ReadsRaw n k refusal bytes (Err e) = (e ≡ refusal) × ((w : List ℕ) → IsNormal k w → raw n k w ≢ bytes)

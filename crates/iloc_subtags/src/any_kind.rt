@@ -14,7 +14,7 @@ use std::hash::Hash;
 /// A kind of word, for code that is generic over kinds: the texts that it accepts, each with its normal
 /// text, and laws of these. All eleven kinds have it.
 pub trait Word: Copy + Ord + Hash {
-    /// The normal text of a text, where it is accepted.
+    /// The normal text of a text, if it is accepted.
     ghost normal_text: { List ℕ → Option (List ℕ) };
 
     /// The text of a word.
@@ -23,7 +23,7 @@ pub trait Word: Copy + Ord + Hash {
     /// The refusal of every other text.
     ghost fault: { ParseError };
 
-    /// Reads a word, in any case.
+    /// Parses a word, in any case.
     fn try_from_utf8(code_units: &[u8]) -> Result<Self, ParseError>
         ensures { MatchResult result (λ w. normal_text code_units.now ≡ Some (shown w))
             (λ e. (e ≡ fault) × (normal_text code_units.now ≡ None)) };
@@ -41,7 +41,7 @@ pub trait Word: Copy + Ord + Hash {
     ghost length_kept: { (t normal : List ℕ) → normal_text t ≡ Some normal
         → length normal ≡ length t };
 
-    /// Two accepted texts have one normal text exactly where they are equal without case.
+    /// Two accepted texts have one normal text exactly if they are equal without case.
     ghost one_normal: { (a b v w : List ℕ) → normal_text a ≡ Some v → normal_text b ≡ Some w
         → (v ≡ w) ↔ (lower a ≡ lower b) };
 

@@ -15,7 +15,7 @@ pub trait WordKind<const N: usize> {
     /// The kind in the definitions.
     ghost kind: { Kind };
 
-    /// What is answered to a piece that is no word of the kind.
+    /// What is returned for a piece that is no word of the kind.
     ghost refusal: { ParseError };
 
     /// Whether the piece is a word of the kind, in any case.

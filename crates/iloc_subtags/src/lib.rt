@@ -3,7 +3,7 @@
 //! A word is kept in the normal case of its kind, in place, and is seen by contracts as its text. What
 //! each kind takes, and its normal case, are the definitions of `iloc_grammar` (specs/Words.antt), which
 //! restate the subtags of UTS #35, section 3 ("Unicode Language and Locale Identifiers"). Every call
-//! answers exactly what they say, and none takes memory.
+//! returns exactly what they say, and none allocates.
 //!
 //! There is one generic struct, `WordOf<K, N>`, over a kind `K` and its greatest length `N`; the kinds'
 //! names, as `Language`, are aliases of it. Code over any kind of word has the trait `Word` and its laws.

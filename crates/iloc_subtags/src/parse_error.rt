@@ -5,7 +5,7 @@ ghost use Rattle.std.specs.Prelude.{◌≡◌};
 use std::alloc::{AllocError, AllocFailed};
 use thiserror::Error;
 
-/// Why a text is refused, or that there is no memory. It prints its words.
+/// Why a text is refused, or that memory has run out. It prints its words.
 #[derive(Clone, Debug, Drop, Error, PartialEq, Eq)]
 pub enum ParseError {
     /// The first piece is no language, or a text that is to be a language is none.
@@ -42,7 +42,7 @@ impl ParseError {
     }
 }
 
-/// A refused request for memory is `OutOfMemory`.
+/// A failed allocation is `OutOfMemory`.
 impl From<AllocError> for ParseError {
     ghost use Rattle.iloc_subtags.specs.declared.parse_error.ParseError.TheVariants.{OutOfMemory};
 
@@ -53,7 +53,7 @@ impl From<AllocError> for ParseError {
     }
 }
 
-/// So is that of a collection, as of `Vec::push`; what could not be stored is let go.
+/// So is that of a collection, as of `Vec::push`; what could not be stored is dropped.
 impl<T: Drop> From<AllocFailed<T>> for ParseError {
     ghost use Rattle.iloc_subtags.specs.declared.parse_error.ParseError.TheVariants.{OutOfMemory};
 

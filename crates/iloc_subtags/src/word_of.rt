@@ -20,7 +20,7 @@ use std::str::FromStr;
 
 /// A word of the kind `K`, in its normal case, of at most `N` bytes.
 ///
-/// Contracts see it as its text. Words are equal where their texts are, and stand in the byte order of
+/// Contracts see it as its text. Words are equal if their texts are, and stand in the byte order of
 /// their texts.
 #[derive_where(Clone, Copy, PartialEq, Eq, PartialOrd, Ord, Hash)]
 pub struct WordOf<K: WordKind<N>, const N: usize> {
@@ -155,7 +155,7 @@ impl<K: WordKind<N>, const N: usize> WordOf<K, N> {
         self.as_str().as_bytes().cmp(other)
     }
 
-    /// Whether the text equals the word's without case, which is whether the text reads as this word.
+    /// Whether the text equals the word's without case, that is, whether the text parses to this word.
     pub fn normalizing_eq(self, other: &str) -> bool
         ensures without_case { IsTrue result ↔ (lower self ≡ lower other.now) }
         ensures reads { IsTrue result ↔ (word K.kind other.now ≡ Some self) }

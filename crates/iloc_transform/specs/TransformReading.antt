@@ -16,7 +16,7 @@ use Rattle.iloc_transform.specs.declared.transform.Transform.{Transform}
 abbrev pub value_of : Transform → written.Transform
 value_of m = record { id = option_map langid.value_of m.lang; fields = m.fields }
 
--- memory is wanted for a fifth variant, and for a field
+-- memory may run out for a fifth variant, and for a field
 pub data WantsMemory (ps : List (List ℕ)) : Type 0 where
   variants : HasFiveVariants ps → WantsMemory ps
   fields : {id : Option written.Identifier} {middle : List (List ℕ)} → FrontRead languages ps id middle → BeginsField middle → WantsMemory ps

@@ -1,4 +1,4 @@
-//! The identifier of a transform: read, compared, put in lower case.
+//! The identifier of a transform: parsed, compared, put in lower case.
 ghost use Rattle.std.specs.Prelude.{◌≡◌, Ok, None, option_map, option_to_list};
 ghost use Rattle.std.specs.List.{flat_map};
 ghost use Rattle.std.specs.Option.{option_cmp, option_copied};
@@ -17,7 +17,7 @@ use iloc_subtags::{Language, ParseError};
 use std::alloc::Global;
 use std::cmp::Ordering;
 
-/// Reads the longest front of an identifier's words, where the next piece is a language. Where it is none, there is none.
+/// Parses the longest front of an identifier's words, if the next piece is a language; else `None`.
 pub(crate) fn fill_lang(
     alloc: Global,
     iter: &mut SubtagIterator<'_>,

@@ -22,13 +22,13 @@ pub mod transform;
 pub use iloc_fields::{Fields, Key, Value};
 pub use transform::Transform;
 
-/// A block that means an identifier of at most four variants, or none, and no field takes no memory.
+/// A block that means an identifier of at most four variants, or none, and no field allocates nothing.
 pub fn few_words()
     ensures { (ps : List (List ℕ)) (m : written.Transform) → TransformMeans languages (front ps) m
         → IfSome m.id (λ i. length i.variants ≤ 4) → m.fields ≡ [] → ¬ (WantsMemory ps) }
 {}
 
-/// `==` answers whether the two stand for the same.
+/// `==` tells whether the two stand for the same.
 pub fn equality()
     ensures { (m n : Transform)
         → IsTrue (⟦<Transform as PartialEq>⟧.eq m n) ↔ (value_of m ≡ value_of n) }

@@ -79,7 +79,7 @@ impl Transform {
         self.fields.empty();
     }
 
-    /// The order by identifier, none first, and then by fields; `Equal` exactly where the two are equal.
+    /// The order by identifier, none first, and then by fields; `Equal` exactly if the two are equal.
     pub fn total_cmp(&self, other: &Self) -> Ordering
         ensures { result ≡ transform_cmp (value_of self.now) (value_of other.now) }
     {
@@ -88,14 +88,14 @@ impl Transform {
             .cmp(&other.fields))
     }
 
-    /// Reads `t` in either case, the longest front of an identifier where the next piece is a language,
-    /// and then, where the next piece is a key, fields up to a piece that is neither key nor value
+    /// Parses `t` in either case, the longest front of an identifier if the next piece is a language,
+    /// and then, if the next piece is a key, fields up to a piece that is neither key nor value
     /// piece. What follows is ignored.
     ///
     /// This is the transformed content of UTS #35, section 3.1. Of equal keys the first stays; a field
     /// whose pieces are all `true` has the empty value. A repeated variant is refused with
     /// `InvalidSubtag`; another first piece, a key without a value piece and nothing read with
-    /// `InvalidExtension`. `OutOfMemory` comes only where there is a field or more than four variants.
+    /// `InvalidExtension`. `OutOfMemory` comes only if there is a field or more than four variants.
     pub fn try_from_utf8(alloc: Global, code_units: &[u8]) -> Result<Self, ParseError>
         ensures reads { TransformTextReads code_units.now result }
         ensures accepted { (m : written.Transform) → TransformText languages code_units.now m
@@ -120,7 +120,7 @@ impl Transform {
         Transform::try_from_iter(alloc, &mut iter)
     }
 
-    /// Reads a `str`, as `try_from_utf8` reads bytes.
+    /// Parses a `str`, as `try_from_utf8` parses bytes.
     pub fn try_from_str(alloc: Global, s: &str) -> Result<Self, ParseError>
         ensures reads { TransformTextReads s.now result }
         ensures accepted { (m : written.Transform) → TransformText languages s.now m
@@ -131,7 +131,7 @@ impl Transform {
         Self::try_from_utf8(alloc, s.as_bytes())
     }
 
-    /// Reads what follows `t`, and leaves what no transform takes.
+    /// Parses what follows `t`, and leaves what no transform takes.
     pub fn try_from_iter(alloc: Global, iter: &mut SubtagIterator<'_>) -> Result<Self, ParseError>
         ensures { TransformReads (left iter.old) (left iter.new) result }
     {
@@ -141,7 +141,7 @@ impl Transform {
     }
 }
 
-/// The same into an empty extension, for readers of whole locales. After a refusal it holds what was read
+/// The same into an empty extension, for parsers of whole locales. After a refusal it holds what was parsed
 /// before the fault.
 pub fn fill_transform(
     alloc: Global,

@@ -1,4 +1,4 @@
--- The order of keywords, which ties exactly where their equality test does.
+-- The order of keywords, which ties exactly if their equality test does.
 use Rattle.std.proofs.Common.{◌≡◌, ℕ, ◌&&◌, List, refl, ap₂, ◌∙◌}
 use Rattle.std.specs.Ordering.{is_eq, eq_by_cmp, ordering_then}
 use Rattle.std.specs.declared.cmp.Ordering.{Ordering}

@@ -1,4 +1,4 @@
--- What keywords end as, where one of their values is lent.
+-- What keywords end as, when one of their values is lent.
 use Rattle.std.specs.Prelude.{ℕ, List, Option}
 use Rattle.std.specs.Borrow.{LendsIf, Fml, MutBor}
 use Rattle.std.specs.FinMap.{put}

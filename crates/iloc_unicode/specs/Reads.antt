@@ -15,7 +15,7 @@ use Rattle.iloc_subtags.specs.Answers.{Answers, NoFault, ExtensionFault}
 abbrev pub has_many_values : List ℕ × List (List ℕ) → Bool
 has_many_values f = nat_lt 4 (length (normal_values f.1))
 
--- for what memory is wanted: before a bad key, a second key or a fifth subtag
+-- for what memory may run out: before a bad key, a second key or a fifth subtag
 pub data KeywordsWantMemory (ps : List (List ℕ)) : Type 0 where
   second_key : 1 < length (normal_fields (keywords_kept ps)) → KeywordsWantMemory ps
   fifth_value : list_any has_many_values (keywords_kept ps) ≡ true → KeywordsWantMemory ps

@@ -11,7 +11,7 @@ use Rattle.iloc_unicode.specs.declared.unicode.Unicode.{Unicode}
 use Rattle.iloc_unicode.specs.Reads.{KeywordsWantMemory}
 use Rattle.iloc_unicode.specs.UnicodeValue.{value_of}
 
--- for what memory is wanted after `u`: a fifth attribute, or as for keywords
+-- for what memory may run out after `u`: a fifth attribute, or as for keywords
 pub data UnicodeWantsMemory (ps : List (List ℕ)) : Type 0 where
   fifth_attribute : 4 < length (attributes_read ps) → UnicodeWantsMemory ps
   for_keywords : KeywordsWantMemory (after_attributes ps) → UnicodeWantsMemory ps

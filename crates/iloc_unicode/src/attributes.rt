@@ -73,8 +73,8 @@ impl Attributes {
         }
     }
 
-    /// Reads the longest front of attribute words, 3 to 8 letters or digits each, as a set, and ignores
-    /// the rest of the text. It is refused by `OutOfMemory` alone, and where there are at most four
+    /// Parses the longest front of attribute words, 3 to 8 letters or digits each, as a set, and ignores
+    /// the rest of the text. It is refused by `OutOfMemory` alone, and if there are at most four
     /// different ones not at all.
     pub fn try_from_utf8(alloc: Global, code_units: &[u8]) -> Result<Self, ParseError>
         ensures reads { AttributesReadAs code_units.now result }
@@ -92,7 +92,7 @@ impl Attributes {
         Ok(Self::try_from_iter(alloc, &mut iter)?)
     }
 
-    /// Reads a `str`, as `try_from_utf8` reads bytes.
+    /// Parses a `str`, as `try_from_utf8` parses bytes.
     pub fn try_from_str(alloc: Global, s: &str) -> Result<Self, ParseError>
         ensures reads { AttributesReadAs s.now result }
         ensures accepted { (ws : List (List ℕ)) → AttributesText s.now ws
@@ -112,7 +112,7 @@ impl Attributes {
         }
     }
 
-    /// Leaves the empty set, and answers the old one.
+    /// Leaves the empty set, and returns the old one.
     pub fn clear(&mut self) -> Self
         ensures old { result ≡ self.old }
         ensures empty { self.new ≡ [] }
@@ -122,7 +122,7 @@ impl Attributes {
         }
     }
 
-    /// Adds the attributes of the other set. Where memory is refused, nothing changes.
+    /// Adds the attributes of the other set. If an allocation fails, nothing changes.
     pub fn extend_from_attributes(
         &mut self,
         alloc: Global,

@@ -57,7 +57,7 @@ use std::cmp::Ordering;
 use std::marker::Model;
 use std::mem;
 
-/// A map from keys to values, kept by ascending key. One pair takes no memory.
+/// A map from keys to values, kept by ascending key. One pair allocates nothing.
 ///
 /// ```text
 /// let mut keywords = Keywords::try_from_str(alloc, "hc-h12-ca-roc")?; // ca-roc-hc-h12
@@ -107,10 +107,10 @@ impl Keywords {
         }
     }
 
-    /// Reads keys, each with the pieces after it, up to the first piece that is neither a key nor 3 to
+    /// Parses keys, each with the pieces after it, up to the first piece that is neither a key nor 3 to
     /// 8 letters or digits, and ignores the rest of the text. Of equal keys the first stays; `true` is
     /// dropped. A piece of two bytes that is met and is no key is refused by `InvalidExtension`. One key
-    /// with at most four subtags takes no memory.
+    /// with at most four subtags allocates nothing.
     pub fn try_from_utf8(alloc: Global, code_units: &[u8]) -> Result<Self, ParseError>
         ensures reads { KeywordsReadAs code_units.now result }
         ensures accepted { (m : Fields) → KeywordsText code_units.now m
@@ -128,7 +128,7 @@ impl Keywords {
         Self::try_from_iter(alloc, &mut SubtagIterator::new(code_units))
     }
 
-    /// Reads a `str`, as `try_from_utf8` reads bytes.
+    /// Parses a `str`, as `try_from_utf8` parses bytes.
     pub fn try_from_str(alloc: Global, s: &str) -> Result<Self, ParseError>
         ensures reads { KeywordsReadAs s.now result }
         ensures accepted { (m : Fields) → KeywordsText s.now m
@@ -176,7 +176,7 @@ impl Keywords {
         self.map.contains_key(key)
     }
 
-    /// Sets the value of the key, and answers the old one. Where memory is refused, nothing changes.
+    /// Sets the value of the key, and returns the old one. If an allocation fails, nothing changes.
     pub fn set(
         &mut self,
         alloc: Global,
@@ -205,7 +205,7 @@ impl Keywords {
         Ok(())
     }
 
-    /// Takes the key out, and answers its value.
+    /// Takes the key out, and returns its value.
     pub fn remove(&mut self, key: &Key) -> Option<Value>
         ensures value { result ≡ find word_cmp key.now self.old }
         ensures removed { self.new ≡ remove_entry (is_at (word_cmp key.now)) self.old }
@@ -213,7 +213,7 @@ impl Keywords {
         self.map.remove(key)
     }
 
-    /// Leaves the empty map, and answers the old one.
+    /// Leaves the empty map, and returns the old one.
     pub fn clear(&mut self) -> Self
         ensures old { result ≡ self.old }
         ensures empty { self.new ≡ [] }
@@ -244,8 +244,8 @@ impl Keywords {
         }
     }
 
-    /// Sets each pair of the other, so that for equal keys the other's value wins. Where memory is
-    /// refused, nothing changes.
+    /// Sets each pair of the other, so that for equal keys the other's value wins. If an
+    /// allocation fails, nothing changes.
     pub fn extend_from_keywords(&mut self, alloc: Global, other: Keywords) -> Result<(), AllocError>
         ensures ok { OnOk result (self.new ≡ map_of word_cmp (other ++ self.old)) }
         ensures err { OnErr result (self.new ≡ self.old) }
@@ -256,7 +256,7 @@ impl Keywords {
         self.map.extend_from_map(alloc, map)
     }
 
-    /// The map of these pairs, where the last of equal keys stays.
+    /// The map of these pairs, in which the last of equal keys stays.
     pub fn from_pairs<I: IntoIterator<Item = (Key, Value)>>(
         alloc: Global,
         pairs: I,

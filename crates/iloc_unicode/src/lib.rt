@@ -3,7 +3,7 @@
 //!
 //! Readers take exactly the front of the pieces that `iloc_fronts` defines and leave the rest; of equal
 //! keys the first stays, and repeated attributes are dropped. Printing is the normal text of the part.
-//! Up to four attributes, and one key with up to four subtags, take no memory. It stands on the set of
+//! Up to four attributes, and one key with up to four subtags, allocate nothing. It stands on the set of
 //! words, the map over short lists and its laws, values, pieces and printing.
 #![tactic(auto)]
 
@@ -31,7 +31,7 @@ pub fn orders()
     ensures keywords { (v w : Fields) → ⟦<Keywords as Ord>⟧.cmp v w ≡ keywords_cmp v w }
 {}
 
-/// `==` answers whether two parts, or two unicode extensions, are the same.
+/// `==` tells whether two parts, or two unicode extensions, are the same.
 pub fn equality()
     ensures attributes { (v w : List (List ℕ))
         → IsTrue (⟦<Attributes as PartialEq>⟧.eq v w) ↔ (v ≡ w) }

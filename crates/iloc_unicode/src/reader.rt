@@ -1,4 +1,4 @@
-//! Reads attributes, keywords and the whole extension from pieces.
+//! Parses attributes, keywords and the whole extension from pieces.
 ghost use Rattle.std.specs.Prelude.{◌≡◌, ◌≤◌, ◌++◌, [], length, Ok, IfOk, OnOk, IsOk};
 ghost use Rattle.std.specs.Result.{result_and};
 ghost use Rattle.iloc_grammar.specs.Words.{Attribute, is_word};
@@ -20,7 +20,7 @@ use iloc_word_set::{WordCollector, WordSet};
 use std::alloc::{AllocError, Global};
 
 impl Attributes {
-    /// Reads the longest front of attribute words, as a set. Up to four different attributes take no memory,
+    /// Parses the longest front of attribute words, as a set. Up to four different attributes allocate nothing,
     /// and n words cost n log n, in whatever order they stand.
     pub fn try_from_iter(alloc: Global, iter: &mut SubtagIterator<'_>) -> Result<Self, AllocError>
         ensures value { IfOk result (λ a. a ≡ attributes_read (left iter.old)) }
@@ -38,7 +38,7 @@ impl Attributes {
     }
 }
 
-// The same where these four attributes stood before.
+// The same if these four attributes stood before.
 #[inline(never)]
 fn read_more_attributes(
     alloc: Global,
@@ -59,7 +59,7 @@ fn read_more_attributes(
 }
 
 impl Keywords {
-    /// Reads the longest front of keys with their values; of equal keys the first stays. A piece of two
+    /// Parses the longest front of keys with their values; of equal keys the first stays. A piece of two
     /// bytes there that is no key is refused by `InvalidExtension`. One key with up to four subtags takes
     /// no memory.
     pub fn try_from_iter(alloc: Global, iter: &mut SubtagIterator<'_>) -> Result<Self, ParseError>
@@ -101,7 +101,7 @@ fn has_two_bytes(iter: &SubtagIterator<'_>) -> bool
 }
 
 impl Unicode {
-    /// Reads what follows `u`: attributes, and then keywords, not both empty, which is refused by
+    /// Parses what follows `u`: attributes, and then keywords, not both empty, which is refused by
     /// `InvalidExtension`.
     pub fn try_from_iter(alloc: Global, iter: &mut SubtagIterator<'_>) -> Result<Self, ParseError>
         ensures { UnicodeGives (left iter.old) (left iter.new) result }
@@ -112,7 +112,7 @@ impl Unicode {
     }
 }
 
-/// The same into an empty extension, for readers of whole locales. After a refusal it holds what was read
+/// The same into an empty extension, for parsers of whole locales. After a refusal it holds what was parsed
 /// before the fault.
 pub fn fill_unicode(
     alloc: Global,
@@ -131,7 +131,7 @@ pub fn fill_unicode(
     Ok(())
 }
 
-// Takes the next piece, and answers whether it is `u` in either case.
+// Takes the next piece, and returns whether it is `u` in either case.
 pub(crate) fn takes_u(iter: &mut SubtagIterator<'_>) -> bool
     ensures u { result ≡ begins_part (is_letter 117) (left iter.old) }
     ensures rest { left iter.new ≡ rest_of (left iter.old) }

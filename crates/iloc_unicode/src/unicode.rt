@@ -43,7 +43,7 @@ impl Unicode {
         }
     }
 
-    /// Reads `u` in either case, then attributes, then keywords, and ignores the rest of the text
+    /// Parses `u` in either case, then attributes, then keywords, and ignores the rest of the text
     /// (UTS #35 section 3.2). Refused by `InvalidExtension` are another first piece, a piece of two bytes
     /// that is met among the keywords and is no key, and an extension in which both parts are empty.
     pub fn try_from_utf8(alloc: Global, code_units: &[u8]) -> Result<Self, ParseError>
@@ -67,7 +67,7 @@ impl Unicode {
         Self::try_from_iter(alloc, &mut iter)
     }
 
-    /// Reads a `str`, as `try_from_utf8` reads bytes.
+    /// Parses a `str`, as `try_from_utf8` parses bytes.
     pub fn try_from_str(alloc: Global, s: &str) -> Result<Self, ParseError>
         ensures reads { UnicodeReadsAs s.now result }
         ensures accepted { (u : UnicodeParts) → UnicodeText s.now u
@@ -104,7 +104,7 @@ impl Unicode {
     }
 
     /// The union of the attributes, and the keywords of both, of which the other's value wins at a key
-    /// of both. All growths come first: where memory is refused, neither part has changed.
+    /// of both. All growths come first: if an allocation fails, neither part has changed.
     #[tactic(auto, using(iloc_fronts::proofs::ExtendingLaws::extend_associative))]
     pub fn extend(&mut self, alloc: Global, other: Unicode) -> Result<(), AllocError>
         ensures ok { OnOk result (value_of self.new ≡ extend (value_of self.old) (value_of other)) }

@@ -9,7 +9,7 @@ use Rattle.iloc_fronts.specs.PartValues.{unicode_value}
 use Rattle.iloc_subtags.specs.declared.parse_error.ParseError.{ParseError}
 use Rattle.iloc_subtags.specs.Answers.{Answers, SubtagFault}
 
--- memory is wanted only for a fifth word besides `true`
+-- memory may run out only for a fifth word besides `true`
 abbrev pub ValueWants : List ℕ → Type 0
 ValueWants t = 4 < length (normal_values (passing (is_word Subtag) (pieces t)))
 

@@ -9,7 +9,7 @@ words_of InvalidKeywordValue = codes "The given keyword value is not a valid pre
 words_of OutOfMemory = codes "Out of memory"
 
 -- by cases on the answer: `read` is what the value reads as, if anything, and `stands` tells what a keyword
--- stands for; memory is never wanted
+-- stands for; memory never runs out
 abbrev pub Reads : {X V : Type 0} → (X → V) → Option V → Result X PreferencesParseError → Type 0
 Reads stands read (Ok x) = read ≡ Some (stands x)
 Reads stands read (Err InvalidKeywordValue) = read ≡ None

@@ -1,4 +1,4 @@
-//! Currencies as values of their keyword (`cu`). They stand here, for such conversions can stand only in
+//! Currencies as values of their keyword (`cu`). They stand here, because such conversions can stand only in
 //! the crate of one of the two types.
 ghost use Rattle.std.specs.Prelude.{◌≡◌, option_and_then};
 ghost use Rattle.iloc_grammar.specs.Words.{Subtag};

@@ -1,4 +1,4 @@
-//! Reads values from pieces.
+//! Parses values from pieces.
 ghost use Rattle.std.specs.Prelude.{◌≡◌, ◌≤◌, ℕ, List, [], length, map, Ok, Err, IfOk, OnOk, IsOk};
 ghost use Rattle.iloc_grammar.specs.Pieces.{pieces};
 ghost use Rattle.iloc_grammar.specs.Words.{Attribute, Subtag, is_word, normal};
@@ -18,7 +18,7 @@ use iloc_subtags::{AttributeKind, ParseError, Subtag, SubtagKind, WordKind, Word
 use std::alloc::{AllocError, Global};
 
 impl Value {
-    /// Reads all pieces of the text as subtags, of which `true` is dropped; the empty text is the
+    /// Parses all pieces of the text as subtags, of which `true` is dropped; the empty text is the
     /// empty value. Refuses any other piece by `InvalidSubtag`.
     pub fn try_from_utf8(alloc: Global, code_units: &[u8]) -> Result<Self, ParseError>
         ensures reads { ReadsAs code_units.now result }
@@ -45,7 +45,7 @@ impl Value {
         }
     }
 
-    /// Reads a `str`, as `try_from_utf8` reads bytes.
+    /// Parses a `str`, as `try_from_utf8` parses bytes.
     pub fn try_from_str(alloc: Global, s: &str) -> Result<Self, ParseError>
         ensures reads { ReadsAs s.now result }
         ensures accepted { (v : List (List ℕ)) → unicode_value s.now ≡ Ok v
@@ -57,8 +57,8 @@ impl Value {
     }
 }
 
-/// Reads the longest front of pieces that values are made of: 3 to 8 letters or digits. Up to four
-/// besides `true` take no memory.
+/// Parses the longest front of pieces that values are made of: 3 to 8 letters or digits. Up to four
+/// besides `true` allocate nothing.
 #[tactic(auto, using(iloc_grammar::proofs::WellRead::attribute_is_subtag))]
 pub fn read_value(alloc: Global, iter: &mut SubtagIterator<'_>) -> Result<Value, AllocError>
     ensures value { IfOk result
@@ -70,7 +70,7 @@ pub fn read_value(alloc: Global, iter: &mut SubtagIterator<'_>) -> Result<Value,
     read_words::<AttributeKind>(alloc, iter)
 }
 
-// Reads the longest front of words of a kind, all of which are subtags.
+// Parses the longest front of words of a kind, all of which are subtags.
 fn read_words<K: WordKind<8>>(
     alloc: Global,
     iter: &mut SubtagIterator<'_>,

@@ -101,7 +101,7 @@ impl Value {
         }
     }
 
-    /// Adds a subtag at the end; `true` changes nothing. Up to four subtags take no memory.
+    /// Adds a subtag at the end; `true` changes nothing. Up to four subtags allocate nothing.
     pub fn push_subtag(&mut self, alloc: Global, subtag: Subtag) -> Result<(), AllocError>
         ensures ok { OnOk result (self.new ≡ with_subtag self.old subtag) }
         ensures err { OnErr result (self.new ≡ self.old) }
@@ -126,7 +126,7 @@ impl Value {
         }
     }
 
-    /// The value of these two subtags; `true` is let in. It takes no memory.
+    /// The value of these two subtags; `true` is kept too. It allocates nothing.
     pub fn from_two_subtags(alloc: Global, f: Subtag, s: Subtag) -> Result<Self, AllocError>
         ensures { result ≡ Ok (f ∷ s ∷ []) }
     {
@@ -136,7 +136,7 @@ impl Value {
         Ok(Value { subtags })
     }
 
-    /// The value of these subtags; `true` is let in.
+    /// The value of these subtags; `true` is kept too.
     pub fn from_vec_unchecked(input: Vec<Subtag>) -> Self
         ensures { result ≡ input.items }
     {
@@ -145,7 +145,7 @@ impl Value {
         }
     }
 
-    /// The value of the items; `true` is let in.
+    /// The value of the items; `true` is kept too.
     pub fn from_subtags<I: IntoIterator<Item = Subtag>>(
         alloc: Global,
         iter: I,
@@ -163,7 +163,7 @@ impl Value {
         Ok(value)
     }
 
-    /// Adds the items at the end; `true` is let in. Where memory is refused, nothing changes.
+    /// Adds the items at the end; `true` is kept too. If an allocation fails, nothing changes.
     pub fn extend<I: IntoIterator<Item = Subtag>>(
         &mut self,
         alloc: Global,

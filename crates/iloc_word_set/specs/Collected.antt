@@ -10,7 +10,7 @@ abbrev pub words_of : {K : Type 0} {N : ℕ} → Collected K N → List (List �
 words_of (Four set) = set
 words_of (Many words ascend) = words.items
 
--- a set of four, or more than four different ones, which ascend where that is said
+-- a set of four, or more than four different ones, which ascend if that is said
 abbrev pub IsCollected : {K : Type 0} {N : ℕ} → Collected K N → Type 0
 IsCollected (Four set) = IsAscending set × (length set ≡ 4)
 IsCollected (Many words ascend) = (4 < length (set_of words.items)) × (ascend ≡ true → IsAscending words.items)

@@ -3,7 +3,7 @@
 //!
 //! A list is its words in order, each a normal word of its kind, and a set a list in ascending order, each
 //! word once. Contracts see both as the list of the texts. Up to four words stand in place; beyond them
-//! memory is taken, and what is refused memory is as before. Searches of sets go by halves.
+//! they allocate, and a call that runs out of memory leaves them as before. Searches of sets go by halves.
 //!
 //! It stands on `iloc_grammar` and `iloc_orders` (definitions), `iloc_subtags` (words), `iloc_shortvec` (lists
 //! that keep four words in place) and `iloc_writeable` (printing).

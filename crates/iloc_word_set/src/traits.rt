@@ -18,7 +18,7 @@ impl<K: WordKind<N>, const N: usize> Default for WordSet<K, N> {
     }
 }
 
-/// The same set. It takes memory only where there are more than four words.
+/// The same set. It allocates only if there are more than four words.
 impl<K: WordKind<N>, const N: usize> Clone for WordSet<K, N> {
     ghost is_clone = { λ s t. t ≡ s };
 

@@ -22,8 +22,8 @@ enum Collected<K: WordKind<N>, const N: usize> {
 /// Four words and more that come one by one, in any order, to be a set in the end.
 ///
 /// Contracts see it as the list of the words that it holds, in whatever order. A word is put behind the
-/// others, and they are sorted once, unless they came in ascending order: so n words cost n log n, where
-/// `WordSet::push` moves all words that are above the new one.
+/// others, and they are sorted once, unless they came in ascending order: so n words cost n log n.
+/// `WordSet::push` would move all words that are above each new one.
 #[derive(Drop)]
 pub struct WordCollector<K: WordKind<N>, const N: usize> {
     words: Collected<K, N>,
@@ -41,7 +41,7 @@ impl<K: WordKind<N>, const N: usize> Model for WordCollector<K, N> {
     ghost invariant = { λ c. IsCollected c.words };
 }
 
-// The words of a set and one more, in order; `None` where the set has it.
+// The words of a set and one more, in order; `None` if the set has it.
 fn with_word<K: WordKind<N>, const N: usize>(
     alloc: Global,
     set: &WordSet<K, N>,
@@ -115,8 +115,8 @@ impl<K: WordKind<N>, const N: usize> WordCollector<K, N> {
         }
     }
 
-    /// Takes a word in; false where it is known to be there, and then nothing changes. It is always known
-    /// among four words, and among more as long as they ascend. It takes memory only where there are more
+    /// Takes a word in; false if it is known to be there, and then nothing changes. It is always known
+    /// among four words, and among more as long as they ascend. It allocates only if there are more
     /// than four different words then.
     pub fn push(&mut self, alloc: Global, word: WordOf<K, N>) -> Result<bool, AllocError>
         ensures taken { IfOk result (TakesIn word self.old self.new) }
@@ -147,7 +147,7 @@ impl<K: WordKind<N>, const N: usize> WordCollector<K, N> {
         Ok(true)
     }
 
-    /// The set of the words. It takes no memory.
+    /// The set of the words. It allocates nothing.
     pub fn into_set(self) -> WordSet<K, N>
         ensures { result ≡ set_of self }
     {

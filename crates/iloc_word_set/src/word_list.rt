@@ -71,7 +71,7 @@ impl<K: WordKind<N>, const N: usize> WordList<K, N> {
         self.words.as_slice()
     }
 
-    /// Puts a word at a place. Up to four words take no memory; where memory is refused, nothing changes.
+    /// Puts a word at a place. Up to four words allocate nothing; if an allocation fails, nothing changes.
     pub fn insert(
         &mut self,
         alloc: Global,
@@ -87,7 +87,7 @@ impl<K: WordKind<N>, const N: usize> WordList<K, N> {
         self.words.insert(alloc, index, word)
     }
 
-    /// Adds a word at the end. Up to four words take no memory; where memory is refused, nothing changes.
+    /// Adds a word at the end. Up to four words allocate nothing; if an allocation fails, nothing changes.
     pub fn push(&mut self, alloc: Global, word: WordOf<K, N>) -> Result<(), AllocError>
         ensures ok { OnOk result (self.new ≡ self.old ++ word ∷ []) }
         ensures err { OnErr result (self.new ≡ self.old) }
@@ -106,7 +106,7 @@ impl<K: WordKind<N>, const N: usize> WordList<K, N> {
         self.words.remove(index)
     }
 
-    /// A list of the same words. Up to four take no memory.
+    /// A list of the same words. Up to four allocate nothing.
     pub fn clone(&self) -> Result<Self, AllocError>
         ensures value { IfOk result (λ copy. copy ≡ self.now) }
         ensures succeeds { length self.now ≤ 4 → IsOk result }

@@ -17,7 +17,7 @@ use std::slice::Iter;
 
 /// A set of words of the kind `K`, seen by contracts as the list of their texts, which ascends strictly.
 ///
-/// Sets are equal where they have the same words. They stand in the order of short lists: those of at
+/// Sets are equal if they have the same words. They stand in the order of short lists: those of at
 /// most one word before all larger ones, and word by word within each class.
 #[derive(Drop)]
 #[derive_where(PartialEq, Eq, PartialOrd, Ord, Hash)]
@@ -44,7 +44,7 @@ impl<K: WordKind<N>, const N: usize> Model for WordSet<K, N> {
 /// let mut variants = Variants::new();
 /// variants.push(alloc, Variant::try_from_str("POSIX")?)?; // true
 /// variants.push(alloc, Variant::try_from_str("macos")?)?; // true: macos-posix
-/// variants.push(alloc, Variant::try_from_str("macos")?)?; // false, for it is there
+/// variants.push(alloc, Variant::try_from_str("macos")?)?; // false: it is there
 /// ```
 pub type Variants = WordSet<VariantKind, 8>;
 
@@ -131,7 +131,7 @@ impl<K: WordKind<N>, const N: usize> WordSet<K, N> {
         self.as_slice().first()
     }
 
-    /// Adds a word; true where it is new. It takes memory only where the set holds four words or more
+    /// Adds a word; true if it is new. It allocates only if the set holds four words or more
     /// and the word is new.
     pub fn push(&mut self, alloc: Global, word: WordOf<K, N>) -> Result<bool, AllocError>
         ensures added { IfOk result (λ added. added ≡ not (list_any (is_same word) self.old)) }
@@ -149,7 +149,7 @@ impl<K: WordKind<N>, const N: usize> WordSet<K, N> {
         }
     }
 
-    /// Takes a word out; true where it was there.
+    /// Takes a word out; true if it was there.
     pub fn remove(&mut self, word: &WordOf<K, N>) -> bool
         ensures removed { result ≡ list_any (is_same word.now) self.old }
         ensures left { self.new ≡ filter (λ w. not (is_same word.now w)) self.old }
@@ -163,7 +163,7 @@ impl<K: WordKind<N>, const N: usize> WordSet<K, N> {
         }
     }
 
-    /// Leaves the empty set, and answers the old one.
+    /// Leaves the empty set, and returns the old one.
     pub fn clear(&mut self) -> Self
         ensures old { result ≡ self.old }
         ensures new { self.new ≡ [] }
@@ -171,7 +171,7 @@ impl<K: WordKind<N>, const N: usize> WordSet<K, N> {
         replace(self, WordSet::new())
     }
 
-    /// A set of the same words. It takes memory only where there are more than four.
+    /// A set of the same words. It allocates only if there are more than four.
     pub(crate) fn copied(&self) -> Result<Self, AllocError>
         ensures value { IfOk result (λ s. s ≡ self.now) }
         ensures succeeds { length self.now ≤ 4 → IsOk result }
@@ -193,7 +193,7 @@ impl<K: WordKind<N>, const N: usize> WordSet<K, N> {
         Ok(())
     }
 
-    /// The words of both sets. It takes no memory where the two have four words at most together.
+    /// The words of both sets. It allocates nothing if the two have four words at most together.
     pub fn union(&self, alloc: Global, other: &Self) -> Result<Self, AllocError>
         ensures words { IfOk result (λ s. s ≡ set_of (self.now ++ other.now)) }
         ensures succeeds { length self.now + length other.now ≤ 4 → IsOk result }
@@ -203,8 +203,8 @@ impl<K: WordKind<N>, const N: usize> WordSet<K, N> {
         Ok(all)
     }
 
-    /// Adds the words of the other set. It takes no memory where the two have four words at most together;
-    /// where memory is refused, the set is as before.
+    /// Adds the words of the other set. It allocates nothing if the two have four words at most together;
+    /// if an allocation fails, the set is as before.
     pub fn extend(&mut self, alloc: Global, other: &Self) -> Result<(), AllocError>
         ensures ok { OnOk result (self.new ≡ set_of (self.old ++ other.now)) }
         ensures err { OnErr result (self.new ≡ self.old) }

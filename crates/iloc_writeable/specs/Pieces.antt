@@ -6,7 +6,7 @@ use Rattle.std.specs.List.{flat_map, join_with_byte}
 abbrev pub dashes : List (List ℕ) → List ℕ
 dashes ps = flat_map (λ p. 45 ∷ p) ps
 
--- the pieces with a hyphen between each two, and one before them where they do not stand first
+-- the pieces with a hyphen between each two, and one before them if they do not stand first
 abbrev pub hyphened : Bool → List (List ℕ) → List ℕ
 hyphened true ps = join_with_byte 45 ps
 hyphened false ps = dashes ps

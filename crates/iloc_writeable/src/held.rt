@@ -9,10 +9,10 @@ ghost use Rattle.iloc_writeable.specs.Held.{HoldsText, Adds};
 use crate::sink::Sink;
 use std::alloc::Allocator;
 
-/// To a sink that holds its text exactly the text is added; where that fails, a beginning of the text was
+/// To a sink that holds its text exactly the text is added; if that fails, a beginning of the text was
 /// added, and the sink failed at the rest.
 ///
-/// A `String` and a `Vec` of bytes are such sinks, and fail only where they have no room for all of the text.
+/// A `String` and a `Vec` of bytes are such sinks, and fail only if they have no room for all of the text.
 pub fn held_texts<S: Sink, A: Allocator>()
     ensures added { (held : S → List ℕ) → HoldsText S.took S.failed held
         → (old new : S) (text : List ℕ) (r : Result (Unit {0}) Error)

@@ -34,7 +34,7 @@ pub trait Pieces {
     }
 }
 
-/// Writes one piece, after a hyphen where it doesn't stand first.
+/// Writes one piece, after a hyphen if it doesn't stand first.
 pub fn write_piece<S: Sink>(sink: &mut S, piece: &str, first: bool) -> fmt::Result
     ensures { Writes S.took S.failed sink.old (hyphened first (piece.now ∷ [])) sink.new result }
 {
@@ -93,7 +93,7 @@ impl<P: Pieces> Pieces for &P {
     }
 }
 
-/// The pieces of the part, where there is one.
+/// The pieces of the part, if there is one.
 impl<P: Pieces> Pieces for Option<P> {
     ghost pieces = { λ part. flat_map P.pieces (option_to_list part) };
 

@@ -15,7 +15,7 @@ pub(crate) fn after_hyphen(piece: ShortPiece) -> [u8; 9]
     all
 }
 
-// The piece of these bytes, after the hyphen where it doesn't stand first.
+// The piece of these bytes, after the hyphen if it doesn't stand first.
 #[inline(always)]
 pub(crate) fn hyphened_text(all: &[u8; 9], piece: ShortPiece, first: bool) -> &str
     requires ascii { All (λ b. b < 128) piece }
@@ -29,7 +29,7 @@ pub(crate) fn hyphened_text(all: &[u8; 9], piece: ShortPiece, first: bool) -> &s
     unsafe { str::from_utf8_unchecked(&all[..end]) }
 }
 
-// Appends the first of these bytes, where there is room for all of them.
+// Appends the first of these bytes, if there is room for all of them.
 #[inline(always)]
 pub(crate) fn append_front<const M: usize>(bytes: &mut Vec<u8>, all: &[u8; M], count: usize)
     requires room { vec_len bytes.old + M ≤ vec_capacity bytes.old }

@@ -1,16 +1,16 @@
 //! Rows of JSON texts, of carried raw forms, and of the words of refusals: a line `CALL TAB argument TAB argument`
 //! in, a line out.
 //!
-//! - `to KIND TEXT`: the compact text of the JSON string of what the text is read as, and whether it is read back the
+//! - `to KIND TEXT`: the compact text of the JSON string of what the text is parsed as, and whether it is parsed back the
 //!   same.
-//! - `from KIND DOCUMENT`: what is read of the one value of the document.
-//! - `each KIND DOCUMENT`: what is read of each item of the document, an array; and then the document, as it is
-//!   written with the JSON string of what was read in the place of each.
-//! - `io KIND TEXT`: what two writers hold of what the text is read as, one lent and the own one of a sink.
+//! - `from KIND DOCUMENT`: what is parsed from the one value of the document.
+//! - `each KIND DOCUMENT`: what is parsed from each item of the document, an array; and then the document, as it is
+//!   written with the JSON string of what was parsed in the place of each.
+//! - `io KIND TEXT`: what two writers hold of what the text is parsed as, one lent and the own one of a sink.
 //! - `carry BYTES`: the row of new raw forms.
 //! - `error TYPE CASE`: what the refusal prints, and its words.
 //!
-//! In `BYTES` and `TEXT`, `\xFF` stands for the byte. A refusal is `! ` and its words. Where memory is refused, the
+//! In `BYTES` and `TEXT`, `\xFF` stands for the byte. A refusal is `! ` and its words. If an allocation fails, the
 //! whole row is `! Out of memory`.
 #![tactic(auto)]
 

@@ -46,7 +46,7 @@ fn refuse(out: &mut String, error: &JsonError) -> bool {
     *error != JsonError::OutOfMemory
 }
 
-/// The text of the value's JSON string, and whether it is read back as the value.
+/// The text of the value's JSON string, and whether it is parsed back as the value.
 fn written<T: JsonText + PartialEq + Drop>(alloc: Global, value: &T, out: &mut String) -> bool {
     match value.to_json(alloc) {
         Ok(json) => compact(alloc, &json, out) && read_back(alloc, value, &json, out),
@@ -65,7 +65,7 @@ fn compact(alloc: Global, json: &Value, out: &mut String) -> bool {
     }
 }
 
-/// Whether the JSON value is read as the value.
+/// Whether the JSON value is parsed as the value.
 fn read_back<T: JsonText + PartialEq + Drop>(
     alloc: Global,
     value: &T,
@@ -82,7 +82,7 @@ fn read_back<T: JsonText + PartialEq + Drop>(
     }
 }
 
-/// What is read of a document.
+/// What is parsed from a document.
 fn of_document<T: JsonText + Drop>(
     alloc: Global,
     call: &str,
@@ -101,7 +101,7 @@ fn of_document<T: JsonText + Drop>(
     }
 }
 
-/// What is read of each item, and the document with each as it is written.
+/// What is parsed from each item, and the document with each as it is written.
 fn each<T: JsonText + Drop>(alloc: Global, document: &mut Value, out: &mut String) -> bool {
     let mut has_memory = true;
     if let Some(items) = document.as_array_mut() {
@@ -113,7 +113,7 @@ fn each<T: JsonText + Drop>(alloc: Global, document: &mut Value, out: &mut Strin
     has_memory && compact(alloc, document, out)
 }
 
-/// What is read of the item, whose place its JSON string takes.
+/// What is parsed from the item, whose place its JSON string takes.
 fn renewed<T: JsonText + Drop>(alloc: Global, item: &mut Value, out: &mut String) -> bool {
     match T::from_json(alloc, item) {
         Ok(value) => {

@@ -211,7 +211,7 @@ fn tell<L: List>(list: &L, out: &mut String) {
     let _ = write!(out, " {list:?}");
 }
 
-/// Says the only letter that a list gives by value, and all that another gives; false where one of the two is not there.
+/// Says the only letter that a list gives by value, and all that another gives; false if one of the two is not there.
 fn give<L: List>(
     one: Result<L, AllocError>,
     other: Result<L, AllocError>,

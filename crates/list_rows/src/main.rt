@@ -2,7 +2,7 @@
 //! public call of short lists, maps, sets of words, and printing.
 //!
 //! Calls that change a value come as steps with blanks between: `steps-KIND`; their row is the value before, the answer
-//! of the first step, the value after it, and so on, joined by ` | `. A step that is refused memory ends its row: `! Out of memory`, and the value as it is then.
+//! of the first step, the value after it, and so on, joined by ` | `. A step that runs out of memory ends its row: `! Out of memory`, and the value as it is then.
 //! `two-KIND` compares two values, `sizes-KIND` builds one of many numbers, and `print-..` prints a text or a set.
 //!
 //! All that the program itself needs is asked for before the first row, so that every later request is one that a row

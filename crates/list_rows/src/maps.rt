@@ -120,7 +120,7 @@ fn compared<S: Store<u16, u16>>(
     }
 }
 
-/// The answer to a step that takes no memory.
+/// The answer to a step that allocates nothing.
 fn shrink<S: Store<u16, u16>>(
     map: &mut LiteMap<u16, u16, S>,
     step: &Step<'_>,
@@ -164,7 +164,7 @@ fn set<S: Store<u16, u16>>(
     }
 }
 
-/// The answer to a step that adds a key where it is new.
+/// The answer to a step that adds a key if it is new.
 fn add<S: Store<u16, u16>>(
     alloc: Global,
     map: &mut LiteMap<u16, u16, S>,

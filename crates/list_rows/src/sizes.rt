@@ -195,7 +195,7 @@ fn fill_set<V: Stepping>(
     }
 }
 
-/// Says how many there are, the first and the last, or that memory was refused.
+/// Says how many there are, the first and the last, or that an allocation failed.
 fn say_ends<V: Stepping>(value: &V, is_done: bool, out: &mut String) {
     if is_done {
         value.ends(out);

@@ -34,7 +34,7 @@ pub trait Stepping {
     /// Says how many parts the value has, and they.
     fn state(&self, out: &mut String);
 
-    /// Takes a step and says its answer; false where memory was refused, and then it says nothing.
+    /// Takes a step and says its answer; false if an allocation failed, and then it says nothing.
     fn step(&mut self, alloc: Global, step: &Step<'_>, out: &mut String) -> bool;
 
     /// Says how many parts the value has, the first and the last, where letters stand for numbers.
@@ -89,7 +89,7 @@ pub fn take<V: Stepping + Drop>(
     }
 }
 
-/// Says that there was memory, where there was; what was made ends here.
+/// Says that there was memory, if there was; what was made ends here.
 pub fn is_done<T: Drop>(made: Result<T, AllocError>, out: &mut String) -> bool {
     match made {
         Ok(_) => answered("ok", out),
@@ -97,13 +97,13 @@ pub fn is_done<T: Drop>(made: Result<T, AllocError>, out: &mut String) -> bool {
     }
 }
 
-/// Says the answer of a step that takes no memory.
+/// Says the answer of a step that allocates nothing.
 pub fn answered(answer: &str, out: &mut String) -> bool {
     say(out, answer);
     true
 }
 
-/// Puts the value where another was, which ends here; or leaves that where memory was refused.
+/// Puts the value where another was, which ends here; or leaves that if an allocation failed.
 pub fn replaced<T: Drop>(place: &mut T, value: Result<T, AllocError>, out: &mut String) -> bool {
     match value {
         Ok(value) => {

@@ -63,7 +63,7 @@ impl MadeOf<LanguageIdentifier> for DataLocale {
     }
 }
 
-// Says what is asked of what is made of what was read.
+// Says what is asked of what is made of what was parsed.
 fn made_of<O, W: MadeOf<O>>(call: &Call<'_>, read: Result<O, ParseError>, out: &mut String) {
     match read {
         Ok(value) => made::<Rows, W>(call, Ok(W::made_of(call.alloc, value)), out),

@@ -97,7 +97,7 @@ impl Compared for DataLocale {
     }
 }
 
-/// Says the order of the value and of what was read, whether they are equal, and where they are whether their hashes
+/// Says the order of the value and of what was parsed, whether they are equal, and if they are whether their hashes
 /// are; a blank stands after it.
 pub fn says_same<W: Compared>(one: &W, other: Result<W, ParseError>, out: &mut String) {
     match other {

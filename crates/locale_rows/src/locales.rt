@@ -13,7 +13,7 @@ use std::alloc::Global;
 use std::cmp::Ordering;
 use std::str;
 
-// Says whether the text means the locale, or that memory was refused.
+// Says whether the text means the locale, or that an allocation failed.
 fn means(alloc: Global, locale: &Locale, text: &[u8], out: &mut String) {
     let Ok(text) = str::from_utf8(text) else {
         return say(out, "no text");
@@ -84,7 +84,7 @@ impl Answering<Rows> for Locale {
     }
 }
 
-/// Extensions are read of a locale.
+/// Extensions are parsed from a locale.
 impl Answering<Rows> for Extensions {
     fn read(alloc: Global, text: &[u8]) -> Result<Self, ParseError> {
         match Locale::try_from_utf8(alloc, text) {
@@ -106,7 +106,7 @@ impl Answering<Rows> for Extensions {
     }
 }
 
-// The key of a sorted map that is read of the text.
+// The key of a sorted map that is parsed from the text.
 fn key(alloc: Global, text: &[u8]) -> Result<OrderedLocale, ParseError> {
     match Locale::try_from_utf8(alloc, text) {
         Ok(locale) => Ok(OrderedLocale { locale }),

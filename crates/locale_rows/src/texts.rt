@@ -1,4 +1,4 @@
-//! Calls of a text: readers without memory, normal texts, and the readers that take a `str`.
+//! Calls of a text: parsers that allocate nothing, normal texts, and the parsers that take a `str`.
 use iloc_data::DataLocale;
 use iloc_keyword_types::SubdivisionId;
 use iloc_langid::LanguageIdentifier;
@@ -37,7 +37,7 @@ fn front(
     say(out, "|");
 }
 
-// Says the parts of what was read without memory.
+// Says the parts of what was parsed without allocating.
 fn small(out: &mut String, read: Result<SmallLocaleParts, ParseError>) {
     match read {
         Ok((language, script, region, variant, keyword)) => {
@@ -54,7 +54,7 @@ fn small(out: &mut String, read: Result<SmallLocaleParts, ParseError>) {
     }
 }
 
-// Says the parts of an identifier that was read without memory.
+// Says the parts of an identifier that was parsed without allocating.
 fn single(out: &mut String, text: &[u8]) {
     match LanguageIdentifier::try_from_utf8_with_single_variant(text) {
         Ok((language, script, region, variant)) => {
@@ -64,7 +64,7 @@ fn single(out: &mut String, text: &[u8]) {
     }
 }
 
-// The readers of a `str`.
+// The parsers of a `str`.
 fn of_str(alloc: Global, what: &str, text: &str, out: &mut String) {
     match what {
         "langid" => printed(out, LanguageIdentifier::try_from_str(alloc, text)),

@@ -1,7 +1,7 @@
 //! Messages keyed by locales, and looked up by texts.
 //!
 //! A line `LOCALE TAB MESSAGE` of the input gives a locale its message; of equal locales the first one wins. A line
-//! `LOCALE` is answered by the message, by `-` where there is none, or by why it is no locale (UTS #35, section 3).
+//! `LOCALE` is answered by the message, by `-` if there is none, or by why it is no locale (UTS #35, section 3).
 //! A text that is normal is found by its bytes alone, and no locale is made of it.
 #![tactic(auto)]
 
@@ -13,7 +13,7 @@ use icu_locale_core::{Locale, ParseError};
 use std::alloc::Global;
 use std::io;
 
-/// Whether the locale prints this text. It takes no memory.
+/// Whether the locale prints this text. It allocates nothing.
 fn prints(locale: &Locale, text: &[u8]) -> bool
     ensures { IsTrue result ↔ (text_of (value_of locale.now) ≡ text.now) }
 {

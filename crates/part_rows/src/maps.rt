@@ -35,7 +35,7 @@ fn keywords_get(keywords: &Keywords, key: &[u8], out: &mut String) {
     }
 }
 
-// Adds the subtag to the value of the key, where it is there.
+// Adds the subtag to the value of the key, if it is there.
 fn pushes_at(alloc: Global, keywords: &mut Keywords, key: &[u8], text: &[u8]) -> bool {
     match UnicodeKey::try_from_utf8(key) {
         Ok(key) => match keywords.get_mut(&key) {
@@ -192,7 +192,7 @@ impl Setting<Rows, TransformKey, FieldValue> for Fields {
     }
 }
 
-/// Fields are read of a transform.
+/// Fields are parsed from a transform.
 impl Answering<Rows> for Fields {
     fn read(alloc: Global, text: &[u8]) -> Result<Self, ParseError> {
         match Transform::try_from_utf8(alloc, text) {

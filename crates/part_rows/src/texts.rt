@@ -1,4 +1,4 @@
-//! Calls of a text: its pieces, and the readers that take a `str`.
+//! Calls of a text: its pieces, and the parsers that take a `str`.
 use iloc_other::{Other, Private};
 use iloc_parser::{SubtagIterator, take_word};
 use iloc_subtags::RegionKind;
@@ -39,7 +39,7 @@ fn looks(out: &mut String, text: &[u8]) {
     piece(out, iter.peek())
 }
 
-// Takes two regions in turn, where they fit, and says them and what is next.
+// Takes two regions in turn, if they fit, and says them and what is next.
 fn takes(out: &mut String, text: &[u8]) {
     let mut iter = SubtagIterator::new(text);
     put_some(out, &take_word::<RegionKind, 3>(&mut iter));
@@ -49,7 +49,7 @@ fn takes(out: &mut String, text: &[u8]) {
     piece(out, iter.peek())
 }
 
-// The readers of a `str`.
+// The parsers of a `str`.
 fn of_str(alloc: Global, what: &str, text: &str, out: &mut String) {
     match what {
         "attributes" => printed(out, Attributes::try_from_str(alloc, text)),

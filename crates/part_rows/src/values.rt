@@ -108,7 +108,7 @@ fn is_text(value: &Value, text: &[u8]) -> bool {
     }
 }
 
-/// Adds the subtag of the text; false where something was refused.
+/// Adds the subtag of the text; false if something was refused.
 pub fn pushes(alloc: Global, value: &mut Value, text: &[u8]) -> bool {
     match Subtag::try_from_utf8(text) {
         Ok(subtag) => is_done(value.push_subtag(alloc, subtag)),

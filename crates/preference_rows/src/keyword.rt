@@ -78,7 +78,7 @@ pub fn told<T: Shown + Drop>(
     }
 }
 
-// Says what one call answers of the keyword; of no call its text, its value, and what is read under the other key.
+// Says what one call answers of the keyword; of no call its text, its value, and what is parsed under the other key.
 fn answer<T: Shown + Drop>(keyword: &T, asked: &Asked<'_>, out: &mut String) {
     match asked.call {
         "read" => keyword.show(out),
@@ -94,7 +94,7 @@ fn answer<T: Shown + Drop>(keyword: &T, asked: &Asked<'_>, out: &mut String) {
     }
 }
 
-// Says why one call was refused: for want of memory in two words, as every call that reads does.
+// Says why one call was refused: out of memory in the words that every parser has.
 fn refuse_call(asked: &Asked<'_>, error: &PreferencesParseError, out: &mut String) {
     if !asked.call.is_empty() && matches!(error, PreferencesParseError::OutOfMemory) {
         refused(out)
@@ -112,7 +112,7 @@ fn turned<T: Shown>(keyword: &T, alloc: Global, out: &mut String) {
     }
 }
 
-// Says what is read of the value under the other key.
+// Says what is parsed from the value under the other key.
 fn keyed<T: Shown + Drop>(asked: &Asked<'_>, out: &mut String) {
     match T::try_from_key_value(asked.alloc, &asked.key, asked.value) {
         Ok(Some(keyword)) => keyword.show(out),

@@ -1,10 +1,10 @@
 //! Rows of the types of keywords: `keyword-KEY TAB value TAB other key` in, a line out.
 //!
-//! The value is read as the keyword. The line is its text, the value that it is turned into, and what is read of the
+//! The value is parsed as the keyword. The line is its text, the value that it is turned into, and what is parsed from the
 //! value under the other key (of no third argument, the keyword's own), joined by `|`. `keyword-read-KEY`,
 //! `keyword-value-KEY` and `keyword-keyed-KEY` say one of the three. A refusal is `! `, its words, and what it prints.
 //! `keyword-default TAB KEY` answers the text of the default, `keyword-key TAB KEY` the key that the function of its
-//! name makes, `keyword-memory` the refusal for want of memory.
+//! name makes, `keyword-memory` the refusal `OutOfMemory`.
 use crate::keyword::{Asked, default_of, refuse_keyword, told};
 use crate::variants;
 use iloc_enum_keywords::{

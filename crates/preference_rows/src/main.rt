@@ -1,15 +1,15 @@
 //! Rows of keywords and preferences: `CALL TAB argument TAB argument TAB argument` in, a line out.
 //!
 //! Calls that begin with `keyword-` are of the types of keywords, and stand in `keywords`; all others are of preferences.
-//! An argument is read as a locale, in `langid-..` as an identifier. Preferences of a locale answer by their data
+//! An argument is parsed as a locale, in `langid-..` as an identifier. Preferences of a locale answer by their data
 //! locales, language first and region first, and the locale that they become, joined by `|`, and before them `Ok` or
-//! `Err` where they are read strictly. Those of a formatter answer by their data locale, `nu`, `hc` and `ca`; those of
+//! `Err` if they are read strictly. Those of a formatter answer by their data locale, `nu`, `hc` and `ca`; those of
 //! a time formatter by the first three. A refusal is `! ` and its words.
 //!
 //! `stdin` and `stdout` are the rows with their answers: those of keywords, made of their table, worked examples of
-//! preferences, then vectors, of which vectors/README.md says where they came from. `grow.in` has rows that may want
-//! memory, `still.in` those that take none. All that the program needs for itself is asked for before the first row,
-//! so that every later request is one of the library's. Only generic functions own what was read, so that letting it
+//! preferences, then vectors, of which vectors/README.md says where they came from. `grow.in` has rows that may allocate,
+//! `still.in` those that allocate nothing. All that the program needs for itself is asked for before the first row,
+//! so that every later request is one of the library's. Only generic functions own what was parsed, so that dropping it
 //! go is proved but once.
 #![tactic(auto)]
 
@@ -33,7 +33,7 @@ use told::{extended, handed_over, told};
 #[derive(Drop)]
 struct Rows;
 
-// What is told of the first argument, extended by the second and the third; that is `und` where it is not there.
+// What is told of the first argument, extended by the second and the third; that is `und` if it is not there.
 fn merged(call: &Call<'_>, out: &mut String) {
     let alloc = call.alloc;
     let third = if call.third.is_empty() {

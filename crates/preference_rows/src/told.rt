@@ -13,7 +13,7 @@ pub trait Answering: Sized {
     fn tell_extended(&self, alloc: Global, by: &Self, then: &Self, call: &str, out: &mut String);
 }
 
-/// Tells of what was read, or why it was refused.
+/// Tells of what was parsed, or why it was refused.
 pub fn told<W: Answering + Drop>(
     alloc: Global,
     read: Result<W, ParseError>,
@@ -43,7 +43,7 @@ pub fn extended<W: Answering + Drop>(
     }
 }
 
-/// Says what was made, or that memory was refused.
+/// Says what was made, or that an allocation failed.
 pub fn made<W: Writeable + Drop>(out: &mut String, value: Result<W, AllocError>) {
     match value {
         Ok(value) => put(out, &value),

@@ -16,7 +16,7 @@ use iloc_unicode_value::Value;
 use row_page::{Call, refuse, say, truth};
 use std::alloc::Global;
 
-// Says whether what was read is that very keyword.
+// Says whether what was parsed is that very keyword.
 fn is<T: PartialEq + Drop>(read: Result<T, PreferencesParseError>, wanted: T, out: &mut String) {
     match read {
         Ok(keyword) => truth(out, keyword == wanted),
@@ -150,7 +150,7 @@ fn named(alloc: Global, word: &str, value: &Value, out: &mut String) {
     }
 }
 
-// Says the text of what was read.
+// Says the text of what was parsed.
 fn shown<T: Shown + Drop>(read: Result<T, PreferencesParseError>, out: &mut String) {
     match read {
         Ok(keyword) => keyword.show(out),

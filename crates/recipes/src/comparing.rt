@@ -3,7 +3,7 @@ use icu_locale_core::{Locale, ParseError};
 use std::alloc::Global;
 use std::fmt::Write;
 
-/// Whether the locale prints the text, which takes no memory; and whether the text means the locale.
+/// Whether the locale prints the text, which allocates nothing; and whether the text means the locale.
 pub fn compare(
     alloc: Global,
     locale: &Locale,

@@ -1,4 +1,4 @@
-//! Reads and changes keywords of the unicode extension.
+//! Parses and changes keywords of the unicode extension.
 use icu_locale_core::extensions::unicode::{Key, Value, key};
 use icu_locale_core::preferences::extensions::unicode::keywords::CalendarAlgorithm;
 use icu_locale_core::{Locale, ParseError};

@@ -5,7 +5,7 @@
 //! - `compare LOCALE TEXT`: whether the locale prints the text, and whether the text means it.
 //! - `keyword LOCALE KEY VALUE`: the locale with this value of the keyword, and the value before.
 //! - `calendar LOCALE`: the calendar that the locale asks for, and the locale with the Buddhist one.
-//! - `json LOCALE`: the JSON string of the locale, and what is read of it.
+//! - `json LOCALE`: the JSON string of the locale, and what is parsed from it.
 //! - `normalize LOCALE`: what the program `locale_normal` answers.
 #![tactic(auto)]
 

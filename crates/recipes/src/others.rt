@@ -5,7 +5,7 @@ use icu_locale_core::{Locale, ParseError};
 use std::alloc::Global;
 use std::fmt::Write;
 
-/// The JSON string of the locale, and whether it is read back as it.
+/// The JSON string of the locale, and whether it parses back to it.
 pub fn json(alloc: Global, locale: &Locale, out: &mut String) -> Result<(), ParseError> {
     match round_trip(alloc, locale, out) {
         Ok(()) => Ok(()),

@@ -3,7 +3,7 @@
 //! Here stand how rows are read and their page is made (`rows`, `argument`), what is asked of any type that is read
 //! (`told`, `steps`), and what is said. In an argument `\xFF` stands for the byte, and braces for what repeats; all
 //! else is as it looks. Nothing that says something fails: the page has its room before the first row, and what finds
-//! none is left out, so that the row is wrong. Only generic functions own what was read, so that letting it go is
+//! none is left out, so that the row is wrong. Only generic functions own what was parsed, so that dropping it is
 //! proved but once. It stands on the words' refusals and on printing.
 #![tactic(auto)]
 
@@ -36,7 +36,7 @@ pub fn refuse(out: &mut String, error: ParseError) {
     say(out, error.words());
 }
 
-/// Says that memory was refused.
+/// Says that an allocation failed.
 pub fn refused(out: &mut String) {
     refuse(out, ParseError::OutOfMemory)
 }
@@ -61,7 +61,7 @@ pub fn put_or_none<W: Writeable>(out: &mut String, value: Option<&W>) {
     }
 }
 
-/// Says the text of what was read, or why it was refused.
+/// Says the text of what was parsed, or why it was refused.
 pub fn printed<W: Writeable + Drop>(out: &mut String, read: Result<W, ParseError>) {
     match read {
         Ok(value) => put(out, &value),

@@ -1,4 +1,4 @@
-//! The rows of a program: each is read, answered, and put on a page.
+//! The rows of a program: each is parsed, answered, and put on a page.
 use crate::told::Ask;
 use crate::{argument, number, say, unescape};
 use std::alloc::{AllocError, Global};

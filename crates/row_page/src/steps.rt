@@ -17,7 +17,7 @@ pub struct Step<'a> {
 
 /// What takes in another value, in rows of the program `P`.
 pub trait Growing<P, O> {
-    /// Takes it in; false where memory was refused.
+    /// Takes it in; false if an allocation failed.
     fn grow(&mut self, alloc: Global, other: O) -> bool;
 }
 
@@ -27,7 +27,7 @@ pub trait Setting<P, K, V> {
     fn set_at(&mut self, alloc: Global, key: K, value: V) -> Result<Option<V>, AllocError>;
 }
 
-/// Takes in what was read; false where it was refused.
+/// Takes in what was parsed; false if it was refused.
 pub fn takes_in<P, W: Growing<P, O>, O: Drop>(
     alloc: Global,
     one: &mut W,
@@ -39,7 +39,7 @@ pub fn takes_in<P, W: Growing<P, O>, O: Drop>(
     }
 }
 
-/// Sets what was read and says the old value; false where something was refused.
+/// Sets what was parsed and says the old value; false if something was refused.
 pub fn sets<P, W: Setting<P, K, V>, K: Copy, V: Writeable + Drop>(
     alloc: Global,
     one: &mut W,
@@ -58,7 +58,7 @@ pub fn is_done<T: Drop>(step: Result<T, AllocError>) -> bool {
     step.is_ok()
 }
 
-/// Says the old value, which ends here, or `none`; false where memory was refused.
+/// Says the old value, which ends here, or `none`; false if an allocation failed.
 pub fn says_old<W: Writeable + Drop>(out: &mut String, old: Result<Option<W>, AllocError>) -> bool {
     match old {
         Ok(old) => {
@@ -73,7 +73,7 @@ pub fn says_old<W: Writeable + Drop>(out: &mut String, old: Result<Option<W>, Al
     }
 }
 
-/// Puts what was read where another value was, which ends here.
+/// Puts what was parsed where another value was, which ends here.
 pub fn replaces<T: Drop>(place: &mut T, value: Result<T, ParseError>) -> bool {
     match value {
         Ok(value) => {
@@ -84,7 +84,7 @@ pub fn replaces<T: Drop>(place: &mut T, value: Result<T, ParseError>) -> bool {
     }
 }
 
-/// Puts what was read in a place for one value.
+/// Puts what was parsed in a place for one value.
 pub fn fills<T: Drop>(place: &mut Option<T>, value: Result<T, ParseError>) -> bool {
     match value {
         Ok(value) => {
@@ -149,7 +149,7 @@ fn takes<P, W: Answering<P>>(alloc: Global, value: &mut W, script: &[u8], out: &
     }
 }
 
-/// Takes the steps on what was read.
+/// Takes the steps on what was parsed.
 pub fn stepped<P, W: Answering<P>>(
     alloc: Global,
     read: Result<W, ParseError>,

@@ -1,4 +1,4 @@
-//! What is asked of a type: how its values are read, what they tell, how two compare, and how steps change one. What
+//! What is asked of a type: how its values are parsed, what they tell, how two compare, and how steps change one. What
 //! each type answers by the same calls stands here once, for any type.
 use crate::rows::Call;
 use crate::steps::{Step, stepped};
@@ -13,7 +13,7 @@ use std::{fmt, str};
 
 /// A type of which the rows of the program `P` tell.
 pub trait Answering<P>: Clone + PartialEq + Hash + Writeable + fmt::Display + Drop + Sized {
-    /// Reads the text.
+    /// Parses the text.
     fn read(alloc: Global, text: &[u8]) -> Result<Self, ParseError>;
 
     /// The order of the two.
@@ -22,7 +22,7 @@ pub trait Answering<P>: Clone + PartialEq + Hash + Writeable + fmt::Display + Dr
     /// Says what the type's own call answers, for the text.
     fn tell(&self, alloc: Global, call: &str, text: &[u8], out: &mut String);
 
-    /// Takes the step and says its answer, with a blank after it; false where memory was refused.
+    /// Takes the step and says its answer, with a blank after it; false if an allocation failed.
     fn step(&mut self, step: &Step<'_>, out: &mut String) -> bool {
         say(out, "no step ");
         true
@@ -103,12 +103,12 @@ fn asked<P, W: Answering<P>>(alloc: Global, value: &W, call: &str, text: &[u8], 
     }
 }
 
-// Whether the call may want memory.
+// Whether the call may allocate.
 fn may_want(call: &str) -> bool {
     matches!(call, "string" | "borrow" | "copy" | "means")
 }
 
-// Says the text of the value, or what is told of it. Where that may want memory, its text stands on both sides.
+// Says the text of the value, or what is told of it. If that may allocate, its text stands on both sides.
 fn told_of<P, W: Answering<P>>(
     alloc: Global,
     value: &W,
@@ -129,7 +129,7 @@ fn told_of<P, W: Answering<P>>(
     }
 }
 
-/// Tells of what was read, or why it was refused.
+/// Tells of what was parsed, or why it was refused.
 pub fn told<P, W: Answering<P>>(
     alloc: Global,
     read: Result<W, ParseError>,
@@ -149,7 +149,7 @@ pub fn made<P, W: Answering<P>>(call: &Call<'_>, made: Result<W, ParseError>, ou
     told::<P, W>(call.alloc, made, asked, b"", out)
 }
 
-// Says how the two compare: their order, whether they are equal, and where they are whether their hashes are.
+// Says how the two compare: their order, whether they are equal, and if they are whether their hashes are.
 fn compared<P, W: Answering<P>>(one: &W, other: &W, out: &mut String) {
     let are_equal = *one == *other;
     order(out, one.compare(other));
@@ -161,7 +161,7 @@ fn compared<P, W: Answering<P>>(one: &W, other: &W, out: &mut String) {
     }
 }
 
-/// Says how the value compares with what was read.
+/// Says how the value compares with what was parsed.
 pub fn beside<P, W: Answering<P>>(one: &W, other: Result<W, ParseError>, out: &mut String) {
     match other {
         Ok(other) => compared::<P, W>(one, &other, out),

@@ -1,7 +1,7 @@
 //! Rows for short texts and words: a line `CALL TAB argument TAB argument` in, a line out. It makes every public call of
 //! short texts, of words of each kind, and of refusals.
 //!
-//! In an argument `\xFF` stands for the byte; all else is what it looks like. A call that reads answers what it read, or
+//! In an argument `\xFF` stands for the byte; all else is what it looks like. A call that reads answers what it parsed, or
 //! `! ` and the words of the refusal. `tiny-N`, `text-N` and `tinyraw-N` read a short text of a size, `CALL-KIND` makes a
 //! call of a word of the kind, `two-tiny` compares two short texts, and a call of one word stands in `single`.
 //!

@@ -1,11 +1,11 @@
-//! Short texts: `tiny-N` reads bytes, `text-N` a text, `tinyraw-N` a raw form, each in a size of `N` bytes.
+//! Short texts: `tiny-N` parses bytes, `text-N` a text, `tinyraw-N` a raw form, each in a size of `N` bytes.
 ghost use Rattle.std.specs.Prelude.{◌≤◌};
 
 use iloc_tinystr::TinyAsciiStr;
 use row_page::{bytes, field, number, ordered, say};
 use std::str;
 
-/// Says the word where the text is of the class.
+/// Says the word if the text is of the class.
 fn class(is_of: bool, word: &str, out: &mut String) {
     if is_of {
         field(out, word);
@@ -90,7 +90,7 @@ fn read<const N: usize>(call: &str, given: &[u8], out: &mut String)
     }
 }
 
-/// The answer to a reader of short texts.
+/// The answer to a parser of short texts.
 pub fn answer(call: &str, size: &str, a: &[u8], out: &mut String) {
     match size {
         "0" => read::<0>(call, a, out),

@@ -11,7 +11,7 @@ use iloc_writeable::pieces::Pieces;
 use row_page::{bytes, field, number, order, ordered, printed, refuse, say, truth};
 use std::str;
 
-/// The text and the raw form of what the text is read as.
+/// The text and the raw form of what the text is parsed as.
 fn word<K: WordKind<N>, const N: usize>(text: &[u8], out: &mut String) {
     match WordOf::<K, N>::try_from_utf8(text) {
         Ok(word) => {
@@ -23,7 +23,7 @@ fn word<K: WordKind<N>, const N: usize>(text: &[u8], out: &mut String) {
     }
 }
 
-/// The text of what the raw form is read as.
+/// The text of what the raw form is parsed as.
 fn raw<K: WordKind<N>, const N: usize>(given: &[u8], out: &mut String) {
     printed(out, WordOf::<K, N>::try_from_raw(padded(given)));
 }
@@ -48,7 +48,7 @@ fn tell<K: WordKind<N>, const N: usize>(word: WordOf<K, N>, out: &mut String) {
     field(out, TinyAsciiStr::from(word).as_str());
 }
 
-/// Says what a text reads as, by each reader of texts.
+/// Says what a text parses as, by each parser of texts.
 fn calls<K: WordKind<N>, const N: usize>(text: &str, out: &mut String) {
     printed(out, text.parse::<WordOf<K, N>>());
     match WordOf::<K, N>::try_from_str(text) {

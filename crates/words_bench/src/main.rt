@@ -184,7 +184,7 @@ fn checksum(alloc: Global, call: &str, rounds: u32) -> Option<usize> {
     }
 }
 
-/// The argument at a place, where it is a text of at most 16 bytes.
+/// The argument at a place, if it is a text of at most 16 bytes.
 fn argument<'a>(rt: &impl Env, place: usize, buffer: &'a mut [u8; 16]) -> Option<&'a str> {
     let length = rt.arg(place, buffer).ok()?;
     str::from_utf8(&buffer[..length]).ok()
