@@ -1,5 +1,5 @@
 -- What carrying a row of old raw forms over answers. An old raw form is that of the table of languages of two or three
--- letters; the new one is that of the wider table (UTS #35 section 3.2, `unicode_language_subtag`).
+-- letters; the new one is that of the wider table (UTS #35 section 3.1, `unicode_language_subtag`).
 use Rattle.std.specs.Prelude.{◌≡◌, ◌≢◌, ℕ, ◌%◌, List, [], ◌∷◌, ◌++◌, length, ◌+◌, ◌≤◌}
 use Rattle.std.specs.List.{flat_map, AllByRecursion}
 use Rattle.iloc_grammar.specs.Words.{Language, languages, two_or_three, narrow_raw, wide_raw}

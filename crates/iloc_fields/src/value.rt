@@ -79,7 +79,7 @@ impl Value {
     /// Parses all pieces, each of 3 to 8 letters or digits, and drops each `true`.
     ///
     /// Anything else is refused with `InvalidExtension`, the empty text too. `OutOfMemory` comes only
-    /// if more than four subtags are to be kept. These are the `tvalue`s of UTS #35, section 3.1.
+    /// if more than four subtags are to be kept. These are the `tvalue`s of UTS #35, section 3.2.
     pub fn try_from_utf8(alloc: Global, code_units: &[u8]) -> Result<Self, ParseError>
         ensures reads { ValueReads code_units.now result }
         ensures accepted { (v : List (List ℕ)) → transform_value code_units.now ≡ Ok v

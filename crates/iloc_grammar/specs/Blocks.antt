@@ -4,17 +4,17 @@ use Rattle.std.specs.Prelude.{Bool, cond, ◌==◌, List, [], ◌∷◌, length}
 use Rattle.std.specs.Char.{to_ascii_lowercase}
 use Rattle.iloc_grammar.specs.Shapes.{Text, Block}
 
--- whether the piece may begin a block: a singleton (UTS #35 3, `unicode_locale_id`)
+-- whether the piece may begin a block: a singleton (UTS #35 3.2, `extensions`)
 abbrev pub is_one_byte : Text → Bool
 is_one_byte p = length p == 1
 
--- the pieces before the first of one byte
+-- the pieces before the first of one byte: a block ends there (UTS #35 3.2)
 abbrev pub front : List Text → List Text
 front [] = []
 front (p ∷ ps) = cond (is_one_byte p) [] (p ∷ front ps)
 
 -- A block is a piece of one byte, its singleton, and the pieces up to the next such piece; that of
--- `x` takes all the rest. Pieces before the first block are passed over.
+-- `x` takes all the rest (UTS #35 3.2, `pu_extensions`). Pieces before the first block are passed over.
 abbrev pub blocks : List Text → List Block
 blocks [] = []
 blocks ([] ∷ ps) = blocks ps
@@ -22,12 +22,12 @@ blocks ((c ∷ []) ∷ ps) = cond (to_ascii_lowercase c == 120) ((c, ps) ∷ [])
     ((c, front ps) ∷ blocks ps)
 blocks ((c ∷ d ∷ p) ∷ ps) = blocks ps
 
--- the first piece, and those after it up to the first of one byte
+-- the first piece, and those after it up to the first of one byte (UTS #35 3.2, `unicode_locale_id`)
 abbrev pub head : List Text → List Text
 head [] = []
 head (p ∷ ps) = p ∷ front ps
 
--- the blocks after the head
+-- the blocks after the head (UTS #35 3.2, `extensions`)
 abbrev pub tail_blocks : List Text → List Block
 tail_blocks [] = []
 tail_blocks (p ∷ ps) = blocks ps

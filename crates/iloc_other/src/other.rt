@@ -103,7 +103,7 @@ impl Other {
     /// pieces of 2 to 8 bytes, of which it keeps those that are all letters or digits. What follows is
     /// ignored.
     ///
-    /// These are the other extensions of UTS #35, section 3.1, which has no pieces to drop. Anything
+    /// These are the other extensions of UTS #35, section 3.2, which has no pieces to drop. Anything
     /// else is refused with `InvalidExtension`, also if no word is kept. `OutOfMemory` comes only
     /// if more than four are.
     pub fn try_from_utf8(alloc: Global, code_units: &[u8]) -> Result<Self, ParseError>

@@ -115,7 +115,7 @@ impl Private {
 
     /// Parses `x` in either case and all the rest, which must be private words, one at least.
     ///
-    /// This is the private use extension of UTS #35, section 3.1. Anything else is refused with
+    /// This is the private use extension of UTS #35, section 3.2. Anything else is refused with
     /// `InvalidExtension`. `OutOfMemory` comes only if there are more than four words.
     pub fn try_from_utf8(alloc: Global, code_units: &[u8]) -> Result<Self, ParseError>
         ensures reads { PrivateTextReads code_units.now result }

@@ -92,7 +92,7 @@ impl Transform {
     /// and then, if the next piece is a key, fields up to a piece that is neither key nor value
     /// piece. What follows is ignored.
     ///
-    /// This is the transformed content of UTS #35, section 3.1. Of equal keys the first stays; a field
+    /// This is the transformed content of UTS #35, section 3.2. Of equal keys the first stays; a field
     /// whose pieces are all `true` has the empty value. A repeated variant is refused with
     /// `InvalidSubtag`; another first piece, a key without a value piece and nothing read with
     /// `InvalidExtension`. `OutOfMemory` comes only if there is a field or more than four variants.
