@@ -13,7 +13,7 @@ from api_source import ROOT, TOP, home_of, libraries, read
 
 FIRST = ("crates/first_locale", "crates/recipes")
 FUNCTION = re.compile(
-    r"^( *)(?:pub(?:\([a-z]+\))? )?(?:final )?fn (\w+)[^(]*\((.*?)\)"
+    r"^( *)(?:pub(?:\([a-z]+\))? )?(?:final )?fn (\w+)([^(]*)\((.*?)\)"
     r"(?=\s*(?:->|where|requires|ensures|\{|;))",
     re.S | re.M,
 )
@@ -26,6 +26,8 @@ LET = re.compile(r"let (?:mut )?(\w+)(?:: [^=]+)? = (?:match )?(\w+)(?:::<[^>()]
 MATCHED = re.compile(
     r"(?:match|let) (\w+)(?:::<[^>()]*>)?::(try_\w+|new)\([^{]*\{[^{}]*?\bOk\((?:mut )?(\w+)\)"
 )
+BOUND = re.compile(r"\b([A-Z]\w*): (?:\w+::)*([A-Z]\w+)")
+MACRO = re.compile(r"^macro_rules! (\w+) \{\n    \(([^)]*)\) => \{+\n(.*?)^    \}+;\n\}", re.S | re.M)
 BORROWED = re.compile(r"let (?:mut )?(\w+) = &(?:mut )?(\w+)((?:\.\w+)*);")
 
 
@@ -123,15 +125,22 @@ def call_at(home, name):
     return calls_of(base)[name].key if entry.base and base in by_home() and name in calls_of(base) else None
 
 
-def types_in(header, body, known, own):
-    """Returns the types of the names in a function."""
+def types_in(bounds, header, body, known, own):
+    """Returns the types of the names in a function. What is inside an `Option` or a `Result` parameter is
+    what a `match` on it takes out."""
+    known = known | {name: known[kind] for name, kind in BOUND.findall(bounds) if kind in known}
     found = {re.sub(r"(?<=.)([A-Z])", r"_\1", name).lower(): home for name, home in known.items()}
     if own:
         found["self"] = own
     for part in re.split(r",(?![^<(]*[>)])", header):
         name, _, kind = part.partition(":")
+        name = name.strip().removeprefix("mut ")
+        inner = re.match(r"\s*(?:Option|Result)<(.*)", kind)
         if bare(kind) in known:
-            found[name.strip().removeprefix("mut ")] = known[bare(kind)]
+            found[name] = known[bare(kind)]
+        elif inner and bare(inner.group(1)) in known:
+            for taken in re.findall(rf"match {name} \{{\s*(?:Some|Ok)\((?:mut )?(\w+)\)", body):
+                found[taken] = known[bare(inner.group(1))]
     for name, kind, call in LET.findall(body):
         if kind in known and re.match(r"try_from|from|new|unknown|default", call):
             found[name] = known[kind]
@@ -166,17 +175,39 @@ def lines_of(path):
     text = read(path)
     known = names_of(text)
     owners = [(it.start(), known.get(it.group(1))) for it in IMPL.finditer(text)]
-    functions = list(FUNCTION.finditer(text))
+    functions, macros = list(FUNCTION.finditer(text)), macros_of(text)
     for n, found in enumerate(functions):
         end = functions[n + 1].start() if n + 1 < len(functions) else len(text)
         body = text[found.end() : end]
         own = None
         if found.group(1):
             own = next((kind for at, kind in reversed(owners) if at < found.start()), None)
-        types = types_in(found.group(3), body, known, own)
+        types = types_in(found.group(3), found.group(4), body, known, own)
         first = text.count("\n", 0, found.end()) + 1
         for number, line in enumerate(body.split("\n"), first):
             yield number, line.strip(), known, types
+            for number, line in written_by(line, macros):
+                yield number, line, known, types
+
+
+def macros_of(text):
+    """Returns the macros of a file: the names of their arguments, the first line and the lines of what they write."""
+    found = {}
+    for it in MACRO.finditer(text):
+        names = re.findall(r"\$(\w+):", it.group(2))
+        found[it.group(1)] = (names, text.count("\n", 0, it.start(3)) + 1, it.group(3).split("\n"))
+    return found
+
+
+def written_by(line, macros):
+    """Yields the lines that a macro writes where this line calls it, each with its number in the macro."""
+    called = re.search(r"\b(\w+)!\((.*)\)$", line.strip())
+    if not called or called.group(1) not in macros:
+        return
+    names, first, lines = macros[called.group(1)]
+    given = dict(zip(names, re.split(r", ", called.group(2))))
+    for number, text in enumerate(lines, first):
+        yield number, re.sub(r"\$(\w+)", lambda it: given.get(it.group(1), it.group(0)), text).strip()
 
 
 @functools.cache

@@ -6,12 +6,25 @@
 //! - `keyword LOCALE KEY VALUE`: the locale with this value of the keyword, and the value before.
 //! - `calendar LOCALE`: the calendar that the locale asks for, and the locale with the Buddhist one.
 //! - `json LOCALE`: the JSON string of the locale, and what is parsed from it.
-//! - `normalize LOCALE`: what the program `locale_normal` answers.
+//! - `texts LOCALE`: its text, that of its identifier, and that of its language.
+//! - `lists LOCALE`: its variants and its keywords.
+//! - `clear LOCALE PART`: the locale without its identifier (`id`), its extensions, or all.
+//! - `asks LOCALE`: the keywords of the hour cycle and of the scripts that a dictionary leaves out.
+//!
+//! Other calls take a text in place of a locale:
+//!
+//! - `extension TEXT`, `attributes TEXT`, `fields TEXT`: the part that the text begins with, and what is left.
+//! - `kinds TEXT`: a subtag as a language, a script and a region.
+//!
+//! After the lines come what the program `locale_normal` answers, and what a row of old raw forms is carried to.
 #![tactic(auto)]
 
 mod comparing;
 mod keywords;
+mod kinds;
 mod others;
+mod parts;
+mod texts;
 
 use icu_locale_core::{Locale, ParseError};
 use std::alloc::Global;
@@ -30,6 +43,10 @@ fn called(
         ("keyword", [key, value]) => keywords::set(alloc, locale, key, value, out),
         ("calendar", []) => keywords::calendar(alloc, locale, out),
         ("json", []) => others::json(alloc, locale, out),
+        ("texts", []) => texts::say(alloc, locale, out),
+        ("lists", []) => texts::lists(locale, out),
+        ("clear", [part]) => texts::clear(locale, part, out),
+        ("asks", []) => keywords::asks(alloc, locale, out),
         _ => Ok(out.push_str("no such call")?),
     }
 }
@@ -39,8 +56,16 @@ fn answer_words(alloc: Global, words: &[&str], out: &mut String) -> Result<(), P
     let [call, text, others @ ..] = words else {
         return Ok(out.push_str("no such call")?);
     };
-    let mut locale = Locale::try_from_str(alloc, text)?;
-    called(alloc, call, &mut locale, others, out)
+    match *call {
+        "extension" => parts::extension(alloc, text, out),
+        "attributes" => parts::attributes(alloc, text, out),
+        "fields" => parts::fields(alloc, text, out),
+        "kinds" => kinds::say(text, out),
+        _ => {
+            let mut locale = Locale::try_from_str(alloc, text)?;
+            called(alloc, call, &mut locale, others, out)
+        }
+    }
 }
 
 /// The answer to a line.
@@ -63,5 +88,9 @@ fn main(rt: HostRuntime) -> anyhow::Result<()> {
     }
     others::normalize(alloc, "EN-us\nen-\n", &mut out)?;
     print!(rt; "{out}")?;
+    for row in ["en\0und", "en\0EN\0", "en"] {
+        others::carry(alloc, row, &mut out)?;
+        println!(rt; "{out}")?;
+    }
     Ok(())
 }

@@ -1,8 +1,9 @@
-//! JSON strings of locales, and the library of the program.
+//! JSON strings of locales, the library of the program, and old raw forms of languages.
+use icu_locale_core::bench::{CarryError, carry_v1};
 use icu_locale_core::json::{JsonError, JsonText};
 use icu_locale_core::program::{Mode, RunError, run};
 use icu_locale_core::{Locale, ParseError};
-use std::alloc::Global;
+use std::alloc::{AllocError, Global};
 use std::fmt::Write;
 
 /// The JSON string of the locale, and whether it parses back to it.
@@ -28,5 +29,16 @@ pub fn normalize(alloc: Global, lines: &str, out: &mut String) -> Result<(), Run
     run(alloc, Mode::Locale, &mut lines.as_bytes(), &mut written)?;
     out.clear();
     out.push_str(std::str::from_utf8(written.as_slice()).unwrap_or("no text"))?;
+    Ok(())
+}
+
+/// The length of the row of new raw forms, or why the row of old ones is refused.
+pub fn carry(alloc: Global, row: &str, out: &mut String) -> Result<(), AllocError> {
+    out.clear();
+    match carry_v1(alloc, row.as_bytes()) {
+        Ok(carried) => write!(out, "{} bytes", carried.len())?,
+        Err(CarryError::OutOfMemory) => return Err(AllocError),
+        Err(refusal) => out.push_str(refusal.words())?,
+    }
     Ok(())
 }

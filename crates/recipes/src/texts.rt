@@ -1,0 +1,39 @@
+//! Texts of a locale and of its parts, its lists, and parts made empty.
+use icu_locale_core::json::TextValue;
+use icu_locale_core::{Locale, ParseError};
+use std::alloc::Global;
+use std::fmt::Write;
+
+/// Says the text of the locale, that of its identifier, and that of its language.
+pub fn say(alloc: Global, locale: &Locale, out: &mut String) -> Result<(), ParseError> {
+    let id = &locale.id;
+    let whole = locale.write_to_string(alloc)?;
+    let front = id.write_to_string(alloc)?;
+    let language = id.language.write_text(alloc)?;
+    write!(out, "{whole}, {front}, {language}")?;
+    Ok(())
+}
+
+/// Says the variants and the keywords, which are lent as slices.
+pub fn lists(locale: &Locale, out: &mut String) -> Result<(), ParseError> {
+    let variants = &locale.id.variants;
+    for variant in variants.as_slice() {
+        write!(out, "{variant} ")?;
+    }
+    let keywords = &locale.extensions.unicode.keywords;
+    for (key, value) in keywords.as_slice() {
+        write!(out, "{key}={value} ")?;
+    }
+    Ok(())
+}
+
+/// Makes a part of the locale empty, or all of it. It keeps its memory.
+pub fn clear(locale: &mut Locale, part: &str, out: &mut String) -> Result<(), ParseError> {
+    match part {
+        "id" => locale.id.clear(),
+        "extensions" => locale.extensions.clear(),
+        _ => locale.clear(),
+    }
+    write!(out, "{locale}")?;
+    Ok(())
+}
