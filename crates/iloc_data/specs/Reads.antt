@@ -1,13 +1,13 @@
 -- What the reader of data locales answers, by cases on the whole answer. It allocates nothing.
 use Rattle.std.specs.Prelude.{◌≡◌, ℕ, List, Result, IfOk, IsOk}
-use Rattle.iloc_grammar.specs.Words.{languages, two_or_three}
-use Rattle.iloc_grammar.specs.Meaning as meaning
-use Rattle.iloc_grammar.specs.Meaning.{Means}
-use Rattle.iloc_regions.specs.DataLocales as parts
-use Rattle.iloc_regions.specs.DataLocales.{DataMeans, HasDataFault, data_text}
-use Rattle.iloc_preferences_rules.specs.Preferences.{language_priority, preferences}
+use Rattle.iloc_spec_grammar.specs.Words.{languages, two_or_three}
+use Rattle.iloc_spec_grammar.specs.Meaning as meaning
+use Rattle.iloc_spec_grammar.specs.Meaning.{Means}
+use Rattle.iloc_spec_preferences.specs.DataLocales as parts
+use Rattle.iloc_spec_preferences.specs.DataLocales.{DataMeans, HasDataFault, data_text}
+use Rattle.iloc_spec_preferences.specs.Preferences.{language_priority, preferences}
 use Rattle.iloc_subtags.specs.declared.parse_error.ParseError.{ParseError}
-use Rattle.iloc_grammar.specs.Faults.{Fault}
+use Rattle.iloc_spec_grammar.specs.Faults.{Fault}
 use Rattle.iloc_subtags.specs.Answers.{Answers, ButDuplicate}
 use Rattle.iloc_subtags.specs.Judging.{Accepts, Refuses}
 use Rattle.iloc_data.specs.declared.data_locale.DataLocale.{DataLocale}

@@ -1,9 +1,9 @@
 -- What the parts that a text names stand for, and what their reader answers.
 use Rattle.std.specs.Prelude.{ℕ, List, ◌∷◌, ◌++◌, option_to_list, Result}
-use Rattle.iloc_grammar.specs.Words.{languages}
-use Rattle.iloc_regions.specs.DataLocales as parts
-use Rattle.iloc_regions.specs.DataLocales.{DataMeans, HasDataFault, made_of, subdivision_keyword}
-use Rattle.iloc_regions.specs.DataLocales.{subdivision_pieces}
+use Rattle.iloc_spec_grammar.specs.Words.{languages}
+use Rattle.iloc_spec_preferences.specs.DataLocales as parts
+use Rattle.iloc_spec_preferences.specs.DataLocales.{DataMeans, HasDataFault, made_of, subdivision_keyword}
+use Rattle.iloc_spec_preferences.specs.DataLocales.{subdivision_pieces}
 use Rattle.iloc_subtags.specs.declared.parse_error.ParseError.{ParseError}
 use Rattle.iloc_subtags.specs.Answers.{Answers, ButDuplicate}
 use Rattle.iloc_data_parts.specs.declared.parts.DataParts.{DataParts}

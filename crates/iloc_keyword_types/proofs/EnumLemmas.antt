@@ -10,17 +10,17 @@ use Rattle.std.specs.declared.cmp.Ordering.TheVariants.{Less, Equal, Greater}
 use Rattle.std.specs.Cmp.{nat_cmp_is}
 use Rattle.std.specs.Cmp.Lexicographic.{slice_cmp}
 use Rattle.std.proofs.lemmas.Bool.{and_parts}
-use Rattle.iloc_grammar.specs.Words.{Subtag, word_cmp, is_word, lower, is_same, is_true}
-use Rattle.iloc_grammar.specs.Values.{IsNormal}
-use Rattle.iloc_orders.specs.Orders.{pair_cmp}
+use Rattle.iloc_spec_grammar.specs.Words.{Subtag, word_cmp, is_word, lower, is_same, is_true}
+use Rattle.iloc_spec_grammar.specs.Values.{IsNormal}
+use Rattle.iloc_spec_orders.specs.Orders.{pair_cmp}
 use Rattle.iloc_unicode_value.specs.Values as values
-use Rattle.iloc_fronts.specs.SingleValues.{single}
-use Rattle.iloc_preferences_rules.specs.Keywords.{EnumKeyword, CalendarAlgorithm, CollationType, CollationCaseFirst, CollationNumericOrdering, CurrencyFormatStyle, EmojiPresentationStyle, FirstDay, HourCycle, LineBreakStyle, LineBreakWordHandling, MeasurementSystem, MeasurementUnitOverride, SentenceBreakSupressions, CommonVariantType, EnumValue, numbered, variants, further_readings, readings, or_true, without_true, enum_reads, enum_words, enum_gives}
-use Rattle.iloc_preferences_rules.proofs.KeywordLaws.{reads_what_it_gives}
+use Rattle.iloc_spec_parts.specs.SingleValues.{single}
+use Rattle.iloc_spec_preferences.specs.Keywords.{EnumKeyword, CalendarAlgorithm, CollationType, CollationCaseFirst, CollationNumericOrdering, CurrencyFormatStyle, EmojiPresentationStyle, FirstDay, HourCycle, LineBreakStyle, LineBreakWordHandling, MeasurementSystem, MeasurementUnitOverride, SentenceBreakSupressions, CommonVariantType, EnumValue, numbered, variants, further_readings, readings, or_true, without_true, enum_reads, enum_words, enum_gives}
+use Rattle.iloc_spec_preferences.proofs.KeywordLaws.{reads_what_it_gives}
 use Rattle.iloc_unicode_value.specs.declared.errors.PreferencesParseError.TheVariants.{InvalidKeywordValue}
 use Rattle.iloc_keyword_types.specs.WordTables.{place_of, word_at}
 use Rattle.iloc_keyword_types.specs.Reads.{Reads}
-use Rattle.iloc_grammar.proofs.MapLaws.{same_is}
+use Rattle.iloc_spec_grammar.proofs.MapLaws.{same_is}
 
 -- the value of a variant without a kind
 abbrev pub variant : ℕ → EnumValue

@@ -1,8 +1,8 @@
 -- What each calendar stands for.
 use Rattle.std.specs.Prelude.{◌≡◌, ℕ, List, Option, Some, None, option_map, slice_get, refl}
-use Rattle.iloc_grammar.specs.Pieces.{join}
-use Rattle.iloc_preferences_rules.specs.Keywords as keywords
-use Rattle.iloc_preferences_rules.specs.Keywords.{EnumValue, variants, hijri_kinds, enum_words}
+use Rattle.iloc_spec_grammar.specs.Pieces.{join}
+use Rattle.iloc_spec_preferences.specs.Keywords as keywords
+use Rattle.iloc_spec_preferences.specs.Keywords.{EnumValue, variants, hijri_kinds, enum_words}
 use Rattle.iloc_keyword_types.specs.WordTables.{word_at}
 use Rattle.iloc_keyword_types.specs.declared.calendar_algorithm.CalendarAlgorithm.{CalendarAlgorithm}
 use Rattle.iloc_keyword_types.specs.declared.calendar_algorithm.CalendarAlgorithm.TheVariants.{Buddhist, Chinese, Coptic, Dangi, Ethioaa, Ethiopic, Gregory, Hebrew, Indian, Hijri, Iso8601, Japanese, Persian, Roc}

@@ -1,6 +1,6 @@
 -- What the reader of a list of scripts answers.
 use Rattle.std.specs.Prelude.{◌≡◌, ◌≢◌, ◌<◌, ℕ, List, length, Option, Some, None, Result, Ok, Err}
-use Rattle.iloc_preferences_rules.specs.Keywords.{dx, scripts_read}
+use Rattle.iloc_spec_preferences.specs.Keywords.{dx, scripts_read}
 use Rattle.iloc_unicode_value.specs.declared.errors.PreferencesParseError.{PreferencesParseError}
 use Rattle.iloc_unicode_value.specs.declared.errors.PreferencesParseError.TheVariants.{InvalidKeywordValue, OutOfMemory}
 

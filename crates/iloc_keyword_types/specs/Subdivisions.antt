@@ -1,6 +1,6 @@
 -- What a text is read as, as a subdivision.
 use Rattle.std.specs.Prelude.{◌≡◌, ℕ, List, Result, Ok, Err}
-use Rattle.iloc_regions.specs.Subdivisions.{Subdivision, subdivision}
+use Rattle.iloc_spec_preferences.specs.Subdivisions.{Subdivision, subdivision}
 use Rattle.iloc_subtags.specs.declared.parse_error.ParseError.{ParseError}
 use Rattle.iloc_subtags.specs.Answers.{Answers, OfPart}
 

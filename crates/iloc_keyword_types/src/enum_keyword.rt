@@ -1,6 +1,6 @@
 //! Keywords with a fixed set of values, but calendars: how they are read and written.
 ghost use Rattle.std.specs.Prelude.{◌≡◌, ℕ, List, [], Some, None, codes, option_and_then};
-ghost use Rattle.iloc_preferences_rules.specs.Keywords.{
+ghost use Rattle.iloc_spec_preferences.specs.Keywords.{
   EnumKeyword as Keyword,
   key as key_of_keyword,
   variants,
@@ -9,7 +9,7 @@ ghost use Rattle.iloc_preferences_rules.specs.Keywords.{
   enum_gives,
   or_true,
 };
-ghost use Rattle.iloc_fronts.specs.SingleValues.{single};
+ghost use Rattle.iloc_spec_parts.specs.SingleValues.{single};
 ghost use Rattle.std.specs.Option.{option_copied};
 ghost use Rattle.iloc_keyword_types.specs.Reads.{
   ReadsKeyed,

@@ -19,10 +19,10 @@ ghost use Rattle.std.specs.Prelude.{
   vec_len,
 };
 ghost use Rattle.std.specs.Io.KnownBytes.{Appends};
-ghost use Rattle.iloc_io_sink.specs.Growth.{AddsBeginning};
+ghost use Rattle.iloc_writeable.specs.Growth.{AddsBeginning};
 ghost use Rattle.iloc_lines.specs.Output.{output, reply};
 ghost use Rattle.iloc_lines.specs.ReplyBlock.{held};
-ghost use Rattle.iloc_output.specs.Lines.{IsOneLine};
+ghost use Rattle.iloc_spec_output.specs.Lines.{IsOneLine};
 ghost use Rattle.std.specs.Simd.Lanes.{mask_l};
 ghost use Rattle.memchr.specs.Find.{IsFirstByte, is_byte};
 
@@ -197,7 +197,7 @@ pub(crate) fn write_whole<W: Write>(writer: &mut W, bytes: &[u8]) -> Result<(), 
         (AddsBeginning (W.contents writer.old) (W.contents writer.new) bytes.now) }
     ensures error { IsOkUnless result RunError.Write }
 {
-    match iloc_io_sink::write_whole(writer, bytes) {
+    match iloc_writeable::write_whole(writer, bytes) {
         Ok(()) => Ok(()),
         Err(_) => Err(RunError::Write),
     }

@@ -1,10 +1,10 @@
 -- What normalising a locale's text answers.
 use Rattle.std.specs.Prelude.{◌≡◌, ◌↔◌, ◌⊎◌, ℕ, ◌≤◌, List, length}
-use Rattle.iloc_grammar.specs.Words.{languages}
-use Rattle.iloc_grammar.specs.Meaning.{Locale, Means}
-use Rattle.iloc_grammar.specs.Values.{text}
-use Rattle.iloc_grammar.specs.Faults.{HasFault}
-use Rattle.iloc_grammar.specs.Steps.{TextStep, Chain, LeadToOne}
+use Rattle.iloc_spec_grammar.specs.Words.{languages}
+use Rattle.iloc_spec_grammar.specs.Meaning.{Locale, Means}
+use Rattle.iloc_spec_grammar.specs.Values.{text}
+use Rattle.iloc_spec_grammar.specs.Faults.{HasFault}
+use Rattle.iloc_spec_grammar.specs.Steps.{TextStep, Chain, LeadToOne}
 use Rattle.iloc_subtags.specs.declared.parse_error.ParseError.{ParseError}
 use Rattle.iloc_subtags.specs.Answers.{Refusal}
 use Rattle.iloc_locale.specs.Reads.{WantsMemory}

@@ -1,12 +1,12 @@
 -- What the readers of locales answer, by cases on the whole answer. The cases exclude one another, so each says both directions.
 use Rattle.std.specs.Prelude.{◌≡◌, ◌⊎◌, ℕ, List, [], Result}
-use Rattle.iloc_grammar.specs.Pieces.{pieces}
-use Rattle.iloc_grammar.specs.Words.{Language, IsWord, languages}
-use Rattle.iloc_grammar.specs.Meaning as meaning
-use Rattle.iloc_grammar.specs.Meaning.{Means}
-use Rattle.iloc_grammar.specs.Faults.{HasFault, SpellsIdentifier}
-use Rattle.iloc_grammar.specs.Blocks.{first_piece, head, tail_blocks}
-use Rattle.iloc_small.specs.InlineBlocks.{ReachesLongBlock}
+use Rattle.iloc_spec_grammar.specs.Pieces.{pieces}
+use Rattle.iloc_spec_grammar.specs.Words.{Language, IsWord, languages}
+use Rattle.iloc_spec_grammar.specs.Meaning as meaning
+use Rattle.iloc_spec_grammar.specs.Meaning.{Means}
+use Rattle.iloc_spec_grammar.specs.Faults.{HasFault, SpellsIdentifier}
+use Rattle.iloc_spec_grammar.specs.Blocks.{first_piece, head, tail_blocks}
+use Rattle.iloc_spec_parts.specs.InlineBlocks.{ReachesLongBlock}
 use Rattle.iloc_langid.specs.Reads as langid
 use Rattle.iloc_subtags.specs.declared.parse_error.ParseError.{ParseError}
 use Rattle.iloc_subtags.specs.Answers.{Answers}

@@ -2,15 +2,15 @@
 //!
 //! A private extension is a list of private words, an other extension a singleton and a list of
 //! subtags. Readers take exactly what the grammar of UTS #35, section 3, allows after a singleton,
-//! by the relations of `iloc_fronts`, which also say what that means for a locale. Both print as the
+//! by the relations of `iloc_spec_parts`, which also say what that means for a locale. Both print as the
 //! normal text does.
-//! The crate stands on the words of `iloc_subtags`, the pieces of `iloc_parser` and the lists of words of
+//! The crate stands on the words of `iloc_subtags`, the pieces of `iloc_subtags` and the lists of words of
 //! `iloc_word_set`.
 #![tactic(auto)]
 
 ghost use Rattle.std.specs.Prelude.{◌≡◌, ◌↔◌, IsTrue, ℕ, List};
-ghost use Rattle.iloc_orders.specs.Orders.{words_cmp, other_cmp};
-ghost use Rattle.iloc_orders.specs.Hashes.{words_fed, other_fed};
+ghost use Rattle.iloc_spec_orders.specs.Orders.{words_cmp, other_cmp};
+ghost use Rattle.iloc_spec_orders.specs.Hashes.{words_fed, other_fed};
 
 use std::hash::Hash;
 

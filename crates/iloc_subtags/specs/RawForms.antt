@@ -1,7 +1,7 @@
 -- What reading a raw form answers.
 use Rattle.std.specs.Prelude.{◌≡◌, ◌≢◌, ℕ, List, Result, Ok, Err}
-use Rattle.iloc_grammar.specs.Words.{Kind, raw}
-use Rattle.iloc_grammar.specs.Values.{IsNormal}
+use Rattle.iloc_spec_grammar.specs.Words.{Kind, raw}
+use Rattle.iloc_spec_grammar.specs.Values.{IsNormal}
 use Rattle.iloc_subtags.specs.declared.parse_error.ParseError.{ParseError}
 
 -- the normal word of which the bytes are the raw form, or the refusal if they are no such word's

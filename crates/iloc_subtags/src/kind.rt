@@ -1,12 +1,12 @@
 //! What makes a kind of word.
 ghost use Rattle.std.specs.Prelude.{◌≡◌, ◌≤◌, ℕ, List, IsTrue, true};
 ghost use Rattle.iloc_tinystr.specs.TinyText.{is_tiny_text};
-ghost use Rattle.iloc_grammar.specs.Words.{Kind, is_word, IsWord, normal, greatest};
+ghost use Rattle.iloc_spec_grammar.specs.Words.{Kind, is_word, IsWord, normal, greatest};
 ghost use Rattle.iloc_subtags.specs.Lengths.{has_length};
 ghost use Rattle.iloc_subtags.specs.declared.parse_error.ParseError.{ParseError};
 
 use crate::parse_error::ParseError;
-use iloc_short_pieces::ShortPiece;
+use iloc_tinystr::ShortPiece;
 
 /// A kind of word of at most `N` bytes: which pieces it takes, their normal case, and its refusal.
 ///

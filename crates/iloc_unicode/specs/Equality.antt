@@ -2,7 +2,7 @@
 use Rattle.std.proofs.Common.{ℕ, Bool, ◌&&◌, List, ap, nat_eq}
 use Rattle.std.proofs.lemmas.Bool.{and_parts, and_from}
 use lib.Pointwise.{pointwise}
-use Rattle.iloc_grammar.specs.Written.{Fields, Unicode}
+use Rattle.iloc_spec_grammar.specs.Written.{Fields, Unicode}
 use Rattle.iloc_unicode_value.specs.Equality.{IsExactTest, word_exact, words_eq, words_exact, lists_exact}
 
 -- the key, and then the value

@@ -5,10 +5,10 @@ use Rattle.std.specs.declared.cmp.Ordering.{Ordering}
 use Rattle.std.specs.declared.cmp.Ordering.TheVariants.{Less, Equal, Greater}
 use Rattle.std.specs.Cmp.{IsTotalOrder}
 use Rattle.std.specs.Cmp.Lexicographic.{texts_ties}
-use Rattle.iloc_grammar.specs.Words.{word_cmp}
-use Rattle.iloc_grammar.specs.Written.{Fields}
-use Rattle.iloc_orders.specs.Orders.{pair_cmp, words_cmp, keywords_cmp}
-use Rattle.iloc_orders.proofs.OrderLaws.{keywords_exact}
+use Rattle.iloc_spec_grammar.specs.Words.{word_cmp}
+use Rattle.iloc_spec_grammar.specs.Written.{Fields}
+use Rattle.iloc_spec_orders.specs.Orders.{pair_cmp, words_cmp, keywords_cmp}
+use Rattle.iloc_spec_orders.proofs.OrderLaws.{keywords_exact}
 use Rattle.iloc_shortvec.specs.ShortOrder.{short_ties}
 use Rattle.iloc_unicode_value.specs.Equality.{words_eq}
 use Rattle.iloc_unicode.specs.Equality.{pair_eq, fields_eq}

@@ -1,16 +1,16 @@
 //! The unicode extension of a locale: attributes, which are a set, and keywords, which are a map from
 //! keys to values (UTS #35 section 3.2, `unicode_locale_extensions`; section 3.6.1 has the keys).
 //!
-//! Readers take exactly the front of the pieces that `iloc_fronts` defines and leave the rest; of equal
+//! Readers take exactly the front of the pieces that `iloc_spec_parts` defines and leave the rest; of equal
 //! keys the first stays, and repeated attributes are dropped. Printing is the normal text of the part.
 //! Up to four attributes, and one key with up to four subtags, allocate nothing. It stands on the set of
 //! words, the map over short lists and its laws, values, pieces and printing.
 #![tactic(auto)]
 
 ghost use Rattle.std.specs.Prelude.{◌≡◌, ◌↔◌, ℕ, List, IsTrue};
-ghost use Rattle.iloc_grammar.specs.Written.{Fields};
-ghost use Rattle.iloc_orders.specs.Orders.{words_cmp, keywords_cmp};
-ghost use Rattle.iloc_orders.specs.Hashes.{words_fed, fields_fed, unicode_fed};
+ghost use Rattle.iloc_spec_grammar.specs.Written.{Fields};
+ghost use Rattle.iloc_spec_orders.specs.Orders.{words_cmp, keywords_cmp};
+ghost use Rattle.iloc_spec_orders.specs.Hashes.{words_fed, fields_fed, unicode_fed};
 ghost use Rattle.iloc_unicode.specs.UnicodeValue.{value_of};
 
 use std::hash::Hash;

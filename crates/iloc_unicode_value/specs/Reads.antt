@@ -1,11 +1,11 @@
 -- What a text is read as, as a whole value.
 use Rattle.std.specs.Prelude.{◌≡◌, ℕ, ◌<◌, List, length, Result, Ok, Err}
-use Rattle.iloc_grammar.specs.Pieces.{pieces}
-use Rattle.iloc_grammar.specs.Words.{Subtag, is_word}
-use Rattle.iloc_grammar.specs.Meaning.{normal_values}
-use Rattle.iloc_grammar.specs.Reading.{passing}
-use Rattle.iloc_grammar.specs.Faults as faults
-use Rattle.iloc_fronts.specs.PartValues.{unicode_value}
+use Rattle.iloc_spec_grammar.specs.Pieces.{pieces}
+use Rattle.iloc_spec_grammar.specs.Words.{Subtag, is_word}
+use Rattle.iloc_spec_grammar.specs.Meaning.{normal_values}
+use Rattle.iloc_spec_grammar.specs.Reading.{passing}
+use Rattle.iloc_spec_grammar.specs.Faults as faults
+use Rattle.iloc_spec_parts.specs.PartValues.{unicode_value}
 use Rattle.iloc_subtags.specs.declared.parse_error.ParseError.{ParseError}
 use Rattle.iloc_subtags.specs.Answers.{Answers, SubtagFault}
 

@@ -8,8 +8,8 @@
 #![tactic(auto)]
 
 ghost use Rattle.std.specs.Prelude.{◌≡◌, ◌↔◌, ℕ, List, IsTrue};
-ghost use Rattle.iloc_orders.specs.Orders.{words_cmp};
-ghost use Rattle.iloc_orders.specs.Hashes.{words_fed};
+ghost use Rattle.iloc_spec_orders.specs.Orders.{words_cmp};
+ghost use Rattle.iloc_spec_orders.specs.Hashes.{words_fed};
 
 use std::hash::Hash;
 

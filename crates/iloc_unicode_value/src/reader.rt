@@ -1,20 +1,19 @@
 //! Parses values from pieces.
 ghost use Rattle.std.specs.Prelude.{◌≡◌, ◌≤◌, ℕ, List, [], length, map, Ok, Err, IfOk, OnOk, IsOk};
-ghost use Rattle.iloc_grammar.specs.Pieces.{pieces};
-ghost use Rattle.iloc_grammar.specs.Words.{Attribute, Subtag, is_word, normal};
-ghost use Rattle.iloc_grammar.specs.Values.{IsNormal};
-ghost use Rattle.iloc_grammar.specs.Meaning.{normal_values};
-ghost use Rattle.iloc_grammar.specs.Reading.{passing, past};
-ghost use Rattle.iloc_parser.specs.Left.{left};
+ghost use Rattle.iloc_spec_grammar.specs.Pieces.{pieces};
+ghost use Rattle.iloc_spec_grammar.specs.Words.{Attribute, Subtag, is_word, normal};
+ghost use Rattle.iloc_spec_grammar.specs.Values.{IsNormal};
+ghost use Rattle.iloc_spec_grammar.specs.Meaning.{normal_values};
+ghost use Rattle.iloc_spec_grammar.specs.Reading.{passing, past};
+ghost use Rattle.iloc_subtags.specs.Left.{left};
 ghost use Rattle.iloc_unicode_value.specs.Values.{without_true};
-ghost use Rattle.iloc_grammar.specs.Faults.{Fault};
-ghost use Rattle.iloc_fronts.specs.PartValues.{unicode_value};
+ghost use Rattle.iloc_spec_grammar.specs.Faults.{Fault};
+ghost use Rattle.iloc_spec_parts.specs.PartValues.{unicode_value};
 ghost use Rattle.iloc_subtags.specs.Judging.{Accepts, Refuses};
 ghost use Rattle.iloc_unicode_value.specs.Reads.{ReadsAs, ValueWants};
 
 use crate::value::Value;
-use iloc_parser::{SubtagIterator, take_word};
-use iloc_subtags::{AttributeKind, ParseError, Subtag, SubtagKind, WordKind, WordOf};
+use iloc_subtags::{AttributeKind, ParseError, Subtag, SubtagIterator, SubtagKind, WordKind, WordOf, take_word};
 use std::alloc::{AllocError, Global};
 
 impl Value {
@@ -59,7 +58,7 @@ impl Value {
 
 /// Parses the longest front of pieces that values are made of: 3 to 8 letters or digits. Up to four
 /// besides `true` allocate nothing.
-#[tactic(auto, using(iloc_grammar::proofs::WellRead::attribute_is_subtag))]
+#[tactic(auto, using(iloc_spec_grammar::proofs::WellRead::attribute_is_subtag))]
 pub fn read_value(alloc: Global, iter: &mut SubtagIterator<'_>) -> Result<Value, AllocError>
     ensures value { IfOk result
         (λ v. v ≡ normal_values (passing (is_word Attribute) (left iter.old))) }

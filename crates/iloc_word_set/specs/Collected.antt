@@ -1,7 +1,7 @@
 -- The words that a collector holds, by how they are kept.
 use Rattle.std.specs.Prelude.{◌≡◌, ℕ, ◌<◌, true, List, length}
-use Rattle.iloc_grammar.specs.Meaning.{set_of}
-use Rattle.iloc_grammar.specs.Values.{IsAscending}
+use Rattle.iloc_spec_grammar.specs.Meaning.{set_of}
+use Rattle.iloc_spec_grammar.specs.Values.{IsAscending}
 use Rattle.iloc_word_set.specs.declared.word_collector.Collected.{Collected}
 use Rattle.iloc_word_set.specs.declared.word_collector.Collected.TheVariants.{Four, Many}
 

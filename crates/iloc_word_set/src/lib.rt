@@ -5,12 +5,12 @@
 //! word once. Contracts see both as the list of the texts. Up to four words stand in place; beyond them
 //! they allocate, and a call that runs out of memory leaves them as before. Searches of sets go by halves.
 //!
-//! It stands on `iloc_grammar` and `iloc_orders` (definitions), `iloc_subtags` (words), `iloc_shortvec` (lists
+//! It stands on `iloc_spec_grammar` and `iloc_spec_orders` (definitions), `iloc_subtags` (words), `iloc_shortvec` (lists
 //! that keep four words in place) and `iloc_writeable` (printing).
 #![tactic(auto)]
 
 ghost use Rattle.std.specs.Prelude.{◌≡◌, ℕ, List};
-ghost use Rattle.iloc_orders.specs.Hashes.{word_fed, words_fed};
+ghost use Rattle.iloc_spec_orders.specs.Hashes.{word_fed, words_fed};
 
 use iloc_subtags::{WordKind, WordOf};
 use std::hash::Hash;
