@@ -57,7 +57,9 @@ pub mod tinystr {
 
 /// Printing to a sink.
 pub mod writeable {
-    pub use iloc_writeable::{IoSink, LengthHint, Sink, Writeable, cmp_utf8, held_texts, to_string_or_borrow, write_to_io};
+    pub use iloc_writeable::{
+        IoSink, LengthHint, Sink, Writeable, cmp_utf8, held_texts, to_string_or_borrow, write_to_io,
+    };
 }
 
 /// Lists that keep a few items in place.

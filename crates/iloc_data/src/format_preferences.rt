@@ -8,9 +8,9 @@ ghost use Rattle.iloc_spec_preferences.specs.Formatters.{
 };
 ghost use Rattle.iloc_data.specs.FormatterValues.{format_of_time, format_value, time_value};
 
+use crate::LocalePreferences;
 use crate::keywords::keyword;
 use crate::time_preferences::TimePreferences;
-use crate::LocalePreferences;
 use iloc_enum_keywords::HourCycle;
 use iloc_keyword_types::{CalendarAlgorithm, NumberingSystem};
 use iloc_langid::LanguageIdentifier;

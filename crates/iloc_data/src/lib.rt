@@ -21,17 +21,17 @@
 pub mod comparing;
 pub mod conversions;
 pub mod data_locale;
+pub mod format_preferences;
+mod keywords;
 pub mod locale_preferences;
 pub mod printing;
 mod region_keywords;
 mod region_part;
+pub mod time_preferences;
 pub mod to_locale;
 mod values;
-pub mod format_preferences;
-mod keywords;
-pub mod time_preferences;
 
 pub use data_locale::DataLocale;
-pub use locale_preferences::LocalePreferences;
 pub use format_preferences::FormatPreferences;
+pub use locale_preferences::LocalePreferences;
 pub use time_preferences::TimePreferences;

@@ -8,9 +8,9 @@ ghost use Rattle.iloc_spec_preferences.specs.Formatters.{
 };
 ghost use Rattle.iloc_data.specs.FormatterValues.{time_value};
 
+use crate::LocalePreferences;
 use crate::format_preferences::FormatPreferences;
 use crate::keywords::keyword;
-use crate::LocalePreferences;
 use iloc_enum_keywords::HourCycle;
 use iloc_keyword_types::NumberingSystem;
 use iloc_langid::LanguageIdentifier;

@@ -9,9 +9,9 @@ ghost use Rattle.iloc_extensions.specs.Blocks.{BlocksDone, BlockReads, is_read};
 ghost use Rattle.iloc_extensions.specs.Place.{byte_at};
 ghost use Rattle.iloc_extensions.specs.Whole.{BlocksReadAs};
 
+use crate::Extensions;
 use crate::others::has_other;
 use crate::taking::{take_other, take_private, take_transform, take_unicode};
-use crate::Extensions;
 use iloc_subtags::{ParseError, SubtagIterator};
 use std::alloc::Global;
 

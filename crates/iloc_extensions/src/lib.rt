@@ -24,20 +24,20 @@ ghost use Rattle.iloc_extensions.specs.Kinds.{kind_of};
 
 use std::hash::Hash;
 
+pub mod blocks;
 pub mod extension_type;
 pub mod extensions;
 mod kept;
-pub mod printing;
-pub mod well_formed;
-pub mod blocks;
 mod others;
+pub mod printing;
 mod taking;
 pub mod turning;
+pub mod well_formed;
 
+pub use blocks::read_blocks;
 pub use extension_type::ExtensionType;
 pub use extensions::Extensions;
 pub use well_formed::is_well_formed;
-pub use blocks::read_blocks;
 
 /// The kinds stand in the order of the definitions: `t`, `u`, `x`, and then the others by their singletons.
 pub fn orders()

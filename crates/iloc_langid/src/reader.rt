@@ -10,7 +10,10 @@ ghost use Rattle.iloc_langid.specs.Reads.{value_of, VariantsGive, FrontGives, Fr
 ghost use Rattle.iloc_langid.specs.Unknown.{unknown_identifier};
 
 use crate::identifier::LanguageIdentifier;
-use iloc_subtags::{LanguageKind, ParseError, RegionKind, ScriptKind, SubtagIterator, VariantKind, WordKind, WordOf, take_word};
+use iloc_subtags::{
+    LanguageKind, ParseError, RegionKind, ScriptKind, SubtagIterator, VariantKind, WordKind,
+    WordOf, take_word,
+};
 use iloc_word_set::{Variants, WordCollector};
 use std::alloc::Global;
 

@@ -15,7 +15,10 @@ ghost use Rattle.iloc_subtags.specs.Left.{left};
 ghost use Rattle.iloc_langid.specs.SmallReads.{SmallFrontGives, SmallReadsAs, small_of};
 
 use crate::identifier::LanguageIdentifier;
-use iloc_subtags::{Language, LanguageKind, ParseError, Region, RegionKind, Script, ScriptKind, SubtagIterator, Variant, VariantKind, take_word};
+use iloc_subtags::{
+    Language, LanguageKind, ParseError, Region, RegionKind, Script, ScriptKind, SubtagIterator,
+    Variant, VariantKind, take_word,
+};
 
 /// A language, and perhaps a script, a region and one variant.
 pub type SmallParts = (Language, Option<Script>, Option<Region>, Option<Variant>);

@@ -11,7 +11,10 @@ ghost use Rattle.iloc_langid.specs.BlockReads.{
 };
 
 use crate::small::read_small_front;
-use iloc_subtags::{Attribute, AttributeKind, Language, ParseError, Region, Script, Subtag, SubtagIterator, UnicodeKey, UnicodeKeyKind, Variant, take_word};
+use iloc_subtags::{
+    Attribute, AttributeKind, Language, ParseError, Region, Script, Subtag, SubtagIterator,
+    UnicodeKey, UnicodeKeyKind, Variant, take_word,
+};
 
 /// A keyword: a key and its value, which is absent if it would be `true`.
 pub type SmallKeyword = (UnicodeKey, Option<Subtag>);

@@ -5,5 +5,5 @@
 //! It stands on `iloc_spec_grammar`, `iloc_spec_parts` and `iloc_spec_orders`.
 #![tactic(auto)]
 
-pub mod regions;
 pub mod preferences;
+pub mod regions;

@@ -7,8 +7,7 @@
 ghost use Rattle.std.specs.Prelude.{◌≡◌, ℕ, List, IfOk, IfErr};
 ghost use Rattle.iloc_subtags.specs.Carrying.{IsOldRow, new_row, Refused};
 
-use crate::CarryError;
-use crate::Language;
+use crate::{CarryError, Language};
 use std::alloc::Global;
 
 /// The row of the new raw forms of the same languages.

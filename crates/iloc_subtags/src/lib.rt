@@ -17,17 +17,18 @@
 #![tactic(auto)]
 
 pub mod any_kind;
+pub mod carry;
+pub mod carry_error;
 pub mod extension_kinds;
 pub mod identifier_kinds;
 pub mod kind;
 pub mod parse_error;
-pub mod word_of;
 pub mod reading;
 pub mod subtag_iterator;
-pub mod carry_error;
-pub mod carry;
+pub mod word_of;
 
 pub use any_kind::Word;
+pub use carry_error::CarryError;
 pub use extension_kinds::{
     Attribute, AttributeKind, CurrencyType, CurrencyTypeKind, PrivateSubtag, PrivateSubtagKind,
     SubdivisionSuffix, SubdivisionSuffixKind, TransformKey, TransformKeyKind, UnicodeKey,
@@ -39,7 +40,6 @@ pub use identifier_kinds::{
 };
 pub use kind::WordKind;
 pub use parse_error::ParseError;
-pub use word_of::{WordOf, are_normal, is_normal};
 pub use reading::take_word;
 pub use subtag_iterator::SubtagIterator;
-pub use carry_error::CarryError;
+pub use word_of::{WordOf, are_normal, is_normal};

@@ -6,8 +6,8 @@ ghost use Rattle.iloc_spec_grammar.specs.Reading.{first_item, rest_of, take_firs
 ghost use Rattle.iloc_spec_grammar.specs.Words.{is_word};
 ghost use Rattle.iloc_subtags.specs.FirstLength.{IsFirstLength};
 
-use iloc_tinystr::ShortPiece;
 use crate::WordKind;
+use iloc_tinystr::ShortPiece;
 
 /// The pieces of a text that are left, from the left.
 ///

@@ -18,14 +18,14 @@ ghost use Rattle.iloc_transform.specs.TransformReading.{WantsMemory, value_of};
 
 use std::hash::Hash;
 
+pub mod field_laws;
+pub mod fields;
 mod lang;
 pub mod transform;
-pub mod fields;
 pub mod value;
-pub mod field_laws;
 
-pub use transform::Transform;
 pub use fields::{Fields, Key};
+pub use transform::Transform;
 pub use value::Value;
 
 /// A block that means an identifier of at most four variants, or none, and no field allocates nothing.

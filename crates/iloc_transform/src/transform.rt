@@ -25,8 +25,8 @@ ghost use Rattle.iloc_subtags.specs.Judging.{Accepts, Refuses};
 ghost use Rattle.iloc_subtags.specs.Left.{left};
 ghost use Rattle.iloc_transform.specs.TransformReading.{TransformReads};
 
-use crate::lang::{cmp_langs, fill_lang, lowercase};
 use crate::Fields;
+use crate::lang::{cmp_langs, fill_lang, lowercase};
 use iloc_langid::LanguageIdentifier;
 use iloc_other::singleton::take_singleton;
 use iloc_subtags::{ParseError, SubtagIterator};

@@ -27,8 +27,8 @@ ghost use Rattle.iloc_spec_parts.specs.PartValues.{transform_value};
 ghost use Rattle.iloc_subtags.specs.Judging.{Accepts, Refuses};
 ghost use Rattle.iloc_transform.specs.ValueReading.{IsValueWord, ValueFrontReads, ValueReads, ValueWants};
 
-use iloc_subtags::{Attribute, AttributeKind, ParseError, SubtagIterator, take_word};
 use iloc_shortvec::ShortWords;
+use iloc_subtags::{Attribute, AttributeKind, ParseError, SubtagIterator, take_word};
 use iloc_writeable::pieces::write_piece;
 use iloc_writeable::{Pieces, Sink, Writeable};
 use std::alloc::{AllocError, Global};

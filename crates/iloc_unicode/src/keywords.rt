@@ -48,8 +48,8 @@ ghost use Rattle.iloc_unicode.specs.Reads.{KeywordsReadAs, KeywordsWantMemory};
 ghost use Rattle.iloc_litemap.specs.Pairs.{IsAscending};
 
 use iloc_litemap::LiteMap;
-use iloc_subtags::{ParseError, SubtagIterator, UnicodeKey as Key};
 use iloc_shortvec::ShortBoxSlice;
+use iloc_subtags::{ParseError, SubtagIterator, UnicodeKey as Key};
 use iloc_unicode_value::Value;
 use std::alloc::{AllocError, Global};
 use std::cmp::Ordering;

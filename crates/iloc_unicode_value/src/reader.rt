@@ -13,7 +13,9 @@ ghost use Rattle.iloc_subtags.specs.Judging.{Accepts, Refuses};
 ghost use Rattle.iloc_unicode_value.specs.Reads.{ReadsAs, ValueWants};
 
 use crate::value::Value;
-use iloc_subtags::{AttributeKind, ParseError, Subtag, SubtagIterator, SubtagKind, WordKind, WordOf, take_word};
+use iloc_subtags::{
+    AttributeKind, ParseError, Subtag, SubtagIterator, SubtagKind, WordKind, WordOf, take_word,
+};
 use std::alloc::{AllocError, Global};
 
 impl Value {

@@ -1,8 +1,8 @@
 //! A writer as a sink.
 ghost use Rattle.std.specs.Prelude.{◌≡◌, None};
 
-use crate::whole::write_whole;
 use crate::Sink;
+use crate::whole::write_whole;
 use std::{fmt, io};
 
 /// Writes what it is given to its writer, at once, and keeps why a write failed.

@@ -17,12 +17,15 @@
 mod refusals;
 mod values;
 
-use iloc_subtags::{Attribute, CarryError, CurrencyType, Language, PrivateSubtag, Region, Script, SubdivisionSuffix, Subtag, TransformKey, UnicodeKey, Variant, carry_v1};
 use iloc_langid::LanguageIdentifier;
 use iloc_locale::Locale;
-use test_page::{bytes, number, refused, say, unescape};
+use iloc_subtags::{
+    Attribute, CarryError, CurrencyType, Language, PrivateSubtag, Region, Script,
+    SubdivisionSuffix, Subtag, TransformKey, UnicodeKey, Variant, carry_v1,
+};
 use std::alloc::{AllocError, Global};
 use std::{io, str};
+use test_page::{bytes, number, refused, say, unescape};
 use values::told;
 
 /// Room for an argument, and for the answer to a row.

@@ -1,10 +1,10 @@
 //! What each refusal prints, and its words, which are the same.
-use iloc_subtags::{CarryError, ParseError};
 use iloc_json::JsonError;
 use iloc_program::{RunError, ending};
-use test_page::say;
+use iloc_subtags::{CarryError, ParseError};
 use std::error::Error;
 use std::fmt::Write;
+use test_page::say;
 
 /// What the refusal prints, and its words.
 fn shown<E: Error>(out: &mut String, error: &E, words: &str) {

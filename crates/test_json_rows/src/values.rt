@@ -1,9 +1,9 @@
 //! What is told of values that are written as JSON strings. Each call answers whether memory was there.
-use iloc_writeable::{IoSink, Writeable, write_to_io};
 use iloc_json::{JsonError, JsonText};
-use test_page::{bytes, put, say, truth};
+use iloc_writeable::{IoSink, Writeable, write_to_io};
 use serde_json::Value;
 use std::alloc::Global;
+use test_page::{bytes, put, say, truth};
 
 /// What is told of a value of the type.
 pub fn told<T: JsonText + PartialEq + Drop>(

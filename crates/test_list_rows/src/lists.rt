@@ -3,10 +3,10 @@ use crate::steps::{
     Step, Stepping, answered, compared, is_done, replaced, say_letter, say_letters,
 };
 use iloc_shortvec::{ShortBoxSlice, ShortWords};
-use test_page::{number, say};
 use std::alloc::{AllocError, Global};
 use std::fmt;
 use std::hash::Hash;
+use test_page::{number, say};
 
 /// What a list lends.
 #[derive(Clone, Copy)]

@@ -21,9 +21,9 @@ use iloc_litemap::LiteMap;
 use iloc_shortvec::{ShortBoxSlice, ShortWords};
 use iloc_word_set::{Variants, is_strictly_ascending};
 use lists::Listed;
-use test_page::{Call, Program, page, truth};
 use sizes::Room;
 use std::io;
+use test_page::{Call, Program, page, truth};
 
 /// The answer to steps on a value of the kind, which begins without items.
 fn step_by_step(kind: &str, call: &Call<'_>, room: &mut Vec<u16>, out: &mut String) {

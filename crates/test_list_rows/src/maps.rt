@@ -1,8 +1,8 @@
 //! Steps on a map of letters, over a `Vec` and over a list that keeps one pair in place.
 use crate::steps::{Step, Stepping, answered, is_done, replaced, say_letter};
 use iloc_litemap::{LiteMap, Store};
-use test_page::{hash_of, number, say, truth};
 use std::alloc::{AllocError, Global};
+use test_page::{hash_of, number, say, truth};
 
 pub type Long = LiteMap<u16, u16>;
 

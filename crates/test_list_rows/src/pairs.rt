@@ -5,9 +5,9 @@ use crate::sets::set_of;
 use crate::steps::spell;
 use iloc_litemap::{LiteMap, Store};
 use iloc_shortvec::{ShortBoxSlice, ShortWords};
-use test_page::{Call, equal, ordered, refused};
 use std::alloc::AllocError;
 use std::hash::Hash;
+use test_page::{Call, equal, ordered, refused};
 
 /// Says how two values that were made compare.
 fn made<T: Ord + Hash + Drop>(

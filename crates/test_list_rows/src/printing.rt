@@ -3,10 +3,10 @@ use crate::maps::{Long, map_of};
 use crate::sets::set_of;
 use crate::steps::spell;
 use iloc_writeable::{LengthHint, Writeable, cmp_utf8, to_string_or_borrow};
-use test_page::{Call, number, order, refused, say, truth};
 use std::alloc::{AllocError, Global};
 use std::borrow::CowStr;
 use std::str;
+use test_page::{Call, number, order, refused, say, truth};
 
 /// Says the bounds.
 fn hint(hint: LengthHint, out: &mut String) {

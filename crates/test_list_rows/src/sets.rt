@@ -3,8 +3,8 @@ use crate::steps::{Step, Stepping, answered, compared, is_done, replaced};
 use iloc_subtags::Variant;
 use iloc_word_set::{Variants, WordSet, is_strictly_ascending};
 use iloc_writeable::Writeable;
-use test_page::{number, put, put_or_none, say};
 use std::alloc::{AllocError, Global};
+use test_page::{number, put, put_or_none, say};
 
 /// The variants of the text, in its order; pieces that are none are left out.
 fn variants_of(alloc: Global, text: &[u8]) -> Result<Vec<Variant>, AllocError> {

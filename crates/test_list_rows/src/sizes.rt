@@ -7,9 +7,9 @@ use iloc_litemap::{LiteMap, Probe, Store, place};
 use iloc_shortvec::{ShortBoxSlice, ShortWords};
 use iloc_word_set::Variants;
 use iloc_writeable::{Writeable, to_string_or_borrow};
+use std::alloc::{AllocError, Global};
 use test_page::argument::number_of;
 use test_page::{Call, number, refused, say, truth};
-use std::alloc::{AllocError, Global};
 
 /// Room for the numbers of a row, for their words, and for the answers of steps, which no row says.
 #[derive(Drop)]

@@ -1,9 +1,9 @@
 //! Steps on a value: `call.first.second` with blanks between. Each kind of value that steps change has a file of its own.
 //! In lists and maps a letter stands as its number.
-use test_page::argument::number_of;
-use test_page::{bytes, hash_of, refused, say};
 use std::alloc::{AllocError, Global};
 use std::hash::Hash;
+use test_page::argument::number_of;
+use test_page::{bytes, hash_of, refused, say};
 
 /// A step: what is called, the text that stands first, its letters, its number, and the first letters of both texts.
 #[derive(Clone, Copy)]

@@ -1,7 +1,6 @@
 //! The room of texts, parts that print after one another, and a sink that fails.
 use iloc_langid::LanguageIdentifier;
 use iloc_langid::reader::read_into as read_identifier;
-use test_list::FailingSink;
 use iloc_locale::Locale;
 use iloc_locale::locale::read_into as read_locale;
 use iloc_other::{Other, Private};
@@ -11,6 +10,7 @@ use iloc_writeable::{Pieces, Writeable, to_string_or_borrow};
 use std::alloc::{AllocError, Global};
 use std::borrow::CowStr;
 use std::test::Fail;
+use test_list::FailingSink;
 
 // Whether the text is owned, and takes no more room than it needs.
 fn is_tight(text: &CowStr<'_, Global>) -> bool {

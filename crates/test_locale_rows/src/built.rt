@@ -7,9 +7,9 @@ use iloc_langid::LanguageIdentifier;
 use iloc_locale::Locale;
 use iloc_subtags::{Language, ParseError, Region, Script, SubdivisionSuffix};
 use iloc_unicode::Unicode;
+use std::alloc::Global;
 use test_page::told::made;
 use test_page::{Answering, Call, refuse, say};
-use std::alloc::Global;
 
 // A language, a script and a region.
 type Parts = (Language, Option<Script>, Option<Region>);

@@ -8,11 +8,11 @@ use iloc_subtags::{ParseError, SubtagKind, UnicodeKey, VariantKind};
 use iloc_unicode::Keywords;
 use iloc_unicode_value::Value;
 use iloc_word_set::{Variants, is_strictly_ascending};
-use test_page::steps::{Growing, Step, has_turn, says_old, takes_in, words};
-use test_page::{hash_of, order, refuse, say, truth};
 use std::alloc::Global;
 use std::cmp::Ordering;
 use std::hash::Hash;
+use test_page::steps::{Growing, Step, has_turn, says_old, takes_in, words};
+use test_page::{hash_of, order, refuse, say, truth};
 
 /// The variants of the text, which have to ascend.
 pub fn variants(alloc: Global, text: &[u8]) -> Result<Variants, ParseError> {

@@ -7,12 +7,12 @@ use iloc_langid::{LanguageIdentifier, Lowercase};
 use iloc_locale::Locale;
 use iloc_subtags::{Language, ParseError, Region, Script, Subtag};
 use iloc_writeable::{Pieces, Writeable};
-use test_page::steps::{Step, fills, replaces};
-use test_page::told::told;
-use test_page::{Answering, order, put, put_some, say, truth};
 use std::alloc::Global;
 use std::cmp::Ordering;
 use std::{fmt, str};
+use test_page::steps::{Step, fills, replaces};
+use test_page::told::told;
+use test_page::{Answering, order, put, put_some, say, truth};
 
 /// Says what the value shows where it is looked into.
 pub fn debug<W: fmt::Debug>(out: &mut String, value: &W) {

@@ -7,11 +7,11 @@ use iloc_extensions::{Extensions, is_well_formed};
 use iloc_locale::{Locale, OrderedLocale};
 use iloc_subtags::ParseError;
 use iloc_writeable::Writeable;
-use test_page::steps::Step;
-use test_page::{Answering, Call, order, put, refused, say, truth};
 use std::alloc::Global;
 use std::cmp::Ordering;
 use std::str;
+use test_page::steps::Step;
+use test_page::{Answering, Call, order, put, refused, say, truth};
 
 // Says whether the text means the locale, or that an allocation failed.
 fn means(alloc: Global, locale: &Locale, text: &[u8], out: &mut String) {

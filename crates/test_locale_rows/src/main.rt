@@ -26,9 +26,9 @@ use iloc_extensions::Extensions;
 use iloc_keyword_types::SubdivisionId;
 use iloc_langid::LanguageIdentifier;
 use iloc_locale::Locale;
+use std::io;
 use test_page::told::{answer, told};
 use test_page::{Ask, Asking, Call, Judged, page, say};
-use std::io;
 
 /// The program: what it asks of a type stands at the type's `impl` of `Answering`.
 #[derive(Drop)]

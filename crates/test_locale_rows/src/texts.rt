@@ -4,11 +4,11 @@ use iloc_keyword_types::SubdivisionId;
 use iloc_langid::{LanguageIdentifier, SmallLocaleParts, read_small_locale};
 use iloc_locale::Locale;
 use iloc_subtags::{Language, ParseError, Region, Script, Variant};
-use test_page::told::lent;
-use test_page::{Call, printed, put, put_some, refuse, say};
 use std::alloc::Global;
 use std::borrow::CowStr;
 use std::str;
+use test_page::told::lent;
+use test_page::{Call, printed, put, put_some, refuse, say};
 
 // Says a normal text, or why it was refused.
 fn normal(out: &mut String, text: Result<CowStr<'_, Global>, ParseError>) {

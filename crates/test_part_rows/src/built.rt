@@ -10,10 +10,10 @@ use iloc_transform::{Fields, Transform, Value as FieldValue};
 use iloc_unicode::{Attributes, Keywords, Unicode};
 use iloc_unicode_value::Value;
 use iloc_word_set::is_strictly_ascending;
+use std::alloc::{AllocError, Global};
 use test_page::steps::words;
 use test_page::told::made;
 use test_page::{Answering, Call, put, put_or_none, refuse, say};
-use std::alloc::{AllocError, Global};
 
 // A key and a value.
 type Entry<K, const N: usize, V> = (WordOf<K, N>, V);

@@ -23,9 +23,9 @@ use iloc_other::{Other, Private};
 use iloc_transform::{Fields, Transform, Value as FieldValue};
 use iloc_unicode::{Attributes, Keywords, Unicode};
 use iloc_unicode_value::Value;
+use std::io;
 use test_page::told::answer;
 use test_page::{Ask, Asking, Call, Judged, page, say};
-use std::io;
 
 /// The program: what it asks of a type stands at the type's `impl` of `Answering`.
 #[derive(Drop)]

@@ -7,10 +7,12 @@ use iloc_transform::{Fields, Transform, Value as FieldValue};
 use iloc_unicode::{Keywords, Unicode};
 use iloc_unicode_value::Value;
 use iloc_writeable::Writeable;
-use test_page::steps::{Growing, Setting, Step, fills, has_turn, is_done, says_old, sets, takes_in};
-use test_page::{Answering, order, put, put_or_none, put_some, say, truth};
 use std::alloc::{AllocError, Global};
 use std::cmp::Ordering;
+use test_page::steps::{
+    Growing, Setting, Step, fills, has_turn, is_done, says_old, sets, takes_in,
+};
+use test_page::{Answering, order, put, put_or_none, put_some, say, truth};
 
 // Says whether a value is there, and the value.
 fn found<V: Writeable>(out: &mut String, is_there: bool, value: Option<&V>) {

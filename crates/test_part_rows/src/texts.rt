@@ -4,9 +4,9 @@ use iloc_subtags::{RegionKind, SubtagIterator, take_word};
 use iloc_transform::{Transform, Value as FieldValue};
 use iloc_unicode::{Attributes, Keywords, Unicode};
 use iloc_unicode_value::Value;
-use test_page::{Call, bytes, printed, put_some, say};
 use std::alloc::Global;
 use std::str;
+use test_page::{Call, bytes, printed, put_some, say};
 
 // Says a piece in brackets, or `none`.
 fn piece(out: &mut String, piece: Option<&[u8]>) {

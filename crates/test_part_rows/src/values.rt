@@ -5,12 +5,12 @@ use iloc_subtags::{ParseError, Subtag, SubtagKind, WordKind, WordOf};
 use iloc_transform::Value as FieldValue;
 use iloc_unicode::Attributes;
 use iloc_unicode_value::Value;
-use test_page::argument::number_of;
-use test_page::steps::{Growing, Step, is_done, says_old, takes_in, words as words_of};
-use test_page::{Answering, number, put, put_or_none, say, truth};
 use std::alloc::Global;
 use std::cmp::Ordering;
 use std::str;
+use test_page::argument::number_of;
+use test_page::steps::{Growing, Step, is_done, says_old, takes_in, words as words_of};
+use test_page::{Answering, number, put, put_or_none, say, truth};
 
 /// Says the words, each in brackets.
 pub fn words<K: WordKind<N>, const N: usize>(out: &mut String, words: &[WordOf<K, N>]) {

@@ -6,9 +6,9 @@ use iloc_keyword_types::{
 use iloc_subtags::{CurrencyType, UnicodeKey};
 use iloc_unicode_value::Value;
 use iloc_writeable::Writeable;
-use test_page::{put, refused, say};
 use std::alloc::Global;
 use std::fmt::Write;
+use test_page::{put, refused, say};
 
 /// What a row asks of a keyword: `read`, `value` or `keyed`, or nothing for all three.
 #[derive(Drop)]

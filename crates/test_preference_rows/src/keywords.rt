@@ -18,9 +18,9 @@ use iloc_keyword_types::{
 };
 use iloc_subtags::{CurrencyType, UnicodeKey};
 use iloc_unicode_value::Value;
-use test_page::{Call, put, refuse, say};
 use std::alloc::AllocError;
 use std::str;
+use test_page::{Call, put, refuse, say};
 
 // What the keyword is, read of the value.
 fn keyword(word: &str, asked: &Asked<'_>, out: &mut String) {

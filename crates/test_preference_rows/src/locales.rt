@@ -5,8 +5,8 @@ use iloc_data::{DataLocale, LocalePreferences};
 use iloc_langid::LanguageIdentifier;
 use iloc_locale::Locale;
 use iloc_subtags::{Subtag, UnicodeKey};
-use test_page::{put, put_some, refused, say};
 use std::alloc::Global;
+use test_page::{put, put_some, refused, say};
 
 impl Answering for Locale {
     fn tell(&mut self, alloc: Global, call: &str, out: &mut String) {

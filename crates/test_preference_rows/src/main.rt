@@ -24,9 +24,9 @@ mod variants;
 use iloc_data::{DataLocale, FormatPreferences, TimePreferences};
 use iloc_langid::LanguageIdentifier;
 use iloc_locale::Locale;
-use test_page::{Call, Program, page};
 use std::alloc::Global;
 use std::io;
+use test_page::{Call, Program, page};
 use told::{extended, handed_over, told};
 
 #[derive(Drop)]

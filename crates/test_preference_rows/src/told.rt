@@ -1,8 +1,8 @@
 //! What is told of values that were read. Only the generic functions here own such a value.
 use iloc_subtags::ParseError;
 use iloc_writeable::Writeable;
-use test_page::{put, refuse, refused};
 use std::alloc::{AllocError, Global};
+use test_page::{put, refuse, refused};
 
 /// A type of which calls are told.
 pub trait Answering: Sized {

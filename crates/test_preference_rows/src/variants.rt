@@ -13,8 +13,8 @@ use iloc_keyword_types::{
 };
 use iloc_subtags::{CurrencyType, ParseError, Script, Subtag};
 use iloc_unicode_value::Value;
-use test_page::{Call, refuse, say, truth};
 use std::alloc::Global;
+use test_page::{Call, refuse, say, truth};
 
 // Says whether what was parsed is that very keyword.
 fn is<T: PartialEq + Drop>(read: Result<T, PreferencesParseError>, wanted: T, out: &mut String) {

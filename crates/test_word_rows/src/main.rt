@@ -13,9 +13,9 @@ mod single;
 mod tiny;
 mod words;
 
-use test_page::{say, unescape};
 use std::alloc::{AllocError, Global};
 use std::io;
+use test_page::{say, unescape};
 
 /// Room for an argument.
 const ROOM: usize = 65_536;

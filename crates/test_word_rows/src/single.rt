@@ -2,9 +2,9 @@
 use crate::tiny::{joined, padded, resized};
 use iloc_subtags::{CurrencyType, Language, ParseError, Region, Script, Subtag};
 use iloc_tinystr::TinyAsciiStr;
-use test_page::{field, number, printed, put, refuse, say, truth};
 use std::alloc::AllocError;
 use std::str;
+use test_page::{field, number, printed, put, refuse, say, truth};
 
 /// The language of a raw form of three bytes.
 fn old_raw(given: &[u8], out: &mut String) {

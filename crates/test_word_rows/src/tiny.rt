@@ -2,8 +2,8 @@
 ghost use Rattle.std.specs.Prelude.{◌≤◌};
 
 use iloc_tinystr::TinyAsciiStr;
-use test_page::{bytes, field, number, ordered, say};
 use std::str;
+use test_page::{bytes, field, number, ordered, say};
 
 /// Says the word if the text is of the class.
 fn class(is_of: bool, word: &str, out: &mut String) {

@@ -8,8 +8,8 @@ use iloc_subtags::{
 use iloc_tinystr::TinyAsciiStr;
 use iloc_writeable::Writeable;
 use iloc_writeable::pieces::Pieces;
-use test_page::{bytes, field, number, order, ordered, printed, refuse, say, truth};
 use std::str;
+use test_page::{bytes, field, number, order, ordered, printed, refuse, say, truth};
 
 /// The text and the raw form of what the text is parsed as.
 fn word<K: WordKind<N>, const N: usize>(text: &[u8], out: &mut String) {
