@@ -3,7 +3,7 @@
 use Rattle.std.specs.Prelude.{◌≡◌, ℕ, Bool, true, false, not, ◌&&◌, ◌==◌, List, [], ◌∷◌, length, is_some, if◌then◌else◌, Result}
 use Rattle.std.specs.Char.{is_ascii_alphanumeric, to_ascii_lowercase}
 use Rattle.std.specs.List.{AllByRecursion, list_any}
-use Rattle.iloc_spec_grammar.specs.Shapes.{Text, Table, Block}
+use Rattle.iloc_spec_grammar.specs.Shapes.{Text, Table, Block, code_t, code_u, code_x}
 use Rattle.iloc_spec_grammar.specs.Words.{languages}
 use Rattle.iloc_spec_grammar.specs.Meaning.{Extensions}
 use Rattle.iloc_spec_grammar.specs.ByBlocks.{BlocksMean}
@@ -30,9 +30,9 @@ pub record BlocksDone (T : Table) (start now : List Text) (e : Extensions) : Typ
 -- whether a part of this singleton, in lower case, was read: no part that was read is empty
 abbrev pub is_read : Extensions → ℕ → Bool
 is_read e c =
-    if c == 117 then not ((length e.unicode.attributes == 0) && (length e.unicode.keywords == 0)) else
-    if c == 116 then not (not (is_some e.transform.id) && (length e.transform.fields == 0)) else
-    if c == 120 then not (length e.private == 0) else
+    if c == code_u then not ((length e.unicode.attributes == 0) && (length e.unicode.keywords == 0)) else
+    if c == code_t then not (not (is_some e.transform.id) && (length e.transform.fields == 0)) else
+    if c == code_x then not (length e.private == 0) else
     list_any (λ o. o.0 == c) e.others
 
 -- a block begins with the byte c, a letter or digit whose part wasn't read yet

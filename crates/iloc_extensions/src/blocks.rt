@@ -1,5 +1,6 @@
 //! Parses the blocks after the head of a locale.
 ghost use Rattle.std.specs.Prelude.{◌≡◌, ◌∷◌, ℕ, List, [], true, ◌≤◌, length, OnOk};
+ghost use Rattle.iloc_spec_grammar.specs.Shapes.{Text};
 ghost use Rattle.iloc_spec_grammar.specs.Reading.{starts_block, rest_of};
 ghost use Rattle.iloc_spec_grammar.specs.Words.{languages};
 ghost use Rattle.iloc_spec_grammar.specs.Meaning.{no_extensions};
@@ -57,7 +58,7 @@ fn read_block(
     iter: &mut SubtagIterator<'_>,
     extensions: &mut Extensions,
 ) -> Result<(), ParseError>
-    ensures reads { (start : List (List ℕ))
+    ensures reads { (start : List Text)
         → BlocksDone languages start ((byte ∷ []) ∷ left iter.old) (value_of extensions.old)
         → BlockReads start (left iter.new) (value_of extensions.new) result }
     ensures shorter { OnOk result (length (left iter.new) ≤ length (left iter.old)) }

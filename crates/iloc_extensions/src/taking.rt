@@ -2,6 +2,7 @@
 ghost use Rattle.std.specs.Prelude.{◌≡◌, ◌==◌, ◌≤◌, ℕ, List, [], None, true, false, length, OnOk};
 ghost use Rattle.std.specs.Char.{to_ascii_lowercase};
 ghost use Rattle.std.specs.List.{list_any};
+ghost use Rattle.iloc_spec_grammar.specs.Shapes.{Text, code_t, code_u, code_x};
 ghost use Rattle.iloc_spec_grammar.specs.Meaning.{Extensions as Parts};
 ghost use Rattle.iloc_spec_grammar.specs.Reading.{starts_block};
 ghost use Rattle.iloc_spec_grammar.specs.Words.{languages};
@@ -29,8 +30,8 @@ pub(crate) fn take_unicode(
 ) -> Result<(), ParseError>
     requires keywords { unicode.old.keywords ≡ [] }
     requires attributes { unicode.old.attributes ≡ [] }
-    ensures reads { (start : List (List ℕ)) (c : ℕ) (M : Parts)
-        → BlockAt languages start c (left iter.old) M → to_ascii_lowercase c ≡ 117
+    ensures reads { (start : List Text) (c : ℕ) (M : Parts)
+        → BlockAt languages start c (left iter.old) M → to_ascii_lowercase c ≡ code_u
         → BlockReads start (left iter.new)
         (record M { unicode = unicode_value.value_of unicode.new }) result }
     ensures shorter { OnOk result (length (left iter.new) ≤ length (left iter.old)) }
@@ -50,8 +51,8 @@ pub(crate) fn take_transform(
 ) -> Result<(), ParseError>
     requires lang { transform.old.lang ≡ None }
     requires fields { transform.old.fields ≡ [] }
-    ensures reads { (start : List (List ℕ)) (c : ℕ) (M : Parts)
-        → BlockAt languages start c (left iter.old) M → to_ascii_lowercase c ≡ 116
+    ensures reads { (start : List Text) (c : ℕ) (M : Parts)
+        → BlockAt languages start c (left iter.old) M → to_ascii_lowercase c ≡ code_t
         → BlockReads start (left iter.new)
         (record M { transform = transform_value.value_of transform.new }) result }
     ensures shorter { OnOk result (length (left iter.new) ≤ length (left iter.old)) }
@@ -70,8 +71,8 @@ pub(crate) fn take_private(
     private: &mut Private,
 ) -> Result<(), ParseError>
     requires { private.old ≡ [] }
-    ensures reads { (start : List (List ℕ)) (c : ℕ) (M : Parts)
-        → BlockAt languages start c (left iter.old) M → to_ascii_lowercase c ≡ 120
+    ensures reads { (start : List Text) (c : ℕ) (M : Parts)
+        → BlockAt languages start c (left iter.old) M → to_ascii_lowercase c ≡ code_x
         → BlockReads start (left iter.new) (record M { private = private.new }) result }
     ensures shorter { OnOk result (length (left iter.new) ≤ length (left iter.old)) }
 {
@@ -87,7 +88,7 @@ pub(crate) fn take_other(
 ) -> Result<(), ParseError>
     requires other { is_other_singleton ext ≡ true }
     requires new { list_any (λ o. o.0 == ext) others.old.items ≡ false }
-    ensures reads { (start : List (List ℕ)) (c : ℕ) (M : Parts)
+    ensures reads { (start : List Text) (c : ℕ) (M : Parts)
         → BlockAt languages start c (left iter.old) M → to_ascii_lowercase c ≡ ext
         → M.others ≡ others.old.items
         → BlockReads start (left iter.new) (record M { others = others.new.items }) result }

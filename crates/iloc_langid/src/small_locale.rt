@@ -1,5 +1,6 @@
 //! Parses small locales from the left, in one walk.
 ghost use Rattle.std.specs.Prelude.{◌≡◌, []};
+ghost use Rattle.iloc_spec_grammar.specs.Shapes.{code_u};
 ghost use Rattle.iloc_spec_grammar.specs.Words as words;
 ghost use Rattle.iloc_subtags.specs.Left.{left};
 ghost use Rattle.iloc_langid.specs.SmallLocaleReads.{SmallLocaleReadsAs};
@@ -65,7 +66,7 @@ fn read_block(singleton: u8, iter: &mut SubtagIterator<'_>) -> Result<SmallKeywo
 // Parses all that follows `u`.
 #[tactic(auto, using(crate::proofs::BlockLemmas::keys))]
 fn read_keyword(iter: &mut SubtagIterator<'_>) -> Result<SmallKeyword, ParseError>
-    ensures { result ≡ answer_of (block_result 117 (left iter.old)) }
+    ensures { result ≡ answer_of (block_result code_u (left iter.old)) }
 {
     let Some(key) = take_word::<UnicodeKeyKind, 2>(iter) else {
         return Err(refusal_of_keyless(iter));

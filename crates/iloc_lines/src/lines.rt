@@ -24,6 +24,7 @@ ghost use Rattle.iloc_lines.specs.Output.{output, reply};
 ghost use Rattle.iloc_lines.specs.ReplyBlock.{held};
 ghost use Rattle.iloc_spec_output.specs.Lines.{IsOneLine};
 ghost use Rattle.std.specs.Simd.Lanes.{mask_l};
+ghost use Rattle.iloc_spec_grammar.specs.Shapes.{Text};
 ghost use Rattle.memchr.specs.Find.{IsFirstByte, is_byte};
 
 use crate::replies::write_refusal;
@@ -136,7 +137,7 @@ fn feed_lines<A: Answers>(
 ) -> Result<(), AllocError>
     requires { pending.old.items ≡ [] }
     ensures one_line { OnOk result (IsOneLine pending.new.items) }
-    ensures ahead { OnOk result ((next : List ℕ) →
+    ensures ahead { OnOk result ((next : Text) →
         held replies.old ++ output A.mode (bytes.now ++ next)
         ≡ held replies.new ++ output A.mode (pending.new.items ++ next)) }
 {
@@ -159,7 +160,7 @@ pub(crate) fn feed<A: Answers>(
     requires { IsOneLine pending.old.items }
     ensures one_line { OnOk result (IsOneLine pending.new.items) }
     // Whatever comes next, the replies to it all are these and what is still to come.
-    ensures ahead { OnOk result ((next : List ℕ) →
+    ensures ahead { OnOk result ((next : Text) →
         held replies.old ++ output A.mode (pending.old.items ++ (piece.now ++ next))
         ≡ held replies.new ++ output A.mode (pending.new.items ++ next)) }
 {

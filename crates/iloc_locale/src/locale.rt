@@ -1,6 +1,7 @@
 //! The type, and its parsers.
 ghost use Rattle.std.specs.Prelude.{◌≡◌, ℕ, true, List, IsOk, IfOk, IfErr, Ok, OnErr};
 ghost use Rattle.std.specs.Result.{result_and};
+ghost use Rattle.iloc_spec_grammar.specs.Shapes.{Text};
 ghost use Rattle.iloc_spec_grammar.specs.Pieces.{pieces};
 ghost use Rattle.iloc_spec_grammar.specs.Words.{languages, two_or_three};
 ghost use Rattle.iloc_spec_grammar.specs.Meaning as meaning;
@@ -72,7 +73,7 @@ impl Locale {
         ensures succeeds { IsInline languages code_units.now → IsOk result }
         ensures well_formed { IfOk result
             (λ l. IsValue languages (value_of l) × IsWellFormed (value_of l)) }
-        ensures steps { IfOk result (λ l. (n : ℕ) (u : List ℕ)
+        ensures steps { IfOk result (λ l. (n : ℕ) (u : Text)
             → Chain languages n code_units.now u → Means languages u (value_of l)) }
         ensures narrow { (M : meaning.Locale) → Means two_or_three code_units.now M
             → IfOk result (λ l. value_of l ≡ M) }
@@ -112,7 +113,7 @@ impl Locale {
         ensures succeeds { IsInline languages s.now → IsOk result }
         ensures well_formed { IfOk result
             (λ l. IsValue languages (value_of l) × IsWellFormed (value_of l)) }
-        ensures steps { IfOk result (λ l. (n : ℕ) (u : List ℕ)
+        ensures steps { IfOk result (λ l. (n : ℕ) (u : Text)
             → Chain languages n s.now u → Means languages u (value_of l)) }
         ensures narrow { (M : meaning.Locale) → Means two_or_three s.now M
             → IfOk result (λ l. value_of l ≡ M) }
@@ -147,7 +148,7 @@ pub fn read_rest(
     locale: &mut Locale,
 ) -> Result<(), ParseError>
     requires starts { starts_block (left iter.old) ≡ true }
-    ensures { (t : List ℕ) → langid.ReadsAs (head (pieces t)) (Ok locale.old.id)
+    ensures { (t : Text) → langid.ReadsAs (head (pieces t)) (Ok locale.old.id)
         → left iter.old ≡ after_head (pieces t)
         → LocaleReadsAs t (result_and result (Ok locale.new)) }
 {

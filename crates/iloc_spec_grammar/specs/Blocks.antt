@@ -2,7 +2,7 @@
 -- Restates UTS #35, section 3: extensions begin at singletons, and pu_extensions take all the rest.
 use Rattle.std.specs.Prelude.{Bool, cond, ◌==◌, List, [], ◌∷◌, length}
 use Rattle.std.specs.Char.{to_ascii_lowercase}
-use Rattle.iloc_spec_grammar.specs.Shapes.{Text, Block}
+use Rattle.iloc_spec_grammar.specs.Shapes.{Text, Block, code_x}
 
 -- whether the piece may begin a block: a singleton (UTS #35 3.2, `extensions`)
 abbrev pub is_one_byte : Text → Bool
@@ -18,7 +18,7 @@ front (p ∷ ps) = cond (is_one_byte p) [] (p ∷ front ps)
 abbrev pub blocks : List Text → List Block
 blocks [] = []
 blocks ([] ∷ ps) = blocks ps
-blocks ((c ∷ []) ∷ ps) = cond (to_ascii_lowercase c == 120) ((c, ps) ∷ [])
+blocks ((c ∷ []) ∷ ps) = cond (to_ascii_lowercase c == code_x) ((c, ps) ∷ [])
     ((c, front ps) ∷ blocks ps)
 blocks ((c ∷ d ∷ p) ∷ ps) = blocks ps
 

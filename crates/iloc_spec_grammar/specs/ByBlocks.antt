@@ -6,7 +6,7 @@ use Rattle.std.specs.Char.{is_ascii_alphanumeric}
 use Rattle.std.specs.List.{AllByRecursion}
 use Rattle.std.specs.Ordering.{nat_cmp}
 use Rattle.std.specs.FinMap.{find}
-use Rattle.iloc_spec_grammar.specs.Shapes.{Text, Table, Block}
+use Rattle.iloc_spec_grammar.specs.Shapes.{Text, Table, Block, code_t, code_u, code_x}
 use Rattle.iloc_spec_grammar.specs.Pieces.{pieces}
 use Rattle.iloc_spec_grammar.specs.Words.{lower}
 use Rattle.iloc_spec_grammar.specs.Written.{Unicode, Transform, unicode_pieces, transform_pieces, IsUnicode, IsTransform, IsOther, IsPrivate, kept, is_other_singleton, AllDifferent, singleton}
@@ -66,14 +66,14 @@ other_blocks bs = filter (λ b. is_other_singleton b.0) bs
 abbrev pub PartIs : {X : Type 0} → (List Text → X → Type 0) → X → Option (List Text) → X → Type 0
 PartIs Rule empty block v = MatchOption block (v ≡ empty) (λ ps. Rule ps v)
 
--- Singletons are letters or digits and differ, the blocks of `u` (117), `t` (116) and `x` (120)
+-- Singletons are letters or digits and differ, the blocks of `u`, `t` and `x`
 -- give their parts, and each other one the words that it keeps.
 pub record BlocksGive (R : Rules) (bs : List Block) (e : Extensions) : Type 0 where
   pub letters : AllByRecursion (λ b. is_ascii_alphanumeric b.0 ≡ true) bs
   pub different : AllDifferent nat_cmp (map (λ b. singleton b) bs)
-  pub unicode : PartIs R.unicode no_unicode (find nat_cmp 117 (by_letter bs)) e.unicode
-  pub transform : PartIs R.transform no_transform (find nat_cmp 116 (by_letter bs)) e.transform
-  pub private : PartIs R.private [] (find nat_cmp 120 (by_letter bs)) e.private
+  pub unicode : PartIs R.unicode no_unicode (find nat_cmp code_u (by_letter bs)) e.unicode
+  pub transform : PartIs R.transform no_transform (find nat_cmp code_t (by_letter bs)) e.transform
+  pub private : PartIs R.private [] (find nat_cmp code_x (by_letter bs)) e.private
   pub each_other : AllByRecursion (λ b. R.other b.1 (kept b.1)) (other_blocks (by_letter bs))
   pub others : e.others
       ≡ map_of nat_cmp (map (λ b. (b.0, kept b.1)) (other_blocks (by_letter bs)))

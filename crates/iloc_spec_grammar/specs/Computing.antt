@@ -7,7 +7,7 @@ use Rattle.std.specs.Int.{is_in_range}
 use Rattle.std.specs.List.{list_any, list_all}
 use Rattle.std.specs.Ordering.{nat_cmp, eq_by_cmp}
 use Rattle.std.specs.declared.cmp.Ordering.{Ordering}
-use Rattle.iloc_spec_grammar.specs.Shapes.{Text, Table, Field, Block}
+use Rattle.iloc_spec_grammar.specs.Shapes.{Text, Table, Field, Block, code_t, code_u, code_x}
 use Rattle.iloc_spec_grammar.specs.Pieces.{pieces}
 use Rattle.iloc_spec_grammar.specs.Words.{Language, Script, Region, Variant, UnicodeKey, TransformKey, Attribute, PrivateSubtag, is_word, lower, word_cmp}
 use Rattle.iloc_spec_grammar.specs.Written.{Identifier, Unicode, Transform, Extension, unicode, transform, other, kept, is_other_singleton, singleton}
@@ -55,12 +55,12 @@ abbrev pub is_private : List Text → Bool
 is_private ps = list_all (is_word PrivateSubtag) ps && nat_lt 0 (length ps)
 
 abbrev pub is_extension : Table → ℕ → Extension → Bool
-is_extension T c (unicode u) = (c == 117) && is_unicode u
-is_extension T c (transform m) = (c == 116) && is_transform T m
+is_extension T c (unicode u) = (c == code_u) && is_unicode u
+is_extension T c (transform m) = (c == code_t) && is_transform T m
 is_extension T c (other ps) = is_other_singleton c && is_other ps
 
 abbrev pub is_block : Table → Block → Bool
-is_block T b = ((singleton b == 120) && is_private b.1)
+is_block T b = ((singleton b == code_x) && is_private b.1)
     || is_extension T (singleton b) (extension_of (singleton b) b.1)
 
 abbrev pub repeats_variant : Table → List Text → Bool
@@ -77,13 +77,13 @@ identifier_result T ps =
     Ok (normal_identifier (identifier_of ps))
 
 -- the fault of the first bad block, after blocks with the singletons in seen
-abbrev pub first_fault : Table → List ℕ → List Block → Option Fault
+abbrev pub first_fault : Table → Text → List Block → Option Fault
 first_fault T seen [] = None
 first_fault T seen (b ∷ bs) =
     if not (is_ascii_alphanumeric b.0) then Some InvalidExtension else
     if list_any (eq_by_cmp nat_cmp (singleton b)) seen then Some DuplicatedExtension else
     if is_block T b then first_fault T (singleton b ∷ seen) bs else
-    if (singleton b == 116) && repeats_variant T b.1 then Some InvalidSubtag else
+    if (singleton b == code_t) && repeats_variant T b.1 then Some InvalidSubtag else
     Some InvalidExtension
 
 abbrev pub unless_fault : {X : Type 0} → Option Fault → X → Result X Fault

@@ -4,7 +4,7 @@ use Rattle.std.specs.Prelude.{◌≡◌, ◌⊎◌, ℕ, true, false, List, [], 
 use Rattle.std.specs.Char.{is_ascii_alphanumeric}
 use Rattle.std.specs.List.{list_any}
 use Rattle.std.specs.Ordering.{nat_cmp, eq_by_cmp}
-use Rattle.iloc_spec_grammar.specs.Shapes.{Text, Table, Block}
+use Rattle.iloc_spec_grammar.specs.Shapes.{Text, Table, Block, code_t, code_x}
 use Rattle.iloc_spec_grammar.specs.Pieces.{pieces}
 use Rattle.iloc_spec_grammar.specs.Words.{Language, is_word, IsWord, lower, word_cmp}
 pub use Rattle.iloc_spec_grammar.specs.Blocks.{is_one_byte, front, blocks, head, tail_blocks, first_piece}
@@ -29,9 +29,9 @@ pub data HasIdentifierFault (T : Table) (ps : List Text) : Fault → Type 0 wher
 
 -- Faults of blocks.
 
--- the block follows the rule of its singleton, which for `x` (120) is that of the private part
+-- the block follows the rule of its singleton, which for `x` is that of the private part
 abbrev pub IsBlock : Table → Block → Type 0
-IsBlock T b = ((singleton b ≡ 120) × IsPrivate b.1)
+IsBlock T b = ((singleton b ≡ code_x) × IsPrivate b.1)
     ⊎ ((e : Extension) × IsExtension T (singleton b) e × (b.1 ≡ extension_pieces e))
 
 -- a front of the pieces is a language, perhaps a script and a region, and variants, of which one
@@ -45,25 +45,25 @@ abbrev pub HasSingleton : Block → Type 0
 HasSingleton b = is_ascii_alphanumeric b.0 ≡ true
 
 -- and none of those seen
-abbrev pub IsNew : List ℕ → Block → Type 0
+abbrev pub IsNew : Text → Block → Type 0
 IsNew seen b = list_any (eq_by_cmp nat_cmp (singleton b)) seen ≡ false
 
 -- What is wrong with a block, after blocks with the singletons in seen. The singleton comes first:
 -- it is a letter or digit, and new. Then a repeated variant after `t`; and then all else.
-pub data BlockFault (T : Table) (seen : List ℕ) (b : Block) : Fault → Type 0 where
+pub data BlockFault (T : Table) (seen : Text) (b : Block) : Fault → Type 0 where
   no_singleton : is_ascii_alphanumeric b.0 ≡ false → BlockFault T seen b InvalidExtension
   duplicated : HasSingleton b → list_any (eq_by_cmp nat_cmp (singleton b)) seen ≡ true
       → BlockFault T seen b DuplicatedExtension
-  repeats_variant : HasSingleton b → IsNew seen b → singleton b ≡ 116 → RepeatsVariant T b.1
+  repeats_variant : HasSingleton b → IsNew seen b → singleton b ≡ code_t → RepeatsVariant T b.1
       → BlockFault T seen b InvalidSubtag
-  breaks_rule : HasSingleton b → IsNew seen b → ¬ ((singleton b ≡ 116) × RepeatsVariant T b.1)
+  breaks_rule : HasSingleton b → IsNew seen b → ¬ ((singleton b ≡ code_t) × RepeatsVariant T b.1)
       → ¬ (IsBlock T b) → BlockFault T seen b InvalidExtension
 
 -- the blocks before this one are good, and it has the fault
-pub data FirstBadBlock (T : Table) : List ℕ → List Block → Fault → Type 0 where
-  here : {seen : List ℕ} {b : Block} {bs : List Block} {f : Fault} → BlockFault T seen b f
+pub data FirstBadBlock (T : Table) : Text → List Block → Fault → Type 0 where
+  here : {seen : Text} {b : Block} {bs : List Block} {f : Fault} → BlockFault T seen b f
       → FirstBadBlock T seen (b ∷ bs) f
-  later : {seen : List ℕ} {b : Block} {bs : List Block} {f : Fault} → HasSingleton b → IsNew seen b
+  later : {seen : Text} {b : Block} {bs : List Block} {f : Fault} → HasSingleton b → IsNew seen b
       → IsBlock T b → FirstBadBlock T (singleton b ∷ seen) bs f → FirstBadBlock T seen (b ∷ bs) f
 
 -- Why a text is no locale: no language stands first; or the head is no identifier; or the first bad

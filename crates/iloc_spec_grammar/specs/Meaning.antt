@@ -6,7 +6,7 @@ use Rattle.std.specs.Prelude.{◌≡◌, ℕ, not, List, [], ◌∷◌, map, fil
 use Rattle.std.specs.Ordering.{nat_cmp}
 use Rattle.std.specs.declared.cmp.Ordering.{Ordering}
 use Rattle.std.specs.FinMap.{put, find}
-use Rattle.iloc_spec_grammar.specs.Shapes.{Text, Table, Block}
+use Rattle.iloc_spec_grammar.specs.Shapes.{Text, Table, Block, code_t, code_u}
 use Rattle.iloc_spec_grammar.specs.Pieces.{pieces}
 use Rattle.iloc_spec_grammar.specs.Words.{lower, upper, title, word_cmp, is_true}
 use Rattle.iloc_spec_grammar.specs.Written.{Identifier, Fields, Unicode, Transform, Extension, unicode, transform, other, Written, identifier_pieces, kept, IsWritten, IsIdentifier, singleton, spelling}
@@ -106,11 +106,11 @@ other_part _ = None
 abbrev pub by_singleton : List (ℕ × Extension) → List (ℕ × Extension)
 by_singleton es = map (λ e. (singleton e, e.1)) es
 
--- the parts are those of `u` (117), of `t` (116), of the private part and of the others
+-- the parts are those of `u`, of `t`, of the private part and of the others
 abbrev pub extensions_meaning : Written → Extensions
 extensions_meaning w = let es = by_singleton w.extensions in record {
-  unicode = unicode_part (find nat_cmp 117 es);
-  transform = transform_part (find nat_cmp 116 es);
+  unicode = unicode_part (find nat_cmp code_u es);
+  transform = transform_part (find nat_cmp code_t es);
   private = private_part w.private;
   others = map_of nat_cmp (filter_map other_part es);
 }

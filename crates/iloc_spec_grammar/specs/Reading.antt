@@ -4,7 +4,7 @@
 -- same way. Each loses nothing, and gives back what follows the rules of Written, so the rules have
 -- one reading at most.
 use Rattle.std.specs.Prelude.{◌≡◌, ℕ, ◌≤◌, Bool, true, false, cond, ◌==◌, List, [], ◌∷◌, ◌++◌, length, Option, Some, None}
-use Rattle.iloc_spec_grammar.specs.Shapes.{Text, Table, Block}
+use Rattle.iloc_spec_grammar.specs.Shapes.{Text, Table, Block, code_t, code_u, code_x}
 use Rattle.iloc_spec_grammar.specs.Words.{Script, Region, Variant, TransformKey, is_word}
 use Rattle.iloc_spec_grammar.specs.Written.{Identifier, Fields, Unicode, Transform, Extension, unicode, transform, other, Written, HasWords, identifier_pieces, singleton}
 use Rattle.iloc_spec_grammar.specs.Blocks.{is_one_byte, first_piece, head, tail_blocks}
@@ -126,19 +126,19 @@ extension_by false false ps = other ps
 
 -- the extension after the singleton, in lower case
 abbrev pub extension_of : ℕ → List Text → Extension
-extension_of c ps = extension_by (c == 116) (c == 117) ps
+extension_of c ps = extension_by (c == code_t) (c == code_u) ps
 
 -- Whole texts.
 
 -- the extensions of the blocks before the one of `x`, and that one
 abbrev pub extensions_in : List Block → List (ℕ × Extension)
 extensions_in [] = []
-extensions_in (b ∷ bs) = cond (singleton b == 120) []
+extensions_in (b ∷ bs) = cond (singleton b == code_x) []
     ((b.0, extension_of (singleton b) b.1) ∷ extensions_in bs)
 
 abbrev pub private_in : List Block → Option Block
 private_in [] = None
-private_in (b ∷ bs) = cond (singleton b == 120) (Some b) (private_in bs)
+private_in (b ∷ bs) = cond (singleton b == code_x) (Some b) (private_in bs)
 
 unfoldable pub written_of : List Text → Written
 written_of ps = record {

@@ -7,7 +7,7 @@ use Rattle.std.specs.Char.{to_ascii_lowercase}
 use Rattle.std.specs.List.{AllByRecursion}
 use Rattle.std.specs.Ordering.{nat_cmp}
 use Rattle.std.specs.FinMap.{is_sorted}
-use Rattle.iloc_spec_grammar.specs.Shapes.{Text, Table, Block}
+use Rattle.iloc_spec_grammar.specs.Shapes.{Text, Table, Block, code_t, code_u, code_x}
 use Rattle.iloc_spec_grammar.specs.Pieces.{join}
 use Rattle.iloc_spec_grammar.specs.Words.{Kind, Language, Script, Region, Variant, Subtag, UnicodeKey, TransformKey, Attribute, PrivateSubtag, IsWord, normal, lower, word_cmp, is_true}
 use Rattle.iloc_spec_grammar.specs.Written.{Identifier, Fields, Unicode, Transform, Extension, unicode, transform, other, Written, is_other_singleton, identifier_pieces, fields_pieces, extension_block, block_pieces, spelling}
@@ -93,13 +93,13 @@ spelled_value (w ∷ ws) = w ∷ ws
 abbrev pub spelled_fields : Fields → Fields
 spelled_fields fs = map (λ f. (f.0, spelled_value f.1)) fs
 
--- the blocks of `t` (116), of `u` (117), of the others and of `x` (120); an empty part gives none
+-- the blocks of `t`, of `u`, of the others and of `x`; an empty part gives none
 
 -- the extension of `t` as it is printed: none if the part is empty
 abbrev pub transform_form : Transform → List (ℕ × Extension)
 transform_form m = if is_some m.id || nat_lt 0 (length m.fields)
     then (
-      116,
+      code_t,
       transform
           (record { id = option_map lower_identifier m.id; fields = spelled_fields m.fields }),
     ) ∷ []
@@ -107,7 +107,7 @@ transform_form m = if is_some m.id || nat_lt 0 (length m.fields)
 
 -- the extension of `u` as it is printed: none if the part is empty
 abbrev pub unicode_form : Unicode → List (ℕ × Extension)
-unicode_form u = if nat_lt 0 (length u.attributes + length u.keywords) then (117, unicode u) ∷ []
+unicode_form u = if nat_lt 0 (length u.attributes + length u.keywords) then (code_u, unicode u) ∷ []
     else []
 
 -- the other extensions as they are printed: those with words
@@ -117,17 +117,17 @@ others_form os = map (λ o. (o.0, other o.1)) (filter (λ o. nat_lt 0 (length o.
 -- the private extension as it is printed: none if it has no words
 abbrev pub private_form : List Text → Option Block
 private_form [] = None
-private_form (w ∷ ws) = Some (120, w ∷ ws)
+private_form (w ∷ ws) = Some (code_x, w ∷ ws)
 
 -- the others before the first that is greater than `t`, and the rest
 abbrev pub before_t : List Block → List Block
 before_t [] = []
-before_t (o ∷ os) = if nat_le o.0 116 then o ∷ before_t os else []
+before_t (o ∷ os) = if nat_le o.0 code_t then o ∷ before_t os else []
 
 -- the others from the first whose singleton is above `t` on
 abbrev pub after_t : List Block → List Block
 after_t [] = []
-after_t (o ∷ os) = if nat_le o.0 116 then after_t os else o ∷ os
+after_t (o ∷ os) = if nat_le o.0 code_t then after_t os else o ∷ os
 
 -- the extensions in the order in which they are printed (UTS #35 3.2.1): others up to `t`, `t`, `u`, other others
 abbrev pub extensions_form : Extensions → List (ℕ × Extension)

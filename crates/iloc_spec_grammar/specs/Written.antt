@@ -8,7 +8,7 @@ use Rattle.std.specs.Int.{is_in_range}
 use Rattle.std.specs.List.{AllByRecursion, list_any}
 use Rattle.std.specs.Ordering.{nat_cmp, eq_by_cmp}
 use Rattle.std.specs.declared.cmp.Ordering.{Ordering}
-use Rattle.iloc_spec_grammar.specs.Shapes.{Text, Table, Field, Block}
+use Rattle.iloc_spec_grammar.specs.Shapes.{Text, Table, Field, Block, code_t, code_u, code_x}
 use Rattle.iloc_spec_grammar.specs.Words.{Language, Script, Region, Variant, Subtag, UnicodeKey, TransformKey, Attribute, PrivateSubtag, is_word, IsWord, lower, word_cmp}
 
 -- The shapes.
@@ -146,14 +146,14 @@ pub record IsPrivate (ps : List Text) : Type 0 where
   pub words : AllByRecursion (IsWord PrivateSubtag) ps
   pub nonempty : 0 < length ps
 
--- a letter or digit other than `t` (116), `u` (117) and `x` (120), which have rules of their own (UTS #35 3.2)
+-- a letter or digit other than `t`, `u` and `x`, which have rules of their own (UTS #35 3.2)
 abbrev pub is_other_singleton : ℕ → Bool
-is_other_singleton c = is_ascii_alphanumeric c && not (((c == 116) || (c == 117)) || (c == 120))
+is_other_singleton c = is_ascii_alphanumeric c && not (((c == code_t) || (c == code_u)) || (c == code_x))
 
 -- the extension follows the rule of its singleton, which is given in lower case (UTS #35 3.2, `extensions`)
 abbrev pub IsExtension : Table → ℕ → Extension → Type 0
-IsExtension T c (unicode u) = (c ≡ 117) × IsUnicode u
-IsExtension T c (transform m) = (c ≡ 116) × IsTransform T m
+IsExtension T c (unicode u) = (c ≡ code_u) × IsUnicode u
+IsExtension T c (transform m) = (c ≡ code_t) × IsTransform T m
 IsExtension T c (other ps) = (is_other_singleton c ≡ true) × IsOther ps
 
 -- a singleton in lower case, of an extension or a block (UTS #35 3.2.1)
@@ -165,4 +165,4 @@ pub record IsWritten (T : Table) (w : Written) : Type 0 where
   pub id : IsIdentifier T w.id
   pub extensions : AllByRecursion (λ e. IsExtension T (singleton e) e.1) w.extensions
   pub different : AllDifferent nat_cmp (map (λ e. singleton e) w.extensions)
-  pub private : IfSome w.private (λ e. (singleton e ≡ 120) × IsPrivate e.1)
+  pub private : IfSome w.private (λ e. (singleton e ≡ code_x) × IsPrivate e.1)

@@ -14,7 +14,7 @@ pub mod rewriting;
 ghost use Rattle.std.specs.Prelude.{◌≡◌, ◌↔◌, ◌⊎◌, ℕ, ◌+◌, ◌≤◌, true, ◌||◌, List, [], ◌∷◌, ◌++◌, length, replicate, nat_lt, is_some, option_map, Some, if◌then◌else◌, Ok, Err, MatchResult, codes};
 ghost use Rattle.std.specs.FinMap.{find, is_sorted};
 ghost use Rattle.std.specs.List.{list_any};
-ghost use Rattle.iloc_spec_grammar.specs.Shapes.{Text, Table, Block};
+ghost use Rattle.iloc_spec_grammar.specs.Shapes.{Text, Table, Block, code_t, code_u, code_x};
 ghost use Rattle.iloc_spec_grammar.specs.Pieces.{pieces, join, dashes, ArePieces};
 ghost use Rattle.iloc_spec_grammar.specs.Words.{Kind, Language, IsTable, two_or_three, all_but_four, languages, IsWord, is_word, normal, lower, word, word_cmp, is_same, EndsAt, greatest, Bounds, raw, wide_raw, narrow_raw, before_zero};
 ghost use Rattle.iloc_spec_grammar.specs.Written.{Identifier, Fields, Unicode, Transform, Written, AllDifferent, HasWords, IsUnicode, IsTransform, IsWritten, identifier_pieces, unicode_pieces, transform_pieces, spelling};
@@ -269,17 +269,17 @@ pub fn texts_of_parts()
         → text M ≡ identifier_text M.id ++ dashes (extensions_spelling M.extensions) }
     ensures unicode { (u : Unicode)
         → unicode_spelling u ≡ if nat_lt 0 (length u.attributes + length u.keywords)
-        then (117 ∷ []) ∷ unicode_pieces u else [] }
+        then (code_u ∷ []) ∷ unicode_pieces u else [] }
     ensures transform { (m : Transform)
         → transform_spelling m ≡ if is_some m.id || nat_lt 0 (length m.fields)
-        then (116 ∷ [])
+        then (code_t ∷ [])
         ∷ transform_pieces
         (record { id = option_map lower_identifier m.id; fields = spelled_fields m.fields })
         else [] }
     ensures other { (o : Block)
         → other_spelling o ≡ if nat_lt 0 (length o.1) then (o.0 ∷ []) ∷ o.1 else [] }
     ensures private { (w : Text) (ws : List Text)
-        → private_spelling (w ∷ ws) ≡ (120 ∷ []) ∷ (w ∷ ws) }
+        → private_spelling (w ∷ ws) ≡ (code_x ∷ []) ∷ (w ∷ ws) }
     ensures no_private { private_spelling [] ≡ [] }
 {}
 

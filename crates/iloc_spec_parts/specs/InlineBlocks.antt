@@ -2,7 +2,7 @@
 -- follows the block.
 use Rattle.std.specs.Prelude.{◌≡◌, ℕ, ◌≤◌, true, List, ◌∷◌, ◌++◌, length, Option}
 use Rattle.std.specs.List.{AllByRecursion}
-use Rattle.iloc_spec_grammar.specs.Shapes.{Text, Table, Block}
+use Rattle.iloc_spec_grammar.specs.Shapes.{Text, Table, Block, code_t, code_u, code_x}
 use Rattle.iloc_spec_grammar.specs.Pieces.{pieces}
 use Rattle.iloc_spec_grammar.specs.Written.{Identifier, identifier_pieces, IsIdentifier, IsOther, kept, is_other_singleton, singleton}
 use Rattle.iloc_spec_grammar.specs.Meaning.{normal_fields, normal_values}
@@ -33,19 +33,19 @@ pub record IsShortOther (ps : List Text) : Type 0 where
 
 -- after `x`: four words at most before a fault
 pub record IsShortBlock (T : Table) (b : Block) : Type 0 where
-  pub unicode : singleton b ≡ 117 → (rest : List Text) → starts_block rest ≡ true
+  pub unicode : singleton b ≡ code_u → (rest : List Text) → starts_block rest ≡ true
       → IsShortUnicode (b.1 ++ rest)
-  pub transform : singleton b ≡ 116 → (rest : List Text) → starts_block rest ≡ true
+  pub transform : singleton b ≡ code_t → (rest : List Text) → starts_block rest ≡ true
       → IsShortTransform T (b.1 ++ rest)
-  pub private : singleton b ≡ 120 → length (private_front b.1) ≤ 4
+  pub private : singleton b ≡ code_x → length (private_front b.1) ≤ 4
   pub other : is_other_singleton (singleton b) ≡ true → IsShortOther b.1
 
 -- A block that isn't short is reached: those before it are good, and its own singleton is a letter
 -- or digit, and new. Only there may a reader of blocks allocate.
-pub data ReachesLongBlock (T : Table) : List ℕ → List Block → Type 0 where
-  here : {seen : List ℕ} {b : Block} {bs : List Block} → HasSingleton b → IsNew seen b
+pub data ReachesLongBlock (T : Table) : Text → List Block → Type 0 where
+  here : {seen : Text} {b : Block} {bs : List Block} → HasSingleton b → IsNew seen b
       → ¬ (IsShortBlock T b) → ReachesLongBlock T seen (b ∷ bs)
-  later : {seen : List ℕ} {b : Block} {bs : List Block} → HasSingleton b → IsNew seen b
+  later : {seen : Text} {b : Block} {bs : List Block} → HasSingleton b → IsNew seen b
       → IsBlock T b → ReachesLongBlock T (singleton b ∷ seen) bs → ReachesLongBlock T seen (b ∷ bs)
 
 pub record IsInlineByBlocks (T : Table) (t : Text) : Type 0 where

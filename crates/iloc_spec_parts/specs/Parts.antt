@@ -2,7 +2,7 @@
 -- That the rest of the text is ignored is this project's rule.
 use Rattle.std.specs.Prelude.{◌≡◌, ℕ, Bool, true, false, ◌==◌, List, [], ◌∷◌}
 use Rattle.std.specs.Char.{to_ascii_lowercase}
-use Rattle.iloc_spec_grammar.specs.Shapes.{Text, Table, Block}
+use Rattle.iloc_spec_grammar.specs.Shapes.{Text, Table, Block, code_t, code_u, code_x}
 use Rattle.iloc_spec_grammar.specs.Pieces.{pieces}
 use Rattle.iloc_spec_grammar.specs.Written.{Fields, Unicode, Transform, is_other_singleton}
 use Rattle.iloc_spec_grammar.specs.Faults.{Fault, InvalidExtension}
@@ -46,17 +46,17 @@ abbrev pub KeywordsTextFault : Text → Fault → Type 0
 KeywordsTextFault t f = KeywordsFault (pieces t) f
 
 abbrev pub UnicodeText : Text → Unicode → Type 0
-UnicodeText t u = (rest : List Text) × PartRead (is_letter 117) UnicodeRead (pieces t) (117, u) rest
+UnicodeText t u = (rest : List Text) × PartRead (is_letter code_u) UnicodeRead (pieces t) (code_u, u) rest
 
 abbrev pub UnicodeTextFault : Text → Fault → Type 0
-UnicodeTextFault t f = PartFault (is_letter 117) UnicodeFault (pieces t) f
+UnicodeTextFault t f = PartFault (is_letter code_u) UnicodeFault (pieces t) f
 
 abbrev pub TransformText : Table → Text → Transform → Type 0
 TransformText T t m = (rest : List Text)
-    × PartRead (is_letter 116) (TransformRead T) (pieces t) (116, m) rest
+    × PartRead (is_letter code_t) (TransformRead T) (pieces t) (code_t, m) rest
 
 abbrev pub TransformTextFault : Table → Text → Fault → Type 0
-TransformTextFault T t f = PartFault (is_letter 116) (TransformFault T) (pieces t) f
+TransformTextFault T t f = PartFault (is_letter code_t) (TransformFault T) (pieces t) f
 
 abbrev pub OtherText : Text → Block → Type 0
 OtherText t o = (rest : List Text) × PartRead is_other_singleton OtherRead (pieces t) o rest
@@ -66,7 +66,7 @@ OtherTextFault t f = PartFault is_other_singleton OtherFault (pieces t) f
 
 abbrev pub PrivateText : Text → List Text → Type 0
 PrivateText t ws = (rest : List Text)
-    × PartRead (is_letter 120) PrivateRead (pieces t) (120, ws) rest
+    × PartRead (is_letter code_x) PrivateRead (pieces t) (code_x, ws) rest
 
 abbrev pub PrivateTextFault : Text → Fault → Type 0
-PrivateTextFault t f = PartFault (is_letter 120) PrivateFault (pieces t) f
+PrivateTextFault t f = PartFault (is_letter code_x) PrivateFault (pieces t) f

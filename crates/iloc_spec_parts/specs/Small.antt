@@ -4,7 +4,7 @@
 -- this project's rule.
 use Rattle.std.specs.Prelude.{◌≡◌, ◌≢◌, ℕ, ◌≤◌, true, false, List, [], ◌∷◌, length, map, Option, Some, None, IfSome, option_map, option_to_list}
 use Rattle.std.specs.Char.{is_ascii_alphanumeric}
-use Rattle.iloc_spec_grammar.specs.Shapes.{Text, Table, Field, Block}
+use Rattle.iloc_spec_grammar.specs.Shapes.{Text, Table, Field, Block, code_u}
 use Rattle.iloc_spec_grammar.specs.Pieces.{pieces}
 use Rattle.iloc_spec_grammar.specs.Words.{Language, Script, Region, Variant, UnicodeKey, Attribute, is_word, IsWord, is_true, lower, title, upper}
 use Rattle.iloc_spec_grammar.specs.Written.{Identifier, Extension, unicode, Written, identifier_pieces, IsIdentifier, IsWritten, spelling, singleton}
@@ -108,12 +108,12 @@ pub data HasSmallIdentifierFault (T : Table) (ps : List Text) : Fault → Type 0
 -- attribute, no key, or anything after the key.
 pub data SmallBlockFault (b : Block) : Fault → Type 0 where
   no_singleton : is_ascii_alphanumeric b.0 ≡ false → SmallBlockFault b InvalidExtension
-  not_u : is_ascii_alphanumeric b.0 ≡ true → singleton b ≢ 117 → SmallBlockFault b InvalidSubtag
-  attribute : singleton b ≡ 117 → IsWord Attribute (first_piece b.1)
+  not_u : is_ascii_alphanumeric b.0 ≡ true → singleton b ≢ code_u → SmallBlockFault b InvalidSubtag
+  attribute : singleton b ≡ code_u → IsWord Attribute (first_piece b.1)
       → SmallBlockFault b InvalidSubtag
-  no_key : singleton b ≡ 117 → is_word Attribute (first_piece b.1) ≡ false
+  no_key : singleton b ≡ code_u → is_word Attribute (first_piece b.1) ≡ false
       → is_word UnicodeKey (first_piece b.1) ≡ false → SmallBlockFault b InvalidExtension
-  after_key : singleton b ≡ 117 → IsWord UnicodeKey (first_piece b.1)
+  after_key : singleton b ≡ code_u → IsWord UnicodeKey (first_piece b.1)
       → SmallBlockFault b InvalidSubtag
 
 -- The text is not small, for this reason: its head, or else its first block.

@@ -2,7 +2,7 @@
 use Rattle.std.specs.Prelude.{ℕ, Bool, true, false, ◌&&◌, ◌==◌, nat_le, List, [], ◌∷◌, length, if◌then◌else◌, Option, Some, None, Result, Ok, Err}
 use Rattle.std.specs.Char.{is_ascii_alphanumeric, to_ascii_lowercase}
 use Rattle.std.specs.List.{list_all}
-use Rattle.iloc_spec_grammar.specs.Shapes.{Text, Table, Block}
+use Rattle.iloc_spec_grammar.specs.Shapes.{Text, Table, Block, code_u}
 use Rattle.iloc_spec_grammar.specs.Pieces.{pieces}
 use Rattle.iloc_spec_grammar.specs.Words.{Language, Variant, UnicodeKey, Attribute, is_word, lower}
 use Rattle.iloc_spec_grammar.specs.Written.{Extension, unicode, Written, singleton}
@@ -34,7 +34,7 @@ has_small_keyword (p ∷ ps) = is_word UnicodeKey p
     && (list_all (is_word Attribute) ps && nat_le (length (normal_values ps)) 1)
 
 abbrev pub is_u : ℕ → Bool
-is_u c = to_ascii_lowercase c == 117
+is_u c = to_ascii_lowercase c == code_u
 
 abbrev pub is_small_block : Block → List Block → Bool
 is_small_block b [] = is_u b.0 && has_small_keyword b.1
@@ -47,7 +47,7 @@ keyword_read (p ∷ ps) = (lower p, first_item (normal_values ps))
 -- the fault of another first block
 unfoldable pub block_fault : Block → Fault
 block_fault b = if is_ascii_alphanumeric b.0
-    then (if singleton b == 117
+    then (if singleton b == code_u
     then (if is_word Attribute (first_piece b.1) then InvalidSubtag
     else (if is_word UnicodeKey (first_piece b.1) then InvalidSubtag else InvalidExtension))
     else InvalidSubtag)

@@ -9,7 +9,7 @@ ghost use Rattle.std.specs.Prelude.{◌≡◌, ◌↔◌, true, false, ◌||◌,
 ghost use Rattle.std.specs.FinMap.{find};
 ghost use Rattle.std.specs.List.{AllByRecursion, list_any};
 ghost use Rattle.std.specs.Option.{option_or};
-ghost use Rattle.iloc_spec_grammar.specs.Shapes.{Text, Table, Block};
+ghost use Rattle.iloc_spec_grammar.specs.Shapes.{Text, Table, Block, code_t, code_u, code_x};
 ghost use Rattle.iloc_spec_grammar.specs.Pieces.{pieces, join};
 ghost use Rattle.iloc_spec_grammar.specs.Words.{IsTable, Subtag, Attribute, is_true, is_same, word_cmp, languages};
 ghost use Rattle.iloc_spec_grammar.specs.Written.{Unicode, Transform, IsOther, IsPrivate, is_other_singleton, singleton};
@@ -74,24 +74,24 @@ pub fn private_front()
 
 /// A part with its singleton is read in one way, or has one fault.
 pub fn parts()
-    ensures unicode { IsReader (PartRead (is_letter 117) UnicodeRead)
-        (PartFault (is_letter 117) UnicodeFault) }
+    ensures unicode { IsReader (PartRead (is_letter code_u) UnicodeRead)
+        (PartFault (is_letter code_u) UnicodeFault) }
     ensures transform { (T : Table) → IsTable T
-        → IsReader (PartRead (is_letter 116) (TransformRead T))
-        (PartFault (is_letter 116) (TransformFault T)) }
+        → IsReader (PartRead (is_letter code_t) (TransformRead T))
+        (PartFault (is_letter code_t) (TransformFault T)) }
     ensures other { IsReader (PartRead is_other_singleton OtherRead)
         (PartFault is_other_singleton OtherFault) }
-    ensures private { IsReader (PartRead (is_letter 120) PrivateRead)
-        (PartFault (is_letter 120) PrivateFault) }
+    ensures private { IsReader (PartRead (is_letter code_x) PrivateRead)
+        (PartFault (is_letter code_x) PrivateFault) }
 {}
 
 /// A block follows its rule exactly if it means a part.
 pub fn block_rules()
-    ensures unicode { (T : Table) (b : Block) → singleton b ≡ 117
+    ensures unicode { (T : Table) (b : Block) → singleton b ≡ code_u
         → IsBlock T b ↔ ((u : Unicode) × UnicodeMeans b.1 u) }
-    ensures transform { (T : Table) (b : Block) → singleton b ≡ 116
+    ensures transform { (T : Table) (b : Block) → singleton b ≡ code_t
         → IsBlock T b ↔ ((m : Transform) × TransformMeans T b.1 m) }
-    ensures private { (T : Table) (b : Block) → singleton b ≡ 120 → IsBlock T b ↔ IsPrivate b.1 }
+    ensures private { (T : Table) (b : Block) → singleton b ≡ code_x → IsBlock T b ↔ IsPrivate b.1 }
     ensures other { (T : Table) (b : Block) → is_other_singleton (singleton b) ≡ true
         → IsBlock T b ↔ IsOther b.1 }
 {}
@@ -187,30 +187,30 @@ pub fn by_readers()
 /// The plain program answers what a part with its singleton is read as, or its fault.
 pub fn part_answers()
     ensures unicode { (ps : List Text)
-        → MatchResult (part_result (is_letter 117) unicode_result ps)
-        (λ r. PartRead (is_letter 117) UnicodeRead ps r.0 r.1)
-        (PartFault (is_letter 117) UnicodeFault ps) }
+        → MatchResult (part_result (is_letter code_u) unicode_result ps)
+        (λ r. PartRead (is_letter code_u) UnicodeRead ps r.0 r.1)
+        (PartFault (is_letter code_u) UnicodeFault ps) }
     ensures transform { (T : Table) → IsTable T → (ps : List Text)
-        → MatchResult (part_result (is_letter 116) (transform_result T) ps)
-        (λ r. PartRead (is_letter 116) (TransformRead T) ps r.0 r.1)
-        (PartFault (is_letter 116) (TransformFault T) ps) }
+        → MatchResult (part_result (is_letter code_t) (transform_result T) ps)
+        (λ r. PartRead (is_letter code_t) (TransformRead T) ps r.0 r.1)
+        (PartFault (is_letter code_t) (TransformFault T) ps) }
     ensures other { (ps : List Text)
         → MatchResult (part_result is_other_singleton other_result ps)
         (λ r. PartRead is_other_singleton OtherRead ps r.0 r.1)
         (PartFault is_other_singleton OtherFault ps) }
     ensures private { (ps : List Text)
-        → MatchResult (part_result (is_letter 120) private_result ps)
-        (λ r. PartRead (is_letter 120) PrivateRead ps r.0 r.1)
-        (PartFault (is_letter 120) PrivateFault ps) }
+        → MatchResult (part_result (is_letter code_x) private_result ps)
+        (λ r. PartRead (is_letter code_x) PrivateRead ps r.0 r.1)
+        (PartFault (is_letter code_x) PrivateFault ps) }
 {}
 
 /// Worked parts with their singletons.
 pub fn parts_by_example()
-    ensures unicode { part_result (is_letter 117) unicode_result
+    ensures unicode { part_result (is_letter code_u) unicode_result
         (pieces (codes "U-foo-ca-Buddhist-x-bar"))
         ≡ Ok (
           (
-            117,
+            code_u,
             record {
               attributes = codes "foo" ∷ [];
               keywords = (codes "ca", codes "buddhist" ∷ []) ∷ [];
@@ -218,15 +218,15 @@ pub fn parts_by_example()
           ),
           pieces (codes "x-bar"),
         ) }
-    ensures nothing_after_u { part_result (is_letter 117) unicode_result (pieces (codes "u"))
+    ensures nothing_after_u { part_result (is_letter code_u) unicode_result (pieces (codes "u"))
         ≡ Err InvalidExtension }
-    ensures another_letter { part_result (is_letter 117) unicode_result (pieces (codes "t-en"))
+    ensures another_letter { part_result (is_letter code_u) unicode_result (pieces (codes "t-en"))
         ≡ Err InvalidExtension }
-    ensures transform { part_result (is_letter 116) (transform_result languages)
+    ensures transform { part_result (is_letter code_t) (transform_result languages)
         (pieces (codes "t-en-us-h0-hybrid"))
         ≡ Ok (
           (
-            116,
+            code_t,
             record {
               id = Some
                   (record {
@@ -240,12 +240,12 @@ pub fn parts_by_example()
           ),
           [],
         ) }
-    ensures variant_twice { part_result (is_letter 116) (transform_result languages)
+    ensures variant_twice { part_result (is_letter code_t) (transform_result languages)
         (pieces (codes "t-en-posix-posix")) ≡ Err InvalidSubtag }
     ensures other { part_result is_other_singleton other_result (pieces (codes "A-foo-!!-BAR-u-ca"))
         ≡ Ok ((97, codes "foo" ∷ codes "bar" ∷ []), pieces (codes "u-ca")) }
     ensures no_other { part_result is_other_singleton other_result (pieces (codes "x-foo"))
         ≡ Err InvalidExtension }
-    ensures private { part_result (is_letter 120) private_result (pieces (codes "X-foo-a-B"))
-        ≡ Ok ((120, codes "foo" ∷ codes "a" ∷ codes "b" ∷ []), []) }
+    ensures private { part_result (is_letter code_x) private_result (pieces (codes "X-foo-a-B"))
+        ≡ Ok ((code_x, codes "foo" ∷ codes "a" ∷ codes "b" ∷ []), []) }
 {}

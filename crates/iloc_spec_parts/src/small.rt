@@ -5,7 +5,7 @@
 //! its blocks, so no parser of a part allocates.
 
 ghost use Rattle.std.specs.Prelude.{◌≡◌, ◌↔◌, ◌⊎◌, ℕ, true, false, List, [], Ok, Err, MatchResult, codes};
-ghost use Rattle.iloc_spec_grammar.specs.Shapes.{Text, Table, Block};
+ghost use Rattle.iloc_spec_grammar.specs.Shapes.{Text, Table, Block, code_t, code_u};
 ghost use Rattle.iloc_spec_grammar.specs.Pieces.{pieces};
 ghost use Rattle.iloc_spec_grammar.specs.Words.{TransformKey, Attribute, is_word, IsWord, IsTable, languages};
 ghost use Rattle.iloc_spec_grammar.specs.Written.{kept, singleton, is_other_singleton};
@@ -121,15 +121,15 @@ pub fn by_blocks()
 /// If all blocks are short, none that is long is reached.
 #[tactic(auto, using(crate::proofs::InlineBlockLaws::none_long))]
 pub fn short_blocks()
-    ensures { (T : Table) (seen : List ℕ) (bs : List Block)
+    ensures { (T : Table) (seen : Text) (bs : List Block)
         → ReachesLongBlock T seen bs → ¬ (AllByRecursion (IsShortBlock T) bs) }
 {}
 
 /// A block that breaks its rule before anything is kept of it is short: so `en-u-a8`, `en-t-m0` and `en-a-!!` are refused without allocating.
 pub fn broken_blocks()
-    ensures unicode { (T : Table) (b : Block) → singleton b ≡ 117
+    ensures unicode { (T : Table) (b : Block) → singleton b ≡ code_u
         → is_bad_key (first_piece b.1) ≡ true → IsShortBlock T b }
-    ensures transform { (T : Table) (b : Block) → singleton b ≡ 116
+    ensures transform { (T : Table) (b : Block) → singleton b ≡ code_t
         → IsWord TransformKey (first_piece b.1)
         → is_word Attribute (first_piece (rest_of b.1)) ≡ false → IsShortBlock T b }
     ensures other { (T : Table) (b : Block) → is_other_singleton (singleton b) ≡ true

@@ -5,6 +5,7 @@
 //! the row was parsed, so at most in place of a bad word that comes later.
 
 ghost use Rattle.std.specs.Prelude.{◌≡◌, ℕ, List, IfOk, IfErr};
+ghost use Rattle.iloc_spec_grammar.specs.Shapes.{Text};
 ghost use Rattle.iloc_subtags.specs.Carrying.{IsOldRow, new_row, Refused};
 
 use crate::{CarryError, Language};
@@ -15,7 +16,7 @@ use std::alloc::Global;
 /// A length that is no multiple of three is told first, and then the first bad word.
 pub fn carry_v1(alloc: Global, row: &[u8]) -> Result<Vec<u8>, CarryError>
     ensures ok { IfOk result
-        (λ v. (ws : List (List ℕ)) × IsOldRow row.now ws × (v.items ≡ new_row ws)) }
+        (λ v. (ws : List Text) × IsOldRow row.now ws × (v.items ≡ new_row ws)) }
     ensures err { IfErr result (λ e. Refused row.now e) }
 {
     if row.len() % 3 != 0 {

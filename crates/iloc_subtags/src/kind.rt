@@ -1,5 +1,6 @@
 //! What makes a kind of word.
 ghost use Rattle.std.specs.Prelude.{◌≡◌, ◌≤◌, ℕ, List, IsTrue, true};
+ghost use Rattle.iloc_spec_grammar.specs.Shapes.{Text};
 ghost use Rattle.iloc_tinystr.specs.TinyText.{is_tiny_text};
 ghost use Rattle.iloc_spec_grammar.specs.Words.{Kind, is_word, IsWord, normal, greatest};
 ghost use Rattle.iloc_subtags.specs.Lengths.{has_length};
@@ -36,7 +37,7 @@ pub trait WordKind<const N: usize> {
         ensures { result ≡ refusal };
 
     /// Each word of the kind is a short text of at most `N` bytes.
-    ghost fits: { (text : List ℕ) → IsWord kind text → is_tiny_text N text ≡ true };
+    ghost fits: { (text : Text) → IsWord kind text → is_tiny_text N text ≡ true };
 
     /// `N` is the greatest length of the kind.
     ghost size: { greatest 8 kind ≡ N };

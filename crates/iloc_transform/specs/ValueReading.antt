@@ -1,5 +1,6 @@
 -- What the readers of a field's value answer.
 use Rattle.std.specs.Prelude.{◌≡◌, ℕ, ◌<◌, false, List, [], length, Result, Ok, Err}
+use Rattle.iloc_spec_grammar.specs.Shapes.{Text}
 use Rattle.iloc_spec_grammar.specs.Pieces.{pieces}
 use Rattle.iloc_spec_grammar.specs.Words.{Attribute, is_word, is_true}
 use Rattle.iloc_spec_grammar.specs.Meaning.{normal_values}
@@ -11,15 +12,15 @@ use Rattle.iloc_subtags.specs.declared.parse_error.ParseError.{ParseError}
 use Rattle.iloc_subtags.specs.Answers.{Answers, ExtensionFault}
 
 -- what a value holds: words of 3 to 8 letters or digits in lower case, and none is `true`
-abbrev pub IsValueWord : List ℕ → Type 0
+abbrev pub IsValueWord : Text → Type 0
 IsValueWord w = IsNormal Attribute w × (is_true w ≡ false)
 
 -- the value pieces at the front
-abbrev pub values_front : List (List ℕ) → List (List ℕ)
+abbrev pub values_front : List Text → List Text
 values_front ps = passing (is_word Attribute) ps
 
 -- What the pieces at the front are read as, and the pieces that are left. Memory may run out only for a fifth subtag.
-abbrev pub ValueFrontReads : List (List ℕ) → List (List ℕ) → Result (List (List ℕ)) ParseError → Type 0
+abbrev pub ValueFrontReads : List Text → List Text → Result (List Text) ParseError → Type 0
 ValueFrontReads ps rest = Answers
     (λ v. (0 < length (values_front ps)) × (v ≡ normal_values (values_front ps))
     × (rest ≡ past (is_word Attribute) ps))
@@ -27,11 +28,11 @@ ValueFrontReads ps rest = Answers
     (4 < length (normal_values (values_front ps)))
 
 -- memory may run out on a text only for a fifth subtag
-abbrev pub ValueWants : List ℕ → Type 0
+abbrev pub ValueWants : Text → Type 0
 ValueWants t = 4 < length (normal_values (values_front (pieces t)))
 
 -- what a text is read as
-abbrev pub ValueReads : List ℕ → Result (List (List ℕ)) ParseError → Type 0
+abbrev pub ValueReads : Text → Result (List Text) ParseError → Type 0
 ValueReads t = Answers (λ v. transform_value t ≡ Ok v)
     (ExtensionFault (transform_value t ≡ Err faults.InvalidExtension))
     (ValueWants t)

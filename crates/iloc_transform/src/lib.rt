@@ -8,6 +8,7 @@
 #![tactic(auto)]
 
 ghost use Rattle.std.specs.Prelude.{◌≡◌, ◌≤◌, ◌↔◌, IsTrue, ℕ, List, [], length, IfSome};
+ghost use Rattle.iloc_spec_grammar.specs.Shapes.{Text};
 ghost use Rattle.iloc_spec_grammar.specs.Words.{languages};
 ghost use Rattle.iloc_spec_grammar.specs.Written as written;
 ghost use Rattle.iloc_spec_grammar.specs.Faults.{front};
@@ -30,7 +31,7 @@ pub use value::Value;
 
 /// A block that means an identifier of at most four variants, or none, and no field allocates nothing.
 pub fn few_words()
-    ensures { (ps : List (List ℕ)) (m : written.Transform) → TransformMeans languages (front ps) m
+    ensures { (ps : List Text) (m : written.Transform) → TransformMeans languages (front ps) m
         → IfSome m.id (λ i. length i.variants ≤ 4) → m.fields ≡ [] → ¬ (WantsMemory ps) }
 {}
 

@@ -18,6 +18,7 @@ ghost use Rattle.std.specs.Prelude.{
   if◌then◌else◌,
 };
 ghost use Rattle.std.specs.List.{AllByRecursion};
+ghost use Rattle.iloc_spec_grammar.specs.Shapes.{Text};
 ghost use Rattle.iloc_spec_grammar.specs.Pieces.{pieces};
 ghost use Rattle.iloc_spec_grammar.specs.Words.{Attribute as the_kind, is_true};
 ghost use Rattle.iloc_spec_grammar.specs.Values.{field_value_text, spelled_value};
@@ -81,7 +82,7 @@ impl Value {
     /// if more than four subtags are to be kept. These are the `tvalue`s of UTS #35, section 3.2.
     pub fn try_from_utf8(alloc: Global, code_units: &[u8]) -> Result<Self, ParseError>
         ensures reads { ValueReads code_units.now result }
-        ensures accepted { (v : List (List ℕ)) → transform_value code_units.now ≡ Ok v
+        ensures accepted { (v : List Text) → transform_value code_units.now ≡ Ok v
             → Accepts (λ v. v) (ValueWants code_units.now) v result }
         ensures refused { (f : Fault) → transform_value code_units.now ≡ Err f
             → Refuses (ValueWants code_units.now) f result }
@@ -104,7 +105,7 @@ impl Value {
     /// Parses a `str`, as `try_from_utf8` parses bytes.
     pub fn try_from_str(alloc: Global, s: &str) -> Result<Self, ParseError>
         ensures reads { ValueReads s.now result }
-        ensures accepted { (v : List (List ℕ)) → transform_value s.now ≡ Ok v
+        ensures accepted { (v : List Text) → transform_value s.now ≡ Ok v
             → Accepts (λ v. v) (ValueWants s.now) v result }
         ensures refused { (f : Fault) → transform_value s.now ≡ Err f
             → Refuses (ValueWants s.now) f result }

@@ -8,6 +8,7 @@
 #![tactic(auto)]
 
 ghost use Rattle.std.specs.Prelude.{◌≡◌, ◌↔◌, ℕ, List, IsTrue};
+ghost use Rattle.iloc_spec_grammar.specs.Shapes.{Text};
 ghost use Rattle.iloc_spec_grammar.specs.Written.{Fields};
 ghost use Rattle.iloc_spec_orders.specs.Orders.{words_cmp, keywords_cmp};
 ghost use Rattle.iloc_spec_orders.specs.Hashes.{words_fed, fields_fed, unicode_fed};
@@ -27,13 +28,13 @@ pub use unicode::Unicode;
 
 /// Attributes and keywords stand in the orders of the definitions.
 pub fn orders()
-    ensures attributes { (v w : List (List ℕ)) → ⟦<Attributes as Ord>⟧.cmp v w ≡ words_cmp v w }
+    ensures attributes { (v w : List Text) → ⟦<Attributes as Ord>⟧.cmp v w ≡ words_cmp v w }
     ensures keywords { (v w : Fields) → ⟦<Keywords as Ord>⟧.cmp v w ≡ keywords_cmp v w }
 {}
 
 /// `==` tells whether two parts, or two unicode extensions, are the same.
 pub fn equality()
-    ensures attributes { (v w : List (List ℕ))
+    ensures attributes { (v w : List Text)
         → IsTrue (⟦<Attributes as PartialEq>⟧.eq v w) ↔ (v ≡ w) }
     ensures keywords { (v w : Fields) → IsTrue (⟦<Keywords as PartialEq>⟧.eq v w) ↔ (v ≡ w) }
     ensures unicode { (u v : Unicode)
@@ -42,7 +43,7 @@ pub fn equality()
 
 /// What a hasher is fed is what the definitions say.
 pub fn hashes()
-    ensures attributes { (v : List (List ℕ)) → ⟦<Attributes as Hash>⟧.hash_input v ≡ words_fed v }
+    ensures attributes { (v : List Text) → ⟦<Attributes as Hash>⟧.hash_input v ≡ words_fed v }
     ensures keywords { (f : Fields) → ⟦<Keywords as Hash>⟧.hash_input f ≡ fields_fed f }
     ensures unicode { (u : Unicode)
         → ⟦<Unicode as Hash>⟧.hash_input u ≡ unicode_fed (value_of u) }

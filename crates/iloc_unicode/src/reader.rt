@@ -1,6 +1,7 @@
 //! Parses attributes, keywords and the whole extension from pieces.
 ghost use Rattle.std.specs.Prelude.{◌≡◌, ◌≤◌, ◌++◌, [], length, Ok, IfOk, OnOk, IsOk};
 ghost use Rattle.std.specs.Result.{result_and};
+ghost use Rattle.iloc_spec_grammar.specs.Shapes.{code_u};
 ghost use Rattle.iloc_spec_grammar.specs.Words.{Attribute, is_word};
 ghost use Rattle.iloc_spec_grammar.specs.Faults.{first_piece};
 ghost use Rattle.iloc_spec_grammar.specs.Reading.{is_two, rest_of};
@@ -132,7 +133,7 @@ pub fn fill_unicode(
 
 // Takes the next piece, and returns whether it is `u` in either case.
 pub(crate) fn takes_u(iter: &mut SubtagIterator<'_>) -> bool
-    ensures u { result ≡ begins_part (is_letter 117) (left iter.old) }
+    ensures u { result ≡ begins_part (is_letter code_u) (left iter.old) }
     ensures rest { left iter.new ≡ rest_of (left iter.old) }
 {
     match iter.next() {

@@ -1,5 +1,6 @@
 //! Parses values from pieces.
 ghost use Rattle.std.specs.Prelude.{◌≡◌, ◌≤◌, ℕ, List, [], length, map, Ok, Err, IfOk, OnOk, IsOk};
+ghost use Rattle.iloc_spec_grammar.specs.Shapes.{Text};
 ghost use Rattle.iloc_spec_grammar.specs.Pieces.{pieces};
 ghost use Rattle.iloc_spec_grammar.specs.Words.{Attribute, Subtag, is_word, normal};
 ghost use Rattle.iloc_spec_grammar.specs.Values.{IsNormal};
@@ -23,7 +24,7 @@ impl Value {
     /// empty value. Refuses any other piece by `InvalidSubtag`.
     pub fn try_from_utf8(alloc: Global, code_units: &[u8]) -> Result<Self, ParseError>
         ensures reads { ReadsAs code_units.now result }
-        ensures accepted { (v : List (List ℕ)) → unicode_value code_units.now ≡ Ok v
+        ensures accepted { (v : List Text) → unicode_value code_units.now ≡ Ok v
             → Accepts (λ v. v) (ValueWants code_units.now) v result }
         ensures refused { (f : Fault) → unicode_value code_units.now ≡ Err f
             → Refuses (ValueWants code_units.now) f result }
@@ -49,7 +50,7 @@ impl Value {
     /// Parses a `str`, as `try_from_utf8` parses bytes.
     pub fn try_from_str(alloc: Global, s: &str) -> Result<Self, ParseError>
         ensures reads { ReadsAs s.now result }
-        ensures accepted { (v : List (List ℕ)) → unicode_value s.now ≡ Ok v
+        ensures accepted { (v : List Text) → unicode_value s.now ≡ Ok v
             → Accepts (λ v. v) (ValueWants s.now) v result }
         ensures refused { (f : Fault) → unicode_value s.now ≡ Err f
             → Refuses (ValueWants s.now) f result }
@@ -76,7 +77,7 @@ fn read_words<K: WordKind<8>>(
     alloc: Global,
     iter: &mut SubtagIterator<'_>,
 ) -> Result<Value, AllocError>
-    requires { (w : List ℕ) → IsNormal K.kind w → IsNormal Subtag w }
+    requires { (w : Text) → IsNormal K.kind w → IsNormal Subtag w }
     ensures value { IfOk result
         (λ v. v ≡ without_true (map (normal K.kind) (passing (is_word K.kind) (left iter.old)))) }
     ensures rest { OnOk result (left iter.new ≡ past (is_word K.kind) (left iter.old)) }
@@ -92,7 +93,7 @@ fn read_words<K: WordKind<8>>(
 
 // The word as a subtag.
 fn subtag_of<K: WordKind<8>>(word: &WordOf<K, 8>) -> Subtag
-    requires { (w : List ℕ) → IsNormal K.kind w → IsNormal Subtag w }
+    requires { (w : Text) → IsNormal K.kind w → IsNormal Subtag w }
     ensures { result ≡ word.now }
 {
     let _ = word.as_str();
