@@ -11,7 +11,7 @@ import api_words
 from api_model import entries
 from api_source import ROOT, TOP, home_of, libraries, read
 
-FIRST = ("crates/first_locale", "crates/recipes")
+FIRST = ("crates/example_first_locale", "crates/example_recipes")
 FUNCTION = re.compile(
     r"^( *)(?:pub(?:\([a-z]+\))? )?(?:final )?fn (\w+)([^(]*)\((.*?)\)"
     r"(?=\s*(?:->|where|requires|ensures|\{|;))",

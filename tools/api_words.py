@@ -97,7 +97,7 @@ READERS = {
     "iloc_langid.RefusesNormalizing": ([NO_LANGUAGE, NO_IDENTIFIER], f"the text is accepted and not normalized, or {FIVE_VARIANTS}"),
     "iloc_locale.LocaleReadsAs": (LOCALE, LONG_LOCALE),
     "iloc_locale.RefusesNormalizing": (LOCALE, f"the text is accepted and not normalized, or {LONG_LOCALE}"),
-    "iloc_small_reader.SmallLocaleReadsAs": (SMALL, None),
+    "iloc_langid.SmallLocaleReadsAs": (SMALL, None),
     "iloc_data.DataReadsAs": (
         [
             NO_LANGUAGE,
@@ -132,7 +132,7 @@ READERS = {
         "`OutOfMemory` only if the reader of the type runs out of memory. That of a subtag never does.",
     ),
     "iloc_json.WritesText": ([], "May allocate: `OutOfMemory` if that fails."),
-    "iloc_carry.Refused": (
+    "iloc_subtags.Refused": (
         [
             ("Length", "the length is no multiple of three; this is tested first"),
             ("Word", "the subtag at that place, counted from 0, is no old raw form of a language"),

@@ -1,6 +1,6 @@
 """The picture of one identifier: its subtags, where each goes, and what normalizing changed.
 
-What it shows is an answer of the program `recipes`, which the gate runs and compares: the calendar that
+What it shows is an answer of the program `example_recipes`, which the gate runs and compares: the calendar that
 the locale asks for, and the locale's normalized text."""
 import re
 
@@ -16,10 +16,10 @@ HEADS = {"id": "identifier", "unicode": "unicode extension", "private": "private
 
 def answer():
     """Returns the text that the row asks of, the calendar, and the normalized text."""
-    rows = zip(read("crates/recipes/stdin").split("\n"), read("crates/recipes/stdout").split("\n"))
+    rows = zip(read("crates/example_recipes/stdin").split("\n"), read("crates/example_recipes/stdout").split("\n"))
     found = [said for asked, said in rows if asked == ASKED]
     if not found:
-        lost = f"crates/recipes/stdin has no row '{ASKED}'"
+        lost = f"crates/example_recipes/stdin has no row '{ASKED}'"
         raise SystemExit(f"draw_identifier: {lost}: put it back, with its answer in stdout")
     calendar, normal = re.match(r"(\S+), then (\S+)$", found[0]).groups()
     return ASKED.split(" ")[1], calendar, normal

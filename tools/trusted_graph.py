@@ -620,7 +620,7 @@ def functions(sources):
 
 
 def named(sources, name):
-    """Returns the contracts that a name as `Locale::try_from_utf8` or `iloc_steps::any_steps` may mean.
+    """Returns the contracts that a name as `Locale::try_from_utf8` or `iloc_spec_grammar::rewriting::any_steps` may mean.
 
     A method that a trait provides is found by the trait's name. A type may be named by an alias."""
     wanted = [it for it in name.replace("::", ".").split(".") if it]

@@ -1,41 +1,41 @@
 -- The words of the definitions, passed on, so that a clause about a locale needs no other crate.
-pub use Rattle.iloc_grammar.specs.Shapes
-pub use Rattle.iloc_grammar.specs.Pieces
-pub use Rattle.iloc_grammar.specs.Words
-pub use Rattle.iloc_grammar.specs.Written
-pub use Rattle.iloc_grammar.specs.Meaning
-pub use Rattle.iloc_grammar.specs.Values
-pub use Rattle.iloc_grammar.specs.Faults
-pub use Rattle.iloc_grammar.specs.Steps
-pub use Rattle.iloc_grammar.specs.Blocks
-pub use Rattle.iloc_grammar.specs.Reading
-pub use Rattle.iloc_fronts.specs.Fronts
-pub use Rattle.iloc_fronts.specs.Parts
-pub use Rattle.iloc_fronts.specs.PartValues
-pub use Rattle.iloc_fronts.specs.Extending
-pub use Rattle.iloc_small.specs.Small
-pub use Rattle.iloc_small.specs.Inline
-pub use Rattle.iloc_small.specs.InlineBlocks
-pub use Rattle.iloc_orders.specs.Orders
-pub use Rattle.iloc_orders.specs.Hashes
-pub use Rattle.iloc_regions.specs.Subdivisions
-pub use Rattle.iloc_regions.specs.DataLocales
-pub use Rattle.iloc_regions.specs.DataOrders
-pub use Rattle.iloc_regions.specs.DataHashes
-pub use Rattle.iloc_preferences_rules.specs.Keywords
-pub use Rattle.iloc_preferences_rules.specs.Preferences
-pub use Rattle.iloc_preferences_rules.specs.Formatters
+pub use Rattle.iloc_spec_grammar.specs.Shapes
+pub use Rattle.iloc_spec_grammar.specs.Pieces
+pub use Rattle.iloc_spec_grammar.specs.Words
+pub use Rattle.iloc_spec_grammar.specs.Written
+pub use Rattle.iloc_spec_grammar.specs.Meaning
+pub use Rattle.iloc_spec_grammar.specs.Values
+pub use Rattle.iloc_spec_grammar.specs.Faults
+pub use Rattle.iloc_spec_grammar.specs.Steps
+pub use Rattle.iloc_spec_grammar.specs.Blocks
+pub use Rattle.iloc_spec_grammar.specs.Reading
+pub use Rattle.iloc_spec_parts.specs.Fronts
+pub use Rattle.iloc_spec_parts.specs.Parts
+pub use Rattle.iloc_spec_parts.specs.PartValues
+pub use Rattle.iloc_spec_parts.specs.Extending
+pub use Rattle.iloc_spec_parts.specs.Small
+pub use Rattle.iloc_spec_parts.specs.Inline
+pub use Rattle.iloc_spec_parts.specs.InlineBlocks
+pub use Rattle.iloc_spec_orders.specs.Orders
+pub use Rattle.iloc_spec_orders.specs.Hashes
+pub use Rattle.iloc_spec_preferences.specs.Subdivisions
+pub use Rattle.iloc_spec_preferences.specs.DataLocales
+pub use Rattle.iloc_spec_preferences.specs.DataOrders
+pub use Rattle.iloc_spec_preferences.specs.DataHashes
+pub use Rattle.iloc_spec_preferences.specs.Keywords
+pub use Rattle.iloc_spec_preferences.specs.Preferences
+pub use Rattle.iloc_spec_preferences.specs.Formatters
 pub use Rattle.iloc_subtags.specs.Answers
 pub use Rattle.iloc_subtags.specs.Judging
 pub use Rattle.iloc_writeable.specs.Writing
 pub use Rattle.iloc_writeable.specs.Hints
-pub use Rattle.iloc_io_sink.specs.Growth
+pub use Rattle.iloc_writeable.specs.Growth
 pub use Rattle.iloc_litemap.specs.Pairs
-pub use Rattle.iloc_parser.specs.Left
+pub use Rattle.iloc_subtags.specs.Left
 pub use Rattle.iloc_langid.specs.Reads
 pub use Rattle.iloc_langid.specs.SmallReads
 pub use Rattle.iloc_langid.specs.Normalizing as IdentifierNormalizing
-pub use Rattle.iloc_small_reader.specs.SmallLocaleReads
+pub use Rattle.iloc_langid.specs.SmallLocaleReads
 pub use Rattle.iloc_unicode_value.specs.Values as UnicodeValues
 pub use Rattle.iloc_unicode_value.specs.Reads as UnicodeValueReads
 pub use Rattle.iloc_unicode.specs.Reads as UnicodePartReads
@@ -52,8 +52,8 @@ pub use Rattle.iloc_data.specs.Reads as DataReads
 pub use Rattle.iloc_data.specs.DataValue
 pub use Rattle.iloc_data.specs.DataEquality
 pub use Rattle.iloc_json.specs.Json
-pub use Rattle.iloc_carry.specs.Carrying
+pub use Rattle.iloc_subtags.specs.Carrying
 pub use Rattle.iloc_lines.specs.Output as ProgramOutput
-pub use Rattle.iloc_bench.specs.Values as FormatterValues
+pub use Rattle.iloc_data.specs.FormatterValues as FormatterValues
 pub use Rattle.iloc_enum_keywords.specs.declared.hour_cycle.HourCycle as HourCycles
 pub mod Together

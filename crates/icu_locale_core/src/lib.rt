@@ -57,9 +57,8 @@ pub mod tinystr {
 
 /// Printing to a sink.
 pub mod writeable {
-    pub use iloc_io_sink::{IoSink, write_to_io};
     pub use iloc_writeable::{
-        LengthHint, Sink, Writeable, cmp_utf8, held_texts, to_string_or_borrow,
+        IoSink, LengthHint, Sink, Writeable, cmp_utf8, held_texts, to_string_or_borrow, write_to_io,
     };
 }
 
@@ -90,8 +89,7 @@ pub mod subtags {
 
 /// The pieces of a text, and why a text is refused.
 pub mod parser {
-    pub use iloc_parser::SubtagIterator;
-    pub use iloc_subtags::ParseError;
+    pub use iloc_subtags::{ParseError, SubtagIterator};
 }
 
 /// Language identifiers.
@@ -128,10 +126,10 @@ pub mod extensions {
     /// The transform extension: an identifier and fields.
     pub mod transform {
         pub use crate::together::transform_extensions as together;
-        pub use iloc_fields::{
-            Fields, Key, Value, equality as fields_equality, hashes as fields_hashes, orders,
+        pub use iloc_transform::field_laws::{
+            equality as fields_equality, hashes as fields_hashes, orders,
         };
-        pub use iloc_transform::{Transform, equality, hashes};
+        pub use iloc_transform::{Fields, Key, Transform, Value, equality, hashes};
     }
 
     /// Extensions that are neither unicode, transform nor private.
@@ -161,8 +159,7 @@ pub mod data {
 
 /// What a locale prefers, and the keywords that say so.
 pub mod preferences {
-    pub use iloc_bench::{FormatPreferences, TimePreferences};
-    pub use iloc_data::LocalePreferences;
+    pub use iloc_data::{FormatPreferences, LocalePreferences, TimePreferences};
     pub use iloc_keyword_types::PreferenceKey;
 
     /// Extensions that hold preferences.
@@ -199,8 +196,8 @@ pub mod json {
 
 /// Preferences of formatters, as users define them, and old raw forms of languages, moved to the new ones.
 pub mod bench {
-    pub use iloc_bench::{FormatPreferences, TimePreferences};
-    pub use iloc_carry::{CarryError, carry_v1};
+    pub use iloc_data::{FormatPreferences, TimePreferences};
+    pub use iloc_subtags::{CarryError, carry_v1};
 }
 
 /// The library of the program `locale_normal`.

@@ -1,4 +1,4 @@
-//! The crate as a user meets it: by its paths alone. What the calls answer is said by rows (`locale_rows`, `part_rows`).
+//! The crate as a user meets it: by its paths alone. What the calls answer is said by rows (`test_locale_rows`, `test_part_rows`).
 use crate::data::DataLocale;
 use crate::parser::ParseError;
 use crate::subtags::{Language, Region};

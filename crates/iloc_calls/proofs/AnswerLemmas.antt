@@ -7,21 +7,21 @@ use Rattle.std.specs.Ordering.{is_eq, nat_cmp}
 use Rattle.std.specs.Cmp.Lexicographic.{slice_cmp}
 use Rattle.std.specs.declared.cmp.Ordering.{Ordering}
 use Rattle.std.specs.declared.cmp.Ordering.TheVariants.{Equal}
-use Rattle.iloc_grammar.specs.Pieces.{pieces}
-use Rattle.iloc_grammar.specs.Words.{languages}
-use Rattle.iloc_grammar.specs.Meaning as meaning
-use Rattle.iloc_grammar.specs.Written.{Identifier}
-use Rattle.iloc_grammar.specs.Meaning.{IdentifierMeans, Means}
-use Rattle.iloc_grammar.specs.Values.{identifier_text, text}
-use Rattle.iloc_grammar.proofs.RawLaws.{languages_table}
-use Rattle.iloc_grammar.proofs.FaultLaws.{accepted_no_fault}
-use Rattle.iloc_grammar.proofs.IdentifierLaws as identifiers
-use Rattle.iloc_grammar.proofs.Readings as readings
-use Rattle.iloc_orders.specs.Orders.{identifier_cmp, locale_cmp}
-use Rattle.iloc_orders.proofs.OrderLaws.{word_exact, identifier_exact, locale_exact}
-use Rattle.iloc_regions.specs.DataLocales.{DataLocale, DataMeans, data_text}
-use Rattle.iloc_regions.proofs.DataLaws.{one_data, data_apart, read_back}
-use Rattle.iloc_grammar.proofs.IdentifierTexts.{identifier_apart}
+use Rattle.iloc_spec_grammar.specs.Pieces.{pieces}
+use Rattle.iloc_spec_grammar.specs.Words.{languages}
+use Rattle.iloc_spec_grammar.specs.Meaning as meaning
+use Rattle.iloc_spec_grammar.specs.Written.{Identifier}
+use Rattle.iloc_spec_grammar.specs.Meaning.{IdentifierMeans, Means}
+use Rattle.iloc_spec_grammar.specs.Values.{identifier_text, text}
+use Rattle.iloc_spec_grammar.proofs.RawLaws.{languages_table}
+use Rattle.iloc_spec_grammar.proofs.FaultLaws.{accepted_no_fault}
+use Rattle.iloc_spec_grammar.proofs.IdentifierLaws as identifiers
+use Rattle.iloc_spec_grammar.proofs.Readings as readings
+use Rattle.iloc_spec_orders.specs.Orders.{identifier_cmp, locale_cmp}
+use Rattle.iloc_spec_orders.proofs.OrderLaws.{word_exact, identifier_exact, locale_exact}
+use Rattle.iloc_spec_preferences.specs.DataLocales.{DataLocale, DataMeans, data_text}
+use Rattle.iloc_spec_preferences.proofs.DataLaws.{one_data, data_apart, read_back}
+use Rattle.iloc_spec_grammar.proofs.IdentifierTexts.{identifier_apart}
 use Rattle.iloc_subtags.specs.declared.parse_error.ParseError.{ParseError}
 use Rattle.iloc_subtags.specs.declared.parse_error.ParseError.TheVariants as refusals
 use Rattle.iloc_langid.specs.Reads as langid

@@ -2,11 +2,11 @@
 -- locale's.
 use Rattle.std.proofs.Common.{◌≡◌, ℕ, ◌+◌, ◌-◌, ◌^◌, ◌≤◌, List, length, refl, ap, arith}
 use Rattle.std.proofs.lemmas.Bool.Decides.{nat_tests}
-use Rattle.iloc_grammar.specs.Words.{languages}
-use Rattle.iloc_grammar.specs.Values.{identifier_text, text}
-use Rattle.iloc_grammar.proofs.Chains.{shortest}
-use Rattle.iloc_grammar.proofs.IdentifierTexts.{length-identifier_means}
-use Rattle.iloc_regions.specs.DataLocales.{data_text}
+use Rattle.iloc_spec_grammar.specs.Words.{languages}
+use Rattle.iloc_spec_grammar.specs.Values.{identifier_text, text}
+use Rattle.iloc_spec_grammar.proofs.Chains.{shortest}
+use Rattle.iloc_spec_grammar.proofs.IdentifierTexts.{length-identifier_means}
+use Rattle.iloc_spec_preferences.specs.DataLocales.{data_text}
 use Rattle.iloc_writeable.specs.Hints.{saturated}
 use Rattle.iloc_lines.specs.declared.Mode.{Mode}
 use Rattle.iloc_lines.specs.declared.Mode.TheVariants.{Langid, Locale, Data}

@@ -3,20 +3,20 @@ use Rattle.std.proofs.Common.{◌≡◌, ℕ, ◌+◌, ◌≤◌, Bool, true, fa
 use Rattle.std.specs.Result.{result_ok}
 use Rattle.std.proofs.lemmas.Bool.{cond_both}
 use Rattle.std.proofs.lemmas.Bool.Decides.{nat_tests}
-use Rattle.iloc_grammar.specs.Pieces.{join, dashes}
-use Rattle.iloc_grammar.specs.Words.{Region, languages, is_word, is_same, is_true, lower}
-use Rattle.iloc_grammar.specs.Values.{IsNormal, text}
-use Rattle.iloc_grammar.proofs.Chains.{shortest}
-use Rattle.iloc_grammar.proofs.MapLaws.{same_is}
-use Rattle.iloc_grammar.proofs.PartTexts.{join-dashes, join-append, dashes-append}
-use Rattle.iloc_grammar.proofs.WordsLaws.{length-lower}
-use Rattle.iloc_small.specs.Small.{SmallIdentifier, SmallLocale, locale_of_small, IsSmall}
-use Rattle.iloc_small.proofs.SmallLaws.{small_means}
-use Rattle.iloc_small.proofs.SmallBack.{read_is_small_value}
-use Rattle.iloc_regions.specs.Subdivisions.{Subdivision, subdivision, subdivision_text, IsSubdivision}
-use Rattle.iloc_regions.specs.DataLocales.{DataLocale, DataMeans, whole, whole_region, is_whole, named_subdivision, made_of, agreed, sd, small_part, data_of_small, subdivision_value, subdivision_pieces, data_text}
-use Rattle.iloc_regions.proofs.SubdivisionLaws.{subdivision_back, read_is_subdivision, text_of_read}
-use Rattle.iloc_regions.proofs.DataLaws.{whole_region_is}
+use Rattle.iloc_spec_grammar.specs.Pieces.{join, dashes}
+use Rattle.iloc_spec_grammar.specs.Words.{Region, languages, is_word, is_same, is_true, lower}
+use Rattle.iloc_spec_grammar.specs.Values.{IsNormal, text}
+use Rattle.iloc_spec_grammar.proofs.Chains.{shortest}
+use Rattle.iloc_spec_grammar.proofs.MapLaws.{same_is}
+use Rattle.iloc_spec_grammar.proofs.PartTexts.{join-dashes, join-append, dashes-append}
+use Rattle.iloc_spec_grammar.proofs.WordsLaws.{length-lower}
+use Rattle.iloc_spec_parts.specs.Small.{SmallIdentifier, SmallLocale, locale_of_small, IsSmall}
+use Rattle.iloc_spec_parts.proofs.SmallLaws.{small_means}
+use Rattle.iloc_spec_parts.proofs.SmallBack.{read_is_small_value}
+use Rattle.iloc_spec_preferences.specs.Subdivisions.{Subdivision, subdivision, subdivision_text, IsSubdivision}
+use Rattle.iloc_spec_preferences.specs.DataLocales.{DataLocale, DataMeans, whole, whole_region, is_whole, named_subdivision, made_of, agreed, sd, small_part, data_of_small, subdivision_value, subdivision_pieces, data_text}
+use Rattle.iloc_spec_preferences.proofs.SubdivisionLaws.{subdivision_back, read_is_subdivision, text_of_read}
+use Rattle.iloc_spec_preferences.proofs.DataLaws.{whole_region_is}
 
 -- the bytes that a word takes with its hyphen, and those of a keyword after `u`
 abbrev share : Option (List ℕ) → ℕ

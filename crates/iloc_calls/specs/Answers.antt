@@ -4,14 +4,15 @@ use Rattle.std.specs.Ordering.{nat_cmp}
 use Rattle.std.specs.Cmp.Lexicographic.{slice_cmp}
 use Rattle.std.specs.declared.cmp.Ordering.{Ordering}
 use Rattle.std.specs.declared.cmp.Ordering.TheVariants.{Less, Equal, Greater}
-use Rattle.iloc_grammar.specs.Pieces.{pieces}
-use Rattle.iloc_grammar.specs.Words.{languages}
-use Rattle.iloc_grammar.specs.Meaning as meaning
-use Rattle.iloc_grammar.specs.Written.{Identifier}
-use Rattle.iloc_grammar.specs.Meaning.{IdentifierMeans, Means}
-use Rattle.iloc_grammar.specs.Faults as faults
-use Rattle.iloc_grammar.specs.Faults.{Fault, HasIdentifierFault, HasFault}
-use Rattle.iloc_regions.specs.DataLocales.{DataLocale, DataMeans, HasDataFault, data_text}
+use Rattle.iloc_spec_grammar.specs.Shapes.{Text}
+use Rattle.iloc_spec_grammar.specs.Pieces.{pieces}
+use Rattle.iloc_spec_grammar.specs.Words.{languages}
+use Rattle.iloc_spec_grammar.specs.Meaning as meaning
+use Rattle.iloc_spec_grammar.specs.Written.{Identifier}
+use Rattle.iloc_spec_grammar.specs.Meaning.{IdentifierMeans, Means}
+use Rattle.iloc_spec_grammar.specs.Faults as faults
+use Rattle.iloc_spec_grammar.specs.Faults.{Fault, HasIdentifierFault, HasFault}
+use Rattle.iloc_spec_preferences.specs.DataLocales.{DataLocale, DataMeans, HasDataFault, data_text}
 use Rattle.iloc_writeable.specs.Hints.{saturated}
 use Rattle.iloc_langid.specs.Normalizing as langid
 use Rattle.iloc_langid.specs.Reads as langid_reads
@@ -27,26 +28,26 @@ use Rattle.iloc_calls.specs.declared.status.Status.TheVariants.{Done, InvalidLan
 -- Texts, by the mode.
 
 -- the bytes are the normal text of what the text means
-abbrev pub IsNormalText : Mode → List ℕ → List ℕ → Type 0
+abbrev pub IsNormalText : Mode → Text → Text → Type 0
 IsNormalText Langid t normal = langid.IsTextOf t normal
 IsNormalText Locale t normal = locale.IsTextOf t normal
 IsNormalText Data t normal = (d : DataLocale) × DataMeans languages t d × (normal ≡ data_text d)
 
 -- the text means nothing, and has this fault
-abbrev pub IsFaulty : Mode → List ℕ → Fault → Type 0
+abbrev pub IsFaulty : Mode → Text → Fault → Type 0
 IsFaulty Langid t f = HasIdentifierFault languages (pieces t) f
 IsFaulty Locale t f = HasFault languages t f
 IsFaulty Data t f = HasDataFault languages t f
 
 -- when memory may run out to read the text: never if it is short
-abbrev pub WantsMemory : Mode → List ℕ → Type 0
+abbrev pub WantsMemory : Mode → Text → Type 0
 WantsMemory Langid t = langid_reads.WantsMemory (pieces t)
 WantsMemory Locale t = locale_reads.WantsMemory t
 WantsMemory Data t = ⊥
 
 -- the status of a text: it means something, or has the fault, or memory ran out
-abbrev pub JudgedAs : Mode → List ℕ → Status → Type 0
-JudgedAs mode t Done = (normal : List ℕ) × IsNormalText mode t normal
+abbrev pub JudgedAs : Mode → Text → Status → Type 0
+JudgedAs mode t Done = (normal : Text) × IsNormalText mode t normal
 JudgedAs mode t InvalidLanguage = IsFaulty mode t faults.InvalidLanguage
 JudgedAs mode t InvalidSubtag = IsFaulty mode t faults.InvalidSubtag
 JudgedAs mode t InvalidExtension = IsFaulty mode t faults.InvalidExtension
@@ -58,7 +59,7 @@ JudgedAs mode t UnknownNumber = ⊥
 -- What is written for a caller.
 
 -- the bytes are at the front of the buffer if they fit; else it is as before, and their number says how large it must be
-abbrev pub HandsOut : List ℕ → List ℕ → List ℕ → ℕ → Status → Type 0
+abbrev pub HandsOut : Text → Text → Text → ℕ → Status → Type 0
 HandsOut bytes before after needed Done = (length bytes ≤ length before) × (needed ≡ length bytes)
     × (after ≡ bytes ++ drop (length bytes) before)
 HandsOut bytes before after needed BufferTooSmall = (length before < length bytes)
@@ -66,10 +67,10 @@ HandsOut bytes before after needed BufferTooSmall = (length before < length byte
 HandsOut bytes before after needed _ = ⊥
 
 -- the normal text is handed out; if there is none, nothing is
-abbrev pub NormalizesTo : Mode → List ℕ → List ℕ → List ℕ → ℕ → Status → Type 0
-NormalizesTo mode t before after needed Done = (normal : List ℕ) × IsNormalText mode t normal
+abbrev pub NormalizesTo : Mode → Text → Text → Text → ℕ → Status → Type 0
+NormalizesTo mode t before after needed Done = (normal : Text) × IsNormalText mode t normal
     × HandsOut normal before after needed Done
-NormalizesTo mode t before after needed BufferTooSmall = (normal : List ℕ) × IsNormalText mode t normal
+NormalizesTo mode t before after needed BufferTooSmall = (normal : Text) × IsNormalText mode t normal
     × HandsOut normal before after needed BufferTooSmall
 NormalizesTo mode t before after needed status = JudgedAs mode t status × (needed ≡ 0) × (after ≡ before)
 
@@ -85,40 +86,40 @@ order_number Equal = pos 0
 order_number Greater = pos 1
 
 -- the byte order of the normal text against other bytes is written, and else nothing is
-abbrev pub ComparesTo : Mode → List ℕ → List ℕ → ℤ → ℤ → Status → Type 0
-ComparesTo mode t other before after Done = (normal : List ℕ) × IsNormalText mode t normal
+abbrev pub ComparesTo : Mode → Text → Text → ℤ → ℤ → Status → Type 0
+ComparesTo mode t other before after Done = (normal : Text) × IsNormalText mode t normal
     × (after ≡ order_number (slice_cmp nat_cmp normal other))
 ComparesTo mode t other before after status = JudgedAs mode t status × (after ≡ before)
 
 -- the normal text of the other bytes is written out of place only if they are not that text
-abbrev pub IsNotNormal : Mode → List ℕ → Type 0
-IsNotNormal mode t = (normal : List ℕ) × IsNormalText mode t normal × ¬ (t ≡ normal)
+abbrev pub IsNotNormal : Mode → Text → Type 0
+IsNotNormal mode t = (normal : Text) × IsNormalText mode t normal × ¬ (t ≡ normal)
 
 -- the order of two normal texts is written; or memory ran out for the second, which is not the bytes
-abbrev pub IsOrderOf : List ℕ → List ℕ → List ℕ → ℤ → ℤ → Status → Type 0
+abbrev pub IsOrderOf : Text → Text → Text → ℤ → ℤ → Status → Type 0
 IsOrderOf a b bytes before after Done = after ≡ order_number (slice_cmp nat_cmp a b)
 IsOrderOf a b bytes before after OutOfMemory = ¬ (bytes ≡ b) × (after ≡ before)
 IsOrderOf a b bytes before after _ = ⊥
 
 -- the byte order of both normal texts is written; a refusal is of the first text, or else of the other
-abbrev pub OrdersTo : Mode → List ℕ → List ℕ → ℤ → ℤ → Status → Type 0
-OrdersTo mode t other before after Done = (a b : List ℕ) × IsNormalText mode t a
+abbrev pub OrdersTo : Mode → Text → Text → ℤ → ℤ → Status → Type 0
+OrdersTo mode t other before after Done = (a b : Text) × IsNormalText mode t a
     × IsNormalText mode other b × (after ≡ order_number (slice_cmp nat_cmp a b))
 OrdersTo mode t other before after OutOfMemory =
     (WantsMemory mode t ⊎ (WantsMemory mode other ⊎ IsNotNormal mode other)) × (after ≡ before)
 OrdersTo mode t other before after status =
-    (JudgedAs mode t status ⊎ ((normal : List ℕ) × IsNormalText mode t normal × JudgedAs mode other status))
+    (JudgedAs mode t status ⊎ ((normal : Text) × IsNormalText mode t normal × JudgedAs mode other status))
     × (after ≡ before)
 
 -- both texts mean the same
-abbrev pub MeanSame : Mode → List ℕ → List ℕ → Type 0
+abbrev pub MeanSame : Mode → Text → Text → Type 0
 MeanSame Langid t u = (i : Identifier) × IdentifierMeans languages (pieces t) i
     × IdentifierMeans languages (pieces u) i
 MeanSame Locale t u = (M : meaning.Locale) × Means languages t M × Means languages u M
 MeanSame Data t u = (d : DataLocale) × DataMeans languages t d × DataMeans languages u d
 
 -- when telling whether they do may allocate: to parse either; a data locale is printed to be compared
-abbrev pub TellingWantsMemory : Mode → List ℕ → List ℕ → Type 0
+abbrev pub TellingWantsMemory : Mode → Text → Text → Type 0
 TellingWantsMemory Langid t u = WantsMemory Langid t ⊎ WantsMemory Langid u
 TellingWantsMemory Locale t u = WantsMemory Locale t ⊎ WantsMemory Locale u
 TellingWantsMemory Data t u = IsNotNormal Data u
@@ -130,8 +131,8 @@ RefusedTells refusal before after status =
     ⊎ (¬ (refusal ≡ refusals.OutOfMemory) × (status ≡ Done) × (after ≡ 0))
 
 -- 1 is written if the other bytes mean what the text means, and else 0
-abbrev pub TellsSame : Mode → List ℕ → List ℕ → ℕ → ℕ → Status → Type 0
-TellsSame mode t other before after Done = ((normal : List ℕ) × IsNormalText mode t normal)
+abbrev pub TellsSame : Mode → Text → Text → ℕ → ℕ → Status → Type 0
+TellsSame mode t other before after Done = ((normal : Text) × IsNormalText mode t normal)
     × (((after ≡ 1) × MeanSame mode t other) ⊎ ((after ≡ 0) × ¬ (MeanSame mode t other)))
 TellsSame mode t other before after OutOfMemory = TellingWantsMemory mode t other × (after ≡ before)
 TellsSame mode t other before after status = JudgedAs mode t status × (after ≡ before)

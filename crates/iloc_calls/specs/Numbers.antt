@@ -1,5 +1,6 @@
 -- The numbers of modes and of statuses, and the words of statuses.
 use Rattle.std.specs.Prelude.{◌≡◌, ℕ, List, codes}
+use Rattle.iloc_spec_grammar.specs.Shapes.{Text}
 use Rattle.iloc_subtags.specs.declared.parse_error.ParseError.{ParseError}
 use Rattle.iloc_subtags.specs.declared.parse_error.ParseError.TheVariants as refusals
 use Rattle.iloc_subtags.specs.ParseError as refusals_words
@@ -36,7 +37,7 @@ status_of refusals.DuplicatedExtension = DuplicatedExtension
 status_of refusals.OutOfMemory = OutOfMemory
 
 -- the words of a refusal are the library's
-abbrev pub words_of : Status → List ℕ
+abbrev pub words_of : Status → Text
 words_of Done = codes "Done"
 words_of InvalidLanguage = refusals_words.words_of refusals.InvalidLanguage
 words_of InvalidSubtag = refusals_words.words_of refusals.InvalidSubtag

@@ -1,9 +1,9 @@
 -- What a keyword that is there or not reads as.
 use Rattle.std.proofs.Common.{◌≡◌, ℕ, true, List, Option, Some, None, ap, is_some, is_none, ◌||◌, option_and_then}
 use Rattle.std.specs.FinMap.{find}
-use Rattle.iloc_grammar.specs.Words.{word_cmp}
-use Rattle.iloc_grammar.specs.Meaning.{Locale}
-use Rattle.iloc_preferences_rules.specs.Preferences.{read_keyword, is_readable}
+use Rattle.iloc_spec_grammar.specs.Words.{word_cmp}
+use Rattle.iloc_spec_grammar.specs.Meaning.{Locale}
+use Rattle.iloc_spec_preferences.specs.Preferences.{read_keyword, is_readable}
 
 module _ {X : Type 0} (reads : List (List ℕ) → Option X) where
   pub absent : (k : List ℕ) (M : Locale) → None ≡ find word_cmp k M.extensions.unicode.keywords → (None ≡ read_keyword reads k M) × (true ≡ is_readable reads k M)

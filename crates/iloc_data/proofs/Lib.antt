@@ -2,3 +2,4 @@ mod EqualityLemmas
 mod ReadLemmas
 pub mod KeywordLemmas
 mod WholeLemmas
+mod FormatterLemmas

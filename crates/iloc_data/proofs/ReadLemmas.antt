@@ -1,19 +1,19 @@
 -- From the small locale that was read, or its refusal, to what the reader of data locales answers.
 use Rattle.std.proofs.Common.{◌≡◌, ℕ, List, Option, Some, None, refl, sym, ap, ◌∙◌, IsOk, Result, Ok, Err, option_map}
-use Rattle.iloc_grammar.specs.Words.{languages, two_or_three}
-use Rattle.iloc_grammar.specs.Meaning as meaning
-use Rattle.iloc_grammar.specs.Meaning.{Means}
-use Rattle.iloc_grammar.specs.Faults as faults
-use Rattle.iloc_grammar.specs.Faults.{Fault}
-use Rattle.iloc_grammar.proofs.RawLaws.{languages_table, narrow_in_wide}
-use Rattle.iloc_small_reader.specs.SmallLocaleReads.{LocaleParts, small_locale_of, SmallLocaleReadsAs}
-use Rattle.iloc_regions.specs.Subdivisions.{Subdivision}
-use Rattle.iloc_regions.specs.DataLocales as parts
-use Rattle.iloc_regions.specs.DataLocales.{DataMeans, HasDataFault, not_small, no_subdivision, made_of, small_part, data_text}
-use Rattle.iloc_regions.proofs.DataLaws.{data_apart, one_data, one_data_fault, read_back}
-use Rattle.iloc_regions.proofs.WiderData.{data_wider}
-use Rattle.iloc_preferences_rules.specs.Preferences.{language_priority, preferences}
-use Rattle.iloc_preferences_rules.proofs.ConversionLaws.{agrees}
+use Rattle.iloc_spec_grammar.specs.Words.{languages, two_or_three}
+use Rattle.iloc_spec_grammar.specs.Meaning as meaning
+use Rattle.iloc_spec_grammar.specs.Meaning.{Means}
+use Rattle.iloc_spec_grammar.specs.Faults as faults
+use Rattle.iloc_spec_grammar.specs.Faults.{Fault}
+use Rattle.iloc_spec_grammar.proofs.RawLaws.{languages_table, narrow_in_wide}
+use Rattle.iloc_langid.specs.SmallLocaleReads.{LocaleParts, small_locale_of, SmallLocaleReadsAs}
+use Rattle.iloc_spec_preferences.specs.Subdivisions.{Subdivision}
+use Rattle.iloc_spec_preferences.specs.DataLocales as parts
+use Rattle.iloc_spec_preferences.specs.DataLocales.{DataMeans, HasDataFault, not_small, no_subdivision, made_of, small_part, data_text}
+use Rattle.iloc_spec_preferences.proofs.DataLaws.{data_apart, one_data, one_data_fault, read_back}
+use Rattle.iloc_spec_preferences.proofs.WiderData.{data_wider}
+use Rattle.iloc_spec_preferences.specs.Preferences.{language_priority, preferences}
+use Rattle.iloc_spec_preferences.proofs.ConversionLaws.{agrees}
 use Rattle.iloc_subtags.specs.declared.parse_error.ParseError.{ParseError}
 use Rattle.iloc_subtags.specs.declared.parse_error.ParseError.TheVariants.{InvalidLanguage, InvalidSubtag, InvalidExtension, DuplicatedExtension, OutOfMemory}
 use Rattle.iloc_data.specs.declared.data_locale.DataLocale.{DataLocale}

@@ -2,9 +2,9 @@
 use Rattle.std.proofs.Common.{◌≡◌, Bool, true, ap}
 use Rattle.std.specs.Ordering.{eq_by_cmp}
 use Rattle.std.specs.Cmp.{IsEquivalence, eq_by_cmp_equiv, on_equiv, Equal-is}
-use Rattle.iloc_regions.specs.DataOrders.{data_locale_cmp}
-use Rattle.iloc_regions.specs.DataHashes.{data_key_fed, data_locale_fed}
-use Rattle.iloc_regions.proofs.DataOrderLaws.{data_locale_total, data_locale_ties}
+use Rattle.iloc_spec_preferences.specs.DataOrders.{data_locale_cmp}
+use Rattle.iloc_spec_preferences.specs.DataHashes.{data_key_fed, data_locale_fed}
+use Rattle.iloc_spec_preferences.proofs.DataOrderLaws.{data_locale_total, data_locale_ties}
 use Rattle.iloc_data.specs.declared.data_locale.DataLocale.{DataLocale}
 use Rattle.iloc_data.specs.DataValue.{value_of}
 

@@ -1,6 +1,6 @@
 -- What a `DataLocale` stands for.
 use Rattle.std.specs.Prelude.{None, codes}
-use Rattle.iloc_regions.specs.DataLocales as parts
+use Rattle.iloc_spec_preferences.specs.DataLocales as parts
 use Rattle.iloc_data.specs.declared.data_locale.DataLocale.{DataLocale}
 
 abbrev pub value_of : DataLocale → parts.DataLocale

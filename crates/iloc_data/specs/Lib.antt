@@ -2,3 +2,4 @@ pub mod DataValue
 pub mod DataEquality
 pub mod Reads
 pub mod WithKeywords
+pub mod FormatterValues

@@ -1,24 +1,25 @@
 -- What the reader of data locales answers, by cases on the whole answer. It allocates nothing.
 use Rattle.std.specs.Prelude.{◌≡◌, ℕ, List, Result, IfOk, IsOk}
-use Rattle.iloc_grammar.specs.Words.{languages, two_or_three}
-use Rattle.iloc_grammar.specs.Meaning as meaning
-use Rattle.iloc_grammar.specs.Meaning.{Means}
-use Rattle.iloc_regions.specs.DataLocales as parts
-use Rattle.iloc_regions.specs.DataLocales.{DataMeans, HasDataFault, data_text}
-use Rattle.iloc_preferences_rules.specs.Preferences.{language_priority, preferences}
+use Rattle.iloc_spec_grammar.specs.Shapes.{Text}
+use Rattle.iloc_spec_grammar.specs.Words.{languages, two_or_three}
+use Rattle.iloc_spec_grammar.specs.Meaning as meaning
+use Rattle.iloc_spec_grammar.specs.Meaning.{Means}
+use Rattle.iloc_spec_preferences.specs.DataLocales as parts
+use Rattle.iloc_spec_preferences.specs.DataLocales.{DataMeans, HasDataFault, data_text}
+use Rattle.iloc_spec_preferences.specs.Preferences.{language_priority, preferences}
 use Rattle.iloc_subtags.specs.declared.parse_error.ParseError.{ParseError}
-use Rattle.iloc_grammar.specs.Faults.{Fault}
+use Rattle.iloc_spec_grammar.specs.Faults.{Fault}
 use Rattle.iloc_subtags.specs.Answers.{Answers, ButDuplicate}
 use Rattle.iloc_subtags.specs.Judging.{Accepts, Refuses}
 use Rattle.iloc_data.specs.declared.data_locale.DataLocale.{DataLocale}
 use Rattle.iloc_data.specs.DataValue.{value_of}
 
-abbrev pub DataReadsAs : List ℕ → Result DataLocale ParseError → Type 0
+abbrev pub DataReadsAs : Text → Result DataLocale ParseError → Type 0
 DataReadsAs t = Answers (λ d. DataMeans languages t (value_of d))
     (ButDuplicate (HasDataFault languages t)) ⊥
 
 -- all that is promised of the answer on a text: each clause of `try_from_str`
-pub record IsDataAnswer (t : List ℕ) (r : Result DataLocale ParseError) : Type 0 where
+pub record IsDataAnswer (t : Text) (r : Result DataLocale ParseError) : Type 0 where
   pub reads : DataReadsAs t r
   pub accepted : (d : parts.DataLocale) → DataMeans languages t d → Accepts value_of ⊥ d r
   pub refused : (f : Fault) → HasDataFault languages t f → Refuses ⊥ f r

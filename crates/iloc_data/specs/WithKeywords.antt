@@ -1,10 +1,11 @@
 -- The locale of a data locale's identifier with keywords, and a keyword if its value is there.
 use Rattle.std.specs.Prelude.{ℕ, List, [], ◌∷◌, Option, Some, None, option_to_list}
-use Rattle.iloc_grammar.specs.Written.{Fields}
-use Rattle.iloc_grammar.specs.Meaning.{Locale, just_unicode}
-use Rattle.iloc_regions.specs.DataLocales.{DataLocale}
+use Rattle.iloc_spec_grammar.specs.Shapes.{Text}
+use Rattle.iloc_spec_grammar.specs.Written.{Fields}
+use Rattle.iloc_spec_grammar.specs.Meaning.{Locale, just_unicode}
+use Rattle.iloc_spec_preferences.specs.DataLocales.{DataLocale}
 
-abbrev pub entry : List ℕ → Option (List (List ℕ)) → Fields
+abbrev pub entry : Text → Option (List Text) → Fields
 entry k None = []
 entry k (Some v) = (k, v) ∷ []
 

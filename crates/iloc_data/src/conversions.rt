@@ -1,10 +1,10 @@
 //! Data locales from identifiers and parts, and locales from data locales.
 ghost use Rattle.std.specs.Prelude.{◌≡◌, ℕ, List};
-ghost use Rattle.iloc_grammar.specs.Words.{languages};
-ghost use Rattle.iloc_grammar.specs.Meaning as meaning;
-ghost use Rattle.iloc_grammar.specs.Values.{IsValue, IsWellFormed, text};
+ghost use Rattle.iloc_spec_grammar.specs.Words.{languages};
+ghost use Rattle.iloc_spec_grammar.specs.Meaning as meaning;
+ghost use Rattle.iloc_spec_grammar.specs.Values.{IsValue, IsWellFormed, text};
 ghost use Rattle.iloc_locale.specs.LocaleValue.{value_of as locale_value};
-ghost use Rattle.iloc_regions.specs.DataLocales.{data_text, locale_of_data};
+ghost use Rattle.iloc_spec_preferences.specs.DataLocales.{data_text, locale_of_data};
 
 use crate::data_locale::DataLocale;
 use crate::locale_preferences::LocalePreferences;
@@ -76,7 +76,7 @@ impl DataLocale {
 impl From<&Locale> for DataLocale {
     ghost use Rattle.std.specs.Prelude.{◌≡◌};
     ghost use Rattle.iloc_locale.specs.LocaleValue.{value_of as locale_value};
-    ghost use Rattle.iloc_preferences_rules.specs.Preferences.{language_priority, preferences};
+    ghost use Rattle.iloc_spec_preferences.specs.Preferences.{language_priority, preferences};
     ghost use Rattle.iloc_data.specs.DataValue.{value_of};
 
     ghost from_gives = { λ locale d. value_of d
@@ -91,7 +91,7 @@ impl From<&Locale> for DataLocale {
 impl From<Locale> for DataLocale {
     ghost use Rattle.std.specs.Prelude.{◌≡◌};
     ghost use Rattle.iloc_locale.specs.LocaleValue.{value_of as locale_value};
-    ghost use Rattle.iloc_preferences_rules.specs.Preferences.{language_priority, preferences};
+    ghost use Rattle.iloc_spec_preferences.specs.Preferences.{language_priority, preferences};
     ghost use Rattle.iloc_data.specs.DataValue.{value_of};
 
     ghost from_gives = { λ locale d. value_of d
@@ -106,7 +106,7 @@ impl From<Locale> for DataLocale {
 impl From<&LanguageIdentifier> for DataLocale {
     ghost use Rattle.std.specs.Prelude.{◌≡◌};
     ghost use Rattle.iloc_langid.specs.Reads.{value_of as identifier_of};
-    ghost use Rattle.iloc_regions.specs.DataLocales.{data_of_identifier};
+    ghost use Rattle.iloc_spec_preferences.specs.DataLocales.{data_of_identifier};
     ghost use Rattle.iloc_data.specs.DataValue.{value_of};
 
     ghost from_gives = { λ langid d. value_of d ≡ data_of_identifier (identifier_of langid.now) };
@@ -126,7 +126,7 @@ impl From<&LanguageIdentifier> for DataLocale {
 impl From<LanguageIdentifier> for DataLocale {
     ghost use Rattle.std.specs.Prelude.{◌≡◌};
     ghost use Rattle.iloc_langid.specs.Reads.{value_of as identifier_of};
-    ghost use Rattle.iloc_regions.specs.DataLocales.{data_of_identifier};
+    ghost use Rattle.iloc_spec_preferences.specs.DataLocales.{data_of_identifier};
     ghost use Rattle.iloc_data.specs.DataValue.{value_of};
 
     ghost from_gives = { λ langid d. value_of d ≡ data_of_identifier (identifier_of langid) };
@@ -139,7 +139,7 @@ impl From<LanguageIdentifier> for DataLocale {
 /// Made of the whole of the region.
 impl From<(Language, Option<Script>, Option<Region>)> for DataLocale {
     ghost use Rattle.std.specs.Prelude.{◌≡◌};
-    ghost use Rattle.iloc_regions.specs.DataLocales.{data_of_parts};
+    ghost use Rattle.iloc_spec_preferences.specs.DataLocales.{data_of_parts};
     ghost use Rattle.iloc_data.specs.DataValue.{value_of};
 
     ghost from_gives = { λ lsr d. value_of d ≡ data_of_parts lsr.0 lsr.1 lsr.2 };

@@ -1,17 +1,17 @@
 //! The type, and its parsers.
 ghost use Rattle.std.specs.Prelude.{◌≡◌, ◌↔◌, IsTrue, IfOk, IsOk};
-ghost use Rattle.iloc_preferences_rules.specs.Preferences.{language_priority, preferences};
-ghost use Rattle.iloc_grammar.specs.Words.{languages, two_or_three};
-ghost use Rattle.iloc_grammar.specs.Meaning as meaning;
-ghost use Rattle.iloc_grammar.specs.Meaning.{Means};
-ghost use Rattle.iloc_regions.specs.DataLocales as parts;
-ghost use Rattle.iloc_grammar.specs.Faults.{Fault};
-ghost use Rattle.iloc_regions.specs.DataLocales.{DataMeans, HasDataFault, data_text};
+ghost use Rattle.iloc_spec_preferences.specs.Preferences.{language_priority, preferences};
+ghost use Rattle.iloc_spec_grammar.specs.Words.{languages, two_or_three};
+ghost use Rattle.iloc_spec_grammar.specs.Meaning as meaning;
+ghost use Rattle.iloc_spec_grammar.specs.Meaning.{Means};
+ghost use Rattle.iloc_spec_preferences.specs.DataLocales as parts;
+ghost use Rattle.iloc_spec_grammar.specs.Faults.{Fault};
+ghost use Rattle.iloc_spec_preferences.specs.DataLocales.{DataMeans, HasDataFault, data_text};
 ghost use Rattle.iloc_subtags.specs.Judging.{Accepts, Refuses};
 
 use iloc_data_parts::region::part_of;
 use iloc_keyword_types::SubdivisionId;
-use iloc_small_reader::read_small_locale;
+use iloc_langid::read_small_locale;
 use iloc_subtags::{Language, ParseError, Region, Script, Subtag, Variant};
 use std::str::FromStr;
 

@@ -35,7 +35,7 @@ impl Pieces for DataLocale {
 /// and not a whole region, joined by hyphens. It is borrowed if there is a language and nothing else.
 impl Writeable for DataLocale {
     ghost use Rattle.std.specs.Prelude.{◌≡◌, None};
-    ghost use Rattle.iloc_regions.specs.DataLocales.{data_text};
+    ghost use Rattle.iloc_spec_preferences.specs.DataLocales.{data_text};
     ghost use Rattle.iloc_data.specs.DataValue.{value_of};
 
     ghost text = { λ d. data_text (value_of d) };
@@ -43,12 +43,12 @@ impl Writeable for DataLocale {
     ghost lends = { λ d. (d.script ≡ None) × (d.region ≡ None) × (d.variant ≡ None)
         × (d.subdivision ≡ None) };
 
-    #[tactic(auto, unfolding(iloc_grammar::specs::Pieces::join))]
+    #[tactic(auto, unfolding(iloc_spec_grammar::specs::Pieces::join))]
     fn write_to<S: Sink>(&self, sink: &mut S) -> fmt::Result {
         self.write_joined(sink)
     }
 
-    #[tactic(auto, unfolding(iloc_grammar::specs::Pieces::join))]
+    #[tactic(auto, unfolding(iloc_spec_grammar::specs::Pieces::join))]
     fn writeable_borrow(&self) -> Option<&str> {
         if self.script.is_none()
             && self.region.is_none()
@@ -64,7 +64,7 @@ impl Writeable for DataLocale {
 /// Prints the text between `DataLocale{` and `}`.
 impl fmt::Debug for DataLocale {
     ghost use Rattle.std.specs.Prelude.{Some, ◌++◌, codes};
-    ghost use Rattle.iloc_regions.specs.DataLocales.{data_text};
+    ghost use Rattle.iloc_spec_preferences.specs.DataLocales.{data_text};
     ghost use Rattle.iloc_data.specs.DataValue.{value_of};
 
     ghost debug_output = { λ d. Some (codes "DataLocale{" ++ data_text (value_of d) ++ codes "}") };
@@ -76,7 +76,7 @@ impl fmt::Debug for DataLocale {
 
 impl fmt::Display for DataLocale {
     ghost use Rattle.std.specs.Prelude.{Some};
-    ghost use Rattle.iloc_regions.specs.DataLocales.{data_text};
+    ghost use Rattle.iloc_spec_preferences.specs.DataLocales.{data_text};
     ghost use Rattle.iloc_data.specs.DataValue.{value_of};
 
     ghost output = { λ d. Some (data_text (value_of d)) };

@@ -1,9 +1,9 @@
 //! The locale that preferences are turned into.
 ghost use Rattle.std.specs.Prelude.{◌≡◌, ◌≤◌, ◌++◌, true, length, IfOk, IsOk};
-ghost use Rattle.iloc_grammar.specs.Values.{IsWellFormed};
+ghost use Rattle.iloc_spec_grammar.specs.Values.{IsWellFormed};
 ghost use Rattle.iloc_locale.specs.LocaleValue.{value_of as locale_value};
-ghost use Rattle.iloc_regions.specs.DataLocales.{sd};
-ghost use Rattle.iloc_preferences_rules.specs.Preferences.{
+ghost use Rattle.iloc_spec_preferences.specs.DataLocales.{sd};
+ghost use Rattle.iloc_spec_preferences.specs.Preferences.{
   SpellsNoTrue,
   preferences,
   is_strict,

@@ -1,10 +1,10 @@
 //! What the types keep of each data locale and of each preferences.
 ghost use Rattle.std.specs.Prelude.{IfSome};
-ghost use Rattle.iloc_grammar.specs.Words.{languages};
-ghost use Rattle.iloc_grammar.specs.Values.{IsNormal};
-ghost use Rattle.iloc_regions.specs.DataLocales.{IsDataLocale};
-ghost use Rattle.iloc_regions.specs.Subdivisions.{IsSubdivision};
-ghost use Rattle.iloc_preferences_rules.specs.Preferences.{IsPreferences};
+ghost use Rattle.iloc_spec_grammar.specs.Words.{languages};
+ghost use Rattle.iloc_spec_grammar.specs.Values.{IsNormal};
+ghost use Rattle.iloc_spec_preferences.specs.DataLocales.{IsDataLocale};
+ghost use Rattle.iloc_spec_preferences.specs.Subdivisions.{IsSubdivision};
+ghost use Rattle.iloc_spec_preferences.specs.Preferences.{IsPreferences};
 ghost use Rattle.iloc_data.specs.DataValue.{value_of};
 
 use crate::data_locale::DataLocale;

@@ -2,11 +2,11 @@
 use Rattle.std.proofs.Common.{◌≡◌, ℕ, Bool, true, false, List, [], ◌∷◌, Option, Some, None, refl, sym, ap, ◌∙◌, option_map, option_and_then, Ok}
 use Rattle.std.specs.Prelude.{if◌then◌else◌}
 use Rattle.std.specs.Result.{result_ok}
-use Rattle.iloc_grammar.specs.Words.{Subtag}
-use Rattle.iloc_grammar.specs.Values.{IsNormal}
+use Rattle.iloc_spec_grammar.specs.Words.{Subtag}
+use Rattle.iloc_spec_grammar.specs.Values.{IsNormal}
 use Rattle.iloc_unicode_value.specs.Values.{without_true}
-use Rattle.iloc_regions.specs.Subdivisions.{Subdivision, subdivision, subdivision_text}
-use Rattle.iloc_regions.specs.DataLocales.{is_whole, made_of, named_subdivision, subdivision_keyword, subdivision_value}
+use Rattle.iloc_spec_preferences.specs.Subdivisions.{Subdivision, subdivision, subdivision_text}
+use Rattle.iloc_spec_preferences.specs.DataLocales.{is_whole, made_of, named_subdivision, subdivision_keyword, subdivision_value}
 use Rattle.iloc_data_parts.proofs.RegionLemmas.{printed_value}
 
 keyword_of : (s : Subdivision) (w : List ℕ) (o : Option Subdivision) (b : Bool) → o ≡ Some s → is_whole s ≡ b → option_and_then (λ s. if is_whole s then None else Some w) o ≡ (if b then None else Some w)

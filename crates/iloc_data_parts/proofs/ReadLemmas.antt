@@ -1,10 +1,10 @@
 -- From the small locale that was read, or its refusal, to what the reader of the parts answers.
 use Rattle.std.proofs.Common.{◌≡◌, ℕ, List, Option, Some, None, ap, Result, Ok, Err, option_map}
-use Rattle.iloc_grammar.specs.Words.{languages}
-use Rattle.iloc_small_reader.specs.SmallLocaleReads.{LocaleParts, small_locale_of, SmallLocaleReadsAs}
-use Rattle.iloc_regions.specs.Subdivisions.{Subdivision}
-use Rattle.iloc_regions.specs.DataLocales as parts
-use Rattle.iloc_regions.specs.DataLocales.{DataMeans, not_small, no_subdivision, made_of, small_part}
+use Rattle.iloc_spec_grammar.specs.Words.{languages}
+use Rattle.iloc_langid.specs.SmallLocaleReads.{LocaleParts, small_locale_of, SmallLocaleReadsAs}
+use Rattle.iloc_spec_preferences.specs.Subdivisions.{Subdivision}
+use Rattle.iloc_spec_preferences.specs.DataLocales as parts
+use Rattle.iloc_spec_preferences.specs.DataLocales.{DataMeans, not_small, no_subdivision, made_of, small_part}
 use Rattle.iloc_subtags.specs.declared.parse_error.ParseError.{ParseError}
 use Rattle.iloc_subtags.specs.declared.parse_error.ParseError.TheVariants.{InvalidLanguage, InvalidSubtag, InvalidExtension, DuplicatedExtension, OutOfMemory}
 use Rattle.iloc_data_parts.specs.PartsReading.{PartsReadAs}

@@ -2,13 +2,13 @@
 use Rattle.std.proofs.Common.{◌≡◌, ℕ, Bool, true, false, List, [], ◌∷◌, Option, Some, None, refl, sym, ap, ◌∙◌, nat_eq}
 use Rattle.std.specs.Prelude.{if◌then◌else◌}
 use Rattle.std.specs.Cmp.Lexicographic.{pointwise, texts_ties}
-use Rattle.iloc_grammar.specs.Words.{Subtag, is_same, is_true}
-use Rattle.iloc_grammar.specs.Values.{IsNormal}
+use Rattle.iloc_spec_grammar.specs.Words.{Subtag, is_same, is_true}
+use Rattle.iloc_spec_grammar.specs.Values.{IsNormal}
 use Rattle.iloc_unicode_value.specs.Values.{without_true}
-use Rattle.iloc_regions.specs.Subdivisions.{Subdivision}
-use Rattle.iloc_regions.specs.DataLocales.{subdivision_value, agreed}
-use Rattle.iloc_preferences_rules.specs.Preferences.{region_with, preferred_region}
-use Rattle.iloc_grammar.proofs.MapLaws.{same_is}
+use Rattle.iloc_spec_preferences.specs.Subdivisions.{Subdivision}
+use Rattle.iloc_spec_preferences.specs.DataLocales.{subdivision_value, agreed}
+use Rattle.iloc_spec_preferences.specs.Preferences.{region_with, preferred_region}
+use Rattle.iloc_spec_grammar.proofs.MapLaws.{same_is}
 
 pub words_tie : (v w : List ℕ) → pointwise nat_eq v w ≡ is_same v w
 words_tie v w = texts_ties v w

@@ -1,10 +1,10 @@
 //! The parts that a text names, their parser and their text.
 ghost use Rattle.std.specs.Prelude.{◌≡◌, option_map};
-ghost use Rattle.iloc_regions.specs.DataLocales.{subdivision_keyword, subdivision_value};
+ghost use Rattle.iloc_spec_preferences.specs.DataLocales.{subdivision_keyword, subdivision_value};
 
 use crate::region::{is_whole, part_of};
 use iloc_keyword_types::SubdivisionId;
-use iloc_small_reader::read_small_locale;
+use iloc_langid::read_small_locale;
 use iloc_subtags::{Language, ParseError, Region, Script, Variant};
 use iloc_unicode_value::Value;
 use iloc_writeable::{Pieces, Sink, Writeable};
@@ -90,12 +90,12 @@ impl Pieces for DataParts {
 
 /// Prints the text of the data locale that is made of the parts.
 impl Writeable for DataParts {
-    ghost use Rattle.iloc_regions.specs.DataLocales.{data_text};
+    ghost use Rattle.iloc_spec_preferences.specs.DataLocales.{data_text};
     ghost use Rattle.iloc_data_parts.specs.PartsReading.{value_of};
 
     ghost text = { λ p. data_text (value_of p) };
 
-    #[tactic(auto, unfolding(iloc_grammar::specs::Pieces::join))]
+    #[tactic(auto, unfolding(iloc_spec_grammar::specs::Pieces::join))]
     fn write_to<S: Sink>(&self, sink: &mut S) -> fmt::Result {
         self.write_joined(sink)
     }

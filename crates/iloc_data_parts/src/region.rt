@@ -1,15 +1,15 @@
 //! What a region and a subdivision stand for together.
 ghost use Rattle.std.specs.Prelude.{◌≡◌, MatchResult, Some, None};
-ghost use Rattle.iloc_regions.specs.DataLocales as parts;
-ghost use Rattle.iloc_regions.specs.DataLocales.{named_subdivision, small_part};
-ghost use Rattle.iloc_preferences_rules.specs.Preferences.{preferred_region, same_region};
+ghost use Rattle.iloc_spec_preferences.specs.DataLocales as parts;
+ghost use Rattle.iloc_spec_preferences.specs.DataLocales.{named_subdivision, small_part};
+ghost use Rattle.iloc_spec_preferences.specs.Preferences.{preferred_region, same_region};
 
 use iloc_keyword_types::SubdivisionId;
-use iloc_small_reader::SmallKeyword;
+use iloc_langid::SmallKeyword;
 use iloc_subtags::{ParseError, Region, SubdivisionSuffix, Subtag};
 
 // The suffix that stands for a whole region.
-#[tactic(auto, unfolding(iloc_grammar::specs::Words::is_word, iloc_grammar::specs::Words::lower))]
+#[tactic(auto, unfolding(iloc_spec_grammar::specs::Words::is_word, iloc_spec_grammar::specs::Words::lower))]
 fn whole() -> SubdivisionSuffix
     ensures { result ≡ parts.whole }
 {

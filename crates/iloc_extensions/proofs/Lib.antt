@@ -3,3 +3,11 @@ mod KeptLemmas
 mod OrderLemmas
 mod SplitLemmas
 mod WellFormedLemmas
+pub mod DoneLaws
+pub mod ArmLaws
+pub mod StepLaws
+pub mod RoundLaws
+pub mod PartAnswers
+pub mod PartLemmas
+pub mod AnswerLemmas
+pub mod PlaceLemmas

@@ -1,7 +1,7 @@
 -- Where the others are cut.
 use Rattle.std.proofs.Common.{◌≡◌, ℕ, suc, ◌+◌, ◌<◌, ◌≤◌, true, false, cond, List, [], ◌∷◌, take, drop, nat_le, refl, ap, ◌∙◌, arith}
 use Rattle.std.proofs.lemmas.Bool.Decides.{nat_tests}
-use Rattle.iloc_grammar.specs.Values.{before_t, after_t}
+use Rattle.iloc_spec_grammar.specs.Values.{before_t, after_t}
 
 abbrev Others : Type 0
 Others = List (ℕ × List (List ℕ))

@@ -1,5 +1,5 @@
 -- What extensions stand for.
-use Rattle.iloc_grammar.specs.Meaning as meaning
+use Rattle.iloc_spec_grammar.specs.Meaning as meaning
 use Rattle.iloc_unicode.specs.UnicodeValue as unicode
 use Rattle.iloc_transform.specs.TransformReading as transform
 use Rattle.iloc_extensions.specs.declared.extensions.Extensions.{Extensions}

@@ -2,3 +2,6 @@ pub mod ExtensionsValue
 pub mod Kinds
 pub mod Retaining
 pub mod WellFormed
+pub mod Blocks
+pub mod Place
+pub mod Whole

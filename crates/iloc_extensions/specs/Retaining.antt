@@ -1,7 +1,7 @@
 -- What is kept of extensions by their kinds.
 use Rattle.std.specs.Prelude.{◌≡◌, Bool, [], if◌then◌else◌}
 use Rattle.std.specs.List.Retain.{IsFiltered}
-use Rattle.iloc_grammar.specs.Meaning.{Extensions, no_unicode, no_transform}
+use Rattle.iloc_spec_grammar.specs.Meaning.{Extensions, no_unicode, no_transform}
 use Rattle.iloc_extensions.specs.declared.extension_type.ExtensionType.{ExtensionType}
 use Rattle.iloc_extensions.specs.declared.extension_type.ExtensionType.TheVariants.{Transform, Unicode, Private, Other}
 

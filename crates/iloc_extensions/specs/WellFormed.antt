@@ -4,19 +4,20 @@ use Rattle.std.specs.Char.{to_ascii_lowercase}
 use Rattle.std.specs.FinMap.{is_sorted}
 use Rattle.std.specs.List.{list_all}
 use Rattle.std.specs.Ordering.{nat_cmp}
-use Rattle.iloc_grammar.specs.Words.{is_true}
-use Rattle.iloc_grammar.specs.Written.{Fields, is_other_singleton}
+use Rattle.iloc_spec_grammar.specs.Shapes.{Text}
+use Rattle.iloc_spec_grammar.specs.Words.{is_true}
+use Rattle.iloc_spec_grammar.specs.Written.{Fields, is_other_singleton}
 
 -- an other extension has a singleton of its own, and a word
-abbrev pub has_own_place : ℕ × List (List ℕ) → Bool
+abbrev pub has_own_place : ℕ × List Text → Bool
 has_own_place o = is_other_singleton o.0 && ((to_ascii_lowercase o.0 == o.0) && nat_lt 0 (length o.1))
 
 -- a subtag in a value is no `true`, and no key
-abbrev pub is_plain : List ℕ → Bool
+abbrev pub is_plain : Text → Bool
 is_plain w = not (is_true w) && not (length w == 2)
 
 -- the others ascend, and each is in its own place
-abbrev pub is_in_place : List (ℕ × List (List ℕ)) → Bool
+abbrev pub is_in_place : List (ℕ × List Text) → Bool
 is_in_place os = is_sorted nat_cmp os && list_all has_own_place os
 
 -- no value has anything else

@@ -1,6 +1,6 @@
 //! Prints extensions.
 ghost use Rattle.std.specs.Prelude.{◌≡◌, Some};
-ghost use Rattle.iloc_grammar.specs.Values.{
+ghost use Rattle.iloc_spec_grammar.specs.Values.{
   extensions_spelling,
   extensions_text,
   before_t,
@@ -35,12 +35,12 @@ impl Pieces for Extensions {
 
     ghost pieces = { λ e. extensions_spelling (value_of e) };
 
-    #[tactic(auto, unfolding(iloc_grammar::specs::Values::extensions_spelling))]
+    #[tactic(auto, unfolding(iloc_spec_grammar::specs::Values::extensions_spelling))]
     fn has_pieces(&self) -> bool {
         self.parts().has_pieces()
     }
 
-    #[tactic(auto, unfolding(iloc_grammar::specs::Values::extensions_spelling))]
+    #[tactic(auto, unfolding(iloc_spec_grammar::specs::Values::extensions_spelling))]
     fn write_pieces<S: Sink>(&self, sink: &mut S, first: bool) -> fmt::Result {
         if self.is_empty() {
             return Ok(());
@@ -55,7 +55,7 @@ impl Writeable for Extensions {
 
     ghost text = { λ e. extensions_text (value_of e) };
 
-    #[tactic(auto, unfolding(iloc_grammar::specs::Values::extensions_text, iloc_grammar::specs::Pieces::join))]
+    #[tactic(auto, unfolding(iloc_spec_grammar::specs::Values::extensions_text, iloc_spec_grammar::specs::Pieces::join))]
     fn write_to<S: Sink>(&self, sink: &mut S) -> fmt::Result {
         self.write_joined(sink)
     }

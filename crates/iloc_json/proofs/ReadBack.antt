@@ -2,16 +2,16 @@
 use Rattle.std.proofs.Common.{◌≡◌, ℕ, List, Option, Some, Result, Ok, Err, if◌then◌else◌, refl, sym, ap, ◌∙◌, subst}
 use Rattle.serde_json.specs.Data.{Data, string}
 use Rattle.serde_json.specs.Find.{as_str}
-use Rattle.iloc_grammar.specs.Words.{Kind, read, normal, languages}
-use Rattle.iloc_grammar.specs.Pieces.{pieces}
-use Rattle.iloc_grammar.specs.Values.{IsNormal, IsIdentifierValue, IsValue, IsWellFormed, identifier_text, text}
-use Rattle.iloc_grammar.specs.Faults as faults
-use Rattle.iloc_grammar.proofs.IdentifierTexts.{identifier_text_means, identifier_apart}
-use Rattle.iloc_grammar.proofs.IdentifierLaws as identifiers
-use Rattle.iloc_grammar.proofs.FaultLaws.{accepted_no_fault}
-use Rattle.iloc_grammar.proofs.Readings as readings
-use Rattle.iloc_grammar.proofs.RawLaws.{languages_table}
-use Rattle.iloc_grammar.proofs.ReadBack.{reads_back}
+use Rattle.iloc_spec_grammar.specs.Words.{Kind, read, normal, languages}
+use Rattle.iloc_spec_grammar.specs.Pieces.{pieces}
+use Rattle.iloc_spec_grammar.specs.Values.{IsNormal, IsIdentifierValue, IsValue, IsWellFormed, identifier_text, text}
+use Rattle.iloc_spec_grammar.specs.Faults as faults
+use Rattle.iloc_spec_grammar.proofs.IdentifierTexts.{identifier_text_means, identifier_apart}
+use Rattle.iloc_spec_grammar.proofs.IdentifierLaws as identifiers
+use Rattle.iloc_spec_grammar.proofs.FaultLaws.{accepted_no_fault}
+use Rattle.iloc_spec_grammar.proofs.Readings as readings
+use Rattle.iloc_spec_grammar.proofs.RawLaws.{languages_table}
+use Rattle.iloc_spec_grammar.proofs.ReadBack.{reads_back}
 use Rattle.iloc_subtags.specs.declared.parse_error.ParseError.{ParseError}
 use Rattle.iloc_subtags.specs.declared.parse_error.ParseError.TheVariants.{InvalidLanguage, InvalidSubtag, InvalidExtension, DuplicatedExtension, OutOfMemory}
 use Rattle.iloc_langid.specs.declared.identifier.LanguageIdentifier.{LanguageIdentifier}

@@ -1,5 +1,6 @@
 -- What is returned when texts are written as JSON strings, and parsed from them.
 use Rattle.std.specs.Prelude.{◌≡◌, ℕ, ⊤, List, Option, Some, None, Result, Ok, Err}
+use Rattle.iloc_spec_grammar.specs.Shapes.{Text}
 use Rattle.serde_json.specs.Data.{string}
 use Rattle.serde_json.specs.View.{view}
 use Rattle.serde_json.specs.declared.value.Value.{Value}
@@ -10,7 +11,7 @@ use Rattle.iloc_json.specs.declared.errors.JsonError.TheVariants.{NotText, Parse
 use Rattle.iloc_json.specs.Errors.{json_error}
 
 -- the JSON string of the text, or out of memory
-abbrev pub WritesText : List ℕ → Result Value JsonError → Type 0
+abbrev pub WritesText : Text → Result Value JsonError → Type 0
 WritesText t (Ok v) = view v ≡ string t
 WritesText t (Err NotText) = ⊥
 WritesText t (Err (Parse e)) = ⊥
@@ -22,7 +23,7 @@ as_json (Ok x) = Ok x
 as_json (Err e) = Err (json_error e)
 
 -- of a string what the reader answers, and `NotText` of anything else
-abbrev pub ReadsText : {X : Type 0} → (List ℕ → Result X ParseError → Type 0) → Option (List ℕ) → Result X JsonError → Type 0
+abbrev pub ReadsText : {X : Type 0} → (Text → Result X ParseError → Type 0) → Option Text → Result X JsonError → Type 0
 ReadsText reads None r = r ≡ Err NotText
 ReadsText {X} reads (Some t) r = (x : Result X ParseError) × reads t x × (r ≡ as_json x)
 

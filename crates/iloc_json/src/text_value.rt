@@ -1,9 +1,9 @@
 //! What has a printed text and a parser.
 ghost use Rattle.std.specs.Prelude.{◌≡◌, ℕ, List, Result, IfOk};
 ghost use Rattle.std.specs.String.{string_bytes};
-ghost use Rattle.iloc_grammar.specs.Words.{read};
-ghost use Rattle.iloc_grammar.specs.Pieces.{pieces};
-ghost use Rattle.iloc_grammar.specs.Values.{IsWellFormed};
+ghost use Rattle.iloc_spec_grammar.specs.Words.{read};
+ghost use Rattle.iloc_spec_grammar.specs.Pieces.{pieces};
+ghost use Rattle.iloc_spec_grammar.specs.Values.{IsWellFormed};
 ghost use Rattle.iloc_subtags.specs.declared.parse_error.ParseError.{ParseError};
 ghost use Rattle.iloc_langid.specs.Reads.{value_of as identifier_of, ReadsAs};
 ghost use Rattle.iloc_locale.specs.LocaleValue.{value_of as locale_of};

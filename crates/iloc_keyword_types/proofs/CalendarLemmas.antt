@@ -6,13 +6,13 @@ use Rattle.std.specs.Ordering.{is_eq, ordering_then, eq_by_cmp}
 use Rattle.std.specs.declared.cmp.Ordering.{Ordering}
 use Rattle.std.specs.declared.cmp.Ordering.TheVariants.{Less, Equal, Greater}
 use Rattle.std.specs.Cmp.Lexicographic.{slice_cmp, pointwise, texts_ties}
-use Rattle.iloc_grammar.specs.Words.{word_cmp, is_same}
-use Rattle.iloc_preferences_rules.specs.Keywords as keywords
-use Rattle.iloc_preferences_rules.specs.Keywords.{EnumValue, numbered, variants, further_readings, readings, hijri_kinds}
+use Rattle.iloc_spec_grammar.specs.Words.{word_cmp, is_same}
+use Rattle.iloc_spec_preferences.specs.Keywords as keywords
+use Rattle.iloc_spec_preferences.specs.Keywords.{EnumValue, numbered, variants, further_readings, readings, hijri_kinds}
 use Rattle.iloc_keyword_types.specs.WordTables.{place_of}
 use Rattle.iloc_keyword_types.proofs.EnumLemmas.{variant, one_word, more_words, entry}
 use Rattle.iloc_keyword_types.specs.CalendarReading.{calendar_reads}
-use Rattle.iloc_grammar.proofs.MapLaws.{same_is}
+use Rattle.iloc_spec_grammar.proofs.MapLaws.{same_is}
 
 abbrev cs : List (List ℕ)
 cs = variants keywords.CalendarAlgorithm

@@ -1,9 +1,9 @@
 -- What each calendar is turned into.
 use Rattle.std.proofs.Common.{◌≡◌, ℕ, List, [], ◌∷◌, Some, None, refl, ap, ◌∙◌, sym, codes, option_and_then}
-use Rattle.iloc_grammar.specs.Words.{Subtag, is_true, is_word, lower}
-use Rattle.iloc_grammar.specs.Values.{IsNormal}
-use Rattle.iloc_preferences_rules.specs.Keywords as keywords
-use Rattle.iloc_preferences_rules.specs.Keywords.{variants, hijri_kinds, enum_reads, enum_gives}
+use Rattle.iloc_spec_grammar.specs.Words.{Subtag, is_true, is_word, lower}
+use Rattle.iloc_spec_grammar.specs.Values.{IsNormal}
+use Rattle.iloc_spec_preferences.specs.Keywords as keywords
+use Rattle.iloc_spec_preferences.specs.Keywords.{variants, hijri_kinds, enum_reads, enum_gives}
 use Rattle.iloc_unicode_value.specs.Values.{without_true}
 use Rattle.iloc_keyword_types.specs.WordTables.{word_at}
 use Rattle.iloc_keyword_types.specs.declared.hijri.HijriCalendarAlgorithm.{HijriCalendarAlgorithm}

@@ -1,9 +1,9 @@
 -- The text of a subdivision is a subtag, and read as the subdivision.
 use Rattle.std.proofs.Common.{◌≡◌, ℕ, List, ◌++◌, sym, ap₂, ◌∙◌, subst}
-use Rattle.iloc_grammar.specs.Words.{Subtag, lower}
-use Rattle.iloc_grammar.specs.Values.{IsNormal}
-use Rattle.iloc_regions.specs.Subdivisions.{Subdivision, IsSubdivision, subdivision_text}
-use Rattle.iloc_regions.proofs.SubdivisionLaws.{subdivision_back, subdivision_is_subtag, text_of_read}
+use Rattle.iloc_spec_grammar.specs.Words.{Subtag, lower}
+use Rattle.iloc_spec_grammar.specs.Values.{IsNormal}
+use Rattle.iloc_spec_preferences.specs.Subdivisions.{Subdivision, IsSubdivision, subdivision_text}
+use Rattle.iloc_spec_preferences.proofs.SubdivisionLaws.{subdivision_back, subdivision_is_subtag, text_of_read}
 
 -- a lower-case region and a suffix are the text
 pub joined : (s : Subdivision) → IsSubdivision s → (a b t : List ℕ) → t ≡ a ++ b → a ≡ lower s.region → b ≡ s.suffix → t ≡ subdivision_text s

@@ -1,8 +1,9 @@
 -- What each calendar stands for.
 use Rattle.std.specs.Prelude.{◌≡◌, ℕ, List, Option, Some, None, option_map, slice_get, refl}
-use Rattle.iloc_grammar.specs.Pieces.{join}
-use Rattle.iloc_preferences_rules.specs.Keywords as keywords
-use Rattle.iloc_preferences_rules.specs.Keywords.{EnumValue, variants, hijri_kinds, enum_words}
+use Rattle.iloc_spec_grammar.specs.Shapes.{Text}
+use Rattle.iloc_spec_grammar.specs.Pieces.{join}
+use Rattle.iloc_spec_preferences.specs.Keywords as keywords
+use Rattle.iloc_spec_preferences.specs.Keywords.{EnumValue, variants, hijri_kinds, enum_words}
 use Rattle.iloc_keyword_types.specs.WordTables.{word_at}
 use Rattle.iloc_keyword_types.specs.declared.calendar_algorithm.CalendarAlgorithm.{CalendarAlgorithm}
 use Rattle.iloc_keyword_types.specs.declared.calendar_algorithm.CalendarAlgorithm.TheVariants.{Buddhist, Chinese, Coptic, Dangi, Ethioaa, Ethiopic, Gregory, Hebrew, Indian, Hijri, Iso8601, Japanese, Persian, Roc}
@@ -35,7 +36,7 @@ abbrev pub value_of : CalendarAlgorithm → EnumValue
 value_of c = (place c, kind c)
 
 -- the text of a value
-abbrev pub text_of : EnumValue → Option (List ℕ)
+abbrev pub text_of : EnumValue → Option Text
 text_of v = option_map join (enum_words keywords.CalendarAlgorithm v)
 
 pub placed_at : (c : CalendarAlgorithm) → slice_get (variants keywords.CalendarAlgorithm) (place c) ≡ Some (word_at (variants keywords.CalendarAlgorithm) (place c))

@@ -1,7 +1,8 @@
 -- Where a text is cut into region and suffix.
 use Rattle.std.specs.Prelude.{ℕ, List, length, min}
-use Rattle.iloc_regions.specs.Subdivisions.{region_length}
+use Rattle.iloc_spec_grammar.specs.Shapes.{Text}
+use Rattle.iloc_spec_preferences.specs.Subdivisions.{region_length}
 
 -- the length of the region, or of the text if that is shorter
-abbrev pub cut_of : List ℕ → ℕ
+abbrev pub cut_of : Text → ℕ
 cut_of t = min (region_length t) (length t)

@@ -1,6 +1,6 @@
 -- The place of each kind of Hijri calendar.
 use Rattle.std.specs.Prelude.{◌≡◌, ℕ, Some, slice_get, refl}
-use Rattle.iloc_preferences_rules.specs.Keywords.{hijri_kinds}
+use Rattle.iloc_spec_preferences.specs.Keywords.{hijri_kinds}
 use Rattle.iloc_keyword_types.specs.WordTables.{word_at}
 use Rattle.iloc_keyword_types.specs.declared.hijri.HijriCalendarAlgorithm.{HijriCalendarAlgorithm}
 use Rattle.iloc_keyword_types.specs.declared.hijri.HijriCalendarAlgorithm.TheVariants.{Umalqura, Tbla, Civil, Rgsa}

@@ -1,9 +1,10 @@
 -- What a text is read as, as a subdivision.
 use Rattle.std.specs.Prelude.{◌≡◌, ℕ, List, Result, Ok, Err}
-use Rattle.iloc_regions.specs.Subdivisions.{Subdivision, subdivision}
+use Rattle.iloc_spec_grammar.specs.Shapes.{Text}
+use Rattle.iloc_spec_preferences.specs.Subdivisions.{Subdivision, subdivision}
 use Rattle.iloc_subtags.specs.declared.parse_error.ParseError.{ParseError}
 use Rattle.iloc_subtags.specs.Answers.{Answers, OfPart}
 
 -- by cases on the answer
-abbrev pub ReadsAs : List ℕ → Result Subdivision ParseError → Type 0
+abbrev pub ReadsAs : Text → Result Subdivision ParseError → Type 0
 ReadsAs t = Answers (λ s. subdivision t ≡ Ok s) (OfPart (λ f. subdivision t ≡ Err f)) ⊥

@@ -1,6 +1,6 @@
 //! Calendars.
 ghost use Rattle.std.specs.Prelude.{◌≡◌, Some, None, option_map};
-ghost use Rattle.iloc_preferences_rules.specs.Keywords.{CalendarAlgorithm as the_keyword, variants};
+ghost use Rattle.iloc_spec_preferences.specs.Keywords.{CalendarAlgorithm as the_keyword, variants};
 ghost use Rattle.iloc_keyword_types.specs.WordTables.{word_at};
 ghost use Rattle.iloc_keyword_types.specs.Hijri.{kind_place};
 ghost use Rattle.iloc_keyword_types.specs.Calendars.{place, kind, placed_at, value_of, text_of};
@@ -43,7 +43,7 @@ pub enum CalendarAlgorithm {
 
 impl CalendarAlgorithm {
     /// The text of the calendar: of a Hijri calendar of a kind, `islamic-` and the word of the kind.
-    #[tactic(auto, unfolding(iloc_grammar::specs::Pieces::join))]
+    #[tactic(auto, unfolding(iloc_spec_grammar::specs::Pieces::join))]
     pub fn as_str(&self) -> &'static str
         ensures { text_of (value_of self.now) ≡ Some result.now }
     {
@@ -75,7 +75,7 @@ impl CalendarAlgorithm {
 }
 
 // The text of a Hijri calendar.
-#[tactic(auto, unfolding(iloc_grammar::specs::Pieces::join))]
+#[tactic(auto, unfolding(iloc_spec_grammar::specs::Pieces::join))]
 fn hijri_text(kind: Option<HijriCalendarAlgorithm>) -> &'static str
     ensures { text_of (9, option_map kind_place kind) ≡ Some result.now }
 {

@@ -1,6 +1,6 @@
 //! Calendars as values of their keyword.
 ghost use Rattle.std.specs.Prelude.{◌≡◌, ℕ, List, [], ◌∷◌, Some, IfOk, option_map};
-ghost use Rattle.iloc_preferences_rules.specs.Keywords.{
+ghost use Rattle.iloc_spec_preferences.specs.Keywords.{
   CalendarAlgorithm as the_keyword,
   key as key_of_keyword,
   enum_reads,

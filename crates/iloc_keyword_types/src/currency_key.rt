@@ -1,7 +1,7 @@
 //! Currencies as the preference of their keyword (`cu`).
 ghost use Rattle.std.specs.Prelude.{◌≡◌, Some};
-ghost use Rattle.iloc_fronts.specs.SingleValues.{currency_reads, currency_gives};
-ghost use Rattle.iloc_preferences_rules.specs.Keywords.{cu};
+ghost use Rattle.iloc_spec_parts.specs.SingleValues.{currency_reads, currency_gives};
+ghost use Rattle.iloc_spec_preferences.specs.Keywords.{cu};
 ghost use Rattle.iloc_keyword_types.specs.Reads.{ReadsKeyed, GivesKeyed};
 
 use crate::known_keys;

@@ -12,14 +12,14 @@
 //! definitions say, and turned into the value that they say. Only the list of scripts may allocate: to be parsed
 //! from more than four, and to be turned into a value.
 //!
-//! It stands on the definitions of keywords (`iloc_preferences_rules`) and of regions (`iloc_regions`), on words and
+//! It stands on the definitions of keywords (`iloc_spec_preferences`) and of regions (`iloc_spec_preferences`), on words and
 //! on values (`iloc_subtags`, `iloc_unicode_value`).
 #![tactic(auto)]
 
 ghost use Rattle.std.specs.Prelude.{◌≡◌, ◌↔◌, true};
 ghost use Rattle.std.specs.Ordering.{on, then_cmp};
-ghost use Rattle.iloc_grammar.specs.Words.{word_cmp};
-ghost use Rattle.iloc_regions.specs.DataHashes.{subdivision_fed};
+ghost use Rattle.iloc_spec_grammar.specs.Words.{word_cmp};
+ghost use Rattle.iloc_spec_preferences.specs.DataHashes.{subdivision_fed};
 
 use std::hash::Hash;
 

@@ -1,7 +1,7 @@
 //! A keyword whose value is a list of scripts.
 ghost use Rattle.std.specs.Prelude.{◌≡◌, Some, IfOk};
-ghost use Rattle.iloc_grammar.specs.Words.{word, Script as the_kind};
-ghost use Rattle.iloc_preferences_rules.specs.Keywords.{dx, scripts_read, scripts_give};
+ghost use Rattle.iloc_spec_grammar.specs.Words.{word, Script as the_kind};
+ghost use Rattle.iloc_spec_preferences.specs.Keywords.{dx, scripts_read, scripts_give};
 ghost use Rattle.iloc_keyword_types.specs.Scripts.{ReadsScripts, ReadsScriptsKeyed};
 
 use crate::{PreferenceKey, PreferencesParseError, key_of};
@@ -115,7 +115,7 @@ impl PreferenceKey for DictionaryBreakScriptExclusions {
 }
 
 // The key of the list.
-#[tactic(auto, unfolding(iloc_grammar::specs::Words::is_word, iloc_grammar::specs::Words::lower))]
+#[tactic(auto, unfolding(iloc_spec_grammar::specs::Words::is_word, iloc_spec_grammar::specs::Words::lower))]
 fn exclusions_key() -> UnicodeKey
     ensures { result ≡ dx }
 {

@@ -1,5 +1,6 @@
 //! Keywords whose value is one subtag, and which stand for that subtag or for what it spells.
 ghost use Rattle.std.specs.Prelude.{◌≡◌, ℕ, List, Option, Some};
+ghost use Rattle.iloc_spec_grammar.specs.Shapes.{Text};
 ghost use Rattle.iloc_keyword_types.specs.Reads.{Reads, ReadsKeyed, GivesKeyed};
 
 use crate::{PreferenceKey, PreferencesParseError};
@@ -25,7 +26,7 @@ pub trait SubtagContent: Copy {
     ghost reads: { List (List ℕ) → Option Self };
 
     /// The value that it is turned into.
-    ghost gives: { Self → List (List ℕ) };
+    ghost gives: { Self → List Text };
 
     /// What the value is parsed as.
     fn of_value(value: &Value) -> Option<Self>

@@ -1,6 +1,6 @@
 //! A subdivision of a region.
 ghost use Rattle.std.specs.Prelude.{◌≡◌, Ok, Err, Some};
-ghost use Rattle.iloc_grammar.specs.Faults.{Fault};
+ghost use Rattle.iloc_spec_grammar.specs.Faults.{Fault};
 ghost use Rattle.iloc_subtags.specs.Judging.{Accepts, Refuses};
 ghost use Rattle.iloc_keyword_types.specs.Cut.{cut_of};
 
@@ -19,7 +19,7 @@ pub struct SubdivisionId {
 }
 
 impl Model for SubdivisionId {
-    ghost use Rattle.iloc_regions.specs.Subdivisions.{Subdivision};
+    ghost use Rattle.iloc_spec_preferences.specs.Subdivisions.{Subdivision};
 
     ghost Value = { Subdivision };
 
@@ -29,7 +29,7 @@ impl Model for SubdivisionId {
 }
 
 impl SubdivisionId {
-    ghost use Rattle.iloc_regions.specs.Subdivisions.{Subdivision, subdivision, subdivision_text};
+    ghost use Rattle.iloc_spec_preferences.specs.Subdivisions.{Subdivision, subdivision, subdivision_text};
     ghost use Rattle.iloc_keyword_types.specs.Subdivisions.{ReadsAs};
 
     /// The subdivision of that region with that suffix.
@@ -110,7 +110,7 @@ impl FromStr for SubdivisionId {
 
 /// Prints region and suffix in lower case, without a hyphen.
 impl Writeable for SubdivisionId {
-    ghost use Rattle.iloc_regions.specs.Subdivisions.{subdivision_text};
+    ghost use Rattle.iloc_spec_preferences.specs.Subdivisions.{subdivision_text};
 
     ghost text = { subdivision_text };
 
@@ -124,7 +124,7 @@ impl Writeable for SubdivisionId {
 }
 
 impl fmt::Display for SubdivisionId {
-    ghost use Rattle.iloc_regions.specs.Subdivisions.{subdivision_text};
+    ghost use Rattle.iloc_spec_preferences.specs.Subdivisions.{subdivision_text};
 
     ghost output = { λ s. Some (subdivision_text s) };
 

@@ -1,7 +1,7 @@
 //! Keywords that stand for a subdivision: of the region, and of the region in its place.
-ghost use Rattle.iloc_preferences_rules.specs.Keywords.{subdivision_reads, subdivision_gives};
-ghost use Rattle.iloc_regions.specs.DataLocales.{sd};
-ghost use Rattle.iloc_preferences_rules.specs.Preferences.{rg};
+ghost use Rattle.iloc_spec_preferences.specs.Keywords.{subdivision_reads, subdivision_gives};
+ghost use Rattle.iloc_spec_preferences.specs.DataLocales.{sd};
+ghost use Rattle.iloc_spec_preferences.specs.Preferences.{rg};
 
 use crate::single_keyword::{KeywordKind, SingleKeyword, SubtagContent};
 use crate::{SubdivisionId, known_keys};

@@ -1,5 +1,5 @@
 //! Keywords that stand for the subtag of their value: numbering systems and time zones.
-ghost use Rattle.iloc_preferences_rules.specs.Keywords.{nu, tz, subtag_reads, subtag_gives};
+ghost use Rattle.iloc_spec_preferences.specs.Keywords.{nu, tz, subtag_reads, subtag_gives};
 
 use crate::known_keys;
 use crate::single_keyword::{KeywordKind, SingleKeyword, SubtagContent};

@@ -3,14 +3,14 @@ use Rattle.std.proofs.Common.{◌≡◌, ◌≢◌, ◌<◌, ℕ, Bool, true, fa
 use Rattle.std.specs.Result.{result_and}
 use Rattle.std.proofs.lemmas.Bool.Decides.{nat_tests}
 use Rattle.std.proofs.lemmas.Bool.{false_from_ne_true}
-use Rattle.iloc_grammar.specs.Words.{Language, Script, Region, is_word, IsWord, normal, lower, title, upper, languages}
-use Rattle.iloc_grammar.specs.Meaning.{IdentifierMeans}
-use Rattle.iloc_grammar.specs.Faults.{not_a_language, not_an_identifier}
-use Rattle.iloc_grammar.specs.Blocks.{first_piece, front, head}
-use Rattle.iloc_grammar.specs.Reading.{first_item}
-use Rattle.iloc_grammar.specs.Reading.{take_first, skip_first, front_of, after_front, from_block, after_head, starts_block}
-use Rattle.iloc_grammar.proofs.ReadingLaws.{EndsWords, starts_ends, from_block_starts, front-from_block, front_long, after_long, starts_empty, after_front-append, front_means, refuses_more, refuses_repeat, front_of-append, front_is_front}
-use Rattle.iloc_grammar.specs.Reading.{IdentifierFront}
+use Rattle.iloc_spec_grammar.specs.Words.{Language, Script, Region, is_word, IsWord, normal, lower, title, upper, languages}
+use Rattle.iloc_spec_grammar.specs.Meaning.{IdentifierMeans}
+use Rattle.iloc_spec_grammar.specs.Faults.{not_a_language, not_an_identifier}
+use Rattle.iloc_spec_grammar.specs.Blocks.{first_piece, front, head}
+use Rattle.iloc_spec_grammar.specs.Reading.{first_item}
+use Rattle.iloc_spec_grammar.specs.Reading.{take_first, skip_first, front_of, after_front, from_block, after_head, starts_block}
+use Rattle.iloc_spec_grammar.proofs.ReadingLaws.{EndsWords, starts_ends, from_block_starts, front-from_block, front_long, after_long, starts_empty, after_front-append, front_means, refuses_more, refuses_repeat, front_of-append, front_is_front}
+use Rattle.iloc_spec_grammar.specs.Reading.{IdentifierFront}
 use Rattle.iloc_subtags.specs.declared.parse_error.ParseError.{ParseError}
 use Rattle.iloc_subtags.specs.declared.parse_error.ParseError.TheVariants.{InvalidLanguage, InvalidSubtag, InvalidExtension, DuplicatedExtension, OutOfMemory}
 use Rattle.iloc_langid.specs.declared.identifier.LanguageIdentifier.{LanguageIdentifier}

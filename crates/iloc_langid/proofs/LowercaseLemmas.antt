@@ -1,8 +1,8 @@
 -- Normal words that are in lower case already.
 use Rattle.std.proofs.Common.{◌≡◌, ℕ, List, [], ◌∷◌, map, refl, ap₂}
 use Rattle.std.specs.List.{AllByRecursion}
-use Rattle.iloc_grammar.specs.Words.{Variant, lower}
-use Rattle.iloc_grammar.specs.Values.{IsNormal}
+use Rattle.iloc_spec_grammar.specs.Words.{Variant, lower}
+use Rattle.iloc_spec_grammar.specs.Values.{IsNormal}
 
 pub lower-variants : (ws : List (List ℕ)) → AllByRecursion (IsNormal Variant) ws → map lower ws ≡ ws
 lower-variants [] h = refl

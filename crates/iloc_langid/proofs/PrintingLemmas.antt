@@ -1,12 +1,12 @@
 -- What was printed means what it was printed from.
 use Rattle.std.proofs.Common.{◌≡◌, ℕ, List, IfOk, Result, Ok, Err, sym, subst}
-use Rattle.iloc_grammar.specs.Pieces.{pieces}
-use Rattle.iloc_grammar.specs.Words.{languages}
-use Rattle.iloc_grammar.specs.Written.{Identifier}
-use Rattle.iloc_grammar.specs.Meaning.{IdentifierMeans}
-use Rattle.iloc_grammar.specs.Values.{IsIdentifierValue, identifier_text}
-use Rattle.iloc_grammar.proofs.IdentifierLaws.{one_meaning}
-use Rattle.iloc_grammar.proofs.IdentifierTexts.{identifier_text_means}
+use Rattle.iloc_spec_grammar.specs.Pieces.{pieces}
+use Rattle.iloc_spec_grammar.specs.Words.{languages}
+use Rattle.iloc_spec_grammar.specs.Written.{Identifier}
+use Rattle.iloc_spec_grammar.specs.Meaning.{IdentifierMeans}
+use Rattle.iloc_spec_grammar.specs.Values.{IsIdentifierValue, identifier_text}
+use Rattle.iloc_spec_grammar.proofs.IdentifierLaws.{one_meaning}
+use Rattle.iloc_spec_grammar.proofs.IdentifierTexts.{identifier_text_means}
 use Rattle.iloc_langid.specs.Reads.{IdentifierMeansOnly}
 
 -- what holds of a text holds of what was printed, if that is the text

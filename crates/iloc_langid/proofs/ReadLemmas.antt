@@ -1,15 +1,15 @@
 -- What else is known of an identifier that was read.
 use Rattle.std.proofs.Common.{ℕ, List, Result, Ok, Err, refl}
-use Rattle.iloc_grammar.specs.Pieces.{pieces}
-use Rattle.iloc_grammar.specs.Words.{languages, two_or_three}
-use Rattle.iloc_grammar.specs.Written.{Identifier}
-use Rattle.iloc_grammar.specs.Meaning.{IdentifierMeans}
-use Rattle.iloc_grammar.specs.Faults as faults
-use Rattle.iloc_grammar.specs.Faults.{Fault, HasIdentifierFault}
-use Rattle.iloc_grammar.proofs.IdentifierLaws.{one_meaning}
-use Rattle.iloc_grammar.proofs.IdentifierTexts.{identifier_chain_means, identifier_apart, one_identifier_fault}
-use Rattle.iloc_grammar.proofs.RawLaws.{narrow_in_wide}
-use Rattle.iloc_grammar.proofs.WiderTables.{identifier_means_wider}
+use Rattle.iloc_spec_grammar.specs.Pieces.{pieces}
+use Rattle.iloc_spec_grammar.specs.Words.{languages, two_or_three}
+use Rattle.iloc_spec_grammar.specs.Written.{Identifier}
+use Rattle.iloc_spec_grammar.specs.Meaning.{IdentifierMeans}
+use Rattle.iloc_spec_grammar.specs.Faults as faults
+use Rattle.iloc_spec_grammar.specs.Faults.{Fault, HasIdentifierFault}
+use Rattle.iloc_spec_grammar.proofs.IdentifierLaws.{one_meaning}
+use Rattle.iloc_spec_grammar.proofs.IdentifierTexts.{identifier_chain_means, identifier_apart, one_identifier_fault}
+use Rattle.iloc_spec_grammar.proofs.RawLaws.{narrow_in_wide}
+use Rattle.iloc_spec_grammar.proofs.WiderTables.{identifier_means_wider}
 use Rattle.iloc_subtags.specs.declared.parse_error.ParseError.{ParseError}
 use Rattle.iloc_subtags.specs.declared.parse_error.ParseError.TheVariants.{InvalidLanguage, InvalidSubtag, InvalidExtension, DuplicatedExtension, OutOfMemory}
 use Rattle.iloc_langid.specs.declared.identifier.LanguageIdentifier.{LanguageIdentifier}

@@ -2,9 +2,9 @@
 use Rattle.std.proofs.Common.{◌≡◌, ◌<◌, arith, leb, ℕ, List, [], ◌∷◌, length, Some, None, false}
 use Rattle.std.proofs.lemmas.Bool.{false_from_ne_true}
 use Rattle.std.proofs.lemmas.Bool.Decides.{nat_tests}
-use Rattle.iloc_grammar.specs.Reading.{first_item, EndsBefore}
-use Rattle.iloc_grammar.specs.Words.{Variant, is_word}
-use Rattle.iloc_grammar.proofs.WordsLaws.{length-variant}
+use Rattle.iloc_spec_grammar.specs.Reading.{first_item, EndsBefore}
+use Rattle.iloc_spec_grammar.specs.Words.{Variant, is_word}
+use Rattle.iloc_spec_grammar.proofs.WordsLaws.{length-variant}
 
 too_short : (ps : List (List ℕ)) (p : List ℕ) → Some p ≡ first_item ps → length p < 4 → EndsBefore (is_word Variant) ps
 too_short [] p e l = cc

@@ -6,19 +6,19 @@ use Rattle.std.specs.List.Sorted.{IsPermutation}
 use Rattle.std.proofs.lemmas.List.{map-append, length-map}
 use Rattle.std.proofs.lemmas.Bool.{or_parts, or_from}
 use Rattle.std.proofs.lemmas.List.Sorted.{IsPermutation-refl, IsPermutation-sym, IsPermutation-push_more, IsPermutation-append_left, length_permutation, list_any-IsPermutation}
-use Rattle.iloc_grammar.specs.Words.{Variant, is_word, IsWord, normal, lower, word_cmp, is_same}
-use Rattle.iloc_grammar.specs.Written.{AllDifferent}
-use Rattle.iloc_grammar.specs.Meaning.{set_of}
-use Rattle.iloc_grammar.specs.Values.{IsNormal, IsAscending}
-use Rattle.iloc_grammar.specs.Steps.{Reordered, none, front_kept, first_two, in_turn}
-use Rattle.iloc_grammar.specs.Reading.{take_first, skip_first, passing, past}
-use Rattle.iloc_grammar.proofs.MapLaws.{word_cmp_total}
-use Rattle.iloc_grammar.proofs.Orders.{different_reordered}
-use Rattle.iloc_grammar.proofs.SetLaws.{length-set_of, length-set_of-different}
-use Rattle.iloc_grammar.proofs.ReadWords.{IsNormal-normal}
-use Rattle.iloc_grammar.proofs.ValuesLaws.{set_of_ascending}
-use Rattle.iloc_grammar.proofs.WellRead.{set_of-ascending, all-set_of}
-use Rattle.iloc_parser.proofs.TakingLemmas.{took, took_none}
+use Rattle.iloc_spec_grammar.specs.Words.{Variant, is_word, IsWord, normal, lower, word_cmp, is_same}
+use Rattle.iloc_spec_grammar.specs.Written.{AllDifferent}
+use Rattle.iloc_spec_grammar.specs.Meaning.{set_of}
+use Rattle.iloc_spec_grammar.specs.Values.{IsNormal, IsAscending}
+use Rattle.iloc_spec_grammar.specs.Steps.{Reordered, none, front_kept, first_two, in_turn}
+use Rattle.iloc_spec_grammar.specs.Reading.{take_first, skip_first, passing, past}
+use Rattle.iloc_spec_grammar.proofs.MapLaws.{word_cmp_total}
+use Rattle.iloc_spec_grammar.proofs.Orders.{different_reordered}
+use Rattle.iloc_spec_grammar.proofs.SetLaws.{length-set_of, length-set_of-different}
+use Rattle.iloc_spec_grammar.proofs.ReadWords.{IsNormal-normal}
+use Rattle.iloc_spec_grammar.proofs.ValuesLaws.{set_of_ascending}
+use Rattle.iloc_spec_grammar.proofs.WellRead.{set_of-ascending, all-set_of}
+use Rattle.iloc_subtags.proofs.TakingLemmas.{took, took_none}
 use Rattle.iloc_word_set.proofs.CollectorLaws.{permuted_set, differ, taken_in, known_there, one_more}
 use Rattle.iloc_subtags.specs.declared.parse_error.ParseError.{ParseError}
 use Rattle.iloc_subtags.specs.declared.parse_error.ParseError.TheVariants.{InvalidLanguage, InvalidSubtag, InvalidExtension, DuplicatedExtension, OutOfMemory}

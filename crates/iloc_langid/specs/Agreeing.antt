@@ -1,21 +1,22 @@
 -- Pieces and variants that are the same, in whatever order and case.
 use Rattle.std.specs.Prelude.{ℕ, Bool, ◌==◌, ◌&&◌, List, length}
 use Rattle.std.specs.List.{AllByRecursion, list_any, list_all}
-use Rattle.iloc_grammar.specs.Words.{Variant, lower, is_same}
-use Rattle.iloc_grammar.specs.Values.{IsNormal, IsAscending}
+use Rattle.iloc_spec_grammar.specs.Shapes.{Text}
+use Rattle.iloc_spec_grammar.specs.Words.{Variant, lower, is_same}
+use Rattle.iloc_spec_grammar.specs.Values.{IsNormal, IsAscending}
 
 -- some piece is the word, in whatever case
-abbrev pub is_among : List (List ℕ) → List ℕ → Bool
+abbrev pub is_among : List Text → Text → Bool
 is_among ps w = list_any (λ p. is_same w (lower p)) ps
 
 -- each word is
-abbrev pub are_all_among : List (List ℕ) → List (List ℕ) → Bool
+abbrev pub are_all_among : List Text → List Text → Bool
 are_all_among ps ws = list_all (is_among ps) ws
 
 -- as many pieces as words, and each word is among them
-abbrev pub are_just : List (List ℕ) → List (List ℕ) → Bool
+abbrev pub are_just : List Text → List Text → Bool
 are_just ps ws = (length ps == length ws) && are_all_among ps ws
 
 -- a set of variants
-abbrev pub AreVariants : List (List ℕ) → Type 0
+abbrev pub AreVariants : List Text → Type 0
 AreVariants ws = IsAscending ws × AllByRecursion (IsNormal Variant) ws

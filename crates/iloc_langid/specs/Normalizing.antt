@@ -1,36 +1,37 @@
 -- What normalising an identifier's text answers.
 use Rattle.std.specs.Prelude.{◌≡◌, ◌↔◌, ◌⊎◌, ℕ, List, length}
-use Rattle.iloc_grammar.specs.Pieces.{pieces}
-use Rattle.iloc_grammar.specs.Words.{languages}
-use Rattle.iloc_grammar.specs.Written.{Identifier}
-use Rattle.iloc_grammar.specs.Meaning.{IdentifierMeans}
-use Rattle.iloc_grammar.specs.Values.{identifier_text}
-use Rattle.iloc_grammar.specs.Faults.{HasIdentifierFault}
-use Rattle.iloc_grammar.specs.Steps.{IdentifierChain, IdentifierTextStep, LeadToOne}
+use Rattle.iloc_spec_grammar.specs.Shapes.{Text}
+use Rattle.iloc_spec_grammar.specs.Pieces.{pieces}
+use Rattle.iloc_spec_grammar.specs.Words.{languages}
+use Rattle.iloc_spec_grammar.specs.Written.{Identifier}
+use Rattle.iloc_spec_grammar.specs.Meaning.{IdentifierMeans}
+use Rattle.iloc_spec_grammar.specs.Values.{identifier_text}
+use Rattle.iloc_spec_grammar.specs.Faults.{HasIdentifierFault}
+use Rattle.iloc_spec_grammar.specs.Steps.{IdentifierChain, IdentifierTextStep, LeadToOne}
 use Rattle.iloc_subtags.specs.declared.parse_error.ParseError.{ParseError}
 use Rattle.iloc_subtags.specs.Answers.{Refusal, OfIdentifier}
 use Rattle.iloc_langid.specs.Reads.{WantsMemory}
 
 -- t is the text of what u means
-abbrev pub IsTextOf : List ℕ → List ℕ → Type 0
+abbrev pub IsTextOf : Text → Text → Type 0
 IsTextOf u t = (i : Identifier) × IdentifierMeans languages (pieces u) i × (t ≡ identifier_text i)
 
 -- t is the normal text of input
-pub record IsNormalizedFrom (input t : List ℕ) : Type 0 where
+pub record IsNormalizedFrom (input t : Text) : Type 0 where
   -- the text of its meaning
   pub text_is : IsTextOf input t
   -- which is its own normal text
   pub again : IsTextOf t t
   -- every accepted text means the same exactly if its normal text is this one, and is as long then
-  pub same : (u : List ℕ) (i j : Identifier) → IdentifierMeans languages (pieces input) i → IdentifierMeans languages (pieces u) j → (i ≡ j) ↔ (t ≡ identifier_text j)
-  pub long : (u : List ℕ) (i : Identifier) → IdentifierMeans languages (pieces input) i → IdentifierMeans languages (pieces u) i → length u ≡ length t
+  pub same : (u : Text) (i j : Identifier) → IdentifierMeans languages (pieces input) i → IdentifierMeans languages (pieces u) j → (i ≡ j) ↔ (t ≡ identifier_text j)
+  pub long : (u : Text) (i : Identifier) → IdentifierMeans languages (pieces input) i → IdentifierMeans languages (pieces u) i → length u ≡ length t
   -- two steps at most, in case and in the order of variants, lead here
   pub steps : IdentifierChain languages 2 input t
   -- so every accepted text means the same exactly if such steps lead both to one text
-  pub together : (u : List ℕ) (i j : Identifier) → IdentifierMeans languages (pieces input) i → IdentifierMeans languages (pieces u) j → (i ≡ j) ↔ LeadToOne (IdentifierTextStep languages) 2 input u
+  pub together : (u : Text) (i j : Identifier) → IdentifierMeans languages (pieces input) i → IdentifierMeans languages (pieces u) j → (i ≡ j) ↔ LeadToOne (IdentifierTextStep languages) 2 input u
 
 -- Why there is none. Memory may run out only if the reader may allocate, or if the input is accepted and isn't normal.
-abbrev pub RefusesNormalizing : List ℕ → ParseError → Type 0
+abbrev pub RefusesNormalizing : Text → ParseError → Type 0
 RefusesNormalizing t = Refusal
     (OfIdentifier (HasIdentifierFault languages (pieces t)))
     (WantsMemory (pieces t)

@@ -1,14 +1,15 @@
 -- What the readers of identifiers answer.
 use Rattle.std.specs.Prelude.{◌≡◌, ℕ, ◌<◌, false, List, [], length, map, None, Result, IfOk, IfErr}
-use Rattle.iloc_grammar.specs.Words.{Language, Variant, is_word, IsWord, lower, word_cmp, languages, two_or_three}
-use Rattle.iloc_grammar.specs.Written.{Identifier, AllDifferent}
-use Rattle.iloc_grammar.specs.Meaning.{IdentifierMeans, normal_identifier, set_of}
-use Rattle.iloc_grammar.specs.Faults.{HasIdentifierFault}
-use Rattle.iloc_grammar.specs.Blocks.{first_piece}
-use Rattle.iloc_grammar.specs.Reading.{IdentifierFront}
-use Rattle.iloc_grammar.specs.Pieces.{pieces}
-use Rattle.iloc_grammar.specs.Steps.{IdentifierChain}
-use Rattle.iloc_grammar.specs.Reading.{passing, past, front_of, after_front}
+use Rattle.iloc_spec_grammar.specs.Shapes.{Text}
+use Rattle.iloc_spec_grammar.specs.Words.{Language, Variant, is_word, IsWord, lower, word_cmp, languages, two_or_three}
+use Rattle.iloc_spec_grammar.specs.Written.{Identifier, AllDifferent}
+use Rattle.iloc_spec_grammar.specs.Meaning.{IdentifierMeans, normal_identifier, set_of}
+use Rattle.iloc_spec_grammar.specs.Faults.{HasIdentifierFault}
+use Rattle.iloc_spec_grammar.specs.Blocks.{first_piece}
+use Rattle.iloc_spec_grammar.specs.Reading.{IdentifierFront}
+use Rattle.iloc_spec_grammar.specs.Pieces.{pieces}
+use Rattle.iloc_spec_grammar.specs.Steps.{IdentifierChain}
+use Rattle.iloc_spec_grammar.specs.Reading.{passing, past, front_of, after_front}
 use Rattle.iloc_subtags.specs.declared.parse_error.ParseError.{ParseError}
 use Rattle.iloc_subtags.specs.Answers.{Answers, SubtagFault, IdentifierFaults, OfIdentifier}
 use Rattle.iloc_subtags.specs.declared.parse_error.ParseError.TheVariants.{OutOfMemory}
@@ -23,44 +24,44 @@ abbrev pub IsLanguageAlone : LanguageIdentifier → Type 0
 IsLanguageAlone i = (i.script ≡ None) × (i.region ≡ None) × (i.variants ≡ [])
 
 -- the text means this identifier, and no other
-abbrev pub IdentifierMeansOnly : List ℕ → Identifier → Type 0
+abbrev pub IdentifierMeansOnly : Text → Identifier → Type 0
 IdentifierMeansOnly t i = IdentifierMeans languages (pieces t) i
     × ((j : Identifier) → IdentifierMeans languages (pieces t) j → j ≡ i)
 
 -- a language stands first, and more than four variants at the front of an identifier's words: only there may a reader
 -- allocate
-abbrev pub WantsMemory : List (List ℕ) → Type 0
+abbrev pub WantsMemory : List Text → Type 0
 WantsMemory ps = IsWord (Language languages) (first_piece ps) × (4 < length (front_of ps).variants)
 
 -- what the pieces are read as, as a whole identifier
-abbrev pub ReadsAs : List (List ℕ) → Result LanguageIdentifier ParseError → Type 0
+abbrev pub ReadsAs : List Text → Result LanguageIdentifier ParseError → Type 0
 ReadsAs ps = Answers (λ i. IdentifierMeans languages ps (value_of i))
     (OfIdentifier (HasIdentifierFault languages ps)) (WantsMemory ps)
 
 -- what the table of two or three letters accepts is read with the same value, unless memory runs out
-abbrev pub KeepsNarrow : List ℕ → Result LanguageIdentifier ParseError → Type 0
+abbrev pub KeepsNarrow : Text → Result LanguageIdentifier ParseError → Type 0
 KeepsNarrow t r = (i : Identifier) → IdentifierMeans two_or_three (pieces t) i → IfOk r (λ j. value_of j ≡ i)
 
-abbrev pub AcceptsNarrow : List ℕ → Result LanguageIdentifier ParseError → Type 0
+abbrev pub AcceptsNarrow : Text → Result LanguageIdentifier ParseError → Type 0
 AcceptsNarrow t r = (i : Identifier) → IdentifierMeans two_or_three (pieces t) i → IfErr r (λ e. e ≡ OutOfMemory)
 
 -- every text that steps of rewriting lead to means what was read
-abbrev pub KeepsThroughSteps : List ℕ → Result LanguageIdentifier ParseError → Type 0
-KeepsThroughSteps t r = IfOk r (λ i. (n : ℕ) (u : List ℕ) → IdentifierChain languages n t u → IdentifierMeans languages (pieces u) (value_of i))
+abbrev pub KeepsThroughSteps : Text → Result LanguageIdentifier ParseError → Type 0
+KeepsThroughSteps t r = IfOk r (λ i. (n : ℕ) (u : Text) → IdentifierChain languages n t u → IdentifierMeans languages (pieces u) (value_of i))
 
 -- what a longest front is read as, and the pieces that are left after it
-abbrev pub FrontReadsAs : List (List ℕ) → List (List ℕ) → Result LanguageIdentifier ParseError → Type 0
+abbrev pub FrontReadsAs : List Text → List Text → Result LanguageIdentifier ParseError → Type 0
 FrontReadsAs ps rest = Answers
     (λ i. (w : Identifier) × IdentifierFront languages ps w rest
     × AllDifferent word_cmp (map lower w.variants) × (value_of i ≡ normal_identifier w))
     (IdentifierFaults (is_word (Language languages) (first_piece ps) ≡ false)
-    ((w : Identifier) × (more : List (List ℕ)) × IdentifierFront languages ps w more
+    ((w : Identifier) × (more : List Text) × IdentifierFront languages ps w more
     × ¬ (AllDifferent word_cmp (map lower w.variants))))
-    ((w : Identifier) × (more : List (List ℕ)) × IdentifierFront languages ps w more
+    ((w : Identifier) × (more : List Text) × IdentifierFront languages ps w more
     × (4 < length w.variants))
 
 -- the same by the reading from the left
-abbrev pub FrontGives : List (List ℕ) → List (List ℕ) → Result LanguageIdentifier ParseError → Type 0
+abbrev pub FrontGives : List Text → List Text → Result LanguageIdentifier ParseError → Type 0
 FrontGives ps rest = Answers
     (λ i. IsWord (Language languages) (first_piece ps)
     × AllDifferent word_cmp (map lower (front_of ps).variants)
@@ -71,7 +72,7 @@ FrontGives ps rest = Answers
     (WantsMemory ps)
 
 -- what the variants at the front are read as, and the pieces that are left
-abbrev pub VariantsGive : List (List ℕ) → List (List ℕ) → Result (List (List ℕ)) ParseError → Type 0
+abbrev pub VariantsGive : List Text → List Text → Result (List Text) ParseError → Type 0
 VariantsGive ps rest = Answers
     (λ vs. (vs ≡ set_of (map lower (passing (is_word Variant) ps)))
     × AllDifferent word_cmp (map lower (passing (is_word Variant) ps))

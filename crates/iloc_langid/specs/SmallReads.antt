@@ -1,26 +1,27 @@
 -- What the readers of identifiers with at most one variant answer.
 use Rattle.std.specs.Prelude.{◌≡◌, ℕ, false, List, Option, option_map, Result}
-use Rattle.iloc_grammar.specs.Words.{Language, Script, Region, Variant, is_word, IsWord, lower, title, upper, languages}
-use Rattle.iloc_grammar.specs.Blocks.{first_piece}
-use Rattle.iloc_grammar.specs.Reading.{take_first, skip_first, rest_of, after_script, after_region}
-use Rattle.iloc_small.specs.Small.{SmallIdentifier, IsSmallIdentifier, HasSmallIdentifierFault}
+use Rattle.iloc_spec_grammar.specs.Shapes.{Text}
+use Rattle.iloc_spec_grammar.specs.Words.{Language, Script, Region, Variant, is_word, IsWord, lower, title, upper, languages}
+use Rattle.iloc_spec_grammar.specs.Blocks.{first_piece}
+use Rattle.iloc_spec_grammar.specs.Reading.{take_first, skip_first, rest_of, after_script, after_region}
+use Rattle.iloc_spec_parts.specs.Small.{SmallIdentifier, IsSmallIdentifier, HasSmallIdentifierFault}
 use Rattle.iloc_subtags.specs.declared.parse_error.ParseError.{ParseError}
 use Rattle.iloc_subtags.specs.Answers.{Answers, LanguageFault, OfIdentifier}
 
 -- a language, and perhaps a script, a region and a variant
 abbrev pub Parts : Type 0
-Parts = List ℕ × Option (List ℕ) × Option (List ℕ) × Option (List ℕ)
+Parts = Text × Option Text × Option Text × Option Text
 
 abbrev pub small_of : Parts → SmallIdentifier
 small_of p = record { language = p.0; script = p.1; region = p.2; variant = p.3 }
 
 -- what the pieces are read as, as a whole; it allocates nothing
-abbrev pub SmallReadsAs : List (List ℕ) → Result Parts ParseError → Type 0
+abbrev pub SmallReadsAs : List Text → Result Parts ParseError → Type 0
 SmallReadsAs ps = Answers (λ p. IsSmallIdentifier languages ps (small_of p))
     (OfIdentifier (HasSmallIdentifierFault languages ps)) ⊥
 
 -- the parts that stand at the front, each if it fits
-abbrev pub front_parts : List (List ℕ) → Parts
+abbrev pub front_parts : List Text → Parts
 front_parts ps = (
   lower (first_piece ps),
   option_map title (take_first (is_word Script) (rest_of ps)),
@@ -29,11 +30,11 @@ front_parts ps = (
 )
 
 -- what is left after them
-abbrev pub after_parts : List (List ℕ) → List (List ℕ)
+abbrev pub after_parts : List Text → List Text
 after_parts ps = skip_first (is_word Variant) (after_region ps)
 
 -- what the front is read as, and what is left
-abbrev pub SmallFrontGives : List (List ℕ) → List (List ℕ) → Result Parts ParseError → Type 0
+abbrev pub SmallFrontGives : List Text → List Text → Result Parts ParseError → Type 0
 SmallFrontGives ps rest = Answers
     (λ p. IsWord (Language languages) (first_piece ps) × (p ≡ front_parts ps)
     × (rest ≡ after_parts ps))

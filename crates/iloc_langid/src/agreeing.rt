@@ -1,10 +1,9 @@
 //! Whether a text means an identifier, without reading it into memory.
 ghost use Rattle.std.specs.Prelude.{◌≡◌, ◌==◌, ◌≤◌, length};
-ghost use Rattle.iloc_parser.specs.Left.{left};
+ghost use Rattle.iloc_subtags.specs.Left.{left};
 ghost use Rattle.iloc_langid.specs.Agreeing.{AreVariants, are_all_among, are_just};
 
-use iloc_parser::SubtagIterator;
-use iloc_subtags::Variant;
+use iloc_subtags::{SubtagIterator, Variant};
 use std::cmp::min;
 
 // How many variants one walk over a text looks for at most.

@@ -3,20 +3,19 @@ ghost use Rattle.std.specs.Prelude.{◌≡◌, ◌↔◌, IsTrue, IfSome, Ok, On
 ghost use Rattle.std.specs.Result.{result_and};
 ghost use Rattle.std.specs.Ordering.{nat_cmp};
 ghost use Rattle.std.specs.Cmp.Lexicographic.{slice_cmp};
-ghost use Rattle.iloc_grammar.specs.Words.{languages};
-ghost use Rattle.iloc_grammar.specs.Pieces.{pieces};
-ghost use Rattle.iloc_grammar.specs.Blocks.{head};
-ghost use Rattle.iloc_grammar.specs.Written.{Identifier};
-ghost use Rattle.iloc_grammar.specs.Meaning.{IdentifierMeans};
-ghost use Rattle.iloc_grammar.specs.Faults.{Fault, HasIdentifierFault};
-ghost use Rattle.iloc_grammar.specs.Values.{IsIdentifierValue, IsNormal, identifier_text};
-ghost use Rattle.iloc_orders.specs.Orders.{identifier_cmp};
+ghost use Rattle.iloc_spec_grammar.specs.Words.{languages};
+ghost use Rattle.iloc_spec_grammar.specs.Pieces.{pieces};
+ghost use Rattle.iloc_spec_grammar.specs.Blocks.{head};
+ghost use Rattle.iloc_spec_grammar.specs.Written.{Identifier};
+ghost use Rattle.iloc_spec_grammar.specs.Meaning.{IdentifierMeans};
+ghost use Rattle.iloc_spec_grammar.specs.Faults.{Fault, HasIdentifierFault};
+ghost use Rattle.iloc_spec_grammar.specs.Values.{IsIdentifierValue, IsNormal, identifier_text};
+ghost use Rattle.iloc_spec_orders.specs.Orders.{identifier_cmp};
 ghost use Rattle.iloc_subtags.specs.Judging.{Accepts, Refuses};
 ghost use Rattle.iloc_langid.specs.Unknown.{unknown_identifier};
 
 use crate::reader::{read_head, read_whole};
-use iloc_parser::SubtagIterator;
-use iloc_subtags::{Language, ParseError, Region, Script, WordKind, WordOf};
+use iloc_subtags::{Language, ParseError, Region, Script, SubtagIterator, WordKind, WordOf};
 use iloc_word_set::Variants;
 use iloc_writeable::{Pieces, Sink, Writeable, cmp_utf8};
 use std::alloc::{AllocError, Global};
@@ -166,7 +165,7 @@ fn look_at<K: WordKind<N>, const N: usize>(word: &Option<WordOf<K, N>>)
 }
 
 impl Pieces for LanguageIdentifier {
-    ghost use Rattle.iloc_grammar.specs.Written.{identifier_pieces};
+    ghost use Rattle.iloc_spec_grammar.specs.Written.{identifier_pieces};
     ghost use Rattle.iloc_langid.specs.Reads.{value_of};
 
     ghost pieces = { λ i. identifier_pieces (value_of i) };
@@ -186,18 +185,18 @@ impl Pieces for LanguageIdentifier {
 /// if there is a language and nothing else.
 impl Writeable for LanguageIdentifier {
     ghost use Rattle.iloc_langid.specs.Reads.{value_of, IsLanguageAlone};
-    ghost use Rattle.iloc_grammar.specs.Values.{identifier_text};
+    ghost use Rattle.iloc_spec_grammar.specs.Values.{identifier_text};
 
     ghost text = { λ i. identifier_text (value_of i) };
 
     ghost lends = { IsLanguageAlone };
 
-    #[tactic(auto, unfolding(iloc_grammar::specs::Values::identifier_text, iloc_grammar::specs::Pieces::join))]
+    #[tactic(auto, unfolding(iloc_spec_grammar::specs::Values::identifier_text, iloc_spec_grammar::specs::Pieces::join))]
     fn write_to<S: Sink>(&self, sink: &mut S) -> fmt::Result {
         self.write_joined(sink)
     }
 
-    #[tactic(auto, unfolding(iloc_grammar::specs::Values::identifier_text, iloc_grammar::specs::Pieces::join))]
+    #[tactic(auto, unfolding(iloc_spec_grammar::specs::Values::identifier_text, iloc_spec_grammar::specs::Pieces::join))]
     fn writeable_borrow(&self) -> Option<&str> {
         if self.script.is_none() && self.region.is_none() && self.variants.is_empty() {
             return Some(self.language.as_str());
@@ -231,7 +230,7 @@ impl LanguageIdentifier {
 
 /// Prints the text itself.
 impl fmt::Debug for LanguageIdentifier {
-    ghost use Rattle.iloc_grammar.specs.Values.{identifier_text};
+    ghost use Rattle.iloc_spec_grammar.specs.Values.{identifier_text};
     ghost use Rattle.iloc_langid.specs.Reads.{value_of};
     ghost use Rattle.std.specs.Prelude.{Some};
 
@@ -243,7 +242,7 @@ impl fmt::Debug for LanguageIdentifier {
 }
 
 impl fmt::Display for LanguageIdentifier {
-    ghost use Rattle.iloc_grammar.specs.Values.{identifier_text};
+    ghost use Rattle.iloc_spec_grammar.specs.Values.{identifier_text};
     ghost use Rattle.iloc_langid.specs.Reads.{value_of};
     ghost use Rattle.std.specs.Prelude.{Some};
 

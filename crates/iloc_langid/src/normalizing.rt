@@ -1,15 +1,14 @@
 //! Normal texts of identifiers, and whether a text means an identifier.
 ghost use Rattle.std.specs.Prelude.{◌≡◌, ◌↔◌, IsTrue, IfOk, IfErr};
 ghost use Rattle.std.specs.Cow.{cow_str_bytes};
-ghost use Rattle.iloc_grammar.specs.Pieces.{pieces};
-ghost use Rattle.iloc_grammar.specs.Words.{languages};
-ghost use Rattle.iloc_grammar.specs.Meaning.{IdentifierMeans};
+ghost use Rattle.iloc_spec_grammar.specs.Pieces.{pieces};
+ghost use Rattle.iloc_spec_grammar.specs.Words.{languages};
+ghost use Rattle.iloc_spec_grammar.specs.Meaning.{IdentifierMeans};
 ghost use Rattle.iloc_writeable.specs.Writing.{IsLent};
 
 use crate::agreeing::has_variants;
 use crate::identifier::LanguageIdentifier;
-use iloc_parser::{SubtagIterator, take_word};
-use iloc_subtags::{Language, ParseError, RegionKind, ScriptKind};
+use iloc_subtags::{Language, ParseError, RegionKind, ScriptKind, SubtagIterator, take_word};
 use iloc_writeable::to_string_or_borrow;
 use std::alloc::Global;
 use std::borrow::CowStr;

@@ -1,18 +1,18 @@
 //! Parses identifiers from pieces.
 ghost use Rattle.std.specs.Prelude.{◌≡◌, ◌<◌, ◌++◌, [], false, length, Ok, OnOk, OnErr};
 ghost use Rattle.std.specs.Result.{result_and};
-ghost use Rattle.iloc_grammar.specs.Pieces.{pieces};
-ghost use Rattle.iloc_grammar.specs.Blocks.{head};
-ghost use Rattle.iloc_grammar.specs.Reading.{after_head, EndsBefore};
-ghost use Rattle.iloc_grammar.specs.Words.{Variant, is_word};
-ghost use Rattle.iloc_parser.specs.Left.{left};
+ghost use Rattle.iloc_spec_grammar.specs.Pieces.{pieces};
+ghost use Rattle.iloc_spec_grammar.specs.Blocks.{head};
+ghost use Rattle.iloc_spec_grammar.specs.Reading.{after_head, EndsBefore};
+ghost use Rattle.iloc_spec_grammar.specs.Words.{Variant, is_word};
+ghost use Rattle.iloc_subtags.specs.Left.{left};
 ghost use Rattle.iloc_langid.specs.Reads.{value_of, VariantsGive, FrontGives, FrontReadsAs, ReadsAs};
 ghost use Rattle.iloc_langid.specs.Unknown.{unknown_identifier};
 
 use crate::identifier::LanguageIdentifier;
-use iloc_parser::{SubtagIterator, take_word};
 use iloc_subtags::{
-    LanguageKind, ParseError, RegionKind, ScriptKind, VariantKind, WordKind, WordOf,
+    LanguageKind, ParseError, RegionKind, ScriptKind, SubtagIterator, VariantKind, WordKind,
+    WordOf, take_word,
 };
 use iloc_word_set::{Variants, WordCollector};
 use std::alloc::Global;

@@ -1,24 +1,23 @@
 //! Identifiers with at most one variant, which are parsed without allocating.
 ghost use Rattle.std.specs.Prelude.{◌≡◌, IfOk};
-ghost use Rattle.iloc_grammar.specs.Pieces.{pieces};
-ghost use Rattle.iloc_grammar.specs.Words.{languages};
-ghost use Rattle.iloc_grammar.specs.Meaning.{IdentifierMeans};
-ghost use Rattle.iloc_grammar.specs.Faults.{Fault};
-ghost use Rattle.iloc_small.specs.Small.{
+ghost use Rattle.iloc_spec_grammar.specs.Pieces.{pieces};
+ghost use Rattle.iloc_spec_grammar.specs.Words.{languages};
+ghost use Rattle.iloc_spec_grammar.specs.Meaning.{IdentifierMeans};
+ghost use Rattle.iloc_spec_grammar.specs.Faults.{Fault};
+ghost use Rattle.iloc_spec_parts.specs.Small.{
   SmallIdentifier,
   IsSmallIdentifier,
   HasSmallIdentifierFault,
   identifier_of_small,
 };
 ghost use Rattle.iloc_subtags.specs.Judging.{Accepts, Refuses};
-ghost use Rattle.iloc_parser.specs.Left.{left};
+ghost use Rattle.iloc_subtags.specs.Left.{left};
 ghost use Rattle.iloc_langid.specs.SmallReads.{SmallFrontGives, SmallReadsAs, small_of};
 
 use crate::identifier::LanguageIdentifier;
-use iloc_parser::{SubtagIterator, take_word};
 use iloc_subtags::{
-    Language, LanguageKind, ParseError, Region, RegionKind, Script, ScriptKind, Variant,
-    VariantKind,
+    Language, LanguageKind, ParseError, Region, RegionKind, Script, ScriptKind, SubtagIterator,
+    Variant, VariantKind, take_word,
 };
 
 /// A language, and perhaps a script, a region and one variant.

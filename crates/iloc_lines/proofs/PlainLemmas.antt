@@ -1,19 +1,19 @@
 -- Lines that are told at once, and their replies.
 use Rattle.std.proofs.Common.{◌≡◌, ℕ, false, List, [], ◌∷◌, ◌++◌, refl, sym, ap, subst}
-use Rattle.iloc_grammar.specs.Values.{identifier_text}
+use Rattle.iloc_spec_grammar.specs.Values.{identifier_text}
 use Rattle.iloc_plain.specs.Plain.{IsPlain, value_of}
 use Rattle.iloc_plain.specs.declared.plain.Plain.{Plain}
 use Rattle.iloc_lines.proofs.PlainAnswers.{identifier_answer, locale_answer, data_answer}
-use Rattle.iloc_grammar.specs.Pieces.{pieces}
-use Rattle.iloc_grammar.specs.Blocks.{first_piece, head}
-use Rattle.iloc_grammar.specs.Words.{Language, is_word, languages}
-use Rattle.iloc_grammar.specs.Faults.{not_a_language}
-use Rattle.iloc_grammar.specs.Faults as faults
-use Rattle.iloc_grammar.proofs.RawLaws.{languages_table}
-use Rattle.iloc_small.specs.Small as small
-use Rattle.iloc_regions.specs.DataLocales.{not_small}
-use Rattle.iloc_output.specs.Output.{OfIdentifiers, OfLocales, OfDataLocales, no_identifier, no_locale, no_data_locale}
-use Rattle.iloc_output.proofs.OutputLaws.{only_answer}
+use Rattle.iloc_spec_grammar.specs.Pieces.{pieces}
+use Rattle.iloc_spec_grammar.specs.Blocks.{first_piece, head}
+use Rattle.iloc_spec_grammar.specs.Words.{Language, is_word, languages}
+use Rattle.iloc_spec_grammar.specs.Faults.{not_a_language}
+use Rattle.iloc_spec_grammar.specs.Faults as faults
+use Rattle.iloc_spec_grammar.proofs.RawLaws.{languages_table}
+use Rattle.iloc_spec_parts.specs.Small as small
+use Rattle.iloc_spec_preferences.specs.DataLocales.{not_small}
+use Rattle.iloc_spec_output.specs.Output.{OfIdentifiers, OfLocales, OfDataLocales, no_identifier, no_locale, no_data_locale}
+use Rattle.iloc_spec_output.proofs.OutputLaws.{only_answer}
 use Rattle.iloc_subtags.specs.declared.parse_error.ParseError.TheVariants.{InvalidLanguage}
 use Rattle.iloc_lines.specs.Output.{line_answer, reply, refusal_text}
 use Rattle.iloc_lines.specs.declared.Mode.{Mode}

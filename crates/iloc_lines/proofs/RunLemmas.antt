@@ -7,7 +7,7 @@ use Rattle.std.specs.Io.{StartsWith}
 use Rattle.std.specs.Io.KnownBytes.{Appends, Consumes, IsAtEnd, Keeps}
 use Rattle.iloc_lines.specs.declared.Mode.{Mode}
 use Rattle.iloc_lines.specs.Output.{output, WritesAll, WritesBeginning}
-use Rattle.iloc_io_sink.specs.Growth.{appends_both}
+use Rattle.iloc_writeable.specs.Growth.{appends_both}
 use Rattle.iloc_lines.proofs.KnownLemmas.{Consumes-kept, Consumes-then}
 
 -- whatever comes next, the answer to all goes on from what is written with the answer to what is pending and that

@@ -1,18 +1,19 @@
 -- The bytes of a block of replies, and the block as a sink.
 use Rattle.std.specs.Prelude.{◌≡◌, ℕ, List, [], ◌++◌, take}
 use Rattle.std.proofs.Common.{sym, ◌∙◌, ap, append_assoc, append-nil}
+use Rattle.iloc_spec_grammar.specs.Shapes.{Text}
 use Rattle.iloc_lines.specs.declared.reply_block.ReplyBlock.{ReplyBlock}
 
 -- the bytes that count
-abbrev pub held : ReplyBlock → List ℕ
+abbrev pub held : ReplyBlock → Text
 held b = take b.len b.room.items
 
 -- the text stands after what was held
-abbrev pub Added : ReplyBlock → List ℕ → ReplyBlock → Type 0
+abbrev pub Added : ReplyBlock → Text → ReplyBlock → Type 0
 Added old text new = held new ≡ held old ++ text
 
 pub added_nothing : (b : ReplyBlock) → Added b [] b
 added_nothing b = sym (append-nil (held b))
 
-pub added_both : (a b c : ReplyBlock) (s t : List ℕ) → Added a s b → Added b t c → Added a (s ++ t) c
+pub added_both : (a b c : ReplyBlock) (s t : Text) → Added a s b → Added b t c → Added a (s ++ t) c
 added_both a b c s t p q = q ∙ ap (λ x. x ++ t) p ∙ append_assoc (held a) s t

@@ -1,8 +1,8 @@
 //! Lines that come in pieces, what answers them, and their replies in blocks.
 //!
-//! It promises that what `run_with` writes is the output of what it reads, as `iloc_output` defines it, if
-//! each line is answered as `Answers` says: that is what `iloc_program` adds. It stands on `iloc_output` and
-//! `iloc_io_sink`, and on no reader of lines. Memory is as long as the longest line and its answer; reads and
+//! It promises that what `run_with` writes is the output of what it reads, as `iloc_spec_output` defines it, if
+//! each line is answered as `Answers` says: that is what `iloc_program` adds. It stands on `iloc_spec_output` and
+//! `iloc_writeable`, and on no reader of lines. Memory is as long as the longest line and its answer; reads and
 //! writes are in blocks of 64 KiB.
 #![tactic(auto)]
 

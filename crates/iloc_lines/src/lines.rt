@@ -19,11 +19,12 @@ ghost use Rattle.std.specs.Prelude.{
   vec_len,
 };
 ghost use Rattle.std.specs.Io.KnownBytes.{Appends};
-ghost use Rattle.iloc_io_sink.specs.Growth.{AddsBeginning};
+ghost use Rattle.iloc_writeable.specs.Growth.{AddsBeginning};
 ghost use Rattle.iloc_lines.specs.Output.{output, reply};
 ghost use Rattle.iloc_lines.specs.ReplyBlock.{held};
-ghost use Rattle.iloc_output.specs.Lines.{IsOneLine};
+ghost use Rattle.iloc_spec_output.specs.Lines.{IsOneLine};
 ghost use Rattle.std.specs.Simd.Lanes.{mask_l};
+ghost use Rattle.iloc_spec_grammar.specs.Shapes.{Text};
 ghost use Rattle.memchr.specs.Find.{IsFirstByte, is_byte};
 
 use crate::replies::write_refusal;
@@ -136,7 +137,7 @@ fn feed_lines<A: Answers>(
 ) -> Result<(), AllocError>
     requires { pending.old.items ≡ [] }
     ensures one_line { OnOk result (IsOneLine pending.new.items) }
-    ensures ahead { OnOk result ((next : List ℕ) →
+    ensures ahead { OnOk result ((next : Text) →
         held replies.old ++ output A.mode (bytes.now ++ next)
         ≡ held replies.new ++ output A.mode (pending.new.items ++ next)) }
 {
@@ -159,7 +160,7 @@ pub(crate) fn feed<A: Answers>(
     requires { IsOneLine pending.old.items }
     ensures one_line { OnOk result (IsOneLine pending.new.items) }
     // Whatever comes next, the replies to it all are these and what is still to come.
-    ensures ahead { OnOk result ((next : List ℕ) →
+    ensures ahead { OnOk result ((next : Text) →
         held replies.old ++ output A.mode (pending.old.items ++ (piece.now ++ next))
         ≡ held replies.new ++ output A.mode (pending.new.items ++ next)) }
 {
@@ -197,7 +198,7 @@ pub(crate) fn write_whole<W: Write>(writer: &mut W, bytes: &[u8]) -> Result<(), 
         (AddsBeginning (W.contents writer.old) (W.contents writer.new) bytes.now) }
     ensures error { IsOkUnless result RunError.Write }
 {
-    match iloc_io_sink::write_whole(writer, bytes) {
+    match iloc_writeable::write_whole(writer, bytes) {
         Ok(()) => Ok(()),
         Err(_) => Err(RunError::Write),
     }

@@ -2,7 +2,7 @@
 ghost use Rattle.std.specs.Prelude.{◌≡◌, ◌+◌, ◌≤◌, [], ◌∷◌, ◌++◌, length, take, vec_len, OnOk, OnErr};
 
 use iloc_plain::Plain;
-use iloc_short_pieces::ShortPiece;
+use iloc_tinystr::ShortPiece;
 use iloc_writeable::Sink;
 use std::alloc::{AllocError, Global};
 use std::cmp::max;
@@ -22,7 +22,7 @@ pub struct ReplyBlock {
 
 impl ReplyBlock {
     ghost use Rattle.iloc_lines.specs.ReplyBlock.{held};
-    ghost use Rattle.iloc_grammar.specs.Values.{identifier_text};
+    ghost use Rattle.iloc_spec_grammar.specs.Values.{identifier_text};
     ghost use Rattle.iloc_plain.specs.Plain.{AreWords, value_of};
 
     /// No bytes. It allocates nothing.

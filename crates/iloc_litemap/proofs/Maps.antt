@@ -10,9 +10,9 @@ use Rattle.std.specs.Option.{option_or}
 use Rattle.std.specs.Ordering.{is_eq, eq_by_cmp}
 use Rattle.std.proofs.lemmas.Bool.{and_parts}
 use Rattle.std.proofs.lemmas.List.{reverse-append}
-use Rattle.iloc_grammar.specs.Meaning.{map_of}
-use Rattle.iloc_grammar.proofs.MapLaws.{less, map_of_sorted, map_of_same, find-map_of}
-use Rattle.iloc_grammar.proofs.SetLaws.{find-append}
+use Rattle.iloc_spec_grammar.specs.Meaning.{map_of}
+use Rattle.iloc_spec_grammar.proofs.MapLaws.{less, map_of_sorted, map_of_same, find-map_of}
+use Rattle.iloc_spec_grammar.proofs.SetLaws.{find-append}
 use Rattle.iloc_litemap.specs.Pairs.{IsAscending}
 
 -- keys that tie are one

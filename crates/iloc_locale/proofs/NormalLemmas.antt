@@ -1,27 +1,27 @@
 -- From the locale that was read to its normal text.
 use Rattle.std.proofs.Common.{◌≡◌, inl, inr, ◌↔◌, IsTrue, ℕ, ◌≤◌, Bool, true, false, List, length, refl, sym, ap, ◌∙◌, subst, append-nil, true≢false, IfOk, Err, Ok, Result}
-use Rattle.iloc_grammar.specs.Words.{languages}
-use Rattle.iloc_grammar.specs.Meaning as meaning
-use Rattle.iloc_grammar.specs.Meaning.{Extensions, Means, no_extensions}
-use Rattle.iloc_grammar.specs.Values.{IsValue, IsWellFormed, text, identifier_text}
-use Rattle.iloc_grammar.specs.Written.{Identifier}
-use Rattle.iloc_grammar.specs.Pieces.{join}
-use Rattle.iloc_grammar.specs.Faults as faults
-use Rattle.iloc_grammar.proofs.FaultLaws.{accepted_no_fault}
+use Rattle.iloc_spec_grammar.specs.Words.{languages}
+use Rattle.iloc_spec_grammar.specs.Meaning as meaning
+use Rattle.iloc_spec_grammar.specs.Meaning.{Extensions, Means, no_extensions}
+use Rattle.iloc_spec_grammar.specs.Values.{IsValue, IsWellFormed, text, identifier_text}
+use Rattle.iloc_spec_grammar.specs.Written.{Identifier}
+use Rattle.iloc_spec_grammar.specs.Pieces.{join}
+use Rattle.iloc_spec_grammar.specs.Faults as faults
+use Rattle.iloc_spec_grammar.proofs.FaultLaws.{accepted_no_fault}
 use Rattle.std.specs.Ordering.{is_eq}
-use Rattle.iloc_orders.specs.Orders.{locale_cmp}
-use Rattle.iloc_orders.proofs.OrderLaws.{locale_exact}
-use Rattle.iloc_grammar.proofs.RawLaws.{languages_table}
-use Rattle.iloc_grammar.proofs.Corollaries.{texts_lead_to_one, same_meaning, means_again}
-use Rattle.iloc_grammar.proofs.Chains.{chain_to_text, shortest}
-use Rattle.iloc_grammar.proofs.ReadBack.{reads_back}
-use Rattle.iloc_grammar.proofs.Readings as readings
+use Rattle.iloc_spec_orders.specs.Orders.{locale_cmp}
+use Rattle.iloc_spec_orders.proofs.OrderLaws.{locale_exact}
+use Rattle.iloc_spec_grammar.proofs.RawLaws.{languages_table}
+use Rattle.iloc_spec_grammar.proofs.Corollaries.{texts_lead_to_one, same_meaning, means_again}
+use Rattle.iloc_spec_grammar.proofs.Chains.{chain_to_text, shortest}
+use Rattle.iloc_spec_grammar.proofs.ReadBack.{reads_back}
+use Rattle.iloc_spec_grammar.proofs.Readings as readings
 use Rattle.iloc_subtags.specs.declared.parse_error.ParseError.{ParseError}
 use Rattle.iloc_subtags.specs.declared.parse_error.ParseError.TheVariants.{InvalidLanguage, InvalidSubtag, InvalidExtension, DuplicatedExtension, OutOfMemory}
 use Rattle.iloc_locale.specs.Reads.{LocaleReadsAs, MeansOnly}
 use Rattle.iloc_locale.specs.Normalizing.{IsTextOf, IsNormalizedFrom, RefusesNormalizing}
 use Rattle.iloc_locale.proofs.ReadLemmas.{no_fault, inline_wants_none}
-use Rattle.iloc_small.specs.Inline.{IsInline}
+use Rattle.iloc_spec_parts.specs.Inline.{IsInline}
 use Rattle.std.specs.Cmp.{Equal-is}
 
 pub is_normalized : (t u : List ℕ) (M : meaning.Locale) → Means languages t M → u ≡ text M → IsNormalizedFrom t u

@@ -1,38 +1,38 @@
 -- From what the readers of the head and of the blocks answer to what the whole text is read as.
 use Rattle.std.proofs.Common.{◌≡◌, ◌⊎◌, inl, inr, IsOk, ℕ, zero, suc, ◌<◌, true, false, List, [], ◌∷◌, length, refl, sym, ap, ◌∙◌, subst, arith, Result, Ok, Err, IfOk, IfErr}
 use Rattle.std.specs.Result.{result_and}
-use Rattle.iloc_grammar.specs.Pieces.{pieces}
-use Rattle.iloc_grammar.specs.Words.{Language, is_word, IsWord, languages, two_or_three}
-use Rattle.iloc_grammar.specs.Written.{identifier_pieces}
-use Rattle.iloc_grammar.specs.Meaning as meaning
-use Rattle.iloc_grammar.specs.Meaning.{Means}
-use Rattle.iloc_grammar.specs.ByBlocks.{BlocksMean}
-use Rattle.iloc_grammar.specs.Values.{IsValue, IsWellFormed}
-use Rattle.iloc_grammar.specs.Blocks.{head, blocks, tail_blocks, first_piece}
-use Rattle.iloc_grammar.specs.Reading.{rest_of, front_of, after_head, starts_block}
-use Rattle.iloc_grammar.specs.Faults as faults
-use Rattle.iloc_grammar.specs.Faults.{Fault, HasFault, no_language, no_identifier, bad_block, SpellsIdentifier, not_a_language, not_an_identifier}
-use Rattle.iloc_grammar.specs.Steps.{Chain}
-use Rattle.iloc_grammar.proofs.RawLaws.{languages_table}
-use Rattle.iloc_grammar.proofs.BlockLaws.{blocks_mean}
-use Rattle.iloc_grammar.proofs.FaultLaws.{accepted_no_fault, one_fault}
-use Rattle.iloc_grammar.proofs.WellRead.{means_value, means_well_formed}
-use Rattle.iloc_grammar.proofs.WiderTables.{means_ours}
-use Rattle.iloc_grammar.proofs.CaseLaws.{text_step_means}
-use Rattle.iloc_grammar.proofs.Readings as readings
-use Rattle.iloc_grammar.proofs.Readings.{head-spelling}
-use Rattle.iloc_grammar.proofs.ReadingLaws.{from_block_starts, front_of-pieces}
-use Rattle.iloc_small.specs.Inline.{IsInline}
-use Rattle.iloc_small.specs.InlineBlocks.{ReachesLongBlock}
-use Rattle.iloc_small.proofs.InlineBlockLaws.{inline_by_blocks, none_long}
+use Rattle.iloc_spec_grammar.specs.Pieces.{pieces}
+use Rattle.iloc_spec_grammar.specs.Words.{Language, is_word, IsWord, languages, two_or_three}
+use Rattle.iloc_spec_grammar.specs.Written.{identifier_pieces}
+use Rattle.iloc_spec_grammar.specs.Meaning as meaning
+use Rattle.iloc_spec_grammar.specs.Meaning.{Means}
+use Rattle.iloc_spec_grammar.specs.ByBlocks.{BlocksMean}
+use Rattle.iloc_spec_grammar.specs.Values.{IsValue, IsWellFormed}
+use Rattle.iloc_spec_grammar.specs.Blocks.{head, blocks, tail_blocks, first_piece}
+use Rattle.iloc_spec_grammar.specs.Reading.{rest_of, front_of, after_head, starts_block}
+use Rattle.iloc_spec_grammar.specs.Faults as faults
+use Rattle.iloc_spec_grammar.specs.Faults.{Fault, HasFault, no_language, no_identifier, bad_block, SpellsIdentifier, not_a_language, not_an_identifier}
+use Rattle.iloc_spec_grammar.specs.Steps.{Chain}
+use Rattle.iloc_spec_grammar.proofs.RawLaws.{languages_table}
+use Rattle.iloc_spec_grammar.proofs.BlockLaws.{blocks_mean}
+use Rattle.iloc_spec_grammar.proofs.FaultLaws.{accepted_no_fault, one_fault}
+use Rattle.iloc_spec_grammar.proofs.WellRead.{means_value, means_well_formed}
+use Rattle.iloc_spec_grammar.proofs.WiderTables.{means_ours}
+use Rattle.iloc_spec_grammar.proofs.CaseLaws.{text_step_means}
+use Rattle.iloc_spec_grammar.proofs.Readings as readings
+use Rattle.iloc_spec_grammar.proofs.Readings.{head-spelling}
+use Rattle.iloc_spec_grammar.proofs.ReadingLaws.{from_block_starts, front_of-pieces}
+use Rattle.iloc_spec_parts.specs.Inline.{IsInline}
+use Rattle.iloc_spec_parts.specs.InlineBlocks.{ReachesLongBlock}
+use Rattle.iloc_spec_parts.proofs.InlineBlockLaws.{inline_by_blocks, none_long}
 use Rattle.iloc_subtags.specs.declared.parse_error.ParseError.{ParseError}
 use Rattle.iloc_subtags.specs.declared.parse_error.ParseError.TheVariants.{InvalidLanguage, InvalidSubtag, InvalidExtension, DuplicatedExtension, OutOfMemory}
 use Rattle.iloc_langid.specs.declared.identifier.LanguageIdentifier.{LanguageIdentifier}
 use Rattle.iloc_langid.specs.Reads as langid
 use Rattle.iloc_langid.specs.Reads.{ReadsAs}
 use Rattle.iloc_extensions.specs.ExtensionsValue as extensions
-use Rattle.iloc_blocks.specs.Whole.{BlocksReadAs}
-use Rattle.iloc_blocks.proofs.RoundLaws.{blocks-from_block}
+use Rattle.iloc_extensions.specs.Whole.{BlocksReadAs}
+use Rattle.iloc_extensions.proofs.RoundLaws.{blocks-from_block}
 use Rattle.iloc_locale.specs.declared.locale.Locale.{Locale}
 use Rattle.iloc_locale.specs.LocaleValue.{value_of, unknown_locale}
 use Rattle.iloc_subtags.specs.Judging.{Accepts, Refuses}

@@ -1,16 +1,16 @@
 -- What the reader of small locales owes to each text.
 use Rattle.std.proofs.Common.{ℕ, List, Result, Ok, Err, IfOk}
-use Rattle.iloc_grammar.specs.Words.{languages}
-use Rattle.iloc_grammar.specs.Meaning.{Means}
-use Rattle.iloc_grammar.specs.Faults.{Fault}
-use Rattle.iloc_grammar.proofs.RawLaws.{languages_table}
-use Rattle.iloc_small.specs.Small.{SmallLocale, IsSmall, HasSmallFault, locale_of_small}
-use Rattle.iloc_small.proofs.SmallLaws.{small_means, one_small, small_apart, one_small_fault}
+use Rattle.iloc_spec_grammar.specs.Words.{languages}
+use Rattle.iloc_spec_grammar.specs.Meaning.{Means}
+use Rattle.iloc_spec_grammar.specs.Faults.{Fault}
+use Rattle.iloc_spec_grammar.proofs.RawLaws.{languages_table}
+use Rattle.iloc_spec_parts.specs.Small.{SmallLocale, IsSmall, HasSmallFault, locale_of_small}
+use Rattle.iloc_spec_parts.proofs.SmallLaws.{small_means, one_small, small_apart, one_small_fault}
 use Rattle.iloc_subtags.specs.declared.parse_error.ParseError.{ParseError}
 use Rattle.iloc_subtags.specs.Answers.{ButDuplicate}
 use Rattle.iloc_subtags.specs.Judging.{Accepts, Refuses}
 use Rattle.iloc_subtags.proofs.Judged.{Judges, accepts, refuses, but_duplicate}
-use Rattle.iloc_small_reader.specs.SmallLocaleReads.{LocaleParts, small_locale_of, SmallLocaleReadsAs}
+use Rattle.iloc_langid.specs.SmallLocaleReads.{LocaleParts, small_locale_of, SmallLocaleReadsAs}
 
 small_judges : (t : List ℕ) → Judges (IsSmall languages t) (HasSmallFault languages t)
 small_judges t = record { one = one_small languages_table t; apart = small_apart t; one_fault = λ f g. one_small_fault t }

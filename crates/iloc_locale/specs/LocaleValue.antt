@@ -1,6 +1,6 @@
 -- What a `Locale` stands for.
 use Rattle.std.specs.Prelude.{◌≡◌, [], None}
-use Rattle.iloc_grammar.specs.Meaning as meaning
+use Rattle.iloc_spec_grammar.specs.Meaning as meaning
 use Rattle.iloc_langid.specs.Reads as langid
 use Rattle.iloc_langid.specs.Unknown.{unknown_identifier}
 use Rattle.iloc_extensions.specs.ExtensionsValue as extensions

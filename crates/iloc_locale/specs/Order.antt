@@ -3,9 +3,9 @@ use Rattle.std.specs.Prelude.{◌≡◌, ◌↔◌}
 use Rattle.std.specs.declared.cmp.Ordering.{Ordering}
 use Rattle.std.specs.declared.cmp.Ordering.TheVariants.{Equal}
 use Rattle.std.specs.Cmp.{IsTotalOrder, on_total}
-use Rattle.iloc_grammar.specs.Meaning.{Locale}
-use Rattle.iloc_orders.specs.Orders.{locale_cmp}
-use Rattle.iloc_orders.proofs.OrderLaws.{locale_exact}
+use Rattle.iloc_spec_grammar.specs.Meaning.{Locale}
+use Rattle.iloc_spec_orders.specs.Orders.{locale_cmp}
+use Rattle.iloc_spec_orders.proofs.OrderLaws.{locale_exact}
 use Rattle.iloc_locale.specs.LocaleValue as locale
 use Rattle.iloc_locale.specs.declared.ordered.OrderedLocale.{OrderedLocale}
 

@@ -2,10 +2,10 @@
 ghost use Rattle.std.specs.Prelude.{◌≡◌, ◌↔◌, false, IsTrue, IfOk};
 ghost use Rattle.std.specs.Ordering.{nat_cmp};
 ghost use Rattle.std.specs.Cmp.Lexicographic.{slice_cmp};
-ghost use Rattle.iloc_grammar.specs.Words.{languages};
-ghost use Rattle.iloc_grammar.specs.Meaning.{Means};
-ghost use Rattle.iloc_grammar.specs.Values.{text};
-ghost use Rattle.iloc_orders.specs.Orders.{locale_cmp};
+ghost use Rattle.iloc_spec_grammar.specs.Words.{languages};
+ghost use Rattle.iloc_spec_grammar.specs.Meaning.{Means};
+ghost use Rattle.iloc_spec_grammar.specs.Values.{text};
+ghost use Rattle.iloc_spec_orders.specs.Orders.{locale_cmp};
 
 use crate::locale::Locale;
 use iloc_subtags::ParseError;

@@ -1,6 +1,6 @@
 //! Locales from their parts, and back.
 ghost use Rattle.std.specs.Prelude.{◌≡◌, None, [], codes};
-ghost use Rattle.iloc_grammar.specs.Meaning.{without_extensions};
+ghost use Rattle.iloc_spec_grammar.specs.Meaning.{without_extensions};
 ghost use Rattle.iloc_langid.specs.Reads.{value_of as identifier_of};
 
 use crate::locale::Locale;

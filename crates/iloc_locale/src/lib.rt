@@ -11,11 +11,11 @@
 //! that of a locale no text means is `false`.
 //!
 //! It stands on the public contracts of the identifiers (`iloc_langid`), the extensions (`iloc_extensions`),
-//! their parser (`iloc_blocks`) and the laws of the grammar (`iloc_grammar`).
+//! their parser (`iloc_extensions`) and the laws of the grammar (`iloc_spec_grammar`).
 #![tactic(auto)]
 
 ghost use Rattle.std.specs.Prelude.{◌≡◌, ◌↔◌, IsTrue};
-ghost use Rattle.iloc_orders.specs.Hashes.{locale_fed};
+ghost use Rattle.iloc_spec_orders.specs.Hashes.{locale_fed};
 ghost use Rattle.iloc_locale.specs.LocaleValue.{value_of};
 
 use std::hash::Hash;

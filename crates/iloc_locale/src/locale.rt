@@ -1,27 +1,26 @@
 //! The type, and its parsers.
 ghost use Rattle.std.specs.Prelude.{◌≡◌, ℕ, true, List, IsOk, IfOk, IfErr, Ok, OnErr};
 ghost use Rattle.std.specs.Result.{result_and};
-ghost use Rattle.iloc_grammar.specs.Pieces.{pieces};
-ghost use Rattle.iloc_grammar.specs.Words.{languages, two_or_three};
-ghost use Rattle.iloc_grammar.specs.Meaning as meaning;
-ghost use Rattle.iloc_grammar.specs.Meaning.{Means};
-ghost use Rattle.iloc_grammar.specs.Blocks.{head};
-ghost use Rattle.iloc_grammar.specs.Reading.{after_head, starts_block};
-ghost use Rattle.iloc_grammar.specs.Faults.{Fault, HasFault};
-ghost use Rattle.iloc_grammar.specs.Steps.{Chain};
-ghost use Rattle.iloc_grammar.specs.Values.{IsValue, IsWellFormed};
-ghost use Rattle.iloc_small.specs.Inline.{IsInline};
-ghost use Rattle.iloc_parser.specs.Left.{left};
+ghost use Rattle.iloc_spec_grammar.specs.Shapes.{Text};
+ghost use Rattle.iloc_spec_grammar.specs.Pieces.{pieces};
+ghost use Rattle.iloc_spec_grammar.specs.Words.{languages, two_or_three};
+ghost use Rattle.iloc_spec_grammar.specs.Meaning as meaning;
+ghost use Rattle.iloc_spec_grammar.specs.Meaning.{Means};
+ghost use Rattle.iloc_spec_grammar.specs.Blocks.{head};
+ghost use Rattle.iloc_spec_grammar.specs.Reading.{after_head, starts_block};
+ghost use Rattle.iloc_spec_grammar.specs.Faults.{Fault, HasFault};
+ghost use Rattle.iloc_spec_grammar.specs.Steps.{Chain};
+ghost use Rattle.iloc_spec_grammar.specs.Values.{IsValue, IsWellFormed};
+ghost use Rattle.iloc_spec_parts.specs.Inline.{IsInline};
+ghost use Rattle.iloc_subtags.specs.Left.{left};
 ghost use Rattle.iloc_langid.specs.Reads as langid;
 ghost use Rattle.iloc_locale.specs.LocaleValue.{value_of, unknown_locale};
 ghost use Rattle.iloc_locale.specs.Reads.{LocaleReadsAs};
 
-use iloc_blocks::read_blocks;
-use iloc_extensions::Extensions;
+use iloc_extensions::{Extensions, read_blocks};
 use iloc_langid::LanguageIdentifier;
 use iloc_langid::reader::fill_head;
-use iloc_parser::SubtagIterator;
-use iloc_subtags::ParseError;
+use iloc_subtags::{ParseError, SubtagIterator};
 use std::alloc::Global;
 
 /// An identifier with extensions: a `unicode_locale_id` of UTS #35 section 3.
@@ -44,7 +43,7 @@ pub struct Locale {
 
 impl Locale {
     ghost use Rattle.iloc_extensions.specs.ExtensionsValue as extensions;
-    ghost use Rattle.iloc_grammar.specs.Meaning.{no_extensions};
+    ghost use Rattle.iloc_spec_grammar.specs.Meaning.{no_extensions};
     ghost use Rattle.iloc_locale.specs.Reads.{WantsMemory};
     ghost use Rattle.iloc_subtags.specs.Judging.{Accepts, Refuses};
 
@@ -74,7 +73,7 @@ impl Locale {
         ensures succeeds { IsInline languages code_units.now → IsOk result }
         ensures well_formed { IfOk result
             (λ l. IsValue languages (value_of l) × IsWellFormed (value_of l)) }
-        ensures steps { IfOk result (λ l. (n : ℕ) (u : List ℕ)
+        ensures steps { IfOk result (λ l. (n : ℕ) (u : Text)
             → Chain languages n code_units.now u → Means languages u (value_of l)) }
         ensures narrow { (M : meaning.Locale) → Means two_or_three code_units.now M
             → IfOk result (λ l. value_of l ≡ M) }
@@ -114,7 +113,7 @@ impl Locale {
         ensures succeeds { IsInline languages s.now → IsOk result }
         ensures well_formed { IfOk result
             (λ l. IsValue languages (value_of l) × IsWellFormed (value_of l)) }
-        ensures steps { IfOk result (λ l. (n : ℕ) (u : List ℕ)
+        ensures steps { IfOk result (λ l. (n : ℕ) (u : Text)
             → Chain languages n s.now u → Means languages u (value_of l)) }
         ensures narrow { (M : meaning.Locale) → Means two_or_three s.now M
             → IfOk result (λ l. value_of l ≡ M) }
@@ -149,7 +148,7 @@ pub fn read_rest(
     locale: &mut Locale,
 ) -> Result<(), ParseError>
     requires starts { starts_block (left iter.old) ≡ true }
-    ensures { (t : List ℕ) → langid.ReadsAs (head (pieces t)) (Ok locale.old.id)
+    ensures { (t : Text) → langid.ReadsAs (head (pieces t)) (Ok locale.old.id)
         → left iter.old ≡ after_head (pieces t)
         → LocaleReadsAs t (result_and result (Ok locale.new)) }
 {

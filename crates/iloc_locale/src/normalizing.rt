@@ -1,20 +1,20 @@
 //! Normal texts of locales, and whether a locale has one.
 ghost use Rattle.std.specs.Prelude.{◌≡◌, ◌↔◌, IsTrue, IsOk, IfOk, IfErr};
 ghost use Rattle.std.specs.Cow.{cow_str_bytes};
-ghost use Rattle.iloc_grammar.specs.Words.{languages};
-ghost use Rattle.iloc_grammar.specs.Meaning as meaning;
-ghost use Rattle.iloc_grammar.specs.Meaning.{Means};
-ghost use Rattle.iloc_grammar.specs.Values.{IsValue, IsWellFormed, text};
-ghost use Rattle.iloc_small.specs.Inline.{IsInline};
+ghost use Rattle.iloc_spec_grammar.specs.Words.{languages};
+ghost use Rattle.iloc_spec_grammar.specs.Meaning as meaning;
+ghost use Rattle.iloc_spec_grammar.specs.Meaning.{Means};
+ghost use Rattle.iloc_spec_grammar.specs.Values.{IsValue, IsWellFormed, text};
+ghost use Rattle.iloc_spec_parts.specs.Inline.{IsInline};
 ghost use Rattle.iloc_writeable.specs.Writing.{IsLent};
-ghost use Rattle.iloc_grammar.specs.Faults.{Fault};
-ghost use Rattle.iloc_small.specs.Small.{SmallLocale, IsSmall, HasSmallFault, locale_of_small};
+ghost use Rattle.iloc_spec_grammar.specs.Faults.{Fault};
+ghost use Rattle.iloc_spec_parts.specs.Small.{SmallLocale, IsSmall, HasSmallFault, locale_of_small};
 ghost use Rattle.iloc_subtags.specs.Judging.{Accepts, Refuses};
-ghost use Rattle.iloc_small_reader.specs.SmallLocaleReads.{SmallLocaleReadsAs, small_locale_of};
+ghost use Rattle.iloc_langid.specs.SmallLocaleReads.{SmallLocaleReadsAs, small_locale_of};
 
 use crate::locale::Locale;
 use iloc_extensions::is_well_formed;
-use iloc_small_reader::read_small_locale;
+use iloc_langid::read_small_locale;
 use iloc_subtags::{Language, ParseError, Region, Script, Subtag, UnicodeKey, Variant};
 use iloc_writeable::to_string_or_borrow;
 use std::alloc::Global;

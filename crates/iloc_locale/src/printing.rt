@@ -1,7 +1,7 @@
 //! Prints locales.
 ghost use Rattle.std.specs.Prelude.{◌≡◌, IfOk, IsOkAnd};
 ghost use Rattle.std.specs.Cow.{cow_str_bytes};
-ghost use Rattle.iloc_grammar.specs.Values.{IsWellFormed, text};
+ghost use Rattle.iloc_spec_grammar.specs.Values.{IsWellFormed, text};
 ghost use Rattle.iloc_writeable.specs.Writing.{IsLent};
 
 use crate::locale::Locale;
@@ -33,8 +33,8 @@ impl Locale {
 
 /// The pieces are those of the identifier, and then those of the extensions.
 impl Pieces for Locale {
-    ghost use Rattle.iloc_grammar.specs.Written.{spelling};
-    ghost use Rattle.iloc_grammar.specs.Values.{printed};
+    ghost use Rattle.iloc_spec_grammar.specs.Written.{spelling};
+    ghost use Rattle.iloc_spec_grammar.specs.Values.{printed};
     ghost use Rattle.iloc_locale.specs.LocaleValue.{value_of};
 
     ghost pieces = { λ l. spelling (printed (value_of l)) };
@@ -51,14 +51,14 @@ impl Pieces for Locale {
 /// Prints the normal text: the identifier, and then the extensions, joined by hyphens. It is defined for every
 /// locale, well-formed or not, and borrowed if there is a language and nothing else.
 impl Writeable for Locale {
-    ghost use Rattle.iloc_grammar.specs.Values.{text};
+    ghost use Rattle.iloc_spec_grammar.specs.Values.{text};
     ghost use Rattle.iloc_locale.specs.LocaleValue.{value_of, IsLanguageAlone};
 
     ghost text = { λ l. text (value_of l) };
 
     ghost lends = { IsLanguageAlone };
 
-    #[tactic(auto, unfolding(iloc_grammar::specs::Pieces::join))]
+    #[tactic(auto, unfolding(iloc_spec_grammar::specs::Pieces::join))]
     fn write_to<S: Sink>(&self, sink: &mut S) -> fmt::Result {
         self.write_joined(sink)
     }
@@ -74,7 +74,7 @@ impl Writeable for Locale {
 /// Prints the text itself.
 impl fmt::Debug for Locale {
     ghost use Rattle.std.specs.Prelude.{Some};
-    ghost use Rattle.iloc_grammar.specs.Values.{text};
+    ghost use Rattle.iloc_spec_grammar.specs.Values.{text};
     ghost use Rattle.iloc_locale.specs.LocaleValue.{value_of};
 
     ghost debug_output = { λ l. Some (text (value_of l)) };
@@ -86,7 +86,7 @@ impl fmt::Debug for Locale {
 
 impl fmt::Display for Locale {
     ghost use Rattle.std.specs.Prelude.{Some};
-    ghost use Rattle.iloc_grammar.specs.Values.{text};
+    ghost use Rattle.iloc_spec_grammar.specs.Values.{text};
     ghost use Rattle.iloc_locale.specs.LocaleValue.{value_of};
 
     ghost output = { λ l. Some (text (value_of l)) };

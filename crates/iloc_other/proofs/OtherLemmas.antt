@@ -8,11 +8,11 @@ use Rattle.std.proofs.lemmas.List.{map-append}
 use Rattle.std.proofs.lemmas.List.Elements.{All-cons, All-nil}
 use Rattle.std.proofs.lemmas.Str.{IsUtf8-from_ascii}
 use Rattle.std.proofs.lemmas.Str.Ascii.{IsAscii-from_all}
-use Rattle.iloc_grammar.specs.Words.{Subtag, is_word, lower}
-use Rattle.iloc_grammar.specs.Written.{kept}
-use Rattle.iloc_grammar.specs.Faults as faults
-use Rattle.iloc_grammar.specs.Reading.{take_first, skip_first, passing, past}
-use Rattle.iloc_fronts.specs.Fronts.{has_other_length, other_front, OtherRead, OtherFault, no_word}
+use Rattle.iloc_spec_grammar.specs.Words.{Subtag, is_word, lower}
+use Rattle.iloc_spec_grammar.specs.Written.{kept}
+use Rattle.iloc_spec_grammar.specs.Faults as faults
+use Rattle.iloc_spec_grammar.specs.Reading.{take_first, skip_first, passing, past}
+use Rattle.iloc_spec_parts.specs.Fronts.{has_other_length, other_front, OtherRead, OtherFault, no_word}
 
 -- a piece of the front was taken, or none
 pub took : (test : List ℕ → Bool) (ps : List (List ℕ)) (p : List ℕ) → Some p ≡ take_first test ps → (test p ≡ true) × (ps ≡ p ∷ skip_first test ps)

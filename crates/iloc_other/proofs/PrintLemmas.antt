@@ -4,8 +4,8 @@ use Rattle.std.specs.List.{flat_map}
 use Rattle.std.proofs.lemmas.Bool.Decides.{nat_tests}
 use Rattle.iloc_writeable.specs.Pieces.{hyphened, is_there}
 use Rattle.iloc_writeable.proofs.PiecesLemmas.{flat_map_words}
-use Rattle.iloc_grammar.specs.Values.{private_spelling, other_spelling}
-use Rattle.iloc_grammar.proofs.PartTexts.{private_spelling_is, private_spelling_none, other_spelling_is}
+use Rattle.iloc_spec_grammar.specs.Values.{private_spelling, other_spelling}
+use Rattle.iloc_spec_grammar.proofs.PartTexts.{private_spelling_is, private_spelling_none, other_spelling_is}
 
 -- where there is no piece, nothing is written
 nothing_written : (first : Bool) (ps : List (List ℕ)) → ps ≡ [] → [] ≡ hyphened first ps

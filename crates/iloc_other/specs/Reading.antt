@@ -1,42 +1,43 @@
 -- What the readers of the private extension and of other extensions answer.
 use Rattle.std.specs.Prelude.{◌≡◌, ℕ, ◌<◌, true, List, length, Result}
-use Rattle.iloc_grammar.specs.Pieces.{pieces}
-use Rattle.iloc_grammar.specs.Written.{kept, is_other_singleton}
-use Rattle.iloc_grammar.specs.Faults as faults
-use Rattle.iloc_grammar.specs.Reading.{rest_of}
-use Rattle.iloc_fronts.specs.Fronts.{OtherRead, OtherFault, PrivateRead, PrivateFault, other_front, private_front}
-use Rattle.iloc_fronts.specs.Parts.{begins_part, is_letter, OtherText, OtherTextFault, PrivateText, PrivateTextFault}
+use Rattle.iloc_spec_grammar.specs.Shapes.{Text, code_x}
+use Rattle.iloc_spec_grammar.specs.Pieces.{pieces}
+use Rattle.iloc_spec_grammar.specs.Written.{kept, is_other_singleton}
+use Rattle.iloc_spec_grammar.specs.Faults as faults
+use Rattle.iloc_spec_grammar.specs.Reading.{rest_of}
+use Rattle.iloc_spec_parts.specs.Fronts.{OtherRead, OtherFault, PrivateRead, PrivateFault, other_front, private_front}
+use Rattle.iloc_spec_parts.specs.Parts.{begins_part, is_letter, OtherText, OtherTextFault, PrivateText, PrivateTextFault}
 use Rattle.iloc_subtags.specs.declared.parse_error.ParseError.{ParseError}
 use Rattle.iloc_subtags.specs.Answers.{Answers, ExtensionFault}
 
 -- What the pieces after `x` are read as, and the pieces that are left. Memory may run out only for a fifth word.
-abbrev pub PrivateReads : List (List ℕ) → List (List ℕ) → Result (List (List ℕ)) ParseError → Type 0
+abbrev pub PrivateReads : List Text → List Text → Result (List Text) ParseError → Type 0
 PrivateReads ps rest = Answers (λ ws. PrivateRead ps ws rest)
     (ExtensionFault (PrivateFault ps faults.InvalidExtension))
     (4 < length (private_front ps))
 
--- memory may run out on a text only after `x` (120), the letter of such an extension
-abbrev pub PrivateTextWants : List ℕ → Type 0
-PrivateTextWants t = (begins_part (is_letter 120) (pieces t) ≡ true) × (4 < length (private_front (rest_of (pieces t))))
+-- memory may run out on a text only after `x`, the letter of such an extension
+abbrev pub PrivateTextWants : Text → Type 0
+PrivateTextWants t = (begins_part (is_letter code_x) (pieces t) ≡ true) × (4 < length (private_front (rest_of (pieces t))))
 
 -- what a text is read as
-abbrev pub PrivateTextReads : List ℕ → Result (List (List ℕ)) ParseError → Type 0
+abbrev pub PrivateTextReads : Text → Result (List Text) ParseError → Type 0
 PrivateTextReads t = Answers (PrivateText t)
     (ExtensionFault (PrivateTextFault t faults.InvalidExtension))
     (PrivateTextWants t)
 
 -- What the pieces after the singleton ext are read as, and the pieces that are left. Memory may run out only for a fifth word.
-abbrev pub OtherReads : ℕ → List (List ℕ) → List (List ℕ) → Result (ℕ × List (List ℕ)) ParseError → Type 0
+abbrev pub OtherReads : ℕ → List Text → List Text → Result (ℕ × List Text) ParseError → Type 0
 OtherReads ext ps rest = Answers (λ o. (o.0 ≡ ext) × OtherRead ps o.1 rest)
     (ExtensionFault (OtherFault ps faults.InvalidExtension))
     (4 < length (kept (other_front ps)))
 
 -- memory may run out on a text only after the singleton of such an extension
-abbrev pub OtherTextWants : List ℕ → Type 0
+abbrev pub OtherTextWants : Text → Type 0
 OtherTextWants t = (begins_part is_other_singleton (pieces t) ≡ true) × (4 < length (kept (other_front (rest_of (pieces t)))))
 
 -- what a text is read as
-abbrev pub OtherTextReads : List ℕ → Result (ℕ × List (List ℕ)) ParseError → Type 0
+abbrev pub OtherTextReads : Text → Result (ℕ × List Text) ParseError → Type 0
 OtherTextReads t = Answers (OtherText t)
     (ExtensionFault (OtherTextFault t faults.InvalidExtension))
     (OtherTextWants t)

@@ -2,15 +2,16 @@
 //!
 //! A private extension is a list of private words, an other extension a singleton and a list of
 //! subtags. Readers take exactly what the grammar of UTS #35, section 3, allows after a singleton,
-//! by the relations of `iloc_fronts`, which also say what that means for a locale. Both print as the
+//! by the relations of `iloc_spec_parts`, which also say what that means for a locale. Both print as the
 //! normal text does.
-//! The crate stands on the words of `iloc_subtags`, the pieces of `iloc_parser` and the lists of words of
+//! The crate stands on the words of `iloc_subtags`, the pieces of `iloc_subtags` and the lists of words of
 //! `iloc_word_set`.
 #![tactic(auto)]
 
 ghost use Rattle.std.specs.Prelude.{◌≡◌, ◌↔◌, IsTrue, ℕ, List};
-ghost use Rattle.iloc_orders.specs.Orders.{words_cmp, other_cmp};
-ghost use Rattle.iloc_orders.specs.Hashes.{words_fed, other_fed};
+ghost use Rattle.iloc_spec_grammar.specs.Shapes.{Text};
+ghost use Rattle.iloc_spec_orders.specs.Orders.{words_cmp, other_cmp};
+ghost use Rattle.iloc_spec_orders.specs.Hashes.{words_fed, other_fed};
 
 use std::hash::Hash;
 
@@ -23,18 +24,18 @@ pub use private::Private;
 
 /// Both stand in the orders of the definitions.
 pub fn orders()
-    ensures private { (v w : List (List ℕ)) → ⟦<Private as Ord>⟧.cmp v w ≡ words_cmp v w }
+    ensures private { (v w : List Text) → ⟦<Private as Ord>⟧.cmp v w ≡ words_cmp v w }
     ensures other { (o q : ℕ × List (List ℕ)) → ⟦<Other as Ord>⟧.cmp o q ≡ other_cmp o q }
 {}
 
 /// `==` tells whether the two are the same.
 pub fn equality()
-    ensures private { (v w : List (List ℕ)) → IsTrue (⟦<Private as PartialEq>⟧.eq v w) ↔ (v ≡ w) }
+    ensures private { (v w : List Text) → IsTrue (⟦<Private as PartialEq>⟧.eq v w) ↔ (v ≡ w) }
     ensures other { (o q : ℕ × List (List ℕ)) → IsTrue (⟦<Other as PartialEq>⟧.eq o q) ↔ (o ≡ q) }
 {}
 
 /// What a hasher is fed is what the definitions say.
 pub fn hashes()
-    ensures private { (v : List (List ℕ)) → ⟦<Private as Hash>⟧.hash_input v ≡ words_fed v }
+    ensures private { (v : List Text) → ⟦<Private as Hash>⟧.hash_input v ≡ words_fed v }
     ensures other { (o : ℕ × List (List ℕ)) → ⟦<Other as Hash>⟧.hash_input o ≡ other_fed o }
 {}

@@ -3,20 +3,19 @@ ghost use Rattle.std.specs.Prelude.{◌≡◌, ℕ, List, ◌<◌, ◌++◌, ◌
 ghost use Rattle.std.specs.Char.{is_ascii_alphanumeric};
 ghost use Rattle.std.specs.List.{AllByRecursion};
 ghost use Rattle.std.specs.Option.{option_copied};
-ghost use Rattle.iloc_grammar.specs.Words.{Subtag as the_kind, is_word, lower};
-ghost use Rattle.iloc_grammar.specs.Written.{is_other_singleton};
-ghost use Rattle.iloc_grammar.specs.Reading.{take_first, skip_first};
-ghost use Rattle.iloc_grammar.specs.Values.{IsNormal, other_spelling, other_text};
-ghost use Rattle.iloc_grammar.specs.Faults.{Fault};
-ghost use Rattle.iloc_fronts.specs.Fronts.{has_other_length};
-ghost use Rattle.iloc_fronts.specs.Parts.{OtherText, OtherTextFault};
+ghost use Rattle.iloc_spec_grammar.specs.Words.{Subtag as the_kind, is_word, lower};
+ghost use Rattle.iloc_spec_grammar.specs.Written.{is_other_singleton};
+ghost use Rattle.iloc_spec_grammar.specs.Reading.{take_first, skip_first};
+ghost use Rattle.iloc_spec_grammar.specs.Values.{IsNormal, other_spelling, other_text};
+ghost use Rattle.iloc_spec_grammar.specs.Faults.{Fault};
+ghost use Rattle.iloc_spec_parts.specs.Fronts.{has_other_length};
+ghost use Rattle.iloc_spec_parts.specs.Parts.{OtherText, OtherTextFault};
 ghost use Rattle.iloc_subtags.specs.Judging.{Accepts, Refuses};
-ghost use Rattle.iloc_parser.specs.Left.{left};
+ghost use Rattle.iloc_subtags.specs.Left.{left};
 ghost use Rattle.iloc_other.specs.Reading.{OtherReads, OtherTextReads, OtherTextWants};
 
 use crate::singleton::take_singleton;
-use iloc_parser::SubtagIterator;
-use iloc_subtags::{ParseError, Subtag, SubtagKind};
+use iloc_subtags::{ParseError, Subtag, SubtagIterator, SubtagKind};
 use iloc_word_set::WordList;
 use iloc_writeable::{Pieces, Sink, Writeable};
 use std::alloc::{AllocError, Global};
@@ -213,7 +212,7 @@ impl Pieces for Other {
 impl Writeable for Other {
     ghost text = { other_text };
 
-    #[tactic(auto, unfolding(iloc_grammar::specs::Values::other_text, iloc_grammar::specs::Pieces::join))]
+    #[tactic(auto, unfolding(iloc_spec_grammar::specs::Values::other_text, iloc_spec_grammar::specs::Pieces::join))]
     fn write_to<S: Sink>(&self, sink: &mut S) -> fmt::Result {
         self.write_joined(sink)
     }

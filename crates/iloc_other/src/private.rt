@@ -4,19 +4,19 @@ ghost use Rattle.std.specs.List.{AllByRecursion};
 ghost use Rattle.std.specs.Option.{option_copied};
 ghost use Rattle.std.specs.Result.{result_and};
 ghost use Rattle.std.specs.Slice.Iter.{iter_rest};
-ghost use Rattle.iloc_grammar.specs.Values.{private_text, private_spelling};
-ghost use Rattle.iloc_grammar.specs.Pieces.{pieces};
-ghost use Rattle.iloc_grammar.specs.Values.{IsNormal};
-ghost use Rattle.iloc_grammar.specs.Words.{PrivateSubtag as the_kind};
-ghost use Rattle.iloc_parser.specs.Left.{left};
-ghost use Rattle.iloc_grammar.specs.Faults.{Fault};
-ghost use Rattle.iloc_fronts.specs.Parts.{PrivateText, PrivateTextFault};
+ghost use Rattle.iloc_spec_grammar.specs.Shapes.{Text};
+ghost use Rattle.iloc_spec_grammar.specs.Values.{private_text, private_spelling};
+ghost use Rattle.iloc_spec_grammar.specs.Pieces.{pieces};
+ghost use Rattle.iloc_spec_grammar.specs.Values.{IsNormal};
+ghost use Rattle.iloc_spec_grammar.specs.Words.{PrivateSubtag as the_kind};
+ghost use Rattle.iloc_subtags.specs.Left.{left};
+ghost use Rattle.iloc_spec_grammar.specs.Faults.{Fault};
+ghost use Rattle.iloc_spec_parts.specs.Parts.{PrivateText, PrivateTextFault};
 ghost use Rattle.iloc_subtags.specs.Judging.{Accepts, Refuses};
 ghost use Rattle.iloc_other.specs.Reading.{PrivateReads, PrivateTextReads, PrivateTextWants};
 
 use crate::singleton::take_singleton;
-use iloc_parser::SubtagIterator;
-use iloc_subtags::{ParseError, PrivateSubtag, PrivateSubtagKind};
+use iloc_subtags::{ParseError, PrivateSubtag, PrivateSubtagKind, SubtagIterator};
 use iloc_word_set::WordList;
 use iloc_writeable::{Pieces, Sink, Writeable};
 use std::alloc::{AllocError, Global};
@@ -119,7 +119,7 @@ impl Private {
     /// `InvalidExtension`. `OutOfMemory` comes only if there are more than four words.
     pub fn try_from_utf8(alloc: Global, code_units: &[u8]) -> Result<Self, ParseError>
         ensures reads { PrivateTextReads code_units.now result }
-        ensures accepted { (ws : List (List ℕ)) → PrivateText code_units.now ws
+        ensures accepted { (ws : List Text) → PrivateText code_units.now ws
             → Accepts (λ p. p) (PrivateTextWants code_units.now) ws result }
         ensures refused { (f : Fault) → PrivateTextFault code_units.now f
             → Refuses (PrivateTextWants code_units.now) f result }
@@ -144,7 +144,7 @@ impl Private {
     /// Parses a `str`, as `try_from_utf8` parses bytes.
     pub fn try_from_str(alloc: Global, s: &str) -> Result<Self, ParseError>
         ensures reads { PrivateTextReads s.now result }
-        ensures accepted { (ws : List (List ℕ)) → PrivateText s.now ws
+        ensures accepted { (ws : List Text) → PrivateText s.now ws
             → Accepts (λ p. p) (PrivateTextWants s.now) ws result }
         ensures refused { (f : Fault) → PrivateTextFault s.now f
             → Refuses (PrivateTextWants s.now) f result }
@@ -228,7 +228,7 @@ impl Pieces for Private {
 impl Writeable for Private {
     ghost text = { private_text };
 
-    #[tactic(auto, unfolding(iloc_grammar::specs::Values::private_text, iloc_grammar::specs::Pieces::join))]
+    #[tactic(auto, unfolding(iloc_spec_grammar::specs::Values::private_text, iloc_spec_grammar::specs::Pieces::join))]
     fn write_to<S: Sink>(&self, sink: &mut S) -> fmt::Result {
         self.write_joined(sink)
     }

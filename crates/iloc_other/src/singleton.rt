@@ -1,10 +1,10 @@
 //! The singleton that a part begins with.
 ghost use Rattle.std.specs.Prelude.{◌≡◌};
-ghost use Rattle.iloc_grammar.specs.Reading.{rest_of};
-ghost use Rattle.iloc_parser.specs.Left.{left};
+ghost use Rattle.iloc_spec_grammar.specs.Reading.{rest_of};
+ghost use Rattle.iloc_subtags.specs.Left.{left};
 ghost use Rattle.iloc_other.specs.Singleton.{singleton_at};
 
-use iloc_parser::SubtagIterator;
+use iloc_subtags::SubtagIterator;
 
 /// Takes the next piece, and returns its byte in lower case if it has just one.
 pub fn take_singleton(iter: &mut SubtagIterator<'_>) -> Option<u8>

@@ -6,10 +6,10 @@ use Rattle.std.proofs.lemmas.Bool.{cases_Bool, true≢false}
 use Rattle.std.proofs.lemmas.Bool.Decides.{nat_tests}
 use Rattle.std.proofs.lemmas.List.{get_or-take}
 use Rattle.std.proofs.lemmas.List.Splits.{slice_split-cons_yes, slice_split-cons_no}
-use Rattle.iloc_grammar.specs.Pieces.{pieces}
-use Rattle.iloc_grammar.specs.Blocks.{first_piece}
-use Rattle.iloc_grammar.specs.Words.{Language, is_word, letters, languages}
-use Rattle.iloc_grammar.proofs.RawLaws.{languages_table}
+use Rattle.iloc_spec_grammar.specs.Pieces.{pieces}
+use Rattle.iloc_spec_grammar.specs.Blocks.{first_piece}
+use Rattle.iloc_spec_grammar.specs.Words.{Language, is_word, letters, languages}
+use Rattle.iloc_spec_grammar.proofs.RawLaws.{languages_table}
 
 abbrev hyphen : ℕ → Bool
 hyphen b = b == 45

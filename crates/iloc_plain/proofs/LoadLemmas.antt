@@ -3,8 +3,8 @@ use Rattle.std.proofs.Common.{◌≡◌, ℕ, zero, suc, ◌+◌, ◌-◌, ◌*�
 use Rattle.std.proofs.lemmas.List.{take-append-drop, length-take-le, length-drop, get_or-drop, drop-drop}
 use Rattle.std.proofs.Math.Nat.{div-div-eq-div-mul, zero-div}
 use Rattle.std.proofs.lemmas.Nat.{pow-add}
-use Rattle.iloc_short_pieces.specs.Number.{number, bytes}
-use Rattle.iloc_short_pieces.proofs.RawForms.{bytes-text, Bytes}
+use Rattle.iloc_tinystr.specs.Number.{number, bytes}
+use Rattle.iloc_tinystr.proofs.RawForms.{bytes-text, Bytes}
 
 -- ---- the bytes of two numbers
 

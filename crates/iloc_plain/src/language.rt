@@ -1,9 +1,9 @@
 //! Tells that a text begins with no language.
 ghost use Rattle.std.specs.Prelude.{◌≡◌, ◌≤◌, ◌<◌, ℕ, length, take, get_or, true, false, IsTrue};
 ghost use Rattle.std.specs.Char.{is_ascii_alphabetic};
-ghost use Rattle.iloc_grammar.specs.Pieces.{pieces};
-ghost use Rattle.iloc_grammar.specs.Blocks.{first_piece};
-ghost use Rattle.iloc_grammar.specs.Words.{Language, is_word, languages};
+ghost use Rattle.iloc_spec_grammar.specs.Pieces.{pieces};
+ghost use Rattle.iloc_spec_grammar.specs.Blocks.{first_piece};
+ghost use Rattle.iloc_spec_grammar.specs.Words.{Language, is_word, languages};
 
 use crate::lanes::letters_in;
 use crate::marks::is_language_length;

@@ -1,9 +1,9 @@
 //! A plain identifier as its normal text.
 ghost use Rattle.std.specs.Prelude.{◌≡◌, ◌≤◌, length, take, drop};
-ghost use Rattle.iloc_grammar.specs.Words.{languages};
-ghost use Rattle.iloc_grammar.specs.Values.{IsIdentifierValue, identifier_text};
+ghost use Rattle.iloc_spec_grammar.specs.Words.{languages};
+ghost use Rattle.iloc_spec_grammar.specs.Values.{IsIdentifierValue, identifier_text};
 
-use iloc_short_pieces::ShortPiece;
+use iloc_tinystr::ShortPiece;
 use std::simd::prelude::*;
 
 /// The normal text, and where its subtags stand in it.

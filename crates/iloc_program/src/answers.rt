@@ -5,7 +5,7 @@ use iloc_langid::reader::{fill_head, fill_whole};
 use iloc_lines::{Answers, ReplyBlock, write_refusal, write_text};
 use iloc_locale::Locale;
 use iloc_locale::locale::read_rest;
-use iloc_parser::SubtagIterator;
+use iloc_subtags::SubtagIterator;
 use std::alloc::{AllocError, Global};
 
 /// Answers lines as language identifiers.

@@ -1,7 +1,7 @@
 -- What a reader answers, in the other direction: what is meant is accepted, and a fault is refused.
 use Rattle.std.proofs.Common.{◌≡◌, refl, sym, ap, ◌∙◌, inl, inr, Result, Ok, Err}
-use Rattle.iloc_grammar.specs.Faults as faults
-use Rattle.iloc_grammar.specs.Faults.{Fault}
+use Rattle.iloc_spec_grammar.specs.Faults as faults
+use Rattle.iloc_spec_grammar.specs.Faults.{Fault}
 use Rattle.iloc_subtags.specs.declared.parse_error.ParseError.{ParseError}
 use Rattle.iloc_subtags.specs.declared.parse_error.ParseError.TheVariants.{InvalidLanguage, InvalidSubtag, InvalidExtension, DuplicatedExtension, OutOfMemory}
 use Rattle.iloc_subtags.specs.Answers.{Answers, SubtagFault, ExtensionFault, OfIdentifier, OfPart, ButDuplicate}

@@ -1,8 +1,8 @@
 -- What readers answer: what was read, a fault that is there, or out of memory. If a text has one
 -- meaning or one fault and never both, each case except out of memory says both directions.
 use Rattle.std.specs.Prelude.{Result, Ok, Err}
-use Rattle.iloc_grammar.specs.Faults as faults
-use Rattle.iloc_grammar.specs.Faults.{Fault}
+use Rattle.iloc_spec_grammar.specs.Faults as faults
+use Rattle.iloc_spec_grammar.specs.Faults.{Fault}
 use Rattle.iloc_subtags.specs.declared.parse_error.ParseError.{ParseError}
 use Rattle.iloc_subtags.specs.declared.parse_error.ParseError.TheVariants.{InvalidLanguage, InvalidSubtag, InvalidExtension, DuplicatedExtension, OutOfMemory}
 

@@ -2,8 +2,8 @@
 -- that has a fault, by that fault. Out of memory is the only way out, and only if it may happen.
 -- This project's rule.
 use Rattle.std.specs.Prelude.{◌≡◌, ◌⊎◌, Result, Ok, Err}
-use Rattle.iloc_grammar.specs.Faults as faults
-use Rattle.iloc_grammar.specs.Faults.{Fault}
+use Rattle.iloc_spec_grammar.specs.Faults as faults
+use Rattle.iloc_spec_grammar.specs.Faults.{Fault}
 use Rattle.iloc_subtags.specs.declared.parse_error.ParseError.{ParseError}
 use Rattle.iloc_subtags.specs.declared.parse_error.ParseError.TheVariants.{InvalidLanguage, InvalidSubtag, InvalidExtension, DuplicatedExtension, OutOfMemory}
 

@@ -4,3 +4,7 @@ pub mod ParseError
 pub mod RawForms
 pub mod Lengths
 pub mod Judging
+pub mod FirstLength
+pub mod Left
+pub mod CarryError
+pub mod Carrying

@@ -1,9 +1,10 @@
 -- The words of each refusal.
 use Rattle.std.specs.Prelude.{ℕ, List, codes}
+use Rattle.iloc_spec_grammar.specs.Shapes.{Text}
 use Rattle.iloc_subtags.specs.declared.parse_error.ParseError.{ParseError}
 use Rattle.iloc_subtags.specs.declared.parse_error.ParseError.TheVariants.{InvalidLanguage, InvalidSubtag, InvalidExtension, DuplicatedExtension, OutOfMemory}
 
-abbrev pub words_of : ParseError → List ℕ
+abbrev pub words_of : ParseError → Text
 words_of InvalidLanguage = codes "The given language subtag is invalid"
 words_of InvalidSubtag = codes "Invalid subtag"
 words_of InvalidExtension = codes "Invalid extension"

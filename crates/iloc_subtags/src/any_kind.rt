@@ -2,8 +2,9 @@
 ghost use Rattle.std.specs.Prelude.{◌≡◌, ◌↔◌, ℕ, List, Option, Some, None, MatchResult, length, refl};
 ghost use Rattle.std.specs.Cmp.Lexicographic.{slice_cmp};
 ghost use Rattle.std.specs.Ordering.{nat_cmp};
-ghost use Rattle.iloc_grammar.specs.Words.{lower, word};
-ghost use Rattle.iloc_grammar.proofs.ReadWords.{normal_again, length_kept, one_normal};
+ghost use Rattle.iloc_spec_grammar.specs.Shapes.{Text};
+ghost use Rattle.iloc_spec_grammar.specs.Words.{lower, word};
+ghost use Rattle.iloc_spec_grammar.proofs.ReadWords.{normal_again, length_kept, one_normal};
 ghost use Rattle.iloc_subtags.specs.declared.parse_error.ParseError.{ParseError};
 
 use crate::kind::WordKind;
@@ -18,7 +19,7 @@ pub trait Word: Copy + Ord + Hash {
     ghost normal_text: { List ℕ → Option (List ℕ) };
 
     /// The text of a word.
-    ghost shown: { Self → List ℕ };
+    ghost shown: { Self → Text };
 
     /// The refusal of every other text.
     ghost fault: { ParseError };
@@ -34,15 +35,15 @@ pub trait Word: Copy + Ord + Hash {
         ensures normal { normal_text (shown self.now) ≡ Some (shown self.now) };
 
     /// A normal text is accepted, and is its own normal text.
-    ghost normal_again: { (t normal : List ℕ) → normal_text t ≡ Some normal
+    ghost normal_again: { (t normal : Text) → normal_text t ≡ Some normal
         → normal_text normal ≡ Some normal };
 
     /// It is as long as the text.
-    ghost length_kept: { (t normal : List ℕ) → normal_text t ≡ Some normal
+    ghost length_kept: { (t normal : Text) → normal_text t ≡ Some normal
         → length normal ≡ length t };
 
     /// Two accepted texts have one normal text exactly if they are equal without case.
-    ghost one_normal: { (a b v w : List ℕ) → normal_text a ≡ Some v → normal_text b ≡ Some w
+    ghost one_normal: { (a b v w : Text) → normal_text a ≡ Some v → normal_text b ≡ Some w
         → (v ≡ w) ↔ (lower a ≡ lower b) };
 
     /// Words stand in the byte order of their texts.

@@ -1,12 +1,13 @@
 //! What makes a kind of word.
 ghost use Rattle.std.specs.Prelude.{◌≡◌, ◌≤◌, ℕ, List, IsTrue, true};
+ghost use Rattle.iloc_spec_grammar.specs.Shapes.{Text};
 ghost use Rattle.iloc_tinystr.specs.TinyText.{is_tiny_text};
-ghost use Rattle.iloc_grammar.specs.Words.{Kind, is_word, IsWord, normal, greatest};
+ghost use Rattle.iloc_spec_grammar.specs.Words.{Kind, is_word, IsWord, normal, greatest};
 ghost use Rattle.iloc_subtags.specs.Lengths.{has_length};
 ghost use Rattle.iloc_subtags.specs.declared.parse_error.ParseError.{ParseError};
 
 use crate::parse_error::ParseError;
-use iloc_short_pieces::ShortPiece;
+use iloc_tinystr::ShortPiece;
 
 /// A kind of word of at most `N` bytes: which pieces it takes, their normal case, and its refusal.
 ///
@@ -36,7 +37,7 @@ pub trait WordKind<const N: usize> {
         ensures { result ≡ refusal };
 
     /// Each word of the kind is a short text of at most `N` bytes.
-    ghost fits: { (text : List ℕ) → IsWord kind text → is_tiny_text N text ≡ true };
+    ghost fits: { (text : Text) → IsWord kind text → is_tiny_text N text ≡ true };
 
     /// `N` is the greatest length of the kind.
     ghost size: { greatest 8 kind ≡ N };

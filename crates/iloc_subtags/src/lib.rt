@@ -1,25 +1,35 @@
-//! Words: the pieces of text of which identifiers and extensions are made, in eleven kinds.
+//! Subtags, in eleven kinds, and the pieces of a text, from which they are parsed one at a time.
 //!
-//! A word is kept in the normal case of its kind, in place, and is seen by contracts as its text. What
-//! each kind takes, and its normal case, are the definitions of `iloc_grammar` (specs/Words.antt), which
-//! restate the subtags of UTS #35, section 3 ("Unicode Language and Locale Identifiers"). Every call
-//! returns exactly what they say, and none allocates.
+//! A subtag is kept in the normal case of its kind, in place, and is seen by contracts as its text. What each kind
+//! takes, and its normal case, are the definitions of `iloc_spec_grammar` (specs/Words.antt), which restate the subtags
+//! of UTS #35, section 3. Every call returns exactly what they say, and none allocates.
 //!
-//! There is one generic struct, `WordOf<K, N>`, over a kind `K` and its greatest length `N`; the kinds'
-//! names, as `Language`, are aliases of it. Code over any kind of word has the trait `Word` and its laws.
+//! There is one generic struct, `WordOf<K, N>`, over a kind `K` and its greatest length `N`. The kinds' names, such as
+//! `Language`, are aliases of it. Code over any kind has the trait `Word` and its laws.
 //!
-//! It stands on `iloc_grammar` (definitions), `iloc_short_pieces` and `iloc_tinystr` (short texts) and
-//! `iloc_writeable` (printing).
+//! A text is cut at each hyphen and nowhere else. (UTS #35, section 3 also lets underscores separate:
+//! docs/DIFFERENCES.md.) The empty text is one empty piece. Contracts see a `SubtagIterator` as the list of pieces that
+//! it has left, and each piece is a slice of the input. `take_word` takes the next piece if it is a word of a kind.
+//!
+//! `carry_v1` converts languages stored by version 1.
+//!
+//! It stands on `iloc_spec_grammar` (definitions), `iloc_tinystr` (short texts) and `iloc_writeable` (printing).
 #![tactic(auto)]
 
 pub mod any_kind;
+pub mod carry;
+pub mod carry_error;
 pub mod extension_kinds;
 pub mod identifier_kinds;
 pub mod kind;
 pub mod parse_error;
+pub mod reading;
+pub mod subtag_iterator;
 pub mod word_of;
 
 pub use any_kind::Word;
+pub use carry::carry_v1;
+pub use carry_error::CarryError;
 pub use extension_kinds::{
     Attribute, AttributeKind, CurrencyType, CurrencyTypeKind, PrivateSubtag, PrivateSubtagKind,
     SubdivisionSuffix, SubdivisionSuffixKind, TransformKey, TransformKeyKind, UnicodeKey,
@@ -31,4 +41,6 @@ pub use identifier_kinds::{
 };
 pub use kind::WordKind;
 pub use parse_error::ParseError;
+pub use reading::take_word;
+pub use subtag_iterator::SubtagIterator;
 pub use word_of::{WordOf, are_normal, is_normal};

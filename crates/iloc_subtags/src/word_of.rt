@@ -3,14 +3,13 @@ ghost use Rattle.std.specs.Prelude.{IsTrue, ◌≡◌, ◌↔◌, ℕ, List, [],
 ghost use Rattle.std.specs.List.{AllByRecursion};
 ghost use Rattle.std.specs.Cmp.Lexicographic.{slice_cmp};
 ghost use Rattle.std.specs.Ordering.{nat_cmp};
-ghost use Rattle.iloc_grammar.specs.Words.{lower, word, read, raw};
-ghost use Rattle.iloc_grammar.specs.Values.{IsNormal};
+ghost use Rattle.iloc_spec_grammar.specs.Words.{lower, word, read, raw};
+ghost use Rattle.iloc_spec_grammar.specs.Values.{IsNormal};
 ghost use Rattle.iloc_subtags.specs.RawForms.{ReadsRaw};
 
 use crate::kind::WordKind;
 use crate::parse_error::ParseError;
-use iloc_short_pieces::ShortPiece;
-use iloc_tinystr::TinyAsciiStr;
+use iloc_tinystr::{ShortPiece, TinyAsciiStr};
 use iloc_writeable::pieces::Pieces;
 use iloc_writeable::{LengthHint, Sink, Writeable};
 use std::cmp::Ordering;
@@ -31,7 +30,7 @@ pub struct WordOf<K: WordKind<N>, const N: usize> {
 
 impl<K: WordKind<N>, const N: usize> Model for WordOf<K, N> {
     ghost use Rattle.std.specs.Prelude.{List, ℕ};
-    ghost use Rattle.iloc_grammar.specs.Values.{IsNormal};
+    ghost use Rattle.iloc_spec_grammar.specs.Values.{IsNormal};
 
     ghost Value = { List ℕ };
 

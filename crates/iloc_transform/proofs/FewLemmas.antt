@@ -1,19 +1,19 @@
 -- A transform of few words takes no memory.
 use Rattle.std.proofs.Common.{◌≡◌, ℕ, ◌<◌, ◌≤◌, List, [], ◌∷◌, ◌++◌, length, map, refl, sym, ap, ◌∙◌, subst, arith, Option, IfSome, option_map, true≢false}
 use Rattle.std.proofs.lemmas.List.{length-map}
-use Rattle.iloc_grammar.specs.Words.{Language, IsWord, lower, languages}
-use Rattle.iloc_grammar.specs.Written.{Identifier, identifier_pieces, fields_pieces}
-use Rattle.iloc_grammar.specs.Written as written
-use Rattle.iloc_grammar.specs.Meaning.{normal_identifier}
-use Rattle.iloc_grammar.specs.Faults.{front, first_piece}
-use Rattle.iloc_grammar.specs.Reading.{IdentifierFront, from_block}
-use Rattle.iloc_grammar.specs.ByBlocks.{TransformMeans}
-use Rattle.iloc_grammar.proofs.IdentifierLaws.{one_identifier}
-use Rattle.iloc_grammar.proofs.RawLaws.{languages_table}
-use Rattle.iloc_grammar.proofs.SetLaws.{length-set_of-different}
-use Rattle.iloc_fronts.specs.Fronts.{FrontRead, absent, present, fields_front, TransformRead}
-use Rattle.iloc_fronts.proofs.TransformLaws.{one_front, transform_agrees}
-use Rattle.iloc_fronts.proofs.KeptLaws.{some_fields}
+use Rattle.iloc_spec_grammar.specs.Words.{Language, IsWord, lower, languages}
+use Rattle.iloc_spec_grammar.specs.Written.{Identifier, identifier_pieces, fields_pieces}
+use Rattle.iloc_spec_grammar.specs.Written as written
+use Rattle.iloc_spec_grammar.specs.Meaning.{normal_identifier}
+use Rattle.iloc_spec_grammar.specs.Faults.{front, first_piece}
+use Rattle.iloc_spec_grammar.specs.Reading.{IdentifierFront, from_block}
+use Rattle.iloc_spec_grammar.specs.ByBlocks.{TransformMeans}
+use Rattle.iloc_spec_grammar.proofs.IdentifierLaws.{one_identifier}
+use Rattle.iloc_spec_grammar.proofs.RawLaws.{languages_table}
+use Rattle.iloc_spec_grammar.proofs.SetLaws.{length-set_of-different}
+use Rattle.iloc_spec_parts.specs.Fronts.{FrontRead, absent, present, fields_front, TransformRead}
+use Rattle.iloc_spec_parts.proofs.TransformLaws.{one_front, transform_agrees}
+use Rattle.iloc_spec_parts.proofs.KeptLaws.{some_fields}
 use Rattle.iloc_transform.specs.LangReading.{HasFiveVariants}
 use Rattle.iloc_transform.specs.TransformReading.{WantsMemory, variants, fields}
 use Rattle.iloc_transform.proofs.TransformLemmas.{no_fields}

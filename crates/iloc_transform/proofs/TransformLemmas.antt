@@ -6,18 +6,18 @@ use Rattle.std.specs.FinMap.Entries.{by_order}
 use Rattle.std.specs.declared.cmp.Ordering.TheVariants.{Less, Equal, Greater}
 use Rattle.std.proofs.lemmas.Bool.{and_parts, not-true}
 use Rattle.std.proofs.lemmas.Bool.Decides.{nat_tests}
-use Rattle.iloc_grammar.specs.Pieces.{pieces}
-use Rattle.iloc_grammar.specs.Words.{Language, is_word, read, lower, languages, word_cmp, TransformKey}
-use Rattle.iloc_grammar.specs.Written as written
-use Rattle.iloc_grammar.specs.Meaning.{normal_identifier, normal_transform, normal_fields, normal_values}
-use Rattle.iloc_grammar.specs.Faults as faults
-use Rattle.iloc_grammar.specs.Faults.{Fault}
-use Rattle.iloc_grammar.specs.Reading.{first_item, rest_of, fields_from}
-use Rattle.iloc_grammar.specs.Computing.{is_field}
-use Rattle.iloc_fronts.specs.Fronts.{absent, present, after_fields, TransformRead, TransformFault, repeats}
-use Rattle.iloc_fronts.specs.Computing.{fields_at, fields_result}
-use Rattle.iloc_fronts.specs.Parts.{is_letter, TransformTextFault}
-use Rattle.iloc_fronts.proofs.TransformLaws.{fields_answer, IsTransformAnswer}
+use Rattle.iloc_spec_grammar.specs.Pieces.{pieces}
+use Rattle.iloc_spec_grammar.specs.Words.{Language, is_word, read, lower, languages, word_cmp, TransformKey}
+use Rattle.iloc_spec_grammar.specs.Written as written
+use Rattle.iloc_spec_grammar.specs.Meaning.{normal_identifier, normal_transform, normal_fields, normal_values}
+use Rattle.iloc_spec_grammar.specs.Faults as faults
+use Rattle.iloc_spec_grammar.specs.Faults.{Fault}
+use Rattle.iloc_spec_grammar.specs.Reading.{first_item, rest_of, fields_from}
+use Rattle.iloc_spec_grammar.specs.Computing.{is_field}
+use Rattle.iloc_spec_parts.specs.Fronts.{absent, present, after_fields, TransformRead, TransformFault, repeats}
+use Rattle.iloc_spec_parts.specs.FrontComputing.{fields_at, fields_result}
+use Rattle.iloc_spec_parts.specs.Parts.{is_letter, TransformTextFault}
+use Rattle.iloc_spec_parts.proofs.TransformLaws.{fields_answer, IsTransformAnswer}
 use Rattle.iloc_other.specs.Singleton.{singleton_at}
 use Rattle.iloc_other.proofs.SingletonLemmas.{begins, part_reads, part_fault, part_other, part_none}
 use Rattle.iloc_other.proofs.TextLemmas.{another_letter}
@@ -26,11 +26,11 @@ use Rattle.iloc_subtags.specs.declared.parse_error.ParseError.TheVariants.{Inval
 use Rattle.iloc_langid.specs.Reads.{FrontReadsAs}
 use Rattle.iloc_langid.specs.Reads as langid
 use Rattle.iloc_langid.specs.declared.identifier.LanguageIdentifier.{LanguageIdentifier}
-use Rattle.iloc_fields.specs.FieldsReading.{FieldsRead, FieldsFrontRead}
+use Rattle.iloc_transform.specs.FieldsReading.{FieldsRead, FieldsFrontRead}
 use Rattle.iloc_transform.specs.LangReading.{LangRead, LangReads}
 use Rattle.iloc_transform.specs.TransformReading.{value_of, WantsMemory, variants, fields, TransformReads, TransformTextReads}
 use Rattle.iloc_transform.specs.declared.transform.Transform.{Transform}
-use Rattle.iloc_grammar.proofs.ReadWords.{refused_from_read}
+use Rattle.iloc_spec_grammar.proofs.ReadWords.{refused_from_read}
 use Rattle.iloc_langid.proofs.FrontLemmas.{no_empty_language}
 
 -- the identifier

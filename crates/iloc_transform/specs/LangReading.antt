@@ -1,30 +1,31 @@
 -- What the reader of a transform's identifier answers.
 use Rattle.std.specs.Prelude.{◌≡◌, ℕ, ◌<◌, List, length, Option, option_map, Result}
-use Rattle.iloc_grammar.specs.Words.{languages}
-use Rattle.iloc_grammar.specs.Written.{Identifier}
-use Rattle.iloc_grammar.specs.Meaning.{normal_identifier}
-use Rattle.iloc_grammar.specs.Faults.{RepeatsVariant}
-use Rattle.iloc_grammar.specs.Reading.{IdentifierFront}
-use Rattle.iloc_fronts.specs.Fronts.{FrontRead}
+use Rattle.iloc_spec_grammar.specs.Shapes.{Text}
+use Rattle.iloc_spec_grammar.specs.Words.{languages}
+use Rattle.iloc_spec_grammar.specs.Written.{Identifier}
+use Rattle.iloc_spec_grammar.specs.Meaning.{normal_identifier}
+use Rattle.iloc_spec_grammar.specs.Faults.{RepeatsVariant}
+use Rattle.iloc_spec_grammar.specs.Reading.{IdentifierFront}
+use Rattle.iloc_spec_parts.specs.Fronts.{FrontRead}
 use Rattle.iloc_subtags.specs.declared.parse_error.ParseError.{ParseError}
 use Rattle.iloc_subtags.specs.Answers.{Answers, SubtagFault}
 use Rattle.iloc_langid.specs.Reads.{value_of}
 use Rattle.iloc_langid.specs.declared.identifier.LanguageIdentifier.{LanguageIdentifier}
 
 -- an identifier was read, or there is none
-pub record LangRead (ps : List (List ℕ)) (lang : Option LanguageIdentifier) (rest : List (List ℕ)) : Type 0 where
+pub record LangRead (ps : List Text) (lang : Option LanguageIdentifier) (rest : List Text) : Type 0 where
   pub written : Option Identifier
   pub front : FrontRead languages ps written rest
   pub means : option_map value_of lang ≡ option_map normal_identifier written
 
 -- the longest front of an identifier's words has more than four variants
-pub record HasFiveVariants (ps : List (List ℕ)) : Type 0 where
+pub record HasFiveVariants (ps : List Text) : Type 0 where
   pub written : Identifier
-  pub rest : List (List ℕ)
+  pub rest : List Text
   pub front : IdentifierFront languages ps written rest
   pub many : 4 < length written.variants
 
 -- what the pieces are read as, and the pieces that are left
-abbrev pub LangReads : List (List ℕ) → List (List ℕ) → Result (Option LanguageIdentifier) ParseError → Type 0
+abbrev pub LangReads : List Text → List Text → Result (Option LanguageIdentifier) ParseError → Type 0
 LangReads ps rest = Answers (λ lang. LangRead ps lang rest) (SubtagFault (RepeatsVariant languages ps))
     (HasFiveVariants ps)

@@ -1,2 +1,5 @@
 pub mod LangReading
 pub mod TransformReading
+pub mod ValueReading
+pub mod FieldsReading
+pub mod FieldsOrder

@@ -1,11 +1,12 @@
 -- What the readers of transforms answer.
 use Rattle.std.specs.Prelude.{◌≡◌, ℕ, true, List, Option, option_map, Result}
-use Rattle.iloc_grammar.specs.Pieces.{pieces}
-use Rattle.iloc_grammar.specs.Words.{languages}
-use Rattle.iloc_grammar.specs.Written as written
-use Rattle.iloc_grammar.specs.Reading.{rest_of}
-use Rattle.iloc_fronts.specs.Fronts.{FrontRead, BeginsField, TransformRead, TransformFault}
-use Rattle.iloc_fronts.specs.Parts.{begins_part, is_letter, TransformText, TransformTextFault}
+use Rattle.iloc_spec_grammar.specs.Shapes.{Text, code_t}
+use Rattle.iloc_spec_grammar.specs.Pieces.{pieces}
+use Rattle.iloc_spec_grammar.specs.Words.{languages}
+use Rattle.iloc_spec_grammar.specs.Written as written
+use Rattle.iloc_spec_grammar.specs.Reading.{rest_of}
+use Rattle.iloc_spec_parts.specs.Fronts.{FrontRead, BeginsField, TransformRead, TransformFault}
+use Rattle.iloc_spec_parts.specs.Parts.{begins_part, is_letter, TransformText, TransformTextFault}
 use Rattle.iloc_subtags.specs.declared.parse_error.ParseError.{ParseError}
 use Rattle.iloc_subtags.specs.Answers.{Answers, OfPart}
 use Rattle.iloc_langid.specs.Reads as langid
@@ -17,21 +18,21 @@ abbrev pub value_of : Transform → written.Transform
 value_of m = record { id = option_map langid.value_of m.lang; fields = m.fields }
 
 -- memory may run out for a fifth variant, and for a field
-pub data WantsMemory (ps : List (List ℕ)) : Type 0 where
+pub data WantsMemory (ps : List Text) : Type 0 where
   variants : HasFiveVariants ps → WantsMemory ps
-  fields : {id : Option written.Identifier} {middle : List (List ℕ)} → FrontRead languages ps id middle → BeginsField middle → WantsMemory ps
+  fields : {id : Option written.Identifier} {middle : List Text} → FrontRead languages ps id middle → BeginsField middle → WantsMemory ps
 
 -- what the pieces after `t` are read as, and the pieces that are left
-abbrev pub TransformReads : List (List ℕ) → List (List ℕ) → Result Transform ParseError → Type 0
+abbrev pub TransformReads : List Text → List Text → Result Transform ParseError → Type 0
 TransformReads ps rest = Answers (λ m. TransformRead languages ps (value_of m) rest)
     (OfPart (TransformFault languages ps)) (WantsMemory ps)
 
--- the same of a text: only after `t` (116), the letter of such an extension
-abbrev pub TransformTextWants : List ℕ → Type 0
-TransformTextWants t = (begins_part (is_letter 116) (pieces t) ≡ true) × WantsMemory (rest_of (pieces t))
+-- the same of a text: only after `t`, the letter of such an extension
+abbrev pub TransformTextWants : Text → Type 0
+TransformTextWants t = (begins_part (is_letter code_t) (pieces t) ≡ true) × WantsMemory (rest_of (pieces t))
 
 -- what a text is read as
-abbrev pub TransformTextReads : List ℕ → Result Transform ParseError → Type 0
+abbrev pub TransformTextReads : Text → Result Transform ParseError → Type 0
 TransformTextReads t = Answers (λ m. TransformText languages t (value_of m))
     (OfPart (TransformTextFault languages t))
     (TransformTextWants t)

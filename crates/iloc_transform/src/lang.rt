@@ -3,17 +3,16 @@ ghost use Rattle.std.specs.Prelude.{◌≡◌, Ok, None, option_map, option_to_l
 ghost use Rattle.std.specs.List.{flat_map};
 ghost use Rattle.std.specs.Option.{option_cmp, option_copied};
 ghost use Rattle.std.specs.Result.{result_and};
-ghost use Rattle.iloc_grammar.specs.Written.{identifier_pieces, optional_pieces};
-ghost use Rattle.iloc_grammar.specs.Values.{lower_identifier};
+ghost use Rattle.iloc_spec_grammar.specs.Written.{identifier_pieces, optional_pieces};
+ghost use Rattle.iloc_spec_grammar.specs.Values.{lower_identifier};
 ghost use Rattle.iloc_langid.specs.Reads.{value_of};
-ghost use Rattle.iloc_orders.specs.Orders.{identifier_cmp};
-ghost use Rattle.iloc_parser.specs.Left.{left};
+ghost use Rattle.iloc_spec_orders.specs.Orders.{identifier_cmp};
+ghost use Rattle.iloc_subtags.specs.Left.{left};
 ghost use Rattle.iloc_transform.specs.LangReading.{LangReads};
 
 use iloc_langid::reader::fill_front;
 use iloc_langid::{LanguageIdentifier, Lowercase};
-use iloc_parser::SubtagIterator;
-use iloc_subtags::{Language, ParseError};
+use iloc_subtags::{Language, ParseError, SubtagIterator};
 use std::alloc::Global;
 use std::cmp::Ordering;
 

@@ -1,30 +1,37 @@
 //! The transform extension: an identifier and fields.
 //!
-//! Readers take exactly what the grammar of UTS #35, section 3, allows after `t`, by its definition in
-//! `iloc_fronts`, and print it as the normal text does, the identifier in lower case. The crate stands
-//! on the identifiers of `iloc_langid` and the fields of `iloc_fields`, which it passes on.
+//! A value of a field is a list of subtags, fields are a map from keys to values. Parsers take exactly what the grammar
+//! of UTS #35, section 3, allows after `t`, by its definition in `iloc_spec_parts`, and print it as the normal text does,
+//! the identifier in lower case.
+//!
+//! It stands on the identifiers of `iloc_langid`, the maps of `iloc_litemap` and the lists of `iloc_shortvec`.
 #![tactic(auto)]
 
 ghost use Rattle.std.specs.Prelude.{◌≡◌, ◌≤◌, ◌↔◌, IsTrue, ℕ, List, [], length, IfSome};
-ghost use Rattle.iloc_grammar.specs.Words.{languages};
-ghost use Rattle.iloc_grammar.specs.Written as written;
-ghost use Rattle.iloc_grammar.specs.Faults.{front};
-ghost use Rattle.iloc_grammar.specs.ByBlocks.{TransformMeans};
-ghost use Rattle.iloc_orders.specs.Hashes.{transform_fed};
+ghost use Rattle.iloc_spec_grammar.specs.Shapes.{Text};
+ghost use Rattle.iloc_spec_grammar.specs.Words.{languages};
+ghost use Rattle.iloc_spec_grammar.specs.Written as written;
+ghost use Rattle.iloc_spec_grammar.specs.Faults.{front};
+ghost use Rattle.iloc_spec_grammar.specs.ByBlocks.{TransformMeans};
+ghost use Rattle.iloc_spec_orders.specs.Hashes.{transform_fed};
 ghost use Rattle.iloc_transform.specs.declared.transform.Transform.{Transform};
 ghost use Rattle.iloc_transform.specs.TransformReading.{WantsMemory, value_of};
 
 use std::hash::Hash;
 
+pub mod field_laws;
+pub mod fields;
 mod lang;
 pub mod transform;
+pub mod value;
 
-pub use iloc_fields::{Fields, Key, Value};
+pub use fields::{Fields, Key};
 pub use transform::Transform;
+pub use value::Value;
 
 /// A block that means an identifier of at most four variants, or none, and no field allocates nothing.
 pub fn few_words()
-    ensures { (ps : List (List ℕ)) (m : written.Transform) → TransformMeans languages (front ps) m
+    ensures { (ps : List Text) (m : written.Transform) → TransformMeans languages (front ps) m
         → IfSome m.id (λ i. length i.variants ≤ 4) → m.fields ≡ [] → ¬ (WantsMemory ps) }
 {}
 

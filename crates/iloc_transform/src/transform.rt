@@ -16,21 +16,20 @@ ghost use Rattle.std.specs.Prelude.{
   is_some,
 };
 ghost use Rattle.std.specs.Result.{result_and};
-ghost use Rattle.iloc_grammar.specs.Words.{languages};
-ghost use Rattle.iloc_grammar.specs.Written as written;
-ghost use Rattle.iloc_grammar.specs.Faults.{Fault};
-ghost use Rattle.iloc_fronts.specs.Parts.{TransformText, TransformTextFault};
-ghost use Rattle.iloc_orders.specs.Orders.{transform_cmp};
+ghost use Rattle.iloc_spec_grammar.specs.Words.{languages};
+ghost use Rattle.iloc_spec_grammar.specs.Written as written;
+ghost use Rattle.iloc_spec_grammar.specs.Faults.{Fault};
+ghost use Rattle.iloc_spec_parts.specs.Parts.{TransformText, TransformTextFault};
+ghost use Rattle.iloc_spec_orders.specs.Orders.{transform_cmp};
 ghost use Rattle.iloc_subtags.specs.Judging.{Accepts, Refuses};
-ghost use Rattle.iloc_parser.specs.Left.{left};
+ghost use Rattle.iloc_subtags.specs.Left.{left};
 ghost use Rattle.iloc_transform.specs.TransformReading.{TransformReads};
 
+use crate::Fields;
 use crate::lang::{cmp_langs, fill_lang, lowercase};
-use iloc_fields::Fields;
 use iloc_langid::LanguageIdentifier;
 use iloc_other::singleton::take_singleton;
-use iloc_parser::SubtagIterator;
-use iloc_subtags::ParseError;
+use iloc_subtags::{ParseError, SubtagIterator};
 use iloc_writeable::{Pieces, Sink, Writeable};
 use std::alloc::Global;
 use std::cmp::Ordering;
@@ -163,7 +162,7 @@ pub fn fill_transform(
 /// The pieces are `t`, those of the identifier in lower case and those of the fields; an empty one has
 /// none.
 impl Pieces for Transform {
-    ghost use Rattle.iloc_grammar.specs.Values.{transform_spelling};
+    ghost use Rattle.iloc_spec_grammar.specs.Values.{transform_spelling};
     ghost use Rattle.iloc_transform.specs.TransformReading.{value_of};
 
     ghost pieces = { λ m. transform_spelling (value_of m) };
@@ -183,12 +182,12 @@ impl Pieces for Transform {
 
 /// Prints `t`, the identifier in lower case and the fields; an empty one prints nothing.
 impl Writeable for Transform {
-    ghost use Rattle.iloc_grammar.specs.Values.{transform_text};
+    ghost use Rattle.iloc_spec_grammar.specs.Values.{transform_text};
     ghost use Rattle.iloc_transform.specs.TransformReading.{value_of};
 
     ghost text = { λ m. transform_text (value_of m) };
 
-    #[tactic(auto, unfolding(iloc_grammar::specs::Values::transform_text, iloc_grammar::specs::Pieces::join))]
+    #[tactic(auto, unfolding(iloc_spec_grammar::specs::Values::transform_text, iloc_spec_grammar::specs::Pieces::join))]
     fn write_to<S: Sink>(&self, sink: &mut S) -> fmt::Result {
         self.write_joined(sink)
     }
@@ -199,7 +198,7 @@ impl Writeable for Transform {
 }
 
 impl fmt::Display for Transform {
-    ghost use Rattle.iloc_grammar.specs.Values.{transform_text};
+    ghost use Rattle.iloc_spec_grammar.specs.Values.{transform_text};
     ghost use Rattle.iloc_transform.specs.TransformReading.{value_of};
     ghost use Rattle.std.specs.Prelude.{Some};
 

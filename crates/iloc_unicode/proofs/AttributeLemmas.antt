@@ -2,17 +2,17 @@
 use Rattle.std.proofs.Common.{◌≡◌, ℕ, ◌<◌, ◌≤◌, cond, List, [], ◌∷◌, ◌++◌, length, map, refl, sym, ap, ◌∙◌, subst, arith, append-nil, Some, None, option_map}
 use Rattle.std.specs.List.{AllByRecursion}
 use Rattle.std.proofs.lemmas.List.Sorted.{IsPermutation-sym, IsPermutation-middle}
-use Rattle.iloc_grammar.specs.Words.{Attribute, is_word, lower}
-use Rattle.iloc_grammar.specs.Meaning.{set_of}
-use Rattle.iloc_grammar.specs.Reading.{take_first, skip_first, passing, past}
-use Rattle.iloc_grammar.specs.Values.{IsNormal, IsAscending}
-use Rattle.iloc_grammar.proofs.ReadWords.{IsNormal-normal}
-use Rattle.iloc_grammar.proofs.SetLaws.{set_of-first, set_of-set_of, length-set_of}
-use Rattle.iloc_grammar.proofs.ValuesLaws.{set_of_ascending}
-use Rattle.iloc_grammar.proofs.WellRead.{set_of-ascending, all-set_of}
+use Rattle.iloc_spec_grammar.specs.Words.{Attribute, is_word, lower}
+use Rattle.iloc_spec_grammar.specs.Meaning.{set_of}
+use Rattle.iloc_spec_grammar.specs.Reading.{take_first, skip_first, passing, past}
+use Rattle.iloc_spec_grammar.specs.Values.{IsNormal, IsAscending}
+use Rattle.iloc_spec_grammar.proofs.ReadWords.{IsNormal-normal}
+use Rattle.iloc_spec_grammar.proofs.SetLaws.{set_of-first, set_of-set_of, length-set_of}
+use Rattle.iloc_spec_grammar.proofs.ValuesLaws.{set_of_ascending}
+use Rattle.iloc_spec_grammar.proofs.WellRead.{set_of-ascending, all-set_of}
 use Rattle.iloc_word_set.proofs.CollectorLaws.{permuted_set, set_grows}
-use Rattle.iloc_fronts.specs.Fronts.{attributes_read, after_attributes}
-use Rattle.iloc_parser.proofs.TakingLemmas.{took, took_none}
+use Rattle.iloc_spec_parts.specs.Fronts.{attributes_read, after_attributes}
+use Rattle.iloc_subtags.proofs.TakingLemmas.{took, took_none}
 
 -- of the words before, those up to now are taken, as these words
 pub record Gathered (before now words : List (List ℕ)) : Type 0 where

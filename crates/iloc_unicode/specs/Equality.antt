@@ -1,12 +1,13 @@
 -- The equality tests of keywords and of the whole extension find exactly equal values equal.
 use Rattle.std.proofs.Common.{ℕ, Bool, ◌&&◌, List, ap, nat_eq}
 use Rattle.std.proofs.lemmas.Bool.{and_parts, and_from}
+use Rattle.iloc_spec_grammar.specs.Shapes.{Text}
 use lib.Pointwise.{pointwise}
-use Rattle.iloc_grammar.specs.Written.{Fields, Unicode}
+use Rattle.iloc_spec_grammar.specs.Written.{Fields, Unicode}
 use Rattle.iloc_unicode_value.specs.Equality.{IsExactTest, word_exact, words_eq, words_exact, lists_exact}
 
 -- the key, and then the value
-abbrev pub pair_eq : List ℕ × List (List ℕ) → List ℕ × List (List ℕ) → Bool
+abbrev pub pair_eq : Text × List Text → Text × List Text → Bool
 pair_eq x y = pointwise nat_eq x.0 y.0 && words_eq x.1 y.1
 
 pair_exact : IsExactTest pair_eq

@@ -26,19 +26,19 @@ ghost use Rattle.std.specs.Hash.{same_Alike};
 ghost use Rattle.std.proofs.Common.{rules};
 ghost use Rattle.std.specs.Slice.{IsItemAt};
 ghost use Rattle.std.specs.Slice.Iter.{iter_rest};
-ghost use Rattle.iloc_grammar.specs.Pieces.{pieces, join};
-ghost use Rattle.iloc_grammar.specs.Words.{Attribute, is_same, word_cmp};
-ghost use Rattle.iloc_grammar.specs.Meaning.{set_of};
-ghost use Rattle.iloc_grammar.specs.Values.{IsNormal, IsAscending};
-ghost use Rattle.iloc_fronts.specs.Fronts.{attributes_read};
-ghost use Rattle.iloc_fronts.specs.Parts.{AttributesText};
+ghost use Rattle.iloc_spec_grammar.specs.Shapes.{Text};
+ghost use Rattle.iloc_spec_grammar.specs.Pieces.{pieces, join};
+ghost use Rattle.iloc_spec_grammar.specs.Words.{Attribute, is_same, word_cmp};
+ghost use Rattle.iloc_spec_grammar.specs.Meaning.{set_of};
+ghost use Rattle.iloc_spec_grammar.specs.Values.{IsNormal, IsAscending};
+ghost use Rattle.iloc_spec_parts.specs.Fronts.{attributes_read};
+ghost use Rattle.iloc_spec_parts.specs.Parts.{AttributesText};
 ghost use Rattle.iloc_subtags.specs.Judging.{Accepts};
 ghost use Rattle.iloc_unicode.specs.Reads.{AttributesReadAs};
 ghost use Rattle.iloc_unicode_value.specs.Equality.{words_eq, words_exact};
 ghost use Rattle.iloc_word_set.specs.Ascending.{ascends};
 
-use iloc_parser::SubtagIterator;
-use iloc_subtags::{Attribute, AttributeKind, ParseError};
+use iloc_subtags::{Attribute, AttributeKind, ParseError, SubtagIterator};
 use iloc_word_set::WordSet;
 use iloc_writeable::pieces::Pieces;
 use iloc_writeable::{Sink, Writeable};
@@ -78,7 +78,7 @@ impl Attributes {
     /// different ones not at all.
     pub fn try_from_utf8(alloc: Global, code_units: &[u8]) -> Result<Self, ParseError>
         ensures reads { AttributesReadAs code_units.now result }
-        ensures accepted { (ws : List (List ℕ)) → AttributesText code_units.now ws
+        ensures accepted { (ws : List Text) → AttributesText code_units.now ws
             → Accepts (λ a. a) (4 < length (attributes_read (pieces code_units.now))) ws result }
     {
         Self::read_text(alloc, code_units)
@@ -95,7 +95,7 @@ impl Attributes {
     /// Parses a `str`, as `try_from_utf8` parses bytes.
     pub fn try_from_str(alloc: Global, s: &str) -> Result<Self, ParseError>
         ensures reads { AttributesReadAs s.now result }
-        ensures accepted { (ws : List (List ℕ)) → AttributesText s.now ws
+        ensures accepted { (ws : List Text) → AttributesText s.now ws
             → Accepts (λ a. a) (4 < length (attributes_read (pieces s.now))) ws result }
     {
         Attributes::try_from_utf8(alloc, s.as_bytes())

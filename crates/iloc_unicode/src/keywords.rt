@@ -36,21 +36,20 @@ ghost use Rattle.std.specs.Cmp.{
 };
 ghost use Rattle.std.specs.Hash.{same_Alike};
 ghost use Rattle.std.proofs.Common.{refl};
-ghost use Rattle.iloc_grammar.specs.Words.{word_cmp};
-ghost use Rattle.iloc_grammar.specs.Meaning.{map_of};
+ghost use Rattle.iloc_spec_grammar.specs.Words.{word_cmp};
+ghost use Rattle.iloc_spec_grammar.specs.Meaning.{map_of};
 ghost use Rattle.iloc_unicode.specs.Equality.{fields_eq, fields_exact};
-ghost use Rattle.iloc_grammar.specs.Pieces.{pieces};
-ghost use Rattle.iloc_grammar.specs.Written.{Fields};
-ghost use Rattle.iloc_grammar.specs.Faults.{Fault};
-ghost use Rattle.iloc_fronts.specs.Parts.{KeywordsText, KeywordsTextFault};
+ghost use Rattle.iloc_spec_grammar.specs.Pieces.{pieces};
+ghost use Rattle.iloc_spec_grammar.specs.Written.{Fields};
+ghost use Rattle.iloc_spec_grammar.specs.Faults.{Fault};
+ghost use Rattle.iloc_spec_parts.specs.Parts.{KeywordsText, KeywordsTextFault};
 ghost use Rattle.iloc_subtags.specs.Judging.{Accepts, Refuses};
 ghost use Rattle.iloc_unicode.specs.Reads.{KeywordsReadAs, KeywordsWantMemory};
 ghost use Rattle.iloc_litemap.specs.Pairs.{IsAscending};
 
 use iloc_litemap::LiteMap;
-use iloc_parser::SubtagIterator;
 use iloc_shortvec::ShortBoxSlice;
-use iloc_subtags::{ParseError, UnicodeKey as Key};
+use iloc_subtags::{ParseError, SubtagIterator, UnicodeKey as Key};
 use iloc_unicode_value::Value;
 use std::alloc::{AllocError, Global};
 use std::cmp::Ordering;
@@ -77,7 +76,7 @@ impl Drop for Keywords {
 }
 
 impl Model for Keywords {
-    ghost use Rattle.iloc_grammar.specs.Written.{Fields};
+    ghost use Rattle.iloc_spec_grammar.specs.Written.{Fields};
 
     ghost Value = { Fields };
 
@@ -307,7 +306,7 @@ impl Hash for Keywords {
 
 /// The pairs in order, as a short list, the key first.
 impl Ord for Keywords {
-    ghost use Rattle.iloc_orders.specs.Orders.{keywords_cmp};
+    ghost use Rattle.iloc_spec_orders.specs.Orders.{keywords_cmp};
     ghost use Rattle.iloc_unicode.specs.KeywordsOrder.{keywords_total, keywords_ties};
 
     ghost cmp = { keywords_cmp };
@@ -328,7 +327,7 @@ impl Ord for Keywords {
 }
 
 impl PartialOrd for Keywords {
-    ghost use Rattle.iloc_orders.specs.Orders.{keywords_cmp};
+    ghost use Rattle.iloc_spec_orders.specs.Orders.{keywords_cmp};
     ghost use Rattle.iloc_unicode.specs.KeywordsOrder.{keywords_total, keywords_ties};
 
     ghost partial_cmp = { as_partial_cmp keywords_cmp };
@@ -366,7 +365,7 @@ pub struct KeywordsIter<'a> {
 }
 
 impl<'a> Model for KeywordsIter<'a> {
-    ghost use Rattle.iloc_grammar.specs.Written.{Fields};
+    ghost use Rattle.iloc_spec_grammar.specs.Written.{Fields};
 
     ghost Value = { Fields };
 

@@ -1,16 +1,17 @@
 //! The unicode extension of a locale: attributes, which are a set, and keywords, which are a map from
 //! keys to values (UTS #35 section 3.2, `unicode_locale_extensions`; section 3.6.1 has the keys).
 //!
-//! Readers take exactly the front of the pieces that `iloc_fronts` defines and leave the rest; of equal
+//! Readers take exactly the front of the pieces that `iloc_spec_parts` defines and leave the rest; of equal
 //! keys the first stays, and repeated attributes are dropped. Printing is the normal text of the part.
 //! Up to four attributes, and one key with up to four subtags, allocate nothing. It stands on the set of
 //! words, the map over short lists and its laws, values, pieces and printing.
 #![tactic(auto)]
 
 ghost use Rattle.std.specs.Prelude.{◌≡◌, ◌↔◌, ℕ, List, IsTrue};
-ghost use Rattle.iloc_grammar.specs.Written.{Fields};
-ghost use Rattle.iloc_orders.specs.Orders.{words_cmp, keywords_cmp};
-ghost use Rattle.iloc_orders.specs.Hashes.{words_fed, fields_fed, unicode_fed};
+ghost use Rattle.iloc_spec_grammar.specs.Shapes.{Text};
+ghost use Rattle.iloc_spec_grammar.specs.Written.{Fields};
+ghost use Rattle.iloc_spec_orders.specs.Orders.{words_cmp, keywords_cmp};
+ghost use Rattle.iloc_spec_orders.specs.Hashes.{words_fed, fields_fed, unicode_fed};
 ghost use Rattle.iloc_unicode.specs.UnicodeValue.{value_of};
 
 use std::hash::Hash;
@@ -27,13 +28,13 @@ pub use unicode::Unicode;
 
 /// Attributes and keywords stand in the orders of the definitions.
 pub fn orders()
-    ensures attributes { (v w : List (List ℕ)) → ⟦<Attributes as Ord>⟧.cmp v w ≡ words_cmp v w }
+    ensures attributes { (v w : List Text) → ⟦<Attributes as Ord>⟧.cmp v w ≡ words_cmp v w }
     ensures keywords { (v w : Fields) → ⟦<Keywords as Ord>⟧.cmp v w ≡ keywords_cmp v w }
 {}
 
 /// `==` tells whether two parts, or two unicode extensions, are the same.
 pub fn equality()
-    ensures attributes { (v w : List (List ℕ))
+    ensures attributes { (v w : List Text)
         → IsTrue (⟦<Attributes as PartialEq>⟧.eq v w) ↔ (v ≡ w) }
     ensures keywords { (v w : Fields) → IsTrue (⟦<Keywords as PartialEq>⟧.eq v w) ↔ (v ≡ w) }
     ensures unicode { (u v : Unicode)
@@ -42,7 +43,7 @@ pub fn equality()
 
 /// What a hasher is fed is what the definitions say.
 pub fn hashes()
-    ensures attributes { (v : List (List ℕ)) → ⟦<Attributes as Hash>⟧.hash_input v ≡ words_fed v }
+    ensures attributes { (v : List Text) → ⟦<Attributes as Hash>⟧.hash_input v ≡ words_fed v }
     ensures keywords { (f : Fields) → ⟦<Keywords as Hash>⟧.hash_input f ≡ fields_fed f }
     ensures unicode { (u : Unicode)
         → ⟦<Unicode as Hash>⟧.hash_input u ≡ unicode_fed (value_of u) }

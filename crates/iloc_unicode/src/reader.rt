@@ -1,20 +1,20 @@
 //! Parses attributes, keywords and the whole extension from pieces.
 ghost use Rattle.std.specs.Prelude.{◌≡◌, ◌≤◌, ◌++◌, [], length, Ok, IfOk, OnOk, IsOk};
 ghost use Rattle.std.specs.Result.{result_and};
-ghost use Rattle.iloc_grammar.specs.Words.{Attribute, is_word};
-ghost use Rattle.iloc_grammar.specs.Faults.{first_piece};
-ghost use Rattle.iloc_grammar.specs.Reading.{is_two, rest_of};
-ghost use Rattle.iloc_fronts.specs.Fronts.{attributes_read, after_attributes};
-ghost use Rattle.iloc_parser.specs.Left.{left};
-ghost use Rattle.iloc_fronts.specs.Parts.{begins_part, is_letter};
+ghost use Rattle.iloc_spec_grammar.specs.Shapes.{code_u};
+ghost use Rattle.iloc_spec_grammar.specs.Words.{Attribute, is_word};
+ghost use Rattle.iloc_spec_grammar.specs.Faults.{first_piece};
+ghost use Rattle.iloc_spec_grammar.specs.Reading.{is_two, rest_of};
+ghost use Rattle.iloc_spec_parts.specs.Fronts.{attributes_read, after_attributes};
+ghost use Rattle.iloc_subtags.specs.Left.{left};
+ghost use Rattle.iloc_spec_parts.specs.Parts.{begins_part, is_letter};
 ghost use Rattle.iloc_unicode.specs.Reads.{KeywordsGive};
 ghost use Rattle.iloc_unicode.specs.UnicodeReads.{UnicodeGives};
 
 use crate::attributes::Attributes;
 use crate::keywords::Keywords;
 use crate::unicode::Unicode;
-use iloc_parser::{SubtagIterator, take_word};
-use iloc_subtags::{AttributeKind, ParseError, UnicodeKeyKind};
+use iloc_subtags::{AttributeKind, ParseError, SubtagIterator, UnicodeKeyKind, take_word};
 use iloc_unicode_value::read_value;
 use iloc_word_set::{WordCollector, WordSet};
 use std::alloc::{AllocError, Global};
@@ -133,7 +133,7 @@ pub fn fill_unicode(
 
 // Takes the next piece, and returns whether it is `u` in either case.
 pub(crate) fn takes_u(iter: &mut SubtagIterator<'_>) -> bool
-    ensures u { result ≡ begins_part (is_letter 117) (left iter.old) }
+    ensures u { result ≡ begins_part (is_letter code_u) (left iter.old) }
     ensures rest { left iter.new ≡ rest_of (left iter.old) }
 {
     match iter.next() {

@@ -2,19 +2,18 @@
 ghost use Rattle.std.specs.Prelude.{◌≡◌, ◌↔◌, ◌&&◌, ◌==◌, [], length, IsTrue, OnOk, OnErr, Some};
 ghost use Rattle.std.specs.Cmp.{decided, partial_equiv_from_equiv};
 ghost use Rattle.std.specs.Hash.{same_Alike};
-ghost use Rattle.iloc_fronts.specs.Extending.{extend};
-ghost use Rattle.iloc_fronts.specs.Parts.{UnicodeText, UnicodeTextFault};
-ghost use Rattle.iloc_grammar.specs.Faults.{Fault};
+ghost use Rattle.iloc_spec_parts.specs.Extending.{extend};
+ghost use Rattle.iloc_spec_parts.specs.Parts.{UnicodeText, UnicodeTextFault};
+ghost use Rattle.iloc_spec_grammar.specs.Faults.{Fault};
 ghost use Rattle.iloc_subtags.specs.Judging.{Accepts, Refuses};
-ghost use Rattle.iloc_grammar.specs.Values.{unicode_spelling, unicode_text};
-ghost use Rattle.iloc_grammar.specs.Written.{Unicode as UnicodeParts};
-ghost use Rattle.iloc_orders.specs.Orders.{unicode_cmp};
+ghost use Rattle.iloc_spec_grammar.specs.Values.{unicode_spelling, unicode_text};
+ghost use Rattle.iloc_spec_grammar.specs.Written.{Unicode as UnicodeParts};
+ghost use Rattle.iloc_spec_orders.specs.Orders.{unicode_cmp};
 
 use crate::attributes::Attributes;
 use crate::keywords::Keywords;
 use crate::reader::takes_u;
-use iloc_parser::SubtagIterator;
-use iloc_subtags::ParseError;
+use iloc_subtags::{ParseError, SubtagIterator};
 use iloc_writeable::pieces::Pieces;
 use iloc_writeable::{Sink, Writeable};
 use std::alloc::{AllocError, Global};
@@ -105,7 +104,7 @@ impl Unicode {
 
     /// The union of the attributes, and the keywords of both, of which the other's value wins at a key
     /// of both. All growths come first: if an allocation fails, neither part has changed.
-    #[tactic(auto, using(iloc_fronts::proofs::ExtendingLaws::extend_associative))]
+    #[tactic(auto, using(iloc_spec_parts::proofs::ExtendingLaws::extend_associative))]
     pub fn extend(&mut self, alloc: Global, other: Unicode) -> Result<(), AllocError>
         ensures ok { OnOk result (value_of self.new ≡ extend (value_of self.old) (value_of other)) }
         ensures err { OnErr result (self.new ≡ self.old) }
@@ -174,7 +173,7 @@ impl Writeable for Unicode {
 
     ghost text = { λ u. unicode_text (value_of u) };
 
-    #[tactic(auto, unfolding(iloc_grammar::specs::Pieces::join, iloc_grammar::specs::Values::unicode_text))]
+    #[tactic(auto, unfolding(iloc_spec_grammar::specs::Pieces::join, iloc_spec_grammar::specs::Values::unicode_text))]
     fn write_to<S: Sink>(&self, sink: &mut S) -> fmt::Result {
         self.write_joined(sink)
     }

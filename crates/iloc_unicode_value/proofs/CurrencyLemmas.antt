@@ -4,13 +4,13 @@ use Rattle.std.proofs.lemmas.Bool.{false_from_ne_true}
 use Rattle.std.proofs.lemmas.Bool.Decides.{nat_tests}
 use Rattle.std.specs.Int.{is_in_range}
 use Rattle.std.specs.Cmp.{Equal-is}
-use Rattle.iloc_grammar.specs.Words.{CurrencyType, Subtag, is_word, IsWord, is_true}
-use Rattle.iloc_grammar.specs.Values.{IsNormal}
-use Rattle.iloc_grammar.proofs.WordsLaws.{word_letters_or_digits}
-use Rattle.iloc_grammar.proofs.MapLaws.{same_words}
+use Rattle.iloc_spec_grammar.specs.Words.{CurrencyType, Subtag, is_word, IsWord, is_true}
+use Rattle.iloc_spec_grammar.specs.Values.{IsNormal}
+use Rattle.iloc_spec_grammar.proofs.WordsLaws.{word_letters_or_digits}
+use Rattle.iloc_spec_grammar.proofs.MapLaws.{same_words}
 use Rattle.iloc_shortvec.specs.ShortList.{only_of}
 use Rattle.iloc_unicode_value.specs.Values.{without_true}
-use Rattle.iloc_fronts.specs.SingleValues.{single}
+use Rattle.iloc_spec_parts.specs.SingleValues.{single}
 
 pub only_is_single : (ws : List (List ℕ)) → only_of ws ≡ single ws
 only_is_single [] = refl

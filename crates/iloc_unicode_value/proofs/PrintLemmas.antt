@@ -3,7 +3,7 @@ use Rattle.std.proofs.Common.{◌≡◌, ℕ, List, ap, sym, ◌∙◌, Bool, Is
 use Rattle.std.specs.Ordering.{nat_cmp, is_eq}
 use Rattle.std.specs.Cmp.{Equal-is, eq_by_cmp_equiv}
 use Rattle.std.specs.Cmp.Lexicographic.{slice_cmp}
-use Rattle.iloc_grammar.proofs.MapLaws.{same_words, word_cmp_total}
+use Rattle.iloc_spec_grammar.proofs.MapLaws.{same_words, word_cmp_total}
 
 -- texts tie in byte order exactly where they are equal
 pub equal_texts : (v w : List ℕ) (b : Bool) → b ≡ is_eq (slice_cmp nat_cmp v w) → IsTrue b ↔ (v ≡ w)

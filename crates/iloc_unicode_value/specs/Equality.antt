@@ -1,5 +1,6 @@
 -- The equality test of lists, item by item, finds exactly equal lists equal.
 use Rattle.std.proofs.Common.{◌≡◌, ◌↔◌, ℕ, Bool, true, List, ap, nat_eq}
+use Rattle.iloc_spec_grammar.specs.Shapes.{Text}
 use lib.Pointwise.{pointwise, pointwise_decides, bytes_decides}
 
 -- the test answers true exactly at equal values
@@ -13,7 +14,7 @@ pub word_exact : IsExactTest (pointwise nat_eq)
 word_exact = bytes_decides
 
 -- the equality test of lists of words
-abbrev pub words_eq : List (List ℕ) → List (List ℕ) → Bool
+abbrev pub words_eq : List Text → List Text → Bool
 words_eq = pointwise (pointwise nat_eq)
 
 pub words_exact : IsExactTest words_eq

@@ -1,20 +1,21 @@
 -- What a text is read as, as a whole value.
 use Rattle.std.specs.Prelude.{◌≡◌, ℕ, ◌<◌, List, length, Result, Ok, Err}
-use Rattle.iloc_grammar.specs.Pieces.{pieces}
-use Rattle.iloc_grammar.specs.Words.{Subtag, is_word}
-use Rattle.iloc_grammar.specs.Meaning.{normal_values}
-use Rattle.iloc_grammar.specs.Reading.{passing}
-use Rattle.iloc_grammar.specs.Faults as faults
-use Rattle.iloc_fronts.specs.PartValues.{unicode_value}
+use Rattle.iloc_spec_grammar.specs.Shapes.{Text}
+use Rattle.iloc_spec_grammar.specs.Pieces.{pieces}
+use Rattle.iloc_spec_grammar.specs.Words.{Subtag, is_word}
+use Rattle.iloc_spec_grammar.specs.Meaning.{normal_values}
+use Rattle.iloc_spec_grammar.specs.Reading.{passing}
+use Rattle.iloc_spec_grammar.specs.Faults as faults
+use Rattle.iloc_spec_parts.specs.PartValues.{unicode_value}
 use Rattle.iloc_subtags.specs.declared.parse_error.ParseError.{ParseError}
 use Rattle.iloc_subtags.specs.Answers.{Answers, SubtagFault}
 
 -- memory may run out only for a fifth word besides `true`
-abbrev pub ValueWants : List ℕ → Type 0
+abbrev pub ValueWants : Text → Type 0
 ValueWants t = 4 < length (normal_values (passing (is_word Subtag) (pieces t)))
 
 -- by cases on the answer
-abbrev pub ReadsAs : List ℕ → Result (List (List ℕ)) ParseError → Type 0
+abbrev pub ReadsAs : Text → Result (List Text) ParseError → Type 0
 ReadsAs t = Answers (λ v. unicode_value t ≡ Ok v)
     (SubtagFault (unicode_value t ≡ Err faults.InvalidSubtag))
     (ValueWants t)

@@ -1,10 +1,11 @@
 -- Why the value of a keyword is refused, and what a reader of keywords answers.
 use Rattle.std.specs.Prelude.{◌≡◌, ℕ, List, Option, Some, None, Result, Ok, Err, codes}
+use Rattle.iloc_spec_grammar.specs.Shapes.{Text}
 use Rattle.iloc_unicode_value.specs.declared.errors.PreferencesParseError.{PreferencesParseError}
 use Rattle.iloc_unicode_value.specs.declared.errors.PreferencesParseError.TheVariants.{InvalidKeywordValue, OutOfMemory}
 
 -- the words of each refusal
-abbrev pub words_of : PreferencesParseError → List ℕ
+abbrev pub words_of : PreferencesParseError → Text
 words_of InvalidKeywordValue = codes "The given keyword value is not a valid preference variant."
 words_of OutOfMemory = codes "Out of memory"
 

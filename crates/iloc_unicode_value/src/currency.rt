@@ -1,9 +1,9 @@
 //! Currencies as values of their keyword (`cu`). They stand here, because such conversions can stand only in
 //! the crate of one of the two types.
 ghost use Rattle.std.specs.Prelude.{◌≡◌, option_and_then};
-ghost use Rattle.iloc_grammar.specs.Words.{Subtag};
-ghost use Rattle.iloc_grammar.specs.Values.{IsNormal};
-ghost use Rattle.iloc_fronts.specs.SingleValues.{currency_reads, currency_gives};
+ghost use Rattle.iloc_spec_grammar.specs.Words.{Subtag};
+ghost use Rattle.iloc_spec_grammar.specs.Values.{IsNormal};
+ghost use Rattle.iloc_spec_parts.specs.SingleValues.{currency_reads, currency_gives};
 ghost use Rattle.iloc_unicode_value.specs.Refusals.{Reads};
 
 use crate::errors::PreferencesParseError;

@@ -8,8 +8,9 @@
 #![tactic(auto)]
 
 ghost use Rattle.std.specs.Prelude.{◌≡◌, ◌↔◌, ℕ, List, IsTrue};
-ghost use Rattle.iloc_orders.specs.Orders.{words_cmp};
-ghost use Rattle.iloc_orders.specs.Hashes.{words_fed};
+ghost use Rattle.iloc_spec_grammar.specs.Shapes.{Text};
+ghost use Rattle.iloc_spec_orders.specs.Orders.{words_cmp};
+ghost use Rattle.iloc_spec_orders.specs.Hashes.{words_fed};
 
 use std::hash::Hash;
 
@@ -26,16 +27,16 @@ pub use value::Value;
 
 /// Values stand in the order of the definitions.
 pub fn orders()
-    ensures { (v w : List (List ℕ)) → ⟦<Value as Ord>⟧.cmp v w ≡ words_cmp v w }
+    ensures { (v w : List Text) → ⟦<Value as Ord>⟧.cmp v w ≡ words_cmp v w }
 {}
 
 /// `==` tells whether two values are the same.
 #[tactic(auto, using(crate::specs::Equality::words_exact))]
 pub fn equality()
-    ensures { (v w : List (List ℕ)) → IsTrue (⟦<Value as PartialEq>⟧.eq v w) ↔ (v ≡ w) }
+    ensures { (v w : List Text) → IsTrue (⟦<Value as PartialEq>⟧.eq v w) ↔ (v ≡ w) }
 {}
 
 /// A hasher is fed the subtags of a value.
 pub fn hashes()
-    ensures { (v : List (List ℕ)) → ⟦<Value as Hash>⟧.hash_input v ≡ words_fed v }
+    ensures { (v : List Text) → ⟦<Value as Hash>⟧.hash_input v ≡ words_fed v }
 {}

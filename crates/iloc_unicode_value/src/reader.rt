@@ -1,20 +1,22 @@
 //! Parses values from pieces.
 ghost use Rattle.std.specs.Prelude.{◌≡◌, ◌≤◌, ℕ, List, [], length, map, Ok, Err, IfOk, OnOk, IsOk};
-ghost use Rattle.iloc_grammar.specs.Pieces.{pieces};
-ghost use Rattle.iloc_grammar.specs.Words.{Attribute, Subtag, is_word, normal};
-ghost use Rattle.iloc_grammar.specs.Values.{IsNormal};
-ghost use Rattle.iloc_grammar.specs.Meaning.{normal_values};
-ghost use Rattle.iloc_grammar.specs.Reading.{passing, past};
-ghost use Rattle.iloc_parser.specs.Left.{left};
+ghost use Rattle.iloc_spec_grammar.specs.Shapes.{Text};
+ghost use Rattle.iloc_spec_grammar.specs.Pieces.{pieces};
+ghost use Rattle.iloc_spec_grammar.specs.Words.{Attribute, Subtag, is_word, normal};
+ghost use Rattle.iloc_spec_grammar.specs.Values.{IsNormal};
+ghost use Rattle.iloc_spec_grammar.specs.Meaning.{normal_values};
+ghost use Rattle.iloc_spec_grammar.specs.Reading.{passing, past};
+ghost use Rattle.iloc_subtags.specs.Left.{left};
 ghost use Rattle.iloc_unicode_value.specs.Values.{without_true};
-ghost use Rattle.iloc_grammar.specs.Faults.{Fault};
-ghost use Rattle.iloc_fronts.specs.PartValues.{unicode_value};
+ghost use Rattle.iloc_spec_grammar.specs.Faults.{Fault};
+ghost use Rattle.iloc_spec_parts.specs.PartValues.{unicode_value};
 ghost use Rattle.iloc_subtags.specs.Judging.{Accepts, Refuses};
 ghost use Rattle.iloc_unicode_value.specs.Reads.{ReadsAs, ValueWants};
 
 use crate::value::Value;
-use iloc_parser::{SubtagIterator, take_word};
-use iloc_subtags::{AttributeKind, ParseError, Subtag, SubtagKind, WordKind, WordOf};
+use iloc_subtags::{
+    AttributeKind, ParseError, Subtag, SubtagIterator, SubtagKind, WordKind, WordOf, take_word,
+};
 use std::alloc::{AllocError, Global};
 
 impl Value {
@@ -22,7 +24,7 @@ impl Value {
     /// empty value. Refuses any other piece by `InvalidSubtag`.
     pub fn try_from_utf8(alloc: Global, code_units: &[u8]) -> Result<Self, ParseError>
         ensures reads { ReadsAs code_units.now result }
-        ensures accepted { (v : List (List ℕ)) → unicode_value code_units.now ≡ Ok v
+        ensures accepted { (v : List Text) → unicode_value code_units.now ≡ Ok v
             → Accepts (λ v. v) (ValueWants code_units.now) v result }
         ensures refused { (f : Fault) → unicode_value code_units.now ≡ Err f
             → Refuses (ValueWants code_units.now) f result }
@@ -48,7 +50,7 @@ impl Value {
     /// Parses a `str`, as `try_from_utf8` parses bytes.
     pub fn try_from_str(alloc: Global, s: &str) -> Result<Self, ParseError>
         ensures reads { ReadsAs s.now result }
-        ensures accepted { (v : List (List ℕ)) → unicode_value s.now ≡ Ok v
+        ensures accepted { (v : List Text) → unicode_value s.now ≡ Ok v
             → Accepts (λ v. v) (ValueWants s.now) v result }
         ensures refused { (f : Fault) → unicode_value s.now ≡ Err f
             → Refuses (ValueWants s.now) f result }
@@ -59,7 +61,7 @@ impl Value {
 
 /// Parses the longest front of pieces that values are made of: 3 to 8 letters or digits. Up to four
 /// besides `true` allocate nothing.
-#[tactic(auto, using(iloc_grammar::proofs::WellRead::attribute_is_subtag))]
+#[tactic(auto, using(iloc_spec_grammar::proofs::WellRead::attribute_is_subtag))]
 pub fn read_value(alloc: Global, iter: &mut SubtagIterator<'_>) -> Result<Value, AllocError>
     ensures value { IfOk result
         (λ v. v ≡ normal_values (passing (is_word Attribute) (left iter.old))) }
@@ -75,7 +77,7 @@ fn read_words<K: WordKind<8>>(
     alloc: Global,
     iter: &mut SubtagIterator<'_>,
 ) -> Result<Value, AllocError>
-    requires { (w : List ℕ) → IsNormal K.kind w → IsNormal Subtag w }
+    requires { (w : Text) → IsNormal K.kind w → IsNormal Subtag w }
     ensures value { IfOk result
         (λ v. v ≡ without_true (map (normal K.kind) (passing (is_word K.kind) (left iter.old)))) }
     ensures rest { OnOk result (left iter.new ≡ past (is_word K.kind) (left iter.old)) }
@@ -91,7 +93,7 @@ fn read_words<K: WordKind<8>>(
 
 // The word as a subtag.
 fn subtag_of<K: WordKind<8>>(word: &WordOf<K, 8>) -> Subtag
-    requires { (w : List ℕ) → IsNormal K.kind w → IsNormal Subtag w }
+    requires { (w : Text) → IsNormal K.kind w → IsNormal Subtag w }
     ensures { result ≡ word.now }
 {
     let _ = word.as_str();

@@ -5,8 +5,9 @@ ghost use Rattle.std.specs.Iterator.{IsFiniteIterable, Drains};
 ghost use Rattle.std.specs.Option.{option_copied};
 ghost use Rattle.std.specs.Cmp.Rules.{comparing};
 ghost use Rattle.std.proofs.Common.{rules};
-ghost use Rattle.iloc_grammar.specs.Words.{Subtag, is_true};
-ghost use Rattle.iloc_grammar.specs.Values.{IsNormal};
+ghost use Rattle.iloc_spec_grammar.specs.Shapes.{Text};
+ghost use Rattle.iloc_spec_grammar.specs.Words.{Subtag, is_true};
+ghost use Rattle.iloc_spec_grammar.specs.Values.{IsNormal};
 ghost use Rattle.iloc_shortvec.specs.ShortList.{only_of};
 ghost use Rattle.iloc_unicode_value.specs.Equality.{words_eq, words_exact, alike};
 ghost use Rattle.iloc_unicode_value.specs.Values.{without_true, with_subtag};
@@ -173,7 +174,7 @@ impl Value {
         I::IntoIter: Drop,
         requires { IsFiniteIterable I.into_iter_gives I.IntoIter.can_next
             I.IntoIter.remaining iter }
-        ensures ok { OnOk result ((it : I.IntoIter) × (xs : List (List ℕ))
+        ensures ok { OnOk result ((it : I.IntoIter) × (xs : List Text)
             × I.into_iter_gives iter it × Drains I.IntoIter.next_gives it xs
             × (self.new ≡ self.old ++ xs)) }
         ensures err { OnErr result (self.new ≡ self.old) }
@@ -201,7 +202,7 @@ impl Value {
 }
 
 /// Whether the subtag is `true`.
-#[tactic(auto, unfolding(iloc_grammar::specs::Words::is_true))]
+#[tactic(auto, unfolding(iloc_spec_grammar::specs::Words::is_true))]
 fn spells_true(subtag: &Subtag) -> bool
     ensures value { result ≡ is_true subtag.now }
     ensures normal { IsNormal Subtag subtag.now }

@@ -14,14 +14,14 @@ use Rattle.std.proofs.lemmas.Bool.{and_parts, and_from, or_parts}
 use Rattle.std.proofs.lemmas.List.Sorted.{IsPermutation-refl, IsPermutation-sym, IsPermutation-cons, IsPermutation-trans, IsPermutation-middle, IsPermutation-to_front, list_any-IsPermutation}
 use Rattle.std.proofs.lemmas.List.Edits.{insert_end}
 use Rattle.std.proofs.lemmas.List.Kept.{IsStrictlySortedBy-dedup}
-use Rattle.iloc_grammar.specs.Words.{word_cmp, is_same}
-use Rattle.iloc_grammar.specs.Written.{AllDifferent}
-use Rattle.iloc_grammar.specs.Meaning.{map_of, set_of}
-use Rattle.iloc_grammar.specs.Values.{IsAscending}
-use Rattle.iloc_grammar.proofs.MapLaws.{word_cmp_total, same_words}
-use Rattle.iloc_grammar.proofs.SetLaws.{marked, keys, set_of-set_of, length-set_of-cons, length-set_of}
-use Rattle.iloc_grammar.proofs.ValuesLaws.{set_of_ascending}
-use Rattle.iloc_grammar.proofs.WellRead.{set_of-ascending}
+use Rattle.iloc_spec_grammar.specs.Words.{word_cmp, is_same}
+use Rattle.iloc_spec_grammar.specs.Written.{AllDifferent}
+use Rattle.iloc_spec_grammar.specs.Meaning.{map_of, set_of}
+use Rattle.iloc_spec_grammar.specs.Values.{IsAscending}
+use Rattle.iloc_spec_grammar.proofs.MapLaws.{word_cmp_total, same_words}
+use Rattle.iloc_spec_grammar.proofs.SetLaws.{marked, keys, set_of-set_of, length-set_of-cons, length-set_of}
+use Rattle.iloc_spec_grammar.proofs.ValuesLaws.{set_of_ascending}
+use Rattle.iloc_spec_grammar.proofs.WellRead.{set_of-ascending}
 use Rattle.iloc_word_set.specs.Ascending.{ascends}
 use Rattle.iloc_word_set.specs.TakingIn.{TakesIn}
 use Rattle.iloc_word_set.proofs.SetLaws.{same_set, set_ascends}

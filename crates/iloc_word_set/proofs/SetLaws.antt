@@ -11,13 +11,13 @@ use Rattle.std.specs.FinMap.Entries.{below_all, is_some-find, where_key, is_sort
 use Rattle.std.proofs.lemmas.Bool.{and_parts, or_parts}
 use Rattle.std.proofs.lemmas.List.{drop_all, drop_more}
 use Rattle.std.proofs.lemmas.List.Elements.{All-from_recursion}
-use Rattle.iloc_grammar.specs.Words.{word_cmp, is_same}
-use Rattle.iloc_grammar.specs.Meaning.{set_of}
-use Rattle.iloc_grammar.specs.Values.{IsAscending}
-use Rattle.iloc_grammar.proofs.MapLaws.{word_cmp_total, same_words, to_T, less, map_of_same, map_of_sorted, from_T}
-use Rattle.iloc_grammar.proofs.ValuesLaws.{unmarked, set_of_ascending}
+use Rattle.iloc_spec_grammar.specs.Words.{word_cmp, is_same}
+use Rattle.iloc_spec_grammar.specs.Meaning.{set_of}
+use Rattle.iloc_spec_grammar.specs.Values.{IsAscending}
+use Rattle.iloc_spec_grammar.proofs.MapLaws.{word_cmp_total, same_words, to_T, less, map_of_same, map_of_sorted, from_T}
+use Rattle.iloc_spec_grammar.proofs.ValuesLaws.{unmarked, set_of_ascending}
 use Rattle.iloc_word_set.specs.Ascending.{ascends}
-use Rattle.iloc_grammar.proofs.SetLaws.{marked, keys, any-set_of}
+use Rattle.iloc_spec_grammar.proofs.SetLaws.{marked, keys, any-set_of}
 use Rattle.std.proofs.lemmas.List.Folds.{list_any-append}
 
 -- the order

@@ -1,12 +1,13 @@
 -- The words that a collector holds, by how they are kept.
 use Rattle.std.specs.Prelude.{◌≡◌, ℕ, ◌<◌, true, List, length}
-use Rattle.iloc_grammar.specs.Meaning.{set_of}
-use Rattle.iloc_grammar.specs.Values.{IsAscending}
+use Rattle.iloc_spec_grammar.specs.Shapes.{Text}
+use Rattle.iloc_spec_grammar.specs.Meaning.{set_of}
+use Rattle.iloc_spec_grammar.specs.Values.{IsAscending}
 use Rattle.iloc_word_set.specs.declared.word_collector.Collected.{Collected}
 use Rattle.iloc_word_set.specs.declared.word_collector.Collected.TheVariants.{Four, Many}
 
 -- the words
-abbrev pub words_of : {K : Type 0} {N : ℕ} → Collected K N → List (List ℕ)
+abbrev pub words_of : {K : Type 0} {N : ℕ} → Collected K N → List Text
 words_of (Four set) = set
 words_of (Many words ascend) = words.items
 

@@ -5,12 +5,13 @@
 //! word once. Contracts see both as the list of the texts. Up to four words stand in place; beyond them
 //! they allocate, and a call that runs out of memory leaves them as before. Searches of sets go by halves.
 //!
-//! It stands on `iloc_grammar` and `iloc_orders` (definitions), `iloc_subtags` (words), `iloc_shortvec` (lists
+//! It stands on `iloc_spec_grammar` and `iloc_spec_orders` (definitions), `iloc_subtags` (words), `iloc_shortvec` (lists
 //! that keep four words in place) and `iloc_writeable` (printing).
 #![tactic(auto)]
 
 ghost use Rattle.std.specs.Prelude.{◌≡◌, ℕ, List};
-ghost use Rattle.iloc_orders.specs.Hashes.{word_fed, words_fed};
+ghost use Rattle.iloc_spec_grammar.specs.Shapes.{Text};
+ghost use Rattle.iloc_spec_orders.specs.Hashes.{word_fed, words_fed};
 
 use iloc_subtags::{WordKind, WordOf};
 use std::hash::Hash;
@@ -28,6 +29,6 @@ pub use word_set::{Variants, WordSet};
 
 /// A hasher is fed the text of a word, and the words of a set.
 pub fn hashes<K: WordKind<N>, const N: usize>()
-    ensures words { (w : List ℕ) → ⟦<WordOf<K, N> as Hash>⟧.hash_input w ≡ word_fed w }
-    ensures sets { (ws : List (List ℕ)) → ⟦<WordSet<K, N> as Hash>⟧.hash_input ws ≡ words_fed ws }
+    ensures words { (w : Text) → ⟦<WordOf<K, N> as Hash>⟧.hash_input w ≡ word_fed w }
+    ensures sets { (ws : List Text) → ⟦<WordSet<K, N> as Hash>⟧.hash_input ws ≡ words_fed ws }
 {}

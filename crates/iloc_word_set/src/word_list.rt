@@ -1,7 +1,7 @@
 //! The list of words of a kind.
 ghost use Rattle.std.specs.Prelude.{◌≡◌, ◌<◌, ◌≤◌, [], ◌∷◌, ◌++◌, length, insert, remove, slice_get, Some, IfOk, OnOk, OnErr, IsOk};
 ghost use Rattle.std.specs.List.{AllByRecursion};
-ghost use Rattle.iloc_grammar.specs.Values.{IsNormal};
+ghost use Rattle.iloc_spec_grammar.specs.Values.{IsNormal};
 
 use iloc_shortvec::{ShortWords, ShortWordsIntoIter};
 use iloc_subtags::{WordKind, WordOf, are_normal, is_normal};
@@ -22,7 +22,7 @@ pub struct WordList<K: WordKind<N>, const N: usize> {
 impl<K: WordKind<N>, const N: usize> Model for WordList<K, N> {
     ghost use Rattle.std.specs.Prelude.{List, ℕ};
     ghost use Rattle.std.specs.List.{AllByRecursion};
-    ghost use Rattle.iloc_grammar.specs.Values.{IsNormal};
+    ghost use Rattle.iloc_spec_grammar.specs.Values.{IsNormal};
 
     ghost Value = { List (List ℕ) };
 

@@ -3,10 +3,10 @@ ghost use Rattle.std.specs.Prelude.{◌≡◌, ◌<◌, ◌≤◌, ◌+◌, ◌=
 ghost use Rattle.std.specs.List.{list_any, AllByRecursion};
 ghost use Rattle.std.specs.Slice.{IsItemAt};
 ghost use Rattle.std.specs.Slice.Iter.{iter_rest};
-ghost use Rattle.iloc_grammar.specs.Words.{is_same, word_cmp};
+ghost use Rattle.iloc_spec_grammar.specs.Words.{is_same, word_cmp};
 ghost use Rattle.iloc_word_set.specs.Ascending.{ascends};
-ghost use Rattle.iloc_grammar.specs.Meaning.{set_of};
-ghost use Rattle.iloc_grammar.specs.Values.{IsNormal, IsAscending};
+ghost use Rattle.iloc_spec_grammar.specs.Meaning.{set_of};
+ghost use Rattle.iloc_spec_grammar.specs.Values.{IsNormal, IsAscending};
 
 use crate::word_list::WordList;
 use iloc_subtags::{Variant, VariantKind, WordKind, WordOf};
@@ -27,7 +27,7 @@ pub struct WordSet<K: WordKind<N>, const N: usize> {
 
 impl<K: WordKind<N>, const N: usize> Model for WordSet<K, N> {
     ghost use Rattle.std.specs.Prelude.{List, ℕ};
-    ghost use Rattle.iloc_grammar.specs.Values.{IsAscending};
+    ghost use Rattle.iloc_spec_grammar.specs.Values.{IsAscending};
 
     ghost Value = { List (List ℕ) };
 

@@ -3,7 +3,7 @@ ghost use Rattle.std.specs.Prelude.{◌≡◌, ℕ, ◌+◌, ◌-◌, ◌<◌, �
 ghost use Rattle.iloc_writeable.specs.Pieces.{hyphened};
 ghost use Rattle.iloc_writeable.specs.VecSink.{Extended};
 
-use iloc_short_pieces::ShortPiece;
+use iloc_tinystr::ShortPiece;
 
 // A hyphen, the piece, and zeros.
 #[inline(always)]

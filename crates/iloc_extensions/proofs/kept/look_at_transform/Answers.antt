@@ -1,6 +1,6 @@
 use Rattle.std.proofs.Common.{Option, Some, None, IfSome, option_map}
-use Rattle.iloc_grammar.specs.Words.{languages}
-use Rattle.iloc_grammar.specs.Values.{IsIdentifierValue}
+use Rattle.iloc_spec_grammar.specs.Words.{languages}
+use Rattle.iloc_spec_grammar.specs.Values.{IsIdentifierValue}
 use Rattle.iloc_langid.specs.Reads as identifiers
 use Rattle.iloc_langid.specs.declared.identifier.LanguageIdentifier.{LanguageIdentifier}
 use Rattle.iloc_extensions.proofs.kept.look_at_transform.Goals as goal

@@ -1,6 +1,6 @@
 -- Nothing but the words of the variants is read.
 use Rattle.std.proofs.Common.{sym, ap, ◌∙◌, option_map, option_and_then}
-use Rattle.iloc_preferences_rules.specs.Keywords.{enum_reads}
+use Rattle.iloc_spec_preferences.specs.Keywords.{enum_reads}
 use Rattle.iloc_keyword_types.specs.WordTables.{place_of}
 use Rattle.iloc_keyword_types.proofs.EnumLemmas.{answered, read_by_word, variant}
 use Rattle.iloc_keyword_types.proofs.enum_keyword.read_keyword.Goals as goal

@@ -1,5 +1,5 @@
 use Rattle.std.proofs.Common.{◌&&◌, drop, ap, sym, ◌∙◌, subst}
-use Rattle.iloc_parser.specs.Left.{left}
+use Rattle.iloc_subtags.specs.Left.{left}
 use Rattle.iloc_langid.specs.Agreeing.{AreVariants, are_all_among}
 use Rattle.iloc_langid.proofs.WalkLemmas.{front_set, back_set, among_parts}
 use Rattle.iloc_langid.proofs.agreeing.has_each.Goals as goal

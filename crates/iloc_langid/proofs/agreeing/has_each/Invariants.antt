@@ -1,5 +1,5 @@
 use Rattle.std.proofs.Common.{◌≡◌, length}
-use Rattle.iloc_parser.specs.Left.{left}
+use Rattle.iloc_subtags.specs.Left.{left}
 use Rattle.iloc_langid.specs.Agreeing.{AreVariants, are_all_among}
 use Rattle.iloc_langid.proofs.agreeing.has_each.Given as goal
 

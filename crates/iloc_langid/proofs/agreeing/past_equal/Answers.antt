@@ -1,7 +1,7 @@
 use Rattle.std.proofs.Common.{◌≡◌, ◌∷◌, map, ap, sym, refl, ◌∙◌, subst}
 use Rattle.std.specs.Char.{to_ascii_lowercase}
-use Rattle.iloc_grammar.specs.Words.{lower}
-use Rattle.iloc_parser.specs.Left.{left}
+use Rattle.iloc_spec_grammar.specs.Words.{lower}
+use Rattle.iloc_subtags.specs.Left.{left}
 use Rattle.iloc_langid.specs.Agreeing.{AreVariants, are_just}
 use Rattle.iloc_langid.proofs.WalkLemmas.{first_equal, back_set}
 use Rattle.iloc_langid.proofs.agreeing.past_equal.Goals as goal

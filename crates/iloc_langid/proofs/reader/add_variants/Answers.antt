@@ -1,6 +1,6 @@
 use Rattle.std.proofs.Common.{◌∙◌, ◌++◌, subst, Ok, Err}
 use Rattle.std.proofs.lemmas.Result.{err_from_is_err_and}
-use Rattle.iloc_parser.specs.Left.{left}
+use Rattle.iloc_subtags.specs.Left.{left}
 use Rattle.iloc_langid.specs.Reads.{VariantsGive}
 use Rattle.iloc_langid.proofs.TakingLemmas.{few_known, few_new, few_more, few_old, few_done}
 use Rattle.iloc_langid.proofs.reader.add_variants.Goals as goal

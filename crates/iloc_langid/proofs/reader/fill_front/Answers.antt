@@ -1,4 +1,4 @@
-use Rattle.iloc_parser.specs.Left.{left}
+use Rattle.iloc_subtags.specs.Left.{left}
 use Rattle.iloc_langid.proofs.FrontLemmas.{front_reads}
 use Rattle.iloc_langid.proofs.reader.fill_front.Goals as goal
 

@@ -1,7 +1,7 @@
 use Rattle.std.proofs.Common.{ap, sym, ◌∙◌}
 use Rattle.std.specs.Option.{option_copied}
 use Rattle.std.proofs.lemmas.Result.{err_from_is_err_and}
-use Rattle.iloc_parser.specs.Left.{left}
+use Rattle.iloc_subtags.specs.Left.{left}
 use Rattle.iloc_langid.proofs.FrontLemmas.{head_refuses, head_gives, head_more, peeked_long, peeked_short, peeked_end}
 use Rattle.iloc_langid.proofs.reader.fill_head.Goals as goal
 

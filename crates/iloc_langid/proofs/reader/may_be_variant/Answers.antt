@@ -1,4 +1,4 @@
-use Rattle.iloc_parser.specs.Left.{left}
+use Rattle.iloc_subtags.specs.Left.{left}
 use Rattle.iloc_langid.proofs.ShortLemmas.{too_few}
 use Rattle.iloc_langid.proofs.reader.may_be_variant.Goals as goal
 

@@ -1,6 +1,6 @@
 use Rattle.std.proofs.Common.{◌≡◌, ℕ, ◌<◌, ◌≤◌, ◌++◌, true≢false, arith, false, true, sym, subst}
 use Rattle.std.proofs.lemmas.Result.{err_from_is_err_and}
-use Rattle.iloc_parser.specs.Left.{left}
+use Rattle.iloc_subtags.specs.Left.{left}
 use Rattle.iloc_word_set.proofs.CollectorLaws.{known_there, one_more}
 use Rattle.iloc_langid.proofs.TakingLemmas.{Taking, taking_few, takes_new, takes_old, takes_much, more_done, more_twice}
 use Rattle.iloc_langid.proofs.reader.read_more_variants.Goals as goal

@@ -1,5 +1,5 @@
 use Rattle.std.proofs.Common.{◌++◌, length}
-use Rattle.iloc_parser.specs.Left.{left}
+use Rattle.iloc_subtags.specs.Left.{left}
 use Rattle.iloc_langid.proofs.TakingLemmas.{Taking}
 use Rattle.iloc_langid.proofs.reader.read_more_variants.Given as goal
 

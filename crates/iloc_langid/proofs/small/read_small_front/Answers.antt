@@ -1,7 +1,7 @@
 use Rattle.std.proofs.Common.{◌∷◌, ap, sym, ◌∙◌}
-use Rattle.iloc_grammar.specs.Words.{Language, languages}
-use Rattle.iloc_parser.specs.Left.{left}
-use Rattle.iloc_parser.proofs.TakingLemmas.{took}
+use Rattle.iloc_spec_grammar.specs.Words.{Language, languages}
+use Rattle.iloc_subtags.specs.Left.{left}
+use Rattle.iloc_subtags.proofs.TakingLemmas.{took}
 use Rattle.iloc_langid.proofs.FrontLemmas.{none_first}
 use Rattle.iloc_langid.proofs.SmallLemmas.{parts_give}
 use Rattle.iloc_langid.proofs.small.read_small_front.Goals as goal

@@ -1,6 +1,6 @@
 use Rattle.std.proofs.Common.{subst, Ok, Err}
 use Rattle.std.proofs.lemmas.Result.{err_from_is_err_and}
-use Rattle.iloc_parser.specs.Left.{left}
+use Rattle.iloc_subtags.specs.Left.{left}
 use Rattle.iloc_subtags.specs.declared.parse_error.ParseError.TheVariants.{InvalidSubtag}
 use Rattle.iloc_langid.specs.SmallReads.{SmallReadsAs}
 use Rattle.iloc_langid.proofs.FrontLemmas.{peeked_none, peeked_some}

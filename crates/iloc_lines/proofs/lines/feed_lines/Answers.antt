@@ -1,7 +1,7 @@
 use Rattle.std.proofs.Common.{◌≢◌, ℕ, List, [], ◌++◌, ap, ◌∙◌, sym, append_assoc}
 use Rattle.std.proofs.lemmas.List.Elements.{All-nil}
-use Rattle.iloc_grammar.specs.Words.{languages}
-use Rattle.iloc_output.proofs.LineCuts.{output-cut}
+use Rattle.iloc_spec_grammar.specs.Words.{languages}
+use Rattle.iloc_spec_output.proofs.LineCuts.{output-cut}
 use Rattle.iloc_lines.specs.Output.{mode_of, output, reply}
 use Rattle.iloc_lines.specs.ReplyBlock.{held}
 use Rattle.iloc_lines.proofs.lines.feed_lines.Goals as goal

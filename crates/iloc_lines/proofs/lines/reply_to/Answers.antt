@@ -1,8 +1,8 @@
 use Rattle.std.proofs.Common.{◌≡◌, ℕ, false, List, [], ◌∷◌, ◌++◌, OnOk, subst}
-use Rattle.iloc_grammar.specs.Values.{identifier_text}
-use Rattle.iloc_grammar.specs.Pieces.{pieces}
-use Rattle.iloc_grammar.specs.Blocks.{first_piece}
-use Rattle.iloc_grammar.specs.Words.{Language, is_word, languages}
+use Rattle.iloc_spec_grammar.specs.Values.{identifier_text}
+use Rattle.iloc_spec_grammar.specs.Pieces.{pieces}
+use Rattle.iloc_spec_grammar.specs.Blocks.{first_piece}
+use Rattle.iloc_spec_grammar.specs.Words.{Language, is_word, languages}
 use Rattle.iloc_plain.specs.Plain.{IsPlain, value_of}
 use Rattle.iloc_lines.specs.ReplyBlock.{held}
 use Rattle.iloc_lines.proofs.PlainLemmas.{plain_reply, no_language_reply}

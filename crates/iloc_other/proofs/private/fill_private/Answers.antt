@@ -1,10 +1,10 @@
 use Rattle.std.proofs.Common.{◌++◌, ◌∷◌, [], sym, ap, ◌∙◌, true≢false}
 use Rattle.std.proofs.lemmas.Result.{err_from_is_err_and}
-use Rattle.iloc_grammar.specs.Words.{PrivateSubtag}
-use Rattle.iloc_parser.specs.Left.{left}
+use Rattle.iloc_spec_grammar.specs.Words.{PrivateSubtag}
+use Rattle.iloc_subtags.specs.Left.{left}
 use Rattle.iloc_other.proofs.TakingLemmas.{takes_word, refuses_piece, wants_memory, takes_none}
 use Rattle.iloc_other.proofs.private.fill_private.Goals as goal
-use Rattle.iloc_grammar.proofs.ReadWords.{accepted_from_read, refused_from_read}
+use Rattle.iloc_spec_grammar.proofs.ReadWords.{accepted_from_read, refused_from_read}
 
 pub returns-in_err-word : goal.returns-in_err-word
 returns-in_err-word c =

@@ -1,5 +1,5 @@
 -- The words so far are those of the pieces so far.
-use Rattle.iloc_parser.specs.Left.{left}
+use Rattle.iloc_subtags.specs.Left.{left}
 use Rattle.iloc_other.proofs.TakingLemmas.{TakingWords}
 use Rattle.iloc_other.proofs.private.fill_private.Given as goal
 

@@ -1,4 +1,4 @@
-use Rattle.iloc_grammar.specs.Values.{IsNormal}
+use Rattle.iloc_spec_grammar.specs.Values.{IsNormal}
 use Rattle.iloc_subtags.proofs.InTurn.{all_from, all_past}
 use Rattle.iloc_subtags.proofs.word_of.are_normal.Goals as goal
 

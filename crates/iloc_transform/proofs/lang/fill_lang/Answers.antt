@@ -1,4 +1,4 @@
-use Rattle.iloc_parser.specs.Left.{left}
+use Rattle.iloc_subtags.specs.Left.{left}
 use Rattle.iloc_transform.proofs.TransformLemmas.{no_lang, other_lang, some_lang}
 use Rattle.iloc_transform.proofs.lang.fill_lang.Goals as goal
 

@@ -1,6 +1,6 @@
 use Rattle.std.proofs.Common.{sym, ◌∙◌}
 use Rattle.std.proofs.lemmas.Result.{err_from_is_err_and}
-use Rattle.iloc_parser.specs.Left.{left}
+use Rattle.iloc_subtags.specs.Left.{left}
 use Rattle.iloc_transform.proofs.TransformLemmas.{no_transform, bad_fields, nothing, whole}
 use Rattle.iloc_transform.proofs.transform.fill_transform.Goals as goal
 

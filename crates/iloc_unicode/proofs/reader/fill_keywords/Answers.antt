@@ -2,8 +2,8 @@ use Rattle.std.proofs.Common.{◌≡◌, true, true≢false, false, sym, ◌∙�
 use Rattle.std.proofs.lemmas.Bool.{false_from_ne_true}
 use Rattle.std.proofs.lemmas.Result.{err_from_is_err_and}
 use Rattle.std.specs.FinMap.{find}
-use Rattle.iloc_grammar.specs.Words.{word_cmp}
-use Rattle.iloc_parser.specs.Left.{left}
+use Rattle.iloc_spec_grammar.specs.Words.{word_cmp}
+use Rattle.iloc_subtags.specs.Left.{left}
 use Rattle.iloc_unicode.proofs.KeywordLemmas.{filled_less, filled_more, filled_all, filled_bad, many_values, many_keys}
 use Rattle.iloc_unicode.proofs.reader.fill_keywords.Goals as goal
 

@@ -1,6 +1,6 @@
 -- The fields so far are in the map.
 use Rattle.std.proofs.Common.{length}
-use Rattle.iloc_parser.specs.Left.{left}
+use Rattle.iloc_subtags.specs.Left.{left}
 use Rattle.iloc_unicode.proofs.KeywordLemmas.{Filled}
 use Rattle.iloc_unicode.proofs.reader.fill_keywords.Given as goal
 

@@ -1,6 +1,6 @@
 use Rattle.std.proofs.Common.{sym, ◌∙◌}
 use Rattle.std.proofs.lemmas.Result.{err_from_is_err_and}
-use Rattle.iloc_parser.specs.Left.{left}
+use Rattle.iloc_subtags.specs.Left.{left}
 use Rattle.iloc_unicode.proofs.UnicodeLemmas.{unicode_read, unicode_empty, keywords_refused}
 use Rattle.iloc_unicode.proofs.reader.fill_unicode.Goals as goal
 

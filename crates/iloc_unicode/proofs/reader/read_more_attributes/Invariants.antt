@@ -1,6 +1,6 @@
 -- The words so far are taken.
 use Rattle.std.proofs.Common.{◌++◌, length}
-use Rattle.iloc_parser.specs.Left.{left}
+use Rattle.iloc_subtags.specs.Left.{left}
 use Rattle.iloc_unicode.proofs.AttributeLemmas.{Gathered}
 use Rattle.iloc_unicode.proofs.reader.read_more_attributes.Given as goal
 

@@ -1,6 +1,6 @@
 -- The words so far are in the value.
 use Rattle.std.proofs.Common.{length}
-use Rattle.iloc_parser.specs.Left.{left}
+use Rattle.iloc_subtags.specs.Left.{left}
 use Rattle.iloc_unicode_value.proofs.ReadingLemmas.{Valued}
 use Rattle.iloc_unicode_value.proofs.reader.read_words.Given as goal
 

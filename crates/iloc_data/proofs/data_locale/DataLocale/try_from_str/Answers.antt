@@ -1,8 +1,8 @@
 -- a text is read as its bytes are
 use Rattle.std.proofs.Common.{ℕ, List, IsOk, subst}
-use Rattle.iloc_grammar.specs.Words.{two_or_three}
-use Rattle.iloc_regions.specs.DataLocales as parts
-use Rattle.iloc_regions.specs.DataLocales.{DataMeans}
+use Rattle.iloc_spec_grammar.specs.Words.{two_or_three}
+use Rattle.iloc_spec_preferences.specs.DataLocales as parts
+use Rattle.iloc_spec_preferences.specs.DataLocales.{DataMeans}
 use Rattle.iloc_data.specs.Reads.{DataReadsAs}
 use Rattle.iloc_data.proofs.ReadLemmas.{data_accepts, data_refuses}
 use Rattle.iloc_data.proofs.data_locale.DataLocale.try_from_str.Goals as goal

@@ -1,8 +1,8 @@
 -- The laws of the locale that preferences become, for the locale that was made.
 use Rattle.std.proofs.Common.{rules, ap, sym, ◌∙◌, subst}
-use Rattle.iloc_grammar.specs.Values.{IsWellFormed}
-use Rattle.iloc_preferences_rules.specs.Preferences.{preferences, is_strict}
-use Rattle.iloc_preferences_rules.proofs.PreferenceLaws.{locale_is_value, preferences_back, back_only, strict_locale}
+use Rattle.iloc_spec_grammar.specs.Values.{IsWellFormed}
+use Rattle.iloc_spec_preferences.specs.Preferences.{preferences, is_strict}
+use Rattle.iloc_spec_preferences.proofs.PreferenceLaws.{locale_is_value, preferences_back, back_only, strict_locale}
 use Rattle.iloc_data.proofs.locale_preferences.LocalePreferences.to_locale.Goals as goal
 
 pub returns-clause-value : goal.returns-clause-value

@@ -3,7 +3,7 @@ use Rattle.std.specs.List.Retain.{IsFiltered}
 use Rattle.std.specs.Option.{option_map}
 use Rattle.iloc_langid.specs.Reads as langid
 use Rattle.iloc_litemap.proofs.Filtered.{filtered_same}
-use Rattle.iloc_grammar.specs.Meaning.{no_unicode, no_transform}
+use Rattle.iloc_spec_grammar.specs.Meaning.{no_unicode, no_transform}
 use Rattle.iloc_extensions.specs.ExtensionsValue.{value_of}
 use Rattle.iloc_extensions.specs.declared.extension_type.ExtensionType.TheVariants.{Other}
 use Rattle.iloc_extensions.proofs.KeptLemmas.{gone, stays}

@@ -1,8 +1,8 @@
 -- nothing is printed where there is no extension
 use Rattle.std.proofs.Common.{◌≡◌, ℕ, List, [], Bool, true, false, refl, sym, ap, ◌∙◌, subst}
-use Rattle.iloc_grammar.specs.Values.{extensions_spelling, transform_spelling, unicode_spelling, private_spelling}
+use Rattle.iloc_spec_grammar.specs.Values.{extensions_spelling, transform_spelling, unicode_spelling, private_spelling}
 use Rattle.iloc_writeable.specs.Pieces.{hyphened}
-use Rattle.iloc_grammar.specs.Meaning.{no_extensions}
+use Rattle.iloc_spec_grammar.specs.Meaning.{no_extensions}
 use Rattle.iloc_extensions.proofs.printing.ExtensionsPieces.write_pieces.Goals as goal
 
 nothing : (first : Bool) → [] ≡ hyphened first (extensions_spelling no_extensions)

@@ -1,8 +1,8 @@
 use Rattle.std.proofs.Common.{◌≡◌, ℕ, List, [], ◌∷◌, sym, ap, ◌∙◌, refl, subst, Some}
-use Rattle.iloc_grammar.specs.Words.{Subtag}
-use Rattle.iloc_grammar.specs.Values.{IsNormal}
-use Rattle.iloc_preferences_rules.specs.Keywords as keywords
-use Rattle.iloc_preferences_rules.specs.Keywords.{variants, hijri_kinds}
+use Rattle.iloc_spec_grammar.specs.Words.{Subtag}
+use Rattle.iloc_spec_grammar.specs.Values.{IsNormal}
+use Rattle.iloc_spec_preferences.specs.Keywords as keywords
+use Rattle.iloc_spec_preferences.specs.Keywords.{variants, hijri_kinds}
 use Rattle.iloc_unicode_value.specs.Values.{without_true}
 use Rattle.iloc_keyword_types.specs.WordTables.{word_at}
 use Rattle.iloc_keyword_types.proofs.EnumLemmas.{normal_word}

@@ -1,7 +1,7 @@
 use Rattle.std.proofs.Common.{◌≡◌, subst, ap, ◌∙◌}
-use Rattle.iloc_grammar.specs.Words.{lower}
-use Rattle.iloc_regions.specs.Subdivisions.{Subdivision, IsSubdivision, subdivision_text}
-use Rattle.iloc_regions.proofs.SubdivisionLaws.{subdivision_back}
+use Rattle.iloc_spec_grammar.specs.Words.{lower}
+use Rattle.iloc_spec_preferences.specs.Subdivisions.{Subdivision, IsSubdivision, subdivision_text}
+use Rattle.iloc_spec_preferences.proofs.SubdivisionLaws.{subdivision_back}
 use Rattle.iloc_keyword_types.proofs.TextLemmas.{joined, joined_normal}
 use Rattle.iloc_keyword_types.proofs.subdivision_id.SubdivisionId.into_subtag.Goals as goal
 

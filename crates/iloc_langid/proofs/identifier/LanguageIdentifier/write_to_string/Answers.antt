@@ -1,5 +1,5 @@
 use Rattle.std.specs.Cow.{cow_str_bytes}
-use Rattle.iloc_grammar.specs.Values.{identifier_text}
+use Rattle.iloc_spec_grammar.specs.Values.{identifier_text}
 use Rattle.iloc_langid.specs.Reads.{value_of, IdentifierMeansOnly}
 use Rattle.iloc_langid.proofs.PrintingLemmas.{printed, identifier_text_means_only}
 use Rattle.iloc_langid.proofs.identifier.LanguageIdentifier.write_to_string.Goals as goal

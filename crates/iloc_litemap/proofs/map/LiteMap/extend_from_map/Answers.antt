@@ -1,7 +1,7 @@
 use Rattle.std.proofs.Common.{◌≡◌, rules, sym, ap, ◌∙◌, ap₂, ◌++◌, length, reverse}
 use Rattle.std.proofs.lemmas.List.{nil_from_length}
-use Rattle.iloc_grammar.specs.Meaning.{map_of}
-use Rattle.iloc_grammar.proofs.MapLaws.{map_of_sorted}
+use Rattle.iloc_spec_grammar.specs.Meaning.{map_of}
+use Rattle.iloc_spec_grammar.proofs.MapLaws.{map_of_sorted}
 use Rattle.iloc_litemap.proofs.Maps.{put_all, put_all_over}
 use Rattle.iloc_litemap.proofs.map.LiteMap.extend_from_map.Goals as goal
 

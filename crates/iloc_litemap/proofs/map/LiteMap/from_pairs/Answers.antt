@@ -1,7 +1,7 @@
 use Rattle.std.proofs.Common.{rules, sym, ap, ◌∙◌, [], ◌∷◌}
 use Rattle.std.specs.FinMap.{put}
 use Rattle.std.proofs.lemmas.List.{reverse-append}
-use Rattle.iloc_grammar.specs.Meaning.{map_of}
+use Rattle.iloc_spec_grammar.specs.Meaning.{map_of}
 use Rattle.iloc_litemap.proofs.map.LiteMap.from_pairs.Goals as goal
 
 pub loop-key-preserved : goal.loop-key-preserved

@@ -1,5 +1,5 @@
 use Rattle.std.proofs.Common.{◌≡◌, reverse}
-use Rattle.iloc_grammar.specs.Meaning.{map_of}
+use Rattle.iloc_spec_grammar.specs.Meaning.{map_of}
 use Rattle.iloc_litemap.proofs.map.LiteMap.from_pairs.Given as goal
 
 abbrev pub invariant-loop-key : goal.invariant-loop-key

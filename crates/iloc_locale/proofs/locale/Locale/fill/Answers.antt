@@ -1,11 +1,11 @@
 use Rattle.std.proofs.Common.{◌≡◌, ℕ, List, Ok, Err, true, sym, ◌∙◌, ap, subst}
 use Rattle.std.proofs.lemmas.Result.{err_from_is_err_and}
-use Rattle.iloc_grammar.specs.Blocks.{head}
-use Rattle.iloc_grammar.specs.Reading.{starts_block, after_head}
-use Rattle.iloc_parser.specs.Left.{left}
+use Rattle.iloc_spec_grammar.specs.Blocks.{head}
+use Rattle.iloc_spec_grammar.specs.Reading.{starts_block, after_head}
+use Rattle.iloc_subtags.specs.Left.{left}
 use Rattle.iloc_langid.specs.Reads.{ReadsAs}
 use Rattle.iloc_extensions.specs.ExtensionsValue.{value_of}
-use Rattle.iloc_blocks.specs.Whole.{BlocksReadAs}
+use Rattle.iloc_extensions.specs.Whole.{BlocksReadAs}
 use Rattle.iloc_locale.proofs.ReadLemmas.{after_head_starts, head_refused, blocks_read}
 use Rattle.iloc_locale.proofs.locale.Locale.fill.Goals as goal
 

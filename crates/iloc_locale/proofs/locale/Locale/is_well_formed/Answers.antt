@@ -1,7 +1,7 @@
-use Rattle.iloc_grammar.specs.Words.{languages}
-use Rattle.iloc_grammar.proofs.RawLaws.{languages_table}
-use Rattle.iloc_grammar.proofs.ReadBack.{reads_back}
-use Rattle.iloc_grammar.proofs.Corollaries.{same_text_same_value}
+use Rattle.iloc_spec_grammar.specs.Words.{languages}
+use Rattle.iloc_spec_grammar.proofs.RawLaws.{languages_table}
+use Rattle.iloc_spec_grammar.proofs.ReadBack.{reads_back}
+use Rattle.iloc_spec_grammar.proofs.Corollaries.{same_text_same_value}
 use Rattle.iloc_locale.specs.LocaleValue.{value_of}
 use Rattle.iloc_locale.proofs.locale.Locale.is_well_formed.Goals as goal
 

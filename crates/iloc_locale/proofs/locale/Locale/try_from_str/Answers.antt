@@ -1,10 +1,10 @@
 -- a text is read as its bytes are
 use Rattle.std.proofs.Common.{◌≡◌, ℕ, List, IfErr, IsOk, subst}
-use Rattle.iloc_grammar.specs.Words.{languages, two_or_three}
-use Rattle.iloc_grammar.specs.Meaning as meaning
-use Rattle.iloc_grammar.specs.Meaning.{Means}
-use Rattle.iloc_grammar.specs.Faults.{Fault, HasFault}
-use Rattle.iloc_small.specs.Inline.{IsInline}
+use Rattle.iloc_spec_grammar.specs.Words.{languages, two_or_three}
+use Rattle.iloc_spec_grammar.specs.Meaning as meaning
+use Rattle.iloc_spec_grammar.specs.Meaning.{Means}
+use Rattle.iloc_spec_grammar.specs.Faults.{Fault, HasFault}
+use Rattle.iloc_spec_parts.specs.Inline.{IsInline}
 use Rattle.iloc_subtags.specs.declared.parse_error.ParseError.TheVariants.{OutOfMemory}
 use Rattle.iloc_subtags.specs.Judging.{Accepts, Refuses}
 use Rattle.iloc_locale.specs.LocaleValue.{value_of}

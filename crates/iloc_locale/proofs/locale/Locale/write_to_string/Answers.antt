@@ -1,5 +1,5 @@
 use Rattle.std.specs.Cow.{cow_str_bytes}
-use Rattle.iloc_grammar.specs.Values.{text}
+use Rattle.iloc_spec_grammar.specs.Values.{text}
 use Rattle.iloc_langid.proofs.PrintingLemmas.{printed}
 use Rattle.iloc_locale.specs.LocaleValue.{value_of}
 use Rattle.iloc_locale.specs.Reads.{MeansOnly}

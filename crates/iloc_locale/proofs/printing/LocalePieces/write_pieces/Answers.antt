@@ -1,5 +1,5 @@
 use Rattle.std.proofs.Common.{List, ℕ, sym, subst}
-use Rattle.iloc_grammar.proofs.PartTexts.{printed_pieces}
+use Rattle.iloc_spec_grammar.proofs.PartTexts.{printed_pieces}
 use Rattle.iloc_writeable.specs.Pieces.{hyphened}
 use Rattle.iloc_writeable.specs.Writing.{Writes}
 use Rattle.iloc_locale.specs.LocaleValue.{value_of}

@@ -1,5 +1,5 @@
 use Rattle.std.proofs.Common.{length, sym, ap, ◌∙◌}
-use Rattle.iloc_parser.specs.Left.{left}
+use Rattle.iloc_subtags.specs.Left.{left}
 use Rattle.iloc_other.proofs.OtherLemmas.{takes_piece, takes_none, no_item}
 use Rattle.iloc_other.proofs.other.Other.try_from_iter.Goals as goal
 

@@ -1,6 +1,6 @@
 -- The words so far are those of the pieces so far.
 use Rattle.std.proofs.Common.{◌≡◌, length}
-use Rattle.iloc_parser.specs.Left.{left}
+use Rattle.iloc_subtags.specs.Left.{left}
 use Rattle.iloc_other.proofs.OtherLemmas.{TakingPieces}
 use Rattle.iloc_other.proofs.other.Other.try_from_iter.Given as goal
 

@@ -1,6 +1,6 @@
 use Rattle.std.proofs.Common.{ap, ◌∙◌}
-use Rattle.iloc_grammar.specs.Reading.{rest_of}
-use Rattle.iloc_parser.specs.Left.{left}
+use Rattle.iloc_spec_grammar.specs.Reading.{rest_of}
+use Rattle.iloc_subtags.specs.Left.{left}
 use Rattle.iloc_other.specs.Singleton.{singleton_at}
 use Rattle.iloc_other.proofs.TextLemmas.{private_none, private_other, private_text}
 use Rattle.iloc_other.proofs.private.Private.read_text.Goals as goal

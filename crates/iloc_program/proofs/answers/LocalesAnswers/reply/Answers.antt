@@ -1,8 +1,8 @@
 use Rattle.std.proofs.Common.{◌≡◌, ◌++◌, ℕ, true, not, List, Ok, Err, ap, ◌∙◌, subst, sym, [], ◌∷◌}
 use Rattle.std.proofs.lemmas.Result.{on_ok_weaker}
-use Rattle.iloc_grammar.specs.Blocks.{head}
-use Rattle.iloc_grammar.specs.Reading.{after_head, starts_block}
-use Rattle.iloc_parser.specs.Left.{left}
+use Rattle.iloc_spec_grammar.specs.Blocks.{head}
+use Rattle.iloc_spec_grammar.specs.Reading.{after_head, starts_block}
+use Rattle.iloc_subtags.specs.Left.{left}
 use Rattle.iloc_langid.specs.Reads.{ReadsAs}
 use Rattle.iloc_locale.specs.LocaleValue.{value_of}
 use Rattle.iloc_locale.proofs.ReadLemmas.{after_head_starts}

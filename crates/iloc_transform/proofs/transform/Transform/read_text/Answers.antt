@@ -1,6 +1,6 @@
 use Rattle.std.proofs.Common.{sym, ap, ◌∙◌, Some}
-use Rattle.iloc_grammar.specs.Reading.{rest_of}
-use Rattle.iloc_parser.specs.Left.{left}
+use Rattle.iloc_spec_grammar.specs.Reading.{rest_of}
+use Rattle.iloc_subtags.specs.Left.{left}
 use Rattle.iloc_other.specs.Singleton.{singleton_at}
 use Rattle.iloc_transform.proofs.TransformLemmas.{text_none, text_other, text_reads}
 use Rattle.iloc_transform.proofs.transform.Transform.read_text.Goals as goal

@@ -1,6 +1,6 @@
 use Rattle.std.proofs.Common.{◌≡◌, ◌≤◌, ◌<◌, ℕ, length, sym, ap, ◌∙◌, arith, true, false, true≢false, subst}
 use Rattle.std.proofs.lemmas.Result.{err_from_is_err_and}
-use Rattle.iloc_fronts.specs.Fronts.{attributes_read}
+use Rattle.iloc_spec_parts.specs.Fronts.{attributes_read}
 use Rattle.iloc_unicode.proofs.attributes.Attributes.read_text.Goals as goal
 
 not_few : (n : ℕ) → (n ≤ 4 → ⊥) → 4 < n

@@ -1,5 +1,5 @@
 use Rattle.std.proofs.Common.{◌≡◌, ◌≤◌, ◌∙◌, length, subst, IfOk, OnOk, IsOk}
-use Rattle.iloc_parser.specs.Left.{left}
+use Rattle.iloc_subtags.specs.Left.{left}
 use Rattle.iloc_unicode.proofs.AttributeLemmas.{few_none, few_new, few_more, few_done}
 use Rattle.iloc_unicode.proofs.attributes.Attributes.try_from_iter.Goals as goal
 

@@ -1,6 +1,6 @@
 -- The words so far are in the set.
 use Rattle.std.proofs.Common.{length}
-use Rattle.iloc_parser.specs.Left.{left}
+use Rattle.iloc_subtags.specs.Left.{left}
 use Rattle.iloc_unicode.proofs.AttributeLemmas.{GatheredFew}
 use Rattle.iloc_unicode.proofs.attributes.Attributes.try_from_iter.Given as goal
 

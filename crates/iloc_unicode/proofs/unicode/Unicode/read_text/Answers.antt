@@ -1,7 +1,7 @@
 use Rattle.std.proofs.Common.{sym, ap, ◌∙◌, subst}
-use Rattle.iloc_grammar.specs.Reading.{rest_of}
-use Rattle.iloc_fronts.specs.Parts.{begins_part, is_letter}
-use Rattle.iloc_parser.specs.Left.{left}
+use Rattle.iloc_spec_grammar.specs.Reading.{rest_of}
+use Rattle.iloc_spec_parts.specs.Parts.{begins_part, is_letter}
+use Rattle.iloc_subtags.specs.Left.{left}
 use Rattle.iloc_unicode.specs.UnicodeReads.{UnicodeGives}
 use Rattle.iloc_unicode.proofs.UnicodeLemmas.{no_letter, after_letter}
 use Rattle.iloc_unicode.proofs.unicode.Unicode.read_text.Goals as goal

@@ -1,7 +1,7 @@
 -- The word of a currency is a subtag, and no `true`.
 use Rattle.std.proofs.Common.{List, ℕ, [], ◌∷◌, sym, ap, ◌∙◌, subst}
-use Rattle.iloc_grammar.specs.Words.{Subtag}
-use Rattle.iloc_grammar.specs.Values.{IsNormal}
+use Rattle.iloc_spec_grammar.specs.Words.{Subtag}
+use Rattle.iloc_spec_grammar.specs.Values.{IsNormal}
 use Rattle.iloc_unicode_value.specs.Values.{without_true}
 use Rattle.iloc_unicode_value.proofs.CurrencyLemmas.{currency_normal, currency_alone}
 use Rattle.iloc_unicode_value.proofs.currency.ValueFromRefCurrencyType.from.Goals as goal

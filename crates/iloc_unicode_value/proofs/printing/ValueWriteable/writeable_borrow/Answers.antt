@@ -1,6 +1,6 @@
 use Rattle.std.proofs.Common.{◌∙◌, ap}
-use Rattle.iloc_grammar.specs.Pieces.{join}
-use Rattle.iloc_grammar.proofs.PartTexts.{join_one}
+use Rattle.iloc_spec_grammar.specs.Pieces.{join}
+use Rattle.iloc_spec_grammar.proofs.PartTexts.{join_one}
 use Rattle.iloc_unicode_value.proofs.printing.ValueWriteable.writeable_borrow.Goals as goal
 
 pub returns-in-len1-clause-text : goal.returns-in-len1-clause-text

@@ -1,7 +1,7 @@
 use Rattle.std.proofs.Common.{◌≡◌, ap, sym, ◌∙◌, subst, rules}
-use Rattle.iloc_grammar.specs.Words.{word_cmp}
-use Rattle.iloc_grammar.specs.Meaning.{set_of}
-use Rattle.iloc_grammar.proofs.ValuesLaws.{set_of_ascending}
+use Rattle.iloc_spec_grammar.specs.Words.{word_cmp}
+use Rattle.iloc_spec_grammar.specs.Meaning.{set_of}
+use Rattle.iloc_spec_grammar.proofs.ValuesLaws.{set_of_ascending}
 use Rattle.iloc_word_set.specs.Ascending.{ascends}
 use Rattle.iloc_word_set.specs.Collected.{words_of, IsCollected}
 use Rattle.iloc_word_set.proofs.CollectorLaws.{in_order}

@@ -1,5 +1,5 @@
 use Rattle.std.proofs.Common.{◌∷◌, length, ap, sym, ◌∙◌, subst, arith}
-use Rattle.iloc_grammar.specs.Meaning.{set_of}
+use Rattle.iloc_spec_grammar.specs.Meaning.{set_of}
 use Rattle.iloc_word_set.specs.Collected.{words_of, IsCollected}
 use Rattle.iloc_word_set.proofs.CollectorLaws.{many_after, set_grows}
 use Rattle.iloc_word_set.proofs.word_collector.WordCollector.push.Goals as goal

@@ -1,8 +1,8 @@
 use Rattle.std.proofs.Common.{◌≡◌, ◌∷◌, length, ap, sym, ◌∙◌, subst, arith}
 use Rattle.std.specs.Prelude.{is_none}
 use Rattle.std.specs.List.Sorted.{IsPermutation}
-use Rattle.iloc_grammar.specs.Meaning.{set_of}
-use Rattle.iloc_grammar.proofs.SetLaws.{length-set_of}
+use Rattle.iloc_spec_grammar.specs.Meaning.{set_of}
+use Rattle.iloc_spec_grammar.proofs.SetLaws.{length-set_of}
 use Rattle.iloc_word_set.specs.Collected.{words_of, IsCollected}
 use Rattle.iloc_word_set.proofs.CollectorLaws.{one_longer, five, put_in}
 use Rattle.iloc_word_set.proofs.word_collector.WordCollector.push_fifth.Goals as goal

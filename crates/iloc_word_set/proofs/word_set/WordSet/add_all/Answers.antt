@@ -1,8 +1,8 @@
 use Rattle.std.proofs.Common.{◌≡◌, ◌∷◌, ◌++◌, ◌∙◌, sym, ap, subst, arith}
-use Rattle.iloc_grammar.specs.Meaning.{set_of}
-use Rattle.iloc_grammar.specs.Values.{IsAscending}
-use Rattle.iloc_grammar.proofs.SetLaws.{length-set_of}
-use Rattle.iloc_grammar.proofs.WellRead.{set_of-ascending}
+use Rattle.iloc_spec_grammar.specs.Meaning.{set_of}
+use Rattle.iloc_spec_grammar.specs.Values.{IsAscending}
+use Rattle.iloc_spec_grammar.proofs.SetLaws.{length-set_of}
+use Rattle.iloc_spec_grammar.proofs.WellRead.{set_of-ascending}
 use Rattle.iloc_word_set.proofs.SetLaws.{union_next, union_done}
 use Rattle.iloc_word_set.proofs.word_set.WordSet.add_all.Goals as goal
 

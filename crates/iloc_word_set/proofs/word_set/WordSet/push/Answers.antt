@@ -1,7 +1,7 @@
 use Rattle.std.proofs.Common.{◌∷◌, ap, sym, subst, ◌∙◌, true≢false}
 use Rattle.std.specs.Prelude.{not, insert}
-use Rattle.iloc_grammar.specs.Values.{IsAscending}
-use Rattle.iloc_grammar.proofs.WellRead.{set_of-ascending}
+use Rattle.iloc_spec_grammar.specs.Values.{IsAscending}
+use Rattle.iloc_spec_grammar.proofs.WellRead.{set_of-ascending}
 use Rattle.iloc_word_set.proofs.SetLaws.{search_new, search_old}
 use Rattle.iloc_word_set.proofs.word_set.WordSet.push.Goals as goal
 

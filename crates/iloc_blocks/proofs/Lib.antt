@@ -1,8 +1,0 @@
-pub mod DoneLaws
-pub mod ArmLaws
-pub mod StepLaws
-pub mod RoundLaws
-pub mod PartAnswers
-pub mod PartLemmas
-pub mod AnswerLemmas
-pub mod PlaceLemmas

@@ -1,9 +1,0 @@
--- The words of each refusal.
-use Rattle.std.specs.Prelude.{ℕ, List, codes}
-use Rattle.iloc_carry.specs.declared.errors.CarryError.{CarryError}
-use Rattle.iloc_carry.specs.declared.errors.CarryError.TheVariants.{Length, Word, OutOfMemory}
-
-abbrev pub words_of : CarryError → List ℕ
-words_of Length = codes "Length is not a multiple of three"
-words_of (Word n) = codes "Invalid language word"
-words_of OutOfMemory = codes "Out of memory"

@@ -1,2 +1,0 @@
-pub mod CarryError
-pub mod Carrying

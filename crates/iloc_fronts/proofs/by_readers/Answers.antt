@@ -1,6 +1,0 @@
--- Block by block.
-use Rattle.iloc_fronts.proofs.ReaderBlocks as blocks
-use Rattle.iloc_fronts.proofs.by_readers.Goals as goal
-
-pub returns : goal.returns
-returns c = λ T table t M. blocks.by_readers T table t M

@@ -1,6 +1,0 @@
--- By sorting the variants, and then the case.
-use Rattle.iloc_grammar.proofs.IdentifierTexts.{identifier_chain_to_text, length-identifier_means, identifiers_lead_to_one}
-use Rattle.iloc_grammar.proofs.identifier_chain.Goals as goal
-
-pub returns : goal.returns
-returns c = record { steps = identifier_chain_to_text; long = length-identifier_means; same = identifiers_lead_to_one }

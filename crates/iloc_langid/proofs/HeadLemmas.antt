@@ -1,0 +1,210 @@
+-- From the words at the front and the pieces after them to the whole text.
+use Rattle.std.proofs.Common.{◌≡◌, ◌≢◌, ℕ, ◌≤◌, ◌<◌, Bool, true, false, cond, List, [], ◌∷◌, length, get_or, refl, sym, ap, ◌∙◌, subst, arith, Option, Some, None, option_map, Result, Ok, Err, MatchResult, true≢false}
+use Rattle.std.proofs.lemmas.Bool.{false_from_ne_true}
+use Rattle.std.proofs.lemmas.Bool.Decides.{nat_tests}
+use Rattle.iloc_spec_grammar.specs.Pieces.{pieces}
+use Rattle.iloc_spec_grammar.specs.Words.{Language, Script, Region, Variant, is_word, IsWord, lower, title, upper, languages}
+use Rattle.iloc_spec_grammar.specs.Blocks.{is_one_byte, front, blocks, head, tail_blocks, first_piece}
+use Rattle.iloc_spec_grammar.specs.Reading.{take_first, skip_first, after_region}
+use Rattle.iloc_spec_grammar.specs.Faults.{Fault}
+use Rattle.iloc_spec_grammar.specs.Faults as faults
+use Rattle.iloc_spec_grammar.proofs.WordsLaws.{length-script, length-region, length-variant}
+use Rattle.iloc_spec_grammar.proofs.RawLaws.{languages_table}
+use Rattle.iloc_spec_parts.specs.Small.{SmallIdentifier, SmallLocale, IsSmallIdentifier, IsSmall, HasSmallIdentifierFault, no_language, no_identifier, SmallBlockFault, no_singleton, not_u, attribute, no_key, after_key, HasSmallFault, bad_head, bad_block}
+use Rattle.iloc_spec_parts.specs.SmallComputing.{small_identifier_result, blocks_result, after_identifier, small_result}
+use Rattle.iloc_spec_parts.proofs.SmallLaws.{one_small_identifier, small_identifier_answer, small_identifier_apart, small_answer}
+use Rattle.iloc_langid.specs.SmallReads.{Parts, small_of, front_parts, after_parts, SmallFrontGives}
+use Rattle.iloc_langid.proofs.SmallLemmas.{parts_whole, parts_more}
+use Rattle.iloc_subtags.specs.declared.parse_error.ParseError.{ParseError}
+use Rattle.iloc_subtags.specs.declared.parse_error.ParseError.TheVariants.{InvalidLanguage, InvalidSubtag, InvalidExtension, DuplicatedExtension, OutOfMemory}
+use Rattle.iloc_langid.specs.SmallLocaleReads.{Keyword, LocaleParts, small_locale_of, SmallLocaleReadsAs}
+use Rattle.iloc_langid.specs.BlockReads.{answer_of, block_result}
+use Rattle.iloc_langid.proofs.BlockLemmas.{blocks_past, with_keyword, blocks_read}
+use Rattle.iloc_subtags.specs.Judging.{error_of}
+
+-- a word of an identifier is longer than one byte
+
+long_script : (p : List ℕ) → IsWord Script p → is_one_byte p ≡ false
+long_script p h = let l = length-script p h in grind (arith, nat_tests)
+
+long_region : (p : List ℕ) → IsWord Region p → is_one_byte p ≡ false
+long_region p h = let l = length-region p h in grind (arith, nat_tests)
+
+long_variant : (p : List ℕ) → IsWord Variant p → is_one_byte p ≡ false
+long_variant p h = let l = length-variant p h in grind (arith, nat_tests)
+
+-- so words are taken from the head alone
+
+module _ (test : List ℕ → Bool) (long : (p : List ℕ) → test p ≡ true → is_one_byte p ≡ false) where
+  no_word : (p : List ℕ) → is_one_byte p ≡ true → test p ≡ false
+  no_word p e = false_from_ne_true (test p) (λ w. true≢false (sym e ∙ long p w))
+
+  take_front : (ps : List (List ℕ)) → take_first test (front ps) ≡ take_first test ps
+  take_front [] = refl
+  take_front (p ∷ ps) = by (is_one_byte p) refl
+    where
+      by : (b : Bool) → is_one_byte p ≡ b → take_first test (cond b [] (p ∷ front ps)) ≡ take_first test (p ∷ ps)
+      by true e = rw (no_word p e) refl
+      by false e = refl
+
+  skip_front : (ps : List (List ℕ)) → skip_first test (front ps) ≡ front (skip_first test ps)
+  skip_front [] = refl
+  skip_front (p ∷ ps) = by (is_one_byte p) (test p) refl refl
+    where
+      by : (b d : Bool) → is_one_byte p ≡ b → test p ≡ d → skip_first test (cond b [] (p ∷ front ps)) ≡ front (cond d ps (p ∷ ps))
+      by true true e w = absurd (true≢false (sym w ∙ no_word p e))
+      by true false e w = rw e refl
+      by false true e w = rw w refl
+      by false false e w = rw (w, e) refl
+
+  skip_blocks : (ps : List (List ℕ)) → blocks (skip_first test ps) ≡ blocks ps
+  skip_blocks [] = refl
+  skip_blocks (p ∷ ps) = by (test p) refl
+    where
+      by : (d : Bool) → test p ≡ d → blocks (cond d ps (p ∷ ps)) ≡ blocks (p ∷ ps)
+      by true w = sym (blocks_past p ps (long p w))
+      by false w = refl
+
+script_front : (ps : List (List ℕ)) → skip_first (is_word Script) (front ps) ≡ front (skip_first (is_word Script) ps)
+script_front ps = skip_front (is_word Script) long_script ps
+
+region_front : (p : List ℕ) (ps : List (List ℕ)) → after_region (p ∷ front ps) ≡ front (after_region (p ∷ ps))
+region_front p ps = ap (skip_first (is_word Region)) (script_front ps) ∙ skip_front (is_word Region) long_region (skip_first (is_word Script) ps)
+
+front_parts-front : (p : List ℕ) (ps : List (List ℕ)) → front_parts (p ∷ front ps) ≡ front_parts (p ∷ ps)
+front_parts-front p ps =
+    let s = take_front (is_word Script) long_script ps in
+    let r = ap (take_first (is_word Region)) (script_front ps) ∙ take_front (is_word Region) long_region (skip_first (is_word Script) ps) in
+    let v = ap (take_first (is_word Variant)) (region_front p ps) ∙ take_front (is_word Variant) long_variant (after_region (p ∷ ps)) in
+    λ i. (lower p, option_map title (s i), option_map upper (r i), option_map lower (v i))
+
+after_parts-front : (p : List ℕ) (ps : List (List ℕ)) → after_parts (p ∷ front ps) ≡ front (after_parts (p ∷ ps))
+after_parts-front p ps = ap (skip_first (is_word Variant)) (region_front p ps) ∙ skip_front (is_word Variant) long_variant (after_region (p ∷ ps))
+
+blocks-after_parts : (p : List ℕ) (ps : List (List ℕ)) → blocks (after_parts (p ∷ ps)) ≡ blocks ps
+blocks-after_parts p ps =
+    skip_blocks (is_word Variant) long_variant (after_region (p ∷ ps))
+    ∙ skip_blocks (is_word Region) long_region (skip_first (is_word Script) ps)
+    ∙ skip_blocks (is_word Script) long_script ps
+
+-- what is read from all pieces is read from the head, and what is left begins with the blocks
+
+head_gives : (ps rest : List (List ℕ)) (p : Parts) → SmallFrontGives ps rest (Ok p) → SmallFrontGives (head ps) (front rest) (Ok p)
+head_gives [] rest p g = (g.0, g.1, ap front g.2)
+head_gives (q ∷ ps) rest p g = (g.0, g.1 ∙ sym (front_parts-front q ps), ap front g.2 ∙ sym (after_parts-front q ps))
+
+blocks_left : (ps rest : List (List ℕ)) (p : Parts) → SmallFrontGives ps rest (Ok p) → tail_blocks ps ≡ blocks rest
+blocks_left [] rest p g = ap blocks (sym g.2)
+blocks_left (q ∷ ps) rest p g = sym (blocks-after_parts q ps) ∙ ap blocks (sym g.2)
+
+-- the plain program on a head that is read
+
+no_pieces : {P : Type 0} (r : SmallIdentifier) → IsSmallIdentifier languages [] r → P
+no_pieces r h = absurd (empty (sym h.spelled))
+  where
+    empty : {q : List ℕ} {qs : List (List ℕ)} → q ∷ qs ≡ [] → ⊥
+    empty e = cc
+
+result_is : (ps : List (List ℕ)) (r : SmallIdentifier) → IsSmallIdentifier languages ps r → small_identifier_result languages ps ≡ Ok r
+result_is [] r h = no_pieces r h
+result_is (p ∷ ps) r h = by (small_identifier_result languages (p ∷ ps)) (small_identifier_answer languages p ps)
+  where
+    by : (o : Result SmallIdentifier Fault) → MatchResult o (IsSmallIdentifier languages (p ∷ ps)) (HasSmallIdentifierFault languages (p ∷ ps)) → o ≡ Ok r
+    by (Ok s) k = ap Ok (one_small_identifier (p ∷ ps) s r k h)
+    by (Err f) k = absurd (small_identifier_apart (p ∷ ps) r f h k)
+
+-- no text that isn't small has the fault of a repeated singleton
+
+no_duplicate_head : (ps : List (List ℕ)) (f : Fault) → f ≡ faults.DuplicatedExtension → HasSmallIdentifierFault languages ps f → ⊥
+no_duplicate_head ps f e (no_language h) = cc
+no_duplicate_head ps f e (no_identifier h n) = cc
+
+no_duplicate_block : (b : ℕ × List (List ℕ)) (f : Fault) → f ≡ faults.DuplicatedExtension → SmallBlockFault b f → ⊥
+no_duplicate_block b f e (no_singleton a) = cc
+no_duplicate_block b f e (not_u a n) = cc
+no_duplicate_block b f e (attribute u a) = cc
+no_duplicate_block b f e (no_key u a k) = cc
+no_duplicate_block b f e (after_key u k) = cc
+
+no_duplicate : (t : List ℕ) (f : Fault) → f ≡ faults.DuplicatedExtension → HasSmallFault languages t f → ⊥
+no_duplicate t f e (bad_head h) = no_duplicate_head (head (pieces t)) f e h
+no_duplicate t f e (bad_block {b = b} i n k h) = no_duplicate_block b f e h
+
+fault_reads : (t : List ℕ) (f : Fault) → HasSmallFault languages t f → SmallLocaleReadsAs t (Err (error_of f))
+fault_reads t faults.InvalidLanguage h = h
+fault_reads t faults.InvalidSubtag h = h
+fault_reads t faults.InvalidExtension h = h
+fault_reads t faults.DuplicatedExtension h = no_duplicate t faults.DuplicatedExtension refl h
+
+-- pieces of one byte, and others
+
+not_one : (q : List ℕ) → length q ≢ 1 → is_one_byte q ≡ false
+not_one q n = grind (arith, nat_tests)
+
+pub one_byte : (q : List ℕ) → 1 ≤ length q → length q < 2 → q ≡ get_or q 0 0 ∷ []
+one_byte [] l h = absurd (omega arith)
+one_byte (c ∷ []) l h = refl
+one_byte (c ∷ d ∷ q) l h = absurd (omega (arith, h))
+
+-- The whole text, where its head is read and these pieces are left.
+
+abbrev pub with_parts : Parts → Option Keyword → LocaleParts
+with_parts p k = (p.0, p.1, p.2, p.3, k)
+
+module _ (t : List ℕ) (ps rest : List (List ℕ)) (p : Parts) (e : ps ≡ pieces t) (g : SmallFrontGives ps rest (Ok p)) where
+  result_after : front rest ≡ [] → small_result languages t ≡ after_identifier (Ok (small_of p)) (blocks rest)
+  unfolding small_result
+  result_after n =
+      ap (λ (l : List (List ℕ)). after_identifier (small_identifier_result languages (head l)) (tail_blocks l)) (sym e)
+      ∙ ap (λ o. after_identifier o (tail_blocks ps)) (result_is (head ps) (small_of p) (parts_whole (head ps) (front rest) p (head_gives ps rest p g) n))
+      ∙ ap (after_identifier (Ok (small_of p))) (blocks_left ps rest p g)
+
+  answer_at : (o : Result SmallLocale Fault) → small_result languages t ≡ o → MatchResult o (IsSmall languages t) (HasSmallFault languages t)
+  answer_at o is = subst (λ (r : Result SmallLocale Fault). MatchResult r (IsSmall languages t) (HasSmallFault languages t)) is (small_answer languages_table t)
+
+  pub nothing_more : rest ≡ [] → SmallLocaleReadsAs t (Ok (with_parts p None))
+  unfolding after_identifier blocks_result
+  nothing_more n = answer_at (Ok (small_locale_of (with_parts p None))) (result_after (ap front n) ∙ ap (λ l. after_identifier (Ok (small_of p)) (blocks l)) n)
+
+  pub more_pieces : (q : List ℕ) (later : List (List ℕ)) → rest ≡ q ∷ later → length q ≢ 1 → SmallLocaleReadsAs t (Err InvalidSubtag)
+  more_pieces q later n more =
+      subst (λ (l : List (List ℕ)). HasSmallIdentifierFault languages (head l) faults.InvalidSubtag → HasSmallFault languages t faults.InvalidSubtag) (sym e) (λ h. bad_head h)
+      (parts_more (head ps) (front rest) p (head_gives ps rest p g) some)
+    where
+      some : front rest ≢ []
+      some none = nonempty (sym (ap (λ b. cond b [] (q ∷ front later)) (not_one q more)) ∙ ap front (sym n) ∙ none)
+        where
+          nonempty : q ∷ front later ≡ [] → ⊥
+          nonempty h = cc
+
+  module _ (c : ℕ) (later : List (List ℕ)) (n : rest ≡ (c ∷ []) ∷ later) where
+    block_answer : MatchResult (with_keyword (small_of p) (block_result c later)) (IsSmall languages t) (HasSmallFault languages t)
+    unfolding after_identifier
+    block_answer = answer_at (with_keyword (small_of p) (block_result c later)) (result_after (ap front n) ∙ ap (λ l. after_identifier (Ok (small_of p)) (blocks l)) n ∙ blocks_read (small_of p) c later)
+
+    pub keyword_read : (k : Keyword) → Ok k ≡ answer_of (block_result c later) → SmallLocaleReadsAs t (Ok (with_parts p (Some k)))
+    keyword_read k is = by (block_result c later) block_answer is
+      where
+        by : (o : Result Keyword Fault) → MatchResult (with_keyword (small_of p) o) (IsSmall languages t) (HasSmallFault languages t) → Ok k ≡ answer_of o → SmallLocaleReadsAs t (Ok (with_parts p (Some k)))
+        by (Ok x) h is = let same : x ≡ k = cc in subst (λ (y : Keyword). SmallLocaleReadsAs t (Ok (with_parts p (Some y)))) same h
+        by (Err f) h is = cc
+
+    pub block_refused : (r : ParseError) → Err r ≡ answer_of (block_result c later) → SmallLocaleReadsAs t (Err r)
+    block_refused r is = by (block_result c later) block_answer is
+      where
+        by : (o : Result Keyword Fault) → MatchResult (with_keyword (small_of p) o) (IsSmall languages t) (HasSmallFault languages t) → Err r ≡ answer_of o → SmallLocaleReadsAs t (Err r)
+        by (Ok x) h is = cc
+        by (Err f) h is = let same : error_of f ≡ r = cc in subst (λ (s : ParseError). SmallLocaleReadsAs t (Err s)) same (fault_reads t f h)
+
+-- its first piece is no language
+
+pub front_refused : (t : List ℕ) (ps rest : List (List ℕ)) (r : ParseError) → ps ≡ pieces t → SmallFrontGives ps rest (Err r) → SmallLocaleReadsAs t (Err r)
+front_refused t ps rest InvalidLanguage e g = bad_head (subst (λ (l : List (List ℕ)). HasSmallIdentifierFault languages (head l) faults.InvalidLanguage) e (by ps g))
+  where
+    by : (qs : List (List ℕ)) → is_word (Language languages) (first_piece qs) ≡ false → HasSmallIdentifierFault languages (head qs) faults.InvalidLanguage
+    by [] h = no_language h
+    by (q ∷ qs) h = no_language h
+front_refused t ps rest InvalidSubtag e g = absurd g
+front_refused t ps rest InvalidExtension e g = absurd g
+front_refused t ps rest DuplicatedExtension e g = g
+front_refused t ps rest OutOfMemory e g = g

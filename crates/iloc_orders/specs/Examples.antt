@@ -1,9 +1,0 @@
--- Worked examples are shown on texts.
-use Rattle.iloc_grammar.specs.Shapes.{Text}
-use Rattle.iloc_grammar.specs.Pieces.{pieces}
-use Rattle.iloc_grammar.specs.Meaning.{Locale, meaning}
-use Rattle.iloc_grammar.specs.Reading.{written_of}
-
--- what the text means, if it is a locale
-abbrev pub meaning_of : Text → Locale
-meaning_of t = meaning (written_of (pieces t))

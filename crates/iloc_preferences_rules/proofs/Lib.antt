@@ -1,3 +1,0 @@
-pub mod KeywordLaws
-pub mod PreferenceLaws
-pub mod ConversionLaws

@@ -1,4 +1,0 @@
-pub mod Keywords
-pub mod Preferences
-pub mod Formatters
-pub mod Examples

@@ -1,6 +1,0 @@
--- From the part of a region that it is made of.
-use Rattle.iloc_regions.proofs.DataLaws.{read_is_data_locale, read_back, text_of_data, locale_of_data_is_value, only_locale}
-use Rattle.iloc_regions.proofs.data_locales.Goals as goal
-
-pub returns : goal.returns
-returns c = record { read = λ T t d. read_is_data_locale t d; back = λ T t d. read_back t d; text = text_of_data; value = λ T d. locale_of_data_is_value d; only = λ T table. only_locale table }

@@ -1,8 +1,0 @@
-mod ByBytes
-mod Cases
-mod Classes
-mod Joined
-pub mod Loading
-mod Packed
-pub mod RawOrder
-pub mod RawForms

@@ -1,6 +1,0 @@
--- It has at most one word in each list.
-use Rattle.iloc_small.proofs.InlineLaws as inline
-use Rattle.iloc_small.proofs.small_is_inline.Goals as goal
-
-pub returns : goal.returns
-returns c = λ T t r. inline.small_is_inline t r

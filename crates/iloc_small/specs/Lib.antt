@@ -1,4 +1,0 @@
-pub mod Small
-pub mod Computing
-pub mod Inline
-pub mod InlineBlocks

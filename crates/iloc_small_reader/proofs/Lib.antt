@@ -1,3 +1,0 @@
-pub mod ValueLemmas
-pub mod BlockLemmas
-pub mod HeadLemmas

@@ -1,2 +1,0 @@
-pub mod SmallLocaleReads
-pub mod BlockReads

@@ -1,0 +1,80 @@
+-- Worked examples, computed by the plain program.
+use Rattle.std.proofs.Common.{◌≡◌, ℕ, List, [], ◌∷◌, refl, codes, Result, Ok, Err, arith, true≢false, None}
+use Rattle.iloc_spec_grammar.specs.Pieces.{pieces, join}
+use Rattle.iloc_spec_grammar.specs.Words.{is_word, lower, upper, title, is_true, languages}
+use Rattle.iloc_spec_grammar.specs.Written.{Identifier, transform}
+use Rattle.iloc_spec_grammar.specs.Meaning.{Locale}
+use Rattle.iloc_spec_grammar.specs.Values.{identifier_text}
+use Rattle.iloc_spec_grammar.specs.Faults.{Fault}
+use Rattle.iloc_spec_grammar.specs.Reading.{identifier_of, front_of, unicode_of, transform_of, written_of}
+use Rattle.iloc_spec_grammar.specs.Computing.{locale_result, text_of, identifier_result, identifier_text_of}
+use Rattle.iloc_spec_grammar.specs.Steps.{Without, keys_differ, Trues, IdentifierStep, ExtensionStep, Step, TextStep}
+use Rattle.iloc_spec_grammar.specs.Examples.{Normalises, IsRefused, NormalisesIdentifier, IsRefusedIdentifier}
+use Rattle.iloc_spec_grammar.proofs.RawLaws.{languages_table}
+use Rattle.iloc_spec_grammar.proofs.ComputingLaws.{computed_means, computed_fault, computed_identifier, computed_identifier_fault}
+
+-- what the program answers, as a text
+unfoldable pub answer : List ℕ → Result (List ℕ) Fault
+unfolding locale_result written_of unicode_of transform_of identifier_of front_of pieces join is_word lower upper title is_true languages
+answer t = text_of (locale_result languages t)
+
+normalises_from : (t u : List ℕ) (r : Result Locale Fault) → locale_result languages t ≡ r → text_of r ≡ Ok u → Normalises t u
+normalises_from t u (Ok M) e h = record { value = M; means = (computed_means languages languages_table t M).0 e; printed = cc }
+normalises_from t u (Err f) e h = cc
+
+refused_from : (t : List ℕ) (f : Fault) (r : Result Locale Fault) → locale_result languages t ≡ r → text_of r ≡ Err f → IsRefused t f
+refused_from t f (Ok M) e h = cc
+refused_from t f (Err g) e h = (computed_fault languages languages_table t f).0 cc
+
+pub normalises : (t u : List ℕ) → answer t ≡ Ok u → Normalises t u
+unfolding answer
+normalises t u h = normalises_from t u (locale_result languages t) refl h
+
+pub refused : (t : List ℕ) (f : Fault) → answer t ≡ Err f → IsRefused t f
+unfolding answer
+refused t f h = refused_from t f (locale_result languages t) refl h
+
+-- identifiers
+
+unfoldable pub identifier_answer : List ℕ → Result (List ℕ) Fault
+unfolding identifier_text identifier_of pieces join is_word lower upper title languages
+identifier_answer t = identifier_text_of (identifier_result languages (pieces t))
+
+identifier_from : (t u : List ℕ) (r : Result Identifier Fault) → identifier_result languages (pieces t) ≡ r → identifier_text_of r ≡ Ok u → NormalisesIdentifier t u
+identifier_from t u (Ok i) e h = record { value = i; means = (computed_identifier languages t i).0 e; printed = cc }
+identifier_from t u (Err f) e h = cc
+
+no_identifier_from : (t : List ℕ) (f : Fault) (r : Result Identifier Fault) → identifier_result languages (pieces t) ≡ r → identifier_text_of r ≡ Err f → IsRefusedIdentifier t f
+no_identifier_from t f (Ok i) e h = cc
+no_identifier_from t f (Err g) e h = (computed_identifier_fault languages t f).0 cc
+
+pub normalises_identifier : (t u : List ℕ) → identifier_answer t ≡ Ok u → NormalisesIdentifier t u
+unfolding identifier_answer
+normalises_identifier t u h = identifier_from t u (identifier_result languages (pieces t)) refl h
+
+pub refused_identifier : (t : List ℕ) (f : Fault) → identifier_answer t ≡ Err f → IsRefusedIdentifier t f
+unfolding identifier_answer
+refused_identifier t f h = no_identifier_from t f (identifier_result languages (pieces t)) refl h
+
+-- the two settled readings of the steps
+
+abbrev und : Identifier
+und = record { language = codes "und"; script = None; region = None; variants = [] }
+
+pub same_key_in_two_cases : keys_differ ((codes "ca", codes "foo" ∷ []) ∷ (codes "CA", codes "bar" ∷ []) ∷ []) → ⊥
+unfolding lower
+same_key_in_two_cases d = true≢false d.0
+
+pub one_true_stays : TextStep languages (codes "und-t-m0-true-true") (codes "und-t-m0-true")
+unfolding pieces join is_word lower is_true languages
+one_true_stays = TextStep.rewritten
+    {v = record { id = und; extensions = (116, transform (record { id = None; fields = (codes "m0", codes "true" ∷ codes "true" ∷ []) ∷ [] })) ∷ []; private = None }}
+    {w = record { id = und; extensions = (116, transform (record { id = None; fields = (codes "m0", codes "true" ∷ []) ∷ [] })) ∷ []; private = None }}
+    (record {
+      id = record { words = record { language = refl; script = tt; region = tt; variants = tt }; different = tt };
+      extensions = ((refl, record { id = tt; fields = ((refl, (refl, (refl, tt)), omega arith), tt); nonempty = λ e. omega arith }), tt);
+      different = (refl, tt);
+      private = tt;
+    })
+    refl
+    (Step.inside Trues IdentifierStep.same ((refl, ExtensionStep.transform_trues (((refl, Without.kept (Without.left_out refl Without.none)), omega arith), tt)), tt))

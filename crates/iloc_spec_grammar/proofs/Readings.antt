@@ -1,0 +1,254 @@
+-- Each spelling has one reading: blocks end at pieces of one byte, and fields at keys.
+use Rattle.std.proofs.Common.{◌≡◌, ◌≢◌, inl, inr, ℕ, ◌≤◌, Bool, true, false, cond, ◌&&◌, ◌==◌, List, [], ◌∷◌, ◌++◌, length, map, flat_map, refl, sym, ap, ◌∙◌, arith, Option, Some, None, IfSome, option_to_list, true≢false, slice_index, append-nil}
+use Rattle.std.specs.List.{AllByRecursion, list_all}
+use Rattle.std.specs.Char.{is_ascii_alphabetic, is_ascii_digit}
+use Rattle.std.proofs.lemmas.Bool.{and_parts, false_from_ne_true, or_cases, ne_eqb, eqb-true}
+use Rattle.std.proofs.lemmas.Bool.Decides.{nat_tests}
+use Rattle.std.specs.Int.{is_in_range}
+use Rattle.iloc_spec_grammar.specs.Words.{Language, Script, Region, Variant, UnicodeKey, TransformKey, Attribute, is_word, IsWord, IsTable, letters, digits}
+use Rattle.iloc_spec_grammar.specs.Written.{Identifier, Fields, Unicode, Transform, Extension, unicode, transform, other, Written, identifier_pieces, optional_pieces, fields_pieces, unicode_pieces, transform_pieces, extension_pieces, extension_block, block_pieces, blocks_of, spelling, HasWords, IsIdentifier, IsUnicode, IsTransform, IsKeyword, IsField, IsPrivate, IsExtension, singleton, IsWritten}
+use Rattle.iloc_spec_grammar.specs.Meaning.{Locale, Means, meaning}
+use Rattle.iloc_spec_grammar.specs.Blocks.{is_one_byte, front, blocks, head, tail_blocks}
+use Rattle.iloc_spec_grammar.proofs.WordsLaws.{length-language, length-script, length-region, length-variant, length-attribute, length-unicode_key, length-transform_key}
+use Rattle.iloc_spec_grammar.proofs.IdentifierLaws.{pieces-identifier_of, identifier_of-pieces}
+use Rattle.iloc_spec_grammar.specs.Reading.{identifier_of, before_key, fields_from, is_two, unicode_of, optional_of, transform_of, extension_by, extension_of, extensions_in, private_in, written_of}
+use Rattle.iloc_spec_grammar.proofs.ValuesLaws.{all_weaker}
+use Rattle.iloc_spec_grammar.proofs.ReadBack.{all_append, after_language_each, optional_each, fields_each, plain_fields}
+use Rattle.iloc_spec_grammar.proofs.Singletons.{no_t, no_u}
+
+-- pieces of more than one byte
+
+abbrev pub IsLong : List ℕ → Type 0
+IsLong p = is_one_byte p ≡ false
+
+long : (n : ℕ) → 2 ≤ n → (n == 1) ≡ false
+long n h = ne_eqb _ _ (λ e. absurd (omega arith))
+
+pub long_script : (p : List ℕ) → IsWord Script p → IsLong p
+long_script p h = long _ (let l = length-script p h in omega arith)
+
+pub long_region : (p : List ℕ) → IsWord Region p → IsLong p
+long_region p h = long _ (length-region p h).0
+
+pub long_variant : (p : List ℕ) → IsWord Variant p → IsLong p
+long_variant p h = long _ (let l = length-variant p h in omega arith)
+
+pub long_attribute : (p : List ℕ) → IsWord Attribute p → IsLong p
+long_attribute p h = long _ (let l = length-attribute p h in omega arith)
+
+-- the pieces after the language
+abbrev pub after_language : Identifier → List (List ℕ)
+after_language i = option_to_list i.script ++ (option_to_list i.region ++ i.variants)
+
+pub long_after_language : {T : ℕ → Bool} (i : Identifier) → HasWords T i → AllByRecursion IsLong (after_language i)
+long_after_language i h = after_language_each IsLong long_script long_region long_variant i h
+
+long_identifier : (T : ℕ → Bool) → IsTable T → (i : Identifier) → HasWords T i → AllByRecursion IsLong (identifier_pieces i)
+long_identifier T t i h = (long _ (t.least _ (length-language T i.language h.language)), long_after_language i h)
+
+long_key : (p : List ℕ) → length p ≡ 2 → IsLong p
+long_key p h = long _ (omega arith)
+
+pub long_between : (p : List ℕ) → is_in_range 2 8 (length p) ≡ true → IsLong p
+long_between p h = grind (arith, nat_tests)
+
+pub long_extension : (T : ℕ → Bool) → IsTable T → (c : ℕ) (e : Extension) → IsExtension T c e → AllByRecursion IsLong (extension_pieces e)
+long_extension T t c (unicode u) h = all_append IsLong u.attributes _ (all_weaker (IsWord Attribute) IsLong long_attribute u.attributes h.1.attributes) (fields_each IsLong UnicodeKey (λ p k. long_key p (length-unicode_key p k)) long_attribute u.keywords h.1.keywords)
+long_extension T t c (transform m) h = all_append IsLong (optional_pieces m.id) _ (optional_each IsLong T (long_identifier T t) m.id h.1.id) (fields_each IsLong TransformKey (λ p k. long_key p (length-transform_key p k)) long_attribute m.fields (plain_fields m.fields h.1.fields))
+long_extension T t c (other ps) h = all_weaker (λ p. is_in_range 2 8 (length p) ≡ true) IsLong long_between ps h.1.lengths
+
+-- blocks
+
+Raw : Type 0
+Raw = ℕ × List (List ℕ)
+
+front_before : (xs : List (List ℕ)) (bs : List (ℕ × List (List ℕ))) → AllByRecursion IsLong xs → front (xs ++ flat_map block_pieces bs) ≡ xs
+front_before [] [] h = refl
+front_before [] (b ∷ bs) h = refl
+front_before (x ∷ xs) bs h = rw h.0 (ap (λ l. x ∷ l) (front_before xs bs h.1))
+
+blocks_skip : (p : List ℕ) (ps : List (List ℕ)) → IsLong p → blocks (p ∷ ps) ≡ blocks ps
+blocks_skip [] ps h = refl
+blocks_skip (c ∷ []) ps h = absurd (true≢false h)
+blocks_skip (c ∷ d ∷ p) ps h = refl
+
+blocks_past : (xs ys : List (List ℕ)) → AllByRecursion IsLong xs → blocks (xs ++ ys) ≡ blocks ys
+blocks_past [] ys h = refl
+blocks_past (x ∷ xs) ys h = blocks_skip x (xs ++ ys) h.0 ∙ blocks_past xs ys h.1
+
+pub blocks_spelled : (bs : List (ℕ × List (List ℕ))) (x : Option (ℕ × List (List ℕ))) → AllByRecursion (λ b. ((singleton b == 120) ≡ false) × AllByRecursion IsLong b.1) bs → IfSome x (λ b. (singleton b == 120) ≡ true) → blocks (flat_map block_pieces (bs ++ option_to_list x)) ≡ bs ++ option_to_list x
+blocks_spelled [] None h k = refl
+blocks_spelled [] (Some b) h k = rw k (ap (λ ps. (b.0, ps) ∷ []) (append-nil b.1))
+blocks_spelled (b ∷ bs) x h k = rw h.0.0 (λ i. (b.0, front_before b.1 (bs ++ option_to_list x) h.0.1 i) ∷ (blocks_past b.1 (flat_map block_pieces (bs ++ option_to_list x)) h.0.1 ∙ blocks_spelled bs x h.1 k) i)
+
+pub is_no_x : (T : ℕ → Bool) (c : ℕ) (e : Extension) → IsExtension T c e → (c == 120) ≡ false
+is_no_x T c (other ps) h = grind (arith, nat_tests, h.0)
+is_no_x T c _ h = rw h.0
+
+is_120 : (x : Option (ℕ × List (List ℕ))) → IfSome x (λ e. (singleton e ≡ 120) × IsPrivate e.1) → IfSome x (λ b. (singleton b == 120) ≡ true)
+is_120 None h = tt
+is_120 (Some b) h = rw h.0
+
+extension_blocks : (T : ℕ → Bool) → IsTable T → (es : List (ℕ × Extension)) → AllByRecursion (λ e. IsExtension T (singleton e) e.1) es → AllByRecursion (λ b. ((singleton b == 120) ≡ false) × AllByRecursion IsLong b.1) (map extension_block es)
+extension_blocks T t [] h = tt
+extension_blocks T t (e ∷ es) h = ((is_no_x T _ e.1 h.0, long_extension T t _ e.1 h.0), extension_blocks T t es h.1)
+
+-- the head and the blocks of a spelling
+pub head-spelling : {T : ℕ → Bool} (w : Written) → IsWritten T w → head (spelling w) ≡ identifier_pieces w.id
+head-spelling w h = ap (λ ps. w.id.language ∷ ps) (front_before (after_language w.id) (blocks_of w) (long_after_language w.id h.id.words))
+
+pub blocks-spelling : {T : ℕ → Bool} → IsTable T → (w : Written) → IsWritten T w → tail_blocks (spelling w) ≡ blocks_of w
+blocks-spelling {T = T} t w h = blocks_past (after_language w.id) _ (long_after_language w.id h.id.words) ∙ blocks_spelled (map extension_block w.extensions) w.private (extension_blocks T t w.extensions h.extensions) (is_120 w.private h.private)
+
+-- fields
+
+abbrev pub KeysPass : (List ℕ → Bool) → Fields → Type 0
+KeysPass test fs = AllByRecursion (λ f. (test f.0 ≡ true) × AllByRecursion (λ p. test p ≡ false) f.1) fs
+
+pub before_key_read : (test : List ℕ → Bool) (xs : List (List ℕ)) (fs : Fields) → AllByRecursion (λ p. test p ≡ false) xs → KeysPass test fs → before_key test (xs ++ fields_pieces fs) ≡ xs
+before_key_read test [] [] h k = refl
+before_key_read test [] (f ∷ fs) h k = rw k.0.0
+before_key_read test (x ∷ xs) fs h k = rw h.0 (ap (λ l. x ∷ l) (before_key_read test xs fs h.1 k))
+
+pub fields_past : (test : List ℕ → Bool) (xs ys : List (List ℕ)) → AllByRecursion (λ p. test p ≡ false) xs → fields_from test (xs ++ ys) ≡ fields_from test ys
+fields_past test [] ys h = refl
+fields_past test (x ∷ xs) ys h = rw h.0 (fields_past test xs ys h.1)
+
+pub fields_read : (test : List ℕ → Bool) (fs : Fields) → KeysPass test fs → fields_from test (fields_pieces fs) ≡ fs
+fields_read test [] k = refl
+fields_read test (f ∷ fs) k = rw k.0.0 (λ i. (f.0, before_key_read test f.1 fs k.0.1 k.1 i) ∷ (fields_past test f.1 (fields_pieces fs) k.0.1 ∙ fields_read test fs k.1) i)
+
+-- reading loses nothing
+pub fields_all : (test : List ℕ → Bool) (ps : List (List ℕ)) → before_key test ps ++ fields_pieces (fields_from test ps) ≡ ps
+fields_all test [] = refl
+fields_all test (p ∷ ps) = elim (test p) as (λ b. cond b [] (p ∷ before_key test ps) ++ fields_pieces (cond b ((p, before_key test ps) ∷ fields_from test ps) (fields_from test ps)) ≡ p ∷ ps) [ true ↦ ap (λ l. p ∷ l) (fields_all test ps) | false ↦ ap (λ l. p ∷ l) (fields_all test ps) ]
+
+-- the unicode part: a key is a piece of two bytes
+
+pub not_two : (p : List ℕ) → IsWord Attribute p → is_two p ≡ false
+not_two p h = let l = length-attribute p h in ne_eqb _ _ (λ e. absurd (omega arith))
+
+pub two : (p : List ℕ) → IsWord UnicodeKey p → is_two p ≡ true
+two p h = rw (length-unicode_key p h)
+
+pub keywords_pass : (fs : Fields) → AllByRecursion IsKeyword fs → KeysPass is_two fs
+keywords_pass = all_weaker IsKeyword (λ f. (is_two f.0 ≡ true) × AllByRecursion (λ p. is_two p ≡ false) f.1) (λ f h. (two f.0 h.0, all_weaker (IsWord Attribute) (λ p. is_two p ≡ false) not_two f.1 h.1))
+
+pub unicode_of-pieces : (u : Unicode) → IsUnicode u → unicode_of (unicode_pieces u) ≡ u
+unfolding unicode_of
+unicode_of-pieces u h =
+    let attributes = all_weaker (IsWord Attribute) (λ p. is_two p ≡ false) not_two u.attributes h.attributes in
+    let keys = keywords_pass u.keywords h.keywords in
+    let keywords : fields_from is_two (unicode_pieces u) ≡ u.keywords = fields_past is_two u.attributes _ attributes ∙ fields_read is_two u.keywords keys in
+    λ i. record { attributes = before_key_read is_two u.attributes u.keywords attributes keys i; keywords = keywords i }
+
+pub pieces-unicode_of : (ps : List (List ℕ)) → unicode_pieces (unicode_of ps) ≡ ps
+unfolding unicode_of
+pieces-unicode_of ps = fields_all is_two ps
+
+-- the transform part: no word of an identifier is a key
+
+abbrev pub IsNoKey : List ℕ → Type 0
+IsNoKey p = is_word TransformKey p ≡ false
+
+no_key_by_length : (p : List ℕ) → length p ≢ 2 → IsNoKey p
+no_key_by_length p h = false_from_ne_true _ (λ k. h (length-transform_key p k))
+
+second_digit : (p : List ℕ) → IsWord TransformKey p → is_ascii_digit (slice_index p 1) ≡ true
+unfolding is_word
+second_digit p h = (and_parts _ _ (and_parts _ _ h).1).1
+
+digit_no_letter : (c : ℕ) → is_ascii_digit c ≡ true → is_ascii_alphabetic c ≡ true → ⊥
+digit_no_letter c h k = grind (arith, nat_tests)
+
+second_letter : (p : List ℕ) → list_all is_ascii_alphabetic p ≡ true → length p ≡ 2 → is_ascii_alphabetic (slice_index p 1) ≡ true
+second_letter (c ∷ d ∷ p) h e = (and_parts _ _ (and_parts _ _ h).1).0
+second_letter _ h e = absurd (omega arith)
+
+letters_no_key : (p : List ℕ) → list_all is_ascii_alphabetic p ≡ true → IsNoKey p
+letters_no_key p h = false_from_ne_true _ (λ k. digit_no_letter (slice_index p 1) (second_digit p k) (second_letter p h (length-transform_key p k)))
+
+pub language_no_key : (T : ℕ → Bool) (p : List ℕ) → IsWord (Language T) p → IsNoKey p
+unfolding is_word
+language_no_key T p h = letters_no_key p (and_parts _ _ h).1
+
+region_no_key : (p : List ℕ) → IsWord Region p → IsNoKey p
+unfolding is_word
+region_no_key p h = elim (or_cases ((length p == 2) && letters p) ((length p == 3) && digits p) h) [
+  | inl a ↦ letters_no_key p (and_parts _ _ a).1
+  | inr a ↦ no_key_by_length p (λ e. let l : length p ≡ 3 = eqb-true _ _ (and_parts _ _ a).0 in absurd (omega arith))
+]
+
+script_no_key : (p : List ℕ) → IsWord Script p → IsNoKey p
+script_no_key p h = no_key_by_length p (let l = length-script p h in omega arith)
+
+variant_no_key : (p : List ℕ) → IsWord Variant p → IsNoKey p
+variant_no_key p h = no_key_by_length p (let l = length-variant p h in omega arith)
+
+pub attribute_no_key : (p : List ℕ) → IsWord Attribute p → IsNoKey p
+attribute_no_key p h = no_key_by_length p (let l = length-attribute p h in omega arith)
+
+pub identifier_no_key : {T : ℕ → Bool} (i : Identifier) → HasWords T i → AllByRecursion IsNoKey (identifier_pieces i)
+identifier_no_key {T = T} i h = (language_no_key T i.language h.language, after_language_each IsNoKey script_no_key region_no_key variant_no_key i h)
+
+pub optional_no_key : (T : ℕ → Bool) (o : Option Identifier) → IfSome o (IsIdentifier T) → AllByRecursion IsNoKey (optional_pieces o)
+optional_no_key T = optional_each IsNoKey T identifier_no_key
+
+pub fields_pass : (fs : Fields) → AllByRecursion IsField fs → KeysPass (is_word TransformKey) fs
+fields_pass = all_weaker IsField (λ f. (is_word TransformKey f.0 ≡ true) × AllByRecursion IsNoKey f.1) (λ f h. (h.0, all_weaker (IsWord Attribute) IsNoKey attribute_no_key f.1 h.1))
+
+optional_read : (T : ℕ → Bool) (o : Option Identifier) → IfSome o (IsIdentifier T) → optional_of (optional_pieces o) ≡ o
+optional_read T None h = refl
+optional_read T (Some i) h = ap Some (identifier_of-pieces i h.words)
+
+pub transform_of-pieces : {T : ℕ → Bool} (m : Transform) → IsTransform T m → transform_of (transform_pieces m) ≡ m
+unfolding transform_of
+transform_of-pieces {T = T} m h =
+    let front = optional_no_key T m.id h.id in
+    let keys = fields_pass m.fields h.fields in
+    let id : optional_of (before_key (is_word TransformKey) (transform_pieces m)) ≡ m.id = ap optional_of (before_key_read (is_word TransformKey) (optional_pieces m.id) m.fields front keys) ∙ optional_read T m.id h.id in
+    let fields : fields_from (is_word TransformKey) (transform_pieces m) ≡ m.fields = fields_past (is_word TransformKey) (optional_pieces m.id) _ front ∙ fields_read (is_word TransformKey) m.fields keys in
+    λ i. record { id = id i; fields = fields i }
+
+pieces-optional_of : (ps : List (List ℕ)) → optional_pieces (optional_of ps) ≡ ps
+pieces-optional_of [] = refl
+pieces-optional_of (p ∷ ps) = pieces-identifier_of p ps
+
+pub pieces-transform_of : (ps : List (List ℕ)) → transform_pieces (transform_of ps) ≡ ps
+unfolding transform_of
+pieces-transform_of ps = ap (λ l. l ++ fields_pieces (fields_from (is_word TransformKey) ps)) (pieces-optional_of (before_key (is_word TransformKey) ps)) ∙ fields_all (is_word TransformKey) ps
+
+-- blocks
+
+pub extension_of-pieces : (T : ℕ → Bool) (c : ℕ) (e : Extension) → IsExtension T c e → extension_of c (extension_pieces e) ≡ e
+extension_of-pieces T c (unicode u) h = rw h.0 (ap unicode (unicode_of-pieces u h.1))
+extension_of-pieces T c (transform m) h = rw h.0 (ap transform (transform_of-pieces m h.1))
+extension_of-pieces T c (other ps) h = let t : (c == 116) ≡ false = ne_eqb _ _ (λ e. no_t c e h.0) in let u : (c == 117) ≡ false = ne_eqb _ _ (λ e. no_u c e h.0) in rw (t, u)
+
+pub pieces-extension_of : (c : ℕ) (ps : List (List ℕ)) → extension_pieces (extension_of c ps) ≡ ps
+pieces-extension_of c ps = elim (c == 116) as (λ t. extension_pieces (extension_by t (c == 117) ps) ≡ ps) [
+  | true ↦ pieces-transform_of ps
+  | false ↦ elim (c == 117) as (λ u. extension_pieces (extension_by false u ps) ≡ ps) [ true ↦ pieces-unicode_of ps | false ↦ refl ]
+]
+
+-- whole texts
+
+parts_read : (T : ℕ → Bool) (es : List (ℕ × Extension)) (x : Option (ℕ × List (List ℕ))) → AllByRecursion (λ e. IsExtension T (singleton e) e.1) es → IfSome x (λ b. (singleton b == 120) ≡ true) → (extensions_in (map extension_block es ++ option_to_list x) ≡ es) × (private_in (map extension_block es ++ option_to_list x) ≡ x)
+parts_read T [] None h k = (refl, refl)
+parts_read T [] (Some b) h k = rw k (refl, refl)
+parts_read T (e ∷ es) x h k = let r = parts_read T es x h.1 k in rw (is_no_x T (singleton e) e.1 h.0) (λ i. (e.0, extension_of-pieces T (singleton e) e.1 h.0 i) ∷ r.0 i, r.1)
+
+-- what is spelled is read
+pub written_of-spelling : {T : ℕ → Bool} → IsTable T → (w : Written) → IsWritten T w → written_of (spelling w) ≡ w
+unfolding written_of
+written_of-spelling {T = T} t w h =
+    let id : identifier_of (head (spelling w)) ≡ w.id = ap identifier_of (head-spelling w h) ∙ identifier_of-pieces w.id h.id.words in
+    let parts = parts_read T w.extensions w.private h.extensions (is_120 w.private h.private) in
+    let extensions : extensions_in (tail_blocks (spelling w)) ≡ w.extensions = ap extensions_in (blocks-spelling t w h) ∙ parts.0 in
+    let private : private_in (tail_blocks (spelling w)) ≡ w.private = ap private_in (blocks-spelling t w h) ∙ parts.1 in
+    λ i. record { id = id i; extensions = extensions i; private = private i }
+
+-- a text means one value at most
+pub one_meaning : {T : ℕ → Bool} → IsTable T → (t : List ℕ) (L M : Locale) → Means T t L → Means T t M → L ≡ M
+one_meaning table t L M a b =
+    a.means ∙ ap meaning (sym (written_of-spelling table a.written a.grammatical) ∙ ap written_of (sym a.spelled ∙ b.spelled) ∙ written_of-spelling table b.written b.grammatical) ∙ sym b.means

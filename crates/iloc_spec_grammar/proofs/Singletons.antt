@@ -1,0 +1,65 @@
+-- Singletons as numbers: which tie, and of which kind each is.
+use Rattle.std.proofs.Common.{◌≡◌, ◌≢◌, inl, inr, ℕ, suc, true, false, ◌==◌, ap, arith, List, [], ◌∷◌, map, subst, IfSome}
+use Rattle.std.specs.Char.{is_ascii_alphanumeric, to_ascii_lowercase}
+use Rattle.std.specs.Cmp.{nat_cmp_total, tied_itself}
+use Rattle.std.specs.Ordering.{nat_cmp, eq_by_cmp, is_eq}
+use Rattle.std.proofs.lemmas.Bool.{cases_eq, cond_both}
+use Rattle.std.proofs.lemmas.Bool.Decides.{nat_tests}
+use Rattle.iloc_spec_grammar.specs.Written.{is_other_singleton, singleton}
+use Rattle.std.specs.List.{AllByRecursion}
+use Rattle.std.specs.FinMap.{find}
+
+pub tied : (q k : ℕ) → eq_by_cmp nat_cmp q k ≡ true → k ≡ q
+tied q k h = grind (arith, nat_tests)
+
+pub untied : (q k : ℕ) → k ≢ q → eq_by_cmp nat_cmp q k ≡ false
+untied q k h = grind (arith, nat_tests)
+
+pub tied_back : (a b : ℕ) → eq_by_cmp nat_cmp a b ≡ false → eq_by_cmp nat_cmp b a ≡ false
+tied_back a b h = grind (arith, nat_tests)
+
+pub self_tied : (q : ℕ) → eq_by_cmp nat_cmp q q ≡ true
+self_tied q = ap is_eq (tied_itself nat_cmp_total q)
+
+-- what holds of each item at its singleton holds of the one that is found
+pub find_holds : {X : Type 0} (P : ℕ → X → Type 0) (q : ℕ) (es : List (ℕ × X)) → AllByRecursion (λ e. P (singleton e) e.1) es → IfSome (find nat_cmp q (map (λ e. (singleton e, e.1)) es)) (P q)
+find_holds P q [] h = tt
+find_holds P q (e ∷ es) h = cond_both (eq_by_cmp nat_cmp q (singleton e)) _ _ (λ o. IfSome o (P q)) (λ t. subst (λ (c : ℕ). P c e.1) (tied q (singleton e) t) h.0) (λ t. find_holds P q es h.1)
+
+-- a piece of two bytes and more has more than one
+pub two_more : (n : ℕ) → (suc (suc n) == 1) ≡ false
+two_more n = grind (arith, nat_tests)
+
+-- the kinds are apart
+
+pub no_u : (c : ℕ) → c ≡ 117 → is_other_singleton c ≡ true → ⊥
+no_u c e h = grind (arith, nat_tests)
+
+pub no_t : (c : ℕ) → c ≡ 116 → is_other_singleton c ≡ true → ⊥
+no_t c e h = grind (arith, nat_tests)
+
+pub no_x : (c : ℕ) → c ≡ 120 → is_other_singleton c ≡ true → ⊥
+no_x c e h = grind (arith, nat_tests)
+
+-- a singleton in lower case: that of `u`, `t` or `x`, or of another part
+pub data IsKind (c : ℕ) : Type 0 where
+  of_u : c ≡ 117 → IsKind c
+  of_t : c ≡ 116 → IsKind c
+  of_x : c ≡ 120 → IsKind c
+  another : is_other_singleton c ≡ true → IsKind c
+
+pub kind_of : (c : ℕ) → is_ascii_alphanumeric c ≡ true → IsKind c
+kind_of c h = elim (cases_eq c 117) [
+  | inl e ↦ of_u e
+  | inr a ↦ elim (cases_eq c 116) [
+    | inl e ↦ of_t e
+    | inr b ↦ elim (cases_eq c 120) [ inl e ↦ of_x e | inr d ↦ another (rest c h a b d) ]
+  ]
+]
+  where
+    rest : (c : ℕ) → is_ascii_alphanumeric c ≡ true → (c ≡ 117 → ⊥) → (c ≡ 116 → ⊥) → (c ≡ 120 → ⊥) → is_other_singleton c ≡ true
+    rest c h a b d = grind (arith, nat_tests)
+
+-- a letter or digit is one in lower case too
+pub lower_letter : (c : ℕ) → is_ascii_alphanumeric c ≡ true → is_ascii_alphanumeric (to_ascii_lowercase c) ≡ true
+lower_letter c h = grind (arith, nat_tests)

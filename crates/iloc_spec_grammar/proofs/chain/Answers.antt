@@ -1,0 +1,7 @@
+-- From the sorting of each part.
+use Rattle.iloc_spec_grammar.proofs.Corollaries.{texts_lead_to_one}
+use Rattle.iloc_spec_grammar.proofs.Chains.{chain_to_text, shortest}
+use Rattle.iloc_spec_grammar.proofs.chain.Goals as goal
+
+pub returns : goal.returns
+returns c = record { steps = chain_to_text; shortest = shortest; same = texts_lead_to_one }

@@ -1,0 +1,87 @@
+-- Meaning told block by block: the same relation as `Means`, as a reader of the text would check
+-- it, by a rule for each part. The law `by_blocks` says that the two agree if the rules are
+-- those of the grammar. Restates UTS #35, section 3, unicode_locale_id.
+use Rattle.std.specs.Prelude.{◌≡◌, true, List, [], map, filter, Option, MatchOption}
+use Rattle.std.specs.Char.{is_ascii_alphanumeric}
+use Rattle.std.specs.List.{AllByRecursion}
+use Rattle.std.specs.Ordering.{nat_cmp}
+use Rattle.std.specs.FinMap.{find}
+use Rattle.iloc_spec_grammar.specs.Shapes.{Text, Table, Block, code_t, code_u, code_x}
+use Rattle.iloc_spec_grammar.specs.Pieces.{pieces}
+use Rattle.iloc_spec_grammar.specs.Words.{lower}
+use Rattle.iloc_spec_grammar.specs.Written.{Unicode, Transform, unicode_pieces, transform_pieces, IsUnicode, IsTransform, IsOther, IsPrivate, kept, is_other_singleton, AllDifferent, singleton}
+use Rattle.iloc_spec_grammar.specs.Meaning.{Locale, Extensions, IdentifierMeans, map_of, normal_unicode, normal_transform, no_unicode, no_transform, by_singleton}
+use Rattle.iloc_spec_grammar.specs.Blocks.{head, tail_blocks}
+
+-- The rules of the grammar: what the pieces after a singleton mean.
+
+-- after `u`
+pub record UnicodeMeans (ps : List Text) (v : Unicode) : Type 0 where
+  pub written : Unicode
+  pub grammatical : IsUnicode written
+  pub spelled : ps ≡ unicode_pieces written
+  pub means : v ≡ normal_unicode written
+
+-- after `t`
+pub record TransformMeans (T : Table) (ps : List Text) (n : Transform) : Type 0 where
+  pub written : Transform
+  pub grammatical : IsTransform T written
+  pub spelled : ps ≡ transform_pieces written
+  pub means : n ≡ normal_transform written
+
+-- after `x`
+abbrev pub PrivateMeans : List Text → List Text → Type 0
+PrivateMeans ps ws = IsPrivate ps × (ws ≡ map lower ps)
+
+-- after another singleton
+abbrev pub OtherMeans : List Text → List Text → Type 0
+OtherMeans ps ws = IsOther ps × (ws ≡ kept ps)
+
+-- a rule for each part: which value its pieces have
+pub record Rules : Type 1 where
+  pub unicode : List Text → Unicode → Type 0
+  pub transform : List Text → Transform → Type 0
+  pub private : List Text → List Text → Type 0
+  pub other : List Text → List Text → Type 0
+
+abbrev pub grammar_rules : Table → Rules
+grammar_rules T = record {
+  unicode = UnicodeMeans;
+  transform = TransformMeans T;
+  private = PrivateMeans;
+  other = OtherMeans;
+}
+
+-- Blocks and what they give by such rules.
+
+-- the blocks of other extensions
+abbrev pub other_blocks : List Block → List Block
+other_blocks bs = filter (λ b. is_other_singleton b.0) bs
+
+-- the block gives the part by its rule; an absent block gives the empty part
+abbrev pub PartIs : {X : Type 0} → (List Text → X → Type 0) → X → Option (List Text) → X → Type 0
+PartIs Rule empty block v = MatchOption block (v ≡ empty) (λ ps. Rule ps v)
+
+-- Singletons are letters or digits and differ, the blocks of `u`, `t` and `x`
+-- give their parts, and each other one the words that it keeps.
+pub record BlocksGive (R : Rules) (bs : List Block) (e : Extensions) : Type 0 where
+  pub letters : AllByRecursion (λ b. is_ascii_alphanumeric b.0 ≡ true) bs
+  pub different : AllDifferent nat_cmp (map (λ b. singleton b) bs)
+  pub unicode : PartIs R.unicode no_unicode (find nat_cmp code_u (by_singleton bs)) e.unicode
+  pub transform : PartIs R.transform no_transform (find nat_cmp code_t (by_singleton bs)) e.transform
+  pub private : PartIs R.private [] (find nat_cmp code_x (by_singleton bs)) e.private
+  pub each_other : AllByRecursion (λ b. R.other b.1 (kept b.1)) (other_blocks (by_singleton bs))
+  pub others : e.others
+      ≡ map_of nat_cmp (map (λ b. (b.0, kept b.1)) (other_blocks (by_singleton bs)))
+
+-- by the rules of the grammar
+abbrev pub BlocksMean : Table → List Block → Extensions → Type 0
+BlocksMean T bs e = BlocksGive (grammar_rules T) bs e
+
+-- The head is an identifier, and the blocks after it give the extensions.
+pub record MeansBy (R : Rules) (T : Table) (t : Text) (M : Locale) : Type 0 where
+  pub id : IdentifierMeans T (head (pieces t)) M.id
+  pub blocks : BlocksGive R (tail_blocks (pieces t)) M.extensions
+
+abbrev pub MeansByBlocks : Table → Text → Locale → Type 0
+MeansByBlocks T t M = MeansBy (grammar_rules T) T t M

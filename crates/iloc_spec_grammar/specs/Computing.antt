@@ -1,0 +1,108 @@
+-- Plain programs for what a text means and why it is refused. The rules of Written become tests of
+-- what Reading reads; the law `computed` says that the answers are those of `Means` and `HasFault`,
+-- so examples can be computed.
+use Rattle.std.specs.Prelude.{ℕ, ◌+◌, Bool, true, not, ◌&&◌, ◌||◌, ◌==◌, List, [], ◌∷◌, length, map, Option, Some, None, is_some, Result, Ok, Err, nat_lt, if◌then◌else◌}
+use Rattle.std.specs.Char.{is_ascii_alphanumeric}
+use Rattle.std.specs.Int.{is_in_range}
+use Rattle.std.specs.List.{list_any, list_all}
+use Rattle.std.specs.Ordering.{nat_cmp, eq_by_cmp}
+use Rattle.std.specs.declared.cmp.Ordering.{Ordering}
+use Rattle.iloc_spec_grammar.specs.Shapes.{Text, Table, Field, Block, code_t, code_u, code_x}
+use Rattle.iloc_spec_grammar.specs.Pieces.{pieces}
+use Rattle.iloc_spec_grammar.specs.Words.{Language, Script, Region, Variant, UnicodeKey, TransformKey, Attribute, PrivateSubtag, is_word, lower, word_cmp}
+use Rattle.iloc_spec_grammar.specs.Written.{Identifier, Unicode, Transform, Extension, unicode, transform, other, kept, is_other_singleton, singleton}
+use Rattle.iloc_spec_grammar.specs.Meaning.{Locale, normal_identifier, meaning}
+use Rattle.iloc_spec_grammar.specs.Values.{text, identifier_text}
+use Rattle.iloc_spec_grammar.specs.Faults.{Fault, InvalidLanguage, InvalidSubtag, InvalidExtension, DuplicatedExtension}
+use Rattle.iloc_spec_grammar.specs.Blocks.{first_piece, head, tail_blocks}
+use Rattle.iloc_spec_grammar.specs.Reading.{identifier_of, front_of, extension_of, written_of}
+
+-- Tests of the rules.
+
+abbrev pub holds_if_some : {X : Type 0} → (X → Bool) → Option X → Bool
+holds_if_some test None = true
+holds_if_some test (Some x) = test x
+
+abbrev pub all_different : {X : Type 0} → (X → X → Ordering) → List X → Bool
+all_different cmp [] = true
+all_different cmp (x ∷ xs) = not (list_any (eq_by_cmp cmp x) xs) && all_different cmp xs
+
+abbrev pub has_words : Table → Identifier → Bool
+has_words T i = (is_word (Language T) i.language && holds_if_some (is_word Script) i.script)
+    && (holds_if_some (is_word Region) i.region && list_all (is_word Variant) i.variants)
+
+abbrev pub is_identifier : Table → Identifier → Bool
+is_identifier T i = has_words T i && all_different word_cmp (map lower i.variants)
+
+abbrev pub is_keyword : Field → Bool
+is_keyword f = is_word UnicodeKey f.0 && list_all (is_word Attribute) f.1
+
+abbrev pub is_unicode : Unicode → Bool
+is_unicode u = (list_all (is_word Attribute) u.attributes && list_all is_keyword u.keywords)
+    && nat_lt 0 (length u.attributes + length u.keywords)
+
+abbrev pub is_field : Field → Bool
+is_field f = (is_word TransformKey f.0 && list_all (is_word Attribute) f.1) && nat_lt 0 (length f.1)
+
+abbrev pub is_transform : Table → Transform → Bool
+is_transform T m = (holds_if_some (is_identifier T) m.id && list_all is_field m.fields)
+    && (is_some m.id || nat_lt 0 (length m.fields))
+
+abbrev pub is_other : List Text → Bool
+is_other ps = list_all (λ p. is_in_range 2 8 (length p)) ps && nat_lt 0 (length (kept ps))
+
+abbrev pub is_private : List Text → Bool
+is_private ps = list_all (is_word PrivateSubtag) ps && nat_lt 0 (length ps)
+
+abbrev pub is_extension : Table → ℕ → Extension → Bool
+is_extension T c (unicode u) = (c == code_u) && is_unicode u
+is_extension T c (transform m) = (c == code_t) && is_transform T m
+is_extension T c (other ps) = is_other_singleton c && is_other ps
+
+abbrev pub is_block : Table → Block → Bool
+is_block T b = ((singleton b == code_x) && is_private b.1)
+    || is_extension T (singleton b) (extension_of (singleton b) b.1)
+
+abbrev pub repeats_variant : Table → List Text → Bool
+repeats_variant T ps = is_word (Language T) (first_piece ps)
+    && not (all_different word_cmp (map lower (front_of ps).variants))
+
+-- Answers.
+
+-- what pieces are as an identifier
+abbrev pub identifier_result : Table → List Text → Result Identifier Fault
+identifier_result T ps =
+    if not (is_word (Language T) (first_piece ps)) then Err InvalidLanguage else
+    if not (is_identifier T (identifier_of ps)) then Err InvalidSubtag else
+    Ok (normal_identifier (identifier_of ps))
+
+-- the fault of the first bad block, after blocks with the singletons in seen
+abbrev pub first_fault : Table → Text → List Block → Option Fault
+first_fault T seen [] = None
+first_fault T seen (b ∷ bs) =
+    if not (is_ascii_alphanumeric b.0) then Some InvalidExtension else
+    if list_any (eq_by_cmp nat_cmp (singleton b)) seen then Some DuplicatedExtension else
+    if is_block T b then first_fault T (singleton b ∷ seen) bs else
+    if (singleton b == code_t) && repeats_variant T b.1 then Some InvalidSubtag else
+    Some InvalidExtension
+
+abbrev pub unless_fault : {X : Type 0} → Option Fault → X → Result X Fault
+unless_fault None x = Ok x
+unless_fault (Some f) x = Err f
+
+-- what a text is as a locale
+unfoldable pub locale_result : Table → Text → Result Locale Fault
+locale_result T t =
+    if not (is_word (Language T) (first_piece (pieces t))) then Err InvalidLanguage else
+    if not (is_identifier T (identifier_of (head (pieces t)))) then Err InvalidSubtag else
+    unless_fault (first_fault T [] (tail_blocks (pieces t))) (meaning (written_of (pieces t)))
+
+-- the normal text of what a text means, as an identifier and as a locale
+
+abbrev pub identifier_text_of : Result Identifier Fault → Result Text Fault
+identifier_text_of (Ok i) = Ok (identifier_text i)
+identifier_text_of (Err f) = Err f
+
+abbrev pub text_of : Result Locale Fault → Result Text Fault
+text_of (Ok M) = Ok (text M)
+text_of (Err f) = Err f

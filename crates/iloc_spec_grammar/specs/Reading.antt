@@ -1,0 +1,163 @@
+-- Plain programs that read pieces from the left. Two readings of an identifier: `identifier_of`
+-- takes all the pieces, and leaves it to the rules whether they are words; `front_of` takes the
+-- longest front of words. The other functions named `.._of` take all the pieces of a part in the
+-- same way. Each loses nothing, and gives back what follows the rules of Written, so the rules have
+-- one reading at most.
+use Rattle.std.specs.Prelude.{◌≡◌, ℕ, ◌≤◌, Bool, true, false, cond, ◌==◌, List, [], ◌∷◌, ◌++◌, length, Option, Some, None}
+use Rattle.iloc_spec_grammar.specs.Shapes.{Text, Table, Block, code_t, code_u, code_x}
+use Rattle.iloc_spec_grammar.specs.Words.{Script, Region, Variant, TransformKey, is_word}
+use Rattle.iloc_spec_grammar.specs.Written.{Identifier, Fields, Unicode, Transform, Extension, unicode, transform, other, Written, HasWords, identifier_pieces, singleton}
+use Rattle.iloc_spec_grammar.specs.Blocks.{is_one_byte, first_piece, head, tail_blocks}
+
+-- Lists of pieces.
+
+abbrev pub first_item : {X : Type 0} → List X → Option X
+first_item [] = None
+first_item (x ∷ xs) = Some x
+
+-- all pieces but the first
+abbrev pub rest_of : List Text → List Text
+rest_of [] = []
+rest_of (p ∷ ps) = ps
+
+-- the first piece if it passes the test, and what is left
+abbrev pub take_first : (Text → Bool) → List Text → Option Text
+take_first test [] = None
+take_first test (p ∷ ps) = cond (test p) (Some p) None
+
+-- the pieces without the first, if that passes the test
+abbrev pub skip_first : (Text → Bool) → List Text → List Text
+skip_first test [] = []
+skip_first test (p ∷ ps) = cond (test p) ps (p ∷ ps)
+
+-- the longest front whose pieces pass the test, and what is left
+abbrev pub passing : (Text → Bool) → List Text → List Text
+passing test [] = []
+passing test (p ∷ ps) = cond (test p) (p ∷ passing test ps) []
+
+-- the pieces after the longest front that passes the test
+abbrev pub past : (Text → Bool) → List Text → List Text
+past test [] = []
+past test (p ∷ ps) = cond (test p) (past test ps) (p ∷ ps)
+
+-- nothing is left, or its first piece fails the test
+abbrev pub EndsBefore : (Text → Bool) → List Text → Type 0
+EndsBefore test [] = Unit {0}
+EndsBefore test (p ∷ ps) = test p ≡ false
+
+-- Identifiers.
+
+-- the pieces after the language and a script, and after a region too
+abbrev pub after_script : List Text → List Text
+after_script ps = skip_first (is_word Script) (rest_of ps)
+
+-- what is left after a language, perhaps a script and perhaps a region
+abbrev pub after_region : List Text → List Text
+after_region ps = skip_first (is_word Region) (after_script ps)
+
+-- the identifier that all the pieces are, if they are one
+unfoldable pub identifier_of : List Text → Identifier
+identifier_of ps = record {
+  language = first_piece ps;
+  script = take_first (is_word Script) (rest_of ps);
+  region = take_first (is_word Region) (after_script ps);
+  variants = after_region ps;
+}
+
+-- the words at the front
+unfoldable pub front_of : List Text → Identifier
+front_of ps = record {
+  language = first_piece ps;
+  script = take_first (is_word Script) (rest_of ps);
+  region = take_first (is_word Region) (after_script ps);
+  variants = passing (is_word Variant) (after_region ps);
+}
+
+-- what is left after them
+unfoldable pub after_front : List Text → List Text
+after_front ps = past (is_word Variant) (after_region ps)
+
+-- the longest front of a language and the words after it
+pub record IdentifierFront (T : Table) (ps : List Text) (i : Identifier) (rest : List Text) : Type 0 where
+  pub words : HasWords T i
+  pub spelled : ps ≡ identifier_pieces i ++ rest
+  pub longest : (j : Identifier) (more : List Text) → HasWords T j
+      → ps ≡ identifier_pieces j ++ more
+      → length (identifier_pieces j) ≤ length (identifier_pieces i)
+
+-- Fields: each begins at a piece that passes the test for a key.
+
+-- the pieces before the first key
+abbrev pub before_key : (Text → Bool) → List Text → List Text
+before_key test [] = []
+before_key test (p ∷ ps) = cond (test p) [] (p ∷ before_key test ps)
+
+-- each key with the pieces up to the next one
+abbrev pub fields_from : (Text → Bool) → List Text → Fields
+fields_from test [] = []
+fields_from test (p ∷ ps) = cond (test p) ((p, before_key test ps) ∷ fields_from test ps)
+    (fields_from test ps)
+
+-- Extensions.
+
+-- whether the piece has two bytes, as the keys of `u` and `t` have
+abbrev pub is_two : Text → Bool
+is_two p = length p == 2
+
+-- after `u`, a piece of two bytes is a key
+unfoldable pub unicode_of : List Text → Unicode
+unicode_of ps = record { attributes = before_key is_two ps; keywords = fields_from is_two ps }
+
+abbrev pub optional_of : List Text → Option Identifier
+optional_of [] = None
+optional_of (p ∷ ps) = Some (identifier_of (p ∷ ps))
+
+-- after `t`, no word of an identifier is a key
+unfoldable pub transform_of : List Text → Transform
+transform_of ps = record {
+  id = optional_of (before_key (is_word TransformKey) ps);
+  fields = fields_from (is_word TransformKey) ps;
+}
+
+abbrev pub extension_by : Bool → Bool → List Text → Extension
+extension_by true u ps = transform (transform_of ps)
+extension_by false true ps = unicode (unicode_of ps)
+extension_by false false ps = other ps
+
+-- the extension after the singleton, in lower case
+abbrev pub extension_of : ℕ → List Text → Extension
+extension_of c ps = extension_by (c == code_t) (c == code_u) ps
+
+-- Whole texts.
+
+-- the extensions of the blocks before the one of `x`, and that one
+abbrev pub extensions_in : List Block → List (ℕ × Extension)
+extensions_in [] = []
+extensions_in (b ∷ bs) = cond (singleton b == code_x) []
+    ((b.0, extension_of (singleton b) b.1) ∷ extensions_in bs)
+
+abbrev pub private_in : List Block → Option Block
+private_in [] = None
+private_in (b ∷ bs) = cond (singleton b == code_x) (Some b) (private_in bs)
+
+unfoldable pub written_of : List Text → Written
+written_of ps = record {
+  id = identifier_of (head ps);
+  extensions = extensions_in (tail_blocks ps);
+  private = private_in (tail_blocks ps);
+}
+
+-- Where blocks begin.
+
+-- from the first piece of one byte on; after the head of the pieces
+abbrev pub from_block : List Text → List Text
+from_block [] = []
+from_block (p ∷ ps) = cond (is_one_byte p) (p ∷ ps) (from_block ps)
+
+abbrev pub after_head : List Text → List Text
+after_head ps = from_block (rest_of ps)
+
+-- nothing is left, or a block begins here
+abbrev pub starts_block : List Text → Bool
+starts_block [] = true
+starts_block (p ∷ ps) = is_one_byte p

@@ -1,0 +1,54 @@
+-- Hashes: what a value feeds a hasher, as std's own `Hash` feeds it: a list of writes, each of some
+-- bytes. A text is its bytes and 0xFF, a list its length and its items, an optional part a mark and
+-- the part if it is there. Parts follow one another in the order in which the types keep them.
+-- This project's rule, as in the Rust crate.
+use Rattle.std.specs.Prelude.{◌≡◌, ◌^◌, ◌<◌, List, ◌++◌, length}
+use Rattle.std.specs.Hash.{HashWrites, u8, str, slice, option}
+use Rattle.std.specs.declared.cmp.Ordering.{Ordering}
+use Rattle.std.specs.declared.cmp.Ordering.TheVariants.{Equal}
+use Rattle.iloc_spec_grammar.specs.Shapes.{Text, Block}
+use Rattle.iloc_spec_grammar.specs.Written.{Identifier, Fields, Unicode, Transform}
+use Rattle.iloc_spec_grammar.specs.Meaning.{Locale, Extensions}
+
+-- Values that tie in the order feed a hasher alike; and those that feed it alike tie, so nothing of
+-- a value is left out. The length of a list is fed in eight bytes: so the second is said of fewer
+-- writes than 2 ^ 64, and memory holds no value of more.
+pub record HashesByOrder {X : Type 0} (R : X → X → Ordering) (fed : X → HashWrites) : Type 0 where
+  pub alike : (x y : X) → R x y ≡ Equal → fed x ≡ fed y
+  pub told_apart : (x y : X) → length (fed x) < 2 ^ 64 → fed x ≡ fed y → R x y ≡ Equal
+
+abbrev pub word_fed : Text → HashWrites
+word_fed w = str w
+
+abbrev pub words_fed : List Text → HashWrites
+words_fed ws = slice word_fed ws
+
+-- language, script, region, variants
+abbrev pub identifier_fed : Identifier → HashWrites
+identifier_fed i = word_fed i.language ++ option word_fed i.script ++ option word_fed i.region
+    ++ words_fed i.variants
+
+-- each key with its value; so are keywords and the fields of a transform
+abbrev pub fields_fed : Fields → HashWrites
+fields_fed fs = slice (λ f. word_fed f.0 ++ words_fed f.1) fs
+
+-- keywords, attributes
+abbrev pub unicode_fed : Unicode → HashWrites
+unicode_fed u = fields_fed u.keywords ++ words_fed u.attributes
+
+-- identifier, fields
+abbrev pub transform_fed : Transform → HashWrites
+transform_fed m = option identifier_fed m.id ++ fields_fed m.fields
+
+-- singleton, words
+abbrev pub other_fed : Block → HashWrites
+other_fed o = u8 o.0 ++ words_fed o.1
+
+-- unicode, transform, private words, others
+abbrev pub extensions_fed : Extensions → HashWrites
+extensions_fed e = unicode_fed e.unicode ++ transform_fed e.transform ++ words_fed e.private
+    ++ slice other_fed e.others
+
+-- identifier, extensions
+abbrev pub locale_fed : Locale → HashWrites
+locale_fed M = identifier_fed M.id ++ extensions_fed M.extensions

@@ -1,0 +1,17 @@
+-- From the programs for what follows the singletons.
+use Rattle.iloc_spec_grammar.specs.Written.{is_other_singleton}
+use Rattle.iloc_spec_parts.specs.Fronts.{UnicodeRead, UnicodeFault, TransformRead, TransformFault, OtherRead, OtherFault, PrivateRead, PrivateFault}
+use Rattle.iloc_spec_parts.specs.Parts.{is_letter}
+use Rattle.iloc_spec_parts.specs.FrontComputing.{unicode_result, transform_result, other_result, private_result}
+use Rattle.iloc_spec_parts.proofs.FrontLaws.{unicode_answer, other_answer, private_answer}
+use Rattle.iloc_spec_parts.proofs.TransformLaws.{transform_answer}
+use Rattle.iloc_spec_parts.proofs.PartAnswers.{part_answer}
+use Rattle.iloc_spec_parts.proofs.fronts.part_answers.Goals as goal
+
+pub returns : goal.returns
+returns c = record {
+  unicode = part_answer (is_letter 117) unicode_result UnicodeRead UnicodeFault unicode_answer;
+  transform = λ T table. part_answer (is_letter 116) (transform_result T) (TransformRead T) (TransformFault T) (transform_answer table);
+  other = part_answer is_other_singleton other_result OtherRead OtherFault other_answer;
+  private = part_answer (is_letter 120) private_result PrivateRead PrivateFault private_answer;
+}

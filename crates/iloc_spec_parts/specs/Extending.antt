@@ -1,0 +1,12 @@
+-- A unicode part extended by another: the attributes of both, and the keywords of both, where at a
+-- key of both the other's value stays. This project's rule, as in the Rust crate.
+use Rattle.std.specs.Prelude.{◌++◌}
+use Rattle.iloc_spec_grammar.specs.Words.{word_cmp}
+use Rattle.iloc_spec_grammar.specs.Written.{Unicode}
+use Rattle.iloc_spec_grammar.specs.Meaning.{map_of, set_of}
+
+abbrev pub extend : Unicode → Unicode → Unicode
+extend u v = record {
+  attributes = set_of (u.attributes ++ v.attributes);
+  keywords = map_of word_cmp (v.keywords ++ u.keywords);
+}

@@ -1,0 +1,150 @@
+-- What the readers of single parts take from the front of the pieces after a singleton, and what
+-- they leave. The parts are those of UTS #35 (attributes and keywords after `u`, language and
+-- fields after `t`, and so on); that a part may be read alone, and that the rest of the text is
+-- then ignored, is this project's rule.
+use Rattle.std.specs.Prelude.{◌≡◌, ◌+◌, ◌<◌, Bool, true, false, not, ◌&&◌, ◌||◌, List, [], length, map, if◌then◌else◌, Option, Some, None}
+use Rattle.std.specs.Int.{is_in_range}
+use Rattle.std.specs.List.{AllByRecursion, list_any}
+use Rattle.iloc_spec_grammar.specs.Shapes.{Text, Table}
+use Rattle.iloc_spec_grammar.specs.Words.{Language, UnicodeKey, TransformKey, Attribute, PrivateSubtag, is_word, IsWord, lower}
+use Rattle.iloc_spec_grammar.specs.Written.{Identifier, Fields, Unicode, Transform, fields_pieces, IsKeyword, IsField, IsOther, IsPrivate, IsIdentifier, kept}
+use Rattle.iloc_spec_grammar.specs.Meaning.{set_of, normal_fields, normal_transform}
+use Rattle.iloc_spec_grammar.specs.Reading.{passing, past, is_two, rest_of, IdentifierFront}
+use Rattle.iloc_spec_grammar.specs.Faults.{Fault, InvalidSubtag, InvalidExtension, RepeatsVariant}
+use Rattle.iloc_spec_grammar.specs.Blocks.{first_piece}
+
+-- the longest front whose pieces pass the test, but nothing if the first piece doesn't pass the
+-- first test
+abbrev pub passing_from : (Text → Bool) → (Text → Bool) → List Text → List Text
+passing_from first test ps = if first (first_piece ps) then passing test ps else []
+
+-- and what is left after it
+abbrev pub past_from : (Text → Bool) → (Text → Bool) → List Text → List Text
+past_from first test ps = if first (first_piece ps) then past test ps else ps
+
+-- After `u`: attributes, as many as there are.
+
+-- the longest front of attributes
+abbrev pub attributes_front : List Text → List Text
+attributes_front ps = passing (is_word Attribute) ps
+
+-- what is left after it
+abbrev pub after_attributes : List Text → List Text
+after_attributes ps = past (is_word Attribute) ps
+
+-- the attributes that are read, as a set
+abbrev pub attributes_read : List Text → List Text
+attributes_read ps = set_of (map lower (attributes_front ps))
+
+-- Then keywords, which begin with a piece of two bytes and go on with such pieces and with 3 to 8
+-- letters or digits.
+
+-- whether the piece goes on with keywords: a key's two bytes, or a value
+abbrev pub is_keyword_piece : Text → Bool
+is_keyword_piece p = is_two p || is_word Attribute p
+
+-- the longest front of such pieces, if a piece of two bytes begins it
+abbrev pub keywords_front : List Text → List Text
+keywords_front ps = passing_from is_two is_keyword_piece ps
+
+abbrev pub after_keywords : List Text → List Text
+after_keywords ps = past_from is_two is_keyword_piece ps
+
+-- the front spells keywords, which mean m
+pub record KeywordsRead (ps : List Text) (m : Fields) (rest : List Text) : Type 0 where
+  pub written : Fields
+  pub keywords : AllByRecursion IsKeyword written
+  pub spelled : keywords_front ps ≡ fields_pieces written
+  pub means : m ≡ normal_fields written
+  pub left : rest ≡ after_keywords ps
+
+-- a piece of two bytes that is no key
+abbrev pub is_bad_key : Text → Bool
+is_bad_key p = is_two p && not (is_word UnicodeKey p)
+
+pub data KeywordsFault (ps : List Text) : Fault → Type 0 where
+  bad_key : list_any is_bad_key (keywords_front ps) ≡ true → KeywordsFault ps InvalidExtension
+
+-- attributes and keywords, one after the other, not both absent
+pub record UnicodeRead (ps : List Text) (u : Unicode) (rest : List Text) : Type 0 where
+  pub attributes_are : u.attributes ≡ attributes_read ps
+  pub keywords_are : KeywordsRead (after_attributes ps) u.keywords rest
+  pub nonempty : 0 < length (attributes_front ps) + length (keywords_front (after_attributes ps))
+
+pub data UnicodeFault (ps : List Text) : Fault → Type 0 where
+  in_keywords : {f : Fault} → KeywordsFault (after_attributes ps) f → UnicodeFault ps f
+  both_absent : attributes_front ps ≡ [] → keywords_front (after_attributes ps) ≡ []
+      → UnicodeFault ps InvalidExtension
+
+-- After `t`: if the first piece is a language, the longest front of an identifier's words.
+
+-- an identifier and the longest front that is one, or none if no language is first
+pub data FrontRead (T : Table) (ps : List Text) : Option Identifier → List Text → Type 0 where
+  absent : is_word (Language T) (first_piece ps) ≡ false → FrontRead T ps None ps
+  present : {i : Identifier} {rest : List Text} → IsIdentifier T i → IdentifierFront T ps i rest
+      → FrontRead T ps (Some i) rest
+
+-- Then fields, which begin with a key and go on with keys and with 3 to 8 letters or digits.
+
+abbrev pub is_field_piece : Text → Bool
+is_field_piece p = is_word TransformKey p || is_word Attribute p
+
+abbrev pub fields_front : List Text → List Text
+fields_front ps = passing_from (is_word TransformKey) is_field_piece ps
+
+abbrev pub after_fields : List Text → List Text
+after_fields ps = past_from (is_word TransformKey) is_field_piece ps
+
+-- a key is first, and a value is after it: one field at least
+abbrev pub BeginsField : List Text → Type 0
+BeginsField ps = IsWord TransformKey (first_piece ps) × IsWord Attribute (first_piece (rest_of ps))
+
+-- an identifier and fields, one after the other, not both absent
+pub record TransformRead (T : Table) (ps : List Text) (m : Transform) (rest : List Text) : Type 0 where
+  pub written : Transform
+  pub middle : List Text
+  pub id : FrontRead T ps written.id middle
+  pub fields : AllByRecursion IsField written.fields
+  pub spelled : fields_front middle ≡ fields_pieces written.fields
+  pub nonempty : written.id ≡ None → 0 < length written.fields
+  pub means : m ≡ normal_transform written
+  pub left : rest ≡ after_fields middle
+
+-- a repeated variant, or else a key without a value or nothing there
+pub data TransformFault (T : Table) (ps : List Text) : Fault → Type 0 where
+  repeats : RepeatsVariant T ps → TransformFault T ps InvalidSubtag
+  unread : ¬ (RepeatsVariant T ps)
+      → ((m : Transform) (rest : List Text) → ¬ (TransformRead T ps m rest))
+      → TransformFault T ps InvalidExtension
+
+-- After another singleton: the longest front of pieces of 2 to 8 bytes, of which a word is kept.
+
+-- whether the piece has the length of those after another singleton: 2 to 8 bytes
+abbrev pub has_other_length : Text → Bool
+has_other_length p = is_in_range 2 8 (length p)
+
+-- the longest front of such pieces
+abbrev pub other_front : List Text → List Text
+other_front ps = passing has_other_length ps
+
+pub record OtherRead (ps ws rest : List Text) : Type 0 where
+  pub follows : IsOther (other_front ps)
+  pub means : ws ≡ kept (other_front ps)
+  pub left : rest ≡ past has_other_length ps
+
+pub data OtherFault (ps : List Text) : Fault → Type 0 where
+  no_word : ¬ (IsOther (other_front ps)) → OtherFault ps InvalidExtension
+
+-- After `x`: all the rest, which is private words.
+
+-- the longest front of private words
+abbrev pub private_front : List Text → List Text
+private_front ps = passing (is_word PrivateSubtag) ps
+
+pub record PrivateRead (ps ws rest : List Text) : Type 0 where
+  pub follows : IsPrivate ps
+  pub means : ws ≡ map lower ps
+  pub left : rest ≡ []
+
+pub data PrivateFault (ps : List Text) : Fault → Type 0 where
+  not_private : ¬ (IsPrivate ps) → PrivateFault ps InvalidExtension

@@ -1,0 +1,13 @@
+pub mod Readers
+pub mod Fronts
+pub mod SingleValues
+pub mod Parts
+pub mod PartValues
+pub mod FrontComputing
+pub mod Extending
+pub mod PartComputing
+pub mod ByReaders
+pub mod Small
+pub mod SmallComputing
+pub mod Inline
+pub mod InlineBlocks

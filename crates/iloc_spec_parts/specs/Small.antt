@@ -1,0 +1,133 @@
+-- Small texts: an identifier with at most one variant, and after it nothing, or `u`, a key and at
+-- most one value besides `true`, as in `en-US-u-ca-buddhist`. They are the part of UTS #35's
+-- unicode_locale_id that is read without allocating; where it ends, and how the others are refused, is
+-- this project's rule.
+use Rattle.std.specs.Prelude.{◌≡◌, ◌≢◌, ℕ, ◌≤◌, true, false, List, [], ◌∷◌, length, map, Option, Some, None, IfSome, option_map, option_to_list}
+use Rattle.std.specs.Char.{is_ascii_alphanumeric}
+use Rattle.iloc_spec_grammar.specs.Shapes.{Text, Table, Field, Block, code_u}
+use Rattle.iloc_spec_grammar.specs.Pieces.{pieces}
+use Rattle.iloc_spec_grammar.specs.Words.{Language, Script, Region, Variant, UnicodeKey, Attribute, is_word, IsWord, is_true, lower, title, upper}
+use Rattle.iloc_spec_grammar.specs.Written.{Identifier, Extension, unicode, Written, identifier_pieces, IsIdentifier, IsWritten, spelling, singleton}
+use Rattle.iloc_spec_grammar.specs.Meaning.{Locale, just_unicode, normal_values}
+use Rattle.iloc_spec_grammar.specs.Values.{IsNormal}
+use Rattle.iloc_spec_grammar.specs.Reading.{first_item}
+use Rattle.iloc_spec_grammar.specs.Faults.{Fault, InvalidLanguage, InvalidSubtag, InvalidExtension}
+use Rattle.iloc_spec_grammar.specs.Blocks.{head, tail_blocks, first_piece}
+
+-- What is read.
+
+pub record SmallIdentifier : Type 0 where
+  pub language : Text
+  pub script : Option Text
+  pub region : Option Text
+  pub variant : Option Text
+
+-- an identifier, and perhaps a keyword with its key and perhaps a value
+pub record SmallLocale : Type 0 where
+  pub id : SmallIdentifier
+  pub keyword : Option (Text × Option Text)
+
+-- The identifier and the locale of the same parts, the others empty.
+
+abbrev pub identifier_of_small : SmallIdentifier → Identifier
+identifier_of_small r = record {
+  language = r.language;
+  script = r.script;
+  region = r.region;
+  variants = option_to_list r.variant;
+}
+
+abbrev pub keyword_of_small : Text × Option Text → Field
+keyword_of_small k = (k.0, option_to_list k.1)
+
+abbrev pub locale_of_small : SmallLocale → Locale
+locale_of_small r = record {
+  id = identifier_of_small r.id;
+  extensions = just_unicode
+      (record { attributes = []; keywords = option_to_list (option_map keyword_of_small r.keyword) });
+}
+
+-- the normal words of an identifier with at most one variant
+abbrev pub small_identifier : Identifier → SmallIdentifier
+small_identifier i = record {
+  language = lower i.language;
+  script = option_map title i.script;
+  region = option_map upper i.region;
+  variant = first_item (map lower i.variants);
+}
+
+-- The pieces are an identifier with at most one variant.
+pub record IsSmallIdentifier (T : Table) (ps : List Text) (r : SmallIdentifier) : Type 0 where
+  pub written : Identifier
+  pub grammatical : IsIdentifier T written
+  pub spelled : ps ≡ identifier_pieces written
+  pub one_variant : length written.variants ≤ 1
+  pub means : r ≡ small_identifier written
+
+-- a keyword as it is written: its singleton, its key, and the pieces after it
+pub record WrittenKeyword : Type 0 where
+  pub byte : ℕ
+  pub key : Text
+  pub values : List Text
+
+-- its key and its first value besides `true`
+abbrev pub small_keyword : WrittenKeyword → Text × Option Text
+small_keyword k = (lower k.key, first_item (normal_values k.values))
+
+-- no extension, or one keyword after its singleton
+abbrev pub keyword_extension : Option WrittenKeyword → List (ℕ × Extension)
+keyword_extension None = []
+keyword_extension (Some k) =
+    (k.byte, unicode (record { attributes = []; keywords = (k.key, k.values) ∷ [] })) ∷ []
+
+abbrev pub small_written : Identifier → Option WrittenKeyword → Written
+small_written i k = record { id = i; extensions = keyword_extension k; private = None }
+
+-- The text is an identifier with at most one variant, and perhaps one keyword with at most one
+-- value besides `true`.
+pub record IsSmall (T : Table) (t : Text) (r : SmallLocale) : Type 0 where
+  pub id : Identifier
+  pub keyword : Option WrittenKeyword
+  pub grammatical : IsWritten T (small_written id keyword)
+  pub spelled : pieces t ≡ spelling (small_written id keyword)
+  pub one_variant : length id.variants ≤ 1
+  pub one_value : IfSome keyword (λ k. length (normal_values k.values) ≤ 1)
+  pub means : r ≡ record { id = small_identifier id; keyword = option_map small_keyword keyword }
+
+-- Why a text isn't small.
+
+-- The pieces are no identifier with at most one variant, for this reason.
+pub data HasSmallIdentifierFault (T : Table) (ps : List Text) : Fault → Type 0 where
+  no_language : is_word (Language T) (first_piece ps) ≡ false
+      → HasSmallIdentifierFault T ps InvalidLanguage
+  no_identifier : IsWord (Language T) (first_piece ps)
+      → ((r : SmallIdentifier) → ¬ (IsSmallIdentifier T ps r))
+      → HasSmallIdentifierFault T ps InvalidSubtag
+
+-- What is wrong with the first block of a text that isn't small: no singleton, not `u`, an
+-- attribute, no key, or anything after the key.
+pub data SmallBlockFault (b : Block) : Fault → Type 0 where
+  no_singleton : is_ascii_alphanumeric b.0 ≡ false → SmallBlockFault b InvalidExtension
+  not_u : is_ascii_alphanumeric b.0 ≡ true → singleton b ≢ code_u → SmallBlockFault b InvalidSubtag
+  attribute : singleton b ≡ code_u → IsWord Attribute (first_piece b.1)
+      → SmallBlockFault b InvalidSubtag
+  no_key : singleton b ≡ code_u → is_word Attribute (first_piece b.1) ≡ false
+      → is_word UnicodeKey (first_piece b.1) ≡ false → SmallBlockFault b InvalidExtension
+  after_key : singleton b ≡ code_u → IsWord UnicodeKey (first_piece b.1)
+      → SmallBlockFault b InvalidSubtag
+
+-- The text is not small, for this reason: its head, or else its first block.
+pub data HasSmallFault (T : Table) (t : Text) : Fault → Type 0 where
+  bad_head : {f : Fault} → HasSmallIdentifierFault T (head (pieces t)) f → HasSmallFault T t f
+  bad_block : {f : Fault} {r : SmallIdentifier} {b : Block} {bs : List Block}
+      → IsSmallIdentifier T (head (pieces t)) r → ((r : SmallLocale) → ¬ (IsSmall T t r))
+      → tail_blocks (pieces t) ≡ b ∷ bs → SmallBlockFault b f → HasSmallFault T t f
+
+-- what is read is of normal words, and no value is `true`
+pub record IsSmallValue (T : Table) (r : SmallLocale) : Type 0 where
+  pub language : IsNormal (Language T) r.id.language
+  pub script : IfSome r.id.script (IsNormal Script)
+  pub region : IfSome r.id.region (IsNormal Region)
+  pub variant : IfSome r.id.variant (IsNormal Variant)
+  pub key : IfSome r.keyword (λ k. IsNormal UnicodeKey k.0)
+  pub value : IfSome r.keyword (λ k. IfSome k.1 (λ w. IsNormal Attribute w × (is_true w ≡ false)))

@@ -1,0 +1,9 @@
+//! Subdivisions and data locales, the types of keywords, and preferences.
+//!
+//! `regions` has the laws of subdivisions and data locales, `preferences` those of keyword types and preferences.
+//!
+//! It stands on `iloc_spec_grammar`, `iloc_spec_parts` and `iloc_spec_orders`.
+#![tactic(auto)]
+
+pub mod preferences;
+pub mod regions;

@@ -1,6 +1,0 @@
-pub mod AnySteps
-pub mod StepExamples
-pub mod Equality
-pub mod ListTests
-pub mod PartTests
-pub mod TextTests

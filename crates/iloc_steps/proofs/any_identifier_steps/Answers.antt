@@ -1,7 +1,0 @@
--- Step by step.
-use Rattle.iloc_grammar.proofs.IdentifierTexts.{identifier_chain_means, identifier_chain_length}
-use Rattle.iloc_steps.proofs.AnySteps.{any_identifier_steps_join}
-use Rattle.iloc_steps.proofs.any_identifier_steps.Goals as goal
-
-pub returns : goal.returns
-returns c = record { mean = identifier_chain_means; long = identifier_chain_length; same = any_identifier_steps_join }

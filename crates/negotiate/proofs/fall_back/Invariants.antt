@@ -1,7 +1,0 @@
--- What is looked up is left of what was wanted.
-use Rattle.icu_locale_core.specs.Reads.{value_of}
-use Rattle.negotiate.specs.Fallback.{IsLeftOf}
-use Rattle.negotiate.proofs.fall_back.Given as goal
-
-abbrev pub invariant-loop : goal.invariant-loop
-invariant-loop l = IsLeftOf (value_of l.initial.wanted) (value_of l.wanted)

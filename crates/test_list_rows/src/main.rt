@@ -1,0 +1,67 @@
+//! Rows for lists, maps, sets of words and printing: a line `CALL TAB argument TAB argument` in, a line out. It makes every
+//! public call of short lists, maps, sets of words, and printing.
+//!
+//! Calls that change a value come as steps with blanks between: `steps-KIND`; their row is the value before, the answer
+//! of the first step, the value after it, and so on, joined by ` | `. A step that runs out of memory ends its row: `! Out of memory`, and the value as it is then.
+//! `two-KIND` compares two values, `sizes-KIND` builds one of many numbers, and `print-..` prints a text or a set.
+//!
+//! All that the program itself needs is asked for before the first row, so that every later request is one that a row
+//! makes. It stands on `test_page` and the crates whose calls it makes.
+#![tactic(auto)]
+
+mod lists;
+mod maps;
+mod pairs;
+mod printing;
+mod sets;
+mod sizes;
+mod steps;
+
+use iloc_litemap::LiteMap;
+use iloc_shortvec::{ShortBoxSlice, ShortWords};
+use iloc_word_set::{Variants, is_strictly_ascending};
+use lists::Listed;
+use sizes::Room;
+use std::io;
+use test_page::{Call, Program, page, truth};
+
+/// The answer to steps on a value of the kind, which begins without items.
+fn step_by_step(kind: &str, call: &Call<'_>, room: &mut Vec<u16>, out: &mut String) {
+    let (alloc, script) = (call.alloc, call.first);
+    match kind {
+        "words" => steps::take(alloc, room, Listed(ShortWords::<u16>::new()), script, out),
+        "boxes" => steps::take(
+            alloc,
+            room,
+            Listed(ShortBoxSlice::<u16>::new()),
+            script,
+            out,
+        ),
+        "set" => steps::take(alloc, room, Variants::new(), script, out),
+        "map" => {
+            let map = LiteMap::<u16, u16, ShortBoxSlice<(u16, u16)>>::new(alloc);
+            steps::take(alloc, room, map, script, out)
+        }
+        _ => steps::take(alloc, room, maps::Long::new(alloc), script, out),
+    }
+}
+
+impl Program for Room {
+    fn answer(&mut self, call: &Call<'_>, out: &mut String) {
+        match call.name.split_once('-') {
+            Some(("steps", kind)) => step_by_step(kind, call, &mut self.numbers, out),
+            Some(("two", kind)) => pairs::answer(kind, call, &mut self.numbers, out),
+            Some(("print", what)) => printing::answer(what, call, &mut self.numbers, out),
+            Some(("sizes", kind)) => sizes::answer(kind, call, self, out),
+            _ => truth(out, is_strictly_ascending(call.first)),
+        }
+    }
+}
+
+fn main(rt: HostRuntime) -> io::Result<()> {
+    let alloc = rt.alloc();
+    let input = io::read_to_string(alloc, rt.reader())?;
+    let mut room = Room::new(alloc)?;
+    let page = page(alloc, input.as_str(), &mut room)?;
+    print!(rt; "{page}")
+}

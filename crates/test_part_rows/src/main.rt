@@ -1,0 +1,65 @@
+//! Rows of the calls of parts of extensions: `CALL TAB argument TAB argument` in, a line out. The first word of a call
+//! is the type that the first argument is parsed as, the second what is asked of it: `keywords-get`. `two-TYPE` parses both
+//! arguments and compares them, `change-TYPE` takes the steps of the second argument on the first, `made-TYPE` makes a
+//! value of parts and asks the second of it, and `text-CALL` is a call of a text.
+//!
+//! An answer is the printed text, or what each call says. A refusal is `! ` and its words. Calls that change a value,
+//! and those that may allocate, say what it was, the answer, and what it is, joined by ` | `; of several steps the
+//! one that is refused ends the row. A row with a third argument names the answer that is wanted: it says only how long
+//! the answer is, or the answer itself if it is another.
+//!
+//! All that the program needs for itself is asked for before the first row, so that every later request for memory
+//! is one of the libraries'. `stdin` and `stdout` are the rows with their answers, from the vectors of
+//! vectors/README.md and the tables of the Rust crate's tests; `grow.in` has rows that may allocate, `still.in`
+//! those that take none.
+#![tactic(auto)]
+
+mod built;
+mod maps;
+mod texts;
+mod values;
+
+use iloc_other::{Other, Private};
+use iloc_transform::{Fields, Transform, Value as FieldValue};
+use iloc_unicode::{Attributes, Keywords, Unicode};
+use iloc_unicode_value::Value;
+use std::io;
+use test_page::told::answer;
+use test_page::{Ask, Asking, Call, Judged, page, say};
+
+/// The program: what it asks of a type stands at the type's `impl` of `Answering`.
+#[derive(Drop)]
+pub struct Rows;
+
+impl Asking for Rows {
+    fn ask(&self, what: &str, ask: Ask<'_>, call: &Call<'_>, out: &mut String) {
+        match what {
+            "attributes" => answer::<Rows, Attributes>(ask, call, out),
+            "keywords" => answer::<Rows, Keywords>(ask, call, out),
+            "unicode" => answer::<Rows, Unicode>(ask, call, out),
+            "uvalue" => answer::<Rows, Value>(ask, call, out),
+            "fields" => answer::<Rows, Fields>(ask, call, out),
+            "transform" => answer::<Rows, Transform>(ask, call, out),
+            "tvalue" => answer::<Rows, FieldValue>(ask, call, out),
+            "other" => answer::<Rows, Other>(ask, call, out),
+            "private" => answer::<Rows, Private>(ask, call, out),
+            _ => say(out, "no call"),
+        }
+    }
+
+    fn make(&self, what: &str, call: &Call<'_>, out: &mut String) {
+        built::answer(what, call, out)
+    }
+
+    fn text(&self, what: &str, call: &Call<'_>, out: &mut String) {
+        texts::answer(what, call, out)
+    }
+}
+
+fn main(rt: HostRuntime) -> io::Result<()> {
+    let alloc = rt.alloc();
+    let input = io::read_to_string(alloc, rt.reader())?;
+    let mut rows = Judged::new(alloc, Rows)?;
+    let page = page(alloc, input.as_str(), &mut rows)?;
+    print!(rt; "{page}")
+}

@@ -1,0 +1,204 @@
+//! Times reading and comparing words, and reading and printing identifiers, locales and data locales by value:
+//! `test_words_bench CALL ROUNDS` makes so many calls and prints a checksum, and whoever runs it takes the time.
+//! `tools/benchmark --words` runs the same calls of the Rust crate beside them (tools/rust_words.rs).
+#![tactic(auto)]
+
+use iloc_data::DataLocale;
+use iloc_langid::LanguageIdentifier;
+use iloc_locale::Locale;
+use iloc_subtags::{Language, Subtag};
+use iloc_writeable::Writeable;
+use std::alloc::Global;
+use std::cmp::Ordering;
+use std::io;
+use std::rt::Env;
+
+const TEXTS: [&str; 4] = ["en", "DEU", "sr", "und"];
+
+const SUBTAGS: [&str; 4] = ["buddhist", "Latn", "1996", "posix"];
+
+const IDENTIFIERS: [&str; 4] = ["en", "EN-us", "sr-latn-RS", "ca-ES-valencia"];
+
+const LOCALES: [&str; 4] = [
+    "en-GB",
+    "ar-u-nu-latn",
+    "EN-us-u-ca-Buddhist-hc-h12",
+    "de-t-en-m0-din",
+];
+
+const DATA_LOCALES: [&str; 4] = ["en", "EN-us", "sr-latn-RS", "en-us-u-sd-ustx"];
+
+const NORMAL_IDENTIFIERS: [&str; 4] = ["en", "en-US", "sr-Latn-RS", "ca-ES-valencia"];
+
+const NORMAL_LOCALES: [&str; 4] = ["en-GB", "en-US", "ar-u-nu-latn", "zh-Hant-TW"];
+
+/// The lengths of what is read, summed.
+fn read_languages(rounds: u32) -> usize {
+    let mut sum = 0usize;
+    for i in 0..rounds {
+        let text = TEXTS[(i % 4) as usize];
+        if let Ok(word) = Language::try_from_utf8(text.as_bytes()) {
+            sum = sum.wrapping_add(word.as_str().len());
+        }
+    }
+    sum
+}
+
+fn read_subtags(rounds: u32) -> usize {
+    let mut sum = 0usize;
+    for i in 0..rounds {
+        let text = SUBTAGS[(i % 4) as usize];
+        if let Ok(word) = Subtag::try_from_utf8(text.as_bytes()) {
+            sum = sum.wrapping_add(word.as_str().len());
+        }
+    }
+    sum
+}
+
+/// The words of the texts.
+fn words() -> [Language; 4] {
+    let mut words = [Language::unknown(); 4];
+    for i in 0..4 {
+        if let Ok(word) = Language::try_from_str(TEXTS[i]) {
+            words[i] = word;
+        }
+    }
+    words
+}
+
+/// How many words are less than another.
+fn compare(rounds: u32) -> usize {
+    let words = words();
+    let mut less = 0usize;
+    for i in 0..rounds {
+        let next = i / 4;
+        let word = words[(i % 4) as usize];
+        let other = words[(next % 4) as usize];
+        if word < other {
+            less = less.wrapping_add(1);
+        }
+    }
+    less
+}
+
+fn compare_texts(rounds: u32) -> usize {
+    let words = words();
+    let mut less = 0usize;
+    for i in 0..rounds {
+        let other = i / 4;
+        let text = TEXTS[(other % 4) as usize];
+        if words[(i % 4) as usize].strict_cmp(text.as_bytes()) == Ordering::Less {
+            less = less.wrapping_add(1);
+        }
+    }
+    less
+}
+
+fn match_texts(rounds: u32) -> usize {
+    let words = words();
+    let mut same = 0usize;
+    for i in 0..rounds {
+        let other = i / 4;
+        if words[(i % 4) as usize].normalizing_eq(TEXTS[(other % 4) as usize]) {
+            same = same.wrapping_add(1);
+        }
+    }
+    same
+}
+
+/// The length of the printed text.
+fn printed_length<T: Writeable>(alloc: Global, value: &T) -> usize {
+    match value.write_to_string(alloc) {
+        Ok(text) => text.len(),
+        Err(_) => 0,
+    }
+}
+
+/// The lengths of the texts of what is read, summed.
+fn print_identifiers(alloc: Global, rounds: u32) -> usize {
+    let mut sum = 0usize;
+    for i in 0..rounds {
+        if let Ok(id) = LanguageIdentifier::try_from_str(alloc, IDENTIFIERS[(i % 4) as usize]) {
+            sum = sum.wrapping_add(printed_length(alloc, &id));
+        }
+    }
+    sum
+}
+
+fn print_locales(alloc: Global, rounds: u32) -> usize {
+    let mut sum = 0usize;
+    for i in 0..rounds {
+        if let Ok(locale) = Locale::try_from_str(alloc, LOCALES[(i % 4) as usize]) {
+            sum = sum.wrapping_add(printed_length(alloc, &locale));
+        }
+    }
+    sum
+}
+
+fn print_data_locales(alloc: Global, rounds: u32) -> usize {
+    let mut sum = 0usize;
+    for i in 0..rounds {
+        if let Ok(locale) = DataLocale::try_from_str(DATA_LOCALES[(i % 4) as usize]) {
+            sum = sum.wrapping_add(printed_length(alloc, &locale));
+        }
+    }
+    sum
+}
+
+/// The lengths of the normal texts of texts that are normal, summed. None is copied.
+fn normalize_identifiers(alloc: Global, rounds: u32) -> usize {
+    let mut sum = 0usize;
+    for i in 0..rounds {
+        let text = NORMAL_IDENTIFIERS[(i % 4) as usize];
+        if let Ok(normal) = LanguageIdentifier::normalize(alloc, text) {
+            sum = sum.wrapping_add(normal.len());
+        }
+    }
+    sum
+}
+
+fn normalize_locales(alloc: Global, rounds: u32) -> usize {
+    let mut sum = 0usize;
+    for i in 0..rounds {
+        if let Ok(normal) = Locale::normalize(alloc, NORMAL_LOCALES[(i % 4) as usize]) {
+            sum = sum.wrapping_add(normal.len());
+        }
+    }
+    sum
+}
+
+/// The checksum of so many calls.
+fn checksum(alloc: Global, call: &str, rounds: u32) -> Option<usize> {
+    match call {
+        "read_language" => Some(read_languages(rounds)),
+        "read_subtag" => Some(read_subtags(rounds)),
+        "cmp" => Some(compare(rounds)),
+        "strict_cmp" => Some(compare_texts(rounds)),
+        "normalizing_eq" => Some(match_texts(rounds)),
+        "print_langid" => Some(print_identifiers(alloc, rounds)),
+        "print_locale" => Some(print_locales(alloc, rounds)),
+        "print_data" => Some(print_data_locales(alloc, rounds)),
+        "normalize_langid" => Some(normalize_identifiers(alloc, rounds)),
+        "normalize_locale" => Some(normalize_locales(alloc, rounds)),
+        _ => None,
+    }
+}
+
+/// The argument at a place, if it is a text of at most 16 bytes.
+fn argument<'a>(rt: &impl Env, place: usize, buffer: &'a mut [u8; 16]) -> Option<&'a str> {
+    let length = rt.arg(place, buffer).ok()?;
+    str::from_utf8(&buffer[..length]).ok()
+}
+
+fn main(rt: HostRuntime) -> io::Result<()> {
+    let mut call = [0u8; 16];
+    let mut rounds = [0u8; 16];
+    let sum = argument(&rt, 1, &mut call).and_then(|call| {
+        let rounds = argument(&rt, 2, &mut rounds)?.parse::<u32>().ok()?;
+        checksum(rt.alloc(), call, rounds)
+    });
+    match sum {
+        Some(sum) => println!(rt; "{sum}"),
+        None => println!(rt; "test_words_bench CALL ROUNDS"),
+    }
+}
