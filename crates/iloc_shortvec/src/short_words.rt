@@ -216,7 +216,7 @@ impl<T: Copy> ShortWords<T> {
         self.kept = Kept::Empty(Nothing::new());
     }
 
-    /// Keeps the items at which `keep` says so. Each is asked once, in order.
+    /// Keeps the items for which `keep` returns `true`. Each is asked once, in order.
     pub fn retain<F: FnMut(&T) -> bool + Drop>(&mut self, mut keep: F)
         requires { F.IsAlwaysCallable keep }
         ensures { IsFiltered (CalledAt F.FnMut) keep self.old self.new }

@@ -1,5 +1,5 @@
 -- Inline texts: locales of at most four words in each list and one keyword, which are read without
--- memory, since so many are kept inline. Every small text is one. This project's rule.
+-- allocating, since so many are kept inline. Every small text is one. This project's rule.
 use Rattle.std.specs.Prelude.{◌≡◌, ◌≤◌, [], length, IfSome, ⊤}
 use Rattle.std.specs.List.{AllByRecursion}
 use Rattle.iloc_spec_grammar.specs.Shapes.{Text, Table}
