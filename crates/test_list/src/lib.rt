@@ -13,3 +13,5 @@ pub use failing::FailingSink;
 mod lists;
 #[cfg(test)]
 mod printing;
+#[cfg(test)]
+mod stores;
