@@ -25,7 +25,8 @@ PAGE = """<!doctype html>
 <title>{title}</title><link rel="stylesheet" href="page.css"></head><body>
 <header><a class="home" href="index.html">icu_locale_core</a>
 <div class="find"><input id="q" type="search" placeholder="Search calls, types, definitions ( / )"
- aria-label="Search" autocomplete="off"><ul id="found"></ul></div></header>
+ aria-label="Search" autocomplete="off" role="combobox" aria-controls="found" aria-expanded="false">
+<ul id="found" role="listbox" aria-label="What is found"></ul></div></header>
 <main>
 {body}
 </main>
@@ -224,6 +225,11 @@ def base_html(entry):
     return tag("p", f"It is a {leads(entry_at(home.path), code(entry.base))}, and has its calls and traits.")
 
 
+def field_html(text, said, module):
+    """Returns a field or a variant, with what is said of it."""
+    return tag("code", signature_html(text, module)) + (f" {marked(said)}" if said else "")
+
+
 def entry_html(entry):
     """Returns a type, a trait or a function with its calls."""
     if entry.kind == "fn" and not entry.see:
@@ -242,7 +248,7 @@ def entry_html(entry):
         tag("p", f"Its refusal is {code(entry.refusal)}.") if entry.refusal else "",
         base_html(entry),
         dim(f"In Rust: {code(entry.rust)}" if entry.rust else "The Rust crate has no such item."),
-        items([code(text) + (f" {marked(said)}" if said else "") for text, said in entry.fields]),
+        items([field_html(text, said, entry.module) for text, said in entry.fields]),
         tag("p", f"Types that have it: {', '.join(has)}.") if has else "",
         ghosts_html(entry),
         given_html(entry),

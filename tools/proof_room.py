@@ -1,6 +1,6 @@
 """Proves and builds a program by `rt ci` in a folder of its own, beside which all else goes on.
 
-The room has the program's crate and the crates below it, without their must-fail edits. What `rt ci`
+The room has the program's crate and the crates below it, without their mutants. What `rt ci`
 proves there it keeps beside the toolchain at once, crate by crate, so that a run which is cut off
 loses nothing, and a later `rt ci` in any checkout takes it from there."""
 import os
@@ -15,7 +15,7 @@ import time
 from common import ROOT, below, crates_of
 
 PREFIX = "icu-locale-proof-"
-LEFT_OUT = shutil.ignore_patterns("out", "edits", "must-fail", "*.in")
+LEFT_OUT = shutil.ignore_patterns("out", "edits", "*.in")
 PROVED = re.compile(r"rt: (\w+) proved$")
 KEPT = re.compile(r"rt: (\w+) is kept: ")
 FAILED = re.compile(r"rt: (\w+)(: its tests are)? NOT PROVED")
