@@ -32,9 +32,3 @@ pub use variants::{
 pub use whole::{
     cmp, cmp_bytes, copy, eq, eq_text, free, hash, is_und, is_well_formed, parse, to_string,
 };
-
-#[cfg(test)]
-mod tests {
-    #[test]
-    fn none() {}
-}
