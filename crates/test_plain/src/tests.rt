@@ -119,7 +119,7 @@ fn a_line_without_a_language_is_told(rt: HostRuntime) {
     assert!(rt; has_no_language(b"en_US.UTF-8\nde-CH\nfr-FR\nsv-SE\n", 11));
     assert!(rt; has_no_language(b"\nen-us\nde-CH\nfr-FR\n", 0));
     assert!(rt; has_no_language(b"abcd-US\nde-CH\nfr-FR-posix\n", 7));
-    assert!(rt; has_no_language(b"abcdefghijklmnopqrstuvw\nde-CH\nfr-FR\n", 23));
+    assert!(rt; has_no_language(b"abcdefghijklmnopqrstuvw\nde-CH\nfr-FR-posix\n", 23));
     assert!(rt; has_no_language(b"1en-US\nde-CH\nfr-FR-posix\n", 6));
     assert!(rt; !has_no_language(b"en-us\nde-CH\nfr-FR-posix\n", 5));
     assert!(rt; !has_no_language(b"abcdefgh\nC\nfr-FR-x-abc\n", 8));
@@ -133,7 +133,7 @@ fn a_piece_that_fits_nowhere_is_told(rt: HostRuntime) {
     assert!(rt; has_misfit(b"en-posix-US\nde-CH\nfr-FR-posix\n", 11));
     assert!(rt; has_misfit(b"en-US-posix-1996-!!-x-a\nde-CH\nfr-FR-posix\n", 23));
     assert!(rt; has_misfit(b"en-\nde-CH\nfr-FR-posix\n", 3));
-    assert!(rt; has_misfit(b"abcdefgh-abcdefghijklmnopqrs\nde-CH\nfr-FR\n", 28));
+    assert!(rt; has_misfit(b"abcdefgh-abcdefghijklmnopqrs\nde-CH\nfr-FR-posix\n", 28));
     assert!(rt; !has_misfit(b"en-US\nde-CH\nfr-FR-posix\n", 5));
     assert!(rt; !has_misfit(b"en-posix\nde-CH\nfr-FR-posix\n", 8));
 }
@@ -152,5 +152,13 @@ fn a_block_is_told(rt: HostRuntime) {
         )
     );
     assert!(rt; has_block(b"en-Latn-!\nde-CH\nfr-FR-posix\n", 9, b'!', 1, true));
-    assert!(rt; has_block(b"en-posix-1abc-u-ca\nde-CH\nfr-FR\n", 18, b'u', 4, false));
+    assert!(rt;
+        has_block(
+            b"en-posix-1abc-u-ca\nde-CH\nfr-FR-posix\n",
+            18,
+            b'u',
+            4,
+            false
+        )
+    );
 }
