@@ -1,8 +1,9 @@
 """Proves and builds a program by `rt ci` in a folder of its own, beside which all else goes on.
 
 The room has the program's crate and the crates below it, without their must-fail edits. What `rt ci`
-proves there it keeps beside the toolchain at once, crate by crate, so that a run which is cut off
-loses nothing, and a later `rt ci` in any checkout takes it from there."""
+proves there is kept at once, crate by crate, so that a run which is cut off loses only the proofs under
+way. Some toolchains' `rt ci` keeps it beside the toolchain, and takes it from there in any checkout. With
+the others tools/prove_keeping runs `rt ci`, and keeps it in out/proof."""
 import os
 import re
 import shutil
@@ -15,6 +16,7 @@ import time
 from common import ROOT, below, crates_of
 
 PREFIX = "icu-locale-proof-"
+KEPT_IN = f"{ROOT}/out/proof"
 LEFT_OUT = shutil.ignore_patterns("out", "edits", "must-fail", "*.in")
 PROVED = re.compile(r"rt: (\w+) proved$")
 KEPT = re.compile(r"rt: (\w+) is kept: ")
@@ -28,6 +30,13 @@ def sweep():
         of = re.match(rf"{PREFIX}(\d+)-", name)
         if of and not os.path.exists(f"/proc/{of[1]}"):
             shutil.rmtree(f"{at}/{name}", ignore_errors=True)
+
+
+def command():
+    """Returns the command that proves a room and keeps what it proves."""
+    with open(shutil.which("rt"), encoding="utf-8", errors="replace") as it:
+        keeps = " is kept: " in it.read()
+    return ["rt", "ci"] if keeps else [f"{ROOT}/tools/prove_keeping", KEPT_IN]
 
 
 def furnish(room, names, lines):
@@ -53,7 +62,7 @@ class Proof:
         try:
             furnish(self.room, self.names, lines)
             self.process = subprocess.Popen(
-                ["rt", "ci"], cwd=self.room, stdin=subprocess.DEVNULL, stdout=subprocess.PIPE,
+                command(), cwd=self.room, stdin=subprocess.DEVNULL, stdout=subprocess.PIPE,
                 stderr=subprocess.STDOUT, text=True, errors="replace", start_new_session=True,
                 preexec_fn=lambda: os.nice(5),
             )
@@ -73,9 +82,10 @@ class Proof:
                 self.say(line[len("rt: note: ") :].rstrip())
             if failed:
                 self.failed.append(failed[1])
-            if proved or kept:
-                self.done.add((proved or kept)[1])
-            if proved:
+            if kept:
+                self.done.add(kept[1])
+            if proved and proved[1] not in self.done:
+                self.done.add(proved[1])
                 minutes = (time.time() - self.began) / 60
                 far = f"{len(self.done)} of {len(self.names)} crates proved, {minutes:.0f} min"
                 self.say(f"{far} ({proved[1]})")
