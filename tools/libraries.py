@@ -1,10 +1,12 @@
 """Proves the libraries that some crates stand on, side by side, lowest and longest chain first."""
 import copy
 import os
+import re
 import tempfile
 import time
 
-from kit import lanes, rt, rtlib
+from kit import lanes, read, rt, rtlib
+from sources import sum_of
 
 # About what the proof of a library from nothing takes, in processor seconds: for reading what it
 # stands on, and for each line of its source.
@@ -26,6 +28,13 @@ def is_fresh(crate):
     if came > max(map(os.path.getmtime, texts_of(crate))):
         return True
     return crate.is_built()
+
+
+def fits(crate):
+    """Returns whether the library was proved over those that lie below it now. One of statements alone,
+    as rt ci makes them, names what it was proved over, and a check refuses it over any others."""
+    over = dict(re.findall(r"(?m)^over (\w+) (\w+)$", read(f"{crate.rlib}/format").decode()))
+    return all(over.get(it.name) in (None, sum_of(f"{it.rlib}/format")) for it in crate.below())
 
 
 def lacking(crates):
