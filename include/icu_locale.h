@@ -1,4 +1,5 @@
-/* Unicode locale identifiers, such as en-US-u-ca-buddhist: normalized, checked and compared.
+/* Unicode locale identifiers, such as en-US-u-ca-buddhist: normalized, checked and compared as texts, or held as
+ * icu_locale_t, with parts to read and to change.
  *
  * Every function of the library is proved to meet its contract, if its caller keeps what this page asks. The proofs
  * cover no caller. What a text means, and why another is refused, stands in docs/DEFINITIONS.md. The library is for
@@ -23,6 +24,7 @@
 #ifndef ICU_LOCALE_H
 #define ICU_LOCALE_H
 
+#include <stdbool.h>
 #include <stddef.h>
 #include <stdint.h>
 
@@ -36,9 +38,11 @@
 #if defined(__GNUC__)
 #define ICU_LOCALE_WRITES(n) __attribute__((nonnull(n))) extern
 #define ICU_LOCALE_TELLS __attribute__((warn_unused_result))
+#define ICU_LOCALE_TAKES(...) __attribute__((nonnull(__VA_ARGS__))) extern
 #else
 #define ICU_LOCALE_WRITES(n) extern
 #define ICU_LOCALE_TELLS
+#define ICU_LOCALE_TAKES(...) extern
 #endif
 
 #ifdef __cplusplus
@@ -46,7 +50,7 @@ extern "C" {
 #endif
 
 /* Changes with each change of this header. icu_locale_version gives that of the library that is linked or loaded. */
-#define ICU_LOCALE_VERSION 2
+#define ICU_LOCALE_VERSION 3
 
 /* How a text is parsed. Any other number is refused with ICU_LOCALE_UNKNOWN_NUMBER. */
 typedef uint32_t icu_locale_mode;
@@ -66,10 +70,13 @@ enum {
     ICU_LOCALE_DUPLICATED_EXTENSION = 4, /* an extension begins a second time */
     ICU_LOCALE_OUT_OF_MEMORY = 5,        /* an allocation failed */
     ICU_LOCALE_BUFFER_TOO_SMALL = 6,     /* the answer does not fit into the buffer */
-    ICU_LOCALE_UNKNOWN_NUMBER = 7        /* the number is no mode, or no status */
+    ICU_LOCALE_UNKNOWN_NUMBER = 7,       /* the number is no mode, or no status */
+    ICU_LOCALE_NOT_FOUND = 8             /* the locale has no such part */
 };
 
-/* Memory. Data locales never allocate. An identifier allocates only if it has more than four variants. A locale
+/* Texts. These calls take a text and keep nothing.
+ *
+ * Memory. Data locales never allocate. An identifier allocates only if it has more than four variants. A locale
  * allocates only if it has more than four variants (before or after t), four attributes, one keyword, four values of a
  * keyword, or four subtags after x; or if it has a field after t, or an extension other than t, u and x. Only a call
  * that allocates can end with OUT_OF_MEMORY. */
@@ -117,6 +124,197 @@ icu_locale_status icu_locale_compare(icu_locale_mode mode, const uint8_t *text, 
 ICU_LOCALE_WRITES(4)
 icu_locale_status icu_locale_words(icu_locale_status status, uint8_t *buffer, size_t room,
     size_t *needed) ICU_LOCALE_NOEXCEPT;
+
+/* Locales that a program holds.
+ *
+ *     icu_locale_t locale = ICU_LOCALE_UND;
+ *     icu_locale_status status = icu_locale_parse(&locale, text, length);
+ *     if (status == ICU_LOCALE_DONE)
+ *         status = icu_locale_set_region(&locale, (const uint8_t *)"GB", 2);
+ *     icu_locale_free(&locale);
+ *
+ * A handle starts as {0} and then stands for und, the unknown locale. Every call takes it so. Whenever a handle stands
+ * for und after a call that may change it, it is {0} again and owns no memory. Any other handle owns memory until
+ * icu_locale_free. These rules come on top of those above:
+ *
+ *  - Only the calls of this header write a handle. It is not copied by = or memcpy: use icu_locale_copy. It may be
+ *    moved to another place if the old one is no longer used.
+ *  - A call has its handles for itself, also a call that only reads: no other call uses them at the same time, in any
+ *    thread. Two handles of one call are not the same handle. A handle may go to another thread if that is ordered by
+ *    a lock or the like.
+ *  - A handle is aligned as C aligns icu_locale_t, and overlaps no other argument.
+ *
+ * A call that changes a handle ends in one of three ways. DONE: the locale has changed as the call says. A refusal:
+ * the locale is as before, and the status names what is wrong with the text. OUT_OF_MEMORY: the locale is as before.
+ * Each such call can allocate on a handle that stands for und, if the handle stands for another locale afterwards.
+ * What else it allocates is said at the call. */
+typedef struct icu_locale {
+    void *at;
+} icu_locale_t;
+
+/* What a handle starts as: icu_locale_t locale = ICU_LOCALE_UND; */
+#define ICU_LOCALE_UND {NULL}
+
+/* The locale becomes what the text means. Statuses and memory are those of icu_locale_check for a locale. */
+ICU_LOCALE_TAKES(1) ICU_LOCALE_TELLS
+icu_locale_status icu_locale_parse(icu_locale_t *locale, const uint8_t *text, size_t length) ICU_LOCALE_NOEXCEPT;
+
+/* The locale becomes that of the other handle. DONE or OUT_OF_MEMORY. */
+ICU_LOCALE_TAKES(1, 2) ICU_LOCALE_TELLS
+icu_locale_status icu_locale_copy(icu_locale_t *locale, icu_locale_t *from) ICU_LOCALE_NOEXCEPT;
+
+/* Frees what the handle owns. It is {0} then, and stands for und. */
+ICU_LOCALE_TAKES(1)
+void icu_locale_free(icu_locale_t *locale) ICU_LOCALE_NOEXCEPT;
+
+/* Whether the locale is und, with no other part. */
+ICU_LOCALE_TAKES(1) ICU_LOCALE_TELLS
+bool icu_locale_is_und(icu_locale_t *locale) ICU_LOCALE_NOEXCEPT;
+
+/* Whether the text of the locale has this locale as its meaning. It has for each locale that was parsed. It has not,
+ * for example, once a keyword was set to a value with a subtag of two characters, which would be parsed as a key. */
+ICU_LOCALE_TAKES(1) ICU_LOCALE_TELLS
+bool icu_locale_is_well_formed(icu_locale_t *locale) ICU_LOCALE_NOEXCEPT;
+
+/* The order of two locales by their parts: -1, 0 or 1. It is total: 0 exactly if both are equal. */
+ICU_LOCALE_TAKES(1, 2) ICU_LOCALE_TELLS
+int8_t icu_locale_cmp(icu_locale_t *locale, icu_locale_t *other) ICU_LOCALE_NOEXCEPT;
+
+/* Whether two locales are equal. */
+ICU_LOCALE_TAKES(1, 2) ICU_LOCALE_TELLS
+bool icu_locale_eq(icu_locale_t *locale, icu_locale_t *other) ICU_LOCALE_NOEXCEPT;
+
+/* The byte order of the normal form of the locale against other bytes, as they stand: -1, 0 or 1. */
+ICU_LOCALE_TAKES(1) ICU_LOCALE_TELLS
+int8_t icu_locale_cmp_bytes(icu_locale_t *locale, const uint8_t *other, size_t length) ICU_LOCALE_NOEXCEPT;
+
+/* Writes 1 to *same if the text means this locale, and else 0. Ends with DONE, or with OUT_OF_MEMORY if parsing the
+ * text does: *same is then as before. */
+ICU_LOCALE_TAKES(1, 4) ICU_LOCALE_TELLS
+icu_locale_status icu_locale_eq_text(icu_locale_t *locale, const uint8_t *text, size_t length, uint8_t *same)
+    ICU_LOCALE_NOEXCEPT;
+
+/* A number of 64 bits that depends on the normal form alone, so that equal locales have equal numbers: FNV-1a of its
+ * bytes. It withstands no one who chooses locales in order to have them collide. */
+ICU_LOCALE_TAKES(1) ICU_LOCALE_TELLS
+uint64_t icu_locale_hash(icu_locale_t *locale) ICU_LOCALE_NOEXCEPT;
+
+/* Reading parts. Each call writes a text to the front of the buffer, and its length to *needed. None allocates, and
+ * the locale is as before.
+ *
+ *     DONE               the buffer begins with the text; the bytes behind it are as before
+ *     BUFFER_TOO_SMALL   the buffer is as before, and *needed is the room that the text needs
+ *     NOT_FOUND          the locale has no such part; the buffer is as before, and *needed is 0
+ *
+ * Only a call that says so ends with NOT_FOUND. A script or region that is absent is an empty text. Subtags are at most
+ * 8 bytes long. */
+
+/* The normal form: en-Latn-US-u-ca-buddhist. */
+ICU_LOCALE_TAKES(1, 4) ICU_LOCALE_TELLS
+icu_locale_status icu_locale_to_string(icu_locale_t *locale, uint8_t *buffer, size_t room, size_t *needed)
+    ICU_LOCALE_NOEXCEPT;
+
+/* The identifier alone, without extensions: en-Latn-US. */
+ICU_LOCALE_TAKES(1, 4) ICU_LOCALE_TELLS
+icu_locale_status icu_locale_get_base_name(icu_locale_t *locale, uint8_t *buffer, size_t room, size_t *needed)
+    ICU_LOCALE_NOEXCEPT;
+
+/* Language, script and region: en, Latn, US. The language is und if it is unknown. */
+ICU_LOCALE_TAKES(1, 4) ICU_LOCALE_TELLS
+icu_locale_status icu_locale_get_language(icu_locale_t *locale, uint8_t *buffer, size_t room, size_t *needed)
+    ICU_LOCALE_NOEXCEPT;
+ICU_LOCALE_TAKES(1, 4) ICU_LOCALE_TELLS
+icu_locale_status icu_locale_get_script(icu_locale_t *locale, uint8_t *buffer, size_t room, size_t *needed)
+    ICU_LOCALE_NOEXCEPT;
+ICU_LOCALE_TAKES(1, 4) ICU_LOCALE_TELLS
+icu_locale_status icu_locale_get_region(icu_locale_t *locale, uint8_t *buffer, size_t room, size_t *needed)
+    ICU_LOCALE_NOEXCEPT;
+
+/* Sets the language, script or region to the subtag that is the text, in any case. An empty text clears it: a cleared
+ * language is und. A text that is no such subtag is refused with INVALID_LANGUAGE or INVALID_SUBTAG. No allocation. */
+ICU_LOCALE_TAKES(1) ICU_LOCALE_TELLS
+icu_locale_status icu_locale_set_language(icu_locale_t *locale, const uint8_t *text, size_t length)
+    ICU_LOCALE_NOEXCEPT;
+ICU_LOCALE_TAKES(1) ICU_LOCALE_TELLS
+icu_locale_status icu_locale_set_script(icu_locale_t *locale, const uint8_t *text, size_t length) ICU_LOCALE_NOEXCEPT;
+ICU_LOCALE_TAKES(1) ICU_LOCALE_TELLS
+icu_locale_status icu_locale_set_region(icu_locale_t *locale, const uint8_t *text, size_t length) ICU_LOCALE_NOEXCEPT;
+
+/* Variants, ascending: how many there are, the one at an index, and whether one is among them, in any case. Indices
+ * begin with 0. At an index that is too large, the variant is NOT_FOUND. */
+ICU_LOCALE_TAKES(1) ICU_LOCALE_TELLS
+size_t icu_locale_variant_count(icu_locale_t *locale) ICU_LOCALE_NOEXCEPT;
+ICU_LOCALE_TAKES(1, 5) ICU_LOCALE_TELLS
+icu_locale_status icu_locale_get_variant(icu_locale_t *locale, size_t index, uint8_t *buffer, size_t room,
+    size_t *needed) ICU_LOCALE_NOEXCEPT;
+ICU_LOCALE_TAKES(1) ICU_LOCALE_TELLS
+bool icu_locale_has_variant(icu_locale_t *locale, const uint8_t *text, size_t length) ICU_LOCALE_NOEXCEPT;
+
+/* Adds a variant, in any case; one that is there stays. A text that is no variant is refused with INVALID_SUBTAG.
+ * Allocates only if there are four variants or more. */
+ICU_LOCALE_TAKES(1) ICU_LOCALE_TELLS
+icu_locale_status icu_locale_add_variant(icu_locale_t *locale, const uint8_t *text, size_t length)
+    ICU_LOCALE_NOEXCEPT;
+
+/* Removes a variant, in any case; NOT_FOUND if it is not there. */
+ICU_LOCALE_TAKES(1) ICU_LOCALE_TELLS
+icu_locale_status icu_locale_remove_variant(icu_locale_t *locale, const uint8_t *text, size_t length)
+    ICU_LOCALE_NOEXCEPT;
+
+/* Removes all variants. */
+ICU_LOCALE_TAKES(1) ICU_LOCALE_TELLS
+icu_locale_status icu_locale_clear_variants(icu_locale_t *locale) ICU_LOCALE_NOEXCEPT;
+
+/* Keywords of the extension u, by ascending key: how many there are, and key and value at an index, or NOT_FOUND. The
+ * value of a keyword that is only there, such as kn in en-u-kn, is an empty text. */
+ICU_LOCALE_TAKES(1) ICU_LOCALE_TELLS
+size_t icu_locale_keyword_count(icu_locale_t *locale) ICU_LOCALE_NOEXCEPT;
+ICU_LOCALE_TAKES(1, 5) ICU_LOCALE_TELLS
+icu_locale_status icu_locale_get_keyword_key(icu_locale_t *locale, size_t index, uint8_t *buffer, size_t room,
+    size_t *needed) ICU_LOCALE_NOEXCEPT;
+ICU_LOCALE_TAKES(1, 5) ICU_LOCALE_TELLS
+icu_locale_status icu_locale_get_keyword_value(icu_locale_t *locale, size_t index, uint8_t *buffer, size_t room,
+    size_t *needed) ICU_LOCALE_NOEXCEPT;
+
+/* The value of the keyword with this key, in any case: buddhist of ca in en-u-ca-buddhist. NOT_FOUND if there is none,
+ * also if the bytes are no key. */
+ICU_LOCALE_TAKES(1, 6) ICU_LOCALE_TELLS
+icu_locale_status icu_locale_get_keyword(icu_locale_t *locale, const uint8_t *key, size_t key_length,
+    uint8_t *buffer, size_t room, size_t *needed) ICU_LOCALE_NOEXCEPT;
+
+/* Sets the value of a keyword, both in any case; true is the empty value. Bytes that are no key are refused with
+ * INVALID_EXTENSION, and a value that has another subtag than 2 to 8 letters or digits with INVALID_SUBTAG. The key is
+ * judged first. Allocates only if there is another keyword, or if the value has more than four subtags. */
+ICU_LOCALE_TAKES(1) ICU_LOCALE_TELLS
+icu_locale_status icu_locale_set_keyword(icu_locale_t *locale, const uint8_t *key, size_t key_length,
+    const uint8_t *value, size_t value_length) ICU_LOCALE_NOEXCEPT;
+
+/* Removes the keyword with this key; NOT_FOUND if it is not there. */
+ICU_LOCALE_TAKES(1) ICU_LOCALE_TELLS
+icu_locale_status icu_locale_remove_keyword(icu_locale_t *locale, const uint8_t *text, size_t length)
+    ICU_LOCALE_NOEXCEPT;
+
+/* Removes all keywords. */
+ICU_LOCALE_TAKES(1) ICU_LOCALE_TELLS
+icu_locale_status icu_locale_clear_keywords(icu_locale_t *locale) ICU_LOCALE_NOEXCEPT;
+
+/* Attributes of the extension u, such as foo in en-u-foo, as variants. Each is 3 to 8 letters or digits. Adding and
+ * removing one can allocate. */
+ICU_LOCALE_TAKES(1) ICU_LOCALE_TELLS
+size_t icu_locale_attribute_count(icu_locale_t *locale) ICU_LOCALE_NOEXCEPT;
+ICU_LOCALE_TAKES(1, 5) ICU_LOCALE_TELLS
+icu_locale_status icu_locale_get_attribute(icu_locale_t *locale, size_t index, uint8_t *buffer, size_t room,
+    size_t *needed) ICU_LOCALE_NOEXCEPT;
+ICU_LOCALE_TAKES(1) ICU_LOCALE_TELLS
+bool icu_locale_has_attribute(icu_locale_t *locale, const uint8_t *text, size_t length) ICU_LOCALE_NOEXCEPT;
+ICU_LOCALE_TAKES(1) ICU_LOCALE_TELLS
+icu_locale_status icu_locale_add_attribute(icu_locale_t *locale, const uint8_t *text, size_t length)
+    ICU_LOCALE_NOEXCEPT;
+ICU_LOCALE_TAKES(1) ICU_LOCALE_TELLS
+icu_locale_status icu_locale_remove_attribute(icu_locale_t *locale, const uint8_t *text, size_t length)
+    ICU_LOCALE_NOEXCEPT;
+ICU_LOCALE_TAKES(1) ICU_LOCALE_TELLS
+icu_locale_status icu_locale_clear_attributes(icu_locale_t *locale) ICU_LOCALE_NOEXCEPT;
 
 /* ICU_LOCALE_VERSION of the header that the library was made for. */
 extern uint32_t icu_locale_version(void) ICU_LOCALE_NOEXCEPT;

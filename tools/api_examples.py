@@ -26,20 +26,23 @@ LET = re.compile(r"let (?:mut )?(\w+)(?:: [^=]+)? = (?:match )?(\w+)(?:::<[^>()]
 MATCHED = re.compile(
     r"(?:match|let) (\w+)(?:::<[^>()]*>)?::(try_\w+|new)\([^{]*\{[^{}]*?\bOk\((?:mut )?(\w+)\)"
 )
+ANNOTATED = re.compile(r"let (?:mut )?(\w+): (\w+)")
 BOUND = re.compile(r"\b([A-Z]\w*): (?:\w+::)*([A-Z]\w+)")
 MACRO = re.compile(r"^macro_rules! (\w+) \{\n    \(([^)]*)\) => \{+\n(.*?)^    \}+;\n\}", re.S | re.M)
 BORROWED = re.compile(r"let (?:mut )?(\w+) = &(?:mut )?(\w+)((?:\.\w+)*);")
 
 
 def files():
-    """Returns the files that the gate runs: programs of users, programs of rows, tests."""
+    """Returns the files that the gate runs: programs of users, programs of rows, tests; then the library's own."""
     inner, found = set(libraries()), []
     for name in sorted(os.listdir(f"{TOP}/crates")):
         if name not in inner or name == ROOT:
             found += glob.glob(f"{TOP}/crates/{name}/src/*.rt")
     paths = [os.path.relpath(it, TOP) for it in found]
     paths = [it for it in paths if not it.startswith(f"crates/{ROOT}/") or it.endswith("tests.rt")]
-    return sorted(paths, key=lambda it: (f"use {ROOT}::" not in read(it), not it.startswith(FIRST), it))
+    first = sorted(paths, key=lambda it: (f"use {ROOT}::" not in read(it), not it.startswith(FIRST), it))
+    within = [glob.glob(f"{TOP}/crates/{name}/src/*.rt") for name in libraries() if name != ROOT]
+    return first + sorted(os.path.relpath(it, TOP) for found in within for it in found)
 
 
 @functools.cache
@@ -125,10 +128,9 @@ def call_at(home, name):
     return calls_of(base)[name].key if entry.base and base in by_home() and name in calls_of(base) else None
 
 
-def types_in(bounds, header, body, known, own):
+def types_in(header, body, known, own):
     """Returns the types of the names in a function. What is inside an `Option` or a `Result` parameter is
     what a `match` on it takes out."""
-    known = known | {name: known[kind] for name, kind in BOUND.findall(bounds) if kind in known}
     found = {re.sub(r"(?<=.)([A-Z])", r"_\1", name).lower(): home for name, home in known.items()}
     if own:
         found["self"] = own
@@ -141,6 +143,9 @@ def types_in(bounds, header, body, known, own):
         elif inner and bare(inner.group(1)) in known:
             for taken in re.findall(rf"match {name} \{{\s*(?:Some|Ok)\((?:mut )?(\w+)\)", body):
                 found[taken] = known[bare(inner.group(1))]
+    for name, kind in ANNOTATED.findall(body):
+        if kind in known:
+            found[name] = known[kind]
     for name, kind, call in LET.findall(body):
         if kind in known and re.match(r"try_from|from|new|unknown|default", call):
             found[name] = known[kind]
@@ -154,20 +159,20 @@ def types_in(bounds, header, body, known, own):
 
 
 def made_on(line, known, types):
-    """Yields the keys of the calls in a line."""
+    """Yields the key of each call in a line, by the type that it is made on; and by its name, if only one call has it."""
     for kind, name in STATIC.findall(line):
-        yield call_at(known.get(kind), name) or only_ones().get(name)
+        yield call_at(known.get(kind), name), name
     for kind, name in re.findall(r"\b([A-Z]\w+)::[A-Z]\w+\.(\w+)\(", line):
-        yield call_at(known.get(kind), name)
+        yield call_at(known.get(kind), name), ""
     for start, fields, name in METHOD.findall(line):
-        yield call_at(along(types.get(start), fields), name) or only_ones().get(name)
+        yield call_at(along(types.get(start), fields), name), name
     for name in re.findall(r"\)\??\.(\w+)\(", line):
-        yield only_ones().get(name)
+        yield None, name
     for name in BARE.findall(line):
         if name in known and by_home()[known[name]].kind == "fn":
-            yield (*known[name], name)
+            yield (*known[name], name), ""
     for name in re.findall(r"\b(?:key|known_keys)::(\w+)\(", line):
-        yield only_ones().get(name)
+        yield None, name
 
 
 def lines_of(path):
@@ -182,12 +187,17 @@ def lines_of(path):
         own = None
         if found.group(1):
             own = next((kind for at, kind in reversed(owners) if at < found.start()), None)
-        types = types_in(found.group(3), found.group(4), body, known, own)
-        first = text.count("\n", 0, found.end()) + 1
-        for number, line in enumerate(body.split("\n"), first):
-            yield number, line.strip(), known, types
+        bound = {name: known[kind] for name, kind in BOUND.findall(found.group(3)) if kind in known}
+        named = known | bound
+        first, lines = text.count("\n", 0, found.end()) + 1, body.split("\n")
+        for number, line in enumerate(lines, first):
+            if "(" not in line:
+                continue
+            above = "\n".join(lines[: number - first + 1])
+            types = types_in(found.group(4), above, named, own)
+            yield number, line.strip(), named, types
             for number, line in written_by(line, macros):
-                yield number, line, known, types
+                yield number, line, named, types
 
 
 def macros_of(text):
@@ -212,15 +222,19 @@ def written_by(line, macros):
 
 @functools.cache
 def examples():
-    """Returns for each call's key the path, the number and the text of a line that makes it."""
-    found = {}
+    """Returns for each call's key the path, the number and the text of a line that makes it. What is told by the
+    name alone counts only if no line is told by the type."""
+    found, guessed = {}, {}
     for path in files():
         for number, line, known, types in lines_of(path):
             if line.startswith("//") or "fn " in line:
                 continue
-            for key in filter(None, made_on(line, known, types)):
-                found.setdefault(key, (path, number, line))
-    return found
+            for key, name in made_on(line, known, types):
+                if key:
+                    found.setdefault(key, (path, number, line))
+                elif name in only_ones():
+                    guessed.setdefault(only_ones()[name], (path, number, line))
+    return guessed | found
 
 
 @functools.cache

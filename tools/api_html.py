@@ -11,9 +11,9 @@ import api_definitions
 import api_markup
 from api_definitions import files, slug, told, within
 from api_examples import examples, remark, tried
-from api_markdown import json_types, trait_homes
+from api_markdown import LAWS, json_types, trait_homes
 from api_markup import code, dim, esc, items, leads, marked, tag
-from api_model import is_law, model
+from api_model import model
 from api_source import ROOT, TOP, USED, place, read
 
 BESIDE = os.path.dirname(os.path.realpath(__file__))
@@ -25,16 +25,17 @@ PAGE = """<!doctype html>
 <title>{title}</title><link rel="stylesheet" href="page.css"></head><body>
 <header><a class="home" href="index.html">icu_locale_core</a>
 <div class="find"><input id="q" type="search" placeholder="Search calls, types, definitions ( / )"
- aria-label="Search" autocomplete="off"><ul id="found"></ul></div></header>
+ aria-label="Search" autocomplete="off" role="combobox" aria-controls="found" aria-expanded="false">
+<ul id="found" role="listbox" aria-label="What is found"></ul></div></header>
 <main>
 {body}
 </main>
 <script src="search.js"></script></body></html>
 """
 FOREWORD = """<h1>icu_locale_core in Rattle</h1>
-<p>Unicode locale identifiers, read, changed, compared and printed. Each call is shown with its contract,
-which is proved, and each name in a contract leads to its definition.</p>
-<p>Press <code>/</code> to search. Arrow keys choose, Enter opens.</p>"""
+<p>Parse, change, compare and print Unicode locale identifiers. Each call is shown with its contract,
+which is proved. Each name in a contract leads to its definition.</p>
+<p>Press <code>/</code> to search. The arrow keys choose, Enter opens, Escape closes.</p>"""
 
 
 def module_file(path):
@@ -152,7 +153,7 @@ def facts_html(call, module):
     rows = [("Needs", marked(it)) for it in call.needs]
     rows += [
         ("Refuses", items(refusals)),
-        ("Use" if is_law(call.item) else "Memory", marked(call.memory)),
+        ("Memory", marked(call.memory)),
         ("Tried", tried_html(f"{module}::{call.title}")),
         ("Example", example_html(call)),
         ("In Rust", code(call.rust) if call.rust else ""),
@@ -170,11 +171,23 @@ def heading(level, anchor, inner):
     return tag(level, inner + self_link, id=anchor)
 
 
+def public_type(name, module):
+    """Returns the address of the public type of this name: of the module, or of all if only one has it."""
+    named = [it for it in shown_entries() if it.name == name and it.kind != "fn"]
+    near = [it for it in named if it.module == module] or [it for it in named if len(named) == 1]
+    return entry_at(near[0].path) if near else ""
+
+
+def signature_html(signature, module):
+    """Returns a signature with the public types that it names linked."""
+    return re.sub(r"\b[A-Z]\w+", lambda it: leads(public_type(it.group(0), module), it.group(0)), esc(signature))
+
+
 def call_html(call, module, level="h3"):
     anchor = call.name if level == "h2" else call.title.replace("::", ".")
     rows = [
         heading(level, anchor, code(call.title)),
-        tag("pre", esc(call.signature)),
+        tag("pre", signature_html(call.signature, module)),
         paragraphs(call.sentence, call.details),
         facts_html(call, module),
         contract_html(call.item),
@@ -212,12 +225,18 @@ def base_html(entry):
     return tag("p", f"It is a {leads(entry_at(home.path), code(entry.base))}, and has its calls and traits.")
 
 
+def field_html(text, said, module):
+    """Returns a field or a variant, with what is said of it."""
+    return tag("code", signature_html(text, module)) + (f" {marked(said)}" if said else "")
+
+
 def entry_html(entry):
     """Returns a type, a trait or a function with its calls."""
     if entry.kind == "fn" and not entry.see:
         return call_html(entry.calls[0], entry.module, "h2")
     title = f"{tag('span', entry.kind, kind='kind')} {code(entry.name)}"
-    head = heading("h2", entry.name, title) + tag("pre", esc(entry.signature.removeprefix("pub ")))
+    head = heading("h2", entry.name, title)
+    head += tag("pre", signature_html(entry.signature.removeprefix("pub "), entry.module))
     if entry.see:
         return head + tag("p", f"Described at {leads(entry_at(entry.see), code(entry.see))}.")
     has = [leads(entry_at(it), code(short(it))) for it in json_types()] if entry.name == "JsonText" else []
@@ -229,7 +248,7 @@ def entry_html(entry):
         tag("p", f"Its refusal is {code(entry.refusal)}.") if entry.refusal else "",
         base_html(entry),
         dim(f"In Rust: {code(entry.rust)}" if entry.rust else "The Rust crate has no such item."),
-        items([code(text) + (f" {marked(said)}" if said else "") for text, said in entry.fields]),
+        items([field_html(text, said, entry.module) for text, said in entry.fields]),
         tag("p", f"Types that have it: {', '.join(has)}.") if has else "",
         ghosts_html(entry),
         given_html(entry),
@@ -238,9 +257,13 @@ def entry_html(entry):
 
 
 def module_html(module):
-    names = ", ".join(leads(f"#{it.name}", code(it.name)) for it in module.entries)
-    head = tag("h1", code(module.path)) + tag("p", marked(module.comment)) + tag("p", names)
-    return head + "\n".join(entry_html(it) for it in module.entries)
+    laws = [it for it in module.entries if it.is_law]
+    items = [it for it in module.entries if not it.is_law]
+    names = ", ".join(leads(f"#{it.name}", code(it.name)) for it in items)
+    names += f"; {leads('#laws', 'laws')}" if laws else ""
+    head = tag("h1", code(module.path)) + tag("p", marked(module.comment)) + tag("p", names, kind="names")
+    told = [tag("h1", "Laws", id="laws") + tag("p", LAWS)] if laws else []
+    return head + "\n".join([entry_html(it) for it in items] + told + [entry_html(it) for it in laws])
 
 
 def block_html(block, definitions):
@@ -266,9 +289,11 @@ def definitions_html(definitions):
 def index_html():
     rows = [tag("th", "Module") + tag("th", "Items")]
     for module in model():
-        names = ", ".join(code(it.name) for it in module.entries[:8]) + (" .." if module.entries[8:] else "")
+        items = [it for it in module.entries if not it.is_law]
+        names = ", ".join(leads(entry_at(it.see or it.path), code(it.name)) for it in items)
         said = f"{marked(module.comment)} {names}"
-        rows.append(tag("td", leads(module_file(module.path), code(module.short))) + tag("td", said))
+        name = tag("code", esc(module.short).replace("::", "<wbr>::"))
+        rows.append(tag("td", leads(module_file(module.path), name)) + tag("td", said))
     specs = [leads(it.page(), f"{it.crate}: {it.module}") for it in files().values()]
     words = tag("p", leads("definitions.html", "In words") + ", and as the checker reads them:")
     below = tag("h2", "Definitions", id="definitions") + words + folded(f"{len(specs)} files", specs)

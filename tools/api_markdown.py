@@ -24,6 +24,9 @@ Every public item that `{ROOT}` passes on, one page for each module. Each call h
 """
 
 
+LAWS = "A law is a function that does nothing. Call it where a proof needs the fact that it states."
+
+
 def page_of(module):
     """Returns the file of a module's page."""
     return f"{HOME}/{module.replace(f'{ROOT}::', '').replace('::', '.')}.md"
@@ -69,7 +72,7 @@ def call_rows(call, module):
     rows = [f"#### `{call.title}`", "", f"    {call.signature}", "", call.sentence or "."]
     rows += ["", *[it for part in call.details for it in (part, "")]] if call.details else [""]
     facts = [f"- Needs: {it}" for it in call.needs] + refusal_rows(call)
-    facts.append(f"- {'Use' if is_law(call.item) else 'Memory'}: {call.memory}")
+    facts += [f"- Memory: {call.memory}"] if call.memory else []
     facts += tried_row(f"{module}::{call.title}") + ([example_row(call)] if example_row(call) else [])
     facts += [f"- States: `{it.fact}`" for it in call.item.clauses if is_law(call.item)]
     labels = ", ".join(f"`{it.label}`" for it in call.item.clauses if it.label and it.kind != "requires")
@@ -138,6 +141,7 @@ def module_page(module):
     """Returns the page of a module."""
     rows = [f"# `{module.path}`", "", module.comment, "", "[All modules](../API.md)", ""]
     for entry in module.entries:
+        rows += ["## Laws", "", LAWS, ""] if entry.is_law and "## Laws" not in rows else []
         rows += entry_rows(entry, trait_homes())
     return re.sub(r"\n{3,}", "\n\n", "\n".join(rows)).rstrip() + "\n"
 
@@ -146,7 +150,8 @@ def index():
     """Returns the page that leads to the others."""
     rows = [INDEX.rstrip(), "", "| Module | Items |", "|---|---|"]
     for module in model():
-        names = ", ".join(f"`{it.name}`" for it in module.entries)
+        names = ", ".join(f"`{it.name}`" for it in module.entries if not it.is_law)
+        names += "; laws" if any(it.is_law for it in module.entries) else ""
         file = page_of(module.path).removeprefix("docs/")
         rows.append(f"| [`{module.path}`]({file}): {module.comment} | {names} |")
     return "\n".join(rows) + "\n"

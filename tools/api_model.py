@@ -80,6 +80,10 @@ class Entry:
     def path(self):
         return f"{self.module}::{self.name}"
 
+    @property
+    def is_law(self):
+        return self.kind == "fn" and is_law(self.item)
+
 
 @dataclasses.dataclass
 class Module:
@@ -194,13 +198,13 @@ def error_of(item):
 
 def is_law(item):
     """Returns whether the function is a law: it takes and returns nothing, and ensures a fact."""
-    return bool(re.match(r"pub fn \w+\(\)$", item.signature)) and bool(item.clauses)
+    return bool(re.match(r"pub fn \w+(?:<.*>)?\(\)$", item.signature)) and bool(item.clauses)
 
 
 def memory(item, wants):
     """Returns what the call says of memory, of its signature and its clauses."""
     if is_law(item):
-        return "A law: the call does nothing. Make it where a proof wants its fact."
+        return ""
     error, may_fail = error_of(item), "-> " in item.signature and "Result<" in item.signature
     name = "AllocError" if error == "AllocError" else "OutOfMemory"
     takes = re.search(r"\b_?alloc: Global", item.signature)
@@ -370,7 +374,7 @@ def entry_of(module, home, made, shown, seen):
     seen[home, made] = entry.path
     if kind == "fn":
         entry.calls = [under_its_name(call_of(item, "", home, rust, made), shown)]
-        entry.calls[0].rust = rust
+        entry.calls[0].rust = entry.rust = "" if entry.is_law else rust
     elif kind == "trait":
         inner = [at for at in item.inner() if "fn " in at.signature]
         entry.calls = [call_of(at, shown, home, rust, made) for at in inner]
@@ -422,7 +426,7 @@ def model():
             if base and (entries[-1].crate, base) not in seen:
                 entries.append(base_entry(entries[-1]))
                 seen[entries[-1].crate, base] = entries[-1].path
-        found.append(Module(path, " ".join(comment), entries))
+        found.append(Module(path, " ".join(comment), sorted(entries, key=lambda it: it.is_law)))
     path, comment, uses = listed[0]
     found.insert(0, Module(path, " ".join(comment), [entry_of(path, *it, seen) for it in uses]))
     return found

@@ -11,12 +11,15 @@
       if (all.indexOf(word) < 0) { return -1; }
       sum += last === word ? 0 : last.indexOf(word) === 0 ? 1 : title.indexOf(word) >= 0 ? 2 : 6;
     }
-    return sum * 100 + title.length;
+    return sum * 100 + (/\(definition\)$/.test(title) ? 150 : 0) + title.length;
   }
 
   function line(item) {
     var row = document.createElement("li"), link = document.createElement("a"), said = document.createElement("small");
     link.href = item[1];
+    link.id = "found" + list.childNodes.length;
+    row.setAttribute("role", "presentation");
+    link.setAttribute("role", "option");
     link.textContent = item[0];
     said.textContent = item[2];
     link.appendChild(said);
@@ -28,6 +31,8 @@
     var words = box.value.toLowerCase().split(/\s+/).filter(Boolean), fit = [];
     list.textContent = "";
     on = -1;
+    box.removeAttribute("aria-activedescendant");
+    box.setAttribute("aria-expanded", String(words.length > 0));
     if (!words.length) { return; }
     ITEMS.forEach(function (item) {
       var at = rank(item, words);
@@ -41,9 +46,11 @@
   function choose(step) {
     var links = list.querySelectorAll("a");
     if (!links.length) { return; }
-    if (on >= 0) { links[on].className = ""; }
-    on = (on + step + links.length) % links.length;
+    if (on >= 0) { links[on].className = ""; links[on].removeAttribute("aria-selected"); }
+    on = on < 0 && step < 0 ? links.length - 1 : (on + step + links.length) % links.length;
     links[on].className = "on";
+    links[on].setAttribute("aria-selected", "true");
+    box.setAttribute("aria-activedescendant", links[on].id);
     links[on].scrollIntoView({ block: "nearest" });
   }
 

@@ -11,6 +11,7 @@ own must_fail, as in the gate.
 
 Each check runs over a copy, by hard links, of what a check of the crate itself keeps in its
 out/incremental, so no check reads what an edit made."""
+import contextlib
 import os
 import re
 import resource
@@ -31,6 +32,9 @@ ONLY_NAMES = "only because a proof file names"
 WEAK = re.compile(r"has no field|is not in scope|has no `|was not admitted")
 KINDS = "fn|impl|struct|enum|trait|type"
 STATUS = re.compile(rf"^({KINDS}) (\S+): ((?:not proved|no proof|could not tell).*)$", re.M)
+STATUS_LINE = re.compile(rf"({KINDS}) \S+: ")
+# A goal that is left open.
+OPEN = re.compile(r"note: \S+:\d+:\d+: it is not proved")
 RESTS = re.compile(r"\bit waits for\b|\bit \w+ .*\bwhich (is|are) not proved")
 
 
@@ -99,18 +103,31 @@ def edits_at(edits, kind, name):
     return [it for it in edits if is_mine(it) or kind == "impl" and it.function.startswith(plain)]
 
 
+def goals_of(said, name):
+    """Returns the lines on goals of this function that no answer is for, and that stay open: they stand
+    between its line and that of the function before it."""
+    lines = [at for at, it in enumerate(said) if STATUS_LINE.match(it)]
+    end = next((at for at in lines if said[at].split(" ")[1] == f"{name}:"), 0)
+    start = max((at for at in lines if at < end), default=-1)
+    return [it for it in said[start + 1 : end] if OPEN.match(it)]
+
+
 def own_reason(said, name, status):
     """Returns why this function itself is not proved, or None where a proof file only names what
     is gone."""
     place = f"proofs/{name.partition('::')[2].replace('::', '/')}/"
-    errors = [it for it in said if re.match(r"\S+:\d+:\d+: error", it)]
-    told = [it for it in errors if place in it.split(" ")[0]]
-    own = [it for it in told if not WEAK.search(it)]
-    return (own or [f"{name}: {status}"])[0][:160] if own or not told else None
+    # (an error goes on in the lines below it that begin with a blank)
+    errors = re.findall(r"^\S+:\d+:\d+: error.*(?:\n .*)*", "\n".join(said), re.M)
+    told = [" ".join(it.split()) for it in errors if place in it.split(" ")[0]]
+    own = goals_of(said, name) + [it for it in told if not WEAK.search(it)]
+    return (own or [f"{name}: {status}"])[0][:300] if own or not told else None
 
 
 class Trial:
     """The checks of one crate with its edits made."""
+
+    # how the last line of a check begins
+    ends = "logic="
 
     def __init__(self, crate, options, jobs):
         self.crate, self.options, self.calls = crate, options, {}
@@ -120,14 +137,21 @@ class Trial:
     def is_over(self):
         return time.time() + self.longest > self.options.until
 
-    def timed(self, what, call):
-        """Has call check over a copy of what is kept, or over that itself for the crate itself."""
-        used = lambda: sum(resource.getrusage(resource.RUSAGE_CHILDREN)[:2])
-        began, before, own = time.time(), used(), f"{self.crate.folder}/out/incremental"
+    @contextlib.contextmanager
+    def kept(self, what):
+        """Gives a copy of what is kept, or that itself for a check of the crate itself."""
+        own = f"{self.crate.folder}/out/incremental"
         with tempfile.TemporaryDirectory(prefix="edits-", dir=f"{self.crate.folder}/out") as room:
             if what:
                 shutil.copytree(own, f"{room}/kept", copy_function=os.link)
-            given = call(f"{room}/kept" if what else own)
+            yield f"{room}/kept" if what else own
+
+    def timed(self, what, call):
+        """Has call check over what is kept for it, and adds up the time."""
+        used = lambda: sum(resource.getrusage(resource.RUSAGE_CHILDREN)[:2])
+        began, before = time.time(), used()
+        with self.kept(what) as kept:
+            given = call(kept)
         self.longest, took = max(self.longest, time.time() - began), used() - before
         self.spent += took
         if self.options.times:
@@ -146,11 +170,18 @@ class Trial:
         self.calls = calls_in({inside(it): text.encode() for it, text in blanked.items()}, there)
         return there
 
+    def edit(self, path, there):
+        return Edit(self.crate, path, there)
+
+    def flags_for(self, edits):
+        """Returns the flags of a check of these edits."""
+        return self.flags
+
     def batch(self, edits):
         """Checks these edits at once, and returns the verdict on each, or None where that check
         says nothing."""
-        texts = together(self.crate, edits)
-        check = lambda kept: rt.checked(self.crate, texts, self.flags, kept)
+        texts, flags = together(self.crate, edits), self.flags_for(edits)
+        check = lambda kept: rt.checked(self.crate, texts, flags, kept)
         ran = self.timed(f"a batch of {len(edits)}", check)
         verdicts, stray = self.judged(edits, texts, ran)
         if rtlib.STALE.search(ran.stdout):
@@ -165,7 +196,7 @@ class Trial:
         and what else was not proved for a reason of its own."""
         said = ran.stdout.rstrip("\n").split("\n")
         stray = [it for it in said if rt.unread(it, texts)]
-        if ran.returncode not in (0, 1) or not said[-1].startswith("logic="):
+        if ran.returncode not in (0, 1) or not said[-1].startswith(self.ends):
             stray.append(said[0])
         verdicts = dict.fromkeys(edits, (ALONE, ""))
         for kind, name, status in STATUS.findall(ran.stdout):
@@ -234,6 +265,11 @@ class Trial:
             yield it, GOAL, f"{it.name}: refused: {reason}"
         while alone and not self.is_over():
             it = alone.pop(0)
-            check = lambda kept: rt.must_fail(self.crate, it.path, self.flags, kept)
-            verdict, text = self.timed(it.name, check)
-            yield it, kind_of(verdict, text), f"{it.name}: tried alone: {text.partition(': ')[2]}"
+            kind, text = self.alone(it)
+            yield it, kind, f"{it.name}: tried alone: {text}"
+
+    def alone(self, edit):
+        """Returns by what an edit is refused that is tried alone, or None, and what to say."""
+        check = lambda kept: rt.must_fail(self.crate, edit.path, self.flags, kept)
+        verdict, text = self.timed(edit.name, check)
+        return kind_of(verdict, text), text.partition(": ")[2]

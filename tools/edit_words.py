@@ -11,11 +11,9 @@ def arguments(doc):
     flag("--all", "every crate, and every edit")
     flag("--list", "say what would be tried")
     flag("--alone", "try each edit alone")
+    flag("--whole", "check whole crates, and not only the functions with edits")
     flag("--times", "say what each check took")
-    words.add_argument(
-        "--must-fail", dest="folder", action="store_const", const="must-fail", default="edits",
-        help="try the edits of must-fail/, and record nothing",
-    )
+    flag("--named", "those of tools/named_mutants.txt alone: each must be refused by a goal")
     words.add_argument(
         "--minutes", type=float, default=1e6, metavar="N",
         help="start nothing that may end later",
@@ -26,7 +24,7 @@ def arguments(doc):
     given = words.parse_args()
     for it in given.names:
         crate, _, edit = it.partition("/")
-        place = f"{ROOT}/crates/{crate}" + f"/{given.folder}/{edit}.edit" * bool(edit)
+        place = f"{ROOT}/crates/{crate}" + f"/edits/{edit}.edit" * bool(edit)
         if not crate or not os.path.exists(place):
             words.error(f"there is no {os.path.relpath(place, ROOT)}")
     return given

@@ -1,6 +1,6 @@
 """Proves and builds a program by `rt ci` in a folder of its own, beside which all else goes on.
 
-The room has the program's crate and the crates below it, without their must-fail edits. What `rt ci`
+The room has the program's crate and the crates below it, without their mutants. What `rt ci`
 proves there is kept at once, crate by crate, so that a run which is cut off loses only the proofs under
 way. Some toolchains' `rt ci` keeps it beside the toolchain, and takes it from there in any checkout. With
 the others tools/prove_keeping runs `rt ci`, and keeps it in out/proof."""
@@ -17,7 +17,7 @@ from common import ROOT, below, crates_of
 
 PREFIX = "icu-locale-proof-"
 KEPT_IN = f"{ROOT}/out/proof"
-LEFT_OUT = shutil.ignore_patterns("out", "edits", "must-fail", "*.in")
+LEFT_OUT = shutil.ignore_patterns("out", "edits", "*.in")
 PROVED = re.compile(r"rt: (\w+) proved$")
 # (a toolchain says so of what it keeps, and tools/prove_keeping of what was kept before)
 KEPT = re.compile(r"rt: (\w+) (is|was) kept: ")

@@ -107,7 +107,7 @@ def expanded(text):
         names = [it.strip() for it in path.split("::")]
         if names[-1] == "self":
             names.pop()
-        yield tuple(names), (bound.strip() or names[-1])
+        yield tuple(names), (bound.strip() or "".join(names[-1:]))
         return
     depth, start, parts = 0, 0, []
     for place, it in enumerate(found[2] + ","):
@@ -118,7 +118,7 @@ def expanded(text):
     for part in filter(str.strip, parts):
         for path, bound in expanded(part):
             before = tuple(it.strip() for it in found[1].split("::") if it.strip())
-            yield before + path, bound
+            yield before + path, bound or before[-1]
 
 
 class Reader:

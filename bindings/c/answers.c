@@ -157,7 +157,7 @@ static void try_words(void)
 {
     for (int status = 0; status < 256; status++) {
         size_t length = UNTOUCHED;
-        int is_known = status <= ICU_LOCALE_UNKNOWN_NUMBER;
+        int is_known = status <= ICU_LOCALE_NOT_FOUND;
         icu_locale_status ended = icu_locale_words((icu_locale_status)status, reply, 64, &length);
         if (ended != (is_known ? ICU_LOCALE_DONE : ICU_LOCALE_UNKNOWN_NUMBER) || (length > 0) != is_known)
             stop("the words of a status");

@@ -40,7 +40,7 @@ __all__ = [
     "compare",
 ]
 
-HEADER = 2
+HEADER = 3
 HERE = pathlib.Path(__file__).resolve().parent
 TOP = HERE.parents[2]
 

@@ -27,7 +27,7 @@ pub fn say(text: &str, out: &mut String) -> Result<(), ParseError> {
     as_kind::<LanguageKind, 8>(subtag, out)?;
     as_kind::<ScriptKind, 4>(subtag, out)?;
     as_kind::<RegionKind, 3>(subtag, out)?;
-    let short = subtag.to_tinystr();
+    let short: TinyAsciiStr<8> = subtag.to_tinystr();
     let same = TinyAsciiStr::<8>::from_piece(short.to_piece());
     write!(out, "{}", same.as_str())?;
     Ok(())

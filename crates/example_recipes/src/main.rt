@@ -7,6 +7,7 @@
 //! - `calendar LOCALE`: the calendar that the locale asks for, and the locale with the Buddhist one.
 //! - `json LOCALE`: the JSON string of the locale, and what is parsed from it.
 //! - `texts LOCALE`: its text, that of its identifier, and that of its language.
+//! - `bracketed LOCALE`: its text between brackets.
 //! - `lists LOCALE`: its variants and its keywords.
 //! - `clear LOCALE PART`: the locale without its identifier (`id`), its extensions, or all.
 //! - `asks LOCALE`: the keywords of the hour cycle and of the scripts that a dictionary leaves out.
@@ -44,6 +45,10 @@ fn called(
         ("calendar", []) => keywords::calendar(alloc, locale, out),
         ("json", []) => others::json(alloc, locale, out),
         ("texts", []) => texts::say(alloc, locale, out),
+        ("bracketed", []) => match texts::bracketed(locale, out) {
+            Ok(()) => Ok(()),
+            Err(_) => Err(ParseError::OutOfMemory),
+        },
         ("lists", []) => texts::lists(locale, out),
         ("clear", [part]) => texts::clear(locale, part, out),
         ("asks", []) => keywords::asks(alloc, locale, out),

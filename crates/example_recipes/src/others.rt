@@ -38,7 +38,12 @@ pub fn carry(alloc: Global, row: &str, out: &mut String) -> Result<(), AllocErro
     match carry_v1(alloc, row.as_bytes()) {
         Ok(carried) => write!(out, "{} bytes", carried.len())?,
         Err(CarryError::OutOfMemory) => return Err(AllocError),
-        Err(refusal) => out.push_str(refusal.words())?,
+        Err(refusal) => refused(&refusal, out)?,
     }
     Ok(())
+}
+
+/// Says why a row is refused.
+fn refused(refusal: &CarryError, out: &mut String) -> Result<(), AllocError> {
+    out.push_str(refusal.words())
 }

@@ -1,8 +1,9 @@
 //! Texts of a locale and of its parts, its lists, and parts made empty.
 use icu_locale_core::json::TextValue;
+use icu_locale_core::writeable::{Sink, Writeable};
 use icu_locale_core::{Locale, ParseError};
 use std::alloc::Global;
-use std::fmt::Write;
+use std::fmt::{self, Write};
 
 /// Says the text of the locale, that of its identifier, and that of its language.
 pub fn say(alloc: Global, locale: &Locale, out: &mut String) -> Result<(), ParseError> {
@@ -12,6 +13,13 @@ pub fn say(alloc: Global, locale: &Locale, out: &mut String) -> Result<(), Parse
     let language = id.language.write_text(alloc)?;
     write!(out, "{whole}, {front}, {language}")?;
     Ok(())
+}
+
+/// Writes the locale between brackets, to a sink of any kind.
+pub fn bracketed<S: Sink>(locale: &Locale, sink: &mut S) -> fmt::Result {
+    sink.write_char('[')?;
+    locale.write_to(sink)?;
+    sink.write_str("]")
 }
 
 /// Says the variants and the keywords, which are lent as slices.

@@ -1,6 +1,7 @@
 //! Locales for C: a static library. Its header is `include/icu_locale.h`.
 //!
-//! Each function is that of `iloc_calls` with its name there, under the name that C calls it by.
+//! Each function is that of `iloc_calls` or `iloc_handles` with its name there, under the name that C calls it by: the
+//! calls on texts stand here, those on locales that a program holds in the modules.
 #![tactic(auto)]
 
 ghost use Rattle.std.specs.Prelude.{◌≡◌, ◌+◌, ◌<◌, ◌≤◌, length};
@@ -17,10 +18,15 @@ ghost use Rattle.iloc_calls.specs.Answers.{
 };
 ghost use Rattle.iloc_calls.specs.Numbers.{EndsAs, mode_number, number_of, words_of};
 
+mod identifier;
+mod keywords;
+mod variants;
+mod whole;
+
 use std::alloc::Global;
 
 /// The version of the header that this library was made for.
-pub const VERSION: u32 = 2;
+pub const VERSION: u32 = 3;
 
 /// Writes the normal text of what the text means into the buffer, and its length to `needed`.
 ///
@@ -108,7 +114,7 @@ pub extern "C" fn icu_locale_compare(
 pub extern "C" fn icu_locale_words(status: u32, buffer: &mut [u8], needed: &mut usize) -> u32
     ensures known { (told : Status) → status ≡ number_of told
         → EndsAs (HandsOut (words_of told) buffer.old buffer.new needed.new) result }
-    ensures unknown { 7 < status → (result ≡ number_of Status.UnknownNumber)
+    ensures unknown { 8 < status → (result ≡ number_of Status.UnknownNumber)
         × (needed.new ≡ 0) × (buffer.new ≡ buffer.old) }
 {
     iloc_calls::words(status, buffer, needed)

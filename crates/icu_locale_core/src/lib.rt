@@ -41,7 +41,7 @@
 //! | `write_to_string`, `to_string_or_borrow`, `Locale::normalizing_eq`, `push`, `push_subtag`, `insert`, `try_insert`, `set`, `extend` and its kin, `union`, `new_double`, `from_iter`, `from_pairs`, `from_subtags`, `from_two_subtags`, `to_value`, `unicode_extension_value`, `to_locale`, `write_text`, `carry_v1` | taken; running out of memory is `AllocError`, or the refusal `OutOfMemory` |
 //! | `Locale::unknown`, `new` of `LiteMap`, `Fields`, `Transform` and `Extensions`, `from_langid`, `from_language`, `from_script`, `from_region`, `from_parts`, `from_unicode`, `into_locale`, `Fields::clear` | taken and kept: these allocate nothing |
 //! | `clone` of what may own memory | not taken: the value's own; running out of memory is `AllocError` |
-//! | words, data locales, `try_from_utf8_with_single_variant` and its kin, look-ups, removals, `retain`, iterators, comparisons, orders, hashes, `write_to` | none: these allocate nothing |
+//! | subtags, data locales, `try_from_utf8_with_single_variant` and its kin, look-ups, removals, `retain`, iterators, comparisons, orders, hashes, `write_to` | none: these allocate nothing |
 //!
 //! In the Rust crate some of these modules are private, and `tinystr`, `writeable` and `litemap` are crates.
 #![tactic(auto)]
@@ -72,12 +72,12 @@ pub mod litemap {
     pub use iloc_litemap::{LiteMap, Probe, Store, place};
 }
 
-/// The words of identifiers, and sets of variants.
+/// The subtags of identifiers, and sets of variants.
 pub mod subtags {
     pub use iloc_subtags::{Language, Region, Script, Subtag, Variant, Word, WordKind, WordOf};
     pub use iloc_word_set::{Variants, hashes, is_strictly_ascending};
 
-    /// The kinds of words by name, for code that is generic over them: each word is a `WordOf<Kind, N>`.
+    /// The kinds of subtags by name, for code that is generic over them: each subtag is a `WordOf<Kind, N>`.
     pub mod kinds {
         pub use iloc_subtags::{
             AttributeKind, CurrencyTypeKind, LanguageKind, PrivateSubtagKind, RegionKind,
@@ -137,7 +137,7 @@ pub mod extensions {
         pub use iloc_other::{Other, equality, hashes, orders};
     }
 
-    /// The private extension: a list of private words.
+    /// The private extension: a list of private subtags.
     pub mod private {
         pub use iloc_other::{Private, equality, hashes, orders};
         pub use iloc_subtags::PrivateSubtag as Subtag;

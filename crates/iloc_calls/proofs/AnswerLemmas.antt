@@ -37,7 +37,7 @@ use Rattle.iloc_lines.specs.declared.Mode.TheVariants.{Langid, Locale, Data}
 use Rattle.iloc_calls.specs.Answers.{IsNormalText, JudgedAs, ComparesTo, IsOrderOf, OrdersTo, MeanSame, RefusedTells, TellsSame, order_number}
 use Rattle.iloc_calls.specs.Numbers.{mode_number, number_of, status_of}
 use Rattle.iloc_calls.specs.declared.status.Status.{Status}
-use Rattle.iloc_calls.specs.declared.status.Status.TheVariants.{Done, InvalidLanguage, InvalidSubtag, InvalidExtension, DuplicatedExtension, OutOfMemory, BufferTooSmall, UnknownNumber}
+use Rattle.iloc_calls.specs.declared.status.Status.TheVariants.{Done, InvalidLanguage, InvalidSubtag, InvalidExtension, DuplicatedExtension, OutOfMemory, BufferTooSmall, UnknownNumber, NotFound}
 use Rattle.std.specs.Cmp.{Equal-is}
 
 -- no mode has a number above 2
@@ -46,8 +46,8 @@ no_mode Langid k e h = omega (arith, e, h)
 no_mode Locale k e h = omega (arith, e, h)
 no_mode Data k e h = omega (arith, e, h)
 
--- and no status one above 7
-pub no_status : (s : Status) (k : ℕ) → k ≡ number_of s → 7 < k → ⊥
+-- and no status one above 8
+pub no_status : (s : Status) (k : ℕ) → k ≡ number_of s → 8 < k → ⊥
 no_status Done k e h = omega (arith, e, h)
 no_status InvalidLanguage k e h = omega (arith, e, h)
 no_status InvalidSubtag k e h = omega (arith, e, h)
@@ -56,6 +56,7 @@ no_status DuplicatedExtension k e h = omega (arith, e, h)
 no_status OutOfMemory k e h = omega (arith, e, h)
 no_status BufferTooSmall k e h = omega (arith, e, h)
 no_status UnknownNumber k e h = omega (arith, e, h)
+no_status NotFound k e h = omega (arith, e, h)
 
 -- what was read has a normal text, which is that of the text; a refusal is the status of the text
 abbrev pub Reads : {X : Type 0} → Mode → List ℕ → (X → List ℕ) → Result X ParseError → Type 0
@@ -132,6 +133,7 @@ module _ {X : Type 0} (mode : Mode) (t other : List ℕ) (before after : ℤ) (t
   both_read a b h n DuplicatedExtension e o = absurd o
   both_read a b h n BufferTooSmall e o = absurd o
   both_read a b h n UnknownNumber e o = absurd o
+  both_read a b h n NotFound e o = absurd o
 
   first_refused : (e : ParseError) → JudgedAs mode t (status_of e) → after ≡ before → OrdersTo mode t other before after (status_of e)
   first_refused refusals.InvalidLanguage h u = (inl h, u)

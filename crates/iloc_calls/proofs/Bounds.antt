@@ -11,7 +11,7 @@ use Rattle.iloc_writeable.specs.Hints.{saturated}
 use Rattle.iloc_lines.specs.declared.Mode.{Mode}
 use Rattle.iloc_lines.specs.declared.Mode.TheVariants.{Langid, Locale, Data}
 use Rattle.iloc_calls.specs.declared.status.Status.{Status}
-use Rattle.iloc_calls.specs.declared.status.Status.TheVariants.{Done, InvalidLanguage, InvalidSubtag, InvalidExtension, DuplicatedExtension, OutOfMemory, BufferTooSmall, UnknownNumber}
+use Rattle.iloc_calls.specs.declared.status.Status.TheVariants.{Done, InvalidLanguage, InvalidSubtag, InvalidExtension, DuplicatedExtension, OutOfMemory, BufferTooSmall, UnknownNumber, NotFound}
 use Rattle.iloc_calls.specs.Answers.{IsNormalText, NormalizesTo, growth}
 use Rattle.iloc_calls.proofs.Lengths.{data_text_fits}
 
@@ -42,3 +42,4 @@ needed_fits m t before after needed InvalidExtension h = let b = h.1 in omega (a
 needed_fits m t before after needed DuplicatedExtension h = let b = h.1 in omega (arith, b)
 needed_fits m t before after needed OutOfMemory h = let b = h.1 in omega (arith, b)
 needed_fits m t before after needed UnknownNumber h = let b = h.1 in omega (arith, b)
+needed_fits m t before after needed NotFound h = let b = h.1 in omega (arith, b)

@@ -23,7 +23,7 @@ use Rattle.iloc_subtags.specs.declared.parse_error.ParseError.TheVariants as ref
 use Rattle.iloc_lines.specs.declared.Mode.{Mode}
 use Rattle.iloc_lines.specs.declared.Mode.TheVariants.{Langid, Locale, Data}
 use Rattle.iloc_calls.specs.declared.status.Status.{Status}
-use Rattle.iloc_calls.specs.declared.status.Status.TheVariants.{Done, InvalidLanguage, InvalidSubtag, InvalidExtension, DuplicatedExtension, OutOfMemory, BufferTooSmall, UnknownNumber}
+use Rattle.iloc_calls.specs.declared.status.Status.TheVariants.{Done, InvalidLanguage, InvalidSubtag, InvalidExtension, DuplicatedExtension, OutOfMemory, BufferTooSmall, UnknownNumber, NotFound}
 
 -- Texts, by the mode.
 
@@ -55,6 +55,7 @@ JudgedAs mode t DuplicatedExtension = IsFaulty mode t faults.DuplicatedExtension
 JudgedAs mode t OutOfMemory = WantsMemory mode t
 JudgedAs mode t BufferTooSmall = ⊥
 JudgedAs mode t UnknownNumber = ⊥
+JudgedAs mode t NotFound = ⊥
 
 -- What is written for a caller.
 

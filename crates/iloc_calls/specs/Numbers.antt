@@ -7,7 +7,7 @@ use Rattle.iloc_subtags.specs.ParseError as refusals_words
 use Rattle.iloc_lines.specs.declared.Mode.{Mode}
 use Rattle.iloc_lines.specs.declared.Mode.TheVariants.{Langid, Locale, Data}
 use Rattle.iloc_calls.specs.declared.status.Status.{Status}
-use Rattle.iloc_calls.specs.declared.status.Status.TheVariants.{Done, InvalidLanguage, InvalidSubtag, InvalidExtension, DuplicatedExtension, OutOfMemory, BufferTooSmall, UnknownNumber}
+use Rattle.iloc_calls.specs.declared.status.Status.TheVariants.{Done, InvalidLanguage, InvalidSubtag, InvalidExtension, DuplicatedExtension, OutOfMemory, BufferTooSmall, UnknownNumber, NotFound}
 
 abbrev pub mode_number : Mode → ℕ
 mode_number Langid = 0
@@ -23,6 +23,7 @@ number_of DuplicatedExtension = 4
 number_of OutOfMemory = 5
 number_of BufferTooSmall = 6
 number_of UnknownNumber = 7
+number_of NotFound = 8
 
 -- the number is that of a status of which this holds
 abbrev pub EndsAs : (Status → Type 0) → ℕ → Type 0
@@ -46,3 +47,4 @@ words_of DuplicatedExtension = refusals_words.words_of refusals.DuplicatedExtens
 words_of OutOfMemory = refusals_words.words_of refusals.OutOfMemory
 words_of BufferTooSmall = codes "Buffer too small"
 words_of UnknownNumber = codes "Unknown number"
+words_of NotFound = codes "Not found"

@@ -112,7 +112,7 @@ pub fn compare(alloc: Global, mode: u32, text: &[u8], other: &[u8], order: &mut 
 pub fn words(status: u32, buffer: &mut [u8], needed: &mut usize) -> u32
     ensures known { (told : Status) → status ≡ number_of told
         → EndsAs (HandsOut (words_of told) buffer.old buffer.new needed.new) result }
-    ensures unknown { 7 < status → (result ≡ number_of Status.UnknownNumber)
+    ensures unknown { 8 < status → (result ≡ number_of Status.UnknownNumber)
         × (needed.new ≡ 0) × (buffer.new ≡ buffer.old) }
 {
     match Status::from_number(status) {

@@ -23,6 +23,8 @@ pub enum Status {
     BufferTooSmall = 6,
     /// The number names no mode, or no status.
     UnknownNumber = 7,
+    /// The locale has no such part.
+    NotFound = 8,
 }
 
 impl Status {
@@ -46,6 +48,7 @@ impl Status {
             5 => Some(Status::OutOfMemory),
             6 => Some(Status::BufferTooSmall),
             7 => Some(Status::UnknownNumber),
+            8 => Some(Status::NotFound),
             _ => None,
         }
     }
@@ -63,6 +66,7 @@ impl Status {
             Status::OutOfMemory => ParseError::OutOfMemory.words(),
             Status::BufferTooSmall => "Buffer too small",
             Status::UnknownNumber => "Unknown number",
+            Status::NotFound => "Not found",
         }
     }
 }

@@ -22,7 +22,7 @@ use iloc_keyword_types::SubdivisionId;
 use iloc_subtags::Subtag;
 use iloc_unicode_value::Value;
 
-// Whether the word ends as the whole of a region does, after as many bytes as a region has. Such a word names
+// Whether the subtag ends as the whole of a region does, after as many bytes as a region has. Such a subtag names
 // nothing else.
 fn ends_as_whole(word: &Subtag) -> bool
     ensures { result ≡ true → option_and_then

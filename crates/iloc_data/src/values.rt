@@ -12,7 +12,7 @@ use crate::locale_preferences::LocalePreferences;
 use iloc_keyword_types::{KeywordKind, SubdivisionKeyword};
 use iloc_subtags::{WordKind, WordOf};
 
-// Looks at each word, so that all are known to be normal.
+// Looks at each subtag, so that all are known to be normal.
 pub(crate) fn look_at_data_locale(locale: &DataLocale)
     ensures { IsDataLocale languages (value_of locale.now) }
 {

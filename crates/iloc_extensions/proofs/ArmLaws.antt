@@ -12,8 +12,8 @@ use Rattle.std.specs.FinMap.Entries.{by_order, is_some-find}
 use Rattle.std.proofs.lemmas.Bool.Decides.{nat_tests}
 use Rattle.iloc_spec_grammar.specs.Words.{lower, word_cmp}
 use Rattle.iloc_spec_grammar.specs.Written.{Identifier, Unicode, Transform, Fields, IsPrivate, kept, singleton, is_other_singleton}
-use Rattle.iloc_spec_grammar.specs.Meaning.{Extensions, map_of, set_of, normal_fields, normal_identifier, no_unicode, no_transform}
-use Rattle.iloc_spec_grammar.specs.ByBlocks.{UnicodeMeans, TransformMeans, PrivateMeans, by_letter, other_blocks, PartIs, BlocksMean}
+use Rattle.iloc_spec_grammar.specs.Meaning.{Extensions, map_of, set_of, normal_fields, normal_identifier, no_unicode, no_transform, by_singleton}
+use Rattle.iloc_spec_grammar.specs.ByBlocks.{UnicodeMeans, TransformMeans, PrivateMeans, other_blocks, PartIs, BlocksMean}
 use Rattle.iloc_spec_grammar.proofs.MapLaws.{find-map_of}
 use Rattle.iloc_extensions.specs.Blocks.{is_read}
 use Rattle.iloc_spec_grammar.proofs.Singletons.{tied, no_u, no_t, no_x, IsKind, of_u, of_t, of_x, another, kind_of}
@@ -62,8 +62,8 @@ some_private (p ∷ ps) ws h e = ap (λ (l : List (List ℕ)). length l == 0) e 
 
 -- singletons that were read
 
-known : (T : ℕ → Bool) (q : ℕ) (ds : List (ℕ × List (List ℕ))) → is_some (find nat_cmp q (by_letter ds)) ≡ list_any (eq_by_cmp nat_cmp q) (map (λ b. singleton b) ds)
-known T q ds = is_some-find nat_cmp q (by_letter ds) ∙ ap (list_any (eq_by_cmp nat_cmp q)) (letter_keys ds)
+known : (T : ℕ → Bool) (q : ℕ) (ds : List (ℕ × List (List ℕ))) → is_some (find nat_cmp q (by_singleton ds)) ≡ list_any (eq_by_cmp nat_cmp q) (map (λ b. singleton b) ds)
+known T q ds = is_some-find nat_cmp q (by_singleton ds) ∙ ap (list_any (eq_by_cmp nat_cmp q)) (letter_keys ds)
 
 part_known : {X : Type 0} (Rule : List (List ℕ) → X → Type 0) (is_empty : X → Bool) → ((ps : List (List ℕ)) (v : X) → Rule ps v → is_empty v ≡ false) → (empty : X) → is_empty empty ≡ true → (o : Option (List (List ℕ))) (v : X) → PartIs Rule empty o v → not (is_empty v) ≡ is_some o
 part_known Rule is_empty some empty none None v h = ap (λ u. not (is_empty u)) h ∙ ap not none
@@ -76,15 +76,15 @@ any_key : (q : ℕ) (os : List (ℕ × List (List ℕ))) → list_any (λ o. o.0
 any_key q [] = refl
 any_key q (o ∷ os) = ap₂ ◌||◌ (same_test o.0 q) (any_key q os) ∙ elim (eq_by_cmp nat_cmp q o.0) as (λ b. (b || is_some (find nat_cmp q os)) ≡ is_some (cond b (Some o.1) (find nat_cmp q os))) [ true ↦ refl | false ↦ refl ]
 
-others_known : (q : ℕ) (bs : List (ℕ × List (List ℕ))) → is_other_singleton q ≡ true → is_some (find nat_cmp q (map (λ b. (b.0, kept b.1)) (other_blocks (by_letter bs)))) ≡ is_some (find nat_cmp q (by_letter bs))
+others_known : (q : ℕ) (bs : List (ℕ × List (List ℕ))) → is_other_singleton q ≡ true → is_some (find nat_cmp q (map (λ b. (b.0, kept b.1)) (other_blocks (by_singleton bs)))) ≡ is_some (find nat_cmp q (by_singleton bs))
 others_known q [] h = refl
 others_known q (b ∷ bs) h = at (eq_by_cmp nat_cmp q (singleton b)) (is_other_singleton (singleton b)) (others_known q bs h) refl refl
   where
-    at : (t k : Bool) → is_some (find nat_cmp q (map (λ b. (b.0, kept b.1)) (other_blocks (by_letter bs)))) ≡ is_some (find nat_cmp q (by_letter bs)) → eq_by_cmp nat_cmp q (singleton b) ≡ t → is_other_singleton (singleton b) ≡ k
-        → is_some (find nat_cmp q (map (λ b. (b.0, kept b.1)) (cond k ((singleton b, b.1) ∷ other_blocks (by_letter bs)) (other_blocks (by_letter bs))))) ≡ is_some (cond t (Some b.1) (find nat_cmp q (by_letter bs)))
-    at true true more e k = ap (λ t. is_some (cond t (Some (kept b.1)) (find nat_cmp q (map (λ b. (b.0, kept b.1)) (other_blocks (by_letter bs)))))) e
+    at : (t k : Bool) → is_some (find nat_cmp q (map (λ b. (b.0, kept b.1)) (other_blocks (by_singleton bs)))) ≡ is_some (find nat_cmp q (by_singleton bs)) → eq_by_cmp nat_cmp q (singleton b) ≡ t → is_other_singleton (singleton b) ≡ k
+        → is_some (find nat_cmp q (map (λ b. (b.0, kept b.1)) (cond k ((singleton b, b.1) ∷ other_blocks (by_singleton bs)) (other_blocks (by_singleton bs))))) ≡ is_some (cond t (Some b.1) (find nat_cmp q (by_singleton bs)))
+    at true true more e k = ap (λ t. is_some (cond t (Some (kept b.1)) (find nat_cmp q (map (λ b. (b.0, kept b.1)) (other_blocks (by_singleton bs)))))) e
     at true false more e k = absurd (true≢false (sym h ∙ ap is_other_singleton (sym (tied q (singleton b) e)) ∙ k))
-    at false true more e k = ap (λ t. is_some (cond t (Some (kept b.1)) (find nat_cmp q (map (λ b. (b.0, kept b.1)) (other_blocks (by_letter bs)))))) e ∙ more
+    at false true more e k = ap (λ t. is_some (cond t (Some (kept b.1)) (find nat_cmp q (map (λ b. (b.0, kept b.1)) (other_blocks (by_singleton bs)))))) e ∙ more
     at false false more e k = more
 
 is_read-other : (M : Extensions) (c : ℕ) → is_other_singleton c ≡ true → is_read M c ≡ list_any (λ o. o.0 == c) M.others
@@ -107,8 +107,8 @@ is_read-other M c h = at (c == 117) (c == 116) (c == 120) (no c 117 h (λ e. no_
 pub read_is_known : (T : ℕ → Bool) (ds : List (ℕ × List (List ℕ))) (M : Extensions) (c : ℕ) → BlocksMean T ds M → is_ascii_alphanumeric c ≡ true → is_read M c ≡ list_any (eq_by_cmp nat_cmp c) (map (λ b. singleton b) ds)
 read_is_known T ds M c m h = at (kind_of c h) ∙ known T c ds
   where
-    at : IsKind c → is_read M c ≡ is_some (find nat_cmp c (by_letter ds))
-    at (of_u e) = subst (λ (q : ℕ). is_read M q ≡ is_some (find nat_cmp q (by_letter ds))) (sym e) (part_known UnicodeMeans (λ v. (length v.attributes == 0) && (length v.keywords == 0)) some_unicode no_unicode refl (find nat_cmp 117 (by_letter ds)) M.unicode m.unicode)
-    at (of_t e) = subst (λ (q : ℕ). is_read M q ≡ is_some (find nat_cmp q (by_letter ds))) (sym e) (part_known (TransformMeans T) (λ v. not (is_some v.id) && (length v.fields == 0)) (some_transform T) no_transform refl (find nat_cmp 116 (by_letter ds)) M.transform m.transform)
-    at (of_x e) = subst (λ (q : ℕ). is_read M q ≡ is_some (find nat_cmp q (by_letter ds))) (sym e) (part_known PrivateMeans (λ v. length v == 0) (λ ps ws h. some_private ps ws h.0 h.1) [] refl (find nat_cmp 120 (by_letter ds)) M.private m.private)
-    at (another o) = is_read-other M c o ∙ any_key c M.others ∙ ap (λ os. is_some (find nat_cmp c os)) m.others ∙ ap is_some (find-map_of nat_cmp nat_cmp_total c (map (λ b. (b.0, kept b.1)) (other_blocks (by_letter ds)))) ∙ others_known c ds o
+    at : IsKind c → is_read M c ≡ is_some (find nat_cmp c (by_singleton ds))
+    at (of_u e) = subst (λ (q : ℕ). is_read M q ≡ is_some (find nat_cmp q (by_singleton ds))) (sym e) (part_known UnicodeMeans (λ v. (length v.attributes == 0) && (length v.keywords == 0)) some_unicode no_unicode refl (find nat_cmp 117 (by_singleton ds)) M.unicode m.unicode)
+    at (of_t e) = subst (λ (q : ℕ). is_read M q ≡ is_some (find nat_cmp q (by_singleton ds))) (sym e) (part_known (TransformMeans T) (λ v. not (is_some v.id) && (length v.fields == 0)) (some_transform T) no_transform refl (find nat_cmp 116 (by_singleton ds)) M.transform m.transform)
+    at (of_x e) = subst (λ (q : ℕ). is_read M q ≡ is_some (find nat_cmp q (by_singleton ds))) (sym e) (part_known PrivateMeans (λ v. length v == 0) (λ ps ws h. some_private ps ws h.0 h.1) [] refl (find nat_cmp 120 (by_singleton ds)) M.private m.private)
+    at (another o) = is_read-other M c o ∙ any_key c M.others ∙ ap (λ os. is_some (find nat_cmp c os)) m.others ∙ ap is_some (find-map_of nat_cmp nat_cmp_total c (map (λ b. (b.0, kept b.1)) (other_blocks (by_singleton ds)))) ∙ others_known c ds o

@@ -7,8 +7,8 @@ use Rattle.std.specs.Cmp.{nat_cmp_total}
 use Rattle.std.specs.FinMap.{find, nat_cmp-IsAntisymmetric}
 use Rattle.std.proofs.lemmas.Bool.{or_parts, or_from}
 use Rattle.iloc_spec_grammar.specs.Written.{kept, AllDifferent, singleton, is_other_singleton}
-use Rattle.iloc_spec_grammar.specs.Meaning.{Extensions, no_unicode, no_transform}
-use Rattle.iloc_spec_grammar.specs.ByBlocks.{Rules, by_letter, other_blocks, PartIs, BlocksGive}
+use Rattle.iloc_spec_grammar.specs.Meaning.{Extensions, no_unicode, no_transform, by_singleton}
+use Rattle.iloc_spec_grammar.specs.ByBlocks.{Rules, other_blocks, PartIs, BlocksGive}
 use Rattle.iloc_spec_grammar.specs.Steps.{Reordered, none, front_kept, first_two, in_turn}
 use Rattle.iloc_spec_grammar.proofs.Orders.{all_reordered, map_reordered, different_reordered, find_reordered}
 use Rattle.iloc_spec_grammar.proofs.MapLaws.{map_of_same}
@@ -45,7 +45,7 @@ letter_of b = (singleton b, b.1)
 abbrev kept_of : ℕ × List (List ℕ) → ℕ × List (List ℕ)
 kept_of b = (b.0, kept b.1)
 
-pub letter_keys : (bs : List (ℕ × List (List ℕ))) → map (λ e. e.0) (by_letter bs) ≡ map (λ b. singleton b) bs
+pub letter_keys : (bs : List (ℕ × List (List ℕ))) → map (λ e. e.0) (by_singleton bs) ≡ map (λ b. singleton b) bs
 letter_keys [] = refl
 letter_keys (b ∷ bs) = ap (λ l. singleton b ∷ l) (letter_keys bs)
 
@@ -74,10 +74,10 @@ still_different test (b ∷ bs) h =
 reordered : {R : Rules} {bs cs : List (ℕ × List (List ℕ))} (e : Extensions) → Reordered bs cs → BlocksGive R bs e → BlocksGive R cs e
 reordered {R = R} {bs = bs} {cs = cs} e r m =
     let letters = map_reordered letter_of r in
-    let keys : AllDifferent nat_cmp (map (λ e. e.0) (by_letter bs)) = subst (AllDifferent nat_cmp) (sym (letter_keys bs)) m.different in
-    let found : (q : ℕ) → find nat_cmp q (by_letter bs) ≡ find nat_cmp q (by_letter cs) = λ q. find_reordered nat_cmp nat_cmp_total q letters keys in
+    let keys : AllDifferent nat_cmp (map (λ e. e.0) (by_singleton bs)) = subst (AllDifferent nat_cmp) (sym (letter_keys bs)) m.different in
+    let found : (q : ℕ) → find nat_cmp q (by_singleton bs) ≡ find nat_cmp q (by_singleton cs) = λ q. find_reordered nat_cmp nat_cmp_total q letters keys in
     let others = filter_reordered (λ b. is_other_singleton b.0) letters in
-    let kinds : AllDifferent nat_cmp (map (λ e. e.0) (map kept_of (other_blocks (by_letter bs)))) = subst (AllDifferent nat_cmp) (sym (kept_keys (other_blocks (by_letter bs)))) (still_different (λ b. is_other_singleton b.0) (by_letter bs) keys) in
+    let kinds : AllDifferent nat_cmp (map (λ e. e.0) (map kept_of (other_blocks (by_singleton bs)))) = subst (AllDifferent nat_cmp) (sym (kept_keys (other_blocks (by_singleton bs)))) (still_different (λ b. is_other_singleton b.0) (by_singleton bs) keys) in
     record {
       letters = all_reordered (λ b. is_ascii_alphanumeric b.0 ≡ true) r m.letters;
       different = different_reordered nat_cmp nat_cmp_total (map_reordered (λ b. singleton b) r) m.different;
@@ -85,7 +85,7 @@ reordered {R = R} {bs = bs} {cs = cs} e r m =
       transform = subst (λ o. PartIs R.transform no_transform o e.transform) (found 116) m.transform;
       private = subst (λ o. PartIs R.private [] o e.private) (found 120) m.private;
       each_other = all_reordered (λ b. R.other b.1 (kept b.1)) others m.each_other;
-      others = m.others ∙ map_of_same nat_cmp nat_cmp_total nat_cmp-IsAntisymmetric (map kept_of (other_blocks (by_letter bs))) (map kept_of (other_blocks (by_letter cs))) (λ q. find_reordered nat_cmp nat_cmp_total q (map_reordered kept_of others) kinds);
+      others = m.others ∙ map_of_same nat_cmp nat_cmp_total nat_cmp-IsAntisymmetric (map kept_of (other_blocks (by_singleton bs))) (map kept_of (other_blocks (by_singleton cs))) (λ q. find_reordered nat_cmp nat_cmp_total q (map_reordered kept_of others) kinds);
     }
 
 pub turned : {R : Rules} (bs : List (ℕ × List (List ℕ))) (e : Extensions) → BlocksGive R bs e → BlocksGive R (onto bs []) e

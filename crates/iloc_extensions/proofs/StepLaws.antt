@@ -6,8 +6,8 @@ use Rattle.std.specs.Ordering.{nat_cmp, eq_by_cmp}
 use Rattle.std.specs.FinMap.{find, put}
 use Rattle.std.proofs.lemmas.Bool.Decides.{nat_tests}
 use Rattle.iloc_spec_grammar.specs.Written.{Unicode, Transform, kept, singleton, is_other_singleton}
-use Rattle.iloc_spec_grammar.specs.Meaning.{Extensions, map_of, no_unicode, no_transform}
-use Rattle.iloc_spec_grammar.specs.ByBlocks.{Rules, by_letter, other_blocks, PartIs, BlocksGive}
+use Rattle.iloc_spec_grammar.specs.Meaning.{Extensions, map_of, no_unicode, no_transform, by_singleton}
+use Rattle.iloc_spec_grammar.specs.ByBlocks.{Rules, other_blocks, PartIs, BlocksGive}
 
 -- numbers of singletons
 
@@ -57,32 +57,32 @@ differ m n h e = grind (arith, nat_tests)
 -- What a new block adds to what was read.
 module _ {R : Rules} {ds : List (ℕ × List (List ℕ))} {M : Extensions} (b : ℕ × List (List ℕ)) (m : BlocksGive R ds M)
     (l : is_ascii_alphanumeric b.0 ≡ true) (n : list_any (eq_by_cmp nat_cmp (singleton b)) (map (λ d. singleton d) ds) ≡ false) where
-  present : (q : ℕ) → singleton b ≡ q → find nat_cmp q (by_letter (b ∷ ds)) ≡ Some b.1
-  present q e = ap (λ t. cond t (Some b.1) (find nat_cmp q (by_letter ds))) (tied_itself q (singleton b) e)
+  present : (q : ℕ) → singleton b ≡ q → find nat_cmp q (by_singleton (b ∷ ds)) ≡ Some b.1
+  present q e = ap (λ t. cond t (Some b.1) (find nat_cmp q (by_singleton ds))) (tied_itself q (singleton b) e)
 
-  absent : (q : ℕ) → eq_by_cmp nat_cmp q (singleton b) ≡ false → find nat_cmp q (by_letter (b ∷ ds)) ≡ find nat_cmp q (by_letter ds)
-  absent q e = ap (λ t. cond t (Some b.1) (find nat_cmp q (by_letter ds))) e
+  absent : (q : ℕ) → eq_by_cmp nat_cmp q (singleton b) ≡ false → find nat_cmp q (by_singleton (b ∷ ds)) ≡ find nat_cmp q (by_singleton ds)
+  absent q e = ap (λ t. cond t (Some b.1) (find nat_cmp q (by_singleton ds))) e
 
-  same_others : is_other_singleton (singleton b) ≡ false → other_blocks (by_letter (b ∷ ds)) ≡ other_blocks (by_letter ds)
-  same_others e = ap (λ t. cond t ((singleton b, b.1) ∷ other_blocks (by_letter ds)) (other_blocks (by_letter ds))) e
+  same_others : is_other_singleton (singleton b) ≡ false → other_blocks (by_singleton (b ∷ ds)) ≡ other_blocks (by_singleton ds)
+  same_others e = ap (λ t. cond t ((singleton b, b.1) ∷ other_blocks (by_singleton ds)) (other_blocks (by_singleton ds))) e
 
-  more_others : is_other_singleton (singleton b) ≡ true → other_blocks (by_letter (b ∷ ds)) ≡ (singleton b, b.1) ∷ other_blocks (by_letter ds)
-  more_others e = ap (λ t. cond t ((singleton b, b.1) ∷ other_blocks (by_letter ds)) (other_blocks (by_letter ds))) e
+  more_others : is_other_singleton (singleton b) ≡ true → other_blocks (by_singleton (b ∷ ds)) ≡ (singleton b, b.1) ∷ other_blocks (by_singleton ds)
+  more_others e = ap (λ t. cond t ((singleton b, b.1) ∷ other_blocks (by_singleton ds)) (other_blocks (by_singleton ds))) e
 
   -- the part of another singleton stays; that of this one is given
-  part_kept : {X : Type 0} (Rule : List (List ℕ) → X → Type 0) (empty v : X) (k q : ℕ) → singleton b ≡ q → (q == k) ≡ false → PartIs Rule empty (find nat_cmp k (by_letter ds)) v → PartIs Rule empty (find nat_cmp k (by_letter (b ∷ ds))) v
+  part_kept : {X : Type 0} (Rule : List (List ℕ) → X → Type 0) (empty v : X) (k q : ℕ) → singleton b ≡ q → (q == k) ≡ false → PartIs Rule empty (find nat_cmp k (by_singleton ds)) v → PartIs Rule empty (find nat_cmp k (by_singleton (b ∷ ds))) v
   part_kept Rule empty v k q e d = subst (λ o. PartIs Rule empty o v) (sym (absent k (tied_no k q (singleton b) e (differ q k d))))
 
-  part_given : {X : Type 0} (Rule : List (List ℕ) → X → Type 0) (empty v : X) (q : ℕ) → singleton b ≡ q → Rule b.1 v → PartIs Rule empty (find nat_cmp q (by_letter (b ∷ ds))) v
+  part_given : {X : Type 0} (Rule : List (List ℕ) → X → Type 0) (empty v : X) (q : ℕ) → singleton b ≡ q → Rule b.1 v → PartIs Rule empty (find nat_cmp q (by_singleton (b ∷ ds))) v
   part_given Rule empty v q e h = subst (λ o. PartIs Rule empty o v) (sym (present q e)) h
 
-  part_beside : {X : Type 0} (Rule : List (List ℕ) → X → Type 0) (empty v : X) (k : ℕ) → is_other_singleton (singleton b) ≡ true → (k ≡ 117) ⊎ ((k ≡ 116) ⊎ (k ≡ 120)) → PartIs Rule empty (find nat_cmp k (by_letter ds)) v → PartIs Rule empty (find nat_cmp k (by_letter (b ∷ ds))) v
+  part_beside : {X : Type 0} (Rule : List (List ℕ) → X → Type 0) (empty v : X) (k : ℕ) → is_other_singleton (singleton b) ≡ true → (k ≡ 117) ⊎ ((k ≡ 116) ⊎ (k ≡ 120)) → PartIs Rule empty (find nat_cmp k (by_singleton ds)) v → PartIs Rule empty (find nat_cmp k (by_singleton (b ∷ ds))) v
   part_beside Rule empty v k o h = subst (λ o. PartIs Rule empty o v) (sym (absent k (no_other (singleton b) k o h)))
 
-  rules_kept : is_other_singleton (singleton b) ≡ false → AllByRecursion (λ b. R.other b.1 (kept b.1)) (other_blocks (by_letter (b ∷ ds)))
+  rules_kept : is_other_singleton (singleton b) ≡ false → AllByRecursion (λ b. R.other b.1 (kept b.1)) (other_blocks (by_singleton (b ∷ ds)))
   rules_kept e = subst (AllByRecursion (λ b. R.other b.1 (kept b.1))) (sym (same_others e)) m.each_other
 
-  others_kept : is_other_singleton (singleton b) ≡ false → M.others ≡ map_of nat_cmp (map (λ b. (b.0, kept b.1)) (other_blocks (by_letter (b ∷ ds))))
+  others_kept : is_other_singleton (singleton b) ≡ false → M.others ≡ map_of nat_cmp (map (λ b. (b.0, kept b.1)) (other_blocks (by_singleton (b ∷ ds))))
   others_kept e = m.others ∙ ap (λ bs. map_of nat_cmp (map (λ b. (b.0, kept b.1)) bs)) (sym (same_others e))
 
   pub unicode_added : singleton b ≡ 117 → (v : Unicode) → R.unicode b.1 v → BlocksGive R (b ∷ ds) (record M { unicode = v })

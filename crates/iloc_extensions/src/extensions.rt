@@ -47,7 +47,7 @@ impl Extensions {
         }
     }
 
-    /// Whether all four parts are empty. An other extension counts as there, also without words.
+    /// Whether all four parts are empty. An other extension counts as there, also without subtags.
     pub fn is_empty(&self) -> bool
         ensures { IsTrue result ↔ (value_of self.now ≡ no_extensions) }
     {
@@ -82,7 +82,7 @@ impl Extensions {
             .then_with(|| self.other.as_slice().cmp(other.other.as_slice()))
     }
 
-    /// Clears the extensions at which `predicate` says no.
+    /// Clears the extensions for which `predicate` returns `false`.
     ///
     /// It is asked of the unicode extension, of the transform, of the private one and of each other
     /// in list order, once each, also of empty ones.

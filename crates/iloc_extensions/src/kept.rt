@@ -12,7 +12,7 @@ ghost use Rattle.iloc_spec_grammar.specs.Values.{
 ghost use Rattle.iloc_langid.specs.Reads as identifiers;
 ghost use Rattle.iloc_transform.specs.TransformReading as transforms;
 ghost use Rattle.iloc_unicode.specs.UnicodeValue as unicodes;
-ghost use Rattle.iloc_unicode.specs.UnicodeValue.{IsKeyword};
+ghost use Rattle.iloc_unicode.specs.UnicodeValue.{IsKeywordValue};
 ghost use Rattle.iloc_extensions.specs.ExtensionsValue.{value_of};
 
 use crate::extensions::Extensions;
@@ -41,7 +41,7 @@ fn look_at_unicode(unicode: &Unicode)
 }
 
 fn look_at_keywords(pairs: &[(UnicodeKey, Value)])
-    ensures { AllByRecursion IsKeyword pairs.now }
+    ensures { AllByRecursion IsKeywordValue pairs.now }
 {
     for pair in pairs {
         let _ = pair.0.as_str();

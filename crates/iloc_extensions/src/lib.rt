@@ -51,7 +51,7 @@ pub fn equality()
         → IsTrue (⟦<Extensions as PartialEq>⟧.eq d e) ↔ (value_of d ≡ value_of e) }
 {}
 
-/// A hasher is fed the unicode extension, the transform, the private words and the others.
+/// A hasher is fed the unicode extension, the transform, the private subtags and the others.
 pub fn hashes()
     ensures { (e : Extensions)
         → ⟦<Extensions as Hash>⟧.hash_input e ≡ extensions_fed (value_of e) }

@@ -17,8 +17,8 @@ use iloc_unicode_value::Value;
 /// Whether the extensions are well-formed.
 ///
 /// The others ascend strictly by singleton, each a digit or a lower-case letter other than `t`, `u` and
-/// `x`, and have a word each; no value of a keyword holds `true` or a subtag of two characters. All
-/// extensions, well-formed or not, are a value: sets and maps ascend strictly, and all words are in the
+/// `x`, and have a subtag each; no value of a keyword holds `true` or a subtag of two characters. All
+/// extensions, well-formed or not, are a value: sets and maps ascend strictly, and all subtags are in the
 /// normal case of their kinds.
 pub fn is_well_formed(extensions: &Extensions) -> bool
     ensures exactly { IsTrue result ↔ AreWellFormed (value_of extensions.now) }
@@ -28,7 +28,7 @@ pub fn is_well_formed(extensions: &Extensions) -> bool
     are_in_place(&extensions.other) && are_read_back(&extensions.unicode.keywords)
 }
 
-// Whether the others ascend strictly by singletons of their own, and each has a word.
+// Whether the others ascend strictly by singletons of their own, and each has a subtag.
 fn are_in_place(others: &[Other]) -> bool
     ensures { result ≡ is_in_place others.now }
 {
@@ -42,7 +42,7 @@ fn is_ascending(others: &[Other]) -> bool
     others.is_sorted_by(|other, next| other.get_ext_byte() < next.get_ext_byte())
 }
 
-// Whether the singleton is a digit or a lower-case letter without a meaning of its own, and has a word.
+// Whether the singleton is a digit or a lower-case letter without a meaning of its own, and has a subtag.
 fn has_own_singleton(other: &Other) -> bool
     ensures { result ≡ has_own_place other.now }
 {

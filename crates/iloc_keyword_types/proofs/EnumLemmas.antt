@@ -11,11 +11,11 @@ use Rattle.std.specs.Cmp.{nat_cmp_is}
 use Rattle.std.specs.Cmp.Lexicographic.{slice_cmp}
 use Rattle.std.proofs.lemmas.Bool.{and_parts}
 use Rattle.iloc_spec_grammar.specs.Words.{Subtag, word_cmp, is_word, lower, is_same, is_true}
-use Rattle.iloc_spec_grammar.specs.Values.{IsNormal}
+use Rattle.iloc_spec_grammar.specs.Values.{IsNormal, spelled_value}
 use Rattle.iloc_spec_orders.specs.Orders.{pair_cmp}
 use Rattle.iloc_unicode_value.specs.Values as values
 use Rattle.iloc_spec_parts.specs.SingleValues.{single}
-use Rattle.iloc_spec_preferences.specs.Keywords.{EnumKeyword, CalendarAlgorithm, CollationType, CollationCaseFirst, CollationNumericOrdering, CurrencyFormatStyle, EmojiPresentationStyle, FirstDay, HourCycle, LineBreakStyle, LineBreakWordHandling, MeasurementSystem, MeasurementUnitOverride, SentenceBreakSupressions, CommonVariantType, EnumValue, numbered, variants, further_readings, readings, or_true, without_true, enum_reads, enum_words, enum_gives}
+use Rattle.iloc_spec_preferences.specs.Keywords.{EnumKeyword, CalendarAlgorithm, CollationType, CollationCaseFirst, CollationNumericOrdering, CurrencyFormatStyle, EmojiPresentationStyle, FirstDay, HourCycle, LineBreakStyle, LineBreakWordHandling, MeasurementSystem, MeasurementUnitOverride, SentenceBreakSupressions, CommonVariantType, EnumValue, numbered, variants, further_readings, readings, unspelled_value, enum_reads, enum_words, enum_gives}
 use Rattle.iloc_spec_preferences.proofs.KeywordLaws.{reads_what_it_gives}
 use Rattle.iloc_unicode_value.specs.declared.errors.PreferencesParseError.TheVariants.{InvalidKeywordValue}
 use Rattle.iloc_keyword_types.specs.WordTables.{place_of, word_at}
@@ -48,7 +48,7 @@ more_words v w ws (e ∷ es) = elim (word_cmp v e.0) as (λ r. cond (is_eq (orde
 ]
 
 -- what the words read as: the variant of the only word
-by_word : (ws vs : List (List ℕ)) → find (slice_cmp word_cmp) (or_true ws) (map entry (numbered 0 vs)) ≡ option_and_then (λ w. option_map variant (place_of w vs)) (single (or_true ws))
+by_word : (ws vs : List (List ℕ)) → find (slice_cmp word_cmp) (spelled_value ws) (map entry (numbered 0 vs)) ≡ option_and_then (λ w. option_map variant (place_of w vs)) (single (spelled_value ws))
 unfolding place_of
 by_word [] vs = one_word (codes "true") (numbered 0 vs)
 by_word (w ∷ []) vs = one_word w (numbered 0 vs)
@@ -57,8 +57,8 @@ by_word (v ∷ w ∷ ws) vs = more_words v w ws (numbered 0 vs)
 all_readings : (k : EnumKeyword) → further_readings k ≡ [] → readings k ≡ map entry (numbered 0 (variants k))
 all_readings k plain = ap (λ r. map entry (numbered 0 (variants k)) ++ r) plain ∙ append-nil (map entry (numbered 0 (variants k)))
 
-pub read_by_word : (k : EnumKeyword) (vs : List (List ℕ)) → vs ≡ variants k → further_readings k ≡ [] → (ws : List (List ℕ)) → enum_reads k ws ≡ option_and_then (λ w. option_map variant (place_of w vs)) (single (or_true ws))
-read_by_word k vs same plain ws = ap (find (slice_cmp word_cmp) (or_true ws)) (all_readings k plain ∙ ap (λ vs. map entry (numbered 0 vs)) (sym same)) ∙ by_word ws vs
+pub read_by_word : (k : EnumKeyword) (vs : List (List ℕ)) → vs ≡ variants k → further_readings k ≡ [] → (ws : List (List ℕ)) → enum_reads k ws ≡ option_and_then (λ w. option_map variant (place_of w vs)) (single (spelled_value ws))
+read_by_word k vs same plain ws = ap (find (slice_cmp word_cmp) (spelled_value ws)) (all_readings k plain ∙ ap (λ vs. map entry (numbered 0 vs)) (sym same)) ∙ by_word ws vs
 
 module _ {X : Type 0} (place : X → ℕ) where
   pub answered : (r : Option X) (o : Option EnumValue) → o ≡ option_map variant (option_map place r) → Reads (λ x. variant (place x)) o (ok_or r InvalidKeywordValue)
@@ -81,11 +81,11 @@ pub word_of_place : (k : EnumKeyword) (vs : List (List ℕ)) → vs ≡ variants
 word_of_place k vs same plain n = ap (λ r. find (pair_cmp nat_cmp (option_cmp nat_cmp)) (variant n) (map (λ e. (e.1, e.0)) r)) (all_readings k plain ∙ ap (λ vs. map entry (numbered 0 vs)) (sym same)) ∙ words_at 0 n n vs (omega arith)
 
 -- `true` alone is written as nothing
-pub same_without : (w : List ℕ) → values.without_true (w ∷ []) ≡ without_true (w ∷ [])
-same_without w = elim (is_true w) as (λ b. is_true w ≡ b → values.without_true (w ∷ []) ≡ without_true (w ∷ [])) [ true ↦ λ e. rw e refl | false ↦ λ e. rw e refl ] refl
+pub same_without : (w : List ℕ) → values.without_true (w ∷ []) ≡ unspelled_value (w ∷ [])
+same_without w = elim (is_true w) as (λ b. is_true w ≡ b → values.without_true (w ∷ []) ≡ unspelled_value (w ∷ [])) [ true ↦ λ e. rw e refl | false ↦ λ e. rw e refl ] refl
 
 pub given : (k : EnumKeyword) (vs : List (List ℕ)) → vs ≡ variants k → further_readings k ≡ [] → (n : ℕ) → slice_get vs n ≡ Some (word_at vs n) → (v : List (List ℕ)) → v ≡ values.without_true (word_at vs n ∷ []) → enum_gives k (variant n) ≡ Some v
-given k vs same plain n at v is = ap (option_map without_true) (word_of_place k vs same plain n ∙ ap (option_map (λ w. w ∷ [])) at) ∙ ap Some (sym (is ∙ same_without (word_at vs n)))
+given k vs same plain n at v is = ap (option_map unspelled_value) (word_of_place k vs same plain n ∙ ap (option_map (λ w. w ∷ [])) at) ∙ ap Some (sym (is ∙ same_without (word_at vs n)))
 
 -- and is read back
 all_back : (P : EnumValue → Type 0) (m n i : ℕ) (ws : List (List ℕ)) (w : List ℕ) → m + n ≡ i → AllByRecursion (λ e. P e.1) (map entry (numbered m ws)) → slice_get ws n ≡ Some w → P (variant i)

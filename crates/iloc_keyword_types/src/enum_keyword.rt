@@ -1,14 +1,6 @@
 //! Keywords with a fixed set of values, but calendars: how they are read and written.
 ghost use Rattle.std.specs.Prelude.{◌≡◌, ℕ, List, [], Some, None, codes, option_and_then};
-ghost use Rattle.iloc_spec_preferences.specs.Keywords.{
-  EnumKeyword as Keyword,
-  key as key_of_keyword,
-  variants,
-  further_readings,
-  enum_reads,
-  enum_gives,
-  or_true,
-};
+ghost use Rattle.iloc_spec_preferences.specs.Keywords.{EnumKeyword as Keyword, key as key_of_keyword, variants, further_readings, enum_reads, enum_gives};
 ghost use Rattle.iloc_spec_parts.specs.SingleValues.{single};
 ghost use Rattle.std.specs.Option.{option_copied};
 ghost use Rattle.iloc_keyword_types.specs.Reads.{
@@ -17,6 +9,7 @@ ghost use Rattle.iloc_keyword_types.specs.Reads.{
   ReadsVariant,
   GivesVariant,
 };
+ghost use Rattle.iloc_spec_grammar.specs.Values.{spelled_value};
 
 use crate::preference_key::PreferenceKey;
 use crate::word_enum::{WordEnum, find_word};
@@ -52,7 +45,7 @@ pub fn read_keyword<E: EnumKeyword>(value: &Value) -> Result<E, PreferencesParse
 
 // The word of the only subtag of the value; of the empty value it is `true`.
 fn only_word(value: &Value) -> Option<&str>
-    ensures { option_copied result ≡ single (or_true value.now) }
+    ensures { option_copied result ≡ single (spelled_value value.now) }
 {
     match value.as_subtags_slice() {
         [] => Some("true"),

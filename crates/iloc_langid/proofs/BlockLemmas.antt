@@ -17,9 +17,10 @@ use Rattle.iloc_spec_parts.specs.SmallComputing.{has_small_keyword, is_u, is_sma
 use Rattle.iloc_langid.specs.SmallLocaleReads.{Keyword}
 use Rattle.iloc_subtags.specs.declared.parse_error.ParseError.{ParseError}
 use Rattle.iloc_subtags.specs.declared.parse_error.ParseError.TheVariants.{InvalidSubtag, InvalidExtension}
-use Rattle.iloc_langid.specs.BlockReads.{refusal_of, answer_of, block_result, refusal_without_key, value_result}
+use Rattle.iloc_langid.specs.BlockReads.{answer_of, block_result, refusal_without_key, value_result}
 use Rattle.iloc_subtags.proofs.TakingLemmas.{took}
 use Rattle.std.proofs.Math.Bool.{and-false}
+use Rattle.iloc_subtags.specs.Judging.{error_of}
 
 -- a word is longer than one byte
 long_attribute : (p : List ℕ) → IsWord Attribute p → is_one_byte p ≡ false
@@ -145,7 +146,7 @@ keyless ps rest e none l is =
     no_keyword [] h = refl
     no_keyword (p ∷ ps) h = rw h refl
 
-    by : (b : Bool) → (if b then InvalidSubtag else InvalidExtension) ≡ refusal_of (if b then faults.InvalidSubtag else faults.InvalidExtension)
+    by : (b : Bool) → (if b then InvalidSubtag else InvalidExtension) ≡ error_of (if b then faults.InvalidSubtag else faults.InvalidExtension)
     by true = refl
     by false = refl
 

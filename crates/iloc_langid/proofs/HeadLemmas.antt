@@ -18,8 +18,9 @@ use Rattle.iloc_langid.proofs.SmallLemmas.{parts_whole, parts_more}
 use Rattle.iloc_subtags.specs.declared.parse_error.ParseError.{ParseError}
 use Rattle.iloc_subtags.specs.declared.parse_error.ParseError.TheVariants.{InvalidLanguage, InvalidSubtag, InvalidExtension, DuplicatedExtension, OutOfMemory}
 use Rattle.iloc_langid.specs.SmallLocaleReads.{Keyword, LocaleParts, small_locale_of, SmallLocaleReadsAs}
-use Rattle.iloc_langid.specs.BlockReads.{refusal_of, answer_of, block_result}
+use Rattle.iloc_langid.specs.BlockReads.{answer_of, block_result}
 use Rattle.iloc_langid.proofs.BlockLemmas.{blocks_past, with_keyword, blocks_read}
+use Rattle.iloc_subtags.specs.Judging.{error_of}
 
 -- a word of an identifier is longer than one byte
 
@@ -129,7 +130,7 @@ no_duplicate : (t : List ℕ) (f : Fault) → f ≡ faults.DuplicatedExtension �
 no_duplicate t f e (bad_head h) = no_duplicate_head (head (pieces t)) f e h
 no_duplicate t f e (bad_block {b = b} i n k h) = no_duplicate_block b f e h
 
-fault_reads : (t : List ℕ) (f : Fault) → HasSmallFault languages t f → SmallLocaleReadsAs t (Err (refusal_of f))
+fault_reads : (t : List ℕ) (f : Fault) → HasSmallFault languages t f → SmallLocaleReadsAs t (Err (error_of f))
 fault_reads t faults.InvalidLanguage h = h
 fault_reads t faults.InvalidSubtag h = h
 fault_reads t faults.InvalidExtension h = h
@@ -193,7 +194,7 @@ module _ (t : List ℕ) (ps rest : List (List ℕ)) (p : Parts) (e : ps ≡ piec
       where
         by : (o : Result Keyword Fault) → MatchResult (with_keyword (small_of p) o) (IsSmall languages t) (HasSmallFault languages t) → Err r ≡ answer_of o → SmallLocaleReadsAs t (Err r)
         by (Ok x) h is = cc
-        by (Err f) h is = let same : refusal_of f ≡ r = cc in subst (λ (s : ParseError). SmallLocaleReadsAs t (Err s)) same (fault_reads t f h)
+        by (Err f) h is = let same : error_of f ≡ r = cc in subst (λ (s : ParseError). SmallLocaleReadsAs t (Err s)) same (fault_reads t f h)
 
 -- its first piece is no language
 

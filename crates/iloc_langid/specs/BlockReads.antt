@@ -12,17 +12,12 @@ use Rattle.iloc_spec_parts.specs.SmallComputing.{is_small_block, keyword_read, b
 use Rattle.iloc_langid.specs.SmallLocaleReads.{Keyword}
 use Rattle.iloc_subtags.specs.declared.parse_error.ParseError.{ParseError}
 use Rattle.iloc_subtags.specs.declared.parse_error.ParseError.TheVariants.{InvalidLanguage, InvalidSubtag, InvalidExtension, DuplicatedExtension}
-
-abbrev pub refusal_of : Fault → ParseError
-refusal_of faults.InvalidLanguage = InvalidLanguage
-refusal_of faults.InvalidSubtag = InvalidSubtag
-refusal_of faults.InvalidExtension = InvalidExtension
-refusal_of faults.DuplicatedExtension = DuplicatedExtension
+use Rattle.iloc_subtags.specs.Judging.{error_of}
 
 -- the same answer, a fault by its refusal
 abbrev pub answer_of : {X : Type 0} → Result X Fault → Result X ParseError
 answer_of (Ok x) = Ok x
-answer_of (Err f) = Err (refusal_of f)
+answer_of (Err f) = Err (error_of f)
 
 -- the keyword that the pieces after a singleton are, which are all that follows it; or the fault of this block
 unfoldable pub block_result : ℕ → List Text → Result Keyword Fault

@@ -25,7 +25,7 @@ use std::fmt;
 
 /// A language, and perhaps a script, a region and variants: a `unicode_language_id` of UTS #35 section 3.1.
 ///
-/// `en-Latn-US-posix` is one. Words are kept in their normal case and variants as a set, so equal values
+/// `en-Latn-US-posix` is one. Subtags are kept in their normal case and variants as a set, so equal values
 /// are equal meanings.
 ///
 /// ```text
@@ -58,7 +58,7 @@ impl LanguageIdentifier {
 
     /// Whether this is `und` and nothing else.
     ///
-    /// In every identifier, parsed or built, all words are in the normal case of their kinds, and the variants
+    /// In every identifier, parsed or built, all subtags are in the normal case of their kinds, and the variants
     /// ascend strictly.
     pub fn is_unknown(&self) -> bool
         ensures exactly { IsTrue result ↔ (value_of self.now ≡ unknown_identifier) }
@@ -144,7 +144,7 @@ impl LanguageIdentifier {
             .then_with(|| self.variants.cmp(&other.variants))
     }
 
-    // Looks at each word, so that all are known to be normal.
+    // Looks at each subtag, so that all are known to be normal.
     fn look_at_words(&self)
         ensures { IsIdentifierValue languages (value_of self.now) }
     {
@@ -155,7 +155,7 @@ impl LanguageIdentifier {
     }
 }
 
-// Looks at the word, if there is one.
+// Looks at the subtag, if there is one.
 fn look_at<K: WordKind<N>, const N: usize>(word: &Option<WordOf<K, N>>)
     ensures { IfSome word.now (IsNormal K.kind) }
 {

@@ -14,7 +14,7 @@ use std::fmt;
 #[derive(Clone, Copy)]
 pub struct Lowercase<'a>(pub &'a LanguageIdentifier);
 
-// A word in lower case.
+// A subtag in lower case.
 #[derive(Clone, Copy)]
 struct LowerWord<const N: usize>(TinyAsciiStr<N>);
 

@@ -90,7 +90,7 @@ fn read_more_variants(
     Ok(variants)
 }
 
-// Parses the words at the front, each if it fits.
+// Parses the subtags at the front, each if it fits.
 #[inline(always)]
 fn fill(
     alloc: Global,
@@ -121,7 +121,7 @@ fn may_be_variant(iter: &SubtagIterator<'_>) -> bool
     }
 }
 
-/// Parses the longest front of an identifier's words.
+/// Parses the longest front of an identifier's subtags.
 pub fn read_front(
     alloc: Global,
     iter: &mut SubtagIterator<'_>,
@@ -133,7 +133,7 @@ pub fn read_front(
     Ok(identifier)
 }
 
-/// The same in place of what the identifier was. After a refusal it holds some of its words.
+/// The same in place of what the identifier was. After a refusal it holds some of its subtags.
 pub fn fill_front(
     alloc: Global,
     iter: &mut SubtagIterator<'_>,
@@ -157,7 +157,7 @@ pub fn read_whole(
     Ok(identifier)
 }
 
-/// The same in place of what the identifier was. After a refusal it holds some of its words.
+/// The same in place of what the identifier was. After a refusal it holds some of its subtags.
 #[inline(always)]
 pub fn fill_whole(
     alloc: Global,
@@ -205,7 +205,7 @@ pub fn read_head(
     Ok(identifier)
 }
 
-/// The same in place of what the identifier was. After a refusal it holds some of its words.
+/// The same in place of what the identifier was. After a refusal it holds some of its subtags.
 pub fn fill_head(
     alloc: Global,
     iter: &mut SubtagIterator<'_>,

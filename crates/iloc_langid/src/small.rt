@@ -23,7 +23,7 @@ use iloc_subtags::{
 /// A language, and perhaps a script, a region and one variant.
 pub type SmallParts = (Language, Option<Script>, Option<Region>, Option<Variant>);
 
-/// Takes the words at the front, each if it fits, and one variant at most. `InvalidLanguage` if the
+/// Takes the subtags at the front, each if it fits, and one variant at most. `InvalidLanguage` if the
 /// first piece is no language.
 pub fn read_small_front(iter: &mut SubtagIterator<'_>) -> Result<SmallParts, ParseError>
     ensures { SmallFrontGives (left iter.old) (left iter.new) result }

@@ -107,7 +107,7 @@ fn read_value(iter: &mut SubtagIterator<'_>) -> Result<Option<Subtag>, ParseErro
     Ok(value)
 }
 
-// Whether the word is `true`.
+// Whether the subtag is `true`.
 #[tactic(auto, unfolding(iloc_spec_grammar::specs::Words::is_true))]
 fn is_true(word: &Attribute) -> bool
     ensures { result ≡ words.is_true word.now }
@@ -115,7 +115,7 @@ fn is_true(word: &Attribute) -> bool
     word.as_str() == "true"
 }
 
-// The word as a subtag.
+// The subtag as a `Subtag`.
 #[tactic(auto, using(iloc_spec_grammar::proofs::WellRead::attribute_is_subtag))]
 fn subtag_of(word: &Attribute) -> Subtag
     ensures { result ≡ word.now }

@@ -5,3 +5,4 @@ pub mod PlaceLemmas
 pub mod PlainAnswers
 pub mod PlainLemmas
 pub mod RunLemmas
+mod FrontAnswers

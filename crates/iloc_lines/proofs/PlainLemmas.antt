@@ -33,12 +33,9 @@ same_first : (ps : List (List ℕ)) → first_piece ps ≡ first_piece (head ps)
 same_first [] = refl
 same_first (p ∷ ps) = refl
 
-no_language_answer : (mode : Mode) (t : List ℕ) → is_word (Language languages) (first_piece (pieces t)) ≡ false → line_answer mode t ≡ refusal_text InvalidLanguage
+pub no_language_answer : (mode : Mode) (t : List ℕ) → is_word (Language languages) (first_piece (pieces t)) ≡ false → line_answer mode t ≡ refusal_text InvalidLanguage
 no_language_answer Langid t h = sym (only_answer languages_table OfIdentifiers t (refusal_text InvalidLanguage) (no_identifier (not_a_language h)))
 no_language_answer Locale t h = sym (only_answer languages_table OfLocales t (refusal_text InvalidLanguage) (no_locale (faults.no_language h)))
 no_language_answer Data t h =
     sym (only_answer languages_table OfDataLocales t (refusal_text InvalidLanguage)
     (no_data_locale (not_small (small.bad_head (small.no_language (subst (λ p. is_word (Language languages) p ≡ false) (same_first (pieces t)) h))))))
-
-pub no_language_reply : (mode : Mode) (t : List ℕ) → is_word (Language languages) (first_piece (pieces t)) ≡ false → refusal_text InvalidLanguage ++ 10 ∷ [] ≡ reply mode t
-no_language_reply mode t h = ap (λ l. l ++ 10 ∷ []) (sym (no_language_answer mode t h))

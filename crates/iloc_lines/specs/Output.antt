@@ -1,5 +1,5 @@
 -- What a run writes for what it reads: the output of the definitions, by the mode.
-use Rattle.std.specs.Prelude.{ℕ, List, ◌++◌, codes, Option, IfSome}
+use Rattle.std.specs.Prelude.{◌≡◌, ℕ, List, ◌++◌, codes, Option, IfSome}
 use Rattle.std.specs.Io.{StartsWith}
 use Rattle.std.specs.Io.KnownBytes.{Appends, Consumes, IsAtEnd}
 use Rattle.iloc_spec_grammar.specs.Shapes.{Text}
@@ -29,6 +29,10 @@ output mode input = outputs.output languages (mode_of mode) input
 -- why a line has no normal text
 abbrev pub refusal_text : ParseError → Text
 refusal_text e = codes "! " ++ words_of e
+
+-- in the mode the line is refused for this reason
+abbrev pub IsRefused : Mode → Text → ParseError → Type 0
+IsRefused mode line e = line_answer mode line ≡ refusal_text e
 
 -- from one moment to another a reader gave all that it had, and a writer took the whole output for it
 pub record WritesAll (mode : Mode) (unread unread' held held' : Option Text) : Type 0 where

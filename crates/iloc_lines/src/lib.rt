@@ -12,6 +12,7 @@ ghost use Rattle.iloc_lines.specs.ReplyBlock.{held};
 ghost use Rattle.iloc_lines.specs.declared.RunError.TheVariants.{OutOfMemory};
 ghost use Rattle.iloc_lines.specs.Ending.{ending_status, ending_text, word_of};
 
+mod faults;
 mod lines;
 pub mod replies;
 pub mod reply_block;
@@ -88,6 +89,10 @@ pub trait Answers {
     ghost use Rattle.iloc_lines.specs.declared.Mode.{Mode};
 
     ghost mode: { Mode };
+
+    /// The mode.
+    fn mode(&self) -> Mode
+        ensures { result ≡ mode };
 
     /// Adds the reply to one line.
     fn reply(&mut self, line: &[u8], replies: &mut ReplyBlock) -> Result<(), AllocError>

@@ -27,11 +27,11 @@ ghost use Rattle.std.specs.Simd.Lanes.{mask_l};
 ghost use Rattle.iloc_spec_grammar.specs.Shapes.{Text};
 ghost use Rattle.memchr.specs.Find.{IsFirstByte, is_byte};
 
+use crate::faults::fault_at_front;
 use crate::replies::write_refusal;
 use crate::reply_block::ReplyBlock;
 use crate::{Answers, RunError};
-use iloc_plain::{has_no_language, read_plain};
-use iloc_subtags::ParseError;
+use iloc_plain::read_plain;
 use memchr::memchr_iter;
 use std::alloc::{AllocError, Global};
 use std::io::Write;
@@ -88,8 +88,8 @@ fn split_line(bytes: &[u8]) -> Option<(&[u8], &[u8])>
     Some((line, &later[1..]))
 }
 
-// Adds the reply to the line that this window begins with: at once if it is plain or begins with no
-// language, and else as the mode parses it.
+// Adds the reply to the line that this window begins with: at once if it is plain or refused for what
+// stands at its front, and else as the mode parses it.
 #[inline(always)]
 fn reply_to<A: Answers>(
     answers: &mut A,
@@ -104,8 +104,10 @@ fn reply_to<A: Answers>(
         if let Some(plain) = read_plain(window, line.len()) {
             return replies.push_plain(&plain);
         }
-        if has_no_language(window, line.len()) {
-            return write_refusal(ParseError::InvalidLanguage, replies);
+    }
+    if window.len() - line.len() >= 16 {
+        if let Some(error) = fault_at_front(answers.mode(), window, line) {
+            return write_refusal(error, replies);
         }
     }
     answers.reply(line, replies)

@@ -52,10 +52,10 @@ impl Locale {
     }
 
     /// Whether the text of this locale parses back as it: the others ascend by singletons of their own, each
-    /// with a word, and no value of a keyword holds `true` or a subtag of two characters.
+    /// with a subtag, and no value of a keyword holds `true` or a subtag of two characters.
     ///
     /// If it is, the text means this locale, and no other well-formed value has the same text. Every
-    /// locale, well-formed or not, parsed or built, is a value: sets and maps ascend strictly, and all words
+    /// locale, well-formed or not, parsed or built, is a value: sets and maps ascend strictly, and all subtags
     /// are in the normal case of their kinds.
     pub fn is_well_formed(&self) -> bool
         ensures exactly { IsTrue result ↔ IsWellFormed (value_of self.now) }

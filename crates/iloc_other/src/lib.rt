@@ -1,10 +1,10 @@
 //! The private extension, and the extensions that are neither unicode, transform nor private.
 //!
-//! A private extension is a list of private words, an other extension a singleton and a list of
+//! A private extension is a list of private subtags, an other extension a singleton and a list of
 //! subtags. Readers take exactly what the grammar of UTS #35, section 3, allows after a singleton,
 //! by the relations of `iloc_spec_parts`, which also say what that means for a locale. Both print as the
 //! normal text does.
-//! The crate stands on the words of `iloc_subtags`, the pieces of `iloc_subtags` and the lists of words of
+//! The crate stands on the subtags of `iloc_subtags`, the pieces of `iloc_subtags` and the lists of subtags of
 //! `iloc_word_set`.
 #![tactic(auto)]
 

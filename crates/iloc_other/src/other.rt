@@ -53,7 +53,7 @@ impl Model for Other {
 }
 
 impl Other {
-    /// The extension of these words, under this singleton.
+    /// The extension of these subtags, under this singleton.
     ///
     /// It needs an ASCII letter or digit, which is kept as it is, in its own case.
     pub fn from_vec_unchecked(ext: u8, keys: Vec<Subtag>) -> Self
@@ -103,7 +103,7 @@ impl Other {
     /// ignored.
     ///
     /// These are the other extensions of UTS #35, section 3.2, which has no pieces to drop. Anything
-    /// else is refused with `InvalidExtension`, also if no word is kept. `OutOfMemory` comes only
+    /// else is refused with `InvalidExtension`, also if no subtag is kept. `OutOfMemory` comes only
     /// if more than four are.
     pub fn try_from_utf8(alloc: Global, code_units: &[u8]) -> Result<Self, ParseError>
         ensures reads { OtherTextReads code_units.now result }
@@ -162,7 +162,7 @@ impl Other {
         Ok(other)
     }
 
-    // Adds the piece at the end if it is a word. Up to four allocate nothing.
+    // Adds the piece at the end if it is a subtag. Up to four allocate nothing.
     fn push_word(&mut self, alloc: Global, piece: &[u8]) -> Result<(), ParseError>
         ensures singleton { self.new.0 ≡ self.old.0 }
         ensures ok { OnOk result (self.new.1

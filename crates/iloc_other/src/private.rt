@@ -1,4 +1,4 @@
-//! The private extension: a list of private words.
+//! The private extension: a list of private subtags.
 ghost use Rattle.std.specs.Prelude.{◌≡◌, ℕ, List, ◌∷◌, [], ◌↔◌, IsTrue, length, slice_get, Some, Ok};
 ghost use Rattle.std.specs.List.{AllByRecursion};
 ghost use Rattle.std.specs.Option.{option_copied};
@@ -23,10 +23,10 @@ use std::alloc::{AllocError, Global};
 use std::marker::Model;
 use std::{fmt, slice};
 
-/// A word of the private extension, as `l`.
+/// A subtag of the private extension, as `l`.
 pub type Subtag = PrivateSubtag;
 
-/// The private extension: a list of private words.
+/// The private extension: a list of private subtags.
 #[derive(Drop, Debug, PartialEq, Eq, PartialOrd, Ord, Hash)]
 pub struct Private {
     words: WordList<PrivateSubtagKind, 8>,
@@ -52,7 +52,7 @@ impl Private {
         }
     }
 
-    /// The list of this one word.
+    /// The list of this one subtag.
     pub fn new_single(input: Subtag) -> Self
         ensures { result ≡ input ∷ [] }
     {
@@ -61,7 +61,7 @@ impl Private {
         }
     }
 
-    /// The list of these words.
+    /// The list of these subtags.
     pub fn from_vec_unchecked(input: Vec<Subtag>) -> Self
         ensures { result ≡ input.items }
     {
@@ -77,7 +77,7 @@ impl Private {
         self.words = WordList::new();
     }
 
-    /// The words in list order.
+    /// The subtags in list order.
     pub fn as_slice(&self) -> &[Subtag]
         ensures words { result.now ≡ self.now }
         ensures normal { AllByRecursion (IsNormal the_kind) self.now }
@@ -85,38 +85,38 @@ impl Private {
         self.words.as_slice()
     }
 
-    /// Whether there is no word.
+    /// Whether there is no subtag.
     pub fn is_empty(&self) -> bool
         ensures { IsTrue result ↔ (self.now ≡ []) }
     {
         self.as_slice().is_empty()
     }
 
-    /// How many words there are.
+    /// How many subtags there are.
     pub fn len(&self) -> usize
         ensures { result ≡ length self.now }
     {
         self.as_slice().len()
     }
 
-    /// The word at a place, `None` from the length on.
+    /// The subtag at a place, `None` from the length on.
     pub fn get(&self, index: usize) -> Option<&Subtag>
         ensures { option_copied result ≡ slice_get self.now index }
     {
         self.as_slice().get(index)
     }
 
-    /// The first word, if there is one.
+    /// The first subtag, if there is one.
     pub fn first(&self) -> Option<&Subtag>
         ensures { option_copied result ≡ slice_get self.now 0 }
     {
         self.as_slice().first()
     }
 
-    /// Parses `x` in either case and all the rest, which must be private words, one at least.
+    /// Parses `x` in either case and all the rest, which must be private subtags, one at least.
     ///
     /// This is the private use extension of UTS #35, section 3.2. Anything else is refused with
-    /// `InvalidExtension`. `OutOfMemory` comes only if there are more than four words.
+    /// `InvalidExtension`. `OutOfMemory` comes only if there are more than four subtags.
     pub fn try_from_utf8(alloc: Global, code_units: &[u8]) -> Result<Self, ParseError>
         ensures reads { PrivateTextReads code_units.now result }
         ensures accepted { (ws : List Text) → PrivateText code_units.now ws
@@ -161,7 +161,7 @@ impl Private {
         Ok(words)
     }
 
-    /// The words in list order.
+    /// The subtags in list order.
     pub fn iter(&self) -> slice::Iter<'_, Subtag>
         ensures { iter_rest result ≡ self.now }
     {
@@ -170,7 +170,7 @@ impl Private {
 }
 
 /// What `Private::try_from_iter` reads, into an empty list, for parsers of whole locales. After a refusal it
-/// holds the words before the fault.
+/// holds the subtags before the fault.
 pub fn fill_private(
     alloc: Global,
     iter: &mut SubtagIterator<'_>,
@@ -207,7 +207,7 @@ impl Clone for Private {
     }
 }
 
-/// The pieces are `x` and the words; an empty list has none.
+/// The pieces are `x` and the subtags; an empty list has none.
 impl Pieces for Private {
     ghost pieces = { private_spelling };
 
@@ -224,7 +224,7 @@ impl Pieces for Private {
     }
 }
 
-/// `x` and the words; an empty list prints nothing.
+/// `x` and the subtags; an empty list prints nothing.
 impl Writeable for Private {
     ghost text = { private_text };
 

@@ -1,26 +1,35 @@
-//! Plain identifiers, told and written at once, without a value being built.
+//! What lines are, told at once, without a value being built.
 //!
 //! A text is plain here if it is a language, perhaps a script and a region, and nothing else, in at
 //! most sixteen bytes: `de`, `en-us`, `zh-HANT-tw`, `es-419`. Most identifiers in use are plain.
+//! `read_plain` promises that a text for which it returns `Some` means the identifier of these subtags,
+//! by the grammar (`IsPlain`), and that the bytes begin with its normal text.
 //!
-//! It promises that a text for which a parser returns `Some` means the identifier of these subtags, by
-//! the grammar (`IsPlain`), and that the bytes begin with its normal text. `None` says nothing: the
-//! caller parses the text as it would without this crate. So each caller keeps its own contract, and a
-//! shape that is not told here costs time and nothing else.
+//! Of any line `read_front` tells the front: no language, a piece that fits nowhere, or the first block
+//! (`IsFront`). That is enough to refuse most lines that are no identifiers.
 //!
-//! Two steps tell all shapes. The first hyphen ends the language. What follows has one of six shapes,
-//! and its length says which (`tail`): a row of a table says where letters, hyphens and digits are
-//! wanted, and which letters are turned to upper case. docs/ARCHITECTURE.md says how to add a shape.
+//! `None` and `Front::Other` say nothing: the caller parses the text as it would without this crate. So
+//! each caller keeps its own contract, and a shape that is not told here costs time and nothing else.
+//!
+//! Two steps tell all plain shapes. The first hyphen ends the language. What follows has one of six
+//! shapes, and its length says which (`tail`): a row of a table says where letters, hyphens and digits
+//! are wanted, and which letters are turned to upper case. The front is read a piece at a time: sixteen
+//! bytes from a piece on tell its length and whether it is a word (`run`, `words`).
+//! docs/ARCHITECTURE.md says how to add a shape.
 #![tactic(auto)]
 
+pub mod front;
+pub mod keyword;
 mod lanes;
-mod language;
 mod load;
 mod marks;
 pub mod plain;
 mod read;
+mod run;
 mod tail;
+mod words;
 
-pub use language::has_no_language;
+pub use front::{Block, Front, read_front};
+pub use keyword::{Keyword, read_keyword};
 pub use plain::Plain;
 pub use read::{read_plain, read_plain_text};

@@ -2,7 +2,7 @@
 use iloc_data_parts::DataParts;
 use iloc_langid::LanguageIdentifier;
 use iloc_langid::reader::{fill_head, fill_whole};
-use iloc_lines::{Answers, ReplyBlock, write_refusal, write_text};
+use iloc_lines::{Answers, Mode, ReplyBlock, write_refusal, write_text};
 use iloc_locale::Locale;
 use iloc_locale::locale::read_rest;
 use iloc_subtags::SubtagIterator;
@@ -28,6 +28,11 @@ impl Answers for Identifiers {
     ghost use Rattle.iloc_lines.specs.declared.Mode.TheVariants.{Langid};
 
     ghost mode = { Langid };
+
+    #[inline(always)]
+    fn mode(&self) -> Mode {
+        Mode::Langid
+    }
 
     #[inline(always)]
     fn reply(&mut self, line: &[u8], replies: &mut ReplyBlock) -> Result<(), AllocError> {
@@ -60,6 +65,11 @@ impl Answers for Locales {
 
     ghost mode = { Locale };
 
+    #[inline(always)]
+    fn mode(&self) -> Mode {
+        Mode::Locale
+    }
+
     // Extensions are touched only if a block comes.
     fn reply(&mut self, line: &[u8], replies: &mut ReplyBlock) -> Result<(), AllocError> {
         let mut iter = SubtagIterator::new(line);
@@ -84,6 +94,11 @@ impl Answers for DataLocales {
     ghost use Rattle.iloc_lines.specs.declared.Mode.TheVariants.{Data};
 
     ghost mode = { Data };
+
+    #[inline(always)]
+    fn mode(&self) -> Mode {
+        Mode::Data
+    }
 
     fn reply(&mut self, line: &[u8], replies: &mut ReplyBlock) -> Result<(), AllocError> {
         match DataParts::try_from_utf8(line) {

@@ -10,7 +10,7 @@ use Rattle.iloc_spec_grammar.specs.Written.{Unicode, Transform, Extension, unico
 use Rattle.iloc_spec_grammar.specs.Meaning.{Locale, Extensions, Means, extensions_meaning, map_of, no_unicode, no_transform, unicode_part, transform_part, private_part, other_part, by_singleton, normal_unicode, normal_transform}
 use Rattle.iloc_spec_grammar.specs.Faults.{IsBlock, HasSingleton}
 use Rattle.iloc_spec_grammar.specs.Blocks.{head, tail_blocks}
-use Rattle.iloc_spec_grammar.specs.ByBlocks.{UnicodeMeans, TransformMeans, PrivateMeans, OtherMeans, by_letter, other_blocks, grammar_rules, PartIs, BlocksGive, MeansByBlocks}
+use Rattle.iloc_spec_grammar.specs.ByBlocks.{UnicodeMeans, TransformMeans, PrivateMeans, OtherMeans, other_blocks, grammar_rules, PartIs, BlocksGive, MeansByBlocks}
 use Rattle.iloc_spec_grammar.proofs.Readings.{head-spelling, blocks-spelling, unicode_of-pieces, transform_of-pieces}
 use Rattle.iloc_spec_grammar.specs.Reading.{unicode_of, transform_of}
 use Rattle.iloc_spec_grammar.proofs.IdentifierLaws.{one_meaning}
@@ -25,13 +25,13 @@ or_else : {X : Type 0} → Option X → Option X → Option X
 or_else None p = p
 or_else (Some x) p = Some x
 
-find_block : (q : ℕ) (es : List (ℕ × Extension)) (x : Option (ℕ × List (List ℕ))) → find nat_cmp q (by_letter (map extension_block es ++ option_to_list x)) ≡ or_else (option_map extension_pieces (find nat_cmp q (by_singleton es))) (find nat_cmp q (by_letter (option_to_list x)))
+find_block : (q : ℕ) (es : List (ℕ × Extension)) (x : Option (ℕ × List (List ℕ))) → find nat_cmp q (by_singleton (map extension_block es ++ option_to_list x)) ≡ or_else (option_map extension_pieces (find nat_cmp q (by_singleton es))) (find nat_cmp q (by_singleton (option_to_list x)))
 unfolding or_else
 find_block q [] x = refl
 find_block q (e ∷ es) x = ap (cond (eq_by_cmp nat_cmp q (singleton e)) (Some (extension_pieces e.1))) (find_block q es x)
-    ∙ elim (eq_by_cmp nat_cmp q (singleton e)) as (λ b. cond b (Some (extension_pieces e.1)) (or_else (option_map extension_pieces (find nat_cmp q (by_singleton es))) (find nat_cmp q (by_letter (option_to_list x)))) ≡ or_else (option_map extension_pieces (cond b (Some e.1) (find nat_cmp q (by_singleton es)))) (find nat_cmp q (by_letter (option_to_list x)))) [ true ↦ refl | false ↦ refl ]
+    ∙ elim (eq_by_cmp nat_cmp q (singleton e)) as (λ b. cond b (Some (extension_pieces e.1)) (or_else (option_map extension_pieces (find nat_cmp q (by_singleton es))) (find nat_cmp q (by_singleton (option_to_list x)))) ≡ or_else (option_map extension_pieces (cond b (Some e.1) (find nat_cmp q (by_singleton es)))) (find nat_cmp q (by_singleton (option_to_list x)))) [ true ↦ refl | false ↦ refl ]
 
-no_private : (q : ℕ) → q ≢ 120 → (x : Option (ℕ × List (List ℕ))) → IfSome x (λ e. (singleton e ≡ 120) × IsPrivate e.1) → find nat_cmp q (by_letter (option_to_list x)) ≡ None
+no_private : (q : ℕ) → q ≢ 120 → (x : Option (ℕ × List (List ℕ))) → IfSome x (λ e. (singleton e ≡ 120) × IsPrivate e.1) → find nat_cmp q (by_singleton (option_to_list x)) ≡ None
 no_private q n None h = refl
 no_private q n (Some b) h = ap (λ t. cond t (Some b.1) None) (untied q (singleton b) (λ e. n (sym e ∙ h.0)))
 
@@ -51,7 +51,7 @@ transform_by T (Some (transform m)) h p e = record { written = m; grammatical = 
 transform_by T (Some (unicode u)) h p e = absurd (let k = h.0 in omega arith)
 transform_by T (Some (other ps)) h p e = absurd (true≢false (sym h.0))
 
-private_by : (T : ℕ → Bool) (o : Option Extension) → IfSome o (IsExtension T 120) → (x : Option (ℕ × List (List ℕ))) → IfSome x (λ e. (singleton e ≡ 120) × IsPrivate e.1) → PartIs PrivateMeans [] (or_else (option_map extension_pieces o) (find nat_cmp 120 (by_letter (option_to_list x)))) (private_part x)
+private_by : (T : ℕ → Bool) (o : Option Extension) → IfSome o (IsExtension T 120) → (x : Option (ℕ × List (List ℕ))) → IfSome x (λ e. (singleton e ≡ 120) × IsPrivate e.1) → PartIs PrivateMeans [] (or_else (option_map extension_pieces o) (find nat_cmp 120 (by_singleton (option_to_list x)))) (private_part x)
 unfolding or_else
 private_by T None h None k = refl
 private_by T None h (Some b) k = subst (λ (c : ℕ). PartIs PrivateMeans [] (cond (eq_by_cmp nat_cmp 120 c) (Some b.1) None) (map lower b.1)) (sym k.0) (k.1, refl)
@@ -66,19 +66,19 @@ kept_of b = (b.0, kept b.1)
 abbrev KeepsWords : ℕ × List (List ℕ) → Type 0
 KeepsWords b = OtherMeans b.1 (kept b.1)
 
-no_others_private : (x : Option (ℕ × List (List ℕ))) → IfSome x (λ e. (singleton e ≡ 120) × IsPrivate e.1) → other_blocks (by_letter (option_to_list x)) ≡ []
+no_others_private : (x : Option (ℕ × List (List ℕ))) → IfSome x (λ e. (singleton e ≡ 120) × IsPrivate e.1) → other_blocks (by_singleton (option_to_list x)) ≡ []
 no_others_private None h = refl
 no_others_private (Some b) h = ap (λ c. cond (is_other_singleton c) ((singleton b, b.1) ∷ []) []) h.0
 
 others_by : (T : ℕ → Bool) (es : List (ℕ × Extension)) (x : Option (ℕ × List (List ℕ))) → AllByRecursion (λ e. IsExtension T (singleton e) e.1) es → IfSome x (λ e. (singleton e ≡ 120) × IsPrivate e.1) →
-    (filter_map other_part (by_singleton es) ≡ map kept_of (other_blocks (by_letter (map extension_block es ++ option_to_list x)))) × AllByRecursion KeepsWords (other_blocks (by_letter (map extension_block es ++ option_to_list x)))
+    (filter_map other_part (by_singleton es) ≡ map kept_of (other_blocks (by_singleton (map extension_block es ++ option_to_list x)))) × AllByRecursion KeepsWords (other_blocks (by_singleton (map extension_block es ++ option_to_list x)))
 others_by T [] x h k = (ap (map kept_of) (sym (no_others_private x k)), subst (AllByRecursion KeepsWords) (sym (no_others_private x k)) tt)
 others_by T (e ∷ es) x h k = at_kind e.1 h.0 (others_by T es x h.1 k)
   where
     Goal : Extension → Type 0
-    Goal f = (filter_map other_part ((singleton e, f) ∷ by_singleton es) ≡ map kept_of (other_blocks ((singleton e, extension_pieces f) ∷ by_letter (map extension_block es ++ option_to_list x)))) × AllByRecursion KeepsWords (other_blocks ((singleton e, extension_pieces f) ∷ by_letter (map extension_block es ++ option_to_list x)))
+    Goal f = (filter_map other_part ((singleton e, f) ∷ by_singleton es) ≡ map kept_of (other_blocks ((singleton e, extension_pieces f) ∷ by_singleton (map extension_block es ++ option_to_list x)))) × AllByRecursion KeepsWords (other_blocks ((singleton e, extension_pieces f) ∷ by_singleton (map extension_block es ++ option_to_list x)))
 
-    at_kind : (f : Extension) → IsExtension T (singleton e) f → (filter_map other_part (by_singleton es) ≡ map kept_of (other_blocks (by_letter (map extension_block es ++ option_to_list x)))) × AllByRecursion KeepsWords (other_blocks (by_letter (map extension_block es ++ option_to_list x))) → Goal f
+    at_kind : (f : Extension) → IsExtension T (singleton e) f → (filter_map other_part (by_singleton es) ≡ map kept_of (other_blocks (by_singleton (map extension_block es ++ option_to_list x)))) × AllByRecursion KeepsWords (other_blocks (by_singleton (map extension_block es ++ option_to_list x))) → Goal f
     at_kind (unicode u) r rest = rw r.0 rest
     at_kind (transform m) r rest = rw r.0 rest
     at_kind (other ps) r rest = rw r.0 (ap (λ l. (singleton e, kept ps) ∷ l) rest.0, ((r.1, refl), rest.1))
@@ -106,19 +106,19 @@ means_by_blocks T table t M m = subst (MeansByBlocks T t) (sym m.means) (record 
 abbrev RuleAt : (ℕ → Bool) → ℕ → List (List ℕ) → Type 0
 RuleAt T q ps = ((q ≡ 120) × IsPrivate ps) ⊎ ((e : Extension) × IsExtension T q e × (ps ≡ extension_pieces e))
 
-find_later : (P : List (List ℕ) → Type 0) (q : ℕ) (b : ℕ × List (List ℕ)) (bs : List (ℕ × List (List ℕ))) → list_any (eq_by_cmp nat_cmp (singleton b)) (map (λ b. singleton b) bs) ≡ false → IfSome (find nat_cmp q (by_letter (b ∷ bs))) P → IfSome (find nat_cmp q (by_letter bs)) P
-find_later P q b bs d h = (elim (eq_by_cmp nat_cmp q (singleton b)) as (λ t. eq_by_cmp nat_cmp q (singleton b) ≡ t → IfSome (cond t (Some b.1) (find nat_cmp q (by_letter bs))) P → IfSome (find nat_cmp q (by_letter bs)) P) [
+find_later : (P : List (List ℕ) → Type 0) (q : ℕ) (b : ℕ × List (List ℕ)) (bs : List (ℕ × List (List ℕ))) → list_any (eq_by_cmp nat_cmp (singleton b)) (map (λ b. singleton b) bs) ≡ false → IfSome (find nat_cmp q (by_singleton (b ∷ bs))) P → IfSome (find nat_cmp q (by_singleton bs)) P
+find_later P q b bs d h = (elim (eq_by_cmp nat_cmp q (singleton b)) as (λ t. eq_by_cmp nat_cmp q (singleton b) ≡ t → IfSome (cond t (Some b.1) (find nat_cmp q (by_singleton bs))) P → IfSome (find nat_cmp q (by_singleton bs)) P) [
   | true ↦ λ t h. subst (λ (o : Option (List (List ℕ))). IfSome o P) (sym (none_found bs (subst (λ (c : ℕ). list_any (eq_by_cmp nat_cmp c) (map (λ b. singleton b) bs) ≡ false) (tied q (singleton b) t) d))) tt
   | false ↦ λ t h. h
 ]) refl h
   where
-    none_found : (bs : List (ℕ × List (List ℕ))) → list_any (eq_by_cmp nat_cmp q) (map (λ b. singleton b) bs) ≡ false → find nat_cmp q (by_letter bs) ≡ None
+    none_found : (bs : List (ℕ × List (List ℕ))) → list_any (eq_by_cmp nat_cmp q) (map (λ b. singleton b) bs) ≡ false → find nat_cmp q (by_singleton bs) ≡ None
     none_found [] d = refl
-    none_found (b ∷ bs) d = let parts = or_parts _ _ d in ap (λ t. cond t (Some b.1) (find nat_cmp q (by_letter bs))) parts.0 ∙ none_found bs parts.1
+    none_found (b ∷ bs) d = let parts = or_parts _ _ d in ap (λ t. cond t (Some b.1) (find nat_cmp q (by_singleton bs))) parts.0 ∙ none_found bs parts.1
 
-each_block : (P : ℕ → List (List ℕ) → Type 0) (bs : List (ℕ × List (List ℕ))) → AllDifferent nat_cmp (map (λ b. singleton b) bs) → ((q : ℕ) → IfSome (find nat_cmp q (by_letter bs)) (P q)) → AllByRecursion (λ b. P (singleton b) b.1) bs
+each_block : (P : ℕ → List (List ℕ) → Type 0) (bs : List (ℕ × List (List ℕ))) → AllDifferent nat_cmp (map (λ b. singleton b) bs) → ((q : ℕ) → IfSome (find nat_cmp q (by_singleton bs)) (P q)) → AllByRecursion (λ b. P (singleton b) b.1) bs
 each_block P [] d f = tt
-each_block P (b ∷ bs) d f = (subst (λ (t : Bool). IfSome (cond t (Some b.1) (find nat_cmp (singleton b) (by_letter bs))) (P (singleton b))) (self_tied (singleton b)) (f (singleton b)), each_block P bs d.1 (λ q. find_later (P q) q b bs d.0 (f q)))
+each_block P (b ∷ bs) d f = (subst (λ (t : Bool). IfSome (cond t (Some b.1) (find nat_cmp (singleton b) (by_singleton bs))) (P (singleton b))) (self_tied (singleton b)) (f (singleton b)), each_block P bs d.1 (λ q. find_later (P q) q b bs d.0 (f q)))
 
 -- only the rule of its singleton
 abbrev KnownAt : (ℕ → Bool) → ℕ → List (List ℕ) → Type 0
@@ -138,9 +138,9 @@ known T q f u t x = both (f q) (at q 117 u) (at q 116 t) (at q 120 x)
     both None a b c = tt
     both (Some ps) a b c = (a, b, c)
 
-others_each : (bs : List (ℕ × List (List ℕ))) → AllByRecursion KeepsWords (other_blocks (by_letter bs)) → AllByRecursion (λ b. is_other_singleton (singleton b) ≡ true → IsOther b.1) bs
+others_each : (bs : List (ℕ × List (List ℕ))) → AllByRecursion KeepsWords (other_blocks (by_singleton bs)) → AllByRecursion (λ b. is_other_singleton (singleton b) ≡ true → IsOther b.1) bs
 others_each [] h = tt
-others_each (b ∷ bs) h = (elim (is_other_singleton (singleton b)) as (λ t. is_other_singleton (singleton b) ≡ t → AllByRecursion KeepsWords (cond t ((singleton b, b.1) ∷ other_blocks (by_letter bs)) (other_blocks (by_letter bs))) → AllByRecursion (λ b. is_other_singleton (singleton b) ≡ true → IsOther b.1) (b ∷ bs)) [
+others_each (b ∷ bs) h = (elim (is_other_singleton (singleton b)) as (λ t. is_other_singleton (singleton b) ≡ t → AllByRecursion KeepsWords (cond t ((singleton b, b.1) ∷ other_blocks (by_singleton bs)) (other_blocks (by_singleton bs))) → AllByRecursion (λ b. is_other_singleton (singleton b) ≡ true → IsOther b.1) (b ∷ bs)) [
   | true ↦ λ t h. ((λ _. h.0.0), others_each bs h.1)
   | false ↦ λ t h. ((λ e. absurd (true≢false (sym e ∙ t))), others_each bs h)
 ]) refl h
@@ -153,7 +153,7 @@ rule_of T b k o (another e) = inr (other b.1, (e, o e), refl)
 
 blocks_good : (T : ℕ → Bool) (bs : List (ℕ × List (List ℕ))) (e : Extensions) → BlocksGive (grammar_rules T) bs e → AreGood T [] bs
 blocks_good T bs e m =
-    let known_each = each_block (KnownAt T) bs m.different (λ q. known T q (λ q. find nat_cmp q (by_letter bs))
+    let known_each = each_block (KnownAt T) bs m.different (λ q. known T q (λ q. find nat_cmp q (by_singleton bs))
     (part_rule T 117 UnicodeMeans (λ ps v h. inr (unicode h.written, (refl, h.grammatical), h.spelled)) no_unicode _ e.unicode m.unicode)
     (part_rule T 116 (TransformMeans T) (λ ps v h. inr (transform h.written, (refl, h.grammatical), h.spelled)) no_transform _ e.transform m.transform)
     (part_rule T 120 PrivateMeans (λ ps v h. inl (refl, h.0)) [] _ e.private m.private)) in

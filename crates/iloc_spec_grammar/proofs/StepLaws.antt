@@ -10,7 +10,7 @@ use Rattle.std.proofs.lemmas.Bool.{or_parts, or_from, not-true}
 use Rattle.iloc_spec_grammar.specs.Words.{Variant, Subtag, UnicodeKey, TransformKey, Attribute, is_word, IsWord, lower, word_cmp, is_true}
 use Rattle.iloc_spec_grammar.specs.Written.{Identifier, Fields, Extension, other, Written, IsIdentifier, IsKeyword, IsField, kept, IsExtension, singleton, IsWritten, AllDifferent}
 use Rattle.iloc_spec_grammar.specs.Meaning.{map_of, set_of, normal_identifier, normal_values, normal_fields, unicode_part, transform_part, private_part, other_part, by_singleton, meaning}
-use Rattle.iloc_spec_grammar.specs.Steps.{Reordered, Without, WithoutRepeats, LessTrue, keys_differ, Rule, IdentifierStep, ExtensionStep, Step, after_u, after_t}
+use Rattle.iloc_spec_grammar.specs.Steps.{Reordered, Without, WithoutRepeats, LessTrue, keys_differ, Rule, IdentifierStep, ExtensionStep, Step, unicode_extension, transform_extension}
 use Rattle.iloc_spec_grammar.proofs.MapLaws.{map_of_same, word_cmp_total, same_words}
 use Rattle.iloc_spec_grammar.proofs.Orders.{all_reordered, map_reordered, different_reordered, find_reordered, set_of_reordered, map_repeats, all_repeats, all_without, filter_without, itself}
 use Rattle.iloc_spec_grammar.proofs.General.{map-zip, all_zip, zip_weaker}
@@ -82,14 +82,14 @@ repeated_attributes {vs = vs} {ws = ws} r =
 -- a step in what follows `u`, or in what follows `t`, by its two parts
 
 unicode_step : (T : ℕ → Bool) (c : ℕ) (vs ws : List (List ℕ)) (fs gs : Fields) → (AllByRecursion (IsWord Attribute) vs → AllByRecursion (IsWord Attribute) ws) → (AllByRecursion IsKeyword fs → AllByRecursion IsKeyword gs) → (0 < length vs + length fs → 0 < length ws + length gs) → set_of (map lower ws) ≡ set_of (map lower vs) → normal_fields gs ≡ normal_fields fs
-    → IsExtension T c (after_u vs fs) → IsExtension T c (after_u ws gs) × SameParts (after_u vs fs) (after_u ws gs)
+    → IsExtension T c (unicode_extension vs fs) → IsExtension T c (unicode_extension ws gs) × SameParts (unicode_extension vs fs) (unicode_extension ws gs)
 unicode_step T c vs ws fs gs a k n p q h = (
   (h.0, record { attributes = a h.1.attributes; keywords = k h.1.keywords; nonempty = n h.1.nonempty }),
   record { u = λ i. record { attributes = p i; keywords = q i }; t = refl; o = λ c. refl },
 )
 
 fields_step : (T : ℕ → Bool) (c : ℕ) (i : Option Identifier) (fs gs : Fields) → (AllByRecursion IsField fs → AllByRecursion IsField gs) → (0 < length fs → 0 < length gs) → normal_fields gs ≡ normal_fields fs
-    → IsExtension T c (after_t i fs) → IsExtension T c (after_t i gs) × SameParts (after_t i fs) (after_t i gs)
+    → IsExtension T c (transform_extension i fs) → IsExtension T c (transform_extension i gs) × SameParts (transform_extension i fs) (transform_extension i gs)
 fields_step T c i fs gs k n q h = (
   (h.0, record { id = h.1.id; fields = k h.1.fields; nonempty = λ e. n (h.1.nonempty e) }),
   record { u = refl; t = λ k. record { id = option_map normal_identifier i; fields = q k }; o = λ c. refl },

@@ -10,7 +10,7 @@ use Rattle.iloc_spec_grammar.specs.Shapes.{Text, Table, Block, code_t, code_u, c
 use Rattle.iloc_spec_grammar.specs.Pieces.{pieces}
 use Rattle.iloc_spec_grammar.specs.Words.{lower}
 use Rattle.iloc_spec_grammar.specs.Written.{Unicode, Transform, unicode_pieces, transform_pieces, IsUnicode, IsTransform, IsOther, IsPrivate, kept, is_other_singleton, AllDifferent, singleton}
-use Rattle.iloc_spec_grammar.specs.Meaning.{Locale, Extensions, IdentifierMeans, map_of, normal_unicode, normal_transform, no_unicode, no_transform}
+use Rattle.iloc_spec_grammar.specs.Meaning.{Locale, Extensions, IdentifierMeans, map_of, normal_unicode, normal_transform, no_unicode, no_transform, by_singleton}
 use Rattle.iloc_spec_grammar.specs.Blocks.{head, tail_blocks}
 
 -- The rules of the grammar: what the pieces after a singleton mean.
@@ -54,10 +54,6 @@ grammar_rules T = record {
 
 -- Blocks and what they give by such rules.
 
--- blocks by their singletons, in lower case
-abbrev pub by_letter : List Block → List Block
-by_letter bs = map (λ b. (singleton b, b.1)) bs
-
 -- the blocks of other extensions
 abbrev pub other_blocks : List Block → List Block
 other_blocks bs = filter (λ b. is_other_singleton b.0) bs
@@ -71,12 +67,12 @@ PartIs Rule empty block v = MatchOption block (v ≡ empty) (λ ps. Rule ps v)
 pub record BlocksGive (R : Rules) (bs : List Block) (e : Extensions) : Type 0 where
   pub letters : AllByRecursion (λ b. is_ascii_alphanumeric b.0 ≡ true) bs
   pub different : AllDifferent nat_cmp (map (λ b. singleton b) bs)
-  pub unicode : PartIs R.unicode no_unicode (find nat_cmp code_u (by_letter bs)) e.unicode
-  pub transform : PartIs R.transform no_transform (find nat_cmp code_t (by_letter bs)) e.transform
-  pub private : PartIs R.private [] (find nat_cmp code_x (by_letter bs)) e.private
-  pub each_other : AllByRecursion (λ b. R.other b.1 (kept b.1)) (other_blocks (by_letter bs))
+  pub unicode : PartIs R.unicode no_unicode (find nat_cmp code_u (by_singleton bs)) e.unicode
+  pub transform : PartIs R.transform no_transform (find nat_cmp code_t (by_singleton bs)) e.transform
+  pub private : PartIs R.private [] (find nat_cmp code_x (by_singleton bs)) e.private
+  pub each_other : AllByRecursion (λ b. R.other b.1 (kept b.1)) (other_blocks (by_singleton bs))
   pub others : e.others
-      ≡ map_of nat_cmp (map (λ b. (b.0, kept b.1)) (other_blocks (by_letter bs)))
+      ≡ map_of nat_cmp (map (λ b. (b.0, kept b.1)) (other_blocks (by_singleton bs)))
 
 -- by the rules of the grammar
 abbrev pub BlocksMean : Table → List Block → Extensions → Type 0

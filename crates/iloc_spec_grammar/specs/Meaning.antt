@@ -103,7 +103,7 @@ other_part (c, other ps) = Some (c, kept ps)
 other_part _ = None
 
 -- extensions by their singletons in lower case (UTS #35 3.2.1)
-abbrev pub by_singleton : List (ℕ × Extension) → List (ℕ × Extension)
+abbrev pub by_singleton : {X : Type 0} → List (ℕ × X) → List (ℕ × X)
 by_singleton es = map (λ e. (singleton e, e.1)) es
 
 -- the parts are those of `u`, of `t`, of the private part and of the others

@@ -65,12 +65,12 @@ pub data IdentifierStep : Rule → Identifier → Identifier → Type 0 where
       → IdentifierStep VariantOrder (with_variants l s r vs) (with_variants l s r ws)
 
 -- what follows `u`, and what follows `t`
-abbrev pub after_u : List Text → Fields → Extension
-after_u vs fs = unicode (record { attributes = vs; keywords = fs })
+abbrev pub unicode_extension : List Text → Fields → Extension
+unicode_extension vs fs = unicode (record { attributes = vs; keywords = fs })
 
 -- the extension of `t` with this identifier and these fields
-abbrev pub after_t : Option Identifier → Fields → Extension
-after_t i fs = transform (record { id = i; fields = fs })
+abbrev pub transform_extension : Option Identifier → Fields → Extension
+transform_extension i fs = transform (record { id = i; fields = fs })
 
 -- a step inside an extension: fields are reordered only if all keys differ; a field of `t` keeps
 -- a value
@@ -78,30 +78,30 @@ pub data ExtensionStep : Rule → Extension → Extension → Type 0 where
   same : {r : Rule} {e : Extension} → ExtensionStep r e e
   -- `t-en-posix-macos` to `t-en-macos-posix`
   identifier : {r : Rule} {i j : Identifier} {fs : Fields} → IdentifierStep r i j
-      → ExtensionStep r (after_t (Some i) fs) (after_t (Some j) fs)
+      → ExtensionStep r (transform_extension (Some i) fs) (transform_extension (Some j) fs)
   -- `u-foo-bar` to `u-bar-foo`
   attribute_order : {vs ws : List Text} {fs : Fields} → Reordered vs ws
-      → ExtensionStep AttributeOrder (after_u vs fs) (after_u ws fs)
+      → ExtensionStep AttributeOrder (unicode_extension vs fs) (unicode_extension ws fs)
   -- `u-hc-h12-ca-foo` to `u-ca-foo-hc-h12`
   keyword_order : {vs : List Text} {fs gs : Fields} → keys_differ fs → Reordered fs gs
-      → ExtensionStep FieldOrder (after_u vs fs) (after_u vs gs)
+      → ExtensionStep FieldOrder (unicode_extension vs fs) (unicode_extension vs gs)
   -- `t-m0-foo-h0-bar` to `t-h0-bar-m0-foo`
   field_order : {i : Option Identifier} {fs gs : Fields} → keys_differ fs → Reordered fs gs
-      → ExtensionStep FieldOrder (after_t i fs) (after_t i gs)
+      → ExtensionStep FieldOrder (transform_extension i fs) (transform_extension i gs)
   -- `u-foo-FOO-ca-foo-ca-bar` to `u-foo-ca-foo`
   unicode_repeats : {vs ws : List Text} {fs gs : Fields} → WithoutRepeats (λ a. a) [] vs ws
       → WithoutRepeats (λ f. f.0) [] fs gs
-      → ExtensionStep Repeats (after_u vs fs) (after_u ws gs)
+      → ExtensionStep Repeats (unicode_extension vs fs) (unicode_extension ws gs)
   -- `t-m0-foo-m0-bar` to `t-m0-foo`
   transform_repeats : {i : Option Identifier} {fs gs : Fields} → WithoutRepeats (λ f. f.0) [] fs gs
-      → ExtensionStep Repeats (after_t i fs) (after_t i gs)
+      → ExtensionStep Repeats (transform_extension i fs) (transform_extension i gs)
   -- `u-ca-foo-true` to `u-ca-foo`
   unicode_trues : {vs : List Text} {fs gs : Fields} → AllZip LessTrue fs gs
-      → ExtensionStep Trues (after_u vs fs) (after_u vs gs)
+      → ExtensionStep Trues (unicode_extension vs fs) (unicode_extension vs gs)
   -- `t-m0-foo-true` to `t-m0-foo`
   transform_trues : {i : Option Identifier} {fs gs : Fields}
       → AllZip (λ f g. LessTrue f g × (0 < length g.1)) fs gs
-      → ExtensionStep Trues (after_t i fs) (after_t i gs)
+      → ExtensionStep Trues (transform_extension i fs) (transform_extension i gs)
   -- `a-foo-!!-bar` to `a-foo-bar`
   dropped_pieces : {ps qs : List Text} → Without (λ p. not (is_word Subtag p)) ps qs
       → ExtensionStep DroppedPieces (other ps) (other qs)

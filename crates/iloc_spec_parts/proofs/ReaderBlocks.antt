@@ -8,10 +8,10 @@ use Rattle.std.proofs.lemmas.Bool.{cond_both, eqb-true}
 use Rattle.iloc_spec_grammar.specs.Pieces.{pieces}
 use Rattle.iloc_spec_grammar.specs.Words.{IsTable}
 use Rattle.iloc_spec_grammar.specs.Written.{Unicode, Transform, kept, is_other_singleton, singleton}
-use Rattle.iloc_spec_grammar.specs.Meaning.{Locale, Extensions, Means, no_unicode, no_transform}
+use Rattle.iloc_spec_grammar.specs.Meaning.{Locale, Extensions, Means, no_unicode, no_transform, by_singleton}
 use Rattle.iloc_spec_grammar.specs.Faults.{Fault}
 use Rattle.iloc_spec_grammar.specs.Blocks.{is_one_byte, front, blocks, tail_blocks}
-use Rattle.iloc_spec_grammar.specs.ByBlocks.{UnicodeMeans, TransformMeans, OtherMeans, Rules, grammar_rules, by_letter, other_blocks, PartIs, BlocksGive, MeansBy}
+use Rattle.iloc_spec_grammar.specs.ByBlocks.{UnicodeMeans, TransformMeans, OtherMeans, Rules, grammar_rules, other_blocks, PartIs, BlocksGive, MeansBy}
 use Rattle.iloc_spec_grammar.specs.Reading.{from_block}
 use Rattle.iloc_spec_grammar.proofs.ValuesLaws.{all_weaker, all_both}
 use Rattle.iloc_spec_grammar.proofs.BlockLaws.{means_by_blocks, blocks_mean}
@@ -52,13 +52,13 @@ closed_of : (q : ℕ) → q ≢ 120 → (c : ℕ) (ps : List (List ℕ)) → c �
 closed_of q n c ps e (inl x) = absurd (n (sym e ∙ x))
 closed_of q n c ps e (inr h) = h
 
-found_closed : (q : ℕ) → q ≢ 120 → (bs : List (ℕ × List (List ℕ))) → AllByRecursion IsXOrClosed bs → IfSome (find nat_cmp q (by_letter bs)) IsClosed
+found_closed : (q : ℕ) → q ≢ 120 → (bs : List (ℕ × List (List ℕ))) → AllByRecursion IsXOrClosed bs → IfSome (find nat_cmp q (by_singleton bs)) IsClosed
 found_closed q n [] h = tt
 found_closed q n (b ∷ bs) h = cond_both (eq_by_cmp nat_cmp q (singleton b)) _ _ (λ o. IfSome o IsClosed)
     (λ e. closed_of q n (singleton b) b.1 (tied q (singleton b) e) h.0)
     (λ e. found_closed q n bs h.1)
 
-others_closed : (bs : List (ℕ × List (List ℕ))) → AllByRecursion IsXOrClosed bs → AllByRecursion (λ b. IsClosed b.1) (other_blocks (by_letter bs))
+others_closed : (bs : List (ℕ × List (List ℕ))) → AllByRecursion IsXOrClosed bs → AllByRecursion (λ b. IsClosed b.1) (other_blocks (by_singleton bs))
 others_closed [] h = tt
 others_closed (b ∷ bs) h = cond_both (is_other_singleton (singleton b)) _ _ (AllByRecursion (λ b. IsClosed b.1))
     (λ e. (closed_of (singleton b) (λ x. no_x (singleton b) x e) (singleton b) b.1 refl h.0, others_closed bs h.1))

@@ -14,6 +14,7 @@ use Rattle.iloc_spec_grammar.specs.Words.{Script, word, lower, word_cmp, is_true
 use Rattle.iloc_spec_parts.specs.SingleValues.{single}
 use Rattle.iloc_spec_preferences.specs.Subdivisions.{Subdivision, subdivision, subdivision_text}
 use Rattle.iloc_spec_orders.specs.Orders.{pair_cmp}
+use Rattle.iloc_spec_grammar.specs.Values.{spelled_value}
 
 -- Keywords with a fixed set of values.
 pub data EnumKeyword : Type 0 where
@@ -99,19 +100,14 @@ further_readings _ = []
 abbrev pub readings : EnumKeyword → Readings
 readings k = map (λ e. (e.0 ∷ [], (e.1, None))) (numbered 0 (variants k)) ++ further_readings k
 
--- the empty list counts as `true`
-abbrev pub or_true : List Text → List Text
-or_true [] = codes "true" ∷ []
-or_true (w ∷ ws) = w ∷ ws
-
 -- and `true` alone is written as the empty list
-abbrev pub without_true : List Text → List Text
-without_true (w ∷ []) = if is_true w then [] else w ∷ []
-without_true ws = ws
+abbrev pub unspelled_value : List Text → List Text
+unspelled_value (w ∷ []) = if is_true w then [] else w ∷ []
+unspelled_value ws = ws
 
 -- the value that the list is read as
 abbrev pub enum_reads : EnumKeyword → List Text → Option EnumValue
-enum_reads k ws = find (slice_cmp word_cmp) (or_true ws) (readings k)
+enum_reads k ws = find (slice_cmp word_cmp) (spelled_value ws) (readings k)
 
 -- the words of a value's text: of what is read as it, the first
 abbrev pub enum_words : EnumKeyword → EnumValue → Option (List Text)
@@ -119,7 +115,7 @@ enum_words k v = find (pair_cmp nat_cmp (option_cmp nat_cmp)) v (map (λ e. (e.1
 
 -- the list that a value is turned into
 abbrev pub enum_gives : EnumKeyword → EnumValue → Option (List Text)
-enum_gives k v = option_map without_true (enum_words k v)
+enum_gives k v = option_map unspelled_value (enum_words k v)
 
 -- each value that some list is read as is read of the list that it gives
 abbrev pub ReadsWhatItGives : EnumKeyword → Type 0
@@ -145,7 +141,7 @@ abbrev pub subtag_reads : List Text → Option Text
 subtag_reads ws = single ws
 
 abbrev pub subtag_gives : Text → List Text
-subtag_gives w = without_true (w ∷ [])
+subtag_gives w = unspelled_value (w ∷ [])
 
 abbrev pub with_first : Option Text → Option (List Text) → Option (List Text)
 with_first (Some w) (Some ws) = Some (w ∷ ws)
@@ -164,4 +160,4 @@ abbrev pub subdivision_reads : List Text → Option Subdivision
 subdivision_reads ws = option_and_then (λ w. result_ok (subdivision w)) (single ws)
 
 abbrev pub subdivision_gives : Subdivision → List Text
-subdivision_gives s = without_true (subdivision_text s ∷ [])
+subdivision_gives s = unspelled_value (subdivision_text s ∷ [])

@@ -1,4 +1,4 @@
-//! Words of any kind.
+//! Subtags of any kind.
 ghost use Rattle.std.specs.Prelude.{◌≡◌, ◌↔◌, ℕ, List, Option, Some, None, MatchResult, length, refl};
 ghost use Rattle.std.specs.Cmp.Lexicographic.{slice_cmp};
 ghost use Rattle.std.specs.Ordering.{nat_cmp};
@@ -12,24 +12,24 @@ use crate::parse_error::ParseError;
 use crate::word_of::WordOf;
 use std::hash::Hash;
 
-/// A kind of word, for code that is generic over kinds: the texts that it accepts, each with its normal
+/// A kind of subtag, for code that is generic over kinds: the texts that it accepts, each with its normal
 /// text, and laws of these. All eleven kinds have it.
 pub trait Word: Copy + Ord + Hash {
     /// The normal text of a text, if it is accepted.
     ghost normal_text: { List ℕ → Option (List ℕ) };
 
-    /// The text of a word.
+    /// The text of a subtag.
     ghost shown: { Self → Text };
 
     /// The refusal of every other text.
     ghost fault: { ParseError };
 
-    /// Parses a word, in any case.
+    /// Parses a subtag, in any case.
     fn try_from_utf8(code_units: &[u8]) -> Result<Self, ParseError>
         ensures { MatchResult result (λ w. normal_text code_units.now ≡ Some (shown w))
             (λ e. (e ≡ fault) × (normal_text code_units.now ≡ None)) };
 
-    /// The text of the word, which is its own normal text.
+    /// The text of the subtag, which is its own normal text.
     fn as_str(&self) -> &str
         ensures value { result.now ≡ shown self.now }
         ensures normal { normal_text (shown self.now) ≡ Some (shown self.now) };
@@ -46,7 +46,7 @@ pub trait Word: Copy + Ord + Hash {
     ghost one_normal: { (a b v w : Text) → normal_text a ≡ Some v → normal_text b ≡ Some w
         → (v ≡ w) ↔ (lower a ≡ lower b) };
 
-    /// Words stand in the byte order of their texts.
+    /// Subtags stand in the byte order of their texts.
     ghost by_bytes: { (a b : Self) → Self.cmp a b ≡ slice_cmp nat_cmp (shown a) (shown b) };
 }
 

@@ -1,4 +1,4 @@
-//! The words of extensions: keys, attributes, private words, ends of subdivisions, and currencies.
+//! The subtags of extensions: keys, attributes, private subtags, ends of subdivisions, and currencies.
 ghost use Rattle.std.specs.Prelude.{◌≡◌};
 ghost use Rattle.iloc_spec_grammar.specs.Words.{upper};
 
@@ -131,11 +131,11 @@ impl WordKind<8> for AttributeKind {
     }
 }
 
-/// A word of the attributes of a unicode extension, as `foobar`: 3 to 8 letters or digits, in lower case
+/// A subtag of the attributes of a unicode extension, as `foobar`: 3 to 8 letters or digits, in lower case
 /// (`attribute` of UTS #35, section 3). Other texts are refused with `InvalidExtension`.
 pub type Attribute = WordOf<AttributeKind, 8>;
 
-/// The kind of words of a private extension.
+/// The kind of subtags of a private extension.
 pub struct PrivateSubtagKind;
 
 impl WordKind<8> for PrivateSubtagKind {
@@ -173,7 +173,7 @@ impl WordKind<8> for PrivateSubtagKind {
     }
 }
 
-/// A word of a private extension, as `l`: 1 to 8 letters or digits, in lower case (what follows the hyphens
+/// A subtag of a private extension, as `l`: 1 to 8 letters or digits, in lower case (what follows the hyphens
 /// in `pu_extensions` of UTS #35, section 3). Other texts are refused with `InvalidExtension`.
 pub type PrivateSubtag = WordOf<PrivateSubtagKind, 8>;
 

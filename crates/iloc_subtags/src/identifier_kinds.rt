@@ -1,4 +1,4 @@
-//! The words of identifiers: languages, scripts, regions, variants, and subtags of any sort.
+//! The subtags of identifiers: languages, scripts, regions, variants, and `Subtag`, of 2 to 8 letters or digits.
 ghost use Rattle.std.specs.Prelude.{codes, IsTrue, ◌≡◌, ◌↔◌, ◌==◌, ◌≤◌, length};
 ghost use Rattle.iloc_tinystr.specs.TinyText.{is_tiny_text};
 ghost use Rattle.iloc_spec_grammar.specs.Words.{lower, letters, read, two_or_three};

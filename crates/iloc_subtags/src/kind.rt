@@ -1,4 +1,4 @@
-//! What makes a kind of word.
+//! What makes a kind of subtag.
 ghost use Rattle.std.specs.Prelude.{◌≡◌, ◌≤◌, ℕ, List, IsTrue, true};
 ghost use Rattle.iloc_spec_grammar.specs.Shapes.{Text};
 ghost use Rattle.iloc_tinystr.specs.TinyText.{is_tiny_text};
@@ -9,21 +9,21 @@ ghost use Rattle.iloc_subtags.specs.declared.parse_error.ParseError.{ParseError}
 use crate::parse_error::ParseError;
 use iloc_tinystr::ShortPiece;
 
-/// A kind of word of at most `N` bytes: which pieces it takes, their normal case, and its refusal.
+/// A kind of subtag of at most `N` bytes: which pieces it takes, their normal case, and its refusal.
 ///
 /// The marker types that have it, as `LanguageKind`, only name a kind within a type.
 pub trait WordKind<const N: usize> {
     /// The kind in the definitions.
     ghost kind: { Kind };
 
-    /// What is returned for a piece that is no word of the kind.
+    /// What is returned for a piece that is no subtag of the kind.
     ghost refusal: { ParseError };
 
-    /// Whether the piece is a word of the kind, in any case.
+    /// Whether the piece is a subtag of the kind, in any case.
     fn accepts(piece: ShortPiece) -> bool
         ensures { result ≡ is_word kind piece };
 
-    /// Whether a word of the kind may have so many bytes.
+    /// Whether a subtag of the kind may have so many bytes.
     fn has_length(len: usize) -> bool
         ensures value { result ≡ has_length kind len }
         ensures few { IsTrue result → len ≤ 8 };
@@ -36,7 +36,7 @@ pub trait WordKind<const N: usize> {
     fn refusal() -> ParseError
         ensures { result ≡ refusal };
 
-    /// Each word of the kind is a short text of at most `N` bytes.
+    /// Each subtag of the kind is a short text of at most `N` bytes.
     ghost fits: { (text : Text) → IsWord kind text → is_tiny_text N text ≡ true };
 
     /// `N` is the greatest length of the kind.

@@ -28,6 +28,7 @@ pub mod subtag_iterator;
 pub mod word_of;
 
 pub use any_kind::Word;
+pub use carry::carry_v1;
 pub use carry_error::CarryError;
 pub use extension_kinds::{
     Attribute, AttributeKind, CurrencyType, CurrencyTypeKind, PrivateSubtag, PrivateSubtagKind,

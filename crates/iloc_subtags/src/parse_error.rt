@@ -14,7 +14,7 @@ pub enum ParseError {
     /// A piece does not fit where it stands, or a text is no script, region, variant or subtag.
     #[error("Invalid subtag")]
     InvalidSubtag,
-    /// An extension does not follow its rules, or a text is no word of an extension.
+    /// An extension does not follow its rules, or a text is no subtag of an extension.
     #[error("Invalid extension")]
     InvalidExtension,
     /// An extension begins a second time.

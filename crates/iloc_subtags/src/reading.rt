@@ -7,7 +7,7 @@ ghost use Rattle.iloc_subtags.specs.Left.{left};
 use crate::subtag_iterator::SubtagIterator;
 use crate::{WordKind, WordOf};
 
-/// Takes the next piece if it is a word of the kind; else nothing is taken.
+/// Takes the next piece if it is a subtag of the kind; else nothing is taken.
 #[inline(always)]
 pub fn take_word<K: WordKind<N>, const N: usize>(
     iter: &mut SubtagIterator<'_>,

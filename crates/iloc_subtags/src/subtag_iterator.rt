@@ -12,7 +12,7 @@ use iloc_tinystr::ShortPiece;
 /// The pieces of a text that are left, from the left.
 ///
 /// It holds the text from the next piece on, and the length of that piece, so that a look ahead costs
-/// nothing. A length beyond the text says that none is left, and it is then more than a word has.
+/// nothing. A length beyond the text says that none is left, and it is then more than a subtag has.
 #[derive(Clone, Copy)]
 pub struct SubtagIterator<'a> {
     text: &'a [u8],
@@ -65,7 +65,7 @@ impl<'a> SubtagIterator<'a> {
         self.text.get(..self.len)
     }
 
-    // The next piece, which stays, if it is as long as words of the kind are.
+    // The next piece, which stays, if it is as long as subtags of the kind are.
     #[inline(always)]
     pub(crate) fn peek_short<K: WordKind<N>, const N: usize>(&self) -> Option<ShortPiece>
         ensures { MatchOption result (take_first (is_word K.kind) (left self.now) ≡ None)

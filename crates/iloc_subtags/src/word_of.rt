@@ -1,4 +1,4 @@
-//! The word of a kind.
+//! The subtag of a kind.
 ghost use Rattle.std.specs.Prelude.{IsTrue, ◌≡◌, ◌↔◌, ℕ, List, [], ◌∷◌, Some, MatchResult};
 ghost use Rattle.std.specs.List.{AllByRecursion};
 ghost use Rattle.std.specs.Cmp.Lexicographic.{slice_cmp};
@@ -17,9 +17,9 @@ use std::fmt;
 use std::marker::{Model, PhantomData};
 use std::str::FromStr;
 
-/// A word of the kind `K`, in its normal case, of at most `N` bytes.
+/// A subtag of the kind `K`, in its normal case, of at most `N` bytes.
 ///
-/// Contracts see it as its text. Words are equal if their texts are, and stand in the byte order of
+/// Contracts see it as its text. Subtags are equal if their texts are, and stand in the byte order of
 /// their texts.
 #[derive_where(Clone, Copy, PartialEq, Eq, PartialOrd, Ord, Hash)]
 pub struct WordOf<K: WordKind<N>, const N: usize> {
@@ -42,14 +42,14 @@ impl<K: WordKind<N>, const N: usize> Model for WordOf<K, N> {
 }
 
 impl<K: WordKind<N>, const N: usize> WordOf<K, N> {
-    /// The word of a text, in any case. It refuses every other text with the refusal of the kind.
+    /// The subtag of a text, in any case. It refuses every other text with the refusal of the kind.
     pub fn try_from_str(s: &str) -> Result<Self, ParseError>
         ensures { result ≡ read K.kind K.refusal s.now }
     {
         Self::try_from_utf8(s.as_bytes())
     }
 
-    /// The word of some bytes, in any case. It refuses all other bytes with the refusal of the kind.
+    /// The subtag of some bytes, in any case. It refuses all other bytes with the refusal of the kind.
     pub fn try_from_utf8(code_units: &[u8]) -> Result<Self, ParseError>
         ensures { result ≡ read K.kind K.refusal code_units.now }
     {
@@ -59,7 +59,7 @@ impl<K: WordKind<N>, const N: usize> WordOf<K, N> {
         }
     }
 
-    /// The word of a piece of at most eight bytes, in any case. It refuses every other piece with the refusal
+    /// The subtag of a piece of at most eight bytes, in any case. It refuses every other piece with the refusal
     /// of the kind.
     #[inline(always)]
     pub fn from_piece(piece: ShortPiece) -> Result<Self, ParseError>
@@ -74,7 +74,7 @@ impl<K: WordKind<N>, const N: usize> WordOf<K, N> {
         })
     }
 
-    /// The word of a raw form: its normal text, followed by zeros up to `N` bytes. Any other bytes, those
+    /// The subtag of a raw form: its normal text, followed by zeros up to `N` bytes. Any other bytes, those
     /// of a text in another case too, are refused with the refusal of the kind.
     pub fn try_from_raw(raw: [u8; N]) -> Result<Self, ParseError>
         ensures { ReadsRaw 8 K.kind K.refusal raw.entry result }
@@ -85,7 +85,7 @@ impl<K: WordKind<N>, const N: usize> WordOf<K, N> {
         Self::from_normal(text)
     }
 
-    /// The word of its normal text.
+    /// The subtag of its normal text.
     pub(crate) fn from_normal(text: TinyAsciiStr<N>) -> Result<Self, ParseError>
         ensures { MatchResult result (λ word. (word ≡ text.entry) × IsNormal K.kind text.entry)
             (λ e. (e ≡ K.refusal) × ¬ (IsNormal K.kind text.entry)) }
@@ -103,7 +103,7 @@ impl<K: WordKind<N>, const N: usize> WordOf<K, N> {
         })
     }
 
-    /// The word of a text that is known to be normal.
+    /// The subtag of a text that is known to be normal.
     pub(crate) fn from_known(text: TinyAsciiStr<N>) -> Self
         requires { IsNormal K.kind text }
         ensures { result ≡ text.entry }
@@ -121,7 +121,7 @@ impl<K: WordKind<N>, const N: usize> WordOf<K, N> {
         *self.text.all_bytes()
     }
 
-    /// The text of the word, which is in the normal case of its kind.
+    /// The text of the subtag, which is in the normal case of its kind.
     pub fn as_str(&self) -> &str
         ensures value { result.now ≡ self.now }
         ensures normal { IsNormal K.kind self.now }
@@ -129,7 +129,7 @@ impl<K: WordKind<N>, const N: usize> WordOf<K, N> {
         self.text.as_str()
     }
 
-    /// The text of the word as a short text.
+    /// The text of the subtag as a short text.
     pub fn to_tinystr(&self) -> TinyAsciiStr<N>
         ensures value { result ≡ self.now }
         ensures normal { IsNormal K.kind self.now }
@@ -138,7 +138,7 @@ impl<K: WordKind<N>, const N: usize> WordOf<K, N> {
         *text
     }
 
-    /// The text of the word as a piece.
+    /// The text of the subtag as a piece.
     #[inline(always)]
     pub fn to_piece(&self) -> ShortPiece
         ensures value { result ≡ self.now }
@@ -147,14 +147,14 @@ impl<K: WordKind<N>, const N: usize> WordOf<K, N> {
         self.text.to_piece()
     }
 
-    /// The byte order of the word's text against the bytes.
+    /// The byte order of the subtag's text against the bytes.
     pub fn strict_cmp(self, other: &[u8]) -> Ordering
         ensures { result ≡ slice_cmp nat_cmp self other.now }
     {
         self.as_str().as_bytes().cmp(other)
     }
 
-    /// Whether the text equals the word's without case, that is, whether the text parses to this word.
+    /// Whether the text equals the subtag's without case, that is, whether the text parses to this subtag.
     pub fn normalizing_eq(self, other: &str) -> bool
         ensures without_case { IsTrue result ↔ (lower self ≡ lower other.now) }
         ensures reads { IsTrue result ↔ (word K.kind other.now ≡ Some self) }
@@ -163,14 +163,14 @@ impl<K: WordKind<N>, const N: usize> WordOf<K, N> {
     }
 }
 
-/// A word is in the normal case of its kind: for a proof that has only the word. It does nothing.
+/// A subtag is in the normal case of its kind: for a proof that has only the subtag. It does nothing.
 pub fn is_normal<K: WordKind<N>, const N: usize>(word: &WordOf<K, N>)
     ensures { IsNormal K.kind word.now }
 {
     let _ = &word.text;
 }
 
-/// So is each word of a list. It does nothing.
+/// So is each subtag of a list. It does nothing.
 pub fn are_normal<K: WordKind<N>, const N: usize>(words: &[WordOf<K, N>])
     ensures { AllByRecursion (IsNormal K.kind) words.now }
 {
@@ -216,7 +216,7 @@ impl<K: WordKind<N>, const N: usize> fmt::Display for WordOf<K, N> {
     }
 }
 
-/// A word is one piece.
+/// A subtag is one piece.
 impl<K: WordKind<N>, const N: usize> Pieces for WordOf<K, N> {
     ghost pieces = { λ text. text ∷ [] };
 

@@ -161,7 +161,7 @@ impl Fields {
         Ok(())
     }
 
-    /// Keeps the keys at which `predicate` says so. Each is asked once, ascending.
+    /// Keeps the keys for which `predicate` returns `true`. Each is asked once, ascending.
     pub fn retain_by_key<F: FnMut(&Key) -> bool + Drop>(&mut self, mut predicate: F)
         requires { F.IsAlwaysCallable predicate }
         ensures { IsFiltered (λ f e b g. CalledAt F.FnMut f e.0 b g) predicate self.old self.new }
@@ -192,6 +192,7 @@ impl Fields {
     }
 
     /// Parses keys with their values, as many as there are, into the empty map; of equal keys the first stays.
+    /// After a refusal the map holds some of what was parsed: drop it, or make it `empty`.
     pub fn fill_front(
         &mut self,
         alloc: Global,

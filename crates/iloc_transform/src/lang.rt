@@ -16,7 +16,7 @@ use iloc_subtags::{Language, ParseError, SubtagIterator};
 use std::alloc::Global;
 use std::cmp::Ordering;
 
-/// Parses the longest front of an identifier's words, if the next piece is a language; else `None`.
+/// Parses the longest front of an identifier's subtags, if the next piece is a language; else `None`.
 pub(crate) fn fill_lang(
     alloc: Global,
     iter: &mut SubtagIterator<'_>,

@@ -131,7 +131,7 @@ impl Value {
         Ok(value)
     }
 
-    // Adds the word at the end, unless it is `true`. Up to four allocate nothing.
+    // Adds the subtag at the end, unless it is `true`. Up to four allocate nothing.
     fn push(&mut self, alloc: Global, word: Attribute) -> Result<(), ParseError>
         ensures ok { OnOk result (self.new
             ≡ (if is_true word then self.old else self.old ++ word ∷ [])) }

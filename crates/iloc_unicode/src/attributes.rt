@@ -73,7 +73,7 @@ impl Attributes {
         }
     }
 
-    /// Parses the longest front of attribute words, 3 to 8 letters or digits each, as a set, and ignores
+    /// Parses the longest front of attribute subtags, 3 to 8 letters or digits each, as a set, and ignores
     /// the rest of the text. It is refused by `OutOfMemory` alone, and if there are at most four
     /// different ones not at all.
     pub fn try_from_utf8(alloc: Global, code_units: &[u8]) -> Result<Self, ParseError>
@@ -179,7 +179,7 @@ impl Attributes {
         self.words.first()
     }
 
-    // The attributes of a set of words.
+    // The attributes of a set of subtags.
     pub(crate) fn from_set(words: WordSet<AttributeKind, 8>) -> Self
         ensures { result ≡ words }
     {

@@ -220,7 +220,7 @@ impl Keywords {
         mem::replace(self, Keywords::new())
     }
 
-    /// Keeps the keys at which `predicate` says so. Each is asked once, ascending.
+    /// Keeps the keys for which `predicate` returns `true`. Each is asked once, ascending.
     pub fn retain_by_key<F: FnMut(&Key) -> bool + Drop>(&mut self, mut predicate: F)
         requires { F.IsAlwaysCallable predicate }
         ensures { IsFiltered (λ f e b g. CalledAt F.FnMut f e.0 b g) predicate self.old self.new }

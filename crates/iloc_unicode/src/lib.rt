@@ -4,7 +4,7 @@
 //! Readers take exactly the front of the pieces that `iloc_spec_parts` defines and leave the rest; of equal
 //! keys the first stays, and repeated attributes are dropped. Printing is the normal text of the part.
 //! Up to four attributes, and one key with up to four subtags, allocate nothing. It stands on the set of
-//! words, the map over short lists and its laws, values, pieces and printing.
+//! subtags, the map over short lists and its laws, values, pieces and printing.
 #![tactic(auto)]
 
 ghost use Rattle.std.specs.Prelude.{◌≡◌, ◌↔◌, ℕ, List, IsTrue};

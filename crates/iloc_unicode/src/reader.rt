@@ -20,8 +20,8 @@ use iloc_word_set::{WordCollector, WordSet};
 use std::alloc::{AllocError, Global};
 
 impl Attributes {
-    /// Parses the longest front of attribute words, as a set. Up to four different attributes allocate nothing,
-    /// and n words cost n log n, in whatever order they stand.
+    /// Parses the longest front of attribute subtags, as a set. Up to four different attributes allocate nothing,
+    /// and n subtags cost n log n, in whatever order they stand.
     pub fn try_from_iter(alloc: Global, iter: &mut SubtagIterator<'_>) -> Result<Self, AllocError>
         ensures value { IfOk result (λ a. a ≡ attributes_read (left iter.old)) }
         ensures rest { OnOk result (left iter.new ≡ after_attributes (left iter.old)) }
@@ -60,8 +60,8 @@ fn read_more_attributes(
 
 impl Keywords {
     /// Parses the longest front of keys with their values; of equal keys the first stays. A piece of two
-    /// bytes there that is no key is refused by `InvalidExtension`. One key with up to four subtags takes
-    /// no memory.
+    /// bytes there that is no key is refused by `InvalidExtension`. One key with up to four subtags
+    /// allocates nothing.
     pub fn try_from_iter(alloc: Global, iter: &mut SubtagIterator<'_>) -> Result<Self, ParseError>
         ensures { KeywordsGive (left iter.old) (left iter.new) result }
     {

@@ -1,10 +1,10 @@
 //! The value of a keyword of the unicode extension: a list of subtags. Readers and printers are
 //! those of UTS #35, section 3.2 (`ufield`): the pieces in lower case, without `true`, which is
 //! what an empty value stands for. Up to four subtags allocate nothing. It stands on lists of
-//! words, pieces and printing.
+//! subtags, pieces and printing.
 //!
 //! Why the type of a keyword refuses a value (`PreferencesParseError`), and currencies as values, stand here
-//! too: the conversions of foreign words into values and back can stand nowhere else.
+//! too: the conversions of types of other crates into values and back can stand nowhere else.
 #![tactic(auto)]
 
 ghost use Rattle.std.specs.Prelude.{◌≡◌, ◌↔◌, ℕ, List, IsTrue};

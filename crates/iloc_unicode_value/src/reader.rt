@@ -72,7 +72,7 @@ pub fn read_value(alloc: Global, iter: &mut SubtagIterator<'_>) -> Result<Value,
     read_words::<AttributeKind>(alloc, iter)
 }
 
-// Parses the longest front of words of a kind, all of which are subtags.
+// Parses the longest front of subtags of a kind, each of which is a `Subtag` too.
 fn read_words<K: WordKind<8>>(
     alloc: Global,
     iter: &mut SubtagIterator<'_>,
@@ -91,7 +91,7 @@ fn read_words<K: WordKind<8>>(
     Ok(value)
 }
 
-// The word as a subtag.
+// The subtag as a `Subtag`.
 fn subtag_of<K: WordKind<8>>(word: &WordOf<K, 8>) -> Subtag
     requires { (w : Text) → IsNormal K.kind w → IsNormal Subtag w }
     ensures { result ≡ word.now }

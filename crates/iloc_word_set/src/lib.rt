@@ -1,12 +1,12 @@
-//! Lists and sets of words of one kind. Sets are the variants of an identifier, and the attributes of a
+//! Lists and sets of subtags of one kind. Sets are the variants of an identifier, and the attributes of a
 //! unicode extension; lists stand under them, and under private and other extensions and values.
 //!
-//! A list is its words in order, each a normal word of its kind, and a set a list in ascending order, each
-//! word once. Contracts see both as the list of the texts. Up to four words stand in place; beyond them
+//! A list is its subtags in order, each a normal subtag of its kind, and a set a list in ascending order, each
+//! subtag once. Contracts see both as the list of the texts. Up to four subtags stand in place; beyond them
 //! they allocate, and a call that runs out of memory leaves them as before. Searches of sets go by halves.
 //!
-//! It stands on `iloc_spec_grammar` and `iloc_spec_orders` (definitions), `iloc_subtags` (words), `iloc_shortvec` (lists
-//! that keep four words in place) and `iloc_writeable` (printing).
+//! It stands on `iloc_spec_grammar` and `iloc_spec_orders` (definitions), `iloc_subtags` (subtags), `iloc_shortvec` (lists
+//! that keep four subtags in place) and `iloc_writeable` (printing).
 #![tactic(auto)]
 
 ghost use Rattle.std.specs.Prelude.{◌≡◌, ℕ, List};
@@ -27,7 +27,7 @@ pub use word_collector::WordCollector;
 pub use word_list::WordList;
 pub use word_set::{Variants, WordSet};
 
-/// A hasher is fed the text of a word, and the words of a set.
+/// A hasher is fed the text of a subtag, and the subtags of a set.
 pub fn hashes<K: WordKind<N>, const N: usize>()
     ensures words { (w : Text) → ⟦<WordOf<K, N> as Hash>⟧.hash_input w ≡ word_fed w }
     ensures sets { (ws : List Text) → ⟦<WordSet<K, N> as Hash>⟧.hash_input ws ≡ words_fed ws }

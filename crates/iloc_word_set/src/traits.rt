@@ -1,4 +1,4 @@
-//! The traits of sets of words.
+//! The traits of sets of subtags.
 ghost use Rattle.std.specs.Prelude.{◌≡◌, [], Some, length};
 ghost use Rattle.iloc_spec_grammar.specs.Pieces.{join};
 
@@ -18,7 +18,7 @@ impl<K: WordKind<N>, const N: usize> Default for WordSet<K, N> {
     }
 }
 
-/// The same set. It allocates only if there are more than four words.
+/// The same set. It allocates only if there are more than four subtags.
 impl<K: WordKind<N>, const N: usize> Clone for WordSet<K, N> {
     ghost is_clone = { λ s t. t ≡ s };
 
@@ -27,7 +27,7 @@ impl<K: WordKind<N>, const N: usize> Clone for WordSet<K, N> {
     }
 }
 
-/// Prints the list of the words, each in quotes.
+/// Prints the list of the subtags, each in quotes.
 impl<K: WordKind<N>, const N: usize> fmt::Debug for WordSet<K, N> {
     ghost use Rattle.std.specs.Fmt.{debug_list, debug_str};
 
@@ -38,7 +38,7 @@ impl<K: WordKind<N>, const N: usize> fmt::Debug for WordSet<K, N> {
     }
 }
 
-/// The words are the pieces.
+/// The subtags are the pieces.
 impl<K: WordKind<N>, const N: usize> Pieces for WordSet<K, N> {
     ghost pieces = { λ s. s };
 
@@ -52,7 +52,7 @@ impl<K: WordKind<N>, const N: usize> Pieces for WordSet<K, N> {
     }
 }
 
-/// Prints the words, ascending, with a hyphen between each two. The text of a set of one word can be lent.
+/// Prints the subtags, ascending, with a hyphen between each two. The text of a set of one subtag can be lent.
 impl<K: WordKind<N>, const N: usize> Writeable for WordSet<K, N> {
     ghost text = { λ s. join s };
 
@@ -71,7 +71,7 @@ impl<K: WordKind<N>, const N: usize> Writeable for WordSet<K, N> {
     }
 }
 
-/// Prints the words, ascending, with a hyphen between each two.
+/// Prints the subtags, ascending, with a hyphen between each two.
 impl<K: WordKind<N>, const N: usize> fmt::Display for WordSet<K, N> {
     ghost output = { λ s. Some (join s) };
 

@@ -1,4 +1,4 @@
-//! Words that come in any order, to be a set in the end.
+//! Subtags that come in any order, to be a set in the end.
 ghost use Rattle.std.specs.Prelude.{◌≡◌, ◌≤◌, ◌∷◌, true, false, length, is_none, IfSome, IfOk, OnErr, IsOk};
 ghost use Rattle.std.specs.List.{list_any};
 ghost use Rattle.iloc_spec_grammar.specs.Words.{is_same};
@@ -11,7 +11,7 @@ use iloc_subtags::{WordKind, WordOf};
 use std::alloc::{AllocError, Global};
 use std::marker::Model;
 
-// How the words are kept: four as a set. More, of which more than four differ, in the order in which they
+// How the subtags are kept: four as a set. More, of which more than four differ, in the order in which they
 // came, and whether that is known to be ascending.
 #[derive(Drop)]
 enum Collected<K: WordKind<N>, const N: usize> {
@@ -19,11 +19,11 @@ enum Collected<K: WordKind<N>, const N: usize> {
     Many(Vec<WordOf<K, N>>, bool),
 }
 
-/// Four words and more that come one by one, in any order, to be a set in the end.
+/// Four subtags and more that come one by one, in any order, to be a set in the end.
 ///
-/// Contracts see it as the list of the words that it holds, in whatever order. A word is put behind the
-/// others, and they are sorted once, unless they came in ascending order: so n words cost n log n.
-/// `WordSet::push` would move all words that are above each new one.
+/// Contracts see it as the list of the subtags that it holds, in whatever order. A subtag is put behind the
+/// others, and they are sorted once, unless they came in ascending order: so n subtags cost n log n.
+/// `WordSet::push` would move all subtags that are above each new one.
 #[derive(Drop)]
 pub struct WordCollector<K: WordKind<N>, const N: usize> {
     words: Collected<K, N>,
@@ -41,7 +41,7 @@ impl<K: WordKind<N>, const N: usize> Model for WordCollector<K, N> {
     ghost invariant = { λ c. IsCollected c.words };
 }
 
-// The words of a set and one more, in order; `None` if the set has it.
+// The subtags of a set and one more, in order; `None` if the set has it.
 fn with_word<K: WordKind<N>, const N: usize>(
     alloc: Global,
     set: &WordSet<K, N>,
@@ -63,7 +63,7 @@ fn with_word<K: WordKind<N>, const N: usize>(
     }
 }
 
-// Puts a word at the end, unless the words ascend and have it: then false.
+// Puts a subtag at the end, unless the subtags ascend and have it: then false.
 fn push_last<K: WordKind<N>, const N: usize>(
     words: &mut Vec<WordOf<K, N>>,
     ascend: &mut bool,
@@ -84,7 +84,7 @@ fn push_last<K: WordKind<N>, const N: usize>(
     Ok(true)
 }
 
-// The set of words in any order.
+// The set of subtags in any order.
 fn sorted<K: WordKind<N>, const N: usize>(mut words: Vec<WordOf<K, N>>) -> WordSet<K, N>
     ensures { result ≡ set_of words.items }
 {
@@ -94,7 +94,7 @@ fn sorted<K: WordKind<N>, const N: usize>(mut words: Vec<WordOf<K, N>>) -> WordS
 }
 
 impl<K: WordKind<N>, const N: usize> WordCollector<K, N> {
-    /// The words of a set of four, the most that stand in place.
+    /// The subtags of a set of four, the most that stand in place.
     pub fn from_set(set: WordSet<K, N>) -> Self
         requires { length set ≡ 4 }
         ensures { result ≡ set }
@@ -105,7 +105,7 @@ impl<K: WordKind<N>, const N: usize> WordCollector<K, N> {
         }
     }
 
-    /// How many words it holds.
+    /// How many subtags it holds.
     pub fn len(&self) -> usize
         ensures { result ≡ length self.now }
     {
@@ -115,9 +115,9 @@ impl<K: WordKind<N>, const N: usize> WordCollector<K, N> {
         }
     }
 
-    /// Takes a word in; false if it is known to be there, and then nothing changes. It is always known
-    /// among four words, and among more as long as they ascend. It allocates only if there are more
-    /// than four different words then.
+    /// Takes a subtag in; false if it is known to be there, and then nothing changes. It is always known
+    /// among four subtags, and among more as long as they ascend. It allocates only if there are more
+    /// than four different subtags then.
     pub fn push(&mut self, alloc: Global, word: WordOf<K, N>) -> Result<bool, AllocError>
         ensures taken { IfOk result (TakesIn word self.old self.new) }
         ensures err { OnErr result (self.new ≡ self.old) }
@@ -129,7 +129,7 @@ impl<K: WordKind<N>, const N: usize> WordCollector<K, N> {
         }
     }
 
-    // Takes in what may be a fifth word.
+    // Takes in what may be a fifth subtag.
     fn push_fifth(&mut self, alloc: Global, word: WordOf<K, N>) -> Result<bool, AllocError>
         requires { length self.old ≡ 4 }
         ensures taken { IfOk result (TakesIn word self.old self.new) }
@@ -147,7 +147,7 @@ impl<K: WordKind<N>, const N: usize> WordCollector<K, N> {
         Ok(true)
     }
 
-    /// The set of the words. It allocates nothing.
+    /// The set of the subtags. It allocates nothing.
     pub fn into_set(self) -> WordSet<K, N>
         ensures { result ≡ set_of self }
     {

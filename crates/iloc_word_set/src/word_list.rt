@@ -1,4 +1,4 @@
-//! The list of words of a kind.
+//! The list of subtags of a kind.
 ghost use Rattle.std.specs.Prelude.{◌≡◌, ◌<◌, ◌≤◌, [], ◌∷◌, ◌++◌, length, insert, remove, slice_get, Some, IfOk, OnOk, OnErr, IsOk};
 ghost use Rattle.std.specs.List.{AllByRecursion};
 ghost use Rattle.iloc_spec_grammar.specs.Values.{IsNormal};
@@ -9,10 +9,10 @@ use std::alloc::{AllocError, Global};
 use std::fmt;
 use std::marker::Model;
 
-/// A list of words of the kind `K`, each normal, seen by contracts as the list of their texts.
+/// A list of subtags of the kind `K`, each normal, seen by contracts as the list of their texts.
 ///
-/// Up to four words stand in place. Lists stand in the order of short lists: those of at most one word before
-/// all longer ones, and word by word within each class.
+/// Up to four subtags stand in place. Lists stand in the order of short lists: those of at most one subtag before
+/// all longer ones, and subtag by subtag within each class.
 #[derive(Drop)]
 #[derive_where(PartialEq, Eq, PartialOrd, Ord, Hash)]
 pub struct WordList<K: WordKind<N>, const N: usize> {
@@ -43,7 +43,7 @@ impl<K: WordKind<N>, const N: usize> WordList<K, N> {
         }
     }
 
-    /// The list of this one word.
+    /// The list of this one subtag.
     pub fn from_word(word: WordOf<K, N>) -> Self
         ensures { result ≡ word ∷ [] }
     {
@@ -53,7 +53,7 @@ impl<K: WordKind<N>, const N: usize> WordList<K, N> {
         }
     }
 
-    /// The list of these words, which are looked at once each.
+    /// The list of these subtags, which are looked at once each.
     pub fn from_vec(words: Vec<WordOf<K, N>>) -> Self
         ensures { result ≡ words.items }
     {
@@ -63,7 +63,7 @@ impl<K: WordKind<N>, const N: usize> WordList<K, N> {
         }
     }
 
-    /// The words in order.
+    /// The subtags in order.
     pub fn as_slice(&self) -> &[WordOf<K, N>]
         ensures value { result.now ≡ self.now }
         ensures normal { AllByRecursion (IsNormal K.kind) self.now }
@@ -71,7 +71,7 @@ impl<K: WordKind<N>, const N: usize> WordList<K, N> {
         self.words.as_slice()
     }
 
-    /// Puts a word at a place. Up to four words allocate nothing; if an allocation fails, nothing changes.
+    /// Puts a subtag at a place. Up to four subtags allocate nothing; if an allocation fails, nothing changes.
     pub fn insert(
         &mut self,
         alloc: Global,
@@ -87,7 +87,7 @@ impl<K: WordKind<N>, const N: usize> WordList<K, N> {
         self.words.insert(alloc, index, word)
     }
 
-    /// Adds a word at the end. Up to four words allocate nothing; if an allocation fails, nothing changes.
+    /// Adds a subtag at the end. Up to four subtags allocate nothing; if an allocation fails, nothing changes.
     pub fn push(&mut self, alloc: Global, word: WordOf<K, N>) -> Result<(), AllocError>
         ensures ok { OnOk result (self.new ≡ self.old ++ word ∷ []) }
         ensures err { OnErr result (self.new ≡ self.old) }
@@ -97,7 +97,7 @@ impl<K: WordKind<N>, const N: usize> WordList<K, N> {
         self.words.push(alloc, word)
     }
 
-    /// Takes the word at a place out.
+    /// Takes the subtag at a place out.
     pub fn remove(&mut self, index: usize) -> WordOf<K, N>
         requires { index < length self.old }
         ensures value { slice_get self.old index ≡ Some result }
@@ -106,7 +106,7 @@ impl<K: WordKind<N>, const N: usize> WordList<K, N> {
         self.words.remove(index)
     }
 
-    /// A list of the same words. Up to four allocate nothing.
+    /// A list of the same subtags. Up to four allocate nothing.
     pub fn clone(&self) -> Result<Self, AllocError>
         ensures value { IfOk result (λ copy. copy ≡ self.now) }
         ensures succeeds { length self.now ≤ 4 → IsOk result }
@@ -117,7 +117,7 @@ impl<K: WordKind<N>, const N: usize> WordList<K, N> {
     }
 }
 
-/// Prints the list of the words, each in quotes.
+/// Prints the list of the subtags, each in quotes.
 impl<K: WordKind<N>, const N: usize> fmt::Debug for WordList<K, N> {
     ghost use Rattle.std.specs.Fmt.{debug_list, debug_str};
 

@@ -1,4 +1,4 @@
-//! The ascending set of words of a kind.
+//! The ascending set of subtags of a kind.
 ghost use Rattle.std.specs.Prelude.{◌≡◌, ◌<◌, ◌≤◌, ◌+◌, ◌==◌, [], ◌∷◌, ◌++◌, true, not, length, filter, IfOk, OnOk, OnErr, IsOk};
 ghost use Rattle.std.specs.List.{list_any, AllByRecursion};
 ghost use Rattle.std.specs.Slice.{IsItemAt};
@@ -15,10 +15,10 @@ use std::marker::Model;
 use std::mem::replace;
 use std::slice::Iter;
 
-/// A set of words of the kind `K`, seen by contracts as the list of their texts, which ascends strictly.
+/// A set of subtags of the kind `K`, seen by contracts as the list of their texts, which ascends strictly.
 ///
-/// Sets are equal if they have the same words. They stand in the order of short lists: those of at
-/// most one word before all larger ones, and word by word within each class.
+/// Sets are equal if they have the same subtags. They stand in the order of short lists: those of at
+/// most one subtag before all larger ones, and subtag by subtag within each class.
 #[derive(Drop)]
 #[derive_where(PartialEq, Eq, PartialOrd, Ord, Hash)]
 pub struct WordSet<K: WordKind<N>, const N: usize> {
@@ -67,7 +67,7 @@ impl<K: WordKind<N>, const N: usize> WordSet<K, N> {
         }
     }
 
-    /// The set of this one word.
+    /// The set of this one subtag.
     pub fn from_word(word: WordOf<K, N>) -> Self
         ensures { result ≡ word ∷ [] }
     {
@@ -76,7 +76,7 @@ impl<K: WordKind<N>, const N: usize> WordSet<K, N> {
         }
     }
 
-    /// The set of these words, which have to ascend strictly: `is_strictly_ascending` is the test.
+    /// The set of these subtags, which have to ascend strictly: `is_strictly_ascending` is the test.
     #[tactic(auto, using(crate::proofs::SetLaws::set_ascends))]
     pub fn from_vec_unchecked(input: Vec<WordOf<K, N>>) -> Self
         requires { ascends word_cmp input.items ≡ true }
@@ -87,7 +87,7 @@ impl<K: WordKind<N>, const N: usize> WordSet<K, N> {
         }
     }
 
-    /// The words, ascending.
+    /// The subtags, ascending.
     pub fn as_slice(&self) -> &[WordOf<K, N>]
         ensures value { result.now ≡ self.now }
         ensures ascending { IsAscending self.now }
@@ -96,43 +96,43 @@ impl<K: WordKind<N>, const N: usize> WordSet<K, N> {
         self.words.as_slice()
     }
 
-    /// Whether there is no word.
+    /// Whether there is no subtag.
     pub fn is_empty(&self) -> bool
         ensures { result ≡ (length self.now == 0) }
     {
         self.as_slice().is_empty()
     }
 
-    /// How many words there are.
+    /// How many subtags there are.
     pub fn len(&self) -> usize
         ensures { result ≡ length self.now }
     {
         self.as_slice().len()
     }
 
-    /// The words in order, lent one by one.
+    /// The subtags in order, lent one by one.
     pub fn iter(&self) -> Iter<'_, WordOf<K, N>>
         ensures { iter_rest result ≡ self.now }
     {
         self.as_slice().iter()
     }
 
-    /// The word at a place; `None` from the length on.
+    /// The subtag at a place; `None` from the length on.
     pub fn get(&self, index: usize) -> Option<&WordOf<K, N>>
         ensures { IsItemAt self.now index result }
     {
         self.as_slice().get(index)
     }
 
-    /// The first word, if there is one.
+    /// The first subtag, if there is one.
     pub fn first(&self) -> Option<&WordOf<K, N>>
         ensures { IsItemAt self.now 0 result }
     {
         self.as_slice().first()
     }
 
-    /// Adds a word; true if it is new. It allocates only if the set holds four words or more
-    /// and the word is new.
+    /// Adds a subtag; true if it is new. It allocates only if the set holds four subtags or more
+    /// and the subtag is new.
     pub fn push(&mut self, alloc: Global, word: WordOf<K, N>) -> Result<bool, AllocError>
         ensures added { IfOk result (λ added. added ≡ not (list_any (is_same word) self.old)) }
         ensures ok { OnOk result (self.new ≡ set_of (word ∷ self.old)) }
@@ -149,7 +149,7 @@ impl<K: WordKind<N>, const N: usize> WordSet<K, N> {
         }
     }
 
-    /// Takes a word out; true if it was there.
+    /// Takes a subtag out; true if it was there.
     pub fn remove(&mut self, word: &WordOf<K, N>) -> bool
         ensures removed { result ≡ list_any (is_same word.now) self.old }
         ensures left { self.new ≡ filter (λ w. not (is_same word.now w)) self.old }
@@ -171,7 +171,7 @@ impl<K: WordKind<N>, const N: usize> WordSet<K, N> {
         replace(self, WordSet::new())
     }
 
-    /// A set of the same words. It allocates only if there are more than four.
+    /// A set of the same subtags. It allocates only if there are more than four.
     pub(crate) fn copied(&self) -> Result<Self, AllocError>
         ensures value { IfOk result (λ s. s ≡ self.now) }
         ensures succeeds { length self.now ≤ 4 → IsOk result }
@@ -181,7 +181,7 @@ impl<K: WordKind<N>, const N: usize> WordSet<K, N> {
         })
     }
 
-    /// Adds each word of the other set.
+    /// Adds each subtag of the other set.
     fn add_all(&mut self, alloc: Global, other: &Self) -> Result<(), AllocError>
         ensures ok { OnOk result (self.new ≡ set_of (self.old ++ other.now)) }
         ensures succeeds { length self.old + length other.now ≤ 4 → IsOk result }
@@ -193,7 +193,7 @@ impl<K: WordKind<N>, const N: usize> WordSet<K, N> {
         Ok(())
     }
 
-    /// The words of both sets. It allocates nothing if the two have four words at most together.
+    /// The subtags of both sets. It allocates nothing if the two have four subtags at most together.
     pub fn union(&self, alloc: Global, other: &Self) -> Result<Self, AllocError>
         ensures words { IfOk result (λ s. s ≡ set_of (self.now ++ other.now)) }
         ensures succeeds { length self.now + length other.now ≤ 4 → IsOk result }
@@ -203,7 +203,7 @@ impl<K: WordKind<N>, const N: usize> WordSet<K, N> {
         Ok(all)
     }
 
-    /// Adds the words of the other set. It allocates nothing if the two have four words at most together;
+    /// Adds the subtags of the other set. It allocates nothing if the two have four subtags at most together;
     /// if an allocation fails, the set is as before.
     pub fn extend(&mut self, alloc: Global, other: &Self) -> Result<(), AllocError>
         ensures ok { OnOk result (self.new ≡ set_of (self.old ++ other.now)) }

@@ -41,7 +41,7 @@ pub trait List: Default + Ord + Hash + fmt::Debug + Drop + Sized {
         items: &[u16],
     ) -> Result<(), AllocError>;
 
-    /// Takes a step that asks for no memory, and says its answer.
+    /// Takes a step that allocates nothing, and says its answer.
     fn shrink(&mut self, step: &Step<'_>, out: &mut String);
 
     /// What the list lends, with the item of the place.

@@ -1,5 +1,5 @@
-//! Each shape with each length of a language, in mixed case, and texts that begin with no language.
-use iloc_plain::{has_no_language, read_plain, read_plain_text};
+//! Each shape with each length of a language, in mixed case, and what stands at the front of lines.
+use iloc_plain::{Front, read_front, read_plain, read_plain_text};
 
 // A text of each shape for each length of a language, and its normal text.
 const PLAIN: [(&str, &str); 35] = [
@@ -87,14 +87,70 @@ fn what_follows_in_the_window_changes_nothing(rt: HostRuntime) {
     assert!(rt; !is_told_in_window(b"sr-Latn-RS-----12345", 11));
 }
 
+// What the first bytes begin with, where sixteen follow them at least.
+fn front(window: &[u8], len: usize) -> Front<'_> {
+    if window.len() < 16 || len > window.len() - 16 {
+        return Front::Other;
+    }
+    read_front(window, len)
+}
+
+fn has_no_language(window: &[u8], len: usize) -> bool {
+    matches!(front(window, len), Front::NoLanguage)
+}
+
+fn has_misfit(window: &[u8], len: usize) -> bool {
+    matches!(front(window, len), Front::Misfit)
+}
+
+// Whether a block begins with this byte, so many bytes before the end of the line.
+fn has_block(window: &[u8], len: usize, byte: u8, left: usize, is_first: bool) -> bool {
+    match front(window, len) {
+        Front::Block(block) => {
+            block.len == left && block.is_first == is_first && block.window.first() == Some(&byte)
+        }
+        _ => false,
+    }
+}
+
 #[test]
-fn a_text_without_a_language_is_told(rt: HostRuntime) {
-    assert!(rt; has_no_language(b"C\nen-us\nde-CH\nfr\n", 1));
-    assert!(rt; has_no_language(b"en_US.UTF-8\nde-CH\n", 11));
+fn a_line_without_a_language_is_told(rt: HostRuntime) {
+    assert!(rt; has_no_language(b"C\nen-us\nde-CH\nfr-FR\n", 1));
+    assert!(rt; has_no_language(b"en_US.UTF-8\nde-CH\nfr-FR\nsv-SE\n", 11));
     assert!(rt; has_no_language(b"\nen-us\nde-CH\nfr-FR\n", 0));
-    assert!(rt; has_no_language(b"abcd-US\nde-CH\nfr\n", 7));
-    assert!(rt; has_no_language(b"abcdefghijklmnopqrstuvw", 23));
-    assert!(rt; has_no_language(b"1en-US\nde-CH\nfr-FR\n", 6));
-    assert!(rt; !has_no_language(b"en-us\nde-CH\nfr-FR\n", 5));
-    assert!(rt; !has_no_language(b"abcdefgh\nC\nfr-FR-x\n", 8));
+    assert!(rt; has_no_language(b"abcd-US\nde-CH\nfr-FR-posix\n", 7));
+    assert!(rt; has_no_language(b"abcdefghijklmnopqrstuvw\nde-CH\nfr-FR\n", 23));
+    assert!(rt; has_no_language(b"1en-US\nde-CH\nfr-FR-posix\n", 6));
+    assert!(rt; !has_no_language(b"en-us\nde-CH\nfr-FR-posix\n", 5));
+    assert!(rt; !has_no_language(b"abcdefgh\nC\nfr-FR-x-abc\n", 8));
+}
+
+#[test]
+fn a_piece_that_fits_nowhere_is_told(rt: HostRuntime) {
+    assert!(rt; has_misfit(b"en-foo\nde-CH\nfr-FR-posix\n", 6));
+    assert!(rt; has_misfit(b"en-US-foo\nde-CH\nfr-FR-posix\n", 9));
+    assert!(rt; has_misfit(b"en-Latn-US-de\nde-CH\nfr-FR-posix\n", 13));
+    assert!(rt; has_misfit(b"en-posix-US\nde-CH\nfr-FR-posix\n", 11));
+    assert!(rt; has_misfit(b"en-US-posix-1996-!!-x-a\nde-CH\nfr-FR-posix\n", 23));
+    assert!(rt; has_misfit(b"en-\nde-CH\nfr-FR-posix\n", 3));
+    assert!(rt; has_misfit(b"abcdefgh-abcdefghijklmnopqrs\nde-CH\nfr-FR\n", 28));
+    assert!(rt; !has_misfit(b"en-US\nde-CH\nfr-FR-posix\n", 5));
+    assert!(rt; !has_misfit(b"en-posix\nde-CH\nfr-FR-posix\n", 8));
+}
+
+#[test]
+fn a_block_is_told(rt: HostRuntime) {
+    assert!(rt; has_block(b"en-u-ca\nde-CH\nfr-FR-posix\n", 7, b'u', 4, true));
+    assert!(rt; has_block(b"en-US-X-a\nde-CH\nfr-FR-posix\n", 9, b'X', 3, true));
+    assert!(rt;
+        has_block(
+            b"abcdefgh-Latn-419-t\nde-CH\nfr-FR-posix\n",
+            19,
+            b't',
+            1,
+            true
+        )
+    );
+    assert!(rt; has_block(b"en-Latn-!\nde-CH\nfr-FR-posix\n", 9, b'!', 1, true));
+    assert!(rt; has_block(b"en-posix-1abc-u-ca\nde-CH\nfr-FR\n", 18, b'u', 4, false));
 }

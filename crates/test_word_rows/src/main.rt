@@ -5,7 +5,7 @@
 //! `! ` and the words of the refusal. `tiny-N`, `text-N` and `tinyraw-N` read a short text of a size, `CALL-KIND` makes a
 //! call of a word of the kind, `two-tiny` compares two short texts, and a call of one word stands in `single`.
 //!
-//! No row asks for memory: all that the program itself needs is asked for before the first one. It stands on `test_page`
+//! No row allocates: all that the program itself needs is asked for before the first one. It stands on `test_page`
 //! and the crates whose calls it makes.
 #![tactic(auto)]
 

@@ -1,0 +1,711 @@
+/* Tries the calls on locales that a program holds. It makes no allocation itself.
+ *
+ *     handles parts              each call in known cases: what it gives, each refusal, and that a refusal changes nothing
+ *     handles script SEED STEPS  random calls on three handles, each compared with a model of this file: after each step the
+ *                                model is written out as a text, and the calls on texts say what its normal form is
+ *     handles refused            each call with each of its allocations refused in turn (built with REFUSING, and linked with
+ *                                --wrap=malloc,--wrap=realloc,--wrap=free)
+ *
+ * The last line is the number of cases. The first that is not as wanted ends the program. */
+#include "icu_locale.h"
+
+#include <ctype.h>
+#include <stdio.h>
+#include <stdlib.h>
+#include <string.h>
+
+#define ROOM 512
+#define MANY 24
+
+static unsigned long cases;
+
+#define WANT(it)                                                              \
+    do {                                                                      \
+        cases++;                                                              \
+        if (!(it)) {                                                          \
+            fprintf(stderr, "handles.c:%d: not so: %s\n", __LINE__, #it);     \
+            exit(1);                                                          \
+        }                                                                     \
+    } while (0)
+
+static const uint8_t *bytes(const char *text)
+{
+    return (const uint8_t *)text;
+}
+
+/* Texts of a C string. */
+#define TEXT(it) bytes(it), strlen(it)
+
+static char last[ROOM];
+
+/* What a call that reads wrote, as a C string; "?" if there is no such part. It tries a buffer that is too small too. */
+typedef icu_locale_status (*reading)(icu_locale_t *, uint8_t *, size_t, size_t *);
+
+static const char *ended(icu_locale_status status, size_t needed)
+{
+    WANT(needed < ROOM);
+    last[needed] = 0;
+    if (status == ICU_LOCALE_NOT_FOUND) {
+        WANT(needed == 0);
+        return "?";
+    }
+    WANT(status == ICU_LOCALE_DONE);
+    return last;
+}
+
+static const char *read_part(icu_locale_t *locale, reading call)
+{
+    size_t needed = 77;
+    uint8_t small[ROOM];
+    icu_locale_status status = call(locale, (uint8_t *)last, ROOM - 1, &needed);
+    const char *text = ended(status, needed);
+    if (needed > 0) {
+        size_t again = 77;
+        memset(small, '#', sizeof small);
+        WANT(call(locale, small, needed - 1, &again) == ICU_LOCALE_BUFFER_TOO_SMALL && again == needed);
+        for (size_t i = 0; i < sizeof small; i++)
+            WANT(small[i] == '#');
+        WANT(call(locale, small, needed, &again) == ICU_LOCALE_DONE && again == needed);
+        WANT(memcmp(small, last, needed) == 0 && small[needed] == '#');
+    } else {
+        size_t again = 77;
+        WANT(call(locale, NULL, 0, &again) == status && again == 0);
+    }
+    return text;
+}
+
+typedef icu_locale_status (*reading_at)(icu_locale_t *, size_t, uint8_t *, size_t, size_t *);
+
+static const char *read_at(icu_locale_t *locale, reading_at call, size_t index)
+{
+    size_t needed = 77;
+    return ended(call(locale, index, (uint8_t *)last, ROOM - 1, &needed), needed);
+}
+
+static const char *keyword(icu_locale_t *locale, const char *key)
+{
+    size_t needed = 77;
+    return ended(icu_locale_get_keyword(locale, TEXT(key), (uint8_t *)last, ROOM - 1, &needed), needed);
+}
+
+static int is_now(icu_locale_t *locale, const char *text)
+{
+    const char *now = read_part(locale, icu_locale_to_string);
+    if (strcmp(now, text) != 0)
+        fprintf(stderr, "%s, and not %s\n", now, text);
+    return strcmp(now, text) == 0;
+}
+
+#define PARSES(locale, text) WANT(icu_locale_parse(locale, TEXT(text)) == ICU_LOCALE_DONE)
+
+/* FNV-1a, written from its description. */
+static uint64_t fnv(const char *text)
+{
+    uint64_t hash = UINT64_C(0xcbf29ce484222325);
+    for (; *text; text++)
+        hash = (hash ^ (uint8_t)*text) * UINT64_C(0x100000001b3);
+    return hash;
+}
+
+/* The normal form of a text as a locale or an identifier; NULL if it has none. */
+static const char *normal_of(icu_locale_mode mode, const char *text)
+{
+    static char normal[ROOM];
+    size_t needed;
+    icu_locale_status status = icu_locale_normalize(mode, TEXT(text), (uint8_t *)normal, ROOM - 1, &needed);
+    if (status != ICU_LOCALE_DONE)
+        return NULL;
+    normal[needed] = 0;
+    return normal;
+}
+
+/* Known cases. */
+
+static void try_und(void)
+{
+    icu_locale_t und = ICU_LOCALE_UND, other = ICU_LOCALE_UND;
+    WANT(icu_locale_is_und(&und) && icu_locale_is_well_formed(&und) && is_now(&und, "und"));
+    WANT(strcmp(read_part(&und, icu_locale_get_base_name), "und") == 0);
+    WANT(strcmp(read_part(&und, icu_locale_get_language), "und") == 0);
+    WANT(strcmp(read_part(&und, icu_locale_get_script), "") == 0);
+    WANT(strcmp(read_part(&und, icu_locale_get_region), "") == 0);
+    WANT(icu_locale_variant_count(&und) == 0 && icu_locale_keyword_count(&und) == 0);
+    WANT(strcmp(read_at(&und, icu_locale_get_variant, 0), "?") == 0 && strcmp(keyword(&und, "ca"), "?") == 0);
+    WANT(icu_locale_eq(&und, &other) && icu_locale_cmp(&und, &other) == 0);
+    WANT(icu_locale_cmp_bytes(&und, TEXT("und")) == 0 && icu_locale_hash(&und) == fnv("und"));
+    WANT(icu_locale_copy(&und, &other) == ICU_LOCALE_DONE && und.at == NULL && other.at == NULL);
+    WANT(icu_locale_remove_variant(&und, TEXT("posix")) == ICU_LOCALE_NOT_FOUND && und.at == NULL);
+    WANT(icu_locale_set_region(&und, TEXT("USA")) == ICU_LOCALE_INVALID_SUBTAG && und.at == NULL);
+    WANT(icu_locale_parse(&und, TEXT("en-")) == ICU_LOCALE_INVALID_SUBTAG && und.at == NULL);
+    PARSES(&und, "UND");
+    WANT(und.at == NULL);
+    icu_locale_free(&und);
+    icu_locale_free(&und);
+    WANT(und.at == NULL);
+}
+
+static void try_whole(void)
+{
+    icu_locale_t locale = ICU_LOCALE_UND, other = ICU_LOCALE_UND;
+    uint8_t same = 9;
+    PARSES(&locale, "EN-latn-us-POSIX-u-CA-Buddhist-x-A");
+    WANT(is_now(&locale, "en-Latn-US-posix-u-ca-buddhist-x-a") && !icu_locale_is_und(&locale));
+    WANT(icu_locale_parse(&locale, TEXT("e")) == ICU_LOCALE_INVALID_LANGUAGE);
+    WANT(icu_locale_parse(&locale, TEXT("en-us-u")) == ICU_LOCALE_INVALID_EXTENSION);
+    WANT(icu_locale_parse(&locale, TEXT("en-a-bb-a-cc")) == ICU_LOCALE_DUPLICATED_EXTENSION);
+    WANT(icu_locale_parse(&locale, NULL, 0) == ICU_LOCALE_INVALID_LANGUAGE);
+    WANT(is_now(&locale, "en-Latn-US-posix-u-ca-buddhist-x-a"));
+    WANT(strcmp(read_part(&locale, icu_locale_get_base_name), "en-Latn-US-posix") == 0);
+    WANT(icu_locale_copy(&other, &locale) == ICU_LOCALE_DONE && icu_locale_eq(&locale, &other));
+    WANT(icu_locale_hash(&locale) == icu_locale_hash(&other) && icu_locale_cmp(&locale, &other) == 0);
+    WANT(icu_locale_set_region(&other, TEXT("gb")) == ICU_LOCALE_DONE && !icu_locale_eq(&locale, &other));
+    WANT(icu_locale_cmp(&locale, &other) == 1 && icu_locale_cmp(&other, &locale) == -1);
+    WANT(is_now(&locale, "en-Latn-US-posix-u-ca-buddhist-x-a"));
+    WANT(icu_locale_cmp_bytes(&other, TEXT("en-Latn-GB-posix-u-ca-buddhist-x-a")) == 0);
+    WANT(icu_locale_cmp_bytes(&other, TEXT("en-Latn-GB")) == 1 && icu_locale_cmp_bytes(&other, TEXT("f")) == -1);
+    WANT(icu_locale_cmp_bytes(&other, NULL, 0) == 1);
+    WANT(icu_locale_eq_text(&other, TEXT("EN-latn-gb-posix-u-ca-buddhist-x-a"), &same) == ICU_LOCALE_DONE && same == 1);
+    WANT(icu_locale_eq_text(&other, TEXT("en"), &same) == ICU_LOCALE_DONE && same == 0);
+    WANT(icu_locale_eq_text(&other, TEXT("e"), &same) == ICU_LOCALE_DONE && same == 0);
+    WANT(icu_locale_copy(&locale, &other) == ICU_LOCALE_DONE && is_now(&locale, "en-Latn-GB-posix-u-ca-buddhist-x-a"));
+    icu_locale_free(&other);
+    WANT(icu_locale_copy(&locale, &other) == ICU_LOCALE_DONE && locale.at == NULL);
+    icu_locale_free(&locale);
+}
+
+static void try_identifier(void)
+{
+    icu_locale_t locale = ICU_LOCALE_UND;
+    WANT(icu_locale_set_script(&locale, TEXT("LATN")) == ICU_LOCALE_DONE && is_now(&locale, "und-Latn"));
+    WANT(icu_locale_set_language(&locale, TEXT("Sr")) == ICU_LOCALE_DONE && is_now(&locale, "sr-Latn"));
+    WANT(icu_locale_set_region(&locale, TEXT("rs")) == ICU_LOCALE_DONE && is_now(&locale, "sr-Latn-RS"));
+    WANT(strcmp(read_part(&locale, icu_locale_get_language), "sr") == 0);
+    WANT(strcmp(read_part(&locale, icu_locale_get_script), "Latn") == 0);
+    WANT(strcmp(read_part(&locale, icu_locale_get_region), "RS") == 0);
+    WANT(icu_locale_set_language(&locale, TEXT("s")) == ICU_LOCALE_INVALID_LANGUAGE);
+    WANT(icu_locale_set_language(&locale, TEXT("sr-Latn")) == ICU_LOCALE_INVALID_LANGUAGE);
+    WANT(icu_locale_set_script(&locale, TEXT("lat")) == ICU_LOCALE_INVALID_SUBTAG);
+    WANT(icu_locale_set_region(&locale, TEXT("\xff\xff")) == ICU_LOCALE_INVALID_SUBTAG);
+    WANT(is_now(&locale, "sr-Latn-RS"));
+    WANT(icu_locale_set_region(&locale, TEXT("419")) == ICU_LOCALE_DONE && is_now(&locale, "sr-Latn-419"));
+    WANT(icu_locale_set_script(&locale, NULL, 0) == ICU_LOCALE_DONE && is_now(&locale, "sr-419"));
+    WANT(icu_locale_set_language(&locale, NULL, 0) == ICU_LOCALE_DONE && is_now(&locale, "und-419"));
+    WANT(icu_locale_set_region(&locale, NULL, 0) == ICU_LOCALE_DONE && locale.at == NULL);
+}
+
+static void try_variants(void)
+{
+    icu_locale_t locale = ICU_LOCALE_UND;
+    WANT(icu_locale_add_variant(&locale, TEXT("POSIX")) == ICU_LOCALE_DONE && is_now(&locale, "und-posix"));
+    WANT(icu_locale_add_variant(&locale, TEXT("macos")) == ICU_LOCALE_DONE && is_now(&locale, "und-macos-posix"));
+    WANT(icu_locale_add_variant(&locale, TEXT("posix")) == ICU_LOCALE_DONE && is_now(&locale, "und-macos-posix"));
+    WANT(icu_locale_add_variant(&locale, TEXT("pos")) == ICU_LOCALE_INVALID_SUBTAG);
+    WANT(icu_locale_add_variant(&locale, NULL, 0) == ICU_LOCALE_INVALID_SUBTAG && is_now(&locale, "und-macos-posix"));
+    WANT(icu_locale_variant_count(&locale) == 2);
+    WANT(strcmp(read_at(&locale, icu_locale_get_variant, 0), "macos") == 0);
+    WANT(strcmp(read_at(&locale, icu_locale_get_variant, 1), "posix") == 0);
+    WANT(strcmp(read_at(&locale, icu_locale_get_variant, 2), "?") == 0);
+    WANT(strcmp(read_at(&locale, icu_locale_get_variant, SIZE_MAX), "?") == 0);
+    WANT(icu_locale_has_variant(&locale, TEXT("Macos")) && !icu_locale_has_variant(&locale, TEXT("maco")));
+    WANT(!icu_locale_has_variant(&locale, TEXT("fonipa")) && !icu_locale_has_variant(&locale, NULL, 0));
+    WANT(icu_locale_remove_variant(&locale, TEXT("fonipa")) == ICU_LOCALE_NOT_FOUND);
+    WANT(icu_locale_remove_variant(&locale, TEXT("mac")) == ICU_LOCALE_NOT_FOUND && is_now(&locale, "und-macos-posix"));
+    WANT(icu_locale_remove_variant(&locale, TEXT("MACOS")) == ICU_LOCALE_DONE && is_now(&locale, "und-posix"));
+    WANT(icu_locale_set_language(&locale, TEXT("en")) == ICU_LOCALE_DONE);
+    WANT(icu_locale_clear_variants(&locale) == ICU_LOCALE_DONE && is_now(&locale, "en"));
+    WANT(icu_locale_clear_variants(&locale) == ICU_LOCALE_DONE && is_now(&locale, "en"));
+    icu_locale_free(&locale);
+}
+
+static void try_keywords(void)
+{
+    icu_locale_t locale = ICU_LOCALE_UND;
+    WANT(icu_locale_set_keyword(&locale, TEXT("NU"), TEXT("Latn")) == ICU_LOCALE_DONE && is_now(&locale, "und-u-nu-latn"));
+    WANT(icu_locale_set_keyword(&locale, TEXT("ca"), TEXT("islamic-Civil")) == ICU_LOCALE_DONE);
+    WANT(icu_locale_set_keyword(&locale, TEXT("kn"), TEXT("true")) == ICU_LOCALE_DONE);
+    WANT(icu_locale_set_keyword(&locale, TEXT("kb"), NULL, 0) == ICU_LOCALE_DONE);
+    WANT(is_now(&locale, "und-u-ca-islamic-civil-kb-kn-nu-latn") && icu_locale_keyword_count(&locale) == 4);
+    WANT(strcmp(keyword(&locale, "CA"), "islamic-civil") == 0 && strcmp(keyword(&locale, "kn"), "") == 0);
+    WANT(strcmp(keyword(&locale, "hc"), "?") == 0 && strcmp(keyword(&locale, "calendar"), "?") == 0 && strcmp(keyword(&locale, ""), "?") == 0);
+    WANT(strcmp(read_at(&locale, icu_locale_get_keyword_key, 0), "ca") == 0);
+    WANT(strcmp(read_at(&locale, icu_locale_get_keyword_value, 0), "islamic-civil") == 0);
+    WANT(strcmp(read_at(&locale, icu_locale_get_keyword_key, 3), "nu") == 0);
+    WANT(strcmp(read_at(&locale, icu_locale_get_keyword_value, 2), "") == 0);
+    WANT(strcmp(read_at(&locale, icu_locale_get_keyword_key, 4), "?") == 0);
+    WANT(strcmp(read_at(&locale, icu_locale_get_keyword_value, 4), "?") == 0);
+    WANT(icu_locale_set_keyword(&locale, TEXT("c"), TEXT("x")) == ICU_LOCALE_INVALID_EXTENSION);
+    WANT(icu_locale_set_keyword(&locale, TEXT("ca"), TEXT("x")) == ICU_LOCALE_INVALID_SUBTAG);
+    WANT(icu_locale_set_keyword(&locale, TEXT("ca"), TEXT("roc-")) == ICU_LOCALE_INVALID_SUBTAG);
+    WANT(icu_locale_remove_keyword(&locale, TEXT("hc")) == ICU_LOCALE_NOT_FOUND);
+    WANT(icu_locale_remove_keyword(&locale, TEXT("calendar")) == ICU_LOCALE_NOT_FOUND);
+    WANT(is_now(&locale, "und-u-ca-islamic-civil-kb-kn-nu-latn"));
+    WANT(icu_locale_set_keyword(&locale, TEXT("ca"), TEXT("roc")) == ICU_LOCALE_DONE);
+    WANT(icu_locale_remove_keyword(&locale, TEXT("Nu")) == ICU_LOCALE_DONE && is_now(&locale, "und-u-ca-roc-kb-kn"));
+    WANT(icu_locale_is_well_formed(&locale) && icu_locale_set_keyword(&locale, TEXT("ca"), TEXT("nu")) == ICU_LOCALE_DONE);
+    WANT(!icu_locale_is_well_formed(&locale) && is_now(&locale, "und-u-ca-nu-kb-kn"));
+    WANT(icu_locale_clear_keywords(&locale) == ICU_LOCALE_DONE && locale.at == NULL);
+}
+
+/* Random calls, and a model of a locale. */
+
+struct model {
+    char language[16], script[16], region[16], variants[MANY][16];
+    char keys[MANY][4], values[MANY][64];
+    int variant_count, keyword_count;
+};
+
+static const char *const WORDS[] = {
+    "en", "EN", "de", "und", "sr", "abcd", "abcde", "abcdefghi", "e", "", "Latn", "latn", "CYRL", "1abc", "1996", "US", "us", "gb", "419", "12", "posix",
+    "POSIX", "macos", "fonipa", "valencia", "rozaj", "biske", "scouse", "ca", "nu", "KN", "hc", "c1", "1c", "11", "a", "\xff\xff", "en-US", "-", "u-ca", "true",
+    "aaaaa", "bbbbb", "ccccc",
+};
+static const char *const VALUES[] = {
+    "", "true", "TRUE", "buddhist", "islamic-civil", "h12", "Latn", "a", "abcdefghi", "aaa-bbb-ccc-ddd-eee", "aaa-true-bbb", "aaa--bbb", "-", "\xff\xff\xff", "roc",
+};
+static const char *const LOCALES[] = {
+    "en", "und", "en-US-u-ca-buddhist", "de-aaaaa-bbbbb-ccccc-ddddd-eeeee", "sr-latn-RS-u-ca-roc-kn-nu-latn-hc-h12", "e", "en-", "en-u", "zh-hant-posix-u-ca-aaa-bbb-ccc-ddd-eee-fff",
+};
+
+static uint64_t state;
+
+/* A number below the bound (xorshift64*). */
+static size_t below(size_t bound)
+{
+    state ^= state >> 12;
+    state ^= state << 25;
+    state ^= state >> 27;
+    return (size_t)((state * UINT64_C(2685821657736338717)) >> 33) % bound;
+}
+
+#define ANY(them) (them)[below(sizeof(them) / sizeof *(them))]
+
+static void lower(char *to, const char *from)
+{
+    for (; *from; from++)
+        *to++ = (char)tolower((unsigned char)*from);
+    *to = 0;
+}
+
+/* Whether the text stands alone at the place of an identifier that the frame leaves open. */
+static int fits(const char *frame, const char *text)
+{
+    char whole[128];
+    snprintf(whole, sizeof whole, "%s%s", frame, text);
+    return *text && !strchr(text, '-') && normal_of(ICU_LOCALE_IDENTIFIER, whole) != NULL;
+}
+
+static int is_script(const char *text)
+{
+    return strlen(text) == 4 && !isdigit((unsigned char)*text) && fits("und-", text);
+}
+
+static int is_region(const char *text)
+{
+    return strlen(text) < 4 && fits("und-Latn-", text);
+}
+
+static int is_variant(const char *text)
+{
+    return strlen(text) >= 4 && !is_script(text) && fits("und-", text);
+}
+
+static int is_key(const char *text)
+{
+    char whole[128];
+    snprintf(whole, sizeof whole, "und-u-%s", text);
+    return strlen(text) == 2 && normal_of(ICU_LOCALE_LOCALE, whole) != NULL;
+}
+
+static int is_value(const char *text)
+{
+    char whole[128];
+    snprintf(whole, sizeof whole, "und-u-ca-%s", text);
+    return !*text || normal_of(ICU_LOCALE_LOCALE, whole) != NULL;
+}
+
+/* What the model stands for, in its normal form. */
+static const char *written(const struct model *it)
+{
+    char whole[2048];
+    int at = snprintf(whole, sizeof whole, "%s", *it->language ? it->language : "und");
+    if (*it->script)
+        at += snprintf(whole + at, sizeof whole - (size_t)at, "-%s", it->script);
+    if (*it->region)
+        at += snprintf(whole + at, sizeof whole - (size_t)at, "-%s", it->region);
+    for (int i = 0; i < it->variant_count; i++)
+        at += snprintf(whole + at, sizeof whole - (size_t)at, "-%s", it->variants[i]);
+    for (int i = 0; i < it->keyword_count; i++) {
+        at += snprintf(whole + at, sizeof whole - (size_t)at, "%s-%s", i == 0 ? "-u" : "", it->keys[i]);
+        if (*it->values[i])
+            at += snprintf(whole + at, sizeof whole - (size_t)at, "-%s", it->values[i]);
+    }
+    const char *normal = normal_of(ICU_LOCALE_LOCALE, whole);
+    WANT(normal != NULL);
+    return normal;
+}
+
+static int variant_of(const struct model *it, const char *word)
+{
+    int i = it->variant_count - 1;
+    while (i >= 0 && strcmp(it->variants[i], word) != 0)
+        i--;
+    return i;
+}
+
+static int keyword_of(const struct model *it, const char *key)
+{
+    int i = it->keyword_count - 1;
+    while (i >= 0 && strcmp(it->keys[i], key) != 0)
+        i--;
+    return i;
+}
+
+/* The model of a locale of the list, which has no other extension than u, with keywords alone. */
+static void model_of(struct model *it, const char *text)
+{
+    char whole[256], *part, *next = whole;
+    memset(it, 0, sizeof *it);
+    snprintf(whole, sizeof whole, "%s", normal_of(ICU_LOCALE_LOCALE, text));
+    int is_keywords = 0, at = -1;
+    for (int i = 0; next; i++) {
+        part = next;
+        next = strchr(part, '-');
+        if (next)
+            *next++ = 0;
+        if (i == 0)
+            snprintf(it->language, sizeof it->language, "%s", part);
+        else if (!is_keywords && strlen(part) == 1)
+            is_keywords = 1;
+        else if (is_keywords && strlen(part) == 2)
+            snprintf(it->keys[at = it->keyword_count++], 4, "%s", part);
+        else if (is_keywords)
+            snprintf(it->values[at] + strlen(it->values[at]), 16, "%s%s", *it->values[at] ? "-" : "", part);
+        else if (is_script(part))
+            snprintf(it->script, sizeof it->script, "%s", part);
+        else if (is_region(part))
+            snprintf(it->region, sizeof it->region, "%s", part);
+        else
+            snprintf(it->variants[it->variant_count++], 16, "%s", part);
+    }
+}
+
+static void step_parts(icu_locale_t *locale, struct model *it, const char *word)
+{
+    char small[64];
+    lower(small, word);
+    switch (below(3)) {
+    case 0:
+        WANT(icu_locale_set_language(locale, TEXT(word)) == (!*word || fits("", word) ? ICU_LOCALE_DONE : ICU_LOCALE_INVALID_LANGUAGE));
+        if (!*word || fits("", word))
+            snprintf(it->language, sizeof it->language, "%s", *word ? small : "und");
+        break;
+    case 1:
+        WANT(icu_locale_set_script(locale, TEXT(word)) == (!*word || is_script(word) ? ICU_LOCALE_DONE : ICU_LOCALE_INVALID_SUBTAG));
+        if (!*word || is_script(word))
+            snprintf(it->script, sizeof it->script, "%s", small);
+        break;
+    default:
+        WANT(icu_locale_set_region(locale, TEXT(word)) == (!*word || is_region(word) ? ICU_LOCALE_DONE : ICU_LOCALE_INVALID_SUBTAG));
+        if (!*word || is_region(word))
+            snprintf(it->region, sizeof it->region, "%s", small);
+    }
+}
+
+static void step_variants(icu_locale_t *locale, struct model *it, const char *word)
+{
+    char small[64];
+    lower(small, word);
+    int at = is_variant(word) ? variant_of(it, small) : -1;
+    WANT(icu_locale_has_variant(locale, TEXT(word)) == (at >= 0));
+    switch (below(5)) {
+    case 0:
+        WANT(icu_locale_remove_variant(locale, TEXT(word)) == (at >= 0 ? ICU_LOCALE_DONE : ICU_LOCALE_NOT_FOUND));
+        if (at >= 0)
+            memmove(it->variants[at], it->variants[--it->variant_count], 16);
+        break;
+    case 1:
+        if (below(8) == 0) {
+            WANT(icu_locale_clear_variants(locale) == ICU_LOCALE_DONE);
+            it->variant_count = 0;
+        }
+        break;
+    default:
+        WANT(icu_locale_add_variant(locale, TEXT(word)) == (is_variant(word) ? ICU_LOCALE_DONE : ICU_LOCALE_INVALID_SUBTAG));
+        if (is_variant(word) && at < 0)
+            snprintf(it->variants[it->variant_count++], 16, "%s", small);
+    }
+}
+
+static void step_keywords(icu_locale_t *locale, struct model *it, const char *key, const char *value)
+{
+    char small[64], normal[64];
+    lower(small, key);
+    int at = is_key(key) ? keyword_of(it, small) : -1;
+    WANT((strcmp(keyword(locale, key), "?") != 0) == (at >= 0));
+    switch (below(5)) {
+    case 0:
+        WANT(icu_locale_remove_keyword(locale, TEXT(key)) == (at >= 0 ? ICU_LOCALE_DONE : ICU_LOCALE_NOT_FOUND));
+        if (at >= 0 && at != --it->keyword_count) {
+            memcpy(it->keys[at], it->keys[it->keyword_count], 4);
+            memcpy(it->values[at], it->values[it->keyword_count], 64);
+        }
+        break;
+    case 1:
+        if (below(8) == 0) {
+            WANT(icu_locale_clear_keywords(locale) == ICU_LOCALE_DONE);
+            it->keyword_count = 0;
+        }
+        break;
+    default:
+        WANT(icu_locale_set_keyword(locale, TEXT(key), TEXT(value))
+            == (!is_key(key) ? ICU_LOCALE_INVALID_EXTENSION : !is_value(value) ? ICU_LOCALE_INVALID_SUBTAG : ICU_LOCALE_DONE));
+        if (is_key(key) && is_value(value)) {
+            if (at < 0)
+                snprintf(it->keys[at = it->keyword_count++], 4, "%s", small);
+            lower(normal, value);
+            snprintf(it->values[at], 64, "%s", normal);
+        }
+    }
+}
+
+/* Each part, as the model has it. */
+static void see(icu_locale_t *locale, const struct model *it)
+{
+    char normal[ROOM], base[ROOM], *after;
+    snprintf(normal, sizeof normal, "%s", written(it));
+    snprintf(base, sizeof base, "%s", normal);
+    if ((after = strstr(base, "-u-")))
+        *after = 0;
+    WANT(is_now(locale, normal) && icu_locale_cmp_bytes(locale, TEXT(normal)) == 0);
+    WANT(icu_locale_hash(locale) == fnv(normal) && icu_locale_is_well_formed(locale));
+    WANT(icu_locale_is_und(locale) == (strcmp(normal, "und") == 0) && (locale->at == NULL) == icu_locale_is_und(locale));
+    WANT(strcmp(read_part(locale, icu_locale_get_base_name), base) == 0);
+    WANT(strcmp(read_part(locale, icu_locale_get_language), *it->language ? it->language : "und") == 0);
+    WANT(strlen(read_part(locale, icu_locale_get_script)) == strlen(it->script));
+    WANT(strlen(read_part(locale, icu_locale_get_region)) == strlen(it->region));
+    WANT(icu_locale_variant_count(locale) == (size_t)it->variant_count);
+    for (size_t i = 0; i < (size_t)it->variant_count; i++) {
+        WANT(variant_of(it, read_at(locale, icu_locale_get_variant, i)) >= 0);
+        WANT(icu_locale_has_variant(locale, TEXT(it->variants[i])));
+    }
+    WANT(strcmp(read_at(locale, icu_locale_get_variant, (size_t)it->variant_count), "?") == 0);
+    WANT(icu_locale_keyword_count(locale) == (size_t)it->keyword_count);
+    for (size_t i = 0; i < (size_t)it->keyword_count; i++) {
+        char key[4], value[64];
+        snprintf(key, sizeof key, "%s", read_at(locale, icu_locale_get_keyword_key, i));
+        snprintf(value, sizeof value, "%s", read_at(locale, icu_locale_get_keyword_value, i));
+        WANT(keyword_of(it, key) >= 0 && strcmp(keyword(locale, key), value) == 0);
+    }
+    WANT(strcmp(read_at(locale, icu_locale_get_keyword_key, (size_t)it->keyword_count), "?") == 0);
+}
+
+static void step_two(icu_locale_t *one, struct model *first, icu_locale_t *two, const struct model *second)
+{
+    char a[ROOM], b[ROOM];
+    uint8_t same = 9;
+    snprintf(a, sizeof a, "%s", written(first));
+    snprintf(b, sizeof b, "%s", written(second));
+    WANT(icu_locale_eq(one, two) == (strcmp(a, b) == 0) && (icu_locale_cmp(one, two) == 0) == (strcmp(a, b) == 0));
+    WANT(icu_locale_cmp(one, two) == -icu_locale_cmp(two, one));
+    WANT(icu_locale_eq_text(one, TEXT(b), &same) == ICU_LOCALE_DONE && same == (strcmp(a, b) == 0));
+    if (below(4) == 0) {
+        WANT(icu_locale_copy(one, two) == ICU_LOCALE_DONE);
+        *first = *second;
+    }
+}
+
+static void step_parse(icu_locale_t *locale, struct model *it, const char *text)
+{
+    icu_locale_status status = icu_locale_parse(locale, TEXT(text));
+    WANT(status == icu_locale_check(ICU_LOCALE_LOCALE, TEXT(text)));
+    if (status == ICU_LOCALE_DONE)
+        model_of(it, text);
+}
+
+static void try_script(uint64_t seed, long steps)
+{
+    icu_locale_t locales[3] = {ICU_LOCALE_UND, ICU_LOCALE_UND, ICU_LOCALE_UND};
+    struct model models[3];
+    memset(models, 0, sizeof models);
+    state = seed * 2 + 1;
+    for (long step = 0; step < steps; step++) {
+        size_t i = below(3), j = (i + 1 + below(2)) % 3;
+        switch (below(12)) {
+        case 0:
+            step_parse(&locales[i], &models[i], ANY(LOCALES));
+            break;
+        case 1:
+            step_two(&locales[i], &models[i], &locales[j], &models[j]);
+            break;
+        case 2:
+            if (below(4) == 0) {
+                icu_locale_free(&locales[i]);
+                memset(&models[i], 0, sizeof models[i]);
+            }
+            break;
+        case 3: case 4: case 5:
+            step_parts(&locales[i], &models[i], ANY(WORDS));
+            break;
+        case 6: case 7: case 8:
+            step_variants(&locales[i], &models[i], ANY(WORDS));
+            break;
+        default:
+            step_keywords(&locales[i], &models[i], ANY(WORDS), ANY(VALUES));
+        }
+        see(&locales[i], &models[i]);
+    }
+    for (size_t i = 0; i < 3; i++)
+        icu_locale_free(&locales[i]);
+}
+
+/* Each allocation of each call refused in turn. */
+
+static long until_refused = -1, live;
+
+#ifdef REFUSING
+void *__real_malloc(size_t size);
+void *__real_realloc(void *place, size_t size);
+void __real_free(void *place);
+
+static int is_refused(void)
+{
+    return until_refused >= 0 && until_refused-- == 0;
+}
+
+void *__wrap_malloc(size_t size)
+{
+    if (is_refused())
+        return NULL;
+    live++;
+    return __real_malloc(size);
+}
+
+void *__wrap_realloc(void *place, size_t size)
+{
+    if (is_refused())
+        return NULL;
+    live += place == NULL;
+    return __real_realloc(place, size);
+}
+
+void __wrap_free(void *place)
+{
+    live -= place != NULL;
+    __real_free(place);
+}
+#endif
+
+static icu_locale_t source;
+
+static icu_locale_status call_parse(icu_locale_t *it)
+{
+    return icu_locale_parse(it, TEXT("de-aaaaa-bbbbb-ccccc-ddddd-eeeee-t-und-m0-abc-u-aaa-ca-aaa-bbb-ccc-ddd-eee-co-phonebk-x-a-b-c-d-e"));
+}
+
+static icu_locale_status call_copy(icu_locale_t *it)
+{
+    return icu_locale_copy(it, &source);
+}
+
+static icu_locale_status call_language(icu_locale_t *it)
+{
+    return icu_locale_set_language(it, TEXT("fr"));
+}
+
+static icu_locale_status call_script(icu_locale_t *it)
+{
+    return icu_locale_set_script(it, TEXT("Cyrl"));
+}
+
+static icu_locale_status call_region(icu_locale_t *it)
+{
+    return icu_locale_set_region(it, TEXT("FR"));
+}
+
+static icu_locale_status call_add_variant(icu_locale_t *it)
+{
+    return icu_locale_add_variant(it, TEXT("posix"));
+}
+
+static icu_locale_status call_keyword(icu_locale_t *it)
+{
+    return icu_locale_set_keyword(it, TEXT("nu"), TEXT("aaa-bbb-ccc-ddd-eee-fff"));
+}
+
+static icu_locale_status call_eq_text(icu_locale_t *it)
+{
+    uint8_t same = 9;
+    icu_locale_status status = icu_locale_eq_text(it, TEXT("de-aaaaa-bbbbb-ccccc-ddddd-eeeee-u-ca-roc-co-phonebk"), &same);
+    WANT((same == 9) == (status == ICU_LOCALE_OUT_OF_MEMORY));
+    return status;
+}
+
+static icu_locale_status call_nothing(icu_locale_t *it)
+{
+    WANT(icu_locale_set_region(it, TEXT("fra")) == ICU_LOCALE_INVALID_SUBTAG);
+    WANT(icu_locale_remove_variant(it, TEXT("fonipa")) == ICU_LOCALE_NOT_FOUND);
+    WANT(icu_locale_remove_keyword(it, TEXT("zz")) == ICU_LOCALE_NOT_FOUND);
+    return icu_locale_clear_keywords(it);
+}
+
+static void refuse_each(icu_locale_status (*call)(icu_locale_t *), const char *start, int may_allocate)
+{
+    for (long n = 0;; n++) {
+        icu_locale_t locale = ICU_LOCALE_UND;
+        char before[ROOM];
+        PARSES(&locale, start);
+        snprintf(before, sizeof before, "%s", read_part(&locale, icu_locale_to_string));
+        until_refused = n;
+        icu_locale_status status = call(&locale);
+        int is_over = until_refused >= 0;
+        until_refused = -1;
+        WANT(status == (is_over ? ICU_LOCALE_DONE : ICU_LOCALE_OUT_OF_MEMORY));
+        WANT(is_over || (may_allocate && is_now(&locale, before)));
+        WANT(is_over || strcmp(before, "und") != 0 || locale.at == NULL);
+        icu_locale_free(&locale);
+        if (is_over)
+            break;
+    }
+}
+
+static void try_refused(void)
+{
+    const char *starts[] = {"und", "en", "en-aaaaa-bbbbb-ccccc-ddddd", "en-aaaaa-bbbbb-ccccc-ddddd-eeeee-t-de-m0-abc-u-ca-roc-nu-latn-x-a-b-c-d-e"};
+    PARSES(&source, "de-aaaaa-bbbbb-ccccc-ddddd-eeeee-t-und-m0-abc-u-aaa-bbb-ccc-ddd-eee-ca-aaa-bbb-ccc-ddd-eee-co-phonebk-x-a-b-c-d-e");
+    long held = live;
+    for (size_t i = 0; i < sizeof starts / sizeof *starts; i++) {
+        int is_und = i == 0;
+        refuse_each(call_parse, starts[i], 1);
+        refuse_each(call_copy, starts[i], 1);
+        refuse_each(call_language, starts[i], is_und);
+        refuse_each(call_script, starts[i], is_und);
+        refuse_each(call_region, starts[i], is_und);
+        refuse_each(call_add_variant, starts[i], is_und || i > 1);
+        refuse_each(call_keyword, starts[i], 1);
+        refuse_each(call_eq_text, starts[i], 1);
+        refuse_each(call_nothing, starts[i], 0);
+        WANT(live == held);
+    }
+    icu_locale_free(&source);
+    WANT(live == 0);
+}
+
+int main(int count, char **words)
+{
+    if (count == 2 && !strcmp(words[1], "parts")) {
+        try_und();
+        try_whole();
+        try_identifier();
+        try_variants();
+        try_keywords();
+    } else if (count == 4 && !strcmp(words[1], "script")) {
+        try_script(strtoull(words[2], NULL, 10), strtol(words[3], NULL, 10));
+    } else if (count == 2 && !strcmp(words[1], "refused")) {
+        try_refused();
+    } else {
+        fprintf(stderr, "usage: handles parts | script SEED STEPS | refused\n");
+        return 2;
+    }
+    printf("%lu\n", cases);
+    return 0;
+}

@@ -1,0 +1,100 @@
+//! Calls on the identifier of a locale.
+ghost use Rattle.std.specs.Prelude.{◌≡◌, Some};
+ghost use Rattle.iloc_spec_grammar.specs.Values.{identifier_text};
+ghost use Rattle.iloc_calls.specs.Numbers.{EndsAs};
+ghost use Rattle.iloc_handles.specs.Held.{IsTight, meaning_of};
+ghost use Rattle.iloc_handles.specs.Finding.{Changes, Tells};
+ghost use Rattle.iloc_handles.specs.Identifier.{SetsLanguage, SetsRegion, SetsScript, text_or_empty};
+
+use iloc_handles::Handle;
+use std::alloc::Global;
+
+/// Hands out the identifier, without extensions.
+#[unsafe(no_mangle)]
+pub extern "C" fn icu_locale_get_base_name(
+    alloc: Global,
+    handle: &mut Handle,
+    buffer: &mut [u8],
+    needed: &mut usize,
+) -> u32
+    ensures same { handle.new.value ≡ handle.old.value }
+    ensures told { EndsAs (Tells (Some (identifier_text (meaning_of handle.old.value).id))
+        buffer.old buffer.new needed.new) result }
+{
+    iloc_handles::get_base_name(alloc, handle, buffer, needed)
+}
+
+/// Hands out the language.
+#[unsafe(no_mangle)]
+pub extern "C" fn icu_locale_get_language(
+    alloc: Global,
+    handle: &mut Handle,
+    buffer: &mut [u8],
+    needed: &mut usize,
+) -> u32
+    ensures same { handle.new.value ≡ handle.old.value }
+    ensures told { EndsAs (Tells (Some (meaning_of handle.old.value).id.language) buffer.old
+        buffer.new needed.new) result }
+{
+    iloc_handles::get_language(alloc, handle, buffer, needed)
+}
+
+/// Hands out the script; if it is absent, an empty text.
+#[unsafe(no_mangle)]
+pub extern "C" fn icu_locale_get_script(
+    alloc: Global,
+    handle: &mut Handle,
+    buffer: &mut [u8],
+    needed: &mut usize,
+) -> u32
+    ensures same { handle.new.value ≡ handle.old.value }
+    ensures told { EndsAs (Tells (Some (text_or_empty (meaning_of handle.old.value).id.script))
+        buffer.old buffer.new needed.new) result }
+{
+    iloc_handles::get_script(alloc, handle, buffer, needed)
+}
+
+/// Hands out the region; if it is absent, an empty text.
+#[unsafe(no_mangle)]
+pub extern "C" fn icu_locale_get_region(
+    alloc: Global,
+    handle: &mut Handle,
+    buffer: &mut [u8],
+    needed: &mut usize,
+) -> u32
+    ensures same { handle.new.value ≡ handle.old.value }
+    ensures told { EndsAs (Tells (Some (text_or_empty (meaning_of handle.old.value).id.region))
+        buffer.old buffer.new needed.new) result }
+{
+    iloc_handles::get_region(alloc, handle, buffer, needed)
+}
+
+/// Sets the language to the subtag of the text; an empty text makes it `und`.
+#[unsafe(no_mangle)]
+pub extern "C" fn icu_locale_set_language(alloc: Global, handle: &mut Handle, text: &[u8]) -> u32
+    ensures changed { EndsAs (Changes (SetsLanguage text.now) handle.old.value handle.new.value)
+        result }
+    ensures tight { IsTight handle.new.value }
+{
+    iloc_handles::set_language(alloc, handle, text)
+}
+
+/// Sets the script to the subtag of the text; an empty text removes it.
+#[unsafe(no_mangle)]
+pub extern "C" fn icu_locale_set_script(alloc: Global, handle: &mut Handle, text: &[u8]) -> u32
+    ensures changed { EndsAs (Changes (SetsScript text.now) handle.old.value handle.new.value)
+        result }
+    ensures tight { IsTight handle.new.value }
+{
+    iloc_handles::set_script(alloc, handle, text)
+}
+
+/// Sets the region to the subtag of the text; an empty text removes it.
+#[unsafe(no_mangle)]
+pub extern "C" fn icu_locale_set_region(alloc: Global, handle: &mut Handle, text: &[u8]) -> u32
+    ensures changed { EndsAs (Changes (SetsRegion text.now) handle.old.value handle.new.value)
+        result }
+    ensures tight { IsTight handle.new.value }
+{
+    iloc_handles::set_region(alloc, handle, text)
+}

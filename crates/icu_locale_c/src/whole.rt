@@ -1,0 +1,133 @@
+//! Calls on whole locales that a program holds.
+ghost use Rattle.std.specs.Prelude.{◌≡◌, ◌↔◌, IsTrue, None, Some};
+ghost use Rattle.std.specs.Ordering.{nat_cmp};
+ghost use Rattle.std.specs.Cmp.Lexicographic.{slice_cmp};
+ghost use Rattle.iloc_spec_grammar.specs.Values.{IsWellFormed, text as text_of};
+ghost use Rattle.iloc_spec_orders.specs.Orders.{locale_cmp};
+ghost use Rattle.iloc_locale.specs.LocaleValue.{unknown_locale};
+ghost use Rattle.iloc_calls.specs.Answers.{order_number};
+ghost use Rattle.iloc_calls.specs.Numbers.{EndsAs};
+ghost use Rattle.iloc_handles.specs.Held.{IsTight, meaning_of};
+ghost use Rattle.iloc_handles.specs.Finding.{Changes, Tells};
+ghost use Rattle.iloc_handles.specs.Whole.{Copies, ParsesTo, TellsMeant, hash_of};
+
+use iloc_handles::Handle;
+use std::alloc::Global;
+
+/// Stands for what the text means, from then on.
+#[unsafe(no_mangle)]
+pub extern "C" fn icu_locale_parse(alloc: Global, handle: &mut Handle, text: &[u8]) -> u32
+    ensures changed { EndsAs (Changes (ParsesTo text.now) handle.old.value handle.new.value)
+        result }
+    ensures tight { IsTight handle.new.value }
+{
+    iloc_handles::parse(alloc, handle, text)
+}
+
+/// Stands for the locale of the other handle, from then on.
+#[unsafe(no_mangle)]
+pub extern "C" fn icu_locale_copy(alloc: Global, handle: &mut Handle, from: &mut Handle) -> u32
+    ensures same { from.new.value ≡ from.old.value }
+    ensures changed { EndsAs (Changes (Copies (meaning_of from.old.value)) handle.old.value
+        handle.new.value) result }
+    ensures tight { IsTight handle.new.value }
+{
+    iloc_handles::copy(alloc, handle, from)
+}
+
+/// Stands for `und` from then on, and holds nothing.
+#[unsafe(no_mangle)]
+pub extern "C" fn icu_locale_free(alloc: Global, handle: &mut Handle)
+    ensures { handle.new.value ≡ None }
+{
+    iloc_handles::free(alloc, handle)
+}
+
+/// Whether it stands for `und`.
+#[unsafe(no_mangle)]
+pub extern "C" fn icu_locale_is_und(alloc: Global, handle: &mut Handle) -> bool
+    ensures same { handle.new.value ≡ handle.old.value }
+    ensures answered { IsTrue result ↔ (meaning_of handle.old.value ≡ unknown_locale) }
+{
+    iloc_handles::is_und(alloc, handle)
+}
+
+/// Whether the text of the locale means this locale.
+#[unsafe(no_mangle)]
+pub extern "C" fn icu_locale_is_well_formed(alloc: Global, handle: &mut Handle) -> bool
+    ensures same { handle.new.value ≡ handle.old.value }
+    ensures answered { IsTrue result ↔ IsWellFormed (meaning_of handle.old.value) }
+{
+    iloc_handles::is_well_formed(alloc, handle)
+}
+
+/// Hands out the normal form.
+#[unsafe(no_mangle)]
+pub extern "C" fn icu_locale_to_string(
+    alloc: Global,
+    handle: &mut Handle,
+    buffer: &mut [u8],
+    needed: &mut usize,
+) -> u32
+    ensures same { handle.new.value ≡ handle.old.value }
+    ensures told { EndsAs (Tells (Some (text_of (meaning_of handle.old.value))) buffer.old
+        buffer.new needed.new) result }
+{
+    iloc_handles::to_string(alloc, handle, buffer, needed)
+}
+
+/// The order of two locales by their parts, as -1, 0 or 1.
+#[unsafe(no_mangle)]
+pub extern "C" fn icu_locale_cmp(alloc: Global, handle: &mut Handle, other: &mut Handle) -> i8
+    ensures same { handle.new.value ≡ handle.old.value }
+    ensures same_other { other.new.value ≡ other.old.value }
+    ensures answered { result ≡ order_number
+        (locale_cmp (meaning_of handle.old.value) (meaning_of other.old.value)) }
+{
+    iloc_handles::cmp(alloc, handle, other)
+}
+
+/// Whether two locales are equal.
+#[unsafe(no_mangle)]
+pub extern "C" fn icu_locale_eq(alloc: Global, handle: &mut Handle, other: &mut Handle) -> bool
+    ensures same { handle.new.value ≡ handle.old.value }
+    ensures same_other { other.new.value ≡ other.old.value }
+    ensures answered { IsTrue result
+        ↔ (meaning_of handle.old.value ≡ meaning_of other.old.value) }
+{
+    iloc_handles::eq(alloc, handle, other)
+}
+
+/// The byte order of the normal form against other bytes, as -1, 0 or 1.
+#[unsafe(no_mangle)]
+pub extern "C" fn icu_locale_cmp_bytes(alloc: Global, handle: &mut Handle, other: &[u8]) -> i8
+    ensures same { handle.new.value ≡ handle.old.value }
+    ensures answered { result ≡ order_number
+        (slice_cmp nat_cmp (text_of (meaning_of handle.old.value)) other.now) }
+{
+    iloc_handles::cmp_bytes(alloc, handle, other)
+}
+
+/// Writes 1 if the text means the locale, and else 0.
+#[unsafe(no_mangle)]
+pub extern "C" fn icu_locale_eq_text(
+    alloc: Global,
+    handle: &mut Handle,
+    text: &[u8],
+    same: &mut u8,
+) -> u32
+    ensures same_locale { handle.new.value ≡ handle.old.value }
+    ensures told { EndsAs (TellsMeant text.now (meaning_of handle.old.value) same.old same.new)
+        result }
+{
+    iloc_handles::eq_text(alloc, handle, text, same)
+}
+
+/// The hash of the normal form, FNV-1a of its bytes.
+#[unsafe(no_mangle)]
+pub extern "C" fn icu_locale_hash(alloc: Global, handle: &mut Handle) -> u64
+    ensures same { handle.new.value ≡ handle.old.value }
+    ensures answered { result ≡ hash_of (text_of (meaning_of handle.old.value)) }
+{
+    iloc_handles::hash(alloc, handle)
+}

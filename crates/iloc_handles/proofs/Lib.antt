@@ -1,0 +1,4 @@
+pub mod HandleWords
+pub mod OpenBoxWords
+pub mod Settings
+pub mod SubtagLemmas

@@ -1,0 +1,66 @@
+-- The parts of the identifier of a locale: what each is, and what setting it does.
+use Rattle.std.specs.Prelude.{◌≡◌, ℕ, ◌≤◌, false, List, [], ◌∷◌, length, slice_get, Option, Some, unwrap_or, codes}
+use Rattle.iloc_spec_grammar.specs.Shapes.{Text}
+use Rattle.iloc_spec_grammar.specs.Words.{Language, Script, Region, Variant, IsWord, is_word, languages, normal}
+use Rattle.iloc_spec_grammar.specs.Meaning.{Locale, set_of}
+use Rattle.iloc_subtags.specs.Answers.{LanguageFault, SubtagFault}
+use Rattle.iloc_handles.specs.Finding.{Changing, Sets, Removes}
+use Rattle.iloc_handles.specs.Subtags.{IsOptional, IsNeither, HasWord, without_word}
+
+-- one part is another, and all else is the same
+
+abbrev pub with_language : Text → Locale → Locale
+with_language w M = record M { id = record M.id { language = w } }
+
+abbrev pub with_script : Option Text → Locale → Locale
+with_script o M = record M { id = record M.id { script = o } }
+
+abbrev pub with_region : Option Text → Locale → Locale
+with_region o M = record M { id = record M.id { region = o } }
+
+abbrev pub with_variants : List Text → Locale → Locale
+with_variants ws M = record M { id = record M.id { variants = ws } }
+
+-- `und` is the language of an empty text
+abbrev pub language_or_und : Option Text → Text
+language_or_und o = unwrap_or o (codes "und")
+
+abbrev pub SetsLanguage : Text → Changing
+SetsLanguage t = Sets
+    (λ before after. (o : Option Text) × IsOptional (Language languages) t o
+    × (after ≡ with_language (language_or_und o) before))
+    (LanguageFault (IsNeither (Language languages) t)) ⊥
+
+abbrev pub SetsScript : Text → Changing
+SetsScript t = Sets
+    (λ before after. (o : Option Text) × IsOptional Script t o × (after ≡ with_script o before))
+    (SubtagFault (IsNeither Script t)) ⊥
+
+abbrev pub SetsRegion : Text → Changing
+SetsRegion t = Sets
+    (λ before after. (o : Option Text) × IsOptional Region t o × (after ≡ with_region o before))
+    (SubtagFault (IsNeither Region t)) ⊥
+
+-- the variant is among the variants; memory may be wanted only if there are four or more
+abbrev pub AddsVariant : Text → Changing
+AddsVariant t before after status = Sets
+    (λ before after. IsWord Variant t
+    × (after ≡ with_variants (set_of (normal Variant t ∷ before.id.variants)) before))
+    (SubtagFault (is_word Variant t ≡ false)) (4 ≤ length before.id.variants) before after status
+
+-- the variant is not among them any more
+abbrev pub RemovesVariant : Text → Changing
+RemovesVariant t = Removes (λ M. HasWord Variant t M.id.variants)
+    (λ M. with_variants (without_word Variant t M.id.variants) M)
+
+-- nothing is left of them
+abbrev pub ClearsVariants : Changing
+ClearsVariants = Removes (λ M. Unit {0}) (with_variants [])
+
+-- the text of an optional part: an empty one if it is absent
+abbrev pub text_or_empty : Option Text → Text
+text_or_empty o = unwrap_or o []
+
+-- the variant at an index
+abbrev pub variant_at : ℕ → Locale → Option Text
+variant_at i M = slice_get M.id.variants i

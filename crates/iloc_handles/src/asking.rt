@@ -1,0 +1,112 @@
+//! What is asked of a handle: a part that has a text, a question, or a change. Each is asked of a locale, and stands
+//! for `und` where a handle has no box.
+ghost use Rattle.std.specs.Prelude.{◌≡◌, ℕ, List, Option};
+ghost use Rattle.iloc_spec_grammar.specs.Meaning as meaning;
+ghost use Rattle.iloc_locale.specs.LocaleValue.{value_of};
+ghost use Rattle.iloc_calls.specs.declared.status.Status.{Status};
+ghost use Rattle.iloc_handles.specs.Held.{IsTight, meaning_of};
+ghost use Rattle.iloc_handles.specs.Finding.{Changes, Tells};
+
+use crate::handle::{Handle, is_und};
+use iloc_calls::Status;
+use iloc_locale::Locale;
+use std::alloc::Global;
+
+/// A part of a locale that has a text.
+pub(crate) trait Part {
+    /// The text, unless there is no such part.
+    ghost text: { Self → meaning.Locale → Option (List ℕ) };
+
+    /// Hands the text out.
+    fn hand_out(&self, locale: &Locale, buffer: &mut [u8], needed: &mut usize) -> Status
+        ensures { Tells (text self.now (value_of locale.now)) buffer.old buffer.new
+            needed.new result };
+}
+
+/// A question about a locale.
+pub(crate) trait Question {
+    /// What is answered: a number, or whether something holds.
+    type Answer;
+
+    /// It is the answer.
+    ghost is_answer: { Self → meaning.Locale → Self.Answer → Type 0 };
+
+    /// Answers it.
+    fn ask(&self, locale: &Locale) -> Self::Answer
+        ensures { is_answer self.now (value_of locale.now) result };
+}
+
+/// A change of a locale.
+pub(crate) trait Change {
+    /// From the locale before to the locale after, and the status.
+    ghost changes: { Self → meaning.Locale → meaning.Locale → Status → Type 0 };
+
+    /// Makes it.
+    fn apply(&self, alloc: Global, locale: &mut Locale) -> Status
+        ensures { changes self.now (value_of locale.old) (value_of locale.new) result };
+}
+
+/// Hands the text of the part out.
+pub(crate) fn tell<P: Part>(
+    alloc: Global,
+    handle: &mut Handle,
+    part: &P,
+    buffer: &mut [u8],
+    needed: &mut usize,
+) -> Status
+    ensures same { handle.new.value ≡ handle.old.value }
+    ensures told { Tells (P.text part.now (meaning_of handle.old.value)) buffer.old buffer.new
+        needed.new result }
+{
+    match handle.take(alloc) {
+        Some(boxed) => {
+            let status = part.hand_out(boxed.as_ref(), buffer, needed);
+            handle.put(alloc, boxed);
+            status
+        }
+        None => part.hand_out(&Locale::unknown(alloc), buffer, needed),
+    }
+}
+
+/// Answers the question.
+pub(crate) fn ask<Q: Question>(alloc: Global, handle: &mut Handle, question: &Q) -> Q::Answer
+    ensures same { handle.new.value ≡ handle.old.value }
+    ensures answered { Q.is_answer question.now (meaning_of handle.old.value) result }
+{
+    match handle.take(alloc) {
+        Some(boxed) => {
+            let answer = question.ask(boxed.as_ref());
+            handle.put(alloc, boxed);
+            answer
+        }
+        None => question.ask(&Locale::unknown(alloc)),
+    }
+}
+
+/// Changes the locale.
+pub(crate) fn make_change<C: Change>(alloc: Global, handle: &mut Handle, change: &C) -> Status
+    ensures changed { Changes (C.changes change.now) handle.old.value handle.new.value result }
+    ensures tight { IsTight handle.new.value }
+{
+    match handle.take(alloc) {
+        Some(mut boxed) => {
+            let status = change.apply(alloc, boxed.as_mut());
+            handle.keep(alloc, boxed);
+            status
+        }
+        None => {
+            let mut locale = Locale::unknown(alloc);
+            let status = change.apply(alloc, &mut locale);
+            if is_und(&locale) {
+                return status;
+            }
+            match Box::new(alloc, locale) {
+                Ok(boxed) => {
+                    handle.put(alloc, boxed);
+                    status
+                }
+                Err(_) => Status::OutOfMemory,
+            }
+        }
+    }
+}

@@ -1,0 +1,74 @@
+//! Subtags of texts, and sets of subtags.
+ghost use Rattle.std.specs.Prelude.{◌≡◌, ◌↔◌, false, IsTrue, MatchResult, option_map};
+ghost use Rattle.std.specs.Option.{option_copied};
+ghost use Rattle.iloc_spec_grammar.specs.Words.{IsWord, is_word, normal};
+ghost use Rattle.iloc_spec_grammar.specs.Values.{IsAscending};
+ghost use Rattle.iloc_handles.specs.Finding.{Tells};
+ghost use Rattle.iloc_handles.specs.Subtags.{HasWord, IsNeither, IsOptional};
+
+use iloc_calls::{Status, hand_out};
+use iloc_subtags::{ParseError, WordKind, WordOf};
+use iloc_writeable::Writeable;
+
+/// The subtag that is the text.
+#[tactic(auto, using(crate::proofs::SubtagLemmas::read_word))]
+pub(crate) fn word_of<K: WordKind<N>, const N: usize>(
+    text: &[u8],
+) -> Result<WordOf<K, N>, ParseError>
+    ensures { MatchResult result
+        (λ w. IsWord K.kind text.now × (w ≡ normal K.kind text.now))
+        (λ e. (is_word K.kind text.now ≡ false) × (e ≡ K.refusal)) }
+{
+    WordOf::try_from_utf8(text)
+}
+
+/// The subtag that is the text, or none if the text is empty.
+pub(crate) fn optional_word<K: WordKind<N>, const N: usize>(
+    text: &[u8],
+) -> Result<Option<WordOf<K, N>>, ParseError>
+    ensures { MatchResult result (IsOptional K.kind text.now)
+        (λ e. IsNeither K.kind text.now × (e ≡ K.refusal)) }
+{
+    if text.is_empty() {
+        return Ok(None);
+    }
+    match word_of(text) {
+        Ok(word) => Ok(Some(word)),
+        Err(refusal) => Err(refusal),
+    }
+}
+
+/// Whether the text is one of the subtags, which ascend.
+pub(crate) fn has_word<K: WordKind<N>, const N: usize>(words: &[WordOf<K, N>], text: &[u8]) -> bool
+    requires { IsAscending words.now }
+    ensures { IsTrue result ↔ HasWord K.kind text.now words.now }
+{
+    match word_of::<K, N>(text) {
+        Ok(word) => words.binary_search(&word).is_ok(),
+        Err(_) => false,
+    }
+}
+
+/// Hands out the text of a part that is there.
+pub(crate) fn hand_out_found<W: Writeable>(
+    part: Option<&W>,
+    buffer: &mut [u8],
+    needed: &mut usize,
+) -> Status
+    ensures { Tells (option_map W.text (option_copied part.entry)) buffer.old buffer.new needed.new
+        result }
+{
+    match part {
+        Some(value) => hand_out(value, buffer, needed),
+        None => hand_out_none(needed),
+    }
+}
+
+/// Hands out nothing, as there is no such part.
+pub(crate) fn hand_out_none(needed: &mut usize) -> Status
+    ensures status { result ≡ Status.NotFound }
+    ensures needed { needed.new ≡ 0 }
+{
+    *needed = 0;
+    Status::NotFound
+}

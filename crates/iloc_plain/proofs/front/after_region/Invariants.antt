@@ -1,0 +1,18 @@
+use Rattle.std.proofs.Common.{◌≡◌, ◌+◌, ◌≤◌, length, take, IsTrue}
+use Rattle.iloc_spec_grammar.specs.Pieces.{pieces}
+use Rattle.iloc_spec_grammar.specs.Reading.{past}
+use Rattle.iloc_spec_grammar.specs.Words.{Variant, is_word}
+use Rattle.iloc_plain.specs.Front.{IsFirst}
+use Rattle.iloc_plain.proofs.front.after_region.Given as goal
+
+-- what is left after the variants so far, and whether there were none
+abbrev pub invariant-variants : goal.invariant-variants
+invariant-variants l = record {
+  room : l.left + 16 ≤ length l.rest;
+  first : IsFirst (take l.left l.rest) l.n;
+  same : past (is_word Variant) (pieces (take l.fn.len l.fn.window)) ≡ past (is_word Variant) (pieces (take l.left l.rest));
+  unmoved : IsTrue l.is_first → pieces (take l.fn.len l.fn.window) ≡ pieces (take l.left l.rest);
+}
+
+abbrev pub decreases-variants : goal.decreases-variants
+decreases-variants l = l.left

@@ -1,0 +1,35 @@
+use Rattle.std.proofs.Common.{◌≡◌, ◌≢◌, ◌≤◌, ℕ, List, ◌∷◌, false, codes, length, take, subst, sym, ap, ◌∙◌, arith}
+use Rattle.std.specs.List.{list_all}
+use Rattle.iloc_spec_grammar.specs.Pieces.{pieces}
+use Rattle.iloc_spec_grammar.specs.Blocks.{first_piece}
+use Rattle.iloc_spec_grammar.specs.Words.{Attribute, UnicodeKey, IsWord, is_word, lower}
+use Rattle.iloc_spec_grammar.specs.Reading.{rest_of}
+use Rattle.iloc_plain.specs.Keyword.{IsKeywordOf, IsSingle}
+use Rattle.iloc_plain.specs.declared.keyword.Keyword.TheVariants as keyword
+use Rattle.iloc_plain.proofs.FrontLemmas.{short_attribute, short_key, word_of_first, after_word, key_is_two}
+use Rattle.iloc_plain.proofs.keyword.keyword_of.Goals as goal
+
+pub returns-then-is_attribute : goal.returns-then-is_attribute
+returns-then-is_attribute c =
+    word_of_first c.args.window.now c.args.len c.first_len-n.result c.requires c.first_len-n.ensures Attribute short_attribute
+    ∙ sym c.is_attribute.ensures ∙ c.if-is_attribute.true
+
+pub returns-in-Misfit : goal.returns-in-Misfit
+returns-in-Misfit c =
+    let fits = sym c.is_key.ensures ∙ c.if-not-is_key.false in
+    let more : c.first_len-n.result ≢ c.args.len = omega arith in
+    let parts = after_word c.args.window.now c.args.len c.first_len-n.result c.requires c.first_len-n.ensures UnicodeKey short_key fits more in
+    subst (λ (ps : List (List ℕ)). IsKeywordOf ps keyword.Misfit) (sym parts) (fits, c.in-Misfit.ensures)
+
+pub returns-in-Single : goal.returns-in-Single
+returns-in-Single c =
+    let fits = sym c.is_key.ensures ∙ c.if-not-is_key.false in
+    let more : c.first_len-n.result ≢ c.args.len = omega arith in
+    let parts = after_word c.args.window.now c.args.len c.first_len-n.result c.requires c.first_len-n.ensures UnicodeKey short_key fits more in
+    let two : c.first_len-n.result ≡ 2 = key_is_two c.args.window.now c.args.len c.first_len-n.result c.requires c.first_len-n.ensures fits in
+    subst IsSingle (sym parts) (record {
+      key = fits;
+      other = subst (λ (m : ℕ). lower (take m c.args.window.now) ≢ codes "sd") (sym two) (c.is_other_key-is_other.ensures c.if-is_other.true);
+      values = c.in-Single.ensures.0;
+      few = omega (arith, c.in-Single.ensures.1);
+    })

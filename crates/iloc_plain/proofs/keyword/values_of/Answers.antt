@@ -1,0 +1,35 @@
+use Rattle.std.proofs.Common.{◌≡◌, ◌≢◌, ◌&&◌, ◌-◌, Bool, true, false, ℕ, List, [], ◌∷◌, length, take, sym, ap, ◌∙◌, arith}
+use Rattle.std.specs.List.{list_all}
+use Rattle.std.proofs.lemmas.Bool.{false≢true}
+use Rattle.iloc_spec_grammar.specs.Pieces.{pieces}
+use Rattle.iloc_spec_grammar.specs.Words.{Attribute, is_word}
+use Rattle.iloc_plain.proofs.FrontLemmas.{short_attribute, all_later, whole_word, word_of_first, room_left, all_fail}
+use Rattle.iloc_plain.proofs.keyword.values_of.Goals as goal
+
+pub values-preserved : goal.values-preserved
+values-preserved c =
+    let more : c.values.n ≢ c.values.left = omega arith in
+    let fits = sym c.is_attribute.ensures ∙ c.values-test.true in
+    record {
+      room = room_left c.values.rest.now c.values.left c.values.n c.values.invariant.room c.values.invariant.first more;
+      first = c.first_len-n-in-values.ensures;
+      same = c.values.invariant.same
+          ∙ all_later c.values.rest.now c.values.left c.values.n c.values.invariant.room c.values.invariant.first Attribute short_attribute fits more;
+      unmoved = λ h. absurd (false≢true h);
+    }
+
+pub returns-then-is_first : goal.returns-then-is_first
+returns-then-is_first c =
+    let fits = sym c.is_attribute.ensures ∙ c.values-test.true in
+    let one : pieces (take c.values.left c.values.rest.now) ≡ take c.values.n c.values.rest.now ∷ [] =
+    whole_word c.values.rest.now c.values.left c.values.n c.values.invariant.room c.values.invariant.first Attribute short_attribute fits c.if-n-left.true in (
+      c.values.invariant.same ∙ ap (list_all (is_word Attribute)) one ∙ ap (λ (b : Bool). b && true) fits,
+      ap length (c.values.invariant.unmoved c.if-is_first.true ∙ one),
+    )
+
+pub returns : goal.returns
+returns c =
+    c.values.invariant.same
+    ∙ all_fail Attribute (take c.values.left c.values.rest.now)
+    (word_of_first c.values.rest.now c.values.left c.values.n c.values.invariant.room c.values.invariant.first Attribute short_attribute
+    ∙ sym c.is_attribute.ensures ∙ c.values-test.false)

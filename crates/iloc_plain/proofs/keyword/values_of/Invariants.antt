@@ -1,0 +1,18 @@
+use Rattle.std.proofs.Common.{◌≡◌, ◌+◌, ◌≤◌, length, take, IsTrue}
+use Rattle.std.specs.List.{list_all}
+use Rattle.iloc_spec_grammar.specs.Pieces.{pieces}
+use Rattle.iloc_spec_grammar.specs.Words.{Attribute, is_word}
+use Rattle.iloc_plain.specs.Front.{IsFirst}
+use Rattle.iloc_plain.proofs.keyword.values_of.Given as goal
+
+-- all pieces so far are of a value, and whether there were none
+abbrev pub invariant-values : goal.invariant-values
+invariant-values l = record {
+  room : l.left + 16 ≤ length l.rest;
+  first : IsFirst (take l.left l.rest) l.n;
+  same : list_all (is_word Attribute) (pieces (take l.fn.len l.fn.window)) ≡ list_all (is_word Attribute) (pieces (take l.left l.rest));
+  unmoved : IsTrue l.is_first → pieces (take l.fn.len l.fn.window) ≡ pieces (take l.left l.rest);
+}
+
+abbrev pub decreases-values : goal.decreases-values
+decreases-values l = l.left

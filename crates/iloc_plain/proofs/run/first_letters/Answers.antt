@@ -1,0 +1,12 @@
+use Rattle.std.proofs.Common.{refl, take}
+use Rattle.std.specs.Char.{is_ascii_alphabetic, is_ascii_alphanumeric, is_ascii_digit}
+use Rattle.std.proofs.lemmas.List.{length-take-le}
+use Rattle.iloc_plain.specs.Run.{is_hyphen, is_other}
+use Rattle.iloc_plain.proofs.RunLemmas.{run_is, twice}
+use Rattle.iloc_plain.proofs.run.first_letters.Goals as goal
+
+pub returns : goal.returns
+returns c =
+    let w = c.args.window.now in
+    run_is (is_other is_ascii_alphabetic) is_ascii_alphabetic w c.before_marked.result c.requires (λ b. twice (is_ascii_alphabetic b))
+    (c.before_marked.ensures (is_other is_ascii_alphabetic) (take 16 w) (length-take-le 16 w c.requires) c.no_letters_in.ensures)

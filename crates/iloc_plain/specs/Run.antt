@@ -1,0 +1,17 @@
+-- Bytes of one class that come first.
+use Rattle.std.specs.Prelude.{◌≡◌, ℕ, ◌<◌, ◌≤◌, ◌==◌, Bool, true, false, not, List, get_or}
+use Rattle.iloc_spec_grammar.specs.Shapes.{Text}
+
+-- whether the byte is a hyphen
+abbrev pub is_hyphen : ℕ → Bool
+is_hyphen b = b == 45
+
+-- whether the byte fails the test
+abbrev pub is_other : (ℕ → Bool) → ℕ → Bool
+is_other p b = not (p b)
+
+-- n of the first sixteen bytes pass the test one after the other, and then one fails
+pub record IsRun (p : ℕ → Bool) (w : Text) (n : ℕ) : Type 0 where
+  pub few : n ≤ 16
+  pub pass : (i : ℕ) → i < n → p (get_or w i 0) ≡ true
+  pub ends : n < 16 → p (get_or w n 0) ≡ false
