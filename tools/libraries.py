@@ -1,10 +1,12 @@
 """Proves the libraries that some crates stand on, side by side, lowest and longest chain first."""
 import copy
 import os
+import re
 import tempfile
 import time
 
-from kit import lanes, rt, rtlib
+from kit import lanes, read, rt, rtlib
+from sources import sum_of
 
 # About what the proof of a library from nothing takes, in processor seconds: for reading what it
 # stands on, and for each line of its source.
@@ -20,12 +22,21 @@ def texts_of(crate):
 
 def is_fresh(crate):
     """Returns whether the crate's library came here after its text and that of the libraries below,
-    as is what the gate left; or else is of that text, which takes long to tell. The gate links what
-    it kept, so that the time of the folder tells when it came, and not that of a file."""
+    as is what the gate left; or else is of that text, which takes long to tell. A gate links what its
+    toolchain kept, if it keeps anything, so the folder's time tells when it came, and not a file's."""
+    if not fits(crate):
+        return False
     came = os.path.getmtime(crate.rlib) if os.path.isfile(f"{crate.rlib}/format") else 0
     if came > max(map(os.path.getmtime, texts_of(crate))):
         return True
     return crate.is_built()
+
+
+def fits(crate):
+    """Returns whether the library was proved over those that lie below it now. One of statements alone,
+    as rt ci makes them, names what it was proved over, and a check refuses it over any others."""
+    over = dict(re.findall(r"(?m)^over (\w+) (\w+)$", read(f"{crate.rlib}/format").decode()))
+    return all(over.get(it.name) in (None, sum_of(f"{it.rlib}/format")) for it in crate.below())
 
 
 def lacking(crates):

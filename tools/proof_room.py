@@ -1,8 +1,9 @@
 """Proves and builds a program by `rt ci` in a folder of its own, beside which all else goes on.
 
 The room has the program's crate and the crates below it, without their mutants. What `rt ci`
-proves there it keeps beside the toolchain at once, crate by crate, so that a run which is cut off
-loses nothing, and a later `rt ci` in any checkout takes it from there."""
+proves there is kept at once, crate by crate, so that a run which is cut off loses only the proofs under
+way. Some toolchains' `rt ci` keeps it beside the toolchain, and takes it from there in any checkout. With
+the others tools/prove_keeping runs `rt ci`, and keeps it in out/proof."""
 import os
 import re
 import shutil
@@ -15,9 +16,11 @@ import time
 from common import ROOT, below, crates_of
 
 PREFIX = "icu-locale-proof-"
+KEPT_IN = f"{ROOT}/out/proof"
 LEFT_OUT = shutil.ignore_patterns("out", "edits", "*.in")
 PROVED = re.compile(r"rt: (\w+) proved$")
-KEPT = re.compile(r"rt: (\w+) is kept: ")
+# (a toolchain says so of what it keeps, and tools/prove_keeping of what was kept before)
+KEPT = re.compile(r"rt: (\w+) (is|was) kept: ")
 FAILED = re.compile(r"rt: (\w+)(: its tests are)? NOT PROVED")
 
 
@@ -28,6 +31,13 @@ def sweep():
         of = re.match(rf"{PREFIX}(\d+)-", name)
         if of and not os.path.exists(f"/proc/{of[1]}"):
             shutil.rmtree(f"{at}/{name}", ignore_errors=True)
+
+
+def command():
+    """Returns the command that proves a room and keeps what it proves."""
+    with open(shutil.which("rt"), encoding="utf-8", errors="replace") as it:
+        keeps = " is kept: " in it.read()
+    return ["rt", "ci"] if keeps else [f"{ROOT}/tools/prove_keeping", KEPT_IN]
 
 
 def furnish(room, names, lines):
@@ -47,18 +57,24 @@ class Proof:
     def __init__(self, name, say):
         lines = crates_of(f"{ROOT}/crates.txt")
         self.name, self.say, self.names = name, say, below(name, lines)
-        self.done, self.failed, self.said = set(), [], []
+        self.done, self.before, self.failed, self.said = set(), set(), [], []
         sweep()
-        self.room = tempfile.mkdtemp(prefix=f"{PREFIX}{os.getpid()}-")
+        self.top = tempfile.mkdtemp(prefix=f"{PREFIX}{os.getpid()}-")
+        self.room, beside = f"{self.top}/room", f"{self.top}/temporary"
         try:
+            for it in (self.room, beside):
+                os.mkdir(it)
+            # (where rt runs as root, it runs the program as nobody, who comes through here)
+            os.chmod(self.top, 0o711)
             furnish(self.room, self.names, lines)
+            # (what is ended leaves its temporary files, some 100 MB for each crate)
             self.process = subprocess.Popen(
-                ["rt", "ci"], cwd=self.room, stdin=subprocess.DEVNULL, stdout=subprocess.PIPE,
+                command(), cwd=self.room, stdin=subprocess.DEVNULL, stdout=subprocess.PIPE,
                 stderr=subprocess.STDOUT, text=True, errors="replace", start_new_session=True,
-                preexec_fn=lambda: os.nice(5),
+                preexec_fn=lambda: os.nice(5), env={**os.environ, "TMPDIR": beside},
             )
         except BaseException:
-            shutil.rmtree(self.room, ignore_errors=True)
+            shutil.rmtree(self.top, ignore_errors=True)
             raise
         self.began = time.time()
         self.reader = threading.Thread(target=self.read, daemon=True)
@@ -73,9 +89,11 @@ class Proof:
                 self.say(line[len("rt: note: ") :].rstrip())
             if failed:
                 self.failed.append(failed[1])
+            if kept and kept[2] == "was":
+                self.before.add(kept[1])
             if proved or kept:
                 self.done.add((proved or kept)[1])
-            if proved:
+            if proved and proved[1] not in self.before:
                 minutes = (time.time() - self.began) / 60
                 far = f"{len(self.done)} of {len(self.names)} crates proved, {minutes:.0f} min"
                 self.say(f"{far} ({proved[1]})")
@@ -106,4 +124,4 @@ class Proof:
                 os.killpg(self.process.pid, signal.SIGKILL)
                 self.process.wait()
         self.reader.join(5)
-        shutil.rmtree(self.room, ignore_errors=True)
+        shutil.rmtree(self.top, ignore_errors=True)
