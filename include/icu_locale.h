@@ -148,7 +148,7 @@ icu_locale_status icu_locale_words(icu_locale_status status, uint8_t *buffer, si
  * the locale is as before, and the status names what is wrong with the text. OUT_OF_MEMORY: the locale is as before.
  * Each such call can allocate on a handle that stands for und, if the handle stands for another locale afterwards.
  * What else it allocates is said at the call. */
-typedef struct icu_locale {
+typedef struct icu_locale_t {
     void *at;
 } icu_locale_t;
 

@@ -4,19 +4,31 @@
  *     if (auto made = icu_locale::try_normalize("en-"); !made)
  *         std::cerr << icu_locale::words(made.status());                  // "Invalid subtag"
  *
+ *     icu_locale::locale locale("en-US");
+ *     locale.set_region("GB");
+ *     locale.set_keyword("ca", "buddhist");
+ *     std::cout << locale;                                                // "en-GB-u-ca-buddhist"
+ *
  * Functions whose names begin with try_ throw nothing but std::bad_alloc. The others throw icu_locale::error for a
- * refused text. Out of memory is std::bad_alloc in both. Every function may be called from any number of threads. */
+ * refused text. Out of memory is std::bad_alloc in both. What threw has changed nothing.
+ *
+ * Functions on texts may be called from any number of threads. A locale is used by one thread at a time, also by calls
+ * that only read: guard one that threads share by a lock, or give each thread a copy. */
 #ifndef ICU_LOCALE_HPP
 #define ICU_LOCALE_HPP
 
 #include "icu_locale.h"
 
 #include <cstdint>
+#include <functional>
 #include <new>
+#include <optional>
+#include <ostream>
 #include <stdexcept>
 #include <string>
 #include <string_view>
 #include <utility>
+#include <vector>
 
 namespace icu_locale {
 
@@ -36,7 +48,8 @@ enum class status : icu_locale_status {
     duplicated_extension = ICU_LOCALE_DUPLICATED_EXTENSION,
     out_of_memory = ICU_LOCALE_OUT_OF_MEMORY,
     buffer_too_small = ICU_LOCALE_BUFFER_TOO_SMALL,
-    unknown_number = ICU_LOCALE_UNKNOWN_NUMBER
+    unknown_number = ICU_LOCALE_UNKNOWN_NUMBER,
+    not_found = ICU_LOCALE_NOT_FOUND
 };
 
 /* The words of a status, such as "Invalid subtag". */
@@ -79,6 +92,7 @@ public:
         return std::move(value_);
     }
     const T &operator*() const & { return value(); }
+    const T *operator->() const { return &value(); }
 
 private:
     T value_;
@@ -168,6 +182,210 @@ inline int compare(std::string_view text, std::string_view other, mode as = mode
     return try_compare(text, other, as).value();
 }
 
+/* A locale, with parts to read and to change. It starts as und, the unknown locale, and is und once it was moved from.
+ * Each call is that of icu_locale.h with its name, which says more. Texts may be in any case; parts are in their normal
+ * form. An object owns memory unless it is und. */
+class locale {
+public:
+    locale() noexcept = default;
+
+    /* What the text means. */
+    explicit locale(std::string_view text) { accept(try_assign(text)); }
+
+    static result<locale> try_parse(std::string_view text)
+    {
+        locale made;
+        const icu_locale::status told = made.try_assign(text);
+        return told == icu_locale::status::done ? result<locale>(std::move(made)) : result<locale>(told);
+    }
+
+    locale(const locale &from) { detail::told(icu_locale_copy(&held_, &from.held_)); }
+    locale(locale &&from) noexcept : held_(from.held_) { from.held_.at = nullptr; }
+
+    locale &operator=(const locale &from)
+    {
+        if (this != &from)
+            detail::told(icu_locale_copy(&held_, &from.held_));
+        return *this;
+    }
+
+    locale &operator=(locale &&from) noexcept
+    {
+        if (this != &from) {
+            icu_locale_free(&held_);
+            held_ = from.held_;
+            from.held_.at = nullptr;
+        }
+        return *this;
+    }
+
+    ~locale() { icu_locale_free(&held_); }
+
+    void swap(locale &other) noexcept { std::swap(held_.at, other.held_.at); }
+
+    /* The locale becomes what the text means. */
+    icu_locale::status try_assign(std::string_view text)
+    {
+        return detail::told(icu_locale_parse(&held_, detail::bytes(text), text.size()));
+    }
+
+    locale &assign(std::string_view text) { return accept(try_assign(text)), *this; }
+
+    /* The whole. base_name is the identifier alone, without extensions. */
+    std::string to_string() const { return *read(icu_locale_to_string); }
+    std::string base_name() const { return *read(icu_locale_get_base_name); }
+    bool is_und() const noexcept { return icu_locale_is_und(&held_); }
+    bool is_well_formed() const noexcept { return icu_locale_is_well_formed(&held_); }
+    std::uint64_t hash() const noexcept { return icu_locale_hash(&held_); }
+
+    /* The order by parts, which is that of <: -1, 0 or 1. */
+    int compare(const locale &other) const noexcept
+    {
+        return this == &other ? 0 : icu_locale_cmp(&held_, &other.held_);
+    }
+
+    /* The byte order of the normal form against other bytes, as they stand: -1, 0 or 1. */
+    int strict_cmp(std::string_view other) const noexcept
+    {
+        return icu_locale_cmp_bytes(&held_, detail::bytes(other), other.size());
+    }
+
+    /* Whether the text means this locale. */
+    bool normalizing_eq(std::string_view text) const
+    {
+        std::uint8_t same = 0;
+        detail::told(icu_locale_eq_text(&held_, detail::bytes(text), text.size(), &same));
+        return same == 1;
+    }
+
+    /* The language is und if it is unknown. An empty text clears a part. */
+    std::string language() const { return *read(icu_locale_get_language); }
+    std::optional<std::string> script() const { return unless_empty(read(icu_locale_get_script)); }
+    std::optional<std::string> region() const { return unless_empty(read(icu_locale_get_region)); }
+    icu_locale::status try_set_language(std::string_view text) { return set(icu_locale_set_language, text); }
+    icu_locale::status try_set_script(std::string_view text) { return set(icu_locale_set_script, text); }
+    icu_locale::status try_set_region(std::string_view text) { return set(icu_locale_set_region, text); }
+    void set_language(std::string_view text) { accept(try_set_language(text)); }
+    void set_script(std::string_view text) { accept(try_set_script(text)); }
+    void set_region(std::string_view text) { accept(try_set_region(text)); }
+
+    /* Variants, ascending. Removing tells whether there was one. */
+    std::vector<std::string> variants() const { return list(icu_locale_variant_count, icu_locale_get_variant); }
+    bool has_variant(std::string_view text) const noexcept
+    {
+        return icu_locale_has_variant(&held_, detail::bytes(text), text.size());
+    }
+    icu_locale::status try_add_variant(std::string_view text) { return set(icu_locale_add_variant, text); }
+    void add_variant(std::string_view text) { accept(try_add_variant(text)); }
+    bool remove_variant(std::string_view text) { return is_done(set(icu_locale_remove_variant, text)); }
+    void clear_variants() { accept(detail::told(icu_locale_clear_variants(&held_))); }
+
+    /* Keywords of the extension u, as pairs of key and value, by ascending key. The value of kn in en-u-kn is empty. */
+    std::vector<std::pair<std::string, std::string>> keywords() const
+    {
+        std::vector<std::pair<std::string, std::string>> found;
+        const std::size_t count = icu_locale_keyword_count(&held_);
+        found.reserve(count);
+        for (std::size_t at = 0; at < count; at++)
+            found.emplace_back(*read_at(icu_locale_get_keyword_key, at), *read_at(icu_locale_get_keyword_value, at));
+        return found;
+    }
+
+    /* The value of the keyword with this key, if there is one. */
+    std::optional<std::string> keyword(std::string_view key) const
+    {
+        return read([key](icu_locale_t *held, std::uint8_t *buffer, std::size_t room, std::size_t *needed) {
+            return icu_locale_get_keyword(held, detail::bytes(key), key.size(), buffer, room, needed);
+        });
+    }
+
+    icu_locale::status try_set_keyword(std::string_view key, std::string_view value = {})
+    {
+        return detail::told(icu_locale_set_keyword(
+            &held_, detail::bytes(key), key.size(), detail::bytes(value), value.size()));
+    }
+
+    void set_keyword(std::string_view key, std::string_view value = {}) { accept(try_set_keyword(key, value)); }
+    bool remove_keyword(std::string_view key) { return is_done(set(icu_locale_remove_keyword, key)); }
+    void clear_keywords() { accept(detail::told(icu_locale_clear_keywords(&held_))); }
+
+    /* Attributes of the extension u, ascending, as variants. */
+    std::vector<std::string> attributes() const { return list(icu_locale_attribute_count, icu_locale_get_attribute); }
+    bool has_attribute(std::string_view text) const noexcept
+    {
+        return icu_locale_has_attribute(&held_, detail::bytes(text), text.size());
+    }
+    icu_locale::status try_add_attribute(std::string_view text) { return set(icu_locale_add_attribute, text); }
+    void add_attribute(std::string_view text) { accept(try_add_attribute(text)); }
+    bool remove_attribute(std::string_view text) { return is_done(set(icu_locale_remove_attribute, text)); }
+    void clear_attributes() { accept(detail::told(icu_locale_clear_attributes(&held_))); }
+
+    friend bool operator==(const locale &one, const locale &other) noexcept
+    {
+        return &one == &other || icu_locale_eq(&one.held_, &other.held_);
+    }
+    friend bool operator!=(const locale &one, const locale &other) noexcept { return !(one == other); }
+    friend bool operator<(const locale &one, const locale &other) noexcept { return one.compare(other) < 0; }
+    friend bool operator>(const locale &one, const locale &other) noexcept { return one.compare(other) > 0; }
+    friend bool operator<=(const locale &one, const locale &other) noexcept { return one.compare(other) <= 0; }
+    friend bool operator>=(const locale &one, const locale &other) noexcept { return one.compare(other) >= 0; }
+    friend void swap(locale &one, locale &other) noexcept { one.swap(other); }
+    friend std::ostream &operator<<(std::ostream &out, const locale &it) { return out << it.to_string(); }
+
+private:
+    static void accept(icu_locale::status told)
+    {
+        if (told != icu_locale::status::done)
+            throw error(told);
+    }
+
+    static bool is_done(icu_locale::status told) noexcept { return told == icu_locale::status::done; }
+
+    static std::optional<std::string> unless_empty(std::optional<std::string> text)
+    {
+        return text && !text->empty() ? std::move(text) : std::nullopt;
+    }
+
+    /* What a call writes to a buffer: at once if it is short, as subtags are. */
+    template <class Call> std::optional<std::string> read(Call call) const
+    {
+        std::uint8_t small[64];
+        std::size_t needed = 0;
+        icu_locale_status told = call(&held_, small, sizeof small, &needed);
+        if (told == ICU_LOCALE_DONE)
+            return std::string(reinterpret_cast<const char *>(small), needed);
+        if (told != ICU_LOCALE_BUFFER_TOO_SMALL)
+            return std::nullopt;
+        std::string text(needed, '\0');
+        told = call(&held_, reinterpret_cast<std::uint8_t *>(text.data()), text.size(), &needed);
+        return told == ICU_LOCALE_DONE ? std::optional<std::string>(std::move(text)) : std::nullopt;
+    }
+
+    template <class Call> std::optional<std::string> read_at(Call call, std::size_t at) const
+    {
+        return read([call, at](icu_locale_t *held, std::uint8_t *buffer, std::size_t room, std::size_t *needed) {
+            return call(held, at, buffer, room, needed);
+        });
+    }
+
+    template <class Count, class Call> std::vector<std::string> list(Count count, Call call) const
+    {
+        std::vector<std::string> found;
+        const std::size_t number = count(&held_);
+        found.reserve(number);
+        for (std::size_t at = 0; at < number; at++)
+            found.push_back(*read_at(call, at));
+        return found;
+    }
+
+    template <class Call> icu_locale::status set(Call call, std::string_view text)
+    {
+        return detail::told(call(&held_, detail::bytes(text), text.size()));
+    }
+
+    mutable icu_locale_t held_ = ICU_LOCALE_UND;  // also a call that reads takes it by a pointer that writes
+};
+
 /* Whether the library that is linked or loaded was made for this header. */
 inline bool is_of_this_version() noexcept
 {
@@ -175,5 +393,9 @@ inline bool is_of_this_version() noexcept
 }
 
 } // namespace icu_locale
+
+template <> struct std::hash<icu_locale::locale> {
+    std::size_t operator()(const icu_locale::locale &it) const noexcept { return static_cast<std::size_t>(it.hash()); }
+};
 
 #endif

@@ -6,8 +6,8 @@ since the library was built of the present text. What such a check does not prov
 a refusal here is a refusal of the crate. An edit that stands in no one function, or that is not refused so, is
 tried as ever, by a check of the whole crate.
 
-The checks of a crate share a folder of what was checked, which begins as that of `rt check`. An edit that no
-goal refuses over it is tried again over none, and that verdict counts."""
+The checks of a crate share a folder of what was checked, which begins as that of `rt check`. An edit that is
+not refused over it, or only by a limit, is tried again over none, and that verdict counts."""
 import contextlib
 import os
 import re
@@ -88,7 +88,7 @@ class OnlyTrial(Trial):
     def twice(self, edit):
         """Returns by what the edit is refused in its functions, over what is kept or else over nothing."""
         kind, text = self.once(edit)
-        if kind == GOAL:
+        if kind in (GOAL, NAME):
             return kind, text
         self.is_alone = True
         try:

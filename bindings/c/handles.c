@@ -79,13 +79,15 @@ typedef icu_locale_status (*reading_at)(icu_locale_t *, size_t, uint8_t *, size_
 static const char *read_at(icu_locale_t *locale, reading_at call, size_t index)
 {
     size_t needed = 77;
-    return ended(call(locale, index, (uint8_t *)last, ROOM - 1, &needed), needed);
+    icu_locale_status status = call(locale, index, (uint8_t *)last, ROOM - 1, &needed);
+    return ended(status, needed);
 }
 
 static const char *keyword(icu_locale_t *locale, const char *key)
 {
     size_t needed = 77;
-    return ended(icu_locale_get_keyword(locale, TEXT(key), (uint8_t *)last, ROOM - 1, &needed), needed);
+    icu_locale_status status = icu_locale_get_keyword(locale, TEXT(key), (uint8_t *)last, ROOM - 1, &needed);
+    return ended(status, needed);
 }
 
 static int is_now(icu_locale_t *locale, const char *text)
@@ -94,6 +96,14 @@ static int is_now(icu_locale_t *locale, const char *text)
     if (strcmp(now, text) != 0)
         fprintf(stderr, "%s, and not %s\n", now, text);
     return strcmp(now, text) == 0;
+}
+
+/* Copies a text, which fits. */
+static void put(char *to, size_t room, const char *from)
+{
+    size_t length = strlen(from);
+    WANT(length < room);
+    memcpy(to, from, length + 1);
 }
 
 #define PARSES(locale, text) WANT(icu_locale_parse(locale, TEXT(text)) == ICU_LOCALE_DONE)
@@ -365,7 +375,7 @@ static void model_of(struct model *it, const char *text)
 {
     char whole[256], *part, *next = whole;
     memset(it, 0, sizeof *it);
-    snprintf(whole, sizeof whole, "%s", normal_of(ICU_LOCALE_LOCALE, text));
+    put(whole, sizeof whole, normal_of(ICU_LOCALE_LOCALE, text));
     int is_keywords = 0, at = -1;
     for (int i = 0; next; i++) {
         part = next;
@@ -373,19 +383,19 @@ static void model_of(struct model *it, const char *text)
         if (next)
             *next++ = 0;
         if (i == 0)
-            snprintf(it->language, sizeof it->language, "%s", part);
+            put(it->language, sizeof it->language, part);
         else if (!is_keywords && strlen(part) == 1)
             is_keywords = 1;
         else if (is_keywords && strlen(part) == 2)
-            snprintf(it->keys[at = it->keyword_count++], 4, "%s", part);
+            put(it->keys[at = it->keyword_count++], 4, part);
         else if (is_keywords)
-            snprintf(it->values[at] + strlen(it->values[at]), 16, "%s%s", *it->values[at] ? "-" : "", part);
+            snprintf(it->values[at] + strlen(it->values[at]), 16, "%s%.8s", *it->values[at] ? "-" : "", part);
         else if (is_script(part))
-            snprintf(it->script, sizeof it->script, "%s", part);
+            put(it->script, sizeof it->script, part);
         else if (is_region(part))
-            snprintf(it->region, sizeof it->region, "%s", part);
+            put(it->region, sizeof it->region, part);
         else
-            snprintf(it->variants[it->variant_count++], 16, "%s", part);
+            put(it->variants[it->variant_count++], 16, part);
     }
 }
 
@@ -397,17 +407,17 @@ static void step_parts(icu_locale_t *locale, struct model *it, const char *word)
     case 0:
         WANT(icu_locale_set_language(locale, TEXT(word)) == (!*word || fits("", word) ? ICU_LOCALE_DONE : ICU_LOCALE_INVALID_LANGUAGE));
         if (!*word || fits("", word))
-            snprintf(it->language, sizeof it->language, "%s", *word ? small : "und");
+            put(it->language, sizeof it->language, *word ? small : "und");
         break;
     case 1:
         WANT(icu_locale_set_script(locale, TEXT(word)) == (!*word || is_script(word) ? ICU_LOCALE_DONE : ICU_LOCALE_INVALID_SUBTAG));
         if (!*word || is_script(word))
-            snprintf(it->script, sizeof it->script, "%s", small);
+            put(it->script, sizeof it->script, small);
         break;
     default:
         WANT(icu_locale_set_region(locale, TEXT(word)) == (!*word || is_region(word) ? ICU_LOCALE_DONE : ICU_LOCALE_INVALID_SUBTAG));
         if (!*word || is_region(word))
-            snprintf(it->region, sizeof it->region, "%s", small);
+            put(it->region, sizeof it->region, small);
     }
 }
 
@@ -432,7 +442,7 @@ static void step_variants(icu_locale_t *locale, struct model *it, const char *wo
     default:
         WANT(icu_locale_add_variant(locale, TEXT(word)) == (is_variant(word) ? ICU_LOCALE_DONE : ICU_LOCALE_INVALID_SUBTAG));
         if (is_variant(word) && at < 0)
-            snprintf(it->variants[it->variant_count++], 16, "%s", small);
+            put(it->variants[it->variant_count++], 16, small);
     }
 }
 
@@ -461,9 +471,9 @@ static void step_keywords(icu_locale_t *locale, struct model *it, const char *ke
             == (!is_key(key) ? ICU_LOCALE_INVALID_EXTENSION : !is_value(value) ? ICU_LOCALE_INVALID_SUBTAG : ICU_LOCALE_DONE));
         if (is_key(key) && is_value(value)) {
             if (at < 0)
-                snprintf(it->keys[at = it->keyword_count++], 4, "%s", small);
+                put(it->keys[at = it->keyword_count++], 4, small);
             lower(normal, value);
-            snprintf(it->values[at], 64, "%s", normal);
+            put(it->values[at], 64, normal);
         }
     }
 }
@@ -472,8 +482,8 @@ static void step_keywords(icu_locale_t *locale, struct model *it, const char *ke
 static void see(icu_locale_t *locale, const struct model *it)
 {
     char normal[ROOM], base[ROOM], *after;
-    snprintf(normal, sizeof normal, "%s", written(it));
-    snprintf(base, sizeof base, "%s", normal);
+    put(normal, sizeof normal, written(it));
+    put(base, sizeof base, normal);
     if ((after = strstr(base, "-u-")))
         *after = 0;
     WANT(is_now(locale, normal) && icu_locale_cmp_bytes(locale, TEXT(normal)) == 0);
@@ -492,8 +502,8 @@ static void see(icu_locale_t *locale, const struct model *it)
     WANT(icu_locale_keyword_count(locale) == (size_t)it->keyword_count);
     for (size_t i = 0; i < (size_t)it->keyword_count; i++) {
         char key[4], value[64];
-        snprintf(key, sizeof key, "%s", read_at(locale, icu_locale_get_keyword_key, i));
-        snprintf(value, sizeof value, "%s", read_at(locale, icu_locale_get_keyword_value, i));
+        put(key, sizeof key, read_at(locale, icu_locale_get_keyword_key, i));
+        put(value, sizeof value, read_at(locale, icu_locale_get_keyword_value, i));
         WANT(keyword_of(it, key) >= 0 && strcmp(keyword(locale, key), value) == 0);
     }
     WANT(strcmp(read_at(locale, icu_locale_get_keyword_key, (size_t)it->keyword_count), "?") == 0);
@@ -503,8 +513,8 @@ static void step_two(icu_locale_t *one, struct model *first, icu_locale_t *two, 
 {
     char a[ROOM], b[ROOM];
     uint8_t same = 9;
-    snprintf(a, sizeof a, "%s", written(first));
-    snprintf(b, sizeof b, "%s", written(second));
+    put(a, sizeof a, written(first));
+    put(b, sizeof b, written(second));
     WANT(icu_locale_eq(one, two) == (strcmp(a, b) == 0) && (icu_locale_cmp(one, two) == 0) == (strcmp(a, b) == 0));
     WANT(icu_locale_cmp(one, two) == -icu_locale_cmp(two, one));
     WANT(icu_locale_eq_text(one, TEXT(b), &same) == ICU_LOCALE_DONE && same == (strcmp(a, b) == 0));
@@ -654,7 +664,7 @@ static void refuse_each(icu_locale_status (*call)(icu_locale_t *), const char *s
         icu_locale_t locale = ICU_LOCALE_UND;
         char before[ROOM];
         PARSES(&locale, start);
-        snprintf(before, sizeof before, "%s", read_part(&locale, icu_locale_to_string));
+        put(before, sizeof before, read_part(&locale, icu_locale_to_string));
         until_refused = n;
         icu_locale_status status = call(&locale);
         int is_over = until_refused >= 0;

@@ -1,9 +1,22 @@
-/* Answers each line of standard input, for tools/try_bindings, as bindings/c/answers.c does, without its buffers. */
+/* Answers each line of standard input, for tools/try_bindings, as bindings/c/answers.c does, without its buffers.
+ *
+ * answers objects       all parts of the locale that the line means, or "! " and the words of the refusal
+ * answers two-objects   of each two lines the order of both locales, whether they are equal and are hashed alike, the byte
+ *                       order of the first against the second line, and whether that line means it
+ * answers script        what each step on one of four locales gives, and the text of the locale after it
+ *
+ * Fields stand between tabs. tools/object_model.py says what is wanted. */
 #include "icu_locale.hpp"
 
+#include <algorithm>
+#include <array>
+#include <cstdio>
 #include <cstdlib>
 #include <iostream>
 #include <string>
+#include <type_traits>
+#include <unordered_set>
+#include <vector>
 
 using icu_locale::mode;
 
@@ -38,8 +51,171 @@ static mode mode_of(const std::string &word)
         return mode::locale;
     if (word == "data")
         return mode::data_locale;
-    std::cerr << "usage: answers langid|locale|data|pairs-langid|pairs-locale|pairs-data\n";
+    std::cerr << "usage: answers langid|locale|data|pairs-langid|pairs-locale|pairs-data|objects|two-objects|script\n";
     std::exit(2);
+}
+
+using icu_locale::locale;
+
+static std::string joined(const std::vector<std::string> &words)
+{
+    std::string text;
+    for (const auto &word : words)
+        text += (text.empty() ? "" : ",") + word;
+    return text;
+}
+
+static std::string parts(const locale &it)
+{
+    std::vector<std::string> keywords;
+    for (const auto &[key, value] : it.keywords())
+        keywords.push_back(key + "=" + value);
+    char hash[17];
+    std::snprintf(hash, sizeof hash, "%016llx", static_cast<unsigned long long>(it.hash()));
+    const std::vector<std::string> fields = {it.to_string(), it.base_name(), it.language(), it.script().value_or(""),
+        it.region().value_or(""), joined(it.variants()), joined(it.attributes()), joined(keywords),
+        std::string(it.is_und() ? "1" : "0") + (it.is_well_formed() ? "1" : "0"), hash};
+    std::string text;
+    for (const auto &field : fields)
+        text += (text.empty() ? "" : "\t") + field;
+    return text;
+}
+
+static std::string object(const std::string &line)
+{
+    const auto made = locale::try_parse(line);
+    return made ? parts(*made) : refusal(made.status());
+}
+
+static std::string bit(bool it)
+{
+    return it ? "1" : "0";
+}
+
+/* The comparison of two locales, of which all operators are to agree. */
+static std::string compare_objects(const locale &one, const locale &other)
+{
+    const int order = one.compare(other);
+    const bool agree = (order < 0) == (one < other) && (order > 0) == (one > other) && (order <= 0) == (one <= other)
+        && (order >= 0) == (one >= other) && (one == other) != (one != other) && order == -other.compare(one);
+    if (!agree)
+        std::abort();
+    const std::hash<locale> hash;
+    return std::to_string(order) + " " + bit(one == other) + " " + bit(hash(one) == hash(other));
+}
+
+static std::string two_objects(const std::string &first, const std::string &second)
+{
+    const auto one = locale::try_parse(first);
+    if (!one)
+        return refusal(one.status());
+    const auto other = locale::try_parse(second);
+    return (other ? compare_objects(*one, *other) : "- - -") + " " + std::to_string(one->strict_cmp(second)) + " "
+        + bit(one->normalizing_eq(second));
+}
+
+static std::vector<std::string> split(const std::string &line)
+{
+    std::vector<std::string> words;
+    for (std::size_t from = 0, to; from <= line.size(); from = to + 1) {
+        to = std::min(line.find('\t', from), line.size());
+        words.push_back(line.substr(from, to - from));
+    }
+    return words;
+}
+
+/* What a call that throws gives. */
+template <class Call> static std::string given(Call call)
+{
+    try {
+        call();
+        return "ok";
+    } catch (const icu_locale::error &refused) {
+        return refusal(refused.status());
+    }
+}
+
+static std::string take_step(std::array<locale, 4> &slots, const std::vector<std::string> &words)
+{
+    const std::string &call = words.at(0), argument = words.size() > 2 ? words[2] : "";
+    locale &it = slots.at(std::stoul(words.at(1)));
+    const auto other = [&]() -> locale & { return slots.at(std::stoul(argument)); };
+    const auto found = [](bool is_found) { return std::string(is_found ? "ok" : "none"); };
+    if (call == "parse")
+        return given([&] { it.assign(argument); });
+    if (call == "language")
+        return given([&] { it.set_language(argument); });
+    if (call == "script")
+        return given([&] { it.set_script(argument); });
+    if (call == "region")
+        return given([&] { it.set_region(argument); });
+    if (call == "add-variant")
+        return given([&] { it.add_variant(argument); });
+    if (call == "remove-variant")
+        return found(it.remove_variant(argument));
+    if (call == "has-variant")
+        return bit(it.has_variant(argument));
+    if (call == "clear-variants")
+        return given([&] { it.clear_variants(); });
+    if (call == "add-attribute")
+        return given([&] { it.add_attribute(argument); });
+    if (call == "remove-attribute")
+        return found(it.remove_attribute(argument));
+    if (call == "has-attribute")
+        return bit(it.has_attribute(argument));
+    if (call == "clear-attributes")
+        return given([&] { it.clear_attributes(); });
+    if (call == "set-keyword")
+        return given([&] { it.set_keyword(argument, words.at(3)); });
+    if (call == "get-keyword") {
+        const auto value = it.keyword(argument);
+        return value ? "=" + *value : "none";
+    }
+    if (call == "remove-keyword")
+        return found(it.remove_keyword(argument));
+    if (call == "clear-keywords")
+        return given([&] { it.clear_keywords(); });
+    if (call == "copy")
+        return given([&] { it = other(); });
+    if (call == "move")
+        return given([&] { it = std::move(other()); });
+    if (call == "compare")
+        return compare_objects(it, other());
+    if (call == "against")
+        return std::to_string(it.strict_cmp(argument)) + " " + bit(it.normalizing_eq(argument));
+    if (call == "parts")
+        return parts(it);
+    std::cerr << "answers: no step " << call << '\n';
+    std::exit(2);
+}
+
+static int answer_script()
+{
+    std::array<locale, 4> slots;
+    std::string line;
+    while (std::getline(std::cin, line)) {
+        const auto words = split(line);
+        std::cout << take_step(slots, words) << '\t' << slots.at(std::stoul(words.at(1))) << '\n';
+    }
+    return std::cout.flush() ? 0 : 1;
+}
+
+/* Objects live in containers, are moved and swapped. */
+static void try_objects()
+{
+    locale one("EN-us"), two(std::move(one)), three;
+    three = two;
+    swap(one, three);
+    std::vector<locale> many(3, two);
+    many.resize(50);
+    const std::unordered_set<locale> set(many.begin(), many.end());
+    const auto parsed = locale::try_parse("e");
+    if (!three.is_und() || one.to_string() != "en-US" || set.size() != 2 || set.count(two) != 1)
+        std::abort();
+    if (parsed || parsed.status() != icu_locale::status::invalid_language)
+        std::abort();
+    static_assert(std::is_nothrow_move_constructible_v<locale> && !std::is_nothrow_copy_constructible_v<locale>);
+    static_assert(std::is_nothrow_move_assignable_v<locale> && std::is_nothrow_default_constructible_v<locale>);
 }
 
 /* An error says why: the words are those of the status, and an empty view may be of a null pointer. */
@@ -58,14 +234,21 @@ int main(int count, char **words)
 {
     std::ios::sync_with_stdio(false);
     const std::string word = count == 2 ? words[1] : "";
+    const bool is_object = word == "objects", are_objects = word == "two-objects";
     const bool pairs = word.rfind("pairs-", 0) == 0;
-    const mode as = mode_of(pairs ? word.substr(6) : word);
     std::string first, second;
     try_errors();
+    try_objects();
+    if (word == "script")
+        return answer_script();
+    const mode as = is_object || are_objects ? mode::locale : mode_of(pairs ? word.substr(6) : word);
     while (std::getline(std::cin, first)) {
-        if (pairs && !std::getline(std::cin, second))
+        if ((pairs || are_objects) && !std::getline(std::cin, second))
             break;
-        std::cout << (pairs ? compare(first, second, as) : answer(first, as)) << '\n';
+        if (is_object || are_objects)
+            std::cout << (is_object ? object(first) : two_objects(first, second)) << '\n';
+        else
+            std::cout << (pairs ? compare(first, second, as) : answer(first, as)) << '\n';
     }
     return std::cout.flush() ? 0 : 1;
 }

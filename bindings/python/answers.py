@@ -3,11 +3,16 @@
 The word 'langid', 'locale' or 'data' asks for the normal form of each line, or '! ' and the words of the refusal. Such a
 word after 'pairs-' asks of each two lines for the byte order of the first, normalized, against the second, whether they
 mean the same, and the order of both normal forms, as '-1 0 -1'. A refusal stands in the place of the last, or of all
-three if the first is refused."""
+three if the first is refused.
+
+The word 'objects' asks for all parts of the locale that the line means. 'two-objects' asks of each two lines for the
+order of both locales, whether they are equal and are hashed alike, the byte order of the first against the second line,
+and whether that line means it. 'script' asks for what each step on one of four locales gives, and the text of the locale
+after it. Fields stand between tabs. tools/object_model.py says what is wanted."""
 
 import sys
 
-from icu_locale_c import LocaleError, Mode, check, compare, normalize, normalizing_eq, strict_cmp
+from icu_locale_c import Locale, LocaleError, Mode, check, compare, normalize, normalizing_eq, strict_cmp
 
 MODES = {"langid": Mode.IDENTIFIER, "locale": Mode.LOCALE, "data": Mode.DATA_LOCALE}
 
@@ -32,9 +37,101 @@ def compared(first, second, mode):
     return f"{both} {answered(compare, first, second, mode)}"
 
 
+def parts(locale):
+    keywords = ",".join(f"{key}={value}" for key, value in locale.keywords.items())
+    fields = [str(locale), locale.base_name, locale.language, locale.script or "", locale.region or ""]
+    fields += [",".join(locale.variants), ",".join(locale.attributes), keywords]
+    # Each Locale is well-formed. A hash may be cut by the interpreter.
+    assert Locale(str(locale)) == locale
+    return "\t".join([*fields, f"{int(locale.is_und)}1", f"{locale.__hash__():016x}"])
+
+
+def compared_objects(one, other):
+    """The comparison of two locales, of which all operators are to agree."""
+    order = (one > other) - (one < other)
+    assert (one <= other, one >= other) == (order <= 0, order >= 0) and (other > one) - (other < one) == -order
+    assert (one == other) != (one != other)
+    return f"{order} {int(one == other)} {int(hash(one) == hash(other))}"
+
+
+def against(locale, text):
+    return f"{locale.strict_cmp(text)} {int(locale.normalizing_eq(text))}"
+
+
+def two_objects(first, second):
+    one = Locale(first)
+    try:
+        both = compared_objects(one, Locale(second))
+    except LocaleError:
+        both = "- - -"
+    return f"{both} {against(one, second)}"
+
+
+def removed(locale, name, word):
+    """The locale without this variant or attribute, if it has it."""
+    words = getattr(locale, name)
+    left = [it for it in words if it != word.lower()]
+    return None if len(left) == len(words) else locale.replace(**{name: left})
+
+
+def take_step(slots, call, at, *given):
+    """What a step gives. As a Locale does not change, another takes its place."""
+    locale, texts = slots[at], [it.decode() for it in given] if call not in ("parse", "against") else given
+    if call in ("language", "script", "region"):
+        slots[at] = locale.replace(**{call: texts[0]})
+    elif call == "parse":
+        slots[at] = Locale(texts[0])
+    elif call.startswith(("add-", "remove-", "has-", "clear-")) and "keyword" not in call:
+        what, name = call.split("-")
+        name = name.rstrip("s") + "s"
+        if what == "has":
+            return int(texts[0].lower() in getattr(locale, name))
+        if what == "remove":
+            left = removed(locale, name, texts[0])
+            slots[at] = left or locale
+            return "none" if left is None else "ok"
+        slots[at] = locale.replace(**{name: [*getattr(locale, name), *texts] if what == "add" else []})
+    elif call == "set-keyword":
+        slots[at] = locale.replace(keywords={**locale.keywords, texts[0]: texts[1]})
+    elif call == "clear-keywords":
+        slots[at] = locale.replace(keywords={})
+    elif call in ("get-keyword", "remove-keyword"):
+        keywords = dict(locale.keywords)
+        value = keywords.pop(texts[0].lower(), None)
+        if value is None:
+            return "none"
+        if call == "get-keyword":
+            return f"={value}"
+        slots[at] = locale.replace(keywords=keywords)
+    elif call in ("copy", "move"):
+        slots[at] = slots[int(texts[0])]
+        if call == "move" and int(texts[0]) != at:
+            slots[int(texts[0])] = Locale("und")
+    elif call == "compare":
+        return compared_objects(locale, slots[int(texts[0])])
+    else:
+        return against(locale, texts[0]) if call == "against" else parts(locale)
+    return "ok"
+
+
+def script(lines):
+    """The answers to a script, one after the other."""
+    slots = [Locale("und") for _ in range(4)]
+    for line in lines:
+        call, at, *given = line.split(b"\t")
+        answer = answered(take_step, slots, call.decode(), int(at), *given)
+        yield f"{answer}\t{slots[int(at)]}"
+
+
 def main(word):
     lines = sys.stdin.buffer.read().split(b"\n")[:-1]
-    if word.startswith("pairs-"):
+    if word == "objects":
+        answers = [answered(lambda line: parts(Locale(line)), line) for line in lines]
+    elif word == "two-objects":
+        answers = [answered(two_objects, *pair) for pair in zip(lines[::2], lines[1::2])]
+    elif word == "script":
+        answers = script(lines)
+    elif word.startswith("pairs-"):
         mode = MODES[word[6:]]
         answers = [answered(compared, *pair, mode) for pair in zip(lines[::2], lines[1::2])]
     else:

@@ -3,13 +3,30 @@
 It prints how many cases were as wanted; the status is 0 if all were."""
 
 import array
+import collections.abc
+import copy
 import doctest
 import os
+import pickle
 import subprocess
 import sys
+import threading
 
 import icu_locale_c
-from icu_locale_c import InvalidLanguage, InvalidSubtag, LocaleError, Mode, check, compare, normalize, normalizing_eq, strict_cmp
+from icu_locale_c import (
+    DuplicatedExtension,
+    InvalidExtension,
+    InvalidLanguage,
+    InvalidSubtag,
+    Locale,
+    LocaleError,
+    Mode,
+    check,
+    compare,
+    normalize,
+    normalizing_eq,
+    strict_cmp,
+)
 
 
 class FalseText(str):
@@ -56,6 +73,28 @@ def loading(path):
     return ran.stderr.strip().split("\n")[-1]
 
 
+def shared():
+    """What threads find that read and compare the same locales, of which each would be wrong if two calls had it at once."""
+    texts = ["en-GB-aaaaa-bbbbb-ccccc-ddddd-eeeee-u-ca-roc-x-a-b-c-d-e-f", "de-u-co-phonebk"]
+    locales, wrong = [Locale(it) for it in texts], []
+
+    def look(first, second):
+        for _ in range(2000):
+            if str(locales[first]) != texts[first] or (locales[first] < locales[second]) != (first > second):
+                wrong.append(str(locales[first]))
+
+    threads = [threading.Thread(target=look, args=it) for it in ((0, 1), (1, 0)) * 4]
+    for it in threads:
+        it.start()
+    for it in threads:
+        it.join()
+    return wrong
+
+
+LONG = "de-aaaaa-bbbbb-ccccc-ddddd-eeeee-t-und-m0-abc-u-aaa-ca-islamic-civil-x-a-b-c-d-e"
+HELD = Locale("en-US-posix-u-foo-ca-buddhist")
+with_part = lambda **parts: raised(lambda: str(HELD.replace(**parts)))
+
 CASES = [
     (raised(normalize, 5), TypeError),
     (raised(normalize, None), TypeError),
@@ -83,6 +122,52 @@ CASES = [
     (raised(normalize, "und-u-sd-419a", Mode.DATA_LOCALE), "und-419-u-sd-419a"),
     (raised(compare, "de-u-sd-detn", "DE-u-sd-DETN", Mode.DATA_LOCALE), 0),
     (issubclass(LocaleError, ValueError), True),
+    (raised(Locale), TypeError),
+    (raised(Locale, 5), TypeError),
+    (raised(Locale, None), TypeError),
+    (raised(Locale, HELD), TypeError),
+    (raised(Locale, "e"), InvalidLanguage),
+    (raised(Locale, "en-\ud800"), InvalidSubtag),
+    (raised(Locale, "en-u"), InvalidExtension),
+    (raised(Locale, "en-a-bb-a-cc"), DuplicatedExtension),
+    (str(Locale(FalseText("EN-us"))), "en-US"),
+    (str(Locale(memoryview(b"EN-us-x")[:5])), "en-US"),
+    (str(Locale(LONG.upper())), LONG),
+    (with_part(), "en-US-posix-u-foo-ca-buddhist"),
+    (with_part(language=None, script="latn", region=b"419"), "und-Latn-419-posix-u-foo-ca-buddhist"),
+    (with_part(variants=(it for it in ["MACOS", "1994"]), attributes=()), "en-US-1994-macos-u-ca-buddhist"),
+    (with_part(keywords={"KN": "TRUE", b"ca": "islamic-civil"}), "en-US-posix-u-foo-ca-islamic-civil-kn"),
+    (with_part(language=""), "und-US-posix-u-foo-ca-buddhist"),
+    (with_part(language="e"), InvalidLanguage),
+    (with_part(language=5), TypeError),
+    (with_part(region="USA"), InvalidSubtag),
+    (with_part(script=["Latn"]), TypeError),
+    (with_part(variants="posix"), TypeError),
+    (with_part(variants=None), TypeError),
+    (with_part(variants=["pos"]), InvalidSubtag),
+    (with_part(variants=[""]), InvalidSubtag),
+    (with_part(attributes=["ab"]), InvalidSubtag),
+    (with_part(attributes=b"abc"), TypeError),
+    (with_part(keywords=[("ca", "roc")]), TypeError),
+    (with_part(keywords={"c1": "roc"}), InvalidExtension),
+    (with_part(keywords={"ca": "r"}), InvalidSubtag),
+    (with_part(keywords={"ca": "ab"}), InvalidSubtag),
+    (with_part(keywords={"ca": True}), TypeError),
+    (with_part(regions="US"), TypeError),
+    (raised(setattr, HELD, "region", "GB"), AttributeError),
+    (raised(setattr, HELD, "_handle", None), AttributeError),
+    (raised(delattr, HELD, "_lock"), AttributeError),
+    (raised(HELD.keywords.__class__.__getitem__, HELD.keywords, "nu"), KeyError),
+    (isinstance(HELD.keywords, collections.abc.Mapping) and not hasattr(HELD.keywords, "__setitem__"), True),
+    (raised(lambda: HELD < "en"), TypeError),
+    ((HELD == "en", HELD != "en", HELD == HELD, HELD <= HELD, HELD < HELD), (False, True, True, True, False)),
+    (str(HELD), "en-US-posix-u-foo-ca-buddhist"),
+    (f"{Locale('de'):>4}|{Locale('de'):<4}|", "  de|de  |"),
+    (pickle.loads(pickle.dumps(Locale(LONG))), Locale(LONG)),
+    (copy.deepcopy(HELD) is HELD and copy.copy(HELD) is HELD, True),
+    (len({Locale("en-US"), Locale("EN-us"), Locale("en")}), 2),
+    ([str(it) for it in sorted(map(Locale, ["und", "en-macos-posix", "en-posix", "de"]))], ["de", "en-posix", "en-macos-posix", "und"]),
+    (shared(), []),
     ("run bindings/build" in loading("/dev/null"), True),
     ("of header" in loading(sys.executable) or "another library" in loading("libc.so.6"), True),
 ]

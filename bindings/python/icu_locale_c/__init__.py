@@ -1,7 +1,13 @@
-"""Unicode locale identifiers, such as en-US-u-ca-buddhist: normalized, checked and compared.
+"""Unicode locale identifiers, such as en-US-u-ca-buddhist: normalized, checked and compared as texts, or held as a
+Locale, with parts.
 
 The work is done by the library of include/icu_locale.h, whose every function is proved. This wrapper is not proved.
 
+>>> locale = Locale("EN-us-u-ca-Buddhist")
+>>> locale.region, locale.keywords["ca"]
+('US', 'buddhist')
+>>> print(locale.replace(region="GB"))
+en-GB-u-ca-buddhist
 >>> normalize("EN-us-u-ca-Buddhist")
 'en-US-u-ca-buddhist'
 >>> normalize("en-", Mode.IDENTIFIER)
@@ -11,7 +17,10 @@ icu_locale_c.InvalidSubtag: Invalid subtag
 A text is a str, or bytes (or any bytes-like object) of any encoding. Anything else is a TypeError. A lone surrogate in
 a str is refused like any other character that no identifier has.
 
-Any number of threads may call at the same time: each call works on copies of its own, without the interpreter's lock.
+Any number of threads may call at the same time, and share a Locale. A call on texts works on copies of its own. The
+library wants a locale for itself while it reads it, so each Locale has a lock, which a call holds while the library
+works. A call that compares two takes both locks, in an order that is the same in each thread. No call needs the lock of
+the interpreter.
 
 The library is the one that the environment variable ICU_LOCALE_LIBRARY names, or the one beside this file (in a
 wheel), or the one that bindings/build made, or one that the system finds."""
@@ -23,9 +32,12 @@ import ctypes.util
 import enum
 import os
 import pathlib
-from typing import Any, Union
+import threading
+import types
+from typing import Any, Callable, Iterable, Mapping, Optional, Tuple, Union
 
 __all__ = [
+    "Locale",
     "Mode",
     "LocaleError",
     "InvalidLanguage",
@@ -86,16 +98,49 @@ class DuplicatedExtension(LocaleError):
     """An extension begins a second time."""
 
 
-_DONE, _BUFFER_TOO_SMALL = 0, 6
+class _Handle(ctypes.Structure):
+    """icu_locale_t"""
+
+    _fields_ = [("at", ctypes.c_void_p)]
+
+
+_DONE, _INVALID_SUBTAG, _BUFFER_TOO_SMALL, _NOT_FOUND = 0, 2, 6, 8
 _REFUSALS = {1: InvalidLanguage, 2: InvalidSubtag, 3: InvalidExtension, 4: DuplicatedExtension, 5: MemoryError}
 _NUMBER, _BYTES, _SIZE = ctypes.c_uint32, ctypes.c_char_p, ctypes.c_size_t
+_NEEDED, _LOCALE, _TRUTH = ctypes.POINTER(_SIZE), ctypes.POINTER(_Handle), ctypes.c_bool
+_TEXT, _BUFFER = (_BYTES, _SIZE), (_BYTES, _SIZE, _NEEDED)
+# Of each function its arguments, and what it returns, if that is no status.
 _FORMS = {
-    "normalize": (_NUMBER, _BYTES, _SIZE, _BYTES, _SIZE, ctypes.POINTER(_SIZE)),
-    "check": (_NUMBER, _BYTES, _SIZE),
-    "strict_cmp": (_NUMBER, _BYTES, _SIZE, _BYTES, _SIZE, ctypes.POINTER(ctypes.c_int8)),
-    "normalizing_eq": (_NUMBER, _BYTES, _SIZE, _BYTES, _SIZE, ctypes.POINTER(ctypes.c_uint8)),
-    "compare": (_NUMBER, _BYTES, _SIZE, _BYTES, _SIZE, ctypes.POINTER(ctypes.c_int8)),
-    "words": (_NUMBER, _BYTES, _SIZE, ctypes.POINTER(_SIZE)),
+    "normalize": (_NUMBER, *_TEXT, *_BUFFER),
+    "check": (_NUMBER, *_TEXT),
+    "strict_cmp": (_NUMBER, *_TEXT, *_TEXT, ctypes.POINTER(ctypes.c_int8)),
+    "normalizing_eq": (_NUMBER, *_TEXT, *_TEXT, ctypes.POINTER(ctypes.c_uint8)),
+    "compare": (_NUMBER, *_TEXT, *_TEXT, ctypes.POINTER(ctypes.c_int8)),
+    "words": (_NUMBER, *_BUFFER),
+    "parse": (_LOCALE, *_TEXT),
+    "copy": (_LOCALE, _LOCALE),
+    "free": (_LOCALE,),
+    "is_und": (_LOCALE,),
+    "is_well_formed": (_LOCALE,),
+    "cmp": (_LOCALE, _LOCALE),
+    "eq": (_LOCALE, _LOCALE),
+    "cmp_bytes": (_LOCALE, *_TEXT),
+    "eq_text": (_LOCALE, *_TEXT, ctypes.POINTER(ctypes.c_uint8)),
+    "hash": (_LOCALE,),
+    "set_keyword": (_LOCALE, *_TEXT, *_TEXT),
+    "get_keyword": (_LOCALE, *_TEXT, *_BUFFER),
+    **dict.fromkeys(("variant_count", "keyword_count", "attribute_count"), (_LOCALE,)),
+    **dict.fromkeys(("clear_variants", "clear_keywords", "clear_attributes"), (_LOCALE,)),
+    **dict.fromkeys(("get_variant", "get_attribute", "get_keyword_key", "get_keyword_value"), (_LOCALE, _SIZE, *_BUFFER)),
+    **dict.fromkeys(("to_string", "get_base_name", "get_language", "get_script", "get_region"), (_LOCALE, *_BUFFER)),
+    **dict.fromkeys(("set_language", "set_script", "set_region", "add_variant", "add_attribute"), (_LOCALE, *_TEXT)),
+}
+_RETURNS = {
+    "free": None,
+    "hash": ctypes.c_uint64,
+    **dict.fromkeys(("is_und", "is_well_formed", "eq"), _TRUTH),
+    **dict.fromkeys(("cmp", "cmp_bytes"), ctypes.c_int8),
+    **dict.fromkeys(("variant_count", "keyword_count", "attribute_count"), _SIZE),
 }
 _REMEDY = "run bindings/build in the repository, or name the library by ICU_LOCALE_LIBRARY"
 
@@ -127,7 +172,7 @@ def _load(path: str) -> ctypes.CDLL:
             raise ImportError(f"{path} is of header {version()}, and this wrapper of header {HEADER}: {_REMEDY}")
         for name, types in _FORMS.items():
             function = getattr(library, f"icu_locale_{name}")
-            function.argtypes, function.restype = types, _NUMBER
+            function.argtypes, function.restype = types, _RETURNS.get(name, _NUMBER)
     except AttributeError as error:
         raise ImportError(f"{path} is another library ({error}): {_REMEDY}") from None
     return library
@@ -217,3 +262,290 @@ def compare(text: Text, other: Text, mode: Mode = Mode.LOCALE) -> int:
     given, against, order = _bytes(text), _bytes(other), ctypes.c_int8()
     _raise(_library.icu_locale_compare(Mode(mode), given, len(given), against, len(against), ctypes.byref(order)))
     return order.value
+
+
+_KEPT: Any = object()
+
+
+def _texts(given: Iterable[Text]) -> Tuple[Text, ...]:
+    """The texts, which are not the letters of one."""
+    if isinstance(given, (str, bytes, bytearray, memoryview)):
+        raise TypeError(f"several texts are wanted, such as a tuple, and not one {type(given).__name__}")
+    return tuple(given)
+
+
+class Locale:
+    """A locale. It does not change: replace makes another one.
+
+    Two are equal if they have the same meaning, and are then hashed alike. The order of < is by parts: language, script,
+    region, variants, extensions. A Locale can be pickled, and shared by threads.
+
+    >>> Locale("EN-latn-us-POSIX-u-KN")
+    Locale('en-Latn-US-posix-u-kn')
+    >>> Locale("en-US") == Locale("EN-us"), Locale("de") < Locale("en")
+    (True, True)
+    >>> Locale("en-")
+    Traceback (most recent call last):
+    icu_locale_c.InvalidSubtag: Invalid subtag
+    """
+
+    __slots__ = ("_handle", "_lock", "__weakref__")
+
+    _handle: _Handle
+    _lock: Any
+
+    def __new__(cls, text: Text) -> "Locale":
+        given = _bytes(text)
+        made = cls._und()
+        _raise(_library.icu_locale_parse(made._handle, given, len(given)))
+        return made
+
+    @classmethod
+    def _und(cls) -> "Locale":
+        made = object.__new__(cls)
+        object.__setattr__(made, "_handle", _Handle())
+        # It may be taken twice, as a signal handler may call in between.
+        object.__setattr__(made, "_lock", threading.RLock())
+        return made
+
+    def __setattr__(self, name: str, value: Any) -> None:
+        raise AttributeError(f"a Locale does not change: replace makes another one, also with another {name}")
+
+    def __delattr__(self, name: str) -> None:
+        raise AttributeError(f"a Locale does not change: {name} stays")
+
+    def __del__(self, _free: Callable[[_Handle], None] = _library.icu_locale_free) -> None:
+        _free(self._handle)
+
+    def _read(self, call: Any, *given: Any) -> Optional[str]:
+        """The text that a call writes, or None if there is no such part."""
+        room, needed, status = 64, ctypes.c_size_t(), _BUFFER_TOO_SMALL
+        while status == _BUFFER_TOO_SMALL:
+            buffer = ctypes.create_string_buffer(room)
+            with self._lock:
+                status = call(self._handle, *given, buffer, room, ctypes.byref(needed))
+            room = needed.value
+        if status == _NOT_FOUND:
+            return None
+        _raise(status)
+        return buffer.raw[: needed.value].decode("ascii")
+
+    def _part(self, call: Any, *given: Any) -> str:
+        """The text of a part that is there."""
+        return self._read(call, *given) or ""
+
+    def _list(self, count: Any, call: Any) -> Tuple[str, ...]:
+        with self._lock:
+            number = count(self._handle)
+        return tuple(self._part(call, at) for at in range(number))
+
+    def _with(self, other: "Locale", call: Any) -> Any:
+        """What a call answers of both."""
+        first, second = (self, other) if id(self) < id(other) else (other, self)
+        with first._lock, second._lock:
+            return call(self._handle, other._handle)
+
+    @property
+    def language(self) -> str:
+        """The language; 'und' if it is unknown.
+
+        >>> Locale("en-US").language, Locale("und-US").language
+        ('en', 'und')
+        """
+        return self._part(_library.icu_locale_get_language)
+
+    @property
+    def script(self) -> Optional[str]:
+        """The script, if there is one.
+
+        >>> Locale("sr-latn").script
+        'Latn'
+        """
+        return self._read(_library.icu_locale_get_script) or None
+
+    @property
+    def region(self) -> Optional[str]:
+        """The region, if there is one.
+
+        >>> Locale("es-419").region, Locale("es").region
+        ('419', None)
+        """
+        return self._read(_library.icu_locale_get_region) or None
+
+    @property
+    def variants(self) -> Tuple[str, ...]:
+        """The variants, ascending.
+
+        >>> Locale("en-posix-macos").variants
+        ('macos', 'posix')
+        """
+        return self._list(_library.icu_locale_variant_count, _library.icu_locale_get_variant)
+
+    @property
+    def keywords(self) -> Mapping[str, str]:
+        """The keywords of the extension u, by ascending key. It does not change.
+
+        >>> dict(Locale("en-u-kn-ca-buddhist").keywords)
+        {'ca': 'buddhist', 'kn': ''}
+        """
+        keys = self._list(_library.icu_locale_keyword_count, _library.icu_locale_get_keyword_key)
+        values = self._list(_library.icu_locale_keyword_count, _library.icu_locale_get_keyword_value)
+        return types.MappingProxyType(dict(zip(keys, values)))
+
+    @property
+    def attributes(self) -> Tuple[str, ...]:
+        """The attributes of the extension u, ascending.
+
+        >>> Locale("en-u-foo-bar").attributes
+        ('bar', 'foo')
+        """
+        return self._list(_library.icu_locale_attribute_count, _library.icu_locale_get_attribute)
+
+    @property
+    def base_name(self) -> str:
+        """The identifier alone, without extensions.
+
+        >>> Locale("en-US-u-ca-buddhist").base_name
+        'en-US'
+        """
+        return self._part(_library.icu_locale_get_base_name)
+
+    @property
+    def is_und(self) -> bool:
+        """Whether this is und, with no other part.
+
+        >>> Locale("und").is_und, Locale("und-US").is_und
+        (True, False)
+        """
+        with self._lock:
+            return bool(_library.icu_locale_is_und(self._handle))
+
+    def replace(
+        self,
+        *,
+        language: Optional[Text] = _KEPT,
+        script: Optional[Text] = _KEPT,
+        region: Optional[Text] = _KEPT,
+        variants: Iterable[Text] = _KEPT,
+        keywords: Mapping[Any, Text] = _KEPT,
+        attributes: Iterable[Text] = _KEPT,
+    ) -> "Locale":
+        """Returns a locale that has these parts instead, and else those of this one.
+
+        None clears a language, script or region. All variants, keywords or attributes are replaced by those given.
+
+        >>> locale = Locale("en-US-u-ca-buddhist")
+        >>> locale.replace(language="fr", region=None)
+        Locale('fr-u-ca-buddhist')
+        >>> locale.replace(keywords={**locale.keywords, "nu": "thai"})
+        Locale('en-US-u-ca-buddhist-nu-thai')
+        >>> locale.replace(variants=["POSIX"], keywords={})
+        Locale('en-US-posix')
+        >>> locale.replace(region="USA")
+        Traceback (most recent call last):
+        icu_locale_c.InvalidSubtag: Invalid subtag
+
+        A value is refused if its text would not be parsed back as this value:
+
+        >>> locale.replace(keywords={"ca": "ab"})
+        Traceback (most recent call last):
+        icu_locale_c.InvalidSubtag: Invalid subtag
+        """
+        made = self._und()
+        with self._lock:
+            _raise(_library.icu_locale_copy(made._handle, self._handle))
+        made._set("language", language)
+        made._set("script", script)
+        made._set("region", region)
+        if variants is not _KEPT:
+            made._fill("clear_variants", "add_variant", variants)
+        if attributes is not _KEPT:
+            made._fill("clear_attributes", "add_attribute", attributes)
+        if keywords is not _KEPT:
+            made._set_keywords(keywords)
+        if not _library.icu_locale_is_well_formed(made._handle):
+            _raise(_INVALID_SUBTAG)
+        return made
+
+    # These three change a locale that no one else has yet.
+
+    def _set(self, part: str, text: Optional[Text]) -> None:
+        if text is not _KEPT:
+            given = b"" if text is None else _bytes(text)
+            _raise(getattr(_library, f"icu_locale_set_{part}")(self._handle, given, len(given)))
+
+    def _fill(self, clear: str, add: str, texts: Iterable[Text]) -> None:
+        _raise(getattr(_library, f"icu_locale_{clear}")(self._handle))
+        for given in map(_bytes, _texts(texts)):
+            _raise(getattr(_library, f"icu_locale_{add}")(self._handle, given, len(given)))
+
+    def _set_keywords(self, keywords: Mapping[Any, Text]) -> None:
+        if not isinstance(keywords, Mapping):
+            raise TypeError(f"keywords are a mapping of keys to values, not {type(keywords).__name__}")
+        _raise(_library.icu_locale_clear_keywords(self._handle))
+        for key, value in keywords.items():
+            at, text = _bytes(key), _bytes(value)
+            _raise(_library.icu_locale_set_keyword(self._handle, at, len(at), text, len(text)))
+
+    def strict_cmp(self, other: Text) -> int:
+        """Returns the byte order of the normal form against the other text as it stands: -1, 0 or 1.
+
+        >>> Locale("EN-us").strict_cmp("en-US"), Locale("EN-us").strict_cmp("EN-us")
+        (0, 1)
+        """
+        given = _bytes(other)
+        with self._lock:
+            return int(_library.icu_locale_cmp_bytes(self._handle, given, len(given)))
+
+    def normalizing_eq(self, other: Text) -> bool:
+        """Returns whether the text means this locale.
+
+        >>> Locale("en-US").normalizing_eq("EN-us"), Locale("en-US").normalizing_eq("en-")
+        (True, False)
+        """
+        given, same = _bytes(other), ctypes.c_uint8()
+        with self._lock:
+            _raise(_library.icu_locale_eq_text(self._handle, given, len(given), ctypes.byref(same)))
+        return same.value == 1
+
+    def __eq__(self, other: object) -> bool:
+        if not isinstance(other, Locale):
+            return NotImplemented
+        return self is other or bool(self._with(other, _library.icu_locale_eq))
+
+    def _cmp(self, other: "Locale") -> int:
+        return 0 if self is other else self._with(other, _library.icu_locale_cmp)
+
+    def __lt__(self, other: "Locale") -> bool:
+        return self._cmp(other) < 0 if isinstance(other, Locale) else NotImplemented
+
+    def __le__(self, other: "Locale") -> bool:
+        return self._cmp(other) <= 0 if isinstance(other, Locale) else NotImplemented
+
+    def __gt__(self, other: "Locale") -> bool:
+        return self._cmp(other) > 0 if isinstance(other, Locale) else NotImplemented
+
+    def __ge__(self, other: "Locale") -> bool:
+        return self._cmp(other) >= 0 if isinstance(other, Locale) else NotImplemented
+
+    def __hash__(self) -> int:
+        with self._lock:
+            return int(_library.icu_locale_hash(self._handle))
+
+    def __str__(self) -> str:
+        return self._part(_library.icu_locale_to_string)
+
+    def __format__(self, form: str) -> str:
+        return format(str(self), form)
+
+    def __repr__(self) -> str:
+        return f"{type(self).__name__}({str(self)!r})"
+
+    def __copy__(self) -> "Locale":
+        return self
+
+    def __deepcopy__(self, _memo: Any) -> "Locale":
+        return self
+
+    def __reduce__(self) -> Tuple[Any, ...]:
+        return type(self), (str(self),)

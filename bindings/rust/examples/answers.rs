@@ -4,9 +4,20 @@
 //! `answers pairs-langid|pairs-locale|pairs-data`: of each two lines the byte order of the first, normalized, against
 //! the second, whether they mean the same, and the order of both normal forms, as `-1 0 -1`. A refusal stands in the
 //! place of the last, or of all three if the first is refused.
+//!
+//! `answers objects`: all parts of the locale that the line means, or `! ` and the words of the refusal.
+//! `answers two-objects`: of each two lines the order of both locales, whether they are equal and are hashed alike, the
+//! byte order of the first against the second line, and whether that line means it.
+//! `answers script`: what each step on one of four locales gives, and the text of the locale after it.
+//! Fields stand between tabs. `tools/object_model.py` says what is wanted.
 
-use icu_locale_c::{check, compare, normalize, normalizing_eq, strict_cmp, Mode, Refusal};
+use icu_locale_c::extensions::unicode::{Attribute, Key, Value};
+use icu_locale_c::subtags::{Language, Region, Script, Variant};
+use icu_locale_c::{check, compare, normalize, normalizing_eq, strict_cmp, Locale, Mode, Refusal};
+use std::collections::hash_map::DefaultHasher;
+use std::hash::{Hash, Hasher};
 use std::io::{self, BufRead, BufWriter, Write};
+use std::mem;
 
 fn answer(mode: Mode, line: &[u8]) -> String {
     let normal = normalize(mode, line);
@@ -24,31 +35,242 @@ fn compare_pair(mode: Mode, first: &[u8], second: &[u8]) -> Result<String, Refus
     Ok(format!("{order} {same} {both}"))
 }
 
+fn joined<T: ToString>(parts: &[T]) -> String {
+    parts.iter().map(T::to_string).collect::<Vec<_>>().join(",")
+}
+
+/// What a locale feeds a hasher: the library's hash.
+struct Kept(u64);
+
+impl Hasher for Kept {
+    fn write(&mut self, _: &[u8]) {
+        panic!("a locale feeds one number");
+    }
+
+    fn write_u64(&mut self, number: u64) {
+        self.0 = number;
+    }
+
+    fn finish(&self) -> u64 {
+        self.0
+    }
+}
+
+fn parts(it: &Locale) -> String {
+    let optional = |part: Option<String>| part.unwrap_or_default();
+    let keywords: Vec<String> = it
+        .keywords()
+        .iter()
+        .map(|(key, value)| format!("{key}={value}"))
+        .collect();
+    let mut hash = Kept(0);
+    it.hash(&mut hash);
+    let fields = [
+        it.to_string(),
+        it.base_name(),
+        it.language().to_string(),
+        optional(it.script().map(|it| it.to_string())),
+        optional(it.region().map(|it| it.to_string())),
+        joined(&it.variants()),
+        joined(&it.attributes()),
+        joined(&keywords),
+        format!("{}{}", it.is_unknown() as u8, it.is_well_formed() as u8),
+        format!("{:016x}", hash.finish()),
+    ];
+    fields.join("\t")
+}
+
+/// The comparison of two locales, of which all forms are to agree.
+fn compare_objects(one: &Locale, other: &Locale) -> String {
+    let hash = |it: &Locale| {
+        let mut state = DefaultHasher::new();
+        it.hash(&mut state);
+        state.finish()
+    };
+    let order = one.total_cmp(other);
+    assert_eq!(
+        (one.cmp(other), one.partial_cmp(other), other.cmp(one)),
+        (order, Some(order), order.reverse())
+    );
+    format!(
+        "{} {} {}",
+        order as i8,
+        (one == other) as u8,
+        (hash(one) == hash(other)) as u8
+    )
+}
+
+/// The byte order against a text, and whether the text means the locale.
+fn against(it: &Locale, text: &[u8]) -> String {
+    let is_meant = it.normalizing_eq_utf8(text);
+    assert!(std::str::from_utf8(text).map_or(true, |text| it.normalizing_eq(text) == is_meant));
+    format!("{} {}", it.strict_cmp(text) as i8, is_meant as u8)
+}
+
+fn two_objects(first: &[u8], second: &[u8]) -> Result<String, Refusal> {
+    let one = Locale::try_from_utf8(first)?;
+    let both = Locale::try_from_utf8(second).map_or_else(|_| "- - -".to_owned(), |other| compare_objects(&one, &other));
+    Ok(format!("{both} {}", against(&one, second)))
+}
+
+/// A part that is cleared by an empty text.
+fn optional<T>(text: &[u8], parsed: fn(&[u8]) -> Result<T, Refusal>) -> Result<Option<T>, Refusal> {
+    if text.is_empty() {
+        Ok(None)
+    } else {
+        parsed(text).map(Some)
+    }
+}
+
+fn ok() -> String {
+    "ok".to_owned()
+}
+
+fn found(is_found: bool) -> String {
+    if is_found { "ok" } else { "none" }.to_owned()
+}
+
+fn bit(is_so: bool) -> String {
+    (is_so as u8).to_string()
+}
+
+fn take_step(slots: &mut [Locale; 4], words: &[&[u8]]) -> Result<String, Refusal> {
+    let number = |word: &[u8]| word.first().map_or(0, |digit| (digit - b'0') as usize);
+    let (at, text) = (number(words[1]), words.get(2).copied().unwrap_or(b""));
+    let other = if text.len() == 1 { number(text) % 4 } else { 0 };
+    let has_before = |it: &Locale, variant: &Variant| it.variants().contains(variant);
+    Ok(match words[0] {
+        b"parse" => {
+            slots[at] = Locale::try_from_utf8(text)?;
+            ok()
+        }
+        b"language" => {
+            slots[at].set_language(optional(text, Language::try_from_utf8)?.unwrap_or_default());
+            ok()
+        }
+        b"script" => {
+            slots[at].set_script(optional(text, Script::try_from_utf8)?);
+            ok()
+        }
+        b"region" => {
+            slots[at].set_region(optional(text, Region::try_from_utf8)?);
+            ok()
+        }
+        b"add-variant" => {
+            let variant = Variant::try_from_utf8(text)?;
+            let was_there = has_before(&slots[at], &variant);
+            assert_ne!(slots[at].push_variant(variant), was_there);
+            ok()
+        }
+        b"remove-variant" => found(Variant::try_from_utf8(text).is_ok_and(|it| slots[at].remove_variant(&it))),
+        b"has-variant" => bit(Variant::try_from_utf8(text).is_ok_and(|it| slots[at].has_variant(&it))),
+        b"clear-variants" => {
+            slots[at].clear_variants();
+            ok()
+        }
+        b"add-attribute" => {
+            slots[at].push_attribute(Attribute::try_from_utf8(text)?);
+            ok()
+        }
+        b"remove-attribute" => found(Attribute::try_from_utf8(text).is_ok_and(|it| slots[at].remove_attribute(&it))),
+        b"has-attribute" => bit(Attribute::try_from_utf8(text).is_ok_and(|it| slots[at].has_attribute(&it))),
+        b"clear-attributes" => {
+            slots[at].clear_attributes();
+            ok()
+        }
+        b"set-keyword" => {
+            let (key, value) = (Key::try_from_utf8(text)?, Value::try_from_utf8(words[3])?);
+            let before = slots[at].keyword(&key);
+            assert_eq!(slots[at].set_keyword(key, value), before);
+            ok()
+        }
+        b"get-keyword" => {
+            let value = Key::try_from_utf8(text).ok().and_then(|it| slots[at].keyword(&it));
+            value.map_or_else(|| found(false), |it| format!("={it}"))
+        }
+        b"remove-keyword" => found(Key::try_from_utf8(text).is_ok_and(|it| slots[at].remove_keyword(&it).is_some())),
+        b"clear-keywords" => {
+            slots[at].clear_keywords();
+            ok()
+        }
+        b"copy" => {
+            slots[at] = slots[other].clone();
+            ok()
+        }
+        b"move" => {
+            slots[at] = mem::take(&mut slots[other]);
+            ok()
+        }
+        b"compare" => compare_objects(&slots[at], &slots[other]),
+        b"against" => against(&slots[at], text),
+        b"parts" => parts(&slots[at]),
+        other => panic!("no step {}", String::from_utf8_lossy(other)),
+    })
+}
+
+fn refused(refusal: Refusal) -> String {
+    format!("! {refusal}")
+}
+
+fn answer_script(lines: &[Vec<u8>], out: &mut impl Write) -> io::Result<()> {
+    let mut slots: [Locale; 4] = Default::default();
+    for line in lines {
+        let words: Vec<&[u8]> = line.split(|it| *it == b'\t').collect();
+        let answer = take_step(&mut slots, &words).unwrap_or_else(refused);
+        writeln!(out, "{answer}\t{}", slots[(words[1][0] - b'0') as usize])?;
+    }
+    Ok(())
+}
+
 fn mode_of(word: &str) -> Mode {
     match word {
         "langid" => Mode::Identifier,
         "locale" => Mode::Locale,
         "data" => Mode::DataLocale,
-        _ => panic!("usage: answers langid|locale|data|pairs-langid|pairs-locale|pairs-data"),
+        _ => {
+            panic!("usage: answers langid|locale|data|pairs-langid|pairs-locale|pairs-data|objects|two-objects|script")
+        }
     }
+}
+
+fn answer_texts(word: &str, lines: &[Vec<u8>], out: &mut impl Write) -> io::Result<()> {
+    match word.strip_prefix("pairs-") {
+        None => {
+            for line in lines {
+                writeln!(out, "{}", answer(mode_of(word), line))?;
+            }
+        }
+        Some(word) => {
+            for pair in lines.chunks_exact(2) {
+                let told = compare_pair(mode_of(word), &pair[0], &pair[1]);
+                writeln!(out, "{}", told.unwrap_or_else(refused))?;
+            }
+        }
+    }
+    Ok(())
 }
 
 fn main() -> io::Result<()> {
     let word = std::env::args().nth(1).unwrap_or_default();
     let lines: Vec<Vec<u8>> = io::stdin().lock().split(b'\n').collect::<io::Result<_>>()?;
     let mut out = BufWriter::new(io::stdout().lock());
-    match word.strip_prefix("pairs-") {
-        None => {
+    match word.as_str() {
+        "objects" => {
             for line in &lines {
-                writeln!(out, "{}", answer(mode_of(&word), line))?;
+                writeln!(
+                    out,
+                    "{}",
+                    Locale::try_from_utf8(line).map_or_else(refused, |it| parts(&it))
+                )?;
             }
         }
-        Some(word) => {
+        "two-objects" => {
             for pair in lines.chunks_exact(2) {
-                let told = compare_pair(mode_of(word), &pair[0], &pair[1]);
-                writeln!(out, "{}", told.unwrap_or_else(|refusal| format!("! {refusal}")))?;
+                writeln!(out, "{}", two_objects(&pair[0], &pair[1]).unwrap_or_else(refused))?;
             }
         }
+        "script" => answer_script(&lines, &mut out)?,
+        word => answer_texts(word, &lines, &mut out)?,
     }
     out.flush()
 }

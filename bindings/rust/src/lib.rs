@@ -1,7 +1,20 @@
 //! Unicode locale identifiers, such as `en-US-u-ca-buddhist`: normalized, checked and compared.
 //!
-//! The work is done by the library of `include/icu_locale.h`, whose every function is proved. This wrapper is not
-//! proved.
+//! A [`Locale`] has parts to read and to change:
+//!
+//! ```
+//! use icu_locale_c::{extensions::unicode::{Key, Value}, subtags::Region, Locale};
+//!
+//! # fn main() -> Result<(), icu_locale_c::ParseError> {
+//! let mut locale: Locale = "EN-us".parse()?;
+//! locale.set_region(Some("GB".parse::<Region>()?));
+//! locale.set_keyword("ca".parse::<Key>()?, "buddhist".parse::<Value>()?);
+//! assert_eq!(locale.to_string(), "en-GB-u-ca-buddhist");
+//! # Ok(())
+//! # }
+//! ```
+//!
+//! The functions here go from text to text:
 //!
 //! ```
 //! use icu_locale_c::{normalize, Mode, Refusal};
@@ -9,12 +22,35 @@
 //! assert_eq!(normalize(Mode::Locale, "EN-us-u-ca-Buddhist").unwrap(), "en-US-u-ca-buddhist");
 //! assert_eq!(normalize(Mode::Identifier, "en-"), Err(Refusal::InvalidSubtag));
 //! ```
+//!
+//! The work is done by the library of `include/icu_locale.h`, whose every function is proved. This wrapper is not
+//! proved.
 
 use std::cmp::Ordering;
 use std::fmt;
 use std::sync::OnceLock;
 
+mod locale;
+mod parts;
 pub mod sys;
+
+pub use locale::Locale;
+
+/// Why a text is refused, by the name that it has in the crate `icu_locale_core`.
+pub type ParseError = Refusal;
+
+/// Parts of an identifier.
+pub mod subtags {
+    pub use crate::parts::{Language, Region, Script, Variant};
+}
+
+/// Parts of extensions.
+pub mod extensions {
+    /// Parts of the extension `u`.
+    pub mod unicode {
+        pub use crate::parts::{Attribute, Key, Value};
+    }
+}
 
 /// How a text is parsed.
 #[derive(Clone, Copy, Debug, PartialEq, Eq, Hash)]

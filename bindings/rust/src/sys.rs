@@ -14,6 +14,14 @@ pub const DUPLICATED_EXTENSION: u32 = 4;
 pub const OUT_OF_MEMORY: u32 = 5;
 pub const BUFFER_TOO_SMALL: u32 = 6;
 pub const UNKNOWN_NUMBER: u32 = 7;
+pub const NOT_FOUND: u32 = 8;
+
+/// A locale that a program holds. A null pointer stands for und.
+#[allow(non_camel_case_types)]
+#[repr(C)]
+pub struct icu_locale_t {
+    pub at: *mut std::ffi::c_void,
+}
 
 extern "C" {
     pub fn icu_locale_normalize(
@@ -55,6 +63,118 @@ extern "C" {
     ) -> u32;
 
     pub fn icu_locale_words(status: u32, buffer: *mut u8, room: usize, needed: *mut usize) -> u32;
+
+    pub fn icu_locale_parse(locale: *mut icu_locale_t, text: *const u8, length: usize) -> u32;
+
+    pub fn icu_locale_copy(locale: *mut icu_locale_t, from: *mut icu_locale_t) -> u32;
+
+    pub fn icu_locale_free(locale: *mut icu_locale_t);
+
+    pub fn icu_locale_is_und(locale: *mut icu_locale_t) -> bool;
+
+    pub fn icu_locale_is_well_formed(locale: *mut icu_locale_t) -> bool;
+
+    pub fn icu_locale_cmp(locale: *mut icu_locale_t, other: *mut icu_locale_t) -> i8;
+
+    pub fn icu_locale_eq(locale: *mut icu_locale_t, other: *mut icu_locale_t) -> bool;
+
+    pub fn icu_locale_cmp_bytes(locale: *mut icu_locale_t, other: *const u8, length: usize) -> i8;
+
+    pub fn icu_locale_eq_text(locale: *mut icu_locale_t, text: *const u8, length: usize, same: *mut u8) -> u32;
+
+    pub fn icu_locale_hash(locale: *mut icu_locale_t) -> u64;
+
+    pub fn icu_locale_to_string(locale: *mut icu_locale_t, buffer: *mut u8, room: usize, needed: *mut usize) -> u32;
+
+    pub fn icu_locale_get_base_name(locale: *mut icu_locale_t, buffer: *mut u8, room: usize, needed: *mut usize)
+        -> u32;
+
+    pub fn icu_locale_get_language(locale: *mut icu_locale_t, buffer: *mut u8, room: usize, needed: *mut usize) -> u32;
+
+    pub fn icu_locale_set_language(locale: *mut icu_locale_t, text: *const u8, length: usize) -> u32;
+
+    pub fn icu_locale_get_script(locale: *mut icu_locale_t, buffer: *mut u8, room: usize, needed: *mut usize) -> u32;
+
+    pub fn icu_locale_set_script(locale: *mut icu_locale_t, text: *const u8, length: usize) -> u32;
+
+    pub fn icu_locale_get_region(locale: *mut icu_locale_t, buffer: *mut u8, room: usize, needed: *mut usize) -> u32;
+
+    pub fn icu_locale_set_region(locale: *mut icu_locale_t, text: *const u8, length: usize) -> u32;
+
+    pub fn icu_locale_variant_count(locale: *mut icu_locale_t) -> usize;
+
+    pub fn icu_locale_get_variant(
+        locale: *mut icu_locale_t,
+        index: usize,
+        buffer: *mut u8,
+        room: usize,
+        needed: *mut usize,
+    ) -> u32;
+
+    pub fn icu_locale_has_variant(locale: *mut icu_locale_t, text: *const u8, length: usize) -> bool;
+
+    pub fn icu_locale_add_variant(locale: *mut icu_locale_t, text: *const u8, length: usize) -> u32;
+
+    pub fn icu_locale_remove_variant(locale: *mut icu_locale_t, text: *const u8, length: usize) -> u32;
+
+    pub fn icu_locale_clear_variants(locale: *mut icu_locale_t) -> u32;
+
+    pub fn icu_locale_keyword_count(locale: *mut icu_locale_t) -> usize;
+
+    pub fn icu_locale_get_keyword_key(
+        locale: *mut icu_locale_t,
+        index: usize,
+        buffer: *mut u8,
+        room: usize,
+        needed: *mut usize,
+    ) -> u32;
+
+    pub fn icu_locale_get_keyword_value(
+        locale: *mut icu_locale_t,
+        index: usize,
+        buffer: *mut u8,
+        room: usize,
+        needed: *mut usize,
+    ) -> u32;
+
+    pub fn icu_locale_get_keyword(
+        locale: *mut icu_locale_t,
+        key: *const u8,
+        key_length: usize,
+        buffer: *mut u8,
+        room: usize,
+        needed: *mut usize,
+    ) -> u32;
+
+    pub fn icu_locale_set_keyword(
+        locale: *mut icu_locale_t,
+        key: *const u8,
+        key_length: usize,
+        value: *const u8,
+        value_length: usize,
+    ) -> u32;
+
+    pub fn icu_locale_remove_keyword(locale: *mut icu_locale_t, text: *const u8, length: usize) -> u32;
+
+    pub fn icu_locale_clear_keywords(locale: *mut icu_locale_t) -> u32;
+
+    pub fn icu_locale_attribute_count(locale: *mut icu_locale_t) -> usize;
+
+    pub fn icu_locale_get_attribute(
+        locale: *mut icu_locale_t,
+        index: usize,
+        buffer: *mut u8,
+        room: usize,
+        needed: *mut usize,
+    ) -> u32;
+
+    pub fn icu_locale_has_attribute(locale: *mut icu_locale_t, text: *const u8, length: usize) -> bool;
+
+    pub fn icu_locale_add_attribute(locale: *mut icu_locale_t, text: *const u8, length: usize) -> u32;
+
+    pub fn icu_locale_remove_attribute(locale: *mut icu_locale_t, text: *const u8, length: usize) -> u32;
+
+    pub fn icu_locale_clear_attributes(locale: *mut icu_locale_t) -> u32;
 
     pub fn icu_locale_version() -> u32;
 }

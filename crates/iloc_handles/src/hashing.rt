@@ -1,5 +1,5 @@
 //! The hash of what is printed.
-ghost use Rattle.std.specs.Prelude.{◌≡◌};
+ghost use Rattle.std.specs.Prelude.{◌≡◌, fold};
 ghost use Rattle.iloc_handles.specs.Whole.{hash_of, hash_step};
 
 use iloc_writeable::{Sink, Writeable};
@@ -23,6 +23,13 @@ fn step(state: u64, byte: u8) -> u64
     (state ^ u64::from(byte)).wrapping_mul(FACTOR)
 }
 
+// The state after all of the bytes.
+fn after(state: u64, bytes: &[u8]) -> u64
+    ensures { result ≡ fold hash_step state bytes.now }
+{
+    bytes.iter().fold(state, |state, byte| step(state, *byte))
+}
+
 impl Sink for Hashing {
     ghost use Rattle.std.specs.Prelude.{fold, refl};
     ghost use Rattle.iloc_handles.specs.Hashing.{hashed_both};
@@ -33,9 +40,7 @@ impl Sink for Hashing {
     ghost failed = { λ _ _ _ _. ⊥ };
 
     fn write_str(&mut self, text: &str) -> fmt::Result {
-        for byte in text.as_bytes() {
-            self.state = step(self.state, *byte);
-        }
+        self.state = after(self.state, text.as_bytes());
         Ok(())
     }
 

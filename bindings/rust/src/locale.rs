@@ -1,0 +1,594 @@
+//! Locales that a program holds.
+
+use crate::parts::{Attribute, Key, Language, Region, Script, Value, Variant};
+use crate::{is_of_this_version, look_at_version, normalize, result, sys, Mode, Refusal};
+use std::alloc::{handle_alloc_error, Layout};
+use std::borrow::Cow;
+use std::cell::UnsafeCell;
+use std::cmp::Ordering;
+use std::hash::{Hash, Hasher};
+use std::str::{from_utf8, FromStr};
+use std::{fmt, ptr};
+
+/// A locale, such as `en-US-u-ca-buddhist`, with parts to read and to change.
+///
+/// The calls have the names of those of the crate `icu_locale_core`. Parsing returns that it is out of memory. The other
+/// calls then end as the collections of the standard library do, by `handle_alloc_error`.
+///
+/// A locale can go to another thread. Two threads cannot use one at the same time, not even to read: the library has a
+/// locale for itself while it reads.
+///
+/// ```
+/// fn goes<T: Send>() {}
+/// goes::<icu_locale_c::Locale>();
+/// ```
+///
+/// ```compile_fail
+/// fn is_shared<T: Sync>() {}
+/// is_shared::<icu_locale_c::Locale>();
+/// ```
+pub struct Locale {
+    // Calls that read also take the handle by a pointer that writes. No call calls back, and the type is not Sync, so
+    // each has it for itself.
+    held: UnsafeCell<sys::icu_locale_t>,
+}
+
+// SAFETY: the memory of a handle is that of malloc, and no thread has a part in it.
+unsafe impl Send for Locale {}
+
+type Setting = unsafe extern "C" fn(*mut sys::icu_locale_t, *const u8, usize) -> u32;
+type Reading = unsafe extern "C" fn(*mut sys::icu_locale_t, *mut u8, usize, *mut usize) -> u32;
+type ReadingAt = unsafe extern "C" fn(*mut sys::icu_locale_t, usize, *mut u8, usize, *mut usize) -> u32;
+type Counting = unsafe extern "C" fn(*mut sys::icu_locale_t) -> usize;
+type Clearing = unsafe extern "C" fn(*mut sys::icu_locale_t) -> u32;
+type Having = unsafe extern "C" fn(*mut sys::icu_locale_t, *const u8, usize) -> bool;
+
+/// Whether a part that was to be changed was there. Parts that are passed were parsed, so none is refused.
+fn was_there(status: u32) -> bool {
+    match status {
+        sys::DONE => true,
+        sys::NOT_FOUND => false,
+        sys::OUT_OF_MEMORY => handle_alloc_error(Layout::new::<[usize; 32]>()),
+        other => panic!("{}", Refusal::UnknownStatus(other)),
+    }
+}
+
+impl Locale {
+    /// The unknown locale, `und`.
+    #[allow(clippy::declare_interior_mutable_const)]
+    pub const UNKNOWN: Self = Locale {
+        held: UnsafeCell::new(sys::icu_locale_t { at: ptr::null_mut() }),
+    };
+
+    /// The handle, for one call.
+    fn handle(&self) -> *mut sys::icu_locale_t {
+        assert!(is_of_this_version(), "{}", Refusal::AnotherLibrary);
+        self.held.get()
+    }
+
+    /// The locale that the text means.
+    pub fn try_from_str(text: &str) -> Result<Self, Refusal> {
+        Self::try_from_utf8(text.as_bytes())
+    }
+
+    /// The locale that the text means.
+    pub fn try_from_utf8(text: &[u8]) -> Result<Self, Refusal> {
+        Self::with(sys::icu_locale_parse, text)
+    }
+
+    /// An empty locale after one setting.
+    pub(crate) fn with(set: Setting, text: &[u8]) -> Result<Self, Refusal> {
+        look_at_version()?;
+        let made = Self::UNKNOWN;
+        // SAFETY: the handle is used here alone, and pointer and length are those of a slice.
+        result(unsafe { set(made.handle(), text.as_ptr(), text.len()) })?;
+        Ok(made)
+    }
+
+    /// An empty locale with one keyword.
+    pub(crate) fn with_keyword(key: &[u8], value: &[u8]) -> Result<Self, Refusal> {
+        look_at_version()?;
+        let made = Self::UNKNOWN;
+        // SAFETY: as in `with`.
+        result(unsafe {
+            sys::icu_locale_set_keyword(made.handle(), key.as_ptr(), key.len(), value.as_ptr(), value.len())
+        })?;
+        Ok(made)
+    }
+
+    /// The normal form of the text; the text itself if it is one.
+    pub fn normalize(text: &str) -> Result<Cow<'_, str>, Refusal> {
+        let normal = normalize(Mode::Locale, text)?;
+        Ok(if normal == text {
+            Cow::Borrowed(text)
+        } else {
+            Cow::Owned(normal)
+        })
+    }
+
+    /// The normal form of the text; the text itself if it is one.
+    pub fn normalize_utf8(text: &[u8]) -> Result<Cow<'_, str>, Refusal> {
+        let normal = normalize(Mode::Locale, text)?;
+        match from_utf8(text) {
+            Ok(text) if text == normal => Ok(Cow::Borrowed(text)),
+            _ => Ok(Cow::Owned(normal)),
+        }
+    }
+
+    /// Whether this is `und`, with no other part.
+    pub fn is_unknown(&self) -> bool {
+        // SAFETY: the handle is used by this call alone.
+        unsafe { sys::icu_locale_is_und(self.handle()) }
+    }
+
+    /// Whether the text of the locale means this locale. A keyword with a value such as `ab` has no such text.
+    pub fn is_well_formed(&self) -> bool {
+        // SAFETY: the handle is used by this call alone.
+        unsafe { sys::icu_locale_is_well_formed(self.handle()) }
+    }
+
+    /// The byte order of the normal form against other bytes, as they stand.
+    pub fn strict_cmp(&self, other: &[u8]) -> Ordering {
+        // SAFETY: the handle is used by this call alone, and pointer and length are those of a slice.
+        unsafe { sys::icu_locale_cmp_bytes(self.handle(), other.as_ptr(), other.len()) }.cmp(&0)
+    }
+
+    /// The order by parts, which is also that of `Ord`.
+    pub fn total_cmp(&self, other: &Self) -> Ordering {
+        if ptr::eq(self, other) {
+            return Ordering::Equal;
+        }
+        // SAFETY: the handles are two, and used by this call alone.
+        unsafe { sys::icu_locale_cmp(self.handle(), other.handle()) }.cmp(&0)
+    }
+
+    /// Whether the text means this locale.
+    pub fn normalizing_eq(&self, other: &str) -> bool {
+        self.normalizing_eq_utf8(other.as_bytes())
+    }
+
+    /// Whether the text means this locale.
+    pub fn normalizing_eq_utf8(&self, other: &[u8]) -> bool {
+        let mut same = 0;
+        // SAFETY: the handle is used by this call alone. Pointer and length are those of a slice, and `same` lives here.
+        was_there(unsafe { sys::icu_locale_eq_text(self.handle(), other.as_ptr(), other.len(), &mut same) });
+        same == 1
+    }
+
+    /// The identifier alone, without extensions.
+    pub fn base_name(&self) -> String {
+        self.part(sys::icu_locale_get_base_name, str::to_owned)
+    }
+
+    /// The language.
+    pub fn language(&self) -> Language {
+        self.part(sys::icu_locale_get_language, Language::of_normal)
+    }
+
+    /// Sets the language.
+    pub fn set_language(&mut self, language: Language) {
+        self.set(sys::icu_locale_set_language, language.as_str());
+    }
+
+    /// The script.
+    pub fn script(&self) -> Option<Script> {
+        self.part(sys::icu_locale_get_script, |it| {
+            (!it.is_empty()).then(|| Script::of_normal(it))
+        })
+    }
+
+    /// Sets or clears the script.
+    pub fn set_script(&mut self, script: Option<Script>) {
+        self.set(sys::icu_locale_set_script, script.as_ref().map_or("", Script::as_str));
+    }
+
+    /// The region.
+    pub fn region(&self) -> Option<Region> {
+        self.part(sys::icu_locale_get_region, |it| {
+            (!it.is_empty()).then(|| Region::of_normal(it))
+        })
+    }
+
+    /// Sets or clears the region.
+    pub fn set_region(&mut self, region: Option<Region>) {
+        self.set(sys::icu_locale_set_region, region.as_ref().map_or("", Region::as_str));
+    }
+
+    /// The variants, ascending.
+    pub fn variants(&self) -> Vec<Variant> {
+        self.list(
+            sys::icu_locale_variant_count,
+            sys::icu_locale_get_variant,
+            Variant::of_normal,
+        )
+    }
+
+    /// Whether this variant is there.
+    pub fn has_variant(&self, variant: &Variant) -> bool {
+        self.has(sys::icu_locale_has_variant, variant.as_str())
+    }
+
+    /// Adds a variant, and returns whether it was not there.
+    pub fn push_variant(&mut self, variant: Variant) -> bool {
+        let is_new = !self.has_variant(&variant);
+        self.set(sys::icu_locale_add_variant, variant.as_str());
+        is_new
+    }
+
+    /// Removes a variant, and returns whether it was there.
+    pub fn remove_variant(&mut self, variant: &Variant) -> bool {
+        self.set(sys::icu_locale_remove_variant, variant.as_str())
+    }
+
+    /// Removes all variants.
+    pub fn clear_variants(&mut self) {
+        self.clear(sys::icu_locale_clear_variants);
+    }
+
+    /// The keywords of the extension `u`, by ascending key.
+    pub fn keywords(&self) -> Vec<(Key, Value)> {
+        let keys = self.list(
+            sys::icu_locale_keyword_count,
+            sys::icu_locale_get_keyword_key,
+            Key::of_normal,
+        );
+        let values = self.list(
+            sys::icu_locale_keyword_count,
+            sys::icu_locale_get_keyword_value,
+            Value::of_normal,
+        );
+        keys.into_iter().zip(values).collect()
+    }
+
+    /// The value of the keyword with this key.
+    pub fn keyword(&self, key: &Key) -> Option<Value> {
+        let key = key.as_str();
+        let call = |handle, buffer, room, needed| {
+            // SAFETY: `read` says so of the others; pointer and length are those of a slice.
+            unsafe { sys::icu_locale_get_keyword(handle, key.as_ptr(), key.len(), buffer, room, needed) }
+        };
+        self.read(call, Value::of_normal)
+    }
+
+    /// Sets the value of a keyword, and returns the one that it had.
+    pub fn set_keyword(&mut self, key: Key, value: Value) -> Option<Value> {
+        let before = self.keyword(&key);
+        let (key, value) = (key.as_str(), value.as_str());
+        // SAFETY: the handle is used by this call alone, and pointers and lengths are those of slices.
+        was_there(unsafe {
+            sys::icu_locale_set_keyword(self.handle(), key.as_ptr(), key.len(), value.as_ptr(), value.len())
+        });
+        before
+    }
+
+    /// Removes the keyword with this key, and returns its value.
+    pub fn remove_keyword(&mut self, key: &Key) -> Option<Value> {
+        let before = self.keyword(key);
+        self.set(sys::icu_locale_remove_keyword, key.as_str());
+        before
+    }
+
+    /// Removes all keywords.
+    pub fn clear_keywords(&mut self) {
+        self.clear(sys::icu_locale_clear_keywords);
+    }
+
+    /// The attributes of the extension `u`, ascending.
+    pub fn attributes(&self) -> Vec<Attribute> {
+        self.list(
+            sys::icu_locale_attribute_count,
+            sys::icu_locale_get_attribute,
+            Attribute::of_normal,
+        )
+    }
+
+    /// Whether this attribute is there.
+    pub fn has_attribute(&self, attribute: &Attribute) -> bool {
+        self.has(sys::icu_locale_has_attribute, attribute.as_str())
+    }
+
+    /// Adds an attribute, and returns whether it was not there.
+    pub fn push_attribute(&mut self, attribute: Attribute) -> bool {
+        let is_new = !self.has_attribute(&attribute);
+        self.set(sys::icu_locale_add_attribute, attribute.as_str());
+        is_new
+    }
+
+    /// Removes an attribute, and returns whether it was there.
+    pub fn remove_attribute(&mut self, attribute: &Attribute) -> bool {
+        self.set(sys::icu_locale_remove_attribute, attribute.as_str())
+    }
+
+    /// Removes all attributes.
+    pub fn clear_attributes(&mut self) {
+        self.clear(sys::icu_locale_clear_attributes);
+    }
+
+    fn set(&mut self, call: Setting, text: &str) -> bool {
+        // SAFETY: the handle is used by this call alone, and pointer and length are those of a slice.
+        was_there(unsafe { call(self.handle(), text.as_ptr(), text.len()) })
+    }
+
+    fn clear(&mut self, call: Clearing) {
+        // SAFETY: the handle is used by this call alone.
+        was_there(unsafe { call(self.handle()) });
+    }
+
+    fn has(&self, call: Having, text: &str) -> bool {
+        // SAFETY: the handle is used by this call alone, and pointer and length are those of a slice.
+        unsafe { call(self.handle(), text.as_ptr(), text.len()) }
+    }
+
+    /// A part that is always there.
+    fn part<R>(&self, call: Reading, then: impl FnOnce(&str) -> R) -> R {
+        // SAFETY: `read` says so.
+        let read = self.read(
+            |handle, buffer, room, needed| unsafe { call(handle, buffer, room, needed) },
+            then,
+        );
+        read.expect("the part is there")
+    }
+
+    fn list<R>(&self, count: Counting, call: ReadingAt, then: impl Fn(&str) -> R) -> Vec<R> {
+        // SAFETY: the handle is used by this call alone.
+        let count = unsafe { count(self.handle()) };
+        let at = |index| {
+            // SAFETY: `read` says so.
+            let call = |handle, buffer, room, needed| unsafe { call(handle, index, buffer, room, needed) };
+            self.read(call, &then).expect("the part is there")
+        };
+        (0..count).map(at).collect()
+    }
+
+    /// What a call writes to a buffer, if there is such a part. The handle is used by that call alone, the buffer has
+    /// that room, and `needed` lives here.
+    fn read<R>(
+        &self,
+        call: impl Fn(*mut sys::icu_locale_t, *mut u8, usize, *mut usize) -> u32,
+        then: impl FnOnce(&str) -> R,
+    ) -> Option<R> {
+        let (mut small, mut large, mut needed) = ([0; 64], Vec::new(), 0);
+        let mut status = call(self.handle(), small.as_mut_ptr(), small.len(), &mut needed);
+        if status == sys::BUFFER_TOO_SMALL {
+            large = vec![0; needed];
+            status = call(self.handle(), large.as_mut_ptr(), large.len(), &mut needed);
+        }
+        let buffer = if large.is_empty() { &small[..] } else { &large[..] };
+        was_there(status).then(|| then(from_utf8(&buffer[..needed]).expect("a part is ASCII")))
+    }
+}
+
+impl Drop for Locale {
+    fn drop(&mut self) {
+        // SAFETY: the handle is used by this call alone, which is the last.
+        unsafe { sys::icu_locale_free(self.held.get()) }
+    }
+}
+
+impl Default for Locale {
+    fn default() -> Self {
+        Self::UNKNOWN
+    }
+}
+
+impl Clone for Locale {
+    fn clone(&self) -> Self {
+        let mut made = Self::UNKNOWN;
+        made.clone_from(self);
+        made
+    }
+
+    fn clone_from(&mut self, from: &Self) {
+        // SAFETY: the handles are two, as one is borrowed alone, and used by this call alone.
+        was_there(unsafe { sys::icu_locale_copy(self.handle(), from.handle()) });
+    }
+}
+
+impl From<Language> for Locale {
+    fn from(language: Language) -> Self {
+        let mut made = Self::UNKNOWN;
+        made.set_language(language);
+        made
+    }
+}
+
+impl From<(Language, Option<Script>, Option<Region>)> for Locale {
+    fn from((language, script, region): (Language, Option<Script>, Option<Region>)) -> Self {
+        let mut made = Self::from(language);
+        made.set_script(script);
+        made.set_region(region);
+        made
+    }
+}
+
+impl FromStr for Locale {
+    type Err = Refusal;
+
+    fn from_str(text: &str) -> Result<Self, Refusal> {
+        Self::try_from_str(text)
+    }
+}
+
+/// It prints the normal form, and honors the width and the alignment that are asked for.
+impl fmt::Display for Locale {
+    fn fmt(&self, f: &mut fmt::Formatter<'_>) -> fmt::Result {
+        self.part(sys::icu_locale_to_string, |text| f.pad(text))
+    }
+}
+
+impl fmt::Debug for Locale {
+    fn fmt(&self, f: &mut fmt::Formatter<'_>) -> fmt::Result {
+        self.part(sys::icu_locale_to_string, |text| {
+            f.debug_tuple("Locale").field(&text).finish()
+        })
+    }
+}
+
+impl PartialEq for Locale {
+    fn eq(&self, other: &Self) -> bool {
+        // SAFETY: the handles are two, and used by this call alone.
+        ptr::eq(self, other) || unsafe { sys::icu_locale_eq(self.handle(), other.handle()) }
+    }
+}
+
+impl Eq for Locale {}
+
+/// The order by parts.
+impl Ord for Locale {
+    fn cmp(&self, other: &Self) -> Ordering {
+        self.total_cmp(other)
+    }
+}
+
+impl PartialOrd for Locale {
+    fn partial_cmp(&self, other: &Self) -> Option<Ordering> {
+        Some(self.cmp(other))
+    }
+}
+
+impl Hash for Locale {
+    fn hash<H: Hasher>(&self, state: &mut H) {
+        // SAFETY: the handle is used by this call alone.
+        state.write_u64(unsafe { sys::icu_locale_hash(self.handle()) });
+    }
+}
+
+#[cfg(test)]
+mod tests {
+    use super::*;
+    use std::collections::{BTreeSet, HashSet};
+
+    fn locale(text: &str) -> Locale {
+        text.parse().unwrap()
+    }
+
+    #[test]
+    fn parts_are_read_and_set() {
+        let mut it = locale("EN-latn-us-POSIX-u-attr-CA-Buddhist-kn");
+        assert_eq!(it.to_string(), "en-Latn-US-posix-u-attr-ca-buddhist-kn");
+        assert_eq!(
+            (it.language().as_str(), it.base_name().as_str()),
+            ("en", "en-Latn-US-posix")
+        );
+        assert_eq!(it.script().unwrap().as_str(), "Latn");
+        assert_eq!(it.region().unwrap().to_string(), "US");
+        it.set_region("419".parse().ok());
+        it.set_script(None);
+        it.set_language(Language::UNKNOWN);
+        assert!(it.push_variant("MACOS".parse().unwrap()) && !it.push_variant("macos".parse().unwrap()));
+        assert_eq!(
+            it.variants().iter().map(Variant::as_str).collect::<Vec<_>>(),
+            ["macos", "posix"]
+        );
+        assert!(it.remove_variant(&"posix".parse().unwrap()) && !it.remove_variant(&"posix".parse().unwrap()));
+        assert_eq!(it.to_string(), "und-419-macos-u-attr-ca-buddhist-kn");
+        let (ca, kn) = ("ca".parse::<Key>().unwrap(), "KN".parse::<Key>().unwrap());
+        assert_eq!(it.keyword(&kn), Some(Value::default()));
+        assert_eq!(
+            it.set_keyword(ca, "islamic-civil".parse().unwrap()).unwrap().as_str(),
+            "buddhist"
+        );
+        assert_eq!(it.remove_keyword(&kn), Some(Value::default()));
+        assert_eq!(
+            (it.remove_keyword(&kn), it.keyword(&ca).unwrap().subtag_count()),
+            (None, 2)
+        );
+        assert!(it.push_attribute("zzz".parse().unwrap()) && it.has_attribute(&"attr".parse().unwrap()));
+        assert!(it.remove_attribute(&"attr".parse().unwrap()) && !it.remove_attribute(&"attr".parse().unwrap()));
+        assert_eq!(it.to_string(), "und-419-macos-u-zzz-ca-islamic-civil");
+        it.clear_keywords();
+        it.clear_attributes();
+        it.clear_variants();
+        it.set_region(None);
+        assert!(it.is_unknown() && it == Locale::default() && it.is_well_formed());
+    }
+
+    #[test]
+    fn refusals_have_names() {
+        assert_eq!(Locale::try_from_str("e").unwrap_err(), Refusal::InvalidLanguage);
+        assert_eq!(
+            Locale::try_from_utf8(b"en-\xff\xff").unwrap_err(),
+            Refusal::InvalidSubtag
+        );
+        assert_eq!(Language::try_from_str("").unwrap_err(), Refusal::InvalidLanguage);
+        assert_eq!(Language::try_from_str("en-US").unwrap_err(), Refusal::InvalidLanguage);
+        assert_eq!(Script::try_from_str("").unwrap_err(), Refusal::InvalidSubtag);
+        assert_eq!(Region::try_from_str("USA").unwrap_err(), Refusal::InvalidSubtag);
+        assert_eq!(Variant::try_from_str("pos").unwrap_err(), Refusal::InvalidSubtag);
+        assert_eq!(Key::try_from_str("c1").unwrap_err(), Refusal::InvalidExtension);
+        assert_eq!(Key::try_from_str("").unwrap_err(), Refusal::InvalidExtension);
+        assert_eq!(Attribute::try_from_str("ab").unwrap_err(), Refusal::InvalidSubtag);
+        assert_eq!(Value::try_from_str("a").unwrap_err(), Refusal::InvalidSubtag);
+        assert_eq!(Value::try_from_str("TRUE").unwrap(), Value::default());
+        assert_eq!("posix".parse::<Variant>().unwrap().as_str().len(), 5);
+        assert_eq!("ABCDEFGH".parse::<Variant>().unwrap().as_str(), "abcdefgh");
+    }
+
+    #[test]
+    fn comparisons_agree() {
+        let (one, other) = (locale("en-US"), locale("en-us"));
+        assert!(one == other && one.total_cmp(&other) == Ordering::Equal && one <= one && one == one);
+        assert_eq!(one.strict_cmp(b"en-US"), Ordering::Equal);
+        assert_eq!(one.strict_cmp(b""), Ordering::Greater);
+        assert!(one.normalizing_eq("EN-us") && !one.normalizing_eq("en") && !one.normalizing_eq("e"));
+        let all = ["en-US", "EN-us", "de", "und", "en-posix"];
+        assert_eq!(all.iter().map(|it| locale(it)).collect::<HashSet<_>>().len(), 4);
+        let ordered: Vec<String> = all
+            .iter()
+            .map(|it| locale(it))
+            .collect::<BTreeSet<_>>()
+            .iter()
+            .map(Locale::to_string)
+            .collect();
+        assert_eq!(ordered, ["de", "en-posix", "en-US", "und"]);
+        assert!(
+            "en".parse::<Language>().unwrap() < Language::UNKNOWN
+                && "en".parse::<Language>().unwrap() < "eng".parse().unwrap()
+        );
+    }
+
+    #[test]
+    fn a_clone_is_another() {
+        let text = "en-aaaaa-bbbbb-ccccc-ddddd-eeeee-t-de-m0-abc-abcdefgh-x-a-b-c-d-e-f";
+        let one = locale(text);
+        let mut other = one.clone();
+        other.set_region("GB".parse().ok());
+        assert!(one.region().is_none() && one != other);
+        other.clone_from(&Locale::default());
+        assert!(other.is_unknown());
+        assert_eq!(one.to_string(), text);
+    }
+
+    #[test]
+    fn printing_honors_the_width() {
+        assert_eq!(
+            format!(
+                "{:>8}|{:<4}|{:^4}|",
+                locale("en-us"),
+                locale("de").language(),
+                Value::default()
+            ),
+            "   en-US|de  |    |"
+        );
+        assert_eq!(
+            format!("{:?} {:?}", locale("en"), Language::UNKNOWN),
+            "Locale(\"en\") Language(\"und\")"
+        );
+        assert_eq!(Locale::normalize("en-US").unwrap(), Cow::Borrowed("en-US"));
+        assert_eq!(Locale::normalize_utf8(b"EN").unwrap(), Cow::<str>::Owned("en".into()));
+    }
+
+    #[test]
+    fn a_locale_goes_to_a_thread() {
+        let it = locale("EN-x-a-b-c-d-e-f-g-h");
+        let told = std::thread::spawn(move || it.to_string()).join().unwrap();
+        assert_eq!(told, "en-x-a-b-c-d-e-f-g-h");
+    }
+
+    #[test]
+    fn a_locale_is_made_of_parts() {
+        let parts = ("sr".parse().unwrap(), "LATN".parse().ok(), "rs".parse().ok());
+        assert_eq!(Locale::from(parts).to_string(), "sr-Latn-RS");
+        assert_eq!(Locale::from(Language::default()), Locale::default());
+    }
+}

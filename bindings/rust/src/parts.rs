@@ -1,0 +1,197 @@
+//! Parts of locales: subtags and values, each in its normal form. The library parses them, by setting them in an empty
+//! locale.
+
+use crate::locale::Locale;
+use crate::{sys, Refusal};
+use std::fmt;
+use std::str::FromStr;
+
+/// At most eight bytes of ASCII, with zeros behind.
+#[derive(Clone, Copy, PartialEq, Eq, PartialOrd, Ord, Hash)]
+pub(crate) struct Short([u8; 8]);
+
+impl Short {
+    const UND: Short = Short(*b"und\0\0\0\0\0");
+
+    fn of(text: &str) -> Short {
+        let mut bytes = [0; 8];
+        bytes[..text.len()].copy_from_slice(text.as_bytes());
+        Short(bytes)
+    }
+
+    fn as_str(&self) -> &str {
+        let length = self.0.iter().position(|it| *it == 0).unwrap_or(8);
+        std::str::from_utf8(&self.0[..length]).expect("a subtag is ASCII")
+    }
+}
+
+macro_rules! subtag {
+    ($(#[$about:meta])* $name:ident, $refusal:ident, $parsed:expr) => {
+        $(#[$about])*
+        #[derive(Clone, Copy, PartialEq, Eq, PartialOrd, Ord, Hash)]
+        pub struct $name(Short);
+
+        impl $name {
+            /// The subtag of the text, in any case.
+            pub fn try_from_str(text: &str) -> Result<Self, Refusal> {
+                Self::try_from_utf8(text.as_bytes())
+            }
+
+            /// The subtag of the text, in any case.
+            pub fn try_from_utf8(text: &[u8]) -> Result<Self, Refusal> {
+                if text.is_empty() {
+                    return Err(Refusal::$refusal);
+                }
+                let parsed: fn(&[u8]) -> Result<Option<$name>, Refusal> = $parsed;
+                parsed(text)?.ok_or(Refusal::$refusal)
+            }
+
+            /// The normal form.
+            pub fn as_str(&self) -> &str {
+                self.0.as_str()
+            }
+
+            /// The subtag whose normal form this is.
+            pub(crate) fn of_normal(text: &str) -> Self {
+                $name(Short::of(text))
+            }
+        }
+
+        impl FromStr for $name {
+            type Err = Refusal;
+
+            fn from_str(text: &str) -> Result<Self, Refusal> {
+                Self::try_from_str(text)
+            }
+        }
+
+        /// It honors the width and the alignment that are asked for.
+        impl fmt::Display for $name {
+            fn fmt(&self, f: &mut fmt::Formatter<'_>) -> fmt::Result {
+                f.pad(self.as_str())
+            }
+        }
+
+        impl fmt::Debug for $name {
+            fn fmt(&self, f: &mut fmt::Formatter<'_>) -> fmt::Result {
+                f.debug_tuple(stringify!($name)).field(&self.as_str()).finish()
+            }
+        }
+    };
+}
+
+subtag!(
+    /// A language, such as `en`. The default is `und`, the unknown one.
+    Language,
+    InvalidLanguage,
+    |text| Locale::with(sys::icu_locale_set_language, text).map(|it| Some(it.language()))
+);
+
+subtag!(
+    /// A script, such as `Latn`.
+    Script,
+    InvalidSubtag,
+    |text| Locale::with(sys::icu_locale_set_script, text).map(|it| it.script())
+);
+
+subtag!(
+    /// A region, such as `US` or `419`.
+    Region,
+    InvalidSubtag,
+    |text| Locale::with(sys::icu_locale_set_region, text).map(|it| it.region())
+);
+
+subtag!(
+    /// A variant, such as `posix`.
+    Variant,
+    InvalidSubtag,
+    |text| Locale::with(sys::icu_locale_add_variant, text).map(|it| it.variants().pop())
+);
+
+subtag!(
+    /// The key of a keyword, such as `ca`.
+    Key,
+    InvalidExtension,
+    |text| Locale::with_keyword(text, b"").map(|it| it.keywords().pop().map(|(key, _)| key))
+);
+
+subtag!(
+    /// An attribute of the extension `u`, such as `foo` in `en-u-foo`.
+    Attribute,
+    InvalidSubtag,
+    |text| Locale::with(sys::icu_locale_add_attribute, text).map(|it| it.attributes().pop())
+);
+
+impl Language {
+    /// The unknown language, `und`.
+    pub const UNKNOWN: Self = Language(Short::UND);
+
+    /// Whether the language is `und`.
+    pub fn is_unknown(self) -> bool {
+        self == Self::UNKNOWN
+    }
+}
+
+impl Default for Language {
+    fn default() -> Self {
+        Self::UNKNOWN
+    }
+}
+
+/// The value of a keyword: subtags, such as `islamic-civil`, or none, which stands for `true`.
+#[derive(Clone, Default, PartialEq, Eq, PartialOrd, Ord, Hash)]
+pub struct Value(String);
+
+impl Value {
+    /// The value of the text, in any case.
+    pub fn try_from_str(text: &str) -> Result<Self, Refusal> {
+        Self::try_from_utf8(text.as_bytes())
+    }
+
+    /// The value of the text, in any case.
+    pub fn try_from_utf8(text: &[u8]) -> Result<Self, Refusal> {
+        let parsed = Locale::with_keyword(b"ca", text)?;
+        let value = parsed.keywords().pop().map(|(_, value)| value);
+        Ok(value.unwrap_or_default())
+    }
+
+    /// The normal form.
+    pub fn as_str(&self) -> &str {
+        &self.0
+    }
+
+    /// Whether it has no subtags.
+    pub fn is_empty(&self) -> bool {
+        self.0.is_empty()
+    }
+
+    /// How many subtags it has.
+    pub fn subtag_count(&self) -> usize {
+        self.0.split('-').filter(|it| !it.is_empty()).count()
+    }
+
+    pub(crate) fn of_normal(text: &str) -> Self {
+        Value(text.to_owned())
+    }
+}
+
+impl FromStr for Value {
+    type Err = Refusal;
+
+    fn from_str(text: &str) -> Result<Self, Refusal> {
+        Self::try_from_str(text)
+    }
+}
+
+/// It honors the width and the alignment that are asked for.
+impl fmt::Display for Value {
+    fn fmt(&self, f: &mut fmt::Formatter<'_>) -> fmt::Result {
+        f.pad(&self.0)
+    }
+}
+
+impl fmt::Debug for Value {
+    fn fmt(&self, f: &mut fmt::Formatter<'_>) -> fmt::Result {
+        f.debug_tuple("Value").field(&self.0).finish()
+    }
+}

@@ -1,0 +1,332 @@
+"""A plain model of locales that a program holds: what tools/try_bindings wants of their parts, comparisons and changes.
+
+A locale is known by the normal form that the vectors have for its text. The model takes the normal form apart, and
+changes and orders the parts by docs/DEFINITIONS.md. It calls no library."""
+import pathlib
+import random
+import re
+
+TOP = pathlib.Path(__file__).resolve().parent.parent
+REFUSED_LANGUAGE, REFUSED_SUBTAG, REFUSED_EXTENSION = (
+    "! The given language subtag is invalid", "! Invalid subtag", "! Invalid extension",
+)
+SLOTS = 4
+WORDS = ["", "en", "EN", "gsw", "abcd", "Und", "sinhalese", "e", "latn", "LATN", "Arab", "US", "gb", "419", "41", "4190"]
+WORDS += ["posix", "POSIX", "1994", "199a", "a199", "macos", "valencia", "fonipa", "abcdefghi", "rozaj", "biske", "x"]
+WORDS += ["en-US", "-", "en-", "!!", "\N{LATIN SMALL LETTER E WITH ACUTE}a", "foo", "FOO", "attr", "fo", "toolongword"]
+KEYS = ["ca", "CA", "nu", "kn", "hc", "co", "x", "c1", "1c", "a8", "", "!!", "cal", "sd", "rg", "va"]
+VALUES = ["", "true", "TRUE", "buddhist", "Islamic-Civil", "false", "h12", "r", "ab", "roc-ab", "a-b", "phonebk", "-", "abc-"]
+VALUES += ["aaa-bbb-ccc-ddd-eee", "true-foo-true", "12345678", "123456789", "latn"]
+
+
+def lines(file):
+    return (TOP / "vectors" / file).read_bytes().split(b"\n")[:-1]
+
+
+def meanings():
+    """The normal form, or the refusal, of each text of the vectors and of each normal form there."""
+    normals = [it.decode() for it in lines("locale.out")]
+    known = dict(zip(lines("texts.in"), normals))
+    return {**{it.encode(): it for it in normals if not it.startswith("! ")}, **known}
+
+
+def short(words):
+    """What a short list is ordered by: those of at most one item come first."""
+    return len(words) > 1, list(words)
+
+
+def identifier_of(words):
+    """Language, script, region and variants of the words of an identifier."""
+    language, rest, script, region = words[0], list(words[1:]), "", ""
+    if rest and re.fullmatch("[A-Za-z]{4}", rest[0]):
+        script = rest.pop(0)
+    if rest and re.fullmatch("[A-Za-z]{2}|[0-9]{3}", rest[0]):
+        region = rest.pop(0)
+    return language, script, region, rest
+
+
+def order_of_identifier(language, script, region, variants):
+    return language, script, region, short(sorted(variants))
+
+
+def fields_of(words, is_key):
+    """The words before the first key, and each key with its words."""
+    before, fields = [], []
+    for word in words:
+        if is_key(word):
+            fields.append((word, []))
+        else:
+            (fields[-1][1] if fields else before).append(word)
+    return before, fields
+
+
+class Model:
+    """A locale: und, or what a normal form says."""
+
+    def __init__(self, normal="und"):
+        front, *private = normal.split("-x-", 1)
+        blocks = re.split("-(?=[0-9a-z]-)", front)
+        self.language, self.script, self.region, self.variants = identifier_of(blocks[0].split("-"))
+        self.others = {it[0]: it[2:].split("-") for it in blocks[1:]}
+        self.private = private[0].split("-") if private else []
+        attributes, keywords = fields_of(self.others.pop("u", []), lambda it: len(it) == 2)
+        self.attributes, self.keywords = set(attributes), {key: "-".join(value) for key, value in keywords}
+        self.variants = set(self.variants)
+
+    def base(self):
+        return "-".join(it for it in (self.language, self.script, self.region, *sorted(self.variants)) if it)
+
+    def written(self):
+        blocks = {key: "-".join([key, *words]) for key, words in self.others.items()}
+        unicode = [*sorted(self.attributes), *(it for pair in sorted(self.keywords.items()) for it in pair if it)]
+        if unicode:
+            blocks["u"] = "-".join(["u", *unicode])
+        ends = ["-".join(["x", *self.private])] if self.private else []
+        return "-".join([self.base(), *(blocks[key] for key in sorted(blocks)), *ends])
+
+    def is_well_formed(self):
+        """A subtag of two bytes in a value would be parsed as a key."""
+        return all(len(it) != 2 for value in self.keywords.values() for it in value.split("-"))
+
+    def order(self):
+        """What locales are ordered by."""
+        before, fields = fields_of(self.others.get("t", []), lambda it: re.fullmatch("[a-z][0-9]", it))
+        transform = [order_of_identifier(*identifier_of(before))] if before else []
+        keywords = [(key, short([it for it in value.split("-") if it])) for key, value in sorted(self.keywords.items())]
+        others = [(key, short(words)) for key, words in sorted(self.others.items()) if key != "t"]
+        return (
+            order_of_identifier(self.language, self.script, self.region, self.variants),
+            (short(sorted(self.attributes)), short(keywords)),
+            (transform, [(key, short(words)) for key, words in fields]),
+            short(self.private),
+            others,
+        )
+
+    def hash(self):
+        """FNV-1a of the normal form."""
+        found = 0xCBF29CE484222325
+        for byte in self.written().encode():
+            found = (found ^ byte) * 0x100000001B3 % (1 << 64)
+        return found
+
+    def parts(self):
+        """All that a caller reads, in a line."""
+        text = self.written()
+        fields = [text, self.base(), self.language, self.script, self.region, ",".join(sorted(self.variants))]
+        fields += [",".join(sorted(self.attributes)), ",".join(f"{key}={value}" for key, value in sorted(self.keywords.items()))]
+        return "\t".join([*fields, f"{int(text == 'und')}{int(self.is_well_formed())}", f"{self.hash():016x}"])
+
+
+def compared(first, second):
+    return (first > second) - (first < second)
+
+
+def parts_wanted():
+    """Each text, and what is wanted of the locale that it means."""
+    normals = [it.decode() for it in lines("locale.out")]
+    return [it if it.startswith("! ") else Model(it).parts() for it in normals]
+
+
+def pair_wanted(first, second, other):
+    """What is wanted of locales of two normal forms: their order, whether they are equal and hashed alike, the byte order
+    of the first against the other's text, and whether that text means the first."""
+    if first.startswith("! "):
+        return first
+    model = Model(first)
+    against = f"{compared(first.encode(), other)} {int(first == second)}"
+    if second.startswith("! "):
+        return f"- - - {against}"
+    order = compared(model.order(), Model(second).order())
+    return f"{order} {int(first == second)} {int(model.hash() == Model(second).hash())} {against}"
+
+
+def pairs_wanted():
+    """Each text with itself, with its normal form and with the next text; and what is wanted of them."""
+    texts, normals = lines("texts.in"), [it.decode() for it in lines("locale.out")]
+    given, wanted = [], []
+    for at, (text, normal) in enumerate(zip(texts, normals)):
+        after = (at + 1) % len(texts)
+        own = [] if normal.startswith("! ") else [(normal.encode(), normal)]
+        for other, means in [(text, normal), (texts[after], normals[after]), *own]:
+            given.append((text, other))
+            wanted.append(pair_wanted(normal, means, other))
+    return given, wanted
+
+
+def rows_wanted():
+    """The pairs of crates/test_locale_rows whose order the vectors have, with order and equality."""
+    rows = TOP / "crates" / "test_locale_rows"
+    asked, answers = ((rows / it).read_text(encoding="ascii").split("\n") for it in ("stdin", "stdout"))
+    orders = {"Less": "-1", "Equal": "0", "Greater": "1"}
+    given, wanted = [], []
+    for row, answer in zip(asked, answers):
+        call, *texts = row.split("\t")
+        order, is_same, *_ = [*answer.split(" "), ""]
+        if call == "two-locale" and len(texts) == 2 and order in orders:
+            given.append(tuple(re.sub(rb"\\x(..)", lambda it: bytes([int(it[1], 16)]), text.encode()) for text in texts))
+            wanted.append(f"{orders[order]} {int(is_same == 'true')}")
+    return given, wanted
+
+
+class Script:
+    """Random steps on locales, each with what is wanted of it. Where values must be readable, one whose text would be
+    parsed as something else is refused."""
+
+    def __init__(self, seed, known, keeps_well_formed=False):
+        self.random, self.known, self.keeps = random.Random(seed), known, keeps_well_formed
+        self.texts = [it for it in known if b"\t" not in it and b"\r" not in it]
+        self.slots = [Model() for _ in range(SLOTS)]
+        self.steps, self.wanted = [], []
+
+    def step(self, call, at, *given):
+        """Takes one step, and notes it with the answer and with the text of the locale after it."""
+        words = [it if isinstance(it, bytes) else str(it).encode() for it in given]
+        self.steps.append(b"\t".join([call.encode(), b"%d" % at, *words]))
+        answer = getattr(self, call.replace("-", "_"))(self.slots[at], at, *given)
+        self.wanted.append(f"{answer}\t{self.slots[at].written()}")
+
+    def parse(self, _, at, text):
+        normal = self.known[text]
+        if normal.startswith("! "):
+            return normal
+        self.slots[at] = Model(normal)
+        return "ok"
+
+    def language(self, it, _, word):
+        if word and not re.fullmatch("(?a:[A-Za-z]{2,3}|[A-Za-z]{5,8})", word):
+            return REFUSED_LANGUAGE
+        it.language = word.lower() or "und"
+        return "ok"
+
+    def script(self, it, _, word):
+        if word and not re.fullmatch("[A-Za-z]{4}", word):
+            return REFUSED_SUBTAG
+        it.script = word.capitalize()
+        return "ok"
+
+    def region(self, it, _, word):
+        if word and not re.fullmatch("[A-Za-z]{2}|[0-9]{3}", word):
+            return REFUSED_SUBTAG
+        it.region = word.upper()
+        return "ok"
+
+    @staticmethod
+    def is_variant(word):
+        return re.fullmatch("[A-Za-z0-9]{5,8}|[0-9][A-Za-z0-9]{3}", word)
+
+    @staticmethod
+    def is_attribute(word):
+        return re.fullmatch("[A-Za-z0-9]{3,8}", word)
+
+    def add_variant(self, it, _, word):
+        if not self.is_variant(word):
+            return REFUSED_SUBTAG
+        it.variants.add(word.lower())
+        return "ok"
+
+    def remove_variant(self, it, _, word):
+        is_there = word.lower() in it.variants
+        it.variants.discard(word.lower())
+        return "ok" if is_there else "none"
+
+    def has_variant(self, it, _, word):
+        return int(word.lower() in it.variants)
+
+    def clear_variants(self, it, _):
+        it.variants.clear()
+        return "ok"
+
+    def add_attribute(self, it, _, word):
+        if not self.is_attribute(word):
+            return REFUSED_SUBTAG
+        it.attributes.add(word.lower())
+        return "ok"
+
+    def remove_attribute(self, it, _, word):
+        is_there = word.lower() in it.attributes
+        it.attributes.discard(word.lower())
+        return "ok" if is_there else "none"
+
+    def has_attribute(self, it, _, word):
+        return int(word.lower() in it.attributes)
+
+    def clear_attributes(self, it, _):
+        it.attributes.clear()
+        return "ok"
+
+    def set_keyword(self, it, _, key, value):
+        if not re.fullmatch("[A-Za-z0-9][A-Za-z]", key):
+            return REFUSED_EXTENSION
+        words = value.lower().split("-") if value else []
+        if not all(re.fullmatch("[a-z0-9]{2,8}", it) for it in words):
+            return REFUSED_SUBTAG
+        words = [it for it in words if it != "true"]
+        if self.keeps and any(len(it) == 2 for it in words):
+            return REFUSED_SUBTAG
+        it.keywords[key.lower()] = "-".join(words)
+        return "ok"
+
+    def get_keyword(self, it, _, key):
+        value = it.keywords.get(key.lower())
+        return "none" if value is None else f"={value}"
+
+    def remove_keyword(self, it, _, key):
+        return "none" if it.keywords.pop(key.lower(), None) is None else "ok"
+
+    def clear_keywords(self, it, _):
+        it.keywords.clear()
+        return "ok"
+
+    def copy(self, _, at, other):
+        self.slots[at] = self.twin(other)
+        return "ok"
+
+    def move(self, _, at, other):
+        self.slots[at] = self.twin(other)
+        if other != at:
+            self.slots[other] = Model()
+        return "ok"
+
+    def twin(self, at):
+        made, was = Model(), self.slots[at]
+        made.__dict__ = {name: type(it)(it) for name, it in was.__dict__.items()}
+        return made
+
+    def compare(self, it, _, other):
+        first, second = it.order(), self.slots[other].order()
+        is_alike = it.hash() == self.slots[other].hash()
+        return f"{compared(first, second)} {int(first == second)} {int(is_alike)}"
+
+    def against(self, it, _, text):
+        means = self.known[text]
+        is_meant = not means.startswith("! ") and Model(means).order() == it.order()
+        return f"{compared(it.written().encode(), text)} {int(is_meant)}"
+
+    def parts(self, it, _):
+        return it.parts()
+
+    def any_step(self):
+        """One step: often a change of one part, and at times a whole locale."""
+        pick, at = self.random.choice, self.random.randrange(SLOTS)
+        other = self.random.randrange(SLOTS)
+        words = ["language", "script", "region", "add-variant", "add-variant", "remove-variant", "has-variant"]
+        words += ["add-attribute", "add-attribute", "remove-attribute", "has-attribute"]
+        ways = [lambda: (pick(words), at, pick(WORDS))] * 10
+        ways += [lambda: ("set-keyword", at, pick(KEYS), pick(VALUES))] * 5
+        ways += [lambda: (pick(["get-keyword", "remove-keyword"]), at, pick(KEYS))] * 2
+        ways += [lambda: (pick(["copy", "move", "compare", "compare"]), at, other)] * 2
+        ways += [lambda: (pick(["parse", "against"]), at, pick(self.texts)), lambda: ("parts", at), lambda: ("parts", at)]
+        if self.random.randrange(20) == 0:
+            ways = [lambda: (pick(["clear-variants", "clear-attributes", "clear-keywords"]), at)]
+        if self.random.randrange(40) == 0:
+            text = self.slots[other].written().encode()
+            ways = [lambda: ("against", at, text)] if text in self.known else ways
+        self.step(*pick(ways)())
+
+
+def script_wanted(seed, steps, known, keeps_well_formed=False):
+    """Steps, and what is wanted of each."""
+    made = Script(seed, known, keeps_well_formed)
+    for _ in range(steps):
+        made.any_step()
+    return made.steps, made.wanted
