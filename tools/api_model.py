@@ -16,6 +16,8 @@ OF_STD = (
 # A result that may be a refusal, with the name of its error type where that is written.
 RESULT = re.compile(r"-> (?:[\w:]+::)?Result<.*?(?:, (\w+))?>(?: where .*)?$")
 UNCHANGED = re.compile(r"OnErr result \((?:pairs )?self\.new ≡ (?:pairs )?self\.old\)")
+# What stands for the refusals of a parser whose relation has no words.
+UNTOLD = "`UNTOLD`"
 OF_PREFERENCES = "Its key, what its value reads as, and the value that it is turned into."
 GIVERS = {
     "Sink": "the sink",
@@ -118,7 +120,9 @@ def needs(item):
 def unworded():
     """Returns the clauses that the table has no words for."""
     pairs = [(it, need) for entry in entries() for it in entry.calls for need in it.needs]
-    return [f"{it.title} needs {need}" for it, need in pairs if re.match(r"`[^`]*[ ≡][^`]*`\.$", need)]
+    found = [f"{it.title} needs {need}" for it, need in pairs if re.match(r"`[^`]*[ ≡][^`]*`\.$", need)]
+    calls = [it for entry in entries() for it in entry.calls]
+    return found + [f"the refusals of {it.title}" for it in calls if it.memory.startswith(UNTOLD)]
 
 
 def enough(item):
@@ -183,7 +187,8 @@ def refuses(item, owner, name):
         if owner == "Language":
             return [("InvalidLanguage", "the bytes are no raw form of a language of 2 or 3 letters")], None
         return [(name, f"the bytes are no {what} of the kind ({among})") for name, among in by_refusal()], None
-    return [], None
+    is_untold = re.search(r"\b_?alloc: Global", item.signature) and error_of(item) == "ParseError"
+    return [], UNTOLD if is_untold else None
 
 
 def facts(item):
