@@ -126,7 +126,7 @@ def unworded():
 
 
 def enough(item):
-    """Returns when the call surely takes no memory."""
+    """Returns when the call surely allocates nothing."""
     found = []
     for clause in item.clauses:
         ends = re.match(r"(?:(.*) → )?(?:IsOk result|IsOkAnd result IsLent)$", clause.fact)
@@ -146,7 +146,7 @@ def reader(home, made):
 
 
 def relation(item):
-    """Returns the refusals of a reader and when it wants memory, of the relation that it states."""
+    """Returns the refusals of a parser and when it may run out of memory, of the relation that it states."""
     for clause in item.clauses:
         for name in re.findall(r"\b[A-Z]\w+", clause.fact):
             for home, _, made in citations(item.path).get(name, ()):
@@ -156,7 +156,7 @@ def relation(item):
 
 
 def kinds():
-    """Returns each alias of a word with the refusal of its kind."""
+    """Returns each alias of a subtag with the refusal of its kind."""
     it, found = crate("iloc_subtags"), {}
     for trait, _, base, item in it.given:
         if trait.startswith("WordKind<"):
@@ -167,7 +167,7 @@ def kinds():
 
 
 def by_refusal():
-    """Returns each refusal of words with the kinds that have it."""
+    """Returns each refusal of subtags with the kinds that have it."""
     found = {}
     for alias, refusal in kinds().items():
         found.setdefault(refusal, []).append(f"`{alias}`")
@@ -175,7 +175,7 @@ def by_refusal():
 
 
 def refuses(item, owner, name):
-    """Returns each refusal of a call with when it comes, and when memory is wanted."""
+    """Returns each refusal of a call with when it comes, and when memory may run out."""
     if found := api_words.BY_CALL.get(f"{owner}::{name}" if owner else name):
         return found
     if not RESULT.search(item.signature):
@@ -183,7 +183,7 @@ def refuses(item, owner, name):
     if found := relation(item):
         return found
     if "read K.kind K.refusal" in facts(item) or "ReadsRaw" in facts(item):
-        what = "raw form of a normal word" if "ReadsRaw" in facts(item) else "word"
+        what = "raw form of a normal subtag" if "ReadsRaw" in facts(item) else "subtag"
         if owner == "Language":
             return [("InvalidLanguage", "the bytes are no raw form of a language of 2 or 3 letters")], None
         return [(name, f"the bytes are no {what} of the kind ({among})") for name, among in by_refusal()], None
@@ -219,7 +219,7 @@ def memory(item, wants):
     if not takes and error != "AllocError":
         return "Takes no allocator, and never runs out of memory."
     if "always" in whens or takes and wants is None and error == "ParseError":
-        return "Allocates nothing: memory is never refused."
+        return "Allocates nothing, and never returns out of memory."
     said = "May allocate" if takes else "May allocate, from the value's own allocator"
     if wants and wants[0] in "`M":
         return wants
