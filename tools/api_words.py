@@ -114,7 +114,7 @@ READERS = {
     "iloc_unicode_value.ReadsAs": ([("InvalidSubtag", "the text is not empty, and not all of it is subtags of 2 to 8 letters or digits")], "there are more than four subtags besides `true`"),
     "iloc_transform.TransformTextReads": (begins("`t`", TRANSFORM), "there is a field, or a fifth variant"),
     "iloc_transform.TransformReads": (TRANSFORM, "there is a field, or a fifth variant"),
-    "iloc_fields.FieldsFrontRead": ([("InvalidExtension", "a key has no value")], "there is a field"),
+    "iloc_transform.FieldsFrontRead": ([("InvalidExtension", "a key has no value")], "there is a field"),
     "iloc_transform.ValueReads": ([("InvalidExtension", "not all of the text is subtags of 3 to 8 letters or digits, one at least")], "there are more than four subtags besides `true`"),
     "iloc_other.OtherTextReads": (begins("a letter or digit other than `t`, `u`, `x`", OTHER), FIVE_WORDS),
     "iloc_other.OtherReads": (OTHER, FIVE_WORDS),
