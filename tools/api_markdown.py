@@ -14,13 +14,20 @@ KEYS = (
 )
 INDEX = f"""# Public items
 
-Every public item that `{ROOT}` passes on, one page for each module. Each call has its signature, what it does, the condition that it needs, each refusal with when it comes, whether it may run out of memory, and a line of a program that the gate runs.
+Every public item that `{ROOT}` passes on, one page for each module. Each call has:
 
-`tools/list_api` makes these pages of the sources, and `tools/list_api --check` says whether they are current. `tools/list_api --html DIR` writes them as a web page with search, with each contract and the definitions that it cites. docs/FROM_RUST.md has the name of each item in the Rust crate.
+- its signature, and what it does;
+- what it needs, if it has a condition;
+- each refusal by name, and when it comes;
+- whether it may run out of memory;
+- an example: a line of a program or a test that the gate runs. A call that only the library needs is shown by the library's own line. *Tried* is a table test: what is given, and what is returned.
 
-- A call that may allocate has a parameter `alloc: Global`. It returns a `Result`, and running out of memory is one of its refusals. An item that keeps its refusals apart names them in its error type.
+`tools/list_api` makes these pages of the sources, and `tools/list_api --check` says whether they are current. `tools/list_api --html DIR` writes them as web pages with search. There each contract is shown, and each name in it leads to its definition. docs/FROM_RUST.md has the name of each item in the Rust crate.
+
+- A call that may allocate has a parameter `alloc: Global`. It returns a `Result`, and running out of memory is one of its refusals.
 - *Inline* means that a text has few enough parts to need no heap: docs/DEFINITIONS.md, "Texts that are parsed without memory", says how many.
-- Words (subtags) of all eleven kinds are one type, `subtags::WordOf`, and sets of variants one `WordSet`. Their names, as `Language` or `Variants`, are aliases. So an error message says `WordOf<RegionKind, 3>` for a `Region`.
+- A *piece* is what stands between two hyphens. A *subtag* is a piece of one of eleven kinds.
+- Subtags of all kinds are one type, `subtags::WordOf`, and sets of them one `WordSet`. Their names, as `Language` or `Variants`, are aliases. So an error message says `WordOf<RegionKind, 3>` for a `Region`.
 """
 
 

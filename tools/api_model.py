@@ -16,6 +16,8 @@ OF_STD = (
 # A result that may be a refusal, with the name of its error type where that is written.
 RESULT = re.compile(r"-> (?:[\w:]+::)?Result<.*?(?:, (\w+))?>(?: where .*)?$")
 UNCHANGED = re.compile(r"OnErr result \((?:pairs )?self\.new ≡ (?:pairs )?self\.old\)")
+# What stands for the refusals of a parser whose relation has no words.
+UNTOLD = "`UNTOLD`"
 OF_PREFERENCES = "Its key, what its value reads as, and the value that it is turned into."
 GIVERS = {
     "Sink": "the sink",
@@ -118,11 +120,13 @@ def needs(item):
 def unworded():
     """Returns the clauses that the table has no words for."""
     pairs = [(it, need) for entry in entries() for it in entry.calls for need in it.needs]
-    return [f"{it.title} needs {need}" for it, need in pairs if re.match(r"`[^`]*[ ≡][^`]*`\.$", need)]
+    found = [f"{it.title} needs {need}" for it, need in pairs if re.match(r"`[^`]*[ ≡][^`]*`\.$", need)]
+    calls = [it for entry in entries() for it in entry.calls]
+    return found + [f"the refusals of {it.title}" for it in calls if it.memory.startswith(UNTOLD)]
 
 
 def enough(item):
-    """Returns when the call surely takes no memory."""
+    """Returns when the call surely allocates nothing."""
     found = []
     for clause in item.clauses:
         ends = re.match(r"(?:(.*) → )?(?:IsOk result|IsOkAnd result IsLent)$", clause.fact)
@@ -142,7 +146,7 @@ def reader(home, made):
 
 
 def relation(item):
-    """Returns the refusals of a reader and when it wants memory, of the relation that it states."""
+    """Returns the refusals of a parser and when it may run out of memory, of the relation that it states."""
     for clause in item.clauses:
         for name in re.findall(r"\b[A-Z]\w+", clause.fact):
             for home, _, made in citations(item.path).get(name, ()):
@@ -152,7 +156,7 @@ def relation(item):
 
 
 def kinds():
-    """Returns each alias of a word with the refusal of its kind."""
+    """Returns each alias of a subtag with the refusal of its kind."""
     it, found = crate("iloc_subtags"), {}
     for trait, _, base, item in it.given:
         if trait.startswith("WordKind<"):
@@ -163,7 +167,7 @@ def kinds():
 
 
 def by_refusal():
-    """Returns each refusal of words with the kinds that have it."""
+    """Returns each refusal of subtags with the kinds that have it."""
     found = {}
     for alias, refusal in kinds().items():
         found.setdefault(refusal, []).append(f"`{alias}`")
@@ -171,7 +175,7 @@ def by_refusal():
 
 
 def refuses(item, owner, name):
-    """Returns each refusal of a call with when it comes, and when memory is wanted."""
+    """Returns each refusal of a call with when it comes, and when memory may run out."""
     if found := api_words.BY_CALL.get(f"{owner}::{name}" if owner else name):
         return found
     if not RESULT.search(item.signature):
@@ -179,11 +183,12 @@ def refuses(item, owner, name):
     if found := relation(item):
         return found
     if "read K.kind K.refusal" in facts(item) or "ReadsRaw" in facts(item):
-        what = "raw form of a normal word" if "ReadsRaw" in facts(item) else "word"
+        what = "raw form of a normal subtag" if "ReadsRaw" in facts(item) else "subtag"
         if owner == "Language":
             return [("InvalidLanguage", "the bytes are no raw form of a language of 2 or 3 letters")], None
         return [(name, f"the bytes are no {what} of the kind ({among})") for name, among in by_refusal()], None
-    return [], None
+    is_untold = re.search(r"\b_?alloc: Global", item.signature) and error_of(item) == "ParseError"
+    return [], UNTOLD if is_untold else None
 
 
 def facts(item):
@@ -214,7 +219,7 @@ def memory(item, wants):
     if not takes and error != "AllocError":
         return "Takes no allocator, and never runs out of memory."
     if "always" in whens or takes and wants is None and error == "ParseError":
-        return "Allocates nothing: memory is never refused."
+        return "Allocates nothing, and never returns out of memory."
     said = "May allocate" if takes else "May allocate, from the value's own allocator"
     if wants and wants[0] in "`M":
         return wants

@@ -28,7 +28,7 @@ CONDITIONS = [
     (r"^self\.old\.(\w+) ≡ (?:\[\]|None)$", r"`\1` is empty."),
 ]
 
-# Where memory is not wanted, by the premise of a clause that ends in `IsOk result`.
+# When a call surely allocates nothing, by the premise of a clause that ends in `IsOk result`.
 ENOUGH = [
     (r"^$", "always"),
     (r"^IsInline languages (\w+)\.now → IsTextOf .*$", "the text is inline and already normalized"),
@@ -43,13 +43,13 @@ ENOUGH = [
     (r"^length self\.now ≤ 4$", "at most four are held"),
     (r"^length (\w+) ≡ 0$", r"`\1` is empty"),
     (r"^is_some \(find .*\) ≡ true$", "the key is there already"),
-    (r"^list_any \(is_same word\) self\.old ≡ true$", "the word is there already"),
+    (r"^list_any \(is_same word\) self\.old ≡ true$", "the subtag is there already"),
     (r"^length \(rg_entry .*\) ≤ 1$", "at most one of `rg` and `sd` is written"),
-    (r"^length \(attributes_read .*\) ≤ 4$", "at most four different attributes are read"),
+    (r"^length \(attributes_read .*\) ≤ 4$", "at most four different attributes are parsed"),
     (r"^is_true subtag ≡ true$", "the subtag is `true`"),
     (r"^reference_bytes\.now ≡ W\.text writeable\.now$", "the bytes are the printed text"),
     (r"^lends self\.now$", "the value lends its text: `writeable_borrow` is `Some`"),
-    (r"^length \(normal_values .*\) ≤ 4$", "at most four subtags besides `true` are read"),
+    (r"^length \(normal_values .*\) ≤ 4$", "at most four subtags besides `true` are parsed"),
 ]
 
 # Relations that leave no answer but `Ok`.
@@ -90,7 +90,7 @@ def begins(letter, faults):
     return faults[:-1] + [(name, f"the text does not begin with {letter}; or {when}")]
 
 
-# The refusals of a reader, and when it may run out of memory (`None`: never), by its relation.
+# The refusals of a parser, and when it may run out of memory (`None`: never), by its relation.
 READERS = {
     "iloc_langid.ReadsAs": ([NO_LANGUAGE, NO_IDENTIFIER], FIVE_VARIANTS),
     "iloc_langid.SmallReadsAs": ([NO_LANGUAGE, ("InvalidSubtag", "the rest is no script, region and at most one variant in this order")], None),
@@ -114,6 +114,7 @@ READERS = {
     "iloc_unicode_value.ReadsAs": ([("InvalidSubtag", "the text is not empty, and not all of it is subtags of 2 to 8 letters or digits")], "there are more than four subtags besides `true`"),
     "iloc_transform.TransformTextReads": (begins("`t`", TRANSFORM), "there is a field, or a fifth variant"),
     "iloc_transform.TransformReads": (TRANSFORM, "there is a field, or a fifth variant"),
+    "iloc_transform.FieldsFrontRead": ([("InvalidExtension", "a key has no value")], "there is a field"),
     "iloc_transform.ValueReads": ([("InvalidExtension", "not all of the text is subtags of 3 to 8 letters or digits, one at least")], "there are more than four subtags besides `true`"),
     "iloc_other.OtherTextReads": (begins("a letter or digit other than `t`, `u`, `x`", OTHER), FIVE_WORDS),
     "iloc_other.OtherReads": (OTHER, FIVE_WORDS),
@@ -128,8 +129,8 @@ READERS = {
     ),
     "iloc_keyword_types.ReadsScripts": ([("InvalidKeywordValue", "a subtag of the value is no script")], "there are more than four scripts"),
     "iloc_json.ReadsText": (
-        [("NotText", "the JSON value is no string"), ("Parse", "the reader of the type refuses the string; the reader's refusal is inside")],
-        "`OutOfMemory` only if the reader of the type runs out of memory. That of a subtag never does.",
+        [("NotText", "the JSON value is no string"), ("Parse", "the parser of the type refuses the string; its refusal is inside")],
+        "`OutOfMemory` only if the parser of the type runs out of memory. That of a subtag never does.",
     ),
     "iloc_json.WritesText": ([], "May allocate: `OutOfMemory` if that fails."),
     "iloc_subtags.Refused": (
@@ -151,17 +152,17 @@ READERS = {
 # Refusals of calls whose contract leaves them to each type.
 BY_CALL = {
     "PreferenceKey::try_from_key_value": (KEYWORD_VALUE, "the type is `DictionaryBreakScriptExclusions` and the value has more than four scripts"),
-    "TextValue::read_text": ([("ParseError", "the reader of the type refuses the text")], "`OutOfMemory` only if the reader of the type runs out of memory."),
+    "TextValue::read_text": ([("ParseError", "the parser of the type refuses the text")], "`OutOfMemory` only if the parser of the type runs out of memory."),
     "write_to_io": ([("io::Error", "the writer fails, or takes no byte (`WriteZero`); it then took a beginning of the text")], None),
     "Writeable::write_to": ([("fmt::Error", "the sink fails; it then took a beginning of the text")], None),
     "Sink::write_str": ([("fmt::Error", "the sink fails; it then took a beginning of the text")], None),
     "Sink::write_short_piece": ([("fmt::Error", "the sink fails; it then took a beginning of the text")], None),
     "Sink::write_char": ([("fmt::Error", "the sink fails; it then took a beginning of the text")], None),
-    "Word::try_from_utf8": ([("ParseError", "the text is no word of the kind; each kind has one refusal")], None),
+    "Word::try_from_utf8": ([("ParseError", "the text is no subtag of the kind; each kind has one refusal")], None),
     "place": ([("Err", "the key is not there; the place is where it would go")], None),
-    "FormatPreferences::from_locale_strict": ([("Err", "a keyword of these preferences is there and cannot be read, or `sd` is of another region; the same preferences are inside")], None),
-    "TimePreferences::from_locale_strict": ([("Err", "a keyword of these preferences is there and cannot be read, or `sd` is of another region; the same preferences are inside")], None),
-    "LocalePreferences::from_locale_strict": ([("Err", "`sd` or `rg` is there and cannot be read, or `sd` is of another region; the same preferences are inside")], None),
+    "FormatPreferences::from_locale_strict": ([("Err", "a keyword of these preferences is there and cannot be parsed, or `sd` is of another region; the same preferences are inside")], None),
+    "TimePreferences::from_locale_strict": ([("Err", "a keyword of these preferences is there and cannot be parsed, or `sd` is of another region; the same preferences are inside")], None),
+    "LocalePreferences::from_locale_strict": ([("Err", "`sd` or `rg` is there and cannot be parsed, or `sd` is of another region; the same preferences are inside")], None),
 }
 
 # First sentences of calls whose comment refers to the one before it.
@@ -299,7 +300,7 @@ CHANGES = {
     "LiteMap::remove": "a `&K`",
 }
 
-# The rows of the gate's table tests that make a call, by their first word; those of a type for its readers.
+# The rows of the gate's table tests that make a call, by their first word; those of a type for its parsers.
 ROWS = {
     "langid::LanguageIdentifier::try_from_utf8": "langid",
     "langid::LanguageIdentifier::try_from_locale_bytes": "head",
