@@ -17,7 +17,6 @@ use denote.Param.{layout}
 use denote.Steps.{nothing}
 use denote.Struct.Struct.{within}
 use denote.Struct.Owning.{shape}
-use Rattle.libc.specs.Heap.{chunk}
 use Rattle.std.specs.Ptr.{points_to}
 use Rattle.std.specs.Box.Ownership.{box_owns}
 use Rattle.std.specs.Global.{Global}
@@ -28,7 +27,7 @@ use Rattle.std.proofs.GlobalToken.{dealloc_token-Testable}
 use Rattle.std.proofs.alloc.Global.TheLaws as heap_laws
 use Rattle.iloc_locale.specs.declared.locale.Locale.{Locale}
 use Rattle.iloc_locale.specs.contracts.locale.Locale as locale
-use Rattle.iloc_handles.specs.Owned.{owned}
+use Rattle.iloc_handles.specs.Owned.{owned, may_free}
 use Rattle.iloc_handles.specs.contracts.handle.Handle.{the_row, the_type}
 use Rattle.iloc_handles.proofs.OpenBoxWords.{Rows}
 
@@ -47,14 +46,14 @@ pointer_fits null_ptr = (tt, (record { fits = lit< tt }, tt))
 
 -- what a pointer to a locale owns
 abbrev pub owns_box : Ptr → Locale → Fml
-owns_box p l = box_owns chunk locale.the_row p l
+owns_box p l = box_owns may_free locale.the_row p l
 
 -- whoever may free a block may compare its pointer with null
 may_test : {M : Type 1} {𝓤 : Ura M} (𝓛 : Logic 𝓤) (a : Global) (p : Ptr) (l : Locale)
     → ent 𝓤 (sem 𝓛 (owns_box p l)) (guard 𝓤 (Testable p) (sem 𝓛 (owns_box p l)))
 may_test {𝓤 = 𝓤} 𝓛 a p l =
     let at : Fml = points_to locale.the_row p l in
-    let free : Fml = chunk (bare (lone locale.the_row.mir)) p in
+    let free : Fml = may_free (bare (lone locale.the_row.mir)) p in
     let freeing = via 𝓤 _ (snd∗ 𝓤 (sem 𝓛 at) (sem 𝓛 free)) (dealloc_token-Testable 𝓛 a (bare (lone locale.the_row.mir)) p) in
     fact_use 𝓤 (Testable p) freeing (guard_i 𝓤 (Testable p) (sem 𝓛 (owns_box p l)))
 

@@ -8,7 +8,7 @@ use denote.Struct.Owning.{shape, fields, to}
 use denote.Param.Send.{IsSend, AllSend, owning_send, struct_send, sendable}
 use Rattle.std.specs.Prelude.{Option, None, Some}
 use Rattle.std_alloc.proofs.SendSync.{quiet, lies}
-use Rattle.libc.specs.Heap.{chunk-Keyless}
+use Rattle.std.proofs.Crossing.{frees}
 use Rattle.iloc_locale.specs.declared.locale.Locale.{Locale}
 use Rattle.iloc_locale.specs.contracts.locale.Locale as locale
 use Rattle.iloc_locale.proofs.locale.Locale.TheSendSync.{the_send as locale_send}
@@ -22,7 +22,7 @@ owned_by_any null_ptr (Some m) = tt
 owned_by_any (block_ptr b o) None = tt
 owned_by_any (block_ptr b o) (Some m) =
     let p = block_ptr b o in
-    (lies locale.the_row locale_send p m, chunk-Keyless (raw (lone locale.the_row.mir)) p)
+    (lies locale.the_row locale_send p m, frees.frees (record {}) (raw (lone locale.the_row.mir)) p)
 
 pub send : IsSend the_row
 send =
