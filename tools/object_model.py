@@ -113,7 +113,7 @@ class Model:
         """All that a caller reads, in a line."""
         text = self.written()
         fields = [text, self.base(), self.language, self.script, self.region, ",".join(sorted(self.variants))]
-        fields += [",".join(sorted(self.attributes)), ",".join(f"{key}={value}" for key, value in sorted(self.keywords.items()))]
+        fields += [",".join(f"{key}={value}" for key, value in sorted(self.keywords.items()))]
         return "\t".join([*fields, f"{int(text == 'und')}{int(self.is_well_formed())}", f"{self.hash():016x}"])
 
 
@@ -214,10 +214,6 @@ class Script:
     def is_variant(word):
         return re.fullmatch("[A-Za-z0-9]{5,8}|[0-9][A-Za-z0-9]{3}", word)
 
-    @staticmethod
-    def is_attribute(word):
-        return re.fullmatch("[A-Za-z0-9]{3,8}", word)
-
     def add_variant(self, it, _, word):
         if not self.is_variant(word):
             return REFUSED_SUBTAG
@@ -234,24 +230,6 @@ class Script:
 
     def clear_variants(self, it, _):
         it.variants.clear()
-        return "ok"
-
-    def add_attribute(self, it, _, word):
-        if not self.is_attribute(word):
-            return REFUSED_SUBTAG
-        it.attributes.add(word.lower())
-        return "ok"
-
-    def remove_attribute(self, it, _, word):
-        is_there = word.lower() in it.attributes
-        it.attributes.discard(word.lower())
-        return "ok" if is_there else "none"
-
-    def has_attribute(self, it, _, word):
-        return int(word.lower() in it.attributes)
-
-    def clear_attributes(self, it, _):
-        it.attributes.clear()
         return "ok"
 
     def set_keyword(self, it, _, key, value):
@@ -310,14 +288,13 @@ class Script:
         pick, at = self.random.choice, self.random.randrange(SLOTS)
         other = self.random.randrange(SLOTS)
         words = ["language", "script", "region", "add-variant", "add-variant", "remove-variant", "has-variant"]
-        words += ["add-attribute", "add-attribute", "remove-attribute", "has-attribute"]
         ways = [lambda: (pick(words), at, pick(WORDS))] * 10
         ways += [lambda: ("set-keyword", at, pick(KEYS), pick(VALUES))] * 5
         ways += [lambda: (pick(["get-keyword", "remove-keyword"]), at, pick(KEYS))] * 2
         ways += [lambda: (pick(["copy", "move", "compare", "compare"]), at, other)] * 2
         ways += [lambda: (pick(["parse", "against"]), at, pick(self.texts)), lambda: ("parts", at), lambda: ("parts", at)]
         if self.random.randrange(20) == 0:
-            ways = [lambda: (pick(["clear-variants", "clear-attributes", "clear-keywords"]), at)]
+            ways = [lambda: (pick(["clear-variants", "clear-keywords"]), at)]
         if self.random.randrange(40) == 0:
             text = self.slots[other].written().encode()
             ways = [lambda: ("against", at, text)] if text in self.known else ways

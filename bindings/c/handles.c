@@ -15,7 +15,7 @@
 #include <string.h>
 
 #define ROOM 512
-#define MANY 24
+#define MANY 40
 
 static unsigned long cases;
 
@@ -256,12 +256,36 @@ static void try_keywords(void)
     WANT(icu_locale_clear_keywords(&locale) == ICU_LOCALE_DONE && locale.at == NULL);
 }
 
+static void try_attributes(void)
+{
+    icu_locale_t locale = ICU_LOCALE_UND;
+    WANT(icu_locale_attribute_count(&locale) == 0 && strcmp(read_at(&locale, icu_locale_get_attribute, 0), "?") == 0);
+    WANT(icu_locale_remove_attribute(&locale, TEXT("foo")) == ICU_LOCALE_NOT_FOUND && locale.at == NULL);
+    WANT(icu_locale_add_attribute(&locale, TEXT("FOO")) == ICU_LOCALE_DONE && is_now(&locale, "und-u-foo"));
+    WANT(icu_locale_add_attribute(&locale, TEXT("bar")) == ICU_LOCALE_DONE && is_now(&locale, "und-u-bar-foo"));
+    WANT(icu_locale_add_attribute(&locale, TEXT("bar")) == ICU_LOCALE_DONE && is_now(&locale, "und-u-bar-foo"));
+    WANT(icu_locale_add_attribute(&locale, TEXT("ba")) == ICU_LOCALE_INVALID_EXTENSION);
+    WANT(icu_locale_add_attribute(&locale, NULL, 0) == ICU_LOCALE_INVALID_EXTENSION && is_now(&locale, "und-u-bar-foo"));
+    WANT(icu_locale_attribute_count(&locale) == 2);
+    WANT(strcmp(read_at(&locale, icu_locale_get_attribute, 0), "bar") == 0);
+    WANT(strcmp(read_at(&locale, icu_locale_get_attribute, 1), "foo") == 0);
+    WANT(strcmp(read_at(&locale, icu_locale_get_attribute, 2), "?") == 0);
+    WANT(icu_locale_has_attribute(&locale, TEXT("Foo")) && !icu_locale_has_attribute(&locale, TEXT("fo")));
+    WANT(!icu_locale_has_attribute(&locale, TEXT("baz")) && !icu_locale_has_attribute(&locale, NULL, 0));
+    WANT(icu_locale_remove_attribute(&locale, TEXT("baz")) == ICU_LOCALE_NOT_FOUND);
+    WANT(icu_locale_remove_attribute(&locale, TEXT("b")) == ICU_LOCALE_NOT_FOUND && is_now(&locale, "und-u-bar-foo"));
+    WANT(icu_locale_set_keyword(&locale, TEXT("ca"), TEXT("roc")) == ICU_LOCALE_DONE && is_now(&locale, "und-u-bar-foo-ca-roc"));
+    WANT(icu_locale_remove_attribute(&locale, TEXT("BAR")) == ICU_LOCALE_DONE && is_now(&locale, "und-u-foo-ca-roc"));
+    WANT(icu_locale_clear_attributes(&locale) == ICU_LOCALE_DONE && is_now(&locale, "und-u-ca-roc"));
+    WANT(icu_locale_clear_keywords(&locale) == ICU_LOCALE_DONE && locale.at == NULL);
+}
+
 /* Random calls, and a model of a locale. */
 
 struct model {
     char language[16], script[16], region[16], variants[MANY][16];
-    char keys[MANY][4], values[MANY][64];
-    int variant_count, keyword_count;
+    char attributes[MANY][16], keys[MANY][4], values[MANY][64];
+    int variant_count, attribute_count, keyword_count;
 };
 
 static const char *const WORDS[] = {
@@ -273,7 +297,7 @@ static const char *const VALUES[] = {
     "", "true", "TRUE", "buddhist", "islamic-civil", "h12", "Latn", "a", "abcdefghi", "aaa-bbb-ccc-ddd-eee", "aaa-true-bbb", "aaa--bbb", "-", "\xff\xff\xff", "roc",
 };
 static const char *const LOCALES[] = {
-    "en", "und", "en-US-u-ca-buddhist", "de-aaaaa-bbbbb-ccccc-ddddd-eeeee", "sr-latn-RS-u-ca-roc-kn-nu-latn-hc-h12", "e", "en-", "en-u", "zh-hant-posix-u-ca-aaa-bbb-ccc-ddd-eee-fff",
+    "en", "und", "en-US-u-ca-buddhist", "de-aaaaa-bbbbb-ccccc-ddddd-eeeee", "sr-latn-RS-u-foo-bar-ca-roc-kn-nu-latn-hc-h12", "e", "en-", "en-u", "zh-hant-posix-u-ca-aaa-bbb-ccc-ddd-eee-fff",
 };
 
 static uint64_t state;
@@ -319,6 +343,13 @@ static int is_variant(const char *text)
     return strlen(text) >= 4 && !is_script(text) && fits("und-", text);
 }
 
+static int is_attribute(const char *text)
+{
+    char whole[128];
+    snprintf(whole, sizeof whole, "und-u-%s", text);
+    return strlen(text) > 2 && !strchr(text, '-') && normal_of(ICU_LOCALE_LOCALE, whole) != NULL;
+}
+
 static int is_key(const char *text)
 {
     char whole[128];
@@ -344,8 +375,12 @@ static const char *written(const struct model *it)
         at += snprintf(whole + at, sizeof whole - (size_t)at, "-%s", it->region);
     for (int i = 0; i < it->variant_count; i++)
         at += snprintf(whole + at, sizeof whole - (size_t)at, "-%s", it->variants[i]);
+    if (it->attribute_count + it->keyword_count > 0)
+        at += snprintf(whole + at, sizeof whole - (size_t)at, "-u");
+    for (int i = 0; i < it->attribute_count; i++)
+        at += snprintf(whole + at, sizeof whole - (size_t)at, "-%s", it->attributes[i]);
     for (int i = 0; i < it->keyword_count; i++) {
-        at += snprintf(whole + at, sizeof whole - (size_t)at, "%s-%s", i == 0 ? "-u" : "", it->keys[i]);
+        at += snprintf(whole + at, sizeof whole - (size_t)at, "-%s", it->keys[i]);
         if (*it->values[i])
             at += snprintf(whole + at, sizeof whole - (size_t)at, "-%s", it->values[i]);
     }
@@ -354,15 +389,16 @@ static const char *written(const struct model *it)
     return normal;
 }
 
-static int variant_of(const struct model *it, const char *word)
+/* Where the word is among these, or -1. */
+static int place_of(char (*words)[16], int count, const char *word)
 {
-    int i = it->variant_count - 1;
-    while (i >= 0 && strcmp(it->variants[i], word) != 0)
+    int i = count - 1;
+    while (i >= 0 && strcmp(words[i], word) != 0)
         i--;
     return i;
 }
 
-static int keyword_of(const struct model *it, const char *key)
+static int keyword_of(struct model *it, const char *key)
 {
     int i = it->keyword_count - 1;
     while (i >= 0 && strcmp(it->keys[i], key) != 0)
@@ -370,7 +406,7 @@ static int keyword_of(const struct model *it, const char *key)
     return i;
 }
 
-/* The model of a locale of the list, which has no other extension than u, with keywords alone. */
+/* The model of a locale of the list, which has no other extension than u. */
 static void model_of(struct model *it, const char *text)
 {
     char whole[256], *part, *next = whole;
@@ -386,6 +422,8 @@ static void model_of(struct model *it, const char *text)
             put(it->language, sizeof it->language, part);
         else if (!is_keywords && strlen(part) == 1)
             is_keywords = 1;
+        else if (is_keywords && it->keyword_count == 0 && strlen(part) > 2)
+            put(it->attributes[it->attribute_count++], 16, part);
         else if (is_keywords && strlen(part) == 2)
             put(it->keys[at = it->keyword_count++], 4, part);
         else if (is_keywords)
@@ -425,7 +463,7 @@ static void step_variants(icu_locale_t *locale, struct model *it, const char *wo
 {
     char small[64];
     lower(small, word);
-    int at = is_variant(word) ? variant_of(it, small) : -1;
+    int at = is_variant(word) ? place_of(it->variants, it->variant_count, small) : -1;
     WANT(icu_locale_has_variant(locale, TEXT(word)) == (at >= 0));
     switch (below(5)) {
     case 0:
@@ -443,6 +481,31 @@ static void step_variants(icu_locale_t *locale, struct model *it, const char *wo
         WANT(icu_locale_add_variant(locale, TEXT(word)) == (is_variant(word) ? ICU_LOCALE_DONE : ICU_LOCALE_INVALID_SUBTAG));
         if (is_variant(word) && at < 0)
             put(it->variants[it->variant_count++], 16, small);
+    }
+}
+
+static void step_attributes(icu_locale_t *locale, struct model *it, const char *word)
+{
+    char small[64];
+    lower(small, word);
+    int at = is_attribute(word) ? place_of(it->attributes, it->attribute_count, small) : -1;
+    WANT(icu_locale_has_attribute(locale, TEXT(word)) == (at >= 0));
+    switch (below(5)) {
+    case 0: case 1:
+        WANT(icu_locale_remove_attribute(locale, TEXT(word)) == (at >= 0 ? ICU_LOCALE_DONE : ICU_LOCALE_NOT_FOUND));
+        if (at >= 0)
+            memmove(it->attributes[at], it->attributes[--it->attribute_count], 16);
+        break;
+    case 2:
+        if (below(8) == 0) {
+            WANT(icu_locale_clear_attributes(locale) == ICU_LOCALE_DONE);
+            it->attribute_count = 0;
+        }
+        break;
+    default:
+        WANT(icu_locale_add_attribute(locale, TEXT(word)) == (is_attribute(word) ? ICU_LOCALE_DONE : ICU_LOCALE_INVALID_EXTENSION));
+        if (is_attribute(word) && at < 0)
+            put(it->attributes[it->attribute_count++], 16, small);
     }
 }
 
@@ -479,7 +542,7 @@ static void step_keywords(icu_locale_t *locale, struct model *it, const char *ke
 }
 
 /* Each part, as the model has it. */
-static void see(icu_locale_t *locale, const struct model *it)
+static void see(icu_locale_t *locale, struct model *it)
 {
     char normal[ROOM], base[ROOM], *after;
     put(normal, sizeof normal, written(it));
@@ -495,10 +558,16 @@ static void see(icu_locale_t *locale, const struct model *it)
     WANT(strlen(read_part(locale, icu_locale_get_region)) == strlen(it->region));
     WANT(icu_locale_variant_count(locale) == (size_t)it->variant_count);
     for (size_t i = 0; i < (size_t)it->variant_count; i++) {
-        WANT(variant_of(it, read_at(locale, icu_locale_get_variant, i)) >= 0);
+        WANT(place_of(it->variants, it->variant_count, read_at(locale, icu_locale_get_variant, i)) >= 0);
         WANT(icu_locale_has_variant(locale, TEXT(it->variants[i])));
     }
     WANT(strcmp(read_at(locale, icu_locale_get_variant, (size_t)it->variant_count), "?") == 0);
+    WANT(icu_locale_attribute_count(locale) == (size_t)it->attribute_count);
+    for (size_t i = 0; i < (size_t)it->attribute_count; i++) {
+        WANT(place_of(it->attributes, it->attribute_count, read_at(locale, icu_locale_get_attribute, i)) >= 0);
+        WANT(icu_locale_has_attribute(locale, TEXT(it->attributes[i])));
+    }
+    WANT(strcmp(read_at(locale, icu_locale_get_attribute, (size_t)it->attribute_count), "?") == 0);
     WANT(icu_locale_keyword_count(locale) == (size_t)it->keyword_count);
     for (size_t i = 0; i < (size_t)it->keyword_count; i++) {
         char key[4], value[64];
@@ -540,7 +609,7 @@ static void try_script(uint64_t seed, long steps)
     state = seed * 2 + 1;
     for (long step = 0; step < steps; step++) {
         size_t i = below(3), j = (i + 1 + below(2)) % 3;
-        switch (below(12)) {
+        switch (below(14)) {
         case 0:
             step_parse(&locales[i], &models[i], ANY(LOCALES));
             break;
@@ -558,6 +627,9 @@ static void try_script(uint64_t seed, long steps)
             break;
         case 6: case 7: case 8:
             step_variants(&locales[i], &models[i], ANY(WORDS));
+            break;
+        case 9: case 10:
+            step_attributes(&locales[i], &models[i], ANY(WORDS));
             break;
         default:
             step_keywords(&locales[i], &models[i], ANY(WORDS), ANY(VALUES));
@@ -637,6 +709,17 @@ static icu_locale_status call_add_variant(icu_locale_t *it)
     return icu_locale_add_variant(it, TEXT("posix"));
 }
 
+static icu_locale_status call_add_attribute(icu_locale_t *it)
+{
+    return icu_locale_add_attribute(it, TEXT("foo"));
+}
+
+static icu_locale_status call_remove_attribute(icu_locale_t *it)
+{
+    icu_locale_status status = icu_locale_remove_attribute(it, TEXT("bbb"));
+    return status == ICU_LOCALE_NOT_FOUND ? ICU_LOCALE_DONE : status;
+}
+
 static icu_locale_status call_keyword(icu_locale_t *it)
 {
     return icu_locale_set_keyword(it, TEXT("nu"), TEXT("aaa-bbb-ccc-ddd-eee-fff"));
@@ -680,7 +763,7 @@ static void refuse_each(icu_locale_status (*call)(icu_locale_t *), const char *s
 
 static void try_refused(void)
 {
-    const char *starts[] = {"und", "en", "en-aaaaa-bbbbb-ccccc-ddddd", "en-aaaaa-bbbbb-ccccc-ddddd-eeeee-t-de-m0-abc-u-ca-roc-nu-latn-x-a-b-c-d-e"};
+    const char *starts[] = {"und", "en", "en-aaaaa-bbbbb-ccccc-ddddd", "en-aaaaa-bbbbb-ccccc-ddddd-eeeee-t-de-m0-abc-u-aaa-bbb-ccc-ddd-eee-ca-roc-nu-latn-x-a-b-c-d-e"};
     PARSES(&source, "de-aaaaa-bbbbb-ccccc-ddddd-eeeee-t-und-m0-abc-u-aaa-bbb-ccc-ddd-eee-ca-aaa-bbb-ccc-ddd-eee-co-phonebk-x-a-b-c-d-e");
     long held = live;
     for (size_t i = 0; i < sizeof starts / sizeof *starts; i++) {
@@ -691,6 +774,8 @@ static void try_refused(void)
         refuse_each(call_script, starts[i], is_und);
         refuse_each(call_region, starts[i], is_und);
         refuse_each(call_add_variant, starts[i], is_und || i > 1);
+        refuse_each(call_add_attribute, starts[i], 1);
+        refuse_each(call_remove_attribute, starts[i], i == 3);
         refuse_each(call_keyword, starts[i], 1);
         refuse_each(call_eq_text, starts[i], 1);
         refuse_each(call_nothing, starts[i], 0);
@@ -708,6 +793,7 @@ int main(int count, char **words)
         try_identifier();
         try_variants();
         try_keywords();
+        try_attributes();
     } else if (count == 4 && !strcmp(words[1], "script")) {
         try_script(strtoull(words[2], NULL, 10), strtol(words[3], NULL, 10));
     } else if (count == 2 && !strcmp(words[1], "refused")) {

@@ -40,7 +40,7 @@ def compared(first, second, mode):
 def parts(locale):
     keywords = ",".join(f"{key}={value}" for key, value in locale.keywords.items())
     fields = [str(locale), locale.base_name, locale.language, locale.script or "", locale.region or ""]
-    fields += [",".join(locale.variants), ",".join(locale.attributes), keywords]
+    fields += [",".join(locale.variants), keywords]
     # Each Locale is well-formed. A hash may be cut by the interpreter.
     assert Locale(str(locale)) == locale
     return "\t".join([*fields, f"{int(locale.is_und)}1", f"{locale.__hash__():016x}"])
@@ -67,13 +67,6 @@ def two_objects(first, second):
     return f"{both} {against(one, second)}"
 
 
-def removed(locale, name, word):
-    """The locale without this variant or attribute, if it has it."""
-    words = getattr(locale, name)
-    left = [it for it in words if it != word.lower()]
-    return None if len(left) == len(words) else locale.replace(**{name: left})
-
-
 def take_step(slots, call, at, *given):
     """What a step gives. As a Locale does not change, another takes its place."""
     locale, texts = slots[at], [it.decode() for it in given] if call not in ("parse", "against") else given
@@ -81,16 +74,16 @@ def take_step(slots, call, at, *given):
         slots[at] = locale.replace(**{call: texts[0]})
     elif call == "parse":
         slots[at] = Locale(texts[0])
-    elif call.startswith(("add-", "remove-", "has-", "clear-")) and "keyword" not in call:
-        what, name = call.split("-")
-        name = name.rstrip("s") + "s"
-        if what == "has":
-            return int(texts[0].lower() in getattr(locale, name))
-        if what == "remove":
-            left = removed(locale, name, texts[0])
-            slots[at] = left or locale
-            return "none" if left is None else "ok"
-        slots[at] = locale.replace(**{name: [*getattr(locale, name), *texts] if what == "add" else []})
+    elif call == "has-variant":
+        return int(texts[0].lower() in locale.variants)
+    elif call == "add-variant":
+        slots[at] = locale.replace(variants=[*locale.variants, *texts])
+    elif call == "remove-variant":
+        left = [it for it in locale.variants if it != texts[0].lower()]
+        slots[at] = locale.replace(variants=left)
+        return "ok" if len(left) < len(locale.variants) else "none"
+    elif call == "clear-variants":
+        slots[at] = locale.replace(variants=[])
     elif call == "set-keyword":
         slots[at] = locale.replace(keywords={**locale.keywords, texts[0]: texts[1]})
     elif call == "clear-keywords":

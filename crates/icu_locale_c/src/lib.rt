@@ -18,6 +18,7 @@ ghost use Rattle.iloc_calls.specs.Answers.{
 };
 ghost use Rattle.iloc_calls.specs.Numbers.{EndsAs, mode_number, number_of, words_of};
 
+mod attributes;
 mod identifier;
 mod keywords;
 mod variants;

@@ -55,13 +55,13 @@ SetsKeyword k v before after status = Sets
     × (after ≡ with_keywords (put word_cmp (normal UnicodeKey k) value (keywords_of before)) before))
     (KeywordFault k v) (ValueWants v ⊎ (1 ≤ length (keywords_of before))) before after status
 
--- the key has a value
-abbrev pub HasKeyword : Text → Locale → Type 0
-HasKeyword k M = is_some (value_at k (keywords_of M)) ≡ true
+-- the text is a key that has a value
+abbrev pub HasKey : Text → Fields → Type 0
+HasKey k ks = IsWord UnicodeKey k × (is_some (find word_cmp (normal UnicodeKey k) ks) ≡ true)
 
 -- it has none any more
 abbrev pub RemovesKeyword : Text → Changing
-RemovesKeyword k = Removes (HasKeyword k)
+RemovesKeyword k = Removes (λ M. HasKey k (keywords_of M))
     (λ M. with_keywords (remove_entry (is_at (word_cmp (normal UnicodeKey k))) (keywords_of M)) M)
 
 -- no keyword is left

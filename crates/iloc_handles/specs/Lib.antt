@@ -1,3 +1,4 @@
+pub mod Attributes
 pub mod Finding
 pub mod Hashing
 pub mod Held

@@ -191,11 +191,11 @@ impl<'a> Change for RemoveKeyword<'a> {
 
     fn apply(&self, _alloc: Global, locale: &mut Locale) -> Status {
         match word_of::<UnicodeKeyKind, 2>(self.key) {
-            Ok(key) => match locale.extensions.unicode.keywords.remove(&key) {
-                Some(_) => Status::Done,
-                None => Status::NotFound,
-            },
-            Err(_) => Status::NotFound,
+            Ok(key) if locale.extensions.unicode.keywords.contains_key(&key) => {
+                locale.extensions.unicode.keywords.remove(&key);
+                Status::Done
+            }
+            _ => Status::NotFound,
         }
     }
 }

@@ -9,6 +9,7 @@
 #![tactic(auto)]
 
 mod asking;
+mod attributes;
 mod handle;
 mod hashing;
 mod identifier;
@@ -18,6 +19,10 @@ mod subtags;
 mod variants;
 mod whole;
 
+pub use attributes::{
+    add_attribute, attribute_count, clear_attributes, get_attribute, has_attribute,
+    remove_attribute,
+};
 pub use handle::Handle;
 pub use identifier::{
     get_base_name, get_language, get_region, get_script, set_language, set_region, set_script,

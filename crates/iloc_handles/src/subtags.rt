@@ -1,7 +1,8 @@
 //! Subtags of texts, and sets of subtags.
 ghost use Rattle.std.specs.Prelude.{◌≡◌, ◌↔◌, false, IsTrue, MatchResult, option_map};
+ghost use Rattle.std.specs.List.{list_any};
 ghost use Rattle.std.specs.Option.{option_copied};
-ghost use Rattle.iloc_spec_grammar.specs.Words.{IsWord, is_word, normal};
+ghost use Rattle.iloc_spec_grammar.specs.Words.{IsWord, is_same, is_word, normal};
 ghost use Rattle.iloc_spec_grammar.specs.Values.{IsAscending};
 ghost use Rattle.iloc_handles.specs.Finding.{Tells};
 ghost use Rattle.iloc_handles.specs.Subtags.{HasWord, IsNeither, IsOptional};
@@ -38,13 +39,24 @@ pub(crate) fn optional_word<K: WordKind<N>, const N: usize>(
     }
 }
 
+// Whether the subtag is one of these, which ascend.
+fn is_among<K: WordKind<N>, const N: usize>(words: &[WordOf<K, N>], word: &WordOf<K, N>) -> bool
+    requires { IsAscending words.now }
+    ensures { result ≡ list_any (is_same word.now) words.now }
+{
+    match words.binary_search(word) {
+        Ok(_) => true,
+        Err(_) => false,
+    }
+}
+
 /// Whether the text is one of the subtags, which ascend.
 pub(crate) fn has_word<K: WordKind<N>, const N: usize>(words: &[WordOf<K, N>], text: &[u8]) -> bool
     requires { IsAscending words.now }
     ensures { IsTrue result ↔ HasWord K.kind text.now words.now }
 {
     match word_of::<K, N>(text) {
-        Ok(word) => words.binary_search(&word).is_ok(),
+        Ok(word) => is_among(words, &word),
         Err(_) => false,
     }
 }

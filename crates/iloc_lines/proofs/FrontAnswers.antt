@@ -80,7 +80,7 @@ blocks_past ((c ∷ []) ∷ xs) rest h = absurd (true≢false h.0)
 blocks_past ((c ∷ d ∷ p) ∷ xs) rest h = blocks_past xs rest h.1
 
 -- the blocks are those of what is left after the words that fit
-blocks_left : (t : List ℕ) → BeginsWell t → tail_blocks (pieces t) ≡ blocks (after_front (pieces t))
+pub blocks_left : (t : List ℕ) → BeginsWell t → tail_blocks (pieces t) ≡ blocks (after_front (pieces t))
 blocks_left t = at_pieces (λ ps. IsWord (Language languages) (first_piece ps) → tail_blocks ps ≡ blocks (after_front ps)) by t
   where
     by : (p : List ℕ) (ps : List (List ℕ)) → IsWord (Language languages) p → blocks ps ≡ blocks (after_front (p ∷ ps))

@@ -6,3 +6,4 @@ pub mod PlainAnswers
 pub mod PlainLemmas
 pub mod RunLemmas
 mod FrontAnswers
+mod KeywordAnswers

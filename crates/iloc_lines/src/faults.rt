@@ -5,7 +5,7 @@ ghost use Rattle.iloc_plain.specs.declared.front.Front.TheVariants as fronts;
 ghost use Rattle.iloc_lines.specs.Output.{IsRefused};
 
 use crate::Mode;
-use iloc_plain::{Block, Front, read_front};
+use iloc_plain::{Block, Front, Keyword, read_front, read_keyword};
 use iloc_subtags::ParseError;
 
 /// Why the line that this window begins with is refused. `None` says nothing of it.
@@ -15,6 +15,10 @@ pub(crate) fn fault_at_front(mode: Mode, window: &[u8], line: &[u8]) -> Option<P
     requires room { length line.now + 16 ≤ length window.now }
     ensures { IfSome result (IsRefused mode line.now) }
 {
+    // Longer locales mostly have extensions, which are parsed.
+    if matches!(mode, Mode::Locale) && line.len() > 16 {
+        return None;
+    }
     match read_front(window, line.len()) {
         Front::NoLanguage => Some(ParseError::InvalidLanguage),
         Front::Misfit => Some(ParseError::InvalidSubtag),
@@ -36,7 +40,7 @@ fn fault_of_block(mode: Mode, line: &[u8], block: Block<'_>) -> Option<ParseErro
     }
 }
 
-// A data locale has no block but that of `u`.
+// A data locale has no block but that of `u`, and in it no keyword but `sd`.
 #[inline(always)]
 fn fault_of_data(line: &[u8], block: Block<'_>) -> Option<ParseError>
     requires { IsFront line.now (fronts.Block block) }
@@ -46,8 +50,13 @@ fn fault_of_data(line: &[u8], block: Block<'_>) -> Option<ParseError>
     if !singleton.is_ascii_alphanumeric() {
         return None;
     }
-    if singleton.to_ascii_lowercase() == b'u' {
-        return None;
+    if singleton.to_ascii_lowercase() != b'u' {
+        return Some(ParseError::InvalidSubtag);
     }
-    Some(ParseError::InvalidSubtag)
+    match read_keyword(block) {
+        Keyword::Attribute => Some(ParseError::InvalidSubtag),
+        Keyword::Misfit => Some(ParseError::InvalidSubtag),
+        Keyword::Single if block.is_first => Some(ParseError::InvalidExtension),
+        _ => None,
+    }
 }

@@ -1,5 +1,5 @@
 //! Each shape with each length of a language, in mixed case, and what stands at the front of lines.
-use iloc_plain::{Front, read_front, read_plain, read_plain_text};
+use iloc_plain::{Front, Keyword, read_front, read_keyword, read_plain, read_plain_text};
 
 // A text of each shape for each length of a language, and its normal text.
 const PLAIN: [(&str, &str); 35] = [
@@ -161,4 +161,39 @@ fn a_block_is_told(rt: HostRuntime) {
             false
         )
     );
+}
+
+// What follows the singleton of the line's first block.
+fn keyword(window: &[u8], len: usize) -> Keyword {
+    match front(window, len) {
+        Front::Block(block) if block.window.len() >= 16 && block.len <= block.window.len() - 16 => {
+            read_keyword(block)
+        }
+        _ => Keyword::Other,
+    }
+}
+
+fn has_attribute(window: &[u8], len: usize) -> bool {
+    matches!(keyword(window, len), Keyword::Attribute)
+}
+
+fn has_misfit_after_key(window: &[u8], len: usize) -> bool {
+    matches!(keyword(window, len), Keyword::Misfit)
+}
+
+fn has_single_keyword(window: &[u8], len: usize) -> bool {
+    matches!(keyword(window, len), Keyword::Single)
+}
+
+#[test]
+fn a_keyword_is_told(rt: HostRuntime) {
+    assert!(rt; has_attribute(b"en-u-foo-ca-bar\nde-CH\nfr-FR\n", 15));
+    assert!(rt; has_misfit_after_key(b"en-US-u-ca-buddhist-hc-h12\nde-CH\nfr-FR\n", 26));
+    assert!(rt; has_misfit_after_key(b"en-u-ca-foo-t-de\nde-CH\nfr-FR-x\n", 16));
+    assert!(rt; has_misfit_after_key(b"en-u-ca-\nde-CH\nfr-FR-posix-x\n", 8));
+    assert!(rt; has_single_keyword(b"en-US-u-ca-buddhist\nde-CH\nfr-FR-posix\n", 19));
+    assert!(rt; has_single_keyword(b"th-U-NU-THAI\nde-CH\nfr-FR-posix\n", 12));
+    assert!(rt; !has_single_keyword(b"en-u-sd-usca\nde-CH\nfr-FR-posix\n", 12));
+    assert!(rt; !has_single_keyword(b"en-u-SD-usca\nde-CH\nfr-FR-posix\n", 12));
+    assert!(rt; !has_single_keyword(b"en-u-ca-islamic-civil\nde-CH\nfr-FR\n", 21));
 }

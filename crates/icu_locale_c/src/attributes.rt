@@ -1,0 +1,80 @@
+//! Calls on the attributes of a locale.
+ghost use Rattle.std.specs.Prelude.{◌≡◌, ◌↔◌, IsTrue, length};
+ghost use Rattle.iloc_spec_grammar.specs.Words.{Attribute as the_kind};
+ghost use Rattle.iloc_calls.specs.Numbers.{EndsAs};
+ghost use Rattle.iloc_handles.specs.Held.{IsTight, meaning_of};
+ghost use Rattle.iloc_handles.specs.Finding.{Changes, Tells};
+ghost use Rattle.iloc_handles.specs.Subtags.{HasWord};
+ghost use Rattle.iloc_handles.specs.Attributes.{AddsAttribute, ClearsAttributes, RemovesAttribute, attribute_at, attributes_of};
+
+use iloc_handles::Handle;
+use std::alloc::Global;
+
+/// How many attributes there are.
+#[unsafe(no_mangle)]
+pub extern "C" fn icu_locale_attribute_count(alloc: Global, handle: &mut Handle) -> usize
+    ensures same { handle.new.value ≡ handle.old.value }
+    ensures answered { result ≡ length (attributes_of (meaning_of handle.old.value)) }
+{
+    iloc_handles::attribute_count(alloc, handle)
+}
+
+/// Hands out the attribute at the index; they ascend.
+#[unsafe(no_mangle)]
+pub extern "C" fn icu_locale_get_attribute(
+    alloc: Global,
+    handle: &mut Handle,
+    index: usize,
+    buffer: &mut [u8],
+    needed: &mut usize,
+) -> u32
+    ensures same { handle.new.value ≡ handle.old.value }
+    ensures told { EndsAs (Tells (attribute_at index (meaning_of handle.old.value)) buffer.old
+        buffer.new needed.new) result }
+{
+    iloc_handles::get_attribute(alloc, handle, index, buffer, needed)
+}
+
+/// Whether the text is one of the attributes.
+#[unsafe(no_mangle)]
+pub extern "C" fn icu_locale_has_attribute(alloc: Global, handle: &mut Handle, text: &[u8]) -> bool
+    ensures same { handle.new.value ≡ handle.old.value }
+    ensures answered { IsTrue result
+        ↔ HasWord the_kind text.now (attributes_of (meaning_of handle.old.value)) }
+{
+    iloc_handles::has_attribute(alloc, handle, text)
+}
+
+/// Adds the attribute of the text.
+#[unsafe(no_mangle)]
+pub extern "C" fn icu_locale_add_attribute(alloc: Global, handle: &mut Handle, text: &[u8]) -> u32
+    ensures changed { EndsAs (Changes (AddsAttribute text.now) handle.old.value handle.new.value)
+        result }
+    ensures tight { IsTight handle.new.value }
+{
+    iloc_handles::add_attribute(alloc, handle, text)
+}
+
+/// Removes the attribute of the text.
+#[unsafe(no_mangle)]
+pub extern "C" fn icu_locale_remove_attribute(
+    alloc: Global,
+    handle: &mut Handle,
+    text: &[u8],
+) -> u32
+    ensures changed { EndsAs (Changes (RemovesAttribute text.now) handle.old.value
+        handle.new.value) result }
+    ensures tight { IsTight handle.new.value }
+{
+    iloc_handles::remove_attribute(alloc, handle, text)
+}
+
+/// Removes all attributes.
+#[unsafe(no_mangle)]
+pub extern "C" fn icu_locale_clear_attributes(alloc: Global, handle: &mut Handle) -> u32
+    ensures changed { EndsAs (Changes ClearsAttributes handle.old.value handle.new.value)
+        result }
+    ensures tight { IsTight handle.new.value }
+{
+    iloc_handles::clear_attributes(alloc, handle)
+}

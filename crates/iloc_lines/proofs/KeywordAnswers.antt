@@ -1,0 +1,271 @@
+-- Data locales that are refused for the keyword in their first block.
+use Rattle.std.proofs.Common.{◌≡◌, ◌≢◌, inl, inr, ℕ, ◌≤◌, ◌==◌, Bool, true, false, not, cond, ◌&&◌, nat_le, List, [], ◌∷◌, ◌++◌, length, map, filter, flat_map, get_or, IsTrue, None, Some, Option, option_map, Result, Ok, Err, refl, sym, ap, ◌∙◌, arith, append-nil}
+use Rattle.std.specs.Prelude.{if◌then◌else◌, option_and_then, ok_or}
+use Rattle.std.specs.Char.{is_ascii_alphanumeric, to_ascii_lowercase}
+use Rattle.std.specs.List.{AllByRecursion, list_all}
+use Rattle.std.proofs.lemmas.Bool.{cases_Bool, true≢false}
+use Rattle.std.proofs.lemmas.Bool.Decides.{nat_tests}
+use Rattle.std.proofs.lemmas.List.{length-map}
+use Rattle.iloc_spec_grammar.specs.Pieces.{pieces}
+use Rattle.iloc_spec_grammar.specs.Words.{Kind, Language, Script, Region, UnicodeKey, Attribute, is_word, IsWord, is_same, is_true, languages, lower}
+use Rattle.iloc_spec_grammar.specs.Written.{block_pieces}
+use Rattle.iloc_spec_grammar.specs.Meaning.{normal_values}
+use Rattle.iloc_spec_grammar.specs.Blocks.{is_one_byte, front, blocks, head, tail_blocks, first_piece}
+use Rattle.iloc_spec_grammar.specs.Reading.{skip_first, rest_of, identifier_of, after_region, after_front}
+use Rattle.iloc_spec_grammar.specs.Faults as faults
+use Rattle.iloc_spec_grammar.specs.Faults.{Fault}
+use Rattle.iloc_spec_grammar.proofs.WordsLaws.{length-unicode_key}
+use Rattle.iloc_spec_grammar.proofs.MapLaws.{same_is}
+use Rattle.iloc_spec_grammar.proofs.PiecesLaws.{at_pieces}
+use Rattle.iloc_spec_grammar.proofs.Readings.{IsLong, long_script, long_region, long_attribute, not_two, two}
+use Rattle.iloc_spec_grammar.proofs.FaultLaws.{all_blocks}
+use Rattle.iloc_spec_parts.specs.Small.{SmallLocale, small_identifier}
+use Rattle.iloc_spec_parts.specs.SmallComputing.{small_identifier_result, has_small_variants, is_u, is_small_block, has_small_keyword, keyword_read, block_fault, blocks_result, after_identifier, small_result}
+use Rattle.iloc_spec_preferences.specs.DataLocales.{sd, agreed, made_of, named_subdivision, data_of_small, data_text}
+use Rattle.iloc_spec_preferences.specs.DataComputing.{data_result, data_of_result}
+use Rattle.iloc_spec_output.specs.Output as outputs
+use Rattle.iloc_subtags.specs.declared.parse_error.ParseError.TheVariants.{InvalidSubtag, InvalidExtension}
+use Rattle.iloc_plain.specs.Front.{GoesOn, IsFront, rest_of_block}
+use Rattle.iloc_plain.specs.Keyword.{IsKeywordOf, IsSingle, after_singleton}
+use Rattle.iloc_plain.specs.declared.front.Block.{Block}
+use Rattle.iloc_plain.specs.declared.front.Front.TheVariants as fronts
+use Rattle.iloc_plain.specs.declared.keyword.Keyword.TheVariants as keyword
+use Rattle.iloc_lines.specs.Output.{IsRefused}
+use Rattle.iloc_lines.specs.declared.Mode.TheVariants.{Data}
+use Rattle.iloc_lines.proofs.FrontAnswers.{BeginsWell, blocks_left, data_refused}
+
+-- ---- the block of `u`
+
+module _ (t : List ℕ) (b : Block) (l : BeginsWell t) (g : GoesOn (after_region (pieces t)) b) (u : is_u (get_or b.window.now 0 0) ≡ true) where
+  abbrev c : ℕ
+  c = get_or b.window.now 0 0
+
+  abbrev ps : List (List ℕ)
+  ps = after_singleton b
+
+  -- its singleton, and the pieces up to the next one
+  abbrev first : ℕ × List (List ℕ)
+  first = (c, front ps)
+
+  pieces_of_block : pieces (rest_of_block b) ≡ (c ∷ []) ∷ ps
+  pieces_of_block = at_pieces (λ qs. first_piece qs ≡ c ∷ [] → qs ≡ (c ∷ []) ∷ rest_of qs) (λ q qs e. ap (λ r. r ∷ qs) e) (rest_of_block b) g.singleton
+
+  no_x : (to_ascii_lowercase c == 120) ≡ false
+  no_x = let same : to_ascii_lowercase c ≡ 117 = grind (arith, nat_tests, u) in grind (arith, nat_tests)
+
+  after_is : after_front (pieces t) ≡ pieces (rest_of_block b)
+  unfolding after_front
+  after_is = g.rest
+
+  found : tail_blocks (pieces t) ≡ first ∷ blocks ps
+  found = blocks_left t l ∙ ap blocks (after_is ∙ pieces_of_block) ∙ ap (λ (x : Bool). cond x ((c, ps) ∷ []) (first ∷ blocks ps)) no_x
+
+  -- where no variant comes before it, nothing is left of the head
+  nothing_before : IsTrue b.is_first → front (after_region (pieces t)) ≡ []
+  nothing_before alone = ap front (g.first alone ∙ pieces_of_block)
+
+and-false : (b : Bool) → (b && false) ≡ false
+and-false true = refl
+and-false false = refl
+
+and_both : (a b : Bool) → (a && b) ≡ true → (a ≡ true) × (b ≡ true)
+and_both true b e = (refl, e)
+and_both false b e = absurd (true≢false (sym e))
+
+-- ---- pieces that make no small keyword
+
+no_key : (qs : List (List ℕ)) → is_word UnicodeKey (first_piece qs) ≡ false → has_small_keyword qs ≡ false
+no_key [] e = refl
+no_key (p ∷ qs) e = ap (λ (x : Bool). x && (list_all (is_word Attribute) qs && nat_le (length (normal_values qs)) 1)) e
+
+no_values : (qs : List (List ℕ)) → list_all (is_word Attribute) (rest_of qs) ≡ false → has_small_keyword qs ≡ false
+no_values [] e = refl
+no_values (p ∷ qs) e =
+    ap (λ (x : Bool). is_word UnicodeKey p && (x && nat_le (length (normal_values qs)) 1)) e ∙ and-false (is_word UnicodeKey p)
+
+front_first : (qs : List (List ℕ)) → IsLong (first_piece qs) → first_piece (front qs) ≡ first_piece qs
+front_first [] e = refl
+front_first (q ∷ qs) e = ap (λ (o : Bool). first_piece (cond o [] (q ∷ front qs))) e
+
+attribute_no_key : (p : List ℕ) → IsWord Attribute p → is_word UnicodeKey p ≡ false
+attribute_no_key p h = elim (cases_Bool (is_word UnicodeKey p)) [
+  | inl key ↦ absurd (true≢false (sym (two p key) ∙ not_two p h))
+  | inr other ↦ other
+]
+
+key_no_attribute : (p : List ℕ) → IsWord UnicodeKey p → is_word Attribute p ≡ false
+key_no_attribute p h = elim (cases_Bool (is_word Attribute p)) [
+  | inl word ↦ absurd (true≢false (sym (two p h) ∙ not_two p word))
+  | inr other ↦ other
+]
+
+key_long : (p : List ℕ) → IsWord UnicodeKey p → IsLong p
+key_long p h = let two : length p ≡ 2 = length-unicode_key p h in grind (arith, nat_tests)
+
+-- the fault by whether the singleton is a letter and `u`, and an attribute or a key follows
+abbrev fault_by : Bool → Bool → Bool → Bool → Fault
+fault_by a s x y =
+    if a then (if s then (if x then faults.InvalidSubtag else (if y then faults.InvalidSubtag else faults.InvalidExtension)) else faults.InvalidSubtag)
+    else faults.InvalidExtension
+
+fault_is : (b : ℕ × List (List ℕ)) (x y : Bool) → is_ascii_alphanumeric b.0 ≡ true → is_u b.0 ≡ true
+    → is_word Attribute (first_piece b.1) ≡ x → is_word UnicodeKey (first_piece b.1) ≡ y → block_fault b ≡ fault_by true true x y
+unfolding block_fault
+fault_is b x y letter u attribute key = λ j. fault_by (letter j) (u j) (attribute j) (key j)
+
+-- ---- pieces that make one
+
+skip_long : (q : List ℕ) (qs : List (List ℕ)) → IsLong q → blocks (q ∷ qs) ≡ blocks qs
+skip_long [] qs h = refl
+skip_long (c ∷ []) qs h = absurd (true≢false h)
+skip_long (c ∷ d ∷ p) qs h = refl
+
+front_long : (q : List ℕ) (qs : List (List ℕ)) → IsLong q → front (q ∷ qs) ≡ q ∷ front qs
+front_long q qs h = ap (λ (o : Bool). cond o [] (q ∷ front qs)) h
+
+values_whole : (qs : List (List ℕ)) → list_all (is_word Attribute) qs ≡ true → (front qs ≡ qs) × (blocks qs ≡ [])
+values_whole [] h = (refl, refl)
+values_whole (q ∷ qs) h =
+    let parts = and_both (is_word Attribute q) (list_all (is_word Attribute) qs) h in
+    let long = long_attribute q parts.0 in
+    let later = values_whole qs parts.1 in
+    (front_long q qs long ∙ ap (λ rs. q ∷ rs) later.0, skip_long q qs long ∙ later.1)
+
+few_values : (qs : List (List ℕ)) → length qs ≤ 1 → nat_le (length (normal_values qs)) 1 ≡ true
+few_values [] l = refl
+few_values (q ∷ []) l = at_most (not (is_true (lower q)))
+  where
+    at_most : (x : Bool) → nat_le (length (cond x (lower q ∷ []) [])) 1 ≡ true
+    at_most true = refl
+    at_most false = refl
+few_values (q ∷ r ∷ qs) l = absurd (omega arith)
+
+no_word : IsWord UnicodeKey [] → ⊥
+unfolding is_word
+no_word e = true≢false (sym e)
+
+abbrev both_hold : Bool → Bool → Bool
+both_hold x y = x && y
+
+-- what a keyword of one piece at most is read as
+record Reads (qs : List (List ℕ)) : Type 0 where
+  whole : front qs ≡ qs
+  alone : blocks qs ≡ []
+  small : has_small_keyword qs ≡ true
+  other : is_same (keyword_read qs).0 sd ≡ false
+
+single_reads : (qs : List (List ℕ)) → IsSingle qs → Reads qs
+single_reads [] s = absurd (no_word s.key)
+single_reads (q ∷ qs) s =
+    let long = key_long q s.key in
+    let values = values_whole qs s.values in
+    record {
+      whole = front_long q qs long ∙ ap (λ rs. q ∷ rs) values.0;
+      alone = skip_long q qs long ∙ values.1;
+      small = λ j. both (s.key j) (s.values j) (few_values qs s.few j);
+      other = elim (cases_Bool (is_same (lower q) sd)) [
+        | inl same ↦ absurd (s.other (same_is (lower q) sd same))
+        | inr differs ↦ differs
+      ];
+    }
+  where
+    both : Bool → Bool → Bool → Bool
+    both x y z = x && (y && z)
+
+-- ---- the head of a text with no variants
+
+abbrev PassesLong : Kind → Type 0
+PassesLong k = (p : List ℕ) → IsWord k p → IsLong p
+
+skip_front : (k : Kind) → PassesLong k → (qs : List (List ℕ)) → skip_first (is_word k) (front qs) ≡ front (skip_first (is_word k) qs)
+skip_front k long [] = refl
+skip_front k long (q ∷ qs) = elim (cases_Bool (is_word k q)) [
+  | inl fits ↦
+      ap (skip_first (is_word k)) (front_long q qs (long q fits))
+      ∙ (λ j. cond (fits j) (front qs) (q ∷ front qs)) ∙ sym (ap (λ (x : Bool). front (cond x qs (q ∷ qs))) fits)
+  | inr fails ↦ stays (is_one_byte q) refl fails ∙ sym (ap (λ (x : Bool). front (cond x qs (q ∷ qs))) fails)
+]
+  where
+    stays : (o : Bool) → is_one_byte q ≡ o → is_word k q ≡ false → skip_first (is_word k) (front (q ∷ qs)) ≡ front (q ∷ qs)
+    stays true one fails =
+        let none : front (q ∷ qs) ≡ [] = ap (λ (o : Bool). cond o [] (q ∷ front qs)) one in
+        ap (skip_first (is_word k)) none ∙ sym none
+    stays false one fails =
+        ap (skip_first (is_word k)) (front_long q qs one) ∙ ap (λ (x : Bool). cond x (front qs) (q ∷ front qs)) fails ∙ sym (front_long q qs one)
+
+head_region : (p : List ℕ) (qs : List (List ℕ)) → after_region (p ∷ front qs) ≡ front (after_region (p ∷ qs))
+head_region p qs =
+    ap (skip_first (is_word Region)) (skip_front Script long_script qs) ∙ skip_front Region long_region (skip_first (is_word Script) qs)
+
+-- so the head is small
+small_head : (p : List ℕ) (qs : List (List ℕ)) → IsWord (Language languages) p → front (after_region (p ∷ qs)) ≡ []
+    → small_identifier_result languages (p ∷ front qs) ≡ Ok (small_identifier (identifier_of (p ∷ front qs)))
+unfolding small_identifier_result identifier_of
+small_head p qs l none =
+    let few : has_small_variants (identifier_of (p ∷ front qs)).variants ≡ true = ap has_small_variants (head_region p qs ∙ none) in
+    λ j. if l j then (if few j then Ok (small_identifier (identifier_of (p ∷ front qs))) else Err faults.InvalidSubtag) else Err faults.InvalidLanguage
+
+-- ---- the answers
+
+module _ (t : List ℕ) (b : Block) (h : IsFront t (fronts.Block b)) (letter : is_ascii_alphanumeric (get_or b.window.now 0 0) ≡ true) (u : is_u (get_or b.window.now 0 0) ≡ true) where
+  abbrev block : ℕ × List (List ℕ)
+  block = first t b h.0 h.1 u
+
+  abbrev rest : List (List ℕ)
+  rest = after_singleton b
+
+  there : tail_blocks (pieces t) ≡ block ∷ blocks rest
+  there = found t b h.0 h.1 u
+
+  not_alone : (bs : List (ℕ × List (List ℕ))) → has_small_keyword (front rest) ≡ false → is_small_block block bs ≡ false
+  not_alone [] e = ap (λ (x : Bool). is_u block.0 && x) e ∙ and-false (is_u block.0)
+  not_alone (d ∷ bs) e = refl
+
+  pub attribute_refused : IsKeywordOf rest keyword.Attribute → IsRefused Data t InvalidSubtag
+  attribute_refused k =
+      let same = front_first rest (long_attribute (first_piece rest) k) in
+      let attribute : is_word Attribute (first_piece (front rest)) ≡ true = ap (is_word Attribute) same ∙ k in
+      let key : is_word UnicodeKey (first_piece (front rest)) ≡ false = ap (is_word UnicodeKey) same ∙ attribute_no_key (first_piece rest) k in
+      data_refused t block (blocks rest) h.0 there (not_alone (blocks rest) (no_key (front rest) key)) (fault_is block true false letter u attribute key)
+
+  pub misfit_refused : IsKeywordOf rest keyword.Misfit → IsRefused Data t InvalidSubtag
+  misfit_refused k =
+      let same = front_first rest (key_long (first_piece rest) k.0) in
+      let attribute : is_word Attribute (first_piece (front rest)) ≡ false = ap (is_word Attribute) same ∙ key_no_attribute (first_piece rest) k.0 in
+      let key : is_word UnicodeKey (first_piece (front rest)) ≡ true = ap (is_word UnicodeKey) same ∙ k.0 in
+      data_refused t block (blocks rest) h.0 there (by (blocks rest) refl) (fault_is block false true letter u attribute key)
+    where
+      by : (bs : List (ℕ × List (List ℕ))) → blocks rest ≡ bs → is_small_block block bs ≡ false
+      by [] none =
+          let whole : front rest ≡ rest = sym (append-nil (front rest)) ∙ ap (λ bs. front rest ++ flat_map block_pieces bs) (sym none) ∙ all_blocks rest in
+          not_alone [] (ap has_small_keyword whole ∙ no_values rest k.1)
+      by (d ∷ bs) e = refl
+
+  -- what is read of a whole text with such a keyword
+  single_result : IsTrue b.is_first → Reads rest → (r : SmallLocale) × (small_result languages t ≡ Ok r) × (data_of_small r ≡ None)
+  unfolding small_result after_identifier blocks_result
+  single_result alone read = at_pieces Found by t h.0 there (nothing_before t b h.0 h.1 u alone)
+    where
+      Found : List (List ℕ) → Type 0
+      Found qs = IsWord (Language languages) (first_piece qs) → tail_blocks qs ≡ block ∷ blocks rest → front (after_region qs) ≡ []
+          → (r : SmallLocale) × (after_identifier (small_identifier_result languages (head qs)) (tail_blocks qs) ≡ Ok r) × (data_of_small r ≡ None)
+
+      by : (p : List ℕ) (qs : List (List ℕ)) → Found (p ∷ qs)
+      by p qs l e none =
+          let id = small_identifier (identifier_of (p ∷ front qs)) in
+          let found : SmallLocale = record { id = id; keyword = Some (keyword_read rest) } in
+          let small : is_small_block (c t b h.0 h.1 u, rest) [] ≡ true = λ j. both_hold (u j) (read.small j) in (
+            found,
+            (λ j. after_identifier (small_head p qs l none j) (e j))
+                ∙ (λ j. blocks_result id ((c t b h.0 h.1 u, read.whole j) ∷ read.alone j))
+                ∙ (λ j. if small j then Ok found else Err (block_fault (c t b h.0 h.1 u, rest))),
+            ap (λ (x : Bool). option_map (λ part. made_of id.language id.script part id.variant)
+                (if x then option_map (λ s. Some (agreed id.region s)) (option_and_then named_subdivision (keyword_read rest).1) else None)) read.other,
+          )
+
+  pub single_refused : IsTrue b.is_first → IsKeywordOf rest keyword.Single → IsRefused Data t InvalidExtension
+  unfolding outputs.line_answer data_result
+  single_refused alone s =
+      let found = single_result alone (single_reads rest s) in
+      ap (λ r. outputs.text_or_refusal data_text (data_of_result r)) found.1
+      ∙ ap (λ o. outputs.text_or_refusal data_text (ok_or o faults.InvalidExtension)) found.2
