@@ -5,13 +5,17 @@ use denote.RawPtr.{Ptr, block_ptr, null_ptr}
 use Rattle.std.specs.Box.Ownership.{box_owns}
 use mir.Syntax.{Ty}
 use Rattle.std.specs.contracts.impls.GlobalAllocator.TheImpl.{ghosts}
-use Rattle.std_heap.proofs.Handle.{handle}
+use Rattle.std.specs.Global.{Global}
 use Rattle.iloc_locale.specs.declared.locale.Locale.{Locale}
 use Rattle.iloc_locale.specs.contracts.locale.Locale.{the_row}
 
+-- the heap, which is one value
+abbrev pub heap : Global
+heap = record { memory = record { seal = tt } }
+
 -- the right to free a block of the heap
 abbrev pub may_free : Ty → Ptr → Fml
-may_free = ghosts.dealloc_token handle
+may_free = ghosts.dealloc_token heap
 
 -- null owns nothing, and any other pointer the box of the locale
 abbrev pub owned : Ptr → Option Locale → Fml

@@ -9,11 +9,10 @@ use denote.Param.Send.{IsSend, AllSend, owning_send, struct_send, sendable}
 use Rattle.std.specs.Prelude.{Option, None, Some}
 use Rattle.std_alloc.proofs.SendSync.{quiet, lies}
 use Rattle.std.proofs.Crossing.{frees}
-use Rattle.std_heap.proofs.Handle.{handle}
 use Rattle.iloc_locale.specs.declared.locale.Locale.{Locale}
 use Rattle.iloc_locale.specs.contracts.locale.Locale as locale
 use Rattle.iloc_locale.proofs.locale.Locale.TheSendSync.{the_send as locale_send}
-use Rattle.iloc_handles.specs.Owned.{owned}
+use Rattle.iloc_handles.specs.Owned.{owned, heap}
 use Rattle.iloc_handles.specs.contracts.handle.Handle.{the_row, the_type}
 
 -- what a handle owns is tied to no thread
@@ -23,7 +22,7 @@ owned_by_any null_ptr (Some m) = tt
 owned_by_any (block_ptr b o) None = tt
 owned_by_any (block_ptr b o) (Some m) =
     let p = block_ptr b o in
-    (lies locale.the_row locale_send p m, frees.frees handle (raw (lone locale.the_row.mir)) p)
+    (lies locale.the_row locale_send p m, frees.frees heap (raw (lone locale.the_row.mir)) p)
 
 pub send : IsSend the_row
 send =
