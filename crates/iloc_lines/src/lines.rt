@@ -89,7 +89,7 @@ fn split_line(bytes: &[u8]) -> Option<(&[u8], &[u8])>
 }
 
 // Adds the reply to the line that this window begins with: at once if it is plain or refused for what
-// stands at its front, and else as the mode parses it.
+// stands at its front, and else as the mode parses it. Sixteen bytes behind the line may be loaded.
 #[inline(always)]
 fn reply_to<A: Answers>(
     answers: &mut A,
@@ -100,12 +100,12 @@ fn reply_to<A: Answers>(
     requires { take (length line.now) window.now ≡ line.now }
     ensures { OnOk result (held replies.new ≡ held replies.old ++ reply A.mode line.now) }
 {
-    if line.len() <= 16 && window.len() >= 16 {
-        if let Some(plain) = read_plain(window, line.len()) {
-            return replies.push_plain(&plain);
-        }
-    }
     if window.len() - line.len() >= 16 {
+        if line.len() <= 16 {
+            if let Some(plain) = read_plain(window, line.len()) {
+                return replies.push_plain(&plain);
+            }
+        }
         if let Some(error) = fault_at_front(answers.mode(), window, line) {
             return write_refusal(error, replies);
         }
