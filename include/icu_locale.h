@@ -298,8 +298,8 @@ icu_locale_status icu_locale_remove_keyword(icu_locale_t *locale, const uint8_t 
 ICU_LOCALE_TAKES(1) ICU_LOCALE_TELLS
 icu_locale_status icu_locale_clear_keywords(icu_locale_t *locale) ICU_LOCALE_NOEXCEPT;
 
-/* Attributes of the extension u, such as foo in en-u-foo, as variants. Each is 3 to 8 letters or digits. Adding and
- * removing one can allocate. */
+/* Attributes of the extension u, such as foo in en-u-foo: as variants. Each is 3 to 8 letters or digits; a text that is
+ * none is refused with INVALID_EXTENSION. Adding or removing one allocates. */
 ICU_LOCALE_TAKES(1) ICU_LOCALE_TELLS
 size_t icu_locale_attribute_count(icu_locale_t *locale) ICU_LOCALE_NOEXCEPT;
 ICU_LOCALE_TAKES(1, 5) ICU_LOCALE_TELLS
@@ -315,6 +315,47 @@ icu_locale_status icu_locale_remove_attribute(icu_locale_t *locale, const uint8_
     ICU_LOCALE_NOEXCEPT;
 ICU_LOCALE_TAKES(1) ICU_LOCALE_TELLS
 icu_locale_status icu_locale_clear_attributes(icu_locale_t *locale) ICU_LOCALE_NOEXCEPT;
+
+/* The identifier of the extension t, which begins with a language: de-latn of en-t-de-latn, written as de-Latn. It is
+ * NOT_FOUND if there is none. An empty text removes it. A text that is no identifier is refused as by icu_locale_check
+ * for an identifier. Setting allocates only if there are more than four variants. */
+ICU_LOCALE_TAKES(1, 4) ICU_LOCALE_TELLS
+icu_locale_status icu_locale_get_transform_language(icu_locale_t *locale, uint8_t *buffer, size_t room,
+    size_t *needed) ICU_LOCALE_NOEXCEPT;
+ICU_LOCALE_TAKES(1) ICU_LOCALE_TELLS
+icu_locale_status icu_locale_set_transform_language(icu_locale_t *locale, const uint8_t *text, size_t length)
+    ICU_LOCALE_NOEXCEPT;
+
+/* Fields of the extension t, such as m0-din in en-t-m0-din, by ascending key: as keywords, but that an empty value is
+ * written as true. Bytes that are no key (a letter and a digit) are refused with INVALID_EXTENSION, and so is a value
+ * that is empty or has another subtag than 3 to 8 letters or digits. Setting allocates only if the field is not there,
+ * or if the value has more than four subtags. */
+ICU_LOCALE_TAKES(1) ICU_LOCALE_TELLS
+size_t icu_locale_field_count(icu_locale_t *locale) ICU_LOCALE_NOEXCEPT;
+ICU_LOCALE_TAKES(1, 5) ICU_LOCALE_TELLS
+icu_locale_status icu_locale_get_field_key(icu_locale_t *locale, size_t index, uint8_t *buffer, size_t room,
+    size_t *needed) ICU_LOCALE_NOEXCEPT;
+ICU_LOCALE_TAKES(1, 5) ICU_LOCALE_TELLS
+icu_locale_status icu_locale_get_field_value(icu_locale_t *locale, size_t index, uint8_t *buffer, size_t room,
+    size_t *needed) ICU_LOCALE_NOEXCEPT;
+ICU_LOCALE_TAKES(1, 6) ICU_LOCALE_TELLS
+icu_locale_status icu_locale_get_field(icu_locale_t *locale, const uint8_t *key, size_t key_length,
+    uint8_t *buffer, size_t room, size_t *needed) ICU_LOCALE_NOEXCEPT;
+ICU_LOCALE_TAKES(1) ICU_LOCALE_TELLS
+icu_locale_status icu_locale_set_field(icu_locale_t *locale, const uint8_t *key, size_t key_length,
+    const uint8_t *value, size_t value_length) ICU_LOCALE_NOEXCEPT;
+ICU_LOCALE_TAKES(1) ICU_LOCALE_TELLS
+icu_locale_status icu_locale_clear_fields(icu_locale_t *locale) ICU_LOCALE_NOEXCEPT;
+
+/* The private extension with its x: x-a-b of en-x-a-b, an empty text if there is none. An empty text removes it. A text
+ * that is not x and subtags of 1 to 8 letters or digits is refused with INVALID_EXTENSION. Setting allocates only if
+ * there are more than four subtags. */
+ICU_LOCALE_TAKES(1, 4) ICU_LOCALE_TELLS
+icu_locale_status icu_locale_get_private(icu_locale_t *locale, uint8_t *buffer, size_t room, size_t *needed)
+    ICU_LOCALE_NOEXCEPT;
+ICU_LOCALE_TAKES(1) ICU_LOCALE_TELLS
+icu_locale_status icu_locale_set_private(icu_locale_t *locale, const uint8_t *text, size_t length)
+    ICU_LOCALE_NOEXCEPT;
 
 /* ICU_LOCALE_VERSION of the header that the library was made for. */
 extern uint32_t icu_locale_version(void) ICU_LOCALE_NOEXCEPT;

@@ -309,6 +309,17 @@ public:
     bool remove_keyword(std::string_view key) { return is_done(set(icu_locale_remove_keyword, key)); }
     void clear_keywords() { accept(detail::told(icu_locale_clear_keywords(&held_))); }
 
+    /* Attributes of the extension u, ascending, as variants. */
+    std::vector<std::string> attributes() const { return list(icu_locale_attribute_count, icu_locale_get_attribute); }
+    bool has_attribute(std::string_view text) const noexcept
+    {
+        return icu_locale_has_attribute(&held_, detail::bytes(text), text.size());
+    }
+    icu_locale::status try_add_attribute(std::string_view text) { return set(icu_locale_add_attribute, text); }
+    void add_attribute(std::string_view text) { accept(try_add_attribute(text)); }
+    bool remove_attribute(std::string_view text) { return is_done(set(icu_locale_remove_attribute, text)); }
+    void clear_attributes() { accept(detail::told(icu_locale_clear_attributes(&held_))); }
+
     friend bool operator==(const locale &one, const locale &other) noexcept
     {
         return &one == &other || icu_locale_eq(&one.held_, &other.held_);

@@ -113,7 +113,7 @@ class Model:
         """All that a caller reads, in a line."""
         text = self.written()
         fields = [text, self.base(), self.language, self.script, self.region, ",".join(sorted(self.variants))]
-        fields += [",".join(f"{key}={value}" for key, value in sorted(self.keywords.items()))]
+        fields += [",".join(sorted(self.attributes)), ",".join(f"{key}={value}" for key, value in sorted(self.keywords.items()))]
         return "\t".join([*fields, f"{int(text == 'und')}{int(self.is_well_formed())}", f"{self.hash():016x}"])
 
 
@@ -153,19 +153,52 @@ def pairs_wanted():
     return given, wanted
 
 
+def rows_of(crate):
+    """The rows of a crate of table tests, each as its call, its arguments and its answer."""
+    asked, answers = ((TOP / "crates" / crate / it).read_bytes().decode().split("\n") for it in ("stdin", "stdout"))
+    for row, answer in zip(asked, answers):
+        call, *words = row.split("\t")
+        yield call, [re.sub(rb"\\x(..)", lambda it: bytes([int(it[1], 16)]), word.encode()) for word in words], answer
+
+
 def rows_wanted():
     """The pairs of crates/test_locale_rows whose order the vectors have, with order and equality."""
-    rows = TOP / "crates" / "test_locale_rows"
-    asked, answers = ((rows / it).read_text(encoding="ascii").split("\n") for it in ("stdin", "stdout"))
     orders = {"Less": "-1", "Equal": "0", "Greater": "1"}
     given, wanted = [], []
-    for row, answer in zip(asked, answers):
-        call, *texts = row.split("\t")
+    for call, texts, answer in rows_of("test_locale_rows"):
         order, is_same, *_ = [*answer.split(" "), ""]
         if call == "two-locale" and len(texts) == 2 and order in orders:
-            given.append(tuple(re.sub(rb"\\x(..)", lambda it: bytes([int(it[1], 16)]), text.encode()) for text in texts))
+            given.append(tuple(texts))
             wanted.append(f"{orders[order]} {int(is_same == 'true')}")
     return given, wanted
+
+
+# For each kind of rows how its words are set in an empty locale, the text before them there, and how that is undone.
+SETTINGS = {
+    "word-language": (b"language\t0\t", "", b"language\t0\t"),
+    "word-script": (b"script\t0\t", "und-", b"script\t0\t"),
+    "word-region": (b"region\t0\t", "und-", b"region\t0\t"),
+    "word-variant": (b"add-variant\t0\t", "und-", b"clear-variants\t0"),
+    "word-ukey": (b"set-keyword\t0\t", "und-u-", b"clear-keywords\t0"),
+    "word-attribute": (b"add-attribute\t0\t", "und-u-", b"clear-attributes\t0"),
+    "uvalue": (b"set-keyword\t0\tca\t", "und-u-ca-", b"clear-keywords\t0"),
+}
+
+
+def settings_wanted(keeps_well_formed):
+    """The words and values of crates/test_word_rows and crates/test_part_rows, each set in an empty locale and taken out of it."""
+    steps, wanted = [], []
+    for call, words, answer in [*rows_of("test_word_rows"), *rows_of("test_part_rows")]:
+        # The answers to long rows tell a length, and no text.
+        if call not in SETTINGS or not words or not words[0] or {*b"\t\n"} & {*words[0]} or answer.startswith("as wanted"):
+            continue
+        start, front, end = SETTINGS[call]
+        normal = answer if call == "uvalue" else answer.split(" ")[0]
+        if keeps_well_formed and call == "uvalue" and any(len(it) == 2 for it in normal.split("-")):
+            answer = REFUSED_SUBTAG
+        steps += [start + words[0] + b"\t" * (call == "word-ukey"), end]
+        wanted += [f"{answer}\tund" if answer.startswith("! ") else f"ok\t{front}{normal}".rstrip("-"), "ok\tund"]
+    return steps, wanted
 
 
 class Script:
@@ -214,6 +247,10 @@ class Script:
     def is_variant(word):
         return re.fullmatch("[A-Za-z0-9]{5,8}|[0-9][A-Za-z0-9]{3}", word)
 
+    @staticmethod
+    def is_attribute(word):
+        return re.fullmatch("[A-Za-z0-9]{3,8}", word)
+
     def add_variant(self, it, _, word):
         if not self.is_variant(word):
             return REFUSED_SUBTAG
@@ -230,6 +267,24 @@ class Script:
 
     def clear_variants(self, it, _):
         it.variants.clear()
+        return "ok"
+
+    def add_attribute(self, it, _, word):
+        if not self.is_attribute(word):
+            return REFUSED_EXTENSION
+        it.attributes.add(word.lower())
+        return "ok"
+
+    def remove_attribute(self, it, _, word):
+        is_there = word.lower() in it.attributes
+        it.attributes.discard(word.lower())
+        return "ok" if is_there else "none"
+
+    def has_attribute(self, it, _, word):
+        return int(word.lower() in it.attributes)
+
+    def clear_attributes(self, it, _):
+        it.attributes.clear()
         return "ok"
 
     def set_keyword(self, it, _, key, value):
@@ -288,13 +343,14 @@ class Script:
         pick, at = self.random.choice, self.random.randrange(SLOTS)
         other = self.random.randrange(SLOTS)
         words = ["language", "script", "region", "add-variant", "add-variant", "remove-variant", "has-variant"]
+        words += ["add-attribute", "add-attribute", "remove-attribute", "has-attribute"]
         ways = [lambda: (pick(words), at, pick(WORDS))] * 10
         ways += [lambda: ("set-keyword", at, pick(KEYS), pick(VALUES))] * 5
         ways += [lambda: (pick(["get-keyword", "remove-keyword"]), at, pick(KEYS))] * 2
         ways += [lambda: (pick(["copy", "move", "compare", "compare"]), at, other)] * 2
         ways += [lambda: (pick(["parse", "against"]), at, pick(self.texts)), lambda: ("parts", at), lambda: ("parts", at)]
         if self.random.randrange(20) == 0:
-            ways = [lambda: (pick(["clear-variants", "clear-keywords"]), at)]
+            ways = [lambda: (pick(["clear-variants", "clear-attributes", "clear-keywords"]), at)]
         if self.random.randrange(40) == 0:
             text = self.slots[other].written().encode()
             ways = [lambda: ("against", at, text)] if text in self.known else ways

@@ -280,6 +280,53 @@ static void try_attributes(void)
     WANT(icu_locale_clear_keywords(&locale) == ICU_LOCALE_DONE && locale.at == NULL);
 }
 
+static const char *field(icu_locale_t *locale, const char *key)
+{
+    size_t needed = 77;
+    icu_locale_status status = icu_locale_get_field(locale, TEXT(key), (uint8_t *)last, ROOM - 1, &needed);
+    return ended(status, needed);
+}
+
+static void try_transform(void)
+{
+    icu_locale_t locale = ICU_LOCALE_UND;
+    WANT(strcmp(read_part(&locale, icu_locale_get_transform_language), "?") == 0 && icu_locale_field_count(&locale) == 0);
+    WANT(icu_locale_set_transform_language(&locale, NULL, 0) == ICU_LOCALE_DONE && locale.at == NULL);
+    WANT(icu_locale_set_transform_language(&locale, TEXT("DE-latn")) == ICU_LOCALE_DONE && is_now(&locale, "und-t-de-latn"));
+    WANT(strcmp(read_part(&locale, icu_locale_get_transform_language), "de-Latn") == 0);
+    WANT(icu_locale_set_transform_language(&locale, TEXT("d")) == ICU_LOCALE_INVALID_LANGUAGE);
+    WANT(icu_locale_set_transform_language(&locale, TEXT("de-u-ca-roc")) == ICU_LOCALE_INVALID_SUBTAG);
+    WANT(icu_locale_set_field(&locale, TEXT("M0"), TEXT("din")) == ICU_LOCALE_DONE && is_now(&locale, "und-t-de-latn-m0-din"));
+    WANT(icu_locale_set_field(&locale, TEXT("h0"), TEXT("True")) == ICU_LOCALE_DONE);
+    WANT(is_now(&locale, "und-t-de-latn-h0-true-m0-din") && icu_locale_field_count(&locale) == 2);
+    WANT(strcmp(field(&locale, "m0"), "din") == 0 && strcmp(field(&locale, "H0"), "true") == 0);
+    WANT(strcmp(field(&locale, "s0"), "?") == 0 && strcmp(field(&locale, "mm"), "?") == 0 && strcmp(field(&locale, ""), "?") == 0);
+    WANT(strcmp(read_at(&locale, icu_locale_get_field_key, 0), "h0") == 0);
+    WANT(strcmp(read_at(&locale, icu_locale_get_field_key, 1), "m0") == 0);
+    WANT(strcmp(read_at(&locale, icu_locale_get_field_key, 2), "?") == 0);
+    WANT(strcmp(read_at(&locale, icu_locale_get_field_value, 0), "true") == 0);
+    WANT(strcmp(read_at(&locale, icu_locale_get_field_value, 1), "din") == 0);
+    WANT(strcmp(read_at(&locale, icu_locale_get_field_value, 2), "?") == 0);
+    WANT(icu_locale_set_field(&locale, TEXT("mm"), TEXT("din")) == ICU_LOCALE_INVALID_EXTENSION);
+    WANT(icu_locale_set_field(&locale, TEXT("m0"), NULL, 0) == ICU_LOCALE_INVALID_EXTENSION);
+    WANT(icu_locale_set_field(&locale, TEXT("m0"), TEXT("di")) == ICU_LOCALE_INVALID_EXTENSION);
+    WANT(is_now(&locale, "und-t-de-latn-h0-true-m0-din"));
+    WANT(icu_locale_set_transform_language(&locale, NULL, 0) == ICU_LOCALE_DONE && is_now(&locale, "und-t-h0-true-m0-din"));
+    WANT(icu_locale_clear_fields(&locale) == ICU_LOCALE_DONE && locale.at == NULL);
+}
+
+static void try_private(void)
+{
+    icu_locale_t locale = ICU_LOCALE_UND;
+    WANT(strcmp(read_part(&locale, icu_locale_get_private), "") == 0);
+    WANT(icu_locale_set_private(&locale, TEXT("X-A-bb")) == ICU_LOCALE_DONE && is_now(&locale, "und-x-a-bb"));
+    WANT(strcmp(read_part(&locale, icu_locale_get_private), "x-a-bb") == 0);
+    WANT(icu_locale_set_private(&locale, TEXT("a-bb")) == ICU_LOCALE_INVALID_EXTENSION);
+    WANT(icu_locale_set_private(&locale, TEXT("x")) == ICU_LOCALE_INVALID_EXTENSION);
+    WANT(icu_locale_set_private(&locale, TEXT("x-abcdefghi")) == ICU_LOCALE_INVALID_EXTENSION && is_now(&locale, "und-x-a-bb"));
+    WANT(icu_locale_set_private(&locale, NULL, 0) == ICU_LOCALE_DONE && locale.at == NULL);
+}
+
 /* Random calls, and a model of a locale. */
 
 struct model {
@@ -720,6 +767,21 @@ static icu_locale_status call_remove_attribute(icu_locale_t *it)
     return status == ICU_LOCALE_NOT_FOUND ? ICU_LOCALE_DONE : status;
 }
 
+static icu_locale_status call_transform_language(icu_locale_t *it)
+{
+    return icu_locale_set_transform_language(it, TEXT("de-aaaaa-bbbbb-ccccc-ddddd-eeeee"));
+}
+
+static icu_locale_status call_field(icu_locale_t *it)
+{
+    return icu_locale_set_field(it, TEXT("h0"), TEXT("aaa-bbb-ccc-ddd-eee"));
+}
+
+static icu_locale_status call_private(icu_locale_t *it)
+{
+    return icu_locale_set_private(it, TEXT("x-a-b-c-d-e-f"));
+}
+
 static icu_locale_status call_keyword(icu_locale_t *it)
 {
     return icu_locale_set_keyword(it, TEXT("nu"), TEXT("aaa-bbb-ccc-ddd-eee-fff"));
@@ -777,6 +839,9 @@ static void try_refused(void)
         refuse_each(call_add_attribute, starts[i], 1);
         refuse_each(call_remove_attribute, starts[i], i == 3);
         refuse_each(call_keyword, starts[i], 1);
+        refuse_each(call_transform_language, starts[i], 1);
+        refuse_each(call_field, starts[i], 1);
+        refuse_each(call_private, starts[i], 1);
         refuse_each(call_eq_text, starts[i], 1);
         refuse_each(call_nothing, starts[i], 0);
         WANT(live == held);
@@ -794,6 +859,8 @@ int main(int count, char **words)
         try_variants();
         try_keywords();
         try_attributes();
+        try_transform();
+        try_private();
     } else if (count == 4 && !strcmp(words[1], "script")) {
         try_script(strtoull(words[2], NULL, 10), strtol(words[3], NULL, 10));
     } else if (count == 2 && !strcmp(words[1], "refused")) {

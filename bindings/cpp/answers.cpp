@@ -73,7 +73,7 @@ static std::string parts(const locale &it)
     char hash[17];
     std::snprintf(hash, sizeof hash, "%016llx", static_cast<unsigned long long>(it.hash()));
     const std::vector<std::string> fields = {it.to_string(), it.base_name(), it.language(), it.script().value_or(""),
-        it.region().value_or(""), joined(it.variants()), joined(keywords),
+        it.region().value_or(""), joined(it.variants()), joined(it.attributes()), joined(keywords),
         std::string(it.is_und() ? "1" : "0") + (it.is_well_formed() ? "1" : "0"), hash};
     std::string text;
     for (const auto &field : fields)
@@ -157,6 +157,14 @@ static std::string take_step(std::array<locale, 4> &slots, const std::vector<std
         return bit(it.has_variant(argument));
     if (call == "clear-variants")
         return given([&] { it.clear_variants(); });
+    if (call == "add-attribute")
+        return given([&] { it.add_attribute(argument); });
+    if (call == "remove-attribute")
+        return found(it.remove_attribute(argument));
+    if (call == "has-attribute")
+        return bit(it.has_attribute(argument));
+    if (call == "clear-attributes")
+        return given([&] { it.clear_attributes(); });
     if (call == "set-keyword")
         return given([&] { it.set_keyword(argument, words.at(3)); });
     if (call == "get-keyword") {

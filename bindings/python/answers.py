@@ -40,7 +40,7 @@ def compared(first, second, mode):
 def parts(locale):
     keywords = ",".join(f"{key}={value}" for key, value in locale.keywords.items())
     fields = [str(locale), locale.base_name, locale.language, locale.script or "", locale.region or ""]
-    fields += [",".join(locale.variants), keywords]
+    fields += [",".join(locale.variants), ",".join(locale.attributes), keywords]
     # Each Locale is well-formed. A hash may be cut by the interpreter.
     assert Locale(str(locale)) == locale
     return "\t".join([*fields, f"{int(locale.is_und)}1", f"{locale.__hash__():016x}"])
@@ -69,39 +69,38 @@ def two_objects(first, second):
 
 def take_step(slots, call, at, *given):
     """What a step gives. As a Locale does not change, another takes its place."""
-    locale, texts = slots[at], [it.decode() for it in given] if call not in ("parse", "against") else given
+    locale, texts = slots[at], list(given)
+    word = texts[0].decode(errors="replace").lower() if texts else ""
     if call in ("language", "script", "region"):
         slots[at] = locale.replace(**{call: texts[0]})
     elif call == "parse":
         slots[at] = Locale(texts[0])
-    elif call == "has-variant":
-        return int(texts[0].lower() in locale.variants)
-    elif call == "add-variant":
-        slots[at] = locale.replace(variants=[*locale.variants, *texts])
-    elif call == "remove-variant":
-        left = [it for it in locale.variants if it != texts[0].lower()]
-        slots[at] = locale.replace(variants=left)
-        return "ok" if len(left) < len(locale.variants) else "none"
-    elif call == "clear-variants":
-        slots[at] = locale.replace(variants=[])
+    elif call.startswith(("add-", "remove-", "has-", "clear-")) and "keyword" not in call:
+        what, name = call.rstrip("s").split("-")
+        words = getattr(locale, f"{name}s")
+        if what == "has":
+            return int(word in words)
+        left = {"add": [*words, *texts], "remove": [it for it in words if it != word], "clear": []}[what]
+        slots[at] = locale.replace(**{f"{name}s": left})
+        return "none" if what == "remove" and len(left) == len(words) else "ok"
     elif call == "set-keyword":
         slots[at] = locale.replace(keywords={**locale.keywords, texts[0]: texts[1]})
     elif call == "clear-keywords":
         slots[at] = locale.replace(keywords={})
     elif call in ("get-keyword", "remove-keyword"):
         keywords = dict(locale.keywords)
-        value = keywords.pop(texts[0].lower(), None)
+        value = keywords.pop(word, None)
         if value is None:
             return "none"
         if call == "get-keyword":
             return f"={value}"
         slots[at] = locale.replace(keywords=keywords)
     elif call in ("copy", "move"):
-        slots[at] = slots[int(texts[0])]
-        if call == "move" and int(texts[0]) != at:
-            slots[int(texts[0])] = Locale("und")
+        slots[at] = slots[int(word)]
+        if call == "move" and int(word) != at:
+            slots[int(word)] = Locale("und")
     elif call == "compare":
-        return compared_objects(locale, slots[int(texts[0])])
+        return compared_objects(locale, slots[int(word)])
     else:
         return against(locale, texts[0]) if call == "against" else parts(locale)
     return "ok"

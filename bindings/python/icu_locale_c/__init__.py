@@ -129,18 +129,18 @@ _FORMS = {
     "hash": (_LOCALE,),
     "set_keyword": (_LOCALE, *_TEXT, *_TEXT),
     "get_keyword": (_LOCALE, *_TEXT, *_BUFFER),
-    **dict.fromkeys(("variant_count", "keyword_count"), (_LOCALE,)),
-    **dict.fromkeys(("clear_variants", "clear_keywords"), (_LOCALE,)),
-    **dict.fromkeys(("get_variant", "get_keyword_key", "get_keyword_value"), (_LOCALE, _SIZE, *_BUFFER)),
+    **dict.fromkeys(("variant_count", "keyword_count", "attribute_count"), (_LOCALE,)),
+    **dict.fromkeys(("clear_variants", "clear_keywords", "clear_attributes"), (_LOCALE,)),
+    **dict.fromkeys(("get_variant", "get_attribute", "get_keyword_key", "get_keyword_value"), (_LOCALE, _SIZE, *_BUFFER)),
     **dict.fromkeys(("to_string", "get_base_name", "get_language", "get_script", "get_region"), (_LOCALE, *_BUFFER)),
-    **dict.fromkeys(("set_language", "set_script", "set_region", "add_variant"), (_LOCALE, *_TEXT)),
+    **dict.fromkeys(("set_language", "set_script", "set_region", "add_variant", "add_attribute"), (_LOCALE, *_TEXT)),
 }
 _RETURNS = {
     "free": None,
     "hash": ctypes.c_uint64,
     **dict.fromkeys(("is_und", "is_well_formed", "eq"), _TRUTH),
     **dict.fromkeys(("cmp", "cmp_bytes"), ctypes.c_int8),
-    **dict.fromkeys(("variant_count", "keyword_count"), _SIZE),
+    **dict.fromkeys(("variant_count", "keyword_count", "attribute_count"), _SIZE),
 }
 _REMEDY = "run bindings/build in the repository, or name the library by ICU_LOCALE_LIBRARY"
 
@@ -393,6 +393,15 @@ class Locale:
         return types.MappingProxyType(dict(zip(keys, values)))
 
     @property
+    def attributes(self) -> Tuple[str, ...]:
+        """The attributes of the extension u, ascending.
+
+        >>> Locale("en-u-foo-bar").attributes
+        ('bar', 'foo')
+        """
+        return self._list(_library.icu_locale_attribute_count, _library.icu_locale_get_attribute)
+
+    @property
     def base_name(self) -> str:
         """The identifier alone, without extensions.
 
@@ -419,10 +428,11 @@ class Locale:
         region: Optional[Text] = _KEPT,
         variants: Iterable[Text] = _KEPT,
         keywords: Mapping[Any, Text] = _KEPT,
+        attributes: Iterable[Text] = _KEPT,
     ) -> "Locale":
         """Returns a locale that has these parts instead, and else those of this one.
 
-        None clears a language, script or region. All variants or keywords are replaced by those given.
+        None clears a language, script or region. All variants, keywords or attributes are replaced by those given.
 
         >>> locale = Locale("en-US-u-ca-buddhist")
         >>> locale.replace(language="fr", region=None)
@@ -448,7 +458,9 @@ class Locale:
         made._set("script", script)
         made._set("region", region)
         if variants is not _KEPT:
-            made._set_variants(variants)
+            made._fill("clear_variants", "add_variant", variants)
+        if attributes is not _KEPT:
+            made._fill("clear_attributes", "add_attribute", attributes)
         if keywords is not _KEPT:
             made._set_keywords(keywords)
         if not _library.icu_locale_is_well_formed(made._handle):
@@ -462,10 +474,10 @@ class Locale:
             given = b"" if text is None else _bytes(text)
             _raise(getattr(_library, f"icu_locale_set_{part}")(self._handle, given, len(given)))
 
-    def _set_variants(self, variants: Iterable[Text]) -> None:
-        _raise(_library.icu_locale_clear_variants(self._handle))
-        for given in map(_bytes, _texts(variants)):
-            _raise(_library.icu_locale_add_variant(self._handle, given, len(given)))
+    def _fill(self, clear: str, add: str, texts: Iterable[Text]) -> None:
+        _raise(getattr(_library, f"icu_locale_{clear}")(self._handle))
+        for given in map(_bytes, _texts(texts)):
+            _raise(getattr(_library, f"icu_locale_{add}")(self._handle, given, len(given)))
 
     def _set_keywords(self, keywords: Mapping[Any, Text]) -> None:
         if not isinstance(keywords, Mapping):

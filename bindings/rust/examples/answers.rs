@@ -11,7 +11,7 @@
 //! `answers script`: what each step on one of four locales gives, and the text of the locale after it.
 //! Fields stand between tabs. `tools/object_model.py` says what is wanted.
 
-use icu_locale_c::extensions::unicode::{Key, Value};
+use icu_locale_c::extensions::unicode::{Attribute, Key, Value};
 use icu_locale_c::subtags::{Language, Region, Script, Variant};
 use icu_locale_c::{check, compare, normalize, normalizing_eq, strict_cmp, Locale, Mode, Refusal};
 use std::collections::hash_map::DefaultHasher;
@@ -72,6 +72,7 @@ fn parts(it: &Locale) -> String {
         optional(it.script().map(|it| it.to_string())),
         optional(it.region().map(|it| it.to_string())),
         joined(&it.variants()),
+        joined(&it.attributes()),
         joined(&keywords),
         format!("{}{}", it.is_unknown() as u8, it.is_well_formed() as u8),
         format!("{:016x}", hash.finish()),
@@ -165,6 +166,16 @@ fn take_step(slots: &mut [Locale; 4], words: &[&[u8]]) -> Result<String, Refusal
         b"has-variant" => bit(Variant::try_from_utf8(text).is_ok_and(|it| slots[at].has_variant(&it))),
         b"clear-variants" => {
             slots[at].clear_variants();
+            ok()
+        }
+        b"add-attribute" => {
+            slots[at].push_attribute(Attribute::try_from_utf8(text)?);
+            ok()
+        }
+        b"remove-attribute" => found(Attribute::try_from_utf8(text).is_ok_and(|it| slots[at].remove_attribute(&it))),
+        b"has-attribute" => bit(Attribute::try_from_utf8(text).is_ok_and(|it| slots[at].has_attribute(&it))),
+        b"clear-attributes" => {
+            slots[at].clear_attributes();
             ok()
         }
         b"set-keyword" => {

@@ -48,7 +48,7 @@ pub mod subtags {
 pub mod extensions {
     /// Parts of the extension `u`.
     pub mod unicode {
-        pub use crate::parts::{Key, Value};
+        pub use crate::parts::{Attribute, Key, Value};
     }
 }
 

@@ -1,6 +1,6 @@
 //! Locales that a program holds.
 
-use crate::parts::{Key, Language, Region, Script, Value, Variant};
+use crate::parts::{Attribute, Key, Language, Region, Script, Value, Variant};
 use crate::{is_of_this_version, look_at_version, normalize, result, sys, Mode, Refusal};
 use std::alloc::{handle_alloc_error, Layout};
 use std::borrow::Cow;
@@ -273,6 +273,37 @@ impl Locale {
         self.clear(sys::icu_locale_clear_keywords);
     }
 
+    /// The attributes of the extension `u`, ascending.
+    pub fn attributes(&self) -> Vec<Attribute> {
+        self.list(
+            sys::icu_locale_attribute_count,
+            sys::icu_locale_get_attribute,
+            Attribute::of_normal,
+        )
+    }
+
+    /// Whether this attribute is there.
+    pub fn has_attribute(&self, attribute: &Attribute) -> bool {
+        self.has(sys::icu_locale_has_attribute, attribute.as_str())
+    }
+
+    /// Adds an attribute, and returns whether it was not there.
+    pub fn push_attribute(&mut self, attribute: Attribute) -> bool {
+        let is_new = !self.has_attribute(&attribute);
+        self.set(sys::icu_locale_add_attribute, attribute.as_str());
+        is_new
+    }
+
+    /// Removes an attribute, and returns whether it was there.
+    pub fn remove_attribute(&mut self, attribute: &Attribute) -> bool {
+        self.set(sys::icu_locale_remove_attribute, attribute.as_str())
+    }
+
+    /// Removes all attributes.
+    pub fn clear_attributes(&mut self) {
+        self.clear(sys::icu_locale_clear_attributes);
+    }
+
     fn set(&mut self, call: Setting, text: &str) -> bool {
         // SAFETY: the handle is used by this call alone, and pointer and length are those of a slice.
         was_there(unsafe { call(self.handle(), text.as_ptr(), text.len()) })
@@ -462,10 +493,11 @@ mod tests {
             (it.remove_keyword(&kn), it.keyword(&ca).unwrap().subtag_count()),
             (None, 2)
         );
-        assert_eq!(it.to_string(), "und-419-macos-u-attr-ca-islamic-civil");
+        assert!(it.push_attribute("zzz".parse().unwrap()) && it.has_attribute(&"attr".parse().unwrap()));
+        assert!(it.remove_attribute(&"attr".parse().unwrap()) && !it.remove_attribute(&"attr".parse().unwrap()));
+        assert_eq!(it.to_string(), "und-419-macos-u-zzz-ca-islamic-civil");
         it.clear_keywords();
-        assert_eq!(it.to_string(), "und-419-macos-u-attr");
-        it = locale("und-419-macos");
+        it.clear_attributes();
         it.clear_variants();
         it.set_region(None);
         assert!(it.is_unknown() && it == Locale::default() && it.is_well_formed());
@@ -485,6 +517,7 @@ mod tests {
         assert_eq!(Variant::try_from_str("pos").unwrap_err(), Refusal::InvalidSubtag);
         assert_eq!(Key::try_from_str("c1").unwrap_err(), Refusal::InvalidExtension);
         assert_eq!(Key::try_from_str("").unwrap_err(), Refusal::InvalidExtension);
+        assert_eq!(Attribute::try_from_str("ab").unwrap_err(), Refusal::InvalidExtension);
         assert_eq!(Value::try_from_str("a").unwrap_err(), Refusal::InvalidSubtag);
         assert_eq!(Value::try_from_str("TRUE").unwrap(), Value::default());
         assert_eq!("posix".parse::<Variant>().unwrap().as_str().len(), 5);

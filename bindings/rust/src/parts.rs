@@ -115,6 +115,13 @@ subtag!(
     |text| Locale::with_keyword(text, b"").map(|it| it.keywords().pop().map(|(key, _)| key))
 );
 
+subtag!(
+    /// An attribute of the extension `u`, such as `foo` in `en-u-foo`.
+    Attribute,
+    InvalidExtension,
+    |text| Locale::with(sys::icu_locale_add_attribute, text).map(|it| it.attributes().pop())
+);
+
 impl Language {
     /// The unknown language, `und`.
     pub const UNKNOWN: Self = Language(Short::UND);

@@ -158,5 +158,23 @@ extern "C" {
 
     pub fn icu_locale_clear_keywords(locale: *mut icu_locale_t) -> u32;
 
+    pub fn icu_locale_attribute_count(locale: *mut icu_locale_t) -> usize;
+
+    pub fn icu_locale_get_attribute(
+        locale: *mut icu_locale_t,
+        index: usize,
+        buffer: *mut u8,
+        room: usize,
+        needed: *mut usize,
+    ) -> u32;
+
+    pub fn icu_locale_has_attribute(locale: *mut icu_locale_t, text: *const u8, length: usize) -> bool;
+
+    pub fn icu_locale_add_attribute(locale: *mut icu_locale_t, text: *const u8, length: usize) -> u32;
+
+    pub fn icu_locale_remove_attribute(locale: *mut icu_locale_t, text: *const u8, length: usize) -> u32;
+
+    pub fn icu_locale_clear_attributes(locale: *mut icu_locale_t) -> u32;
+
     pub fn icu_locale_version() -> u32;
 }

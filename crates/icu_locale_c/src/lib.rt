@@ -21,6 +21,7 @@ ghost use Rattle.iloc_calls.specs.Numbers.{EndsAs, mode_number, number_of, words
 mod attributes;
 mod identifier;
 mod keywords;
+mod transform;
 mod variants;
 mod whole;
 

@@ -6,4 +6,5 @@ pub mod Identifier
 pub mod Keywords
 pub mod Owned
 pub mod Subtags
+pub mod Transform
 pub mod Whole

@@ -16,6 +16,7 @@ mod identifier;
 mod keywords;
 mod open_box;
 mod subtags;
+mod transform;
 mod variants;
 mod whole;
 
@@ -30,6 +31,10 @@ pub use identifier::{
 pub use keywords::{
     clear_keywords, get_keyword, get_keyword_key, get_keyword_value, keyword_count, remove_keyword,
     set_keyword,
+};
+pub use transform::{
+    clear_fields, field_count, get_field, get_field_key, get_field_value, get_private,
+    get_transform_language, set_field, set_private, set_transform_language,
 };
 pub use variants::{
     add_variant, clear_variants, get_variant, has_variant, remove_variant, variant_count,
