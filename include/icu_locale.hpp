@@ -283,21 +283,11 @@ public:
     /* Keywords of the extension u, as pairs of key and value, by ascending key. The value of kn in en-u-kn is empty. */
     std::vector<std::pair<std::string, std::string>> keywords() const
     {
-        std::vector<std::pair<std::string, std::string>> found;
-        const std::size_t count = icu_locale_keyword_count(&held_);
-        found.reserve(count);
-        for (std::size_t at = 0; at < count; at++)
-            found.emplace_back(*read_at(icu_locale_get_keyword_key, at), *read_at(icu_locale_get_keyword_value, at));
-        return found;
+        return pairs(icu_locale_keyword_count, icu_locale_get_keyword_key, icu_locale_get_keyword_value);
     }
 
     /* The value of the keyword with this key, if there is one. */
-    std::optional<std::string> keyword(std::string_view key) const
-    {
-        return read([key](icu_locale_t *held, std::uint8_t *buffer, std::size_t room, std::size_t *needed) {
-            return icu_locale_get_keyword(held, detail::bytes(key), key.size(), buffer, room, needed);
-        });
-    }
+    std::optional<std::string> keyword(std::string_view key) const { return read_by(icu_locale_get_keyword, key); }
 
     icu_locale::status try_set_keyword(std::string_view key, std::string_view value = {})
     {
@@ -319,6 +309,37 @@ public:
     void add_attribute(std::string_view text) { accept(try_add_attribute(text)); }
     bool remove_attribute(std::string_view text) { return is_done(set(icu_locale_remove_attribute, text)); }
     void clear_attributes() { accept(detail::told(icu_locale_clear_attributes(&held_))); }
+
+    /* The identifier of the extension t, such as de-Latn in en-t-de-latn, if there is one. An empty text removes it. */
+    std::optional<std::string> transform_language() const { return read(icu_locale_get_transform_language); }
+    icu_locale::status try_set_transform_language(std::string_view text)
+    {
+        return set(icu_locale_set_transform_language, text);
+    }
+    void set_transform_language(std::string_view text) { accept(try_set_transform_language(text)); }
+
+    /* Fields of the extension t, as pairs of key and value, by ascending key. */
+    std::vector<std::pair<std::string, std::string>> fields() const
+    {
+        return pairs(icu_locale_field_count, icu_locale_get_field_key, icu_locale_get_field_value);
+    }
+
+    /* The value of the field with this key, if there is one. */
+    std::optional<std::string> field(std::string_view key) const { return read_by(icu_locale_get_field, key); }
+
+    icu_locale::status try_set_field(std::string_view key, std::string_view value)
+    {
+        return detail::told(
+            icu_locale_set_field(&held_, detail::bytes(key), key.size(), detail::bytes(value), value.size()));
+    }
+
+    void set_field(std::string_view key, std::string_view value) { accept(try_set_field(key, value)); }
+    void clear_fields() { accept(detail::told(icu_locale_clear_fields(&held_))); }
+
+    /* The private extension with its x, such as x-a-b; empty if there is none. An empty text removes it. */
+    std::string private_extension() const { return *read(icu_locale_get_private); }
+    icu_locale::status try_set_private_extension(std::string_view text) { return set(icu_locale_set_private, text); }
+    void set_private_extension(std::string_view text) { accept(try_set_private_extension(text)); }
 
     friend bool operator==(const locale &one, const locale &other) noexcept
     {
@@ -366,6 +387,24 @@ private:
         return read([call, at](icu_locale_t *held, std::uint8_t *buffer, std::size_t room, std::size_t *needed) {
             return call(held, at, buffer, room, needed);
         });
+    }
+
+    template <class Call> std::optional<std::string> read_by(Call call, std::string_view key) const
+    {
+        return read([call, key](icu_locale_t *held, std::uint8_t *buffer, std::size_t room, std::size_t *needed) {
+            return call(held, detail::bytes(key), key.size(), buffer, room, needed);
+        });
+    }
+
+    template <class Count, class Key, class Value>
+    std::vector<std::pair<std::string, std::string>> pairs(Count count, Key key, Value value) const
+    {
+        std::vector<std::pair<std::string, std::string>> found;
+        const std::size_t number = count(&held_);
+        found.reserve(number);
+        for (std::size_t at = 0; at < number; at++)
+            found.emplace_back(*read_at(key, at), *read_at(value, at));
+        return found;
     }
 
     template <class Count, class Call> std::vector<std::string> list(Count count, Call call) const

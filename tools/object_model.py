@@ -16,6 +16,8 @@ WORDS += ["posix", "POSIX", "1994", "199a", "a199", "macos", "valencia", "fonipa
 WORDS += ["en-US", "-", "en-", "!!", "\N{LATIN SMALL LETTER E WITH ACUTE}a", "foo", "FOO", "attr", "fo", "toolongword"]
 KEYS = ["ca", "CA", "nu", "kn", "hc", "co", "x", "c1", "1c", "a8", "", "!!", "cal", "sd", "rg", "va"]
 VALUES = ["", "true", "TRUE", "buddhist", "Islamic-Civil", "false", "h12", "r", "ab", "roc-ab", "a-b", "phonebk", "-", "abc-"]
+FIELDS = ["m0", "M0", "k0", "i0", "h0", "00", "mm", "m", "", "s0"]
+PRIVATE = ["", "x", "x-a", "X-A-b", "a-b", "x-abcdefghi", "x-", "x-12345678-foo", "x-x-u-ca", "!!"]
 VALUES += ["aaa-bbb-ccc-ddd-eee", "true-foo-true", "12345678", "123456789", "latn"]
 
 
@@ -102,6 +104,23 @@ class Model:
             others,
         )
 
+    def transform(self):
+        """The identifier of the extension t, in its normal form, and the fields."""
+        before, fields = fields_of(self.others.get("t", []), lambda it: re.fullmatch("[a-z][0-9]", it))
+        if not before:
+            return "", dict(fields)
+        language, script, region, variants = identifier_of(before)
+        words = [language, script.capitalize(), region.upper(), *sorted(variants)]
+        return "-".join(it for it in words if it), dict(fields)
+
+    def set_transform(self, identifier, fields):
+        words = [it for it in identifier.lower().split("-") if it]
+        for key, value in sorted(fields.items()):
+            words += [key, *value]
+        self.others.pop("t", None)
+        if words:
+            self.others["t"] = words
+
     def hash(self):
         """FNV-1a of the normal form."""
         found = 0xCBF29CE484222325
@@ -114,6 +133,9 @@ class Model:
         text = self.written()
         fields = [text, self.base(), self.language, self.script, self.region, ",".join(sorted(self.variants))]
         fields += [",".join(sorted(self.attributes)), ",".join(f"{key}={value}" for key, value in sorted(self.keywords.items()))]
+        identifier, pairs = self.transform()
+        fields += [identifier, ",".join(f"{key}={'-'.join(value)}" for key, value in sorted(pairs.items()))]
+        fields.append("-".join(["x", *self.private]) if self.private else "")
         return "\t".join([*fields, f"{int(text == 'und')}{int(self.is_well_formed())}", f"{self.hash():016x}"])
 
 
@@ -208,6 +230,9 @@ class Script:
     def __init__(self, seed, known, keeps_well_formed=False):
         self.random, self.known, self.keeps = random.Random(seed), known, keeps_well_formed
         self.texts = [it for it in known if b"\t" not in it and b"\r" not in it]
+        normals = dict(zip(lines("texts.in"), (it.decode() for it in lines("langid.out"))))
+        self.identifiers = {it: normals[it] for it in self.texts if it in normals}
+        self.some = [*sorted(self.identifiers)[::7], *[b""] * 40]
         self.slots = [Model() for _ in range(SLOTS)]
         self.steps, self.wanted = [], []
 
@@ -310,6 +335,36 @@ class Script:
         it.keywords.clear()
         return "ok"
 
+    def transform_language(self, it, _, text):
+        normal = self.identifiers[text] if text else ""
+        if normal.startswith("! "):
+            return normal
+        it.set_transform(normal, it.transform()[1])
+        return "ok"
+
+    def set_field(self, it, _, key, value):
+        words = value.lower().split("-")
+        if not re.fullmatch("[A-Za-z][0-9]", key) or not all(re.fullmatch("[a-z0-9]{3,8}", it) for it in words):
+            return REFUSED_EXTENSION
+        identifier, fields = it.transform()
+        it.set_transform(identifier, {**fields, key.lower(): [it for it in words if it != "true"] or ["true"]})
+        return "ok"
+
+    def get_field(self, it, _, key):
+        value = it.transform()[1].get(key.lower())
+        return "none" if value is None else f"={'-'.join(value)}"
+
+    def clear_fields(self, it, _):
+        it.set_transform(it.transform()[0], {})
+        return "ok"
+
+    def private(self, it, _, text):
+        words = text.lower().split("-")
+        if text and (words[0] != "x" or not words[1:] or not all(re.fullmatch("[a-z0-9]{1,8}", it) for it in words)):
+            return REFUSED_EXTENSION
+        it.private = words[1:]
+        return "ok"
+
     def copy(self, _, at, other):
         self.slots[at] = self.twin(other)
         return "ok"
@@ -349,6 +404,10 @@ class Script:
         ways += [lambda: (pick(["get-keyword", "remove-keyword"]), at, pick(KEYS))] * 2
         ways += [lambda: (pick(["copy", "move", "compare", "compare"]), at, other)] * 2
         ways += [lambda: (pick(["parse", "against"]), at, pick(self.texts)), lambda: ("parts", at), lambda: ("parts", at)]
+        if self.random.randrange(8) == 0:
+            ways = [lambda: ("transform-language", at, pick(self.some))]
+            ways += [lambda: ("private", at, pick(PRIVATE)), lambda: ("get-field", at, pick(FIELDS)), lambda: ("clear-fields", at)]
+            ways += [lambda: ("set-field", at, pick(FIELDS), pick(VALUES))] * 3
         if self.random.randrange(20) == 0:
             ways = [lambda: (pick(["clear-variants", "clear-attributes", "clear-keywords"]), at)]
         if self.random.randrange(40) == 0:

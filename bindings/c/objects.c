@@ -88,6 +88,14 @@ static void write_list(icu_locale_t *locale, size_t count, reading_at call, read
     putchar('\t');
 }
 
+static void write_transform_language(icu_locale_t *locale)
+{
+    size_t length;
+    icu_locale_status status = icu_locale_get_transform_language(locale, reply, sizeof reply, &length);
+    write_part(status == ICU_LOCALE_NOT_FOUND && length == 0 ? ICU_LOCALE_DONE : status, length);
+    putchar('\t');
+}
+
 static void write_parts(icu_locale_t *locale)
 {
     write_field(locale, icu_locale_to_string);
@@ -98,6 +106,9 @@ static void write_parts(icu_locale_t *locale)
     write_list(locale, icu_locale_variant_count(locale), icu_locale_get_variant, NULL);
     write_list(locale, icu_locale_attribute_count(locale), icu_locale_get_attribute, NULL);
     write_list(locale, icu_locale_keyword_count(locale), icu_locale_get_keyword_key, icu_locale_get_keyword_value);
+    write_transform_language(locale);
+    write_list(locale, icu_locale_field_count(locale), icu_locale_get_field_key, icu_locale_get_field_value);
+    write_field(locale, icu_locale_get_private);
     printf("%d%d\t%016" PRIx64 "\n", icu_locale_is_und(locale), icu_locale_is_well_formed(locale), icu_locale_hash(locale));
 }
 

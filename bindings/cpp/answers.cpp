@@ -67,13 +67,17 @@ static std::string joined(const std::vector<std::string> &words)
 
 static std::string parts(const locale &it)
 {
-    std::vector<std::string> keywords;
-    for (const auto &[key, value] : it.keywords())
-        keywords.push_back(key + "=" + value);
+    const auto joined_pairs = [](const std::vector<std::pair<std::string, std::string>> &pairs) {
+        std::vector<std::string> words;
+        for (const auto &[key, value] : pairs)
+            words.push_back(key + "=" + value);
+        return joined(words);
+    };
     char hash[17];
     std::snprintf(hash, sizeof hash, "%016llx", static_cast<unsigned long long>(it.hash()));
     const std::vector<std::string> fields = {it.to_string(), it.base_name(), it.language(), it.script().value_or(""),
-        it.region().value_or(""), joined(it.variants()), joined(it.attributes()), joined(keywords),
+        it.region().value_or(""), joined(it.variants()), joined(it.attributes()), joined_pairs(it.keywords()),
+        it.transform_language().value_or(""), joined_pairs(it.fields()), it.private_extension(),
         std::string(it.is_und() ? "1" : "0") + (it.is_well_formed() ? "1" : "0"), hash};
     std::string text;
     for (const auto &field : fields)
@@ -165,6 +169,18 @@ static std::string take_step(std::array<locale, 4> &slots, const std::vector<std
         return bit(it.has_attribute(argument));
     if (call == "clear-attributes")
         return given([&] { it.clear_attributes(); });
+    if (call == "transform-language")
+        return given([&] { it.set_transform_language(argument); });
+    if (call == "private")
+        return given([&] { it.set_private_extension(argument); });
+    if (call == "set-field")
+        return given([&] { it.set_field(argument, words.at(3)); });
+    if (call == "get-field") {
+        const auto value = it.field(argument);
+        return value ? "=" + *value : "none";
+    }
+    if (call == "clear-fields")
+        return given([&] { it.clear_fields(); });
     if (call == "set-keyword")
         return given([&] { it.set_keyword(argument, words.at(3)); });
     if (call == "get-keyword") {

@@ -39,8 +39,10 @@ def compared(first, second, mode):
 
 def parts(locale):
     keywords = ",".join(f"{key}={value}" for key, value in locale.keywords.items())
+    pairs = ",".join(f"{key}={value}" for key, value in locale.fields.items())
     fields = [str(locale), locale.base_name, locale.language, locale.script or "", locale.region or ""]
     fields += [",".join(locale.variants), ",".join(locale.attributes), keywords]
+    fields += [locale.transform_language or "", pairs, locale.private or ""]
     # Each Locale is well-formed. A hash may be cut by the interpreter.
     assert Locale(str(locale)) == locale
     return "\t".join([*fields, f"{int(locale.is_und)}1", f"{locale.__hash__():016x}"])
@@ -75,7 +77,7 @@ def take_step(slots, call, at, *given):
         slots[at] = locale.replace(**{call: texts[0]})
     elif call == "parse":
         slots[at] = Locale(texts[0])
-    elif call.startswith(("add-", "remove-", "has-", "clear-")) and "keyword" not in call:
+    elif call.startswith(("add-", "remove-", "has-", "clear-")) and "keyword" not in call and "field" not in call:
         what, name = call.rstrip("s").split("-")
         words = getattr(locale, f"{name}s")
         if what == "has":
@@ -83,6 +85,14 @@ def take_step(slots, call, at, *given):
         left = {"add": [*words, *texts], "remove": [it for it in words if it != word], "clear": []}[what]
         slots[at] = locale.replace(**{f"{name}s": left})
         return "none" if what == "remove" and len(left) == len(words) else "ok"
+    elif call in ("transform-language", "private"):
+        slots[at] = locale.replace(**{call.replace("-", "_"): texts[0]})
+    elif call == "set-field":
+        slots[at] = locale.replace(fields={**locale.fields, texts[0]: texts[1]})
+    elif call == "get-field":
+        return f"={locale.fields[word]}" if word in locale.fields else "none"
+    elif call == "clear-fields":
+        slots[at] = locale.replace(fields={})
     elif call == "set-keyword":
         slots[at] = locale.replace(keywords={**locale.keywords, texts[0]: texts[1]})
     elif call == "clear-keywords":

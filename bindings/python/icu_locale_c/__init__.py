@@ -129,8 +129,12 @@ _FORMS = {
     "hash": (_LOCALE,),
     "set_keyword": (_LOCALE, *_TEXT, *_TEXT),
     "get_keyword": (_LOCALE, *_TEXT, *_BUFFER),
-    **dict.fromkeys(("variant_count", "keyword_count", "attribute_count"), (_LOCALE,)),
-    **dict.fromkeys(("clear_variants", "clear_keywords", "clear_attributes"), (_LOCALE,)),
+    "set_field": (_LOCALE, *_TEXT, *_TEXT),
+    **dict.fromkeys(("get_transform_language", "get_private"), (_LOCALE, *_BUFFER)),
+    **dict.fromkeys(("set_transform_language", "set_private"), (_LOCALE, *_TEXT)),
+    **dict.fromkeys(("get_field_key", "get_field_value"), (_LOCALE, _SIZE, *_BUFFER)),
+    **dict.fromkeys(("variant_count", "keyword_count", "attribute_count", "field_count"), (_LOCALE,)),
+    **dict.fromkeys(("clear_variants", "clear_keywords", "clear_attributes", "clear_fields"), (_LOCALE,)),
     **dict.fromkeys(("get_variant", "get_attribute", "get_keyword_key", "get_keyword_value"), (_LOCALE, _SIZE, *_BUFFER)),
     **dict.fromkeys(("to_string", "get_base_name", "get_language", "get_script", "get_region"), (_LOCALE, *_BUFFER)),
     **dict.fromkeys(("set_language", "set_script", "set_region", "add_variant", "add_attribute"), (_LOCALE, *_TEXT)),
@@ -140,7 +144,7 @@ _RETURNS = {
     "hash": ctypes.c_uint64,
     **dict.fromkeys(("is_und", "is_well_formed", "eq"), _TRUTH),
     **dict.fromkeys(("cmp", "cmp_bytes"), ctypes.c_int8),
-    **dict.fromkeys(("variant_count", "keyword_count", "attribute_count"), _SIZE),
+    **dict.fromkeys(("variant_count", "keyword_count", "attribute_count", "field_count"), _SIZE),
 }
 _REMEDY = "run bindings/build in the repository, or name the library by ICU_LOCALE_LIBRARY"
 
@@ -402,6 +406,35 @@ class Locale:
         return self._list(_library.icu_locale_attribute_count, _library.icu_locale_get_attribute)
 
     @property
+    def transform_language(self) -> Optional[str]:
+        """The identifier of the extension t, if there is one.
+
+        >>> Locale("en-t-de-latn-m0-din").transform_language
+        'de-Latn'
+        """
+        return self._read(_library.icu_locale_get_transform_language)
+
+    @property
+    def fields(self) -> Mapping[str, str]:
+        """The fields of the extension t, by ascending key. It does not change.
+
+        >>> dict(Locale("en-t-de-latn-m0-din").fields)
+        {'m0': 'din'}
+        """
+        keys = self._list(_library.icu_locale_field_count, _library.icu_locale_get_field_key)
+        values = self._list(_library.icu_locale_field_count, _library.icu_locale_get_field_value)
+        return types.MappingProxyType(dict(zip(keys, values)))
+
+    @property
+    def private(self) -> Optional[str]:
+        """The private extension with its x, if there is one.
+
+        >>> Locale("en-x-a-b").private
+        'x-a-b'
+        """
+        return self._read(_library.icu_locale_get_private) or None
+
+    @property
     def base_name(self) -> str:
         """The identifier alone, without extensions.
 
@@ -429,10 +462,14 @@ class Locale:
         variants: Iterable[Text] = _KEPT,
         keywords: Mapping[Any, Text] = _KEPT,
         attributes: Iterable[Text] = _KEPT,
+        transform_language: Optional[Text] = _KEPT,
+        fields: Mapping[Any, Text] = _KEPT,
+        private: Optional[Text] = _KEPT,
     ) -> "Locale":
         """Returns a locale that has these parts instead, and else those of this one.
 
-        None clears a language, script or region. All variants, keywords or attributes are replaced by those given.
+        None clears a language, script, region, transform_language or private. All variants, keywords, attributes or
+        fields are replaced by those given.
 
         >>> locale = Locale("en-US-u-ca-buddhist")
         >>> locale.replace(language="fr", region=None)
@@ -457,12 +494,16 @@ class Locale:
         made._set("language", language)
         made._set("script", script)
         made._set("region", region)
+        made._set("transform_language", transform_language)
+        made._set("private", private)
         if variants is not _KEPT:
             made._fill("clear_variants", "add_variant", variants)
         if attributes is not _KEPT:
             made._fill("clear_attributes", "add_attribute", attributes)
         if keywords is not _KEPT:
-            made._set_keywords(keywords)
+            made._fill_pairs("clear_keywords", "set_keyword", keywords)
+        if fields is not _KEPT:
+            made._fill_pairs("clear_fields", "set_field", fields)
         if not _library.icu_locale_is_well_formed(made._handle):
             _raise(_INVALID_SUBTAG)
         return made
@@ -479,13 +520,13 @@ class Locale:
         for given in map(_bytes, _texts(texts)):
             _raise(getattr(_library, f"icu_locale_{add}")(self._handle, given, len(given)))
 
-    def _set_keywords(self, keywords: Mapping[Any, Text]) -> None:
-        if not isinstance(keywords, Mapping):
-            raise TypeError(f"keywords are a mapping of keys to values, not {type(keywords).__name__}")
-        _raise(_library.icu_locale_clear_keywords(self._handle))
-        for key, value in keywords.items():
+    def _fill_pairs(self, clear: str, put: str, pairs: Mapping[Any, Text]) -> None:
+        if not isinstance(pairs, Mapping):
+            raise TypeError(f"a mapping of keys to values is wanted, not {type(pairs).__name__}")
+        _raise(getattr(_library, f"icu_locale_{clear}")(self._handle))
+        for key, value in pairs.items():
             at, text = _bytes(key), _bytes(value)
-            _raise(_library.icu_locale_set_keyword(self._handle, at, len(at), text, len(text)))
+            _raise(getattr(_library, f"icu_locale_{put}")(self._handle, at, len(at), text, len(text)))
 
     def strict_cmp(self, other: Text) -> int:
         """Returns the byte order of the normal form against the other text as it stands: -1, 0 or 1.

@@ -63,6 +63,11 @@ fn parts(it: &Locale) -> String {
         .iter()
         .map(|(key, value)| format!("{key}={value}"))
         .collect();
+    let fields: Vec<String> = it
+        .fields()
+        .iter()
+        .map(|(key, value)| format!("{key}={value}"))
+        .collect();
     let mut hash = Kept(0);
     it.hash(&mut hash);
     let fields = [
@@ -74,6 +79,9 @@ fn parts(it: &Locale) -> String {
         joined(&it.variants()),
         joined(&it.attributes()),
         joined(&keywords),
+        optional(it.transform_language()),
+        fields.join(","),
+        it.private_extension(),
         format!("{}{}", it.is_unknown() as u8, it.is_well_formed() as u8),
         format!("{:016x}", hash.finish()),
     ];
@@ -134,6 +142,10 @@ fn bit(is_so: bool) -> String {
     (is_so as u8).to_string()
 }
 
+fn lossy(text: &[u8]) -> String {
+    String::from_utf8_lossy(text).into_owned()
+}
+
 fn take_step(slots: &mut [Locale; 4], words: &[&[u8]]) -> Result<String, Refusal> {
     let number = |word: &[u8]| word.first().map_or(0, |digit| (digit - b'0') as usize);
     let (at, text) = (number(words[1]), words.get(2).copied().unwrap_or(b""));
@@ -176,6 +188,25 @@ fn take_step(slots: &mut [Locale; 4], words: &[&[u8]]) -> Result<String, Refusal
         b"has-attribute" => bit(Attribute::try_from_utf8(text).is_ok_and(|it| slots[at].has_attribute(&it))),
         b"clear-attributes" => {
             slots[at].clear_attributes();
+            ok()
+        }
+        b"transform-language" => {
+            slots[at].set_transform_language(&lossy(text))?;
+            ok()
+        }
+        b"private" => {
+            slots[at].set_private_extension(&lossy(text))?;
+            ok()
+        }
+        b"set-field" => {
+            slots[at].set_field(&lossy(text), &lossy(words[3]))?;
+            ok()
+        }
+        b"get-field" => slots[at]
+            .field(&lossy(text))
+            .map_or_else(|| found(false), |it| format!("={it}")),
+        b"clear-fields" => {
+            slots[at].clear_fields();
             ok()
         }
         b"set-keyword" => {

@@ -304,6 +304,72 @@ impl Locale {
         self.clear(sys::icu_locale_clear_attributes);
     }
 
+    /// The identifier of the extension `t`, such as `de-Latn` in `en-t-de-latn`.
+    pub fn transform_language(&self) -> Option<String> {
+        // SAFETY: `read` says so.
+        let call = |handle, buffer, room, needed| unsafe {
+            sys::icu_locale_get_transform_language(handle, buffer, room, needed)
+        };
+        self.read(call, str::to_owned)
+    }
+
+    /// Sets the identifier of the extension `t`; an empty text removes it.
+    pub fn set_transform_language(&mut self, text: &str) -> Result<(), Refusal> {
+        self.try_set(sys::icu_locale_set_transform_language, text)
+    }
+
+    /// The fields of the extension `t`, by ascending key.
+    pub fn fields(&self) -> Vec<(String, String)> {
+        let keys = self.list(
+            sys::icu_locale_field_count,
+            sys::icu_locale_get_field_key,
+            str::to_owned,
+        );
+        let values = self.list(
+            sys::icu_locale_field_count,
+            sys::icu_locale_get_field_value,
+            str::to_owned,
+        );
+        keys.into_iter().zip(values).collect()
+    }
+
+    /// The value of the field with this key.
+    pub fn field(&self, key: &str) -> Option<String> {
+        let call = |handle, buffer, room, needed| {
+            // SAFETY: `read` says so of the others; pointer and length are those of a slice.
+            unsafe { sys::icu_locale_get_field(handle, key.as_ptr(), key.len(), buffer, room, needed) }
+        };
+        self.read(call, str::to_owned)
+    }
+
+    /// Sets the value of a field.
+    pub fn set_field(&mut self, key: &str, value: &str) -> Result<(), Refusal> {
+        // SAFETY: the handle is used by this call alone, and pointers and lengths are those of slices.
+        result(unsafe {
+            sys::icu_locale_set_field(self.handle(), key.as_ptr(), key.len(), value.as_ptr(), value.len())
+        })
+    }
+
+    /// Removes all fields.
+    pub fn clear_fields(&mut self) {
+        self.clear(sys::icu_locale_clear_fields);
+    }
+
+    /// The private extension with its `x`, such as `x-a-b`; empty if there is none.
+    pub fn private_extension(&self) -> String {
+        self.part(sys::icu_locale_get_private, str::to_owned)
+    }
+
+    /// Sets the private extension, with its `x`; an empty text removes it.
+    pub fn set_private_extension(&mut self, text: &str) -> Result<(), Refusal> {
+        self.try_set(sys::icu_locale_set_private, text)
+    }
+
+    fn try_set(&mut self, call: Setting, text: &str) -> Result<(), Refusal> {
+        // SAFETY: the handle is used by this call alone, and pointer and length are those of a slice.
+        result(unsafe { call(self.handle(), text.as_ptr(), text.len()) })
+    }
+
     fn set(&mut self, call: Setting, text: &str) -> bool {
         // SAFETY: the handle is used by this call alone, and pointer and length are those of a slice.
         was_there(unsafe { call(self.handle(), text.as_ptr(), text.len()) })

@@ -176,5 +176,55 @@ extern "C" {
 
     pub fn icu_locale_clear_attributes(locale: *mut icu_locale_t) -> u32;
 
+    pub fn icu_locale_get_transform_language(
+        locale: *mut icu_locale_t,
+        buffer: *mut u8,
+        room: usize,
+        needed: *mut usize,
+    ) -> u32;
+
+    pub fn icu_locale_set_transform_language(locale: *mut icu_locale_t, text: *const u8, length: usize) -> u32;
+
+    pub fn icu_locale_field_count(locale: *mut icu_locale_t) -> usize;
+
+    pub fn icu_locale_get_field_key(
+        locale: *mut icu_locale_t,
+        index: usize,
+        buffer: *mut u8,
+        room: usize,
+        needed: *mut usize,
+    ) -> u32;
+
+    pub fn icu_locale_get_field_value(
+        locale: *mut icu_locale_t,
+        index: usize,
+        buffer: *mut u8,
+        room: usize,
+        needed: *mut usize,
+    ) -> u32;
+
+    pub fn icu_locale_get_field(
+        locale: *mut icu_locale_t,
+        key: *const u8,
+        key_length: usize,
+        buffer: *mut u8,
+        room: usize,
+        needed: *mut usize,
+    ) -> u32;
+
+    pub fn icu_locale_set_field(
+        locale: *mut icu_locale_t,
+        key: *const u8,
+        key_length: usize,
+        value: *const u8,
+        value_length: usize,
+    ) -> u32;
+
+    pub fn icu_locale_clear_fields(locale: *mut icu_locale_t) -> u32;
+
+    pub fn icu_locale_get_private(locale: *mut icu_locale_t, buffer: *mut u8, room: usize, needed: *mut usize) -> u32;
+
+    pub fn icu_locale_set_private(locale: *mut icu_locale_t, text: *const u8, length: usize) -> u32;
+
     pub fn icu_locale_version() -> u32;
 }

@@ -7,17 +7,19 @@ use Rattle.iloc_subtags.specs.Answers.{LanguageFault, SubtagFault}
 use Rattle.iloc_handles.specs.Finding.{Changing, Sets, Removes}
 use Rattle.iloc_handles.specs.Subtags.{IsOptional, IsNeither, HasWord, without_word}
 
--- one part is another, and all else is the same
-
+-- the language is another, and all else is the same
 abbrev pub with_language : Text → Locale → Locale
 with_language w M = record M { id = record M.id { language = w } }
 
+-- the script is another, or absent
 abbrev pub with_script : Option Text → Locale → Locale
 with_script o M = record M { id = record M.id { script = o } }
 
+-- the region is another, or absent
 abbrev pub with_region : Option Text → Locale → Locale
 with_region o M = record M { id = record M.id { region = o } }
 
+-- the variants are others
 abbrev pub with_variants : List Text → Locale → Locale
 with_variants ws M = record M { id = record M.id { variants = ws } }
 
@@ -25,17 +27,20 @@ with_variants ws M = record M { id = record M.id { variants = ws } }
 abbrev pub language_or_und : Option Text → Text
 language_or_und o = unwrap_or o (codes "und")
 
+-- the language becomes that of the text; nothing is allocated
 abbrev pub SetsLanguage : Text → Changing
 SetsLanguage t = Sets
     (λ before after. (o : Option Text) × IsOptional (Language languages) t o
     × (after ≡ with_language (language_or_und o) before))
     (LanguageFault (IsNeither (Language languages) t)) ⊥
 
+-- the script becomes that of the text, or absent
 abbrev pub SetsScript : Text → Changing
 SetsScript t = Sets
     (λ before after. (o : Option Text) × IsOptional Script t o × (after ≡ with_script o before))
     (SubtagFault (IsNeither Script t)) ⊥
 
+-- the region becomes that of the text, or absent
 abbrev pub SetsRegion : Text → Changing
 SetsRegion t = Sets
     (λ before after. (o : Option Text) × IsOptional Region t o × (after ≡ with_region o before))

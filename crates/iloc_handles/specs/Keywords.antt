@@ -33,10 +33,11 @@ value_at k ks = if is_word UnicodeKey k then find word_cmp (normal UnicodeKey k)
 abbrev pub keyword_text : Text → Locale → Option Text
 keyword_text k M = option_map join (value_at k (keywords_of M))
 
--- the key at an index, and its value
+-- the key at an index
 abbrev pub key_at : ℕ → Locale → Option Text
 key_at i M = option_map (λ f. f.0) (slice_get (keywords_of M) i)
 
+-- the text of the value at an index
 abbrev pub key_value_at : ℕ → Locale → Option Text
 key_value_at i M = option_map (λ f. join f.1) (slice_get (keywords_of M) i)
 

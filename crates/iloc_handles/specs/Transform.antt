@@ -32,6 +32,7 @@ abbrev pub IsOptionalIdentifier : Text → Option Identifier → Type 0
 IsOptionalIdentifier t None = t ≡ []
 IsOptionalIdentifier t (Some i) = IdentifierMeans languages (pieces t) i
 
+-- the identifier of the transform becomes that of the text, or absent
 abbrev pub SetsTransformLanguage : Text → Changing
 SetsTransformLanguage t = Sets
     (λ before after. (o : Option Identifier) × IsOptionalIdentifier t o
@@ -48,10 +49,11 @@ with_fields fs M =
     let m = M.extensions.transform in
     record M { extensions = record M.extensions { transform = record m { fields = fs } } }
 
--- the key at an index, and the text of its value
+-- the key at an index
 abbrev pub field_key_at : ℕ → Locale → Option Text
 field_key_at i M = option_map (λ f. f.0) (slice_get (fields_of M) i)
 
+-- the text of the value at an index
 abbrev pub field_value_at : ℕ → Locale → Option Text
 field_value_at i M = option_map (λ f. field_value_text f.1) (slice_get (fields_of M) i)
 
@@ -86,6 +88,7 @@ with_private ws M = record M { extensions = record M.extensions { private = ws }
 abbrev pub IsOptionalPrivate : Text → List Text → Type 0
 IsOptionalPrivate t ws = ((t ≡ []) × (ws ≡ [])) ⊎ PrivateText t ws
 
+-- the private subtags become those of the text
 abbrev pub SetsPrivate : Text → Changing
 SetsPrivate t = Sets
     (λ before after. (ws : List Text) × IsOptionalPrivate t ws × (after ≡ with_private ws before))
