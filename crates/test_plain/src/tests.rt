@@ -115,46 +115,46 @@ fn has_block(window: &[u8], len: usize, byte: u8, left: usize, is_first: bool) -
 
 #[test]
 fn a_line_without_a_language_is_told(rt: HostRuntime) {
-    assert!(rt; has_no_language(b"C\nen-us\nde-CH\nfr-FR\n", 1));
-    assert!(rt; has_no_language(b"en_US.UTF-8\nde-CH\nfr-FR\nsv-SE\n", 11));
-    assert!(rt; has_no_language(b"\nen-us\nde-CH\nfr-FR\n", 0));
-    assert!(rt; has_no_language(b"abcd-US\nde-CH\nfr-FR-posix\n", 7));
-    assert!(rt; has_no_language(b"abcdefghijklmnopqrstuvw\nde-CH\nfr-FR-posix\n", 23));
-    assert!(rt; has_no_language(b"1en-US\nde-CH\nfr-FR-posix\n", 6));
-    assert!(rt; !has_no_language(b"en-us\nde-CH\nfr-FR-posix\n", 5));
-    assert!(rt; !has_no_language(b"abcdefgh\nC\nfr-FR-x-abc\n", 8));
+    assert!(rt; has_no_language(b"C\nsr-Latn-RS\nde-CH\n", 1));
+    assert!(rt; has_no_language(b"en_US.UTF-8\nsr-Latn-RS\nde-CH\n", 11));
+    assert!(rt; has_no_language(b"\nsr-Latn-RS\nde-CH\n", 0));
+    assert!(rt; has_no_language(b"abcd-US\nsr-Latn-RS\nde-CH\n", 7));
+    assert!(rt; has_no_language(b"abcdefghijklmnopqrstuvw\nsr-Latn-RS\nde-CH\n", 23));
+    assert!(rt; has_no_language(b"1en-US\nsr-Latn-RS\nde-CH\n", 6));
+    assert!(rt; !has_no_language(b"en-us\nsr-Latn-RS\nde-CH\n", 5));
+    assert!(rt; !has_no_language(b"abcdefgh\nsr-Latn-RS\nde-CH\n", 8));
 }
 
 #[test]
 fn a_piece_that_fits_nowhere_is_told(rt: HostRuntime) {
-    assert!(rt; has_misfit(b"en-foo\nde-CH\nfr-FR-posix\n", 6));
-    assert!(rt; has_misfit(b"en-US-foo\nde-CH\nfr-FR-posix\n", 9));
-    assert!(rt; has_misfit(b"en-Latn-US-de\nde-CH\nfr-FR-posix\n", 13));
-    assert!(rt; has_misfit(b"en-posix-US\nde-CH\nfr-FR-posix\n", 11));
-    assert!(rt; has_misfit(b"en-US-posix-1996-!!-x-a\nde-CH\nfr-FR-posix\n", 23));
-    assert!(rt; has_misfit(b"en-\nde-CH\nfr-FR-posix\n", 3));
-    assert!(rt; has_misfit(b"abcdefgh-abcdefghijklmnopqrs\nde-CH\nfr-FR-posix\n", 28));
-    assert!(rt; !has_misfit(b"en-US\nde-CH\nfr-FR-posix\n", 5));
-    assert!(rt; !has_misfit(b"en-posix\nde-CH\nfr-FR-posix\n", 8));
+    assert!(rt; has_misfit(b"en-foo\nsr-Latn-RS\nde-CH\n", 6));
+    assert!(rt; has_misfit(b"en-US-foo\nsr-Latn-RS\nde-CH\n", 9));
+    assert!(rt; has_misfit(b"en-Latn-US-de\nsr-Latn-RS\nde-CH\n", 13));
+    assert!(rt; has_misfit(b"en-posix-US\nsr-Latn-RS\nde-CH\n", 11));
+    assert!(rt; has_misfit(b"en-US-posix-1996-!!-x-a\nsr-Latn-RS\nde-CH\n", 23));
+    assert!(rt; has_misfit(b"en-\nsr-Latn-RS\nde-CH\n", 3));
+    assert!(rt; has_misfit(b"abcdefgh-abcdefghijklmnopqrs\nsr-Latn-RS\nde-CH\n", 28));
+    assert!(rt; !has_misfit(b"en-US\nsr-Latn-RS\nde-CH\n", 5));
+    assert!(rt; !has_misfit(b"en-posix\nsr-Latn-RS\nde-CH\n", 8));
 }
 
 #[test]
 fn a_block_is_told(rt: HostRuntime) {
-    assert!(rt; has_block(b"en-u-ca\nde-CH\nfr-FR-posix\n", 7, b'u', 4, true));
-    assert!(rt; has_block(b"en-US-X-a\nde-CH\nfr-FR-posix\n", 9, b'X', 3, true));
+    assert!(rt; has_block(b"en-u-ca\nsr-Latn-RS\nde-CH\n", 7, b'u', 4, true));
+    assert!(rt; has_block(b"en-US-X-a\nsr-Latn-RS\nde-CH\n", 9, b'X', 3, true));
     assert!(rt;
         has_block(
-            b"abcdefgh-Latn-419-t\nde-CH\nfr-FR-posix\n",
+            b"abcdefgh-Latn-419-t\nsr-Latn-RS\nde-CH\n",
             19,
             b't',
             1,
             true
         )
     );
-    assert!(rt; has_block(b"en-Latn-!\nde-CH\nfr-FR-posix\n", 9, b'!', 1, true));
+    assert!(rt; has_block(b"en-Latn-!\nsr-Latn-RS\nde-CH\n", 9, b'!', 1, true));
     assert!(rt;
         has_block(
-            b"en-posix-1abc-u-ca\nde-CH\nfr-FR-posix\n",
+            b"en-posix-1abc-u-ca\nsr-Latn-RS\nde-CH\n",
             18,
             b'u',
             4,
@@ -187,13 +187,13 @@ fn has_single_keyword(window: &[u8], len: usize) -> bool {
 
 #[test]
 fn a_keyword_is_told(rt: HostRuntime) {
-    assert!(rt; has_attribute(b"en-u-foo-ca-bar\nde-CH\nfr-FR\n", 15));
-    assert!(rt; has_misfit_after_key(b"en-US-u-ca-buddhist-hc-h12\nde-CH\nfr-FR\n", 26));
-    assert!(rt; has_misfit_after_key(b"en-u-ca-foo-t-de\nde-CH\nfr-FR-x\n", 16));
-    assert!(rt; has_misfit_after_key(b"en-u-ca-\nde-CH\nfr-FR-posix-x\n", 8));
-    assert!(rt; has_single_keyword(b"en-US-u-ca-buddhist\nde-CH\nfr-FR-posix\n", 19));
-    assert!(rt; has_single_keyword(b"th-U-NU-THAI\nde-CH\nfr-FR-posix\n", 12));
-    assert!(rt; !has_single_keyword(b"en-u-sd-usca\nde-CH\nfr-FR-posix\n", 12));
-    assert!(rt; !has_single_keyword(b"en-u-SD-usca\nde-CH\nfr-FR-posix\n", 12));
-    assert!(rt; !has_single_keyword(b"en-u-ca-islamic-civil\nde-CH\nfr-FR\n", 21));
+    assert!(rt; has_attribute(b"en-u-foo-ca-bar\nsr-Latn-RS\nde-CH\n", 15));
+    assert!(rt; has_misfit_after_key(b"en-US-u-ca-buddhist-hc-h12\nsr-Latn-RS\nde-CH\n", 26));
+    assert!(rt; has_misfit_after_key(b"en-u-ca-foo-t-de\nsr-Latn-RS\nde-CH\n", 16));
+    assert!(rt; has_misfit_after_key(b"en-u-ca-\nsr-Latn-RS\nde-CH\n", 8));
+    assert!(rt; has_single_keyword(b"en-US-u-ca-buddhist\nsr-Latn-RS\nde-CH\n", 19));
+    assert!(rt; has_single_keyword(b"th-U-NU-THAI\nsr-Latn-RS\nde-CH\n", 12));
+    assert!(rt; !has_single_keyword(b"en-u-sd-usca\nsr-Latn-RS\nde-CH\n", 12));
+    assert!(rt; !has_single_keyword(b"en-u-SD-usca\nsr-Latn-RS\nde-CH\n", 12));
+    assert!(rt; !has_single_keyword(b"en-u-ca-islamic-civil\nsr-Latn-RS\nde-CH\n", 21));
 }
