@@ -192,6 +192,7 @@ impl Fields {
     }
 
     /// Parses keys with their values, as many as there are, into the empty map; of equal keys the first stays.
+    /// After a refusal the map holds some of what was parsed: drop it, or make it `empty`.
     pub fn fill_front(
         &mut self,
         alloc: Global,
