@@ -1,11 +1,13 @@
 -- The next piece, by its length.
-use Rattle.std.proofs.Common.{◌≡◌, ℕ, ◌≤◌, Bool, true, false, cond, List, [], length, take, refl, sym, ap, ◌∙◌, arith, Some, None, true≢false, nat_le}
+use Rattle.std.proofs.Common.{◌≡◌, ℕ, ◌≤◌, Bool, true, false, cond, List, [], ◌∷◌, length, take, refl, sym, ap, ◌∙◌, arith, Some, None, true≢false, nat_le}
 use Rattle.std.proofs.lemmas.Bool.Decides.{nat_tests}
+use Rattle.std.proofs.lemmas.Bool.{false_from_ne_true}
 use Rattle.std.proofs.lemmas.List.{length-take-le}
 use Rattle.iloc_spec_grammar.specs.Pieces.{pieces}
-use Rattle.iloc_spec_grammar.specs.Reading.{first_item, take_first}
+use Rattle.iloc_spec_grammar.specs.Reading.{EndsBefore, first_item, take_first}
 use Rattle.iloc_spec_grammar.specs.Words.{Kind, is_word}
 use Rattle.iloc_subtags.specs.Lengths.{has_length}
+use Rattle.iloc_subtags.specs.NextPiece.{next_has_length}
 use Rattle.iloc_subtags.proofs.LengthLaws.{word_has_length}
 use Rattle.iloc_subtags.specs.declared.subtag_iterator.SubtagIterator.{SubtagIterator}
 use Rattle.iloc_subtags.specs.Left.{left}
@@ -38,3 +40,19 @@ none_left k it other = by (nat_le it.len (length it.text.now)) refl
         let h = from_le it.len (length it.text.now) e in
         ap (take_first (is_word k)) (it.first h)
         ∙ ap (λ b. cond b (Some (take it.len it.text.now)) None) (other_length k (take it.len it.text.now) it.len (length-take-le it.len it.text.now h) other)
+
+-- the length that is kept tells that of the next piece; one beyond the text is more than a kind has
+pub next_length : (k : Kind) (it : SubtagIterator) → (has_length k it.len ≡ true → it.len ≤ 8) → has_length k it.len ≡ next_has_length k (left it)
+unfolding left
+next_length k it few = by (nat_le it.len (length it.text.now)) refl
+  where
+    by : (b : Bool) → nat_le it.len (length it.text.now) ≡ b → has_length k it.len ≡ next_has_length k (cond b (pieces it.text.now) [])
+    by true e =
+        let h = from_le it.len (length it.text.now) e in
+        sym (ap (next_has_length k) (it.first h) ∙ ap (has_length k) (length-take-le it.len it.text.now h))
+    by false e = false_from_ne_true _ (λ t. true≢false (sym (is_le it.len (length it.text.now) (it.within (few t))) ∙ e))
+
+-- a next piece of another length is no word of the kind
+pub ends_before : (k : Kind) (ps : List (List ℕ)) → next_has_length k ps ≡ false → EndsBefore (is_word k) ps
+ends_before k [] other = tt
+ends_before k (p ∷ ps) other = other_length k p (length p) refl other

@@ -1,5 +1,5 @@
 -- The words of each refusal.
-use Rattle.std.specs.Prelude.{ℕ, List, codes}
+use Rattle.std.specs.Prelude.{codes}
 use Rattle.iloc_spec_grammar.specs.Shapes.{Text}
 use Rattle.iloc_subtags.specs.declared.carry_error.CarryError.{CarryError}
 use Rattle.iloc_subtags.specs.declared.carry_error.CarryError.TheVariants.{Length, Word, OutOfMemory}

@@ -6,5 +6,6 @@ pub mod Lengths
 pub mod Judging
 pub mod FirstLength
 pub mod Left
+pub mod NextPiece
 pub mod CarryError
 pub mod Carrying

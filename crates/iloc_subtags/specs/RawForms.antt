@@ -1,5 +1,5 @@
 -- What reading a raw form answers.
-use Rattle.std.specs.Prelude.{◌≡◌, ◌≢◌, ℕ, List, Result, Ok, Err}
+use Rattle.std.specs.Prelude.{◌≡◌, ◌≢◌, ℕ, Result, Ok, Err}
 use Rattle.iloc_spec_grammar.specs.Shapes.{Text}
 use Rattle.iloc_spec_grammar.specs.Words.{Kind, raw}
 use Rattle.iloc_spec_grammar.specs.Values.{IsNormal}

@@ -1,28 +1,26 @@
 //! Why a row is refused.
 
-ghost use Rattle.std.specs.Prelude.{◌≡◌};
+ghost use Rattle.std.specs.Prelude.{◌≡◌, Some};
 
 use std::alloc::{AllocError, AllocFailed};
-use thiserror::Error;
+use std::error::Error;
+use std::fmt;
 
 /// Why a row of old raw forms is refused, or that memory has run out. It prints its words.
-#[derive(Clone, Debug, Drop, Error, PartialEq, Eq)]
+#[derive(Clone, Debug, Drop, PartialEq, Eq)]
 pub enum CarryError {
     /// The length is no multiple of three.
-    #[error("Length is not a multiple of three")]
     Length,
     /// The word at that place, counted from 0, is no old raw form of a language.
-    #[error("Invalid language word")]
     Word(usize),
     /// Memory was refused.
-    #[error("Out of memory")]
     OutOfMemory,
 }
 
 impl CarryError {
     ghost use Rattle.iloc_subtags.specs.CarryError.{words_of};
 
-    /// The words of this refusal, which `Display` prints too.
+    /// The words of this refusal.
     pub fn words(&self) -> &'static str
         ensures { result.now ≡ words_of self.now }
     {
@@ -33,6 +31,19 @@ impl CarryError {
         }
     }
 }
+
+/// Prints the words.
+impl fmt::Display for CarryError {
+    ghost use Rattle.iloc_subtags.specs.CarryError.{words_of};
+
+    ghost output = { λ error. Some (words_of error) };
+
+    fn fmt<W: fmt::Write>(&self, f: &mut fmt::Formatter<W>) -> fmt::Result {
+        f.write_str(self.words())
+    }
+}
+
+impl Error for CarryError {}
 
 /// A failed allocation is `OutOfMemory`.
 impl From<AllocError> for CarryError {

@@ -10,6 +10,7 @@
 //! A text is cut at each hyphen and nowhere else. (UTS #35, section 3 also lets underscores separate:
 //! docs/DIFFERENCES.md.) The empty text is one empty piece. Contracts see a `SubtagIterator` as the list of pieces that
 //! it has left, and each piece is a slice of the input. `take_word` takes the next piece if it is a word of a kind.
+//! `is_at_block` tells where a part ends.
 //!
 //! `carry_v1` converts languages stored by version 1.
 //!
@@ -41,6 +42,6 @@ pub use identifier_kinds::{
 };
 pub use kind::WordKind;
 pub use parse_error::ParseError;
-pub use reading::take_word;
+pub use reading::{is_at_block, next_has_length, take_byte, take_word};
 pub use subtag_iterator::SubtagIterator;
-pub use word_of::{WordOf, are_normal, is_normal};
+pub use word_of::{WordOf, are_normal, is_normal, subtag_of};

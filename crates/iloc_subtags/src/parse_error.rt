@@ -1,34 +1,30 @@
 //! Why a text is refused.
 
-ghost use Rattle.std.specs.Prelude.{◌≡◌};
+ghost use Rattle.std.specs.Prelude.{◌≡◌, Some};
 
 use std::alloc::{AllocError, AllocFailed};
-use thiserror::Error;
+use std::error::Error;
+use std::fmt;
 
 /// Why a text is refused, or that memory has run out. It prints its words.
-#[derive(Clone, Debug, Drop, Error, PartialEq, Eq)]
+#[derive(Clone, Debug, Drop, PartialEq, Eq)]
 pub enum ParseError {
     /// The first piece is no language, or a text that is to be a language is none.
-    #[error("The given language subtag is invalid")]
     InvalidLanguage,
     /// A piece does not fit where it stands, or a text is no script, region, variant or subtag.
-    #[error("Invalid subtag")]
     InvalidSubtag,
     /// An extension does not follow its rules, or a text is no subtag of an extension.
-    #[error("Invalid extension")]
     InvalidExtension,
     /// An extension begins a second time.
-    #[error("Duplicated extension")]
     DuplicatedExtension,
     /// Memory was refused.
-    #[error("Out of memory")]
     OutOfMemory,
 }
 
 impl ParseError {
     ghost use Rattle.iloc_subtags.specs.ParseError.{words_of};
 
-    /// The words of this refusal, which `Display` prints too.
+    /// The words of this refusal.
     pub fn words(&self) -> &'static str
         ensures { result.now ≡ words_of self.now }
     {
@@ -41,6 +37,19 @@ impl ParseError {
         }
     }
 }
+
+/// Prints the words.
+impl fmt::Display for ParseError {
+    ghost use Rattle.iloc_subtags.specs.ParseError.{words_of};
+
+    ghost output = { λ error. Some (words_of error) };
+
+    fn fmt<W: fmt::Write>(&self, f: &mut fmt::Formatter<W>) -> fmt::Result {
+        f.write_str(self.words())
+    }
+}
+
+impl Error for ParseError {}
 
 /// A failed allocation is `OutOfMemory`.
 impl From<AllocError> for ParseError {

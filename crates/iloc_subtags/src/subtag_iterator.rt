@@ -23,6 +23,7 @@ pub struct SubtagIterator<'a> {
 
 impl<'a> SubtagIterator<'a> {
     ghost use Rattle.iloc_subtags.specs.Left.{left};
+    ghost use Rattle.iloc_subtags.specs.NextPiece.{next_has_length};
 
     /// The pieces of this text.
     #[inline(always)]
@@ -63,6 +64,14 @@ impl<'a> SubtagIterator<'a> {
         ensures { option_copied result ≡ first_item (left self.now) }
     {
         self.text.get(..self.len)
+    }
+
+    // Whether the next piece is as long as subtags of the kind may be; not if none is left.
+    #[inline(always)]
+    pub(crate) fn next_has_length<K: WordKind<N>, const N: usize>(&self) -> bool
+        ensures { result ≡ next_has_length K.kind (left self.now) }
+    {
+        K::has_length(self.len)
     }
 
     // The next piece, which stays, if it is as long as subtags of the kind are.

@@ -3,10 +3,12 @@ ghost use Rattle.std.specs.Prelude.{IsTrue, ◌≡◌, ◌↔◌, ℕ, List, [],
 ghost use Rattle.std.specs.List.{AllByRecursion};
 ghost use Rattle.std.specs.Cmp.Lexicographic.{slice_cmp};
 ghost use Rattle.std.specs.Ordering.{nat_cmp};
-ghost use Rattle.iloc_spec_grammar.specs.Words.{lower, word, read, raw};
+ghost use Rattle.iloc_spec_grammar.specs.Shapes.{Text};
+ghost use Rattle.iloc_spec_grammar.specs.Words.{Subtag as the_kind, lower, word, read, raw};
 ghost use Rattle.iloc_spec_grammar.specs.Values.{IsNormal};
 ghost use Rattle.iloc_subtags.specs.RawForms.{ReadsRaw};
 
+use crate::identifier_kinds::Subtag;
 use crate::kind::WordKind;
 use crate::parse_error::ParseError;
 use iloc_tinystr::{ShortPiece, TinyAsciiStr};
@@ -161,6 +163,14 @@ impl<K: WordKind<N>, const N: usize> WordOf<K, N> {
     {
         self.as_str().eq_ignore_ascii_case(other)
     }
+}
+
+/// The subtag as one of any sort, for kinds whose subtags all are.
+pub fn subtag_of<K: WordKind<N>, const N: usize>(word: &WordOf<K, N>) -> Subtag
+    requires { (w : Text) → IsNormal K.kind w → IsNormal the_kind w }
+    ensures { result ≡ word.now }
+{
+    Subtag::from_known(TinyAsciiStr::from_piece(word.to_piece()))
 }
 
 /// A subtag is in the normal case of its kind: for a proof that has only the subtag. It does nothing.
