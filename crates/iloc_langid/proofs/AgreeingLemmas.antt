@@ -27,7 +27,7 @@ use Rattle.iloc_spec_grammar.proofs.ReadingLaws.{front_of-pieces, keep_all}
 use Rattle.iloc_langid.specs.declared.identifier.LanguageIdentifier.{LanguageIdentifier}
 use Rattle.iloc_langid.specs.Reads.{value_of}
 use Rattle.iloc_spec_grammar.proofs.SetLaws.{any-set_of}
-use Rattle.iloc_langid.proofs.FrontLemmas.{front_gives, whole_gives}
+use Rattle.iloc_langid.proofs.FrontLemmas.{plain_front, plain_of, front_gives, whole_gives}
 use Rattle.iloc_langid.proofs.SmallLemmas.{parts_are, after_region-pieces, past_none}
 
 turned : {X : Type 0} {xs ys : List X} → Reordered xs ys → Reordered ys xs
@@ -183,7 +183,7 @@ module _ (ps : List (List ℕ)) (first : List ℕ) (qs rs us : List (List ℕ)) 
 
   pub all_mean : l ≡ i.language → s ≡ i.script → r ≡ i.region → AreThese us i.variants → IdentifierMeans languages ps (value_of i)
   all_mean a b c v =
-      whole_gives ps [] i (front_gives ps first qs rs us [] i e w (sym a ∙ le) (sym b ∙ se) er (sym c ∙ re) eu
+      whole_gives ps [] i (front_gives ps us [] i (plain_front ps first qs rs us (plain_of i) e w (sym a ∙ le) (sym b ∙ se) er (sym c ∙ re) eu)
       (v.set_is ∙ ap (λ x. set_of (map lower x)) (sym all), subst (λ x. AllDifferent word_cmp (map lower x)) (sym all) v.different, sym none_after)) refl
     where
       all : passing (is_word Variant) us ≡ us

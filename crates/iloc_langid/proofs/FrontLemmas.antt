@@ -1,19 +1,19 @@
 -- From what a front is read as to what the whole or the head is read as.
-use Rattle.std.proofs.Common.{◌≡◌, ◌≢◌, ◌<◌, ℕ, Bool, true, false, List, [], ◌∷◌, ◌++◌, length, refl, sym, ap, ◌∙◌, subst, arith, append-nil, cond, Some, None, option_map, Result, Ok, Err, true≢false, ◌==◌}
+use Rattle.std.proofs.Common.{◌≡◌, ◌≢◌, ◌<◌, ℕ, Bool, true, false, List, [], ◌∷◌, ◌++◌, length, refl, sym, ap, ◌∙◌, subst, append-nil, cond, Some, None, option_map, Result, Ok, Err, true≢false}
 use Rattle.std.specs.Result.{result_and}
-use Rattle.std.proofs.lemmas.Bool.Decides.{nat_tests}
-use Rattle.std.proofs.lemmas.Bool.{false_from_ne_true}
 use Rattle.iloc_spec_grammar.specs.Words.{Language, Script, Region, is_word, IsWord, normal, lower, title, upper, languages}
 use Rattle.iloc_spec_grammar.specs.Meaning.{IdentifierMeans}
 use Rattle.iloc_spec_grammar.specs.Faults.{not_a_language, not_an_identifier}
 use Rattle.iloc_spec_grammar.specs.Blocks.{first_piece, front, head}
 use Rattle.iloc_spec_grammar.specs.Reading.{first_item}
-use Rattle.iloc_spec_grammar.specs.Reading.{take_first, skip_first, front_of, after_front, from_block, after_head, starts_block}
+use Rattle.iloc_spec_grammar.specs.Reading.{take_first, skip_first, after_region, front_of, after_front, from_block, after_head, starts_block}
 use Rattle.iloc_spec_grammar.proofs.ReadingLaws.{EndsWords, starts_ends, from_block_starts, front-from_block, front_long, after_long, starts_empty, after_front-append, front_means, refuses_more, refuses_repeat, front_of-append, front_is_front}
 use Rattle.iloc_spec_grammar.specs.Reading.{IdentifierFront}
 use Rattle.iloc_subtags.specs.declared.parse_error.ParseError.{ParseError}
 use Rattle.iloc_subtags.specs.declared.parse_error.ParseError.TheVariants.{InvalidLanguage, InvalidSubtag, InvalidExtension, DuplicatedExtension, OutOfMemory}
 use Rattle.iloc_langid.specs.declared.identifier.LanguageIdentifier.{LanguageIdentifier}
+use Rattle.iloc_langid.specs.declared.plain.PlainParts.{PlainParts}
+use Rattle.iloc_langid.specs.PlainReads.{IsPlainFront}
 use Rattle.iloc_langid.specs.Reads.{ReadsAs, FrontGives, FrontReadsAs, VariantsGive}
 
 pub no_empty_language : is_word (Language languages) [] ≡ false
@@ -32,41 +32,42 @@ none_first (p ∷ ps) e = by (is_word (Language languages) p) refl e
     by true h e = cc
     by false h e = h
 
--- the words of a front, one after the other
-pub front_gives : (ps : List (List ℕ)) (first : List ℕ) (qs rs us rest : List (List ℕ)) (i : LanguageIdentifier)
-    → ps ≡ first ∷ qs → IsWord (Language languages) first → i.language ≡ lower first
-    → i.script ≡ option_map title (take_first (is_word Script) qs) → rs ≡ skip_first (is_word Script) qs
-    → i.region ≡ option_map upper (take_first (is_word Region) rs) → us ≡ skip_first (is_word Region) rs
-    → VariantsGive us rest (Ok i.variants) → FrontGives ps rest (Ok i)
-unfolding front_of after_front
-front_gives ps first qs rs us rest i e w l s er r eu v =
-    let erest : us ≡ skip_first (is_word Region) (skip_first (is_word Script) qs) = eu ∙ ap (skip_first (is_word Region)) er in
-    let given : VariantsGive (skip_first (is_word Region) (skip_first (is_word Script) qs)) rest (Ok i.variants) = subst (λ x. VariantsGive x rest (Ok i.variants)) erest v in
-    subst (λ x. FrontGives x rest (Ok i)) (sym e)
-    (w, given.1, (λ j. record { language = l j; script = s j; region = (r ∙ ap (λ x. option_map upper (take_first (is_word Region) x)) er) j; variants = given.0 j }), given.2)
+-- the language, the script and the region, taken one after the other
+pub plain_front : (ps : List (List ℕ)) (first : List ℕ) (qs rs us : List (List ℕ)) (plain : PlainParts)
+    → ps ≡ first ∷ qs → IsWord (Language languages) first → plain.language ≡ lower first
+    → plain.script ≡ option_map title (take_first (is_word Script) qs) → rs ≡ skip_first (is_word Script) qs
+    → plain.region ≡ option_map upper (take_first (is_word Region) rs) → us ≡ skip_first (is_word Region) rs
+    → IsPlainFront ps us plain
+plain_front ps first qs rs us plain e w l s er r eu =
+    subst (λ x. IsPlainFront x us plain) (sym e)
+    (record { word = w; language = l; script = s; region = r ∙ ap (λ x. option_map upper (take_first (is_word Region) x)) er; after = eu ∙ ap (skip_first (is_word Region)) er })
 
-pub front_refuses : (ps : List (List ℕ)) (first : List ℕ) (qs rs us rest rest' : List (List ℕ)) (f : ParseError)
-    → ps ≡ first ∷ qs → IsWord (Language languages) first → rs ≡ skip_first (is_word Script) qs → us ≡ skip_first (is_word Region) rs
-    → VariantsGive us rest (Err f) → FrontGives ps rest' (Err f)
-unfolding front_of
-front_refuses ps first qs rs us rest rest' f e w er eu v =
-    subst (λ x. FrontGives x rest' (Err f)) (sym e) (by f (subst (λ x. VariantsGive x rest (Err f)) (eu ∙ ap (skip_first (is_word Region)) er) v))
-  where
-    by : (f : ParseError) → VariantsGive (skip_first (is_word Region) (skip_first (is_word Script) qs)) rest (Err f) → FrontGives (first ∷ qs) rest' (Err f)
-    by InvalidSubtag v = (w, v)
-    by OutOfMemory v = (w, v)
-    by InvalidLanguage v = absurd v
-    by InvalidExtension v = absurd v
-    by DuplicatedExtension v = absurd v
+abbrev pub plain_of : LanguageIdentifier → PlainParts
+plain_of i = record { language = i.language; script = i.script; region = i.region }
 
--- the same by the answer of what fills in the variants
-pub front_filled : (ps : List (List ℕ)) (first : List ℕ) (qs rs us rest : List (List ℕ)) (i : LanguageIdentifier) (r : Result (Unit {0}) ParseError)
-    → ps ≡ first ∷ qs → IsWord (Language languages) first → i.language ≡ lower first
-    → i.script ≡ option_map title (take_first (is_word Script) qs) → rs ≡ skip_first (is_word Script) qs
-    → i.region ≡ option_map upper (take_first (is_word Region) rs) → us ≡ skip_first (is_word Region) rs
-    → VariantsGive us rest (result_and r (Ok i.variants)) → FrontGives ps rest (result_and r (Ok i))
-front_filled ps first qs rs us rest i (Ok _) e w l s er r eu v = front_gives ps first qs rs us rest i e w l s er r eu v
-front_filled ps first qs rs us rest i (Err f) e w l s er r eu v = front_refuses ps first qs rs us rest rest f e w er eu v
+-- these, and the variants after them
+module _ (ps us rest : List (List ℕ)) (i : LanguageIdentifier) (plain : IsPlainFront ps us (plain_of i)) where
+  pub front_gives : VariantsGive us rest (Ok i.variants) → FrontGives ps rest (Ok i)
+  unfolding front_of after_front
+  front_gives v =
+      let given : VariantsGive (after_region ps) rest (Ok i.variants) = subst (λ x. VariantsGive x rest (Ok i.variants)) plain.after v in
+      (plain.word, given.1, (λ j. record { language = plain.language j; script = plain.script j; region = plain.region j; variants = given.0 j }), given.2)
+
+  front_refuses : (f : ParseError) → VariantsGive us rest (Err f) → FrontGives ps rest (Err f)
+  unfolding front_of
+  front_refuses f v = by f (subst (λ x. VariantsGive x rest (Err f)) plain.after v)
+    where
+      by : (f : ParseError) → VariantsGive (after_region ps) rest (Err f) → FrontGives ps rest (Err f)
+      by InvalidSubtag v = (plain.word, v)
+      by OutOfMemory v = (plain.word, v)
+      by InvalidLanguage v = absurd v
+      by InvalidExtension v = absurd v
+      by DuplicatedExtension v = absurd v
+
+  -- by the answer of what fills in the variants
+  pub front_filled : (r : Result (Unit {0}) ParseError) → VariantsGive us rest (result_and r (Ok i.variants)) → FrontGives ps rest (result_and r (Ok i))
+  front_filled (Ok _) v = front_gives v
+  front_filled (Err f) v = front_refuses f v
 
 -- where the front should end before rest
 module _ (p : List ℕ) (qs rest : List (List ℕ)) (ends : EndsWords rest) (r : List (List ℕ)) where
@@ -145,18 +146,6 @@ peeked_none (p ∷ ps) e = cc
 pub peeked_some : (ps : List (List ℕ)) (p : List ℕ) → Some p ≡ first_item ps → ps ≢ []
 peeked_some [] p e = cc
 peeked_some (q ∷ ps) p e = λ h. cc
-
-pub peeked_long : (ps : List (List ℕ)) (p : List ℕ) → Some p ≡ first_item ps → length p ≢ 1 → starts_block ps ≡ false
-peeked_long [] p e n = cc
-peeked_long (q ∷ ps) p e n = let k : p ≡ q = cc in subst (λ x. (length x == 1) ≡ false) k (false_from_ne_true _ (λ h. n (grind (arith, nat_tests))))
-
-pub peeked_short : (ps : List (List ℕ)) (p : List ℕ) → Some p ≡ first_item ps → length p ≡ 1 → starts_block ps ≡ true
-peeked_short [] p e n = cc
-peeked_short (q ∷ ps) p e n = let k : p ≡ q = cc in subst (λ x. (length x == 1) ≡ true) k (grind (arith, nat_tests))
-
-pub peeked_end : (ps : List (List ℕ)) → None ≡ first_item ps → starts_block ps ≡ true
-peeked_end [] e = refl
-peeked_end (p ∷ ps) e = cc
 
 -- the reading from the left is that of the longest front
 pub front_reads : (ps rest : List (List ℕ)) (r : Result LanguageIdentifier ParseError) → FrontGives ps rest r → FrontReadsAs ps rest r

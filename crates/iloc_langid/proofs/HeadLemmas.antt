@@ -1,11 +1,11 @@
 -- From the words at the front and the pieces after them to the whole text.
-use Rattle.std.proofs.Common.{◌≡◌, ◌≢◌, ℕ, ◌≤◌, ◌<◌, Bool, true, false, cond, List, [], ◌∷◌, length, get_or, refl, sym, ap, ◌∙◌, subst, arith, Option, Some, None, option_map, Result, Ok, Err, MatchResult, true≢false}
+use Rattle.std.proofs.Common.{◌≡◌, ◌≢◌, ℕ, Bool, true, false, cond, List, [], ◌∷◌, refl, sym, ap, ◌∙◌, subst, arith, Option, Some, None, option_map, Result, Ok, Err, MatchResult, true≢false}
 use Rattle.std.proofs.lemmas.Bool.{false_from_ne_true}
 use Rattle.std.proofs.lemmas.Bool.Decides.{nat_tests}
 use Rattle.iloc_spec_grammar.specs.Pieces.{pieces}
 use Rattle.iloc_spec_grammar.specs.Words.{Language, Script, Region, Variant, is_word, IsWord, lower, title, upper, languages}
 use Rattle.iloc_spec_grammar.specs.Blocks.{is_one_byte, front, blocks, head, tail_blocks, first_piece}
-use Rattle.iloc_spec_grammar.specs.Reading.{take_first, skip_first, after_region}
+use Rattle.iloc_spec_grammar.specs.Reading.{take_first, skip_first, after_region, starts_block}
 use Rattle.iloc_spec_grammar.specs.Faults.{Fault}
 use Rattle.iloc_spec_grammar.specs.Faults as faults
 use Rattle.iloc_spec_grammar.proofs.WordsLaws.{length-script, length-region, length-variant}
@@ -136,16 +136,6 @@ fault_reads t faults.InvalidSubtag h = h
 fault_reads t faults.InvalidExtension h = h
 fault_reads t faults.DuplicatedExtension h = no_duplicate t faults.DuplicatedExtension refl h
 
--- pieces of one byte, and others
-
-not_one : (q : List ℕ) → length q ≢ 1 → is_one_byte q ≡ false
-not_one q n = grind (arith, nat_tests)
-
-pub one_byte : (q : List ℕ) → 1 ≤ length q → length q < 2 → q ≡ get_or q 0 0 ∷ []
-one_byte [] l h = absurd (omega arith)
-one_byte (c ∷ []) l h = refl
-one_byte (c ∷ d ∷ q) l h = absurd (omega (arith, h))
-
 -- The whole text, where its head is read and these pieces are left.
 
 abbrev pub with_parts : Parts → Option Keyword → LocaleParts
@@ -166,13 +156,14 @@ module _ (t : List ℕ) (ps rest : List (List ℕ)) (p : Parts) (e : ps ≡ piec
   unfolding after_identifier blocks_result
   nothing_more n = answer_at (Ok (small_locale_of (with_parts p None))) (result_after (ap front n) ∙ ap (λ l. after_identifier (Ok (small_of p)) (blocks l)) n)
 
-  pub more_pieces : (q : List ℕ) (later : List (List ℕ)) → rest ≡ q ∷ later → length q ≢ 1 → SmallLocaleReadsAs t (Err InvalidSubtag)
-  more_pieces q later n more =
+  pub more_pieces : starts_block rest ≡ false → SmallLocaleReadsAs t (Err InvalidSubtag)
+  more_pieces more =
       subst (λ (l : List (List ℕ)). HasSmallIdentifierFault languages (head l) faults.InvalidSubtag → HasSmallFault languages t faults.InvalidSubtag) (sym e) (λ h. bad_head h)
-      (parts_more (head ps) (front rest) p (head_gives ps rest p g) some)
+      (parts_more (head ps) (front rest) p (head_gives ps rest p g) (some rest more))
     where
-      some : front rest ≢ []
-      some none = nonempty (sym (ap (λ b. cond b [] (q ∷ front later)) (not_one q more)) ∙ ap front (sym n) ∙ none)
+      some : (qs : List (List ℕ)) → starts_block qs ≡ false → front qs ≢ []
+      some [] h = absurd (true≢false h)
+      some (q ∷ later) h = λ none. nonempty (sym (ap (λ b. cond b [] (q ∷ front later)) h) ∙ none)
         where
           nonempty : q ∷ front later ≡ [] → ⊥
           nonempty h = cc

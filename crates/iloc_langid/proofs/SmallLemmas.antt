@@ -1,5 +1,5 @@
 -- Identifiers with at most one variant, read from the left.
-use Rattle.std.proofs.Common.{◌≡◌, ◌≢◌, ℕ, ◌≤◌, Bool, true, false, cond, List, [], ◌∷◌, ◌++◌, length, map, refl, sym, ap, ◌∙◌, subst, arith, append-nil, option_map, Result, Ok, Err, IfOk, true≢false}
+use Rattle.std.proofs.Common.{◌≡◌, ◌≢◌, ℕ, ◌≤◌, Bool, true, false, cond, List, [], ◌∷◌, ◌++◌, length, map, refl, sym, ap, ◌∙◌, subst, arith, append-nil, Option, option_map, Result, Ok, Err, IfOk, true≢false}
 use Rattle.std.specs.List.{AllByRecursion}
 use Rattle.iloc_spec_grammar.specs.Words.{Language, Script, Region, Variant, is_word, IsWord, lower, title, upper, languages}
 use Rattle.iloc_spec_grammar.specs.Written.{Identifier, HasWords, identifier_pieces}
@@ -9,6 +9,8 @@ use Rattle.iloc_spec_grammar.proofs.ReadingLaws.{all_while, pieces-front_of, fro
 use Rattle.iloc_spec_parts.specs.Small.{SmallIdentifier, IsSmallIdentifier, HasSmallIdentifierFault, no_language, no_identifier, identifier_of_small}
 use Rattle.iloc_subtags.specs.declared.parse_error.ParseError.{ParseError}
 use Rattle.iloc_subtags.specs.declared.parse_error.ParseError.TheVariants.{InvalidLanguage, InvalidSubtag, InvalidExtension, DuplicatedExtension, OutOfMemory}
+use Rattle.iloc_langid.specs.declared.plain.PlainParts.{PlainParts}
+use Rattle.iloc_langid.specs.PlainReads.{IsPlainFront}
 use Rattle.iloc_langid.specs.SmallReads.{Parts, small_of, SmallReadsAs, front_parts, after_parts, SmallFrontGives}
 use Rattle.iloc_langid.proofs.FrontLemmas.{no_empty_language}
 use Rattle.iloc_spec_parts.proofs.SmallLaws.{short_different, small_identifier_means, one_small_identifier, small_identifier_apart, one_small_identifier_fault}
@@ -110,16 +112,12 @@ parts_refused ps rest InvalidExtension g = g
 parts_refused ps rest DuplicatedExtension g = g
 parts_refused ps rest OutOfMemory g = g
 
--- the parts at the front, taken one after the other
-pub parts_give : (ps : List (List ℕ)) (first : List ℕ) (qs rs us rest : List (List ℕ)) (p : Parts)
-    → ps ≡ first ∷ qs → IsWord (Language languages) first → p.0 ≡ lower first
-    → p.1 ≡ option_map title (take_first (is_word Script) qs) → rs ≡ skip_first (is_word Script) qs
-    → p.2 ≡ option_map upper (take_first (is_word Region) rs) → us ≡ skip_first (is_word Region) rs
-    → p.3 ≡ option_map lower (take_first variant us) → rest ≡ skip_first variant us → SmallFrontGives ps rest (Ok p)
-parts_give ps first qs rs us rest p e w l s er r eu v el =
-    let erest : us ≡ skip_first (is_word Region) (skip_first (is_word Script) qs) = eu ∙ ap (skip_first (is_word Region)) er in
-    subst (λ x. SmallFrontGives x rest (Ok p)) (sym e)
-    (w, (λ i. (l i, s i, (r ∙ ap (λ x. option_map upper (take_first (is_word Region) x)) er) i, (v ∙ ap (λ x. option_map lower (take_first variant x)) erest) i)), el ∙ ap (skip_first variant) erest)
+-- the parts at the front, and a variant after them
+pub parts_give : (ps us rest : List (List ℕ)) (plain : PlainParts) (v : Option (List ℕ)) → IsPlainFront ps us plain
+    → v ≡ option_map lower (take_first variant us) → rest ≡ skip_first variant us
+    → SmallFrontGives ps rest (Ok (plain.language, plain.script, plain.region, v))
+parts_give ps us rest plain v f e el =
+    (f.word, (λ i. (f.language i, f.script i, f.region i, (e ∙ ap (λ x. option_map lower (take_first variant x)) f.after) i)), el ∙ ap (skip_first variant) f.after)
 
 -- what is owed to each text
 

@@ -11,7 +11,7 @@ use Rattle.iloc_spec_grammar.specs.Written.{AllDifferent}
 use Rattle.iloc_spec_grammar.specs.Meaning.{set_of}
 use Rattle.iloc_spec_grammar.specs.Values.{IsNormal, IsAscending}
 use Rattle.iloc_spec_grammar.specs.Steps.{Reordered, none, front_kept, first_two, in_turn}
-use Rattle.iloc_spec_grammar.specs.Reading.{take_first, skip_first, passing, past}
+use Rattle.iloc_spec_grammar.specs.Reading.{EndsBefore, take_first, skip_first, passing, past}
 use Rattle.iloc_spec_grammar.proofs.MapLaws.{word_cmp_total}
 use Rattle.iloc_spec_grammar.proofs.Orders.{different_reordered}
 use Rattle.iloc_spec_grammar.proofs.SetLaws.{length-set_of, length-set_of-different}
@@ -218,3 +218,18 @@ not_less n l = omega (arith, l)
 
 pub few_done : (before now set later : List (List ℕ)) → TakingFew before now set → None ≡ option_map (normal Variant) (take_first (is_word Variant) now) → later ≡ skip_first (is_word Variant) now → VariantsGive before later (Ok set)
 few_done before now set later t e l = more_done before now set later set t.taking e l (sym (set_of_ascending set t.ascending)) (not_less (length set))
+
+-- a variant that no other follows
+
+ended : (ps : List (List ℕ)) → EndsBefore (is_word Variant) ps → (passing (is_word Variant) ps ≡ []) × (past (is_word Variant) ps ≡ ps)
+ended [] h = (refl, refl)
+ended (p ∷ ps) h = (rw h refl, rw h refl)
+
+pub one_variant : (ps rest : List (List ℕ)) (v : List ℕ) → Some v ≡ option_map lower (take_first (is_word Variant) ps) → rest ≡ skip_first (is_word Variant) ps → EndsBefore (is_word Variant) rest → VariantsGive ps rest (Ok (v ∷ []))
+one_variant ps rest v e r ends =
+    let (p, h, same, cut) = took Variant ps v e in
+    let whole : ps ≡ p ∷ rest = cut ∙ ap (λ l. p ∷ l) (sym r) in
+    let end = ended rest ends in
+    let taken : passing (is_word Variant) ps ≡ p ∷ [] = ap (passing (is_word Variant)) whole ∙ rw h (ap (λ l. p ∷ l) end.0) in
+    let after : past (is_word Variant) ps ≡ rest = ap (past (is_word Variant)) whole ∙ rw h end.1 in
+    (ap (λ w. w ∷ []) same ∙ ap (λ l. set_of (map lower l)) (sym taken), subst (λ l. AllDifferent word_cmp (map lower l)) (sym taken) (refl, tt), sym after)

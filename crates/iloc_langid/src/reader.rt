@@ -1,18 +1,18 @@
 //! Parses identifiers from pieces.
-ghost use Rattle.std.specs.Prelude.{◌≡◌, ◌<◌, ◌++◌, [], false, length, Ok, OnOk, OnErr};
+ghost use Rattle.std.specs.Prelude.{◌≡◌, ◌<◌, ◌++◌, [], length, Ok, OnOk, OnErr};
 ghost use Rattle.std.specs.Result.{result_and};
 ghost use Rattle.iloc_spec_grammar.specs.Pieces.{pieces};
 ghost use Rattle.iloc_spec_grammar.specs.Blocks.{head};
-ghost use Rattle.iloc_spec_grammar.specs.Reading.{after_head, EndsBefore};
-ghost use Rattle.iloc_spec_grammar.specs.Words.{Variant, is_word};
+ghost use Rattle.iloc_spec_grammar.specs.Reading.{after_head};
 ghost use Rattle.iloc_subtags.specs.Left.{left};
 ghost use Rattle.iloc_langid.specs.Reads.{value_of, VariantsGive, FrontGives, FrontReadsAs, ReadsAs};
 ghost use Rattle.iloc_langid.specs.Unknown.{unknown_identifier};
 
 use crate::identifier::LanguageIdentifier;
+use crate::plain::take_plain;
 use iloc_subtags::{
-    LanguageKind, ParseError, RegionKind, ScriptKind, SubtagIterator, VariantKind, WordKind,
-    WordOf, take_word,
+    ParseError, SubtagIterator, VariantKind, WordKind, WordOf, is_at_block, next_has_length,
+    take_word,
 };
 use iloc_word_set::{Variants, WordCollector};
 use std::alloc::Global;
@@ -34,7 +34,7 @@ fn fill_variants(
         return Ok(());
     };
     *variants = Variants::from_variant(first);
-    if may_be_variant(iter) {
+    if next_has_length::<VariantKind, 8>(iter) {
         return add_variants(alloc, iter, variants);
     }
     Ok(())
@@ -99,26 +99,13 @@ fn fill(
 ) -> Result<(), ParseError>
     ensures { FrontGives (left iter.old) (left iter.new) (result_and result (Ok identifier.new)) }
 {
-    let mut pieces = *iter;
-    let Some(language) = take_word::<LanguageKind, 8>(&mut pieces) else {
+    let Some(plain) = take_plain(iter) else {
         return Err(ParseError::InvalidLanguage);
     };
-    identifier.language = language;
-    identifier.script = take_word::<ScriptKind, 4>(&mut pieces);
-    identifier.region = take_word::<RegionKind, 3>(&mut pieces);
-    *iter = pieces;
+    identifier.language = plain.language;
+    identifier.script = plain.script;
+    identifier.region = plain.region;
     fill_variants(alloc, iter, &mut identifier.variants)
-}
-
-// Whether the next piece is long enough for a variant.
-#[inline(always)]
-fn may_be_variant(iter: &SubtagIterator<'_>) -> bool
-    ensures { result ≡ false → EndsBefore (is_word Variant) (left iter.now) }
-{
-    match iter.peek() {
-        Some(piece) => piece.len() >= 4,
-        None => false,
-    }
 }
 
 /// Parses the longest front of an identifier's subtags.
@@ -215,8 +202,8 @@ pub fn fill_head(
     ensures rest { OnOk result (left iter.new ≡ after_head (left iter.old)) }
 {
     fill(alloc, iter, identifier)?;
-    match iter.peek() {
-        Some(piece) if piece.len() != 1 => Err(ParseError::InvalidSubtag),
-        _ => Ok(()),
+    if !is_at_block(iter) {
+        return Err(ParseError::InvalidSubtag);
     }
+    Ok(())
 }

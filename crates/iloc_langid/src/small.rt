@@ -15,9 +15,9 @@ ghost use Rattle.iloc_subtags.specs.Left.{left};
 ghost use Rattle.iloc_langid.specs.SmallReads.{SmallFrontGives, SmallReadsAs, small_of};
 
 use crate::identifier::LanguageIdentifier;
+use crate::plain::take_plain;
 use iloc_subtags::{
-    Language, LanguageKind, ParseError, Region, RegionKind, Script, ScriptKind, SubtagIterator,
-    Variant, VariantKind, take_word,
+    Language, ParseError, Region, Script, SubtagIterator, Variant, VariantKind, take_word,
 };
 
 /// A language, and perhaps a script, a region and one variant.
@@ -28,13 +28,11 @@ pub type SmallParts = (Language, Option<Script>, Option<Region>, Option<Variant>
 pub fn read_small_front(iter: &mut SubtagIterator<'_>) -> Result<SmallParts, ParseError>
     ensures { SmallFrontGives (left iter.old) (left iter.new) result }
 {
-    let Some(language) = take_word::<LanguageKind, 8>(iter) else {
+    let Some(plain) = take_plain(iter) else {
         return Err(ParseError::InvalidLanguage);
     };
-    let script = take_word::<ScriptKind, 4>(iter);
-    let region = take_word::<RegionKind, 3>(iter);
     let variant = take_word::<VariantKind, 8>(iter);
-    Ok((language, script, region, variant))
+    Ok((plain.language, plain.script, plain.region, variant))
 }
 
 impl LanguageIdentifier {

@@ -14,7 +14,7 @@ ghost use Rattle.iloc_langid.specs.BlockReads.{
 use crate::small::read_small_front;
 use iloc_subtags::{
     Attribute, AttributeKind, Language, ParseError, Region, Script, Subtag, SubtagIterator,
-    UnicodeKey, UnicodeKeyKind, Variant, take_word,
+    UnicodeKey, UnicodeKeyKind, Variant, is_at_block, subtag_of, take_byte, take_word,
 };
 
 /// A keyword: a key and its value, which is absent if it would be `true`.
@@ -41,13 +41,13 @@ pub fn read_small_locale(code_units: &[u8]) -> Result<SmallLocaleParts, ParseErr
 {
     let mut iter = SubtagIterator::new(code_units);
     let (language, script, region, variant) = read_small_front(&mut iter)?;
-    let Some(piece) = iter.next() else {
+    if !is_at_block(&iter) {
+        return Err(ParseError::InvalidSubtag);
+    }
+    let Some(singleton) = take_byte(&mut iter) else {
         return Ok((language, script, region, variant, None));
     };
-    let [singleton] = piece else {
-        return Err(ParseError::InvalidSubtag);
-    };
-    let keyword = read_block(*singleton, &mut iter)?;
+    let keyword = read_block(singleton, &mut iter)?;
     Ok((language, script, region, variant, Some(keyword)))
 }
 
@@ -87,7 +87,7 @@ fn refusal_of_keyless(iter: &mut SubtagIterator<'_>) -> ParseError
 }
 
 // Parses the value that all the pieces left are; `None` if each of them is `true`.
-#[tactic(auto, using(crate::proofs::ValueLemmas::values))]
+#[tactic(auto, using(crate::proofs::ValueLemmas::values, iloc_spec_grammar::proofs::WellRead::attribute_is_subtag))]
 fn read_value(iter: &mut SubtagIterator<'_>) -> Result<Option<Subtag>, ParseError>
     ensures { result ≡ answer_of (value_result [] (left iter.old)) }
 {
@@ -113,12 +113,4 @@ fn is_true(word: &Attribute) -> bool
     ensures { result ≡ words.is_true word.now }
 {
     word.as_str() == "true"
-}
-
-// The subtag as a `Subtag`.
-#[tactic(auto, using(iloc_spec_grammar::proofs::WellRead::attribute_is_subtag))]
-fn subtag_of(word: &Attribute) -> Subtag
-    ensures { result ≡ word.now }
-{
-    Subtag::from_tinystr_unvalidated(word.to_tinystr())
 }

@@ -1,0 +1,37 @@
+//! Takes what most identifiers are: a language, and perhaps a script and a region.
+ghost use Rattle.std.specs.Prelude.{◌≡◌, MatchOption, false};
+ghost use Rattle.iloc_spec_grammar.specs.Blocks.{first_piece};
+ghost use Rattle.iloc_spec_grammar.specs.Words.{Language as language, is_word, languages};
+ghost use Rattle.iloc_subtags.specs.Left.{left};
+ghost use Rattle.iloc_langid.specs.PlainReads.{IsPlainFront};
+
+use iloc_subtags::{
+    Language, LanguageKind, Region, RegionKind, Script, ScriptKind, SubtagIterator, take_word,
+};
+
+/// A language, and perhaps a script and a region.
+#[derive(Clone, Copy)]
+pub(crate) struct PlainParts {
+    pub(crate) language: Language,
+    pub(crate) script: Option<Script>,
+    pub(crate) region: Option<Region>,
+}
+
+/// Takes the subtags at the front, each if it fits; `None` if the first piece is no language.
+#[inline(always)]
+pub(crate) fn take_plain(iter: &mut SubtagIterator<'_>) -> Option<PlainParts>
+    ensures { MatchOption result
+        (is_word (language languages) (first_piece (left iter.old)) ≡ false)
+        (λ plain. IsPlainFront (left iter.old) (left iter.new) plain) }
+{
+    let mut pieces = *iter;
+    let language = take_word::<LanguageKind, 8>(&mut pieces)?;
+    let script = take_word::<ScriptKind, 4>(&mut pieces);
+    let region = take_word::<RegionKind, 3>(&mut pieces);
+    *iter = pieces;
+    Some(PlainParts {
+        language,
+        script,
+        region,
+    })
+}
