@@ -15,7 +15,7 @@ ghost use Rattle.iloc_subtags.specs.Left.{left};
 ghost use Rattle.iloc_other.specs.Reading.{OtherReads, OtherTextReads, OtherTextWants};
 
 use crate::singleton::take_singleton;
-use iloc_subtags::{ParseError, Subtag, SubtagIterator, SubtagKind};
+use iloc_subtags::{ParseError, Subtag, SubtagIterator, SubtagKind, next_has_length};
 use iloc_word_set::WordList;
 use iloc_writeable::{Pieces, Sink, Writeable};
 use std::alloc::{AllocError, Global};
@@ -237,15 +237,14 @@ fn is_other_ext(ext: u8) -> bool
     ext.is_ascii_alphanumeric() && !matches!(ext, b't' | b'u' | b'x')
 }
 
-/// Takes the next piece if it has 2 to 8 bytes; else nothing is taken.
+/// Takes the next piece if it is as long as subtags are, 2 to 8 bytes; else nothing is taken.
+#[tactic(auto, unfolding(iloc_subtags::specs::Lengths::has_length))]
 fn take_piece<'a>(iter: &mut SubtagIterator<'a>) -> Option<&'a [u8]>
     ensures piece { option_copied result ≡ take_first has_other_length (left iter.old) }
     ensures rest { left iter.new ≡ skip_first has_other_length (left iter.old) }
 {
-    let piece = iter.peek()?;
-    if piece.len() < 2 || 8 < piece.len() {
+    if !next_has_length::<SubtagKind, 8>(iter) {
         return None;
     }
-    iter.next();
-    Some(piece)
+    iter.next()
 }
