@@ -2,7 +2,7 @@
 use icu_locale_core::ParseError;
 use icu_locale_core::extensions::other::Other;
 use icu_locale_core::extensions::private::Private;
-use icu_locale_core::extensions::transform::{Fields, Transform};
+use icu_locale_core::extensions::transform::Transform;
 use icu_locale_core::extensions::unicode::{Attributes, Keywords, Unicode};
 use icu_locale_core::parser::SubtagIterator;
 use std::alloc::Global;
@@ -40,15 +40,14 @@ pub fn attributes(alloc: Global, text: &str, out: &mut String) -> Result<(), Par
     rest(&pieces, out)
 }
 
-/// Says the fields that the text begins with, and the first piece that is left.
+/// Says the fields that the text begins with, after an identifier or none, and the first piece that is left.
 pub fn fields(alloc: Global, text: &str, out: &mut String) -> Result<(), ParseError> {
     let mut pieces = SubtagIterator::new(text.as_bytes());
-    let mut fields = Fields::new(alloc);
-    fields.fill_front(alloc, &mut pieces)?;
-    write!(out, "{fields} ")?;
+    let mut transform = Transform::try_from_iter(alloc, &mut pieces)?;
+    write!(out, "{} ", transform.fields)?;
     rest(&pieces, out)?;
-    fields.empty();
-    write!(out, ", then {} fields", fields.as_slice().len())?;
+    transform.fields.empty();
+    write!(out, ", then {} fields", transform.fields.as_slice().len())?;
     Ok(())
 }
 

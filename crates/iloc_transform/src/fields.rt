@@ -190,27 +190,24 @@ impl Fields {
         let map = LiteMap::from_pairs(alloc, pairs)?;
         Ok(Fields::from(map))
     }
+}
 
-    /// Parses keys with their values, as many as there are, into the empty map; of equal keys the first stays.
-    /// After a refusal the map holds some of what was parsed: drop it, or make it `empty`.
-    pub fn fill_front(
-        &mut self,
-        alloc: Global,
-        iter: &mut SubtagIterator<'_>,
-    ) -> Result<(), ParseError>
-        requires { self.old ≡ [] }
-        ensures { FieldsFrontRead (left iter.old) (left iter.new)
-            (result_and result (Ok self.new)) }
-    {
-        'fields: while let Some(key) = take_word::<TransformKeyKind, 2>(iter) {
-            let value = Value::read_front(alloc, iter)?;
-            match self.add(alloc, key, value) {
-                Ok(()) => {}
-                Err(_) => return Err(ParseError::OutOfMemory),
-            }
-        }
-        Ok(())
+/// Parses keys with their values, as many as there are, into the empty map; of equal keys the first stays.
+/// After a refusal it holds the fields before the fault.
+pub(crate) fn fill_fields(
+    alloc: Global,
+    iter: &mut SubtagIterator<'_>,
+    fields: &mut Fields,
+) -> Result<(), ParseError>
+    requires { fields.old ≡ [] }
+    ensures { FieldsFrontRead (left iter.old) (left iter.new)
+        (result_and result (Ok fields.new)) }
+{
+    'keys: while let Some(key) = take_word::<TransformKeyKind, 2>(iter) {
+        let value = Value::read_front(alloc, iter)?;
+        fields.add(alloc, key, value)?;
     }
+    Ok(())
 }
 
 impl From<LiteMap<Key, Value>> for Fields {

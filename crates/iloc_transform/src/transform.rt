@@ -25,7 +25,7 @@ ghost use Rattle.iloc_subtags.specs.Judging.{Accepts, Refuses};
 ghost use Rattle.iloc_subtags.specs.Left.{left};
 ghost use Rattle.iloc_transform.specs.TransformReading.{TransformReads};
 
-use crate::Fields;
+use crate::fields::{Fields, fill_fields};
 use crate::lang::{cmp_langs, fill_lang, lowercase};
 use iloc_langid::LanguageIdentifier;
 use iloc_other::singleton::take_singleton;
@@ -152,7 +152,7 @@ pub fn fill_transform(
     ensures { TransformReads (left iter.old) (left iter.new) (result_and result (Ok transform.new)) }
 {
     fill_lang(alloc, iter, &mut transform.lang)?;
-    transform.fields.fill_front(alloc, iter)?;
+    fill_fields(alloc, iter, &mut transform.fields)?;
     if transform.is_empty() {
         return Err(ParseError::InvalidExtension);
     }

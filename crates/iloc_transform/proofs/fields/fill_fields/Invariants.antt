@@ -2,10 +2,10 @@
 use Rattle.std.proofs.Common.{length}
 use Rattle.iloc_subtags.specs.Left.{left}
 use Rattle.iloc_transform.proofs.FieldsLemmas.{TakingFields}
-use Rattle.iloc_transform.proofs.fields.Fields.fill_front.Given as goal
+use Rattle.iloc_transform.proofs.fields.fill_fields.Given as goal
 
-abbrev pub invariant-fields : goal.invariant-fields
-invariant-fields l = TakingFields (left l.fn.iter) (left l.iter) l.self
+abbrev pub invariant-keys : goal.invariant-keys
+invariant-keys l = TakingFields (left l.fn.iter) (left l.iter) l.fields
 
-abbrev pub decreases-fields : goal.decreases-fields
-decreases-fields l = length (left l.iter)
+abbrev pub decreases-keys : goal.decreases-keys
+decreases-keys l = length (left l.iter)
