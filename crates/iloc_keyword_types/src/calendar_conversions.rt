@@ -11,10 +11,11 @@ ghost use Rattle.iloc_keyword_types.specs.Calendars.{value_of};
 ghost use Rattle.iloc_keyword_types.specs.CalendarReading.{calendar_reads};
 
 use crate::calendar_algorithm::CalendarAlgorithm;
+use crate::enum_keyword::known_subtag;
 use crate::hijri::HijriCalendarAlgorithm;
 use crate::{PreferenceKey, WordEnum, find_word, known_keys};
 use iloc_subtags::UnicodeKey;
-use iloc_unicode_value::{PreferencesParseError, Value, subtag_of};
+use iloc_unicode_value::{PreferencesParseError, Value};
 use std::alloc::{AllocError, Global};
 
 // The calendar of one word: that of a variant, or an old form.
@@ -87,9 +88,9 @@ impl CalendarAlgorithm {
         ensures value { GivesValue (enum_gives the_keyword (value_of self.now)) result }
         ensures back { IfOk result (λ value. calendar_reads value ≡ Some (value_of self.now)) }
     {
-        let word = subtag_of(self.word());
+        let word = known_subtag(self.word());
         match self.kind() {
-            Some(kind) => Value::from_two_subtags(alloc, word, subtag_of(kind.word())),
+            Some(kind) => Value::from_two_subtags(alloc, word, known_subtag(kind.word())),
             None => Ok(Value::from_subtag(Some(word))),
         }
     }

@@ -9,12 +9,13 @@ ghost use Rattle.iloc_keyword_types.specs.Reads.{
   ReadsVariant,
   GivesVariant,
 };
-ghost use Rattle.iloc_spec_grammar.specs.Values.{spelled_value};
+ghost use Rattle.iloc_spec_grammar.specs.Words.{Subtag as subtag};
+ghost use Rattle.iloc_spec_grammar.specs.Values.{IsNormal, spelled_value};
 
 use crate::preference_key::PreferenceKey;
 use crate::word_enum::{WordEnum, find_word};
-use iloc_subtags::UnicodeKey;
-use iloc_unicode_value::{PreferencesParseError, Value, subtag_of};
+use iloc_subtags::{Subtag, UnicodeKey};
+use iloc_unicode_value::{PreferencesParseError, Value};
 use std::alloc::{AllocError, Global};
 
 /// A keyword whose values are the words of its variants, one each.
@@ -58,7 +59,18 @@ fn only_word(value: &Value) -> Option<&str>
 pub fn give_keyword<E: EnumKeyword>(keyword: E) -> Value
     ensures { GivesVariant E.keyword (E.place keyword) result }
 {
-    Value::from_subtag(Some(subtag_of(keyword.word())))
+    Value::from_subtag(Some(known_subtag(keyword.word())))
+}
+
+/// The subtag of a text that is one in its normal case.
+pub(crate) fn known_subtag(text: &str) -> Subtag
+    requires { IsNormal subtag text.now }
+    ensures { result ≡ text.now }
+{
+    match Subtag::try_from_str(text) {
+        Ok(word) => word,
+        Err(_) => unreachable!(),
+    }
 }
 
 /// Its key, what its value is parsed as, and the value that it is turned into, are those of the keyword.

@@ -40,7 +40,7 @@ pub mod word_enum;
 pub use calendar_algorithm::CalendarAlgorithm;
 pub use enum_keyword::{EnumKeyword, give_keyword, read_keyword};
 pub use hijri::HijriCalendarAlgorithm;
-pub use iloc_unicode_value::{PreferencesParseError, subtag_of};
+pub use iloc_unicode_value::PreferencesParseError;
 pub use preference_key::{PreferenceKey, key_of};
 pub use script_exclusions::DictionaryBreakScriptExclusions;
 pub use single_keyword::{KeywordKind, SingleKeyword, SubtagContent, keyword_of};

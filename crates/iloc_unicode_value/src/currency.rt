@@ -1,25 +1,12 @@
 //! Currencies as values of their keyword (`cu`). They stand here, because such conversions can stand only in
 //! the crate of one of the two types.
 ghost use Rattle.std.specs.Prelude.{◌≡◌, option_and_then};
-ghost use Rattle.iloc_spec_grammar.specs.Words.{Subtag};
-ghost use Rattle.iloc_spec_grammar.specs.Values.{IsNormal};
 ghost use Rattle.iloc_spec_parts.specs.SingleValues.{currency_reads, currency_gives};
 ghost use Rattle.iloc_unicode_value.specs.Refusals.{Reads};
 
 use crate::errors::PreferencesParseError;
 use crate::value::Value;
-use iloc_subtags::{CurrencyType, Subtag};
-
-/// The subtag of a text that is one in its normal case.
-pub fn subtag_of(text: &str) -> Subtag
-    requires { IsNormal Subtag text.now }
-    ensures { result ≡ text.now }
-{
-    match Subtag::try_from_str(text) {
-        Ok(subtag) => subtag,
-        Err(_) => unreachable!(),
-    }
-}
+use iloc_subtags::{CurrencyType, subtag_of};
 
 // The currency of the only subtag of the value.
 #[tactic(auto, using(crate::proofs::CurrencyLemmas::only_is_single))]
@@ -58,7 +45,8 @@ impl From<&CurrencyType> for Value {
     ghost from_gives = { λ currency value. value ≡ currency_gives currency.now };
 
     fn from(input: &CurrencyType) -> Value {
-        Value::from_subtag(Some(subtag_of(input.as_str())))
+        let _ = input.as_str();
+        Value::from_subtag(Some(subtag_of(input)))
     }
 }
 

@@ -20,7 +20,6 @@ pub mod printing;
 pub mod reader;
 pub mod value;
 
-pub use currency::subtag_of;
 pub use errors::PreferencesParseError;
 pub use reader::read_value;
 pub use value::Value;

@@ -15,7 +15,7 @@ ghost use Rattle.iloc_unicode_value.specs.Reads.{ReadsAs, ValueWants};
 
 use crate::value::Value;
 use iloc_subtags::{
-    AttributeKind, ParseError, Subtag, SubtagIterator, SubtagKind, WordKind, WordOf, take_word,
+    AttributeKind, ParseError, SubtagIterator, SubtagKind, WordKind, subtag_of, take_word,
 };
 use std::alloc::{AllocError, Global};
 
@@ -89,13 +89,4 @@ fn read_words<K: WordKind<8>>(
         value.push_subtag(alloc, subtag_of(&word))?;
     }
     Ok(value)
-}
-
-// The subtag as a `Subtag`.
-fn subtag_of<K: WordKind<8>>(word: &WordOf<K, 8>) -> Subtag
-    requires { (w : Text) → IsNormal K.kind w → IsNormal Subtag w }
-    ensures { result ≡ word.now }
-{
-    let _ = word.as_str();
-    Subtag::from_tinystr_unvalidated(word.to_tinystr())
 }

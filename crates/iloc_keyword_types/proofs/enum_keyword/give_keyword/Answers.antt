@@ -8,8 +8,8 @@ use Rattle.iloc_keyword_types.specs.WordTables.{word_at}
 use Rattle.iloc_keyword_types.proofs.EnumLemmas.{given, read_back, normal_word, variant}
 use Rattle.iloc_keyword_types.proofs.enum_keyword.give_keyword.Goals as goal
 
-pub subtag_of-requires : goal.subtag_of-requires
-subtag_of-requires g c =
+pub known_subtag-requires : goal.known_subtag-requires
+known_subtag-requires g c =
     subst (IsNormal Subtag) (sym c.word.ensures)
     (normal_word g.E.EnumKeyword.keyword g.E.WordEnum.words g.met.E.EnumKeyword.same_words (g.E.WordEnum.place c.args.keyword) _ (g.met.E.WordEnum.placed c.args.keyword))
 
@@ -32,4 +32,4 @@ returns g c = (value, read_back keyword words same g.met.E.EnumKeyword.plain pla
     at = g.met.E.WordEnum.placed c.args.keyword
 
     value : enum_gives keyword (variant place) ≡ Some c.from_subtag.result
-    value = given keyword words same g.met.E.EnumKeyword.plain place at c.from_subtag.result (c.from_subtag.ensures ∙ ap (λ (w : List ℕ). without_true (w ∷ [])) (c.subtag_of.ensures ∙ c.word.ensures))
+    value = given keyword words same g.met.E.EnumKeyword.plain place at c.from_subtag.result (c.from_subtag.ensures ∙ ap (λ (w : List ℕ). without_true (w ∷ [])) (c.known_subtag.ensures ∙ c.word.ensures))

@@ -11,14 +11,14 @@ use Rattle.iloc_keyword_types.specs.Hijri.{kind_place}
 use Rattle.iloc_keyword_types.proofs.GivenLemmas.{reads_back, kind_normal, given_kind, given_plain, hijri_place}
 use Rattle.iloc_keyword_types.proofs.calendar_algorithm.CalendarAlgorithm.to_value.Goals as goal
 
-pub subtag_of-word-requires : goal.subtag_of-word-requires
-subtag_of-word-requires c = subst (IsNormal Subtag) (sym c.word.ensures) (normal_word keywords.CalendarAlgorithm (variants keywords.CalendarAlgorithm) refl (place c.args.self.now) _ (placed_at c.args.self.now))
+pub known_subtag-word-requires : goal.known_subtag-word-requires
+known_subtag-word-requires c = subst (IsNormal Subtag) (sym c.word.ensures) (normal_word keywords.CalendarAlgorithm (variants keywords.CalendarAlgorithm) refl (place c.args.self.now) _ (placed_at c.args.self.now))
 
-pub subtag_of-requires : goal.subtag_of-requires
-subtag_of-requires c = subst (IsNormal Subtag) (sym c.word-in-Some.ensures) (kind_normal c.in-Some.kind)
+pub known_subtag-requires : goal.known_subtag-requires
+known_subtag-requires c = subst (IsNormal Subtag) (sym c.word-in-Some.ensures) (kind_normal c.in-Some.kind)
 
 pub returns-in-None-clause-value : goal.returns-in-None-clause-value
-returns-in-None-clause-value c = (c.from_subtag.result, given_plain c.args.self.now (sym c.in-None.ensures) ∙ ap Some (sym (c.from_subtag.ensures ∙ ap (λ (w : List ℕ). without_true (w ∷ [])) (c.subtag_of-word.ensures ∙ c.word.ensures))), refl)
+returns-in-None-clause-value c = (c.from_subtag.result, given_plain c.args.self.now (sym c.in-None.ensures) ∙ ap Some (sym (c.from_subtag.ensures ∙ ap (λ (w : List ℕ). without_true (w ∷ [])) (c.known_subtag-word.ensures ∙ c.word.ensures))), refl)
 
 pub returns-in-None-clause-back : goal.returns-in-None-clause-back
 unfolding returns-in-None-clause-value
@@ -27,11 +27,11 @@ returns-in-None-clause-back c = reads_back c.args.self.now c.from_subtag.result 
 pub returns-in-Some-clause-value : goal.returns-in-Some-clause-value
 returns-in-Some-clause-value c = (_, given_kind c.args.self.now c.in-Some.kind c.in-Some.ensures ∙ sym (λ i. Some (first i ∷ second i ∷ [])), c.from_two_subtags.ensures)
   where
-    first : c.subtag_of-word.result ≡ word_at (variants keywords.CalendarAlgorithm) 9
-    first = c.subtag_of-word.ensures ∙ c.word.ensures ∙ ap (word_at (variants keywords.CalendarAlgorithm)) (hijri_place c.args.self.now (kind_place c.in-Some.kind) c.in-Some.ensures)
+    first : c.known_subtag-word.result ≡ word_at (variants keywords.CalendarAlgorithm) 9
+    first = c.known_subtag-word.ensures ∙ c.word.ensures ∙ ap (word_at (variants keywords.CalendarAlgorithm)) (hijri_place c.args.self.now (kind_place c.in-Some.kind) c.in-Some.ensures)
 
-    second : c.subtag_of.result ≡ word_at hijri_kinds (kind_place c.in-Some.kind)
-    second = c.subtag_of.ensures ∙ c.word-in-Some.ensures
+    second : c.known_subtag.result ≡ word_at hijri_kinds (kind_place c.in-Some.kind)
+    second = c.known_subtag.ensures ∙ c.word-in-Some.ensures
 
 pub returns-in-Some-clause-back : goal.returns-in-Some-clause-back
 returns-in-Some-clause-back c = let given = returns-in-Some-clause-value c in rw given.2 (reads_back c.args.self.now given.0 given.1)
