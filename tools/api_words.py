@@ -57,7 +57,7 @@ NO_LANGUAGE = ("InvalidLanguage", "the first subtag is no language")
 NO_IDENTIFIER = ("InvalidSubtag", "a language stands first, and the rest is no script, region and variants in this order, or a variant stands twice")
 FIVE_VARIANTS = "more than four variants stand after language, script and region"
 FIVE_WORDS = "more than four subtags are kept"
-LONG_LOCALE = "the identifier has more than four variants, or an extension is reached that is not short: more than four attributes, a second key, a keyword of more than four subtags besides `true`, more than four variants or a field after `t`, more than four subtags after `x`, or an extension of another singleton"
+LONG_LOCALE = "the identifier has more than four variants, or an extension is reached that is not short: more than four attributes, a second key, a keyword of more than four subtags besides `true`, more than four variants or a field after `t`, more than four subtags after `x`, or an extension of another singleton; so never if the text is inline"
 LOCALE = [
     NO_LANGUAGE,
     ("InvalidSubtag", "the text up to the first singleton is no identifier, or the first bad extension is `t` with a variant that stands twice"),
