@@ -31,8 +31,6 @@ CONDITIONS = [
 # When a call surely allocates nothing, by the premise of a clause that ends in `IsOk result`.
 ENOUGH = [
     (r"^$", "always"),
-    (r"^IsInline languages (\w+)\.now → IsTextOf .*$", "the text is inline and already normalized"),
-    (r"^IsInline languages (\w+)\.now$", "the text is inline"),
     (r"^length self\.old < 4$", "fewer than four are held"),
     (r"^length self\.old\.1 < 4$", "fewer than four are held"),
     (r"^length self\.old < 1$", "there is no key yet"),
@@ -59,7 +57,7 @@ NO_LANGUAGE = ("InvalidLanguage", "the first subtag is no language")
 NO_IDENTIFIER = ("InvalidSubtag", "a language stands first, and the rest is no script, region and variants in this order, or a variant stands twice")
 FIVE_VARIANTS = "more than four variants stand after language, script and region"
 FIVE_WORDS = "more than four subtags are kept"
-LONG_LOCALE = "the identifier has more than four variants, or an extension is reached that is not short: more than four attributes, a second key, a keyword of more than four subtags besides `true`, more than four variants or a field after `t`, more than four subtags after `x`, or an extension of another singleton"
+LONG_LOCALE = "the identifier has more than four variants, or an extension is reached that is not short: more than four attributes, a second key, a keyword of more than four subtags besides `true`, more than four variants or a field after `t`, more than four subtags after `x`, or an extension of another singleton; so never if the text is inline"
 LOCALE = [
     NO_LANGUAGE,
     ("InvalidSubtag", "the text up to the first singleton is no identifier, or the first bad extension is `t` with a variant that stands twice"),
@@ -95,8 +93,8 @@ READERS = {
     "iloc_langid.ReadsAs": ([NO_LANGUAGE, NO_IDENTIFIER], FIVE_VARIANTS),
     "iloc_langid.SmallReadsAs": ([NO_LANGUAGE, ("InvalidSubtag", "the rest is no script, region and at most one variant in this order")], None),
     "iloc_langid.RefusesNormalizing": ([NO_LANGUAGE, NO_IDENTIFIER], f"the text is accepted and not normalized, or {FIVE_VARIANTS}"),
-    "iloc_locale.LocaleReadsAs": (LOCALE, LONG_LOCALE),
-    "iloc_locale.RefusesNormalizing": (LOCALE, f"the text is accepted and not normalized, or {LONG_LOCALE}"),
+    "iloc_locale.LocaleReads": (LOCALE, LONG_LOCALE),
+    "iloc_locale.NormalizingWantsMemory": (LOCALE, f"the text is accepted and not normalized, or {LONG_LOCALE}"),
     "iloc_langid.SmallLocaleReadsAs": (SMALL, None),
     "iloc_data.DataReadsAs": (
         [

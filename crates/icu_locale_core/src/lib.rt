@@ -148,7 +148,7 @@ pub mod extensions {
 pub mod locale {
     pub use crate::together::locales as together;
     pub use iloc_locale::ordered::equality as ordered_equality;
-    pub use iloc_locale::{Locale, OrderedLocale, equality, hashes};
+    pub use iloc_locale::{Locale, OrderedLocale, equality, hashes, memory};
 }
 
 /// Data locales: the parts of a locale by which data is looked up.

@@ -27,7 +27,7 @@ use Rattle.iloc_subtags.specs.declared.parse_error.ParseError.TheVariants as ref
 use Rattle.iloc_langid.specs.Reads as langid
 use Rattle.iloc_langid.specs.declared.identifier.LanguageIdentifier.{LanguageIdentifier}
 use Rattle.iloc_locale.specs.LocaleValue as locale
-use Rattle.iloc_locale.specs.Reads.{LocaleReadsAs}
+use Rattle.iloc_locale.specs.Reads.{LocaleReads, RunsOutOnlyIf, WantsMemory}
 use Rattle.iloc_locale.specs.declared.locale.Locale as types
 use Rattle.iloc_data.specs.DataValue as data_locale
 use Rattle.iloc_data.specs.Reads.{DataReadsAs}
@@ -80,23 +80,23 @@ identifier_read t (Err refusals.InvalidExtension) h = absurd h
 identifier_read t (Err refusals.DuplicatedExtension) h = absurd h
 identifier_read t (Err refusals.OutOfMemory) h = h
 
-pub locale_read : (t : List ℕ) (r : Result types.Locale ParseError) → LocaleReadsAs t r
+pub locale_read : (t : List ℕ) (r : Result types.Locale ParseError) → LocaleReads t r → RunsOutOnlyIf (WantsMemory t) r
     → Reads Locale t text_of_locale r
-locale_read t (Ok l) h = (locale.value_of l, h, refl)
-locale_read t (Err refusals.InvalidLanguage) h = h
-locale_read t (Err refusals.InvalidSubtag) h = h
-locale_read t (Err refusals.InvalidExtension) h = h
-locale_read t (Err refusals.DuplicatedExtension) h = h
-locale_read t (Err refusals.OutOfMemory) h = h
+locale_read t (Ok l) h m = (locale.value_of l, h, refl)
+locale_read t (Err refusals.InvalidLanguage) h m = h
+locale_read t (Err refusals.InvalidSubtag) h m = h
+locale_read t (Err refusals.InvalidExtension) h m = h
+locale_read t (Err refusals.DuplicatedExtension) h m = h
+locale_read t (Err refusals.OutOfMemory) h m = m
 
-pub data_read : (t : List ℕ) (r : Result data_types.DataLocale ParseError) → DataReadsAs t r
+pub data_read : (t : List ℕ) (r : Result data_types.DataLocale ParseError) → DataReadsAs t r → RunsOutOnlyIf ⊥ r
     → Reads Data t text_of_data r
-data_read t (Ok d) h = (data_locale.value_of d, h, refl)
-data_read t (Err refusals.InvalidLanguage) h = h
-data_read t (Err refusals.InvalidSubtag) h = h
-data_read t (Err refusals.InvalidExtension) h = h
-data_read t (Err refusals.DuplicatedExtension) h = absurd h
-data_read t (Err refusals.OutOfMemory) h = absurd h
+data_read t (Ok d) h m = (data_locale.value_of d, h, refl)
+data_read t (Err refusals.InvalidLanguage) h m = h
+data_read t (Err refusals.InvalidSubtag) h m = h
+data_read t (Err refusals.InvalidExtension) h m = h
+data_read t (Err refusals.DuplicatedExtension) h m = absurd h
+data_read t (Err refusals.OutOfMemory) h m = absurd m
 
 -- so the text is judged as it was read
 pub judged : {X : Type 0} (mode : Mode) (t : List ℕ) (text_of : X → List ℕ) (r : Result X ParseError) (s : Status)
@@ -224,7 +224,7 @@ other_identifier t other before after i e s m h (inl r) =
 other_identifier t other before after i e s m h (inr r) =
     subst (TellsSame Langid t other before after) (sym r.1) ((identifier_text i, (i, m, refl)), inr (r.2, λ k. no_identifier (pieces other) e h r.0 k.0 k.2))
 
-no_locale : (t : List ℕ) (e : ParseError) → LocaleReadsAs t (Err e) → (e ≡ refusals.OutOfMemory → ⊥) → (M : meaning.Locale) → Means languages t M → ⊥
+no_locale : (t : List ℕ) (e : ParseError) → LocaleReads t (Err e) → (e ≡ refusals.OutOfMemory → ⊥) → (M : meaning.Locale) → Means languages t M → ⊥
 no_locale t refusals.InvalidLanguage h n M m = accepted_no_fault languages_table t M _ m h
 no_locale t refusals.InvalidSubtag h n M m = accepted_no_fault languages_table t M _ m h
 no_locale t refusals.InvalidExtension h n M m = accepted_no_fault languages_table t M _ m h
@@ -232,22 +232,23 @@ no_locale t refusals.DuplicatedExtension h n M m = accepted_no_fault languages_t
 no_locale t refusals.OutOfMemory h n M m = absurd (n refl)
 
 pub other_locale : (t other : List ℕ) (before after : ℕ) (M : meaning.Locale) (e : ParseError) (s : Status) → Means languages t M
-    → LocaleReadsAs other (Err e) → RefusedTells e before after s → TellsSame Locale t other before after s
-other_locale t other before after M e s m h (inl r) =
-    subst (TellsSame Locale t other before after) (sym r.1) (inr (subst (λ f. LocaleReadsAs other (Err f)) r.0 h), r.2)
-other_locale t other before after M e s m h (inr r) =
+    → LocaleReads other (Err e) → RunsOutOnlyIf {X = types.Locale} (WantsMemory other) (Err e)
+    → RefusedTells e before after s → TellsSame Locale t other before after s
+other_locale t other before after M e s m h w (inl r) =
+    subst (TellsSame Locale t other before after) (sym r.1) (inr (subst (λ f. RunsOutOnlyIf {X = types.Locale} (WantsMemory other) (Err f)) r.0 w), r.2)
+other_locale t other before after M e s m h w (inr r) =
     subst (TellsSame Locale t other before after) (sym r.1) ((text M, (M, m, refl)), inr (r.2, λ k. no_locale other e h r.0 k.0 k.2))
 
-no_data_locale : (t : List ℕ) (e : ParseError) → DataReadsAs t (Err e) → (d : DataLocale) → DataMeans languages t d → ⊥
-no_data_locale t refusals.InvalidLanguage h d m = data_apart languages_table t d _ m h
-no_data_locale t refusals.InvalidSubtag h d m = data_apart languages_table t d _ m h
-no_data_locale t refusals.InvalidExtension h d m = data_apart languages_table t d _ m h
-no_data_locale t refusals.DuplicatedExtension h d m = absurd h
-no_data_locale t refusals.OutOfMemory h d m = absurd h
+no_data_locale : (t : List ℕ) (e : ParseError) → DataReadsAs t (Err e) → RunsOutOnlyIf {X = data_types.DataLocale} ⊥ (Err e) → (d : DataLocale) → DataMeans languages t d → ⊥
+no_data_locale t refusals.InvalidLanguage h w d m = data_apart languages_table t d _ m h
+no_data_locale t refusals.InvalidSubtag h w d m = data_apart languages_table t d _ m h
+no_data_locale t refusals.InvalidExtension h w d m = data_apart languages_table t d _ m h
+no_data_locale t refusals.DuplicatedExtension h w d m = absurd h
+no_data_locale t refusals.OutOfMemory h w d m = absurd w
 
 pub other_data_locale : (t other : List ℕ) (before after : ℕ) (d : DataLocale) (e : ParseError) → DataMeans languages t d
-    → DataReadsAs other (Err e) → after ≡ 0 → TellsSame Data t other before after Done
-other_data_locale t other before after d e m h a = ((data_text d, (d, m, refl)), inr (a, λ s. no_data_locale other e h s.0 s.2))
+    → DataReadsAs other (Err e) → RunsOutOnlyIf {X = data_types.DataLocale} ⊥ (Err e) → after ≡ 0 → TellsSame Data t other before after Done
+other_data_locale t other before after d e m h w a = ((data_text d, (d, m, refl)), inr (a, λ s. no_data_locale other e h w s.0 s.2))
 
 pub unprinted_data_locale : (t other : List ℕ) (before : ℕ) (e : DataLocale) (s : Status) → DataMeans languages other e → s ≡ OutOfMemory
     → (other ≡ data_text e → ⊥) → TellsSame Data t other before before s

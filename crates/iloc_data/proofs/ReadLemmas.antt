@@ -1,5 +1,6 @@
 -- From the small locale that was read, or its refusal, to what the reader of data locales answers.
-use Rattle.std.proofs.Common.{◌≡◌, ℕ, List, Option, Some, None, refl, sym, ap, ◌∙◌, IsOk, Result, Ok, Err, option_map}
+use Rattle.std.specs.Prelude.{⊤}
+use Rattle.std.proofs.Common.{◌≡◌, ℕ, List, Option, Some, None, sym, ap, ◌∙◌, Result, Ok, Err, option_map}
 use Rattle.iloc_spec_grammar.specs.Words.{languages, two_or_three}
 use Rattle.iloc_spec_grammar.specs.Meaning as meaning
 use Rattle.iloc_spec_grammar.specs.Meaning.{Means}
@@ -19,6 +20,7 @@ use Rattle.iloc_subtags.specs.declared.parse_error.ParseError.TheVariants.{Inval
 use Rattle.iloc_data.specs.declared.data_locale.DataLocale.{DataLocale}
 use Rattle.iloc_subtags.specs.Answers.{ButDuplicate}
 use Rattle.iloc_subtags.specs.Judging.{Accepts, Refuses}
+use Rattle.iloc_locale.specs.Reads.{RunsOutOnlyIf}
 use Rattle.iloc_subtags.proofs.Judged.{Judges, accepts, refuses, but_duplicate}
 use Rattle.iloc_data.specs.DataValue.{value_of}
 use Rattle.iloc_data.specs.Reads.{DataReadsAs}
@@ -37,6 +39,14 @@ not_read t InvalidExtension h = not_small h
 not_read t DuplicatedExtension h = absurd h
 not_read t OutOfMemory h = absurd h
 
+-- memory never runs out
+pub not_without : (t : List ℕ) (e : ParseError) → SmallLocaleReadsAs t (Err e) → RunsOutOnlyIf {X = DataLocale} ⊥ (Err e)
+not_without t InvalidLanguage h = tt
+not_without t InvalidSubtag h = tt
+not_without t InvalidExtension h = tt
+not_without t DuplicatedExtension h = tt
+not_without t OutOfMemory h = h
+
 pub no_part : (t : List ℕ) (p : LocaleParts) → SmallLocaleReadsAs t (Ok p) → small_part p.2 p.4 ≡ None → DataReadsAs t (Err InvalidExtension)
 no_part t p s h = no_subdivision s (ap (of_part p) h)
 
@@ -45,11 +55,11 @@ no_part t p s h = no_subdivision s (ap (of_part p) h)
 data_judges : (t : List ℕ) → Judges (DataMeans languages t) (HasDataFault languages t)
 data_judges t = record { one = one_data languages_table t; apart = data_apart languages_table t; one_fault = λ f g. one_data_fault t }
 
-pub data_accepts : (t : List ℕ) (r : Result DataLocale ParseError) → DataReadsAs t r → (d : parts.DataLocale) → DataMeans languages t d → Accepts value_of ⊥ d r
-data_accepts t r h = accepts value_of (ButDuplicate (HasDataFault languages t)) ⊥ (data_judges t) (but_duplicate (HasDataFault languages t)) r h
+pub data_accepts : (t : List ℕ) (r : Result DataLocale ParseError) → DataReadsAs t r → (d : parts.DataLocale) → DataMeans languages t d → Accepts value_of ⊤ d r
+data_accepts t r h = accepts value_of (ButDuplicate (HasDataFault languages t)) ⊤ (data_judges t) (but_duplicate (HasDataFault languages t)) r h
 
-pub data_refuses : (t : List ℕ) (r : Result DataLocale ParseError) → DataReadsAs t r → (f : Fault) → HasDataFault languages t f → Refuses ⊥ f r
-data_refuses t r h = refuses value_of (ButDuplicate (HasDataFault languages t)) ⊥ (data_judges t) (but_duplicate (HasDataFault languages t)) r h
+pub data_refuses : (t : List ℕ) (r : Result DataLocale ParseError) → DataReadsAs t r → (f : Fault) → HasDataFault languages t f → Refuses ⊤ f r
+data_refuses t r h = refuses value_of (ButDuplicate (HasDataFault languages t)) ⊤ (data_judges t) (but_duplicate (HasDataFault languages t)) r h
 
 -- what else is known of what is read
 
@@ -62,16 +72,5 @@ reads_back t d h = read_back t d h
 pub is_converted : (t : List ℕ) (d : parts.DataLocale) → DataMeans languages t d → (M : meaning.Locale) → Means languages t M → d ≡ language_priority (preferences M)
 is_converted t d h M m = agrees languages_table t d M h m
 
-pub keeps_narrow : (t : List ℕ) (d : parts.DataLocale) → DataMeans languages t d → (e : parts.DataLocale) → DataMeans two_or_three t e → d ≡ e
-keeps_narrow t d h e n = one_data languages_table t d e h (ours t e n)
-
-faultless : (t : List ℕ) (f : Fault) → HasDataFault languages t f → (d : parts.DataLocale) → DataMeans two_or_three t d → ⊥
-faultless t f h d n = data_apart languages_table t d f (ours t d n) h
-
-pub accepts_narrow : (t : List ℕ) (r : Result DataLocale ParseError) → DataReadsAs t r → (d : parts.DataLocale) → DataMeans two_or_three t d → IsOk r
-accepts_narrow t (Ok e) h d n = refl
-accepts_narrow t (Err InvalidLanguage) h d n = absurd (faultless t faults.InvalidLanguage h d n)
-accepts_narrow t (Err InvalidSubtag) h d n = absurd (faultless t faults.InvalidSubtag h d n)
-accepts_narrow t (Err InvalidExtension) h d n = absurd (faultless t faults.InvalidExtension h d n)
-accepts_narrow t (Err DuplicatedExtension) h d n = absurd h
-accepts_narrow t (Err OutOfMemory) h d n = absurd h
+pub keeps_narrow : (t : List ℕ) (r : Result DataLocale ParseError) → DataReadsAs t r → (d : parts.DataLocale) → DataMeans two_or_three t d → Accepts value_of ⊤ d r
+keeps_narrow t r h d n = data_accepts t r h d (ours t d n)

@@ -1,5 +1,5 @@
--- What the reader of data locales answers, by cases on the whole answer. It allocates nothing.
-use Rattle.std.specs.Prelude.{◌≡◌, ℕ, List, Result, IfOk, IsOk}
+-- What the reader of data locales answers. It allocates nothing.
+use Rattle.std.specs.Prelude.{◌≡◌, ⊤, ℕ, List, Result, IfOk}
 use Rattle.iloc_spec_grammar.specs.Shapes.{Text}
 use Rattle.iloc_spec_grammar.specs.Words.{languages, two_or_three}
 use Rattle.iloc_spec_grammar.specs.Meaning as meaning
@@ -11,19 +11,21 @@ use Rattle.iloc_subtags.specs.declared.parse_error.ParseError.{ParseError}
 use Rattle.iloc_spec_grammar.specs.Faults.{Fault}
 use Rattle.iloc_subtags.specs.Answers.{Answers, ButDuplicate}
 use Rattle.iloc_subtags.specs.Judging.{Accepts, Refuses}
+use Rattle.iloc_locale.specs.Reads.{RunsOutOnlyIf}
 use Rattle.iloc_data.specs.declared.data_locale.DataLocale.{DataLocale}
 use Rattle.iloc_data.specs.DataValue.{value_of}
 
+-- what a text is read as
 abbrev pub DataReadsAs : Text → Result DataLocale ParseError → Type 0
 DataReadsAs t = Answers (λ d. DataMeans languages t (value_of d))
-    (ButDuplicate (HasDataFault languages t)) ⊥
+    (ButDuplicate (HasDataFault languages t)) ⊤
 
 -- all that is promised of the answer on a text: each clause of `try_from_str`
 pub record IsDataAnswer (t : Text) (r : Result DataLocale ParseError) : Type 0 where
   pub reads : DataReadsAs t r
-  pub accepted : (d : parts.DataLocale) → DataMeans languages t d → Accepts value_of ⊥ d r
-  pub refused : (f : Fault) → HasDataFault languages t f → Refuses ⊥ f r
+  pub accepted : (d : parts.DataLocale) → DataMeans languages t d → Accepts value_of ⊤ d r
+  pub refused : (f : Fault) → HasDataFault languages t f → Refuses ⊤ f r
+  pub memory : RunsOutOnlyIf ⊥ r
   pub back : IfOk r (λ d. DataMeans languages (data_text (value_of d)) (value_of d))
   pub converted : IfOk r (λ d. (M : meaning.Locale) → Means languages t M → value_of d ≡ language_priority (preferences M))
-  pub narrow : (d : parts.DataLocale) → DataMeans two_or_three t d → IfOk r (λ e. value_of e ≡ d)
-  pub narrow_accepted : (d : parts.DataLocale) → DataMeans two_or_three t d → IsOk r
+  pub narrow : (d : parts.DataLocale) → DataMeans two_or_three t d → Accepts value_of ⊤ d r

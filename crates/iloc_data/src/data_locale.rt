@@ -1,5 +1,5 @@
 //! The type, and its parsers.
-ghost use Rattle.std.specs.Prelude.{◌≡◌, ◌↔◌, IsTrue, IfOk, IsOk};
+ghost use Rattle.std.specs.Prelude.{◌≡◌, ◌↔◌, ⊤, IsTrue, IfOk};
 ghost use Rattle.iloc_spec_preferences.specs.Preferences.{language_priority, preferences};
 ghost use Rattle.iloc_spec_grammar.specs.Words.{languages, two_or_three};
 ghost use Rattle.iloc_spec_grammar.specs.Meaning as meaning;
@@ -8,6 +8,7 @@ ghost use Rattle.iloc_spec_preferences.specs.DataLocales as parts;
 ghost use Rattle.iloc_spec_grammar.specs.Faults.{Fault};
 ghost use Rattle.iloc_spec_preferences.specs.DataLocales.{DataMeans, HasDataFault, data_text};
 ghost use Rattle.iloc_subtags.specs.Judging.{Accepts, Refuses};
+ghost use Rattle.iloc_locale.specs.Reads.{RunsOutOnlyIf};
 
 use iloc_data_parts::region::part_of;
 use iloc_keyword_types::SubdivisionId;
@@ -68,16 +69,15 @@ impl DataLocale {
     pub fn try_from_utf8(code_units: &[u8]) -> Result<Self, ParseError>
         ensures reads { DataReadsAs code_units.now result }
         ensures accepted { (d : parts.DataLocale) → DataMeans languages code_units.now d
-            → Accepts value_of ⊥ d result }
-        ensures refused { (f : Fault) → HasDataFault languages code_units.now f → Refuses ⊥ f result }
+            → Accepts value_of ⊤ d result }
+        ensures refused { (f : Fault) → HasDataFault languages code_units.now f → Refuses ⊤ f result }
+        ensures memory { RunsOutOnlyIf ⊥ result }
         ensures back { IfOk result
             (λ d. DataMeans languages (data_text (value_of d)) (value_of d)) }
         ensures converted { IfOk result (λ d. (M : meaning.Locale)
             → Means languages code_units.now M → value_of d ≡ language_priority (preferences M)) }
         ensures narrow { (d : parts.DataLocale) → DataMeans two_or_three code_units.now d
-            → IfOk result (λ e. value_of e ≡ d) }
-        ensures narrow_accepted { (d : parts.DataLocale) → DataMeans two_or_three code_units.now d
-            → IsOk result }
+            → Accepts value_of ⊤ d result }
     {
         let (language, script, region, variant, keyword) = read_small_locale(code_units)?;
         let part = part_of(region, keyword)?;
@@ -88,16 +88,15 @@ impl DataLocale {
     pub fn try_from_str(s: &str) -> Result<Self, ParseError>
         ensures reads { DataReadsAs s.now result }
         ensures accepted { (d : parts.DataLocale) → DataMeans languages s.now d
-            → Accepts value_of ⊥ d result }
-        ensures refused { (f : Fault) → HasDataFault languages s.now f → Refuses ⊥ f result }
+            → Accepts value_of ⊤ d result }
+        ensures refused { (f : Fault) → HasDataFault languages s.now f → Refuses ⊤ f result }
+        ensures memory { RunsOutOnlyIf ⊥ result }
         ensures back { IfOk result
             (λ d. DataMeans languages (data_text (value_of d)) (value_of d)) }
         ensures converted { IfOk result (λ d. (M : meaning.Locale)
             → Means languages s.now M → value_of d ≡ language_priority (preferences M)) }
         ensures narrow { (d : parts.DataLocale) → DataMeans two_or_three s.now d
-            → IfOk result (λ e. value_of e ≡ d) }
-        ensures narrow_accepted { (d : parts.DataLocale) → DataMeans two_or_three s.now d
-            → IsOk result }
+            → Accepts value_of ⊤ d result }
     {
         DataLocale::try_from_utf8(s.as_bytes())
     }

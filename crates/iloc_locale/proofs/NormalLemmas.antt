@@ -18,9 +18,9 @@ use Rattle.iloc_spec_grammar.proofs.ReadBack.{reads_back}
 use Rattle.iloc_spec_grammar.proofs.Readings as readings
 use Rattle.iloc_subtags.specs.declared.parse_error.ParseError.{ParseError}
 use Rattle.iloc_subtags.specs.declared.parse_error.ParseError.TheVariants.{InvalidLanguage, InvalidSubtag, InvalidExtension, DuplicatedExtension, OutOfMemory}
-use Rattle.iloc_locale.specs.Reads.{LocaleReadsAs, MeansOnly}
-use Rattle.iloc_locale.specs.Normalizing.{IsTextOf, IsNormalizedFrom, RefusesNormalizing}
-use Rattle.iloc_locale.proofs.ReadLemmas.{no_fault, inline_wants_none}
+use Rattle.iloc_locale.specs.Reads.{LocaleReads, MeansOnly}
+use Rattle.iloc_locale.specs.Normalizing.{IsTextOf, IsNormalizedFrom, NormalizingWantsMemory}
+use Rattle.iloc_locale.proofs.ReadLemmas.{inline_wants_none}
 use Rattle.iloc_spec_parts.specs.Inline.{IsInline}
 use Rattle.std.specs.Cmp.{Equal-is}
 
@@ -34,24 +34,13 @@ is_normalized t u M m e = subst (IsNormalizedFrom t) (sym e) (record {
   together = λ v L N l n. texts_lead_to_one languages languages_table t v L N l n;
 })
 
-pub refuses : (t : List ℕ) (e : ParseError) → LocaleReadsAs t (Err e) → RefusesNormalizing t e
-refuses t InvalidLanguage h = h
-refuses t InvalidSubtag h = h
-refuses t InvalidExtension h = h
-refuses t DuplicatedExtension h = h
-refuses t OutOfMemory h = inl h
-
-pub refuses_memory : (t : List ℕ) (M : meaning.Locale) → Means languages t M → (t ≡ text M → false ≡ true) → RefusesNormalizing t OutOfMemory
+pub refuses_memory : (t : List ℕ) (M : meaning.Locale) → Means languages t M → (t ≡ text M → false ≡ true) → NormalizingWantsMemory t
 refuses_memory t M m other = inr (M, m, λ e. absurd (true≢false (sym (other e))))
 
--- a normal text that is inline isn't refused
-pub normal_inline : (t : List ℕ) (e : ParseError) → RefusesNormalizing t e → IsInline languages t → IsTextOf t t → ⊥
-normal_inline t InvalidLanguage h i n = no_fault t i faults.InvalidLanguage h
-normal_inline t InvalidSubtag h i n = no_fault t i faults.InvalidSubtag h
-normal_inline t InvalidExtension h i n = no_fault t i faults.InvalidExtension h
-normal_inline t DuplicatedExtension h i n = no_fault t i faults.DuplicatedExtension h
-normal_inline t OutOfMemory (inl h) i n = inline_wants_none t i h
-normal_inline t OutOfMemory (inr h) i n = h.2 (n.2 ∙ ap text (readings.one_meaning languages_table t n.0 h.0 n.1 h.1))
+-- a normal text that is inline wants no memory
+pub normal_inline : (t : List ℕ) → IsInline languages t → IsTextOf t t → NormalizingWantsMemory t → ⊥
+normal_inline t i n (inl h) = inline_wants_none t i h
+normal_inline t i n (inr h) = h.2 (n.2 ∙ ap text (readings.one_meaning languages_table t n.0 h.0 n.1 h.1))
 
 -- the text of an identifier alone
 pub text_alone : (i : Identifier) (e : Extensions) → e ≡ no_extensions → text (record { id = i; extensions = e }) ≡ identifier_text i
@@ -64,14 +53,14 @@ same_meaning_ties t L M same m e = (
   λ n. e ∙ ap is_eq ((locale_exact.exact M L).1 (readings.one_meaning languages_table t M L n m)),
 )
 
-pub no_meaning : (t : List ℕ) (M : meaning.Locale) (f : ParseError) → LocaleReadsAs t (Err f) → (f ≡ OutOfMemory → ⊥) → Means languages t M → ⊥
+pub no_meaning : (t : List ℕ) (M : meaning.Locale) (f : ParseError) → LocaleReads t (Err f) → (f ≡ OutOfMemory → ⊥) → Means languages t M → ⊥
 no_meaning t M InvalidLanguage h n m = accepted_no_fault languages_table t M faults.InvalidLanguage m h
 no_meaning t M InvalidSubtag h n m = accepted_no_fault languages_table t M faults.InvalidSubtag m h
 no_meaning t M InvalidExtension h n m = accepted_no_fault languages_table t M faults.InvalidExtension m h
 no_meaning t M DuplicatedExtension h n m = accepted_no_fault languages_table t M faults.DuplicatedExtension m h
 no_meaning t M OutOfMemory h n m = n refl
 
-pub refusal_differs : (t : List ℕ) (M : meaning.Locale) (f : ParseError) {E : Type 0} (r : Result Bool E) → LocaleReadsAs t (Err f) → IfOk r (λ same. (same ≡ false) × ¬ (f ≡ OutOfMemory)) → IfOk r (λ same. IsTrue same ↔ Means languages t M)
+pub refusal_differs : (t : List ℕ) (M : meaning.Locale) (f : ParseError) {E : Type 0} (r : Result Bool E) → LocaleReads t (Err f) → IfOk r (λ same. (same ≡ false) × ¬ (f ≡ OutOfMemory)) → IfOk r (λ same. IsTrue same ↔ Means languages t M)
 refusal_differs t M f (Ok same) h d = (λ s. absurd (true≢false (sym s ∙ d.0)), λ m. absurd (no_meaning t M f h d.1 m))
 refusal_differs t M f (Err e) h d = tt
 

@@ -1,5 +1,6 @@
 -- From what the readers of the head and of the blocks answer to what the whole text is read as.
-use Rattle.std.proofs.Common.{◌≡◌, ◌⊎◌, inl, inr, IsOk, ℕ, zero, suc, ◌<◌, true, false, List, [], ◌∷◌, length, refl, sym, ap, ◌∙◌, subst, arith, Result, Ok, Err, IfOk, IfErr}
+use Rattle.std.specs.Prelude.{⊤}
+use Rattle.std.proofs.Common.{◌≡◌, inl, inr, ℕ, zero, suc, ◌<◌, true, false, List, [], ◌∷◌, length, refl, sym, ap, ◌∙◌, subst, arith, Result, Ok, Err, IfOk}
 use Rattle.std.specs.Result.{result_and}
 use Rattle.iloc_spec_grammar.specs.Pieces.{pieces}
 use Rattle.iloc_spec_grammar.specs.Words.{Language, is_word, IsWord, languages, two_or_three}
@@ -37,7 +38,7 @@ use Rattle.iloc_locale.specs.declared.locale.Locale.{Locale}
 use Rattle.iloc_locale.specs.LocaleValue.{value_of, unknown_locale}
 use Rattle.iloc_subtags.specs.Judging.{Accepts, Refuses}
 use Rattle.iloc_subtags.proofs.Judged.{Judges, accepts, refuses}
-use Rattle.iloc_locale.specs.Reads.{WantsMemory, LocaleReadsAs}
+use Rattle.iloc_locale.specs.Reads.{WantsMemory, RunsOutOnlyIf, LocaleReads, LocaleReadsAs}
 
 -- the head and the blocks after it
 
@@ -66,18 +67,20 @@ head_few t i h =
     omega (arith, few, k, h)
 
 pub inline_wants_none : (t : List ℕ) → IsInline languages t → WantsMemory t → ⊥
-inline_wants_none t i h = by h.1
-  where
-    by : langid.WantsMemory (head (pieces t)) ⊎ (SpellsIdentifier languages (head (pieces t)) × ReachesLongBlock languages [] (tail_blocks (pieces t))) → ⊥
-    by (inl x) = head_few t i x.1
-    by (inr x) = none_long x.1 (inline_by_blocks languages languages_table t i).blocks
+inline_wants_none t i (inl x) = head_few t i x.1
+inline_wants_none t i (inr x) = none_long x.1 (inline_by_blocks languages languages_table t i).blocks
+
+-- and it is wanted only after a language
+pub wants_language : (t : List ℕ) → WantsMemory t → IsWord (Language languages) (first_piece (pieces t))
+wants_language t (inl x) = subst (λ p. IsWord (Language languages) p) (same_first (pieces t)) x.0
+wants_language t (inr x) = subst (λ p. IsWord (Language languages) p) (sym (ap first_piece x.0.2) ∙ same_first (pieces t)) x.0.1.words.language
 
 pub head_refused : (t : List ℕ) (e : ParseError) → ReadsAs (head (pieces t)) (Err e) → LocaleReadsAs t (Err e)
 head_refused t InvalidLanguage (not_a_language h) = no_language (subst (λ p. is_word (Language languages) p ≡ false) (same_first (pieces t)) h)
 head_refused t InvalidSubtag (not_an_identifier w n) = no_identifier (subst (λ p. IsWord (Language languages) p) (same_first (pieces t)) w) n
 head_refused t InvalidExtension h = absurd h
 head_refused t DuplicatedExtension h = absurd h
-head_refused t OutOfMemory h = (subst (λ p. IsWord (Language languages) p) (same_first (pieces t)) h.0, inl h)
+head_refused t OutOfMemory h = inl h
 
 spells : (t : List ℕ) (id : LanguageIdentifier) → ReadsAs (head (pieces t)) (Ok id) → SpellsIdentifier languages (head (pieces t))
 spells t id h = (h.written, h.grammatical, h.spelled)
@@ -87,10 +90,7 @@ blocks_refused t id x InvalidLanguage h b = absurd b
 blocks_refused t id x InvalidSubtag h b = bad_block (spells t id h) (subst (λ bs. faults.FirstBadBlock languages [] bs faults.InvalidSubtag) (tail_is (pieces t)) b)
 blocks_refused t id x InvalidExtension h b = bad_block (spells t id h) (subst (λ bs. faults.FirstBadBlock languages [] bs faults.InvalidExtension) (tail_is (pieces t)) b)
 blocks_refused t id x DuplicatedExtension h b = bad_block (spells t id h) (subst (λ bs. faults.FirstBadBlock languages [] bs faults.DuplicatedExtension) (tail_is (pieces t)) b)
-blocks_refused t id x OutOfMemory h b = (
-  subst (λ p. IsWord (Language languages) p) (sym (ap first_piece h.spelled) ∙ same_first (pieces t)) h.grammatical.words.language,
-  inr (spells t id h, subst (ReachesLongBlock languages []) (tail_is (pieces t)) b),
-)
+blocks_refused t id x OutOfMemory h b = inr (spells t id h, subst (ReachesLongBlock languages []) (tail_is (pieces t)) b)
 
 pub blocks_read : (t : List ℕ) (l : Locale) (r : Result (Unit {0}) ParseError) → ReadsAs (head (pieces t)) (Ok l.id) → BlocksReadAs (after_head (pieces t)) (extensions.value_of l.extensions) r → LocaleReadsAs t (result_and r (Ok l))
 blocks_read t l (Ok x) h b = head_accepts t l.id (extensions.value_of l.extensions) h b
@@ -101,7 +101,33 @@ none_after_unknown l e = ap (λ (M : meaning.Locale). M.extensions) e
 
 -- what else is known of what is read
 
-pub reads_well_formed : (t : List ℕ) (r : Result Locale ParseError) → LocaleReadsAs t r → IfOk r (λ l. IsValue languages (value_of l) × IsWellFormed (value_of l))
+-- memory apart
+
+pub reads_apart : (t : List ℕ) (r : Result Locale ParseError) → LocaleReadsAs t r → LocaleReads t r
+reads_apart t (Ok l) h = h
+reads_apart t (Err InvalidLanguage) h = h
+reads_apart t (Err InvalidSubtag) h = h
+reads_apart t (Err InvalidExtension) h = h
+reads_apart t (Err DuplicatedExtension) h = h
+reads_apart t (Err OutOfMemory) h = tt
+
+pub reads_memory : (t : List ℕ) (r : Result Locale ParseError) → LocaleReadsAs t r → RunsOutOnlyIf (WantsMemory t) r
+reads_memory t (Ok l) h = tt
+reads_memory t (Err InvalidLanguage) h = tt
+reads_memory t (Err InvalidSubtag) h = tt
+reads_memory t (Err InvalidExtension) h = tt
+reads_memory t (Err DuplicatedExtension) h = tt
+reads_memory t (Err OutOfMemory) h = h
+
+pub reads_answer : (t : List ℕ) (r : Result Locale ParseError) → LocaleReads t r → RunsOutOnlyIf (WantsMemory t) r → LocaleReadsAs t r
+reads_answer t (Ok l) h m = h
+reads_answer t (Err InvalidLanguage) h m = h
+reads_answer t (Err InvalidSubtag) h m = h
+reads_answer t (Err InvalidExtension) h m = h
+reads_answer t (Err DuplicatedExtension) h m = h
+reads_answer t (Err OutOfMemory) h m = m
+
+pub reads_well_formed : (t : List ℕ) (r : Result Locale ParseError) → LocaleReads t r → IfOk r (λ l. IsValue languages (value_of l) × IsWellFormed (value_of l))
 reads_well_formed t (Ok l) h = (means_value t (value_of l) h, means_well_formed t (value_of l) h)
 reads_well_formed t (Err e) h = tt
 
@@ -110,34 +136,18 @@ chain_means zero t u M e m = subst (λ (x : List ℕ). Means languages x M) e m
 chain_means (suc n) t u M (inl e) m = subst (λ (x : List ℕ). Means languages x M) e m
 chain_means (suc n) t u M (inr c) m = chain_means n c.0 u M c.2 (text_step_means languages languages_table t c.0 M c.1 m)
 
-pub reads_steps : (t : List ℕ) (r : Result Locale ParseError) → LocaleReadsAs t r → IfOk r (λ l. (n : ℕ) (u : List ℕ) → Chain languages n t u → Means languages u (value_of l))
+pub reads_steps : (t : List ℕ) (r : Result Locale ParseError) → LocaleReads t r → IfOk r (λ l. (n : ℕ) (u : List ℕ) → Chain languages n t u → Means languages u (value_of l))
 reads_steps t (Ok l) h = λ n u c. chain_means n t u (value_of l) c h
 reads_steps t (Err e) h = tt
 
 locales_judge : (t : List ℕ) → Judges (Means languages t) (HasFault languages t)
 locales_judge t = record { one = readings.one_meaning languages_table t; apart = accepted_no_fault languages_table t; one_fault = λ f g. one_fault t }
 
-pub reads_accepts : (t : List ℕ) (r : Result Locale ParseError) → LocaleReadsAs t r → (M : meaning.Locale) → Means languages t M → Accepts value_of (WantsMemory t) M r
-reads_accepts t r h = accepts value_of (HasFault languages t) (WantsMemory t) (locales_judge t) (λ f h. h) r h
+pub reads_accepts : (t : List ℕ) (r : Result Locale ParseError) → LocaleReads t r → (M : meaning.Locale) → Means languages t M → Accepts value_of ⊤ M r
+reads_accepts t r h = accepts value_of (HasFault languages t) ⊤ (locales_judge t) (λ f h. h) r h
 
-pub reads_refuses : (t : List ℕ) (r : Result Locale ParseError) → LocaleReadsAs t r → (f : Fault) → HasFault languages t f → Refuses (WantsMemory t) f r
-reads_refuses t r h = refuses value_of (HasFault languages t) (WantsMemory t) (locales_judge t) (λ f h. h) r h
+pub reads_refuses : (t : List ℕ) (r : Result Locale ParseError) → LocaleReads t r → (f : Fault) → HasFault languages t f → Refuses ⊤ f r
+reads_refuses t r h = refuses value_of (HasFault languages t) ⊤ (locales_judge t) (λ f h. h) r h
 
-pub no_fault : (t : List ℕ) → IsInline languages t → (f : Fault) → HasFault languages t f → ⊥
-no_fault t i f h = accepted_no_fault languages_table t (meaning.meaning i.written) f (record { written = i.written; grammatical = i.grammatical; spelled = i.spelled; means = refl }) h
-
-pub reads_inline : (t : List ℕ) (r : Result Locale ParseError) → LocaleReadsAs t r → IsInline languages t → IsOk r
-reads_inline t (Ok l) h i = refl
-reads_inline t (Err OutOfMemory) h i = absurd (inline_wants_none t i h)
-reads_inline t (Err InvalidLanguage) h i = absurd (no_fault t i faults.InvalidLanguage h)
-reads_inline t (Err InvalidSubtag) h i = absurd (no_fault t i faults.InvalidSubtag h)
-reads_inline t (Err InvalidExtension) h i = absurd (no_fault t i faults.InvalidExtension h)
-reads_inline t (Err DuplicatedExtension) h i = absurd (no_fault t i faults.DuplicatedExtension h)
-
-pub reads_narrow : (t : List ℕ) (r : Result Locale ParseError) → LocaleReadsAs t r → (M : meaning.Locale) → Means two_or_three t M → IfOk r (λ l. value_of l ≡ M)
-reads_narrow t (Ok l) h M m = reads_accepts t (Ok l) h M (means_ours t M m)
-reads_narrow t (Err e) h M m = tt
-
-pub accepts_narrow : (t : List ℕ) (r : Result Locale ParseError) → LocaleReadsAs t r → (M : meaning.Locale) → Means two_or_three t M → IfErr r (λ e. e ≡ OutOfMemory)
-accepts_narrow t (Ok l) h M m = tt
-accepts_narrow t (Err e) h M m = (reads_accepts t (Err e) h M (means_ours t M m)).0
+pub reads_narrow : (t : List ℕ) (r : Result Locale ParseError) → LocaleReads t r → (M : meaning.Locale) → Means two_or_three t M → Accepts value_of ⊤ M r
+reads_narrow t r h M m = reads_accepts t r h M (means_ours t M m)

@@ -4,10 +4,7 @@ use Rattle.iloc_spec_grammar.specs.Shapes.{Text}
 use Rattle.iloc_spec_grammar.specs.Words.{languages}
 use Rattle.iloc_spec_grammar.specs.Meaning.{Locale, Means}
 use Rattle.iloc_spec_grammar.specs.Values.{text}
-use Rattle.iloc_spec_grammar.specs.Faults.{HasFault}
 use Rattle.iloc_spec_grammar.specs.Steps.{TextStep, Chain, LeadToOne}
-use Rattle.iloc_subtags.specs.declared.parse_error.ParseError.{ParseError}
-use Rattle.iloc_subtags.specs.Answers.{Refusal}
 use Rattle.iloc_locale.specs.Reads.{WantsMemory}
 
 -- t is the text of what u means
@@ -29,7 +26,6 @@ pub record IsNormalizedFrom (input t : Text) : Type 0 where
   -- so every accepted text means the same exactly if such steps lead both to one text
   pub together : (u : Text) (L M : Locale) → Means languages input L → Means languages u M → (L ≡ M) ↔ LeadToOne (TextStep languages) 8 input u
 
--- Why there is none. Memory may run out only if the reader may allocate, or if the input is accepted and isn't normal.
-abbrev pub RefusesNormalizing : Text → ParseError → Type 0
-RefusesNormalizing t = Refusal (HasFault languages t)
-    (WantsMemory t ⊎ ((M : Locale) × Means languages t M × ¬ (t ≡ text M)))
+-- memory may run out only if the reader may allocate, or if the input is accepted and isn't normal
+abbrev pub NormalizingWantsMemory : Text → Type 0
+NormalizingWantsMemory t = WantsMemory t ⊎ ((M : Locale) × Means languages t M × ¬ (t ≡ text M))

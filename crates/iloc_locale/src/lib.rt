@@ -15,7 +15,14 @@
 #![tactic(auto)]
 
 ghost use Rattle.std.specs.Prelude.{◌≡◌, ◌↔◌, IsTrue};
+ghost use Rattle.iloc_spec_grammar.specs.Shapes.{Text};
+ghost use Rattle.iloc_spec_grammar.specs.Pieces.{pieces};
+ghost use Rattle.iloc_spec_grammar.specs.Words.{Language, IsWord, languages};
+ghost use Rattle.iloc_spec_grammar.specs.Blocks.{first_piece};
+ghost use Rattle.iloc_spec_parts.specs.Inline.{IsInline};
 ghost use Rattle.iloc_spec_orders.specs.Hashes.{locale_fed};
+ghost use Rattle.iloc_locale.specs.Reads.{WantsMemory};
+ghost use Rattle.iloc_locale.specs.Normalizing.{IsTextOf, NormalizingWantsMemory};
 ghost use Rattle.iloc_locale.specs.LocaleValue.{value_of};
 
 use std::hash::Hash;
@@ -37,6 +44,16 @@ pub fn equality()
     iloc_langid::equality();
     iloc_extensions::equality();
 }
+
+/// Memory is wanted only after a language. A text that is inline wants none to be parsed; one that is its own
+/// normal text besides wants none to be normalized.
+pub fn memory()
+    ensures language { (t : Text) → WantsMemory t
+        → IsWord (Language languages) (first_piece (pieces t)) }
+    ensures inline { (t : Text) → IsInline languages t → ¬ (WantsMemory t) }
+    ensures normal { (t : Text) → IsInline languages t → IsTextOf t t
+        → ¬ (NormalizingWantsMemory t) }
+{}
 
 /// A hasher is fed the identifier and the extensions.
 pub fn hashes()

@@ -1,5 +1,5 @@
 //! The type, and its parsers.
-ghost use Rattle.std.specs.Prelude.{◌≡◌, ℕ, true, List, IsOk, IfOk, IfErr, Ok, OnErr};
+ghost use Rattle.std.specs.Prelude.{◌≡◌, ⊤, ℕ, true, List, IfOk, Ok, OnErr};
 ghost use Rattle.std.specs.Result.{result_and};
 ghost use Rattle.iloc_spec_grammar.specs.Shapes.{Text};
 ghost use Rattle.iloc_spec_grammar.specs.Pieces.{pieces};
@@ -11,7 +11,6 @@ ghost use Rattle.iloc_spec_grammar.specs.Reading.{after_head, starts_block};
 ghost use Rattle.iloc_spec_grammar.specs.Faults.{Fault, HasFault};
 ghost use Rattle.iloc_spec_grammar.specs.Steps.{Chain};
 ghost use Rattle.iloc_spec_grammar.specs.Values.{IsValue, IsWellFormed};
-ghost use Rattle.iloc_spec_parts.specs.Inline.{IsInline};
 ghost use Rattle.iloc_subtags.specs.Left.{left};
 ghost use Rattle.iloc_langid.specs.Reads as langid;
 ghost use Rattle.iloc_locale.specs.LocaleValue.{value_of, unknown_locale};
@@ -44,7 +43,7 @@ pub struct Locale {
 impl Locale {
     ghost use Rattle.iloc_extensions.specs.ExtensionsValue as extensions;
     ghost use Rattle.iloc_spec_grammar.specs.Meaning.{no_extensions};
-    ghost use Rattle.iloc_locale.specs.Reads.{WantsMemory};
+    ghost use Rattle.iloc_locale.specs.Reads.{LocaleReads, RunsOutOnlyIf, WantsMemory};
     ghost use Rattle.iloc_subtags.specs.Judging.{Accepts, Refuses};
 
     /// The unknown locale, `und`.
@@ -65,20 +64,18 @@ impl Locale {
     /// `OutOfMemory` comes only if the front of the head has more than four variants, or a block is reached
     /// that is not short.
     pub fn try_from_utf8(alloc: Global, code_units: &[u8]) -> Result<Self, ParseError>
-        ensures reads { LocaleReadsAs code_units.now result }
+        ensures reads { LocaleReads code_units.now result }
         ensures accepted { (M : meaning.Locale) → Means languages code_units.now M
-            → Accepts value_of (WantsMemory code_units.now) M result }
+            → Accepts value_of ⊤ M result }
         ensures refused { (f : Fault) → HasFault languages code_units.now f
-            → Refuses (WantsMemory code_units.now) f result }
-        ensures succeeds { IsInline languages code_units.now → IsOk result }
+            → Refuses ⊤ f result }
+        ensures memory { RunsOutOnlyIf (WantsMemory code_units.now) result }
         ensures well_formed { IfOk result
             (λ l. IsValue languages (value_of l) × IsWellFormed (value_of l)) }
         ensures steps { IfOk result (λ l. (n : ℕ) (u : Text)
             → Chain languages n code_units.now u → Means languages u (value_of l)) }
         ensures narrow { (M : meaning.Locale) → Means two_or_three code_units.now M
-            → IfOk result (λ l. value_of l ≡ M) }
-        ensures narrow_accepted { (M : meaning.Locale) → Means two_or_three code_units.now M
-            → IfErr result (λ e. e ≡ ParseError.OutOfMemory) }
+            → Accepts value_of ⊤ M result }
     {
         let mut locale = Locale::unknown(alloc);
         locale.fill(alloc, code_units)?;
@@ -105,20 +102,18 @@ impl Locale {
 
     /// Parses all of a `str`, as `try_from_utf8` parses bytes.
     pub fn try_from_str(alloc: Global, s: &str) -> Result<Self, ParseError>
-        ensures reads { LocaleReadsAs s.now result }
+        ensures reads { LocaleReads s.now result }
         ensures accepted { (M : meaning.Locale) → Means languages s.now M
-            → Accepts value_of (WantsMemory s.now) M result }
+            → Accepts value_of ⊤ M result }
         ensures refused { (f : Fault) → HasFault languages s.now f
-            → Refuses (WantsMemory s.now) f result }
-        ensures succeeds { IsInline languages s.now → IsOk result }
+            → Refuses ⊤ f result }
+        ensures memory { RunsOutOnlyIf (WantsMemory s.now) result }
         ensures well_formed { IfOk result
             (λ l. IsValue languages (value_of l) × IsWellFormed (value_of l)) }
         ensures steps { IfOk result (λ l. (n : ℕ) (u : Text)
             → Chain languages n s.now u → Means languages u (value_of l)) }
         ensures narrow { (M : meaning.Locale) → Means two_or_three s.now M
-            → IfOk result (λ l. value_of l ≡ M) }
-        ensures narrow_accepted { (M : meaning.Locale) → Means two_or_three s.now M
-            → IfErr result (λ e. e ≡ ParseError.OutOfMemory) }
+            → Accepts value_of ⊤ M result }
     {
         Self::try_from_utf8(alloc, s.as_bytes())
     }

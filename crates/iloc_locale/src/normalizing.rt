@@ -1,14 +1,14 @@
 //! Normal texts of locales, and whether a locale has one.
-ghost use Rattle.std.specs.Prelude.{◌≡◌, ◌↔◌, IsTrue, IsOk, IfOk, IfErr};
+ghost use Rattle.std.specs.Prelude.{◌≡◌, ◌↔◌, ⊤, IsTrue, IfOk, IfErr};
 ghost use Rattle.std.specs.Cow.{cow_str_bytes};
 ghost use Rattle.iloc_spec_grammar.specs.Words.{languages};
 ghost use Rattle.iloc_spec_grammar.specs.Meaning as meaning;
 ghost use Rattle.iloc_spec_grammar.specs.Meaning.{Means};
 ghost use Rattle.iloc_spec_grammar.specs.Values.{IsValue, IsWellFormed, text};
-ghost use Rattle.iloc_spec_parts.specs.Inline.{IsInline};
 ghost use Rattle.iloc_writeable.specs.Writing.{IsLent};
-ghost use Rattle.iloc_spec_grammar.specs.Faults.{Fault};
+ghost use Rattle.iloc_spec_grammar.specs.Faults.{Fault, HasFault};
 ghost use Rattle.iloc_spec_parts.specs.Small.{SmallLocale, IsSmall, HasSmallFault, locale_of_small};
+ghost use Rattle.iloc_subtags.specs.Answers.{Refusal};
 ghost use Rattle.iloc_subtags.specs.Judging.{Accepts, Refuses};
 ghost use Rattle.iloc_langid.specs.SmallLocaleReads.{SmallLocaleReadsAs, small_locale_of};
 
@@ -22,7 +22,8 @@ use std::borrow::CowStr;
 
 impl Locale {
     ghost use Rattle.iloc_locale.specs.LocaleValue.{value_of};
-    ghost use Rattle.iloc_locale.specs.Normalizing.{IsTextOf, IsNormalizedFrom, RefusesNormalizing};
+    ghost use Rattle.iloc_locale.specs.Reads.{RunsOutOnlyIf};
+    ghost use Rattle.iloc_locale.specs.Normalizing.{IsNormalizedFrom, NormalizingWantsMemory};
 
     /// The normal text of what the text means, borrowed exactly if the text is that already.
     ///
@@ -32,9 +33,8 @@ impl Locale {
     pub fn normalize_utf8(alloc: Global, input: &[u8]) -> Result<CowStr<'_, Global>, ParseError>
         ensures ok { IfOk result (λ text. IsNormalizedFrom input.now (cow_str_bytes text)
             × (IsLent text ↔ (input.now ≡ cow_str_bytes text))) }
-        ensures err { IfErr result (RefusesNormalizing input.now) }
-        ensures succeeds { IsInline languages input.now → IsTextOf input.now input.now
-            → IsOk result }
+        ensures err { IfErr result (Refusal (HasFault languages input.now) ⊤) }
+        ensures memory { RunsOutOnlyIf (NormalizingWantsMemory input.now) result }
     {
         let locale = Self::try_from_utf8(alloc, input)?;
         Ok(to_string_or_borrow(alloc, &locale, input)?)
@@ -44,9 +44,8 @@ impl Locale {
     pub fn normalize(alloc: Global, input: &str) -> Result<CowStr<'_, Global>, ParseError>
         ensures ok { IfOk result (λ text. IsNormalizedFrom input.now (cow_str_bytes text)
             × (IsLent text ↔ (input.now ≡ cow_str_bytes text))) }
-        ensures err { IfErr result (RefusesNormalizing input.now) }
-        ensures succeeds { IsInline languages input.now → IsTextOf input.now input.now
-            → IsOk result }
+        ensures err { IfErr result (Refusal (HasFault languages input.now) ⊤) }
+        ensures memory { RunsOutOnlyIf (NormalizingWantsMemory input.now) result }
     {
         Self::normalize_utf8(alloc, input.as_bytes())
     }

@@ -9,8 +9,8 @@ returns-in-Langid c =
 
 pub returns-in-Locale : goal.returns-in-Locale
 returns-in-Locale c =
-    rw c.in-Locale.is (judged Locale c.args.text.now text_of_locale c.try_from_utf8-in-Locale.result c.outcome-in-Locale.result (locale_read c.args.text.now c.try_from_utf8-in-Locale.result c.try_from_utf8-in-Locale.ensures.reads) c.outcome-in-Locale.ensures)
+    rw c.in-Locale.is (judged Locale c.args.text.now text_of_locale c.try_from_utf8-in-Locale.result c.outcome-in-Locale.result (locale_read c.args.text.now c.try_from_utf8-in-Locale.result c.try_from_utf8-in-Locale.ensures.reads c.try_from_utf8-in-Locale.ensures.memory) c.outcome-in-Locale.ensures)
 
 pub returns-in-Data : goal.returns-in-Data
 returns-in-Data c =
-    rw c.in-Data.is (judged Data c.args.text.now text_of_data c.try_from_utf8-in-Data.result c.outcome-in-Data.result (data_read c.args.text.now c.try_from_utf8-in-Data.result c.try_from_utf8-in-Data.ensures.reads) c.outcome-in-Data.ensures)
+    rw c.in-Data.is (judged Data c.args.text.now text_of_data c.try_from_utf8-in-Data.result c.outcome-in-Data.result (data_read c.args.text.now c.try_from_utf8-in-Data.result c.try_from_utf8-in-Data.ensures.reads c.try_from_utf8-in-Data.ensures.memory) c.outcome-in-Data.ensures)

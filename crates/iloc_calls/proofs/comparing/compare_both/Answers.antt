@@ -9,8 +9,8 @@ returns-in-Langid c =
 
 pub returns-in-Locale : goal.returns-in-Locale
 returns-in-Locale c =
-    rw c.in-Locale.is (ordered Locale c.args.text.now c.args.other.now c.args.order.now c.order_read-in-Locale.new.order text_of_locale c.order_read-in-Locale.result c.try_from_utf8-in-Locale.result c.try_from_utf8-in-Locale-2.result (locale_read c.args.text.now c.try_from_utf8-in-Locale.result c.try_from_utf8-in-Locale.ensures.reads) (locale_read c.args.other.now c.try_from_utf8-in-Locale-2.result c.try_from_utf8-in-Locale-2.ensures.reads) c.order_read-in-Locale.ensures)
+    rw c.in-Locale.is (ordered Locale c.args.text.now c.args.other.now c.args.order.now c.order_read-in-Locale.new.order text_of_locale c.order_read-in-Locale.result c.try_from_utf8-in-Locale.result c.try_from_utf8-in-Locale-2.result (locale_read c.args.text.now c.try_from_utf8-in-Locale.result c.try_from_utf8-in-Locale.ensures.reads c.try_from_utf8-in-Locale.ensures.memory) (locale_read c.args.other.now c.try_from_utf8-in-Locale-2.result c.try_from_utf8-in-Locale-2.ensures.reads c.try_from_utf8-in-Locale-2.ensures.memory) c.order_read-in-Locale.ensures)
 
 pub returns-in-Data : goal.returns-in-Data
 returns-in-Data c =
-    rw c.in-Data.is (ordered Data c.args.text.now c.args.other.now c.args.order.now c.order_read-in-Data.new.order text_of_data c.order_read-in-Data.result c.try_from_utf8-in-Data.result c.try_from_utf8-in-Data-2.result (data_read c.args.text.now c.try_from_utf8-in-Data.result c.try_from_utf8-in-Data.ensures.reads) (data_read c.args.other.now c.try_from_utf8-in-Data-2.result c.try_from_utf8-in-Data-2.ensures.reads) c.order_read-in-Data.ensures)
+    rw c.in-Data.is (ordered Data c.args.text.now c.args.other.now c.args.order.now c.order_read-in-Data.new.order text_of_data c.order_read-in-Data.result c.try_from_utf8-in-Data.result c.try_from_utf8-in-Data-2.result (data_read c.args.text.now c.try_from_utf8-in-Data.result c.try_from_utf8-in-Data.ensures.reads c.try_from_utf8-in-Data.ensures.memory) (data_read c.args.other.now c.try_from_utf8-in-Data-2.result c.try_from_utf8-in-Data-2.ensures.reads c.try_from_utf8-in-Data-2.ensures.memory) c.order_read-in-Data.ensures)

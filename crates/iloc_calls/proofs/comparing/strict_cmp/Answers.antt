@@ -9,8 +9,8 @@ returns-in-Langid c =
 
 pub returns-in-Locale : goal.returns-in-Locale
 returns-in-Locale c =
-    rw c.in-Locale.is (compared Locale c.args.text.now c.args.other.now c.args.order.now c.compare-in-Locale.new.order text_of_locale c.try_from_utf8-in-Locale.result c.compare-in-Locale.result (locale_read c.args.text.now c.try_from_utf8-in-Locale.result c.try_from_utf8-in-Locale.ensures.reads) c.compare-in-Locale.ensures)
+    rw c.in-Locale.is (compared Locale c.args.text.now c.args.other.now c.args.order.now c.compare-in-Locale.new.order text_of_locale c.try_from_utf8-in-Locale.result c.compare-in-Locale.result (locale_read c.args.text.now c.try_from_utf8-in-Locale.result c.try_from_utf8-in-Locale.ensures.reads c.try_from_utf8-in-Locale.ensures.memory) c.compare-in-Locale.ensures)
 
 pub returns-in-Data : goal.returns-in-Data
 returns-in-Data c =
-    rw c.in-Data.is (compared Data c.args.text.now c.args.other.now c.args.order.now c.compare-in-Data.new.order text_of_data c.try_from_utf8-in-Data.result c.compare-in-Data.result (data_read c.args.text.now c.try_from_utf8-in-Data.result c.try_from_utf8-in-Data.ensures.reads) c.compare-in-Data.ensures)
+    rw c.in-Data.is (compared Data c.args.text.now c.args.other.now c.args.order.now c.compare-in-Data.new.order text_of_data c.try_from_utf8-in-Data.result c.compare-in-Data.result (data_read c.args.text.now c.try_from_utf8-in-Data.result c.try_from_utf8-in-Data.ensures.reads c.try_from_utf8-in-Data.ensures.memory) c.compare-in-Data.ensures)

@@ -5,7 +5,7 @@ use Rattle.iloc_calls.proofs.same.same_data_locales.Goals as goal
 
 pub returns-in-Err-try_from_utf8 : goal.returns-in-Err-try_from_utf8
 returns-in-Err-try_from_utf8 c =
-    other_data_locale c.args.text.now c.args.other.now c.args.same.now 0 (value_of c.in-Ok.data) c.in-Err-try_from_utf8.field-0 c.in-Ok.ensures.reads c.in-Err-try_from_utf8.ensures.reads refl
+    other_data_locale c.args.text.now c.args.other.now c.args.same.now 0 (value_of c.in-Ok.data) c.in-Err-try_from_utf8.field-0 c.in-Ok.ensures.reads c.in-Err-try_from_utf8.ensures.reads c.in-Err-try_from_utf8.ensures.memory refl
 
 pub returns-in-Ok-order_of : goal.returns-in-Ok-order_of
 returns-in-Ok-order_of c =

@@ -1,14 +1,14 @@
 -- a text is read as its bytes are
-use Rattle.std.proofs.Common.{ℕ, List, IsOk, subst}
-use Rattle.iloc_spec_grammar.specs.Words.{two_or_three}
-use Rattle.iloc_spec_preferences.specs.DataLocales as parts
-use Rattle.iloc_spec_preferences.specs.DataLocales.{DataMeans}
+use Rattle.std.proofs.Common.{ℕ, List, subst}
 use Rattle.iloc_data.specs.Reads.{DataReadsAs}
-use Rattle.iloc_data.proofs.ReadLemmas.{data_accepts, data_refuses}
+use Rattle.iloc_data.proofs.ReadLemmas.{data_accepts, data_refuses, keeps_narrow}
 use Rattle.iloc_data.proofs.data_locale.DataLocale.try_from_str.Goals as goal
 
 pub returns-clause-reads : goal.returns-clause-reads
 returns-clause-reads c = subst (λ (t : List ℕ). DataReadsAs t c.try_from_utf8.result) c.as_bytes.ensures.value c.try_from_utf8.ensures.reads
+
+pub returns-clause-memory : goal.returns-clause-memory
+returns-clause-memory c = c.try_from_utf8.ensures.memory
 
 pub returns-clause-accepted : goal.returns-clause-accepted
 returns-clause-accepted c = data_accepts c.args.s.now c.try_from_utf8.result (returns-clause-reads c)
@@ -16,5 +16,5 @@ returns-clause-accepted c = data_accepts c.args.s.now c.try_from_utf8.result (re
 pub returns-clause-refused : goal.returns-clause-refused
 returns-clause-refused c = data_refuses c.args.s.now c.try_from_utf8.result (returns-clause-reads c)
 
-pub returns-clause-narrow_accepted : goal.returns-clause-narrow_accepted
-returns-clause-narrow_accepted c = subst (λ (t : List ℕ). (d : parts.DataLocale) → DataMeans two_or_three t d → IsOk c.try_from_utf8.result) c.as_bytes.ensures.value c.try_from_utf8.ensures.narrow_accepted
+pub returns-clause-narrow : goal.returns-clause-narrow
+returns-clause-narrow c = keeps_narrow c.args.s.now c.try_from_utf8.result (returns-clause-reads c)

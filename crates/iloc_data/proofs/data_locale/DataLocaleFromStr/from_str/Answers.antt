@@ -5,8 +5,8 @@ returns c = record {
   reads = c.try_from_str.ensures.reads;
   accepted = c.try_from_str.ensures.accepted;
   refused = c.try_from_str.ensures.refused;
+  memory = c.try_from_str.ensures.memory;
   back = c.try_from_str.ensures.back;
   converted = c.try_from_str.ensures.converted;
   narrow = c.try_from_str.ensures.narrow;
-  narrow_accepted = c.try_from_str.ensures.narrow_accepted;
 }

@@ -1,7 +1,15 @@
 -- a text is normalised as its bytes are
+use Rattle.std.specs.Prelude.{⊤}
 use Rattle.std.proofs.Common.{ℕ, List, IfErr, subst}
-use Rattle.iloc_locale.specs.Normalizing.{RefusesNormalizing}
+use Rattle.iloc_spec_grammar.specs.Words.{languages}
+use Rattle.iloc_spec_grammar.specs.Faults.{HasFault}
+use Rattle.iloc_subtags.specs.Answers.{Refusal}
+use Rattle.iloc_locale.specs.Reads.{RunsOutOnlyIf}
+use Rattle.iloc_locale.specs.Normalizing.{NormalizingWantsMemory}
 use Rattle.iloc_locale.proofs.locale.Locale.normalize.Goals as goal
 
 pub returns-clause-err : goal.returns-clause-err
-returns-clause-err c = subst (λ (t : List ℕ). IfErr c.normalize_utf8.result (RefusesNormalizing t)) c.as_bytes.ensures.value c.normalize_utf8.ensures.err
+returns-clause-err c = subst (λ (t : List ℕ). IfErr c.normalize_utf8.result (Refusal (HasFault languages t) ⊤)) c.as_bytes.ensures.value c.normalize_utf8.ensures.err
+
+pub returns-clause-memory : goal.returns-clause-memory
+returns-clause-memory c = subst (λ (t : List ℕ). RunsOutOnlyIf (NormalizingWantsMemory t) c.normalize_utf8.result) c.as_bytes.ensures.value c.normalize_utf8.ensures.memory

@@ -1,6 +1,6 @@
 use Rattle.std.proofs.Common.{Ok}
 use Rattle.std.proofs.lemmas.Result.{err_from_is_err_and}
-use Rattle.iloc_locale.proofs.ReadLemmas.{reads_well_formed, reads_steps, reads_accepts, reads_refuses, reads_inline, reads_narrow, accepts_narrow, none_after_unknown}
+use Rattle.iloc_locale.proofs.ReadLemmas.{reads_apart, reads_memory, reads_well_formed, reads_steps, reads_accepts, reads_refuses, reads_narrow, none_after_unknown}
 use Rattle.iloc_locale.proofs.locale.Locale.try_from_utf8.Goals as goal
 
 pub fill-requires : goal.fill-requires
@@ -11,7 +11,12 @@ fill-requires c = none_after_unknown c.unknown-locale.result c.unknown-locale.en
 pub returns-in_err-fill-clause-reads : goal.returns-in_err-fill-clause-reads
 returns-in_err-fill-clause-reads c =
     let p = err_from_is_err_and c.from_residual.result c.from_residual.ensures.1 in
-    rw (p.1, p.2) c.in_err-fill.ensures
+    reads_apart c.args.code_units.now c.from_residual.result (rw (p.1, p.2) c.in_err-fill.ensures)
+
+pub returns-in_err-fill-clause-memory : goal.returns-in_err-fill-clause-memory
+returns-in_err-fill-clause-memory c =
+    let p = err_from_is_err_and c.from_residual.result c.from_residual.ensures.1 in
+    reads_memory c.args.code_units.now c.from_residual.result (rw (p.1, p.2) c.in_err-fill.ensures)
 
 pub returns-in_err-fill-clause-accepted : goal.returns-in_err-fill-clause-accepted
 returns-in_err-fill-clause-accepted c = reads_accepts c.args.code_units.now c.from_residual.result (returns-in_err-fill-clause-reads c)
@@ -19,11 +24,8 @@ returns-in_err-fill-clause-accepted c = reads_accepts c.args.code_units.now c.fr
 pub returns-in_err-fill-clause-refused : goal.returns-in_err-fill-clause-refused
 returns-in_err-fill-clause-refused c = reads_refuses c.args.code_units.now c.from_residual.result (returns-in_err-fill-clause-reads c)
 
-pub returns-in_err-fill-clause-succeeds : goal.returns-in_err-fill-clause-succeeds
-returns-in_err-fill-clause-succeeds c = reads_inline c.args.code_units.now c.from_residual.result (returns-in_err-fill-clause-reads c)
-
-pub returns-in_err-fill-clause-narrow_accepted : goal.returns-in_err-fill-clause-narrow_accepted
-returns-in_err-fill-clause-narrow_accepted c = accepts_narrow c.args.code_units.now c.from_residual.result (returns-in_err-fill-clause-reads c)
+pub returns-in_err-fill-clause-narrow : goal.returns-in_err-fill-clause-narrow
+returns-in_err-fill-clause-narrow c = reads_narrow c.args.code_units.now c.from_residual.result (returns-in_err-fill-clause-reads c)
 
 pub returns-clause-well_formed : goal.returns-clause-well_formed
 returns-clause-well_formed c = reads_well_formed c.args.code_units.now (Ok c.fill.new.self) c.in_ok-fill.ensures
