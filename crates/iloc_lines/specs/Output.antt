@@ -1,11 +1,11 @@
 -- What a run writes for what it reads: the output of the definitions, by the mode.
-use Rattle.std.specs.Prelude.{◌≡◌, ℕ, List, ◌++◌, codes, Option, IfSome}
+use Rattle.std.specs.Prelude.{◌≡◌, ◌++◌, codes, Option, IfSome}
 use Rattle.std.specs.Io.{StartsWith}
 use Rattle.std.specs.Io.KnownBytes.{Appends, Consumes, IsAtEnd}
 use Rattle.iloc_spec_grammar.specs.Shapes.{Text}
 use Rattle.iloc_spec_grammar.specs.Words.{languages}
 use Rattle.iloc_spec_output.specs.Output as outputs
-use Rattle.iloc_spec_output.specs.Output.{IsOutput}
+pub use Rattle.iloc_spec_output.specs.Output.{IsAnswer, IsOutput}
 use Rattle.iloc_subtags.specs.declared.parse_error.ParseError.{ParseError}
 use Rattle.iloc_subtags.specs.ParseError.{words_of}
 use Rattle.iloc_lines.specs.declared.Mode.{Mode}
