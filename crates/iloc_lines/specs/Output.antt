@@ -17,21 +17,23 @@ mode_of Langid = outputs.OfIdentifiers
 mode_of Locale = outputs.OfLocales
 mode_of Data = outputs.OfDataLocales
 
--- the answer to a line, the same with its newline, and what is written for an input
+-- The answer to a line, as it is computed.
 abbrev pub line_answer : Mode → Text → Text
 line_answer mode line = outputs.line_answer languages (mode_of mode) line
 
+-- The same with its newline.
 abbrev pub reply : Mode → Text → Text
 reply mode line = outputs.reply languages (mode_of mode) line
 
+-- What is written for an input, as it is computed.
 abbrev pub output : Mode → Text → Text
 output mode input = outputs.output languages (mode_of mode) input
 
--- why a line has no normal text
+-- Why a line has no normal text.
 abbrev pub refusal_text : ParseError → Text
 refusal_text e = codes "! " ++ words_of e
 
--- in the mode the line is refused for this reason
+-- In the mode the line is refused for this reason.
 abbrev pub IsRefused : Mode → Text → ParseError → Type 0
 IsRefused mode line e = line_answer mode line ≡ refusal_text e
 
