@@ -130,7 +130,6 @@ READERS = {
         [("NotText", "the JSON value is no string"), ("Parse", "the parser of the type refuses the string; its refusal is inside")],
         "`OutOfMemory` only if the parser of the type runs out of memory. That of a subtag never does.",
     ),
-    "iloc_json.WritesText": ([], "May allocate: `OutOfMemory` if that fails."),
     "iloc_subtags.Refused": (
         [
             ("Length", "the length is no multiple of three; this is tested first"),
@@ -150,6 +149,7 @@ READERS = {
 # Refusals of calls whose contract leaves them to each type.
 BY_CALL = {
     "PreferenceKey::try_from_key_value": (KEYWORD_VALUE, "the type is `DictionaryBreakScriptExclusions` and the value has more than four scripts"),
+    "JsonText::to_json": ([], "May allocate: `OutOfMemory` if that fails."),
     "TextValue::read_text": ([("ParseError", "the parser of the type refuses the text")], "`OutOfMemory` only if the parser of the type runs out of memory."),
     "write_to_io": ([("io::Error", "the writer fails, or takes no byte (`WriteZero`); it then took a beginning of the text")], None),
     "Writeable::write_to": ([("fmt::Error", "the sink fails; it then took a beginning of the text")], None),

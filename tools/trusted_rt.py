@@ -150,7 +150,7 @@ class Reader:
                 at += rest.end()
                 continue
             start = found.start() + len(found[0]) - len(found[0].lstrip())
-            at = self.item(source, found[2].split(), start, found.end(), owner, bool(found[1].strip()))
+            at = self.item(source, found[2].split(), start, found.end(), owner, found[1].strip() == "pub")
 
     def item(self, source, kind, start, at, owner, is_public):
         """Reads the item that begins there, and returns the place after it."""

@@ -59,7 +59,8 @@ JudgedAs mode t NotFound = ⊥
 
 -- What is written for a caller.
 
--- the bytes are at the front of the buffer if they fit; else it is as before, and their number says how large it must be
+-- the bytes are at the front of the buffer if they fit; else it is as before, and their number says
+-- how large it must be
 abbrev pub HandsOut : Text → Text → Text → ℕ → Status → Type 0
 HandsOut bytes before after needed Done = (length bytes ≤ length before) × (needed ≡ length bytes)
     × (after ≡ bytes ++ drop (length bytes) before)
@@ -71,11 +72,14 @@ HandsOut bytes before after needed _ = ⊥
 abbrev pub NormalizesTo : Mode → Text → Text → Text → ℕ → Status → Type 0
 NormalizesTo mode t before after needed Done = (normal : Text) × IsNormalText mode t normal
     × HandsOut normal before after needed Done
-NormalizesTo mode t before after needed BufferTooSmall = (normal : Text) × IsNormalText mode t normal
+NormalizesTo mode t before after needed BufferTooSmall =
+    (normal : Text) × IsNormalText mode t normal
     × HandsOut normal before after needed BufferTooSmall
-NormalizesTo mode t before after needed status = JudgedAs mode t status × (needed ≡ 0) × (after ≡ before)
+NormalizesTo mode t before after needed status =
+    JudgedAs mode t status × (needed ≡ 0) × (after ≡ before)
 
--- how much longer than a text its normal text may be: a data locale is printed with its subdivision's region
+-- how much longer than a text its normal text may be: a data locale is printed with its
+-- subdivision's region
 abbrev pub growth : Mode → ℕ
 growth Langid = 0
 growth Locale = 0
@@ -96,20 +100,23 @@ ComparesTo mode t other before after status = JudgedAs mode t status × (after �
 abbrev pub IsNotNormal : Mode → Text → Type 0
 IsNotNormal mode t = (normal : Text) × IsNormalText mode t normal × ¬ (t ≡ normal)
 
--- the order of two normal texts is written; or memory ran out for the second, which is not the bytes
+-- the order of two normal texts is written; or memory ran out for the second, which is not the
+-- bytes
 abbrev pub IsOrderOf : Text → Text → Text → ℤ → ℤ → Status → Type 0
 IsOrderOf a b bytes before after Done = after ≡ order_number (slice_cmp nat_cmp a b)
 IsOrderOf a b bytes before after OutOfMemory = ¬ (bytes ≡ b) × (after ≡ before)
 IsOrderOf a b bytes before after _ = ⊥
 
--- the byte order of both normal texts is written; a refusal is of the first text, or else of the other
+-- the byte order of both normal texts is written; a refusal is of the first text, or else of the
+-- other
 abbrev pub OrdersTo : Mode → Text → Text → ℤ → ℤ → Status → Type 0
 OrdersTo mode t other before after Done = (a b : Text) × IsNormalText mode t a
     × IsNormalText mode other b × (after ≡ order_number (slice_cmp nat_cmp a b))
 OrdersTo mode t other before after OutOfMemory =
     (WantsMemory mode t ⊎ (WantsMemory mode other ⊎ IsNotNormal mode other)) × (after ≡ before)
 OrdersTo mode t other before after status =
-    (JudgedAs mode t status ⊎ ((normal : Text) × IsNormalText mode t normal × JudgedAs mode other status))
+    (JudgedAs mode t status
+    ⊎ ((normal : Text) × IsNormalText mode t normal × JudgedAs mode other status))
     × (after ≡ before)
 
 -- both texts mean the same
@@ -119,7 +126,8 @@ MeanSame Langid t u = (i : Identifier) × IdentifierMeans languages (pieces t) i
 MeanSame Locale t u = (M : meaning.Locale) × Means languages t M × Means languages u M
 MeanSame Data t u = (d : DataLocale) × DataMeans languages t d × DataMeans languages u d
 
--- when telling whether they do may allocate: to parse either; a data locale is printed to be compared
+-- when telling whether they do may allocate: to parse either; a data locale is printed to be
+-- compared
 abbrev pub TellingWantsMemory : Mode → Text → Text → Type 0
 TellingWantsMemory Langid t u = WantsMemory Langid t ⊎ WantsMemory Langid u
 TellingWantsMemory Locale t u = WantsMemory Locale t ⊎ WantsMemory Locale u

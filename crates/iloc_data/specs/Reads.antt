@@ -1,4 +1,4 @@
--- What the reader of data locales answers. It allocates nothing.
+-- What the parser of data locales returns. It allocates nothing. This library's rule.
 use Rattle.std.specs.Prelude.{◌≡◌, ⊤, ℕ, List, Result, IfOk}
 use Rattle.iloc_spec_grammar.specs.Shapes.{Text}
 use Rattle.iloc_spec_grammar.specs.Words.{languages, two_or_three}
@@ -15,17 +15,18 @@ use Rattle.iloc_locale.specs.Reads.{RunsOutOnlyIf}
 use Rattle.iloc_data.specs.declared.data_locale.DataLocale.{DataLocale}
 use Rattle.iloc_data.specs.DataValue.{value_of}
 
--- what a text is read as
+-- The text is read as the data locale that it means, or refused for its fault.
 abbrev pub DataReadsAs : Text → Result DataLocale ParseError → Type 0
 DataReadsAs t = Answers (λ d. DataMeans languages t (value_of d))
     (ButDuplicate (HasDataFault languages t)) ⊤
 
--- all that is promised of the answer on a text: each clause of `try_from_str`
+-- All that is promised of the result on a text: each clause of `try_from_str`.
 pub record IsDataAnswer (t : Text) (r : Result DataLocale ParseError) : Type 0 where
   pub reads : DataReadsAs t r
   pub accepted : (d : parts.DataLocale) → DataMeans languages t d → Accepts value_of ⊤ d r
   pub refused : (f : Fault) → HasDataFault languages t f → Refuses ⊤ f r
   pub memory : RunsOutOnlyIf ⊥ r
   pub back : IfOk r (λ d. DataMeans languages (data_text (value_of d)) (value_of d))
-  pub converted : IfOk r (λ d. (M : meaning.Locale) → Means languages t M → value_of d ≡ language_priority (preferences M))
+  pub converted : IfOk r (λ d. (M : meaning.Locale) → Means languages t M
+      → value_of d ≡ language_priority (preferences M))
   pub narrow : (d : parts.DataLocale) → DataMeans two_or_three t d → Accepts value_of ⊤ d r

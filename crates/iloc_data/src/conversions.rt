@@ -22,7 +22,7 @@ use std::alloc::Global;
 
 impl DataLocale {
     ghost use Rattle.iloc_data.specs.DataValue.{value_of};
-    ghost use Rattle.iloc_data.specs.WithKeywords.{with_keywords};
+    ghost use Rattle.iloc_spec_preferences.specs.DataLocales.{with_keywords};
 
     /// The locale of the same parts: the one well-formed locale that prints the same text. It allocates nothing.
     pub fn into_locale(self, alloc: Global) -> Locale

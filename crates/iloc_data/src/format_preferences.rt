@@ -5,8 +5,9 @@ ghost use Rattle.iloc_spec_preferences.specs.Formatters.{
   format_preferences,
   is_strict_format,
   merge_format,
+  plain_format,
 };
-ghost use Rattle.iloc_data.specs.FormatterValues.{format_of_time, format_value, time_value};
+ghost use Rattle.iloc_data.specs.FormatterValues.{format_value, time_value};
 
 use crate::LocalePreferences;
 use crate::keywords::keyword;
@@ -68,7 +69,7 @@ impl FormatPreferences {
 
     // Those of a time formatter, and no calendar.
     fn of_time(time: &TimePreferences) -> Self
-        ensures { format_value result ≡ format_of_time (time_value time.now) }
+        ensures { format_value result ≡ plain_format (time_value time.now) }
     {
         FormatPreferences {
             locale_preferences: time.locale_preferences,
@@ -82,10 +83,11 @@ impl FormatPreferences {
 /// `und`, and nothing else.
 impl Default for FormatPreferences {
     ghost use Rattle.std.specs.Prelude.{◌≡◌};
-    ghost use Rattle.iloc_spec_preferences.specs.Formatters.{default_format};
+    ghost use Rattle.iloc_spec_preferences.specs.Formatters.{plain_format, plain_time};
+    ghost use Rattle.iloc_spec_preferences.specs.Preferences.{default_preferences};
     ghost use Rattle.iloc_data.specs.FormatterValues.{format_value};
 
-    ghost is_default = { λ p. format_value p ≡ default_format };
+    ghost is_default = { λ p. format_value p ≡ plain_format (plain_time default_preferences) };
 
     fn default() -> Self {
         FormatPreferences::of_time(&TimePreferences::default())
@@ -128,10 +130,12 @@ impl From<Locale> for FormatPreferences {
 impl From<&LanguageIdentifier> for FormatPreferences {
     ghost use Rattle.std.specs.Prelude.{◌≡◌};
     ghost use Rattle.iloc_langid.specs.Reads.{value_of as identifier_of};
-    ghost use Rattle.iloc_data.specs.FormatterValues.{format_of_time, format_value, time_of_identifier};
+    ghost use Rattle.iloc_spec_preferences.specs.Preferences.{identifier_preferences};
+    ghost use Rattle.iloc_spec_preferences.specs.Formatters.{plain_format, plain_time};
+    ghost use Rattle.iloc_data.specs.FormatterValues.{format_value};
 
     ghost from_gives = { λ langid p. format_value p
-        ≡ format_of_time (time_of_identifier (identifier_of langid.now)) };
+        ≡ plain_format (plain_time (identifier_preferences (identifier_of langid.now))) };
 
     fn from(lid: &LanguageIdentifier) -> Self {
         FormatPreferences::of_time(&TimePreferences::from(lid))
@@ -142,10 +146,12 @@ impl From<&LanguageIdentifier> for FormatPreferences {
 impl From<LanguageIdentifier> for FormatPreferences {
     ghost use Rattle.std.specs.Prelude.{◌≡◌};
     ghost use Rattle.iloc_langid.specs.Reads.{value_of as identifier_of};
-    ghost use Rattle.iloc_data.specs.FormatterValues.{format_of_time, format_value, time_of_identifier};
+    ghost use Rattle.iloc_spec_preferences.specs.Preferences.{identifier_preferences};
+    ghost use Rattle.iloc_spec_preferences.specs.Formatters.{plain_format, plain_time};
+    ghost use Rattle.iloc_data.specs.FormatterValues.{format_value};
 
     ghost from_gives = { λ langid p. format_value p
-        ≡ format_of_time (time_of_identifier (identifier_of langid)) };
+        ≡ plain_format (plain_time (identifier_preferences (identifier_of langid))) };
 
     fn from(lid: LanguageIdentifier) -> Self {
         FormatPreferences::from(&lid)

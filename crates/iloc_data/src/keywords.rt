@@ -1,13 +1,12 @@
 //! The keywords of formatters: each as it reads, and whether it is absent or readable.
-ghost use Rattle.std.specs.Prelude.{◌≡◌, ℕ, List, Option, None, option_map};
+ghost use Rattle.std.specs.Prelude.{◌≡◌, ℕ, List, Option, None, option_map, codes};
 ghost use Rattle.iloc_locale.specs.LocaleValue.{value_of as locale_value};
 ghost use Rattle.iloc_spec_preferences.specs.Keywords.{
   CalendarAlgorithm as the_calendars,
   HourCycle as the_hours,
   key as key_of_keyword,
   enum_reads,
-  nu,
-  subtag_reads,
+  single,
 };
 ghost use Rattle.iloc_spec_preferences.specs.Preferences.{is_readable, read_keyword};
 ghost use Rattle.iloc_keyword_types.specs.Calendars.{value_of as calendar_value};
@@ -63,9 +62,9 @@ impl FormatterKeyword for NumberingSystem {
 
     ghost meaning = { λ w. w };
 
-    ghost key_text = { nu };
+    ghost key_text = { codes "nu" };
 
-    ghost reads = { subtag_reads };
+    ghost reads = { single };
 
     #[tactic(auto, unfolding(iloc_spec_grammar::specs::Words::is_word, iloc_spec_grammar::specs::Words::lower))]
     fn key() -> UnicodeKey {

@@ -5,7 +5,7 @@ use std::fmt;
 
 /// The pieces are language, script, region, variant, and `u`, `sd` and the value of a subdivision that is printed.
 impl Pieces for DataLocale {
-    ghost use Rattle.iloc_data_parts.specs.PartsReading.{data_pieces};
+    ghost use Rattle.iloc_spec_preferences.specs.DataLocales.{data_pieces};
     ghost use Rattle.iloc_data.specs.DataValue.{value_of};
 
     ghost pieces = { λ d. data_pieces (value_of d) };

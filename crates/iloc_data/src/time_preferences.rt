@@ -68,10 +68,11 @@ impl TimePreferences {
 /// `und`, and nothing else.
 impl Default for TimePreferences {
     ghost use Rattle.std.specs.Prelude.{◌≡◌};
-    ghost use Rattle.iloc_spec_preferences.specs.Formatters.{default_time};
+    ghost use Rattle.iloc_spec_preferences.specs.Formatters.{plain_time};
+    ghost use Rattle.iloc_spec_preferences.specs.Preferences.{default_preferences};
     ghost use Rattle.iloc_data.specs.FormatterValues.{time_value};
 
-    ghost is_default = { λ p. time_value p ≡ default_time };
+    ghost is_default = { λ p. time_value p ≡ plain_time default_preferences };
 
     fn default() -> Self {
         TimePreferences {
@@ -117,9 +118,12 @@ impl From<Locale> for TimePreferences {
 impl From<&LanguageIdentifier> for TimePreferences {
     ghost use Rattle.std.specs.Prelude.{◌≡◌};
     ghost use Rattle.iloc_langid.specs.Reads.{value_of as identifier_of};
-    ghost use Rattle.iloc_data.specs.FormatterValues.{time_of_identifier, time_value};
+    ghost use Rattle.iloc_spec_preferences.specs.Preferences.{identifier_preferences};
+    ghost use Rattle.iloc_spec_preferences.specs.Formatters.{plain_time};
+    ghost use Rattle.iloc_data.specs.FormatterValues.{time_value};
 
-    ghost from_gives = { λ langid p. time_value p ≡ time_of_identifier (identifier_of langid.now) };
+    ghost from_gives = { λ langid p. time_value p
+        ≡ plain_time (identifier_preferences (identifier_of langid.now)) };
 
     fn from(lid: &LanguageIdentifier) -> Self {
         TimePreferences {
@@ -134,9 +138,12 @@ impl From<&LanguageIdentifier> for TimePreferences {
 impl From<LanguageIdentifier> for TimePreferences {
     ghost use Rattle.std.specs.Prelude.{◌≡◌};
     ghost use Rattle.iloc_langid.specs.Reads.{value_of as identifier_of};
-    ghost use Rattle.iloc_data.specs.FormatterValues.{time_of_identifier, time_value};
+    ghost use Rattle.iloc_spec_preferences.specs.Preferences.{identifier_preferences};
+    ghost use Rattle.iloc_spec_preferences.specs.Formatters.{plain_time};
+    ghost use Rattle.iloc_data.specs.FormatterValues.{time_value};
 
-    ghost from_gives = { λ langid p. time_value p ≡ time_of_identifier (identifier_of langid) };
+    ghost from_gives = { λ langid p. time_value p
+        ≡ plain_time (identifier_preferences (identifier_of langid)) };
 
     fn from(lid: LanguageIdentifier) -> Self {
         TimePreferences::from(&lid)
@@ -146,10 +153,9 @@ impl From<LanguageIdentifier> for TimePreferences {
 /// What the two have in common.
 impl From<&FormatPreferences> for TimePreferences {
     ghost use Rattle.std.specs.Prelude.{◌≡◌};
-    ghost use Rattle.iloc_spec_preferences.specs.Formatters.{time_of_format};
     ghost use Rattle.iloc_data.specs.FormatterValues.{format_value, time_value};
 
-    ghost from_gives = { λ other p. time_value p ≡ time_of_format (format_value other.now) };
+    ghost from_gives = { λ other p. time_value p ≡ (format_value other.now).time };
 
     fn from(other: &FormatPreferences) -> Self {
         TimePreferences {

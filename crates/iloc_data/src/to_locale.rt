@@ -1,13 +1,11 @@
 //! The locale that preferences are turned into.
-ghost use Rattle.std.specs.Prelude.{◌≡◌, ◌≤◌, ◌++◌, true, length, IfOk, IsOk};
+ghost use Rattle.std.specs.Prelude.{◌≡◌, ◌≤◌, ◌++◌, true, length, IfOk, IsOk, codes};
 ghost use Rattle.iloc_spec_grammar.specs.Values.{IsWellFormed};
 ghost use Rattle.iloc_locale.specs.LocaleValue.{value_of as locale_value};
-ghost use Rattle.iloc_spec_preferences.specs.DataLocales.{sd};
 ghost use Rattle.iloc_spec_preferences.specs.Preferences.{
   SpellsNoTrue,
   preferences,
   is_strict,
-  rg,
   sd_entry,
   rg_entry,
   locale_of_preferences,
@@ -62,8 +60,11 @@ fn keywords_of(
     subdivision: Option<Value>,
 ) -> Result<Keywords, AllocError>
     ensures value { IfOk result
-        (λ keywords. keywords ≡ entry rg region_override ++ entry sd subdivision) }
-    ensures succeeds { length (entry rg region_override ++ entry sd subdivision) ≤ 1 → IsOk result }
+        (λ keywords. keywords
+        ≡ entry (codes "rg") region_override ++ entry (codes "sd") subdivision) }
+    ensures succeeds { length
+        (entry (codes "rg") region_override ++ entry (codes "sd") subdivision) ≤ 1
+        → IsOk result }
 {
     let mut keywords = Keywords::new();
     if let Some(value) = region_override {
@@ -77,14 +78,14 @@ fn keywords_of(
 
 // The value of `rg`.
 fn override_value(region_override: Option<RegionOverride>) -> Option<Value>
-    ensures { entry rg result ≡ rg_entry region_override }
+    ensures { entry (codes "rg") result ≡ rg_entry region_override }
 {
     Some(Value::from(region_override?))
 }
 
 // The value of `sd`: none of a whole region.
 fn subdivision_value(region: Option<RegionalSubdivision>) -> Option<Value>
-    ensures { entry sd result ≡ sd_entry region }
+    ensures { entry (codes "sd") result ≡ sd_entry region }
 {
     let region = region?;
     if is_whole(region.as_inner()) {

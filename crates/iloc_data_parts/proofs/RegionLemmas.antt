@@ -1,14 +1,11 @@
--- Words that are the same, the value of `sd`, and the subdivision that is preferred.
-use Rattle.std.proofs.Common.{◌≡◌, ℕ, Bool, true, false, List, [], ◌∷◌, Option, Some, None, refl, sym, ap, ◌∙◌, nat_eq}
+-- Words that are the same, and the value of `sd`.
+use Rattle.std.proofs.Common.{◌≡◌, ℕ, Bool, true, false, List, [], ◌∷◌, refl, sym, ap, ◌∙◌, nat_eq}
 use Rattle.std.specs.Prelude.{if◌then◌else◌}
 use Rattle.std.specs.Cmp.Lexicographic.{pointwise, texts_ties}
 use Rattle.iloc_spec_grammar.specs.Words.{Subtag, is_same, is_true}
 use Rattle.iloc_spec_grammar.specs.Values.{IsNormal}
 use Rattle.iloc_unicode_value.specs.Values.{without_true}
-use Rattle.iloc_spec_preferences.specs.Subdivisions.{Subdivision}
-use Rattle.iloc_spec_preferences.specs.DataLocales.{subdivision_value, agreed}
-use Rattle.iloc_spec_preferences.specs.Preferences.{region_with, preferred_region}
-use Rattle.iloc_spec_grammar.proofs.MapLaws.{same_is}
+use Rattle.iloc_spec_preferences.specs.DataLocales.{subdivision_value}
 
 pub words_tie : (v w : List ℕ) → pointwise nat_eq v w ≡ is_same v w
 words_tie v w = texts_ties v w
@@ -20,13 +17,3 @@ by_true false w e = rw e refl
 
 pub printed_value : (w : List ℕ) → IsNormal Subtag w → without_true (w ∷ []) ≡ subdivision_value w
 printed_value w h = by_true (is_true w) w refl ∙ ap (λ v. if is_true v then [] else v ∷ []) (sym h.1)
-
--- of a region and a subdivision
-
-agreed_with : (b : Bool) (r : List ℕ) (s : Subdivision) → is_same r s.region ≡ b → agreed (Some r) s ≡ region_with r (Some s)
-agreed_with true r s e = rw e (ap (λ (x : List ℕ). record { region = x; suffix = s.suffix }) (sym (same_is r s.region e)))
-agreed_with false r s e = rw e refl
-
-pub agreed_is_preferred : (r : Option (List ℕ)) (s : Subdivision) → preferred_region r (Some s) ≡ Some (agreed r s)
-agreed_is_preferred None s = refl
-agreed_is_preferred (Some r) s = ap Some (sym (agreed_with (is_same r s.region) r s refl))

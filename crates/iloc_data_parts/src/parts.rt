@@ -64,7 +64,8 @@ impl DataParts {
 
 /// The pieces are language, script, region, variant, and `u`, `sd` and the value of a subdivision that is printed.
 impl Pieces for DataParts {
-    ghost use Rattle.iloc_data_parts.specs.PartsReading.{value_of, data_pieces};
+    ghost use Rattle.iloc_spec_preferences.specs.DataLocales.{data_pieces};
+    ghost use Rattle.iloc_data_parts.specs.PartsReading.{value_of};
 
     ghost pieces = { λ p. data_pieces (value_of p) };
 

@@ -56,9 +56,8 @@ pub fn agreed(region: Option<Region>, id: SubdivisionId) -> (SubdivisionId, bool
     (whole_region(region), false)
 }
 
-/// The given region with the suffix of the subdivision if that is of it, and else as a whole; the subdivision
-/// if no region is given. And whether the two agree, if both are there.
-#[tactic(auto, using(crate::proofs::RegionLemmas::agreed_is_preferred))]
+/// The subdivision if it is of the given region or none is given, and else the region as a whole. And whether
+/// the two agree, if both are there.
 pub fn preferred(region: Option<Region>, id: Option<SubdivisionId>) -> (Option<SubdivisionId>, bool)
     ensures part { result.0 ≡ preferred_region region id }
     ensures agrees { result.1 ≡ same_region region id }

@@ -20,39 +20,37 @@ use Rattle.iloc_locale.specs.declared.locale.Locale.{Locale}
 use Rattle.iloc_locale.specs.LocaleValue.{value_of as locale_of}
 use Rattle.iloc_locale.specs.Reads.{LocaleReadsAs}
 use Rattle.iloc_json.specs.declared.errors.JsonError.{JsonError}
-use Rattle.iloc_json.specs.Json.{as_json, ReadsText, IsReadAs, IsReadBackAs}
+use Rattle.iloc_json.specs.declared.errors.JsonError.TheVariants.{OutOfMemory as NoRoom}
+use Rattle.iloc_json.specs.Errors.{json_error}
+use Rattle.iloc_json.specs.Json.{as_json, SucceedsOr, ReadsText}
 
 normal_read : (k : Kind) (e : ParseError) (w : List ℕ) → IsNormal k w → read k e w ≡ Ok w
 normal_read k e w h = ap (λ b. if b then Ok (normal k w) else Err e) h.0 ∙ ap Ok h.1
 
-pub word_back : (k : Kind) (e : ParseError) (w : List ℕ) → IsNormal k w → (r : Result (List ℕ) ParseError) → r ≡ read k e w → IsReadAs (λ other. other ≡ w) r
-word_back k e w h r is = subst (λ (x : Result (List ℕ) ParseError). IsReadAs (λ other. other ≡ w) x) (sym (is ∙ normal_read k e w h)) refl
+pub word_back : (k : Kind) (e : ParseError) (w : List ℕ) → IsNormal k w → (r : Result (List ℕ) ParseError) → r ≡ read k e w → SucceedsOr OutOfMemory (λ other. other ≡ w) r
+word_back k e w h r is = subst (λ (x : Result (List ℕ) ParseError). SucceedsOr OutOfMemory (λ other. other ≡ w) x) (sym (is ∙ normal_read k e w h)) refl
 
-pub identifier_back : (i : LanguageIdentifier) → IsIdentifierValue languages (identifier_of i) → (r : Result LanguageIdentifier ParseError) → ReadsAs (pieces (identifier_text (identifier_of i))) r → IsReadAs (λ other. identifier_of other ≡ identifier_of i) r
+pub identifier_back : (i : LanguageIdentifier) → IsIdentifierValue languages (identifier_of i) → (r : Result LanguageIdentifier ParseError) → ReadsAs (pieces (identifier_text (identifier_of i))) r → SucceedsOr OutOfMemory (λ other. identifier_of other ≡ identifier_of i) r
 identifier_back i h (Ok j) m = identifiers.one_meaning (pieces (identifier_text (identifier_of i))) (identifier_of j) (identifier_of i) m (identifier_text_means (identifier_of i) h)
-identifier_back i h (Err InvalidLanguage) f = identifier_apart (pieces (identifier_text (identifier_of i))) (identifier_of i) faults.InvalidLanguage (identifier_text_means (identifier_of i) h) f
-identifier_back i h (Err InvalidSubtag) f = identifier_apart (pieces (identifier_text (identifier_of i))) (identifier_of i) faults.InvalidSubtag (identifier_text_means (identifier_of i) h) f
-identifier_back i h (Err InvalidExtension) f = f
-identifier_back i h (Err DuplicatedExtension) f = f
-identifier_back i h (Err OutOfMemory) f = tt
+identifier_back i h (Err InvalidLanguage) f = absurd (identifier_apart (pieces (identifier_text (identifier_of i))) (identifier_of i) faults.InvalidLanguage (identifier_text_means (identifier_of i) h) f)
+identifier_back i h (Err InvalidSubtag) f = absurd (identifier_apart (pieces (identifier_text (identifier_of i))) (identifier_of i) faults.InvalidSubtag (identifier_text_means (identifier_of i) h) f)
+identifier_back i h (Err InvalidExtension) f = absurd f
+identifier_back i h (Err DuplicatedExtension) f = absurd f
+identifier_back i h (Err OutOfMemory) f = refl
 
-pub locale_back : (l : Locale) → IsValue languages (locale_of l) → IsWellFormed (locale_of l) → (r : Result Locale ParseError) → LocaleReadsAs (text (locale_of l)) r → IsReadAs (λ other. locale_of other ≡ locale_of l) r
+pub locale_back : (l : Locale) → IsValue languages (locale_of l) → IsWellFormed (locale_of l) → (r : Result Locale ParseError) → LocaleReadsAs (text (locale_of l)) r → SucceedsOr OutOfMemory (λ other. locale_of other ≡ locale_of l) r
 locale_back l v h (Ok k) m = readings.one_meaning languages_table (text (locale_of l)) (locale_of k) (locale_of l) m (reads_back (locale_of l) v h)
-locale_back l v h (Err InvalidLanguage) f = accepted_no_fault languages_table (text (locale_of l)) (locale_of l) faults.InvalidLanguage (reads_back (locale_of l) v h) f
-locale_back l v h (Err InvalidSubtag) f = accepted_no_fault languages_table (text (locale_of l)) (locale_of l) faults.InvalidSubtag (reads_back (locale_of l) v h) f
-locale_back l v h (Err InvalidExtension) f = accepted_no_fault languages_table (text (locale_of l)) (locale_of l) faults.InvalidExtension (reads_back (locale_of l) v h) f
-locale_back l v h (Err DuplicatedExtension) f = accepted_no_fault languages_table (text (locale_of l)) (locale_of l) faults.DuplicatedExtension (reads_back (locale_of l) v h) f
-locale_back l v h (Err OutOfMemory) f = tt
+locale_back l v h (Err InvalidLanguage) f = absurd (accepted_no_fault languages_table (text (locale_of l)) (locale_of l) faults.InvalidLanguage (reads_back (locale_of l) v h) f)
+locale_back l v h (Err InvalidSubtag) f = absurd (accepted_no_fault languages_table (text (locale_of l)) (locale_of l) faults.InvalidSubtag (reads_back (locale_of l) v h) f)
+locale_back l v h (Err InvalidExtension) f = absurd (accepted_no_fault languages_table (text (locale_of l)) (locale_of l) faults.InvalidExtension (reads_back (locale_of l) v h) f)
+locale_back l v h (Err DuplicatedExtension) f = absurd (accepted_no_fault languages_table (text (locale_of l)) (locale_of l) faults.DuplicatedExtension (reads_back (locale_of l) v h) f)
+locale_back l v h (Err OutOfMemory) f = refl
 
-as_json_back : {X : Type 0} (same : X → Type 0) (x : Result X ParseError) → IsReadAs same x → IsReadBackAs same (as_json x)
+as_json_back : {X : Type 0} (same : X → Type 0) (x : Result X ParseError) → SucceedsOr OutOfMemory same x → SucceedsOr NoRoom same (as_json x)
 as_json_back same (Ok x) h = h
-as_json_back same (Err InvalidLanguage) h = h
-as_json_back same (Err InvalidSubtag) h = h
-as_json_back same (Err InvalidExtension) h = h
-as_json_back same (Err DuplicatedExtension) h = h
-as_json_back same (Err OutOfMemory) h = h
+as_json_back same (Err e) h = ap json_error h
 
-pub json_back : {X : Type 0} (reads : List ℕ → Result X ParseError → Type 0) (same : X → Type 0) (t : List ℕ) → ((x : Result X ParseError) → reads t x → IsReadAs same x) → (d : Data) → d ≡ string t → (r : Result X JsonError) → ReadsText reads (as_str d) r → IsReadBackAs same r
+pub json_back : {X : Type 0} (reads : List ℕ → Result X ParseError → Type 0) (same : X → Type 0) (t : List ℕ) → ((x : Result X ParseError) → reads t x → SucceedsOr OutOfMemory same x) → (d : Data) → d ≡ string t → (r : Result X JsonError) → ReadsText reads (as_str d) r → SucceedsOr NoRoom same r
 json_back {X} reads same t back d is r h =
     let k : ReadsText reads (Some t) r = subst (λ (o : Option (List ℕ)). ReadsText reads o r) (ap as_str is) h in
-    subst (λ (y : Result X JsonError). IsReadBackAs same y) (sym k.2) (as_json_back same k.0 (back k.0 k.1))
+    subst (λ (y : Result X JsonError). SucceedsOr NoRoom same y) (sym k.2) (as_json_back same k.0 (back k.0 k.1))

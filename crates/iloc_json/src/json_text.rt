@@ -1,9 +1,11 @@
 //! What is written as a JSON string.
 ghost use Rattle.std.specs.Prelude.{◌≡◌, Result, IfOk};
+ghost use Rattle.serde_json.specs.Data.{string};
 ghost use Rattle.serde_json.specs.View.{view};
 ghost use Rattle.serde_json.specs.Find.{as_str};
 ghost use Rattle.iloc_json.specs.declared.errors.JsonError.{JsonError};
-ghost use Rattle.iloc_json.specs.Json.{WritesText, ReadsText, IsReadBackAs};
+ghost use Rattle.iloc_json.specs.declared.errors.JsonError.TheVariants.{OutOfMemory};
+ghost use Rattle.iloc_json.specs.Json.{SucceedsOr, ReadsText};
 
 use crate::errors::JsonError;
 use crate::text_value::TextValue;
@@ -15,10 +17,11 @@ pub trait JsonText: TextValue {
     /// The JSON string of the printed text. It is parsed back as this value if the text parses back, unless
     /// memory runs out.
     fn to_json(&self, alloc: Global) -> Result<Value, JsonError>
-        ensures text { WritesText (Self.text self.now) result }
+        ensures text { SucceedsOr OutOfMemory (λ v. view v ≡ string (Self.text self.now)) result }
         ensures back { IfOk result
             (λ v. Self.reads_back self.now → (r : Result Self JsonError)
-            → ReadsText Self.reads (as_str (view v)) r → IsReadBackAs (Self.same self.now) r) };
+            → ReadsText Self.reads (as_str (view v)) r
+            → SucceedsOr OutOfMemory (Self.same self.now) r) };
 
     /// What the JSON string is parsed as. Anything else than a string is `NotText`.
     fn from_json(alloc: Global, value: &Value) -> Result<Self, JsonError>

@@ -5,10 +5,11 @@ ghost use Rattle.iloc_spec_grammar.specs.Words.{read};
 ghost use Rattle.iloc_spec_grammar.specs.Pieces.{pieces};
 ghost use Rattle.iloc_spec_grammar.specs.Values.{IsWellFormed};
 ghost use Rattle.iloc_subtags.specs.declared.parse_error.ParseError.{ParseError};
+ghost use Rattle.iloc_subtags.specs.declared.parse_error.ParseError.TheVariants.{OutOfMemory};
 ghost use Rattle.iloc_langid.specs.Reads.{value_of as identifier_of, ReadsAs};
 ghost use Rattle.iloc_locale.specs.LocaleValue.{value_of as locale_of};
 ghost use Rattle.iloc_locale.specs.Reads.{LocaleReadsAs};
-ghost use Rattle.iloc_json.specs.Json.{IsReadAs};
+ghost use Rattle.iloc_json.specs.Json.{SucceedsOr};
 
 use iloc_langid::LanguageIdentifier;
 use iloc_locale::Locale;
@@ -35,7 +36,7 @@ pub trait TextValue: Writeable + Sized {
     fn write_text(&self, alloc: Global) -> Result<String, AllocError>
         ensures text { IfOk result (λ written. string_bytes written ≡ Self.text self.now) }
         ensures back { reads_back self.now → (r : Result Self ParseError)
-            → reads (Self.text self.now) r → IsReadAs (same self.now) r };
+            → reads (Self.text self.now) r → SucceedsOr OutOfMemory (same self.now) r };
 }
 
 // The printed text, in a `String` of its own.

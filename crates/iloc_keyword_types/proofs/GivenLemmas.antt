@@ -12,7 +12,6 @@ use Rattle.iloc_keyword_types.specs.declared.calendar_algorithm.CalendarAlgorith
 use Rattle.iloc_keyword_types.specs.declared.calendar_algorithm.CalendarAlgorithm.TheVariants.{Buddhist, Chinese, Coptic, Dangi, Ethioaa, Ethiopic, Gregory, Hebrew, Indian, Hijri, Iso8601, Japanese, Persian, Roc}
 use Rattle.iloc_keyword_types.specs.Hijri.{kind_place}
 use Rattle.iloc_keyword_types.specs.Calendars.{place, kind, value_of}
-use Rattle.iloc_keyword_types.specs.CalendarReading.{calendar_reads}
 
 pub kind_normal : (k : HijriCalendarAlgorithm) → IsNormal Subtag (word_at hijri_kinds (kind_place k))
 unfolding is_word lower
@@ -64,6 +63,5 @@ given_plain c = (known c).plain
 pub given_kind : (c : CalendarAlgorithm) (k : HijriCalendarAlgorithm) → Some (kind_place k) ≡ kind c → enum_gives keywords.CalendarAlgorithm (value_of c) ≡ Some (codes "islamic" ∷ word_at hijri_kinds (kind_place k) ∷ [])
 given_kind c k h = ap (enum_gives keywords.CalendarAlgorithm) (λ i. (hijri_place c (kind_place k) h i, sym h i)) ∙ of_number k
 
-pub reads_back : (c : CalendarAlgorithm) (v : List (List ℕ)) → enum_gives keywords.CalendarAlgorithm (value_of c) ≡ Some v → calendar_reads v ≡ Some (value_of c)
-unfolding calendar_reads
+pub reads_back : (c : CalendarAlgorithm) (v : List (List ℕ)) → enum_gives keywords.CalendarAlgorithm (value_of c) ≡ Some v → enum_reads keywords.CalendarAlgorithm v ≡ Some (value_of c)
 reads_back c v h = sym (ap (option_and_then (enum_reads keywords.CalendarAlgorithm)) h) ∙ (known c).back

@@ -1,45 +1,37 @@
--- What each calendar stands for.
-use Rattle.std.specs.Prelude.{◌≡◌, ℕ, List, Option, Some, None, option_map, slice_get, refl}
+-- What each calendar stands for: this library's rule. The place of a variant is its number from 0
+-- in the order of its enum (`tag_of`), as `as u8` gives it for an enum without fields.
+use denote.Enum.Declared.{tag_of}
+use Rattle.std.specs.Prelude.{◌≡◌, ℕ, Option, Some, None, option_map, slice_get, refl}
 use Rattle.iloc_spec_grammar.specs.Shapes.{Text}
 use Rattle.iloc_spec_grammar.specs.Pieces.{join}
 use Rattle.iloc_spec_preferences.specs.Keywords as keywords
-use Rattle.iloc_spec_preferences.specs.Keywords.{EnumValue, variants, hijri_kinds, enum_words}
+use Rattle.iloc_spec_preferences.specs.Keywords.{EnumValue, variants, enum_words}
 use Rattle.iloc_keyword_types.specs.WordTables.{word_at}
 use Rattle.iloc_keyword_types.specs.declared.calendar_algorithm.CalendarAlgorithm.{CalendarAlgorithm}
 use Rattle.iloc_keyword_types.specs.declared.calendar_algorithm.CalendarAlgorithm.TheVariants.{Buddhist, Chinese, Coptic, Dangi, Ethioaa, Ethiopic, Gregory, Hebrew, Indian, Hijri, Iso8601, Japanese, Persian, Roc}
+use Rattle.iloc_keyword_types.specs.contracts.calendar_algorithm.CalendarAlgorithm.{the_type}
 use Rattle.iloc_keyword_types.specs.Hijri.{kind_place}
 
--- the place among the words of the keyword, whatever the kind
+-- Its place among the texts of the keyword, whatever the kind.
 abbrev pub place : CalendarAlgorithm → ℕ
-place Buddhist = 0
-place Chinese = 1
-place Coptic = 2
-place Dangi = 3
-place Ethioaa = 4
-place Ethiopic = 5
-place Gregory = 6
-place Hebrew = 7
-place Indian = 8
-place (Hijri o) = 9
-place Iso8601 = 10
-place Japanese = 11
-place Persian = 12
-place Roc = 13
+place c = tag_of the_type c
 
--- the place of the kind of a Hijri calendar
+-- The place of the kind of a Hijri calendar.
 abbrev pub kind : CalendarAlgorithm → Option ℕ
 kind (Hijri o) = option_map kind_place o
 kind _ = None
 
--- the value of the keyword
+-- The value of the keyword.
 abbrev pub value_of : CalendarAlgorithm → EnumValue
 value_of c = (place c, kind c)
 
--- the text of a value
+-- The text of a value.
 abbrev pub text_of : EnumValue → Option Text
 text_of v = option_map join (enum_words keywords.CalendarAlgorithm v)
 
-pub placed_at : (c : CalendarAlgorithm) → slice_get (variants keywords.CalendarAlgorithm) (place c) ≡ Some (word_at (variants keywords.CalendarAlgorithm) (place c))
+pub placed_at : (c : CalendarAlgorithm)
+    → slice_get (variants keywords.CalendarAlgorithm) (place c)
+    ≡ Some (word_at (variants keywords.CalendarAlgorithm) (place c))
 placed_at Buddhist = refl
 placed_at Chinese = refl
 placed_at Coptic = refl

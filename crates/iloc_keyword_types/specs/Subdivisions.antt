@@ -1,10 +1,10 @@
 -- What a text is read as, as a subdivision.
-use Rattle.std.specs.Prelude.{◌≡◌, ℕ, List, Result, Ok, Err}
+use Rattle.std.specs.Prelude.{◌≡◌, Result, Ok, Err}
 use Rattle.iloc_spec_grammar.specs.Shapes.{Text}
 use Rattle.iloc_spec_preferences.specs.Subdivisions.{Subdivision, subdivision}
 use Rattle.iloc_subtags.specs.declared.parse_error.ParseError.{ParseError}
 use Rattle.iloc_subtags.specs.Answers.{Answers, OfPart}
 
--- by cases on the answer
+-- The text is read as the subdivision that it names, or refused for what it lacks.
 abbrev pub ReadsAs : Text → Result Subdivision ParseError → Type 0
 ReadsAs t = Answers (λ s. subdivision t ≡ Ok s) (OfPart (λ f. subdivision t ≡ Err f)) ⊥

@@ -6,7 +6,7 @@ ghost use Rattle.iloc_spec_preferences.specs.Keywords.{
   enum_reads,
   enum_gives,
 };
-ghost use Rattle.iloc_keyword_types.specs.Reads.{Reads, ReadsKeyed, GivesKeyed, GivesValue};
+ghost use Rattle.iloc_keyword_types.specs.Reads.{Reads, ReadsUnder, GivesKeyed, GivesValue};
 ghost use Rattle.iloc_keyword_types.specs.Calendars.{value_of};
 ghost use Rattle.iloc_keyword_types.specs.CalendarReading.{calendar_reads};
 
@@ -86,7 +86,8 @@ impl CalendarAlgorithm {
     /// The value of the keyword: the one or two words of the text, which parses as the calendar. It allocates nothing.
     pub fn to_value(&self, alloc: Global) -> Result<Value, AllocError>
         ensures value { GivesValue (enum_gives the_keyword (value_of self.now)) result }
-        ensures back { IfOk result (λ value. calendar_reads value ≡ Some (value_of self.now)) }
+        ensures back { IfOk result
+            (λ value. enum_reads the_keyword value ≡ Some (value_of self.now)) }
     {
         let word = known_subtag(self.word());
         match self.kind() {
@@ -100,8 +101,8 @@ impl CalendarAlgorithm {
 impl PreferenceKey for CalendarAlgorithm {
     ghost own_key = { Some (key_of_keyword the_keyword) };
 
-    ghost reads = { λ q ws result. ReadsKeyed value_of (key_of_keyword the_keyword)
-        (enum_reads the_keyword ws) q result };
+    ghost reads = { λ q ws result. ReadsUnder (key_of_keyword the_keyword)
+        (Reads value_of (enum_reads the_keyword ws)) q result };
 
     ghost gives = { λ c result. GivesKeyed (enum_gives the_keyword (value_of c)) result };
 
@@ -110,8 +111,8 @@ impl PreferenceKey for CalendarAlgorithm {
         key: &UnicodeKey,
         value: &Value,
     ) -> Result<Option<Self>, PreferencesParseError>
-        ensures { ReadsKeyed value_of (key_of_keyword the_keyword)
-            (enum_reads the_keyword value.now) key.now result }
+        ensures { ReadsUnder (key_of_keyword the_keyword)
+            (Reads value_of (enum_reads the_keyword value.now)) key.now result }
     {
         if *key != known_keys::ca() {
             return Ok(None);

@@ -1,8 +1,7 @@
 //! Currencies as the preference of their keyword (`cu`).
-ghost use Rattle.std.specs.Prelude.{◌≡◌, Some};
+ghost use Rattle.std.specs.Prelude.{◌≡◌, Some, codes};
 ghost use Rattle.iloc_spec_parts.specs.SingleValues.{currency_reads, currency_gives};
-ghost use Rattle.iloc_spec_preferences.specs.Keywords.{cu};
-ghost use Rattle.iloc_keyword_types.specs.Reads.{ReadsKeyed, GivesKeyed};
+ghost use Rattle.iloc_keyword_types.specs.Reads.{Reads, ReadsUnder, GivesKeyed};
 
 use crate::known_keys;
 use crate::preference_key::PreferenceKey;
@@ -12,9 +11,10 @@ use std::alloc::{AllocError, Global};
 
 /// Its key, what its value is parsed as, and the value that it is turned into.
 impl PreferenceKey for CurrencyType {
-    ghost own_key = { Some cu };
+    ghost own_key = { Some (codes "cu") };
 
-    ghost reads = { λ q ws result. ReadsKeyed (λ code. code) cu (currency_reads ws) q result };
+    ghost reads = { λ q ws result. ReadsUnder (codes "cu")
+        (Reads (λ code. code) (currency_reads ws)) q result };
 
     ghost gives = { λ code result. GivesKeyed (Some (currency_gives code)) result };
 
@@ -23,7 +23,8 @@ impl PreferenceKey for CurrencyType {
         key: &UnicodeKey,
         value: &Value,
     ) -> Result<Option<Self>, PreferencesParseError>
-        ensures { ReadsKeyed (λ code. code) cu (currency_reads value.now) key.now result }
+        ensures { ReadsUnder (codes "cu")
+            (Reads (λ code. code) (currency_reads value.now)) key.now result }
     {
         if *key != known_keys::cu() {
             return Ok(None);
@@ -32,7 +33,7 @@ impl PreferenceKey for CurrencyType {
     }
 
     fn unicode_extension_key() -> Option<UnicodeKey>
-        ensures { result ≡ Some cu }
+        ensures { result ≡ Some (codes "cu") }
     {
         Some(known_keys::cu())
     }

@@ -1,10 +1,10 @@
 //! Keywords with a fixed set of values, but calendars: how they are read and written.
 ghost use Rattle.std.specs.Prelude.{◌≡◌, ℕ, List, [], Some, None, codes, option_and_then};
-ghost use Rattle.iloc_spec_preferences.specs.Keywords.{EnumKeyword as Keyword, key as key_of_keyword, variants, further_readings, enum_reads, enum_gives};
+ghost use Rattle.iloc_spec_preferences.specs.Keywords.{EnumKeyword as Keyword, key as key_of_keyword, variants, further_readings, enum_gives};
 ghost use Rattle.iloc_spec_parts.specs.SingleValues.{single};
 ghost use Rattle.std.specs.Option.{option_copied};
 ghost use Rattle.iloc_keyword_types.specs.Reads.{
-  ReadsKeyed,
+  ReadsUnder,
   GivesKeyed,
   ReadsVariant,
   GivesVariant,
@@ -77,8 +77,8 @@ pub(crate) fn known_subtag(text: &str) -> Subtag
 impl<E: EnumKeyword> PreferenceKey for E {
     ghost own_key = { Some (key_of_keyword E.keyword) };
 
-    ghost reads = { λ q ws result. ReadsKeyed
-        (λ e. (E.place e, None)) (key_of_keyword E.keyword) (enum_reads E.keyword ws) q result };
+    ghost reads = { λ q ws result. ReadsUnder (key_of_keyword E.keyword)
+        (ReadsVariant E.keyword E.place ws) q result };
 
     ghost gives = { λ e result. GivesKeyed (enum_gives E.keyword (E.place e, None)) result };
 
@@ -87,8 +87,8 @@ impl<E: EnumKeyword> PreferenceKey for E {
         key: &UnicodeKey,
         value: &Value,
     ) -> Result<Option<Self>, PreferencesParseError>
-        ensures { ReadsKeyed (λ e. (E.place e, None)) (key_of_keyword E.keyword)
-            (enum_reads E.keyword value.now) key.now result }
+        ensures { ReadsUnder (key_of_keyword E.keyword)
+            (ReadsVariant E.keyword E.place value.now) key.now result }
     {
         if *key != E::key() {
             return Ok(None);

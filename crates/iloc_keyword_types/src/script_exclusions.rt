@@ -1,8 +1,9 @@
 //! A keyword whose value is a list of scripts.
-ghost use Rattle.std.specs.Prelude.{◌≡◌, Some, IfOk};
+ghost use Rattle.std.specs.Prelude.{◌≡◌, Some, IfOk, codes};
 ghost use Rattle.iloc_spec_grammar.specs.Words.{word, Script as the_kind};
-ghost use Rattle.iloc_spec_preferences.specs.Keywords.{dx, scripts_read, scripts_give};
-ghost use Rattle.iloc_keyword_types.specs.Scripts.{ReadsScripts, ReadsScriptsKeyed};
+ghost use Rattle.iloc_spec_preferences.specs.Keywords.{scripts_give};
+ghost use Rattle.iloc_keyword_types.specs.Reads.{ReadsUnder};
+ghost use Rattle.iloc_keyword_types.specs.Scripts.{ReadsScripts};
 
 use crate::{PreferenceKey, PreferencesParseError, key_of};
 use iloc_subtags::{Script, ScriptKind, Subtag, UnicodeKey};
@@ -82,9 +83,9 @@ impl Clone for DictionaryBreakScriptExclusions {
 
 /// Its key, what its value is parsed as, and the value that it is turned into.
 impl PreferenceKey for DictionaryBreakScriptExclusions {
-    ghost own_key = { Some dx };
+    ghost own_key = { Some (codes "dx") };
 
-    ghost reads = { λ q ws result. ReadsScriptsKeyed q ws result };
+    ghost reads = { λ q ws result. ReadsUnder (codes "dx") (ReadsScripts ws) q result };
 
     ghost gives = { λ scripts result. IfOk result (λ o. o ≡ Some (scripts_give scripts)) };
 
@@ -93,7 +94,7 @@ impl PreferenceKey for DictionaryBreakScriptExclusions {
         key: &UnicodeKey,
         value: &Value,
     ) -> Result<Option<Self>, PreferencesParseError>
-        ensures { ReadsScriptsKeyed key.now value.now result }
+        ensures { ReadsUnder (codes "dx") (ReadsScripts value.now) key.now result }
     {
         if *key != exclusions_key() {
             return Ok(None);
@@ -102,7 +103,7 @@ impl PreferenceKey for DictionaryBreakScriptExclusions {
     }
 
     fn unicode_extension_key() -> Option<UnicodeKey>
-        ensures { result ≡ Some dx }
+        ensures { result ≡ Some (codes "dx") }
     {
         Some(exclusions_key())
     }
@@ -117,7 +118,7 @@ impl PreferenceKey for DictionaryBreakScriptExclusions {
 // The key of the list.
 #[tactic(auto, unfolding(iloc_spec_grammar::specs::Words::is_word, iloc_spec_grammar::specs::Words::lower))]
 fn exclusions_key() -> UnicodeKey
-    ensures { result ≡ dx }
+    ensures { result ≡ codes "dx" }
 {
     key_of("dx")
 }

@@ -1,7 +1,7 @@
 //! Keywords whose value is one subtag, and which stand for that subtag or for what it spells.
 ghost use Rattle.std.specs.Prelude.{◌≡◌, ℕ, List, Option, Some};
 ghost use Rattle.iloc_spec_grammar.specs.Shapes.{Text};
-ghost use Rattle.iloc_keyword_types.specs.Reads.{Reads, ReadsKeyed, GivesKeyed};
+ghost use Rattle.iloc_keyword_types.specs.Reads.{Reads, ReadsUnder, GivesKeyed};
 
 use crate::{PreferenceKey, PreferencesParseError};
 use iloc_subtags::UnicodeKey;
@@ -126,7 +126,8 @@ impl<K: KeywordKind, T: SubtagContent> From<SingleKeyword<K, T>> for Value {
 impl<K: KeywordKind, T: SubtagContent> PreferenceKey for SingleKeyword<K, T> {
     ghost own_key = { Some K.key_text };
 
-    ghost reads = { λ q ws result. ReadsKeyed (λ w. w) K.key_text (T.reads ws) q result };
+    ghost reads = { λ q ws result. ReadsUnder K.key_text
+        (Reads (λ w. w) (T.reads ws)) q result };
 
     ghost gives = { λ w result. GivesKeyed (Some (T.gives w)) result };
 
@@ -135,7 +136,7 @@ impl<K: KeywordKind, T: SubtagContent> PreferenceKey for SingleKeyword<K, T> {
         key: &UnicodeKey,
         value: &Value,
     ) -> Result<Option<Self>, PreferencesParseError>
-        ensures { ReadsKeyed (λ w. w) K.key_text (T.reads value.now) key.now result }
+        ensures { ReadsUnder K.key_text (Reads (λ w. w) (T.reads value.now)) key.now result }
     {
         if *key != K::key() {
             return Ok(None);

@@ -1,7 +1,6 @@
 //! Keywords that stand for a subdivision: of the region, and of the region in its place.
+ghost use Rattle.std.specs.Prelude.{codes};
 ghost use Rattle.iloc_spec_preferences.specs.Keywords.{subdivision_reads, subdivision_gives};
-ghost use Rattle.iloc_spec_preferences.specs.DataLocales.{sd};
-ghost use Rattle.iloc_spec_preferences.specs.Preferences.{rg};
 
 use crate::single_keyword::{KeywordKind, SingleKeyword, SubtagContent};
 use crate::{SubdivisionId, known_keys};
@@ -33,7 +32,7 @@ pub type SubdivisionKeyword<K> = SingleKeyword<K, SubdivisionId>;
 pub struct RegionOverrideKind;
 
 impl KeywordKind for RegionOverrideKind {
-    ghost key_text = { rg };
+    ghost key_text = { codes "rg" };
 
     fn key() -> UnicodeKey {
         known_keys::rg()
@@ -47,7 +46,7 @@ pub type RegionOverride = SingleKeyword<RegionOverrideKind, SubdivisionId>;
 pub struct RegionalSubdivisionKind;
 
 impl KeywordKind for RegionalSubdivisionKind {
-    ghost key_text = { sd };
+    ghost key_text = { codes "sd" };
 
     fn key() -> UnicodeKey {
         known_keys::sd()

@@ -1,5 +1,7 @@
 //! Keywords that stand for the subtag of their value: numbering systems and time zones.
-ghost use Rattle.iloc_spec_preferences.specs.Keywords.{nu, tz, subtag_reads, subtag_gives};
+ghost use Rattle.std.specs.Prelude.{codes};
+ghost use Rattle.iloc_spec_parts.specs.SingleValues.{single};
+ghost use Rattle.iloc_spec_preferences.specs.Keywords.{subtag_gives};
 
 use crate::known_keys;
 use crate::single_keyword::{KeywordKind, SingleKeyword, SubtagContent};
@@ -8,7 +10,7 @@ use iloc_unicode_value::Value;
 
 /// The only subtag of the value itself.
 impl SubtagContent for Subtag {
-    ghost reads = { subtag_reads };
+    ghost reads = { single };
 
     ghost gives = { subtag_gives };
 
@@ -27,7 +29,7 @@ impl SubtagContent for Subtag {
 pub struct NumberingSystemKind;
 
 impl KeywordKind for NumberingSystemKind {
-    ghost key_text = { nu };
+    ghost key_text = { codes "nu" };
 
     fn key() -> UnicodeKey {
         known_keys::nu()
@@ -41,7 +43,7 @@ pub type NumberingSystem = SingleKeyword<NumberingSystemKind, Subtag>;
 pub struct TimeZoneShortIdKind;
 
 impl KeywordKind for TimeZoneShortIdKind {
-    ghost key_text = { tz };
+    ghost key_text = { codes "tz" };
 
     fn key() -> UnicodeKey {
         known_keys::tz()

@@ -21,7 +21,8 @@ use Rattle.iloc_spec_grammar.proofs.Readings.{IsLong, long_script, long_region, 
 use Rattle.iloc_spec_grammar.proofs.FaultLaws.{all_blocks}
 use Rattle.iloc_spec_parts.specs.Small.{SmallLocale, small_identifier}
 use Rattle.iloc_spec_parts.specs.SmallComputing.{small_identifier_result, has_small_variants, is_u, is_small_block, has_small_keyword, keyword_read, block_fault, blocks_result, after_identifier, small_result}
-use Rattle.iloc_spec_preferences.specs.DataLocales.{sd, agreed, made_of, named_subdivision, data_of_small, data_text}
+use Rattle.iloc_spec_preferences.proofs.Keys.{sd}
+use Rattle.iloc_spec_preferences.specs.DataLocales.{agreed, made_of, named_subdivision, data_of_small, data_text}
 use Rattle.iloc_spec_preferences.specs.DataComputing.{data_result, data_of_result}
 use Rattle.iloc_spec_output.specs.Output as outputs
 use Rattle.iloc_subtags.specs.declared.parse_error.ParseError.TheVariants.{InvalidSubtag, InvalidExtension}

@@ -6,9 +6,13 @@ use Rattle.std.proofs.Math.Seq.{take-append_seam}
 use Rattle.std.specs.Io.{StartsWith}
 use Rattle.std.specs.Io.KnownBytes.{Appends, Consumes, IsAtEnd, Keeps}
 use Rattle.iloc_lines.specs.declared.Mode.{Mode}
-use Rattle.iloc_lines.specs.Output.{output, WritesAll, WritesBeginning}
-use Rattle.iloc_writeable.specs.Growth.{appends_both}
-use Rattle.iloc_lines.proofs.KnownLemmas.{Consumes-kept, Consumes-then}
+use Rattle.iloc_spec_grammar.proofs.RawLaws.{languages_table}
+use Rattle.iloc_spec_grammar.specs.Words.{languages}
+use Rattle.iloc_spec_output.specs.Output.{IsOutput}
+use Rattle.iloc_spec_output.proofs.OutputLaws.{is_output}
+use Rattle.iloc_lines.specs.Output.{mode_of, output, BeginsOutput, WritesAll, WritesBeginning}
+use Rattle.iloc_writeable.specs.Growth.{appends_nothing, appends_both}
+use Rattle.iloc_lines.proofs.KnownLemmas.{Consumes-kept, Consumes-nothing, Consumes-then}
 
 -- whatever comes next, the answer to all goes on from what is written with the answer to what is pending and that
 pub record Stands (mode : Mode) (unread unread' held held' : Option (List ℕ)) (pending : List ℕ) : Type 0 where
@@ -47,6 +51,16 @@ on_err_then (Ok x) P Q p f = tt
 on_err_then (Err e) P Q p f = f p
 
 module _ (mode : Mode) where
+  -- before the first read
+  pub Stands-first : (u h : Option (List ℕ)) → Stands mode u u h h []
+  Stands-first u h = record {
+    read = [];
+    written = [];
+    reads = Consumes-nothing u;
+    writes = appends_nothing h;
+    ahead = λ next. refl;
+  }
+
   pub Stands-kept : (u u' u2 h h' : Option (List ℕ)) (pending : List ℕ) → Stands mode u u' h h' pending → Keeps u' u2 → Stands mode u u2 h h' pending
   Stands-kept u u' u2 h h' pending s k = record {
     read = s.read;
@@ -103,14 +117,18 @@ module _ (mode : Mode) where
   now : (read written out : List ℕ) → output mode (read ++ []) ≡ written ++ out → output mode read ≡ written ++ out
   now read written out e = ap (output mode) (sym (append-nil read)) ∙ e
 
+  -- what begins the output that is computed
+  begins_output : (input written : List ℕ) → StartsWith (output mode input) written → BeginsOutput mode input written
+  begins_output input written h = (output mode input, is_output languages_table (mode_of mode) input, h)
+
   pub Stands-front : (u u' h h' : Option (List ℕ)) (pending : List ℕ) → Stands mode u u' h h' pending → WritesBeginning mode u u' h h'
   Stands-front u u' h h' pending s = record {
     read = s.read;
     written = s.written;
     reads = s.reads;
     writes = s.writes;
-    begins = StartsWith-front (output mode s.read) s.written (output mode (pending ++ [])) (now s.read s.written _ (s.ahead []));
-    begins_all = IfSome-all u' _ (λ left. StartsWith-front (output mode (s.read ++ left)) s.written (output mode (pending ++ left)) (s.ahead left));
+    begins = begins_output s.read s.written (StartsWith-front (output mode s.read) s.written (output mode (pending ++ [])) (now s.read s.written _ (s.ahead [])));
+    begins_all = IfSome-all u' _ (λ left. begins_output (s.read ++ left) s.written (StartsWith-front (output mode (s.read ++ left)) s.written (output mode (pending ++ left)) (s.ahead left)));
   }
 
   pub Stands-part : (u u' h h' h2 : Option (List ℕ)) (pending pending' replies part : List ℕ) → Stands mode u u' h h' pending
@@ -123,8 +141,8 @@ module _ (mode : Mode) where
         written = s.written ++ part;
         reads = s.reads;
         writes = appends_both h h' h2 s.written part s.writes k;
-        begins = StartsWith-within (output mode s.read) s.written replies (output mode (pending' ++ [])) part b (now s.read s.written _ (whole []));
-        begins_all = IfSome-all u' _ (λ left. StartsWith-within (output mode (s.read ++ left)) s.written replies (output mode (pending' ++ left)) part b (whole left));
+        begins = begins_output s.read (s.written ++ part) (StartsWith-within (output mode s.read) s.written replies (output mode (pending' ++ [])) part b (now s.read s.written _ (whole [])));
+        begins_all = IfSome-all u' _ (λ left. begins_output (s.read ++ left) (s.written ++ part) (StartsWith-within (output mode (s.read ++ left)) s.written replies (output mode (pending' ++ left)) part b (whole left)));
       }
 
   last : (u u' h h' : Option (List ℕ)) (pending replies : List ℕ) → (s : Stands mode u u' h h' pending) → replies ≡ output mode pending
@@ -136,21 +154,23 @@ module _ (mode : Mode) where
       → replies ≡ output mode pending → Appends h' h2 replies → WritesAll mode u u' h h2
   Stands-end u u' h h' h2 pending replies s end e k = record {
     read = s.read;
+    written = s.written ++ replies;
     reads = s.reads;
     all_read = end;
-    writes = rw (last u u' h h' pending replies s e) (appends_both h h' h2 s.written replies s.writes k);
+    writes = appends_both h h' h2 s.written replies s.writes k;
+    is_output = subst (IsOutput languages (mode_of mode) s.read) (last u u' h h' pending replies s e) (is_output languages_table (mode_of mode) s.read);
   }
 
   pub Stands-end_part : (u u' h h' h2 : Option (List ℕ)) (pending replies part : List ℕ) → Stands mode u u' h h' pending → IsAtEnd u'
       → replies ≡ output mode pending → Appends h' h2 part → StartsWith replies part → WritesBeginning mode u u' h h2
   Stands-end_part u u' h h' h2 pending replies part s end e k b =
-      let whole = StartsWith-within (output mode s.read) s.written replies [] part b
-      (last u u' h h' pending replies s e ∙ ap (λ (t : List ℕ). s.written ++ t) (sym (append-nil replies))) in
+      let whole : BeginsOutput mode s.read (s.written ++ part) = begins_output s.read (s.written ++ part) (StartsWith-within (output mode s.read) s.written replies [] part b
+      (last u u' h h' pending replies s e ∙ ap (λ (t : List ℕ). s.written ++ t) (sym (append-nil replies)))) in
       record {
         read = s.read;
         written = s.written ++ part;
         reads = s.reads;
         writes = appends_both h h' h2 s.written part s.writes k;
         begins = whole;
-        begins_all = at_end u' (λ left. StartsWith (output mode (s.read ++ left)) (s.written ++ part)) end (rw (append-nil s.read) whole);
+        begins_all = at_end u' (λ left. BeginsOutput mode (s.read ++ left) (s.written ++ part)) end (subst (λ (t : List ℕ). BeginsOutput mode t (s.written ++ part)) (sym (append-nil s.read)) whole);
       }

@@ -1,4 +1,4 @@
--- The words of the modes, and how the program ends.
+-- The words of the modes, and how the program ends. This library's rule.
 use Rattle.std.specs.Prelude.{ℕ, List, [], ◌∷◌, ◌++◌, codes, Option, Some, None, Result, Ok, Err}
 use Rattle.iloc_spec_grammar.specs.Shapes.{Text}
 use Rattle.iloc_lines.specs.declared.Mode.{Mode}
@@ -6,13 +6,13 @@ use Rattle.iloc_lines.specs.declared.Mode.TheVariants.{Langid, Locale, Data}
 use Rattle.iloc_lines.specs.declared.RunError.{RunError}
 use Rattle.iloc_lines.specs.declared.RunError.TheVariants.{Read, Write, OutOfMemory}
 
--- the word that names a mode
+-- The word that names a mode.
 abbrev pub word_of : Mode → Text
 word_of Langid = codes "langid"
 word_of Locale = codes "locale"
 word_of Data = codes "data"
 
--- what stands on standard error: nothing after a success, and `None` is for bad arguments
+-- What stands on standard error: nothing after a success, and `None` is for bad arguments.
 abbrev pub ending_text : Option (Result (Unit {0}) RunError) → Text
 ending_text None = codes "usage: locale_normal langid|locale|data" ++ 10 ∷ []
 ending_text (Some (Ok done)) = []
@@ -20,7 +20,7 @@ ending_text (Some (Err Read)) = codes "locale_normal: read failed" ++ 10 ∷ []
 ending_text (Some (Err Write)) = codes "locale_normal: write failed" ++ 10 ∷ []
 ending_text (Some (Err OutOfMemory)) = codes "locale_normal: out of memory" ++ 10 ∷ []
 
--- the status that the program ends with
+-- The status that the program ends with.
 abbrev pub ending_status : Option (Result (Unit {0}) RunError) → ℕ
 ending_status None = 2
 ending_status (Some (Ok done)) = 0

@@ -4,6 +4,6 @@ use Rattle.iloc_spec_grammar.specs.Pieces.{pieces}
 use Rattle.iloc_spec_grammar.specs.Meaning.{Locale, meaning}
 use Rattle.iloc_spec_grammar.specs.Reading.{written_of}
 
--- what the text means, if it is a locale
+-- What the text means, if it is a locale.
 abbrev pub meaning_of : Text → Locale
 meaning_of t = meaning (written_of (pieces t))

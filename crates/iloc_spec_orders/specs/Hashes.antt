@@ -17,38 +17,40 @@ pub record HashesByOrder {X : Type 0} (R : X → X → Ordering) (fed : X → Ha
   pub alike : (x y : X) → R x y ≡ Equal → fed x ≡ fed y
   pub told_apart : (x y : X) → length (fed x) < 2 ^ 64 → fed x ≡ fed y → R x y ≡ Equal
 
+-- A word feeds its text.
 abbrev pub word_fed : Text → HashWrites
 word_fed w = str w
 
+-- A list of words feeds its length and its words.
 abbrev pub words_fed : List Text → HashWrites
 words_fed ws = slice word_fed ws
 
--- language, script, region, variants
+-- An identifier feeds language, script, region and variants.
 abbrev pub identifier_fed : Identifier → HashWrites
 identifier_fed i = word_fed i.language ++ option word_fed i.script ++ option word_fed i.region
     ++ words_fed i.variants
 
--- each key with its value; so are keywords and the fields of a transform
+-- Keywords, and fields after `t`, feed each key with its value.
 abbrev pub fields_fed : Fields → HashWrites
 fields_fed fs = slice (λ f. word_fed f.0 ++ words_fed f.1) fs
 
--- keywords, attributes
+-- A unicode extension feeds keywords and attributes.
 abbrev pub unicode_fed : Unicode → HashWrites
 unicode_fed u = fields_fed u.keywords ++ words_fed u.attributes
 
--- identifier, fields
+-- A transform extension feeds identifier and fields.
 abbrev pub transform_fed : Transform → HashWrites
 transform_fed m = option identifier_fed m.id ++ fields_fed m.fields
 
--- singleton, words
+-- Another extension feeds singleton and words.
 abbrev pub other_fed : Block → HashWrites
 other_fed o = u8 o.0 ++ words_fed o.1
 
--- unicode, transform, private words, others
+-- Extensions feed unicode, transform, private words and others.
 abbrev pub extensions_fed : Extensions → HashWrites
 extensions_fed e = unicode_fed e.unicode ++ transform_fed e.transform ++ words_fed e.private
     ++ slice other_fed e.others
 
--- identifier, extensions
+-- A locale feeds identifier and extensions.
 abbrev pub locale_fed : Locale → HashWrites
 locale_fed M = identifier_fed M.id ++ extensions_fed M.extensions

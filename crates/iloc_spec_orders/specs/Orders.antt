@@ -12,7 +12,7 @@ use Rattle.iloc_spec_grammar.specs.Words.{word_cmp}
 use Rattle.iloc_spec_grammar.specs.Written.{Identifier, Fields, Unicode, Transform}
 use Rattle.iloc_spec_grammar.specs.Meaning.{Locale, Extensions}
 
--- a total order, by which only equal values tie
+-- A total order, by which only equal values tie.
 pub record IsExactOrder {X : Type 0} (R : X → X → Ordering) : Type 0 where
   pub total : IsTotalOrder R
   pub exact : (x y : X) → (R x y ≡ Equal) ↔ (x ≡ y)
@@ -24,60 +24,64 @@ pub record IsExactOrder {X : Type 0} (R : X → X → Ordering) : Type 0 where
 abbrev pub short_list_cmp : {X : Type 0} → (X → X → Ordering) → List X → List X → Ordering
 short_list_cmp R = then_cmp (on (λ xs. nat_lt 1 (length xs)) bool_cmp) (slice_cmp R)
 
--- first by the key
+-- Pairs, first by the key.
 abbrev pub pair_cmp : {X Y : Type 0} → (X → X → Ordering) → (Y → Y → Ordering) → X × Y → X × Y
     → Ordering
 pair_cmp R S = then_cmp (on (λ p. p.0) R) (on (λ p. p.1) S)
 
+-- Lists of words, as short lists.
 abbrev pub words_cmp : List Text → List Text → Ordering
 words_cmp = short_list_cmp word_cmp
 
--- language, script, region, variants
+-- Identifiers by language, script, region and variants.
 abbrev pub identifier_cmp : Identifier → Identifier → Ordering
 identifier_cmp = then_cmp (on (λ i. i.language) word_cmp)
     (then_cmp (on (λ i. i.script) (option_cmp word_cmp))
     (then_cmp (on (λ i. i.region) (option_cmp word_cmp)) (on (λ i. i.variants) words_cmp)))
 
+-- Keywords: pairs of a key and its value, as a short list.
 abbrev pub keywords_cmp : Fields → Fields → Ordering
 keywords_cmp = short_list_cmp (pair_cmp word_cmp words_cmp)
 
+-- Fields after `t`: pairs of a key and its value, item by item.
 abbrev pub fields_cmp : Fields → Fields → Ordering
 fields_cmp = slice_cmp (pair_cmp word_cmp words_cmp)
 
--- attributes, keywords
+-- Unicode extensions by attributes and keywords.
 abbrev pub unicode_cmp : Unicode → Unicode → Ordering
 unicode_cmp = then_cmp (on (λ u. u.attributes) words_cmp) (on (λ u. u.keywords) keywords_cmp)
 
--- identifier, fields
+-- Transform extensions by identifier and fields.
 abbrev pub transform_cmp : Transform → Transform → Ordering
 transform_cmp = then_cmp (on (λ m. m.id) (option_cmp identifier_cmp))
     (on (λ m. m.fields) fields_cmp)
 
--- singleton, words
+-- Other extensions by singleton and words.
 abbrev pub other_cmp : Block → Block → Ordering
 other_cmp = pair_cmp nat_cmp words_cmp
 
--- unicode, transform, private words, others
+-- Extensions by unicode, transform, private words and others.
 abbrev pub extensions_cmp : Extensions → Extensions → Ordering
 extensions_cmp = then_cmp (on (λ e. e.unicode) unicode_cmp)
     (then_cmp (on (λ e. e.transform) transform_cmp)
     (then_cmp (on (λ e. e.private) words_cmp) (on (λ e. e.others) (slice_cmp other_cmp))))
 
--- identifier, extensions
+-- Locales by identifier and extensions.
 abbrev pub locale_cmp : Locale → Locale → Ordering
 locale_cmp = then_cmp (on (λ M. M.id) identifier_cmp) (on (λ M. M.extensions) extensions_cmp)
 
--- The kinds of extensions: `t`, `u`, `x`, and then the others by their singletons.
-
+-- The kinds of extensions: `t`, `u`, `x`, and the others by their singletons.
 pub data ExtensionKind : Type 0 where
   OfTransform OfUnicode OfPrivate : ExtensionKind
   OfOther : ℕ → ExtensionKind
 
+-- Where a kind stands among all.
 abbrev pub place_of_kind : ExtensionKind → ℕ × ℕ
 place_of_kind OfTransform = (0, 0)
 place_of_kind OfUnicode = (1, 0)
 place_of_kind OfPrivate = (2, 0)
 place_of_kind (OfOther b) = (3, b)
 
+-- Kinds of extensions by where they stand.
 abbrev pub kind_cmp : ExtensionKind → ExtensionKind → Ordering
 kind_cmp = on place_of_kind (pair_cmp nat_cmp nat_cmp)

@@ -12,16 +12,18 @@ use Rattle.iloc_spec_preferences.specs.DataComputing.{data_result}
 use Rattle.iloc_spec_grammar.specs.Computing.{identifier_result, locale_result}
 use Rattle.iloc_spec_output.specs.Lines.{lines_of, ended}
 
--- what each line is read as
+-- What each line is read as.
 pub data Mode : Type 0 where
   OfIdentifiers OfLocales OfDataLocales : Mode
 
+-- The words of a fault.
 abbrev pub fault_words : Fault → Text
 fault_words InvalidLanguage = codes "The given language subtag is invalid"
 fault_words InvalidSubtag = codes "Invalid subtag"
 fault_words InvalidExtension = codes "Invalid extension"
 fault_words DuplicatedExtension = codes "Duplicated extension"
 
+-- The answer to a line that has this fault.
 abbrev pub refusal : Fault → Text
 refusal f = codes "! " ++ fault_words f
 
@@ -36,7 +38,7 @@ pub data IsAnswer (T : Table) (line : Text) : Mode → Text → Type 0 where
   data_locale : {d : DataLocale} → DataMeans T line d → IsAnswer T line OfDataLocales (data_text d)
   no_data_locale : {f : Fault} → HasDataFault T line f → IsAnswer T line OfDataLocales (refusal f)
 
--- The answer to an input: its lines' answers, each with an LF.
+-- The output for an input: its lines' answers, each with a newline.
 pub record IsOutput (T : Table) (mode : Mode) (input output : Text) : Type 0 where
   pub answers : List Text
   pub each : AllZip (λ line answer. IsAnswer T line mode answer) (lines_of input) answers
@@ -44,19 +46,22 @@ pub record IsOutput (T : Table) (mode : Mode) (input output : Text) : Type 0 whe
 
 -- Both by computing.
 
+-- The text of what is there, or the answer to the fault.
 abbrev pub text_or_refusal : {X : Type 0} → (X → Text) → Result X Fault → Text
 text_or_refusal print (Ok x) = print x
 text_or_refusal print (Err f) = refusal f
 
+-- The answer to a line.
 unfoldable pub line_answer : Table → Mode → Text → Text
 line_answer T OfIdentifiers line = text_or_refusal identifier_text
     (identifier_result T (pieces line))
 line_answer T OfLocales line = text_or_refusal text (locale_result T line)
 line_answer T OfDataLocales line = text_or_refusal data_text (data_result T line)
 
--- what is written for a line, and for all
+-- What is written for a line.
 abbrev pub reply : Table → Mode → Text → Text
 reply T mode line = line_answer T mode line ++ 10 ∷ []
 
+-- What is written for an input.
 abbrev pub output : Table → Mode → Text → Text
 output T mode input = flat_map (reply T mode) (lines_of input)

@@ -1,5 +1,5 @@
 -- Data locales of locales and identifiers.
-use Rattle.std.proofs.Common.{◌≡◌, ℕ, Bool, true, false, cond, List, refl, sym, ap, ◌∙◌, Option, Some, None, IfSome, Ok, Err, option_map, option_and_then, option_to_list}
+use Rattle.std.proofs.Common.{◌≡◌, ℕ, Bool, List, refl, sym, ap, ◌∙◌, Option, Some, None, IfSome, Ok, Err, option_map, option_and_then, option_to_list}
 use Rattle.std.proofs.lemmas.Bool.{cond_both}
 use Rattle.std.specs.Option.{option_or}
 use Rattle.std.specs.Result.{result_ok}
@@ -12,10 +12,11 @@ use Rattle.iloc_spec_grammar.proofs.Readings.{one_meaning}
 use Rattle.iloc_spec_parts.specs.Small.{SmallLocale, keyword_of_small, locale_of_small}
 use Rattle.iloc_spec_grammar.specs.Reading.{first_item}
 use Rattle.iloc_spec_preferences.specs.Subdivisions.{Subdivision, subdivision, subdivision_text}
-use Rattle.iloc_spec_preferences.specs.DataLocales.{DataLocale, whole_region, named_subdivision, data_key, made_of, agreed, sd, small_part, DataMeans, data_of_identifier}
+use Rattle.iloc_spec_preferences.specs.DataLocales.{DataLocale, whole_region, named_subdivision, data_key, made_of, agreed, small_part, DataMeans, data_of_identifier}
 use Rattle.iloc_spec_preferences.specs.Keywords.{subdivision_reads}
 use Rattle.iloc_spec_preferences.specs.Preferences.{identifier_preferences, preferences, language_priority, preferred_region, read_keyword}
 use Rattle.iloc_spec_parts.proofs.SmallLaws.{first-option, small_means}
+use Rattle.iloc_spec_preferences.proofs.Keys.{sd}
 use Rattle.iloc_spec_preferences.proofs.SubdivisionLaws.{subdivision_back}
 use Rattle.iloc_spec_preferences.proofs.DataLaws.{whole_region_is}
 use Rattle.iloc_spec_grammar.proofs.MapLaws.{same_is}
@@ -28,18 +29,11 @@ part_of_locale r p e = from r.id.region r.keyword e
     found : Option (List ℕ × Option (List ℕ)) → Option Subdivision
     found k = option_and_then subdivision_reads (find word_cmp sd (option_to_list (option_map keyword_of_small k)))
 
-    with_region : (region : Option (List ℕ)) (s : Subdivision) → preferred_region region (Some s) ≡ Some (agreed region s)
-    with_region None s = refl
-    with_region (Some r) s = ap Some (elim (is_same r s.region) as (λ b. is_same r s.region ≡ b → cond b (record { region = r; suffix = s.suffix }) (whole_region r) ≡ cond b s (whole_region r)) [
-      | true ↦ λ e. ap (λ x. record { region = x; suffix = s.suffix }) (same_is r s.region e)
-      | false ↦ λ e. refl
-    ] refl)
-
     at_value : (region : Option (List ℕ)) (o : Option (List ℕ)) → option_map (λ s. Some (agreed region s)) (option_and_then named_subdivision o) ≡ Some p → preferred_region region (option_and_then subdivision_reads (Some (option_to_list o))) ≡ p
     at_value region None e = absurd (cc)
     at_value region (Some w) e = (elim (subdivision w) as (λ x. option_map (λ s. Some (agreed region s)) (result_ok x) ≡ Some p → preferred_region region (result_ok x) ≡ p) [
       | Err f ↦ λ e. absurd (cc)
-      | Ok s ↦ λ e. with_region region s ∙ cc
+      | Ok s ↦ λ e. cc
     ]) e
 
     from : (region : Option (List ℕ)) (k : Option (List ℕ × Option (List ℕ))) → small_part region k ≡ Some p → preferred_region region (found k) ≡ p

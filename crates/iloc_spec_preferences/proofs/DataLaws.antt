@@ -16,7 +16,8 @@ use Rattle.iloc_spec_parts.specs.Small.{SmallIdentifier, SmallLocale, identifier
 use Rattle.iloc_spec_grammar.specs.Reading.{first_item}
 use Rattle.iloc_spec_preferences.specs.Subdivisions.{Subdivision, subdivision, subdivision_text, IsSubdivision}
 use Rattle.iloc_spec_preferences.specs.DataComputing.{data_of_result, data_result}
-use Rattle.iloc_spec_preferences.specs.DataLocales.{DataLocale, IsDataLocale, whole, whole_region, is_whole, named_subdivision, made_of, agreed, sd, small_part, data_of_small, DataMeans, HasDataFault, not_small, no_subdivision, subdivision_value, subdivision_keyword, subdivision_pieces, data_text, small_of_data, locale_of_data}
+use Rattle.iloc_spec_preferences.specs.DataLocales.{DataLocale, IsDataLocale, whole, whole_region, is_whole, named_subdivision, made_of, agreed, small_part, data_of_small, DataMeans, HasDataFault, not_small, no_subdivision, subdivision_value, subdivision_keyword, subdivision_pieces, data_text, small_of_data, locale_of_data}
+use Rattle.iloc_spec_preferences.proofs.Keys.{sd}
 use Rattle.iloc_spec_parts.proofs.SmallLaws.{one_small, small_answer, small_apart, one_small_fault, by_result}
 use Rattle.iloc_spec_parts.specs.SmallComputing.{small_result}
 use Rattle.iloc_spec_parts.proofs.SmallBack.{small_back, small_is_value, read_is_small_value}

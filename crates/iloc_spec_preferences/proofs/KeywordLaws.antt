@@ -4,8 +4,8 @@ use Rattle.std.specs.List.{AllByRecursion}
 use Rattle.iloc_spec_grammar.specs.Words.{Script, CurrencyType, is_true, lower, word}
 use Rattle.iloc_spec_grammar.specs.Values.{IsNormal}
 use Rattle.iloc_spec_grammar.proofs.WordsLaws.{is_word-lower, normal-lower}
-use Rattle.iloc_spec_parts.specs.SingleValues.{currency_reads, currency_gives}
-use Rattle.iloc_spec_preferences.specs.Keywords.{EnumKeyword, CommonVariantType, ReadsWhatItGives, subtag_reads, subtag_gives, scripts_read, scripts_give, with_first}
+use Rattle.iloc_spec_parts.specs.SingleValues.{single, currency_reads, currency_gives}
+use Rattle.iloc_spec_preferences.specs.Keywords.{EnumKeyword, CommonVariantType, ReadsWhatItGives, subtag_gives, scripts_read, scripts_give, with_first}
 
 pub reads_what_it_gives : (k : EnumKeyword) → ReadsWhatItGives k
 unfolding is_true
@@ -17,7 +17,7 @@ reads_what_it_gives _ = search rules
 pub currency_read_back : (w : List ℕ) → IsNormal CurrencyType w → currency_reads (currency_gives w) ≡ Some w
 currency_read_back w h = rw h.0 (ap Some h.1)
 
-pub subtag_read_back : (w : List ℕ) → is_true w ≡ false → subtag_reads (subtag_gives w) ≡ Some w
+pub subtag_read_back : (w : List ℕ) → is_true w ≡ false → single (subtag_gives w) ≡ Some w
 subtag_read_back w h = rw h refl
 
 pub scripts_read_back : (ws : List (List ℕ)) → AllByRecursion (IsNormal Script) ws → scripts_read (scripts_give ws) ≡ Some ws

@@ -1,3 +1,4 @@
+pub mod Keys
 pub mod SubdivisionLaws
 pub mod DataLaws
 pub mod DataOrderLaws

@@ -11,11 +11,12 @@ use Rattle.iloc_spec_grammar.proofs.ValuesLaws.{all_weaker}
 use Rattle.iloc_spec_grammar.proofs.WordsLaws.{length-lower, length-region}
 use Rattle.iloc_spec_grammar.specs.Reading.{first_item}
 use Rattle.iloc_spec_preferences.specs.Subdivisions.{Subdivision, IsSubdivision, subdivision, subdivision_text}
-use Rattle.iloc_spec_preferences.specs.DataLocales.{whole_region, is_whole, whole, sd}
+use Rattle.iloc_spec_preferences.specs.DataLocales.{whole_region, is_whole, whole}
 use Rattle.iloc_spec_preferences.specs.Keywords.{subdivision_reads, subdivision_gives}
 use Rattle.std.proofs.lemmas.Bool.{and_parts, and_from, false_from_ne_true, cond_both}
-use Rattle.iloc_spec_preferences.specs.Preferences.{is_strict, same_region, Preferences, IsPreferences, SpellsNoTrue, und, rg, default_preferences, read_keyword, region_with, preferred_region, preferences, merge_language, wins, merge_region, merge, sd_entry, rg_entry, locale_of_preferences}
-use Rattle.iloc_spec_preferences.specs.Formatters.{FormatPreferences, TimePreferences, default_format, default_time, merge_format, merge_time}
+use Rattle.iloc_spec_preferences.specs.Preferences.{is_strict, same_region, Preferences, IsPreferences, SpellsNoTrue, und, default_preferences, read_keyword, preferred_region, preferences, merge_language, wins, merge_region, merge, sd_entry, rg_entry, locale_of_preferences}
+use Rattle.iloc_spec_preferences.specs.Formatters.{FormatPreferences, TimePreferences, plain_time, plain_format, merge_time, merge_format}
+use Rattle.iloc_spec_preferences.proofs.Keys.{sd, rg}
 use Rattle.iloc_spec_parts.proofs.SmallLaws.{first-option}
 use Rattle.iloc_spec_preferences.proofs.SubdivisionLaws.{subdivision_back, subdivision_is_subtag, text_of_read, read_is_long, read_is_subdivision}
 use Rattle.iloc_spec_preferences.proofs.DataLaws.{sd_key, whole_region_is}
@@ -85,9 +86,9 @@ override_back (Some s) h n = read_given s h n
 
 region_back : (o : Option Subdivision) → IfSome o IsSubdivision → IfSome o (λ s. is_true (subdivision_text s) ≡ false) → preferred_region (option_map (λ s. s.region) o) (option_and_then subdivision_reads (find word_cmp sd (sd_entry o))) ≡ o
 region_back None h n = refl
-region_back (Some s) h n = cond_both (is_whole s) _ _ (λ es. Some (region_with s.region (option_and_then subdivision_reads (find word_cmp sd es))) ≡ Some s)
+region_back (Some s) h n = cond_both (is_whole s) _ _ (λ es. preferred_region (Some s.region) (option_and_then subdivision_reads (find word_cmp sd es)) ≡ Some s)
     (λ e. ap (λ x. Some (record { region = s.region; suffix = x })) (sym (same_is s.suffix whole e)))
-    (λ e. ap (λ o. Some (region_with s.region o)) (read_given s h n) ∙ ap (λ b. Some (cond b s (whole_region s.region))) (same_itself s.region))
+    (λ e. ap (preferred_region (Some s.region)) (read_given s h n) ∙ ap (λ b. Some (cond b s (whole_region s.region))) (same_itself s.region))
 
 pub preferences_back : {T : ℕ → Bool} (p : Preferences) → IsPreferences T p → SpellsNoTrue p → preferences (locale_of_preferences p) ≡ p
 preferences_back p h n = λ i. record {
@@ -169,23 +170,24 @@ preferences_are {T = T} M h = record {
     first_is (w ∷ ws) h = h.0
 
     region_is : (o : Option (List ℕ)) → IfSome o (IsNormal Region) → (s : Option Subdivision) → IfSome s IsSubdivision → IfSome (preferred_region o s) IsSubdivision
-    region_is None h s k = k
+    region_is None h None k = tt
+    region_is None h (Some s) k = k
     region_is (Some r) h None k = whole_region_is r h
-    region_is (Some r) h (Some s) k = elim (is_same r s.region) as (λ b. IsSubdivision (cond b (record { region = r; suffix = s.suffix }) (whole_region r))) [ true ↦ record { region = h; suffix = k.suffix } | false ↦ whole_region_is r h ]
+    region_is (Some r) h (Some s) k = elim (is_same r s.region) as (λ b. IsSubdivision (cond b s (whole_region r))) [ true ↦ k | false ↦ whole_region_is r h ]
 
 -- formatters
-
-pub format_itself : (a : FormatPreferences) → merge_format a a ≡ a
-format_itself a = λ i. record { locale_preferences = merge_itself a.locale_preferences i; numbering_system = or_same a.numbering_system i; hour_cycle = or_same a.hour_cycle i; calendar_algorithm = or_same a.calendar_algorithm i }
-
-pub default_format_merge : (a : FormatPreferences) → merge_format default_format a ≡ a
-default_format_merge a = λ i. record { locale_preferences = default_merge a.locale_preferences i; numbering_system = or_none a.numbering_system i; hour_cycle = or_none a.hour_cycle i; calendar_algorithm = or_none a.calendar_algorithm i }
 
 pub time_itself : (a : TimePreferences) → merge_time a a ≡ a
 time_itself a = λ i. record { locale_preferences = merge_itself a.locale_preferences i; numbering_system = or_same a.numbering_system i; hour_cycle = or_same a.hour_cycle i }
 
-pub default_time_merge : (a : TimePreferences) → merge_time default_time a ≡ a
+pub default_time_merge : (a : TimePreferences) → merge_time (plain_time default_preferences) a ≡ a
 default_time_merge a = λ i. record { locale_preferences = default_merge a.locale_preferences i; numbering_system = or_none a.numbering_system i; hour_cycle = or_none a.hour_cycle i }
+
+pub format_itself : (a : FormatPreferences) → merge_format a a ≡ a
+format_itself a = λ i. record { time = time_itself a.time i; calendar_algorithm = or_same a.calendar_algorithm i }
+
+pub default_format_merge : (a : FormatPreferences) → merge_format (plain_format (plain_time default_preferences)) a ≡ a
+default_format_merge a = λ i. record { time = default_time_merge a.time i; calendar_algorithm = or_none a.calendar_algorithm i }
 
 -- the locale of preferences is strict where no subdivision spells `true`
 
@@ -225,9 +227,9 @@ whole_spells s h e = false_from_ne_true _ (λ q.
     absurd (omega arith))
 
 region_only : (s : Subdivision) → IsSubdivision s → preferred_region (Some s.region) (option_and_then subdivision_reads (find word_cmp sd (sd_entry (Some s)))) ≡ Some s → is_true (subdivision_text s) ≡ false
-region_only s h = cond_both (is_whole s) _ _ (λ es. Some (region_with s.region (option_and_then subdivision_reads (find word_cmp sd es))) ≡ Some s → is_true (subdivision_text s) ≡ false)
+region_only s h = cond_both (is_whole s) _ _ (λ es. preferred_region (Some s.region) (option_and_then subdivision_reads (find word_cmp sd es)) ≡ Some s → is_true (subdivision_text s) ≡ false)
     (λ w e. whole_spells s h (same_is s.suffix whole w))
-    (λ w. cond_both (is_true (subdivision_text s)) _ _ (λ ws. Some (region_with s.region (subdivision_reads ws)) ≡ Some s → is_true (subdivision_text s) ≡ false)
+    (λ w. cond_both (is_true (subdivision_text s)) _ _ (λ ws. preferred_region (Some s.region) (subdivision_reads ws) ≡ Some s → is_true (subdivision_text s) ≡ false)
     (λ t e. absurd (let k : whole_region s.region ≡ s = cc in true≢false (ap is_whole k ∙ w)))
     (λ t e. t))
 

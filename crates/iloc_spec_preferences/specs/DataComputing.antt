@@ -6,9 +6,11 @@ use Rattle.iloc_spec_parts.specs.Small.{SmallLocale}
 use Rattle.iloc_spec_parts.specs.SmallComputing.{small_result}
 use Rattle.iloc_spec_preferences.specs.DataLocales.{DataLocale, data_of_small}
 
+-- The data locale of a small locale, or the fault.
 abbrev pub data_of_result : Result SmallLocale Fault → Result DataLocale Fault
 data_of_result (Ok r) = ok_or (data_of_small r) InvalidExtension
 data_of_result (Err f) = Err f
 
+-- The data locale that a text means, or its fault.
 unfoldable pub data_result : Table → Text → Result DataLocale Fault
 data_result T t = data_of_result (small_result T t)

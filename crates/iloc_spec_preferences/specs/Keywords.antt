@@ -11,22 +11,23 @@ use Rattle.std.specs.Cmp.Lexicographic.{slice_cmp}
 use Rattle.std.specs.FinMap.{find}
 use Rattle.iloc_spec_grammar.specs.Shapes.{Text}
 use Rattle.iloc_spec_grammar.specs.Words.{Script, word, lower, word_cmp, is_true}
-use Rattle.iloc_spec_parts.specs.SingleValues.{single}
+pub use Rattle.iloc_spec_parts.specs.SingleValues.{single}
 use Rattle.iloc_spec_preferences.specs.Subdivisions.{Subdivision, subdivision, subdivision_text}
 use Rattle.iloc_spec_orders.specs.Orders.{pair_cmp}
 use Rattle.iloc_spec_grammar.specs.Values.{spelled_value}
 
--- Keywords with a fixed set of values.
+-- The keywords with a fixed set of values, by the names of their types.
 pub data EnumKeyword : Type 0 where
   CalendarAlgorithm CollationType CollationCaseFirst CollationNumericOrdering CurrencyFormatStyle
       EmojiPresentationStyle FirstDay HourCycle LineBreakStyle LineBreakWordHandling
       MeasurementSystem MeasurementUnitOverride SentenceBreakSupressions
       CommonVariantType : EnumKeyword
 
--- A value: the number of its variant, and for a Hijri calendar perhaps that of its kind.
+-- A value: the number of its variant, from 0, and for a Hijri calendar perhaps that of its kind.
 abbrev pub EnumValue : Type 0
 EnumValue = ℕ × Option ℕ
 
+-- The key of each.
 abbrev pub key : EnumKeyword → Text
 key CalendarAlgorithm = codes "ca"
 key CollationType = codes "co"
@@ -43,7 +44,7 @@ key MeasurementUnitOverride = codes "mu"
 key SentenceBreakSupressions = codes "ss"
 key CommonVariantType = codes "va"
 
--- the texts of the variants, in order; the value text of `ca-islamic` may go on with a kind
+-- The texts of the variants, in order; that of `islamic` may go on with a kind.
 abbrev pub variants : EnumKeyword → List Text
 variants CalendarAlgorithm = codes "buddhist" ∷ codes "chinese" ∷ codes "coptic" ∷ codes "dangi"
     ∷ codes "ethioaa" ∷ codes "ethiopic" ∷ codes "gregory" ∷ codes "hebrew" ∷ codes "indian"
@@ -66,98 +67,74 @@ variants MeasurementUnitOverride = codes "celsius" ∷ codes "kelvin" ∷ codes 
 variants SentenceBreakSupressions = codes "none" ∷ codes "standard" ∷ []
 variants CommonVariantType = codes "posix" ∷ []
 
--- the variant by default, if there is one
-abbrev pub default_variant : EnumKeyword → Option ℕ
-default_variant CollationCaseFirst = Some 2
-default_variant CollationNumericOrdering = Some 1
-default_variant CurrencyFormatStyle = Some 0
-default_variant EmojiPresentationStyle = Some 2
-default_variant SentenceBreakSupressions = Some 0
-default_variant _ = None
-
--- the kinds of Hijri calendars
+-- The texts of the kinds of Hijri calendars, in order.
 abbrev pub hijri_kinds : List Text
 hijri_kinds = codes "umalqura" ∷ codes "tbla" ∷ codes "civil" ∷ codes "rgsa" ∷ []
 
--- the items with their numbers, from n on
+-- The items with their numbers, from n on.
 abbrev pub numbered : {X : Type 0} → ℕ → List X → List (X × ℕ)
 numbered n [] = []
 numbered n (x ∷ xs) = (x, n) ∷ numbered (n + 1) xs
 
--- a list that is read, with the value that it is read as
-abbrev pub Readings : Type 0
-Readings = List (List Text × EnumValue)
-
--- beyond the variants: the kinds after `islamic`, and two old forms
-abbrev pub further_readings : EnumKeyword → Readings
+-- What is read beyond the variants, and as what: the kinds after `islamic`, and two old forms.
+abbrev pub further_readings : EnumKeyword → List (List Text × EnumValue)
 further_readings CalendarAlgorithm = map (λ e. (codes "islamic" ∷ e.0 ∷ [], (9, Some e.1)))
     (numbered 0 hijri_kinds)
     ++ (codes "islamicc" ∷ [], (9, Some 2))
     ∷ (codes "ethiopic" ∷ codes "amete" ∷ codes "alem" ∷ [], (4, None)) ∷ []
 further_readings _ = []
 
--- all that is read, and as what
-abbrev pub readings : EnumKeyword → Readings
+-- All that is read, and as what.
+abbrev pub readings : EnumKeyword → List (List Text × EnumValue)
 readings k = map (λ e. (e.0 ∷ [], (e.1, None))) (numbered 0 (variants k)) ++ further_readings k
 
--- and `true` alone is written as the empty list
+-- A list as it is written: `true` alone is the empty list.
 abbrev pub unspelled_value : List Text → List Text
 unspelled_value (w ∷ []) = if is_true w then [] else w ∷ []
 unspelled_value ws = ws
 
--- the value that the list is read as
+-- The value that a list is read as, if there is one.
 abbrev pub enum_reads : EnumKeyword → List Text → Option EnumValue
 enum_reads k ws = find (slice_cmp word_cmp) (spelled_value ws) (readings k)
 
--- the words of a value's text: of what is read as it, the first
+-- The words of a value's text: of what is read as it, the first.
 abbrev pub enum_words : EnumKeyword → EnumValue → Option (List Text)
 enum_words k v = find (pair_cmp nat_cmp (option_cmp nat_cmp)) v (map (λ e. (e.1, e.0)) (readings k))
 
--- the list that a value is turned into
+-- The list that a value is turned into.
 abbrev pub enum_gives : EnumKeyword → EnumValue → Option (List Text)
 enum_gives k v = option_map unspelled_value (enum_words k v)
 
--- each value that some list is read as is read of the list that it gives
+-- Each value that some list is read as is read of the list that it gives.
 abbrev pub ReadsWhatItGives : EnumKeyword → Type 0
 ReadsWhatItGives k = AllByRecursion
     (λ e. option_and_then (enum_reads k) (enum_gives k e.1) ≡ Some e.1) (readings k)
 
--- Keywords whose values are words of a kind; `cu` stands in `SingleValues` of `iloc_spec_parts`.
+-- Keywords whose values are words of a kind. `nu` and `tz` are read as their only subtag
+-- (`single`); `cu` stands in `SingleValues` of `iloc_spec_parts`.
 
-abbrev pub cu : Text
-cu = codes "cu"
-
-abbrev pub dx : Text
-dx = codes "dx"
-
-abbrev pub nu : Text
-nu = codes "nu"
-
-abbrev pub tz : Text
-tz = codes "tz"
-
--- `nu` and `tz`: one subtag
-abbrev pub subtag_reads : List Text → Option Text
-subtag_reads ws = single ws
-
+-- The list that `nu` or `tz` is turned into.
 abbrev pub subtag_gives : Text → List Text
 subtag_gives w = unspelled_value (w ∷ [])
 
+-- A word before others, if all are there.
 abbrev pub with_first : Option Text → Option (List Text) → Option (List Text)
 with_first (Some w) (Some ws) = Some (w ∷ ws)
 with_first _ _ = None
 
--- `dx`: scripts, perhaps none
+-- What `dx` is read as: scripts, perhaps none.
 abbrev pub scripts_read : List Text → Option (List Text)
 scripts_read [] = Some []
 scripts_read (w ∷ ws) = with_first (word Script w) (scripts_read ws)
 
+-- The list that `dx` is turned into.
 abbrev pub scripts_give : List Text → List Text
 scripts_give ws = map lower ws
 
--- `rg` and `sd`: one subdivision
+-- What `rg` and `sd` are read as: one subdivision.
 abbrev pub subdivision_reads : List Text → Option Subdivision
 subdivision_reads ws = option_and_then (λ w. result_ok (subdivision w)) (single ws)
 
+-- The list that `rg` or `sd` is turned into.
 abbrev pub subdivision_gives : Subdivision → List Text
 subdivision_gives s = unspelled_value (subdivision_text s ∷ [])

@@ -10,12 +10,12 @@ ghost use Rattle.iloc_spec_grammar.specs.Words.{IsTable, CurrencyType, Script, R
 ghost use Rattle.iloc_spec_grammar.specs.Written.{Identifier};
 ghost use Rattle.iloc_spec_grammar.specs.Meaning.{Locale, Means};
 ghost use Rattle.iloc_spec_grammar.specs.Values.{IsNormal, IsValue, IsWellFormed};
-ghost use Rattle.iloc_spec_parts.specs.SingleValues.{currency_reads, currency_gives};
+ghost use Rattle.iloc_spec_parts.specs.SingleValues.{single, currency_reads, currency_gives};
 ghost use Rattle.iloc_spec_preferences.specs.Subdivisions.{Subdivision, IsSubdivision, subdivision_text};
 ghost use Rattle.iloc_spec_preferences.specs.DataLocales.{DataLocale, DataMeans, data_key, data_of_identifier};
-ghost use Rattle.iloc_spec_preferences.specs.Keywords.{EnumKeyword, CalendarAlgorithm, CollationNumericOrdering, HourCycle, enum_reads, enum_gives, ReadsWhatItGives, subtag_reads, subtag_gives, scripts_read, scripts_give, subdivision_reads, subdivision_gives};
+ghost use Rattle.iloc_spec_preferences.specs.Keywords.{EnumKeyword, CalendarAlgorithm, CollationNumericOrdering, HourCycle, enum_reads, enum_gives, ReadsWhatItGives, subtag_gives, scripts_read, scripts_give, subdivision_reads, subdivision_gives};
 ghost use Rattle.iloc_spec_preferences.specs.Preferences.{Preferences, is_strict, IsPreferences, SpellsNoTrue, default_preferences, preferences, identifier_preferences, language_priority, merge, locale_of_preferences};
-ghost use Rattle.iloc_spec_preferences.specs.Formatters.{FormatPreferences, TimePreferences, default_format, default_time, merge_format, merge_time, is_strict_format, format_preferences, time_of_format};
+ghost use Rattle.iloc_spec_preferences.specs.Formatters.{FormatPreferences, TimePreferences, plain_time, plain_format, merge_time, merge_format, is_strict_format, format_preferences};
 ghost use Rattle.iloc_spec_preferences.specs.PreferenceExamples.{meaning_of, preferences_of, conversions, text_of_preferences};
 
 /// Each keyword turned into a list and read is itself; a list that would spell `true` is empty, and lost for keywords that hold subtags.
@@ -24,7 +24,7 @@ pub fn keywords()
     ensures enums { (k : EnumKeyword) → ReadsWhatItGives k }
     ensures currency { (w : Text) → IsNormal CurrencyType w
         → currency_reads (currency_gives w) ≡ Some w }
-    ensures subtag { (w : Text) → is_true w ≡ false → subtag_reads (subtag_gives w) ≡ Some w }
+    ensures subtag { (w : Text) → is_true w ≡ false → single (subtag_gives w) ≡ Some w }
     ensures scripts { (ws : List Text) → AllByRecursion (IsNormal Script) ws
         → scripts_read (scripts_give ws) ≡ Some ws }
     ensures subdivision { (s : Subdivision) → IsSubdivision s → is_true (subdivision_text s) ≡ false
@@ -42,12 +42,16 @@ pub fn merging()
 /// The same for the preferences of formatters.
 #[tactic(auto, using(crate::proofs::PreferenceLaws::default_time_merge, crate::proofs::PreferenceLaws::format_itself, crate::proofs::PreferenceLaws::default_format_merge, crate::proofs::PreferenceLaws::time_itself))]
 pub fn merging_formatters()
-    ensures default { (a : FormatPreferences) → merge_format a default_format ≡ a }
+    ensures default { (a : FormatPreferences)
+        → merge_format a (plain_format (plain_time default_preferences)) ≡ a }
     ensures itself { (a : FormatPreferences) → merge_format a a ≡ a }
-    ensures onto_default { (a : FormatPreferences) → merge_format default_format a ≡ a }
-    ensures time_default { (a : TimePreferences) → merge_time a default_time ≡ a }
+    ensures onto_default { (a : FormatPreferences)
+        → merge_format (plain_format (plain_time default_preferences)) a ≡ a }
+    ensures time_default { (a : TimePreferences)
+        → merge_time a (plain_time default_preferences) ≡ a }
     ensures time_itself { (a : TimePreferences) → merge_time a a ≡ a }
-    ensures time_onto_default { (a : TimePreferences) → merge_time default_time a ≡ a }
+    ensures time_onto_default { (a : TimePreferences)
+        → merge_time (plain_time default_preferences) a ≡ a }
 {}
 
 /// The locale of preferences is well-formed, and has these preferences exactly if no subdivision spells `true`.
@@ -120,30 +124,37 @@ pub fn by_example()
         ≡ codes "en-US-u-rg-gbeng-sd-ustx" }
     ensures formatter { format_preferences (meaning_of (codes "en-US-u-ca-buddhist-nu-thai"))
         ≡ record {
-          locale_preferences = preferences_of (codes "en-US");
-          numbering_system = Some (codes "thai");
-          hour_cycle = None;
+          time = record {
+            locale_preferences = preferences_of (codes "en-US");
+            numbering_system = Some (codes "thai");
+            hour_cycle = None;
+          };
           calendar_algorithm = Some (0, None);
         } }
     ensures formatter_strict { is_strict_format (meaning_of (codes "en-US-u-ca-buddhist-nu-thai"))
         ≡ true }
     ensures two_systems { format_preferences (meaning_of (codes "en-u-hc-h12-nu-arab-latn"))
         ≡ record {
-          locale_preferences = preferences_of (codes "en");
-          numbering_system = None;
-          hour_cycle = Some (0, None);
+          time = record {
+            locale_preferences = preferences_of (codes "en");
+            numbering_system = None;
+            hour_cycle = Some (0, None);
+          };
           calendar_algorithm = None;
         } }
     ensures two_systems_strict { is_strict_format (meaning_of (codes "en-u-hc-h12-nu-arab-latn"))
         ≡ false }
     ensures no_calendar { is_strict_format (meaning_of (codes "en-u-ca")) ≡ false }
-    ensures merged_formatters { time_of_format
-        (merge_format (format_preferences (meaning_of (codes "en-u-hc-h12")))
-        (format_preferences (meaning_of (codes "de-u-ca-roc"))))
+    ensures merged_formatters { merge_format
+        (format_preferences (meaning_of (codes "en-u-hc-h12")))
+        (format_preferences (meaning_of (codes "de-u-ca-roc")))
         ≡ record {
-          locale_preferences = preferences_of (codes "de");
-          numbering_system = None;
-          hour_cycle = Some (0, None);
+          time = record {
+            locale_preferences = preferences_of (codes "de");
+            numbering_system = None;
+            hour_cycle = Some (0, None);
+          };
+          calendar_algorithm = Some (13, None);
         } }
 {}
 

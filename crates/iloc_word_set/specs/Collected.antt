@@ -14,4 +14,5 @@ words_of (Many words ascend) = words.items
 -- a set of four, or more than four different ones, which ascend if that is said
 abbrev pub IsCollected : {K : Type 0} {N : ℕ} → Collected K N → Type 0
 IsCollected (Four set) = IsAscending set × (length set ≡ 4)
-IsCollected (Many words ascend) = (4 < length (set_of words.items)) × (ascend ≡ true → IsAscending words.items)
+IsCollected (Many words ascend) =
+    (4 < length (set_of words.items)) × (ascend ≡ true → IsAscending words.items)

@@ -3,8 +3,11 @@ use Rattle.std.specs.Io.{StartsWith}
 use Rattle.std.specs.Io.KnownBytes.{Appends, Consumes}
 use Rattle.iloc_lines.specs.Output.{output}
 use Rattle.iloc_lines.specs.ReplyBlock.{held}
-use Rattle.iloc_lines.proofs.RunLemmas.{Replies-fed, Stands-end, Stands-end_part, Stands-front, Stands-kept, Stands-part, Stands-read, Stands-read_none, Stands-written, on_err, on_err_then, on_ok_then}
+use Rattle.iloc_lines.proofs.RunLemmas.{Replies-fed, Stands-end, Stands-end_part, Stands-first, Stands-front, Stands-kept, Stands-part, Stands-read, Stands-read_none, Stands-written, on_err, on_err_then, on_ok_then}
 use Rattle.iloc_lines.proofs.run_with.Goals as goal
+
+pub returns-in_err-room-clause-err : goal.returns-in_err-room-clause-err
+returns-in_err-room-clause-err g c = on_err _ _ (Stands-front _ _ _ _ _ _ (Stands-first g.A.Answers.mode _ _))
 
 pub returns-clause-err : goal.returns-clause-err
 returns-clause-err g c = Stands-front _ _ _ _ _ _ c.reads.invariant.stands

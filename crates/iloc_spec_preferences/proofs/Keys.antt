@@ -1,0 +1,9 @@
+-- The keys of preferences, by name.
+use Rattle.std.specs.Prelude.{codes}
+use Rattle.iloc_spec_grammar.specs.Shapes.{Text}
+
+abbrev pub sd : Text
+sd = codes "sd"
+
+abbrev pub rg : Text
+rg = codes "rg"
