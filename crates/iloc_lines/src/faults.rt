@@ -5,38 +5,49 @@ ghost use Rattle.iloc_plain.specs.declared.front.Front.TheVariants as fronts;
 ghost use Rattle.iloc_lines.specs.Output.{IsRefused};
 
 use crate::Mode;
-use iloc_plain::{Block, Front, Keyword, read_front, read_keyword};
+use iloc_plain::{Block, Front, Keyword, Ordered, read_front, read_keyword, read_ordered};
 use iloc_subtags::ParseError;
 
-/// Why the line that this window begins with is refused. `None` says nothing of it.
+/// What is told of a line at once.
+pub(crate) enum Told<'a> {
+    /// Why it is refused.
+    Refused(ParseError),
+    /// Its normal text, in two parts.
+    Ordered(Ordered<'a>),
+    /// Nothing.
+    Nothing,
+}
+
+/// What is told of the line that this window begins with.
 #[inline(always)]
-pub(crate) fn fault_at_front(mode: Mode, window: &[u8], line: &[u8]) -> Option<ParseError>
-    requires begins { take (length line.now) window.now ≡ line.now }
-    requires room { length line.now + 16 ≤ length window.now }
-    ensures { IfSome result (IsRefused mode line.now) }
-{
-    // Longer locales mostly have extensions, which are parsed.
-    if matches!(mode, Mode::Locale) && line.len() > 16 {
-        return None;
-    }
+pub(crate) fn told_at_front<'a>(mode: Mode, window: &'a [u8], line: &[u8]) -> Told<'a> {
     match read_front(window, line.len()) {
-        Front::NoLanguage => Some(ParseError::InvalidLanguage),
-        Front::Misfit => Some(ParseError::InvalidSubtag),
-        Front::Block(block) => fault_of_block(mode, line, block),
-        Front::Other => None,
+        Front::NoLanguage => Told::Refused(ParseError::InvalidLanguage),
+        Front::Misfit => Told::Refused(ParseError::InvalidSubtag),
+        Front::Variants(tail) => ordered(window, line, tail),
+        Front::Block(block) => told_of_block(mode, window, line, block),
+        Front::Other => Told::Nothing,
+    }
+}
+
+#[inline(always)]
+fn ordered<'a>(window: &'a [u8], line: &[u8], tail: usize) -> Told<'a> {
+    match read_ordered(window, line.len(), line.len().wrapping_sub(tail + 1)) {
+        Some(ordered) => Told::Ordered(ordered),
+        None => Told::Nothing,
     }
 }
 
 // The same of a line with this block.
 #[inline(always)]
-fn fault_of_block(mode: Mode, line: &[u8], block: Block<'_>) -> Option<ParseError>
-    requires { IsFront line.now (fronts.Block block) }
-    ensures { IfSome result (IsRefused mode line.now) }
-{
+fn told_of_block<'a>(mode: Mode, window: &'a [u8], line: &[u8], block: Block<'a>) -> Told<'a> {
     match mode {
-        Mode::Langid => Some(ParseError::InvalidSubtag),
-        Mode::Locale => None,
-        Mode::Data => fault_of_data(line, block),
+        Mode::Langid => Told::Refused(ParseError::InvalidSubtag),
+        Mode::Locale => ordered(window, line, block.tail),
+        Mode::Data => match fault_of_data(line, block) {
+            Some(e) => Told::Refused(e),
+            None => Told::Nothing,
+        }
     }
 }
 

@@ -27,7 +27,7 @@ ghost use Rattle.std.specs.Simd.Lanes.{mask_l};
 ghost use Rattle.iloc_spec_grammar.specs.Shapes.{Text};
 ghost use Rattle.memchr.specs.Find.{IsFirstByte, is_byte};
 
-use crate::faults::fault_at_front;
+use crate::faults::{Told, told_at_front};
 use crate::replies::write_refusal;
 use crate::reply_block::ReplyBlock;
 use crate::{Answers, RunError};
@@ -106,8 +106,10 @@ fn reply_to<A: Answers>(
                 return replies.push_plain(&plain);
             }
         }
-        if let Some(error) = fault_at_front(answers.mode(), window, line) {
-            return write_refusal(error, replies);
+        match told_at_front(answers.mode(), window, line) {
+            Told::Refused(error) => return write_refusal(error, replies),
+            Told::Ordered(line) => return replies.push_ordered(&line),
+            Told::Nothing => {}
         }
     }
     answers.reply(line, replies)

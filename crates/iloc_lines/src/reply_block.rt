@@ -1,15 +1,24 @@
 //! The replies to a block of lines, as they are collected.
 ghost use Rattle.std.specs.Prelude.{◌≡◌, ◌+◌, ◌≤◌, [], ◌∷◌, ◌++◌, length, take, vec_len, OnOk, OnErr};
 
-use iloc_plain::Plain;
+use iloc_plain::{Ordered, Plain};
 use iloc_tinystr::ShortPiece;
 use iloc_writeable::Sink;
 use std::alloc::{AllocError, Global};
 use std::cmp::max;
 use std::fmt;
+use std::simd::prelude::*;
 
 // The room that is made first, so that the replies to most blocks need no more.
 const FIRST_ROOM: usize = 131_072;
+
+// Sixteen bytes in lower case.
+#[inline(always)]
+fn lower(v: u8x16) -> u8x16 {
+    (v - u8x16::splat(65))
+        .simd_lt(u8x16::splat(26))
+        .select(v | u8x16::splat(32), v)
+}
 
 /// Bytes that count, and room behind them. What stands in the room says nothing, so that a short piece is
 /// stored as eight bytes at once, whatever its length.
@@ -81,6 +90,30 @@ impl ReplyBlock {
         self.put(plain.bytes.as_array(), plain.len);
         self.put(b"\n", 1);
         Ok(())
+    }
+
+    /// Adds the normal text of a line that is told by a plain identifier and what follows it, and a newline.
+    #[inline(always)]
+    pub(crate) fn push_ordered(&mut self, line: &Ordered<'_>) -> Result<(), AllocError>
+    {
+        self.make_room(line.len + 33)?;
+        self.put(line.plain.bytes.as_array(), line.plain.len);
+        self.put_lower(line.rest, line.len);
+        self.put(b"\n", 1);
+        Ok(())
+    }
+
+    // Stores the first of these bytes in lower case behind those that count, and counts them.
+    #[inline(always)]
+    fn put_lower(&mut self, bytes: &[u8], count: usize) {
+        let mut rest = bytes;
+        let mut left = count;
+        'parts: while left > 16 {
+            self.put(lower(u8x16::from_slice(rest)).as_array(), 16);
+            rest = &rest[16..];
+            left -= 16;
+        }
+        self.put(lower(u8x16::from_slice(rest)).as_array(), left);
     }
 
     /// Adds these bytes.

@@ -23,6 +23,7 @@ pub mod keyword;
 mod lanes;
 mod load;
 mod marks;
+pub mod ordered;
 pub mod plain;
 mod read;
 mod run;
@@ -31,5 +32,6 @@ mod words;
 
 pub use front::{Block, Front, read_front};
 pub use keyword::{Keyword, read_keyword};
+pub use ordered::{Ordered, read_ordered, read_varied};
 pub use plain::Plain;
 pub use read::{read_plain, read_plain_text};
