@@ -88,8 +88,8 @@ fn split_line(bytes: &[u8]) -> Option<(&[u8], &[u8])>
     Some((line, &later[1..]))
 }
 
-// Adds the reply to the line that this window begins with: at once if it is plain or refused for what
-// stands at its front, and else as the mode parses it. Sixteen bytes behind the line may be loaded.
+// Adds the reply to the line that this window begins with: at once if it is plain or told by its front,
+// and else as the mode parses it. Sixteen bytes behind the line may be loaded.
 #[inline(always)]
 fn reply_to<A: Answers>(
     answers: &mut A,
@@ -106,7 +106,7 @@ fn reply_to<A: Answers>(
                 return replies.push_plain(&plain);
             }
         }
-        match told_at_front(answers.mode(), window, line) {
+        match told_at_front(answers.mode(), window, line.len()) {
             Told::Refused(error) => return write_refusal(error, replies),
             Told::Ordered(line) => return replies.push_ordered(&line),
             Told::Nothing => {}

@@ -21,7 +21,7 @@
 pub mod front;
 pub mod keyword;
 mod lanes;
-mod load;
+pub mod load;
 mod marks;
 pub mod ordered;
 pub mod plain;
@@ -32,6 +32,7 @@ mod words;
 
 pub use front::{Block, Front, read_front};
 pub use keyword::{Keyword, read_keyword};
+pub use load::first_in_lower_case;
 pub use ordered::{Ordered, read_ordered, read_varied};
 pub use plain::Plain;
 pub use read::{read_plain, read_plain_text};
