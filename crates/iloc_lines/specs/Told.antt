@@ -5,6 +5,7 @@ use Rattle.iloc_plain.specs.Ordered.{IsStored, text_of}
 use Rattle.iloc_plain.specs.declared.ordered.Ordered.{Ordered}
 use Rattle.iloc_lines.specs.Output.{IsRefused, line_answer}
 use Rattle.iloc_lines.specs.declared.Mode.{Mode}
+use Rattle.iloc_lines.specs.declared.Mode.TheVariants.{Locale}
 use Rattle.iloc_lines.specs.declared.faults.Told.{Told}
 use Rattle.iloc_lines.specs.declared.faults.Told.TheVariants as told
 
@@ -13,8 +14,9 @@ pub record IsAnswered (mode : Mode) (line : Text) (o : Ordered) : Type 0 where
   pub stored : IsStored o
   pub answer : line_answer mode line ≡ text_of o
 
--- what is told is so
+-- what is told is so; that a line may have the order of its text is told of locales alone
 abbrev pub IsTold : Mode → Text → Told → Type 0
 IsTold mode line (told.Refused e) = IsRefused mode line e
-IsTold mode line (told.Ordered o) = IsAnswered mode line o
+IsTold mode line (told.Varied n) = ⊤
+IsTold mode line (told.Ordered n) = mode ≡ Locale
 IsTold mode line told.Nothing = ⊤

@@ -1,89 +1,72 @@
 //! What is told of lines at once, by what stands at their front.
-ghost use Rattle.std.specs.Prelude.{◌≡◌, ◌+◌, ◌≤◌, IfSome, length, take};
+ghost use Rattle.std.specs.Prelude.{◌≡◌, ◌+◌, ◌<◌, ◌≤◌, IfSome, length, take};
+ghost use Rattle.iloc_spec_grammar.specs.Shapes.{Text};
 ghost use Rattle.iloc_plain.specs.Front.{IsFront};
 ghost use Rattle.iloc_plain.specs.declared.front.Front.TheVariants as fronts;
 ghost use Rattle.iloc_lines.specs.Output.{IsRefused};
 ghost use Rattle.iloc_lines.specs.Told.{IsTold};
 
 use crate::Mode;
-use iloc_plain::{
-    Block, Front, Keyword, Ordered, read_front, read_keyword, read_ordered, read_varied,
-};
+use iloc_plain::{Block, Front, Keyword, read_front, read_keyword};
 use iloc_subtags::ParseError;
 
 /// What is told of a line.
 #[derive(Drop)]
-pub(crate) enum Told<'a> {
+pub(crate) enum Told {
     /// Why it is refused.
     Refused(ParseError),
-    /// That it is accepted, and has the order of its normal text.
-    Ordered(Ordered<'a>),
+    /// Nothing, but it may be a plain identifier of so many bytes, and a variant.
+    Varied(usize),
+    /// Nothing, but it may be a plain identifier of so many bytes, and what a locale prints after it.
+    Ordered(usize),
     /// Nothing.
     Nothing,
 }
 
 /// What is told of the line that this window begins with.
 #[inline(always)]
-pub(crate) fn told_at_front<'a>(mode: Mode, window: &'a [u8], len: usize) -> Told<'a>
+pub(crate) fn told_at_front(mode: Mode, window: &[u8], len: usize) -> Told
     requires { len + 16 ≤ length window.now }
     ensures { IsTold mode (take len window.now) result }
 {
     match read_front(window, len) {
         Front::NoLanguage => Told::Refused(ParseError::InvalidLanguage),
         Front::Misfit => Told::Refused(ParseError::InvalidSubtag),
-        Front::Variants(tail) => told_of_variants(mode, window, len, len.wrapping_sub(tail.wrapping_add(1))),
-        Front::Block(block) => told_of_block(mode, window, len, block),
+        Front::Variants(tail) => Told::Varied(len.wrapping_sub(tail.wrapping_add(1))),
+        Front::Block(block) => told_of_block(mode, &window[..len], block),
         Front::Other => Told::Nothing,
-    }
-}
-
-// The same of a line whose variants follow so many bytes.
-#[inline(always)]
-fn told_of_variants<'a>(mode: Mode, window: &'a [u8], len: usize, at: usize) -> Told<'a>
-    requires { len + 16 ≤ length window.now }
-    ensures { IsTold mode (take len window.now) result }
-{
-    match read_varied(window, len, at) {
-        Some(line) => Told::Ordered(line),
-        None => Told::Nothing,
     }
 }
 
 // The same of a line with this block.
 #[inline(always)]
-fn told_of_block<'a>(mode: Mode, window: &'a [u8], len: usize, block: Block<'a>) -> Told<'a>
-    requires room { len + 16 ≤ length window.now }
-    requires front { IsFront (take len window.now) (fronts.Block block) }
-    ensures { IsTold mode (take len window.now) result }
+fn told_of_block(mode: Mode, line: &[u8], block: Block<'_>) -> Told
+    requires { IsFront line.now (fronts.Block block) }
+    ensures { IsTold mode line.now result }
 {
     match mode {
         Mode::Langid => Told::Refused(ParseError::InvalidSubtag),
-        Mode::Locale => told_of_locale(window, len, block),
-        Mode::Data => told_of_data(&window[..len], block),
+        Mode::Locale => told_of_locale(line.len(), block),
+        Mode::Data => told_of_data(line, block),
     }
 }
 
-// The same of a locale with this block. Only blocks of `u` and `x` are told.
+// The same of a locale. Only blocks of `u` and `x` are told.
 #[inline(always)]
-fn told_of_locale<'a>(window: &'a [u8], len: usize, block: Block<'a>) -> Told<'a>
-    requires room { len + 16 ≤ length window.now }
-    requires front { IsFront (take len window.now) (fronts.Block block) }
-    ensures { IsTold Mode.Locale (take len window.now) result }
+fn told_of_locale(len: usize, block: Block<'_>) -> Told
+    requires { 0 < length block.window.now }
+    ensures { (line : Text) → IsTold Mode.Locale line result }
 {
     let singleton = block.window[0].to_ascii_lowercase();
     if singleton != b'u' && singleton != b'x' {
         return Told::Nothing;
     }
-    let at = len.wrapping_sub(block.tail.wrapping_add(1));
-    match read_ordered(window, len, at) {
-        Some(line) => Told::Ordered(line),
-        None => Told::Nothing,
-    }
+    Told::Ordered(len.wrapping_sub(block.tail.wrapping_add(1)))
 }
 
 // The same of a data locale.
 #[inline(always)]
-fn told_of_data<'a>(line: &'a [u8], block: Block<'_>) -> Told<'a>
+fn told_of_data(line: &[u8], block: Block<'_>) -> Told
     requires { IsFront line.now (fronts.Block block) }
     ensures { IsTold Mode.Data line.now result }
 {
