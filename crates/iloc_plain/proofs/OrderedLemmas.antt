@@ -1,24 +1,22 @@
 -- From what follows a plain identifier to the meaning of the line.
-use Rattle.std.proofs.Common.{inl, inr, codes, true≢false, take, drop, ◌-◌, ◌≡◌, ◌≢◌, ◌&&◌, ◌||◌, ◌==◌, ℕ, zero, suc, ◌+◌, ◌*◌, ◌<◌, ◌≤◌, Bool, true, false, cond, List, [], ◌∷◌, ◌++◌, length, map, flat_map, get_or, Option, Some, None, IfSome, option_map, refl, sym, ap, ◌∙◌, subst, arith, append_assoc, append-nil, nat_lt}
+use Rattle.std.proofs.Common.{inl, inr, codes, take, drop, ◌-◌, ◌≡◌, ◌≢◌, ℕ, zero, suc, ◌+◌, ◌*◌, ◌<◌, ◌≤◌, Bool, true, false, cond, List, [], ◌∷◌, ◌++◌, length, map, get_or, Option, Some, None, option_map, refl, sym, ap, ◌∙◌, subst, arith, append_assoc, append-nil, nat_lt}
 use Rattle.std.specs.List.{AllByRecursion, list_all}
-use Rattle.std.specs.FinMap.{is_sorted}
 use Rattle.std.specs.FinMap.Entries.{below_all}
 use Rattle.std.specs.Ordering.{is_lt}
 use Rattle.std.specs.Char.{is_ascii_alphanumeric, is_ascii_alphabetic, to_ascii_lowercase}
-use Rattle.std.proofs.lemmas.Bool.{and_parts, and_from, lt-ltb, cases_Bool, cases_lt, cond_both}
+use Rattle.std.proofs.lemmas.Bool.{and_parts, and_from, lt-ltb, cases_Bool, cases_lt}
 use Rattle.std.proofs.lemmas.Bool.Decides.{nat_tests}
 use Rattle.std.proofs.lemmas.List.{map-append, length-map, length-take-le, take-take, length-drop}
 use Rattle.iloc_spec_grammar.specs.Pieces.{pieces, join, dashes}
-use Rattle.iloc_spec_grammar.specs.Words.{Kind, Variant, Subtag, UnicodeKey, Attribute, PrivateSubtag, is_word, IsWord, normal, lower, title, upper, word_cmp, is_true, languages}
+use Rattle.iloc_spec_grammar.specs.Words.{Kind, Variant, Subtag, UnicodeKey, Attribute, PrivateSubtag, is_word, IsWord, lower, title, upper, word_cmp, is_true, languages}
 use Rattle.iloc_spec_grammar.specs.Written.{Identifier, Fields, identifier_pieces, fields_pieces}
 use Rattle.iloc_spec_grammar.specs.Meaning.{Locale, Extensions, IdentifierMeans, Means, normal_identifier}
-use Rattle.iloc_spec_grammar.specs.Values.{IsNormal, IsAscending, IsIdentifierValue, IsValue, IsWellFormed, lower_identifier, identifier_text, text, extensions_spelling, private_spelling}
-use Rattle.iloc_spec_grammar.proofs.PiecesLaws.{at_pieces, join-pieces, pieces_nonempty, pieces_unique, pieces_hyphen_free}
+use Rattle.iloc_spec_grammar.specs.Values.{IsNormal, IsAscending, IsIdentifierValue, lower_identifier, identifier_text, text, extensions_spelling, private_spelling}
+use Rattle.iloc_spec_grammar.proofs.PiecesLaws.{at_pieces, join-pieces}
 use Rattle.iloc_spec_grammar.proofs.PartTexts.{join-append, join-dashes, dashes-append, text_of_parts}
 use Rattle.iloc_spec_grammar.proofs.WordsLaws.{lower-lower, lower-title, lower-upper, is_word-lower}
 use Rattle.iloc_spec_grammar.proofs.CaseLaws.{pieces-lower, case_means}
 use Rattle.iloc_spec_grammar.proofs.Chains.{identifier_pieces-low, lower-join}
-use Rattle.iloc_spec_grammar.proofs.Canonical.{canonical_identifier, sort_identifier}
 use Rattle.iloc_spec_grammar.proofs.IdentifierTexts.{identifier_text_means, identifier_text_step_means}
 use Rattle.iloc_spec_grammar.specs.Steps.{IdentifierTextStep}
 use Rattle.iloc_spec_grammar.proofs.RawLaws.{languages_table}
@@ -28,11 +26,10 @@ use Rattle.std.specs.Cmp.{Equal-is}
 use Rattle.iloc_plain.specs.Shape.{plain_identifier}
 use Rattle.iloc_plain.specs.Plain.{IsPlain, value_of}
 use Rattle.iloc_plain.specs.declared.plain.Plain.{Plain}
-use Rattle.std.specs.declared.cmp.Ordering.{Ordering}
-use Rattle.std.specs.declared.cmp.Ordering.TheVariants.{Less, Equal, Greater}
+use Rattle.std.specs.declared.cmp.Ordering.TheVariants.{Less, Equal}
 use Rattle.std.specs.Ordering.{nat_cmp}
 use Rattle.std.specs.Ordering.{ordering_then}
-use Rattle.iloc_spec_grammar.specs.Meaning.{no_unicode, no_transform, no_extensions}
+use Rattle.iloc_spec_grammar.specs.Meaning.{no_unicode, no_transform}
 use Rattle.iloc_spec_grammar.specs.Written.{Unicode}
 use Rattle.iloc_spec_grammar.specs.Values.{IsExtensionsValue, IsUnicodeValue, unicode_spelling}
 use Rattle.iloc_spec_grammar.proofs.ValuesLaws.{all_weaker}
@@ -280,14 +277,17 @@ unfolding private_keywords
 follows_private k ps h = record { values = []; rest = ps; cut = refl; each = tt; keywords = private_keywords ps h; above = tt }
 
 pub key_keywords : (p : List ℕ) (ps : List (List ℕ)) → IsWord UnicodeKey p → Follows (key_number p) ps → (k : AreKeywords (p ∷ ps)) × (0 < length k.keywords)
-key_keywords p ps h f = (record {
-  keywords = (lower p, map lower f.values) ∷ f.keywords.keywords;
-  private = f.keywords.private;
-  each = (((is_word-lower UnicodeKey p ∙ h, lower-lower p), normal_values_of f.values f.each), f.keywords.each);
-  ascending = and_from _ _ (keys_below p h f.keywords.keywords f.keywords.each f.above) f.keywords.ascending;
-  words = f.keywords.words;
-  printed = printed_key;
-}, omega arith)
+key_keywords p ps h f = (
+  record {
+    keywords = (lower p, map lower f.values) ∷ f.keywords.keywords;
+    private = f.keywords.private;
+    each = (((is_word-lower UnicodeKey p ∙ h, lower-lower p), normal_values_of f.values f.each), f.keywords.each);
+    ascending = and_from _ _ (keys_below p h f.keywords.keywords f.keywords.each f.above) f.keywords.ascending;
+    words = f.keywords.words;
+    printed = printed_key;
+  },
+  omega arith,
+)
   where
     printed_key : map lower (p ∷ ps) ≡ fields_pieces ((lower p, map lower f.values) ∷ f.keywords.keywords) ++ private_spelling f.keywords.private
     printed_key =

@@ -17,7 +17,8 @@ pub struct Block<'a> {
     pub len: usize,
     /// Whether no variant comes before.
     pub is_first: bool,
-    /// How many bytes of the line follow the region.
+    /// How many bytes of the line follow the hyphen after the region. No clause says it: who uses it
+    /// tests what it finds there.
     pub tail: usize,
 }
 
@@ -31,7 +32,7 @@ pub enum Front<'a> {
     Misfit,
     /// A block.
     Block(Block<'a>),
-    /// No more than variants, in so many bytes after the region.
+    /// No more than variants. The number is as `Block::tail`.
     Variants(usize),
     /// Nothing that is told.
     Other,

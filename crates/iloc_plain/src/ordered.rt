@@ -32,7 +32,8 @@ pub struct Ordered<'a> {
 }
 
 /// The locale that the first `len` bytes are, if a plain identifier of `at` bytes comes first and what
-/// follows it is as it is printed. `None` says nothing of them.
+/// follows is as it is printed but for the case: at most one variant, a block of `u` with at most one
+/// attribute, ascending keys and no `true`, and a block of `x`. `None` says nothing of them.
 #[inline(always)]
 pub fn read_ordered(window: &[u8], len: usize, at: usize) -> Option<Ordered<'_>>
     requires { len + 16 ≤ length window.now }

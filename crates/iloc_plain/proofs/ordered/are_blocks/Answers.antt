@@ -1,4 +1,4 @@
-use Rattle.std.proofs.Common.{◌≡◌, ◌≢◌, ℕ, List, ◌∷◌, take, get_or, subst, sym, ◌∙◌, arith}
+use Rattle.std.proofs.Common.{◌≡◌, ◌≢◌, take, get_or, subst, sym, ◌∙◌, arith}
 use Rattle.iloc_spec_grammar.specs.Pieces.{pieces}
 use Rattle.iloc_plain.specs.Ordered.{ArePrinted}
 use Rattle.iloc_plain.proofs.FrontLemmas.{after_singleton_byte}

@@ -1,5 +1,4 @@
-use Rattle.std.proofs.Common.{◌≡◌, ◌≢◌, ◌<◌, ℕ, List, ◌∷◌, take, get_or, subst, sym, ap, ◌∙◌, arith}
-use Rattle.iloc_spec_grammar.specs.Pieces.{pieces}
+use Rattle.std.proofs.Common.{◌≡◌, ◌≢◌, get_or, subst, sym, ◌∙◌, arith}
 use Rattle.iloc_plain.specs.Ordered.{IsPrivatePart}
 use Rattle.iloc_plain.proofs.FrontLemmas.{after_singleton_byte}
 use Rattle.iloc_plain.proofs.OrderedLemmas.{private_part}

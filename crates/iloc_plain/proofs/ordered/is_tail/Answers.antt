@@ -1,4 +1,4 @@
-use Rattle.std.proofs.Common.{◌≡◌, ◌≢◌, ℕ, List, [], ◌∷◌, take, subst, sym, ap, ◌∙◌, arith}
+use Rattle.std.proofs.Common.{◌≢◌, [], take, subst, sym, ◌∙◌, arith}
 use Rattle.iloc_spec_grammar.specs.Pieces.{pieces}
 use Rattle.iloc_spec_grammar.specs.Words.{Variant, IsWord}
 use Rattle.iloc_plain.specs.Ordered.{IsTail}

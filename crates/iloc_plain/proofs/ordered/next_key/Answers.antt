@@ -1,4 +1,4 @@
-use Rattle.std.proofs.Common.{sym, ap, ◌∙◌, ◌≡◌, ◌≢◌, ◌<◌, ◌≤◌, ℕ, take, subst, length, arith, false}
+use Rattle.std.proofs.Common.{sym, ap, ◌∙◌, ◌≡◌, ℕ, take, subst, arith}
 use Rattle.std.proofs.lemmas.List.{length-take-le}
 use Rattle.iloc_spec_grammar.specs.Words.{UnicodeKey, IsWord}
 use Rattle.iloc_spec_grammar.proofs.WordsLaws.{length-unicode_key}

@@ -1,6 +1,5 @@
-use Rattle.std.proofs.Common.{◌≡◌, ℕ, take, get_or, sym, ◌∙◌, arith}
+use Rattle.std.proofs.Common.{◌≡◌, ◌∙◌, arith}
 use Rattle.std.proofs.lemmas.Bool.Decides.{nat_tests}
-use Rattle.std.specs.Char.{to_ascii_lowercase}
 use Rattle.iloc_plain.proofs.OrderedLemmas.{no_true, true_bytes}
 use Rattle.iloc_plain.proofs.words.is_true.Goals as goal
 
