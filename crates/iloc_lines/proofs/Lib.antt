@@ -1,6 +1,7 @@
 pub mod BlockLemmas
 pub mod EndLemmas
 pub mod KnownLemmas
+mod LowerLemmas
 pub mod PlaceLemmas
 pub mod PlainAnswers
 pub mod PlainLemmas

@@ -1,42 +1,78 @@
-//! Lines that are refused at once, by what stands at their front.
-ghost use Rattle.std.specs.Prelude.{◌≡◌, ◌+◌, ◌≤◌, IfSome, length, take};
+//! What is told of lines at once, by what stands at their front.
+ghost use Rattle.std.specs.Prelude.{◌≡◌, ◌+◌, ◌<◌, ◌≤◌, IfSome, length, take};
+ghost use Rattle.iloc_spec_grammar.specs.Shapes.{Text};
 ghost use Rattle.iloc_plain.specs.Front.{IsFront};
 ghost use Rattle.iloc_plain.specs.declared.front.Front.TheVariants as fronts;
 ghost use Rattle.iloc_lines.specs.Output.{IsRefused};
+ghost use Rattle.iloc_lines.specs.Told.{IsTold};
 
 use crate::Mode;
 use iloc_plain::{Block, Front, Keyword, read_front, read_keyword};
 use iloc_subtags::ParseError;
 
-/// Why the line that this window begins with is refused. `None` says nothing of it.
+/// What is told of a line.
+#[derive(Drop)]
+pub(crate) enum Told {
+    /// Why it is refused.
+    Refused(ParseError),
+    /// Nothing, but it may be a plain identifier of so many bytes, and a variant.
+    Varied(usize),
+    /// Nothing, but it may be a plain identifier of so many bytes, and what a locale prints after it.
+    Ordered(usize),
+    /// Nothing.
+    Nothing,
+}
+
+/// What is told of the line that this window begins with.
 #[inline(always)]
-pub(crate) fn fault_at_front(mode: Mode, window: &[u8], line: &[u8]) -> Option<ParseError>
-    requires begins { take (length line.now) window.now ≡ line.now }
-    requires room { length line.now + 16 ≤ length window.now }
-    ensures { IfSome result (IsRefused mode line.now) }
+pub(crate) fn told_at_front(mode: Mode, window: &[u8], len: usize) -> Told
+    requires { len + 16 ≤ length window.now }
+    ensures { IsTold mode (take len window.now) result }
 {
-    // Longer locales mostly have extensions, which are parsed.
-    if matches!(mode, Mode::Locale) && line.len() > 16 {
-        return None;
-    }
-    match read_front(window, line.len()) {
-        Front::NoLanguage => Some(ParseError::InvalidLanguage),
-        Front::Misfit => Some(ParseError::InvalidSubtag),
-        Front::Block(block) => fault_of_block(mode, line, block),
-        Front::Other => None,
+    match read_front(window, len) {
+        Front::NoLanguage => Told::Refused(ParseError::InvalidLanguage),
+        Front::Misfit => Told::Refused(ParseError::InvalidSubtag),
+        Front::Variants(tail) => Told::Varied(len.wrapping_sub(tail.wrapping_add(1))),
+        Front::Block(block) => told_of_block(mode, &window[..len], block),
+        Front::Other => Told::Nothing,
     }
 }
 
 // The same of a line with this block.
 #[inline(always)]
-fn fault_of_block(mode: Mode, line: &[u8], block: Block<'_>) -> Option<ParseError>
+fn told_of_block(mode: Mode, line: &[u8], block: Block<'_>) -> Told
     requires { IsFront line.now (fronts.Block block) }
-    ensures { IfSome result (IsRefused mode line.now) }
+    ensures { IsTold mode line.now result }
 {
     match mode {
-        Mode::Langid => Some(ParseError::InvalidSubtag),
-        Mode::Locale => None,
-        Mode::Data => fault_of_data(line, block),
+        Mode::Langid => Told::Refused(ParseError::InvalidSubtag),
+        Mode::Locale => told_of_locale(line.len(), block),
+        Mode::Data => told_of_data(line, block),
+    }
+}
+
+// The same of a locale. Only blocks of `u` and `x` are told.
+#[inline(always)]
+fn told_of_locale(len: usize, block: Block<'_>) -> Told
+    requires { 0 < length block.window.now }
+    ensures { (line : Text) → IsTold Mode.Locale line result }
+{
+    let singleton = block.window[0].to_ascii_lowercase();
+    if singleton != b'u' && singleton != b'x' {
+        return Told::Nothing;
+    }
+    Told::Ordered(len.wrapping_sub(block.tail.wrapping_add(1)))
+}
+
+// The same of a data locale.
+#[inline(always)]
+fn told_of_data(line: &[u8], block: Block<'_>) -> Told
+    requires { IsFront line.now (fronts.Block block) }
+    ensures { IsTold Mode.Data line.now result }
+{
+    match fault_of_data(line, block) {
+        Some(error) => Told::Refused(error),
+        None => Told::Nothing,
     }
 }
 

@@ -1,6 +1,8 @@
 //! Lines that come in pieces, and their replies.
 ghost use Rattle.std.specs.Prelude.{
   ◌≡◌,
+  ◌+◌,
+  ◌≤◌,
   ℕ,
   List,
   [],
@@ -25,13 +27,14 @@ ghost use Rattle.iloc_lines.specs.ReplyBlock.{held};
 ghost use Rattle.iloc_spec_output.specs.Lines.{IsOneLine};
 ghost use Rattle.std.specs.Simd.Lanes.{mask_l};
 ghost use Rattle.iloc_spec_grammar.specs.Shapes.{Text};
+ghost use Rattle.iloc_lines.specs.declared.Mode.TheVariants as Mode;
 ghost use Rattle.memchr.specs.Find.{IsFirstByte, is_byte};
 
-use crate::faults::fault_at_front;
+use crate::faults::{Told, told_at_front};
 use crate::replies::write_refusal;
 use crate::reply_block::ReplyBlock;
 use crate::{Answers, RunError};
-use iloc_plain::read_plain;
+use iloc_plain::{read_ordered, read_plain, read_varied};
 use memchr::memchr_iter;
 use std::alloc::{AllocError, Global};
 use std::io::Write;
@@ -88,8 +91,8 @@ fn split_line(bytes: &[u8]) -> Option<(&[u8], &[u8])>
     Some((line, &later[1..]))
 }
 
-// Adds the reply to the line that this window begins with: at once if it is plain or refused for what
-// stands at its front, and else as the mode parses it. Sixteen bytes behind the line may be loaded.
+// Adds the reply to the line that this window begins with: at once if it is plain or told by its front,
+// and else as the mode parses it. Sixteen bytes behind the line may be loaded.
 #[inline(always)]
 fn reply_to<A: Answers>(
     answers: &mut A,
@@ -106,11 +109,68 @@ fn reply_to<A: Answers>(
                 return replies.push_plain(&plain);
             }
         }
-        if let Some(error) = fault_at_front(answers.mode(), window, line) {
-            return write_refusal(error, replies);
-        }
+        return reply_by_front(answers, window, line, replies);
     }
     answers.reply(line, replies)
+}
+
+// The same by what stands at the line's front.
+#[inline(always)]
+fn reply_by_front<A: Answers>(
+    answers: &mut A,
+    window: &[u8],
+    line: &[u8],
+    replies: &mut ReplyBlock,
+) -> Result<(), AllocError>
+    requires begins { take (length line.now) window.now ≡ line.now }
+    requires room { length line.now + 16 ≤ length window.now }
+    ensures { OnOk result (held replies.new ≡ held replies.old ++ reply A.mode line.now) }
+{
+    match told_at_front(answers.mode(), window, line.len()) {
+        Told::Refused(error) => write_refusal(error, replies),
+        Told::Varied(at) => reply_to_varied(answers, window, line, at, replies),
+        Told::Ordered(at) => reply_to_ordered(answers, window, line, at, replies),
+        Told::Nothing => answers.reply(line, replies),
+    }
+}
+
+// The same of a line that may be a plain identifier of so many bytes, and a variant.
+#[inline(never)]
+fn reply_to_varied<A: Answers>(
+    answers: &mut A,
+    window: &[u8],
+    line: &[u8],
+    at: usize,
+    replies: &mut ReplyBlock,
+) -> Result<(), AllocError>
+    requires begins { take (length line.now) window.now ≡ line.now }
+    requires room { length line.now + 16 ≤ length window.now }
+    ensures { OnOk result (held replies.new ≡ held replies.old ++ reply A.mode line.now) }
+{
+    match read_varied(window, line.len(), at) {
+        Some(told) => replies.push_ordered(&told),
+        None => answers.reply(line, replies),
+    }
+}
+
+// The same of a locale that may be a plain identifier of so many bytes, and what is printed after it.
+#[inline(never)]
+fn reply_to_ordered<A: Answers>(
+    answers: &mut A,
+    window: &[u8],
+    line: &[u8],
+    at: usize,
+    replies: &mut ReplyBlock,
+) -> Result<(), AllocError>
+    requires mode { A.mode ≡ Mode.Locale }
+    requires begins { take (length line.now) window.now ≡ line.now }
+    requires room { length line.now + 16 ≤ length window.now }
+    ensures { OnOk result (held replies.new ≡ held replies.old ++ reply A.mode line.now) }
+{
+    match read_ordered(window, line.len(), at) {
+        Some(told) => replies.push_ordered(&told),
+        None => answers.reply(line, replies),
+    }
 }
 
 // Adds the reply to the line that is pending, and forgets the line.

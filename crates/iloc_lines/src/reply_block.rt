@@ -1,7 +1,7 @@
 //! The replies to a block of lines, as they are collected.
 ghost use Rattle.std.specs.Prelude.{◌≡◌, ◌+◌, ◌≤◌, [], ◌∷◌, ◌++◌, length, take, vec_len, OnOk, OnErr};
 
-use iloc_plain::Plain;
+use iloc_plain::{Ordered, Plain, first_in_lower_case};
 use iloc_tinystr::ShortPiece;
 use iloc_writeable::Sink;
 use std::alloc::{AllocError, Global};
@@ -23,7 +23,9 @@ pub struct ReplyBlock {
 impl ReplyBlock {
     ghost use Rattle.iloc_lines.specs.ReplyBlock.{held};
     ghost use Rattle.iloc_spec_grammar.specs.Values.{identifier_text};
+    ghost use Rattle.iloc_spec_grammar.specs.Words.{lower};
     ghost use Rattle.iloc_plain.specs.Plain.{AreWords, value_of};
+    ghost use Rattle.iloc_plain.specs.Ordered.{IsStored, text_of};
 
     /// No bytes. It allocates nothing.
     pub fn new(alloc: Global) -> Self
@@ -81,6 +83,38 @@ impl ReplyBlock {
         self.put(plain.bytes.as_array(), plain.len);
         self.put(b"\n", 1);
         Ok(())
+    }
+
+    /// Adds the normal text of a line that has its order, and a newline.
+    #[inline(always)]
+    pub(crate) fn push_ordered(&mut self, line: &Ordered<'_>) -> Result<(), AllocError>
+        requires { IsStored line.now }
+        ensures { OnOk result (held self.new ≡ held self.old ++ (text_of line.now ++ 10 ∷ [])) }
+    {
+        self.make_room(line.len + 33)?;
+        self.put(line.plain.bytes.as_array(), line.plain.len);
+        self.put_lower(line.rest, line.len);
+        self.put(b"\n", 1);
+        Ok(())
+    }
+
+    // Stores the first of these bytes in lower case behind those that count, and counts them.
+    #[inline(always)]
+    fn put_lower(&mut self, bytes: &[u8], count: usize)
+        requires bytes { count + 16 ≤ length bytes.now }
+        requires room { self.old.len + count + 16 ≤ vec_len self.old.room }
+        ensures held { held self.new ≡ held self.old ++ lower (take count bytes.now) }
+        ensures len { self.new.len ≡ self.old.len + count }
+        ensures room { vec_len self.new.room ≡ vec_len self.old.room }
+    {
+        let mut rest = bytes;
+        let mut left = count;
+        'parts: while left > 16 {
+            self.put(first_in_lower_case(rest).as_array(), 16);
+            rest = &rest[16..];
+            left -= 16;
+        }
+        self.put(first_in_lower_case(rest).as_array(), left);
     }
 
     /// Adds these bytes.

@@ -1,14 +1,15 @@
 -- From the first piece of a line to what stands at its front.
-use Rattle.std.proofs.Common.{◌≡◌, ◌≢◌, ℕ, zero, suc, ◌+◌, ◌-◌, ◌<◌, ◌≤◌, ◌==◌, Bool, true, false, cond, not, ◌&&◌, List, [], ◌∷◌, length, get_or, take, drop, refl, sym, ap, ◌∙◌, subst, arith, inl, inr, IsTrue}
+use Rattle.std.proofs.Common.{◌≡◌, ◌≢◌, ℕ, zero, suc, ◌+◌, ◌-◌, ◌<◌, ◌≤◌, ◌==◌, Bool, true, false, cond, not, ◌&&◌, List, [], ◌∷◌, length, get_or, take, drop, refl, sym, ap, ◌∙◌, subst, arith, inl, inr}
+use Rattle.std.specs.Int.{is_in_range}
 use Rattle.std.specs.List.{slice_split, onto_first, list_all}
-use Rattle.std.proofs.lemmas.Bool.{cases_lt, cases_Bool, true≢false}
+use Rattle.std.proofs.lemmas.Bool.{cases_lt, cases_Bool, and_parts}
 use Rattle.std.proofs.lemmas.Bool.Decides.{nat_tests}
 use Rattle.std.proofs.lemmas.List.{get_or-take, length-drop, length-take-le, take-take, drop-take}
 use Rattle.std.proofs.lemmas.List.Splits.{slice_split-cons_yes, slice_split-cons_no}
 use Rattle.iloc_spec_grammar.specs.Pieces.{pieces}
 use Rattle.iloc_spec_grammar.specs.Blocks.{first_piece}
-use Rattle.iloc_spec_grammar.specs.Words.{Kind, Attribute, Language, Script, Region, UnicodeKey, Variant, is_word, IsWord, languages}
-use Rattle.iloc_spec_grammar.specs.Reading.{past, skip_first, rest_of, starts_block, after_region}
+use Rattle.iloc_spec_grammar.specs.Words.{Kind, Attribute, Language, Script, Region, UnicodeKey, Variant, PrivateSubtag, is_word, IsWord, languages}
+use Rattle.iloc_spec_grammar.specs.Reading.{past, skip_first, starts_block, after_region}
 use Rattle.iloc_spec_grammar.proofs.PiecesLaws.{at_pieces}
 use Rattle.iloc_spec_grammar.proofs.WordsLaws.{length-language, length-script, length-region, length-variant, length-attribute, length-unicode_key}
 use Rattle.iloc_spec_grammar.proofs.RawLaws.{languages_table}
@@ -106,6 +107,13 @@ short_key p h = omega (arith, length-unicode_key p h)
 pub short_attribute : IsShort Attribute
 short_attribute p h = (length-attribute p h).1
 
+pub short_private : IsShort PrivateSubtag
+unfolding is_word
+short_private p h = in_range (length p) (and_parts _ _ h).0
+  where
+    in_range : (n : ℕ) → is_in_range 1 8 n ≡ true → n ≤ 8
+    in_range n h = grind (arith, nat_tests)
+
 pub short_variant : IsShort Variant
 short_variant p h = (length-variant p h).1
 
@@ -179,10 +187,12 @@ module _ (w : List ℕ) (len n : ℕ) (room : len + 16 ≤ length w) (first : Is
   pub key_is_two : is_word UnicodeKey (take n w) ≡ true → n ≡ 2
   key_is_two fits = omega (arith, length-unicode_key (take n w) fits, length-take-le n w (omega (arith, inside)))
 
-  -- a word that ends the line
+  -- a short piece, and a word, that ends the line
+  pub whole_short : n < 16 → n ≡ len → pieces text ≡ take n w ∷ []
+  whole_short few end = first.last few (omega (arith, whole)) ∙ (λ j. take (sym end j) w ∷ [])
+
   pub whole_word : (k : Kind) → IsShort k → is_word k (take n w) ≡ true → n ≡ len → pieces text ≡ take n w ∷ []
-  whole_word k short fits end =
-      first.last (word_is_short k short fits) (omega (arith, whole)) ∙ (λ j. take (sym end j) w ∷ [])
+  whole_word k short fits end = whole_short (word_is_short k short fits) end
 
   -- sixteen bytes stay behind what is left of the line
   pub room_left : n ≢ len → len - n - 1 + 16 ≤ length (take (length w - (n + 1)) (drop (n + 1) w))
@@ -238,9 +248,16 @@ module _ (w : List ℕ) (len n : ℕ) (room : len + 16 ≤ length w) (first : Is
       front [] l = absurd (omega arith)
       front (b ∷ v) l = refl
 
+  -- a singleton that doesn't end the line
+  pub after_singleton_byte : n ≡ 1 → n ≢ len → pieces text ≡ (get_or w 0 0 ∷ []) ∷ pieces next
+  after_singleton_byte one more =
+      let parts : pieces text ≡ take n w ∷ pieces next = after_short (omega arith) more in
+      parts ∙ ap (λ p. p ∷ pieces next) (sym (ap first_piece parts) ∙ one_byte one)
+
 -- what is told of the pieces after a language is told of the text
 pub is_front : (t : List ℕ) (f : Front) → IsWord (Language languages) (first_piece (pieces t)) → GoesOnAs (after_region (pieces t)) f → IsFront t f
 is_front t front.NoLanguage l g = absurd (g tt)
 is_front t front.Misfit l g = (l, g)
 is_front t (front.Block b) l g = (l, g)
 is_front t front.Other l g = tt
+is_front t (front.Variants n) l g = tt

@@ -1,5 +1,5 @@
 -- From a mask of sixteen bytes to those that come first.
-use Rattle.std.proofs.Common.{◌≡◌, ℕ, ◌+◌, ◌%◌, ◌^◌, ◌<◌, ◌≤◌, Bool, true, false, not, cond, List, [], ◌∷◌, length, map, get_or, take, Fits, w8, refl, sym, ap, ◌∙◌, arith}
+use Rattle.std.proofs.Common.{◌≡◌, ℕ, ◌%◌, ◌^◌, ◌<◌, ◌≤◌, Bool, true, false, not, List, [], ◌∷◌, length, map, get_or, take, Fits, w8, refl, sym, ap, ◌∙◌, arith}
 use Rattle.std.specs.List.{prefix_len}
 use Rattle.std.proofs.lemmas.Bool.{agree_below, agree_below_at}
 use Rattle.std.proofs.lemmas.List.{length-map, length-take-le, get_or-take}

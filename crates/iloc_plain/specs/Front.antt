@@ -34,10 +34,12 @@ abbrev pub GoesOnAs : List Text → Front → Type 0
 GoesOnAs ps front.NoLanguage = ¬ ⊤
 GoesOnAs ps front.Misfit = starts_block (past (is_word Variant) ps) ≡ false
 GoesOnAs ps (front.Block b) = GoesOn ps b
+GoesOnAs ps (front.Variants n) = ⊤
 GoesOnAs ps front.Other = ⊤
 
 -- what the text is: no language comes first, or one does, and what follows it is as told
 abbrev pub IsFront : Text → Front → Type 0
 IsFront t front.NoLanguage = is_word (Language languages) (first_piece (pieces t)) ≡ false
 IsFront t front.Other = ⊤
+IsFront t (front.Variants n) = ⊤
 IsFront t f = IsWord (Language languages) (first_piece (pieces t)) × GoesOnAs (after_region (pieces t)) f

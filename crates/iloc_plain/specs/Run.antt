@@ -1,5 +1,5 @@
 -- Bytes of one class that come first.
-use Rattle.std.specs.Prelude.{◌≡◌, ℕ, ◌<◌, ◌≤◌, ◌==◌, Bool, true, false, not, List, get_or}
+use Rattle.std.specs.Prelude.{◌≡◌, ℕ, ◌<◌, ◌≤◌, ◌==◌, Bool, true, false, not, get_or}
 use Rattle.iloc_spec_grammar.specs.Shapes.{Text}
 
 -- whether the byte is a hyphen

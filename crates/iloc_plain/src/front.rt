@@ -17,6 +17,9 @@ pub struct Block<'a> {
     pub len: usize,
     /// Whether no variant comes before.
     pub is_first: bool,
+    /// How many bytes of the line follow the hyphen after the region. No clause says it: who uses it
+    /// tests what it finds there.
+    pub tail: usize,
 }
 
 /// What stands at the front of a line: a language, perhaps a script, a region and variants, and then
@@ -29,6 +32,8 @@ pub enum Front<'a> {
     Misfit,
     /// A block.
     Block(Block<'a>),
+    /// No more than variants. The number is as `Block::tail`.
+    Variants(usize),
     /// Nothing that is told.
     Other,
 }
@@ -105,7 +110,7 @@ fn after_region(window: &[u8], len: usize) -> Front<'_>
     let mut n = first_len(rest, left);
     'variants: while is_variant(rest, n) {
         if n == left {
-            return Front::Other;
+            return Front::Variants(len);
         }
         rest = &rest[n + 1..];
         left = left - n - 1;
@@ -119,5 +124,6 @@ fn after_region(window: &[u8], len: usize) -> Front<'_>
         window: rest,
         len: left,
         is_first,
+        tail: len,
     })
 }

@@ -8,6 +8,10 @@
 //! Of any line `read_front` tells the front: no language, a piece that fits nowhere, or the first block
 //! (`IsFront`). That is enough to refuse most lines that are no identifiers.
 //!
+//! Of a line that begins with a plain identifier `read_varied` and `read_ordered` tell whether what follows
+//! has the order of the normal text: one variant, or that and blocks of `u` and `x` (`IsVaried`,
+//! `IsOrdered`). The normal text is then the line itself but for the case of letters.
+//!
 //! `None` and `Front::Other` say nothing: the caller parses the text as it would without this crate. So
 //! each caller keeps its own contract, and a shape that is not told here costs time and nothing else.
 //!
@@ -21,8 +25,9 @@
 pub mod front;
 pub mod keyword;
 mod lanes;
-mod load;
+pub mod load;
 mod marks;
+pub mod ordered;
 pub mod plain;
 mod read;
 mod run;
@@ -31,5 +36,7 @@ mod words;
 
 pub use front::{Block, Front, read_front};
 pub use keyword::{Keyword, read_keyword};
+pub use load::first_in_lower_case;
+pub use ordered::{Ordered, read_ordered, read_varied};
 pub use plain::Plain;
 pub use read::{read_plain, read_plain_text};

@@ -1,5 +1,8 @@
 //! Whether the first bytes of a window are a word of an identifier.
-ghost use Rattle.std.specs.Prelude.{◌≡◌, ◌≤◌, length, take};
+ghost use Rattle.std.specs.Prelude.{◌≡◌, ◌+◌, ◌≤◌, IsTrue, true, false, length, take};
+ghost use Rattle.std.specs.List.{list_all};
+ghost use Rattle.iloc_spec_grammar.specs.Pieces.{pieces};
+ghost use Rattle.iloc_plain.specs.Ordered.{key_number};
 ghost use Rattle.iloc_spec_grammar.specs.Words.{
   Attribute,
   Language,
@@ -7,13 +10,17 @@ ghost use Rattle.iloc_spec_grammar.specs.Words.{
   Script,
   UnicodeKey,
   Variant,
+  PrivateSubtag,
+  is_true,
   is_word,
+  lower,
   languages,
   letters,
   digits,
   letters_or_digits,
 };
 
+use crate::front::first_len;
 use crate::marks::is_language_length;
 use crate::run::{first_alphanumerics, first_digits, first_letters};
 
@@ -132,4 +139,68 @@ pub(crate) fn is_attribute(window: &[u8], n: usize) -> bool
         return false;
     }
     are_letters_or_digits(window, n)
+}
+
+// Whether the first `n` bytes are `true`, in whatever case.
+#[inline(always)]
+pub(crate) fn is_true(window: &[u8], n: usize) -> bool
+    requires wide { 16 ≤ length window.now }
+    requires few { n ≤ 16 }
+    ensures { result ≡ false → is_true (lower (take n window.now)) ≡ false }
+{
+    if n != 4 {
+        return false;
+    }
+    if window[0].to_ascii_lowercase() != b't' {
+        return false;
+    }
+    if window[1].to_ascii_lowercase() != b'r' {
+        return false;
+    }
+    if window[2].to_ascii_lowercase() != b'u' {
+        return false;
+    }
+    window[3].to_ascii_lowercase() == b'e'
+}
+
+// The number of the key that the first two bytes are, by which keys are ordered.
+#[inline(always)]
+pub(crate) fn number_of_key(window: &[u8]) -> usize
+    requires { 16 ≤ length window.now }
+    ensures { result ≡ key_number (take 2 window.now) }
+{
+    256 * (window[0].to_ascii_lowercase() as usize) + window[1].to_ascii_lowercase() as usize
+}
+
+// Whether the first `n` bytes are a word of a private part.
+#[inline(always)]
+fn is_private_subtag(window: &[u8], n: usize) -> bool
+    requires wide { 16 ≤ length window.now }
+    requires few { n ≤ 16 }
+    ensures { result ≡ is_word PrivateSubtag (take n window.now) }
+{
+    if n < 1 || n > 8 {
+        return false;
+    }
+    are_letters_or_digits(window, n)
+}
+
+// Whether the pieces of the first `len` bytes are words of a private part.
+#[inline(always)]
+pub(crate) fn are_private(window: &[u8], len: usize) -> bool
+    requires { len + 16 ≤ length window.now }
+    ensures { IsTrue result → list_all (is_word PrivateSubtag) (pieces (take len window.now)) ≡ true }
+{
+    let mut rest = window;
+    let mut left = len;
+    let mut n = first_len(rest, left);
+    'words: while is_private_subtag(rest, n) {
+        if n == left {
+            return true;
+        }
+        rest = &rest[n + 1..];
+        left = left - n - 1;
+        n = first_len(rest, left);
+    }
+    false
 }

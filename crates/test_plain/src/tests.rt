@@ -1,5 +1,7 @@
 //! Each shape with each length of a language, in mixed case, and what stands at the front of lines.
-use iloc_plain::{Front, Keyword, read_front, read_keyword, read_plain, read_plain_text};
+use iloc_plain::{
+    Front, Keyword, read_front, read_keyword, read_ordered, read_plain, read_plain_text, read_varied,
+};
 
 // A text of each shape for each length of a language, and its normal text.
 const PLAIN: [(&str, &str); 35] = [
@@ -196,4 +198,100 @@ fn a_keyword_is_told(rt: HostRuntime) {
     assert!(rt; !has_single_keyword(b"en-u-sd-usca\nsr-Latn-RS\nde-CH\n", 12));
     assert!(rt; !has_single_keyword(b"en-u-SD-usca\nsr-Latn-RS\nde-CH\n", 12));
     assert!(rt; !has_single_keyword(b"en-u-ca-islamic-civil\nsr-Latn-RS\nde-CH\n", 21));
+}
+
+// Plain identifiers: each length of a language, each other shape, and one of sixteen bytes.
+const HEADS: [&str; 10] = [
+    "EN",
+    "deu",
+    "aBcDe",
+    "abcdef",
+    "ABCDEFG",
+    "abcdefgh",
+    "en-LATN",
+    "de-419",
+    "zh-hant-tw",
+    "abcdefgh-Latn-US",
+];
+
+// What follows a plain identifier as it is printed, but for the case.
+const ORDERED: [&str; 14] = [
+    "-u-ca",
+    "-U-CA-buddhist",
+    "-u-ca-islamic-civil-HC-h12-nu-latn",
+    "-u-0a-foo-1a-bar",
+    "-u-foo",
+    "-u-Attr-ca-bar-co",
+    "-u-abcdefgh-x-a",
+    "-u-ca-foo-x-1-ABCDEFGH-x",
+    "-x-a",
+    "-X-abcdefgh-u-t",
+    "-posix-u-ca-foo",
+    "-1ABC-x-y",
+    "-valencia-u-foo-nu-thai",
+    "-u-ca-trub-co-tree-nu-thai",
+];
+
+// What does not: another order, a key twice, `true`, an empty block, two variants or attributes.
+const UNORDERED: [&str; 14] = [
+    "-u-nu-latn-ca-foo",
+    "-u-ca-foo-CA-bar",
+    "-u-kn-true",
+    "-u-ca-foo-TRUE-nu-thai",
+    "-u",
+    "-u-x-a",
+    "-x",
+    "-x-",
+    "-u-ca-",
+    "-u-ca-abcdefghi",
+    "-u-foo-bar-ca",
+    "-posix-1996-u-ca",
+    "-t-en",
+    "-a-foo",
+];
+
+// Whether the line of a head and a tail is told at once.
+fn is_told_at_once(head: &str, tail: &str) -> bool {
+    let mut window = [b'-'; 80];
+    let at = head.len();
+    if at > 16 || tail.len() > 48 {
+        return false;
+    }
+    let len = at + tail.len();
+    window[..at].copy_from_slice(head.as_bytes());
+    window[at..len].copy_from_slice(tail.as_bytes());
+    match read_front(&window, len) {
+        Front::Block(block) => {
+            let front = len.wrapping_sub(block.tail.wrapping_add(1));
+            read_ordered(&window, len, front).is_some()
+        }
+        Front::Variants(tail) => {
+            let front = len.wrapping_sub(tail.wrapping_add(1));
+            read_varied(&window, len, front).is_some()
+        }
+        _ => false,
+    }
+}
+
+#[test]
+fn a_line_in_the_order_of_its_text_is_told(rt: HostRuntime) {
+    for head in HEADS {
+        for tail in ORDERED {
+            assert!(rt; is_told_at_once(head, tail), "{head}{tail}");
+        }
+        for tail in UNORDERED {
+            assert!(rt; !is_told_at_once(head, tail), "{head}{tail}");
+        }
+    }
+}
+
+#[test]
+fn a_variant_is_told(rt: HostRuntime) {
+    for head in HEADS {
+        for tail in ["-POSIX", "-1996", "-abcdefgh"] {
+            assert!(rt; is_told_at_once(head, tail), "{head}{tail}");
+        }
+        assert!(rt; !is_told_at_once(head, "-posix-1996"), "{head}");
+        assert!(rt; !is_told_at_once(head, "-posix-posix"), "{head}");
+    }
 }

@@ -1,8 +1,6 @@
-use Rattle.std.proofs.Common.{◌≡◌, ℕ, List, [], ◌∷◌, ◌++◌, OnOk, ap, subst, sym}
+use Rattle.std.proofs.Common.{◌≡◌, ℕ, List, [], ◌∷◌, ◌++◌, OnOk, subst}
 use Rattle.iloc_plain.specs.Plain.{IsPlain}
-use Rattle.iloc_lines.specs.Output.{IsRefused}
 use Rattle.iloc_lines.specs.ReplyBlock.{held}
-use Rattle.iloc_lines.specs.declared.Mode.{Mode}
 use Rattle.iloc_lines.proofs.PlainLemmas.{plain_reply}
 use Rattle.iloc_lines.proofs.lines.reply_to.Goals as goal
 
@@ -12,12 +10,3 @@ returns-in-Some g c =
     let line_is : IsPlain c.args.line.now plain = subst (λ (t : List ℕ). IsPlain t plain) c.requires c.in-Some.ensures in
     subst (λ (t : List ℕ). OnOk c.push_plain.result (held c.push_plain.new.self ≡ held c.args.replies.now ++ t))
     (plain_reply g.A.Answers.mode c.args.line.now plain line_is) c.push_plain.ensures
-
-pub returns-in-Some-fault_at_front : goal.returns-in-Some-fault_at_front
-returns-in-Some-fault_at_front g c =
-    let line = c.args.line.now in
-    let error = c.in-Some-fault_at_front.error in
-    let refused : IsRefused g.A.Answers.mode line error =
-    subst (λ (m : Mode). IsRefused m line error) c.mode.ensures c.in-Some-fault_at_front.ensures in
-    subst (λ (t : List ℕ). OnOk c.write_refusal.result (held c.write_refusal.new.replies ≡ held c.args.replies.now ++ t))
-    (ap (λ l. l ++ 10 ∷ []) (sym refused)) c.write_refusal.ensures.text

@@ -1,9 +1,5 @@
-use Rattle.std.proofs.Common.{◌≡◌, ◌≢◌, ◌≤◌, ℕ, List, ◌∷◌, false, codes, length, take, subst, sym, ap, ◌∙◌, arith}
-use Rattle.std.specs.List.{list_all}
-use Rattle.iloc_spec_grammar.specs.Pieces.{pieces}
-use Rattle.iloc_spec_grammar.specs.Blocks.{first_piece}
-use Rattle.iloc_spec_grammar.specs.Words.{Attribute, UnicodeKey, IsWord, is_word, lower}
-use Rattle.iloc_spec_grammar.specs.Reading.{rest_of}
+use Rattle.std.proofs.Common.{◌≡◌, ◌≢◌, ℕ, List, codes, take, subst, sym, ◌∙◌, arith}
+use Rattle.iloc_spec_grammar.specs.Words.{Attribute, UnicodeKey, lower}
 use Rattle.iloc_plain.specs.Keyword.{IsKeywordOf, IsSingle}
 use Rattle.iloc_plain.specs.declared.keyword.Keyword.TheVariants as keyword
 use Rattle.iloc_plain.proofs.FrontLemmas.{short_attribute, short_key, word_of_first, after_word, key_is_two}

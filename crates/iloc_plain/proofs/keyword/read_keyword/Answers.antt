@@ -1,4 +1,4 @@
-use Rattle.std.proofs.Common.{◌≢◌, ◌<◌, ℕ, List, subst, sym, ap, ◌∙◌, arith}
+use Rattle.std.proofs.Common.{◌≢◌, ◌<◌, ℕ, List, subst, sym, ap, arith}
 use Rattle.iloc_spec_grammar.specs.Reading.{rest_of}
 use Rattle.iloc_plain.specs.Keyword.{IsKeywordOf}
 use Rattle.iloc_plain.proofs.FrontLemmas.{after_short}

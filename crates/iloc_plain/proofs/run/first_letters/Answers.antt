@@ -1,7 +1,7 @@
-use Rattle.std.proofs.Common.{refl, take}
-use Rattle.std.specs.Char.{is_ascii_alphabetic, is_ascii_alphanumeric, is_ascii_digit}
+use Rattle.std.proofs.Common.{take}
+use Rattle.std.specs.Char.{is_ascii_alphabetic}
 use Rattle.std.proofs.lemmas.List.{length-take-le}
-use Rattle.iloc_plain.specs.Run.{is_hyphen, is_other}
+use Rattle.iloc_plain.specs.Run.{is_other}
 use Rattle.iloc_plain.proofs.RunLemmas.{run_is, twice}
 use Rattle.iloc_plain.proofs.run.first_letters.Goals as goal
 

@@ -1,8 +1,8 @@
 use Rattle.std.proofs.Common.{ℕ, cond, refl, bit_and}
-use Rattle.std.specs.Char.{is_ascii_alphabetic, is_ascii_alphanumeric, is_ascii_digit}
+use Rattle.std.specs.Char.{is_ascii_alphanumeric}
 use Rattle.std.proofs.lemmas.Simd.{zip2_splat, zip2_of_maps}
 use lib.Dec.{leb}
-use Rattle.iloc_plain.specs.Run.{is_hyphen, is_other}
+use Rattle.iloc_plain.specs.Run.{is_other}
 use Rattle.iloc_plain.proofs.LaneLemmas.{then_splat, splat_then}
 use Rattle.iloc_plain.proofs.RunLemmas.{mask_is}
 use Rattle.iloc_plain.proofs.run.no_alphanumerics_in.Goals as goal

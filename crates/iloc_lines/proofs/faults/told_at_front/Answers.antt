@@ -1,0 +1,10 @@
+use Rattle.iloc_lines.proofs.FrontAnswers.{misfit_is_refused}
+use Rattle.iloc_lines.proofs.PlainLemmas.{no_language_answer}
+use Rattle.std.proofs.Common.{take}
+use Rattle.iloc_lines.proofs.faults.told_at_front.Goals as goal
+
+pub returns-in-NoLanguage : goal.returns-in-NoLanguage
+returns-in-NoLanguage c = no_language_answer c.args.mode (take c.args.len c.args.window.now) c.in-NoLanguage.ensures
+
+pub returns-in-Misfit : goal.returns-in-Misfit
+returns-in-Misfit c = misfit_is_refused c.args.mode (take c.args.len c.args.window.now) c.in-Misfit.ensures

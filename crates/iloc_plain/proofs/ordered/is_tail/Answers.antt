@@ -1,0 +1,23 @@
+use Rattle.std.proofs.Common.{◌≢◌, [], take, subst, sym, ◌∙◌, arith}
+use Rattle.iloc_spec_grammar.specs.Pieces.{pieces}
+use Rattle.iloc_spec_grammar.specs.Words.{Variant, IsWord}
+use Rattle.iloc_plain.specs.Ordered.{IsTail}
+use Rattle.iloc_plain.proofs.FrontLemmas.{short_variant, after_word, whole_word}
+use Rattle.iloc_plain.proofs.OrderedLemmas.{tail_blocks, tail_variant, printed_none}
+use Rattle.iloc_plain.proofs.ordered.is_tail.Goals as goal
+
+pub returns-then-not-is_variant : goal.returns-then-not-is_variant
+returns-then-not-is_variant c = λ h. tail_blocks (pieces (take c.args.len c.args.window.now)) (c.are_blocks.ensures h)
+
+pub returns-then-n-len : goal.returns-then-n-len
+returns-then-n-len c = λ _.
+    let fits : IsWord Variant (take c.first_len-n.result c.args.window.now) = sym c.is_variant.ensures ∙ c.if-not-is_variant.false in
+    subst IsTail (sym (whole_word c.args.window.now c.args.len c.first_len-n.result c.requires c.first_len-n.ensures Variant short_variant fits c.if-n-len.true))
+    (tail_variant (take c.first_len-n.result c.args.window.now) [] fits printed_none)
+
+pub returns : goal.returns
+returns c = λ h.
+    let fits : IsWord Variant (take c.first_len-n.result c.args.window.now) = sym c.is_variant.ensures ∙ c.if-not-is_variant.false in
+    let more : c.first_len-n.result ≢ c.args.len = omega arith in
+    subst IsTail (sym (after_word c.args.window.now c.args.len c.first_len-n.result c.requires c.first_len-n.ensures Variant short_variant fits more))
+    (tail_variant (take c.first_len-n.result c.args.window.now) _ fits (c.are_blocks-2.ensures h))
