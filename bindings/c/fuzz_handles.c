@@ -17,9 +17,10 @@
 #include <stdlib.h>
 #include <string.h>
 
-#define ROOM 4096
+/* An input has at most 512 bytes, which are more than half of any text that comes of it. */
+#define LONGEST 512
+#define ROOM 1280
 #define HANDLES 4
-#define ITEMS 512
 
 /* A C string, and what it is a part of. */
 struct text {
@@ -720,7 +721,7 @@ int LLVMFuzzerTestOneInput(const uint8_t *data, size_t size)
 {
     static char input[ROOM];
     long granted = -1;
-    if (size >= ROOM / 4 || memchr(data, 0, size))
+    if (size > LONGEST || memchr(data, 0, size))
         return -1;
     memcpy(input, data, size);
     input[size] = 0;
