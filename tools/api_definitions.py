@@ -5,6 +5,7 @@ import os
 import re
 
 from api_source import TOP, libraries, place, read
+from common import without_suffix
 
 DECLARED = re.compile(
     r"^(?:\s*(?:abbrev |unfoldable )|\s*(?=pub record |pub data )|(?=pub ))"
@@ -70,14 +71,14 @@ def names_used(text):
     return found
 
 
-@functools.cache
+@functools.lru_cache(maxsize=None)
 def files():
     """Returns the files of definitions by crate and module."""
     found = {}
     for crate in libraries():
         for path in sorted(glob.glob(f"{TOP}/crates/{crate}/specs/**/*.antt", recursive=True)):
             inner = os.path.relpath(path, f"{TOP}/crates/{crate}/specs")
-            module = inner.removesuffix(".antt").replace("/", ".")
+            module = without_suffix(inner, ".antt").replace("/", ".")
             if module != "Lib":
                 found[crate, module] = Definitions(crate, module, os.path.relpath(path, TOP))
     return found
@@ -111,7 +112,7 @@ def slug(heading):
     return re.sub(r"[^\w -]", "", heading.lower()).strip().replace(" ", "-")
 
 
-@functools.cache
+@functools.lru_cache(maxsize=None)
 def told():
     """Returns the headings of docs/DEFINITIONS.md under which each name stands in code."""
     found, heading = {}, ""
@@ -124,7 +125,7 @@ def told():
     return found
 
 
-@functools.cache
+@functools.lru_cache(maxsize=None)
 def by_name():
     """Returns the address of each name that only one file defines."""
     found = {}

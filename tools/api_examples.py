@@ -10,6 +10,7 @@ import re
 import api_words
 from api_model import entries
 from api_source import ROOT, TOP, home_of, libraries, read
+from common import without_prefix, without_suffix
 
 FIRST = ("crates/example_first_locale", "crates/example_recipes")
 FUNCTION = re.compile(
@@ -45,7 +46,7 @@ def files():
     return first + sorted(os.path.relpath(it, TOP) for found in within for it in found)
 
 
-@functools.cache
+@functools.lru_cache(maxsize=None)
 def by_home():
     return {(it.crate, made_name(it)): it for it in entries() if not it.see}
 
@@ -54,17 +55,17 @@ def made_name(entry):
     return re.search(r"pub (?:unsafe )?\w+ (\w+)", entry.item.signature).group(1)
 
 
-@functools.cache
+@functools.lru_cache(maxsize=None)
 def by_path():
     return {it.path: (by_home().get((it.crate, made_name(it)), it)) for it in entries()}
 
 
-@functools.cache
+@functools.lru_cache(maxsize=None)
 def calls_of(entry):
     return {it.name: it for it in by_home()[entry].calls}
 
 
-@functools.cache
+@functools.lru_cache(maxsize=None)
 def only_ones():
     """Returns the calls whose names no other type has."""
     found = {}
@@ -80,7 +81,7 @@ def names_of(text):
     for path, several, one in USE.findall(text):
         for name in filter(None, map(str.strip, (several or one).split(","))):
             made, _, shown = name.partition(" as ")
-            path = path.replace("crate::", f"{ROOT}::").removesuffix("::self")
+            path = without_suffix(path.replace("crate::", f"{ROOT}::"), "::self")
             if path == "crate":
                 path = ROOT
             entry = by_path().get(f"{path}::{made}")
@@ -99,7 +100,7 @@ def bare(kind):
     return found.group(1) if found else ""
 
 
-@functools.cache
+@functools.lru_cache(maxsize=None)
 def fields_of(home):
     """Returns the types of the public fields of a struct."""
     found, by_name = {}, {made: (at, made) for at, made in by_home()}
@@ -136,7 +137,7 @@ def types_in(header, body, known, own):
         found["self"] = own
     for part in re.split(r",(?![^<(]*[>)])", header):
         name, _, kind = part.partition(":")
-        name = name.strip().removeprefix("mut ")
+        name = without_prefix(name.strip(), "mut ")
         inner = re.match(r"\s*(?:Option|Result)<(.*)", kind)
         if bare(kind) in known:
             found[name] = known[bare(kind)]
@@ -188,7 +189,7 @@ def lines_of(path):
         if found.group(1):
             own = next((kind for at, kind in reversed(owners) if at < found.start()), None)
         bound = {name: known[kind] for name, kind in BOUND.findall(found.group(3)) if kind in known}
-        named = known | bound
+        named = {**known, **bound}
         first, lines = text.count("\n", 0, found.end()) + 1, body.split("\n")
         for number, line in enumerate(lines, first):
             if "(" not in line:
@@ -220,7 +221,7 @@ def written_by(line, macros):
         yield number, re.sub(r"\$(\w+)", lambda it: given.get(it.group(1), it.group(0)), text).strip()
 
 
-@functools.cache
+@functools.lru_cache(maxsize=None)
 def examples():
     """Returns for each call's key the path, the number and the text of a line that makes it. What is told by the
     name alone counts only if no line is told by the type."""
@@ -234,10 +235,10 @@ def examples():
                     found.setdefault(key, (path, number, line))
                 elif name in only_ones():
                     guessed.setdefault(only_ones()[name], (path, number, line))
-    return guessed | found
+    return {**guessed, **found}
 
 
-@functools.cache
+@functools.lru_cache(maxsize=None)
 def rows():
     """Returns the rows of one argument by their first word: the file, the line, the argument, the answer."""
     found = {}

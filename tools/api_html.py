@@ -15,6 +15,7 @@ from api_markdown import LAWS, json_types, trait_homes
 from api_markup import code, dim, esc, items, leads, marked, tag
 from api_model import model
 from api_source import ROOT, TOP, USED, place, read
+from common import without_prefix, without_suffix
 
 BESIDE = os.path.dirname(os.path.realpath(__file__))
 SIGNS = re.compile(r"[λ→×≡↔≢≤⊎¬∷⊥⊤∥]|\+\+")
@@ -44,7 +45,7 @@ def module_file(path):
 
 
 def short(path):
-    return path.removeprefix(ROOT).removeprefix("::")
+    return without_prefix(without_prefix(path, ROOT), "::")
 
 
 def entry_at(path):
@@ -96,7 +97,7 @@ class Meanings:
             return ""
         crate, module, name = above[-1]
         if module.startswith("declared."):
-            return of_type(crate, module.removesuffix(".TheVariants").rpartition(".")[2])
+            return of_type(crate, without_suffix(module, ".TheVariants").rpartition(".")[2])
         return api_definitions.address(crate, module, name or rest.split(".")[0])
 
 
@@ -236,7 +237,7 @@ def entry_html(entry):
         return call_html(entry.calls[0], entry.module, "h2")
     title = f"{tag('span', entry.kind, kind='kind')} {code(entry.name)}"
     head = heading("h2", entry.name, title)
-    head += tag("pre", signature_html(entry.signature.removeprefix("pub "), entry.module))
+    head += tag("pre", signature_html(without_prefix(entry.signature, "pub "), entry.module))
     if entry.see:
         return head + tag("p", f"Described at {leads(entry_at(entry.see), code(entry.see))}.")
     has = [leads(entry_at(it), code(short(it))) for it in json_types()] if entry.name == "JsonText" else []

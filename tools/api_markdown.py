@@ -6,6 +6,7 @@ import api_words
 from api_examples import examples, remark, tried
 from api_model import error_of, is_law, model
 from api_source import ROOT, TOP
+from common import without_prefix
 
 HOME = "docs/api"
 KEYS = (
@@ -49,7 +50,7 @@ def link(entry_path, within):
     module, _, name = entry_path.rpartition("::")
     file = page_of(module).rpartition("/")[2]
     at = "" if module == within else file
-    return f"[`{entry_path.removeprefix(f'{ROOT}::')}`]({at}#{anchor(name)})"
+    return f"[`{without_prefix(entry_path, f'{ROOT}::')}`]({at}#{anchor(name)})"
 
 
 def example_row(call):
@@ -58,15 +59,15 @@ def example_row(call):
     if not found:
         return ""
     path, number, line = found
-    return f"- Example: `{line}` in [{path.removeprefix('crates/')}](../../{path}#L{number})"
+    return f"- Example: `{line}` in [{without_prefix(path, 'crates/')}](../../{path}#L{number})"
 
 
 def tried_row(path):
     """Returns rows that the gate runs of a reader: what is given, and what is answered."""
-    found = tried(path.removeprefix(f"{ROOT}::"))
+    found = tried(without_prefix(path, f"{ROOT}::"))
     rows = [f"[`{given}`](../../{file}#L{number}) is answered `{answer}`" for file, number, given, answer in found]
     said = "; ".join(rows)
-    told = remark(path.removeprefix(f"{ROOT}::"))
+    told = remark(without_prefix(path, f"{ROOT}::"))
     return [f"- Tried: {said}" + (f" ({told})" if told else "") + "."] if found else []
 
 
@@ -86,7 +87,7 @@ def call_rows(call, module):
     named = f", clauses {labels}" if labels else ""
     if call.item.clauses:
         path = call.item.path
-        facts.append(f"- Contract: [{path.removeprefix('crates/')}](../../{path}#L{call.item.number}){named}")
+        facts.append(f"- Contract: [{without_prefix(path, 'crates/')}](../../{path}#L{call.item.number}){named}")
     return rows + facts + [""]
 
 
@@ -107,7 +108,7 @@ def trait_rows(entry, homes):
 
 
 def entry_rows(entry, homes):
-    rows = [f"### `{entry.name}`", "", f"    {entry.signature.removeprefix('pub ')}", ""]
+    rows = [f"### `{entry.name}`", "", f"    {without_prefix(entry.signature, 'pub ')}", ""]
     if entry.see:
         return rows + [f"Described at {link(entry.see, entry.module)}.", ""]
     if entry.kind == "fn":
@@ -159,7 +160,7 @@ def index():
     for module in model():
         names = ", ".join(f"`{it.name}`" for it in module.entries if not it.is_law)
         names += "; laws" if any(it.is_law for it in module.entries) else ""
-        file = page_of(module.path).removeprefix("docs/")
+        file = without_prefix(page_of(module.path), "docs/")
         rows.append(f"| [`{module.path}`]({file}): {module.comment} | {names} |")
     return "\n".join(rows) + "\n"
 
@@ -230,7 +231,7 @@ def rust_row(entry):
             continue
         if call.rust.rpartition("::")[2] != call.name:
             how = f" ({change_of})" if change_of else ""
-            named.append(f"`{call.rust.removeprefix(entry.rust + '::')}`: `{call.name}`{how}")
+            named.append(f"`{without_prefix(call.rust, entry.rust + '::')}`: `{call.name}`{how}")
         elif change_of:
             changed.setdefault(change_of, []).append(f"`{call.name}`")
         else:
@@ -238,8 +239,8 @@ def rust_row(entry):
     if entry.kind == "fn":
         same, changed = [], {it: [f"`{entry.name}`"] for it in filter(None, map(change, entry.calls))}
     said = "; ".join(f"{', '.join(names)}: {how}" for how, names in changed.items())
-    here = entry.path.removeprefix(f"{ROOT}::")
-    there = api_words.BASES.get(entry.name) or f"`{entry.rust.removeprefix(f'{ROOT}::')}`"
+    here = without_prefix(entry.path, f"{ROOT}::")
+    there = api_words.BASES.get(entry.name) or f"`{without_prefix(entry.rust, f'{ROOT}::')}`"
     return f"| {there} | `{here}` | {', '.join(same)} | {said} | {'; '.join(named)} |"
 
 
@@ -259,5 +260,5 @@ def from_rust_table():
             if (entry.rust or is_base) and not is_ours:
                 rows.append(rust_row(entry))
             else:
-                own.append(f"`{entry.path.removeprefix(f'{ROOT}::')}`")
+                own.append(f"`{without_prefix(entry.path, f'{ROOT}::')}`")
     return "\n".join(rows) + "\n\nOnly here: " + ", ".join(own) + "."

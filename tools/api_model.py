@@ -6,6 +6,7 @@ import re
 
 import api_words
 from api_source import ALIAS, HEAD, ROOT, citations, crate, libraries, modules
+from common import without_prefix
 
 INNER = re.compile(r"pub (?!\()|[A-Z]")
 OURS = ("Writeable", "Sink", "Word", "WordKind", "Store", "PreferenceKey", "JsonText", "TextValue")
@@ -95,7 +96,7 @@ class Module:
 
     @property
     def short(self):
-        return self.path.removeprefix(ROOT).removeprefix("::") or ROOT
+        return without_prefix(without_prefix(self.path, ROOT), "::") or ROOT
 
 
 def fits(table, fact):
@@ -253,7 +254,7 @@ def rust_of_call(entry, owner, name):
 
 def rust_of(module, name):
     """Returns the path of the item in the Rust crate; empty if it has none."""
-    short = module.removeprefix(ROOT).removeprefix("::")
+    short = without_prefix(without_prefix(module, ROOT), "::")
     if short.startswith(api_words.OWN_MODULES):
         return ""
     special = api_words.OWN.get(f"{short}::{name}")
@@ -272,7 +273,7 @@ def call_of(item, owner, home, rust, made):
     name = re.search(r"fn (\w+)", item.signature).group(1)
     given, wants = refuses(item, owner, name)
     sentence = api_words.SENTENCES.get(f"{owner}::{name}") or item.sentence()
-    signature = expanded(item.signature.removeprefix("pub "), home)
+    signature = expanded(without_prefix(item.signature, "pub "), home)
     return Call(
         owner, name, item, home, signature, sentence, item.details() + explained(signature),
         needs(item), given, memory(item, wants) + sink_or_closure(item), rust_of_call(rust, owner, name),
@@ -280,13 +281,13 @@ def call_of(item, owner, home, rust, made):
     )
 
 
-@functools.cache
+@functools.lru_cache(maxsize=None)
 def exported():
     """Returns the names of the public crate's items, by crate and name there."""
     return {(home, made) for _, _, uses in modules() for home, made, _ in uses}
 
 
-@functools.cache
+@functools.lru_cache(maxsize=None)
 def short_forms(home):
     """Returns what the aliases of tuples stand for that are no public items."""
     found = {}
@@ -333,7 +334,7 @@ def given_by(trait, whole, base, item, name):
     elif bare == "EnumKeyword":
         yield "PreferenceKey", OF_PREFERENCES
     elif bare in OF_STD or bare in OURS:
-        yield trait.removeprefix("fmt::"), said
+        yield without_prefix(trait, "fmt::"), said
 
 
 def given_of(home, name):
@@ -343,7 +344,7 @@ def given_of(home, name):
         for trait, whole, base, item in at.given:
             is_made_of = re.match(rf"(?:Try)?From<&?{name}\b", trait)
             if (base == name or is_made_of) and (at.name == home.name or owns(at, home, name)):
-                found |= dict(given_by(trait, whole, base, item, name))
+                found.update(given_by(trait, whole, base, item, name))
     found.pop("Drop", None)
     return [Given(trait, api_words.GIVEN.get(trait, said)) for trait, said in found.items()]
 
@@ -416,7 +417,7 @@ def base_entry(entry):
     return made
 
 
-@functools.cache
+@functools.lru_cache(maxsize=None)
 def model():
     """Returns the modules with their entries. A type that several paths lead to is shown at its own module."""
     found, seen = [], {}

@@ -5,6 +5,8 @@ import glob
 import os
 import re
 
+from common import without_prefix, without_suffix
+
 TOP = os.path.dirname(os.path.dirname(os.path.realpath(__file__)))
 ROOT = "icu_locale_core"
 HEAD = re.compile(r"pub (?:unsafe )?(struct|enum|trait|type|fn|const) (\w+)")
@@ -66,7 +68,7 @@ class Item:
             taken.append(re.sub(r"( \{| \{\}|;)$", "", bare))
             if bare.endswith(("{", ";", "{}")):
                 break
-        return joined(taken).removesuffix(",")
+        return without_suffix(joined(taken), ",")
 
     @functools.cached_property
     def clauses(self):
@@ -102,7 +104,7 @@ class Item:
     def details(self):
         """Returns what the comment says after its first sentence."""
         whole = self.paragraphs()
-        rest = [whole[0].removeprefix(self.sentence()).strip()] + whole[1:] if whole else []
+        rest = [without_prefix(whole[0], self.sentence()).strip()] + whole[1:] if whole else []
         return [it for it in rest if it]
 
     def inner(self):
@@ -160,7 +162,7 @@ class Crate:
                 path = os.path.relpath(path, TOP)
                 text = read(path)
                 self.text += text
-                self.passed |= {shown: (at, made) for at, made, shown in uses_of(text) if at != "crate"}
+                self.passed.update((shown, (at, made)) for at, made, shown in uses_of(text) if at != "crate")
                 self.read(items_of(text.split("\n"), 0, path))
 
     def read(self, items):
@@ -190,7 +192,7 @@ class Crate:
         return re.findall(r"\w+(?=[,)])", made)
 
 
-@functools.cache
+@functools.lru_cache(maxsize=None)
 def crate(name):
     return Crate(name)
 
@@ -242,7 +244,7 @@ def uses_of(text):
     return [it for line in lines if line.startswith("pub use iloc_") for it in passed_on(line)]
 
 
-@functools.cache
+@functools.lru_cache(maxsize=None)
 def modules():
     """Returns each module of the public crate with its comment and what it passes on."""
     text = in_one_line(read(f"crates/{ROOT}/src/lib.rt"))
@@ -264,7 +266,7 @@ def modules():
     return [open_ones[0]] + [it for it in found if it[2]]
 
 
-@functools.cache
+@functools.lru_cache(maxsize=None)
 def citations(path):
     """Returns where the names that the file's clauses use are defined: (crate, module, name)."""
     found = {}

@@ -42,6 +42,16 @@ def counted(passed, failed):
     return 1 if failed or not passed else 0
 
 
+def without_prefix(text, prefix):
+    """Returns the text without this beginning, if it begins so: str.removeprefix, which Python 3.8 has not."""
+    return text[len(prefix) :] if text.startswith(prefix) else text
+
+
+def without_suffix(text, suffix):
+    """Returns the text without this end, if it ends so: str.removesuffix, which Python 3.8 has not."""
+    return text[: len(text) - len(suffix)] if text.endswith(suffix) else text
+
+
 def crates_of(path):
     """Returns the lines of a crates.txt by their crates, lowest first as they stand, or none where
     there is no such file."""

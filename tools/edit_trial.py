@@ -226,7 +226,7 @@ class Trial:
         seen, ways = set(), [function]
         while ways:
             new = self.calls.get(ways.pop(), set()) - seen
-            seen, ways = seen | new, [*ways, *new]
+            seen, ways = seen.union(new), [*ways, *new]
         return bool(seen & (others - {function}))
 
     def next_batch(self, left):

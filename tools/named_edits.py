@@ -29,7 +29,7 @@ def listed():
             wrong.append(f"{name}: NOT TRIED: there is no {os.path.relpath(path, ROOT)}, or it is listed twice")
         else:
             rows[key] = tuple(functions.split())
-            by_names |= {key} if may == "names" else set()
+            by_names.update({key} if may == "names" else ())
     return rows, by_names, wrong or ([] if rows else [f"{os.path.relpath(LIST, ROOT)} names no mutant"])
 
 

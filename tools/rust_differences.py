@@ -8,7 +8,7 @@ def is_answered_otherwise(line):
     """Whether the Rust crate may answer the line otherwise: since a language has five to eight
     letters, or since the first extension is a `u` without a key."""
     pieces = line.lower().split(b"-")
-    languages = [pieces[0], *(it for at, it in itertools.pairwise(pieces) if at == b"t")]
+    languages = [pieces[0], *(it for at, it in zip(pieces, pieces[1:]) if at == b"t")]
     if any(re.fullmatch(rb"[a-z]{5,8}", it) for it in languages):
         return True
     block = list(itertools.dropwhile(lambda it: len(it) != 1, pieces))

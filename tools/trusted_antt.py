@@ -7,6 +7,8 @@ import functools
 import re
 from dataclasses import dataclass, field
 
+from common import without_prefix, without_suffix
+
 TOKEN = re.compile(r'"(?:[^"\\]|\\.)*"|[(){};,@]|«[^»]*»|[^\s(){}.;,@"«»]+|\.')
 WORDS = {  # what antt itself and its prelude `Prim` provide, and no file declares
     "Type", "Unit", "tt", "absurd", "λ", "let", "in", "elim", "as", "record", "→", "×", "=", "↦", "|",
@@ -60,7 +62,7 @@ class Module:
     declared: dict = field(default_factory=dict)  # name -> Definition
     definitions: list = field(default_factory=list)
 
-    @functools.cache
+    @functools.lru_cache(maxsize=None)
     def operators(self):
         """Returns the operators that the file brings in, by each of their signs: `≡` is `◌≡◌`."""
         named = [it for it in self.items if "◌" in it]
@@ -162,7 +164,7 @@ class Reader:
         found = re.match(r"(?:(abbrev|unfoldable)\s+)?(?:pub\s+)?(?:(abbrev|unfoldable)\s+)?(\S+)(.*)$", text, re.S)
         made = Definition(self.module, found[3].strip("«»"), found[1] or found[2] or "abstract", head + 1)
         made.lines, made.comment = self.lines[head:stop], comment
-        made.parts = [(found[4].strip().removeprefix(":"), "type")]
+        made.parts = [(without_prefix(found[4].strip(), ":"), "type")]
         return self.add(made, params)
 
     def shape(self, head, stop, comment, text, params):
@@ -171,11 +173,11 @@ class Reader:
         made.lines, made.comment = self.lines[head:stop], comment
         body = next((n for n in range(head, stop) if self.lines[n].rstrip().endswith(" where")), stop - 1)
         header = "\n".join(self.lines[head : body + 1])
-        header = re.sub(r"^\s*(?:pub\s+)?(?:data|record)\s+\S+", "", header.rstrip().removesuffix("where"))
+        header = re.sub(r"^\s*(?:pub\s+)?(?:data|record)\s+\S+", "", without_suffix(header.rstrip(), "where"))
         made.parts = [(header, "params")]
         for at, end, _ in self.chunks(body + 1, stop):
             line = re.sub(r"(?m)(^|\s)--.*$", "", "\n".join(self.lines[at:end])).strip()
-            names, _, kind = line.removeprefix("pub ").partition(" : ")
+            names, _, kind = without_prefix(line, "pub ").partition(" : ")
             names = names.split()
             made.members += names
             made.parts.append((kind, "field" if found[1] == "record" else "constructor", names))

@@ -237,7 +237,7 @@ class Sources:
             item = self.rust_name(item.module, tuple(named[1].split("::"))) if named else None
         return item
 
-    @functools.cache
+    @functools.lru_cache(maxsize=None)
     def impls_of(self, item):
         """Returns the `impl`s of a type, or of the type that it is another name of."""
         found = []
@@ -249,7 +249,7 @@ class Sources:
                 found.append(it)
         return found
 
-    @functools.cache
+    @functools.lru_cache(maxsize=None)
     def trait(self, source, name):
         """Returns the trait of this name in scope, if a crate here declares it."""
         item = self.rust_name(source, tuple(name.split("::")))
@@ -396,7 +396,7 @@ class Sources:
                 found += [one for one in it.item.inner if one.name in ("Value", "view")]
         return [it for it in found if it is not item]
 
-    @functools.cache
+    @functools.lru_cache(maxsize=None)
     def cites(self, item):
         """Returns what an item cites, once each, in the order of its text."""
         try:

@@ -15,6 +15,7 @@ import sys
 import textwrap
 
 import trusted_graph as graph
+from common import without_prefix
 
 HEADLINE = ("Locale::try_from_utf8", "Locale::normalize_utf8", "Locale::is_well_formed", "Locale::write_to")
 ON_MEMORY = ("memory", "succeeds")
@@ -126,7 +127,7 @@ class Page:
         ordered = dict(self.plain.ordered(self.plain.definitions))
         lines = []
         for named in paths:
-            path = named.removeprefix("?")
+            path = without_prefix(named, "?")
             if named != path and path not in ordered:
                 continue
             if path not in ordered:

@@ -230,6 +230,9 @@ static void try_objects()
         std::abort();
     if (parsed || parsed.status() != icu_locale::status::invalid_language)
         std::abort();
+    const locale plain("en");
+    if (plain.script() || plain.region() || plain.keyword("ca") || plain.transform_language() || plain.field("m0"))
+        std::abort();
     static_assert(std::is_nothrow_move_constructible_v<locale> && !std::is_nothrow_copy_constructible_v<locale>);
     static_assert(std::is_nothrow_move_assignable_v<locale> && std::is_nothrow_default_constructible_v<locale>);
 }

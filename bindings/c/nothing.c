@@ -1,0 +1,133 @@
+/* Gives nothing to each call of the header, for tools/try_bindings: handles that are {0}, and null pointers for texts of
+ * length 0 and buffers without room. A handle is {0} after each call, as it still stands for und.
+ *
+ * The last line is the number of cases. The first that is not as wanted ends the program. */
+#include "icu_locale.h"
+
+#include <stdio.h>
+#include <stdlib.h>
+#include <string.h>
+
+#define NONE NULL, 0
+#define UNTOUCHED 77
+
+static unsigned long cases;
+static icu_locale_t und = ICU_LOCALE_UND, other = ICU_LOCALE_UND;
+static size_t needed = UNTOUCHED;
+
+#define WANT(it)                                                               \
+    do {                                                                       \
+        cases++;                                                               \
+        if (!(it) || und.at != NULL || other.at != NULL) {                     \
+            fprintf(stderr, "nothing.c:%d: not so: %s\n", __LINE__, #it);      \
+            exit(1);                                                           \
+        }                                                                      \
+    } while (0)
+
+/* What a call wants of a buffer that has no room: `room` bytes, or nothing where there is no such part. */
+static int wants(icu_locale_status status, size_t room)
+{
+    int is_right = status == (room ? ICU_LOCALE_BUFFER_TOO_SMALL : ICU_LOCALE_NOT_FOUND) && needed == room;
+    needed = UNTOUCHED;
+    return is_right;
+}
+
+/* A part that is an empty text, so that a buffer without room is large enough. */
+static int is_empty(icu_locale_status status)
+{
+    int is_right = status == ICU_LOCALE_DONE && needed == 0;
+    needed = UNTOUCHED;
+    return is_right;
+}
+
+static void try_texts(void)
+{
+    const uint8_t *en = (const uint8_t *)"EN";
+    int8_t order = UNTOUCHED;
+    uint8_t same = UNTOUCHED;
+    for (icu_locale_mode mode = ICU_LOCALE_IDENTIFIER; mode <= ICU_LOCALE_DATA_LOCALE; mode++) {
+        WANT(icu_locale_check(mode, NONE) == ICU_LOCALE_INVALID_LANGUAGE);
+        WANT(icu_locale_normalize(mode, NONE, NONE, &needed) == ICU_LOCALE_INVALID_LANGUAGE && needed == 0);
+        WANT(wants(icu_locale_normalize(mode, en, 2, NONE, &needed), 2));
+        WANT(icu_locale_strict_cmp(mode, NONE, NONE, &order) == ICU_LOCALE_INVALID_LANGUAGE && order == UNTOUCHED);
+        WANT(icu_locale_normalizing_eq(mode, NONE, NONE, &same) == ICU_LOCALE_INVALID_LANGUAGE && same == UNTOUCHED);
+        WANT(icu_locale_compare(mode, NONE, NONE, &order) == ICU_LOCALE_INVALID_LANGUAGE && order == UNTOUCHED);
+        WANT(icu_locale_compare(mode, en, 2, NONE, &order) == ICU_LOCALE_INVALID_LANGUAGE && order == UNTOUCHED);
+        WANT(icu_locale_strict_cmp(mode, en, 2, NONE, &order) == ICU_LOCALE_DONE && order == 1);
+        WANT(icu_locale_normalizing_eq(mode, en, 2, NONE, &same) == ICU_LOCALE_DONE && same == 0);
+        order = UNTOUCHED, same = UNTOUCHED;
+    }
+    for (icu_locale_status status = ICU_LOCALE_DONE; status <= ICU_LOCALE_NOT_FOUND; status++) {
+        WANT(icu_locale_words(status, NONE, &needed) == ICU_LOCALE_BUFFER_TOO_SMALL && needed > 0 && needed <= 64);
+    }
+}
+
+static void try_whole(void)
+{
+    uint8_t same = UNTOUCHED;
+    WANT(icu_locale_parse(&und, NONE) == ICU_LOCALE_INVALID_LANGUAGE);
+    WANT(icu_locale_copy(&und, &other) == ICU_LOCALE_DONE);
+    WANT((icu_locale_free(&und), 1));
+    WANT(icu_locale_is_und(&und) && icu_locale_is_well_formed(&und));
+    WANT(icu_locale_cmp(&und, &other) == 0 && icu_locale_eq(&und, &other));
+    WANT(icu_locale_cmp_bytes(&und, NONE) == 1);
+    WANT(icu_locale_eq_text(&und, NONE, &same) == ICU_LOCALE_DONE && same == 0);
+    /* FNV-1a of "und", by its description. */
+    WANT(icu_locale_hash(&und) == UINT64_C(0x4cadb3193e1996fa));
+    WANT(wants(icu_locale_to_string(&und, NONE, &needed), 3));
+    WANT(wants(icu_locale_get_base_name(&und, NONE, &needed), 3));
+}
+
+static void try_identifier(void)
+{
+    WANT(wants(icu_locale_get_language(&und, NONE, &needed), 3));
+    WANT(is_empty(icu_locale_get_script(&und, NONE, &needed)));
+    WANT(is_empty(icu_locale_get_region(&und, NONE, &needed)));
+    WANT(icu_locale_set_language(&und, NONE) == ICU_LOCALE_DONE);
+    WANT(icu_locale_set_script(&und, NONE) == ICU_LOCALE_DONE);
+    WANT(icu_locale_set_region(&und, NONE) == ICU_LOCALE_DONE);
+    WANT(icu_locale_variant_count(&und) == 0);
+    WANT(wants(icu_locale_get_variant(&und, 0, NONE, &needed), 0));
+    WANT(!icu_locale_has_variant(&und, NONE));
+    WANT(icu_locale_add_variant(&und, NONE) == ICU_LOCALE_INVALID_SUBTAG);
+    WANT(icu_locale_remove_variant(&und, NONE) == ICU_LOCALE_NOT_FOUND);
+    WANT(icu_locale_clear_variants(&und) == ICU_LOCALE_DONE);
+}
+
+static void try_extensions(void)
+{
+    WANT(icu_locale_keyword_count(&und) == 0);
+    WANT(wants(icu_locale_get_keyword_key(&und, 0, NONE, &needed), 0));
+    WANT(wants(icu_locale_get_keyword_value(&und, 0, NONE, &needed), 0));
+    WANT(wants(icu_locale_get_keyword(&und, NONE, NONE, &needed), 0));
+    WANT(icu_locale_set_keyword(&und, NONE, NONE) == ICU_LOCALE_INVALID_EXTENSION);
+    WANT(icu_locale_remove_keyword(&und, NONE) == ICU_LOCALE_NOT_FOUND);
+    WANT(icu_locale_clear_keywords(&und) == ICU_LOCALE_DONE);
+    WANT(icu_locale_attribute_count(&und) == 0);
+    WANT(wants(icu_locale_get_attribute(&und, 0, NONE, &needed), 0));
+    WANT(!icu_locale_has_attribute(&und, NONE));
+    WANT(icu_locale_add_attribute(&und, NONE) == ICU_LOCALE_INVALID_EXTENSION);
+    WANT(icu_locale_remove_attribute(&und, NONE) == ICU_LOCALE_NOT_FOUND);
+    WANT(icu_locale_clear_attributes(&und) == ICU_LOCALE_DONE);
+    WANT(wants(icu_locale_get_transform_language(&und, NONE, &needed), 0));
+    WANT(icu_locale_set_transform_language(&und, NONE) == ICU_LOCALE_DONE);
+    WANT(icu_locale_field_count(&und) == 0);
+    WANT(wants(icu_locale_get_field_key(&und, 0, NONE, &needed), 0));
+    WANT(wants(icu_locale_get_field_value(&und, 0, NONE, &needed), 0));
+    WANT(wants(icu_locale_get_field(&und, NONE, NONE, &needed), 0));
+    WANT(icu_locale_set_field(&und, NONE, NONE) == ICU_LOCALE_INVALID_EXTENSION);
+    WANT(icu_locale_clear_fields(&und) == ICU_LOCALE_DONE);
+    WANT(is_empty(icu_locale_get_private(&und, NONE, &needed)));
+    WANT(icu_locale_set_private(&und, NONE) == ICU_LOCALE_DONE);
+}
+
+int main(void)
+{
+    WANT(icu_locale_version() == ICU_LOCALE_VERSION);
+    try_texts();
+    try_whole();
+    try_identifier();
+    try_extensions();
+    printf("%lu\n", cases);
+    return 0;
+}

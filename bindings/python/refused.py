@@ -1,0 +1,98 @@
+"""Refuses each request of the library for memory in turn, for tools/try_bindings: ICU_LOCALE_LIBRARY names the library of
+tools/refusing.py.
+
+A call that is refused raises MemoryError, leaves its locale as it was, and leaves no block behind. The requests of Python
+itself are not refused. It prints how many cases were as wanted; the status is 0 if all were."""
+
+import ctypes
+import os
+import pickle
+import sys
+
+from icu_locale_c import Locale, Mode, check, compare, normalize, normalizing_eq, strict_cmp
+
+HOOKS = ctypes.CDLL(os.environ["ICU_LOCALE_LIBRARY"])
+HOOKS.refusing_after.argtypes = (ctypes.c_long,)
+for name in ("refusing_refused", "refusing_requests", "refusing_live"):
+    getattr(HOOKS, name).restype = ctypes.c_long
+
+STARTS = [
+    "und",
+    "en",
+    "en-aaaaa-bbbbb-ccccc-ddddd",
+    "en-aaaaa-bbbbb-ccccc-ddddd-eeeee-a-foo-t-de-m0-abc-abcdefgh-u-aaa-bbb-ccc-ddd-eee-ca-roc-nu-latn-x-a-b-c-d-e",
+]
+LONG = "de-aaaaa-bbbbb-ccccc-ddddd-eeeee-b-foo-t-und-m0-abc-u-aaa-ca-aaa-bbb-ccc-ddd-eee-co-phonebk-x-a-b-c-d-e"
+CALLS = [
+    lambda _: Locale(LONG),
+    lambda it: it.normalizing_eq(LONG),
+    lambda it: pickle.loads(pickle.dumps(it)),
+    lambda it: it.replace(language="fr", script="Latn", region="GB"),
+    lambda it: it.replace(variants=["aaaaa", "bbbbb", "ccccc", "ddddd", "eeeee", "posix"]),
+    lambda it: it.replace(keywords={"ca": "buddhist", "nu": "aaa-bbb-ccc-ddd-eee", "hc": "h12"}),
+    lambda it: it.replace(attributes=["foo", "bar"]),
+    lambda it: it.replace(transform_language="de-aaaaa-bbbbb-ccccc-ddddd-eeeee"),
+    lambda it: it.replace(fields={"h0": "aaa-bbb-ccc-ddd-eee", "m0": "din"}),
+    lambda it: it.replace(private="x-a-b-c-d-e-f"),
+    lambda _: normalize(LONG),
+    lambda _: check(LONG),
+    lambda _: strict_cmp(LONG, LONG),
+    lambda _: normalizing_eq("en-x-a-b-c-d-e-f", LONG),
+    lambda _: compare(LONG, LONG),
+    lambda _: normalizing_eq("en-u-sd-usca", "en-us-u-sd-usca", Mode.DATA_LOCALE),
+]
+# Reading, comparing and hashing make no request.
+QUIET = [
+    lambda it, _: (str(it), it.base_name, it.language, it.script, it.region, it.variants, it.attributes, it.is_und),
+    lambda it, _: (dict(it.keywords), it.transform_language, dict(it.fields), it.private),
+    lambda it, other: (it == other, it < other, hash(it), it.strict_cmp(LONG)),
+]
+
+
+def is_out_of_memory(call, it):
+    """Whether the call says that it is out of memory."""
+    try:
+        call(it)
+    except MemoryError:
+        return True
+    return False
+
+
+def refuse_each(start, number, call):
+    """Refuses each request of the call, and returns how many cases there were, and what is wrong."""
+    granted, is_refused = 0, True
+    while is_refused:
+        before = HOOKS.refusing_live()
+        it = Locale(start)
+        held = HOOKS.refusing_live()
+        HOOKS.refusing_after(granted)
+        told = is_out_of_memory(call, it)
+        is_refused = HOOKS.refusing_refused() > 0
+        HOOKS.refusing_after(-1)
+        if (told, str(it), HOOKS.refusing_live()) != (is_refused, start, held):
+            return granted, [f"call {number} of {start}, request {granted}: out of memory {told}, {it}"]
+        del it
+        if HOOKS.refusing_live() != before:
+            return granted, [f"call {number} of {start}, request {granted}: a block is left"]
+        granted += 1
+    return granted, []
+
+
+def ask_nothing(start, number, call):
+    it, other = Locale(start), Locale(LONG)
+    HOOKS.refusing_after(0)
+    call(it, other)
+    requests = HOOKS.refusing_requests()
+    HOOKS.refusing_after(-1)
+    return 1, [f"quiet call {number} of {start} makes requests"] if requests else []
+
+
+def main():
+    tried = [refuse_each(start, at, call) for start in STARTS for at, call in enumerate(CALLS)]
+    tried += [ask_nothing(start, at, call) for start in STARTS for at, call in enumerate(QUIET)]
+    wrong = [it for _, told in tried for it in told]
+    print("\n".join(wrong) or f"{sum(number for number, _ in tried)} cases as wanted")
+    return bool(wrong)
+
+
+sys.exit(main())
