@@ -42,18 +42,8 @@ pub fn attributes(alloc: Global, text: &str, out: &mut String) -> Result<(), Par
 
 /// Says the fields that the text begins with, and the first piece that is left.
 pub fn fields(alloc: Global, text: &str, out: &mut String) -> Result<(), ParseError> {
-    let mut fields = Fields::new(alloc);
-    fill(alloc, &mut fields, text, out)
-}
-
-/// The same, in fields that the caller owns.
-fn fill(
-    alloc: Global,
-    fields: &mut Fields,
-    text: &str,
-    out: &mut String,
-) -> Result<(), ParseError> {
     let mut pieces = SubtagIterator::new(text.as_bytes());
+    let mut fields = Fields::new(alloc);
     fields.fill_front(alloc, &mut pieces)?;
     write!(out, "{fields} ")?;
     rest(&pieces, out)?;
