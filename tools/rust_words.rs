@@ -1,4 +1,4 @@
-//! The calls of `test_words_bench` over the Rust crate, which tools/benchmark --words builds and measures:
+//! The calls of the rows `bench-CALL` of `test_locale_rows` over the Rust crate, which tools/benchmark --words builds and measures:
 //! `rust_words CALL ROUNDS` makes so many calls and prints the same checksum.
 
 use icu_locale_core::subtags::{Language, Subtag};

@@ -11,11 +11,13 @@
 //! - `lists LOCALE`: its variants and its keywords.
 //! - `clear LOCALE PART`: the locale without its identifier (`id`), its extensions, or all.
 //! - `asks LOCALE`: the keywords of the hour cycle and of the scripts that a dictionary leaves out.
+//! - `load LOCALE`: the payloads of what the locale prefers, by its language and by its region.
 //!
 //! Other calls take a text in place of a locale:
 //!
 //! - `extension TEXT`, `attributes TEXT`, `fields TEXT`: the part that the text begins with, and what is left.
 //! - `kinds TEXT`: a subtag as a language, a script and a region.
+//! - `payload TEXT PAYLOAD`: the data locale of the text has this payload from now on.
 //!
 //! After the lines come what the program `locale_normal` answers, and what a row of old raw forms is carried to.
 #![tactic(auto)]
@@ -25,10 +27,13 @@ mod keywords;
 mod kinds;
 mod others;
 mod parts;
+mod providing;
 mod texts;
 
 use icu_locale_core::{Locale, ParseError};
+use providing::Payloads;
 use std::alloc::Global;
+use std::collections::HashMap;
 use std::io;
 
 /// The answer to a call on a locale.
@@ -37,6 +42,7 @@ fn called(
     call: &str,
     locale: &mut Locale,
     words: &[&str],
+    payloads: &Payloads<'_>,
     out: &mut String,
 ) -> Result<(), ParseError> {
     match (call, words) {
@@ -52,50 +58,77 @@ fn called(
         ("lists", []) => texts::lists(locale, out),
         ("clear", [part]) => texts::clear(locale, part, out),
         ("asks", []) => keywords::asks(alloc, locale, out),
+        ("load", []) => providing::say(locale, payloads, out),
         _ => Ok(out.push_str("no such call")?),
     }
 }
 
 /// The answer to the words of a line, or why its text is no locale.
-fn answer_words(alloc: Global, words: &[&str], out: &mut String) -> Result<(), ParseError> {
-    let [call, text, others @ ..] = words else {
-        return Ok(out.push_str("no such call")?);
-    };
-    match *call {
-        "extension" => parts::extension(alloc, text, out),
-        "attributes" => parts::attributes(alloc, text, out),
-        "fields" => parts::fields(alloc, text, out),
-        "kinds" => kinds::say(text, out),
-        _ => {
+fn answer_words<'a>(
+    alloc: Global,
+    words: &[&'a str],
+    payloads: &mut Payloads<'a>,
+    out: &mut String,
+) -> Result<(), ParseError> {
+    match words {
+        ["extension", text] => parts::extension(alloc, text, out),
+        ["attributes", text] => parts::attributes(alloc, text, out),
+        ["fields", text] => parts::fields(alloc, text, out),
+        ["kinds", text] => kinds::say(text, out),
+        ["payload", text, payload] => providing::put(payloads, text, payload, out),
+        [call, text, others @ ..] => {
             let mut locale = Locale::try_from_str(alloc, text)?;
-            called(alloc, call, &mut locale, others, out)
+            called(alloc, call, &mut locale, others, payloads, out)
         }
+        _ => Ok(out.push_str("no such call")?),
     }
 }
 
 /// The answer to a line.
-fn answer(alloc: Global, line: &str, out: &mut String) -> Result<(), ParseError> {
+fn answer<'a>(
+    alloc: Global,
+    line: &'a str,
+    payloads: &mut Payloads<'a>,
+    out: &mut String,
+) -> Result<(), ParseError> {
     let words = line.split(' ').collect::<Vec<&str>>(alloc)?;
-    answer_words(alloc, words.as_slice(), out)
+    answer_words(alloc, words.as_slice(), payloads, out)
 }
 
-fn main(rt: HostRuntime) -> anyhow::Result<()> {
-    let alloc = rt.alloc();
-    let input = io::read_to_string(alloc, rt.reader())?;
-    let mut out = String::new(alloc);
-    for line in input.as_str().lines() {
+/// Answers each of the lines.
+fn answer_all<'a>(
+    rt: HostRuntime,
+    lines: &'a str,
+    payloads: &mut Payloads<'a>,
+    out: &mut String,
+) -> anyhow::Result<()> {
+    for line in lines.lines() {
         out.clear();
-        match answer(alloc, line, &mut out) {
+        match answer(rt.alloc(), line, payloads, out) {
             Ok(()) => println!(rt; "{out}")?,
             Err(ParseError::OutOfMemory) => return Err(ParseError::OutOfMemory.into()),
             Err(refusal) => println!(rt; "refused: {refusal}")?,
         }
     }
-    others::normalize(alloc, "EN-us\nen-\n", &mut out)?;
+    Ok(())
+}
+
+/// Says what the program `locale_normal` answers, and what rows of old raw forms are carried to.
+fn end(rt: HostRuntime, out: &mut String) -> anyhow::Result<()> {
+    others::normalize(rt.alloc(), "EN-us\nen-\n", out)?;
     print!(rt; "{out}")?;
     for row in ["en\0und", "en\0EN\0", "en"] {
-        others::carry(alloc, row, &mut out)?;
+        others::carry(rt.alloc(), row, out)?;
         println!(rt; "{out}")?;
     }
     Ok(())
+}
+
+fn main(rt: HostRuntime) -> anyhow::Result<()> {
+    let alloc = rt.alloc();
+    let input = io::read_to_string(alloc, rt.reader())?;
+    let mut payloads = HashMap::new(alloc);
+    let mut out = String::new(alloc);
+    answer_all(rt, input.as_str(), &mut payloads, &mut out)?;
+    end(rt, &mut out)
 }

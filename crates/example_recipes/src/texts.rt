@@ -2,17 +2,29 @@
 use icu_locale_core::json::TextValue;
 use icu_locale_core::writeable::{Sink, Writeable};
 use icu_locale_core::{Locale, ParseError};
-use std::alloc::Global;
+use std::alloc::{AllocError, Global};
+use std::borrow::CowStr;
 use std::fmt::{self, Write};
 
 /// Says the text of the locale, that of its identifier, and that of its language.
 pub fn say(alloc: Global, locale: &Locale, out: &mut String) -> Result<(), ParseError> {
     let id = &locale.id;
-    let whole = locale.write_to_string(alloc)?;
-    let front = id.write_to_string(alloc)?;
+    put(locale.write_to_string(alloc), out)?;
+    put(id.write_to_string(alloc), out)?;
     let language = id.language.write_text(alloc)?;
-    write!(out, "{whole}, {front}, {language}")?;
+    write!(out, "{language}")?;
     Ok(())
+}
+
+/// Says a printed text, and a comma after it. Only here it is owned.
+fn put(
+    printed: Result<CowStr<'_, Global>, AllocError>,
+    out: &mut String,
+) -> Result<(), AllocError> {
+    match printed {
+        Ok(text) => Ok(write!(out, "{text}, ")?),
+        Err(error) => Err(error),
+    }
 }
 
 /// Writes the locale between brackets, to a sink of any kind.

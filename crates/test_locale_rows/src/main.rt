@@ -2,7 +2,8 @@
 //! in, a line out. The first word of a call is the type that the first argument is parsed as, the second what is asked of
 //! it: `locale-cmp`. `two-TYPE` reads both arguments and compares them, `change-TYPE` takes the steps of the second
 //! argument on the first, `made-TYPE` makes a value of parts and asks the second of it, and `text-CALL` is a call of a
-//! text. Calls of parts of extensions are rows of `test_part_rows`.
+//! text. The calls of JSON, of old raw forms and of refusals stand in `json`, those to be timed in `bench`. Calls of
+//! parts of extensions are rows of `test_part_rows`.
 //!
 //! An answer is the printed text, or what each call says. A refusal is `! ` and its words. Calls that change a value,
 //! and those that may allocate, say what it was, the answer, and what it is, joined by ` | `; of several steps the
@@ -15,10 +16,13 @@
 //! those that take none.
 #![tactic(auto)]
 
+mod bench;
 mod built;
 mod changes;
 mod identifiers;
+mod json;
 mod locales;
+mod refusals;
 mod texts;
 
 use iloc_data::DataLocale;
@@ -47,6 +51,8 @@ impl Asking for Rows {
             "data" => answer::<Rows, DataLocale>(ask, call, out),
             "subdivision" => answer::<Rows, SubdivisionId>(ask, call, out),
             "extensions" => answer::<Rows, Extensions>(ask, call, out),
+            "to" | "from" | "each" | "io" | "carry" | "error" => json::answer(what, call, out),
+            "bench" => bench::answer(ask, call, out),
             _ => say(out, "no call"),
         }
     }

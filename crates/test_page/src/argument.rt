@@ -2,7 +2,8 @@
 //!
 //! `{KIND.FIRST.LAST.TEXT}` stands for items from FIRST to LAST, upwards or downwards, each a hyphen and a word of the
 //! kind and then TEXT: `n` five digits, `u` the unicode keys `0a`, `0b` .. `zz`, `t` the transform keys `a0` .. `z9`,
-//! `r` neither hyphen nor word. So `en-x{r.1.3000.-a}` is `en-x` and 3,000 times `-a`.
+//! `r` neither hyphen nor word. So `en-x{r.1.3000.-a}` is `en-x` and 3,000 times `-a`. A brace before anything else is as
+//! it looks.
 use crate::say;
 use std::str;
 
@@ -95,16 +96,30 @@ fn put_short(room: &mut String, form: &str) {
     )
 }
 
+// The short form that the text after a brace begins with, and what follows it.
+fn short_form(text: &str) -> Option<(&str, &str)> {
+    let (form, rest) = text.split_once('}')?;
+    match form.split_once('.') {
+        Some(("n" | "u" | "t" | "r", _)) => Some((form, rest)),
+        _ => None,
+    }
+}
+
 /// Puts into the room what the argument stands for, without its short forms.
 pub fn expand(argument: &str, room: &mut String) {
     room.clear();
-    for piece in argument.split('{') {
-        match piece.split_once('}') {
+    let mut pieces = argument.split('{');
+    say(room, pieces.next().unwrap_or(""));
+    for piece in pieces {
+        match short_form(piece) {
             Some((form, rest)) => {
                 put_short(room, form);
                 say(room, rest)
             }
-            None => say(room, piece),
+            None => {
+                say(room, "{");
+                say(room, piece)
+            }
         }
     }
 }

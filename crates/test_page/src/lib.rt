@@ -1,10 +1,10 @@
 //! What programs of rows share: `test_page`. A row is `CALL TAB argument TAB argument` in, and one line out.
 //!
 //! Here stand how rows are read and their page is made (`rows`, `argument`), what is asked of any type that is read
-//! (`told`, `steps`), and what is said. In an argument `\xFF` stands for the byte, and braces for what repeats; all
-//! else is as it looks. Nothing that says something fails: the page has its room before the first row, and what finds
-//! none is left out, so that the row is wrong. Only generic functions own what was parsed, so that dropping it is
-//! proved but once. It stands on the words' refusals and on printing.
+//! (`told`, `steps`), and what is said. In an argument `\xFF` stands for the byte, and a short form between braces for
+//! what repeats (`argument`); all else is as it looks. Nothing that says something fails: the page has its room before
+//! the first row, and what finds none is left out, so that the row is wrong. Only generic functions own what was parsed,
+//! so that dropping it is proved but once. It stands on the words' refusals and on printing.
 #![tactic(auto)]
 
 pub mod argument;

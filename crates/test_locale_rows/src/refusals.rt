@@ -1,19 +1,39 @@
-//! What each refusal prints, and its words, which are the same.
+//! What each refusal prints, and its words, which are the same; and old raw forms, which are carried or refused.
 use iloc_json::JsonError;
 use iloc_program::{RunError, ending};
-use iloc_subtags::{CarryError, ParseError};
+use iloc_subtags::{CarryError, ParseError, carry_v1};
+use std::alloc::Global;
 use std::error::Error;
 use std::fmt::Write;
-use test_page::say;
+use test_page::{bytes, number, say};
 
-/// What the refusal prints, and its words.
+/// Says the row of new raw forms; whether memory was there.
+pub fn carried(alloc: Global, row: &[u8], out: &mut String) -> bool {
+    match carry_v1(alloc, row) {
+        Ok(carried) => {
+            bytes(out, carried.as_slice());
+            true
+        }
+        Err(error) => {
+            say(out, "! ");
+            say(out, error.words());
+            if let CarryError::Word(place) = error {
+                say(out, " | ");
+                number(out, place);
+            }
+            error != CarryError::OutOfMemory
+        }
+    }
+}
+
+// What the refusal prints, and its words.
 fn shown<E: Error>(out: &mut String, error: &E, words: &str) {
     let _ = write!(out, "{error}");
     say(out, " | ");
     say(out, words);
 }
 
-/// Why a text is refused, by the name of the case.
+// Why a text is refused, by the name of the case.
 fn parse_error(case: &str) -> ParseError {
     match case {
         "InvalidLanguage" => ParseError::InvalidLanguage,
@@ -24,7 +44,7 @@ fn parse_error(case: &str) -> ParseError {
     }
 }
 
-/// Why a JSON value is refused; a case that is not its own is one of what it passes on.
+// Why a JSON value is refused; a case that is not its own is one of what it passes on.
 fn json_error(case: &str) -> JsonError {
     match case {
         "NotText" => JsonError::NotText,
@@ -33,7 +53,7 @@ fn json_error(case: &str) -> JsonError {
     }
 }
 
-/// Why a row of raw forms is refused.
+// Why a row of raw forms is refused.
 fn carry_error(case: &str) -> CarryError {
     match case {
         "Length" => CarryError::Length,
@@ -42,7 +62,7 @@ fn carry_error(case: &str) -> CarryError {
     }
 }
 
-/// Why the program stopped.
+// Why the program stopped.
 fn run_error(case: &str) -> RunError {
     match case {
         "Read" => RunError::Read,
@@ -51,7 +71,7 @@ fn run_error(case: &str) -> RunError {
     }
 }
 
-/// What the program's refusal prints, and what the program writes of it.
+// What the program's refusal prints, and what the program writes of it.
 fn ended(out: &mut String, outcome: &Result<(), RunError>) {
     let (text, _) = ending(Some(outcome));
     if let Err(error) = outcome {
@@ -59,7 +79,7 @@ fn ended(out: &mut String, outcome: &Result<(), RunError>) {
     }
 }
 
-/// What the refusal of the type prints, and its words. There is memory.
+/// Says what the refusal of the type prints, and its words. There is memory.
 pub fn told(kind: &str, case: &str, out: &mut String) -> bool {
     match kind {
         "parse" => {

@@ -1,11 +1,7 @@
 //! Payloads keyed by data locales, and loaded along a chain of fallbacks.
 //!
-//! A line `LOCALE TAB PAYLOAD` of the input gives a data locale its payload. A line `LOCALE` asks for the payloads of
-//! what the locale prefers: by its language, and by its region, where `rg` stands in the place of its region. What has
-//! no payload is looked for without what matters least (UTS #35, "Locale Inheritance and Matching"): by language
+//! What has no payload is looked for without what matters least (UTS #35, "Locale Inheritance and Matching"): by language
 //! without the parts from the last one on, by region without variant, and then without language and script.
-#![tactic(auto)]
-
 ghost use Rattle.std.specs.Prelude.{◌≡◌, ◌↔◌, IfSome, IsNone, Some};
 ghost use Rattle.std.specs.HashMap.{ContainsKey, get};
 ghost use Rattle.icu_locale_core.specs.DataEquality.{same_key};
@@ -14,13 +10,11 @@ ghost use Rattle.icu_locale_core.specs.DataValue.{unknown_data, value_of};
 use icu_locale_core::preferences::LocalePreferences;
 use icu_locale_core::subtags::Language;
 use icu_locale_core::{DataLocale, Locale, ParseError};
-use std::alloc::{AllocError, Global};
 use std::collections::HashMap;
 use std::fmt::Write;
-use std::io;
 
 /// Payloads by data locales.
-type Payloads<'a> = HashMap<DataLocale, &'a str>;
+pub type Payloads<'a> = HashMap<DataLocale, &'a str>;
 
 /// A data locale, and the payload that it has.
 type Found<'a> = (DataLocale, &'a str);
@@ -63,61 +57,28 @@ fn load<'a>(payloads: &Payloads<'a>, locale: DataLocale, by_region: bool) -> Opt
 }
 
 /// Gives the data locale of the text this payload.
-fn put<'a>(payloads: &mut Payloads<'a>, text: &str, payload: &'a str) -> Result<(), ParseError> {
+pub fn put<'a>(
+    payloads: &mut Payloads<'a>,
+    text: &str,
+    payload: &'a str,
+    out: &mut String,
+) -> Result<(), ParseError> {
     let locale = DataLocale::try_from_str(text)?;
     match payloads.insert(locale, payload) {
-        Ok(_) => Ok(()),
+        Ok(_) => Ok(write!(out, "{payload} at {locale}")?),
         Err(_) => Err(ParseError::OutOfMemory),
     }
 }
 
-/// Says what is loaded for these preferences, by language and by region; what has no payload is not said.
-fn say(out: &mut String, from: &Payloads<'_>, asked: LocalePreferences) -> Result<(), AllocError> {
+/// Says what is loaded for the locale, by language and by region, where `rg` stands in the place of its region; what has
+/// no payload is not said.
+pub fn say(locale: &Locale, from: &Payloads<'_>, out: &mut String) -> Result<(), ParseError> {
+    let asked = LocalePreferences::from(locale);
     if let Some(found) = load(from, asked.to_data_locale_language_priority(), false) {
-        writeln!(out, "  by language: {} at {}", found.1, found.0)?;
+        write!(out, "by language: {} at {}; ", found.1, found.0)?;
     }
     if let Some(found) = load(from, asked.to_data_locale_region_priority(), true) {
-        writeln!(out, "  by region: {} at {}", found.1, found.0)?;
+        write!(out, "by region: {} at {}", found.1, found.0)?;
     }
-    Ok(())
-}
-
-/// Says what is loaded for the locale of the text.
-fn answer(
-    alloc: Global,
-    out: &mut String,
-    from: &Payloads<'_>,
-    text: &str,
-) -> Result<(), ParseError> {
-    let locale = Locale::try_from_str(alloc, text)?;
-    Ok(say(out, from, LocalePreferences::from(&locale))?)
-}
-
-/// Takes in the payloads and answers the other lines, in order.
-fn answer_all<'a>(
-    alloc: Global,
-    out: &mut String,
-    payloads: &mut Payloads<'a>,
-    lines: &'a str,
-) -> Result<(), ParseError> {
-    for line in lines.lines() {
-        match line.split_once('\t') {
-            Some((text, payload)) => put(payloads, text, payload)?,
-            None => {
-                writeln!(out, "{line}")?;
-                answer(alloc, out, payloads, line)?;
-            }
-        }
-    }
-    Ok(())
-}
-
-fn main(rt: HostRuntime) -> anyhow::Result<()> {
-    let alloc = rt.alloc();
-    let input = io::read_to_string(alloc, rt.reader())?;
-    let mut payloads = HashMap::new(alloc);
-    let mut out = String::new(alloc);
-    answer_all(alloc, &mut out, &mut payloads, input.as_str())?;
-    print!(rt; "{out}")?;
     Ok(())
 }

@@ -1,8 +1,6 @@
-//! Times reading and comparing words, and reading and printing identifiers, locales and data locales by value:
-//! `test_words_bench CALL ROUNDS` makes so many calls and prints a checksum, and whoever runs it takes the time.
+//! Calls to be timed: words that are parsed and compared, and identifiers, locales and data locales that are parsed and
+//! printed by value. `bench-CALL ROUNDS` makes so many calls and says a checksum; whoever runs it takes the time.
 //! `tools/benchmark --words` runs the same calls of the Rust crate beside them (tools/rust_words.rs).
-#![tactic(auto)]
-
 use iloc_data::DataLocale;
 use iloc_langid::LanguageIdentifier;
 use iloc_locale::Locale;
@@ -10,8 +8,8 @@ use iloc_subtags::{Language, Subtag};
 use iloc_writeable::Writeable;
 use std::alloc::Global;
 use std::cmp::Ordering;
-use std::io;
-use std::rt::Env;
+use test_page::argument::number_of;
+use test_page::{Ask, Call, number, say};
 
 const TEXTS: [&str; 4] = ["en", "DEU", "sr", "und"];
 
@@ -32,7 +30,7 @@ const NORMAL_IDENTIFIERS: [&str; 4] = ["en", "en-US", "sr-Latn-RS", "ca-ES-valen
 
 const NORMAL_LOCALES: [&str; 4] = ["en-GB", "en-US", "ar-u-nu-latn", "zh-Hant-TW"];
 
-/// The lengths of what is read, summed.
+// The lengths of what is read, summed.
 fn read_languages(rounds: u32) -> usize {
     let mut sum = 0usize;
     for i in 0..rounds {
@@ -55,7 +53,7 @@ fn read_subtags(rounds: u32) -> usize {
     sum
 }
 
-/// The words of the texts.
+// The words of the texts.
 fn words() -> [Language; 4] {
     let mut words = [Language::unknown(); 4];
     for i in 0..4 {
@@ -66,7 +64,7 @@ fn words() -> [Language; 4] {
     words
 }
 
-/// How many words are less than another.
+// How many words are less than another.
 fn compare(rounds: u32) -> usize {
     let words = words();
     let mut less = 0usize;
@@ -106,7 +104,7 @@ fn match_texts(rounds: u32) -> usize {
     same
 }
 
-/// The length of the printed text.
+// The length of the printed text.
 fn printed_length<T: Writeable>(alloc: Global, value: &T) -> usize {
     match value.write_to_string(alloc) {
         Ok(text) => text.len(),
@@ -114,7 +112,7 @@ fn printed_length<T: Writeable>(alloc: Global, value: &T) -> usize {
     }
 }
 
-/// The lengths of the texts of what is read, summed.
+// The lengths of the texts of what is read, summed.
 fn print_identifiers(alloc: Global, rounds: u32) -> usize {
     let mut sum = 0usize;
     for i in 0..rounds {
@@ -145,7 +143,7 @@ fn print_data_locales(alloc: Global, rounds: u32) -> usize {
     sum
 }
 
-/// The lengths of the normal texts of texts that are normal, summed. None is copied.
+// The lengths of the normal texts of texts that are normal, summed. None is copied.
 fn normalize_identifiers(alloc: Global, rounds: u32) -> usize {
     let mut sum = 0usize;
     for i in 0..rounds {
@@ -167,7 +165,7 @@ fn normalize_locales(alloc: Global, rounds: u32) -> usize {
     sum
 }
 
-/// The checksum of so many calls.
+// The checksum of so many calls.
 fn checksum(alloc: Global, call: &str, rounds: u32) -> Option<usize> {
     match call {
         "read_language" => Some(read_languages(rounds)),
@@ -184,21 +182,14 @@ fn checksum(alloc: Global, call: &str, rounds: u32) -> Option<usize> {
     }
 }
 
-/// The argument at a place, if it is a text of at most 16 bytes.
-fn argument<'a>(rt: &impl Env, place: usize, buffer: &'a mut [u8; 16]) -> Option<&'a str> {
-    let length = rt.arg(place, buffer).ok()?;
-    str::from_utf8(&buffer[..length]).ok()
-}
-
-fn main(rt: HostRuntime) -> io::Result<()> {
-    let mut call = [0u8; 16];
-    let mut rounds = [0u8; 16];
-    let sum = argument(&rt, 1, &mut call).and_then(|call| {
-        let rounds = argument(&rt, 2, &mut rounds)?.parse::<u32>().ok()?;
-        checksum(rt.alloc(), call, rounds)
-    });
-    match sum {
-        Some(sum) => println!(rt; "{sum}"),
-        None => println!(rt; "test_words_bench CALL ROUNDS"),
+/// Says the checksum of so many calls.
+pub fn answer(asked: Ask<'_>, call: &Call<'_>, out: &mut String) {
+    let Ask::One(name) = asked else {
+        return say(out, "no call");
+    };
+    let rounds = u32::try_from(number_of(call.first)).unwrap_or(0);
+    match checksum(call.alloc, name, rounds) {
+        Some(sum) => number(out, sum),
+        None => say(out, "no call"),
     }
 }

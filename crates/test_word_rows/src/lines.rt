@@ -1,0 +1,144 @@
+//! Lines told at once. The contracts of `iloc_plain` let a parser say nothing, so a shape that silently went the old way
+//! would show nowhere else.
+//!
+//! `line-plain TEXT` says the normal text. In the other calls the second argument says how many bytes of the first are the
+//! line: `line-window` says the normal text, `line-front` what stands at the front, `line-keyword` what follows the
+//! singleton of the first block, and `line-ordered` of a line in the order of its normal text the plain identifier and
+//! the rest. A line of which nothing is said is `not told`.
+ghost use Rattle.std.specs.Prelude.{IfSome};
+ghost use Rattle.iloc_plain.specs.Plain.{AreWords};
+ghost use Rattle.iloc_plain.specs.Ordered.{IsStored};
+
+use iloc_plain::{
+    Block, Front, Keyword, Ordered, Plain, read_front, read_keyword, read_ordered, read_plain,
+    read_plain_text, read_varied,
+};
+use test_page::argument::number_of;
+use test_page::{bytes, number, say};
+
+// Says the normal text.
+fn normal(plain: &Plain, out: &mut String)
+    requires { AreWords plain.now }
+{
+    let mut room = [0u8; 16];
+    plain.store(&mut room);
+    bytes(out, room.get(..plain.len).unwrap_or(b""))
+}
+
+// Says the normal text of the whole text.
+fn plain(text: &[u8], out: &mut String) {
+    match read_plain_text(text) {
+        Some(plain) => normal(&plain, out),
+        None => say(out, "not told"),
+    }
+}
+
+// Says the normal text of the first bytes.
+fn window(text: &[u8], len: usize, out: &mut String) {
+    if text.len() < 16 || len > 16 {
+        return say(out, "not told");
+    }
+    match read_plain(text, len) {
+        Some(plain) => normal(&plain, out),
+        None => say(out, "not told"),
+    }
+}
+
+// What the first bytes begin with, if sixteen follow them at least.
+fn front_of(window: &[u8], len: usize) -> Front<'_> {
+    if window.len() < 16 || len > window.len() - 16 {
+        return Front::Other;
+    }
+    read_front(window, len)
+}
+
+// Says the block's first byte, how many bytes the line has from there on, and whether variants stand before it.
+fn block(block: &Block<'_>, out: &mut String) {
+    say(out, "block ");
+    bytes(out, block.window.get(..1).unwrap_or(b""));
+    say(out, " ");
+    number(out, block.len);
+    say(
+        out,
+        if block.is_first {
+            " first"
+        } else {
+            " after variants"
+        },
+    )
+}
+
+// Says what stands at the front.
+fn front(window: &[u8], len: usize, out: &mut String) {
+    match front_of(window, len) {
+        Front::NoLanguage => say(out, "no language"),
+        Front::Misfit => say(out, "misfit"),
+        Front::Block(found) => block(&found, out),
+        Front::Variants(tail) => {
+            say(out, "variants ");
+            number(out, tail)
+        }
+        Front::Other => say(out, "not told"),
+    }
+}
+
+// What follows the singleton of the first block, if sixteen bytes follow the line at least.
+fn keyword_of(window: &[u8], len: usize) -> Keyword {
+    match front_of(window, len) {
+        Front::Block(block) if block.window.len() >= 16 && block.len <= block.window.len() - 16 => {
+            read_keyword(block)
+        }
+        _ => Keyword::Other,
+    }
+}
+
+// Says what follows the singleton of the first block.
+fn keyword(window: &[u8], len: usize, out: &mut String) {
+    say(
+        out,
+        match keyword_of(window, len) {
+            Keyword::Attribute => "attribute",
+            Keyword::Misfit => "misfit",
+            Keyword::Single => "single",
+            Keyword::Other => "not told",
+        },
+    )
+}
+
+// What is told of a line in the order of its normal text, if sixteen bytes follow the line at least.
+fn ordered_of(window: &[u8], len: usize) -> Option<Ordered<'_>>
+    ensures { IfSome result IsStored }
+{
+    if window.len() < 16 || len > window.len() - 16 {
+        return None;
+    }
+    match read_front(window, len) {
+        Front::Block(block) => read_ordered(window, len, len.wrapping_sub(block.tail.wrapping_add(1))),
+        Front::Variants(tail) => read_varied(window, len, len.wrapping_sub(tail.wrapping_add(1))),
+        _ => None,
+    }
+}
+
+// Says the normal text of the plain identifier, and what follows it in the line.
+fn ordered(window: &[u8], len: usize, out: &mut String) {
+    match ordered_of(window, len) {
+        Some(line) => {
+            normal(&line.plain, out);
+            say(out, " ");
+            bytes(out, line.rest.get(..line.len).unwrap_or(b""))
+        }
+        None => say(out, "not told"),
+    }
+}
+
+/// The answer to a call.
+pub fn answer(what: &str, text: &[u8], len: &[u8], out: &mut String) {
+    match what {
+        "plain" => plain(text, out),
+        "window" => window(text, number_of(len), out),
+        "front" => front(text, number_of(len), out),
+        "keyword" => keyword(text, number_of(len), out),
+        "ordered" => ordered(text, number_of(len), out),
+        _ => say(out, "no call"),
+    }
+}
