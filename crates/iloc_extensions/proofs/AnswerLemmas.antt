@@ -15,7 +15,8 @@ use Rattle.iloc_spec_grammar.specs.ByBlocks.{OtherMeans, BlocksMean}
 use Rattle.iloc_spec_grammar.specs.Blocks.{is_one_byte, front, blocks}
 use Rattle.iloc_spec_grammar.specs.Faults as faults
 use Rattle.iloc_spec_grammar.specs.Faults.{FirstBadBlock}
-use Rattle.iloc_extensions.specs.Place.{byte_at}
+use Rattle.iloc_subtags.specs.NextPiece.{byte_at}
+use Rattle.iloc_subtags.proofs.ByteLemmas.{byte_first, no_byte}
 use Rattle.iloc_extensions.specs.Whole.{BlocksReadAs}
 use Rattle.iloc_extensions.proofs.DoneLaws.{turned}
 use Rattle.iloc_spec_grammar.specs.Reading.{passing, from_block, starts_block, rest_of}
@@ -34,7 +35,6 @@ use Rattle.iloc_extensions.specs.Blocks.{BlocksDone, BlockAt, BlockReads, is_rea
 use Rattle.iloc_extensions.proofs.PartAnswers.{UnicodeBlock, TransformBlock, OtherBlock}
 use Rattle.iloc_extensions.proofs.RoundLaws.{no_letter, met_before, unicode_done, unicode_bad, unicode_long, transform_done, transform_repeats, transform_bad, transform_long, other_done, other_bad, other_long, private_done, private_bad, private_long}
 use Rattle.std.proofs.lemmas.Bool.{not-false}
-use Rattle.iloc_spec_grammar.proofs.Singletons.{two_more}
 
 -- few words want no memory
 
@@ -194,21 +194,9 @@ whole_fails start rest more M InvalidExtension h = h
 whole_fails start rest more M DuplicatedExtension h = h
 whole_fails start rest more M OutOfMemory h = h
 
-pub byte_of : (ps : List (List ℕ)) (b : ℕ) → byte_at ps ≡ Some b → ps ≡ (b ∷ []) ∷ rest_of ps
-byte_of [] b e = absurd (cc)
-byte_of ([] ∷ ps) b e = absurd (cc)
-byte_of ((c ∷ []) ∷ ps) b e = ap (λ n. (n ∷ []) ∷ ps) (cc)
-byte_of ((c ∷ d ∷ p) ∷ ps) b e = absurd (cc)
-
-pub no_byte : (ps : List (List ℕ)) → starts_block ps ≡ true → byte_at ps ≡ None → ps ≡ []
-no_byte [] s e = refl
-no_byte ([] ∷ ps) s e = absurd (true≢false (sym s))
-no_byte ((c ∷ []) ∷ ps) s e = absurd (cc)
-no_byte ((c ∷ d ∷ p) ∷ ps) s e = absurd (true≢false (sym s ∙ two_more (length p)))
-
 -- the loop goes on after a byte
-pub goes_on : {start : List (List ℕ)} {M : Extensions} (now rest : List (List ℕ)) (b : ℕ) → BlocksDone languages start now M → byte_at now ≡ Some b → rest ≡ rest_of now → BlocksDone languages start ((b ∷ []) ∷ rest) M
-goes_on {start = start} {M = M} now rest b d e r = subst (λ (l : List (List ℕ)). BlocksDone languages start l M) (byte_of now b e ∙ ap (λ (l : List (List ℕ)). (b ∷ []) ∷ l) (sym r)) d
+pub goes_on : {start : List (List ℕ)} {M : Extensions} (now rest : List (List ℕ)) (b : ℕ) → BlocksDone languages start now M → Some b ≡ byte_at now → rest ≡ rest_of now → BlocksDone languages start ((b ∷ []) ∷ rest) M
+goes_on {start = start} {M = M} now rest b d e r = subst (λ (l : List (List ℕ)). BlocksDone languages start l M) (byte_first now rest b e r) d
 
-pub stops : (start now : List (List ℕ)) (M : Extensions) → BlocksDone languages start now M → byte_at now ≡ None → BlocksMean languages (blocks start) M
+pub stops : (start now : List (List ℕ)) (M : Extensions) → BlocksDone languages start now M → None ≡ byte_at now → BlocksMean languages (blocks start) M
 stops start now M d e = all_done start M (subst (λ (l : List (List ℕ)). BlocksDone languages start l M) (no_byte now d.begins e) d)

@@ -1,19 +1,18 @@
 //! Parses the blocks after the head of a locale.
 ghost use Rattle.std.specs.Prelude.{◌≡◌, ◌∷◌, ℕ, List, [], true, ◌≤◌, length, OnOk};
 ghost use Rattle.iloc_spec_grammar.specs.Shapes.{Text};
-ghost use Rattle.iloc_spec_grammar.specs.Reading.{starts_block, rest_of};
+ghost use Rattle.iloc_spec_grammar.specs.Reading.{starts_block};
 ghost use Rattle.iloc_spec_grammar.specs.Words.{languages};
 ghost use Rattle.iloc_spec_grammar.specs.Meaning.{no_extensions};
 ghost use Rattle.iloc_subtags.specs.Left.{left};
 ghost use Rattle.iloc_extensions.specs.ExtensionsValue.{value_of};
 ghost use Rattle.iloc_extensions.specs.Blocks.{BlocksDone, BlockReads, is_read};
-ghost use Rattle.iloc_extensions.specs.Place.{byte_at};
 ghost use Rattle.iloc_extensions.specs.Whole.{BlocksReadAs};
 
 use crate::Extensions;
 use crate::others::has_other;
 use crate::taking::{take_other, take_private, take_transform, take_unicode};
-use iloc_subtags::{ParseError, SubtagIterator};
+use iloc_subtags::{ParseError, SubtagIterator, take_byte};
 use std::alloc::Global;
 
 /// Parses all the blocks that are left into empty extensions.
@@ -36,18 +35,6 @@ pub fn read_blocks(
         read_block(alloc, byte, iter, extensions)?;
     }
     Ok(())
-}
-
-// Takes the next piece, and returns its byte if it has just one.
-fn take_byte(iter: &mut SubtagIterator<'_>) -> Option<u8>
-    ensures byte { result ≡ byte_at (left iter.old) }
-    ensures rest { left iter.new ≡ rest_of (left iter.old) }
-{
-    let piece = iter.next()?;
-    match piece {
-        [byte] => Some(*byte),
-        _ => None,
-    }
 }
 
 // Parses the block after a byte that was taken. It stands apart, so that a text without blocks pays nothing for it.

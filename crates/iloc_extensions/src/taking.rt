@@ -4,7 +4,6 @@ ghost use Rattle.std.specs.Char.{to_ascii_lowercase};
 ghost use Rattle.std.specs.List.{list_any};
 ghost use Rattle.iloc_spec_grammar.specs.Shapes.{Text, code_t, code_u, code_x};
 ghost use Rattle.iloc_spec_grammar.specs.Meaning.{Extensions as Parts};
-ghost use Rattle.iloc_spec_grammar.specs.Reading.{starts_block};
 ghost use Rattle.iloc_spec_grammar.specs.Words.{languages};
 ghost use Rattle.iloc_spec_grammar.specs.Written.{is_other_singleton};
 ghost use Rattle.iloc_unicode.specs.UnicodeValue as unicode_value;
@@ -15,7 +14,7 @@ ghost use Rattle.iloc_extensions.specs.Blocks.{BlockAt, BlockReads};
 use crate::others::insert_other;
 use iloc_other::private::fill_private;
 use iloc_other::{Other, Private};
-use iloc_subtags::{ParseError, SubtagIterator};
+use iloc_subtags::{ParseError, SubtagIterator, is_at_block};
 use iloc_transform::Transform;
 use iloc_transform::transform::fill_transform;
 use iloc_unicode::Unicode;
@@ -99,14 +98,4 @@ pub(crate) fn take_other(
         return Err(ParseError::InvalidExtension);
     }
     insert_other(others, other)
-}
-
-// Whether nothing is left, or a block begins here.
-fn is_at_block(iter: &SubtagIterator<'_>) -> bool
-    ensures { result ≡ starts_block (left iter.now) }
-{
-    match iter.peek() {
-        Some(piece) => piece.len() == 1,
-        None => true,
-    }
 }

@@ -21,9 +21,17 @@ use Rattle.iloc_spec_grammar.proofs.ReadBack.{all_append}
 use Rattle.iloc_spec_parts.proofs.FrontLaws.{not_two_bytes, two_bytes_of, good_value, good_key, value_goes_on, keywords_read_of}
 use Rattle.iloc_litemap.proofs.Maps.{tied, map_of_more}
 use Rattle.iloc_unicode.specs.Reads.{has_many_values, KeywordsWantMemory, second_key, fifth_value}
+use Rattle.iloc_subtags.specs.Lengths.{has_length}
+use Rattle.iloc_subtags.specs.NextPiece.{next_has_length}
 use Rattle.iloc_subtags.proofs.TakingLemmas.{took, took_none}
 use Rattle.std.proofs.Math.Bool.{or-true}
 use Rattle.iloc_spec_grammar.proofs.ReadingLaws.{length-past}
+
+-- the next piece is as long as a key if it has two bytes
+pub two_bytes : (ps : List (List ℕ)) → next_has_length UnicodeKey ps ≡ is_two (first_piece ps)
+unfolding has_length
+two_bytes [] = refl
+two_bytes (p ∷ ps) = refl
 
 -- pieces after a key: its values, and then the next keywords
 

@@ -1,5 +1,5 @@
 -- Attributes and keywords, read one after the other, and the letter before them.
-use Rattle.std.proofs.Common.{◌≡◌, ℕ, suc, ◌+◌, ◌<◌, true, false, ◌&&◌, ◌==◌, List, [], ◌∷◌, length, map, refl, sym, ap, ◌∙◌, subst, arith, true≢false, Result, Ok, Err}
+use Rattle.std.proofs.Common.{◌≡◌, ℕ, suc, ◌+◌, ◌<◌, true, false, ◌&&◌, ◌==◌, List, [], ◌∷◌, length, map, refl, sym, ap, ◌∙◌, subst, arith, true≢false, Some, None, Result, Ok, Err}
 use Rattle.std.specs.Char.{to_ascii_lowercase}
 use Rattle.std.specs.FinMap.{put}
 use Rattle.std.specs.FinMap.Entries.{by_order}
@@ -17,9 +17,25 @@ use Rattle.iloc_spec_parts.specs.Fronts.{attributes_front, after_attributes, att
 use Rattle.iloc_spec_parts.specs.Parts.{begins_part, is_letter, no_singleton, after_singleton, UnicodeTextFault}
 use Rattle.iloc_subtags.specs.declared.parse_error.ParseError.{ParseError}
 use Rattle.iloc_subtags.specs.declared.parse_error.ParseError.TheVariants.{InvalidLanguage, InvalidSubtag, InvalidExtension, DuplicatedExtension, OutOfMemory}
+use Rattle.iloc_subtags.specs.NextPiece.{byte_at}
+use Rattle.iloc_subtags.proofs.ByteLemmas.{byte_first}
 use Rattle.iloc_unicode.specs.Reads.{KeywordsGive}
 use Rattle.iloc_unicode.specs.UnicodeReads.{UnicodeGives, UnicodeReadsAs, for_keywords}
 use Rattle.iloc_unicode.specs.declared.unicode.Unicode as shown
+
+-- the letter before the part, by the byte that is taken
+
+swapped : (n : ℕ) → (n == 117) ≡ (117 == n)
+swapped n = grind (arith, nat_tests)
+
+pub begins_at : (ps : List (List ℕ)) (b : ℕ) → Some b ≡ byte_at ps → (to_ascii_lowercase b == 117) ≡ begins_part (is_letter 117) ps
+begins_at ps b e = swapped (to_ascii_lowercase b) ∙ ap (begins_part (is_letter 117)) (sym (byte_first ps (rest_of ps) b e refl))
+
+pub begins_nowhere : (ps : List (List ℕ)) → None ≡ byte_at ps → begins_part (is_letter 117) ps ≡ false
+begins_nowhere [] e = refl
+begins_nowhere ([] ∷ ps) e = refl
+begins_nowhere ((b ∷ []) ∷ ps) e = cc
+begins_nowhere ((b ∷ d ∷ p) ∷ ps) e = refl
 
 -- what is empty
 

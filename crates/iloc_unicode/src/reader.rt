@@ -3,8 +3,7 @@ ghost use Rattle.std.specs.Prelude.{◌≡◌, ◌≤◌, ◌++◌, [], length, 
 ghost use Rattle.std.specs.Result.{result_and};
 ghost use Rattle.iloc_spec_grammar.specs.Shapes.{code_u};
 ghost use Rattle.iloc_spec_grammar.specs.Words.{Attribute, is_word};
-ghost use Rattle.iloc_spec_grammar.specs.Faults.{first_piece};
-ghost use Rattle.iloc_spec_grammar.specs.Reading.{is_two, rest_of};
+ghost use Rattle.iloc_spec_grammar.specs.Reading.{rest_of};
 ghost use Rattle.iloc_spec_parts.specs.Fronts.{attributes_read, after_attributes};
 ghost use Rattle.iloc_subtags.specs.Left.{left};
 ghost use Rattle.iloc_spec_parts.specs.Parts.{begins_part, is_letter};
@@ -14,7 +13,10 @@ ghost use Rattle.iloc_unicode.specs.UnicodeReads.{UnicodeGives};
 use crate::attributes::Attributes;
 use crate::keywords::Keywords;
 use crate::unicode::Unicode;
-use iloc_subtags::{AttributeKind, ParseError, SubtagIterator, UnicodeKeyKind, take_word};
+use iloc_subtags::{
+    AttributeKind, ParseError, SubtagIterator, UnicodeKeyKind, next_has_length, take_byte,
+    take_word,
+};
 use iloc_unicode_value::read_value;
 use iloc_word_set::{WordCollector, WordSet};
 use std::alloc::{AllocError, Global};
@@ -84,20 +86,10 @@ fn fill_keywords(
         let value = read_value(alloc, iter)?;
         keywords.add(alloc, key, value)?;
     }
-    if has_two_bytes(iter) {
+    if next_has_length::<UnicodeKeyKind, 2>(iter) {
         return Err(ParseError::InvalidExtension);
     }
     Ok(())
-}
-
-// Whether the next piece has two bytes.
-fn has_two_bytes(iter: &SubtagIterator<'_>) -> bool
-    ensures { result ≡ is_two (first_piece (left iter.now)) }
-{
-    match iter.peek() {
-        Some(piece) => piece.len() == 2,
-        None => false,
-    }
 }
 
 impl Unicode {
@@ -136,8 +128,8 @@ pub(crate) fn takes_u(iter: &mut SubtagIterator<'_>) -> bool
     ensures u { result ≡ begins_part (is_letter code_u) (left iter.old) }
     ensures rest { left iter.new ≡ rest_of (left iter.old) }
 {
-    match iter.next() {
-        Some([letter]) => letter.to_ascii_lowercase() == b'u',
-        _ => false,
+    match take_byte(iter) {
+        Some(letter) => letter.to_ascii_lowercase() == b'u',
+        None => false,
     }
 }

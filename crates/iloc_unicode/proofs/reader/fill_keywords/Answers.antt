@@ -4,7 +4,7 @@ use Rattle.std.proofs.lemmas.Result.{err_from_is_err_and}
 use Rattle.std.specs.FinMap.{find}
 use Rattle.iloc_spec_grammar.specs.Words.{word_cmp}
 use Rattle.iloc_subtags.specs.Left.{left}
-use Rattle.iloc_unicode.proofs.KeywordLemmas.{filled_less, filled_more, filled_all, filled_bad, many_values, many_keys}
+use Rattle.iloc_unicode.proofs.KeywordLemmas.{two_bytes, filled_less, filled_more, filled_all, filled_bad, many_values, many_keys}
 use Rattle.iloc_unicode.proofs.reader.fill_keywords.Goals as goal
 
 refused_not : false ≡ true → ⊥
@@ -27,8 +27,8 @@ returns-in_err-add c =
     let new : is_some (find word_cmp c.in-Some.key c.keys.keywords) ≡ false = false_from_ne_true _ (λ t. refused_not (c.in_err-add.ensures.known t)) in
     rw (p.1, p.2) (many_keys (left c.args.iter.now) (left c.keys.iter) c.keys.keywords c.keys.invariant c.in-Some.key (left c.take_word.new.iter) c.in-Some.ensures.word c.in-Some.ensures.rest new (λ few. refused_not (c.in_err-add.ensures.succeeds few)))
 
-pub returns-then-has_two_bytes : goal.returns-then-has_two_bytes
-returns-then-has_two_bytes c = filled_bad (left c.args.iter.now) (left c.keys.iter) (left c.take_word.new.iter) c.keys.keywords c.keys.invariant c.in_default.ensures.rest (sym c.has_two_bytes.ensures ∙ c.if-has_two_bytes.true) c.in_default.ensures.word
+pub returns-then-next_has_length : goal.returns-then-next_has_length
+returns-then-next_has_length c = filled_bad (left c.args.iter.now) (left c.keys.iter) (left c.take_word.new.iter) c.keys.keywords c.keys.invariant c.in_default.ensures.rest (sym (c.next_has_length.ensures ∙ two_bytes _) ∙ c.if-next_has_length.true) c.in_default.ensures.word
 
 pub returns : goal.returns
-returns c = filled_all (left c.args.iter.now) (left c.keys.iter) (left c.take_word.new.iter) c.keys.keywords c.keys.invariant c.in_default.ensures.rest (sym c.has_two_bytes.ensures ∙ c.if-has_two_bytes.false) c.in_default.ensures.word
+returns c = filled_all (left c.args.iter.now) (left c.keys.iter) (left c.take_word.new.iter) c.keys.keywords c.keys.invariant c.in_default.ensures.rest (sym (c.next_has_length.ensures ∙ two_bytes _) ∙ c.if-next_has_length.false) c.in_default.ensures.word
