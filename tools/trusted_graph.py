@@ -473,11 +473,10 @@ class Contract:
 
 
 class Closure:
-    """All that some contracts cite, down to std. Definitions that only views and types lead to stand apart.
-    What `skips` says of an item leaves it out, and what only it cites."""
+    """All that some contracts cite, down to std. Definitions that only views and types lead to stand apart."""
 
-    def __init__(self, sources, roots, types=(), skips=lambda item: False):
-        self.sources, self.skips = sources, skips
+    def __init__(self, sources, roots, types=()):
+        self.sources = sources
         self.definitions = [it for it in self.reach(roots, through_types=False) if isinstance(it, antt.Definition)]
         everything = self.reach([*roots, *types], through_types=True)
         direct = set(self.definitions)
@@ -490,7 +489,7 @@ class Closure:
         seen, waiting = {}, list(roots)
         while waiting:
             it = waiting.pop()
-            if it in seen or self.skips(it):
+            if it in seen:
                 continue
             seen[it] = True
             if through_types or isinstance(it, antt.Definition) or it.kind == "ghost":
@@ -581,7 +580,7 @@ def offered(sources, crate):
     return [it for it in dict.fromkeys(own) if it.kind not in ("impl", "const")]
 
 
-def closure_of(sources, chosen, skips=lambda item: False):
+def closure_of(sources, chosen):
     """Returns the closure of contracts, each with the clauses that are wanted, and of members."""
     roots, types = [], []
     for it, wanted in chosen:
@@ -590,7 +589,7 @@ def closure_of(sources, chosen, skips=lambda item: False):
             types += it.signature_types()
         else:
             roots.append(it)
-    return Closure(sources, roots, types, skips)
+    return Closure(sources, roots, types)
 
 
 def public(sources):

@@ -32,7 +32,7 @@ def headline(sources):
 
 
 def without_memory(sources, contracts):
-    """Returns the closure of the contracts but for their clauses on memory, and for what wants memory."""
+    """Returns the closure of the contracts but for their clauses on memory."""
     kept = []
     for it, wanted in contracts:
         if isinstance(it, graph.Contract):
@@ -40,11 +40,7 @@ def without_memory(sources, contracts):
             kept.append((it, tuple(name for name in names if name not in ON_MEMORY) or ("",)))
         else:
             kept.append((it, wanted))
-    return graph.closure_of(sources, kept, is_on_memory)
-
-
-def is_on_memory(item):
-    return getattr(item, "name", "").endswith(("WantsMemory", "WantMemory"))
+    return graph.closure_of(sources, kept)
 
 
 def size(definitions):
