@@ -9,6 +9,9 @@
  * A text is a pointer to bytes and their number. The bytes need no encoding and no closing zero. If the number is 0,
  * the pointer may be null: the text is empty. The same holds of a buffer and its room.
  *
+ * The code uses no instruction of SSE3 or later, unless it was made for a newer processor (`bindings/build --cpu`). It has
+ * no unwind tables, because the toolchain writes none: a backtrace stops in a call, and no exception passes through one.
+ *
  * Each function returns, ends no program and keeps nothing from one call to the next. Any number of threads may call
  * at the same time. The library promises no answer if the program breaks one of these rules:
  *
@@ -18,8 +21,8 @@
  *    in place. Two texts that are only read may overlap, or be the same.
  *  - While a call runs, no other thread changes the bytes that it reads, or reads or changes what it writes.
  *  - A buffer and an out-pointer may be uninitialized: their old bytes change no answer.
- *  - malloc, realloc and free of the program are of one allocator, and align each block as C promises (a block of at
- *    least 16 bytes to 16).
+ *  - malloc, realloc and free of the program are of one allocator, throw nothing, and align each block as C promises (a
+ *    block of at least 16 bytes to 16).
  *  - No call comes from a signal handler, or from a forked child of a process with several threads. */
 #ifndef ICU_LOCALE_H
 #define ICU_LOCALE_H

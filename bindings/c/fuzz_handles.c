@@ -484,12 +484,12 @@ static void read_state(icu_locale_t *locale, struct state *it)
         icu_locale_get_field_value, icu_locale_get_field);
     WANT(read_part(&it->part[PRIVATE], locale, icu_locale_get_private));
     read_others(locale, it);
-    see_base(it);
     bool is_und = strcmp(it->whole.at, "und") == 0;
     WANT(icu_locale_is_und(locale) == is_und && (locale->at == NULL) == is_und);
     WANT(icu_locale_cmp_bytes(locale, TEXT(it->whole.at)) == 0 && icu_locale_hash(locale) == fnv(it->whole.at));
     read_exactly(locale, it->whole.at);
     WANT(refusing_requests() == before);
+    see_base(it);
     see_meaning(locale, it->whole.at);
     see_data_locales(locale);
     see_preferences(locale);

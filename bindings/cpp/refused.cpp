@@ -48,8 +48,8 @@ static const char LONG[] =
     "de-aaaaa-bbbbb-ccccc-ddddd-eeeee-b-foo-t-und-m0-abc-u-aaa-ca-aaa-bbb-ccc-ddd-eee-co-phonebk-x-a-b-c-d-e";
 static const char SHORT[] = "de-u-ca-buddhist";
 
-/* Has the call, on a locale that starts as this, refused at each of its requests. A refused text, which the call throws,
- * is no case of its own. */
+/* Has the call, on a locale that starts as this, refused at each of its requests. If the call refuses a text anyway, it
+ * may say so in place of the request that was refused: compare does, if that request was for its other text. */
 template <class Call> static void refuse_each(const char *start, Call call)
 {
     bool is_refused = true;
@@ -59,18 +59,20 @@ template <class Call> static void refuse_each(const char *start, Call call)
             locale it(start);
             const std::string text = it.to_string();
             const long held = refusing_live();
-            bool has_thrown = false;
+            bool has_thrown = false, is_wrong_text = false;
             refusing_after(granted);
             try {
                 call(it);
             } catch (const std::bad_alloc &) {
                 has_thrown = true;
             } catch (const icu_locale::error &) {
+                is_wrong_text = true;
             }
             is_refused = refusing_refused() > 0;
             refusing_after(-1);
-            WANT(has_thrown == is_refused);
-            WANT(!is_refused || (it.to_string() == text && refusing_live() == held));
+            WANT(has_thrown == is_refused || is_wrong_text);
+            WANT(!is_refused || refusing_live() == held);
+            WANT(!is_refused || it.to_string() == text);
         }
         WANT(refusing_live() == before);
     }

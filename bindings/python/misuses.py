@@ -175,6 +175,9 @@ CASES = [
 
 def main():
     failed, tried = doctest.testmod(icu_locale_c)
+    page = os.path.join(os.path.dirname(os.path.abspath(__file__)), "README.md")
+    more = doctest.testfile(page, module_relative=False)
+    failed, tried = failed + more.failed, tried + more.attempted
     wrong = [f"case {at}: {got!r}, and not {wanted!r}" for at, (got, wanted) in enumerate(CASES) if got != wanted]
     print("\n".join(wrong) or f"{tried + len(CASES)} cases as wanted")
     return bool(failed or wrong)

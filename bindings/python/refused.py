@@ -39,7 +39,7 @@ CALLS = [
     lambda _: strict_cmp(LONG, LONG),
     lambda _: normalizing_eq("en-x-a-b-c-d-e-f", LONG),
     lambda _: compare(LONG, LONG),
-    lambda _: normalizing_eq("en-u-ca-roc", "en-US-u-foo-ca-buddhist-kn-x-a", Mode.DATA_LOCALE),
+    lambda _: normalizing_eq("en-u-sd-usca", "en-us-u-sd-usca", Mode.DATA_LOCALE),
 ]
 # Reading, comparing and hashing make no request.
 QUIET = [

@@ -8,6 +8,7 @@ import hashlib
 import os
 import pathlib
 import subprocess
+import sys
 import zipfile
 
 HERE = pathlib.Path(__file__).resolve().parent
@@ -37,7 +38,9 @@ def library():
     named = os.environ.get("ICU_LOCALE_LIBRARY")
     path = pathlib.Path(named) if named else TOP / "out" / "bindings" / "libicu_locale.so"
     if not named and not path.is_file():
-        subprocess.run([str(TOP / "bindings" / "build")], check=True)
+        subprocess.run([str(TOP / "bindings" / "build")])
+    if not path.is_file():
+        sys.exit(f"icu_locale_c: there is no {path}: run bindings/build in the repository, or name the library by ICU_LOCALE_LIBRARY")
     return path.read_bytes()
 
 

@@ -7,8 +7,8 @@ fn main() {
     println!("cargo:rerun-if-env-changed=ICU_LOCALE_LIBRARY_DIR");
     let here = PathBuf::from(env::var_os("CARGO_MANIFEST_DIR").expect("cargo names the folder of the package"));
     let folder = match env::var_os("ICU_LOCALE_LIBRARY_DIR") {
-        Some(named) => PathBuf::from(named),
-        None => here.join("../../out/bindings"),
+        Some(named) if !named.is_empty() => PathBuf::from(named),
+        _ => here.join("../../out/bindings"),
     };
     let library = folder.join("libicu_locale.a");
     println!("cargo:rerun-if-changed={}", library.display());

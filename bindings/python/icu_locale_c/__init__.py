@@ -34,7 +34,7 @@ import os
 import pathlib
 import threading
 import types
-from typing import Any, Callable, Iterable, Mapping, Optional, Tuple, Union
+from typing import Any, Callable, Dict, Iterable, Mapping, Optional, Tuple, Union
 
 __all__ = [
     "Locale",
@@ -157,7 +157,7 @@ _FORMS = {
     **dict.fromkeys(("to_string", "get_base_name", "get_language", "get_script", "get_region"), (_LOCALE, *_BUFFER)),
     **dict.fromkeys(("set_language", "set_script", "set_region", "add_variant", "add_attribute"), (_LOCALE, *_TEXT)),
 }
-_RETURNS = {
+_RETURNS: Dict[str, Any] = {
     "free": None,
     "hash": ctypes.c_uint64,
     **dict.fromkeys(("is_und", "is_well_formed", "eq", "has_other"), _TRUTH),
@@ -672,7 +672,7 @@ class Locale:
         return self is other or bool(self._with(other, _library.icu_locale_eq))
 
     def _cmp(self, other: "Locale") -> int:
-        return 0 if self is other else self._with(other, _library.icu_locale_cmp)
+        return 0 if self is other else int(self._with(other, _library.icu_locale_cmp))
 
     def __lt__(self, other: "Locale") -> bool:
         return self._cmp(other) < 0 if isinstance(other, Locale) else NotImplemented
