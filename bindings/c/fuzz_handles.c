@@ -17,9 +17,10 @@
 #include <stdlib.h>
 #include <string.h>
 
-#define ROOM 4096
+/* An input has at most 512 bytes, which are more than half of any text that comes of it. */
+#define LONGEST 512
+#define ROOM 1280
 #define HANDLES 4
-#define ITEMS 512
 
 /* A C string, and what it is a part of. */
 struct text {
@@ -344,7 +345,7 @@ static void block_of(struct text *to, const char *singleton, const char *before,
     }
 }
 
-/* The other extensions, one after the other. What is left of the whole without all other parts is them. */
+/* The other extensions, by ascending singleton, and that they are what is left of the whole. */
 static void see_others(icu_locale_t *locale, struct text *to, const char *left)
 {
     static struct text item, joined;
@@ -365,6 +366,7 @@ static void see_others(icu_locale_t *locale, struct text *to, const char *left)
     WANT(strcmp(joined.at, left) == 0);
 }
 
+/* What is left of the whole without all other parts is the other extensions. */
 static void read_others(icu_locale_t *locale, struct state *it)
 {
     static struct text left, block;
@@ -832,7 +834,7 @@ int LLVMFuzzerTestOneInput(const uint8_t *data, size_t size)
 {
     static char input[ROOM];
     long granted = -1;
-    if (size >= ROOM / 4 || memchr(data, 0, size))
+    if (size > LONGEST || memchr(data, 0, size))
         return -1;
     memcpy(input, data, size);
     input[size] = 0;
