@@ -600,7 +600,8 @@ class Locale:
         if not isinstance(others, Mapping):
             raise TypeError(f"a mapping of singletons to subtags is wanted, not {type(others).__name__}")
         for it in _SINGLETONS:
-            _library.icu_locale_remove_other(self._handle, ord(it))
+            status = _library.icu_locale_remove_other(self._handle, ord(it))
+            _raise(_DONE if status == _NOT_FOUND else status)
         for key, subtags in others.items():
             singleton, text = _bytes(key), _bytes(subtags)
             if len(singleton) != 1:
