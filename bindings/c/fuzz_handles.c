@@ -1,6 +1,7 @@
 /* A target for libFuzzer, built by tools/fuzz: an input is a script of calls on four handles, a step a line. A step is
  * the letter of its call (at CALLS), the digit of its handle, and a text; of two texts a tab stands in between. The
- * step `!` has a request of the next call for memory refused. `=` compares, `?` asks for a part, and `F` frees.
+ * step `!` has a request of the next call for memory refused. `=` compares, `?` asks for a part, `M`
+ * has two handles change places, and `F` frees.
  *
  * After each step all parts of its handle are read. What is wanted of them needs no other implementation:
  *
@@ -802,6 +803,18 @@ static void ask(size_t at, const char *text)
     WANT(read_by(&value, locale, icu_locale_get_field, text) == has_item(&part[FIELDS], text, 2));
 }
 
+/* A handle may be moved to another place, if the old one is no longer used for it. */
+static void change_places(size_t at, size_t other)
+{
+    static struct state state;
+    icu_locale_t handle = handles[at];
+    state = states[at];
+    handles[at] = handles[other];
+    states[at] = states[other];
+    handles[other] = handle;
+    states[other] = state;
+}
+
 static void take_step(char *line, long *granted)
 {
     static const char nothing[] = "";
@@ -820,6 +833,8 @@ static void take_step(char *line, long *granted)
         compare(at, text);
     } else if (letter == '?') {
         ask(at, text);
+    } else if (letter == 'M') {
+        change_places(at, other);
     } else if (letter == 'F') {
         icu_locale_free(&handles[at]);
         read_state(&handles[at], &states[at]);
