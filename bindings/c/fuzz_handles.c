@@ -442,7 +442,8 @@ static void see_data_locales(icu_locale_t *locale)
         icu_locale_t meant = ICU_LOCALE_UND;
         size_t needed = ROOM;
         int8_t order = 9;
-        WANT(ended(&data, icu_locale_get_data_locale(locale, by, (uint8_t *)data.at, ROOM - 1, &needed), needed));
+        icu_locale_status status = icu_locale_get_data_locale(locale, by, (uint8_t *)data.at, ROOM - 1, &needed);
+        WANT(ended(&data, status, needed));
         WANT(icu_locale_normalize(ICU_LOCALE_DATA_LOCALE, TEXT(data.at), (uint8_t *)normal.at, ROOM - 1, &needed) == ICU_LOCALE_DONE);
         WANT(needed == strlen(data.at) && memcmp(normal.at, data.at, needed) == 0);
         WANT(icu_locale_data_cmp_bytes(locale, by, TEXT(data.at), &order) == ICU_LOCALE_DONE && order == 0);
