@@ -136,7 +136,6 @@ _FORMS = {
     "cmp_bytes": (_LOCALE, *_TEXT),
     "eq_text": (_LOCALE, *_TEXT, _SAME),
     "hash": (_LOCALE,),
-    "has_other": (_LOCALE, _BYTE),
     "get_other": (_LOCALE, _BYTE, *_BUFFER),
     "set_other": (_LOCALE, *_TEXT),
     "remove_other": (_LOCALE, _BYTE),
@@ -160,7 +159,7 @@ _FORMS = {
 _RETURNS: Dict[str, Any] = {
     "free": None,
     "hash": ctypes.c_uint64,
-    **dict.fromkeys(("is_und", "is_well_formed", "eq", "has_other"), _TRUTH),
+    **dict.fromkeys(("is_und", "is_well_formed", "eq"), _TRUTH),
     **dict.fromkeys(("cmp", "cmp_bytes"), ctypes.c_int8),
     **dict.fromkeys(("variant_count", "keyword_count", "attribute_count", "field_count"), _SIZE),
 }
