@@ -1,6 +1,6 @@
 //! The header `include/icu_locale.h`, which says what each function does, and what a caller owes.
 
-pub const VERSION: u32 = 3;
+pub const VERSION: u32 = 4;
 
 pub const IDENTIFIER: u32 = 0;
 pub const LOCALE: u32 = 1;
