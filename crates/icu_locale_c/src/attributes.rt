@@ -12,7 +12,7 @@ ghost use Rattle.iloc_handles.specs.Attributes.{AddsAttribute, RemovesAttribute,
 
 use iloc_handles::{
     AddAttribute, Clear, Handle, HasText, OfAttributes, RemoveAttribute, WordAt, WordCount, ask,
-    change, tell,
+    make_change, tell,
 };
 use std::alloc::Global;
 
@@ -78,8 +78,8 @@ pub extern "C" fn icu_locale_remove_attribute(
 /// Removes all attributes.
 #[unsafe(no_mangle)]
 pub extern "C" fn icu_locale_clear_attributes(alloc: Global, handle: &mut Handle) -> u32
-    ensures changed { EndsAs (Changes (Clears Clear.Attributes) handle.old.value handle.new.value)
-        result }
+    ensures changed { EndsAs (Changes (Clears Clear.Attributes) handle.old.value
+        handle.new.value) result }
     ensures tight { IsTight handle.new.value }
 {
     make_change(alloc, handle, &Clear::Attributes)

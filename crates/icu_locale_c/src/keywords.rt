@@ -100,7 +100,8 @@ pub extern "C" fn icu_locale_remove_keyword(alloc: Global, handle: &mut Handle, 
 /// Removes all keywords.
 #[unsafe(no_mangle)]
 pub extern "C" fn icu_locale_clear_keywords(alloc: Global, handle: &mut Handle) -> u32
-    ensures changed { EndsAs (Changes (Clears Clear.Keywords) handle.old.value handle.new.value) result }
+    ensures changed { EndsAs (Changes (Clears Clear.Keywords) handle.old.value
+        handle.new.value) result }
     ensures tight { IsTight handle.new.value }
 {
     make_change(alloc, handle, &Clear::Keywords)

@@ -129,7 +129,8 @@ pub extern "C" fn icu_locale_remove_field(alloc: Global, handle: &mut Handle, ke
 /// Removes all fields.
 #[unsafe(no_mangle)]
 pub extern "C" fn icu_locale_clear_fields(alloc: Global, handle: &mut Handle) -> u32
-    ensures changed { EndsAs (Changes (Clears Clear.Fields) handle.old.value handle.new.value) result }
+    ensures changed { EndsAs (Changes (Clears Clear.Fields) handle.old.value
+        handle.new.value) result }
     ensures tight { IsTight handle.new.value }
 {
     make_change(alloc, handle, &Clear::Fields)

@@ -74,7 +74,8 @@ pub extern "C" fn icu_locale_remove_variant(alloc: Global, handle: &mut Handle, 
 /// Removes all variants.
 #[unsafe(no_mangle)]
 pub extern "C" fn icu_locale_clear_variants(alloc: Global, handle: &mut Handle) -> u32
-    ensures changed { EndsAs (Changes (Clears Clear.Variants) handle.old.value handle.new.value) result }
+    ensures changed { EndsAs (Changes (Clears Clear.Variants) handle.old.value
+        handle.new.value) result }
     ensures tight { IsTight handle.new.value }
 {
     make_change(alloc, handle, &Clear::Variants)
