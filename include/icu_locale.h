@@ -53,7 +53,7 @@ extern "C" {
 #endif
 
 /* Changes with each change of this header. icu_locale_version gives that of the library that is linked or loaded. */
-#define ICU_LOCALE_VERSION 3
+#define ICU_LOCALE_VERSION 4
 
 /* How a text is parsed. Any other number is refused with ICU_LOCALE_UNKNOWN_NUMBER. */
 typedef uint32_t icu_locale_mode;
@@ -73,8 +73,15 @@ enum {
     ICU_LOCALE_DUPLICATED_EXTENSION = 4, /* an extension begins a second time */
     ICU_LOCALE_OUT_OF_MEMORY = 5,        /* an allocation failed */
     ICU_LOCALE_BUFFER_TOO_SMALL = 6,     /* the answer does not fit into the buffer */
-    ICU_LOCALE_UNKNOWN_NUMBER = 7,       /* the number is no mode, or no status */
+    ICU_LOCALE_UNKNOWN_NUMBER = 7,       /* the number is no mode, no priority or no status */
     ICU_LOCALE_NOT_FOUND = 8             /* the locale has no such part */
+};
+
+/* Of which region a data locale is. Any other number is refused with ICU_LOCALE_UNKNOWN_NUMBER. */
+typedef uint32_t icu_locale_priority;
+enum {
+    ICU_LOCALE_BY_LANGUAGE = 0, /* of the locale's own region and its keyword sd */
+    ICU_LOCALE_BY_REGION = 1    /* of the keyword rg if it is there and readable, and else as by language */
 };
 
 /* Texts. These calls take a text and keep nothing.
@@ -145,7 +152,7 @@ icu_locale_status icu_locale_words(icu_locale_status status, uint8_t *buffer, si
  *  - A call has its handles for itself, also a call that only reads: no other call uses them at the same time, in any
  *    thread. Two handles of one call are not the same handle. A handle may go to another thread if that is ordered by
  *    a lock or the like.
- *  - A handle is aligned as C aligns icu_locale_t, and overlaps no other argument.
+ *  - The pointer of a handle is not null. A handle is aligned as C aligns icu_locale_t, and overlaps no other argument.
  *
  * A call that changes a handle ends in one of three ways. DONE: the locale has changed as the call says. A refusal:
  * the locale is as before, and the status names what is wrong with the text. OUT_OF_MEMORY: the locale is as before.
@@ -301,6 +308,11 @@ icu_locale_status icu_locale_remove_keyword(icu_locale_t *locale, const uint8_t 
 ICU_LOCALE_TAKES(1) ICU_LOCALE_TELLS
 icu_locale_status icu_locale_clear_keywords(icu_locale_t *locale) ICU_LOCALE_NOEXCEPT;
 
+/* Extends the extension u by that of the other handle: it has the attributes of both, and the keywords of both. At a key
+ * of both, the other handle's value wins. DONE or OUT_OF_MEMORY. */
+ICU_LOCALE_TAKES(1, 2) ICU_LOCALE_TELLS
+icu_locale_status icu_locale_extend_unicode(icu_locale_t *locale, icu_locale_t *from) ICU_LOCALE_NOEXCEPT;
+
 /* Attributes of the extension u, such as foo in en-u-foo: as variants. Each is 3 to 8 letters or digits; a text that is
  * none is refused with INVALID_EXTENSION. Adding or removing one allocates. */
 ICU_LOCALE_TAKES(1) ICU_LOCALE_TELLS
@@ -347,6 +359,13 @@ icu_locale_status icu_locale_get_field(icu_locale_t *locale, const uint8_t *key,
 ICU_LOCALE_TAKES(1) ICU_LOCALE_TELLS
 icu_locale_status icu_locale_set_field(icu_locale_t *locale, const uint8_t *key, size_t key_length,
     const uint8_t *value, size_t value_length) ICU_LOCALE_NOEXCEPT;
+
+/* Removes the field with this key, in any case; NOT_FOUND if it is not there, also if the bytes are no key. */
+ICU_LOCALE_TAKES(1) ICU_LOCALE_TELLS
+icu_locale_status icu_locale_remove_field(icu_locale_t *locale, const uint8_t *key, size_t key_length)
+    ICU_LOCALE_NOEXCEPT;
+
+/* Removes all fields. */
 ICU_LOCALE_TAKES(1) ICU_LOCALE_TELLS
 icu_locale_status icu_locale_clear_fields(icu_locale_t *locale) ICU_LOCALE_NOEXCEPT;
 
@@ -359,6 +378,53 @@ icu_locale_status icu_locale_get_private(icu_locale_t *locale, uint8_t *buffer, 
 ICU_LOCALE_TAKES(1) ICU_LOCALE_TELLS
 icu_locale_status icu_locale_set_private(icu_locale_t *locale, const uint8_t *text, size_t length)
     ICU_LOCALE_NOEXCEPT;
+
+/* Other extensions, such as a-foo-bar of en-a-foo-bar, by their singleton: a letter or digit other than t, u and x, in
+ * either case. Whether there is one; and its text, with the singleton, or NOT_FOUND. */
+ICU_LOCALE_TAKES(1) ICU_LOCALE_TELLS
+bool icu_locale_has_other(icu_locale_t *locale, uint8_t singleton) ICU_LOCALE_NOEXCEPT;
+ICU_LOCALE_TAKES(1, 5) ICU_LOCALE_TELLS
+icu_locale_status icu_locale_get_other(icu_locale_t *locale, uint8_t singleton, uint8_t *buffer, size_t room,
+    size_t *needed) ICU_LOCALE_NOEXCEPT;
+
+/* Sets the extension of a singleton to the text, which is the singleton and its subtags, in any case: A-Foo-bar sets
+ * a-foo-bar. The text is parsed as within a locale: after the singleton stand pieces of 2 to 8 bytes, of which those with
+ * other bytes than letters and digits are left out, and one at least must stay. Any other text is refused with
+ * INVALID_EXTENSION, also one that is empty or has two extensions. Allocates. */
+ICU_LOCALE_TAKES(1) ICU_LOCALE_TELLS
+icu_locale_status icu_locale_set_other(icu_locale_t *locale, const uint8_t *text, size_t length) ICU_LOCALE_NOEXCEPT;
+
+/* Removes the extension of a singleton; NOT_FOUND if it is not there. */
+ICU_LOCALE_TAKES(1) ICU_LOCALE_TELLS
+icu_locale_status icu_locale_remove_other(icu_locale_t *locale, uint8_t singleton) ICU_LOCALE_NOEXCEPT;
+
+/* The data locale of a locale: language, script, region or subdivision, and the first variant, as data is looked up by
+ * them. en-GB-u-rg-uszzzz is en-GB by language and en-US by region. Writes the text; or to *order -1, 0 or 1: the byte
+ * order of the text against other bytes, as they stand; or the order of the data locales of two handles, which is 0
+ * exactly if both are equal. With another priority than these the calls end with UNKNOWN_NUMBER, *needed is 0, and the
+ * buffer or *order is as before. None allocates. */
+ICU_LOCALE_TAKES(1, 5) ICU_LOCALE_TELLS
+icu_locale_status icu_locale_get_data_locale(icu_locale_t *locale, icu_locale_priority priority, uint8_t *buffer,
+    size_t room, size_t *needed) ICU_LOCALE_NOEXCEPT;
+ICU_LOCALE_TAKES(1, 5) ICU_LOCALE_TELLS
+icu_locale_status icu_locale_data_cmp_bytes(icu_locale_t *locale, icu_locale_priority priority, const uint8_t *other,
+    size_t length, int8_t *order) ICU_LOCALE_NOEXCEPT;
+ICU_LOCALE_TAKES(1, 2, 4) ICU_LOCALE_TELLS
+icu_locale_status icu_locale_data_cmp(icu_locale_t *locale, icu_locale_t *other, icu_locale_priority priority,
+    int8_t *order) ICU_LOCALE_NOEXCEPT;
+
+/* What formatters read: the calendar of the keyword ca, the hour cycle of hc and the numbering system of nu. The text is
+ * that of the value which the keyword stands for: islamic-civil of ca-islamicc. NOT_FOUND if the keyword is absent or
+ * its value is none of these: h12, h23, h11, c12 or c24 for hc; one subtag for nu. */
+ICU_LOCALE_TAKES(1, 4) ICU_LOCALE_TELLS
+icu_locale_status icu_locale_get_calendar_algorithm(icu_locale_t *locale, uint8_t *buffer, size_t room,
+    size_t *needed) ICU_LOCALE_NOEXCEPT;
+ICU_LOCALE_TAKES(1, 4) ICU_LOCALE_TELLS
+icu_locale_status icu_locale_get_hour_cycle(icu_locale_t *locale, uint8_t *buffer, size_t room, size_t *needed)
+    ICU_LOCALE_NOEXCEPT;
+ICU_LOCALE_TAKES(1, 4) ICU_LOCALE_TELLS
+icu_locale_status icu_locale_get_numbering_system(icu_locale_t *locale, uint8_t *buffer, size_t room,
+    size_t *needed) ICU_LOCALE_NOEXCEPT;
 
 /* ICU_LOCALE_VERSION of the header that the library was made for. */
 extern uint32_t icu_locale_version(void) ICU_LOCALE_NOEXCEPT;

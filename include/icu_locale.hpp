@@ -39,6 +39,9 @@ enum class mode : icu_locale_mode {
     data_locale = ICU_LOCALE_DATA_LOCALE
 };
 
+/* Of which region a data locale is. */
+enum class priority : icu_locale_priority { language = ICU_LOCALE_BY_LANGUAGE, region = ICU_LOCALE_BY_REGION };
+
 /* How a call ends: the numbers of icu_locale.h. */
 enum class status : icu_locale_status {
     done = ICU_LOCALE_DONE,
@@ -334,12 +337,72 @@ public:
     }
 
     void set_field(std::string_view key, std::string_view value) { accept(try_set_field(key, value)); }
+    bool remove_field(std::string_view key) { return is_done(set(icu_locale_remove_field, key)); }
     void clear_fields() { accept(detail::told(icu_locale_clear_fields(&held_))); }
 
     /* The private extension with its x, such as x-a-b; empty if there is none. An empty text removes it. */
     std::string private_extension() const { return *read(icu_locale_get_private); }
     icu_locale::status try_set_private_extension(std::string_view text) { return set(icu_locale_set_private, text); }
     void set_private_extension(std::string_view text) { accept(try_set_private_extension(text)); }
+
+    /* Other extensions, such as a-foo of en-a-foo, by their singleton, in either case. A text sets the one that it is. */
+    bool has_other(char singleton) const noexcept
+    {
+        return icu_locale_has_other(&held_, static_cast<std::uint8_t>(singleton));
+    }
+
+    std::optional<std::string> other(char singleton) const
+    {
+        return read([singleton](icu_locale_t *held, std::uint8_t *buffer, std::size_t room, std::size_t *needed) {
+            return icu_locale_get_other(held, static_cast<std::uint8_t>(singleton), buffer, room, needed);
+        });
+    }
+
+    icu_locale::status try_set_other(std::string_view text) { return set(icu_locale_set_other, text); }
+    void set_other(std::string_view text) { accept(try_set_other(text)); }
+    bool remove_other(char singleton)
+    {
+        return is_done(detail::told(icu_locale_remove_other(&held_, static_cast<std::uint8_t>(singleton))));
+    }
+
+    /* Adds the attributes and keywords of the other locale. At a key of both, its value wins. */
+    void extend_unicode(const locale &from)
+    {
+        if (this != &from)
+            accept(detail::told(icu_locale_extend_unicode(&held_, &from.held_)));
+    }
+
+    /* The text of the data locale, by which data is looked up: en-US of en-GB-u-rg-uszzzz, by region. */
+    std::string data_locale(priority by = priority::language) const
+    {
+        return *read([by](icu_locale_t *held, std::uint8_t *buffer, std::size_t room, std::size_t *needed) {
+            return icu_locale_get_data_locale(held, static_cast<icu_locale_priority>(by), buffer, room, needed);
+        });
+    }
+
+    /* The byte order of that text against other bytes, as they stand; and the order of the data locales of two locales by
+     * language, script, region part and variant: -1, 0 or 1. */
+    int data_strict_cmp(std::string_view other, priority by = priority::language) const
+    {
+        std::int8_t order = 0;
+        accept(detail::told(icu_locale_data_cmp_bytes(
+            &held_, static_cast<icu_locale_priority>(by), detail::bytes(other), other.size(), &order)));
+        return order;
+    }
+
+    int data_compare(const locale &other, priority by = priority::language) const
+    {
+        std::int8_t order = 0;
+        if (this != &other)
+            accept(detail::told(
+                icu_locale_data_cmp(&held_, &other.held_, static_cast<icu_locale_priority>(by), &order)));
+        return order;
+    }
+
+    /* What formatters read of the keywords ca, hc and nu: islamic-civil of en-u-ca-islamicc. */
+    std::optional<std::string> calendar_algorithm() const { return read(icu_locale_get_calendar_algorithm); }
+    std::optional<std::string> hour_cycle() const { return read(icu_locale_get_hour_cycle); }
+    std::optional<std::string> numbering_system() const { return read(icu_locale_get_numbering_system); }
 
     friend bool operator==(const locale &one, const locale &other) noexcept
     {

@@ -7,6 +7,10 @@ import random
 import re
 
 TOP = pathlib.Path(__file__).resolve().parent.parent
+CALENDARS = {*"buddhist chinese coptic dangi ethioaa ethiopic gregory hebrew indian islamic iso8601 japanese persian roc".split()}
+CALENDARS |= {*"islamic-umalqura islamic-tbla islamic-civil islamic-rgsa".split()}
+OLD_CALENDARS = {"islamicc": "islamic-civil", "ethiopic-amete-alem": "ethioaa"}
+HOUR_CYCLES = {"h11", "h12", "h23", "c12", "c24"}
 REFUSED_LANGUAGE, REFUSED_SUBTAG, REFUSED_EXTENSION = (
     "! The given language subtag is invalid", "! Invalid subtag", "! Invalid extension",
 )
@@ -18,6 +22,10 @@ KEYS = ["ca", "CA", "nu", "kn", "hc", "co", "x", "c1", "1c", "a8", "", "!!", "ca
 VALUES = ["", "true", "TRUE", "buddhist", "Islamic-Civil", "false", "h12", "r", "ab", "roc-ab", "a-b", "phonebk", "-", "abc-"]
 FIELDS = ["m0", "M0", "k0", "i0", "h0", "00", "mm", "m", "", "s0"]
 PRIVATE = ["", "x", "x-a", "X-A-b", "a-b", "x-abcdefghi", "x-", "x-12345678-foo", "x-x-u-ca", "!!"]
+OTHERS = ["a-foo", "A-Foo-BAR", "b-abc-12345678", "a", "a-b", "t-de", "x-foo", "u-foo", "1-ab", "a-foo-!!", "a-foo-", "a--foo"]
+OTHERS += ["\N{LATIN SMALL LETTER E WITH ACUTE}-foo", "a-foo-b-bar", "", "-", "a-toolongword", "c-ab-cd-ef-gh-ij", "z-true", "ab-foo", "!-foo"]
+SINGLETONS = ["a", "A", "b", "1", "c", "z", "t", "u", "x", "!"]
+VALUES += ["ustx", "USca", "gbeng", "419a", "uszzzz", "gbzzzz", "h25", "c24", "islamicc", "ethiopic-amete-alem", "thai-latn"]
 VALUES += ["aaa-bbb-ccc-ddd-eee", "true-foo-true", "12345678", "123456789", "latn"]
 
 
@@ -136,7 +144,33 @@ class Model:
         identifier, pairs = self.transform()
         fields += [identifier, ",".join(f"{key}={'-'.join(value)}" for key, value in sorted(pairs.items()))]
         fields.append("-".join(["x", *self.private]) if self.private else "")
+        fields.append(",".join("-".join([key, *self.others[key]]) for key in sorted(self.others) if key != "t"))
+        fields += [self.data_text(False), self.data_text(True), *self.preferences()]
         return "\t".join([*fields, f"{int(text == 'und')}{int(self.is_well_formed())}", f"{self.hash():016x}"])
+
+
+    def subdivision(self, key):
+        """Region and suffix of the keyword, if its value is a subdivision."""
+        found = re.fullmatch("([a-z]{2}|[0-9]{3})([a-z0-9]{1,4})", self.keywords.get(key, ""))
+        return (found[1].upper(), found[2]) if found else None
+
+    def data(self, by_region):
+        """Language, script, region with suffix, and variant of the data locale."""
+        own, other = self.subdivision("sd"), self.subdivision("rg")
+        part = own if own and self.region in ("", own[0]) else (self.region, "zzzz") if self.region else ("", "")
+        part = other if by_region and other else part
+        return self.language, self.script, part, min(self.variants, default="")
+
+    def data_text(self, by_region):
+        language, script, (region, suffix), variant = self.data(by_region)
+        parts = [language, script, region, variant, "u-sd-" + region.lower() + suffix if suffix not in ("", "zzzz") else ""]
+        return "-".join(it for it in parts if it)
+
+    def preferences(self):
+        """The calendar, the hour cycle and the numbering system that formatters read; `-` for none."""
+        calendar, cycle, numbers = (self.keywords.get(it, "") for it in ("ca", "hc", "nu"))
+        calendar = OLD_CALENDARS.get(calendar, calendar)
+        return [calendar if calendar in CALENDARS else "-", cycle if cycle in HOUR_CYCLES else "-", numbers if numbers and "-" not in numbers else "-"]
 
 
 def compared(first, second):
@@ -358,6 +392,41 @@ class Script:
         it.set_transform(it.transform()[0], {})
         return "ok"
 
+    def remove_field(self, it, _, key):
+        identifier, fields = it.transform()
+        is_there = fields.pop(key.lower(), None) is not None
+        it.set_transform(identifier, fields)
+        return "ok" if is_there else "none"
+
+    def set_other(self, it, _, text):
+        """A piece of 2 to 8 bytes that is no subtag is left out; one must stay."""
+        singleton, *pieces = text.lower().encode().split(b"-")
+        kept = [piece.decode() for piece in pieces if re.fullmatch(b"[a-z0-9]{2,8}", piece)]
+        if not re.fullmatch(b"[a-svwyz0-9]", singleton) or not kept or any(not 2 <= len(it) <= 8 for it in pieces):
+            return REFUSED_EXTENSION
+        it.others[singleton.decode()] = kept
+        return "ok"
+
+    def get_other(self, it, _, singleton):
+        words = it.others.get(singleton.lower()) if singleton != "t" else None
+        return "none" if words is None else "=" + "-".join([singleton.lower(), *words])
+
+    def remove_other(self, it, _, singleton):
+        return "none" if singleton in "tT" or it.others.pop(singleton.lower(), None) is None else "ok"
+
+    def extend(self, it, _, other):
+        more = self.slots[other]
+        it.attributes.update(more.attributes)
+        it.keywords.update(more.keywords)
+        return "ok"
+
+    def compare_data(self, it, _, other):
+        more, orders = self.slots[other], []
+        for by_region in (False, True):
+            orders.append(compared(it.data(by_region), more.data(by_region)))
+            orders.append(compared(it.data_text(by_region), more.data_text(by_region)))
+        return " ".join(map(str, orders))
+
     def private(self, it, _, text):
         words = text.lower().split("-")
         if text and (words[0] != "x" or not words[1:] or not all(re.fullmatch("[a-z0-9]{1,8}", it) for it in words)):
@@ -407,7 +476,10 @@ class Script:
         if self.random.randrange(8) == 0:
             ways = [lambda: ("transform-language", at, pick(self.some))]
             ways += [lambda: ("private", at, pick(PRIVATE)), lambda: ("get-field", at, pick(FIELDS)), lambda: ("clear-fields", at)]
-            ways += [lambda: ("set-field", at, pick(FIELDS), pick(VALUES))] * 3
+            ways += [lambda: ("set-field", at, pick(FIELDS), pick(VALUES))] * 3 + [lambda: ("remove-field", at, pick(FIELDS))]
+        if self.random.randrange(8) == 0:
+            ways = [lambda: ("set-other", at, pick(OTHERS))] * 3 + [lambda: ("extend", at, other), lambda: ("compare-data", at, other)]
+            ways += [lambda: (pick(["get-other", "get-other", "remove-other"]), at, pick(SINGLETONS))]
         if self.random.randrange(20) == 0:
             ways = [lambda: (pick(["clear-variants", "clear-attributes", "clear-keywords"]), at)]
         if self.random.randrange(40) == 0:

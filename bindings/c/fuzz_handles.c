@@ -346,8 +346,29 @@ static void block_of(struct text *to, const char *singleton, const char *before,
     }
 }
 
-/* What is left of the whole without the parts that have calls: the other extensions. */
-static void read_others(struct state *it)
+/* The other extensions, by ascending singleton, and that they are what is left of the whole. */
+static void see_others(icu_locale_t *locale, struct text *to, const char *left)
+{
+    static struct text item, joined;
+    to->at[0] = joined.at[0] = 0;
+    for (int byte = 0; byte < 256; byte++) {
+        size_t needed = ROOM;
+        icu_locale_status status = icu_locale_get_other(locale, (uint8_t)byte, (uint8_t *)item.at, ROOM - 1, &needed);
+        bool is_there = ended(&item, status, needed);
+        WANT(icu_locale_has_other(locale, (uint8_t)byte) == is_there);
+        WANT(!is_there || (lower((char)byte) == item.at[0] && item.at[1] == '-' && are_subtags(item.at + 2, 2, 8)));
+        if (is_there && lower((char)byte) == (char)byte) {
+            add(to, to->at[0] ? "," : "");
+            add(to, item.at);
+            add(&joined, "-");
+            add(&joined, item.at);
+        }
+    }
+    WANT(strcmp(joined.at, left) == 0);
+}
+
+/* What is left of the whole without all other parts is the other extensions. */
+static void read_others(icu_locale_t *locale, struct state *it)
 {
     static struct text left, block;
     left = it->whole;
@@ -366,8 +387,7 @@ static void read_others(struct state *it)
         block_of(&block, "t", it->part[TRANSFORM].at, it->part[FIELDS].at);
         take_block(&left, block.at);
     }
-    WANT(left.at[0] == 0 || (left.at[0] == '-' && are_subtags(left.at + 1, 1, 8) && left.at[2] == '-'));
-    it->part[OTHERS] = left;
+    see_others(locale, &it->part[OTHERS], left.at);
 }
 
 /* The identifier is its subtags. */
@@ -414,6 +434,42 @@ static void see_meaning(icu_locale_t *locale, const char *whole)
     WANT(again.at == NULL);
 }
 
+/* The data locales: the text of each is its own normal form, and means that data locale. */
+static void see_data_locales(icu_locale_t *locale)
+{
+    static struct text data, normal;
+    for (icu_locale_priority by = ICU_LOCALE_BY_LANGUAGE; by <= ICU_LOCALE_BY_REGION; by++) {
+        icu_locale_t meant = ICU_LOCALE_UND;
+        size_t needed = ROOM;
+        int8_t order = 9;
+        icu_locale_status status = icu_locale_get_data_locale(locale, by, (uint8_t *)data.at, ROOM - 1, &needed);
+        WANT(ended(&data, status, needed));
+        WANT(icu_locale_normalize(ICU_LOCALE_DATA_LOCALE, TEXT(data.at), (uint8_t *)normal.at, ROOM - 1, &needed) == ICU_LOCALE_DONE);
+        WANT(needed == strlen(data.at) && memcmp(normal.at, data.at, needed) == 0);
+        WANT(icu_locale_data_cmp_bytes(locale, by, TEXT(data.at), &order) == ICU_LOCALE_DONE && order == 0);
+        WANT(icu_locale_parse(&meant, TEXT(data.at)) == ICU_LOCALE_DONE);
+        WANT(icu_locale_data_cmp(&meant, locale, by, &order) == ICU_LOCALE_DONE && order == 0);
+        icu_locale_free(&meant);
+    }
+}
+
+/* What formatters read: a value that is set in another locale is read there as itself. */
+static void see_preferences(icu_locale_t *locale)
+{
+    static const reading calls[] = {icu_locale_get_calendar_algorithm, icu_locale_get_hour_cycle, icu_locale_get_numbering_system};
+    static const char *const keys[] = {"ca", "hc", "nu"};
+    static struct text value, again;
+    for (size_t i = 0; i < 3; i++) {
+        icu_locale_t other = ICU_LOCALE_UND;
+        if (!read_part(&value, locale, calls[i]))
+            continue;
+        WANT(read_by(&again, locale, icu_locale_get_keyword, keys[i]));
+        WANT(icu_locale_set_keyword(&other, TEXT(keys[i]), TEXT(value.at)) == ICU_LOCALE_DONE);
+        WANT(read_part(&again, &other, calls[i]) && strcmp(again.at, value.at) == 0);
+        icu_locale_free(&other);
+    }
+}
+
 /* Reads all parts of the handle, and sees that they fit together. */
 static void read_state(icu_locale_t *locale, struct state *it)
 {
@@ -431,7 +487,7 @@ static void read_state(icu_locale_t *locale, struct state *it)
     read_map(&it->part[FIELDS], locale, icu_locale_field_count(locale), icu_locale_get_field_key,
         icu_locale_get_field_value, icu_locale_get_field);
     WANT(read_part(&it->part[PRIVATE], locale, icu_locale_get_private));
-    read_others(it);
+    read_others(locale, it);
     bool is_und = strcmp(it->whole.at, "und") == 0;
     WANT(icu_locale_is_und(locale) == is_und && (locale->at == NULL) == is_und);
     WANT(icu_locale_cmp_bytes(locale, TEXT(it->whole.at)) == 0 && icu_locale_hash(locale) == fnv(it->whole.at));
@@ -439,6 +495,8 @@ static void read_state(icu_locale_t *locale, struct state *it)
     WANT(refusing_requests() == before);
     see_base(it);
     see_meaning(locale, it->whole.at);
+    see_data_locales(locale);
+    see_preferences(locale);
 }
 
 static void note_shape(const struct state *it)
@@ -524,10 +582,58 @@ static icu_locale_status want_private(struct state *it, const char *text)
     return ICU_LOCALE_DONE;
 }
 
+static bool is_singleton(char it)
+{
+    return it && !strchr("tux", lower(it)) && (is_letter(it) || is_digit(it));
+}
+
+/* A singleton, and pieces of 2 to 8 bytes: those that have another byte are left out, but one must stay. */
+static icu_locale_status want_other(struct state *it, const char *text)
+{
+    static struct text item;
+    if (!is_singleton(text[0]) || text[1] != '-')
+        return ICU_LOCALE_INVALID_EXTENSION;
+    put_lower(&item, (char[]){*text, 0});
+    for (const char *at = text + 1; *at == '-';) {
+        size_t length = strcspn(++at, "-");
+        if (length < 2 || length > 8)
+            return ICU_LOCALE_INVALID_EXTENSION;
+        char piece[10] = "-";
+        memcpy(piece + 1, at, length);
+        if (is_of(at, length, true))
+            add(&item, piece);
+        at += length;
+    }
+    if (!item.at[1])
+        return ICU_LOCALE_INVALID_EXTENSION;
+    for (char *at = item.at; *at; at++)
+        *at = lower(*at);
+    change_list(&it->part[OTHERS], item.at, 1, true);
+    return ICU_LOCALE_DONE;
+}
+
+/* The attributes of both, and the keywords of both, of which those of the other win. */
+static icu_locale_status want_extended(struct state *it, const struct state *from)
+{
+    for (enum part part = ATTRIBUTES; part <= KEYWORDS; part++) {
+        static struct text items;
+        char *next = NULL;
+        items = from->part[part];
+        for (char *item = items.at; *items.at && item; item = next) {
+            next = strchr(item, ',');
+            if (next)
+                *next++ = 0;
+            change_list(&it->part[part], item, part == KEYWORDS ? 2 : 0, true);
+        }
+    }
+    return ICU_LOCALE_DONE;
+}
+
 /* The calls, by their letters: P parses; C copies another handle; L, S and R set language, script and region; V, v and W
  * add a variant, remove one and clear them, and A, a and B so attributes; K, k and J set a keyword, remove one and clear
- * them; T sets the identifier after t; D and E set a field and clear them; X sets the private extension. */
-#define CALLS "PCLSRVvWAaBKkJTDEX"
+ * them; T sets the identifier after t; D, d and E set a field, remove one and clear them; X sets the private extension; O
+ * and o set another extension and remove one; U adds the extension u of another handle. */
+#define CALLS "PCLSRVvWAaBKkJTDdEXOoU"
 
 struct step {
     char letter;
@@ -556,7 +662,11 @@ static icu_locale_status want(const struct step *step, struct state *it)
     case 'J': return want_cleared(it, KEYWORDS);
     case 'T': return want_transform(it, text);
     case 'D': return want_pair(it, FIELDS, text, step->second);
+    case 'd': return want_removed(it, FIELDS, 2, text);
     case 'E': return want_cleared(it, FIELDS);
+    case 'O': return want_other(it, text);
+    case 'o': return *text ? want_removed(it, OTHERS, 1, (char[]){*text, 0}) : ICU_LOCALE_NOT_FOUND;
+    case 'U': return want_extended(it, &states[step->other]);
     default: return want_private(it, text);
     }
 }
@@ -583,7 +693,11 @@ static icu_locale_status take(const struct step *step)
     case 'J': return icu_locale_clear_keywords(locale);
     case 'T': return icu_locale_set_transform_language(locale, TEXT(text));
     case 'D': return icu_locale_set_field(locale, TEXT(text), TEXT(second));
+    case 'd': return icu_locale_remove_field(locale, TEXT(text));
     case 'E': return icu_locale_clear_fields(locale);
+    case 'O': return icu_locale_set_other(locale, TEXT(text));
+    case 'o': return icu_locale_remove_other(locale, (uint8_t)*text);
+    case 'U': return icu_locale_extend_unicode(locale, &handles[step->other]);
     default: return icu_locale_set_private(locale, TEXT(text));
     }
 }
@@ -613,7 +727,7 @@ static bool may_allocate(const struct step *step, const struct state *before)
     const char *keywords = before->part[KEYWORDS].at, *variants = before->part[VARIANTS].at;
     bool is_long = count_of(step->second, '-') >= 4;
     switch (step->letter) {
-    case 'P': case 'C': case 'A': case 'a': return true;
+    case 'P': case 'C': case 'A': case 'a': case 'O': case 'U': return true;
     case 'V': return *variants && count_of(variants, ',') >= 3;
     case 'K': return is_long || count_of(keywords, ',') > 0 || (*keywords && !has_item(&before->part[KEYWORDS], step->text, 2));
     case 'T': case 'X': return count_of(step->text, '-') >= 5;

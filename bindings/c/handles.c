@@ -312,6 +312,12 @@ static void try_transform(void)
     WANT(icu_locale_set_field(&locale, TEXT("m0"), TEXT("di")) == ICU_LOCALE_INVALID_EXTENSION);
     WANT(is_now(&locale, "und-t-de-latn-h0-true-m0-din"));
     WANT(icu_locale_set_transform_language(&locale, NULL, 0) == ICU_LOCALE_DONE && is_now(&locale, "und-t-h0-true-m0-din"));
+    WANT(icu_locale_remove_field(&locale, TEXT("s0")) == ICU_LOCALE_NOT_FOUND);
+    WANT(icu_locale_remove_field(&locale, TEXT("mm")) == ICU_LOCALE_NOT_FOUND);
+    WANT(icu_locale_remove_field(&locale, NULL, 0) == ICU_LOCALE_NOT_FOUND && is_now(&locale, "und-t-h0-true-m0-din"));
+    WANT(icu_locale_remove_field(&locale, TEXT("H0")) == ICU_LOCALE_DONE && is_now(&locale, "und-t-m0-din"));
+    WANT(icu_locale_remove_field(&locale, TEXT("m0")) == ICU_LOCALE_DONE && locale.at == NULL);
+    WANT(icu_locale_set_field(&locale, TEXT("h0"), TEXT("hybrid")) == ICU_LOCALE_DONE);
     WANT(icu_locale_clear_fields(&locale) == ICU_LOCALE_DONE && locale.at == NULL);
 }
 
@@ -325,6 +331,141 @@ static void try_private(void)
     WANT(icu_locale_set_private(&locale, TEXT("x")) == ICU_LOCALE_INVALID_EXTENSION);
     WANT(icu_locale_set_private(&locale, TEXT("x-abcdefghi")) == ICU_LOCALE_INVALID_EXTENSION && is_now(&locale, "und-x-a-bb"));
     WANT(icu_locale_set_private(&locale, NULL, 0) == ICU_LOCALE_DONE && locale.at == NULL);
+}
+
+static const char *other(icu_locale_t *locale, uint8_t singleton)
+{
+    size_t needed = 77;
+    icu_locale_status status = icu_locale_get_other(locale, singleton, (uint8_t *)last, ROOM - 1, &needed);
+    return ended(status, needed);
+}
+
+static void try_others(void)
+{
+    icu_locale_t locale = ICU_LOCALE_UND;
+    size_t needed = 77;
+    uint8_t small[4] = "###";
+    WANT(!icu_locale_has_other(&locale, 'a') && strcmp(other(&locale, 'a'), "?") == 0);
+    WANT(icu_locale_remove_other(&locale, 'a') == ICU_LOCALE_NOT_FOUND && locale.at == NULL);
+    WANT(icu_locale_set_other(&locale, TEXT("Z-Zz")) == ICU_LOCALE_DONE && is_now(&locale, "und-z-zz"));
+    WANT(icu_locale_set_other(&locale, TEXT("A-Foo-BAR")) == ICU_LOCALE_DONE && is_now(&locale, "und-a-foo-bar-z-zz"));
+    WANT(icu_locale_set_other(&locale, TEXT("9-12345678")) == ICU_LOCALE_DONE);
+    WANT(icu_locale_set_keyword(&locale, TEXT("ca"), TEXT("roc")) == ICU_LOCALE_DONE);
+    WANT(is_now(&locale, "und-9-12345678-a-foo-bar-u-ca-roc-z-zz"));
+    WANT(icu_locale_has_other(&locale, 'A') && icu_locale_has_other(&locale, 'z') && !icu_locale_has_other(&locale, 'b'));
+    WANT(!icu_locale_has_other(&locale, 'u') && !icu_locale_has_other(&locale, 0) && !icu_locale_has_other(&locale, 0xff));
+    WANT(strcmp(other(&locale, 'a'), "a-foo-bar") == 0 && strcmp(other(&locale, 'Z'), "z-zz") == 0);
+    WANT(strcmp(other(&locale, 'u'), "?") == 0 && strcmp(other(&locale, 'x'), "?") == 0);
+    WANT(icu_locale_get_other(&locale, 'a', small, 3, &needed) == ICU_LOCALE_BUFFER_TOO_SMALL);
+    WANT(needed == 9 && memcmp(small, "###", 4) == 0);
+    WANT(icu_locale_get_other(&locale, 'a', NULL, 0, &needed) == ICU_LOCALE_BUFFER_TOO_SMALL && needed == 9);
+    WANT(icu_locale_set_other(&locale, TEXT("a")) == ICU_LOCALE_INVALID_EXTENSION);
+    WANT(icu_locale_set_other(&locale, TEXT("a-b")) == ICU_LOCALE_INVALID_EXTENSION);
+    WANT(icu_locale_set_other(&locale, TEXT("a-foo-b-bar")) == ICU_LOCALE_INVALID_EXTENSION);
+    WANT(icu_locale_set_other(&locale, TEXT("a-foo-")) == ICU_LOCALE_INVALID_EXTENSION);
+    WANT(icu_locale_set_other(&locale, TEXT("a-!!")) == ICU_LOCALE_INVALID_EXTENSION);
+    WANT(icu_locale_set_other(&locale, TEXT("a-123456789")) == ICU_LOCALE_INVALID_EXTENSION);
+    WANT(icu_locale_set_other(&locale, TEXT("aa-foo")) == ICU_LOCALE_INVALID_EXTENSION);
+    WANT(icu_locale_set_other(&locale, TEXT("u-ca")) == ICU_LOCALE_INVALID_EXTENSION);
+    WANT(icu_locale_set_other(&locale, TEXT("T-de")) == ICU_LOCALE_INVALID_EXTENSION);
+    WANT(icu_locale_set_other(&locale, TEXT("x-foo")) == ICU_LOCALE_INVALID_EXTENSION);
+    WANT(icu_locale_set_other(&locale, TEXT("!-foo")) == ICU_LOCALE_INVALID_EXTENSION);
+    WANT(icu_locale_set_other(&locale, NULL, 0) == ICU_LOCALE_INVALID_EXTENSION);
+    WANT(is_now(&locale, "und-9-12345678-a-foo-bar-u-ca-roc-z-zz"));
+    WANT(icu_locale_set_other(&locale, TEXT("a-!!-baz")) == ICU_LOCALE_DONE && strcmp(other(&locale, 'a'), "a-baz") == 0);
+    WANT(icu_locale_remove_other(&locale, 'x') == ICU_LOCALE_NOT_FOUND);
+    WANT(icu_locale_remove_other(&locale, 'u') == ICU_LOCALE_NOT_FOUND);
+    WANT(icu_locale_remove_other(&locale, 'A') == ICU_LOCALE_DONE && is_now(&locale, "und-9-12345678-u-ca-roc-z-zz"));
+    WANT(icu_locale_remove_other(&locale, 'a') == ICU_LOCALE_NOT_FOUND);
+    WANT(icu_locale_clear_keywords(&locale) == ICU_LOCALE_DONE && icu_locale_remove_other(&locale, '9') == ICU_LOCALE_DONE);
+    WANT(icu_locale_remove_other(&locale, 'z') == ICU_LOCALE_DONE && locale.at == NULL);
+}
+
+static void try_extending(void)
+{
+    icu_locale_t locale = ICU_LOCALE_UND, from = ICU_LOCALE_UND;
+    WANT(icu_locale_extend_unicode(&locale, &from) == ICU_LOCALE_DONE && locale.at == NULL);
+    PARSES(&from, "de-t-fr-u-foo-ca-roc-nu-latn-x-a");
+    WANT(icu_locale_extend_unicode(&locale, &from) == ICU_LOCALE_DONE && is_now(&locale, "und-u-foo-ca-roc-nu-latn"));
+    PARSES(&locale, "en-US-u-bar-ca-buddhist-hc-h12-x-b");
+    WANT(icu_locale_extend_unicode(&locale, &from) == ICU_LOCALE_DONE);
+    WANT(is_now(&locale, "en-US-u-bar-foo-ca-roc-hc-h12-nu-latn-x-b") && is_now(&from, "de-t-fr-u-foo-ca-roc-nu-latn-x-a"));
+    icu_locale_free(&from);
+    WANT(icu_locale_extend_unicode(&locale, &from) == ICU_LOCALE_DONE && from.at == NULL);
+    WANT(is_now(&locale, "en-US-u-bar-foo-ca-roc-hc-h12-nu-latn-x-b"));
+    icu_locale_free(&locale);
+}
+
+static const char *data(icu_locale_t *locale, icu_locale_priority priority)
+{
+    size_t needed = 77;
+    icu_locale_status status = icu_locale_get_data_locale(locale, priority, (uint8_t *)last, ROOM - 1, &needed);
+    return ended(status, needed);
+}
+
+/* The texts of both data locales of a locale. */
+static int is_data(const char *text, const char *by_language, const char *by_region)
+{
+    icu_locale_t locale = ICU_LOCALE_UND;
+    int8_t order = 9;
+    PARSES(&locale, text);
+    int is_same = strcmp(data(&locale, ICU_LOCALE_BY_LANGUAGE), by_language) == 0;
+    is_same = is_same && strcmp(data(&locale, ICU_LOCALE_BY_REGION), by_region) == 0;
+    WANT(icu_locale_data_cmp_bytes(&locale, ICU_LOCALE_BY_LANGUAGE, TEXT(by_language), &order) == ICU_LOCALE_DONE && order == 0);
+    WANT(icu_locale_data_cmp_bytes(&locale, ICU_LOCALE_BY_REGION, TEXT(by_region), &order) == ICU_LOCALE_DONE && order == 0);
+    icu_locale_free(&locale);
+    return is_same;
+}
+
+static void try_data(void)
+{
+    icu_locale_t locale = ICU_LOCALE_UND, other = ICU_LOCALE_UND;
+    size_t needed = 77;
+    int8_t order = 9;
+    uint8_t small[3] = "##";
+    WANT(is_data("und", "und", "und") && is_data("EN-latn-gb-posix-u-ca-roc", "en-Latn-GB-posix", "en-Latn-GB-posix"));
+    WANT(is_data("en-GB-u-rg-uszzzz", "en-GB", "en-US") && is_data("en-u-rg-ustx", "en", "en-US-u-sd-ustx"));
+    WANT(is_data("en-US-u-sd-ustx", "en-US-u-sd-ustx", "en-US-u-sd-ustx") && is_data("en-FR-u-sd-ustx", "en-FR", "en-FR"));
+    WANT(is_data("en-u-sd-ustx", "en-US-u-sd-ustx", "en-US-u-sd-ustx"));
+    PARSES(&locale, "en-GB-u-rg-uszzzz");
+    PARSES(&other, "en-GB");
+    WANT(icu_locale_data_cmp(&locale, &other, ICU_LOCALE_BY_LANGUAGE, &order) == ICU_LOCALE_DONE && order == 0);
+    WANT(icu_locale_data_cmp(&locale, &other, ICU_LOCALE_BY_REGION, &order) == ICU_LOCALE_DONE && order == 1);
+    WANT(icu_locale_data_cmp(&other, &locale, ICU_LOCALE_BY_REGION, &order) == ICU_LOCALE_DONE && order == -1);
+    WANT(icu_locale_data_cmp_bytes(&locale, ICU_LOCALE_BY_REGION, NULL, 0, &order) == ICU_LOCALE_DONE && order == 1);
+    WANT(icu_locale_data_cmp_bytes(&locale, ICU_LOCALE_BY_REGION, TEXT("f"), &order) == ICU_LOCALE_DONE && order == -1);
+    WANT(icu_locale_get_data_locale(&locale, 2, small, 3, &needed) == ICU_LOCALE_UNKNOWN_NUMBER && needed == 0);
+    WANT(icu_locale_get_data_locale(&locale, 0, small, 3, &needed) == ICU_LOCALE_BUFFER_TOO_SMALL && needed == 5);
+    WANT(memcmp(small, "##", 3) == 0);
+    order = 9;
+    WANT(icu_locale_data_cmp_bytes(&locale, UINT32_MAX, TEXT("en"), &order) == ICU_LOCALE_UNKNOWN_NUMBER && order == 9);
+    WANT(icu_locale_data_cmp(&locale, &other, 2, &order) == ICU_LOCALE_UNKNOWN_NUMBER && order == 9);
+    WANT(is_now(&locale, "en-GB-u-rg-uszzzz") && is_now(&other, "en-GB"));
+    icu_locale_free(&locale);
+    icu_locale_free(&other);
+}
+
+/* What formatters read of the keywords of a text. */
+static int formats(const char *text, const char *calendar, const char *hours, const char *numbering)
+{
+    icu_locale_t locale = ICU_LOCALE_UND;
+    PARSES(&locale, text);
+    int is_same = strcmp(read_part(&locale, icu_locale_get_calendar_algorithm), calendar) == 0;
+    is_same = is_same && strcmp(read_part(&locale, icu_locale_get_hour_cycle), hours) == 0;
+    is_same = is_same && strcmp(read_part(&locale, icu_locale_get_numbering_system), numbering) == 0;
+    WANT(is_now(&locale, normal_of(ICU_LOCALE_LOCALE, text)));
+    icu_locale_free(&locale);
+    return is_same;
+}
+
+static void try_formats(void)
+{
+    WANT(formats("und", "?", "?", "?") && formats("en-u-CA-Buddhist-HC-H12-NU-Thai", "buddhist", "h12", "thai"));
+    WANT(formats("en-u-ca-islamicc-hc-c24-nu-latn", "islamic-civil", "c24", "latn"));
+    WANT(formats("en-u-ca-islamic-umalqura-hc-h23-nu-ab1", "islamic-umalqura", "h23", "ab1"));
+    WANT(formats("en-u-ca-islamic", "islamic", "?", "?") && formats("en-u-ca-ethiopic-amete-alem", "ethioaa", "?", "?"));
+    WANT(formats("en-u-ca-hc-nu", "?", "?", "?") && formats("en-u-ca-true-hc-h25-nu-latn-foo", "?", "?", "?"));
+    WANT(formats("en-u-ca-buddhist-foo-hc-h12-h23", "?", "?", "?"));
 }
 
 /* Random calls, and a model of a locale. */
@@ -787,6 +928,16 @@ static icu_locale_status call_keyword(icu_locale_t *it)
     return icu_locale_set_keyword(it, TEXT("nu"), TEXT("aaa-bbb-ccc-ddd-eee-fff"));
 }
 
+static icu_locale_status call_other(icu_locale_t *it)
+{
+    return icu_locale_set_other(it, TEXT("a-aaa-bbb-ccc-ddd-eee"));
+}
+
+static icu_locale_status call_extend(icu_locale_t *it)
+{
+    return icu_locale_extend_unicode(it, &source);
+}
+
 static icu_locale_status call_eq_text(icu_locale_t *it)
 {
     uint8_t same = 9;
@@ -800,6 +951,10 @@ static icu_locale_status call_nothing(icu_locale_t *it)
     WANT(icu_locale_set_region(it, TEXT("fra")) == ICU_LOCALE_INVALID_SUBTAG);
     WANT(icu_locale_remove_variant(it, TEXT("fonipa")) == ICU_LOCALE_NOT_FOUND);
     WANT(icu_locale_remove_keyword(it, TEXT("zz")) == ICU_LOCALE_NOT_FOUND);
+    WANT(icu_locale_remove_field(it, TEXT("z0")) == ICU_LOCALE_NOT_FOUND && !icu_locale_has_other(it, 'z'));
+    WANT(icu_locale_remove_other(it, 'z') == ICU_LOCALE_NOT_FOUND);
+    WANT(strcmp(data(it, ICU_LOCALE_BY_REGION), "") != 0 && strcmp(other(it, 'z'), "?") == 0);
+    WANT(strcmp(read_part(it, icu_locale_get_hour_cycle), "?") == 0);
     return icu_locale_clear_keywords(it);
 }
 
@@ -842,6 +997,8 @@ static void try_refused(void)
         refuse_each(call_transform_language, starts[i], 1);
         refuse_each(call_field, starts[i], 1);
         refuse_each(call_private, starts[i], 1);
+        refuse_each(call_other, starts[i], 1);
+        refuse_each(call_extend, starts[i], 1);
         refuse_each(call_eq_text, starts[i], 1);
         refuse_each(call_nothing, starts[i], 0);
         WANT(live == held);
@@ -861,6 +1018,10 @@ int main(int count, char **words)
         try_attributes();
         try_transform();
         try_private();
+        try_others();
+        try_extending();
+        try_data();
+        try_formats();
     } else if (count == 4 && !strcmp(words[1], "script")) {
         try_script(strtoull(words[2], NULL, 10), strtol(words[3], NULL, 10));
     } else if (count == 2 && !strcmp(words[1], "refused")) {

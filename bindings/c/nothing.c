@@ -116,9 +116,32 @@ static void try_extensions(void)
     WANT(wants(icu_locale_get_field_value(&und, 0, NONE, &needed), 0));
     WANT(wants(icu_locale_get_field(&und, NONE, NONE, &needed), 0));
     WANT(icu_locale_set_field(&und, NONE, NONE) == ICU_LOCALE_INVALID_EXTENSION);
+    WANT(icu_locale_remove_field(&und, NONE) == ICU_LOCALE_NOT_FOUND);
     WANT(icu_locale_clear_fields(&und) == ICU_LOCALE_DONE);
+    WANT(!icu_locale_has_other(&und, 'a') && !icu_locale_has_other(&und, 0));
+    WANT(wants(icu_locale_get_other(&und, 'a', NONE, &needed), 0));
+    WANT(icu_locale_set_other(&und, NONE) == ICU_LOCALE_INVALID_EXTENSION);
+    WANT(icu_locale_remove_other(&und, 'a') == ICU_LOCALE_NOT_FOUND);
+    WANT(icu_locale_extend_unicode(&und, &other) == ICU_LOCALE_DONE);
     WANT(is_empty(icu_locale_get_private(&und, NONE, &needed)));
     WANT(icu_locale_set_private(&und, NONE) == ICU_LOCALE_DONE);
+}
+
+static void try_data_locales(void)
+{
+    int8_t order = UNTOUCHED;
+    for (icu_locale_priority priority = ICU_LOCALE_BY_LANGUAGE; priority <= ICU_LOCALE_BY_REGION; priority++) {
+        WANT(wants(icu_locale_get_data_locale(&und, priority, NONE, &needed), 3));
+        WANT(icu_locale_data_cmp_bytes(&und, priority, NONE, &order) == ICU_LOCALE_DONE && order == 1);
+        WANT(icu_locale_data_cmp(&und, &other, priority, &order) == ICU_LOCALE_DONE && order == 0);
+        order = UNTOUCHED;
+    }
+    WANT(icu_locale_get_data_locale(&und, 2, NONE, &needed) == ICU_LOCALE_UNKNOWN_NUMBER && needed == 0);
+    WANT(icu_locale_data_cmp_bytes(&und, 2, NONE, &order) == ICU_LOCALE_UNKNOWN_NUMBER && order == UNTOUCHED);
+    WANT(icu_locale_data_cmp(&und, &other, 2, &order) == ICU_LOCALE_UNKNOWN_NUMBER && order == UNTOUCHED);
+    WANT(wants(icu_locale_get_calendar_algorithm(&und, NONE, &needed), 0));
+    WANT(wants(icu_locale_get_hour_cycle(&und, NONE, &needed), 0));
+    WANT(wants(icu_locale_get_numbering_system(&und, NONE, &needed), 0));
 }
 
 int main(void)
@@ -128,6 +151,7 @@ int main(void)
     try_whole();
     try_identifier();
     try_extensions();
+    try_data_locales();
     printf("%lu\n", cases);
     return 0;
 }

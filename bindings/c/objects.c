@@ -96,6 +96,43 @@ static void write_transform_language(icu_locale_t *locale)
     putchar('\t');
 }
 
+static void write_others(icu_locale_t *locale)
+{
+    int is_first = 1;
+    for (const char *at = "0123456789abcdefghijklmnopqrstuvwxyz"; *at; at++) {
+        size_t length;
+        icu_locale_status status = icu_locale_get_other(locale, (uint8_t)*at, reply, sizeof reply, &length);
+        if (icu_locale_has_other(locale, (uint8_t)*at) != (status == ICU_LOCALE_DONE))
+            stop("another extension is there, and is not");
+        if (status == ICU_LOCALE_NOT_FOUND)
+            continue;
+        if (!is_first)
+            putchar(',');
+        is_first = 0;
+        write_part(status, length);
+    }
+    putchar('\t');
+}
+
+static void write_data_locale(icu_locale_t *locale, icu_locale_priority priority)
+{
+    size_t length;
+    icu_locale_status status = icu_locale_get_data_locale(locale, priority, reply, sizeof reply, &length);
+    write_part(status, length);
+    putchar('\t');
+}
+
+static void write_preference(icu_locale_t *locale, reading call)
+{
+    size_t length;
+    icu_locale_status status = call(locale, reply, sizeof reply, &length);
+    if (status == ICU_LOCALE_NOT_FOUND)
+        putchar('-');
+    else
+        write_part(status, length);
+    putchar('\t');
+}
+
 static void write_parts(icu_locale_t *locale)
 {
     write_field(locale, icu_locale_to_string);
@@ -109,6 +146,12 @@ static void write_parts(icu_locale_t *locale)
     write_transform_language(locale);
     write_list(locale, icu_locale_field_count(locale), icu_locale_get_field_key, icu_locale_get_field_value);
     write_field(locale, icu_locale_get_private);
+    write_others(locale);
+    write_data_locale(locale, ICU_LOCALE_BY_LANGUAGE);
+    write_data_locale(locale, ICU_LOCALE_BY_REGION);
+    write_preference(locale, icu_locale_get_calendar_algorithm);
+    write_preference(locale, icu_locale_get_hour_cycle);
+    write_preference(locale, icu_locale_get_numbering_system);
     printf("%d%d\t%016" PRIx64 "\n", icu_locale_is_und(locale), icu_locale_is_well_formed(locale), icu_locale_hash(locale));
 }
 

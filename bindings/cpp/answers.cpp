@@ -75,9 +75,15 @@ static std::string parts(const locale &it)
     };
     char hash[17];
     std::snprintf(hash, sizeof hash, "%016llx", static_cast<unsigned long long>(it.hash()));
+    std::vector<std::string> others;
+    for (const char singleton : std::string("0123456789abcdefghijklmnopqrstuvwxyz"))
+        if (const auto other = it.other(singleton))
+            others.push_back(*other);
     const std::vector<std::string> fields = {it.to_string(), it.base_name(), it.language(), it.script().value_or(""),
         it.region().value_or(""), joined(it.variants()), joined(it.attributes()), joined_pairs(it.keywords()),
         it.transform_language().value_or(""), joined_pairs(it.fields()), it.private_extension(),
+        joined(others), it.data_locale(), it.data_locale(icu_locale::priority::region),
+        it.calendar_algorithm().value_or("-"), it.hour_cycle().value_or("-"), it.numbering_system().value_or("-"),
         std::string(it.is_und() ? "1" : "0") + (it.is_well_formed() ? "1" : "0"), hash};
     std::string text;
     for (const auto &field : fields)
@@ -106,6 +112,19 @@ static std::string compare_objects(const locale &one, const locale &other)
         std::abort();
     const std::hash<locale> hash;
     return std::to_string(order) + " " + bit(one == other) + " " + bit(hash(one) == hash(other));
+}
+
+/* The order of the data locales of both, by each priority, and of that of the first against the text of the other's. */
+static std::string compare_data(const locale &one, const locale &other)
+{
+    std::string orders;
+    for (const auto by : {icu_locale::priority::language, icu_locale::priority::region}) {
+        const int order = one.data_compare(other, by), against = one.data_strict_cmp(other.data_locale(by), by);
+        if (other.data_compare(one, by) != -order)
+            std::abort();
+        orders += (orders.empty() ? "" : " ") + std::to_string(order) + " " + std::to_string(against);
+    }
+    return orders;
 }
 
 static std::string two_objects(const std::string &first, const std::string &second)
@@ -179,6 +198,22 @@ static std::string take_step(std::array<locale, 4> &slots, const std::vector<std
         const auto value = it.field(argument);
         return value ? "=" + *value : "none";
     }
+    if (call == "remove-field")
+        return found(it.remove_field(argument));
+    if (call == "set-other")
+        return given([&] { it.set_other(argument); });
+    if (call == "get-other") {
+        const auto value = it.other(argument.at(0));
+        if (value.has_value() != it.has_other(argument.at(0)))
+            std::abort();
+        return value ? "=" + *value : "none";
+    }
+    if (call == "remove-other")
+        return found(it.remove_other(argument.at(0)));
+    if (call == "extend")
+        return given([&] { it.extend_unicode(other()); });
+    if (call == "compare-data")
+        return compare_data(it, other());
     if (call == "clear-fields")
         return given([&] { it.clear_fields(); });
     if (call == "set-keyword")

@@ -106,6 +106,9 @@ static void make_and_read(const char *start)
     refuse_each(start, [](locale &it) { it.transform_language(); });
     refuse_each(start, [](locale &it) { it.private_extension(); });
     refuse_each(start, [](locale &it) { it.normalizing_eq(LONG); });
+    refuse_each(start, [](locale &it) { it.other('a'); });
+    refuse_each(start, [](locale &it) { it.data_locale(icu_locale::priority::region); });
+    refuse_each(start, [](locale &it) { it.calendar_algorithm(); });
 }
 
 static void change(const char *start)
@@ -127,7 +130,12 @@ static void change(const char *start)
     refuse_each(start, [](locale &it) { it.clear_attributes(); });
     refuse_each(start, [](locale &it) { it.set_transform_language("de-aaaaa-bbbbb-ccccc-ddddd-eeeee"); });
     refuse_each(start, [](locale &it) { it.set_field("h0", "aaa-bbb-ccc-ddd-eee"); });
+    refuse_each(start, [](locale &it) { it.remove_field("m0"); });
     refuse_each(start, [](locale &it) { it.clear_fields(); });
+    refuse_each(start, [](locale &it) { it.set_other("c-foo-bar"); });
+    refuse_each(start, [](locale &it) { it.set_other("a-bar"); });
+    refuse_each(start, [](locale &it) { it.remove_other('a'); });
+    refuse_each(start, [](locale &it) { it.extend_unicode(other); });
     refuse_each(start, [](locale &it) { it.set_private_extension("x-a-b-c-d-e-f"); });
 }
 
@@ -139,6 +147,8 @@ static void make_no_request(const char *start)
     ask_nothing(start, [](const locale &it, const locale &) { return std::hash<locale>()(it); });
     ask_nothing(start, [](const locale &it, const locale &) { return it.is_und() == it.is_well_formed(); });
     ask_nothing(start, [](const locale &it, const locale &) { return it.has_variant("aaaaa") == it.has_attribute("aaa"); });
+    ask_nothing(start, [](const locale &it, const locale &other) { return it.data_compare(other); });
+    ask_nothing(start, [](const locale &it, const locale &) { return it.data_strict_cmp(LONG) == it.has_other('a'); });
     locale one(start), other(LONG);
     refusing_after(0);
     swap(one, other);

@@ -12,7 +12,7 @@ after it. Fields stand between tabs. tools/object_model.py says what is wanted."
 
 import sys
 
-from icu_locale_c import Locale, LocaleError, Mode, check, compare, normalize, normalizing_eq, strict_cmp
+from icu_locale_c import Locale, LocaleError, Mode, Priority, check, compare, normalize, normalizing_eq, strict_cmp
 
 MODES = {"langid": Mode.IDENTIFIER, "locale": Mode.LOCALE, "data": Mode.DATA_LOCALE}
 
@@ -43,6 +43,9 @@ def parts(locale):
     fields = [str(locale), locale.base_name, locale.language, locale.script or "", locale.region or ""]
     fields += [",".join(locale.variants), ",".join(locale.attributes), keywords]
     fields += [locale.transform_language or "", pairs, locale.private or ""]
+    fields += [",".join(f"{it}-{text}" for it, text in locale.others.items())]
+    fields += [locale.data_locale(), locale.data_locale(Priority.REGION)]
+    fields += [it or "-" for it in (locale.calendar_algorithm, locale.hour_cycle, locale.numbering_system)]
     # Each Locale is well-formed. A hash may be cut by the interpreter.
     assert Locale(str(locale)) == locale
     return "\t".join([*fields, f"{int(locale.is_und)}1", f"{locale.__hash__():016x}"])
@@ -54,6 +57,16 @@ def compared_objects(one, other):
     assert (one <= other, one >= other) == (order <= 0, order >= 0) and (other > one) - (other < one) == -order
     assert (one == other) != (one != other)
     return f"{order} {int(one == other)} {int(hash(one) == hash(other))}"
+
+
+def compared_data(one, other):
+    """The order of the data locales of both, by each priority, and of that of the first against the text of the other's."""
+    orders = []
+    for by in Priority:
+        order = one.data_compare(other, by)
+        assert other.data_compare(one, by) == -order
+        orders.append(f"{order} {one.data_strict_cmp(other.data_locale(by), by)}")
+    return " ".join(orders)
 
 
 def against(locale, text):
@@ -77,7 +90,7 @@ def take_step(slots, call, at, *given):
         slots[at] = locale.replace(**{call: texts[0]})
     elif call == "parse":
         slots[at] = Locale(texts[0])
-    elif call.startswith(("add-", "remove-", "has-", "clear-")) and "keyword" not in call and "field" not in call:
+    elif call.startswith(("add-", "remove-", "has-", "clear-")) and call.rpartition("-")[2].rstrip("s") in ("variant", "attribute"):
         what, name = call.rstrip("s").split("-")
         words = getattr(locale, f"{name}s")
         if what == "has":
@@ -91,6 +104,23 @@ def take_step(slots, call, at, *given):
         slots[at] = locale.replace(fields={**locale.fields, texts[0]: texts[1]})
     elif call == "get-field":
         return f"={locale.fields[word]}" if word in locale.fields else "none"
+    elif call == "remove-field":
+        if word not in locale.fields:
+            return "none"
+        slots[at] = locale.replace(fields={key: value for key, value in locale.fields.items() if key != word})
+    elif call == "set-other":
+        key, _, value = texts[0].partition(b"-")
+        slots[at] = locale.replace(others={**locale.others, key: value})
+    elif call == "get-other":
+        return f"={word}-{locale.others[word]}" if word in locale.others else "none"
+    elif call == "remove-other":
+        if word not in locale.others:
+            return "none"
+        slots[at] = locale.replace(others={key: value for key, value in locale.others.items() if key != word})
+    elif call == "extend":
+        slots[at] = locale.extend_unicode(slots[int(word)])
+    elif call == "compare-data":
+        return compared_data(locale, slots[int(word)])
     elif call == "clear-fields":
         slots[at] = locale.replace(fields={})
     elif call == "set-keyword":

@@ -9,7 +9,7 @@ import os
 import pickle
 import sys
 
-from icu_locale_c import Locale, Mode, check, compare, normalize, normalizing_eq, strict_cmp
+from icu_locale_c import Locale, Mode, Priority, check, compare, normalize, normalizing_eq, strict_cmp
 
 HOOKS = ctypes.CDLL(os.environ["ICU_LOCALE_LIBRARY"])
 HOOKS.refusing_after.argtypes = (ctypes.c_long,)
@@ -23,6 +23,7 @@ STARTS = [
     "en-aaaaa-bbbbb-ccccc-ddddd-eeeee-a-foo-t-de-m0-abc-abcdefgh-u-aaa-bbb-ccc-ddd-eee-ca-roc-nu-latn-x-a-b-c-d-e",
 ]
 LONG = "de-aaaaa-bbbbb-ccccc-ddddd-eeeee-b-foo-t-und-m0-abc-u-aaa-ca-aaa-bbb-ccc-ddd-eee-co-phonebk-x-a-b-c-d-e"
+OTHER = Locale(LONG)
 CALLS = [
     lambda _: Locale(LONG),
     lambda it: it.normalizing_eq(LONG),
@@ -34,6 +35,8 @@ CALLS = [
     lambda it: it.replace(transform_language="de-aaaaa-bbbbb-ccccc-ddddd-eeeee"),
     lambda it: it.replace(fields={"h0": "aaa-bbb-ccc-ddd-eee", "m0": "din"}),
     lambda it: it.replace(private="x-a-b-c-d-e-f"),
+    lambda it: it.replace(others={"a": "foo-bar", "z": "foo"}),
+    lambda it: it.extend_unicode(OTHER),
     lambda _: normalize(LONG),
     lambda _: check(LONG),
     lambda _: strict_cmp(LONG, LONG),
@@ -44,7 +47,8 @@ CALLS = [
 # Reading, comparing and hashing make no request.
 QUIET = [
     lambda it, _: (str(it), it.base_name, it.language, it.script, it.region, it.variants, it.attributes, it.is_und),
-    lambda it, _: (dict(it.keywords), it.transform_language, dict(it.fields), it.private),
+    lambda it, _: (dict(it.keywords), it.transform_language, dict(it.fields), it.private, dict(it.others)),
+    lambda it, other: (it.data_locale(Priority.REGION), it.data_compare(other), it.data_strict_cmp(LONG), it.hour_cycle),
     lambda it, other: (it == other, it < other, hash(it), it.strict_cmp(LONG)),
 ]
 

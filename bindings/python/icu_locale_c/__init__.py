@@ -39,6 +39,7 @@ from typing import Any, Callable, Dict, Iterable, Mapping, Optional, Tuple, Unio
 __all__ = [
     "Locale",
     "Mode",
+    "Priority",
     "LocaleError",
     "InvalidLanguage",
     "InvalidSubtag",
@@ -52,7 +53,7 @@ __all__ = [
     "compare",
 ]
 
-HEADER = 3
+HEADER = 4
 HERE = pathlib.Path(__file__).resolve().parent
 TOP = HERE.parents[2]
 
@@ -76,6 +77,13 @@ class Mode(enum.IntEnum):
     IDENTIFIER = 0
     LOCALE = 1
     DATA_LOCALE = 2
+
+
+class Priority(enum.IntEnum):
+    """Of which region a data locale is: the locale's own, with its keyword sd, or that of its keyword rg."""
+
+    LANGUAGE = 0
+    REGION = 1
 
 
 class LocaleError(ValueError):
@@ -104,18 +112,19 @@ class _Handle(ctypes.Structure):
     _fields_ = [("at", ctypes.c_void_p)]
 
 
-_DONE, _INVALID_SUBTAG, _BUFFER_TOO_SMALL, _NOT_FOUND = 0, 2, 6, 8
+_DONE, _INVALID_SUBTAG, _INVALID_EXTENSION, _BUFFER_TOO_SMALL, _NOT_FOUND = 0, 2, 3, 6, 8
 _REFUSALS = {1: InvalidLanguage, 2: InvalidSubtag, 3: InvalidExtension, 4: DuplicatedExtension, 5: MemoryError}
-_NUMBER, _BYTES, _SIZE = ctypes.c_uint32, ctypes.c_char_p, ctypes.c_size_t
+_NUMBER, _BYTES, _SIZE, _BYTE = ctypes.c_uint32, ctypes.c_char_p, ctypes.c_size_t, ctypes.c_uint8
+_ORDER, _SAME = ctypes.POINTER(ctypes.c_int8), ctypes.POINTER(ctypes.c_uint8)
 _NEEDED, _LOCALE, _TRUTH = ctypes.POINTER(_SIZE), ctypes.POINTER(_Handle), ctypes.c_bool
 _TEXT, _BUFFER = (_BYTES, _SIZE), (_BYTES, _SIZE, _NEEDED)
 # Of each function its arguments, and what it returns, if that is no status.
 _FORMS = {
     "normalize": (_NUMBER, *_TEXT, *_BUFFER),
     "check": (_NUMBER, *_TEXT),
-    "strict_cmp": (_NUMBER, *_TEXT, *_TEXT, ctypes.POINTER(ctypes.c_int8)),
-    "normalizing_eq": (_NUMBER, *_TEXT, *_TEXT, ctypes.POINTER(ctypes.c_uint8)),
-    "compare": (_NUMBER, *_TEXT, *_TEXT, ctypes.POINTER(ctypes.c_int8)),
+    "strict_cmp": (_NUMBER, *_TEXT, *_TEXT, _ORDER),
+    "normalizing_eq": (_NUMBER, *_TEXT, *_TEXT, _SAME),
+    "compare": (_NUMBER, *_TEXT, *_TEXT, _ORDER),
     "words": (_NUMBER, *_BUFFER),
     "parse": (_LOCALE, *_TEXT),
     "copy": (_LOCALE, _LOCALE),
@@ -125,12 +134,20 @@ _FORMS = {
     "cmp": (_LOCALE, _LOCALE),
     "eq": (_LOCALE, _LOCALE),
     "cmp_bytes": (_LOCALE, *_TEXT),
-    "eq_text": (_LOCALE, *_TEXT, ctypes.POINTER(ctypes.c_uint8)),
+    "eq_text": (_LOCALE, *_TEXT, _SAME),
     "hash": (_LOCALE,),
+    "get_other": (_LOCALE, _BYTE, *_BUFFER),
+    "set_other": (_LOCALE, *_TEXT),
+    "remove_other": (_LOCALE, _BYTE),
+    "extend_unicode": (_LOCALE, _LOCALE),
+    "get_data_locale": (_LOCALE, _NUMBER, *_BUFFER),
+    "data_cmp_bytes": (_LOCALE, _NUMBER, *_TEXT, _ORDER),
+    "data_cmp": (_LOCALE, _LOCALE, _NUMBER, _ORDER),
     "set_keyword": (_LOCALE, *_TEXT, *_TEXT),
     "get_keyword": (_LOCALE, *_TEXT, *_BUFFER),
     "set_field": (_LOCALE, *_TEXT, *_TEXT),
     **dict.fromkeys(("get_transform_language", "get_private"), (_LOCALE, *_BUFFER)),
+    **dict.fromkeys(("get_calendar_algorithm", "get_hour_cycle", "get_numbering_system"), (_LOCALE, *_BUFFER)),
     **dict.fromkeys(("set_transform_language", "set_private"), (_LOCALE, *_TEXT)),
     **dict.fromkeys(("get_field_key", "get_field_value"), (_LOCALE, _SIZE, *_BUFFER)),
     **dict.fromkeys(("variant_count", "keyword_count", "attribute_count", "field_count"), (_LOCALE,)),
@@ -269,6 +286,7 @@ def compare(text: Text, other: Text, mode: Mode = Mode.LOCALE) -> int:
 
 
 _KEPT: Any = object()
+_SINGLETONS = "0123456789abcdefghijklmnopqrsvwyz"
 
 
 def _texts(given: Iterable[Text]) -> Tuple[Text, ...]:
@@ -435,6 +453,52 @@ class Locale:
         return self._read(_library.icu_locale_get_private) or None
 
     @property
+    def others(self) -> Mapping[str, str]:
+        """The other extensions, by ascending singleton. It does not change.
+
+        >>> dict(Locale("en-b-bar-a-foo-baz-x-a").others)
+        {'a': 'foo-baz', 'b': 'bar'}
+        """
+        found = ((it, self._read(_library.icu_locale_get_other, ord(it))) for it in _SINGLETONS)
+        return types.MappingProxyType({it: text[2:] for it, text in found if text})
+
+    @property
+    def calendar_algorithm(self) -> Optional[str]:
+        """The calendar of the keyword ca, as formatters read it, if it names one.
+
+        >>> Locale("en-u-ca-islamicc").calendar_algorithm, Locale("en-u-ca-foo").calendar_algorithm
+        ('islamic-civil', None)
+        """
+        return self._read(_library.icu_locale_get_calendar_algorithm)
+
+    @property
+    def hour_cycle(self) -> Optional[str]:
+        """The hour cycle of the keyword hc, if it names one.
+
+        >>> Locale("en-u-hc-h12").hour_cycle
+        'h12'
+        """
+        return self._read(_library.icu_locale_get_hour_cycle)
+
+    @property
+    def numbering_system(self) -> Optional[str]:
+        """The numbering system of the keyword nu, if it is one subtag.
+
+        >>> Locale("th-u-nu-thai").numbering_system
+        'thai'
+        """
+        return self._read(_library.icu_locale_get_numbering_system)
+
+    def data_locale(self, priority: Priority = Priority.LANGUAGE) -> str:
+        """Returns the text of the data locale, by which data is looked up.
+
+        >>> locale = Locale("en-GB-u-rg-uszzzz")
+        >>> locale.data_locale(), locale.data_locale(Priority.REGION)
+        ('en-GB', 'en-US')
+        """
+        return self._part(_library.icu_locale_get_data_locale, Priority(priority))
+
+    @property
     def base_name(self) -> str:
         """The identifier alone, without extensions.
 
@@ -464,12 +528,13 @@ class Locale:
         attributes: Iterable[Text] = _KEPT,
         transform_language: Optional[Text] = _KEPT,
         fields: Mapping[Any, Text] = _KEPT,
+        others: Mapping[Any, Text] = _KEPT,
         private: Optional[Text] = _KEPT,
     ) -> "Locale":
         """Returns a locale that has these parts instead, and else those of this one.
 
-        None clears a language, script, region, transform_language or private. All variants, keywords, attributes or
-        fields are replaced by those given.
+        None clears a language, script, region, transform_language or private. All variants, keywords, attributes,
+        fields or others are replaced by those given.
 
         >>> locale = Locale("en-US-u-ca-buddhist")
         >>> locale.replace(language="fr", region=None)
@@ -504,11 +569,13 @@ class Locale:
             made._fill_pairs("clear_keywords", "set_keyword", keywords)
         if fields is not _KEPT:
             made._fill_pairs("clear_fields", "set_field", fields)
+        if others is not _KEPT:
+            made._fill_others(others)
         if not _library.icu_locale_is_well_formed(made._handle):
             _raise(_INVALID_SUBTAG)
         return made
 
-    # These three change a locale that no one else has yet.
+    # These four change a locale that no one else has yet.
 
     def _set(self, part: str, text: Optional[Text]) -> None:
         if text is not _KEPT:
@@ -527,6 +594,56 @@ class Locale:
         for key, value in pairs.items():
             at, text = _bytes(key), _bytes(value)
             _raise(getattr(_library, f"icu_locale_{put}")(self._handle, at, len(at), text, len(text)))
+
+    def _fill_others(self, others: Mapping[Any, Text]) -> None:
+        if not isinstance(others, Mapping):
+            raise TypeError(f"a mapping of singletons to subtags is wanted, not {type(others).__name__}")
+        for it in _SINGLETONS:
+            status = _library.icu_locale_remove_other(self._handle, ord(it))
+            _raise(_DONE if status == _NOT_FOUND else status)
+        for key, subtags in others.items():
+            singleton, text = _bytes(key), _bytes(subtags)
+            if len(singleton) != 1:
+                _raise(_INVALID_EXTENSION)
+            given = singleton + b"-" + text
+            _raise(_library.icu_locale_set_other(self._handle, given, len(given)))
+
+    def extend_unicode(self, other: "Locale") -> "Locale":
+        """Returns a locale that also has the attributes and keywords of the other one, whose values win.
+
+        >>> Locale("en-u-foo-ca-roc-hc-h12").extend_unicode(Locale("de-u-bar-ca-buddhist"))
+        Locale('en-u-bar-foo-ca-buddhist-hc-h12')
+        """
+        if not isinstance(other, Locale):
+            raise TypeError(f"a Locale is wanted, not {type(other).__name__}")
+        made = self.replace()
+        with other._lock:
+            _raise(_library.icu_locale_extend_unicode(made._handle, other._handle))
+        return made
+
+    def data_strict_cmp(self, other: Text, priority: Priority = Priority.LANGUAGE) -> int:
+        """Returns the byte order of the text of the data locale against the other text as it stands: -1, 0 or 1.
+
+        >>> Locale("en-GB-x-a").data_strict_cmp("en-GB"), Locale("en-GB").data_strict_cmp("EN-GB")
+        (0, 1)
+        """
+        given, order = _bytes(other), ctypes.c_int8()
+        with self._lock:
+            _raise(_library.icu_locale_data_cmp_bytes(self._handle, Priority(priority), given, len(given), ctypes.byref(order)))
+        return order.value
+
+    def data_compare(self, other: "Locale", priority: Priority = Priority.LANGUAGE) -> int:
+        """Returns the order of the data locales of both by language, script, region part and variant: -1, 0 or 1.
+
+        >>> Locale("en-GB-u-rg-uszzzz").data_compare(Locale("en-US"), Priority.REGION)
+        0
+        """
+        if not isinstance(other, Locale):
+            raise TypeError(f"a Locale is wanted, not {type(other).__name__}")
+        order, number = ctypes.c_int8(), Priority(priority)
+        if self is not other:
+            _raise(self._with(other, lambda one, two: _library.icu_locale_data_cmp(one, two, number, ctypes.byref(order))))
+        return order.value
 
     def strict_cmp(self, other: Text) -> int:
         """Returns the byte order of the normal form against the other text as it stands: -1, 0 or 1.

@@ -13,7 +13,7 @@
 
 use icu_locale_c::extensions::unicode::{Attribute, Key, Value};
 use icu_locale_c::subtags::{Language, Region, Script, Variant};
-use icu_locale_c::{check, compare, normalize, normalizing_eq, strict_cmp, Locale, Mode, Refusal};
+use icu_locale_c::{check, compare, normalize, normalizing_eq, strict_cmp, Locale, Mode, Priority, Refusal};
 use std::collections::hash_map::DefaultHasher;
 use std::hash::{Hash, Hasher};
 use std::io::{self, BufRead, BufWriter, Write};
@@ -68,6 +68,11 @@ fn parts(it: &Locale) -> String {
         .iter()
         .map(|(key, value)| format!("{key}={value}"))
         .collect();
+    let others: Vec<String> = ('0'..='z')
+        .filter(|singleton| !singleton.is_ascii_uppercase())
+        .filter_map(|singleton| it.other(singleton))
+        .collect();
+    let preference = |value: Option<Value>| value.map_or_else(|| "-".to_owned(), |it| it.to_string());
     let mut hash = Kept(0);
     it.hash(&mut hash);
     let fields = [
@@ -82,6 +87,12 @@ fn parts(it: &Locale) -> String {
         optional(it.transform_language()),
         fields.join(","),
         it.private_extension(),
+        others.join(","),
+        it.data_locale(Priority::Language),
+        it.data_locale(Priority::Region),
+        preference(it.calendar_algorithm()),
+        preference(it.hour_cycle()),
+        preference(it.numbering_system()),
         format!("{}{}", it.is_unknown() as u8, it.is_well_formed() as u8),
         format!("{:016x}", hash.finish()),
     ];
@@ -106,6 +117,17 @@ fn compare_objects(one: &Locale, other: &Locale) -> String {
         (one == other) as u8,
         (hash(one) == hash(other)) as u8
     )
+}
+
+/// The order of the data locales of both, by each priority, and of that of the first against the text of the other's.
+fn compare_data(one: &Locale, other: &Locale) -> String {
+    let order = |priority| {
+        let text = other.data_locale(priority);
+        let against = one.data_strict_cmp(priority, text.as_bytes());
+        assert_eq!(other.data_total_cmp(priority, one), one.data_total_cmp(priority, other).reverse());
+        format!("{} {}", one.data_total_cmp(priority, other) as i8, against as i8)
+    };
+    format!("{} {}", order(Priority::Language), order(Priority::Region))
 }
 
 /// The byte order against a text, and whether the text means the locale.
@@ -205,6 +227,23 @@ fn take_step(slots: &mut [Locale; 4], words: &[&[u8]]) -> Result<String, Refusal
         b"get-field" => slots[at]
             .field(&lossy(text))
             .map_or_else(|| found(false), |it| format!("={it}")),
+        b"remove-field" => found(slots[at].remove_field(&lossy(text)).is_some()),
+        b"set-other" => {
+            slots[at].set_other(&lossy(text))?;
+            ok()
+        }
+        b"get-other" => {
+            let (singleton, it) = (lossy(text).chars().next().unwrap_or('!'), &slots[at]);
+            assert_eq!(it.has_other(singleton), it.other(singleton).is_some());
+            it.other(singleton).map_or_else(|| found(false), |it| format!("={it}"))
+        }
+        b"remove-other" => found(slots[at].remove_other(lossy(text).chars().next().unwrap_or('!'))),
+        b"extend" => {
+            let from = slots[other].clone();
+            slots[at].extend_unicode(&from);
+            ok()
+        }
+        b"compare-data" => compare_data(&slots[at], &slots[other]),
         b"clear-fields" => {
             slots[at].clear_fields();
             ok()

@@ -73,6 +73,24 @@ impl Mode {
     }
 }
 
+/// Of which region a data locale is.
+#[derive(Clone, Copy, Debug, PartialEq, Eq, Hash)]
+pub enum Priority {
+    /// Of the locale's own region, and its keyword `sd`.
+    Language,
+    /// Of the keyword `rg`, if it is there and readable, and else as by language.
+    Region,
+}
+
+impl Priority {
+    fn number(self) -> u32 {
+        match self {
+            Priority::Language => sys::BY_LANGUAGE,
+            Priority::Region => sys::BY_REGION,
+        }
+    }
+}
+
 /// Why a text is refused, or why the library cannot be asked.
 #[derive(Clone, Copy, Debug, PartialEq, Eq, Hash)]
 #[non_exhaustive]

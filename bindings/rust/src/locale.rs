@@ -1,7 +1,7 @@
 //! Locales that a program holds.
 
 use crate::parts::{Attribute, Key, Language, Region, Script, Value, Variant};
-use crate::{is_of_this_version, look_at_version, normalize, result, sys, Mode, Refusal};
+use crate::{is_of_this_version, look_at_version, normalize, result, sys, Mode, Priority, Refusal};
 use std::alloc::{handle_alloc_error, Layout};
 use std::borrow::Cow;
 use std::cell::UnsafeCell;
@@ -350,6 +350,13 @@ impl Locale {
         })
     }
 
+    /// Removes the field with this key, and returns its value.
+    pub fn remove_field(&mut self, key: &str) -> Option<String> {
+        let before = self.field(key);
+        self.set(sys::icu_locale_remove_field, key);
+        before
+    }
+
     /// Removes all fields.
     pub fn clear_fields(&mut self) {
         self.clear(sys::icu_locale_clear_fields);
@@ -363,6 +370,100 @@ impl Locale {
     /// Sets the private extension, with its `x`; an empty text removes it.
     pub fn set_private_extension(&mut self, text: &str) -> Result<(), Refusal> {
         self.try_set(sys::icu_locale_set_private, text)
+    }
+
+    /// Whether there is another extension with this singleton, such as `a` in `en-a-foo`, in either case.
+    pub fn has_other(&self, singleton: char) -> bool {
+        let has = |byte| {
+            // SAFETY: the handle is used by this call alone.
+            unsafe { sys::icu_locale_has_other(self.handle(), byte) }
+        };
+        u8::try_from(singleton).is_ok_and(has)
+    }
+
+    /// The other extension with this singleton, such as `a-foo` in `en-a-foo`.
+    pub fn other(&self, singleton: char) -> Option<String> {
+        let byte = u8::try_from(singleton).ok()?;
+        // SAFETY: `read` says so.
+        let call =
+            |handle, buffer, room, needed| unsafe { sys::icu_locale_get_other(handle, byte, buffer, room, needed) };
+        self.read(call, str::to_owned)
+    }
+
+    /// Sets the extension that the text is, such as `a-foo`, and leaves those with another singleton.
+    pub fn set_other(&mut self, text: &str) -> Result<(), Refusal> {
+        self.try_set(sys::icu_locale_set_other, text)
+    }
+
+    /// Removes the other extension with this singleton, and returns whether it was there.
+    pub fn remove_other(&mut self, singleton: char) -> bool {
+        let remove = |byte| {
+            // SAFETY: the handle is used by this call alone.
+            was_there(unsafe { sys::icu_locale_remove_other(self.handle(), byte) })
+        };
+        u8::try_from(singleton).is_ok_and(remove)
+    }
+
+    /// Adds the attributes and keywords of the other locale. At a key of both, its value wins.
+    pub fn extend_unicode(&mut self, from: &Self) {
+        // SAFETY: the handles are two, as one is borrowed alone, and used by this call alone.
+        was_there(unsafe { sys::icu_locale_extend_unicode(self.handle(), from.handle()) });
+    }
+
+    /// The text of the data locale, by which data is looked up: `en-US` of `en-GB-u-rg-uszzzz`, by region.
+    pub fn data_locale(&self, priority: Priority) -> String {
+        let number = priority.number();
+        let call = |handle, buffer, room, needed| {
+            // SAFETY: `read` says so.
+            unsafe { sys::icu_locale_get_data_locale(handle, number, buffer, room, needed) }
+        };
+        self.read(call, str::to_owned).expect("each locale has a data locale")
+    }
+
+    /// The byte order of the text of the data locale against other bytes, as they stand.
+    pub fn data_strict_cmp(&self, priority: Priority, other: &[u8]) -> Ordering {
+        let mut order = 0;
+        // SAFETY: the handle is used by this call alone. Pointer and length are those of a slice; `order` lives here.
+        was_there(unsafe {
+            sys::icu_locale_data_cmp_bytes(self.handle(), priority.number(), other.as_ptr(), other.len(), &mut order)
+        });
+        order.cmp(&0)
+    }
+
+    /// The order of the data locales of both by language, script, region part and variant.
+    pub fn data_total_cmp(&self, priority: Priority, other: &Self) -> Ordering {
+        if ptr::eq(self, other) {
+            return Ordering::Equal;
+        }
+        let mut order = 0;
+        // SAFETY: the handles are two, and used by this call alone; `order` lives here.
+        was_there(unsafe {
+            sys::icu_locale_data_cmp(self.handle(), other.handle(), priority.number(), &mut order)
+        });
+        order.cmp(&0)
+    }
+
+    /// The calendar of the keyword `ca`, as formatters read it: `islamic-civil` of `en-u-ca-islamicc`.
+    pub fn calendar_algorithm(&self) -> Option<Value> {
+        self.preference(sys::icu_locale_get_calendar_algorithm)
+    }
+
+    /// The hour cycle of the keyword `hc`, such as `h12`.
+    pub fn hour_cycle(&self) -> Option<Value> {
+        self.preference(sys::icu_locale_get_hour_cycle)
+    }
+
+    /// The numbering system of the keyword `nu`, such as `latn`.
+    pub fn numbering_system(&self) -> Option<Value> {
+        self.preference(sys::icu_locale_get_numbering_system)
+    }
+
+    fn preference(&self, call: Reading) -> Option<Value> {
+        // SAFETY: `read` says so.
+        self.read(
+            |handle, buffer, room, needed| unsafe { call(handle, buffer, room, needed) },
+            Value::of_normal,
+        )
     }
 
     fn try_set(&mut self, call: Setting, text: &str) -> Result<(), Refusal> {
@@ -649,6 +750,45 @@ mod tests {
         let it = locale("EN-x-a-b-c-d-e-f-g-h");
         let told = std::thread::spawn(move || it.to_string()).join().unwrap();
         assert_eq!(told, "en-x-a-b-c-d-e-f-g-h");
+    }
+
+    #[test]
+    fn other_extensions_are_read_and_set() {
+        let mut it = locale("en-a-foo-u-ca-islamicc-hc-h12-nu-latn");
+        assert!(it.has_other('A') && !it.has_other('b') && !it.has_other('u') && !it.has_other('\u{161}'));
+        assert_eq!((it.other('a').as_deref(), it.other('u')), (Some("a-foo"), None));
+        it.set_other("B-Foo-bar").unwrap();
+        assert_eq!(it.set_other("u-foo"), Err(Refusal::InvalidExtension));
+        assert_eq!(it.set_other(""), Err(Refusal::InvalidExtension));
+        assert!(it.remove_other('a') && !it.remove_other('a') && !it.remove_other('\u{161}'));
+        assert_eq!(it.to_string(), "en-b-foo-bar-u-ca-islamicc-hc-h12-nu-latn");
+        let read = |value: Option<Value>| value.map(|it| it.to_string());
+        assert_eq!(read(it.calendar_algorithm()).as_deref(), Some("islamic-civil"));
+        assert_eq!(read(it.hour_cycle()).as_deref(), Some("h12"));
+        assert_eq!(read(it.numbering_system()).as_deref(), Some("latn"));
+        assert_eq!(locale("en-u-hc-h25").hour_cycle(), None);
+    }
+
+    #[test]
+    fn unicode_extensions_are_merged() {
+        let mut it = locale("en-u-foo-ca-roc-hc-h12");
+        it.extend_unicode(&locale("de-u-bar-ca-buddhist"));
+        assert_eq!(it.to_string(), "en-u-bar-foo-ca-buddhist-hc-h12");
+        it.set_field("m0", "din").unwrap();
+        assert_eq!((it.remove_field("M0").as_deref(), it.remove_field("m0")), (Some("din"), None));
+    }
+
+    #[test]
+    fn data_locales_are_of_two_kinds() {
+        let it = locale("en-GB-posix-u-rg-uszzzz-sd-gbeng");
+        assert_eq!(it.data_locale(Priority::Language), "en-GB-posix-u-sd-gbeng");
+        assert_eq!(it.data_locale(Priority::Region), "en-US-posix");
+        assert_eq!(it.data_strict_cmp(Priority::Region, b"en-US-posix"), Ordering::Equal);
+        assert_eq!(it.data_strict_cmp(Priority::Language, b""), Ordering::Greater);
+        let other = locale("en-US-posix-x-foo");
+        assert_eq!(it.data_total_cmp(Priority::Region, &other), Ordering::Equal);
+        assert_eq!(it.data_total_cmp(Priority::Language, &other), Ordering::Less);
+        assert_eq!(it.data_total_cmp(Priority::Language, &it), Ordering::Equal);
     }
 
     #[test]

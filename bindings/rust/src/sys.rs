@@ -1,10 +1,13 @@
 //! The header `include/icu_locale.h`, which says what each function does, and what a caller owes.
 
-pub const VERSION: u32 = 3;
+pub const VERSION: u32 = 4;
 
 pub const IDENTIFIER: u32 = 0;
 pub const LOCALE: u32 = 1;
 pub const DATA_LOCALE: u32 = 2;
+
+pub const BY_LANGUAGE: u32 = 0;
+pub const BY_REGION: u32 = 1;
 
 pub const DONE: u32 = 0;
 pub const INVALID_LANGUAGE: u32 = 1;
@@ -220,11 +223,73 @@ extern "C" {
         value_length: usize,
     ) -> u32;
 
+    pub fn icu_locale_remove_field(locale: *mut icu_locale_t, key: *const u8, key_length: usize) -> u32;
+
     pub fn icu_locale_clear_fields(locale: *mut icu_locale_t) -> u32;
 
     pub fn icu_locale_get_private(locale: *mut icu_locale_t, buffer: *mut u8, room: usize, needed: *mut usize) -> u32;
 
     pub fn icu_locale_set_private(locale: *mut icu_locale_t, text: *const u8, length: usize) -> u32;
+
+    pub fn icu_locale_has_other(locale: *mut icu_locale_t, singleton: u8) -> bool;
+
+    pub fn icu_locale_get_other(
+        locale: *mut icu_locale_t,
+        singleton: u8,
+        buffer: *mut u8,
+        room: usize,
+        needed: *mut usize,
+    ) -> u32;
+
+    pub fn icu_locale_set_other(locale: *mut icu_locale_t, text: *const u8, length: usize) -> u32;
+
+    pub fn icu_locale_remove_other(locale: *mut icu_locale_t, singleton: u8) -> u32;
+
+    pub fn icu_locale_extend_unicode(locale: *mut icu_locale_t, from: *mut icu_locale_t) -> u32;
+
+    pub fn icu_locale_get_data_locale(
+        locale: *mut icu_locale_t,
+        priority: u32,
+        buffer: *mut u8,
+        room: usize,
+        needed: *mut usize,
+    ) -> u32;
+
+    pub fn icu_locale_data_cmp_bytes(
+        locale: *mut icu_locale_t,
+        priority: u32,
+        other: *const u8,
+        length: usize,
+        order: *mut i8,
+    ) -> u32;
+
+    pub fn icu_locale_data_cmp(
+        locale: *mut icu_locale_t,
+        other: *mut icu_locale_t,
+        priority: u32,
+        order: *mut i8,
+    ) -> u32;
+
+    pub fn icu_locale_get_calendar_algorithm(
+        locale: *mut icu_locale_t,
+        buffer: *mut u8,
+        room: usize,
+        needed: *mut usize,
+    ) -> u32;
+
+    pub fn icu_locale_get_hour_cycle(
+        locale: *mut icu_locale_t,
+        buffer: *mut u8,
+        room: usize,
+        needed: *mut usize,
+    ) -> u32;
+
+    pub fn icu_locale_get_numbering_system(
+        locale: *mut icu_locale_t,
+        buffer: *mut u8,
+        room: usize,
+        needed: *mut usize,
+    ) -> u32;
 
     pub fn icu_locale_version() -> u32;
 }

@@ -1,13 +1,19 @@
 //! Calls on the attributes of a locale.
 ghost use Rattle.std.specs.Prelude.{◌≡◌, ◌↔◌, IsTrue, length};
 ghost use Rattle.iloc_spec_grammar.specs.Words.{Attribute as the_kind};
+ghost use Rattle.iloc_calls.specs.Answers.{Tells};
 ghost use Rattle.iloc_calls.specs.Numbers.{EndsAs};
+ghost use Rattle.iloc_handles.specs.Clearing.{Clears};
+ghost use Rattle.iloc_handles.specs.declared.clearing.Clear.{Clear};
 ghost use Rattle.iloc_handles.specs.Held.{IsTight, meaning_of};
-ghost use Rattle.iloc_handles.specs.Finding.{Changes, Tells};
+ghost use Rattle.iloc_handles.specs.Finding.{Changes};
 ghost use Rattle.iloc_handles.specs.Subtags.{HasWord};
-ghost use Rattle.iloc_handles.specs.Attributes.{AddsAttribute, ClearsAttributes, RemovesAttribute, attribute_at, attributes_of};
+ghost use Rattle.iloc_handles.specs.Attributes.{AddsAttribute, RemovesAttribute, attribute_at, attributes_of};
 
-use iloc_handles::Handle;
+use iloc_handles::{
+    AddAttribute, Clear, Handle, HasText, OfAttributes, RemoveAttribute, WordAt, WordCount, ask,
+    make_change, tell,
+};
 use std::alloc::Global;
 
 /// How many attributes there are.
@@ -16,7 +22,7 @@ pub extern "C" fn icu_locale_attribute_count(alloc: Global, handle: &mut Handle)
     ensures same { handle.new.value ≡ handle.old.value }
     ensures answered { result ≡ length (attributes_of (meaning_of handle.old.value)) }
 {
-    iloc_handles::attribute_count(alloc, handle)
+    ask(alloc, handle, &WordCount(OfAttributes))
 }
 
 /// Hands out the attribute at the index; they ascend.
@@ -32,7 +38,7 @@ pub extern "C" fn icu_locale_get_attribute(
     ensures told { EndsAs (Tells (attribute_at index (meaning_of handle.old.value)) buffer.old
         buffer.new needed.new) result }
 {
-    iloc_handles::get_attribute(alloc, handle, index, buffer, needed)
+    tell(alloc, handle, &WordAt(OfAttributes, index), buffer, needed)
 }
 
 /// Whether the text is one of the attributes.
@@ -42,7 +48,7 @@ pub extern "C" fn icu_locale_has_attribute(alloc: Global, handle: &mut Handle, t
     ensures answered { IsTrue result
         ↔ HasWord the_kind text.now (attributes_of (meaning_of handle.old.value)) }
 {
-    iloc_handles::has_attribute(alloc, handle, text)
+    ask(alloc, handle, &HasText(OfAttributes, text))
 }
 
 /// Adds the attribute of the text.
@@ -52,7 +58,7 @@ pub extern "C" fn icu_locale_add_attribute(alloc: Global, handle: &mut Handle, t
         result }
     ensures tight { IsTight handle.new.value }
 {
-    iloc_handles::add_attribute(alloc, handle, text)
+    make_change(alloc, handle, &AddAttribute(text))
 }
 
 /// Removes the attribute of the text.
@@ -66,15 +72,15 @@ pub extern "C" fn icu_locale_remove_attribute(
         handle.new.value) result }
     ensures tight { IsTight handle.new.value }
 {
-    iloc_handles::remove_attribute(alloc, handle, text)
+    make_change(alloc, handle, &RemoveAttribute(text))
 }
 
 /// Removes all attributes.
 #[unsafe(no_mangle)]
 pub extern "C" fn icu_locale_clear_attributes(alloc: Global, handle: &mut Handle) -> u32
-    ensures changed { EndsAs (Changes ClearsAttributes handle.old.value handle.new.value)
-        result }
+    ensures changed { EndsAs (Changes (Clears Clear.Attributes) handle.old.value
+        handle.new.value) result }
     ensures tight { IsTight handle.new.value }
 {
-    iloc_handles::clear_attributes(alloc, handle)
+    make_change(alloc, handle, &Clear::Attributes)
 }

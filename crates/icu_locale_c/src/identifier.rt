@@ -1,12 +1,13 @@
 //! Calls on the identifier of a locale.
 ghost use Rattle.std.specs.Prelude.{◌≡◌, Some};
 ghost use Rattle.iloc_spec_grammar.specs.Values.{identifier_text};
+ghost use Rattle.iloc_calls.specs.Answers.{Tells};
 ghost use Rattle.iloc_calls.specs.Numbers.{EndsAs};
 ghost use Rattle.iloc_handles.specs.Held.{IsTight, meaning_of};
-ghost use Rattle.iloc_handles.specs.Finding.{Changes, Tells};
+ghost use Rattle.iloc_handles.specs.Finding.{Changes};
 ghost use Rattle.iloc_handles.specs.Identifier.{SetsLanguage, SetsRegion, SetsScript, text_or_empty};
 
-use iloc_handles::Handle;
+use iloc_handles::{Handle, Named, SetLanguage, SetRegion, SetScript, make_change, tell};
 use std::alloc::Global;
 
 /// Hands out the identifier, without extensions.
@@ -21,7 +22,7 @@ pub extern "C" fn icu_locale_get_base_name(
     ensures told { EndsAs (Tells (Some (identifier_text (meaning_of handle.old.value).id))
         buffer.old buffer.new needed.new) result }
 {
-    iloc_handles::get_base_name(alloc, handle, buffer, needed)
+    tell(alloc, handle, &Named::BaseName, buffer, needed)
 }
 
 /// Hands out the language.
@@ -36,7 +37,7 @@ pub extern "C" fn icu_locale_get_language(
     ensures told { EndsAs (Tells (Some (meaning_of handle.old.value).id.language) buffer.old
         buffer.new needed.new) result }
 {
-    iloc_handles::get_language(alloc, handle, buffer, needed)
+    tell(alloc, handle, &Named::Language, buffer, needed)
 }
 
 /// Hands out the script; if it is absent, an empty text.
@@ -51,7 +52,7 @@ pub extern "C" fn icu_locale_get_script(
     ensures told { EndsAs (Tells (Some (text_or_empty (meaning_of handle.old.value).id.script))
         buffer.old buffer.new needed.new) result }
 {
-    iloc_handles::get_script(alloc, handle, buffer, needed)
+    tell(alloc, handle, &Named::Script, buffer, needed)
 }
 
 /// Hands out the region; if it is absent, an empty text.
@@ -66,7 +67,7 @@ pub extern "C" fn icu_locale_get_region(
     ensures told { EndsAs (Tells (Some (text_or_empty (meaning_of handle.old.value).id.region))
         buffer.old buffer.new needed.new) result }
 {
-    iloc_handles::get_region(alloc, handle, buffer, needed)
+    tell(alloc, handle, &Named::Region, buffer, needed)
 }
 
 /// Sets the language to the subtag of the text; an empty text makes it `und`.
@@ -76,7 +77,7 @@ pub extern "C" fn icu_locale_set_language(alloc: Global, handle: &mut Handle, te
         result }
     ensures tight { IsTight handle.new.value }
 {
-    iloc_handles::set_language(alloc, handle, text)
+    make_change(alloc, handle, &SetLanguage(text))
 }
 
 /// Sets the script to the subtag of the text; an empty text removes it.
@@ -86,7 +87,7 @@ pub extern "C" fn icu_locale_set_script(alloc: Global, handle: &mut Handle, text
         result }
     ensures tight { IsTight handle.new.value }
 {
-    iloc_handles::set_script(alloc, handle, text)
+    make_change(alloc, handle, &SetScript(text))
 }
 
 /// Sets the region to the subtag of the text; an empty text removes it.
@@ -96,5 +97,5 @@ pub extern "C" fn icu_locale_set_region(alloc: Global, handle: &mut Handle, text
         result }
     ensures tight { IsTight handle.new.value }
 {
-    iloc_handles::set_region(alloc, handle, text)
+    make_change(alloc, handle, &SetRegion(text))
 }

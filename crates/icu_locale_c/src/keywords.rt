@@ -1,11 +1,18 @@
-//! Calls on the keywords of a locale.
+//! Calls on the keywords of a locale, and on its unicode extension.
 ghost use Rattle.std.specs.Prelude.{◌≡◌, length};
+ghost use Rattle.iloc_calls.specs.Answers.{Tells};
 ghost use Rattle.iloc_calls.specs.Numbers.{EndsAs};
+ghost use Rattle.iloc_handles.specs.Clearing.{Clears};
+ghost use Rattle.iloc_handles.specs.declared.clearing.Clear.{Clear};
 ghost use Rattle.iloc_handles.specs.Held.{IsTight, meaning_of};
-ghost use Rattle.iloc_handles.specs.Finding.{Changes, Tells};
-ghost use Rattle.iloc_handles.specs.Keywords.{ClearsKeywords, RemovesKeyword, SetsKeyword, key_at, key_value_at, keyword_text, keywords_of};
+ghost use Rattle.iloc_handles.specs.Finding.{Changes};
+ghost use Rattle.iloc_handles.specs.Keywords.{RemovesKeyword, SetsKeyword, key_at, key_value_at, keyword_text, keywords_of};
+ghost use Rattle.iloc_handles.specs.Whole.{ExtendsUnicode};
 
-use iloc_handles::Handle;
+use iloc_handles::{
+    Clear, Handle, KeyAt, Merge, OfKeywords, PairCount, RemovePair, SetKeyword, ValueAt, ValueOf,
+    ask, change_by, make_change, tell,
+};
 use std::alloc::Global;
 
 /// How many keywords there are.
@@ -14,7 +21,7 @@ pub extern "C" fn icu_locale_keyword_count(alloc: Global, handle: &mut Handle) -
     ensures same { handle.new.value ≡ handle.old.value }
     ensures answered { result ≡ length (keywords_of (meaning_of handle.old.value)) }
 {
-    iloc_handles::keyword_count(alloc, handle)
+    ask(alloc, handle, &PairCount(OfKeywords))
 }
 
 /// Hands out the key at the index; they ascend.
@@ -30,7 +37,7 @@ pub extern "C" fn icu_locale_get_keyword_key(
     ensures told { EndsAs (Tells (key_at index (meaning_of handle.old.value)) buffer.old
         buffer.new needed.new) result }
 {
-    iloc_handles::get_keyword_key(alloc, handle, index, buffer, needed)
+    tell(alloc, handle, &KeyAt(OfKeywords, index), buffer, needed)
 }
 
 /// Hands out the value at the index.
@@ -46,7 +53,7 @@ pub extern "C" fn icu_locale_get_keyword_value(
     ensures told { EndsAs (Tells (key_value_at index (meaning_of handle.old.value)) buffer.old
         buffer.new needed.new) result }
 {
-    iloc_handles::get_keyword_value(alloc, handle, index, buffer, needed)
+    tell(alloc, handle, &ValueAt(OfKeywords, index), buffer, needed)
 }
 
 /// Hands out the value of the keyword with this key.
@@ -62,7 +69,7 @@ pub extern "C" fn icu_locale_get_keyword(
     ensures told { EndsAs (Tells (keyword_text key.now (meaning_of handle.old.value)) buffer.old
         buffer.new needed.new) result }
 {
-    iloc_handles::get_keyword(alloc, handle, key, buffer, needed)
+    tell(alloc, handle, &ValueOf(OfKeywords, key), buffer, needed)
 }
 
 /// Sets the value of the keyword with this key.
@@ -77,7 +84,7 @@ pub extern "C" fn icu_locale_set_keyword(
         handle.new.value) result }
     ensures tight { IsTight handle.new.value }
 {
-    iloc_handles::set_keyword(alloc, handle, key, value)
+    make_change(alloc, handle, &SetKeyword(key, value))
 }
 
 /// Removes the keyword with this key.
@@ -87,14 +94,30 @@ pub extern "C" fn icu_locale_remove_keyword(alloc: Global, handle: &mut Handle, 
         result }
     ensures tight { IsTight handle.new.value }
 {
-    iloc_handles::remove_keyword(alloc, handle, key)
+    make_change(alloc, handle, &RemovePair(OfKeywords, key))
 }
 
 /// Removes all keywords.
 #[unsafe(no_mangle)]
 pub extern "C" fn icu_locale_clear_keywords(alloc: Global, handle: &mut Handle) -> u32
-    ensures changed { EndsAs (Changes ClearsKeywords handle.old.value handle.new.value) result }
+    ensures changed { EndsAs (Changes (Clears Clear.Keywords) handle.old.value
+        handle.new.value) result }
     ensures tight { IsTight handle.new.value }
 {
-    iloc_handles::clear_keywords(alloc, handle)
+    make_change(alloc, handle, &Clear::Keywords)
+}
+
+/// Extends the unicode extension by that of the other handle.
+#[unsafe(no_mangle)]
+pub extern "C" fn icu_locale_extend_unicode(
+    alloc: Global,
+    handle: &mut Handle,
+    from: &mut Handle,
+) -> u32
+    ensures same { from.new.value ≡ from.old.value }
+    ensures changed { EndsAs (Changes (ExtendsUnicode (meaning_of from.old.value))
+        handle.old.value handle.new.value) result }
+    ensures tight { IsTight handle.new.value }
+{
+    change_by(alloc, handle, from, Merge::ExtendUnicode)
 }

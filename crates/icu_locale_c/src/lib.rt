@@ -1,7 +1,7 @@
 //! Locales for C: a static library. Its header is `include/icu_locale.h`.
 //!
-//! Each function is that of `iloc_calls` or `iloc_handles` with its name there, under the name that C calls it by: the
-//! calls on texts stand here, those on locales that a program holds in the modules.
+//! The calls on texts stand here, each that of `iloc_calls` with its name there. The calls on locales that a program holds
+//! stand in the modules: most ask `iloc_handles` for a part (`tell`), a question (`ask`) or a change (`make_change`).
 #![tactic(auto)]
 
 ghost use Rattle.std.specs.Prelude.{◌≡◌, ◌+◌, ◌<◌, ◌≤◌, length};
@@ -19,8 +19,10 @@ ghost use Rattle.iloc_calls.specs.Answers.{
 ghost use Rattle.iloc_calls.specs.Numbers.{EndsAs, mode_number, number_of, words_of};
 
 mod attributes;
+mod data;
 mod identifier;
 mod keywords;
+mod others;
 mod transform;
 mod variants;
 mod whole;
@@ -28,7 +30,7 @@ mod whole;
 use std::alloc::Global;
 
 /// The version of the header that this library was made for.
-pub const VERSION: u32 = 3;
+pub const VERSION: u32 = 4;
 
 /// Writes the normal text of what the text means into the buffer, and its length to `needed`.
 ///

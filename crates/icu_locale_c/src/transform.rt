@@ -1,12 +1,18 @@
 //! Calls on the transform extension of a locale.
 ghost use Rattle.std.specs.Prelude.{◌≡◌, Some, length};
 ghost use Rattle.iloc_spec_grammar.specs.Values.{private_text};
+ghost use Rattle.iloc_calls.specs.Answers.{Tells};
 ghost use Rattle.iloc_calls.specs.Numbers.{EndsAs};
+ghost use Rattle.iloc_handles.specs.Clearing.{Clears};
+ghost use Rattle.iloc_handles.specs.declared.clearing.Clear.{Clear};
 ghost use Rattle.iloc_handles.specs.Held.{IsTight, meaning_of};
-ghost use Rattle.iloc_handles.specs.Finding.{Changes, Tells};
-ghost use Rattle.iloc_handles.specs.Transform.{ClearsFields, SetsField, SetsPrivate, SetsTransformLanguage, field_key_at, field_text, field_value_at, fields_of, transform_language};
+ghost use Rattle.iloc_handles.specs.Finding.{Changes};
+ghost use Rattle.iloc_handles.specs.Transform.{RemovesField, SetsField, SetsPrivate, SetsTransformLanguage, field_key_at, field_text, field_value_at, fields_of, transform_language};
 
-use iloc_handles::Handle;
+use iloc_handles::{
+    Clear, Handle, KeyAt, Named, OfFields, PairCount, RemovePair, SetField, SetPrivate,
+    SetTransformLanguage, ValueAt, ValueOf, ask, make_change, tell,
+};
 use std::alloc::Global;
 
 /// Hands out the identifier of the transform extension.
@@ -21,7 +27,7 @@ pub extern "C" fn icu_locale_get_transform_language(
     ensures told { EndsAs (Tells (transform_language (meaning_of handle.old.value)) buffer.old
         buffer.new needed.new) result }
 {
-    iloc_handles::get_transform_language(alloc, handle, buffer, needed)
+    tell(alloc, handle, &Named::TransformLanguage, buffer, needed)
 }
 
 /// Sets the identifier of the transform extension to what the text means; an empty text removes it.
@@ -35,7 +41,7 @@ pub extern "C" fn icu_locale_set_transform_language(
         handle.new.value) result }
     ensures tight { IsTight handle.new.value }
 {
-    iloc_handles::set_transform_language(alloc, handle, text)
+    make_change(alloc, handle, &SetTransformLanguage(text))
 }
 
 /// How many fields there are.
@@ -44,7 +50,7 @@ pub extern "C" fn icu_locale_field_count(alloc: Global, handle: &mut Handle) -> 
     ensures same { handle.new.value ≡ handle.old.value }
     ensures answered { result ≡ length (fields_of (meaning_of handle.old.value)) }
 {
-    iloc_handles::field_count(alloc, handle)
+    ask(alloc, handle, &PairCount(OfFields))
 }
 
 /// Hands out the key of the field at the index; they ascend.
@@ -60,7 +66,7 @@ pub extern "C" fn icu_locale_get_field_key(
     ensures told { EndsAs (Tells (field_key_at index (meaning_of handle.old.value)) buffer.old
         buffer.new needed.new) result }
 {
-    iloc_handles::get_field_key(alloc, handle, index, buffer, needed)
+    tell(alloc, handle, &KeyAt(OfFields, index), buffer, needed)
 }
 
 /// Hands out the value of the field at the index.
@@ -76,7 +82,7 @@ pub extern "C" fn icu_locale_get_field_value(
     ensures told { EndsAs (Tells (field_value_at index (meaning_of handle.old.value)) buffer.old
         buffer.new needed.new) result }
 {
-    iloc_handles::get_field_value(alloc, handle, index, buffer, needed)
+    tell(alloc, handle, &ValueAt(OfFields, index), buffer, needed)
 }
 
 /// Hands out the value of the field with this key.
@@ -92,7 +98,7 @@ pub extern "C" fn icu_locale_get_field(
     ensures told { EndsAs (Tells (field_text key.now (meaning_of handle.old.value)) buffer.old
         buffer.new needed.new) result }
 {
-    iloc_handles::get_field(alloc, handle, key, buffer, needed)
+    tell(alloc, handle, &ValueOf(OfFields, key), buffer, needed)
 }
 
 /// Sets the value of the field with this key.
@@ -107,16 +113,27 @@ pub extern "C" fn icu_locale_set_field(
         handle.new.value) result }
     ensures tight { IsTight handle.new.value }
 {
-    iloc_handles::set_field(alloc, handle, key, value)
+    make_change(alloc, handle, &SetField(key, value))
+}
+
+/// Removes the field with this key.
+#[unsafe(no_mangle)]
+pub extern "C" fn icu_locale_remove_field(alloc: Global, handle: &mut Handle, key: &[u8]) -> u32
+    ensures changed { EndsAs (Changes (RemovesField key.now) handle.old.value handle.new.value)
+        result }
+    ensures tight { IsTight handle.new.value }
+{
+    make_change(alloc, handle, &RemovePair(OfFields, key))
 }
 
 /// Removes all fields.
 #[unsafe(no_mangle)]
 pub extern "C" fn icu_locale_clear_fields(alloc: Global, handle: &mut Handle) -> u32
-    ensures changed { EndsAs (Changes ClearsFields handle.old.value handle.new.value) result }
+    ensures changed { EndsAs (Changes (Clears Clear.Fields) handle.old.value
+        handle.new.value) result }
     ensures tight { IsTight handle.new.value }
 {
-    iloc_handles::clear_fields(alloc, handle)
+    make_change(alloc, handle, &Clear::Fields)
 }
 
 /// Hands out the private extension, with its `x`; an empty text if there is none.
@@ -132,7 +149,7 @@ pub extern "C" fn icu_locale_get_private(
         (Some (private_text (meaning_of handle.old.value).extensions.private)) buffer.old
         buffer.new needed.new) result }
 {
-    iloc_handles::get_private(alloc, handle, buffer, needed)
+    tell(alloc, handle, &Named::Private, buffer, needed)
 }
 
 /// Sets the private extension to that of the text, which begins with `x`; an empty text removes it.
@@ -142,5 +159,5 @@ pub extern "C" fn icu_locale_set_private(alloc: Global, handle: &mut Handle, tex
         result }
     ensures tight { IsTight handle.new.value }
 {
-    iloc_handles::set_private(alloc, handle, text)
+    make_change(alloc, handle, &SetPrivate(text))
 }

@@ -1,13 +1,19 @@
 //! Calls on the variants of a locale.
 ghost use Rattle.std.specs.Prelude.{◌≡◌, ◌↔◌, IsTrue, length};
 ghost use Rattle.iloc_spec_grammar.specs.Words.{Variant as the_kind};
+ghost use Rattle.iloc_calls.specs.Answers.{Tells};
 ghost use Rattle.iloc_calls.specs.Numbers.{EndsAs};
+ghost use Rattle.iloc_handles.specs.Clearing.{Clears};
+ghost use Rattle.iloc_handles.specs.declared.clearing.Clear.{Clear};
 ghost use Rattle.iloc_handles.specs.Held.{IsTight, meaning_of};
-ghost use Rattle.iloc_handles.specs.Finding.{Changes, Tells};
+ghost use Rattle.iloc_handles.specs.Finding.{Changes};
 ghost use Rattle.iloc_handles.specs.Subtags.{HasWord};
-ghost use Rattle.iloc_handles.specs.Identifier.{AddsVariant, ClearsVariants, RemovesVariant, variant_at};
+ghost use Rattle.iloc_handles.specs.Identifier.{AddsVariant, RemovesVariant, variant_at};
 
-use iloc_handles::Handle;
+use iloc_handles::{
+    AddVariant, Clear, Handle, HasText, OfVariants, RemoveVariant, WordAt, WordCount, ask,
+    make_change, tell,
+};
 use std::alloc::Global;
 
 /// How many variants there are.
@@ -16,7 +22,7 @@ pub extern "C" fn icu_locale_variant_count(alloc: Global, handle: &mut Handle) -
     ensures same { handle.new.value ≡ handle.old.value }
     ensures answered { result ≡ length (meaning_of handle.old.value).id.variants }
 {
-    iloc_handles::variant_count(alloc, handle)
+    ask(alloc, handle, &WordCount(OfVariants))
 }
 
 /// Hands out the variant at the index; they ascend.
@@ -32,7 +38,7 @@ pub extern "C" fn icu_locale_get_variant(
     ensures told { EndsAs (Tells (variant_at index (meaning_of handle.old.value)) buffer.old
         buffer.new needed.new) result }
 {
-    iloc_handles::get_variant(alloc, handle, index, buffer, needed)
+    tell(alloc, handle, &WordAt(OfVariants, index), buffer, needed)
 }
 
 /// Whether the text is one of the variants.
@@ -42,7 +48,7 @@ pub extern "C" fn icu_locale_has_variant(alloc: Global, handle: &mut Handle, tex
     ensures answered { IsTrue result
         ↔ HasWord the_kind text.now (meaning_of handle.old.value).id.variants }
 {
-    iloc_handles::has_variant(alloc, handle, text)
+    ask(alloc, handle, &HasText(OfVariants, text))
 }
 
 /// Adds the variant of the text.
@@ -52,7 +58,7 @@ pub extern "C" fn icu_locale_add_variant(alloc: Global, handle: &mut Handle, tex
         result }
     ensures tight { IsTight handle.new.value }
 {
-    iloc_handles::add_variant(alloc, handle, text)
+    make_change(alloc, handle, &AddVariant(text))
 }
 
 /// Removes the variant of the text.
@@ -62,14 +68,15 @@ pub extern "C" fn icu_locale_remove_variant(alloc: Global, handle: &mut Handle, 
         handle.new.value) result }
     ensures tight { IsTight handle.new.value }
 {
-    iloc_handles::remove_variant(alloc, handle, text)
+    make_change(alloc, handle, &RemoveVariant(text))
 }
 
 /// Removes all variants.
 #[unsafe(no_mangle)]
 pub extern "C" fn icu_locale_clear_variants(alloc: Global, handle: &mut Handle) -> u32
-    ensures changed { EndsAs (Changes ClearsVariants handle.old.value handle.new.value) result }
+    ensures changed { EndsAs (Changes (Clears Clear.Variants) handle.old.value
+        handle.new.value) result }
     ensures tight { IsTight handle.new.value }
 {
-    iloc_handles::clear_variants(alloc, handle)
+    make_change(alloc, handle, &Clear::Variants)
 }

@@ -5,13 +5,18 @@ ghost use Rattle.std.specs.Cmp.Lexicographic.{slice_cmp};
 ghost use Rattle.iloc_spec_grammar.specs.Values.{IsWellFormed, text as text_of};
 ghost use Rattle.iloc_spec_orders.specs.Orders.{locale_cmp};
 ghost use Rattle.iloc_locale.specs.LocaleValue.{unknown_locale};
-ghost use Rattle.iloc_calls.specs.Answers.{order_number};
+ghost use Rattle.iloc_calls.specs.Answers.{Tells, order_number};
 ghost use Rattle.iloc_calls.specs.Numbers.{EndsAs};
 ghost use Rattle.iloc_handles.specs.Held.{IsTight, meaning_of};
-ghost use Rattle.iloc_handles.specs.Finding.{Changes, Tells};
-ghost use Rattle.iloc_handles.specs.Whole.{Copies, ParsesTo, TellsMeant, hash_of};
+ghost use Rattle.iloc_handles.specs.Finding.{Changes};
+ghost use Rattle.iloc_handles.specs.Whole.{Copies, ParsesTo, TellsMeant};
+ghost use Rattle.iloc_calls.specs.Hashing.{hash_of};
 
-use iloc_handles::Handle;
+use iloc_calls::number;
+use iloc_handles::{
+    AgainstBytes, FromText, Handle, Hashed, IsUnd, Merge, Named, WellFormed, ask, change_by,
+    make_change, order_of, tell, tell_meant,
+};
 use std::alloc::Global;
 
 /// Stands for what the text means, from then on.
@@ -21,7 +26,7 @@ pub extern "C" fn icu_locale_parse(alloc: Global, handle: &mut Handle, text: &[u
         result }
     ensures tight { IsTight handle.new.value }
 {
-    iloc_handles::parse(alloc, handle, text)
+    make_change(alloc, handle, &FromText(text))
 }
 
 /// Stands for the locale of the other handle, from then on.
@@ -32,7 +37,7 @@ pub extern "C" fn icu_locale_copy(alloc: Global, handle: &mut Handle, from: &mut
         handle.new.value) result }
     ensures tight { IsTight handle.new.value }
 {
-    iloc_handles::copy(alloc, handle, from)
+    change_by(alloc, handle, from, Merge::Copy)
 }
 
 /// Stands for `und` from then on, and holds nothing.
@@ -40,7 +45,7 @@ pub extern "C" fn icu_locale_copy(alloc: Global, handle: &mut Handle, from: &mut
 pub extern "C" fn icu_locale_free(alloc: Global, handle: &mut Handle)
     ensures { handle.new.value ≡ None }
 {
-    iloc_handles::free(alloc, handle)
+    drop(handle.take(alloc));
 }
 
 /// Whether it stands for `und`.
@@ -49,7 +54,7 @@ pub extern "C" fn icu_locale_is_und(alloc: Global, handle: &mut Handle) -> bool
     ensures same { handle.new.value ≡ handle.old.value }
     ensures answered { IsTrue result ↔ (meaning_of handle.old.value ≡ unknown_locale) }
 {
-    iloc_handles::is_und(alloc, handle)
+    ask(alloc, handle, &IsUnd)
 }
 
 /// Whether the text of the locale means this locale.
@@ -58,7 +63,7 @@ pub extern "C" fn icu_locale_is_well_formed(alloc: Global, handle: &mut Handle) 
     ensures same { handle.new.value ≡ handle.old.value }
     ensures answered { IsTrue result ↔ IsWellFormed (meaning_of handle.old.value) }
 {
-    iloc_handles::is_well_formed(alloc, handle)
+    ask(alloc, handle, &WellFormed)
 }
 
 /// Hands out the normal form.
@@ -73,7 +78,7 @@ pub extern "C" fn icu_locale_to_string(
     ensures told { EndsAs (Tells (Some (text_of (meaning_of handle.old.value))) buffer.old
         buffer.new needed.new) result }
 {
-    iloc_handles::to_string(alloc, handle, buffer, needed)
+    tell(alloc, handle, &Named::Whole, buffer, needed)
 }
 
 /// The order of two locales by their parts, as -1, 0 or 1.
@@ -84,7 +89,7 @@ pub extern "C" fn icu_locale_cmp(alloc: Global, handle: &mut Handle, other: &mut
     ensures answered { result ≡ order_number
         (locale_cmp (meaning_of handle.old.value) (meaning_of other.old.value)) }
 {
-    iloc_handles::cmp(alloc, handle, other)
+    number(order_of(alloc, handle, other))
 }
 
 /// Whether two locales are equal.
@@ -105,7 +110,7 @@ pub extern "C" fn icu_locale_cmp_bytes(alloc: Global, handle: &mut Handle, other
     ensures answered { result ≡ order_number
         (slice_cmp nat_cmp (text_of (meaning_of handle.old.value)) other.now) }
 {
-    iloc_handles::cmp_bytes(alloc, handle, other)
+    ask(alloc, handle, &AgainstBytes(other))
 }
 
 /// Writes 1 if the text means the locale, and else 0.
@@ -120,7 +125,7 @@ pub extern "C" fn icu_locale_eq_text(
     ensures told { EndsAs (TellsMeant text.now (meaning_of handle.old.value) same.old same.new)
         result }
 {
-    iloc_handles::eq_text(alloc, handle, text, same)
+    tell_meant(alloc, handle, text, same).number()
 }
 
 /// The hash of the normal form, FNV-1a of its bytes.
@@ -129,5 +134,5 @@ pub extern "C" fn icu_locale_hash(alloc: Global, handle: &mut Handle) -> u64
     ensures same { handle.new.value ≡ handle.old.value }
     ensures answered { result ≡ hash_of (text_of (meaning_of handle.old.value)) }
 {
-    iloc_handles::hash(alloc, handle)
+    ask(alloc, handle, &Hashed)
 }

@@ -1,5 +1,5 @@
 -- What a caller finds after each call, by its status.
-use Rattle.std.specs.Prelude.{◌≡◌, ◌⊎◌, ℕ, ℤ, pos, negsuc, ◌≤◌, ◌<◌, List, ◌++◌, length, drop}
+use Rattle.std.specs.Prelude.{◌≡◌, ◌⊎◌, ℕ, ℤ, pos, negsuc, ◌≤◌, ◌<◌, List, ◌++◌, length, drop, Option, Some, None}
 use Rattle.std.specs.Ordering.{nat_cmp}
 use Rattle.std.specs.Cmp.Lexicographic.{slice_cmp}
 use Rattle.std.specs.declared.cmp.Ordering.{Ordering}
@@ -67,6 +67,12 @@ HandsOut bytes before after needed Done = (length bytes ≤ length before) × (n
 HandsOut bytes before after needed BufferTooSmall = (length before < length bytes)
     × (needed ≡ saturated (length bytes)) × (after ≡ before)
 HandsOut bytes before after needed _ = ⊥
+
+-- the text is handed out, if there is one; else nothing is
+abbrev pub Tells : Option Text → Text → Text → ℕ → Status → Type 0
+Tells (Some t) before after needed status = HandsOut t before after needed status
+Tells None before after needed NotFound = (needed ≡ 0) × (after ≡ before)
+Tells None before after needed _ = ⊥
 
 -- the normal text is handed out; if there is none, nothing is
 abbrev pub NormalizesTo : Mode → Text → Text → Text → ℕ → Status → Type 0

@@ -1,5 +1,8 @@
 //! Handing out texts in a caller's buffer.
-ghost use Rattle.iloc_calls.specs.Answers.{HandsOut};
+ghost use Rattle.std.specs.Prelude.{◌≡◌, option_map};
+ghost use Rattle.std.specs.Option.{option_copied};
+ghost use Rattle.iloc_calls.specs.declared.status.Status.{Status};
+ghost use Rattle.iloc_calls.specs.Answers.{HandsOut, Tells};
 
 use crate::status::Status;
 use iloc_writeable::{Sink, Writeable};
@@ -66,4 +69,28 @@ pub fn hand_out<W: Writeable>(value: &W, buffer: &mut [u8], needed: &mut usize) 
         }
         _ => Status::BufferTooSmall,
     }
+}
+
+/// Hands out the text of a part that is there.
+pub fn hand_out_found<W: Writeable>(
+    part: Option<&W>,
+    buffer: &mut [u8],
+    needed: &mut usize,
+) -> Status
+    ensures { Tells (option_map W.text (option_copied part.entry)) buffer.old buffer.new needed.new
+        result }
+{
+    match part {
+        Some(value) => hand_out(value, buffer, needed),
+        None => hand_out_none(needed),
+    }
+}
+
+/// Hands out nothing, as there is no such part.
+pub fn hand_out_none(needed: &mut usize) -> Status
+    ensures status { result ≡ Status.NotFound }
+    ensures needed { needed.new ≡ 0 }
+{
+    *needed = 0;
+    Status::NotFound
 }

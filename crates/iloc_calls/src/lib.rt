@@ -23,12 +23,14 @@ ghost use Rattle.iloc_calls.specs.Numbers.{EndsAs, mode_number, number_of, words
 mod answers;
 mod comparing;
 mod filling;
+mod hashing;
 mod same;
 mod status;
 
 use answers::{judge, mode_of};
 pub use comparing::number;
-pub use filling::hand_out;
+pub use filling::{hand_out, hand_out_found, hand_out_none};
+pub use hashing::hash_of_text;
 pub use status::Status;
 use std::alloc::Global;
 

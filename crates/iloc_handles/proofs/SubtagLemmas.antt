@@ -1,5 +1,5 @@
 -- From what is read to whether it is a subtag.
-use Rattle.std.proofs.Common.{◌≡◌, ◌↔◌, ℕ, ◌<◌, List, [], ◌∷◌, Bool, true, false, IsTrue, Result, Ok, Err, length, remove, refl, sym, ap, subst, ◌∙◌, true≢false}
+use Rattle.std.proofs.Common.{◌≡◌, ◌↔◌, ℕ, ◌<◌, List, [], ◌∷◌, Bool, true, false, IsTrue, Result, length, remove, refl, sym, ap, subst, ◌∙◌, true≢false}
 use Rattle.std.specs.Prelude.{MatchResult, not, filter, is_some}
 use Rattle.std.specs.List.{list_any, HoldsAt}
 use Rattle.std.specs.declared.cmp.Ordering.TheVariants.{Equal}
@@ -8,14 +8,13 @@ use Rattle.std.specs.FinMap.{find, is_sorted}
 use Rattle.std.specs.FinMap.Entries.{below_all}
 use Rattle.std.specs.Ordering.{is_lt}
 use Rattle.iloc_spec_grammar.proofs.SetLaws.{marked}
-use Rattle.iloc_spec_grammar.specs.Words.{Kind, UnicodeKey, IsWord, is_word, is_same, normal, read, word_cmp}
-use Rattle.iloc_spec_grammar.specs.Written.{Fields}
+use Rattle.iloc_spec_grammar.specs.Words.{Kind, IsWord, is_word, is_same, normal, read, word_cmp}
 use Rattle.iloc_spec_grammar.specs.Values.{IsAscending}
 use Rattle.iloc_word_set.specs.Ascending.{ascends}
 use Rattle.iloc_word_set.proofs.SetLaws.{kept_all, search_old, search_removed, ascending-filter}
 use Rattle.iloc_subtags.specs.declared.parse_error.ParseError.{ParseError}
 use Rattle.iloc_handles.specs.Subtags.{HasWord, without_word}
-use Rattle.iloc_handles.specs.Keywords.{HasKey}
+use Rattle.iloc_handles.specs.Pairs.{HasKey}
 
 -- what reading a text as a subtag answers, by the answer
 abbrev pub ReadWord : Kind → ParseError → List ℕ → Result (List ℕ) ParseError → Type 0
@@ -45,9 +44,9 @@ absent_stays k t w ws after e h is =
     (λ p. true≢false (sym (subst Among (sym e) p.1) ∙ sym h), is ∙ kept_all w ws (sym h))
 
 -- a key that is not found is not there
-pub absent_key : (t w : List ℕ) (ks : Fields) → w ≡ normal UnicodeKey t → false ≡ is_some (find word_cmp w ks)
-    → HasKey t ks → ⊥
-absent_key t w ks e h p =
+pub absent_key : {V : Type 0} (k : Kind) (t w : List ℕ) (ks : List (List ℕ × V)) → w ≡ normal k t
+    → false ≡ is_some (find word_cmp w ks) → HasKey k t ks → ⊥
+absent_key k t w ks e h p =
     let There : List ℕ → Type 0 = λ v. is_some (find word_cmp v ks) ≡ true in
     true≢false (sym (subst There (sym e) p.1) ∙ sym h)
 

@@ -4,7 +4,6 @@ use Rattle.iloc_spec_grammar.specs.Shapes.{Text}
 use Rattle.iloc_spec_grammar.specs.Words.{Attribute, IsWord, is_word, normal}
 use Rattle.iloc_spec_grammar.specs.Meaning.{Locale, set_of}
 use Rattle.iloc_subtags.specs.Answers.{ExtensionFault}
-use Rattle.iloc_calls.specs.declared.status.Status.{Status}
 use Rattle.iloc_calls.specs.declared.status.Status.TheVariants.{OutOfMemory}
 use Rattle.iloc_handles.specs.Finding.{Changing, Sets, Removes}
 use Rattle.iloc_handles.specs.Subtags.{HasWord, without_word}
@@ -35,7 +34,3 @@ abbrev pub RemovesAttribute : Text → Changing
 RemovesAttribute t before after OutOfMemory = after ≡ before
 RemovesAttribute t before after status = Removes (λ M. HasWord Attribute t (attributes_of M))
     (λ M. with_attributes (without_word Attribute t (attributes_of M)) M) before after status
-
--- no attribute is left
-abbrev pub ClearsAttributes : Changing
-ClearsAttributes = Removes (λ M. Unit {0}) (with_attributes [])

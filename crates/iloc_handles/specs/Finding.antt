@@ -1,21 +1,13 @@
 -- What a caller finds after a call on a handle, by its status.
-use Rattle.std.specs.Prelude.{◌≡◌, ◌≢◌, ◌⊎◌, ℕ, List, Option, None, Some}
-use Rattle.iloc_spec_grammar.specs.Shapes.{Text}
+use Rattle.std.specs.Prelude.{◌≡◌, ◌≢◌, ◌⊎◌, Option, None}
 use Rattle.iloc_spec_grammar.specs.Meaning as meaning
 use Rattle.iloc_spec_grammar.specs.Faults as faults
 use Rattle.iloc_spec_grammar.specs.Faults.{Fault}
 use Rattle.iloc_locale.specs.LocaleValue.{unknown_locale}
 use Rattle.iloc_locale.specs.declared.locale.Locale.{Locale}
-use Rattle.iloc_calls.specs.Answers.{HandsOut}
 use Rattle.iloc_calls.specs.declared.status.Status.{Status}
 use Rattle.iloc_calls.specs.declared.status.Status.TheVariants.{Done, InvalidLanguage, InvalidSubtag, InvalidExtension, DuplicatedExtension, OutOfMemory, BufferTooSmall, UnknownNumber, NotFound}
 use Rattle.iloc_handles.specs.Held.{meaning_of}
-
--- the text is handed out, if there is one; else nothing is
-abbrev pub Tells : Option Text → Text → Text → ℕ → Status → Type 0
-Tells (Some t) before after needed status = HandsOut t before after needed status
-Tells None before after needed NotFound = (needed ≡ 0) × (after ≡ before)
-Tells None before after needed _ = ⊥
 
 -- a relation of the locale before, the locale after, and the status
 abbrev pub Changing : Type 1

@@ -1,5 +1,5 @@
 -- The parts of the identifier of a locale: what each is, and what setting it does.
-use Rattle.std.specs.Prelude.{◌≡◌, ℕ, ◌≤◌, false, List, [], ◌∷◌, length, slice_get, Option, Some, unwrap_or, codes}
+use Rattle.std.specs.Prelude.{◌≡◌, ℕ, ◌≤◌, false, List, [], ◌∷◌, length, slice_get, Option, unwrap_or, codes}
 use Rattle.iloc_spec_grammar.specs.Shapes.{Text}
 use Rattle.iloc_spec_grammar.specs.Words.{Language, Script, Region, Variant, IsWord, is_word, languages, normal}
 use Rattle.iloc_spec_grammar.specs.Meaning.{Locale, set_of}
@@ -57,10 +57,6 @@ AddsVariant t before after status = Sets
 abbrev pub RemovesVariant : Text → Changing
 RemovesVariant t = Removes (λ M. HasWord Variant t M.id.variants)
     (λ M. with_variants (without_word Variant t M.id.variants) M)
-
--- nothing is left of them
-abbrev pub ClearsVariants : Changing
-ClearsVariants = Removes (λ M. Unit {0}) (with_variants [])
 
 -- the text of an optional part: an empty one if it is absent
 abbrev pub text_or_empty : Option Text → Text

@@ -1,9 +1,8 @@
 -- The keywords of a locale: what each is, and what setting one does.
-use Rattle.std.specs.Prelude.{◌≡◌, ◌⊎◌, ℕ, ◌<◌, ◌≤◌, true, false, List, [], length, slice_get, Option, option_map, Ok, Err, if◌then◌else◌, Some, None, is_some}
-use Rattle.std.specs.FinMap.{find, put}
+use Rattle.std.specs.Prelude.{◌≡◌, ◌⊎◌, ℕ, ◌≤◌, false, List, length, slice_get, Option, option_map, Ok, Err}
+use Rattle.std.specs.FinMap.{put}
 use Rattle.std.specs.Map.{remove_entry}
 use Rattle.std.specs.BTreeMap.{is_at}
-use Rattle.std.specs.Option.{option_and_then}
 use Rattle.iloc_spec_grammar.specs.Shapes.{Text}
 use Rattle.iloc_spec_grammar.specs.Pieces.{join}
 use Rattle.iloc_spec_grammar.specs.Words.{UnicodeKey, IsWord, is_word, normal, word_cmp}
@@ -14,6 +13,7 @@ use Rattle.iloc_spec_grammar.specs.Faults.{Fault}
 use Rattle.iloc_spec_parts.specs.PartValues.{unicode_value}
 use Rattle.iloc_unicode_value.specs.Reads.{ValueWants}
 use Rattle.iloc_handles.specs.Finding.{Changing, Sets, Removes}
+use Rattle.iloc_handles.specs.Pairs.{HasKey, value_at}
 
 -- the keywords
 abbrev pub keywords_of : Locale → Fields
@@ -25,13 +25,9 @@ with_keywords ks M =
     let u = M.extensions.unicode in
     record M { extensions = record M.extensions { unicode = record u { keywords = ks } } }
 
--- the value of the key that is the text: none if the text is no key
-abbrev pub value_at : Text → Fields → Option (List Text)
-value_at k ks = if is_word UnicodeKey k then find word_cmp (normal UnicodeKey k) ks else None
-
 -- its text
 abbrev pub keyword_text : Text → Locale → Option Text
-keyword_text k M = option_map join (value_at k (keywords_of M))
+keyword_text k M = option_map join (value_at UnicodeKey k (keywords_of M))
 
 -- the key at an index
 abbrev pub key_at : ℕ → Locale → Option Text
@@ -56,15 +52,10 @@ SetsKeyword k v before after status = Sets
     × (after ≡ with_keywords (put word_cmp (normal UnicodeKey k) value (keywords_of before)) before))
     (KeywordFault k v) (ValueWants v ⊎ (1 ≤ length (keywords_of before))) before after status
 
--- the text is a key that has a value
-abbrev pub HasKey : Text → Fields → Type 0
-HasKey k ks = IsWord UnicodeKey k × (is_some (find word_cmp (normal UnicodeKey k) ks) ≡ true)
+-- all but the keyword with this key
+abbrev pub without_keyword : Text → Locale → Locale
+without_keyword k M = with_keywords (remove_entry (is_at (word_cmp k)) (keywords_of M)) M
 
--- it has none any more
+-- the key that is the text has no value any more
 abbrev pub RemovesKeyword : Text → Changing
-RemovesKeyword k = Removes (λ M. HasKey k (keywords_of M))
-    (λ M. with_keywords (remove_entry (is_at (word_cmp (normal UnicodeKey k))) (keywords_of M)) M)
-
--- no keyword is left
-abbrev pub ClearsKeywords : Changing
-ClearsKeywords = Removes (λ M. Unit {0}) (with_keywords [])
+RemovesKeyword k = Removes (λ M. HasKey UnicodeKey k (keywords_of M)) (without_keyword (normal UnicodeKey k))

@@ -1,10 +1,16 @@
 pub mod Attributes
+pub mod Clearing
+pub mod Data
 pub mod Finding
-pub mod Hashing
 pub mod Held
 pub mod Identifier
 pub mod Keywords
+pub mod Merging
+pub mod OtherPlaces
+pub mod Others
 pub mod Owned
+pub mod Pairs
+pub mod Parts
 pub mod Subtags
 pub mod Transform
 pub mod Whole

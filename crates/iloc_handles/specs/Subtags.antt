@@ -1,5 +1,5 @@
 -- Subtags that are set, added and removed.
-use Rattle.std.specs.Prelude.{◌≡◌, ◌≢◌, ℕ, true, false, not, List, [], filter, Option, None, Some}
+use Rattle.std.specs.Prelude.{◌≡◌, ◌≢◌, true, false, not, List, [], filter, Option, None, Some}
 use Rattle.std.specs.List.{list_any}
 use Rattle.iloc_spec_grammar.specs.Shapes.{Text}
 use Rattle.iloc_spec_grammar.specs.Words.{Kind, IsWord, is_word, is_same, normal}

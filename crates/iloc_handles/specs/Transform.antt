@@ -1,10 +1,10 @@
 -- The transform extension of a locale, t, and its private extension, x: what setting their parts does.
-use Rattle.std.specs.Prelude.{◌≡◌, ◌≢◌, ◌⊎◌, ℕ, true, false, List, [], slice_get, Option, Some, None, option_map, Ok, Err, is_some, if◌then◌else◌}
+use Rattle.std.specs.Prelude.{◌≡◌, ◌≢◌, ◌⊎◌, ℕ, true, false, not, List, [], filter, slice_get, Option, Some, None, option_map, Ok, Err, is_some}
 use Rattle.std.specs.FinMap.{find, put}
 use Rattle.iloc_spec_grammar.specs.Shapes.{Text}
 use Rattle.iloc_spec_grammar.specs.Pieces.{pieces}
-use Rattle.iloc_spec_grammar.specs.Words.{TransformKey, IsWord, is_word, languages, normal, word_cmp}
-use Rattle.iloc_spec_grammar.specs.Written.{Identifier, Fields, Transform}
+use Rattle.iloc_spec_grammar.specs.Words.{TransformKey, IsWord, is_same, is_word, languages, normal, word_cmp}
+use Rattle.iloc_spec_grammar.specs.Written.{Identifier, Fields}
 use Rattle.iloc_spec_grammar.specs.Meaning.{Locale, IdentifierMeans}
 use Rattle.iloc_spec_grammar.specs.Values.{identifier_text, field_value_text}
 use Rattle.iloc_spec_grammar.specs.Faults as faults
@@ -16,6 +16,7 @@ use Rattle.iloc_langid.specs.Reads.{WantsMemory}
 use Rattle.iloc_transform.specs.ValueReading.{ValueWants}
 use Rattle.iloc_other.specs.Reading.{PrivateTextWants}
 use Rattle.iloc_handles.specs.Finding.{Changing, Sets, Removes}
+use Rattle.iloc_handles.specs.Pairs.{HasKey, value_at}
 
 -- the identifier of the transform is another, and all else is the same
 abbrev pub with_transform_language : Option Identifier → Locale → Locale
@@ -59,8 +60,7 @@ field_value_at i M = option_map (λ f. field_value_text f.1) (slice_get (fields_
 
 -- the text of the value of the key that is the text
 abbrev pub field_text : Text → Locale → Option Text
-field_text k M = option_map field_value_text
-    (if is_word TransformKey k then find word_cmp (normal TransformKey k) (fields_of M) else None)
+field_text k M = option_map field_value_text (value_at TransformKey k (fields_of M))
 
 -- the key or the value is none
 abbrev pub FieldFault : Text → Text → Type 0
@@ -76,9 +76,13 @@ SetsField k v before after status = Sets
     (ValueWants v ⊎ (is_some (find word_cmp (normal TransformKey k) (fields_of before)) ≢ true))
     before after status
 
--- no field is left
-abbrev pub ClearsFields : Changing
-ClearsFields = Removes (λ M. Unit {0}) (with_fields [])
+-- all but the field with this key
+abbrev pub without_field : Text → Locale → Locale
+without_field k M = with_fields (filter (λ f. not (is_same k f.0)) (fields_of M)) M
+
+-- the key that is the text has no value any more
+abbrev pub RemovesField : Text → Changing
+RemovesField k = Removes (λ M. HasKey TransformKey k (fields_of M)) (without_field (normal TransformKey k))
 
 -- the private subtags are others, and all else is the same
 abbrev pub with_private : List Text → Locale → Locale

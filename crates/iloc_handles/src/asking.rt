@@ -1,11 +1,13 @@
 //! What is asked of a handle: a part that has a text, a question, or a change. Each is asked of a locale, and stands
 //! for `und` where a handle has no box.
-ghost use Rattle.std.specs.Prelude.{◌≡◌, ℕ, List, Option};
+ghost use Rattle.std.specs.Prelude.{◌≡◌, ℕ, List, Option, None};
 ghost use Rattle.iloc_spec_grammar.specs.Meaning as meaning;
 ghost use Rattle.iloc_locale.specs.LocaleValue.{value_of};
+ghost use Rattle.iloc_calls.specs.Answers.{Tells};
+ghost use Rattle.iloc_calls.specs.Numbers.{EndsAs};
 ghost use Rattle.iloc_calls.specs.declared.status.Status.{Status};
 ghost use Rattle.iloc_handles.specs.Held.{IsTight, meaning_of};
-ghost use Rattle.iloc_handles.specs.Finding.{Changes, Tells};
+ghost use Rattle.iloc_handles.specs.Finding.{Changes};
 
 use crate::handle::{Handle, is_und};
 use iloc_calls::Status;
@@ -13,7 +15,7 @@ use iloc_locale::Locale;
 use std::alloc::Global;
 
 /// A part of a locale that has a text.
-pub(crate) trait Part {
+pub trait Part {
     /// The text, unless there is no such part.
     ghost text: { Self → meaning.Locale → Option (List ℕ) };
 
@@ -24,7 +26,7 @@ pub(crate) trait Part {
 }
 
 /// A question about a locale.
-pub(crate) trait Question {
+pub trait Question {
     /// What is answered: a number, or whether something holds.
     type Answer;
 
@@ -37,7 +39,7 @@ pub(crate) trait Question {
 }
 
 /// A change of a locale.
-pub(crate) trait Change {
+pub trait Change {
     /// From the locale before to the locale after, and the status.
     ghost changes: { Self → meaning.Locale → meaning.Locale → Status → Type 0 };
 
@@ -47,29 +49,31 @@ pub(crate) trait Change {
 }
 
 /// Hands the text of the part out.
-pub(crate) fn tell<P: Part>(
+pub fn tell<P: Part>(
     alloc: Global,
     handle: &mut Handle,
     part: &P,
     buffer: &mut [u8],
     needed: &mut usize,
-) -> Status
+) -> u32
     ensures same { handle.new.value ≡ handle.old.value }
-    ensures told { Tells (P.text part.now (meaning_of handle.old.value)) buffer.old buffer.new
-        needed.new result }
+    ensures told { EndsAs (Tells (P.text part.now (meaning_of handle.old.value)) buffer.old
+        buffer.new needed.new) result }
 {
     match handle.take(alloc) {
         Some(boxed) => {
             let status = part.hand_out(boxed.as_ref(), buffer, needed);
             handle.put(alloc, boxed);
-            status
+            status.number()
         }
-        None => part.hand_out(&Locale::unknown(alloc), buffer, needed),
+        None => part
+            .hand_out(&Locale::unknown(alloc), buffer, needed)
+            .number(),
     }
 }
 
 /// Answers the question.
-pub(crate) fn ask<Q: Question>(alloc: Global, handle: &mut Handle, question: &Q) -> Q::Answer
+pub fn ask<Q: Question>(alloc: Global, handle: &mut Handle, question: &Q) -> Q::Answer
     ensures same { handle.new.value ≡ handle.old.value }
     ensures answered { Q.is_answer question.now (meaning_of handle.old.value) result }
 {
@@ -84,29 +88,35 @@ pub(crate) fn ask<Q: Question>(alloc: Global, handle: &mut Handle, question: &Q)
 }
 
 /// Changes the locale.
-pub(crate) fn make_change<C: Change>(alloc: Global, handle: &mut Handle, change: &C) -> Status
-    ensures changed { Changes (C.changes change.now) handle.old.value handle.new.value result }
+pub fn make_change<C: Change>(alloc: Global, handle: &mut Handle, change: &C) -> u32
+    ensures changed { EndsAs (Changes (C.changes change.now) handle.old.value handle.new.value)
+        result }
     ensures tight { IsTight handle.new.value }
 {
-    match handle.take(alloc) {
-        Some(mut boxed) => {
-            let status = change.apply(alloc, boxed.as_mut());
-            handle.keep(alloc, boxed);
+    let Some(mut boxed) = handle.take(alloc) else {
+        return change_und(alloc, handle, change).number();
+    };
+    let status = change.apply(alloc, boxed.as_mut());
+    handle.keep(alloc, boxed);
+    status.number()
+}
+
+// Changes `und`, for which the handle has no box.
+fn change_und<C: Change>(alloc: Global, handle: &mut Handle, change: &C) -> Status
+    requires { handle.old.value ≡ None }
+    ensures changed { Changes (C.changes change.now) None handle.new.value result }
+    ensures tight { IsTight handle.new.value }
+{
+    let mut locale = Locale::unknown(alloc);
+    let status = change.apply(alloc, &mut locale);
+    if is_und(&locale) {
+        return status;
+    }
+    match Box::new(alloc, locale) {
+        Ok(boxed) => {
+            handle.put(alloc, boxed);
             status
         }
-        None => {
-            let mut locale = Locale::unknown(alloc);
-            let status = change.apply(alloc, &mut locale);
-            if is_und(&locale) {
-                return status;
-            }
-            match Box::new(alloc, locale) {
-                Ok(boxed) => {
-                    handle.put(alloc, boxed);
-                    status
-                }
-                Err(_) => Status::OutOfMemory,
-            }
-        }
+        Err(_) => Status::OutOfMemory,
     }
 }

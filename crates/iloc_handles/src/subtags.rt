@@ -1,15 +1,11 @@
 //! Subtags of texts, and sets of subtags.
-ghost use Rattle.std.specs.Prelude.{◌≡◌, ◌↔◌, false, IsTrue, MatchResult, option_map};
+ghost use Rattle.std.specs.Prelude.{◌≡◌, ◌↔◌, false, IsTrue, MatchResult};
 ghost use Rattle.std.specs.List.{list_any};
-ghost use Rattle.std.specs.Option.{option_copied};
 ghost use Rattle.iloc_spec_grammar.specs.Words.{IsWord, is_same, is_word, normal};
 ghost use Rattle.iloc_spec_grammar.specs.Values.{IsAscending};
-ghost use Rattle.iloc_handles.specs.Finding.{Tells};
 ghost use Rattle.iloc_handles.specs.Subtags.{HasWord, IsNeither, IsOptional};
 
-use iloc_calls::{Status, hand_out};
 use iloc_subtags::{ParseError, WordKind, WordOf};
-use iloc_writeable::Writeable;
 
 /// The subtag that is the text.
 #[tactic(auto, using(crate::proofs::SubtagLemmas::read_word))]
@@ -59,28 +55,4 @@ pub(crate) fn has_word<K: WordKind<N>, const N: usize>(words: &[WordOf<K, N>], t
         Ok(word) => is_among(words, &word),
         Err(_) => false,
     }
-}
-
-/// Hands out the text of a part that is there.
-pub(crate) fn hand_out_found<W: Writeable>(
-    part: Option<&W>,
-    buffer: &mut [u8],
-    needed: &mut usize,
-) -> Status
-    ensures { Tells (option_map W.text (option_copied part.entry)) buffer.old buffer.new needed.new
-        result }
-{
-    match part {
-        Some(value) => hand_out(value, buffer, needed),
-        None => hand_out_none(needed),
-    }
-}
-
-/// Hands out nothing, as there is no such part.
-pub(crate) fn hand_out_none(needed: &mut usize) -> Status
-    ensures status { result ≡ Status.NotFound }
-    ensures needed { needed.new ≡ 0 }
-{
-    *needed = 0;
-    Status::NotFound
 }

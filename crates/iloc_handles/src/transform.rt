@@ -1,73 +1,38 @@
-//! Calls on the transform extension of a locale, and on its private extension.
-ghost use Rattle.std.specs.Prelude.{◌≡◌, Some, length};
-ghost use Rattle.iloc_spec_grammar.specs.Values.{private_text};
-ghost use Rattle.iloc_calls.specs.Numbers.{EndsAs};
-ghost use Rattle.iloc_handles.specs.Held.{IsTight, meaning_of};
-ghost use Rattle.iloc_handles.specs.Finding.{Changes, Tells};
+//! The transform extension of a locale, and its private extension.
+ghost use Rattle.std.specs.Prelude.{◌≡◌, not};
+ghost use Rattle.iloc_spec_grammar.specs.Words.{is_same};
 ghost use Rattle.iloc_handles.specs.Transform.{
-  ClearsFields,
   SetsField,
   SetsPrivate,
   SetsTransformLanguage,
-  field_key_at,
-  field_text,
-  field_value_at,
   fields_of,
-  transform_language,
+  without_field,
 };
 
-use crate::asking::{Change, Part, Question, ask, make_change, tell};
-use crate::handle::Handle;
-use crate::subtags::{hand_out_found, hand_out_none, word_of};
-use iloc_calls::{Status, hand_out};
+use crate::asking::Change;
+use crate::pairs::Pairs;
+use crate::subtags::word_of;
+use iloc_calls::Status;
 use iloc_langid::LanguageIdentifier;
 use iloc_locale::Locale;
 use iloc_other::Private;
-use iloc_subtags::TransformKeyKind;
+use iloc_subtags::{TransformKey, TransformKeyKind};
 use iloc_transform::Value;
 use std::alloc::Global;
 
-struct OfTransformLanguage;
-
-impl Part for OfTransformLanguage {
-    ghost text = { λ _. transform_language };
-
-    fn hand_out(&self, locale: &Locale, buffer: &mut [u8], needed: &mut usize) -> Status {
-        match &locale.extensions.transform.lang {
-            Some(identifier) => hand_out(identifier, buffer, needed),
-            None => hand_out_none(needed),
-        }
-    }
-}
-
-/// Hands out the identifier of the transform extension.
-pub fn get_transform_language(
-    alloc: Global,
-    handle: &mut Handle,
-    buffer: &mut [u8],
-    needed: &mut usize,
-) -> u32
-    ensures same { handle.new.value ≡ handle.old.value }
-    ensures told { EndsAs (Tells (transform_language (meaning_of handle.old.value)) buffer.old
-        buffer.new needed.new) result }
-{
-    tell(alloc, handle, &OfTransformLanguage, buffer, needed).number()
-}
-
+/// Sets the identifier of the transform extension to what the text means; an empty text removes it.
 #[derive(Drop)]
-struct SetTransformLanguage<'a> {
-    text: &'a [u8],
-}
+pub struct SetTransformLanguage<'a>(pub &'a [u8]);
 
 impl<'a> Change for SetTransformLanguage<'a> {
-    ghost changes = { λ s. SetsTransformLanguage s.text.now };
+    ghost changes = { λ s. SetsTransformLanguage s.0.now };
 
     fn apply(&self, alloc: Global, locale: &mut Locale) -> Status {
-        if self.text.is_empty() {
+        if self.0.is_empty() {
             locale.extensions.transform.lang = None;
             return Status::Done;
         }
-        match LanguageIdentifier::try_from_utf8(alloc, self.text) {
+        match LanguageIdentifier::try_from_utf8(alloc, self.0) {
             Ok(identifier) => {
                 locale.extensions.transform.lang = Some(identifier);
                 Status::Done
@@ -77,155 +42,49 @@ impl<'a> Change for SetTransformLanguage<'a> {
     }
 }
 
-/// Sets the identifier of the transform extension to what the text means; an empty text removes it.
-pub fn set_transform_language(alloc: Global, handle: &mut Handle, text: &[u8]) -> u32
-    ensures changed { EndsAs (Changes (SetsTransformLanguage text.now) handle.old.value
-        handle.new.value) result }
-    ensures tight { IsTight handle.new.value }
-{
-    make_change(alloc, handle, &SetTransformLanguage { text }).number()
-}
+/// The fields.
+#[derive(Drop)]
+pub struct OfFields;
 
-struct Count;
+impl Pairs for OfFields {
+    type Kind = TransformKeyKind;
 
-impl Question for Count {
-    type Answer = usize;
+    type Value = Value;
 
-    ghost is_answer = { λ _ M count. count ≡ length (fields_of M) };
+    ghost pairs = { fields_of };
 
-    fn ask(&self, locale: &Locale) -> usize {
-        locale.extensions.transform.fields.as_slice().len()
+    ghost without = { without_field };
+
+    fn pairs(locale: &Locale) -> &[(TransformKey, Value)] {
+        locale.extensions.transform.fields.as_slice()
+    }
+
+    fn get<'a>(locale: &'a Locale, key: &TransformKey) -> Option<&'a Value> {
+        locale.extensions.transform.fields.get(key)
+    }
+
+    fn remove(locale: &mut Locale, key: &TransformKey) {
+        locale.extensions.transform.fields.retain_by_key(
+            move |other: &TransformKey| -> bool
+                ensures { result ≡ not (is_same key.entry.now other.now) }
+            { !key.cmp(other).is_eq() },
+        );
     }
 }
 
-/// How many fields there are.
-pub fn field_count(alloc: Global, handle: &mut Handle) -> usize
-    ensures same { handle.new.value ≡ handle.old.value }
-    ensures answered { result ≡ length (fields_of (meaning_of handle.old.value)) }
-{
-    ask(alloc, handle, &Count)
-}
-
+/// Sets the value of the field with this key.
 #[derive(Drop)]
-struct KeyAt {
-    index: usize,
-}
-
-impl Part for KeyAt {
-    ghost text = { λ k. field_key_at k.index };
-
-    fn hand_out(&self, locale: &Locale, buffer: &mut [u8], needed: &mut usize) -> Status {
-        match locale
-            .extensions
-            .transform
-            .fields
-            .as_slice()
-            .get(self.index)
-        {
-            Some(pair) => hand_out(&pair.0, buffer, needed),
-            None => hand_out_none(needed),
-        }
-    }
-}
-
-/// Hands out the key of the field at the index; they ascend.
-pub fn get_field_key(
-    alloc: Global,
-    handle: &mut Handle,
-    index: usize,
-    buffer: &mut [u8],
-    needed: &mut usize,
-) -> u32
-    ensures same { handle.new.value ≡ handle.old.value }
-    ensures told { EndsAs (Tells (field_key_at index (meaning_of handle.old.value)) buffer.old
-        buffer.new needed.new) result }
-{
-    tell(alloc, handle, &KeyAt { index }, buffer, needed).number()
-}
-
-#[derive(Drop)]
-struct ValueAt {
-    index: usize,
-}
-
-impl Part for ValueAt {
-    ghost text = { λ v. field_value_at v.index };
-
-    fn hand_out(&self, locale: &Locale, buffer: &mut [u8], needed: &mut usize) -> Status {
-        match locale
-            .extensions
-            .transform
-            .fields
-            .as_slice()
-            .get(self.index)
-        {
-            Some(pair) => hand_out(&pair.1, buffer, needed),
-            None => hand_out_none(needed),
-        }
-    }
-}
-
-/// Hands out the value of the field at the index.
-pub fn get_field_value(
-    alloc: Global,
-    handle: &mut Handle,
-    index: usize,
-    buffer: &mut [u8],
-    needed: &mut usize,
-) -> u32
-    ensures same { handle.new.value ≡ handle.old.value }
-    ensures told { EndsAs (Tells (field_value_at index (meaning_of handle.old.value)) buffer.old
-        buffer.new needed.new) result }
-{
-    tell(alloc, handle, &ValueAt { index }, buffer, needed).number()
-}
-
-#[derive(Drop)]
-struct ValueOf<'a> {
-    key: &'a [u8],
-}
-
-impl<'a> Part for ValueOf<'a> {
-    ghost text = { λ v. field_text v.key.now };
-
-    fn hand_out(&self, locale: &Locale, buffer: &mut [u8], needed: &mut usize) -> Status {
-        match word_of::<TransformKeyKind, 2>(self.key) {
-            Ok(key) => hand_out_found(locale.extensions.transform.fields.get(&key), buffer, needed),
-            Err(_) => hand_out_none(needed),
-        }
-    }
-}
-
-/// Hands out the value of the field with this key.
-pub fn get_field(
-    alloc: Global,
-    handle: &mut Handle,
-    key: &[u8],
-    buffer: &mut [u8],
-    needed: &mut usize,
-) -> u32
-    ensures same { handle.new.value ≡ handle.old.value }
-    ensures told { EndsAs (Tells (field_text key.now (meaning_of handle.old.value)) buffer.old
-        buffer.new needed.new) result }
-{
-    tell(alloc, handle, &ValueOf { key }, buffer, needed).number()
-}
-
-#[derive(Drop)]
-struct SetField<'a> {
-    key: &'a [u8],
-    value: &'a [u8],
-}
+pub struct SetField<'a>(pub &'a [u8], pub &'a [u8]);
 
 impl<'a> Change for SetField<'a> {
-    ghost changes = { λ s. SetsField s.key.now s.value.now };
+    ghost changes = { λ s. SetsField s.0.now s.1.now };
 
     fn apply(&self, alloc: Global, locale: &mut Locale) -> Status {
-        let key = match word_of::<TransformKeyKind, 2>(self.key) {
+        let key = match word_of::<TransformKeyKind, 2>(self.0) {
             Ok(key) => key,
             Err(refusal) => return Status::from(refusal),
         };
-        let value = match Value::try_from_utf8(alloc, self.value) {
+        let value = match Value::try_from_utf8(alloc, self.1) {
             Ok(value) => value,
             Err(refusal) => return Status::from(refusal),
         };
@@ -236,68 +95,19 @@ impl<'a> Change for SetField<'a> {
     }
 }
 
-/// Sets the value of the field with this key.
-pub fn set_field(alloc: Global, handle: &mut Handle, key: &[u8], value: &[u8]) -> u32
-    ensures changed { EndsAs (Changes (SetsField key.now value.now) handle.old.value
-        handle.new.value) result }
-    ensures tight { IsTight handle.new.value }
-{
-    make_change(alloc, handle, &SetField { key, value }).number()
-}
-
-struct ClearFields;
-
-impl Change for ClearFields {
-    ghost changes = { λ _. ClearsFields };
-
-    fn apply(&self, _alloc: Global, locale: &mut Locale) -> Status {
-        locale.extensions.transform.fields.empty();
-        Status::Done
-    }
-}
-
-/// Removes all fields.
-pub fn clear_fields(alloc: Global, handle: &mut Handle) -> u32
-    ensures changed { EndsAs (Changes ClearsFields handle.old.value handle.new.value) result }
-    ensures tight { IsTight handle.new.value }
-{
-    make_change(alloc, handle, &ClearFields).number()
-}
-
-struct OfPrivate;
-
-impl Part for OfPrivate {
-    ghost text = { λ _ M. Some (private_text M.extensions.private) };
-
-    fn hand_out(&self, locale: &Locale, buffer: &mut [u8], needed: &mut usize) -> Status {
-        hand_out(&locale.extensions.private, buffer, needed)
-    }
-}
-
-/// Hands out the private extension, with its `x`; an empty text if there is none.
-pub fn get_private(alloc: Global, handle: &mut Handle, buffer: &mut [u8], needed: &mut usize) -> u32
-    ensures same { handle.new.value ≡ handle.old.value }
-    ensures told { EndsAs (Tells
-        (Some (private_text (meaning_of handle.old.value).extensions.private)) buffer.old
-        buffer.new needed.new) result }
-{
-    tell(alloc, handle, &OfPrivate, buffer, needed).number()
-}
-
+/// Sets the private extension to that of the text, which begins with `x`; an empty text removes it.
 #[derive(Drop)]
-struct SetPrivate<'a> {
-    text: &'a [u8],
-}
+pub struct SetPrivate<'a>(pub &'a [u8]);
 
 impl<'a> Change for SetPrivate<'a> {
-    ghost changes = { λ s. SetsPrivate s.text.now };
+    ghost changes = { λ s. SetsPrivate s.0.now };
 
     fn apply(&self, alloc: Global, locale: &mut Locale) -> Status {
-        if self.text.is_empty() {
+        if self.0.is_empty() {
             locale.extensions.private.clear();
             return Status::Done;
         }
-        match Private::try_from_utf8(alloc, self.text) {
+        match Private::try_from_utf8(alloc, self.0) {
             Ok(private) => {
                 locale.extensions.private = private;
                 Status::Done
@@ -305,13 +115,4 @@ impl<'a> Change for SetPrivate<'a> {
             Err(refusal) => Status::from(refusal),
         }
     }
-}
-
-/// Sets the private extension to that of the text, which begins with `x`; an empty text removes it.
-pub fn set_private(alloc: Global, handle: &mut Handle, text: &[u8]) -> u32
-    ensures changed { EndsAs (Changes (SetsPrivate text.now) handle.old.value handle.new.value)
-        result }
-    ensures tight { IsTight handle.new.value }
-{
-    make_change(alloc, handle, &SetPrivate { text }).number()
 }

@@ -66,6 +66,8 @@ const TRYING: &[Trying] = &[
     |it| it.set_transform_language("de-aaaaa-bbbbb-ccccc-ddddd-eeeee"),
     |it| it.set_field("h0", "aaa-bbb-ccc-ddd-eee"),
     |it| it.set_private_extension("x-a-b-c-d-e-f"),
+    |it| it.set_other("c-foo-bar"),
+    |it| it.set_other("a-bar"),
     |_| check(Mode::Locale, LONG),
     |_| normalize(Mode::Locale, LONG).map(drop),
     |_| strict_cmp(Mode::Locale, LONG, LONG).map(drop),
@@ -80,6 +82,7 @@ struct Parts {
     key: Key,
     value: Value,
     attributes: [Attribute; 2],
+    locale: Locale,
 }
 
 impl Parts {
@@ -90,6 +93,7 @@ impl Parts {
             key: "hc".parse()?,
             value: "aaa-bbb-ccc-ddd-eee".parse()?,
             attributes: ["foo".parse()?, "bbb".parse()?],
+            locale: LONG.parse()?,
         })
     }
 }
@@ -106,6 +110,7 @@ const ENDING: &[(&str, Ending)] = &[
     ("remove_attribute", |it, parts| {
         it.remove_attribute(&parts.attributes[1]);
     }),
+    ("extend_unicode", |it, parts| it.extend_unicode(&parts.locale)),
     ("normalizing_eq", |it, _| assert!(!it.normalizing_eq("fr-a-bcd"))),
 ];
 

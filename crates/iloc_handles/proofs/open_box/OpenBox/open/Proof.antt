@@ -2,7 +2,7 @@
 use Rattle.std.proofs.Common.{◌≡◌, List, [], ◌∷◌, ◌++◌, refl, sym, ap, ◌∙◌, subst}
 use mir.Syntax.{a_type, dcons, dnil}
 use mir.Raw.{raw as bare}
-use mir.Val.{Val, vptr, vstruct, of_list}
+use mir.Val.{Val, vstruct, of_list}
 use mir.MapTy.{inst_fn}
 use base.Logic.{SProp, ent, emp, never, id⊢, fst∗}
 use base.Fml.{ftrue, fsep, flft}
@@ -15,7 +15,7 @@ use types.Part.{agg, sub, whole}
 use contract.Monad.{fact, fact_i}
 use contract.Running.{tables}
 use denote.Exit.{no}
-use denote.RattleType.{RattleType, owns}
+use denote.RattleType.{owns}
 use denote.Signature.{types_at, plain}
 use denote.Builtin.{RawPtr}
 use denote.RawPtr.{Ptr, block_ptr, null_ptr, ptr_val, in_a_block}

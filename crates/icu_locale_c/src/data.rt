@@ -1,0 +1,140 @@
+//! Calls on the data locale of a locale, and on what formatters read of it.
+ghost use Rattle.std.specs.Prelude.{◌≡◌, ◌<◌};
+ghost use Rattle.std.specs.Ordering.{nat_cmp};
+ghost use Rattle.std.specs.Cmp.Lexicographic.{slice_cmp};
+ghost use Rattle.iloc_spec_preferences.specs.DataLocales.{data_text};
+ghost use Rattle.iloc_spec_preferences.specs.DataOrders.{data_locale_cmp};
+ghost use Rattle.iloc_calls.specs.Answers.{HandsOut, Tells, order_number};
+ghost use Rattle.iloc_calls.specs.Numbers.{EndsAs, number_of};
+ghost use Rattle.iloc_calls.specs.declared.status.Status.{Status};
+ghost use Rattle.iloc_handles.specs.declared.data.Priority.{Priority};
+ghost use Rattle.iloc_handles.specs.Data.{calendar_text, data_of, hours_text, numbering_text, priority_number};
+ghost use Rattle.iloc_handles.specs.Held.{meaning_of};
+
+use iloc_calls::{Status, hand_out, number};
+use iloc_handles::{Handle, Named, Priority, ask, tell};
+use std::alloc::Global;
+
+/// Hands out the text of the data locale.
+///
+/// The priority is 0 for the locale's own region and 1 for that of its keyword `rg`.
+#[unsafe(no_mangle)]
+pub extern "C" fn icu_locale_get_data_locale(
+    alloc: Global,
+    handle: &mut Handle,
+    priority: u32,
+    buffer: &mut [u8],
+    needed: &mut usize,
+) -> u32
+    ensures same { handle.new.value ≡ handle.old.value }
+    ensures known { (p : Priority) → priority ≡ priority_number p
+        → EndsAs (HandsOut (data_text (data_of p (meaning_of handle.old.value))) buffer.old
+        buffer.new needed.new) result }
+    ensures unknown { 1 < priority → (result ≡ number_of Status.UnknownNumber)
+        × (needed.new ≡ 0) × (buffer.new ≡ buffer.old) }
+{
+    match Priority::from_number(priority) {
+        Some(priority) => hand_out(&ask(alloc, handle, &priority), buffer, needed).number(),
+        None => {
+            *needed = 0;
+            Status::UnknownNumber.number()
+        }
+    }
+}
+
+/// Writes the byte order of the data locale's text against other bytes, as -1, 0 or 1.
+#[unsafe(no_mangle)]
+pub extern "C" fn icu_locale_data_cmp_bytes(
+    alloc: Global,
+    handle: &mut Handle,
+    priority: u32,
+    other: &[u8],
+    order: &mut i8,
+) -> u32
+    ensures same { handle.new.value ≡ handle.old.value }
+    ensures known { (p : Priority) → priority ≡ priority_number p
+        → (result ≡ number_of Status.Done) × (order.new ≡ order_number (slice_cmp nat_cmp
+        (data_text (data_of p (meaning_of handle.old.value))) other.now)) }
+    ensures unknown { 1 < priority
+        → (result ≡ number_of Status.UnknownNumber) × (order.new ≡ order.old) }
+{
+    match Priority::from_number(priority) {
+        Some(priority) => {
+            *order = number(ask(alloc, handle, &priority).strict_cmp(other));
+            Status::Done.number()
+        }
+        None => Status::UnknownNumber.number(),
+    }
+}
+
+/// Writes the order of the data locales of two handles, as -1, 0 or 1.
+#[unsafe(no_mangle)]
+pub extern "C" fn icu_locale_data_cmp(
+    alloc: Global,
+    handle: &mut Handle,
+    other: &mut Handle,
+    priority: u32,
+    order: &mut i8,
+) -> u32
+    ensures same { handle.new.value ≡ handle.old.value }
+    ensures same_other { other.new.value ≡ other.old.value }
+    ensures known { (p : Priority) → priority ≡ priority_number p
+        → (result ≡ number_of Status.Done) × (order.new ≡ order_number (data_locale_cmp
+        (data_of p (meaning_of handle.old.value)) (data_of p (meaning_of other.old.value)))) }
+    ensures unknown { 1 < priority
+        → (result ≡ number_of Status.UnknownNumber) × (order.new ≡ order.old) }
+{
+    match Priority::from_number(priority) {
+        Some(priority) => {
+            let data = ask(alloc, handle, &priority);
+            *order = number(data.total_cmp(&ask(alloc, other, &priority)));
+            Status::Done.number()
+        }
+        None => Status::UnknownNumber.number(),
+    }
+}
+
+/// Hands out the calendar of the keyword `ca`.
+#[unsafe(no_mangle)]
+pub extern "C" fn icu_locale_get_calendar_algorithm(
+    alloc: Global,
+    handle: &mut Handle,
+    buffer: &mut [u8],
+    needed: &mut usize,
+) -> u32
+    ensures same { handle.new.value ≡ handle.old.value }
+    ensures told { EndsAs (Tells (calendar_text (meaning_of handle.old.value)) buffer.old
+        buffer.new needed.new) result }
+{
+    tell(alloc, handle, &Named::Calendar, buffer, needed)
+}
+
+/// Hands out the hour cycle of the keyword `hc`.
+#[unsafe(no_mangle)]
+pub extern "C" fn icu_locale_get_hour_cycle(
+    alloc: Global,
+    handle: &mut Handle,
+    buffer: &mut [u8],
+    needed: &mut usize,
+) -> u32
+    ensures same { handle.new.value ≡ handle.old.value }
+    ensures told { EndsAs (Tells (hours_text (meaning_of handle.old.value)) buffer.old
+        buffer.new needed.new) result }
+{
+    tell(alloc, handle, &Named::HourCycle, buffer, needed)
+}
+
+/// Hands out the numbering system of the keyword `nu`.
+#[unsafe(no_mangle)]
+pub extern "C" fn icu_locale_get_numbering_system(
+    alloc: Global,
+    handle: &mut Handle,
+    buffer: &mut [u8],
+    needed: &mut usize,
+) -> u32
+    ensures same { handle.new.value ≡ handle.old.value }
+    ensures told { EndsAs (Tells (numbering_text (meaning_of handle.old.value)) buffer.old
+        buffer.new needed.new) result }
+{
+    tell(alloc, handle, &Named::NumberingSystem, buffer, needed)
+}

@@ -1,0 +1,55 @@
+//! Calls on the other extensions of a locale.
+ghost use Rattle.std.specs.Prelude.{◌≡◌, ◌↔◌, IsTrue};
+ghost use Rattle.iloc_calls.specs.Answers.{Tells};
+ghost use Rattle.iloc_calls.specs.Numbers.{EndsAs};
+ghost use Rattle.iloc_handles.specs.Held.{IsTight, meaning_of};
+ghost use Rattle.iloc_handles.specs.Finding.{Changes};
+ghost use Rattle.iloc_handles.specs.Others.{HasOther as IsThere, RemovesOther, SetsOther, other_text_at};
+
+use iloc_handles::{Handle, HasOther, OfOther, RemoveOther, SetOther, ask, make_change, tell};
+use std::alloc::Global;
+
+/// Whether there is an extension of the singleton, in either case.
+#[unsafe(no_mangle)]
+pub extern "C" fn icu_locale_has_other(alloc: Global, handle: &mut Handle, singleton: u8) -> bool
+    ensures same { handle.new.value ≡ handle.old.value }
+    ensures answered { IsTrue result ↔ IsThere singleton (meaning_of handle.old.value) }
+{
+    ask(alloc, handle, &HasOther(singleton))
+}
+
+/// Hands out the extension of the singleton, in either case.
+#[unsafe(no_mangle)]
+pub extern "C" fn icu_locale_get_other(
+    alloc: Global,
+    handle: &mut Handle,
+    singleton: u8,
+    buffer: &mut [u8],
+    needed: &mut usize,
+) -> u32
+    ensures same { handle.new.value ≡ handle.old.value }
+    ensures told { EndsAs (Tells (other_text_at singleton (meaning_of handle.old.value)) buffer.old
+        buffer.new needed.new) result }
+{
+    tell(alloc, handle, &OfOther(singleton), buffer, needed)
+}
+
+/// Sets the extension of its singleton to that of the text.
+#[unsafe(no_mangle)]
+pub extern "C" fn icu_locale_set_other(alloc: Global, handle: &mut Handle, text: &[u8]) -> u32
+    ensures changed { EndsAs (Changes (SetsOther text.now) handle.old.value handle.new.value)
+        result }
+    ensures tight { IsTight handle.new.value }
+{
+    make_change(alloc, handle, &SetOther(text))
+}
+
+/// Removes the extension of the singleton, in either case.
+#[unsafe(no_mangle)]
+pub extern "C" fn icu_locale_remove_other(alloc: Global, handle: &mut Handle, singleton: u8) -> u32
+    ensures changed { EndsAs (Changes (RemovesOther singleton) handle.old.value handle.new.value)
+        result }
+    ensures tight { IsTight handle.new.value }
+{
+    make_change(alloc, handle, &RemoveOther(singleton))
+}

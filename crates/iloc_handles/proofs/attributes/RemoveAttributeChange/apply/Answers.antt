@@ -1,0 +1,34 @@
+-- A binary search finds the attribute exactly if it is there.
+use Rattle.std.proofs.Common.{refl, sym, ap, subst}
+use Rattle.iloc_spec_grammar.specs.Words.{Attribute}
+use Rattle.iloc_spec_grammar.specs.Values.{IsAscending}
+use Rattle.iloc_word_set.proofs.SetLaws.{search_new}
+use Rattle.iloc_locale.specs.LocaleValue.{value_of}
+use Rattle.iloc_handles.specs.Attributes.{with_attributes}
+use Rattle.iloc_handles.proofs.SubtagLemmas.{absent_word, removed_ascends, removed_word}
+use Rattle.iloc_handles.proofs.attributes.RemoveAttributeChange.apply.Goals as goal
+
+pub returns-in-Err-binary_search : goal.returns-in-Err-binary_search
+returns-in-Err-binary_search c =
+    let ws = c.args.locale.now.extensions.unicode.attributes in
+    let slice = c.as_slice-attributes in
+    let new = search_new slice.result.now ws c.in-Ok.attribute c.in-Err-binary_search.field-0 slice.ensures.words
+    slice.ensures.ascending c.in-Err-binary_search.ensures.bound c.in-Err-binary_search.ensures.position in
+    (absent_word Attribute c.args.self.now.0.now c.in-Ok.attribute ws c.in-Ok.ensures.1 new.absent, refl)
+
+pub without-requires-clause-ascends : goal.without-requires-clause-ascends
+without-requires-clause-ascends c =
+    let slice = c.as_slice-attributes in
+    removed_ascends c.in-Ok.attribute slice.result.now c.in-Ok-binary_search.at
+    (subst IsAscending (sym slice.ensures.words) slice.ensures.ascending) c.in-Ok-binary_search.ensures.bound
+    c.in-Ok-binary_search.ensures.ok
+
+pub returns-in-Ok-without : goal.returns-in-Ok-without
+returns-in-Ok-without c =
+    let l = c.args.locale.now in
+    let slice = c.as_slice-attributes in
+    let found = c.in-Ok-binary_search in
+    let left = removed_word Attribute c.args.self.now.0.now c.in-Ok.attribute slice.result.now
+    l.extensions.unicode.attributes c.in-Ok-without.kept found.at c.in-Ok.ensures.1 slice.ensures.words
+    slice.ensures.ascending found.ensures.bound found.ensures.ok c.in-Ok-without.ensures in
+    ((c.in-Ok.ensures.0, left.0), ap (λ ws. with_attributes ws (value_of l)) left.1)

@@ -1,0 +1,14 @@
+-- What a test in turn keeps are the fields with other keys.
+use Rattle.std.proofs.Common.{rules, ap}
+use Rattle.std.specs.Prelude.{not}
+use Rattle.std.proofs.lemmas.Fn.{filter_same}
+use Rattle.iloc_spec_grammar.specs.Words.{is_same}
+use Rattle.iloc_locale.specs.LocaleValue.{value_of}
+use Rattle.iloc_handles.specs.Transform.{with_fields}
+use Rattle.iloc_handles.proofs.transform.OfFieldsPairs.remove.Goals as goal
+
+pub returns : goal.returns
+returns c =
+    ap (λ fs. with_fields fs (value_of c.args.locale.now))
+    (filter_same _ (λ f. not (is_same c.args.key.now f.0)) _ (λ x b f call. search rules) c.args.locale.now.extensions.transform.fields
+    c.retain_by_key.new.self c.retain_by_key.ensures)

@@ -1,0 +1,13 @@
+-- Where an other extension stands, and where a new one belongs.
+use Rattle.std.specs.Prelude.{ℕ, suc, ◌==◌, List, [], ◌∷◌, nat_lt, if◌then◌else◌}
+use Rattle.iloc_spec_grammar.specs.Shapes.{Block}
+
+-- how many stand before the first of this singleton
+abbrev pub place_of_singleton : ℕ → List Block → ℕ
+place_of_singleton c [] = 0
+place_of_singleton c (o ∷ os) = if o.0 == c then 0 else suc (place_of_singleton c os)
+
+-- how many stand before the first that is not less
+abbrev pub place : ℕ → List Block → ℕ
+place c [] = 0
+place c (o ∷ os) = if nat_lt o.0 c then suc (place c os) else 0
