@@ -1,5 +1,5 @@
 -- What a run writes for what it reads: the output of the definitions, by the mode.
-use Rattle.std.specs.Prelude.{◌≡◌, ℕ, List, ◌++◌, codes, Option, IfSome}
+use Rattle.std.specs.Prelude.{◌≡◌, ◌++◌, codes, Option, IfSome}
 use Rattle.std.specs.Io.{StartsWith}
 use Rattle.std.specs.Io.KnownBytes.{Appends, Consumes, IsAtEnd}
 use Rattle.iloc_spec_grammar.specs.Shapes.{Text}
