@@ -1,6 +1,7 @@
 //! Each shape with each length of a language, in mixed case, and what stands at the front of lines.
 use iloc_plain::{
-    Front, Keyword, read_front, read_keyword, read_ordered, read_plain, read_plain_text, read_varied,
+    Front, Keyword, read_front, read_keyword, read_ordered, read_plain, read_plain_text,
+    read_varied,
 };
 
 // A text of each shape for each length of a language, and its normal text.
