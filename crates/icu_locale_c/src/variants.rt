@@ -1,6 +1,6 @@
 //! Calls on the variants of a locale.
 ghost use Rattle.std.specs.Prelude.{◌≡◌, ◌↔◌, IsTrue, length};
-ghost use Rattle.iloc_spec_grammar.specs.Words.{Variant as the_kind};
+ghost use Rattle.iloc_spec_grammar.specs.Syntax.{Variant as the_kind};
 ghost use Rattle.iloc_calls.specs.Answers.{Tells};
 ghost use Rattle.iloc_calls.specs.Numbers.{EndsAs};
 ghost use Rattle.iloc_handles.specs.Clearing.{Clears};

@@ -1,13 +1,7 @@
 -- The words of the definitions, passed on, so that a clause about a locale needs no other crate.
-pub use Rattle.iloc_spec_grammar.specs.Shapes
-pub use Rattle.iloc_spec_grammar.specs.Pieces
-pub use Rattle.iloc_spec_grammar.specs.Words
-pub use Rattle.iloc_spec_grammar.specs.Written
+pub use Rattle.iloc_spec_grammar.specs.Syntax
 pub use Rattle.iloc_spec_grammar.specs.Meaning
 pub use Rattle.iloc_spec_grammar.specs.Values
-pub use Rattle.iloc_spec_grammar.specs.Faults
-pub use Rattle.iloc_spec_grammar.specs.Steps
-pub use Rattle.iloc_spec_grammar.specs.Blocks
 pub use Rattle.iloc_spec_grammar.specs.Reading
 pub use Rattle.iloc_spec_parts.specs.Fronts
 pub use Rattle.iloc_spec_parts.specs.Parts
@@ -15,7 +9,6 @@ pub use Rattle.iloc_spec_parts.specs.PartValues
 pub use Rattle.iloc_spec_parts.specs.Extending
 pub use Rattle.iloc_spec_parts.specs.Small
 pub use Rattle.iloc_spec_parts.specs.Inline
-pub use Rattle.iloc_spec_parts.specs.InlineBlocks
 pub use Rattle.iloc_spec_orders.specs.Orders
 pub use Rattle.iloc_spec_orders.specs.Hashes
 pub use Rattle.iloc_spec_preferences.specs.Subdivisions
@@ -25,7 +18,6 @@ pub use Rattle.iloc_spec_preferences.specs.DataHashes
 pub use Rattle.iloc_spec_preferences.specs.Keywords
 pub use Rattle.iloc_spec_preferences.specs.Preferences
 pub use Rattle.iloc_spec_preferences.specs.Formatters
-pub use Rattle.iloc_subtags.specs.Answers
 pub use Rattle.iloc_subtags.specs.Judging
 pub use Rattle.iloc_writeable.specs.Writing
 pub use Rattle.iloc_writeable.specs.Hints
@@ -45,9 +37,9 @@ pub use Rattle.iloc_unicode.specs.UnicodeValue
 pub use Rattle.iloc_transform.specs.TransformReading
 pub use Rattle.iloc_extensions.specs.ExtensionsValue
 pub use Rattle.iloc_extensions.specs.Retaining
-pub use Rattle.iloc_locale.specs.LocaleValue
-pub use Rattle.iloc_locale.specs.Reads as LocaleReads
-pub use Rattle.iloc_locale.specs.Normalizing as LocaleNormalizing
+pub use Rattle.iloc_locale.specs.LocaleReading
+pub use Rattle.iloc_locale.specs.LocaleReading as LocaleReads
+pub use Rattle.iloc_locale.specs.LocaleReading as LocaleNormalizing
 pub use Rattle.iloc_data.specs.Reads as DataReads
 pub use Rattle.iloc_data.specs.DataValue
 pub use Rattle.iloc_data.specs.DataEquality

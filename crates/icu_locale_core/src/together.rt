@@ -6,7 +6,7 @@ ghost use Rattle.iloc_langid.specs.Reads as langid;
 ghost use Rattle.iloc_unicode.specs.UnicodeValue as unicode;
 ghost use Rattle.iloc_transform.specs.TransformReading as transform;
 ghost use Rattle.iloc_extensions.specs.ExtensionsValue as extensions;
-ghost use Rattle.iloc_locale.specs.LocaleValue as locale;
+ghost use Rattle.iloc_locale.specs.LocaleReading as locale;
 ghost use Rattle.iloc_data.specs.DataValue as data_locale;
 ghost use Rattle.icu_locale_core.specs.Together.{CompareTogether};
 

@@ -7,10 +7,8 @@ use Rattle.std.specs.Ordering.{is_eq, nat_cmp}
 use Rattle.std.specs.Cmp.Lexicographic.{slice_cmp}
 use Rattle.std.specs.declared.cmp.Ordering.{Ordering}
 use Rattle.std.specs.declared.cmp.Ordering.TheVariants.{Equal}
-use Rattle.iloc_spec_grammar.specs.Pieces.{pieces}
-use Rattle.iloc_spec_grammar.specs.Words.{languages}
+use Rattle.iloc_spec_grammar.specs.Syntax.{pieces, languages, Identifier}
 use Rattle.iloc_spec_grammar.specs.Meaning as meaning
-use Rattle.iloc_spec_grammar.specs.Written.{Identifier}
 use Rattle.iloc_spec_grammar.specs.Meaning.{IdentifierMeans, Means}
 use Rattle.iloc_spec_grammar.specs.Values.{identifier_text, text}
 use Rattle.iloc_spec_grammar.proofs.RawLaws.{languages_table}
@@ -26,8 +24,8 @@ use Rattle.iloc_subtags.specs.declared.parse_error.ParseError.{ParseError}
 use Rattle.iloc_subtags.specs.declared.parse_error.ParseError.TheVariants as refusals
 use Rattle.iloc_langid.specs.Reads as langid
 use Rattle.iloc_langid.specs.declared.identifier.LanguageIdentifier.{LanguageIdentifier}
-use Rattle.iloc_locale.specs.LocaleValue as locale
-use Rattle.iloc_locale.specs.Reads.{LocaleReads, RunsOutOnlyIf, WantsMemory}
+use Rattle.iloc_locale.specs.LocaleReading as locale
+use Rattle.iloc_locale.specs.LocaleReading.{LocaleReads, RunsOutOnlyIf, WantsMemory}
 use Rattle.iloc_locale.specs.declared.locale.Locale as types
 use Rattle.iloc_data.specs.DataValue as data_locale
 use Rattle.iloc_data.specs.Reads.{DataReadsAs}

@@ -3,8 +3,7 @@ use Rattle.std.proofs.Common.{◌≡◌, ℕ, ◌+◌, ◌≤◌, Bool, true, fa
 use Rattle.std.specs.Result.{result_ok}
 use Rattle.std.proofs.lemmas.Bool.{cond_both}
 use Rattle.std.proofs.lemmas.Bool.Decides.{nat_tests}
-use Rattle.iloc_spec_grammar.specs.Pieces.{join, dashes}
-use Rattle.iloc_spec_grammar.specs.Words.{Region, languages, is_word, is_same, is_true, lower}
+use Rattle.iloc_spec_grammar.specs.Syntax.{join, dashes, Region, languages, is_word, is_same, is_true, lower}
 use Rattle.iloc_spec_grammar.specs.Values.{IsNormal, text}
 use Rattle.iloc_spec_grammar.proofs.Chains.{shortest}
 use Rattle.iloc_spec_grammar.proofs.MapLaws.{same_is}

@@ -1,7 +1,7 @@
 -- What a keyword that is there or not reads as.
 use Rattle.std.proofs.Common.{◌≡◌, ℕ, true, List, Option, Some, None, ap, is_some, is_none, ◌||◌, option_and_then}
 use Rattle.std.specs.FinMap.{find}
-use Rattle.iloc_spec_grammar.specs.Words.{word_cmp}
+use Rattle.iloc_spec_grammar.specs.Syntax.{word_cmp}
 use Rattle.iloc_spec_grammar.specs.Meaning.{Locale}
 use Rattle.iloc_spec_preferences.specs.Preferences.{read_keyword, is_readable}
 

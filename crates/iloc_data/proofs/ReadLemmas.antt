@@ -1,11 +1,10 @@
 -- From the small locale that was read, or its refusal, to what the reader of data locales answers.
 use Rattle.std.specs.Prelude.{⊤}
 use Rattle.std.proofs.Common.{◌≡◌, ℕ, List, Option, Some, None, sym, ap, ◌∙◌, Result, Ok, Err, option_map}
-use Rattle.iloc_spec_grammar.specs.Words.{languages, two_or_three}
+use Rattle.iloc_spec_grammar.specs.Syntax.{languages, two_or_three}
 use Rattle.iloc_spec_grammar.specs.Meaning as meaning
-use Rattle.iloc_spec_grammar.specs.Meaning.{Means}
-use Rattle.iloc_spec_grammar.specs.Faults as faults
-use Rattle.iloc_spec_grammar.specs.Faults.{Fault}
+use Rattle.iloc_spec_grammar.specs.Meaning.{Means, Fault}
+use Rattle.iloc_spec_grammar.specs.Meaning as faults
 use Rattle.iloc_spec_grammar.proofs.RawLaws.{languages_table, narrow_in_wide}
 use Rattle.iloc_langid.specs.SmallLocaleReads.{LocaleParts, small_locale_of, SmallLocaleReadsAs}
 use Rattle.iloc_spec_preferences.specs.Subdivisions.{Subdivision}
@@ -18,9 +17,8 @@ use Rattle.iloc_spec_preferences.proofs.ConversionLaws.{agrees}
 use Rattle.iloc_subtags.specs.declared.parse_error.ParseError.{ParseError}
 use Rattle.iloc_subtags.specs.declared.parse_error.ParseError.TheVariants.{InvalidLanguage, InvalidSubtag, InvalidExtension, DuplicatedExtension, OutOfMemory}
 use Rattle.iloc_data.specs.declared.data_locale.DataLocale.{DataLocale}
-use Rattle.iloc_subtags.specs.Answers.{ButDuplicate}
-use Rattle.iloc_subtags.specs.Judging.{Accepts, Refuses}
-use Rattle.iloc_locale.specs.Reads.{RunsOutOnlyIf}
+use Rattle.iloc_subtags.specs.Judging.{ButDuplicate, Accepts, Refuses}
+use Rattle.iloc_locale.specs.LocaleReading.{RunsOutOnlyIf}
 use Rattle.iloc_subtags.proofs.Judged.{Judges, accepts, refuses, but_duplicate}
 use Rattle.iloc_data.specs.DataValue.{value_of}
 use Rattle.iloc_data.specs.Reads.{DataReadsAs}

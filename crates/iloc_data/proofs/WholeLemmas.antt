@@ -4,8 +4,8 @@ use Rattle.std.specs.Prelude.{IfSome, if◌then◌else◌, option_and_then, ok_o
 use Rattle.std.specs.Result.{result_ok}
 use Rattle.std.specs.Char.{is_ascii_alphabetic}
 use Rattle.std.proofs.lemmas.Bool.Decides.{nat_tests}
-use Rattle.iloc_spec_grammar.specs.Words.{Region, Subtag, SubdivisionSuffix, is_word, word, lower, upper, is_same}
-use Rattle.iloc_spec_grammar.specs.Faults.{InvalidSubtag, InvalidExtension}
+use Rattle.iloc_spec_grammar.specs.Syntax.{Region, Subtag, SubdivisionSuffix, is_word, word, lower, upper, is_same}
+use Rattle.iloc_spec_grammar.specs.Meaning.{InvalidSubtag, InvalidExtension}
 use Rattle.iloc_spec_preferences.specs.Subdivisions.{Subdivision, both_words}
 use Rattle.iloc_spec_preferences.specs.DataLocales.{whole, is_whole, named_subdivision}
 use Rattle.iloc_spec_grammar.proofs.MapLaws.{same_is}

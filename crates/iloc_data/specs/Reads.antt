@@ -1,17 +1,14 @@
 -- What the parser of data locales returns. It allocates nothing. This library's rule.
 use Rattle.std.specs.Prelude.{◌≡◌, ⊤, ℕ, List, Result, IfOk}
-use Rattle.iloc_spec_grammar.specs.Shapes.{Text}
-use Rattle.iloc_spec_grammar.specs.Words.{languages, two_or_three}
+use Rattle.iloc_spec_grammar.specs.Syntax.{Text, languages, two_or_three}
 use Rattle.iloc_spec_grammar.specs.Meaning as meaning
-use Rattle.iloc_spec_grammar.specs.Meaning.{Means}
+use Rattle.iloc_spec_grammar.specs.Meaning.{Means, Fault}
 use Rattle.iloc_spec_preferences.specs.DataLocales as parts
 use Rattle.iloc_spec_preferences.specs.DataLocales.{DataMeans, HasDataFault, data_text}
 use Rattle.iloc_spec_preferences.specs.Preferences.{language_priority, preferences}
 use Rattle.iloc_subtags.specs.declared.parse_error.ParseError.{ParseError}
-use Rattle.iloc_spec_grammar.specs.Faults.{Fault}
-use Rattle.iloc_subtags.specs.Answers.{Answers, ButDuplicate}
-use Rattle.iloc_subtags.specs.Judging.{Accepts, Refuses}
-use Rattle.iloc_locale.specs.Reads.{RunsOutOnlyIf}
+use Rattle.iloc_subtags.specs.Judging.{Answers, ButDuplicate, Accepts, Refuses}
+use Rattle.iloc_locale.specs.LocaleReading.{RunsOutOnlyIf}
 use Rattle.iloc_data.specs.declared.data_locale.DataLocale.{DataLocale}
 use Rattle.iloc_data.specs.DataValue.{value_of}
 

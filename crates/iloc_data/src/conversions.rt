@@ -1,9 +1,9 @@
 //! Data locales from identifiers and parts, and locales from data locales.
 ghost use Rattle.std.specs.Prelude.{◌≡◌, ℕ, List};
-ghost use Rattle.iloc_spec_grammar.specs.Words.{languages};
+ghost use Rattle.iloc_spec_grammar.specs.Syntax.{languages};
 ghost use Rattle.iloc_spec_grammar.specs.Meaning as meaning;
 ghost use Rattle.iloc_spec_grammar.specs.Values.{IsValue, IsWellFormed, text};
-ghost use Rattle.iloc_locale.specs.LocaleValue.{value_of as locale_value};
+ghost use Rattle.iloc_locale.specs.LocaleReading.{value_of as locale_value};
 ghost use Rattle.iloc_spec_preferences.specs.DataLocales.{data_text, locale_of_data};
 
 use crate::data_locale::DataLocale;
@@ -75,7 +75,7 @@ impl DataLocale {
 /// that `sd` names, if that is readable and of this region. Without a region, `sd` names both.
 impl From<&Locale> for DataLocale {
     ghost use Rattle.std.specs.Prelude.{◌≡◌};
-    ghost use Rattle.iloc_locale.specs.LocaleValue.{value_of as locale_value};
+    ghost use Rattle.iloc_locale.specs.LocaleReading.{value_of as locale_value};
     ghost use Rattle.iloc_spec_preferences.specs.Preferences.{language_priority, preferences};
     ghost use Rattle.iloc_data.specs.DataValue.{value_of};
 
@@ -90,7 +90,7 @@ impl From<&Locale> for DataLocale {
 /// As from a reference to the locale.
 impl From<Locale> for DataLocale {
     ghost use Rattle.std.specs.Prelude.{◌≡◌};
-    ghost use Rattle.iloc_locale.specs.LocaleValue.{value_of as locale_value};
+    ghost use Rattle.iloc_locale.specs.LocaleReading.{value_of as locale_value};
     ghost use Rattle.iloc_spec_preferences.specs.Preferences.{language_priority, preferences};
     ghost use Rattle.iloc_data.specs.DataValue.{value_of};
 

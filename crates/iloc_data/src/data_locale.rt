@@ -1,14 +1,13 @@
 //! The type, and its parsers.
 ghost use Rattle.std.specs.Prelude.{◌≡◌, ◌↔◌, ⊤, IsTrue, IfOk};
 ghost use Rattle.iloc_spec_preferences.specs.Preferences.{language_priority, preferences};
-ghost use Rattle.iloc_spec_grammar.specs.Words.{languages, two_or_three};
+ghost use Rattle.iloc_spec_grammar.specs.Syntax.{languages, two_or_three};
 ghost use Rattle.iloc_spec_grammar.specs.Meaning as meaning;
-ghost use Rattle.iloc_spec_grammar.specs.Meaning.{Means};
+ghost use Rattle.iloc_spec_grammar.specs.Meaning.{Means, Fault};
 ghost use Rattle.iloc_spec_preferences.specs.DataLocales as parts;
-ghost use Rattle.iloc_spec_grammar.specs.Faults.{Fault};
 ghost use Rattle.iloc_spec_preferences.specs.DataLocales.{DataMeans, HasDataFault, data_text};
 ghost use Rattle.iloc_subtags.specs.Judging.{Accepts, Refuses};
-ghost use Rattle.iloc_locale.specs.Reads.{RunsOutOnlyIf};
+ghost use Rattle.iloc_locale.specs.LocaleReading.{RunsOutOnlyIf};
 
 use iloc_data_parts::region::part_of;
 use iloc_keyword_types::SubdivisionId;

@@ -1,6 +1,6 @@
 //! Preferences of a formatter of dates and times.
 ghost use Rattle.std.specs.Prelude.{◌≡◌, true, false, MatchResult};
-ghost use Rattle.iloc_locale.specs.LocaleValue.{value_of as locale_value};
+ghost use Rattle.iloc_locale.specs.LocaleReading.{value_of as locale_value};
 ghost use Rattle.iloc_spec_preferences.specs.Formatters.{
   format_preferences,
   is_strict_format,
@@ -97,7 +97,7 @@ impl Default for FormatPreferences {
 /// The preferences of a locale, strict or not.
 impl From<&Locale> for FormatPreferences {
     ghost use Rattle.std.specs.Prelude.{◌≡◌};
-    ghost use Rattle.iloc_locale.specs.LocaleValue.{value_of as locale_value};
+    ghost use Rattle.iloc_locale.specs.LocaleReading.{value_of as locale_value};
     ghost use Rattle.iloc_spec_preferences.specs.Formatters.{format_preferences};
     ghost use Rattle.iloc_data.specs.FormatterValues.{format_value};
 
@@ -115,7 +115,7 @@ impl From<&Locale> for FormatPreferences {
 /// As from a reference to the locale.
 impl From<Locale> for FormatPreferences {
     ghost use Rattle.std.specs.Prelude.{◌≡◌};
-    ghost use Rattle.iloc_locale.specs.LocaleValue.{value_of as locale_value};
+    ghost use Rattle.iloc_locale.specs.LocaleReading.{value_of as locale_value};
     ghost use Rattle.iloc_spec_preferences.specs.Formatters.{format_preferences};
     ghost use Rattle.iloc_data.specs.FormatterValues.{format_value};
 

@@ -1,6 +1,6 @@
 //! The keywords of formatters: each as it reads, and whether it is absent or readable.
 ghost use Rattle.std.specs.Prelude.{◌≡◌, ℕ, List, Option, None, option_map, codes};
-ghost use Rattle.iloc_locale.specs.LocaleValue.{value_of as locale_value};
+ghost use Rattle.iloc_locale.specs.LocaleReading.{value_of as locale_value};
 ghost use Rattle.iloc_spec_preferences.specs.Keywords.{
   CalendarAlgorithm as the_calendars,
   HourCycle as the_hours,
@@ -66,7 +66,7 @@ impl FormatterKeyword for NumberingSystem {
 
     ghost reads = { single };
 
-    #[tactic(auto, unfolding(iloc_spec_grammar::specs::Words::is_word, iloc_spec_grammar::specs::Words::lower))]
+    #[tactic(auto, unfolding(iloc_spec_grammar::specs::Syntax::is_word, iloc_spec_grammar::specs::Syntax::lower))]
     fn key() -> UnicodeKey {
         key_of("nu")
     }
@@ -88,7 +88,7 @@ impl FormatterKeyword for HourCycle {
 
     ghost reads = { enum_reads the_hours };
 
-    #[tactic(auto, unfolding(iloc_spec_grammar::specs::Words::is_word, iloc_spec_grammar::specs::Words::lower))]
+    #[tactic(auto, unfolding(iloc_spec_grammar::specs::Syntax::is_word, iloc_spec_grammar::specs::Syntax::lower))]
     fn key() -> UnicodeKey {
         key_of("hc")
     }
@@ -110,7 +110,7 @@ impl FormatterKeyword for CalendarAlgorithm {
 
     ghost reads = { enum_reads the_calendars };
 
-    #[tactic(auto, unfolding(iloc_spec_grammar::specs::Words::is_word, iloc_spec_grammar::specs::Words::lower))]
+    #[tactic(auto, unfolding(iloc_spec_grammar::specs::Syntax::is_word, iloc_spec_grammar::specs::Syntax::lower))]
     fn key() -> UnicodeKey {
         key_of("ca")
     }

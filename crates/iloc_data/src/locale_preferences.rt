@@ -1,6 +1,6 @@
 //! What locales say of language, script, region and variant: how it is parsed, extended, and made a data locale.
 ghost use Rattle.std.specs.Prelude.{◌≡◌, true, false, MatchResult};
-ghost use Rattle.iloc_locale.specs.LocaleValue.{value_of as locale_value};
+ghost use Rattle.iloc_locale.specs.LocaleReading.{value_of as locale_value};
 ghost use Rattle.iloc_spec_preferences.specs.Preferences.{
   Preferences,
   preferences,
@@ -188,7 +188,7 @@ fn merged_region(
 /// The preferences of a locale, strict or not.
 impl From<&Locale> for LocalePreferences {
     ghost use Rattle.std.specs.Prelude.{◌≡◌};
-    ghost use Rattle.iloc_locale.specs.LocaleValue.{value_of as locale_value};
+    ghost use Rattle.iloc_locale.specs.LocaleReading.{value_of as locale_value};
     ghost use Rattle.iloc_spec_preferences.specs.Preferences.{preferences};
 
     ghost from_gives = { λ locale p. p ≡ preferences (locale_value locale.now) };

@@ -43,12 +43,12 @@ impl Writeable for DataLocale {
     ghost lends = { λ d. (d.script ≡ None) × (d.region ≡ None) × (d.variant ≡ None)
         × (d.subdivision ≡ None) };
 
-    #[tactic(auto, unfolding(iloc_spec_grammar::specs::Pieces::join))]
+    #[tactic(auto, unfolding(iloc_spec_grammar::specs::Syntax::join))]
     fn write_to<S: Sink>(&self, sink: &mut S) -> fmt::Result {
         self.write_joined(sink)
     }
 
-    #[tactic(auto, unfolding(iloc_spec_grammar::specs::Pieces::join))]
+    #[tactic(auto, unfolding(iloc_spec_grammar::specs::Syntax::join))]
     fn writeable_borrow(&self) -> Option<&str> {
         if self.script.is_none()
             && self.region.is_none()

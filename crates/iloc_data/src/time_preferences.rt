@@ -1,6 +1,6 @@
 //! Preferences of a time formatter.
 ghost use Rattle.std.specs.Prelude.{◌≡◌, true, false, MatchResult};
-ghost use Rattle.iloc_locale.specs.LocaleValue.{value_of as locale_value};
+ghost use Rattle.iloc_locale.specs.LocaleReading.{value_of as locale_value};
 ghost use Rattle.iloc_spec_preferences.specs.Formatters.{
   is_strict_time,
   merge_time,
@@ -86,7 +86,7 @@ impl Default for TimePreferences {
 /// The preferences of a locale, strict or not.
 impl From<&Locale> for TimePreferences {
     ghost use Rattle.std.specs.Prelude.{◌≡◌};
-    ghost use Rattle.iloc_locale.specs.LocaleValue.{value_of as locale_value};
+    ghost use Rattle.iloc_locale.specs.LocaleReading.{value_of as locale_value};
     ghost use Rattle.iloc_spec_preferences.specs.Formatters.{time_preferences};
     ghost use Rattle.iloc_data.specs.FormatterValues.{time_value};
 
@@ -103,7 +103,7 @@ impl From<&Locale> for TimePreferences {
 /// As from a reference to the locale.
 impl From<Locale> for TimePreferences {
     ghost use Rattle.std.specs.Prelude.{◌≡◌};
-    ghost use Rattle.iloc_locale.specs.LocaleValue.{value_of as locale_value};
+    ghost use Rattle.iloc_locale.specs.LocaleReading.{value_of as locale_value};
     ghost use Rattle.iloc_spec_preferences.specs.Formatters.{time_preferences};
     ghost use Rattle.iloc_data.specs.FormatterValues.{time_value};
 

@@ -1,7 +1,7 @@
 //! The locale that preferences are turned into.
 ghost use Rattle.std.specs.Prelude.{◌≡◌, ◌≤◌, ◌++◌, true, length, IfOk, IsOk, codes};
 ghost use Rattle.iloc_spec_grammar.specs.Values.{IsWellFormed};
-ghost use Rattle.iloc_locale.specs.LocaleValue.{value_of as locale_value};
+ghost use Rattle.iloc_locale.specs.LocaleReading.{value_of as locale_value};
 ghost use Rattle.iloc_spec_preferences.specs.Preferences.{
   SpellsNoTrue,
   preferences,

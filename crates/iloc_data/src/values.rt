@@ -1,6 +1,6 @@
 //! What the types keep of each data locale and of each preferences.
 ghost use Rattle.std.specs.Prelude.{IfSome};
-ghost use Rattle.iloc_spec_grammar.specs.Words.{languages};
+ghost use Rattle.iloc_spec_grammar.specs.Syntax.{languages};
 ghost use Rattle.iloc_spec_grammar.specs.Values.{IsNormal};
 ghost use Rattle.iloc_spec_preferences.specs.DataLocales.{IsDataLocale};
 ghost use Rattle.iloc_spec_preferences.specs.Subdivisions.{IsSubdivision};

@@ -2,7 +2,7 @@
 use Rattle.std.proofs.Common.{◌≡◌, ℕ, Bool, true, false, List, [], ◌∷◌, refl, sym, ap, ◌∙◌, nat_eq}
 use Rattle.std.specs.Prelude.{if◌then◌else◌}
 use Rattle.std.specs.Cmp.Lexicographic.{pointwise, texts_ties}
-use Rattle.iloc_spec_grammar.specs.Words.{Subtag, is_same, is_true}
+use Rattle.iloc_spec_grammar.specs.Syntax.{Subtag, is_same, is_true}
 use Rattle.iloc_spec_grammar.specs.Values.{IsNormal}
 use Rattle.iloc_unicode_value.specs.Values.{without_true}
 use Rattle.iloc_spec_preferences.specs.DataLocales.{subdivision_value}

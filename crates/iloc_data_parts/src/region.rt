@@ -9,7 +9,7 @@ use iloc_langid::SmallKeyword;
 use iloc_subtags::{ParseError, Region, SubdivisionSuffix, Subtag};
 
 // The suffix that stands for a whole region.
-#[tactic(auto, unfolding(iloc_spec_grammar::specs::Words::is_word, iloc_spec_grammar::specs::Words::lower))]
+#[tactic(auto, unfolding(iloc_spec_grammar::specs::Syntax::is_word, iloc_spec_grammar::specs::Syntax::lower))]
 fn whole() -> SubdivisionSuffix
     ensures { result ≡ parts.whole }
 {

@@ -7,21 +7,18 @@ use Rattle.std.specs.Char.{is_ascii_alphanumeric, to_ascii_lowercase}
 use Rattle.std.specs.Ordering.{nat_cmp}
 use Rattle.std.specs.FinMap.{put}
 use Rattle.std.proofs.lemmas.Bool.Decides.{nat_tests}
-use Rattle.iloc_spec_grammar.specs.Words.{languages, is_word, PrivateSubtag}
-use Rattle.iloc_spec_grammar.specs.Written as written
-use Rattle.iloc_spec_grammar.specs.Written.{IsOther, is_other_singleton, kept}
-use Rattle.iloc_spec_grammar.specs.Meaning.{Extensions, normal_values}
+use Rattle.iloc_spec_grammar.specs.Syntax.{languages, is_word, PrivateSubtag, IsOther, is_other_singleton, kept, is_one_byte, front, blocks}
+use Rattle.iloc_spec_grammar.specs.Syntax as written
+use Rattle.iloc_spec_grammar.specs.Meaning.{Extensions, normal_values, FirstBadBlock}
 use Rattle.iloc_spec_grammar.specs.ByBlocks.{OtherMeans, BlocksMean}
-use Rattle.iloc_spec_grammar.specs.Blocks.{is_one_byte, front, blocks}
-use Rattle.iloc_spec_grammar.specs.Faults as faults
-use Rattle.iloc_spec_grammar.specs.Faults.{FirstBadBlock}
+use Rattle.iloc_spec_grammar.specs.Meaning as faults
 use Rattle.iloc_subtags.specs.NextPiece.{byte_at}
 use Rattle.iloc_subtags.proofs.ByteLemmas.{byte_first, no_byte}
 use Rattle.iloc_extensions.specs.Whole.{BlocksReadAs}
 use Rattle.iloc_extensions.proofs.DoneLaws.{turned}
 use Rattle.iloc_spec_grammar.specs.Reading.{passing, from_block, starts_block, rest_of}
 use Rattle.iloc_spec_parts.specs.Fronts.{not_private}
-use Rattle.iloc_spec_parts.specs.InlineBlocks.{IsShortUnicode, IsShortTransform}
+use Rattle.iloc_spec_parts.specs.Inline.{IsShortUnicode, IsShortTransform}
 use Rattle.iloc_subtags.specs.declared.parse_error.ParseError.{ParseError}
 use Rattle.iloc_subtags.specs.declared.parse_error.ParseError.TheVariants.{InvalidLanguage, InvalidSubtag, InvalidExtension, DuplicatedExtension, OutOfMemory}
 use Rattle.iloc_unicode.specs.declared.unicode.Unicode.{Unicode}

@@ -10,8 +10,7 @@ use Rattle.std.specs.Cmp.{nat_cmp_total}
 use Rattle.std.specs.FinMap.{find, put}
 use Rattle.std.specs.FinMap.Entries.{by_order, is_some-find}
 use Rattle.std.proofs.lemmas.Bool.Decides.{nat_tests}
-use Rattle.iloc_spec_grammar.specs.Words.{lower, word_cmp}
-use Rattle.iloc_spec_grammar.specs.Written.{Identifier, Unicode, Transform, Fields, IsPrivate, kept, singleton, is_other_singleton}
+use Rattle.iloc_spec_grammar.specs.Syntax.{lower, word_cmp, Identifier, Unicode, Transform, Fields, IsPrivate, kept, singleton, is_other_singleton}
 use Rattle.iloc_spec_grammar.specs.Meaning.{Extensions, map_of, set_of, normal_fields, normal_identifier, no_unicode, no_transform, by_singleton}
 use Rattle.iloc_spec_grammar.specs.ByBlocks.{UnicodeMeans, TransformMeans, PrivateMeans, other_blocks, PartIs, BlocksMean}
 use Rattle.iloc_spec_grammar.proofs.MapLaws.{find-map_of}

@@ -6,10 +6,10 @@ use Rattle.std.specs.Ordering.{nat_cmp, eq_by_cmp}
 use Rattle.std.specs.Cmp.{nat_cmp_total}
 use Rattle.std.specs.FinMap.{find, nat_cmp-IsAntisymmetric}
 use Rattle.std.proofs.lemmas.Bool.{or_parts, or_from}
-use Rattle.iloc_spec_grammar.specs.Written.{kept, AllDifferent, singleton, is_other_singleton}
+use Rattle.iloc_spec_grammar.specs.Syntax.{kept, AllDifferent, singleton, is_other_singleton}
 use Rattle.iloc_spec_grammar.specs.Meaning.{Extensions, no_unicode, no_transform, by_singleton}
 use Rattle.iloc_spec_grammar.specs.ByBlocks.{Rules, other_blocks, PartIs, BlocksGive}
-use Rattle.iloc_spec_grammar.specs.Steps.{Reordered, none, front_kept, first_two, in_turn}
+use Rattle.iloc_spec_grammar.specs.Values.{Reordered, none, front_kept, first_two, in_turn}
 use Rattle.iloc_spec_grammar.proofs.Orders.{all_reordered, map_reordered, different_reordered, find_reordered}
 use Rattle.iloc_spec_grammar.proofs.MapLaws.{map_of_same}
 use Rattle.iloc_spec_grammar.proofs.Sorting.{itself}

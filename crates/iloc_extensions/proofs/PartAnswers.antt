@@ -1,13 +1,11 @@
 -- What the block of each kind is read as, by cases on the whole answer.
 use Rattle.std.specs.Prelude.{◌≡◌, ℕ, ◌<◌, List, length, Result, Ok, Err}
-use Rattle.iloc_spec_grammar.specs.Words.{languages}
-use Rattle.iloc_spec_grammar.specs.Written as written
-use Rattle.iloc_spec_grammar.specs.Written.{IsOther, kept}
-use Rattle.iloc_spec_grammar.specs.Blocks.{front}
+use Rattle.iloc_spec_grammar.specs.Syntax.{languages, IsOther, kept, front}
+use Rattle.iloc_spec_grammar.specs.Syntax as written
 use Rattle.iloc_spec_parts.specs.Fronts.{other_front}
 use Rattle.iloc_spec_grammar.specs.Reading.{from_block}
 use Rattle.iloc_spec_grammar.specs.ByBlocks.{UnicodeMeans, TransformMeans, OtherMeans}
-use Rattle.iloc_spec_grammar.specs.Faults.{RepeatsVariant}
+use Rattle.iloc_spec_grammar.specs.Meaning.{RepeatsVariant}
 use Rattle.iloc_subtags.specs.declared.parse_error.ParseError.{ParseError}
 use Rattle.iloc_subtags.specs.declared.parse_error.ParseError.TheVariants.{InvalidLanguage, InvalidSubtag, InvalidExtension, DuplicatedExtension, OutOfMemory}
 use Rattle.iloc_unicode.specs.declared.unicode.Unicode.{Unicode}

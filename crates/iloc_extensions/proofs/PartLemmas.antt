@@ -1,10 +1,8 @@
 -- From what a part's reader takes at the front to what the block means.
 use Rattle.std.proofs.Common.{◌≡◌, ℕ, ◌<◌, true, false, List, length, refl, sym, subst, Ok, Err}
-use Rattle.iloc_spec_grammar.specs.Words.{languages}
-use Rattle.iloc_spec_grammar.specs.Written.{kept}
-use Rattle.iloc_spec_grammar.specs.Blocks.{front}
+use Rattle.iloc_spec_grammar.specs.Syntax.{languages, kept, front}
 use Rattle.iloc_spec_grammar.specs.Reading.{starts_block}
-use Rattle.iloc_spec_grammar.specs.Faults as faults
+use Rattle.iloc_spec_grammar.specs.Meaning as faults
 use Rattle.iloc_spec_grammar.proofs.RawLaws.{languages_table}
 use Rattle.iloc_spec_parts.specs.Fronts.{repeats, unread}
 use Rattle.iloc_spec_parts.proofs.FrontLaws.{unicode_agrees, other_agrees}

@@ -5,17 +5,15 @@ use Rattle.std.specs.Char.{is_ascii_alphanumeric, to_ascii_lowercase}
 use Rattle.std.specs.Ordering.{nat_cmp, eq_by_cmp}
 use Rattle.std.specs.FinMap.{put}
 use Rattle.std.proofs.lemmas.Bool.Decides.{nat_tests}
-use Rattle.iloc_spec_grammar.specs.Written.{Unicode, Transform, IsOther, IsPrivate, kept, AllDifferent, singleton, is_other_singleton}
-use Rattle.iloc_spec_grammar.specs.Meaning.{Extensions}
+use Rattle.iloc_spec_grammar.specs.Syntax.{Unicode, Transform, IsOther, IsPrivate, kept, AllDifferent, singleton, is_other_singleton, front, blocks}
+use Rattle.iloc_spec_grammar.specs.Meaning.{Extensions, Fault, InvalidSubtag, InvalidExtension, DuplicatedExtension, IsBlock, RepeatsVariant, BlockFault, no_singleton, duplicated, repeats_variant, breaks_rule, FirstBadBlock, here, later}
 use Rattle.iloc_spec_grammar.specs.ByBlocks.{UnicodeMeans, TransformMeans, PrivateMeans, OtherMeans, BlocksMean}
-use Rattle.iloc_spec_grammar.specs.Blocks.{front, blocks}
 use Rattle.iloc_spec_grammar.specs.Reading.{starts_block, from_block}
-use Rattle.iloc_spec_grammar.specs.Faults.{Fault, InvalidSubtag, InvalidExtension, DuplicatedExtension, IsBlock, RepeatsVariant, BlockFault, no_singleton, duplicated, repeats_variant, breaks_rule, FirstBadBlock, here, later}
 use Rattle.iloc_spec_grammar.proofs.ReadingLaws.{front-from_block, from_block_starts}
 use Rattle.iloc_spec_parts.specs.Fronts.{private_front}
 use Rattle.iloc_spec_parts.proofs.BlockRules.{unicode_rule, transform_rule, private_rule, other_rule}
-use Rattle.iloc_spec_parts.specs.InlineBlocks as long
-use Rattle.iloc_spec_parts.specs.InlineBlocks.{IsShortUnicode, IsShortTransform, IsShortOther, IsShortBlock, ReachesLongBlock}
+use Rattle.iloc_spec_parts.specs.Inline as long
+use Rattle.iloc_spec_parts.specs.Inline.{IsShortUnicode, IsShortTransform, IsShortOther, IsShortBlock, ReachesLongBlock}
 use Rattle.iloc_extensions.specs.Blocks.{BlocksDone, BlockAt, onto, is_read}
 use Rattle.iloc_extensions.proofs.ArmLaws.{read_is_known}
 use Rattle.iloc_extensions.proofs.StepLaws.{unicode_added, transform_added, private_added, other_added}

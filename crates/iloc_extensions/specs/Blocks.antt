@@ -3,16 +3,13 @@
 use Rattle.std.specs.Prelude.{◌≡◌, ℕ, Bool, true, false, not, ◌&&◌, ◌==◌, List, [], ◌∷◌, length, is_some, if◌then◌else◌, Result}
 use Rattle.std.specs.Char.{is_ascii_alphanumeric, to_ascii_lowercase}
 use Rattle.std.specs.List.{AllByRecursion, list_any}
-use Rattle.iloc_spec_grammar.specs.Shapes.{Text, Table, Block, code_t, code_u, code_x}
-use Rattle.iloc_spec_grammar.specs.Words.{languages}
-use Rattle.iloc_spec_grammar.specs.Meaning.{Extensions}
+use Rattle.iloc_spec_grammar.specs.Syntax.{Text, Table, Block, code_t, code_u, code_x, languages, blocks}
+use Rattle.iloc_spec_grammar.specs.Meaning.{Extensions, IsBlock, FirstBadBlock}
 use Rattle.iloc_spec_grammar.specs.ByBlocks.{BlocksMean}
-use Rattle.iloc_spec_grammar.specs.Blocks.{blocks}
 use Rattle.iloc_spec_grammar.specs.Reading.{starts_block}
-use Rattle.iloc_spec_grammar.specs.Faults.{IsBlock, FirstBadBlock}
-use Rattle.iloc_spec_parts.specs.InlineBlocks.{ReachesLongBlock}
+use Rattle.iloc_spec_parts.specs.Inline.{ReachesLongBlock}
 use Rattle.iloc_subtags.specs.declared.parse_error.ParseError.{ParseError}
-use Rattle.iloc_subtags.specs.Answers.{Answers, ButLanguage}
+use Rattle.iloc_subtags.specs.Judging.{Answers, ButLanguage}
 
 -- While blocks are read: those that were, the last one first, and those that are left.
 

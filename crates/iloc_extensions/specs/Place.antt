@@ -1,6 +1,6 @@
 -- Where a new singleton belongs among ascending ones.
 use Rattle.std.specs.Prelude.{ℕ, suc, List, [], ◌∷◌, nat_lt, if◌then◌else◌}
-use Rattle.iloc_spec_grammar.specs.Shapes.{Text}
+use Rattle.iloc_spec_grammar.specs.Syntax.{Text}
 
 -- how many stand before the first greater one
 abbrev pub place : ℕ → List (ℕ × List Text) → ℕ

@@ -4,9 +4,7 @@ use Rattle.std.specs.Char.{to_ascii_lowercase}
 use Rattle.std.specs.FinMap.{is_sorted}
 use Rattle.std.specs.List.{list_all}
 use Rattle.std.specs.Ordering.{nat_cmp}
-use Rattle.iloc_spec_grammar.specs.Shapes.{Text}
-use Rattle.iloc_spec_grammar.specs.Words.{is_true}
-use Rattle.iloc_spec_grammar.specs.Written.{Fields, is_other_singleton}
+use Rattle.iloc_spec_grammar.specs.Syntax.{Text, is_true, Fields, is_other_singleton}
 
 -- an other extension has a singleton of its own, and a word
 abbrev pub has_own_place : ℕ × List Text → Bool

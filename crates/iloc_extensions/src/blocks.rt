@@ -1,8 +1,7 @@
 //! Parses the blocks after the head of a locale.
 ghost use Rattle.std.specs.Prelude.{◌≡◌, ◌∷◌, ℕ, List, [], true, ◌≤◌, length, OnOk};
-ghost use Rattle.iloc_spec_grammar.specs.Shapes.{Text};
+ghost use Rattle.iloc_spec_grammar.specs.Syntax.{Text, languages};
 ghost use Rattle.iloc_spec_grammar.specs.Reading.{starts_block};
-ghost use Rattle.iloc_spec_grammar.specs.Words.{languages};
 ghost use Rattle.iloc_spec_grammar.specs.Meaning.{no_extensions};
 ghost use Rattle.iloc_subtags.specs.Left.{left};
 ghost use Rattle.iloc_extensions.specs.ExtensionsValue.{value_of};

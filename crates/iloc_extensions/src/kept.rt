@@ -1,7 +1,7 @@
 //! What the types keep of all extensions, parsed or built.
 ghost use Rattle.std.specs.Prelude.{IfSome};
 ghost use Rattle.std.specs.List.{AllByRecursion};
-ghost use Rattle.iloc_spec_grammar.specs.Words.{languages, Subtag as the_kind};
+ghost use Rattle.iloc_spec_grammar.specs.Syntax.{languages, Subtag as the_kind};
 ghost use Rattle.iloc_spec_grammar.specs.Values.{
   IsExtensionsValue,
   IsIdentifierValue,

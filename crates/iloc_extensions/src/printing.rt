@@ -55,7 +55,7 @@ impl Writeable for Extensions {
 
     ghost text = { λ e. extensions_text (value_of e) };
 
-    #[tactic(auto, unfolding(iloc_spec_grammar::specs::Values::extensions_text, iloc_spec_grammar::specs::Pieces::join))]
+    #[tactic(auto, unfolding(iloc_spec_grammar::specs::Values::extensions_text, iloc_spec_grammar::specs::Syntax::join))]
     fn write_to<S: Sink>(&self, sink: &mut S) -> fmt::Result {
         self.write_joined(sink)
     }

@@ -2,10 +2,8 @@
 ghost use Rattle.std.specs.Prelude.{◌≡◌, ◌==◌, ◌≤◌, ℕ, List, [], None, true, false, length, OnOk};
 ghost use Rattle.std.specs.Char.{to_ascii_lowercase};
 ghost use Rattle.std.specs.List.{list_any};
-ghost use Rattle.iloc_spec_grammar.specs.Shapes.{Text, code_t, code_u, code_x};
+ghost use Rattle.iloc_spec_grammar.specs.Syntax.{Text, code_t, code_u, code_x, languages, is_other_singleton};
 ghost use Rattle.iloc_spec_grammar.specs.Meaning.{Extensions as Parts};
-ghost use Rattle.iloc_spec_grammar.specs.Words.{languages};
-ghost use Rattle.iloc_spec_grammar.specs.Written.{is_other_singleton};
 ghost use Rattle.iloc_unicode.specs.UnicodeValue as unicode_value;
 ghost use Rattle.iloc_transform.specs.TransformReading as transform_value;
 ghost use Rattle.iloc_subtags.specs.Left.{left};

@@ -1,7 +1,7 @@
 //! A law of blocks.
 
 ghost use Rattle.std.specs.Prelude.{List, []};
-ghost use Rattle.iloc_spec_grammar.specs.Shapes.{Table, Block};
+ghost use Rattle.iloc_spec_grammar.specs.Syntax.{Table, Block};
 ghost use Rattle.iloc_spec_grammar.specs.Meaning.{Extensions as Parts};
 ghost use Rattle.iloc_spec_grammar.specs.ByBlocks.{BlocksMean};
 ghost use Rattle.iloc_extensions.specs.Blocks.{onto};

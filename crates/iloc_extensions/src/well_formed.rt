@@ -3,7 +3,7 @@ ghost use Rattle.std.specs.Prelude.{◌≡◌, ◌↔◌, IsTrue};
 ghost use Rattle.std.specs.FinMap.{is_sorted};
 ghost use Rattle.std.specs.List.{list_all};
 ghost use Rattle.std.specs.Ordering.{nat_cmp};
-ghost use Rattle.iloc_spec_grammar.specs.Words.{languages};
+ghost use Rattle.iloc_spec_grammar.specs.Syntax.{languages};
 ghost use Rattle.iloc_spec_grammar.specs.Values.{AreWellFormed, IsExtensionsValue};
 ghost use Rattle.iloc_extensions.specs.ExtensionsValue.{value_of};
 ghost use Rattle.iloc_extensions.specs.WellFormed.{has_own_place, is_in_place, is_plain, is_read_back};
@@ -58,7 +58,7 @@ fn are_read_back(keywords: &Keywords) -> bool
 }
 
 // Whether no subtag of the value is `true`, or has two characters and so the form of a key.
-#[tactic(auto, unfolding(iloc_spec_grammar::specs::Words::is_true))]
+#[tactic(auto, unfolding(iloc_spec_grammar::specs::Syntax::is_true))]
 fn is_plain_value(value: &Value) -> bool
     ensures { result ≡ list_all is_plain value.now }
 {

@@ -8,7 +8,7 @@ use Rattle.std.specs.declared.cmp.Ordering.TheVariants.{Less, Equal, Greater}
 use Rattle.std.specs.FinMap.{find, put}
 use Rattle.std.specs.FinMap.Entries.{by_order}
 use Rattle.std.proofs.lemmas.Bool.Decides.{nat_tests}
-use Rattle.iloc_spec_grammar.specs.Shapes.{Block}
+use Rattle.iloc_spec_grammar.specs.Syntax.{Block}
 use Rattle.iloc_handles.specs.OtherPlaces.{place, place_of_singleton}
 
 tied : (a b : ℕ) → b ≡ a → eq_by_cmp nat_cmp a b ≡ true

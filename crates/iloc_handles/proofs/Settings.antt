@@ -5,7 +5,7 @@ use Rattle.std.specs.Int.{from_bool}
 use Rattle.std.specs.Ordering.{is_eq}
 use Rattle.std.specs.Cmp.{Equal-is}
 use Rattle.std.specs.declared.cmp.Ordering.{Ordering}
-use Rattle.iloc_spec_grammar.specs.Words.{languages}
+use Rattle.iloc_spec_grammar.specs.Syntax.{languages}
 use Rattle.iloc_spec_grammar.specs.Meaning as meaning
 use Rattle.iloc_spec_grammar.specs.Meaning.{Means}
 use Rattle.iloc_spec_grammar.proofs.RawLaws.{languages_table}
@@ -16,7 +16,7 @@ use Rattle.iloc_calls.specs.declared.status.Status.{Status}
 use Rattle.iloc_calls.specs.declared.status.Status.TheVariants.{Done, OutOfMemory}
 use Rattle.iloc_handles.specs.Finding.{Changing, Changes, LacksBox}
 use Rattle.iloc_handles.specs.Whole.{TellsMeant}
-use Rattle.iloc_locale.specs.LocaleValue.{value_of, unknown_locale}
+use Rattle.iloc_locale.specs.LocaleReading.{value_of, unknown_locale}
 use Rattle.iloc_locale.specs.declared.locale.Locale.{Locale}
 
 -- locales are equal exactly if neither comes first

@@ -8,7 +8,7 @@ use Rattle.std.specs.FinMap.{find, is_sorted}
 use Rattle.std.specs.FinMap.Entries.{below_all}
 use Rattle.std.specs.Ordering.{is_lt}
 use Rattle.iloc_spec_grammar.proofs.SetLaws.{marked}
-use Rattle.iloc_spec_grammar.specs.Words.{Kind, IsWord, is_word, is_same, normal, read, word_cmp}
+use Rattle.iloc_spec_grammar.specs.Syntax.{Kind, IsWord, is_word, is_same, normal, read, word_cmp}
 use Rattle.iloc_spec_grammar.specs.Values.{IsAscending}
 use Rattle.iloc_word_set.specs.Ascending.{ascends}
 use Rattle.iloc_word_set.proofs.SetLaws.{kept_all, search_old, search_removed, ascending-filter}

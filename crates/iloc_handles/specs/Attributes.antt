@@ -1,9 +1,8 @@
 -- The attributes of a locale: what setting them does.
 use Rattle.std.specs.Prelude.{◌≡◌, ℕ, false, List, [], ◌∷◌, ◌++◌, slice_get, Option}
-use Rattle.iloc_spec_grammar.specs.Shapes.{Text}
-use Rattle.iloc_spec_grammar.specs.Words.{Attribute, IsWord, is_word, normal}
+use Rattle.iloc_spec_grammar.specs.Syntax.{Text, Attribute, IsWord, is_word, normal}
 use Rattle.iloc_spec_grammar.specs.Meaning.{Locale, set_of}
-use Rattle.iloc_subtags.specs.Answers.{ExtensionFault}
+use Rattle.iloc_subtags.specs.Judging.{ExtensionFault}
 use Rattle.iloc_calls.specs.declared.status.Status.TheVariants.{OutOfMemory}
 use Rattle.iloc_handles.specs.Finding.{Changing, Sets, Removes}
 use Rattle.iloc_handles.specs.Subtags.{HasWord, without_word}

@@ -1,7 +1,6 @@
 -- What a locale is as a data locale, and what formatters read of it.
 use Rattle.std.specs.Prelude.{ℕ, [], Option, option_map, option_and_then, slice_get, unwrap_or}
-use Rattle.iloc_spec_grammar.specs.Shapes.{Text}
-use Rattle.iloc_spec_grammar.specs.Pieces.{join}
+use Rattle.iloc_spec_grammar.specs.Syntax.{Text, join}
 use Rattle.iloc_spec_grammar.specs.Meaning.{Locale}
 use Rattle.iloc_spec_preferences.specs.DataLocales.{DataLocale}
 use Rattle.iloc_spec_preferences.specs.Preferences.{language_priority, preferences, read_keyword, region_priority}

@@ -1,7 +1,7 @@
 -- What a handle stands for.
 use Rattle.std.specs.Prelude.{◌≢◌, Option, None, Some, ⊤}
 use Rattle.iloc_spec_grammar.specs.Meaning as meaning
-use Rattle.iloc_locale.specs.LocaleValue.{value_of, unknown_locale}
+use Rattle.iloc_locale.specs.LocaleReading.{value_of, unknown_locale}
 use Rattle.iloc_locale.specs.declared.locale.Locale.{Locale}
 
 -- the locale in its box; without a box, `und`

@@ -1,9 +1,8 @@
 -- The parts of the identifier of a locale: what each is, and what setting it does.
 use Rattle.std.specs.Prelude.{◌≡◌, ℕ, ◌≤◌, false, List, [], ◌∷◌, length, slice_get, Option, unwrap_or, codes}
-use Rattle.iloc_spec_grammar.specs.Shapes.{Text}
-use Rattle.iloc_spec_grammar.specs.Words.{Language, Script, Region, Variant, IsWord, is_word, languages, normal}
+use Rattle.iloc_spec_grammar.specs.Syntax.{Text, Language, Script, Region, Variant, IsWord, is_word, languages, normal}
 use Rattle.iloc_spec_grammar.specs.Meaning.{Locale, set_of}
-use Rattle.iloc_subtags.specs.Answers.{LanguageFault, SubtagFault}
+use Rattle.iloc_subtags.specs.Judging.{LanguageFault, SubtagFault}
 use Rattle.iloc_handles.specs.Finding.{Changing, Sets, Removes}
 use Rattle.iloc_handles.specs.Subtags.{IsOptional, IsNeither, HasWord, without_word}
 

@@ -3,13 +3,9 @@ use Rattle.std.specs.Prelude.{◌≡◌, ◌⊎◌, ℕ, ◌≤◌, false, List,
 use Rattle.std.specs.FinMap.{put}
 use Rattle.std.specs.Map.{remove_entry}
 use Rattle.std.specs.BTreeMap.{is_at}
-use Rattle.iloc_spec_grammar.specs.Shapes.{Text}
-use Rattle.iloc_spec_grammar.specs.Pieces.{join}
-use Rattle.iloc_spec_grammar.specs.Words.{UnicodeKey, IsWord, is_word, normal, word_cmp}
-use Rattle.iloc_spec_grammar.specs.Written.{Fields}
-use Rattle.iloc_spec_grammar.specs.Meaning.{Locale}
-use Rattle.iloc_spec_grammar.specs.Faults as faults
-use Rattle.iloc_spec_grammar.specs.Faults.{Fault}
+use Rattle.iloc_spec_grammar.specs.Syntax.{Text, join, UnicodeKey, IsWord, is_word, normal, word_cmp, Fields}
+use Rattle.iloc_spec_grammar.specs.Meaning.{Locale, Fault}
+use Rattle.iloc_spec_grammar.specs.Meaning as faults
 use Rattle.iloc_spec_parts.specs.PartValues.{unicode_value}
 use Rattle.iloc_unicode_value.specs.Reads.{ValueWants}
 use Rattle.iloc_handles.specs.Finding.{Changing, Sets, Removes}

@@ -1,6 +1,6 @@
 -- Where an other extension stands, and where a new one belongs.
 use Rattle.std.specs.Prelude.{ℕ, suc, ◌==◌, List, [], ◌∷◌, nat_lt, if◌then◌else◌}
-use Rattle.iloc_spec_grammar.specs.Shapes.{Block}
+use Rattle.iloc_spec_grammar.specs.Syntax.{Block}
 
 -- how many stand before the first of this singleton
 abbrev pub place_of_singleton : ℕ → List Block → ℕ

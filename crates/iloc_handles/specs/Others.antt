@@ -3,14 +3,12 @@ use Rattle.std.specs.Prelude.{◌≡◌, ℕ, true, ◌==◌, not, List, [], fil
 use Rattle.std.specs.Char.{to_ascii_lowercase}
 use Rattle.std.specs.FinMap.{find, put}
 use Rattle.std.specs.Ordering.{nat_cmp}
-use Rattle.iloc_spec_grammar.specs.Shapes.{Text, Block}
-use Rattle.iloc_spec_grammar.specs.Pieces.{pieces}
-use Rattle.iloc_spec_grammar.specs.Written.{is_other_singleton}
+use Rattle.iloc_spec_grammar.specs.Syntax.{Text, Block, pieces, is_other_singleton}
 use Rattle.iloc_spec_grammar.specs.Meaning.{Locale}
 use Rattle.iloc_spec_grammar.specs.Values.{other_text}
 use Rattle.iloc_spec_parts.specs.Fronts.{OtherRead}
 use Rattle.iloc_spec_parts.specs.Parts.{PartRead}
-use Rattle.iloc_subtags.specs.Answers.{ExtensionFault}
+use Rattle.iloc_subtags.specs.Judging.{ExtensionFault}
 use Rattle.iloc_handles.specs.Finding.{Changing, Sets, Removes}
 
 -- the other extensions are others, and all else is the same

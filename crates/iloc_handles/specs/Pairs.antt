@@ -1,8 +1,7 @@
 -- Maps from keys to values.
 use Rattle.std.specs.Prelude.{◌≡◌, true, List, Option, None, is_some, if◌then◌else◌}
 use Rattle.std.specs.FinMap.{find}
-use Rattle.iloc_spec_grammar.specs.Shapes.{Text}
-use Rattle.iloc_spec_grammar.specs.Words.{Kind, IsWord, is_word, normal, word_cmp}
+use Rattle.iloc_spec_grammar.specs.Syntax.{Text, Kind, IsWord, is_word, normal, word_cmp}
 
 -- the value of the key that is the text: none if the text is no key
 abbrev pub value_at : {V : Type 0} → Kind → Text → List (Text × V) → Option V

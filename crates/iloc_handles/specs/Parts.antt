@@ -1,6 +1,6 @@
 -- The text of each part that has a name, if there is such a part.
 use Rattle.std.specs.Prelude.{Option, Some}
-use Rattle.iloc_spec_grammar.specs.Shapes.{Text}
+use Rattle.iloc_spec_grammar.specs.Syntax.{Text}
 use Rattle.iloc_spec_grammar.specs.Meaning as meaning
 use Rattle.iloc_spec_grammar.specs.Values.{identifier_text, private_text, text}
 use Rattle.iloc_handles.specs.declared.parts.Named.{Named}

@@ -1,8 +1,7 @@
 -- Subtags that are set, added and removed.
 use Rattle.std.specs.Prelude.{◌≡◌, ◌≢◌, true, false, not, List, [], filter, Option, None, Some}
 use Rattle.std.specs.List.{list_any}
-use Rattle.iloc_spec_grammar.specs.Shapes.{Text}
-use Rattle.iloc_spec_grammar.specs.Words.{Kind, IsWord, is_word, is_same, normal}
+use Rattle.iloc_spec_grammar.specs.Syntax.{Text, Kind, IsWord, is_word, is_same, normal}
 
 -- an empty text is no subtag, and another one is the subtag of its normal form
 abbrev pub IsOptional : Kind → Text → Option Text → Type 0

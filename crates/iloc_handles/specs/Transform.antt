@@ -1,17 +1,13 @@
 -- The transform extension of a locale, t, and its private extension, x: what setting their parts does.
 use Rattle.std.specs.Prelude.{◌≡◌, ◌≢◌, ◌⊎◌, ℕ, true, false, not, List, [], filter, slice_get, Option, Some, None, option_map, Ok, Err, is_some}
 use Rattle.std.specs.FinMap.{find, put}
-use Rattle.iloc_spec_grammar.specs.Shapes.{Text}
-use Rattle.iloc_spec_grammar.specs.Pieces.{pieces}
-use Rattle.iloc_spec_grammar.specs.Words.{TransformKey, IsWord, is_same, is_word, languages, normal, word_cmp}
-use Rattle.iloc_spec_grammar.specs.Written.{Identifier, Fields}
-use Rattle.iloc_spec_grammar.specs.Meaning.{Locale, IdentifierMeans}
+use Rattle.iloc_spec_grammar.specs.Syntax.{Text, pieces, TransformKey, IsWord, is_same, is_word, languages, normal, word_cmp, Identifier, Fields}
+use Rattle.iloc_spec_grammar.specs.Meaning.{Locale, IdentifierMeans, Fault, HasIdentifierFault}
 use Rattle.iloc_spec_grammar.specs.Values.{identifier_text, field_value_text}
-use Rattle.iloc_spec_grammar.specs.Faults as faults
-use Rattle.iloc_spec_grammar.specs.Faults.{Fault, HasIdentifierFault}
+use Rattle.iloc_spec_grammar.specs.Meaning as faults
 use Rattle.iloc_spec_parts.specs.PartValues.{transform_value}
 use Rattle.iloc_spec_parts.specs.Parts.{PrivateText, PrivateTextFault}
-use Rattle.iloc_subtags.specs.Answers.{ExtensionFault, OfIdentifier}
+use Rattle.iloc_subtags.specs.Judging.{ExtensionFault, OfIdentifier}
 use Rattle.iloc_langid.specs.Reads.{WantsMemory}
 use Rattle.iloc_transform.specs.ValueReading.{ValueWants}
 use Rattle.iloc_other.specs.Reading.{PrivateTextWants}

@@ -1,12 +1,10 @@
 -- What is asked of a whole locale.
 use Rattle.std.specs.Prelude.{◌≡◌, ◌⊎◌, ℕ}
-use Rattle.iloc_spec_grammar.specs.Shapes.{Text}
-use Rattle.iloc_spec_grammar.specs.Words.{languages}
+use Rattle.iloc_spec_grammar.specs.Syntax.{Text, languages}
 use Rattle.iloc_spec_grammar.specs.Meaning as meaning
-use Rattle.iloc_spec_grammar.specs.Meaning.{Means}
-use Rattle.iloc_spec_grammar.specs.Faults.{HasFault}
+use Rattle.iloc_spec_grammar.specs.Meaning.{Means, HasFault}
 use Rattle.iloc_spec_parts.specs.Extending.{extend}
-use Rattle.iloc_locale.specs.Reads.{WantsMemory}
+use Rattle.iloc_locale.specs.LocaleReading.{WantsMemory}
 use Rattle.iloc_calls.specs.declared.status.Status.{Status}
 use Rattle.iloc_calls.specs.declared.status.Status.TheVariants.{Done, OutOfMemory}
 use Rattle.iloc_handles.specs.Finding.{Changing, Sets}

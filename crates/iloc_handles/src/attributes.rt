@@ -1,6 +1,6 @@
 //! The attributes of a locale.
 ghost use Rattle.std.specs.Prelude.{◌≡◌, ◌<◌, ◌∷◌, [], true, IfOk, length, remove};
-ghost use Rattle.iloc_spec_grammar.specs.Words.{word_cmp};
+ghost use Rattle.iloc_spec_grammar.specs.Syntax.{word_cmp};
 ghost use Rattle.iloc_word_set.specs.Ascending.{ascends};
 ghost use Rattle.iloc_handles.specs.Attributes.{
   AddsAttribute,

@@ -1,6 +1,6 @@
 //! What C holds of a locale.
 ghost use Rattle.iloc_locale.specs.declared.locale.Locale.{Locale};
-ghost use Rattle.iloc_locale.specs.LocaleValue.{unknown_locale, value_of};
+ghost use Rattle.iloc_locale.specs.LocaleReading.{unknown_locale, value_of};
 ghost use Rattle.std.specs.Prelude.{◌≡◌, ◌↔◌, IsTrue, Option, Some, None, IfSome, IfNone};
 ghost use Rattle.iloc_handles.specs.Held.{IsTight, meaning_of};
 

@@ -1,6 +1,6 @@
 //! Changes of a locale by that of another handle.
 ghost use Rattle.std.specs.Prelude.{◌≡◌};
-ghost use Rattle.iloc_locale.specs.LocaleValue.{value_of};
+ghost use Rattle.iloc_locale.specs.LocaleReading.{value_of};
 ghost use Rattle.iloc_calls.specs.Numbers.{EndsAs};
 ghost use Rattle.iloc_handles.specs.Held.{IsTight, meaning_of};
 ghost use Rattle.iloc_handles.specs.Finding.{Changes};

@@ -13,9 +13,8 @@ ghost use Rattle.std.specs.Prelude.{
 ghost use Rattle.std.specs.FinMap.{put};
 ghost use Rattle.std.specs.Option.{option_copied};
 ghost use Rattle.std.specs.Ordering.{nat_cmp};
-ghost use Rattle.iloc_spec_grammar.specs.Shapes.{Block};
-ghost use Rattle.iloc_spec_grammar.specs.Written.{is_other_singleton};
-ghost use Rattle.iloc_locale.specs.LocaleValue.{value_of};
+ghost use Rattle.iloc_spec_grammar.specs.Syntax.{Block, is_other_singleton};
+ghost use Rattle.iloc_locale.specs.LocaleReading.{value_of};
 ghost use Rattle.iloc_handles.specs.Others.{
   HasOther as IsThere,
   IsOtherText,

@@ -3,8 +3,8 @@ ghost use Rattle.std.specs.Prelude.{◌≡◌, ℕ, List, length, option_map, sl
 ghost use Rattle.std.specs.FinMap.{find};
 ghost use Rattle.std.specs.Option.{option_copied};
 ghost use Rattle.iloc_spec_grammar.specs.Meaning as meaning;
-ghost use Rattle.iloc_spec_grammar.specs.Words.{normal, word_cmp};
-ghost use Rattle.iloc_locale.specs.LocaleValue.{value_of};
+ghost use Rattle.iloc_spec_grammar.specs.Syntax.{normal, word_cmp};
+ghost use Rattle.iloc_locale.specs.LocaleReading.{value_of};
 ghost use Rattle.iloc_handles.specs.Finding.{Removes};
 ghost use Rattle.iloc_handles.specs.Pairs.{HasKey, value_at};
 

@@ -1,7 +1,7 @@
 //! Subtags of texts, and sets of subtags.
 ghost use Rattle.std.specs.Prelude.{◌≡◌, ◌↔◌, false, IsTrue, MatchResult};
 ghost use Rattle.std.specs.List.{list_any};
-ghost use Rattle.iloc_spec_grammar.specs.Words.{IsWord, is_same, is_word, normal};
+ghost use Rattle.iloc_spec_grammar.specs.Syntax.{IsWord, is_same, is_word, normal};
 ghost use Rattle.iloc_spec_grammar.specs.Values.{IsAscending};
 ghost use Rattle.iloc_handles.specs.Subtags.{HasWord, IsNeither, IsOptional};
 

@@ -1,6 +1,6 @@
 //! The transform extension of a locale, and its private extension.
 ghost use Rattle.std.specs.Prelude.{◌≡◌, not};
-ghost use Rattle.iloc_spec_grammar.specs.Words.{is_same};
+ghost use Rattle.iloc_spec_grammar.specs.Syntax.{is_same};
 ghost use Rattle.iloc_handles.specs.Transform.{
   SetsField,
   SetsPrivate,

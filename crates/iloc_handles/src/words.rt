@@ -2,7 +2,7 @@
 ghost use Rattle.std.specs.Prelude.{◌≡◌, ◌↔◌, ℕ, List, IsTrue, length, slice_get};
 ghost use Rattle.iloc_spec_grammar.specs.Meaning as meaning;
 ghost use Rattle.iloc_spec_grammar.specs.Values.{IsAscending};
-ghost use Rattle.iloc_locale.specs.LocaleValue.{value_of};
+ghost use Rattle.iloc_locale.specs.LocaleReading.{value_of};
 ghost use Rattle.iloc_handles.specs.Subtags.{HasWord};
 
 use crate::asking::{Part, Question};

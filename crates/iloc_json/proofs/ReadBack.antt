@@ -2,10 +2,9 @@
 use Rattle.std.proofs.Common.{◌≡◌, ℕ, List, Option, Some, Result, Ok, Err, if◌then◌else◌, refl, sym, ap, ◌∙◌, subst}
 use Rattle.serde_json.specs.Data.{Data, string}
 use Rattle.serde_json.specs.Find.{as_str}
-use Rattle.iloc_spec_grammar.specs.Words.{Kind, read, normal, languages}
-use Rattle.iloc_spec_grammar.specs.Pieces.{pieces}
+use Rattle.iloc_spec_grammar.specs.Syntax.{Kind, read, normal, languages, pieces}
 use Rattle.iloc_spec_grammar.specs.Values.{IsNormal, IsIdentifierValue, IsValue, IsWellFormed, identifier_text, text}
-use Rattle.iloc_spec_grammar.specs.Faults as faults
+use Rattle.iloc_spec_grammar.specs.Meaning as faults
 use Rattle.iloc_spec_grammar.proofs.IdentifierTexts.{identifier_text_means, identifier_apart}
 use Rattle.iloc_spec_grammar.proofs.IdentifierLaws as identifiers
 use Rattle.iloc_spec_grammar.proofs.FaultLaws.{accepted_no_fault}
@@ -17,8 +16,7 @@ use Rattle.iloc_subtags.specs.declared.parse_error.ParseError.TheVariants.{Inval
 use Rattle.iloc_langid.specs.declared.identifier.LanguageIdentifier.{LanguageIdentifier}
 use Rattle.iloc_langid.specs.Reads.{value_of as identifier_of, ReadsAs}
 use Rattle.iloc_locale.specs.declared.locale.Locale.{Locale}
-use Rattle.iloc_locale.specs.LocaleValue.{value_of as locale_of}
-use Rattle.iloc_locale.specs.Reads.{LocaleReadsAs}
+use Rattle.iloc_locale.specs.LocaleReading.{value_of as locale_of, LocaleReadsAs}
 use Rattle.iloc_json.specs.declared.errors.JsonError.{JsonError}
 use Rattle.iloc_json.specs.declared.errors.JsonError.TheVariants.{OutOfMemory as NoRoom}
 use Rattle.iloc_json.specs.Errors.{json_error}

@@ -1,7 +1,7 @@
 -- What is returned when texts are written as JSON strings, and parsed from them. This library's
 -- rule.
 use Rattle.std.specs.Prelude.{◌≡◌, Option, Some, None, Result, Ok, Err, MatchResult}
-use Rattle.iloc_spec_grammar.specs.Shapes.{Text}
+use Rattle.iloc_spec_grammar.specs.Syntax.{Text}
 use Rattle.iloc_subtags.specs.declared.parse_error.ParseError.{ParseError}
 use Rattle.iloc_json.specs.declared.errors.JsonError.{JsonError}
 use Rattle.iloc_json.specs.declared.errors.JsonError.TheVariants.{NotText}

@@ -1,14 +1,12 @@
 //! What has a printed text and a parser.
 ghost use Rattle.std.specs.Prelude.{◌≡◌, ℕ, List, Result, IfOk};
 ghost use Rattle.std.specs.String.{string_bytes};
-ghost use Rattle.iloc_spec_grammar.specs.Words.{read};
-ghost use Rattle.iloc_spec_grammar.specs.Pieces.{pieces};
+ghost use Rattle.iloc_spec_grammar.specs.Syntax.{read, pieces};
 ghost use Rattle.iloc_spec_grammar.specs.Values.{IsWellFormed};
 ghost use Rattle.iloc_subtags.specs.declared.parse_error.ParseError.{ParseError};
 ghost use Rattle.iloc_subtags.specs.declared.parse_error.ParseError.TheVariants.{OutOfMemory};
 ghost use Rattle.iloc_langid.specs.Reads.{value_of as identifier_of, ReadsAs};
-ghost use Rattle.iloc_locale.specs.LocaleValue.{value_of as locale_of};
-ghost use Rattle.iloc_locale.specs.Reads.{LocaleReadsAs};
+ghost use Rattle.iloc_locale.specs.LocaleReading.{value_of as locale_of, LocaleReadsAs};
 ghost use Rattle.iloc_json.specs.Json.{SucceedsOr};
 
 use iloc_langid::LanguageIdentifier;

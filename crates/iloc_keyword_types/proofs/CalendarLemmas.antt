@@ -6,7 +6,7 @@ use Rattle.std.specs.Ordering.{is_eq, ordering_then, eq_by_cmp}
 use Rattle.std.specs.declared.cmp.Ordering.{Ordering}
 use Rattle.std.specs.declared.cmp.Ordering.TheVariants.{Less, Equal, Greater}
 use Rattle.std.specs.Cmp.Lexicographic.{slice_cmp, pointwise, texts_ties}
-use Rattle.iloc_spec_grammar.specs.Words.{word_cmp, is_same}
+use Rattle.iloc_spec_grammar.specs.Syntax.{word_cmp, is_same}
 use Rattle.iloc_spec_preferences.specs.Keywords as keywords
 use Rattle.iloc_spec_preferences.specs.Keywords.{EnumValue, numbered, variants, further_readings, readings, hijri_kinds}
 use Rattle.iloc_keyword_types.specs.WordTables.{place_of}

@@ -10,7 +10,7 @@ use Rattle.std.specs.declared.cmp.Ordering.TheVariants.{Less, Equal, Greater}
 use Rattle.std.specs.Cmp.{nat_cmp_is}
 use Rattle.std.specs.Cmp.Lexicographic.{slice_cmp}
 use Rattle.std.proofs.lemmas.Bool.{and_parts}
-use Rattle.iloc_spec_grammar.specs.Words.{Subtag, word_cmp, is_word, lower, is_same, is_true}
+use Rattle.iloc_spec_grammar.specs.Syntax.{Subtag, word_cmp, is_word, lower, is_same, is_true}
 use Rattle.iloc_spec_grammar.specs.Values.{IsNormal, spelled_value}
 use Rattle.iloc_spec_orders.specs.Orders.{pair_cmp}
 use Rattle.iloc_unicode_value.specs.Values as values

@@ -1,6 +1,6 @@
 -- What each calendar is turned into.
 use Rattle.std.proofs.Common.{◌≡◌, ℕ, List, [], ◌∷◌, Some, None, refl, ap, ◌∙◌, sym, codes, option_and_then}
-use Rattle.iloc_spec_grammar.specs.Words.{Subtag, is_true, is_word, lower}
+use Rattle.iloc_spec_grammar.specs.Syntax.{Subtag, is_true, is_word, lower}
 use Rattle.iloc_spec_grammar.specs.Values.{IsNormal}
 use Rattle.iloc_spec_preferences.specs.Keywords as keywords
 use Rattle.iloc_spec_preferences.specs.Keywords.{variants, hijri_kinds, enum_reads, enum_gives}

@@ -1,9 +1,8 @@
 -- What the reader of subdivisions owes to each text.
 use Rattle.std.proofs.Common.{◌≡◌, ℕ, List, Result, Ok, Err}
-use Rattle.iloc_spec_grammar.specs.Faults.{Fault}
+use Rattle.iloc_spec_grammar.specs.Meaning.{Fault}
 use Rattle.iloc_subtags.specs.declared.parse_error.ParseError.{ParseError}
-use Rattle.iloc_subtags.specs.Answers.{OfPart}
-use Rattle.iloc_subtags.specs.Judging.{Accepts, Refuses}
+use Rattle.iloc_subtags.specs.Judging.{OfPart, Accepts, Refuses}
 use Rattle.iloc_subtags.proofs.Judged.{Judges, told, accepts, refuses, of_part}
 use Rattle.iloc_spec_preferences.specs.Subdivisions.{Subdivision, subdivision}
 use Rattle.iloc_keyword_types.specs.Subdivisions.{ReadsAs}

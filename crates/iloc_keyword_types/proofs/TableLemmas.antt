@@ -2,7 +2,7 @@
 use Rattle.std.proofs.Common.{◌≡◌, ℕ, true, false, cond, List, [], ◌∷◌, map, refl, ap, ◌∙◌, Option, Some, option_map, nat_eq, find}
 use Rattle.std.specs.FinMap as table
 use Rattle.std.specs.Cmp.Lexicographic.{pointwise, texts_ties}
-use Rattle.iloc_spec_grammar.specs.Words.{word_cmp, is_same}
+use Rattle.iloc_spec_grammar.specs.Syntax.{word_cmp, is_same}
 
 module _ {X : Type 0} (word : X → List ℕ) (place : X → ℕ) where
   pub first_is : (w : List ℕ) (xs : List X) → option_map place (find (λ x. pointwise nat_eq w (word x)) xs) ≡ table.find word_cmp w (map (λ x. (word x, place x)) xs)

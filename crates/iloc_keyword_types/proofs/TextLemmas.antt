@@ -1,6 +1,6 @@
 -- The text of a subdivision is a subtag, and read as the subdivision.
 use Rattle.std.proofs.Common.{◌≡◌, ℕ, List, ◌++◌, sym, ap₂, ◌∙◌, subst}
-use Rattle.iloc_spec_grammar.specs.Words.{Subtag, lower}
+use Rattle.iloc_spec_grammar.specs.Syntax.{Subtag, lower}
 use Rattle.iloc_spec_grammar.specs.Values.{IsNormal}
 use Rattle.iloc_spec_preferences.specs.Subdivisions.{Subdivision, IsSubdivision, subdivision_text}
 use Rattle.iloc_spec_preferences.proofs.SubdivisionLaws.{subdivision_back, subdivision_is_subtag, text_of_read}

@@ -2,8 +2,7 @@
 -- in the order of its enum (`tag_of`), as `as u8` gives it for an enum without fields.
 use denote.Enum.Declared.{tag_of}
 use Rattle.std.specs.Prelude.{◌≡◌, ℕ, Option, Some, None, option_map, slice_get, refl}
-use Rattle.iloc_spec_grammar.specs.Shapes.{Text}
-use Rattle.iloc_spec_grammar.specs.Pieces.{join}
+use Rattle.iloc_spec_grammar.specs.Syntax.{Text, join}
 use Rattle.iloc_spec_preferences.specs.Keywords as keywords
 use Rattle.iloc_spec_preferences.specs.Keywords.{EnumValue, variants, enum_words}
 use Rattle.iloc_keyword_types.specs.WordTables.{word_at}

@@ -1,6 +1,6 @@
 -- Where a text is cut into region and suffix.
 use Rattle.std.specs.Prelude.{ℕ, List, length, min}
-use Rattle.iloc_spec_grammar.specs.Shapes.{Text}
+use Rattle.iloc_spec_grammar.specs.Syntax.{Text}
 use Rattle.iloc_spec_preferences.specs.Subdivisions.{region_length}
 
 -- the length of the region, or of the text if that is shorter

@@ -1,6 +1,6 @@
 -- What the parser of a list of scripts returns. This library's rule.
 use Rattle.std.specs.Prelude.{◌≡◌, ◌<◌, List, length, Some, None, Result, Ok, Err}
-use Rattle.iloc_spec_grammar.specs.Shapes.{Text}
+use Rattle.iloc_spec_grammar.specs.Syntax.{Text}
 use Rattle.iloc_spec_preferences.specs.Keywords.{scripts_read}
 use Rattle.iloc_unicode_value.specs.declared.errors.PreferencesParseError.{PreferencesParseError}
 use Rattle.iloc_unicode_value.specs.declared.errors.PreferencesParseError.TheVariants.{InvalidKeywordValue, OutOfMemory}

@@ -1,9 +1,9 @@
 -- What a text is read as, as a subdivision.
 use Rattle.std.specs.Prelude.{◌≡◌, Result, Ok, Err}
-use Rattle.iloc_spec_grammar.specs.Shapes.{Text}
+use Rattle.iloc_spec_grammar.specs.Syntax.{Text}
 use Rattle.iloc_spec_preferences.specs.Subdivisions.{Subdivision, subdivision}
 use Rattle.iloc_subtags.specs.declared.parse_error.ParseError.{ParseError}
-use Rattle.iloc_subtags.specs.Answers.{Answers, OfPart}
+use Rattle.iloc_subtags.specs.Judging.{Answers, OfPart}
 
 -- The text is read as the subdivision that it names, or refused for what it lacks.
 abbrev pub ReadsAs : Text → Result Subdivision ParseError → Type 0

@@ -43,7 +43,7 @@ pub enum CalendarAlgorithm {
 
 impl CalendarAlgorithm {
     /// The text of the calendar: of a Hijri calendar of a kind, `islamic-` and the word of the kind.
-    #[tactic(auto, unfolding(iloc_spec_grammar::specs::Pieces::join))]
+    #[tactic(auto, unfolding(iloc_spec_grammar::specs::Syntax::join))]
     pub fn as_str(&self) -> &'static str
         ensures { text_of (value_of self.now) ≡ Some result.now }
     {
@@ -75,7 +75,7 @@ impl CalendarAlgorithm {
 }
 
 // The text of a Hijri calendar.
-#[tactic(auto, unfolding(iloc_spec_grammar::specs::Pieces::join))]
+#[tactic(auto, unfolding(iloc_spec_grammar::specs::Syntax::join))]
 fn hijri_text(kind: Option<HijriCalendarAlgorithm>) -> &'static str
     ensures { text_of (9, option_map kind_place kind) ≡ Some result.now }
 {

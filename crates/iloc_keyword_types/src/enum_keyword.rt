@@ -9,7 +9,7 @@ ghost use Rattle.iloc_keyword_types.specs.Reads.{
   ReadsVariant,
   GivesVariant,
 };
-ghost use Rattle.iloc_spec_grammar.specs.Words.{Subtag as subtag};
+ghost use Rattle.iloc_spec_grammar.specs.Syntax.{Subtag as subtag};
 ghost use Rattle.iloc_spec_grammar.specs.Values.{IsNormal, spelled_value};
 
 use crate::preference_key::PreferenceKey;

@@ -1,6 +1,6 @@
 //! Keys that UTS #35 names ("Key And Type Definitions"), as words: none of these can be refused.
 // Written by tools/write_keywords from tools/keywords.txt: change that table and not this file.
-#![tactic(auto, unfolding(iloc_spec_grammar::specs::Words::is_word, iloc_spec_grammar::specs::Words::lower))]
+#![tactic(auto, unfolding(iloc_spec_grammar::specs::Syntax::is_word, iloc_spec_grammar::specs::Syntax::lower))]
 
 ghost use Rattle.std.specs.Prelude.{◌≡◌, codes};
 

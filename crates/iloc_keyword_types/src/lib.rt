@@ -18,7 +18,7 @@
 
 ghost use Rattle.std.specs.Prelude.{◌≡◌, ◌↔◌, true};
 ghost use Rattle.std.specs.Ordering.{on, then_cmp};
-ghost use Rattle.iloc_spec_grammar.specs.Words.{word_cmp};
+ghost use Rattle.iloc_spec_grammar.specs.Syntax.{word_cmp};
 ghost use Rattle.iloc_spec_preferences.specs.DataHashes.{subdivision_fed};
 
 use std::hash::Hash;

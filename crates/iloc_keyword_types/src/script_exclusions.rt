@@ -1,6 +1,6 @@
 //! A keyword whose value is a list of scripts.
 ghost use Rattle.std.specs.Prelude.{◌≡◌, Some, IfOk, codes};
-ghost use Rattle.iloc_spec_grammar.specs.Words.{word, Script as the_kind};
+ghost use Rattle.iloc_spec_grammar.specs.Syntax.{word, Script as the_kind};
 ghost use Rattle.iloc_spec_preferences.specs.Keywords.{scripts_give};
 ghost use Rattle.iloc_keyword_types.specs.Reads.{ReadsUnder};
 ghost use Rattle.iloc_keyword_types.specs.Scripts.{ReadsScripts};
@@ -116,7 +116,7 @@ impl PreferenceKey for DictionaryBreakScriptExclusions {
 }
 
 // The key of the list.
-#[tactic(auto, unfolding(iloc_spec_grammar::specs::Words::is_word, iloc_spec_grammar::specs::Words::lower))]
+#[tactic(auto, unfolding(iloc_spec_grammar::specs::Syntax::is_word, iloc_spec_grammar::specs::Syntax::lower))]
 fn exclusions_key() -> UnicodeKey
     ensures { result ≡ codes "dx" }
 {

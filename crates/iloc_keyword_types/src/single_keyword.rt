@@ -1,6 +1,6 @@
 //! Keywords whose value is one subtag, and which stand for that subtag or for what it spells.
 ghost use Rattle.std.specs.Prelude.{◌≡◌, ℕ, List, Option, Some};
-ghost use Rattle.iloc_spec_grammar.specs.Shapes.{Text};
+ghost use Rattle.iloc_spec_grammar.specs.Syntax.{Text};
 ghost use Rattle.iloc_keyword_types.specs.Reads.{Reads, ReadsUnder, GivesKeyed};
 
 use crate::{PreferenceKey, PreferencesParseError};

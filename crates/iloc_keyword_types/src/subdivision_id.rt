@@ -1,6 +1,6 @@
 //! A subdivision of a region.
 ghost use Rattle.std.specs.Prelude.{◌≡◌, Ok, Err, Some};
-ghost use Rattle.iloc_spec_grammar.specs.Faults.{Fault};
+ghost use Rattle.iloc_spec_grammar.specs.Meaning.{Fault};
 ghost use Rattle.iloc_subtags.specs.Judging.{Accepts, Refuses};
 ghost use Rattle.iloc_keyword_types.specs.Cut.{cut_of};
 

@@ -9,11 +9,9 @@ use Rattle.std.specs.declared.cmp.Ordering.{Ordering}
 use Rattle.std.specs.declared.cmp.Ordering.TheVariants.{Less, Equal, Greater}
 use Rattle.std.proofs.lemmas.Bool.{and_parts, and_from, or_parts}
 use Rattle.std.proofs.lemmas.List.{length-map}
-use Rattle.iloc_spec_grammar.specs.Words.{Language, Script, Region, Variant, is_word, IsWord, lower, title, upper, word_cmp, is_same, languages}
-use Rattle.iloc_spec_grammar.specs.Written.{Identifier, AllDifferent}
+use Rattle.iloc_spec_grammar.specs.Syntax.{Language, Script, Region, Variant, is_word, IsWord, lower, title, upper, word_cmp, is_same, languages, Identifier, AllDifferent, first_piece}
 use Rattle.iloc_spec_grammar.specs.Meaning.{IdentifierMeans, set_of, map_of}
-use Rattle.iloc_spec_grammar.specs.Values.{IsNormal, IsAscending}
-use Rattle.iloc_spec_grammar.specs.Steps.{Reordered, none, front_kept, first_two, in_turn}
+use Rattle.iloc_spec_grammar.specs.Values.{IsNormal, IsAscending, Reordered, none, front_kept, first_two, in_turn}
 use Rattle.iloc_spec_grammar.proofs.WordsLaws.{is_word-lower}
 use Rattle.iloc_spec_grammar.proofs.MapLaws.{word_cmp_total, same_itself, same_is}
 use Rattle.iloc_spec_grammar.proofs.Orders.{any_reordered, all_reordered, different_reordered, set_of_reordered}
@@ -21,7 +19,6 @@ use Rattle.iloc_spec_grammar.proofs.Sorting.{itself}
 use Rattle.iloc_spec_grammar.proofs.ValuesLaws.{set_of_ascending, ascending_different}
 use Rattle.iloc_langid.proofs.WalkLemmas.{apart}
 use Rattle.iloc_langid.specs.Agreeing.{is_among, are_all_among}
-use Rattle.iloc_spec_grammar.specs.Blocks.{first_piece}
 use Rattle.iloc_spec_grammar.specs.Reading.{take_first, skip_first, passing, past, rest_of, after_region, front_of}
 use Rattle.iloc_spec_grammar.proofs.ReadingLaws.{front_of-pieces, keep_all}
 use Rattle.iloc_langid.specs.declared.identifier.LanguageIdentifier.{LanguageIdentifier}

@@ -5,12 +5,10 @@ use Rattle.std.specs.Char.{is_ascii_alphanumeric, to_ascii_lowercase}
 use Rattle.std.specs.List.{list_all}
 use Rattle.std.proofs.lemmas.Bool.{and_parts, false_from_ne_true}
 use Rattle.std.proofs.lemmas.Bool.Decides.{nat_tests}
-use Rattle.iloc_spec_grammar.specs.Words.{Kind, Attribute, UnicodeKey, is_word, IsWord, normal, lower}
-use Rattle.iloc_spec_grammar.specs.Blocks.{is_one_byte, front, blocks, first_piece}
-use Rattle.iloc_spec_grammar.specs.Meaning.{normal_values}
+use Rattle.iloc_spec_grammar.specs.Syntax.{Kind, Attribute, UnicodeKey, is_word, IsWord, normal, lower, is_one_byte, front, blocks, first_piece}
+use Rattle.iloc_spec_grammar.specs.Meaning.{normal_values, Fault}
 use Rattle.iloc_spec_grammar.specs.Reading.{first_item, take_first, skip_first}
-use Rattle.iloc_spec_grammar.specs.Faults.{Fault}
-use Rattle.iloc_spec_grammar.specs.Faults as faults
+use Rattle.iloc_spec_grammar.specs.Meaning as faults
 use Rattle.iloc_spec_grammar.proofs.WordsLaws.{length-attribute, length-unicode_key}
 use Rattle.iloc_spec_parts.specs.Small.{SmallIdentifier, SmallLocale}
 use Rattle.iloc_spec_parts.specs.SmallComputing.{has_small_keyword, is_u, is_small_block, keyword_read, block_fault, blocks_result}

@@ -4,7 +4,7 @@ use Rattle.std.proofs.lemmas.Bool.{and_parts, and_from}
 use Rattle.std.proofs.lemmas.Cmp.{nat_list_eq_equiv}
 use Rattle.std.specs.Cmp.Lexicographic.{pointwise, same_text}
 use Rattle.std.specs.Option.{option_eq}
-use Rattle.iloc_spec_grammar.specs.Written.{Identifier}
+use Rattle.iloc_spec_grammar.specs.Syntax.{Identifier}
 use Rattle.iloc_langid.specs.declared.identifier.LanguageIdentifier.{LanguageIdentifier}
 use Rattle.iloc_langid.specs.Reads.{value_of}
 use Rattle.iloc_langid.proofs.AgreeingLemmas.{same_option}

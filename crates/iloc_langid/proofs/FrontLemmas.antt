@@ -1,10 +1,8 @@
 -- From what a front is read as to what the whole or the head is read as.
 use Rattle.std.proofs.Common.{◌≡◌, ◌≢◌, ◌<◌, ℕ, Bool, true, false, List, [], ◌∷◌, ◌++◌, length, refl, sym, ap, ◌∙◌, subst, append-nil, cond, Some, None, option_map, Result, Ok, Err, true≢false}
 use Rattle.std.specs.Result.{result_and}
-use Rattle.iloc_spec_grammar.specs.Words.{Language, Script, Region, is_word, IsWord, normal, lower, title, upper, languages}
-use Rattle.iloc_spec_grammar.specs.Meaning.{IdentifierMeans}
-use Rattle.iloc_spec_grammar.specs.Faults.{not_a_language, not_an_identifier}
-use Rattle.iloc_spec_grammar.specs.Blocks.{first_piece, front, head}
+use Rattle.iloc_spec_grammar.specs.Syntax.{Language, Script, Region, is_word, IsWord, normal, lower, title, upper, languages, first_piece, front, head}
+use Rattle.iloc_spec_grammar.specs.Meaning.{IdentifierMeans, not_a_language, not_an_identifier}
 use Rattle.iloc_spec_grammar.specs.Reading.{first_item}
 use Rattle.iloc_spec_grammar.specs.Reading.{take_first, skip_first, after_region, front_of, after_front, from_block, after_head, starts_block}
 use Rattle.iloc_spec_grammar.proofs.ReadingLaws.{EndsWords, starts_ends, from_block_starts, front-from_block, front_long, after_long, starts_empty, after_front-append, front_means, refuses_more, refuses_repeat, front_of-append, front_is_front}

@@ -2,12 +2,10 @@
 use Rattle.std.proofs.Common.{◌≡◌, ◌≢◌, ℕ, Bool, true, false, cond, List, [], ◌∷◌, refl, sym, ap, ◌∙◌, subst, arith, Option, Some, None, option_map, Result, Ok, Err, MatchResult, true≢false}
 use Rattle.std.proofs.lemmas.Bool.{false_from_ne_true}
 use Rattle.std.proofs.lemmas.Bool.Decides.{nat_tests}
-use Rattle.iloc_spec_grammar.specs.Pieces.{pieces}
-use Rattle.iloc_spec_grammar.specs.Words.{Language, Script, Region, Variant, is_word, IsWord, lower, title, upper, languages}
-use Rattle.iloc_spec_grammar.specs.Blocks.{is_one_byte, front, blocks, head, tail_blocks, first_piece}
+use Rattle.iloc_spec_grammar.specs.Syntax.{pieces, Language, Script, Region, Variant, is_word, IsWord, lower, title, upper, languages, is_one_byte, front, blocks, head, tail_blocks, first_piece}
 use Rattle.iloc_spec_grammar.specs.Reading.{take_first, skip_first, after_region, starts_block}
-use Rattle.iloc_spec_grammar.specs.Faults.{Fault}
-use Rattle.iloc_spec_grammar.specs.Faults as faults
+use Rattle.iloc_spec_grammar.specs.Meaning.{Fault}
+use Rattle.iloc_spec_grammar.specs.Meaning as faults
 use Rattle.iloc_spec_grammar.proofs.WordsLaws.{length-script, length-region, length-variant}
 use Rattle.iloc_spec_grammar.proofs.RawLaws.{languages_table}
 use Rattle.iloc_spec_parts.specs.Small.{SmallIdentifier, SmallLocale, IsSmallIdentifier, IsSmall, HasSmallIdentifierFault, no_language, no_identifier, SmallBlockFault, no_singleton, not_u, attribute, no_key, after_key, HasSmallFault, bad_head, bad_block}

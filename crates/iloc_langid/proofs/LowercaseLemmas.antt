@@ -1,7 +1,7 @@
 -- Normal words that are in lower case already.
 use Rattle.std.proofs.Common.{◌≡◌, ℕ, List, [], ◌∷◌, map, refl, ap₂}
 use Rattle.std.specs.List.{AllByRecursion}
-use Rattle.iloc_spec_grammar.specs.Words.{Variant, lower}
+use Rattle.iloc_spec_grammar.specs.Syntax.{Variant, lower}
 use Rattle.iloc_spec_grammar.specs.Values.{IsNormal}
 
 pub lower-variants : (ws : List (List ℕ)) → AllByRecursion (IsNormal Variant) ws → map lower ws ≡ ws

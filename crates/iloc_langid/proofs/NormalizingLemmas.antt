@@ -1,11 +1,8 @@
 -- The normal text of an identifier.
 use Rattle.std.proofs.Common.{◌≡◌, inl, inr, Err, ℕ, false, true, List, length, sym, ap, ◌∙◌, subst, true≢false}
-use Rattle.iloc_spec_grammar.specs.Pieces.{pieces}
-use Rattle.iloc_spec_grammar.specs.Words.{languages}
-use Rattle.iloc_spec_grammar.specs.Written.{Identifier}
+use Rattle.iloc_spec_grammar.specs.Syntax.{pieces, languages, Identifier}
 use Rattle.iloc_spec_grammar.specs.Meaning.{IdentifierMeans}
-use Rattle.iloc_spec_grammar.specs.Values.{identifier_text}
-use Rattle.iloc_spec_grammar.specs.Steps.{IdentifierChain}
+use Rattle.iloc_spec_grammar.specs.Values.{identifier_text, IdentifierChain}
 use Rattle.iloc_spec_grammar.proofs.IdentifierLaws.{one_meaning}
 use Rattle.iloc_spec_grammar.proofs.IdentifierTexts.{identifier_means_again, same_identifier_meaning, length-identifier_means, identifier_chain_to_text, identifiers_lead_to_one}
 use Rattle.iloc_subtags.specs.declared.parse_error.ParseError.{ParseError}

@@ -1,8 +1,6 @@
 -- What was printed means what it was printed from.
 use Rattle.std.proofs.Common.{◌≡◌, ℕ, List, IfOk, Result, Ok, Err, sym, subst}
-use Rattle.iloc_spec_grammar.specs.Pieces.{pieces}
-use Rattle.iloc_spec_grammar.specs.Words.{languages}
-use Rattle.iloc_spec_grammar.specs.Written.{Identifier}
+use Rattle.iloc_spec_grammar.specs.Syntax.{pieces, languages, Identifier}
 use Rattle.iloc_spec_grammar.specs.Meaning.{IdentifierMeans}
 use Rattle.iloc_spec_grammar.specs.Values.{IsIdentifierValue, identifier_text}
 use Rattle.iloc_spec_grammar.proofs.IdentifierLaws.{one_meaning}

@@ -1,11 +1,8 @@
 -- What else is known of an identifier that was read.
 use Rattle.std.proofs.Common.{ℕ, List, Result, Ok, Err, refl}
-use Rattle.iloc_spec_grammar.specs.Pieces.{pieces}
-use Rattle.iloc_spec_grammar.specs.Words.{languages, two_or_three}
-use Rattle.iloc_spec_grammar.specs.Written.{Identifier}
-use Rattle.iloc_spec_grammar.specs.Meaning.{IdentifierMeans}
-use Rattle.iloc_spec_grammar.specs.Faults as faults
-use Rattle.iloc_spec_grammar.specs.Faults.{Fault, HasIdentifierFault}
+use Rattle.iloc_spec_grammar.specs.Syntax.{pieces, languages, two_or_three, Identifier}
+use Rattle.iloc_spec_grammar.specs.Meaning.{IdentifierMeans, Fault, HasIdentifierFault}
+use Rattle.iloc_spec_grammar.specs.Meaning as faults
 use Rattle.iloc_spec_grammar.proofs.IdentifierLaws.{one_meaning}
 use Rattle.iloc_spec_grammar.proofs.IdentifierTexts.{identifier_chain_means, identifier_apart, one_identifier_fault}
 use Rattle.iloc_spec_grammar.proofs.RawLaws.{narrow_in_wide}
@@ -13,8 +10,7 @@ use Rattle.iloc_spec_grammar.proofs.WiderTables.{identifier_means_wider}
 use Rattle.iloc_subtags.specs.declared.parse_error.ParseError.{ParseError}
 use Rattle.iloc_subtags.specs.declared.parse_error.ParseError.TheVariants.{InvalidLanguage, InvalidSubtag, InvalidExtension, DuplicatedExtension, OutOfMemory}
 use Rattle.iloc_langid.specs.declared.identifier.LanguageIdentifier.{LanguageIdentifier}
-use Rattle.iloc_subtags.specs.Answers.{OfIdentifier}
-use Rattle.iloc_subtags.specs.Judging.{Accepts, Refuses}
+use Rattle.iloc_subtags.specs.Judging.{OfIdentifier, Accepts, Refuses}
 use Rattle.iloc_subtags.proofs.Judged.{Judges, accepts, refuses, of_identifier}
 use Rattle.iloc_langid.specs.Reads.{value_of, ReadsAs, WantsMemory, KeepsThroughSteps, KeepsNarrow, AcceptsNarrow}
 

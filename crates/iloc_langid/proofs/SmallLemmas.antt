@@ -1,9 +1,7 @@
 -- Identifiers with at most one variant, read from the left.
 use Rattle.std.proofs.Common.{◌≡◌, ◌≢◌, ℕ, ◌≤◌, Bool, true, false, cond, List, [], ◌∷◌, ◌++◌, length, map, refl, sym, ap, ◌∙◌, subst, arith, append-nil, Option, option_map, Result, Ok, Err, IfOk, true≢false}
 use Rattle.std.specs.List.{AllByRecursion}
-use Rattle.iloc_spec_grammar.specs.Words.{Language, Script, Region, Variant, is_word, IsWord, lower, title, upper, languages}
-use Rattle.iloc_spec_grammar.specs.Written.{Identifier, HasWords, identifier_pieces}
-use Rattle.iloc_spec_grammar.specs.Blocks.{first_piece}
+use Rattle.iloc_spec_grammar.specs.Syntax.{Language, Script, Region, Variant, is_word, IsWord, lower, title, upper, languages, Identifier, HasWords, identifier_pieces, first_piece}
 use Rattle.iloc_spec_grammar.specs.Reading.{first_item, take_first, skip_first, passing, past, rest_of, after_script, after_region, front_of, after_front}
 use Rattle.iloc_spec_grammar.proofs.ReadingLaws.{all_while, pieces-front_of, front_words, front_of-pieces, after_front-pieces}
 use Rattle.iloc_spec_parts.specs.Small.{SmallIdentifier, IsSmallIdentifier, HasSmallIdentifierFault, no_language, no_identifier, identifier_of_small}
@@ -14,10 +12,8 @@ use Rattle.iloc_langid.specs.PlainReads.{IsPlainFront}
 use Rattle.iloc_langid.specs.SmallReads.{Parts, small_of, SmallReadsAs, front_parts, after_parts, SmallFrontGives}
 use Rattle.iloc_langid.proofs.FrontLemmas.{no_empty_language}
 use Rattle.iloc_spec_parts.proofs.SmallLaws.{short_different, small_identifier_means, one_small_identifier, small_identifier_apart, one_small_identifier_fault}
-use Rattle.iloc_spec_grammar.specs.Faults.{Fault}
-use Rattle.iloc_spec_grammar.specs.Meaning.{IdentifierMeans}
-use Rattle.iloc_subtags.specs.Answers.{OfIdentifier}
-use Rattle.iloc_subtags.specs.Judging.{Accepts, Refuses}
+use Rattle.iloc_spec_grammar.specs.Meaning.{Fault, IdentifierMeans}
+use Rattle.iloc_subtags.specs.Judging.{OfIdentifier, Accepts, Refuses}
 use Rattle.iloc_subtags.proofs.Judged.{Judges, accepts, refuses, of_identifier}
 
 abbrev variant : List ℕ → Bool

@@ -6,11 +6,9 @@ use Rattle.std.specs.List.Sorted.{IsPermutation}
 use Rattle.std.proofs.lemmas.List.{map-append, length-map}
 use Rattle.std.proofs.lemmas.Bool.{or_parts, or_from}
 use Rattle.std.proofs.lemmas.List.Sorted.{IsPermutation-refl, IsPermutation-sym, IsPermutation-push_more, IsPermutation-append_left, length_permutation, list_any-IsPermutation}
-use Rattle.iloc_spec_grammar.specs.Words.{Variant, is_word, IsWord, normal, lower, word_cmp, is_same}
-use Rattle.iloc_spec_grammar.specs.Written.{AllDifferent}
+use Rattle.iloc_spec_grammar.specs.Syntax.{Variant, is_word, IsWord, normal, lower, word_cmp, is_same, AllDifferent}
 use Rattle.iloc_spec_grammar.specs.Meaning.{set_of}
-use Rattle.iloc_spec_grammar.specs.Values.{IsNormal, IsAscending}
-use Rattle.iloc_spec_grammar.specs.Steps.{Reordered, none, front_kept, first_two, in_turn}
+use Rattle.iloc_spec_grammar.specs.Values.{IsNormal, IsAscending, Reordered, none, front_kept, first_two, in_turn}
 use Rattle.iloc_spec_grammar.specs.Reading.{EndsBefore, take_first, skip_first, passing, past}
 use Rattle.iloc_spec_grammar.proofs.MapLaws.{word_cmp_total}
 use Rattle.iloc_spec_grammar.proofs.Orders.{different_reordered}

@@ -7,9 +7,8 @@ use Rattle.std.proofs.Math.Dec.{eqb-suc-suc}
 use Rattle.std.proofs.lemmas.Bool.{and_parts, and_from, or_parts}
 use Rattle.std.proofs.lemmas.List.{take-append-drop}
 use Rattle.std.proofs.lemmas.List.Folds.{list_all-append}
-use Rattle.iloc_spec_grammar.specs.Words.{Variant, is_word, lower, word_cmp, is_same}
+use Rattle.iloc_spec_grammar.specs.Syntax.{Variant, is_word, lower, word_cmp, is_same, AllDifferent}
 use Rattle.iloc_spec_grammar.specs.Values.{IsNormal}
-use Rattle.iloc_spec_grammar.specs.Written.{AllDifferent}
 use Rattle.iloc_spec_grammar.proofs.WordsLaws.{is_word-lower}
 use Rattle.iloc_spec_grammar.proofs.MapLaws.{same_itself, same_is, same_words}
 use Rattle.iloc_spec_grammar.proofs.SetLaws.{marked}

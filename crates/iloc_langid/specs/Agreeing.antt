@@ -1,8 +1,7 @@
 -- Pieces and variants that are the same, in whatever order and case.
 use Rattle.std.specs.Prelude.{ℕ, Bool, ◌==◌, ◌&&◌, List, length}
 use Rattle.std.specs.List.{AllByRecursion, list_any, list_all}
-use Rattle.iloc_spec_grammar.specs.Shapes.{Text}
-use Rattle.iloc_spec_grammar.specs.Words.{Variant, lower, is_same}
+use Rattle.iloc_spec_grammar.specs.Syntax.{Text, Variant, lower, is_same}
 use Rattle.iloc_spec_grammar.specs.Values.{IsNormal, IsAscending}
 
 -- some piece is the word, in whatever case

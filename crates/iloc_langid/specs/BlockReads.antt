@@ -1,13 +1,10 @@
 -- What the pieces after a singleton are read as.
 use Rattle.std.specs.Prelude.{ℕ, ◌&&◌, nat_le, List, [], ◌++◌, length, if◌then◌else◌, Option, Result, Ok, Err}
 use Rattle.std.specs.List.{list_all}
-use Rattle.iloc_spec_grammar.specs.Shapes.{Text}
-use Rattle.iloc_spec_grammar.specs.Words.{Attribute, is_word}
-use Rattle.iloc_spec_grammar.specs.Meaning.{normal_values}
+use Rattle.iloc_spec_grammar.specs.Syntax.{Text, Attribute, is_word, first_piece}
+use Rattle.iloc_spec_grammar.specs.Meaning.{normal_values, Fault}
 use Rattle.iloc_spec_grammar.specs.Reading.{first_item}
-use Rattle.iloc_spec_grammar.specs.Blocks.{first_piece}
-use Rattle.iloc_spec_grammar.specs.Faults.{Fault}
-use Rattle.iloc_spec_grammar.specs.Faults as faults
+use Rattle.iloc_spec_grammar.specs.Meaning as faults
 use Rattle.iloc_spec_parts.specs.SmallComputing.{is_small_block, keyword_read, block_fault}
 use Rattle.iloc_langid.specs.SmallLocaleReads.{Keyword}
 use Rattle.iloc_subtags.specs.declared.parse_error.ParseError.{ParseError}

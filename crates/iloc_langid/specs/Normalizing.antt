@@ -1,15 +1,10 @@
 -- What normalising an identifier's text answers.
 use Rattle.std.specs.Prelude.{◌≡◌, ◌↔◌, ◌⊎◌, ℕ, List, length}
-use Rattle.iloc_spec_grammar.specs.Shapes.{Text}
-use Rattle.iloc_spec_grammar.specs.Pieces.{pieces}
-use Rattle.iloc_spec_grammar.specs.Words.{languages}
-use Rattle.iloc_spec_grammar.specs.Written.{Identifier}
-use Rattle.iloc_spec_grammar.specs.Meaning.{IdentifierMeans}
-use Rattle.iloc_spec_grammar.specs.Values.{identifier_text}
-use Rattle.iloc_spec_grammar.specs.Faults.{HasIdentifierFault}
-use Rattle.iloc_spec_grammar.specs.Steps.{IdentifierChain, IdentifierTextStep, LeadToOne}
+use Rattle.iloc_spec_grammar.specs.Syntax.{Text, pieces, languages, Identifier}
+use Rattle.iloc_spec_grammar.specs.Meaning.{IdentifierMeans, HasIdentifierFault}
+use Rattle.iloc_spec_grammar.specs.Values.{identifier_text, IdentifierChain, IdentifierTextStep, LeadToOne}
 use Rattle.iloc_subtags.specs.declared.parse_error.ParseError.{ParseError}
-use Rattle.iloc_subtags.specs.Answers.{Refusal, OfIdentifier}
+use Rattle.iloc_subtags.specs.Judging.{Refusal, OfIdentifier}
 use Rattle.iloc_langid.specs.Reads.{WantsMemory}
 
 -- t is the text of what u means

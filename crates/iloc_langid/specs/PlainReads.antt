@@ -1,8 +1,6 @@
 -- What the reader of a language, a script and a region takes.
 use Rattle.std.specs.Prelude.{◌≡◌, List, option_map}
-use Rattle.iloc_spec_grammar.specs.Shapes.{Text}
-use Rattle.iloc_spec_grammar.specs.Words.{Language, Script, Region, is_word, IsWord, lower, title, upper, languages}
-use Rattle.iloc_spec_grammar.specs.Blocks.{first_piece}
+use Rattle.iloc_spec_grammar.specs.Syntax.{Text, Language, Script, Region, is_word, IsWord, lower, title, upper, languages, first_piece}
 use Rattle.iloc_spec_grammar.specs.Reading.{take_first, rest_of, after_script, after_region}
 use Rattle.iloc_langid.specs.declared.plain.PlainParts.{PlainParts}
 

@@ -1,17 +1,12 @@
 -- What the readers of identifiers answer.
 use Rattle.std.specs.Prelude.{◌≡◌, ℕ, ◌<◌, false, List, [], length, map, None, Result, IfOk, IfErr}
-use Rattle.iloc_spec_grammar.specs.Shapes.{Text}
-use Rattle.iloc_spec_grammar.specs.Words.{Language, Variant, is_word, IsWord, lower, word_cmp, languages, two_or_three}
-use Rattle.iloc_spec_grammar.specs.Written.{Identifier, AllDifferent}
-use Rattle.iloc_spec_grammar.specs.Meaning.{IdentifierMeans, normal_identifier, set_of}
-use Rattle.iloc_spec_grammar.specs.Faults.{HasIdentifierFault}
-use Rattle.iloc_spec_grammar.specs.Blocks.{first_piece}
+use Rattle.iloc_spec_grammar.specs.Syntax.{Text, Language, Variant, is_word, IsWord, lower, word_cmp, languages, two_or_three, Identifier, AllDifferent, first_piece, pieces}
+use Rattle.iloc_spec_grammar.specs.Meaning.{IdentifierMeans, normal_identifier, set_of, HasIdentifierFault}
 use Rattle.iloc_spec_grammar.specs.Reading.{IdentifierFront}
-use Rattle.iloc_spec_grammar.specs.Pieces.{pieces}
-use Rattle.iloc_spec_grammar.specs.Steps.{IdentifierChain}
+use Rattle.iloc_spec_grammar.specs.Values.{IdentifierChain}
 use Rattle.iloc_spec_grammar.specs.Reading.{passing, past, front_of, after_front}
 use Rattle.iloc_subtags.specs.declared.parse_error.ParseError.{ParseError}
-use Rattle.iloc_subtags.specs.Answers.{Answers, SubtagFault, IdentifierFaults, OfIdentifier}
+use Rattle.iloc_subtags.specs.Judging.{Answers, SubtagFault, IdentifierFaults, OfIdentifier}
 use Rattle.iloc_subtags.specs.declared.parse_error.ParseError.TheVariants.{OutOfMemory}
 use Rattle.iloc_langid.specs.declared.identifier.LanguageIdentifier.{LanguageIdentifier}
 

@@ -1,10 +1,9 @@
 -- What the reader of small locales answers.
 use Rattle.std.specs.Prelude.{ℕ, List, Option, Result}
-use Rattle.iloc_spec_grammar.specs.Shapes.{Text}
-use Rattle.iloc_spec_grammar.specs.Words.{languages}
+use Rattle.iloc_spec_grammar.specs.Syntax.{Text, languages}
 use Rattle.iloc_spec_parts.specs.Small.{SmallLocale, IsSmall, HasSmallFault}
 use Rattle.iloc_subtags.specs.declared.parse_error.ParseError.{ParseError}
-use Rattle.iloc_subtags.specs.Answers.{Answers, ButDuplicate}
+use Rattle.iloc_subtags.specs.Judging.{Answers, ButDuplicate}
 
 -- a key, and perhaps a value
 abbrev pub Keyword : Type 0

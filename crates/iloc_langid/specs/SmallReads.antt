@@ -1,12 +1,10 @@
 -- What the readers of identifiers with at most one variant answer.
 use Rattle.std.specs.Prelude.{◌≡◌, ℕ, false, List, Option, option_map, Result}
-use Rattle.iloc_spec_grammar.specs.Shapes.{Text}
-use Rattle.iloc_spec_grammar.specs.Words.{Language, Script, Region, Variant, is_word, IsWord, lower, title, upper, languages}
-use Rattle.iloc_spec_grammar.specs.Blocks.{first_piece}
+use Rattle.iloc_spec_grammar.specs.Syntax.{Text, Language, Script, Region, Variant, is_word, IsWord, lower, title, upper, languages, first_piece}
 use Rattle.iloc_spec_grammar.specs.Reading.{take_first, skip_first, rest_of, after_script, after_region}
 use Rattle.iloc_spec_parts.specs.Small.{SmallIdentifier, IsSmallIdentifier, HasSmallIdentifierFault}
 use Rattle.iloc_subtags.specs.declared.parse_error.ParseError.{ParseError}
-use Rattle.iloc_subtags.specs.Answers.{Answers, LanguageFault, OfIdentifier}
+use Rattle.iloc_subtags.specs.Judging.{Answers, LanguageFault, OfIdentifier}
 
 -- a language, and perhaps a script, a region and a variant
 abbrev pub Parts : Type 0

@@ -3,12 +3,8 @@ ghost use Rattle.std.specs.Prelude.{◌≡◌, ◌↔◌, IsTrue, IfSome, Ok, On
 ghost use Rattle.std.specs.Result.{result_and};
 ghost use Rattle.std.specs.Ordering.{nat_cmp};
 ghost use Rattle.std.specs.Cmp.Lexicographic.{slice_cmp};
-ghost use Rattle.iloc_spec_grammar.specs.Words.{languages};
-ghost use Rattle.iloc_spec_grammar.specs.Pieces.{pieces};
-ghost use Rattle.iloc_spec_grammar.specs.Blocks.{head};
-ghost use Rattle.iloc_spec_grammar.specs.Written.{Identifier};
-ghost use Rattle.iloc_spec_grammar.specs.Meaning.{IdentifierMeans};
-ghost use Rattle.iloc_spec_grammar.specs.Faults.{Fault, HasIdentifierFault};
+ghost use Rattle.iloc_spec_grammar.specs.Syntax.{languages, pieces, head, Identifier};
+ghost use Rattle.iloc_spec_grammar.specs.Meaning.{IdentifierMeans, Fault, HasIdentifierFault};
 ghost use Rattle.iloc_spec_grammar.specs.Values.{IsIdentifierValue, IsNormal, identifier_text};
 ghost use Rattle.iloc_spec_orders.specs.Orders.{identifier_cmp};
 ghost use Rattle.iloc_subtags.specs.Judging.{Accepts, Refuses};
@@ -165,7 +161,7 @@ fn look_at<K: WordKind<N>, const N: usize>(word: &Option<WordOf<K, N>>)
 }
 
 impl Pieces for LanguageIdentifier {
-    ghost use Rattle.iloc_spec_grammar.specs.Written.{identifier_pieces};
+    ghost use Rattle.iloc_spec_grammar.specs.Syntax.{identifier_pieces};
     ghost use Rattle.iloc_langid.specs.Reads.{value_of};
 
     ghost pieces = { λ i. identifier_pieces (value_of i) };
@@ -191,12 +187,12 @@ impl Writeable for LanguageIdentifier {
 
     ghost lends = { IsLanguageAlone };
 
-    #[tactic(auto, unfolding(iloc_spec_grammar::specs::Values::identifier_text, iloc_spec_grammar::specs::Pieces::join))]
+    #[tactic(auto, unfolding(iloc_spec_grammar::specs::Values::identifier_text, iloc_spec_grammar::specs::Syntax::join))]
     fn write_to<S: Sink>(&self, sink: &mut S) -> fmt::Result {
         self.write_joined(sink)
     }
 
-    #[tactic(auto, unfolding(iloc_spec_grammar::specs::Values::identifier_text, iloc_spec_grammar::specs::Pieces::join))]
+    #[tactic(auto, unfolding(iloc_spec_grammar::specs::Values::identifier_text, iloc_spec_grammar::specs::Syntax::join))]
     fn writeable_borrow(&self) -> Option<&str> {
         if self.script.is_none() && self.region.is_none() && self.variants.is_empty() {
             return Some(self.language.as_str());

@@ -1,7 +1,7 @@
 //! An identifier in lower case, as a transform prints it.
 ghost use Rattle.std.specs.Prelude.{◌≡◌, [], ◌∷◌, option_map, option_to_list};
 ghost use Rattle.std.specs.List.{flat_map};
-ghost use Rattle.iloc_spec_grammar.specs.Words.{lower};
+ghost use Rattle.iloc_spec_grammar.specs.Syntax.{lower};
 
 use crate::identifier::LanguageIdentifier;
 use iloc_subtags::{WordKind, WordOf};
@@ -30,7 +30,7 @@ impl<const N: usize> Pieces for LowerWord<N> {
     }
 }
 
-#[tactic(auto, unfolding(iloc_spec_grammar::specs::Words::lower))]
+#[tactic(auto, unfolding(iloc_spec_grammar::specs::Syntax::lower))]
 fn lower_word<K: WordKind<N>, const N: usize>(word: &Option<WordOf<K, N>>) -> Option<LowerWord<N>>
     ensures { flat_map (λ w. w.0 ∷ []) (option_to_list result)
         ≡ option_to_list (option_map lower word.now) }
@@ -42,7 +42,7 @@ fn lower_word<K: WordKind<N>, const N: usize>(word: &Option<WordOf<K, N>>) -> Op
 }
 
 impl<'a> Pieces for Lowercase<'a> {
-    ghost use Rattle.iloc_spec_grammar.specs.Written.{identifier_pieces};
+    ghost use Rattle.iloc_spec_grammar.specs.Syntax.{identifier_pieces};
     ghost use Rattle.iloc_spec_grammar.specs.Values.{lower_identifier};
     ghost use Rattle.iloc_langid.specs.Reads.{value_of};
 

@@ -1,8 +1,7 @@
 //! Normal texts of identifiers, and whether a text means an identifier.
 ghost use Rattle.std.specs.Prelude.{◌≡◌, ◌↔◌, IsTrue, IfOk, IfErr};
 ghost use Rattle.std.specs.Cow.{cow_str_bytes};
-ghost use Rattle.iloc_spec_grammar.specs.Pieces.{pieces};
-ghost use Rattle.iloc_spec_grammar.specs.Words.{languages};
+ghost use Rattle.iloc_spec_grammar.specs.Syntax.{pieces, languages};
 ghost use Rattle.iloc_spec_grammar.specs.Meaning.{IdentifierMeans};
 ghost use Rattle.iloc_writeable.specs.Writing.{IsLent};
 

@@ -1,7 +1,6 @@
 //! Takes what most identifiers are: a language, and perhaps a script and a region.
 ghost use Rattle.std.specs.Prelude.{◌≡◌, MatchOption, false};
-ghost use Rattle.iloc_spec_grammar.specs.Blocks.{first_piece};
-ghost use Rattle.iloc_spec_grammar.specs.Words.{Language as language, is_word, languages};
+ghost use Rattle.iloc_spec_grammar.specs.Syntax.{first_piece, Language as language, is_word, languages};
 ghost use Rattle.iloc_subtags.specs.Left.{left};
 ghost use Rattle.iloc_langid.specs.PlainReads.{IsPlainFront};
 

@@ -1,8 +1,7 @@
 //! Parses identifiers from pieces.
 ghost use Rattle.std.specs.Prelude.{◌≡◌, ◌<◌, ◌++◌, [], length, Ok, OnOk, OnErr};
 ghost use Rattle.std.specs.Result.{result_and};
-ghost use Rattle.iloc_spec_grammar.specs.Pieces.{pieces};
-ghost use Rattle.iloc_spec_grammar.specs.Blocks.{head};
+ghost use Rattle.iloc_spec_grammar.specs.Syntax.{pieces, head};
 ghost use Rattle.iloc_spec_grammar.specs.Reading.{after_head};
 ghost use Rattle.iloc_subtags.specs.Left.{left};
 ghost use Rattle.iloc_langid.specs.Reads.{value_of, VariantsGive, FrontGives, FrontReadsAs, ReadsAs};

@@ -1,9 +1,7 @@
 //! Identifiers with at most one variant, which are parsed without allocating.
 ghost use Rattle.std.specs.Prelude.{◌≡◌, IfOk};
-ghost use Rattle.iloc_spec_grammar.specs.Pieces.{pieces};
-ghost use Rattle.iloc_spec_grammar.specs.Words.{languages};
-ghost use Rattle.iloc_spec_grammar.specs.Meaning.{IdentifierMeans};
-ghost use Rattle.iloc_spec_grammar.specs.Faults.{Fault};
+ghost use Rattle.iloc_spec_grammar.specs.Syntax.{pieces, languages};
+ghost use Rattle.iloc_spec_grammar.specs.Meaning.{IdentifierMeans, Fault};
 ghost use Rattle.iloc_spec_parts.specs.Small.{
   SmallIdentifier,
   IsSmallIdentifier,

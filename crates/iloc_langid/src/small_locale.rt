@@ -1,7 +1,7 @@
 //! Parses small locales from the left, in one walk.
 ghost use Rattle.std.specs.Prelude.{◌≡◌, []};
-ghost use Rattle.iloc_spec_grammar.specs.Shapes.{code_u};
-ghost use Rattle.iloc_spec_grammar.specs.Words as words;
+ghost use Rattle.iloc_spec_grammar.specs.Syntax.{code_u};
+ghost use Rattle.iloc_spec_grammar.specs.Syntax as words;
 ghost use Rattle.iloc_subtags.specs.Left.{left};
 ghost use Rattle.iloc_langid.specs.SmallLocaleReads.{SmallLocaleReadsAs};
 ghost use Rattle.iloc_langid.specs.BlockReads.{
@@ -108,7 +108,7 @@ fn read_value(iter: &mut SubtagIterator<'_>) -> Result<Option<Subtag>, ParseErro
 }
 
 // Whether the subtag is `true`.
-#[tactic(auto, unfolding(iloc_spec_grammar::specs::Words::is_true))]
+#[tactic(auto, unfolding(iloc_spec_grammar::specs::Syntax::is_true))]
 fn is_true(word: &Attribute) -> bool
     ensures { result ≡ words.is_true word.now }
 {

@@ -4,12 +4,10 @@ use Rattle.std.specs.Prelude.{if◌then◌else◌}
 use Rattle.std.specs.Char.{is_ascii_alphanumeric, to_ascii_lowercase}
 use Rattle.std.specs.List.{AllByRecursion}
 use Rattle.std.proofs.lemmas.Bool.{cases_Bool, true≢false}
-use Rattle.iloc_spec_grammar.specs.Pieces.{pieces}
-use Rattle.iloc_spec_grammar.specs.Words.{Language, is_word, IsWord, languages}
-use Rattle.iloc_spec_grammar.specs.Blocks.{front, blocks, head, tail_blocks, first_piece}
+use Rattle.iloc_spec_grammar.specs.Syntax.{pieces, Language, is_word, IsWord, languages, front, blocks, head, tail_blocks, first_piece}
 use Rattle.iloc_spec_grammar.specs.Reading.{rest_of, from_block, starts_block, front_of, after_front, after_region, identifier_of}
-use Rattle.iloc_spec_grammar.specs.Faults.{Fault, SpellsIdentifier, not_an_identifier}
-use Rattle.iloc_spec_grammar.specs.Faults as faults
+use Rattle.iloc_spec_grammar.specs.Meaning.{Fault, SpellsIdentifier, not_an_identifier}
+use Rattle.iloc_spec_grammar.specs.Meaning as faults
 use Rattle.iloc_spec_grammar.proofs.PiecesLaws.{at_pieces, pieces_nonempty}
 use Rattle.iloc_spec_grammar.proofs.RawLaws.{languages_table}
 use Rattle.iloc_spec_grammar.proofs.Readings.{IsLong, after_language, long_after_language}

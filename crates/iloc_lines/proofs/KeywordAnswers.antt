@@ -5,14 +5,10 @@ use Rattle.std.specs.Char.{is_ascii_alphanumeric, to_ascii_lowercase}
 use Rattle.std.specs.List.{list_all}
 use Rattle.std.proofs.lemmas.Bool.{cases_Bool, true≢false}
 use Rattle.std.proofs.lemmas.Bool.Decides.{nat_tests}
-use Rattle.iloc_spec_grammar.specs.Pieces.{pieces}
-use Rattle.iloc_spec_grammar.specs.Words.{Kind, Language, Script, Region, UnicodeKey, Attribute, is_word, IsWord, is_same, is_true, languages, lower}
-use Rattle.iloc_spec_grammar.specs.Written.{block_pieces}
-use Rattle.iloc_spec_grammar.specs.Meaning.{normal_values}
-use Rattle.iloc_spec_grammar.specs.Blocks.{is_one_byte, front, blocks, head, tail_blocks, first_piece}
+use Rattle.iloc_spec_grammar.specs.Syntax.{pieces, Kind, Language, Script, Region, UnicodeKey, Attribute, is_word, IsWord, is_same, is_true, languages, lower, block_pieces, is_one_byte, front, blocks, head, tail_blocks, first_piece}
+use Rattle.iloc_spec_grammar.specs.Meaning.{normal_values, Fault}
 use Rattle.iloc_spec_grammar.specs.Reading.{skip_first, rest_of, identifier_of, after_region, after_front}
-use Rattle.iloc_spec_grammar.specs.Faults as faults
-use Rattle.iloc_spec_grammar.specs.Faults.{Fault}
+use Rattle.iloc_spec_grammar.specs.Meaning as faults
 use Rattle.iloc_spec_grammar.proofs.WordsLaws.{length-unicode_key}
 use Rattle.iloc_spec_grammar.proofs.MapLaws.{same_is}
 use Rattle.iloc_spec_grammar.proofs.PiecesLaws.{at_pieces}

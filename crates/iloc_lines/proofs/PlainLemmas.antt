@@ -4,11 +4,9 @@ use Rattle.iloc_spec_grammar.specs.Values.{identifier_text}
 use Rattle.iloc_plain.specs.Plain.{IsPlain, value_of}
 use Rattle.iloc_plain.specs.declared.plain.Plain.{Plain}
 use Rattle.iloc_lines.proofs.PlainAnswers.{identifier_answer, locale_answer, data_answer}
-use Rattle.iloc_spec_grammar.specs.Pieces.{pieces}
-use Rattle.iloc_spec_grammar.specs.Blocks.{first_piece, head}
-use Rattle.iloc_spec_grammar.specs.Words.{Language, is_word, languages}
-use Rattle.iloc_spec_grammar.specs.Faults.{not_a_language}
-use Rattle.iloc_spec_grammar.specs.Faults as faults
+use Rattle.iloc_spec_grammar.specs.Syntax.{pieces, first_piece, head, Language, is_word, languages}
+use Rattle.iloc_spec_grammar.specs.Meaning.{not_a_language}
+use Rattle.iloc_spec_grammar.specs.Meaning as faults
 use Rattle.iloc_spec_grammar.proofs.RawLaws.{languages_table}
 use Rattle.iloc_spec_parts.specs.Small as small
 use Rattle.iloc_spec_preferences.specs.DataLocales.{not_small}

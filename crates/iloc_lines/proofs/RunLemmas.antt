@@ -7,7 +7,7 @@ use Rattle.std.specs.Io.{StartsWith}
 use Rattle.std.specs.Io.KnownBytes.{Appends, Consumes, IsAtEnd, Keeps}
 use Rattle.iloc_lines.specs.declared.Mode.{Mode}
 use Rattle.iloc_spec_grammar.proofs.RawLaws.{languages_table}
-use Rattle.iloc_spec_grammar.specs.Words.{languages}
+use Rattle.iloc_spec_grammar.specs.Syntax.{languages}
 use Rattle.iloc_spec_output.specs.Output.{IsOutput}
 use Rattle.iloc_spec_output.proofs.OutputLaws.{is_output}
 use Rattle.iloc_lines.specs.Output.{mode_of, output, BeginsOutput, WritesAll, WritesBeginning}

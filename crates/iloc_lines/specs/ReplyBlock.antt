@@ -1,7 +1,7 @@
 -- The bytes of a block of replies, and the block as a sink.
 use Rattle.std.specs.Prelude.{◌≡◌, [], ◌++◌, take}
 use Rattle.std.proofs.Common.{sym, ◌∙◌, ap, append_assoc, append-nil}
-use Rattle.iloc_spec_grammar.specs.Shapes.{Text}
+use Rattle.iloc_spec_grammar.specs.Syntax.{Text}
 use Rattle.iloc_lines.specs.declared.reply_block.ReplyBlock.{ReplyBlock}
 
 -- the bytes that count

@@ -1,6 +1,6 @@
 -- What is told of a line at once.
 use Rattle.std.specs.Prelude.{◌≡◌, ⊤}
-use Rattle.iloc_spec_grammar.specs.Shapes.{Text}
+use Rattle.iloc_spec_grammar.specs.Syntax.{Text}
 use Rattle.iloc_plain.specs.Ordered.{IsStored, text_of}
 use Rattle.iloc_plain.specs.declared.ordered.Ordered.{Ordered}
 use Rattle.iloc_lines.specs.Output.{IsRefused, line_answer}

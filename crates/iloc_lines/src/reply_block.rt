@@ -23,7 +23,7 @@ pub struct ReplyBlock {
 impl ReplyBlock {
     ghost use Rattle.iloc_lines.specs.ReplyBlock.{held};
     ghost use Rattle.iloc_spec_grammar.specs.Values.{identifier_text};
-    ghost use Rattle.iloc_spec_grammar.specs.Words.{lower};
+    ghost use Rattle.iloc_spec_grammar.specs.Syntax.{lower};
     ghost use Rattle.iloc_plain.specs.Plain.{AreWords, value_of};
     ghost use Rattle.iloc_plain.specs.Ordered.{IsStored, text_of};
 

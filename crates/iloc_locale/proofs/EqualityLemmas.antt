@@ -6,7 +6,7 @@ use Rattle.iloc_langid.specs.Reads as langid
 use Rattle.iloc_langid.specs.declared.identifier.LanguageIdentifier.{LanguageIdentifier}
 use Rattle.iloc_extensions.specs.ExtensionsValue as extensions
 use Rattle.iloc_extensions.specs.declared.extensions.Extensions.{Extensions}
-use Rattle.iloc_locale.specs.LocaleValue.{value_of}
+use Rattle.iloc_locale.specs.LocaleReading.{value_of}
 use Rattle.iloc_locale.specs.declared.locale.Locale.{Locale}
 
 -- by identifier and extensions

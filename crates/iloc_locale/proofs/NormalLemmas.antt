@@ -1,12 +1,10 @@
 -- From the locale that was read to its normal text.
 use Rattle.std.proofs.Common.{◌≡◌, inl, inr, ◌↔◌, IsTrue, ℕ, ◌≤◌, Bool, true, false, List, length, refl, sym, ap, ◌∙◌, subst, append-nil, true≢false, IfOk, Err, Ok, Result}
-use Rattle.iloc_spec_grammar.specs.Words.{languages}
+use Rattle.iloc_spec_grammar.specs.Syntax.{languages, Identifier, join}
 use Rattle.iloc_spec_grammar.specs.Meaning as meaning
 use Rattle.iloc_spec_grammar.specs.Meaning.{Extensions, Means, no_extensions}
 use Rattle.iloc_spec_grammar.specs.Values.{IsValue, IsWellFormed, text, identifier_text}
-use Rattle.iloc_spec_grammar.specs.Written.{Identifier}
-use Rattle.iloc_spec_grammar.specs.Pieces.{join}
-use Rattle.iloc_spec_grammar.specs.Faults as faults
+use Rattle.iloc_spec_grammar.specs.Meaning as faults
 use Rattle.iloc_spec_grammar.proofs.FaultLaws.{accepted_no_fault}
 use Rattle.std.specs.Ordering.{is_eq}
 use Rattle.iloc_spec_orders.specs.Orders.{locale_cmp}
@@ -18,8 +16,7 @@ use Rattle.iloc_spec_grammar.proofs.ReadBack.{reads_back}
 use Rattle.iloc_spec_grammar.proofs.Readings as readings
 use Rattle.iloc_subtags.specs.declared.parse_error.ParseError.{ParseError}
 use Rattle.iloc_subtags.specs.declared.parse_error.ParseError.TheVariants.{InvalidLanguage, InvalidSubtag, InvalidExtension, DuplicatedExtension, OutOfMemory}
-use Rattle.iloc_locale.specs.Reads.{LocaleReads, MeansOnly}
-use Rattle.iloc_locale.specs.Normalizing.{IsTextOf, IsNormalizedFrom, NormalizingWantsMemory}
+use Rattle.iloc_locale.specs.LocaleReading.{LocaleReads, MeansOnly, IsTextOf, IsNormalizedFrom, NormalizingWantsMemory}
 use Rattle.iloc_locale.proofs.ReadLemmas.{inline_wants_none}
 use Rattle.iloc_spec_parts.specs.Inline.{IsInline}
 use Rattle.std.specs.Cmp.{Equal-is}

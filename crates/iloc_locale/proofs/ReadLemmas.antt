@@ -2,18 +2,13 @@
 use Rattle.std.specs.Prelude.{⊤}
 use Rattle.std.proofs.Common.{◌≡◌, inl, inr, ℕ, zero, suc, ◌<◌, true, false, List, [], ◌∷◌, length, refl, sym, ap, ◌∙◌, subst, arith, Result, Ok, Err, IfOk}
 use Rattle.std.specs.Result.{result_and}
-use Rattle.iloc_spec_grammar.specs.Pieces.{pieces}
-use Rattle.iloc_spec_grammar.specs.Words.{Language, is_word, IsWord, languages, two_or_three}
-use Rattle.iloc_spec_grammar.specs.Written.{identifier_pieces}
+use Rattle.iloc_spec_grammar.specs.Syntax.{pieces, Language, is_word, IsWord, languages, two_or_three, identifier_pieces, head, blocks, tail_blocks, first_piece}
 use Rattle.iloc_spec_grammar.specs.Meaning as meaning
-use Rattle.iloc_spec_grammar.specs.Meaning.{Means}
+use Rattle.iloc_spec_grammar.specs.Meaning.{Means, Fault, HasFault, no_language, no_identifier, bad_block, SpellsIdentifier, not_a_language, not_an_identifier}
 use Rattle.iloc_spec_grammar.specs.ByBlocks.{BlocksMean}
-use Rattle.iloc_spec_grammar.specs.Values.{IsValue, IsWellFormed}
-use Rattle.iloc_spec_grammar.specs.Blocks.{head, blocks, tail_blocks, first_piece}
+use Rattle.iloc_spec_grammar.specs.Values.{IsValue, IsWellFormed, Chain}
 use Rattle.iloc_spec_grammar.specs.Reading.{rest_of, front_of, after_head, starts_block}
-use Rattle.iloc_spec_grammar.specs.Faults as faults
-use Rattle.iloc_spec_grammar.specs.Faults.{Fault, HasFault, no_language, no_identifier, bad_block, SpellsIdentifier, not_a_language, not_an_identifier}
-use Rattle.iloc_spec_grammar.specs.Steps.{Chain}
+use Rattle.iloc_spec_grammar.specs.Meaning as faults
 use Rattle.iloc_spec_grammar.proofs.RawLaws.{languages_table}
 use Rattle.iloc_spec_grammar.proofs.BlockLaws.{blocks_mean}
 use Rattle.iloc_spec_grammar.proofs.FaultLaws.{accepted_no_fault, one_fault}
@@ -23,8 +18,7 @@ use Rattle.iloc_spec_grammar.proofs.CaseLaws.{text_step_means}
 use Rattle.iloc_spec_grammar.proofs.Readings as readings
 use Rattle.iloc_spec_grammar.proofs.Readings.{head-spelling}
 use Rattle.iloc_spec_grammar.proofs.ReadingLaws.{from_block_starts, front_of-pieces}
-use Rattle.iloc_spec_parts.specs.Inline.{IsInline}
-use Rattle.iloc_spec_parts.specs.InlineBlocks.{ReachesLongBlock}
+use Rattle.iloc_spec_parts.specs.Inline.{IsInline, ReachesLongBlock}
 use Rattle.iloc_spec_parts.proofs.InlineBlockLaws.{inline_by_blocks, none_long}
 use Rattle.iloc_subtags.specs.declared.parse_error.ParseError.{ParseError}
 use Rattle.iloc_subtags.specs.declared.parse_error.ParseError.TheVariants.{InvalidLanguage, InvalidSubtag, InvalidExtension, DuplicatedExtension, OutOfMemory}
@@ -35,10 +29,9 @@ use Rattle.iloc_extensions.specs.ExtensionsValue as extensions
 use Rattle.iloc_extensions.specs.Whole.{BlocksReadAs}
 use Rattle.iloc_extensions.proofs.RoundLaws.{blocks-from_block}
 use Rattle.iloc_locale.specs.declared.locale.Locale.{Locale}
-use Rattle.iloc_locale.specs.LocaleValue.{value_of, unknown_locale}
+use Rattle.iloc_locale.specs.LocaleReading.{value_of, unknown_locale, WantsMemory, RunsOutOnlyIf, LocaleReads, LocaleReadsAs}
 use Rattle.iloc_subtags.specs.Judging.{Accepts, Refuses}
 use Rattle.iloc_subtags.proofs.Judged.{Judges, accepts, refuses}
-use Rattle.iloc_locale.specs.Reads.{WantsMemory, RunsOutOnlyIf, LocaleReads, LocaleReadsAs}
 
 -- the head and the blocks after it
 

@@ -1,14 +1,12 @@
 -- What the reader of small locales owes to each text.
 use Rattle.std.proofs.Common.{ℕ, List, Result, Ok, Err, IfOk}
-use Rattle.iloc_spec_grammar.specs.Words.{languages}
-use Rattle.iloc_spec_grammar.specs.Meaning.{Means}
-use Rattle.iloc_spec_grammar.specs.Faults.{Fault}
+use Rattle.iloc_spec_grammar.specs.Syntax.{languages}
+use Rattle.iloc_spec_grammar.specs.Meaning.{Means, Fault}
 use Rattle.iloc_spec_grammar.proofs.RawLaws.{languages_table}
 use Rattle.iloc_spec_parts.specs.Small.{SmallLocale, IsSmall, HasSmallFault, locale_of_small}
 use Rattle.iloc_spec_parts.proofs.SmallLaws.{small_means, one_small, small_apart, one_small_fault}
 use Rattle.iloc_subtags.specs.declared.parse_error.ParseError.{ParseError}
-use Rattle.iloc_subtags.specs.Answers.{ButDuplicate}
-use Rattle.iloc_subtags.specs.Judging.{Accepts, Refuses}
+use Rattle.iloc_subtags.specs.Judging.{ButDuplicate, Accepts, Refuses}
 use Rattle.iloc_subtags.proofs.Judged.{Judges, accepts, refuses, but_duplicate}
 use Rattle.iloc_langid.specs.SmallLocaleReads.{LocaleParts, small_locale_of, SmallLocaleReadsAs}
 

@@ -1,4 +1,2 @@
-pub mod LocaleValue
-pub mod Reads
-pub mod Normalizing
+pub mod LocaleReading
 pub mod Order

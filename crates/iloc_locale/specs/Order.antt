@@ -6,7 +6,7 @@ use Rattle.std.specs.Cmp.{IsTotalOrder, on_total}
 use Rattle.iloc_spec_grammar.specs.Meaning.{Locale}
 use Rattle.iloc_spec_orders.specs.Orders.{locale_cmp}
 use Rattle.iloc_spec_orders.proofs.OrderLaws.{locale_exact}
-use Rattle.iloc_locale.specs.LocaleValue as locale
+use Rattle.iloc_locale.specs.LocaleReading as locale
 use Rattle.iloc_locale.specs.declared.ordered.OrderedLocale.{OrderedLocale}
 
 -- the value of the locale

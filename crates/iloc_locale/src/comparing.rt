@@ -2,7 +2,7 @@
 ghost use Rattle.std.specs.Prelude.{◌≡◌, ◌↔◌, false, IsTrue, IfOk};
 ghost use Rattle.std.specs.Ordering.{nat_cmp};
 ghost use Rattle.std.specs.Cmp.Lexicographic.{slice_cmp};
-ghost use Rattle.iloc_spec_grammar.specs.Words.{languages};
+ghost use Rattle.iloc_spec_grammar.specs.Syntax.{languages};
 ghost use Rattle.iloc_spec_grammar.specs.Meaning.{Means};
 ghost use Rattle.iloc_spec_grammar.specs.Values.{text};
 ghost use Rattle.iloc_spec_orders.specs.Orders.{locale_cmp};
@@ -14,7 +14,7 @@ use std::alloc::{AllocError, Global};
 use std::cmp::Ordering;
 
 impl Locale {
-    ghost use Rattle.iloc_locale.specs.LocaleValue.{value_of};
+    ghost use Rattle.iloc_locale.specs.LocaleReading.{value_of};
 
     /// The byte order of the printed text against the bytes, for every locale. It makes no text.
     pub fn strict_cmp(&self, other: &[u8]) -> Ordering

@@ -10,7 +10,7 @@ use iloc_subtags::{Language, Region, Script};
 use std::alloc::Global;
 
 impl Locale {
-    ghost use Rattle.iloc_locale.specs.LocaleValue.{value_of};
+    ghost use Rattle.iloc_locale.specs.LocaleReading.{value_of};
 
     /// The identifier.
     pub fn as_langid(&self) -> &LanguageIdentifier

@@ -15,15 +15,10 @@
 #![tactic(auto)]
 
 ghost use Rattle.std.specs.Prelude.{◌≡◌, ◌↔◌, IsTrue};
-ghost use Rattle.iloc_spec_grammar.specs.Shapes.{Text};
-ghost use Rattle.iloc_spec_grammar.specs.Pieces.{pieces};
-ghost use Rattle.iloc_spec_grammar.specs.Words.{Language, IsWord, languages};
-ghost use Rattle.iloc_spec_grammar.specs.Blocks.{first_piece};
+ghost use Rattle.iloc_spec_grammar.specs.Syntax.{Text, pieces, Language, IsWord, languages, first_piece};
 ghost use Rattle.iloc_spec_parts.specs.Inline.{IsInline};
 ghost use Rattle.iloc_spec_orders.specs.Hashes.{locale_fed};
-ghost use Rattle.iloc_locale.specs.Reads.{WantsMemory};
-ghost use Rattle.iloc_locale.specs.Normalizing.{IsTextOf, NormalizingWantsMemory};
-ghost use Rattle.iloc_locale.specs.LocaleValue.{value_of};
+ghost use Rattle.iloc_locale.specs.LocaleReading.{WantsMemory, IsTextOf, NormalizingWantsMemory, value_of};
 
 use std::hash::Hash;
 

@@ -1,20 +1,14 @@
 //! The type, and its parsers.
 ghost use Rattle.std.specs.Prelude.{◌≡◌, ⊤, ℕ, true, List, IfOk, Ok, OnErr};
 ghost use Rattle.std.specs.Result.{result_and};
-ghost use Rattle.iloc_spec_grammar.specs.Shapes.{Text};
-ghost use Rattle.iloc_spec_grammar.specs.Pieces.{pieces};
-ghost use Rattle.iloc_spec_grammar.specs.Words.{languages, two_or_three};
+ghost use Rattle.iloc_spec_grammar.specs.Syntax.{Text, pieces, languages, two_or_three, head};
 ghost use Rattle.iloc_spec_grammar.specs.Meaning as meaning;
-ghost use Rattle.iloc_spec_grammar.specs.Meaning.{Means};
-ghost use Rattle.iloc_spec_grammar.specs.Blocks.{head};
+ghost use Rattle.iloc_spec_grammar.specs.Meaning.{Means, Fault, HasFault};
 ghost use Rattle.iloc_spec_grammar.specs.Reading.{after_head, starts_block};
-ghost use Rattle.iloc_spec_grammar.specs.Faults.{Fault, HasFault};
-ghost use Rattle.iloc_spec_grammar.specs.Steps.{Chain};
-ghost use Rattle.iloc_spec_grammar.specs.Values.{IsValue, IsWellFormed};
+ghost use Rattle.iloc_spec_grammar.specs.Values.{Chain, IsValue, IsWellFormed};
 ghost use Rattle.iloc_subtags.specs.Left.{left};
 ghost use Rattle.iloc_langid.specs.Reads as langid;
-ghost use Rattle.iloc_locale.specs.LocaleValue.{value_of, unknown_locale};
-ghost use Rattle.iloc_locale.specs.Reads.{LocaleReadsAs};
+ghost use Rattle.iloc_locale.specs.LocaleReading.{value_of, unknown_locale, LocaleReadsAs};
 
 use iloc_extensions::{Extensions, read_blocks};
 use iloc_langid::LanguageIdentifier;
@@ -43,7 +37,7 @@ pub struct Locale {
 impl Locale {
     ghost use Rattle.iloc_extensions.specs.ExtensionsValue as extensions;
     ghost use Rattle.iloc_spec_grammar.specs.Meaning.{no_extensions};
-    ghost use Rattle.iloc_locale.specs.Reads.{LocaleReads, RunsOutOnlyIf, WantsMemory};
+    ghost use Rattle.iloc_locale.specs.LocaleReading.{LocaleReads, RunsOutOnlyIf, WantsMemory};
     ghost use Rattle.iloc_subtags.specs.Judging.{Accepts, Refuses};
 
     /// The unknown locale, `und`.

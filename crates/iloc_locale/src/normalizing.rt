@@ -1,15 +1,13 @@
 //! Normal texts of locales, and whether a locale has one.
 ghost use Rattle.std.specs.Prelude.{◌≡◌, ◌↔◌, ⊤, IsTrue, IfOk, IfErr};
 ghost use Rattle.std.specs.Cow.{cow_str_bytes};
-ghost use Rattle.iloc_spec_grammar.specs.Words.{languages};
+ghost use Rattle.iloc_spec_grammar.specs.Syntax.{languages};
 ghost use Rattle.iloc_spec_grammar.specs.Meaning as meaning;
-ghost use Rattle.iloc_spec_grammar.specs.Meaning.{Means};
+ghost use Rattle.iloc_spec_grammar.specs.Meaning.{Means, Fault, HasFault};
 ghost use Rattle.iloc_spec_grammar.specs.Values.{IsValue, IsWellFormed, text};
 ghost use Rattle.iloc_writeable.specs.Writing.{IsLent};
-ghost use Rattle.iloc_spec_grammar.specs.Faults.{Fault, HasFault};
 ghost use Rattle.iloc_spec_parts.specs.Small.{SmallLocale, IsSmall, HasSmallFault, locale_of_small};
-ghost use Rattle.iloc_subtags.specs.Answers.{Refusal};
-ghost use Rattle.iloc_subtags.specs.Judging.{Accepts, Refuses};
+ghost use Rattle.iloc_subtags.specs.Judging.{Refusal, Accepts, Refuses};
 ghost use Rattle.iloc_langid.specs.SmallLocaleReads.{SmallLocaleReadsAs, small_locale_of};
 
 use crate::locale::Locale;
@@ -21,9 +19,7 @@ use std::alloc::Global;
 use std::borrow::CowStr;
 
 impl Locale {
-    ghost use Rattle.iloc_locale.specs.LocaleValue.{value_of};
-    ghost use Rattle.iloc_locale.specs.Reads.{RunsOutOnlyIf};
-    ghost use Rattle.iloc_locale.specs.Normalizing.{IsNormalizedFrom, NormalizingWantsMemory};
+    ghost use Rattle.iloc_locale.specs.LocaleReading.{value_of, RunsOutOnlyIf, IsNormalizedFrom, NormalizingWantsMemory};
 
     /// The normal text of what the text means, borrowed exactly if the text is that already.
     ///

@@ -11,8 +11,7 @@ use std::borrow::CowStr;
 use std::fmt;
 
 impl Locale {
-    ghost use Rattle.iloc_locale.specs.LocaleValue.{value_of, IsLanguageAlone};
-    ghost use Rattle.iloc_locale.specs.Reads.{MeansOnly};
+    ghost use Rattle.iloc_locale.specs.LocaleReading.{value_of, IsLanguageAlone, MeansOnly};
 
     /// Returns the printed text, borrowed exactly if the locale is a language alone.
     ///
@@ -33,9 +32,9 @@ impl Locale {
 
 /// The pieces are those of the identifier, and then those of the extensions.
 impl Pieces for Locale {
-    ghost use Rattle.iloc_spec_grammar.specs.Written.{spelling};
+    ghost use Rattle.iloc_spec_grammar.specs.Syntax.{spelling};
     ghost use Rattle.iloc_spec_grammar.specs.Values.{printed};
-    ghost use Rattle.iloc_locale.specs.LocaleValue.{value_of};
+    ghost use Rattle.iloc_locale.specs.LocaleReading.{value_of};
 
     ghost pieces = { λ l. spelling (printed (value_of l)) };
 
@@ -52,13 +51,13 @@ impl Pieces for Locale {
 /// locale, well-formed or not, and borrowed if there is a language and nothing else.
 impl Writeable for Locale {
     ghost use Rattle.iloc_spec_grammar.specs.Values.{text};
-    ghost use Rattle.iloc_locale.specs.LocaleValue.{value_of, IsLanguageAlone};
+    ghost use Rattle.iloc_locale.specs.LocaleReading.{value_of, IsLanguageAlone};
 
     ghost text = { λ l. text (value_of l) };
 
     ghost lends = { IsLanguageAlone };
 
-    #[tactic(auto, unfolding(iloc_spec_grammar::specs::Pieces::join))]
+    #[tactic(auto, unfolding(iloc_spec_grammar::specs::Syntax::join))]
     fn write_to<S: Sink>(&self, sink: &mut S) -> fmt::Result {
         self.write_joined(sink)
     }
@@ -75,7 +74,7 @@ impl Writeable for Locale {
 impl fmt::Debug for Locale {
     ghost use Rattle.std.specs.Prelude.{Some};
     ghost use Rattle.iloc_spec_grammar.specs.Values.{text};
-    ghost use Rattle.iloc_locale.specs.LocaleValue.{value_of};
+    ghost use Rattle.iloc_locale.specs.LocaleReading.{value_of};
 
     ghost debug_output = { λ l. Some (text (value_of l)) };
 
@@ -87,7 +86,7 @@ impl fmt::Debug for Locale {
 impl fmt::Display for Locale {
     ghost use Rattle.std.specs.Prelude.{Some};
     ghost use Rattle.iloc_spec_grammar.specs.Values.{text};
-    ghost use Rattle.iloc_locale.specs.LocaleValue.{value_of};
+    ghost use Rattle.iloc_locale.specs.LocaleReading.{value_of};
 
     ghost output = { λ l. Some (text (value_of l)) };
 

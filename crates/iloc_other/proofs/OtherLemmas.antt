@@ -8,9 +8,8 @@ use Rattle.std.proofs.lemmas.List.{map-append}
 use Rattle.std.proofs.lemmas.List.Elements.{All-cons, All-nil}
 use Rattle.std.proofs.lemmas.Str.{IsUtf8-from_ascii}
 use Rattle.std.proofs.lemmas.Str.Ascii.{IsAscii-from_all}
-use Rattle.iloc_spec_grammar.specs.Words.{Subtag, is_word, lower}
-use Rattle.iloc_spec_grammar.specs.Written.{kept}
-use Rattle.iloc_spec_grammar.specs.Faults as faults
+use Rattle.iloc_spec_grammar.specs.Syntax.{Subtag, is_word, lower, kept}
+use Rattle.iloc_spec_grammar.specs.Meaning as faults
 use Rattle.iloc_spec_grammar.specs.Reading.{take_first, skip_first, passing, past}
 use Rattle.iloc_spec_parts.specs.Fronts.{has_other_length, other_front, OtherRead, OtherFault, no_word}
 

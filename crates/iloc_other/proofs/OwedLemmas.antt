@@ -1,11 +1,10 @@
 -- What the readers owe to each text.
 use Rattle.std.proofs.Common.{◌≡◌, ℕ, List, ap, Result, Ok, Err}
-use Rattle.iloc_spec_grammar.specs.Pieces.{pieces}
-use Rattle.iloc_spec_grammar.specs.Faults as faults
-use Rattle.iloc_spec_grammar.specs.Faults.{Fault}
+use Rattle.iloc_spec_grammar.specs.Syntax.{pieces}
+use Rattle.iloc_spec_grammar.specs.Meaning as faults
+use Rattle.iloc_spec_grammar.specs.Meaning.{Fault}
 use Rattle.iloc_subtags.specs.declared.parse_error.ParseError.{ParseError}
-use Rattle.iloc_subtags.specs.Answers.{ExtensionFault}
-use Rattle.iloc_subtags.specs.Judging.{Accepts, Refuses}
+use Rattle.iloc_subtags.specs.Judging.{ExtensionFault, Accepts, Refuses}
 use Rattle.iloc_subtags.proofs.Judged.{Judges, accepts, refuses, of_extension}
 use Rattle.iloc_spec_parts.specs.Parts.{OtherText, OtherTextFault, PrivateText, PrivateTextFault}
 use Rattle.iloc_spec_parts.proofs.PartReaders.{other_part, private_part}

@@ -1,7 +1,7 @@
 -- A part that begins with a singleton.
 use Rattle.std.proofs.Common.{◌≡◌, ℕ, Bool, true, false, List, [], ◌∷◌, refl, sym, ap, ◌∙◌, Some, None}
 use Rattle.std.specs.Char.{to_ascii_lowercase}
-use Rattle.iloc_spec_grammar.specs.Faults.{Fault, InvalidExtension}
+use Rattle.iloc_spec_grammar.specs.Meaning.{Fault, InvalidExtension}
 use Rattle.iloc_spec_grammar.specs.Reading.{rest_of}
 use Rattle.iloc_spec_parts.specs.Parts.{PartRead, PartFault, no_singleton, after_singleton, begins_part}
 use Rattle.iloc_other.specs.Singleton.{singleton_at}

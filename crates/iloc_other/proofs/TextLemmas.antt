@@ -1,15 +1,13 @@
 -- Texts that are read as a part with its singleton.
 use Rattle.std.proofs.Common.{◌≡◌, ◌≢◌, ℕ, ◌<◌, true, false, List, length, refl, sym, ap, ◌∙◌, subst, arith, Some, None, Result, Ok, Err}
 use Rattle.std.proofs.lemmas.Bool.Decides.{nat_tests}
-use Rattle.iloc_spec_grammar.specs.Pieces.{pieces}
-use Rattle.iloc_spec_grammar.specs.Written.{kept, is_other_singleton}
-use Rattle.iloc_spec_grammar.specs.Faults as faults
+use Rattle.iloc_spec_grammar.specs.Syntax.{pieces, kept, is_other_singleton}
+use Rattle.iloc_spec_grammar.specs.Meaning as faults
 use Rattle.iloc_spec_grammar.specs.Reading.{rest_of}
-use Rattle.iloc_spec_parts.specs.Fronts.{OtherRead, OtherFault, PrivateRead, PrivateFault, other_front}
+use Rattle.iloc_spec_parts.specs.Fronts.{OtherRead, OtherFault, PrivateRead, PrivateFault, other_front, private_front}
 use Rattle.iloc_spec_parts.specs.Parts.{PartRead, is_letter, OtherTextFault, PrivateTextFault}
 use Rattle.iloc_subtags.specs.declared.parse_error.ParseError.{ParseError}
 use Rattle.iloc_subtags.specs.declared.parse_error.ParseError.TheVariants.{InvalidLanguage, InvalidSubtag, InvalidExtension, DuplicatedExtension, OutOfMemory}
-use Rattle.iloc_spec_parts.specs.Fronts.{private_front}
 use Rattle.iloc_other.specs.Reading.{PrivateReads, PrivateTextReads, OtherReads, OtherTextReads}
 use Rattle.iloc_other.specs.Singleton.{singleton_at}
 use Rattle.iloc_other.proofs.SingletonLemmas.{begins, part_reads, part_fault, part_other, part_none}

@@ -1,14 +1,12 @@
 -- What the readers of the private extension and of other extensions answer.
 use Rattle.std.specs.Prelude.{◌≡◌, ℕ, ◌<◌, true, List, length, Result}
-use Rattle.iloc_spec_grammar.specs.Shapes.{Text, code_x}
-use Rattle.iloc_spec_grammar.specs.Pieces.{pieces}
-use Rattle.iloc_spec_grammar.specs.Written.{kept, is_other_singleton}
-use Rattle.iloc_spec_grammar.specs.Faults as faults
+use Rattle.iloc_spec_grammar.specs.Syntax.{Text, code_x, pieces, kept, is_other_singleton}
+use Rattle.iloc_spec_grammar.specs.Meaning as faults
 use Rattle.iloc_spec_grammar.specs.Reading.{rest_of}
 use Rattle.iloc_spec_parts.specs.Fronts.{OtherRead, OtherFault, PrivateRead, PrivateFault, other_front, private_front}
 use Rattle.iloc_spec_parts.specs.Parts.{begins_part, is_letter, OtherText, OtherTextFault, PrivateText, PrivateTextFault}
 use Rattle.iloc_subtags.specs.declared.parse_error.ParseError.{ParseError}
-use Rattle.iloc_subtags.specs.Answers.{Answers, ExtensionFault}
+use Rattle.iloc_subtags.specs.Judging.{Answers, ExtensionFault}
 
 -- What the pieces after `x` are read as, and the pieces that are left. Memory may run out only for a fifth word.
 abbrev pub PrivateReads : List Text → List Text → Result (List Text) ParseError → Type 0

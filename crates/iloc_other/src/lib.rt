@@ -9,7 +9,7 @@
 #![tactic(auto)]
 
 ghost use Rattle.std.specs.Prelude.{◌≡◌, ◌↔◌, IsTrue, ℕ, List};
-ghost use Rattle.iloc_spec_grammar.specs.Shapes.{Text};
+ghost use Rattle.iloc_spec_grammar.specs.Syntax.{Text};
 ghost use Rattle.iloc_spec_orders.specs.Orders.{words_cmp, other_cmp};
 ghost use Rattle.iloc_spec_orders.specs.Hashes.{words_fed, other_fed};
 

@@ -3,11 +3,10 @@ ghost use Rattle.std.specs.Prelude.{◌≡◌, ℕ, List, ◌<◌, ◌++◌, ◌
 ghost use Rattle.std.specs.Char.{is_ascii_alphanumeric};
 ghost use Rattle.std.specs.List.{AllByRecursion};
 ghost use Rattle.std.specs.Option.{option_copied};
-ghost use Rattle.iloc_spec_grammar.specs.Words.{Subtag as the_kind, is_word, lower};
-ghost use Rattle.iloc_spec_grammar.specs.Written.{is_other_singleton};
+ghost use Rattle.iloc_spec_grammar.specs.Syntax.{Subtag as the_kind, is_word, lower, is_other_singleton};
 ghost use Rattle.iloc_spec_grammar.specs.Reading.{take_first, skip_first};
 ghost use Rattle.iloc_spec_grammar.specs.Values.{IsNormal, other_spelling, other_text};
-ghost use Rattle.iloc_spec_grammar.specs.Faults.{Fault};
+ghost use Rattle.iloc_spec_grammar.specs.Meaning.{Fault};
 ghost use Rattle.iloc_spec_parts.specs.Fronts.{has_other_length};
 ghost use Rattle.iloc_spec_parts.specs.Parts.{OtherText, OtherTextFault};
 ghost use Rattle.iloc_subtags.specs.Judging.{Accepts, Refuses};
@@ -212,7 +211,7 @@ impl Pieces for Other {
 impl Writeable for Other {
     ghost text = { other_text };
 
-    #[tactic(auto, unfolding(iloc_spec_grammar::specs::Values::other_text, iloc_spec_grammar::specs::Pieces::join))]
+    #[tactic(auto, unfolding(iloc_spec_grammar::specs::Values::other_text, iloc_spec_grammar::specs::Syntax::join))]
     fn write_to<S: Sink>(&self, sink: &mut S) -> fmt::Result {
         self.write_joined(sink)
     }

@@ -4,13 +4,10 @@ ghost use Rattle.std.specs.List.{AllByRecursion};
 ghost use Rattle.std.specs.Option.{option_copied};
 ghost use Rattle.std.specs.Result.{result_and};
 ghost use Rattle.std.specs.Slice.Iter.{iter_rest};
-ghost use Rattle.iloc_spec_grammar.specs.Shapes.{Text};
-ghost use Rattle.iloc_spec_grammar.specs.Values.{private_text, private_spelling};
-ghost use Rattle.iloc_spec_grammar.specs.Pieces.{pieces};
-ghost use Rattle.iloc_spec_grammar.specs.Values.{IsNormal};
-ghost use Rattle.iloc_spec_grammar.specs.Words.{PrivateSubtag as the_kind};
+ghost use Rattle.iloc_spec_grammar.specs.Syntax.{Text, pieces, PrivateSubtag as the_kind};
+ghost use Rattle.iloc_spec_grammar.specs.Values.{private_text, private_spelling, IsNormal};
 ghost use Rattle.iloc_subtags.specs.Left.{left};
-ghost use Rattle.iloc_spec_grammar.specs.Faults.{Fault};
+ghost use Rattle.iloc_spec_grammar.specs.Meaning.{Fault};
 ghost use Rattle.iloc_spec_parts.specs.Parts.{PrivateText, PrivateTextFault};
 ghost use Rattle.iloc_subtags.specs.Judging.{Accepts, Refuses};
 ghost use Rattle.iloc_other.specs.Reading.{PrivateReads, PrivateTextReads, PrivateTextWants};
@@ -228,7 +225,7 @@ impl Pieces for Private {
 impl Writeable for Private {
     ghost text = { private_text };
 
-    #[tactic(auto, unfolding(iloc_spec_grammar::specs::Values::private_text, iloc_spec_grammar::specs::Pieces::join))]
+    #[tactic(auto, unfolding(iloc_spec_grammar::specs::Values::private_text, iloc_spec_grammar::specs::Syntax::join))]
     fn write_to<S: Sink>(&self, sink: &mut S) -> fmt::Result {
         self.write_joined(sink)
     }

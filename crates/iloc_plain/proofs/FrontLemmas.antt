@@ -6,9 +6,7 @@ use Rattle.std.proofs.lemmas.Bool.{cases_lt, cases_Bool, and_parts}
 use Rattle.std.proofs.lemmas.Bool.Decides.{nat_tests}
 use Rattle.std.proofs.lemmas.List.{get_or-take, length-drop, length-take-le, take-take, drop-take}
 use Rattle.std.proofs.lemmas.List.Splits.{slice_split-cons_yes, slice_split-cons_no}
-use Rattle.iloc_spec_grammar.specs.Pieces.{pieces}
-use Rattle.iloc_spec_grammar.specs.Blocks.{first_piece}
-use Rattle.iloc_spec_grammar.specs.Words.{Kind, Attribute, Language, Script, Region, UnicodeKey, Variant, PrivateSubtag, is_word, IsWord, languages}
+use Rattle.iloc_spec_grammar.specs.Syntax.{pieces, first_piece, Kind, Attribute, Language, Script, Region, UnicodeKey, Variant, PrivateSubtag, is_word, IsWord, languages}
 use Rattle.iloc_spec_grammar.specs.Reading.{past, skip_first, starts_block, after_region}
 use Rattle.iloc_spec_grammar.proofs.PiecesLaws.{at_pieces}
 use Rattle.iloc_spec_grammar.proofs.WordsLaws.{length-language, length-script, length-region, length-variant, length-attribute, length-unicode_key}

@@ -7,18 +7,15 @@ use Rattle.std.specs.Char.{is_ascii_alphanumeric, is_ascii_alphabetic, to_ascii_
 use Rattle.std.proofs.lemmas.Bool.{and_parts, and_from, lt-ltb, cases_Bool, cases_lt}
 use Rattle.std.proofs.lemmas.Bool.Decides.{nat_tests}
 use Rattle.std.proofs.lemmas.List.{map-append, length-map, length-take-le, take-take, length-drop}
-use Rattle.iloc_spec_grammar.specs.Pieces.{pieces, join, dashes}
-use Rattle.iloc_spec_grammar.specs.Words.{Kind, Variant, Subtag, UnicodeKey, Attribute, PrivateSubtag, is_word, IsWord, lower, title, upper, word_cmp, is_true, languages}
-use Rattle.iloc_spec_grammar.specs.Written.{Identifier, Fields, identifier_pieces, fields_pieces}
-use Rattle.iloc_spec_grammar.specs.Meaning.{Locale, Extensions, IdentifierMeans, Means, normal_identifier}
-use Rattle.iloc_spec_grammar.specs.Values.{IsNormal, IsAscending, IsIdentifierValue, lower_identifier, identifier_text, text, extensions_spelling, private_spelling}
+use Rattle.iloc_spec_grammar.specs.Syntax.{pieces, join, dashes, Kind, Variant, Subtag, UnicodeKey, Attribute, PrivateSubtag, is_word, IsWord, lower, title, upper, word_cmp, is_true, languages, Identifier, Fields, identifier_pieces, fields_pieces, Unicode}
+use Rattle.iloc_spec_grammar.specs.Meaning.{Locale, Extensions, IdentifierMeans, Means, normal_identifier, no_unicode, no_transform}
+use Rattle.iloc_spec_grammar.specs.Values.{IsNormal, IsAscending, IsIdentifierValue, lower_identifier, identifier_text, text, extensions_spelling, private_spelling, IdentifierTextStep, IsExtensionsValue, IsUnicodeValue, unicode_spelling}
 use Rattle.iloc_spec_grammar.proofs.PiecesLaws.{at_pieces, join-pieces}
 use Rattle.iloc_spec_grammar.proofs.PartTexts.{join-append, join-dashes, dashes-append, text_of_parts}
 use Rattle.iloc_spec_grammar.proofs.WordsLaws.{lower-lower, lower-title, lower-upper, is_word-lower}
 use Rattle.iloc_spec_grammar.proofs.CaseLaws.{pieces-lower, case_means}
 use Rattle.iloc_spec_grammar.proofs.Chains.{identifier_pieces-low, lower-join}
 use Rattle.iloc_spec_grammar.proofs.IdentifierTexts.{identifier_text_means, identifier_text_step_means}
-use Rattle.iloc_spec_grammar.specs.Steps.{IdentifierTextStep}
 use Rattle.iloc_spec_grammar.proofs.RawLaws.{languages_table}
 use Rattle.iloc_spec_grammar.proofs.ReadBack.{reads_back}
 use Rattle.iloc_spec_grammar.proofs.MapLaws.{same_words}
@@ -29,9 +26,6 @@ use Rattle.iloc_plain.specs.declared.plain.Plain.{Plain}
 use Rattle.std.specs.declared.cmp.Ordering.TheVariants.{Less, Equal}
 use Rattle.std.specs.Ordering.{nat_cmp}
 use Rattle.std.specs.Ordering.{ordering_then}
-use Rattle.iloc_spec_grammar.specs.Meaning.{no_unicode, no_transform}
-use Rattle.iloc_spec_grammar.specs.Written.{Unicode}
-use Rattle.iloc_spec_grammar.specs.Values.{IsExtensionsValue, IsUnicodeValue, unicode_spelling}
 use Rattle.iloc_spec_grammar.proofs.ValuesLaws.{all_weaker}
 use Rattle.iloc_spec_grammar.proofs.WordsLaws.{length-attribute, length-unicode_key}
 use Rattle.iloc_spec_grammar.proofs.PartTexts.{unicode_spelling_is, transform_spelling_is, private_spelling_is, private_spelling_none}

@@ -6,7 +6,7 @@ use Rattle.std.specs.Char.{is_ascii_alphabetic, is_ascii_alphanumeric, is_ascii_
 use Rattle.std.proofs.lemmas.Bool.{cases_lt}
 use Rattle.std.proofs.lemmas.Bool.Decides.{nat_tests}
 use Rattle.std.proofs.lemmas.List.{length-take-le}
-use Rattle.iloc_spec_grammar.specs.Words.{Attribute, Language, Script, Region, UnicodeKey, Variant, PrivateSubtag, is_word, letters, digits, letters_or_digits, languages}
+use Rattle.iloc_spec_grammar.specs.Syntax.{Attribute, Language, Script, Region, UnicodeKey, Variant, PrivateSubtag, is_word, letters, digits, letters_or_digits, languages}
 use Rattle.iloc_plain.specs.Run.{IsRun}
 
 all_pass : (p : ℕ → Bool) (n : ℕ) (w : List ℕ) → n ≤ length w → ((i : ℕ) → i < n → p (get_or w i 0) ≡ true) → list_all p (take n w) ≡ true

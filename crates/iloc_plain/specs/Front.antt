@@ -1,9 +1,6 @@
 -- What stands at the front of a line: the words of an identifier that fit, and what follows them.
 use Rattle.std.specs.Prelude.{◌≡◌, ℕ, suc, ◌+◌, ◌<◌, ◌≤◌, false, [], ◌∷◌, List, length, take, drop, get_or, IsTrue, ⊤}
-use Rattle.iloc_spec_grammar.specs.Shapes.{Text}
-use Rattle.iloc_spec_grammar.specs.Pieces.{pieces}
-use Rattle.iloc_spec_grammar.specs.Blocks.{first_piece}
-use Rattle.iloc_spec_grammar.specs.Words.{Language, Variant, is_word, IsWord, languages}
+use Rattle.iloc_spec_grammar.specs.Syntax.{Text, pieces, first_piece, Language, Variant, is_word, IsWord, languages}
 use Rattle.iloc_spec_grammar.specs.Reading.{past, starts_block, after_region}
 use Rattle.iloc_plain.specs.declared.front.Block.{Block}
 use Rattle.iloc_plain.specs.declared.front.Front.{Front}

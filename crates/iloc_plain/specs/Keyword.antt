@@ -1,10 +1,7 @@
 -- What keyword follows the singleton of a block.
 use Rattle.std.specs.Prelude.{◌≡◌, ◌≢◌, ◌≤◌, true, false, List, length, codes, ⊤}
 use Rattle.std.specs.List.{list_all}
-use Rattle.iloc_spec_grammar.specs.Shapes.{Text}
-use Rattle.iloc_spec_grammar.specs.Pieces.{pieces}
-use Rattle.iloc_spec_grammar.specs.Blocks.{first_piece}
-use Rattle.iloc_spec_grammar.specs.Words.{Attribute, UnicodeKey, is_word, IsWord, lower}
+use Rattle.iloc_spec_grammar.specs.Syntax.{Text, pieces, first_piece, Attribute, UnicodeKey, is_word, IsWord, lower}
 use Rattle.iloc_spec_grammar.specs.Reading.{rest_of}
 use Rattle.iloc_plain.specs.Front.{rest_of_block}
 use Rattle.iloc_plain.specs.declared.front.Block.{Block}

@@ -2,10 +2,7 @@
 use Rattle.std.specs.Prelude.{◌≡◌, ℕ, ◌+◌, ◌*◌, ◌<◌, ◌≤◌, true, false, List, ◌∷◌, ◌++◌, length, map, take, get_or}
 use Rattle.std.specs.List.{AllByRecursion}
 use Rattle.std.specs.FinMap.{is_sorted}
-use Rattle.iloc_spec_grammar.specs.Shapes.{Text, Field}
-use Rattle.iloc_spec_grammar.specs.Pieces.{pieces}
-use Rattle.iloc_spec_grammar.specs.Words.{Variant, Attribute, UnicodeKey, PrivateSubtag, IsWord, languages, lower, word_cmp, is_true}
-use Rattle.iloc_spec_grammar.specs.Written.{Identifier, Fields, fields_pieces}
+use Rattle.iloc_spec_grammar.specs.Syntax.{Text, Field, pieces, Variant, Attribute, UnicodeKey, PrivateSubtag, IsWord, languages, lower, word_cmp, is_true, Identifier, Fields, fields_pieces}
 use Rattle.iloc_spec_grammar.specs.Meaning.{Extensions, Locale, IdentifierMeans, Means}
 use Rattle.iloc_spec_grammar.specs.Values.{IsNormal, IsExtensionsValue, AreWellFormed, private_spelling, extensions_spelling, identifier_text, text}
 use Rattle.iloc_plain.specs.Plain.{AreWords, IsPlain, value_of}

@@ -1,6 +1,6 @@
 -- Bytes of one class that come first.
 use Rattle.std.specs.Prelude.{◌≡◌, ℕ, ◌<◌, ◌≤◌, ◌==◌, Bool, true, false, not, get_or}
-use Rattle.iloc_spec_grammar.specs.Shapes.{Text}
+use Rattle.iloc_spec_grammar.specs.Syntax.{Text}
 
 -- whether the byte is a hyphen
 abbrev pub is_hyphen : ℕ → Bool

@@ -1,8 +1,7 @@
 //! Tells what stands at the front of a line.
 ghost use Rattle.std.specs.Prelude.{◌≡◌, ◌+◌, ◌≤◌, length, take};
-ghost use Rattle.iloc_spec_grammar.specs.Pieces.{pieces};
+ghost use Rattle.iloc_spec_grammar.specs.Syntax.{pieces, Region, Script, is_word};
 ghost use Rattle.iloc_spec_grammar.specs.Reading.{skip_first};
-ghost use Rattle.iloc_spec_grammar.specs.Words.{Region, Script, is_word};
 ghost use Rattle.iloc_plain.specs.Front.{IsFirst, GoesOnAs, IsFront};
 
 use crate::run::before_hyphen;

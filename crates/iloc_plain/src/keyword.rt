@@ -1,7 +1,6 @@
 //! Tells what keyword follows the singleton of a block.
 ghost use Rattle.std.specs.Prelude.{◌≡◌, ◌+◌, ◌≤◌, ◌≢◌, length, take, codes, IsTrue};
-ghost use Rattle.iloc_spec_grammar.specs.Pieces.{pieces};
-ghost use Rattle.iloc_spec_grammar.specs.Words.{lower};
+ghost use Rattle.iloc_spec_grammar.specs.Syntax.{pieces, lower};
 ghost use Rattle.iloc_plain.specs.Keyword.{AreValues, IsKeywordOf, after_singleton};
 
 use crate::front::{Block, first_len};

@@ -1,6 +1,6 @@
 //! Tells lines whose normal text is their own but for the case of letters.
 ghost use Rattle.std.specs.Prelude.{◌≡◌, ◌+◌, ◌<◌, ◌≤◌, IfSome, IsTrue, length, take};
-ghost use Rattle.iloc_spec_grammar.specs.Pieces.{pieces};
+ghost use Rattle.iloc_spec_grammar.specs.Syntax.{pieces};
 ghost use Rattle.iloc_plain.specs.Ordered.{
   AreKeywords,
   ArePrinted,

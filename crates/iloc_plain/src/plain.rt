@@ -1,6 +1,6 @@
 //! A plain identifier as its normal text.
 ghost use Rattle.std.specs.Prelude.{◌≡◌, ◌≤◌, length, take, drop};
-ghost use Rattle.iloc_spec_grammar.specs.Words.{languages};
+ghost use Rattle.iloc_spec_grammar.specs.Syntax.{languages};
 ghost use Rattle.iloc_spec_grammar.specs.Values.{IsIdentifierValue, identifier_text};
 
 use iloc_tinystr::ShortPiece;

@@ -1,9 +1,9 @@
 //! Whether the first bytes of a window are a word of an identifier.
 ghost use Rattle.std.specs.Prelude.{◌≡◌, ◌+◌, ◌≤◌, IsTrue, true, false, length, take};
 ghost use Rattle.std.specs.List.{list_all};
-ghost use Rattle.iloc_spec_grammar.specs.Pieces.{pieces};
+ghost use Rattle.iloc_spec_grammar.specs.Syntax.{pieces};
 ghost use Rattle.iloc_plain.specs.Ordered.{key_number};
-ghost use Rattle.iloc_spec_grammar.specs.Words.{
+ghost use Rattle.iloc_spec_grammar.specs.Syntax.{
   Attribute,
   Language,
   Region,

@@ -1,9 +1,7 @@
 -- The answers to lines, from what their readers say.
 use Rattle.std.proofs.Common.{◌≡◌, ◌≢◌, ℕ, false, List, [], ◌∷◌, refl, sym, ap, ◌∙◌, subst, Option, Some, None, option_map, Result, Ok, Err, OnOk, true≢false}
 use Rattle.std.specs.Prelude.{is_some}
-use Rattle.iloc_spec_grammar.specs.Pieces.{pieces}
-use Rattle.iloc_spec_grammar.specs.Words.{languages}
-use Rattle.iloc_spec_grammar.specs.Written.{Identifier}
+use Rattle.iloc_spec_grammar.specs.Syntax.{pieces, languages, Identifier, blocks, head}
 use Rattle.iloc_spec_grammar.specs.Meaning as meaning
 use Rattle.iloc_spec_grammar.specs.Meaning.{IdentifierMeans, Means, no_extensions, without_extensions}
 use Rattle.iloc_spec_grammar.specs.ByBlocks.{BlocksMean}
@@ -13,13 +11,12 @@ use Rattle.iloc_spec_output.specs.Output.{OfIdentifiers, OfLocales, OfDataLocale
 use Rattle.iloc_spec_output.proofs.OutputLaws.{only_answer}
 use Rattle.iloc_subtags.specs.declared.parse_error.ParseError.{ParseError}
 use Rattle.iloc_subtags.specs.declared.parse_error.ParseError.TheVariants.{InvalidLanguage, InvalidSubtag, InvalidExtension, DuplicatedExtension, OutOfMemory}
-use Rattle.iloc_spec_grammar.specs.Blocks.{blocks, head}
 use Rattle.iloc_spec_grammar.specs.Reading.{after_head, first_item}
 use Rattle.iloc_langid.specs.declared.identifier.LanguageIdentifier.{LanguageIdentifier}
 use Rattle.iloc_langid.specs.Reads.{ReadsAs, value_of}
 use Rattle.iloc_locale.proofs.NormalLemmas.{text_alone}
 use Rattle.iloc_locale.proofs.ReadLemmas.{head_accepts, head_refused}
-use Rattle.iloc_locale.specs.Reads.{LocaleReadsAs}
+use Rattle.iloc_locale.specs.LocaleReading.{LocaleReadsAs}
 use Rattle.iloc_spec_preferences.specs.DataLocales.{DataLocale, DataMeans, data_text}
 use Rattle.iloc_data_parts.specs.PartsReading.{PartsReadAs}
 use Rattle.iloc_lines.specs.declared.Mode.TheVariants.{Langid, Locale, Data}

@@ -1,10 +1,8 @@
 -- Steps in any number.
 use Rattle.std.proofs.Common.{◌≡◌, ◌↔◌, ℕ, Bool, List}
-use Rattle.iloc_spec_grammar.specs.Pieces.{pieces}
-use Rattle.iloc_spec_grammar.specs.Words.{IsTable}
-use Rattle.iloc_spec_grammar.specs.Written.{Identifier}
+use Rattle.iloc_spec_grammar.specs.Syntax.{pieces, IsTable, Identifier}
 use Rattle.iloc_spec_grammar.specs.Meaning.{Locale, Means, IdentifierMeans}
-use Rattle.iloc_spec_grammar.specs.Steps.{TextStep, IdentifierTextStep, LeadToOne}
+use Rattle.iloc_spec_grammar.specs.Values.{TextStep, IdentifierTextStep, LeadToOne}
 use Rattle.iloc_spec_grammar.proofs.Readings.{one_meaning}
 use Rattle.iloc_spec_grammar.proofs.IdentifierLaws as identifiers
 use Rattle.iloc_spec_grammar.proofs.CaseLaws.{chain_means}

@@ -3,11 +3,9 @@ use Rattle.std.proofs.Common.{◌≡◌, ℕ, ◌<◌, Bool, true, false, cond, 
 use Rattle.std.specs.Prelude.{codes}
 use Rattle.std.specs.List.{AllByRecursion, AllZip}
 use Rattle.std.specs.FinMap.{is_sorted}
-use Rattle.iloc_spec_grammar.specs.Words.{Subtag, is_word, lower, upper, title, word_cmp, is_true}
-use Rattle.iloc_spec_grammar.specs.Written.{Identifier, Fields, Extension, unicode, transform, other, kept, IsIdentifier, IsField, IsExtension, AllDifferent}
+use Rattle.iloc_spec_grammar.specs.Syntax.{Subtag, is_word, lower, upper, title, word_cmp, is_true, Identifier, Fields, Extension, unicode, transform, other, kept, IsIdentifier, IsField, IsExtension, AllDifferent}
 use Rattle.iloc_spec_grammar.specs.Meaning.{set_of, normal_identifier, normal_values, normal_fields, normal_unicode, normal_transform}
-use Rattle.iloc_spec_grammar.specs.Values.{lower_identifier, spelled_value, spelled_fields}
-use Rattle.iloc_spec_grammar.specs.Steps.{Without, LessTrue, keys_differ, Repeats, Trues, DroppedPieces, VariantOrder, AttributeOrder, FieldOrder, IdentifierStep, ExtensionStep}
+use Rattle.iloc_spec_grammar.specs.Values.{lower_identifier, spelled_value, spelled_fields, Without, LessTrue, keys_differ, Repeats, Trues, DroppedPieces, VariantOrder, AttributeOrder, FieldOrder, IdentifierStep, ExtensionStep}
 use Rattle.iloc_spec_grammar.proofs.WordsLaws.{lower-lower, lower-title, lower-upper}
 use Rattle.iloc_spec_grammar.proofs.MapLaws.{map_of_sorted, word_cmp_total, same_words}
 use Rattle.iloc_spec_grammar.proofs.ValuesLaws.{set_of_ascending, lower_twice, spelled_transform, same_identifier, filter_all, all_weaker}

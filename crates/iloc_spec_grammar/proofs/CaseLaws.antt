@@ -7,12 +7,9 @@ use Rattle.std.specs.Ordering.{nat_cmp, eq_by_cmp}
 use Rattle.std.specs.FinMap.{find}
 use Rattle.std.proofs.lemmas.Bool.Decides.{nat_tests}
 use Rattle.std.proofs.lemmas.Str.Ascii.{lowercase-lowercase}
-use Rattle.iloc_spec_grammar.specs.Pieces.{pieces, join}
-use Rattle.iloc_spec_grammar.specs.Words.{Kind, Language, Script, Region, Variant, Subtag, UnicodeKey, TransformKey, Attribute, PrivateSubtag, is_word, IsTable, lower, word_cmp, is_true}
-use Rattle.iloc_spec_grammar.specs.Written.{Identifier, Fields, Extension, unicode, transform, other, Written, spelling, IsIdentifier, IsPrivate, kept, is_other_singleton, IsExtension, singleton, IsWritten, AllDifferent}
+use Rattle.iloc_spec_grammar.specs.Syntax.{pieces, join, Kind, Language, Script, Region, Variant, Subtag, UnicodeKey, TransformKey, Attribute, PrivateSubtag, is_word, IsTable, lower, word_cmp, is_true, Identifier, Fields, Extension, unicode, transform, other, Written, spelling, IsIdentifier, IsPrivate, kept, is_other_singleton, IsExtension, singleton, IsWritten, AllDifferent, is_one_byte, front, blocks, head, tail_blocks, first_piece}
 use Rattle.iloc_spec_grammar.specs.Meaning.{map_of, set_of, normal_identifier, normal_values, Locale, unicode_part, transform_part, private_part, other_part, by_singleton, meaning, Means}
-use Rattle.iloc_spec_grammar.specs.Values.{lower_identifier}
-use Rattle.iloc_spec_grammar.specs.Blocks.{is_one_byte, front, blocks, head, tail_blocks, first_piece}
+use Rattle.iloc_spec_grammar.specs.Values.{lower_identifier, TextStep, Chain}
 use Rattle.std.proofs.lemmas.List.{length-map}
 use Rattle.iloc_spec_grammar.specs.Computing.{holds_if_some, all_different, is_identifier, is_keyword, is_field, is_private, is_extension}
 use Rattle.iloc_spec_grammar.proofs.RuleTests.{Tests, tests_and, tests_like, tests_all, tests_if_some, tests_different, tests_nat, tests_identifier, tests_private, tests_extension}
@@ -21,7 +18,6 @@ use Rattle.iloc_spec_grammar.proofs.WordsLaws.{lower-lower, length-lower, is_wor
 use Rattle.iloc_spec_grammar.proofs.ValuesLaws.{lower_twice, normal-lower_identifier}
 use Rattle.iloc_spec_grammar.specs.Reading.{take_first, skip_first, rest_of, identifier_of, before_key, fields_from, is_two, unicode_of, transform_of, optional_of, extension_by, extension_of, extensions_in, private_in, written_of}
 use Rattle.iloc_spec_grammar.proofs.Readings.{written_of-spelling}
-use Rattle.iloc_spec_grammar.specs.Steps.{TextStep, Chain}
 use Rattle.iloc_spec_grammar.proofs.Readings.{one_meaning}
 use Rattle.iloc_spec_grammar.proofs.StepLaws.{same_parts}
 use Rattle.iloc_spec_grammar.proofs.StepSizes.{step_means, step_length}

@@ -9,12 +9,9 @@ use Rattle.std.specs.FinMap.Entries.{same_entries}
 use Rattle.std.proofs.lemmas.Bool.{cases_eq, lt-ltb}
 use Rattle.std.proofs.lemmas.List.{map-append, length-map}
 use Rattle.std.proofs.lemmas.Str.Ascii.{lowercase-lowercase}
-use Rattle.iloc_spec_grammar.specs.Pieces.{pieces, join}
-use Rattle.iloc_spec_grammar.specs.Words.{lower}
-use Rattle.iloc_spec_grammar.specs.Written.{Identifier, Fields, Unicode, Transform, Extension, unicode, transform, other, Written, identifier_pieces, optional_pieces, fields_pieces, extension_pieces, extension_block, block_pieces, blocks_of, spelling, kept, IsPrivate, IsExtension, singleton, IsWritten, AllDifferent}
+use Rattle.iloc_spec_grammar.specs.Syntax.{pieces, join, lower, Identifier, Fields, Unicode, Transform, Extension, unicode, transform, other, Written, identifier_pieces, optional_pieces, fields_pieces, extension_pieces, extension_block, block_pieces, blocks_of, spelling, kept, IsPrivate, IsExtension, singleton, IsWritten, AllDifferent}
 use Rattle.iloc_spec_grammar.specs.Meaning.{normal_identifier, normal_fields, normal_unicode, normal_transform, Locale, unicode_part, transform_part, private_part, other_part, by_singleton, meaning, Means}
-use Rattle.iloc_spec_grammar.specs.Values.{IsValue, IsWellFormed, lower_identifier, private_form, printed, text, spelled_fields}
-use Rattle.iloc_spec_grammar.specs.Steps.{Rule, Repeats, Trues, DroppedPieces, VariantOrder, AttributeOrder, FieldOrder, IdentifierStep, ExtensionStep, Step, TextStep, Chain, written}
+use Rattle.iloc_spec_grammar.specs.Values.{IsValue, IsWellFormed, lower_identifier, private_form, printed, text, spelled_fields, Rule, Repeats, Trues, DroppedPieces, VariantOrder, AttributeOrder, FieldOrder, IdentifierStep, ExtensionStep, Step, TextStep, Chain, written}
 use Rattle.iloc_spec_grammar.proofs.WordsLaws.{lower-lower}
 use Rattle.iloc_spec_grammar.proofs.MapLaws.{find-map_of, to_T}
 use Rattle.iloc_spec_grammar.proofs.ValuesLaws.{lower_twice, spelled_transform, length-spelled_fields, same_identifier, all_both}

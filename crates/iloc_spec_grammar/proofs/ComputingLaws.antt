@@ -1,10 +1,7 @@
 -- The answers of the plain programs are the meaning and the fault of a text.
 use Rattle.std.proofs.Common.{◌≡◌, ℕ, Bool, List, ap, subst, Result, Ok, Err, MatchResult, ◌↔◌}
-use Rattle.iloc_spec_grammar.specs.Pieces.{pieces}
-use Rattle.iloc_spec_grammar.specs.Words.{IsTable}
-use Rattle.iloc_spec_grammar.specs.Written.{Identifier}
-use Rattle.iloc_spec_grammar.specs.Meaning.{Locale, Means, IdentifierMeans}
-use Rattle.iloc_spec_grammar.specs.Faults.{Fault, HasIdentifierFault, HasFault}
+use Rattle.iloc_spec_grammar.specs.Syntax.{pieces, IsTable, Identifier}
+use Rattle.iloc_spec_grammar.specs.Meaning.{Locale, Means, IdentifierMeans, Fault, HasIdentifierFault, HasFault}
 use Rattle.iloc_spec_grammar.specs.Computing.{identifier_result, locale_result}
 use Rattle.iloc_spec_grammar.proofs.PiecesLaws.{at_pieces}
 use Rattle.iloc_spec_grammar.proofs.IdentifierLaws.{one_meaning}

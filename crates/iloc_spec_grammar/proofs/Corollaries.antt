@@ -1,9 +1,8 @@
 -- What follows for whole texts.
 use Rattle.std.proofs.Common.{◌≡◌, ℕ, Bool, List, sym, ap, subst, ◌↔◌}
-use Rattle.iloc_spec_grammar.specs.Words.{IsTable}
+use Rattle.iloc_spec_grammar.specs.Syntax.{IsTable}
 use Rattle.iloc_spec_grammar.specs.Meaning.{Locale, Means}
-use Rattle.iloc_spec_grammar.specs.Values.{IsValue, IsWellFormed, text}
-use Rattle.iloc_spec_grammar.specs.Steps.{TextStep, Chain, LeadToOne}
+use Rattle.iloc_spec_grammar.specs.Values.{IsValue, IsWellFormed, text, TextStep, Chain, LeadToOne}
 use Rattle.iloc_spec_grammar.proofs.ReadBack as back
 use Rattle.iloc_spec_grammar.proofs.Readings.{one_meaning}
 use Rattle.iloc_spec_grammar.proofs.WellRead.{means_value, means_well_formed}

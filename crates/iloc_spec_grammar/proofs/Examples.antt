@@ -1,14 +1,10 @@
 -- Worked examples, computed by the plain program.
 use Rattle.std.proofs.Common.{◌≡◌, ℕ, List, [], ◌∷◌, refl, codes, Result, Ok, Err, arith, true≢false, None}
-use Rattle.iloc_spec_grammar.specs.Pieces.{pieces, join}
-use Rattle.iloc_spec_grammar.specs.Words.{is_word, lower, upper, title, is_true, languages}
-use Rattle.iloc_spec_grammar.specs.Written.{Identifier, transform}
-use Rattle.iloc_spec_grammar.specs.Meaning.{Locale}
-use Rattle.iloc_spec_grammar.specs.Values.{identifier_text}
-use Rattle.iloc_spec_grammar.specs.Faults.{Fault}
+use Rattle.iloc_spec_grammar.specs.Syntax.{pieces, join, is_word, lower, upper, title, is_true, languages, Identifier, transform}
+use Rattle.iloc_spec_grammar.specs.Meaning.{Locale, Fault}
+use Rattle.iloc_spec_grammar.specs.Values.{identifier_text, Without, keys_differ, Trues, IdentifierStep, ExtensionStep, Step, TextStep}
 use Rattle.iloc_spec_grammar.specs.Reading.{identifier_of, front_of, unicode_of, transform_of, written_of}
 use Rattle.iloc_spec_grammar.specs.Computing.{locale_result, text_of, identifier_result, identifier_text_of}
-use Rattle.iloc_spec_grammar.specs.Steps.{Without, keys_differ, Trues, IdentifierStep, ExtensionStep, Step, TextStep}
 use Rattle.iloc_spec_grammar.specs.Examples.{Normalises, IsRefused, NormalisesIdentifier, IsRefusedIdentifier}
 use Rattle.iloc_spec_grammar.proofs.RawLaws.{languages_table}
 use Rattle.iloc_spec_grammar.proofs.ComputingLaws.{computed_means, computed_fault, computed_identifier, computed_identifier_fault}

@@ -8,12 +8,8 @@ use Rattle.std.proofs.lemmas.Bool.{or_from, or_parts, cond_both, both_ways, eqb-
 use Rattle.std.proofs.lemmas.Bool.Decides.{nat_tests}
 use Rattle.std.proofs.lemmas.List.{map-append}
 use Rattle.std.proofs.lemmas.List.Folds.{list_any-append}
-use Rattle.iloc_spec_grammar.specs.Pieces.{pieces}
-use Rattle.iloc_spec_grammar.specs.Words.{Language, Script, Region, Variant, TransformKey, is_word, IsWord, IsTable, lower, word_cmp}
-use Rattle.iloc_spec_grammar.specs.Written.{Identifier, Transform, Extension, Written, identifier_pieces, optional_pieces, transform_pieces, extension_block, block_pieces, blocks_of, spelling, HasWords, IsIdentifier, IsTransform, IsPrivate, IsExtension, singleton, IsWritten, AllDifferent}
-use Rattle.iloc_spec_grammar.specs.Meaning.{Locale, Means, meaning}
-use Rattle.iloc_spec_grammar.specs.Faults.{Fault, InvalidLanguage, InvalidSubtag, InvalidExtension, DuplicatedExtension, SpellsIdentifier, HasSingleton, IsNew, IsBlock, RepeatsVariant, BlockFault, no_singleton, duplicated, breaks_rule, FirstBadBlock, here, later, HasFault, no_language, no_identifier, bad_block}
-use Rattle.iloc_spec_grammar.specs.Blocks.{front, blocks, head, tail_blocks, first_piece}
+use Rattle.iloc_spec_grammar.specs.Syntax.{pieces, Language, Script, Region, Variant, TransformKey, is_word, IsWord, IsTable, lower, word_cmp, Identifier, Transform, Extension, Written, identifier_pieces, optional_pieces, transform_pieces, extension_block, block_pieces, blocks_of, spelling, HasWords, IsIdentifier, IsTransform, IsPrivate, IsExtension, singleton, IsWritten, AllDifferent, front, blocks, head, tail_blocks, first_piece}
+use Rattle.iloc_spec_grammar.specs.Meaning.{Locale, Means, meaning, Fault, InvalidLanguage, InvalidSubtag, InvalidExtension, DuplicatedExtension, SpellsIdentifier, HasSingleton, IsNew, IsBlock, RepeatsVariant, BlockFault, no_singleton, duplicated, breaks_rule, FirstBadBlock, here, later, HasFault, no_language, no_identifier, bad_block}
 use Rattle.iloc_spec_grammar.specs.Reading.{skip_first, passing, past, identifier_of, front_of, after_front, before_key, extensions_in, private_in, written_of, transform_of}
 use Rattle.iloc_spec_grammar.specs.Computing.{is_identifier, is_block, repeats_variant, first_fault, unless_fault, locale_result}
 use Rattle.iloc_spec_grammar.proofs.WordsLaws.{region_no_script, variant_no_script, variant_no_region}

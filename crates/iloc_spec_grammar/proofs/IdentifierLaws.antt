@@ -1,8 +1,7 @@
 -- The words of an identifier can be told apart: each spelling has one reading.
 use Rattle.std.proofs.Common.{◌≡◌, ℕ, Bool, true, false, cond, List, [], ◌∷◌, ◌++◌, refl, sym, ap, ◌∙◌, Option, Some, None, IfSome, option_to_list}
 use Rattle.std.specs.List.{AllByRecursion}
-use Rattle.iloc_spec_grammar.specs.Words.{Script, Region, Variant, is_word, IsWord}
-use Rattle.iloc_spec_grammar.specs.Written.{Identifier, identifier_pieces, HasWords}
+use Rattle.iloc_spec_grammar.specs.Syntax.{Script, Region, Variant, is_word, IsWord, Identifier, identifier_pieces, HasWords}
 use Rattle.iloc_spec_grammar.specs.Reading.{take_first, skip_first, identifier_of}
 use Rattle.iloc_spec_grammar.specs.Meaning.{IdentifierMeans, normal_identifier}
 use Rattle.iloc_spec_grammar.proofs.WordsLaws.{region_no_script, variant_no_script, variant_no_region}

@@ -1,13 +1,8 @@
 -- Texts of identifiers: reading them back, the two steps between texts of one meaning, and faults.
 use Rattle.std.proofs.Common.{◌≡◌, ◌⊎◌, inl, inr, ℕ, zero, suc, ◌+◌, Bool, true, false, cond, not, List, ◌∷◌, length, refl, sym, ap, ◌∙◌, subst, arith, ◌↔◌, true≢false, Result, Ok, Err, MatchResult}
-use Rattle.iloc_spec_grammar.specs.Pieces.{pieces, join}
-use Rattle.iloc_spec_grammar.specs.Words.{Language, is_word, lower}
-use Rattle.iloc_spec_grammar.specs.Written.{Identifier, identifier_pieces, HasWords}
-use Rattle.iloc_spec_grammar.specs.Meaning.{normal_identifier, IdentifierMeans}
-use Rattle.iloc_spec_grammar.specs.Values.{IsIdentifierValue, lower_identifier, identifier_text}
-use Rattle.iloc_spec_grammar.specs.Faults.{Fault, InvalidLanguage, InvalidSubtag, HasIdentifierFault, not_a_language, not_an_identifier}
-use Rattle.iloc_spec_grammar.specs.Blocks.{first_piece, head, front}
-use Rattle.iloc_spec_grammar.specs.Steps.{IdentifierTextStep, IdentifierChain, LeadToOne}
+use Rattle.iloc_spec_grammar.specs.Syntax.{pieces, join, Language, is_word, lower, Identifier, identifier_pieces, HasWords, first_piece, head, front}
+use Rattle.iloc_spec_grammar.specs.Meaning.{normal_identifier, IdentifierMeans, Fault, InvalidLanguage, InvalidSubtag, HasIdentifierFault, not_a_language, not_an_identifier}
+use Rattle.iloc_spec_grammar.specs.Values.{IsIdentifierValue, lower_identifier, identifier_text, IdentifierTextStep, IdentifierChain, LeadToOne}
 use Rattle.iloc_spec_grammar.proofs.WordsLaws.{length-lower}
 use Rattle.iloc_spec_grammar.proofs.PiecesLaws.{pieces-join, join-pieces, at_pieces}
 use Rattle.iloc_spec_grammar.proofs.IdentifierLaws.{pieces-identifier_of, identifier_of-pieces, one_identifier, one_meaning}

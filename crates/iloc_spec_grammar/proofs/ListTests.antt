@@ -2,8 +2,8 @@
 use Rattle.std.proofs.Common.{◌≡◌, ◌⊎◌, inl, inr, ℕ, ◌+◌, ◌<◌, Bool, true, false, cond, ◌||◌, List, [], ◌∷◌, refl, sym, ap, subst, arith, true≢false}
 use Rattle.std.specs.List.{list_any, AllZip}
 use Rattle.std.proofs.lemmas.Bool.{and_parts, and_from}
-use Rattle.iloc_spec_grammar.specs.Words.{lower}
-use Rattle.iloc_spec_grammar.specs.Steps.{Reordered, Without, WithoutRepeats}
+use Rattle.iloc_spec_grammar.specs.Syntax.{lower}
+use Rattle.iloc_spec_grammar.specs.Values.{Reordered, Without, WithoutRepeats}
 use Rattle.iloc_spec_grammar.proofs.Orders.{total, total_reordered}
 use Rattle.iloc_spec_grammar.proofs.Sorting.{itself}
 use Rattle.iloc_spec_grammar.proofs.RuleTests.{Tests, tests_and, tests_either, tests_like}

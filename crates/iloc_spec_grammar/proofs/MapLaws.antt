@@ -9,8 +9,7 @@ use Rattle.std.specs.Cmp.Lexicographic.{nat_list_cmp_total}
 use Rattle.std.specs.FinMap.{put, find, is_sorted, IsAntisymmetric, nat_cmp-IsAntisymmetric, slice_cmp-IsAntisymmetric}
 use Rattle.std.specs.FinMap.Entries.{by_order, below_all, is_sorted-put, find-put, same_entries}
 use Rattle.std.proofs.lemmas.Bool.{and_parts}
-use Rattle.iloc_spec_grammar.specs.Words.{word_cmp, is_same}
-use Rattle.iloc_spec_grammar.specs.Written.{AllDifferent}
+use Rattle.iloc_spec_grammar.specs.Syntax.{word_cmp, is_same, AllDifferent}
 use Rattle.iloc_spec_grammar.specs.Meaning.{map_of}
 use Rattle.std.proofs.lemmas.Float.{T_from_true}
 

@@ -6,10 +6,9 @@ use Rattle.std.specs.Cmp.{IsTotalOrder, eq_by_cmp_equiv}
 use Rattle.std.specs.declared.cmp.Ordering.{Ordering}
 use Rattle.std.specs.FinMap.{find}
 use Rattle.std.proofs.lemmas.Bool.{or_parts, or_from, false_from_ne_true, both_ways}
-use Rattle.iloc_spec_grammar.specs.Words.{word_cmp, lower}
-use Rattle.iloc_spec_grammar.specs.Written.{AllDifferent}
+use Rattle.iloc_spec_grammar.specs.Syntax.{word_cmp, lower, AllDifferent}
 use Rattle.iloc_spec_grammar.specs.Meaning.{map_of, set_of}
-use Rattle.iloc_spec_grammar.specs.Steps.{Reordered, Without, WithoutRepeats}
+use Rattle.iloc_spec_grammar.specs.Values.{Reordered, Without, WithoutRepeats}
 use Rattle.iloc_spec_grammar.proofs.MapLaws.{map_of_same, word_cmp_total, same_words}
 use Rattle.std.proofs.lemmas.Map.Steps.{list_any_congr}
 

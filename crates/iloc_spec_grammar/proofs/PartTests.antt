@@ -3,9 +3,8 @@ use Rattle.std.proofs.Common.{◌≡◌, inl, inr, ℕ, ◌<◌, Bool, true, fal
 use Rattle.std.specs.List.{AllZip, list_any}
 use Rattle.std.proofs.lemmas.Bool.{and_parts, and_from, or_cases, or_left, or_right}
 use Rattle.std.proofs.Math.Bool.{or-true}
-use Rattle.iloc_spec_grammar.specs.Words.{Subtag, is_word, lower, is_same, is_true, word_cmp}
-use Rattle.iloc_spec_grammar.specs.Written.{Identifier, Fields, Unicode, Transform, Extension, unicode, transform, other, Written}
-use Rattle.iloc_spec_grammar.specs.Steps.{Reordered, WithoutRepeats, LessTrue, keys_differ, Rule, VariantOrder, AttributeOrder, FieldOrder, Repeats, Trues, DroppedPieces, IdentifierStep, ExtensionStep, Step}
+use Rattle.iloc_spec_grammar.specs.Syntax.{Subtag, is_word, lower, is_same, is_true, word_cmp, Identifier, Fields, Unicode, Transform, Extension, unicode, transform, other, Written}
+use Rattle.iloc_spec_grammar.specs.Values.{Reordered, WithoutRepeats, LessTrue, keys_differ, Rule, VariantOrder, AttributeOrder, FieldOrder, Repeats, Trues, DroppedPieces, IdentifierStep, ExtensionStep, Step}
 use Rattle.iloc_spec_grammar.proofs.RuleTests.{Tests, tests_and, tests_like, tests_different, tests_positive, tests_nat}
 use Rattle.iloc_spec_grammar.proofs.Sorting.{itself}
 use Rattle.iloc_spec_grammar.specs.StepTests.{all_zip, option_zip, block_zip, same_words, same_field, same_fields, same_identifier, same_extension, has_less_true, are_fields_reordered, are_fields_without_repeats, is_identifier_step, is_unicode_step, is_fields_step, is_transform_step, is_other_step, is_change, is_extension_step, rules, is_block_order, is_step_by, is_step}

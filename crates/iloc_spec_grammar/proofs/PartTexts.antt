@@ -2,8 +2,7 @@
 use Rattle.std.proofs.Common.{◌≡◌, ℕ, ◌+◌, ◌<◌, ◌≤◌, arith, get_or, true, false, cond, ◌||◌, List, [], ◌∷◌, ◌++◌, length, map, flat_map, refl, sym, ap, ◌∙◌, option_map, option_to_list, is_some, nat_lt, append_assoc, append-nil}
 use Rattle.std.proofs.lemmas.List.{map-append}
 use Rattle.std.proofs.lemmas.List.Concat.{flat_map-append}
-use Rattle.iloc_spec_grammar.specs.Pieces.{join, dashes}
-use Rattle.iloc_spec_grammar.specs.Written.{Unicode, unicode, Transform, transform, Extension, other, identifier_pieces, unicode_pieces, transform_pieces, extension_block, block_pieces, spelling}
+use Rattle.iloc_spec_grammar.specs.Syntax.{join, dashes, Unicode, unicode, Transform, transform, Extension, other, identifier_pieces, unicode_pieces, transform_pieces, extension_block, block_pieces, spelling}
 use Rattle.iloc_spec_grammar.specs.Meaning.{Locale}
 use Rattle.iloc_spec_grammar.specs.Values.{lower_identifier, spelled_fields, transform_form, unicode_form, others_form, private_form, before_t, after_t, printed, text, form_pieces, unicode_spelling, transform_spelling, other_spelling, private_spelling, extensions_spelling, identifier_text}
 use Rattle.std.proofs.lemmas.Bool.{cond_both}

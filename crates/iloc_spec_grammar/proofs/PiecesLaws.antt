@@ -5,7 +5,7 @@ use Rattle.std.proofs.lemmas.List.Splits.{join_with_byte-slice_split}
 use Rattle.std.proofs.lemmas.Bool.{or_parts, or_from, false_from_ne_true, cond_both}
 use Rattle.std.proofs.lemmas.Bool.Decides.{nat_tests}
 use Rattle.std.proofs.lemmas.List.Elements.{recursion_from_All}
-use Rattle.iloc_spec_grammar.specs.Pieces.{pieces, join, IsHyphenFree, ArePieces}
+use Rattle.iloc_spec_grammar.specs.Syntax.{pieces, join, IsHyphenFree, ArePieces}
 
 abbrev hyphen : ℕ → Bool
 hyphen b = b == 45

@@ -11,9 +11,7 @@ use Rattle.std.proofs.lemmas.Bool.Decides.{nat_tests}
 use Rattle.std.proofs.lemmas.List.Elements.{filter_map-append}
 use Rattle.std.proofs.lemmas.List.Concat.{flat_map-append}
 use Rattle.std.proofs.lemmas.List.{map-append}
-use Rattle.iloc_spec_grammar.specs.Pieces.{pieces, join, IsHyphenFree}
-use Rattle.iloc_spec_grammar.specs.Words.{Kind, Language, Script, Region, Variant, Subtag, UnicodeKey, TransformKey, Attribute, PrivateSubtag, is_word, IsWord, lower}
-use Rattle.iloc_spec_grammar.specs.Written.{Identifier, Fields, Unicode, Transform, Extension, unicode, transform, other, Written, identifier_pieces, optional_pieces, fields_pieces, extension_pieces, block_pieces, extension_block, spelling, HasWords, IsIdentifier, IsField, IsPrivate, kept, is_other_singleton, IsExtension, singleton, IsWritten, AllDifferent}
+use Rattle.iloc_spec_grammar.specs.Syntax.{pieces, join, IsHyphenFree, Kind, Language, Script, Region, Variant, Subtag, UnicodeKey, TransformKey, Attribute, PrivateSubtag, is_word, IsWord, lower, Identifier, Fields, Unicode, Transform, Extension, unicode, transform, other, Written, identifier_pieces, optional_pieces, fields_pieces, extension_pieces, block_pieces, extension_block, spelling, HasWords, IsIdentifier, IsField, IsPrivate, kept, is_other_singleton, IsExtension, singleton, IsWritten, AllDifferent}
 use Rattle.iloc_spec_grammar.specs.Meaning.{map_of, Locale, unicode_part, transform_part, private_part, other_part, by_singleton, meaning, Means, normal_unicode, normal_transform}
 use Rattle.iloc_spec_grammar.specs.Values.{IsNormal, IsValue, IsWellFormed, lower_identifier, transform_form, unicode_form, others_form, private_form, before_t, after_t, printed, text, spelled_fields}
 use Rattle.iloc_spec_grammar.proofs.WordsLaws.{word_letters_or_digits}

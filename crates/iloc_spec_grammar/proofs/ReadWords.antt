@@ -1,6 +1,6 @@
 -- Reading a word.
 use Rattle.std.proofs.Common.{◌≡◌, ◌↔◌, ℕ, false, List, length, refl, sym, ap, ◌∙◌, Some, Ok, Err, Bool, true, Result, cond}
-use Rattle.iloc_spec_grammar.specs.Words.{Kind, is_word, IsWord, normal, lower, word, read}
+use Rattle.iloc_spec_grammar.specs.Syntax.{Kind, is_word, IsWord, normal, lower, word, read}
 use Rattle.iloc_spec_grammar.specs.Values.{IsNormal}
 use Rattle.iloc_spec_grammar.proofs.WordsLaws.{normal-normal, is_word-normal, is_word-same, length-normal, normal-lower, same_normal}
 use Rattle.std.proofs.lemmas.Option.{cond_some}

@@ -4,11 +4,8 @@ use Rattle.std.specs.List.{AllByRecursion}
 use Rattle.std.proofs.lemmas.List.{append_cancel_left, append_cancel_right}
 use Rattle.std.proofs.lemmas.Bool.{false_from_ne_true, cond_both}
 use Rattle.std.proofs.lemmas.Bool.Decides.{nat_tests}
-use Rattle.iloc_spec_grammar.specs.Words.{Language, Script, Region, Variant, is_word, IsWord, lower, word_cmp}
-use Rattle.iloc_spec_grammar.specs.Written.{Identifier, identifier_pieces, HasWords, AllDifferent}
-use Rattle.iloc_spec_grammar.specs.Meaning.{IdentifierMeans, normal_identifier}
-use Rattle.iloc_spec_grammar.specs.Faults.{SpellsIdentifier}
-use Rattle.iloc_spec_grammar.specs.Blocks.{is_one_byte, front, first_piece}
+use Rattle.iloc_spec_grammar.specs.Syntax.{Language, Script, Region, Variant, is_word, IsWord, lower, word_cmp, Identifier, identifier_pieces, HasWords, AllDifferent, is_one_byte, front, first_piece}
+use Rattle.iloc_spec_grammar.specs.Meaning.{IdentifierMeans, normal_identifier, SpellsIdentifier}
 use Rattle.iloc_spec_grammar.specs.Reading.{take_first, skip_first, passing, past, rest_of, after_script, after_region, front_of, after_front, from_block, starts_block, EndsBefore, IdentifierFront, identifier_of}
 use Rattle.iloc_spec_grammar.proofs.IdentifierLaws.{all_pieces, identifier_of-pieces}
 use Rattle.iloc_spec_grammar.proofs.WordsLaws.{region_no_script, variant_no_script, variant_no_region, length-script, length-region, length-variant}

@@ -5,10 +5,8 @@ use Rattle.std.specs.Char.{is_ascii_alphabetic, is_ascii_digit}
 use Rattle.std.proofs.lemmas.Bool.{and_parts, false_from_ne_true, or_cases, ne_eqb, eqb-true}
 use Rattle.std.proofs.lemmas.Bool.Decides.{nat_tests}
 use Rattle.std.specs.Int.{is_in_range}
-use Rattle.iloc_spec_grammar.specs.Words.{Language, Script, Region, Variant, UnicodeKey, TransformKey, Attribute, is_word, IsWord, IsTable, letters, digits}
-use Rattle.iloc_spec_grammar.specs.Written.{Identifier, Fields, Unicode, Transform, Extension, unicode, transform, other, Written, identifier_pieces, optional_pieces, fields_pieces, unicode_pieces, transform_pieces, extension_pieces, extension_block, block_pieces, blocks_of, spelling, HasWords, IsIdentifier, IsUnicode, IsTransform, IsKeyword, IsField, IsPrivate, IsExtension, singleton, IsWritten}
+use Rattle.iloc_spec_grammar.specs.Syntax.{Language, Script, Region, Variant, UnicodeKey, TransformKey, Attribute, is_word, IsWord, IsTable, letters, digits, Identifier, Fields, Unicode, Transform, Extension, unicode, transform, other, Written, identifier_pieces, optional_pieces, fields_pieces, unicode_pieces, transform_pieces, extension_pieces, extension_block, block_pieces, blocks_of, spelling, HasWords, IsIdentifier, IsUnicode, IsTransform, IsKeyword, IsField, IsPrivate, IsExtension, singleton, IsWritten, is_one_byte, front, blocks, head, tail_blocks}
 use Rattle.iloc_spec_grammar.specs.Meaning.{Locale, Means, meaning}
-use Rattle.iloc_spec_grammar.specs.Blocks.{is_one_byte, front, blocks, head, tail_blocks}
 use Rattle.iloc_spec_grammar.proofs.WordsLaws.{length-language, length-script, length-region, length-variant, length-attribute, length-unicode_key, length-transform_key}
 use Rattle.iloc_spec_grammar.proofs.IdentifierLaws.{pieces-identifier_of, identifier_of-pieces}
 use Rattle.iloc_spec_grammar.specs.Reading.{identifier_of, before_key, fields_from, is_two, unicode_of, optional_of, transform_of, extension_by, extension_of, extensions_in, private_in, written_of}

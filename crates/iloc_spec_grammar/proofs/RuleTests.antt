@@ -5,9 +5,8 @@ use Rattle.std.specs.Int.{is_in_range}
 use Rattle.std.specs.declared.cmp.Ordering.{Ordering}
 use Rattle.std.proofs.lemmas.Bool.{false_from_ne_true, not-true, not_from_false}
 use Rattle.std.proofs.lemmas.Bool.Decides.{Decides-ltb, Decides-eqb, Decides-and, Decides-or}
-use Rattle.iloc_spec_grammar.specs.Words.{Kind, Language, Script, Region, Variant, UnicodeKey, TransformKey, Attribute, PrivateSubtag, is_word, IsWord, lower, word_cmp}
-use Rattle.iloc_spec_grammar.specs.Written.{Identifier, Unicode, Transform, Extension, unicode, transform, other, extension_pieces, kept, HasWords, IsIdentifier, IsKeyword, IsField, IsUnicode, IsTransform, IsOther, IsPrivate, IsExtension, singleton, AllDifferent}
-use Rattle.iloc_spec_grammar.specs.Faults.{SpellsIdentifier, IsBlock}
+use Rattle.iloc_spec_grammar.specs.Syntax.{Kind, Language, Script, Region, Variant, UnicodeKey, TransformKey, Attribute, PrivateSubtag, is_word, IsWord, lower, word_cmp, Identifier, Unicode, Transform, Extension, unicode, transform, other, extension_pieces, kept, HasWords, IsIdentifier, IsKeyword, IsField, IsUnicode, IsTransform, IsOther, IsPrivate, IsExtension, singleton, AllDifferent}
+use Rattle.iloc_spec_grammar.specs.Meaning.{SpellsIdentifier, IsBlock}
 use Rattle.iloc_spec_grammar.specs.Reading.{identifier_of, extension_of}
 use Rattle.iloc_spec_grammar.specs.Computing.{holds_if_some, all_different, has_words, is_identifier, is_keyword, is_unicode, is_field, is_transform, is_other, is_private, is_extension, is_block}
 use Rattle.iloc_spec_grammar.proofs.IdentifierLaws.{pieces-identifier_of, identifier_of-pieces}

@@ -9,8 +9,7 @@ use Rattle.std.specs.Cmp.{IsTotalOrder}
 use Rattle.std.specs.FinMap.{find, IsAntisymmetric}
 use Rattle.std.specs.FinMap.Entries.{is_some-find, length-put}
 use Rattle.std.proofs.lemmas.List.{map-append, length-map}
-use Rattle.iloc_spec_grammar.specs.Words.{word_cmp, is_same}
-use Rattle.iloc_spec_grammar.specs.Written.{AllDifferent}
+use Rattle.iloc_spec_grammar.specs.Syntax.{word_cmp, is_same, AllDifferent}
 use Rattle.iloc_spec_grammar.specs.Meaning.{map_of, set_of}
 use Rattle.iloc_spec_grammar.proofs.MapLaws.{word_cmp_total, same_words, find-map_of, sorted-map_of, map_of_same}
 use Rattle.iloc_spec_grammar.proofs.ValuesLaws.{unmarked}

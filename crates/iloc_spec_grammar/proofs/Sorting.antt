@@ -8,9 +8,8 @@ use Rattle.std.specs.declared.cmp.Ordering.TheVariants.{Less, Equal, Greater}
 use Rattle.std.specs.FinMap.{is_sorted}
 use Rattle.std.specs.FinMap.Entries.{below_all}
 use Rattle.std.proofs.lemmas.Bool.{and_parts, and_from, or_parts, or_from, or_left, or_right, false_from_ne_true, both_ways, cond_both, not-false}
-use Rattle.iloc_spec_grammar.specs.Words.{lower, word_cmp, is_same}
-use Rattle.iloc_spec_grammar.specs.Written.{AllDifferent}
-use Rattle.iloc_spec_grammar.specs.Steps.{Reordered, Without, WithoutRepeats}
+use Rattle.iloc_spec_grammar.specs.Syntax.{lower, word_cmp, is_same, AllDifferent}
+use Rattle.iloc_spec_grammar.specs.Values.{Reordered, Without, WithoutRepeats}
 use Rattle.iloc_spec_grammar.proofs.MapLaws.{word_cmp_total, less}
 pub use Rattle.iloc_spec_grammar.proofs.Orders.{itself}
 use Rattle.iloc_spec_grammar.proofs.Orders.{or_swap}

@@ -1,15 +1,13 @@
 -- Worked steps, by computing the test of each, and two texts that no step joins.
 use Rattle.std.proofs.Common.{◌≡◌, ℕ, List, refl, sym, ap, ◌∙◌, codes, Result, Ok, Err, Bool, true, false, true≢false}
-use Rattle.iloc_spec_grammar.specs.Pieces.{pieces, join}
-use Rattle.iloc_spec_grammar.specs.Words.{is_word, lower, upper, title, is_true, is_same, languages}
-use Rattle.iloc_spec_grammar.specs.Meaning.{Locale, Means, meaning}
-use Rattle.iloc_spec_grammar.specs.Faults.{Fault}
+use Rattle.iloc_spec_grammar.specs.Syntax.{pieces, join, is_word, lower, upper, title, is_true, is_same, languages}
+use Rattle.iloc_spec_grammar.specs.Meaning.{Locale, Means, meaning, Fault}
 use Rattle.iloc_spec_grammar.specs.Reading.{identifier_of, front_of, unicode_of, transform_of, written_of}
 use Rattle.iloc_spec_grammar.specs.Computing.{locale_result, text_of}
 use Rattle.iloc_spec_grammar.proofs.RawLaws.{languages_table}
 use Rattle.iloc_spec_grammar.proofs.ComputingLaws.{computed_means}
 use Rattle.iloc_spec_grammar.proofs.CaseLaws.{chain_means}
-use Rattle.iloc_spec_grammar.specs.Steps.{TextStep, Chain}
+use Rattle.iloc_spec_grammar.specs.Values.{TextStep, Chain}
 use Rattle.iloc_spec_grammar.specs.StepTests.{is_text_step}
 use Rattle.iloc_spec_grammar.proofs.TextTests.{tests_text_step}
 

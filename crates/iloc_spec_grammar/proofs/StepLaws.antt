@@ -7,10 +7,9 @@ use Rattle.std.specs.Ordering.{nat_cmp, eq_by_cmp}
 use Rattle.std.specs.Cmp.{nat_cmp_total}
 use Rattle.std.specs.FinMap.{find, nat_cmp-IsAntisymmetric}
 use Rattle.std.proofs.lemmas.Bool.{or_parts, or_from, not-true}
-use Rattle.iloc_spec_grammar.specs.Words.{Variant, Subtag, UnicodeKey, TransformKey, Attribute, is_word, IsWord, lower, word_cmp, is_true}
-use Rattle.iloc_spec_grammar.specs.Written.{Identifier, Fields, Extension, other, Written, IsIdentifier, IsKeyword, IsField, kept, IsExtension, singleton, IsWritten, AllDifferent}
+use Rattle.iloc_spec_grammar.specs.Syntax.{Variant, Subtag, UnicodeKey, TransformKey, Attribute, is_word, IsWord, lower, word_cmp, is_true, Identifier, Fields, Extension, other, Written, IsIdentifier, IsKeyword, IsField, kept, IsExtension, singleton, IsWritten, AllDifferent}
 use Rattle.iloc_spec_grammar.specs.Meaning.{map_of, set_of, normal_identifier, normal_values, normal_fields, unicode_part, transform_part, private_part, other_part, by_singleton, meaning}
-use Rattle.iloc_spec_grammar.specs.Steps.{Reordered, Without, WithoutRepeats, LessTrue, keys_differ, Rule, IdentifierStep, ExtensionStep, Step, unicode_extension, transform_extension}
+use Rattle.iloc_spec_grammar.specs.Values.{Reordered, Without, WithoutRepeats, LessTrue, keys_differ, Rule, IdentifierStep, ExtensionStep, Step, unicode_extension, transform_extension}
 use Rattle.iloc_spec_grammar.proofs.MapLaws.{map_of_same, word_cmp_total, same_words}
 use Rattle.iloc_spec_grammar.proofs.Orders.{all_reordered, map_reordered, different_reordered, find_reordered, set_of_reordered, map_repeats, all_repeats, all_without, filter_without, itself}
 use Rattle.iloc_spec_grammar.proofs.General.{map-zip, all_zip, zip_weaker}

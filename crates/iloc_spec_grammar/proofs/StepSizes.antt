@@ -2,11 +2,9 @@
 use Rattle.std.proofs.Common.{◌≡◌, ℕ, ◌+◌, ◌<◌, ◌≤◌, Bool, cond, ◌==◌, List, [], ◌∷◌, length, map, flat_map, refl, sym, ap, ◌∙◌, arith, option_to_list, le_refl, length-append}
 use Rattle.std.specs.List.{AllByRecursion, list_any}
 use Rattle.std.proofs.lemmas.List.Concat.{flat_map-append}
-use Rattle.iloc_spec_grammar.specs.Pieces.{pieces, join, IsHyphenFree}
-use Rattle.iloc_spec_grammar.specs.Words.{lower, is_true}
-use Rattle.iloc_spec_grammar.specs.Written.{Identifier, Fields, Extension, Written, identifier_pieces, fields_pieces, extension_pieces, extension_block, block_pieces, blocks_of, spelling, IsWritten}
+use Rattle.iloc_spec_grammar.specs.Syntax.{pieces, join, IsHyphenFree, lower, is_true, Identifier, Fields, Extension, Written, identifier_pieces, fields_pieces, extension_pieces, extension_block, block_pieces, blocks_of, spelling, IsWritten}
 use Rattle.iloc_spec_grammar.specs.Meaning.{Means, meaning}
-use Rattle.iloc_spec_grammar.specs.Steps.{LessTrue, Rule, IdentifierStep, ExtensionStep, Step}
+use Rattle.iloc_spec_grammar.specs.Values.{LessTrue, Rule, IdentifierStep, ExtensionStep, Step}
 use Rattle.iloc_spec_grammar.proofs.PiecesLaws.{pieces-join, pieces_hyphen_free, join-pieces}
 use Rattle.iloc_spec_grammar.proofs.Orders.{total, total-append, total_reordered, total_without, total_repeats, total_zip}
 use Rattle.iloc_spec_grammar.proofs.StepLaws.{written_step}

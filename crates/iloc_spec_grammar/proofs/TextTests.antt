@@ -2,15 +2,11 @@
 use Rattle.std.proofs.Common.{◌≡◌, inl, inr, ℕ, Bool, true, List, [], ◌∷◌, Result, Ok, Err, refl, sym, ap, ap₂, ◌∙◌, subst, true≢false}
 use Rattle.std.specs.Result.{is_ok}
 use Rattle.std.proofs.lemmas.Bool.{and_parts, and_from, or_cases, or_left, or_right}
-use Rattle.iloc_spec_grammar.specs.Pieces.{pieces, join}
-use Rattle.iloc_spec_grammar.specs.Words.{IsTable, lower}
-use Rattle.iloc_spec_grammar.specs.Written.{IsIdentifier, IsWritten, identifier_pieces, spelling}
-use Rattle.iloc_spec_grammar.specs.Meaning.{meaning, normal_identifier}
-use Rattle.iloc_spec_grammar.specs.Values.{identifier_text}
-use Rattle.iloc_spec_grammar.specs.Faults.{Fault}
+use Rattle.iloc_spec_grammar.specs.Syntax.{pieces, join, IsTable, lower, IsIdentifier, IsWritten, identifier_pieces, spelling}
+use Rattle.iloc_spec_grammar.specs.Meaning.{meaning, normal_identifier, Fault}
+use Rattle.iloc_spec_grammar.specs.Values.{identifier_text, VariantOrder, TextStep, IdentifierTextStep}
 use Rattle.iloc_spec_grammar.specs.Reading.{identifier_of, written_of}
 use Rattle.iloc_spec_grammar.specs.Computing.{identifier_result, locale_result}
-use Rattle.iloc_spec_grammar.specs.Steps.{VariantOrder, TextStep, IdentifierTextStep}
 use Rattle.iloc_spec_grammar.proofs.PiecesLaws.{pieces_nonempty, join-pieces}
 use Rattle.iloc_spec_grammar.proofs.IdentifierLaws.{pieces-identifier_of, identifier_of-pieces}
 use Rattle.iloc_spec_grammar.proofs.IdentifierTexts.{pieces-identifier_text}

@@ -3,8 +3,7 @@ use Rattle.std.proofs.Common.{◌≡◌, ◌≢◌, ℕ, ◌+◌, ◌<◌, Bool,
 use Rattle.std.specs.List.{AllByRecursion}
 use Rattle.std.specs.FinMap.{is_sorted}
 use Rattle.std.proofs.lemmas.Bool.Decides.{nat_tests}
-use Rattle.iloc_spec_grammar.specs.Words.{Kind, Language, Script, Region, Variant, Subtag, UnicodeKey, TransformKey, Attribute, is_word, IsWord, normal, lower, upper, title, word_cmp, is_true}
-use Rattle.iloc_spec_grammar.specs.Written.{Identifier, Fields, Unicode, Transform, identifier_pieces, HasWords, IsIdentifier, IsUnicode, IsTransform, IsKeyword, IsField, AllDifferent}
+use Rattle.iloc_spec_grammar.specs.Syntax.{Kind, Language, Script, Region, Variant, Subtag, UnicodeKey, TransformKey, Attribute, is_word, IsWord, normal, lower, upper, title, word_cmp, is_true, Identifier, Fields, Unicode, Transform, identifier_pieces, HasWords, IsIdentifier, IsUnicode, IsTransform, IsKeyword, IsField, AllDifferent}
 use Rattle.iloc_spec_grammar.specs.Meaning.{map_of, set_of, normal_identifier, normal_unicode, normal_transform, normal_fields, normal_values, IdentifierMeans}
 use Rattle.iloc_spec_grammar.specs.Values.{IsNormal, IsAscending, IsIdentifierValue, IsUnicodeValue, IsTransformValue, lower_identifier, spelled_value, spelled_fields}
 use Rattle.iloc_spec_grammar.proofs.WordsLaws.{lower-lower, title-lower, upper-lower, is_word-lower}

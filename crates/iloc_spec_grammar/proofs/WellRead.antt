@@ -7,8 +7,7 @@ use Rattle.std.specs.Cmp.{nat_cmp_total}
 use Rattle.std.specs.FinMap.{is_sorted, find, nat_cmp-IsAntisymmetric}
 use Rattle.std.proofs.lemmas.Bool.Decides.{nat_tests}
 use Rattle.std.proofs.lemmas.Str.Ascii.{lowercase-lowercase}
-use Rattle.iloc_spec_grammar.specs.Words.{Kind, Language, Script, Region, Variant, Subtag, UnicodeKey, TransformKey, Attribute, PrivateSubtag, is_word, IsWord, normal, lower, word_cmp, is_true}
-use Rattle.iloc_spec_grammar.specs.Written.{Identifier, Fields, Unicode, Transform, Extension, unicode, transform, other, Written, HasWords, IsIdentifier, IsUnicode, IsTransform, IsKeyword, IsOther, IsPrivate, kept, is_other_singleton, IsExtension, singleton, IsWritten}
+use Rattle.iloc_spec_grammar.specs.Syntax.{Kind, Language, Script, Region, Variant, Subtag, UnicodeKey, TransformKey, Attribute, PrivateSubtag, is_word, IsWord, normal, lower, word_cmp, is_true, Identifier, Fields, Unicode, Transform, Extension, unicode, transform, other, Written, HasWords, IsIdentifier, IsUnicode, IsTransform, IsKeyword, IsOther, IsPrivate, kept, is_other_singleton, IsExtension, singleton, IsWritten}
 use Rattle.iloc_spec_grammar.specs.Meaning.{map_of, set_of, normal_identifier, normal_values, normal_fields, normal_unicode, normal_transform, Locale, unicode_part, transform_part, private_part, other_part, by_singleton, extensions_meaning, meaning, Means}
 use Rattle.iloc_spec_grammar.specs.Values.{IsNormal, IsAscending, IsIdentifierValue, IsUnicodeValue, IsTransformValue, IsValue, IsWellFormed}
 use Rattle.iloc_spec_grammar.proofs.WordsLaws.{length-attribute}

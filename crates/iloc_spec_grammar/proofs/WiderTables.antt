@@ -1,8 +1,7 @@
 -- Over a wider table each word, identifier and text keeps its meaning.
 use Rattle.std.proofs.Common.{◌≡◌, ℕ, Bool, true, List, length}
 use Rattle.std.proofs.lemmas.Bool.{and_parts, and_from}
-use Rattle.iloc_spec_grammar.specs.Words.{Language, two_or_three, languages, is_word, IsWord}
-use Rattle.iloc_spec_grammar.specs.Written.{Identifier, Extension, transform, IsIdentifier, IsExtension, singleton}
+use Rattle.iloc_spec_grammar.specs.Syntax.{Language, two_or_three, languages, is_word, IsWord, Identifier, Extension, transform, IsIdentifier, IsExtension, singleton}
 use Rattle.iloc_spec_grammar.specs.Meaning.{Locale, Means, IdentifierMeans}
 use Rattle.iloc_spec_grammar.proofs.ValuesLaws.{all_weaker}
 use Rattle.iloc_spec_grammar.proofs.RawLaws.{narrow_in_wide}

@@ -6,12 +6,8 @@ use Rattle.std.specs.Char.{is_ascii_alphanumeric}
 use Rattle.std.specs.List.{AllByRecursion}
 use Rattle.std.specs.Ordering.{nat_cmp}
 use Rattle.std.specs.FinMap.{find}
-use Rattle.iloc_spec_grammar.specs.Shapes.{Text, Table, Block, code_t, code_u, code_x}
-use Rattle.iloc_spec_grammar.specs.Pieces.{pieces}
-use Rattle.iloc_spec_grammar.specs.Words.{lower}
-use Rattle.iloc_spec_grammar.specs.Written.{Unicode, Transform, unicode_pieces, transform_pieces, IsUnicode, IsTransform, IsOther, IsPrivate, kept, is_other_singleton, AllDifferent, singleton}
+use Rattle.iloc_spec_grammar.specs.Syntax.{Text, Table, Block, code_t, code_u, code_x, pieces, lower, Unicode, Transform, unicode_pieces, transform_pieces, IsUnicode, IsTransform, IsOther, IsPrivate, kept, is_other_singleton, AllDifferent, singleton, head, tail_blocks}
 use Rattle.iloc_spec_grammar.specs.Meaning.{Locale, Extensions, IdentifierMeans, map_of, normal_unicode, normal_transform, no_unicode, no_transform, by_singleton}
-use Rattle.iloc_spec_grammar.specs.Blocks.{head, tail_blocks}
 
 -- The rules of the grammar: what the pieces after a singleton mean.
 

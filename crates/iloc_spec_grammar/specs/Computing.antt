@@ -7,14 +7,9 @@ use Rattle.std.specs.Int.{is_in_range}
 use Rattle.std.specs.List.{list_any, list_all}
 use Rattle.std.specs.Ordering.{nat_cmp, eq_by_cmp}
 use Rattle.std.specs.declared.cmp.Ordering.{Ordering}
-use Rattle.iloc_spec_grammar.specs.Shapes.{Text, Table, Field, Block, code_t, code_u, code_x}
-use Rattle.iloc_spec_grammar.specs.Pieces.{pieces}
-use Rattle.iloc_spec_grammar.specs.Words.{Language, Script, Region, Variant, UnicodeKey, TransformKey, Attribute, PrivateSubtag, is_word, lower, word_cmp}
-use Rattle.iloc_spec_grammar.specs.Written.{Identifier, Unicode, Transform, Extension, unicode, transform, other, kept, is_other_singleton, singleton}
-use Rattle.iloc_spec_grammar.specs.Meaning.{Locale, normal_identifier, meaning}
+use Rattle.iloc_spec_grammar.specs.Syntax.{Text, Table, Field, Block, code_t, code_u, code_x, pieces, Language, Script, Region, Variant, UnicodeKey, TransformKey, Attribute, PrivateSubtag, is_word, lower, word_cmp, Identifier, Unicode, Transform, Extension, unicode, transform, other, kept, is_other_singleton, singleton, first_piece, head, tail_blocks}
+use Rattle.iloc_spec_grammar.specs.Meaning.{Locale, normal_identifier, meaning, Fault, InvalidLanguage, InvalidSubtag, InvalidExtension, DuplicatedExtension}
 use Rattle.iloc_spec_grammar.specs.Values.{text, identifier_text}
-use Rattle.iloc_spec_grammar.specs.Faults.{Fault, InvalidLanguage, InvalidSubtag, InvalidExtension, DuplicatedExtension}
-use Rattle.iloc_spec_grammar.specs.Blocks.{first_piece, head, tail_blocks}
 use Rattle.iloc_spec_grammar.specs.Reading.{identifier_of, front_of, extension_of, written_of}
 
 -- Tests of the rules.

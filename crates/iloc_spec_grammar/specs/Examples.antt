@@ -1,13 +1,9 @@
 -- How worked examples are told: a text means something whose normal text is another, or it is
 -- refused.
 use Rattle.std.specs.Prelude.{◌≡◌}
-use Rattle.iloc_spec_grammar.specs.Shapes.{Text}
-use Rattle.iloc_spec_grammar.specs.Pieces.{pieces}
-use Rattle.iloc_spec_grammar.specs.Words.{languages}
-use Rattle.iloc_spec_grammar.specs.Written.{Identifier}
-use Rattle.iloc_spec_grammar.specs.Meaning.{Locale, Means, IdentifierMeans}
+use Rattle.iloc_spec_grammar.specs.Syntax.{Text, pieces, languages, Identifier}
+use Rattle.iloc_spec_grammar.specs.Meaning.{Locale, Means, IdentifierMeans, Fault, HasFault, HasIdentifierFault}
 use Rattle.iloc_spec_grammar.specs.Values.{text, identifier_text}
-use Rattle.iloc_spec_grammar.specs.Faults.{Fault, HasFault, HasIdentifierFault}
 
 -- the text t is accepted, and u is the normal text of its meaning
 pub record Normalises (t u : Text) : Type 0 where

@@ -4,10 +4,7 @@
 -- same way. Each loses nothing, and gives back what follows the rules of Written, so the rules have
 -- one reading at most.
 use Rattle.std.specs.Prelude.{◌≡◌, ℕ, ◌≤◌, Bool, true, false, cond, ◌==◌, List, [], ◌∷◌, ◌++◌, length, Option, Some, None}
-use Rattle.iloc_spec_grammar.specs.Shapes.{Text, Table, Block, code_t, code_u, code_x}
-use Rattle.iloc_spec_grammar.specs.Words.{Script, Region, Variant, TransformKey, is_word}
-use Rattle.iloc_spec_grammar.specs.Written.{Identifier, Fields, Unicode, Transform, Extension, unicode, transform, other, Written, HasWords, identifier_pieces, singleton}
-use Rattle.iloc_spec_grammar.specs.Blocks.{is_one_byte, first_piece, head, tail_blocks}
+use Rattle.iloc_spec_grammar.specs.Syntax.{Text, Table, Block, code_t, code_u, code_x, Script, Region, Variant, TransformKey, is_word, Identifier, Fields, Unicode, Transform, Extension, unicode, transform, other, Written, HasWords, identifier_pieces, singleton, is_one_byte, first_piece, head, tail_blocks}
 
 -- Lists of pieces.
 

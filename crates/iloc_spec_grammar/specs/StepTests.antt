@@ -4,13 +4,10 @@
 use Rattle.std.specs.Prelude.{◌≡◌, ◌↔◌, IsTrue, ℕ, Bool, true, false, not, ◌&&◌, ◌||◌, ◌==◌, List, [], ◌∷◌, length, map, Option, Some, None, nat_lt, if◌then◌else◌}
 use Rattle.std.specs.List.{list_any}
 use Rattle.std.specs.Result.{is_ok}
-use Rattle.iloc_spec_grammar.specs.Shapes.{Text, Table, Field}
-use Rattle.iloc_spec_grammar.specs.Pieces.{pieces}
-use Rattle.iloc_spec_grammar.specs.Words.{Subtag, is_word, lower, is_same, is_true, word_cmp}
-use Rattle.iloc_spec_grammar.specs.Written.{Identifier, Fields, Unicode, Transform, Extension, unicode, transform, other, Written}
+use Rattle.iloc_spec_grammar.specs.Syntax.{Text, Table, Field, pieces, Subtag, is_word, lower, is_same, is_true, word_cmp, Identifier, Fields, Unicode, Transform, Extension, unicode, transform, other, Written}
 use Rattle.iloc_spec_grammar.specs.Reading.{identifier_of, written_of}
 use Rattle.iloc_spec_grammar.specs.Computing.{all_different, identifier_result, locale_result}
-use Rattle.iloc_spec_grammar.specs.Steps.{Rule, VariantOrder, AttributeOrder, FieldOrder, Repeats, Trues, DroppedPieces}
+use Rattle.iloc_spec_grammar.specs.Values.{Rule, VariantOrder, AttributeOrder, FieldOrder, Repeats, Trues, DroppedPieces}
 
 -- What a step does to a list. Each of these takes a test `same` of whether two items are equal.
 

@@ -14,19 +14,13 @@ pub mod rewriting;
 ghost use Rattle.std.specs.Prelude.{◌≡◌, ◌↔◌, ◌⊎◌, ℕ, ◌+◌, ◌≤◌, true, ◌||◌, List, [], ◌∷◌, ◌++◌, length, replicate, nat_lt, is_some, option_map, Some, if◌then◌else◌, Ok, Err, MatchResult, codes};
 ghost use Rattle.std.specs.FinMap.{find, is_sorted};
 ghost use Rattle.std.specs.List.{list_any};
-ghost use Rattle.iloc_spec_grammar.specs.Shapes.{Text, Table, Block, code_t, code_u, code_x};
-ghost use Rattle.iloc_spec_grammar.specs.Pieces.{pieces, join, dashes, ArePieces};
-ghost use Rattle.iloc_spec_grammar.specs.Words.{Kind, Language, IsTable, two_or_three, all_but_four, languages, IsWord, is_word, normal, lower, word, word_cmp, is_same, EndsAt, greatest, Bounds, raw, wide_raw, narrow_raw, before_zero};
-ghost use Rattle.iloc_spec_grammar.specs.Written.{Identifier, Fields, Unicode, Transform, Written, AllDifferent, HasWords, IsUnicode, IsTransform, IsWritten, identifier_pieces, unicode_pieces, transform_pieces, spelling};
+ghost use Rattle.iloc_spec_grammar.specs.Syntax.{Text, Table, Block, code_t, code_u, code_x, pieces, join, dashes, ArePieces, Kind, Language, IsTable, two_or_three, all_but_four, languages, IsWord, is_word, normal, lower, word, word_cmp, is_same, EndsAt, greatest, Bounds, raw, wide_raw, narrow_raw, before_zero, Identifier, Fields, Unicode, Transform, Written, AllDifferent, HasWords, IsUnicode, IsTransform, IsWritten, identifier_pieces, unicode_pieces, transform_pieces, spelling, head};
 ghost use Rattle.iloc_spec_grammar.specs.Reading.{front_of, after_front, identifier_of, unicode_of, transform_of, written_of};
-ghost use Rattle.iloc_spec_grammar.specs.Meaning.{map_of, set_of, Locale, Means, IdentifierMeans};
-ghost use Rattle.iloc_spec_grammar.specs.Faults.{Fault, InvalidLanguage, InvalidSubtag, InvalidExtension, DuplicatedExtension, HasFault, HasIdentifierFault};
-ghost use Rattle.iloc_spec_grammar.specs.Blocks.{head};
+ghost use Rattle.iloc_spec_grammar.specs.Meaning.{map_of, set_of, Locale, Means, IdentifierMeans, Fault, InvalidLanguage, InvalidSubtag, InvalidExtension, DuplicatedExtension, HasFault, HasIdentifierFault};
 ghost use Rattle.iloc_spec_grammar.specs.Computing.{identifier_result, locale_result};
 ghost use Rattle.iloc_spec_grammar.specs.Examples.{Normalises, IsRefused, NormalisesIdentifier, IsRefusedIdentifier};
-ghost use Rattle.iloc_spec_grammar.specs.Steps.{Reordered, keys_differ, TextStep, Chain, IdentifierTextStep, IdentifierChain, LeadToOne};
+ghost use Rattle.iloc_spec_grammar.specs.Values.{Reordered, keys_differ, TextStep, Chain, IdentifierTextStep, IdentifierChain, LeadToOne, IsNormal, IsAscending, IsIdentifierValue, IsValue, IsWellFormed, lower_identifier, spelled_fields, printed, text, unicode_spelling, transform_spelling, other_spelling, private_spelling, extensions_spelling, identifier_text};
 ghost use Rattle.iloc_spec_grammar.specs.ByBlocks.{MeansByBlocks};
-ghost use Rattle.iloc_spec_grammar.specs.Values.{IsNormal, IsAscending, IsIdentifierValue, IsValue, IsWellFormed, lower_identifier, spelled_fields, printed, text, unicode_spelling, transform_spelling, other_spelling, private_spelling, extensions_spelling, identifier_text};
 
 /// Each text has exactly one list of pieces.
 #[tactic(auto, using(crate::proofs::PiecesLaws::pieces_are, crate::proofs::PiecesLaws::pieces_unique))]

@@ -5,12 +5,9 @@
 //! true exactly if the relation holds, of lists, of parts, of whole written locales, and of texts.
 
 ghost use Rattle.std.specs.Prelude.{◌≡◌, ◌↔◌, ℕ, ◌≤◌, Bool, List, length, codes, IsTrue, true, false};
-ghost use Rattle.iloc_spec_grammar.specs.Shapes.{Text, Table, Field};
-ghost use Rattle.iloc_spec_grammar.specs.Pieces.{pieces};
-ghost use Rattle.iloc_spec_grammar.specs.Words.{IsTable, languages};
-ghost use Rattle.iloc_spec_grammar.specs.Written.{Identifier, Extension, Written};
+ghost use Rattle.iloc_spec_grammar.specs.Syntax.{Text, Table, Field, pieces, IsTable, languages, Identifier, Extension, Written};
 ghost use Rattle.iloc_spec_grammar.specs.Meaning.{Locale, Means, IdentifierMeans};
-ghost use Rattle.iloc_spec_grammar.specs.Steps.{TextStep, Chain, IdentifierTextStep, IdentifierChain, LeadToOne, Reordered, Without, WithoutRepeats, LessTrue, Rule, IdentifierStep, ExtensionStep, Step};
+ghost use Rattle.iloc_spec_grammar.specs.Values.{TextStep, Chain, IdentifierTextStep, IdentifierChain, LeadToOne, Reordered, Without, WithoutRepeats, LessTrue, Rule, IdentifierStep, ExtensionStep, Step};
 ghost use Rattle.iloc_spec_grammar.specs.StepTests.{DecidesEquality, is_reordered, is_without, is_without_repeats, has_less_true, is_identifier_step, is_extension_step, is_step, is_text_step, is_identifier_text_step};
 
 /// Any number of steps keeps the meaning and does not lengthen the text; two accepted texts mean the same exactly if some number of steps leads both to one text.

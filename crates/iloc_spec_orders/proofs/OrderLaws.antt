@@ -8,8 +8,7 @@ use Rattle.std.specs.Cmp.{IsTotalOrder, nat_cmp_total, bool_cmp_total, on_total,
 use Rattle.std.specs.Cmp.Lexicographic.{slice_cmp, lists_total, options_total}
 use Rattle.std.specs.FinMap.{IsAntisymmetric, nat_cmp-IsAntisymmetric, slice_cmp-IsAntisymmetric}
 use Rattle.std.proofs.lemmas.Map.Lookups.{exact_pairs}
-use Rattle.iloc_spec_grammar.specs.Words.{word_cmp}
-use Rattle.iloc_spec_grammar.specs.Written.{Identifier, Fields, Unicode, Transform}
+use Rattle.iloc_spec_grammar.specs.Syntax.{word_cmp, Identifier, Fields, Unicode, Transform}
 use Rattle.iloc_spec_grammar.specs.Meaning.{Extensions}
 use Rattle.iloc_spec_orders.specs.Orders.{IsExactOrder, short_list_cmp, pair_cmp, words_cmp, identifier_cmp, keywords_cmp, fields_cmp, unicode_cmp, transform_cmp, other_cmp, extensions_cmp, locale_cmp, ExtensionKind, OfTransform, OfUnicode, OfPrivate, OfOther, place_of_kind, kind_cmp}
 

@@ -1,6 +1,5 @@
 -- Worked examples are shown on texts.
-use Rattle.iloc_spec_grammar.specs.Shapes.{Text}
-use Rattle.iloc_spec_grammar.specs.Pieces.{pieces}
+use Rattle.iloc_spec_grammar.specs.Syntax.{Text, pieces}
 use Rattle.iloc_spec_grammar.specs.Meaning.{Locale, meaning}
 use Rattle.iloc_spec_grammar.specs.Reading.{written_of}
 

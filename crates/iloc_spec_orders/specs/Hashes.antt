@@ -6,8 +6,7 @@ use Rattle.std.specs.Prelude.{◌≡◌, ◌^◌, ◌<◌, List, ◌++◌, lengt
 use Rattle.std.specs.Hash.{HashWrites, u8, str, slice, option}
 use Rattle.std.specs.declared.cmp.Ordering.{Ordering}
 use Rattle.std.specs.declared.cmp.Ordering.TheVariants.{Equal}
-use Rattle.iloc_spec_grammar.specs.Shapes.{Text, Block}
-use Rattle.iloc_spec_grammar.specs.Written.{Identifier, Fields, Unicode, Transform}
+use Rattle.iloc_spec_grammar.specs.Syntax.{Text, Block, Identifier, Fields, Unicode, Transform}
 use Rattle.iloc_spec_grammar.specs.Meaning.{Locale, Extensions}
 
 -- Values that tie in the order feed a hasher alike; and those that feed it alike tie, so nothing of

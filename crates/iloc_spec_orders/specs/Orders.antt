@@ -7,9 +7,7 @@ use Rattle.std.specs.declared.cmp.Ordering.{Ordering}
 use Rattle.std.specs.declared.cmp.Ordering.TheVariants.{Equal}
 use Rattle.std.specs.Cmp.{IsTotalOrder}
 use Rattle.std.specs.Cmp.Lexicographic.{slice_cmp}
-use Rattle.iloc_spec_grammar.specs.Shapes.{Text, Block}
-use Rattle.iloc_spec_grammar.specs.Words.{word_cmp}
-use Rattle.iloc_spec_grammar.specs.Written.{Identifier, Fields, Unicode, Transform}
+use Rattle.iloc_spec_grammar.specs.Syntax.{Text, Block, word_cmp, Identifier, Fields, Unicode, Transform}
 use Rattle.iloc_spec_grammar.specs.Meaning.{Locale, Extensions}
 
 -- A total order, by which only equal values tie.

@@ -9,7 +9,7 @@ ghost use Rattle.iloc_spec_orders.specs.Orders.{IsExactOrder, words_cmp, identif
 ghost use Rattle.iloc_spec_orders.specs.Hashes.{HashesByOrder, word_fed, words_fed, identifier_fed, fields_fed, unicode_fed, transform_fed, other_fed, extensions_fed, locale_fed};
 ghost use Rattle.std.specs.Prelude.{◌≡◌, [], ◌∷◌, codes, replicate};
 ghost use Rattle.std.specs.declared.cmp.Ordering.TheVariants.{Less, Equal, Greater};
-ghost use Rattle.iloc_spec_grammar.specs.Words.{word_cmp};
+ghost use Rattle.iloc_spec_grammar.specs.Syntax.{word_cmp};
 ghost use Rattle.iloc_spec_orders.specs.Examples.{meaning_of};
 
 /// Total orders, by which only equal values tie.

@@ -1,11 +1,9 @@
 -- Each line has one answer, and each input one output: those that are computed.
 use Rattle.std.proofs.Common.{◌≡◌, ℕ, Bool, List, [], ◌∷◌, ◌++◌, map, refl, sym, ap, ◌∙◌, MatchResult, Result, Ok, Err}
 use Rattle.std.specs.List.{AllZip, flat_map}
-use Rattle.iloc_spec_grammar.specs.Pieces.{pieces}
-use Rattle.iloc_spec_grammar.specs.Words.{IsTable}
-use Rattle.iloc_spec_grammar.specs.Meaning.{Means, IdentifierMeans}
+use Rattle.iloc_spec_grammar.specs.Syntax.{pieces, IsTable}
+use Rattle.iloc_spec_grammar.specs.Meaning.{Means, IdentifierMeans, Fault, HasIdentifierFault, HasFault}
 use Rattle.iloc_spec_grammar.specs.Values.{identifier_text, text}
-use Rattle.iloc_spec_grammar.specs.Faults.{Fault, HasIdentifierFault, HasFault}
 use Rattle.iloc_spec_grammar.proofs.IdentifierLaws as identifiers
 use Rattle.iloc_spec_grammar.proofs.IdentifierTexts.{identifier_apart, one_identifier_fault}
 use Rattle.iloc_spec_grammar.proofs.Readings as readings

@@ -1,12 +1,9 @@
 -- What the program writes for what it reads: the answer to each line. This project's rule.
 use Rattle.std.specs.Prelude.{◌≡◌, List, [], ◌∷◌, ◌++◌, codes, Result, Ok, Err}
 use Rattle.std.specs.List.{flat_map, AllZip}
-use Rattle.iloc_spec_grammar.specs.Shapes.{Text, Table}
-use Rattle.iloc_spec_grammar.specs.Pieces.{pieces}
-use Rattle.iloc_spec_grammar.specs.Written.{Identifier}
-use Rattle.iloc_spec_grammar.specs.Meaning.{Locale, Means, IdentifierMeans}
+use Rattle.iloc_spec_grammar.specs.Syntax.{Text, Table, pieces, Identifier}
+use Rattle.iloc_spec_grammar.specs.Meaning.{Locale, Means, IdentifierMeans, Fault, InvalidLanguage, InvalidSubtag, InvalidExtension, DuplicatedExtension, HasIdentifierFault, HasFault}
 use Rattle.iloc_spec_grammar.specs.Values.{identifier_text, text}
-use Rattle.iloc_spec_grammar.specs.Faults.{Fault, InvalidLanguage, InvalidSubtag, InvalidExtension, DuplicatedExtension, HasIdentifierFault, HasFault}
 use Rattle.iloc_spec_preferences.specs.DataLocales.{DataLocale, DataMeans, HasDataFault, data_text}
 use Rattle.iloc_spec_preferences.specs.DataComputing.{data_result}
 use Rattle.iloc_spec_grammar.specs.Computing.{identifier_result, locale_result}

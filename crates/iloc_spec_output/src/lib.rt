@@ -6,8 +6,7 @@
 #![tactic(auto)]
 
 ghost use Rattle.std.specs.Prelude.{◌≡◌, ◌<◌, [], ◌∷◌, ◌++◌, length, codes};
-ghost use Rattle.iloc_spec_grammar.specs.Shapes.{Text, Table};
-ghost use Rattle.iloc_spec_grammar.specs.Words.{IsTable, languages};
+ghost use Rattle.iloc_spec_grammar.specs.Syntax.{Text, Table, IsTable, languages};
 ghost use Rattle.iloc_spec_output.specs.Lines.{IsOneLine, ReadsEnded, ReadsOpen, IsEndedOrOpen};
 ghost use Rattle.iloc_spec_output.specs.Output.{Mode, OfIdentifiers, OfLocales, OfDataLocales, IsAnswer, IsOutput, line_answer, reply, output};
 

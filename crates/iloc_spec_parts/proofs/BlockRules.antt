@@ -1,8 +1,7 @@
 -- The rule of a block, by its singleton.
 use Rattle.std.proofs.Common.{◌≡◌, ◌↔◌, inl, inr, ℕ, Bool, true, List, sym, refl, subst, arith}
-use Rattle.iloc_spec_grammar.specs.Written.{Unicode, Transform, Extension, unicode, transform, other, extension_pieces, IsExtension, IsOther, IsPrivate, is_other_singleton, singleton}
-use Rattle.iloc_spec_grammar.specs.Meaning.{normal_unicode, normal_transform}
-use Rattle.iloc_spec_grammar.specs.Faults.{IsBlock}
+use Rattle.iloc_spec_grammar.specs.Syntax.{Unicode, Transform, Extension, unicode, transform, other, extension_pieces, IsExtension, IsOther, IsPrivate, is_other_singleton, singleton}
+use Rattle.iloc_spec_grammar.specs.Meaning.{normal_unicode, normal_transform, IsBlock}
 use Rattle.iloc_spec_grammar.specs.ByBlocks.{UnicodeMeans, TransformMeans}
 use Rattle.iloc_spec_grammar.proofs.Singletons.{no_u, no_t, no_x}
 

@@ -3,8 +3,7 @@ use Rattle.std.proofs.Common.{◌≡◌, ℕ, ◌||◌, List, [], ◌++◌, sym,
 use Rattle.std.specs.List.{AllByRecursion, list_any}
 use Rattle.std.specs.Option.{option_or}
 use Rattle.std.specs.FinMap.{find}
-use Rattle.iloc_spec_grammar.specs.Words.{UnicodeKey, Subtag, Attribute, word_cmp, is_same}
-use Rattle.iloc_spec_grammar.specs.Written.{Unicode}
+use Rattle.iloc_spec_grammar.specs.Syntax.{UnicodeKey, Subtag, Attribute, word_cmp, is_same, Unicode}
 use Rattle.iloc_spec_grammar.specs.Meaning.{map_of, set_of}
 use Rattle.iloc_spec_grammar.specs.Values.{IsNormal, IsUnicodeValue}
 use Rattle.iloc_spec_grammar.proofs.MapLaws.{word_cmp_total, same_words, find-map_of, all-map_of, is_sorted-map_of, map_of_sorted}

@@ -2,8 +2,7 @@
 use Rattle.std.proofs.Common.{◌≡◌, ℕ, Bool, true, false, cond, List, [], ◌∷◌, ◌++◌, refl, sym, ap, ◌∙◌}
 use Rattle.std.specs.List.{AllByRecursion}
 use Rattle.std.proofs.lemmas.Bool.{cond_both}
-use Rattle.iloc_spec_grammar.specs.Written.{Fields, fields_pieces}
-use Rattle.iloc_spec_grammar.specs.Blocks.{first_piece}
+use Rattle.iloc_spec_grammar.specs.Syntax.{Fields, fields_pieces, first_piece}
 use Rattle.iloc_spec_grammar.specs.Reading.{passing, past, EndsBefore, before_key, fields_from}
 use Rattle.iloc_spec_grammar.proofs.ReadBack.{all_append}
 use Rattle.iloc_spec_grammar.proofs.Readings.{fields_all}

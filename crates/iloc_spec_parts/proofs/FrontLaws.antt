@@ -4,11 +4,8 @@ use Rattle.std.specs.List.{AllByRecursion, list_any}
 use Rattle.std.proofs.lemmas.Bool.{or_parts, or_cases, not-false, cond_both, false_from_ne_true, eqb-true, ne_eqb, ltb-true}
 use Rattle.std.proofs.lemmas.List.{nil_from_length}
 use Rattle.std.proofs.lemmas.Bool.Decides.{nat_tests}
-use Rattle.iloc_spec_grammar.specs.Words.{UnicodeKey, Attribute, is_word, IsWord, lower}
-use Rattle.iloc_spec_grammar.specs.Written.{Fields, Unicode, fields_pieces, unicode_pieces, IsKeyword, IsOther, IsUnicode, kept}
-use Rattle.iloc_spec_grammar.specs.Meaning.{set_of, normal_fields, normal_unicode}
-use Rattle.iloc_spec_grammar.specs.Faults.{Fault, InvalidExtension}
-use Rattle.iloc_spec_grammar.specs.Blocks.{front}
+use Rattle.iloc_spec_grammar.specs.Syntax.{UnicodeKey, Attribute, is_word, IsWord, lower, Fields, Unicode, fields_pieces, unicode_pieces, IsKeyword, IsOther, IsUnicode, kept, front}
+use Rattle.iloc_spec_grammar.specs.Meaning.{set_of, normal_fields, normal_unicode, Fault, InvalidExtension}
 use Rattle.iloc_spec_grammar.specs.ByBlocks.{UnicodeMeans, OtherMeans}
 use Rattle.iloc_spec_grammar.specs.Reading.{EndsBefore, starts_block, from_block, is_two, fields_from}
 use Rattle.iloc_spec_grammar.proofs.WordsLaws.{length-attribute, length-unicode_key}
@@ -19,8 +16,7 @@ use Rattle.iloc_spec_grammar.proofs.ReadingLaws.{front-from_block, from_block_st
 use Rattle.iloc_spec_grammar.specs.Computing.{is_other, is_private}
 use Rattle.iloc_spec_grammar.proofs.RuleTests.{tests_other, tests_private, tests_not}
 use Rattle.iloc_spec_parts.specs.Readers.{IsReader, AgreesWithBlocks}
-use Rattle.iloc_spec_parts.specs.Fronts.{attributes_front, after_attributes, is_keyword_piece, keywords_front, after_keywords, is_bad_key, KeywordsRead, KeywordsFault, bad_key, UnicodeRead, UnicodeFault, in_keywords, both_absent, has_other_length, other_front, OtherRead, OtherFault, no_word, PrivateRead, PrivateFault, not_private}
-use Rattle.iloc_spec_parts.specs.FrontComputing.{keywords_at, keywords_result, with_attributes, unicode_result, other_result, private_result}
+use Rattle.iloc_spec_parts.specs.Fronts.{attributes_front, after_attributes, is_keyword_piece, keywords_front, after_keywords, is_bad_key, KeywordsRead, KeywordsFault, bad_key, UnicodeRead, UnicodeFault, in_keywords, both_absent, has_other_length, other_front, OtherRead, OtherFault, no_word, PrivateRead, PrivateFault, not_private, keywords_at, keywords_result, with_attributes, unicode_result, other_result, private_result}
 use Rattle.iloc_spec_parts.proofs.FieldLaws.{passing_all, passing_stops, past_stops, all_from_pieces, passing_from_all, front_of_fields, fields_words, fields_stop, pieces_pass}
 use Rattle.iloc_spec_parts.proofs.ReaderLaws.{reader_of, agreeing, until_block, Answer, Answers}
 use Rattle.std.proofs.Math.Bool.{or-true, and-false}

@@ -7,24 +7,19 @@ use Rattle.std.specs.Cmp.{IsTotalOrder, nat_cmp_total, tied_itself}
 use Rattle.std.specs.FinMap.{find}
 use Rattle.std.proofs.lemmas.Bool.{or_parts}
 use Rattle.std.proofs.lemmas.List.{length-map}
-use Rattle.iloc_spec_grammar.specs.Pieces.{pieces}
-use Rattle.iloc_spec_grammar.specs.Words.{IsTable, PrivateSubtag, is_word, lower, word_cmp}
-use Rattle.iloc_spec_grammar.specs.Written.{Identifier, Fields, Unicode, Transform, Extension, unicode, transform, other, identifier_pieces, fields_pieces, unicode_pieces, transform_pieces, extension_block, blocks_of, IsIdentifier, IsUnicode, IsTransform, IsExtension, IsPrivate, AllDifferent, singleton}
-use Rattle.iloc_spec_grammar.specs.Meaning.{map_of, set_of, normal_identifier, normal_fields, normal_values, normal_unicode, normal_transform, by_singleton, unicode_part, transform_part, private_part, other_part}
-use Rattle.iloc_spec_grammar.specs.Faults.{head, tail_blocks}
+use Rattle.iloc_spec_grammar.specs.Syntax.{pieces, IsTable, PrivateSubtag, is_word, lower, word_cmp, Identifier, Fields, Unicode, Transform, Extension, unicode, transform, other, identifier_pieces, fields_pieces, unicode_pieces, transform_pieces, extension_block, blocks_of, IsIdentifier, IsUnicode, IsTransform, IsExtension, IsPrivate, AllDifferent, singleton}
+use Rattle.iloc_spec_grammar.specs.Meaning.{map_of, set_of, normal_identifier, normal_fields, normal_values, normal_unicode, normal_transform, by_singleton, unicode_part, transform_part, private_part, other_part, head, tail_blocks}
 use Rattle.iloc_spec_grammar.specs.Reading.{passing, starts_block, IdentifierFront}
 use Rattle.iloc_spec_grammar.proofs.IdentifierLaws.{one_identifier}
 use Rattle.iloc_spec_grammar.proofs.MapLaws.{word_cmp_total, find-map_of}
 use Rattle.iloc_spec_grammar.proofs.ReadBack.{all_append}
 use Rattle.iloc_spec_grammar.proofs.Readings.{head-spelling, blocks-spelling}
 use Rattle.iloc_spec_grammar.proofs.SetLaws.{length-set_of-different}
-use Rattle.iloc_spec_parts.specs.Inline.{IsInline, HasFewValues}
-use Rattle.iloc_spec_parts.specs.Fronts.{FrontRead, absent, present, fields_front, BeginsField}
+use Rattle.iloc_spec_parts.specs.Inline.{IsInline, HasFewValues, IsShortUnicode, IsShortTransform, IsShortBlock, IsInlineByBlocks, ReachesLongBlock, here, later}
+use Rattle.iloc_spec_parts.specs.Fronts.{FrontRead, absent, present, fields_front, BeginsField, before_bad_key}
 use Rattle.iloc_spec_parts.proofs.FrontLaws.{unicode_taken, keywords_taken}
-use Rattle.iloc_spec_parts.specs.FrontComputing.{before_bad_key}
 use Rattle.iloc_spec_parts.proofs.KeptLaws.{kept_all, passing_short, some_fields}
 use Rattle.iloc_spec_parts.proofs.TransformLaws.{one_front, one_longest, front_language, transform_spelled}
-use Rattle.iloc_spec_parts.specs.InlineBlocks.{IsShortUnicode, IsShortTransform, IsShortBlock, IsInlineByBlocks, ReachesLongBlock, here, later}
 use Rattle.iloc_spec_grammar.proofs.Singletons.{self_tied, tied_back, no_u, no_t, no_x}
 
 -- maps that are empty

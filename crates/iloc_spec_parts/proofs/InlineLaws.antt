@@ -2,11 +2,8 @@
 use Rattle.std.proofs.Common.{◌≡◌, ◌≤◌, ◌↔◌, ℕ, Bool, true, nat_le, List, [], ◌∷◌, length, refl, sym, ap, ◌∙◌, subst, true≢false, arith, Result, Ok, Err, Option, Some, None, IfSome, option_map}
 use Rattle.std.specs.List.{AllByRecursion}
 use Rattle.std.proofs.lemmas.Bool.{leb-true, le-leb}
-use Rattle.iloc_spec_grammar.specs.Pieces.{pieces}
-use Rattle.iloc_spec_grammar.specs.Words.{IsTable}
-use Rattle.iloc_spec_grammar.specs.Written.{Extension, unicode, transform, other, Written}
-use Rattle.iloc_spec_grammar.specs.Meaning.{Locale, Means, meaning, normal_values}
-use Rattle.iloc_spec_grammar.specs.Faults.{Fault}
+use Rattle.iloc_spec_grammar.specs.Syntax.{pieces, IsTable, Extension, unicode, transform, other, Written}
+use Rattle.iloc_spec_grammar.specs.Meaning.{Locale, Means, meaning, normal_values, Fault}
 use Rattle.iloc_spec_grammar.specs.Reading.{written_of}
 use Rattle.iloc_spec_grammar.specs.Computing.{locale_result}
 use Rattle.iloc_spec_grammar.proofs.RuleTests.{Tests, tests_and, tests_all, tests_if_some}

@@ -1,12 +1,9 @@
 -- What a reader keeps before a fault.
 use Rattle.std.proofs.Common.{◌≡◌, ℕ, suc, ◌≤◌, Bool, true, false, cond, List, [], ◌∷◌, ◌++◌, length, refl, sym, ap, ◌∙◌, subst, arith, true≢false}
 use Rattle.std.specs.List.{AllByRecursion}
-use Rattle.iloc_spec_grammar.specs.Words.{UnicodeKey, TransformKey, Attribute, is_word, IsWord}
-use Rattle.iloc_spec_grammar.specs.Written.{Fields, IsKeyword}
-use Rattle.iloc_spec_grammar.specs.Blocks.{is_one_byte, first_piece, front}
+use Rattle.iloc_spec_grammar.specs.Syntax.{UnicodeKey, TransformKey, Attribute, is_word, IsWord, Fields, IsKeyword, is_one_byte, first_piece, front}
 use Rattle.iloc_spec_grammar.specs.Reading.{passing, rest_of}
-use Rattle.iloc_spec_parts.specs.Fronts.{is_field_piece, fields_front, BeginsField, has_other_length, other_front}
-use Rattle.iloc_spec_parts.specs.FrontComputing.{before_bad_key}
+use Rattle.iloc_spec_parts.specs.Fronts.{is_field_piece, fields_front, BeginsField, has_other_length, other_front, before_bad_key}
 use Rattle.iloc_spec_parts.proofs.TransformLaws.{no_key_empty}
 
 -- keywords

@@ -1,7 +1,7 @@
 -- The program reads a part where its reader does, and finds its fault.
 use Rattle.std.proofs.Common.{◌≡◌, ℕ, Bool, true, List, [], ◌∷◌, refl, Result, Ok, Err, MatchResult}
 use Rattle.std.specs.Char.{to_ascii_lowercase}
-use Rattle.iloc_spec_grammar.specs.Faults.{Fault}
+use Rattle.iloc_spec_grammar.specs.Meaning.{Fault}
 use Rattle.std.proofs.lemmas.Bool.{cond_both}
 use Rattle.iloc_spec_parts.specs.Parts.{PartRead, PartFault, no_singleton, after_singleton}
 use Rattle.iloc_spec_parts.specs.PartComputing.{with_singleton, part_result}

@@ -1,7 +1,7 @@
 -- Parts with their singletons.
 use Rattle.std.proofs.Common.{◌≡◌, ℕ, Bool, List, refl, sym, ap, ◌∙◌, subst, true≢false, Result}
 use Rattle.std.specs.Char.{to_ascii_lowercase}
-use Rattle.iloc_spec_grammar.specs.Faults.{Fault}
+use Rattle.iloc_spec_grammar.specs.Meaning.{Fault}
 use Rattle.iloc_spec_parts.specs.Readers.{IsReader}
 use Rattle.iloc_spec_parts.specs.PartComputing.{part_result}
 use Rattle.iloc_spec_parts.proofs.ReaderLaws.{reader_of, Answers}

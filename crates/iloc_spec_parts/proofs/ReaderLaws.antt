@@ -1,8 +1,8 @@
 -- What follows for every reader of a front.
 use Rattle.std.proofs.Common.{◌≡◌, ◌⊎◌, inl, inr, ℕ, true, List, [], ◌∷◌, ◌++◌, refl, sym, ap, ◌∙◌, true≢false, Result, Ok, Err, MatchResult}
 use Rattle.std.specs.List.{AllByRecursion}
-use Rattle.iloc_spec_grammar.specs.Faults.{Fault}
-use Rattle.iloc_spec_grammar.specs.Blocks.{front}
+use Rattle.iloc_spec_grammar.specs.Meaning.{Fault}
+use Rattle.iloc_spec_grammar.specs.Syntax.{front}
 use Rattle.iloc_spec_grammar.specs.Reading.{starts_block, from_block}
 use Rattle.iloc_spec_grammar.proofs.Readings.{IsLong}
 use Rattle.iloc_spec_grammar.proofs.ReadingLaws.{from_block_starts}

@@ -2,9 +2,7 @@
 use Rattle.std.proofs.Common.{◌≡◌, ◌≤◌, ℕ, Bool, false, not, cond, List, [], ◌∷◌, length, map, filter, refl, sym, ap, ◌∙◌, subst, arith, Option, Some, None, IfSome, option_map, option_to_list}
 use Rattle.std.specs.List.{AllByRecursion}
 use Rattle.std.proofs.lemmas.Bool.{cond_both, not-true}
-use Rattle.iloc_spec_grammar.specs.Pieces.{pieces, join}
-use Rattle.iloc_spec_grammar.specs.Words.{Kind, Language, Script, Region, Variant, UnicodeKey, Attribute, IsWord, lower, normal, is_true}
-use Rattle.iloc_spec_grammar.specs.Written.{IsWritten, HasWords, spelling}
+use Rattle.iloc_spec_grammar.specs.Syntax.{pieces, join, Kind, Language, Script, Region, Variant, UnicodeKey, Attribute, IsWord, lower, normal, is_true, IsWritten, HasWords, spelling}
 use Rattle.iloc_spec_grammar.specs.Meaning.{normal_values}
 use Rattle.iloc_spec_grammar.specs.Values.{IsNormal, IsAscending, IsValue, IsWellFormed, IsIdentifierValue, printed, text}
 use Rattle.iloc_spec_grammar.proofs.ReadBack.{pieces_spelled, OfWords}

@@ -4,12 +4,8 @@ use Rattle.std.specs.List.{AllByRecursion, list_all}
 use Rattle.std.specs.Char.{is_ascii_alphanumeric, to_ascii_lowercase}
 use Rattle.std.proofs.lemmas.Bool.{and_parts, and_from, cond_both, false_from_ne_true, leb-true, le-leb, eqb-true, eqb-false, eq-eqb, ne_eqb}
 use Rattle.std.proofs.lemmas.Bool.Decides.{nat_tests}
-use Rattle.iloc_spec_grammar.specs.Pieces.{pieces}
-use Rattle.iloc_spec_grammar.specs.Words.{Kind, Language, Script, Region, Variant, UnicodeKey, Attribute, is_word, IsWord, IsTable, lower, word_cmp}
-use Rattle.iloc_spec_grammar.specs.Written.{Identifier, identifier_pieces, HasWords, IsWritten, singleton, block_pieces, blocks_of, AllDifferent}
-use Rattle.iloc_spec_grammar.specs.Meaning.{Locale, Means, meaning, set_of, normal_values, transform_part, IdentifierMeans, normal_identifier}
-use Rattle.iloc_spec_grammar.specs.Faults.{Fault}
-use Rattle.iloc_spec_grammar.specs.Blocks.{head, tail_blocks, front, first_piece}
+use Rattle.iloc_spec_grammar.specs.Syntax.{pieces, Kind, Language, Script, Region, Variant, UnicodeKey, Attribute, is_word, IsWord, IsTable, lower, word_cmp, Identifier, identifier_pieces, HasWords, IsWritten, singleton, block_pieces, blocks_of, AllDifferent, head, tail_blocks, front, first_piece}
+use Rattle.iloc_spec_grammar.specs.Meaning.{Locale, Means, meaning, set_of, normal_values, transform_part, IdentifierMeans, normal_identifier, Fault}
 use Rattle.iloc_spec_grammar.proofs.WordsLaws.{length-attribute, length-unicode_key}
 use Rattle.iloc_spec_grammar.proofs.IdentifierLaws.{one_identifier, pieces-identifier_of, identifier_of-pieces}
 use Rattle.iloc_spec_grammar.specs.Reading.{take_first, skip_first, first_item, identifier_of}

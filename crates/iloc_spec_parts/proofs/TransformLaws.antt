@@ -4,11 +4,8 @@ use Rattle.std.specs.List.{AllByRecursion, list_all}
 use Rattle.std.proofs.lemmas.Bool.{cond_both, false_from_ne_true, eqb-true}
 use Rattle.std.proofs.lemmas.List.{map-append, take-append-le, take-append-drop}
 use Rattle.std.proofs.Math.Seq.{take-append_seam, drop-append_seam}
-use Rattle.iloc_spec_grammar.specs.Words.{Language, Script, Region, Variant, TransformKey, Attribute, is_word, IsWord, IsTable, lower, word_cmp}
-use Rattle.iloc_spec_grammar.specs.Written.{Identifier, Fields, Transform, transform, identifier_pieces, optional_pieces, fields_pieces, HasWords, IsIdentifier, IsField, IsTransform, AllDifferent}
-use Rattle.iloc_spec_grammar.specs.Meaning.{normal_transform}
-use Rattle.iloc_spec_grammar.specs.Faults.{Fault, InvalidSubtag, RepeatsVariant}
-use Rattle.iloc_spec_grammar.specs.Blocks.{first_piece, front}
+use Rattle.iloc_spec_grammar.specs.Syntax.{Language, Script, Region, Variant, TransformKey, Attribute, is_word, IsWord, IsTable, lower, word_cmp, Identifier, Fields, Transform, transform, identifier_pieces, optional_pieces, fields_pieces, HasWords, IsIdentifier, IsField, IsTransform, AllDifferent, first_piece, front}
+use Rattle.iloc_spec_grammar.specs.Meaning.{normal_transform, Fault, InvalidSubtag, RepeatsVariant}
 use Rattle.iloc_spec_grammar.specs.ByBlocks.{TransformMeans}
 use Rattle.iloc_spec_grammar.specs.Reading.{IdentifierFront, EndsBefore, starts_block, from_block, front_of, after_front, identifier_of, fields_from}
 use Rattle.iloc_spec_grammar.proofs.WordsLaws.{length-language, region_no_script, length-transform_key}
@@ -20,8 +17,7 @@ use Rattle.iloc_spec_grammar.proofs.FaultLaws.{some_repeat, front_variants, afte
 use Rattle.iloc_spec_grammar.specs.Computing.{all_different, is_field}
 use Rattle.iloc_spec_grammar.proofs.RuleTests.{Tests, tests_not, tests_and, tests_all, tests_field, tests_needed, tests_different}
 use Rattle.iloc_spec_parts.specs.Readers.{IsReader, AgreesWithBlocks}
-use Rattle.iloc_spec_parts.specs.Fronts.{FrontRead, absent, present, is_field_piece, fields_front, after_fields, TransformRead, TransformFault, repeats, unread}
-use Rattle.iloc_spec_parts.specs.FrontComputing.{fields_at, fields_result, transform_result}
+use Rattle.iloc_spec_parts.specs.Fronts.{FrontRead, absent, present, is_field_piece, fields_front, after_fields, TransformRead, TransformFault, repeats, unread, fields_at, fields_result, transform_result}
 use Rattle.iloc_spec_parts.proofs.FieldLaws.{all_from_pieces, front_of_fields, fields_stop, pieces_pass}
 use Rattle.iloc_spec_parts.proofs.FrontLaws.{not_attribute}
 use Rattle.iloc_spec_parts.proofs.ReaderLaws.{reader_of, agreeing, until_block, Answers}

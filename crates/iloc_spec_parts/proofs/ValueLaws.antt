@@ -1,11 +1,9 @@
 -- The text of a value is read as it.
 use Rattle.std.proofs.Common.{◌≡◌, ◌≢◌, ℕ, false, cond, List, [], ◌∷◌, refl, ap, ◌∙◌, Ok, Err}
 use Rattle.std.specs.List.{AllByRecursion, list_all}
-use Rattle.iloc_spec_grammar.specs.Pieces.{pieces, join, IsHyphenFree}
-use Rattle.iloc_spec_grammar.specs.Words.{Kind, Subtag, Attribute, is_word, IsWord, lower, is_true}
-use Rattle.iloc_spec_grammar.specs.Meaning.{normal_values}
+use Rattle.iloc_spec_grammar.specs.Syntax.{pieces, join, IsHyphenFree, Kind, Subtag, Attribute, is_word, IsWord, lower, is_true}
+use Rattle.iloc_spec_grammar.specs.Meaning.{normal_values, InvalidSubtag, InvalidExtension}
 use Rattle.iloc_spec_grammar.specs.Values.{IsNormal, spelled_value}
-use Rattle.iloc_spec_grammar.specs.Faults.{InvalidSubtag, InvalidExtension}
 use Rattle.iloc_spec_grammar.proofs.PiecesLaws.{pieces-join}
 use Rattle.iloc_spec_grammar.proofs.ReadBack.{word_hyphen_free}
 use Rattle.iloc_spec_grammar.proofs.ValuesLaws.{all_weaker, values_fixed, spelled_rule, spelled_means}

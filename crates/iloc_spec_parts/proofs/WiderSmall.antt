@@ -1,6 +1,6 @@
 -- Over a wider table small texts stay what they are.
 use Rattle.std.proofs.Common.{◌≡◌, ℕ, Bool, true, List}
-use Rattle.iloc_spec_grammar.specs.Written.{IsExtension, singleton}
+use Rattle.iloc_spec_grammar.specs.Syntax.{IsExtension, singleton}
 use Rattle.iloc_spec_grammar.proofs.ValuesLaws.{all_weaker}
 use Rattle.iloc_spec_grammar.proofs.WiderTables as tables
 use Rattle.iloc_spec_parts.specs.Small.{SmallLocale, small_written, IsSmall}

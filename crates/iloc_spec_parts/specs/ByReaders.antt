@@ -2,7 +2,7 @@
 -- it of them. The law `by_readers` says that the two agree. Restates UTS #35, section 3,
 -- unicode_locale_id.
 use Rattle.std.specs.Prelude.{[]}
-use Rattle.iloc_spec_grammar.specs.Shapes.{Text, Table}
+use Rattle.iloc_spec_grammar.specs.Syntax.{Text, Table}
 use Rattle.iloc_spec_grammar.specs.Meaning.{Locale}
 use Rattle.iloc_spec_grammar.specs.ByBlocks.{Rules, MeansBy}
 use Rattle.iloc_spec_parts.specs.Fronts.{UnicodeRead, TransformRead, OtherRead, PrivateRead}

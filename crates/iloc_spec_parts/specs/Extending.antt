@@ -1,8 +1,7 @@
 -- A unicode part extended by another: the attributes of both, and the keywords of both, where at a
 -- key of both the other's value stays. This project's rule, as in the Rust crate.
 use Rattle.std.specs.Prelude.{◌++◌}
-use Rattle.iloc_spec_grammar.specs.Words.{word_cmp}
-use Rattle.iloc_spec_grammar.specs.Written.{Unicode}
+use Rattle.iloc_spec_grammar.specs.Syntax.{word_cmp, Unicode}
 use Rattle.iloc_spec_grammar.specs.Meaning.{map_of, set_of}
 
 abbrev pub extend : Unicode → Unicode → Unicode

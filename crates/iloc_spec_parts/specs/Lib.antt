@@ -3,11 +3,9 @@ pub mod Fronts
 pub mod SingleValues
 pub mod Parts
 pub mod PartValues
-pub mod FrontComputing
 pub mod Extending
 pub mod PartComputing
 pub mod ByReaders
 pub mod Small
 pub mod SmallComputing
 pub mod Inline
-pub mod InlineBlocks

@@ -2,8 +2,8 @@
 -- value and what is left, or the fault.
 use Rattle.std.specs.Prelude.{ℕ, Bool, List, [], ◌∷◌, Result, Ok, Err, if◌then◌else◌}
 use Rattle.std.specs.Char.{to_ascii_lowercase}
-use Rattle.iloc_spec_grammar.specs.Shapes.{Text}
-use Rattle.iloc_spec_grammar.specs.Faults.{Fault, InvalidExtension}
+use Rattle.iloc_spec_grammar.specs.Syntax.{Text}
+use Rattle.iloc_spec_grammar.specs.Meaning.{Fault, InvalidExtension}
 
 abbrev pub with_singleton : {X : Type 0} → ℕ → Result (X × List Text) Fault
     → Result ((ℕ × X) × List Text) Fault

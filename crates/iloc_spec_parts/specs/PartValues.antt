@@ -2,11 +2,8 @@
 -- UTS #35's type and tvalue; that `true` means nothing is its rule too.
 use Rattle.std.specs.Prelude.{List, [], ◌∷◌, if◌then◌else◌, Result, Ok, Err}
 use Rattle.std.specs.List.{list_all}
-use Rattle.iloc_spec_grammar.specs.Shapes.{Text}
-use Rattle.iloc_spec_grammar.specs.Pieces.{pieces}
-use Rattle.iloc_spec_grammar.specs.Words.{Subtag, Attribute, is_word}
-use Rattle.iloc_spec_grammar.specs.Meaning.{normal_values}
-use Rattle.iloc_spec_grammar.specs.Faults.{Fault, InvalidSubtag, InvalidExtension}
+use Rattle.iloc_spec_grammar.specs.Syntax.{Text, pieces, Subtag, Attribute, is_word}
+use Rattle.iloc_spec_grammar.specs.Meaning.{normal_values, Fault, InvalidSubtag, InvalidExtension}
 
 -- of `u`: each piece has 2 to 8 letters or digits; the empty text is the empty value
 abbrev pub unicode_value : Text → Result (List Text) Fault

@@ -2,10 +2,8 @@
 -- That the rest of the text is ignored is this project's rule.
 use Rattle.std.specs.Prelude.{◌≡◌, ℕ, Bool, true, false, ◌==◌, List, [], ◌∷◌}
 use Rattle.std.specs.Char.{to_ascii_lowercase}
-use Rattle.iloc_spec_grammar.specs.Shapes.{Text, Table, Block, code_t, code_u, code_x}
-use Rattle.iloc_spec_grammar.specs.Pieces.{pieces}
-use Rattle.iloc_spec_grammar.specs.Written.{Fields, Unicode, Transform, is_other_singleton}
-use Rattle.iloc_spec_grammar.specs.Faults.{Fault, InvalidExtension}
+use Rattle.iloc_spec_grammar.specs.Syntax.{Text, Table, Block, code_t, code_u, code_x, pieces, Fields, Unicode, Transform, is_other_singleton}
+use Rattle.iloc_spec_grammar.specs.Meaning.{Fault, InvalidExtension}
 use Rattle.iloc_spec_parts.specs.Fronts.{attributes_read, KeywordsRead, KeywordsFault, UnicodeRead, UnicodeFault, TransformRead, TransformFault, OtherRead, OtherFault, PrivateRead, PrivateFault}
 
 -- whether the first piece is a singleton, which in lower case passes the test

@@ -1,9 +1,8 @@
 -- What every reader of a front keeps to: it reads in one way or refuses for one reason. This
 -- project's rule.
 use Rattle.std.specs.Prelude.{◌≡◌, ◌⊎◌, true, false, List}
-use Rattle.iloc_spec_grammar.specs.Shapes.{Text}
-use Rattle.iloc_spec_grammar.specs.Faults.{Fault}
-use Rattle.iloc_spec_grammar.specs.Blocks.{front}
+use Rattle.iloc_spec_grammar.specs.Syntax.{Text, front}
+use Rattle.iloc_spec_grammar.specs.Meaning.{Fault}
 use Rattle.iloc_spec_grammar.specs.Reading.{starts_block, from_block}
 
 -- R: a value is read from the front of the pieces, and the rest is left. F: the pieces have a

@@ -1,8 +1,7 @@
 -- Values of one word: what a list of words is read as, if it has one word and no more. The type
 -- of `cu` (UTS #35, "Key And Type Definitions") is such a value: an ISO 4217 code of three letters.
 use Rattle.std.specs.Prelude.{List, [], ◌∷◌, Option, Some, None, option_and_then}
-use Rattle.iloc_spec_grammar.specs.Shapes.{Text}
-use Rattle.iloc_spec_grammar.specs.Words.{CurrencyType, word}
+use Rattle.iloc_spec_grammar.specs.Syntax.{Text, CurrencyType, word}
 
 -- the only word of the list
 abbrev pub single : List Text → Option Text

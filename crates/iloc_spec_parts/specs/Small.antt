@@ -4,15 +4,10 @@
 -- this project's rule.
 use Rattle.std.specs.Prelude.{◌≡◌, ◌≢◌, ℕ, ◌≤◌, true, false, List, [], ◌∷◌, length, map, Option, Some, None, IfSome, option_map, option_to_list}
 use Rattle.std.specs.Char.{is_ascii_alphanumeric}
-use Rattle.iloc_spec_grammar.specs.Shapes.{Text, Table, Field, Block, code_u}
-use Rattle.iloc_spec_grammar.specs.Pieces.{pieces}
-use Rattle.iloc_spec_grammar.specs.Words.{Language, Script, Region, Variant, UnicodeKey, Attribute, is_word, IsWord, is_true, lower, title, upper}
-use Rattle.iloc_spec_grammar.specs.Written.{Identifier, Extension, unicode, Written, identifier_pieces, IsIdentifier, IsWritten, spelling, singleton}
-use Rattle.iloc_spec_grammar.specs.Meaning.{Locale, just_unicode, normal_values}
+use Rattle.iloc_spec_grammar.specs.Syntax.{Text, Table, Field, Block, code_u, pieces, Language, Script, Region, Variant, UnicodeKey, Attribute, is_word, IsWord, is_true, lower, title, upper, Identifier, Extension, unicode, Written, identifier_pieces, IsIdentifier, IsWritten, spelling, singleton, head, tail_blocks, first_piece}
+use Rattle.iloc_spec_grammar.specs.Meaning.{Locale, just_unicode, normal_values, Fault, InvalidLanguage, InvalidSubtag, InvalidExtension}
 use Rattle.iloc_spec_grammar.specs.Values.{IsNormal}
 use Rattle.iloc_spec_grammar.specs.Reading.{first_item}
-use Rattle.iloc_spec_grammar.specs.Faults.{Fault, InvalidLanguage, InvalidSubtag, InvalidExtension}
-use Rattle.iloc_spec_grammar.specs.Blocks.{head, tail_blocks, first_piece}
 
 -- What is read.
 

@@ -2,13 +2,9 @@
 use Rattle.std.specs.Prelude.{ℕ, Bool, true, false, ◌&&◌, ◌==◌, nat_le, List, [], ◌∷◌, length, if◌then◌else◌, Option, Some, None, Result, Ok, Err}
 use Rattle.std.specs.Char.{is_ascii_alphanumeric, to_ascii_lowercase}
 use Rattle.std.specs.List.{list_all}
-use Rattle.iloc_spec_grammar.specs.Shapes.{Text, Table, Block, code_u}
-use Rattle.iloc_spec_grammar.specs.Pieces.{pieces}
-use Rattle.iloc_spec_grammar.specs.Words.{Language, Variant, UnicodeKey, Attribute, is_word, lower}
-use Rattle.iloc_spec_grammar.specs.Written.{Extension, unicode, Written, singleton}
-use Rattle.iloc_spec_grammar.specs.Meaning.{Locale, normal_values}
+use Rattle.iloc_spec_grammar.specs.Syntax.{Text, Table, Block, code_u, pieces, Language, Variant, UnicodeKey, Attribute, is_word, lower, Extension, unicode, Written, singleton}
+use Rattle.iloc_spec_grammar.specs.Meaning.{Locale, normal_values, Fault, InvalidLanguage, InvalidSubtag, InvalidExtension, head, tail_blocks, first_piece}
 use Rattle.iloc_spec_grammar.specs.Values.{text}
-use Rattle.iloc_spec_grammar.specs.Faults.{Fault, InvalidLanguage, InvalidSubtag, InvalidExtension, head, tail_blocks, first_piece}
 use Rattle.iloc_spec_grammar.specs.Reading.{identifier_of, first_item, written_of}
 use Rattle.iloc_spec_grammar.specs.Computing.{holds_if_some, locale_result}
 use Rattle.iloc_spec_parts.specs.Small.{SmallIdentifier, SmallLocale, locale_of_small, small_identifier}

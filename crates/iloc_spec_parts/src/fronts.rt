@@ -9,20 +9,15 @@ ghost use Rattle.std.specs.Prelude.{◌≡◌, ◌↔◌, true, false, ◌||◌,
 ghost use Rattle.std.specs.FinMap.{find};
 ghost use Rattle.std.specs.List.{AllByRecursion, list_any};
 ghost use Rattle.std.specs.Option.{option_or};
-ghost use Rattle.iloc_spec_grammar.specs.Shapes.{Text, Table, Block, code_t, code_u, code_x};
-ghost use Rattle.iloc_spec_grammar.specs.Pieces.{pieces, join};
-ghost use Rattle.iloc_spec_grammar.specs.Words.{IsTable, Subtag, Attribute, is_true, is_same, word_cmp, languages};
-ghost use Rattle.iloc_spec_grammar.specs.Written.{Unicode, Transform, IsOther, IsPrivate, is_other_singleton, singleton};
+ghost use Rattle.iloc_spec_grammar.specs.Syntax.{Text, Table, Block, code_t, code_u, code_x, pieces, join, IsTable, Subtag, Attribute, is_true, is_same, word_cmp, languages, Unicode, Transform, IsOther, IsPrivate, is_other_singleton, singleton};
 ghost use Rattle.iloc_spec_grammar.specs.Values.{IsNormal, IsUnicodeValue, spelled_value};
-ghost use Rattle.iloc_spec_grammar.specs.Faults.{InvalidSubtag, InvalidExtension, IsBlock, RepeatsVariant, front};
+ghost use Rattle.iloc_spec_grammar.specs.Meaning.{InvalidSubtag, InvalidExtension, IsBlock, RepeatsVariant, front, Locale, Means};
 ghost use Rattle.iloc_spec_grammar.specs.ByBlocks.{UnicodeMeans, TransformMeans, OtherMeans};
 ghost use Rattle.iloc_spec_parts.specs.Readers.{IsReader, AgreesWithBlocks};
-ghost use Rattle.iloc_spec_parts.specs.Fronts.{attributes_read, KeywordsRead, KeywordsFault, UnicodeRead, UnicodeFault, TransformRead, TransformFault, OtherRead, OtherFault, PrivateRead, PrivateFault};
+ghost use Rattle.iloc_spec_parts.specs.Fronts.{attributes_read, KeywordsRead, KeywordsFault, UnicodeRead, UnicodeFault, TransformRead, TransformFault, OtherRead, OtherFault, PrivateRead, PrivateFault, keywords_result, unicode_result, transform_result, other_result, private_result};
 ghost use Rattle.iloc_spec_parts.specs.Parts.{PartRead, PartFault, is_letter};
 ghost use Rattle.iloc_spec_parts.specs.PartValues.{unicode_value, transform_value};
-ghost use Rattle.iloc_spec_parts.specs.FrontComputing.{keywords_result, unicode_result, transform_result, other_result, private_result};
 ghost use Rattle.iloc_spec_parts.specs.Extending.{extend};
-ghost use Rattle.iloc_spec_grammar.specs.Meaning.{Locale, Means};
 ghost use Rattle.iloc_spec_parts.specs.PartComputing.{part_result};
 ghost use Rattle.iloc_spec_parts.specs.ByReaders.{MeansByReaders};
 

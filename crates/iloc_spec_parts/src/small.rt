@@ -5,21 +5,15 @@
 //! its blocks, so no parser of a part allocates.
 
 ghost use Rattle.std.specs.Prelude.{◌≡◌, ◌↔◌, ◌⊎◌, ℕ, true, false, List, [], Ok, Err, MatchResult, codes};
-ghost use Rattle.iloc_spec_grammar.specs.Shapes.{Text, Table, Block, code_t, code_u};
-ghost use Rattle.iloc_spec_grammar.specs.Pieces.{pieces};
-ghost use Rattle.iloc_spec_grammar.specs.Words.{TransformKey, Attribute, is_word, IsWord, IsTable, languages};
-ghost use Rattle.iloc_spec_grammar.specs.Written.{kept, singleton, is_other_singleton};
-ghost use Rattle.iloc_spec_grammar.specs.Blocks.{first_piece};
+ghost use Rattle.iloc_spec_grammar.specs.Syntax.{Text, Table, Block, code_t, code_u, pieces, TransformKey, Attribute, is_word, IsWord, IsTable, languages, kept, singleton, is_other_singleton, first_piece};
 ghost use Rattle.iloc_spec_grammar.specs.Reading.{rest_of};
 ghost use Rattle.iloc_spec_parts.specs.Fronts.{is_bad_key, other_front};
-ghost use Rattle.iloc_spec_grammar.specs.Meaning.{Locale, Means, IdentifierMeans};
+ghost use Rattle.iloc_spec_grammar.specs.Meaning.{Locale, Means, IdentifierMeans, Fault, InvalidLanguage, InvalidSubtag, InvalidExtension};
 ghost use Rattle.iloc_spec_grammar.specs.Values.{text};
-ghost use Rattle.iloc_spec_grammar.specs.Faults.{Fault, InvalidLanguage, InvalidSubtag, InvalidExtension};
 ghost use Rattle.iloc_spec_parts.specs.Small.{SmallIdentifier, SmallLocale, IsSmallIdentifier, IsSmall, HasSmallIdentifierFault, HasSmallFault, IsSmallValue, identifier_of_small, locale_of_small};
 ghost use Rattle.iloc_spec_parts.specs.SmallComputing.{small_identifier_result, small_result, small_text, is_inline};
-ghost use Rattle.iloc_spec_parts.specs.Inline.{IsInline};
+ghost use Rattle.iloc_spec_parts.specs.Inline.{IsInline, IsInlineByBlocks, IsShortBlock, ReachesLongBlock};
 ghost use Rattle.std.specs.List.{AllByRecursion};
-ghost use Rattle.iloc_spec_parts.specs.InlineBlocks.{IsInlineByBlocks, IsShortBlock, ReachesLongBlock};
 
 /// A small text is read in one way, as a value of normal words, and is a locale of the same parts and nothing else.
 pub fn small_texts()

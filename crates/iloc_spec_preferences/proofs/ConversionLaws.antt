@@ -4,8 +4,7 @@ use Rattle.std.proofs.lemmas.Bool.{cond_both}
 use Rattle.std.specs.Option.{option_or}
 use Rattle.std.specs.Result.{result_ok}
 use Rattle.std.specs.FinMap.{find}
-use Rattle.iloc_spec_grammar.specs.Words.{Region, IsTable, word_cmp, is_same}
-use Rattle.iloc_spec_grammar.specs.Written.{Identifier}
+use Rattle.iloc_spec_grammar.specs.Syntax.{Region, IsTable, word_cmp, is_same, Identifier}
 use Rattle.iloc_spec_grammar.specs.Meaning.{Locale, Means}
 use Rattle.iloc_spec_grammar.specs.Values.{IsNormal}
 use Rattle.iloc_spec_grammar.proofs.Readings.{one_meaning}

@@ -1,7 +1,7 @@
 -- Each value of an enum keyword is read of the list that it gives.
 use Rattle.std.proofs.Common.{rules, ◌≡◌, List, [], ◌∷◌, refl, ap, ◌∙◌, Some, false, ℕ}
 use Rattle.std.specs.List.{AllByRecursion}
-use Rattle.iloc_spec_grammar.specs.Words.{Script, CurrencyType, is_true, lower, word}
+use Rattle.iloc_spec_grammar.specs.Syntax.{Script, CurrencyType, is_true, lower, word}
 use Rattle.iloc_spec_grammar.specs.Values.{IsNormal}
 use Rattle.iloc_spec_grammar.proofs.WordsLaws.{is_word-lower, normal-lower}
 use Rattle.iloc_spec_parts.specs.SingleValues.{single, currency_reads, currency_gives}

@@ -4,7 +4,7 @@ use Rattle.std.specs.Option.{option_or}
 use Rattle.std.specs.Result.{result_ok}
 use Rattle.std.specs.List.{AllByRecursion}
 use Rattle.std.specs.FinMap.{find, is_sorted}
-use Rattle.iloc_spec_grammar.specs.Words.{Region, Variant, Subtag, UnicodeKey, word_cmp, is_same, is_word, lower, is_true}
+use Rattle.iloc_spec_grammar.specs.Syntax.{Region, Variant, Subtag, UnicodeKey, word_cmp, is_same, is_word, lower, is_true}
 use Rattle.iloc_spec_grammar.specs.Meaning.{Locale}
 use Rattle.iloc_spec_grammar.specs.Values.{IsNormal, IsValue, IsWellFormed}
 use Rattle.iloc_spec_grammar.proofs.ValuesLaws.{all_weaker}

@@ -1,7 +1,7 @@
 -- A plain program for data locales: what a text means, or the fault.
 use Rattle.std.specs.Prelude.{Result, Ok, Err, ok_or}
-use Rattle.iloc_spec_grammar.specs.Shapes.{Text, Table}
-use Rattle.iloc_spec_grammar.specs.Faults.{Fault, InvalidExtension}
+use Rattle.iloc_spec_grammar.specs.Syntax.{Text, Table}
+use Rattle.iloc_spec_grammar.specs.Meaning.{Fault, InvalidExtension}
 use Rattle.iloc_spec_parts.specs.Small.{SmallLocale}
 use Rattle.iloc_spec_parts.specs.SmallComputing.{small_result}
 use Rattle.iloc_spec_preferences.specs.DataLocales.{DataLocale, data_of_small}

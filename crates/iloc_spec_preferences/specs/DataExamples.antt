@@ -1,7 +1,7 @@
 -- Worked examples are shown on texts.
 use Rattle.std.specs.Prelude.{Option, None, Result, Ok, Err, codes}
-use Rattle.iloc_spec_grammar.specs.Shapes.{Text}
-use Rattle.iloc_spec_grammar.specs.Faults.{Fault}
+use Rattle.iloc_spec_grammar.specs.Syntax.{Text}
+use Rattle.iloc_spec_grammar.specs.Meaning.{Fault}
 use Rattle.iloc_spec_preferences.specs.DataLocales.{DataLocale, data_text}
 
 -- the text of what is read

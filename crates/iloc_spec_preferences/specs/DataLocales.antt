@@ -5,13 +5,9 @@
 use Rattle.std.specs.Prelude.{◌≡◌, Bool, IfSome, List, [], ◌∷◌, ◌++◌, Option, Some, None, option_map, option_and_then, option_to_list, codes, if◌then◌else◌}
 use Rattle.std.specs.Option.{option_or}
 use Rattle.std.specs.Result.{result_ok}
-use Rattle.iloc_spec_grammar.specs.Shapes.{Text, Table}
-use Rattle.iloc_spec_grammar.specs.Pieces.{join}
-use Rattle.iloc_spec_grammar.specs.Words.{Language, Script, Region, Variant, Subtag, lower, is_same, is_true}
-use Rattle.iloc_spec_grammar.specs.Written.{Identifier, Fields}
-use Rattle.iloc_spec_grammar.specs.Meaning.{Locale, just_unicode}
+use Rattle.iloc_spec_grammar.specs.Syntax.{Text, Table, join, Language, Script, Region, Variant, Subtag, lower, is_same, is_true, Identifier, Fields}
+use Rattle.iloc_spec_grammar.specs.Meaning.{Locale, just_unicode, Fault, InvalidExtension}
 use Rattle.iloc_spec_grammar.specs.Values.{IsNormal}
-use Rattle.iloc_spec_grammar.specs.Faults.{Fault, InvalidExtension}
 use Rattle.iloc_spec_parts.specs.Small.{SmallLocale, identifier_of_small, locale_of_small, IsSmall, HasSmallFault}
 use Rattle.iloc_spec_grammar.specs.Reading.{first_item}
 use Rattle.iloc_spec_preferences.specs.Subdivisions.{Subdivision, subdivision, subdivision_text}

@@ -2,7 +2,7 @@
 -- `ca`). This project's rule, as the Rust crate's macros make them.
 use Rattle.std.specs.Prelude.{Bool, ◌&&◌, Option, None, codes}
 use Rattle.std.specs.Option.{option_or}
-use Rattle.iloc_spec_grammar.specs.Shapes.{Text}
+use Rattle.iloc_spec_grammar.specs.Syntax.{Text}
 use Rattle.iloc_spec_grammar.specs.Meaning.{Locale}
 use Rattle.iloc_spec_parts.specs.SingleValues.{single}
 use Rattle.iloc_spec_preferences.specs.Keywords.{EnumValue, HourCycle, CalendarAlgorithm, key, enum_reads}

@@ -9,8 +9,7 @@ use Rattle.std.specs.Option.{option_cmp}
 use Rattle.std.specs.Result.{result_ok}
 use Rattle.std.specs.Cmp.Lexicographic.{slice_cmp}
 use Rattle.std.specs.FinMap.{find}
-use Rattle.iloc_spec_grammar.specs.Shapes.{Text}
-use Rattle.iloc_spec_grammar.specs.Words.{Script, word, lower, word_cmp, is_true}
+use Rattle.iloc_spec_grammar.specs.Syntax.{Text, Script, word, lower, word_cmp, is_true}
 pub use Rattle.iloc_spec_parts.specs.SingleValues.{single}
 use Rattle.iloc_spec_preferences.specs.Subdivisions.{Subdivision, subdivision, subdivision_text}
 use Rattle.iloc_spec_orders.specs.Orders.{pair_cmp}

@@ -1,10 +1,8 @@
 -- Worked examples are shown on texts.
 use Rattle.std.specs.Prelude.{Bool, Result, Ok, Err}
-use Rattle.iloc_spec_grammar.specs.Shapes.{Text, Table}
-use Rattle.iloc_spec_grammar.specs.Pieces.{pieces}
-use Rattle.iloc_spec_grammar.specs.Meaning.{Locale, meaning}
+use Rattle.iloc_spec_grammar.specs.Syntax.{Text, Table, pieces}
+use Rattle.iloc_spec_grammar.specs.Meaning.{Locale, meaning, Fault}
 use Rattle.iloc_spec_grammar.specs.Values.{text}
-use Rattle.iloc_spec_grammar.specs.Faults.{Fault}
 use Rattle.iloc_spec_grammar.specs.Reading.{written_of}
 use Rattle.iloc_spec_grammar.specs.Computing.{locale_result}
 use Rattle.iloc_spec_preferences.specs.DataLocales.{data_text}

@@ -4,9 +4,7 @@
 use Rattle.std.specs.Prelude.{◌≡◌, Bool, IfSome, true, false, not, ◌&&◌, ◌||◌, List, [], ◌∷◌, ◌++◌, Option, Some, None, option_map, option_and_then, is_some, is_none, codes, if◌then◌else◌}
 use Rattle.std.specs.Option.{option_or}
 use Rattle.std.specs.FinMap.{find}
-use Rattle.iloc_spec_grammar.specs.Shapes.{Text, Table}
-use Rattle.iloc_spec_grammar.specs.Words.{Language, Script, Variant, word_cmp, is_same, is_true}
-use Rattle.iloc_spec_grammar.specs.Written.{Identifier, Fields}
+use Rattle.iloc_spec_grammar.specs.Syntax.{Text, Table, Language, Script, Variant, word_cmp, is_same, is_true, Identifier, Fields}
 use Rattle.iloc_spec_grammar.specs.Meaning.{Locale, without_extensions}
 use Rattle.iloc_spec_grammar.specs.Values.{IsNormal}
 use Rattle.iloc_spec_grammar.specs.Reading.{first_item}

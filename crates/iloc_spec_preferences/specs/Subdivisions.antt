@@ -3,10 +3,9 @@
 -- of 1 to 4 letters or digits.
 use Rattle.std.specs.Prelude.{ℕ, [], ◌∷◌, ◌++◌, take, drop, if◌then◌else◌, Option, Some, None, Result, Err, ok_or}
 use Rattle.std.specs.Char.{is_ascii_alphabetic}
-use Rattle.iloc_spec_grammar.specs.Shapes.{Text}
-use Rattle.iloc_spec_grammar.specs.Words.{Region, Subtag, SubdivisionSuffix, is_word, word, lower}
+use Rattle.iloc_spec_grammar.specs.Syntax.{Text, Region, Subtag, SubdivisionSuffix, is_word, word, lower}
 use Rattle.iloc_spec_grammar.specs.Values.{IsNormal}
-use Rattle.iloc_spec_grammar.specs.Faults.{Fault, InvalidSubtag, InvalidExtension}
+use Rattle.iloc_spec_grammar.specs.Meaning.{Fault, InvalidSubtag, InvalidExtension}
 
 -- A subdivision: `unicode_subdivision_id` of UTS #35, in its two parts.
 pub record Subdivision : Type 0 where

@@ -5,9 +5,7 @@
 
 ghost use Rattle.std.specs.Prelude.{◌≡◌, true, false, List, [], ◌∷◌, Some, None, Ok, IfSome, codes};
 ghost use Rattle.std.specs.List.{AllByRecursion};
-ghost use Rattle.iloc_spec_grammar.specs.Shapes.{Text, Table};
-ghost use Rattle.iloc_spec_grammar.specs.Words.{IsTable, CurrencyType, Script, Region, is_true, languages};
-ghost use Rattle.iloc_spec_grammar.specs.Written.{Identifier};
+ghost use Rattle.iloc_spec_grammar.specs.Syntax.{Text, Table, IsTable, CurrencyType, Script, Region, is_true, languages, Identifier};
 ghost use Rattle.iloc_spec_grammar.specs.Meaning.{Locale, Means};
 ghost use Rattle.iloc_spec_grammar.specs.Values.{IsNormal, IsValue, IsWellFormed};
 ghost use Rattle.iloc_spec_parts.specs.SingleValues.{single, currency_reads, currency_gives};

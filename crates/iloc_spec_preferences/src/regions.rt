@@ -6,11 +6,9 @@
 ghost use Rattle.std.specs.Prelude.{◌≡◌, ◌↔◌, ◌⊎◌, ℕ, true, Some, None, Ok, Err, MatchResult, codes};
 ghost use Rattle.std.specs.Cmp.{IsTotalOrder};
 ghost use Rattle.std.specs.declared.cmp.Ordering.TheVariants.{Equal};
-ghost use Rattle.iloc_spec_grammar.specs.Shapes.{Text, Table};
-ghost use Rattle.iloc_spec_grammar.specs.Words.{IsTable, lower, languages};
-ghost use Rattle.iloc_spec_grammar.specs.Meaning.{Locale};
+ghost use Rattle.iloc_spec_grammar.specs.Syntax.{Text, Table, IsTable, lower, languages};
+ghost use Rattle.iloc_spec_grammar.specs.Meaning.{Locale, Fault, InvalidLanguage, InvalidSubtag, InvalidExtension};
 ghost use Rattle.iloc_spec_grammar.specs.Values.{IsValue, IsWellFormed, text};
-ghost use Rattle.iloc_spec_grammar.specs.Faults.{Fault, InvalidLanguage, InvalidSubtag, InvalidExtension};
 ghost use Rattle.iloc_spec_preferences.specs.Subdivisions.{Subdivision, IsSubdivision, subdivision, subdivision_text};
 ghost use Rattle.iloc_spec_preferences.specs.DataComputing.{data_result};
 ghost use Rattle.iloc_spec_preferences.specs.DataLocales.{DataLocale, DataMeans, HasDataFault, IsDataLocale, data_key, data_text, locale_of_data};

@@ -1,7 +1,7 @@
 -- One word more, a bad one, or no memory for it.
 use Rattle.std.proofs.Common.{◌≡◌, ◌≢◌, ℕ, ◌+◌, ◌%◌, ◌≤◌, List, [], ◌∷◌, ◌++◌, length, take, ◌-◌, drop, get_or, refl, sym, ap, ◌∙◌, arith, append_assoc, append-nil, length-append}
 use Rattle.std.specs.List.{flat_map, AllByRecursion}
-use Rattle.iloc_spec_grammar.specs.Words.{Language, languages, two_or_three, narrow_raw, wide_raw}
+use Rattle.iloc_spec_grammar.specs.Syntax.{Language, languages, two_or_three, narrow_raw, wide_raw}
 use Rattle.iloc_spec_grammar.specs.Values.{IsNormal}
 use Rattle.iloc_subtags.specs.declared.carry_error.CarryError.TheVariants.{Word, OutOfMemory}
 use Rattle.iloc_subtags.specs.Carrying.{BeginsWith, Refused, SoFar}

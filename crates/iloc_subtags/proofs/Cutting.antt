@@ -2,7 +2,7 @@
 use Rattle.std.proofs.Common.{◌≡◌, ◌≢◌, ◌<◌, ◌==◌, ◌∙◌, arith, ℕ, suc, cond, List, [], ◌∷◌, ◌++◌, length, take, drop, true, false, All, sym, ap, refl}
 use Rattle.std.proofs.lemmas.Bool.{false_from_ne_true}
 use Rattle.std.proofs.lemmas.Bool.Decides.{nat_tests}
-use Rattle.iloc_spec_grammar.specs.Pieces.{pieces}
+use Rattle.iloc_spec_grammar.specs.Syntax.{pieces}
 use Rattle.iloc_spec_grammar.proofs.PiecesLaws.{pieces-cut, pieces-uncut}
 use Rattle.iloc_subtags.specs.FirstLength.{IsFirstLength}
 

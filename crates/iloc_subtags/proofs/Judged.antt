@@ -1,11 +1,10 @@
 -- What a reader answers, in the other direction: what is meant is accepted, and a fault is refused.
 use Rattle.std.proofs.Common.{◌≡◌, refl, sym, ap, ◌∙◌, inl, inr, Result, Ok, Err}
-use Rattle.iloc_spec_grammar.specs.Faults as faults
-use Rattle.iloc_spec_grammar.specs.Faults.{Fault}
+use Rattle.iloc_spec_grammar.specs.Meaning as faults
+use Rattle.iloc_spec_grammar.specs.Meaning.{Fault}
 use Rattle.iloc_subtags.specs.declared.parse_error.ParseError.{ParseError}
 use Rattle.iloc_subtags.specs.declared.parse_error.ParseError.TheVariants.{InvalidLanguage, InvalidSubtag, InvalidExtension, DuplicatedExtension, OutOfMemory}
-use Rattle.iloc_subtags.specs.Answers.{Answers, SubtagFault, ExtensionFault, OfIdentifier, OfPart, ButDuplicate}
-use Rattle.iloc_subtags.specs.Judging.{error_of, Accepts, Refuses}
+use Rattle.iloc_subtags.specs.Judging.{Answers, SubtagFault, ExtensionFault, OfIdentifier, OfPart, ButDuplicate, error_of, Accepts, Refuses}
 
 -- a text means one value, or has one fault
 pub record Judges {V : Type 0} (Means : V → Type 0) (HasFault : Fault → Type 0) : Type 0 where

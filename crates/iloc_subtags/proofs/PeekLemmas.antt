@@ -3,9 +3,8 @@ use Rattle.std.proofs.Common.{◌≡◌, ℕ, ◌≤◌, Bool, true, false, cond
 use Rattle.std.proofs.lemmas.Bool.Decides.{nat_tests}
 use Rattle.std.proofs.lemmas.Bool.{false_from_ne_true}
 use Rattle.std.proofs.lemmas.List.{length-take-le}
-use Rattle.iloc_spec_grammar.specs.Pieces.{pieces}
+use Rattle.iloc_spec_grammar.specs.Syntax.{pieces, Kind, is_word}
 use Rattle.iloc_spec_grammar.specs.Reading.{EndsBefore, first_item, take_first}
-use Rattle.iloc_spec_grammar.specs.Words.{Kind, is_word}
 use Rattle.iloc_subtags.specs.Lengths.{has_length}
 use Rattle.iloc_subtags.specs.NextPiece.{next_has_length}
 use Rattle.iloc_subtags.proofs.LengthLaws.{word_has_length}

@@ -1,6 +1,6 @@
 -- What a take of a word tells.
 use Rattle.std.proofs.Common.{◌≡◌, ℕ, Bool, true, false, cond, List, [], ◌∷◌, refl, Some, None, option_map}
-use Rattle.iloc_spec_grammar.specs.Words.{Kind, is_word, IsWord, normal}
+use Rattle.iloc_spec_grammar.specs.Syntax.{Kind, is_word, IsWord, normal}
 use Rattle.iloc_spec_grammar.specs.Reading.{take_first, skip_first, passing, past}
 
 -- a word at the front

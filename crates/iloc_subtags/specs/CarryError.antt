@@ -1,6 +1,6 @@
 -- The words of each refusal.
 use Rattle.std.specs.Prelude.{codes}
-use Rattle.iloc_spec_grammar.specs.Shapes.{Text}
+use Rattle.iloc_spec_grammar.specs.Syntax.{Text}
 use Rattle.iloc_subtags.specs.declared.carry_error.CarryError.{CarryError}
 use Rattle.iloc_subtags.specs.declared.carry_error.CarryError.TheVariants.{Length, Word, OutOfMemory}
 

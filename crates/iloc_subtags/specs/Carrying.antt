@@ -2,8 +2,7 @@
 -- letters; the new one is that of the wider table (UTS #35 section 3.1, `unicode_language_subtag`).
 use Rattle.std.specs.Prelude.{◌≡◌, ◌≢◌, ℕ, ◌%◌, List, [], ◌∷◌, ◌++◌, length, ◌+◌, ◌≤◌}
 use Rattle.std.specs.List.{flat_map, AllByRecursion}
-use Rattle.iloc_spec_grammar.specs.Shapes.{Text}
-use Rattle.iloc_spec_grammar.specs.Words.{Language, languages, two_or_three, narrow_raw, wide_raw}
+use Rattle.iloc_spec_grammar.specs.Syntax.{Text, Language, languages, two_or_three, narrow_raw, wide_raw}
 use Rattle.iloc_spec_grammar.specs.Values.{IsNormal}
 use Rattle.iloc_subtags.specs.declared.carry_error.CarryError.{CarryError}
 use Rattle.iloc_subtags.specs.declared.carry_error.CarryError.TheVariants.{Length, Word, OutOfMemory}

@@ -1,7 +1,6 @@
 -- What an iterator has left.
 use Rattle.std.specs.Prelude.{List, [], cond, length, nat_le}
-use Rattle.iloc_spec_grammar.specs.Shapes.{Text}
-use Rattle.iloc_spec_grammar.specs.Pieces.{pieces}
+use Rattle.iloc_spec_grammar.specs.Syntax.{Text, pieces}
 use Rattle.iloc_subtags.specs.declared.subtag_iterator.SubtagIterator.{SubtagIterator}
 
 -- the pieces that are left: none if the length of the next is beyond the text

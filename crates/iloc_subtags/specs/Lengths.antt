@@ -1,7 +1,7 @@
 -- How long the words of a kind are.
 use Rattle.std.specs.Prelude.{ℕ, Bool, ◌==◌}
 use Rattle.std.specs.Int.{is_in_range}
-use Rattle.iloc_spec_grammar.specs.Words.{Kind, Language, Script, Region, Variant, Subtag, UnicodeKey, TransformKey, Attribute, PrivateSubtag, SubdivisionSuffix, CurrencyType}
+use Rattle.iloc_spec_grammar.specs.Syntax.{Kind, Language, Script, Region, Variant, Subtag, UnicodeKey, TransformKey, Attribute, PrivateSubtag, SubdivisionSuffix, CurrencyType}
 
 -- whether a word of the kind may have so many bytes
 unfoldable pub has_length : Kind → ℕ → Bool

@@ -1,9 +1,8 @@
-pub mod Answers
+pub mod Judging
 pub mod KindLaws
 pub mod ParseError
 pub mod RawForms
 pub mod Lengths
-pub mod Judging
 pub mod FirstLength
 pub mod Left
 pub mod NextPiece

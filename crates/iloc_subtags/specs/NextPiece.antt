@@ -1,7 +1,6 @@
 -- What a look at the next piece tells.
 use Rattle.std.specs.Prelude.{ℕ, Bool, false, List, [], ◌∷◌, length, Option, Some, None}
-use Rattle.iloc_spec_grammar.specs.Shapes.{Text}
-use Rattle.iloc_spec_grammar.specs.Words.{Kind}
+use Rattle.iloc_spec_grammar.specs.Syntax.{Text, Kind}
 use Rattle.iloc_subtags.specs.Lengths.{has_length}
 
 -- a piece is left, and words of the kind may be as long

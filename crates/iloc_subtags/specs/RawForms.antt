@@ -1,7 +1,6 @@
 -- What reading a raw form answers.
 use Rattle.std.specs.Prelude.{◌≡◌, ◌≢◌, ℕ, Result, Ok, Err}
-use Rattle.iloc_spec_grammar.specs.Shapes.{Text}
-use Rattle.iloc_spec_grammar.specs.Words.{Kind, raw}
+use Rattle.iloc_spec_grammar.specs.Syntax.{Text, Kind, raw}
 use Rattle.iloc_spec_grammar.specs.Values.{IsNormal}
 use Rattle.iloc_subtags.specs.declared.parse_error.ParseError.{ParseError}
 

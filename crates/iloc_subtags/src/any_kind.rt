@@ -2,8 +2,7 @@
 ghost use Rattle.std.specs.Prelude.{◌≡◌, ◌↔◌, ℕ, List, Option, Some, None, MatchResult, length, refl};
 ghost use Rattle.std.specs.Cmp.Lexicographic.{slice_cmp};
 ghost use Rattle.std.specs.Ordering.{nat_cmp};
-ghost use Rattle.iloc_spec_grammar.specs.Shapes.{Text};
-ghost use Rattle.iloc_spec_grammar.specs.Words.{lower, word};
+ghost use Rattle.iloc_spec_grammar.specs.Syntax.{Text, lower, word};
 ghost use Rattle.iloc_spec_grammar.proofs.ReadWords.{normal_again, length_kept, one_normal};
 ghost use Rattle.iloc_subtags.specs.declared.parse_error.ParseError.{ParseError};
 

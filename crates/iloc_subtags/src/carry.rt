@@ -5,7 +5,7 @@
 //! the row was parsed, so at most in place of a bad word that comes later.
 
 ghost use Rattle.std.specs.Prelude.{◌≡◌, ℕ, List, IfOk, IfErr};
-ghost use Rattle.iloc_spec_grammar.specs.Shapes.{Text};
+ghost use Rattle.iloc_spec_grammar.specs.Syntax.{Text};
 ghost use Rattle.iloc_subtags.specs.Carrying.{IsOldRow, new_row, Refused};
 
 use crate::{CarryError, Language};

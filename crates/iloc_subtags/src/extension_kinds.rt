@@ -1,6 +1,6 @@
 //! The subtags of extensions: keys, attributes, private subtags, ends of subdivisions, and currencies.
 ghost use Rattle.std.specs.Prelude.{◌≡◌};
-ghost use Rattle.iloc_spec_grammar.specs.Words.{upper};
+ghost use Rattle.iloc_spec_grammar.specs.Syntax.{upper};
 
 use crate::kind::WordKind;
 use crate::parse_error::ParseError;
@@ -12,7 +12,7 @@ pub struct UnicodeKeyKind;
 
 impl WordKind<2> for UnicodeKeyKind {
     ghost use Rattle.std.specs.Prelude.{refl};
-    ghost use Rattle.iloc_spec_grammar.specs.Words.{UnicodeKey as the_kind};
+    ghost use Rattle.iloc_spec_grammar.specs.Syntax.{UnicodeKey as the_kind};
     ghost use Rattle.iloc_subtags.specs.declared.parse_error.ParseError.TheVariants.{InvalidExtension};
     ghost use Rattle.iloc_subtags.specs.KindLaws.{unicode_key_fits};
 
@@ -24,7 +24,7 @@ impl WordKind<2> for UnicodeKeyKind {
 
     ghost size = { refl };
 
-    #[tactic(auto, unfolding(iloc_spec_grammar::specs::Words::is_word))]
+    #[tactic(auto, unfolding(iloc_spec_grammar::specs::Syntax::is_word))]
     fn accepts(piece: ShortPiece) -> bool {
         piece.len() == 2
             && piece.first().is_ascii_alphanumeric()
@@ -37,7 +37,7 @@ impl WordKind<2> for UnicodeKeyKind {
         len == 2
     }
 
-    #[tactic(auto, unfolding(iloc_spec_grammar::specs::Words::lower))]
+    #[tactic(auto, unfolding(iloc_spec_grammar::specs::Syntax::lower))]
     fn normal(piece: ShortPiece) -> ShortPiece {
         piece.to_ascii_lowercase()
     }
@@ -56,7 +56,7 @@ pub struct TransformKeyKind;
 
 impl WordKind<2> for TransformKeyKind {
     ghost use Rattle.std.specs.Prelude.{refl};
-    ghost use Rattle.iloc_spec_grammar.specs.Words.{TransformKey as the_kind};
+    ghost use Rattle.iloc_spec_grammar.specs.Syntax.{TransformKey as the_kind};
     ghost use Rattle.iloc_subtags.specs.declared.parse_error.ParseError.TheVariants.{InvalidExtension};
     ghost use Rattle.iloc_subtags.specs.KindLaws.{transform_key_fits};
 
@@ -68,7 +68,7 @@ impl WordKind<2> for TransformKeyKind {
 
     ghost size = { refl };
 
-    #[tactic(auto, unfolding(iloc_spec_grammar::specs::Words::is_word))]
+    #[tactic(auto, unfolding(iloc_spec_grammar::specs::Syntax::is_word))]
     fn accepts(piece: ShortPiece) -> bool {
         piece.len() == 2 && piece.first().is_ascii_alphabetic() && piece.second().is_ascii_digit()
     }
@@ -79,7 +79,7 @@ impl WordKind<2> for TransformKeyKind {
         len == 2
     }
 
-    #[tactic(auto, unfolding(iloc_spec_grammar::specs::Words::lower))]
+    #[tactic(auto, unfolding(iloc_spec_grammar::specs::Syntax::lower))]
     fn normal(piece: ShortPiece) -> ShortPiece {
         piece.to_ascii_lowercase()
     }
@@ -98,7 +98,7 @@ pub struct AttributeKind;
 
 impl WordKind<8> for AttributeKind {
     ghost use Rattle.std.specs.Prelude.{refl};
-    ghost use Rattle.iloc_spec_grammar.specs.Words.{Attribute as the_kind};
+    ghost use Rattle.iloc_spec_grammar.specs.Syntax.{Attribute as the_kind};
     ghost use Rattle.iloc_subtags.specs.declared.parse_error.ParseError.TheVariants.{InvalidExtension};
     ghost use Rattle.iloc_subtags.specs.KindLaws.{attribute_fits};
 
@@ -110,7 +110,7 @@ impl WordKind<8> for AttributeKind {
 
     ghost size = { refl };
 
-    #[tactic(auto, unfolding(iloc_spec_grammar::specs::Words::is_word))]
+    #[tactic(auto, unfolding(iloc_spec_grammar::specs::Syntax::is_word))]
     fn accepts(piece: ShortPiece) -> bool {
         matches!(piece.len(), 3..=8) && piece.is_ascii_alphanumeric()
     }
@@ -121,7 +121,7 @@ impl WordKind<8> for AttributeKind {
         matches!(len, 3..=8)
     }
 
-    #[tactic(auto, unfolding(iloc_spec_grammar::specs::Words::lower))]
+    #[tactic(auto, unfolding(iloc_spec_grammar::specs::Syntax::lower))]
     fn normal(piece: ShortPiece) -> ShortPiece {
         piece.to_ascii_lowercase()
     }
@@ -140,7 +140,7 @@ pub struct PrivateSubtagKind;
 
 impl WordKind<8> for PrivateSubtagKind {
     ghost use Rattle.std.specs.Prelude.{refl};
-    ghost use Rattle.iloc_spec_grammar.specs.Words.{PrivateSubtag as the_kind};
+    ghost use Rattle.iloc_spec_grammar.specs.Syntax.{PrivateSubtag as the_kind};
     ghost use Rattle.iloc_subtags.specs.declared.parse_error.ParseError.TheVariants.{InvalidExtension};
     ghost use Rattle.iloc_subtags.specs.KindLaws.{private_subtag_fits};
 
@@ -152,7 +152,7 @@ impl WordKind<8> for PrivateSubtagKind {
 
     ghost size = { refl };
 
-    #[tactic(auto, unfolding(iloc_spec_grammar::specs::Words::is_word))]
+    #[tactic(auto, unfolding(iloc_spec_grammar::specs::Syntax::is_word))]
     fn accepts(piece: ShortPiece) -> bool {
         matches!(piece.len(), 1..=8) && piece.is_ascii_alphanumeric()
     }
@@ -163,7 +163,7 @@ impl WordKind<8> for PrivateSubtagKind {
         matches!(len, 1..=8)
     }
 
-    #[tactic(auto, unfolding(iloc_spec_grammar::specs::Words::lower))]
+    #[tactic(auto, unfolding(iloc_spec_grammar::specs::Syntax::lower))]
     fn normal(piece: ShortPiece) -> ShortPiece {
         piece.to_ascii_lowercase()
     }
@@ -182,7 +182,7 @@ pub struct SubdivisionSuffixKind;
 
 impl WordKind<4> for SubdivisionSuffixKind {
     ghost use Rattle.std.specs.Prelude.{refl};
-    ghost use Rattle.iloc_spec_grammar.specs.Words.{SubdivisionSuffix as the_kind};
+    ghost use Rattle.iloc_spec_grammar.specs.Syntax.{SubdivisionSuffix as the_kind};
     ghost use Rattle.iloc_subtags.specs.declared.parse_error.ParseError.TheVariants.{InvalidExtension};
     ghost use Rattle.iloc_subtags.specs.KindLaws.{subdivision_suffix_fits};
 
@@ -194,7 +194,7 @@ impl WordKind<4> for SubdivisionSuffixKind {
 
     ghost size = { refl };
 
-    #[tactic(auto, unfolding(iloc_spec_grammar::specs::Words::is_word))]
+    #[tactic(auto, unfolding(iloc_spec_grammar::specs::Syntax::is_word))]
     fn accepts(piece: ShortPiece) -> bool {
         matches!(piece.len(), 1..=4) && piece.is_ascii_alphanumeric()
     }
@@ -205,7 +205,7 @@ impl WordKind<4> for SubdivisionSuffixKind {
         matches!(len, 1..=4)
     }
 
-    #[tactic(auto, unfolding(iloc_spec_grammar::specs::Words::lower))]
+    #[tactic(auto, unfolding(iloc_spec_grammar::specs::Syntax::lower))]
     fn normal(piece: ShortPiece) -> ShortPiece {
         piece.to_ascii_lowercase()
     }
@@ -224,7 +224,7 @@ pub struct CurrencyTypeKind;
 
 impl WordKind<3> for CurrencyTypeKind {
     ghost use Rattle.std.specs.Prelude.{refl};
-    ghost use Rattle.iloc_spec_grammar.specs.Words.{CurrencyType as the_kind};
+    ghost use Rattle.iloc_spec_grammar.specs.Syntax.{CurrencyType as the_kind};
     ghost use Rattle.iloc_subtags.specs.declared.parse_error.ParseError.TheVariants.{InvalidExtension};
     ghost use Rattle.iloc_subtags.specs.KindLaws.{currency_fits};
 
@@ -236,7 +236,7 @@ impl WordKind<3> for CurrencyTypeKind {
 
     ghost size = { refl };
 
-    #[tactic(auto, unfolding(iloc_spec_grammar::specs::Words::is_word))]
+    #[tactic(auto, unfolding(iloc_spec_grammar::specs::Syntax::is_word))]
     fn accepts(piece: ShortPiece) -> bool {
         piece.len() == 3 && piece.is_ascii_alphabetic()
     }
@@ -247,7 +247,7 @@ impl WordKind<3> for CurrencyTypeKind {
         len == 3
     }
 
-    #[tactic(auto, unfolding(iloc_spec_grammar::specs::Words::lower))]
+    #[tactic(auto, unfolding(iloc_spec_grammar::specs::Syntax::lower))]
     fn normal(piece: ShortPiece) -> ShortPiece {
         piece.to_ascii_lowercase()
     }
@@ -263,7 +263,7 @@ pub type CurrencyType = WordOf<CurrencyTypeKind, 3>;
 
 impl WordOf<CurrencyTypeKind, 3> {
     /// The code of ISO 4217: the text in upper case, as `USD`.
-    #[tactic(auto, unfolding(iloc_spec_grammar::specs::Words::upper))]
+    #[tactic(auto, unfolding(iloc_spec_grammar::specs::Syntax::upper))]
     pub fn iso_code(self) -> TinyAsciiStr<3>
         ensures { result ≡ upper self }
     {

@@ -1,8 +1,8 @@
 //! The subtags of identifiers: languages, scripts, regions, variants, and `Subtag`, of 2 to 8 letters or digits.
 ghost use Rattle.std.specs.Prelude.{codes, IsTrue, ◌≡◌, ◌↔◌, ◌==◌, ◌≤◌, length};
 ghost use Rattle.iloc_tinystr.specs.TinyText.{is_tiny_text};
-ghost use Rattle.iloc_spec_grammar.specs.Words.{lower, letters, read, two_or_three};
-ghost use Rattle.iloc_spec_grammar.specs.Words as words;
+ghost use Rattle.iloc_spec_grammar.specs.Syntax.{lower, letters, read, two_or_three};
+ghost use Rattle.iloc_spec_grammar.specs.Syntax as words;
 ghost use Rattle.iloc_spec_grammar.specs.Values.{IsNormal};
 ghost use Rattle.iloc_subtags.specs.declared.parse_error.ParseError.TheVariants.{InvalidLanguage, InvalidSubtag};
 ghost use Rattle.iloc_subtags.specs.RawForms.{ReadsRaw};
@@ -17,7 +17,7 @@ pub struct LanguageKind;
 
 impl WordKind<8> for LanguageKind {
     ghost use Rattle.std.specs.Prelude.{refl};
-    ghost use Rattle.iloc_spec_grammar.specs.Words.{Language as the_kind, languages};
+    ghost use Rattle.iloc_spec_grammar.specs.Syntax.{Language as the_kind, languages};
     ghost use Rattle.iloc_subtags.specs.declared.parse_error.ParseError.TheVariants.{InvalidLanguage};
     ghost use Rattle.iloc_subtags.specs.KindLaws.{language_fits};
 
@@ -29,18 +29,18 @@ impl WordKind<8> for LanguageKind {
 
     ghost size = { refl };
 
-    #[tactic(auto, unfolding(iloc_spec_grammar::specs::Words::is_word, iloc_spec_grammar::specs::Words::languages))]
+    #[tactic(auto, unfolding(iloc_spec_grammar::specs::Syntax::is_word, iloc_spec_grammar::specs::Syntax::languages))]
     fn accepts(piece: ShortPiece) -> bool {
         matches!(piece.len(), 2..=3 | 5..=8) && piece.is_ascii_alphabetic()
     }
 
     #[inline(always)]
-    #[tactic(auto, unfolding(crate::specs::Lengths::has_length, iloc_spec_grammar::specs::Words::languages))]
+    #[tactic(auto, unfolding(crate::specs::Lengths::has_length, iloc_spec_grammar::specs::Syntax::languages))]
     fn has_length(len: usize) -> bool {
         matches!(len, 2..=3 | 5..=8)
     }
 
-    #[tactic(auto, unfolding(iloc_spec_grammar::specs::Words::lower))]
+    #[tactic(auto, unfolding(iloc_spec_grammar::specs::Syntax::lower))]
     fn normal(piece: ShortPiece) -> ShortPiece {
         piece.to_ascii_lowercase()
     }
@@ -56,7 +56,7 @@ pub type Language = WordOf<LanguageKind, 8>;
 
 impl WordOf<LanguageKind, 8> {
     /// The unknown language, `und`.
-    #[tactic(auto, unfolding(iloc_spec_grammar::specs::Words::is_word, iloc_spec_grammar::specs::Words::languages, iloc_spec_grammar::specs::Words::lower))]
+    #[tactic(auto, unfolding(iloc_spec_grammar::specs::Syntax::is_word, iloc_spec_grammar::specs::Syntax::languages, iloc_spec_grammar::specs::Syntax::lower))]
     pub fn unknown() -> Language
         ensures { result ≡ codes "und" }
     {
@@ -90,7 +90,7 @@ pub struct ScriptKind;
 
 impl WordKind<4> for ScriptKind {
     ghost use Rattle.std.specs.Prelude.{refl};
-    ghost use Rattle.iloc_spec_grammar.specs.Words.{Script as the_kind};
+    ghost use Rattle.iloc_spec_grammar.specs.Syntax.{Script as the_kind};
     ghost use Rattle.iloc_subtags.specs.declared.parse_error.ParseError.TheVariants.{InvalidSubtag};
     ghost use Rattle.iloc_subtags.specs.KindLaws.{script_fits};
 
@@ -102,7 +102,7 @@ impl WordKind<4> for ScriptKind {
 
     ghost size = { refl };
 
-    #[tactic(auto, unfolding(iloc_spec_grammar::specs::Words::is_word))]
+    #[tactic(auto, unfolding(iloc_spec_grammar::specs::Syntax::is_word))]
     fn accepts(piece: ShortPiece) -> bool {
         piece.len() == 4 && piece.is_ascii_alphabetic()
     }
@@ -113,7 +113,7 @@ impl WordKind<4> for ScriptKind {
         len == 4
     }
 
-    #[tactic(auto, unfolding(iloc_spec_grammar::specs::Words::title))]
+    #[tactic(auto, unfolding(iloc_spec_grammar::specs::Syntax::title))]
     fn normal(piece: ShortPiece) -> ShortPiece {
         piece.to_ascii_titlecase()
     }
@@ -132,7 +132,7 @@ pub struct RegionKind;
 
 impl WordKind<3> for RegionKind {
     ghost use Rattle.std.specs.Prelude.{refl};
-    ghost use Rattle.iloc_spec_grammar.specs.Words.{Region as the_kind};
+    ghost use Rattle.iloc_spec_grammar.specs.Syntax.{Region as the_kind};
     ghost use Rattle.iloc_subtags.specs.declared.parse_error.ParseError.TheVariants.{InvalidSubtag};
     ghost use Rattle.iloc_subtags.specs.KindLaws.{region_fits};
 
@@ -144,7 +144,7 @@ impl WordKind<3> for RegionKind {
 
     ghost size = { refl };
 
-    #[tactic(auto, unfolding(iloc_spec_grammar::specs::Words::is_word))]
+    #[tactic(auto, unfolding(iloc_spec_grammar::specs::Syntax::is_word))]
     fn accepts(piece: ShortPiece) -> bool {
         match piece.len() {
             2 => piece.is_ascii_alphabetic(),
@@ -159,7 +159,7 @@ impl WordKind<3> for RegionKind {
         matches!(len, 2..=3)
     }
 
-    #[tactic(auto, unfolding(iloc_spec_grammar::specs::Words::upper))]
+    #[tactic(auto, unfolding(iloc_spec_grammar::specs::Syntax::upper))]
     fn normal(piece: ShortPiece) -> ShortPiece {
         piece.to_ascii_uppercase()
     }
@@ -188,7 +188,7 @@ pub struct VariantKind;
 
 impl WordKind<8> for VariantKind {
     ghost use Rattle.std.specs.Prelude.{refl};
-    ghost use Rattle.iloc_spec_grammar.specs.Words.{Variant as the_kind};
+    ghost use Rattle.iloc_spec_grammar.specs.Syntax.{Variant as the_kind};
     ghost use Rattle.iloc_subtags.specs.declared.parse_error.ParseError.TheVariants.{InvalidSubtag};
     ghost use Rattle.iloc_subtags.specs.KindLaws.{variant_fits};
 
@@ -200,7 +200,7 @@ impl WordKind<8> for VariantKind {
 
     ghost size = { refl };
 
-    #[tactic(auto, unfolding(iloc_spec_grammar::specs::Words::is_word))]
+    #[tactic(auto, unfolding(iloc_spec_grammar::specs::Syntax::is_word))]
     fn accepts(piece: ShortPiece) -> bool {
         match piece.len() {
             4 => piece.first().is_ascii_digit() && piece.is_ascii_alphanumeric(),
@@ -215,7 +215,7 @@ impl WordKind<8> for VariantKind {
         matches!(len, 4..=8)
     }
 
-    #[tactic(auto, unfolding(iloc_spec_grammar::specs::Words::lower))]
+    #[tactic(auto, unfolding(iloc_spec_grammar::specs::Syntax::lower))]
     fn normal(piece: ShortPiece) -> ShortPiece {
         piece.to_ascii_lowercase()
     }
@@ -234,7 +234,7 @@ pub struct SubtagKind;
 
 impl WordKind<8> for SubtagKind {
     ghost use Rattle.std.specs.Prelude.{refl};
-    ghost use Rattle.iloc_spec_grammar.specs.Words.{Subtag as the_kind};
+    ghost use Rattle.iloc_spec_grammar.specs.Syntax.{Subtag as the_kind};
     ghost use Rattle.iloc_subtags.specs.declared.parse_error.ParseError.TheVariants.{InvalidSubtag};
     ghost use Rattle.iloc_subtags.specs.KindLaws.{subtag_fits};
 
@@ -246,7 +246,7 @@ impl WordKind<8> for SubtagKind {
 
     ghost size = { refl };
 
-    #[tactic(auto, unfolding(iloc_spec_grammar::specs::Words::is_word))]
+    #[tactic(auto, unfolding(iloc_spec_grammar::specs::Syntax::is_word))]
     fn accepts(piece: ShortPiece) -> bool {
         matches!(piece.len(), 2..=8) && piece.is_ascii_alphanumeric()
     }
@@ -257,7 +257,7 @@ impl WordKind<8> for SubtagKind {
         matches!(len, 2..=8)
     }
 
-    #[tactic(auto, unfolding(iloc_spec_grammar::specs::Words::lower))]
+    #[tactic(auto, unfolding(iloc_spec_grammar::specs::Syntax::lower))]
     fn normal(piece: ShortPiece) -> ShortPiece {
         piece.to_ascii_lowercase()
     }

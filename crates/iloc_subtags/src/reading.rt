@@ -1,6 +1,6 @@
 //! The bricks that parsers are made of.
 ghost use Rattle.std.specs.Prelude.{◌≡◌, option_map};
-ghost use Rattle.iloc_spec_grammar.specs.Words.{is_word, normal};
+ghost use Rattle.iloc_spec_grammar.specs.Syntax.{is_word, normal};
 ghost use Rattle.iloc_spec_grammar.specs.Reading.{rest_of, skip_first, starts_block, take_first};
 ghost use Rattle.iloc_subtags.specs.Left.{left};
 ghost use Rattle.iloc_subtags.specs.NextPiece.{byte_at, next_has_length};

@@ -1,9 +1,8 @@
 //! The iterator over the pieces of a text.
 ghost use Rattle.std.specs.Prelude.{◌≡◌, ◌≢◌, ◌∷◌, ◌++◌, ◌≤◌, length, Some, None, MatchOption, All};
 ghost use Rattle.std.specs.Option.{option_copied};
-ghost use Rattle.iloc_spec_grammar.specs.Pieces.{pieces};
+ghost use Rattle.iloc_spec_grammar.specs.Syntax.{pieces, is_word};
 ghost use Rattle.iloc_spec_grammar.specs.Reading.{first_item, rest_of, take_first};
-ghost use Rattle.iloc_spec_grammar.specs.Words.{is_word};
 ghost use Rattle.iloc_subtags.specs.FirstLength.{IsFirstLength};
 
 use crate::WordKind;

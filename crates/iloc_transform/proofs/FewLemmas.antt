@@ -1,11 +1,9 @@
 -- A transform of few words takes no memory.
 use Rattle.std.proofs.Common.{◌≡◌, ℕ, ◌<◌, ◌≤◌, List, [], ◌∷◌, ◌++◌, length, map, refl, sym, ap, ◌∙◌, subst, arith, Option, IfSome, option_map, true≢false}
 use Rattle.std.proofs.lemmas.List.{length-map}
-use Rattle.iloc_spec_grammar.specs.Words.{Language, IsWord, lower, languages}
-use Rattle.iloc_spec_grammar.specs.Written.{Identifier, identifier_pieces, fields_pieces}
-use Rattle.iloc_spec_grammar.specs.Written as written
-use Rattle.iloc_spec_grammar.specs.Meaning.{normal_identifier}
-use Rattle.iloc_spec_grammar.specs.Faults.{front, first_piece}
+use Rattle.iloc_spec_grammar.specs.Syntax.{Language, IsWord, lower, languages, Identifier, identifier_pieces, fields_pieces}
+use Rattle.iloc_spec_grammar.specs.Syntax as written
+use Rattle.iloc_spec_grammar.specs.Meaning.{normal_identifier, front, first_piece}
 use Rattle.iloc_spec_grammar.specs.Reading.{IdentifierFront, from_block}
 use Rattle.iloc_spec_grammar.specs.ByBlocks.{TransformMeans}
 use Rattle.iloc_spec_grammar.proofs.IdentifierLaws.{one_identifier}

@@ -3,7 +3,7 @@ use Rattle.std.proofs.Common.{◌≡◌, ℕ, ◌&&◌, List, nat_eq, ap}
 use Rattle.std.specs.Bool.{Decides}
 use Rattle.std.proofs.lemmas.Bool.Decides.{Decides-and, Decides-like}
 use lib.Pointwise.{pointwise, pointwise_decides, bytes_decides}
-use Rattle.iloc_spec_grammar.specs.Written as written
+use Rattle.iloc_spec_grammar.specs.Syntax as written
 
 pub words_decide : (v w : List (List ℕ)) → Decides (pointwise (pointwise nat_eq) v w) (v ≡ w)
 words_decide = pointwise_decides bytes_decides

@@ -3,15 +3,13 @@ use Rattle.std.proofs.Common.{◌≡◌, ℕ, suc, ◌+◌, ◌<◌, Bool, true,
 use Rattle.std.specs.List.{AllByRecursion, list_all}
 use Rattle.std.specs.FinMap.{find, put}
 use Rattle.std.proofs.lemmas.List.{map-append}
-use Rattle.iloc_spec_grammar.specs.Words.{TransformKey, Attribute, is_word, IsWord, lower, word_cmp}
-use Rattle.iloc_spec_grammar.specs.Written.{Fields, fields_pieces, IsField}
+use Rattle.iloc_spec_grammar.specs.Syntax.{TransformKey, Attribute, is_word, IsWord, lower, word_cmp, Fields, fields_pieces, IsField}
 use Rattle.iloc_spec_grammar.specs.Meaning.{map_of, normal_fields, normal_values}
 use Rattle.iloc_spec_grammar.specs.Reading.{take_first, skip_first, passing, past, before_key, fields_from}
 use Rattle.iloc_spec_grammar.proofs.MapLaws.{word_cmp_total, same_words}
-use Rattle.iloc_spec_parts.specs.Fronts.{is_field_piece, fields_front, after_fields, BeginsField}
+use Rattle.iloc_spec_parts.specs.Fronts.{is_field_piece, fields_front, after_fields, BeginsField, fields_at}
 use Rattle.iloc_spec_parts.proofs.KeptLaws.{begins_field}
 use Rattle.iloc_spec_grammar.specs.Computing.{is_field}
-use Rattle.iloc_spec_parts.specs.FrontComputing.{fields_at}
 use Rattle.iloc_litemap.proofs.Maps.{map_of_more}
 use Rattle.iloc_subtags.proofs.TakingLemmas.{took}
 use Rattle.iloc_subtags.specs.declared.parse_error.ParseError.{ParseError}

@@ -2,12 +2,10 @@
 use Rattle.std.proofs.Common.{◌≡◌, ℕ, Bool, true, false, cond, List, [], ◌∷◌, is_some, Result, Ok, Err, OnOk, OnErr}
 use Rattle.std.specs.FinMap.{put, find}
 use Rattle.std.specs.List.{AllByRecursion, items_where_true}
-use Rattle.iloc_spec_grammar.specs.Words.{word_cmp}
-use Rattle.iloc_spec_grammar.specs.Written.{Fields}
+use Rattle.iloc_spec_grammar.specs.Syntax.{word_cmp, Fields, TransformKey}
 use Rattle.iloc_spec_grammar.proofs.MapLaws.{same_words, all-put}
 use Rattle.iloc_transform.specs.FieldsReading.{IsFieldPair}
 use Rattle.iloc_transform.specs.ValueReading.{IsValueWord}
-use Rattle.iloc_spec_grammar.specs.Words.{TransformKey}
 use Rattle.iloc_spec_grammar.specs.Values.{IsNormal}
 
 put_pairs : (k : List ℕ) (v : List (List ℕ)) → IsNormal TransformKey k → AllByRecursion IsValueWord v → (es : Fields) → AllByRecursion IsFieldPair es → AllByRecursion IsFieldPair (put word_cmp k v es)

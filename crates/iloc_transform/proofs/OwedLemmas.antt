@@ -1,14 +1,12 @@
 -- What the reader of transforms owes to each text.
 use Rattle.std.proofs.Common.{◌≡◌, ℕ, List, ap, Result, Ok, Err}
-use Rattle.iloc_spec_grammar.specs.Words.{languages}
-use Rattle.iloc_spec_grammar.specs.Written as written
+use Rattle.iloc_spec_grammar.specs.Syntax.{languages, pieces}
+use Rattle.iloc_spec_grammar.specs.Syntax as written
 use Rattle.iloc_spec_grammar.proofs.RawLaws.{languages_table}
-use Rattle.iloc_spec_grammar.specs.Pieces.{pieces}
-use Rattle.iloc_spec_grammar.specs.Faults as faults
-use Rattle.iloc_spec_grammar.specs.Faults.{Fault}
+use Rattle.iloc_spec_grammar.specs.Meaning as faults
+use Rattle.iloc_spec_grammar.specs.Meaning.{Fault}
 use Rattle.iloc_subtags.specs.declared.parse_error.ParseError.{ParseError}
-use Rattle.iloc_subtags.specs.Answers.{OfPart}
-use Rattle.iloc_subtags.specs.Judging.{Accepts, Refuses}
+use Rattle.iloc_subtags.specs.Judging.{OfPart, Accepts, Refuses}
 use Rattle.iloc_subtags.proofs.Judged.{Judges, accepts, refuses, of_part}
 use Rattle.iloc_spec_parts.specs.Parts.{TransformText, TransformTextFault}
 use Rattle.iloc_spec_parts.proofs.PartReaders.{transform_part}

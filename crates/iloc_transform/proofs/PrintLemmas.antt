@@ -3,8 +3,7 @@ use Rattle.std.proofs.Common.{◌≡◌, ℕ, suc, Bool, true, false, not, ◌==
 use Rattle.std.specs.List.{flat_map}
 use Rattle.std.proofs.lemmas.Bool.Decides.{nat_tests}
 use Rattle.iloc_writeable.proofs.PiecesLemmas.{flat_map_words}
-use Rattle.iloc_spec_grammar.specs.Pieces.{join}
-use Rattle.iloc_spec_grammar.specs.Written.{Fields, fields_pieces}
+use Rattle.iloc_spec_grammar.specs.Syntax.{join, Fields, fields_pieces}
 use Rattle.iloc_spec_grammar.specs.Values.{spelled_value, spelled_fields, field_value_text}
 use Rattle.iloc_writeable.specs.Pieces.{is_there}
 

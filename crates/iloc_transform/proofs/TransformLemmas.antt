@@ -6,16 +6,13 @@ use Rattle.std.specs.FinMap.Entries.{by_order}
 use Rattle.std.specs.declared.cmp.Ordering.TheVariants.{Less, Equal, Greater}
 use Rattle.std.proofs.lemmas.Bool.{and_parts, not-true}
 use Rattle.std.proofs.lemmas.Bool.Decides.{nat_tests}
-use Rattle.iloc_spec_grammar.specs.Pieces.{pieces}
-use Rattle.iloc_spec_grammar.specs.Words.{Language, is_word, read, lower, languages, word_cmp, TransformKey}
-use Rattle.iloc_spec_grammar.specs.Written as written
-use Rattle.iloc_spec_grammar.specs.Meaning.{normal_identifier, normal_transform, normal_fields, normal_values}
-use Rattle.iloc_spec_grammar.specs.Faults as faults
-use Rattle.iloc_spec_grammar.specs.Faults.{Fault}
+use Rattle.iloc_spec_grammar.specs.Syntax.{pieces, Language, is_word, read, lower, languages, word_cmp, TransformKey}
+use Rattle.iloc_spec_grammar.specs.Syntax as written
+use Rattle.iloc_spec_grammar.specs.Meaning.{normal_identifier, normal_transform, normal_fields, normal_values, Fault}
+use Rattle.iloc_spec_grammar.specs.Meaning as faults
 use Rattle.iloc_spec_grammar.specs.Reading.{first_item, rest_of, fields_from}
 use Rattle.iloc_spec_grammar.specs.Computing.{is_field}
-use Rattle.iloc_spec_parts.specs.Fronts.{absent, present, after_fields, TransformRead, TransformFault, repeats}
-use Rattle.iloc_spec_parts.specs.FrontComputing.{fields_at, fields_result}
+use Rattle.iloc_spec_parts.specs.Fronts.{absent, present, after_fields, TransformRead, TransformFault, repeats, fields_at, fields_result}
 use Rattle.iloc_spec_parts.specs.Parts.{is_letter, TransformTextFault}
 use Rattle.iloc_spec_parts.proofs.TransformLaws.{fields_answer, IsTransformAnswer}
 use Rattle.iloc_other.specs.Singleton.{singleton_at}

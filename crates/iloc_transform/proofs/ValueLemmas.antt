@@ -2,8 +2,7 @@
 use Rattle.std.proofs.Common.{◌≡◌, ℕ, suc, ◌+◌, ◌<◌, Bool, true, false, not, cond, List, [], ◌∷◌, ◌++◌, length, refl, sym, ap, ◌∙◌, subst, arith, append-nil, length-append, Some, None, option_map, Ok, Err}
 use Rattle.std.specs.List.{list_all}
 use Rattle.std.proofs.lemmas.Bool.{and_parts, false_from_ne_true}
-use Rattle.iloc_spec_grammar.specs.Pieces.{pieces}
-use Rattle.iloc_spec_grammar.specs.Words.{Attribute, is_word, IsWord, lower, is_true}
+use Rattle.iloc_spec_grammar.specs.Syntax.{pieces, Attribute, is_word, IsWord, lower, is_true}
 use Rattle.iloc_spec_grammar.specs.Meaning.{normal_values}
 use Rattle.iloc_spec_grammar.specs.Reading.{take_first, skip_first, passing, past}
 use Rattle.iloc_spec_grammar.specs.Reading.{first_item}

@@ -1,11 +1,10 @@
 -- What the reader of values owes to each text.
 use Rattle.std.proofs.Common.{◌≡◌, ℕ, List, Result, Ok, Err}
-use Rattle.iloc_spec_grammar.specs.Pieces.{pieces}
-use Rattle.iloc_spec_grammar.specs.Faults as faults
-use Rattle.iloc_spec_grammar.specs.Faults.{Fault}
+use Rattle.iloc_spec_grammar.specs.Syntax.{pieces}
+use Rattle.iloc_spec_grammar.specs.Meaning as faults
+use Rattle.iloc_spec_grammar.specs.Meaning.{Fault}
 use Rattle.iloc_subtags.specs.declared.parse_error.ParseError.{ParseError}
-use Rattle.iloc_subtags.specs.Answers.{ExtensionFault}
-use Rattle.iloc_subtags.specs.Judging.{Accepts, Refuses}
+use Rattle.iloc_subtags.specs.Judging.{ExtensionFault, Accepts, Refuses}
 use Rattle.iloc_subtags.proofs.Judged.{Judges, told, accepts, refuses, of_extension}
 use Rattle.iloc_spec_parts.specs.PartValues.{transform_value}
 use Rattle.iloc_transform.specs.ValueReading.{ValueReads, ValueWants}

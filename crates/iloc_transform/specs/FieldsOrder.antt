@@ -7,10 +7,8 @@ use Rattle.std.specs.declared.cmp.Ordering.{Ordering}
 use Rattle.std.specs.declared.cmp.Ordering.TheVariants.{Less, Equal, Greater}
 use Rattle.std.proofs.Common.{ap₂, ◌∙◌, sym, arith}
 use Rattle.std.proofs.lemmas.Bool.Decides.{nat_tests}
-use Rattle.iloc_spec_grammar.specs.Shapes.{Text}
+use Rattle.iloc_spec_grammar.specs.Syntax.{Text, word_cmp, Fields}
 use lib.Pointwise.{pointwise}
-use Rattle.iloc_spec_grammar.specs.Words.{word_cmp}
-use Rattle.iloc_spec_grammar.specs.Written.{Fields}
 use Rattle.iloc_spec_orders.specs.Orders.{words_cmp, pair_cmp, fields_cmp}
 use Rattle.iloc_spec_orders.proofs.OrderLaws.{fields_exact}
 use Rattle.iloc_shortvec.specs.ShortOrder.{short_ties}

@@ -1,16 +1,13 @@
 -- What the reader of fields answers.
 use Rattle.std.specs.Prelude.{◌≡◌, ℕ, false, List, Result}
 use Rattle.std.specs.List.{AllByRecursion, list_all}
-use Rattle.iloc_spec_grammar.specs.Shapes.{Text}
-use Rattle.iloc_spec_grammar.specs.Words.{TransformKey}
-use Rattle.iloc_spec_grammar.specs.Written.{Fields, fields_pieces, IsField}
+use Rattle.iloc_spec_grammar.specs.Syntax.{Text, TransformKey, Fields, fields_pieces, IsField}
 use Rattle.iloc_spec_grammar.specs.Meaning.{normal_fields}
 use Rattle.iloc_spec_grammar.specs.Values.{IsNormal}
-use Rattle.iloc_spec_parts.specs.Fronts.{fields_front, after_fields, BeginsField}
+use Rattle.iloc_spec_parts.specs.Fronts.{fields_front, after_fields, BeginsField, fields_at}
 use Rattle.iloc_spec_grammar.specs.Computing.{is_field}
-use Rattle.iloc_spec_parts.specs.FrontComputing.{fields_at}
 use Rattle.iloc_subtags.specs.declared.parse_error.ParseError.{ParseError}
-use Rattle.iloc_subtags.specs.Answers.{Answers, ExtensionFault}
+use Rattle.iloc_subtags.specs.Judging.{Answers, ExtensionFault}
 use Rattle.iloc_transform.specs.ValueReading.{IsValueWord}
 
 -- what fields hold: a key with the words of a value

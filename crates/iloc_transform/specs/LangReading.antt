@@ -1,14 +1,11 @@
 -- What the reader of a transform's identifier answers.
 use Rattle.std.specs.Prelude.{◌≡◌, ℕ, ◌<◌, List, length, Option, option_map, Result}
-use Rattle.iloc_spec_grammar.specs.Shapes.{Text}
-use Rattle.iloc_spec_grammar.specs.Words.{languages}
-use Rattle.iloc_spec_grammar.specs.Written.{Identifier}
-use Rattle.iloc_spec_grammar.specs.Meaning.{normal_identifier}
-use Rattle.iloc_spec_grammar.specs.Faults.{RepeatsVariant}
+use Rattle.iloc_spec_grammar.specs.Syntax.{Text, languages, Identifier}
+use Rattle.iloc_spec_grammar.specs.Meaning.{normal_identifier, RepeatsVariant}
 use Rattle.iloc_spec_grammar.specs.Reading.{IdentifierFront}
 use Rattle.iloc_spec_parts.specs.Fronts.{FrontRead}
 use Rattle.iloc_subtags.specs.declared.parse_error.ParseError.{ParseError}
-use Rattle.iloc_subtags.specs.Answers.{Answers, SubtagFault}
+use Rattle.iloc_subtags.specs.Judging.{Answers, SubtagFault}
 use Rattle.iloc_langid.specs.Reads.{value_of}
 use Rattle.iloc_langid.specs.declared.identifier.LanguageIdentifier.{LanguageIdentifier}
 

@@ -1,14 +1,12 @@
 -- What the readers of transforms answer.
 use Rattle.std.specs.Prelude.{◌≡◌, ℕ, true, List, Option, option_map, Result}
-use Rattle.iloc_spec_grammar.specs.Shapes.{Text, code_t}
-use Rattle.iloc_spec_grammar.specs.Pieces.{pieces}
-use Rattle.iloc_spec_grammar.specs.Words.{languages}
-use Rattle.iloc_spec_grammar.specs.Written as written
+use Rattle.iloc_spec_grammar.specs.Syntax.{Text, code_t, pieces, languages}
+use Rattle.iloc_spec_grammar.specs.Syntax as written
 use Rattle.iloc_spec_grammar.specs.Reading.{rest_of}
 use Rattle.iloc_spec_parts.specs.Fronts.{FrontRead, BeginsField, TransformRead, TransformFault}
 use Rattle.iloc_spec_parts.specs.Parts.{begins_part, is_letter, TransformText, TransformTextFault}
 use Rattle.iloc_subtags.specs.declared.parse_error.ParseError.{ParseError}
-use Rattle.iloc_subtags.specs.Answers.{Answers, OfPart}
+use Rattle.iloc_subtags.specs.Judging.{Answers, OfPart}
 use Rattle.iloc_langid.specs.Reads as langid
 use Rattle.iloc_transform.specs.LangReading.{HasFiveVariants}
 use Rattle.iloc_transform.specs.declared.transform.Transform.{Transform}

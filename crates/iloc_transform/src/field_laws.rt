@@ -1,8 +1,8 @@
 //! Laws of fields and their values: order, equality, hashes.
 
 ghost use Rattle.std.specs.Prelude.{◌≡◌, ◌↔◌, IsTrue, ℕ, List};
-ghost use Rattle.iloc_spec_grammar.specs.Shapes.{Text};
-ghost use Rattle.iloc_spec_grammar.specs.Written as written;
+ghost use Rattle.iloc_spec_grammar.specs.Syntax.{Text};
+ghost use Rattle.iloc_spec_grammar.specs.Syntax as written;
 ghost use Rattle.iloc_spec_orders.specs.Orders.{words_cmp, fields_cmp};
 ghost use Rattle.iloc_spec_orders.specs.Hashes.{words_fed, fields_fed};
 

@@ -23,9 +23,8 @@ ghost use Rattle.std.specs.List.{AllByRecursion};
 ghost use Rattle.std.specs.List.Retain.{IsFiltered};
 ghost use Rattle.std.specs.Option.{option_copied, is_some};
 ghost use Rattle.std.specs.Result.{result_and};
-ghost use Rattle.iloc_spec_grammar.specs.Words.{word_cmp};
+ghost use Rattle.iloc_spec_grammar.specs.Syntax.{word_cmp, fields_pieces};
 ghost use Rattle.iloc_spec_grammar.specs.Meaning.{map_of};
-ghost use Rattle.iloc_spec_grammar.specs.Written.{fields_pieces};
 ghost use Rattle.iloc_spec_grammar.specs.Values.{spelled_fields, fields_text};
 ghost use Rattle.std.specs.Ordering.{as_partial_cmp};
 ghost use Rattle.std.specs.Cmp.{partial_order_from_agreeing_total};
@@ -63,7 +62,7 @@ impl Drop for Fields {
 
 impl Model for Fields {
     ghost use Rattle.std.specs.List.{AllByRecursion};
-    ghost use Rattle.iloc_spec_grammar.specs.Written as written;
+    ghost use Rattle.iloc_spec_grammar.specs.Syntax as written;
     ghost use Rattle.iloc_transform.specs.FieldsReading.{IsFieldPair};
 
     ghost Value = { written.Fields };
@@ -273,7 +272,7 @@ impl Pieces for Fields {
 impl Writeable for Fields {
     ghost text = { fields_text };
 
-    #[tactic(auto, unfolding(iloc_spec_grammar::specs::Values::fields_text, iloc_spec_grammar::specs::Pieces::join))]
+    #[tactic(auto, unfolding(iloc_spec_grammar::specs::Values::fields_text, iloc_spec_grammar::specs::Syntax::join))]
     fn write_to<S: Sink>(&self, sink: &mut S) -> fmt::Result {
         self.write_joined(sink)
     }

@@ -3,7 +3,7 @@ ghost use Rattle.std.specs.Prelude.{◌≡◌, Ok, None, option_map, option_to_l
 ghost use Rattle.std.specs.List.{flat_map};
 ghost use Rattle.std.specs.Option.{option_cmp, option_copied};
 ghost use Rattle.std.specs.Result.{result_and};
-ghost use Rattle.iloc_spec_grammar.specs.Written.{identifier_pieces, optional_pieces};
+ghost use Rattle.iloc_spec_grammar.specs.Syntax.{identifier_pieces, optional_pieces};
 ghost use Rattle.iloc_spec_grammar.specs.Values.{lower_identifier};
 ghost use Rattle.iloc_langid.specs.Reads.{value_of};
 ghost use Rattle.iloc_spec_orders.specs.Orders.{identifier_cmp};

@@ -8,10 +8,9 @@
 #![tactic(auto)]
 
 ghost use Rattle.std.specs.Prelude.{◌≡◌, ◌≤◌, ◌↔◌, IsTrue, ℕ, List, [], length, IfSome};
-ghost use Rattle.iloc_spec_grammar.specs.Shapes.{Text};
-ghost use Rattle.iloc_spec_grammar.specs.Words.{languages};
-ghost use Rattle.iloc_spec_grammar.specs.Written as written;
-ghost use Rattle.iloc_spec_grammar.specs.Faults.{front};
+ghost use Rattle.iloc_spec_grammar.specs.Syntax.{Text, languages};
+ghost use Rattle.iloc_spec_grammar.specs.Syntax as written;
+ghost use Rattle.iloc_spec_grammar.specs.Meaning.{front};
 ghost use Rattle.iloc_spec_grammar.specs.ByBlocks.{TransformMeans};
 ghost use Rattle.iloc_spec_orders.specs.Hashes.{transform_fed};
 ghost use Rattle.iloc_transform.specs.declared.transform.Transform.{Transform};

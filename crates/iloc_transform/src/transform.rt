@@ -16,9 +16,9 @@ ghost use Rattle.std.specs.Prelude.{
   is_some,
 };
 ghost use Rattle.std.specs.Result.{result_and};
-ghost use Rattle.iloc_spec_grammar.specs.Words.{languages};
-ghost use Rattle.iloc_spec_grammar.specs.Written as written;
-ghost use Rattle.iloc_spec_grammar.specs.Faults.{Fault};
+ghost use Rattle.iloc_spec_grammar.specs.Syntax.{languages};
+ghost use Rattle.iloc_spec_grammar.specs.Syntax as written;
+ghost use Rattle.iloc_spec_grammar.specs.Meaning.{Fault};
 ghost use Rattle.iloc_spec_parts.specs.Parts.{TransformText, TransformTextFault};
 ghost use Rattle.iloc_spec_orders.specs.Orders.{transform_cmp};
 ghost use Rattle.iloc_subtags.specs.Judging.{Accepts, Refuses};
@@ -187,7 +187,7 @@ impl Writeable for Transform {
 
     ghost text = { λ m. transform_text (value_of m) };
 
-    #[tactic(auto, unfolding(iloc_spec_grammar::specs::Values::transform_text, iloc_spec_grammar::specs::Pieces::join))]
+    #[tactic(auto, unfolding(iloc_spec_grammar::specs::Values::transform_text, iloc_spec_grammar::specs::Syntax::join))]
     fn write_to<S: Sink>(&self, sink: &mut S) -> fmt::Result {
         self.write_joined(sink)
     }

@@ -18,12 +18,10 @@ ghost use Rattle.std.specs.Prelude.{
   if◌then◌else◌,
 };
 ghost use Rattle.std.specs.List.{AllByRecursion};
-ghost use Rattle.iloc_spec_grammar.specs.Shapes.{Text};
-ghost use Rattle.iloc_spec_grammar.specs.Pieces.{pieces};
-ghost use Rattle.iloc_spec_grammar.specs.Words.{Attribute as the_kind, is_true};
+ghost use Rattle.iloc_spec_grammar.specs.Syntax.{Text, pieces, Attribute as the_kind, is_true};
 ghost use Rattle.iloc_spec_grammar.specs.Values.{field_value_text, spelled_value};
 ghost use Rattle.iloc_subtags.specs.Left.{left};
-ghost use Rattle.iloc_spec_grammar.specs.Faults.{Fault};
+ghost use Rattle.iloc_spec_grammar.specs.Meaning.{Fault};
 ghost use Rattle.iloc_spec_parts.specs.PartValues.{transform_value};
 ghost use Rattle.iloc_subtags.specs.Judging.{Accepts, Refuses};
 ghost use Rattle.iloc_transform.specs.ValueReading.{IsValueWord, ValueFrontReads, ValueReads, ValueWants};
@@ -146,7 +144,7 @@ impl Value {
     }
 }
 
-#[tactic(auto, unfolding(iloc_spec_grammar::specs::Words::is_true))]
+#[tactic(auto, unfolding(iloc_spec_grammar::specs::Syntax::is_true))]
 fn spells_true(word: &Attribute) -> bool
     ensures { result ≡ is_true word.now }
 {
@@ -194,7 +192,7 @@ impl Writeable for Value {
 
     ghost lends = { λ v. v ≡ [] };
 
-    #[tactic(auto, unfolding(iloc_spec_grammar::specs::Values::field_value_text, iloc_spec_grammar::specs::Pieces::join))]
+    #[tactic(auto, unfolding(iloc_spec_grammar::specs::Values::field_value_text, iloc_spec_grammar::specs::Syntax::join))]
     fn write_to<S: Sink>(&self, sink: &mut S) -> fmt::Result {
         self.write_joined(sink)
     }

@@ -7,15 +7,12 @@ use Rattle.std.specs.Option.{option_or}
 use Rattle.std.specs.FinMap.{put, find}
 use Rattle.std.proofs.lemmas.Bool.Decides.{nat_tests}
 use Rattle.std.proofs.lemmas.List.{map-append}
-use Rattle.iloc_spec_grammar.specs.Words.{UnicodeKey, Attribute, is_word, IsWord, lower, word_cmp}
-use Rattle.iloc_spec_grammar.specs.Written.{Fields}
-use Rattle.iloc_spec_grammar.specs.Meaning.{map_of, normal_values, normal_fields}
+use Rattle.iloc_spec_grammar.specs.Syntax.{UnicodeKey, Attribute, is_word, IsWord, lower, word_cmp, Fields}
+use Rattle.iloc_spec_grammar.specs.Meaning.{map_of, normal_values, normal_fields, InvalidExtension, first_piece}
 use Rattle.iloc_spec_grammar.specs.Reading.{take_first, skip_first, passing, past, is_two, before_key, fields_from}
-use Rattle.iloc_spec_grammar.specs.Faults.{InvalidExtension, first_piece}
 use Rattle.iloc_spec_grammar.proofs.MapLaws.{word_cmp_total, same_words, find-map_of}
 use Rattle.iloc_spec_grammar.proofs.SetLaws.{find-append}
-use Rattle.iloc_spec_parts.specs.Fronts.{is_keyword_piece, keywords_front, after_keywords, is_bad_key, KeywordsRead, KeywordsFault, bad_key}
-use Rattle.iloc_spec_parts.specs.FrontComputing.{keywords_at, before_bad_key, keywords_kept}
+use Rattle.iloc_spec_parts.specs.Fronts.{is_keyword_piece, keywords_front, after_keywords, is_bad_key, KeywordsRead, KeywordsFault, bad_key, keywords_at, before_bad_key, keywords_kept}
 use Rattle.iloc_spec_parts.proofs.KeptLaws.{HasKey, kept_append}
 use Rattle.iloc_spec_grammar.proofs.ReadBack.{all_append}
 use Rattle.iloc_spec_parts.proofs.FrontLaws.{not_two_bytes, two_bytes_of, good_value, good_key, value_goes_on, keywords_read_of}

@@ -1,17 +1,15 @@
 -- What the readers owe to each text.
 use Rattle.std.proofs.Common.{◌≡◌, ℕ, ◌<◌, List, length, sym, ap, ◌∙◌, Result, Ok, Err}
-use Rattle.iloc_spec_grammar.specs.Pieces.{pieces}
-use Rattle.iloc_spec_grammar.specs.Written as written
-use Rattle.iloc_spec_grammar.specs.Written.{Fields}
-use Rattle.iloc_spec_grammar.specs.Faults as faults
-use Rattle.iloc_spec_grammar.specs.Faults.{Fault}
+use Rattle.iloc_spec_grammar.specs.Syntax.{pieces, Fields}
+use Rattle.iloc_spec_grammar.specs.Syntax as written
+use Rattle.iloc_spec_grammar.specs.Meaning as faults
+use Rattle.iloc_spec_grammar.specs.Meaning.{Fault}
 use Rattle.iloc_spec_parts.specs.Fronts.{attributes_read}
 use Rattle.iloc_spec_parts.specs.Parts.{AttributesText, KeywordsText, KeywordsTextFault, UnicodeText, UnicodeTextFault}
 use Rattle.iloc_spec_parts.proofs.FrontLaws.{keywords_reader}
 use Rattle.iloc_spec_parts.proofs.PartReaders.{unicode_part}
 use Rattle.iloc_subtags.specs.declared.parse_error.ParseError.{ParseError}
-use Rattle.iloc_subtags.specs.Answers.{NoFault, ExtensionFault}
-use Rattle.iloc_subtags.specs.Judging.{Accepts, Refuses}
+use Rattle.iloc_subtags.specs.Judging.{NoFault, ExtensionFault, Accepts, Refuses}
 use Rattle.iloc_subtags.proofs.Judged.{Judges, accepts, refuses, of_extension}
 use Rattle.iloc_unicode.specs.declared.unicode.Unicode.{Unicode}
 use Rattle.iloc_unicode.specs.UnicodeValue.{value_of}

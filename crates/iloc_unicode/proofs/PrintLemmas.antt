@@ -1,7 +1,7 @@
 -- The pieces that keywords and the extension print.
 use Rattle.std.proofs.Common.{◌≡◌, ℕ, suc, ◌+◌, Bool, true, false, not, cond, ◌&&◌, ◌==◌, List, [], ◌∷◌, length, refl, sym, ap, ◌∙◌, arith, nat_lt}
 use Rattle.std.proofs.lemmas.Bool.Decides.{nat_tests}
-use Rattle.iloc_spec_grammar.specs.Written.{Fields, Unicode, fields_pieces, unicode_pieces}
+use Rattle.iloc_spec_grammar.specs.Syntax.{Fields, Unicode, fields_pieces, unicode_pieces}
 use Rattle.iloc_spec_grammar.specs.Values.{unicode_spelling}
 use Rattle.iloc_spec_grammar.proofs.PartTexts.{unicode_spelling_is}
 use Rattle.iloc_writeable.specs.Pieces.{hyphened, is_there}

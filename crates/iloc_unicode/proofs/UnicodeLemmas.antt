@@ -7,12 +7,10 @@ use Rattle.std.specs.declared.cmp.Ordering.TheVariants.{Less, Equal, Greater}
 use Rattle.std.proofs.lemmas.Bool.{and_parts}
 use Rattle.std.proofs.lemmas.Bool.Decides.{nat_tests}
 use Rattle.std.proofs.lemmas.List.{length-map}
-use Rattle.iloc_spec_grammar.specs.Pieces.{pieces}
-use Rattle.iloc_spec_grammar.specs.Words.{lower, word_cmp}
-use Rattle.iloc_spec_grammar.specs.Written.{Fields, fields_pieces}
+use Rattle.iloc_spec_grammar.specs.Syntax.{pieces, lower, word_cmp, Fields, fields_pieces}
 use Rattle.iloc_spec_grammar.specs.Meaning.{map_of, set_of, normal_fields}
 use Rattle.iloc_spec_grammar.specs.Reading.{rest_of}
-use Rattle.iloc_spec_grammar.specs.Faults as faults
+use Rattle.iloc_spec_grammar.specs.Meaning as faults
 use Rattle.iloc_spec_parts.specs.Fronts.{attributes_front, after_attributes, attributes_read, keywords_front, KeywordsRead, UnicodeRead, UnicodeFault, in_keywords, both_absent}
 use Rattle.iloc_spec_parts.specs.Parts.{begins_part, is_letter, no_singleton, after_singleton, UnicodeTextFault}
 use Rattle.iloc_subtags.specs.declared.parse_error.ParseError.{ParseError}

@@ -1,9 +1,8 @@
 -- The equality tests of keywords and of the whole extension find exactly equal values equal.
 use Rattle.std.proofs.Common.{ℕ, Bool, ◌&&◌, List, ap, nat_eq}
 use Rattle.std.proofs.lemmas.Bool.{and_parts, and_from}
-use Rattle.iloc_spec_grammar.specs.Shapes.{Text}
+use Rattle.iloc_spec_grammar.specs.Syntax.{Text, Fields, Unicode}
 use lib.Pointwise.{pointwise}
-use Rattle.iloc_spec_grammar.specs.Written.{Fields, Unicode}
 use Rattle.iloc_unicode_value.specs.Equality.{IsExactTest, word_exact, words_eq, words_exact, lists_exact}
 
 -- the key, and then the value

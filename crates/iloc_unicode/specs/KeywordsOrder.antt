@@ -5,9 +5,7 @@ use Rattle.std.specs.declared.cmp.Ordering.{Ordering}
 use Rattle.std.specs.declared.cmp.Ordering.TheVariants.{Less, Equal, Greater}
 use Rattle.std.specs.Cmp.{IsTotalOrder}
 use Rattle.std.specs.Cmp.Lexicographic.{texts_ties}
-use Rattle.iloc_spec_grammar.specs.Shapes.{Text}
-use Rattle.iloc_spec_grammar.specs.Words.{word_cmp}
-use Rattle.iloc_spec_grammar.specs.Written.{Fields}
+use Rattle.iloc_spec_grammar.specs.Syntax.{Text, word_cmp, Fields}
 use Rattle.iloc_spec_orders.specs.Orders.{pair_cmp, words_cmp, keywords_cmp}
 use Rattle.iloc_spec_orders.proofs.OrderLaws.{keywords_exact}
 use Rattle.iloc_shortvec.specs.ShortOrder.{short_ties}

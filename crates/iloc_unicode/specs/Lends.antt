@@ -2,9 +2,7 @@
 use Rattle.std.specs.Prelude.{ℕ, List, Option}
 use Rattle.std.specs.Borrow.{LendsIf, Fml, MutBor}
 use Rattle.std.specs.FinMap.{put}
-use Rattle.iloc_spec_grammar.specs.Shapes.{Text}
-use Rattle.iloc_spec_grammar.specs.Words.{word_cmp}
-use Rattle.iloc_spec_grammar.specs.Written.{Fields}
+use Rattle.iloc_spec_grammar.specs.Syntax.{Text, word_cmp, Fields}
 use Rattle.iloc_unicode_value.specs.contracts.value.Value as value
 use Rattle.iloc_unicode.specs.contracts.keywords.Keywords as keywords
 

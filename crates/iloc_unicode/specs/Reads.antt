@@ -1,16 +1,13 @@
 -- What the readers of attributes, of keywords and of what follows `u` answer, by cases on the whole answer.
 use Rattle.std.specs.Prelude.{◌≡◌, ℕ, ◌<◌, true, List, length, nat_lt, Bool, Result}
 use Rattle.std.specs.List.{list_any}
-use Rattle.iloc_spec_grammar.specs.Shapes.{Text}
-use Rattle.iloc_spec_grammar.specs.Pieces.{pieces}
-use Rattle.iloc_spec_grammar.specs.Written.{Fields}
+use Rattle.iloc_spec_grammar.specs.Syntax.{Text, pieces, Fields}
 use Rattle.iloc_spec_grammar.specs.Meaning.{normal_values, normal_fields}
-use Rattle.iloc_spec_grammar.specs.Faults as faults
-use Rattle.iloc_spec_parts.specs.Fronts.{attributes_read, KeywordsRead, KeywordsFault}
+use Rattle.iloc_spec_grammar.specs.Meaning as faults
+use Rattle.iloc_spec_parts.specs.Fronts.{attributes_read, KeywordsRead, KeywordsFault, keywords_kept}
 use Rattle.iloc_spec_parts.specs.Parts.{AttributesText, KeywordsText, KeywordsTextFault}
-use Rattle.iloc_spec_parts.specs.FrontComputing.{keywords_kept}
 use Rattle.iloc_subtags.specs.declared.parse_error.ParseError.{ParseError}
-use Rattle.iloc_subtags.specs.Answers.{Answers, NoFault, ExtensionFault}
+use Rattle.iloc_subtags.specs.Judging.{Answers, NoFault, ExtensionFault}
 
 -- the field has more than four subtags besides `true`
 abbrev pub has_many_values : Text × List Text → Bool

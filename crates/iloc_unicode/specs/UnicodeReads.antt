@@ -1,13 +1,12 @@
 -- What the readers of the unicode extension answer, by cases on the whole answer.
 use Rattle.std.specs.Prelude.{◌≡◌, ℕ, ◌<◌, true, List, length, Result}
-use Rattle.iloc_spec_grammar.specs.Shapes.{Text, code_u}
-use Rattle.iloc_spec_grammar.specs.Pieces.{pieces}
+use Rattle.iloc_spec_grammar.specs.Syntax.{Text, code_u, pieces}
 use Rattle.iloc_spec_grammar.specs.Reading.{rest_of}
-use Rattle.iloc_spec_grammar.specs.Faults as faults
+use Rattle.iloc_spec_grammar.specs.Meaning as faults
 use Rattle.iloc_spec_parts.specs.Fronts.{attributes_read, after_attributes, UnicodeRead, UnicodeFault}
 use Rattle.iloc_spec_parts.specs.Parts.{begins_part, is_letter, UnicodeText, UnicodeTextFault}
 use Rattle.iloc_subtags.specs.declared.parse_error.ParseError.{ParseError}
-use Rattle.iloc_subtags.specs.Answers.{Answers, ExtensionFault}
+use Rattle.iloc_subtags.specs.Judging.{Answers, ExtensionFault}
 use Rattle.iloc_unicode.specs.declared.unicode.Unicode.{Unicode}
 use Rattle.iloc_unicode.specs.Reads.{KeywordsWantMemory}
 use Rattle.iloc_unicode.specs.UnicodeValue.{value_of}

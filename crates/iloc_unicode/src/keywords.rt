@@ -36,12 +36,9 @@ ghost use Rattle.std.specs.Cmp.{
 };
 ghost use Rattle.std.specs.Hash.{same_Alike};
 ghost use Rattle.std.proofs.Common.{refl};
-ghost use Rattle.iloc_spec_grammar.specs.Words.{word_cmp};
-ghost use Rattle.iloc_spec_grammar.specs.Meaning.{map_of};
+ghost use Rattle.iloc_spec_grammar.specs.Syntax.{word_cmp, pieces, Fields};
+ghost use Rattle.iloc_spec_grammar.specs.Meaning.{map_of, Fault};
 ghost use Rattle.iloc_unicode.specs.Equality.{fields_eq, fields_exact};
-ghost use Rattle.iloc_spec_grammar.specs.Pieces.{pieces};
-ghost use Rattle.iloc_spec_grammar.specs.Written.{Fields};
-ghost use Rattle.iloc_spec_grammar.specs.Faults.{Fault};
 ghost use Rattle.iloc_spec_parts.specs.Parts.{KeywordsText, KeywordsTextFault};
 ghost use Rattle.iloc_subtags.specs.Judging.{Accepts, Refuses};
 ghost use Rattle.iloc_unicode.specs.Reads.{KeywordsReadAs, KeywordsWantMemory};
@@ -76,7 +73,7 @@ impl Drop for Keywords {
 }
 
 impl Model for Keywords {
-    ghost use Rattle.iloc_spec_grammar.specs.Written.{Fields};
+    ghost use Rattle.iloc_spec_grammar.specs.Syntax.{Fields};
 
     ghost Value = { Fields };
 
@@ -365,7 +362,7 @@ pub struct KeywordsIter<'a> {
 }
 
 impl<'a> Model for KeywordsIter<'a> {
-    ghost use Rattle.iloc_spec_grammar.specs.Written.{Fields};
+    ghost use Rattle.iloc_spec_grammar.specs.Syntax.{Fields};
 
     ghost Value = { Fields };
 

@@ -8,8 +8,7 @@
 #![tactic(auto)]
 
 ghost use Rattle.std.specs.Prelude.{◌≡◌, ◌↔◌, ℕ, List, IsTrue};
-ghost use Rattle.iloc_spec_grammar.specs.Shapes.{Text};
-ghost use Rattle.iloc_spec_grammar.specs.Written.{Fields};
+ghost use Rattle.iloc_spec_grammar.specs.Syntax.{Text, Fields};
 ghost use Rattle.iloc_spec_orders.specs.Orders.{words_cmp, keywords_cmp};
 ghost use Rattle.iloc_spec_orders.specs.Hashes.{words_fed, fields_fed, unicode_fed};
 ghost use Rattle.iloc_unicode.specs.UnicodeValue.{value_of};

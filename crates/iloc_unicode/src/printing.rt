@@ -2,8 +2,7 @@
 ghost use Rattle.std.specs.Prelude.{◌≡◌, Some};
 ghost use Rattle.std.specs.Ordering.{nat_cmp};
 ghost use Rattle.std.specs.Cmp.Lexicographic.{slice_cmp};
-ghost use Rattle.iloc_spec_grammar.specs.Pieces.{join};
-ghost use Rattle.iloc_spec_grammar.specs.Written.{fields_pieces};
+ghost use Rattle.iloc_spec_grammar.specs.Syntax.{join, fields_pieces};
 
 use crate::keywords::Keywords;
 use iloc_writeable::compare::cmp_utf8;
@@ -30,7 +29,7 @@ impl Pieces for Keywords {
 impl Writeable for Keywords {
     ghost text = { λ keywords. join (fields_pieces keywords) };
 
-    #[tactic(auto, unfolding(iloc_spec_grammar::specs::Pieces::join))]
+    #[tactic(auto, unfolding(iloc_spec_grammar::specs::Syntax::join))]
     fn write_to<S: Sink>(&self, sink: &mut S) -> fmt::Result {
         self.write_joined(sink)
     }

@@ -4,10 +4,10 @@ ghost use Rattle.std.specs.Cmp.{decided, partial_equiv_from_equiv};
 ghost use Rattle.std.specs.Hash.{same_Alike};
 ghost use Rattle.iloc_spec_parts.specs.Extending.{extend};
 ghost use Rattle.iloc_spec_parts.specs.Parts.{UnicodeText, UnicodeTextFault};
-ghost use Rattle.iloc_spec_grammar.specs.Faults.{Fault};
+ghost use Rattle.iloc_spec_grammar.specs.Meaning.{Fault};
 ghost use Rattle.iloc_subtags.specs.Judging.{Accepts, Refuses};
 ghost use Rattle.iloc_spec_grammar.specs.Values.{unicode_spelling, unicode_text};
-ghost use Rattle.iloc_spec_grammar.specs.Written.{Unicode as UnicodeParts};
+ghost use Rattle.iloc_spec_grammar.specs.Syntax.{Unicode as UnicodeParts};
 ghost use Rattle.iloc_spec_orders.specs.Orders.{unicode_cmp};
 
 use crate::attributes::Attributes;
@@ -173,7 +173,7 @@ impl Writeable for Unicode {
 
     ghost text = { λ u. unicode_text (value_of u) };
 
-    #[tactic(auto, unfolding(iloc_spec_grammar::specs::Pieces::join, iloc_spec_grammar::specs::Values::unicode_text))]
+    #[tactic(auto, unfolding(iloc_spec_grammar::specs::Syntax::join, iloc_spec_grammar::specs::Values::unicode_text))]
     fn write_to<S: Sink>(&self, sink: &mut S) -> fmt::Result {
         self.write_joined(sink)
     }

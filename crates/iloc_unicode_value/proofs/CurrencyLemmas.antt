@@ -4,7 +4,7 @@ use Rattle.std.proofs.lemmas.Bool.{false_from_ne_true}
 use Rattle.std.proofs.lemmas.Bool.Decides.{nat_tests}
 use Rattle.std.specs.Int.{is_in_range}
 use Rattle.std.specs.Cmp.{Equal-is}
-use Rattle.iloc_spec_grammar.specs.Words.{CurrencyType, Subtag, is_word, IsWord, is_true}
+use Rattle.iloc_spec_grammar.specs.Syntax.{CurrencyType, Subtag, is_word, IsWord, is_true}
 use Rattle.iloc_spec_grammar.specs.Values.{IsNormal}
 use Rattle.iloc_spec_grammar.proofs.WordsLaws.{word_letters_or_digits}
 use Rattle.iloc_spec_grammar.proofs.MapLaws.{same_words}

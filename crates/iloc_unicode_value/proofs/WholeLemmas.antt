@@ -1,11 +1,10 @@
 -- Pieces that are all words, or not.
 use Rattle.std.proofs.Common.{◌≡◌, ℕ, Bool, true, false, cond, ◌&&◌, ◌==◌, List, [], ◌∷◌, length, refl, sym, ap, ◌∙◌, true≢false, Some, None, Ok, Err}
 use Rattle.std.specs.List.{list_all}
-use Rattle.iloc_spec_grammar.specs.Pieces.{pieces}
-use Rattle.iloc_spec_grammar.specs.Words.{Subtag, is_word}
+use Rattle.iloc_spec_grammar.specs.Syntax.{pieces, Subtag, is_word}
 use Rattle.iloc_spec_grammar.specs.Meaning.{normal_values}
 use Rattle.iloc_spec_grammar.specs.Reading.{passing, past, first_item}
-use Rattle.iloc_spec_grammar.specs.Faults as faults
+use Rattle.iloc_spec_grammar.specs.Meaning as faults
 use Rattle.iloc_spec_parts.specs.PartValues.{unicode_value}
 
 all_past : (test : List ℕ → Bool) (ps : List (List ℕ)) → first_item (past test ps) ≡ None → (list_all test ps ≡ true) × (passing test ps ≡ ps)

@@ -1,6 +1,6 @@
 -- The equality test of lists, item by item, finds exactly equal lists equal.
 use Rattle.std.proofs.Common.{◌≡◌, ◌↔◌, ℕ, Bool, true, List, ap, nat_eq}
-use Rattle.iloc_spec_grammar.specs.Shapes.{Text}
+use Rattle.iloc_spec_grammar.specs.Syntax.{Text}
 use lib.Pointwise.{pointwise, pointwise_decides, bytes_decides}
 
 -- the test answers true exactly at equal values

@@ -1,14 +1,12 @@
 -- What a text is read as, as a whole value.
 use Rattle.std.specs.Prelude.{◌≡◌, ℕ, ◌<◌, List, length, Result, Ok, Err}
-use Rattle.iloc_spec_grammar.specs.Shapes.{Text}
-use Rattle.iloc_spec_grammar.specs.Pieces.{pieces}
-use Rattle.iloc_spec_grammar.specs.Words.{Subtag, is_word}
+use Rattle.iloc_spec_grammar.specs.Syntax.{Text, pieces, Subtag, is_word}
 use Rattle.iloc_spec_grammar.specs.Meaning.{normal_values}
 use Rattle.iloc_spec_grammar.specs.Reading.{passing}
-use Rattle.iloc_spec_grammar.specs.Faults as faults
+use Rattle.iloc_spec_grammar.specs.Meaning as faults
 use Rattle.iloc_spec_parts.specs.PartValues.{unicode_value}
 use Rattle.iloc_subtags.specs.declared.parse_error.ParseError.{ParseError}
-use Rattle.iloc_subtags.specs.Answers.{Answers, SubtagFault}
+use Rattle.iloc_subtags.specs.Judging.{Answers, SubtagFault}
 
 -- memory may run out only for a fifth word besides `true`
 abbrev pub ValueWants : Text → Type 0

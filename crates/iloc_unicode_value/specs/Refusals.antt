@@ -1,6 +1,6 @@
 -- Why the value of a keyword is refused, and what a reader of keywords answers.
 use Rattle.std.specs.Prelude.{◌≡◌, ℕ, List, Option, Some, None, Result, Ok, Err, codes}
-use Rattle.iloc_spec_grammar.specs.Shapes.{Text}
+use Rattle.iloc_spec_grammar.specs.Syntax.{Text}
 use Rattle.iloc_unicode_value.specs.declared.errors.PreferencesParseError.{PreferencesParseError}
 use Rattle.iloc_unicode_value.specs.declared.errors.PreferencesParseError.TheVariants.{InvalidKeywordValue, OutOfMemory}
 

@@ -1,7 +1,6 @@
 -- Lists of subtags in which `true` isn't kept.
 use Rattle.std.specs.Prelude.{ℕ, not, List, [], ◌∷◌, ◌++◌, filter}
-use Rattle.iloc_spec_grammar.specs.Shapes.{Text}
-use Rattle.iloc_spec_grammar.specs.Words.{is_true}
+use Rattle.iloc_spec_grammar.specs.Syntax.{Text, is_true}
 
 -- the words other than `true`
 abbrev pub without_true : List Text → List Text

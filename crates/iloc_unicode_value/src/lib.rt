@@ -8,7 +8,7 @@
 #![tactic(auto)]
 
 ghost use Rattle.std.specs.Prelude.{◌≡◌, ◌↔◌, ℕ, List, IsTrue};
-ghost use Rattle.iloc_spec_grammar.specs.Shapes.{Text};
+ghost use Rattle.iloc_spec_grammar.specs.Syntax.{Text};
 ghost use Rattle.iloc_spec_orders.specs.Orders.{words_cmp};
 ghost use Rattle.iloc_spec_orders.specs.Hashes.{words_fed};
 

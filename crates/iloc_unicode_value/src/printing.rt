@@ -1,6 +1,6 @@
 //! Prints values.
 ghost use Rattle.std.specs.Prelude.{◌≡◌, ◌↔◌, ℕ, length, IsTrue, Some};
-ghost use Rattle.iloc_spec_grammar.specs.Pieces.{join};
+ghost use Rattle.iloc_spec_grammar.specs.Syntax.{join};
 
 use crate::value::Value;
 use iloc_writeable::compare::cmp_utf8;
@@ -28,7 +28,7 @@ impl Writeable for Value {
 
     ghost lends = { λ value. length value ≡ 1 };
 
-    #[tactic(auto, unfolding(iloc_spec_grammar::specs::Pieces::join))]
+    #[tactic(auto, unfolding(iloc_spec_grammar::specs::Syntax::join))]
     fn write_to<S: Sink>(&self, sink: &mut S) -> fmt::Result {
         self.write_joined(sink)
     }

@@ -1,14 +1,11 @@
 //! Parses values from pieces.
 ghost use Rattle.std.specs.Prelude.{◌≡◌, ◌≤◌, ℕ, List, [], length, map, Ok, Err, IfOk, OnOk, IsOk};
-ghost use Rattle.iloc_spec_grammar.specs.Shapes.{Text};
-ghost use Rattle.iloc_spec_grammar.specs.Pieces.{pieces};
-ghost use Rattle.iloc_spec_grammar.specs.Words.{Attribute, Subtag, is_word, normal};
+ghost use Rattle.iloc_spec_grammar.specs.Syntax.{Text, pieces, Attribute, Subtag, is_word, normal};
 ghost use Rattle.iloc_spec_grammar.specs.Values.{IsNormal};
-ghost use Rattle.iloc_spec_grammar.specs.Meaning.{normal_values};
+ghost use Rattle.iloc_spec_grammar.specs.Meaning.{normal_values, Fault};
 ghost use Rattle.iloc_spec_grammar.specs.Reading.{passing, past};
 ghost use Rattle.iloc_subtags.specs.Left.{left};
 ghost use Rattle.iloc_unicode_value.specs.Values.{without_true};
-ghost use Rattle.iloc_spec_grammar.specs.Faults.{Fault};
 ghost use Rattle.iloc_spec_parts.specs.PartValues.{unicode_value};
 ghost use Rattle.iloc_subtags.specs.Judging.{Accepts, Refuses};
 ghost use Rattle.iloc_unicode_value.specs.Reads.{ReadsAs, ValueWants};

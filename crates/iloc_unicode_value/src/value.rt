@@ -5,8 +5,7 @@ ghost use Rattle.std.specs.Iterator.{IsFiniteIterable, Drains};
 ghost use Rattle.std.specs.Option.{option_copied};
 ghost use Rattle.std.specs.Cmp.Rules.{comparing};
 ghost use Rattle.std.proofs.Common.{rules};
-ghost use Rattle.iloc_spec_grammar.specs.Shapes.{Text};
-ghost use Rattle.iloc_spec_grammar.specs.Words.{Subtag, is_true};
+ghost use Rattle.iloc_spec_grammar.specs.Syntax.{Text, Subtag, is_true};
 ghost use Rattle.iloc_spec_grammar.specs.Values.{IsNormal};
 ghost use Rattle.iloc_shortvec.specs.ShortList.{only_of};
 ghost use Rattle.iloc_unicode_value.specs.Equality.{words_eq, words_exact, alike};
@@ -202,7 +201,7 @@ impl Value {
 }
 
 /// Whether the subtag is `true`.
-#[tactic(auto, unfolding(iloc_spec_grammar::specs::Words::is_true))]
+#[tactic(auto, unfolding(iloc_spec_grammar::specs::Syntax::is_true))]
 fn spells_true(subtag: &Subtag) -> bool
     ensures value { result ≡ is_true subtag.now }
     ensures normal { IsNormal Subtag subtag.now }

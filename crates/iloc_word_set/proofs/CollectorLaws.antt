@@ -14,8 +14,7 @@ use Rattle.std.proofs.lemmas.Bool.{and_parts, and_from, or_parts}
 use Rattle.std.proofs.lemmas.List.Sorted.{IsPermutation-refl, IsPermutation-sym, IsPermutation-cons, IsPermutation-trans, IsPermutation-middle, IsPermutation-to_front, list_any-IsPermutation}
 use Rattle.std.proofs.lemmas.List.Edits.{insert_end}
 use Rattle.std.proofs.lemmas.List.Kept.{IsStrictlySortedBy-dedup}
-use Rattle.iloc_spec_grammar.specs.Words.{word_cmp, is_same}
-use Rattle.iloc_spec_grammar.specs.Written.{AllDifferent}
+use Rattle.iloc_spec_grammar.specs.Syntax.{word_cmp, is_same, AllDifferent}
 use Rattle.iloc_spec_grammar.specs.Meaning.{map_of, set_of}
 use Rattle.iloc_spec_grammar.specs.Values.{IsAscending}
 use Rattle.iloc_spec_grammar.proofs.MapLaws.{word_cmp_total, same_words}

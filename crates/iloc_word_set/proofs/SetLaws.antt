@@ -11,7 +11,7 @@ use Rattle.std.specs.FinMap.Entries.{below_all, is_some-find, where_key, is_sort
 use Rattle.std.proofs.lemmas.Bool.{and_parts, or_parts}
 use Rattle.std.proofs.lemmas.List.{drop_all, drop_more}
 use Rattle.std.proofs.lemmas.List.Elements.{All-from_recursion}
-use Rattle.iloc_spec_grammar.specs.Words.{word_cmp, is_same}
+use Rattle.iloc_spec_grammar.specs.Syntax.{word_cmp, is_same}
 use Rattle.iloc_spec_grammar.specs.Meaning.{set_of}
 use Rattle.iloc_spec_grammar.specs.Values.{IsAscending}
 use Rattle.iloc_spec_grammar.proofs.MapLaws.{word_cmp_total, same_words, to_T, less, map_of_same, map_of_sorted, from_T}

@@ -2,8 +2,7 @@
 use Rattle.std.specs.Prelude.{◌≡◌, ℕ, Bool, true, false, List, ◌∷◌}
 use Rattle.std.specs.List.{list_any}
 use Rattle.std.specs.List.Sorted.{IsPermutation}
-use Rattle.iloc_spec_grammar.specs.Shapes.{Text}
-use Rattle.iloc_spec_grammar.specs.Words.{is_same}
+use Rattle.iloc_spec_grammar.specs.Syntax.{Text, is_same}
 
 -- one word more, at whatever place; or the word is there, and nothing changes
 abbrev pub TakesIn : Text → List Text → List Text → Bool → Type 0

@@ -1,6 +1,6 @@
 //! The traits of sets of subtags.
 ghost use Rattle.std.specs.Prelude.{◌≡◌, [], Some, length};
-ghost use Rattle.iloc_spec_grammar.specs.Pieces.{join};
+ghost use Rattle.iloc_spec_grammar.specs.Syntax.{join};
 
 use crate::word_set::WordSet;
 use iloc_subtags::WordKind;
@@ -58,7 +58,7 @@ impl<K: WordKind<N>, const N: usize> Writeable for WordSet<K, N> {
 
     ghost lends = { λ s. length s ≡ 1 };
 
-    #[tactic(auto, unfolding(iloc_spec_grammar::specs::Pieces::join))]
+    #[tactic(auto, unfolding(iloc_spec_grammar::specs::Syntax::join))]
     fn write_to<S: Sink>(&self, sink: &mut S) -> fmt::Result {
         self.write_joined(sink)
     }

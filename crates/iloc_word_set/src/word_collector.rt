@@ -1,7 +1,7 @@
 //! Subtags that come in any order, to be a set in the end.
 ghost use Rattle.std.specs.Prelude.{◌≡◌, ◌≤◌, ◌∷◌, true, false, length, is_none, IfSome, IfOk, OnErr, IsOk};
 ghost use Rattle.std.specs.List.{list_any};
-ghost use Rattle.iloc_spec_grammar.specs.Words.{is_same};
+ghost use Rattle.iloc_spec_grammar.specs.Syntax.{is_same};
 ghost use Rattle.iloc_spec_grammar.specs.Meaning.{set_of};
 ghost use Rattle.iloc_spec_grammar.specs.Values.{IsAscending};
 ghost use Rattle.iloc_word_set.specs.TakingIn.{TakesIn};

@@ -1,8 +1,7 @@
 -- By computing each.
 use Rattle.std.proofs.Common.{refl}
 use Rattle.std.specs.Hash.{le_bytes}
-use Rattle.iloc_spec_grammar.specs.Pieces.{pieces}
-use Rattle.iloc_spec_grammar.specs.Words.{is_word, lower, upper, title, is_true, languages}
+use Rattle.iloc_spec_grammar.specs.Syntax.{pieces, is_word, lower, upper, title, is_true, languages}
 use Rattle.iloc_spec_grammar.specs.Reading.{identifier_of, unicode_of, transform_of, written_of}
 use Rattle.iloc_spec_orders.proofs.by_example.Goals as goal
 

@@ -1,6 +1,6 @@
 use Rattle.std.proofs.Common.{◌∙◌, ap}
 use Rattle.std.specs.Ordering.{is_eq}
-use Rattle.iloc_locale.specs.LocaleValue.{value_of}
+use Rattle.iloc_locale.specs.LocaleReading.{value_of}
 use Rattle.iloc_calls.proofs.AnswerLemmas.{same_locales_read, other_locale}
 use Rattle.iloc_calls.proofs.same.same_locales.Goals as goal
 

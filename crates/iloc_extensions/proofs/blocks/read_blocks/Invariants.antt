@@ -1,6 +1,6 @@
 -- The blocks so far were read, and the others are left.
 use Rattle.std.proofs.Common.{length}
-use Rattle.iloc_spec_grammar.specs.Words.{languages}
+use Rattle.iloc_spec_grammar.specs.Syntax.{languages}
 use Rattle.iloc_subtags.specs.Left.{left}
 use Rattle.iloc_extensions.specs.ExtensionsValue.{value_of}
 use Rattle.iloc_extensions.specs.Blocks.{BlocksDone}

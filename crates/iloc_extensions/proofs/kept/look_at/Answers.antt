@@ -1,6 +1,6 @@
 use Rattle.std.proofs.Common.{subst}
 use Rattle.std.specs.List.{AllByRecursion}
-use Rattle.iloc_spec_grammar.specs.Words.{Subtag}
+use Rattle.iloc_spec_grammar.specs.Syntax.{Subtag}
 use Rattle.iloc_spec_grammar.specs.Values.{IsNormal}
 use Rattle.iloc_extensions.proofs.kept.look_at.Goals as goal
 

@@ -1,7 +1,7 @@
 -- The words of the others that were looked at are normal.
 use Rattle.std.proofs.Common.{take}
 use Rattle.std.specs.List.{AllByRecursion}
-use Rattle.iloc_spec_grammar.specs.Words.{Subtag}
+use Rattle.iloc_spec_grammar.specs.Syntax.{Subtag}
 use Rattle.iloc_spec_grammar.specs.Values.{IsNormal}
 use Rattle.iloc_extensions.proofs.kept.look_at_others.Given as goal
 

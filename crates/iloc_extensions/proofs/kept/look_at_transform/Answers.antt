@@ -1,5 +1,5 @@
 use Rattle.std.proofs.Common.{Option, Some, None, IfSome, option_map}
-use Rattle.iloc_spec_grammar.specs.Words.{languages}
+use Rattle.iloc_spec_grammar.specs.Syntax.{languages}
 use Rattle.iloc_spec_grammar.specs.Values.{IsIdentifierValue}
 use Rattle.iloc_langid.specs.Reads as identifiers
 use Rattle.iloc_langid.specs.declared.identifier.LanguageIdentifier.{LanguageIdentifier}

@@ -2,7 +2,7 @@
 use Rattle.std.proofs.Common.{◌≡◌, ◌≢◌, ◌<◌, length, slice_get, slice_set, slice_index_or, Some, refl, sym, ap, ◌∙◌, arith}
 use Rattle.std.specs.List.{insert}
 use Rattle.std.proofs.lemmas.Option.{get_or_from_slice_get, slice_get_read, slice_get_within}
-use Rattle.iloc_spec_grammar.specs.Shapes.{Block}
+use Rattle.iloc_spec_grammar.specs.Syntax.{Block}
 use Rattle.iloc_handles.specs.OtherPlaces.{place}
 use Rattle.iloc_handles.proofs.OtherLemmas.{place_fits, put_new, put_there}
 use Rattle.iloc_handles.proofs.others.put_other.Goals as goal

@@ -1,5 +1,5 @@
 -- The text means the locale that was parsed, and no other.
-use Rattle.iloc_locale.specs.LocaleValue.{value_of}
+use Rattle.iloc_locale.specs.LocaleReading.{value_of}
 use Rattle.iloc_handles.specs.Held.{meaning_of}
 use Rattle.iloc_handles.proofs.Settings.{meant}
 use Rattle.iloc_handles.proofs.whole.tell_meant.Goals as goal

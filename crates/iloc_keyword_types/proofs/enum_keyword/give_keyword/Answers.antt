@@ -1,6 +1,6 @@
 -- The word of the variant is a subtag, and reads as the variant.
 use Rattle.std.proofs.Common.{◌≡◌, List, [], ◌∷◌, ℕ, Some, ap, ◌∙◌, sym, subst, slice_get}
-use Rattle.iloc_spec_grammar.specs.Words.{Subtag}
+use Rattle.iloc_spec_grammar.specs.Syntax.{Subtag}
 use Rattle.iloc_spec_grammar.specs.Values.{IsNormal}
 use Rattle.iloc_spec_preferences.specs.Keywords.{EnumKeyword, variants, enum_gives}
 use Rattle.iloc_unicode_value.specs.Values.{without_true}

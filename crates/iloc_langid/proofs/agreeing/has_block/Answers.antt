@@ -2,7 +2,7 @@ use Rattle.std.proofs.Common.{◌≡◌, ◌≤◌, false, true, length, not, re
 use Rattle.std.proofs.lemmas.List.{length-replicate, length-set}
 use Rattle.std.specs.List.{HoldsAt, list_any}
 use Rattle.std.specs.declared.cmp.Ordering.TheVariants.{Equal}
-use Rattle.iloc_spec_grammar.specs.Words.{Variant, word_cmp, is_same}
+use Rattle.iloc_spec_grammar.specs.Syntax.{Variant, word_cmp, is_same}
 use Rattle.iloc_spec_grammar.proofs.ReadWords.{accepted_from_read, refused_from_read}
 use Rattle.iloc_spec_grammar.proofs.ValuesLaws.{ascending_different}
 use Rattle.iloc_word_set.proofs.SetLaws.{search_new}

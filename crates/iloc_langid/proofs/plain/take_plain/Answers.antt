@@ -1,5 +1,5 @@
 use Rattle.std.proofs.Common.{◌∷◌, ap, sym, ◌∙◌}
-use Rattle.iloc_spec_grammar.specs.Words.{Language, languages}
+use Rattle.iloc_spec_grammar.specs.Syntax.{Language, languages}
 use Rattle.iloc_subtags.specs.Left.{left}
 use Rattle.iloc_subtags.proofs.TakingLemmas.{took}
 use Rattle.iloc_langid.proofs.FrontLemmas.{none_first, plain_front}

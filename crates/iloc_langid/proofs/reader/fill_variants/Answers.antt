@@ -1,5 +1,5 @@
 use Rattle.std.proofs.Common.{Ok, subst, sym, ◌∙◌}
-use Rattle.iloc_spec_grammar.specs.Words.{Variant}
+use Rattle.iloc_spec_grammar.specs.Syntax.{Variant}
 use Rattle.iloc_subtags.specs.Left.{left}
 use Rattle.iloc_subtags.proofs.PeekLemmas.{ends_before}
 use Rattle.iloc_langid.specs.Reads.{VariantsGive}

@@ -1,6 +1,6 @@
 use Rattle.std.proofs.Common.{ℕ, List, ◌++◌, ap, ◌∙◌, sym, append_assoc}
 use Rattle.std.proofs.lemmas.Result.{on_ok_weaker}
-use Rattle.iloc_spec_grammar.specs.Words.{languages}
+use Rattle.iloc_spec_grammar.specs.Syntax.{languages}
 use Rattle.iloc_spec_output.proofs.LineCuts.{output-cut}
 use Rattle.iloc_lines.specs.Output.{mode_of, output, reply}
 use Rattle.iloc_lines.specs.ReplyBlock.{held}

@@ -1,5 +1,5 @@
 use Rattle.std.proofs.Common.{◌<◌, length, rules}
-use Rattle.iloc_spec_grammar.specs.Words.{languages}
+use Rattle.iloc_spec_grammar.specs.Syntax.{languages}
 use Rattle.iloc_lines.specs.Output.{mode_of}
 use Rattle.iloc_spec_output.proofs.LineCuts.{output-last}
 use Rattle.iloc_lines.proofs.lines.finish.Goals as goal

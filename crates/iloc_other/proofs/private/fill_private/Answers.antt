@@ -1,6 +1,6 @@
 use Rattle.std.proofs.Common.{◌++◌, ◌∷◌, [], sym, ap, ◌∙◌, true≢false}
 use Rattle.std.proofs.lemmas.Result.{err_from_is_err_and}
-use Rattle.iloc_spec_grammar.specs.Words.{PrivateSubtag}
+use Rattle.iloc_spec_grammar.specs.Syntax.{PrivateSubtag}
 use Rattle.iloc_subtags.specs.Left.{left}
 use Rattle.iloc_other.proofs.TakingLemmas.{takes_word, refuses_piece, wants_memory, takes_none}
 use Rattle.iloc_other.proofs.private.fill_private.Goals as goal

@@ -1,5 +1,5 @@
 use Rattle.std.proofs.Common.{◌≢◌, ℕ, List, subst, sym, ◌∙◌, arith}
-use Rattle.iloc_spec_grammar.specs.Words.{Script, Region, is_word}
+use Rattle.iloc_spec_grammar.specs.Syntax.{Script, Region, is_word}
 use Rattle.iloc_spec_grammar.specs.Reading.{skip_first}
 use Rattle.iloc_plain.specs.Front.{GoesOnAs}
 use Rattle.iloc_plain.proofs.FrontLemmas.{short_script, skips_none, skips_one}

@@ -1,6 +1,6 @@
 use Rattle.std.proofs.Common.{◌≢◌, sym, ap, ◌∙◌, arith}
 use Rattle.std.proofs.lemmas.Bool.{false≢true}
-use Rattle.iloc_spec_grammar.specs.Words.{Variant}
+use Rattle.iloc_spec_grammar.specs.Syntax.{Variant}
 use Rattle.iloc_spec_grammar.specs.Reading.{starts_block}
 use Rattle.iloc_plain.proofs.FrontLemmas.{short_variant, passes_none, passes_one, begins_none, room_left}
 use Rattle.iloc_plain.proofs.front.after_region.Goals as goal

@@ -1,7 +1,6 @@
 use Rattle.std.proofs.Common.{◌≡◌, ◌+◌, ◌≤◌, length, take, IsTrue}
-use Rattle.iloc_spec_grammar.specs.Pieces.{pieces}
+use Rattle.iloc_spec_grammar.specs.Syntax.{pieces, Variant, is_word}
 use Rattle.iloc_spec_grammar.specs.Reading.{past}
-use Rattle.iloc_spec_grammar.specs.Words.{Variant, is_word}
 use Rattle.iloc_plain.specs.Front.{IsFirst}
 use Rattle.iloc_plain.proofs.front.after_region.Given as goal
 

@@ -1,5 +1,5 @@
 use Rattle.std.proofs.Common.{◌≢◌, ℕ, List, subst, sym, ◌∙◌, arith}
-use Rattle.iloc_spec_grammar.specs.Words.{Region}
+use Rattle.iloc_spec_grammar.specs.Syntax.{Region}
 use Rattle.iloc_plain.specs.Front.{GoesOnAs}
 use Rattle.iloc_plain.proofs.FrontLemmas.{short_region, skips_none, skips_one}
 use Rattle.iloc_plain.proofs.front.after_script.Goals as goal

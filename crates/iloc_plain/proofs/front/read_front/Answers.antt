@@ -1,5 +1,5 @@
 use Rattle.std.proofs.Common.{◌≢◌, ℕ, List, take, subst, sym, ap, ◌∙◌, arith}
-use Rattle.iloc_spec_grammar.specs.Words.{Language, Script, Region, is_word, languages}
+use Rattle.iloc_spec_grammar.specs.Syntax.{Language, Script, Region, is_word, languages}
 use Rattle.iloc_spec_grammar.specs.Reading.{rest_of, skip_first}
 use Rattle.iloc_plain.specs.Front.{GoesOnAs}
 use Rattle.iloc_plain.proofs.FrontLemmas.{short_language, word_of_first, after_word, is_front}

@@ -1,5 +1,5 @@
 use Rattle.std.proofs.Common.{◌≡◌, ◌≢◌, ℕ, List, codes, take, subst, sym, ◌∙◌, arith}
-use Rattle.iloc_spec_grammar.specs.Words.{Attribute, UnicodeKey, lower}
+use Rattle.iloc_spec_grammar.specs.Syntax.{Attribute, UnicodeKey, lower}
 use Rattle.iloc_plain.specs.Keyword.{IsKeywordOf, IsSingle}
 use Rattle.iloc_plain.specs.declared.keyword.Keyword.TheVariants as keyword
 use Rattle.iloc_plain.proofs.FrontLemmas.{short_attribute, short_key, word_of_first, after_word, key_is_two}

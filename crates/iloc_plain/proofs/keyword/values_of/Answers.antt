@@ -1,8 +1,7 @@
 use Rattle.std.proofs.Common.{◌≡◌, ◌≢◌, ◌&&◌, Bool, true, [], ◌∷◌, length, take, sym, ap, ◌∙◌, arith}
 use Rattle.std.specs.List.{list_all}
 use Rattle.std.proofs.lemmas.Bool.{false≢true}
-use Rattle.iloc_spec_grammar.specs.Pieces.{pieces}
-use Rattle.iloc_spec_grammar.specs.Words.{Attribute, is_word}
+use Rattle.iloc_spec_grammar.specs.Syntax.{pieces, Attribute, is_word}
 use Rattle.iloc_plain.proofs.FrontLemmas.{short_attribute, all_later, whole_word, word_of_first, room_left, all_fail}
 use Rattle.iloc_plain.proofs.keyword.values_of.Goals as goal
 

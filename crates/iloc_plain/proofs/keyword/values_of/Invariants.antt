@@ -1,7 +1,6 @@
 use Rattle.std.proofs.Common.{◌≡◌, ◌+◌, ◌≤◌, length, take, IsTrue}
 use Rattle.std.specs.List.{list_all}
-use Rattle.iloc_spec_grammar.specs.Pieces.{pieces}
-use Rattle.iloc_spec_grammar.specs.Words.{Attribute, is_word}
+use Rattle.iloc_spec_grammar.specs.Syntax.{pieces, Attribute, is_word}
 use Rattle.iloc_plain.specs.Front.{IsFirst}
 use Rattle.iloc_plain.proofs.keyword.values_of.Given as goal
 

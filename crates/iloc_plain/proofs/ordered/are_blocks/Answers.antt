@@ -1,5 +1,5 @@
 use Rattle.std.proofs.Common.{◌≡◌, ◌≢◌, take, get_or, subst, sym, ◌∙◌, arith}
-use Rattle.iloc_spec_grammar.specs.Pieces.{pieces}
+use Rattle.iloc_spec_grammar.specs.Syntax.{pieces}
 use Rattle.iloc_plain.specs.Ordered.{ArePrinted}
 use Rattle.iloc_plain.proofs.FrontLemmas.{after_singleton_byte}
 use Rattle.iloc_plain.proofs.OrderedLemmas.{printed_unicode, printed_private}

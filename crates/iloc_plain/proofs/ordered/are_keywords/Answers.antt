@@ -1,6 +1,5 @@
 use Rattle.std.proofs.Common.{◌≡◌, ◌≢◌, ◌<◌, ◌-◌, ◌+◌, drop, ℕ, List, [], length, take, subst, sym, ap, ◌∙◌, arith}
-use Rattle.iloc_spec_grammar.specs.Pieces.{pieces}
-use Rattle.iloc_spec_grammar.specs.Words.{UnicodeKey, IsWord}
+use Rattle.iloc_spec_grammar.specs.Syntax.{pieces, UnicodeKey, IsWord}
 use Rattle.iloc_plain.specs.Ordered.{AreKeywords, Follows, key_number}
 use Rattle.iloc_plain.proofs.FrontLemmas.{short_key, after_word, whole_word, key_is_two}
 use Rattle.iloc_plain.proofs.OrderedLemmas.{key_keywords, follows_none}

@@ -1,6 +1,5 @@
 use Rattle.std.proofs.Common.{◌≢◌, [], take, subst, sym, ◌∙◌, arith}
-use Rattle.iloc_spec_grammar.specs.Pieces.{pieces}
-use Rattle.iloc_spec_grammar.specs.Words.{Variant, IsWord}
+use Rattle.iloc_spec_grammar.specs.Syntax.{pieces, Variant, IsWord}
 use Rattle.iloc_plain.specs.Ordered.{IsTail}
 use Rattle.iloc_plain.proofs.FrontLemmas.{short_variant, after_word, whole_word}
 use Rattle.iloc_plain.proofs.OrderedLemmas.{tail_blocks, tail_variant, printed_none}

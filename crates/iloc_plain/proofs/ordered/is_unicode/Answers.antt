@@ -1,6 +1,5 @@
 use Rattle.std.proofs.Common.{◌≢◌, take, subst, sym, ◌∙◌, arith}
-use Rattle.iloc_spec_grammar.specs.Pieces.{pieces}
-use Rattle.iloc_spec_grammar.specs.Words.{Attribute, IsWord}
+use Rattle.iloc_spec_grammar.specs.Syntax.{pieces, Attribute, IsWord}
 use Rattle.iloc_plain.specs.Ordered.{IsUnicodePart}
 use Rattle.iloc_plain.proofs.FrontLemmas.{short_attribute, after_word, whole_word}
 use Rattle.iloc_plain.proofs.OrderedLemmas.{unicode_keywords, unicode_attribute, unicode_one, private_keywords}

@@ -1,6 +1,6 @@
 use Rattle.std.proofs.Common.{◌≢◌, ◌<◌, [], take, subst, sym, arith}
 use Rattle.std.proofs.lemmas.List.{length-take-le}
-use Rattle.iloc_spec_grammar.specs.Pieces.{pieces}
+use Rattle.iloc_spec_grammar.specs.Syntax.{pieces}
 use Rattle.iloc_plain.specs.Ordered.{Follows}
 use Rattle.iloc_plain.proofs.FrontLemmas.{after_short, whole_short, room_left}
 use Rattle.iloc_plain.proofs.OrderedLemmas.{follows_next, follows_none, follows_private, next_is_short}

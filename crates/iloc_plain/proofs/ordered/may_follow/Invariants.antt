@@ -1,5 +1,5 @@
 use Rattle.std.proofs.Common.{◌+◌, ◌≤◌, length, take}
-use Rattle.iloc_spec_grammar.specs.Pieces.{pieces}
+use Rattle.iloc_spec_grammar.specs.Syntax.{pieces}
 use Rattle.iloc_plain.specs.Front.{IsFirst}
 use Rattle.iloc_plain.specs.Ordered.{Follows}
 use Rattle.iloc_plain.proofs.ordered.may_follow.Given as goal

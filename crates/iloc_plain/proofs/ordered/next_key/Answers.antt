@@ -1,6 +1,6 @@
 use Rattle.std.proofs.Common.{sym, ap, ◌∙◌, ◌≡◌, ℕ, take, subst, arith}
 use Rattle.std.proofs.lemmas.List.{length-take-le}
-use Rattle.iloc_spec_grammar.specs.Words.{UnicodeKey, IsWord}
+use Rattle.iloc_spec_grammar.specs.Syntax.{UnicodeKey, IsWord}
 use Rattle.iloc_spec_grammar.proofs.WordsLaws.{length-unicode_key}
 use Rattle.iloc_plain.specs.Ordered.{IsNext, key_number}
 use Rattle.iloc_plain.proofs.ordered.next_key.Goals as goal

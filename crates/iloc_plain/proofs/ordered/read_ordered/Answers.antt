@@ -1,5 +1,5 @@
 use Rattle.std.proofs.Common.{ℕ, List, subst}
-use Rattle.iloc_spec_grammar.specs.Pieces.{pieces}
+use Rattle.iloc_spec_grammar.specs.Syntax.{pieces}
 use Rattle.iloc_plain.specs.Ordered.{IsTail}
 use Rattle.iloc_plain.proofs.OrderedLemmas.{is_ordered, tail_is}
 use Rattle.iloc_plain.proofs.ordered.read_ordered.Goals as goal

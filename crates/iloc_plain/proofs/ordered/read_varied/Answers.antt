@@ -1,6 +1,5 @@
 use Rattle.std.proofs.Common.{◌-◌, length, take, drop, sym, ap, ◌∙◌, arith}
-use Rattle.iloc_spec_grammar.specs.Pieces.{pieces}
-use Rattle.iloc_spec_grammar.specs.Words.{Variant, IsWord}
+use Rattle.iloc_spec_grammar.specs.Syntax.{pieces, Variant, IsWord}
 use Rattle.iloc_plain.proofs.FrontLemmas.{short_variant, whole_word}
 use Rattle.iloc_plain.proofs.OrderedLemmas.{is_varied, tail_is}
 use Rattle.iloc_plain.proofs.ordered.read_varied.Goals as goal

@@ -1,7 +1,6 @@
 use Rattle.std.proofs.Common.{◌≡◌, ◌≢◌, ◌&&◌, Bool, true, [], ◌∷◌, take, sym, ap, ◌∙◌, arith}
 use Rattle.std.specs.List.{list_all}
-use Rattle.iloc_spec_grammar.specs.Pieces.{pieces}
-use Rattle.iloc_spec_grammar.specs.Words.{PrivateSubtag, is_word}
+use Rattle.iloc_spec_grammar.specs.Syntax.{pieces, PrivateSubtag, is_word}
 use Rattle.iloc_plain.proofs.FrontLemmas.{short_private, all_later, whole_word, room_left}
 use Rattle.iloc_plain.proofs.words.are_private.Goals as goal
 

@@ -1,7 +1,7 @@
 use Rattle.std.proofs.Common.{◌≡◌, Bool, true, false, ◌&&◌, take, sym, ap, ◌∙◌, arith}
 use Rattle.std.specs.Int.{is_in_range}
 use Rattle.std.proofs.lemmas.Bool.Decides.{nat_tests}
-use Rattle.iloc_spec_grammar.specs.Words.{letters_or_digits}
+use Rattle.iloc_spec_grammar.specs.Syntax.{letters_or_digits}
 use Rattle.iloc_plain.proofs.RunWords.{attribute_is}
 use Rattle.iloc_plain.proofs.words.is_attribute.Goals as goal
 use Rattle.iloc_plain.proofs.words.is_attribute.Goals.{then-n-lt3-via-then-n-lt3, then-n-lt3-via-else-n-lt3+then-n-gt8}

@@ -1,5 +1,5 @@
 use Rattle.std.proofs.Common.{Bool, ◌&&◌, take, sym, ap, ◌∙◌}
-use Rattle.iloc_spec_grammar.specs.Words.{letters}
+use Rattle.iloc_spec_grammar.specs.Syntax.{letters}
 use Rattle.iloc_plain.proofs.RunWords.{language_is}
 use Rattle.iloc_plain.proofs.words.is_language.Goals as goal
 

@@ -1,7 +1,7 @@
 use Rattle.std.proofs.Common.{◌≡◌, Bool, true, false, ◌&&◌, take, sym, ap, ◌∙◌, arith}
 use Rattle.std.specs.Int.{is_in_range}
 use Rattle.std.proofs.lemmas.Bool.Decides.{nat_tests}
-use Rattle.iloc_spec_grammar.specs.Words.{letters_or_digits}
+use Rattle.iloc_spec_grammar.specs.Syntax.{letters_or_digits}
 use Rattle.iloc_plain.proofs.RunWords.{private_is}
 use Rattle.iloc_plain.proofs.words.is_private_subtag.Goals as goal
 use Rattle.iloc_plain.proofs.words.is_private_subtag.Goals.{then-n-lt1-via-then-n-lt1, then-n-lt1-via-else-n-lt1+then-n-gt8}

@@ -1,6 +1,6 @@
 use Rattle.std.proofs.Common.{◌≡◌, ◌==◌, Bool, true, false, ◌&&◌, ◌||◌, take, refl, sym, ◌∙◌, arith}
 use Rattle.std.proofs.lemmas.Bool.Decides.{nat_tests}
-use Rattle.iloc_spec_grammar.specs.Words.{letters, digits}
+use Rattle.iloc_spec_grammar.specs.Syntax.{letters, digits}
 use Rattle.iloc_plain.proofs.RunWords.{region_is}
 use Rattle.iloc_plain.proofs.words.is_region.Goals as goal
 

@@ -1,6 +1,6 @@
 use Rattle.std.proofs.Common.{◌≡◌, ◌==◌, Bool, true, false, ◌&&◌, take, sym, ap, ◌∙◌, arith}
 use Rattle.std.proofs.lemmas.Bool.Decides.{nat_tests}
-use Rattle.iloc_spec_grammar.specs.Words.{letters}
+use Rattle.iloc_spec_grammar.specs.Syntax.{letters}
 use Rattle.iloc_plain.proofs.RunWords.{script_is}
 use Rattle.iloc_plain.proofs.words.is_script.Goals as goal
 

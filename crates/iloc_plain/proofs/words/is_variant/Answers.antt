@@ -3,7 +3,7 @@ use Rattle.std.specs.Int.{is_in_range}
 use Rattle.std.specs.Char.{is_ascii_digit}
 use Rattle.std.proofs.lemmas.Bool.Decides.{nat_tests}
 use Rattle.std.proofs.lemmas.List.{get_or-take}
-use Rattle.iloc_spec_grammar.specs.Words.{letters_or_digits}
+use Rattle.iloc_spec_grammar.specs.Syntax.{letters_or_digits}
 use Rattle.iloc_plain.proofs.RunWords.{variant_is}
 use Rattle.iloc_plain.proofs.words.is_variant.Goals as goal
 use Rattle.iloc_plain.proofs.words.is_variant.Goals.{then-n-lt4-via-then-n-lt4, then-n-lt4-via-else-n-lt4+then-n-gt8, else-n-eq4-via-then-n-eq4+else-not-is_ascii_digit, else-n-eq4-via-else-n-eq4}

@@ -1,5 +1,5 @@
 use Rattle.std.proofs.Common.{◌+◌, ◌*◌, arith, ◌≡◌, sym, ◌∙◌, take, get_or}
-use Rattle.iloc_spec_grammar.specs.Words.{lower}
+use Rattle.iloc_spec_grammar.specs.Syntax.{lower}
 use Rattle.iloc_plain.proofs.OrderedLemmas.{first_two}
 use Rattle.iloc_plain.proofs.words.number_of_key.Goals as goal
 

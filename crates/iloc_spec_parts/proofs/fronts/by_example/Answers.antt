@@ -1,9 +1,8 @@
 -- By computing each.
 use Rattle.std.proofs.Common.{refl}
-use Rattle.iloc_spec_grammar.specs.Pieces.{pieces, join}
-use Rattle.iloc_spec_grammar.specs.Words.{is_word, lower, upper, title, is_true, languages}
+use Rattle.iloc_spec_grammar.specs.Syntax.{pieces, join, is_word, lower, upper, title, is_true, languages}
 use Rattle.iloc_spec_grammar.specs.Reading.{front_of, after_front}
-use Rattle.iloc_spec_parts.specs.FrontComputing.{unicode_result, transform_result, other_result, private_result}
+use Rattle.iloc_spec_parts.specs.Fronts.{unicode_result, transform_result, other_result, private_result}
 use Rattle.iloc_spec_parts.proofs.fronts.by_example.Goals as goal
 
 pub returns : goal.returns

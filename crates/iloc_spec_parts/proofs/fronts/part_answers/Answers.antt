@@ -1,8 +1,7 @@
 -- From the programs for what follows the singletons.
-use Rattle.iloc_spec_grammar.specs.Written.{is_other_singleton}
-use Rattle.iloc_spec_parts.specs.Fronts.{UnicodeRead, UnicodeFault, TransformRead, TransformFault, OtherRead, OtherFault, PrivateRead, PrivateFault}
+use Rattle.iloc_spec_grammar.specs.Syntax.{is_other_singleton}
+use Rattle.iloc_spec_parts.specs.Fronts.{UnicodeRead, UnicodeFault, TransformRead, TransformFault, OtherRead, OtherFault, PrivateRead, PrivateFault, unicode_result, transform_result, other_result, private_result}
 use Rattle.iloc_spec_parts.specs.Parts.{is_letter}
-use Rattle.iloc_spec_parts.specs.FrontComputing.{unicode_result, transform_result, other_result, private_result}
 use Rattle.iloc_spec_parts.proofs.FrontLaws.{unicode_answer, other_answer, private_answer}
 use Rattle.iloc_spec_parts.proofs.TransformLaws.{transform_answer}
 use Rattle.iloc_spec_parts.proofs.PartAnswers.{part_answer}

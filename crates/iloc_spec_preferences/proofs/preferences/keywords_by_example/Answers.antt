@@ -1,6 +1,6 @@
 -- By computing each.
 use Rattle.std.proofs.Common.{refl}
-use Rattle.iloc_spec_grammar.specs.Words.{is_word, lower, upper, title, is_true}
+use Rattle.iloc_spec_grammar.specs.Syntax.{is_word, lower, upper, title, is_true}
 use Rattle.iloc_spec_preferences.proofs.preferences.keywords_by_example.Goals as goal
 
 pub returns : goal.returns

@@ -1,7 +1,6 @@
 -- By computing each.
 use Rattle.std.proofs.Common.{refl}
-use Rattle.iloc_spec_grammar.specs.Pieces.{pieces, join}
-use Rattle.iloc_spec_grammar.specs.Words.{is_word, lower, upper, title, is_true, languages}
+use Rattle.iloc_spec_grammar.specs.Syntax.{pieces, join, is_word, lower, upper, title, is_true, languages}
 use Rattle.iloc_spec_grammar.specs.Reading.{identifier_of}
 use Rattle.iloc_spec_parts.specs.SmallComputing.{small_result, small_identifier_result, after_identifier, blocks_result, block_fault}
 use Rattle.iloc_spec_preferences.specs.DataComputing.{data_result}

@@ -2,7 +2,7 @@ use Rattle.std.proofs.Common.{◌≡◌, true, true≢false, false, sym, ◌∙�
 use Rattle.std.proofs.lemmas.Bool.{false_from_ne_true}
 use Rattle.std.proofs.lemmas.Result.{err_from_is_err_and}
 use Rattle.std.specs.FinMap.{find}
-use Rattle.iloc_spec_grammar.specs.Words.{word_cmp}
+use Rattle.iloc_spec_grammar.specs.Syntax.{word_cmp}
 use Rattle.iloc_subtags.specs.Left.{left}
 use Rattle.iloc_unicode.proofs.KeywordLemmas.{two_bytes, filled_less, filled_more, filled_all, filled_bad, many_values, many_keys}
 use Rattle.iloc_unicode.proofs.reader.fill_keywords.Goals as goal

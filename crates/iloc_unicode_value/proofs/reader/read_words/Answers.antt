@@ -1,6 +1,6 @@
 use Rattle.std.proofs.Common.{◌≡◌, ◌≤◌, ◌<◌, ℕ, true, true≢false, false, length, ap, sym, ◌∙◌, arith}
 use Rattle.std.proofs.lemmas.Bool.{false_from_ne_true}
-use Rattle.iloc_spec_grammar.specs.Words.{is_true}
+use Rattle.iloc_spec_grammar.specs.Syntax.{is_true}
 use Rattle.iloc_subtags.specs.Left.{left}
 use Rattle.iloc_unicode_value.specs.Values.{with_subtag}
 use Rattle.iloc_unicode_value.proofs.ReadingLemmas.{valued_more, valued_many}

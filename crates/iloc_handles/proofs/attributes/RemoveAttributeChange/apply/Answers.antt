@@ -1,9 +1,9 @@
 -- A binary search finds the attribute exactly if it is there.
 use Rattle.std.proofs.Common.{refl, sym, ap, subst}
-use Rattle.iloc_spec_grammar.specs.Words.{Attribute}
+use Rattle.iloc_spec_grammar.specs.Syntax.{Attribute}
 use Rattle.iloc_spec_grammar.specs.Values.{IsAscending}
 use Rattle.iloc_word_set.proofs.SetLaws.{search_new}
-use Rattle.iloc_locale.specs.LocaleValue.{value_of}
+use Rattle.iloc_locale.specs.LocaleReading.{value_of}
 use Rattle.iloc_handles.specs.Attributes.{with_attributes}
 use Rattle.iloc_handles.proofs.SubtagLemmas.{absent_word, removed_ascends, removed_word}
 use Rattle.iloc_handles.proofs.attributes.RemoveAttributeChange.apply.Goals as goal

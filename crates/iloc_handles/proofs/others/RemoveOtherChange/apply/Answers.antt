@@ -3,7 +3,7 @@ use Rattle.std.proofs.Common.{rules, ◌==◌, not, sym, ap, ◌∙◌}
 use Rattle.std.specs.Prelude.{is_some}
 use Rattle.std.specs.List.{filter}
 use Rattle.std.proofs.lemmas.Fn.{filter_same}
-use Rattle.iloc_locale.specs.LocaleValue.{value_of}
+use Rattle.iloc_locale.specs.LocaleReading.{value_of}
 use Rattle.iloc_handles.specs.Others.{with_others}
 use Rattle.iloc_handles.proofs.ItemLemmas.{copied_there}
 use Rattle.iloc_handles.proofs.others.RemoveOtherChange.apply.Goals as goal

@@ -1,7 +1,7 @@
 -- Where the key is not there, all stay.
 use Rattle.std.proofs.Common.{refl, sym, ap, ◌∙◌}
 use Rattle.std.specs.Prelude.{is_some}
-use Rattle.iloc_locale.specs.LocaleValue.{value_of}
+use Rattle.iloc_locale.specs.LocaleReading.{value_of}
 use Rattle.iloc_handles.proofs.ItemLemmas.{copied_there}
 use Rattle.iloc_handles.proofs.SubtagLemmas.{absent_key}
 use Rattle.iloc_handles.proofs.pairs.RemovePairChange.apply.Goals as goal

@@ -2,8 +2,8 @@
 use Rattle.std.proofs.Common.{rules, ap}
 use Rattle.std.specs.Prelude.{not}
 use Rattle.std.proofs.lemmas.Fn.{filter_same}
-use Rattle.iloc_spec_grammar.specs.Words.{is_same}
-use Rattle.iloc_locale.specs.LocaleValue.{value_of}
+use Rattle.iloc_spec_grammar.specs.Syntax.{is_same}
+use Rattle.iloc_locale.specs.LocaleReading.{value_of}
 use Rattle.iloc_handles.specs.Transform.{with_fields}
 use Rattle.iloc_handles.proofs.transform.OfFieldsPairs.remove.Goals as goal
 

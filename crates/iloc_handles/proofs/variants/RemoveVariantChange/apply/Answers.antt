@@ -1,7 +1,7 @@
 -- Where the variant is not there, all stay.
 use Rattle.std.proofs.Common.{ap}
-use Rattle.iloc_spec_grammar.specs.Words.{Variant}
-use Rattle.iloc_locale.specs.LocaleValue.{value_of}
+use Rattle.iloc_spec_grammar.specs.Syntax.{Variant}
+use Rattle.iloc_locale.specs.LocaleReading.{value_of}
 use Rattle.iloc_handles.proofs.SubtagLemmas.{absent_stays}
 use Rattle.iloc_handles.proofs.variants.RemoveVariantChange.apply.Goals as goal
 

@@ -1,5 +1,5 @@
 use Rattle.std.proofs.Common.{◌≡◌, subst, ap, ◌∙◌}
-use Rattle.iloc_spec_grammar.specs.Words.{lower}
+use Rattle.iloc_spec_grammar.specs.Syntax.{lower}
 use Rattle.iloc_spec_preferences.specs.Subdivisions.{Subdivision, IsSubdivision, subdivision_text}
 use Rattle.iloc_spec_preferences.proofs.SubdivisionLaws.{subdivision_back}
 use Rattle.iloc_keyword_types.proofs.TextLemmas.{joined, joined_normal}

@@ -2,8 +2,7 @@ use Rattle.std.proofs.Common.{◌≡◌, ◌∷◌, ◌∙◌, ◌==◌, ◌&&�
 use borrow.Author.Tests.{eqb-true}
 use Rattle.std.proofs.lemmas.Bool.{and_parts, and_from}
 use Rattle.std.specs.Cmp.Lexicographic.{same_text}
-use Rattle.iloc_spec_grammar.specs.Pieces.{pieces}
-use Rattle.iloc_spec_grammar.specs.Words.{Language, languages}
+use Rattle.iloc_spec_grammar.specs.Syntax.{pieces, Language, languages}
 use Rattle.iloc_subtags.specs.Left.{left}
 use Rattle.iloc_langid.specs.Agreeing.{are_all_among}
 use Rattle.iloc_langid.proofs.AgreeingLemmas.{same_option, other_option, script_is, region_is, variants_are, all_mean, are_these, these_are}

@@ -1,7 +1,6 @@
 -- the head of the pieces is read
 use Rattle.std.proofs.Common.{ℕ, List, subst}
-use Rattle.iloc_spec_grammar.specs.Pieces.{pieces}
-use Rattle.iloc_spec_grammar.specs.Blocks.{head}
+use Rattle.iloc_spec_grammar.specs.Syntax.{pieces, head}
 use Rattle.iloc_langid.specs.Reads.{ReadsAs}
 use Rattle.iloc_langid.proofs.ReadLemmas.{reads_accepts, reads_refuses}
 use Rattle.iloc_langid.proofs.identifier.LanguageIdentifier.try_from_locale_bytes.Goals as goal

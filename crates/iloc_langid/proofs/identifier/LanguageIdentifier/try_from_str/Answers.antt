@@ -1,6 +1,6 @@
 -- a text is read as its bytes are
 use Rattle.std.proofs.Common.{ℕ, List, ap, subst}
-use Rattle.iloc_spec_grammar.specs.Pieces.{pieces}
+use Rattle.iloc_spec_grammar.specs.Syntax.{pieces}
 use Rattle.iloc_langid.specs.Reads.{ReadsAs, AcceptsNarrow}
 use Rattle.iloc_langid.proofs.ReadLemmas.{reads_accepts, reads_refuses}
 use Rattle.iloc_langid.proofs.identifier.LanguageIdentifier.try_from_str.Goals as goal

@@ -1,5 +1,5 @@
 use Rattle.std.proofs.Common.{ℕ, List, subst}
-use Rattle.iloc_spec_grammar.specs.Pieces.{pieces}
+use Rattle.iloc_spec_grammar.specs.Syntax.{pieces}
 use Rattle.iloc_langid.specs.Reads.{ReadsAs}
 use Rattle.iloc_langid.proofs.ReadLemmas.{reads_accepts, reads_refuses, reads_steps, reads_narrow, accepts_narrow}
 use Rattle.iloc_langid.proofs.identifier.LanguageIdentifier.try_from_utf8.Goals as goal

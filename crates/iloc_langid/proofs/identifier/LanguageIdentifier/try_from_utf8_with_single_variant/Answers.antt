@@ -1,5 +1,5 @@
 -- from what is read of the whole
-use Rattle.iloc_spec_grammar.specs.Pieces.{pieces}
+use Rattle.iloc_spec_grammar.specs.Syntax.{pieces}
 use Rattle.iloc_langid.proofs.SmallLemmas.{small_accepts, small_refuses, small_means}
 use Rattle.iloc_langid.proofs.identifier.LanguageIdentifier.try_from_utf8_with_single_variant.Goals as goal
 

@@ -1,6 +1,6 @@
 use Rattle.std.proofs.Common.{◌-◌, ◌++◌, ℕ, List, length, take, drop, ap, ◌∙◌, arith, append_assoc}
 use Rattle.std.proofs.lemmas.List.{length-drop, length-take-le}
-use Rattle.iloc_spec_grammar.specs.Words.{lower}
+use Rattle.iloc_spec_grammar.specs.Syntax.{lower}
 use Rattle.iloc_lines.specs.ReplyBlock.{held}
 use Rattle.iloc_lines.proofs.LowerLemmas.{lower_end, lower_step}
 use Rattle.iloc_lines.proofs.reply_block.ReplyBlock.put_lower.Goals as goal

@@ -1,6 +1,6 @@
 use Rattle.std.proofs.Common.{◌≡◌, ℕ, List, Ok, Err, true, sym, ◌∙◌, ap, subst}
 use Rattle.std.proofs.lemmas.Result.{err_from_is_err_and}
-use Rattle.iloc_spec_grammar.specs.Blocks.{head}
+use Rattle.iloc_spec_grammar.specs.Syntax.{head}
 use Rattle.iloc_spec_grammar.specs.Reading.{starts_block, after_head}
 use Rattle.iloc_subtags.specs.Left.{left}
 use Rattle.iloc_langid.specs.Reads.{ReadsAs}

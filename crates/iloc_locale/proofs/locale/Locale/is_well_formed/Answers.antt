@@ -1,8 +1,8 @@
-use Rattle.iloc_spec_grammar.specs.Words.{languages}
+use Rattle.iloc_spec_grammar.specs.Syntax.{languages}
 use Rattle.iloc_spec_grammar.proofs.RawLaws.{languages_table}
 use Rattle.iloc_spec_grammar.proofs.ReadBack.{reads_back}
 use Rattle.iloc_spec_grammar.proofs.Corollaries.{same_text_same_value}
-use Rattle.iloc_locale.specs.LocaleValue.{value_of}
+use Rattle.iloc_locale.specs.LocaleReading.{value_of}
 use Rattle.iloc_locale.proofs.locale.Locale.is_well_formed.Goals as goal
 
 pub returns-clause-value : goal.returns-clause-value

@@ -1,11 +1,10 @@
 -- a text is normalised as its bytes are
 use Rattle.std.specs.Prelude.{⊤}
 use Rattle.std.proofs.Common.{ℕ, List, IfErr, subst}
-use Rattle.iloc_spec_grammar.specs.Words.{languages}
-use Rattle.iloc_spec_grammar.specs.Faults.{HasFault}
-use Rattle.iloc_subtags.specs.Answers.{Refusal}
-use Rattle.iloc_locale.specs.Reads.{RunsOutOnlyIf}
-use Rattle.iloc_locale.specs.Normalizing.{NormalizingWantsMemory}
+use Rattle.iloc_spec_grammar.specs.Syntax.{languages}
+use Rattle.iloc_spec_grammar.specs.Meaning.{HasFault}
+use Rattle.iloc_subtags.specs.Judging.{Refusal}
+use Rattle.iloc_locale.specs.LocaleReading.{RunsOutOnlyIf, NormalizingWantsMemory}
 use Rattle.iloc_locale.proofs.locale.Locale.normalize.Goals as goal
 
 pub returns-clause-err : goal.returns-clause-err

@@ -1,6 +1,6 @@
 -- a text is read as its bytes are
 use Rattle.std.proofs.Common.{ℕ, List, subst}
-use Rattle.iloc_locale.specs.Reads.{LocaleReads, RunsOutOnlyIf, WantsMemory}
+use Rattle.iloc_locale.specs.LocaleReading.{LocaleReads, RunsOutOnlyIf, WantsMemory}
 use Rattle.iloc_locale.proofs.ReadLemmas.{reads_accepts, reads_refuses, reads_narrow}
 use Rattle.iloc_locale.proofs.locale.Locale.try_from_str.Goals as goal
 

@@ -1,8 +1,7 @@
 use Rattle.std.specs.Cow.{cow_str_bytes}
 use Rattle.iloc_spec_grammar.specs.Values.{text}
 use Rattle.iloc_langid.proofs.PrintingLemmas.{printed}
-use Rattle.iloc_locale.specs.LocaleValue.{value_of}
-use Rattle.iloc_locale.specs.Reads.{MeansOnly}
+use Rattle.iloc_locale.specs.LocaleReading.{value_of, MeansOnly}
 use Rattle.iloc_locale.proofs.NormalLemmas.{text_means_only}
 use Rattle.iloc_locale.proofs.locale.Locale.write_to_string.Goals as goal
 

@@ -2,7 +2,7 @@ use Rattle.std.proofs.Common.{List, ℕ, sym, subst}
 use Rattle.iloc_spec_grammar.proofs.PartTexts.{printed_pieces}
 use Rattle.iloc_writeable.specs.Pieces.{hyphened}
 use Rattle.iloc_writeable.specs.Writing.{Writes}
-use Rattle.iloc_locale.specs.LocaleValue.{value_of}
+use Rattle.iloc_locale.specs.LocaleReading.{value_of}
 use Rattle.iloc_locale.proofs.printing.LocalePieces.write_pieces.Goals as goal
 
 pub returns : goal.returns

@@ -1,10 +1,10 @@
 use Rattle.std.proofs.Common.{◌≡◌, ◌++◌, ℕ, true, not, List, Ok, Err, ap, ◌∙◌, subst, sym, [], ◌∷◌}
 use Rattle.std.proofs.lemmas.Result.{on_ok_weaker}
-use Rattle.iloc_spec_grammar.specs.Blocks.{head}
+use Rattle.iloc_spec_grammar.specs.Syntax.{head}
 use Rattle.iloc_spec_grammar.specs.Reading.{after_head, starts_block}
 use Rattle.iloc_subtags.specs.Left.{left}
 use Rattle.iloc_langid.specs.Reads.{ReadsAs}
-use Rattle.iloc_locale.specs.LocaleValue.{value_of}
+use Rattle.iloc_locale.specs.LocaleReading.{value_of}
 use Rattle.iloc_locale.proofs.ReadLemmas.{after_head_starts}
 use Rattle.iloc_lines.specs.ReplyBlock.{held}
 use Rattle.iloc_program.proofs.AnswerLemmas.{head_alone, head_bad, locale_accepted, locale_refused, nothing_left, on_ok_both}

@@ -1,5 +1,5 @@
 use Rattle.std.proofs.Common.{◌∙◌, ap, lit<}
-use Rattle.iloc_spec_grammar.specs.Words.{lower}
+use Rattle.iloc_spec_grammar.specs.Syntax.{lower}
 use Rattle.iloc_subtags.specs.KindLaws.{lower_script_is_normal}
 use Rattle.iloc_subtags.proofs.identifier_kinds.SubtagFromScript.from.Goals as goal
 

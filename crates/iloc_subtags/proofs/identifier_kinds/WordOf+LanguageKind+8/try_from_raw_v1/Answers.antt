@@ -1,5 +1,5 @@
 use Rattle.std.proofs.Common.{refl}
-use Rattle.iloc_spec_grammar.specs.Words.{Language, languages, two_or_three}
+use Rattle.iloc_spec_grammar.specs.Syntax.{Language, languages, two_or_three}
 use Rattle.iloc_subtags.specs.declared.parse_error.ParseError.TheVariants.{InvalidLanguage}
 use Rattle.iloc_subtags.specs.KindLaws.{narrow_language_fits}
 use Rattle.iloc_subtags.proofs.RawLemmas.{none_reads_raw, reads_raw, narrow_languages}

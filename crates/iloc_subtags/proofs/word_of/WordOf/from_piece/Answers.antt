@@ -1,5 +1,5 @@
 use Rattle.std.proofs.Common.{◌∙◌, sym, rules}
-use Rattle.iloc_spec_grammar.specs.Words.{IsWord}
+use Rattle.iloc_spec_grammar.specs.Syntax.{IsWord}
 use Rattle.iloc_spec_grammar.proofs.ReadWords.{IsNormal-normal}
 use Rattle.iloc_subtags.proofs.PieceLemmas.{size-le, normal_fits}
 use Rattle.iloc_subtags.proofs.word_of.WordOf.from_piece.Goals as goal

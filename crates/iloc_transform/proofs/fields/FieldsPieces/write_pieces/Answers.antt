@@ -1,5 +1,5 @@
 use Rattle.std.proofs.Common.{◌∙◌, ap}
-use Rattle.iloc_spec_grammar.specs.Written.{fields_pieces}
+use Rattle.iloc_spec_grammar.specs.Syntax.{fields_pieces}
 use Rattle.iloc_spec_grammar.specs.Values.{spelled_fields}
 use Rattle.iloc_transform.proofs.PrintLemmas.{pairs_pieces}
 use Rattle.iloc_transform.proofs.fields.FieldsPieces.write_pieces.Goals as goal

@@ -1,5 +1,5 @@
 use Rattle.std.proofs.Common.{List, ℕ, sym, ap, ◌∙◌, subst, option_map}
-use Rattle.iloc_spec_grammar.specs.Written.{optional_pieces}
+use Rattle.iloc_spec_grammar.specs.Syntax.{optional_pieces}
 use Rattle.iloc_spec_grammar.specs.Values.{lower_identifier}
 use Rattle.iloc_langid.specs.Reads.{value_of}
 use Rattle.iloc_writeable.specs.Pieces.{hyphened}

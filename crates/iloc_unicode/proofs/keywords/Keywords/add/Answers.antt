@@ -1,6 +1,6 @@
 use Rattle.std.proofs.Common.{◌≡◌, ◌∙◌, ap, true, false, true≢false, sym, is_some}
 use Rattle.std.specs.FinMap.{find}
-use Rattle.iloc_spec_grammar.specs.Words.{word_cmp}
+use Rattle.iloc_spec_grammar.specs.Syntax.{word_cmp}
 use Rattle.iloc_unicode.proofs.keywords.Keywords.add.Goals as goal
 
 refused_not : false ≡ true → ⊥

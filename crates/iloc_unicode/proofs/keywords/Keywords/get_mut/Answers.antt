@@ -1,8 +1,7 @@
 use Rattle.std.proofs.Common.{ap, ◌∙◌}
 use Rattle.std.specs.FinMap.{find, put}
 use Rattle.std.specs.Option.{ghost_name_of}
-use Rattle.iloc_spec_grammar.specs.Words.{word_cmp}
-use Rattle.iloc_spec_grammar.specs.Written.{Fields}
+use Rattle.iloc_spec_grammar.specs.Syntax.{word_cmp, Fields}
 use Rattle.iloc_unicode.proofs.keywords.Keywords.get_mut.Goals as goal
 use borrow.Follows.Closed.{read_of}
 

@@ -1,7 +1,7 @@
 use Rattle.std.proofs.Common.{◌∙◌, ap}
 use Rattle.std.specs.Ordering.{is_eq, nat_cmp}
 use Rattle.std.specs.Cmp.Lexicographic.{slice_cmp}
-use Rattle.iloc_spec_grammar.specs.Pieces.{join}
+use Rattle.iloc_spec_grammar.specs.Syntax.{join}
 use Rattle.iloc_unicode_value.proofs.PrintLemmas.{equal_texts}
 use Rattle.iloc_unicode_value.proofs.value.Value.eq_str.Goals as goal
 

@@ -1,6 +1,6 @@
 use Rattle.std.proofs.Common.{◌≤◌, ◌<◌, ℕ, true≢false, length, ap, sym, ◌∙◌, arith, subst}
 use Rattle.std.proofs.lemmas.Result.{err_from_is_err_and}
-use Rattle.iloc_spec_grammar.specs.Words.{Subtag, is_word}
+use Rattle.iloc_spec_grammar.specs.Syntax.{Subtag, is_word}
 use Rattle.iloc_spec_grammar.specs.Meaning.{normal_values}
 use Rattle.iloc_spec_grammar.specs.Reading.{passing, past}
 use Rattle.iloc_subtags.specs.Left.{left}

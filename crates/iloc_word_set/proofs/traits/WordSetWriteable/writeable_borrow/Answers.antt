@@ -1,5 +1,5 @@
 use Rattle.std.proofs.Common.{◌∙◌, ap}
-use Rattle.iloc_spec_grammar.specs.Pieces.{join}
+use Rattle.iloc_spec_grammar.specs.Syntax.{join}
 use Rattle.iloc_spec_grammar.proofs.PartTexts.{join_one}
 use Rattle.iloc_word_set.proofs.traits.WordSetWriteable.writeable_borrow.Goals as goal
 

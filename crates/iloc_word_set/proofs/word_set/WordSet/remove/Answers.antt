@@ -1,6 +1,6 @@
 use Rattle.std.proofs.Common.{ap, sym, ◌∙◌}
 use Rattle.std.specs.Prelude.{not, remove}
-use Rattle.iloc_spec_grammar.specs.Words.{is_same}
+use Rattle.iloc_spec_grammar.specs.Syntax.{is_same}
 use Rattle.iloc_word_set.proofs.SetLaws.{search_new, search_old, search_removed, kept_all, ascending-filter}
 use Rattle.iloc_word_set.proofs.word_set.WordSet.remove.Goals as goal
 
