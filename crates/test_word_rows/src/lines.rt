@@ -113,7 +113,11 @@ fn ordered_of(window: &[u8], len: usize) -> Option<Ordered<'_>>
         return None;
     }
     match read_front(window, len) {
-        Front::Block(block) => read_ordered(window, len, len.wrapping_sub(block.tail.wrapping_add(1))),
+        Front::Block(block) => read_ordered(
+            window,
+            len,
+            len.wrapping_sub(block.tail.wrapping_add(1)),
+        ),
         Front::Variants(tail) => read_varied(window, len, len.wrapping_sub(tail.wrapping_add(1))),
         _ => None,
     }
