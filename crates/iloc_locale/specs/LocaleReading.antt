@@ -1,4 +1,4 @@
--- What a `Locale` stands for.
+-- What a `Locale` stands for, what a text is read as, and what it is normalized to.
 use Rattle.std.specs.Prelude.{◌≡◌, [], None, ◌⊎◌, ⊤, ℕ, List, Result, Err, ◌↔◌, ◌≤◌, length}
 use Rattle.iloc_spec_grammar.specs.Meaning as meaning
 use Rattle.iloc_langid.specs.Reads as langid
