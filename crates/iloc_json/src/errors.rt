@@ -1,28 +1,26 @@
 //! Why a JSON value is refused.
-ghost use Rattle.std.specs.Prelude.{◌≡◌};
+ghost use Rattle.std.specs.Prelude.{◌≡◌, Some};
 
 use iloc_subtags::ParseError;
 use std::alloc::{AllocError, AllocFailed};
-use thiserror::Error;
+use std::error::Error;
+use std::fmt;
 
 /// Why a JSON value is refused, or that memory has run out. It prints its words.
-#[derive(Clone, Debug, Drop, Error, PartialEq, Eq)]
+#[derive(Clone, Debug, Drop, PartialEq, Eq)]
 pub enum JsonError {
     /// The value is no string.
-    #[error("Expected a JSON string")]
     NotText,
     /// The string is refused by the parser.
-    #[error(transparent)]
     Parse(ParseError),
     /// Memory was refused.
-    #[error("Out of memory")]
     OutOfMemory,
 }
 
 impl JsonError {
     ghost use Rattle.iloc_json.specs.Errors.{words_of};
 
-    /// The words of this refusal, which `Display` prints too.
+    /// The words of this refusal.
     pub fn words(&self) -> &'static str
         ensures { result.now ≡ words_of self.now }
     {
@@ -33,6 +31,19 @@ impl JsonError {
         }
     }
 }
+
+/// Prints the words.
+impl fmt::Display for JsonError {
+    ghost use Rattle.iloc_json.specs.Errors.{words_of};
+
+    ghost output = { λ error. Some (words_of error) };
+
+    fn fmt<W: fmt::Write>(&self, f: &mut fmt::Formatter<W>) -> fmt::Result {
+        f.write_str(self.words())
+    }
+}
+
+impl Error for JsonError {}
 
 /// The refusal of a parser. Its `OutOfMemory` is `OutOfMemory` here.
 impl From<ParseError> for JsonError {
