@@ -69,7 +69,8 @@ impl DataLocale {
         ensures reads { DataReadsAs code_units.now result }
         ensures accepted { (d : parts.DataLocale) → DataMeans languages code_units.now d
             → Accepts value_of ⊤ d result }
-        ensures refused { (f : Fault) → HasDataFault languages code_units.now f → Refuses ⊤ f result }
+        ensures refused { (f : Fault) → HasDataFault languages code_units.now f
+            → Refuses ⊤ f result }
         ensures memory { RunsOutOnlyIf ⊥ result }
         ensures back { IfOk result
             (λ d. DataMeans languages (data_text (value_of d)) (value_of d)) }

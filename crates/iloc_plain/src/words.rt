@@ -189,7 +189,8 @@ fn is_private_subtag(window: &[u8], n: usize) -> bool
 #[inline(always)]
 pub(crate) fn are_private(window: &[u8], len: usize) -> bool
     requires { len + 16 ≤ length window.now }
-    ensures { IsTrue result → list_all (is_word PrivateSubtag) (pieces (take len window.now)) ≡ true }
+    ensures { IsTrue result
+        → list_all (is_word PrivateSubtag) (pieces (take len window.now)) ≡ true }
 {
     let mut rest = window;
     let mut left = len;

@@ -149,7 +149,8 @@ pub fn fill_transform(
 ) -> Result<(), ParseError>
     requires lang { transform.old.lang ≡ None }
     requires fields { transform.old.fields ≡ [] }
-    ensures { TransformReads (left iter.old) (left iter.new) (result_and result (Ok transform.new)) }
+    ensures { TransformReads (left iter.old) (left iter.new)
+        (result_and result (Ok transform.new)) }
 {
     fill_lang(alloc, iter, &mut transform.lang)?;
     fill_fields(alloc, iter, &mut transform.fields)?;
