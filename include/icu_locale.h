@@ -308,8 +308,8 @@ icu_locale_status icu_locale_remove_keyword(icu_locale_t *locale, const uint8_t 
 ICU_LOCALE_TAKES(1) ICU_LOCALE_TELLS
 icu_locale_status icu_locale_clear_keywords(icu_locale_t *locale) ICU_LOCALE_NOEXCEPT;
 
-/* Extends the extension u by that of the other handle: it has the attributes of both, and the keywords of both. At a key
- * of both, the other handle's value wins. DONE or OUT_OF_MEMORY. */
+/* Extends the extension u by that of the other handle: it has the attributes of both, and the keywords of both. At a
+ * key of both, the other handle's value wins. The other handle stays as it is. DONE or OUT_OF_MEMORY. */
 ICU_LOCALE_TAKES(1, 2) ICU_LOCALE_TELLS
 icu_locale_status icu_locale_extend_unicode(icu_locale_t *locale, icu_locale_t *from) ICU_LOCALE_NOEXCEPT;
 
@@ -388,9 +388,9 @@ icu_locale_status icu_locale_get_other(icu_locale_t *locale, uint8_t singleton, 
     size_t *needed) ICU_LOCALE_NOEXCEPT;
 
 /* Sets the extension of a singleton to the text, which is the singleton and its subtags, in any case: A-Foo-bar sets
- * a-foo-bar. The text is parsed as within a locale: after the singleton stand pieces of 2 to 8 bytes, of which those with
- * other bytes than letters and digits are left out, and one at least must stay. Any other text is refused with
- * INVALID_EXTENSION, also one that is empty or has two extensions. Allocates. */
+ * a-foo-bar. The text is parsed as within a locale: pieces of 2 to 8 bytes follow the singleton. Those with other bytes
+ * than letters and digits are left out, and one at least must stay. Any other text is refused with INVALID_EXTENSION,
+ * also one that is empty or has two extensions. Allocates. */
 ICU_LOCALE_TAKES(1) ICU_LOCALE_TELLS
 icu_locale_status icu_locale_set_other(icu_locale_t *locale, const uint8_t *text, size_t length) ICU_LOCALE_NOEXCEPT;
 
@@ -398,11 +398,11 @@ icu_locale_status icu_locale_set_other(icu_locale_t *locale, const uint8_t *text
 ICU_LOCALE_TAKES(1) ICU_LOCALE_TELLS
 icu_locale_status icu_locale_remove_other(icu_locale_t *locale, uint8_t singleton) ICU_LOCALE_NOEXCEPT;
 
-/* The data locale of a locale: language, script, region or subdivision, and the first variant, as data is looked up by
- * them. en-GB-u-rg-uszzzz is en-GB by language and en-US by region. Writes the text; or to *order -1, 0 or 1: the byte
- * order of the text against other bytes, as they stand; or the order of the data locales of two handles, which is 0
- * exactly if both are equal. With another priority than these the calls end with UNKNOWN_NUMBER, *needed is 0, and the
- * buffer or *order is as before. None allocates. */
+/* The data locale of a locale, by which data is looked up: language, script, region or subdivision, and the first
+ * variant. en-GB-u-rg-uszzzz is en-GB by language and en-US by region. The first call writes its text. The other two
+ * write -1, 0 or 1 to *order: the byte order of the text against other bytes, as they stand; and the order of the data
+ * locales of two handles by their parts, which is 0 exactly if both are equal. A number that is no priority is refused
+ * with UNKNOWN_NUMBER: *needed is then 0, and the buffer or *order is as before. None allocates. */
 ICU_LOCALE_TAKES(1, 5) ICU_LOCALE_TELLS
 icu_locale_status icu_locale_get_data_locale(icu_locale_t *locale, icu_locale_priority priority, uint8_t *buffer,
     size_t room, size_t *needed) ICU_LOCALE_NOEXCEPT;
@@ -413,9 +413,10 @@ ICU_LOCALE_TAKES(1, 2, 4) ICU_LOCALE_TELLS
 icu_locale_status icu_locale_data_cmp(icu_locale_t *locale, icu_locale_t *other, icu_locale_priority priority,
     int8_t *order) ICU_LOCALE_NOEXCEPT;
 
-/* What formatters read: the calendar of the keyword ca, the hour cycle of hc and the numbering system of nu. The text is
- * that of the value which the keyword stands for: islamic-civil of ca-islamicc. NOT_FOUND if the keyword is absent or
- * its value is none of these: h12, h23, h11, c12 or c24 for hc; one subtag for nu. */
+/* What formatters read: the calendar of the keyword ca, the hour cycle of hc and the numbering system of nu. The text
+ * is that of the value which the keyword stands for: islamic-civil of ca-islamicc. NOT_FOUND if the keyword is absent,
+ * or if its value is none of the type: a calendar of UTS #35 for ca; h12, h23, h11, c12 or c24 for hc; one subtag for
+ * nu. */
 ICU_LOCALE_TAKES(1, 4) ICU_LOCALE_TELLS
 icu_locale_status icu_locale_get_calendar_algorithm(icu_locale_t *locale, uint8_t *buffer, size_t room,
     size_t *needed) ICU_LOCALE_NOEXCEPT;
