@@ -38,8 +38,6 @@ pub use Rattle.iloc_transform.specs.TransformReading
 pub use Rattle.iloc_extensions.specs.ExtensionsValue
 pub use Rattle.iloc_extensions.specs.Retaining
 pub use Rattle.iloc_locale.specs.LocaleReading
-pub use Rattle.iloc_locale.specs.LocaleReading as LocaleReads
-pub use Rattle.iloc_locale.specs.LocaleReading as LocaleNormalizing
 pub use Rattle.iloc_data.specs.Reads as DataReads
 pub use Rattle.iloc_data.specs.DataValue
 pub use Rattle.iloc_data.specs.DataEquality

@@ -7,13 +7,11 @@ use Rattle.std.specs.declared.cmp.Ordering.TheVariants.{Less, Equal, Greater}
 use Rattle.iloc_spec_grammar.specs.Syntax.{Text, pieces, languages, Identifier}
 use Rattle.iloc_spec_grammar.specs.Meaning as meaning
 use Rattle.iloc_spec_grammar.specs.Meaning.{IdentifierMeans, Means, Fault, HasIdentifierFault, HasFault}
-use Rattle.iloc_spec_grammar.specs.Meaning as faults
 use Rattle.iloc_spec_preferences.specs.DataLocales.{DataLocale, DataMeans, HasDataFault, data_text}
 use Rattle.iloc_writeable.specs.Hints.{saturated}
 use Rattle.iloc_langid.specs.Normalizing as langid
 use Rattle.iloc_langid.specs.Reads as langid_reads
 use Rattle.iloc_locale.specs.LocaleReading as locale
-use Rattle.iloc_locale.specs.LocaleReading as locale_reads
 use Rattle.iloc_subtags.specs.declared.parse_error.ParseError.{ParseError}
 use Rattle.iloc_subtags.specs.declared.parse_error.ParseError.TheVariants as refusals
 use Rattle.iloc_lines.specs.declared.Mode.{Mode}
@@ -38,16 +36,16 @@ IsFaulty Data t f = HasDataFault languages t f
 -- when memory may run out to read the text: never if it is short
 abbrev pub WantsMemory : Mode → Text → Type 0
 WantsMemory Langid t = langid_reads.WantsMemory (pieces t)
-WantsMemory Locale t = locale_reads.WantsMemory t
+WantsMemory Locale t = locale.WantsMemory t
 WantsMemory Data t = ⊥
 
 -- the status of a text: it means something, or has the fault, or memory ran out
 abbrev pub JudgedAs : Mode → Text → Status → Type 0
 JudgedAs mode t Done = (normal : Text) × IsNormalText mode t normal
-JudgedAs mode t InvalidLanguage = IsFaulty mode t faults.InvalidLanguage
-JudgedAs mode t InvalidSubtag = IsFaulty mode t faults.InvalidSubtag
-JudgedAs mode t InvalidExtension = IsFaulty mode t faults.InvalidExtension
-JudgedAs mode t DuplicatedExtension = IsFaulty mode t faults.DuplicatedExtension
+JudgedAs mode t InvalidLanguage = IsFaulty mode t meaning.InvalidLanguage
+JudgedAs mode t InvalidSubtag = IsFaulty mode t meaning.InvalidSubtag
+JudgedAs mode t InvalidExtension = IsFaulty mode t meaning.InvalidExtension
+JudgedAs mode t DuplicatedExtension = IsFaulty mode t meaning.DuplicatedExtension
 JudgedAs mode t OutOfMemory = WantsMemory mode t
 JudgedAs mode t BufferTooSmall = ⊥
 JudgedAs mode t UnknownNumber = ⊥

@@ -1,7 +1,6 @@
 -- What a caller finds after a call on a handle, by its status.
 use Rattle.std.specs.Prelude.{◌≡◌, ◌≢◌, ◌⊎◌, Option, None}
 use Rattle.iloc_spec_grammar.specs.Meaning as meaning
-use Rattle.iloc_spec_grammar.specs.Meaning as faults
 use Rattle.iloc_spec_grammar.specs.Meaning.{Fault}
 use Rattle.iloc_locale.specs.LocaleReading.{unknown_locale}
 use Rattle.iloc_locale.specs.declared.locale.Locale.{Locale}
@@ -28,10 +27,10 @@ Changes P before after status =
 -- why a text is refused: it has the fault, or memory was wanted to parse it
 abbrev pub Refused : (Fault → Type 0) → Type 0 → Status → Type 0
 Refused HasFault Wants Done = ⊥
-Refused HasFault Wants InvalidLanguage = HasFault faults.InvalidLanguage
-Refused HasFault Wants InvalidSubtag = HasFault faults.InvalidSubtag
-Refused HasFault Wants InvalidExtension = HasFault faults.InvalidExtension
-Refused HasFault Wants DuplicatedExtension = HasFault faults.DuplicatedExtension
+Refused HasFault Wants InvalidLanguage = HasFault meaning.InvalidLanguage
+Refused HasFault Wants InvalidSubtag = HasFault meaning.InvalidSubtag
+Refused HasFault Wants InvalidExtension = HasFault meaning.InvalidExtension
+Refused HasFault Wants DuplicatedExtension = HasFault meaning.DuplicatedExtension
 Refused HasFault Wants OutOfMemory = Wants
 Refused HasFault Wants BufferTooSmall = ⊥
 Refused HasFault Wants UnknownNumber = ⊥

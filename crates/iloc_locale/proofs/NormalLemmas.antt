@@ -4,7 +4,6 @@ use Rattle.iloc_spec_grammar.specs.Syntax.{languages, Identifier, join}
 use Rattle.iloc_spec_grammar.specs.Meaning as meaning
 use Rattle.iloc_spec_grammar.specs.Meaning.{Extensions, Means, no_extensions}
 use Rattle.iloc_spec_grammar.specs.Values.{IsValue, IsWellFormed, text, identifier_text}
-use Rattle.iloc_spec_grammar.specs.Meaning as faults
 use Rattle.iloc_spec_grammar.proofs.FaultLaws.{accepted_no_fault}
 use Rattle.std.specs.Ordering.{is_eq}
 use Rattle.iloc_spec_orders.specs.Orders.{locale_cmp}
@@ -51,10 +50,10 @@ same_meaning_ties t L M same m e = (
 )
 
 pub no_meaning : (t : List ℕ) (M : meaning.Locale) (f : ParseError) → LocaleReads t (Err f) → (f ≡ OutOfMemory → ⊥) → Means languages t M → ⊥
-no_meaning t M InvalidLanguage h n m = accepted_no_fault languages_table t M faults.InvalidLanguage m h
-no_meaning t M InvalidSubtag h n m = accepted_no_fault languages_table t M faults.InvalidSubtag m h
-no_meaning t M InvalidExtension h n m = accepted_no_fault languages_table t M faults.InvalidExtension m h
-no_meaning t M DuplicatedExtension h n m = accepted_no_fault languages_table t M faults.DuplicatedExtension m h
+no_meaning t M InvalidLanguage h n m = accepted_no_fault languages_table t M meaning.InvalidLanguage m h
+no_meaning t M InvalidSubtag h n m = accepted_no_fault languages_table t M meaning.InvalidSubtag m h
+no_meaning t M InvalidExtension h n m = accepted_no_fault languages_table t M meaning.InvalidExtension m h
+no_meaning t M DuplicatedExtension h n m = accepted_no_fault languages_table t M meaning.DuplicatedExtension m h
 no_meaning t M OutOfMemory h n m = n refl
 
 pub refusal_differs : (t : List ℕ) (M : meaning.Locale) (f : ParseError) {E : Type 0} (r : Result Bool E) → LocaleReads t (Err f) → IfOk r (λ same. (same ≡ false) × ¬ (f ≡ OutOfMemory)) → IfOk r (λ same. IsTrue same ↔ Means languages t M)

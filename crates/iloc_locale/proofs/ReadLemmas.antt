@@ -8,7 +8,6 @@ use Rattle.iloc_spec_grammar.specs.Meaning.{Means, Fault, HasFault, no_language,
 use Rattle.iloc_spec_grammar.specs.ByBlocks.{BlocksMean}
 use Rattle.iloc_spec_grammar.specs.Values.{IsValue, IsWellFormed, Chain}
 use Rattle.iloc_spec_grammar.specs.Reading.{rest_of, front_of, after_head, starts_block}
-use Rattle.iloc_spec_grammar.specs.Meaning as faults
 use Rattle.iloc_spec_grammar.proofs.RawLaws.{languages_table}
 use Rattle.iloc_spec_grammar.proofs.BlockLaws.{blocks_mean}
 use Rattle.iloc_spec_grammar.proofs.FaultLaws.{accepted_no_fault, one_fault}
@@ -80,9 +79,9 @@ spells t id h = (h.written, h.grammatical, h.spelled)
 
 pub blocks_refused : (t : List ℕ) (id : LanguageIdentifier) (x : meaning.Extensions) (e : ParseError) → ReadsAs (head (pieces t)) (Ok id) → BlocksReadAs (after_head (pieces t)) x (Err e) → LocaleReadsAs t (Err e)
 blocks_refused t id x InvalidLanguage h b = absurd b
-blocks_refused t id x InvalidSubtag h b = bad_block (spells t id h) (subst (λ bs. faults.FirstBadBlock languages [] bs faults.InvalidSubtag) (tail_is (pieces t)) b)
-blocks_refused t id x InvalidExtension h b = bad_block (spells t id h) (subst (λ bs. faults.FirstBadBlock languages [] bs faults.InvalidExtension) (tail_is (pieces t)) b)
-blocks_refused t id x DuplicatedExtension h b = bad_block (spells t id h) (subst (λ bs. faults.FirstBadBlock languages [] bs faults.DuplicatedExtension) (tail_is (pieces t)) b)
+blocks_refused t id x InvalidSubtag h b = bad_block (spells t id h) (subst (λ bs. meaning.FirstBadBlock languages [] bs meaning.InvalidSubtag) (tail_is (pieces t)) b)
+blocks_refused t id x InvalidExtension h b = bad_block (spells t id h) (subst (λ bs. meaning.FirstBadBlock languages [] bs meaning.InvalidExtension) (tail_is (pieces t)) b)
+blocks_refused t id x DuplicatedExtension h b = bad_block (spells t id h) (subst (λ bs. meaning.FirstBadBlock languages [] bs meaning.DuplicatedExtension) (tail_is (pieces t)) b)
 blocks_refused t id x OutOfMemory h b = inr (spells t id h, subst (ReachesLongBlock languages []) (tail_is (pieces t)) b)
 
 pub blocks_read : (t : List ℕ) (l : Locale) (r : Result (Unit {0}) ParseError) → ReadsAs (head (pieces t)) (Ok l.id) → BlocksReadAs (after_head (pieces t)) (extensions.value_of l.extensions) r → LocaleReadsAs t (result_and r (Ok l))

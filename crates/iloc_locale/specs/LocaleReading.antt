@@ -6,7 +6,7 @@ use Rattle.iloc_langid.specs.Unknown.{unknown_identifier}
 use Rattle.iloc_extensions.specs.ExtensionsValue as extensions
 use Rattle.iloc_locale.specs.declared.locale.Locale.{Locale}
 use Rattle.iloc_spec_grammar.specs.Syntax.{Text, pieces, languages, head, tail_blocks}
-use Rattle.iloc_spec_grammar.specs.Meaning.{Means, Locale, HasFault, SpellsIdentifier}
+use Rattle.iloc_spec_grammar.specs.Meaning.{Means, HasFault, SpellsIdentifier}
 use Rattle.iloc_spec_parts.specs.Inline.{ReachesLongBlock}
 use Rattle.iloc_subtags.specs.declared.parse_error.ParseError.{ParseError}
 use Rattle.iloc_subtags.specs.declared.parse_error.ParseError.TheVariants.{OutOfMemory}
@@ -53,11 +53,11 @@ LocaleReadsAs t = Answers (λ l. Means languages t (value_of l)) (HasFault langu
 abbrev pub MeansOnly : Text → meaning.Locale → Type 0
 MeansOnly t M = Means languages t M × ((N : meaning.Locale) → Means languages t N → N ≡ M)
 
--- What normalising a locale's text answers.
+-- What normalizing a locale's text answers.
 
 -- t is the text of what u means
 abbrev pub IsTextOf : Text → Text → Type 0
-IsTextOf u t = (M : Locale) × Means languages u M × (t ≡ text M)
+IsTextOf u t = (M : meaning.Locale) × Means languages u M × (t ≡ text M)
 
 -- t is the normal text of input
 pub record IsNormalizedFrom (input t : Text) : Type 0 where
@@ -66,14 +66,14 @@ pub record IsNormalizedFrom (input t : Text) : Type 0 where
   -- which is its own normal text
   pub again : IsTextOf t t
   -- every accepted text means the same exactly if its normal text is this one
-  pub same : (u : Text) (L M : Locale) → Means languages input L → Means languages u M → (L ≡ M) ↔ (t ≡ text M)
+  pub same : (u : Text) (L M : meaning.Locale) → Means languages input L → Means languages u M → (L ≡ M) ↔ (t ≡ text M)
   -- and no text that means the same is shorter
-  pub shortest : (u : Text) (M : Locale) → Means languages input M → Means languages u M → length t ≤ length u
+  pub shortest : (u : Text) (M : meaning.Locale) → Means languages input M → Means languages u M → length t ≤ length u
   -- eight steps of rewriting at most lead here
   pub steps : Chain languages 8 input t
   -- so every accepted text means the same exactly if such steps lead both to one text
-  pub together : (u : Text) (L M : Locale) → Means languages input L → Means languages u M → (L ≡ M) ↔ LeadToOne (TextStep languages) 8 input u
+  pub together : (u : Text) (L M : meaning.Locale) → Means languages input L → Means languages u M → (L ≡ M) ↔ LeadToOne (TextStep languages) 8 input u
 
 -- memory may run out only if the reader may allocate, or if the input is accepted and isn't normal
 abbrev pub NormalizingWantsMemory : Text → Type 0
-NormalizingWantsMemory t = WantsMemory t ⊎ ((M : Locale) × Means languages t M × ¬ (t ≡ text M))
+NormalizingWantsMemory t = WantsMemory t ⊎ ((M : meaning.Locale) × Means languages t M × ¬ (t ≡ text M))
