@@ -6,7 +6,7 @@
 #![tactic(auto)]
 
 ghost use Rattle.std.specs.Prelude.{◌≡◌, ◌%◌, ◌<◌, ◌≤◌};
-ghost use Rattle.icu_locale_core.specs.LocaleValue.{value_of};
+ghost use Rattle.icu_locale_core.specs.LocaleReading.{value_of};
 ghost use Rattle.icu_locale_core.specs.Formatters.{format_preferences, merge_format};
 ghost use Rattle.icu_locale_core.specs.FormatterValues.{format_value};
 ghost use Rattle.example_formatter.specs.HourCycles.{first_hour, last_hour};

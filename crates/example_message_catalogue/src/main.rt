@@ -7,7 +7,7 @@
 
 ghost use Rattle.std.specs.Prelude.{◌≡◌, ◌↔◌, All, Any, IfSome, IsNone, IsTrue};
 ghost use Rattle.icu_locale_core.specs.Values.{text as text_of};
-ghost use Rattle.icu_locale_core.specs.LocaleValue.{value_of};
+ghost use Rattle.icu_locale_core.specs.LocaleReading.{value_of};
 
 use icu_locale_core::{Locale, ParseError};
 use std::alloc::Global;

@@ -1,6 +1,6 @@
 -- What is left of an identifier when what matters least is dropped (UTS #35, "Locale Inheritance and Matching").
 use Rattle.std.specs.Prelude.{◌≡◌, ◌⊎◌, [], None}
-use Rattle.icu_locale_core.specs.Written.{Identifier}
+use Rattle.icu_locale_core.specs.Syntax.{Identifier}
 
 -- each part is as it was, or is left out with all that stand after it
 pub record IsLeftOf (wanted left : Identifier) : Type 0 where

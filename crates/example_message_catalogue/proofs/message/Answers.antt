@@ -1,7 +1,7 @@
 use Rattle.std.proofs.Common.{◌≡◌, ℕ, zero, suc, ◌<◌, List, [], ◌∷◌, length, get_or, refl, sym, ap, ◌∙◌, true≢false, arith}
 use Rattle.std.proofs.lemmas.List.Elements.{AllWithin-more}
 use Rattle.icu_locale_core.specs.Values.{text as text_of}
-use Rattle.icu_locale_core.specs.LocaleValue.{value_of}
+use Rattle.icu_locale_core.specs.LocaleReading.{value_of}
 use Rattle.example_message_catalogue.proofs.message.Goals as goal
 
 -- an item that is there is read whatever stands for a missing one

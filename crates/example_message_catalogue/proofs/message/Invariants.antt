@@ -2,7 +2,7 @@
 use Rattle.std.proofs.Common.{◌≡◌}
 use Rattle.std.specs.List.{AllWithin}
 use Rattle.icu_locale_core.specs.Values.{text as text_of}
-use Rattle.icu_locale_core.specs.LocaleValue.{value_of}
+use Rattle.icu_locale_core.specs.LocaleReading.{value_of}
 use Rattle.example_message_catalogue.proofs.message.Given as goal
 
 abbrev pub invariant-loop-entry : goal.invariant-loop-entry
