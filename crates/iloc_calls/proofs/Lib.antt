@@ -1,3 +1,4 @@
 pub mod AnswerLemmas
 pub mod Lengths
 pub mod Bounds
+pub mod PlainLemmas

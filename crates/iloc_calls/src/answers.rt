@@ -3,11 +3,12 @@ ghost use Rattle.std.specs.Prelude.{◌≡◌, ◌↔◌, Some, MatchResult};
 ghost use Rattle.iloc_calls.specs.Answers.{HandsOut, JudgedAs, NormalizesTo};
 ghost use Rattle.iloc_calls.specs.Numbers.{mode_number, status_of};
 
-use crate::filling::hand_out;
+use crate::filling::{hand_out, hand_out_plain};
 use crate::status::Status;
 use iloc_data::DataLocale;
 use iloc_langid::LanguageIdentifier;
 use iloc_locale::Locale;
+use iloc_plain::read_plain_text;
 use iloc_program::Mode;
 use iloc_subtags::ParseError;
 use iloc_writeable::Writeable;
@@ -39,6 +40,17 @@ fn outcome<T: Drop>(read: Result<T, ParseError>) -> Status
 pub(crate) fn judge(alloc: Global, mode: Mode, text: &[u8]) -> Status
     ensures { JudgedAs mode text.now result }
 {
+    match read_plain_text(text) {
+        Some(_) => Status::Done,
+        None => judge_parsed(alloc, mode, text),
+    }
+}
+
+// The same by parsing it.
+#[inline(never)]
+fn judge_parsed(alloc: Global, mode: Mode, text: &[u8]) -> Status
+    ensures { JudgedAs mode text.now result }
+{
     match mode {
         Mode::Langid => outcome(LanguageIdentifier::try_from_utf8(alloc, text)),
         Mode::Locale => outcome(Locale::try_from_utf8(alloc, text)),
@@ -67,6 +79,23 @@ fn answer<T: Writeable + Drop>(
 
 /// Hands out the normal text of what the text means.
 pub(crate) fn normalize(
+    alloc: Global,
+    mode: Mode,
+    text: &[u8],
+    buffer: &mut [u8],
+    needed: &mut usize,
+) -> Status
+    ensures { NormalizesTo mode text.now buffer.old buffer.new needed.new result }
+{
+    match read_plain_text(text) {
+        Some(plain) => hand_out_plain(&plain, buffer, needed),
+        None => normalize_parsed(alloc, mode, text, buffer, needed),
+    }
+}
+
+// The same by parsing it.
+#[inline(never)]
+fn normalize_parsed(
     alloc: Global,
     mode: Mode,
     text: &[u8],

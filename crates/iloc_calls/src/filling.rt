@@ -1,10 +1,13 @@
 //! Handing out texts in a caller's buffer.
 ghost use Rattle.std.specs.Prelude.{◌≡◌, option_map};
 ghost use Rattle.std.specs.Option.{option_copied};
+ghost use Rattle.iloc_spec_grammar.specs.Values.{identifier_text};
+ghost use Rattle.iloc_plain.specs.Plain.{AreWords, value_of};
 ghost use Rattle.iloc_calls.specs.declared.status.Status.{Status};
 ghost use Rattle.iloc_calls.specs.Answers.{HandsOut, Tells};
 
 use crate::status::Status;
+use iloc_plain::Plain;
 use iloc_writeable::{Sink, Writeable};
 use std::fmt;
 
@@ -69,6 +72,22 @@ pub fn hand_out<W: Writeable>(value: &W, buffer: &mut [u8], needed: &mut usize) 
         }
         _ => Status::BufferTooSmall,
     }
+}
+
+/// The same of a plain identifier.
+#[inline(always)]
+pub(crate) fn hand_out_plain(plain: &Plain, buffer: &mut [u8], needed: &mut usize) -> Status
+    requires { AreWords plain.now }
+    ensures { HandsOut (identifier_text (value_of plain.now)) buffer.old buffer.new needed.new
+        result }
+{
+    *needed = plain.len;
+    if plain.len > buffer.len() {
+        return Status::BufferTooSmall;
+    }
+    let bytes = plain.bytes;
+    buffer[..plain.len].copy_from_slice(&bytes.as_array()[..plain.len]);
+    Status::Done
 }
 
 /// Hands out the text of a part that is there.

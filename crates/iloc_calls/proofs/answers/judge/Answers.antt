@@ -1,16 +1,9 @@
--- By the mode, the text is judged as its reader answered.
-use Rattle.iloc_lines.specs.declared.Mode.TheVariants.{Langid, Locale, Data}
-use Rattle.iloc_calls.proofs.AnswerLemmas.{identifier_read, locale_read, data_read, judged, text_of_identifier, text_of_locale, text_of_data}
+-- A plain text means something in each mode.
+use Rattle.iloc_spec_grammar.specs.Values.{identifier_text}
+use Rattle.iloc_plain.specs.Plain.{value_of}
+use Rattle.iloc_calls.proofs.PlainLemmas.{plain_normal}
 use Rattle.iloc_calls.proofs.answers.judge.Goals as goal
 
-pub returns-in-Langid : goal.returns-in-Langid
-returns-in-Langid c =
-    rw c.in-Langid.is (judged Langid c.args.text.now text_of_identifier c.try_from_utf8.result c.outcome.result (identifier_read c.args.text.now c.try_from_utf8.result c.try_from_utf8.ensures.reads) c.outcome.ensures)
-
-pub returns-in-Locale : goal.returns-in-Locale
-returns-in-Locale c =
-    rw c.in-Locale.is (judged Locale c.args.text.now text_of_locale c.try_from_utf8-in-Locale.result c.outcome-in-Locale.result (locale_read c.args.text.now c.try_from_utf8-in-Locale.result c.try_from_utf8-in-Locale.ensures.reads c.try_from_utf8-in-Locale.ensures.memory) c.outcome-in-Locale.ensures)
-
-pub returns-in-Data : goal.returns-in-Data
-returns-in-Data c =
-    rw c.in-Data.is (judged Data c.args.text.now text_of_data c.try_from_utf8-in-Data.result c.outcome-in-Data.result (data_read c.args.text.now c.try_from_utf8-in-Data.result c.try_from_utf8-in-Data.ensures.reads c.try_from_utf8-in-Data.ensures.memory) c.outcome-in-Data.ensures)
+pub returns-in-Some : goal.returns-in-Some
+returns-in-Some c =
+    (identifier_text (value_of c.in-Some.field-0), plain_normal c.args.mode c.args.text.now c.in-Some.field-0 c.in-Some.ensures)
