@@ -1,10 +1,10 @@
 -- What a locale is as a data locale, and what formatters read of it.
-use Rattle.std.specs.Prelude.{ℕ, [], Option, option_map, option_and_then, slice_get, unwrap_or}
+use Rattle.std.specs.Prelude.{ℕ, [], Option, codes, option_map, option_and_then, slice_get, unwrap_or}
 use Rattle.iloc_spec_grammar.specs.Syntax.{Text, join}
 use Rattle.iloc_spec_grammar.specs.Meaning.{Locale}
 use Rattle.iloc_spec_preferences.specs.DataLocales.{DataLocale}
 use Rattle.iloc_spec_preferences.specs.Preferences.{language_priority, preferences, read_keyword, region_priority}
-use Rattle.iloc_spec_preferences.specs.Keywords.{CalendarAlgorithm, HourCycle, enum_reads, enum_words, key, nu, subtag_reads, variants}
+use Rattle.iloc_spec_preferences.specs.Keywords.{CalendarAlgorithm, HourCycle, enum_reads, enum_words, key, single, variants}
 use Rattle.iloc_handles.specs.declared.data.Priority.{Priority}
 use Rattle.iloc_handles.specs.declared.data.Priority.TheVariants.{Language, Region}
 
@@ -29,4 +29,4 @@ hours_text M = option_map (λ v. unwrap_or (slice_get (variants HourCycle) v.0) 
 
 -- the numbering system that `nu` reads as
 abbrev pub numbering_text : Locale → Option Text
-numbering_text M = read_keyword subtag_reads nu M
+numbering_text M = read_keyword single (codes "nu") M

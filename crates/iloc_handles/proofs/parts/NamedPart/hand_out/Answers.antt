@@ -13,7 +13,7 @@ returns-in-Some-hour_cycle c =
     let M = value_of c.args.locale.now in
     let out = c.hand_out-in-Some-hour_cycle in
     let word = λ (v : EnumValue). unwrap_or (slice_get (variants HourCycle) v.0) [] in
-    let read = ap (λ p. option_map word p.hour_cycle) c.from-in-HourCycle.ensures in
+    let read = ap (λ p. option_map word p.time.hour_cycle) c.from-in-HourCycle.ensures in
     let told = ap (λ w. Some w) c.as_str-in-Some-hour_cycle.ensures
     ∙ sym (ap (λ h. option_map word (option_map hours_value h)) c.in-Some-hour_cycle.is) ∙ read in
     subst (λ part. Tells (text_of_part part M) c.args.buffer.now out.new.buffer out.new.needed out.result)
