@@ -1,7 +1,7 @@
 //! Subtags, in eleven kinds, and the pieces of a text, from which they are parsed one at a time.
 //!
 //! A subtag is kept in the normal case of its kind, in place, and is seen by contracts as its text. What each kind
-//! takes, and its normal case, are the definitions of `iloc_spec_grammar` (specs/Words.antt), which restate the subtags
+//! takes, and its normal case, are definitions of `iloc_spec_grammar` (specs/Syntax.antt), which restate the subtags
 //! of UTS #35, section 3. Every call returns exactly what they say, and none allocates.
 //!
 //! There is one generic struct, `WordOf<K, N>`, over a kind `K` and its greatest length `N`. The kinds' names, such as
