@@ -413,10 +413,10 @@ ICU_LOCALE_TAKES(1, 2, 4) ICU_LOCALE_TELLS
 icu_locale_status icu_locale_data_cmp(icu_locale_t *locale, icu_locale_t *other, icu_locale_priority priority,
     int8_t *order) ICU_LOCALE_NOEXCEPT;
 
-/* What formatters read: the calendar of the keyword ca, the hour cycle of hc and the numbering system of nu. The text
- * is that of the value which the keyword stands for: islamic-civil of ca-islamicc. NOT_FOUND if the keyword is absent,
- * or if its value is none of the type: a calendar of UTS #35 for ca; h12, h23, h11, c12 or c24 for hc; one subtag for
- * nu. */
+/* What formatters take from a locale: the calendar of the keyword ca, the hour cycle of hc and the numbering system
+ * of nu. The text is that of the value which the keyword stands for: islamic-civil of ca-islamicc. NOT_FOUND if the
+ * keyword is absent, or if its value is none of the type: a calendar of UTS #35 for ca; h12, h23, h11, c12 or c24 for
+ * hc; one subtag for nu. */
 ICU_LOCALE_TAKES(1, 4) ICU_LOCALE_TELLS
 icu_locale_status icu_locale_get_calendar_algorithm(icu_locale_t *locale, uint8_t *buffer, size_t room,
     size_t *needed) ICU_LOCALE_NOEXCEPT;

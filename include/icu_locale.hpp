@@ -399,7 +399,7 @@ public:
         return order;
     }
 
-    /* What formatters read of the keywords ca, hc and nu: islamic-civil of en-u-ca-islamicc. */
+    /* What formatters take from the keywords ca, hc and nu: islamic-civil from en-u-ca-islamicc. */
     std::optional<std::string> calendar_algorithm() const { return read(icu_locale_get_calendar_algorithm); }
     std::optional<std::string> hour_cycle() const { return read(icu_locale_get_hour_cycle); }
     std::optional<std::string> numbering_system() const { return read(icu_locale_get_numbering_system); }

@@ -453,7 +453,7 @@ static void see_data_locales(icu_locale_t *locale)
     }
 }
 
-/* What formatters read: a value that is set in another locale is read there as itself. */
+/* What formatters take from a locale: a value that is set in another locale is parsed there as itself. */
 static void see_preferences(icu_locale_t *locale)
 {
     static const reading calls[] = {icu_locale_get_calendar_algorithm, icu_locale_get_hour_cycle, icu_locale_get_numbering_system};

@@ -445,7 +445,7 @@ static void try_data(void)
     icu_locale_free(&other);
 }
 
-/* What formatters read of the keywords of a text. */
+/* What formatters take from the keywords of a text. */
 static int formats(const char *text, const char *calendar, const char *hours, const char *numbering)
 {
     icu_locale_t locale = ICU_LOCALE_UND;

@@ -464,7 +464,7 @@ class Locale:
 
     @property
     def calendar_algorithm(self) -> Optional[str]:
-        """The calendar of the keyword ca, as formatters read it, if it names one.
+        """The calendar of the keyword ca, as formatters parse it, if it names one.
 
         >>> Locale("en-u-ca-islamicc").calendar_algorithm, Locale("en-u-ca-foo").calendar_algorithm
         ('islamic-civil', None)

@@ -443,7 +443,7 @@ impl Locale {
         order.cmp(&0)
     }
 
-    /// The calendar of the keyword `ca`, as formatters read it: `islamic-civil` of `en-u-ca-islamicc`.
+    /// The calendar of the keyword `ca`, as formatters parse it: `islamic-civil` from `en-u-ca-islamicc`.
     pub fn calendar_algorithm(&self) -> Option<Value> {
         self.preference(sys::icu_locale_get_calendar_algorithm)
     }

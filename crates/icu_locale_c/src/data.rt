@@ -1,4 +1,4 @@
-//! Calls on the data locale of a locale, and on what formatters read of it.
+//! Calls on the data locale of a locale, and on the preferences that formatters take from it.
 ghost use Rattle.std.specs.Prelude.{◌≡◌, ◌<◌};
 ghost use Rattle.std.specs.Ordering.{nat_cmp};
 ghost use Rattle.std.specs.Cmp.Lexicographic.{slice_cmp};
