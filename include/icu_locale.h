@@ -7,7 +7,8 @@
  * (`bindings/build` makes both; docs/BINDINGS.md shows a whole program).
  *
  * A text is a pointer to bytes and their number. The bytes need no encoding and no closing zero. If the number is 0,
- * the pointer may be null: the text is empty. The same holds of a buffer and its room.
+ * the pointer may be null: the text is empty. The same holds of a buffer and its room. This is tested at each call, by
+ * bindings/c/nothing.c, and not proved: the proofs speak of pointers that are not null.
  *
  * The code uses no instruction of SSE3 or later, unless it was made for a newer processor (`bindings/build --cpu`). It has
  * no unwind tables, because the toolchain writes none: a backtrace stops in a call, and no exception passes through one.
@@ -52,7 +53,7 @@
 extern "C" {
 #endif
 
-/* Changes with each change of this header. icu_locale_version gives that of the library that is linked or loaded. */
+/* Changes whenever a declaration here changes. icu_locale_version gives that of the library that is linked or loaded. */
 #define ICU_LOCALE_VERSION 4
 
 /* How a text is parsed. Any other number is refused with ICU_LOCALE_UNKNOWN_NUMBER. */

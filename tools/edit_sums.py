@@ -14,12 +14,25 @@ ABOUT = """\
 # these only by a limit of the prover or by a name that went, toolchain
 """
 WRITING = threading.Lock()
+# A character or a string, or a comment to the end of its line. (A name of antt may hold --, but no blank before and after it.)
+RUST = re.compile(rb"""'(?:\\.|[^'\\\n])'|"(?:\\.|[^"\\])*"|//[^\n]*""", re.S)
+ANTT = re.compile(rb'"[^"\n]*"|(?<!\S)--(?!\S)[^\n]*')
 EDIT_NAME = re.compile(r"[A-Za-z0-9_-][A-Za-z0-9_.-]*\.edit")
 
 
 def digest(*given):
     parts = [it if isinstance(it, bytes) else it.encode() for it in given]
     return hashlib.sha256(b"".join(b"%d:%b" % (len(it), it) for it in parts)).hexdigest()[:24]
+
+
+def without_comments(name, text):
+    """Returns the text without its comments, blank lines and blanks at the ends of lines: no verdict rests on
+    these."""
+    form = RUST if name.endswith(".rt") else ANTT if name.endswith(".antt") else None
+    if not form:
+        return text
+    kept = form.sub(lambda found: found[0] if found[0][:1] in (b"'", b'"') else b"", text)
+    return b"\n".join(it.rstrip() for it in kept.split(b"\n") if it.strip())
 
 
 def files_of(folder, *below):
@@ -50,10 +63,10 @@ def interface(crate):
     parts = []
     for path, blanked in sorted(rtlib.blanked(crate.folder).items()):
         text = without_bodies(path, blanked) if path.endswith(".rt") else read(path)
-        parts += [os.path.relpath(path, crate.folder), text]
+        parts += [os.path.relpath(path, crate.folder), without_comments(path, text)]
     proofs = f"{crate.folder}/proofs"
     for name in sorted(os.listdir(proofs)) if os.path.isdir(proofs) else ():
-        parts += [name, read(f"{proofs}/{name}")]
+        parts += [name, without_comments(name, read(f"{proofs}/{name}"))]
     return digest(*parts)
 
 
@@ -61,7 +74,7 @@ def sum_of(crate):
     """Returns a sum of what a verdict on an edit of the crate rests on, but the edit."""
     own = []
     for path in files_of(crate.folder, "src", "specs", "proofs"):
-        own += [os.path.relpath(path, crate.folder), read(path)]
+        own += [os.path.relpath(path, crate.folder), without_comments(path, read(path))]
     below = sorted(f"{it.name} {interface(it)}" for it in crate.below())
     return digest(LOGIC, repr(crate.of_kit), *below, *own)
 

@@ -17,7 +17,7 @@ import textwrap
 import trusted_graph as graph
 from common import without_prefix
 
-HEADLINE = ("Locale::try_from_utf8", "Locale::normalize_utf8", "Locale::is_well_formed", "Locale::write_to")
+HEADLINE = ("Locale::try_from_utf8", "Locale::normalize_utf8", "Locale::is_well_formed", "Locale::write_to_string")
 ON_MEMORY = ("memory", "succeeds")
 PAGE = "docs/REVIEW.md"
 PART = re.compile(r"<!-- trusted: (.+?) -->\n(.*?)<!-- /trusted -->", re.S)
@@ -95,7 +95,7 @@ class Page:
             (f"meaning and fault of `Locale::try_from_utf8`: {named}", without_memory(self.sources, [(meaning[0], kept)])),
             ("the headline without its clauses on memory: the ten stops", self.plain),
             ("the headline with every clause", self.whole),
-            ("every contract that `icu_locale_core` passes on", graph.closure_of(self.sources, graph.public(self.sources))),
+            ("every contract that `icu_locale_core` re-exports", graph.closure_of(self.sources, graph.public(self.sources))),
         ]
         lines = [
             "| Contracts | Definitions | Lines | Files | Types | Members | Their lines |",

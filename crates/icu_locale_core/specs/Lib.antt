@@ -42,7 +42,7 @@ pub use Rattle.iloc_data.specs.Reads as DataReads
 pub use Rattle.iloc_data.specs.DataValue
 pub use Rattle.iloc_data.specs.DataEquality
 pub use Rattle.iloc_json.specs.Json
-pub use Rattle.iloc_subtags.specs.Carrying
+pub use Rattle.iloc_json.specs.Carrying
 pub use Rattle.iloc_lines.specs.Output as ProgramOutput
 pub use Rattle.iloc_data.specs.FormatterValues as FormatterValues
 pub use Rattle.iloc_enum_keywords.specs.declared.hour_cycle.HourCycle as HourCycles

@@ -126,7 +126,7 @@ pub mod extensions {
     /// The transform extension: an identifier and fields.
     pub mod transform {
         pub use crate::together::transform_extensions as together;
-        pub use iloc_transform::field_laws::{
+        pub use iloc_fields::field_laws::{
             equality as fields_equality, hashes as fields_hashes, orders,
         };
         pub use iloc_transform::{Fields, Key, Transform, Value, equality, hashes};
@@ -197,7 +197,7 @@ pub mod json {
 /// Preferences of formatters, as users define them, and old raw forms of languages, moved to the new ones.
 pub mod bench {
     pub use iloc_data::{FormatPreferences, TimePreferences};
-    pub use iloc_subtags::{CarryError, carry_v1};
+    pub use iloc_json::{CarryError, carry_v1};
 }
 
 /// The library of the program `locale_normal`.

@@ -1,4 +1,6 @@
 pub mod AnswerLemmas
+pub mod CopyLemmas
 pub mod Lengths
 pub mod Bounds
 pub mod PlainLemmas
+pub mod ToldLemmas

@@ -1,10 +1,12 @@
 //! What is answered of a text.
-ghost use Rattle.std.specs.Prelude.{◌≡◌, ◌↔◌, Some, MatchResult};
+ghost use Rattle.std.specs.Prelude.{◌≡◌, ◌↔◌, ◌+◌, ◌<◌, ◌≤◌, length, Some, IfNone, IfOk, IfSome, MatchResult};
 ghost use Rattle.iloc_calls.specs.Answers.{HandsOut, JudgedAs, NormalizesTo};
-ghost use Rattle.iloc_calls.specs.Numbers.{mode_number, status_of};
+ghost use Rattle.iloc_calls.specs.Numbers.{EndsAs, mode_number, status_of};
+ghost use Rattle.iloc_lines.specs.declared.Mode.{Mode};
 
-use crate::filling::{hand_out, hand_out_plain};
+use crate::filling::{hand_out, hand_out_fitting, hand_out_ordered, hand_out_plain};
 use crate::status::Status;
+use crate::told::{MOST, Told, tell, window_of};
 use iloc_data::DataLocale;
 use iloc_langid::LanguageIdentifier;
 use iloc_locale::Locale;
@@ -42,7 +44,22 @@ pub(crate) fn judge(alloc: Global, mode: Mode, text: &[u8]) -> Status
 {
     match read_plain_text(text) {
         Some(_) => Status::Done,
-        None => judge_parsed(alloc, mode, text),
+        None => judge_other(alloc, mode, text),
+    }
+}
+
+// The same of a text that is not plain.
+#[inline(never)]
+fn judge_other(alloc: Global, mode: Mode, text: &[u8]) -> Status
+    ensures { JudgedAs mode text.now result }
+{
+    if text.len() > MOST {
+        return judge_parsed(alloc, mode, text);
+    }
+    match tell(mode, &window_of(text), text.len()) {
+        Told::Ordered(_) => Status::Done,
+        Told::Refused(refusal) => Status::from(refusal),
+        Told::Nothing => judge_parsed(alloc, mode, text),
     }
 }
 
@@ -58,38 +75,125 @@ fn judge_parsed(alloc: Global, mode: Mode, text: &[u8]) -> Status
     }
 }
 
-// Hands out the text of what was read, or tells why there is none.
-fn answer<T: Writeable + Drop>(
-    read: Result<T, ParseError>,
+// Hands out nothing, as the text is refused.
+fn refuse(refusal: &ParseError, needed: &mut usize) -> Status
+    ensures status { result ≡ status_of refusal.now }
+    ensures needed { needed.new ≡ 0 }
+{
+    *needed = 0;
+    Status::of_refusal(refusal)
+}
+
+// Hands out the text of what was read, or tells why there is none. The text has `most` bytes at most.
+#[inline(always)]
+fn answer<T: Writeable>(
+    read: &Result<T, ParseError>,
+    most: usize,
     buffer: &mut [u8],
     needed: &mut usize,
 ) -> Status
-    ensures { MatchResult read
+    requires { IfOk read.now (λ value. length (T.text value) ≤ most) }
+    ensures { MatchResult read.now
         (λ value. HandsOut (T.text value) buffer.old buffer.new needed.new result)
         (λ refusal. (result ≡ status_of refusal) × (needed.new ≡ 0) × (buffer.new ≡ buffer.old)) }
 {
     match read {
-        Ok(value) => hand_out(&value, buffer, needed),
-        Err(refusal) => {
-            *needed = 0;
-            Status::from(refusal)
-        }
+        Ok(value) if most <= buffer.len() => hand_out_fitting(value, buffer, needed),
+        Ok(value) => hand_out(value, buffer, needed),
+        Err(refusal) => refuse(refusal, needed),
     }
 }
 
-/// Hands out the normal text of what the text means.
+// Hands out the normal text of a plain text, whose first and last `width` bytes are all of it. If it is not
+// plain, nothing is written to the buffer.
+#[inline(always)]
+fn normalize_plain(
+    width: usize,
+    text: &[u8],
+    buffer: &mut [u8],
+    needed: &mut usize,
+) -> Option<Status>
+    requires wide { width ≤ length text.now }
+    requires few { length text.now ≤ width + width }
+    ensures some { (mode : Mode) → IfSome result
+        (NormalizesTo mode text.now buffer.old buffer.new needed.new) }
+    ensures none { IfNone result (buffer.new ≡ buffer.old) }
+{
+    match read_plain_text(text) {
+        Some(plain) => Some(hand_out_plain(width, &plain, buffer, needed)),
+        None => None,
+    }
+}
+
+// The same of a text of less than four bytes.
+#[inline(always)]
+fn normalize_tiny(text: &[u8], buffer: &mut [u8], needed: &mut usize) -> Option<Status>
+    requires { length text.now < 4 }
+    ensures some { (mode : Mode) → IfSome result
+        (NormalizesTo mode text.now buffer.old buffer.new needed.new) }
+    ensures none { IfNone result (buffer.new ≡ buffer.old) }
+{
+    if text.len() < 2 {
+        return None;
+    }
+    normalize_plain(2, text, buffer, needed)
+}
+
+// The same of any text, by its length.
+#[inline(always)]
+fn normalize_at_once(text: &[u8], buffer: &mut [u8], needed: &mut usize) -> Option<Status>
+    ensures some { (mode : Mode) → IfSome result
+        (NormalizesTo mode text.now buffer.old buffer.new needed.new) }
+    ensures none { IfNone result (buffer.new ≡ buffer.old) }
+{
+    let len = text.len();
+    if len < 4 {
+        return normalize_tiny(text, buffer, needed);
+    }
+    if len < 8 {
+        return normalize_plain(4, text, buffer, needed);
+    }
+    if len > 16 {
+        return None;
+    }
+    normalize_plain(8, text, buffer, needed)
+}
+
+/// Hands out the normal text of what the text means, and gives the number of the status.
+#[inline(always)]
 pub(crate) fn normalize(
     alloc: Global,
     mode: Mode,
     text: &[u8],
     buffer: &mut [u8],
     needed: &mut usize,
-) -> Status
-    ensures { NormalizesTo mode text.now buffer.old buffer.new needed.new result }
+) -> u32
+    ensures { EndsAs (NormalizesTo mode text.now buffer.old buffer.new needed.new) result }
 {
-    match read_plain_text(text) {
-        Some(plain) => hand_out_plain(&plain, buffer, needed),
-        None => normalize_parsed(alloc, mode, text, buffer, needed),
+    match normalize_at_once(text, buffer, needed) {
+        Some(status) => status.number(),
+        None => normalize_other(alloc, mode, text, buffer, needed),
+    }
+}
+
+// The same of a text that is not plain.
+#[inline(never)]
+fn normalize_other(
+    alloc: Global,
+    mode: Mode,
+    text: &[u8],
+    buffer: &mut [u8],
+    needed: &mut usize,
+) -> u32
+    ensures { EndsAs (NormalizesTo mode text.now buffer.old buffer.new needed.new) result }
+{
+    if text.len() > MOST {
+        return normalize_parsed(alloc, mode, text, buffer, needed).number();
+    }
+    match tell(mode, &window_of(text), text.len()) {
+        Told::Ordered(line) => hand_out_ordered(&line, buffer, needed).number(),
+        Told::Refused(refusal) => refuse(&refusal, needed).number(),
+        Told::Nothing => normalize_parsed(alloc, mode, text, buffer, needed).number(),
     }
 }
 
@@ -106,11 +210,22 @@ fn normalize_parsed(
 {
     match mode {
         Mode::Langid => answer(
-            LanguageIdentifier::try_from_utf8(alloc, text),
+            &LanguageIdentifier::try_from_utf8(alloc, text),
+            text.len(),
             buffer,
             needed,
         ),
-        Mode::Locale => answer(Locale::try_from_utf8(alloc, text), buffer, needed),
-        Mode::Data => answer(DataLocale::try_from_utf8(text), buffer, needed),
+        Mode::Locale => answer(
+            &Locale::try_from_utf8(alloc, text),
+            text.len(),
+            buffer,
+            needed,
+        ),
+        Mode::Data => answer(
+            &DataLocale::try_from_utf8(text),
+            text.len() + 4,
+            buffer,
+            needed,
+        ),
     }
 }

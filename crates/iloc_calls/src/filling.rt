@@ -1,13 +1,15 @@
 //! Handing out texts in a caller's buffer.
-ghost use Rattle.std.specs.Prelude.{◌≡◌, option_map};
+ghost use Rattle.std.specs.Prelude.{◌≡◌, ◌+◌, ◌≤◌, length, option_map};
 ghost use Rattle.std.specs.Option.{option_copied};
 ghost use Rattle.iloc_spec_grammar.specs.Values.{identifier_text};
+ghost use Rattle.iloc_plain.specs.Ordered.{IsStored, text_of};
 ghost use Rattle.iloc_plain.specs.Plain.{AreWords, value_of};
 ghost use Rattle.iloc_calls.specs.declared.status.Status.{Status};
 ghost use Rattle.iloc_calls.specs.Answers.{HandsOut, Tells};
 
+use crate::copying::{copy_all, copy_ends, copy_lower};
 use crate::status::Status;
-use iloc_plain::Plain;
+use iloc_plain::{Ordered, Plain};
 use iloc_writeable::{Sink, Writeable};
 use std::fmt;
 
@@ -30,7 +32,7 @@ impl<'a> Sink for Filling<'a> {
         let bytes = text.as_bytes();
         match self.count.checked_add(bytes.len()) {
             Some(end) if end <= self.buffer.len() => {
-                self.buffer[self.count..end].copy_from_slice(bytes);
+                copy_all(bytes, &mut self.buffer[self.count..end]);
                 self.count = end;
                 Ok(())
             }
@@ -63,21 +65,41 @@ pub fn hand_out<W: Writeable>(value: &W, buffer: &mut [u8], needed: &mut usize) 
     let hint = value.writeable_length_hint();
     *needed = hint.0;
     match hint.1 {
-        Some(length) if length <= buffer.len() => {
-            let mut filling = Filling { buffer, count: 0 };
-            match value.write_to(&mut filling) {
-                Ok(()) => Status::Done,
-                Err(_) => unreachable!(),
-            }
-        }
+        Some(length) if length <= buffer.len() => hand_out_fitting(value, buffer, needed),
         _ => Status::BufferTooSmall,
     }
 }
 
-/// The same of a plain identifier.
+/// The same of a text that fits. Its length is not asked for first.
+pub(crate) fn hand_out_fitting<W: Writeable>(
+    value: &W,
+    buffer: &mut [u8],
+    needed: &mut usize,
+) -> Status
+    requires { length (W.text value.now) ≤ length buffer.old }
+    ensures { HandsOut (W.text value.now) buffer.old buffer.new needed.new result }
+{
+    let mut filling = Filling { buffer, count: 0 };
+    match value.write_to(&mut filling) {
+        Ok(()) => {
+            *needed = filling.count;
+            Status::Done
+        }
+        Err(_) => unreachable!(),
+    }
+}
+
+/// The same of a plain identifier, whose first and last `width` bytes are all of it.
 #[inline(always)]
-pub(crate) fn hand_out_plain(plain: &Plain, buffer: &mut [u8], needed: &mut usize) -> Status
-    requires { AreWords plain.now }
+pub(crate) fn hand_out_plain(
+    width: usize,
+    plain: &Plain,
+    buffer: &mut [u8],
+    needed: &mut usize,
+) -> Status
+    requires words { AreWords plain.now }
+    requires wide { width ≤ plain.now.len }
+    requires few { plain.now.len ≤ width + width }
     ensures { HandsOut (identifier_text (value_of plain.now)) buffer.old buffer.new needed.new
         result }
 {
@@ -86,7 +108,30 @@ pub(crate) fn hand_out_plain(plain: &Plain, buffer: &mut [u8], needed: &mut usiz
         return Status::BufferTooSmall;
     }
     let bytes = plain.bytes;
-    buffer[..plain.len].copy_from_slice(&bytes.as_array()[..plain.len]);
+    copy_ends(
+        width,
+        &bytes.as_array()[..plain.len],
+        &mut buffer[..plain.len],
+    );
+    Status::Done
+}
+
+/// The same of a text whose normal text is its own but for the case of letters.
+#[tactic(auto, using(crate::proofs::CopyLemmas::ordered_length, crate::proofs::CopyLemmas::ordered_needed))]
+#[inline(always)]
+pub(crate) fn hand_out_ordered(line: &Ordered<'_>, buffer: &mut [u8], needed: &mut usize) -> Status
+    requires { IsStored line.now }
+    ensures { HandsOut (text_of line.now) buffer.old buffer.new needed.new result }
+{
+    let at = line.plain.len;
+    let end = at + line.len;
+    *needed = end;
+    if end > buffer.len() {
+        return Status::BufferTooSmall;
+    }
+    let bytes = line.plain.bytes;
+    copy_all(&bytes.as_array()[..at], &mut buffer[..at]);
+    copy_lower(line.rest, line.len, &mut buffer[at..end]);
     Status::Done
 }
 

@@ -22,15 +22,18 @@ ghost use Rattle.iloc_calls.specs.Numbers.{EndsAs, mode_number, number_of, words
 
 mod answers;
 mod comparing;
+mod copying;
 mod filling;
 mod hashing;
 mod same;
 mod status;
+mod told;
 
 use answers::{judge, mode_of};
 pub use comparing::number;
 pub use filling::{hand_out, hand_out_found, hand_out_none};
 pub use hashing::hash_of_text;
+pub use same::tell_refused;
 pub use status::Status;
 use std::alloc::Global;
 
@@ -52,7 +55,7 @@ pub fn normalize(
         × (needed.new ≡ 0) × (buffer.new ≡ buffer.old) }
 {
     match mode_of(mode) {
-        Some(mode) => answers::normalize(alloc, mode, text, buffer, needed).number(),
+        Some(mode) => answers::normalize(alloc, mode, text, buffer, needed),
         None => {
             *needed = 0;
             Status::UnknownNumber.number()

@@ -11,8 +11,8 @@ use iloc_program::Mode;
 use iloc_subtags::ParseError;
 use std::alloc::Global;
 
-// A refused text means something else, unless memory ran out when it was parsed.
-fn tell_refused(refusal: ParseError, same: &mut u8) -> Status
+/// A refused text means something else, unless memory ran out when it was parsed.
+pub fn tell_refused(refusal: ParseError, same: &mut u8) -> Status
     ensures { RefusedTells refusal same.old same.new result }
 {
     match refusal {

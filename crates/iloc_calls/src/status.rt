@@ -1,8 +1,9 @@
 //! How a call ends.
-ghost use Rattle.std.specs.Prelude.{◌≡◌, ◌↔◌, Some};
+ghost use Rattle.std.specs.Prelude.{◌≡◌, ◌↔◌, Some, MatchResult};
 ghost use Rattle.iloc_calls.specs.Numbers.{number_of, status_of, words_of};
 
 use iloc_subtags::ParseError;
+use std::alloc::AllocError;
 
 /// How a call ends, by its number in the header.
 #[derive(Clone, Copy, Debug, PartialEq, Eq)]
@@ -28,6 +29,29 @@ pub enum Status {
 }
 
 impl Status {
+    /// Done, or out of memory if an allocation was refused.
+    pub fn of_allocation<T: Drop>(made: Result<T, AllocError>) -> Status
+        ensures { MatchResult made (λ _. result ≡ Status.Done) (λ _. result ≡ Status.OutOfMemory) }
+    {
+        match made {
+            Ok(_) => Status::Done,
+            Err(_) => Status::OutOfMemory,
+        }
+    }
+
+    /// The status of the refusal's name.
+    pub(crate) fn of_refusal(refusal: &ParseError) -> Status
+        ensures { result ≡ status_of refusal.now }
+    {
+        match refusal {
+            ParseError::InvalidLanguage => Status::InvalidLanguage,
+            ParseError::InvalidSubtag => Status::InvalidSubtag,
+            ParseError::InvalidExtension => Status::InvalidExtension,
+            ParseError::DuplicatedExtension => Status::DuplicatedExtension,
+            ParseError::OutOfMemory => Status::OutOfMemory,
+        }
+    }
+
     /// The number that the header gives it.
     pub fn number(self) -> u32
         ensures { result ≡ number_of self }
@@ -76,12 +100,6 @@ impl From<ParseError> for Status {
     ghost from_gives = { λ error status. status ≡ status_of error };
 
     fn from(error: ParseError) -> Status {
-        match error {
-            ParseError::InvalidLanguage => Status::InvalidLanguage,
-            ParseError::InvalidSubtag => Status::InvalidSubtag,
-            ParseError::InvalidExtension => Status::InvalidExtension,
-            ParseError::DuplicatedExtension => Status::DuplicatedExtension,
-            ParseError::OutOfMemory => Status::OutOfMemory,
-        }
+        Status::of_refusal(&error)
     }
 }

@@ -9,7 +9,7 @@ use Rattle.iloc_spec_parts.specs.PartValues.{transform_value}
 use Rattle.iloc_spec_parts.specs.Parts.{PrivateText, PrivateTextFault}
 use Rattle.iloc_subtags.specs.Judging.{ExtensionFault, OfIdentifier}
 use Rattle.iloc_langid.specs.Reads.{WantsMemory}
-use Rattle.iloc_transform.specs.ValueReading.{ValueWants}
+use Rattle.iloc_fields.specs.ValueReading.{ValueWants}
 use Rattle.iloc_other.specs.Reading.{PrivateTextWants}
 use Rattle.iloc_handles.specs.Finding.{Changing, Sets, Removes}
 use Rattle.iloc_handles.specs.Pairs.{HasKey, value_at}

@@ -54,10 +54,7 @@ impl<'a> Change for AddAttribute<'a> {
         };
         let attributes = &mut locale.extensions.unicode.attributes;
         match only(alloc, attribute) {
-            Ok(one) => match attributes.extend_from_attributes(alloc, one) {
-                Ok(()) => Status::Done,
-                Err(_) => Status::OutOfMemory,
-            },
+            Ok(one) => Status::of_allocation(attributes.extend_from_attributes(alloc, one)),
             Err(_) => Status::OutOfMemory,
         }
     }
@@ -83,9 +80,8 @@ impl<'a> Change for RemoveAttribute<'a> {
     ghost changes = { λ r. RemovesAttribute r.0.now };
 
     fn apply(&self, alloc: Global, locale: &mut Locale) -> Status {
-        let attribute = match word_of::<AttributeKind, 8>(self.0) {
-            Ok(attribute) => attribute,
-            Err(_) => return Status::NotFound,
+        let Ok(attribute) = word_of::<AttributeKind, 8>(self.0) else {
+            return Status::NotFound;
         };
         let attributes = locale.extensions.unicode.attributes.as_slice();
         let at = match attributes.binary_search(&attribute) {

@@ -52,9 +52,6 @@ impl<'a> Change for SetKeyword<'a> {
             Ok(value) => value,
             Err(refusal) => return Status::from(refusal),
         };
-        match locale.extensions.unicode.keywords.set(alloc, key, value) {
-            Ok(_) => Status::Done,
-            Err(_) => Status::OutOfMemory,
-        }
+        Status::of_allocation(locale.extensions.unicode.keywords.set(alloc, key, value))
     }
 }

@@ -55,10 +55,7 @@ fn extend_unicode(alloc: Global, from: &Locale, locale: &mut Locale) -> Status
     let Ok(unicode) = from.extensions.unicode.clone() else {
         return Status::OutOfMemory;
     };
-    match locale.extensions.unicode.extend(alloc, unicode) {
-        Ok(()) => Status::Done,
-        Err(_) => Status::OutOfMemory,
-    }
+    Status::of_allocation(locale.extensions.unicode.extend(alloc, unicode))
 }
 
 /// Changes the locale by that of the other handle, which stays.

@@ -132,10 +132,7 @@ impl<'a> Change for SetOther<'a> {
 
     fn apply(&self, alloc: Global, locale: &mut Locale) -> Status {
         match read_other(alloc, self.0) {
-            Ok(other) => match put_other(&mut locale.extensions.other, other) {
-                Ok(()) => Status::Done,
-                Err(_) => Status::OutOfMemory,
-            },
+            Ok(other) => Status::of_allocation(put_other(&mut locale.extensions.other, other)),
             Err(refusal) => Status::from(refusal),
         }
     }

@@ -88,10 +88,7 @@ impl<'a> Change for SetField<'a> {
             Ok(value) => value,
             Err(refusal) => return Status::from(refusal),
         };
-        match locale.extensions.transform.fields.set(alloc, key, value) {
-            Ok(_) => Status::Done,
-            Err(_) => Status::OutOfMemory,
-        }
+        Status::of_allocation(locale.extensions.transform.fields.set(alloc, key, value))
     }
 }
 

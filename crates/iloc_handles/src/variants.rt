@@ -32,10 +32,7 @@ impl<'a> Change for AddVariant<'a> {
 
     fn apply(&self, alloc: Global, locale: &mut Locale) -> Status {
         match word_of::<VariantKind, 8>(self.0) {
-            Ok(variant) => match locale.id.variants.push(alloc, variant) {
-                Ok(_) => Status::Done,
-                Err(_) => Status::OutOfMemory,
-            },
+            Ok(variant) => Status::of_allocation(locale.id.variants.push(alloc, variant)),
             Err(refusal) => Status::from(refusal),
         }
     }

@@ -5,16 +5,15 @@ ghost use Rattle.std.specs.Cmp.Lexicographic.{slice_cmp};
 ghost use Rattle.iloc_spec_grammar.specs.Values.{IsWellFormed, text as text_of};
 ghost use Rattle.iloc_spec_orders.specs.Orders.{locale_cmp};
 ghost use Rattle.iloc_locale.specs.LocaleReading.{unknown_locale, value_of};
-ghost use Rattle.iloc_calls.specs.Answers.{RefusedTells, order_number};
+ghost use Rattle.iloc_calls.specs.Answers.{order_number};
 ghost use Rattle.iloc_calls.specs.Hashing.{hash_of};
 ghost use Rattle.iloc_handles.specs.Held.{meaning_of};
 ghost use Rattle.iloc_handles.specs.Whole.{ParsesTo, TellsMeant};
 
 use crate::asking::{Change, Question, ask};
 use crate::handle::{Handle, is_und};
-use iloc_calls::{Status, hash_of_text, number};
+use iloc_calls::{Status, hash_of_text, number, tell_refused};
 use iloc_locale::Locale;
-use iloc_subtags::ParseError;
 use std::alloc::Global;
 use std::cmp::Ordering;
 
@@ -96,7 +95,7 @@ pub fn order_of(alloc: Global, handle: &mut Handle, other: &mut Handle) -> Order
     }
 }
 
-//// Whether two locales are equal.
+/// Whether two locales are equal.
 pub fn eq(alloc: Global, handle: &mut Handle, other: &mut Handle) -> bool
     ensures same { handle.new.value ≡ handle.old.value }
     ensures same_other { other.new.value ≡ other.old.value }
@@ -106,7 +105,7 @@ pub fn eq(alloc: Global, handle: &mut Handle, other: &mut Handle) -> bool
     order_of(alloc, handle, other).is_eq()
 }
 
-// The byte order of the normal form against other bytes, as -1, 0 or 1.
+/// The byte order of the normal form against other bytes, as -1, 0 or 1.
 #[derive(Drop)]
 pub struct AgainstBytes<'a>(pub &'a [u8]);
 
@@ -118,19 +117,6 @@ impl<'a> Question for AgainstBytes<'a> {
 
     fn ask(&self, locale: &Locale) -> i8 {
         number(locale.strict_cmp(self.0))
-    }
-}
-
-// A refused text means no locale, unless memory was wanted to parse it.
-fn tell_refused(refusal: ParseError, same: &mut u8) -> Status
-    ensures { RefusedTells refusal same.old same.new result }
-{
-    match refusal {
-        ParseError::OutOfMemory => Status::OutOfMemory,
-        _ => {
-            *same = 0;
-            Status::Done
-        }
     }
 }
 

@@ -1,6 +1,7 @@
-//! JSON strings of texts: subtags, identifiers and locales as values of `serde_json`.
+//! Stored forms. JSON strings of texts: subtags, identifiers and locales as values of `serde_json`; and languages
+//! stored by version 1, which `carry_v1` converts.
 //!
-//! It promises of all of them at once (`JsonText`) that `to_json` is the JSON string of the printed text, and that
+//! It promises of all texts at once (`JsonText`) that `to_json` is the JSON string of the printed text, and that
 //! `from_json` parses a string as its text, and refuses anything else; and that what `to_json` returns parses
 //! back to the same value if the text does, unless memory runs out: subtags and identifiers always, locales if
 //! they are well-formed.
@@ -8,10 +9,14 @@
 //! It stands on the printing and the parsers of `iloc_subtags`, `iloc_langid` and `iloc_locale`.
 #![tactic(auto)]
 
+pub mod carry;
+pub mod carry_error;
 pub mod errors;
 pub mod json_text;
 pub mod text_value;
 
+pub use carry::carry_v1;
+pub use carry_error::CarryError;
 pub use errors::JsonError;
 pub use json_text::JsonText;
 pub use text_value::TextValue;

@@ -1,5 +1,7 @@
 -- The normal text of an identifier.
-use Rattle.std.proofs.Common.{◌≡◌, inl, inr, Err, ℕ, false, true, List, length, sym, ap, ◌∙◌, subst, true≢false}
+use Rattle.std.proofs.Common.{◌≡◌, ◌↔◌, inl, inr, Ok, Err, ℕ, false, true, List, length, sym, ap, ◌∙◌, subst, true≢false}
+use Rattle.std.specs.Cow.{cow_str_bytes}
+use Rattle.std.specs.declared.borrow.CowStr.{CowStr}
 use Rattle.iloc_spec_grammar.specs.Syntax.{pieces, languages, Identifier}
 use Rattle.iloc_spec_grammar.specs.Meaning.{IdentifierMeans}
 use Rattle.iloc_spec_grammar.specs.Values.{identifier_text, IdentifierChain}
@@ -8,7 +10,9 @@ use Rattle.iloc_spec_grammar.proofs.IdentifierTexts.{identifier_means_again, sam
 use Rattle.iloc_subtags.specs.declared.parse_error.ParseError.{ParseError}
 use Rattle.iloc_subtags.specs.declared.parse_error.ParseError.TheVariants.{InvalidLanguage, InvalidSubtag, InvalidExtension, DuplicatedExtension, OutOfMemory}
 use Rattle.iloc_langid.specs.Reads.{ReadsAs}
+use Rattle.iloc_writeable.specs.Writing.{IsLent}
 use Rattle.iloc_langid.specs.Normalizing.{IsNormalizedFrom, RefusesNormalizing}
+use Rattle.iloc_langid.specs.PlainTexts.{IsNormalOfPlain}
 
 -- the text of the meaning is the normal text
 pub is_normalized : (input : List ℕ) (i : Identifier) (t : List ℕ) → IdentifierMeans languages (pieces input) i → t ≡ identifier_text i → IsNormalizedFrom input t
@@ -35,3 +39,11 @@ refuses t InvalidSubtag h = h
 refuses t InvalidExtension h = h
 refuses t DuplicatedExtension h = h
 refuses t OutOfMemory h = inl h
+
+-- what a plain text is normalised to
+
+pub plain_normal : {Z E : Type 0} (t : List ℕ) (c : CowStr Z) → IsNormalOfPlain {E = E} t (Ok c) → IsNormalizedFrom t (cow_str_bytes c) × (IsLent c ↔ (t ≡ cow_str_bytes c))
+plain_normal t c h = (is_normalized t h.identifier (cow_str_bytes c) h.means h.text, (λ l. h.borrowed.0 l ∙ sym h.text, λ e. h.borrowed.1 (e ∙ h.text)))
+
+pub plain_refused : {Z E : Type 0} (t : List ℕ) (e : E) → IsNormalOfPlain {Z = Z} t (Err e) → RefusesNormalizing t OutOfMemory
+plain_refused t e h = refuses_memory t h.identifier h.means h.succeeds

@@ -7,6 +7,7 @@ ghost use Rattle.iloc_writeable.specs.Writing.{IsLent};
 
 use crate::agreeing::has_variants;
 use crate::identifier::LanguageIdentifier;
+use crate::plain_text::normalize_plain;
 use iloc_subtags::{Language, ParseError, RegionKind, ScriptKind, SubtagIterator, take_word};
 use iloc_writeable::to_string_or_borrow;
 use std::alloc::Global;
@@ -22,6 +23,19 @@ impl LanguageIdentifier {
     /// Normalizing twice is once; texts mean the same exactly if their normal texts are equal; each text
     /// of a meaning is as long; two steps, in case and in the order of variants, lead there.
     pub fn normalize_utf8(alloc: Global, input: &[u8]) -> Result<CowStr<'_, Global>, ParseError>
+        ensures ok { IfOk result (λ text. IsNormalizedFrom input.now (cow_str_bytes text)
+            × (IsLent text ↔ (input.now ≡ cow_str_bytes text))) }
+        ensures err { IfErr result (RefusesNormalizing input.now) }
+    {
+        match normalize_plain(alloc, input) {
+            Some(normal) => Ok(normal?),
+            None => Self::normalize_parsed(alloc, input),
+        }
+    }
+
+    // The same by parsing the text.
+    #[inline(never)]
+    fn normalize_parsed(alloc: Global, input: &[u8]) -> Result<CowStr<'_, Global>, ParseError>
         ensures ok { IfOk result (λ text. IsNormalizedFrom input.now (cow_str_bytes text)
             × (IsLent text ↔ (input.now ≡ cow_str_bytes text))) }
         ensures err { IfErr result (RefusesNormalizing input.now) }

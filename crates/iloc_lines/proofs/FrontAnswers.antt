@@ -38,7 +38,7 @@ langid_refused t l more =
     sym (only_answer languages_table OfIdentifiers t (refusal_text InvalidSubtag)
     (no_identifier (not_an_identifier l (λ s. more (ap after_front s.2 ∙ after_front-pieces s.0 s.1.words)))))
 
-same_first : (ps : List (List ℕ)) → first_piece ps ≡ first_piece (head ps)
+pub same_first : (ps : List (List ℕ)) → first_piece ps ≡ first_piece (head ps)
 same_first [] = refl
 same_first (p ∷ ps) = refl
 
@@ -131,7 +131,7 @@ unfolding outputs.line_answer data_result
 data_refused t b bs l e other fault =
     ap (λ r. outputs.text_or_refusal data_text (data_of_result r)) (small_refused t b bs l e other fault)
 
-no_u : (b : ℕ × List (List ℕ)) (bs : List (ℕ × List (List ℕ))) → is_u b.0 ≡ false → is_small_block b bs ≡ false
+pub no_u : (b : ℕ × List (List ℕ)) (bs : List (ℕ × List (List ℕ))) → is_u b.0 ≡ false → is_small_block b bs ≡ false
 no_u b [] e = ap (λ (u : Bool). u && has_small_keyword b.1) e
 no_u b (d ∷ bs) e = refl
 
@@ -140,7 +140,7 @@ unfolding block_fault
 other_fault b letter e = rw (letter, e) refl
 
 -- the blocks of the text begin with the one that was told
-block_told : (t : List ℕ) (b : Block) → BeginsWell t → GoesOn (after_region (pieces t)) b
+pub block_told : (t : List ℕ) (b : Block) → BeginsWell t → GoesOn (after_region (pieces t)) b
     → (qs : List (List ℕ)) × (bs : List (ℕ × List (List ℕ))) × (tail_blocks (pieces t) ≡ (get_or b.window.now 0 0, qs) ∷ bs)
 unfolding after_front
 block_told t b l g = at_rest g.singleton

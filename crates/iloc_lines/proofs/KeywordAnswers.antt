@@ -5,20 +5,25 @@ use Rattle.std.specs.Char.{is_ascii_alphanumeric, to_ascii_lowercase}
 use Rattle.std.specs.List.{list_all}
 use Rattle.std.proofs.lemmas.Bool.{cases_Bool, true≢false}
 use Rattle.std.proofs.lemmas.Bool.Decides.{nat_tests}
-use Rattle.iloc_spec_grammar.specs.Syntax.{pieces, Kind, Language, Script, Region, UnicodeKey, Attribute, is_word, IsWord, is_same, is_true, languages, lower, block_pieces, is_one_byte, front, blocks, head, tail_blocks, first_piece}
+use Rattle.iloc_spec_grammar.specs.Syntax.{pieces, Kind, Language, Script, Region, Variant, Identifier, identifier_pieces, HasWords, UnicodeKey, Attribute, is_word, IsWord, is_same, is_true, languages, lower, block_pieces, is_one_byte, front, blocks, head, tail_blocks, first_piece}
 use Rattle.iloc_spec_grammar.specs.Meaning.{normal_values, Fault}
-use Rattle.iloc_spec_grammar.specs.Reading.{skip_first, rest_of, identifier_of, after_region, after_front}
+use Rattle.iloc_spec_grammar.specs.Reading.{past, skip_first, rest_of, identifier_of, after_region, after_front}
 use Rattle.iloc_spec_grammar.specs.Meaning as faults
 use Rattle.iloc_spec_grammar.proofs.WordsLaws.{length-unicode_key}
 use Rattle.iloc_spec_grammar.proofs.MapLaws.{same_is}
 use Rattle.iloc_spec_grammar.proofs.PiecesLaws.{at_pieces}
-use Rattle.iloc_spec_grammar.proofs.Readings.{IsLong, long_script, long_region, long_attribute, not_two, two}
+use Rattle.iloc_spec_grammar.proofs.Readings.{IsLong, long_script, long_region, long_variant, long_attribute, not_two, two}
 use Rattle.iloc_spec_grammar.proofs.FaultLaws.{all_blocks}
-use Rattle.iloc_spec_parts.specs.Small.{SmallLocale, small_identifier}
+use Rattle.iloc_spec_parts.specs.Small.{SmallIdentifier, IsSmallIdentifier, SmallLocale, small_identifier}
+use Rattle.iloc_spec_parts.specs.Small as small
+use Rattle.iloc_spec_grammar.proofs.IdentifierLaws.{identifier_of-pieces}
+use Rattle.iloc_spec_grammar.proofs.RawLaws.{languages_table}
 use Rattle.iloc_spec_parts.specs.SmallComputing.{small_identifier_result, has_small_variants, is_u, is_small_block, has_small_keyword, keyword_read, block_fault, blocks_result, after_identifier, small_result}
 use Rattle.iloc_spec_preferences.proofs.Keys.{sd}
-use Rattle.iloc_spec_preferences.specs.DataLocales.{agreed, made_of, named_subdivision, data_of_small, data_text}
+use Rattle.iloc_spec_preferences.specs.DataLocales.{not_small, agreed, made_of, named_subdivision, data_of_small, data_text}
 use Rattle.iloc_spec_preferences.specs.DataComputing.{data_result, data_of_result}
+use Rattle.iloc_spec_output.specs.Output.{OfDataLocales, no_data_locale}
+use Rattle.iloc_spec_output.proofs.OutputLaws.{only_answer}
 use Rattle.iloc_spec_output.specs.Output as outputs
 use Rattle.iloc_subtags.specs.declared.parse_error.ParseError.TheVariants.{InvalidSubtag, InvalidExtension}
 use Rattle.iloc_plain.specs.Front.{GoesOn, IsFront, rest_of_block}
@@ -26,9 +31,9 @@ use Rattle.iloc_plain.specs.Keyword.{IsKeywordOf, IsSingle, after_singleton}
 use Rattle.iloc_plain.specs.declared.front.Block.{Block}
 use Rattle.iloc_plain.specs.declared.front.Front.TheVariants as fronts
 use Rattle.iloc_plain.specs.declared.keyword.Keyword.TheVariants as keyword
-use Rattle.iloc_lines.specs.Output.{IsRefused}
+use Rattle.iloc_lines.specs.Output.{IsRefused, refusal_text}
 use Rattle.iloc_lines.specs.declared.Mode.TheVariants.{Data}
-use Rattle.iloc_lines.proofs.FrontAnswers.{BeginsWell, blocks_left, data_refused}
+use Rattle.iloc_lines.proofs.FrontAnswers.{same_first, BeginsWell, blocks_left, block_told, no_u, data_refused}
 
 -- ---- the block of `u`
 
@@ -79,6 +84,13 @@ no_values [] e = refl
 no_values (p ∷ qs) e =
     ap (λ (x : Bool). is_word UnicodeKey p && (x && nat_le (length (normal_values qs)) 1)) e ∙ and-false (is_word UnicodeKey p)
 
+many_values : (qs : List (List ℕ)) → 2 ≤ length (normal_values (rest_of qs)) → has_small_keyword qs ≡ false
+many_values [] l = refl
+many_values (p ∷ qs) l =
+    let more : nat_le (length (normal_values qs)) 1 ≡ false = grind (arith, nat_tests) in
+    ap (λ (x : Bool). is_word UnicodeKey p && (list_all (is_word Attribute) qs && x)) more
+    ∙ ap (λ (x : Bool). is_word UnicodeKey p && x) (and-false (list_all (is_word Attribute) qs)) ∙ and-false (is_word UnicodeKey p)
+
 front_first : (qs : List (List ℕ)) → IsLong (first_piece qs) → first_piece (front qs) ≡ first_piece qs
 front_first [] e = refl
 front_first (q ∷ qs) e = ap (λ (o : Bool). first_piece (cond o [] (q ∷ front qs))) e
@@ -126,6 +138,11 @@ values_whole (q ∷ qs) h =
     let long = long_attribute q parts.0 in
     let later = values_whole qs parts.1 in
     (front_long q qs long ∙ ap (λ rs. q ∷ rs) later.0, skip_long q qs long ∙ later.1)
+
+-- a key and its values are before the next block
+whole_front : (qs : List (List ℕ)) → IsWord UnicodeKey (first_piece qs) → list_all (is_word Attribute) (rest_of qs) ≡ true → front qs ≡ qs
+whole_front [] k v = refl
+whole_front (q ∷ qs) k v = front_long q qs (key_long q k) ∙ ap (λ rs. q ∷ rs) (values_whole qs v).0
 
 few_values : (qs : List (List ℕ)) → length qs ≤ 1 → nat_le (length (normal_values qs)) 1 ≡ true
 few_values [] l = refl
@@ -237,6 +254,13 @@ module _ (t : List ℕ) (b : Block) (h : IsFront t (fronts.Block b)) (letter : i
           not_alone [] (ap has_small_keyword whole ∙ no_values rest k.1)
       by (d ∷ bs) e = refl
 
+  pub many_refused : IsKeywordOf rest keyword.Many → IsRefused Data t InvalidSubtag
+  many_refused k =
+      let same = front_first rest (key_long (first_piece rest) k.0) in
+      let attribute : is_word Attribute (first_piece (front rest)) ≡ false = ap (is_word Attribute) same ∙ key_no_attribute (first_piece rest) k.0 in
+      let key : is_word UnicodeKey (first_piece (front rest)) ≡ true = ap (is_word UnicodeKey) same ∙ k.0 in
+      data_refused t block (blocks rest) h.0 there (not_alone (blocks rest) (ap has_small_keyword (whole_front rest k.0 k.1) ∙ many_values rest k.2)) (fault_is block false true letter u attribute key)
+
   -- what is read of a whole text with such a keyword
   single_result : IsTrue b.is_first → Reads rest → (r : SmallLocale) × (small_result languages t ≡ Ok r) × (data_of_small r ≡ None)
   unfolding small_result after_identifier blocks_result
@@ -265,3 +289,68 @@ module _ (t : List ℕ) (b : Block) (h : IsFront t (fronts.Block b)) (letter : i
       let found = single_result alone (single_reads rest s) in
       ap (λ r. outputs.text_or_refusal data_text (data_of_result r)) found.1
       ∙ ap (λ o. outputs.text_or_refusal data_text (ok_or o faults.InvalidExtension)) found.2
+
+-- ---- two variants or more
+
+-- variants and nothing after them have no block
+only_variants : (qs : List (List ℕ)) → past (is_word Variant) qs ≡ [] → front qs ≡ qs
+only_variants [] e = refl
+only_variants (q ∷ qs) e = elim (cases_Bool (is_word Variant q)) [
+  | inl fits ↦ front_long q qs (long_variant q fits) ∙ ap (λ rs. q ∷ rs) (only_variants qs (sym (ap (λ (x : Bool). cond x (past (is_word Variant) qs) (q ∷ qs)) fits) ∙ e))
+  | inr fails ↦ absurd (none (sym (ap (λ (x : Bool). cond x (past (is_word Variant) qs) (q ∷ qs)) fails) ∙ e))
+]
+  where
+    none : ¬ (q ∷ qs ≡ [])
+    none e = cc
+
+variants_of : (i : Identifier) → HasWords languages i → after_region (identifier_pieces i) ≡ i.variants
+unfolding identifier_of
+variants_of i h = ap (λ (j : Identifier). j.variants) (identifier_of-pieces i h)
+
+many_in_head : (t : List ℕ) → past (is_word Variant) (after_region (pieces t)) ≡ [] → 2 ≤ length (after_region (pieces t)) → (r : SmallIdentifier) → ¬ (IsSmallIdentifier languages (head (pieces t)) r)
+many_in_head t = at_pieces (λ qs. past (is_word Variant) (after_region qs) ≡ [] → 2 ≤ length (after_region qs) → (r : SmallIdentifier) → ¬ (IsSmallIdentifier languages (head qs) r)) by t
+  where
+    by : (p : List ℕ) (qs : List (List ℕ)) → past (is_word Variant) (after_region (p ∷ qs)) ≡ [] → 2 ≤ length (after_region (p ∷ qs)) → (r : SmallIdentifier) → ¬ (IsSmallIdentifier languages (p ∷ front qs) r)
+    by p qs e l r s =
+        let same : after_region (p ∷ qs) ≡ s.written.variants =
+        sym (head_region p qs ∙ only_variants (after_region (p ∷ qs)) e) ∙ ap after_region s.spelled ∙ variants_of s.written s.grammatical.words in
+        omega (arith, ap length same, s.one_variant)
+
+pub variants_refused : (t : List ℕ) → IsFront t fronts.Variants → IsRefused Data t InvalidSubtag
+variants_refused t h =
+    sym (only_answer languages_table OfDataLocales t (refusal_text InvalidSubtag)
+    (no_data_locale (not_small (small.bad_head (small.no_identifier
+    (sym (ap (is_word (Language languages)) (same_first (pieces t))) ∙ h.0)
+    (many_in_head t h.1.0 h.1.1))))))
+
+-- ---- a singleton that is no letter and no digit, and no variant before it
+
+no_letter_no_u : (c : ℕ) → is_ascii_alphanumeric c ≡ false → is_u c ≡ false
+no_letter_no_u c e = grind (arith, nat_tests)
+
+unlettered_fault : (b : ℕ × List (List ℕ)) → is_ascii_alphanumeric b.0 ≡ false → block_fault b ≡ faults.InvalidExtension
+unfolding block_fault
+unlettered_fault b e = rw e refl
+
+pub unlettered_refused : (t : List ℕ) (b : Block) → IsFront t (fronts.Block b) → is_ascii_alphanumeric (get_or b.window.now 0 0) ≡ false → IsTrue b.is_first → IsRefused Data t InvalidExtension
+unfolding outputs.line_answer data_result small_result after_identifier blocks_result
+unlettered_refused t b h no_letter alone =
+    ap (λ r. outputs.text_or_refusal data_text (data_of_result r)) (at_pieces Found by t h.0 told.2 before)
+  where
+    told : (qs : List (List ℕ)) × (bs : List (ℕ × List (List ℕ))) × (tail_blocks (pieces t) ≡ (get_or b.window.now 0 0, qs) ∷ bs)
+    told = block_told t b h.0 h.1
+
+    before : front (after_region (pieces t)) ≡ []
+    before = ap front (h.1.first alone)
+        ∙ at_pieces (λ qs. first_piece qs ≡ get_or b.window.now 0 0 ∷ [] → front qs ≡ []) (λ q qs e. ap (λ r. front (r ∷ qs)) e) (rest_of_block b) h.1.singleton
+
+    Found : List (List ℕ) → Type 0
+    Found qs = IsWord (Language languages) (first_piece qs) → tail_blocks qs ≡ (get_or b.window.now 0 0, told.0) ∷ told.1 → front (after_region qs) ≡ []
+        → after_identifier (small_identifier_result languages (head qs)) (tail_blocks qs) ≡ Err faults.InvalidExtension
+
+    by : (p : List ℕ) (qs : List (List ℕ)) → Found (p ∷ qs)
+    by p qs l e none =
+        let other : is_small_block (get_or b.window.now 0 0, told.0) told.1 ≡ false = no_u (get_or b.window.now 0 0, told.0) told.1 (no_letter_no_u (get_or b.window.now 0 0) no_letter) in
+        let fault : block_fault (get_or b.window.now 0 0, told.0) ≡ faults.InvalidExtension = unlettered_fault (get_or b.window.now 0 0, told.0) no_letter in
+        (λ j. after_identifier (small_head p qs l none j) (e j))
+        ∙ (λ j. if other j then Ok (record { id = small_identifier (identifier_of (p ∷ front qs)); keyword = Some (keyword_read told.0) }) else Err (fault j))

@@ -5,14 +5,14 @@ use Rattle.iloc_plain.specs.Plain.{IsPlain, value_of}
 use Rattle.iloc_plain.specs.declared.plain.Plain.{Plain}
 use Rattle.iloc_lines.proofs.PlainAnswers.{identifier_answer, locale_answer, data_answer}
 use Rattle.iloc_spec_grammar.specs.Syntax.{pieces, first_piece, head, Language, is_word, languages}
-use Rattle.iloc_spec_grammar.specs.Meaning.{not_a_language}
+use Rattle.iloc_spec_grammar.specs.Meaning.{not_a_language, HasFault}
 use Rattle.iloc_spec_grammar.specs.Meaning as faults
 use Rattle.iloc_spec_grammar.proofs.RawLaws.{languages_table}
 use Rattle.iloc_spec_parts.specs.Small as small
 use Rattle.iloc_spec_preferences.specs.DataLocales.{not_small}
 use Rattle.iloc_spec_output.specs.Output.{OfIdentifiers, OfLocales, OfDataLocales, no_identifier, no_locale, no_data_locale}
 use Rattle.iloc_spec_output.proofs.OutputLaws.{only_answer}
-use Rattle.iloc_subtags.specs.declared.parse_error.ParseError.TheVariants.{InvalidLanguage}
+use Rattle.iloc_subtags.specs.declared.parse_error.ParseError.TheVariants.{InvalidLanguage, InvalidExtension}
 use Rattle.iloc_lines.specs.Output.{line_answer, reply, refusal_text}
 use Rattle.iloc_lines.specs.declared.Mode.{Mode}
 use Rattle.iloc_lines.specs.declared.Mode.TheVariants.{Langid, Locale, Data}
@@ -37,3 +37,7 @@ no_language_answer Locale t h = sym (only_answer languages_table OfLocales t (re
 no_language_answer Data t h =
     sym (only_answer languages_table OfDataLocales t (refusal_text InvalidLanguage)
     (no_data_locale (not_small (small.bad_head (small.no_language (subst (λ p. is_word (Language languages) p ≡ false) (same_first (pieces t)) h))))))
+
+-- a locale whose first block is bad is refused so
+pub bad_block_answer : (t : List ℕ) → HasFault languages t faults.InvalidExtension → line_answer Locale t ≡ refusal_text InvalidExtension
+bad_block_answer t h = sym (only_answer languages_table OfLocales t (refusal_text InvalidExtension) (no_locale h))

@@ -32,9 +32,22 @@ pub(crate) fn told_at_front(mode: Mode, window: &[u8], len: usize) -> Told
     match read_front(window, len) {
         Front::NoLanguage => Told::Refused(ParseError::InvalidLanguage),
         Front::Misfit => Told::Refused(ParseError::InvalidSubtag),
-        Front::Variants(tail) => Told::Varied(len.wrapping_sub(tail.wrapping_add(1))),
+        Front::Variant(tail) => Told::Varied(len.wrapping_sub(tail.wrapping_add(1))),
+        Front::Variants => told_of_variants(mode, &window[..len]),
         Front::Block(block) => told_of_block(mode, &window[..len], block),
         Front::Other => Told::Nothing,
+    }
+}
+
+// The same of a line with two variants or more. A data locale has no more than one.
+#[inline(always)]
+fn told_of_variants(mode: Mode, line: &[u8]) -> Told
+    requires { IsFront line.now fronts.Variants }
+    ensures { IsTold mode line.now result }
+{
+    match mode {
+        Mode::Data => Told::Refused(ParseError::InvalidSubtag),
+        _ => Told::Nothing,
     }
 }
 
@@ -51,14 +64,13 @@ fn told_of_block(mode: Mode, line: &[u8], block: Block<'_>) -> Told
     }
 }
 
-// The same of a locale. Only blocks of `u` and `x` are told.
+// The same of a locale. Of blocks of `t` only empty ones at the end are told.
 #[inline(always)]
 fn told_of_locale(len: usize, block: Block<'_>) -> Told
     requires { 0 < length block.window.now }
     ensures { (line : Text) → IsTold Mode.Locale line result }
 {
-    let singleton = block.window[0].to_ascii_lowercase();
-    if singleton != b'u' && singleton != b'x' {
+    if block.len > 1 && block.window[0].to_ascii_lowercase() == b't' {
         return Told::Nothing;
     }
     Told::Ordered(len.wrapping_sub(block.tail.wrapping_add(1)))
@@ -84,6 +96,9 @@ fn fault_of_data(line: &[u8], block: Block<'_>) -> Option<ParseError>
 {
     let singleton = block.window[0];
     if !singleton.is_ascii_alphanumeric() {
+        if block.is_first {
+            return Some(ParseError::InvalidExtension);
+        }
         return None;
     }
     if singleton.to_ascii_lowercase() != b'u' {
@@ -92,6 +107,7 @@ fn fault_of_data(line: &[u8], block: Block<'_>) -> Option<ParseError>
     match read_keyword(block) {
         Keyword::Attribute => Some(ParseError::InvalidSubtag),
         Keyword::Misfit => Some(ParseError::InvalidSubtag),
+        Keyword::Many => Some(ParseError::InvalidSubtag),
         Keyword::Single if block.is_first => Some(ParseError::InvalidExtension),
         _ => None,
     }

@@ -34,7 +34,8 @@ use crate::faults::{Told, told_at_front};
 use crate::replies::write_refusal;
 use crate::reply_block::ReplyBlock;
 use crate::{Answers, RunError};
-use iloc_plain::{read_ordered, read_plain, read_varied};
+use iloc_plain::{Reading, may_begin, read_ordered, read_plain, read_varied};
+use iloc_subtags::ParseError;
 use memchr::memchr_iter;
 use std::alloc::{AllocError, Global};
 use std::io::Write;
@@ -103,15 +104,18 @@ fn reply_to<A: Answers>(
     requires { take (length line.now) window.now ≡ line.now }
     ensures { OnOk result (held replies.new ≡ held replies.old ++ reply A.mode line.now) }
 {
-    if window.len() - line.len() >= 16 {
-        if line.len() <= 16 {
-            if let Some(plain) = read_plain(window, line.len()) {
-                return replies.push_plain(&plain);
-            }
-        }
-        return reply_by_front(answers, window, line, replies);
+    if window.len() - line.len() < 16 {
+        return answers.reply(line, replies);
     }
-    answers.reply(line, replies)
+    if !may_begin(window, line.len()) {
+        return write_refusal(ParseError::InvalidLanguage, replies);
+    }
+    if line.len() <= 16 {
+        if let Some(plain) = read_plain(window, line.len()) {
+            return replies.push_plain(&plain);
+        }
+    }
+    reply_by_front(answers, window, line, replies)
 }
 
 // The same by what stands at the line's front.
@@ -168,8 +172,9 @@ fn reply_to_ordered<A: Answers>(
     ensures { OnOk result (held replies.new ≡ held replies.old ++ reply A.mode line.now) }
 {
     match read_ordered(window, line.len(), at) {
-        Some(told) => replies.push_ordered(&told),
-        None => answers.reply(line, replies),
+        Reading::Ordered(told) => replies.push_ordered(&told),
+        Reading::BadBlock => write_refusal(ParseError::InvalidExtension, replies),
+        Reading::Other => answers.reply(line, replies),
     }
 }
 

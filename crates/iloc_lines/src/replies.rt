@@ -26,10 +26,10 @@ pub fn write_refusal(error: ParseError, replies: &mut ReplyBlock) -> Result<(), 
     ensures known { OnOk result (error ≢ ParseError.OutOfMemory) }
 {
     match error {
-        ParseError::InvalidLanguage => replies.push_first(INVALID_LANGUAGE, 39),
-        ParseError::InvalidSubtag => replies.push_first(INVALID_SUBTAG, 17),
-        ParseError::InvalidExtension => replies.push_first(INVALID_EXTENSION, 20),
-        ParseError::DuplicatedExtension => replies.push_first(DUPLICATED_EXTENSION, 23),
+        ParseError::InvalidLanguage => replies.push_first(*INVALID_LANGUAGE, 39),
+        ParseError::InvalidSubtag => replies.push_first(*INVALID_SUBTAG, 17),
+        ParseError::InvalidExtension => replies.push_first(*INVALID_EXTENSION, 20),
+        ParseError::DuplicatedExtension => replies.push_first(*DUPLICATED_EXTENSION, 23),
         ParseError::OutOfMemory => Err(AllocError),
     }
 }

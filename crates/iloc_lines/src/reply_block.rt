@@ -2,7 +2,6 @@
 ghost use Rattle.std.specs.Prelude.{◌≡◌, ◌+◌, ◌≤◌, [], ◌∷◌, ◌++◌, length, take, vec_len, OnOk, OnErr};
 
 use iloc_plain::{Ordered, Plain, first_in_lower_case};
-use iloc_tinystr::ShortPiece;
 use iloc_writeable::Sink;
 use std::alloc::{AllocError, Global};
 use std::cmp::max;
@@ -63,12 +62,12 @@ impl ReplyBlock {
 
     /// Adds the first of these bytes, and stores all of them.
     #[inline(always)]
-    pub(crate) fn push_first(&mut self, bytes: &[u8; 48], count: usize) -> Result<(), AllocError>
+    pub(crate) fn push_first(&mut self, bytes: [u8; 48], count: usize) -> Result<(), AllocError>
         requires { count ≤ 48 }
-        ensures { OnOk result (held self.new ≡ held self.old ++ take count bytes.now) }
+        ensures { OnOk result (held self.new ≡ held self.old ++ take count bytes) }
     {
         self.make_room(48)?;
-        self.put(bytes, count);
+        self.put(&bytes, count);
         Ok(())
     }
 
@@ -184,14 +183,14 @@ impl Sink for ReplyBlock {
     }
 
     #[inline(always)]
-    fn write_short_piece(&mut self, piece: ShortPiece, first: bool) -> fmt::Result {
+    fn write_short_piece(&mut self, padded: [u8; 8], len: usize, first: bool) -> fmt::Result {
         if self.make_room(9).is_err() {
             return Err(fmt::Error);
         }
         if !first {
             self.put(b"-", 1);
         }
-        self.put(&piece.to_bytes(), piece.len());
+        self.put(&padded, len);
         Ok(())
     }
 

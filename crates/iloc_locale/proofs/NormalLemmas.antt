@@ -1,8 +1,10 @@
 -- From the locale that was read to its normal text.
-use Rattle.std.proofs.Common.{◌≡◌, inl, inr, ◌↔◌, IsTrue, ℕ, ◌≤◌, Bool, true, false, List, length, refl, sym, ap, ◌∙◌, subst, append-nil, true≢false, IfOk, Err, Ok, Result}
-use Rattle.iloc_spec_grammar.specs.Syntax.{languages, Identifier, join}
+use Rattle.std.proofs.Common.{◌≡◌, inl, inr, ◌↔◌, IsTrue, ℕ, ◌≤◌, Bool, true, false, List, [], length, None, refl, sym, ap, ◌∙◌, subst, append-nil, true≢false, IfOk, Err, Ok, Result}
+use Rattle.std.specs.Cow.{cow_str_bytes}
+use Rattle.std.specs.declared.borrow.CowStr.{CowStr}
+use Rattle.iloc_spec_grammar.specs.Syntax.{languages, pieces, Identifier, identifier_pieces, join}
 use Rattle.iloc_spec_grammar.specs.Meaning as meaning
-use Rattle.iloc_spec_grammar.specs.Meaning.{Extensions, Means, no_extensions}
+use Rattle.iloc_spec_grammar.specs.Meaning.{Extensions, IdentifierMeans, Means, no_extensions, without_extensions}
 use Rattle.iloc_spec_grammar.specs.Values.{IsValue, IsWellFormed, text, identifier_text}
 use Rattle.iloc_spec_grammar.proofs.FaultLaws.{accepted_no_fault}
 use Rattle.std.specs.Ordering.{is_eq}
@@ -15,6 +17,8 @@ use Rattle.iloc_spec_grammar.proofs.ReadBack.{reads_back}
 use Rattle.iloc_spec_grammar.proofs.Readings as readings
 use Rattle.iloc_subtags.specs.declared.parse_error.ParseError.{ParseError}
 use Rattle.iloc_subtags.specs.declared.parse_error.ParseError.TheVariants.{InvalidLanguage, InvalidSubtag, InvalidExtension, DuplicatedExtension, OutOfMemory}
+use Rattle.iloc_writeable.specs.Writing.{IsLent}
+use Rattle.iloc_langid.specs.PlainTexts.{IsNormalOfPlain}
 use Rattle.iloc_locale.specs.LocaleReading.{LocaleReads, MeansOnly, IsTextOf, IsNormalizedFrom, NormalizingWantsMemory}
 use Rattle.iloc_locale.proofs.ReadLemmas.{inline_wants_none}
 use Rattle.iloc_spec_parts.specs.Inline.{IsInline}
@@ -65,3 +69,24 @@ pub text_means_only : (M : meaning.Locale) → IsValue languages M → IsWellFor
 text_means_only M v w =
     let m : Means languages (text M) M = reads_back M v w in
     (m, λ N n. readings.one_meaning languages_table (text M) N M n m)
+
+-- an identifier alone is a locale without extensions
+means_alone : (t : List ℕ) (i : Identifier) → IdentifierMeans languages (pieces t) i → Means languages t (without_extensions i)
+means_alone t i m = record {
+  written = record { id = m.written; extensions = []; private = None };
+  grammatical = record { id = m.grammatical; extensions = tt; different = tt; private = tt };
+  spelled = m.spelled ∙ sym (append-nil (identifier_pieces m.written));
+  means = λ j. record { id = m.means j; extensions = no_extensions };
+}
+
+-- what a plain text is normalised to
+
+pub plain_normal : {Z E : Type 0} (t : List ℕ) (c : CowStr Z) → IsNormalOfPlain {E = E} t (Ok c) → IsNormalizedFrom t (cow_str_bytes c) × (IsLent c ↔ (t ≡ cow_str_bytes c))
+plain_normal t c h = (
+  is_normalized t (cow_str_bytes c) (without_extensions h.identifier) (means_alone t h.identifier h.means) (h.text ∙ sym (text_alone h.identifier no_extensions refl)),
+  (λ l. h.borrowed.0 l ∙ sym h.text, λ e. h.borrowed.1 (e ∙ h.text)),
+)
+
+pub plain_refused : {Z E : Type 0} (t : List ℕ) (e : E) → IsNormalOfPlain {Z = Z} t (Err e) → NormalizingWantsMemory t
+plain_refused t e h =
+    refuses_memory t (without_extensions h.identifier) (means_alone t h.identifier h.means) (λ s. h.succeeds (s ∙ text_alone h.identifier no_extensions refl))

@@ -49,7 +49,7 @@ LocaleReads t = Answers (λ l. Means languages t (value_of l)) (HasFault languag
 abbrev pub LocaleReadsAs : Text → Result Locale ParseError → Type 0
 LocaleReadsAs t = Answers (λ l. Means languages t (value_of l)) (HasFault languages t) (WantsMemory t)
 
--- the text means this value, and no other
+-- the text means this value and no other: it reads back
 abbrev pub MeansOnly : Text → meaning.Locale → Type 0
 MeansOnly t M = Means languages t M × ((N : meaning.Locale) → Means languages t N → N ≡ M)
 
@@ -65,7 +65,7 @@ pub record IsNormalizedFrom (input t : Text) : Type 0 where
   pub text_is : IsTextOf input t
   -- which is its own normal text
   pub again : IsTextOf t t
-  -- every accepted text means the same exactly if its normal text is this one
+  -- an accepted text u means what the input means exactly if t is its normal text
   pub same : (u : Text) (L M : meaning.Locale) → Means languages input L → Means languages u M → (L ≡ M) ↔ (t ≡ text M)
   -- and no text that means the same is shorter
   pub shortest : (u : Text) (M : meaning.Locale) → Means languages input M → Means languages u M → length t ≤ length u

@@ -12,7 +12,7 @@ ghost use Rattle.iloc_langid.specs.SmallLocaleReads.{SmallLocaleReadsAs, small_l
 
 use crate::locale::Locale;
 use iloc_extensions::is_well_formed;
-use iloc_langid::read_small_locale;
+use iloc_langid::{normalize_plain, read_small_locale};
 use iloc_subtags::{Language, ParseError, Region, Script, Subtag, UnicodeKey, Variant};
 use iloc_writeable::to_string_or_borrow;
 use std::alloc::Global;
@@ -27,6 +27,20 @@ impl Locale {
     /// once; texts mean the same exactly if their normal texts are equal; no text of a meaning is shorter;
     /// at most eight steps of rewriting lead there.
     pub fn normalize_utf8(alloc: Global, input: &[u8]) -> Result<CowStr<'_, Global>, ParseError>
+        ensures ok { IfOk result (λ text. IsNormalizedFrom input.now (cow_str_bytes text)
+            × (IsLent text ↔ (input.now ≡ cow_str_bytes text))) }
+        ensures err { IfErr result (Refusal (HasFault languages input.now) ⊤) }
+        ensures memory { RunsOutOnlyIf (NormalizingWantsMemory input.now) result }
+    {
+        match normalize_plain(alloc, input) {
+            Some(normal) => Ok(normal?),
+            None => Self::normalize_parsed(alloc, input),
+        }
+    }
+
+    // The same by parsing the text.
+    #[inline(never)]
+    fn normalize_parsed(alloc: Global, input: &[u8]) -> Result<CowStr<'_, Global>, ParseError>
         ensures ok { IfOk result (λ text. IsNormalizedFrom input.now (cow_str_bytes text)
             × (IsLent text ↔ (input.now ≡ cow_str_bytes text))) }
         ensures err { IfErr result (Refusal (HasFault languages input.now) ⊤) }

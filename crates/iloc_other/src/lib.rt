@@ -4,8 +4,7 @@
 //! subtags. Readers take exactly what the grammar of UTS #35, section 3, allows after a singleton,
 //! by the relations of `iloc_spec_parts`, which also say what that means for a locale. Both print as the
 //! normal text does.
-//! The crate stands on the subtags of `iloc_subtags`, the pieces of `iloc_subtags` and the lists of subtags of
-//! `iloc_word_set`.
+//! The crate stands on the subtags, the lists of them and the pieces of `iloc_subtags`.
 #![tactic(auto)]
 
 ghost use Rattle.std.specs.Prelude.{◌≡◌, ◌↔◌, IsTrue, ℕ, List};

@@ -6,7 +6,8 @@ use Rattle.std.proofs.lemmas.Bool.{cases_lt, cases_Bool, and_parts}
 use Rattle.std.proofs.lemmas.Bool.Decides.{nat_tests}
 use Rattle.std.proofs.lemmas.List.{get_or-take, length-drop, length-take-le, take-take, drop-take}
 use Rattle.std.proofs.lemmas.List.Splits.{slice_split-cons_yes, slice_split-cons_no}
-use Rattle.iloc_spec_grammar.specs.Syntax.{pieces, first_piece, Kind, Attribute, Language, Script, Region, UnicodeKey, Variant, PrivateSubtag, is_word, IsWord, languages}
+use Rattle.iloc_spec_grammar.specs.Syntax.{pieces, first_piece, Kind, Attribute, Language, Script, Region, Subtag, UnicodeKey, Variant, PrivateSubtag, is_word, IsWord, is_true, lower, languages}
+use Rattle.iloc_spec_grammar.specs.Meaning.{normal_values}
 use Rattle.iloc_spec_grammar.specs.Reading.{past, skip_first, starts_block, after_region}
 use Rattle.iloc_spec_grammar.proofs.PiecesLaws.{at_pieces}
 use Rattle.iloc_spec_grammar.proofs.WordsLaws.{length-language, length-script, length-region, length-variant, length-attribute, length-unicode_key}
@@ -86,6 +87,17 @@ pub all_fail : (k : Kind) (t : List ℕ) → is_word k (first_piece (pieces t)) 
 all_fail k t = at_pieces (λ ps. is_word k (first_piece ps) ≡ false → list_all (is_word k) ps ≡ false)
     (λ p ps e. ap (λ (b : Bool). b && list_all (is_word k) ps) e) t
 
+-- the pieces of a value that are not `true`
+pub values_later : (p : List ℕ) (ps : List (List ℕ)) → length (normal_values ps) ≤ length (normal_values (p ∷ ps))
+values_later p ps = by (is_true (lower p))
+  where
+    by : (b : Bool) → length (normal_values ps) ≤ length (cond (not b) (lower p ∷ normal_values ps) (normal_values ps))
+    by true = omega arith
+    by false = omega arith
+
+pub values_word : (p : List ℕ) (ps : List (List ℕ)) → is_true (lower p) ≡ false → length (normal_values (p ∷ ps)) ≡ suc (length (normal_values ps))
+values_word p ps e = ap (λ (b : Bool). length (cond (not b) (lower p ∷ normal_values ps) (normal_values ps))) e
+
 -- no word of the kind has more than eight bytes
 abbrev pub IsShort : Kind → Type 0
 IsShort k = (p : List ℕ) → IsWord k p → length p ≤ 8
@@ -101,6 +113,13 @@ short_region p h = omega (arith, (length-region p h).1)
 
 pub short_key : IsShort UnicodeKey
 short_key p h = omega (arith, length-unicode_key p h)
+
+pub short_subtag : IsShort Subtag
+unfolding is_word
+short_subtag p h = in_range (length p) (and_parts _ _ h).0
+  where
+    in_range : (n : ℕ) → is_in_range 2 8 n ≡ true → n ≤ 8
+    in_range n h = grind (arith, nat_tests)
 
 pub short_attribute : IsShort Attribute
 short_attribute p h = (length-attribute p h).1
@@ -126,7 +145,7 @@ module _ (w : List ℕ) (len n : ℕ) (room : len + 16 ≤ length w) (first : Is
   text = take len w
 
   -- what follows the first piece and its hyphen, in the rest of the window
-  abbrev next : List ℕ
+  abbrev pub next : List ℕ
   next = take (len - n - 1) (take (length w - (n + 1)) (drop (n + 1) w))
 
   whole : length text ≡ len
@@ -239,6 +258,15 @@ module _ (w : List ℕ) (len n : ℕ) (room : len + 16 ≤ length w) (first : Is
       by : (length (first_piece (pieces text)) == 1) ≡ false → starts_block (pieces text) ≡ false
       by = at_pieces (λ ps. (length (first_piece ps) == 1) ≡ false → starts_block ps ≡ false) (λ p ps e. e) text
 
+  -- bytes that are too few or too many are so in the first piece
+  pub other_length : is_in_range 2 8 n ≡ false → is_in_range 2 8 (length (first_piece (pieces text))) ≡ false
+  other_length other = elim (cases_lt n 16) [
+    | inl less ↦ ap (λ p. is_in_range 2 8 (length p)) (short_first less) ∙ ap (is_in_range 2 8) (length-take-le n w (omega (arith, inside))) ∙ other
+    | inr more ↦
+        let many : 16 ≤ length (first_piece (pieces text)) = first.long (omega (arith, first.few)) in
+        grind (arith, nat_tests)
+  ]
+
   pub one_byte : n ≡ 1 → first_piece (pieces text) ≡ get_or w 0 0 ∷ []
   one_byte one = short_first (omega arith) ∙ ap (λ (m : ℕ). take m w) one ∙ front w (omega arith)
     where
@@ -252,10 +280,17 @@ module _ (w : List ℕ) (len n : ℕ) (room : len + 16 ≤ length w) (first : Is
       let parts : pieces text ≡ take n w ∷ pieces next = after_short (omega arith) more in
       parts ∙ ap (λ p. p ∷ pieces next) (sym (ap first_piece parts) ∙ one_byte one)
 
+  -- one that does
+  pub whole_singleton_byte : n ≡ 1 → n ≡ len → pieces text ≡ (get_or w 0 0 ∷ []) ∷ []
+  whole_singleton_byte one end =
+      let parts : pieces text ≡ take n w ∷ [] = whole_short (omega arith) end in
+      parts ∙ ap (λ p. p ∷ []) (sym (ap first_piece parts) ∙ one_byte one)
+
 -- what is told of the pieces after a language is told of the text
 pub is_front : (t : List ℕ) (f : Front) → IsWord (Language languages) (first_piece (pieces t)) → GoesOnAs (after_region (pieces t)) f → IsFront t f
 is_front t front.NoLanguage l g = absurd (g tt)
 is_front t front.Misfit l g = (l, g)
 is_front t (front.Block b) l g = (l, g)
 is_front t front.Other l g = tt
-is_front t (front.Variants n) l g = tt
+is_front t (front.Variant n) l g = tt
+is_front t front.Variants l g = (l, g)

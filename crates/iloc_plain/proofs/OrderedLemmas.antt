@@ -1,18 +1,18 @@
 -- From what follows a plain identifier to the meaning of the line.
-use Rattle.std.proofs.Common.{inl, inr, codes, take, drop, ◌-◌, ◌≡◌, ◌≢◌, ℕ, zero, suc, ◌+◌, ◌*◌, ◌<◌, ◌≤◌, Bool, true, false, cond, List, [], ◌∷◌, ◌++◌, length, map, get_or, Option, Some, None, option_map, refl, sym, ap, ◌∙◌, subst, arith, append_assoc, append-nil, nat_lt}
+use Rattle.std.proofs.Common.{inl, inr, codes, take, drop, ◌-◌, ◌≡◌, ◌≢◌, ℕ, zero, suc, ◌+◌, ◌*◌, ◌<◌, ◌≤◌, Bool, true, false, cond, List, [], ◌∷◌, ◌++◌, length, map, get_or, bit_or, ◌==◌, Option, Some, None, option_map, refl, sym, ap, ◌∙◌, subst, arith, append_assoc, append-nil, nat_lt, nat_le, flat_map}
 use Rattle.std.specs.List.{AllByRecursion, list_all}
 use Rattle.std.specs.FinMap.Entries.{below_all}
 use Rattle.std.specs.Ordering.{is_lt}
 use Rattle.std.specs.Char.{is_ascii_alphanumeric, is_ascii_alphabetic, to_ascii_lowercase}
-use Rattle.std.proofs.lemmas.Bool.{and_parts, and_from, lt-ltb, cases_Bool, cases_lt}
+use Rattle.std.proofs.lemmas.Bool.{and_parts, and_from, eqb-true, lt-ltb, cases_Bool, cases_lt}
 use Rattle.std.proofs.lemmas.Bool.Decides.{nat_tests}
 use Rattle.std.proofs.lemmas.List.{map-append, length-map, length-take-le, take-take, length-drop}
-use Rattle.iloc_spec_grammar.specs.Syntax.{pieces, join, dashes, Kind, Variant, Subtag, UnicodeKey, Attribute, PrivateSubtag, is_word, IsWord, lower, title, upper, word_cmp, is_true, languages, Identifier, Fields, identifier_pieces, fields_pieces, Unicode}
+use Rattle.iloc_spec_grammar.specs.Syntax.{pieces, join, dashes, Kind, Variant, Subtag, UnicodeKey, Attribute, PrivateSubtag, is_word, IsWord, lower, title, upper, word_cmp, is_true, languages, is_other_singleton, Identifier, Fields, identifier_pieces, fields_pieces, Unicode}
 use Rattle.iloc_spec_grammar.specs.Meaning.{Locale, Extensions, IdentifierMeans, Means, normal_identifier, no_unicode, no_transform}
-use Rattle.iloc_spec_grammar.specs.Values.{IsNormal, IsAscending, IsIdentifierValue, lower_identifier, identifier_text, text, extensions_spelling, private_spelling, IdentifierTextStep, IsExtensionsValue, IsUnicodeValue, unicode_spelling}
+use Rattle.iloc_spec_grammar.specs.Values.{IsNormal, other_spelling, before_t, after_t, IsAscending, IsIdentifierValue, lower_identifier, identifier_text, text, extensions_spelling, private_spelling, IdentifierTextStep, IsExtensionsValue, IsUnicodeValue, unicode_spelling}
 use Rattle.iloc_spec_grammar.proofs.PiecesLaws.{at_pieces, join-pieces}
 use Rattle.iloc_spec_grammar.proofs.PartTexts.{join-append, join-dashes, dashes-append, text_of_parts}
-use Rattle.iloc_spec_grammar.proofs.WordsLaws.{lower-lower, lower-title, lower-upper, is_word-lower}
+use Rattle.iloc_spec_grammar.proofs.WordsLaws.{lower-lower, lower-title, lower-upper, is_word-lower, letter_is}
 use Rattle.iloc_spec_grammar.proofs.CaseLaws.{pieces-lower, case_means}
 use Rattle.iloc_spec_grammar.proofs.Chains.{identifier_pieces-low, lower-join}
 use Rattle.iloc_spec_grammar.proofs.IdentifierTexts.{identifier_text_means, identifier_text_step_means}
@@ -20,6 +20,7 @@ use Rattle.iloc_spec_grammar.proofs.RawLaws.{languages_table}
 use Rattle.iloc_spec_grammar.proofs.ReadBack.{reads_back}
 use Rattle.iloc_spec_grammar.proofs.MapLaws.{same_words}
 use Rattle.std.specs.Cmp.{Equal-is}
+use Rattle.iloc_plain.proofs.LaneLemmas.{of_byte}
 use Rattle.iloc_plain.specs.Shape.{plain_identifier}
 use Rattle.iloc_plain.specs.Plain.{IsPlain, value_of}
 use Rattle.iloc_plain.specs.declared.plain.Plain.{Plain}
@@ -28,10 +29,12 @@ use Rattle.std.specs.Ordering.{nat_cmp}
 use Rattle.std.specs.Ordering.{ordering_then}
 use Rattle.iloc_spec_grammar.proofs.ValuesLaws.{all_weaker}
 use Rattle.iloc_spec_grammar.proofs.WordsLaws.{length-attribute, length-unicode_key}
-use Rattle.iloc_spec_grammar.proofs.PartTexts.{unicode_spelling_is, transform_spelling_is, private_spelling_is, private_spelling_none}
+use Rattle.iloc_spec_grammar.proofs.PartTexts.{unicode_spelling_is, transform_spelling_is, other_spelling_is, private_spelling_is, private_spelling_none}
 use Rattle.std.specs.Int.{is_in_range}
-use Rattle.iloc_plain.specs.Ordered.{IsTail, ArePrinted, AreKeywords, Follows, IsCut, IsNext, IsKeyword, IsOrdered, IsPrivatePart, IsUnicodePart, IsVaried, key_number}
+use Rattle.iloc_plain.specs.Ordered.{IsTail, IsBefore, ArePrinted, AreKeywords, Follows, IsCut, IsNext, IsKeyword, IsOrdered, IsPrivatePart, IsUnicodePart, IsVaried, key_number}
 use Rattle.iloc_plain.specs.declared.ordered.Ordered.{Ordered}
+use Rattle.iloc_plain.specs.Blocks.{AreSubtags}
+use Rattle.iloc_spec_grammar.proofs.Singletons.{lower_letter}
 
 -- pieces of a text, each after a hyphen, are the text after one
 dashes_of : (t : List ℕ) → dashes (pieces t) ≡ 45 ∷ t
@@ -171,6 +174,20 @@ unfolding lower
 first_two [] l = absurd (omega arith)
 first_two (a ∷ []) l = absurd (omega arith)
 first_two (a ∷ b ∷ w) l = (refl, refl)
+
+-- bit 5 makes a letter lower case, and digits have it
+pub low_bit : (c : ℕ) → is_ascii_alphanumeric c ≡ true → bit_or c 32 ≡ to_ascii_lowercase c
+low_bit c h = eqb-true _ _ (of_byte is_ascii_alphanumeric (λ b. bit_or b 32 == to_ascii_lowercase b) refl c (small c h) h)
+  where
+    small : (c : ℕ) → is_ascii_alphanumeric c ≡ true → c < 256
+    small c h = grind (arith, nat_tests)
+
+-- the bytes of a key are letters and digits
+pub key_bytes : (w : List ℕ) → 2 ≤ length w → IsWord UnicodeKey (take 2 w) → (is_ascii_alphanumeric (get_or w 0 0) ≡ true) × (is_ascii_alphanumeric (get_or w 1 0) ≡ true)
+unfolding is_word
+key_bytes [] l h = absurd (omega arith)
+key_bytes (a ∷ []) l h = absurd (omega arith)
+key_bytes (a ∷ b ∷ w) l h = let parts = and_parts _ _ h in (parts.0, letter_is b parts.1)
 
 true_word : (w : List ℕ) → is_true w ≡ true → codes "true" ≡ w
 unfolding is_true
@@ -420,6 +437,71 @@ private_part c t e h = record {
       (λ p ps. ap (λ q. q ∷ map lower (p ∷ ps)) (singleton_in_lower c 120 e) ∙ sym (private_spelling_is (lower p) (map lower ps))) t;
 }
 
+-- ---- another block
+
+pub subtags_none : AreSubtags []
+subtags_none = record { words = []; private = []; each = tt; private_words = tt; printed = sym private_spelling_none }
+
+pub private_subtags : (ps : List (List ℕ)) → IsPrivatePart ps → AreSubtags ps
+private_subtags ps h = record { words = []; private = h.private; each = tt; private_words = h.words; printed = h.printed }
+
+pub subtags_next : (p : List ℕ) (ps : List (List ℕ)) → IsWord Subtag p → AreSubtags ps → (o : AreSubtags (p ∷ ps)) × (0 < length o.words)
+subtags_next p ps h o = (
+  record {
+    words = lower p ∷ o.words;
+    private = o.private;
+    each = ((is_word-lower Subtag p ∙ h, lower-lower p), o.each);
+    private_words = o.private_words;
+    printed = ap (λ l. lower p ∷ l) o.printed;
+  },
+  omega arith,
+)
+
+module _ (c : ℕ) (ws xs : List (List ℕ)) (some : 0 < length ws) where
+  abbrev with_other : Extensions
+  with_other = record { unicode = no_unicode; transform = no_transform; private = xs; others = (c, ws) ∷ [] }
+
+  one : other_spelling (c, ws) ≡ (c ∷ []) ∷ ws
+  one = other_spelling_is (c, ws) ∙ ap (λ (b : Bool). cond b ((c ∷ []) ∷ ws) []) (lt-ltb 0 _ some)
+
+  other_spelled : extensions_spelling with_other ≡ ((c ∷ []) ∷ ws) ++ private_spelling xs
+  unfolding extensions_spelling
+  other_spelled =
+      (λ j. flat_map other_spelling (before_t ((c, ws) ∷ [])) ++ (transform_spelling_is no_transform j ++ (no_unicode_spelling j ++ (flat_map other_spelling (after_t ((c, ws) ∷ [])) ++ private_spelling xs))))
+      ∙ at (nat_le c 116)
+    where
+      at : (b : Bool) → flat_map other_spelling (cond b ((c, ws) ∷ []) []) ++ (flat_map other_spelling (cond b [] ((c, ws) ∷ [])) ++ private_spelling xs) ≡ ((c ∷ []) ∷ ws) ++ private_spelling xs
+      at true = ap (λ l. l ++ private_spelling xs) (append-nil (other_spelling (c, ws)) ∙ one)
+      at false = ap (λ l. l ++ private_spelling xs) (append-nil (other_spelling (c, ws)) ∙ one)
+
+lower_twice : (c : ℕ) → to_ascii_lowercase (to_ascii_lowercase c) ≡ to_ascii_lowercase c
+lower_twice c = grind (arith, nat_tests)
+
+other_letter : (c : ℕ) → is_ascii_alphanumeric c ≡ true → to_ascii_lowercase c ≢ 117 → to_ascii_lowercase c ≢ 120 → to_ascii_lowercase c ≢ 116 → is_other_singleton (to_ascii_lowercase c) ≡ true
+other_letter c h u x t = by (to_ascii_lowercase c) (lower_letter c h) u x t
+  where
+    by : (d : ℕ) → is_ascii_alphanumeric d ≡ true → d ≢ 117 → d ≢ 120 → d ≢ 116 → is_other_singleton d ≡ true
+    by d h u x t = grind (arith, nat_tests)
+
+pub printed_other : (c : ℕ) (ps : List (List ℕ)) → is_ascii_alphanumeric c ≡ true → to_ascii_lowercase c ≢ 117 → to_ascii_lowercase c ≢ 120 → to_ascii_lowercase c ≢ 116
+    → (o : AreSubtags ps) → 0 < length o.words → ArePrinted ((c ∷ []) ∷ ps)
+printed_other c ps letter u x t o some = record {
+  extensions = with_other (to_ascii_lowercase c) o.words o.private some;
+  value = record {
+    unicode = record { attributes = tt; ascending = refl; keywords = tt; keys_ascend = refl };
+    transform = record { id = tt; fields = tt; keys_ascend = refl };
+    private = o.private_words;
+    others = (o.each, tt);
+  };
+  well_formed = record {
+    ascending = refl;
+    singletons = ((other_letter c letter u x t, lower_twice c), tt);
+    nonempty = (some, tt);
+    values = tt;
+  };
+  printed = (λ j. singleton_in_lower c (to_ascii_lowercase c) refl j ∷ o.printed j) ∙ sym (other_spelled (to_ascii_lowercase c) o.words o.private some);
+}
+
 -- ---- what follows the identifier
 
 pub tail_blocks : (ps : List (List ℕ)) → ArePrinted ps → IsTail ps
@@ -466,17 +548,23 @@ module _ (w : List ℕ) (len at : ℕ) (room : len + 16 ≤ length w) (less : at
   pub room_there : len - at + 16 ≤ length (take (length w - at) (drop at w))
   room_there = omega (arith, length-take-le (length w - at) (drop at w) (omega (arith, length-drop at w)), length-drop at w)
 
-less_one : (n : ℕ) → suc n - 1 ≡ n
-less_one n = omega arith
+  -- what follows the hyphen, as a part of the slice after it
+  pub rest_is : take (len - at - 1) (take (length w - (at + 1)) (drop (at + 1) w)) ≡ after
+  rest_is =
+      let one_more : at + 1 ≡ suc at = omega arith in
+      take-take (len - at - 1) (length w - (at + 1)) (drop (at + 1) w) (omega arith) ∙ ap (λ (m : ℕ). take (len - at - 1) (drop m w)) one_more
 
--- what follows the hyphen, as a part of the slice from the hyphen on
-pub tail_is : (t : List ℕ) (o : Ordered) (c : IsCut t o) → take (o.len - 1) (take (length o.rest.now - 1) (drop 1 o.rest.now)) ≡ c.tail
-tail_is t o c = by o.len o.rest.now c.some c.stored.room c.rest
-  where
-    by : (n : ℕ) (r : List ℕ) → 0 < n → n + 16 ≤ length r → take n r ≡ 45 ∷ c.tail → take (n - 1) (take (length r - 1) (drop 1 r)) ≡ c.tail
-    by zero r s l e = absurd (omega arith)
-    by (suc n) [] s l e = absurd (omega arith)
-    by (suc n) (b ∷ r) s l e = (λ j. take (less_one n j) (take (less_one (length r) j) r)) ∙ take-take n (length r) r (omega arith) ∙ ap (drop 1) e
+-- a line of which the identifier before a hyphen was read, and what follows it
+is_cut : (o : Ordered) (w : List ℕ) (len at : ℕ) → len + 16 ≤ length w → IsBefore w len at o.plain → o.len ≡ len - at → o.rest.now ≡ take (length w - at) (drop at w) → IsCut (take len w) o
+is_cut o w len at room b l r = record {
+  stored = record { words = b.plain.words; room = omega (arith, l, ap length r, room_there w len at room b.less b.hyphen) };
+  some = omega (arith, l, b.less);
+  front = take at w;
+  tail = after w len at room b.less b.hyphen;
+  plain = b.plain;
+  cut = cut_there w len at room b.less b.hyphen;
+  rest = (λ j. take (l j) (r j)) ∙ rest_there w len at room b.less b.hyphen;
+}
 
 pub is_ordered : (t : List ℕ) (o : Ordered) (c : IsCut t o) → IsTail (pieces c.tail) → IsOrdered t o
 is_ordered t o c h = record {
@@ -498,3 +586,20 @@ is_varied t o c p v e = record {
   where
     h : IsTail (pieces c.tail)
     h = record { variants = p ∷ []; rest = []; cut = e; each = (v, tt); few = omega arith; extensions = printed_none }
+
+-- the same of the line and its slice
+
+abbrev Tail : List ℕ → ℕ → ℕ → List ℕ
+Tail w len at = take (len - at - 1) (take (length w - (at + 1)) (drop (at + 1) w))
+
+pub told_ordered : (o : Ordered) (w : List ℕ) (len at : ℕ) → len + 16 ≤ length w → IsBefore w len at o.plain → o.len ≡ len - at → o.rest.now ≡ take (length w - at) (drop at w)
+    → IsTail (pieces (Tail w len at)) → IsOrdered (take len w) o
+unfolding is_cut
+told_ordered o w len at room b l r h =
+    is_ordered (take len w) o (is_cut o w len at room b l r) (subst (λ (s : List ℕ). IsTail (pieces s)) (rest_is w len at room b.less b.hyphen) h)
+
+pub told_varied : (o : Ordered) (w : List ℕ) (len at : ℕ) → len + 16 ≤ length w → IsBefore w len at o.plain → o.len ≡ len - at → o.rest.now ≡ take (length w - at) (drop at w)
+    → (p : List ℕ) → IsWord Variant p → pieces (Tail w len at) ≡ p ∷ [] → IsVaried (take len w) o
+unfolding is_cut
+told_varied o w len at room b l r p v e =
+    is_varied (take len w) o (is_cut o w len at room b l r) p v (ap pieces (sym (rest_is w len at room b.less b.hyphen)) ∙ e)

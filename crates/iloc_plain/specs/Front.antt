@@ -26,17 +26,18 @@ pub record GoesOn (ps : List Text) (b : Block) : Type 0 where
   pub some : 0 < b.len
   pub room : b.len + 16 ≤ length b.window.now
 
--- what the pieces after a region are: variants, and then a piece that fits nowhere, or a block
+-- what the pieces after a region are: variants, and then nothing, a piece that fits nowhere, or a block
 abbrev pub GoesOnAs : List Text → Front → Type 0
 GoesOnAs ps front.NoLanguage = ¬ ⊤
 GoesOnAs ps front.Misfit = starts_block (past (is_word Variant) ps) ≡ false
 GoesOnAs ps (front.Block b) = GoesOn ps b
-GoesOnAs ps (front.Variants n) = ⊤
+GoesOnAs ps (front.Variant n) = ⊤
+GoesOnAs ps front.Variants = (past (is_word Variant) ps ≡ []) × (2 ≤ length ps)
 GoesOnAs ps front.Other = ⊤
 
 -- what the text is: no language comes first, or one does, and what follows it is as told
 abbrev pub IsFront : Text → Front → Type 0
 IsFront t front.NoLanguage = is_word (Language languages) (first_piece (pieces t)) ≡ false
 IsFront t front.Other = ⊤
-IsFront t (front.Variants n) = ⊤
+IsFront t (front.Variant n) = ⊤
 IsFront t f = IsWord (Language languages) (first_piece (pieces t)) × GoesOnAs (after_region (pieces t)) f

@@ -2,6 +2,7 @@
 use Rattle.std.specs.Prelude.{◌≡◌, ◌≢◌, ◌≤◌, true, false, List, length, codes, ⊤}
 use Rattle.std.specs.List.{list_all}
 use Rattle.iloc_spec_grammar.specs.Syntax.{Text, pieces, first_piece, Attribute, UnicodeKey, is_word, IsWord, lower}
+use Rattle.iloc_spec_grammar.specs.Meaning.{normal_values}
 use Rattle.iloc_spec_grammar.specs.Reading.{rest_of}
 use Rattle.iloc_plain.specs.Front.{rest_of_block}
 use Rattle.iloc_plain.specs.declared.front.Block.{Block}
@@ -18,6 +19,7 @@ after_singleton b = rest_of (pieces (rest_of_block b))
 abbrev pub AreValues : List Text → Values → Type 0
 AreValues ps value.Misfit = list_all (is_word Attribute) ps ≡ false
 AreValues ps value.Single = (list_all (is_word Attribute) ps ≡ true) × (length ps ≡ 1)
+AreValues ps value.Many = (list_all (is_word Attribute) ps ≡ true) × (2 ≤ length (normal_values ps))
 AreValues ps value.Other = ⊤
 
 -- a key other than `sd`, and at most one piece, of its value
@@ -33,4 +35,7 @@ IsKeywordOf ps keyword.Attribute = IsWord Attribute (first_piece ps)
 IsKeywordOf ps keyword.Misfit = IsWord UnicodeKey (first_piece ps)
     × (list_all (is_word Attribute) (rest_of ps) ≡ false)
 IsKeywordOf ps keyword.Single = IsSingle ps
+IsKeywordOf ps keyword.Many = IsWord UnicodeKey (first_piece ps)
+    × (list_all (is_word Attribute) (rest_of ps) ≡ true)
+    × (2 ≤ length (normal_values (rest_of ps)))
 IsKeywordOf ps keyword.Other = ⊤

@@ -1,12 +1,17 @@
--- Lines whose normal text is their own but for the case of letters.
-use Rattle.std.specs.Prelude.{◌≡◌, ℕ, ◌+◌, ◌*◌, ◌<◌, ◌≤◌, true, false, List, ◌∷◌, ◌++◌, length, map, take, get_or}
+-- Lines whose normal text is their own but for the case of letters, and lines whose first block is bad.
+use Rattle.std.specs.Prelude.{◌≡◌, ⊤, ℕ, ◌+◌, ◌*◌, ◌<◌, ◌≤◌, true, false, List, [], ◌∷◌, ◌++◌, length, map, take, get_or}
 use Rattle.std.specs.List.{AllByRecursion}
 use Rattle.std.specs.FinMap.{is_sorted}
-use Rattle.iloc_spec_grammar.specs.Syntax.{Text, Field, pieces, Variant, Attribute, UnicodeKey, PrivateSubtag, IsWord, languages, lower, word_cmp, is_true, Identifier, Fields, fields_pieces}
-use Rattle.iloc_spec_grammar.specs.Meaning.{Extensions, Locale, IdentifierMeans, Means}
+use Rattle.iloc_spec_grammar.specs.Syntax.{Text, Field, Block, front, blocks, pieces, Variant, Attribute, UnicodeKey, PrivateSubtag, IsWord, languages, lower, word_cmp, is_true, Identifier, Fields, fields_pieces}
+use Rattle.iloc_spec_grammar.specs.Meaning.{Extensions, Locale, IdentifierMeans, Means, InvalidExtension, BlockFault, HasFault}
 use Rattle.iloc_spec_grammar.specs.Values.{IsNormal, IsExtensionsValue, AreWellFormed, private_spelling, extensions_spelling, identifier_text, text}
 use Rattle.iloc_plain.specs.Plain.{AreWords, IsPlain, value_of}
+use Rattle.iloc_plain.specs.declared.plain.Plain.{Plain}
 use Rattle.iloc_plain.specs.declared.ordered.Ordered.{Ordered}
+use Rattle.iloc_plain.specs.declared.ordered.Reading.{Reading}
+use Rattle.iloc_plain.specs.declared.ordered.Reading.TheVariants as reading
+use Rattle.iloc_plain.specs.declared.blocks.Rest.{Rest}
+use Rattle.iloc_plain.specs.declared.blocks.Rest.TheVariants as rest
 
 -- the text of the plain identifier, and what follows it in lower case
 abbrev pub text_of : Ordered → Text
@@ -31,6 +36,12 @@ pub record IsVaried (t : Text) (o : Ordered) : Type 0 where
   pub means : IdentifierMeans languages (pieces t) identifier
   pub few : length identifier.variants ≤ 1
   pub normal : identifier_text identifier ≡ text_of o
+
+-- a plain identifier of so many bytes comes first, and then a hyphen of the line
+pub record IsBefore (w : Text) (len at : ℕ) (p : Plain) : Type 0 where
+  pub less : at < len
+  pub hyphen : get_or w at 0 ≡ 45
+  pub plain : IsPlain (take at w) p
 
 -- the line is a plain identifier, a hyphen, and what follows that
 pub record IsCut (t : Text) (o : Ordered) : Type 0 where
@@ -104,3 +115,32 @@ pub record IsUnicodePart (ps : List Text) : Type 0 where
   pub few : length attributes ≤ 1
   pub keywords : AreKeywords rest
   pub some : 0 < length attributes + length keywords.keywords
+
+-- the blocks begin with one that has this fault
+pub record BeginBadly (ps : List Text) : Type 0 where
+  pub block : Block
+  pub others : List Block
+  pub none_before : front ps ≡ []
+  pub found : blocks ps ≡ block ∷ others
+  pub fault : BlockFault languages [] block InvalidExtension
+
+-- they are at most one variant, and blocks that begin so
+pub record IsBadTail (ps : List Text) : Type 0 where
+  pub variants : List Text
+  pub rest : List Text
+  pub cut : ps ≡ variants ++ rest
+  pub each : AllByRecursion (IsWord Variant) variants
+  pub few : length variants ≤ 1
+  pub bad : BeginBadly rest
+
+-- what is told of the pieces after a plain identifier
+abbrev pub IsTailOf : List Text → Rest → Type 0
+IsTailOf ps rest.Printed = IsTail ps
+IsTailOf ps rest.BadBlock = IsBadTail ps
+IsTailOf ps rest.Other = ⊤
+
+-- what is told of the line
+abbrev pub IsReading : Text → Reading → Type 0
+IsReading t (reading.Ordered o) = IsOrdered t o
+IsReading t reading.BadBlock = HasFault languages t InvalidExtension
+IsReading t reading.Other = ⊤

@@ -1,9 +1,11 @@
 //! Tells what stands at the front of a line.
-ghost use Rattle.std.specs.Prelude.{◌≡◌, ◌+◌, ◌≤◌, length, take};
+ghost use Rattle.std.specs.Prelude.{◌≡◌, ◌+◌, ◌≤◌, false, length, take};
 ghost use Rattle.iloc_spec_grammar.specs.Syntax.{pieces, Region, Script, is_word};
 ghost use Rattle.iloc_spec_grammar.specs.Reading.{skip_first};
 ghost use Rattle.iloc_plain.specs.Front.{IsFirst, GoesOnAs, IsFront};
+ghost use Rattle.iloc_plain.specs.declared.front.Front.TheVariants as front;
 
+use crate::marks::is_language_length;
 use crate::run::before_hyphen;
 use crate::words::{is_language, is_region, is_script, is_variant};
 
@@ -31,8 +33,10 @@ pub enum Front<'a> {
     Misfit,
     /// A block.
     Block(Block<'a>),
-    /// No more than variants. The number is as `Block::tail`.
-    Variants(usize),
+    /// No more than one variant. The number is as `Block::tail`.
+    Variant(usize),
+    /// No more than variants, two or more.
+    Variants,
     /// Nothing that is told.
     Other,
 }
@@ -46,6 +50,15 @@ pub(crate) fn first_len(window: &[u8], len: usize) -> usize
 {
     let n = before_hyphen(window);
     if n < len { n } else { len }
+}
+
+/// Whether the first piece is as long as a language may be. If not, no language comes first.
+#[inline(always)]
+pub fn may_begin(window: &[u8], len: usize) -> bool
+    requires { len + 16 ≤ length window.now }
+    ensures { result ≡ false → IsFront (take len window.now) front.NoLanguage }
+{
+    is_language_length(first_len(window, len))
 }
 
 /// What the first `len` bytes begin with. The bytes after them are loaded too, and change nothing.
@@ -109,7 +122,10 @@ fn after_region(window: &[u8], len: usize) -> Front<'_>
     let mut n = first_len(rest, left);
     'variants: while is_variant(rest, n) {
         if n == left {
-            return Front::Variants(len);
+            if is_first {
+                return Front::Variant(len);
+            }
+            return Front::Variants;
         }
         rest = &rest[n + 1..];
         left = left - n - 1;

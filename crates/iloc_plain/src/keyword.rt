@@ -4,7 +4,7 @@ ghost use Rattle.iloc_spec_grammar.specs.Syntax.{pieces, lower};
 ghost use Rattle.iloc_plain.specs.Keyword.{AreValues, IsKeywordOf, after_singleton};
 
 use crate::front::{Block, first_len};
-use crate::words::{is_attribute, is_key};
+use crate::words::{is_attribute, is_key, is_true};
 
 /// What follows a singleton.
 #[derive(Clone, Copy)]
@@ -15,6 +15,8 @@ pub enum Keyword {
     Misfit,
     /// A key other than `sd`, and at most one piece, of its value.
     Single,
+    /// A key, and pieces of its value, of which two or more are not `true`.
+    Many,
     /// Nothing that is told.
     Other,
 }
@@ -26,6 +28,8 @@ enum Values {
     Misfit,
     // One piece of a value.
     Single,
+    // Pieces of a value, of which two or more are not `true`.
+    Many,
     // Nothing that is told.
     Other,
 }
@@ -56,13 +60,17 @@ fn keyword_of(window: &[u8], len: usize) -> Keyword
     if !is_key(window, n) {
         return Keyword::Other;
     }
+    let is_other = is_other_key(window);
     if n == len {
+        if is_other {
+            return Keyword::Single;
+        }
         return Keyword::Other;
     }
-    let is_other = is_other_key(window);
     match values_of(&window[n + 1..], len - n - 1) {
         Values::Misfit => Keyword::Misfit,
         Values::Single if is_other => Keyword::Single,
+        Values::Many => Keyword::Many,
         _ => Keyword::Other,
     }
 }
@@ -85,14 +93,19 @@ fn values_of(window: &[u8], len: usize) -> Values
     let mut rest = window;
     let mut left = len;
     let mut is_first = true;
+    let mut has_word = false;
     let mut n = first_len(rest, left);
     'values: while is_attribute(rest, n) {
         if n == left {
             if is_first {
                 return Values::Single;
             }
+            if has_word && !is_true(rest, n) {
+                return Values::Many;
+            }
             return Values::Other;
         }
+        has_word |= !is_true(rest, n);
         rest = &rest[n + 1..];
         left = left - n - 1;
         is_first = false;

@@ -1,24 +1,14 @@
-//! Tells lines whose normal text is their own but for the case of letters.
-ghost use Rattle.std.specs.Prelude.{◌≡◌, ◌+◌, ◌<◌, ◌≤◌, IfSome, IsTrue, length, take};
+//! Tells lines whose normal text is their own but for the case of letters, and lines whose first block is
+//! bad.
+ghost use Rattle.std.specs.Prelude.{◌≡◌, ◌+◌, ◌≤◌, IfSome, length, take};
 ghost use Rattle.iloc_spec_grammar.specs.Syntax.{pieces};
-ghost use Rattle.iloc_plain.specs.Ordered.{
-  AreKeywords,
-  ArePrinted,
-  Follows,
-  IsCut,
-  IsNext,
-  IsOrdered,
-  IsPrivatePart,
-  IsTail,
-  IsUnicodePart,
-  IsVaried,
-  key_number,
-};
+ghost use Rattle.iloc_plain.specs.Ordered.{IsBefore, IsReading, IsTailOf, IsVaried};
 
+use crate::blocks::{Rest, read_blocks};
 use crate::front::first_len;
 use crate::plain::Plain;
 use crate::read::read_plain;
-use crate::words::{are_private, is_attribute, is_key, is_true, is_variant, number_of_key};
+use crate::words::is_variant;
 
 /// A plain identifier, and what follows it in the line.
 #[derive(Drop)]
@@ -31,19 +21,44 @@ pub struct Ordered<'a> {
     pub len: usize,
 }
 
-/// The locale that the first `len` bytes are, if a plain identifier of `at` bytes comes first and what
-/// follows is as it is printed but for the case: at most one variant, a block of `u` with at most one
-/// attribute, ascending keys and no `true`, and a block of `x`. `None` says nothing of them.
+/// What a line is as a locale.
+#[derive(Drop)]
+pub enum Reading<'a> {
+    /// In the order of its normal text.
+    Ordered(Ordered<'a>),
+    /// An identifier, and then a bad block.
+    BadBlock,
+    /// Nothing that is told.
+    Other,
+}
+
+/// What the first `len` bytes are as a locale, if a plain identifier of `at` bytes comes first and perhaps
+/// one variant. In order are a block of `u` with at most one attribute, ascending keys and no `true`, and a
+/// block of `x`. Of bad blocks the first is told.
 #[inline(always)]
-pub fn read_ordered(window: &[u8], len: usize, at: usize) -> Option<Ordered<'_>>
+pub fn read_ordered(window: &[u8], len: usize, at: usize) -> Reading<'_>
     requires { len + 16 ≤ length window.now }
-    ensures { IfSome result (IsOrdered (take len window.now)) }
+    ensures { IsReading (take len window.now) result }
 {
-    let line = cut_plain(window, len, at)?;
-    if !is_tail(&line.rest[1..], line.len - 1) {
-        return None;
+    if at >= len {
+        return Reading::Other;
     }
-    Some(line)
+    let rest = read_tail(&window[at + 1..], len - at - 1);
+    if let Rest::Other = rest {
+        return Reading::Other;
+    }
+    let Some(plain) = plain_before(window, len, at) else {
+        return Reading::Other;
+    };
+    match rest {
+        Rest::Printed => Reading::Ordered(Ordered {
+            plain,
+            rest: &window[at..],
+            len: len - at,
+        }),
+        Rest::BadBlock => Reading::BadBlock,
+        Rest::Other => Reading::Other,
+    }
 }
 
 /// The identifier that they are, if a plain one of `at` bytes comes first and one variant follows it.
@@ -52,25 +67,16 @@ pub fn read_varied(window: &[u8], len: usize, at: usize) -> Option<Ordered<'_>>
     requires { len + 16 ≤ length window.now }
     ensures { IfSome result (IsVaried (take len window.now)) }
 {
-    let line = cut_plain(window, len, at)?;
-    let rest = &line.rest[1..];
-    let n = first_len(rest, line.len - 1);
-    if n != line.len - 1 || !is_variant(rest, n) {
+    if at >= len {
         return None;
     }
-    Some(line)
-}
-
-// The plain identifier of `at` bytes, if a hyphen follows it.
-#[inline(always)]
-fn cut_plain(window: &[u8], len: usize, at: usize) -> Option<Ordered<'_>>
-    requires { len + 16 ≤ length window.now }
-    ensures { IfSome result (IsCut (take len window.now)) }
-{
-    if at > 16 || at >= len || window[at] != b'-' {
+    let rest = &window[at + 1..];
+    let left = len - at - 1;
+    let n = first_len(rest, left);
+    if n != left || !is_variant(rest, n) {
         return None;
     }
-    let plain = read_plain(window, at)?;
+    let plain = plain_before(window, len, at)?;
     Some(Ordered {
         plain,
         rest: &window[at..],
@@ -78,126 +84,30 @@ fn cut_plain(window: &[u8], len: usize, at: usize) -> Option<Ordered<'_>>
     })
 }
 
-// Whether the first `len` bytes are at most one variant, and blocks.
+// The plain identifier of `at` bytes, if a hyphen follows it.
 #[inline(always)]
-fn is_tail(window: &[u8], len: usize) -> bool
+fn plain_before(window: &[u8], len: usize, at: usize) -> Option<Plain>
     requires { len + 16 ≤ length window.now }
-    ensures { IsTrue result → IsTail (pieces (take len window.now)) }
+    ensures { IfSome result (IsBefore window.now len at) }
+{
+    if at > 16 || at >= len || window[at] != b'-' {
+        return None;
+    }
+    read_plain(window, at)
+}
+
+// What follows the hyphen after it: at most one variant, and blocks.
+#[inline(always)]
+fn read_tail(window: &[u8], len: usize) -> Rest
+    requires { len + 16 ≤ length window.now }
+    ensures { IsTailOf (pieces (take len window.now)) result }
 {
     let n = first_len(window, len);
     if !is_variant(window, n) {
-        return are_blocks(window, len);
+        return read_blocks(window, len);
     }
     if n == len {
-        return true;
+        return Rest::Printed;
     }
-    are_blocks(&window[n + 1..], len - n - 1)
-}
-
-// Whether they are a block of `u`, one of `x`, or one after the other.
-#[inline(always)]
-fn are_blocks(window: &[u8], len: usize) -> bool
-    requires { len + 16 ≤ length window.now }
-    ensures { IsTrue result → ArePrinted (pieces (take len window.now)) }
-{
-    let n = first_len(window, len);
-    if n != 1 || n == len || window[0].to_ascii_lowercase() != b'u' {
-        return is_private(window, len);
-    }
-    is_unicode(&window[n + 1..], len - n - 1)
-}
-
-// Whether they are at most one attribute, keywords, and perhaps a block of `x`.
-#[inline(always)]
-fn is_unicode(window: &[u8], len: usize) -> bool
-    requires { len + 16 ≤ length window.now }
-    ensures { IsTrue result → IsUnicodePart (pieces (take len window.now)) }
-{
-    let n = first_len(window, len);
-    if !is_attribute(window, n) {
-        return are_keywords(window, len);
-    }
-    if n == len {
-        return true;
-    }
-    let rest = &window[n + 1..];
-    if are_keywords(rest, len - n - 1) {
-        return true;
-    }
-    is_private(rest, len - n - 1)
-}
-
-// Whether they are a key, and what may follow it.
-#[inline(always)]
-fn are_keywords(window: &[u8], len: usize) -> bool
-    requires { len + 16 ≤ length window.now }
-    ensures { IsTrue result
-        → (k : AreKeywords (pieces (take len window.now))) × (0 < length k.keywords) }
-{
-    let n = first_len(window, len);
-    if !is_key(window, n) {
-        return false;
-    }
-    if n == len {
-        return true;
-    }
-    may_follow(number_of_key(window), &window[n + 1..], len - n - 1)
-}
-
-// Whether they are pieces of the value of the key, and keywords with greater keys.
-#[inline(always)]
-fn may_follow(key: usize, window: &[u8], len: usize) -> bool
-    requires { len + 16 ≤ length window.now }
-    ensures { IsTrue result → Follows key (pieces (take len window.now)) }
-{
-    let mut last = key;
-    let mut rest = window;
-    let mut left = len;
-    let mut n = first_len(rest, left);
-    'pieces: while let Some(next) = next_key(last, rest, n) {
-        if n == left {
-            return true;
-        }
-        last = next;
-        rest = &rest[n + 1..];
-        left = left - n - 1;
-        n = first_len(rest, left);
-    }
-    is_private(rest, left)
-}
-
-// The number of the key whose value may go on after this piece.
-#[inline(always)]
-fn next_key(last: usize, window: &[u8], n: usize) -> Option<usize>
-    requires wide { 16 ≤ length window.now }
-    requires few { n ≤ 16 }
-    ensures { IfSome result (IsNext last (take n window.now)) }
-{
-    if is_attribute(window, n) {
-        if is_true(window, n) {
-            return None;
-        }
-        return Some(last);
-    }
-    if !is_key(window, n) {
-        return None;
-    }
-    let key = number_of_key(window);
-    if key <= last {
-        return None;
-    }
-    Some(key)
-}
-
-// Whether they are the singleton `x` and words.
-#[inline(always)]
-fn is_private(window: &[u8], len: usize) -> bool
-    requires { len + 16 ≤ length window.now }
-    ensures { IsTrue result → IsPrivatePart (pieces (take len window.now)) }
-{
-    let n = first_len(window, len);
-    if n != 1 || n == len || window[0].to_ascii_lowercase() != b'x' {
-        return false;
-    }
-    are_private(&window[n + 1..], len - n - 1)
+    read_blocks(&window[n + 1..], len - n - 1)
 }

@@ -32,6 +32,9 @@ pub(crate) fn read_lanes(v: u8x16, len: usize) -> Option<Plain>
         return None;
     }
     let tail = Tail::of(len - language);
+    if tail.is_none() {
+        return None;
+    }
     let marks = letters_in(v) | (hyphens << 32);
     if !are_marked(marks, 0, all_places(language, tail.marks)) {
         return None;

@@ -10,14 +10,11 @@ use std::simd::prelude::*;
 
 // How many of sixteen bytes come before the first that is marked.
 #[inline(always)]
-fn before_marked(marks: u64) -> usize
+pub(crate) fn before_marked(marks: u64) -> usize
     ensures { (p : ℕ → Bool) (v : Text) → length v ≡ 16 → marks ≡ mask_l (map p v)
         → result ≡ prefix_len (λ b. not (p b)) v }
 {
-    if marks == 0 {
-        return 16;
-    }
-    marks.trailing_zeros() as usize
+    marks.wrapping_add(1 << 16).trailing_zeros() as usize
 }
 
 // A bit for each byte that is no letter.

@@ -106,4 +106,10 @@ impl Tail {
     {
         &TAILS[len]
     }
+
+    // Whether no shape has this length.
+    #[inline(always)]
+    pub(crate) fn is_none(&self) -> bool {
+        self.marks == NONE.marks
+    }
 }

@@ -8,6 +8,7 @@ ghost use Rattle.iloc_spec_grammar.specs.Syntax.{
   Language,
   Region,
   Script,
+  Subtag,
   UnicodeKey,
   Variant,
   PrivateSubtag,
@@ -128,6 +129,19 @@ pub(crate) fn is_key(window: &[u8], n: usize) -> bool
     window[1].is_ascii_alphabetic()
 }
 
+// Whether the first `n` bytes are a word of another extension.
+#[inline(always)]
+pub(crate) fn is_subtag(window: &[u8], n: usize) -> bool
+    requires wide { 16 ≤ length window.now }
+    requires few { n ≤ 16 }
+    ensures { result ≡ is_word Subtag (take n window.now) }
+{
+    if n < 2 || n > 8 {
+        return false;
+    }
+    are_letters_or_digits(window, n)
+}
+
 // Whether the first `n` bytes are an attribute, or a piece of a value.
 #[inline(always)]
 pub(crate) fn is_attribute(window: &[u8], n: usize) -> bool
@@ -163,13 +177,15 @@ pub(crate) fn is_true(window: &[u8], n: usize) -> bool
     window[3].to_ascii_lowercase() == b'e'
 }
 
-// The number of the key that the first two bytes are, by which keys are ordered.
+// The number of the key that the first two bytes are, by which keys are ordered. Bit 5 makes a letter
+// lower case, and digits have it.
 #[inline(always)]
 pub(crate) fn number_of_key(window: &[u8]) -> usize
-    requires { 16 ≤ length window.now }
+    requires wide { 16 ≤ length window.now }
+    requires key { is_word UnicodeKey (take 2 window.now) ≡ true }
     ensures { result ≡ key_number (take 2 window.now) }
 {
-    256 * (window[0].to_ascii_lowercase() as usize) + window[1].to_ascii_lowercase() as usize
+    256 * ((window[0] | 32) as usize) + (window[1] | 32) as usize
 }
 
 // Whether the first `n` bytes are a word of a private part.
@@ -189,8 +205,7 @@ fn is_private_subtag(window: &[u8], n: usize) -> bool
 #[inline(always)]
 pub(crate) fn are_private(window: &[u8], len: usize) -> bool
     requires { len + 16 ≤ length window.now }
-    ensures { IsTrue result
-        → list_all (is_word PrivateSubtag) (pieces (take len window.now)) ≡ true }
+    ensures { result ≡ list_all (is_word PrivateSubtag) (pieces (take len window.now)) }
 {
     let mut rest = window;
     let mut left = len;

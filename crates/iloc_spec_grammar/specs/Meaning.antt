@@ -1,7 +1,7 @@
 -- Meaning: what a written locale stands for. Words are in their normal case; variants and
 -- attributes are sets, keywords and fields maps, both as ascending lists; `true` in a value means
--- nothing. Restates the canonical form of UTS #35, section 3. That the first of equal keys stays is
--- the rule of this library.
+-- nothing. Restates the canonical syntax of UTS #35, section 3.2.1. That the first of equal keys stays is
+-- what RFC 6067, section 2.1, says after `u`, and the rule of this library after `t`.
 use Rattle.std.specs.Prelude.{◌≡◌, ℕ, not, List, [], ◌∷◌, map, filter, filter_map, Option, Some, None, option_map, ◌⊎◌, true, false, ◌++◌}
 use Rattle.std.specs.Ordering.{nat_cmp, eq_by_cmp}
 use Rattle.std.specs.declared.cmp.Ordering.{Ordering}
@@ -31,7 +31,7 @@ normal_identifier i = record {
   variants = set_of (map lower i.variants);
 }
 
--- the values in lower case, without `true` (UTS #35 3.2.1)
+-- the values in lower case, without any `true` (UTS #35 3.2.1 leaves `true` out if it is the whole value)
 abbrev pub normal_values : List Text → List Text
 normal_values ps = filter (λ w. not (is_true w)) (map lower ps)
 
@@ -139,7 +139,7 @@ pub record Means (T : Table) (t : Text) (M : Locale) : Type 0 where
 -- Faults: why a text is refused, as a property of its head and its blocks. If UTS #35 only says
 -- that a text is not well-formed, this library names one of four faults; which one is its own rule.
 
--- Why a text means nothing; which of them is named is this project's profile, as in the Rust crate.
+-- Why a text means nothing. UTS #35 names no faults: these, and which of them is named, follow the Rust crate.
 pub data Fault : Type 0 where
   InvalidLanguage InvalidSubtag InvalidExtension DuplicatedExtension : Fault
 
@@ -163,17 +163,17 @@ abbrev pub IsBlock : Table → Block → Type 0
 IsBlock T b = ((singleton b ≡ code_x) × IsPrivate b.1)
     ⊎ ((e : Extension) × IsExtension T (singleton b) e × (b.1 ≡ extension_pieces e))
 
--- a front of the pieces is a language, perhaps a script and a region, and variants, of which one
+-- the pieces begin with a language, perhaps a script and a region, and variants, of which one
 -- stands twice
 abbrev pub RepeatsVariant : Table → List Text → Type 0
 RepeatsVariant T ps = (i : Identifier) × (rest : List Text) × HasWords T i
     × (ps ≡ identifier_pieces i ++ rest) × ¬ (AllDifferent word_cmp (map lower i.variants))
 
--- its singleton is a letter or digit
+-- the block's singleton is a letter or digit
 abbrev pub HasSingleton : Block → Type 0
 HasSingleton b = is_ascii_alphanumeric b.0 ≡ true
 
--- and none of those seen
+-- no earlier block has this singleton; seen are those of the earlier blocks
 abbrev pub IsNew : Text → Block → Type 0
 IsNew seen b = list_any (eq_by_cmp nat_cmp (singleton b)) seen ≡ false
 

@@ -39,7 +39,7 @@ code_x = 120
 -- Pieces: a text is cut at its hyphens, and at nothing else. Restates how UTS #35, section 3,
 -- separates subtags; its other separator, the underscore, is none here. A text is a list of bytes.
 
--- the parts of a text round its hyphens (45; UTS #35 3.1, `sep`): `en--us` has three, the empty text one
+-- the text split at each hyphen (45; UTS #35 3.1, `sep`): `en--us` has three pieces, the empty text one
 unfoldable pub pieces : Text → List Text
 pieces t = slice_split (λ b. b == 45) t
 
@@ -100,7 +100,7 @@ first_piece (p ∷ ps) = p
 -- Words: the pieces that each kind takes, their normal text, and their raw form. Restates the
 -- subtags of UTS #35, section 3 (unicode_language_subtag, unicode_script_subtag,
 -- unicode_region_subtag, unicode_variant_subtag, key, attribute, type, tkey, tvalue), and the case
--- of letters in its canonical form. Letters and digits are those of ASCII; a word is a list of
+-- of letters in its canonical syntax. Letters and digits are those of ASCII; a word is a list of
 -- bytes.
 
 -- The kinds of words (UTS #35 3.1 and 3.2). Which lengths a language may have is a table.
@@ -129,7 +129,7 @@ pub record IsTable (T : Table) : Type 0 where
 abbrev pub two_or_three : ℕ → Bool
 two_or_three n = is_in_range 2 3 n
 
--- the wide table: 2, 3, or 5 to 8 letters (UTS #35 3.1, `unicode_language_subtag`)
+-- the wide table: 2 to 8 letters, but not 4 (UTS #35 3.1, `unicode_language_subtag`)
 abbrev pub all_but_four : ℕ → Bool
 all_but_four n = is_in_range 2 3 n || is_in_range 5 8 n
 
@@ -312,7 +312,7 @@ fields_pieces fs = flat_map (λ f. f.0 ∷ f.1) fs
 abbrev pub unicode_pieces : Unicode → List Text
 unicode_pieces u = u.attributes ++ fields_pieces u.keywords
 
--- those of an identifier that may be absent
+-- the pieces of an optional identifier: none if it is absent
 abbrev pub optional_pieces : Option Identifier → List Text
 optional_pieces None = []
 optional_pieces (Some i) = identifier_pieces i
@@ -386,7 +386,7 @@ pub record IsTransform (T : Table) (m : Transform) : Type 0 where
 abbrev pub kept : List Text → List Text
 kept ps = map lower (filter (is_word Subtag) ps)
 
--- pieces of 2 to 8 bytes, of which one at least is a word (UTS #35 3.2, `other_extensions`; there each is)
+-- pieces of 2 to 8 bytes, of which one at least is a word (UTS #35 3.2, `other_extensions`, asks that each is)
 pub record IsOther (ps : List Text) : Type 0 where
   pub lengths : AllByRecursion (λ p. is_in_range 2 8 (length p) ≡ true) ps
   pub nonempty : 0 < length (kept ps)

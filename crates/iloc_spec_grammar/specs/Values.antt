@@ -1,5 +1,5 @@
 -- Values: what a locale in memory stands for, when it is well-formed, and its text. The text is
--- that of the canonical form of UTS #35, section 3: one case for each kind of word, variants,
+-- that of the canonical syntax of UTS #35, section 3.2.1: one case for each kind of word, variants,
 -- attributes, keys and singletons in ascending order, and no value `true` (but in a field of `t`,
 -- which has no other empty value). It is defined for values that are not well-formed too.
 use Rattle.std.specs.Prelude.{◌≡◌, ◌≢◌, ℕ, ◌+◌, ◌<◌, true, false, ◌||◌, List, [], ◌∷◌, ◌++◌, length, map, filter, flat_map, Option, Some, None, IfSome, option_map, option_to_list, is_some, nat_le, nat_lt, codes, if◌then◌else◌, ◌⊎◌, zero, suc, Bool, not}
@@ -44,7 +44,8 @@ pub record IsTransformValue (T : Table) (m : Transform) : Type 0 where
       × AllByRecursion (λ w. IsNormal Attribute w × (is_true w ≡ false)) f.1) m.fields
   pub keys_ascend : is_sorted word_cmp m.fields ≡ true
 
--- The others are a list, with any bytes for singletons: callers may build what no text means.
+-- The others are a list, with any bytes for singletons. (The type keeps letters and digits; callers may
+-- build what no text means, as an other extension of `t`.)
 pub record IsExtensionsValue (T : Table) (e : Extensions) : Type 0 where
   pub unicode : IsUnicodeValue e.unicode
   pub transform : IsTransformValue T e.transform
@@ -116,7 +117,7 @@ abbrev pub private_form : List Text → Option Block
 private_form [] = None
 private_form (w ∷ ws) = Some (code_x, w ∷ ws)
 
--- the others before the first that is greater than `t`, and the rest
+-- the others before the first whose singleton is above `t`
 abbrev pub before_t : List Block → List Block
 before_t [] = []
 before_t (o ∷ os) = if nat_le o.0 code_t then o ∷ before_t os else []
@@ -141,7 +142,7 @@ printed M = record {
 
 -- The text.
 
--- the printed text: the canonical form of UTS #35 3.2.1, without the replacement of aliases
+-- the printed text: the canonical syntax of UTS #35 3.2.1; aliases stay
 abbrev pub text : Locale → Text
 text M = join (spelling (printed M))
 
@@ -202,7 +203,7 @@ fields_text fs = join (fields_pieces (spelled_fields fs))
 -- lengthen it. They change the case of letters; the order of blocks, variants, attributes or
 -- fields; or leave out repeated attributes and fields, `true` in values, and pieces that other
 -- extensions drop. The laws `steps` and `chain` say that they keep the meaning, and that at most
--- eight lead to the normal text. UTS #35, section 3, gives its canonical form by such steps.
+-- eight lead to the normal text. UTS #35, section 3, gives its canonical syntax by such steps.
 
 -- What a step does to a list.
 
@@ -220,8 +221,7 @@ pub data Without {X : Type 0} (test : X → Bool) : List X → List X → Type 0
   left_out : {x : X} {xs ys : List X} → test x ≡ true → Without test xs ys
       → Without test (x ∷ xs) ys
 
--- ys is xs without some of the items whose key, in lower case, is among those seen: that of an item
--- that was kept before it, or one of the list seen
+-- ys is xs without some items whose key, in lower case, an earlier kept item has, or the list seen has
 pub data WithoutRepeats {X : Type 0} (key : X → Text) : List Text → List X → List X → Type 0 where
   none : {seen : List Text} → WithoutRepeats key seen [] []
   kept : {seen : List Text} {x : X} {xs ys : List X}

@@ -338,6 +338,11 @@ pub fn by_example()
     ensures four_letters { IsRefused (codes "latn-US") InvalidLanguage }
     ensures empty_in_the_head { IsRefused (codes "en--us") InvalidSubtag }
     ensures long_in_another { IsRefused (codes "en-a-foo-toolonggg") InvalidExtension }
+    ensures nine_bytes_first { IsRefused (codes "abcdefghi") InvalidLanguage }
+    ensures nine_bytes_as_a_variant { IsRefused (codes "en-abcdefghi") InvalidSubtag }
+    ensures nine_bytes_as_an_attribute { IsRefused (codes "en-u-abcdefghi") InvalidExtension }
+    ensures nine_private_bytes { IsRefused (codes "en-x-abcdefghi") InvalidExtension }
+    ensures two_bytes_are_a_key { Normalises (codes "en-u-ca-ab") (codes "en-u-ab-ca") }
     ensures identifier_everything { NormalisesIdentifier (codes "EN-latn-us-POSIX-macos")
         (codes "en-Latn-US-macos-posix") }
     ensures identifier_of_digits { NormalisesIdentifier (codes "de-419-1996")

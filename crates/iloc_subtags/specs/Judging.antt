@@ -8,17 +8,17 @@ use Rattle.iloc_subtags.specs.declared.parse_error.ParseError.TheVariants.{Inval
 
 -- what a refusal says: the fault of its name is there, or memory ran out
 abbrev pub Refusal : (Fault → Type 0) → Type 0 → ParseError → Type 0
-Refusal HasFault WantsMemory InvalidLanguage = HasFault faults.InvalidLanguage
-Refusal HasFault WantsMemory InvalidSubtag = HasFault faults.InvalidSubtag
-Refusal HasFault WantsMemory InvalidExtension = HasFault faults.InvalidExtension
-Refusal HasFault WantsMemory DuplicatedExtension = HasFault faults.DuplicatedExtension
-Refusal HasFault WantsMemory OutOfMemory = WantsMemory
+Refusal Has MayRunOut InvalidLanguage = Has faults.InvalidLanguage
+Refusal Has MayRunOut InvalidSubtag = Has faults.InvalidSubtag
+Refusal Has MayRunOut InvalidExtension = Has faults.InvalidExtension
+Refusal Has MayRunOut DuplicatedExtension = Has faults.DuplicatedExtension
+Refusal Has MayRunOut OutOfMemory = MayRunOut
 
 -- an answer is what was meant, or a refusal
 abbrev pub Answers : {X : Type 0} → (X → Type 0) → (Fault → Type 0) → Type 0
     → Result X ParseError → Type 0
-Answers Means HasFault WantsMemory (Ok x) = Means x
-Answers Means HasFault WantsMemory (Err e) = Refusal HasFault WantsMemory e
+Answers IsMeant Has MayRunOut (Ok x) = IsMeant x
+Answers IsMeant Has MayRunOut (Err e) = Refusal Has MayRunOut e
 
 -- Tables of faults: which can come, and when each is there.
 

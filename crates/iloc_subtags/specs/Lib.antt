@@ -6,5 +6,3 @@ pub mod Lengths
 pub mod FirstLength
 pub mod Left
 pub mod NextPiece
-pub mod CarryError
-pub mod Carrying

@@ -12,25 +12,23 @@
 //! it has left, and each piece is a slice of the input. `take_word` takes the next piece if it is a word of a kind.
 //! `is_at_block` tells where a part ends.
 //!
-//! `carry_v1` converts languages stored by version 1.
+//! `WordList` is a list of subtags of one kind, each normal. Up to four stand in place.
 //!
-//! It stands on `iloc_spec_grammar` (definitions), `iloc_tinystr` (short texts) and `iloc_writeable` (printing).
+//! It stands on `iloc_spec_grammar` (definitions), `iloc_tinystr` (short texts), `iloc_shortvec` (lists that keep four
+//! items in place) and `iloc_writeable` (printing).
 #![tactic(auto)]
 
 pub mod any_kind;
-pub mod carry;
-pub mod carry_error;
 pub mod extension_kinds;
 pub mod identifier_kinds;
 pub mod kind;
 pub mod parse_error;
 pub mod reading;
 pub mod subtag_iterator;
+pub mod word_list;
 pub mod word_of;
 
 pub use any_kind::Word;
-pub use carry::carry_v1;
-pub use carry_error::CarryError;
 pub use extension_kinds::{
     Attribute, AttributeKind, CurrencyType, CurrencyTypeKind, PrivateSubtag, PrivateSubtagKind,
     SubdivisionSuffix, SubdivisionSuffixKind, TransformKey, TransformKeyKind, UnicodeKey,
@@ -44,4 +42,5 @@ pub use kind::WordKind;
 pub use parse_error::ParseError;
 pub use reading::{is_at_block, next_has_length, take_byte, take_word};
 pub use subtag_iterator::SubtagIterator;
+pub use word_list::WordList;
 pub use word_of::{WordOf, are_normal, is_normal, subtag_of};

@@ -234,7 +234,8 @@ impl<K: WordKind<N>, const N: usize> Pieces for WordOf<K, N> {
     }
 
     fn write_pieces<S: Sink>(&self, sink: &mut S, first: bool) -> fmt::Result {
-        sink.write_short_piece(self.text.to_piece(), first)
+        let piece = self.text.to_piece();
+        sink.write_short_piece(piece.to_bytes(), piece.len(), first)
     }
 }
 

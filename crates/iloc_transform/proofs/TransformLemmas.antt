@@ -23,7 +23,7 @@ use Rattle.iloc_subtags.specs.declared.parse_error.ParseError.TheVariants.{Inval
 use Rattle.iloc_langid.specs.Reads.{FrontReadsAs}
 use Rattle.iloc_langid.specs.Reads as langid
 use Rattle.iloc_langid.specs.declared.identifier.LanguageIdentifier.{LanguageIdentifier}
-use Rattle.iloc_transform.specs.FieldsReading.{FieldsRead, FieldsFrontRead}
+use Rattle.iloc_fields.specs.FieldsReading.{FieldsRead, FieldsFrontRead}
 use Rattle.iloc_transform.specs.LangReading.{LangRead, LangReads}
 use Rattle.iloc_transform.specs.TransformReading.{value_of, WantsMemory, variants, fields, TransformReads, TransformTextReads}
 use Rattle.iloc_transform.specs.declared.transform.Transform.{Transform}

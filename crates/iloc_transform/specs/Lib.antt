@@ -1,5 +1,2 @@
 pub mod LangReading
 pub mod TransformReading
-pub mod ValueReading
-pub mod FieldsReading
-pub mod FieldsOrder

@@ -25,8 +25,9 @@ ghost use Rattle.iloc_subtags.specs.Judging.{Accepts, Refuses};
 ghost use Rattle.iloc_subtags.specs.Left.{left};
 ghost use Rattle.iloc_transform.specs.TransformReading.{TransformReads};
 
-use crate::fields::{Fields, fill_fields};
 use crate::lang::{cmp_langs, fill_lang, lowercase};
+use iloc_fields::Fields;
+use iloc_fields::fields::fill_fields;
 use iloc_langid::LanguageIdentifier;
 use iloc_other::singleton::take_singleton;
 use iloc_subtags::{ParseError, SubtagIterator};

@@ -12,8 +12,7 @@ ghost use Rattle.iloc_unicode_value.specs.Equality.{words_eq, words_exact, alike
 ghost use Rattle.iloc_unicode_value.specs.Values.{without_true, with_subtag};
 
 use iloc_shortvec::ShortWordsIntoIter;
-use iloc_subtags::{Subtag, SubtagKind};
-use iloc_word_set::WordList;
+use iloc_subtags::{Subtag, SubtagKind, WordList};
 use std::alloc::{AllocError, Global};
 use std::marker::Model;
 

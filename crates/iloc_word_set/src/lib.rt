@@ -1,12 +1,11 @@
-//! Lists and sets of subtags of one kind. Sets are the variants of an identifier, and the attributes of a
-//! unicode extension; lists stand under them, and under private and other extensions and values.
+//! Sets of subtags of one kind: the variants of an identifier, and the attributes of a unicode extension.
 //!
-//! A list is its subtags in order, each a normal subtag of its kind, and a set a list in ascending order, each
-//! subtag once. Contracts see both as the list of the texts. Up to four subtags stand in place; beyond them
-//! they allocate, and a call that runs out of memory leaves them as before. Searches of sets go by halves.
+//! A set is a list of normal subtags of its kind in ascending order, each once. Contracts see it as the list of the
+//! texts. Up to four subtags stand in place; beyond them it allocates, and a call that runs out of memory leaves it
+//! as before. Searches go by halves.
 //!
-//! It stands on `iloc_spec_grammar` and `iloc_spec_orders` (definitions), `iloc_subtags` (subtags), `iloc_shortvec` (lists
-//! that keep four subtags in place) and `iloc_writeable` (printing).
+//! It stands on `iloc_spec_grammar` and `iloc_spec_orders` (definitions), `iloc_subtags` (subtags and lists of them) and
+//! `iloc_writeable` (printing).
 #![tactic(auto)]
 
 ghost use Rattle.std.specs.Prelude.{◌≡◌, ℕ, List};
@@ -19,12 +18,10 @@ use std::hash::Hash;
 pub mod ascending;
 pub mod traits;
 pub mod word_collector;
-pub mod word_list;
 pub mod word_set;
 
 pub use ascending::is_strictly_ascending;
 pub use word_collector::WordCollector;
-pub use word_list::WordList;
 pub use word_set::{Variants, WordSet};
 
 /// A hasher is fed the text of a subtag, and the subtags of a set.

@@ -141,6 +141,7 @@ impl<P: Pieces> Pieces for &[P] {
         false
     }
 
+    #[inline(always)]
     fn write_pieces<S: Sink>(&self, sink: &mut S, first: bool) -> fmt::Result {
         let mut part_first = first;
         for part in *self {
@@ -159,6 +160,7 @@ impl<P: Pieces, Q: Pieces, R: Pieces> Pieces for (P, Q, R) {
         (&self.0, (&self.1, &self.2)).has_pieces()
     }
 
+    #[inline(always)]
     fn write_pieces<S: Sink>(&self, sink: &mut S, first: bool) -> fmt::Result {
         (&self.0, (&self.1, &self.2)).write_pieces(sink, first)
     }
@@ -188,6 +190,7 @@ impl<P: Pieces, Q: Pieces, R: Pieces, T: Pieces, U: Pieces> Pieces for (P, Q, R,
         (&self.0, (&self.1, (&self.2, (&self.3, &self.4)))).has_pieces()
     }
 
+    #[inline(always)]
     fn write_pieces<S: Sink>(&self, sink: &mut S, first: bool) -> fmt::Result {
         (&self.0, (&self.1, (&self.2, (&self.3, &self.4)))).write_pieces(sink, first)
     }

@@ -1,28 +1,32 @@
 //! Short pieces, written at once.
-ghost use Rattle.std.specs.Prelude.{◌≡◌, ℕ, ◌+◌, ◌-◌, ◌<◌, ◌≤◌, [], ◌∷◌, ◌++◌, length, replicate, take, vec_len, vec_capacity, All};
+ghost use Rattle.std.specs.Prelude.{◌≡◌, ℕ, ◌+◌, ◌-◌, ◌<◌, ◌≤◌, [], ◌∷◌, ◌++◌, length, take, vec_len, vec_capacity, All};
 ghost use Rattle.iloc_writeable.specs.Pieces.{hyphened};
 ghost use Rattle.iloc_writeable.specs.VecSink.{Extended};
 
-use iloc_tinystr::ShortPiece;
-
-// A hyphen, the piece, and zeros.
+// A hyphen, and the bytes.
 #[inline(always)]
-pub(crate) fn after_hyphen(piece: ShortPiece) -> [u8; 9]
-    ensures { result ≡ 45 ∷ (piece ++ replicate (8 - length piece) 0) }
+pub(crate) fn after_hyphen(padded: &[u8; 8]) -> [u8; 9]
+    ensures { result ≡ 45 ∷ padded.now }
 {
     let mut all = [b'-'; 9];
-    all[1..].copy_from_slice(&piece.to_bytes());
+    all[1..].copy_from_slice(padded);
     all
 }
 
-// The piece of these bytes, after the hyphen if it doesn't stand first.
+// The piece that the bytes after the hyphen begin with, after the hyphen if it doesn't stand first.
 #[inline(always)]
-pub(crate) fn hyphened_text(all: &[u8; 9], piece: ShortPiece, first: bool) -> &str
-    requires ascii { All (λ b. b < 128) piece }
-    requires all { all.now ≡ 45 ∷ (piece ++ replicate (8 - length piece) 0) }
-    ensures { result.now ≡ hyphened first (piece ∷ []) }
+pub(crate) fn hyphened_text<'a>(
+    all: &'a [u8; 9],
+    padded: &[u8; 8],
+    len: usize,
+    first: bool,
+) -> &'a str
+    requires few { len ≤ 8 }
+    requires ascii { All (λ b. b < 128) (take len padded.now) }
+    requires all { all.now ≡ 45 ∷ padded.now }
+    ensures { result.now ≡ hyphened first (take len padded.now ∷ []) }
 {
-    let end = 1 + piece.len();
+    let end = 1 + len;
     if first {
         return unsafe { str::from_utf8_unchecked(&all[1..end]) };
     }

@@ -1,7 +1,7 @@
 //! What each refusal prints, and its words, which are the same; and old raw forms, which are carried or refused.
-use iloc_json::JsonError;
+use iloc_json::{CarryError, JsonError, carry_v1};
 use iloc_program::{RunError, ending};
-use iloc_subtags::{CarryError, ParseError, carry_v1};
+use iloc_subtags::ParseError;
 use std::alloc::Global;
 use std::error::Error;
 use std::fmt::Write;

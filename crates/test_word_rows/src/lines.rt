@@ -4,14 +4,14 @@
 //! `line-plain TEXT` says the normal text. In the other calls the second argument says how many bytes of the first are the
 //! line: `line-window` says the normal text, `line-front` what stands at the front, `line-keyword` what follows the
 //! singleton of the first block, and `line-ordered` of a line in the order of its normal text the plain identifier and
-//! the rest. A line of which nothing is said is `not told`.
-ghost use Rattle.std.specs.Prelude.{IfSome};
+//! the rest, or that its first block is bad. A line of which nothing is said is `not told`.
+ghost use Rattle.std.specs.Prelude.{◌+◌, ◌≤◌, length};
 ghost use Rattle.iloc_plain.specs.Plain.{AreWords};
 ghost use Rattle.iloc_plain.specs.Ordered.{IsStored};
 
 use iloc_plain::{
-    Block, Front, Keyword, Ordered, Plain, read_front, read_keyword, read_ordered, read_plain,
-    read_plain_text, read_varied,
+    Block, Front, Keyword, Ordered, Plain, Reading, read_front, read_keyword, read_ordered,
+    read_plain, read_plain_text, read_varied,
 };
 use test_page::argument::number_of;
 use test_page::{bytes, number, say};
@@ -74,10 +74,11 @@ fn front(window: &[u8], len: usize, out: &mut String) {
         Front::NoLanguage => say(out, "no language"),
         Front::Misfit => say(out, "misfit"),
         Front::Block(found) => block(&found, out),
-        Front::Variants(tail) => {
-            say(out, "variants ");
+        Front::Variant(tail) => {
+            say(out, "variant ");
             number(out, tail)
         }
+        Front::Variants => say(out, "variants"),
         Front::Other => say(out, "not told"),
     }
 }
@@ -100,38 +101,54 @@ fn keyword(window: &[u8], len: usize, out: &mut String) {
             Keyword::Attribute => "attribute",
             Keyword::Misfit => "misfit",
             Keyword::Single => "single",
+            Keyword::Many => "many",
             Keyword::Other => "not told",
         },
     )
 }
 
-// What is told of a line in the order of its normal text, if sixteen bytes follow the line at least.
-fn ordered_of(window: &[u8], len: usize) -> Option<Ordered<'_>>
-    ensures { IfSome result IsStored }
+// Says the normal text of the plain identifier, and what follows it in the line.
+fn in_order(line: &Ordered<'_>, out: &mut String)
+    requires { IsStored line.now }
 {
-    if window.len() < 16 || len > window.len() - 16 {
-        return None;
-    }
-    match read_front(window, len) {
-        Front::Block(block) => read_ordered(
-            window,
-            len,
-            len.wrapping_sub(block.tail.wrapping_add(1)),
-        ),
-        Front::Variants(tail) => read_varied(window, len, len.wrapping_sub(tail.wrapping_add(1))),
-        _ => None,
+    normal(&line.plain, out);
+    say(out, " ");
+    bytes(out, line.rest.get(..line.len).unwrap_or(b""))
+}
+
+// Says what a line is that may be an identifier of `at` bytes, and a variant.
+fn varied(window: &[u8], len: usize, at: usize, out: &mut String)
+    requires { len + 16 ≤ length window.now }
+{
+    match read_varied(window, len, at) {
+        Some(line) => in_order(&line, out),
+        None => say(out, "not told"),
     }
 }
 
-// Says the normal text of the plain identifier, and what follows it in the line.
+// Says what a line is that may be an identifier of `at` bytes, and blocks.
+fn with_blocks(window: &[u8], len: usize, at: usize, out: &mut String)
+    requires { len + 16 ≤ length window.now }
+{
+    match read_ordered(window, len, at) {
+        Reading::Ordered(line) => in_order(&line, out),
+        Reading::BadBlock => say(out, "bad block"),
+        Reading::Other => say(out, "not told"),
+    }
+}
+
+// Says what is told of a line as a locale, if sixteen bytes follow it at least.
 fn ordered(window: &[u8], len: usize, out: &mut String) {
-    match ordered_of(window, len) {
-        Some(line) => {
-            normal(&line.plain, out);
-            say(out, " ");
-            bytes(out, line.rest.get(..line.len).unwrap_or(b""))
+    if window.len() < 16 || len > window.len() - 16 {
+        return say(out, "not told");
+    }
+    match read_front(window, len) {
+        Front::Block(block) => {
+            let at = len.wrapping_sub(block.tail.wrapping_add(1));
+            with_blocks(window, len, at, out)
         }
-        None => say(out, "not told"),
+        Front::Variant(tail) => varied(window, len, len.wrapping_sub(tail.wrapping_add(1)), out),
+        _ => say(out, "not told"),
     }
 }
 

@@ -8,7 +8,7 @@ use Rattle.iloc_calls.proofs.normalize.Goals as goal
 pub returns-in-Some-clause-bounded : goal.returns-in-Some-clause-bounded
 returns-in-Some-clause-bounded c m e =
     let same = (c.in-Some.ensures m).1 e in
-    subst (λ (o : Mode). c.normalize.new.needed ≤ length c.args.text.now + growth o) (cc) (needed_fits c.in-Some.mode _ _ _ _ _ c.normalize.ensures)
+    subst (λ (o : Mode). c.normalize.new.needed ≤ length c.args.text.now + growth o) (cc) (needed_fits c.in-Some.mode _ _ _ _ _ c.normalize.ensures.2)
 
 pub returns-in-Some-clause-unknown : goal.returns-in-Some-clause-unknown
 returns-in-Some-clause-unknown c far =

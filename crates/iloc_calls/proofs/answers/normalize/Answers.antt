@@ -1,10 +1,5 @@
--- What is handed out of a plain text is its normal text.
-use Rattle.iloc_spec_grammar.specs.Values.{identifier_text}
-use Rattle.iloc_plain.specs.Plain.{value_of}
-use Rattle.iloc_calls.proofs.PlainLemmas.{plain_normal, handed_out}
+-- What was handed out at once is the normal text in the mode.
 use Rattle.iloc_calls.proofs.answers.normalize.Goals as goal
 
 pub returns-in-Some : goal.returns-in-Some
-returns-in-Some c =
-    handed_out c.args.mode c.args.text.now (identifier_text (value_of c.in-Some.plain)) c.args.buffer.now c.hand_out_plain.new.buffer c.hand_out_plain.new.needed c.hand_out_plain.result
-    (plain_normal c.args.mode c.args.text.now c.in-Some.plain c.in-Some.ensures) c.hand_out_plain.ensures
+returns-in-Some c = (c.in-Some.status, c.number.ensures, c.in-Some.ensures.some c.args.mode)

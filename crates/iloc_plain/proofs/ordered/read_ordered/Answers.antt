@@ -1,10 +1,10 @@
-use Rattle.std.proofs.Common.{ℕ, List, subst}
-use Rattle.iloc_spec_grammar.specs.Syntax.{pieces}
-use Rattle.iloc_plain.specs.Ordered.{IsTail}
-use Rattle.iloc_plain.proofs.OrderedLemmas.{is_ordered, tail_is}
+use Rattle.std.proofs.Common.{refl}
+use Rattle.iloc_plain.proofs.OrderedLemmas.{told_ordered}
+use Rattle.iloc_plain.proofs.BadBlocks.{told_bad}
 use Rattle.iloc_plain.proofs.ordered.read_ordered.Goals as goal
 
-pub returns : goal.returns
-returns c =
-    let t = c.in_ok-line.ensures in
-    is_ordered _ c.in_ok-line.line t (subst (λ (s : List ℕ). IsTail (pieces s)) (tail_is _ c.in_ok-line.line t) (c.is_tail.ensures c.if-not-is_tail.false))
+pub returns-in-Printed : goal.returns-in-Printed
+returns-in-Printed c = told_ordered _ c.args.window.now c.args.len c.args.at c.requires c.in-Some.ensures refl refl c.in-Printed.ensures
+
+pub returns-in-BadBlock : goal.returns-in-BadBlock
+returns-in-BadBlock c = told_bad c.in-Some.plain c.args.window.now c.args.len c.args.at c.requires c.in-Some.ensures c.in-BadBlock.ensures

@@ -1,20 +1,7 @@
-use Rattle.std.proofs.Common.{◌≡◌, ℕ, Bool, false, cond, arith, sym, ap, ◌∙◌}
-use Rattle.std.proofs.lemmas.Bool.Decides.{nat_tests}
-use Rattle.std.proofs.lemmas.Simd.{first_set_mask_l}
+use Rattle.std.proofs.Common.{ℕ, ◌+◌, ◌%◌, ◌^◌, ap, ◌∙◌}
 use lib.Count.{count_trailing_zeros}
-use lib.Dec.{eqb}
+use Rattle.iloc_plain.proofs.RunLemmas.{before_first}
 use Rattle.iloc_plain.proofs.run.before_marked.Goals as goal
 
--- the first place, as std's lemma has it
-abbrev place : ℕ → ℕ
-place m = cond (eqb m 0) 16 (count_trailing_zeros 64 m)
-
-pub returns-then-marks-eq0 : goal.returns-then-marks-eq0
-returns-then-marks-eq0 c = λ p v long e.
-    let none : 0 ≡ c.args.marks = omega arith in
-    ap place (none ∙ e) ∙ first_set_mask_l p v 16 long (omega arith)
-
 pub returns : goal.returns
-returns c = λ p v long e.
-    let some : eqb c.args.marks 0 ≡ false = grind (arith, nat_tests) in
-    ap (λ (b : Bool). cond b 16 (count_trailing_zeros 64 c.args.marks)) (sym some) ∙ ap place e ∙ first_set_mask_l p v 16 long (omega arith)
+returns c = λ p v long e. ap (λ (m : ℕ). count_trailing_zeros 64 ((m + 2 ^ 16) % 2 ^ 64)) e ∙ before_first p v long

@@ -8,12 +8,12 @@ use Rattle.iloc_handles.specs.Attributes.{with_attributes}
 use Rattle.iloc_handles.proofs.SubtagLemmas.{absent_word, removed_ascends, removed_word}
 use Rattle.iloc_handles.proofs.attributes.RemoveAttributeChange.apply.Goals as goal
 
-pub returns-in-Err-binary_search : goal.returns-in-Err-binary_search
-returns-in-Err-binary_search c =
+pub returns-in-Err : goal.returns-in-Err
+returns-in-Err c =
     let ws = c.args.locale.now.extensions.unicode.attributes in
     let slice = c.as_slice-attributes in
-    let new = search_new slice.result.now ws c.in-Ok.attribute c.in-Err-binary_search.field-0 slice.ensures.words
-    slice.ensures.ascending c.in-Err-binary_search.ensures.bound c.in-Err-binary_search.ensures.position in
+    let new = search_new slice.result.now ws c.in-Ok.attribute c.in-Err.field-0 slice.ensures.words
+    slice.ensures.ascending c.in-Err.ensures.bound c.in-Err.ensures.position in
     (absent_word Attribute c.args.self.now.0.now c.in-Ok.attribute ws c.in-Ok.ensures.1 new.absent, refl)
 
 pub without-requires-clause-ascends : goal.without-requires-clause-ascends

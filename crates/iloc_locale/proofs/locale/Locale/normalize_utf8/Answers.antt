@@ -1,18 +1,14 @@
-use Rattle.std.proofs.Common.{◌∙◌, sym}
+use Rattle.std.proofs.Common.{subst}
 use Rattle.std.proofs.lemmas.Result.{err_from_is_err_and}
-use Rattle.iloc_locale.specs.LocaleReading.{value_of}
-use Rattle.iloc_locale.proofs.NormalLemmas.{is_normalized, refuses_memory}
+use Rattle.iloc_langid.specs.PlainTexts.{IsNormalOfPlain}
+use Rattle.iloc_locale.proofs.NormalLemmas.{plain_normal, plain_refused}
 use Rattle.iloc_locale.proofs.locale.Locale.normalize_utf8.Goals as goal
 
-pub returns-in_err-to_string_or_borrow-clause-memory : goal.returns-in_err-to_string_or_borrow-clause-memory
-returns-in_err-to_string_or_borrow-clause-memory c =
-    let p = err_from_is_err_and c.from_residual-in_err-to_string_or_borrow.result c.from_residual-in_err-to_string_or_borrow.ensures.1 in
-    rw (p.1, p.2) (refuses_memory c.args.input.now (value_of c.in_ok-locale.locale) c.in_ok-locale.ensures.reads c.in_err-to_string_or_borrow.ensures.succeeds)
+pub returns-in_ok-normal-in-Some-clause-ok : goal.returns-in_ok-normal-in-Some-clause-ok
+returns-in_ok-normal-in-Some-clause-ok c =
+    plain_normal c.args.input.now c.in_ok-normal-in-Some.field-0 (subst (IsNormalOfPlain c.args.input.now) c.in_ok-normal-in-Some.was c.in-Some.ensures)
 
-pub returns-clause-ok : goal.returns-clause-ok
-returns-clause-ok c = (
-  is_normalized c.args.input.now _ (value_of c.in_ok-locale.locale) c.in_ok-locale.ensures.reads c.in_ok-to_string_or_borrow.ensures.text,
-  let text = c.in_ok-to_string_or_borrow.ensures.text in
-      let lent = c.in_ok-to_string_or_borrow.ensures.borrowed in
-      (λ l. lent.0 l ∙ sym text, λ e. lent.1 (e ∙ text)),
-)
+pub returns-in_err-normal-in-Some-clause-memory : goal.returns-in_err-normal-in-Some-clause-memory
+returns-in_err-normal-in-Some-clause-memory c =
+    let p = err_from_is_err_and c.from_residual.result c.from_residual.ensures.1 in
+    rw (p.1, p.2) (plain_refused c.args.input.now c.in_err-normal-in-Some.field-0.0 (subst (IsNormalOfPlain c.args.input.now) c.in_err-normal-in-Some.was c.in-Some.ensures))

@@ -1,0 +1,50 @@
+//! Copies of bytes. Few are copied in place, without a call.
+ghost use Rattle.std.specs.Prelude.{◌≡◌, ◌+◌, ◌≤◌, length, take};
+ghost use Rattle.iloc_spec_grammar.specs.Syntax.{lower};
+
+use iloc_plain::first_in_lower_case;
+
+/// Copies the first and the last bytes, which together are all of them.
+#[inline(always)]
+pub(crate) fn copy_ends(width: usize, from: &[u8], to: &mut [u8])
+    requires same { length to.old ≡ length from.now }
+    requires wide { width ≤ length from.now }
+    requires few { length from.now ≤ width + width }
+    ensures { to.new ≡ from.now }
+{
+    let last = from.len() - width;
+    to[..width].copy_from_slice(&from[..width]);
+    to[last..last + width].copy_from_slice(&from[last..last + width]);
+}
+
+/// Copies all bytes.
+#[inline(always)]
+pub(crate) fn copy_all(from: &[u8], to: &mut [u8])
+    requires { length to.old ≡ length from.now }
+    ensures { to.new ≡ from.now }
+{
+    match from.len() {
+        0 => (),
+        1 => to[0] = from[0],
+        2..=3 => copy_ends(2, from, to),
+        4..=7 => copy_ends(4, from, to),
+        8..=16 => copy_ends(8, from, to),
+        _ => to.copy_from_slice(from),
+    }
+}
+
+/// Copies the first `count` bytes, in lower case. The bytes after them are loaded too, and change nothing.
+pub(crate) fn copy_lower(from: &[u8], count: usize, to: &mut [u8])
+    requires bytes { count + 16 ≤ length from.now }
+    requires room { length to.old ≡ count }
+    ensures { to.new ≡ lower (take count from.now) }
+{
+    let mut at = 0;
+    'parts: while count - at > 16 {
+        let part = first_in_lower_case(&from[at..]);
+        copy_all(part.as_array(), &mut to[at..at + 16]);
+        at += 16;
+    }
+    let part = first_in_lower_case(&from[at..]);
+    copy_all(&part.as_array()[..count - at], &mut to[at..count]);
+}

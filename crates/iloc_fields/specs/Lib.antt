@@ -1,0 +1,3 @@
+pub mod ValueReading
+pub mod FieldsReading
+pub mod FieldsOrder

@@ -1,9 +1,0 @@
-use Rattle.std.proofs.Common.{length}
-use Rattle.iloc_subtags.specs.Carrying.{SoFar}
-use Rattle.iloc_subtags.proofs.carry.carry_v1.Given as goal
-
-abbrev pub invariant-words : goal.invariant-words
-invariant-words l = SoFar l.fn.row l.rest l.carried.items l.count
-
-abbrev pub decreases-words : goal.decreases-words
-decreases-words l = length l.rest
