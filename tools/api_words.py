@@ -110,7 +110,7 @@ READERS = {
     "iloc_unicode.KeywordsGive": (KEYWORDS, "there is a second key, or a keyword of more than four subtags besides `true`"),
     "iloc_unicode.UnicodeReadsAs": (begins("`u`", UNICODE), UNICODE_MEMORY),
     "iloc_unicode.UnicodeGives": (UNICODE, UNICODE_MEMORY),
-    "iloc_unicode_value.ReadsAs": ([("InvalidSubtag", "the text is not empty, and not all of it is subtags of 2 to 8 letters or digits")], "there are more than four subtags besides `true`"),
+    "iloc_word_list.ReadsAs": ([("InvalidSubtag", "the text is not empty, and not all of it is subtags of 2 to 8 letters or digits")], "there are more than four subtags besides `true`"),
     "iloc_transform.TransformTextReads": (begins("`t`", TRANSFORM), "there is a field, or a fifth variant"),
     "iloc_transform.TransformReads": (TRANSFORM, "there is a field, or a fifth variant"),
     "iloc_fields.FieldsFrontRead": ([("InvalidExtension", "a key has no value")], "there is a field"),

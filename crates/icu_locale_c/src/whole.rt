@@ -3,7 +3,7 @@ ghost use Rattle.std.specs.Prelude.{◌≡◌, ◌↔◌, IsTrue, None, Some};
 ghost use Rattle.std.specs.Ordering.{nat_cmp};
 ghost use Rattle.std.specs.Cmp.Lexicographic.{slice_cmp};
 ghost use Rattle.iloc_spec_grammar.specs.Values.{IsWellFormed, text as text_of};
-ghost use Rattle.iloc_spec_orders.specs.Orders.{locale_cmp};
+ghost use Rattle.iloc_spec_parts.specs.Orders.{locale_cmp};
 ghost use Rattle.iloc_locale.specs.LocaleReading.{unknown_locale};
 ghost use Rattle.iloc_calls.specs.Answers.{Tells, order_number};
 ghost use Rattle.iloc_calls.specs.Numbers.{EndsAs};

@@ -3,7 +3,7 @@ use Rattle.std.proofs.Common.{◌≡◌, ◌↔◌, ◌∙◌, Bool, IsTrue, ap,
 use Rattle.std.specs.Hash.{HashWrites}
 use Rattle.std.specs.Ordering.{on}
 use Rattle.std.specs.declared.cmp.Ordering.{Ordering}
-use Rattle.iloc_spec_orders.specs.Orders.{IsExactOrder}
+use Rattle.iloc_spec_parts.specs.Orders.{IsExactOrder}
 use Rattle.icu_locale_core.specs.Together.{CompareTogether}
 
 module _ {X V : Type 0} (value : X → V) (cmp : V → V → Ordering) (order : IsExactOrder cmp) where

@@ -9,8 +9,8 @@ pub use Rattle.iloc_spec_parts.specs.PartValues
 pub use Rattle.iloc_spec_parts.specs.Extending
 pub use Rattle.iloc_spec_parts.specs.Small
 pub use Rattle.iloc_spec_parts.specs.Inline
-pub use Rattle.iloc_spec_orders.specs.Orders
-pub use Rattle.iloc_spec_orders.specs.Hashes
+pub use Rattle.iloc_spec_parts.specs.Orders
+pub use Rattle.iloc_spec_parts.specs.Hashes
 pub use Rattle.iloc_spec_preferences.specs.Subdivisions
 pub use Rattle.iloc_spec_preferences.specs.DataLocales
 pub use Rattle.iloc_spec_preferences.specs.DataOrders
@@ -28,8 +28,8 @@ pub use Rattle.iloc_langid.specs.Reads
 pub use Rattle.iloc_langid.specs.SmallReads
 pub use Rattle.iloc_langid.specs.Normalizing as IdentifierNormalizing
 pub use Rattle.iloc_langid.specs.SmallLocaleReads
-pub use Rattle.iloc_unicode_value.specs.Values as UnicodeValues
-pub use Rattle.iloc_unicode_value.specs.Reads as UnicodeValueReads
+pub use Rattle.iloc_word_list.specs.Values as UnicodeValues
+pub use Rattle.iloc_word_list.specs.Reads as UnicodeValueReads
 pub use Rattle.iloc_unicode.specs.Reads as UnicodePartReads
 pub use Rattle.iloc_other.specs.Reading as OtherReading
 pub use Rattle.iloc_keyword_types.specs.Reads as KeywordReads

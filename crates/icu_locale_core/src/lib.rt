@@ -111,7 +111,7 @@ pub mod extensions {
         pub use iloc_unicode::{
             Attributes, Keywords, KeywordsIter, Unicode, equality, hashes, orders,
         };
-        pub use iloc_unicode_value::{
+        pub use iloc_word_list::{
             Value, equality as value_equality, hashes as value_hashes, orders as value_orders,
         };
 
@@ -168,7 +168,7 @@ pub mod preferences {
         pub mod unicode {
             /// Why the value of a keyword is refused.
             pub mod errors {
-                pub use iloc_unicode_value::PreferencesParseError;
+                pub use iloc_word_list::PreferencesParseError;
             }
 
             /// The types of keywords.

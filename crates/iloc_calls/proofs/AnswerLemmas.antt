@@ -15,8 +15,8 @@ use Rattle.iloc_spec_grammar.proofs.RawLaws.{languages_table}
 use Rattle.iloc_spec_grammar.proofs.FaultLaws.{accepted_no_fault}
 use Rattle.iloc_spec_grammar.proofs.IdentifierLaws as identifiers
 use Rattle.iloc_spec_grammar.proofs.Readings as readings
-use Rattle.iloc_spec_orders.specs.Orders.{identifier_cmp, locale_cmp}
-use Rattle.iloc_spec_orders.proofs.OrderLaws.{word_exact, identifier_exact, locale_exact}
+use Rattle.iloc_spec_parts.specs.Orders.{identifier_cmp, locale_cmp}
+use Rattle.iloc_spec_parts.proofs.OrderLaws.{word_exact, identifier_exact, locale_exact}
 use Rattle.iloc_spec_preferences.specs.DataLocales.{DataLocale, DataMeans, data_text}
 use Rattle.iloc_spec_preferences.proofs.DataLaws.{one_data, data_apart, read_back}
 use Rattle.iloc_spec_grammar.proofs.IdentifierTexts.{identifier_apart}

@@ -16,7 +16,7 @@ use iloc_enum_keywords::HourCycle;
 use iloc_keyword_types::{CalendarAlgorithm, NumberingSystem, key_of};
 use iloc_locale::Locale;
 use iloc_subtags::UnicodeKey;
-use iloc_unicode_value::Value;
+use iloc_word_list::Value;
 
 /// A type of keywords that formatters know.
 pub(crate) trait FormatterKeyword: Copy {

@@ -20,7 +20,7 @@ use crate::data_locale::DataLocale;
 use iloc_data_parts::region::{is_whole, named, whole_region};
 use iloc_keyword_types::SubdivisionId;
 use iloc_subtags::Subtag;
-use iloc_unicode_value::Value;
+use iloc_word_list::Value;
 
 // Whether the subtag ends as the whole of a region does, after as many bytes as a region has. Such a subtag names
 // nothing else.

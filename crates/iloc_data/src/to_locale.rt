@@ -19,7 +19,7 @@ use iloc_keyword_types::subdivision_keyword::{RegionOverrideKind, RegionalSubdiv
 use iloc_keyword_types::{KeywordKind, RegionOverride, RegionalSubdivision};
 use iloc_locale::Locale;
 use iloc_unicode::Keywords;
-use iloc_unicode_value::Value;
+use iloc_word_list::Value;
 use std::alloc::{AllocError, Global};
 
 impl LocalePreferences {

@@ -4,7 +4,7 @@ use Rattle.std.specs.Prelude.{if◌then◌else◌}
 use Rattle.std.specs.Result.{result_ok}
 use Rattle.iloc_spec_grammar.specs.Syntax.{Subtag}
 use Rattle.iloc_spec_grammar.specs.Values.{IsNormal}
-use Rattle.iloc_unicode_value.specs.Values.{without_true}
+use Rattle.iloc_word_list.specs.Values.{without_true}
 use Rattle.iloc_spec_preferences.specs.Subdivisions.{Subdivision, subdivision, subdivision_text}
 use Rattle.iloc_spec_preferences.specs.DataLocales.{is_whole, made_of, named_subdivision, subdivision_keyword, subdivision_value}
 use Rattle.iloc_data_parts.proofs.RegionLemmas.{printed_value}

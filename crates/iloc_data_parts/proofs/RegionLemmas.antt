@@ -4,7 +4,7 @@ use Rattle.std.specs.Prelude.{if◌then◌else◌}
 use Rattle.std.specs.Cmp.Lexicographic.{pointwise, texts_ties}
 use Rattle.iloc_spec_grammar.specs.Syntax.{Subtag, is_same, is_true}
 use Rattle.iloc_spec_grammar.specs.Values.{IsNormal}
-use Rattle.iloc_unicode_value.specs.Values.{without_true}
+use Rattle.iloc_word_list.specs.Values.{without_true}
 use Rattle.iloc_spec_preferences.specs.DataLocales.{subdivision_value}
 
 pub words_tie : (v w : List ℕ) → pointwise nat_eq v w ≡ is_same v w

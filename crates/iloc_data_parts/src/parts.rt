@@ -6,7 +6,7 @@ use crate::region::{is_whole, part_of};
 use iloc_keyword_types::SubdivisionId;
 use iloc_langid::read_small_locale;
 use iloc_subtags::{Language, ParseError, Region, Script, Variant};
-use iloc_unicode_value::Value;
+use iloc_word_list::Value;
 use iloc_writeable::{Pieces, Sink, Writeable};
 use std::fmt;
 

@@ -1,5 +1,5 @@
 -- The kinds of extensions.
-use Rattle.iloc_spec_orders.specs.Orders.{ExtensionKind, OfTransform, OfUnicode, OfPrivate, OfOther}
+use Rattle.iloc_spec_parts.specs.Orders.{ExtensionKind, OfTransform, OfUnicode, OfPrivate, OfOther}
 use Rattle.iloc_extensions.specs.declared.extension_type.ExtensionType.{ExtensionType}
 use Rattle.iloc_extensions.specs.declared.extension_type.ExtensionType.TheVariants.{Transform, Unicode, Private, Other}
 

@@ -1,6 +1,6 @@
 //! All extensions of a locale.
 ghost use Rattle.std.specs.Prelude.{◌≡◌, ◌↔◌, IsTrue};
-ghost use Rattle.iloc_spec_orders.specs.Orders.{extensions_cmp};
+ghost use Rattle.iloc_spec_parts.specs.Orders.{extensions_cmp};
 ghost use Rattle.iloc_unicode.specs.UnicodeValue as unicode_value;
 ghost use Rattle.iloc_extensions.specs.Retaining.{RetainsByType};
 

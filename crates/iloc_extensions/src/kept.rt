@@ -21,7 +21,7 @@ use iloc_other::Other;
 use iloc_subtags::UnicodeKey;
 use iloc_transform::Transform;
 use iloc_unicode::Unicode;
-use iloc_unicode_value::Value;
+use iloc_word_list::Value;
 
 // Looks at each part, so that they are known to be a value.
 pub(crate) fn look_at(extensions: &Extensions)

@@ -17,8 +17,8 @@
 #![tactic(auto)]
 
 ghost use Rattle.std.specs.Prelude.{◌≡◌, ◌↔◌, IsTrue};
-ghost use Rattle.iloc_spec_orders.specs.Orders.{kind_cmp};
-ghost use Rattle.iloc_spec_orders.specs.Hashes.{extensions_fed};
+ghost use Rattle.iloc_spec_parts.specs.Orders.{kind_cmp};
+ghost use Rattle.iloc_spec_parts.specs.Hashes.{extensions_fed};
 ghost use Rattle.iloc_extensions.specs.ExtensionsValue.{value_of};
 ghost use Rattle.iloc_extensions.specs.Kinds.{kind_of};
 

@@ -12,7 +12,7 @@ use crate::extensions::Extensions;
 use crate::kept::look_at;
 use iloc_other::Other;
 use iloc_unicode::Keywords;
-use iloc_unicode_value::Value;
+use iloc_word_list::Value;
 
 /// Whether the extensions are well-formed.
 ///

@@ -9,8 +9,8 @@ use Rattle.std.proofs.Common.{ap₂, ◌∙◌, sym, arith}
 use Rattle.std.proofs.lemmas.Bool.Decides.{nat_tests}
 use Rattle.iloc_spec_grammar.specs.Syntax.{Text, word_cmp, Fields}
 use lib.Pointwise.{pointwise}
-use Rattle.iloc_spec_orders.specs.Orders.{words_cmp, pair_cmp, fields_cmp}
-use Rattle.iloc_spec_orders.proofs.OrderLaws.{fields_exact}
+use Rattle.iloc_spec_parts.specs.Orders.{words_cmp, pair_cmp, fields_cmp}
+use Rattle.iloc_spec_parts.proofs.OrderLaws.{fields_exact}
 use Rattle.iloc_shortvec.specs.ShortOrder.{short_ties}
 
 then_is_eq : (o q : Ordering) → is_eq (ordering_then o q) ≡ (is_eq o && is_eq q)

@@ -3,8 +3,8 @@
 ghost use Rattle.std.specs.Prelude.{◌≡◌, ◌↔◌, IsTrue, ℕ, List};
 ghost use Rattle.iloc_spec_grammar.specs.Syntax.{Text};
 ghost use Rattle.iloc_spec_grammar.specs.Syntax as written;
-ghost use Rattle.iloc_spec_orders.specs.Orders.{words_cmp, fields_cmp};
-ghost use Rattle.iloc_spec_orders.specs.Hashes.{words_fed, fields_fed};
+ghost use Rattle.iloc_spec_parts.specs.Orders.{words_cmp, fields_cmp};
+ghost use Rattle.iloc_spec_parts.specs.Hashes.{words_fed, fields_fed};
 
 use crate::{Fields, Value};
 use std::hash::Hash;

@@ -29,7 +29,7 @@ ghost use Rattle.iloc_spec_grammar.specs.Values.{spelled_fields, fields_text};
 ghost use Rattle.std.specs.Ordering.{as_partial_cmp};
 ghost use Rattle.std.specs.Cmp.{partial_order_from_agreeing_total};
 ghost use Rattle.std.proofs.Common.{refl};
-ghost use Rattle.iloc_spec_orders.specs.Orders.{fields_cmp};
+ghost use Rattle.iloc_spec_parts.specs.Orders.{fields_cmp};
 ghost use Rattle.iloc_fields.specs.FieldsOrder.{fields_ties, fields_total};
 ghost use Rattle.iloc_litemap.specs.Pairs.{IsAscending};
 ghost use Rattle.iloc_subtags.specs.Left.{left};

@@ -7,7 +7,7 @@ use Rattle.iloc_spec_grammar.specs.Syntax.{Text, join, UnicodeKey, IsWord, is_wo
 use Rattle.iloc_spec_grammar.specs.Meaning.{Locale, Fault}
 use Rattle.iloc_spec_grammar.specs.Meaning as faults
 use Rattle.iloc_spec_parts.specs.PartValues.{unicode_value}
-use Rattle.iloc_unicode_value.specs.Reads.{ValueWants}
+use Rattle.iloc_word_list.specs.Reads.{ValueWants}
 use Rattle.iloc_handles.specs.Finding.{Changing, Sets, Removes}
 use Rattle.iloc_handles.specs.Pairs.{HasKey, value_at}
 

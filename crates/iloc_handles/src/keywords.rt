@@ -7,7 +7,7 @@ use crate::subtags::word_of;
 use iloc_calls::Status;
 use iloc_locale::Locale;
 use iloc_subtags::{UnicodeKey, UnicodeKeyKind};
-use iloc_unicode_value::Value;
+use iloc_word_list::Value;
 use std::alloc::Global;
 
 /// The keywords.

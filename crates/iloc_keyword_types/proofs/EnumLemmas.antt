@@ -12,12 +12,12 @@ use Rattle.std.specs.Cmp.Lexicographic.{slice_cmp}
 use Rattle.std.proofs.lemmas.Bool.{and_parts}
 use Rattle.iloc_spec_grammar.specs.Syntax.{Subtag, word_cmp, is_word, lower, is_same, is_true}
 use Rattle.iloc_spec_grammar.specs.Values.{IsNormal, spelled_value}
-use Rattle.iloc_spec_orders.specs.Orders.{pair_cmp}
-use Rattle.iloc_unicode_value.specs.Values as values
+use Rattle.iloc_spec_parts.specs.Orders.{pair_cmp}
+use Rattle.iloc_word_list.specs.Values as values
 use Rattle.iloc_spec_parts.specs.SingleValues.{single}
 use Rattle.iloc_spec_preferences.specs.Keywords.{EnumKeyword, CalendarAlgorithm, CollationType, CollationCaseFirst, CollationNumericOrdering, CurrencyFormatStyle, EmojiPresentationStyle, FirstDay, HourCycle, LineBreakStyle, LineBreakWordHandling, MeasurementSystem, MeasurementUnitOverride, SentenceBreakSupressions, CommonVariantType, EnumValue, numbered, variants, further_readings, readings, unspelled_value, enum_reads, enum_words, enum_gives}
 use Rattle.iloc_spec_preferences.proofs.KeywordLaws.{reads_what_it_gives}
-use Rattle.iloc_unicode_value.specs.declared.errors.PreferencesParseError.TheVariants.{InvalidKeywordValue}
+use Rattle.iloc_word_list.specs.declared.errors.PreferencesParseError.TheVariants.{InvalidKeywordValue}
 use Rattle.iloc_keyword_types.specs.WordTables.{place_of, word_at}
 use Rattle.iloc_keyword_types.specs.Reads.{Reads}
 use Rattle.iloc_spec_grammar.proofs.MapLaws.{same_is}

@@ -4,7 +4,7 @@ use Rattle.iloc_spec_grammar.specs.Syntax.{Subtag, is_true, is_word, lower}
 use Rattle.iloc_spec_grammar.specs.Values.{IsNormal}
 use Rattle.iloc_spec_preferences.specs.Keywords as keywords
 use Rattle.iloc_spec_preferences.specs.Keywords.{variants, hijri_kinds, enum_reads, enum_gives}
-use Rattle.iloc_unicode_value.specs.Values.{without_true}
+use Rattle.iloc_word_list.specs.Values.{without_true}
 use Rattle.iloc_keyword_types.specs.WordTables.{word_at}
 use Rattle.iloc_keyword_types.specs.declared.hijri.HijriCalendarAlgorithm.{HijriCalendarAlgorithm}
 use Rattle.iloc_keyword_types.specs.declared.hijri.HijriCalendarAlgorithm.TheVariants.{Umalqura, Tbla, Civil, Rgsa}

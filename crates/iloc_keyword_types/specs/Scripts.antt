@@ -2,8 +2,8 @@
 use Rattle.std.specs.Prelude.{◌≡◌, ◌<◌, List, length, Some, None, Result, Ok, Err}
 use Rattle.iloc_spec_grammar.specs.Syntax.{Text}
 use Rattle.iloc_spec_preferences.specs.Keywords.{scripts_read}
-use Rattle.iloc_unicode_value.specs.declared.errors.PreferencesParseError.{PreferencesParseError}
-use Rattle.iloc_unicode_value.specs.declared.errors.PreferencesParseError.TheVariants.{InvalidKeywordValue, OutOfMemory}
+use Rattle.iloc_word_list.specs.declared.errors.PreferencesParseError.{PreferencesParseError}
+use Rattle.iloc_word_list.specs.declared.errors.PreferencesParseError.TheVariants.{InvalidKeywordValue, OutOfMemory}
 
 -- The list is read as these scripts, or refused; memory may run out only for a fifth one.
 abbrev pub ReadsScripts : List Text → Result (List Text) PreferencesParseError → Type 0

@@ -15,7 +15,7 @@ use crate::enum_keyword::known_subtag;
 use crate::hijri::HijriCalendarAlgorithm;
 use crate::{PreferenceKey, WordEnum, find_word, known_keys};
 use iloc_subtags::UnicodeKey;
-use iloc_unicode_value::{PreferencesParseError, Value};
+use iloc_word_list::{PreferencesParseError, Value};
 use std::alloc::{AllocError, Global};
 
 // The calendar of one word: that of a variant, or an old form.

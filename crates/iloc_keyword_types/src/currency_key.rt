@@ -6,7 +6,7 @@ ghost use Rattle.iloc_keyword_types.specs.Reads.{Reads, ReadsUnder, GivesKeyed};
 use crate::known_keys;
 use crate::preference_key::PreferenceKey;
 use iloc_subtags::{CurrencyType, UnicodeKey};
-use iloc_unicode_value::{PreferencesParseError, Value};
+use iloc_word_list::{PreferencesParseError, Value};
 use std::alloc::{AllocError, Global};
 
 /// Its key, what its value is parsed as, and the value that it is turned into.

@@ -15,7 +15,7 @@ ghost use Rattle.iloc_spec_grammar.specs.Values.{IsNormal, spelled_value};
 use crate::preference_key::PreferenceKey;
 use crate::word_enum::{WordEnum, find_word};
 use iloc_subtags::{Subtag, UnicodeKey};
-use iloc_unicode_value::{PreferencesParseError, Value};
+use iloc_word_list::{PreferencesParseError, Value};
 use std::alloc::{AllocError, Global};
 
 /// A keyword whose values are the words of its variants, one each.

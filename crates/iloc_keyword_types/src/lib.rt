@@ -12,8 +12,8 @@
 //! definitions say, and turned into the value that they say. Only the list of scripts may allocate: to be parsed
 //! from more than four, and to be turned into a value.
 //!
-//! It stands on the definitions of keywords (`iloc_spec_preferences`) and of regions (`iloc_spec_preferences`), on words and
-//! on values (`iloc_subtags`, `iloc_unicode_value`).
+//! It stands on the definitions of keywords and of regions (`iloc_spec_preferences`), on subtags and on values
+//! (`iloc_subtags`, `iloc_word_list`).
 #![tactic(auto)]
 
 ghost use Rattle.std.specs.Prelude.{◌≡◌, ◌↔◌, true};
@@ -40,7 +40,7 @@ pub mod word_enum;
 pub use calendar_algorithm::CalendarAlgorithm;
 pub use enum_keyword::{EnumKeyword, give_keyword, read_keyword};
 pub use hijri::HijriCalendarAlgorithm;
-pub use iloc_unicode_value::PreferencesParseError;
+pub use iloc_word_list::PreferencesParseError;
 pub use preference_key::{PreferenceKey, key_of};
 pub use script_exclusions::DictionaryBreakScriptExclusions;
 pub use single_keyword::{KeywordKind, SingleKeyword, SubtagContent, keyword_of};

@@ -6,8 +6,8 @@ ghost use Rattle.iloc_keyword_types.specs.Reads.{ReadsUnder};
 ghost use Rattle.iloc_keyword_types.specs.Scripts.{ReadsScripts};
 
 use crate::{PreferenceKey, PreferencesParseError, key_of};
-use iloc_subtags::{Script, ScriptKind, Subtag, UnicodeKey, WordList};
-use iloc_unicode_value::Value;
+use iloc_subtags::{Script, ScriptKind, Subtag, UnicodeKey};
+use iloc_word_list::{Value, WordList};
 use std::alloc::{AllocError, Global};
 use std::marker::Model;
 

@@ -5,7 +5,7 @@ ghost use Rattle.iloc_keyword_types.specs.Reads.{Reads, ReadsUnder, GivesKeyed};
 
 use crate::{PreferenceKey, PreferencesParseError};
 use iloc_subtags::UnicodeKey;
-use iloc_unicode_value::Value;
+use iloc_word_list::Value;
 use std::alloc::{AllocError, Global};
 use std::fmt;
 use std::marker::{Model, PhantomData};

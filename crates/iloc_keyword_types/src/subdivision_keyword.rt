@@ -5,7 +5,7 @@ ghost use Rattle.iloc_spec_preferences.specs.Keywords.{subdivision_reads, subdiv
 use crate::single_keyword::{KeywordKind, SingleKeyword, SubtagContent};
 use crate::{SubdivisionId, known_keys};
 use iloc_subtags::UnicodeKey;
-use iloc_unicode_value::Value;
+use iloc_word_list::Value;
 
 /// The subdivision that the only subtag of the value names.
 impl SubtagContent for SubdivisionId {
@@ -13,7 +13,7 @@ impl SubtagContent for SubdivisionId {
 
     ghost gives = { subdivision_gives };
 
-    #[tactic(auto, using(iloc_unicode_value::proofs::CurrencyLemmas::only_is_single))]
+    #[tactic(auto, using(iloc_word_list::proofs::CurrencyLemmas::only_is_single))]
     fn of_value(value: &Value) -> Option<SubdivisionId> {
         let subtag = value.as_single_subtag()?;
         SubdivisionId::try_from_str(subtag.as_str()).ok()

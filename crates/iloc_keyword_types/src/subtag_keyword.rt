@@ -6,7 +6,7 @@ ghost use Rattle.iloc_spec_preferences.specs.Keywords.{subtag_gives};
 use crate::known_keys;
 use crate::single_keyword::{KeywordKind, SingleKeyword, SubtagContent};
 use iloc_subtags::{Subtag, UnicodeKey};
-use iloc_unicode_value::Value;
+use iloc_word_list::Value;
 
 /// The only subtag of the value itself.
 impl SubtagContent for Subtag {
@@ -14,7 +14,7 @@ impl SubtagContent for Subtag {
 
     ghost gives = { subtag_gives };
 
-    #[tactic(auto, using(iloc_unicode_value::proofs::CurrencyLemmas::only_is_single))]
+    #[tactic(auto, using(iloc_word_list::proofs::CurrencyLemmas::only_is_single))]
     fn of_value(value: &Value) -> Option<Subtag> {
         Some(*value.as_single_subtag()?)
     }

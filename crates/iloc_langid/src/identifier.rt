@@ -6,7 +6,7 @@ ghost use Rattle.std.specs.Cmp.Lexicographic.{slice_cmp};
 ghost use Rattle.iloc_spec_grammar.specs.Syntax.{languages, pieces, head, Identifier};
 ghost use Rattle.iloc_spec_grammar.specs.Meaning.{IdentifierMeans, Fault, HasIdentifierFault};
 ghost use Rattle.iloc_spec_grammar.specs.Values.{IsIdentifierValue, IsNormal, identifier_text};
-ghost use Rattle.iloc_spec_orders.specs.Orders.{identifier_cmp};
+ghost use Rattle.iloc_spec_parts.specs.Orders.{identifier_cmp};
 ghost use Rattle.iloc_subtags.specs.Judging.{Accepts, Refuses};
 ghost use Rattle.iloc_langid.specs.Unknown.{unknown_identifier};
 

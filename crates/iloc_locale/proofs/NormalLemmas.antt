@@ -8,8 +8,8 @@ use Rattle.iloc_spec_grammar.specs.Meaning.{Extensions, IdentifierMeans, Means, 
 use Rattle.iloc_spec_grammar.specs.Values.{IsValue, IsWellFormed, text, identifier_text}
 use Rattle.iloc_spec_grammar.proofs.FaultLaws.{accepted_no_fault}
 use Rattle.std.specs.Ordering.{is_eq}
-use Rattle.iloc_spec_orders.specs.Orders.{locale_cmp}
-use Rattle.iloc_spec_orders.proofs.OrderLaws.{locale_exact}
+use Rattle.iloc_spec_parts.specs.Orders.{locale_cmp}
+use Rattle.iloc_spec_parts.proofs.OrderLaws.{locale_exact}
 use Rattle.iloc_spec_grammar.proofs.RawLaws.{languages_table}
 use Rattle.iloc_spec_grammar.proofs.Corollaries.{texts_lead_to_one, same_meaning, means_again}
 use Rattle.iloc_spec_grammar.proofs.Chains.{chain_to_text, shortest}

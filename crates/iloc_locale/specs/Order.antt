@@ -4,8 +4,8 @@ use Rattle.std.specs.declared.cmp.Ordering.{Ordering}
 use Rattle.std.specs.declared.cmp.Ordering.TheVariants.{Equal}
 use Rattle.std.specs.Cmp.{IsTotalOrder, on_total}
 use Rattle.iloc_spec_grammar.specs.Meaning.{Locale}
-use Rattle.iloc_spec_orders.specs.Orders.{locale_cmp}
-use Rattle.iloc_spec_orders.proofs.OrderLaws.{locale_exact}
+use Rattle.iloc_spec_parts.specs.Orders.{locale_cmp}
+use Rattle.iloc_spec_parts.proofs.OrderLaws.{locale_exact}
 use Rattle.iloc_locale.specs.LocaleReading as locale
 use Rattle.iloc_locale.specs.declared.ordered.OrderedLocale.{OrderedLocale}
 

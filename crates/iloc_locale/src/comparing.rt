@@ -5,7 +5,7 @@ ghost use Rattle.std.specs.Cmp.Lexicographic.{slice_cmp};
 ghost use Rattle.iloc_spec_grammar.specs.Syntax.{languages};
 ghost use Rattle.iloc_spec_grammar.specs.Meaning.{Means};
 ghost use Rattle.iloc_spec_grammar.specs.Values.{text};
-ghost use Rattle.iloc_spec_orders.specs.Orders.{locale_cmp};
+ghost use Rattle.iloc_spec_parts.specs.Orders.{locale_cmp};
 
 use crate::locale::Locale;
 use iloc_subtags::ParseError;

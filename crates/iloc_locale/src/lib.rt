@@ -17,7 +17,7 @@
 ghost use Rattle.std.specs.Prelude.{◌≡◌, ◌↔◌, IsTrue};
 ghost use Rattle.iloc_spec_grammar.specs.Syntax.{Text, pieces, Language, IsWord, languages, first_piece};
 ghost use Rattle.iloc_spec_parts.specs.Inline.{IsInline};
-ghost use Rattle.iloc_spec_orders.specs.Hashes.{locale_fed};
+ghost use Rattle.iloc_spec_parts.specs.Hashes.{locale_fed};
 ghost use Rattle.iloc_locale.specs.LocaleReading.{WantsMemory, IsTextOf, NormalizingWantsMemory, value_of};
 
 use std::hash::Hash;

@@ -4,13 +4,13 @@
 //! subtags. Readers take exactly what the grammar of UTS #35, section 3, allows after a singleton,
 //! by the relations of `iloc_spec_parts`, which also say what that means for a locale. Both print as the
 //! normal text does.
-//! The crate stands on the subtags, the lists of them and the pieces of `iloc_subtags`.
+//! It stands on subtags and pieces (`iloc_subtags`), and on lists of subtags (`iloc_word_list`).
 #![tactic(auto)]
 
 ghost use Rattle.std.specs.Prelude.{◌≡◌, ◌↔◌, IsTrue, ℕ, List};
 ghost use Rattle.iloc_spec_grammar.specs.Syntax.{Text};
-ghost use Rattle.iloc_spec_orders.specs.Orders.{words_cmp, other_cmp};
-ghost use Rattle.iloc_spec_orders.specs.Hashes.{words_fed, other_fed};
+ghost use Rattle.iloc_spec_parts.specs.Orders.{words_cmp, other_cmp};
+ghost use Rattle.iloc_spec_parts.specs.Hashes.{words_fed, other_fed};
 
 use std::hash::Hash;
 

@@ -14,7 +14,8 @@ ghost use Rattle.iloc_subtags.specs.Left.{left};
 ghost use Rattle.iloc_other.specs.Reading.{OtherReads, OtherTextReads, OtherTextWants};
 
 use crate::singleton::take_singleton;
-use iloc_subtags::{ParseError, Subtag, SubtagIterator, SubtagKind, WordList, next_has_length};
+use iloc_subtags::{ParseError, Subtag, SubtagIterator, SubtagKind, next_has_length};
+use iloc_word_list::WordList;
 use iloc_writeable::{Pieces, Sink, Writeable};
 use std::alloc::{AllocError, Global};
 use std::marker::Model;

@@ -13,7 +13,8 @@ ghost use Rattle.iloc_subtags.specs.Judging.{Accepts, Refuses};
 ghost use Rattle.iloc_other.specs.Reading.{PrivateReads, PrivateTextReads, PrivateTextWants};
 
 use crate::singleton::take_singleton;
-use iloc_subtags::{ParseError, PrivateSubtag, PrivateSubtagKind, SubtagIterator, WordList};
+use iloc_subtags::{ParseError, PrivateSubtag, PrivateSubtagKind, SubtagIterator};
+use iloc_word_list::WordList;
 use iloc_writeable::{Pieces, Sink, Writeable};
 use std::alloc::{AllocError, Global};
 use std::marker::Model;

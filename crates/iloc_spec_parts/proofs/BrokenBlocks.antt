@@ -1,13 +1,13 @@
 -- Blocks that break their rule before anything is kept of them.
-use Rattle.std.proofs.Common.{◌≡◌, ℕ, ◌≤◌, Bool, true, false, not, ◌&&◌, List, [], ◌∷◌, ◌++◌, length, map, refl, sym, ap, ◌∙◌, subst, arith, Option, Some, None, true≢false}
+use Rattle.std.proofs.Common.{◌≡◌, ℕ, ◌≤◌, Bool, true, false, List, [], ◌∷◌, ◌++◌, length, map, refl, sym, ap, ◌∙◌, subst, arith, Option, true≢false}
 use Rattle.std.specs.List.{AllByRecursion}
 use Rattle.std.proofs.lemmas.Bool.{and_parts, false_from_ne_true, not-true}
-use Rattle.iloc_spec_grammar.specs.Syntax.{Language, UnicodeKey, TransformKey, Attribute, is_word, IsWord, lower, Identifier, IsOther, kept, singleton, is_other_singleton, is_one_byte, first_piece}
+use Rattle.iloc_spec_grammar.specs.Syntax.{Language, UnicodeKey, TransformKey, Attribute, is_word, IsWord, lower, Identifier, kept, singleton, is_other_singleton, first_piece}
 use Rattle.iloc_spec_grammar.specs.Meaning.{set_of, normal_fields, normal_values}
-use Rattle.iloc_spec_grammar.specs.Reading.{passing, is_two, rest_of, starts_block, IdentifierFront}
+use Rattle.iloc_spec_grammar.specs.Reading.{is_two, rest_of, starts_block}
 use Rattle.iloc_spec_grammar.proofs.Readings.{long_attribute, language_no_key}
 use Rattle.iloc_spec_grammar.proofs.Singletons.{no_u, no_t, no_x}
-use Rattle.iloc_spec_parts.specs.Fronts.{attributes_front, after_attributes, attributes_read, is_bad_key, FrontRead, absent, present, BeginsField, has_other_length, other_front, keywords_kept}
+use Rattle.iloc_spec_parts.specs.Fronts.{attributes_front, after_attributes, is_bad_key, FrontRead, absent, present, BeginsField, has_other_length, other_front, keywords_kept}
 use Rattle.iloc_spec_parts.proofs.FrontLaws.{not_two_bytes}
 use Rattle.iloc_spec_parts.proofs.TransformLaws.{front_language, no_key_empty}
 use Rattle.iloc_spec_parts.specs.Inline.{IsShortUnicode, IsShortTransform, IsShortOther, IsShortBlock}

@@ -16,7 +16,7 @@ use Rattle.iloc_spec_grammar.proofs.ReadBack.{all_append}
 use Rattle.iloc_spec_grammar.proofs.Readings.{head-spelling, blocks-spelling}
 use Rattle.iloc_spec_grammar.proofs.SetLaws.{length-set_of-different}
 use Rattle.iloc_spec_parts.specs.Inline.{IsInline, HasFewValues, IsShortUnicode, IsShortTransform, IsShortBlock, IsInlineByBlocks, ReachesLongBlock, here, later}
-use Rattle.iloc_spec_parts.specs.Fronts.{FrontRead, absent, present, fields_front, BeginsField, before_bad_key}
+use Rattle.iloc_spec_parts.specs.Fronts.{FrontRead, absent, present, fields_front, before_bad_key}
 use Rattle.iloc_spec_parts.proofs.FrontLaws.{unicode_taken, keywords_taken}
 use Rattle.iloc_spec_parts.proofs.KeptLaws.{kept_all, passing_short, some_fields}
 use Rattle.iloc_spec_parts.proofs.TransformLaws.{one_front, one_longest, front_language, transform_spelled}

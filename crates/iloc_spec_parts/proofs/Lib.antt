@@ -16,3 +16,5 @@ pub mod InlineLaws
 pub mod WiderSmall
 pub mod InlineBlockLaws
 pub mod BrokenBlocks
+pub mod OrderLaws
+pub mod HashLaws

@@ -1,6 +1,6 @@
 -- Inline texts: locales of at most four words in each list and one keyword, which are read without
 -- memory, since so many are kept inline. Every small text is one. This project's rule.
-use Rattle.std.specs.Prelude.{◌≡◌, ◌≤◌, [], length, IfSome, ⊤, ℕ, true, List, ◌∷◌, ◌++◌, Option}
+use Rattle.std.specs.Prelude.{◌≡◌, ◌≤◌, [], length, IfSome, ⊤, true, List, ◌∷◌, ◌++◌, Option}
 use Rattle.std.specs.List.{AllByRecursion}
 use Rattle.iloc_spec_grammar.specs.Syntax.{Text, Table, Block, code_t, code_u, code_x, pieces, Extension, unicode, Written, IsWritten, spelling, Identifier, identifier_pieces, IsIdentifier, IsOther, kept, is_other_singleton, singleton}
 use Rattle.iloc_spec_grammar.specs.Meaning.{extensions_meaning, normal_identifier, normal_values, normal_fields, head, tail_blocks, IsBlock, HasSingleton, IsNew}

@@ -9,3 +9,6 @@ pub mod ByReaders
 pub mod Small
 pub mod SmallComputing
 pub mod Inline
+pub mod Orders
+pub mod Hashes
+pub mod Examples

@@ -1,8 +1,8 @@
 -- Subdivisions and data locales are told by what they feed a hasher.
 use Rattle.std.proofs.Common.{◌≡◌, ◌↔◌, ℕ, ◌^◌, ◌<◌, ◌≤◌, ◌+◌, List, [], ◌++◌, length, Option, Some, None, refl, ap, arith, length-append}
 use Rattle.std.specs.Hash.{HashWrites, option}
-use Rattle.iloc_spec_orders.specs.Hashes.{HashesByOrder, word_fed}
-use Rattle.iloc_spec_orders.proofs.HashLaws.{Tells, word_tells, both_tell, option_tells, through, hashes_by}
+use Rattle.iloc_spec_parts.specs.Hashes.{HashesByOrder, word_fed}
+use Rattle.iloc_spec_parts.proofs.HashLaws.{Tells, word_tells, both_tell, option_tells, through, hashes_by}
 use Rattle.iloc_spec_preferences.specs.Subdivisions.{Subdivision}
 use Rattle.iloc_spec_preferences.specs.DataLocales.{DataLocale, DataKey, data_key}
 use Rattle.iloc_spec_preferences.specs.DataOrders.{subdivision_cmp}

@@ -4,9 +4,9 @@ use Rattle.std.specs.declared.cmp.Ordering.TheVariants.{Equal}
 use Rattle.std.specs.Cmp.{IsTotalOrder, on_total}
 use Rattle.iloc_spec_preferences.specs.Subdivisions.{Subdivision}
 use Rattle.iloc_spec_preferences.specs.DataLocales.{DataLocale, data_key}
-use Rattle.iloc_spec_orders.specs.Orders.{IsExactOrder}
+use Rattle.iloc_spec_parts.specs.Orders.{IsExactOrder}
 use Rattle.iloc_spec_preferences.specs.DataOrders.{subdivision_cmp, data_key_cmp, data_locale_cmp}
-use Rattle.iloc_spec_orders.proofs.OrderLaws.{on_exact, pair_exact, option_exact, word_exact}
+use Rattle.iloc_spec_parts.proofs.OrderLaws.{on_exact, pair_exact, option_exact, word_exact}
 
 pub subdivision_exact : IsExactOrder subdivision_cmp
 subdivision_exact = on_exact {Y = List ℕ × List ℕ} (λ s. (s.region, s.suffix)) (λ p. record { region = p.0; suffix = p.1 }) (λ s. refl) (pair_exact word_exact word_exact)

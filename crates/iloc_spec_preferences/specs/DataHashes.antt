@@ -2,7 +2,7 @@
 -- stand for. This project's rule, as in the Rust crate.
 use Rattle.std.specs.Prelude.{◌++◌}
 use Rattle.std.specs.Hash.{HashWrites, option}
-use Rattle.iloc_spec_orders.specs.Hashes.{word_fed}
+use Rattle.iloc_spec_parts.specs.Hashes.{word_fed}
 use Rattle.iloc_spec_preferences.specs.Subdivisions.{Subdivision}
 use Rattle.iloc_spec_preferences.specs.DataLocales.{DataLocale, DataKey, data_key}
 

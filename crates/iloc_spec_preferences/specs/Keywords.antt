@@ -12,7 +12,7 @@ use Rattle.std.specs.FinMap.{find}
 use Rattle.iloc_spec_grammar.specs.Syntax.{Text, Script, word, lower, word_cmp, is_true}
 pub use Rattle.iloc_spec_parts.specs.SingleValues.{single}
 use Rattle.iloc_spec_preferences.specs.Subdivisions.{Subdivision, subdivision, subdivision_text}
-use Rattle.iloc_spec_orders.specs.Orders.{pair_cmp}
+use Rattle.iloc_spec_parts.specs.Orders.{pair_cmp}
 use Rattle.iloc_spec_grammar.specs.Values.{spelled_value}
 
 -- The keywords with a fixed set of values, by the names of their types.

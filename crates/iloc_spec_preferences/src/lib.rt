@@ -2,7 +2,7 @@
 //!
 //! `regions` has the laws of subdivisions and data locales, `preferences` those of keyword types and preferences.
 //!
-//! It stands on `iloc_spec_grammar`, `iloc_spec_parts` and `iloc_spec_orders`.
+//! It stands on `iloc_spec_grammar` and `iloc_spec_parts`.
 #![tactic(auto)]
 
 pub mod preferences;

@@ -12,10 +12,7 @@
 //! it has left, and each piece is a slice of the input. `take_word` takes the next piece if it is a word of a kind.
 //! `is_at_block` tells where a part ends.
 //!
-//! `WordList` is a list of subtags of one kind, each normal. Up to four stand in place.
-//!
-//! It stands on `iloc_spec_grammar` (definitions), `iloc_tinystr` (short texts), `iloc_shortvec` (lists that keep four
-//! items in place) and `iloc_writeable` (printing).
+//! It stands on `iloc_spec_grammar` (definitions), `iloc_tinystr` (short texts) and `iloc_writeable` (printing).
 #![tactic(auto)]
 
 pub mod any_kind;
@@ -25,7 +22,6 @@ pub mod kind;
 pub mod parse_error;
 pub mod reading;
 pub mod subtag_iterator;
-pub mod word_list;
 pub mod word_of;
 
 pub use any_kind::Word;
@@ -42,5 +38,4 @@ pub use kind::WordKind;
 pub use parse_error::ParseError;
 pub use reading::{is_at_block, next_has_length, take_byte, take_word};
 pub use subtag_iterator::SubtagIterator;
-pub use word_list::WordList;
 pub use word_of::{WordOf, are_normal, is_normal, subtag_of};

@@ -6,7 +6,7 @@ ghost use Rattle.std.specs.Result.{result_and};
 ghost use Rattle.iloc_spec_grammar.specs.Syntax.{identifier_pieces, optional_pieces};
 ghost use Rattle.iloc_spec_grammar.specs.Values.{lower_identifier};
 ghost use Rattle.iloc_langid.specs.Reads.{value_of};
-ghost use Rattle.iloc_spec_orders.specs.Orders.{identifier_cmp};
+ghost use Rattle.iloc_spec_parts.specs.Orders.{identifier_cmp};
 ghost use Rattle.iloc_subtags.specs.Left.{left};
 ghost use Rattle.iloc_transform.specs.LangReading.{LangReads};
 

@@ -11,7 +11,7 @@ ghost use Rattle.iloc_spec_grammar.specs.Syntax.{Text, languages};
 ghost use Rattle.iloc_spec_grammar.specs.Syntax as written;
 ghost use Rattle.iloc_spec_grammar.specs.Meaning.{front};
 ghost use Rattle.iloc_spec_grammar.specs.ByBlocks.{TransformMeans};
-ghost use Rattle.iloc_spec_orders.specs.Hashes.{transform_fed};
+ghost use Rattle.iloc_spec_parts.specs.Hashes.{transform_fed};
 ghost use Rattle.iloc_transform.specs.declared.transform.Transform.{Transform};
 ghost use Rattle.iloc_transform.specs.TransformReading.{WantsMemory, value_of};
 

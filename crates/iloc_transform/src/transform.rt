@@ -20,7 +20,7 @@ ghost use Rattle.iloc_spec_grammar.specs.Syntax.{languages};
 ghost use Rattle.iloc_spec_grammar.specs.Syntax as written;
 ghost use Rattle.iloc_spec_grammar.specs.Meaning.{Fault};
 ghost use Rattle.iloc_spec_parts.specs.Parts.{TransformText, TransformTextFault};
-ghost use Rattle.iloc_spec_orders.specs.Orders.{transform_cmp};
+ghost use Rattle.iloc_spec_parts.specs.Orders.{transform_cmp};
 ghost use Rattle.iloc_subtags.specs.Judging.{Accepts, Refuses};
 ghost use Rattle.iloc_subtags.specs.Left.{left};
 ghost use Rattle.iloc_transform.specs.TransformReading.{TransformReads};

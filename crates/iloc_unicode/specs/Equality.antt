@@ -3,7 +3,7 @@ use Rattle.std.proofs.Common.{ℕ, Bool, ◌&&◌, List, ap, nat_eq}
 use Rattle.std.proofs.lemmas.Bool.{and_parts, and_from}
 use Rattle.iloc_spec_grammar.specs.Syntax.{Text, Fields, Unicode}
 use lib.Pointwise.{pointwise}
-use Rattle.iloc_unicode_value.specs.Equality.{IsExactTest, word_exact, words_eq, words_exact, lists_exact}
+use Rattle.iloc_word_list.specs.Equality.{IsExactTest, word_exact, words_eq, words_exact, lists_exact}
 
 -- the key, and then the value
 abbrev pub pair_eq : Text × List Text → Text × List Text → Bool

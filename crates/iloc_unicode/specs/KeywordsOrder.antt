@@ -6,10 +6,10 @@ use Rattle.std.specs.declared.cmp.Ordering.TheVariants.{Less, Equal, Greater}
 use Rattle.std.specs.Cmp.{IsTotalOrder}
 use Rattle.std.specs.Cmp.Lexicographic.{texts_ties}
 use Rattle.iloc_spec_grammar.specs.Syntax.{Text, word_cmp, Fields}
-use Rattle.iloc_spec_orders.specs.Orders.{pair_cmp, words_cmp, keywords_cmp}
-use Rattle.iloc_spec_orders.proofs.OrderLaws.{keywords_exact}
+use Rattle.iloc_spec_parts.specs.Orders.{pair_cmp, words_cmp, keywords_cmp}
+use Rattle.iloc_spec_parts.proofs.OrderLaws.{keywords_exact}
 use Rattle.iloc_shortvec.specs.ShortOrder.{short_ties}
-use Rattle.iloc_unicode_value.specs.Equality.{words_eq}
+use Rattle.iloc_word_list.specs.Equality.{words_eq}
 use Rattle.iloc_unicode.specs.Equality.{pair_eq, fields_eq}
 
 pub keywords_total : IsTotalOrder keywords_cmp

@@ -3,7 +3,7 @@ use Rattle.std.specs.Prelude.{ℕ, List, Option}
 use Rattle.std.specs.Borrow.{LendsIf, Fml, MutBor}
 use Rattle.std.specs.FinMap.{put}
 use Rattle.iloc_spec_grammar.specs.Syntax.{Text, word_cmp, Fields}
-use Rattle.iloc_unicode_value.specs.contracts.value.Value as value
+use Rattle.iloc_word_list.specs.contracts.value.Value as value
 use Rattle.iloc_unicode.specs.contracts.keywords.Keywords as keywords
 
 -- once the borrow r ends, the key has the last value written through r, and at `None` the map stays as it is

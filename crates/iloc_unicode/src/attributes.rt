@@ -33,7 +33,7 @@ ghost use Rattle.iloc_spec_parts.specs.Fronts.{attributes_read};
 ghost use Rattle.iloc_spec_parts.specs.Parts.{AttributesText};
 ghost use Rattle.iloc_subtags.specs.Judging.{Accepts};
 ghost use Rattle.iloc_unicode.specs.Reads.{AttributesReadAs};
-ghost use Rattle.iloc_unicode_value.specs.Equality.{words_eq, words_exact};
+ghost use Rattle.iloc_word_list.specs.Equality.{words_eq, words_exact};
 ghost use Rattle.iloc_word_set.specs.Ascending.{ascends};
 
 use iloc_subtags::{Attribute, AttributeKind, ParseError, SubtagIterator};

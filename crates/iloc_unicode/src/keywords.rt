@@ -47,7 +47,7 @@ ghost use Rattle.iloc_litemap.specs.Pairs.{IsAscending};
 use iloc_litemap::LiteMap;
 use iloc_shortvec::ShortBoxSlice;
 use iloc_subtags::{ParseError, SubtagIterator, UnicodeKey as Key};
-use iloc_unicode_value::Value;
+use iloc_word_list::Value;
 use std::alloc::{AllocError, Global};
 use std::cmp::Ordering;
 use std::marker::Model;
@@ -303,7 +303,7 @@ impl Hash for Keywords {
 
 /// The pairs in order, as a short list, the key first.
 impl Ord for Keywords {
-    ghost use Rattle.iloc_spec_orders.specs.Orders.{keywords_cmp};
+    ghost use Rattle.iloc_spec_parts.specs.Orders.{keywords_cmp};
     ghost use Rattle.iloc_unicode.specs.KeywordsOrder.{keywords_total, keywords_ties};
 
     ghost cmp = { keywords_cmp };
@@ -324,7 +324,7 @@ impl Ord for Keywords {
 }
 
 impl PartialOrd for Keywords {
-    ghost use Rattle.iloc_spec_orders.specs.Orders.{keywords_cmp};
+    ghost use Rattle.iloc_spec_parts.specs.Orders.{keywords_cmp};
     ghost use Rattle.iloc_unicode.specs.KeywordsOrder.{keywords_total, keywords_ties};
 
     ghost partial_cmp = { as_partial_cmp keywords_cmp };

@@ -9,8 +9,8 @@
 
 ghost use Rattle.std.specs.Prelude.{◌≡◌, ◌↔◌, ℕ, List, IsTrue};
 ghost use Rattle.iloc_spec_grammar.specs.Syntax.{Text, Fields};
-ghost use Rattle.iloc_spec_orders.specs.Orders.{words_cmp, keywords_cmp};
-ghost use Rattle.iloc_spec_orders.specs.Hashes.{words_fed, fields_fed, unicode_fed};
+ghost use Rattle.iloc_spec_parts.specs.Orders.{words_cmp, keywords_cmp};
+ghost use Rattle.iloc_spec_parts.specs.Hashes.{words_fed, fields_fed, unicode_fed};
 ghost use Rattle.iloc_unicode.specs.UnicodeValue.{value_of};
 
 use std::hash::Hash;

@@ -16,7 +16,7 @@ use iloc_subtags::{
     AttributeKind, ParseError, SubtagIterator, UnicodeKeyKind, next_has_length, take_byte,
     take_word,
 };
-use iloc_unicode_value::read_value;
+use iloc_word_list::read_value;
 use iloc_word_set::{WordCollector, WordSet};
 use std::alloc::{AllocError, Global};
 

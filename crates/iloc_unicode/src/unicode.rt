@@ -8,7 +8,7 @@ ghost use Rattle.iloc_spec_grammar.specs.Meaning.{Fault};
 ghost use Rattle.iloc_subtags.specs.Judging.{Accepts, Refuses};
 ghost use Rattle.iloc_spec_grammar.specs.Values.{unicode_spelling, unicode_text};
 ghost use Rattle.iloc_spec_grammar.specs.Syntax.{Unicode as UnicodeParts};
-ghost use Rattle.iloc_spec_orders.specs.Orders.{unicode_cmp};
+ghost use Rattle.iloc_spec_parts.specs.Orders.{unicode_cmp};
 
 use crate::attributes::Attributes;
 use crate::keywords::Keywords;

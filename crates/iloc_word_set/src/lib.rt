@@ -4,13 +4,13 @@
 //! texts. Up to four subtags stand in place; beyond them it allocates, and a call that runs out of memory leaves it
 //! as before. Searches go by halves.
 //!
-//! It stands on `iloc_spec_grammar` and `iloc_spec_orders` (definitions), `iloc_subtags` (subtags and lists of them) and
-//! `iloc_writeable` (printing).
+//! It stands on `iloc_spec_grammar` and `iloc_spec_parts` (definitions), `iloc_subtags` (subtags), `iloc_word_list` (lists of
+//! them) and `iloc_writeable` (printing).
 #![tactic(auto)]
 
 ghost use Rattle.std.specs.Prelude.{◌≡◌, ℕ, List};
 ghost use Rattle.iloc_spec_grammar.specs.Syntax.{Text};
-ghost use Rattle.iloc_spec_orders.specs.Hashes.{word_fed, words_fed};
+ghost use Rattle.iloc_spec_parts.specs.Hashes.{word_fed, words_fed};
 
 use iloc_subtags::{WordKind, WordOf};
 use std::hash::Hash;

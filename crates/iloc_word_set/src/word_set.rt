@@ -8,7 +8,8 @@ ghost use Rattle.iloc_word_set.specs.Ascending.{ascends};
 ghost use Rattle.iloc_spec_grammar.specs.Meaning.{set_of};
 ghost use Rattle.iloc_spec_grammar.specs.Values.{IsNormal, IsAscending};
 
-use iloc_subtags::{Variant, VariantKind, WordKind, WordList, WordOf};
+use iloc_subtags::{Variant, VariantKind, WordKind, WordOf};
+use iloc_word_list::WordList;
 use std::alloc::{AllocError, Global};
 use std::marker::Model;
 use std::mem::replace;

@@ -6,7 +6,7 @@ use iloc_locale::Locale;
 use iloc_other::Other;
 use iloc_subtags::{ParseError, SubtagKind, UnicodeKey, VariantKind};
 use iloc_unicode::Keywords;
-use iloc_unicode_value::Value;
+use iloc_word_list::Value;
 use iloc_word_set::{Variants, is_strictly_ascending};
 use std::alloc::Global;
 use std::cmp::Ordering;

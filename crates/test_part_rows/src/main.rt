@@ -22,7 +22,7 @@ mod values;
 use iloc_other::{Other, Private};
 use iloc_transform::{Fields, Transform, Value as FieldValue};
 use iloc_unicode::{Attributes, Keywords, Unicode};
-use iloc_unicode_value::Value;
+use iloc_word_list::Value;
 use std::io;
 use test_page::told::answer;
 use test_page::{Ask, Asking, Call, Judged, page, say};

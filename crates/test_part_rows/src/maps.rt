@@ -5,7 +5,7 @@ use iloc_langid::LanguageIdentifier;
 use iloc_subtags::{ParseError, TransformKey, UnicodeKey};
 use iloc_transform::{Fields, Transform, Value as FieldValue};
 use iloc_unicode::{Keywords, Unicode};
-use iloc_unicode_value::Value;
+use iloc_word_list::Value;
 use iloc_writeable::Writeable;
 use std::alloc::{AllocError, Global};
 use std::cmp::Ordering;

@@ -3,7 +3,7 @@ use iloc_other::{Other, Private};
 use iloc_subtags::{RegionKind, SubtagIterator, take_word};
 use iloc_transform::{Transform, Value as FieldValue};
 use iloc_unicode::{Attributes, Keywords, Unicode};
-use iloc_unicode_value::Value;
+use iloc_word_list::Value;
 use std::alloc::Global;
 use std::str;
 use test_page::{Call, bytes, printed, put_some, say};

@@ -4,7 +4,7 @@ use iloc_other::{Other, Private};
 use iloc_subtags::{ParseError, Subtag, SubtagKind, WordKind, WordOf};
 use iloc_transform::Value as FieldValue;
 use iloc_unicode::Attributes;
-use iloc_unicode_value::Value;
+use iloc_word_list::Value;
 use std::alloc::Global;
 use std::cmp::Ordering;
 use std::str;

@@ -4,7 +4,7 @@ use iloc_keyword_types::{
     PreferencesParseError, SingleKeyword, SubtagContent,
 };
 use iloc_subtags::{CurrencyType, UnicodeKey};
-use iloc_unicode_value::Value;
+use iloc_word_list::Value;
 use iloc_writeable::Writeable;
 use std::alloc::Global;
 use std::fmt::Write;

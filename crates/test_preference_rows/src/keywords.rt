@@ -17,7 +17,7 @@ use iloc_keyword_types::{
     RegionOverride, RegionalSubdivision, TimeZoneShortId, known_keys,
 };
 use iloc_subtags::{CurrencyType, UnicodeKey};
-use iloc_unicode_value::Value;
+use iloc_word_list::Value;
 use std::alloc::AllocError;
 use std::str;
 use test_page::{Call, put, refuse, say};

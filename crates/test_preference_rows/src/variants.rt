@@ -12,7 +12,7 @@ use iloc_keyword_types::{
     SubdivisionId, SubtagContent, TimeZoneShortId,
 };
 use iloc_subtags::{CurrencyType, ParseError, Script, Subtag};
-use iloc_unicode_value::Value;
+use iloc_word_list::Value;
 use std::alloc::Global;
 use test_page::{Call, refuse, say, truth};
 

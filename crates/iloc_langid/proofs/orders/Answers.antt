@@ -1,4 +1,4 @@
-use Rattle.iloc_spec_orders.proofs.OrderLaws.{identifier_exact}
+use Rattle.iloc_spec_parts.proofs.OrderLaws.{identifier_exact}
 use Rattle.iloc_langid.specs.Reads.{value_of}
 use Rattle.iloc_langid.proofs.EqualityLemmas.{same_value, equal_values}
 use Rattle.iloc_langid.proofs.orders.Goals as goal

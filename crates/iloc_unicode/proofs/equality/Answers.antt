@@ -1,4 +1,4 @@
-use Rattle.iloc_unicode_value.specs.Equality.{words_exact}
+use Rattle.iloc_word_list.specs.Equality.{words_exact}
 use Rattle.iloc_unicode.specs.Equality.{fields_exact, unicode_exact}
 use Rattle.iloc_unicode.specs.UnicodeValue.{value_of}
 use Rattle.iloc_unicode.proofs.equality.Goals as goal

@@ -1,6 +1,6 @@
-use Rattle.iloc_spec_orders.specs.Orders.{identifier_cmp}
-use Rattle.iloc_spec_orders.specs.Hashes.{identifier_fed}
-use Rattle.iloc_spec_orders.proofs.OrderLaws.{identifier_exact}
+use Rattle.iloc_spec_parts.specs.Orders.{identifier_cmp}
+use Rattle.iloc_spec_parts.specs.Hashes.{identifier_fed}
+use Rattle.iloc_spec_parts.proofs.OrderLaws.{identifier_exact}
 use Rattle.iloc_langid.specs.Reads as langid
 use Rattle.icu_locale_core.proofs.TogetherLemmas.{by_value}
 use Rattle.icu_locale_core.proofs.together.identifiers.Goals as goal

@@ -1,6 +1,6 @@
-use Rattle.iloc_spec_orders.specs.Orders.{locale_cmp}
-use Rattle.iloc_spec_orders.specs.Hashes.{locale_fed}
-use Rattle.iloc_spec_orders.proofs.OrderLaws.{locale_exact}
+use Rattle.iloc_spec_parts.specs.Orders.{locale_cmp}
+use Rattle.iloc_spec_parts.specs.Hashes.{locale_fed}
+use Rattle.iloc_spec_parts.proofs.OrderLaws.{locale_exact}
 use Rattle.iloc_locale.specs.LocaleReading as locale
 use Rattle.icu_locale_core.proofs.TogetherLemmas.{by_value}
 use Rattle.icu_locale_core.proofs.together.locales.Goals as goal

@@ -1,6 +1,6 @@
-use Rattle.iloc_spec_orders.specs.Orders.{unicode_cmp}
-use Rattle.iloc_spec_orders.specs.Hashes.{unicode_fed}
-use Rattle.iloc_spec_orders.proofs.OrderLaws.{unicode_exact}
+use Rattle.iloc_spec_parts.specs.Orders.{unicode_cmp}
+use Rattle.iloc_spec_parts.specs.Hashes.{unicode_fed}
+use Rattle.iloc_spec_parts.proofs.OrderLaws.{unicode_exact}
 use Rattle.iloc_unicode.specs.UnicodeValue as unicode
 use Rattle.icu_locale_core.proofs.TogetherLemmas.{by_value}
 use Rattle.icu_locale_core.proofs.together.unicode_extensions.Goals as goal

@@ -3,7 +3,7 @@ use Rattle.std.proofs.Common.{◌≡◌, List, [], ◌∷◌, ℕ, Some, ap, ◌
 use Rattle.iloc_spec_grammar.specs.Syntax.{Subtag}
 use Rattle.iloc_spec_grammar.specs.Values.{IsNormal}
 use Rattle.iloc_spec_preferences.specs.Keywords.{EnumKeyword, variants, enum_gives}
-use Rattle.iloc_unicode_value.specs.Values.{without_true}
+use Rattle.iloc_word_list.specs.Values.{without_true}
 use Rattle.iloc_keyword_types.specs.WordTables.{word_at}
 use Rattle.iloc_keyword_types.proofs.EnumLemmas.{given, read_back, normal_word, variant}
 use Rattle.iloc_keyword_types.proofs.enum_keyword.give_keyword.Goals as goal

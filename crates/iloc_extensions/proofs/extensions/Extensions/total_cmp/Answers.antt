@@ -1,7 +1,7 @@
 use Rattle.std.proofs.Common.{rules, ap, ◌∙◌}
 use Rattle.std.specs.Ordering.{ordering_then}
 use Rattle.std.specs.Cmp.Lexicographic.{slice_cmp}
-use Rattle.iloc_spec_orders.specs.Orders.{unicode_cmp, transform_cmp, words_cmp, other_cmp}
+use Rattle.iloc_spec_parts.specs.Orders.{unicode_cmp, transform_cmp, words_cmp, other_cmp}
 use Rattle.iloc_extensions.specs.ExtensionsValue.{value_of}
 use Rattle.iloc_extensions.proofs.OrderLemmas.{chained, regrouped}
 use Rattle.iloc_extensions.proofs.extensions.Extensions.total_cmp.Goals as goal

@@ -3,7 +3,7 @@ use Rattle.iloc_spec_grammar.specs.Syntax.{Subtag}
 use Rattle.iloc_spec_grammar.specs.Values.{IsNormal}
 use Rattle.iloc_spec_preferences.specs.Keywords as keywords
 use Rattle.iloc_spec_preferences.specs.Keywords.{variants, hijri_kinds}
-use Rattle.iloc_unicode_value.specs.Values.{without_true}
+use Rattle.iloc_word_list.specs.Values.{without_true}
 use Rattle.iloc_keyword_types.specs.WordTables.{word_at}
 use Rattle.iloc_keyword_types.proofs.EnumLemmas.{normal_word}
 use Rattle.iloc_keyword_types.specs.Calendars.{place, placed_at}

@@ -1,5 +1,5 @@
 use Rattle.std.proofs.Common.{rules, ◌≡◌}
-use Rattle.iloc_unicode_value.specs.Equality.{words_eq, words_exact}
+use Rattle.iloc_word_list.specs.Equality.{words_eq, words_exact}
 use Rattle.iloc_unicode.proofs.attributes.AttributesPartialEq.eq.Goals as goal
 
 pub returns-clause-equality : goal.returns-clause-equality

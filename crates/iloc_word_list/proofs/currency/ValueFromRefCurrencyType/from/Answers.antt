@@ -1,0 +1,11 @@
+-- The word of a currency is a subtag, and no `true`.
+use Rattle.std.proofs.Common.{List, ℕ, [], ◌∷◌, ap, ◌∙◌, lit<}
+use Rattle.iloc_word_list.specs.Values.{without_true}
+use Rattle.iloc_word_list.proofs.CurrencyLemmas.{currency_normal, currency_alone}
+use Rattle.iloc_word_list.proofs.currency.ValueFromRefCurrencyType.from.Goals as goal
+
+pub subtag_of-requires : goal.subtag_of-requires
+subtag_of-requires c = (lit< tt, currency_normal)
+
+pub returns : goal.returns
+returns c = c.from_subtag.ensures ∙ ap (λ (w : List ℕ). without_true (w ∷ [])) c.subtag_of.ensures ∙ currency_alone c.args.input.now c.as_str.ensures.normal
