@@ -7,11 +7,11 @@ use Rattle.iloc_spec_grammar.proofs.PiecesLaws.{at_pieces, pieces_nonempty}
 use Rattle.iloc_spec_grammar.proofs.ReadingLaws.{after_front-pieces, starts_ends, front-from_block, from_block_starts, refuses_more}
 use Rattle.iloc_spec_parts.specs.Small as small
 use Rattle.iloc_spec_preferences.specs.DataLocales.{not_small}
-use Rattle.iloc_plain.specs.Front.{IsFront, rest_of_block}
-use Rattle.iloc_plain.specs.Ordered.{IsOrdered, IsVaried, text_of}
-use Rattle.iloc_plain.specs.declared.front.Block.{Block}
-use Rattle.iloc_plain.specs.declared.front.Front.TheVariants as fronts
-use Rattle.iloc_plain.specs.declared.ordered.Ordered.{Ordered}
+use Rattle.iloc_fronts.specs.Front.{IsFront, rest_of_block}
+use Rattle.iloc_fronts.specs.Ordered.{IsOrdered, IsVaried, text_of}
+use Rattle.iloc_fronts.specs.declared.front.Block.{Block}
+use Rattle.iloc_fronts.specs.declared.front.Front.TheVariants as fronts
+use Rattle.iloc_fronts.specs.declared.ordered.Ordered.{Ordered}
 use Rattle.iloc_lines.specs.declared.Mode.{Mode}
 use Rattle.iloc_lines.specs.declared.Mode.TheVariants.{Langid, Locale, Data}
 use Rattle.iloc_calls.specs.Answers.{IsNormalText, IsFaulty}

@@ -21,9 +21,9 @@ use Rattle.iloc_spec_output.specs.Output.{OfIdentifiers, OfLocales, OfDataLocale
 use Rattle.iloc_spec_output.specs.Output as outputs
 use Rattle.iloc_spec_output.proofs.OutputLaws.{only_answer}
 use Rattle.iloc_subtags.specs.declared.parse_error.ParseError.TheVariants.{InvalidSubtag}
-use Rattle.iloc_plain.specs.Front.{GoesOn, IsFront, rest_of_block}
-use Rattle.iloc_plain.specs.declared.front.Block.{Block}
-use Rattle.iloc_plain.specs.declared.front.Front.TheVariants as fronts
+use Rattle.iloc_fronts.specs.Front.{GoesOn, IsFront, rest_of_block}
+use Rattle.iloc_fronts.specs.declared.front.Block.{Block}
+use Rattle.iloc_fronts.specs.declared.front.Front.TheVariants as fronts
 use Rattle.iloc_lines.specs.Output.{IsRefused, refusal_text}
 use Rattle.iloc_lines.specs.declared.Mode.{Mode}
 use Rattle.iloc_lines.specs.declared.Mode.TheVariants.{Langid, Locale, Data}

@@ -26,11 +26,11 @@ use Rattle.iloc_spec_output.specs.Output.{OfDataLocales, no_data_locale}
 use Rattle.iloc_spec_output.proofs.OutputLaws.{only_answer}
 use Rattle.iloc_spec_output.specs.Output as outputs
 use Rattle.iloc_subtags.specs.declared.parse_error.ParseError.TheVariants.{InvalidSubtag, InvalidExtension}
-use Rattle.iloc_plain.specs.Front.{GoesOn, IsFront, rest_of_block}
-use Rattle.iloc_plain.specs.Keyword.{IsKeywordOf, IsSingle, after_singleton}
-use Rattle.iloc_plain.specs.declared.front.Block.{Block}
-use Rattle.iloc_plain.specs.declared.front.Front.TheVariants as fronts
-use Rattle.iloc_plain.specs.declared.keyword.Keyword.TheVariants as keyword
+use Rattle.iloc_fronts.specs.Front.{GoesOn, IsFront, rest_of_block}
+use Rattle.iloc_fronts.specs.Keyword.{IsKeywordOf, IsSingle, after_singleton}
+use Rattle.iloc_fronts.specs.declared.front.Block.{Block}
+use Rattle.iloc_fronts.specs.declared.front.Front.TheVariants as fronts
+use Rattle.iloc_fronts.specs.declared.keyword.Keyword.TheVariants as keyword
 use Rattle.iloc_lines.specs.Output.{IsRefused, refusal_text}
 use Rattle.iloc_lines.specs.declared.Mode.TheVariants.{Data}
 use Rattle.iloc_lines.proofs.FrontAnswers.{same_first, BeginsWell, blocks_left, block_told, no_u, data_refused}

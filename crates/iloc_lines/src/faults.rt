@@ -1,13 +1,13 @@
 //! What is told of lines at once, by what stands at their front.
 ghost use Rattle.std.specs.Prelude.{◌≡◌, ◌+◌, ◌<◌, ◌≤◌, IfSome, length, take};
 ghost use Rattle.iloc_spec_grammar.specs.Syntax.{Text};
-ghost use Rattle.iloc_plain.specs.Front.{IsFront};
-ghost use Rattle.iloc_plain.specs.declared.front.Front.TheVariants as fronts;
+ghost use Rattle.iloc_fronts.specs.Front.{IsFront};
+ghost use Rattle.iloc_fronts.specs.declared.front.Front.TheVariants as fronts;
 ghost use Rattle.iloc_lines.specs.Output.{IsRefused};
 ghost use Rattle.iloc_lines.specs.Told.{IsTold};
 
 use crate::Mode;
-use iloc_plain::{Block, Front, Keyword, read_front, read_keyword};
+use iloc_fronts::{Block, Front, Keyword, read_front, read_keyword};
 use iloc_subtags::ParseError;
 
 /// What is told of a line.

@@ -1,5 +1,5 @@
-//! Lines told at once. The contracts of `iloc_plain` let a parser say nothing, so a shape that silently went the old way
-//! would show nowhere else.
+//! Lines told at once. The contracts of `iloc_plain` and `iloc_fronts` let a parser say nothing, so a shape that
+//! silently went the old way would show nowhere else.
 //!
 //! `line-plain TEXT` says the normal text. In the other calls the second argument says how many bytes of the first are the
 //! line: `line-window` says the normal text, `line-front` what stands at the front, `line-keyword` what follows the
@@ -7,12 +7,12 @@
 //! the rest, or that its first block is bad. A line of which nothing is said is `not told`.
 ghost use Rattle.std.specs.Prelude.{◌+◌, ◌≤◌, length};
 ghost use Rattle.iloc_plain.specs.Plain.{AreWords};
-ghost use Rattle.iloc_plain.specs.Ordered.{IsStored};
+ghost use Rattle.iloc_fronts.specs.Ordered.{IsStored};
 
-use iloc_plain::{
-    Block, Front, Keyword, Ordered, Plain, Reading, read_front, read_keyword, read_ordered,
-    read_plain, read_plain_text, read_varied,
+use iloc_fronts::{
+    Block, Front, Keyword, Ordered, Reading, read_front, read_keyword, read_ordered, read_varied,
 };
+use iloc_plain::{Plain, read_plain, read_plain_text};
 use test_page::argument::number_of;
 use test_page::{bytes, number, say};
 

@@ -1,5 +1,5 @@
 //! Rows for short texts, words and lines told at once: a line `CALL TAB argument TAB argument` in, a line out. It makes
-//! every public call of short texts, of words of each kind, of refusals, and of `iloc_plain`.
+//! every public call of short texts, of words of each kind, of refusals, and of `iloc_plain` and `iloc_fronts`.
 //!
 //! A call that reads answers what it parsed, or `! ` and the words of the refusal. `tiny-N`, `text-N` and `tinyraw-N`
 //! read a short text of a size, `CALL-KIND` makes a call of a word of the kind, `two-tiny` compares two short texts, and

@@ -1,7 +1,7 @@
 use Rattle.std.proofs.Common.{◌≡◌, ℕ, List, [], ◌∷◌, ◌++◌, OnOk, ap, sym, subst}
 use Rattle.iloc_plain.specs.Plain.{IsPlain}
-use Rattle.iloc_plain.specs.Front.{IsFront}
-use Rattle.iloc_plain.specs.declared.front.Front.TheVariants as fronts
+use Rattle.iloc_fronts.specs.Front.{IsFront}
+use Rattle.iloc_fronts.specs.declared.front.Front.TheVariants as fronts
 use Rattle.iloc_lines.specs.ReplyBlock.{held}
 use Rattle.iloc_lines.proofs.PlainLemmas.{plain_reply, no_language_answer}
 use Rattle.iloc_lines.proofs.lines.reply_to.Goals as goal

@@ -1,0 +1,296 @@
+-- From the first piece of a line to what stands at its front.
+use Rattle.std.proofs.Common.{◌≡◌, ◌≢◌, ℕ, zero, suc, ◌+◌, ◌-◌, ◌<◌, ◌≤◌, ◌==◌, Bool, true, false, cond, not, ◌&&◌, List, [], ◌∷◌, length, get_or, take, drop, refl, sym, ap, ◌∙◌, subst, arith, inl, inr}
+use Rattle.std.specs.Int.{is_in_range}
+use Rattle.std.specs.List.{slice_split, onto_first, list_all}
+use Rattle.std.proofs.lemmas.Bool.{cases_lt, cases_Bool, and_parts}
+use Rattle.std.proofs.lemmas.Bool.Decides.{nat_tests}
+use Rattle.std.proofs.lemmas.List.{get_or-take, length-drop, length-take-le, take-take, drop-take}
+use Rattle.std.proofs.lemmas.List.Splits.{slice_split-cons_yes, slice_split-cons_no}
+use Rattle.iloc_spec_grammar.specs.Syntax.{pieces, first_piece, Kind, Attribute, Language, Script, Region, Subtag, UnicodeKey, Variant, PrivateSubtag, is_word, IsWord, is_true, lower, languages}
+use Rattle.iloc_spec_grammar.specs.Meaning.{normal_values}
+use Rattle.iloc_spec_grammar.specs.Reading.{past, skip_first, starts_block, after_region}
+use Rattle.iloc_spec_grammar.proofs.PiecesLaws.{at_pieces}
+use Rattle.iloc_spec_grammar.proofs.WordsLaws.{length-language, length-script, length-region, length-variant, length-attribute, length-unicode_key}
+use Rattle.iloc_spec_grammar.proofs.RawLaws.{languages_table}
+use Rattle.iloc_fronts.specs.Run.{IsRun, is_hyphen, is_other}
+use Rattle.iloc_fronts.specs.Front.{IsFirst, GoesOnAs, IsFront}
+use Rattle.iloc_fronts.specs.declared.front.Front.{Front}
+use Rattle.iloc_fronts.specs.declared.front.Front.TheVariants as front
+
+-- ---- the first piece, by the bytes before the first hyphen
+
+-- no hyphen is among the first n bytes
+abbrev Free : ℕ → List ℕ → Type 0
+Free n t = (i : ℕ) → i < n → is_other is_hyphen (get_or t i 0) ≡ true
+
+is_no : (b : Bool) → not b ≡ true → b ≡ false
+is_no true e = sym e
+is_no false e = refl
+
+is_yes : (b : Bool) → not b ≡ false → b ≡ true
+is_yes true e = refl
+is_yes false e = sym e
+
+later : (n c : ℕ) (t : List ℕ) → Free (suc n) (c ∷ t) → Free n t
+later n c t h i l = h (suc i) (omega arith)
+
+go_on : (n c : ℕ) (t : List ℕ) → Free (suc n) (c ∷ t) → slice_split is_hyphen (c ∷ t) ≡ onto_first c (slice_split is_hyphen t)
+go_on n c t h = slice_split-cons_no is_hyphen c t (is_no _ (h 0 (omega arith)))
+
+cut_at : (k : ℕ) (t : List ℕ) → k < length t → Free k t → is_other is_hyphen (get_or t k 0) ≡ false
+    → slice_split is_hyphen t ≡ take k t ∷ slice_split is_hyphen (drop (suc k) t)
+cut_at zero [] l h e = absurd (omega arith)
+cut_at zero (c ∷ t) l h e = slice_split-cons_yes is_hyphen c t (is_yes _ e)
+cut_at (suc k) [] l h e = absurd (omega arith)
+cut_at (suc k) (c ∷ t) l h e = go_on k c t h ∙ ap (onto_first c) (cut_at k t (omega arith) (later k c t h) e)
+
+uncut : (t : List ℕ) → Free (length t) t → slice_split is_hyphen t ≡ t ∷ []
+uncut [] h = refl
+uncut (c ∷ t) h = go_on (length t) c t h ∙ ap (onto_first c) (uncut t (later (length t) c t h))
+
+first_onto : (c : ℕ) (ps : List (List ℕ)) → length (first_piece (onto_first c ps)) ≡ suc (length (first_piece ps))
+first_onto c [] = refl
+first_onto c (p ∷ ps) = refl
+
+goes_far : (k : ℕ) (t : List ℕ) → k ≤ length t → Free k t → k ≤ length (first_piece (slice_split is_hyphen t))
+goes_far zero t l h = omega arith
+goes_far (suc k) [] l h = absurd (omega arith)
+goes_far (suc k) (c ∷ t) l h =
+    omega (arith, ap (λ ps. length (first_piece ps)) (go_on k c t h) ∙ first_onto c (slice_split is_hyphen t), goes_far k t (omega arith) (later k c t h))
+
+-- n is the lesser of the line's length and of the bytes before the first hyphen of the window
+pub first_is : (w : List ℕ) (len k n : ℕ) → 16 ≤ length w → len ≤ length w → IsRun (is_other is_hyphen) w k
+    → n ≤ len → n ≤ k → (n < len → n ≡ k) → IsFirst (take len w) n
+unfolding pieces
+first_is w len k n wide inside r few less least =
+    let t = take len w in
+    let long : length t ≡ len = length-take-le len w inside in
+    let free : Free n t = λ i early.
+    let there : i < len = omega arith in
+    ap (is_other is_hyphen) (get_or-take len w i 0 there) ∙ r.pass i (omega arith) in
+    record {
+      within = omega arith;
+      few = omega (arith, r.few);
+      cut = λ more short.
+          let there : n < len = omega arith in
+          let same : n ≡ k = least there in
+          let end : k < 16 = omega arith in
+          cut_at n t more free (ap (is_other is_hyphen) (get_or-take len w n 0 there ∙ ap (λ i. get_or w i 0) same) ∙ r.ends end);
+      last = λ short whole. uncut t (subst (λ (m : ℕ). Free m t) whole free);
+      long = λ sixteen. subst (λ (m : ℕ). m ≤ length (first_piece (slice_split is_hyphen t))) sixteen (goes_far n t (omega arith) free);
+    }
+
+-- ---- words among the pieces
+
+-- where the first piece is no word of the kind, not all are
+pub all_fail : (k : Kind) (t : List ℕ) → is_word k (first_piece (pieces t)) ≡ false → list_all (is_word k) (pieces t) ≡ false
+all_fail k t = at_pieces (λ ps. is_word k (first_piece ps) ≡ false → list_all (is_word k) ps ≡ false)
+    (λ p ps e. ap (λ (b : Bool). b && list_all (is_word k) ps) e) t
+
+-- the pieces of a value that are not `true`
+pub values_later : (p : List ℕ) (ps : List (List ℕ)) → length (normal_values ps) ≤ length (normal_values (p ∷ ps))
+values_later p ps = by (is_true (lower p))
+  where
+    by : (b : Bool) → length (normal_values ps) ≤ length (cond (not b) (lower p ∷ normal_values ps) (normal_values ps))
+    by true = omega arith
+    by false = omega arith
+
+pub values_word : (p : List ℕ) (ps : List (List ℕ)) → is_true (lower p) ≡ false → length (normal_values (p ∷ ps)) ≡ suc (length (normal_values ps))
+values_word p ps e = ap (λ (b : Bool). length (cond (not b) (lower p ∷ normal_values ps) (normal_values ps))) e
+
+-- no word of the kind has more than eight bytes
+abbrev pub IsShort : Kind → Type 0
+IsShort k = (p : List ℕ) → IsWord k p → length p ≤ 8
+
+pub short_language : IsShort (Language languages)
+short_language p h = languages_table.most (length p) (length-language languages p h)
+
+pub short_script : IsShort Script
+short_script p h = omega (arith, length-script p h)
+
+pub short_region : IsShort Region
+short_region p h = omega (arith, (length-region p h).1)
+
+pub short_key : IsShort UnicodeKey
+short_key p h = omega (arith, length-unicode_key p h)
+
+pub short_subtag : IsShort Subtag
+unfolding is_word
+short_subtag p h = in_range (length p) (and_parts _ _ h).0
+  where
+    in_range : (n : ℕ) → is_in_range 2 8 n ≡ true → n ≤ 8
+    in_range n h = grind (arith, nat_tests)
+
+pub short_attribute : IsShort Attribute
+short_attribute p h = (length-attribute p h).1
+
+pub short_private : IsShort PrivateSubtag
+unfolding is_word
+short_private p h = in_range (length p) (and_parts _ _ h).0
+  where
+    in_range : (n : ℕ) → is_in_range 1 8 n ≡ true → n ≤ 8
+    in_range n h = grind (arith, nat_tests)
+
+pub short_variant : IsShort Variant
+short_variant p h = (length-variant p h).1
+
+too_long : (k : Kind) → IsShort k → (p : List ℕ) → 8 < length p → is_word k p ≡ false
+too_long k short p more = elim (cases_Bool (is_word k p)) [
+  | inl fits ↦ absurd (omega (arith, short p fits))
+  | inr fails ↦ fails
+]
+
+module _ (w : List ℕ) (len n : ℕ) (room : len + 16 ≤ length w) (first : IsFirst (take len w) n) where
+  abbrev text : List ℕ
+  text = take len w
+
+  -- what follows the first piece and its hyphen, in the rest of the window
+  abbrev pub next : List ℕ
+  next = take (len - n - 1) (take (length w - (n + 1)) (drop (n + 1) w))
+
+  whole : length text ≡ len
+  whole = length-take-le len w (omega arith)
+
+  inside : n ≤ len
+  inside = omega (arith, first.within, whole)
+
+  front_same : take n text ≡ take n w
+  front_same = take-take n len w inside
+
+  -- a short first piece is the first n bytes
+  short_first : n < 16 → first_piece (pieces text) ≡ take n w
+  short_first short = elim (cases_lt n len) [
+    | inl less ↦ ap first_piece (first.cut (omega (arith, whole)) short) ∙ front_same
+    | inr more ↦
+        let same : n ≡ len = omega (arith, inside) in
+        ap first_piece (first.last short (omega (arith, whole))) ∙ ap (λ (m : ℕ). take m w) (sym same)
+  ]
+
+  -- the first bytes are a word where the first piece is
+  pub word_of_first : (k : Kind) → IsShort k → is_word k (first_piece (pieces text)) ≡ is_word k (take n w)
+  word_of_first k short = elim (cases_lt n 16) [
+    | inl less ↦ ap (is_word k) (short_first less)
+    | inr more ↦
+        let sixteen : n ≡ 16 = omega (arith, first.few) in
+        let piece : 8 < length (first_piece (pieces text)) = omega (arith, first.long sixteen) in
+        let bytes : 8 < length (take n w) = omega (arith, length-take-le n w (omega (arith, inside))) in
+        too_long k short (first_piece (pieces text)) piece ∙ sym (too_long k short (take n w) bytes)
+  ]
+
+  word_is_short : (k : Kind) → IsShort k → is_word k (take n w) ≡ true → n < 16
+  word_is_short k short fits = omega (arith, short (take n w) fits, length-take-le n w (omega (arith, inside)))
+
+  -- a short piece that doesn't end the line: the other pieces are those of what follows its hyphen
+  pub after_short : n < 16 → n ≢ len → pieces text ≡ take n w ∷ pieces next
+  after_short few more =
+      let less : n < len = omega (arith, inside) in
+      let parts : len ≡ suc n + (len - n - 1) = omega arith in
+      let later : drop (suc n) (take len w) ≡ take (len - n - 1) (drop (suc n) w) =
+      ap (λ (m : ℕ). drop (suc n) (take m w)) parts ∙ drop-take (suc n) (len - n - 1) w in
+      let one_more : suc n ≡ n + 1 = omega arith in
+      let enough : len - n - 1 ≤ length w - (n + 1) = omega arith in
+      let rest : drop (suc n) (take len w) ≡ next =
+      later ∙ ap (λ (m : ℕ). take (len - n - 1) (drop m w)) one_more ∙ sym (take-take (len - n - 1) (length w - (n + 1)) (drop (n + 1) w) enough) in
+      first.cut (omega (arith, whole)) few ∙ (λ j. front_same j ∷ pieces (rest j))
+
+  pub after_word : (k : Kind) → IsShort k → is_word k (take n w) ≡ true → n ≢ len → pieces text ≡ take n w ∷ pieces next
+  after_word k short fits more = after_short (word_is_short k short fits) more
+
+  -- so all pieces are words of the kind where those after it are
+  pub all_later : (k : Kind) → IsShort k → is_word k (take n w) ≡ true → n ≢ len → list_all (is_word k) (pieces text) ≡ list_all (is_word k) (pieces next)
+  all_later k short fits more =
+      ap (list_all (is_word k)) (after_word k short fits more) ∙ ap (λ (b : Bool). b && list_all (is_word k) (pieces next)) fits
+
+  pub key_is_two : is_word UnicodeKey (take n w) ≡ true → n ≡ 2
+  key_is_two fits = omega (arith, length-unicode_key (take n w) fits, length-take-le n w (omega (arith, inside)))
+
+  -- a short piece, and a word, that ends the line
+  pub whole_short : n < 16 → n ≡ len → pieces text ≡ take n w ∷ []
+  whole_short few end = first.last few (omega (arith, whole)) ∙ (λ j. take (sym end j) w ∷ [])
+
+  pub whole_word : (k : Kind) → IsShort k → is_word k (take n w) ≡ true → n ≡ len → pieces text ≡ take n w ∷ []
+  whole_word k short fits end = whole_short (word_is_short k short fits) end
+
+  -- sixteen bytes stay behind what is left of the line
+  pub room_left : n ≢ len → len - n - 1 + 16 ≤ length (take (length w - (n + 1)) (drop (n + 1) w))
+  room_left more =
+      let dropped : length (drop (n + 1) w) ≡ length w - (n + 1) = length-drop (n + 1) w in
+      let enough : length w - (n + 1) ≤ length (drop (n + 1) w) = omega arith in
+      omega (arith, length-take-le (length w - (n + 1)) (drop (n + 1) w) enough, inside)
+
+  pub skips_none : (k : Kind) → IsShort k → is_word k (take n w) ≡ false → skip_first (is_word k) (pieces text) ≡ pieces text
+  skips_none k short fails = by (word_of_first k short ∙ fails)
+    where
+      by : is_word k (first_piece (pieces text)) ≡ false → skip_first (is_word k) (pieces text) ≡ pieces text
+      by = at_pieces (λ ps. is_word k (first_piece ps) ≡ false → skip_first (is_word k) ps ≡ ps) (λ p ps e. ap (λ (b : Bool). cond b ps (p ∷ ps)) e) text
+
+  pub passes_none : (k : Kind) → IsShort k → is_word k (take n w) ≡ false → past (is_word k) (pieces text) ≡ pieces text
+  passes_none k short fails = by (word_of_first k short ∙ fails)
+    where
+      by : is_word k (first_piece (pieces text)) ≡ false → past (is_word k) (pieces text) ≡ pieces text
+      by = at_pieces (λ ps. is_word k (first_piece ps) ≡ false → past (is_word k) ps ≡ ps) (λ p ps e. ap (λ (b : Bool). cond b (past (is_word k) ps) (p ∷ ps)) e) text
+
+  pub skips_one : (k : Kind) → IsShort k → is_word k (take n w) ≡ true → n ≢ len
+      → skip_first (is_word k) (pieces text) ≡ pieces (next)
+  skips_one k short fits more =
+      ap (skip_first (is_word k)) (after_word k short fits more)
+      ∙ ap (λ (b : Bool). cond b (pieces (next)) (take n w ∷ pieces (next))) fits
+
+  pub passes_one : (k : Kind) → IsShort k → is_word k (take n w) ≡ true → n ≢ len
+      → past (is_word k) (pieces text) ≡ past (is_word k) (pieces (next))
+  passes_one k short fits more =
+      ap (past (is_word k)) (after_word k short fits more)
+      ∙ ap (λ (b : Bool). cond b (past (is_word k) (pieces (next))) (take n w ∷ pieces (next))) fits
+
+  -- a first piece of another length begins no block
+  pub begins_none : n ≢ 1 → starts_block (pieces text) ≡ false
+  begins_none other = by first_length
+    where
+      first_length : (length (first_piece (pieces text)) == 1) ≡ false
+      first_length = elim (cases_lt n 16) [
+        | inl less ↦ ap (λ p. length p == 1) (short_first less) ∙ ap (λ m. m == 1) (length-take-le n w (omega (arith, inside))) ∙ grind (arith, nat_tests)
+        | inr more ↦
+            let sixteen : n ≡ 16 = omega (arith, first.few) in
+            let many : 16 ≤ length (first_piece (pieces text)) = first.long sixteen in
+            grind (arith, nat_tests)
+      ]
+
+      by : (length (first_piece (pieces text)) == 1) ≡ false → starts_block (pieces text) ≡ false
+      by = at_pieces (λ ps. (length (first_piece ps) == 1) ≡ false → starts_block ps ≡ false) (λ p ps e. e) text
+
+  -- bytes that are too few or too many are so in the first piece
+  pub other_length : is_in_range 2 8 n ≡ false → is_in_range 2 8 (length (first_piece (pieces text))) ≡ false
+  other_length other = elim (cases_lt n 16) [
+    | inl less ↦ ap (λ p. is_in_range 2 8 (length p)) (short_first less) ∙ ap (is_in_range 2 8) (length-take-le n w (omega (arith, inside))) ∙ other
+    | inr more ↦
+        let many : 16 ≤ length (first_piece (pieces text)) = first.long (omega (arith, first.few)) in
+        grind (arith, nat_tests)
+  ]
+
+  pub one_byte : n ≡ 1 → first_piece (pieces text) ≡ get_or w 0 0 ∷ []
+  one_byte one = short_first (omega arith) ∙ ap (λ (m : ℕ). take m w) one ∙ front w (omega arith)
+    where
+      front : (v : List ℕ) → 1 ≤ length v → take 1 v ≡ get_or v 0 0 ∷ []
+      front [] l = absurd (omega arith)
+      front (b ∷ v) l = refl
+
+  -- a singleton that doesn't end the line
+  pub after_singleton_byte : n ≡ 1 → n ≢ len → pieces text ≡ (get_or w 0 0 ∷ []) ∷ pieces next
+  after_singleton_byte one more =
+      let parts : pieces text ≡ take n w ∷ pieces next = after_short (omega arith) more in
+      parts ∙ ap (λ p. p ∷ pieces next) (sym (ap first_piece parts) ∙ one_byte one)
+
+  -- one that does
+  pub whole_singleton_byte : n ≡ 1 → n ≡ len → pieces text ≡ (get_or w 0 0 ∷ []) ∷ []
+  whole_singleton_byte one end =
+      let parts : pieces text ≡ take n w ∷ [] = whole_short (omega arith) end in
+      parts ∙ ap (λ p. p ∷ []) (sym (ap first_piece parts) ∙ one_byte one)
+
+-- what is told of the pieces after a language is told of the text
+pub is_front : (t : List ℕ) (f : Front) → IsWord (Language languages) (first_piece (pieces t)) → GoesOnAs (after_region (pieces t)) f → IsFront t f
+is_front t front.NoLanguage l g = absurd (g tt)
+is_front t front.Misfit l g = (l, g)
+is_front t (front.Block b) l g = (l, g)
+is_front t front.Other l g = tt
+is_front t (front.Variant n) l g = tt
+is_front t front.Variants l g = (l, g)

@@ -1,0 +1,45 @@
+-- From a mask of sixteen bytes to those that come first.
+use Rattle.std.proofs.Common.{◌≡◌, ℕ, ◌%◌, ◌^◌, ◌<◌, ◌≤◌, Bool, true, false, not, List, [], ◌∷◌, length, map, get_or, take, Fits, w8, refl, sym, ap, ◌∙◌, arith}
+use Rattle.std.specs.List.{prefix_len}
+use Rattle.std.proofs.lemmas.Bool.{agree_below, agree_below_at}
+use Rattle.std.proofs.lemmas.List.{length-map, length-take-le, get_or-take}
+use Rattle.std.proofs.lemmas.List.Sums.{prefix_len_passes, prefix_len_stops, prefix_len-le-length}
+use Rattle.std.proofs.lemmas.Simd.{map-map, mask_l-mod}
+use lib.Lanes.{mask_l, top, Each1}
+use Rattle.iloc_fronts.specs.Run.{IsRun}
+
+-- two tests that agree on the 256 bytes
+same_map : (q r : ℕ → Bool) (v : List ℕ) → Each1 (Fits w8) v → agree_below q r 256 ≡ true → map q v ≡ map r v
+same_map q r [] fits e = refl
+same_map q r (b ∷ v) fits e = λ j. agree_below_at q r 256 b e (fits.0).fits j ∷ same_map q r v fits.1 e j
+
+-- a mask of lanes that were computed from v tells the test exactly
+pub mask_is : (f : ℕ → ℕ) (p : ℕ → Bool) (v z : List ℕ) → (length v ≡ 16) × Each1 (Fits w8) v → z ≡ map f v
+    → agree_below (λ b. top 7 (f b)) p 256 ≡ true → mask_l (map (top 7) z) % 2 ^ 64 ≡ mask_l (map p v)
+mask_is f p v z fits e all =
+    let few : length (map p v) ≤ 64 = omega (arith, length-map v p, fits.0) in
+    ap (λ l. mask_l (map (top 7) l) % 2 ^ 64) e
+    ∙ ap (λ l. mask_l l % 2 ^ 64) (map-map (top 7) f v ∙ same_map (λ b. top 7 (f b)) p v fits.1 all)
+    ∙ mask_l-mod (map p v) 64 few
+
+-- the bytes before the first that is marked are a run
+pub run_is : (p q : ℕ → Bool) (w : List ℕ) (n : ℕ) → 16 ≤ length w → ((b : ℕ) → not (p b) ≡ q b)
+    → n ≡ prefix_len (λ b. not (p b)) (take 16 w) → IsRun q w n
+run_is p q w n wide same e =
+    let r : ℕ → Bool = λ b. not (p b) in
+    let long : length (take 16 w) ≡ 16 = length-take-le 16 w wide in
+    let le : prefix_len r (take 16 w) ≤ length (take 16 w) = prefix_len-le-length r (take 16 w) in
+    record {
+      few = omega arith;
+      pass = λ i less.
+          let inside : i < prefix_len r (take 16 w) = omega arith in
+          let small : i < 16 = omega arith in
+          sym (same (get_or w i 0)) ∙ ap r (sym (get_or-take 16 w i 0 small)) ∙ prefix_len_passes r (take 16 w) i 0 inside;
+      ends = λ less.
+          let inside : prefix_len r (take 16 w) < length (take 16 w) = omega arith in
+          sym (same (get_or w n 0)) ∙ ap r (sym (get_or-take 16 w n 0 less)) ∙ ap (λ i. r (get_or (take 16 w) i 0)) e ∙ prefix_len_stops r (take 16 w) 0 inside;
+    }
+
+pub twice : (b : Bool) → not (not b) ≡ b
+twice true = refl
+twice false = refl

@@ -1,0 +1,39 @@
+use Rattle.std.proofs.Common.{◌≢◌, Bool, cond, [], ◌∷◌, length, take, sym, ap, ◌∙◌, arith}
+use Rattle.std.proofs.lemmas.Bool.{false≢true}
+use Rattle.iloc_spec_grammar.specs.Syntax.{Variant, is_word}
+use Rattle.iloc_spec_grammar.specs.Reading.{past, starts_block}
+use Rattle.iloc_fronts.proofs.FrontLemmas.{short_variant, after_word, whole_word, passes_none, passes_one, begins_none, room_left}
+use Rattle.iloc_fronts.proofs.front.after_region.Goals as goal
+
+pub variants-preserved : goal.variants-preserved
+variants-preserved c =
+    let more : c.variants.n ≢ c.variants.left = omega arith in
+    let parts = after_word c.variants.rest.now c.variants.left c.variants.n c.variants.invariant.room c.variants.invariant.first Variant short_variant (sym c.is_variant.ensures ∙ c.variants-test.true) more in
+    record {
+      room = room_left c.variants.rest.now c.variants.left c.variants.n c.variants.invariant.room c.variants.invariant.first more;
+      first = c.first_len-n-in-variants.ensures;
+      same = c.variants.invariant.same
+          ∙ passes_one c.variants.rest.now c.variants.left c.variants.n c.variants.invariant.room c.variants.invariant.first Variant short_variant
+          (sym c.is_variant.ensures ∙ c.variants-test.true) more;
+      fewer = omega (arith, c.variants.invariant.fewer, ap length parts);
+      moved = λ _. omega (arith, c.variants.invariant.fewer, ap length parts);
+      unmoved = λ h. absurd (false≢true h);
+    }
+
+pub returns-then-n-ne1 : goal.returns-then-n-ne1
+returns-then-n-ne1 c =
+    let other : c.variants.n ≢ 1 = omega arith in
+    ap starts_block (c.variants.invariant.same
+    ∙ passes_none c.variants.rest.now c.variants.left c.variants.n c.variants.invariant.room c.variants.invariant.first Variant short_variant
+    (sym c.is_variant.ensures ∙ c.variants-test.false))
+    ∙ begins_none c.variants.rest.now c.variants.left c.variants.n c.variants.invariant.room c.variants.invariant.first other
+
+pub returns-then-n-left : goal.returns-then-n-left
+returns-then-n-left c =
+    let w = c.variants.rest.now in
+    let n = c.variants.n in
+    let fits = sym c.is_variant.ensures ∙ c.variants-test.true in
+    let one = whole_word w c.variants.left n c.variants.invariant.room c.variants.invariant.first Variant short_variant fits c.if-n-left.true in (
+      c.variants.invariant.same ∙ ap (past (is_word Variant)) one ∙ ap (λ (b : Bool). cond b [] (take n w ∷ [])) fits,
+      omega (arith, c.variants.invariant.moved c.if-is_first.false, ap length one),
+    )

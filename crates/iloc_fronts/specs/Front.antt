@@ -1,0 +1,43 @@
+-- What stands at the front of a line: the words of an identifier that fit, and what follows them.
+use Rattle.std.specs.Prelude.{◌≡◌, ℕ, suc, ◌+◌, ◌<◌, ◌≤◌, false, [], ◌∷◌, List, length, take, drop, get_or, IsTrue, ⊤}
+use Rattle.iloc_spec_grammar.specs.Syntax.{Text, pieces, first_piece, Language, Variant, is_word, IsWord, languages}
+use Rattle.iloc_spec_grammar.specs.Reading.{past, starts_block, after_region}
+use Rattle.iloc_fronts.specs.declared.front.Block.{Block}
+use Rattle.iloc_fronts.specs.declared.front.Front.{Front}
+use Rattle.iloc_fronts.specs.declared.front.Front.TheVariants as front
+
+-- n bytes come before the first hyphen of t; of a longer first piece n is 16
+pub record IsFirst (t : Text) (n : ℕ) : Type 0 where
+  pub within : n ≤ length t
+  pub few : n ≤ 16
+  pub cut : n < length t → n < 16 → pieces t ≡ take n t ∷ pieces (drop (suc n) t)
+  pub last : n < 16 → n ≡ length t → pieces t ≡ t ∷ []
+  pub long : n ≡ 16 → 16 ≤ length (first_piece (pieces t))
+
+-- the rest of the line, from the singleton of the block on
+abbrev pub rest_of_block : Block → Text
+rest_of_block b = take b.len b.window.now
+
+-- after the variants the pieces go on with the block
+pub record GoesOn (ps : List Text) (b : Block) : Type 0 where
+  pub rest : past (is_word Variant) ps ≡ pieces (rest_of_block b)
+  pub singleton : first_piece (pieces (rest_of_block b)) ≡ get_or b.window.now 0 0 ∷ []
+  pub first : IsTrue b.is_first → ps ≡ pieces (rest_of_block b)
+  pub some : 0 < b.len
+  pub room : b.len + 16 ≤ length b.window.now
+
+-- what the pieces after a region are: variants, and then nothing, a piece that fits nowhere, or a block
+abbrev pub GoesOnAs : List Text → Front → Type 0
+GoesOnAs ps front.NoLanguage = ¬ ⊤
+GoesOnAs ps front.Misfit = starts_block (past (is_word Variant) ps) ≡ false
+GoesOnAs ps (front.Block b) = GoesOn ps b
+GoesOnAs ps (front.Variant n) = ⊤
+GoesOnAs ps front.Variants = (past (is_word Variant) ps ≡ []) × (2 ≤ length ps)
+GoesOnAs ps front.Other = ⊤
+
+-- what the text is: no language comes first, or one does, and what follows it is as told
+abbrev pub IsFront : Text → Front → Type 0
+IsFront t front.NoLanguage = is_word (Language languages) (first_piece (pieces t)) ≡ false
+IsFront t front.Other = ⊤
+IsFront t (front.Variant n) = ⊤
+IsFront t f = IsWord (Language languages) (first_piece (pieces t)) × GoesOnAs (after_region (pieces t)) f

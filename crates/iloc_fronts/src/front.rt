@@ -1,0 +1,144 @@
+//! Tells what stands at the front of a line.
+ghost use Rattle.std.specs.Prelude.{◌≡◌, ◌+◌, ◌≤◌, false, length, take};
+ghost use Rattle.iloc_spec_grammar.specs.Syntax.{pieces, Region, Script, is_word};
+ghost use Rattle.iloc_spec_grammar.specs.Reading.{skip_first};
+ghost use Rattle.iloc_fronts.specs.Front.{IsFirst, GoesOnAs, IsFront};
+ghost use Rattle.iloc_fronts.specs.declared.front.Front.TheVariants as front;
+
+use crate::run::before_hyphen;
+use crate::words::{is_language, is_region, is_script, is_variant};
+use iloc_plain::is_language_length;
+
+/// What a line goes on with at its first piece of one byte.
+#[derive(Clone, Copy)]
+pub struct Block<'a> {
+    /// The bytes from that piece on, and what follows the line.
+    pub window: &'a [u8],
+    /// How many of them the line has.
+    pub len: usize,
+    /// Whether no variant comes before.
+    pub is_first: bool,
+    /// How many bytes of the line follow the hyphen after the region. No clause says it: who uses it
+    /// tests what it finds there.
+    pub tail: usize,
+}
+
+/// What stands at the front of a line: a language, perhaps a script, a region and variants, and then
+/// what is told here.
+#[derive(Clone, Copy)]
+pub enum Front<'a> {
+    /// No language.
+    NoLanguage,
+    /// A piece that is no word of an identifier there, and begins no block.
+    Misfit,
+    /// A block.
+    Block(Block<'a>),
+    /// No more than one variant. The number is as `Block::tail`.
+    Variant(usize),
+    /// No more than variants, two or more.
+    Variants,
+    /// Nothing that is told.
+    Other,
+}
+
+// The length of the first piece; sixteen if it is longer.
+#[inline(always)]
+pub(crate) fn first_len(window: &[u8], len: usize) -> usize
+    requires wide { 16 ≤ length window.now }
+    requires inside { len ≤ length window.now }
+    ensures { IsFirst (take len window.now) result }
+{
+    let n = before_hyphen(window);
+    if n < len { n } else { len }
+}
+
+/// Whether the first piece is as long as a language may be. If not, no language comes first.
+#[inline(always)]
+pub fn may_begin(window: &[u8], len: usize) -> bool
+    requires { len + 16 ≤ length window.now }
+    ensures { result ≡ false → IsFront (take len window.now) front.NoLanguage }
+{
+    is_language_length(first_len(window, len))
+}
+
+/// What the first `len` bytes begin with. The bytes after them are loaded too, and change nothing.
+#[inline(always)]
+pub fn read_front(window: &[u8], len: usize) -> Front<'_>
+    requires { len + 16 ≤ length window.now }
+    ensures { IsFront (take len window.now) result }
+{
+    let n = first_len(window, len);
+    if !is_language(window, n) {
+        return Front::NoLanguage;
+    }
+    if n == len {
+        return Front::Other;
+    }
+    after_language(&window[n + 1..], len - n - 1)
+}
+
+// What follows the language.
+#[inline(always)]
+fn after_language(window: &[u8], len: usize) -> Front<'_>
+    requires { len + 16 ≤ length window.now }
+    ensures { GoesOnAs (skip_first (is_word Region)
+        (skip_first (is_word Script) (pieces (take len window.now)))) result }
+{
+    let n = first_len(window, len);
+    if !is_script(window, n) {
+        return after_script(window, len);
+    }
+    if n == len {
+        return Front::Other;
+    }
+    after_script(&window[n + 1..], len - n - 1)
+}
+
+// What follows the script.
+#[inline(always)]
+fn after_script(window: &[u8], len: usize) -> Front<'_>
+    requires { len + 16 ≤ length window.now }
+    ensures { GoesOnAs (skip_first (is_word Region) (pieces (take len window.now))) result }
+{
+    let n = first_len(window, len);
+    if !is_region(window, n) {
+        return after_region(window, len);
+    }
+    if n == len {
+        return Front::Other;
+    }
+    after_region(&window[n + 1..], len - n - 1)
+}
+
+// What follows the region: variants, and then what is told.
+#[inline(always)]
+fn after_region(window: &[u8], len: usize) -> Front<'_>
+    requires { len + 16 ≤ length window.now }
+    ensures { GoesOnAs (pieces (take len window.now)) result }
+{
+    let mut rest = window;
+    let mut left = len;
+    let mut is_first = true;
+    let mut n = first_len(rest, left);
+    'variants: while is_variant(rest, n) {
+        if n == left {
+            if is_first {
+                return Front::Variant(len);
+            }
+            return Front::Variants;
+        }
+        rest = &rest[n + 1..];
+        left = left - n - 1;
+        is_first = false;
+        n = first_len(rest, left);
+    }
+    if n != 1 {
+        return Front::Misfit;
+    }
+    Front::Block(Block {
+        window: rest,
+        len: left,
+        is_first,
+        tail: len,
+    })
+}

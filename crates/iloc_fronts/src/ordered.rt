@@ -1,0 +1,113 @@
+//! Tells lines whose normal text is their own but for the case of letters, and lines whose first block is
+//! bad.
+ghost use Rattle.std.specs.Prelude.{◌≡◌, ◌+◌, ◌≤◌, IfSome, length, take};
+ghost use Rattle.iloc_spec_grammar.specs.Syntax.{pieces};
+ghost use Rattle.iloc_fronts.specs.Ordered.{IsBefore, IsReading, IsTailOf, IsVaried};
+
+use crate::blocks::{Rest, read_blocks};
+use crate::front::first_len;
+use crate::words::is_variant;
+use iloc_plain::{Plain, read_plain};
+
+/// A plain identifier, and what follows it in the line.
+#[derive(Drop)]
+pub struct Ordered<'a> {
+    /// The language, and perhaps a script and a region.
+    pub plain: Plain,
+    /// The bytes from the hyphen after them on, and what follows the line.
+    pub rest: &'a [u8],
+    /// How many of them the line has.
+    pub len: usize,
+}
+
+/// What a line is as a locale.
+#[derive(Drop)]
+pub enum Reading<'a> {
+    /// In the order of its normal text.
+    Ordered(Ordered<'a>),
+    /// An identifier, and then a bad block.
+    BadBlock,
+    /// Nothing that is told.
+    Other,
+}
+
+/// What the first `len` bytes are as a locale, if a plain identifier of `at` bytes comes first and perhaps
+/// one variant. In order are a block of `u` with at most one attribute, ascending keys and no `true`, or a
+/// block of words of another singleton than `t`; and after either perhaps a block of `x`. Of bad blocks the first
+/// is told.
+#[inline(always)]
+pub fn read_ordered(window: &[u8], len: usize, at: usize) -> Reading<'_>
+    requires { len + 16 ≤ length window.now }
+    ensures { IsReading (take len window.now) result }
+{
+    if at >= len {
+        return Reading::Other;
+    }
+    let rest = read_tail(&window[at + 1..], len - at - 1);
+    if let Rest::Other = rest {
+        return Reading::Other;
+    }
+    let Some(plain) = plain_before(window, len, at) else {
+        return Reading::Other;
+    };
+    match rest {
+        Rest::Printed => Reading::Ordered(Ordered {
+            plain,
+            rest: &window[at..],
+            len: len - at,
+        }),
+        Rest::BadBlock => Reading::BadBlock,
+        Rest::Other => Reading::Other,
+    }
+}
+
+/// The identifier that they are, if a plain one of `at` bytes comes first and one variant follows it.
+#[inline(always)]
+pub fn read_varied(window: &[u8], len: usize, at: usize) -> Option<Ordered<'_>>
+    requires { len + 16 ≤ length window.now }
+    ensures { IfSome result (IsVaried (take len window.now)) }
+{
+    if at >= len {
+        return None;
+    }
+    let rest = &window[at + 1..];
+    let left = len - at - 1;
+    let n = first_len(rest, left);
+    if n != left || !is_variant(rest, n) {
+        return None;
+    }
+    let plain = plain_before(window, len, at)?;
+    Some(Ordered {
+        plain,
+        rest: &window[at..],
+        len: len - at,
+    })
+}
+
+// The plain identifier of `at` bytes, if a hyphen follows it.
+#[inline(always)]
+fn plain_before(window: &[u8], len: usize, at: usize) -> Option<Plain>
+    requires { len + 16 ≤ length window.now }
+    ensures { IfSome result (IsBefore window.now len at) }
+{
+    if at > 16 || at >= len || window[at] != b'-' {
+        return None;
+    }
+    read_plain(window, at)
+}
+
+// What follows the hyphen after it: at most one variant, and blocks.
+#[inline(always)]
+fn read_tail(window: &[u8], len: usize) -> Rest
+    requires { len + 16 ≤ length window.now }
+    ensures { IsTailOf (pieces (take len window.now)) result }
+{
+    let n = first_len(window, len);
+    if !is_variant(window, n) {
+        return read_blocks(window, len);
+    }
+    if n == len {
+        return Rest::Printed;
+    }
+    read_blocks(&window[n + 1..], len - n - 1)
+}

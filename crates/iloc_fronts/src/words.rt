@@ -1,0 +1,227 @@
+//! Whether the first bytes of a window are a word of an identifier.
+ghost use Rattle.std.specs.Prelude.{◌≡◌, ◌+◌, ◌≤◌, ◌&&◌, IsTrue, true, false, length, take};
+ghost use Rattle.std.specs.Int.{is_in_range};
+ghost use Rattle.std.specs.List.{list_all};
+ghost use Rattle.iloc_spec_grammar.specs.Syntax.{pieces};
+ghost use Rattle.iloc_fronts.specs.Ordered.{key_number};
+ghost use Rattle.iloc_spec_grammar.specs.Syntax.{
+  Attribute,
+  Language,
+  Region,
+  Script,
+  Subtag,
+  UnicodeKey,
+  Variant,
+  PrivateSubtag,
+  is_true,
+  is_word,
+  lower,
+  languages,
+  letters,
+  digits,
+  letters_or_digits,
+};
+
+use crate::front::first_len;
+use crate::run::{first_alphanumerics, first_digits, first_letters};
+use iloc_plain::is_language_length;
+
+// Whether the first `n` bytes are letters.
+#[inline(always)]
+fn are_letters(window: &[u8], n: usize) -> bool
+    requires wide { 16 ≤ length window.now }
+    requires few { n ≤ 16 }
+    ensures { result ≡ letters (take n window.now) }
+{
+    n <= first_letters(window)
+}
+
+// Whether they are digits.
+#[inline(always)]
+fn are_digits(window: &[u8], n: usize) -> bool
+    requires wide { 16 ≤ length window.now }
+    requires few { n ≤ 16 }
+    ensures { result ≡ digits (take n window.now) }
+{
+    n <= first_digits(window)
+}
+
+// Whether they are letters and digits.
+#[inline(always)]
+fn are_letters_or_digits(window: &[u8], n: usize) -> bool
+    requires wide { 16 ≤ length window.now }
+    requires few { n ≤ 16 }
+    ensures { result ≡ letters_or_digits (take n window.now) }
+{
+    n <= first_alphanumerics(window)
+}
+
+// Whether they are letters and digits, and at least `least` and at most eight.
+#[inline(always)]
+fn is_word_from(least: usize, window: &[u8], n: usize) -> bool
+    requires wide { 16 ≤ length window.now }
+    requires few { n ≤ 16 }
+    ensures { result ≡ is_in_range least 8 n && letters_or_digits (take n window.now) }
+{
+    if n < least || n > 8 {
+        return false;
+    }
+    are_letters_or_digits(window, n)
+}
+
+// Whether the first `n` bytes are a language.
+#[inline(always)]
+pub(crate) fn is_language(window: &[u8], n: usize) -> bool
+    requires wide { 16 ≤ length window.now }
+    requires few { n ≤ 16 }
+    ensures { result ≡ is_word (Language languages) (take n window.now) }
+{
+    if !is_language_length(n) {
+        return false;
+    }
+    are_letters(window, n)
+}
+
+// Whether the first `n` bytes are a script.
+#[inline(always)]
+pub(crate) fn is_script(window: &[u8], n: usize) -> bool
+    requires wide { 16 ≤ length window.now }
+    requires few { n ≤ 16 }
+    ensures { result ≡ is_word Script (take n window.now) }
+{
+    if n != 4 {
+        return false;
+    }
+    are_letters(window, n)
+}
+
+// Whether the first `n` bytes are a region.
+#[inline(always)]
+pub(crate) fn is_region(window: &[u8], n: usize) -> bool
+    requires wide { 16 ≤ length window.now }
+    requires few { n ≤ 16 }
+    ensures { result ≡ is_word Region (take n window.now) }
+{
+    if n == 2 {
+        return are_letters(window, n);
+    }
+    if n != 3 {
+        return false;
+    }
+    are_digits(window, n)
+}
+
+// Whether the first `n` bytes are a variant.
+#[inline(always)]
+pub(crate) fn is_variant(window: &[u8], n: usize) -> bool
+    requires wide { 16 ≤ length window.now }
+    requires few { n ≤ 16 }
+    ensures { result ≡ is_word Variant (take n window.now) }
+{
+    if n < 4 || n > 8 {
+        return false;
+    }
+    if n == 4 && !window[0].is_ascii_digit() {
+        return false;
+    }
+    are_letters_or_digits(window, n)
+}
+
+// Whether the first `n` bytes are a key of `u`.
+#[inline(always)]
+pub(crate) fn is_key(window: &[u8], n: usize) -> bool
+    requires wide { 16 ≤ length window.now }
+    requires few { n ≤ 16 }
+    ensures { result ≡ is_word UnicodeKey (take n window.now) }
+{
+    if n != 2 {
+        return false;
+    }
+    if !window[0].is_ascii_alphanumeric() {
+        return false;
+    }
+    window[1].is_ascii_alphabetic()
+}
+
+// Whether the first `n` bytes are a word of another extension.
+#[inline(always)]
+pub(crate) fn is_subtag(window: &[u8], n: usize) -> bool
+    requires wide { 16 ≤ length window.now }
+    requires few { n ≤ 16 }
+    ensures { result ≡ is_word Subtag (take n window.now) }
+{
+    is_word_from(2, window, n)
+}
+
+// Whether the first `n` bytes are an attribute, or a piece of a value.
+#[inline(always)]
+pub(crate) fn is_attribute(window: &[u8], n: usize) -> bool
+    requires wide { 16 ≤ length window.now }
+    requires few { n ≤ 16 }
+    ensures { result ≡ is_word Attribute (take n window.now) }
+{
+    is_word_from(3, window, n)
+}
+
+// Whether the first `n` bytes are `true`, in whatever case.
+#[inline(always)]
+pub(crate) fn is_true(window: &[u8], n: usize) -> bool
+    requires wide { 16 ≤ length window.now }
+    requires few { n ≤ 16 }
+    ensures { result ≡ false → is_true (lower (take n window.now)) ≡ false }
+{
+    if n != 4 {
+        return false;
+    }
+    if window[0].to_ascii_lowercase() != b't' {
+        return false;
+    }
+    if window[1].to_ascii_lowercase() != b'r' {
+        return false;
+    }
+    if window[2].to_ascii_lowercase() != b'u' {
+        return false;
+    }
+    window[3].to_ascii_lowercase() == b'e'
+}
+
+// The number of the key that the first two bytes are, by which keys are ordered. Bit 5 makes a letter
+// lower case, and digits have it.
+#[inline(always)]
+pub(crate) fn number_of_key(window: &[u8]) -> usize
+    requires wide { 16 ≤ length window.now }
+    requires key { is_word UnicodeKey (take 2 window.now) ≡ true }
+    ensures { result ≡ key_number (take 2 window.now) }
+{
+    256 * ((window[0] | 32) as usize) + (window[1] | 32) as usize
+}
+
+// Whether the first `n` bytes are a word of a private part.
+#[inline(always)]
+fn is_private_subtag(window: &[u8], n: usize) -> bool
+    requires wide { 16 ≤ length window.now }
+    requires few { n ≤ 16 }
+    ensures { result ≡ is_word PrivateSubtag (take n window.now) }
+{
+    is_word_from(1, window, n)
+}
+
+// Whether the pieces of the first `len` bytes are words of a private part.
+#[inline(always)]
+pub(crate) fn are_private(window: &[u8], len: usize) -> bool
+    requires { len + 16 ≤ length window.now }
+    ensures { result ≡ list_all (is_word PrivateSubtag) (pieces (take len window.now)) }
+{
+    let mut rest = window;
+    let mut left = len;
+    let mut n = first_len(rest, left);
+    'words: while is_private_subtag(rest, n) {
+        if n == left {
+            return true;
+        }
+        rest = &rest[n + 1..];
+        left = left - n - 1;
+        n = first_len(rest, left);
+    }
+    false
+}
