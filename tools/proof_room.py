@@ -3,7 +3,7 @@
 The room has the program's crate and the crates below it, without their mutants. What `rt ci`
 proves there is kept at once, crate by crate, so that a run which is cut off loses only the proofs under
 way. Some toolchains' `rt ci` keeps it beside the toolchain, and takes it from there in any checkout. With
-the others tools/prove_keeping, which runs `rt ci`, keeps it in out/proof."""
+the others tools/prove_keeping runs `rt ci`, and keeps it in out/proof."""
 import os
 import re
 import shutil
@@ -37,7 +37,7 @@ def command():
     """Returns the command that proves a room and keeps what it proves."""
     with open(shutil.which("rt"), encoding="utf-8", errors="replace") as it:
         keeps = " is kept: " in it.read()
-    return [f"{ROOT}/tools/prove_keeping", *([] if keeps else [KEPT_IN])]
+    return ["rt", "ci"] if keeps else [f"{ROOT}/tools/prove_keeping", KEPT_IN]
 
 
 def furnish(room, names, lines):
