@@ -3,6 +3,7 @@ use Rattle.iloc_spec_parts.specs.Orders.{ExtensionKind, OfTransform, OfUnicode, 
 use Rattle.iloc_extensions.specs.declared.extension_type.ExtensionType.{ExtensionType}
 use Rattle.iloc_extensions.specs.declared.extension_type.ExtensionType.TheVariants.{Transform, Unicode, Private, Other}
 
+-- the kind of extension that a type of extension names
 abbrev pub kind_of : ExtensionType → ExtensionKind
 kind_of Transform = OfTransform
 kind_of Unicode = OfUnicode

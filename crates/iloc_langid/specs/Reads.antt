@@ -37,6 +37,7 @@ ReadsAs ps = Answers (λ i. IdentifierMeans languages ps (value_of i))
 abbrev pub KeepsNarrow : Text → Result LanguageIdentifier ParseError → Type 0
 KeepsNarrow t r = (i : Identifier) → IdentifierMeans two_or_three (pieces t) i → IfOk r (λ j. value_of j ≡ i)
 
+-- a text that means an identifier by the narrow table is refused only for want of memory
 abbrev pub AcceptsNarrow : Text → Result LanguageIdentifier ParseError → Type 0
 AcceptsNarrow t r = (i : Identifier) → IdentifierMeans two_or_three (pieces t) i → IfErr r (λ e. e ≡ OutOfMemory)
 

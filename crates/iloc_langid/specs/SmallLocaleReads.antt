@@ -13,6 +13,7 @@ Keyword = Text × Option Text
 abbrev pub LocaleParts : Type 0
 LocaleParts = Text × Option Text × Option Text × Option Text × Option Keyword
 
+-- the small locale of the parts that are read
 abbrev pub small_locale_of : LocaleParts → SmallLocale
 small_locale_of p = record { id = record { language = p.0; script = p.1; region = p.2; variant = p.3 }; keyword = p.4 }
 

@@ -10,6 +10,7 @@ use Rattle.iloc_subtags.specs.Judging.{Answers, LanguageFault, OfIdentifier}
 abbrev pub Parts : Type 0
 Parts = Text × Option Text × Option Text × Option Text
 
+-- the small identifier of the parts that are read
 abbrev pub small_of : Parts → SmallIdentifier
 small_of p = record { language = p.0; script = p.1; region = p.2; variant = p.3 }
 

@@ -40,6 +40,7 @@ pub record Rules : Type 1 where
   pub private : List Text → List Text → Type 0
   pub other : List Text → List Text → Type 0
 
+-- the rules of the grammar, part by part (UTS #35 3.2)
 abbrev pub grammar_rules : Table → Rules
 grammar_rules T = record {
   unicode = UnicodeMeans;
@@ -79,5 +80,6 @@ pub record MeansBy (R : Rules) (T : Table) (t : Text) (M : Locale) : Type 0 wher
   pub id : IdentifierMeans T (head (pieces t)) M.id
   pub blocks : BlocksGive R (tail_blocks (pieces t)) M.extensions
 
+-- the text means M by the grammar's rule of each block (UTS #35 3.2, `extensions`)
 abbrev pub MeansByBlocks : Table → Text → Locale → Type 0
 MeansByBlocks T t M = MeansBy (grammar_rules T) T t M

@@ -14,50 +14,63 @@ use Rattle.iloc_spec_grammar.specs.Reading.{identifier_of, front_of, extension_o
 
 -- Tests of the rules.
 
+-- computes `IfSome`: whether what is there passes the test
 abbrev pub holds_if_some : {X : Type 0} → (X → Bool) → Option X → Bool
 holds_if_some test None = true
 holds_if_some test (Some x) = test x
 
+-- computes `AllDifferent`: whether no item ties with a later one
 abbrev pub all_different : {X : Type 0} → (X → X → Ordering) → List X → Bool
 all_different cmp [] = true
 all_different cmp (x ∷ xs) = not (list_any (eq_by_cmp cmp x) xs) && all_different cmp xs
 
+-- computes `HasWords`: whether each piece is a word of its kind
 abbrev pub has_words : Table → Identifier → Bool
 has_words T i = (is_word (Language T) i.language && holds_if_some (is_word Script) i.script)
     && (holds_if_some (is_word Region) i.region && list_all (is_word Variant) i.variants)
 
+-- computes `IsIdentifier`: such words, no variant twice
 abbrev pub is_identifier : Table → Identifier → Bool
 is_identifier T i = has_words T i && all_different word_cmp (map lower i.variants)
 
+-- computes `IsKeyword`: a key and its values
 abbrev pub is_keyword : Field → Bool
 is_keyword f = is_word UnicodeKey f.0 && list_all (is_word Attribute) f.1
 
+-- computes `IsUnicode`: attributes and keywords, one at least
 abbrev pub is_unicode : Unicode → Bool
 is_unicode u = (list_all (is_word Attribute) u.attributes && list_all is_keyword u.keywords)
     && nat_lt 0 (length u.attributes + length u.keywords)
 
+-- computes `IsField`: a key and one value or more
 abbrev pub is_field : Field → Bool
 is_field f = (is_word TransformKey f.0 && list_all (is_word Attribute) f.1) && nat_lt 0 (length f.1)
 
+-- computes `IsTransform`: perhaps an identifier, and fields, not both absent
 abbrev pub is_transform : Table → Transform → Bool
 is_transform T m = (holds_if_some (is_identifier T) m.id && list_all is_field m.fields)
     && (is_some m.id || nat_lt 0 (length m.fields))
 
+-- computes `IsOther`: pieces of 2 to 8 bytes, of which one at least is a word
 abbrev pub is_other : List Text → Bool
 is_other ps = list_all (λ p. is_in_range 2 8 (length p)) ps && nat_lt 0 (length (kept ps))
 
+-- computes `IsPrivate`: private words, one at least
 abbrev pub is_private : List Text → Bool
 is_private ps = list_all (is_word PrivateSubtag) ps && nat_lt 0 (length ps)
 
+-- computes `IsExtension`: the extension follows the rule of its singleton
 abbrev pub is_extension : Table → ℕ → Extension → Bool
 is_extension T c (unicode u) = (c == code_u) && is_unicode u
 is_extension T c (transform m) = (c == code_t) && is_transform T m
 is_extension T c (other ps) = is_other_singleton c && is_other ps
 
+-- computes `IsBlock`: the block follows the rule of its singleton
 abbrev pub is_block : Table → Block → Bool
 is_block T b = ((singleton b == code_x) && is_private b.1)
     || is_extension T (singleton b) (extension_of (singleton b) b.1)
 
+-- computes `RepeatsVariant`: an identifier's front of which a variant stands twice
 abbrev pub repeats_variant : Table → List Text → Bool
 repeats_variant T ps = is_word (Language T) (first_piece ps)
     && not (all_different word_cmp (map lower (front_of ps).variants))
@@ -81,6 +94,7 @@ first_fault T seen (b ∷ bs) =
     if (singleton b == code_t) && repeats_variant T b.1 then Some InvalidSubtag else
     Some InvalidExtension
 
+-- the value, or the fault if there is one
 abbrev pub unless_fault : {X : Type 0} → Option Fault → X → Result X Fault
 unless_fault None x = Ok x
 unless_fault (Some f) x = Err f

@@ -17,10 +17,12 @@ IsRefused t f = HasFault languages t f
 
 -- the same for identifiers
 
+-- the text means an identifier whose text is u
 pub record NormalisesIdentifier (t u : Text) : Type 0 where
   pub value : Identifier
   pub means : IdentifierMeans languages (pieces t) value
   pub printed : identifier_text value ≡ u
 
+-- the text has the fault as an identifier
 abbrev pub IsRefusedIdentifier : Text → Fault → Type 0
 IsRefusedIdentifier t f = HasIdentifierFault languages (pieces t) f

@@ -75,6 +75,7 @@ no_transform = record { id = None; fields = [] }
 abbrev pub just_unicode : Unicode → Extensions
 just_unicode u = record { unicode = u; transform = no_transform; private = []; others = [] }
 
+-- all parts empty: what a text without blocks means
 abbrev pub no_extensions : Extensions
 no_extensions = just_unicode no_unicode
 

@@ -8,6 +8,7 @@ use Rattle.iloc_spec_grammar.specs.Syntax.{Text, Table, Block, code_t, code_u, c
 
 -- Lists of pieces.
 
+-- the first item, if there is one
 abbrev pub first_item : {X : Type 0} → List X → Option X
 first_item [] = None
 first_item (x ∷ xs) = Some x
@@ -105,6 +106,7 @@ is_two p = length p == 2
 unfoldable pub unicode_of : List Text → Unicode
 unicode_of ps = record { attributes = before_key is_two ps; keywords = fields_from is_two ps }
 
+-- the identifier after `t`, if any piece stands there (UTS #35 3.2, `tlang`)
 abbrev pub optional_of : List Text → Option Identifier
 optional_of [] = None
 optional_of (p ∷ ps) = Some (identifier_of (p ∷ ps))
@@ -116,6 +118,7 @@ transform_of ps = record {
   fields = fields_from (is_word TransformKey) ps;
 }
 
+-- the extension that the pieces are read as: of `t`, else of `u`, else another
 abbrev pub extension_by : Bool → Bool → List Text → Extension
 extension_by true u ps = transform (transform_of ps)
 extension_by false true ps = unicode (unicode_of ps)
@@ -133,10 +136,12 @@ extensions_in [] = []
 extensions_in (b ∷ bs) = cond (singleton b == code_x) []
     ((b.0, extension_of (singleton b) b.1) ∷ extensions_in bs)
 
+-- the first block of `x`, which is the private part (UTS #35 3.2, `pu_extensions`)
 abbrev pub private_in : List Block → Option Block
 private_in [] = None
 private_in (b ∷ bs) = cond (singleton b == code_x) (Some b) (private_in bs)
 
+-- what the pieces are read as, whether or not it follows the rules (UTS #35 3.2, `unicode_locale_id`)
 unfoldable pub written_of : List Text → Written
 written_of ps = record {
   id = identifier_of (head ps);

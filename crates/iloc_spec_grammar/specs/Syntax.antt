@@ -248,6 +248,7 @@ raw n k w = w ++ replicate (greatest n k - length w) 0
 abbrev pub wide_raw : Kind → Text → Text
 wide_raw k w = raw 8 k w
 
+-- over the narrow table, where a language takes three bytes
 abbrev pub narrow_raw : Kind → Text → Text
 narrow_raw k w = raw 3 k w
 

@@ -148,18 +148,23 @@ text M = join (spelling (printed M))
 
 -- The pieces that each part gives, its singleton among them; an empty part gives none.
 
+-- the pieces of blocks: each singleton, and what follows it
 abbrev pub form_pieces : List (ℕ × Extension) → List Text
 form_pieces es = flat_map block_pieces (map extension_block es)
 
+-- the pieces that a unicode part prints, with its singleton (UTS #35 3.2.1)
 unfoldable pub unicode_spelling : Unicode → List Text
 unicode_spelling u = form_pieces (unicode_form u)
 
+-- the pieces that a transform part prints, with its singleton (UTS #35 3.2.1)
 unfoldable pub transform_spelling : Transform → List Text
 transform_spelling m = form_pieces (transform_form m)
 
+-- the pieces that another extension prints, with its singleton (UTS #35 3.2.1)
 unfoldable pub other_spelling : Block → List Text
 other_spelling o = form_pieces (others_form (o ∷ []))
 
+-- the pieces that a private part prints, with its singleton (UTS #35 3.2.1)
 unfoldable pub private_spelling : List Text → List Text
 private_spelling ws = flat_map block_pieces (option_to_list (private_form ws))
 
@@ -172,30 +177,38 @@ extensions_spelling e = flat_map other_spelling (before_t e.others)
 
 -- The text of each part alone is the join of its share; of an empty part it is empty.
 
+-- the text of an identifier (UTS #35 3.2.1)
 unfoldable pub identifier_text : Identifier → Text
 identifier_text i = join (identifier_pieces i)
 
+-- the text of a unicode part (UTS #35 3.2.1)
 unfoldable pub unicode_text : Unicode → Text
 unicode_text u = join (unicode_spelling u)
 
+-- the text of a transform part (UTS #35 3.2.1)
 unfoldable pub transform_text : Transform → Text
 transform_text m = join (transform_spelling m)
 
+-- the text of another extension (UTS #35 3.2.1)
 unfoldable pub other_text : Block → Text
 other_text o = join (other_spelling o)
 
+-- the text of a private part (UTS #35 3.2.1)
 unfoldable pub private_text : List Text → Text
 private_text ws = join (private_spelling ws)
 
+-- the text of all extensions (UTS #35 3.2.1)
 unfoldable pub extensions_text : Extensions → Text
 extensions_text e = join (extensions_spelling e)
 
 -- Sets of variants or attributes, and values of keywords, are the join of their words; an empty
 -- value of a field is `true`.
 
+-- the text of a field's value: `true` if it is empty (this library's rule)
 unfoldable pub field_value_text : List Text → Text
 field_value_text ws = join (spelled_value ws)
 
+-- the text of fields: each key, and its value (UTS #35 3.2.1)
 unfoldable pub fields_text : Fields → Text
 fields_text fs = join (fields_pieces (spelled_fields fs))
 
@@ -337,6 +350,7 @@ Leads R (suc n) t u = (t ≡ u) ⊎ ((s : Text) × R t s × Leads R n s u)
 abbrev pub Chain : Table → ℕ → Text → Text → Type 0
 Chain T n t u = Leads (TextStep T) n t u
 
+-- n steps or fewer lead from one identifier's text to another
 abbrev pub IdentifierChain : Table → ℕ → Text → Text → Type 0
 IdentifierChain T n t u = Leads (IdentifierTextStep T) n t u
 

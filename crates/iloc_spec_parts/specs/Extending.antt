@@ -4,6 +4,7 @@ use Rattle.std.specs.Prelude.{◌++◌}
 use Rattle.iloc_spec_grammar.specs.Syntax.{word_cmp, Unicode}
 use Rattle.iloc_spec_grammar.specs.Meaning.{map_of, set_of}
 
+-- the attributes of both, and the keywords of both: of equal keys that of v stays
 abbrev pub extend : Unicode → Unicode → Unicode
 extend u v = record {
   attributes = set_of (u.attributes ++ v.attributes);

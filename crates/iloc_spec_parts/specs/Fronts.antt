@@ -44,6 +44,7 @@ is_keyword_piece p = is_two p || is_word Attribute p
 abbrev pub keywords_front : List Text → List Text
 keywords_front ps = passing_from is_two is_keyword_piece ps
 
+-- the pieces after the keywords at the front (UTS #35 3.2, `ufield`)
 abbrev pub after_keywords : List Text → List Text
 after_keywords ps = past_from is_two is_keyword_piece ps
 
@@ -59,6 +60,7 @@ pub record KeywordsRead (ps : List Text) (m : Fields) (rest : List Text) : Type 
 abbrev pub is_bad_key : Text → Bool
 is_bad_key p = is_two p && not (is_word UnicodeKey p)
 
+-- why no keywords are read from the front: a piece of two bytes there is no key
 pub data KeywordsFault (ps : List Text) : Fault → Type 0 where
   bad_key : list_any is_bad_key (keywords_front ps) ≡ true → KeywordsFault ps InvalidExtension
 
@@ -68,6 +70,7 @@ pub record UnicodeRead (ps : List Text) (u : Unicode) (rest : List Text) : Type 
   pub keywords_are : KeywordsRead (after_attributes ps) u.keywords rest
   pub nonempty : 0 < length (attributes_front ps) + length (keywords_front (after_attributes ps))
 
+-- why nothing is read after `u`: a bad key, or neither attribute nor keyword
 pub data UnicodeFault (ps : List Text) : Fault → Type 0 where
   in_keywords : {f : Fault} → KeywordsFault (after_attributes ps) f → UnicodeFault ps f
   both_absent : attributes_front ps ≡ [] → keywords_front (after_attributes ps) ≡ []
@@ -83,12 +86,15 @@ pub data FrontRead (T : Table) (ps : List Text) : Option Identifier → List Tex
 
 -- Then fields, which begin with a key and go on with keys and with 3 to 8 letters or digits.
 
+-- whether the piece may stand in fields: a key or a value (UTS #35 3.2, `tfield`)
 abbrev pub is_field_piece : Text → Bool
 is_field_piece p = is_word TransformKey p || is_word Attribute p
 
+-- the pieces of the fields at the front (UTS #35 3.2, `tfield`)
 abbrev pub fields_front : List Text → List Text
 fields_front ps = passing_from (is_word TransformKey) is_field_piece ps
 
+-- the pieces after these fields
 abbrev pub after_fields : List Text → List Text
 after_fields ps = past_from (is_word TransformKey) is_field_piece ps
 
@@ -124,11 +130,13 @@ has_other_length p = is_in_range 2 8 (length p)
 abbrev pub other_front : List Text → List Text
 other_front ps = passing has_other_length ps
 
+-- after another singleton ws are read from the front, and rest is left (UTS #35 3.2, `other_extensions`)
 pub record OtherRead (ps ws rest : List Text) : Type 0 where
   pub follows : IsOther (other_front ps)
   pub means : ws ≡ kept (other_front ps)
   pub left : rest ≡ past has_other_length ps
 
+-- why nothing is read after another singleton: its front has no word
 pub data OtherFault (ps : List Text) : Fault → Type 0 where
   no_word : ¬ (IsOther (other_front ps)) → OtherFault ps InvalidExtension
 
@@ -138,11 +146,13 @@ pub data OtherFault (ps : List Text) : Fault → Type 0 where
 abbrev pub private_front : List Text → List Text
 private_front ps = passing (is_word PrivateSubtag) ps
 
+-- after `x` all pieces are read, and nothing is left (UTS #35 3.2, `pu_extensions`)
 pub record PrivateRead (ps ws rest : List Text) : Type 0 where
   pub follows : IsPrivate ps
   pub means : ws ≡ map lower ps
   pub left : rest ≡ []
 
+-- why nothing is read after `x`: the pieces are no private part
 pub data PrivateFault (ps : List Text) : Fault → Type 0 where
   not_private : ¬ (IsPrivate ps) → PrivateFault ps InvalidExtension
 

@@ -34,37 +34,48 @@ is_letter c d = c == d
 
 -- What a text is read as, part by part, and why it isn't.
 
+-- the text alone is read as these attributes
 abbrev pub AttributesText : Text → List Text → Type 0
 AttributesText t ws = ws ≡ attributes_read (pieces t)
 
+-- the text alone is read as these keywords, of its front
 abbrev pub KeywordsText : Text → Fields → Type 0
 KeywordsText t m = (rest : List Text) × KeywordsRead (pieces t) m rest
 
+-- why the text alone is not read as keywords
 abbrev pub KeywordsTextFault : Text → Fault → Type 0
 KeywordsTextFault t f = KeywordsFault (pieces t) f
 
+-- the text alone, with its `u`, is read as this unicode part
 abbrev pub UnicodeText : Text → Unicode → Type 0
 UnicodeText t u = (rest : List Text) × PartRead (is_letter code_u) UnicodeRead (pieces t) (code_u, u) rest
 
+-- why the text alone is not read as a unicode part
 abbrev pub UnicodeTextFault : Text → Fault → Type 0
 UnicodeTextFault t f = PartFault (is_letter code_u) UnicodeFault (pieces t) f
 
+-- the text alone, with its `t`, is read as this transform part
 abbrev pub TransformText : Table → Text → Transform → Type 0
 TransformText T t m = (rest : List Text)
     × PartRead (is_letter code_t) (TransformRead T) (pieces t) (code_t, m) rest
 
+-- why the text alone is not read as a transform part
 abbrev pub TransformTextFault : Table → Text → Fault → Type 0
 TransformTextFault T t f = PartFault (is_letter code_t) (TransformFault T) (pieces t) f
 
+-- the text alone, with its singleton, is read as this other extension
 abbrev pub OtherText : Text → Block → Type 0
 OtherText t o = (rest : List Text) × PartRead is_other_singleton OtherRead (pieces t) o rest
 
+-- why the text alone is not read as another extension
 abbrev pub OtherTextFault : Text → Fault → Type 0
 OtherTextFault t f = PartFault is_other_singleton OtherFault (pieces t) f
 
+-- the text alone, with its `x`, is read as these private words
 abbrev pub PrivateText : Text → List Text → Type 0
 PrivateText t ws = (rest : List Text)
     × PartRead (is_letter code_x) PrivateRead (pieces t) (code_x, ws) rest
 
+-- why the text alone is not read as a private part
 abbrev pub PrivateTextFault : Text → Fault → Type 0
 PrivateTextFault t f = PartFault (is_letter code_x) PrivateFault (pieces t) f

@@ -11,6 +11,7 @@ use Rattle.iloc_spec_grammar.specs.Reading.{first_item}
 
 -- What is read.
 
+-- an identifier with one variant at most
 pub record SmallIdentifier : Type 0 where
   pub language : Text
   pub script : Option Text
@@ -24,6 +25,7 @@ pub record SmallLocale : Type 0 where
 
 -- The identifier and the locale of the same parts, the others empty.
 
+-- the identifier of the same words
 abbrev pub identifier_of_small : SmallIdentifier → Identifier
 identifier_of_small r = record {
   language = r.language;
@@ -32,9 +34,11 @@ identifier_of_small r = record {
   variants = option_to_list r.variant;
 }
 
+-- the keyword of the same key, with one value at most
 abbrev pub keyword_of_small : Text × Option Text → Field
 keyword_of_small k = (k.0, option_to_list k.1)
 
+-- the locale of the same identifier and keyword, and of nothing else
 abbrev pub locale_of_small : SmallLocale → Locale
 locale_of_small r = record {
   id = identifier_of_small r.id;
@@ -75,6 +79,7 @@ keyword_extension None = []
 keyword_extension (Some k) =
     (k.byte, unicode (record { attributes = []; keywords = (k.key, k.values) ∷ [] })) ∷ []
 
+-- what is written: the identifier, and perhaps a block of `u`
 abbrev pub small_written : Identifier → Option WrittenKeyword → Written
 small_written i k = record { id = i; extensions = keyword_extension k; private = None }
 

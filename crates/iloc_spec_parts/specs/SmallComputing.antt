@@ -11,9 +11,11 @@ use Rattle.iloc_spec_parts.specs.Small.{SmallIdentifier, SmallLocale, locale_of_
 
 -- Identifiers: after the words at the front there is at most one piece, a variant.
 
+-- whether the pieces are variants, one at most
 abbrev pub has_small_variants : List Text → Bool
 has_small_variants vs = list_all (is_word Variant) vs && nat_le (length vs) 1
 
+-- the small identifier that the pieces are, or why they are none
 unfoldable pub small_identifier_result : Table → List Text → Result SmallIdentifier Fault
 small_identifier_result T [] = Err InvalidLanguage
 small_identifier_result T (p ∷ ps) = if is_word (Language T) p
@@ -24,18 +26,22 @@ small_identifier_result T (p ∷ ps) = if is_word (Language T) p
 -- The block after the head: a key, and values of which at most one isn't `true`; and no block after
 -- it.
 
+-- whether the pieces are a key and its values, of which one at most is not `true`
 abbrev pub has_small_keyword : List Text → Bool
 has_small_keyword [] = false
 has_small_keyword (p ∷ ps) = is_word UnicodeKey p
     && (list_all (is_word Attribute) ps && nat_le (length (normal_values ps)) 1)
 
+-- whether the singleton is `u`, in whatever case
 abbrev pub is_u : ℕ → Bool
 is_u c = to_ascii_lowercase c == code_u
 
+-- whether the block is one of `u` with such a keyword, and the last
 abbrev pub is_small_block : Block → List Block → Bool
 is_small_block b [] = is_u b.0 && has_small_keyword b.1
 is_small_block b (d ∷ bs) = false
 
+-- the key, and the value that is not `true`, if there is one
 abbrev pub keyword_read : List Text → Text × Option Text
 keyword_read [] = ([], None)
 keyword_read (p ∷ ps) = (lower p, first_item (normal_values ps))
@@ -49,11 +55,13 @@ block_fault b = if is_ascii_alphanumeric b.0
     else InvalidSubtag)
     else InvalidExtension
 
+-- the small locale of the identifier and the blocks, or the fault of the first block
 unfoldable pub blocks_result : SmallIdentifier → List Block → Result SmallLocale Fault
 blocks_result r [] = Ok (record { id = r; keyword = None })
 blocks_result r (b ∷ bs) = if is_small_block b bs
     then Ok (record { id = r; keyword = Some (keyword_read b.1) }) else Err (block_fault b)
 
+-- the same, unless the identifier has a fault
 unfoldable pub after_identifier : Result SmallIdentifier Fault → List Block
     → Result SmallLocale Fault
 after_identifier (Ok r) bs = blocks_result r bs

@@ -4,6 +4,7 @@ use Rattle.iloc_spec_grammar.specs.Syntax.{Text}
 use Rattle.iloc_subtags.specs.declared.parse_error.ParseError.{ParseError}
 use Rattle.iloc_subtags.specs.declared.parse_error.ParseError.TheVariants.{InvalidLanguage, InvalidSubtag, InvalidExtension, DuplicatedExtension, OutOfMemory}
 
+-- the words of a refusal, as `Display` prints them
 abbrev pub words_of : ParseError → Text
 words_of InvalidLanguage = codes "The given language subtag is invalid"
 words_of InvalidSubtag = codes "Invalid subtag"
