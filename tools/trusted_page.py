@@ -225,11 +225,13 @@ def write(sources):
 
 
 def check(sources):
-    """Says which parts of the page are not what the sources give."""
+    """Says which parts of the page are not what the sources give, and which definitions have no sentence."""
     _, text = read(sources)
     page = Page(sources)
     made, wrong = page.made(text)
     wrong += [f"{it.where}: {it.name} cites {', '.join(sorted(names))}, which nothing in scope explains" for it, names in sources.unknown.items()]
+    library = graph.closure_of(sources, graph.library(sources))
+    wrong += [f"{it.where}: {it.name} has no sentence" for it in library.definitions if not it.sentence()]
     parts = list(zip(PART.finditer(text), PART.finditer(made)))
     for old, new in parts:
         if old[2] != new[2]:
