@@ -169,7 +169,9 @@ class Crate:
         for item in items:
             head, impl = HEAD.match(item.signature), IMPL.match(item.signature)
             if head:
-                self.items[head.group(2)] = item
+                module = without_suffix(os.path.basename(item.path), ".rt")
+                self.items[f"{module}::{head.group(2)}"] = item
+                self.items.setdefault(head.group(2), item)
             if alias := ALIAS.match(item.signature):
                 self.aliases[alias.group(2)] = alias.group(1)
             if impl and impl.group(1):
@@ -225,12 +227,14 @@ def libraries():
 
 def passed_on(line):
     """Returns what a `pub use` passes on: the crate, the item's name there, and its name here."""
-    found = re.match(r"pub use (\w+)(?:::\w+)*?::(?:\{(.*)\}|(\w+(?: as \w+)?));", line)
+    found = re.match(r"pub use (\w+)((?:::\w+)*?)::(?:\{(.*)\}|(\w+(?: as \w+)?));", line)
     if not found:
         return []
-    names = [it.partition(" as ") for it in (found.group(2) or found.group(3)).split(", ")]
+    names = [it.partition(" as ") for it in (found.group(3) or found.group(4)).split(", ")]
     home = ROOT if found.group(1) == "crate" else found.group(1)
-    return [(home, made, shown or made) for made, _, shown in names]
+    module = found.group(2).rpartition("::")[2]
+    within = f"{module}::" if module else ""
+    return [(home, within + made, shown or made) for made, _, shown in names]
 
 
 def in_one_line(text):
