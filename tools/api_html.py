@@ -261,7 +261,7 @@ def module_html(module):
     laws = [it for it in module.entries if it.is_law]
     items = [it for it in module.entries if not it.is_law]
     names = ", ".join(leads(f"#{it.name}", code(it.name)) for it in items)
-    names += f"; {leads('#laws', 'laws')}" if laws else ""
+    names = "; ".join(filter(None, [names, leads("#laws", "laws") if laws else ""]))
     head = tag("h1", code(module.path)) + tag("p", marked(module.comment)) + tag("p", names, kind="names")
     told = [tag("h1", "Laws", id="laws") + tag("p", LAWS)] if laws else []
     return head + "\n".join([entry_html(it) for it in items] + told + [entry_html(it) for it in laws])

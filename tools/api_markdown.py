@@ -159,7 +159,8 @@ def index():
     rows = [INDEX.rstrip(), "", "| Module | Items |", "|---|---|"]
     for module in model():
         names = ", ".join(f"`{it.name}`" for it in module.entries if not it.is_law)
-        names += "; laws" if any(it.is_law for it in module.entries) else ""
+        if any(it.is_law for it in module.entries):
+            names = f"{names}; laws" if names else "laws"
         file = without_prefix(page_of(module.path), "docs/")
         rows.append(f"| [`{module.path}`]({file}): {module.comment} | {names} |")
     return "\n".join(rows) + "\n"

@@ -216,7 +216,7 @@ OWN = {
     "bench::CarryError": "",
     "bench::carry_v1": "",
 }
-OWN_MODULES = ("program", "subtags::kinds")
+OWN_MODULES = ("laws", "program", "subtags::kinds")
 
 # The Rust types that a generic type stands for.
 BASES = {

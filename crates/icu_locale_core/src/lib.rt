@@ -200,6 +200,12 @@ pub mod bench {
     pub use iloc_json::{CarryError, carry_v1};
 }
 
+/// Laws of the definitions: their orders are total, and what is fed to a hasher tells values apart.
+pub mod laws {
+    pub use iloc_spec_parts::orders::{hashes, orders};
+    pub use iloc_spec_preferences::regions::{data_hashes, data_orders};
+}
+
 /// The library of the program `locale_normal`.
 pub mod program {
     pub use iloc_lines::{Mode, RunError, ending};
