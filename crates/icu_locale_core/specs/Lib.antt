@@ -46,4 +46,32 @@ pub use Rattle.iloc_json.specs.Carrying
 pub use Rattle.iloc_lines.specs.Output as ProgramOutput
 pub use Rattle.iloc_data.specs.FormatterValues as FormatterValues
 pub use Rattle.iloc_enum_keywords.specs.declared.hour_cycle.HourCycle as HourCycles
+pub use Rattle.iloc_tinystr.specs.Text as TinyTextCase
+pub use Rattle.iloc_tinystr.specs.TinyText
+pub use Rattle.iloc_writeable.specs.Held
+pub use Rattle.iloc_shortvec.specs.ShortList
+pub use Rattle.iloc_shortvec.specs.ShortOrder
+pub use Rattle.iloc_shortvec.specs.ShortBoxSliceLends
+pub use Rattle.iloc_shortvec.specs.ShortWordsLends
+pub use Rattle.iloc_litemap.specs.Calls as MapCalls
+pub use Rattle.iloc_litemap.specs.Lends as MapLends
+pub use Rattle.iloc_subtags.specs.ParseError as ParseErrorWords
+pub use Rattle.iloc_subtags.specs.RawForms
+pub use Rattle.iloc_word_set.specs.Ascending
+pub use Rattle.iloc_langid.specs.Unknown
+pub use Rattle.iloc_fields.specs.FieldsReading
+pub use Rattle.iloc_fields.specs.ValueReading as FieldValueReading
+pub use Rattle.iloc_spec_parts.specs.SingleValues
+pub use Rattle.iloc_word_list.specs.Refusals as PreferenceRefusals
+pub use Rattle.iloc_unicode.specs.UnicodeReads
+pub use Rattle.iloc_unicode.specs.Lends as KeywordLends
+pub use Rattle.iloc_extensions.specs.Kinds as ExtensionKinds
+pub use Rattle.iloc_locale.specs.Order as OrderedLocales
+pub use Rattle.iloc_keyword_types.specs.Subdivisions as SubdivisionReads
+pub use Rattle.iloc_keyword_types.specs.Scripts as ScriptReads
+pub use Rattle.iloc_keyword_types.specs.Calendars
+pub use Rattle.iloc_keyword_types.specs.WordTables
+pub use Rattle.iloc_json.specs.Errors as JsonErrors
+pub use Rattle.iloc_json.specs.CarryError as CarryErrors
+pub use Rattle.iloc_lines.specs.Ending as ProgramEnding
 pub mod Together
