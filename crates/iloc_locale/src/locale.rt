@@ -1,5 +1,5 @@
 //! The type, and its parsers.
-ghost use Rattle.std.specs.Prelude.{◌≡◌, ⊤, ℕ, true, List, IfOk, Ok, OnErr};
+ghost use Rattle.std.specs.Prelude.{◌≡◌, ⊤, ℕ, true, List, IfOk, Ok};
 ghost use Rattle.std.specs.Result.{result_and};
 ghost use Rattle.iloc_spec_grammar.specs.Syntax.{Text, pieces, languages, two_or_three, head};
 ghost use Rattle.iloc_spec_grammar.specs.Meaning as meaning;
@@ -113,23 +113,9 @@ impl Locale {
     }
 }
 
-/// Parses all of the text in place of what the locale was, for programs that keep one locale for many texts.
-/// After a refusal it is `und`. Memory that it holds is used again.
-pub fn read_into(alloc: Global, code_units: &[u8], kept: &mut Locale) -> Result<(), ParseError>
-    ensures reads { LocaleReadsAs code_units.now (result_and result (Ok kept.new)) }
-    ensures refused { OnErr result (value_of kept.new ≡ unknown_locale) }
-{
-    kept.extensions.clear();
-    let answer = kept.fill(alloc, code_units);
-    if answer.is_err() {
-        kept.clear();
-    }
-    answer
-}
-
-/// Parses the pieces that are left as the blocks after the head, which this locale's identifier was parsed from:
-/// the other half of `read_into`, for callers that look at the head first. What extensions there were go;
-/// after a refusal the locale holds some of what was parsed.
+/// Parses the pieces that are left as the blocks after the head, which this locale's identifier was parsed from,
+/// for programs that keep one locale for many texts: `iloc_langid::reader::fill_head` parses the head. What
+/// extensions there were go; after a refusal the locale holds some of what was parsed.
 #[inline(never)]
 pub fn read_rest(
     alloc: Global,

@@ -3,7 +3,6 @@ use crate::FailingSink;
 use iloc_langid::LanguageIdentifier;
 use iloc_langid::reader::read_into as read_identifier;
 use iloc_locale::Locale;
-use iloc_locale::locale::read_into as read_locale;
 use iloc_other::{Other, Private};
 use iloc_subtags::ParseError;
 use iloc_transform::Transform;
@@ -82,25 +81,23 @@ fn nothing_stands_before_the_first_part(rt: HostRuntime) -> Result<(), Fail> {
     Ok(())
 }
 
-// Whether a locale that is read in place of another is the new one, and `und` after a refusal.
-fn locale_is_replaced(alloc: Global, locale: &mut Locale) -> Result<bool, ParseError> {
-    read_locale(alloc, b"sl-NEDIS-u-nu-latn-ca-roc-t-fr-m0-true-x-y", locale)?;
-    let whole = locale.strict_cmp(b"sl-nedis-t-fr-m0-true-u-ca-roc-nu-latn-x-y");
-    read_locale(alloc, b"DE", locale)?;
-    let short = locale.strict_cmp(b"de");
-    let answer = read_locale(alloc, b"fr-u-ca-roc-t", locale);
-    let is_refused = answer == Err(ParseError::InvalidExtension);
-    Ok(is_refused && whole.is_eq() && short.is_eq() && locale.strict_cmp(b"und").is_eq())
+// Whether a locale without its extensions is its identifier, and `und` once it is cleared.
+fn locale_is_cleared(locale: &mut Locale) -> bool {
+    locale.extensions.clear();
+    let is_identifier = locale.strict_cmp(b"sl-nedis").is_eq();
+    locale.clear();
+    is_identifier && locale.strict_cmp(b"und").is_eq()
 }
 
 #[test]
-fn a_locale_is_read_in_place_of_another(rt: HostRuntime) {
-    let mut locale = Locale::unknown(rt.alloc());
-    let is_replaced = locale_is_replaced(rt.alloc(), &mut locale);
-    assert_eq!(rt; is_replaced, Ok(true));
+fn a_cleared_locale_is_und(rt: HostRuntime) -> Result<(), Fail> {
+    let text = "sl-NEDIS-u-nu-latn-ca-roc-t-fr-m0-true-x-y";
+    let mut locale = Locale::try_from_str(rt.alloc(), text)?;
+    assert!(rt; locale_is_cleared(&mut locale));
+    Ok(())
 }
 
-// The same of an identifier.
+// Whether an identifier that is read in place of another is the new one, and `und` after a refusal.
 fn identifier_is_replaced(
     alloc: Global,
     identifier: &mut LanguageIdentifier,
