@@ -197,7 +197,8 @@ def allocator_kind(call):
 
 def allocator_table():
     """Returns the table of calls that take the allocator, or that may run out of memory without it."""
-    heads = ["Type or module", "`alloc`, and `?`", "`alloc` alone: it is kept", "`?` alone: the value's own allocator"]
+    heads = ["Type or module", "takes `alloc`, may fail", "takes `alloc` and keeps it, cannot fail"]
+    heads.append("may fail, uses the value's own allocator")
     rows = [f"| {' | '.join(heads)} |", "|---|---|---|---|"]
     for module in model():
         for entry in module.entries:
