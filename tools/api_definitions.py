@@ -4,8 +4,8 @@ import glob
 import os
 import re
 
-from api_source import TOP, libraries, place, read
-from common import without_suffix
+from api_source import libraries, place, read
+from common import ROOT, without_suffix
 
 DECLARED = re.compile(
     r"^(?:\s*(?:abbrev |unfoldable )|\s*(?=pub record |pub data )|(?=pub ))"
@@ -76,11 +76,11 @@ def files():
     """Returns the files of definitions by crate and module."""
     found = {}
     for crate in libraries():
-        for path in sorted(glob.glob(f"{TOP}/crates/{crate}/specs/**/*.antt", recursive=True)):
-            inner = os.path.relpath(path, f"{TOP}/crates/{crate}/specs")
+        for path in sorted(glob.glob(f"{ROOT}/crates/{crate}/specs/**/*.antt", recursive=True)):
+            inner = os.path.relpath(path, f"{ROOT}/crates/{crate}/specs")
             module = without_suffix(inner, ".antt").replace("/", ".")
             if module != "Lib":
-                found[crate, module] = Definitions(crate, module, os.path.relpath(path, TOP))
+                found[crate, module] = Definitions(crate, module, os.path.relpath(path, ROOT))
     return found
 
 

@@ -9,8 +9,8 @@ import re
 
 import api_words
 from api_model import entries
-from api_source import ROOT, TOP, home_of, libraries, read
-from common import without_prefix, without_suffix
+from api_source import CORE, home_of, libraries, read
+from common import ROOT, without_prefix, without_suffix
 
 FIRST = ("crates/example_first_locale", "crates/example_recipes")
 FUNCTION = re.compile(
@@ -36,14 +36,14 @@ BORROWED = re.compile(r"let (?:mut )?(\w+) = &(?:mut )?(\w+)((?:\.\w+)*);")
 def files():
     """Returns the files that the gate runs: programs of users, programs of rows, tests; then the library's own."""
     inner, found = set(libraries()), []
-    for name in sorted(os.listdir(f"{TOP}/crates")):
-        if name not in inner or name == ROOT:
-            found += glob.glob(f"{TOP}/crates/{name}/src/*.rt")
-    paths = [os.path.relpath(it, TOP) for it in found]
-    paths = [it for it in paths if not it.startswith(f"crates/{ROOT}/") or it.endswith("tests.rt")]
-    first = sorted(paths, key=lambda it: (f"use {ROOT}::" not in read(it), not it.startswith(FIRST), it))
-    within = [glob.glob(f"{TOP}/crates/{name}/src/*.rt") for name in libraries() if name != ROOT]
-    return first + sorted(os.path.relpath(it, TOP) for found in within for it in found)
+    for name in sorted(os.listdir(f"{ROOT}/crates")):
+        if name not in inner or name == CORE:
+            found += glob.glob(f"{ROOT}/crates/{name}/src/*.rt")
+    paths = [os.path.relpath(it, ROOT) for it in found]
+    paths = [it for it in paths if not it.startswith(f"crates/{CORE}/") or it.endswith("tests.rt")]
+    first = sorted(paths, key=lambda it: (f"use {CORE}::" not in read(it), not it.startswith(FIRST), it))
+    within = [glob.glob(f"{ROOT}/crates/{name}/src/*.rt") for name in libraries() if name != CORE]
+    return first + sorted(os.path.relpath(it, ROOT) for found in within for it in found)
 
 
 @functools.lru_cache(maxsize=None)
@@ -81,13 +81,13 @@ def names_of(text):
     for path, several, one in USE.findall(text):
         for name in filter(None, map(str.strip, (several or one).split(","))):
             made, _, shown = name.partition(" as ")
-            path = without_suffix(path.replace("crate::", f"{ROOT}::"), "::self")
+            path = without_suffix(path.replace("crate::", f"{CORE}::"), "::self")
             if path == "crate":
-                path = ROOT
+                path = CORE
             entry = by_path().get(f"{path}::{made}")
             first = path.split("::")[0]
             home = (entry.crate, made_name(entry)) if entry else (first, made)
-            if not entry and first.startswith("iloc_") and os.path.isdir(f"{TOP}/crates/{first}"):
+            if not entry and first.startswith("iloc_") and os.path.isdir(f"{ROOT}/crates/{first}"):
                 home = home_of(first, made)
             if home in by_home():
                 known[shown or made] = home
@@ -242,8 +242,8 @@ def examples():
 def rows():
     """Returns the rows of one argument by their first word: the file, the line, the argument, the answer."""
     found = {}
-    for path in sorted(glob.glob(f"{TOP}/crates/*/stdin")):
-        path = os.path.relpath(path, TOP)
+    for path in sorted(glob.glob(f"{ROOT}/crates/*/stdin")):
+        path = os.path.relpath(path, ROOT)
         asked, answers = read(path).split("\n"), read(path.replace("/stdin", "/stdout")).split("\n")
         if len(asked) == len(answers):
             for number, (row, answer) in enumerate(zip(asked, answers), 1):

@@ -14,8 +14,8 @@ from api_examples import examples, remark, tried
 from api_markdown import LAWS, json_types, trait_homes
 from api_markup import code, dim, esc, items, leads, marked, tag
 from api_model import model
-from api_source import ROOT, TOP, USED, place, read
-from common import without_prefix, without_suffix
+from api_source import CORE, USED, place, read
+from common import ROOT, without_prefix, without_suffix
 
 BESIDE = os.path.dirname(os.path.realpath(__file__))
 SIGNS = re.compile(r"[λ→×≡↔≢≤⊎¬∷⊥⊤∥]|\+\+")
@@ -41,11 +41,11 @@ which is proved. Each name in a contract leads to its definition.</p>
 
 def module_file(path):
     """Returns the page of a module."""
-    return f"module.{short(path) or ROOT}.html".replace("::", ".")
+    return f"module.{short(path) or CORE}.html".replace("::", ".")
 
 
 def short(path):
-    return without_prefix(without_prefix(path, ROOT), "::")
+    return without_prefix(without_prefix(path, CORE), "::")
 
 
 def entry_at(path):
@@ -318,7 +318,7 @@ def search_items():
 
 def pages():
     """Returns the title and the body of each page."""
-    made = {"index.html": (ROOT, index_html())}
+    made = {"index.html": (CORE, index_html())}
     made["definitions.html"] = ("Definitions", api_markup.page(read(api_definitions.WORDS)))
     for module in model():
         made[module_file(module.path)] = (module.path, module_html(module))
@@ -337,7 +337,7 @@ def write(folder):
         put(f"{folder}/search.js", f"var ITEMS = {found};\n{it.read()}")
     shutil.copyfile(f"{BESIDE}/api_page.css", f"{folder}/page.css")
     for picture in re.findall(r"!\[[^\]]*\]\(([\w.]+)\)", read(api_definitions.WORDS)):
-        shutil.copyfile(f"{TOP}/docs/{picture}", f"{folder}/{picture}")
+        shutil.copyfile(f"{ROOT}/docs/{picture}", f"{folder}/{picture}")
 
 
 def put(path, text):

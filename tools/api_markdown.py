@@ -5,8 +5,8 @@ import re
 import api_words
 from api_examples import examples, remark, tried
 from api_model import error_of, is_law, model
-from api_source import ROOT, TOP
-from common import without_prefix
+from api_source import CORE
+from common import ROOT, without_prefix
 
 HOME = "docs/api"
 KEYS = (
@@ -15,7 +15,7 @@ KEYS = (
 )
 INDEX = f"""# Public items
 
-Every public item that `{ROOT}` passes on, one page for each module. Each call has:
+Every public item that `{CORE}` passes on, one page for each module. Each call has:
 
 - its signature, and what it does;
 - what it needs, if it has a condition;
@@ -37,7 +37,7 @@ LAWS = "A law is a function that does nothing. Call it where a proof needs the f
 
 def page_of(module):
     """Returns the file of a module's page."""
-    return f"{HOME}/{module.replace(f'{ROOT}::', '').replace('::', '.')}.md"
+    return f"{HOME}/{module.replace(f'{CORE}::', '').replace('::', '.')}.md"
 
 
 def anchor(title):
@@ -50,7 +50,7 @@ def link(entry_path, within):
     module, _, name = entry_path.rpartition("::")
     file = page_of(module).rpartition("/")[2]
     at = "" if module == within else file
-    return f"[`{without_prefix(entry_path, f'{ROOT}::')}`]({at}#{anchor(name)})"
+    return f"[`{without_prefix(entry_path, f'{CORE}::')}`]({at}#{anchor(name)})"
 
 
 def example_row(call):
@@ -64,10 +64,10 @@ def example_row(call):
 
 def tried_row(path):
     """Returns rows that the gate runs of a reader: what is given, and what is answered."""
-    found = tried(without_prefix(path, f"{ROOT}::"))
+    found = tried(without_prefix(path, f"{CORE}::"))
     rows = [f"[`{given}`](../../{file}#L{number}) is answered `{answer}`" for file, number, given, answer in found]
     said = "; ".join(rows)
-    told = remark(without_prefix(path, f"{ROOT}::"))
+    told = remark(without_prefix(path, f"{CORE}::"))
     return [f"- Tried: {said}" + (f" ({told})" if told else "") + "."] if found else []
 
 
@@ -182,7 +182,7 @@ def broken_links(made):
         folder = path.rpartition("/")[0]
         for target, place in re.findall(r"\]\(([\w./]*\.md)?#?([\w-]*)\)", text):
             page = os.path.normpath(f"{folder}/{target}") if target else path
-            if page not in headings and not os.path.isfile(f"{TOP}/{page}"):
+            if page not in headings and not os.path.isfile(f"{ROOT}/{page}"):
                 faults.append(f"{path}: no page {target}")
             elif place and page in headings and place not in headings[page]:
                 faults.append(f"{path}: no heading {place} in {page}")
@@ -198,7 +198,8 @@ def allocator_kind(call):
 
 def allocator_table():
     """Returns the table of calls that take the allocator, or that may run out of memory without it."""
-    heads = ["Type or module", "`alloc`, and `?`", "`alloc` alone: it is kept", "`?` alone: the value's own allocator"]
+    heads = ["Type or module", "takes `alloc`, may fail", "takes `alloc` and keeps it, cannot fail"]
+    heads.append("may fail, uses the value's own allocator")
     rows = [f"| {' | '.join(heads)} |", "|---|---|---|---|"]
     for module in model():
         for entry in module.entries:
@@ -240,8 +241,8 @@ def rust_row(entry):
     if entry.kind == "fn":
         same, changed = [], {it: [f"`{entry.name}`"] for it in filter(None, map(change, entry.calls))}
     said = "; ".join(f"{', '.join(names)}: {how}" for how, names in changed.items())
-    here = without_prefix(entry.path, f"{ROOT}::")
-    there = api_words.BASES.get(entry.name) or f"`{without_prefix(entry.rust, f'{ROOT}::')}`"
+    here = without_prefix(entry.path, f"{CORE}::")
+    there = api_words.BASES.get(entry.name) or f"`{without_prefix(entry.rust, f'{CORE}::')}`"
     return f"| {there} | `{here}` | {', '.join(same)} | {said} | {'; '.join(named)} |"
 
 
@@ -261,5 +262,5 @@ def from_rust_table():
             if (entry.rust or is_base) and not is_ours:
                 rows.append(rust_row(entry))
             else:
-                own.append(f"`{without_prefix(entry.path, f'{ROOT}::')}`")
+                own.append(f"`{without_prefix(entry.path, f'{CORE}::')}`")
     return "\n".join(rows) + "\n\nOnly here: " + ", ".join(own) + "."

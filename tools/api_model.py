@@ -5,7 +5,7 @@ import functools
 import re
 
 import api_words
-from api_source import ALIAS, HEAD, ROOT, citations, crate, libraries, modules
+from api_source import ALIAS, CORE, HEAD, citations, crate, libraries, modules
 from common import without_prefix
 
 INNER = re.compile(r"pub (?!\()|[A-Z]")
@@ -96,7 +96,7 @@ class Module:
 
     @property
     def short(self):
-        return without_prefix(without_prefix(self.path, ROOT), "::") or ROOT
+        return without_prefix(without_prefix(self.path, CORE), "::") or CORE
 
 
 def fits(table, fact):
@@ -254,7 +254,7 @@ def rust_of_call(entry, owner, name):
 
 def rust_of(module, name):
     """Returns the path of the item in the Rust crate; empty if it has none."""
-    short = without_prefix(without_prefix(module, ROOT), "::")
+    short = without_prefix(without_prefix(module, CORE), "::")
     if short.startswith(api_words.OWN_MODULES):
         return ""
     special = api_words.OWN.get(f"{short}::{name}")
@@ -263,10 +263,10 @@ def rust_of(module, name):
     if short in api_words.CRATES_OF_RUST:
         return f"{api_words.CRATES_OF_RUST[short]}::{name}"
     if short in ("langid", "locale", "data", ""):
-        return f"{ROOT}::{name}"
+        return f"{CORE}::{name}"
     if short == "parser":
-        return f"{ROOT}::{name}"
-    return f"{ROOT}::{short}::{name}"
+        return f"{CORE}::{name}"
+    return f"{CORE}::{short}::{name}"
 
 
 def call_of(item, owner, home, rust, made):
@@ -365,7 +365,7 @@ def head_of(item, kind, made, shown, home):
 def entry_of(module, home, made, shown, seen):
     it = crate(home)
     if made not in it.items:
-        raise SystemExit(f"list_api: no public item {made} in the crate {home}: see crates/{ROOT}/src/lib.rt")
+        raise SystemExit(f"list_api: no public item {made} in the crate {home}: see crates/{CORE}/src/lib.rt")
     item = it.items[made]
     kind, rust = HEAD.match(item.signature).group(1), rust_of(module, shown)
     alias = ALIAS.match(item.signature)

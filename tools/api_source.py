@@ -5,10 +5,9 @@ import glob
 import os
 import re
 
-from common import without_prefix, without_suffix
+from common import ROOT, without_prefix, without_suffix
 
-TOP = os.path.dirname(os.path.dirname(os.path.realpath(__file__)))
-ROOT = "icu_locale_core"
+CORE = "icu_locale_core"
 HEAD = re.compile(r"pub (?:unsafe )?(struct|enum|trait|type|fn|const) (\w+)")
 IMPL = re.compile(r"impl(?:<.*?>)? (?:(.+?) for )?((\w+)(?:<.*>)?)$")
 ALIAS = re.compile(r"pub type (\w+).* = ((\w+)(?:<.*>)?)$")
@@ -20,7 +19,7 @@ USED = re.compile(r"ghost use Rattle\.((?:\w+\.)+)\{([^}]*)\}|ghost use Rattle\.
 
 def read(path):
     """Returns the text of a file of the repository."""
-    with open(f"{TOP}/{path}", encoding="utf-8") as it:
+    with open(f"{ROOT}/{path}", encoding="utf-8") as it:
         return it.read()
 
 
@@ -157,9 +156,9 @@ class Crate:
     def __init__(self, name):
         self.name, self.items, self.aliases, self.traits = name, {}, {}, {}
         self.impls, self.given, self.text, self.passed = [], [], "", {}
-        for path in sorted(glob.glob(f"{TOP}/crates/{name}/src/**/*.rt", recursive=True)):
+        for path in sorted(glob.glob(f"{ROOT}/crates/{name}/src/**/*.rt", recursive=True)):
             if "tests" not in path:
-                path = os.path.relpath(path, TOP)
+                path = os.path.relpath(path, ROOT)
                 text = read(path)
                 self.text += text
                 self.passed.update((shown, (at, made)) for at, made, shown in uses_of(text) if at != "crate")
@@ -216,7 +215,7 @@ def libraries():
     """Returns the names of the crates of the library, lowest first."""
     lines = [line.split("#")[0].strip() for line in read("crates.txt").split("\n")]
     uses = {it.split(":")[0].split()[0]: it.split(":")[1].split() for it in lines if it}
-    wanted, left = set(), [ROOT]
+    wanted, left = set(), [CORE]
     while left:
         name = left.pop()
         if name in uses and name not in wanted:
@@ -231,7 +230,7 @@ def passed_on(line):
     if not found:
         return []
     names = [it.partition(" as ") for it in (found.group(3) or found.group(4)).split(", ")]
-    home = ROOT if found.group(1) == "crate" else found.group(1)
+    home = CORE if found.group(1) == "crate" else found.group(1)
     module = found.group(2).rpartition("::")[2]
     within = f"{module}::" if module else ""
     return [(home, within + made, shown or made) for made, _, shown in names]
@@ -251,9 +250,9 @@ def uses_of(text):
 @functools.lru_cache(maxsize=None)
 def modules():
     """Returns each module of the public crate with its comment and what it passes on."""
-    text = in_one_line(read(f"crates/{ROOT}/src/lib.rt"))
+    text = in_one_line(read(f"crates/{CORE}/src/lib.rt"))
     text = re.sub(r"^use .*;$", "", text, flags=re.M)
-    open_ones, comment, found = [(ROOT, ["The types that a program meets first."], [])], [], []
+    open_ones, comment, found = [(CORE, ["The types that a program meets first."], [])], [], []
     for line in text.split("\n"):
         bare = line.strip()
         if bare.startswith("///"):

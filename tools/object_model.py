@@ -6,7 +6,9 @@ import pathlib
 import random
 import re
 
-TOP = pathlib.Path(__file__).resolve().parent.parent
+from common import ROOT
+
+TOP = pathlib.Path(ROOT)
 CALENDARS = {*"buddhist chinese coptic dangi ethioaa ethiopic gregory hebrew indian islamic iso8601 japanese persian roc".split()}
 CALENDARS |= {*"islamic-umalqura islamic-tbla islamic-civil islamic-rgsa".split()}
 OLD_CALENDARS = {"islamicc": "islamic-civil", "ethiopic-amete-alem": "ethioaa"}

@@ -6,7 +6,9 @@ import os
 import pathlib
 import subprocess
 
-TOP = pathlib.Path(__file__).resolve().parent.parent
+from common import ROOT
+
+TOP = pathlib.Path(ROOT)
 MADE = TOP / "out" / "bindings"
 
 
