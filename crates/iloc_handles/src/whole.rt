@@ -10,7 +10,7 @@ ghost use Rattle.iloc_calls.specs.Hashing.{hash_of};
 ghost use Rattle.iloc_handles.specs.Held.{meaning_of};
 ghost use Rattle.iloc_handles.specs.Whole.{ParsesTo, TellsMeant};
 
-use crate::asking::{Change, Question, ask};
+use crate::asking::{Change, Question, ask, put_parsed};
 use crate::handle::{Handle, is_und};
 use iloc_calls::{Status, hash_of_text, number, tell_refused};
 use iloc_locale::Locale;
@@ -25,13 +25,7 @@ impl<'a> Change for FromText<'a> {
     ghost changes = { λ p. ParsesTo p.0.now };
 
     fn apply(&self, alloc: Global, locale: &mut Locale) -> Status {
-        match Locale::try_from_utf8(alloc, self.0) {
-            Ok(parsed) => {
-                *locale = parsed;
-                Status::Done
-            }
-            Err(refusal) => Status::from(refusal),
-        }
+        put_parsed(Locale::try_from_utf8(alloc, self.0), locale)
     }
 }
 
