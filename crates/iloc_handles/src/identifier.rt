@@ -16,13 +16,9 @@ impl<'a> Change for SetLanguage<'a> {
     ghost changes = { λ s. SetsLanguage s.0.now };
 
     fn apply(&self, _alloc: Global, locale: &mut Locale) -> Status {
-        match optional_word::<LanguageKind, 8>(self.0) {
-            Ok(language) => {
-                locale.id.language = language.unwrap_or(Language::unknown());
-                Status::Done
-            }
-            Err(refusal) => Status::from(refusal),
-        }
+        let language = optional_word::<LanguageKind, 8>(self.0);
+        let known = language.map(|it| it.unwrap_or(Language::unknown()));
+        put_parsed(known, &mut locale.id.language)
     }
 }
 

@@ -39,5 +39,5 @@ pub use pairs::{KeyAt, PairCount, Pairs, RemovePair, SetPair, ValueAt, ValueOf};
 pub use parts::Named;
 pub use transform::{OfFields, SetPrivate, SetTransformLanguage};
 pub use variants::{AddVariant, OfVariants, RemoveVariant};
-pub use whole::{AgainstBytes, FromText, Hashed, IsUnd, WellFormed, eq, order_of, tell_meant};
+pub use whole::{AgainstBytes, FromText, Hashed, Test, eq, order_of, tell_meant};
 pub use words::{HasText, WordAt, WordCount, Words};

@@ -27,13 +27,8 @@ impl<'a> Change for SetTransformLanguage<'a> {
             locale.extensions.transform.lang = None;
             return Status::Done;
         }
-        match LanguageIdentifier::try_from_utf8(alloc, self.0) {
-            Ok(identifier) => {
-                locale.extensions.transform.lang = Some(identifier);
-                Status::Done
-            }
-            Err(refusal) => Status::from(refusal),
-        }
+        let identifier = LanguageIdentifier::try_from_utf8(alloc, self.0).map(|it| Some(it));
+        put_parsed(identifier, &mut locale.extensions.transform.lang)
     }
 }
 
