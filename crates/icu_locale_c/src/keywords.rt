@@ -1,17 +1,19 @@
 //! Calls on the keywords of a locale, and on its unicode extension.
-ghost use Rattle.std.specs.Prelude.{◌≡◌, length};
+ghost use Rattle.std.specs.Prelude.{◌≡◌, length, option_map};
+ghost use Rattle.iloc_spec_grammar.specs.Syntax.{UnicodeKey, join};
 ghost use Rattle.iloc_calls.specs.Answers.{Tells};
 ghost use Rattle.iloc_calls.specs.Numbers.{EndsAs};
 ghost use Rattle.iloc_handles.specs.Clearing.{Clears};
 ghost use Rattle.iloc_handles.specs.declared.clearing.Clear.{Clear};
 ghost use Rattle.iloc_handles.specs.Held.{IsTight, meaning_of};
 ghost use Rattle.iloc_handles.specs.Finding.{Changes};
-ghost use Rattle.iloc_handles.specs.Keywords.{RemovesKeyword, SetsKeyword, key_at, key_value_at, keyword_text, keywords_of};
+ghost use Rattle.iloc_handles.specs.Keywords.{keywords, keywords_of};
+ghost use Rattle.iloc_handles.specs.Pairs.{RemovesPair, SetsPair, key_at, value_at, value_of_key};
 ghost use Rattle.iloc_handles.specs.Whole.{ExtendsUnicode};
 
 use iloc_handles::{
-    Clear, Handle, KeyAt, Merge, OfKeywords, PairCount, RemovePair, SetKeyword, ValueAt, ValueOf,
-    ask, change_by, make_change, tell,
+    Clear, Handle, KeyAt, Merge, OfKeywords, PairCount, RemovePair, SetPair, ValueAt, ValueOf, ask,
+    change_by, make_change, tell,
 };
 use std::alloc::Global;
 
@@ -34,8 +36,8 @@ pub extern "C" fn icu_locale_get_keyword_key(
     needed: &mut usize,
 ) -> u32
     ensures same { handle.new.value ≡ handle.old.value }
-    ensures told { EndsAs (Tells (key_at index (meaning_of handle.old.value)) buffer.old
-        buffer.new needed.new) result }
+    ensures told { EndsAs (Tells (key_at index (keywords_of (meaning_of handle.old.value)))
+        buffer.old buffer.new needed.new) result }
 {
     tell(alloc, handle, &KeyAt(OfKeywords, index), buffer, needed)
 }
@@ -50,8 +52,9 @@ pub extern "C" fn icu_locale_get_keyword_value(
     needed: &mut usize,
 ) -> u32
     ensures same { handle.new.value ≡ handle.old.value }
-    ensures told { EndsAs (Tells (key_value_at index (meaning_of handle.old.value)) buffer.old
-        buffer.new needed.new) result }
+    ensures told { EndsAs (Tells
+        (option_map join (value_at index (keywords_of (meaning_of handle.old.value))))
+        buffer.old buffer.new needed.new) result }
 {
     tell(alloc, handle, &ValueAt(OfKeywords, index), buffer, needed)
 }
@@ -66,8 +69,9 @@ pub extern "C" fn icu_locale_get_keyword(
     needed: &mut usize,
 ) -> u32
     ensures same { handle.new.value ≡ handle.old.value }
-    ensures told { EndsAs (Tells (keyword_text key.now (meaning_of handle.old.value)) buffer.old
-        buffer.new needed.new) result }
+    ensures told { EndsAs (Tells (option_map join
+        (value_of_key UnicodeKey key.now (keywords_of (meaning_of handle.old.value))))
+        buffer.old buffer.new needed.new) result }
 {
     tell(alloc, handle, &ValueOf(OfKeywords, key), buffer, needed)
 }
@@ -80,18 +84,18 @@ pub extern "C" fn icu_locale_set_keyword(
     key: &[u8],
     value: &[u8],
 ) -> u32
-    ensures changed { EndsAs (Changes (SetsKeyword key.now value.now) handle.old.value
-        handle.new.value) result }
+    ensures changed { EndsAs (Changes (SetsPair UnicodeKey keywords key.now value.now)
+        handle.old.value handle.new.value) result }
     ensures tight { IsTight handle.new.value }
 {
-    make_change(alloc, handle, &SetKeyword(key, value))
+    make_change(alloc, handle, &SetPair(OfKeywords, key, value))
 }
 
 /// Removes the keyword with this key.
 #[unsafe(no_mangle)]
 pub extern "C" fn icu_locale_remove_keyword(alloc: Global, handle: &mut Handle, key: &[u8]) -> u32
-    ensures changed { EndsAs (Changes (RemovesKeyword key.now) handle.old.value handle.new.value)
-        result }
+    ensures changed { EndsAs (Changes (RemovesPair UnicodeKey keywords key.now)
+        handle.old.value handle.new.value) result }
     ensures tight { IsTight handle.new.value }
 {
     make_change(alloc, handle, &RemovePair(OfKeywords, key))

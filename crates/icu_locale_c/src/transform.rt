@@ -1,16 +1,18 @@
 //! Calls on the transform extension of a locale.
-ghost use Rattle.std.specs.Prelude.{◌≡◌, Some, length};
-ghost use Rattle.iloc_spec_grammar.specs.Values.{private_text};
+ghost use Rattle.std.specs.Prelude.{◌≡◌, Some, length, option_map};
+ghost use Rattle.iloc_spec_grammar.specs.Syntax.{TransformKey};
+ghost use Rattle.iloc_spec_grammar.specs.Values.{field_value_text, private_text};
 ghost use Rattle.iloc_calls.specs.Answers.{Tells};
 ghost use Rattle.iloc_calls.specs.Numbers.{EndsAs};
 ghost use Rattle.iloc_handles.specs.Clearing.{Clears};
 ghost use Rattle.iloc_handles.specs.declared.clearing.Clear.{Clear};
 ghost use Rattle.iloc_handles.specs.Held.{IsTight, meaning_of};
 ghost use Rattle.iloc_handles.specs.Finding.{Changes};
-ghost use Rattle.iloc_handles.specs.Transform.{RemovesField, SetsField, SetsPrivate, SetsTransformLanguage, field_key_at, field_text, field_value_at, fields_of, transform_language};
+ghost use Rattle.iloc_handles.specs.Pairs.{RemovesPair, SetsPair, key_at, value_at, value_of_key};
+ghost use Rattle.iloc_handles.specs.Transform.{SetsPrivate, SetsTransformLanguage, fields, fields_of, transform_language};
 
 use iloc_handles::{
-    Clear, Handle, KeyAt, Named, OfFields, PairCount, RemovePair, SetField, SetPrivate,
+    Clear, Handle, KeyAt, Named, OfFields, PairCount, RemovePair, SetPair, SetPrivate,
     SetTransformLanguage, ValueAt, ValueOf, ask, make_change, tell,
 };
 use std::alloc::Global;
@@ -63,8 +65,8 @@ pub extern "C" fn icu_locale_get_field_key(
     needed: &mut usize,
 ) -> u32
     ensures same { handle.new.value ≡ handle.old.value }
-    ensures told { EndsAs (Tells (field_key_at index (meaning_of handle.old.value)) buffer.old
-        buffer.new needed.new) result }
+    ensures told { EndsAs (Tells (key_at index (fields_of (meaning_of handle.old.value)))
+        buffer.old buffer.new needed.new) result }
 {
     tell(alloc, handle, &KeyAt(OfFields, index), buffer, needed)
 }
@@ -79,8 +81,9 @@ pub extern "C" fn icu_locale_get_field_value(
     needed: &mut usize,
 ) -> u32
     ensures same { handle.new.value ≡ handle.old.value }
-    ensures told { EndsAs (Tells (field_value_at index (meaning_of handle.old.value)) buffer.old
-        buffer.new needed.new) result }
+    ensures told { EndsAs (Tells
+        (option_map field_value_text (value_at index (fields_of (meaning_of handle.old.value))))
+        buffer.old buffer.new needed.new) result }
 {
     tell(alloc, handle, &ValueAt(OfFields, index), buffer, needed)
 }
@@ -95,8 +98,9 @@ pub extern "C" fn icu_locale_get_field(
     needed: &mut usize,
 ) -> u32
     ensures same { handle.new.value ≡ handle.old.value }
-    ensures told { EndsAs (Tells (field_text key.now (meaning_of handle.old.value)) buffer.old
-        buffer.new needed.new) result }
+    ensures told { EndsAs (Tells (option_map field_value_text
+        (value_of_key TransformKey key.now (fields_of (meaning_of handle.old.value))))
+        buffer.old buffer.new needed.new) result }
 {
     tell(alloc, handle, &ValueOf(OfFields, key), buffer, needed)
 }
@@ -109,18 +113,18 @@ pub extern "C" fn icu_locale_set_field(
     key: &[u8],
     value: &[u8],
 ) -> u32
-    ensures changed { EndsAs (Changes (SetsField key.now value.now) handle.old.value
-        handle.new.value) result }
+    ensures changed { EndsAs (Changes (SetsPair TransformKey fields key.now value.now)
+        handle.old.value handle.new.value) result }
     ensures tight { IsTight handle.new.value }
 {
-    make_change(alloc, handle, &SetField(key, value))
+    make_change(alloc, handle, &SetPair(OfFields, key, value))
 }
 
 /// Removes the field with this key.
 #[unsafe(no_mangle)]
 pub extern "C" fn icu_locale_remove_field(alloc: Global, handle: &mut Handle, key: &[u8]) -> u32
-    ensures changed { EndsAs (Changes (RemovesField key.now) handle.old.value handle.new.value)
-        result }
+    ensures changed { EndsAs (Changes (RemovesPair TransformKey fields key.now)
+        handle.old.value handle.new.value) result }
     ensures tight { IsTight handle.new.value }
 {
     make_change(alloc, handle, &RemovePair(OfFields, key))

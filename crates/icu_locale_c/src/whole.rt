@@ -14,8 +14,8 @@ ghost use Rattle.iloc_calls.specs.Hashing.{hash_of};
 
 use iloc_calls::number;
 use iloc_handles::{
-    AgainstBytes, FromText, Handle, Hashed, IsUnd, Merge, Named, WellFormed, ask, change_by,
-    make_change, order_of, tell, tell_meant,
+    AgainstBytes, FromText, Handle, Hashed, Merge, Named, Test, ask, change_by, make_change,
+    order_of, tell, tell_meant,
 };
 use std::alloc::Global;
 
@@ -54,7 +54,7 @@ pub extern "C" fn icu_locale_is_und(alloc: Global, handle: &mut Handle) -> bool
     ensures same { handle.new.value ≡ handle.old.value }
     ensures answered { IsTrue result ↔ (meaning_of handle.old.value ≡ unknown_locale) }
 {
-    ask(alloc, handle, &IsUnd)
+    ask(alloc, handle, &Test::Und)
 }
 
 /// Whether the text of the locale means this locale.
@@ -63,7 +63,7 @@ pub extern "C" fn icu_locale_is_well_formed(alloc: Global, handle: &mut Handle) 
     ensures same { handle.new.value ≡ handle.old.value }
     ensures answered { IsTrue result ↔ IsWellFormed (meaning_of handle.old.value) }
 {
-    ask(alloc, handle, &WellFormed)
+    ask(alloc, handle, &Test::WellFormed)
 }
 
 /// Hands out the normal form.

@@ -7,14 +7,14 @@ use Rattle.iloc_spec_grammar.specs.Syntax.{join, dashes, Region, languages, is_w
 use Rattle.iloc_spec_grammar.specs.Values.{IsNormal, text}
 use Rattle.iloc_spec_grammar.proofs.Chains.{shortest}
 use Rattle.iloc_spec_grammar.proofs.MapLaws.{same_is}
-use Rattle.iloc_spec_grammar.proofs.PartTexts.{join-dashes, join-append, dashes-append}
+use Rattle.iloc_spec_grammar.proofs.PartTexts.{join-dashes, dashes-append}
 use Rattle.iloc_spec_grammar.proofs.WordsLaws.{length-lower}
-use Rattle.iloc_spec_parts.specs.Small.{SmallIdentifier, SmallLocale, locale_of_small, IsSmall}
+use Rattle.iloc_spec_parts.specs.Small.{SmallIdentifier, SmallLocale, locale_of_small}
 use Rattle.iloc_spec_parts.proofs.SmallLaws.{small_means}
 use Rattle.iloc_spec_parts.proofs.SmallBack.{read_is_small_value}
-use Rattle.iloc_spec_preferences.specs.Subdivisions.{Subdivision, subdivision, subdivision_text, IsSubdivision}
+use Rattle.iloc_spec_preferences.specs.Subdivisions.{Subdivision, subdivision, subdivision_text}
 use Rattle.iloc_spec_preferences.proofs.Keys.{sd}
-use Rattle.iloc_spec_preferences.specs.DataLocales.{DataLocale, DataMeans, whole, whole_region, is_whole, named_subdivision, made_of, agreed, small_part, data_of_small, subdivision_value, subdivision_pieces, data_text}
+use Rattle.iloc_spec_preferences.specs.DataLocales.{DataLocale, DataMeans, whole_region, is_whole, named_subdivision, made_of, agreed, small_part, subdivision_value, subdivision_pieces, data_text}
 use Rattle.iloc_spec_preferences.proofs.SubdivisionLaws.{subdivision_back, read_is_subdivision, text_of_read}
 use Rattle.iloc_spec_preferences.proofs.DataLaws.{whole_region_is}
 

@@ -1,5 +1,5 @@
 -- What the front of a text says of it.
-use Rattle.std.proofs.Common.{◌≡◌, ◌≢◌, ℕ, Bool, true, false, List, [], ◌∷◌, ◌++◌, refl, sym, ap, ◌∙◌, subst, true≢false}
+use Rattle.std.proofs.Common.{◌≡◌, ◌≢◌, ℕ, false, List, [], ◌∷◌, ◌++◌, refl, sym, ap, ◌∙◌, subst, true≢false}
 use Rattle.iloc_spec_grammar.specs.Syntax.{pieces, Language, is_word, IsWord, languages, front, head, first_piece}
 use Rattle.iloc_spec_grammar.specs.Reading.{from_block, starts_block, after_front}
 use Rattle.iloc_spec_grammar.specs.Meaning.{SpellsIdentifier, not_a_language, not_an_identifier, no_language, no_identifier, InvalidLanguage, InvalidSubtag}
@@ -8,7 +8,7 @@ use Rattle.iloc_spec_grammar.proofs.ReadingLaws.{after_front-pieces, starts_ends
 use Rattle.iloc_spec_parts.specs.Small as small
 use Rattle.iloc_spec_preferences.specs.DataLocales.{not_small}
 use Rattle.iloc_fronts.specs.Front.{IsFront, rest_of_block}
-use Rattle.iloc_fronts.specs.Ordered.{IsOrdered, IsVaried, text_of}
+use Rattle.iloc_fronts.specs.Ordered.{IsOrdered, IsVaried}
 use Rattle.iloc_fronts.specs.declared.front.Block.{Block}
 use Rattle.iloc_fronts.specs.declared.front.Front.TheVariants as fronts
 use Rattle.iloc_fronts.specs.declared.ordered.Ordered.{Ordered}

@@ -1,5 +1,5 @@
 -- The hash of a text, and that it is a sink's.
-use Rattle.std.specs.Prelude.{◌≡◌, ℕ, ◌*◌, ◌%◌, ◌^◌, List, ◌++◌, fold, bit_xor}
+use Rattle.std.specs.Prelude.{◌≡◌, ℕ, ◌*◌, ◌%◌, ◌^◌, ◌++◌, fold, bit_xor}
 use Rattle.std.proofs.Common.{sym, ap, ◌∙◌}
 use Rattle.std.proofs.lemmas.List.Sums.{fold-append}
 use Rattle.iloc_spec_grammar.specs.Syntax.{Text}

@@ -3,17 +3,19 @@ ghost use Rattle.std.specs.Prelude.{◌≡◌, ◌↔◌, ◌+◌, ◌<◌, ◌�
 ghost use Rattle.iloc_calls.specs.Answers.{HandsOut, JudgedAs, NormalizesTo};
 ghost use Rattle.iloc_calls.specs.Numbers.{EndsAs, mode_number, status_of};
 ghost use Rattle.iloc_lines.specs.declared.Mode.{Mode};
+ghost use Rattle.iloc_lines.specs.declared.Mode.TheVariants as modes;
 
-use crate::filling::{hand_out, hand_out_fitting, hand_out_ordered, hand_out_plain};
+use crate::filling::{hand_out_ordered, hand_out_plain, hand_out_within};
 use crate::status::Status;
 use crate::told::{MOST, Told, tell, window_of};
 use iloc_data::DataLocale;
 use iloc_langid::LanguageIdentifier;
+use iloc_langid::reader::read_into as read_identifier;
 use iloc_locale::Locale;
+use iloc_locale::locale::read_into as read_locale;
 use iloc_plain::read_plain_text;
 use iloc_program::Mode;
 use iloc_subtags::ParseError;
-use iloc_writeable::Writeable;
 use std::alloc::Global;
 
 /// The mode of that number.
@@ -84,43 +86,22 @@ fn refuse(refusal: &ParseError, needed: &mut usize) -> Status
     Status::of_refusal(refusal)
 }
 
-// Hands out the text of what was read, or tells why there is none. The text has `most` bytes at most.
-#[inline(always)]
-fn answer<T: Writeable>(
-    read: &Result<T, ParseError>,
-    most: usize,
-    buffer: &mut [u8],
-    needed: &mut usize,
-) -> Status
-    requires { IfOk read.now (λ value. length (T.text value) ≤ most) }
-    ensures { MatchResult read.now
-        (λ value. HandsOut (T.text value) buffer.old buffer.new needed.new result)
-        (λ refusal. (result ≡ status_of refusal) × (needed.new ≡ 0) × (buffer.new ≡ buffer.old)) }
-{
-    match read {
-        Ok(value) if most <= buffer.len() => hand_out_fitting(value, buffer, needed),
-        Ok(value) => hand_out(value, buffer, needed),
-        Err(refusal) => refuse(refusal, needed),
-    }
-}
-
-// Hands out the normal text of a plain text, whose first and last `width` bytes are all of it. If it is not
+// Hands out the normal text of a plain text, whose first and last `W` bytes are all of it. If it is not
 // plain, nothing is written to the buffer.
 #[inline(always)]
-fn normalize_plain(
-    width: usize,
+fn normalize_plain<const W: usize>(
     text: &[u8],
     buffer: &mut [u8],
     needed: &mut usize,
 ) -> Option<Status>
-    requires wide { width ≤ length text.now }
-    requires few { length text.now ≤ width + width }
+    requires wide { W ≤ length text.now }
+    requires few { length text.now ≤ W + W }
     ensures some { (mode : Mode) → IfSome result
         (NormalizesTo mode text.now buffer.old buffer.new needed.new) }
     ensures none { IfNone result (buffer.new ≡ buffer.old) }
 {
     match read_plain_text(text) {
-        Some(plain) => Some(hand_out_plain(width, &plain, buffer, needed)),
+        Some(plain) => Some(hand_out_plain::<W>(&plain, buffer, needed)),
         None => None,
     }
 }
@@ -136,7 +117,7 @@ fn normalize_tiny(text: &[u8], buffer: &mut [u8], needed: &mut usize) -> Option<
     if text.len() < 2 {
         return None;
     }
-    normalize_plain(2, text, buffer, needed)
+    normalize_plain::<2>(text, buffer, needed)
 }
 
 // The same of any text, by its length.
@@ -150,13 +131,13 @@ fn normalize_at_once(text: &[u8], buffer: &mut [u8], needed: &mut usize) -> Opti
     if len < 4 {
         return normalize_tiny(text, buffer, needed);
     }
-    if len < 8 {
-        return normalize_plain(4, text, buffer, needed);
+    if len <= 8 {
+        return normalize_plain::<4>(text, buffer, needed);
     }
     if len > 16 {
         return None;
     }
-    normalize_plain(8, text, buffer, needed)
+    normalize_plain::<8>(text, buffer, needed)
 }
 
 /// Hands out the normal text of what the text means, and gives the number of the status.
@@ -178,6 +159,7 @@ pub(crate) fn normalize(
 
 // The same of a text that is not plain.
 #[inline(never)]
+#[cold]
 fn normalize_other(
     alloc: Global,
     mode: Mode,
@@ -197,8 +179,7 @@ fn normalize_other(
     }
 }
 
-// The same by parsing it.
-#[inline(never)]
+// The same by parsing it. Each mode has a function of its own, so that no call clears room for what others parse.
 fn normalize_parsed(
     alloc: Global,
     mode: Mode,
@@ -209,23 +190,43 @@ fn normalize_parsed(
     ensures { NormalizesTo mode text.now buffer.old buffer.new needed.new result }
 {
     match mode {
-        Mode::Langid => answer(
-            &LanguageIdentifier::try_from_utf8(alloc, text),
-            text.len(),
-            buffer,
-            needed,
-        ),
-        Mode::Locale => answer(
-            &Locale::try_from_utf8(alloc, text),
-            text.len(),
-            buffer,
-            needed,
-        ),
-        Mode::Data => answer(
-            &DataLocale::try_from_utf8(text),
-            text.len() + 4,
-            buffer,
-            needed,
-        ),
+        Mode::Langid => normalize_identifier(alloc, text, buffer, needed),
+        Mode::Locale => normalize_locale(alloc, text, buffer, needed),
+        Mode::Data => normalize_data_locale(text, buffer, needed),
+    }
+}
+
+#[tactic(auto, using(crate::proofs::Bounds::identifier_fits))]
+#[inline(never)]
+fn normalize_identifier(alloc: Global, text: &[u8], buffer: &mut [u8], needed: &mut usize) -> Status
+    ensures { NormalizesTo modes.Langid text.now buffer.old buffer.new needed.new result }
+{
+    let mut identifier = LanguageIdentifier::unknown();
+    match read_identifier(alloc, text, &mut identifier) {
+        Ok(()) => hand_out_within(&identifier, text.len(), buffer, needed),
+        Err(refusal) => refuse(&refusal, needed),
+    }
+}
+
+#[tactic(auto, using(crate::proofs::Bounds::locale_fits))]
+#[inline(never)]
+fn normalize_locale(alloc: Global, text: &[u8], buffer: &mut [u8], needed: &mut usize) -> Status
+    ensures { NormalizesTo modes.Locale text.now buffer.old buffer.new needed.new result }
+{
+    let mut locale = Locale::unknown(alloc);
+    match read_locale(alloc, text, &mut locale) {
+        Ok(()) => hand_out_within(&locale, text.len(), buffer, needed),
+        Err(refusal) => refuse(&refusal, needed),
+    }
+}
+
+#[tactic(auto, using(crate::proofs::Bounds::data_fits))]
+#[inline(never)]
+fn normalize_data_locale(text: &[u8], buffer: &mut [u8], needed: &mut usize) -> Status
+    ensures { NormalizesTo modes.Data text.now buffer.old buffer.new needed.new result }
+{
+    match DataLocale::try_from_utf8(text) {
+        Ok(data) => hand_out_within(&data, text.len() + 4, buffer, needed),
+        Err(refusal) => refuse(&refusal, needed),
     }
 }

@@ -4,17 +4,21 @@ ghost use Rattle.iloc_spec_grammar.specs.Syntax.{lower};
 
 use iloc_plain::first_in_lower_case;
 
-/// Copies the first and the last bytes, which together are all of them.
+/// Copies the first and the last `W` bytes, which together are all of them. All are loaded before any is stored.
 #[inline(always)]
-pub(crate) fn copy_ends(width: usize, from: &[u8], to: &mut [u8])
+pub(crate) fn copy_ends<const W: usize>(from: &[u8], to: &mut [u8])
     requires same { length to.old ≡ length from.now }
-    requires wide { width ≤ length from.now }
-    requires few { length from.now ≤ width + width }
+    requires wide { W ≤ length from.now }
+    requires few { length from.now ≤ W + W }
     ensures { to.new ≡ from.now }
 {
-    let last = from.len() - width;
-    to[..width].copy_from_slice(&from[..width]);
-    to[last..last + width].copy_from_slice(&from[last..last + width]);
+    let last = from.len() - W;
+    let mut front = [0u8; W];
+    let mut back = [0u8; W];
+    front.copy_from_slice(&from[..W]);
+    back.copy_from_slice(&from[last..]);
+    to[..W].copy_from_slice(&front);
+    to[last..].copy_from_slice(&back);
 }
 
 /// Copies all bytes.
@@ -26,9 +30,9 @@ pub(crate) fn copy_all(from: &[u8], to: &mut [u8])
     match from.len() {
         0 => (),
         1 => to[0] = from[0],
-        2..=3 => copy_ends(2, from, to),
-        4..=7 => copy_ends(4, from, to),
-        8..=16 => copy_ends(8, from, to),
+        2..=3 => copy_ends::<2>(from, to),
+        4..=7 => copy_ends::<4>(from, to),
+        8..=16 => copy_ends::<8>(from, to),
         _ => to.copy_from_slice(from),
     }
 }

@@ -33,8 +33,9 @@ impl<'a> Sink for Filling<'a> {
         let bytes = text.as_bytes();
         match self.count.checked_add(bytes.len()) {
             Some(end) if end <= self.buffer.len() => {
-                copy_all(bytes, &mut self.buffer[self.count..end]);
+                let start = self.count;
                 self.count = end;
+                copy_all(bytes, &mut self.buffer[start..end]);
                 Ok(())
             }
             _ => Err(fmt::Error),
@@ -90,17 +91,34 @@ pub(crate) fn hand_out_fitting<W: Writeable>(
     }
 }
 
-/// The same of a plain identifier, whose first and last `width` bytes are all of it.
+/// The same of a text of at most `most` bytes. Its length is asked for only if these do not fit.
 #[inline(always)]
-pub(crate) fn hand_out_plain(
-    width: usize,
+pub(crate) fn hand_out_within<W: Writeable>(
+    value: &W,
+    most: usize,
+    buffer: &mut [u8],
+    needed: &mut usize,
+) -> Status
+    requires { length (W.text value.now) ≤ most }
+    ensures { HandsOut (W.text value.now) buffer.old buffer.new needed.new result }
+{
+    if most <= buffer.len() {
+        hand_out_fitting(value, buffer, needed)
+    } else {
+        hand_out(value, buffer, needed)
+    }
+}
+
+/// The same of a plain identifier, whose first and last `W` bytes are all of it.
+#[inline(always)]
+pub(crate) fn hand_out_plain<const W: usize>(
     plain: &Plain,
     buffer: &mut [u8],
     needed: &mut usize,
 ) -> Status
     requires words { AreWords plain.now }
-    requires wide { width ≤ plain.now.len }
-    requires few { plain.now.len ≤ width + width }
+    requires wide { W ≤ plain.now.len }
+    requires few { plain.now.len ≤ W + W }
     ensures { HandsOut (identifier_text (value_of plain.now)) buffer.old buffer.new needed.new
         result }
 {
@@ -109,11 +127,7 @@ pub(crate) fn hand_out_plain(
         return Status::BufferTooSmall;
     }
     let bytes = plain.bytes;
-    copy_ends(
-        width,
-        &bytes.as_array()[..plain.len],
-        &mut buffer[..plain.len],
-    );
+    copy_ends::<W>(&bytes.as_array()[..plain.len], &mut buffer[..plain.len]);
     Status::Done
 }
 

@@ -4,10 +4,18 @@ use Rattle.iloc_spec_grammar.specs.Syntax.{Text, languages}
 use Rattle.iloc_spec_grammar.specs.Meaning as meaning
 use Rattle.iloc_spec_grammar.specs.Meaning.{Means, HasFault}
 use Rattle.iloc_spec_parts.specs.Extending.{extend}
-use Rattle.iloc_locale.specs.LocaleReading.{WantsMemory}
+use Rattle.iloc_spec_grammar.specs.Values.{IsWellFormed}
+use Rattle.iloc_locale.specs.LocaleReading.{WantsMemory, unknown_locale}
 use Rattle.iloc_calls.specs.declared.status.Status.{Status}
 use Rattle.iloc_calls.specs.declared.status.Status.TheVariants.{Done, OutOfMemory}
+use Rattle.iloc_handles.specs.declared.whole.Test.{Test}
+use Rattle.iloc_handles.specs.declared.whole.Test.TheVariants.{Und, WellFormed}
 use Rattle.iloc_handles.specs.Finding.{Changing, Sets}
+
+-- the locale is `und`, or its text means it
+abbrev pub Passes : Test → meaning.Locale → Type 0
+Passes Und M = M ≡ unknown_locale
+Passes WellFormed M = IsWellFormed M
 
 -- the locale becomes what the text means
 abbrev pub ParsesTo : Text → Changing

@@ -1,10 +1,10 @@
 //! What is asked of a handle: a part that has a text, a question, or a change. Each is asked of a locale, and stands
 //! for `und` where a handle has no box.
-ghost use Rattle.std.specs.Prelude.{◌≡◌, ℕ, List, Option, None};
+ghost use Rattle.std.specs.Prelude.{◌≡◌, ℕ, List, MatchResult, Option, None};
 ghost use Rattle.iloc_spec_grammar.specs.Meaning as meaning;
 ghost use Rattle.iloc_locale.specs.LocaleReading.{value_of};
 ghost use Rattle.iloc_calls.specs.Answers.{Tells};
-ghost use Rattle.iloc_calls.specs.Numbers.{EndsAs};
+ghost use Rattle.iloc_calls.specs.Numbers.{EndsAs, status_of};
 ghost use Rattle.iloc_calls.specs.declared.status.Status.{Status};
 ghost use Rattle.iloc_handles.specs.Held.{IsTight, meaning_of};
 ghost use Rattle.iloc_handles.specs.Finding.{Changes};
@@ -12,6 +12,7 @@ ghost use Rattle.iloc_handles.specs.Finding.{Changes};
 use crate::handle::{Handle, is_und};
 use iloc_calls::Status;
 use iloc_locale::Locale;
+use iloc_subtags::ParseError;
 use std::alloc::Global;
 
 /// A part of a locale that has a text.
@@ -46,6 +47,20 @@ pub trait Change {
     /// Makes it.
     fn apply(&self, alloc: Global, locale: &mut Locale) -> Status
         ensures { changes self.now (value_of locale.old) (value_of locale.new) result };
+}
+
+/// Puts what was parsed in its place, or tells why the text was refused.
+pub(crate) fn put_parsed<T: Drop>(parsed: Result<T, ParseError>, place: &mut T) -> Status
+    ensures { MatchResult parsed (λ value. (place.new ≡ value) × (result ≡ Status.Done))
+        (λ refusal. (place.new ≡ place.old) × (result ≡ status_of refusal)) }
+{
+    match parsed {
+        Ok(value) => {
+            *place = value;
+            Status::Done
+        }
+        Err(refusal) => Status::from(refusal),
+    }
 }
 
 /// Hands the text of the part out.

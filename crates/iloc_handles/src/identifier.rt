@@ -1,7 +1,7 @@
 //! The subtags of the identifier of a locale that are set.
 ghost use Rattle.iloc_handles.specs.Identifier.{SetsLanguage, SetsRegion, SetsScript};
 
-use crate::asking::Change;
+use crate::asking::{Change, put_parsed};
 use crate::subtags::optional_word;
 use iloc_calls::Status;
 use iloc_locale::Locale;
@@ -16,13 +16,9 @@ impl<'a> Change for SetLanguage<'a> {
     ghost changes = { λ s. SetsLanguage s.0.now };
 
     fn apply(&self, _alloc: Global, locale: &mut Locale) -> Status {
-        match optional_word::<LanguageKind, 8>(self.0) {
-            Ok(language) => {
-                locale.id.language = language.unwrap_or(Language::unknown());
-                Status::Done
-            }
-            Err(refusal) => Status::from(refusal),
-        }
+        let language = optional_word::<LanguageKind, 8>(self.0);
+        let known = language.map(|it| it.unwrap_or(Language::unknown()));
+        put_parsed(known, &mut locale.id.language)
     }
 }
 
@@ -34,13 +30,8 @@ impl<'a> Change for SetScript<'a> {
     ghost changes = { λ s. SetsScript s.0.now };
 
     fn apply(&self, _alloc: Global, locale: &mut Locale) -> Status {
-        match optional_word::<ScriptKind, 4>(self.0) {
-            Ok(script) => {
-                locale.id.script = script;
-                Status::Done
-            }
-            Err(refusal) => Status::from(refusal),
-        }
+        let script = optional_word::<ScriptKind, 4>(self.0);
+        put_parsed(script, &mut locale.id.script)
     }
 }
 
@@ -52,12 +43,7 @@ impl<'a> Change for SetRegion<'a> {
     ghost changes = { λ s. SetsRegion s.0.now };
 
     fn apply(&self, _alloc: Global, locale: &mut Locale) -> Status {
-        match optional_word::<RegionKind, 3>(self.0) {
-            Ok(region) => {
-                locale.id.region = region;
-                Status::Done
-            }
-            Err(refusal) => Status::from(refusal),
-        }
+        let region = optional_word::<RegionKind, 3>(self.0);
+        put_parsed(region, &mut locale.id.region)
     }
 }

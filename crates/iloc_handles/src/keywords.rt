@@ -1,14 +1,15 @@
 //! The keywords of a locale.
-ghost use Rattle.iloc_handles.specs.Keywords.{SetsKeyword, keywords_of, without_keyword};
+ghost use Rattle.std.specs.Prelude.{◌≡◌, not};
+ghost use Rattle.iloc_spec_grammar.specs.Syntax.{is_same};
+ghost use Rattle.iloc_handles.specs.Keywords.{keywords};
+ghost use Rattle.iloc_locale.specs.LocaleReading.{value_of};
+ghost use Rattle.iloc_handles.specs.Pairs.{HasSet};
 
-use crate::asking::Change;
 use crate::pairs::Pairs;
-use crate::subtags::word_of;
-use iloc_calls::Status;
 use iloc_locale::Locale;
-use iloc_subtags::{UnicodeKey, UnicodeKeyKind};
+use iloc_subtags::{ParseError, UnicodeKey, UnicodeKeyKind};
 use iloc_word_list::Value;
-use std::alloc::Global;
+use std::alloc::{AllocError, Global};
 
 /// The keywords.
 #[derive(Drop)]
@@ -19,9 +20,7 @@ impl Pairs for OfKeywords {
 
     type Value = Value;
 
-    ghost pairs = { keywords_of };
-
-    ghost without = { without_keyword };
+    ghost map = { keywords };
 
     fn pairs(locale: &Locale) -> &[(UnicodeKey, Value)] {
         locale.extensions.unicode.keywords.as_slice()
@@ -31,27 +30,27 @@ impl Pairs for OfKeywords {
         locale.extensions.unicode.keywords.get(key)
     }
 
-    fn remove(locale: &mut Locale, key: &UnicodeKey) {
-        locale.extensions.unicode.keywords.remove(key);
+    fn parse(alloc: Global, text: &[u8]) -> Result<Value, ParseError> {
+        Value::try_from_utf8(alloc, text)
     }
-}
 
-/// Sets the value of the keyword with this key.
-#[derive(Drop)]
-pub struct SetKeyword<'a>(pub &'a [u8], pub &'a [u8]);
+    fn set(
+        locale: &mut Locale,
+        alloc: Global,
+        key: &UnicodeKey,
+        value: Value,
+    ) -> Result<(), AllocError>
+        ensures { HasSet keywords key.now value (value_of locale.old) (value_of locale.new) result }
+    {
+        locale.extensions.unicode.keywords.set(alloc, *key, value)?;
+        Ok(())
+    }
 
-impl<'a> Change for SetKeyword<'a> {
-    ghost changes = { λ s. SetsKeyword s.0.now s.1.now };
-
-    fn apply(&self, alloc: Global, locale: &mut Locale) -> Status {
-        let key = match word_of::<UnicodeKeyKind, 2>(self.0) {
-            Ok(key) => key,
-            Err(refusal) => return Status::from(refusal),
-        };
-        let value = match Value::try_from_utf8(alloc, self.1) {
-            Ok(value) => value,
-            Err(refusal) => return Status::from(refusal),
-        };
-        Status::of_allocation(locale.extensions.unicode.keywords.set(alloc, key, value))
+    fn remove(locale: &mut Locale, key: &UnicodeKey) {
+        locale.extensions.unicode.keywords.retain_by_key(
+            move |other: &UnicodeKey| -> bool
+                ensures { result ≡ not (is_same key.entry.now other.now) }
+            { !key.cmp(other).is_eq() },
+        );
     }
 }

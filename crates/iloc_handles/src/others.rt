@@ -1,15 +1,5 @@
 //! The other extensions of a locale, by their singletons.
-ghost use Rattle.std.specs.Prelude.{
-  ◌≡◌,
-  ◌==◌,
-  ◌↔◌,
-  ◌⊎◌,
-  not,
-  IsTrue,
-  MatchResult,
-  OnErr,
-  OnOk,
-};
+ghost use Rattle.std.specs.Prelude.{◌≡◌, ◌==◌, ◌↔◌, ◌⊎◌, not, IsTrue, MatchResult, OnErr, OnOk};
 ghost use Rattle.std.specs.FinMap.{put};
 ghost use Rattle.std.specs.Option.{option_copied};
 ghost use Rattle.std.specs.Ordering.{nat_cmp};

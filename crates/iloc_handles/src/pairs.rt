@@ -1,20 +1,19 @@
 //! The maps of a locale from keys to values: its keywords, and the fields of its transform extension.
-ghost use Rattle.std.specs.Prelude.{◌≡◌, ℕ, List, length, option_map, slice_get};
+ghost use Rattle.std.specs.Prelude.{◌≡◌, Err, Ok, length, option_map, slice_get};
 ghost use Rattle.std.specs.FinMap.{find};
 ghost use Rattle.std.specs.Option.{option_copied};
-ghost use Rattle.iloc_spec_grammar.specs.Meaning as meaning;
-ghost use Rattle.iloc_spec_grammar.specs.Syntax.{normal, word_cmp};
+ghost use Rattle.iloc_spec_grammar.specs.Syntax.{word_cmp};
+ghost use Rattle.iloc_subtags.specs.Judging.{Answers};
 ghost use Rattle.iloc_locale.specs.LocaleReading.{value_of};
-ghost use Rattle.iloc_handles.specs.Finding.{Removes};
-ghost use Rattle.iloc_handles.specs.Pairs.{HasKey, value_at};
+ghost use Rattle.iloc_handles.specs.Pairs.{HasSet, Map, RemovesPair, SetsPair, key_at, value_at, value_of_key, without_key};
 
 use crate::asking::{Change, Part, Question};
 use crate::subtags::word_of;
 use iloc_calls::{Status, hand_out, hand_out_found, hand_out_none};
 use iloc_locale::Locale;
-use iloc_subtags::{WordKind, WordOf};
+use iloc_subtags::{ParseError, WordKind, WordOf};
 use iloc_writeable::Writeable;
-use std::alloc::Global;
+use std::alloc::{AllocError, Global};
 
 /// A map of a locale from keys to values.
 pub trait Pairs {
@@ -24,23 +23,35 @@ pub trait Pairs {
     /// The values.
     type Value: Writeable;
 
-    /// The pairs.
-    ghost pairs: { meaning.Locale → List (List ℕ × Self.Value) };
-
-    /// The locale without a key and its value.
-    ghost without: { List ℕ → meaning.Locale → meaning.Locale };
+    /// The map, and how its values are parsed.
+    ghost map: { Map Self.Value };
 
     /// The pairs, by ascending key.
     fn pairs(locale: &Locale) -> &[(WordOf<Self::Kind, 2>, Self::Value)]
-        ensures { result.now ≡ pairs (value_of locale.now) };
+        ensures { result.now ≡ map.pairs (value_of locale.now) };
 
     /// The value of the key.
     fn get<'a>(locale: &'a Locale, key: &WordOf<Self::Kind, 2>) -> Option<&'a Self::Value>
-        ensures { option_copied result ≡ find word_cmp key.now (pairs (value_of locale.now)) };
+        ensures { option_copied result ≡ find word_cmp key.now (map.pairs (value_of locale.now)) };
+
+    /// The value that is the text.
+    fn parse(alloc: Global, text: &[u8]) -> Result<Self::Value, ParseError>
+        ensures { Answers (λ v. map.value text.now ≡ Ok v) (λ f. map.value text.now ≡ Err f)
+            (map.ValueWants text.now) result };
+
+    /// Sets the value of the key. If an allocation fails, nothing changes.
+    fn set(
+        locale: &mut Locale,
+        alloc: Global,
+        key: &WordOf<Self::Kind, 2>,
+        value: Self::Value,
+    ) -> Result<(), AllocError>
+        ensures { HasSet map key.now value (value_of locale.old) (value_of locale.new) result };
 
     /// Removes the key and its value.
     fn remove(locale: &mut Locale, key: &WordOf<Self::Kind, 2>)
-        ensures { value_of locale.new ≡ without key.now (value_of locale.old) };
+        ensures { value_of locale.new ≡ map.with_pairs
+            (without_key key.now (map.pairs (value_of locale.old))) (value_of locale.old) };
 }
 
 /// How many pairs there are.
@@ -50,11 +61,19 @@ pub struct PairCount<P>(pub P);
 impl<P: Pairs> Question for PairCount<P> {
     type Answer = usize;
 
-    ghost is_answer = { λ _ M count. count ≡ length (P.pairs M) };
+    ghost is_answer = { λ _ M count. count ≡ length (P.map.pairs M) };
 
     fn ask(&self, locale: &Locale) -> usize {
         P::pairs(locale).len()
     }
+}
+
+// The pair at the index.
+#[tactic(auto, using(crate::proofs::ItemLemmas::item_at))]
+fn pair_at<P: Pairs>(locale: &Locale, index: usize) -> Option<&(WordOf<P::Kind, 2>, P::Value)>
+    ensures { option_copied result ≡ slice_get (P.map.pairs (value_of locale.now)) index }
+{
+    P::pairs(locale).get(index)
 }
 
 /// The key at the index.
@@ -62,10 +81,10 @@ impl<P: Pairs> Question for PairCount<P> {
 pub struct KeyAt<P>(pub P, pub usize);
 
 impl<P: Pairs> Part for KeyAt<P> {
-    ghost text = { λ k M. option_map (λ f. f.0) (slice_get (P.pairs M) k.1) };
+    ghost text = { λ k M. key_at k.1 (P.map.pairs M) };
 
     fn hand_out(&self, locale: &Locale, buffer: &mut [u8], needed: &mut usize) -> Status {
-        match P::pairs(locale).get(self.1) {
+        match pair_at::<P>(locale, self.1) {
             Some(pair) => hand_out(&pair.0, buffer, needed),
             None => hand_out_none(needed),
         }
@@ -77,10 +96,10 @@ impl<P: Pairs> Part for KeyAt<P> {
 pub struct ValueAt<P>(pub P, pub usize);
 
 impl<P: Pairs> Part for ValueAt<P> {
-    ghost text = { λ v M. option_map (λ f. P.Value.text f.1) (slice_get (P.pairs M) v.1) };
+    ghost text = { λ v M. option_map P.Value.text (value_at v.1 (P.map.pairs M)) };
 
     fn hand_out(&self, locale: &Locale, buffer: &mut [u8], needed: &mut usize) -> Status {
-        match P::pairs(locale).get(self.1) {
+        match pair_at::<P>(locale, self.1) {
             Some(pair) => hand_out(&pair.1, buffer, needed),
             None => hand_out_none(needed),
         }
@@ -92,7 +111,8 @@ impl<P: Pairs> Part for ValueAt<P> {
 pub struct ValueOf<'a, P>(pub P, pub &'a [u8]);
 
 impl<'a, P: Pairs> Part for ValueOf<'a, P> {
-    ghost text = { λ v M. option_map P.Value.text (value_at P.Kind.kind v.1.now (P.pairs M)) };
+    ghost text = { λ v M. option_map P.Value.text
+        (value_of_key P.Kind.kind v.1.now (P.map.pairs M)) };
 
     fn hand_out(&self, locale: &Locale, buffer: &mut [u8], needed: &mut usize) -> Status {
         match word_of::<P::Kind, 2>(self.1) {
@@ -102,13 +122,30 @@ impl<'a, P: Pairs> Part for ValueOf<'a, P> {
     }
 }
 
+/// Sets the value of the key, which are the two texts.
+#[derive(Drop)]
+pub struct SetPair<'a, P>(pub P, pub &'a [u8], pub &'a [u8]);
+
+impl<'a, P: Pairs> Change for SetPair<'a, P> {
+    ghost changes = { λ s. SetsPair P.Kind.kind P.map s.1.now s.2.now };
+
+    fn apply(&self, alloc: Global, locale: &mut Locale) -> Status {
+        let Ok(key) = word_of::<P::Kind, 2>(self.1) else {
+            return Status::InvalidExtension;
+        };
+        match P::parse(alloc, self.2) {
+            Ok(value) => Status::of_allocation(P::set(locale, alloc, &key, value)),
+            Err(refusal) => Status::from(refusal),
+        }
+    }
+}
+
 /// Removes the key that is the text, and its value.
 #[derive(Drop)]
 pub struct RemovePair<'a, P>(pub P, pub &'a [u8]);
 
 impl<'a, P: Pairs> Change for RemovePair<'a, P> {
-    ghost changes = { λ r. Removes (λ M. HasKey P.Kind.kind r.1.now (P.pairs M))
-        (λ M. P.without (normal P.Kind.kind r.1.now) M) };
+    ghost changes = { λ r. RemovesPair P.Kind.kind P.map r.1.now };
 
     fn apply(&self, _alloc: Global, locale: &mut Locale) -> Status {
         match word_of::<P::Kind, 2>(self.1) {

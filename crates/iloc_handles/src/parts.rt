@@ -5,7 +5,7 @@ ghost use Rattle.iloc_handles.specs.Identifier.{text_or_empty};
 ghost use Rattle.iloc_handles.specs.Parts.{text_of_part};
 
 use crate::asking::Part;
-use iloc_calls::{Status, hand_out, hand_out_none};
+use iloc_calls::{Status, hand_out, hand_out_found, hand_out_none};
 use iloc_data::FormatPreferences;
 use iloc_locale::Locale;
 use iloc_writeable::Writeable;
@@ -45,10 +45,9 @@ impl Part for Named {
             Named::Language => hand_out(&locale.id.language, buffer, needed),
             Named::Script => hand_out_optional(&locale.id.script, buffer, needed),
             Named::Region => hand_out_optional(&locale.id.region, buffer, needed),
-            Named::TransformLanguage => match &locale.extensions.transform.lang {
-                Some(identifier) => hand_out(identifier, buffer, needed),
-                None => hand_out_none(needed),
-            },
+            Named::TransformLanguage => {
+                hand_out_found(locale.extensions.transform.lang.as_ref(), buffer, needed)
+            }
             Named::Private => hand_out(&locale.extensions.private, buffer, needed),
             Named::Calendar => match FormatPreferences::from(locale).calendar_algorithm {
                 Some(calendar) => hand_out(&calendar.as_str(), buffer, needed),

@@ -1,24 +1,19 @@
 //! The transform extension of a locale, and its private extension.
 ghost use Rattle.std.specs.Prelude.{◌≡◌, not};
 ghost use Rattle.iloc_spec_grammar.specs.Syntax.{is_same};
-ghost use Rattle.iloc_handles.specs.Transform.{
-  SetsField,
-  SetsPrivate,
-  SetsTransformLanguage,
-  fields_of,
-  without_field,
-};
+ghost use Rattle.iloc_handles.specs.Transform.{SetsPrivate, SetsTransformLanguage, fields};
+ghost use Rattle.iloc_locale.specs.LocaleReading.{value_of};
+ghost use Rattle.iloc_handles.specs.Pairs.{HasSet};
 
-use crate::asking::Change;
+use crate::asking::{Change, put_parsed};
 use crate::pairs::Pairs;
-use crate::subtags::word_of;
 use iloc_calls::Status;
 use iloc_langid::LanguageIdentifier;
 use iloc_locale::Locale;
 use iloc_other::Private;
-use iloc_subtags::{TransformKey, TransformKeyKind};
+use iloc_subtags::{ParseError, TransformKey, TransformKeyKind};
 use iloc_transform::Value;
-use std::alloc::Global;
+use std::alloc::{AllocError, Global};
 
 /// Sets the identifier of the transform extension to what the text means; an empty text removes it.
 #[derive(Drop)]
@@ -32,13 +27,8 @@ impl<'a> Change for SetTransformLanguage<'a> {
             locale.extensions.transform.lang = None;
             return Status::Done;
         }
-        match LanguageIdentifier::try_from_utf8(alloc, self.0) {
-            Ok(identifier) => {
-                locale.extensions.transform.lang = Some(identifier);
-                Status::Done
-            }
-            Err(refusal) => Status::from(refusal),
-        }
+        let identifier = LanguageIdentifier::try_from_utf8(alloc, self.0).map(|it| Some(it));
+        put_parsed(identifier, &mut locale.extensions.transform.lang)
     }
 }
 
@@ -51,9 +41,7 @@ impl Pairs for OfFields {
 
     type Value = Value;
 
-    ghost pairs = { fields_of };
-
-    ghost without = { without_field };
+    ghost map = { fields };
 
     fn pairs(locale: &Locale) -> &[(TransformKey, Value)] {
         locale.extensions.transform.fields.as_slice()
@@ -63,32 +51,28 @@ impl Pairs for OfFields {
         locale.extensions.transform.fields.get(key)
     }
 
+    fn parse(alloc: Global, text: &[u8]) -> Result<Value, ParseError> {
+        Value::try_from_utf8(alloc, text)
+    }
+
+    fn set(
+        locale: &mut Locale,
+        alloc: Global,
+        key: &TransformKey,
+        value: Value,
+    ) -> Result<(), AllocError>
+        ensures { HasSet fields key.now value (value_of locale.old) (value_of locale.new) result }
+    {
+        locale.extensions.transform.fields.set(alloc, *key, value)?;
+        Ok(())
+    }
+
     fn remove(locale: &mut Locale, key: &TransformKey) {
         locale.extensions.transform.fields.retain_by_key(
             move |other: &TransformKey| -> bool
                 ensures { result ≡ not (is_same key.entry.now other.now) }
             { !key.cmp(other).is_eq() },
         );
-    }
-}
-
-/// Sets the value of the field with this key.
-#[derive(Drop)]
-pub struct SetField<'a>(pub &'a [u8], pub &'a [u8]);
-
-impl<'a> Change for SetField<'a> {
-    ghost changes = { λ s. SetsField s.0.now s.1.now };
-
-    fn apply(&self, alloc: Global, locale: &mut Locale) -> Status {
-        let key = match word_of::<TransformKeyKind, 2>(self.0) {
-            Ok(key) => key,
-            Err(refusal) => return Status::from(refusal),
-        };
-        let value = match Value::try_from_utf8(alloc, self.1) {
-            Ok(value) => value,
-            Err(refusal) => return Status::from(refusal),
-        };
-        Status::of_allocation(locale.extensions.transform.fields.set(alloc, key, value))
     }
 }
 
@@ -104,12 +88,7 @@ impl<'a> Change for SetPrivate<'a> {
             locale.extensions.private.clear();
             return Status::Done;
         }
-        match Private::try_from_utf8(alloc, self.0) {
-            Ok(private) => {
-                locale.extensions.private = private;
-                Status::Done
-            }
-            Err(refusal) => Status::from(refusal),
-        }
+        let private = Private::try_from_utf8(alloc, self.0);
+        put_parsed(private, &mut locale.extensions.private)
     }
 }

@@ -2,15 +2,15 @@
 ghost use Rattle.std.specs.Prelude.{◌≡◌, ◌↔◌, IsTrue};
 ghost use Rattle.std.specs.Ordering.{nat_cmp};
 ghost use Rattle.std.specs.Cmp.Lexicographic.{slice_cmp};
-ghost use Rattle.iloc_spec_grammar.specs.Values.{IsWellFormed, text as text_of};
+ghost use Rattle.iloc_spec_grammar.specs.Values.{text as text_of};
 ghost use Rattle.iloc_spec_parts.specs.Orders.{locale_cmp};
-ghost use Rattle.iloc_locale.specs.LocaleReading.{unknown_locale, value_of};
+ghost use Rattle.iloc_locale.specs.LocaleReading.{value_of};
 ghost use Rattle.iloc_calls.specs.Answers.{order_number};
 ghost use Rattle.iloc_calls.specs.Hashing.{hash_of};
 ghost use Rattle.iloc_handles.specs.Held.{meaning_of};
-ghost use Rattle.iloc_handles.specs.Whole.{ParsesTo, TellsMeant};
+ghost use Rattle.iloc_handles.specs.Whole.{ParsesTo, Passes, TellsMeant};
 
-use crate::asking::{Change, Question, ask};
+use crate::asking::{Change, Question, ask, put_parsed};
 use crate::handle::{Handle, is_und};
 use iloc_calls::{Status, hash_of_text, number, tell_refused};
 use iloc_locale::Locale;
@@ -25,39 +25,29 @@ impl<'a> Change for FromText<'a> {
     ghost changes = { λ p. ParsesTo p.0.now };
 
     fn apply(&self, alloc: Global, locale: &mut Locale) -> Status {
-        match Locale::try_from_utf8(alloc, self.0) {
-            Ok(parsed) => {
-                *locale = parsed;
-                Status::Done
-            }
-            Err(refusal) => Status::from(refusal),
+        put_parsed(Locale::try_from_utf8(alloc, self.0), locale)
+    }
+}
+
+/// What is asked of a whole locale, and answered by yes or no.
+#[derive(Clone, Copy)]
+pub enum Test {
+    /// Whether it is `und`.
+    Und,
+    /// Whether its text means it.
+    WellFormed,
+}
+
+impl Question for Test {
+    type Answer = bool;
+
+    ghost is_answer = { λ t M answer. IsTrue answer ↔ Passes t M };
+
+    fn ask(&self, locale: &Locale) -> bool {
+        match self {
+            Test::Und => is_und(locale),
+            Test::WellFormed => locale.is_well_formed(),
         }
-    }
-}
-
-/// Whether the locale is `und`.
-pub struct IsUnd;
-
-impl Question for IsUnd {
-    type Answer = bool;
-
-    ghost is_answer = { λ _ M answer. IsTrue answer ↔ (M ≡ unknown_locale) };
-
-    fn ask(&self, locale: &Locale) -> bool {
-        is_und(locale)
-    }
-}
-
-/// Whether the text of the locale means this locale.
-pub struct WellFormed;
-
-impl Question for WellFormed {
-    type Answer = bool;
-
-    ghost is_answer = { λ _ M answer. IsTrue answer ↔ IsWellFormed M };
-
-    fn ask(&self, locale: &Locale) -> bool {
-        locale.is_well_formed()
     }
 }
 
@@ -88,10 +78,7 @@ pub fn order_of(alloc: Global, handle: &mut Handle, other: &mut Handle) -> Order
             other.put(alloc, boxed);
             order
         }
-        None => {
-            let und = Locale::unknown(alloc);
-            ask(alloc, handle, &Against(&und))
-        }
+        None => ask(alloc, handle, &Against(&Locale::unknown(alloc))),
     }
 }
 

@@ -1,5 +1,5 @@
 -- What was copied grows by sixteen bytes, and at the end by those that are left.
-use Rattle.std.proofs.Common.{◌≡◌, ◌+◌, ◌-◌, ◌≤◌, length, take, drop, take_all, refl, sym, ap, ◌∙◌, subst, arith}
+use Rattle.std.proofs.Common.{◌≡◌, ◌+◌, ◌-◌, ◌≤◌, length, take, drop, take_all, refl, sym, ap, ◌∙◌, arith}
 use borrow.Rule.Slice.PartMut.{put_mid}
 use Rattle.iloc_spec_grammar.specs.Syntax.{lower}
 use Rattle.iloc_calls.proofs.CopyLemmas.{same_room, copied_more, sixteen}
