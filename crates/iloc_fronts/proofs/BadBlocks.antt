@@ -16,6 +16,7 @@ use Rattle.iloc_spec_grammar.proofs.Singletons.{no_u, no_x}
 use Rattle.iloc_spec_grammar.proofs.WordsLaws.{length-unicode_key}
 use Rattle.iloc_plain.specs.Plain.{IsPlain}
 use Rattle.iloc_plain.specs.declared.plain.Plain.{Plain}
+use Rattle.iloc_fronts.specs.declared.ordered.Ordered.{Ordered}
 use Rattle.iloc_fronts.specs.Ordered.{IsBefore, IsBadTail, BeginBadly, IsTailOf, Follows, IsNext, key_number}
 use Rattle.iloc_fronts.specs.Blocks.{AreBlocksOf, AreUnicodeWords, IsUnicodeOf, AreKeywordsOf, FollowsAs, IsPrivateOf, IsOtherOf, IsAfterValues, IsStray}
 use Rattle.iloc_fronts.specs.Front.{IsFirst}
@@ -342,8 +343,8 @@ module _ (p : Plain) (start rest : List ℕ) (h : IsPlain start p) (b : IsBadTai
   pub has_fault : HasFault languages (start ++ 45 ∷ rest) InvalidExtension
   has_fault = bad_block (id, is_identifier, head_is) (subst (λ bs. FirstBadBlock languages [] bs InvalidExtension) (sym blocks_are) (here b.bad.fault))
 
-pub told_bad : (p : Plain) (w : List ℕ) (len at : ℕ) → len + 16 ≤ length w → IsBefore w len at p → IsBadTail (pieces (take (len - at - 1) (take (length w - (at + 1)) (drop (at + 1) w))))
+pub told_bad : (o : Ordered) (w : List ℕ) (len at : ℕ) → len + 16 ≤ length w → IsBefore w len at o → IsBadTail (pieces (take (len - at - 1) (take (length w - (at + 1)) (drop (at + 1) w))))
     → HasFault languages (take len w) InvalidExtension
-told_bad p w len at room b h =
+told_bad o w len at room b h =
     subst (λ (t : List ℕ). HasFault languages t InvalidExtension) (sym (cut_there w len at room b.less b.hyphen))
-    (has_fault p (take at w) (after w len at room b.less b.hyphen) b.plain (subst (λ (s : List ℕ). IsBadTail (pieces s)) (rest_is w len at room b.less b.hyphen) h))
+    (has_fault o.plain (take at w) (after w len at room b.less b.hyphen) b.plain (subst (λ (s : List ℕ). IsBadTail (pieces s)) (rest_is w len at room b.less b.hyphen) h))

@@ -555,15 +555,15 @@ module _ (w : List ℕ) (len at : ℕ) (room : len + 16 ≤ length w) (less : at
       take-take (len - at - 1) (length w - (at + 1)) (drop (at + 1) w) (omega arith) ∙ ap (λ (m : ℕ). take (len - at - 1) (drop m w)) one_more
 
 -- a line of which the identifier before a hyphen was read, and what follows it
-is_cut : (o : Ordered) (w : List ℕ) (len at : ℕ) → len + 16 ≤ length w → IsBefore w len at o.plain → o.len ≡ len - at → o.rest.now ≡ take (length w - at) (drop at w) → IsCut (take len w) o
-is_cut o w len at room b l r = record {
-  stored = record { words = b.plain.words; room = omega (arith, l, ap length r, room_there w len at room b.less b.hyphen) };
-  some = omega (arith, l, b.less);
+is_cut : (o : Ordered) (w : List ℕ) (len at : ℕ) → len + 16 ≤ length w → IsBefore w len at o → IsCut (take len w) o
+is_cut o w len at room b = record {
+  stored = record { words = b.plain.words; room = omega (arith, b.long, ap length b.rest, room_there w len at room b.less b.hyphen) };
+  some = omega (arith, b.long, b.less);
   front = take at w;
   tail = after w len at room b.less b.hyphen;
   plain = b.plain;
   cut = cut_there w len at room b.less b.hyphen;
-  rest = (λ j. take (l j) (r j)) ∙ rest_there w len at room b.less b.hyphen;
+  rest = (λ j. take (b.long j) (b.rest j)) ∙ rest_there w len at room b.less b.hyphen;
 }
 
 pub is_ordered : (t : List ℕ) (o : Ordered) (c : IsCut t o) → IsTail (pieces c.tail) → IsOrdered t o
@@ -592,14 +592,14 @@ is_varied t o c p v e = record {
 abbrev Tail : List ℕ → ℕ → ℕ → List ℕ
 Tail w len at = take (len - at - 1) (take (length w - (at + 1)) (drop (at + 1) w))
 
-pub told_ordered : (o : Ordered) (w : List ℕ) (len at : ℕ) → len + 16 ≤ length w → IsBefore w len at o.plain → o.len ≡ len - at → o.rest.now ≡ take (length w - at) (drop at w)
+pub told_ordered : (o : Ordered) (w : List ℕ) (len at : ℕ) → len + 16 ≤ length w → IsBefore w len at o
     → IsTail (pieces (Tail w len at)) → IsOrdered (take len w) o
 unfolding is_cut
-told_ordered o w len at room b l r h =
-    is_ordered (take len w) o (is_cut o w len at room b l r) (subst (λ (s : List ℕ). IsTail (pieces s)) (rest_is w len at room b.less b.hyphen) h)
+told_ordered o w len at room b h =
+    is_ordered (take len w) o (is_cut o w len at room b) (subst (λ (s : List ℕ). IsTail (pieces s)) (rest_is w len at room b.less b.hyphen) h)
 
-pub told_varied : (o : Ordered) (w : List ℕ) (len at : ℕ) → len + 16 ≤ length w → IsBefore w len at o.plain → o.len ≡ len - at → o.rest.now ≡ take (length w - at) (drop at w)
+pub told_varied : (o : Ordered) (w : List ℕ) (len at : ℕ) → len + 16 ≤ length w → IsBefore w len at o
     → (p : List ℕ) → IsWord Variant p → pieces (Tail w len at) ≡ p ∷ [] → IsVaried (take len w) o
 unfolding is_cut
-told_varied o w len at room b l r p v e =
-    is_varied (take len w) o (is_cut o w len at room b l r) p v (ap pieces (sym (rest_is w len at room b.less b.hyphen)) ∙ e)
+told_varied o w len at room b p v e =
+    is_varied (take len w) o (is_cut o w len at room b) p v (ap pieces (sym (rest_is w len at room b.less b.hyphen)) ∙ e)

@@ -1,12 +1,11 @@
 -- Lines whose normal text is their own but for the case of letters, and lines whose first block is bad.
-use Rattle.std.specs.Prelude.{◌≡◌, ⊤, ℕ, ◌+◌, ◌*◌, ◌<◌, ◌≤◌, true, false, List, [], ◌∷◌, ◌++◌, length, map, take, get_or}
+use Rattle.std.specs.Prelude.{◌≡◌, ⊤, ℕ, ◌+◌, ◌-◌, ◌*◌, ◌<◌, ◌≤◌, true, false, List, [], ◌∷◌, ◌++◌, length, map, take, drop, get_or}
 use Rattle.std.specs.List.{AllByRecursion}
 use Rattle.std.specs.FinMap.{is_sorted}
 use Rattle.iloc_spec_grammar.specs.Syntax.{Text, Field, Block, front, blocks, pieces, Variant, Attribute, UnicodeKey, PrivateSubtag, IsWord, languages, lower, word_cmp, is_true, Identifier, Fields, fields_pieces}
 use Rattle.iloc_spec_grammar.specs.Meaning.{Extensions, Locale, IdentifierMeans, Means, InvalidExtension, BlockFault, HasFault}
 use Rattle.iloc_spec_grammar.specs.Values.{IsNormal, IsExtensionsValue, AreWellFormed, private_spelling, extensions_spelling, identifier_text, text}
 use Rattle.iloc_plain.specs.Plain.{AreWords, IsPlain, value_of}
-use Rattle.iloc_plain.specs.declared.plain.Plain.{Plain}
 use Rattle.iloc_fronts.specs.declared.ordered.Ordered.{Ordered}
 use Rattle.iloc_fronts.specs.declared.ordered.Reading.{Reading}
 use Rattle.iloc_fronts.specs.declared.ordered.Reading.TheVariants as reading
@@ -37,11 +36,13 @@ pub record IsVaried (t : Text) (o : Ordered) : Type 0 where
   pub few : length identifier.variants ≤ 1
   pub normal : identifier_text identifier ≡ text_of o
 
--- a plain identifier of so many bytes comes first, and then a hyphen of the line
-pub record IsBefore (w : Text) (len at : ℕ) (p : Plain) : Type 0 where
+-- a plain identifier of so many bytes comes first, then a hyphen of the line, and both are told
+pub record IsBefore (w : Text) (len at : ℕ) (o : Ordered) : Type 0 where
   pub less : at < len
   pub hyphen : get_or w at 0 ≡ 45
-  pub plain : IsPlain (take at w) p
+  pub plain : IsPlain (take at w) o.plain
+  pub rest : o.rest.now ≡ take (length w - at) (drop at w)
+  pub long : o.len ≡ len - at
 
 -- the line is a plain identifier, a hyphen, and what follows that
 pub record IsCut (t : Text) (o : Ordered) : Type 0 where

@@ -47,15 +47,11 @@ pub fn read_ordered(window: &[u8], len: usize, at: usize) -> Reading<'_>
     if let Rest::Other = rest {
         return Reading::Other;
     }
-    let Some(plain) = plain_before(window, len, at) else {
+    let Some(line) = cut_at(window, len, at) else {
         return Reading::Other;
     };
     match rest {
-        Rest::Printed => Reading::Ordered(Ordered {
-            plain,
-            rest: &window[at..],
-            len: len - at,
-        }),
+        Rest::Printed => Reading::Ordered(line),
         Rest::BadBlock => Reading::BadBlock,
         Rest::Other => Reading::Other,
     }
@@ -76,24 +72,24 @@ pub fn read_varied(window: &[u8], len: usize, at: usize) -> Option<Ordered<'_>>
     if n != left || !is_variant(rest, n) {
         return None;
     }
-    let plain = plain_before(window, len, at)?;
-    Some(Ordered {
-        plain,
-        rest: &window[at..],
-        len: len - at,
-    })
+    cut_at(window, len, at)
 }
 
-// The plain identifier of `at` bytes, if a hyphen follows it.
+// The plain identifier of `at` bytes and what follows it, if that begins with a hyphen.
 #[inline(always)]
-fn plain_before(window: &[u8], len: usize, at: usize) -> Option<Plain>
+fn cut_at(window: &[u8], len: usize, at: usize) -> Option<Ordered<'_>>
     requires { len + 16 ≤ length window.now }
     ensures { IfSome result (IsBefore window.now len at) }
 {
     if at > 16 || at >= len || window[at] != b'-' {
         return None;
     }
-    read_plain(window, at)
+    let plain = read_plain(window, at)?;
+    Some(Ordered {
+        plain,
+        rest: &window[at..],
+        len: len - at,
+    })
 }
 
 // What follows the hyphen after it: at most one variant, and blocks.
