@@ -1,11 +1,12 @@
 //! Tells lines whose normal text is their own but for the case of letters, and lines whose first block is
 //! bad.
 ghost use Rattle.std.specs.Prelude.{◌≡◌, ◌+◌, ◌≤◌, IfSome, length, take};
-ghost use Rattle.iloc_spec_grammar.specs.Syntax.{pieces};
+ghost use Rattle.iloc_fronts.specs.Left.{IsLeft, pieces_of};
 ghost use Rattle.iloc_fronts.specs.Ordered.{IsBefore, IsReading, IsTailOf, IsVaried};
 
 use crate::blocks::{Rest, read_blocks};
 use crate::front::first_len;
+use crate::left::{Left, after_piece, left_in};
 use crate::words::is_variant;
 use iloc_plain::{Plain, read_plain};
 
@@ -43,7 +44,7 @@ pub fn read_ordered(window: &[u8], len: usize, at: usize) -> Reading<'_>
     if at >= len {
         return Reading::Other;
     }
-    let rest = read_tail(&window[at + 1..], len - at - 1);
+    let rest = read_tail(left_in(&window[at + 1..], len - at - 1));
     if let Rest::Other = rest {
         return Reading::Other;
     }
@@ -94,16 +95,15 @@ fn cut_at(window: &[u8], len: usize, at: usize) -> Option<Ordered<'_>>
 
 // What follows the hyphen after it: at most one variant, and blocks.
 #[inline(always)]
-fn read_tail(window: &[u8], len: usize) -> Rest
-    requires { len + 16 ≤ length window.now }
-    ensures { IsTailOf (pieces (take len window.now)) result }
+fn read_tail(left: Left<'_>) -> Rest
+    requires { IsLeft left }
+    ensures { IsTailOf (pieces_of left.entry) result }
 {
-    let n = first_len(window, len);
-    if !is_variant(window, n) {
-        return read_blocks(window, len);
+    if !is_variant(left.window, left.n) {
+        return read_blocks(left);
     }
-    if n == len {
+    if left.n == left.len {
         return Rest::Printed;
     }
-    read_blocks(&window[n + 1..], len - n - 1)
+    read_blocks(after_piece(left))
 }
