@@ -158,7 +158,7 @@ module _ (w : List ℕ) (len n : ℕ) (room : len + 16 ≤ length w) (first : Is
   front_same = take-take n len w inside
 
   -- a short first piece is the first n bytes
-  short_first : n < 16 → first_piece (pieces text) ≡ take n w
+  pub short_first : n < 16 → first_piece (pieces text) ≡ take n w
   short_first short = elim (cases_lt n len) [
     | inl less ↦ ap first_piece (first.cut (omega (arith, whole)) short) ∙ front_same
     | inr more ↦
@@ -177,7 +177,7 @@ module _ (w : List ℕ) (len n : ℕ) (room : len + 16 ≤ length w) (first : Is
         too_long k short (first_piece (pieces text)) piece ∙ sym (too_long k short (take n w) bytes)
   ]
 
-  word_is_short : (k : Kind) → IsShort k → is_word k (take n w) ≡ true → n < 16
+  pub word_is_short : (k : Kind) → IsShort k → is_word k (take n w) ≡ true → n < 16
   word_is_short k short fits = omega (arith, short (take n w) fits, length-take-le n w (omega (arith, inside)))
 
   -- a short piece that doesn't end the line: the other pieces are those of what follows its hyphen

@@ -1,5 +1,11 @@
 pub mod RunLemmas
 pub mod RunWords
 pub mod FrontLemmas
+pub mod LeftLemmas
+pub mod BodyLemmas
+pub mod BlockLemmas
+pub mod UnicodeLemmas
+pub mod OtherLemmas
+pub mod PrintedBlocks
 pub mod OrderedLemmas
 pub mod BadBlocks

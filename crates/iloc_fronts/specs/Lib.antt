@@ -1,5 +1,6 @@
 pub mod Run
 pub mod Front
+pub mod Left
 pub mod Keyword
-pub mod Ordered
 pub mod Blocks
+pub mod Ordered

@@ -1,294 +1,116 @@
 //! Tells the blocks of a locale, from the first one on.
-ghost use Rattle.std.specs.Prelude.{◌≡◌, ◌+◌, ◌≤◌, IsTrue, [], ◌∷◌, length, take};
-ghost use Rattle.iloc_spec_grammar.specs.Syntax.{pieces};
-ghost use Rattle.iloc_fronts.specs.Ordered.{IsPrivatePart};
-ghost use Rattle.iloc_fronts.specs.Front.{IsFirst};
-ghost use Rattle.iloc_fronts.specs.declared.blocks.Next.TheVariants as nexts;
-ghost use Rattle.iloc_fronts.specs.Blocks.{
-  AreBlocksOf,
-  AreKeywordsOf,
-  AreSubtags,
-  FollowsAs,
-  IsAfterValues,
-  IsNextAs,
-  IsNoneOf,
-  IsOtherOf,
-  IsPrivateOf,
-  IsStray,
-  IsUnicodeOf,
-};
+ghost use Rattle.std.specs.Prelude.{◌≡◌, ◌∷◌, ℕ, [], IsTrue};
+ghost use Rattle.std.specs.Char.{to_ascii_lowercase};
+ghost use Rattle.iloc_fronts.specs.Left.{IsLeft, pieces_of};
+ghost use Rattle.iloc_fronts.specs.Blocks.{AreBlocksOf, IsBlockAs, IsNewAfter};
 
-use crate::front::first_len;
-use crate::words::{are_private, is_attribute, is_key, is_subtag, is_true, number_of_key};
+use crate::body::Body;
+use crate::left::{Left, after_piece};
+use crate::other::{read_other, read_private};
+use crate::unicode::read_unicode;
 
 // What some pieces are.
 #[derive(Clone, Copy)]
 pub(crate) enum Rest {
     // What a value prints, but for the case.
     Printed,
-    // A block that is bad, and perhaps others after it.
+    // Good blocks, then one that is bad, and perhaps others after it.
     BadBlock,
     // Nothing that is told.
     Other,
 }
 
-// What a piece is after a key, or a piece of its value.
-#[derive(Clone, Copy)]
-enum Next {
-    // One of the value, or a greater key. The number is that of the key whose value may go on.
-    Piece(usize),
-    // `true`, or a key that is not greater.
-    Unordered,
-    // Neither.
-    Misfit,
-}
-
-// What the blocks are that begin here.
+// What the blocks are that begin here. It goes on as long as each is in order, and their singletons
+// ascend.
 #[inline(always)]
-pub(crate) fn read_blocks(window: &[u8], len: usize) -> Rest
-    requires { len + 16 ≤ length window.now }
-    ensures { AreBlocksOf (pieces (take len window.now)) result }
+pub(crate) fn read_blocks(left: Left<'_>) -> Rest
+    requires { IsLeft left }
+    ensures { AreBlocksOf 0 (pieces_of left.entry) result }
 {
-    let n = first_len(window, len);
-    if n != 1 {
+    if left.n != 1 {
         return Rest::Other;
     }
-    if n == len {
+    if left.n == left.len {
         return Rest::BadBlock;
     }
-    let rest = &window[n + 1..];
-    let left = len - n - 1;
-    match window[0].to_ascii_lowercase() {
-        b'u' => read_unicode(rest, left),
-        b'x' => read_private(rest, left),
-        b't' => Rest::Other,
-        _ => read_another(window[0], rest, left),
+    let singleton = left.window[0].to_ascii_lowercase();
+    match read_block(singleton, after_piece(left)) {
+        Body::End => Rest::Printed,
+        Body::Next(next) => after_first(singleton, next),
+        Body::Bad => Rest::BadBlock,
+        Body::Other => Rest::Other,
     }
 }
 
-// What the blocks are that begin with another singleton.
+// What the blocks are after the first. Most often only one of `x` follows.
 #[inline(always)]
-fn read_another(singleton: u8, window: &[u8], len: usize) -> Rest
-    requires { len + 16 ≤ length window.now }
-    ensures { IsNoneOf singleton
-        → AreBlocksOf ((singleton ∷ []) ∷ pieces (take len window.now)) result }
+fn after_first(first: u8, left: Left<'_>) -> Rest
+    requires { IsLeft left }
+    ensures { AreBlocksOf first (pieces_of left.entry) result }
 {
-    if !singleton.is_ascii_alphanumeric() {
-        return Rest::BadBlock;
+    if left.n != 1 || left.n == left.len || left.window[0].to_ascii_lowercase() != b'x' {
+        return read_later(first, left);
     }
-    read_other(window, len)
+    match read_private(after_piece(left)) {
+        Body::End => Rest::Printed,
+        Body::Bad => Rest::BadBlock,
+        _ => Rest::Other,
+    }
 }
 
-// What follows the singleton `u`.
-#[inline(always)]
-fn read_unicode(window: &[u8], len: usize) -> Rest
-    requires { len + 16 ≤ length window.now }
-    ensures { IsUnicodeOf (pieces (take len window.now)) result }
+// What the blocks are after those with singletons up to the last one.
+#[inline(never)]
+fn read_later(first: u8, left: Left<'_>) -> Rest
+    requires { IsLeft left }
+    ensures { AreBlocksOf first (pieces_of left.entry) result }
 {
-    let n = first_len(window, len);
-    if n == 1 {
-        return Rest::BadBlock;
-    }
-    if !is_attribute(window, n) {
-        return read_keywords(window, len);
-    }
-    if n == len {
-        return Rest::Printed;
-    }
-    let rest = &window[n + 1..];
-    if is_private(rest, len - n - 1) {
-        return Rest::Printed;
-    }
-    read_keywords(rest, len - n - 1)
-}
-
-// What follows the attributes: keywords, and perhaps a block of `x`.
-#[inline(always)]
-fn read_keywords(window: &[u8], len: usize) -> Rest
-    requires { len + 16 ≤ length window.now }
-    ensures { AreKeywordsOf (pieces (take len window.now)) result }
-{
-    let n = first_len(window, len);
-    if !is_key(window, n) {
-        if n == 1 {
+    let mut last = first;
+    let mut at = left;
+    'following: while at.n == 1 {
+        let singleton = at.window[0].to_ascii_lowercase();
+        if !may_follow(singleton, last) {
             return Rest::Other;
         }
-        if is_attribute(window, n) {
-            return Rest::Other;
-        }
-        return Rest::BadBlock;
-    }
-    if n == len {
-        return Rest::Printed;
-    }
-    read_values(number_of_key(window), &window[n + 1..], len - n - 1)
-}
-
-// What follows a key: pieces of its value, keywords with greater keys, and perhaps a block of `x`.
-#[inline(always)]
-fn read_values(key: usize, window: &[u8], len: usize) -> Rest
-    requires { len + 16 ≤ length window.now }
-    ensures { FollowsAs key (pieces (take len window.now)) result }
-{
-    let mut last = key;
-    let mut rest = window;
-    let mut left = len;
-    let mut n = first_len(rest, left);
-    'pieces: loop {
-        match next_key(last, rest, n) {
-            Next::Piece(next) => {
-                if n == left {
-                    return Rest::Printed;
-                }
-                last = next;
-                rest = &rest[n + 1..];
-                left = left - n - 1;
-                n = first_len(rest, left);
-            }
-            Next::Unordered => return Rest::Other,
-            Next::Misfit => return after_values(rest, left, n),
-        }
-    }
-}
-
-// What the pieces are from one on that is neither of a value nor a key.
-#[inline(always)]
-fn after_values(window: &[u8], len: usize, n: usize) -> Rest
-    requires room { len + 16 ≤ length window.now }
-    requires first { IsFirst (take len window.now) n }
-    requires none { IsNextAs 0 (take n window.now) nexts.Misfit }
-    ensures { IsAfterValues (pieces (take len window.now)) result }
-{
-    if n != 1 {
-        return Rest::BadBlock;
-    }
-    if is_private(window, len) {
-        return Rest::Printed;
-    }
-    Rest::Other
-}
-
-// What the next piece after a key is.
-#[inline(always)]
-fn next_key(last: usize, window: &[u8], n: usize) -> Next
-    requires wide { 16 ≤ length window.now }
-    requires few { n ≤ 16 }
-    ensures { IsNextAs last (take n window.now) result }
-{
-    if is_attribute(window, n) {
-        if is_true(window, n) {
-            return Next::Unordered;
-        }
-        return Next::Piece(last);
-    }
-    if !is_key(window, n) {
-        return Next::Misfit;
-    }
-    let key = number_of_key(window);
-    if key <= last {
-        return Next::Unordered;
-    }
-    Next::Piece(key)
-}
-
-// Whether the first `len` bytes are the singleton `x` and words.
-#[inline(always)]
-fn is_private(window: &[u8], len: usize) -> bool
-    requires { len + 16 ≤ length window.now }
-    ensures { IsTrue result → IsPrivatePart (pieces (take len window.now)) }
-{
-    let n = first_len(window, len);
-    if n != 1 || n == len || window[0].to_ascii_lowercase() != b'x' {
-        return false;
-    }
-    are_private(&window[n + 1..], len - n - 1)
-}
-
-// What follows the singleton `x`.
-#[inline(always)]
-fn read_private(window: &[u8], len: usize) -> Rest
-    requires { len + 16 ≤ length window.now }
-    ensures { IsPrivateOf (pieces (take len window.now)) result }
-{
-    if are_private(window, len) {
-        Rest::Printed
-    } else {
-        Rest::BadBlock
-    }
-}
-
-// What follows another singleton.
-#[inline(always)]
-fn read_other(window: &[u8], len: usize) -> Rest
-    requires { len + 16 ≤ length window.now }
-    ensures { IsOtherOf (pieces (take len window.now)) result }
-{
-    let n = first_len(window, len);
-    if !is_subtag(window, n) {
-        return after_stray(window, len);
-    }
-    if n == len {
-        return Rest::Printed;
-    }
-    if are_subtags(&window[n + 1..], len - n - 1) {
-        return Rest::Printed;
-    }
-    Rest::Other
-}
-
-// Whether the first `len` bytes are words of another extension, and perhaps a block of `x`.
-#[inline(always)]
-fn are_subtags(window: &[u8], len: usize) -> bool
-    requires { len + 16 ≤ length window.now }
-    ensures { IsTrue result → AreSubtags (pieces (take len window.now)) }
-{
-    let mut rest = window;
-    let mut left = len;
-    let mut n = first_len(rest, left);
-    'words: while is_subtag(rest, n) {
-        if n == left {
-            return true;
-        }
-        rest = &rest[n + 1..];
-        left = left - n - 1;
-        n = first_len(rest, left);
-    }
-    is_private(rest, left)
-}
-
-// What follows the singleton if no word comes first. The block is bad if it ends, or a piece has one byte
-// too many or too few, before a word comes.
-#[inline(always)]
-fn after_stray(window: &[u8], len: usize) -> Rest
-    requires { len + 16 ≤ length window.now }
-    ensures { IsOtherOf (pieces (take len window.now)) result }
-{
-    let mut rest = window;
-    let mut left = len;
-    let mut n = first_len(rest, left);
-    'pieces: while is_stray(rest, n) {
-        if n == left {
+        if at.n == at.len {
             return Rest::BadBlock;
         }
-        rest = &rest[n + 1..];
-        left = left - n - 1;
-        n = first_len(rest, left);
-    }
-    if n < 2 || n > 8 {
-        return Rest::BadBlock;
+        match read_block(singleton, after_piece(at)) {
+            Body::End => return Rest::Printed,
+            Body::Next(next) => {
+                last = singleton;
+                at = next;
+            }
+            Body::Bad => return Rest::BadBlock,
+            Body::Other => return Rest::Other,
+        }
     }
     Rest::Other
 }
 
-// Whether the first `n` bytes are a piece of another extension that means nothing.
+// Whether a block with this singleton may come after one with the last. A byte that is no letter or
+// digit makes a bad block anywhere.
 #[inline(always)]
-fn is_stray(window: &[u8], n: usize) -> bool
-    requires wide { 16 ≤ length window.now }
-    requires few { n ≤ 16 }
-    ensures { IsTrue result → IsStray (take n window.now) }
+fn may_follow(singleton: u8, last: u8) -> bool
+    ensures { IsTrue result → IsNewAfter last singleton }
 {
-    if n < 2 || n > 8 {
-        return false;
+    if singleton > last {
+        return true;
     }
-    !is_subtag(window, n)
+    singleton == b'x' || !singleton.is_ascii_alphanumeric()
+}
+
+// What follows the singleton, up to the next block.
+#[inline(always)]
+fn read_block(singleton: u8, left: Left<'_>) -> Body<'_>
+    requires { IsLeft left }
+    ensures { (last c : ℕ) → to_ascii_lowercase c ≡ singleton → IsNewAfter last singleton
+        → IsBlockAs last singleton left.entry.len ((c ∷ []) ∷ pieces_of left.entry) result }
+{
+    match singleton {
+        b'u' => read_unicode(left),
+        b'x' => read_private(left),
+        b't' => Body::Other,
+        _ if !singleton.is_ascii_alphanumeric() => Body::Bad,
+        _ => read_other(left),
+    }
 }

@@ -21,10 +21,14 @@
 #![tactic(auto)]
 
 mod blocks;
+mod body;
 pub mod front;
 pub mod keyword;
+mod left;
 pub mod ordered;
+mod other;
 mod run;
+mod unicode;
 mod words;
 
 pub use front::{Block, Front, may_begin, read_front};

@@ -1,11 +1,12 @@
 //! Tells lines whose normal text is their own but for the case of letters, and lines whose first block is
 //! bad.
 ghost use Rattle.std.specs.Prelude.{◌≡◌, ◌+◌, ◌≤◌, IfSome, length, take};
-ghost use Rattle.iloc_spec_grammar.specs.Syntax.{pieces};
+ghost use Rattle.iloc_fronts.specs.Left.{IsLeft, pieces_of};
 ghost use Rattle.iloc_fronts.specs.Ordered.{IsBefore, IsReading, IsTailOf, IsVaried};
 
 use crate::blocks::{Rest, read_blocks};
 use crate::front::first_len;
+use crate::left::{Left, after_piece, left_in};
 use crate::words::is_variant;
 use iloc_plain::{Plain, read_plain};
 
@@ -43,19 +44,15 @@ pub fn read_ordered(window: &[u8], len: usize, at: usize) -> Reading<'_>
     if at >= len {
         return Reading::Other;
     }
-    let rest = read_tail(&window[at + 1..], len - at - 1);
+    let rest = read_tail(left_in(&window[at + 1..], len - at - 1));
     if let Rest::Other = rest {
         return Reading::Other;
     }
-    let Some(plain) = plain_before(window, len, at) else {
+    let Some(line) = cut_at(window, len, at) else {
         return Reading::Other;
     };
     match rest {
-        Rest::Printed => Reading::Ordered(Ordered {
-            plain,
-            rest: &window[at..],
-            len: len - at,
-        }),
+        Rest::Printed => Reading::Ordered(line),
         Rest::BadBlock => Reading::BadBlock,
         Rest::Other => Reading::Other,
     }
@@ -76,7 +73,19 @@ pub fn read_varied(window: &[u8], len: usize, at: usize) -> Option<Ordered<'_>>
     if n != left || !is_variant(rest, n) {
         return None;
     }
-    let plain = plain_before(window, len, at)?;
+    cut_at(window, len, at)
+}
+
+// The plain identifier of `at` bytes and what follows it, if that begins with a hyphen.
+#[inline(always)]
+fn cut_at(window: &[u8], len: usize, at: usize) -> Option<Ordered<'_>>
+    requires { len + 16 ≤ length window.now }
+    ensures { IfSome result (IsBefore window.now len at) }
+{
+    if at > 16 || at >= len || window[at] != b'-' {
+        return None;
+    }
+    let plain = read_plain(window, at)?;
     Some(Ordered {
         plain,
         rest: &window[at..],
@@ -84,30 +93,17 @@ pub fn read_varied(window: &[u8], len: usize, at: usize) -> Option<Ordered<'_>>
     })
 }
 
-// The plain identifier of `at` bytes, if a hyphen follows it.
-#[inline(always)]
-fn plain_before(window: &[u8], len: usize, at: usize) -> Option<Plain>
-    requires { len + 16 ≤ length window.now }
-    ensures { IfSome result (IsBefore window.now len at) }
-{
-    if at > 16 || at >= len || window[at] != b'-' {
-        return None;
-    }
-    read_plain(window, at)
-}
-
 // What follows the hyphen after it: at most one variant, and blocks.
 #[inline(always)]
-fn read_tail(window: &[u8], len: usize) -> Rest
-    requires { len + 16 ≤ length window.now }
-    ensures { IsTailOf (pieces (take len window.now)) result }
+fn read_tail(left: Left<'_>) -> Rest
+    requires { IsLeft left }
+    ensures { IsTailOf (pieces_of left.entry) result }
 {
-    let n = first_len(window, len);
-    if !is_variant(window, n) {
-        return read_blocks(window, len);
+    if !is_variant(left.window, left.n) {
+        return read_blocks(left);
     }
-    if n == len {
+    if left.n == left.len {
         return Rest::Printed;
     }
-    read_blocks(&window[n + 1..], len - n - 1)
+    read_blocks(after_piece(left))
 }

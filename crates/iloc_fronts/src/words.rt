@@ -1,9 +1,8 @@
 //! Whether the first bytes of a window are a word of an identifier.
-ghost use Rattle.std.specs.Prelude.{◌≡◌, ◌+◌, ◌≤◌, ◌&&◌, IsTrue, true, false, length, take};
+ghost use Rattle.std.specs.Prelude.{◌≡◌, ◌≤◌, ◌&&◌, IsTrue, true, false, length, take, get_or};
 ghost use Rattle.std.specs.Int.{is_in_range};
-ghost use Rattle.std.specs.List.{list_all};
-ghost use Rattle.iloc_spec_grammar.specs.Syntax.{pieces};
-ghost use Rattle.iloc_fronts.specs.Ordered.{key_number};
+ghost use Rattle.std.specs.Char.{is_ascii_alphanumeric};
+ghost use Rattle.iloc_fronts.specs.Blocks.{two_number};
 ghost use Rattle.iloc_spec_grammar.specs.Syntax.{
   Attribute,
   Language,
@@ -12,7 +11,6 @@ ghost use Rattle.iloc_spec_grammar.specs.Syntax.{
   Subtag,
   UnicodeKey,
   Variant,
-  PrivateSubtag,
   is_true,
   is_word,
   lower,
@@ -22,7 +20,6 @@ ghost use Rattle.iloc_spec_grammar.specs.Syntax.{
   letters_or_digits,
 };
 
-use crate::front::first_len;
 use crate::run::{first_alphanumerics, first_digits, first_letters};
 use iloc_plain::is_language_length;
 
@@ -58,7 +55,7 @@ fn are_letters_or_digits(window: &[u8], n: usize) -> bool
 
 // Whether they are letters and digits, and at least `least` and at most eight.
 #[inline(always)]
-fn is_word_from(least: usize, window: &[u8], n: usize) -> bool
+pub(crate) fn is_word_from(least: usize, window: &[u8], n: usize) -> bool
     requires wide { 16 ≤ length window.now }
     requires few { n ≤ 16 }
     ensures { result ≡ is_in_range least 8 n && letters_or_digits (take n window.now) }
@@ -185,43 +182,14 @@ pub(crate) fn is_true(window: &[u8], n: usize) -> bool
     window[3].to_ascii_lowercase() == b'e'
 }
 
-// The number of the key that the first two bytes are, by which keys are ordered. Bit 5 makes a letter
-// lower case, and digits have it.
+// The number of the first two bytes, by which keys are ordered, and words that begin differently. Bit 5
+// makes a letter lower case, and digits have it.
 #[inline(always)]
-pub(crate) fn number_of_key(window: &[u8]) -> usize
+pub(crate) fn number_of_two(window: &[u8]) -> usize
     requires wide { 16 ≤ length window.now }
-    requires key { is_word UnicodeKey (take 2 window.now) ≡ true }
-    ensures { result ≡ key_number (take 2 window.now) }
+    requires first { is_ascii_alphanumeric (get_or window.now 0 0) ≡ true }
+    requires second { is_ascii_alphanumeric (get_or window.now 1 0) ≡ true }
+    ensures { result ≡ two_number (take 2 window.now) }
 {
     256 * ((window[0] | 32) as usize) + (window[1] | 32) as usize
-}
-
-// Whether the first `n` bytes are a word of a private part.
-#[inline(always)]
-fn is_private_subtag(window: &[u8], n: usize) -> bool
-    requires wide { 16 ≤ length window.now }
-    requires few { n ≤ 16 }
-    ensures { result ≡ is_word PrivateSubtag (take n window.now) }
-{
-    is_word_from(1, window, n)
-}
-
-// Whether the pieces of the first `len` bytes are words of a private part.
-#[inline(always)]
-pub(crate) fn are_private(window: &[u8], len: usize) -> bool
-    requires { len + 16 ≤ length window.now }
-    ensures { result ≡ list_all (is_word PrivateSubtag) (pieces (take len window.now)) }
-{
-    let mut rest = window;
-    let mut left = len;
-    let mut n = first_len(rest, left);
-    'words: while is_private_subtag(rest, n) {
-        if n == left {
-            return true;
-        }
-        rest = &rest[n + 1..];
-        left = left - n - 1;
-        n = first_len(rest, left);
-    }
-    false
 }

@@ -1,6 +1,6 @@
 use Rattle.std.proofs.Common.{◌≡◌, ◌∙◌, arith}
 use Rattle.std.proofs.lemmas.Bool.Decides.{nat_tests}
-use Rattle.iloc_fronts.proofs.OrderedLemmas.{no_true, true_bytes}
+use Rattle.iloc_fronts.proofs.UnicodeLemmas.{no_true, true_bytes}
 use Rattle.iloc_fronts.proofs.words.is_true.Goals as goal
 
 pub returns-then-n-ne4 : goal.returns-then-n-ne4

@@ -1,0 +1,42 @@
+-- Pieces up to the next block, and blocks.
+use Rattle.std.proofs.Common.{◌≡◌, ◌≢◌, ℕ, Bool, true, false, cond, ◌==◌, List, [], ◌∷◌, ◌++◌, length, refl, ap, ◌∙◌, arith}
+use Rattle.std.specs.List.{AllByRecursion}
+use Rattle.std.specs.Char.{to_ascii_lowercase}
+use Rattle.std.proofs.lemmas.Bool.Decides.{nat_tests}
+use Rattle.std.proofs.lemmas.Bool.{true≢false}
+use Rattle.iloc_spec_grammar.specs.Syntax.{UnicodeKey, IsWord, front, blocks, first_piece}
+use Rattle.iloc_spec_grammar.proofs.Readings.{IsLong}
+use Rattle.iloc_spec_grammar.proofs.WordsLaws.{length-unicode_key}
+
+pub front_long : (p : List ℕ) (ps : List (List ℕ)) → IsLong p → front (p ∷ ps) ≡ p ∷ front ps
+front_long p ps h = ap (λ (b : Bool). cond b [] (p ∷ front ps)) h
+
+pub front_past : (xs ps : List (List ℕ)) → AllByRecursion IsLong xs → front (xs ++ ps) ≡ xs ++ front ps
+front_past [] ps h = refl
+front_past (x ∷ xs) ps h = front_long x (xs ++ ps) h.0 ∙ ap (λ l. x ∷ l) (front_past xs ps h.1)
+
+pub blocks_past : (xs ps : List (List ℕ)) → AllByRecursion IsLong xs → blocks (xs ++ ps) ≡ blocks ps
+blocks_past [] ps h = refl
+blocks_past ([] ∷ xs) ps h = blocks_past xs ps h.1
+blocks_past ((c ∷ []) ∷ xs) ps h = absurd (true≢false h.0)
+blocks_past ((c ∷ d ∷ p) ∷ xs) ps h = blocks_past xs ps h.1
+
+-- none stand before one of one byte
+pub front_none : (ps : List (List ℕ)) (c : ℕ) → first_piece ps ≡ c ∷ [] → front ps ≡ []
+front_none [] c e = refl
+front_none (p ∷ ps) c e = ap (λ q. front (q ∷ ps)) e
+
+pub long_key : (p : List ℕ) → IsWord UnicodeKey p → IsLong p
+long_key p h = let two : length p ≡ 2 = length-unicode_key p h in grind (arith, nat_tests)
+
+-- the first block, unless it is one of `x`
+pub first_block : (c : ℕ) (ps : List (List ℕ)) → to_ascii_lowercase c ≢ 120 → blocks ((c ∷ []) ∷ ps) ≡ (c, front ps) ∷ blocks ps
+first_block c ps differs =
+    let no_x : (to_ascii_lowercase c == 120) ≡ false = grind (arith, nat_tests) in
+    ap (λ (b : Bool). cond b ((c, ps) ∷ []) ((c, front ps) ∷ blocks ps)) no_x
+
+-- one of `x` takes all
+pub private_block : (c : ℕ) (ps : List (List ℕ)) → to_ascii_lowercase c ≡ 120 → blocks ((c ∷ []) ∷ ps) ≡ (c, ps) ∷ []
+private_block c ps e =
+    let is_x : (to_ascii_lowercase c == 120) ≡ true = grind (arith, nat_tests) in
+    ap (λ (b : Bool). cond b ((c, ps) ∷ []) ((c, front ps) ∷ blocks ps)) is_x
