@@ -131,7 +131,8 @@ icu_locale_status icu_locale_compare(icu_locale_mode mode, const uint8_t *text, 
     const uint8_t *other, size_t other_length, int8_t *order) ICU_LOCALE_NOEXCEPT;
 
 /* Writes the words of a status, such as "Invalid subtag", to the front of the buffer, and their length to *needed,
- * with the statuses of icu_locale_normalize. No words are longer than 64 bytes. */
+ * with the statuses of icu_locale_normalize. 64 bytes always fit, so its status may be ignored: only a number that is
+ * no status has no words, and *needed is then 0. */
 ICU_LOCALE_WRITES(4)
 icu_locale_status icu_locale_words(icu_locale_status status, uint8_t *buffer, size_t room,
     size_t *needed) ICU_LOCALE_NOEXCEPT;
@@ -148,11 +149,11 @@ icu_locale_status icu_locale_words(icu_locale_status status, uint8_t *buffer, si
  * for und after a call that may change it, it is {0} again and owns no memory. Any other handle owns memory until
  * icu_locale_free. These rules come on top of those above:
  *
- *  - Only the calls of this header write a handle. It is not copied by = or memcpy: use icu_locale_copy. It may be
- *    moved to another place if the old one is no longer used.
+ *  - Only the calls of this header write a handle, and only they read or write what it points to. It is not copied by
+ *    = or memcpy: use icu_locale_copy. It may be moved to another place if the old one is no longer used.
  *  - A call has its handles for itself, also a call that only reads: no other call uses them at the same time, in any
- *    thread. Two handles of one call are not the same handle. A handle may go to another thread if that is ordered by
- *    a lock or the like.
+ *    thread. Two handles of one call are not the same handle. A handle may go to another thread if a lock, the start
+ *    or end of a thread, or a sequentially consistent atomic orders that.
  *  - The pointer of a handle is not null. A handle is aligned as C aligns icu_locale_t, and overlaps no other argument.
  *
  * A call that changes a handle ends in one of three ways. DONE: the locale has changed as the call says. A refusal:

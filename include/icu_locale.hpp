@@ -76,7 +76,7 @@ private:
 };
 
 /* A value, or why there is none. value() throws icu_locale::error if there is none. */
-template <class T> class result {
+template <class T> class [[nodiscard]] result {
 public:
     result(T value) : value_(std::move(value)), told_(icu_locale::status::done) {}
     result(icu_locale::status told) : value_(), told_(told) {}
@@ -138,7 +138,7 @@ inline std::string normalize(std::string_view text, mode as = mode::locale)
 }
 
 /* status::done if the text has a meaning; otherwise why it has none. */
-inline status check(std::string_view text, mode as = mode::locale)
+[[nodiscard]] inline status check(std::string_view text, mode as = mode::locale)
 {
     return detail::told(icu_locale_check(static_cast<icu_locale_mode>(as), detail::bytes(text), text.size()));
 }
@@ -227,7 +227,7 @@ public:
     void swap(locale &other) noexcept { std::swap(held_.at, other.held_.at); }
 
     /* The locale becomes what the text means. */
-    icu_locale::status try_assign(std::string_view text)
+    [[nodiscard]] icu_locale::status try_assign(std::string_view text)
     {
         return detail::told(icu_locale_parse(&held_, detail::bytes(text), text.size()));
     }
@@ -265,9 +265,12 @@ public:
     std::string language() const { return *read(icu_locale_get_language); }
     std::optional<std::string> script() const { return unless_empty(read(icu_locale_get_script)); }
     std::optional<std::string> region() const { return unless_empty(read(icu_locale_get_region)); }
-    icu_locale::status try_set_language(std::string_view text) { return set(icu_locale_set_language, text); }
-    icu_locale::status try_set_script(std::string_view text) { return set(icu_locale_set_script, text); }
-    icu_locale::status try_set_region(std::string_view text) { return set(icu_locale_set_region, text); }
+    [[nodiscard]] icu_locale::status try_set_language(std::string_view text)
+    {
+        return set(icu_locale_set_language, text);
+    }
+    [[nodiscard]] icu_locale::status try_set_script(std::string_view text) { return set(icu_locale_set_script, text); }
+    [[nodiscard]] icu_locale::status try_set_region(std::string_view text) { return set(icu_locale_set_region, text); }
     void set_language(std::string_view text) { accept(try_set_language(text)); }
     void set_script(std::string_view text) { accept(try_set_script(text)); }
     void set_region(std::string_view text) { accept(try_set_region(text)); }
@@ -278,7 +281,10 @@ public:
     {
         return icu_locale_has_variant(&held_, detail::bytes(text), text.size());
     }
-    icu_locale::status try_add_variant(std::string_view text) { return set(icu_locale_add_variant, text); }
+    [[nodiscard]] icu_locale::status try_add_variant(std::string_view text)
+    {
+        return set(icu_locale_add_variant, text);
+    }
     void add_variant(std::string_view text) { accept(try_add_variant(text)); }
     bool remove_variant(std::string_view text) { return is_done(set(icu_locale_remove_variant, text)); }
     void clear_variants() { accept(detail::told(icu_locale_clear_variants(&held_))); }
@@ -292,7 +298,7 @@ public:
     /* The value of the keyword with this key, if there is one. */
     std::optional<std::string> keyword(std::string_view key) const { return read_by(icu_locale_get_keyword, key); }
 
-    icu_locale::status try_set_keyword(std::string_view key, std::string_view value = {})
+    [[nodiscard]] icu_locale::status try_set_keyword(std::string_view key, std::string_view value = {})
     {
         return detail::told(icu_locale_set_keyword(
             &held_, detail::bytes(key), key.size(), detail::bytes(value), value.size()));
@@ -308,14 +314,17 @@ public:
     {
         return icu_locale_has_attribute(&held_, detail::bytes(text), text.size());
     }
-    icu_locale::status try_add_attribute(std::string_view text) { return set(icu_locale_add_attribute, text); }
+    [[nodiscard]] icu_locale::status try_add_attribute(std::string_view text)
+    {
+        return set(icu_locale_add_attribute, text);
+    }
     void add_attribute(std::string_view text) { accept(try_add_attribute(text)); }
     bool remove_attribute(std::string_view text) { return is_done(set(icu_locale_remove_attribute, text)); }
     void clear_attributes() { accept(detail::told(icu_locale_clear_attributes(&held_))); }
 
     /* The identifier of the extension t, such as de-Latn in en-t-de-latn, if there is one. An empty text removes it. */
     std::optional<std::string> transform_language() const { return read(icu_locale_get_transform_language); }
-    icu_locale::status try_set_transform_language(std::string_view text)
+    [[nodiscard]] icu_locale::status try_set_transform_language(std::string_view text)
     {
         return set(icu_locale_set_transform_language, text);
     }
@@ -330,7 +339,7 @@ public:
     /* The value of the field with this key, if there is one. */
     std::optional<std::string> field(std::string_view key) const { return read_by(icu_locale_get_field, key); }
 
-    icu_locale::status try_set_field(std::string_view key, std::string_view value)
+    [[nodiscard]] icu_locale::status try_set_field(std::string_view key, std::string_view value)
     {
         return detail::told(
             icu_locale_set_field(&held_, detail::bytes(key), key.size(), detail::bytes(value), value.size()));
@@ -342,7 +351,10 @@ public:
 
     /* The private extension with its x, such as x-a-b; empty if there is none. An empty text removes it. */
     std::string private_extension() const { return *read(icu_locale_get_private); }
-    icu_locale::status try_set_private_extension(std::string_view text) { return set(icu_locale_set_private, text); }
+    [[nodiscard]] icu_locale::status try_set_private_extension(std::string_view text)
+    {
+        return set(icu_locale_set_private, text);
+    }
     void set_private_extension(std::string_view text) { accept(try_set_private_extension(text)); }
 
     /* Other extensions, such as a-foo of en-a-foo, by their singleton, in either case. A text sets the one that it is. */
@@ -358,7 +370,7 @@ public:
         });
     }
 
-    icu_locale::status try_set_other(std::string_view text) { return set(icu_locale_set_other, text); }
+    [[nodiscard]] icu_locale::status try_set_other(std::string_view text) { return set(icu_locale_set_other, text); }
     void set_other(std::string_view text) { accept(try_set_other(text)); }
     bool remove_other(char singleton)
     {

@@ -164,7 +164,7 @@ static void texts()
     for (const mode as : {mode::identifier, mode::locale, mode::data_locale})
         for (const char *text : {LONG, SHORT, "en-aaaaa-bbbbb-ccccc-ddddd-eeeee", "en-"}) {
             refuse_each("und", [=](locale &) { icu_locale::normalize(text, as); });
-            refuse_each("und", [=](locale &) { icu_locale::check(text, as); });
+            refuse_each("und", [=](locale &) { (void)icu_locale::check(text, as); });
             refuse_each("und", [=](locale &) { icu_locale::strict_cmp(text, LONG, as); });
             refuse_each("und", [=](locale &) { icu_locale::normalizing_eq(text, LONG, as); });
             refuse_each("und", [=](locale &) { icu_locale::compare(text, LONG, as); });

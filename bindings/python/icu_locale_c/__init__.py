@@ -212,6 +212,13 @@ def _bytes(text: Any) -> bytes:
         raise TypeError(f"a text is str or bytes-like, not {type(text).__name__}") from None
 
 
+def _number(kind: Any, given: Any) -> Any:
+    """The mode or priority of this number. Another number is a ValueError, and another type a TypeError."""
+    if not isinstance(given, int):
+        raise TypeError(f"a {kind.__name__} is wanted, not {type(given).__name__}")
+    return kind(given)
+
+
 def _raise(status: int) -> None:
     """Raises what the status stands for, unless it is done."""
     if status == _DONE:
@@ -233,7 +240,7 @@ def normalize(text: Text, mode: Mode = Mode.LOCALE) -> str:
     Traceback (most recent call last):
     TypeError: a text is str or bytes-like, not int
     """
-    given, mode = _bytes(text), Mode(mode)
+    given, mode = _bytes(text), _number(Mode, mode)
     room, needed = len(given) + 4, ctypes.c_size_t()
     buffer = ctypes.create_string_buffer(room)
     _raise(_library.icu_locale_normalize(mode, given, len(given), buffer, room, ctypes.byref(needed)))
@@ -249,7 +256,7 @@ def check(text: Text, mode: Mode = Mode.LOCALE) -> None:
     icu_locale_c.InvalidSubtag: Invalid subtag
     """
     given = _bytes(text)
-    _raise(_library.icu_locale_check(Mode(mode), given, len(given)))
+    _raise(_library.icu_locale_check(_number(Mode, mode), given, len(given)))
 
 
 def strict_cmp(text: Text, other: Text, mode: Mode = Mode.LOCALE) -> int:
@@ -258,8 +265,8 @@ def strict_cmp(text: Text, other: Text, mode: Mode = Mode.LOCALE) -> int:
     >>> strict_cmp("EN-us", "en-US"), strict_cmp("en-US", "EN-us")
     (0, 1)
     """
-    given, against, order = _bytes(text), _bytes(other), ctypes.c_int8()
-    _raise(_library.icu_locale_strict_cmp(Mode(mode), given, len(given), against, len(against), ctypes.byref(order)))
+    given, against, order, mode = _bytes(text), _bytes(other), ctypes.c_int8(), _number(Mode, mode)
+    _raise(_library.icu_locale_strict_cmp(mode, given, len(given), against, len(against), ctypes.byref(order)))
     return order.value
 
 
@@ -269,8 +276,8 @@ def normalizing_eq(text: Text, other: Text, mode: Mode = Mode.LOCALE) -> bool:
     >>> normalizing_eq("en-US", "EN-us"), normalizing_eq("en-US", "en-")
     (True, False)
     """
-    given, against, same = _bytes(text), _bytes(other), ctypes.c_uint8()
-    _raise(_library.icu_locale_normalizing_eq(Mode(mode), given, len(given), against, len(against), ctypes.byref(same)))
+    given, against, same, mode = _bytes(text), _bytes(other), ctypes.c_uint8(), _number(Mode, mode)
+    _raise(_library.icu_locale_normalizing_eq(mode, given, len(given), against, len(against), ctypes.byref(same)))
     return same.value == 1
 
 
@@ -280,8 +287,8 @@ def compare(text: Text, other: Text, mode: Mode = Mode.LOCALE) -> int:
     >>> compare("EN-us", "en-US"), compare("de", "EN")
     (0, -1)
     """
-    given, against, order = _bytes(text), _bytes(other), ctypes.c_int8()
-    _raise(_library.icu_locale_compare(Mode(mode), given, len(given), against, len(against), ctypes.byref(order)))
+    given, against, order, mode = _bytes(text), _bytes(other), ctypes.c_int8(), _number(Mode, mode)
+    _raise(_library.icu_locale_compare(mode, given, len(given), against, len(against), ctypes.byref(order)))
     return order.value
 
 
@@ -496,7 +503,7 @@ class Locale:
         >>> locale.data_locale(), locale.data_locale(Priority.REGION)
         ('en-GB', 'en-US')
         """
-        return self._part(_library.icu_locale_get_data_locale, Priority(priority))
+        return self._part(_library.icu_locale_get_data_locale, _number(Priority, priority))
 
     @property
     def base_name(self) -> str:
@@ -627,9 +634,9 @@ class Locale:
         >>> Locale("en-GB-x-a").data_strict_cmp("en-GB"), Locale("en-GB").data_strict_cmp("EN-GB")
         (0, 1)
         """
-        given, order = _bytes(other), ctypes.c_int8()
+        given, order, number = _bytes(other), ctypes.c_int8(), _number(Priority, priority)
         with self._lock:
-            _raise(_library.icu_locale_data_cmp_bytes(self._handle, Priority(priority), given, len(given), ctypes.byref(order)))
+            _raise(_library.icu_locale_data_cmp_bytes(self._handle, number, given, len(given), ctypes.byref(order)))
         return order.value
 
     def data_compare(self, other: "Locale", priority: Priority = Priority.LANGUAGE) -> int:
@@ -640,7 +647,7 @@ class Locale:
         """
         if not isinstance(other, Locale):
             raise TypeError(f"a Locale is wanted, not {type(other).__name__}")
-        order, number = ctypes.c_int8(), Priority(priority)
+        order, number = ctypes.c_int8(), _number(Priority, priority)
         if self is not other:
             _raise(self._with(other, lambda one, two: _library.icu_locale_data_cmp(one, two, number, ctypes.byref(order))))
         return order.value
