@@ -12,7 +12,6 @@ use iloc_data::DataLocale;
 use iloc_langid::LanguageIdentifier;
 use iloc_langid::reader::read_into as read_identifier;
 use iloc_locale::Locale;
-use iloc_locale::locale::read_into as read_locale;
 use iloc_plain::read_plain_text;
 use iloc_program::Mode;
 use iloc_subtags::ParseError;
@@ -157,7 +156,7 @@ pub(crate) fn normalize(
     }
 }
 
-// The same of a text that is not plain.
+// The same of a text that is not plain. It is called cold, so that the registers are those of the plain path.
 #[inline(never)]
 #[cold]
 fn normalize_other(
@@ -213,9 +212,8 @@ fn normalize_identifier(alloc: Global, text: &[u8], buffer: &mut [u8], needed: &
 fn normalize_locale(alloc: Global, text: &[u8], buffer: &mut [u8], needed: &mut usize) -> Status
     ensures { NormalizesTo modes.Locale text.now buffer.old buffer.new needed.new result }
 {
-    let mut locale = Locale::unknown(alloc);
-    match read_locale(alloc, text, &mut locale) {
-        Ok(()) => hand_out_within(&locale, text.len(), buffer, needed),
+    match Locale::try_from_utf8(alloc, text) {
+        Ok(locale) => hand_out_within(&locale, text.len(), buffer, needed),
         Err(refusal) => refuse(&refusal, needed),
     }
 }
