@@ -1,17 +1,17 @@
 -- From what is told of the pieces of blocks to the fault of the line.
-use Rattle.std.proofs.Common.{◌≡◌, ◌≢◌, ◌⊎◌, inl, inr, ℕ, ◌+◌, ◌-◌, ◌<◌, ◌≤◌, ◌==◌, ◌||◌, true, false, cond, List, [], ◌∷◌, ◌++◌, length, map, Option, Some, None, option_to_list, refl, sym, ap, ◌∙◌, subst, arith, append_assoc, append-nil, true≢false, take, drop}
+use Rattle.std.proofs.Common.{◌≡◌, ◌≢◌, ◌⊎◌, inl, inr, ℕ, ◌+◌, ◌-◌, ◌<◌, ◌≤◌, ◌==◌, ◌||◌, true, false, cond, List, [], ◌∷◌, ◌++◌, length, Option, Some, None, option_to_list, refl, sym, ap, ◌∙◌, subst, arith, append_assoc, append-nil, true≢false, take, drop}
 use Rattle.std.specs.List.{AllByRecursion, list_all, list_any, onto_first}
 use Rattle.std.specs.Char.{is_ascii_alphanumeric, to_ascii_lowercase}
 use Rattle.std.specs.Ordering.{nat_cmp, eq_by_cmp}
 use Rattle.std.proofs.lemmas.Bool.{cases_Bool, cases_lt}
 use Rattle.std.proofs.lemmas.Bool.Decides.{nat_tests}
-use Rattle.iloc_spec_grammar.specs.Syntax.{pieces, Variant, UnicodeKey, Attribute, PrivateSubtag, is_word, IsWord, languages, lower, word_cmp, Identifier, Fields, Unicode, Transform, Extension, unicode, transform, other, identifier_pieces, fields_pieces, unicode_pieces, transform_pieces, extension_pieces, optional_pieces, IsIdentifier, IsUnicode, IsTransform, IsOther, IsPrivate, IsExtension, is_other_singleton, front, blocks, head, tail_blocks, AllDifferent}
+use Rattle.iloc_spec_grammar.specs.Syntax.{pieces, Variant, UnicodeKey, Attribute, PrivateSubtag, is_word, IsWord, languages, Identifier, Fields, Unicode, Transform, Extension, unicode, transform, other, identifier_pieces, fields_pieces, unicode_pieces, transform_pieces, extension_pieces, optional_pieces, IsIdentifier, IsUnicode, IsTransform, IsOther, IsPrivate, IsExtension, is_other_singleton, front, blocks, head, tail_blocks}
 use Rattle.iloc_spec_grammar.specs.Meaning.{InvalidExtension, RepeatsVariant, IsBlock, BlockFault, no_singleton, breaks_rule, FirstBadBlock, here, later, HasFault, bad_block}
 use Rattle.iloc_spec_grammar.proofs.PiecesLaws.{at_pieces}
 use Rattle.iloc_spec_grammar.proofs.ReadBack.{all_append, fields_each}
 use Rattle.iloc_spec_grammar.proofs.ValuesLaws.{all_weaker}
 use Rattle.iloc_spec_grammar.proofs.Readings.{IsLong, after_language, long_after_language}
-use Rattle.iloc_spec_grammar.proofs.Singletons.{no_u, no_x, untied}
+use Rattle.iloc_spec_grammar.proofs.Singletons.{no_t, no_u, no_x, untied}
 use Rattle.iloc_plain.specs.Plain.{IsPlain}
 use Rattle.iloc_plain.specs.declared.plain.Plain.{Plain}
 use Rattle.iloc_fronts.specs.declared.ordered.Ordered.{Ordered}
@@ -22,8 +22,10 @@ use Rattle.iloc_fronts.specs.declared.blocks.Rest.{Rest}
 use Rattle.iloc_fronts.specs.declared.blocks.Rest.TheVariants as rest
 use Rattle.iloc_fronts.specs.declared.body.Body.{Body}
 use Rattle.iloc_fronts.specs.declared.body.Body.TheVariants as body
+use Rattle.iloc_fronts.specs.Transform.{IsTransformPart, IsNoTransform}
+use Rattle.iloc_fronts.proofs.TransformLemmas.{few_different}
 use Rattle.iloc_fronts.proofs.BlockLemmas.{front_past, blocks_past, first_block, private_block}
-use Rattle.iloc_fronts.proofs.PrintedBlocks.{IsGood, good_unicode, good_other, printed_private, printed_none}
+use Rattle.iloc_fronts.proofs.PrintedBlocks.{IsGood, good_unicode, good_transform, good_other, printed_private, printed_none}
 use Rattle.iloc_fronts.proofs.OrderedLemmas.{after, cut_there, rest_is, tail_blocks as printed_tail, tail_variant}
 
 -- ---- singletons that no earlier block has
@@ -233,6 +235,24 @@ module _ (last c len : ℕ) (new : IsNewAfter last (to_ascii_lowercase c)) where
       all_words [] h = refl
       all_words (p ∷ ps) h = rw h.0 (all_words ps h.1)
 
+  pub transform_block : (ps : List (List ℕ)) → to_ascii_lowercase c ≡ 116 → (w : Body) → IsBodyAs IsTransformPart IsNoTransform len ps w → IsBlockAs last (to_ascii_lowercase c) len ((c ∷ []) ∷ ps) w
+  transform_block ps e w h = block_as IsTransformPart IsNoTransform c last len ps less (good_transform c e) bad w h
+    where
+      letter : is_ascii_alphanumeric c ≡ true
+      letter = grind (arith, nat_tests)
+
+      less : last < to_ascii_lowercase c
+      less = above last (to_ascii_lowercase c) (lower_letter c ∙ letter) (omega (arith, e)) new
+
+      bad : IsNoTransform ps → BeginBadly last ((c ∷ []) ∷ ps)
+      bad n = until_next last c letter (inl less) ps (omega (arith, e)) (record {
+        private = λ x. absurd (omega arith);
+        unicode_ = λ u. absurd (omega arith);
+        transform_ = λ _. n.0;
+        other_ = λ o. absurd (no_t (to_ascii_lowercase c) e o);
+        repeats = λ _. n.1;
+      })
+
   pub other_block : (ps : List (List ℕ)) → is_ascii_alphanumeric c ≡ true → to_ascii_lowercase c ≢ 117 → to_ascii_lowercase c ≢ 120 → to_ascii_lowercase c ≢ 116
       → (w : Body) → IsBodyAs AreSubtags IsNoOther len ps w → IsBlockAs last (to_ascii_lowercase c) len ((c ∷ []) ∷ ps) w
   other_block ps letter u x t w h = block_as AreSubtags IsNoOther c last len ps less (good_other c letter u x t) bad w h
@@ -274,11 +294,6 @@ pieces_both (c ∷ s) t = elim (c == 45) as (λ b. cond b ([] ∷ pieces (s ++ 4
   | true ↦ ap (λ l. [] ∷ l) (pieces_both s t)
   | false ↦ ap (onto_first c) (pieces_both s t) ∙ onto_append c s (pieces t)
 ]
-
-few_different : (vs : List (List ℕ)) → length vs ≤ 1 → AllDifferent word_cmp (map lower vs)
-few_different [] l = tt
-few_different (v ∷ []) l = (refl, tt)
-few_different (v ∷ w ∷ vs) l = absurd (omega arith)
 
 more_variants : (l : List ℕ) (s r : Option (List ℕ)) (vs ws : List (List ℕ)) → vs ≡ [] → l ∷ (option_to_list s ++ (option_to_list r ++ ws)) ≡ (l ∷ (option_to_list s ++ (option_to_list r ++ vs))) ++ ws
 more_variants l (Some s) (Some r) vs ws e = ap (λ us. l ∷ s ∷ r ∷ (us ++ ws)) (sym e)

@@ -6,11 +6,11 @@ use Rattle.std.proofs.lemmas.Bool.{cases_lt, cases_Bool, and_parts}
 use Rattle.std.proofs.lemmas.Bool.Decides.{nat_tests}
 use Rattle.std.proofs.lemmas.List.{get_or-take, length-drop, length-take-le, take-take, drop-take}
 use Rattle.std.proofs.lemmas.List.Splits.{slice_split-cons_yes, slice_split-cons_no}
-use Rattle.iloc_spec_grammar.specs.Syntax.{pieces, first_piece, Kind, Attribute, Language, Script, Region, Subtag, UnicodeKey, Variant, PrivateSubtag, is_word, IsWord, is_true, lower, languages}
+use Rattle.iloc_spec_grammar.specs.Syntax.{pieces, first_piece, Kind, Attribute, Language, Script, Region, Subtag, TransformKey, UnicodeKey, Variant, PrivateSubtag, is_word, IsWord, is_true, lower, languages}
 use Rattle.iloc_spec_grammar.specs.Meaning.{normal_values}
 use Rattle.iloc_spec_grammar.specs.Reading.{past, skip_first, starts_block, after_region}
 use Rattle.iloc_spec_grammar.proofs.PiecesLaws.{at_pieces}
-use Rattle.iloc_spec_grammar.proofs.WordsLaws.{length-language, length-script, length-region, length-variant, length-attribute, length-unicode_key}
+use Rattle.iloc_spec_grammar.proofs.WordsLaws.{length-language, length-script, length-region, length-variant, length-attribute, length-unicode_key, length-transform_key}
 use Rattle.iloc_spec_grammar.proofs.RawLaws.{languages_table}
 use Rattle.iloc_fronts.specs.Run.{IsRun, is_hyphen, is_other}
 use Rattle.iloc_fronts.specs.Front.{IsFirst, GoesOnAs, IsFront}
@@ -113,6 +113,9 @@ short_region p h = omega (arith, (length-region p h).1)
 
 pub short_key : IsShort UnicodeKey
 short_key p h = omega (arith, length-unicode_key p h)
+
+pub short_field_key : IsShort TransformKey
+short_field_key p h = omega (arith, length-transform_key p h)
 
 pub short_subtag : IsShort Subtag
 unfolding is_word

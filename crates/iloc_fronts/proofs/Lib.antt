@@ -6,6 +6,7 @@ pub mod BodyLemmas
 pub mod BlockLemmas
 pub mod UnicodeLemmas
 pub mod OtherLemmas
+pub mod TransformLemmas
 pub mod PrintedBlocks
 pub mod OrderedLemmas
 pub mod BadBlocks

@@ -1,5 +1,5 @@
 -- From a block in order, and what is printed after it, to what is printed from it on.
-use Rattle.std.proofs.Common.{inl, inr, suc, ◌≡◌, ◌≢◌, ℕ, ◌+◌, ◌<◌, ◌≤◌, Bool, true, false, cond, List, [], ◌∷◌, ◌++◌, length, map, refl, sym, ap, ◌∙◌, subst, arith, append_assoc, nat_lt, nat_le, flat_map}
+use Rattle.std.proofs.Common.{inl, inr, suc, ◌≡◌, ◌≢◌, ℕ, ◌+◌, ◌<◌, ◌≤◌, Bool, true, false, cond, List, [], ◌∷◌, ◌++◌, length, map, refl, sym, ap, ◌∙◌, subst, arith, append_assoc, nat_lt, nat_le, flat_map, Option, Some, None, IfSome, option_map, is_some, ◌||◌}
 use Rattle.std.specs.Int.{is_in_range}
 use Rattle.std.specs.List.{AllByRecursion}
 use Rattle.std.specs.FinMap.Entries.{below_all}
@@ -9,16 +9,20 @@ use Rattle.std.specs.Char.{is_ascii_alphanumeric, to_ascii_lowercase}
 use Rattle.std.proofs.lemmas.Bool.{and_parts, and_from, lt-ltb, cases_lt}
 use Rattle.std.proofs.lemmas.Bool.Decides.{nat_tests}
 use Rattle.std.proofs.lemmas.List.{map-append}
-use Rattle.iloc_spec_grammar.specs.Syntax.{pieces, Kind, Subtag, UnicodeKey, Attribute, PrivateSubtag, is_word, IsWord, IsExtension, lower, is_true, languages, is_other_singleton, Fields, fields_pieces, kept, Unicode, unicode, other, extension_pieces}
-use Rattle.iloc_spec_grammar.specs.Meaning.{Extensions, IsBlock, no_unicode, no_transform}
-use Rattle.iloc_spec_grammar.specs.Values.{IsNormal, other_spelling, before_t, after_t, extensions_spelling, transform_spelling, private_spelling, IsExtensionsValue, IsUnicodeValue, unicode_spelling}
+use Rattle.iloc_spec_grammar.specs.Syntax.{pieces, Kind, Subtag, UnicodeKey, Attribute, PrivateSubtag, is_word, IsWord, IsExtension, lower, is_true, languages, is_other_singleton, Fields, fields_pieces, kept, Unicode, unicode, other, extension_pieces, Identifier, Transform, transform, HasWords, IsIdentifier, IsField, TransformKey, identifier_pieces, optional_pieces, transform_pieces, title, upper}
+use Rattle.iloc_spec_grammar.specs.Meaning.{Extensions, IsBlock, no_unicode, no_transform, normal_identifier, set_of}
+use Rattle.iloc_spec_grammar.specs.Values.{IsNormal, other_spelling, before_t, after_t, extensions_spelling, transform_spelling, private_spelling, IsExtensionsValue, IsUnicodeValue, unicode_spelling, IsTransformValue, IsIdentifierValue, lower_identifier, spelled_fields, spelled_value}
 use Rattle.iloc_spec_grammar.proofs.PiecesLaws.{at_pieces}
 use Rattle.iloc_spec_grammar.proofs.PartTexts.{unicode_spelling_is, transform_spelling_is, other_spelling_is, private_spelling_is, private_spelling_none}
 use Rattle.iloc_spec_grammar.proofs.RawLaws.{languages_table}
 use Rattle.iloc_spec_grammar.proofs.Readings.{IsLong, long_extension}
 use Rattle.iloc_spec_grammar.proofs.Singletons.{lower_letter}
 use Rattle.iloc_spec_grammar.proofs.ValuesLaws.{all_weaker, filter_all}
-use Rattle.iloc_spec_grammar.proofs.WordsLaws.{length-attribute, lower-lower, is_word-lower}
+use Rattle.iloc_spec_grammar.proofs.WordsLaws.{length-attribute, lower-lower, lower-title, lower-upper, is_word-lower}
+use Rattle.iloc_spec_grammar.proofs.IdentifierTexts.{identifier_means_value}
+use Rattle.iloc_spec_grammar.proofs.Chains.{identifier_pieces-low}
+use Rattle.iloc_fronts.specs.Transform.{AreValues, IsTransformPart}
+use Rattle.iloc_fronts.proofs.TransformLemmas.{few_different}
 use Rattle.iloc_fronts.specs.Blocks.{ArePrinted, AreSubtags, ArePrivate, IsUnicodePart, IsValue, lower_fields}
 
 -- ---- words in lower case
@@ -83,6 +87,12 @@ from_unicode : (e : Extensions) → AllByRecursion (λ o. 116 < o.0) e.others �
 unfolding extensions_spelling
 from_unicode e os t = let n = none_before 116 (omega arith) e.others os in
     (λ j. flat_map other_spelling (n.0 j) ++ ((ap transform_spelling t ∙ no_transform_spelling) j ++ (unicode_spelling e.unicode ++ (flat_map other_spelling (n.1 j) ++ private_spelling e.private))))
+
+-- nothing is printed before `t`
+from_transform : (e : Extensions) → AllByRecursion (λ o. 116 < o.0) e.others → extensions_spelling e ≡ transform_spelling e.transform ++ (unicode_spelling e.unicode ++ last_spelling e)
+unfolding extensions_spelling
+from_transform e os = let n = none_before 116 (omega arith) e.others os in
+    (λ j. flat_map other_spelling (n.0 j) ++ (transform_spelling e.transform ++ (unicode_spelling e.unicode ++ (flat_map other_spelling (n.1 j) ++ private_spelling e.private))))
 
 -- nor `u` itself
 from_others : (e : Extensions) → AllByRecursion (λ o. 116 < o.0) e.others → e.transform ≡ no_transform → e.unicode ≡ no_unicode → extensions_spelling e ≡ last_spelling e
@@ -330,4 +340,119 @@ module _ (c : ℕ) (letter : is_ascii_alphanumeric c ≡ true) (u : to_ascii_low
     long = long_extension languages languages_table low (other ps) is_other;
     block = inr (other ps, is_other, refl);
     printed = other_before;
+  }
+
+-- ---- a block of `t`
+
+-- in lower case an identifier with at most one variant is what its normal form is
+same_lower : (i : Identifier) → length i.variants ≤ 1 → lower_identifier (normal_identifier i) ≡ lower_identifier i
+same_lower i few = λ j. record {
+  language = lower-lower i.language j;
+  script = option_in title lower-title i.script j;
+  region = option_in upper lower-upper i.region j;
+  variants = one i.variants few j;
+}
+  where
+    option_in : (f : List ℕ → List ℕ) → ((p : List ℕ) → lower (f p) ≡ lower p) → (o : Option (List ℕ)) → option_map lower (option_map f o) ≡ option_map lower o
+    option_in f h None = refl
+    option_in f h (Some p) = ap Some (h p)
+
+    one : (vs : List (List ℕ)) → length vs ≤ 1 → map lower (set_of (map lower vs)) ≡ map lower vs
+    one [] l = refl
+    one (v ∷ []) l = ap (λ w. w ∷ []) (lower-lower v)
+    one (v ∷ w ∷ vs) l = absurd (omega arith)
+
+module _ (c : ℕ) (e : to_ascii_lowercase c ≡ 116) (ps : List (List ℕ)) (h : IsTransformPart ps) where
+  abbrev written_t : Transform
+  written_t = record { id = h.id; fields = h.fields }
+
+  abbrev value_t : Transform
+  value_t = record { id = option_map normal_identifier h.id; fields = lower_fields h.fields }
+
+  identifiers : (o : Option Identifier) → IfSome o (λ i. HasWords languages i × (length i.variants ≤ 1)) → IfSome o (IsIdentifier languages)
+  identifiers None k = tt
+  identifiers (Some i) k = record { words = k.0; different = few_different i.variants k.1 }
+
+  is_transform : IsExtension languages (to_ascii_lowercase c) (transform written_t)
+  is_transform = (
+    e,
+    record {
+      id = identifiers h.id h.words;
+      fields = all_weaker (λ f. IsWord TransformKey f.0 × AreValues f.1) IsField (λ f k. (k.0, all_weaker IsValue (IsWord Attribute) (λ w v. v.0) f.1 k.1.each, k.1.some)) h.fields h.each;
+      nonempty = h.some;
+    },
+  )
+
+  id_values : (o : Option Identifier) → IfSome o (IsIdentifier languages) → IfSome (option_map normal_identifier o) (IsIdentifierValue languages)
+  id_values None k = tt
+  id_values (Some i) k = identifier_means_value (identifier_pieces i) (normal_identifier i) (record { written = i; grammatical = k; spelled = refl; means = refl })
+
+  field_values : (ws : List (List ℕ)) → AllByRecursion IsValue ws → AllByRecursion (λ w. IsNormal Attribute w × (is_true w ≡ false)) (map lower ws)
+  field_values [] k = tt
+  field_values (w ∷ ws) k = ((lower_attribute w k.0.0, k.0.1), field_values ws k.1)
+
+  lower_each : (fs : Fields) → AllByRecursion (λ f. IsWord TransformKey f.0 × AreValues f.1) fs
+      → AllByRecursion (λ f. IsNormal TransformKey f.0 × AllByRecursion (λ w. IsNormal Attribute w × (is_true w ≡ false)) f.1) (lower_fields fs)
+  lower_each [] k = tt
+  lower_each (f ∷ fs) k = (((is_word-lower TransformKey f.0 ∙ k.0.0, lower-lower f.0), field_values f.1 k.0.1.each), lower_each fs k.1)
+
+  is_value_t : IsTransformValue languages value_t
+  is_value_t = record { id = id_values h.id (identifiers h.id h.words); fields = lower_each h.fields h.each; keys_ascend = h.ascending }
+
+  spelled_same : (fs : Fields) → AllByRecursion (λ f. IsWord TransformKey f.0 × AreValues f.1) fs → spelled_fields (lower_fields fs) ≡ lower_fields fs
+  spelled_same [] k = refl
+  spelled_same (f ∷ fs) k = λ j. (lower f.0, some f.1 k.0.1.some j) ∷ spelled_same fs k.1 j
+    where
+      some : (vs : List (List ℕ)) → 0 < length vs → spelled_value (map lower vs) ≡ map lower vs
+      some [] l = absurd (omega arith)
+      some (v ∷ vs) l = refl
+
+  lower_id : (o : Option Identifier) → IfSome o (λ i. HasWords languages i × (length i.variants ≤ 1)) → optional_pieces (option_map lower_identifier (option_map normal_identifier o)) ≡ map lower (optional_pieces o)
+  lower_id None k = refl
+  lower_id (Some i) k = ap identifier_pieces (same_lower i k.1) ∙ identifier_pieces-low i
+
+  some_part : (o : Option Identifier) → (o ≡ None → 0 < length h.fields) → (is_some (option_map normal_identifier o) || nat_lt 0 (length (lower_fields h.fields))) ≡ true
+  some_part None n = lt-ltb 0 _ (omega (arith, length_fields h.fields, n refl))
+  some_part (Some i) n = refl
+
+  spelled_t : transform_spelling value_t ≡ (116 ∷ []) ∷ map lower ps
+  spelled_t =
+      transform_spelling_is value_t
+      ∙ ap (λ (b : Bool). cond b ((116 ∷ []) ∷ transform_pieces (record { id = option_map lower_identifier value_t.id; fields = spelled_fields value_t.fields })) []) (some_part h.id h.some)
+      ∙ (λ j. (116 ∷ []) ∷ (lower_id h.id h.words j ++ (ap fields_pieces (spelled_same h.fields h.each) ∙ sym (lower_pieces h.fields)) j))
+      ∙ ap (λ l. (116 ∷ []) ∷ l) (sym (map-append lower (optional_pieces h.id) (fields_pieces h.fields)) ∙ ap (map lower) (sym h.spelled))
+
+  transform_before : (last : ℕ) → last < to_ascii_lowercase c → (rest : List (List ℕ)) → ArePrinted (to_ascii_lowercase c) rest → ArePrinted last ((c ∷ []) ∷ (ps ++ rest))
+  transform_before last less rest r = record {
+    extensions = whole;
+    value = record { unicode = r.value.unicode; transform = is_value_t; private = r.value.private; others = r.value.others };
+    well_formed = record { ascending = r.well_formed.ascending; singletons = r.well_formed.singletons; nonempty = r.well_formed.nonempty; values = r.well_formed.values };
+    above = record { others = weaker_above last (to_ascii_lowercase c) (omega arith) os.others r.above.others; transform = λ l. absurd (omega arith); unicode = λ l. absurd (omega arith) };
+    printed =
+        (λ j. singleton_in_lower c 116 e j ∷ (map-append lower ps rest ∙ ap (λ l. map lower ps ++ l) (r.printed ∙ from_unicode os os_above no_t)) j)
+        ∙ sym (from_transform whole os_above ∙ ap (λ l. l ++ (unicode_spelling os.unicode ++ last_spelling whole)) spelled_t);
+  }
+    where
+      os : Extensions
+      os = r.extensions
+
+      whole : Extensions
+      whole = record { unicode = os.unicode; transform = value_t; private = os.private; others = os.others }
+
+      no_t : os.transform ≡ no_transform
+      no_t = r.above.transform (omega (arith, e))
+
+      os_above : AllByRecursion (λ o. 116 < o.0) os.others
+      os_above = weaker_above 116 (to_ascii_lowercase c) (omega (arith, e)) os.others r.above.others
+
+  letter_116 : is_ascii_alphanumeric c ≡ true
+  letter_116 = grind (arith, nat_tests)
+
+  pub good_transform : IsGood c ps
+  good_transform = record {
+    letter = letter_116;
+    no_x = omega (arith, e);
+    long = subst (AllByRecursion IsLong) (sym h.spelled) (long_extension languages languages_table (to_ascii_lowercase c) (transform written_t) is_transform);
+    block = inr (transform written_t, is_transform, h.spelled);
+    printed = transform_before;
   }

@@ -3,4 +3,5 @@ pub mod Front
 pub mod Left
 pub mod Keyword
 pub mod Blocks
+pub mod Transform
 pub mod Ordered

@@ -1,4 +1,4 @@
--- Lines whose normal text is their own but for the case of letters, and lines whose first block is bad.
+-- Lines whose normal text is their own but for the case of letters, and lines with a bad block.
 use Rattle.std.specs.Prelude.{◌≡◌, ⊤, ℕ, ◌+◌, ◌-◌, ◌<◌, ◌≤◌, List, ◌∷◌, ◌++◌, length, take, drop, get_or}
 use Rattle.std.specs.List.{AllByRecursion}
 use Rattle.iloc_spec_grammar.specs.Syntax.{Text, pieces, Variant, IsWord, languages, lower, Identifier}

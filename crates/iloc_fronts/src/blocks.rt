@@ -7,6 +7,7 @@ ghost use Rattle.iloc_fronts.specs.Blocks.{AreBlocksOf, IsBlockAs, IsNewAfter};
 use crate::body::Body;
 use crate::left::{Left, after_piece};
 use crate::other::{read_other, read_private};
+use crate::transform::read_transform;
 use crate::unicode::read_unicode;
 
 // What some pieces are.
@@ -109,7 +110,7 @@ fn read_block(singleton: u8, left: Left<'_>) -> Body<'_>
     match singleton {
         b'u' => read_unicode(left),
         b'x' => read_private(left),
-        b't' => Body::Other,
+        b't' => read_transform(left),
         _ if !singleton.is_ascii_alphanumeric() => Body::Bad,
         _ => read_other(left),
     }

@@ -6,16 +6,18 @@
 //! first block (`IsKeywordOf`).
 //!
 //! Of a line that begins with a plain identifier `read_varied` and `read_ordered` tell whether what follows
-//! has the order of the normal text: one variant, or that and a block of `u` or another extension, and one of
-//! `x` (`IsVaried`, `IsOrdered`). The normal text is then the line itself but for the case of letters. If the
-//! first block is bad, `read_ordered` tells that: the text has the fault of the grammar.
+//! has the order of the normal text: one variant, or that and blocks of which the singletons ascend, each in its own
+//! order, and one of `x` (`IsVaried`, `IsOrdered`). The normal text is then the line itself but for the case of
+//! letters. If a bad block comes first, or after blocks in order, `read_ordered` tells that: the text has the fault of
+//! the grammar.
 //!
 //! `None`, `Front::Other`, `Keyword::Other` and `Reading::Other` say nothing: the caller parses the text as it
 //! would without this crate. So each caller keeps its own contract, and a shape that is not told here costs time and
 //! nothing else.
 //!
-//! A line is read a piece at a time: sixteen bytes from a piece on tell its length and whether it is a word
-//! (`run`, `words`). docs/ARCHITECTURE.md says how to add a shape.
+//! A line is read a piece at a time (`left`): sixteen bytes from a piece on tell its length and whether it is a word
+//! (`run`, `words`). Each kind of block has a walk of its own (`unicode`, `transform`, `other`), which says where the
+//! next block begins (`blocks`). docs/ARCHITECTURE.md says how to add a shape.
 //!
 //! It stands on the grammar (`iloc_spec_grammar`) and on plain texts (`iloc_plain`).
 #![tactic(auto)]
@@ -28,6 +30,7 @@ mod left;
 pub mod ordered;
 mod other;
 mod run;
+mod transform;
 mod unicode;
 mod words;
 

@@ -1,5 +1,4 @@
-//! Tells lines whose normal text is their own but for the case of letters, and lines whose first block is
-//! bad.
+//! Tells lines whose normal text is their own but for the case of letters, and lines with a bad block.
 ghost use Rattle.std.specs.Prelude.{◌≡◌, ◌+◌, ◌≤◌, IfSome, length, take};
 ghost use Rattle.iloc_fronts.specs.Left.{IsLeft, pieces_of};
 ghost use Rattle.iloc_fronts.specs.Ordered.{IsBefore, IsReading, IsTailOf, IsVaried};
@@ -26,16 +25,16 @@ pub struct Ordered<'a> {
 pub enum Reading<'a> {
     /// In the order of its normal text.
     Ordered(Ordered<'a>),
-    /// An identifier, and then a bad block.
+    /// An identifier, perhaps blocks in order, and then a bad one.
     BadBlock,
     /// Nothing that is told.
     Other,
 }
 
 /// What the first `len` bytes are as a locale, if a plain identifier of `at` bytes comes first and perhaps
-/// one variant. In order are a block of `u` with at most one attribute, ascending keys and no `true`, or a
-/// block of words of another singleton than `t`; and after either perhaps a block of `x`. Of bad blocks the first
-/// is told.
+/// one variant. Blocks are in order if their singletons ascend, and one of `x` comes last: of `u` with
+/// attributes and keys that ascend and no `true`; of `t` with at most one variant, keys that ascend and no
+/// `true`; and of words after another singleton. A bad block is told after such blocks.
 #[inline(always)]
 pub fn read_ordered(window: &[u8], len: usize, at: usize) -> Reading<'_>
     requires { len + 16 ≤ length window.now }

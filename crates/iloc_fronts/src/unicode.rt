@@ -75,10 +75,10 @@ fn read_keywords(left: Left<'_>) -> Body<'_>
         (pieces_of left.entry) result }
 {
     if !is_key(left.window, left.n) {
-        if left.n == 1 {
-            return Body::Next(left);
+        if left.n != 1 {
+            return Body::Bad;
         }
-        return Body::Bad;
+        return Body::Next(left);
     }
     if left.n == left.len {
         return Body::End;

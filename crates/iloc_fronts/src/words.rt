@@ -10,6 +10,7 @@ ghost use Rattle.iloc_spec_grammar.specs.Syntax.{
   Script,
   Subtag,
   UnicodeKey,
+  TransformKey,
   Variant,
   is_true,
   is_word,
@@ -192,4 +193,20 @@ pub(crate) fn number_of_two(window: &[u8]) -> usize
     ensures { result ≡ two_number (take 2 window.now) }
 {
     256 * ((window[0] | 32) as usize) + (window[1] | 32) as usize
+}
+
+// Whether the first `n` bytes are a key of `t`.
+#[inline(always)]
+pub(crate) fn is_field_key(window: &[u8], n: usize) -> bool
+    requires wide { 16 ≤ length window.now }
+    requires few { n ≤ 16 }
+    ensures { result ≡ is_word TransformKey (take n window.now) }
+{
+    if n != 2 {
+        return false;
+    }
+    if !window[0].is_ascii_alphabetic() {
+        return false;
+    }
+    window[1].is_ascii_digit()
 }

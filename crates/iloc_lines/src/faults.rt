@@ -64,15 +64,11 @@ fn told_of_block(mode: Mode, line: &[u8], block: Block<'_>) -> Told
     }
 }
 
-// The same of a locale. Of blocks of `t` only empty ones at the end are told.
+// The same of a locale. So many bytes come before the hyphen after its region.
 #[inline(always)]
 fn told_of_locale(len: usize, block: Block<'_>) -> Told
-    requires { 0 < length block.window.now }
     ensures { (line : Text) → IsTold Mode.Locale line result }
 {
-    if block.len > 1 && block.window[0].to_ascii_lowercase() == b't' {
-        return Told::Nothing;
-    }
     Told::Ordered(len.wrapping_sub(block.tail.wrapping_add(1)))
 }
 

@@ -9,8 +9,8 @@ use Rattle.iloc_fronts.proofs.BodyLemmas.{body_after}
 use Rattle.iloc_fronts.proofs.UnicodeLemmas.{key_begins, window_begins, number_in, key_keywords, follows_none, stranger_after, stranger_left}
 use Rattle.iloc_fronts.proofs.unicode.read_keywords.Goals as goal
 
-pub returns-then-not-is_key : goal.returns-then-not-is_key
-returns-then-not-is_key c = stranger_left c.args.left c.requires.left c.if-left-eq1.false c.requires.none (sym c.is_key.ensures ∙ c.if-not-is_key.true)
+pub returns-then-left-ne1 : goal.returns-then-left-ne1
+returns-then-left-ne1 c = stranger_left c.args.left c.requires.left c.if-left-ne1.true c.requires.none (sym c.is_key.ensures ∙ c.if-not-is_key.true)
 
 pub number_of_two-requires-clause-first : goal.number_of_two-requires-clause-first
 number_of_two-requires-clause-first c =
