@@ -2,8 +2,7 @@
 
 tools/named_mutants.txt says which functions must be refused for each. Only these are checked (edit_only.py).
 Where the crate's library is not there, or its text is newer, they are first checked without an edit. Each
-function of a mutant must be refused for a reason of its own, and by a goal. A fourth word `names` in the list
-says that it may also be refused because its proof file names what the mutant took away."""
+function of a mutant must be refused for a reason of its own, and by a goal."""
 import os
 
 from edit_only import OnlyTrial
@@ -15,13 +14,12 @@ LIST = f"{ROOT}/tools/named_mutants.txt"
 
 
 def listed():
-    """Returns the functions that must be refused, by CRATE/MUTANT, those of which a name that went is enough,
-    and what is wrong with the list."""
-    rows, by_names, wrong = {}, set(), []
+    """Returns the functions that must be refused, by CRATE/MUTANT, and what is wrong with the list."""
+    rows, wrong = {}, []
     for line in read(LIST).decode().splitlines():
         if not line.strip() or line[0] == "#":
             continue
-        name, functions, _, may, *_ = [it.strip() for it in line.split("|")] + [""] * 3
+        name, functions, *_ = [it.strip() for it in line.split("|")] + [""]
         crates = {it.partition("::")[0] for it in functions.split()}
         key = f"{min(crates, default='')}/{name}"
         path = f"{ROOT}/crates/{os.path.dirname(key)}/edits/{name}.edit"
@@ -29,8 +27,7 @@ def listed():
             wrong.append(f"{name}: NOT TRIED: there is no {os.path.relpath(path, ROOT)}, or it is listed twice")
         else:
             rows[key] = tuple(functions.split())
-            by_names.update({key} if may == "names" else ())
-    return rows, by_names, wrong or ([] if rows else [f"{os.path.relpath(LIST, ROOT)} names no mutant"])
+    return rows, wrong or ([] if rows else [f"{os.path.relpath(LIST, ROOT)} names no mutant"])
 
 
 class NamedTrial(OnlyTrial):
