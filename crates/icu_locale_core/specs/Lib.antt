@@ -35,8 +35,8 @@ pub use Rattle.iloc_other.specs.Reading as OtherReading
 pub use Rattle.iloc_keyword_types.specs.Reads as KeywordReads
 pub use Rattle.iloc_unicode.specs.UnicodeValue
 pub use Rattle.iloc_transform.specs.TransformReading
-pub use Rattle.iloc_extensions.specs.ExtensionsValue
-pub use Rattle.iloc_extensions.specs.Retaining
+pub use Rattle.iloc_locale.specs.ExtensionsValue
+pub use Rattle.iloc_locale.specs.Retaining
 pub use Rattle.iloc_locale.specs.LocaleReading
 pub use Rattle.iloc_data.specs.Reads as DataReads
 pub use Rattle.iloc_data.specs.DataValue
@@ -65,7 +65,7 @@ pub use Rattle.iloc_spec_parts.specs.SingleValues
 pub use Rattle.iloc_word_list.specs.Refusals as PreferenceRefusals
 pub use Rattle.iloc_unicode.specs.UnicodeReads
 pub use Rattle.iloc_unicode.specs.Lends as KeywordLends
-pub use Rattle.iloc_extensions.specs.Kinds as ExtensionKinds
+pub use Rattle.iloc_locale.specs.Kinds as ExtensionKinds
 pub use Rattle.iloc_locale.specs.Order as OrderedLocales
 pub use Rattle.iloc_keyword_types.specs.Subdivisions as SubdivisionReads
 pub use Rattle.iloc_keyword_types.specs.Scripts as ScriptReads

@@ -101,7 +101,8 @@ pub mod langid {
 /// All extensions of a locale.
 pub mod extensions {
     pub use crate::together::all_extensions as together;
-    pub use iloc_extensions::{ExtensionType, Extensions, equality, hashes, orders};
+    pub use iloc_locale::extension_laws::{equality, hashes, orders};
+    pub use iloc_locale::{ExtensionType, Extensions};
 
     /// The unicode extension: attributes and keywords.
     pub mod unicode {

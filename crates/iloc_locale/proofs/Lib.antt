@@ -1,3 +1,16 @@
+mod ExtensionsEquality
+mod KeptLemmas
+mod OrderLemmas
+mod SplitLemmas
+mod WellFormedLemmas
+pub mod DoneLaws
+pub mod ArmLaws
+pub mod StepLaws
+pub mod RoundLaws
+pub mod PartAnswers
+pub mod PartLemmas
+pub mod AnswerLemmas
+pub mod PlaceLemmas
 mod EqualityLemmas
 pub mod ReadLemmas
 pub mod NormalLemmas

@@ -24,9 +24,9 @@ use Rattle.iloc_subtags.specs.declared.parse_error.ParseError.TheVariants.{Inval
 use Rattle.iloc_langid.specs.declared.identifier.LanguageIdentifier.{LanguageIdentifier}
 use Rattle.iloc_langid.specs.Reads as langid
 use Rattle.iloc_langid.specs.Reads.{ReadsAs}
-use Rattle.iloc_extensions.specs.ExtensionsValue as extensions
-use Rattle.iloc_extensions.specs.Whole.{BlocksReadAs}
-use Rattle.iloc_extensions.proofs.RoundLaws.{blocks-from_block}
+use Rattle.iloc_locale.specs.ExtensionsValue as extensions
+use Rattle.iloc_locale.specs.Whole.{BlocksReadAs}
+use Rattle.iloc_locale.proofs.RoundLaws.{blocks-from_block}
 use Rattle.iloc_locale.specs.declared.locale.Locale.{Locale}
 use Rattle.iloc_locale.specs.LocaleReading.{value_of, unknown_locale, WantsMemory, RunsOutOnlyIf, LocaleReads, LocaleReadsAs}
 use Rattle.iloc_subtags.specs.Judging.{Accepts, Refuses}

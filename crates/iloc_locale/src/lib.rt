@@ -10,8 +10,19 @@
 //! since only their texts parse back. `normalizing_eq` is `true` exactly if the text is accepted and means this value;
 //! that of a locale no text means is `false`.
 //!
-//! It stands on the public contracts of the identifiers (`iloc_langid`), the extensions (`iloc_extensions`),
-//! their parser (`iloc_extensions`) and the laws of the grammar (`iloc_spec_grammar`).
+//! Of extensions it promises that emptiness, the order and the printed text are those of the definitions, for every
+//! value, also for one that no text means. `retain_by_type` asks each part in turn, and clears those that are not to be
+//! kept. `is_well_formed` is exactly the definition, whether the text parses back: the other extensions ascend strictly
+//! by singletons of their own, each with a word, and no value of a keyword holds `true` or a subtag of two characters.
+//! The identifier of a locale has no part in it.
+//!
+//! `read_blocks` parses what follows a locale's head, from one singleton to the next. What is parsed is what the blocks
+//! mean together. A text is refused with the fault of its first bad block. Short blocks allocate nothing: of `u` with
+//! few words, of `t` with few variants and no field, of `x` with few words. It composes the parsers of the parts by
+//! their public contracts alone, each of which leaves exactly what follows its block.
+//!
+//! It stands on the public contracts of the identifiers (`iloc_langid`) and of the parts of extensions (`iloc_unicode`,
+//! `iloc_transform`, `iloc_other`), and on the laws of the grammar (`iloc_spec_grammar`).
 #![tactic(auto)]
 
 ghost use Rattle.std.specs.Prelude.{◌≡◌, ◌↔◌, IsTrue};
@@ -22,22 +33,36 @@ ghost use Rattle.iloc_locale.specs.LocaleReading.{WantsMemory, IsTextOf, Normali
 
 use std::hash::Hash;
 
+pub mod blocks;
 pub mod comparing;
 pub mod conversions;
+pub mod extension_laws;
+pub mod extension_type;
+pub mod extensions;
+pub mod extensions_text;
+mod kept;
 pub mod locale;
 pub mod normalizing;
 pub mod ordered;
+mod others;
 pub mod printing;
+mod taking;
+pub mod turning;
+pub mod well_formed;
 
+pub use blocks::read_blocks;
+pub use extension_type::ExtensionType;
+pub use extensions::Extensions;
 pub use locale::Locale;
 pub use ordered::OrderedLocale;
+pub use well_formed::is_well_formed;
 
 /// `==` tells whether two locales stand for the same.
 pub fn equality()
     ensures { (l m : Locale) → IsTrue (⟦<Locale as PartialEq>⟧.eq l m) ↔ (value_of l ≡ value_of m) }
 {
     iloc_langid::equality();
-    iloc_extensions::equality();
+    extension_laws::equality();
 }
 
 /// Memory is wanted only after a language. A text that is inline wants none to be parsed; one that is its own

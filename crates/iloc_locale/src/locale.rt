@@ -10,7 +10,7 @@ ghost use Rattle.iloc_subtags.specs.Left.{left};
 ghost use Rattle.iloc_langid.specs.Reads as langid;
 ghost use Rattle.iloc_locale.specs.LocaleReading.{value_of, unknown_locale, LocaleReadsAs};
 
-use iloc_extensions::{Extensions, read_blocks};
+use crate::{Extensions, read_blocks};
 use iloc_langid::LanguageIdentifier;
 use iloc_langid::reader::fill_head;
 use iloc_subtags::{ParseError, SubtagIterator};
@@ -35,7 +35,7 @@ pub struct Locale {
 }
 
 impl Locale {
-    ghost use Rattle.iloc_extensions.specs.ExtensionsValue as extensions;
+    ghost use Rattle.iloc_locale.specs.ExtensionsValue as extensions;
     ghost use Rattle.iloc_spec_grammar.specs.Meaning.{no_extensions};
     ghost use Rattle.iloc_locale.specs.LocaleReading.{LocaleReads, RunsOutOnlyIf, WantsMemory};
     ghost use Rattle.iloc_subtags.specs.Judging.{Accepts, Refuses};

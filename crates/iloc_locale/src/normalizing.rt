@@ -10,8 +10,8 @@ ghost use Rattle.iloc_spec_parts.specs.Small.{SmallLocale, IsSmall, HasSmallFaul
 ghost use Rattle.iloc_subtags.specs.Judging.{Refusal, Accepts, Refuses};
 ghost use Rattle.iloc_langid.specs.SmallLocaleReads.{SmallLocaleReadsAs, small_locale_of};
 
+use crate::is_well_formed;
 use crate::locale::Locale;
-use iloc_extensions::is_well_formed;
 use iloc_langid::{normalize_plain, read_small_locale};
 use iloc_subtags::{Language, ParseError, Region, Script, Subtag, UnicodeKey, Variant};
 use iloc_writeable::to_string_or_borrow;

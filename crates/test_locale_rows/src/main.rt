@@ -26,10 +26,9 @@ mod refusals;
 mod texts;
 
 use iloc_data::DataLocale;
-use iloc_extensions::Extensions;
 use iloc_keyword_types::SubdivisionId;
 use iloc_langid::LanguageIdentifier;
-use iloc_locale::Locale;
+use iloc_locale::{Extensions, Locale};
 use std::io;
 use test_page::told::{answer, told};
 use test_page::{Ask, Asking, Call, Judged, page, say};

@@ -1,6 +1,6 @@
 use Rattle.std.proofs.Common.{List, ℕ, subst}
-use Rattle.iloc_extensions.specs.ExtensionsValue.{value_of}
-use Rattle.iloc_extensions.specs.Whole.{BlocksReadAs}
+use Rattle.iloc_locale.specs.ExtensionsValue.{value_of}
+use Rattle.iloc_locale.specs.Whole.{BlocksReadAs}
 use Rattle.iloc_locale.proofs.ReadLemmas.{blocks_read}
 use Rattle.iloc_locale.proofs.locale.read_rest.Goals as goal
 

@@ -4,8 +4,8 @@ use Rattle.iloc_spec_grammar.specs.Syntax.{head}
 use Rattle.iloc_spec_grammar.specs.Reading.{starts_block, after_head}
 use Rattle.iloc_subtags.specs.Left.{left}
 use Rattle.iloc_langid.specs.Reads.{ReadsAs}
-use Rattle.iloc_extensions.specs.ExtensionsValue.{value_of}
-use Rattle.iloc_extensions.specs.Whole.{BlocksReadAs}
+use Rattle.iloc_locale.specs.ExtensionsValue.{value_of}
+use Rattle.iloc_locale.specs.Whole.{BlocksReadAs}
 use Rattle.iloc_locale.proofs.ReadLemmas.{after_head_starts, head_refused, blocks_read}
 use Rattle.iloc_locale.proofs.locale.Locale.fill.Goals as goal
 

@@ -1,6 +1,6 @@
 use Rattle.std.proofs.Common.{◌≡◌, List, ℕ, IfSome, sym, subst}
 use Rattle.iloc_langid.specs.Reads as langid
-use Rattle.iloc_extensions.specs.ExtensionsValue as extensions
+use Rattle.iloc_locale.specs.ExtensionsValue as extensions
 use Rattle.iloc_locale.proofs.NormalLemmas.{text_alone}
 use Rattle.iloc_locale.proofs.printing.LocaleWriteable.writeable_borrow.Goals as goal
 

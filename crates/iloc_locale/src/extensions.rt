@@ -1,0 +1,111 @@
+//! All extensions of a locale.
+ghost use Rattle.std.specs.Prelude.{◌≡◌, ◌↔◌, IsTrue};
+ghost use Rattle.iloc_spec_parts.specs.Orders.{extensions_cmp};
+ghost use Rattle.iloc_unicode.specs.UnicodeValue as unicode_value;
+ghost use Rattle.iloc_locale.specs.Retaining.{RetainsByType};
+
+use crate::extension_type::ExtensionType;
+use iloc_other::{Other, Private};
+use iloc_transform::Transform;
+use iloc_unicode::Unicode;
+use std::alloc::Global;
+use std::cmp::Ordering;
+
+/// All extensions of a locale. Fields can be set to what no text means.
+#[derive(Drop, Debug, Clone, PartialEq, Eq, Hash)]
+pub struct Extensions {
+    /// The unicode extension, `u`.
+    pub unicode: Unicode,
+    /// The transform extension, `t`.
+    pub transform: Transform,
+    /// The private extension, `x`.
+    pub private: Private,
+    /// The other extensions, by their singletons.
+    pub other: Vec<Other>,
+}
+
+impl Extensions {
+    ghost use Rattle.iloc_spec_grammar.specs.Meaning.{just_unicode, no_extensions};
+    ghost use Rattle.iloc_locale.specs.ExtensionsValue.{value_of};
+
+    /// No extension.
+    pub fn new(alloc: Global) -> Self
+        ensures { value_of result ≡ no_extensions }
+    {
+        Extensions::from_unicode(alloc, Unicode::new())
+    }
+
+    /// This unicode extension, and all else empty.
+    pub fn from_unicode(alloc: Global, unicode: Unicode) -> Self
+        ensures { value_of result ≡ just_unicode (unicode_value.value_of unicode) }
+    {
+        Extensions {
+            unicode,
+            transform: Transform::new(alloc),
+            private: Private::new(),
+            other: Vec::new(alloc),
+        }
+    }
+
+    /// Whether all four parts are empty. An other extension counts as there, also without subtags.
+    pub fn is_empty(&self) -> bool
+        ensures { IsTrue result ↔ (value_of self.now ≡ no_extensions) }
+    {
+        self.unicode.is_empty()
+            && self.transform.is_empty()
+            && self.private.is_empty()
+            && self.other.is_empty()
+    }
+
+    /// Empties all four parts.
+    #[inline(always)]
+    pub fn clear(&mut self)
+        ensures { value_of self.new ≡ no_extensions }
+    {
+        if self.is_empty() {
+            return;
+        }
+        self.unicode.clear();
+        self.transform.clear();
+        self.private.clear();
+        self.other.clear();
+    }
+
+    /// The order by unicode, transform, private as a short list, and then the others one by one.
+    pub fn total_cmp(&self, other: &Self) -> Ordering
+        ensures { result ≡ extensions_cmp (value_of self.now) (value_of other.now) }
+    {
+        self.unicode
+            .total_cmp(&other.unicode)
+            .then_with(|| self.transform.total_cmp(&other.transform))
+            .then_with(|| self.private.cmp(&other.private))
+            .then_with(|| self.other.as_slice().cmp(other.other.as_slice()))
+    }
+
+    /// Clears the extensions for which `predicate` returns `false`.
+    ///
+    /// It is asked of the unicode extension, of the transform, of the private one and of each other
+    /// in list order, once each, also of empty ones.
+    pub fn retain_by_type<F: FnMut(ExtensionType) -> bool + Drop>(&mut self, mut predicate: F)
+        requires { F.IsAlwaysCallable predicate }
+        ensures { RetainsByType F.step predicate (value_of self.old) (value_of self.new) }
+    {
+        if !predicate(ExtensionType::Unicode) {
+            self.unicode.clear();
+        }
+        if !predicate(ExtensionType::Transform) {
+            self.transform.clear();
+        }
+        if !predicate(ExtensionType::Private) {
+            self.private.clear();
+        }
+        self.other.retain(
+            move |other: &Other| -> bool
+                requires { F.IsAlwaysCallable predicate }
+                ensures asked { F.step predicate.entry (ExtensionType.Other other.now.0) result
+                    predicate.exit }
+                ensures callable { F.IsAlwaysCallable predicate.exit }
+            { predicate(ExtensionType::Other(other.get_ext_byte())) },
+        );
+    }
+}

@@ -1,0 +1,85 @@
+//! Prints extensions.
+ghost use Rattle.std.specs.Prelude.{◌≡◌, Some};
+ghost use Rattle.iloc_spec_grammar.specs.Values.{
+  extensions_spelling,
+  extensions_text,
+  before_t,
+  after_t,
+};
+
+use crate::extensions::Extensions;
+use iloc_other::{Other, Private};
+use iloc_transform::Transform;
+use iloc_unicode::Unicode;
+use iloc_writeable::{Pieces, Sink, Writeable};
+use std::fmt;
+
+impl Extensions {
+    // The parts in the order in which they are printed.
+    fn parts(&self) -> (&[Other], &Transform, &Unicode, &[Other], &Private)
+        ensures before { result.0.now ≡ before_t self.now.other.items }
+        ensures transform { result.1.now ≡ self.now.transform }
+        ensures unicode { result.2.now ≡ self.now.unicode }
+        ensures after { result.3.now ≡ after_t self.now.other.items }
+        ensures private { result.4.now ≡ self.now.private }
+    {
+        let (before, after) = split_after_t(&self.other);
+        (before, &self.transform, &self.unicode, after, &self.private)
+    }
+}
+
+/// The pieces are those of the others up to the first singleton above `t`, of the transform, of the
+/// unicode extension, of the remaining others, and of the private extension.
+impl Pieces for Extensions {
+    ghost use Rattle.iloc_locale.specs.ExtensionsValue.{value_of};
+
+    ghost pieces = { λ e. extensions_spelling (value_of e) };
+
+    #[tactic(auto, unfolding(iloc_spec_grammar::specs::Values::extensions_spelling))]
+    fn has_pieces(&self) -> bool {
+        self.parts().has_pieces()
+    }
+
+    #[tactic(auto, unfolding(iloc_spec_grammar::specs::Values::extensions_spelling))]
+    fn write_pieces<S: Sink>(&self, sink: &mut S, first: bool) -> fmt::Result {
+        if self.is_empty() {
+            return Ok(());
+        }
+        self.parts().write_pieces(sink, first)
+    }
+}
+
+/// Prints the pieces with a hyphen between each two.
+impl Writeable for Extensions {
+    ghost use Rattle.iloc_locale.specs.ExtensionsValue.{value_of};
+
+    ghost text = { λ e. extensions_text (value_of e) };
+
+    #[tactic(auto, unfolding(iloc_spec_grammar::specs::Values::extensions_text, iloc_spec_grammar::specs::Syntax::join))]
+    fn write_to<S: Sink>(&self, sink: &mut S) -> fmt::Result {
+        self.write_joined(sink)
+    }
+
+    fn writeable_borrow(&self) -> Option<&str> {
+        None
+    }
+}
+
+impl fmt::Display for Extensions {
+    ghost use Rattle.iloc_locale.specs.ExtensionsValue.{value_of};
+
+    ghost output = { λ e. Some (extensions_text (value_of e)) };
+
+    fn fmt<W: fmt::Write>(&self, f: &mut fmt::Formatter<W>) -> fmt::Result {
+        self.write_to(f)
+    }
+}
+
+// The others up to the first singleton above `t`, and the remaining ones.
+fn split_after_t(others: &[Other]) -> (&[Other], &[Other])
+    ensures before { result.0.now ≡ before_t others.now }
+    ensures after { result.1.now ≡ after_t others.now }
+{
+    let above = others.iter().position(|other| other.get_ext_byte() > b't');
+    others.split_at(above.unwrap_or(others.len()))
+}

@@ -1,0 +1,34 @@
+//! The others, in order.
+ghost use Rattle.std.specs.Prelude.{◌≡◌, ◌==◌, false, OnOk, IfErr};
+ghost use Rattle.std.specs.FinMap.{put};
+ghost use Rattle.std.specs.List.{list_any};
+ghost use Rattle.std.specs.Ordering.{nat_cmp};
+ghost use Rattle.iloc_locale.specs.Place.{place};
+
+use iloc_other::Other;
+use iloc_subtags::ParseError;
+
+/// Whether one of the others has this singleton.
+pub(crate) fn has_other(others: &[Other], ext: u8) -> bool
+    ensures { result ≡ list_any (λ o. o.0 == ext) others.now }
+{
+    others.iter().any(|other| other.get_ext_byte() == ext)
+}
+
+// How many of the others, which ascend, stand before this singleton.
+fn place_of(others: &[Other], ext: u8) -> usize
+    ensures { result ≡ place ext others.now }
+{
+    let above = others.iter().position(|other| ext < other.get_ext_byte());
+    above.unwrap_or(others.len())
+}
+
+/// Puts an extension among the others, which have none of its singleton.
+pub(crate) fn insert_other(others: &mut Vec<Other>, other: Other) -> Result<(), ParseError>
+    requires { list_any (λ o. o.0 == other.0) others.old.items ≡ false }
+    ensures ok { OnOk result (others.new.items ≡ put nat_cmp other.0 other.1 others.old.items) }
+    ensures err { IfErr result (λ e. e ≡ ParseError.OutOfMemory) }
+{
+    let place = place_of(others, other.get_ext_byte());
+    Ok(others.insert(place, other)?)
+}
