@@ -3,7 +3,8 @@ use iloc_data_parts::DataParts;
 use iloc_langid::LanguageIdentifier;
 use iloc_langid::reader::{fill_head, fill_whole};
 use iloc_lines::{Answers, Mode, ReplyBlock, write_refusal, write_text};
-use iloc_locale::{Locale, locale::read_rest};
+use iloc_locale::Locale;
+use iloc_locale::locale::read_rest;
 use iloc_subtags::SubtagIterator;
 use std::alloc::{AllocError, Global};
 
