@@ -98,11 +98,12 @@ enum {
  * allocates only if it has
  *
  *  - more than four variants, before or after t;
- *  - more than four attributes, one keyword, or four values of a keyword;
+ *  - more than four attributes, more than one keyword, or more than four values of a keyword;
  *  - more than four subtags after x;
  *  - a field after t, or an extension other than t, u and x.
  *
- * Only a call that allocates can end with OUT_OF_MEMORY. */
+ * icu_locale_normalizing_eq and icu_locale_compare can also allocate for the other text: they say when. Only a call that
+ * allocates can end with OUT_OF_MEMORY. */
 
 /* Writes the normal form of the text to the front of the buffer, and its length to *needed.
  *
