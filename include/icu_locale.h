@@ -1,24 +1,30 @@
 /* Unicode locale identifiers, such as en-US-u-ca-buddhist: normalized, checked and compared as texts, or held as
  * icu_locale_t, with parts to read and to change.
  *
+ *     uint8_t buffer[64];
+ *     size_t needed;
+ *     if (icu_locale_normalize(ICU_LOCALE_LOCALE, text, length, buffer, sizeof buffer, &needed) == ICU_LOCALE_DONE)
+ *         fwrite(buffer, 1, needed, stdout);
+ *
  * Every function of the library is proved to meet its contract, if its caller keeps what this page asks. The proofs
- * cover no caller. What a text means, and why another is refused, stands in docs/DEFINITIONS.md. The library is for
- * Linux on x86-64, on any processor of that kind, and is linked as libicu_locale.a or libicu_locale.so
- * (`bindings/build` makes both; docs/BINDINGS.md shows a whole program).
+ * cover no caller. docs/DEFINITIONS.md says what a text means, and why another is refused. The library is for Linux on
+ * any x86-64 processor. It is linked as libicu_locale.a or libicu_locale.so: `bindings/build` makes both, and
+ * docs/BINDINGS.md shows more of a program.
  *
  * A text is a pointer to bytes and their number. The bytes need no encoding and no closing zero. If the number is 0,
  * the pointer may be null: the text is empty. The same holds of a buffer and its room. This is tested at each call, by
  * bindings/c/nothing.c, and not proved: the proofs speak of pointers that are not null.
  *
- * The code uses no instruction of SSE3 or later, unless it was made for a newer processor (`bindings/build --cpu`). It has
- * no unwind tables, because the toolchain writes none: a backtrace stops in a call, and no exception passes through one.
+ * The code uses no instruction of SSE3 or later, unless it was made for a newer processor (`bindings/build --cpu`). It
+ * has no unwind tables, because the toolchain writes none: a backtrace stops in a call, and no exception passes through
+ * one.
  *
  * Each function returns, ends no program and keeps nothing from one call to the next. Any number of threads may call
  * at the same time. The library promises no answer if the program breaks one of these rules:
  *
  *  - A pointer is valid for the bytes that the number beside it gives. Out-pointers (needed, order, same) are not
  *    null, and are aligned as C aligns their type.
- *  - A call writes to its buffer and out-pointers. None of them overlaps another argument: a text is not normalized
+ *  - A call writes to its buffer and out-pointers. None of them overlaps another argument: a text cannot be normalized
  *    in place. Two texts that are only read may overlap, or be the same.
  *  - While a call runs, no other thread changes the bytes that it reads, or reads or changes what it writes.
  *  - A buffer and an out-pointer may be uninitialized: their old bytes change no answer.
@@ -53,7 +59,8 @@
 extern "C" {
 #endif
 
-/* Changes whenever a declaration here changes. icu_locale_version gives that of the library that is linked or loaded. */
+/* Changes whenever a declaration here changes. icu_locale_version() gives the number of the header that the library was
+ * made for. */
 #define ICU_LOCALE_VERSION 4
 
 /* How a text is parsed. Any other number is refused with ICU_LOCALE_UNKNOWN_NUMBER. */
@@ -78,19 +85,25 @@ enum {
     ICU_LOCALE_NOT_FOUND = 8             /* the locale has no such part */
 };
 
-/* Of which region a data locale is. Any other number is refused with ICU_LOCALE_UNKNOWN_NUMBER. */
+/* Which region a data locale has. Any other number is refused with ICU_LOCALE_UNKNOWN_NUMBER. */
 typedef uint32_t icu_locale_priority;
 enum {
-    ICU_LOCALE_BY_LANGUAGE = 0, /* of the locale's own region and its keyword sd */
-    ICU_LOCALE_BY_REGION = 1    /* of the keyword rg if it is there and readable, and else as by language */
+    ICU_LOCALE_BY_LANGUAGE = 0, /* the locale's own region, with its keyword sd */
+    ICU_LOCALE_BY_REGION = 1    /* that of the keyword rg if it is there and readable, and else as by language */
 };
 
 /* Texts. These calls take a text and keep nothing.
  *
  * Memory. Data locales never allocate. An identifier allocates only if it has more than four variants. A locale
- * allocates only if it has more than four variants (before or after t), four attributes, one keyword, four values of a
- * keyword, or four subtags after x; or if it has a field after t, or an extension other than t, u and x. Only a call
- * that allocates can end with OUT_OF_MEMORY. */
+ * allocates only if it has
+ *
+ *  - more than four variants, before or after t;
+ *  - more than four attributes, more than one keyword, or more than four values of a keyword;
+ *  - more than four subtags after x;
+ *  - a field after t, or an extension other than t, u and x.
+ *
+ * icu_locale_normalizing_eq and icu_locale_compare can also allocate for the other text: they say when. Only a call that
+ * allocates can end with OUT_OF_MEMORY. */
 
 /* Writes the normal form of the text to the front of the buffer, and its length to *needed.
  *
@@ -98,8 +111,8 @@ enum {
  *     BUFFER_TOO_SMALL   the buffer is as before, and *needed is the room that the normal form needs
  *     any other status   the buffer is as before, and *needed is 0
  *
- * The normal form of an identifier or a locale is never longer than its text, so that a buffer of that length fits at
- * the first call. That of a data locale can be longer by the region that its subdivision names, at most 4 bytes:
+ * The normal form of an identifier or a locale is never longer than its text: a buffer of the text's length is enough.
+ * The normal form of a data locale can be longer by the region that its subdivision names, at most 4 bytes:
  * und-u-sd-419a gives und-419-u-sd-419a. */
 ICU_LOCALE_WRITES(6) ICU_LOCALE_TELLS
 icu_locale_status icu_locale_normalize(icu_locale_mode mode, const uint8_t *text, size_t length,
@@ -110,29 +123,29 @@ extern ICU_LOCALE_TELLS
 icu_locale_status icu_locale_check(icu_locale_mode mode, const uint8_t *text, size_t length)
     ICU_LOCALE_NOEXCEPT;
 
-/* Writes -1, 0 or 1 to *order: the byte order of the text's normal form against other bytes, as they stand. If the
- * text is refused, *order is as before. */
+/* Writes -1, 0 or 1 to *order: the byte order of the text's normal form against other bytes. The other bytes are not
+ * normalized. If the text is refused, *order is as before. */
 ICU_LOCALE_WRITES(6) ICU_LOCALE_TELLS
 icu_locale_status icu_locale_strict_cmp(icu_locale_mode mode, const uint8_t *text, size_t length,
     const uint8_t *other, size_t other_length, int8_t *order) ICU_LOCALE_NOEXCEPT;
 
-/* Writes 1 to *same if both texts have the same meaning, and 0 if the other has another meaning or none. If the text
- * is refused, *same is as before. OUT_OF_MEMORY can be of either text, any other refusal is of the first. Allocates
- * also if the other is a data locale that is not in its normal form. */
+/* Writes 1 to *same if both texts have the same meaning, and 0 if the other has another meaning or none. If the first
+ * text is refused, *same is as before. OUT_OF_MEMORY can come from either text, any other refusal from the first alone.
+ * Allocates also if the other is a data locale that is not in its normal form. */
 ICU_LOCALE_WRITES(6) ICU_LOCALE_TELLS
 icu_locale_status icu_locale_normalizing_eq(icu_locale_mode mode, const uint8_t *text,
     size_t length, const uint8_t *other, size_t other_length, uint8_t *same) ICU_LOCALE_NOEXCEPT;
 
-/* Writes -1, 0 or 1 to *order: the byte order of the normal forms of both texts. A refusal is of the first text, or
- * of the other if the first has a meaning; *order is then as before. Allocates also if the other text is not in its
- * normal form. */
+/* Writes -1, 0 or 1 to *order: the byte order of the normal forms of both texts. A refusal is that of the first text,
+ * or if the first has a meaning, that of the other. *order is then as before. Allocates also if the other text is not
+ * in its normal form. */
 ICU_LOCALE_WRITES(6) ICU_LOCALE_TELLS
 icu_locale_status icu_locale_compare(icu_locale_mode mode, const uint8_t *text, size_t length,
     const uint8_t *other, size_t other_length, int8_t *order) ICU_LOCALE_NOEXCEPT;
 
-/* Writes the words of a status, such as "Invalid subtag", to the front of the buffer, and their length to *needed,
- * with the statuses of icu_locale_normalize. 64 bytes always fit, so its status may be ignored: only a number that is
- * no status has no words, and *needed is then 0. */
+/* Writes the words of a status, such as "Invalid subtag", to the front of the buffer, and their length to *needed. It
+ * ends with the statuses of icu_locale_normalize. A buffer of 64 bytes is always enough, so its status may be ignored.
+ * Only a number that is no status has no words: *needed is then 0. */
 ICU_LOCALE_WRITES(4)
 icu_locale_status icu_locale_words(icu_locale_status status, uint8_t *buffer, size_t room,
     size_t *needed) ICU_LOCALE_NOEXCEPT;
@@ -145,15 +158,15 @@ icu_locale_status icu_locale_words(icu_locale_status status, uint8_t *buffer, si
  *         status = icu_locale_set_region(&locale, (const uint8_t *)"GB", 2);
  *     icu_locale_free(&locale);
  *
- * A handle starts as {0} and then stands for und, the unknown locale. Every call takes it so. Whenever a handle stands
- * for und after a call that may change it, it is {0} again and owns no memory. Any other handle owns memory until
- * icu_locale_free. These rules come on top of those above:
+ * A handle starts as {0} and then stands for und, the unknown locale. Every call accepts such a handle. Whenever a
+ * handle stands for und after a call that may change it, it is {0} again and owns no memory. Any other handle owns
+ * memory until icu_locale_free. These rules come on top of those above:
  *
  *  - Only the calls of this header write a handle, and only they read or write what it points to. It is not copied by
  *    = or memcpy: use icu_locale_copy. It may be moved to another place if the old one is no longer used.
- *  - A call has its handles for itself, also a call that only reads: no other call uses them at the same time, in any
- *    thread. Two handles of one call are not the same handle. A handle may go to another thread if a lock, the start
- *    or end of a thread, or a sequentially consistent atomic orders that.
+ *  - During a call, also one that only reads, no other call uses its handles, in any thread. Two handles of one call
+ *    are not the same handle. A handle may go to another thread if a lock, the start or end of a thread, or a
+ *    sequentially consistent atomic orders that.
  *  - The pointer of a handle is not null. A handle is aligned as C aligns icu_locale_t, and overlaps no other argument.
  *
  * A call that changes a handle ends in one of three ways. DONE: the locale has changed as the call says. A refusal:
@@ -183,8 +196,8 @@ void icu_locale_free(icu_locale_t *locale) ICU_LOCALE_NOEXCEPT;
 ICU_LOCALE_TAKES(1) ICU_LOCALE_TELLS
 bool icu_locale_is_und(icu_locale_t *locale) ICU_LOCALE_NOEXCEPT;
 
-/* Whether the text of the locale has this locale as its meaning. It has for each locale that was parsed. It has not,
- * for example, once a keyword was set to a value with a subtag of two characters, which would be parsed as a key. */
+/* Whether the text of the locale has this locale as its meaning. True for each locale that was parsed. False, for
+ * example, once a keyword was set to a value with a subtag of two characters, which would be parsed as a key. */
 ICU_LOCALE_TAKES(1) ICU_LOCALE_TELLS
 bool icu_locale_is_well_formed(icu_locale_t *locale) ICU_LOCALE_NOEXCEPT;
 
@@ -196,18 +209,18 @@ int8_t icu_locale_cmp(icu_locale_t *locale, icu_locale_t *other) ICU_LOCALE_NOEX
 ICU_LOCALE_TAKES(1, 2) ICU_LOCALE_TELLS
 bool icu_locale_eq(icu_locale_t *locale, icu_locale_t *other) ICU_LOCALE_NOEXCEPT;
 
-/* The byte order of the normal form of the locale against other bytes, as they stand: -1, 0 or 1. */
+/* The byte order of the normal form of the locale against other bytes, which are not normalized: -1, 0 or 1. */
 ICU_LOCALE_TAKES(1) ICU_LOCALE_TELLS
 int8_t icu_locale_cmp_bytes(icu_locale_t *locale, const uint8_t *other, size_t length) ICU_LOCALE_NOEXCEPT;
 
 /* Writes 1 to *same if the text means this locale, and else 0. Ends with DONE, or with OUT_OF_MEMORY if parsing the
- * text does: *same is then as before. */
+ * text runs out of memory: *same is then as before. */
 ICU_LOCALE_TAKES(1, 4) ICU_LOCALE_TELLS
 icu_locale_status icu_locale_eq_text(icu_locale_t *locale, const uint8_t *text, size_t length, uint8_t *same)
     ICU_LOCALE_NOEXCEPT;
 
-/* A number of 64 bits that depends on the normal form alone, so that equal locales have equal numbers: FNV-1a of its
- * bytes. It withstands no one who chooses locales in order to have them collide. */
+/* A number of 64 bits: FNV-1a of the bytes of the normal form. Equal locales have equal numbers. It is no protection
+ * against someone who chooses locales so that their numbers collide. */
 ICU_LOCALE_TAKES(1) ICU_LOCALE_TELLS
 uint64_t icu_locale_hash(icu_locale_t *locale) ICU_LOCALE_NOEXCEPT;
 
@@ -262,8 +275,8 @@ icu_locale_status icu_locale_get_variant(icu_locale_t *locale, size_t index, uin
 ICU_LOCALE_TAKES(1) ICU_LOCALE_TELLS
 bool icu_locale_has_variant(icu_locale_t *locale, const uint8_t *text, size_t length) ICU_LOCALE_NOEXCEPT;
 
-/* Adds a variant, in any case; one that is there stays. A text that is no variant is refused with INVALID_SUBTAG.
- * Allocates only if there are four variants or more. */
+/* Adds a variant, in any case; one that is there already stays. A text that is no variant is refused with
+ * INVALID_SUBTAG. Allocates only if there are four variants or more. */
 ICU_LOCALE_TAKES(1) ICU_LOCALE_TELLS
 icu_locale_status icu_locale_add_variant(icu_locale_t *locale, const uint8_t *text, size_t length)
     ICU_LOCALE_NOEXCEPT;
@@ -277,8 +290,8 @@ icu_locale_status icu_locale_remove_variant(icu_locale_t *locale, const uint8_t 
 ICU_LOCALE_TAKES(1) ICU_LOCALE_TELLS
 icu_locale_status icu_locale_clear_variants(icu_locale_t *locale) ICU_LOCALE_NOEXCEPT;
 
-/* Keywords of the extension u, by ascending key: how many there are, and key and value at an index, or NOT_FOUND. The
- * value of a keyword that is only there, such as kn in en-u-kn, is an empty text. */
+/* Keywords of the extension u, by ascending key: how many there are, and the key and the value at an index, or
+ * NOT_FOUND. The value of a key that stands alone, such as kn in en-u-kn, is an empty text. */
 ICU_LOCALE_TAKES(1) ICU_LOCALE_TELLS
 size_t icu_locale_keyword_count(icu_locale_t *locale) ICU_LOCALE_NOEXCEPT;
 ICU_LOCALE_TAKES(1, 5) ICU_LOCALE_TELLS
@@ -294,9 +307,10 @@ ICU_LOCALE_TAKES(1, 6) ICU_LOCALE_TELLS
 icu_locale_status icu_locale_get_keyword(icu_locale_t *locale, const uint8_t *key, size_t key_length,
     uint8_t *buffer, size_t room, size_t *needed) ICU_LOCALE_NOEXCEPT;
 
-/* Sets the value of a keyword, both in any case; true is the empty value. Bytes that are no key are refused with
- * INVALID_EXTENSION, and a value that has another subtag than 2 to 8 letters or digits with INVALID_SUBTAG. The key is
- * judged first. Allocates only if there is another keyword, or if the value has more than four subtags. */
+/* Sets the value of the keyword with this key; both may be in any case. The value true is the empty value. First the
+ * key is judged: bytes that are no key are refused with INVALID_EXTENSION. Then the value is judged: one with another
+ * subtag than 2 to 8 letters or digits is refused with INVALID_SUBTAG. Allocates only if there is another keyword, or
+ * if the value has more than four subtags. */
 ICU_LOCALE_TAKES(1) ICU_LOCALE_TELLS
 icu_locale_status icu_locale_set_keyword(icu_locale_t *locale, const uint8_t *key, size_t key_length,
     const uint8_t *value, size_t value_length) ICU_LOCALE_NOEXCEPT;
@@ -310,13 +324,14 @@ icu_locale_status icu_locale_remove_keyword(icu_locale_t *locale, const uint8_t 
 ICU_LOCALE_TAKES(1) ICU_LOCALE_TELLS
 icu_locale_status icu_locale_clear_keywords(icu_locale_t *locale) ICU_LOCALE_NOEXCEPT;
 
-/* Extends the extension u by that of the other handle: it has the attributes of both, and the keywords of both. At a
- * key of both, the other handle's value wins. The other handle stays as it is. DONE or OUT_OF_MEMORY. */
+/* Extends the extension u by that of the other handle: it then has the attributes of both, and the keywords of both.
+ * At a key of both, the other handle's value wins. The other handle stays as it is. DONE or OUT_OF_MEMORY. */
 ICU_LOCALE_TAKES(1, 2) ICU_LOCALE_TELLS
 icu_locale_status icu_locale_extend_unicode(icu_locale_t *locale, icu_locale_t *from) ICU_LOCALE_NOEXCEPT;
 
-/* Attributes of the extension u, such as foo in en-u-foo: as variants. Each is 3 to 8 letters or digits; a text that is
- * none is refused with INVALID_EXTENSION. Adding or removing one allocates. */
+/* Attributes of the extension u, such as foo in en-u-foo. They are read and changed as variants are. Each is 3 to 8
+ * letters or digits. A text that is no attribute is refused with INVALID_EXTENSION. Adding or removing one allocates.
+ */
 ICU_LOCALE_TAKES(1) ICU_LOCALE_TELLS
 size_t icu_locale_attribute_count(icu_locale_t *locale) ICU_LOCALE_NOEXCEPT;
 ICU_LOCALE_TAKES(1, 5) ICU_LOCALE_TELLS
@@ -333,9 +348,9 @@ icu_locale_status icu_locale_remove_attribute(icu_locale_t *locale, const uint8_
 ICU_LOCALE_TAKES(1) ICU_LOCALE_TELLS
 icu_locale_status icu_locale_clear_attributes(icu_locale_t *locale) ICU_LOCALE_NOEXCEPT;
 
-/* The identifier of the extension t, which begins with a language: de-latn of en-t-de-latn, written as de-Latn. It is
- * NOT_FOUND if there is none. An empty text removes it. A text that is no identifier is refused as by icu_locale_check
- * for an identifier. Setting allocates only if there are more than four variants. */
+/* The identifier of the extension t, which begins with a language: de-latn of en-t-de-latn, written as de-Latn.
+ * NOT_FOUND if there is none. Setting an empty text removes it. A text that is no identifier is refused as by
+ * icu_locale_check for an identifier. Setting allocates only if there are more than four variants. */
 ICU_LOCALE_TAKES(1, 4) ICU_LOCALE_TELLS
 icu_locale_status icu_locale_get_transform_language(icu_locale_t *locale, uint8_t *buffer, size_t room,
     size_t *needed) ICU_LOCALE_NOEXCEPT;
@@ -343,10 +358,10 @@ ICU_LOCALE_TAKES(1) ICU_LOCALE_TELLS
 icu_locale_status icu_locale_set_transform_language(icu_locale_t *locale, const uint8_t *text, size_t length)
     ICU_LOCALE_NOEXCEPT;
 
-/* Fields of the extension t, such as m0-din in en-t-m0-din, by ascending key: as keywords, but that an empty value is
- * written as true. Bytes that are no key (a letter and a digit) are refused with INVALID_EXTENSION, and so is a value
- * that is empty or has another subtag than 3 to 8 letters or digits. Setting allocates only if the field is not there,
- * or if the value has more than four subtags. */
+/* Fields of the extension t, such as m0-din in en-t-m0-din, by ascending key. They are read and changed as keywords
+ * are, but an empty value is written as true. A key is a letter and a digit. Bytes that are no key are refused with
+ * INVALID_EXTENSION. So is a value that is empty or has another subtag than 3 to 8 letters or digits. Setting allocates
+ * only if the field is not there, or if the value has more than four subtags. */
 ICU_LOCALE_TAKES(1) ICU_LOCALE_TELLS
 size_t icu_locale_field_count(icu_locale_t *locale) ICU_LOCALE_NOEXCEPT;
 ICU_LOCALE_TAKES(1, 5) ICU_LOCALE_TELLS
@@ -371,9 +386,9 @@ icu_locale_status icu_locale_remove_field(icu_locale_t *locale, const uint8_t *k
 ICU_LOCALE_TAKES(1) ICU_LOCALE_TELLS
 icu_locale_status icu_locale_clear_fields(icu_locale_t *locale) ICU_LOCALE_NOEXCEPT;
 
-/* The private extension with its x: x-a-b of en-x-a-b, an empty text if there is none. An empty text removes it. A text
- * that is not x and subtags of 1 to 8 letters or digits is refused with INVALID_EXTENSION. Setting allocates only if
- * there are more than four subtags. */
+/* The private extension with its x: x-a-b of en-x-a-b. It is an empty text if there is none. Setting an empty text
+ * removes it. Any other text than x and subtags of 1 to 8 letters or digits is refused with INVALID_EXTENSION. Setting
+ * allocates only if there are more than four subtags. */
 ICU_LOCALE_TAKES(1, 4) ICU_LOCALE_TELLS
 icu_locale_status icu_locale_get_private(icu_locale_t *locale, uint8_t *buffer, size_t room, size_t *needed)
     ICU_LOCALE_NOEXCEPT;
@@ -382,7 +397,7 @@ icu_locale_status icu_locale_set_private(icu_locale_t *locale, const uint8_t *te
     ICU_LOCALE_NOEXCEPT;
 
 /* Other extensions, such as a-foo-bar of en-a-foo-bar, by their singleton: a letter or digit other than t, u and x, in
- * either case. Whether there is one; and its text, with the singleton, or NOT_FOUND. */
+ * either case. The calls tell whether there is one, and its text with the singleton, or NOT_FOUND. */
 ICU_LOCALE_TAKES(1) ICU_LOCALE_TELLS
 bool icu_locale_has_other(icu_locale_t *locale, uint8_t singleton) ICU_LOCALE_NOEXCEPT;
 ICU_LOCALE_TAKES(1, 5) ICU_LOCALE_TELLS
@@ -390,9 +405,9 @@ icu_locale_status icu_locale_get_other(icu_locale_t *locale, uint8_t singleton, 
     size_t *needed) ICU_LOCALE_NOEXCEPT;
 
 /* Sets the extension of a singleton to the text, which is the singleton and its subtags, in any case: A-Foo-bar sets
- * a-foo-bar. The text is parsed as within a locale: pieces of 2 to 8 bytes follow the singleton. Those with other bytes
- * than letters and digits are left out, and one at least must stay. Any other text is refused with INVALID_EXTENSION,
- * also one that is empty or has two extensions. Allocates. */
+ * a-foo-bar. The text is parsed as within a locale: pieces of 2 to 8 bytes follow the singleton. Pieces with other
+ * bytes than letters and digits are left out, and at least one piece must stay. Any other text is refused with
+ * INVALID_EXTENSION, also one that is empty or has two extensions. Allocates. */
 ICU_LOCALE_TAKES(1) ICU_LOCALE_TELLS
 icu_locale_status icu_locale_set_other(icu_locale_t *locale, const uint8_t *text, size_t length) ICU_LOCALE_NOEXCEPT;
 
@@ -401,8 +416,10 @@ ICU_LOCALE_TAKES(1) ICU_LOCALE_TELLS
 icu_locale_status icu_locale_remove_other(icu_locale_t *locale, uint8_t singleton) ICU_LOCALE_NOEXCEPT;
 
 /* The data locale of a locale, by which data is looked up: language, script, region or subdivision, and the first
- * variant. en-GB-u-rg-uszzzz is en-GB by language and en-US by region. The first call writes its text. The other two
- * write -1, 0 or 1 to *order: the byte order of the text against other bytes, as they stand; and the order of the data
+ * variant. en-GB-u-rg-uszzzz is en-GB by language and en-US by region.
+ *
+ * The first call writes its text. The other two write -1, 0 or 1 to *order. icu_locale_data_cmp_bytes writes the byte
+ * order of the text against other bytes, which are not normalized. icu_locale_data_cmp writes the order of the data
  * locales of two handles by their parts, which is 0 exactly if both are equal. A number that is no priority is refused
  * with UNKNOWN_NUMBER: *needed is then 0, and the buffer or *order is as before. None allocates. */
 ICU_LOCALE_TAKES(1, 5) ICU_LOCALE_TELLS
@@ -416,9 +433,9 @@ icu_locale_status icu_locale_data_cmp(icu_locale_t *locale, icu_locale_t *other,
     int8_t *order) ICU_LOCALE_NOEXCEPT;
 
 /* What formatters take from a locale: the calendar of the keyword ca, the hour cycle of hc and the numbering system
- * of nu. The text is that of the value which the keyword stands for: islamic-civil of ca-islamicc. NOT_FOUND if the
- * keyword is absent, or if its value is none of the type: a calendar of UTS #35 for ca; h12, h23, h11, c12 or c24 for
- * hc; one subtag for nu. */
+ * of nu. The text is that of the value which the keyword stands for: islamic-civil of ca-islamicc. ca takes a calendar
+ * of UTS #35; hc takes h12, h23, h11, c12 or c24; nu takes one subtag. NOT_FOUND if the keyword is absent, or if its
+ * value is none of these. */
 ICU_LOCALE_TAKES(1, 4) ICU_LOCALE_TELLS
 icu_locale_status icu_locale_get_calendar_algorithm(icu_locale_t *locale, uint8_t *buffer, size_t room,
     size_t *needed) ICU_LOCALE_NOEXCEPT;

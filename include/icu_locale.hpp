@@ -39,7 +39,7 @@ enum class mode : icu_locale_mode {
     data_locale = ICU_LOCALE_DATA_LOCALE
 };
 
-/* Of which region a data locale is. */
+/* Which region a data locale has: as icu_locale_priority. */
 enum class priority : icu_locale_priority { language = ICU_LOCALE_BY_LANGUAGE, region = ICU_LOCALE_BY_REGION };
 
 /* How a call ends: the numbers of icu_locale.h. */
@@ -143,7 +143,7 @@ inline std::string normalize(std::string_view text, mode as = mode::locale)
     return detail::told(icu_locale_check(static_cast<icu_locale_mode>(as), detail::bytes(text), text.size()));
 }
 
-/* The byte order of the text's normal form against other bytes: -1, 0 or 1. */
+/* The byte order of the text's normal form against other bytes, which are not normalized: -1, 0 or 1. */
 inline result<int> try_strict_cmp(std::string_view text, std::string_view other, mode as = mode::locale)
 {
     std::int8_t order = 0;
@@ -186,7 +186,7 @@ inline int compare(std::string_view text, std::string_view other, mode as = mode
 }
 
 /* A locale, with parts to read and to change. It starts as und, the unknown locale, and is und once it was moved from.
- * Each call is that of icu_locale.h with its name, which says more. Texts may be in any case; parts are in their normal
+ * icu_locale.h says more of each call, at the call of that name. Texts may be in any case; parts are in their normal
  * form. An object owns memory unless it is und. */
 class locale {
 public:
@@ -247,7 +247,7 @@ public:
         return this == &other ? 0 : icu_locale_cmp(&held_, &other.held_);
     }
 
-    /* The byte order of the normal form against other bytes, as they stand: -1, 0 or 1. */
+    /* The byte order of the normal form against other bytes, which are not normalized: -1, 0 or 1. */
     int strict_cmp(std::string_view other) const noexcept
     {
         return icu_locale_cmp_bytes(&held_, detail::bytes(other), other.size());
@@ -308,7 +308,7 @@ public:
     bool remove_keyword(std::string_view key) { return is_done(set(icu_locale_remove_keyword, key)); }
     void clear_keywords() { accept(detail::told(icu_locale_clear_keywords(&held_))); }
 
-    /* Attributes of the extension u, ascending, as variants. */
+    /* Attributes of the extension u, ascending. The calls are those of variants. */
     std::vector<std::string> attributes() const { return list(icu_locale_attribute_count, icu_locale_get_attribute); }
     bool has_attribute(std::string_view text) const noexcept
     {
@@ -357,7 +357,8 @@ public:
     }
     void set_private_extension(std::string_view text) { accept(try_set_private_extension(text)); }
 
-    /* Other extensions, such as a-foo of en-a-foo, by their singleton, in either case. A text sets the one that it is. */
+    /* Other extensions, such as a-foo of en-a-foo, by their singleton, in either case. set_other takes the whole text,
+     * which begins with the singleton. */
     bool has_other(char singleton) const noexcept
     {
         return icu_locale_has_other(&held_, static_cast<std::uint8_t>(singleton));
@@ -377,7 +378,7 @@ public:
         return is_done(detail::told(icu_locale_remove_other(&held_, static_cast<std::uint8_t>(singleton))));
     }
 
-    /* Adds the attributes and keywords of the other locale. At a key of both, its value wins. */
+    /* Adds the attributes and keywords of the other locale. At a key of both, the other's value wins. */
     void extend_unicode(const locale &from)
     {
         if (this != &from)
@@ -392,8 +393,7 @@ public:
         });
     }
 
-    /* The byte order of that text against other bytes, as they stand; and the order of the data locales of two locales by
-     * language, script, region part and variant: -1, 0 or 1. */
+    /* The byte order of that text against other bytes, which are not normalized: -1, 0 or 1. */
     int data_strict_cmp(std::string_view other, priority by = priority::language) const
     {
         std::int8_t order = 0;
@@ -402,6 +402,7 @@ public:
         return order;
     }
 
+    /* The order of the data locales of two locales by language, script, region part and variant: -1, 0 or 1. */
     int data_compare(const locale &other, priority by = priority::language) const
     {
         std::int8_t order = 0;
@@ -497,7 +498,7 @@ private:
         return detail::told(call(&held_, detail::bytes(text), text.size()));
     }
 
-    mutable icu_locale_t held_ = ICU_LOCALE_UND;  // also a call that reads takes it by a pointer that writes
+    mutable icu_locale_t held_ = ICU_LOCALE_UND;  // calls that only read also take a pointer that is not const
 };
 
 /* Whether the library that is linked or loaded was made for this header. */

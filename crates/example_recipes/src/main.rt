@@ -19,7 +19,8 @@
 //! - `kinds TEXT`: a subtag as a language, a script and a region.
 //! - `payload TEXT PAYLOAD`: the data locale of the text has this payload from now on.
 //!
-//! After the lines come what the program `locale_normal` answers, and what a row of old raw forms is carried to.
+//! At the end come two more answers: what the program `locale_normal` gives for some lines, and what `carry_v1` makes
+//! of languages that version 1 stored.
 #![tactic(auto)]
 
 mod comparing;

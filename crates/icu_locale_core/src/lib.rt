@@ -3,8 +3,8 @@
 //! It is the Rust crate `icu_locale_core` 2.4.0 in Rattle, at that crate's paths; the syntax is that of
 //! UTS #35 section 3. Each item is made in a lower crate and only passed on here.
 //!
-//! What it promises, by the contracts of the calls. Out of memory aside, which is an error of that name and never ends
-//! a program:
+//! What it promises, by the contracts of the calls, holds unless a call runs out of memory. That is an error, and never
+//! ends a program:
 //!
 //! - For all bytes, `Locale::try_from_utf8` accepts exactly the texts of the grammar, each with its meaning.
 //!   Every other text is refused with the fault that the grammar names.
@@ -15,13 +15,13 @@
 //! - Printing, length hints, comparison with bytes, `==`, orders and hashes are those of the definitions, for every
 //!   value, also for one that was built and that no text means. Of well-formed locales `==` and `normalizing_eq` are
 //!   equality of meaning.
-//! - A data locale is parsed without allocating, exactly if the definition has one. Data locales are equal if they stand
-//!   for the same.
+//! - A text is parsed as a data locale exactly if the definition gives it one. This allocates nothing. Data locales are
+//!   equal if they stand for the same.
 //! - Preferences of a locale are parsed, extended by others and turned into data locales and a locale as the definitions
 //!   say; the data locale of a locale is that of its preferences.
 //! - `to_json` writes the JSON string of the printed text. It parses back to the same value, if that is well-formed.
-//! - `program::run` writes the answer to all that it read, or a beginning of it and an error. The reader's and the
-//!   writer's contracts must tell their bytes.
+//! - `program::run` writes the answer to all that it read, or a beginning of it and then returns an error. This holds
+//!   if the contracts of reader and writer tell their bytes.
 //! - Subtags allocate nothing, and short texts fit in place.
 //!
 //! A first example:

@@ -1,9 +1,10 @@
 //! Locales that C holds: a handle is the pointer of a box, or null, which stands for `und`.
 //!
-//! The crate `icu_locale_c` exports the calls of `include/icu_locale.h`. Most of them are one of three functions here, at
-//! a part, a question or a change: `tell`, `ask` and `make_change`. Their contracts speak of the locale that the handle stands
-//! for (`meaning_of`). A call that reads leaves the handle as it was (`same`). A call that changes says how by the status
-//! (`Changes`), and a handle that stands for `und` afterwards owns nothing (`tight`).
+//! The crate `icu_locale_c` exports the calls of `include/icu_locale.h`. Most of them are one of three functions
+//! here: `tell` reads a part, `ask` answers a question, `make_change` makes a change. Their contracts speak of the
+//! locale that the handle stands for (`meaning_of`). A call that reads leaves the handle as it was (`same`). After a
+//! call that changes, the status says how the locale has changed (`Changes`), and a handle that stands for `und` owns
+//! nothing (`tight`).
 //!
 //! Raw pointers stand in `open_box` and `handle` alone, whose five functions with pointers are proved by hand.
 #![tactic(auto)]

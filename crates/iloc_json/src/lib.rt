@@ -1,10 +1,10 @@
-//! Stored forms. JSON strings of texts: subtags, identifiers and locales as values of `serde_json`; and languages
+//! Stored forms. JSON strings of texts: subtags, identifiers and locales as values of `serde_json`. And languages
 //! stored by version 1, which `carry_v1` converts.
 //!
-//! It promises of all texts at once (`JsonText`) that `to_json` is the JSON string of the printed text, and that
-//! `from_json` parses a string as its text, and refuses anything else; and that what `to_json` returns parses
-//! back to the same value if the text does, unless memory runs out: subtags and identifiers always, locales if
-//! they are well-formed.
+//! `JsonText` promises for every type that prints a text and parses one: `to_json` is the JSON string of the printed
+//! text. `from_json` parses a string as its text, and refuses anything else. What `to_json` returns parses back to
+//! the same value if the text does, unless memory runs out. So it is of subtags and identifiers always, and of
+//! locales if they are well-formed.
 //!
 //! It stands on the printing and the parsers of `iloc_subtags`, `iloc_langid` and `iloc_locale`.
 #![tactic(auto)]

@@ -1,28 +1,29 @@
 //! Locales: identifiers with extensions, parsed, printed, normalized and compared.
 //!
-//! It promises the headline of this library, out of memory aside: for all bytes, `Locale::try_from_utf8` accepts
-//! exactly the texts of the grammar (UTS #35 section 3, `unicode_locale_id`), with their meaning, and refuses every
-//! other with the fault that the grammar names. The text of a well-formed locale parses as that locale and no other.
-//! Normalizing twice is normalizing once. Normal texts are equal exactly if the meanings are. No accepted text of a
-//! meaning is shorter. At most eight rewriting steps lead there.
+//! It promises the main theorem of this library, which holds unless a call runs out of memory. For all bytes,
+//! `Locale::try_from_utf8` accepts exactly the texts of the grammar (UTS #35 section 3, `unicode_locale_id`), each
+//! with its meaning. It refuses every other text with the fault that the grammar names. The text of a well-formed
+//! locale parses as that locale and no other. Normalizing twice is normalizing once. Normal texts are equal exactly
+//! if the meanings are. No accepted text of a meaning is shorter than its normal text. At most eight rewriting steps
+//! lead there.
 //!
 //! `==`, `total_cmp` and hashes compare values, for every locale. Of well-formed locales this is equality of meaning,
-//! since only their texts parse back. `normalizing_eq` is `true` exactly if the text is accepted and means this value;
-//! that of a locale no text means is `false`.
+//! since only their texts parse back. `normalizing_eq` is `true` exactly if the text is accepted and means this
+//! value. So it is `false` for every text if no text means the locale.
 //!
-//! Of extensions it promises that emptiness, the order and the printed text are those of the definitions, for every
-//! value, also for one that no text means. `retain_by_type` asks each part in turn, and clears those that are not to be
-//! kept. `is_well_formed` is exactly the definition, whether the text parses back: the other extensions ascend strictly
-//! by singletons of their own, each with a word, and no value of a keyword holds `true` or a subtag of two characters.
-//! The identifier of a locale has no part in it.
+//! Emptiness, order and printed text of extensions are those of the definitions, for every value, also for one that
+//! no text means. `retain_by_type` asks each part in turn, and clears those that are not to be kept. `is_well_formed`
+//! is exactly the definition, and says whether the text parses back. The other extensions then ascend strictly by
+//! singletons of their own, each with a word. No value of a keyword holds `true` or a subtag of two characters. The
+//! identifier of a locale plays no part in it.
 //!
-//! `read_blocks` parses what follows a locale's head, from one singleton to the next. What is parsed is what the blocks
-//! mean together. A text is refused with the fault of its first bad block. Short blocks allocate nothing: of `u` with
-//! few words, of `t` with few variants and no field, of `x` with few words. It composes the parsers of the parts by
-//! their public contracts alone, each of which leaves exactly what follows its block.
+//! `read_blocks` parses what follows a locale's head, from one singleton to the next. What is parsed is what the
+//! blocks mean together. A text is refused with the fault of its first bad block. Short blocks allocate nothing: of
+//! `u` with few words, of `t` with few variants and no field, of `x` with few words. `read_blocks` calls the parsers
+//! of the parts, each of which leaves exactly what follows its block. Its proof uses their public contracts alone.
 //!
-//! It stands on the public contracts of the identifiers (`iloc_langid`) and of the parts of extensions (`iloc_unicode`,
-//! `iloc_transform`, `iloc_other`), and on the laws of the grammar (`iloc_spec_grammar`).
+//! It stands on the public contracts of the identifiers (`iloc_langid`) and of the parts of extensions
+//! (`iloc_unicode`, `iloc_transform`, `iloc_other`), and on the laws of the grammar (`iloc_spec_grammar`).
 #![tactic(auto)]
 
 ghost use Rattle.std.specs.Prelude.{◌≡◌, ◌↔◌, IsTrue};

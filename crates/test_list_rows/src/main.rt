@@ -1,12 +1,14 @@
-//! Rows for lists, maps, sets of words and printing: a line `CALL TAB argument TAB argument` in, a line out. It makes every
-//! public call of short lists, maps, sets of words, and printing.
+//! Table tests of lists, maps, sets of subtags and printing. A test is a line `CALL TAB argument TAB argument` of
+//! `stdin` and the same line of `stdout`. For example, `ascending TAB abb` gives `false`. The tests make every public
+//! call of short lists, maps, sets of subtags, and printing.
 //!
-//! Calls that change a value come as steps with blanks between: `steps-KIND`; their row is the value before, the answer
-//! of the first step, the value after it, and so on, joined by ` | `. A step that runs out of memory ends its row: `! Out of memory`, and the value as it is then.
-//! `two-KIND` compares two values, `sizes-KIND` builds one of many numbers, and `print-..` prints a text or a set.
+//! `steps-KIND` makes calls that change a value, one after the other: `steps-set TAB push.POSIX push.Macos`. Its
+//! answer is the value before, the answer of the first step, the value after it, and so on, joined by ` | `. A step
+//! that runs out of memory ends the test: `! Out of memory`, and the value as it is then. `two-KIND` compares two
+//! values, `sizes-KIND` builds one of many numbers, and `print-..` prints a text or a set.
 //!
-//! All that the program itself needs is asked for before the first row, so that every later request is one that a row
-//! makes. It stands on `test_page` and the crates whose calls it makes.
+//! The program asks for all the memory that it needs before the first test, so that every later request is one that a
+//! test makes. It stands on `test_page` and the crates whose calls it makes.
 #![tactic(auto)]
 
 mod lists;

@@ -1,10 +1,11 @@
-//! What programs of rows share: `test_page`. A row is `CALL TAB argument TAB argument` in, and one line out.
+//! What the programs of table tests share. A test is a row: `CALL TAB argument TAB argument` in, and one line out.
 //!
-//! Here stand how rows are read and their page is made (`rows`, `argument`), what is asked of any type that is read
-//! (`told`, `steps`), and what is said. In an argument `\xFF` stands for the byte, and a short form between braces for
-//! what repeats (`argument`); all else is as it looks. Nothing that says something fails: the page has its room before
-//! the first row, and what finds none is left out, so that the row is wrong. Only generic functions own what was parsed,
-//! so that dropping it is proved but once. It stands on the words' refusals and on printing.
+//! Here stand how rows are read and their page of answers is made (`rows`, `argument`), what is asked of any type
+//! that is parsed (`told`, `steps`), and how answers are said. In an argument `\xFF` stands for the byte, and a short
+//! form between braces for what repeats (`argument`); all else is as it looks. No call that says something fails. The
+//! page has its room before the first row, and what finds no room is left out, so that the row is wrong. Only generic
+//! functions own what was parsed, so that dropping it is proved only once. It stands on the refusals of subtags and
+//! on printing.
 #![tactic(auto)]
 
 pub mod argument;

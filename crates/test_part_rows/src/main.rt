@@ -1,17 +1,19 @@
-//! Rows of the calls of parts of extensions: `CALL TAB argument TAB argument` in, a line out. The first word of a call
-//! is the type that the first argument is parsed as, the second what is asked of it: `keywords-get`. `two-TYPE` parses both
-//! arguments and compares them, `change-TYPE` takes the steps of the second argument on the first, `made-TYPE` makes a
-//! value of parts and asks the second of it, and `text-CALL` is a call of a text.
+//! Table tests of the parts of extensions. A test is a line `CALL TAB argument TAB argument` of `stdin` and the same
+//! line of `stdout`. For example, `keywords-get TAB ca-roc-foo-hc TAB ca` gives `true roc-foo`.
+//!
+//! The first word of a call is the type that the first argument is parsed as, the second what is asked of it:
+//! `keywords-get`. `two-TYPE` parses both arguments and compares them. `change-TYPE` takes the steps of the second
+//! argument on the first. `made-TYPE` makes a value of parts and asks the second of it. `text-CALL` is a call of a
+//! text.
 //!
 //! An answer is the printed text, or what each call says. A refusal is `! ` and its words. Calls that change a value,
-//! and those that may allocate, say what it was, the answer, and what it is, joined by ` | `; of several steps the
-//! one that is refused ends the row. A row with a third argument names the answer that is wanted: it says only how long
-//! the answer is, or the answer itself if it is another.
+//! and those that may allocate, say what it was, the answer, and what it is, joined by ` | `. Of several steps the
+//! one that is refused ends the test. A test with a third argument names the answer that is wanted. It says only how
+//! long the answer is, or the answer itself if it is another.
 //!
-//! All that the program needs for itself is asked for before the first row, so that every later request for memory
-//! is one of the libraries'. `stdin` and `stdout` are the rows with their answers, from the vectors of
-//! vectors/README.md and the tables of the Rust crate's tests; `grow.in` has rows that may allocate, `still.in`
-//! those that take none.
+//! The program asks for all the memory that it needs before the first test, so that every later request is one of the
+//! libraries'. The tests come from the vectors of vectors/README.md and from the tables of the Rust crate's tests.
+//! `grow.in` has calls that may allocate, `still.in` calls that allocate nothing.
 #![tactic(auto)]
 
 mod built;

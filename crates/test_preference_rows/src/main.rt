@@ -1,16 +1,17 @@
-//! Rows of keywords and preferences: `CALL TAB argument TAB argument TAB argument` in, a line out.
+//! Table tests of keywords and preferences. A test is a line `CALL TAB argument TAB argument TAB argument` of `stdin`
+//! and the same line of `stdout`. For example, `keyword-hc TAB c12` gives `c12 | c12 | c12`.
 //!
-//! Calls that begin with `keyword-` are of the types of keywords, and stand in `keywords`; all others are of preferences.
-//! An argument is parsed as a locale, in `langid-..` as an identifier. Preferences of a locale answer by their data
-//! locales, language first and region first, and the locale that they become, joined by `|`, and before them `Ok` or
-//! `Err` if they are read strictly. Those of a formatter answer by their data locale, `nu`, `hc` and `ca`; those of
-//! a time formatter by the first three. A refusal is `! ` and its words.
+//! Calls that begin with `keyword-` are of the types of keywords, and stand in `keywords`. All others are of
+//! preferences. An argument is parsed as a locale, in `langid-..` as an identifier. Preferences of a locale answer
+//! `Ok` or `Err` if they are parsed strictly, then their data locales, language first and region first, and then the
+//! locale that they become, all joined by `|`. Those of a formatter answer their data locale, `nu`, `hc` and `ca`,
+//! those of a time formatter the first three. A refusal is `! ` and its words.
 //!
-//! `stdin` and `stdout` are the rows with their answers: those of keywords, made of their table, worked examples of
-//! preferences, then vectors, of which vectors/README.md says where they came from. `grow.in` has rows that may allocate,
-//! `still.in` those that allocate nothing. All that the program needs for itself is asked for before the first row,
-//! so that every later request is one of the library's. Only generic functions own what was parsed, so that dropping it
-//! go is proved but once.
+//! The tests of keywords come from their table, and those of preferences from worked examples and vectors:
+//! vectors/README.md says where these came from. `grow.in` has calls that may allocate, `still.in` calls that
+//! allocate nothing. The program asks for all the memory that it needs before the first test, so that every later
+//! request is one of the library's. Only generic functions own what was parsed, so that dropping it is proved only
+//! once.
 #![tactic(auto)]
 
 mod enums;

@@ -1,12 +1,14 @@
-//! Rows for short texts, words and lines told at once: a line `CALL TAB argument TAB argument` in, a line out. It makes
-//! every public call of short texts, of words of each kind, of refusals, and of `iloc_plain` and `iloc_fronts`.
+//! Table tests of short texts, subtags and lines told at once. A test is a line `CALL TAB argument TAB argument` of
+//! `stdin` and the same line of `stdout`. For example, `word-language TAB German` gives `german german\x00\x00`. The
+//! tests make every public call of short texts, of subtags of each kind, of refusals, and of `iloc_plain` and
+//! `iloc_fronts`.
 //!
-//! A call that reads answers what it parsed, or `! ` and the words of the refusal. `tiny-N`, `text-N` and `tinyraw-N`
-//! read a short text of a size, `CALL-KIND` makes a call of a word of the kind, `two-tiny` compares two short texts, and
-//! a call of one word stands in `single`. `line-CALL` tells what a line is (`lines`).
+//! A call that parses answers what it parsed, or `! ` and the words of the refusal. `tiny-N`, `text-N` and
+//! `tinyraw-N` parse a short text of a size. `CALL-KIND` makes a call of a subtag of the kind, and `two-tiny`
+//! compares two short texts. A call of one word stands in `single`. `line-CALL` tells what a line is (`lines`).
 //!
-//! No row allocates: all that the program itself needs is asked for before the first one. It stands on `test_page`
-//! and the crates whose calls it makes.
+//! No test allocates: the program asks for all the memory that it needs before the first one. It stands on
+//! `test_page` and the crates whose calls it makes.
 #![tactic(auto)]
 
 mod lines;
