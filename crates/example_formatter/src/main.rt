@@ -11,7 +11,7 @@ ghost use Rattle.icu_locale_core.specs.Formatters.{format_preferences, merge_for
 ghost use Rattle.icu_locale_core.specs.FormatterValues.{format_value};
 ghost use Rattle.example_formatter.specs.HourCycles.{first_hour, last_hour};
 
-use icu_locale_core::bench::FormatPreferences;
+use icu_locale_core::preferences::FormatPreferences;
 use icu_locale_core::preferences::extensions::unicode::keywords::{CalendarAlgorithm, HourCycle};
 use icu_locale_core::{Locale, ParseError};
 use std::alloc::{AllocError, Global};
