@@ -5,6 +5,11 @@ pub mod LeftLemmas
 pub mod BodyLemmas
 pub mod BlockLemmas
 pub mod UnicodeLemmas
+pub mod KeywordLemmas
+pub mod RewritingLemmas
+pub mod StoringLemmas
+pub mod StoredLemmas
+pub mod LineLemmas
 pub mod OtherLemmas
 pub mod TransformLemmas
 pub mod PrintedBlocks

@@ -161,12 +161,23 @@ pub(crate) fn is_attribute(window: &[u8], n: usize) -> bool
     is_word_from(3, window, n)
 }
 
-// Whether the first `n` bytes are `true`, in whatever case.
+// Whether the first `n` bytes are `true`, in whatever case. The clause says half of it, which is enough for lines
+// in order.
 #[inline(always)]
 pub(crate) fn is_true(window: &[u8], n: usize) -> bool
     requires wide { 16 ≤ length window.now }
     requires few { n ≤ 16 }
     ensures { result ≡ false → is_true (lower (take n window.now)) ≡ false }
+{
+    equals_true(window, n)
+}
+
+// The same, exactly.
+#[inline(always)]
+pub(crate) fn equals_true(window: &[u8], n: usize) -> bool
+    requires wide { 16 ≤ length window.now }
+    requires few { n ≤ 16 }
+    ensures { result ≡ is_true (lower (take n window.now)) }
 {
     if n != 4 {
         return false;

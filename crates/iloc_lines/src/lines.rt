@@ -34,7 +34,7 @@ use crate::faults::{Told, told_at_front};
 use crate::replies::write_refusal;
 use crate::reply_block::ReplyBlock;
 use crate::{Answers, RunError};
-use iloc_fronts::{Reading, may_begin, read_ordered, read_varied};
+use iloc_fronts::{Reading, may_begin, read_ordered, read_varied, rewrite};
 use iloc_plain::read_plain;
 use iloc_subtags::ParseError;
 use memchr::memchr_iter;
@@ -44,6 +44,9 @@ use std::simd::prelude::*;
 
 // The bytes that are asked of the reader at once.
 const BLOCK: usize = 65536;
+
+// The room for a line that is brought into order. Longer ones are parsed.
+const REWRITTEN: usize = 128;
 
 // Room for what one read gives.
 pub(crate) fn new_block(alloc: Global) -> Result<Vec<u8>, AllocError>
@@ -175,7 +178,31 @@ fn reply_to_ordered<A: Answers>(
     match read_ordered(window, line.len(), at) {
         Reading::Ordered(told) => replies.push_ordered(&told),
         Reading::BadBlock => write_refusal(ParseError::InvalidExtension, replies),
-        Reading::Other => answers.reply(line, replies),
+        Reading::Other => reply_to_rewritten(answers, window, line, at, replies),
+    }
+}
+
+// The same of a locale whose block of `u` may have to be brought into order.
+#[inline(always)]
+fn reply_to_rewritten<A: Answers>(
+    answers: &mut A,
+    window: &[u8],
+    line: &[u8],
+    at: usize,
+    replies: &mut ReplyBlock,
+) -> Result<(), AllocError>
+    requires mode { A.mode ≡ Mode.Locale }
+    requires begins { take (length line.now) window.now ≡ line.now }
+    requires room { length line.now + 16 ≤ length window.now }
+    ensures { OnOk result (held replies.new ≡ held replies.old ++ reply A.mode line.now) }
+{
+    let mut room = [0u8; REWRITTEN];
+    let Some(len) = rewrite(window, line.len(), &mut room) else {
+        return answers.reply(line, replies);
+    };
+    match read_ordered(&room, len, at) {
+        Reading::Ordered(told) => replies.push_ordered(&told),
+        _ => answers.reply(line, replies),
     }
 }
 
