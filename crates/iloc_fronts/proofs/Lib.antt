@@ -10,3 +10,4 @@ pub mod TransformLemmas
 pub mod PrintedBlocks
 pub mod OrderedLemmas
 pub mod BadBlocks
+pub mod FaultLemmas

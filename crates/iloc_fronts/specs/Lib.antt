@@ -5,3 +5,4 @@ pub mod Keyword
 pub mod Blocks
 pub mod Transform
 pub mod Ordered
+pub mod Faults

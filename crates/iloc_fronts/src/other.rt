@@ -19,7 +19,7 @@ use crate::words::{is_subtag, is_word_from};
 // Passes over words of at least `least` letters and digits. What is left begins with another piece;
 // `None` if nothing is.
 #[inline(always)]
-fn past_words(least: usize, left: Left<'_>) -> Option<Left<'_>>
+pub(crate) fn past_words(least: usize, left: Left<'_>) -> Option<Left<'_>>
     requires { IsLeft left }
     ensures { ArePast least left.entry.len (pieces_of left.entry) result }
 {

@@ -3,6 +3,7 @@ ghost use Rattle.std.specs.Prelude.{◌≡◌, ◌≤◌, ◌&&◌, IsTrue, true
 ghost use Rattle.std.specs.Int.{is_in_range};
 ghost use Rattle.std.specs.Char.{is_ascii_alphanumeric};
 ghost use Rattle.iloc_fronts.specs.Blocks.{two_number};
+ghost use Rattle.iloc_fronts.specs.Faults.{four_number};
 ghost use Rattle.iloc_spec_grammar.specs.Syntax.{
   Attribute,
   Language,
@@ -193,6 +194,18 @@ pub(crate) fn number_of_two(window: &[u8]) -> usize
     ensures { result ≡ two_number (take 2 window.now) }
 {
     256 * ((window[0] | 32) as usize) + (window[1] | 32) as usize
+}
+
+// The number of the first four bytes, which is another if they differ but for the case.
+#[inline(always)]
+pub(crate) fn number_of_four(window: &[u8]) -> usize
+    requires wide { 16 ≤ length window.now }
+    requires word { letters_or_digits (take 4 window.now) ≡ true }
+    ensures { result ≡ four_number (take 4 window.now) }
+{
+    256 * (256 * (256 * ((window[0] | 32) as usize) + (window[1] | 32) as usize)
+        + (window[2] | 32) as usize)
+        + (window[3] | 32) as usize
 }
 
 // Whether the first `n` bytes are a key of `t`.

@@ -4,10 +4,10 @@ ghost use Rattle.iloc_spec_grammar.specs.Syntax.{Text};
 ghost use Rattle.iloc_fronts.specs.Front.{IsFront};
 ghost use Rattle.iloc_fronts.specs.declared.front.Front.TheVariants as fronts;
 ghost use Rattle.iloc_lines.specs.Output.{IsRefused};
-ghost use Rattle.iloc_lines.specs.Told.{IsTold};
+ghost use Rattle.iloc_lines.specs.Told.{IsTold, refusal_of};
 
 use crate::Mode;
-use iloc_fronts::{Block, Front, Keyword, read_front, read_keyword};
+use iloc_fronts::{BadBlock, Block, Front, Keyword, read_front, read_keyword};
 use iloc_subtags::ParseError;
 
 /// What is told of a line.
@@ -106,5 +106,16 @@ fn fault_of_data(line: &[u8], block: Block<'_>) -> Option<ParseError>
         Keyword::Many => Some(ParseError::InvalidSubtag),
         Keyword::Single if block.is_first => Some(ParseError::InvalidExtension),
         _ => None,
+    }
+}
+
+// Why a locale with this bad block is refused.
+#[inline(always)]
+pub(crate) fn error_of(bad: BadBlock) -> ParseError
+    ensures { result ≡ refusal_of bad }
+{
+    match bad {
+        BadBlock::Misfit => ParseError::InvalidExtension,
+        BadBlock::Duplicated => ParseError::DuplicatedExtension,
     }
 }
