@@ -11,3 +11,4 @@ pub mod PrintedBlocks
 pub mod OrderedLemmas
 pub mod BadBlocks
 pub mod FaultLemmas
+pub mod KeywordLemmas

@@ -167,7 +167,7 @@ pub(crate) fn is_attribute(window: &[u8], n: usize) -> bool
 pub(crate) fn is_true(window: &[u8], n: usize) -> bool
     requires wide { 16 ≤ length window.now }
     requires few { n ≤ 16 }
-    ensures { result ≡ false → is_true (lower (take n window.now)) ≡ false }
+    ensures { result ≡ is_true (lower (take n window.now)) }
 {
     if n != 4 {
         return false;

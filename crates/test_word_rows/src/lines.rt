@@ -62,7 +62,7 @@ fn block(block: &Block<'_>, out: &mut String) {
     number(out, block.len);
     say(
         out,
-        if block.is_first {
+        if block.variants == 0 {
             " first"
         } else {
             " after variants"

@@ -1,5 +1,4 @@
 use Rattle.std.proofs.Common.{◌≡◌, ℕ, List, [], ◌∷◌, ◌++◌, OnOk, ap, subst, sym, ◌∙◌}
-use Rattle.iloc_subtags.specs.declared.parse_error.ParseError.{ParseError}
 use Rattle.iloc_fronts.specs.Faults.{HasBadBlock}
 use Rattle.iloc_lines.specs.Output.{IsRefused, refusal_text}
 use Rattle.iloc_lines.specs.Told.{refusal_of}
