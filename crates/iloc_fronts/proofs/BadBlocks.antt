@@ -6,7 +6,7 @@ use Rattle.std.specs.Ordering.{nat_cmp, eq_by_cmp}
 use Rattle.std.proofs.lemmas.Bool.{cases_Bool, cases_lt}
 use Rattle.std.proofs.lemmas.Bool.Decides.{nat_tests}
 use Rattle.iloc_spec_grammar.specs.Syntax.{pieces, Variant, UnicodeKey, Attribute, PrivateSubtag, is_word, IsWord, languages, Identifier, Fields, Unicode, Transform, Extension, unicode, transform, other, identifier_pieces, fields_pieces, unicode_pieces, transform_pieces, extension_pieces, optional_pieces, IsIdentifier, IsUnicode, IsTransform, IsOther, IsPrivate, IsExtension, is_other_singleton, front, blocks, head, tail_blocks}
-use Rattle.iloc_spec_grammar.specs.Meaning.{InvalidExtension, RepeatsVariant, IsBlock, BlockFault, no_singleton, breaks_rule, FirstBadBlock, here, later, HasFault, bad_block}
+use Rattle.iloc_spec_grammar.specs.Meaning.{Fault, InvalidExtension, RepeatsVariant, IsBlock, BlockFault, no_singleton, breaks_rule, FirstBadBlock, here, later, HasFault, bad_block}
 use Rattle.iloc_spec_grammar.proofs.PiecesLaws.{at_pieces}
 use Rattle.iloc_spec_grammar.proofs.ReadBack.{all_append, fields_each}
 use Rattle.iloc_spec_grammar.proofs.ValuesLaws.{all_weaker}
@@ -15,7 +15,7 @@ use Rattle.iloc_spec_grammar.proofs.Singletons.{no_t, no_u, no_x, untied}
 use Rattle.iloc_plain.specs.Plain.{IsPlain}
 use Rattle.iloc_plain.specs.declared.plain.Plain.{Plain}
 use Rattle.iloc_fronts.specs.declared.ordered.Ordered.{Ordered}
-use Rattle.iloc_fronts.specs.Ordered.{IsBefore, IsBadTail, IsTailOf}
+use Rattle.iloc_fronts.specs.Ordered.{IsBefore, IsBadTail, IsFaultyTail, IsTailOf}
 use Rattle.iloc_fronts.specs.Left.{pieces_of}
 use Rattle.iloc_fronts.specs.Blocks.{AreBlocksOf, AreSeen, BeginBadly, IsBlockAs, IsBodyAs, IsNewAfter, IsNoUnicode, IsUnicodePart, IsNoOther, AreSubtags, IsPrivateAs, ArePrinted}
 use Rattle.iloc_fronts.specs.declared.blocks.Rest.{Rest}
@@ -30,7 +30,7 @@ use Rattle.iloc_fronts.proofs.OrderedLemmas.{after, cut_there, rest_is, tail_blo
 
 -- ---- singletons that no earlier block has
 
-abbrev IsNew : ℕ → List ℕ → Type 0
+abbrev pub IsNew : ℕ → List ℕ → Type 0
 IsNew s seen = list_any (eq_by_cmp nat_cmp s) seen ≡ false
 
 new_after : (last s : ℕ) → (last < s) ⊎ (s ≡ 120) → (seen : List ℕ) → AreSeen last seen → IsNew s seen
@@ -96,14 +96,14 @@ block_as P B c last len ps less good bad body.Other h = tt
 
 -- one that does, by the kind of its singleton
 module _ (c : ℕ) (qs : List (List ℕ)) where
-  record Refuted : Type 0 where
-    private : to_ascii_lowercase c ≡ 120 → ¬ (IsPrivate qs)
-    unicode_ : to_ascii_lowercase c ≡ 117 → (u : Unicode) → IsUnicode u → ¬ (qs ≡ unicode_pieces u)
-    transform_ : to_ascii_lowercase c ≡ 116 → (m : Transform) → IsTransform languages m → ¬ (qs ≡ transform_pieces m)
-    other_ : is_other_singleton (to_ascii_lowercase c) ≡ true → ¬ (IsOther qs)
-    repeats : to_ascii_lowercase c ≡ 116 → ¬ (RepeatsVariant languages qs)
+  pub record Refuted : Type 0 where
+    pub private : to_ascii_lowercase c ≡ 120 → ¬ (IsPrivate qs)
+    pub unicode_ : to_ascii_lowercase c ≡ 117 → (u : Unicode) → IsUnicode u → ¬ (qs ≡ unicode_pieces u)
+    pub transform_ : to_ascii_lowercase c ≡ 116 → (m : Transform) → IsTransform languages m → ¬ (qs ≡ transform_pieces m)
+    pub other_ : is_other_singleton (to_ascii_lowercase c) ≡ true → ¬ (IsOther qs)
+    pub repeats : to_ascii_lowercase c ≡ 116 → ¬ (RepeatsVariant languages qs)
 
-  fault_of : is_ascii_alphanumeric c ≡ true → Refuted → (seen : List ℕ) → IsNew (to_ascii_lowercase c) seen → BlockFault languages seen (c, qs) InvalidExtension
+  pub fault_of : is_ascii_alphanumeric c ≡ true → Refuted → (seen : List ℕ) → IsNew (to_ascii_lowercase c) seen → BlockFault languages seen (c, qs) InvalidExtension
   fault_of letter r seen new = breaks_rule letter new (λ x. r.repeats x.0 x.1) by
     where
       at : (e : Extension) → IsExtension languages (to_ascii_lowercase c) e → qs ≡ extension_pieces e → ⊥
@@ -124,7 +124,7 @@ begin last c ps qs bs e f = record {
 }
 
 -- whatever the block is
-any_block : (c : ℕ) (ps : List (List ℕ)) → (qs : List (List ℕ)) × (bs : List (ℕ × List (List ℕ))) × (blocks ((c ∷ []) ∷ ps) ≡ (c, qs) ∷ bs)
+pub any_block : (c : ℕ) (ps : List (List ℕ)) → (qs : List (List ℕ)) × (bs : List (ℕ × List (List ℕ))) × (blocks ((c ∷ []) ∷ ps) ≡ (c, qs) ∷ bs)
 any_block c ps = elim (cases_Bool (to_ascii_lowercase c == 120)) [
   | inl is_x ↦ (ps, [], private_block c ps (grind (arith, nat_tests)))
   | inr differs ↦ (front ps, blocks ps, first_block c ps (grind (arith, nat_tests)))
@@ -142,7 +142,7 @@ module _ (last c : ℕ) (letter : is_ascii_alphanumeric c ≡ true) (new : (last
   to_the_end : (ps : List (List ℕ)) → to_ascii_lowercase c ≡ 120 → Refuted c ps → BeginBadly last ((c ∷ []) ∷ ps)
   to_the_end ps e r = begin last c ps ps [] (private_block c ps e) (λ seen all. fault_of c ps letter r seen (new_after last (to_ascii_lowercase c) new seen all))
 
-abbrev IsUnicodeWord : List ℕ → Type 0
+abbrev pub IsUnicodeWord : List ℕ → Type 0
 IsUnicodeWord p = IsWord Attribute p ⊎ IsWord UnicodeKey p
 
 unicode_words : (u : Unicode) → IsUnicode u → AllByRecursion IsUnicodeWord (unicode_pieces u)
@@ -172,6 +172,61 @@ no_repeat r = some (r.3)
 no_words : ¬ (IsOther [])
 no_words h = omega (arith, h.nonempty)
 
+-- ---- what is told of the pieces after a singleton refutes each rule
+
+pub nothing_refuted : (c : ℕ) → Refuted c []
+nothing_refuted c = record {
+  private = λ e h. omega (arith, h.nonempty);
+  unicode_ = λ e u h s. some_words u.attributes u.keywords h.nonempty (sym s);
+  transform_ = λ e. no_transform;
+  other_ = λ e. no_words;
+  repeats = λ e. no_repeat;
+}
+
+pub unicode_refuted : (c : ℕ) (ps : List (List ℕ)) → to_ascii_lowercase c ≡ 117 → IsNoUnicode ps → Refuted c (front ps)
+unicode_refuted c ps e n = record {
+  private = λ x. absurd (omega arith);
+  unicode_ = λ _ u k s. by n u k s;
+  transform_ = λ t. absurd (omega arith);
+  other_ = λ o. absurd (no_u (to_ascii_lowercase c) e o);
+  repeats = λ t. absurd (omega arith);
+}
+  where
+    by : IsNoUnicode ps → (u : Unicode) → IsUnicode u → front ps ≡ unicode_pieces u → ⊥
+    by (inl none) u k s = some_words u.attributes u.keywords k.nonempty (sym s ∙ none)
+    by (inr n) u k s = n (subst (AllByRecursion IsUnicodeWord) (sym s) (unicode_words u k))
+
+pub private_refuted : (c : ℕ) (ps : List (List ℕ)) → to_ascii_lowercase c ≡ 120 → list_all (is_word PrivateSubtag) ps ≡ false → Refuted c ps
+private_refuted c ps e n = record {
+  private = λ _ k. true≢false (sym (all_words ps k.words) ∙ n);
+  unicode_ = λ u. absurd (omega arith);
+  transform_ = λ t. absurd (omega arith);
+  other_ = λ o. absurd (no_x (to_ascii_lowercase c) e o);
+  repeats = λ t. absurd (omega arith);
+}
+  where
+    all_words : (ps : List (List ℕ)) → AllByRecursion (IsWord PrivateSubtag) ps → list_all (is_word PrivateSubtag) ps ≡ true
+    all_words [] h = refl
+    all_words (p ∷ ps) h = rw h.0 (all_words ps h.1)
+
+pub transform_refuted : (c : ℕ) (ps : List (List ℕ)) → to_ascii_lowercase c ≡ 116 → IsNoTransform ps → Refuted c (front ps)
+transform_refuted c ps e n = record {
+  private = λ x. absurd (omega arith);
+  unicode_ = λ u. absurd (omega arith);
+  transform_ = λ _. n.0;
+  other_ = λ o. absurd (no_t (to_ascii_lowercase c) e o);
+  repeats = λ _. n.1;
+}
+
+pub other_refuted : (c : ℕ) (ps : List (List ℕ)) → to_ascii_lowercase c ≢ 117 → to_ascii_lowercase c ≢ 120 → to_ascii_lowercase c ≢ 116 → IsNoOther ps → Refuted c (front ps)
+other_refuted c ps u x t n = record {
+  private = λ e. absurd (x e);
+  unicode_ = λ e. absurd (u e);
+  transform_ = λ e. absurd (t e);
+  other_ = λ _. n;
+  repeats = λ e. absurd (t e);
+}
+
 -- ---- what is told of the pieces after a singleton is told of the blocks from it on
 
 -- nothing follows it
@@ -179,19 +234,10 @@ pub nothing_after : (last c : ℕ) → IsNewAfter last (to_ascii_lowercase c) �
 nothing_after last c new = elim (cases_Bool (is_ascii_alphanumeric c)) [
   | inr none ↦ bad_singleton last c [] none
   | inl letter ↦ let n = ascends last (to_ascii_lowercase c) (lower_letter c ∙ letter) new in elim (cases_Bool (to_ascii_lowercase c == 120)) [
-    | inl is_x ↦ to_the_end last c letter n [] (grind (arith, nat_tests)) refuted
-    | inr differs ↦ until_next last c letter n [] (grind (arith, nat_tests)) refuted
+    | inl is_x ↦ to_the_end last c letter n [] (grind (arith, nat_tests)) (nothing_refuted c)
+    | inr differs ↦ until_next last c letter n [] (grind (arith, nat_tests)) (nothing_refuted c)
   ]
 ]
-  where
-    refuted : Refuted c []
-    refuted = record {
-      private = λ e h. omega (arith, h.nonempty);
-      unicode_ = λ e u h s. some_words u.attributes u.keywords h.nonempty (sym s);
-      transform_ = λ e. no_transform;
-      other_ = λ e. no_words;
-      repeats = λ e. no_repeat;
-    }
 
 module _ (last c len : ℕ) (new : IsNewAfter last (to_ascii_lowercase c)) where
   pub unicode_block : (ps : List (List ℕ)) → to_ascii_lowercase c ≡ 117 → (w : Body) → IsBodyAs IsUnicodePart IsNoUnicode len ps w → IsBlockAs last (to_ascii_lowercase c) len ((c ∷ []) ∷ ps) w
@@ -203,37 +249,17 @@ module _ (last c len : ℕ) (new : IsNewAfter last (to_ascii_lowercase c)) where
       less : last < to_ascii_lowercase c
       less = above last (to_ascii_lowercase c) (lower_letter c ∙ letter) (omega (arith, e)) new
 
-      by : IsNoUnicode ps → (u : Unicode) → IsUnicode u → front ps ≡ unicode_pieces u → ⊥
-      by (inl none) u k s = some_words u.attributes u.keywords k.nonempty (sym s ∙ none)
-      by (inr n) u k s = n (subst (AllByRecursion IsUnicodeWord) (sym s) (unicode_words u k))
-
       bad : IsNoUnicode ps → BeginBadly last ((c ∷ []) ∷ ps)
-      bad n = until_next last c letter (inl less) ps (omega (arith, e)) (record {
-        private = λ x. absurd (omega arith);
-        unicode_ = λ _ u k s. by n u k s;
-        transform_ = λ t. absurd (omega arith);
-        other_ = λ o. absurd (no_u (to_ascii_lowercase c) e o);
-        repeats = λ t. absurd (omega arith);
-      })
+      bad n = until_next last c letter (inl less) ps (omega (arith, e)) (unicode_refuted c ps e n)
 
   pub private_as : (t : List ℕ) → to_ascii_lowercase c ≡ 120 → (w : Body) → IsPrivateAs (pieces t) w → IsBlockAs last (to_ascii_lowercase c) len ((c ∷ []) ∷ pieces t) w
   private_as t e body.End h = printed_private last c t e h
   private_as t e (body.Next l) h = absurd (h tt)
   private_as t e body.Other h = absurd (h tt)
-  private_as t e body.Bad n = to_the_end last c letter (inr e) (pieces t) e (record {
-    private = λ _ k. true≢false (sym (all_words (pieces t) k.words) ∙ n);
-    unicode_ = λ u. absurd (omega arith);
-    transform_ = λ t. absurd (omega arith);
-    other_ = λ o. absurd (no_x (to_ascii_lowercase c) e o);
-    repeats = λ t. absurd (omega arith);
-  })
+  private_as t e body.Bad n = to_the_end last c letter (inr e) (pieces t) e (private_refuted c (pieces t) e n)
     where
       letter : is_ascii_alphanumeric c ≡ true
       letter = grind (arith, nat_tests)
-
-      all_words : (ps : List (List ℕ)) → AllByRecursion (IsWord PrivateSubtag) ps → list_all (is_word PrivateSubtag) ps ≡ true
-      all_words [] h = refl
-      all_words (p ∷ ps) h = rw h.0 (all_words ps h.1)
 
   pub transform_block : (ps : List (List ℕ)) → to_ascii_lowercase c ≡ 116 → (w : Body) → IsBodyAs IsTransformPart IsNoTransform len ps w → IsBlockAs last (to_ascii_lowercase c) len ((c ∷ []) ∷ ps) w
   transform_block ps e w h = block_as IsTransformPart IsNoTransform c last len ps less (good_transform c e) bad w h
@@ -245,13 +271,7 @@ module _ (last c len : ℕ) (new : IsNewAfter last (to_ascii_lowercase c)) where
       less = above last (to_ascii_lowercase c) (lower_letter c ∙ letter) (omega (arith, e)) new
 
       bad : IsNoTransform ps → BeginBadly last ((c ∷ []) ∷ ps)
-      bad n = until_next last c letter (inl less) ps (omega (arith, e)) (record {
-        private = λ x. absurd (omega arith);
-        unicode_ = λ u. absurd (omega arith);
-        transform_ = λ _. n.0;
-        other_ = λ o. absurd (no_t (to_ascii_lowercase c) e o);
-        repeats = λ _. n.1;
-      })
+      bad n = until_next last c letter (inl less) ps (omega (arith, e)) (transform_refuted c ps e n)
 
   pub other_block : (ps : List (List ℕ)) → is_ascii_alphanumeric c ≡ true → to_ascii_lowercase c ≢ 117 → to_ascii_lowercase c ≢ 120 → to_ascii_lowercase c ≢ 116
       → (w : Body) → IsBodyAs AreSubtags IsNoOther len ps w → IsBlockAs last (to_ascii_lowercase c) len ((c ∷ []) ∷ ps) w
@@ -261,13 +281,7 @@ module _ (last c len : ℕ) (new : IsNewAfter last (to_ascii_lowercase c)) where
       less = above last (to_ascii_lowercase c) (lower_letter c ∙ letter) x new
 
       bad : IsNoOther ps → BeginBadly last ((c ∷ []) ∷ ps)
-      bad n = until_next last c letter (inl less) ps x (record {
-        private = λ e. absurd (x e);
-        unicode_ = λ e. absurd (u e);
-        transform_ = λ e. absurd (t e);
-        other_ = λ _. n;
-        repeats = λ e. absurd (t e);
-      })
+      bad n = until_next last c letter (inl less) ps x (other_refuted c ps u x t n)
 
 -- ---- what follows the identifier
 
@@ -301,7 +315,7 @@ more_variants l (Some s) None vs ws e = ap (λ us. l ∷ s ∷ (us ++ ws)) (sym 
 more_variants l None (Some r) vs ws e = ap (λ us. l ∷ r ∷ (us ++ ws)) (sym e)
 more_variants l None None vs ws e = ap (λ us. l ∷ (us ++ ws)) (sym e)
 
-module _ (p : Plain) (start rest : List ℕ) (h : IsPlain start p) (b : IsBadTail (pieces rest)) where
+module _ (p : Plain) (start rest : List ℕ) (h : IsPlain start p) (f : Fault) (b : IsFaultyTail (pieces rest) f) where
   abbrev written : Identifier
   written = h.means.written
 
@@ -311,7 +325,7 @@ module _ (p : Plain) (start rest : List ℕ) (h : IsPlain start p) (b : IsBadTai
   is_identifier : IsIdentifier languages id
   is_identifier = let words = h.means.grammatical.words in record {
     words = record { language = words.language; script = words.script; region = words.region; variants = b.each };
-    different = few_different b.variants b.few;
+    different = b.different;
   }
 
   spelled : pieces (start ++ 45 ∷ rest) ≡ identifier_pieces id ++ b.rest
@@ -324,16 +338,23 @@ module _ (p : Plain) (start rest : List ℕ) (h : IsPlain start p) (b : IsBadTai
 
   head_is : head (pieces (start ++ 45 ∷ rest)) ≡ identifier_pieces id
   head_is =
-      ap head spelled ∙ ap (λ l. id.language ∷ l) (front_past (after_language id) b.rest long ∙ ap (λ l. after_language id ++ l) b.bad.none_before ∙ append-nil (after_language id))
+      ap head spelled ∙ ap (λ l. id.language ∷ l) (front_past (after_language id) b.rest long ∙ ap (λ l. after_language id ++ l) b.none_before ∙ append-nil (after_language id))
 
   blocks_are : tail_blocks (pieces (start ++ 45 ∷ rest)) ≡ blocks b.rest
   blocks_are = ap tail_blocks spelled ∙ blocks_past (after_language id) b.rest long
 
-  pub has_fault : HasFault languages (start ++ 45 ∷ rest) InvalidExtension
-  has_fault = bad_block (id, is_identifier, head_is) (subst (λ bs. FirstBadBlock languages [] bs InvalidExtension) (sym blocks_are) (b.bad.fault [] tt))
+  pub has_fault : HasFault languages (start ++ 45 ∷ rest) f
+  has_fault = bad_block (id, is_identifier, head_is) (subst (λ bs. FirstBadBlock languages [] bs f) (sym blocks_are) b.first)
+
+pub told_fault : (f : Fault) (o : Ordered) (w : List ℕ) (len at : ℕ) → len + 16 ≤ length w → IsBefore w len at o → IsFaultyTail (pieces (take (len - at - 1) (take (length w - (at + 1)) (drop (at + 1) w)))) f
+    → HasFault languages (take len w) f
+told_fault f o w len at room b h =
+    subst (λ (t : List ℕ). HasFault languages t f) (sym (cut_there w len at room b.less b.hyphen))
+    (has_fault o.plain (take at w) (after w len at room b.less b.hyphen) b.plain f (subst (λ (s : List ℕ). IsFaultyTail (pieces s) f) (rest_is w len at room b.less b.hyphen) h))
+
+faulty : (ps : List (List ℕ)) → IsBadTail ps → IsFaultyTail ps InvalidExtension
+faulty ps b = record { variants = b.variants; rest = b.rest; cut = b.cut; each = b.each; different = few_different b.variants b.few; none_before = b.bad.none_before; first = b.bad.fault [] tt }
 
 pub told_bad : (o : Ordered) (w : List ℕ) (len at : ℕ) → len + 16 ≤ length w → IsBefore w len at o → IsBadTail (pieces (take (len - at - 1) (take (length w - (at + 1)) (drop (at + 1) w))))
     → HasFault languages (take len w) InvalidExtension
-told_bad o w len at room b h =
-    subst (λ (t : List ℕ). HasFault languages t InvalidExtension) (sym (cut_there w len at room b.less b.hyphen))
-    (has_fault o.plain (take at w) (after w len at room b.less b.hyphen) b.plain (subst (λ (s : List ℕ). IsBadTail (pieces s)) (rest_is w len at room b.less b.hyphen) h))
+told_bad o w len at room b h = told_fault InvalidExtension o w len at room b (faulty _ h)

@@ -23,16 +23,6 @@ use Rattle.iloc_spec_grammar.proofs.WordsLaws.{length-unicode_key}
 
 -- ---- `true`
 
--- four bytes that are `true` in lower case
-pub true_word_is : (w : List ℕ) → 4 ≤ length w → to_ascii_lowercase (get_or w 0 0) ≡ 116 → to_ascii_lowercase (get_or w 1 0) ≡ 114
-    → to_ascii_lowercase (get_or w 2 0) ≡ 117 → to_ascii_lowercase (get_or w 3 0) ≡ 101 → is_true (lower (take 4 w)) ≡ true
-unfolding lower is_true
-true_word_is [] l t r u e = absurd (omega arith)
-true_word_is (a ∷ []) l t r u e = absurd (omega arith)
-true_word_is (a ∷ b ∷ []) l t r u e = absurd (omega arith)
-true_word_is (a ∷ b ∷ c ∷ []) l t r u e = absurd (omega arith)
-true_word_is (a ∷ b ∷ c ∷ d ∷ w) l t r u e = (λ j. is_same (codes "true") (t j ∷ r j ∷ u j ∷ e j ∷ [])) ∙ same_itself (codes "true")
-
 -- ---- keys by their numbers
 
 alphanumeric_is_small : (c : ℕ) → is_ascii_alphanumeric c ≡ true → to_ascii_lowercase c < 256

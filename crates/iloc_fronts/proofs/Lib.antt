@@ -15,3 +15,5 @@ pub mod TransformLemmas
 pub mod PrintedBlocks
 pub mod OrderedLemmas
 pub mod BadBlocks
+pub mod FaultLemmas
+pub mod DataKeywordLemmas

@@ -15,8 +15,8 @@ use Rattle.iloc_spec_grammar.proofs.RawLaws.{languages_table}
 use Rattle.iloc_spec_grammar.proofs.ValuesLaws.{all_weaker}
 use Rattle.iloc_spec_grammar.proofs.WordsLaws.{length-language, length-transform_key, length-attribute, letter_is, digit_is, region_no_script, variant_no_script, variant_no_region}
 use Rattle.iloc_fronts.specs.Left.{pieces_of, piece_of, IsLeft}
-use Rattle.iloc_fronts.specs.Blocks.{IsValue, lower_fields, two_number}
-use Rattle.iloc_fronts.specs.Transform.{AreValues, AreValuesAs, AreFields, AreRuled, NoFields, IsTransformPart, IsNoTransform}
+use Rattle.iloc_fronts.specs.Blocks.{IsBodyAs, IsValue, lower_fields, two_number}
+use Rattle.iloc_fronts.specs.Transform.{AreValues, AreValuesAs, AreFields, AreRuled, NoFields, IsTransformPart, IsNoTransform, IsHead, IsHeadAs}
 use Rattle.iloc_fronts.specs.declared.left.Left.{Left}
 use Rattle.iloc_fronts.specs.declared.body.Body.{Body}
 use Rattle.iloc_fronts.specs.declared.body.Body.TheVariants as body
@@ -73,13 +73,16 @@ values_after m n p ps whole e le h (body.Next l) v = (v.0, omega (arith, v.1), r
 values_after m n p ps whole e le h body.Bad v = v
 values_after m n p ps whole e le h body.Other v = tt
 
+pub value_words : (vs : List (List ℕ)) → AllByRecursion IsValue vs → AllByRecursion (IsWord Attribute) vs
+value_words vs h = all_weaker IsValue (IsWord Attribute) (λ p v. v.0) vs h
+
 -- ---- fields that break the rule
 
 abbrev is_key : List ℕ → Bool
 is_key p = is_word TransformKey p
 
-value_no_key : (vs : List (List ℕ)) → AllByRecursion IsValue vs → AllByRecursion (λ p. is_key p ≡ false) vs
-value_no_key vs h = all_weaker IsValue (λ p. is_key p ≡ false) (λ p v. attribute_no_key p v.0) vs h
+words_no_key : (vs : List (List ℕ)) → AllByRecursion (IsWord Attribute) vs → AllByRecursion (λ p. is_key p ≡ false) vs
+words_no_key vs h = all_weaker (IsWord Attribute) (λ p. is_key p ≡ false) attribute_no_key vs h
 
 before_past : (xs ys : List (List ℕ)) → AllByRecursion (λ p. is_key p ≡ false) xs → before_key is_key (xs ++ ys) ≡ xs ++ before_key is_key ys
 before_past [] ys h = refl
@@ -95,8 +98,8 @@ long_field_key p h = let two : length p ≡ 2 = length-transform_key p h in grin
 long_value : (p : List ℕ) → IsWord Attribute p → IsLong p
 long_value p h = let l = length-attribute p h in grind (arith, nat_tests, l)
 
-long_values : (vs : List (List ℕ)) → AllByRecursion IsValue vs → AllByRecursion IsLong vs
-long_values vs h = all_weaker IsValue IsLong (λ p v. long_value p v.0) vs h
+long_values : (vs : List (List ℕ)) → AllByRecursion (IsWord Attribute) vs → AllByRecursion IsLong vs
+long_values vs h = all_weaker (IsWord Attribute) IsLong long_value vs h
 
 -- pieces that are no value of a key
 no_value_in : (p : List ℕ) (qs : List (List ℕ)) → (qs ≡ []) ⊎ (is_word Attribute (first_piece qs) ≡ false) → IsField (p, before_key is_key qs) → ⊥
@@ -117,7 +120,7 @@ front_first (p ∷ ps) = elim (cases_Bool (starts_block (p ∷ ps))) [
   | inr long ↦ inr (ap (λ (b : Bool). first_piece (cond b [] (p ∷ front ps))) long)
 ]
 
-front_of_fields : (p : List ℕ) (vs rest : List (List ℕ)) → IsWord TransformKey p → AllByRecursion IsValue vs → front (p ∷ (vs ++ rest)) ≡ p ∷ (vs ++ front rest)
+front_of_fields : (p : List ℕ) (vs rest : List (List ℕ)) → IsWord TransformKey p → AllByRecursion (IsWord Attribute) vs → front (p ∷ (vs ++ rest)) ≡ p ∷ (vs ++ front rest)
 front_of_fields p vs rest h v = front_long p (vs ++ rest) (long_field_key p h) ∙ ap (λ l. p ∷ l) (front_past vs rest (long_values vs v))
 
 pub no_attribute : is_word Attribute [] ≡ false
@@ -145,10 +148,10 @@ no_field ps e r = by (front ps) (front_first ps) r
     by (q ∷ qs) (inr same) r = let differs : before_key is_key (q ∷ qs) ≡ q ∷ before_key is_key qs = ap (λ (b : Bool). cond b [] (q ∷ before_key is_key qs)) (ap is_key same ∙ e) in nonempty (sym differs ∙ r.begins)
 
 -- what follows a field, if it begins with no word and no block
-pub later_fields : (p : List ℕ) (vs rest : List (List ℕ)) → IsWord TransformKey p → AllByRecursion IsValue vs → starts_block rest ≡ false → is_word Attribute (first_piece rest) ≡ false → NoFields rest → NoFields (p ∷ (vs ++ rest))
+pub later_fields : (p : List ℕ) (vs rest : List (List ℕ)) → IsWord TransformKey p → AllByRecursion (IsWord Attribute) vs → starts_block rest ≡ false → is_word Attribute (first_piece rest) ≡ false → NoFields rest → NoFields (p ∷ (vs ++ rest))
 later_fields p vs rest h v long e n r = n (record {
   begins = by (front rest) (front_first rest);
-  each = subst (AllByRecursion IsField) (fields_past is_key vs (front rest) (value_no_key vs v)) first.1;
+  each = subst (AllByRecursion IsField) (fields_past is_key vs (front rest) (words_no_key vs v)) first.1;
   some = nonempty rest long;
 })
   where
@@ -160,7 +163,7 @@ later_fields p vs rest h v long e n r = n (record {
     nonempty (q ∷ rest) long = omega (arith, ap length (front_long q rest long))
 
     words : AllByRecursion (IsWord Attribute) (vs ++ before_key is_key (front rest))
-    words = subst (AllByRecursion (IsWord Attribute)) (before_past vs (front rest) (value_no_key vs v)) first.0.1
+    words = subst (AllByRecursion (IsWord Attribute)) (before_past vs (front rest) (words_no_key vs v)) first.0.1
 
     drop_words : (xs ys : List (List ℕ)) → AllByRecursion (IsWord Attribute) (xs ++ ys) → AllByRecursion (IsWord Attribute) ys
     drop_words [] ys a = a
@@ -219,18 +222,6 @@ after_words l (Some s) (Some r) v vs more a b c = ap (skip_first (is_word Region
 after_words l (Some s) None v vs more a b c = ap (skip_first (is_word Region)) (skip_yes (is_word Script) s _ a) ∙ skip_no (is_word Region) v _ (variant_no_region v c)
 after_words l None (Some r) v vs more a b c = ap (skip_first (is_word Region)) (skip_no (is_word Script) r _ (region_no_script r b)) ∙ skip_yes (is_word Region) r _ b
 after_words l None None v vs more a b c = ap (skip_first (is_word Region)) (skip_no (is_word Script) v _ (variant_no_script v c)) ∙ skip_no (is_word Region) v _ (variant_no_region v c)
-
--- a language, and what the walk finds after it: at most one variant, and what is left
-pub record IsHead (ps rest : List (List ℕ)) : Type 0 where
-  pub first : List ℕ
-  pub others : List (List ℕ)
-  pub cut : ps ≡ first ∷ others
-  pub language : IsWord (Language languages) first
-  pub variants : List (List ℕ)
-  pub found : after_region ps ≡ variants ++ rest
-  pub each : AllByRecursion (IsWord Variant) variants
-  pub few : length variants ≤ 1
-  pub ends : (rest ≡ []) ⊎ (is_word Variant (first_piece rest) ≡ false)
 
 module _ (ps rest : List (List ℕ)) (h : IsHead ps rest) where
   abbrev id : Identifier
@@ -451,3 +442,10 @@ id_before ps rest qs h f = record { id = Some (front_of ps); fields = f.fields; 
 
 pub id_only : (ps rest : List (List ℕ)) → IsHead ps rest → IsTransformPart (identifier_pieces (front_of ps))
 id_only ps rest h = record { id = Some (front_of ps); fields = []; spelled = sym (append-nil (identifier_pieces (front_of ps))); words = part_words ps rest h; each = tt; ascending = refl; some = λ e. absurd (cc) }
+
+-- what is told of an identifier, if that is all that is told
+pub id_told : (len : ℕ) (ps : List (List ℕ)) (w : Body) → (w ≡ body.Bad → ⊥) → IsHeadAs len ps w → IsBodyAs IsTransformPart IsNoTransform len ps w
+id_told len ps body.End n h = id_alone ps h
+id_told len ps (body.Next l) n h = (h.0, h.1, record { body = identifier_pieces (front_of ps); cut = spelled ps (pieces_of l) h.2; is = id_only ps (pieces_of l) h.2 })
+id_told len ps body.Bad n h = absurd (n refl)
+id_told len ps body.Other n h = tt

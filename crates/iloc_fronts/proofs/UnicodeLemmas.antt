@@ -10,9 +10,9 @@ use Rattle.std.specs.Char.{is_ascii_alphanumeric, to_ascii_lowercase}
 use Rattle.std.proofs.lemmas.Bool.{and_parts, and_from, eqb-true, cases_Bool, cases_lt}
 use Rattle.std.proofs.lemmas.Bool.Decides.{nat_tests}
 use Rattle.std.proofs.lemmas.List.{length-map, length-take-le, get_or-take}
-use Rattle.iloc_spec_grammar.specs.Syntax.{UnicodeKey, Attribute, is_word, IsWord, letters_or_digits, lower, word_cmp, is_true, Fields, first_piece}
+use Rattle.iloc_spec_grammar.specs.Syntax.{UnicodeKey, Attribute, is_word, IsWord, letters_or_digits, lower, word_cmp, is_same, is_true, Fields, first_piece}
 use Rattle.iloc_spec_grammar.specs.Reading.{starts_block}
-use Rattle.iloc_spec_grammar.proofs.MapLaws.{same_words}
+use Rattle.iloc_spec_grammar.proofs.MapLaws.{same_words, same_itself}
 use Rattle.iloc_spec_grammar.proofs.ValuesLaws.{all_weaker}
 use Rattle.iloc_spec_grammar.proofs.WordsLaws.{length-attribute, length-unicode_key, letter_is, word_letters_or_digits}
 use Rattle.iloc_plain.proofs.LaneLemmas.{of_byte}
@@ -106,6 +106,19 @@ true_bytes w n inside h = by n (sym (length-take-le n w inside) ∙ sym (length-
 
     by : (m : ℕ) → m ≡ 4 → m ≤ length w → codes "true" ≡ map to_ascii_lowercase (take m w) → TrueBytes w m
     by m e l h = subst (λ (k : ℕ). k ≤ length w → codes "true" ≡ map to_ascii_lowercase (take k w) → TrueBytes w k) (sym e) (bytes w) l h
+
+-- ... are `true`
+pub true_here : (w : List ℕ) (n : ℕ) → n ≤ length w → TrueBytes w n → is_true (lower (take n w)) ≡ true
+unfolding lower is_true
+true_here w n inside h = subst (λ (k : ℕ). is_true (map to_ascii_lowercase (take k w)) ≡ true) (sym h.0) (bytes w (omega (arith, h.0)) h.1 h.2 h.3 h.4)
+  where
+    bytes : (v : List ℕ) → 4 ≤ length v → to_ascii_lowercase (get_or v 0 0) ≡ 116 → to_ascii_lowercase (get_or v 1 0) ≡ 114 → to_ascii_lowercase (get_or v 2 0) ≡ 117 → to_ascii_lowercase (get_or v 3 0) ≡ 101
+        → is_true (map to_ascii_lowercase (take 4 v)) ≡ true
+    bytes [] l p q r s = absurd (omega arith)
+    bytes (a ∷ []) l p q r s = absurd (omega arith)
+    bytes (a ∷ b ∷ []) l p q r s = absurd (omega arith)
+    bytes (a ∷ b ∷ c ∷ []) l p q r s = absurd (omega arith)
+    bytes (a ∷ b ∷ c ∷ d ∷ v) l p q r s = (λ j. is_same (codes "true") (p j ∷ q j ∷ r j ∷ s j ∷ [])) ∙ same_itself (codes "true")
 
 -- ---- keys in order
 

@@ -1,8 +1,8 @@
 -- Lines whose normal text is their own but for the case of letters, and lines with a bad block.
-use Rattle.std.specs.Prelude.{◌≡◌, ⊤, ℕ, ◌+◌, ◌-◌, ◌<◌, ◌≤◌, List, ◌∷◌, ◌++◌, length, take, drop, get_or}
+use Rattle.std.specs.Prelude.{◌≡◌, ⊤, ℕ, ◌+◌, ◌-◌, ◌<◌, ◌≤◌, List, [], ◌∷◌, ◌++◌, length, map, take, drop, get_or}
 use Rattle.std.specs.List.{AllByRecursion}
-use Rattle.iloc_spec_grammar.specs.Syntax.{Text, pieces, Variant, IsWord, languages, lower, Identifier}
-use Rattle.iloc_spec_grammar.specs.Meaning.{Locale, IdentifierMeans, Means, InvalidExtension, HasFault}
+use Rattle.iloc_spec_grammar.specs.Syntax.{Text, pieces, front, blocks, Variant, IsWord, languages, lower, word_cmp, AllDifferent, Identifier}
+use Rattle.iloc_spec_grammar.specs.Meaning.{Locale, IdentifierMeans, Means, Fault, InvalidExtension, FirstBadBlock, HasFault}
 use Rattle.iloc_spec_grammar.specs.Values.{identifier_text, text}
 use Rattle.iloc_plain.specs.Plain.{AreWords, IsPlain, value_of}
 use Rattle.iloc_fronts.specs.Blocks.{ArePrinted, BeginBadly}
@@ -71,6 +71,16 @@ pub record IsBadTail (ps : List Text) : Type 0 where
   pub each : AllByRecursion (IsWord Variant) variants
   pub few : length variants ≤ 1
   pub bad : BeginBadly 0 rest
+
+-- they are different variants, and blocks of which the first bad one has this fault
+pub record IsFaultyTail (ps : List Text) (f : Fault) : Type 0 where
+  pub variants : List Text
+  pub rest : List Text
+  pub cut : ps ≡ variants ++ rest
+  pub each : AllByRecursion (IsWord Variant) variants
+  pub different : AllDifferent word_cmp (map lower variants)
+  pub none_before : front rest ≡ []
+  pub first : FirstBadBlock languages [] (blocks rest) f
 
 -- what is told of the pieces after a plain identifier
 abbrev pub IsTailOf : List Text → Rest → Type 0

@@ -1,10 +1,10 @@
 -- What is told of a block of `t`.
-use Rattle.std.specs.Prelude.{◌≡◌, ⊤, ℕ, ◌<◌, ◌≤◌, ◌++◌, true, false, List, [], length, Option, Some, None, IfSome}
+use Rattle.std.specs.Prelude.{◌≡◌, ⊤, ℕ, ◌<◌, ◌≤◌, ◌⊎◌, ◌∷◌, ◌++◌, true, false, List, [], length, Option, Some, None, IfSome}
 use Rattle.std.specs.List.{AllByRecursion}
 use Rattle.std.specs.FinMap.{is_sorted}
-use Rattle.iloc_spec_grammar.specs.Syntax.{Text, Fields, Identifier, Transform, front, Attribute, TransformKey, is_word, IsWord, HasWords, IsField, IsTransform, fields_pieces, optional_pieces, transform_pieces, languages, word_cmp}
+use Rattle.iloc_spec_grammar.specs.Syntax.{Text, Fields, Identifier, Transform, front, first_piece, Language, Variant, Attribute, TransformKey, is_word, IsWord, HasWords, IsField, IsTransform, fields_pieces, optional_pieces, transform_pieces, languages, word_cmp}
 use Rattle.iloc_spec_grammar.specs.Meaning.{RepeatsVariant}
-use Rattle.iloc_spec_grammar.specs.Reading.{before_key, fields_from}
+use Rattle.iloc_spec_grammar.specs.Reading.{before_key, fields_from, after_region}
 use Rattle.iloc_fronts.specs.Left.{pieces_of, piece_of, IsLeft}
 use Rattle.iloc_fronts.specs.Blocks.{IsValue, lower_fields, two_number, IsCutAs}
 use Rattle.iloc_fronts.specs.declared.left.Left.{Left}
@@ -47,6 +47,25 @@ pub record AreRuled (ps : List Text) : Type 0 where
 -- up to the next block they are no fields
 abbrev pub NoFields : List Text → Type 0
 NoFields ps = ¬ (AreRuled (front ps))
+
+-- a language, and what the walk finds after it: at most one variant, and what is left
+pub record IsHead (ps rest : List Text) : Type 0 where
+  pub first : Text
+  pub others : List Text
+  pub cut : ps ≡ first ∷ others
+  pub language : IsWord (Language languages) first
+  pub variants : List Text
+  pub found : after_region ps ≡ variants ++ rest
+  pub each : AllByRecursion (IsWord Variant) variants
+  pub few : length variants ≤ 1
+  pub ends : (rest ≡ []) ⊎ (is_word Variant (first_piece rest) ≡ false)
+
+-- an identifier with at most one variant comes first, and then what is left; or no language does
+abbrev pub IsHeadAs : ℕ → List Text → Body → Type 0
+IsHeadAs len ps body.End = IsHead ps []
+IsHeadAs len ps (body.Next l) = IsLeft l × (l.len ≤ len) × IsHead ps (pieces_of l)
+IsHeadAs len ps body.Bad = is_word (Language languages) (first_piece ps) ≡ false
+IsHeadAs len ps body.Other = ⊤
 
 -- they are perhaps an identifier with at most one variant, and such fields, not both absent
 pub record IsTransformPart (ps : List Text) : Type 0 where

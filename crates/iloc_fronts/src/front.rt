@@ -16,8 +16,8 @@ pub struct Block<'a> {
     pub window: &'a [u8],
     /// How many of them the line has.
     pub len: usize,
-    /// Whether no variant comes before.
-    pub is_first: bool,
+    /// How many variants come before.
+    pub variants: usize,
     /// How many bytes of the line follow the hyphen after the region. No clause says it: who uses it
     /// tests what it finds there.
     pub tail: usize,
@@ -118,18 +118,18 @@ fn after_region(window: &[u8], len: usize) -> Front<'_>
 {
     let mut rest = window;
     let mut left = len;
-    let mut is_first = true;
+    let mut variants = 0;
     let mut n = first_len(rest, left);
     'variants: while is_variant(rest, n) {
         if n == left {
-            if is_first {
+            if variants == 0 {
                 return Front::Variant(len);
             }
             return Front::Variants;
         }
         rest = &rest[n + 1..];
         left = left - n - 1;
-        is_first = false;
+        variants += 1;
         n = first_len(rest, left);
     }
     if n != 1 {
@@ -138,7 +138,7 @@ fn after_region(window: &[u8], len: usize) -> Front<'_>
     Front::Block(Block {
         window: rest,
         len: left,
-        is_first,
+        variants,
         tail: len,
     })
 }

@@ -15,7 +15,7 @@ ghost use Rattle.iloc_fronts.specs.Rewriting.{
 use crate::left::{Left, after_piece, left_in};
 use crate::other::past_words;
 use crate::storing::{put_bytes, put_piece};
-use crate::words::{equals_true, is_attribute, is_key, number_of_two};
+use crate::words::{is_attribute, is_key, is_true, number_of_two};
 use std::cmp::max;
 
 // What was stored of a line.
@@ -121,7 +121,7 @@ fn put_values<'a>(left: Left<'a>, room: &mut [u8], start: usize) -> Option<Store
                 next: Some(at),
             });
         }
-        if !equals_true(at.window, at.n) {
+        if !is_true(at.window, at.n) {
             end = put_piece(at, room, end)?;
         }
         if at.n == at.len {

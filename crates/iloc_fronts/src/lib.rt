@@ -24,6 +24,7 @@
 
 mod blocks;
 mod body;
+pub mod faults;
 pub mod front;
 pub mod keyword;
 mod keywords;
@@ -37,6 +38,7 @@ mod transform;
 mod unicode;
 mod words;
 
+pub use faults::{BadBlock, find_bad_block};
 pub use front::{Block, Front, may_begin, read_front};
 pub use keyword::{Keyword, read_keyword};
 pub use ordered::{Ordered, Reading, read_ordered, read_varied};

@@ -77,7 +77,7 @@ pub fn read_varied(window: &[u8], len: usize, at: usize) -> Option<Ordered<'_>>
 
 // The plain identifier of `at` bytes and what follows it, if that begins with a hyphen.
 #[inline(always)]
-fn cut_at(window: &[u8], len: usize, at: usize) -> Option<Ordered<'_>>
+pub(crate) fn cut_at(window: &[u8], len: usize, at: usize) -> Option<Ordered<'_>>
     requires { len + 16 ≤ length window.now }
     ensures { IfSome result (IsBefore window.now len at) }
 {

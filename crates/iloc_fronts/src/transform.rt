@@ -7,6 +7,7 @@ ghost use Rattle.iloc_fronts.specs.Blocks.{IsBodyAs, left_of};
 ghost use Rattle.iloc_fronts.specs.Transform.{
   AreFields,
   AreValuesAs,
+  IsHeadAs,
   IsNoTransform,
   IsRest,
   IsTransformPart,
@@ -26,8 +27,26 @@ pub(crate) fn read_transform(left: Left<'_>) -> Body<'_>
     requires { IsLeft left }
     ensures { IsBodyAs IsTransformPart IsNoTransform left.entry.len (pieces_of left.entry) result }
 {
+    match past_identifier(left) {
+        Body::Bad => read_fields(left),
+        Body::Next(next) => {
+            if next.n == 1 {
+                return Body::Next(next);
+            }
+            read_fields(next)
+        }
+        told => told,
+    }
+}
+
+// Passes over an identifier with at most one variant; it is bad if no language comes first.
+#[inline(always)]
+pub(crate) fn past_identifier(left: Left<'_>) -> Body<'_>
+    requires { IsLeft left }
+    ensures { IsHeadAs left.entry.len (pieces_of left.entry) result }
+{
     if !is_language(left.window, left.n) {
-        return read_fields(left);
+        return Body::Bad;
     }
     let Some(at) = after_identifier(left) else {
         return Body::End;
@@ -38,10 +57,7 @@ pub(crate) fn read_transform(left: Left<'_>) -> Body<'_>
     if is_variant(next.window, next.n) {
         return Body::Other;
     }
-    if next.n == 1 {
-        return Body::Next(next);
-    }
-    read_fields(next)
+    Body::Next(next)
 }
 
 // What follows a language, perhaps a script and a region; `None` if nothing does.

@@ -3,6 +3,7 @@ ghost use Rattle.std.specs.Prelude.{◌≡◌, ◌≤◌, ◌&&◌, IsTrue, true
 ghost use Rattle.std.specs.Int.{is_in_range};
 ghost use Rattle.std.specs.Char.{is_ascii_alphanumeric};
 ghost use Rattle.iloc_fronts.specs.Blocks.{two_number};
+ghost use Rattle.iloc_fronts.specs.Faults.{four_number};
 ghost use Rattle.iloc_spec_grammar.specs.Syntax.{
   Attribute,
   Language,
@@ -161,20 +162,9 @@ pub(crate) fn is_attribute(window: &[u8], n: usize) -> bool
     is_word_from(3, window, n)
 }
 
-// Whether the first `n` bytes are `true`, in whatever case. The clause says half of it, which is enough for lines
-// in order.
+// Whether the first `n` bytes are `true`, in whatever case.
 #[inline(always)]
 pub(crate) fn is_true(window: &[u8], n: usize) -> bool
-    requires wide { 16 ≤ length window.now }
-    requires few { n ≤ 16 }
-    ensures { result ≡ false → is_true (lower (take n window.now)) ≡ false }
-{
-    equals_true(window, n)
-}
-
-// The same, exactly.
-#[inline(always)]
-pub(crate) fn equals_true(window: &[u8], n: usize) -> bool
     requires wide { 16 ≤ length window.now }
     requires few { n ≤ 16 }
     ensures { result ≡ is_true (lower (take n window.now)) }
@@ -204,6 +194,18 @@ pub(crate) fn number_of_two(window: &[u8]) -> usize
     ensures { result ≡ two_number (take 2 window.now) }
 {
     256 * ((window[0] | 32) as usize) + (window[1] | 32) as usize
+}
+
+// The number of the first four bytes, which is another if they differ but for the case.
+#[inline(always)]
+pub(crate) fn number_of_four(window: &[u8]) -> usize
+    requires wide { 16 ≤ length window.now }
+    requires word { letters_or_digits (take 4 window.now) ≡ true }
+    ensures { result ≡ four_number (take 4 window.now) }
+{
+    256 * (256 * (256 * ((window[0] | 32) as usize) + (window[1] | 32) as usize)
+        + (window[2] | 32) as usize)
+        + (window[3] | 32) as usize
 }
 
 // Whether the first `n` bytes are a key of `t`.

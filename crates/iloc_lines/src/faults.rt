@@ -4,10 +4,10 @@ ghost use Rattle.iloc_spec_grammar.specs.Syntax.{Text};
 ghost use Rattle.iloc_fronts.specs.Front.{IsFront};
 ghost use Rattle.iloc_fronts.specs.declared.front.Front.TheVariants as fronts;
 ghost use Rattle.iloc_lines.specs.Output.{IsRefused};
-ghost use Rattle.iloc_lines.specs.Told.{IsTold};
+ghost use Rattle.iloc_lines.specs.Told.{IsTold, refusal_of};
 
 use crate::Mode;
-use iloc_fronts::{Block, Front, Keyword, read_front, read_keyword};
+use iloc_fronts::{BadBlock, Block, Front, Keyword, read_front, read_keyword};
 use iloc_subtags::ParseError;
 
 /// What is told of a line.
@@ -84,18 +84,18 @@ fn told_of_data(line: &[u8], block: Block<'_>) -> Told
     }
 }
 
-// A data locale has no block but that of `u`, and in it no keyword but `sd`.
+// A data locale has at most one variant, no block but that of `u`, and in it no keyword but `sd`.
 #[inline(always)]
 fn fault_of_data(line: &[u8], block: Block<'_>) -> Option<ParseError>
     requires { IsFront line.now (fronts.Block block) }
     ensures { IfSome result (IsRefused Mode.Data line.now) }
 {
+    if block.variants > 1 {
+        return Some(ParseError::InvalidSubtag);
+    }
     let singleton = block.window[0];
     if !singleton.is_ascii_alphanumeric() {
-        if block.is_first {
-            return Some(ParseError::InvalidExtension);
-        }
-        return None;
+        return Some(ParseError::InvalidExtension);
     }
     if singleton.to_ascii_lowercase() != b'u' {
         return Some(ParseError::InvalidSubtag);
@@ -104,7 +104,18 @@ fn fault_of_data(line: &[u8], block: Block<'_>) -> Option<ParseError>
         Keyword::Attribute => Some(ParseError::InvalidSubtag),
         Keyword::Misfit => Some(ParseError::InvalidSubtag),
         Keyword::Many => Some(ParseError::InvalidSubtag),
-        Keyword::Single if block.is_first => Some(ParseError::InvalidExtension),
-        _ => None,
+        Keyword::Single => Some(ParseError::InvalidExtension),
+        Keyword::Other => None,
+    }
+}
+
+// Why a locale with this bad block is refused.
+#[inline(always)]
+pub(crate) fn error_of(bad: BadBlock) -> ParseError
+    ensures { result ≡ refusal_of bad }
+{
+    match bad {
+        BadBlock::Misfit => ParseError::InvalidExtension,
+        BadBlock::Duplicated => ParseError::DuplicatedExtension,
     }
 }

@@ -30,11 +30,11 @@ ghost use Rattle.iloc_spec_grammar.specs.Syntax.{Text};
 ghost use Rattle.iloc_lines.specs.declared.Mode.TheVariants as Mode;
 ghost use Rattle.memchr.specs.Find.{IsFirstByte, is_byte};
 
-use crate::faults::{Told, told_at_front};
+use crate::faults::{Told, error_of, told_at_front};
 use crate::replies::write_refusal;
 use crate::reply_block::ReplyBlock;
 use crate::{Answers, RunError};
-use iloc_fronts::{Reading, may_begin, read_ordered, read_varied, rewrite};
+use iloc_fronts::{Reading, find_bad_block, may_begin, read_ordered, read_varied, rewrite};
 use iloc_plain::read_plain;
 use iloc_subtags::ParseError;
 use memchr::memchr_iter;
@@ -178,13 +178,13 @@ fn reply_to_ordered<A: Answers>(
     match read_ordered(window, line.len(), at) {
         Reading::Ordered(told) => replies.push_ordered(&told),
         Reading::BadBlock => write_refusal(ParseError::InvalidExtension, replies),
-        Reading::Other => reply_to_rewritten(answers, window, line, at, replies),
+        Reading::Other => reply_to_unordered(answers, window, line, at, replies),
     }
 }
 
-// The same of a locale whose block of `u` may have to be brought into order.
+// The same of one that is not in order. The first bad block may be told, or the block of `u` brought into order.
 #[inline(always)]
-fn reply_to_rewritten<A: Answers>(
+fn reply_to_unordered<A: Answers>(
     answers: &mut A,
     window: &[u8],
     line: &[u8],
@@ -196,6 +196,9 @@ fn reply_to_rewritten<A: Answers>(
     requires room { length line.now + 16 ≤ length window.now }
     ensures { OnOk result (held replies.new ≡ held replies.old ++ reply A.mode line.now) }
 {
+    if let Some(bad) = find_bad_block(window, line.len(), at) {
+        return write_refusal(error_of(bad), replies);
+    }
     let mut room = [0u8; REWRITTEN];
     let Some(len) = rewrite(window, line.len(), &mut room) else {
         return answers.reply(line, replies);

@@ -1,5 +1,5 @@
 use Rattle.std.proofs.Common.{◌≢◌, Bool, cond, [], ◌∷◌, length, take, sym, ap, ◌∙◌, arith}
-use Rattle.std.proofs.lemmas.Bool.{false≢true}
+use Rattle.std.proofs.lemmas.List.{length-take-le}
 use Rattle.iloc_spec_grammar.specs.Syntax.{Variant, is_word}
 use Rattle.iloc_spec_grammar.specs.Reading.{past, starts_block}
 use Rattle.iloc_fronts.proofs.FrontLemmas.{short_variant, after_word, whole_word, passes_none, passes_one, begins_none, room_left}
@@ -15,9 +15,9 @@ variants-preserved c =
       same = c.variants.invariant.same
           ∙ passes_one c.variants.rest.now c.variants.left c.variants.n c.variants.invariant.room c.variants.invariant.first Variant short_variant
           (sym c.is_variant.ensures ∙ c.variants-test.true) more;
-      fewer = omega (arith, c.variants.invariant.fewer, ap length parts);
-      moved = λ _. omega (arith, c.variants.invariant.fewer, ap length parts);
-      unmoved = λ h. absurd (false≢true h);
+      small = omega (arith, c.variants.invariant.small, c.variants.invariant.first.within, length-take-le c.variants.left c.variants.rest.now (omega (arith, c.variants.invariant.room)));
+      count = omega (arith, c.variants.invariant.count, ap length parts);
+      unmoved = λ none. absurd (omega arith);
     }
 
 pub returns-then-n-ne1 : goal.returns-then-n-ne1
@@ -35,5 +35,5 @@ returns-then-n-left c =
     let fits = sym c.is_variant.ensures ∙ c.variants-test.true in
     let one = whole_word w c.variants.left n c.variants.invariant.room c.variants.invariant.first Variant short_variant fits c.if-n-left.true in (
       c.variants.invariant.same ∙ ap (past (is_word Variant)) one ∙ ap (λ (b : Bool). cond b [] (take n w ∷ [])) fits,
-      omega (arith, c.variants.invariant.moved c.if-is_first.false, ap length one),
+      omega (arith, c.variants.invariant.count, ap length one),
     )

@@ -13,7 +13,7 @@ returns-then-at c =
     let l = c.values.at in
     let word = c.values.invariant.word in
     c.values.invariant.goes body.End (subst AreValues (sym (last_left l c.values.invariant.left (word_left l c.values.invariant.left Attribute short_attribute word) c.if-at.true))
-    (value_last (piece_of l) (word, c.is_true.ensures c.if-is_true.false)))
+    (value_last (piece_of l) (word, sym c.is_true.ensures ∙ c.if-is_true.false)))
 
 pub returns-then-not-is_attribute : goal.returns-then-not-is_attribute
 returns-then-not-is_attribute c =
@@ -26,7 +26,7 @@ returns-then-not-is_attribute c =
       record {
         body = piece_of l ∷ [];
         cut = c.after_piece-at.ensures.pieces (word_left l c.values.invariant.left Attribute short_attribute word);
-        is = value_last (piece_of l) (word, c.is_true.ensures c.if-is_true.false);
+        is = value_last (piece_of l) (word, sym c.is_true.ensures ∙ c.if-is_true.false);
       },
       sym c.is_attribute.ensures ∙ c.if-not-is_attribute.true,
     )
@@ -41,5 +41,5 @@ values-preserved c =
       shorter = omega (arith, c.after_piece-at.ensures.less, c.values.invariant.shorter);
       word = sym c.is_attribute.ensures ∙ c.if-not-is_attribute.false;
       goes = λ w h. c.values.invariant.goes w (values_after next.len l.len (piece_of l) (pieces_of next) (pieces_of l) (c.after_piece-at.ensures.pieces (word_left l c.values.invariant.left Attribute short_attribute word))
-          (omega (arith, c.after_piece-at.ensures.less)) (word, c.is_true.ensures c.if-is_true.false) w h);
+          (omega (arith, c.after_piece-at.ensures.less)) (word, sym c.is_true.ensures ∙ c.if-is_true.false) w h);
     }

@@ -7,7 +7,7 @@ use Rattle.iloc_fronts.proofs.UnicodeLemmas.{key_begins, window_begins, number_i
 use Rattle.iloc_fronts.proofs.unicode.next_key.Goals as goal
 
 pub returns-then-is_attribute : goal.returns-then-is_attribute
-returns-then-is_attribute c = IsNext.value (sym c.is_attribute.ensures ∙ c.if-is_attribute.true, c.is_true.ensures c.if-is_true.false)
+returns-then-is_attribute c = IsNext.value (sym c.is_attribute.ensures ∙ c.if-is_attribute.true, sym c.is_true.ensures ∙ c.if-is_true.false)
 
 pub number_of_two-key-requires-clause-first : goal.number_of_two-key-requires-clause-first
 number_of_two-key-requires-clause-first c =
