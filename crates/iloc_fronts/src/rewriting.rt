@@ -93,7 +93,7 @@ fn put_attributes<'a>(left: Left<'a>, room: &mut [u8], start: usize) -> Option<S
     })
 }
 
-// Stores what follows the block as it stands.
+// Stores what follows the block as it stands, unless the next one would have to come first.
 #[inline(always)]
 fn put_rest(stored: Stored<'_>, room: &mut [u8]) -> Option<usize>
     requires left { BeginsBlock stored.next }
@@ -101,8 +101,11 @@ fn put_rest(stored: Stored<'_>, room: &mut [u8]) -> Option<usize>
     ensures { IfSome result
         (AreStored room.new (take stored.entry.end room.old ++ dashes (left_of stored.entry.next))) }
 {
-    match stored.next {
-        None => Some(stored.end),
-        Some(next) => put_left(next, room, stored.end),
+    let Some(next) = stored.next else {
+        return Some(stored.end);
+    };
+    if next.window[0].to_ascii_lowercase() < b'v' {
+        return None;
     }
+    put_left(next, room, stored.end)
 }

@@ -178,12 +178,25 @@ fn reply_to_ordered<A: Answers>(
     match read_ordered(window, line.len(), at) {
         Reading::Ordered(told) => replies.push_ordered(&told),
         Reading::BadBlock => write_refusal(ParseError::InvalidExtension, replies),
-        Reading::Other => reply_to_rewritten(answers, window, line, at, replies),
+        Reading::Other if begins_unicode(line, at) => {
+            reply_to_rewritten(answers, window, line, at, replies)
+        }
+        Reading::Other => answers.reply(line, replies),
     }
 }
 
-// The same of a locale whose block of `u` may have to be brought into order.
+// Whether the singleton `u` follows so many bytes and a hyphen. No clause says it: a line for which it is wrong costs
+// time alone.
 #[inline(always)]
+fn begins_unicode(line: &[u8], at: usize) -> bool {
+    if at >= line.len() || line.len() - at < 4 {
+        return false;
+    }
+    line[at + 2] == b'-' && line[at + 1].to_ascii_lowercase() == b'u'
+}
+
+// The same of a locale whose block of `u` may have to be brought into order.
+#[inline(never)]
 fn reply_to_rewritten<A: Answers>(
     answers: &mut A,
     window: &[u8],
