@@ -22,6 +22,7 @@
 //! It stands on the grammar (`iloc_spec_grammar`) and on plain texts (`iloc_plain`).
 #![tactic(auto)]
 
+mod attributes;
 mod blocks;
 mod body;
 pub mod front;

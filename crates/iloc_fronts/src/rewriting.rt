@@ -4,7 +4,6 @@ ghost use Rattle.iloc_spec_grammar.specs.Syntax.{dashes};
 ghost use Rattle.iloc_fronts.specs.Left.{IsLeft, pieces_of};
 ghost use Rattle.iloc_fronts.specs.Blocks.{left_of};
 ghost use Rattle.iloc_fronts.specs.Rewriting.{
-  AreAttributesStored,
   AreStored,
   BeginsBlock,
   IsRewrittenAs,
@@ -12,13 +11,13 @@ ghost use Rattle.iloc_fronts.specs.Rewriting.{
   LeadsToUnicode,
 };
 
+use crate::attributes::put_attributes;
 use crate::keywords::{Stored, put_keywords};
 use crate::left::{Left, after_piece, left_in};
-use crate::storing::{put_bytes, put_left, put_piece};
-use crate::words::is_attribute;
+use crate::storing::{put_bytes, put_left};
 
 /// Stores a line of which each meaning is one of the first `len` bytes, and gives its length. In the block of `u`
-/// keys ascend in it, of keywords with one key the first stays, and no value is `true`; all else is as it was.
+/// attributes and keys ascend in it, of keywords with one key the first stays, and no value is `true`; all else is as it was.
 /// `None` says nothing of the line.
 #[inline(never)]
 pub fn rewrite(window: &[u8], len: usize, room: &mut [u8]) -> Option<usize>
@@ -68,29 +67,6 @@ fn put_unicode<'a>(left: Left<'a>, room: &mut [u8], start: usize) -> Option<Stor
         return Some(stored);
     };
     put_keywords(next, room, stored.end)
-}
-
-// Stores attributes as they stand.
-#[inline(always)]
-fn put_attributes<'a>(left: Left<'a>, room: &mut [u8], start: usize) -> Option<Stored<'a>>
-    requires left { IsLeft left }
-    requires room { start + 16 ≤ length room.old }
-    ensures { IfSome result (AreAttributesStored (take start room.old) (pieces_of left.entry)
-        left.entry.len room.new) }
-{
-    let mut at = left;
-    let mut end = start;
-    'attributes: while is_attribute(at.window, at.n) {
-        end = put_piece(at, room, end)?;
-        if at.n == at.len {
-            return Some(Stored { end, next: None });
-        }
-        at = after_piece(at);
-    }
-    Some(Stored {
-        end,
-        next: Some(at),
-    })
 }
 
 // Stores what follows the block as it stands, unless the next one would have to come first.
