@@ -11,13 +11,17 @@
 //! letters. If a bad block comes first, or after blocks in order, `read_ordered` tells that: the text has the fault of
 //! the grammar.
 //!
+//! A line whose block of `u` is out of order is brought into order by `rewrite`: it stores another line, and each meaning
+//! of that is one of this line (`IsRewritten`). `begins_unicode` says whether that is worth trying.
+//!
 //! `None`, `Front::Other`, `Keyword::Other` and `Reading::Other` say nothing: the caller parses the text as it
 //! would without this crate. So each caller keeps its own contract, and a shape that is not told here costs time and
 //! nothing else.
 //!
 //! A line is read a piece at a time (`left`): sixteen bytes from a piece on tell its length and whether it is a word
 //! (`run`, `words`). Each kind of block has a walk of its own (`unicode`, `transform`, `other`), which says where the
-//! next block begins (`blocks`). docs/ARCHITECTURE.md says how to add a shape.
+//! next block begins (`blocks`). A line is rewritten in one walk too (`rewriting`, `attributes`, `keywords`), and its
+//! pieces are stored as sixteen bytes at once (`storing`). docs/ARCHITECTURE.md says how to add a shape.
 //!
 //! It stands on the grammar (`iloc_spec_grammar`) and on plain texts (`iloc_plain`).
 #![tactic(auto)]
@@ -41,4 +45,4 @@ mod words;
 pub use front::{Block, Front, may_begin, read_front};
 pub use keyword::{Keyword, read_keyword};
 pub use ordered::{Ordered, Reading, read_ordered, read_varied};
-pub use rewriting::rewrite;
+pub use rewriting::{begins_unicode, rewrite};

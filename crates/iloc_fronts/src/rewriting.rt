@@ -34,6 +34,32 @@ pub fn rewrite(window: &[u8], len: usize, room: &mut [u8]) -> Option<usize>
     put_rest(stored, room)
 }
 
+/// Whether the first block is one of `u`, if a plain identifier of `at` bytes comes first, and perhaps one variant. Only
+/// then is a line worth rewriting. No clause says it: where it is wrong, it costs time alone.
+#[inline(always)]
+pub fn begins_unicode(window: &[u8], len: usize, at: usize) -> bool
+    requires { len + 16 ≤ length window.now }
+{
+    if at >= len {
+        return false;
+    }
+    let left = left_in(&window[at + 1..], len - at - 1);
+    if left.n == 1 {
+        return is_unicode(left.window[0]);
+    }
+    if left.n == left.len {
+        return false;
+    }
+    let next = after_piece(left);
+    next.n == 1 && is_unicode(next.window[0])
+}
+
+// Whether the byte is `u`, in either case.
+#[inline(always)]
+fn is_unicode(byte: u8) -> bool {
+    byte.to_ascii_lowercase() == b'u'
+}
+
 // What follows the singleton `u`.
 #[inline(always)]
 fn find_unicode(left: Left<'_>) -> Option<Left<'_>>

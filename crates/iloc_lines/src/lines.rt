@@ -34,7 +34,7 @@ use crate::faults::{Told, told_at_front};
 use crate::replies::write_refusal;
 use crate::reply_block::ReplyBlock;
 use crate::{Answers, RunError};
-use iloc_fronts::{Reading, may_begin, read_ordered, read_varied, rewrite};
+use iloc_fronts::{Reading, begins_unicode, may_begin, read_ordered, read_varied, rewrite};
 use iloc_plain::read_plain;
 use iloc_subtags::ParseError;
 use memchr::memchr_iter;
@@ -178,21 +178,11 @@ fn reply_to_ordered<A: Answers>(
     match read_ordered(window, line.len(), at) {
         Reading::Ordered(told) => replies.push_ordered(&told),
         Reading::BadBlock => write_refusal(ParseError::InvalidExtension, replies),
-        Reading::Other if begins_unicode(line, at) => {
+        Reading::Other if begins_unicode(window, line.len(), at) => {
             reply_to_rewritten(answers, window, line, at, replies)
         }
         Reading::Other => answers.reply(line, replies),
     }
-}
-
-// Whether the singleton `u` follows so many bytes and a hyphen. No clause says it: a line for which it is wrong costs
-// time alone.
-#[inline(always)]
-fn begins_unicode(line: &[u8], at: usize) -> bool {
-    if at >= line.len() || line.len() - at < 4 {
-        return false;
-    }
-    line[at + 2] == b'-' && line[at + 1].to_ascii_lowercase() == b'u'
 }
 
 // The same of a locale whose block of `u` may have to be brought into order.
