@@ -78,6 +78,6 @@ fn tell_ordered<'a>(window: &'a [u8], len: usize, block: Block<'_>) -> Told<'a>
     match read_ordered(window, len, len.wrapping_sub(block.tail.wrapping_add(1))) {
         Reading::Ordered(line) => Told::Ordered(line),
         Reading::BadBlock => Told::Refused(ParseError::InvalidExtension),
-        Reading::Other => Told::Nothing,
+        Reading::Unordered | Reading::Other => Told::Nothing,
     }
 }

@@ -12,11 +12,13 @@ use Rattle.iloc_spec_grammar.proofs.PiecesLaws.{pieces-join}
 use Rattle.iloc_spec_grammar.proofs.PartTexts.{join-dashes, dashes-append}
 use Rattle.iloc_spec_grammar.proofs.ReadBack.{all_append, fields_each, word_hyphen_free}
 use Rattle.iloc_spec_grammar.proofs.ValuesLaws.{all_weaker}
+use Rattle.iloc_spec_grammar.proofs.Orders.{all_reordered, itself}
+use Rattle.iloc_spec_grammar.specs.Values.{Reordered}
 use Rattle.iloc_spec_grammar.proofs.WordsLaws.{length-unicode_key}
 use Rattle.iloc_fronts.specs.Blocks.{two_number, left_of, ArePast}
 use Rattle.iloc_fronts.specs.Left.{pieces_of, piece_of, IsLeft}
 use Rattle.iloc_fronts.specs.Transform.{IsRest}
-use Rattle.iloc_fronts.specs.Rewriting.{AreStored, IsShorter, AreValuesKept, IsValueStored, IsFieldStored, Ascend, AreUpTo, AreFieldsStored, HaveSame, IsInserted, IsPlace, AreAttributesStored, AreKeywordsSoFar, AreKeywordsStored, BeginsBlock}
+use Rattle.iloc_fronts.specs.Rewriting.{AreStored, IsShorter, AreValuesKept, IsValueStored, IsFieldStored, Ascend, AreUpTo, AreFieldsStored, HaveSame, IsInserted, IsPlace, AreAttributesStored, AreAttributesSoFar, AreWordsStored, IsWordStored, IsCutAfter, AreKeywordsSoFar, AreKeywordsStored, BeginsBlock}
 use Rattle.iloc_fronts.specs.declared.left.Left.{Left}
 use Rattle.iloc_fronts.specs.declared.keywords.Stored.{Stored}
 use Rattle.iloc_fronts.specs.declared.keywords.Place.{Place}
@@ -47,22 +49,6 @@ stored_one text room p e a = subst (λ (t : List ℕ). AreStored room (text ++ t
 
 stored_none : (room : List ℕ) (e : ℕ) → e + 16 ≤ length room → AreStored room (take e room ++ dashes []) e
 stored_none room e more = record { begins = sym (append-nil (take e room)); more = more }
-
--- ---- attributes
-
-pub attribute_more : (text room p : List ℕ) (e m n : ℕ) (ps qs : List (List ℕ)) → IsWord Attribute p → AreStored room (text ++ 45 ∷ p) e → ps ≡ p ∷ qs → m ≤ n
-    → (new : List ℕ) (s : Stored) → AreAttributesStored (take e room) qs m new s → AreAttributesStored text ps n new s
-attribute_more text room p e m n ps qs w a cut le new s h = record {
-  words = p ∷ h.words;
-  cut = cut ∙ ap (λ l. p ∷ l) h.cut;
-  each = (w, h.each);
-  stored = stored_more text room p e h.words new s.end a h.stored;
-  left = rest_weaker m n le s.next h.left;
-}
-
-pub attribute_last : (text room p : List ℕ) (e n : ℕ) (ps : List (List ℕ)) → IsWord Attribute p → AreStored room (text ++ 45 ∷ p) e → ps ≡ p ∷ []
-    → AreAttributesStored text ps n room (record { end = e; next = None })
-attribute_last text room p e n ps w a cut = record { words = p ∷ []; cut = cut; each = (w, tt); stored = stored_one text room p e a; left = tt }
 
 -- ---- values
 
@@ -239,16 +225,17 @@ split_room room xs ys e k inside is long =
 keyword_free : (fs : Fields) → AllByRecursion IsKeyword fs → AllByRecursion IsHyphenFree (fields_pieces fs)
 keyword_free fs h = fields_each IsHyphenFree UnicodeKey (word_hyphen_free UnicodeKey) (word_hyphen_free Attribute) fs h
 
-module _ (room text : List ℕ) (start end : ℕ) (fs : Fields) (room_end : end ≤ length room) (a : AreFieldsStored room start end text fs) (some : start < end) where
-  -- what the fields are in the room, behind the first hyphen
-  abbrev pub from_first : List ℕ
+module _ (room text : List ℕ) (start end : ℕ) (ps : List (List ℕ)) (room_end : end ≤ length room) (before : length text ≡ start) (stored : take end room ≡ text ++ dashes ps)
+    (free : AllByRecursion IsHyphenFree ps) (some : start < end) where
+  -- what they are in the room, behind the first hyphen
+  abbrev from_first : List ℕ
   from_first = take (end - start - 1) (take (length room - (start + 1)) (drop (start + 1) room))
 
-  behind : take (end - start) (drop start room) ≡ dashes (fields_pieces fs)
+  behind : take (end - start) (drop start room) ≡ dashes ps
   behind =
-      let long : length (dashes (fields_pieces fs)) ≡ end - start = omega (arith, length-take-le end room room_end, ap length a.stored, length-append text (dashes (fields_pieces fs)), a.before) in
+      let long : length (dashes ps) ≡ end - start = omega (arith, length-take-le end room room_end, ap length stored, length-append text (dashes ps), before) in
       let same : end - (end - start) ≡ start = omega arith in
-      ap (λ (m : ℕ). take (end - start) (drop m room)) (sym same) ∙ (split_room room text (dashes (fields_pieces fs)) end (end - start) room_end a.stored long).1
+      ap (λ (m : ℕ). take (end - start) (drop m room)) (sym same) ∙ (split_room room text (dashes ps) end (end - start) room_end stored long).1
 
   from_first_is : from_first ≡ drop 1 (take (end - start) (drop start room))
   from_first_is =
@@ -258,12 +245,16 @@ module _ (room text : List ℕ) (start end : ℕ) (fs : Fields) (room_end : end 
       ∙ sym (drop-take 1 (end - start - 1) (drop start room))
       ∙ ap (λ (m : ℕ). drop 1 (take m (drop start room))) (sym more)
 
-  pub room_pieces : pieces from_first ≡ fields_pieces fs
-  room_pieces = by (fields_pieces fs) (keyword_free fs a.each) (ap length (sym behind) ∙ length-take-le (end - start) (drop start room) (omega (arith, length-drop start room))) (from_first_is ∙ ap (drop 1) behind)
+  pub pieces_in_room : pieces from_first ≡ ps
+  pieces_in_room = by ps free (ap length (sym behind) ∙ length-take-le (end - start) (drop start room) (omega (arith, length-drop start room))) (from_first_is ∙ ap (drop 1) behind)
     where
-      by : (ps : List (List ℕ)) → AllByRecursion IsHyphenFree ps → length (dashes ps) ≡ end - start → from_first ≡ drop 1 (dashes ps) → pieces from_first ≡ ps
+      by : (qs : List (List ℕ)) → AllByRecursion IsHyphenFree qs → length (dashes qs) ≡ end - start → from_first ≡ drop 1 (dashes qs) → pieces from_first ≡ qs
       by [] h l e = absurd (omega arith)
-      by (p ∷ ps) h l e = ap pieces (e ∙ sym (join-dashes p ps)) ∙ pieces-join p ps h
+      by (p ∷ qs) h l e = ap pieces (e ∙ sym (join-dashes p qs)) ∙ pieces-join p qs h
+
+pub room_pieces : (room text : List ℕ) (start end : ℕ) (fs : Fields) → end ≤ length room → AreFieldsStored room start end text fs → start < end
+    → pieces (take (end - start - 1) (take (length room - (start + 1)) (drop (start + 1) room))) ≡ fields_pieces fs
+room_pieces room text start end fs room_end a some = pieces_in_room room text start end (fields_pieces fs) room_end a.before a.stored (keyword_free fs a.each) some
 
 -- ---- a field among others
 
@@ -434,3 +425,140 @@ max_first a b = grind (arith, nat_tests)
 
 pub max_second : (a b : ℕ) → b ≤ ord_max nat_cmp a b
 max_second a b = grind (arith, nat_tests)
+
+-- ---- attributes
+
+reordered_before : {X : Type 0} (xs : List X) {ys zs : List X} → Reordered ys zs → Reordered (xs ++ ys) (xs ++ zs)
+reordered_before [] r = r
+reordered_before (x ∷ xs) r = Reordered.front_kept (reordered_before xs r)
+
+reordered_after : {X : Type 0} {xs ys : List X} (zs : List X) → Reordered xs ys → Reordered (xs ++ zs) (ys ++ zs)
+reordered_after zs Reordered.none = itself zs
+reordered_after zs (Reordered.front_kept r) = Reordered.front_kept (reordered_after zs r)
+reordered_after zs (Reordered.first_two {x = x} {y = y} {xs = xs}) = Reordered.first_two {x = x} {y = y} {xs = xs ++ zs}
+reordered_after zs (Reordered.in_turn r s) = Reordered.in_turn (reordered_after zs r) (reordered_after zs s)
+
+-- the last comes first
+last_first : {X : Type 0} (xs : List X) (x : X) → Reordered (xs ++ x ∷ []) (x ∷ xs)
+last_first [] x = itself (x ∷ [])
+last_first (y ∷ xs) x = Reordered.in_turn (Reordered.front_kept (last_first xs x)) Reordered.first_two
+
+words_stored : (text : List ℕ) (ws : List (List ℕ)) (p : List ℕ) → (text ++ dashes ws) ++ 45 ∷ p ≡ text ++ dashes (ws ++ p ∷ [])
+words_stored text ws p =
+    append_assoc text (dashes ws) (45 ∷ p)
+    ∙ ap (λ t. text ++ t) (ap (λ t. dashes ws ++ t) (sym (append-nil (45 ∷ p))) ∙ sym (dashes-append ws (p ∷ [])))
+
+pub word_appended : (text room p : List ℕ) (start end : ℕ) (ws : List (List ℕ)) → AreWordsStored room start end text ws → (new : List ℕ) (e : ℕ) → AreStored new (take end room ++ 45 ∷ p) e → IsWordStored text ws p new e
+word_appended text room p start end ws a new e h = record {
+  all = ws ++ p ∷ [];
+  order = itself (ws ++ p ∷ []);
+  stored = subst (λ (t : List ℕ). AreStored new t e) (ap (λ t. t ++ 45 ∷ p) a.stored ∙ words_stored text ws p) h;
+}
+
+pub word_inserted : (text room p : List ℕ) (start end len m : ℕ) (ws : List (List ℕ)) → end ≤ length room → AreWordsStored room start end text ws → IsCutAfter ws len m
+    → (room' new : List ℕ) (k e : ℕ) → AreStored room' (take (end - m - 1) room ++ 45 ∷ p) k → AreStored new (take k room' ++ take (m + 1) (drop (end - m - 1) room)) e → IsWordStored text ws p new e
+word_inserted text room p start end len m ws room_end a c room' new k e h stored = record {
+  all = c.before ++ (p ∷ (c.first ∷ c.rest));
+  order = subst (λ (l : List (List ℕ)). Reordered l (c.before ++ (p ∷ (c.first ∷ c.rest)))) (sym (append_assoc c.before (c.first ∷ c.rest) (p ∷ [])) ∙ ap (λ l. l ++ p ∷ []) (sym c.cut))
+      (reordered_before c.before (last_first (c.first ∷ c.rest) p));
+  stored = subst (λ (t : List ℕ). AreStored new t e) text_is stored;
+}
+  where
+    long : length (dashes (c.first ∷ c.rest)) ≡ m + 1
+    long = let l : length (dashes (c.first ∷ c.rest)) ≡ suc (length (join (c.first ∷ c.rest))) = ap suc (ap length (sym (join-dashes c.first c.rest))) in omega (arith, l, c.long)
+
+    parts : take end room ≡ (text ++ dashes c.before) ++ dashes (c.first ∷ c.rest)
+    parts = a.stored ∙ ap (λ l. text ++ dashes l) c.cut ∙ ap (λ t. text ++ t) (dashes-append c.before (c.first ∷ c.rest)) ∙ sym (append_assoc text (dashes c.before) (dashes (c.first ∷ c.rest)))
+
+    same_place : end - (m + 1) ≡ end - m - 1
+    same_place = omega arith
+
+    halves : (take (end - m - 1) room ≡ text ++ dashes c.before) × (take (m + 1) (drop (end - m - 1) room) ≡ dashes (c.first ∷ c.rest))
+    halves = subst (λ (n : ℕ). (take n room ≡ text ++ dashes c.before) × (take (m + 1) (drop n room) ≡ dashes (c.first ∷ c.rest))) same_place
+        (split_room room (text ++ dashes c.before) (dashes (c.first ∷ c.rest)) end (m + 1) room_end parts long)
+
+    text_is : take k room' ++ take (m + 1) (drop (end - m - 1) room) ≡ text ++ dashes (c.before ++ (p ∷ (c.first ∷ c.rest)))
+    text_is =
+        (λ j. (h.begins ∙ ap (λ t. t ++ 45 ∷ p) halves.0 ∙ words_stored text c.before p) j ++ halves.1 j)
+        ∙ append_assoc text (dashes (c.before ++ p ∷ [])) (dashes (c.first ∷ c.rest))
+        ∙ ap (λ t. text ++ t) (sym (dashes-append (c.before ++ p ∷ []) (c.first ∷ c.rest)))
+        ∙ ap (λ l. text ++ dashes l) (append_assoc c.before (p ∷ []) (c.first ∷ c.rest))
+
+pub words_in_room : (room text : List ℕ) (start end : ℕ) (ws : List (List ℕ)) → end ≤ length room → AreWordsStored room start end text ws → start < end
+    → pieces (take (end - start - 1) (take (length room - (start + 1)) (drop (start + 1) room))) ≡ ws
+words_in_room room text start end ws room_end a some =
+    pieces_in_room room text start end ws room_end a.before a.stored (all_weaker (IsWord Attribute) IsHyphenFree (word_hyphen_free Attribute) ws a.each) some
+
+pub cut_here : (l : Left) → IsLeft l → l.n < 16 → IsCutAfter (pieces_of l) l.len l.len
+cut_here l h few = record {
+  before = [];
+  first = piece_of l;
+  rest = rest_of (pieces_of l);
+  cut = cut_left l h few;
+  long = sym (length-joined l h) ∙ ap (λ ps. length (join ps)) (cut_left l h few);
+  within = omega arith;
+}
+
+pub cut_later : (p : List ℕ) (ps qs : List (List ℕ)) (m n : ℕ) → ps ≡ p ∷ qs → m ≤ n → (k : ℕ) → IsCutAfter qs m k → IsCutAfter ps n k
+cut_later p ps qs m n e le k h = record {
+  before = p ∷ h.before;
+  first = h.first;
+  rest = h.rest;
+  cut = e ∙ ap (λ l. p ∷ l) h.cut;
+  long = h.long;
+  within = omega (arith, h.within);
+}
+
+pub attributes_none : (room : List ℕ) (start : ℕ) (l : Left) → start ≤ length room → AreAttributesSoFar (take start room) (pieces_of l) start start room l
+attributes_none room start l inside = record {
+  words = [];
+  kept = [];
+  cut = refl;
+  each = tt;
+  order = Reordered.none;
+  stored = record { before = length-take-le start room inside; stored = sym (append-nil (take start room)); each = tt };
+}
+
+module _ (text room p : List ℕ) (ps : List (List ℕ)) (start end : ℕ) (at : Left) (h : AreAttributesSoFar text ps start end room at) (w : IsWord Attribute p) (new : List ℕ) (e : ℕ)
+    (i : IsWordStored text h.kept p new e) where
+  more_each : AllByRecursion (IsWord Attribute) (h.words ++ p ∷ [])
+  more_each = all_append (IsWord Attribute) h.words (p ∷ []) h.each (w, tt)
+
+  more_order : Reordered (h.words ++ p ∷ []) i.all
+  more_order = Reordered.in_turn (reordered_after (p ∷ []) h.order) i.order
+
+  pub attribute_last : (n : ℕ) → pieces_of at ≡ p ∷ [] → AreAttributesStored text ps n new (record { end = e; next = None })
+  attribute_last n cut = record {
+    words = h.words ++ p ∷ [];
+    kept = i.all;
+    cut = h.cut ∙ ap (λ l. h.words ++ l) cut ∙ sym (append-nil (h.words ++ p ∷ []));
+    each = more_each;
+    order = more_order;
+    stored = i.stored;
+    left = tt;
+  }
+
+  pub attribute_more : (next : Left) → pieces_of at ≡ p ∷ pieces_of next → AreAttributesSoFar text ps start e new next
+  attribute_more next cut = record {
+    words = h.words ++ p ∷ [];
+    kept = i.all;
+    cut = h.cut ∙ ap (λ l. h.words ++ l) cut ∙ sym (append_assoc h.words (p ∷ []) (pieces_of next));
+    each = more_each;
+    order = more_order;
+    stored = record { before = h.stored.before; stored = i.stored.begins; each = all_reordered (IsWord Attribute) more_order more_each };
+  }
+
+  pub attribute_behind : start ≤ e
+  attribute_behind = omega (arith, i.stored.more, h.stored.before, length-take-le e new (omega (arith, i.stored.more)), ap length i.stored.begins, length-append text (dashes i.all))
+
+pub attributes_end : (text room : List ℕ) (ps : List (List ℕ)) (start end n : ℕ) (at : Left) → AreAttributesSoFar text ps start end room at → end + 16 ≤ length room → IsLeft at → at.len ≤ n
+    → AreAttributesStored text ps n room (record { end = end; next = Some at })
+attributes_end text room ps start end n at h more left le = record {
+  words = h.words;
+  kept = h.kept;
+  cut = h.cut;
+  each = h.each;
+  order = h.order;
+  stored = record { begins = h.stored.stored; more = more };
+  left = (left, le);
+}

@@ -46,6 +46,7 @@ pub record BeginBadly (last : ℕ) (ps : List Text) : Type 0 where
 abbrev pub AreBlocksOf : ℕ → List Text → Rest → Type 0
 AreBlocksOf last ps rest.Printed = ArePrinted last ps
 AreBlocksOf last ps rest.BadBlock = BeginBadly last ps
+AreBlocksOf last ps rest.Unordered = ⊤
 AreBlocksOf last ps rest.Other = ⊤
 
 -- the singleton c is no letter or digit, or it may come after the last one
@@ -58,6 +59,7 @@ IsBlockAs last c len ps body.End = ArePrinted last ps
 IsBlockAs last c len ps (body.Next l) = IsLeft l × (l.len ≤ len)
     × ((r : Rest) → AreBlocksOf c (pieces_of l) r → AreBlocksOf last ps r)
 IsBlockAs last c len ps body.Bad = BeginBadly last ps
+IsBlockAs last c len ps body.Unordered = ⊤
 IsBlockAs last c len ps body.Other = ⊤
 
 -- The pieces after a singleton, up to the next block.
@@ -73,6 +75,7 @@ abbrev pub IsBodyAs : (List Text → Type 0) → (List Text → Type 0) → ℕ 
 IsBodyAs P B len ps body.End = P ps
 IsBodyAs P B len ps (body.Next l) = IsLeft l × (l.len ≤ len) × IsCutAs P ps (pieces_of l)
 IsBodyAs P B len ps body.Bad = B ps
+IsBodyAs P B len ps body.Unordered = ⊤
 IsBodyAs P B len ps body.Other = ⊤
 
 -- Words.
@@ -110,6 +113,7 @@ abbrev pub IsPrivateAs : List Text → Body → Type 0
 IsPrivateAs ps body.End = ArePrivate ps
 IsPrivateAs ps body.Bad = list_all (is_word PrivateSubtag) ps ≡ false
 IsPrivateAs ps (body.Next l) = ¬ ⊤
+IsPrivateAs ps body.Unordered = ¬ ⊤
 IsPrivateAs ps body.Other = ¬ ⊤
 
 -- Other extensions.

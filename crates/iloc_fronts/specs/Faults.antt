@@ -63,6 +63,7 @@ IsPassedAs c len ps (body.Next l) = IsLeft l × (l.len ≤ len) × ((seen : Text
     → HaveBad (to_ascii_lowercase c ∷ seen) (pieces_of l) b → HaveBad seen ((c ∷ []) ∷ ps) b)
 IsPassedAs c len ps body.Bad = (seen : Text) → IsUnseen c seen → HaveBad seen ((c ∷ []) ∷ ps) bad.Misfit
 IsPassedAs c len ps body.End = ⊤
+IsPassedAs c len ps body.Unordered = ⊤
 IsPassedAs c len ps body.Other = ⊤
 
 -- Their bodies.

@@ -86,10 +86,12 @@ pub record IsFaultyTail (ps : List Text) (f : Fault) : Type 0 where
 abbrev pub IsTailOf : List Text → Rest → Type 0
 IsTailOf ps rest.Printed = IsTail ps
 IsTailOf ps rest.BadBlock = IsBadTail ps
+IsTailOf ps rest.Unordered = ⊤
 IsTailOf ps rest.Other = ⊤
 
 -- what is told of the line
 abbrev pub IsReading : Text → Reading → Type 0
 IsReading t (reading.Ordered o) = IsOrdered t o
 IsReading t reading.BadBlock = HasFault languages t InvalidExtension
+IsReading t reading.Unordered = ⊤
 IsReading t reading.Other = ⊤

@@ -5,6 +5,7 @@ use Rattle.std.specs.FinMap.{find}
 use Rattle.std.specs.Char.{to_ascii_lowercase}
 use Rattle.iloc_spec_grammar.specs.Syntax.{Text, Field, Fields, Unicode, IsHyphenFree, UnicodeKey, Attribute, IsWord, is_word, IsKeyword, word_cmp, lower, dashes, join, fields_pieces, is_one_byte, code_u, code_x, languages}
 use Rattle.iloc_spec_grammar.specs.Meaning.{Locale, Means, normal_values}
+use Rattle.iloc_spec_grammar.specs.Values.{Reordered}
 use Rattle.iloc_spec_grammar.specs.ByBlocks.{UnicodeMeans}
 use Rattle.iloc_fronts.specs.Blocks.{two_number, left_of}
 use Rattle.iloc_fronts.specs.Left.{pieces_of, piece_of, IsLeft}
@@ -126,13 +127,45 @@ pub record AreKeywordsStored (text : Text) (ps : List Text) (room : Text) (s : S
 
 -- The block.
 
--- attributes that come first are stored
+-- attributes that come first are stored in some order
 pub record AreAttributesStored (text : Text) (ps : List Text) (len : ℕ) (room : Text) (s : Stored) : Type 0 where
   pub words : List Text
+  pub kept : List Text
   pub cut : ps ≡ words ++ left_of s.next
   pub each : AllByRecursion (IsWord Attribute) words
-  pub stored : AreStored room (text ++ dashes words) s.end
+  pub order : Reordered words kept
+  pub stored : AreStored room (text ++ dashes kept) s.end
   pub left : IsRest len s.next
+
+-- words are stored behind the text
+pub record AreWordsStored (room : Text) (start end : ℕ) (text : Text) (words : List Text) : Type 0 where
+  pub before : length text ≡ start
+  pub stored : take end room ≡ text ++ dashes words
+  pub each : AllByRecursion (IsWord Attribute) words
+
+-- one word more is stored among them
+pub record IsWordStored (text : Text) (words : List Text) (word room : Text) (end : ℕ) : Type 0 where
+  pub all : List Text
+  pub order : Reordered (words ++ word ∷ []) all
+  pub stored : AreStored room (text ++ dashes all) end
+
+-- the pieces are cut where so many bytes are left
+pub record IsCutAfter (ps : List Text) (len m : ℕ) : Type 0 where
+  pub before : List Text
+  pub first : Text
+  pub rest : List Text
+  pub cut : ps ≡ before ++ (first ∷ rest)
+  pub long : m ≡ length (join (first ∷ rest))
+  pub within : m ≤ len
+
+-- attributes so far are stored in some order, and other pieces are left
+pub record AreAttributesSoFar (text : Text) (ps : List Text) (start end : ℕ) (room : Text) (l : Left) : Type 0 where
+  pub words : List Text
+  pub kept : List Text
+  pub cut : ps ≡ words ++ pieces_of l
+  pub each : AllByRecursion (IsWord Attribute) words
+  pub order : Reordered words kept
+  pub stored : AreWordsStored room start end text kept
 
 -- pieces up to the next block are stored as others, of which each meaning is theirs
 pub record IsUnicodeStored (text : Text) (ps : List Text) (room : Text) (s : Stored) : Type 0 where

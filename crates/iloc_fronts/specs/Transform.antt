@@ -65,6 +65,7 @@ abbrev pub IsHeadAs : ℕ → List Text → Body → Type 0
 IsHeadAs len ps body.End = IsHead ps []
 IsHeadAs len ps (body.Next l) = IsLeft l × (l.len ≤ len) × IsHead ps (pieces_of l)
 IsHeadAs len ps body.Bad = is_word (Language languages) (first_piece ps) ≡ false
+IsHeadAs len ps body.Unordered = ⊤
 IsHeadAs len ps body.Other = ⊤
 
 -- they are perhaps an identifier with at most one variant, and such fields, not both absent

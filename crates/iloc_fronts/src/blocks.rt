@@ -17,6 +17,8 @@ pub(crate) enum Rest {
     Printed,
     // Good blocks, then one that is bad, and perhaps others after it.
     BadBlock,
+    // A block of `u` comes that is not in order.
+    Unordered,
     // Nothing that is told.
     Other,
 }
@@ -39,6 +41,7 @@ pub(crate) fn read_blocks(left: Left<'_>) -> Rest
         Body::End => Rest::Printed,
         Body::Next(next) => after_first(singleton, next),
         Body::Bad => Rest::BadBlock,
+        Body::Unordered => Rest::Unordered,
         Body::Other => Rest::Other,
     }
 }
@@ -82,6 +85,7 @@ fn read_later(first: u8, left: Left<'_>) -> Rest
                 at = next;
             }
             Body::Bad => return Rest::BadBlock,
+            Body::Unordered => return Rest::Unordered,
             Body::Other => return Rest::Other,
         }
     }

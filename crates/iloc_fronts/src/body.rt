@@ -10,6 +10,8 @@ pub(crate) enum Body<'a> {
     Next(Left<'a>),
     // Pieces that break the rule of the singleton.
     Bad,
+    // Attributes or keywords that are not in order. What follows them is not told.
+    Unordered,
     // Nothing that is told.
     Other,
 }

@@ -122,7 +122,7 @@ fn first_bad(left: Left<'_>) -> Option<BadBlock>
                 at = next;
             }
             Body::Bad => return Some(BadBlock::Misfit),
-            Body::End | Body::Other => return None,
+            Body::End | Body::Unordered | Body::Other => return None,
         }
     }
     None

@@ -11,17 +11,22 @@
 //! letters. If a bad block comes first, or after blocks in order, `read_ordered` tells that: the text has the fault of
 //! the grammar.
 //!
+//! A line whose block of `u` is out of order is brought into order by `rewrite`: it stores another line, and each meaning
+//! of that is one of this line (`IsRewritten`).
+//!
 //! `None`, `Front::Other`, `Keyword::Other` and `Reading::Other` say nothing: the caller parses the text as it
 //! would without this crate. So each caller keeps its own contract, and a shape that is not told here costs time and
 //! nothing else.
 //!
 //! A line is read a piece at a time (`left`): sixteen bytes from a piece on tell its length and whether it is a word
 //! (`run`, `words`). Each kind of block has a walk of its own (`unicode`, `transform`, `other`), which says where the
-//! next block begins (`blocks`). docs/ARCHITECTURE.md says how to add a shape.
+//! next block begins (`blocks`). A line is rewritten in one walk too (`rewriting`, `attributes`, `keywords`), and its
+//! pieces are stored as sixteen bytes at once (`storing`). docs/ARCHITECTURE.md says how to add a shape.
 //!
 //! It stands on the grammar (`iloc_spec_grammar`) and on plain texts (`iloc_plain`).
 #![tactic(auto)]
 
+mod attributes;
 mod blocks;
 mod body;
 pub mod faults;

@@ -27,6 +27,8 @@ pub enum Reading<'a> {
     Ordered(Ordered<'a>),
     /// An identifier, perhaps blocks in order, and then a bad one.
     BadBlock,
+    /// Not in order where its block of `u` begins: `rewrite` may bring it into order. Nothing is claimed of it.
+    Unordered,
     /// Nothing that is told.
     Other,
 }
@@ -44,8 +46,10 @@ pub fn read_ordered(window: &[u8], len: usize, at: usize) -> Reading<'_>
         return Reading::Other;
     }
     let rest = read_tail(left_in(&window[at + 1..], len - at - 1));
-    if let Rest::Other = rest {
-        return Reading::Other;
+    match rest {
+        Rest::Unordered => return Reading::Unordered,
+        Rest::Other => return Reading::Other,
+        _ => (),
     }
     let Some(line) = cut_at(window, len, at) else {
         return Reading::Other;
@@ -53,6 +57,7 @@ pub fn read_ordered(window: &[u8], len: usize, at: usize) -> Reading<'_>
     match rest {
         Rest::Printed => Reading::Ordered(line),
         Rest::BadBlock => Reading::BadBlock,
+        Rest::Unordered => Reading::Unordered,
         Rest::Other => Reading::Other,
     }
 }

@@ -4,7 +4,6 @@ ghost use Rattle.iloc_spec_grammar.specs.Syntax.{dashes};
 ghost use Rattle.iloc_fronts.specs.Left.{IsLeft, pieces_of};
 ghost use Rattle.iloc_fronts.specs.Blocks.{left_of};
 ghost use Rattle.iloc_fronts.specs.Rewriting.{
-  AreAttributesStored,
   AreStored,
   BeginsBlock,
   IsRewrittenAs,
@@ -12,13 +11,13 @@ ghost use Rattle.iloc_fronts.specs.Rewriting.{
   LeadsToUnicode,
 };
 
+use crate::attributes::put_attributes;
 use crate::keywords::{Stored, put_keywords};
 use crate::left::{Left, after_piece, left_in};
-use crate::storing::{put_bytes, put_left, put_piece};
-use crate::words::is_attribute;
+use crate::storing::{put_bytes, put_left};
 
 /// Stores a line of which each meaning is one of the first `len` bytes, and gives its length. In the block of `u`
-/// keys ascend in it, of keywords with one key the first stays, and no value is `true`; all else is as it was.
+/// attributes and keys ascend in it, of keywords with one key the first stays, and no value is `true`; all else is as it was.
 /// `None` says nothing of the line.
 #[inline(never)]
 pub fn rewrite(window: &[u8], len: usize, room: &mut [u8]) -> Option<usize>
@@ -70,30 +69,7 @@ fn put_unicode<'a>(left: Left<'a>, room: &mut [u8], start: usize) -> Option<Stor
     put_keywords(next, room, stored.end)
 }
 
-// Stores attributes as they stand.
-#[inline(always)]
-fn put_attributes<'a>(left: Left<'a>, room: &mut [u8], start: usize) -> Option<Stored<'a>>
-    requires left { IsLeft left }
-    requires room { start + 16 ≤ length room.old }
-    ensures { IfSome result (AreAttributesStored (take start room.old) (pieces_of left.entry)
-        left.entry.len room.new) }
-{
-    let mut at = left;
-    let mut end = start;
-    'attributes: while is_attribute(at.window, at.n) {
-        end = put_piece(at, room, end)?;
-        if at.n == at.len {
-            return Some(Stored { end, next: None });
-        }
-        at = after_piece(at);
-    }
-    Some(Stored {
-        end,
-        next: Some(at),
-    })
-}
-
-// Stores what follows the block as it stands.
+// Stores what follows the block as it stands, unless the next one would have to come first.
 #[inline(always)]
 fn put_rest(stored: Stored<'_>, room: &mut [u8]) -> Option<usize>
     requires left { BeginsBlock stored.next }
@@ -101,8 +77,11 @@ fn put_rest(stored: Stored<'_>, room: &mut [u8]) -> Option<usize>
     ensures { IfSome result
         (AreStored room.new (take stored.entry.end room.old ++ dashes (left_of stored.entry.next))) }
 {
-    match stored.next {
-        None => Some(stored.end),
-        Some(next) => put_left(next, room, stored.end),
+    let Some(next) = stored.next else {
+        return Some(stored.end);
+    };
+    if next.window[0].to_ascii_lowercase() < b'v' {
+        return None;
     }
+    put_left(next, room, stored.end)
 }

@@ -60,7 +60,7 @@ fn read_attributes(left: Left<'_>) -> Body<'_>
             return read_keywords(next);
         }
         if number_of_two(next.window) <= number_of_two(at.window) {
-            return Body::Other;
+            return Body::Unordered;
         }
         at = next;
     }
@@ -103,7 +103,7 @@ fn read_values(key: usize, left: Left<'_>) -> Body<'_>
                 last = next;
                 at = after_piece(at);
             }
-            Next::Unordered => return Body::Other,
+            Next::Unordered => return Body::Unordered,
             Next::Misfit if at.n == 1 => return Body::Next(at),
             Next::Misfit => return Body::Bad,
         }

@@ -178,13 +178,14 @@ fn reply_to_ordered<A: Answers>(
     match read_ordered(window, line.len(), at) {
         Reading::Ordered(told) => replies.push_ordered(&told),
         Reading::BadBlock => write_refusal(ParseError::InvalidExtension, replies),
-        Reading::Other => reply_to_unordered(answers, window, line, at, replies),
+        Reading::Unordered => reply_to_rewritten(answers, window, line, at, replies),
+        Reading::Other => answers.reply(line, replies),
     }
 }
 
-// The same of one that is not in order. The first bad block may be told, or the block of `u` brought into order.
-#[inline(always)]
-fn reply_to_unordered<A: Answers>(
+// The same of a locale whose block of `u` may have to be brought into order.
+#[inline(never)]
+fn reply_to_rewritten<A: Answers>(
     answers: &mut A,
     window: &[u8],
     line: &[u8],
@@ -196,16 +197,34 @@ fn reply_to_unordered<A: Answers>(
     requires room { length line.now + 16 ≤ length window.now }
     ensures { OnOk result (held replies.new ≡ held replies.old ++ reply A.mode line.now) }
 {
-    if let Some(bad) = find_bad_block(window, line.len(), at) {
-        return write_refusal(error_of(bad), replies);
-    }
     let mut room = [0u8; REWRITTEN];
     let Some(len) = rewrite(window, line.len(), &mut room) else {
-        return answers.reply(line, replies);
+        return reply_to_faulty(answers, window, line, at, replies);
     };
     match read_ordered(&room, len, at) {
         Reading::Ordered(told) => replies.push_ordered(&told),
+        Reading::BadBlock => reply_to_faulty(answers, window, line, at, replies),
         _ => answers.reply(line, replies),
+    }
+}
+
+// The same of a locale that may have a bad block, after good ones in whatever order.
+#[inline(always)]
+fn reply_to_faulty<A: Answers>(
+    answers: &mut A,
+    window: &[u8],
+    line: &[u8],
+    at: usize,
+    replies: &mut ReplyBlock,
+) -> Result<(), AllocError>
+    requires mode { A.mode ≡ Mode.Locale }
+    requires begins { take (length line.now) window.now ≡ line.now }
+    requires room { length line.now + 16 ≤ length window.now }
+    ensures { OnOk result (held replies.new ≡ held replies.old ++ reply A.mode line.now) }
+{
+    match find_bad_block(window, line.len(), at) {
+        Some(bad) => write_refusal(error_of(bad), replies),
+        None => answers.reply(line, replies),
     }
 }
 

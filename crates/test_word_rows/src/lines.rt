@@ -4,15 +4,15 @@
 //! `line-plain TEXT` says the normal text. In the other calls the second argument says how many bytes of the first are the
 //! line: `line-window` says the normal text, `line-front` what stands at the front, `line-keyword` what follows the
 //! singleton of the first block, and `line-ordered` of a line in the order of its normal text the plain identifier and
-//! the rest, or that its first block is bad. `line-bad` says what is wrong with the first bad block. A line of which
-//! nothing is said is `not told`.
+//! the rest, or that its first block is bad. `line-bad` says what is wrong with the first bad block, and `line-rewritten`
+//! the line whose block of `u` is brought into order. A line of which nothing is said is `not told`.
 ghost use Rattle.std.specs.Prelude.{◌+◌, ◌≤◌, length};
 ghost use Rattle.iloc_plain.specs.Plain.{AreWords};
 ghost use Rattle.iloc_fronts.specs.Ordered.{IsStored};
 
 use iloc_fronts::{
     BadBlock, Block, Front, Keyword, Ordered, Reading, find_bad_block, read_front, read_keyword,
-    read_ordered, read_varied,
+    read_ordered, read_varied, rewrite,
 };
 use iloc_plain::{Plain, read_plain, read_plain_text};
 use test_page::argument::number_of;
@@ -170,6 +170,18 @@ fn bad(window: &[u8], len: usize, out: &mut String) {
     }
 }
 
+// Says the line with its block of `u` in order, if sixteen bytes follow it at least.
+fn rewritten(window: &[u8], len: usize, out: &mut String) {
+    if window.len() < 16 || len > window.len() - 16 {
+        return say(out, "not told");
+    }
+    let mut room = [0u8; 128];
+    match rewrite(window, len, &mut room) {
+        Some(len) => bytes(out, room.get(..len).unwrap_or(b"")),
+        None => say(out, "not told"),
+    }
+}
+
 /// The answer to a call.
 pub fn answer(what: &str, text: &[u8], len: &[u8], out: &mut String) {
     match what {
@@ -179,6 +191,7 @@ pub fn answer(what: &str, text: &[u8], len: &[u8], out: &mut String) {
         "keyword" => keyword(text, number_of(len), out),
         "ordered" => ordered(text, number_of(len), out),
         "bad" => bad(text, number_of(len), out),
+        "rewritten" => rewritten(text, number_of(len), out),
         _ => say(out, "no call"),
     }
 }

@@ -5,8 +5,8 @@ use Rattle.iloc_fronts.specs.Rewriting.{AreStored}
 use Rattle.iloc_fronts.proofs.RewritingLemmas.{dashes_pieces}
 use Rattle.iloc_fronts.proofs.rewriting.put_rest.Goals as goal
 
-pub returns-in-Some : goal.returns-in-Some
-returns-in-Some c =
+pub returns : goal.returns
+returns c =
     let l = c.in-Some.next in
     let rest : dashes (left_of c.args.stored.next) ≡ 45 ∷ take l.len l.window.now = ap (λ o. dashes (left_of o)) c.in-Some.is ∙ dashes_pieces (take l.len l.window.now) in
     subst (λ (t : List ℕ). IfSome c.put_left.result (AreStored c.put_left.new.room (take c.args.stored.end c.args.room.now ++ t))) (sym rest) c.put_left.ensures

@@ -5,7 +5,7 @@ use Rattle.iloc_lines.specs.Told.{refusal_of}
 use Rattle.iloc_lines.specs.ReplyBlock.{held}
 use Rattle.iloc_lines.specs.declared.Mode.{Mode}
 use Rattle.iloc_lines.proofs.PlainLemmas.{bad_answer}
-use Rattle.iloc_lines.proofs.lines.reply_to_unordered.Goals as goal
+use Rattle.iloc_lines.proofs.lines.reply_to_faulty.Goals as goal
 
 pub returns-in-Some : goal.returns-in-Some
 returns-in-Some g c =
