@@ -70,16 +70,14 @@ fn line_end(bytes: &[u8]) -> Option<usize>
         if ends > 0 {
             return Some(ends.trailing_zeros() as usize);
         }
-        return line_end_later(bytes);
     }
-    line_end_beyond(bytes)
+    line_end_later(bytes)
 }
 
 // The same if none stands among the first 32. It is a call of its own, so that shorter lines pay nothing.
 #[inline(never)]
 fn line_end_later(bytes: &[u8]) -> Option<usize>
-    requires long { 32 ≤ length bytes.now }
-    requires none { Nowhere (Passes (is_byte 10) bytes.now) 0 32 }
+    requires { 32 ≤ length bytes.now → Nowhere (Passes (is_byte 10) bytes.now) 0 32 }
     ensures { IsFirstByte (is_byte 10) bytes.now result }
 {
     if bytes.len() >= 64 {
