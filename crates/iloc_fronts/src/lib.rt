@@ -11,13 +11,15 @@
 //! letters. If a bad block comes first, or after blocks in order, `read_ordered` tells that: the text has the fault of
 //! the grammar.
 //!
+//! Of blocks in any order `find_bad_block` tells the first that is bad (`HasBadBlock`).
+//!
 //! `None`, `Front::Other`, `Keyword::Other` and `Reading::Other` say nothing: the caller parses the text as it
 //! would without this crate. So each caller keeps its own contract, and a shape that is not told here costs time and
 //! nothing else.
 //!
 //! A line is read a piece at a time (`left`): sixteen bytes from a piece on tell its length and whether it is a word
 //! (`run`, `words`). Each kind of block has a walk of its own (`unicode`, `transform`, `other`), which says where the
-//! next block begins (`blocks`). docs/ARCHITECTURE.md says how to add a shape.
+//! next block begins (`blocks`); `faults` passes over blocks in any order. docs/ARCHITECTURE.md says how to add a shape.
 //!
 //! It stands on the grammar (`iloc_spec_grammar`) and on plain texts (`iloc_plain`).
 #![tactic(auto)]
