@@ -22,8 +22,8 @@ rest_of_block b = take b.len b.window.now
 pub record GoesOn (ps : List Text) (b : Block) : Type 0 where
   pub rest : past (is_word Variant) ps ≡ pieces (rest_of_block b)
   pub singleton : first_piece (pieces (rest_of_block b)) ≡ get_or b.window.now 0 0 ∷ []
-  pub first : b.variants ≡ 0 → ps ≡ pieces (rest_of_block b)
-  pub count : length ps ≡ b.variants + length (pieces (rest_of_block b))
+  pub few : b.tail ≤ b.len + 9 → length ps ≤ 1 + length (pieces (rest_of_block b))
+  pub many : b.len + 9 < b.tail → 2 + length (pieces (rest_of_block b)) ≤ length ps
   pub some : 0 < b.len
   pub room : b.len + 16 ≤ length b.window.now
 

@@ -16,10 +16,9 @@ pub struct Block<'a> {
     pub window: &'a [u8],
     /// How many of them the line has.
     pub len: usize,
-    /// How many variants come before.
-    pub variants: usize,
-    /// How many bytes of the line follow the hyphen after the region. No clause says it: who uses it
-    /// tests what it finds there.
+    /// How many bytes of the line follow the hyphen after the region. So many more than `len` are the
+    /// variants and their hyphens: none, at most nine for one variant, or more. No clause says where
+    /// they stand: who uses it tests what it finds there.
     pub tail: usize,
 }
 
@@ -118,18 +117,18 @@ fn after_region(window: &[u8], len: usize) -> Front<'_>
 {
     let mut rest = window;
     let mut left = len;
-    let mut variants = 0;
+    let mut is_first = true;
     let mut n = first_len(rest, left);
     'variants: while is_variant(rest, n) {
         if n == left {
-            if variants == 0 {
+            if is_first {
                 return Front::Variant(len);
             }
             return Front::Variants;
         }
         rest = &rest[n + 1..];
         left = left - n - 1;
-        variants += 1;
+        is_first = false;
         n = first_len(rest, left);
     }
     if n != 1 {
@@ -138,7 +137,6 @@ fn after_region(window: &[u8], len: usize) -> Front<'_>
     Front::Block(Block {
         window: rest,
         len: left,
-        variants,
         tail: len,
     })
 }

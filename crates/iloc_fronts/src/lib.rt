@@ -12,7 +12,8 @@
 //! the grammar.
 //!
 //! A line whose block of `u` is out of order is brought into order by `rewrite`: it stores another line, and each meaning
-//! of that is one of this line (`IsRewritten`).
+//! of that is one of this line (`IsRewritten`). Of blocks in any order `find_bad_block` tells the first that is bad
+//! (`HasBadBlock`).
 //!
 //! `None`, `Front::Other`, `Keyword::Other` and `Reading::Other` say nothing: the caller parses the text as it
 //! would without this crate. So each caller keeps its own contract, and a shape that is not told here costs time and
@@ -21,7 +22,8 @@
 //! A line is read a piece at a time (`left`): sixteen bytes from a piece on tell its length and whether it is a word
 //! (`run`, `words`). Each kind of block has a walk of its own (`unicode`, `transform`, `other`), which says where the
 //! next block begins (`blocks`). A line is rewritten in one walk too (`rewriting`, `attributes`, `keywords`), and its
-//! pieces are stored as sixteen bytes at once (`storing`). docs/ARCHITECTURE.md says how to add a shape.
+//! pieces are stored as sixteen bytes at once (`storing`); `faults` passes over blocks in any order.
+//! docs/ARCHITECTURE.md says how to add a shape.
 //!
 //! It stands on the grammar (`iloc_spec_grammar`) and on plain texts (`iloc_plain`).
 #![tactic(auto)]

@@ -1,10 +1,10 @@
 -- Data locales that are refused for the keyword in their first block.
-use Rattle.std.proofs.Common.{◌≡◌, ◌≢◌, ◌⊎◌, inl, inr, ℕ, zero, suc, ◌≤◌, ◌==◌, Bool, true, false, not, cond, ◌&&◌, nat_le, List, [], ◌∷◌, ◌++◌, length, flat_map, get_or, take, drop, codes, Option, None, Some, option_map, Ok, Err, refl, sym, ap, ◌∙◌, arith, append-nil, length-append}
+use Rattle.std.proofs.Common.{◌≡◌, ◌≢◌, ◌⊎◌, inl, inr, ℕ, zero, suc, ◌+◌, ◌<◌, ◌≤◌, ◌==◌, Bool, true, false, not, cond, ◌&&◌, nat_le, List, [], ◌∷◌, ◌++◌, length, flat_map, get_or, take, drop, codes, Option, None, Some, option_map, Ok, Err, refl, sym, ap, ◌∙◌, subst, arith, append-nil, length-append}
 use Rattle.std.specs.Prelude.{if◌then◌else◌, option_and_then, ok_or}
 use Rattle.std.specs.Char.{is_ascii_alphabetic, is_ascii_alphanumeric, to_ascii_lowercase}
 use Rattle.std.specs.Result.{result_ok}
 use Rattle.std.specs.List.{AllByRecursion, list_all}
-use Rattle.std.proofs.lemmas.Bool.{cases_Bool, true≢false, false_from_ne_true}
+use Rattle.std.proofs.lemmas.Bool.{cases_Bool, cases_lt, true≢false, false_from_ne_true}
 use Rattle.std.proofs.lemmas.Bool.Decides.{nat_tests}
 use Rattle.iloc_spec_grammar.specs.Syntax.{pieces, Kind, Language, Script, Region, Variant, Identifier, identifier_pieces, HasWords, UnicodeKey, Attribute, Subtag, SubdivisionSuffix, normal, is_word, IsWord, is_same, is_true, languages, lower, block_pieces, is_one_byte, front, blocks, head, tail_blocks, first_piece}
 use Rattle.iloc_spec_grammar.specs.Meaning.{normal_values, Fault}
@@ -29,6 +29,7 @@ use Rattle.iloc_spec_preferences.specs.DataComputing.{data_result, data_of_resul
 use Rattle.iloc_spec_output.specs.Output.{OfDataLocales, no_data_locale}
 use Rattle.iloc_spec_output.proofs.OutputLaws.{only_answer}
 use Rattle.iloc_spec_output.specs.Output as outputs
+use Rattle.iloc_subtags.specs.declared.parse_error.ParseError.{ParseError}
 use Rattle.iloc_subtags.specs.declared.parse_error.ParseError.TheVariants.{InvalidSubtag, InvalidExtension}
 use Rattle.iloc_fronts.specs.Front.{GoesOn, IsFront, rest_of_block}
 use Rattle.iloc_fronts.specs.Keyword.{IsKeywordOf, IsSingle, IsUnreadable, after_singleton, region_end}
@@ -90,21 +91,21 @@ module _ (t : List ℕ) (b : Block) (g : GoesOn (after_region (pieces t)) b) whe
       ∙ front_past before ((get_or b.window.now 0 0 ∷ []) ∷ after_singleton b) (all_weaker (λ p. is_word Variant p ≡ true) IsLong long_variant before variants_pass)
       ∙ append-nil before
 
-  count_is : length before ≡ b.variants
-  count_is = omega (arith, g.count, ap length parts_are, length-append before (pieces (rest_of_block b)))
+  total : length before + length (pieces (rest_of_block b)) ≡ length after
+  total = sym (length-append before (pieces (rest_of_block b))) ∙ ap length parts_are
 
   all_true : (vs : List (List ℕ)) → AllByRecursion (λ p. is_word Variant p ≡ true) vs → list_all (is_word Variant) vs ≡ true
   all_true [] h = refl
   all_true (v ∷ vs) h = rw h.0 (all_true vs h.1)
 
-  pub few_before : b.variants ≤ 1 → has_small_variants (front after) ≡ true
+  pub few_before : b.tail ≤ b.len + 9 → has_small_variants (front after) ≡ true
   few_before few =
-      let le : nat_le (length before) 1 ≡ true = grind (arith, nat_tests, count_is) in
+      let le : nat_le (length before) 1 ≡ true = (let short : length before ≤ 1 = omega (arith, g.few few, total) in grind (arith, nat_tests)) in
       ap has_small_variants before_is ∙ (λ j. all_true before variants_pass j && le j)
 
-  pub many_before : 2 ≤ b.variants → has_small_variants (front after) ≡ false
+  pub many_before : b.len + 9 < b.tail → has_small_variants (front after) ≡ false
   many_before many =
-      let more : nat_le (length before) 1 ≡ false = grind (arith, nat_tests, count_is) in
+      let more : nat_le (length before) 1 ≡ false = (let long : 2 ≤ length before = omega (arith, g.many many, total) in grind (arith, nat_tests)) in
       ap has_small_variants before_is ∙ (λ j. all_true before variants_pass j && more j)
 
 and-false : (b : Bool) → (b && false) ≡ false
@@ -336,7 +337,7 @@ large_head p qs l h =
     let many : has_small_variants (identifier_of (p ∷ front qs)).variants ≡ false = ap has_small_variants (head_region p qs) ∙ h in
     λ j. if l j then (if many j then Ok (small_identifier (identifier_of (p ∷ front qs))) else Err faults.InvalidSubtag) else Err faults.InvalidLanguage
 
-pub large_refused : (t : List ℕ) (b : Block) → IsFront t (fronts.Block b) → 2 ≤ b.variants → IsRefused Data t InvalidSubtag
+pub large_refused : (t : List ℕ) (b : Block) → IsFront t (fronts.Block b) → b.len + 9 < b.tail → IsRefused Data t InvalidSubtag
 unfolding outputs.line_answer data_result small_result after_identifier
 large_refused t b h many =
     ap (λ r. outputs.text_or_refusal data_text (data_of_result r)) (at_pieces Found by t h.0 (many_before t b h.1 many))
@@ -347,6 +348,14 @@ large_refused t b h many =
 
     by : (p : List ℕ) (qs : List (List ℕ)) → Found (p ∷ qs)
     by p qs l large = ap (λ r. after_identifier r (blocks qs)) (large_head p qs l large)
+
+-- a fault that is told where at most one variant comes before, and else that of the variants
+pub after_variants : (t : List ℕ) (b : Block) → IsFront t (fronts.Block b) → (e : ParseError) → (b.tail ≤ b.len + 9 → e ≡ InvalidExtension) → (b.len + 9 < b.tail → e ≡ InvalidSubtag)
+    → (b.tail ≤ b.len + 9 → IsRefused Data t InvalidExtension) → IsRefused Data t e
+after_variants t b h e few many told = elim (cases_lt (b.len + 9) b.tail) [
+  | inl more ↦ subst (IsRefused Data t) (sym (many more)) (large_refused t b h more)
+  | inr less ↦ subst (IsRefused Data t) (sym (few less)) (told less)
+]
 
 -- ---- the answers
 
@@ -392,7 +401,7 @@ module _ (t : List ℕ) (b : Block) (h : IsFront t (fronts.Block b)) (letter : i
       data_refused t block (blocks rest) h.0 there (not_alone (blocks rest) (ap has_small_keyword (whole_front rest k.0 k.1) ∙ many_values rest k.2)) (fault_is block false true letter u attribute key)
 
   -- what is read of a whole text with such a keyword
-  single_result : b.variants ≤ 1 → Reads rest → (r : SmallLocale) × (small_result languages t ≡ Ok r) × (data_of_small r ≡ None)
+  single_result : b.tail ≤ b.len + 9 → Reads rest → (r : SmallLocale) × (small_result languages t ≡ Ok r) × (data_of_small r ≡ None)
   unfolding small_result after_identifier blocks_result
   single_result few read = at_pieces Found by t h.0 there (few_before t b h.1 few)
     where
@@ -412,7 +421,7 @@ module _ (t : List ℕ) (b : Block) (h : IsFront t (fronts.Block b)) (letter : i
             ap (option_map (λ part. made_of id.language id.script part id.variant)) (read.unread id.region),
           )
 
-  pub single_refused : b.variants ≤ 1 → IsKeywordOf rest keyword.Single → IsRefused Data t InvalidExtension
+  pub single_refused : b.tail ≤ b.len + 9 → IsKeywordOf rest keyword.Single → IsRefused Data t InvalidExtension
   unfolding outputs.line_answer data_result
   single_refused few s =
       let found = single_result few (single_reads rest s) in
@@ -461,7 +470,7 @@ unlettered_fault : (b : ℕ × List (List ℕ)) → is_ascii_alphanumeric b.0 �
 unfolding block_fault
 unlettered_fault b e = rw e refl
 
-pub unlettered_refused : (t : List ℕ) (b : Block) → IsFront t (fronts.Block b) → is_ascii_alphanumeric (get_or b.window.now 0 0) ≡ false → b.variants ≤ 1 → IsRefused Data t InvalidExtension
+pub unlettered_refused : (t : List ℕ) (b : Block) → IsFront t (fronts.Block b) → is_ascii_alphanumeric (get_or b.window.now 0 0) ≡ false → b.tail ≤ b.len + 9 → IsRefused Data t InvalidExtension
 unfolding outputs.line_answer data_result small_result after_identifier blocks_result
 unlettered_refused t b h no_letter few =
     ap (λ r. outputs.text_or_refusal data_text (data_of_result r)) (at_pieces Found by t h.0 told.2 (few_before t b h.1 few))

@@ -90,12 +90,9 @@ fn fault_of_data(line: &[u8], block: Block<'_>) -> Option<ParseError>
     requires { IsFront line.now (fronts.Block block) }
     ensures { IfSome result (IsRefused Mode.Data line.now) }
 {
-    if block.variants > 1 {
-        return Some(ParseError::InvalidSubtag);
-    }
     let singleton = block.window[0];
     if !singleton.is_ascii_alphanumeric() {
-        return Some(ParseError::InvalidExtension);
+        return Some(fault_after(block));
     }
     if singleton.to_ascii_lowercase() != b'u' {
         return Some(ParseError::InvalidSubtag);
@@ -104,9 +101,23 @@ fn fault_of_data(line: &[u8], block: Block<'_>) -> Option<ParseError>
         Keyword::Attribute => Some(ParseError::InvalidSubtag),
         Keyword::Misfit => Some(ParseError::InvalidSubtag),
         Keyword::Many => Some(ParseError::InvalidSubtag),
-        Keyword::Single => Some(ParseError::InvalidExtension),
+        Keyword::Single => Some(fault_after(block)),
         Keyword::Other => None,
     }
+}
+
+// Why a block is no data locale's that is bad, or names no subdivision. Two variants or more are refused first;
+// one takes at most nine bytes with its hyphen.
+#[inline(always)]
+fn fault_after(block: Block<'_>) -> ParseError
+    requires { block.len + 16 ≤ length block.window.now }
+    ensures few { block.entry.tail ≤ block.entry.len + 9 → result ≡ ParseError.InvalidExtension }
+    ensures many { block.entry.len + 9 < block.entry.tail → result ≡ ParseError.InvalidSubtag }
+{
+    if block.tail > block.len + 9 {
+        return ParseError::InvalidSubtag;
+    }
+    ParseError::InvalidExtension
 }
 
 // Why a locale with this bad block is refused.

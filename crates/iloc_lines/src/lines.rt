@@ -28,7 +28,7 @@ ghost use Rattle.iloc_spec_output.specs.Lines.{IsOneLine};
 ghost use Rattle.std.specs.Simd.Lanes.{mask_l};
 ghost use Rattle.iloc_spec_grammar.specs.Syntax.{Text};
 ghost use Rattle.iloc_lines.specs.declared.Mode.TheVariants as Mode;
-ghost use Rattle.memchr.specs.Find.{IsFirstByte, is_byte};
+ghost use Rattle.memchr.specs.Find.{IsFirstByte, Nowhere, Passes, is_byte};
 
 use crate::faults::{Told, error_of, told_at_front};
 use crate::replies::write_refusal;
@@ -72,6 +72,21 @@ fn line_end(bytes: &[u8]) -> Option<usize>
         let ends = line_ends(u8x32::from_slice(bytes));
         if ends > 0 {
             return Some(ends.trailing_zeros() as usize);
+        }
+    }
+    line_end_later(bytes)
+}
+
+// The same if none stands among the first 32. It is a call of its own, so that shorter lines pay nothing.
+#[inline(never)]
+fn line_end_later(bytes: &[u8]) -> Option<usize>
+    requires { 32 ≤ length bytes.now → Nowhere (Passes (is_byte 10) bytes.now) 0 32 }
+    ensures { IsFirstByte (is_byte 10) bytes.now result }
+{
+    if bytes.len() >= 64 {
+        let ends = line_ends(u8x32::from_slice(&bytes[32..]));
+        if ends > 0 {
+            return Some(32 + ends.trailing_zeros() as usize);
         }
     }
     line_end_beyond(bytes)

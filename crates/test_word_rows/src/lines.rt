@@ -62,7 +62,7 @@ fn block(block: &Block<'_>, out: &mut String) {
     number(out, block.len);
     say(
         out,
-        if block.variants == 0 {
+        if block.tail == block.len {
             " first"
         } else {
             " after variants"
