@@ -71,6 +71,7 @@ seen_more last c less differs seen all = ((omega arith, differs), all_weaker (λ
 
 blocks_after : (c : ℕ) (ps : List (List ℕ)) → IsGood c ps → (last : ℕ) → last < to_ascii_lowercase c → (qs : List (List ℕ)) (r : Rest) → AreBlocksOf (to_ascii_lowercase c) qs r → AreBlocksOf last ((c ∷ []) ∷ (ps ++ qs)) r
 blocks_after c ps g last less qs rest.Printed h = g.printed last less qs h
+blocks_after c ps g last less qs rest.Unordered h = tt
 blocks_after c ps g last less qs rest.Other h = tt
 blocks_after c ps g last less qs rest.BadBlock h = record {
   none_before = refl;
@@ -90,6 +91,7 @@ block_as P B c last len ps less good bad body.End h =
 block_as P B c last len ps less good bad (body.Next l) h =
     (h.0, h.1, λ r k. subst (λ (qs : List (List ℕ)). AreBlocksOf last ((c ∷ []) ∷ qs) r) (sym h.2.cut) (blocks_after c h.2.body (good h.2.body h.2.is) last less (pieces_of l) r k))
 block_as P B c last len ps less good bad body.Bad h = bad h
+block_as P B c last len ps less good bad body.Unordered h = tt
 block_as P B c last len ps less good bad body.Other h = tt
 
 -- ---- blocks that break their rules
@@ -255,6 +257,7 @@ module _ (last c len : ℕ) (new : IsNewAfter last (to_ascii_lowercase c)) where
   pub private_as : (t : List ℕ) → to_ascii_lowercase c ≡ 120 → (w : Body) → IsPrivateAs (pieces t) w → IsBlockAs last (to_ascii_lowercase c) len ((c ∷ []) ∷ pieces t) w
   private_as t e body.End h = printed_private last c t e h
   private_as t e (body.Next l) h = absurd (h tt)
+  private_as t e body.Unordered h = absurd (h tt)
   private_as t e body.Other h = absurd (h tt)
   private_as t e body.Bad n = to_the_end last c letter (inr e) (pieces t) e (private_refuted c (pieces t) e n)
     where
@@ -288,11 +291,13 @@ module _ (last c len : ℕ) (new : IsNewAfter last (to_ascii_lowercase c)) where
 pub tail_of_blocks : (ps : List (List ℕ)) (r : Rest) → AreBlocksOf 0 ps r → IsTailOf ps r
 tail_of_blocks ps rest.Printed h = printed_tail ps h
 tail_of_blocks ps rest.BadBlock b = record { variants = []; rest = ps; cut = refl; each = tt; few = omega arith; bad = b }
+tail_of_blocks ps rest.Unordered h = tt
 tail_of_blocks ps rest.Other h = tt
 
 pub tail_after : (p : List ℕ) (ps : List (List ℕ)) → IsWord Variant p → (r : Rest) → AreBlocksOf 0 ps r → IsTailOf (p ∷ ps) r
 tail_after p ps v rest.Printed h = tail_variant p ps v h
 tail_after p ps v rest.BadBlock b = record { variants = p ∷ []; rest = ps; cut = refl; each = (v, tt); few = omega arith; bad = b }
+tail_after p ps v rest.Unordered h = tt
 tail_after p ps v rest.Other h = tt
 
 -- ---- the line

@@ -10,6 +10,7 @@ pub body_as : (P Q B C : List (List ℕ) → Type 0) (m n : ℕ) (ps : List (Lis
 body_as P Q B C m n ps le good bad body.End h = good ps h
 body_as P Q B C m n ps le good bad (body.Next l) h = (h.0, omega (arith, h.1), record { body = h.2.body; cut = h.2.cut; is = good h.2.body h.2.is })
 body_as P Q B C m n ps le good bad body.Bad h = bad h
+body_as P Q B C m n ps le good bad body.Unordered h = tt
 body_as P Q B C m n ps le good bad body.Other h = tt
 
 -- one piece more at the front
@@ -19,6 +20,7 @@ body_after P Q B C m n p ps whole e le good bad body.End h = subst Q (sym e) (go
 body_after P Q B C m n p ps whole e le good bad (body.Next l) h =
     (h.0, omega (arith, h.1), record { body = p ∷ h.2.body; cut = e ∙ ap (λ l. p ∷ l) h.2.cut; is = good h.2.body h.2.is })
 body_after P Q B C m n p ps whole e le good bad body.Bad h = subst C (sym e) (bad h)
+body_after P Q B C m n p ps whole e le good bad body.Unordered h = tt
 body_after P Q B C m n p ps whole e le good bad body.Other h = tt
 
 -- several pieces more
@@ -28,4 +30,5 @@ body_past P Q B C m n xs ps whole e le good bad body.End h = subst Q (sym e) (go
 body_past P Q B C m n xs ps whole e le good bad (body.Next l) h =
     (h.0, omega (arith, h.1), record { body = xs ++ h.2.body; cut = e ∙ ap (λ l. xs ++ l) h.2.cut ∙ sym (append_assoc xs h.2.body (pieces_of l)); is = good h.2.body h.2.is })
 body_past P Q B C m n xs ps whole e le good bad body.Bad h = bad h
+body_past P Q B C m n xs ps whole e le good bad body.Unordered h = tt
 body_past P Q B C m n xs ps whole e le good bad body.Other h = tt

@@ -239,6 +239,7 @@ pub some_told : (len : ℕ) (ps : List (List ℕ)) (w : Body) → (w ≡ body.Ba
 some_told len ps body.End n h = some_id_alone ps h
 some_told len ps (body.Next l) n h = (h.0, h.1, record { body = identifier_pieces (front_of ps); cut = spelled ps (pieces_of l) h.2; is = some_id ps (pieces_of l) h.2 })
 some_told len ps body.Bad n h = absurd (n refl)
+some_told len ps body.Unordered n h = tt
 some_told len ps body.Other n h = tt
 
 is_transform : (ps : List (List ℕ)) (h : IsSomeTransform ps) → IsTransform languages (record { id = h.id; fields = h.fields })
@@ -322,6 +323,7 @@ passed_as P B c len ps good wrong body.End h = tt
 passed_as P B c len ps good wrong (body.Next l) h =
     (h.0, h.1, λ seen b new k. subst (λ (qs : List (List ℕ)). HaveBad seen ((c ∷ []) ∷ qs) b) (sym h.2.cut) (sound_before c h.2.body (pieces_of l) (good h.2.body h.2.is) seen b new k))
 passed_as P B c len ps good wrong body.Bad h = wrong h
+passed_as P B c len ps good wrong body.Unordered h = tt
 passed_as P B c len ps good wrong body.Other h = tt
 
 module _ (c len : ℕ) (ps : List (List ℕ)) (letter : is_ascii_alphanumeric c ≡ true) where
@@ -335,6 +337,7 @@ module _ (c len : ℕ) (ps : List (List ℕ)) (letter : is_ascii_alphanumeric c 
   passed_private e body.End h = tt
   passed_private e (body.Next l) h = absurd (h tt)
   passed_private e body.Bad h = wrong_private c ps e (refuting.private_refuted c ps e h)
+  passed_private e body.Unordered h = tt
   passed_private e body.Other h = tt
 
   pub passed_other : to_ascii_lowercase c ≢ 117 → to_ascii_lowercase c ≢ 120 → to_ascii_lowercase c ≢ 116 → (w : Body) → IsBodyAs IsOther IsNoOther len ps w → IsPassedAs c len ps w

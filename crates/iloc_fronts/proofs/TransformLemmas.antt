@@ -71,6 +71,7 @@ pub values_after : (m n : ℕ) (p : List ℕ) (ps whole : List (List ℕ)) → w
 values_after m n p ps whole e le h body.End v = subst AreValues (sym e) (value_more p ps h v)
 values_after m n p ps whole e le h (body.Next l) v = (v.0, omega (arith, v.1), record { body = p ∷ v.2.body; cut = e ∙ ap (λ l. p ∷ l) v.2.cut; is = value_more p v.2.body h v.2.is }, v.3)
 values_after m n p ps whole e le h body.Bad v = v
+values_after m n p ps whole e le h body.Unordered v = tt
 values_after m n p ps whole e le h body.Other v = tt
 
 pub value_words : (vs : List (List ℕ)) → AllByRecursion IsValue vs → AllByRecursion (IsWord Attribute) vs
@@ -448,4 +449,5 @@ pub id_told : (len : ℕ) (ps : List (List ℕ)) (w : Body) → (w ≡ body.Bad 
 id_told len ps body.End n h = id_alone ps h
 id_told len ps (body.Next l) n h = (h.0, h.1, record { body = identifier_pieces (front_of ps); cut = spelled ps (pieces_of l) h.2; is = id_only ps (pieces_of l) h.2 })
 id_told len ps body.Bad n h = absurd (n refl)
+id_told len ps body.Unordered n h = tt
 id_told len ps body.Other n h = tt

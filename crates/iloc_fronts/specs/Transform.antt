@@ -27,6 +27,7 @@ AreValuesAs len ps body.End = AreValues ps
 AreValuesAs len ps (body.Next l) = IsLeft l × (l.len ≤ len)
     × IsCutAs AreValues ps (pieces_of l) × (is_word Attribute (piece_of l) ≡ false)
 AreValuesAs len ps body.Bad = ¬ ⊤
+AreValuesAs len ps body.Unordered = ⊤
 AreValuesAs len ps body.Other = ⊤
 
 -- they are fields with ascending keys above a number, without `true`, one at least
