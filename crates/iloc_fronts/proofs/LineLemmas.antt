@@ -1,8 +1,8 @@
 -- From what is stored of the block of `u` to the line.
-use Rattle.std.proofs.Common.{take, ◌≡◌, ℕ, ◌+◌, ◌-◌, ◌≤◌, ◌==◌, true, List, [], ◌∷◌, ◌++◌, length, Option, Some, None, refl, sym, ap, ◌∙◌, subst, arith, append_assoc, append-nil}
+use Rattle.std.proofs.Common.{take, ◌≡◌, ℕ, ◌-◌, ◌≤◌, ◌==◌, true, List, [], ◌∷◌, ◌++◌, length, Option, Some, None, refl, sym, ap, ◌∙◌, subst, arith, append_assoc, append-nil}
 use Rattle.std.specs.List.{AllByRecursion}
 use Rattle.iloc_spec_grammar.specs.Syntax.{pieces, join, dashes, Attribute, UnicodeKey, IsWord, IsHyphenFree, fields_pieces}
-use Rattle.iloc_spec_grammar.specs.Reading.{starts_block, rest_of}
+use Rattle.iloc_spec_grammar.specs.Reading.{starts_block}
 use Rattle.iloc_spec_grammar.proofs.PiecesLaws.{pieces_hyphen_free}
 use Rattle.iloc_spec_grammar.proofs.PartTexts.{dashes-append}
 use Rattle.iloc_spec_grammar.proofs.ReadBack.{all_append, fields_each, word_hyphen_free}
@@ -10,7 +10,7 @@ use Rattle.iloc_spec_grammar.proofs.Readings.{IsLong, long_attribute}
 use Rattle.iloc_spec_grammar.proofs.ValuesLaws.{all_weaker}
 use Rattle.iloc_spec_grammar.specs.ByBlocks.{UnicodeMeans}
 use Rattle.iloc_fronts.specs.Blocks.{left_of}
-use Rattle.iloc_fronts.specs.Left.{pieces_of, piece_of, IsLeft}
+use Rattle.iloc_fronts.specs.Left.{pieces_of}
 use Rattle.iloc_fronts.specs.Rewriting.{AreStored, AreAttributesStored, AreKeywordsStored, BeginsBlock, IsUnicodeStored, LeadsToUnicode, IsRewritten, IsRewrittenAs}
 use Rattle.iloc_fronts.specs.Ordered.{IsOrdered}
 use Rattle.iloc_fronts.specs.declared.ordered.Ordered.{Ordered}

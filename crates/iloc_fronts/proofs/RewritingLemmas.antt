@@ -1,24 +1,21 @@
 -- From a block of `u` that is brought into order to the meaning of the line.
-use Rattle.std.proofs.Common.{take, drop, inl, inr, ◌≡◌, ◌≢◌, ℕ, zero, suc, ◌+◌, ◌-◌, ◌<◌, ◌≤◌, ◌==◌, Bool, true, false, cond, List, [], ◌∷◌, ◌++◌, length, map, Option, Some, None, refl, sym, ap, ◌∙◌, subst, arith, append_assoc, append-nil, length-append, true≢false}
-use Rattle.std.specs.Prelude.{MatchOption}
+use Rattle.std.proofs.Common.{take, ◌≡◌, ◌≢◌, ℕ, ◌-◌, ◌<◌, ◌≤◌, ◌==◌, Bool, true, false, cond, List, [], ◌∷◌, ◌++◌, length, map, Some, refl, sym, ap, ◌∙◌, subst, arith, append_assoc, append-nil, length-append}
 use Rattle.std.specs.List.{AllByRecursion}
 use Rattle.std.specs.FinMap.{find}
 use Rattle.std.specs.Ordering.{nat_cmp, eq_by_cmp}
 use Rattle.std.specs.Char.{is_ascii_alphanumeric, to_ascii_lowercase}
-use Rattle.std.proofs.lemmas.Bool.{cond_both}
-use Rattle.std.proofs.lemmas.Bool.Decides.{nat_tests}
 use Rattle.std.proofs.lemmas.List.{take-append-le, take-take, length-take-le}
-use Rattle.iloc_spec_grammar.specs.Syntax.{pieces, join, dashes, first_piece, Attribute, is_word, IsWord, IsKeyword, IsHyphenFree, lower, languages, Fields, Unicode, IsUnicode, fields_pieces, unicode_pieces, front, blocks, head, tail_blocks, is_other_singleton, singleton, AllDifferent, kept}
-use Rattle.iloc_spec_grammar.specs.Meaning.{Locale, Extensions, Means, IdentifierMeans, set_of, normal_unicode, no_unicode, no_transform, by_singleton, map_of}
-use Rattle.iloc_spec_grammar.specs.Reading.{before_key, fields_from, is_two, unicode_of, starts_block, rest_of}
-use Rattle.iloc_spec_grammar.specs.ByBlocks.{UnicodeMeans, TransformMeans, PrivateMeans, OtherMeans, PartIs, BlocksGive, BlocksMean, MeansByBlocks, grammar_rules, other_blocks}
+use Rattle.iloc_spec_grammar.specs.Syntax.{pieces, join, dashes, first_piece, Attribute, is_word, IsWord, IsKeyword, IsHyphenFree, languages, Fields, Unicode, IsUnicode, fields_pieces, front, blocks, head, tail_blocks, is_other_singleton, singleton, AllDifferent, kept}
+use Rattle.iloc_spec_grammar.specs.Meaning.{Extensions, IdentifierMeans, normal_unicode, no_unicode, no_transform, by_singleton, map_of}
+use Rattle.iloc_spec_grammar.specs.Reading.{fields_from, is_two, unicode_of, starts_block, rest_of}
+use Rattle.iloc_spec_grammar.specs.ByBlocks.{UnicodeMeans, TransformMeans, PrivateMeans, OtherMeans, PartIs, BlocksMean, MeansByBlocks, other_blocks}
 use Rattle.iloc_spec_grammar.proofs.BlockLaws.{means_by_blocks, blocks_mean}
-use Rattle.iloc_spec_grammar.proofs.PiecesLaws.{at_pieces, join-pieces, pieces-join, pieces_hyphen_free}
+use Rattle.iloc_spec_grammar.proofs.PiecesLaws.{at_pieces, join-pieces, pieces-join}
 use Rattle.iloc_spec_grammar.proofs.PartTexts.{join-append, join-dashes, dashes-append}
 use Rattle.iloc_spec_grammar.proofs.RawLaws.{languages_table}
 use Rattle.iloc_spec_grammar.proofs.ReadBack.{all_append}
 use Rattle.iloc_spec_grammar.proofs.Readings.{IsLong, keywords_pass, fields_read, fields_past, before_key_read, not_two, unicode_of-pieces}
-use Rattle.iloc_spec_grammar.proofs.Singletons.{tied, untied}
+use Rattle.iloc_spec_grammar.proofs.Singletons.{untied}
 use Rattle.iloc_spec_grammar.proofs.ValuesLaws.{all_weaker}
 use Rattle.iloc_fronts.specs.Rewriting.{AreSameWords, HaveSame, IsNoPrivate, IsRewritten}
 use Rattle.iloc_fronts.specs.Blocks.{is_long}

@@ -1,9 +1,8 @@
 -- What is stored of a block of `u`, from its parts to all of it.
-use Rattle.std.proofs.Common.{take, drop, ◌≡◌, ◌≢◌, ℕ, zero, suc, ◌+◌, ◌-◌, ◌*◌, ◌<◌, ◌≤◌, ◌==◌, IsTrue, Bool, true, false, cond, not, List, [], ◌∷◌, ◌++◌, length, map, Option, Some, None, refl, sym, ap, ◌∙◌, subst, arith, append_assoc, append-nil, length-append, drop-drop}
+use Rattle.std.proofs.Common.{take, drop, ◌≡◌, ℕ, zero, suc, ◌+◌, ◌-◌, ◌<◌, ◌≤◌, ◌==◌, IsTrue, Bool, true, false, cond, not, List, [], ◌∷◌, ◌++◌, length, map, Option, Some, None, refl, sym, ap, ◌∙◌, subst, arith, append_assoc, append-nil, length-append, drop-drop}
 use Rattle.std.specs.List.{AllByRecursion}
 use Rattle.std.specs.Char.{to_ascii_lowercase}
 use Rattle.std.specs.Ordering.{nat_cmp, ord_max, eq_by_cmp}
-use Rattle.std.proofs.Math.Seq.{take-append-add}
 use Rattle.std.proofs.lemmas.Bool.Decides.{nat_tests}
 use Rattle.std.proofs.lemmas.List.{length-take-le, length-drop, drop-take, take-append-le, take-take, append_cancel_left, map-append}
 use Rattle.iloc_spec_grammar.specs.Syntax.{pieces, join, dashes, Attribute, UnicodeKey, IsWord, IsKeyword, IsHyphenFree, lower, is_true, word_cmp, Fields, fields_pieces}
@@ -22,7 +21,7 @@ use Rattle.iloc_spec_grammar.proofs.WordsLaws.{length-unicode_key}
 use Rattle.iloc_fronts.specs.Blocks.{two_number, left_of, ArePast}
 use Rattle.iloc_fronts.specs.Left.{pieces_of, piece_of, IsLeft}
 use Rattle.iloc_fronts.specs.Transform.{IsRest}
-use Rattle.iloc_fronts.specs.Rewriting.{AreStored, IsShorter, AreValuesKept, IsValueStored, IsFieldStored, Ascend, AreUpTo, AreFieldsStored, HaveSame, IsInserted, IsPlace, AreAttributesStored, AreAttributesSoFar, AreWordsStored, IsWordStored, IsPlaceAmong, AreSameWords, AreKeywordsSoFar, AreKeywordsStored, BeginsBlock}
+use Rattle.iloc_fronts.specs.Rewriting.{AreStored, IsShorter, IsValueStored, IsFieldStored, Ascend, AreUpTo, AreFieldsStored, HaveSame, IsInserted, IsPlace, AreAttributesStored, AreAttributesSoFar, AreWordsStored, IsWordStored, IsPlaceAmong, AreSameWords, AreKeywordsSoFar, AreKeywordsStored, BeginsBlock}
 use Rattle.iloc_fronts.specs.declared.left.Left.{Left}
 use Rattle.iloc_fronts.specs.declared.keywords.Stored.{Stored}
 use Rattle.iloc_fronts.specs.declared.keywords.Place.{Place}

@@ -3,11 +3,11 @@ use Rattle.std.specs.Prelude.{◌≡◌, ◌≢◌, ⊤, ℕ, ◌+◌, ◌<◌, 
 use Rattle.std.specs.List.{AllByRecursion}
 use Rattle.std.specs.FinMap.{find}
 use Rattle.std.specs.Char.{to_ascii_lowercase}
-use Rattle.iloc_spec_grammar.specs.Syntax.{Text, Field, Fields, Unicode, IsHyphenFree, UnicodeKey, Attribute, IsWord, is_word, IsKeyword, word_cmp, lower, dashes, join, fields_pieces, is_one_byte, code_u, code_x, languages}
+use Rattle.iloc_spec_grammar.specs.Syntax.{Text, Fields, Unicode, IsHyphenFree, UnicodeKey, Attribute, IsWord, IsKeyword, word_cmp, lower, dashes, join, fields_pieces, is_one_byte, code_u, code_x, languages}
 use Rattle.iloc_spec_grammar.specs.Meaning.{Locale, Means, normal_values, set_of}
 use Rattle.iloc_spec_grammar.specs.ByBlocks.{UnicodeMeans}
 use Rattle.iloc_fronts.specs.Blocks.{two_number, left_of}
-use Rattle.iloc_fronts.specs.Left.{pieces_of, piece_of, IsLeft}
+use Rattle.iloc_fronts.specs.Left.{pieces_of, IsLeft}
 use Rattle.iloc_fronts.specs.Transform.{IsRest}
 use Rattle.iloc_fronts.specs.declared.left.Left.{Left}
 use Rattle.iloc_fronts.specs.declared.keywords.Stored.{Stored}

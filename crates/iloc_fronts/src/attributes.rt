@@ -98,7 +98,8 @@ fn place_among(word: Left<'_>, left: Left<'_>) -> Option<Place>
     requires word { IsLeft word }
     requires attribute { IsWord Attribute (piece_of word) }
     requires left { IsLeft left }
-    ensures { IfSome result (IsPlaceAmong (piece_of word.entry) (pieces_of left.entry) left.entry.len) }
+    ensures { IfSome result
+        (IsPlaceAmong (piece_of word.entry) (pieces_of left.entry) left.entry.len) }
 {
     let number = number_of_two(word.window);
     let mut at = left;
@@ -121,7 +122,8 @@ fn place_at(word: Left<'_>, left: Left<'_>, is_greater: bool) -> Option<Place>
     requires word { IsLeft word }
     requires left { IsLeft left }
     requires first { IsWord Attribute (piece_of left) }
-    ensures { IfSome result (IsPlaceAmong (piece_of word.entry) (pieces_of left.entry) left.entry.len) }
+    ensures { IfSome result
+        (IsPlaceAmong (piece_of word.entry) (pieces_of left.entry) left.entry.len) }
 {
     if is_greater {
         return Some(Place {

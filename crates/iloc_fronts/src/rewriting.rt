@@ -100,8 +100,8 @@ fn put_unicode<'a>(left: Left<'a>, room: &mut [u8], start: usize) -> Option<Stor
 fn put_rest(stored: Stored<'_>, room: &mut [u8]) -> Option<usize>
     requires left { BeginsBlock stored.next }
     requires room { stored.end + 16 ≤ length room.old }
-    ensures { IfSome result
-        (AreStored room.new (take stored.entry.end room.old ++ dashes (left_of stored.entry.next))) }
+    ensures { IfSome result (AreStored room.new
+        (take stored.entry.end room.old ++ dashes (left_of stored.entry.next))) }
 {
     let Some(next) = stored.next else {
         return Some(stored.end);

@@ -1,4 +1,4 @@
-use Rattle.std.proofs.Common.{◌≡◌, ◌≤◌, ℕ, take, sym, ap, ◌∙◌, arith}
+use Rattle.std.proofs.Common.{◌≡◌, ◌≤◌, ℕ, take, sym, ap, ◌∙◌}
 use Rattle.iloc_spec_grammar.specs.Syntax.{lower}
 use Rattle.iloc_fronts.proofs.StoredLemmas.{first_lower}
 use Rattle.iloc_fronts.proofs.attributes.are_one.Goals as goal

@@ -1,4 +1,4 @@
-use Rattle.std.proofs.Common.{◌∙◌, sym, true, false, true≢false}
+use Rattle.std.proofs.Common.{sym, true, false, true≢false}
 use Rattle.iloc_spec_grammar.specs.Syntax.{Attribute}
 use Rattle.iloc_fronts.specs.Left.{piece_of}
 use Rattle.iloc_fronts.proofs.FrontLemmas.{short_attribute}
