@@ -1,17 +1,16 @@
 -- From what is stored of the block of `u` to the line.
-use Rattle.std.proofs.Common.{take, ◌≡◌, ℕ, ◌+◌, ◌-◌, ◌≤◌, ◌==◌, true, List, [], ◌∷◌, ◌++◌, length, Option, Some, None, refl, sym, ap, ◌∙◌, subst, arith, append_assoc, append-nil}
+use Rattle.std.proofs.Common.{take, ◌≡◌, ℕ, ◌-◌, ◌≤◌, ◌==◌, true, List, [], ◌∷◌, ◌++◌, length, Option, Some, None, refl, sym, ap, ◌∙◌, subst, arith, append_assoc, append-nil}
 use Rattle.std.specs.List.{AllByRecursion}
 use Rattle.iloc_spec_grammar.specs.Syntax.{pieces, join, dashes, Attribute, UnicodeKey, IsWord, IsHyphenFree, fields_pieces}
-use Rattle.iloc_spec_grammar.specs.Reading.{starts_block, rest_of}
+use Rattle.iloc_spec_grammar.specs.Reading.{starts_block}
 use Rattle.iloc_spec_grammar.proofs.PiecesLaws.{pieces_hyphen_free}
 use Rattle.iloc_spec_grammar.proofs.PartTexts.{dashes-append}
 use Rattle.iloc_spec_grammar.proofs.ReadBack.{all_append, fields_each, word_hyphen_free}
 use Rattle.iloc_spec_grammar.proofs.Readings.{IsLong, long_attribute}
 use Rattle.iloc_spec_grammar.proofs.ValuesLaws.{all_weaker}
-use Rattle.iloc_spec_grammar.proofs.Orders.{all_reordered}
 use Rattle.iloc_spec_grammar.specs.ByBlocks.{UnicodeMeans}
 use Rattle.iloc_fronts.specs.Blocks.{left_of}
-use Rattle.iloc_fronts.specs.Left.{pieces_of, piece_of, IsLeft}
+use Rattle.iloc_fronts.specs.Left.{pieces_of}
 use Rattle.iloc_fronts.specs.Rewriting.{AreStored, AreAttributesStored, AreKeywordsStored, BeginsBlock, IsUnicodeStored, LeadsToUnicode, IsRewritten, IsRewrittenAs}
 use Rattle.iloc_fronts.specs.Ordered.{IsOrdered}
 use Rattle.iloc_fronts.specs.declared.ordered.Ordered.{Ordered}
@@ -25,7 +24,7 @@ use Rattle.iloc_fronts.proofs.RewritingLemmas.{same_unicode, line_is_rewritten, 
 
 module _ (text : List ℕ) (ps : List (List ℕ)) (n : ℕ) (room : List ℕ) (s : Stored) (h : AreAttributesStored text ps n room s) where
   kept_each : AllByRecursion (IsWord Attribute) h.kept
-  kept_each = all_reordered (IsWord Attribute) h.order h.each
+  kept_each = h.same.each_kept
 
   words_long : (ws : List (List ℕ)) → AllByRecursion (IsWord Attribute) ws → AllByRecursion IsLong ws
   words_long = all_weaker (IsWord Attribute) IsLong long_attribute
@@ -38,11 +37,11 @@ module _ (text : List ℕ) (ps : List (List ℕ)) (n : ℕ) (room : List ℕ) (s
     body = h.words;
     new = h.kept;
     cut = h.cut;
-    body_long = words_long h.words h.each;
+    body_long = words_long h.words h.same.each;
     new_long = words_long h.kept kept_each;
     new_free = kept_free;
     means = λ v m. subst (λ (l : List (List ℕ)). UnicodeMeans l v) (append-nil h.words)
-        (same_unicode h.words h.kept [] [] h.each h.order tt tt (λ q. refl) (omega arith) v (subst (λ (l : List (List ℕ)). UnicodeMeans l v) (sym (append-nil h.kept)) m));
+        (same_unicode h.words h.kept [] [] h.same tt tt (λ q. refl) (omega arith) v (subst (λ (l : List (List ℕ)). UnicodeMeans l v) (sym (append-nil h.kept)) m));
     stored = h.stored;
     left = subst BeginsBlock (sym e) tt;
   }
@@ -52,10 +51,10 @@ module _ (text : List ℕ) (ps : List (List ℕ)) (n : ℕ) (room : List ℕ) (s
     body = h.words ++ fields_pieces k.written;
     new = h.kept ++ fields_pieces k.kept;
     cut = h.cut ∙ ap (λ o. h.words ++ left_of o) e ∙ ap (λ l. h.words ++ l) k.cut ∙ sym (append_assoc h.words (fields_pieces k.written) (left_of r.next));
-    body_long = all_append IsLong h.words (fields_pieces k.written) (words_long h.words h.each) (fields_each IsLong UnicodeKey long_key long_attribute k.written k.each);
+    body_long = all_append IsLong h.words (fields_pieces k.written) (words_long h.words h.same.each) (fields_each IsLong UnicodeKey long_key long_attribute k.written k.each);
     new_long = all_append IsLong h.kept (fields_pieces k.kept) (words_long h.kept kept_each) (fields_each IsLong UnicodeKey long_key long_attribute k.kept k.each_kept);
     new_free = all_append IsHyphenFree h.kept (fields_pieces k.kept) kept_free (fields_each IsHyphenFree UnicodeKey (word_hyphen_free UnicodeKey) (word_hyphen_free Attribute) k.kept k.each_kept);
-    means = same_unicode h.words h.kept k.written k.kept h.each h.order k.each k.each_kept k.same k.some;
+    means = same_unicode h.words h.kept k.written k.kept h.same k.each k.each_kept k.same k.some;
     stored = subst (λ (t : List ℕ). AreStored new t r.end)
         (ap (λ t. t ++ dashes (fields_pieces k.kept)) h.stored.begins ∙ append_assoc text (dashes h.kept) (dashes (fields_pieces k.kept)) ∙ ap (λ t. text ++ t) (sym (dashes-append h.kept (fields_pieces k.kept)))) k.stored;
     left = k.left;

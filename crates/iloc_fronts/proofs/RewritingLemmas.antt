@@ -1,28 +1,23 @@
 -- From a block of `u` that is brought into order to the meaning of the line.
-use Rattle.std.proofs.Common.{take, drop, inl, inr, ◌≡◌, ◌≢◌, ℕ, zero, suc, ◌+◌, ◌-◌, ◌<◌, ◌≤◌, ◌==◌, Bool, true, false, cond, List, [], ◌∷◌, ◌++◌, length, map, Option, Some, None, refl, sym, ap, ◌∙◌, subst, arith, append_assoc, append-nil, length-append, true≢false}
-use Rattle.std.specs.Prelude.{MatchOption}
+use Rattle.std.proofs.Common.{take, ◌≡◌, ◌≢◌, ℕ, ◌-◌, ◌<◌, ◌≤◌, ◌==◌, Bool, true, false, cond, List, [], ◌∷◌, ◌++◌, length, map, Some, refl, sym, ap, ◌∙◌, subst, arith, append_assoc, append-nil, length-append}
 use Rattle.std.specs.List.{AllByRecursion}
 use Rattle.std.specs.FinMap.{find}
 use Rattle.std.specs.Ordering.{nat_cmp, eq_by_cmp}
 use Rattle.std.specs.Char.{is_ascii_alphanumeric, to_ascii_lowercase}
-use Rattle.std.proofs.lemmas.Bool.{cond_both}
-use Rattle.std.proofs.lemmas.Bool.Decides.{nat_tests}
 use Rattle.std.proofs.lemmas.List.{take-append-le, take-take, length-take-le}
-use Rattle.iloc_spec_grammar.specs.Syntax.{pieces, join, dashes, first_piece, Attribute, is_word, IsWord, IsKeyword, IsHyphenFree, lower, languages, Fields, Unicode, IsUnicode, fields_pieces, unicode_pieces, front, blocks, head, tail_blocks, is_other_singleton, singleton, AllDifferent, kept}
-use Rattle.iloc_spec_grammar.specs.Meaning.{Locale, Extensions, Means, IdentifierMeans, set_of, normal_unicode, no_unicode, no_transform, by_singleton, map_of}
-use Rattle.iloc_spec_grammar.specs.Reading.{before_key, fields_from, is_two, unicode_of, starts_block, rest_of}
-use Rattle.iloc_spec_grammar.specs.ByBlocks.{UnicodeMeans, TransformMeans, PrivateMeans, OtherMeans, PartIs, BlocksGive, BlocksMean, MeansByBlocks, grammar_rules, other_blocks}
+use Rattle.iloc_spec_grammar.specs.Syntax.{pieces, join, dashes, first_piece, Attribute, is_word, IsWord, IsKeyword, IsHyphenFree, languages, Fields, Unicode, IsUnicode, fields_pieces, front, blocks, head, tail_blocks, is_other_singleton, singleton, AllDifferent, kept}
+use Rattle.iloc_spec_grammar.specs.Meaning.{Extensions, IdentifierMeans, normal_unicode, no_unicode, no_transform, by_singleton, map_of}
+use Rattle.iloc_spec_grammar.specs.Reading.{fields_from, is_two, unicode_of, starts_block, rest_of}
+use Rattle.iloc_spec_grammar.specs.ByBlocks.{UnicodeMeans, TransformMeans, PrivateMeans, OtherMeans, PartIs, BlocksMean, MeansByBlocks, other_blocks}
 use Rattle.iloc_spec_grammar.proofs.BlockLaws.{means_by_blocks, blocks_mean}
-use Rattle.iloc_spec_grammar.proofs.PiecesLaws.{at_pieces, join-pieces, pieces-join, pieces_hyphen_free}
+use Rattle.iloc_spec_grammar.proofs.PiecesLaws.{at_pieces, join-pieces, pieces-join}
 use Rattle.iloc_spec_grammar.proofs.PartTexts.{join-append, join-dashes, dashes-append}
-use Rattle.iloc_spec_grammar.proofs.Orders.{all_reordered, map_reordered, set_of_reordered}
-use Rattle.iloc_spec_grammar.specs.Values.{Reordered}
 use Rattle.iloc_spec_grammar.proofs.RawLaws.{languages_table}
 use Rattle.iloc_spec_grammar.proofs.ReadBack.{all_append}
 use Rattle.iloc_spec_grammar.proofs.Readings.{IsLong, keywords_pass, fields_read, fields_past, before_key_read, not_two, unicode_of-pieces}
-use Rattle.iloc_spec_grammar.proofs.Singletons.{tied, untied}
+use Rattle.iloc_spec_grammar.proofs.Singletons.{untied}
 use Rattle.iloc_spec_grammar.proofs.ValuesLaws.{all_weaker}
-use Rattle.iloc_fronts.specs.Rewriting.{HaveSame, IsNoPrivate, IsRewritten}
+use Rattle.iloc_fronts.specs.Rewriting.{AreSameWords, HaveSame, IsNoPrivate, IsRewritten}
 use Rattle.iloc_fronts.specs.Blocks.{is_long}
 use Rattle.iloc_fronts.specs.Left.{pieces_of, piece_of, IsLeft}
 use Rattle.iloc_fronts.specs.declared.left.Left.{Left}
@@ -41,24 +36,18 @@ read_parts ws fs h k =
     let fields : fields_from is_two (ws ++ fields_pieces fs) ≡ fs = fields_past is_two ws _ words ∙ fields_read is_two fs keys in
     λ i. record { attributes = before_key_read is_two ws fs words keys i; keywords = fields i }
 
-pub length_reordered : {X : Type 0} {xs ys : List X} → Reordered xs ys → length ys ≡ length xs
-length_reordered Reordered.none = refl
-length_reordered (Reordered.front_kept r) = ap suc (length_reordered r)
-length_reordered Reordered.first_two = refl
-length_reordered (Reordered.in_turn r s) = length_reordered s ∙ length_reordered r
-
--- attributes in another order, and keywords with the same first values, mean the same
-pub same_unicode : (vs ws : List (List ℕ)) (fs gs : Fields) → AllByRecursion (IsWord Attribute) vs → Reordered vs ws → AllByRecursion IsKeyword fs → AllByRecursion IsKeyword gs
+-- the same attributes, and keywords with the same first values, mean the same
+pub same_unicode : (vs ws : List (List ℕ)) (fs gs : Fields) → AreSameWords vs ws → AllByRecursion IsKeyword fs → AllByRecursion IsKeyword gs
     → HaveSame fs gs → length gs ≤ length fs → (v : Unicode) → UnicodeMeans (ws ++ fields_pieces gs) v → UnicodeMeans (vs ++ fields_pieces fs) v
-same_unicode vs ws fs gs h r k l same few v m = record {
+same_unicode vs ws fs gs h k l same few v m = record {
   written = record { attributes = vs; keywords = fs };
-  grammatical = record { attributes = h; keywords = k; nonempty = omega (arith, some.nonempty, length_reordered r) };
+  grammatical = record { attributes = h.each; keywords = k; nonempty = omega (arith, some.nonempty, h.few) };
   spelled = refl;
-  means = m.means ∙ ap normal_unicode is ∙ (λ i. record { attributes = sym (set_of_reordered (map_reordered lower r)) i; keywords = sym (same_fields fs gs same) i });
+  means = m.means ∙ ap normal_unicode is ∙ (λ i. record { attributes = h.same i; keywords = sym (same_fields fs gs same) i });
 }
   where
     is : m.written ≡ record { attributes = ws; keywords = gs }
-    is = sym (unicode_of-pieces m.written m.grammatical) ∙ ap unicode_of (sym m.spelled) ∙ read_parts ws gs (all_reordered (IsWord Attribute) r h) l
+    is = sym (unicode_of-pieces m.written m.grammatical) ∙ ap unicode_of (sym m.spelled) ∙ read_parts ws gs h.each_kept l
 
     some : IsUnicode (record { attributes = ws; keywords = gs })
     some = subst IsUnicode is m.grammatical

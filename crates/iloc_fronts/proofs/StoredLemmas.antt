@@ -1,24 +1,27 @@
 -- What is stored of a block of `u`, from its parts to all of it.
-use Rattle.std.proofs.Common.{take, drop, ◌≡◌, ◌≢◌, ℕ, zero, suc, ◌+◌, ◌-◌, ◌*◌, ◌<◌, ◌≤◌, ◌==◌, IsTrue, Bool, true, false, cond, not, List, [], ◌∷◌, ◌++◌, length, map, Option, Some, None, refl, sym, ap, ◌∙◌, subst, arith, append_assoc, append-nil, length-append, drop-drop}
+use Rattle.std.proofs.Common.{take, drop, ◌≡◌, ℕ, zero, suc, ◌+◌, ◌-◌, ◌<◌, ◌≤◌, ◌==◌, IsTrue, Bool, true, false, cond, not, List, [], ◌∷◌, ◌++◌, length, map, Option, Some, None, refl, sym, ap, ◌∙◌, subst, arith, append_assoc, append-nil, length-append, drop-drop}
 use Rattle.std.specs.List.{AllByRecursion}
-use Rattle.std.specs.Ordering.{nat_cmp, ord_max}
-use Rattle.std.proofs.Math.Seq.{take-append-add}
+use Rattle.std.specs.Char.{to_ascii_lowercase}
+use Rattle.std.specs.Ordering.{nat_cmp, ord_max, eq_by_cmp}
 use Rattle.std.proofs.lemmas.Bool.Decides.{nat_tests}
-use Rattle.std.proofs.lemmas.List.{length-take-le, length-drop, drop-take, take-append-le, take-take, append_cancel_left}
-use Rattle.iloc_spec_grammar.specs.Syntax.{pieces, join, dashes, Attribute, UnicodeKey, IsWord, IsKeyword, IsHyphenFree, lower, is_true, Fields, fields_pieces}
-use Rattle.iloc_spec_grammar.specs.Meaning.{normal_values}
+use Rattle.std.proofs.lemmas.List.{length-take-le, length-drop, drop-take, take-append-le, take-take, append_cancel_left, map-append}
+use Rattle.iloc_spec_grammar.specs.Syntax.{pieces, join, dashes, Attribute, UnicodeKey, IsWord, IsKeyword, IsHyphenFree, lower, is_true, word_cmp, Fields, fields_pieces}
+use Rattle.iloc_spec_grammar.specs.Meaning.{normal_values, set_of}
 use Rattle.iloc_spec_grammar.specs.Reading.{rest_of}
 use Rattle.iloc_spec_grammar.proofs.PiecesLaws.{pieces-join}
 use Rattle.iloc_spec_grammar.proofs.PartTexts.{join-dashes, dashes-append}
 use Rattle.iloc_spec_grammar.proofs.ReadBack.{all_append, fields_each, word_hyphen_free}
 use Rattle.iloc_spec_grammar.proofs.ValuesLaws.{all_weaker}
-use Rattle.iloc_spec_grammar.proofs.Orders.{all_reordered, itself}
+use Rattle.iloc_spec_grammar.proofs.Orders.{all_reordered, map_reordered, set_of_reordered, itself}
+use Rattle.iloc_spec_grammar.proofs.MapLaws.{map_of_same, word_cmp_total, same_words}
+use Rattle.iloc_spec_grammar.proofs.SetLaws.{marked, keys, set_of-first}
+use Rattle.std.specs.FinMap.{find}
 use Rattle.iloc_spec_grammar.specs.Values.{Reordered}
 use Rattle.iloc_spec_grammar.proofs.WordsLaws.{length-unicode_key}
 use Rattle.iloc_fronts.specs.Blocks.{two_number, left_of, ArePast}
 use Rattle.iloc_fronts.specs.Left.{pieces_of, piece_of, IsLeft}
 use Rattle.iloc_fronts.specs.Transform.{IsRest}
-use Rattle.iloc_fronts.specs.Rewriting.{AreStored, IsShorter, AreValuesKept, IsValueStored, IsFieldStored, Ascend, AreUpTo, AreFieldsStored, HaveSame, IsInserted, IsPlace, AreAttributesStored, AreAttributesSoFar, AreWordsStored, IsWordStored, IsCutAfter, AreKeywordsSoFar, AreKeywordsStored, BeginsBlock}
+use Rattle.iloc_fronts.specs.Rewriting.{AreStored, IsShorter, IsValueStored, IsFieldStored, Ascend, AreUpTo, AreFieldsStored, HaveSame, IsInserted, IsPlace, AreAttributesStored, AreAttributesSoFar, AreWordsStored, IsWordStored, IsPlaceAmong, AreSameWords, AreKeywordsSoFar, AreKeywordsStored, BeginsBlock}
 use Rattle.iloc_fronts.specs.declared.left.Left.{Left}
 use Rattle.iloc_fronts.specs.declared.keywords.Stored.{Stored}
 use Rattle.iloc_fronts.specs.declared.keywords.Place.{Place}
@@ -432,79 +435,131 @@ reordered_before : {X : Type 0} (xs : List X) {ys zs : List X} → Reordered ys 
 reordered_before [] r = r
 reordered_before (x ∷ xs) r = Reordered.front_kept (reordered_before xs r)
 
-reordered_after : {X : Type 0} {xs ys : List X} (zs : List X) → Reordered xs ys → Reordered (xs ++ zs) (ys ++ zs)
-reordered_after zs Reordered.none = itself zs
-reordered_after zs (Reordered.front_kept r) = Reordered.front_kept (reordered_after zs r)
-reordered_after zs (Reordered.first_two {x = x} {y = y} {xs = xs}) = Reordered.first_two {x = x} {y = y} {xs = xs ++ zs}
-reordered_after zs (Reordered.in_turn r s) = Reordered.in_turn (reordered_after zs r) (reordered_after zs s)
-
 -- the last comes first
 last_first : {X : Type 0} (xs : List X) (x : X) → Reordered (xs ++ x ∷ []) (x ∷ xs)
 last_first [] x = itself (x ∷ [])
 last_first (y ∷ xs) x = Reordered.in_turn (Reordered.front_kept (last_first xs x)) Reordered.first_two
+
+-- a word more on both sides
+set_more : (vs ws : List (List ℕ)) (p : List ℕ) → set_of (map lower ws) ≡ set_of (map lower vs) → set_of (map lower (ws ++ p ∷ [])) ≡ set_of (map lower (vs ++ p ∷ []))
+set_more vs ws p e =
+    ap set_of (map-append lower ws (p ∷ [])) ∙ sym (set_of-first (map lower ws) (lower p ∷ []))
+    ∙ ap (λ l. set_of (l ++ lower p ∷ [])) e
+    ∙ set_of-first (map lower vs) (lower p ∷ []) ∙ ap set_of (sym (map-append lower vs (p ∷ [])))
+
+-- a word that is there adds nothing
+marks_there : (q w : List ℕ) (xs ys : List (List ℕ)) → find word_cmp q (marked ((xs ++ (w ∷ ys)) ++ w ∷ [])) ≡ find word_cmp q (marked (xs ++ (w ∷ ys)))
+marks_there q w [] ys = at (eq_by_cmp word_cmp q w) (later ys)
+  where
+    at : (b : Bool) → (b ≡ false → find word_cmp q (marked (ys ++ w ∷ [])) ≡ find word_cmp q (marked ys)) → cond b (Some (tt {0})) (find word_cmp q (marked (ys ++ w ∷ []))) ≡ cond b (Some (tt {0})) (find word_cmp q (marked ys))
+    at true f = refl
+    at false f = f refl
+
+    later : (zs : List (List ℕ)) → eq_by_cmp word_cmp q w ≡ false → find word_cmp q (marked (zs ++ w ∷ [])) ≡ find word_cmp q (marked zs)
+    later [] e = ap (λ (b : Bool). cond b (Some (tt {0})) None) e
+    later (z ∷ zs) e = ap (cond (eq_by_cmp word_cmp q z) (Some (tt {0}))) (later zs e)
+marks_there q w (x ∷ xs) ys = ap (cond (eq_by_cmp word_cmp q x) (Some (tt {0}))) (marks_there q w xs ys)
+
+set_there : (w : List ℕ) (xs ys : List (List ℕ)) → set_of ((xs ++ (w ∷ ys)) ++ w ∷ []) ≡ set_of (xs ++ (w ∷ ys))
+set_there w xs ys = ap keys (map_of_same word_cmp word_cmp_total same_words (marked ((xs ++ (w ∷ ys)) ++ w ∷ [])) (marked (xs ++ (w ∷ ys))) (λ q. marks_there q w xs ys))
 
 words_stored : (text : List ℕ) (ws : List (List ℕ)) (p : List ℕ) → (text ++ dashes ws) ++ 45 ∷ p ≡ text ++ dashes (ws ++ p ∷ [])
 words_stored text ws p =
     append_assoc text (dashes ws) (45 ∷ p)
     ∙ ap (λ t. text ++ t) (ap (λ t. dashes ws ++ t) (sym (append-nil (45 ∷ p))) ∙ sym (dashes-append ws (p ∷ [])))
 
-pub word_appended : (text room p : List ℕ) (start end : ℕ) (ws : List (List ℕ)) → AreWordsStored room start end text ws → (new : List ℕ) (e : ℕ) → AreStored new (take end room ++ 45 ∷ p) e → IsWordStored text ws p new e
-word_appended text room p start end ws a new e h = record {
+pub word_appended : (text room p : List ℕ) (start end : ℕ) (ws : List (List ℕ)) → AreWordsStored room start end text ws → IsWord Attribute p → (new : List ℕ) (e : ℕ) → AreStored new (take end room ++ 45 ∷ p) e → IsWordStored text ws p new e
+word_appended text room p start end ws a w new e h = record {
   all = ws ++ p ∷ [];
-  order = itself (ws ++ p ∷ []);
+  same =
+      let each = all_append (IsWord Attribute) ws (p ∷ []) a.each (w, tt) in
+      record { each = each; each_kept = each; few = omega arith; same = refl };
   stored = subst (λ (t : List ℕ). AreStored new t e) (ap (λ t. t ++ 45 ∷ p) a.stored ∙ words_stored text ws p) h;
 }
 
-pub word_inserted : (text room p : List ℕ) (start end len m : ℕ) (ws : List (List ℕ)) → end ≤ length room → AreWordsStored room start end text ws → IsCutAfter ws len m
-    → (room' new : List ℕ) (k e : ℕ) → AreStored room' (take (end - m - 1) room ++ 45 ∷ p) k → AreStored new (take k room' ++ take (m + 1) (drop (end - m - 1) room)) e → IsWordStored text ws p new e
-word_inserted text room p start end len m ws room_end a c room' new k e h stored = record {
-  all = c.before ++ (p ∷ (c.first ∷ c.rest));
-  order = subst (λ (l : List (List ℕ)). Reordered l (c.before ++ (p ∷ (c.first ∷ c.rest)))) (sym (append_assoc c.before (c.first ∷ c.rest) (p ∷ [])) ∙ ap (λ l. l ++ p ∷ []) (sym c.cut))
-      (reordered_before c.before (last_first (c.first ∷ c.rest) p));
-  stored = subst (λ (t : List ℕ). AreStored new t e) text_is stored;
-}
-  where
-    long : length (dashes (c.first ∷ c.rest)) ≡ m + 1
-    long = let l : length (dashes (c.first ∷ c.rest)) ≡ suc (length (join (c.first ∷ c.rest))) = ap suc (ap length (sym (join-dashes c.first c.rest))) in omega (arith, l, c.long)
+module _ (text room p : List ℕ) (start end len : ℕ) (ws : List (List ℕ)) (room_end : end ≤ length room) (a : AreWordsStored room start end text ws) (w : IsWord Attribute p)
+    (place : Place) (c : IsPlaceAmong p ws len place) where
+  each_more : AllByRecursion (IsWord Attribute) (ws ++ p ∷ [])
+  each_more = all_append (IsWord Attribute) ws (p ∷ []) a.each (w, tt)
 
-    parts : take end room ≡ (text ++ dashes c.before) ++ dashes (c.first ∷ c.rest)
-    parts = a.stored ∙ ap (λ l. text ++ dashes l) c.cut ∙ ap (λ t. text ++ t) (dashes-append c.before (c.first ∷ c.rest)) ∙ sym (append_assoc text (dashes c.before) (dashes (c.first ∷ c.rest)))
+  -- it is there
+  pub word_there : place.is_there ≡ true → end + 16 ≤ length room → IsWordStored text ws p room end
+  word_there there more = record {
+    all = ws;
+    same = record { each = each_more; each_kept = a.each; few = omega (arith, length-append ws (p ∷ [])); same = sym same };
+    stored = record { begins = a.stored; more = more };
+  }
+    where
+      one : lower c.first ≡ lower p
+      one = c.there there
 
-    same_place : end - (m + 1) ≡ end - m - 1
-    same_place = omega arith
+      lowered : map lower ws ≡ map lower c.before ++ (lower p ∷ map lower c.rest)
+      lowered = ap (map lower) c.cut ∙ map-append lower c.before (c.first ∷ c.rest) ∙ ap (λ x. map lower c.before ++ (x ∷ map lower c.rest)) one
 
-    halves : (take (end - m - 1) room ≡ text ++ dashes c.before) × (take (m + 1) (drop (end - m - 1) room) ≡ dashes (c.first ∷ c.rest))
-    halves = subst (λ (n : ℕ). (take n room ≡ text ++ dashes c.before) × (take (m + 1) (drop n room) ≡ dashes (c.first ∷ c.rest))) same_place
-        (split_room room (text ++ dashes c.before) (dashes (c.first ∷ c.rest)) end (m + 1) room_end parts long)
+      same : set_of (map lower (ws ++ p ∷ [])) ≡ set_of (map lower ws)
+      same = ap set_of (map-append lower ws (p ∷ [])) ∙ ap (λ l. set_of (l ++ lower p ∷ [])) lowered ∙ set_there (lower p) (map lower c.before) (map lower c.rest) ∙ ap set_of (sym lowered)
 
-    text_is : take k room' ++ take (m + 1) (drop (end - m - 1) room) ≡ text ++ dashes (c.before ++ (p ∷ (c.first ∷ c.rest)))
-    text_is =
-        (λ j. (h.begins ∙ ap (λ t. t ++ 45 ∷ p) halves.0 ∙ words_stored text c.before p) j ++ halves.1 j)
-        ∙ append_assoc text (dashes (c.before ++ p ∷ [])) (dashes (c.first ∷ c.rest))
-        ∙ ap (λ t. text ++ t) (sym (dashes-append (c.before ++ p ∷ []) (c.first ∷ c.rest)))
-        ∙ ap (λ l. text ++ dashes l) (append_assoc c.before (p ∷ []) (c.first ∷ c.rest))
+  -- it comes before a greater one
+  pub word_inserted : (room' new : List ℕ) (k e : ℕ) → AreStored room' (take (end - place.len - 1) room ++ 45 ∷ p) k → AreStored new (take k room' ++ take (place.len + 1) (drop (end - place.len - 1) room)) e
+      → IsWordStored text ws p new e
+  word_inserted room' new k e h stored = record {
+    all = c.before ++ (p ∷ (c.first ∷ c.rest));
+    same = record {
+      each = each_more;
+      each_kept = all_reordered (IsWord Attribute) order each_more;
+      few = omega (arith, ap length c.cut, length-append ws (p ∷ []), length-append c.before (c.first ∷ c.rest), length-append c.before (p ∷ (c.first ∷ c.rest)));
+      same = sym (set_of_reordered (map_reordered lower order));
+    };
+    stored = subst (λ (t : List ℕ). AreStored new t e) text_is stored;
+  }
+    where
+      order : Reordered (ws ++ p ∷ []) (c.before ++ (p ∷ (c.first ∷ c.rest)))
+      order = subst (λ (l : List (List ℕ)). Reordered l (c.before ++ (p ∷ (c.first ∷ c.rest)))) (sym (append_assoc c.before (c.first ∷ c.rest) (p ∷ [])) ∙ ap (λ l. l ++ p ∷ []) (sym c.cut))
+          (reordered_before c.before (last_first (c.first ∷ c.rest) p))
+
+      long : length (dashes (c.first ∷ c.rest)) ≡ place.len + 1
+      long = let l : length (dashes (c.first ∷ c.rest)) ≡ suc (length (join (c.first ∷ c.rest))) = ap suc (ap length (sym (join-dashes c.first c.rest))) in omega (arith, l, c.long)
+
+      parts : take end room ≡ (text ++ dashes c.before) ++ dashes (c.first ∷ c.rest)
+      parts = a.stored ∙ ap (λ l. text ++ dashes l) c.cut ∙ ap (λ t. text ++ t) (dashes-append c.before (c.first ∷ c.rest)) ∙ sym (append_assoc text (dashes c.before) (dashes (c.first ∷ c.rest)))
+
+      same_place : end - (place.len + 1) ≡ end - place.len - 1
+      same_place = omega arith
+
+      halves : (take (end - place.len - 1) room ≡ text ++ dashes c.before) × (take (place.len + 1) (drop (end - place.len - 1) room) ≡ dashes (c.first ∷ c.rest))
+      halves = subst (λ (n : ℕ). (take n room ≡ text ++ dashes c.before) × (take (place.len + 1) (drop n room) ≡ dashes (c.first ∷ c.rest))) same_place
+          (split_room room (text ++ dashes c.before) (dashes (c.first ∷ c.rest)) end (place.len + 1) room_end parts long)
+
+      text_is : take k room' ++ take (place.len + 1) (drop (end - place.len - 1) room) ≡ text ++ dashes (c.before ++ (p ∷ (c.first ∷ c.rest)))
+      text_is =
+          (λ j. (h.begins ∙ ap (λ t. t ++ 45 ∷ p) halves.0 ∙ words_stored text c.before p) j ++ halves.1 j)
+          ∙ append_assoc text (dashes (c.before ++ p ∷ [])) (dashes (c.first ∷ c.rest))
+          ∙ ap (λ t. text ++ t) (sym (dashes-append (c.before ++ p ∷ []) (c.first ∷ c.rest)))
+          ∙ ap (λ l. text ++ dashes l) (append_assoc c.before (p ∷ []) (c.first ∷ c.rest))
 
 pub words_in_room : (room text : List ℕ) (start end : ℕ) (ws : List (List ℕ)) → end ≤ length room → AreWordsStored room start end text ws → start < end
     → pieces (take (end - start - 1) (take (length room - (start + 1)) (drop (start + 1) room))) ≡ ws
 words_in_room room text start end ws room_end a some =
     pieces_in_room room text start end ws room_end a.before a.stored (all_weaker (IsWord Attribute) IsHyphenFree (word_hyphen_free Attribute) ws a.each) some
 
-pub cut_here : (l : Left) → IsLeft l → l.n < 16 → IsCutAfter (pieces_of l) l.len l.len
-cut_here l h few = record {
+pub among_here : (word : List ℕ) (l : Left) → IsLeft l → l.n < 16 → (there : Bool) → (there ≡ true → lower (piece_of l) ≡ lower word) → IsPlaceAmong word (pieces_of l) l.len (record { is_there = there; len = l.len })
+among_here word l h few there one = record {
   before = [];
   first = piece_of l;
   rest = rest_of (pieces_of l);
   cut = cut_left l h few;
+  there = one;
   long = sym (length-joined l h) ∙ ap (λ ps. length (join ps)) (cut_left l h few);
   within = omega arith;
 }
 
-pub cut_later : (p : List ℕ) (ps qs : List (List ℕ)) (m n : ℕ) → ps ≡ p ∷ qs → m ≤ n → (k : ℕ) → IsCutAfter qs m k → IsCutAfter ps n k
-cut_later p ps qs m n e le k h = record {
+pub among_later : (word p : List ℕ) (ps qs : List (List ℕ)) (m n : ℕ) → ps ≡ p ∷ qs → m ≤ n → (k : Place) → IsPlaceAmong word qs m k → IsPlaceAmong word ps n k
+among_later word p ps qs m n e le k h = record {
   before = p ∷ h.before;
   first = h.first;
   rest = h.rest;
   cut = e ∙ ap (λ l. p ∷ l) h.cut;
+  there = h.there;
   long = h.long;
   within = omega (arith, h.within);
 }
@@ -514,26 +569,26 @@ attributes_none room start l inside = record {
   words = [];
   kept = [];
   cut = refl;
-  each = tt;
-  order = Reordered.none;
+  same = record { each = tt; each_kept = tt; few = omega arith; same = refl };
   stored = record { before = length-take-le start room inside; stored = sym (append-nil (take start room)); each = tt };
 }
 
 module _ (text room p : List ℕ) (ps : List (List ℕ)) (start end : ℕ) (at : Left) (h : AreAttributesSoFar text ps start end room at) (w : IsWord Attribute p) (new : List ℕ) (e : ℕ)
     (i : IsWordStored text h.kept p new e) where
-  more_each : AllByRecursion (IsWord Attribute) (h.words ++ p ∷ [])
-  more_each = all_append (IsWord Attribute) h.words (p ∷ []) h.each (w, tt)
-
-  more_order : Reordered (h.words ++ p ∷ []) i.all
-  more_order = Reordered.in_turn (reordered_after (p ∷ []) h.order) i.order
+  more_same : AreSameWords (h.words ++ p ∷ []) i.all
+  more_same = record {
+    each = all_append (IsWord Attribute) h.words (p ∷ []) h.same.each (w, tt);
+    each_kept = i.same.each_kept;
+    few = omega (arith, i.same.few, h.same.few, length-append h.words (p ∷ []), length-append h.kept (p ∷ []));
+    same = i.same.same ∙ set_more h.words h.kept p h.same.same;
+  }
 
   pub attribute_last : (n : ℕ) → pieces_of at ≡ p ∷ [] → AreAttributesStored text ps n new (record { end = e; next = None })
   attribute_last n cut = record {
     words = h.words ++ p ∷ [];
     kept = i.all;
     cut = h.cut ∙ ap (λ l. h.words ++ l) cut ∙ sym (append-nil (h.words ++ p ∷ []));
-    each = more_each;
-    order = more_order;
+    same = more_same;
     stored = i.stored;
     left = tt;
   }
@@ -543,9 +598,8 @@ module _ (text room p : List ℕ) (ps : List (List ℕ)) (start end : ℕ) (at :
     words = h.words ++ p ∷ [];
     kept = i.all;
     cut = h.cut ∙ ap (λ l. h.words ++ l) cut ∙ sym (append_assoc h.words (p ∷ []) (pieces_of next));
-    each = more_each;
-    order = more_order;
-    stored = record { before = h.stored.before; stored = i.stored.begins; each = all_reordered (IsWord Attribute) more_order more_each };
+    same = more_same;
+    stored = record { before = h.stored.before; stored = i.stored.begins; each = i.same.each_kept };
   }
 
   pub attribute_behind : start ≤ e
@@ -557,8 +611,17 @@ attributes_end text room ps start end n at h more left le = record {
   words = h.words;
   kept = h.kept;
   cut = h.cut;
-  each = h.each;
-  order = h.order;
+  same = h.same;
   stored = record { begins = h.stored.stored; more = more };
   left = (left, le);
 }
+
+take_lower : (n : ℕ) (w : List ℕ) → take n (lower w) ≡ lower (take n w)
+unfolding lower
+take_lower zero w = refl
+take_lower (suc n) [] = refl
+take_lower (suc n) (b ∷ w) = ap (λ l. to_ascii_lowercase b ∷ l) (take_lower n w)
+
+-- the first bytes of sixteen in lower case
+pub first_lower : (n : ℕ) (w : List ℕ) → n ≤ 16 → take n (lower (take 16 w)) ≡ lower (take n w)
+first_lower n w few = take_lower n (take 16 w) ∙ ap lower (take-take n 16 w few)

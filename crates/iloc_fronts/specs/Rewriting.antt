@@ -1,14 +1,13 @@
 -- Lines that are brought into order.
-use Rattle.std.specs.Prelude.{◌≡◌, ◌≢◌, ⊤, ℕ, ◌+◌, ◌<◌, ◌≤◌, IsTrue, false, List, [], ◌∷◌, ◌++◌, length, map, take, Option, Some, None}
+use Rattle.std.specs.Prelude.{◌≡◌, ◌≢◌, ⊤, ℕ, ◌+◌, ◌<◌, ◌≤◌, IsTrue, true, false, List, [], ◌∷◌, ◌++◌, length, map, take, Option, Some, None}
 use Rattle.std.specs.List.{AllByRecursion}
 use Rattle.std.specs.FinMap.{find}
 use Rattle.std.specs.Char.{to_ascii_lowercase}
-use Rattle.iloc_spec_grammar.specs.Syntax.{Text, Field, Fields, Unicode, IsHyphenFree, UnicodeKey, Attribute, IsWord, is_word, IsKeyword, word_cmp, lower, dashes, join, fields_pieces, is_one_byte, code_u, code_x, languages}
-use Rattle.iloc_spec_grammar.specs.Meaning.{Locale, Means, normal_values}
-use Rattle.iloc_spec_grammar.specs.Values.{Reordered}
+use Rattle.iloc_spec_grammar.specs.Syntax.{Text, Fields, Unicode, IsHyphenFree, UnicodeKey, Attribute, IsWord, IsKeyword, word_cmp, lower, dashes, join, fields_pieces, is_one_byte, code_u, code_x, languages}
+use Rattle.iloc_spec_grammar.specs.Meaning.{Locale, Means, normal_values, set_of}
 use Rattle.iloc_spec_grammar.specs.ByBlocks.{UnicodeMeans}
 use Rattle.iloc_fronts.specs.Blocks.{two_number, left_of}
-use Rattle.iloc_fronts.specs.Left.{pieces_of, piece_of, IsLeft}
+use Rattle.iloc_fronts.specs.Left.{pieces_of, IsLeft}
 use Rattle.iloc_fronts.specs.Transform.{IsRest}
 use Rattle.iloc_fronts.specs.declared.left.Left.{Left}
 use Rattle.iloc_fronts.specs.declared.keywords.Stored.{Stored}
@@ -127,13 +126,19 @@ pub record AreKeywordsStored (text : Text) (ps : List Text) (room : Text) (s : S
 
 -- The block.
 
--- attributes that come first are stored in some order
+-- the same attributes, in another order and without repeats
+pub record AreSameWords (words kept : List Text) : Type 0 where
+  pub each : AllByRecursion (IsWord Attribute) words
+  pub each_kept : AllByRecursion (IsWord Attribute) kept
+  pub few : length kept ≤ length words
+  pub same : set_of (map lower kept) ≡ set_of (map lower words)
+
+-- attributes that come first are stored
 pub record AreAttributesStored (text : Text) (ps : List Text) (len : ℕ) (room : Text) (s : Stored) : Type 0 where
   pub words : List Text
   pub kept : List Text
   pub cut : ps ≡ words ++ left_of s.next
-  pub each : AllByRecursion (IsWord Attribute) words
-  pub order : Reordered words kept
+  pub same : AreSameWords words kept
   pub stored : AreStored room (text ++ dashes kept) s.end
   pub left : IsRest len s.next
 
@@ -146,25 +151,25 @@ pub record AreWordsStored (room : Text) (start end : ℕ) (text : Text) (words :
 -- one word more is stored among them
 pub record IsWordStored (text : Text) (words : List Text) (word room : Text) (end : ℕ) : Type 0 where
   pub all : List Text
-  pub order : Reordered (words ++ word ∷ []) all
+  pub same : AreSameWords (words ++ word ∷ []) all
   pub stored : AreStored room (text ++ dashes all) end
 
--- the pieces are cut where so many bytes are left
-pub record IsCutAfter (ps : List Text) (len m : ℕ) : Type 0 where
+-- the word belongs where so many bytes are left of the pieces, or it is what comes there
+pub record IsPlaceAmong (word : Text) (ps : List Text) (len : ℕ) (p : Place) : Type 0 where
   pub before : List Text
   pub first : Text
   pub rest : List Text
   pub cut : ps ≡ before ++ (first ∷ rest)
-  pub long : m ≡ length (join (first ∷ rest))
-  pub within : m ≤ len
+  pub there : p.is_there ≡ true → lower first ≡ lower word
+  pub long : p.len ≡ length (join (first ∷ rest))
+  pub within : p.len ≤ len
 
--- attributes so far are stored in some order, and other pieces are left
+-- attributes so far are stored, and other pieces are left
 pub record AreAttributesSoFar (text : Text) (ps : List Text) (start end : ℕ) (room : Text) (l : Left) : Type 0 where
   pub words : List Text
   pub kept : List Text
   pub cut : ps ≡ words ++ pieces_of l
-  pub each : AllByRecursion (IsWord Attribute) words
-  pub order : Reordered words kept
+  pub same : AreSameWords words kept
   pub stored : AreWordsStored room start end text kept
 
 -- pieces up to the next block are stored as others, of which each meaning is theirs

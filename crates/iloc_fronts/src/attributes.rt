@@ -1,21 +1,23 @@
 //! Stores attributes in order.
-ghost use Rattle.std.specs.Prelude.{◌+◌, ◌≤◌, IfSome, List, length, take};
-ghost use Rattle.iloc_spec_grammar.specs.Syntax.{Attribute, IsWord, Text};
+ghost use Rattle.std.specs.Prelude.{◌≡◌, ◌↔◌, ◌+◌, ◌≤◌, IfSome, IsTrue, List, length, take, true};
+ghost use Rattle.iloc_spec_grammar.specs.Syntax.{Attribute, IsWord, Text, lower};
 ghost use Rattle.iloc_fronts.specs.Left.{IsLeft, piece_of, pieces_of};
 ghost use Rattle.iloc_fronts.specs.Rewriting.{
   AreAttributesStored,
   AreWordsStored,
-  IsCutAfter,
+  IsPlaceAmong,
   IsWordStored,
 };
 
-use crate::keywords::Stored;
+use crate::keywords::{Place, Stored};
 use crate::left::{Left, after_piece, left_in};
 use crate::storing::{put_bytes, put_piece};
 use crate::words::{is_attribute, number_of_two};
+use iloc_plain::first_in_lower_case;
 use std::cmp::max;
+use std::simd::prelude::*;
 
-// Stores attributes in the order of their first two bytes; `None` if two of them begin with the same ones.
+// Stores attributes in the order of their first two bytes, each once; `None` if two others begin with the same ones.
 #[inline(always)]
 pub(crate) fn put_attributes<'a>(
     left: Left<'a>,
@@ -66,7 +68,7 @@ fn put_attribute(
     insert_attribute(left, room, start, end)
 }
 
-// Stores an attribute before the first that is greater.
+// Stores an attribute before the first that is greater, unless it is there.
 #[inline(never)]
 fn insert_attribute(left: Left<'_>, room: &mut [u8], start: usize, end: usize) -> Option<usize>
     requires left { IsLeft left }
@@ -79,31 +81,85 @@ fn insert_attribute(left: Left<'_>, room: &mut [u8], start: usize, end: usize) -
     if start == end {
         return None;
     }
-    let number = number_of_two(left.window);
-    let len = first_greater(left_in(&room[start + 1..], end - start - 1), number)?;
-    let before = end - len - 1;
+    let place = place_among(left, left_in(&room[start + 1..], end - start - 1))?;
+    if place.is_there {
+        return Some(end);
+    }
+    let before = end - place.len - 1;
     let mut later = [0u8; 128];
-    let count = put_bytes(&room[before..], len + 1, &mut later, 0)?;
+    let count = put_bytes(&room[before..], place.len + 1, &mut later, 0)?;
     let next = put_piece(left, room, before)?;
     put_bytes(&later, count, room, next)
 }
 
-// How many bytes there are from the first attribute on that is greater; `None` if one is equal before.
+// Where the attribute belongs among these; `None` if another begins with the same two bytes.
 #[inline(always)]
-fn first_greater(left: Left<'_>, number: usize) -> Option<usize>
-    requires { IsLeft left }
-    ensures { IfSome result (IsCutAfter (pieces_of left.entry) left.entry.len) }
+fn place_among(word: Left<'_>, left: Left<'_>) -> Option<Place>
+    requires word { IsLeft word }
+    requires attribute { IsWord Attribute (piece_of word) }
+    requires left { IsLeft left }
+    ensures { IfSome result
+        (IsPlaceAmong (piece_of word.entry) (pieces_of left.entry) left.entry.len) }
 {
+    let number = number_of_two(word.window);
     let mut at = left;
     'attributes: while is_attribute(at.window, at.n) {
         let other = number_of_two(at.window);
-        if other > number {
-            return Some(at.len);
+        if other >= number {
+            return place_at(word, at, other > number);
         }
-        if other == number || at.n == at.len {
+        if at.n == at.len {
             return None;
         }
         at = after_piece(at);
     }
     None
+}
+
+// The place here, if this attribute is greater, or the same.
+#[inline(always)]
+fn place_at(word: Left<'_>, left: Left<'_>, is_greater: bool) -> Option<Place>
+    requires word { IsLeft word }
+    requires left { IsLeft left }
+    requires first { IsWord Attribute (piece_of left) }
+    ensures { IfSome result
+        (IsPlaceAmong (piece_of word.entry) (pieces_of left.entry) left.entry.len) }
+{
+    if is_greater {
+        return Some(Place {
+            is_there: false,
+            len: left.len,
+        });
+    }
+    if !are_one(word, left) {
+        return None;
+    }
+    Some(Place {
+        is_there: true,
+        len: left.len,
+    })
+}
+
+// Whether the pieces are the same but for the case of letters.
+#[inline(always)]
+fn are_one(word: Left<'_>, left: Left<'_>) -> bool
+    requires word { IsLeft word }
+    requires left { IsLeft left }
+    ensures { result ≡ true → lower (piece_of left.entry) ≡ lower (piece_of word.entry) }
+{
+    if word.n != left.n {
+        return false;
+    }
+    let first = first_in_lower_case(word.window);
+    let second = first_in_lower_case(left.window);
+    are_same(first, second, word.n)
+}
+
+// Whether the first bytes of both are the same.
+#[inline(always)]
+fn are_same(v: u8x16, w: u8x16, len: usize) -> bool
+    requires { len ≤ 16 }
+    ensures { IsTrue result ↔ (take len v ≡ take len w) }
+{
+    v.simd_ne(w).to_bitmask() & ((1u64 << len) - 1) == 0
 }

@@ -27,13 +27,13 @@ pub(crate) struct Stored<'a> {
     pub(crate) next: Option<Left<'a>>,
 }
 
-// Where a field belongs among others.
+// Where a field or an attribute belongs among others.
 #[derive(Clone, Copy)]
-struct Place {
-    // Whether its key is there.
-    is_there: bool,
-    // How many bytes there are from the first field on whose key is not less.
-    len: usize,
+pub(crate) struct Place {
+    // Whether its key, or the attribute, is there.
+    pub(crate) is_there: bool,
+    // How many bytes there are from the first on that is not less.
+    pub(crate) len: usize,
 }
 
 // Stores keywords in the order of their keys, without `true`. Of those with one key the first stays.

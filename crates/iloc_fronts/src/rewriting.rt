@@ -17,7 +17,7 @@ use crate::left::{Left, after_piece, left_in};
 use crate::storing::{put_bytes, put_left};
 
 /// Stores a line of which each meaning is one of the first `len` bytes, and gives its length. In the block of `u`
-/// attributes and keys ascend in it, of keywords with one key the first stays, and no value is `true`; all else is as it was.
+/// attributes and keys ascend in it, of equal ones the first stays, and no value is `true`; all else is as it was.
 /// `None` says nothing of the line.
 #[inline(never)]
 pub fn rewrite(window: &[u8], len: usize, room: &mut [u8]) -> Option<usize>
@@ -74,8 +74,8 @@ fn put_unicode<'a>(left: Left<'a>, room: &mut [u8], start: usize) -> Option<Stor
 fn put_rest(stored: Stored<'_>, room: &mut [u8]) -> Option<usize>
     requires left { BeginsBlock stored.next }
     requires room { stored.end + 16 ≤ length room.old }
-    ensures { IfSome result
-        (AreStored room.new (take stored.entry.end room.old ++ dashes (left_of stored.entry.next))) }
+    ensures { IfSome result (AreStored room.new
+        (take stored.entry.end room.old ++ dashes (left_of stored.entry.next))) }
 {
     let Some(next) = stored.next else {
         return Some(stored.end);

@@ -17,4 +17,4 @@ number_of_two-requires-clause-second c =
 
 pub returns-then-number_of_two-last : goal.returns-then-number_of_two-last
 returns-then-number_of_two-last c = λ t ws a.
-    IfSome_then c.put_piece.result c.put_piece.ensures (word_appended t c.args.room.now (piece_of c.args.left) c.args.start c.args.end ws a c.put_piece.new.room)
+    IfSome_then c.put_piece.result c.put_piece.ensures (word_appended t c.args.room.now (piece_of c.args.left) c.args.start c.args.end ws a c.requires.word c.put_piece.new.room)

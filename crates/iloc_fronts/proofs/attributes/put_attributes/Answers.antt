@@ -1,4 +1,4 @@
-use Rattle.std.proofs.Common.{◌≡◌, ◌<◌, take, sym, ◌∙◌, arith}
+use Rattle.std.proofs.Common.{take, sym, ◌∙◌, arith}
 use Rattle.iloc_spec_grammar.specs.Syntax.{Attribute, IsWord}
 use Rattle.iloc_fronts.specs.Left.{pieces_of, piece_of}
 use Rattle.iloc_fronts.proofs.FrontLemmas.{short_attribute}

@@ -1,11 +1,10 @@
-use Rattle.std.proofs.Common.{◌≡◌, ◌≤◌, ◌<◌, ℕ, sym, ◌∙◌, take, arith}
-use Rattle.std.proofs.lemmas.List.{length-take-le}
+use Rattle.std.proofs.Common.{◌≡◌, ◌≤◌, ◌<◌, sym, ◌∙◌, arith}
 use Rattle.iloc_spec_grammar.specs.Syntax.{UnicodeKey, IsWord}
 use Rattle.iloc_spec_grammar.proofs.WordsLaws.{length-unicode_key}
 use Rattle.iloc_fronts.specs.Blocks.{two_number}
 use Rattle.iloc_fronts.specs.Left.{pieces_of, piece_of}
 use Rattle.iloc_fronts.proofs.FrontLemmas.{short_key}
-use Rattle.iloc_fronts.proofs.LeftLemmas.{last_left, word_left, length-piece}
+use Rattle.iloc_fronts.proofs.LeftLemmas.{word_left, length-piece}
 use Rattle.iloc_fronts.proofs.UnicodeLemmas.{key_begins, number_in, window_begins}
 use Rattle.iloc_fronts.proofs.StoredLemmas.{place_here, place_later}
 use Rattle.iloc_fronts.proofs.keywords.place_of.Goals as goal

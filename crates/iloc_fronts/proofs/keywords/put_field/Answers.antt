@@ -1,4 +1,4 @@
-use Rattle.std.proofs.Common.{◌<◌, take, arith}
+use Rattle.std.proofs.Common.{take}
 use Rattle.std.proofs.lemmas.Option.{IfSome_then}
 use Rattle.iloc_spec_grammar.specs.Syntax.{UnicodeKey}
 use Rattle.iloc_fronts.specs.Left.{pieces_of, piece_of}

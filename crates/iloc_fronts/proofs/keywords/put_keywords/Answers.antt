@@ -1,4 +1,4 @@
-use Rattle.std.proofs.Common.{◌≡◌, ◌+◌, ◌≤◌, ◌<◌, Some, None, length, take, ◌∙◌, sym, subst, arith}
+use Rattle.std.proofs.Common.{◌≡◌, ◌≤◌, take, ◌∙◌, sym, subst, arith}
 use Rattle.iloc_spec_grammar.specs.Syntax.{UnicodeKey, IsWord}
 use Rattle.iloc_spec_grammar.proofs.WordsLaws.{length-unicode_key}
 use Rattle.iloc_fronts.specs.Blocks.{two_number}

@@ -1,5 +1,5 @@
-use Rattle.std.proofs.Common.{◌≡◌, ◌<◌, ℕ, List, true, sym, ◌∙◌, take, subst, arith}
-use Rattle.iloc_spec_grammar.specs.Syntax.{Attribute, IsWord, is_true, lower}
+use Rattle.std.proofs.Common.{ℕ, List, sym, ◌∙◌, take, subst, arith}
+use Rattle.iloc_spec_grammar.specs.Syntax.{Attribute, IsWord}
 use Rattle.iloc_fronts.specs.Left.{pieces_of, piece_of}
 use Rattle.iloc_fronts.proofs.FrontLemmas.{short_attribute}
 use Rattle.iloc_fronts.proofs.LeftLemmas.{last_left, word_left}

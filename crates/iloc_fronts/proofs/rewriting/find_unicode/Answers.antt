@@ -1,4 +1,4 @@
-use Rattle.std.proofs.Common.{◌≡◌, ◌∷◌, ◌<◌, [], get_or, ap, sym, ◌∙◌, arith}
+use Rattle.std.proofs.Common.{◌∷◌, ◌<◌, [], get_or, ap, sym, ◌∙◌, arith}
 use Rattle.iloc_fronts.specs.Left.{pieces_of, piece_of}
 use Rattle.iloc_fronts.specs.Rewriting.{IsNoPrivate}
 use Rattle.iloc_fronts.proofs.LeftLemmas.{block_left, byte_left, few_left, length-piece}
