@@ -54,13 +54,7 @@ pub fn normalize(
     ensures unknown { 2 < mode → (result ≡ number_of Status.UnknownNumber)
         × (needed.new ≡ 0) × (buffer.new ≡ buffer.old) }
 {
-    match mode_of(mode) {
-        Some(mode) => answers::normalize(alloc, mode, text, buffer, needed),
-        None => {
-            *needed = 0;
-            Status::UnknownNumber.number()
-        }
-    }
+    answers::normalize(alloc, mode, text, buffer, needed)
 }
 
 /// Whether the text means something in the mode, or why not.
