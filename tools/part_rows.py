@@ -77,19 +77,17 @@ def written(kind, text):
     return "und" if is_bare else f"{FRONTS[kind]}-{text}".rstrip("-")
 
 
-def pieces_of(text):
-    return [it for it in text.lower().split(b"-") if it != b"true"]
-
-
-def is_all_there(text, answer):
-    """Returns whether all pieces of a text are in its normal form."""
-    return sorted(pieces_of(text)) == sorted(pieces_of(answer.encode()))
+def is_all_there(kind, text, answer):
+    """Returns whether all pieces of a text are in its normal form, but for true in the extension u."""
+    may_go = None if kind == "transform" else b"true"
+    pieces = [sorted(it for it in whole.lower().split(b"-") if it != may_go) for whole in (text, answer.encode())]
+    return pieces[0] == pieces[1]
 
 
 def may_be_parsed(kind, text, answer):
     """Returns whether a locale with this block is parsed as the block alone: nothing is left out, and no other block begins."""
     if not answer.startswith("! "):
-        return is_all_there(text, answer)
+        return is_all_there(kind, text, answer)
     start = {"unicode": rb"(?i:u)-", "transform": rb"(?i:t)-"}.get(kind, b"")
     return re.fullmatch(start + rb"[A-Za-z0-9]{2,8}(-[A-Za-z0-9]{2,8})*", text) is not None
 
@@ -105,8 +103,8 @@ def outcome(answer, text):
 
 
 def parsed(kind, text, at=0):
-    """Returns the step that parses a locale of this part alone."""
-    return b"parse\t%d\t" % at + b"-".join(it for it in (FRONTS[kind].encode(), text) if it)
+    """Returns the step that parses a locale of this part alone: und, if the part is empty."""
+    return b"parse\t%d\t" % at + (FRONTS[kind].encode() + b"-" + text if text.strip(b"-") else b"und")
 
 
 def added(text, answer):
@@ -252,7 +250,7 @@ def changed(call, first, second, answer):
     if kind == "uvalue":
         raise Unsaid(STEPPED)
     start, *more = answer.split(" | ")
-    steps = [(parsed(kind, first) if first else b"parse\t0\tund", "ok", written(kind, start))]
+    steps = [(parsed(kind, first), "ok", written(kind, start))]
     for step, was, now in zip(second.split(b" "), more[::2], more[1::2]):
         steps += change(kind, step, was, written(kind, now))
     return steps

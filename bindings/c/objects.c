@@ -379,10 +379,8 @@ static void move(icu_locale_t *to, icu_locale_t *from)
     *to = moved;
 }
 
-static void take_two(icu_locale_t *at, const struct text *words)
+static void call_two(icu_locale_t *at, icu_locale_t *other, const struct text *call)
 {
-    const struct text *call = &words[0];
-    icu_locale_t *other = slot(&words[2]);
     if (is_word(call, "copy"))
         write_status(icu_locale_copy(at, other));
     else if (is_word(call, "extend"))
@@ -395,6 +393,20 @@ static void take_two(icu_locale_t *at, const struct text *words)
         move(at, other), write_status(ICU_LOCALE_DONE);
     else
         stop("no such step");
+}
+
+/* A call takes two handles only if they differ: a locale meets itself as a copy. */
+static void take_two(icu_locale_t *at, const struct text *words)
+{
+    icu_locale_t *other = slot(&words[2]), twin = ICU_LOCALE_UND;
+    if (other != at) {
+        call_two(at, other, &words[0]);
+        return;
+    }
+    if (icu_locale_copy(&twin, at) != ICU_LOCALE_DONE)
+        stop("a locale was not copied");
+    call_two(at, &twin, &words[0]);
+    icu_locale_free(&twin);
 }
 
 /* Cuts the first line at its tabs. */
