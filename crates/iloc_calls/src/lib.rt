@@ -23,6 +23,7 @@ ghost use Rattle.iloc_calls.specs.Numbers.{EndsAs, mode_number, number_of, words
 mod answers;
 mod comparing;
 mod copying;
+mod data;
 mod filling;
 mod hashing;
 mod same;
