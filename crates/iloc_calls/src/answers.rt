@@ -176,37 +176,19 @@ pub(crate) fn normalize(
     ensures unknown { 2 < mode → (result ≡ number_of Status.UnknownNumber)
         × (needed.new ≡ 0) × (buffer.new ≡ buffer.old) }
 {
-    match normalize_at_once(mode, text, buffer, needed) {
-        Some(status) => status.number(),
-        None => normalize_other(alloc, mode, text, buffer, needed),
+    if let Some(status) = normalize_at_once(mode, text, buffer, needed) {
+        return status.number();
     }
-}
-
-// The same of a text that is not plain, or of a number of no mode. It is called cold, so that the registers are
-// those of the plain path.
-#[inline(never)]
-#[cold]
-fn normalize_other(
-    alloc: Global,
-    mode: u32,
-    text: &[u8],
-    buffer: &mut [u8],
-    needed: &mut usize,
-) -> u32
-    ensures known { (m : Mode) → mode ≡ mode_number m
-        → EndsAs (NormalizesTo m text.now buffer.old buffer.new needed.new) result }
-    ensures unknown { 2 < mode → (result ≡ number_of Status.UnknownNumber)
-        × (needed.new ≡ 0) × (buffer.new ≡ buffer.old) }
-{
     match mode_of(mode) {
-        Some(mode) => normalize_in(alloc, mode, text, buffer, needed),
+        Some(mode) => normalize_other(alloc, mode, text, buffer, needed),
         None => refuse(Status::UnknownNumber, needed).number(),
     }
 }
 
-// The same of a text in this mode, which is not plain.
-#[inline(always)]
-fn normalize_in(
+// The same of a text that is not plain. It is called cold, so that the registers are those of the plain path.
+#[inline(never)]
+#[cold]
+fn normalize_other(
     alloc: Global,
     mode: Mode,
     text: &[u8],

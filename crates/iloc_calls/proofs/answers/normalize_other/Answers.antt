@@ -1,7 +1,14 @@
-use Rattle.std.proofs.Common.{refl}
-use Rattle.iloc_calls.proofs.AnswerLemmas.{no_mode}
+-- What is handed out of a text in order is its normal text.
+use Rattle.std.proofs.Common.{subst}
+use Rattle.iloc_fronts.specs.Ordered.{text_of}
+use Rattle.iloc_calls.specs.Answers.{IsNormalText}
+use Rattle.iloc_calls.proofs.PlainLemmas.{handed_out}
 use Rattle.iloc_calls.proofs.answers.normalize_other.Goals as goal
 
-pub returns-in-Some-clause-unknown : goal.returns-in-Some-clause-unknown
-returns-in-Some-clause-unknown c far =
-    absurd (no_mode c.in-Some.mode c.args.mode ((c.in-Some.ensures c.in-Some.mode).0 refl) far)
+pub returns-in-Ordered : goal.returns-in-Ordered
+returns-in-Ordered c = (
+  c.hand_out_ordered.result,
+  c.number-in-Ordered.ensures,
+  handed_out c.args.mode c.args.text.now (text_of c.in-Ordered.line) c.args.buffer.now c.hand_out_ordered.new.buffer c.hand_out_ordered.new.needed c.hand_out_ordered.result
+      (subst (λ t. IsNormalText c.args.mode t (text_of c.in-Ordered.line)) c.window_of.ensures.text c.in-Ordered.ensures.normal) c.hand_out_ordered.ensures,
+)
