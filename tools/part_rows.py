@@ -123,6 +123,26 @@ def added(text, answer):
     return steps
 
 
+def set_in_turn(text, answer):
+    """Returns the steps that set keywords, up to the first piece that is no key: of equal keys the first stays. A piece of
+    two bytes that is no key is refused, and so is the row."""
+    pieces, steps, at = text.split(b"-"), [], 0
+    while at < len(pieces) and re.fullmatch(rb"[A-Za-z0-9][A-Za-z]", pieces[at]):
+        end = at + 1
+        while end < len(pieces) and re.fullmatch(rb"[A-Za-z0-9]{3,8}", pieces[end]):
+            end += 1
+        is_new = all(step.split(b"\t")[2].lower() != pieces[at].lower() for step, _, _ in steps)
+        if is_new:
+            steps.append((b"set-keyword\t0\t" + pieces[at] + b"\t" + b"-".join(pieces[at + 1 : end]), "ok", None))
+        at = end
+    is_refused = answer.startswith("! ")
+    if is_refused != (at < len(pieces) and len(pieces[at]) == 2):
+        raise ValueError(f"a row that stops elsewhere: {text}")
+    if at < len(pieces):
+        steps.append((b"set-keyword\t0\t" + pieces[at] + b"\t", REFUSED_EXTENSION, None))
+    return [*steps[:-1], (*steps[-1][:2], None if is_refused else written("keywords", answer))]
+
+
 def set_steps(kind, text, answer):
     """Returns the steps by which a locale gets the part that the text is."""
     if kind == "attributes":
@@ -134,6 +154,8 @@ def set_steps(kind, text, answer):
             raise Unsaid(MADE)
         return [(SETS[kind] + text, *outcome(answer, written(kind, answer)))]
     if not may_be_parsed(kind, text, answer):
+        if kind == "keywords":
+            return set_in_turn(text, answer)
         raise Unsaid(STOPS)
     return [(parsed(kind, text), *outcome(answer, written(kind, answer)))]
 
