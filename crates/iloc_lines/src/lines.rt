@@ -33,6 +33,7 @@ ghost use Rattle.memchr.specs.Find.{IsFirstByte, Nowhere, Passes, is_byte};
 use crate::faults::{Told, error_of, told_at_front};
 use crate::replies::write_refusal;
 use crate::reply_block::ReplyBlock;
+use crate::shape::looks_bad;
 use crate::{Answers, RunError};
 use iloc_fronts::{Reading, find_bad_block, may_begin, read_ordered, read_varied, rewrite};
 use iloc_plain::read_plain;
@@ -194,6 +195,9 @@ fn reply_to_ordered<A: Answers>(
         Reading::Ordered(told) => replies.push_ordered(&told),
         Reading::BadBlock => write_refusal(ParseError::InvalidExtension, replies),
         Reading::Unordered => reply_to_rewritten(answers, window, line, at, replies),
+        Reading::Other if looks_bad(window, line.len()) => {
+            reply_to_faulty(answers, window, line, at, replies)
+        }
         Reading::Other => answers.reply(line, replies),
     }
 }
@@ -219,6 +223,7 @@ fn reply_to_rewritten<A: Answers>(
     match read_ordered(&room, len, at) {
         Reading::Ordered(told) => replies.push_ordered(&told),
         Reading::BadBlock => reply_to_faulty(answers, window, line, at, replies),
+        _ if looks_bad(window, line.len()) => reply_to_faulty(answers, window, line, at, replies),
         _ => answers.reply(line, replies),
     }
 }
