@@ -40,9 +40,9 @@ pub enum Front<'a> {
     Other,
 }
 
-// The length of the first piece; sixteen if it is longer.
+/// The length of the first piece; sixteen if it is longer.
 #[inline(always)]
-pub(crate) fn first_len(window: &[u8], len: usize) -> usize
+pub fn first_len(window: &[u8], len: usize) -> usize
     requires wide { 16 ≤ length window.now }
     requires inside { len ≤ length window.now }
     ensures { IsFirst (take len window.now) result }

@@ -33,7 +33,7 @@ use Rattle.iloc_subtags.specs.declared.parse_error.ParseError.{ParseError}
 use Rattle.iloc_subtags.specs.declared.parse_error.ParseError.TheVariants.{InvalidSubtag, InvalidExtension}
 use Rattle.iloc_fronts.specs.Front.{GoesOn, IsFront, rest_of_block}
 use Rattle.iloc_fronts.specs.Keyword.{IsKeywordOf, IsSingle, IsUnreadable, after_singleton, region_end}
-use Rattle.iloc_fronts.proofs.BlockLemmas.{front_past}
+use Rattle.iloc_blocks.proofs.BlockLemmas.{front_past}
 use Rattle.iloc_fronts.specs.declared.front.Block.{Block}
 use Rattle.iloc_fronts.specs.declared.front.Front.TheVariants as fronts
 use Rattle.iloc_fronts.specs.declared.keyword.Keyword.TheVariants as keyword

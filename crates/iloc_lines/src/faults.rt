@@ -7,7 +7,8 @@ ghost use Rattle.iloc_lines.specs.Output.{IsRefused};
 ghost use Rattle.iloc_lines.specs.Told.{IsTold, refusal_of};
 
 use crate::Mode;
-use iloc_fronts::{BadBlock, Block, Front, Keyword, read_front, read_keyword};
+use iloc_blocks::BadBlock;
+use iloc_fronts::{Block, Front, Keyword, read_front, read_keyword};
 use iloc_subtags::ParseError;
 
 /// What is told of a line.

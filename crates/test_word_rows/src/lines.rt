@@ -8,12 +8,10 @@
 //! the line whose block of `u` is brought into order. A line of which nothing is said is `not told`.
 ghost use Rattle.std.specs.Prelude.{◌+◌, ◌≤◌, length};
 ghost use Rattle.iloc_plain.specs.Plain.{AreWords};
-ghost use Rattle.iloc_fronts.specs.Ordered.{IsStored};
+ghost use Rattle.iloc_blocks.specs.Ordered.{IsStored};
 
-use iloc_fronts::{
-    BadBlock, Block, Front, Keyword, Ordered, Reading, find_bad_block, read_front, read_keyword,
-    read_ordered, read_varied, rewrite,
-};
+use iloc_blocks::{BadBlock, Ordered, Reading, find_bad_block, read_ordered, read_varied, rewrite};
+use iloc_fronts::{Block, Front, Keyword, read_front, read_keyword};
 use iloc_plain::{Plain, read_plain, read_plain_text};
 use test_page::argument::number_of;
 use test_page::{bytes, number, say};

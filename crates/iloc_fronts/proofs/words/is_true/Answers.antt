@@ -2,7 +2,7 @@ use Rattle.std.proofs.Common.{◌≡◌, ◌==◌, inl, inr, get_or, sym, ◌∙
 use Rattle.std.specs.Char.{to_ascii_lowercase}
 use Rattle.std.proofs.lemmas.Bool.{cases_Bool}
 use Rattle.std.proofs.lemmas.Bool.Decides.{nat_tests}
-use Rattle.iloc_fronts.proofs.UnicodeLemmas.{no_true, true_bytes, true_here}
+use Rattle.iloc_fronts.proofs.WordBytes.{no_true, true_bytes, true_here}
 use Rattle.iloc_fronts.proofs.words.is_true.Goals as goal
 
 pub returns-then-n-ne4 : goal.returns-then-n-ne4

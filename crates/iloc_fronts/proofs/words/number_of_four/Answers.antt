@@ -1,5 +1,5 @@
 use Rattle.std.proofs.Common.{arith}
-use Rattle.iloc_fronts.proofs.FaultLemmas.{four_is}
+use Rattle.iloc_fronts.proofs.WordBytes.{four_is}
 use Rattle.iloc_fronts.proofs.words.number_of_four.Goals as goal
 
 pub returns : goal.returns
