@@ -1,9 +1,9 @@
 """The toolchain's command rt, loaded as a module: `rt` itself and `rtlib`, on which it stands.
 
 What the tools use of them: rt.read_edit, rt.checked, rt.unread, rt.must_fail, rt.in_lanes, rt.need,
-rt.processors, rt.KIT, rt.Crate, rt.handles_of, rt.ci, and rtlib's Crate, blanked, crates_below,
-kit_sources, guarded, lock, STALE. A new toolchain may change them; tools/test_scripts says which of them
-are gone.
+rt.processors, rt.KIT, rt.Crate, rt.handles_of, rt.ci, rt.share_work if it is there, and rtlib's Crate,
+blanked, crates_below, kit_sources, guarded, lock, STALE. A new toolchain may change them;
+tools/test_scripts says which of them are gone.
 
 A crate's stamp, by which rt tells whether its library is that of the present text, is asked for once
 in each run of a tool."""

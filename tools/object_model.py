@@ -239,21 +239,18 @@ SETTINGS = {
     "word-variant": (b"add-variant\t0\t", "und-", b"clear-variants\t0"),
     "word-ukey": (b"set-keyword\t0\t", "und-u-", b"clear-keywords\t0"),
     "word-attribute": (b"add-attribute\t0\t", "und-u-", b"clear-attributes\t0"),
-    "uvalue": (b"set-keyword\t0\tca\t", "und-u-ca-", b"clear-keywords\t0"),
 }
 
 
-def settings_wanted(keeps_well_formed):
-    """The words and values of crates/test_word_rows and crates/test_part_rows, each set in an empty locale and taken out of it."""
+def settings_wanted():
+    """The words of crates/test_word_rows, each set in an empty locale and taken out of it."""
     steps, wanted = [], []
-    for call, words, answer in [*rows_of("test_word_rows"), *rows_of("test_part_rows")]:
+    for call, words, answer in rows_of("test_word_rows"):
         # The answers to long rows tell a length, and no text.
         if call not in SETTINGS or not words or not words[0] or {*b"\t\n"} & {*words[0]} or answer.startswith("as wanted"):
             continue
         start, front, end = SETTINGS[call]
-        normal = answer if call == "uvalue" else answer.split(" ")[0]
-        if keeps_well_formed and call == "uvalue" and any(len(it) == 2 for it in normal.split("-")):
-            answer = REFUSED_SUBTAG
+        normal = answer.split(" ")[0]
         steps += [start + words[0] + b"\t" * (call == "word-ukey"), end]
         wanted += [f"{answer}\tund" if answer.startswith("! ") else f"ok\t{front}{normal}".rstrip("-"), "ok\tund"]
     return steps, wanted

@@ -3,6 +3,7 @@
  * objects objects       all parts of the locale that the line means, or "! " and the words of the refusal
  * objects two-objects   of each two lines the order of both locales, whether they are equal and are hashed alike, the byte
  *                       order of the first against the second line, and whether that line means it
+ * objects script        what each step on one of four locales gives, and the text of the locale after it
  *
  * Fields stand between tabs. tools/object_model.py says what is wanted. */
 #include "icu_locale.h"
@@ -49,7 +50,7 @@ static void write_refusal(icu_locale_status status)
     size_t length;
     if (icu_locale_words(status, reply, sizeof reply, &length) != ICU_LOCALE_DONE)
         stop("a status has no words");
-    printf("! %.*s\n", (int)length, (const char *)reply);
+    printf("! %.*s", (int)length, (const char *)reply);
 }
 
 static void write_part(icu_locale_status status, size_t length)
@@ -152,7 +153,7 @@ static void write_parts(icu_locale_t *locale)
     write_preference(locale, icu_locale_get_calendar_algorithm);
     write_preference(locale, icu_locale_get_hour_cycle);
     write_preference(locale, icu_locale_get_numbering_system);
-    printf("%d%d\t%016" PRIx64 "\n", icu_locale_is_und(locale), icu_locale_is_well_formed(locale), icu_locale_hash(locale));
+    printf("%d%d\t%016" PRIx64, icu_locale_is_und(locale), icu_locale_is_well_formed(locale), icu_locale_hash(locale));
 }
 
 static void answer_objects(void)
@@ -164,31 +165,281 @@ static void answer_objects(void)
             write_parts(&locale);
         else
             write_refusal(status);
+        putchar('\n');
     }
     icu_locale_free(&locale);
+}
+
+/* The order of two locales, whether they are equal, and whether they are hashed alike. */
+static void write_order(icu_locale_t *one, icu_locale_t *other)
+{
+    int8_t order = icu_locale_cmp(one, other);
+    if (order != -icu_locale_cmp(other, one))
+        stop("an order that is not that of the other way round");
+    printf("%d %d %d", order, icu_locale_eq(one, other), icu_locale_hash(one) == icu_locale_hash(other));
+}
+
+/* The byte order of a locale against a text, and whether the text means it. */
+static void write_against(icu_locale_t *locale, const uint8_t *text, size_t length)
+{
+    uint8_t same = 9;
+    if (icu_locale_eq_text(locale, text, length, &same) != ICU_LOCALE_DONE)
+        stop("a text was not compared");
+    printf("%d %d", icu_locale_cmp_bytes(locale, text, length), same);
 }
 
 static void answer_two(void)
 {
     icu_locale_t one = ICU_LOCALE_UND, other = ICU_LOCALE_UND;
     while (read_line(&first) && read_line(&second)) {
-        uint8_t same = 9;
         icu_locale_status status = icu_locale_parse(&one, first.bytes, first.length);
         if (status != ICU_LOCALE_DONE) {
             write_refusal(status);
+            putchar('\n');
             continue;
         }
         if (icu_locale_parse(&other, second.bytes, second.length) == ICU_LOCALE_DONE)
-            printf("%d %d %d ", icu_locale_cmp(&one, &other), icu_locale_eq(&one, &other),
-                icu_locale_hash(&one) == icu_locale_hash(&other));
+            write_order(&one, &other);
         else
-            fputs("- - - ", stdout);
-        if (icu_locale_eq_text(&one, second.bytes, second.length, &same) != ICU_LOCALE_DONE)
-            stop("a text was not compared");
-        printf("%d %d\n", icu_locale_cmp_bytes(&one, second.bytes, second.length), same);
+            fputs("- - -", stdout);
+        putchar(' ');
+        write_against(&one, second.bytes, second.length);
+        putchar('\n');
     }
     icu_locale_free(&one);
     icu_locale_free(&other);
+}
+
+/* Scripts: each line is a call, the number of a locale, and texts. */
+
+#define SLOTS 4
+#define WORDS 4
+
+struct text {
+    const uint8_t *bytes;
+    size_t length;
+};
+
+static icu_locale_t slots[SLOTS];
+
+/* Calls that change a locale, by what they take; and questions. */
+static const struct {
+    const char *name;
+    icu_locale_status (*call)(icu_locale_t *, const uint8_t *, size_t);
+} settings[] = {
+    {"parse", icu_locale_parse},
+    {"language", icu_locale_set_language},
+    {"script", icu_locale_set_script},
+    {"region", icu_locale_set_region},
+    {"add-variant", icu_locale_add_variant},
+    {"remove-variant", icu_locale_remove_variant},
+    {"add-attribute", icu_locale_add_attribute},
+    {"remove-attribute", icu_locale_remove_attribute},
+    {"remove-keyword", icu_locale_remove_keyword},
+    {"transform-language", icu_locale_set_transform_language},
+    {"remove-field", icu_locale_remove_field},
+    {"private", icu_locale_set_private},
+    {"set-other", icu_locale_set_other},
+};
+
+static const struct {
+    const char *name;
+    icu_locale_status (*call)(icu_locale_t *);
+} clearings[] = {
+    {"clear-variants", icu_locale_clear_variants},
+    {"clear-attributes", icu_locale_clear_attributes},
+    {"clear-keywords", icu_locale_clear_keywords},
+    {"clear-fields", icu_locale_clear_fields},
+};
+
+static const struct {
+    const char *name;
+    bool (*call)(icu_locale_t *, const uint8_t *, size_t);
+} questions[] = {
+    {"has-variant", icu_locale_has_variant},
+    {"has-attribute", icu_locale_has_attribute},
+};
+
+static const struct {
+    const char *set, *get;
+    icu_locale_status (*setting)(icu_locale_t *, const uint8_t *, size_t, const uint8_t *, size_t);
+    icu_locale_status (*getting)(icu_locale_t *, const uint8_t *, size_t, uint8_t *, size_t, size_t *);
+} maps[] = {
+    {"set-keyword", "get-keyword", icu_locale_set_keyword, icu_locale_get_keyword},
+    {"set-field", "get-field", icu_locale_set_field, icu_locale_get_field},
+};
+
+#define COUNT(table) (sizeof table / sizeof *table)
+
+static int is_word(const struct text *text, const char *word)
+{
+    return text->length == strlen(word) && memcmp(text->bytes, word, text->length) == 0;
+}
+
+static int write_status(icu_locale_status status)
+{
+    if (status == ICU_LOCALE_DONE)
+        fputs("ok", stdout);
+    else if (status == ICU_LOCALE_NOT_FOUND)
+        fputs("none", stdout);
+    else
+        write_refusal(status);
+    return 1;
+}
+
+/* The value of a key, or of a singleton, if it is there. */
+static int write_value(icu_locale_status status, size_t length)
+{
+    if (status != ICU_LOCALE_DONE)
+        return write_status(status);
+    putchar('=');
+    write_part(status, length);
+    return 1;
+}
+
+static int take_change(icu_locale_t *at, const struct text *words)
+{
+    const struct text *call = &words[0], *text = &words[2], *value = &words[3];
+    for (size_t i = 0; i < COUNT(settings); i++)
+        if (is_word(call, settings[i].name))
+            return write_status(settings[i].call(at, text->bytes, text->length));
+    for (size_t i = 0; i < COUNT(clearings); i++)
+        if (is_word(call, clearings[i].name))
+            return write_status(clearings[i].call(at));
+    for (size_t i = 0; i < COUNT(maps); i++)
+        if (is_word(call, maps[i].set))
+            return write_status(maps[i].setting(at, text->bytes, text->length, value->bytes, value->length));
+    return 0;
+}
+
+static uint8_t singleton(const struct text *text)
+{
+    if (text->length != 1)
+        stop("a step names no singleton");
+    return text->bytes[0];
+}
+
+static int take_question(icu_locale_t *at, const struct text *words)
+{
+    const struct text *call = &words[0], *text = &words[2];
+    size_t length = 0;
+    for (size_t i = 0; i < COUNT(questions); i++)
+        if (is_word(call, questions[i].name))
+            return printf("%d", questions[i].call(at, text->bytes, text->length));
+    for (size_t i = 0; i < COUNT(maps); i++)
+        if (is_word(call, maps[i].get)) {
+            icu_locale_status status = maps[i].getting(at, text->bytes, text->length, reply, sizeof reply, &length);
+            return write_value(status, length);
+        }
+    if (is_word(call, "get-other")) {
+        icu_locale_status status = icu_locale_get_other(at, singleton(text), reply, sizeof reply, &length);
+        return write_value(status, length);
+    }
+    if (is_word(call, "remove-other"))
+        return write_status(icu_locale_remove_other(at, singleton(text)));
+    if (is_word(call, "against"))
+        write_against(at, text->bytes, text->length);
+    else if (is_word(call, "parts"))
+        write_parts(at);
+    else
+        return 0;
+    return 1;
+}
+
+static icu_locale_t *slot(const struct text *number)
+{
+    if (number->length != 1 || number->bytes[0] < '0' || number->bytes[0] >= '0' + SLOTS)
+        stop("a step names no locale");
+    return &slots[number->bytes[0] - '0'];
+}
+
+/* The order of the data locales of both, by each priority, and of that of the first against the text of the other's. */
+static void write_data_orders(icu_locale_t *one, icu_locale_t *other)
+{
+    static const icu_locale_priority priorities[] = {ICU_LOCALE_BY_LANGUAGE, ICU_LOCALE_BY_REGION};
+    for (size_t i = 0; i < COUNT(priorities); i++) {
+        int8_t order = 9, back = 9, against = 9;
+        size_t length;
+        icu_locale_status status = icu_locale_get_data_locale(other, priorities[i], reply, sizeof reply, &length);
+        if (status != ICU_LOCALE_DONE || icu_locale_data_cmp(one, other, priorities[i], &order) != ICU_LOCALE_DONE
+            || icu_locale_data_cmp(other, one, priorities[i], &back) != ICU_LOCALE_DONE || order != -back
+            || icu_locale_data_cmp_bytes(one, priorities[i], reply, length, &against) != ICU_LOCALE_DONE)
+            stop("data locales were not compared");
+        printf("%s%d %d", i == 0 ? "" : " ", order, against);
+    }
+}
+
+/* A handle is moved by its bytes: the place that it leaves stands for und. */
+static void move(icu_locale_t *to, icu_locale_t *from)
+{
+    static const icu_locale_t und = ICU_LOCALE_UND;
+    icu_locale_t moved = *from;
+    *from = und;
+    icu_locale_free(to);
+    *to = moved;
+}
+
+static void call_two(icu_locale_t *at, icu_locale_t *other, const struct text *call)
+{
+    if (is_word(call, "copy"))
+        write_status(icu_locale_copy(at, other));
+    else if (is_word(call, "extend"))
+        write_status(icu_locale_extend_unicode(at, other));
+    else if (is_word(call, "compare"))
+        write_order(at, other);
+    else if (is_word(call, "compare-data"))
+        write_data_orders(at, other);
+    else if (is_word(call, "move"))
+        move(at, other), write_status(ICU_LOCALE_DONE);
+    else
+        stop("no such step");
+}
+
+/* A call takes two handles only if they differ: a locale meets itself as a copy. */
+static void take_two(icu_locale_t *at, const struct text *words)
+{
+    icu_locale_t *other = slot(&words[2]), twin = ICU_LOCALE_UND;
+    if (other != at) {
+        call_two(at, other, &words[0]);
+        return;
+    }
+    if (icu_locale_copy(&twin, at) != ICU_LOCALE_DONE)
+        stop("a locale was not copied");
+    call_two(at, &twin, &words[0]);
+    icu_locale_free(&twin);
+}
+
+/* Cuts the first line at its tabs. */
+static void split(struct text *words)
+{
+    size_t count = 0, from = 0;
+    memset(words, 0, WORDS * sizeof *words);
+    for (size_t at = 0; at <= first.length; at++)
+        if (at == first.length || first.bytes[at] == '\t') {
+            if (count == WORDS)
+                stop("a step has too many words");
+            words[count].bytes = first.bytes + from;
+            words[count++].length = at - from;
+            from = at + 1;
+        }
+}
+
+static void answer_script(void)
+{
+    struct text words[WORDS];
+    while (read_line(&first)) {
+        split(words);
+        icu_locale_t *at = slot(&words[1]);
+        if (!take_change(at, words) && !take_question(at, words))
+            take_two(at, words);
+        putchar('\t');
+        size_t length;
+        icu_locale_status status = icu_locale_to_string(at, reply, sizeof reply, &length);
+        write_part(status, length);
+        putchar('\n');
+    }
+    for (size_t i = 0; i < COUNT(slots); i++)
+        icu_locale_free(&slots[i]);
 }
 
 int main(int count, char **words)
@@ -198,7 +449,9 @@ int main(int count, char **words)
         answer_objects();
     else if (strcmp(word, "two-objects") == 0)
         answer_two();
+    else if (strcmp(word, "script") == 0)
+        answer_script();
     else
-        stop("usage: objects objects|two-objects");
+        stop("usage: objects objects|two-objects|script");
     return ferror(stdin) || fflush(stdout) != 0;
 }

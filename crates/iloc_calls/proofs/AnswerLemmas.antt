@@ -27,6 +27,8 @@ use Rattle.iloc_langid.specs.declared.identifier.LanguageIdentifier.{LanguageIde
 use Rattle.iloc_locale.specs.LocaleReading as locale
 use Rattle.iloc_locale.specs.LocaleReading.{LocaleReads, RunsOutOnlyIf, WantsMemory}
 use Rattle.iloc_locale.specs.declared.locale.Locale as types
+use Rattle.iloc_data_parts.specs.PartsReading as parts
+use Rattle.iloc_data_parts.specs.declared.parts.DataParts.{DataParts}
 use Rattle.iloc_data.specs.DataValue as data_locale
 use Rattle.iloc_data.specs.Reads.{DataReadsAs}
 use Rattle.iloc_data.specs.declared.data_locale.DataLocale as data_types
@@ -69,6 +71,9 @@ text_of_locale l = text (locale.value_of l)
 abbrev pub text_of_data : data_types.DataLocale → List ℕ
 text_of_data d = data_text (data_locale.value_of d)
 
+abbrev pub text_of_parts : DataParts → List ℕ
+text_of_parts p = data_text (parts.value_of p)
+
 pub identifier_read : (t : List ℕ) (r : Result LanguageIdentifier ParseError) → langid.ReadsAs (pieces t) r
     → Reads Langid t text_of_identifier r
 identifier_read t (Ok i) h = (langid.value_of i, h, refl)
@@ -95,6 +100,10 @@ data_read t (Err refusals.InvalidSubtag) h m = h
 data_read t (Err refusals.InvalidExtension) h m = h
 data_read t (Err refusals.DuplicatedExtension) h m = absurd h
 data_read t (Err refusals.OutOfMemory) h m = absurd m
+
+-- the parts of a data locale that were parsed have its text
+pub parts_judged : (t : List ℕ) (p : DataParts) → DataMeans languages t (parts.value_of p) → JudgedAs Data t Done
+parts_judged t p h = (text_of_parts p, (parts.value_of p, h, refl))
 
 -- so the text is judged as it was read
 pub judged : {X : Type 0} (mode : Mode) (t : List ℕ) (text_of : X → List ℕ) (r : Result X ParseError) (s : Status)

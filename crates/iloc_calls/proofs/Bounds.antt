@@ -15,13 +15,13 @@ use Rattle.iloc_calls.specs.declared.status.Status.{Status}
 use Rattle.iloc_calls.specs.declared.status.Status.TheVariants.{Done, InvalidLanguage, InvalidSubtag, InvalidExtension, DuplicatedExtension, OutOfMemory, BufferTooSmall, UnknownNumber, NotFound}
 use Rattle.iloc_calls.specs.Answers.{IsNormalText, NormalizesTo, growth}
 use Rattle.iloc_calls.proofs.Lengths.{data_text_fits}
-use Rattle.iloc_calls.proofs.AnswerLemmas.{text_of_identifier, text_of_locale, text_of_data}
+use Rattle.iloc_calls.proofs.AnswerLemmas.{text_of_identifier, text_of_locale, text_of_parts}
 use Rattle.iloc_langid.specs.Reads as langid
 use Rattle.iloc_langid.specs.declared.identifier.LanguageIdentifier.{LanguageIdentifier}
 use Rattle.iloc_locale.specs.LocaleReading as locale
 use Rattle.iloc_locale.specs.declared.locale.Locale as types
-use Rattle.iloc_data.specs.DataValue as data_locale
-use Rattle.iloc_data.specs.declared.data_locale.DataLocale as data_types
+use Rattle.iloc_data_parts.specs.PartsReading as parts
+use Rattle.iloc_data_parts.specs.declared.parts.DataParts.{DataParts}
 
 normal_text_fits : (m : Mode) (t n : List ℕ) → IsNormalText m t n → length n ≤ length t + growth m
 normal_text_fits Langid t n h =
@@ -45,8 +45,8 @@ identifier_fits t i h = let a : length (text_of_identifier i) ≤ length t + 0 =
 pub locale_fits : (t : List ℕ) (l : types.Locale) → Means languages t (locale.value_of l) → length (text_of_locale l) ≤ length t
 locale_fits t l h = let a : length (text_of_locale l) ≤ length t + 0 = normal_text_fits Locale t (text_of_locale l) (locale.value_of l, h, refl) in omega (arith, a)
 
-pub data_fits : (t : List ℕ) (d : data_types.DataLocale) → DataMeans languages t (data_locale.value_of d) → length (text_of_data d) ≤ length t + 4
-data_fits t d h = normal_text_fits Data t (text_of_data d) (data_locale.value_of d, h, refl)
+pub parts_fit : (t : List ℕ) (p : DataParts) → DataMeans languages t (parts.value_of p) → length (text_of_parts p) ≤ length t + 4
+parts_fit t p h = normal_text_fits Data t (text_of_parts p) (parts.value_of p, h, refl)
 
 saturated_below : (n : ℕ) → saturated n ≤ n
 saturated_below n = grind (arith, nat_tests)

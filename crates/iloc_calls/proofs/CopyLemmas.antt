@@ -10,8 +10,8 @@ use Rattle.iloc_spec_grammar.proofs.WordsLaws.{length-lower}
 use Rattle.iloc_plain.specs.Plain.{value_of}
 use Rattle.iloc_writeable.specs.Hints.{saturated}
 use Rattle.std.proofs.lemmas.Bool.Decides.{nat_tests}
-use Rattle.iloc_fronts.specs.Ordered.{IsStored, text_of}
-use Rattle.iloc_fronts.specs.declared.ordered.Ordered.{Ordered}
+use Rattle.iloc_blocks.specs.Ordered.{IsStored, text_of}
+use Rattle.iloc_blocks.specs.declared.ordered.Ordered.{Ordered}
 
 take_nothing : (n : ℕ) → ◌≡◌ {A = List ℕ} (take n []) []
 take_nothing zero = refl

@@ -8,10 +8,10 @@ use Rattle.iloc_spec_grammar.proofs.ReadingLaws.{after_front-pieces, starts_ends
 use Rattle.iloc_spec_parts.specs.Small as small
 use Rattle.iloc_spec_preferences.specs.DataLocales.{not_small}
 use Rattle.iloc_fronts.specs.Front.{IsFront, rest_of_block}
-use Rattle.iloc_fronts.specs.Ordered.{IsOrdered, IsVaried}
+use Rattle.iloc_blocks.specs.Ordered.{IsOrdered, IsVaried}
 use Rattle.iloc_fronts.specs.declared.front.Block.{Block}
 use Rattle.iloc_fronts.specs.declared.front.Front.TheVariants as fronts
-use Rattle.iloc_fronts.specs.declared.ordered.Ordered.{Ordered}
+use Rattle.iloc_blocks.specs.declared.ordered.Ordered.{Ordered}
 use Rattle.iloc_lines.specs.declared.Mode.{Mode}
 use Rattle.iloc_lines.specs.declared.Mode.TheVariants.{Langid, Locale, Data}
 use Rattle.iloc_calls.specs.Answers.{IsNormalText, IsFaulty}

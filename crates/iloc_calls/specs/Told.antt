@@ -1,8 +1,8 @@
 -- What is told of a text at once.
 use Rattle.std.specs.Prelude.{⊤}
 use Rattle.iloc_spec_grammar.specs.Syntax.{Text}
-use Rattle.iloc_fronts.specs.Ordered.{IsStored, text_of}
-use Rattle.iloc_fronts.specs.declared.ordered.Ordered.{Ordered}
+use Rattle.iloc_blocks.specs.Ordered.{IsStored, text_of}
+use Rattle.iloc_blocks.specs.declared.ordered.Ordered.{Ordered}
 use Rattle.iloc_lines.specs.declared.Mode.{Mode}
 use Rattle.iloc_calls.specs.Answers.{IsNormalText, JudgedAs}
 use Rattle.iloc_calls.specs.Numbers.{status_of}

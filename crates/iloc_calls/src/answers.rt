@@ -1,14 +1,15 @@
 //! What is answered of a text.
 ghost use Rattle.std.specs.Prelude.{◌≡◌, ◌↔◌, ◌+◌, ◌<◌, ◌≤◌, length, Some, IfNone, IfOk, IfSome, MatchResult};
+ghost use Rattle.iloc_calls.specs.declared.status.Status.{Status};
 ghost use Rattle.iloc_calls.specs.Answers.{HandsOut, JudgedAs, NormalizesTo};
-ghost use Rattle.iloc_calls.specs.Numbers.{EndsAs, mode_number, status_of};
+ghost use Rattle.iloc_calls.specs.Numbers.{EndsAs, mode_number, number_of, status_of};
 ghost use Rattle.iloc_lines.specs.declared.Mode.{Mode};
 ghost use Rattle.iloc_lines.specs.declared.Mode.TheVariants as modes;
 
 use crate::filling::{hand_out_ordered, hand_out_plain, hand_out_within};
 use crate::status::Status;
 use crate::told::{MOST, Told, tell, window_of};
-use iloc_data::DataLocale;
+use iloc_data_parts::DataParts;
 use iloc_langid::LanguageIdentifier;
 use iloc_langid::reader::read_into as read_identifier;
 use iloc_locale::Locale;
@@ -72,87 +73,115 @@ fn judge_parsed(alloc: Global, mode: Mode, text: &[u8]) -> Status
     match mode {
         Mode::Langid => outcome(LanguageIdentifier::try_from_utf8(alloc, text)),
         Mode::Locale => outcome(Locale::try_from_utf8(alloc, text)),
-        Mode::Data => outcome(DataLocale::try_from_utf8(text)),
+        Mode::Data => judge_data_locale(text),
     }
 }
 
-// Hands out nothing, as the text is refused.
-fn refuse(refusal: &ParseError, needed: &mut usize) -> Status
-    ensures status { result ≡ status_of refusal.now }
+// The same of a data locale.
+#[tactic(auto, using(crate::proofs::AnswerLemmas::parts_judged))]
+#[inline(always)]
+fn judge_data_locale(text: &[u8]) -> Status
+    ensures { JudgedAs modes.Data text.now result }
+{
+    match DataParts::try_from_utf8(text) {
+        Ok(_parts) => Status::Done,
+        Err(refusal) => Status::of_refusal(&refusal),
+    }
+}
+
+// Hands out nothing, and says why.
+fn refuse(why: Status, needed: &mut usize) -> Status
+    ensures status { result ≡ why }
     ensures needed { needed.new ≡ 0 }
 {
     *needed = 0;
-    Status::of_refusal(refusal)
+    why
 }
 
 // Hands out the normal text of a plain text, whose first and last `W` bytes are all of it. If it is not
-// plain, nothing is written to the buffer.
+// plain, or the number is that of no mode, nothing is written to the buffer.
 #[inline(always)]
 fn normalize_plain<const W: usize>(
+    mode: u32,
     text: &[u8],
     buffer: &mut [u8],
     needed: &mut usize,
 ) -> Option<Status>
     requires wide { W ≤ length text.now }
     requires few { length text.now ≤ W + W }
-    ensures some { (mode : Mode) → IfSome result
-        (NormalizesTo mode text.now buffer.old buffer.new needed.new) }
+    ensures some { (m : Mode) → IfSome result
+        (NormalizesTo m text.now buffer.old buffer.new needed.new) }
+    ensures known { IfSome result (λ _. mode ≤ 2) }
     ensures none { IfNone result (buffer.new ≡ buffer.old) }
 {
     match read_plain_text(text) {
-        Some(plain) => Some(hand_out_plain::<W>(&plain, buffer, needed)),
-        None => None,
+        Some(plain) if mode <= 2 => Some(hand_out_plain::<W>(&plain, buffer, needed)),
+        _ => None,
     }
 }
 
 // The same of a text of less than four bytes.
 #[inline(always)]
-fn normalize_tiny(text: &[u8], buffer: &mut [u8], needed: &mut usize) -> Option<Status>
+fn normalize_tiny(mode: u32, text: &[u8], buffer: &mut [u8], needed: &mut usize) -> Option<Status>
     requires { length text.now < 4 }
-    ensures some { (mode : Mode) → IfSome result
-        (NormalizesTo mode text.now buffer.old buffer.new needed.new) }
+    ensures some { (m : Mode) → IfSome result
+        (NormalizesTo m text.now buffer.old buffer.new needed.new) }
+    ensures known { IfSome result (λ _. mode ≤ 2) }
     ensures none { IfNone result (buffer.new ≡ buffer.old) }
 {
     if text.len() < 2 {
         return None;
     }
-    normalize_plain::<2>(text, buffer, needed)
+    normalize_plain::<2>(mode, text, buffer, needed)
 }
 
 // The same of any text, by its length.
 #[inline(always)]
-fn normalize_at_once(text: &[u8], buffer: &mut [u8], needed: &mut usize) -> Option<Status>
-    ensures some { (mode : Mode) → IfSome result
-        (NormalizesTo mode text.now buffer.old buffer.new needed.new) }
+fn normalize_at_once(
+    mode: u32,
+    text: &[u8],
+    buffer: &mut [u8],
+    needed: &mut usize,
+) -> Option<Status>
+    ensures some { (m : Mode) → IfSome result
+        (NormalizesTo m text.now buffer.old buffer.new needed.new) }
+    ensures known { IfSome result (λ _. mode ≤ 2) }
     ensures none { IfNone result (buffer.new ≡ buffer.old) }
 {
     let len = text.len();
     if len < 4 {
-        return normalize_tiny(text, buffer, needed);
+        return normalize_tiny(mode, text, buffer, needed);
     }
     if len <= 8 {
-        return normalize_plain::<4>(text, buffer, needed);
+        return normalize_plain::<4>(mode, text, buffer, needed);
     }
     if len > 16 {
         return None;
     }
-    normalize_plain::<8>(text, buffer, needed)
+    normalize_plain::<8>(mode, text, buffer, needed)
 }
 
-/// Hands out the normal text of what the text means, and gives the number of the status.
+/// Hands out the normal text of what the text means, and gives the number of the status. Which mode it is,
+/// and whether it is one, is asked last: a plain text means the same in each.
 #[inline(always)]
 pub(crate) fn normalize(
     alloc: Global,
-    mode: Mode,
+    mode: u32,
     text: &[u8],
     buffer: &mut [u8],
     needed: &mut usize,
 ) -> u32
-    ensures { EndsAs (NormalizesTo mode text.now buffer.old buffer.new needed.new) result }
+    ensures known { (m : Mode) → mode ≡ mode_number m
+        → EndsAs (NormalizesTo m text.now buffer.old buffer.new needed.new) result }
+    ensures unknown { 2 < mode → (result ≡ number_of Status.UnknownNumber)
+        × (needed.new ≡ 0) × (buffer.new ≡ buffer.old) }
 {
-    match normalize_at_once(text, buffer, needed) {
-        Some(status) => status.number(),
-        None => normalize_other(alloc, mode, text, buffer, needed),
+    if let Some(status) = normalize_at_once(mode, text, buffer, needed) {
+        return status.number();
+    }
+    match mode_of(mode) {
+        Some(mode) => normalize_other(alloc, mode, text, buffer, needed),
+        None => refuse(Status::UnknownNumber, needed).number(),
     }
 }
 
@@ -173,7 +202,7 @@ fn normalize_other(
     }
     match tell(mode, &window_of(text), text.len()) {
         Told::Ordered(line) => hand_out_ordered(&line, buffer, needed).number(),
-        Told::Refused(refusal) => refuse(&refusal, needed).number(),
+        Told::Refused(refusal) => refuse(Status::from(refusal), needed).number(),
         Told::Nothing => normalize_parsed(alloc, mode, text, buffer, needed).number(),
     }
 }
@@ -203,7 +232,7 @@ fn normalize_identifier(alloc: Global, text: &[u8], buffer: &mut [u8], needed: &
     let mut identifier = LanguageIdentifier::unknown();
     match read_identifier(alloc, text, &mut identifier) {
         Ok(()) => hand_out_within(&identifier, text.len(), buffer, needed),
-        Err(refusal) => refuse(&refusal, needed),
+        Err(refusal) => refuse(Status::from(refusal), needed),
     }
 }
 
@@ -214,17 +243,18 @@ fn normalize_locale(alloc: Global, text: &[u8], buffer: &mut [u8], needed: &mut 
 {
     match Locale::try_from_utf8(alloc, text) {
         Ok(locale) => hand_out_within(&locale, text.len(), buffer, needed),
-        Err(refusal) => refuse(&refusal, needed),
+        Err(refusal) => refuse(Status::from(refusal), needed),
     }
 }
 
-#[tactic(auto, using(crate::proofs::Bounds::data_fits))]
+// What was parsed is printed as it is: a data locale would be asked for its subdivision again.
+#[tactic(auto, using(crate::proofs::Bounds::parts_fit))]
 #[inline(never)]
 fn normalize_data_locale(text: &[u8], buffer: &mut [u8], needed: &mut usize) -> Status
     ensures { NormalizesTo modes.Data text.now buffer.old buffer.new needed.new result }
 {
-    match DataLocale::try_from_utf8(text) {
-        Ok(data) => hand_out_within(&data, text.len() + 4, buffer, needed),
-        Err(refusal) => refuse(&refusal, needed),
+    match DataParts::try_from_utf8(text) {
+        Ok(parts) => hand_out_within(&parts, text.len() + 4, buffer, needed),
+        Err(refusal) => refuse(Status::from(refusal), needed),
     }
 }

@@ -5,8 +5,8 @@ ghost use Rattle.std.specs.Cmp.Lexicographic.{slice_cmp};
 ghost use Rattle.iloc_calls.specs.Answers.{ComparesTo, IsOrderOf, OrdersTo, order_number};
 ghost use Rattle.iloc_calls.specs.Numbers.{status_of};
 
+use crate::data::read_data;
 use crate::status::Status;
-use iloc_data::DataLocale;
 use iloc_langid::LanguageIdentifier;
 use iloc_locale::Locale;
 use iloc_program::Mode;
@@ -55,7 +55,7 @@ pub(crate) fn strict_cmp(
     match mode {
         Mode::Langid => compare(LanguageIdentifier::try_from_utf8(alloc, text), other, order),
         Mode::Locale => compare(Locale::try_from_utf8(alloc, text), other, order),
-        Mode::Data => compare(DataLocale::try_from_utf8(text), other, order),
+        Mode::Data => compare(read_data(text), other, order),
     }
 }
 
@@ -132,12 +132,6 @@ pub(crate) fn compare_both(
             other,
             order,
         ),
-        Mode::Data => order_read(
-            alloc,
-            DataLocale::try_from_utf8(text),
-            DataLocale::try_from_utf8(other),
-            other,
-            order,
-        ),
+        Mode::Data => order_read(alloc, read_data(text), read_data(other), other, order),
     }
 }

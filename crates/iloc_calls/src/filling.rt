@@ -2,14 +2,14 @@
 ghost use Rattle.std.specs.Prelude.{◌≡◌, ◌+◌, ◌≤◌, length, option_map};
 ghost use Rattle.std.specs.Option.{option_copied};
 ghost use Rattle.iloc_spec_grammar.specs.Values.{identifier_text};
-ghost use Rattle.iloc_fronts.specs.Ordered.{IsStored, text_of};
+ghost use Rattle.iloc_blocks.specs.Ordered.{IsStored, text_of};
 ghost use Rattle.iloc_plain.specs.Plain.{AreWords, value_of};
 ghost use Rattle.iloc_calls.specs.declared.status.Status.{Status};
 ghost use Rattle.iloc_calls.specs.Answers.{HandsOut, Tells};
 
 use crate::copying::{copy_all, copy_ends, copy_lower};
 use crate::status::Status;
-use iloc_fronts::Ordered;
+use iloc_blocks::Ordered;
 use iloc_plain::Plain;
 use iloc_writeable::{Sink, Writeable};
 use std::fmt;

@@ -23,6 +23,7 @@ ghost use Rattle.iloc_calls.specs.Numbers.{EndsAs, mode_number, number_of, words
 mod answers;
 mod comparing;
 mod copying;
+mod data;
 mod filling;
 mod hashing;
 mod same;
@@ -54,13 +55,7 @@ pub fn normalize(
     ensures unknown { 2 < mode → (result ≡ number_of Status.UnknownNumber)
         × (needed.new ≡ 0) × (buffer.new ≡ buffer.old) }
 {
-    match mode_of(mode) {
-        Some(mode) => answers::normalize(alloc, mode, text, buffer, needed),
-        None => {
-            *needed = 0;
-            Status::UnknownNumber.number()
-        }
-    }
+    answers::normalize(alloc, mode, text, buffer, needed)
 }
 
 /// Whether the text means something in the mode, or why not.

@@ -3,8 +3,8 @@ ghost use Rattle.iloc_calls.specs.Answers.{RefusedTells, TellsSame};
 ghost use Rattle.iloc_lines.specs.declared.Mode.TheVariants.{Langid, Locale as OfLocale, Data};
 
 use crate::comparing::order_of;
+use crate::data::read_data;
 use crate::status::Status;
-use iloc_data::DataLocale;
 use iloc_langid::LanguageIdentifier;
 use iloc_locale::Locale;
 use iloc_program::Mode;
@@ -62,11 +62,11 @@ fn same_locales(alloc: Global, text: &[u8], other: &[u8], same: &mut u8) -> Stat
 fn same_data_locales(alloc: Global, text: &[u8], other: &[u8], same: &mut u8) -> Status
     ensures { TellsSame Data text.now other.now same.old same.new result }
 {
-    let data = match DataLocale::try_from_utf8(text) {
+    let data = match read_data(text) {
         Ok(data) => data,
         Err(refusal) => return Status::from(refusal),
     };
-    let second = match DataLocale::try_from_utf8(other) {
+    let second = match read_data(other) {
         Ok(second) => second,
         Err(_) => {
             *same = 0;

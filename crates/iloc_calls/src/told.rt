@@ -1,11 +1,12 @@
 //! What a text means, told at once by what stands at its front.
 ghost use Rattle.std.specs.Prelude.{◌≡◌, ◌+◌, ◌≤◌, IfSome, length, take};
-ghost use Rattle.iloc_fronts.specs.Ordered.{IsOrdered};
+ghost use Rattle.iloc_blocks.specs.Ordered.{IsOrdered};
 ghost use Rattle.iloc_calls.specs.Told.{IsTold};
 ghost use Rattle.iloc_lines.specs.declared.Mode.TheVariants.{Locale as OfLocale};
 
 use crate::copying::copy_all;
-use iloc_fronts::{Block, Front, Ordered, Reading, read_front, read_ordered, read_varied};
+use iloc_blocks::{Ordered, Reading, read_ordered, read_varied};
+use iloc_fronts::{Block, Front, read_front};
 use iloc_program::Mode;
 use iloc_subtags::ParseError;
 
@@ -78,6 +79,6 @@ fn tell_ordered<'a>(window: &'a [u8], len: usize, block: Block<'_>) -> Told<'a>
     match read_ordered(window, len, len.wrapping_sub(block.tail.wrapping_add(1))) {
         Reading::Ordered(line) => Told::Ordered(line),
         Reading::BadBlock => Told::Refused(ParseError::InvalidExtension),
-        Reading::Other => Told::Nothing,
+        Reading::Unordered | Reading::Other => Told::Nothing,
     }
 }

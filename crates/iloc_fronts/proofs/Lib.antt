@@ -2,11 +2,5 @@ pub mod RunLemmas
 pub mod RunWords
 pub mod FrontLemmas
 pub mod LeftLemmas
-pub mod BodyLemmas
-pub mod BlockLemmas
-pub mod UnicodeLemmas
-pub mod OtherLemmas
-pub mod TransformLemmas
-pub mod PrintedBlocks
-pub mod OrderedLemmas
-pub mod BadBlocks
+pub mod DataKeywordLemmas
+pub mod WordBytes

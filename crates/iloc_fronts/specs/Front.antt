@@ -1,5 +1,5 @@
 -- What stands at the front of a line: the words of an identifier that fit, and what follows them.
-use Rattle.std.specs.Prelude.{◌≡◌, ℕ, suc, ◌+◌, ◌<◌, ◌≤◌, false, [], ◌∷◌, List, length, take, drop, get_or, IsTrue, ⊤}
+use Rattle.std.specs.Prelude.{◌≡◌, ℕ, suc, ◌+◌, ◌<◌, ◌≤◌, false, [], ◌∷◌, List, length, take, drop, get_or, ⊤}
 use Rattle.iloc_spec_grammar.specs.Syntax.{Text, pieces, first_piece, Language, Variant, is_word, IsWord, languages}
 use Rattle.iloc_spec_grammar.specs.Reading.{past, starts_block, after_region}
 use Rattle.iloc_fronts.specs.declared.front.Block.{Block}
@@ -22,7 +22,8 @@ rest_of_block b = take b.len b.window.now
 pub record GoesOn (ps : List Text) (b : Block) : Type 0 where
   pub rest : past (is_word Variant) ps ≡ pieces (rest_of_block b)
   pub singleton : first_piece (pieces (rest_of_block b)) ≡ get_or b.window.now 0 0 ∷ []
-  pub first : IsTrue b.is_first → ps ≡ pieces (rest_of_block b)
+  pub few : b.tail ≤ b.len + 9 → length ps ≤ 1 + length (pieces (rest_of_block b))
+  pub many : b.len + 9 < b.tail → 2 + length (pieces (rest_of_block b)) ≤ length ps
   pub some : 0 < b.len
   pub room : b.len + 16 ≤ length b.window.now
 

@@ -1,7 +1,8 @@
 -- What keyword follows the singleton of a block.
-use Rattle.std.specs.Prelude.{◌≡◌, ◌≢◌, ◌≤◌, true, false, List, length, codes, ⊤}
-use Rattle.std.specs.List.{list_all}
-use Rattle.iloc_spec_grammar.specs.Syntax.{Text, pieces, first_piece, Attribute, UnicodeKey, is_word, IsWord, lower}
+use Rattle.std.specs.Prelude.{◌≡◌, ◌≢◌, ◌⊎◌, ◌≤◌, ◌&&◌, ℕ, cond, true, false, List, length, take, drop, get_or, codes, ⊤}
+use Rattle.std.specs.List.{AllByRecursion, list_all}
+use Rattle.std.specs.Char.{is_ascii_alphabetic}
+use Rattle.iloc_spec_grammar.specs.Syntax.{Text, pieces, first_piece, Attribute, UnicodeKey, Region, SubdivisionSuffix, is_word, IsWord, is_true, lower}
 use Rattle.iloc_spec_grammar.specs.Meaning.{normal_values}
 use Rattle.iloc_spec_grammar.specs.Reading.{rest_of}
 use Rattle.iloc_fronts.specs.Front.{rest_of_block}
@@ -22,10 +23,19 @@ AreValues ps value.Single = (list_all (is_word Attribute) ps ≡ true) × (lengt
 AreValues ps value.Many = (list_all (is_word Attribute) ps ≡ true) × (2 ≤ length (normal_values ps))
 AreValues ps value.Other = ⊤
 
--- a key other than `sd`, and at most one piece, of its value
+-- where a suffix begins after a region
+abbrev pub region_end : Text → ℕ
+region_end p = cond (is_ascii_alphabetic (get_or p 0 0)) 2 3
+
+-- the piece is `true`, or no region and suffix
+abbrev pub IsUnreadable : Text → Type 0
+IsUnreadable p = (is_true (lower p) ≡ true)
+    ⊎ ((is_word Region (take (region_end p) p) && is_word SubdivisionSuffix (drop (region_end p) p)) ≡ false)
+
+-- a key, and at most one piece, of its value; of `sd` none that names a subdivision
 pub record IsSingle (ps : List Text) : Type 0 where
   pub key : IsWord UnicodeKey (first_piece ps)
-  pub other : lower (first_piece ps) ≢ codes "sd"
+  pub other : (lower (first_piece ps) ≢ codes "sd") ⊎ AllByRecursion IsUnreadable (rest_of ps)
   pub values : list_all (is_word Attribute) (rest_of ps) ≡ true
   pub few : length (rest_of ps) ≤ 1
 

@@ -16,10 +16,9 @@ pub struct Block<'a> {
     pub window: &'a [u8],
     /// How many of them the line has.
     pub len: usize,
-    /// Whether no variant comes before.
-    pub is_first: bool,
-    /// How many bytes of the line follow the hyphen after the region. No clause says it: who uses it
-    /// tests what it finds there.
+    /// How many bytes of the line follow the hyphen after the region. So many more than `len` are the
+    /// variants and their hyphens: none, at most nine for one variant, or more. No clause says where
+    /// they stand: who uses it tests what it finds there.
     pub tail: usize,
 }
 
@@ -41,9 +40,9 @@ pub enum Front<'a> {
     Other,
 }
 
-// The length of the first piece; sixteen if it is longer.
+/// The length of the first piece; sixteen if it is longer.
 #[inline(always)]
-pub(crate) fn first_len(window: &[u8], len: usize) -> usize
+pub fn first_len(window: &[u8], len: usize) -> usize
     requires wide { 16 ≤ length window.now }
     requires inside { len ≤ length window.now }
     ensures { IsFirst (take len window.now) result }
@@ -138,7 +137,6 @@ fn after_region(window: &[u8], len: usize) -> Front<'_>
     Front::Block(Block {
         window: rest,
         len: left,
-        is_first,
         tail: len,
     })
 }

@@ -1,10 +1,10 @@
 //! Tells what keyword follows the singleton of a block.
-ghost use Rattle.std.specs.Prelude.{◌≡◌, ◌+◌, ◌≤◌, ◌≢◌, length, take, codes, IsTrue};
-ghost use Rattle.iloc_spec_grammar.specs.Syntax.{pieces, lower};
-ghost use Rattle.iloc_fronts.specs.Keyword.{AreValues, IsKeywordOf, after_singleton};
+ghost use Rattle.std.specs.Prelude.{◌≡◌, ◌+◌, ◌≤◌, ◌≢◌, false, length, take, codes, IsTrue};
+ghost use Rattle.iloc_spec_grammar.specs.Syntax.{Attribute, IsWord, pieces, lower};
+ghost use Rattle.iloc_fronts.specs.Keyword.{AreValues, IsKeywordOf, IsUnreadable, after_singleton};
 
 use crate::front::{Block, first_len};
-use crate::words::{is_attribute, is_key, is_true};
+use crate::words::{is_attribute, is_key, is_region, is_true};
 
 /// What follows a singleton.
 #[derive(Clone, Copy)]
@@ -13,7 +13,7 @@ pub enum Keyword {
     Attribute,
     /// A key, and among what follows it a piece that is no part of its value.
     Misfit,
-    /// A key other than `sd`, and at most one piece, of its value.
+    /// A key and at most one piece, of its value; if the key is `sd`, the piece names no subdivision.
     Single,
     /// A key, and pieces of its value, of which two or more are not `true`.
     Many,
@@ -60,19 +60,51 @@ fn keyword_of(window: &[u8], len: usize) -> Keyword
     if !is_key(window, n) {
         return Keyword::Other;
     }
-    let is_other = is_other_key(window);
     if n == len {
-        if is_other {
-            return Keyword::Single;
-        }
-        return Keyword::Other;
+        return Keyword::Single;
     }
-    match values_of(&window[n + 1..], len - n - 1) {
+    let is_other = is_other_key(window);
+    let value = &window[n + 1..];
+    let left = len - n - 1;
+    match values_of(value, left) {
         Values::Misfit => Keyword::Misfit,
-        Values::Single if is_other => Keyword::Single,
+        Values::Single => {
+            if is_other {
+                return Keyword::Single;
+            }
+            if is_subdivision(value, left) {
+                return Keyword::Other;
+            }
+            Keyword::Single
+        }
         Values::Many => Keyword::Many,
-        _ => Keyword::Other,
+        Values::Other => Keyword::Other,
     }
+}
+
+// Whether the first `n` bytes, a piece of a value, are a region and one to four bytes more, and not `true`.
+#[inline(always)]
+fn is_subdivision(window: &[u8], n: usize) -> bool
+    requires wide { 16 ≤ length window.now }
+    requires word { IsWord Attribute (take n window.now) }
+    ensures { result ≡ false → IsUnreadable (take n window.now) }
+{
+    if is_true(window, n) {
+        return false;
+    }
+    if window[0].is_ascii_alphabetic() {
+        if n > 6 {
+            return false;
+        }
+        return is_region(window, 2);
+    }
+    if n < 4 {
+        return false;
+    }
+    if n > 7 {
+        return false;
+    }
+    is_region(window, 3)
 }
 
 // Whether the first two bytes are not `sd`, in whatever case.

@@ -4,19 +4,19 @@ ghost use Rattle.iloc_fronts.specs.Left.{IsLeft, piece_of, pieces_of};
 
 use crate::front::first_len;
 
-// The bytes from a piece on, and what follows the line.
+/// The bytes from a piece on, and what follows the line.
 #[derive(Clone, Copy)]
-pub(crate) struct Left<'a> {
-    pub(crate) window: &'a [u8],
-    // How many of them the line has.
-    pub(crate) len: usize,
-    // The length of the piece; sixteen if it is longer.
-    pub(crate) n: usize,
+pub struct Left<'a> {
+    pub window: &'a [u8],
+    /// How many of them the line has.
+    pub len: usize,
+    /// The length of the piece; sixteen if it is longer.
+    pub n: usize,
 }
 
-// What the first `len` bytes are.
+/// What the first `len` bytes are.
 #[inline(always)]
-pub(crate) fn left_in(window: &[u8], len: usize) -> Left<'_>
+pub fn left_in(window: &[u8], len: usize) -> Left<'_>
     requires { len + 16 ≤ length window.now }
     ensures left { IsLeft result }
     ensures window { result.window.now ≡ window.now }
@@ -29,9 +29,9 @@ pub(crate) fn left_in(window: &[u8], len: usize) -> Left<'_>
     }
 }
 
-// What follows the first piece and its hyphen.
+/// What follows the first piece and its hyphen.
 #[inline(always)]
-pub(crate) fn after_piece(left: Left<'_>) -> Left<'_>
+pub fn after_piece(left: Left<'_>) -> Left<'_>
     requires left { IsLeft left }
     requires more { left.n ≢ left.len }
     ensures left { IsLeft result }

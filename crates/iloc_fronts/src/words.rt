@@ -2,7 +2,8 @@
 ghost use Rattle.std.specs.Prelude.{◌≡◌, ◌≤◌, ◌&&◌, IsTrue, true, false, length, take, get_or};
 ghost use Rattle.std.specs.Int.{is_in_range};
 ghost use Rattle.std.specs.Char.{is_ascii_alphanumeric};
-ghost use Rattle.iloc_fronts.specs.Blocks.{two_number};
+ghost use Rattle.iloc_fronts.specs.Words.{two_number};
+ghost use Rattle.iloc_fronts.specs.Words.{four_number};
 ghost use Rattle.iloc_spec_grammar.specs.Syntax.{
   Attribute,
   Language,
@@ -54,9 +55,9 @@ fn are_letters_or_digits(window: &[u8], n: usize) -> bool
     n <= first_alphanumerics(window)
 }
 
-// Whether they are letters and digits, and at least `least` and at most eight.
+/// Whether they are letters and digits, and at least `least` and at most eight.
 #[inline(always)]
-pub(crate) fn is_word_from(least: usize, window: &[u8], n: usize) -> bool
+pub fn is_word_from(least: usize, window: &[u8], n: usize) -> bool
     requires wide { 16 ≤ length window.now }
     requires few { n ≤ 16 }
     ensures { result ≡ is_in_range least 8 n && letters_or_digits (take n window.now) }
@@ -67,9 +68,9 @@ pub(crate) fn is_word_from(least: usize, window: &[u8], n: usize) -> bool
     are_letters_or_digits(window, n)
 }
 
-// Whether the first `n` bytes are a language.
+/// Whether the first `n` bytes are a language.
 #[inline(always)]
-pub(crate) fn is_language(window: &[u8], n: usize) -> bool
+pub fn is_language(window: &[u8], n: usize) -> bool
     requires wide { 16 ≤ length window.now }
     requires few { n ≤ 16 }
     ensures { result ≡ is_word (Language languages) (take n window.now) }
@@ -80,9 +81,9 @@ pub(crate) fn is_language(window: &[u8], n: usize) -> bool
     are_letters(window, n)
 }
 
-// Whether the first `n` bytes are a script.
+/// Whether the first `n` bytes are a script.
 #[inline(always)]
-pub(crate) fn is_script(window: &[u8], n: usize) -> bool
+pub fn is_script(window: &[u8], n: usize) -> bool
     requires wide { 16 ≤ length window.now }
     requires few { n ≤ 16 }
     ensures { result ≡ is_word Script (take n window.now) }
@@ -93,9 +94,9 @@ pub(crate) fn is_script(window: &[u8], n: usize) -> bool
     are_letters(window, n)
 }
 
-// Whether the first `n` bytes are a region.
+/// Whether the first `n` bytes are a region.
 #[inline(always)]
-pub(crate) fn is_region(window: &[u8], n: usize) -> bool
+pub fn is_region(window: &[u8], n: usize) -> bool
     requires wide { 16 ≤ length window.now }
     requires few { n ≤ 16 }
     ensures { result ≡ is_word Region (take n window.now) }
@@ -109,9 +110,9 @@ pub(crate) fn is_region(window: &[u8], n: usize) -> bool
     are_digits(window, n)
 }
 
-// Whether the first `n` bytes are a variant.
+/// Whether the first `n` bytes are a variant.
 #[inline(always)]
-pub(crate) fn is_variant(window: &[u8], n: usize) -> bool
+pub fn is_variant(window: &[u8], n: usize) -> bool
     requires wide { 16 ≤ length window.now }
     requires few { n ≤ 16 }
     ensures { result ≡ is_word Variant (take n window.now) }
@@ -125,9 +126,9 @@ pub(crate) fn is_variant(window: &[u8], n: usize) -> bool
     are_letters_or_digits(window, n)
 }
 
-// Whether the first `n` bytes are a key of `u`.
+/// Whether the first `n` bytes are a key of `u`.
 #[inline(always)]
-pub(crate) fn is_key(window: &[u8], n: usize) -> bool
+pub fn is_key(window: &[u8], n: usize) -> bool
     requires wide { 16 ≤ length window.now }
     requires few { n ≤ 16 }
     ensures { result ≡ is_word UnicodeKey (take n window.now) }
@@ -141,9 +142,9 @@ pub(crate) fn is_key(window: &[u8], n: usize) -> bool
     window[1].is_ascii_alphabetic()
 }
 
-// Whether the first `n` bytes are a word of another extension.
+/// Whether the first `n` bytes are a word of another extension.
 #[inline(always)]
-pub(crate) fn is_subtag(window: &[u8], n: usize) -> bool
+pub fn is_subtag(window: &[u8], n: usize) -> bool
     requires wide { 16 ≤ length window.now }
     requires few { n ≤ 16 }
     ensures { result ≡ is_word Subtag (take n window.now) }
@@ -151,9 +152,9 @@ pub(crate) fn is_subtag(window: &[u8], n: usize) -> bool
     is_word_from(2, window, n)
 }
 
-// Whether the first `n` bytes are an attribute, or a piece of a value.
+/// Whether the first `n` bytes are an attribute, or a piece of a value.
 #[inline(always)]
-pub(crate) fn is_attribute(window: &[u8], n: usize) -> bool
+pub fn is_attribute(window: &[u8], n: usize) -> bool
     requires wide { 16 ≤ length window.now }
     requires few { n ≤ 16 }
     ensures { result ≡ is_word Attribute (take n window.now) }
@@ -161,12 +162,12 @@ pub(crate) fn is_attribute(window: &[u8], n: usize) -> bool
     is_word_from(3, window, n)
 }
 
-// Whether the first `n` bytes are `true`, in whatever case.
+/// Whether the first `n` bytes are `true`, in whatever case.
 #[inline(always)]
-pub(crate) fn is_true(window: &[u8], n: usize) -> bool
+pub fn is_true(window: &[u8], n: usize) -> bool
     requires wide { 16 ≤ length window.now }
     requires few { n ≤ 16 }
-    ensures { result ≡ false → is_true (lower (take n window.now)) ≡ false }
+    ensures { result ≡ is_true (lower (take n window.now)) }
 {
     if n != 4 {
         return false;
@@ -183,10 +184,10 @@ pub(crate) fn is_true(window: &[u8], n: usize) -> bool
     window[3].to_ascii_lowercase() == b'e'
 }
 
-// The number of the first two bytes, by which keys are ordered, and words that begin differently. Bit 5
-// makes a letter lower case, and digits have it.
+/// The number of the first two bytes, by which keys are ordered, and words that begin differently. Bit 5
+/// makes a letter lower case, and digits have it.
 #[inline(always)]
-pub(crate) fn number_of_two(window: &[u8]) -> usize
+pub fn number_of_two(window: &[u8]) -> usize
     requires wide { 16 ≤ length window.now }
     requires first { is_ascii_alphanumeric (get_or window.now 0 0) ≡ true }
     requires second { is_ascii_alphanumeric (get_or window.now 1 0) ≡ true }
@@ -195,9 +196,21 @@ pub(crate) fn number_of_two(window: &[u8]) -> usize
     256 * ((window[0] | 32) as usize) + (window[1] | 32) as usize
 }
 
-// Whether the first `n` bytes are a key of `t`.
+/// The number of the first four bytes, which is another if they differ but for the case.
 #[inline(always)]
-pub(crate) fn is_field_key(window: &[u8], n: usize) -> bool
+pub fn number_of_four(window: &[u8]) -> usize
+    requires wide { 16 ≤ length window.now }
+    requires word { letters_or_digits (take 4 window.now) ≡ true }
+    ensures { result ≡ four_number (take 4 window.now) }
+{
+    256 * (256 * (256 * ((window[0] | 32) as usize) + (window[1] | 32) as usize)
+        + (window[2] | 32) as usize)
+        + (window[3] | 32) as usize
+}
+
+/// Whether the first `n` bytes are a key of `t`.
+#[inline(always)]
+pub fn is_field_key(window: &[u8], n: usize) -> bool
     requires wide { 16 ≤ length window.now }
     requires few { n ≤ 16 }
     ensures { result ≡ is_word TransformKey (take n window.now) }

@@ -1,15 +1,15 @@
 -- The first LF, told by a mask of 32 bytes.
-use Rattle.std.proofs.Common.{◌≡◌, ℕ, ◌^◌, ◌<◌, ◌≤◌, Bool, true, false, not, List, length, map, get_or, take, refl, sym, ap, ◌∙◌, subst, arith, inl, inr, Some}
+use Rattle.std.proofs.Common.{◌≡◌, ℕ, ◌^◌, ◌<◌, ◌≤◌, Bool, true, false, not, List, length, map, get_or, take, drop, ◌+◌, ◌-◌, refl, sym, ap, ◌∙◌, subst, arith, inl, inr, Some}
 use Rattle.std.specs.List.{prefix_len}
 use Rattle.std.proofs.lemmas.Bool.{false≢true, cases_lt}
-use Rattle.std.proofs.lemmas.List.{get_or-take, length-take-le, length-map}
+use Rattle.std.proofs.lemmas.List.{get_or-take, get_or-drop, length-drop, length-take-le, length-map}
 use Rattle.std.proofs.lemmas.List.Sums.{prefix_len_passes, prefix_len_stops}
 use Rattle.std.proofs.lemmas.Nat.Bits.{bit_at-trailing_zeros, bit_at_above}
-use Rattle.std.proofs.lemmas.Simd.{trailing_mask_l, mask_l-lt}
+use Rattle.std.proofs.lemmas.Simd.{leading_from_mask_l, trailing_mask_l, mask_l-lt}
 use lib.Count.{count_trailing_zeros}
 use lib.Lanes.{mask_l}
 use mir.Syntax.{w64}
-use Rattle.memchr.specs.Find.{IsFirstByte, Passes, NoneBefore, is_byte}
+use Rattle.memchr.specs.Find.{IsFirstByte, Nowhere, Passes, NoneBefore, is_byte}
 
 not-false : (b : Bool) → not b ≡ true → b ≡ false
 not-false true e = sym e
@@ -61,3 +61,38 @@ module _ (hay : List ℕ) (long : 32 ≤ length hay) where
       ] in
       first_passes p hay 32 place long
       (ap (count_trailing_zeros 64) e ∙ trailing_mask_l p 64 front (omega (arith, size)) (subst (λ (k : ℕ). 0 < k) e some)) within size
+
+-- where the mask of the first n is empty, none of them passes
+pub none_passes : (p : ℕ → Bool) (hay : List ℕ) (n : ℕ) → n ≤ length hay → mask_l (map p (take n hay)) ≡ 0 → Nowhere (Passes p hay) 0 n
+none_passes p hay n within e i low less passes =
+    let q = λ (b : ℕ). not (p b) in
+    let all : prefix_len q (take n hay) ≡ length (take n hay) = leading_from_mask_l p (take n hay) e in
+    let there : i < prefix_len q (take n hay) = omega (arith, all, length-take-le n hay within) in
+    let none : p (get_or hay i 0) ≡ false = ap p (sym (get_or-take n hay i 0 less)) ∙ not-false _ (prefix_len_passes q (take n hay) i 0 there) in
+    false≢true (sym none ∙ passes)
+
+-- the first that passes in what follows, where none does before
+later_passes : (p : ℕ → Bool) (hay part : List ℕ) (at k : ℕ) → Nowhere (Passes p hay) 0 at → length hay ≡ at + length part → ((i : ℕ) → i < length part → get_or part i 0 ≡ get_or hay (at + i) 0)
+    → NoneBefore (Passes p part) 0 (length part) k × Passes p part k → NoneBefore (Passes p hay) 0 (length hay) (at + k) × Passes p hay (at + k)
+later_passes p hay part at k none long same f = (
+  record {
+    low = omega arith;
+    high = omega (arith, f.0.high);
+    before = λ i low less passes. elim (cases_lt i at) [
+      | inl early ↦ none i low early passes
+      | inr late ↦
+          let there : at + (i - at) ≡ i = omega arith in
+          let inside : i - at < length part = omega (arith, f.0.high) in
+          f.0.before (i - at) (omega arith) (omega arith) (ap p (same (i - at) inside ∙ ap (λ j. get_or hay j 0) there) ∙ passes)
+    ];
+  },
+  ap p (sym (same k f.0.high)) ∙ f.1,
+)
+
+-- the first LF, told by a mask of the second 32 bytes
+pub second_end : (hay : List ℕ) → 64 ≤ length hay → Nowhere (Passes (is_byte 10) hay) 0 32 → (m : ℕ) → m ≡ mask_l (map (is_byte 10) (take 32 (drop 32 hay))) → 0 < m
+    → IsFirstByte (is_byte 10) hay (Some (32 + count_trailing_zeros 64 m))
+second_end hay long none m e some =
+    let size : length (drop 32 hay) ≡ length hay - 32 = length-drop 32 hay in
+    later_passes (is_byte 10) hay (drop 32 hay) 32 (count_trailing_zeros 64 m) none (omega (arith, size))
+    (λ i less. get_or-drop 32 hay i 0) (first_end (drop 32 hay) (omega (arith, size)) m e some)

@@ -1,15 +1,18 @@
 -- Data locales that are refused for the keyword in their first block.
-use Rattle.std.proofs.Common.{◌≡◌, inl, inr, ℕ, ◌≤◌, ◌==◌, Bool, true, false, not, cond, ◌&&◌, nat_le, List, [], ◌∷◌, ◌++◌, length, flat_map, get_or, IsTrue, None, Some, option_map, Ok, Err, refl, sym, ap, ◌∙◌, arith, append-nil}
+use Rattle.std.proofs.Common.{◌≡◌, ◌≢◌, ◌⊎◌, inl, inr, ℕ, zero, suc, ◌+◌, ◌<◌, ◌≤◌, ◌==◌, Bool, true, false, not, cond, ◌&&◌, nat_le, List, [], ◌∷◌, ◌++◌, length, flat_map, get_or, take, drop, codes, Option, None, Some, option_map, Ok, Err, refl, sym, ap, ◌∙◌, subst, arith, append-nil, length-append}
 use Rattle.std.specs.Prelude.{if◌then◌else◌, option_and_then, ok_or}
-use Rattle.std.specs.Char.{is_ascii_alphanumeric, to_ascii_lowercase}
-use Rattle.std.specs.List.{list_all}
-use Rattle.std.proofs.lemmas.Bool.{cases_Bool, true≢false}
+use Rattle.std.specs.Char.{is_ascii_alphabetic, is_ascii_alphanumeric, to_ascii_lowercase}
+use Rattle.std.specs.Result.{result_ok}
+use Rattle.std.specs.List.{AllByRecursion, list_all}
+use Rattle.std.proofs.lemmas.Bool.{cases_Bool, cases_lt, true≢false, false_from_ne_true}
 use Rattle.std.proofs.lemmas.Bool.Decides.{nat_tests}
-use Rattle.iloc_spec_grammar.specs.Syntax.{pieces, Kind, Language, Script, Region, Variant, Identifier, identifier_pieces, HasWords, UnicodeKey, Attribute, is_word, IsWord, is_same, is_true, languages, lower, block_pieces, is_one_byte, front, blocks, head, tail_blocks, first_piece}
+use Rattle.iloc_spec_grammar.specs.Syntax.{pieces, Kind, Language, Script, Region, Variant, Identifier, identifier_pieces, HasWords, UnicodeKey, Attribute, Subtag, SubdivisionSuffix, normal, is_word, IsWord, is_same, is_true, languages, lower, block_pieces, is_one_byte, front, blocks, head, tail_blocks, first_piece}
 use Rattle.iloc_spec_grammar.specs.Meaning.{normal_values, Fault}
-use Rattle.iloc_spec_grammar.specs.Reading.{past, skip_first, rest_of, identifier_of, after_region, after_front}
+use Rattle.iloc_spec_grammar.specs.Reading.{first_item, passing, past, skip_first, rest_of, identifier_of, after_region, after_front}
 use Rattle.iloc_spec_grammar.specs.Meaning as faults
-use Rattle.iloc_spec_grammar.proofs.WordsLaws.{length-unicode_key}
+use Rattle.iloc_spec_grammar.proofs.WordsLaws.{length-unicode_key, is_word-lower}
+use Rattle.iloc_spec_grammar.proofs.ReadingLaws.{all_while, keep_while_passes}
+use Rattle.iloc_spec_grammar.proofs.ValuesLaws.{all_weaker}
 use Rattle.iloc_spec_grammar.proofs.MapLaws.{same_is}
 use Rattle.iloc_spec_grammar.proofs.PiecesLaws.{at_pieces}
 use Rattle.iloc_spec_grammar.proofs.Readings.{IsLong, long_script, long_region, long_variant, long_attribute, not_two, two}
@@ -20,14 +23,17 @@ use Rattle.iloc_spec_grammar.proofs.IdentifierLaws.{identifier_of-pieces}
 use Rattle.iloc_spec_grammar.proofs.RawLaws.{languages_table}
 use Rattle.iloc_spec_parts.specs.SmallComputing.{small_identifier_result, has_small_variants, is_u, is_small_block, has_small_keyword, keyword_read, block_fault, blocks_result, after_identifier, small_result}
 use Rattle.iloc_spec_preferences.proofs.Keys.{sd}
-use Rattle.iloc_spec_preferences.specs.DataLocales.{not_small, agreed, made_of, named_subdivision, data_of_small, data_text}
+use Rattle.iloc_spec_preferences.specs.DataLocales.{not_small, agreed, made_of, named_subdivision, small_part, data_of_small, data_text}
+use Rattle.iloc_spec_preferences.specs.Subdivisions.{Subdivision, both_words, region_length}
 use Rattle.iloc_spec_preferences.specs.DataComputing.{data_result, data_of_result}
 use Rattle.iloc_spec_output.specs.Output.{OfDataLocales, no_data_locale}
 use Rattle.iloc_spec_output.proofs.OutputLaws.{only_answer}
 use Rattle.iloc_spec_output.specs.Output as outputs
+use Rattle.iloc_subtags.specs.declared.parse_error.ParseError.{ParseError}
 use Rattle.iloc_subtags.specs.declared.parse_error.ParseError.TheVariants.{InvalidSubtag, InvalidExtension}
 use Rattle.iloc_fronts.specs.Front.{GoesOn, IsFront, rest_of_block}
-use Rattle.iloc_fronts.specs.Keyword.{IsKeywordOf, IsSingle, after_singleton}
+use Rattle.iloc_fronts.specs.Keyword.{IsKeywordOf, IsSingle, IsUnreadable, after_singleton, region_end}
+use Rattle.iloc_blocks.proofs.BlockLemmas.{front_past}
 use Rattle.iloc_fronts.specs.declared.front.Block.{Block}
 use Rattle.iloc_fronts.specs.declared.front.Front.TheVariants as fronts
 use Rattle.iloc_fronts.specs.declared.keyword.Keyword.TheVariants as keyword
@@ -61,9 +67,46 @@ module _ (t : List ℕ) (b : Block) (l : BeginsWell t) (g : GoesOn (after_region
   found : tail_blocks (pieces t) ≡ first ∷ blocks ps
   found = blocks_left t l ∙ ap blocks (after_is ∙ pieces_of_block) ∙ ap (λ (x : Bool). cond x ((c, ps) ∷ []) (first ∷ blocks ps)) no_x
 
-  -- where no variant comes before it, nothing is left of the head
-  nothing_before : IsTrue b.is_first → front (after_region (pieces t)) ≡ []
-  nothing_before alone = ap front (g.first alone ∙ pieces_of_block)
+-- ---- the variants before the block
+
+module _ (t : List ℕ) (b : Block) (g : GoesOn (after_region (pieces t)) b) where
+  abbrev after : List (List ℕ)
+  after = after_region (pieces t)
+
+  abbrev before : List (List ℕ)
+  before = passing (is_word Variant) after
+
+  variants_pass : AllByRecursion (λ p. is_word Variant p ≡ true) before
+  variants_pass = keep_while_passes (is_word Variant) after
+
+  block_pieces_are : pieces (rest_of_block b) ≡ (get_or b.window.now 0 0 ∷ []) ∷ after_singleton b
+  block_pieces_are = at_pieces (λ qs. first_piece qs ≡ get_or b.window.now 0 0 ∷ [] → qs ≡ (get_or b.window.now 0 0 ∷ []) ∷ rest_of qs) (λ q qs e. ap (λ r. r ∷ qs) e) (rest_of_block b) g.singleton
+
+  parts_are : before ++ pieces (rest_of_block b) ≡ after
+  parts_are = ap (λ l. before ++ l) (sym g.rest) ∙ all_while (is_word Variant) after
+
+  before_is : front after ≡ before
+  before_is =
+      ap front (sym parts_are ∙ ap (λ l. before ++ l) block_pieces_are)
+      ∙ front_past before ((get_or b.window.now 0 0 ∷ []) ∷ after_singleton b) (all_weaker (λ p. is_word Variant p ≡ true) IsLong long_variant before variants_pass)
+      ∙ append-nil before
+
+  total : length before + length (pieces (rest_of_block b)) ≡ length after
+  total = sym (length-append before (pieces (rest_of_block b))) ∙ ap length parts_are
+
+  all_true : (vs : List (List ℕ)) → AllByRecursion (λ p. is_word Variant p ≡ true) vs → list_all (is_word Variant) vs ≡ true
+  all_true [] h = refl
+  all_true (v ∷ vs) h = rw h.0 (all_true vs h.1)
+
+  pub few_before : b.tail ≤ b.len + 9 → has_small_variants (front after) ≡ true
+  few_before few =
+      let le : nat_le (length before) 1 ≡ true = (let short : length before ≤ 1 = omega (arith, g.few few, total) in grind (arith, nat_tests)) in
+      ap has_small_variants before_is ∙ (λ j. all_true before variants_pass j && le j)
+
+  pub many_before : b.len + 9 < b.tail → has_small_variants (front after) ≡ false
+  many_before many =
+      let more : nat_le (length before) 1 ≡ false = (let long : 2 ≤ length before = omega (arith, g.many many, total) in grind (arith, nat_tests)) in
+      ap has_small_variants before_is ∙ (λ j. all_true before variants_pass j && more j)
 
 and-false : (b : Bool) → (b && false) ≡ false
 and-false true = refl
@@ -160,12 +203,70 @@ no_word e = true≢false (sym e)
 abbrev both_hold : Bool → Bool → Bool
 both_hold x y = x && y
 
+-- a value that names no subdivision
+
+low_letter : (c : ℕ) → is_ascii_alphabetic (to_ascii_lowercase c) ≡ is_ascii_alphabetic c
+low_letter c = grind (arith, nat_tests)
+
+end_is : (v : List ℕ) → region_length (lower v) ≡ region_end v
+unfolding lower
+end_is [] = refl
+end_is (c ∷ v) = ap (λ (x : Bool). cond x 2 3) (low_letter c)
+
+lower_take : (k : ℕ) (v : List ℕ) → take k (lower v) ≡ lower (take k v)
+unfolding lower
+lower_take zero v = refl
+lower_take (suc k) [] = refl
+lower_take (suc k) (c ∷ v) = ap (λ l. to_ascii_lowercase c ∷ l) (lower_take k v)
+
+lower_drop : (k : ℕ) (v : List ℕ) → drop k (lower v) ≡ lower (drop k v)
+unfolding lower
+lower_drop zero v = refl
+lower_drop (suc k) [] = refl
+lower_drop (suc k) (c ∷ v) = lower_drop k v
+
+named_none : (v : List ℕ) → (is_word Region (take (region_end v) v) && is_word SubdivisionSuffix (drop (region_end v) v)) ≡ false → named_subdivision (lower v) ≡ None
+named_none v e = by (is_word Subtag (lower v)) (is_word Region (take (region_length (lower v)) (lower v))) (is_word SubdivisionSuffix (drop (region_length (lower v)) (lower v)))
+    ((λ j. region j && suffix j) ∙ e)
+  where
+    region : is_word Region (take (region_length (lower v)) (lower v)) ≡ is_word Region (take (region_end v) v)
+    region = (λ j. is_word Region (take (end_is v j) (lower v))) ∙ ap (is_word Region) (lower_take (region_end v) v) ∙ is_word-lower Region (take (region_end v) v)
+
+    suffix : is_word SubdivisionSuffix (drop (region_length (lower v)) (lower v)) ≡ is_word SubdivisionSuffix (drop (region_end v) v)
+    suffix = (λ j. is_word SubdivisionSuffix (drop (end_is v j) (lower v))) ∙ ap (is_word SubdivisionSuffix) (lower_drop (region_end v) v) ∙ is_word-lower SubdivisionSuffix (drop (region_end v) v)
+
+    read_as : Bool → Bool → Bool → Option Subdivision
+    read_as s x y = result_ok (if s then ok_or (both_words (if x then Some (normal Region (take (region_length (lower v)) (lower v))) else None)
+        (if y then Some (normal SubdivisionSuffix (drop (region_length (lower v)) (lower v))) else None)) faults.InvalidExtension else Err faults.InvalidSubtag)
+
+    by : (s x y : Bool) → (x && y) ≡ false → read_as s x y ≡ None
+    by true true true e = absurd (true≢false e)
+    by true true false e = refl
+    by true false y e = refl
+    by false x y e = refl
+
+no_subdivision : (qs : List (List ℕ)) → AllByRecursion IsUnreadable qs → length qs ≤ 1 → option_and_then named_subdivision (first_item (normal_values qs)) ≡ None
+no_subdivision [] none few = refl
+no_subdivision (v ∷ w ∷ qs) none few = absurd (omega arith)
+no_subdivision (v ∷ []) none few = by none.0
+  where
+    value : Bool → Option Subdivision
+    value x = option_and_then named_subdivision (first_item (cond (not x) (lower v ∷ []) []))
+
+    by : IsUnreadable v → value (is_true (lower v)) ≡ None
+    by (inl e) = ap value e
+    by (inr e) = either (is_true (lower v))
+      where
+        either : (x : Bool) → value x ≡ None
+        either true = refl
+        either false = named_none v e
+
 -- what a keyword of one piece at most is read as
 record Reads (qs : List (List ℕ)) : Type 0 where
   whole : front qs ≡ qs
   alone : blocks qs ≡ []
   small : has_small_keyword qs ≡ true
-  other : is_same (keyword_read qs).0 sd ≡ false
+  unread : (region : Option (List ℕ)) → small_part region (Some (keyword_read qs)) ≡ None
 
 single_reads : (qs : List (List ℕ)) → IsSingle qs → Reads qs
 single_reads [] s = absurd (no_word s.key)
@@ -176,14 +277,24 @@ single_reads (q ∷ qs) s =
       whole = front_long q qs long ∙ ap (λ rs. q ∷ rs) values.0;
       alone = skip_long q qs long ∙ values.1;
       small = λ j. both (s.key j) (s.values j) (few_values qs s.few j);
-      other = elim (cases_Bool (is_same (lower q) sd)) [
-        | inl same ↦ absurd (s.other (same_is (lower q) sd same))
-        | inr differs ↦ differs
-      ];
+      unread = λ region. unread s.other region;
     }
   where
     both : Bool → Bool → Bool → Bool
     both x y z = x && (y && z)
+
+    part : Option (List ℕ) → Bool → Option Subdivision → Option (Option Subdivision)
+    part region named o = if named then option_map (λ s. Some (agreed region s)) o else None
+
+    never : (region : Option (List ℕ)) (named : Bool) → part region named None ≡ None
+    never region true = refl
+    never region false = refl
+
+    unread : (lower q ≢ codes "sd") ⊎ AllByRecursion IsUnreadable qs → (region : Option (List ℕ)) → small_part region (Some (keyword_read (q ∷ qs))) ≡ None
+    unread (inl differs) region =
+        let no : is_same (lower q) sd ≡ false = false_from_ne_true _ (λ e. differs (same_is (lower q) sd e)) in
+        ap (λ (x : Bool). part region x (option_and_then named_subdivision (first_item (normal_values qs)))) no
+    unread (inr none) region = ap (part region (is_same (lower q) sd)) (no_subdivision qs none s.few) ∙ never region (is_same (lower q) sd)
 
 -- ---- the head of a text with no variants
 
@@ -211,12 +322,40 @@ head_region p qs =
     ap (skip_first (is_word Region)) (skip_front Script long_script qs) ∙ skip_front Region long_region (skip_first (is_word Script) qs)
 
 -- so the head is small
-small_head : (p : List ℕ) (qs : List (List ℕ)) → IsWord (Language languages) p → front (after_region (p ∷ qs)) ≡ []
+small_head : (p : List ℕ) (qs : List (List ℕ)) → IsWord (Language languages) p → has_small_variants (front (after_region (p ∷ qs))) ≡ true
     → small_identifier_result languages (p ∷ front qs) ≡ Ok (small_identifier (identifier_of (p ∷ front qs)))
 unfolding small_identifier_result identifier_of
-small_head p qs l none =
-    let few : has_small_variants (identifier_of (p ∷ front qs)).variants ≡ true = ap has_small_variants (head_region p qs ∙ none) in
+small_head p qs l h =
+    let few : has_small_variants (identifier_of (p ∷ front qs)).variants ≡ true = ap has_small_variants (head_region p qs) ∙ h in
     λ j. if l j then (if few j then Ok (small_identifier (identifier_of (p ∷ front qs))) else Err faults.InvalidSubtag) else Err faults.InvalidLanguage
+
+-- ... and one with more variants is not
+large_head : (p : List ℕ) (qs : List (List ℕ)) → IsWord (Language languages) p → has_small_variants (front (after_region (p ∷ qs))) ≡ false
+    → small_identifier_result languages (p ∷ front qs) ≡ Err faults.InvalidSubtag
+unfolding small_identifier_result identifier_of
+large_head p qs l h =
+    let many : has_small_variants (identifier_of (p ∷ front qs)).variants ≡ false = ap has_small_variants (head_region p qs) ∙ h in
+    λ j. if l j then (if many j then Ok (small_identifier (identifier_of (p ∷ front qs))) else Err faults.InvalidSubtag) else Err faults.InvalidLanguage
+
+pub large_refused : (t : List ℕ) (b : Block) → IsFront t (fronts.Block b) → b.len + 9 < b.tail → IsRefused Data t InvalidSubtag
+unfolding outputs.line_answer data_result small_result after_identifier
+large_refused t b h many =
+    ap (λ r. outputs.text_or_refusal data_text (data_of_result r)) (at_pieces Found by t h.0 (many_before t b h.1 many))
+  where
+    Found : List (List ℕ) → Type 0
+    Found qs = IsWord (Language languages) (first_piece qs) → has_small_variants (front (after_region qs)) ≡ false
+        → after_identifier (small_identifier_result languages (head qs)) (tail_blocks qs) ≡ Err faults.InvalidSubtag
+
+    by : (p : List ℕ) (qs : List (List ℕ)) → Found (p ∷ qs)
+    by p qs l large = ap (λ r. after_identifier r (blocks qs)) (large_head p qs l large)
+
+-- a fault that is told where at most one variant comes before, and else that of the variants
+pub after_variants : (t : List ℕ) (b : Block) → IsFront t (fronts.Block b) → (e : ParseError) → (b.tail ≤ b.len + 9 → e ≡ InvalidExtension) → (b.len + 9 < b.tail → e ≡ InvalidSubtag)
+    → (b.tail ≤ b.len + 9 → IsRefused Data t InvalidExtension) → IsRefused Data t e
+after_variants t b h e few many told = elim (cases_lt (b.len + 9) b.tail) [
+  | inl more ↦ subst (IsRefused Data t) (sym (many more)) (large_refused t b h more)
+  | inr less ↦ subst (IsRefused Data t) (sym (few less)) (told less)
+]
 
 -- ---- the answers
 
@@ -262,12 +401,12 @@ module _ (t : List ℕ) (b : Block) (h : IsFront t (fronts.Block b)) (letter : i
       data_refused t block (blocks rest) h.0 there (not_alone (blocks rest) (ap has_small_keyword (whole_front rest k.0 k.1) ∙ many_values rest k.2)) (fault_is block false true letter u attribute key)
 
   -- what is read of a whole text with such a keyword
-  single_result : IsTrue b.is_first → Reads rest → (r : SmallLocale) × (small_result languages t ≡ Ok r) × (data_of_small r ≡ None)
+  single_result : b.tail ≤ b.len + 9 → Reads rest → (r : SmallLocale) × (small_result languages t ≡ Ok r) × (data_of_small r ≡ None)
   unfolding small_result after_identifier blocks_result
-  single_result alone read = at_pieces Found by t h.0 there (nothing_before t b h.0 h.1 u alone)
+  single_result few read = at_pieces Found by t h.0 there (few_before t b h.1 few)
     where
       Found : List (List ℕ) → Type 0
-      Found qs = IsWord (Language languages) (first_piece qs) → tail_blocks qs ≡ block ∷ blocks rest → front (after_region qs) ≡ []
+      Found qs = IsWord (Language languages) (first_piece qs) → tail_blocks qs ≡ block ∷ blocks rest → has_small_variants (front (after_region qs)) ≡ true
           → (r : SmallLocale) × (after_identifier (small_identifier_result languages (head qs)) (tail_blocks qs) ≡ Ok r) × (data_of_small r ≡ None)
 
       by : (p : List ℕ) (qs : List (List ℕ)) → Found (p ∷ qs)
@@ -279,14 +418,13 @@ module _ (t : List ℕ) (b : Block) (h : IsFront t (fronts.Block b)) (letter : i
             (λ j. after_identifier (small_head p qs l none j) (e j))
                 ∙ (λ j. blocks_result id ((c t b h.0 h.1 u, read.whole j) ∷ read.alone j))
                 ∙ (λ j. if small j then Ok found else Err (block_fault (c t b h.0 h.1 u, rest))),
-            ap (λ (x : Bool). option_map (λ part. made_of id.language id.script part id.variant)
-                (if x then option_map (λ s. Some (agreed id.region s)) (option_and_then named_subdivision (keyword_read rest).1) else None)) read.other,
+            ap (option_map (λ part. made_of id.language id.script part id.variant)) (read.unread id.region),
           )
 
-  pub single_refused : IsTrue b.is_first → IsKeywordOf rest keyword.Single → IsRefused Data t InvalidExtension
+  pub single_refused : b.tail ≤ b.len + 9 → IsKeywordOf rest keyword.Single → IsRefused Data t InvalidExtension
   unfolding outputs.line_answer data_result
-  single_refused alone s =
-      let found = single_result alone (single_reads rest s) in
+  single_refused few s =
+      let found = single_result few (single_reads rest s) in
       ap (λ r. outputs.text_or_refusal data_text (data_of_result r)) found.1
       ∙ ap (λ o. outputs.text_or_refusal data_text (ok_or o faults.InvalidExtension)) found.2
 
@@ -323,7 +461,7 @@ variants_refused t h =
     (sym (ap (is_word (Language languages)) (same_first (pieces t))) ∙ h.0)
     (many_in_head t h.1.0 h.1.1))))))
 
--- ---- a singleton that is no letter and no digit, and no variant before it
+-- ---- a singleton that is no letter and no digit
 
 no_letter_no_u : (c : ℕ) → is_ascii_alphanumeric c ≡ false → is_u c ≡ false
 no_letter_no_u c e = grind (arith, nat_tests)
@@ -332,20 +470,16 @@ unlettered_fault : (b : ℕ × List (List ℕ)) → is_ascii_alphanumeric b.0 �
 unfolding block_fault
 unlettered_fault b e = rw e refl
 
-pub unlettered_refused : (t : List ℕ) (b : Block) → IsFront t (fronts.Block b) → is_ascii_alphanumeric (get_or b.window.now 0 0) ≡ false → IsTrue b.is_first → IsRefused Data t InvalidExtension
+pub unlettered_refused : (t : List ℕ) (b : Block) → IsFront t (fronts.Block b) → is_ascii_alphanumeric (get_or b.window.now 0 0) ≡ false → b.tail ≤ b.len + 9 → IsRefused Data t InvalidExtension
 unfolding outputs.line_answer data_result small_result after_identifier blocks_result
-unlettered_refused t b h no_letter alone =
-    ap (λ r. outputs.text_or_refusal data_text (data_of_result r)) (at_pieces Found by t h.0 told.2 before)
+unlettered_refused t b h no_letter few =
+    ap (λ r. outputs.text_or_refusal data_text (data_of_result r)) (at_pieces Found by t h.0 told.2 (few_before t b h.1 few))
   where
     told : (qs : List (List ℕ)) × (bs : List (ℕ × List (List ℕ))) × (tail_blocks (pieces t) ≡ (get_or b.window.now 0 0, qs) ∷ bs)
     told = block_told t b h.0 h.1
 
-    before : front (after_region (pieces t)) ≡ []
-    before = ap front (h.1.first alone)
-        ∙ at_pieces (λ qs. first_piece qs ≡ get_or b.window.now 0 0 ∷ [] → front qs ≡ []) (λ q qs e. ap (λ r. front (r ∷ qs)) e) (rest_of_block b) h.1.singleton
-
     Found : List (List ℕ) → Type 0
-    Found qs = IsWord (Language languages) (first_piece qs) → tail_blocks qs ≡ (get_or b.window.now 0 0, told.0) ∷ told.1 → front (after_region qs) ≡ []
+    Found qs = IsWord (Language languages) (first_piece qs) → tail_blocks qs ≡ (get_or b.window.now 0 0, told.0) ∷ told.1 → has_small_variants (front (after_region qs)) ≡ true
         → after_identifier (small_identifier_result languages (head qs)) (tail_blocks qs) ≡ Err faults.InvalidExtension
 
     by : (p : List ℕ) (qs : List (List ℕ)) → Found (p ∷ qs)

@@ -12,7 +12,11 @@ use Rattle.iloc_spec_parts.specs.Small as small
 use Rattle.iloc_spec_preferences.specs.DataLocales.{not_small}
 use Rattle.iloc_spec_output.specs.Output.{OfIdentifiers, OfLocales, OfDataLocales, no_identifier, no_locale, no_data_locale}
 use Rattle.iloc_spec_output.proofs.OutputLaws.{only_answer}
-use Rattle.iloc_subtags.specs.declared.parse_error.ParseError.TheVariants.{InvalidLanguage, InvalidExtension}
+use Rattle.iloc_subtags.specs.declared.parse_error.ParseError.TheVariants.{InvalidLanguage, InvalidExtension, DuplicatedExtension}
+use Rattle.iloc_blocks.specs.Faults.{HasBadBlock}
+use Rattle.iloc_blocks.specs.declared.faults.BadBlock.{BadBlock}
+use Rattle.iloc_blocks.specs.declared.faults.BadBlock.TheVariants as bad
+use Rattle.iloc_lines.specs.Told.{refusal_of}
 use Rattle.iloc_lines.specs.Output.{line_answer, reply, refusal_text}
 use Rattle.iloc_lines.specs.declared.Mode.{Mode}
 use Rattle.iloc_lines.specs.declared.Mode.TheVariants.{Langid, Locale, Data}
@@ -41,3 +45,8 @@ no_language_answer Data t h =
 -- a locale whose first block is bad is refused so
 pub bad_block_answer : (t : List ℕ) → HasFault languages t faults.InvalidExtension → line_answer Locale t ≡ refusal_text InvalidExtension
 bad_block_answer t h = sym (only_answer languages_table OfLocales t (refusal_text InvalidExtension) (no_locale h))
+
+-- ... and so is one whose first bad block is told
+pub bad_answer : (t : List ℕ) (b : BadBlock) → HasBadBlock t b → line_answer Locale t ≡ refusal_text (refusal_of b)
+bad_answer t bad.Misfit h = bad_block_answer t h
+bad_answer t bad.Duplicated h = sym (only_answer languages_table OfLocales t (refusal_text DuplicatedExtension) (no_locale h))

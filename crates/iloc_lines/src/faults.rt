@@ -4,9 +4,10 @@ ghost use Rattle.iloc_spec_grammar.specs.Syntax.{Text};
 ghost use Rattle.iloc_fronts.specs.Front.{IsFront};
 ghost use Rattle.iloc_fronts.specs.declared.front.Front.TheVariants as fronts;
 ghost use Rattle.iloc_lines.specs.Output.{IsRefused};
-ghost use Rattle.iloc_lines.specs.Told.{IsTold};
+ghost use Rattle.iloc_lines.specs.Told.{IsTold, refusal_of};
 
 use crate::Mode;
+use iloc_blocks::BadBlock;
 use iloc_fronts::{Block, Front, Keyword, read_front, read_keyword};
 use iloc_subtags::ParseError;
 
@@ -84,7 +85,7 @@ fn told_of_data(line: &[u8], block: Block<'_>) -> Told
     }
 }
 
-// A data locale has no block but that of `u`, and in it no keyword but `sd`.
+// A data locale has at most one variant, no block but that of `u`, and in it no keyword but `sd`.
 #[inline(always)]
 fn fault_of_data(line: &[u8], block: Block<'_>) -> Option<ParseError>
     requires { IsFront line.now (fronts.Block block) }
@@ -92,10 +93,7 @@ fn fault_of_data(line: &[u8], block: Block<'_>) -> Option<ParseError>
 {
     let singleton = block.window[0];
     if !singleton.is_ascii_alphanumeric() {
-        if block.is_first {
-            return Some(ParseError::InvalidExtension);
-        }
-        return None;
+        return Some(fault_after(block));
     }
     if singleton.to_ascii_lowercase() != b'u' {
         return Some(ParseError::InvalidSubtag);
@@ -104,7 +102,32 @@ fn fault_of_data(line: &[u8], block: Block<'_>) -> Option<ParseError>
         Keyword::Attribute => Some(ParseError::InvalidSubtag),
         Keyword::Misfit => Some(ParseError::InvalidSubtag),
         Keyword::Many => Some(ParseError::InvalidSubtag),
-        Keyword::Single if block.is_first => Some(ParseError::InvalidExtension),
-        _ => None,
+        Keyword::Single => Some(fault_after(block)),
+        Keyword::Other => None,
+    }
+}
+
+// Why a block is no data locale's that is bad, or names no subdivision. Two variants or more are refused first;
+// one takes at most nine bytes with its hyphen.
+#[inline(always)]
+fn fault_after(block: Block<'_>) -> ParseError
+    requires { block.len + 16 ≤ length block.window.now }
+    ensures few { block.entry.tail ≤ block.entry.len + 9 → result ≡ ParseError.InvalidExtension }
+    ensures many { block.entry.len + 9 < block.entry.tail → result ≡ ParseError.InvalidSubtag }
+{
+    if block.tail > block.len + 9 {
+        return ParseError::InvalidSubtag;
+    }
+    ParseError::InvalidExtension
+}
+
+// Why a locale with this bad block is refused.
+#[inline(always)]
+pub(crate) fn error_of(bad: BadBlock) -> ParseError
+    ensures { result ≡ refusal_of bad }
+{
+    match bad {
+        BadBlock::Misfit => ParseError::InvalidExtension,
+        BadBlock::Duplicated => ParseError::DuplicatedExtension,
     }
 }

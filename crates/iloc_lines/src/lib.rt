@@ -16,6 +16,7 @@ mod faults;
 mod lines;
 pub mod replies;
 pub mod reply_block;
+mod shape;
 
 pub use replies::{write_refusal, write_text};
 pub use reply_block::ReplyBlock;

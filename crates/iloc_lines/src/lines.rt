@@ -28,13 +28,15 @@ ghost use Rattle.iloc_spec_output.specs.Lines.{IsOneLine};
 ghost use Rattle.std.specs.Simd.Lanes.{mask_l};
 ghost use Rattle.iloc_spec_grammar.specs.Syntax.{Text};
 ghost use Rattle.iloc_lines.specs.declared.Mode.TheVariants as Mode;
-ghost use Rattle.memchr.specs.Find.{IsFirstByte, is_byte};
+ghost use Rattle.memchr.specs.Find.{IsFirstByte, Nowhere, Passes, is_byte};
 
-use crate::faults::{Told, told_at_front};
+use crate::faults::{Told, error_of, told_at_front};
 use crate::replies::write_refusal;
 use crate::reply_block::ReplyBlock;
+use crate::shape::looks_bad;
 use crate::{Answers, RunError};
-use iloc_fronts::{Reading, may_begin, read_ordered, read_varied};
+use iloc_blocks::{Reading, find_bad_block, read_ordered, read_varied, rewrite};
+use iloc_fronts::may_begin;
 use iloc_plain::read_plain;
 use iloc_subtags::ParseError;
 use memchr::memchr_iter;
@@ -44,6 +46,9 @@ use std::simd::prelude::*;
 
 // The bytes that are asked of the reader at once.
 const BLOCK: usize = 65536;
+
+// The room for a line that is brought into order. Longer ones are parsed.
+const REWRITTEN: usize = 128;
 
 // Room for what one read gives.
 pub(crate) fn new_block(alloc: Global) -> Result<Vec<u8>, AllocError>
@@ -69,6 +74,21 @@ fn line_end(bytes: &[u8]) -> Option<usize>
         let ends = line_ends(u8x32::from_slice(bytes));
         if ends > 0 {
             return Some(ends.trailing_zeros() as usize);
+        }
+    }
+    line_end_later(bytes)
+}
+
+// The same if none stands among the first 32. It is a call of its own, so that shorter lines pay nothing.
+#[inline(never)]
+fn line_end_later(bytes: &[u8]) -> Option<usize>
+    requires { 32 ≤ length bytes.now → Nowhere (Passes (is_byte 10) bytes.now) 0 32 }
+    ensures { IsFirstByte (is_byte 10) bytes.now result }
+{
+    if bytes.len() >= 64 {
+        let ends = line_ends(u8x32::from_slice(&bytes[32..]));
+        if ends > 0 {
+            return Some(32 + ends.trailing_zeros() as usize);
         }
     }
     line_end_beyond(bytes)
@@ -175,7 +195,57 @@ fn reply_to_ordered<A: Answers>(
     match read_ordered(window, line.len(), at) {
         Reading::Ordered(told) => replies.push_ordered(&told),
         Reading::BadBlock => write_refusal(ParseError::InvalidExtension, replies),
+        Reading::Unordered => reply_to_rewritten(answers, window, line, at, replies),
+        Reading::Other if looks_bad(window, line.len()) => {
+            reply_to_faulty(answers, window, line, at, replies)
+        }
         Reading::Other => answers.reply(line, replies),
+    }
+}
+
+// The same of a locale whose block of `u` may have to be brought into order.
+#[inline(never)]
+fn reply_to_rewritten<A: Answers>(
+    answers: &mut A,
+    window: &[u8],
+    line: &[u8],
+    at: usize,
+    replies: &mut ReplyBlock,
+) -> Result<(), AllocError>
+    requires mode { A.mode ≡ Mode.Locale }
+    requires begins { take (length line.now) window.now ≡ line.now }
+    requires room { length line.now + 16 ≤ length window.now }
+    ensures { OnOk result (held replies.new ≡ held replies.old ++ reply A.mode line.now) }
+{
+    let mut room = [0u8; REWRITTEN];
+    let Some(len) = rewrite(window, line.len(), &mut room) else {
+        return reply_to_faulty(answers, window, line, at, replies);
+    };
+    match read_ordered(&room, len, at) {
+        Reading::Ordered(told) => replies.push_ordered(&told),
+        Reading::BadBlock => reply_to_faulty(answers, window, line, at, replies),
+        _ if looks_bad(window, line.len()) => reply_to_faulty(answers, window, line, at, replies),
+        _ => answers.reply(line, replies),
+    }
+}
+
+// The same of a locale that may have a bad block, after good ones in whatever order.
+#[inline(always)]
+fn reply_to_faulty<A: Answers>(
+    answers: &mut A,
+    window: &[u8],
+    line: &[u8],
+    at: usize,
+    replies: &mut ReplyBlock,
+) -> Result<(), AllocError>
+    requires mode { A.mode ≡ Mode.Locale }
+    requires begins { take (length line.now) window.now ≡ line.now }
+    requires room { length line.now + 16 ≤ length window.now }
+    ensures { OnOk result (held replies.new ≡ held replies.old ++ reply A.mode line.now) }
+{
+    match find_bad_block(window, line.len(), at) {
+        Some(bad) => write_refusal(error_of(bad), replies),
+        None => answers.reply(line, replies),
     }
 }
 

@@ -1,7 +1,7 @@
 //! The replies to a block of lines, as they are collected.
 ghost use Rattle.std.specs.Prelude.{◌≡◌, ◌+◌, ◌≤◌, [], ◌∷◌, ◌++◌, length, take, vec_len, OnOk, OnErr};
 
-use iloc_fronts::Ordered;
+use iloc_blocks::Ordered;
 use iloc_plain::{Plain, first_in_lower_case};
 use iloc_writeable::Sink;
 use std::alloc::{AllocError, Global};
@@ -25,7 +25,7 @@ impl ReplyBlock {
     ghost use Rattle.iloc_spec_grammar.specs.Values.{identifier_text};
     ghost use Rattle.iloc_spec_grammar.specs.Syntax.{lower};
     ghost use Rattle.iloc_plain.specs.Plain.{AreWords, value_of};
-    ghost use Rattle.iloc_fronts.specs.Ordered.{IsStored, text_of};
+    ghost use Rattle.iloc_blocks.specs.Ordered.{IsStored, text_of};
 
     /// No bytes. It allocates nothing.
     pub fn new(alloc: Global) -> Self

@@ -4,14 +4,14 @@
 //! `line-plain TEXT` says the normal text. In the other calls the second argument says how many bytes of the first are the
 //! line: `line-window` says the normal text, `line-front` what stands at the front, `line-keyword` what follows the
 //! singleton of the first block, and `line-ordered` of a line in the order of its normal text the plain identifier and
-//! the rest, or that its first block is bad. A line of which nothing is said is `not told`.
+//! the rest, or that its first block is bad. `line-bad` says what is wrong with the first bad block, and `line-rewritten`
+//! the line whose block of `u` is brought into order. A line of which nothing is said is `not told`.
 ghost use Rattle.std.specs.Prelude.{◌+◌, ◌≤◌, length};
 ghost use Rattle.iloc_plain.specs.Plain.{AreWords};
-ghost use Rattle.iloc_fronts.specs.Ordered.{IsStored};
+ghost use Rattle.iloc_blocks.specs.Ordered.{IsStored};
 
-use iloc_fronts::{
-    Block, Front, Keyword, Ordered, Reading, read_front, read_keyword, read_ordered, read_varied,
-};
+use iloc_blocks::{BadBlock, Ordered, Reading, find_bad_block, read_ordered, read_varied, rewrite};
+use iloc_fronts::{Block, Front, Keyword, read_front, read_keyword};
 use iloc_plain::{Plain, read_plain, read_plain_text};
 use test_page::argument::number_of;
 use test_page::{bytes, number, say};
@@ -60,7 +60,7 @@ fn block(block: &Block<'_>, out: &mut String) {
     number(out, block.len);
     say(
         out,
-        if block.is_first {
+        if block.tail == block.len {
             " first"
         } else {
             " after variants"
@@ -152,6 +152,34 @@ fn ordered(window: &[u8], len: usize, out: &mut String) {
     }
 }
 
+// Says what is wrong with the first bad block, if sixteen bytes follow the line at least.
+fn bad(window: &[u8], len: usize, out: &mut String) {
+    if window.len() < 16 || len > window.len() - 16 {
+        return say(out, "not told");
+    }
+    let Front::Block(block) = read_front(window, len) else {
+        return say(out, "not told");
+    };
+    let at = len.wrapping_sub(block.tail.wrapping_add(1));
+    match find_bad_block(window, len, at) {
+        Some(BadBlock::Misfit) => say(out, "misfit"),
+        Some(BadBlock::Duplicated) => say(out, "duplicated"),
+        None => say(out, "not told"),
+    }
+}
+
+// Says the line with its block of `u` in order, if sixteen bytes follow it at least.
+fn rewritten(window: &[u8], len: usize, out: &mut String) {
+    if window.len() < 16 || len > window.len() - 16 {
+        return say(out, "not told");
+    }
+    let mut room = [0u8; 128];
+    match rewrite(window, len, &mut room) {
+        Some(len) => bytes(out, room.get(..len).unwrap_or(b"")),
+        None => say(out, "not told"),
+    }
+}
+
 /// The answer to a call.
 pub fn answer(what: &str, text: &[u8], len: &[u8], out: &mut String) {
     match what {
@@ -160,6 +188,8 @@ pub fn answer(what: &str, text: &[u8], len: &[u8], out: &mut String) {
         "front" => front(text, number_of(len), out),
         "keyword" => keyword(text, number_of(len), out),
         "ordered" => ordered(text, number_of(len), out),
+        "bad" => bad(text, number_of(len), out),
+        "rewritten" => rewritten(text, number_of(len), out),
         _ => say(out, "no call"),
     }
 }

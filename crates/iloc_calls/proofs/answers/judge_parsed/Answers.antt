@@ -1,6 +1,6 @@
 -- By the mode, the text is judged as its reader answered.
-use Rattle.iloc_lines.specs.declared.Mode.TheVariants.{Langid, Locale, Data}
-use Rattle.iloc_calls.proofs.AnswerLemmas.{identifier_read, locale_read, data_read, judged, text_of_identifier, text_of_locale, text_of_data}
+use Rattle.iloc_lines.specs.declared.Mode.TheVariants.{Langid, Locale}
+use Rattle.iloc_calls.proofs.AnswerLemmas.{identifier_read, locale_read, judged, text_of_identifier, text_of_locale}
 use Rattle.iloc_calls.proofs.answers.judge_parsed.Goals as goal
 
 pub returns-in-Langid : goal.returns-in-Langid
@@ -10,7 +10,3 @@ returns-in-Langid c =
 pub returns-in-Locale : goal.returns-in-Locale
 returns-in-Locale c =
     rw c.in-Locale.is (judged Locale c.args.text.now text_of_locale c.try_from_utf8-in-Locale.result c.outcome-in-Locale.result (locale_read c.args.text.now c.try_from_utf8-in-Locale.result c.try_from_utf8-in-Locale.ensures.reads c.try_from_utf8-in-Locale.ensures.memory) c.outcome-in-Locale.ensures)
-
-pub returns-in-Data : goal.returns-in-Data
-returns-in-Data c =
-    rw c.in-Data.is (judged Data c.args.text.now text_of_data c.try_from_utf8-in-Data.result c.outcome-in-Data.result (data_read c.args.text.now c.try_from_utf8-in-Data.result c.try_from_utf8-in-Data.ensures.reads c.try_from_utf8-in-Data.ensures.memory) c.outcome-in-Data.ensures)

@@ -1,6 +1,6 @@
 -- What is handed out of a text in order is its normal text.
 use Rattle.std.proofs.Common.{subst}
-use Rattle.iloc_fronts.specs.Ordered.{text_of}
+use Rattle.iloc_blocks.specs.Ordered.{text_of}
 use Rattle.iloc_calls.specs.Answers.{IsNormalText}
 use Rattle.iloc_calls.proofs.PlainLemmas.{handed_out}
 use Rattle.iloc_calls.proofs.answers.normalize_other.Goals as goal

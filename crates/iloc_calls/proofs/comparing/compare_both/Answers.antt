@@ -13,4 +13,4 @@ returns-in-Locale c =
 
 pub returns-in-Data : goal.returns-in-Data
 returns-in-Data c =
-    rw c.in-Data.is (ordered Data c.args.text.now c.args.other.now c.args.order.now c.order_read-in-Data.new.order text_of_data c.order_read-in-Data.result c.try_from_utf8-in-Data.result c.try_from_utf8-in-Data-2.result (data_read c.args.text.now c.try_from_utf8-in-Data.result c.try_from_utf8-in-Data.ensures.reads c.try_from_utf8-in-Data.ensures.memory) (data_read c.args.other.now c.try_from_utf8-in-Data-2.result c.try_from_utf8-in-Data-2.ensures.reads c.try_from_utf8-in-Data-2.ensures.memory) c.order_read-in-Data.ensures)
+    rw c.in-Data.is (ordered Data c.args.text.now c.args.other.now c.args.order.now c.order_read-in-Data.new.order text_of_data c.order_read-in-Data.result c.read_data.result c.read_data-in-Data.result (data_read c.args.text.now c.read_data.result c.read_data.ensures.reads c.read_data.ensures.memory) (data_read c.args.other.now c.read_data-in-Data.result c.read_data-in-Data.ensures.reads c.read_data-in-Data.ensures.memory) c.order_read-in-Data.ensures)

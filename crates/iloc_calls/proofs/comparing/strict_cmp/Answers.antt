@@ -13,4 +13,4 @@ returns-in-Locale c =
 
 pub returns-in-Data : goal.returns-in-Data
 returns-in-Data c =
-    rw c.in-Data.is (compared Data c.args.text.now c.args.other.now c.args.order.now c.compare-in-Data.new.order text_of_data c.try_from_utf8-in-Data.result c.compare-in-Data.result (data_read c.args.text.now c.try_from_utf8-in-Data.result c.try_from_utf8-in-Data.ensures.reads c.try_from_utf8-in-Data.ensures.memory) c.compare-in-Data.ensures)
+    rw c.in-Data.is (compared Data c.args.text.now c.args.other.now c.args.order.now c.compare-in-Data.new.order text_of_data c.read_data.result c.compare-in-Data.result (data_read c.args.text.now c.read_data.result c.read_data.ensures.reads c.read_data.ensures.memory) c.compare-in-Data.ensures)

@@ -1,6 +1,7 @@
-use Rattle.std.proofs.Common.{◌≢◌, Bool, cond, [], ◌∷◌, length, take, sym, ap, ◌∙◌, arith}
-use Rattle.std.proofs.lemmas.Bool.{false≢true}
-use Rattle.iloc_spec_grammar.specs.Syntax.{Variant, is_word}
+use Rattle.std.proofs.Common.{◌≡◌, ◌≢◌, ◌≤◌, Bool, cond, [], ◌∷◌, length, take, sym, ap, ◌∙◌, arith}
+use Rattle.std.proofs.lemmas.List.{length-take-le}
+use Rattle.iloc_spec_grammar.specs.Syntax.{Variant, is_word, IsWord}
+use Rattle.iloc_spec_grammar.proofs.WordsLaws.{length-variant}
 use Rattle.iloc_spec_grammar.specs.Reading.{past, starts_block}
 use Rattle.iloc_fronts.proofs.FrontLemmas.{short_variant, after_word, whole_word, passes_none, passes_one, begins_none, room_left}
 use Rattle.iloc_fronts.proofs.front.after_region.Goals as goal
@@ -9,6 +10,11 @@ pub variants-preserved : goal.variants-preserved
 variants-preserved c =
     let more : c.variants.n ≢ c.variants.left = omega arith in
     let parts = after_word c.variants.rest.now c.variants.left c.variants.n c.variants.invariant.room c.variants.invariant.first Variant short_variant (sym c.is_variant.ensures ∙ c.variants-test.true) more in
+    let word : IsWord Variant (take c.variants.n c.variants.rest.now) = sym c.is_variant.ensures ∙ c.variants-test.true in
+    let whole : length (take c.variants.left c.variants.rest.now) ≡ c.variants.left = length-take-le c.variants.left c.variants.rest.now (omega (arith, c.variants.invariant.room)) in
+    let inside : c.variants.n ≤ c.variants.left = omega (arith, c.variants.invariant.first.within, whole) in
+    let long : length (take c.variants.n c.variants.rest.now) ≡ c.variants.n = length-take-le c.variants.n c.variants.rest.now (omega (arith, inside, c.variants.invariant.room)) in
+    let size : (4 ≤ c.variants.n) × (c.variants.n ≤ 8) = (omega (arith, (length-variant _ word).0, long), omega (arith, (length-variant _ word).1, long)) in
     record {
       room = room_left c.variants.rest.now c.variants.left c.variants.n c.variants.invariant.room c.variants.invariant.first more;
       first = c.first_len-n-in-variants.ensures;
@@ -17,7 +23,8 @@ variants-preserved c =
           (sym c.is_variant.ensures ∙ c.variants-test.true) more;
       fewer = omega (arith, c.variants.invariant.fewer, ap length parts);
       moved = λ _. omega (arith, c.variants.invariant.fewer, ap length parts);
-      unmoved = λ h. absurd (false≢true h);
+      least = omega (arith, c.variants.invariant.least, ap length parts, size.0, inside);
+      most = omega (arith, c.variants.invariant.most, ap length parts, size.1, inside);
     }
 
 pub returns-then-n-ne1 : goal.returns-then-n-ne1

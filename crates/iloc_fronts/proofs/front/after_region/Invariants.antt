@@ -1,10 +1,10 @@
-use Rattle.std.proofs.Common.{◌≡◌, ◌+◌, ◌<◌, ◌≤◌, false, length, take, IsTrue}
+use Rattle.std.proofs.Common.{◌≡◌, ◌+◌, ◌*◌, ◌<◌, ◌≤◌, false, length, take}
 use Rattle.iloc_spec_grammar.specs.Syntax.{pieces, Variant, is_word}
 use Rattle.iloc_spec_grammar.specs.Reading.{past}
 use Rattle.iloc_fronts.specs.Front.{IsFirst}
 use Rattle.iloc_fronts.proofs.front.after_region.Given as goal
 
--- what is left after the variants so far, whether there were none, and that it is less if there were some
+-- what is left after the variants so far, each of which takes five to nine bytes with its hyphen
 abbrev pub invariant-variants : goal.invariant-variants
 invariant-variants l = record {
   room : l.left + 16 ≤ length l.rest;
@@ -12,7 +12,8 @@ invariant-variants l = record {
   same : past (is_word Variant) (pieces (take l.fn.len l.fn.window)) ≡ past (is_word Variant) (pieces (take l.left l.rest));
   fewer : length (pieces (take l.left l.rest)) ≤ length (pieces (take l.fn.len l.fn.window));
   moved : l.is_first ≡ false → length (pieces (take l.left l.rest)) < length (pieces (take l.fn.len l.fn.window));
-  unmoved : IsTrue l.is_first → pieces (take l.fn.len l.fn.window) ≡ pieces (take l.left l.rest);
+  least : l.left + 5 * length (pieces (take l.fn.len l.fn.window)) ≤ l.fn.len + 5 * length (pieces (take l.left l.rest));
+  most : l.fn.len + 9 * length (pieces (take l.left l.rest)) ≤ l.left + 9 * length (pieces (take l.fn.len l.fn.window));
 }
 
 abbrev pub decreases-variants : goal.decreases-variants

@@ -23,7 +23,7 @@ values-preserved c =
       fewer = omega (arith, less, c.values.invariant.fewer);
       word = λ h. elim (or_cases c.values.has_word _ h) [
         | inl before ↦ omega (arith, less, c.values.invariant.word before)
-        | inr now ↦ omega (arith, ap (λ qs. length (normal_values qs)) parts, values_word p ps (c.is_true-in-values.ensures (not-true _ now)), c.values.invariant.fewer)
+        | inr now ↦ omega (arith, ap (λ qs. length (normal_values qs)) parts, values_word p ps (sym c.is_true-in-values.ensures ∙ not-true _ now), c.values.invariant.fewer)
       ];
       unmoved = λ h. absurd (false≢true h);
     }
@@ -43,7 +43,7 @@ returns-then-not-is_true c =
     let one : pieces (take c.values.left c.values.rest.now) ≡ take c.values.n c.values.rest.now ∷ [] =
     whole_word c.values.rest.now c.values.left c.values.n c.values.invariant.room c.values.invariant.first Attribute short_attribute fits c.if-n-left.true in (
       c.values.invariant.same ∙ ap (list_all (is_word Attribute)) one ∙ ap (λ (b : Bool). b && true) fits,
-      omega (arith, c.values.invariant.word c.if-has_word.true, ap (λ qs. length (normal_values qs)) one, values_word (take c.values.n c.values.rest.now) [] (c.is_true.ensures c.if-not-is_true.true)),
+      omega (arith, c.values.invariant.word c.if-has_word.true, ap (λ qs. length (normal_values qs)) one, values_word (take c.values.n c.values.rest.now) [] (sym c.is_true.ensures ∙ c.if-not-is_true.true)),
     )
 
 pub returns : goal.returns

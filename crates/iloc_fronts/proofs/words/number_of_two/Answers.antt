@@ -1,6 +1,6 @@
 use Rattle.std.proofs.Common.{◌+◌, ◌*◌, ◌≡◌, bit_or, arith, sym, ◌∙◌, take, get_or}
 use Rattle.iloc_spec_grammar.specs.Syntax.{lower}
-use Rattle.iloc_fronts.proofs.UnicodeLemmas.{first_two, low_bit}
+use Rattle.iloc_fronts.proofs.WordBytes.{first_two, low_bit}
 use Rattle.iloc_fronts.proofs.words.number_of_two.Goals as goal
 
 pub returns : goal.returns

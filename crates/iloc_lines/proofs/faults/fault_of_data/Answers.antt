@@ -2,7 +2,7 @@ use Rattle.std.proofs.Common.{◌≡◌, ◌==◌, ℕ, true, false, get_or, sym
 use Rattle.std.proofs.lemmas.Bool.Decides.{nat_tests}
 use Rattle.iloc_spec_parts.specs.SmallComputing.{is_u}
 use Rattle.iloc_lines.proofs.FrontAnswers.{other_block_refused}
-use Rattle.iloc_lines.proofs.KeywordAnswers.{attribute_refused, misfit_refused, many_refused, single_refused, unlettered_refused}
+use Rattle.iloc_lines.proofs.KeywordAnswers.{attribute_refused, misfit_refused, many_refused, single_refused, after_variants, unlettered_refused}
 use Rattle.iloc_lines.proofs.faults.fault_of_data.Goals as goal
 
 pub returns-then-to_ascii_lowercase-ne117 : goal.returns-then-to_ascii_lowercase-ne117
@@ -30,8 +30,9 @@ pub returns-in-Single : goal.returns-in-Single
 returns-in-Single c =
     let u : is_u (get_or c.args.block.window.now 0 0) ≡ true =
     ap (λ (b : ℕ). b == 117) (sym c.to_ascii_lowercase.ensures.value) ∙ grind (arith, nat_tests) in
-    single_refused c.args.line.now c.args.block c.requires
-    (sym c.is_ascii_alphanumeric.ensures.value ∙ c.if-not-is_ascii_alphanumeric.false) u c.if-block-2.true c.in-Single.ensures
+    after_variants c.args.line.now c.args.block c.requires c.fault_after-in-Single.result c.fault_after-in-Single.ensures.few c.fault_after-in-Single.ensures.many
+    (λ few. single_refused c.args.line.now c.args.block c.requires
+    (sym c.is_ascii_alphanumeric.ensures.value ∙ c.if-not-is_ascii_alphanumeric.false) u few c.in-Single.ensures)
 
 pub returns-in-Many : goal.returns-in-Many
 returns-in-Many c =
@@ -40,5 +41,7 @@ returns-in-Many c =
     many_refused c.args.line.now c.args.block c.requires
     (sym c.is_ascii_alphanumeric.ensures.value ∙ c.if-not-is_ascii_alphanumeric.false) u c.in-Many.ensures
 
-pub returns-then-block : goal.returns-then-block
-returns-then-block c = unlettered_refused c.args.line.now c.args.block c.requires (sym c.is_ascii_alphanumeric.ensures.value ∙ c.if-not-is_ascii_alphanumeric.true) c.if-block.true
+pub returns-then-not-is_ascii_alphanumeric : goal.returns-then-not-is_ascii_alphanumeric
+returns-then-not-is_ascii_alphanumeric c =
+    after_variants c.args.line.now c.args.block c.requires c.fault_after.result c.fault_after.ensures.few c.fault_after.ensures.many
+    (unlettered_refused c.args.line.now c.args.block c.requires (sym c.is_ascii_alphanumeric.ensures.value ∙ c.if-not-is_ascii_alphanumeric.true))

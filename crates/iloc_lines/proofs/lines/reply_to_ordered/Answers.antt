@@ -2,7 +2,7 @@ use Rattle.std.proofs.Common.{◌≡◌, ℕ, List, [], ◌∷◌, ◌++◌, OnO
 use Rattle.iloc_spec_grammar.specs.Syntax.{languages}
 use Rattle.iloc_spec_grammar.specs.Meaning.{HasFault, InvalidExtension}
 use Rattle.iloc_subtags.specs.declared.parse_error.ParseError.TheVariants as errors
-use Rattle.iloc_fronts.specs.Ordered.{IsOrdered}
+use Rattle.iloc_blocks.specs.Ordered.{IsOrdered}
 use Rattle.iloc_lines.specs.Output.{IsRefused}
 use Rattle.iloc_lines.specs.Told.{IsAnswered}
 use Rattle.iloc_lines.specs.ReplyBlock.{held}

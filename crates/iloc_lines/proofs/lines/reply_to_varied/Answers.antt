@@ -1,5 +1,5 @@
 use Rattle.std.proofs.Common.{◌≡◌, ℕ, List, [], ◌∷◌, ◌++◌, OnOk, ap, subst, sym}
-use Rattle.iloc_fronts.specs.Ordered.{IsVaried}
+use Rattle.iloc_blocks.specs.Ordered.{IsVaried}
 use Rattle.iloc_lines.specs.Told.{IsAnswered}
 use Rattle.iloc_lines.specs.ReplyBlock.{held}
 use Rattle.iloc_lines.proofs.PlainAnswers.{varied_answer}

@@ -1,0 +1,169 @@
+-- Attributes and keywords in order.
+use Rattle.std.proofs.Common.{inl, inr, codes, take, ◌≡◌, ◌≢◌, ◌⊎◌, ℕ, zero, suc, ◌+◌, ◌*◌, ◌<◌, ◌≤◌, true, false, List, [], ◌∷◌, ◌++◌, length, map, get_or, bit_or, ◌==◌, refl, sym, ap, ◌∙◌, subst, arith, true≢false}
+use Rattle.std.specs.List.{AllByRecursion}
+use Rattle.std.specs.FinMap.Entries.{below_all}
+use Rattle.std.specs.Ordering.{is_lt, nat_cmp, ordering_then}
+use Rattle.std.specs.declared.cmp.Ordering.{Ordering}
+use Rattle.std.specs.declared.cmp.Ordering.TheVariants.{Less, Equal}
+use Rattle.std.specs.Cmp.{Equal-is}
+use Rattle.std.specs.Char.{is_ascii_alphanumeric, to_ascii_lowercase}
+use Rattle.std.proofs.lemmas.Bool.{and_parts, and_from, eqb-true, cases_Bool, cases_lt}
+use Rattle.std.proofs.lemmas.Bool.Decides.{nat_tests}
+use Rattle.std.proofs.lemmas.List.{length-map, length-take-le, get_or-take}
+use Rattle.iloc_spec_grammar.specs.Syntax.{UnicodeKey, Attribute, is_word, IsWord, letters_or_digits, lower, word_cmp, is_same, is_true, Fields, first_piece}
+use Rattle.iloc_spec_grammar.specs.Reading.{starts_block}
+use Rattle.iloc_spec_grammar.proofs.MapLaws.{same_words, same_itself}
+use Rattle.iloc_spec_grammar.proofs.ValuesLaws.{all_weaker}
+use Rattle.iloc_spec_grammar.proofs.WordsLaws.{length-attribute, length-unicode_key, letter_is, word_letters_or_digits}
+use Rattle.iloc_plain.proofs.LaneLemmas.{of_byte}
+use Rattle.iloc_blocks.specs.Blocks.{IsValue, AreKeywords, AreKeywordsAt, Follows, IsNext, IsUnicodePart, IsUnicodeFrom, HaveStranger, lower_fields}
+use Rattle.iloc_fronts.specs.Words.{two_number}
+use Rattle.iloc_fronts.specs.Left.{pieces_of, piece_of, IsLeft}
+use Rattle.iloc_fronts.specs.declared.left.Left.{Left}
+use Rattle.iloc_fronts.proofs.FrontLemmas.{short_attribute, short_key}
+use Rattle.iloc_fronts.proofs.LeftLemmas.{no_block_left, first_word}
+use Rattle.iloc_blocks.proofs.BlockLemmas.{front_long, long_key}
+use Rattle.iloc_spec_grammar.proofs.Readings.{IsLong, long_attribute}
+use Rattle.iloc_fronts.proofs.WordBytes.{BeginsTwo, attribute_begins, key_begins}
+
+-- ---- keys in order
+
+alphanumeric_is_small : (c : ℕ) → is_ascii_alphanumeric c ≡ true → to_ascii_lowercase c < 256
+alphanumeric_is_small c h = grind (arith, nat_tests)
+
+number_below : (a b c d : ℕ) (o : Ordering) → b < 256 → d < 256 → 256 * a + b < 256 * c + d → is_lt (ordering_then (nat_cmp a c) (ordering_then (nat_cmp b d) o)) ≡ true
+number_below a b c d o small less l = elim (cases_lt a c) [
+  | inl below ↦
+      let first : nat_cmp a c ≡ Less = grind (arith, nat_tests) in
+      ap (λ r. is_lt (ordering_then r (ordering_then (nat_cmp b d) o))) first
+  | inr above ↦
+      let same : a ≡ c = omega arith in
+      let first : nat_cmp a c ≡ Equal = grind (arith, nat_tests) in
+      let second : nat_cmp b d ≡ Less = grind (arith, nat_tests) in
+      (λ j. is_lt (ordering_then (first j) (ordering_then (second j) o)))
+]
+
+-- a word that begins with a lesser number is below
+pub word_below : (p q : List ℕ) → BeginsTwo p → BeginsTwo q → two_number p < two_number q → is_lt (word_cmp (lower p) (lower q)) ≡ true
+unfolding lower
+word_below (a ∷ b ∷ p) (c ∷ d ∷ q) h k l =
+    number_below (to_ascii_lowercase a) (to_ascii_lowercase b) (to_ascii_lowercase c) (to_ascii_lowercase d) _ (alphanumeric_is_small b h.second) (alphanumeric_is_small d k.second) l
+word_below [] q h k l = absurd (omega (arith, h.long))
+word_below (a ∷ []) q h k l = absurd (omega (arith, h.long))
+word_below (a ∷ b ∷ p) [] h k l = absurd (omega (arith, k.long))
+word_below (a ∷ b ∷ p) (c ∷ []) h k l = absurd (omega (arith, k.long))
+
+abbrev IsKeyword : List ℕ × List (List ℕ) → Type 0
+IsKeyword f = IsWord UnicodeKey f.0 × AllByRecursion IsValue f.1
+
+keys_below : (p : List ℕ) → IsWord UnicodeKey p → (fs : Fields) → AllByRecursion IsKeyword fs → AllByRecursion (λ f. two_number p < two_number f.0) fs → below_all word_cmp (lower p) (lower_fields fs) ≡ true
+keys_below p h [] each above = refl
+keys_below p h (f ∷ fs) each above = and_from _ _ (word_below p f.0 (key_begins p h) (key_begins f.0 each.0.0) above.0) (keys_below p h fs each.1 above.1)
+
+-- ---- what may follow a key
+
+pub keywords_none : AreKeywords []
+keywords_none = record { fields = []; spelled = refl; each = tt; ascending = refl }
+
+pub follows_none : (k : ℕ) → Follows k []
+unfolding keywords_none
+follows_none k = record { values = []; rest = []; cut = refl; each = tt; keywords = keywords_none; above = tt }
+
+pub key_keywords : (p : List ℕ) (ps : List (List ℕ)) → IsWord UnicodeKey p → Follows (two_number p) ps → (k : AreKeywords (p ∷ ps)) × (0 < length k.fields)
+key_keywords p ps h f = (
+  record {
+    fields = (p, f.values) ∷ f.keywords.fields;
+    spelled = ap (λ l. p ∷ l) f.cut ∙ ap (λ l. p ∷ (f.values ++ l)) f.keywords.spelled;
+    each = ((h, f.each), f.keywords.each);
+    ascending = and_from _ _ (keys_below p h f.keywords.fields f.keywords.each f.above) f.keywords.ascending;
+  },
+  omega arith,
+)
+
+pub follows_next : (last : ℕ) (p : List ℕ) (k : ℕ) → IsNext last p k → (ps : List (List ℕ)) → Follows k ps → Follows last (p ∷ ps)
+unfolding key_keywords
+follows_next last p k (IsNext.value h) ps f = record {
+  values = p ∷ f.values;
+  rest = f.rest;
+  cut = ap (λ l. p ∷ l) f.cut;
+  each = (h, f.each);
+  keywords = f.keywords;
+  above = f.above;
+}
+follows_next last p k (IsNext.key h less) ps f = record {
+  values = [];
+  rest = p ∷ ps;
+  cut = refl;
+  each = tt;
+  keywords = (key_keywords p ps h f).0;
+  above = (less, all_weaker (λ g. two_number p < two_number g.0) (λ g. last < two_number g.0) (λ g l. omega arith) f.keywords.fields f.above);
+}
+
+pub next_is_short : (last : ℕ) (p : List ℕ) (k : ℕ) → IsNext last p k → length p ≤ 8
+next_is_short last p k (IsNext.value h) = (length-attribute p h.0).1
+next_is_short last p k (IsNext.key h less) = omega (arith, length-unicode_key p h)
+
+-- ---- what may follow the singleton
+
+pub unicode_of_keywords : (n : ℕ) → n ≢ 1 → (ps : List (List ℕ)) → AreKeywordsAt n ps → IsUnicodePart ps
+unicode_of_keywords n more ps k = record { attributes = []; rest = ps; cut = refl; each = tt; ascending = refl; keywords = k.0; some = by k.1 }
+  where
+    by : (n ≡ 1) ⊎ (0 < length k.0.fields) → 0 < 0 + length k.0.fields
+    by (inl one) = absurd (more one)
+    by (inr some) = omega arith
+
+-- one attribute, and keywords
+pub unicode_last : (p : List ℕ) (ps : List (List ℕ)) → IsWord Attribute p → AreKeywords ps → IsUnicodeFrom (two_number p) (p ∷ ps)
+unicode_last p ps h k = (record { attributes = p ∷ []; rest = ps; cut = refl; each = (h, tt); ascending = refl; keywords = k; some = omega arith }, (omega arith, tt))
+
+attributes_below : (p : List ℕ) → IsWord Attribute p → (n : ℕ) → two_number p < n → (ws : List (List ℕ)) → AllByRecursion (IsWord Attribute) ws → AllByRecursion (λ a. n ≤ two_number a) ws
+    → below_all word_cmp (lower p) (map (λ w. (w, tt {0})) (map lower ws)) ≡ true
+attributes_below p h n l [] each above = refl
+attributes_below p h n l (a ∷ ws) each above =
+    and_from _ _ (word_below p a (attribute_begins p h) (attribute_begins a each.0) (omega (arith, above.0))) (attributes_below p h n l ws each.1 above.1)
+
+-- one attribute more
+pub unicode_more : (p : List ℕ) (n : ℕ) → IsWord Attribute p → two_number p < n → (ps : List (List ℕ)) → IsUnicodeFrom n ps → IsUnicodeFrom (two_number p) (p ∷ ps)
+unicode_more p n h l ps (u, above) = (
+  record {
+    attributes = p ∷ u.attributes;
+    rest = u.rest;
+    cut = ap (λ l. p ∷ l) u.cut;
+    each = (h, u.each);
+    ascending = and_from _ _ (attributes_below p h n l u.attributes u.each above) u.ascending;
+    keywords = u.keywords;
+    some = omega arith;
+  },
+  (omega arith, all_weaker (λ a. n ≤ two_number a) (λ a. two_number p ≤ two_number a) (λ a m. omega arith) u.attributes above),
+)
+
+-- ---- pieces that are neither attributes nor keys
+
+abbrev IsUnicodeWord : List ℕ → Type 0
+IsUnicodeWord p = IsWord Attribute p ⊎ IsWord UnicodeKey p
+
+long_word : (p : List ℕ) → IsUnicodeWord p → IsLong p
+long_word p (inl h) = long_attribute p h
+long_word p (inr h) = long_key p h
+
+-- one that comes after such a word
+pub stranger_after : (p : List ℕ) (ps : List (List ℕ)) → IsUnicodeWord p → HaveStranger ps → HaveStranger (p ∷ ps)
+stranger_after p ps h n all = n (subst (AllByRecursion IsUnicodeWord) (front_long p ps (long_word p h)) all).1
+
+pub next_word : (last : ℕ) (p : List ℕ) (k : ℕ) → IsNext last p k → IsUnicodeWord p
+next_word last p k (IsNext.value h) = inl h.0
+next_word last p k (IsNext.key h less) = inr h
+
+-- one that comes first
+pub stranger_first : (ps : List (List ℕ)) → starts_block ps ≡ false → is_word Attribute (first_piece ps) ≡ false → is_word UnicodeKey (first_piece ps) ≡ false → HaveStranger ps
+stranger_first [] e a k all = true≢false e
+stranger_first (p ∷ ps) e a k all = first (subst (AllByRecursion IsUnicodeWord) (front_long p ps e) all).0
+  where
+    first : IsUnicodeWord p → ⊥
+    first (inl h) = true≢false (sym h ∙ a)
+    first (inr h) = true≢false (sym h ∙ k)
+
+-- ... of what is left of a line
+pub stranger_left : (l : Left) → IsLeft l → l.n ≢ 1 → is_word Attribute (piece_of l) ≡ false → is_word UnicodeKey (piece_of l) ≡ false → HaveStranger (pieces_of l)
+stranger_left l h more a k =
+    stranger_first (pieces_of l) (no_block_left l h more) (first_word l h Attribute short_attribute ∙ a) (first_word l h UnicodeKey short_key ∙ k)

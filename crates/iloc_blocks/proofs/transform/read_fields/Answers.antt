@@ -1,0 +1,90 @@
+use Rattle.std.proofs.Common.{◌≡◌, ◌<◌, ◌≤◌, ℕ, false, [], ◌∷◌, ◌++◌, subst, sym, ap, ◌∙◌, arith}
+use Rattle.iloc_spec_grammar.specs.Syntax.{Attribute, TransformKey, is_word, IsWord, first_piece}
+use Rattle.iloc_spec_grammar.specs.Reading.{starts_block}
+use Rattle.iloc_spec_grammar.proofs.WordsLaws.{length-transform_key}
+use Rattle.iloc_fronts.specs.Left.{piece_of, pieces_of}
+use Rattle.iloc_fronts.specs.Words.{two_number}
+use Rattle.iloc_blocks.specs.Transform.{AreFields, NoFields}
+use Rattle.iloc_blocks.specs.declared.body.Body.TheVariants as body
+use Rattle.iloc_fronts.proofs.FrontLemmas.{short_attribute, short_field_key}
+use Rattle.iloc_fronts.proofs.LeftLemmas.{length-piece, last_left, word_left, first_word, no_block_left}
+use Rattle.iloc_blocks.proofs.BodyLemmas.{body_past}
+use Rattle.iloc_fronts.proofs.WordBytes.{window_begins, number_in}
+use Rattle.iloc_blocks.proofs.TransformLemmas.{field_key_begins, field_last, field_more, no_attribute, no_value, no_field, later_fields, value_words}
+use Rattle.iloc_blocks.proofs.transform.read_fields.Goals as goal
+
+pub number_of_two-key-requires-clause-first : goal.number_of_two-key-requires-clause-first
+number_of_two-key-requires-clause-first c =
+    let l = c.fields.at in
+    (window_begins l.window.now l.n (omega (arith, c.fields.invariant.left.room, c.fields.invariant.left.first.few)) (field_key_begins _ (sym c.is_field_key.ensures ∙ c.fields-test.true))).0
+
+pub number_of_two-key-requires-clause-second : goal.number_of_two-key-requires-clause-second
+number_of_two-key-requires-clause-second c =
+    let l = c.fields.at in
+    (window_begins l.window.now l.n (omega (arith, c.fields.invariant.left.room, c.fields.invariant.left.first.few)) (field_key_begins _ (sym c.is_field_key.ensures ∙ c.fields-test.true))).1
+
+pub returns-then-at : goal.returns-then-at
+returns-then-at c =
+    let l = c.fields.at in
+    let key : IsWord TransformKey (piece_of l) = sym c.is_field_key.ensures ∙ c.fields-test.true in
+    c.fields.invariant.goes body.Bad (subst NoFields (sym (last_left l c.fields.invariant.left (word_left l c.fields.invariant.left TransformKey short_field_key key) c.if-at.true)) (no_value (piece_of l) [] key no_attribute))
+
+pub returns-then-not-is_attribute : goal.returns-then-not-is_attribute
+returns-then-not-is_attribute c =
+    let l = c.fields.at in
+    let value = c.after_piece-value.result in
+    let key : IsWord TransformKey (piece_of l) = sym c.is_field_key.ensures ∙ c.fields-test.true in
+    c.fields.invariant.goes body.Bad (subst NoFields (sym (c.after_piece-value.ensures.pieces (word_left l c.fields.invariant.left TransformKey short_field_key key)))
+    (no_value (piece_of l) (pieces_of value) key (first_word value c.after_piece-value.ensures.left Attribute short_attribute ∙ sym c.is_attribute.ensures ∙ c.if-not-is_attribute.true)))
+
+pub returns-in-End : goal.returns-in-End
+returns-in-End c =
+    let l = c.fields.at in
+    let key : IsWord TransformKey (piece_of l) = sym c.is_field_key.ensures ∙ c.fields-test.true in
+    let two : 2 ≤ l.n = omega (arith, length-transform_key (piece_of l) key, length-piece l c.fields.invariant.left) in
+    let less : c.fields.last < two_number (piece_of l) = omega (arith, c.number_of_two-key.ensures, number_in l.window.now l.n two, c.if-key-last.false) in
+    c.fields.invariant.goes body.End (subst (AreFields c.fields.last) (sym (c.after_piece-value.ensures.pieces (word_left l c.fields.invariant.left TransformKey short_field_key key)))
+    (field_last c.fields.last (piece_of l) (pieces_of c.after_piece-value.result) key less c.in-End.ensures))
+
+pub returns-then-next-eq1 : goal.returns-then-next-eq1
+returns-then-next-eq1 c =
+    let l = c.fields.at in
+    let key : IsWord TransformKey (piece_of l) = sym c.is_field_key.ensures ∙ c.fields-test.true in
+    let two : 2 ≤ l.n = omega (arith, length-transform_key (piece_of l) key, length-piece l c.fields.invariant.left) in
+    let less : c.fields.last < two_number (piece_of l) = omega (arith, c.number_of_two-key.ensures, number_in l.window.now l.n two, c.if-key-last.false) in
+    let next = c.in-Next.ensures in
+    c.fields.invariant.goes (body.Next c.in-Next.next) (
+      next.0,
+      omega (arith, next.1, c.after_piece-value.ensures.less),
+      record {
+        body = piece_of l ∷ next.2.body;
+        cut = c.after_piece-value.ensures.pieces (word_left l c.fields.invariant.left TransformKey short_field_key key) ∙ ap (λ ps. piece_of l ∷ ps) next.2.cut;
+        is = field_last c.fields.last (piece_of l) next.2.body key less next.2.is;
+      },
+    )
+
+pub fields-preserved : goal.fields-preserved
+fields-preserved c =
+    let l = c.fields.at in
+    let at = c.in-Next.next in
+    let key : IsWord TransformKey (piece_of l) = sym c.is_field_key.ensures ∙ c.fields-test.true in
+    let two : 2 ≤ l.n = omega (arith, length-transform_key (piece_of l) key, length-piece l c.fields.invariant.left) in
+    let same : c.number_of_two-key.result ≡ two_number (piece_of l) = c.number_of_two-key.ensures ∙ number_in l.window.now l.n two in
+    let less : c.fields.last < two_number (piece_of l) = omega (arith, same, c.if-key-last.false) in
+    let next = c.in-Next.ensures in
+    let parts : pieces_of l ≡ (piece_of l ∷ next.2.body) ++ pieces_of at = c.after_piece-value.ensures.pieces (word_left l c.fields.invariant.left TransformKey short_field_key key) ∙ ap (λ ps. piece_of l ∷ ps) next.2.cut in
+    let long : starts_block (pieces_of at) ≡ false = no_block_left at next.0 c.if-next-eq1.false in
+    let none : is_word Attribute (first_piece (pieces_of at)) ≡ false = first_word at next.0 Attribute short_attribute ∙ next.3 in
+    record {
+      left = next.0;
+      shorter = omega (arith, next.1, c.after_piece-value.ensures.less, c.fields.invariant.shorter);
+      goes = λ w h. c.fields.invariant.goes w
+          (body_past (AreFields c.number_of_two-key.result) (AreFields c.fields.last) NoFields NoFields at.len l.len (piece_of l ∷ next.2.body) (pieces_of at) (pieces_of l) parts (omega (arith, next.1, c.after_piece-value.ensures.less))
+          (λ qs f. field_more c.fields.last (piece_of l) next.2.body key less next.2.is qs (subst (λ (m : ℕ). AreFields m qs) same f))
+          (λ n. subst NoFields (sym parts) (later_fields (piece_of l) next.2.body (pieces_of at) key (value_words next.2.body next.2.is.each) long none n)) w h);
+    }
+
+pub returns : goal.returns
+returns c =
+    let l = c.fields.at in
+    c.fields.invariant.goes body.Bad (no_field (pieces_of l) (first_word l c.fields.invariant.left TransformKey short_field_key ∙ sym c.is_field_key.ensures ∙ c.fields-test.false))

@@ -1,0 +1,34 @@
+use Rattle.std.proofs.Common.{◌<◌, [], refl, subst, sym, arith}
+use Rattle.iloc_fronts.specs.Left.{piece_of, pieces_of}
+use Rattle.iloc_blocks.specs.Blocks.{Follows, HaveStranger}
+use Rattle.iloc_blocks.specs.declared.body.Body.TheVariants as body
+use Rattle.iloc_fronts.proofs.LeftLemmas.{short_left, last_left}
+use Rattle.iloc_blocks.proofs.BodyLemmas.{body_after}
+use Rattle.iloc_blocks.proofs.UnicodeLemmas.{follows_next, follows_none, next_is_short, next_word, stranger_after, stranger_left}
+use Rattle.iloc_blocks.proofs.unicode.read_values.Goals as goal
+
+pub pieces-preserved : goal.pieces-preserved
+pieces-preserved c =
+    let l = c.pieces.at in
+    let next = c.after_piece-at.result in
+    let few : l.n < 16 = short_left l c.pieces.invariant.left 8 (omega arith) (next_is_short c.pieces.last (piece_of l) c.in-Piece.next c.in-Piece.ensures) in
+    record {
+      left = c.after_piece-at.ensures.left;
+      shorter = omega (arith, c.after_piece-at.ensures.less, c.pieces.invariant.shorter);
+      goes = λ w h. c.pieces.invariant.goes w
+          (body_after (Follows c.in-Piece.next) (Follows c.pieces.last) HaveStranger HaveStranger next.len l.len (piece_of l) (pieces_of next) (pieces_of l) (c.after_piece-at.ensures.pieces few) (omega (arith, c.after_piece-at.ensures.less))
+          (follows_next c.pieces.last (piece_of l) c.in-Piece.next c.in-Piece.ensures) (stranger_after (piece_of l) (pieces_of next) (next_word c.pieces.last (piece_of l) c.in-Piece.next c.in-Piece.ensures)) w h);
+    }
+
+pub returns-then-at : goal.returns-then-at
+returns-then-at c =
+    let l = c.pieces.at in
+    let few : l.n < 16 = short_left l c.pieces.invariant.left 8 (omega arith) (next_is_short c.pieces.last (piece_of l) c.in-Piece.next c.in-Piece.ensures) in
+    c.pieces.invariant.goes body.End (subst (Follows c.pieces.last) (sym (last_left l c.pieces.invariant.left few c.if-at.true))
+    (follows_next c.pieces.last (piece_of l) c.in-Piece.next c.in-Piece.ensures [] (follows_none c.in-Piece.next)))
+
+pub returns-in-Misfit : goal.returns-in-Misfit
+returns-in-Misfit c = c.pieces.invariant.goes (body.Next c.pieces.at) (c.pieces.invariant.left, omega arith, record { body = []; cut = refl; is = follows_none c.pieces.last })
+
+pub returns-in-Misfit-2 : goal.returns-in-Misfit-2
+returns-in-Misfit-2 c = c.pieces.invariant.goes body.Bad (stranger_left c.pieces.at c.pieces.invariant.left c.if-at-eq1.false c.in-Misfit-2.ensures.0 c.in-Misfit-2.ensures.1)

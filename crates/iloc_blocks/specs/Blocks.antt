@@ -1,0 +1,197 @@
+-- What is told of the blocks of a locale, from the first one on.
+use Rattle.std.specs.Prelude.{◌≡◌, ◌≢◌, ◌⊎◌, ⊤, ℕ, ◌+◌, ◌*◌, ◌<◌, ◌≤◌, ◌&&◌, Bool, true, false, List, [], ◌++◌, length, map, get_or, Option, Some, None}
+use Rattle.std.specs.Int.{is_in_range}
+use Rattle.std.specs.List.{AllByRecursion, list_all}
+use Rattle.std.specs.FinMap.{is_sorted}
+use Rattle.std.specs.Char.{is_ascii_alphanumeric}
+use Rattle.iloc_spec_grammar.specs.Syntax.{Text, Fields, code_t, code_u, code_x, front, blocks, PrivateSubtag, Subtag, UnicodeKey, Attribute, is_word, IsWord, IsOther, is_true, letters_or_digits, lower, word_cmp, fields_pieces, languages, first_piece}
+use Rattle.iloc_spec_grammar.specs.Meaning.{Extensions, InvalidExtension, FirstBadBlock, no_unicode, no_transform}
+use Rattle.iloc_spec_grammar.specs.Values.{IsAscending, IsExtensionsValue, AreWellFormed, extensions_spelling}
+use Rattle.iloc_fronts.specs.Left.{pieces_of, IsLeft}
+use Rattle.iloc_fronts.specs.declared.left.Left.{Left}
+use Rattle.iloc_blocks.specs.declared.blocks.Rest.{Rest}
+use Rattle.iloc_blocks.specs.declared.blocks.Rest.TheVariants as rest
+use Rattle.iloc_blocks.specs.declared.body.Body.{Body}
+use Rattle.iloc_blocks.specs.declared.body.Body.TheVariants as body
+use Rattle.iloc_blocks.specs.declared.unicode.Next.{Next}
+use Rattle.iloc_blocks.specs.declared.unicode.Next.TheVariants as next
+use Rattle.iloc_fronts.specs.Words.{two_number}
+
+-- Blocks with ascending singletons above a byte; those of `x` come last.
+
+-- no extension but the private one has a singleton up to this one
+pub record AreAbove (last : ℕ) (e : Extensions) : Type 0 where
+  pub others : AllByRecursion (λ o. last < o.0) e.others
+  pub transform : code_t ≤ last → e.transform ≡ no_transform
+  pub unicode : code_u ≤ last → e.unicode ≡ no_unicode
+
+-- the pieces are, in lower case, such extensions as they are printed
+pub record ArePrinted (last : ℕ) (ps : List Text) : Type 0 where
+  pub extensions : Extensions
+  pub value : IsExtensionsValue languages extensions
+  pub well_formed : AreWellFormed extensions
+  pub above : AreAbove last extensions
+  pub printed : map lower ps ≡ extensions_spelling extensions
+
+-- these singletons are none of `x`, and not above the last one
+abbrev pub AreSeen : ℕ → Text → Type 0
+AreSeen last seen = AllByRecursion (λ s. (s ≤ last) × (s ≢ code_x)) seen
+
+-- blocks come at once, and after such singletons the first bad one has this fault
+pub record BeginBadly (last : ℕ) (ps : List Text) : Type 0 where
+  pub none_before : front ps ≡ []
+  pub fault : (seen : Text) → AreSeen last seen
+      → FirstBadBlock languages seen (blocks ps) InvalidExtension
+
+-- what is told of the pieces from a singleton on, after blocks with singletons up to the last one
+abbrev pub AreBlocksOf : ℕ → List Text → Rest → Type 0
+AreBlocksOf last ps rest.Printed = ArePrinted last ps
+AreBlocksOf last ps rest.BadBlock = BeginBadly last ps
+AreBlocksOf last ps rest.Unordered = ⊤
+AreBlocksOf last ps rest.Other = ⊤
+
+-- the singleton c is no letter or digit, or it may come after the last one
+abbrev pub IsNewAfter : ℕ → ℕ → Type 0
+IsNewAfter last c = (last < c) ⊎ ((c ≡ code_x) ⊎ (is_ascii_alphanumeric c ≡ false))
+
+-- the same of the first block, whose singleton is c in lower case
+abbrev pub IsBlockAs : ℕ → ℕ → ℕ → List Text → Body → Type 0
+IsBlockAs last c len ps body.End = ArePrinted last ps
+IsBlockAs last c len ps (body.Next l) = IsLeft l × (l.len ≤ len)
+    × ((r : Rest) → AreBlocksOf c (pieces_of l) r → AreBlocksOf last ps r)
+IsBlockAs last c len ps body.Bad = BeginBadly last ps
+IsBlockAs last c len ps body.Unordered = ⊤
+IsBlockAs last c len ps body.Other = ⊤
+
+-- The pieces after a singleton, up to the next block.
+
+-- the pieces begin with some that are such a body, and others are left
+pub record IsCutAs (P : List Text → Type 0) (ps left : List Text) : Type 0 where
+  pub body : List Text
+  pub cut : ps ≡ body ++ left
+  pub is : P body
+
+-- the pieces of so many bytes are such a body, up to what is left of them; or this is wrong with them
+abbrev pub IsBodyAs : (List Text → Type 0) → (List Text → Type 0) → ℕ → List Text → Body → Type 0
+IsBodyAs P B len ps body.End = P ps
+IsBodyAs P B len ps (body.Next l) = IsLeft l × (l.len ≤ len) × IsCutAs P ps (pieces_of l)
+IsBodyAs P B len ps body.Bad = B ps
+IsBodyAs P B len ps body.Unordered = ⊤
+IsBodyAs P B len ps body.Other = ⊤
+
+-- Words.
+
+-- at least so many and at most eight letters or digits
+abbrev pub is_long : ℕ → Text → Bool
+is_long least p = is_in_range least 8 (length p) && letters_or_digits p
+
+-- what is left after words
+abbrev pub left_of : Option Left → List Text
+left_of None = []
+left_of (Some l) = pieces_of l
+
+-- what is left begins with a piece that is no such word
+abbrev pub BeginsWithout : ℕ → ℕ → Option Left → Type 0
+BeginsWithout least len None = ⊤
+BeginsWithout least len (Some l) = IsLeft l × (l.len ≤ len)
+    × (is_long least (first_piece (pieces_of l)) ≡ false)
+
+-- the pieces are such words up to what is left
+pub record ArePast (least len : ℕ) (ps : List Text) (o : Option Left) : Type 0 where
+  pub words : List Text
+  pub each : AllByRecursion (λ p. is_long least p ≡ true) words
+  pub cut : ps ≡ words ++ left_of o
+  pub ends : BeginsWithout least len o
+
+-- The private part.
+
+-- the pieces are words after `x`
+abbrev pub ArePrivate : List Text → Type 0
+ArePrivate ps = list_all (is_word PrivateSubtag) ps ≡ true
+
+-- they are, or one of them is none
+abbrev pub IsPrivateAs : List Text → Body → Type 0
+IsPrivateAs ps body.End = ArePrivate ps
+IsPrivateAs ps body.Bad = list_all (is_word PrivateSubtag) ps ≡ false
+IsPrivateAs ps (body.Next l) = ¬ ⊤
+IsPrivateAs ps body.Unordered = ¬ ⊤
+IsPrivateAs ps body.Other = ¬ ⊤
+
+-- Other extensions.
+
+-- words of another extension, one at least
+pub record AreSubtags (ps : List Text) : Type 0 where
+  pub each : AllByRecursion (IsWord Subtag) ps
+  pub some : 0 < length ps
+
+-- the piece may stand in another extension, and means nothing
+pub record IsStray (p : Text) : Type 0 where
+  pub lengths : is_in_range 2 8 (length p) ≡ true
+  pub no_word : is_word Subtag p ≡ false
+
+-- up to the next block there is no other extension
+abbrev pub IsNoOther : List Text → Type 0
+IsNoOther ps = ¬ (IsOther (front ps))
+
+-- Blocks of `u`.
+
+-- fields in lower case
+abbrev pub lower_fields : Fields → Fields
+lower_fields fs = map (λ f. (lower f.0, map lower f.1)) fs
+
+-- a piece of a value other than `true`
+abbrev pub IsValue : Text → Type 0
+IsValue p = IsWord Attribute p × (is_true (lower p) ≡ false)
+
+-- they are keywords with ascending keys, without `true`
+pub record AreKeywords (ps : List Text) : Type 0 where
+  pub fields : Fields
+  pub spelled : ps ≡ fields_pieces fields
+  pub each : AllByRecursion (λ f. IsWord UnicodeKey f.0 × AllByRecursion IsValue f.1) fields
+  pub ascending : is_sorted word_cmp (lower_fields fields) ≡ true
+
+-- they are such keywords, one at least unless a piece of so many bytes begins a block
+abbrev pub AreKeywordsAt : ℕ → List Text → Type 0
+AreKeywordsAt n ps = (k : AreKeywords ps) × ((n ≡ 1) ⊎ (0 < length k.fields))
+
+-- they are pieces of the value of a key with this number, and keywords above it
+pub record Follows (key : ℕ) (ps : List Text) : Type 0 where
+  pub values : List Text
+  pub rest : List Text
+  pub cut : ps ≡ values ++ rest
+  pub each : AllByRecursion IsValue values
+  pub keywords : AreKeywords rest
+  pub above : AllByRecursion (λ f. key < two_number f.0) keywords.fields
+
+-- after the key with the number last, the piece is one of its value, or a greater key
+pub data IsNext (last : ℕ) (p : Text) : ℕ → Type 0 where
+  value : IsValue p → IsNext last p last
+  key : IsWord UnicodeKey p → last < two_number p → IsNext last p (two_number p)
+
+-- the piece after the key with the number last, or after one of its value
+abbrev pub IsNextAs : ℕ → Text → Next → Type 0
+IsNextAs last p (next.Piece k) = IsNext last p k
+IsNextAs last p next.Unordered = ⊤
+IsNextAs last p next.Misfit = (is_word Attribute p ≡ false) × (is_word UnicodeKey p ≡ false)
+
+-- they are ascending attributes and keywords, one of both at least
+pub record IsUnicodePart (ps : List Text) : Type 0 where
+  pub attributes : List Text
+  pub rest : List Text
+  pub cut : ps ≡ attributes ++ rest
+  pub each : AllByRecursion (IsWord Attribute) attributes
+  pub ascending : IsAscending (map lower attributes)
+  pub keywords : AreKeywords rest
+  pub some : 0 < length attributes + length keywords.fields
+
+-- the same, and so are the attributes from this number on
+abbrev pub IsUnicodeFrom : ℕ → List Text → Type 0
+IsUnicodeFrom n ps = (u : IsUnicodePart ps) × AllByRecursion (λ a. n ≤ two_number a) u.attributes
+
+-- up to the next block a piece is neither an attribute nor a key
+abbrev pub HaveStranger : List Text → Type 0
+HaveStranger ps = ¬ (AllByRecursion (λ p. IsWord Attribute p ⊎ IsWord UnicodeKey p) (front ps))
+
+-- what breaks the rule of `u`: nothing follows, or such a piece
+abbrev pub IsNoUnicode : List Text → Type 0
+IsNoUnicode ps = (front ps ≡ []) ⊎ HaveStranger ps

@@ -1,0 +1,5 @@
+pub mod Blocks
+pub mod Transform
+pub mod Ordered
+pub mod Rewriting
+pub mod Faults

@@ -1,0 +1,86 @@
+-- What is told of a block of `t`.
+use Rattle.std.specs.Prelude.{◌≡◌, ⊤, ℕ, ◌<◌, ◌≤◌, ◌⊎◌, ◌∷◌, ◌++◌, true, false, List, [], length, Option, Some, None, IfSome}
+use Rattle.std.specs.List.{AllByRecursion}
+use Rattle.std.specs.FinMap.{is_sorted}
+use Rattle.iloc_spec_grammar.specs.Syntax.{Text, Fields, Identifier, Transform, front, first_piece, Language, Variant, Attribute, TransformKey, is_word, IsWord, HasWords, IsField, IsTransform, fields_pieces, optional_pieces, transform_pieces, languages, word_cmp}
+use Rattle.iloc_spec_grammar.specs.Meaning.{RepeatsVariant}
+use Rattle.iloc_spec_grammar.specs.Reading.{before_key, fields_from, after_region}
+use Rattle.iloc_fronts.specs.Left.{pieces_of, piece_of, IsLeft}
+use Rattle.iloc_blocks.specs.Blocks.{IsValue, lower_fields, IsCutAs}
+use Rattle.iloc_fronts.specs.Words.{two_number}
+use Rattle.iloc_fronts.specs.declared.left.Left.{Left}
+use Rattle.iloc_blocks.specs.declared.body.Body.{Body}
+use Rattle.iloc_blocks.specs.declared.body.Body.TheVariants as body
+
+-- what is left is a part of so many bytes
+abbrev pub IsRest : ℕ → Option Left → Type 0
+IsRest len None = ⊤
+IsRest len (Some l) = IsLeft l × (l.len ≤ len)
+
+-- they are pieces of a value other than `true`, one at least
+pub record AreValues (ps : List Text) : Type 0 where
+  pub each : AllByRecursion IsValue ps
+  pub some : 0 < length ps
+
+-- they are such pieces, up to the end or to one that is none
+abbrev pub AreValuesAs : ℕ → List Text → Body → Type 0
+AreValuesAs len ps body.End = AreValues ps
+AreValuesAs len ps (body.Next l) = IsLeft l × (l.len ≤ len)
+    × IsCutAs AreValues ps (pieces_of l) × (is_word Attribute (piece_of l) ≡ false)
+AreValuesAs len ps body.Bad = ¬ ⊤
+AreValuesAs len ps body.Unordered = ⊤
+AreValuesAs len ps body.Other = ⊤
+
+-- they are fields with ascending keys above a number, without `true`, one at least
+pub record AreFields (last : ℕ) (ps : List Text) : Type 0 where
+  pub fields : Fields
+  pub spelled : ps ≡ fields_pieces fields
+  pub each : AllByRecursion (λ f. IsWord TransformKey f.0 × AreValues f.1) fields
+  pub ascending : is_sorted word_cmp (lower_fields fields) ≡ true
+  pub above : AllByRecursion (λ f. last < two_number f.0) fields
+  pub some : 0 < length fields
+
+-- they begin with a key, and each key has words for its value
+pub record AreRuled (ps : List Text) : Type 0 where
+  pub begins : before_key (is_word TransformKey) ps ≡ []
+  pub each : AllByRecursion IsField (fields_from (is_word TransformKey) ps)
+  pub some : 0 < length ps
+
+-- up to the next block they are no fields
+abbrev pub NoFields : List Text → Type 0
+NoFields ps = ¬ (AreRuled (front ps))
+
+-- a language, and what the walk finds after it: at most one variant, and what is left
+pub record IsHead (ps rest : List Text) : Type 0 where
+  pub first : Text
+  pub others : List Text
+  pub cut : ps ≡ first ∷ others
+  pub language : IsWord (Language languages) first
+  pub variants : List Text
+  pub found : after_region ps ≡ variants ++ rest
+  pub each : AllByRecursion (IsWord Variant) variants
+  pub few : length variants ≤ 1
+  pub ends : (rest ≡ []) ⊎ (is_word Variant (first_piece rest) ≡ false)
+
+-- an identifier with at most one variant comes first, and then what is left; or no language does
+abbrev pub IsHeadAs : ℕ → List Text → Body → Type 0
+IsHeadAs len ps body.End = IsHead ps []
+IsHeadAs len ps (body.Next l) = IsLeft l × (l.len ≤ len) × IsHead ps (pieces_of l)
+IsHeadAs len ps body.Bad = is_word (Language languages) (first_piece ps) ≡ false
+IsHeadAs len ps body.Unordered = ⊤
+IsHeadAs len ps body.Other = ⊤
+
+-- they are perhaps an identifier with at most one variant, and such fields, not both absent
+pub record IsTransformPart (ps : List Text) : Type 0 where
+  pub id : Option Identifier
+  pub fields : Fields
+  pub spelled : ps ≡ optional_pieces id ++ fields_pieces fields
+  pub words : IfSome id (λ i. HasWords languages i × (length i.variants ≤ 1))
+  pub each : AllByRecursion (λ f. IsWord TransformKey f.0 × AreValues f.1) fields
+  pub ascending : is_sorted word_cmp (lower_fields fields) ≡ true
+  pub some : id ≡ None → 0 < length fields
+
+-- what breaks the rule of `t`, but for a repeated variant
+abbrev pub IsNoTransform : List Text → Type 0
+IsNoTransform ps = ((m : Transform) → IsTransform languages m → ¬ (front ps ≡ transform_pieces m))
+    × ¬ (RepeatsVariant languages (front ps))

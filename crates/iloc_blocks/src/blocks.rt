@@ -1,0 +1,121 @@
+//! Tells the blocks of a locale, from the first one on.
+ghost use Rattle.std.specs.Prelude.{◌≡◌, ◌∷◌, ℕ, [], IsTrue};
+ghost use Rattle.std.specs.Char.{to_ascii_lowercase};
+ghost use Rattle.iloc_fronts.specs.Left.{IsLeft, pieces_of};
+ghost use Rattle.iloc_blocks.specs.Blocks.{AreBlocksOf, IsBlockAs, IsNewAfter};
+
+use crate::body::Body;
+use crate::other::{read_other, read_private};
+use crate::transform::read_transform;
+use crate::unicode::read_unicode;
+use iloc_fronts::left::{Left, after_piece};
+
+// What some pieces are.
+#[derive(Clone, Copy)]
+pub(crate) enum Rest {
+    // What a value prints, but for the case.
+    Printed,
+    // Good blocks, then one that is bad, and perhaps others after it.
+    BadBlock,
+    // A block of `u` comes that is not in order.
+    Unordered,
+    // Nothing that is told.
+    Other,
+}
+
+// What the blocks are that begin here. It goes on as long as each is in order, and their singletons
+// ascend.
+#[inline(always)]
+pub(crate) fn read_blocks(left: Left<'_>) -> Rest
+    requires { IsLeft left }
+    ensures { AreBlocksOf 0 (pieces_of left.entry) result }
+{
+    if left.n != 1 {
+        return Rest::Other;
+    }
+    if left.n == left.len {
+        return Rest::BadBlock;
+    }
+    let singleton = left.window[0].to_ascii_lowercase();
+    match read_block(singleton, after_piece(left)) {
+        Body::End => Rest::Printed,
+        Body::Next(next) => after_first(singleton, next),
+        Body::Bad => Rest::BadBlock,
+        Body::Unordered => Rest::Unordered,
+        Body::Other => Rest::Other,
+    }
+}
+
+// What the blocks are after the first. Most often only one of `x` follows.
+#[inline(always)]
+fn after_first(first: u8, left: Left<'_>) -> Rest
+    requires { IsLeft left }
+    ensures { AreBlocksOf first (pieces_of left.entry) result }
+{
+    if left.n != 1 || left.n == left.len || left.window[0].to_ascii_lowercase() != b'x' {
+        return read_later(first, left);
+    }
+    match read_private(after_piece(left)) {
+        Body::End => Rest::Printed,
+        Body::Bad => Rest::BadBlock,
+        _ => Rest::Other,
+    }
+}
+
+// What the blocks are after those with singletons up to the last one.
+#[inline(never)]
+fn read_later(first: u8, left: Left<'_>) -> Rest
+    requires { IsLeft left }
+    ensures { AreBlocksOf first (pieces_of left.entry) result }
+{
+    let mut last = first;
+    let mut at = left;
+    'following: while at.n == 1 {
+        let singleton = at.window[0].to_ascii_lowercase();
+        if !may_follow(singleton, last) {
+            return Rest::Other;
+        }
+        if at.n == at.len {
+            return Rest::BadBlock;
+        }
+        match read_block(singleton, after_piece(at)) {
+            Body::End => return Rest::Printed,
+            Body::Next(next) => {
+                last = singleton;
+                at = next;
+            }
+            Body::Bad => return Rest::BadBlock,
+            Body::Unordered => return Rest::Unordered,
+            Body::Other => return Rest::Other,
+        }
+    }
+    Rest::Other
+}
+
+// Whether a block with this singleton may come after one with the last. A byte that is no letter or
+// digit makes a bad block anywhere.
+#[inline(always)]
+fn may_follow(singleton: u8, last: u8) -> bool
+    ensures { IsTrue result → IsNewAfter last singleton }
+{
+    if singleton > last {
+        return true;
+    }
+    singleton == b'x' || !singleton.is_ascii_alphanumeric()
+}
+
+// What follows the singleton, up to the next block.
+#[inline(always)]
+fn read_block(singleton: u8, left: Left<'_>) -> Body<'_>
+    requires { IsLeft left }
+    ensures { (last c : ℕ) → to_ascii_lowercase c ≡ singleton → IsNewAfter last singleton
+        → IsBlockAs last singleton left.entry.len ((c ∷ []) ∷ pieces_of left.entry) result }
+{
+    match singleton {
+        b'u' => read_unicode(left),
+        b'x' => read_private(left),
+        b't' => read_transform(left),
+        _ if !singleton.is_ascii_alphanumeric() => Body::Bad,
+        _ => read_other(left),
+    }
+}

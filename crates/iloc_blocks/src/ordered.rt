@@ -1,0 +1,113 @@
+//! Tells lines whose normal text is their own but for the case of letters, and lines with a bad block.
+ghost use Rattle.std.specs.Prelude.{◌≡◌, ◌+◌, ◌≤◌, IfSome, length, take};
+ghost use Rattle.iloc_fronts.specs.Left.{IsLeft, pieces_of};
+ghost use Rattle.iloc_blocks.specs.Ordered.{IsBefore, IsReading, IsTailOf, IsVaried};
+
+use crate::blocks::{Rest, read_blocks};
+use iloc_fronts::front::first_len;
+use iloc_fronts::left::{Left, after_piece, left_in};
+use iloc_fronts::words::is_variant;
+use iloc_plain::{Plain, read_plain};
+
+/// A plain identifier, and what follows it in the line.
+#[derive(Drop)]
+pub struct Ordered<'a> {
+    /// The language, and perhaps a script and a region.
+    pub plain: Plain,
+    /// The bytes from the hyphen after them on, and what follows the line.
+    pub rest: &'a [u8],
+    /// How many of them the line has.
+    pub len: usize,
+}
+
+/// What a line is as a locale.
+#[derive(Drop)]
+pub enum Reading<'a> {
+    /// In the order of its normal text.
+    Ordered(Ordered<'a>),
+    /// An identifier, perhaps blocks in order, and then a bad one.
+    BadBlock,
+    /// Not in order where its block of `u` begins: `rewrite` may bring it into order. Nothing is claimed of it.
+    Unordered,
+    /// Nothing that is told.
+    Other,
+}
+
+/// What the first `len` bytes are as a locale, if a plain identifier of `at` bytes comes first and perhaps
+/// one variant. Blocks are in order if their singletons ascend, and one of `x` comes last: of `u` with
+/// attributes and keys that ascend and no `true`; of `t` with at most one variant, keys that ascend and no
+/// `true`; and of words after another singleton. A bad block is told after such blocks.
+#[inline(always)]
+pub fn read_ordered(window: &[u8], len: usize, at: usize) -> Reading<'_>
+    requires { len + 16 ≤ length window.now }
+    ensures { IsReading (take len window.now) result }
+{
+    if at >= len {
+        return Reading::Other;
+    }
+    let rest = read_tail(left_in(&window[at + 1..], len - at - 1));
+    match rest {
+        Rest::Unordered => return Reading::Unordered,
+        Rest::Other => return Reading::Other,
+        _ => (),
+    }
+    let Some(line) = cut_at(window, len, at) else {
+        return Reading::Other;
+    };
+    match rest {
+        Rest::Printed => Reading::Ordered(line),
+        Rest::BadBlock => Reading::BadBlock,
+        Rest::Unordered => Reading::Unordered,
+        Rest::Other => Reading::Other,
+    }
+}
+
+/// The identifier that they are, if a plain one of `at` bytes comes first and one variant follows it.
+#[inline(always)]
+pub fn read_varied(window: &[u8], len: usize, at: usize) -> Option<Ordered<'_>>
+    requires { len + 16 ≤ length window.now }
+    ensures { IfSome result (IsVaried (take len window.now)) }
+{
+    if at >= len {
+        return None;
+    }
+    let rest = &window[at + 1..];
+    let left = len - at - 1;
+    let n = first_len(rest, left);
+    if n != left || !is_variant(rest, n) {
+        return None;
+    }
+    cut_at(window, len, at)
+}
+
+// The plain identifier of `at` bytes and what follows it, if that begins with a hyphen.
+#[inline(always)]
+pub(crate) fn cut_at(window: &[u8], len: usize, at: usize) -> Option<Ordered<'_>>
+    requires { len + 16 ≤ length window.now }
+    ensures { IfSome result (IsBefore window.now len at) }
+{
+    if at > 16 || at >= len || window[at] != b'-' {
+        return None;
+    }
+    let plain = read_plain(window, at)?;
+    Some(Ordered {
+        plain,
+        rest: &window[at..],
+        len: len - at,
+    })
+}
+
+// What follows the hyphen after it: at most one variant, and blocks.
+#[inline(always)]
+fn read_tail(left: Left<'_>) -> Rest
+    requires { IsLeft left }
+    ensures { IsTailOf (pieces_of left.entry) result }
+{
+    if !is_variant(left.window, left.n) {
+        return read_blocks(left);
+    }
+    if left.n == left.len {
+        return Rest::Printed;
+    }
+    read_blocks(after_piece(left))
+}

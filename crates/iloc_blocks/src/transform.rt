@@ -1,0 +1,153 @@
+//! Tells what follows the singleton `t`.
+ghost use Rattle.std.specs.Prelude.{◌≡◌, IsTrue, ◌<◌, cond};
+ghost use Rattle.iloc_spec_grammar.specs.Syntax.{Attribute, IsWord, Language, languages};
+ghost use Rattle.iloc_spec_grammar.specs.Reading.{after_region, rest_of};
+ghost use Rattle.iloc_fronts.specs.Left.{IsLeft, piece_of, pieces_of};
+ghost use Rattle.iloc_blocks.specs.Blocks.{IsBodyAs, left_of};
+ghost use Rattle.iloc_blocks.specs.Transform.{
+  AreFields,
+  AreValuesAs,
+  IsHeadAs,
+  IsNoTransform,
+  IsRest,
+  IsTransformPart,
+  NoFields,
+};
+
+use crate::body::Body;
+use iloc_fronts::left::{Left, after_piece};
+use iloc_fronts::words::{
+    is_attribute, is_field_key, is_language, is_region, is_script, is_true, is_variant,
+    number_of_two,
+};
+
+// What the pieces are up to the next block.
+#[inline(always)]
+pub(crate) fn read_transform(left: Left<'_>) -> Body<'_>
+    requires { IsLeft left }
+    ensures { IsBodyAs IsTransformPart IsNoTransform left.entry.len (pieces_of left.entry) result }
+{
+    match past_identifier(left) {
+        Body::Bad => read_fields(left),
+        Body::Next(next) => {
+            if next.n == 1 {
+                return Body::Next(next);
+            }
+            read_fields(next)
+        }
+        told => told,
+    }
+}
+
+// Passes over an identifier with at most one variant; it is bad if no language comes first.
+#[inline(always)]
+pub(crate) fn past_identifier(left: Left<'_>) -> Body<'_>
+    requires { IsLeft left }
+    ensures { IsHeadAs left.entry.len (pieces_of left.entry) result }
+{
+    if !is_language(left.window, left.n) {
+        return Body::Bad;
+    }
+    let Some(at) = after_identifier(left) else {
+        return Body::End;
+    };
+    let Some(next) = past_one(is_variant(at.window, at.n), at) else {
+        return Body::End;
+    };
+    if is_variant(next.window, next.n) {
+        return Body::Other;
+    }
+    Body::Next(next)
+}
+
+// What follows a language, perhaps a script and a region; `None` if nothing does.
+#[inline(always)]
+fn after_identifier(left: Left<'_>) -> Option<Left<'_>>
+    requires left { IsLeft left }
+    requires language { IsWord (Language languages) (piece_of left) }
+    ensures rest { IsRest left.entry.len result }
+    ensures pieces { left_of result ≡ after_region (pieces_of left.entry) }
+{
+    let Some(at) = past_one(true, left) else {
+        return None;
+    };
+    let Some(next) = past_one(is_script(at.window, at.n), at) else {
+        return None;
+    };
+    past_one(is_region(next.window, next.n), next)
+}
+
+// Passes over the first piece, if it fits. What is left; `None` if nothing is.
+#[inline(always)]
+fn past_one(fits: bool, left: Left<'_>) -> Option<Left<'_>>
+    requires left { IsLeft left }
+    requires short { IsTrue fits → left.n < 16 }
+    ensures rest { IsRest left.entry.len result }
+    ensures pieces { left_of result
+        ≡ cond fits (rest_of (pieces_of left.entry)) (pieces_of left.entry) }
+{
+    if !fits {
+        return Some(left);
+    }
+    if left.n == left.len {
+        return None;
+    }
+    Some(after_piece(left))
+}
+
+// What the fields are, one at least.
+#[inline(never)]
+fn read_fields(left: Left<'_>) -> Body<'_>
+    requires { IsLeft left }
+    ensures { IsBodyAs (AreFields 0) NoFields left.entry.len (pieces_of left.entry) result }
+{
+    let mut last = 0;
+    let mut at = left;
+    'fields: while is_field_key(at.window, at.n) {
+        let key = number_of_two(at.window);
+        if key <= last {
+            return Body::Other;
+        }
+        if at.n == at.len {
+            return Body::Bad;
+        }
+        let value = after_piece(at);
+        if !is_attribute(value.window, value.n) {
+            return Body::Bad;
+        }
+        match past_values(value) {
+            Body::Next(next) => {
+                if next.n == 1 {
+                    return Body::Next(next);
+                }
+                last = key;
+                at = next;
+            }
+            Body::End => return Body::End,
+            _ => return Body::Other,
+        }
+    }
+    Body::Bad
+}
+
+// What the pieces of a value are, of which the first is a word.
+#[inline(always)]
+fn past_values(left: Left<'_>) -> Body<'_>
+    requires left { IsLeft left }
+    requires first { IsWord Attribute (piece_of left) }
+    ensures { AreValuesAs left.entry.len (pieces_of left.entry) result }
+{
+    let mut at = left;
+    'values: loop {
+        if is_true(at.window, at.n) {
+            return Body::Other;
+        }
+        if at.n == at.len {
+            return Body::End;
+        }
+        at = after_piece(at);
+        if !is_attribute(at.window, at.n) {
+            return Body::Next(at);
+        }
+    }
+}

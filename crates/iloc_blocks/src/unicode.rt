@@ -1,0 +1,126 @@
+//! Tells what follows the singleton `u`.
+ghost use Rattle.std.specs.Prelude.{◌≡◌, ◌≤◌, false, length, take};
+ghost use Rattle.iloc_spec_grammar.specs.Syntax.{Attribute, IsWord, is_word};
+ghost use Rattle.iloc_fronts.specs.Left.{IsLeft, piece_of, pieces_of};
+ghost use Rattle.iloc_blocks.specs.declared.unicode.Next.TheVariants as nexts;
+ghost use Rattle.iloc_blocks.specs.Blocks.{AreKeywordsAt, Follows, HaveStranger, IsBodyAs, IsNextAs, IsNoUnicode, IsUnicodePart};
+
+use crate::body::Body;
+use iloc_fronts::left::{Left, after_piece};
+use iloc_fronts::words::{is_attribute, is_key, is_true, number_of_two};
+
+// What a piece is after a key, or a piece of its value.
+#[derive(Clone, Copy)]
+enum Next {
+    // One of the value, or a greater key. The number is that of the key whose value may go on.
+    Piece(usize),
+    // `true`, or a key that is not greater.
+    Unordered,
+    // Neither.
+    Misfit,
+}
+
+// What the pieces are up to the next block.
+#[inline(always)]
+pub(crate) fn read_unicode(left: Left<'_>) -> Body<'_>
+    requires { IsLeft left }
+    ensures { IsBodyAs IsUnicodePart IsNoUnicode left.entry.len (pieces_of left.entry) result }
+{
+    if left.n == 1 {
+        return Body::Bad;
+    }
+    if !is_attribute(left.window, left.n) {
+        return read_keywords(left);
+    }
+    read_attributes(left)
+}
+
+// What follows if an attribute comes first. Attributes ascend by their first two bytes.
+#[inline(always)]
+fn read_attributes(left: Left<'_>) -> Body<'_>
+    requires left { IsLeft left }
+    requires first { IsWord Attribute (piece_of left) }
+    ensures { IsBodyAs IsUnicodePart HaveStranger left.entry.len (pieces_of left.entry) result }
+{
+    let mut at = left;
+    'attributes: loop {
+        if at.n == at.len {
+            return Body::End;
+        }
+        let next = after_piece(at);
+        if !is_attribute(next.window, next.n) {
+            return read_keywords(next);
+        }
+        if number_of_two(next.window) <= number_of_two(at.window) {
+            return Body::Unordered;
+        }
+        at = next;
+    }
+}
+
+// What follows the attributes.
+#[inline(always)]
+fn read_keywords(left: Left<'_>) -> Body<'_>
+    requires left { IsLeft left }
+    requires none { is_word Attribute (piece_of left) ≡ false }
+    ensures { IsBodyAs (AreKeywordsAt left.entry.n) HaveStranger left.entry.len
+        (pieces_of left.entry) result }
+{
+    if !is_key(left.window, left.n) {
+        if left.n != 1 {
+            return Body::Bad;
+        }
+        return Body::Next(left);
+    }
+    if left.n == left.len {
+        return Body::End;
+    }
+    read_values(number_of_two(left.window), after_piece(left))
+}
+
+// What follows a key: pieces of its value, and keywords with greater keys.
+#[inline(always)]
+fn read_values(key: usize, left: Left<'_>) -> Body<'_>
+    requires { IsLeft left }
+    ensures { IsBodyAs (Follows key) HaveStranger left.entry.len (pieces_of left.entry) result }
+{
+    let mut last = key;
+    let mut at = left;
+    'pieces: loop {
+        match next_key(last, at.window, at.n) {
+            Next::Piece(next) => {
+                if at.n == at.len {
+                    return Body::End;
+                }
+                last = next;
+                at = after_piece(at);
+            }
+            Next::Unordered => return Body::Unordered,
+            Next::Misfit if at.n == 1 => return Body::Next(at),
+            Next::Misfit => return Body::Bad,
+        }
+    }
+}
+
+// What the next piece after a key is.
+#[inline(always)]
+fn next_key(last: usize, window: &[u8], n: usize) -> Next
+    requires wide { 16 ≤ length window.now }
+    requires few { n ≤ 16 }
+    ensures { IsNextAs last (take n window.now) result }
+{
+    if is_attribute(window, n) {
+        if is_true(window, n) {
+            return Next::Unordered;
+        }
+        return Next::Piece(last);
+    }
+    if !is_key(window, n) {
+        return Next::Misfit;
+    }
+    let key = number_of_two(window);
+    if key <= last {
+        return Next::Unordered;
+    }
+    Next::Piece(key)
+}

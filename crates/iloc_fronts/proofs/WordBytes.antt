@@ -1,0 +1,129 @@
+-- The bytes of words: the first two and the first four, and those of `true`.
+use Rattle.std.proofs.Common.{inl, inr, codes, take, ◌≡◌, ℕ, zero, suc, ◌+◌, ◌*◌, ◌<◌, ◌≤◌, true, false, List, [], ◌∷◌, length, map, get_or, bit_or, ◌==◌, refl, sym, ap, ◌∙◌, subst, arith, Bool, cond}
+use Rattle.std.specs.declared.cmp.Ordering.TheVariants.{Equal}
+use Rattle.std.specs.Cmp.{Equal-is}
+use Rattle.std.specs.Char.{is_ascii_alphanumeric, to_ascii_lowercase}
+use Rattle.std.proofs.lemmas.Bool.{and_parts, eqb-true, cases_Bool}
+use Rattle.std.proofs.lemmas.Bool.Decides.{nat_tests}
+use Rattle.std.proofs.lemmas.List.{length-map, length-take-le, get_or-take}
+use Rattle.iloc_spec_grammar.specs.Syntax.{UnicodeKey, Attribute, is_word, IsWord, letters_or_digits, lower, is_same, is_true}
+use Rattle.iloc_spec_grammar.proofs.MapLaws.{same_words, same_itself}
+use Rattle.iloc_spec_grammar.proofs.WordsLaws.{length-attribute, letter_is, word_letters_or_digits}
+use Rattle.iloc_plain.proofs.LaneLemmas.{of_byte}
+use Rattle.iloc_fronts.specs.Words.{two_number}
+use Rattle.iloc_fronts.specs.Words.{four_number}
+
+-- ---- the bytes of pieces
+
+-- the first two bytes in lower case
+pub first_two : (w : List ℕ) → 2 ≤ length w → (get_or (lower (take 2 w)) 0 0 ≡ to_ascii_lowercase (get_or w 0 0)) × (get_or (lower (take 2 w)) 1 0 ≡ to_ascii_lowercase (get_or w 1 0))
+unfolding lower
+first_two [] l = absurd (omega arith)
+first_two (a ∷ []) l = absurd (omega arith)
+first_two (a ∷ b ∷ w) l = (refl, refl)
+
+-- bit 5 makes a letter lower case, and digits have it
+pub low_bit : (c : ℕ) → is_ascii_alphanumeric c ≡ true → bit_or c 32 ≡ to_ascii_lowercase c
+low_bit c h = eqb-true _ _ (of_byte is_ascii_alphanumeric (λ b. bit_or b 32 == to_ascii_lowercase b) refl c (small c h) h)
+  where
+    small : (c : ℕ) → is_ascii_alphanumeric c ≡ true → c < 256
+    small c h = grind (arith, nat_tests)
+
+-- two letters or digits come first
+pub record BeginsTwo (p : List ℕ) : Type 0 where
+  pub long : 2 ≤ length p
+  pub first : is_ascii_alphanumeric (get_or p 0 0) ≡ true
+  pub second : is_ascii_alphanumeric (get_or p 1 0) ≡ true
+
+pub key_begins : (p : List ℕ) → IsWord UnicodeKey p → BeginsTwo p
+unfolding is_word
+key_begins [] h = absurd (cc)
+key_begins (a ∷ []) h = absurd (cc)
+key_begins (a ∷ b ∷ p) h = let parts = and_parts _ _ (and_parts _ _ h).1 in record { long = omega arith; first = parts.0; second = letter_is b parts.1 }
+
+pub attribute_begins : (p : List ℕ) → IsWord Attribute p → BeginsTwo p
+attribute_begins p h = by p (length-attribute p h).0 (word_letters_or_digits Attribute p h)
+  where
+    by : (p : List ℕ) → 3 ≤ length p → letters_or_digits p ≡ true → BeginsTwo p
+    by [] l h = absurd (omega arith)
+    by (a ∷ []) l h = absurd (omega arith)
+    by (a ∷ b ∷ p) l h = let parts = and_parts _ _ h in record { long = omega arith; first = parts.0; second = (and_parts _ _ parts.1).0 }
+
+-- ... of a window that begins with it
+pub window_begins : (w : List ℕ) (n : ℕ) → n ≤ length w → BeginsTwo (take n w) → (is_ascii_alphanumeric (get_or w 0 0) ≡ true) × (is_ascii_alphanumeric (get_or w 1 0) ≡ true)
+window_begins w n inside h =
+    let long : 2 ≤ n = omega (arith, h.long, length-take-le n w inside) in
+    (ap is_ascii_alphanumeric (sym (get_or-take n w 0 0 (omega arith))) ∙ h.first, ap is_ascii_alphanumeric (sym (get_or-take n w 1 0 (omega arith))) ∙ h.second)
+
+-- the number is that of the first two bytes
+pub number_in : (w : List ℕ) (n : ℕ) → 2 ≤ n → two_number (take 2 w) ≡ two_number (take n w)
+unfolding lower
+number_in w zero l = absurd (omega arith)
+number_in w (suc zero) l = absurd (omega arith)
+number_in [] (suc (suc n)) l = refl
+number_in (a ∷ []) (suc (suc n)) l = refl
+number_in (a ∷ b ∷ w) (suc (suc n)) l = refl
+
+pub true_word : (w : List ℕ) → is_true w ≡ true → codes "true" ≡ w
+unfolding is_true
+true_word w h = same_words (codes "true") w ((Equal-is _).0 h)
+
+pub no_true : (p : List ℕ) → (is_true (lower p) ≡ true → ⊥) → is_true (lower p) ≡ false
+no_true p h = elim (cases_Bool (is_true (lower p))) [
+  | inl is ↦ absurd (h is)
+  | inr other ↦ other
+]
+
+abbrev pub TrueBytes : List ℕ → ℕ → Type 0
+TrueBytes w n = (n ≡ 4) × (to_ascii_lowercase (get_or w 0 0) ≡ 116) × (to_ascii_lowercase (get_or w 1 0) ≡ 114) × (to_ascii_lowercase (get_or w 2 0) ≡ 117) × (to_ascii_lowercase (get_or w 3 0) ≡ 101)
+
+-- the bytes of `true`
+pub true_bytes : (w : List ℕ) (n : ℕ) → n ≤ length w → is_true (lower (take n w)) ≡ true → TrueBytes w n
+unfolding lower
+true_bytes w n inside h = by n (sym (length-take-le n w inside) ∙ sym (length-map (take n w) to_ascii_lowercase) ∙ ap length (sym word)) inside word
+  where
+    word : codes "true" ≡ map to_ascii_lowercase (take n w)
+    word = true_word _ h
+
+    bytes : (v : List ℕ) → 4 ≤ length v → codes "true" ≡ map to_ascii_lowercase (take 4 v) → TrueBytes v 4
+    bytes [] l e = absurd (omega arith)
+    bytes (a ∷ []) l e = absurd (omega arith)
+    bytes (a ∷ b ∷ []) l e = absurd (omega arith)
+    bytes (a ∷ b ∷ c ∷ []) l e = absurd (omega arith)
+    bytes (a ∷ b ∷ c ∷ d ∷ v) l e =
+        (refl, sym (ap (λ p. get_or p 0 0) e), sym (ap (λ p. get_or p 1 0) e), sym (ap (λ p. get_or p 2 0) e), sym (ap (λ p. get_or p 3 0) e))
+
+    by : (m : ℕ) → m ≡ 4 → m ≤ length w → codes "true" ≡ map to_ascii_lowercase (take m w) → TrueBytes w m
+    by m e l h = subst (λ (k : ℕ). k ≤ length w → codes "true" ≡ map to_ascii_lowercase (take k w) → TrueBytes w k) (sym e) (bytes w) l h
+
+-- ... are `true`
+pub true_here : (w : List ℕ) (n : ℕ) → n ≤ length w → TrueBytes w n → is_true (lower (take n w)) ≡ true
+unfolding lower is_true
+true_here w n inside h = subst (λ (k : ℕ). is_true (map to_ascii_lowercase (take k w)) ≡ true) (sym h.0) (bytes w (omega (arith, h.0)) h.1 h.2 h.3 h.4)
+  where
+    bytes : (v : List ℕ) → 4 ≤ length v → to_ascii_lowercase (get_or v 0 0) ≡ 116 → to_ascii_lowercase (get_or v 1 0) ≡ 114 → to_ascii_lowercase (get_or v 2 0) ≡ 117 → to_ascii_lowercase (get_or v 3 0) ≡ 101
+        → is_true (map to_ascii_lowercase (take 4 v)) ≡ true
+    bytes [] l p q r s = absurd (omega arith)
+    bytes (a ∷ []) l p q r s = absurd (omega arith)
+    bytes (a ∷ b ∷ []) l p q r s = absurd (omega arith)
+    bytes (a ∷ b ∷ c ∷ []) l p q r s = absurd (omega arith)
+    bytes (a ∷ b ∷ c ∷ d ∷ v) l p q r s = (λ j. is_same (codes "true") (p j ∷ q j ∷ r j ∷ s j ∷ [])) ∙ same_itself (codes "true")
+
+first_four : (w : List ℕ) → 4 ≤ length w → letters_or_digits (take 4 w) ≡ true
+    → (bit_or (get_or w 0 0) 32 ≡ get_or (lower (take 4 w)) 0 0) × (bit_or (get_or w 1 0) 32 ≡ get_or (lower (take 4 w)) 1 0)
+    × (bit_or (get_or w 2 0) 32 ≡ get_or (lower (take 4 w)) 2 0) × (bit_or (get_or w 3 0) 32 ≡ get_or (lower (take 4 w)) 3 0)
+unfolding lower
+first_four [] l h = absurd (omega arith)
+first_four (a ∷ []) l h = absurd (omega arith)
+first_four (a ∷ b ∷ []) l h = absurd (omega arith)
+first_four (a ∷ b ∷ c ∷ []) l h = absurd (omega arith)
+first_four (a ∷ b ∷ c ∷ d ∷ w) l h =
+    let one = and_parts _ _ h in
+    let two = and_parts _ _ one.1 in
+    let three = and_parts _ _ two.1 in
+    let four = and_parts _ _ three.1 in
+    (low_bit a one.0, low_bit b two.0, low_bit c three.0, low_bit d four.0)
+
+pub four_is : (w : List ℕ) → 4 ≤ length w → letters_or_digits (take 4 w) ≡ true
+    → 256 * (256 * (256 * bit_or (get_or w 0 0) 32 + bit_or (get_or w 1 0) 32) + bit_or (get_or w 2 0) 32) + bit_or (get_or w 3 0) 32 ≡ four_number (take 4 w)
+four_is w l h = let f = first_four w l h in (λ j. 256 * (256 * (256 * f.0 j + f.1 j) + f.2 j) + f.3 j)
