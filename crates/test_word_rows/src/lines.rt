@@ -133,7 +133,7 @@ fn with_blocks(window: &[u8], len: usize, at: usize, out: &mut String)
     match read_ordered(window, len, at) {
         Reading::Ordered(line) => in_order(&line, out),
         Reading::BadBlock => say(out, "bad block"),
-        Reading::Other => say(out, "not told"),
+        Reading::Unordered | Reading::Other => say(out, "not told"),
     }
 }
 
