@@ -1,11 +1,6 @@
 pub mod BodyLemmas
 pub mod BlockLemmas
 pub mod UnicodeLemmas
-pub mod KeywordLemmas
-pub mod RewritingLemmas
-pub mod StoringLemmas
-pub mod StoredLemmas
-pub mod LineLemmas
 pub mod OtherLemmas
 pub mod TransformLemmas
 pub mod PrintedBlocks

@@ -1,5 +1,4 @@
 pub mod Blocks
 pub mod Transform
 pub mod Ordered
-pub mod Rewriting
 pub mod Faults

@@ -6,34 +6,26 @@
 //! letters. If a bad block comes first, or after blocks in order, `read_ordered` tells that: the text has the fault of
 //! the grammar.
 //!
-//! A line whose block of `u` is out of order is brought into order by `rewrite`: it stores another line, and each meaning
-//! of that is one of this line (`IsRewritten`). Of blocks in any order `find_bad_block` tells the first that is bad
-//! (`HasBadBlock`).
+//! Of blocks in any order `find_bad_block` tells the first that is bad (`HasBadBlock`).
 //!
 //! `None`, `Reading::Unordered` and `Reading::Other` say nothing: the caller parses the text as it would without this
 //! crate. So each caller keeps its own contract, and a shape that is not told here costs time and nothing else.
 //!
 //! Each kind of block has a walk of its own (`unicode`, `transform`, `other`), which says where the next block begins
-//! (`blocks`). A line is rewritten in one walk too (`rewriting`, `attributes`, `keywords`), and its pieces are stored as
-//! sixteen bytes at once (`storing`); `faults` passes over blocks in any order. docs/ARCHITECTURE.md says how to add a
-//! shape.
+//! (`blocks`); `faults` passes over blocks in any order. `iloc_rewriting` brings other lines into order.
+//! docs/ARCHITECTURE.md says how to add a shape.
 //!
 //! It stands on the grammar (`iloc_spec_grammar`), on plain texts (`iloc_plain`), and on the walk from piece to piece and
 //! the tests of words of `iloc_fronts`.
 #![tactic(auto)]
 
-mod attributes;
 mod blocks;
 mod body;
 pub mod faults;
-mod keywords;
 pub mod ordered;
 mod other;
-pub mod rewriting;
-mod storing;
 mod transform;
 mod unicode;
 
 pub use faults::{BadBlock, find_bad_block};
 pub use ordered::{Ordered, Reading, read_ordered, read_varied};
-pub use rewriting::rewrite;

@@ -10,9 +10,10 @@ ghost use Rattle.std.specs.Prelude.{◌+◌, ◌≤◌, length};
 ghost use Rattle.iloc_plain.specs.Plain.{AreWords};
 ghost use Rattle.iloc_blocks.specs.Ordered.{IsStored};
 
-use iloc_blocks::{BadBlock, Ordered, Reading, find_bad_block, read_ordered, read_varied, rewrite};
+use iloc_blocks::{BadBlock, Ordered, Reading, find_bad_block, read_ordered, read_varied};
 use iloc_fronts::{Block, Front, Keyword, read_front, read_keyword};
 use iloc_plain::{Plain, read_plain, read_plain_text};
+use iloc_rewriting::rewrite;
 use test_page::argument::number_of;
 use test_page::{bytes, number, say};
 

@@ -1,7 +1,7 @@
 use Rattle.std.proofs.Common.{◌≡◌, ℕ, List, [], ◌∷◌, ◌++◌, OnOk, ap, subst, sym, take}
 use Rattle.iloc_blocks.specs.Ordered.{IsOrdered}
-use Rattle.iloc_blocks.specs.Rewriting.{IsRewritten}
-use Rattle.iloc_blocks.proofs.LineLemmas.{ordered_of_rewritten}
+use Rattle.iloc_rewriting.specs.Rewriting.{IsRewritten}
+use Rattle.iloc_rewriting.proofs.LineLemmas.{ordered_of_rewritten}
 use Rattle.iloc_lines.specs.Told.{IsAnswered}
 use Rattle.iloc_lines.specs.ReplyBlock.{held}
 use Rattle.iloc_lines.specs.declared.Mode.{Mode}

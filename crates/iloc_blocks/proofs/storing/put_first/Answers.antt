@@ -1,5 +1,0 @@
-use Rattle.iloc_blocks.proofs.StoringLemmas.{first_stored}
-use Rattle.iloc_blocks.proofs.storing.put_first.Goals as goal
-
-pub returns : goal.returns
-returns c = first_stored c.args.room.now c.args.bytes.now c.args.at c.args.count c.requires.bytes c.requires.room c.requires.few

@@ -1,0 +1,5 @@
+pub mod KeywordLemmas
+pub mod RewritingLemmas
+pub mod StoringLemmas
+pub mod StoredLemmas
+pub mod LineLemmas

@@ -1,0 +1,628 @@
+-- What is stored of a block of `u`, from its parts to all of it.
+use Rattle.std.proofs.Common.{take, drop, ◌≡◌, ℕ, zero, suc, ◌+◌, ◌-◌, ◌<◌, ◌≤◌, ◌==◌, IsTrue, Bool, true, false, cond, not, List, [], ◌∷◌, ◌++◌, length, map, Option, Some, None, refl, sym, ap, ◌∙◌, subst, arith, append_assoc, append-nil, length-append, drop-drop}
+use Rattle.std.specs.List.{AllByRecursion}
+use Rattle.std.specs.Char.{to_ascii_lowercase}
+use Rattle.std.specs.Ordering.{nat_cmp, ord_max, eq_by_cmp}
+use Rattle.std.proofs.lemmas.Bool.Decides.{nat_tests}
+use Rattle.std.proofs.lemmas.List.{length-take-le, length-drop, drop-take, take-append-le, take-take, append_cancel_left, map-append}
+use Rattle.iloc_spec_grammar.specs.Syntax.{pieces, join, dashes, Attribute, UnicodeKey, IsWord, IsKeyword, IsHyphenFree, lower, is_true, word_cmp, Fields, fields_pieces}
+use Rattle.iloc_spec_grammar.specs.Meaning.{normal_values, set_of}
+use Rattle.iloc_spec_grammar.specs.Reading.{rest_of}
+use Rattle.iloc_spec_grammar.proofs.PiecesLaws.{pieces-join}
+use Rattle.iloc_spec_grammar.proofs.PartTexts.{join-dashes, dashes-append}
+use Rattle.iloc_spec_grammar.proofs.ReadBack.{all_append, fields_each, word_hyphen_free}
+use Rattle.iloc_spec_grammar.proofs.ValuesLaws.{all_weaker}
+use Rattle.iloc_spec_grammar.proofs.Orders.{all_reordered, map_reordered, set_of_reordered, itself}
+use Rattle.iloc_spec_grammar.proofs.MapLaws.{map_of_same, word_cmp_total, same_words}
+use Rattle.iloc_spec_grammar.proofs.SetLaws.{marked, keys, set_of-first}
+use Rattle.std.specs.FinMap.{find}
+use Rattle.iloc_spec_grammar.specs.Values.{Reordered}
+use Rattle.iloc_spec_grammar.proofs.WordsLaws.{length-unicode_key}
+use Rattle.iloc_blocks.specs.Blocks.{left_of, ArePast}
+use Rattle.iloc_fronts.specs.Words.{two_number}
+use Rattle.iloc_fronts.specs.Left.{pieces_of, piece_of, IsLeft}
+use Rattle.iloc_blocks.specs.Transform.{IsRest}
+use Rattle.iloc_rewriting.specs.Rewriting.{AreStored, IsShorter, IsValueStored, IsFieldStored, Ascend, AreUpTo, AreFieldsStored, HaveSame, IsInserted, IsPlace, AreAttributesStored, AreAttributesSoFar, AreWordsStored, IsWordStored, IsPlaceAmong, AreSameWords, AreKeywordsSoFar, AreKeywordsStored, BeginsBlock}
+use Rattle.iloc_fronts.specs.declared.left.Left.{Left}
+use Rattle.iloc_rewriting.specs.declared.keywords.Stored.{Stored}
+use Rattle.iloc_rewriting.specs.declared.keywords.Place.{Place}
+use Rattle.iloc_fronts.proofs.FrontLemmas.{short_key}
+use Rattle.iloc_fronts.proofs.LeftLemmas.{word_left, length-piece}
+use Rattle.iloc_fronts.proofs.WordBytes.{number_in}
+use Rattle.iloc_rewriting.proofs.StoringLemmas.{take_two}
+use Rattle.iloc_rewriting.proofs.RewritingLemmas.{attribute_from, cut_left, length-joined, piece_more}
+use Rattle.iloc_rewriting.proofs.KeywordLemmas.{one_number, same_more, same_then, same_inserted, same_there, all_insert, ascend_later, ascend_insert, ascend_append, all_above, pieces_of_both, IsFieldsCut, cut_fields}
+
+-- ---- what is left
+
+rest_weaker : (m n : ℕ) → m ≤ n → (o : Option Left) → IsRest m o → IsRest n o
+rest_weaker m n le None h = tt
+rest_weaker m n le (Some l) h = (h.0, omega (arith, h.1))
+
+rest_shorter : (m n : ℕ) → m < n → (o : Option Left) → IsRest m o → IsShorter n o
+rest_shorter m n less None h = tt
+rest_shorter m n less (Some l) h = (h.0, omega (arith, h.1))
+
+-- ---- a piece
+
+stored_more : (text room p : List ℕ) (e : ℕ) (ps : List (List ℕ)) (new : List ℕ) (end : ℕ) → AreStored room (text ++ 45 ∷ p) e → AreStored new (take e room ++ dashes ps) end → AreStored new (text ++ dashes (p ∷ ps)) end
+stored_more text room p e ps new end a h = subst (λ (t : List ℕ). AreStored new t end) (ap (λ t. t ++ dashes ps) a.begins ∙ piece_more text p ps) h
+
+stored_one : (text room p : List ℕ) (e : ℕ) → AreStored room (text ++ 45 ∷ p) e → AreStored room (text ++ dashes (p ∷ [])) e
+stored_one text room p e a = subst (λ (t : List ℕ). AreStored room (text ++ t) e) (sym (append-nil (45 ∷ p))) a
+
+stored_none : (room : List ℕ) (e : ℕ) → e + 16 ≤ length room → AreStored room (take e room ++ dashes []) e
+stored_none room e more = record { begins = sym (append-nil (take e room)); more = more }
+
+-- ---- values
+
+-- a piece of a value is stored behind the text, unless it is `true`
+pub record IsPieceKept (text p room : List ℕ) (e : ℕ) : Type 0 where
+  pub kept : List (List ℕ)
+  pub stored : AreStored room (text ++ dashes kept) e
+  pub each : AllByRecursion (IsWord Attribute) kept
+  pub same : (vs ws : List (List ℕ)) → normal_values ws ≡ normal_values vs → normal_values (kept ++ ws) ≡ normal_values (p ∷ vs)
+
+pub piece_kept : (text p room : List ℕ) (e : ℕ) → IsWord Attribute p → AreStored room (text ++ 45 ∷ p) e → IsPieceKept text p room e
+piece_kept text p room e w a = record {
+  kept = p ∷ [];
+  stored = stored_one text room p e a;
+  each = (w, tt);
+  same = λ vs ws h. ap (λ l. cond (not (is_true (lower p))) (lower p ∷ l) l) h;
+}
+
+pub piece_dropped : (p room : List ℕ) (e : ℕ) → is_true (lower p) ≡ true → e + 16 ≤ length room → IsPieceKept (take e room) p room e
+piece_dropped p room e is more = record {
+  kept = [];
+  stored = stored_none room e more;
+  each = tt;
+  same = λ vs ws h. h ∙ ap (λ (b : Bool). cond (not b) (lower p ∷ normal_values vs) (normal_values vs)) (sym is);
+}
+
+pub value_more : (text room p : List ℕ) (e m n : ℕ) (ps qs : List (List ℕ)) → IsWord Attribute p → IsPieceKept text p room e → ps ≡ p ∷ qs → m ≤ n
+    → (new : List ℕ) (s : Stored) → IsValueStored (take e room) qs m new s → IsValueStored text ps n new s
+value_more text room p e m n ps qs w k cut le new s h = record {
+  values = p ∷ h.values;
+  kept = k.kept ++ h.kept;
+  cut = cut ∙ ap (λ l. p ∷ l) h.cut;
+  words = record { each = (w, h.words.each); each_kept = all_append (IsWord Attribute) k.kept h.kept k.each h.words.each_kept; same = k.same h.values h.kept h.words.same };
+  stored = subst (λ (t : List ℕ). AreStored new t s.end)
+      (ap (λ t. t ++ dashes h.kept) k.stored.begins ∙ append_assoc text (dashes k.kept) (dashes h.kept) ∙ ap (λ t. text ++ t) (sym (dashes-append k.kept h.kept))) h.stored;
+  left = rest_weaker m n le s.next h.left;
+}
+
+pub value_last : (text room p : List ℕ) (e n : ℕ) (ps : List (List ℕ)) → IsWord Attribute p → IsPieceKept text p room e → ps ≡ p ∷ []
+    → IsValueStored text ps n room (record { end = e; next = None })
+value_last text room p e n ps w k cut = record {
+  values = p ∷ [];
+  kept = k.kept;
+  cut = cut;
+  words = record { each = (w, tt); each_kept = k.each; same = ap normal_values (sym (append-nil k.kept)) ∙ k.same [] [] refl };
+  stored = k.stored;
+  left = tt;
+}
+
+pub value_none : (room : List ℕ) (e n : ℕ) (l : Left) → e + 16 ≤ length room → IsLeft l → l.len ≤ n → IsValueStored (take e room) (pieces_of l) n room (record { end = e; next = Some l })
+value_none room e n l more h le = record {
+  values = [];
+  kept = [];
+  cut = refl;
+  words = record { each = tt; each_kept = tt; same = refl };
+  stored = stored_none room e more;
+  left = (h, le);
+}
+
+-- ---- a field
+
+pub field_alone : (text room key : List ℕ) (e n : ℕ) (ps : List (List ℕ)) → AreStored room (text ++ 45 ∷ key) e → ps ≡ key ∷ []
+    → IsFieldStored text key ps n room (record { end = e; next = None })
+field_alone text room key e n ps a cut = record {
+  values = [];
+  kept = [];
+  cut = cut;
+  words = record { each = tt; each_kept = tt; same = refl };
+  stored = stored_one text room key e a;
+  left = tt;
+}
+
+pub field_of_value : (text room key : List ℕ) (e m n : ℕ) (ps qs : List (List ℕ)) → AreStored room (text ++ 45 ∷ key) e → ps ≡ key ∷ qs → m < n
+    → (new : List ℕ) (s : Stored) → IsValueStored (take e room) qs m new s → IsFieldStored text key ps n new s
+field_of_value text room key e m n ps qs a cut less new s h = record {
+  values = h.values;
+  kept = h.kept;
+  cut = cut ∙ ap (λ l. key ∷ l) h.cut;
+  words = h.words;
+  stored = stored_more text room key e h.kept new s.end a h.stored;
+  left = rest_shorter m n less s.next h.left;
+}
+
+-- ---- fields
+
+fields_stored : (text : List ℕ) (fs : Fields) (key : List ℕ) (kept : List (List ℕ)) → (text ++ dashes (fields_pieces fs)) ++ dashes (key ∷ kept) ≡ text ++ dashes (fields_pieces (fs ++ (key, kept) ∷ []))
+fields_stored text fs key kept =
+    append_assoc text (dashes (fields_pieces fs)) (dashes (key ∷ kept))
+    ∙ ap (λ t. text ++ t) (sym (dashes-append (fields_pieces fs) (key ∷ kept)))
+    ∙ ap (λ l. text ++ dashes l) (ap (λ l. fields_pieces fs ++ l) (sym (append-nil (key ∷ kept))) ∙ sym (pieces_of_both fs ((key, kept) ∷ [])))
+
+-- a field with a greater key comes last
+pub field_appended : (text key room : List ℕ) (start end n : ℕ) (fs : Fields) (ps : List (List ℕ)) → AreFieldsStored room start end text fs → IsWord UnicodeKey key
+    → AllByRecursion (λ f. two_number f.0 < two_number key) fs → (new : List ℕ) (s : Stored) → IsFieldStored (take end room) key ps n new s → IsInserted text fs key ps n new s
+field_appended text key room start end n fs ps a w less new s h = record {
+  values = h.values;
+  kept = h.kept;
+  cut = h.cut;
+  words = h.words;
+  left = h.left;
+  all = fs ++ (key, h.kept) ∷ [];
+  few = omega (arith, length-append fs ((key, h.kept) ∷ []));
+  stored = subst (λ (t : List ℕ). AreStored new t s.end) (ap (λ t. t ++ dashes (key ∷ h.kept)) a.stored ∙ fields_stored text fs key h.kept) h.stored;
+  each = all_append IsKeyword fs ((key, h.kept) ∷ []) a.each ((w, h.words.each_kept), tt);
+  ascend = ascend_append fs (key, h.kept) less a.ascend;
+  up_to = λ m up le. all_append (λ f. two_number f.0 ≤ m) fs ((key, h.kept) ∷ []) up (le, tt);
+  same = λ q. refl;
+}
+
+-- ---- a place among them
+
+at_number : (a n : ℕ) → IsTrue (a == n) → a ≡ n
+at_number a n t = grind (arith, nat_tests)
+
+above_number : (a n : ℕ) → n ≤ a → (a == n) ≡ false → n < a
+above_number a n le t = grind (arith, nat_tests)
+
+pub place_here : (l : Left) → IsLeft l → IsWord UnicodeKey (piece_of l) → (number other : ℕ) → other ≡ two_number (take 2 l.window.now) → number ≤ other
+    → IsPlace number (pieces_of l) l.len (record { is_there = other == number; len = l.len })
+place_here l h w number other is le = record {
+  before = [];
+  each = tt;
+  less = tt;
+  key = piece_of l;
+  is_key = w;
+  rest = rest_of (pieces_of l);
+  cut = cut;
+  at_least = omega (arith, same);
+  there = λ t. sym same ∙ at_number other number t;
+  greater = λ t. omega (arith, same, above_number other number le t);
+  long = sym (length-joined l h) ∙ ap (λ ps. length (join ps)) cut;
+  within = omega arith;
+}
+  where
+    cut : pieces_of l ≡ piece_of l ∷ rest_of (pieces_of l)
+    cut = cut_left l h (word_left l h UnicodeKey short_key w)
+
+    same : other ≡ two_number (piece_of l)
+    same = is ∙ number_in l.window.now l.n (omega (arith, length-unicode_key (piece_of l) w, length-piece l h))
+
+pub place_later : (key : List ℕ) (ps qs : List (List ℕ)) (number len m n : ℕ) (next : Left) → IsWord UnicodeKey key → two_number key < number → ps ≡ key ∷ qs → ArePast 3 len qs (Some next) → m ≤ n
+    → (p : Place) → IsPlace number (pieces_of next) m p → IsPlace number ps n p
+place_later key ps qs number len m n next w less cut past le p h = record {
+  before = (key, past.words) ∷ h.before;
+  each = ((w, attribute_from past.words past.each), h.each);
+  less = (less, h.less);
+  key = h.key;
+  is_key = h.is_key;
+  rest = h.rest;
+  cut = cut ∙ ap (λ l. key ∷ l) (past.cut ∙ ap (λ l. past.words ++ l) h.cut) ∙ sym (append_assoc (key ∷ past.words) (fields_pieces h.before) (h.key ∷ h.rest));
+  at_least = h.at_least;
+  there = h.there;
+  greater = h.greater;
+  long = h.long;
+  within = omega (arith, h.within);
+}
+
+-- ---- what the room holds
+
+-- of two texts that are stored
+pub split_room : (room xs ys : List ℕ) (e k : ℕ) → e ≤ length room → take e room ≡ xs ++ ys → length ys ≡ k → (take (e - k) room ≡ xs) × (take k (drop (e - k) room) ≡ ys)
+split_room room xs ys e k inside is long =
+    let size : e ≡ length xs + k = omega (arith, length-take-le e room inside, ap length is, length-append xs ys) in
+    let front : e - k ≡ length xs = omega arith in
+    let both : take (e - k) room ++ take k (drop (e - k) room) ≡ xs ++ ys = sym (take_two (e - k) k room) ∙ (let back : (e - k) + k ≡ e = omega arith in ap (λ (m : ℕ). take m room) back) ∙ is in
+    let first : take (e - k) room ≡ xs =
+    sym (take-take (e - k) e room (omega arith)) ∙ ap (take (e - k)) is ∙ ap (λ (m : ℕ). take m (xs ++ ys)) front ∙ take-append-le (length xs) xs ys (omega arith) ∙ whole xs in
+    (first, append_cancel_left xs _ ys (ap (λ t. t ++ take k (drop (e - k) room)) (sym first) ∙ both))
+  where
+    whole : (t : List ℕ) → take (length t) t ≡ t
+    whole [] = refl
+    whole (c ∷ t) = ap (λ l. c ∷ l) (whole t)
+
+keyword_free : (fs : Fields) → AllByRecursion IsKeyword fs → AllByRecursion IsHyphenFree (fields_pieces fs)
+keyword_free fs h = fields_each IsHyphenFree UnicodeKey (word_hyphen_free UnicodeKey) (word_hyphen_free Attribute) fs h
+
+module _ (room text : List ℕ) (start end : ℕ) (ps : List (List ℕ)) (room_end : end ≤ length room) (before : length text ≡ start) (stored : take end room ≡ text ++ dashes ps)
+    (free : AllByRecursion IsHyphenFree ps) (some : start < end) where
+  -- what they are in the room, behind the first hyphen
+  abbrev from_first : List ℕ
+  from_first = take (end - start - 1) (take (length room - (start + 1)) (drop (start + 1) room))
+
+  behind : take (end - start) (drop start room) ≡ dashes ps
+  behind =
+      let long : length (dashes ps) ≡ end - start = omega (arith, length-take-le end room room_end, ap length stored, length-append text (dashes ps), before) in
+      let same : end - (end - start) ≡ start = omega arith in
+      ap (λ (m : ℕ). take (end - start) (drop m room)) (sym same) ∙ (split_room room text (dashes ps) end (end - start) room_end stored long).1
+
+  from_first_is : from_first ≡ drop 1 (take (end - start) (drop start room))
+  from_first_is =
+      let more : end - start ≡ 1 + (end - start - 1) = omega arith in
+      take-take (end - start - 1) (length room - (start + 1)) (drop (start + 1) room) (omega arith)
+      ∙ ap (take (end - start - 1)) (sym (drop-drop 1 start room))
+      ∙ sym (drop-take 1 (end - start - 1) (drop start room))
+      ∙ ap (λ (m : ℕ). drop 1 (take m (drop start room))) (sym more)
+
+  pub pieces_in_room : pieces from_first ≡ ps
+  pieces_in_room = by ps free (ap length (sym behind) ∙ length-take-le (end - start) (drop start room) (omega (arith, length-drop start room))) (from_first_is ∙ ap (drop 1) behind)
+    where
+      by : (qs : List (List ℕ)) → AllByRecursion IsHyphenFree qs → length (dashes qs) ≡ end - start → from_first ≡ drop 1 (dashes qs) → pieces from_first ≡ qs
+      by [] h l e = absurd (omega arith)
+      by (p ∷ qs) h l e = ap pieces (e ∙ sym (join-dashes p qs)) ∙ pieces-join p qs h
+
+pub room_pieces : (room text : List ℕ) (start end : ℕ) (fs : Fields) → end ≤ length room → AreFieldsStored room start end text fs → start < end
+    → pieces (take (end - start - 1) (take (length room - (start + 1)) (drop (start + 1) room))) ≡ fields_pieces fs
+room_pieces room text start end fs room_end a some = pieces_in_room room text start end (fields_pieces fs) room_end a.before a.stored (keyword_free fs a.each) some
+
+-- ---- a field among others
+
+-- a prefix stays where more is stored behind it
+pub begins_still : (room xs ys : List ℕ) (m e : ℕ) → e ≤ length room → length xs ≡ m → take e room ≡ xs ++ ys → take m room ≡ xs
+begins_still room xs ys m e inside long is =
+    let less : m ≤ e = omega (arith, length-take-le e room inside, ap length is, length-append xs ys) in
+    sym (take-take m e room less) ∙ ap (take m) is ∙ ap (λ (n : ℕ). take n (xs ++ ys)) (sym long) ∙ take-append-le (length xs) xs ys (omega arith) ∙ whole xs
+  where
+    whole : (t : List ℕ) → take (length t) t ≡ t
+    whole [] = refl
+    whole (c ∷ t) = ap (λ l. c ∷ l) (whole t)
+
+module _ (room text key : List ℕ) (start end n number : ℕ) (fs : Fields) (ps : List (List ℕ)) (room_end : end ≤ length room) (a : AreFieldsStored room start end text fs)
+    (w : IsWord UnicodeKey key) (is : number ≡ two_number key) (len : ℕ) (p : Place) (place : IsPlace number (fields_pieces fs) len p) where
+  cut : IsFieldsCut fs place.before place.key place.rest
+  cut = cut_fields fs place.before place.key place.rest a.each place.each place.is_key place.cut
+
+  -- its key is there
+  pub field_there : IsTrue p.is_there → (new : List ℕ) (e : ℕ) (next : Option Left) (more : end + 16 ≤ length new) → IsFieldStored (take end room) key ps n new (record { end = e; next = next })
+      → IsInserted text fs key ps n new (record { end = end; next = next })
+  field_there there new e next more h = record {
+    values = h.values;
+    kept = h.kept;
+    cut = h.cut;
+    words = h.words;
+    left = h.left;
+    all = fs;
+    few = omega arith;
+    stored = record {
+      begins = begins_still new (take end room) (dashes (key ∷ h.kept)) end e (omega (arith, h.stored.more)) (length-take-le end room room_end) h.stored.begins ∙ a.stored;
+      more = more;
+    };
+    each = a.each;
+    ascend = a.ascend;
+    up_to = λ m up le. up;
+    same = same;
+  }
+    where
+      one : lower place.key ≡ lower key
+      one = one_number place.key key place.is_key w (place.there there ∙ is)
+
+      same : HaveSame (fs ++ (key, h.kept) ∷ []) fs
+      same = subst (λ (gs : Fields). HaveSame (gs ++ (key, h.kept) ∷ []) gs) (sym cut.all) (same_there place.before cut.after (key, h.kept) (place.key, cut.value) one)
+
+  -- the fields from the place on, with the hyphen before them
+  long : length (dashes (place.key ∷ place.rest)) ≡ p.len + 1
+  long = let l : length (dashes (place.key ∷ place.rest)) ≡ suc (length (join (place.key ∷ place.rest))) = ap suc (ap length (sym (join-dashes place.key place.rest))) in omega (arith, l, place.long)
+
+  parts : take end room ≡ (text ++ dashes (fields_pieces place.before)) ++ dashes (place.key ∷ place.rest)
+  parts =
+      a.stored ∙ ap (λ l. text ++ dashes l) place.cut ∙ ap (λ t. text ++ t) (dashes-append (fields_pieces place.before) (place.key ∷ place.rest))
+      ∙ sym (append_assoc text (dashes (fields_pieces place.before)) (dashes (place.key ∷ place.rest)))
+
+  -- it comes before a greater one
+  pub field_inserted : p.is_there ≡ false → (room' new : List ℕ) (s : Stored) (e : ℕ) → IsFieldStored (take (end - p.len - 1) room) key ps n room' s
+      → AreStored new (take s.end room' ++ take (p.len + 1) (drop (end - p.len - 1) room)) e → IsInserted text fs key ps n new (record { end = e; next = s.next })
+  field_inserted other room' new s e h stored = record {
+    values = h.values;
+    kept = h.kept;
+    cut = h.cut;
+    words = h.words;
+    left = h.left;
+    all = place.before ++ ((key, h.kept) ∷ ((place.key, cut.value) ∷ cut.after));
+    few = omega (arith, ap length cut.all, length-append place.before ((key, h.kept) ∷ ((place.key, cut.value) ∷ cut.after)), length-append place.before ((place.key, cut.value) ∷ cut.after));
+    stored = subst (λ (t : List ℕ). AreStored new t e) text_is stored;
+    each = all_insert IsKeyword place.before ((place.key, cut.value) ∷ cut.after) (key, h.kept) (w, h.words.each_kept) (subst (AllByRecursion IsKeyword) cut.all a.each);
+    ascend = ascend_insert place.before ((place.key, cut.value) ∷ cut.after) (key, h.kept) less above (subst Ascend cut.all a.ascend);
+    up_to = λ m up le. all_insert (λ f. two_number f.0 ≤ m) place.before ((place.key, cut.value) ∷ cut.after) (key, h.kept) le (subst (AreUpTo m) cut.all up);
+    same = subst (λ (gs : Fields). HaveSame (gs ++ (key, h.kept) ∷ []) (place.before ++ ((key, h.kept) ∷ ((place.key, cut.value) ∷ cut.after)))) (sym cut.all)
+        (same_inserted place.before ((place.key, cut.value) ∷ cut.after) (key, h.kept) above);
+  }
+    where
+      less : AllByRecursion (λ g. two_number g.0 < two_number key) place.before
+      less = all_weaker (λ f. two_number f.0 < number) (λ g. two_number g.0 < two_number key) (λ f l. omega (arith, is, l)) place.before place.less
+
+      above : AllByRecursion (λ g. two_number key < two_number g.0) ((place.key, cut.value) ∷ cut.after)
+      above = all_above (two_number key) (place.key, cut.value) cut.after (omega (arith, is, place.greater other)) (ascend_later place.before ((place.key, cut.value) ∷ cut.after) (subst Ascend cut.all a.ascend))
+
+      same_place : end - (p.len + 1) ≡ end - p.len - 1
+      same_place = omega arith
+
+      halves : (take (end - p.len - 1) room ≡ text ++ dashes (fields_pieces place.before)) × (take (p.len + 1) (drop (end - p.len - 1) room) ≡ dashes (place.key ∷ place.rest))
+      halves = subst (λ (m : ℕ). (take m room ≡ text ++ dashes (fields_pieces place.before)) × (take (p.len + 1) (drop m room) ≡ dashes (place.key ∷ place.rest))) same_place
+          (split_room room (text ++ dashes (fields_pieces place.before)) (dashes (place.key ∷ place.rest)) end (p.len + 1) room_end parts long)
+
+      text_is : take s.end room' ++ take (p.len + 1) (drop (end - p.len - 1) room) ≡ text ++ dashes (fields_pieces (place.before ++ ((key, h.kept) ∷ ((place.key, cut.value) ∷ cut.after))))
+      text_is =
+          (λ j. (h.stored.begins ∙ ap (λ t. t ++ dashes (key ∷ h.kept)) halves.0 ∙ fields_stored text place.before key h.kept) j ++ halves.1 j)
+          ∙ append_assoc text (dashes (fields_pieces (place.before ++ (key, h.kept) ∷ []))) (dashes (place.key ∷ place.rest))
+          ∙ ap (λ t. text ++ t) (sym (dashes-append (fields_pieces (place.before ++ (key, h.kept) ∷ [])) (place.key ∷ place.rest)))
+          ∙ ap (λ l. text ++ dashes l)
+          (ap (λ l. fields_pieces (place.before ++ (key, h.kept) ∷ []) ++ l) (sym cut.pieces)
+          ∙ sym (pieces_of_both (place.before ++ (key, h.kept) ∷ []) ((place.key, cut.value) ∷ cut.after))
+          ∙ ap fields_pieces (append_assoc place.before ((key, h.kept) ∷ []) ((place.key, cut.value) ∷ cut.after)))
+
+-- ---- keywords
+
+-- what one keyword more gives
+pub record IsStep (text : List ℕ) (ps : List (List ℕ)) (start last : ℕ) (room : List ℕ) (s : Stored) : Type 0 where
+  pub written : Fields
+  pub kept : Fields
+  pub cut : ps ≡ fields_pieces written ++ left_of s.next
+  pub each : AllByRecursion IsKeyword written
+  pub some : length kept ≤ length written
+  pub same : HaveSame written kept
+  pub stored : AreFieldsStored room start s.end text kept
+  pub up_to : AreUpTo last kept
+  pub more : s.end + 16 ≤ length room
+  pub behind : start ≤ s.end
+
+pub keywords_none : (room : List ℕ) (start : ℕ) (l : Left) → start ≤ length room → AreKeywordsSoFar (take start room) (pieces_of l) start start 0 room l
+keywords_none room start l inside = record {
+  written = [];
+  kept = [];
+  cut = refl;
+  each = tt;
+  some = omega arith;
+  same = λ q. refl;
+  stored = record { before = length-take-le start room inside; stored = sym (append-nil (take start room)); each = tt; ascend = tt };
+  up_to = tt;
+}
+
+pub keyword_more : (text key room new : List ℕ) (ps : List (List ℕ)) (start end last next n : ℕ) (at : Left) (s : Stored) → (h : AreKeywordsSoFar text ps start end last room at) → IsWord UnicodeKey key
+    → last ≤ next → two_number key ≤ next → IsInserted text h.kept key (pieces_of at) n new s → IsStep text ps start next new s
+keyword_more text key room new ps start end last next n at s h w le key_le i = record {
+  written = h.written ++ (key, i.values) ∷ [];
+  kept = i.all;
+  cut = h.cut ∙ ap (λ l. fields_pieces h.written ++ l) i.cut
+      ∙ sym (append_assoc (fields_pieces h.written) (key ∷ i.values) (left_of s.next))
+      ∙ ap (λ l. l ++ left_of s.next) (ap (λ l. fields_pieces h.written ++ l) (sym (append-nil (key ∷ i.values))) ∙ sym (pieces_of_both h.written ((key, i.values) ∷ [])));
+  each = all_append IsKeyword h.written ((key, i.values) ∷ []) h.each ((w, i.words.each), tt);
+  some = omega (arith, h.some, i.few, length-append h.written ((key, i.values) ∷ []));
+  same = same_then (h.written ++ (key, i.values) ∷ []) (h.kept ++ (key, i.kept) ∷ []) i.all (same_more h.written h.kept key i.values i.kept i.words.same h.same) i.same;
+  stored = record { before = h.stored.before; stored = i.stored.begins; each = i.each; ascend = i.ascend };
+  up_to = i.up_to next (all_weaker (λ f. two_number f.0 ≤ last) (λ f. two_number f.0 ≤ next) (λ f l. omega arith) h.kept h.up_to) key_le;
+  more = i.stored.more;
+  behind = omega (arith, i.stored.more, h.stored.before, length-take-le s.end new (omega (arith, i.stored.more)), ap length i.stored.begins, length-append text (dashes (fields_pieces i.all)));
+}
+
+pub keywords_further : (text : List ℕ) (ps : List (List ℕ)) (start last : ℕ) (room : List ℕ) (s : Stored) (l : Left) → s.next ≡ Some l → IsStep text ps start last room s → AreKeywordsSoFar text ps start s.end last room l
+keywords_further text ps start last room s l e h = record {
+  written = h.written;
+  kept = h.kept;
+  cut = h.cut ∙ ap (λ o. fields_pieces h.written ++ left_of o) e;
+  each = h.each;
+  some = h.some;
+  same = h.same;
+  stored = h.stored;
+  up_to = h.up_to;
+}
+
+pub keywords_end : (text : List ℕ) (ps : List (List ℕ)) (start last : ℕ) (room : List ℕ) (s : Stored) → s.next ≡ None → IsStep text ps start last room s → AreKeywordsStored text ps room s
+keywords_end text ps start last room s e h = record {
+  written = h.written;
+  kept = h.kept;
+  cut = h.cut;
+  each = h.each;
+  each_kept = h.stored.each;
+  some = h.some;
+  same = h.same;
+  stored = record { begins = h.stored.stored; more = h.more };
+  left = subst BeginsBlock (sym e) tt;
+}
+
+pub max_first : (a b : ℕ) → a ≤ ord_max nat_cmp a b
+max_first a b = grind (arith, nat_tests)
+
+pub max_second : (a b : ℕ) → b ≤ ord_max nat_cmp a b
+max_second a b = grind (arith, nat_tests)
+
+-- ---- attributes
+
+reordered_before : {X : Type 0} (xs : List X) {ys zs : List X} → Reordered ys zs → Reordered (xs ++ ys) (xs ++ zs)
+reordered_before [] r = r
+reordered_before (x ∷ xs) r = Reordered.front_kept (reordered_before xs r)
+
+-- the last comes first
+last_first : {X : Type 0} (xs : List X) (x : X) → Reordered (xs ++ x ∷ []) (x ∷ xs)
+last_first [] x = itself (x ∷ [])
+last_first (y ∷ xs) x = Reordered.in_turn (Reordered.front_kept (last_first xs x)) Reordered.first_two
+
+-- a word more on both sides
+set_more : (vs ws : List (List ℕ)) (p : List ℕ) → set_of (map lower ws) ≡ set_of (map lower vs) → set_of (map lower (ws ++ p ∷ [])) ≡ set_of (map lower (vs ++ p ∷ []))
+set_more vs ws p e =
+    ap set_of (map-append lower ws (p ∷ [])) ∙ sym (set_of-first (map lower ws) (lower p ∷ []))
+    ∙ ap (λ l. set_of (l ++ lower p ∷ [])) e
+    ∙ set_of-first (map lower vs) (lower p ∷ []) ∙ ap set_of (sym (map-append lower vs (p ∷ [])))
+
+-- a word that is there adds nothing
+marks_there : (q w : List ℕ) (xs ys : List (List ℕ)) → find word_cmp q (marked ((xs ++ (w ∷ ys)) ++ w ∷ [])) ≡ find word_cmp q (marked (xs ++ (w ∷ ys)))
+marks_there q w [] ys = at (eq_by_cmp word_cmp q w) (later ys)
+  where
+    at : (b : Bool) → (b ≡ false → find word_cmp q (marked (ys ++ w ∷ [])) ≡ find word_cmp q (marked ys)) → cond b (Some (tt {0})) (find word_cmp q (marked (ys ++ w ∷ []))) ≡ cond b (Some (tt {0})) (find word_cmp q (marked ys))
+    at true f = refl
+    at false f = f refl
+
+    later : (zs : List (List ℕ)) → eq_by_cmp word_cmp q w ≡ false → find word_cmp q (marked (zs ++ w ∷ [])) ≡ find word_cmp q (marked zs)
+    later [] e = ap (λ (b : Bool). cond b (Some (tt {0})) None) e
+    later (z ∷ zs) e = ap (cond (eq_by_cmp word_cmp q z) (Some (tt {0}))) (later zs e)
+marks_there q w (x ∷ xs) ys = ap (cond (eq_by_cmp word_cmp q x) (Some (tt {0}))) (marks_there q w xs ys)
+
+set_there : (w : List ℕ) (xs ys : List (List ℕ)) → set_of ((xs ++ (w ∷ ys)) ++ w ∷ []) ≡ set_of (xs ++ (w ∷ ys))
+set_there w xs ys = ap keys (map_of_same word_cmp word_cmp_total same_words (marked ((xs ++ (w ∷ ys)) ++ w ∷ [])) (marked (xs ++ (w ∷ ys))) (λ q. marks_there q w xs ys))
+
+words_stored : (text : List ℕ) (ws : List (List ℕ)) (p : List ℕ) → (text ++ dashes ws) ++ 45 ∷ p ≡ text ++ dashes (ws ++ p ∷ [])
+words_stored text ws p =
+    append_assoc text (dashes ws) (45 ∷ p)
+    ∙ ap (λ t. text ++ t) (ap (λ t. dashes ws ++ t) (sym (append-nil (45 ∷ p))) ∙ sym (dashes-append ws (p ∷ [])))
+
+pub word_appended : (text room p : List ℕ) (start end : ℕ) (ws : List (List ℕ)) → AreWordsStored room start end text ws → IsWord Attribute p → (new : List ℕ) (e : ℕ) → AreStored new (take end room ++ 45 ∷ p) e → IsWordStored text ws p new e
+word_appended text room p start end ws a w new e h = record {
+  all = ws ++ p ∷ [];
+  same =
+      let each = all_append (IsWord Attribute) ws (p ∷ []) a.each (w, tt) in
+      record { each = each; each_kept = each; few = omega arith; same = refl };
+  stored = subst (λ (t : List ℕ). AreStored new t e) (ap (λ t. t ++ 45 ∷ p) a.stored ∙ words_stored text ws p) h;
+}
+
+module _ (text room p : List ℕ) (start end len : ℕ) (ws : List (List ℕ)) (room_end : end ≤ length room) (a : AreWordsStored room start end text ws) (w : IsWord Attribute p)
+    (place : Place) (c : IsPlaceAmong p ws len place) where
+  each_more : AllByRecursion (IsWord Attribute) (ws ++ p ∷ [])
+  each_more = all_append (IsWord Attribute) ws (p ∷ []) a.each (w, tt)
+
+  -- it is there
+  pub word_there : place.is_there ≡ true → end + 16 ≤ length room → IsWordStored text ws p room end
+  word_there there more = record {
+    all = ws;
+    same = record { each = each_more; each_kept = a.each; few = omega (arith, length-append ws (p ∷ [])); same = sym same };
+    stored = record { begins = a.stored; more = more };
+  }
+    where
+      one : lower c.first ≡ lower p
+      one = c.there there
+
+      lowered : map lower ws ≡ map lower c.before ++ (lower p ∷ map lower c.rest)
+      lowered = ap (map lower) c.cut ∙ map-append lower c.before (c.first ∷ c.rest) ∙ ap (λ x. map lower c.before ++ (x ∷ map lower c.rest)) one
+
+      same : set_of (map lower (ws ++ p ∷ [])) ≡ set_of (map lower ws)
+      same = ap set_of (map-append lower ws (p ∷ [])) ∙ ap (λ l. set_of (l ++ lower p ∷ [])) lowered ∙ set_there (lower p) (map lower c.before) (map lower c.rest) ∙ ap set_of (sym lowered)
+
+  -- it comes before a greater one
+  pub word_inserted : (room' new : List ℕ) (k e : ℕ) → AreStored room' (take (end - place.len - 1) room ++ 45 ∷ p) k → AreStored new (take k room' ++ take (place.len + 1) (drop (end - place.len - 1) room)) e
+      → IsWordStored text ws p new e
+  word_inserted room' new k e h stored = record {
+    all = c.before ++ (p ∷ (c.first ∷ c.rest));
+    same = record {
+      each = each_more;
+      each_kept = all_reordered (IsWord Attribute) order each_more;
+      few = omega (arith, ap length c.cut, length-append ws (p ∷ []), length-append c.before (c.first ∷ c.rest), length-append c.before (p ∷ (c.first ∷ c.rest)));
+      same = sym (set_of_reordered (map_reordered lower order));
+    };
+    stored = subst (λ (t : List ℕ). AreStored new t e) text_is stored;
+  }
+    where
+      order : Reordered (ws ++ p ∷ []) (c.before ++ (p ∷ (c.first ∷ c.rest)))
+      order = subst (λ (l : List (List ℕ)). Reordered l (c.before ++ (p ∷ (c.first ∷ c.rest)))) (sym (append_assoc c.before (c.first ∷ c.rest) (p ∷ [])) ∙ ap (λ l. l ++ p ∷ []) (sym c.cut))
+          (reordered_before c.before (last_first (c.first ∷ c.rest) p))
+
+      long : length (dashes (c.first ∷ c.rest)) ≡ place.len + 1
+      long = let l : length (dashes (c.first ∷ c.rest)) ≡ suc (length (join (c.first ∷ c.rest))) = ap suc (ap length (sym (join-dashes c.first c.rest))) in omega (arith, l, c.long)
+
+      parts : take end room ≡ (text ++ dashes c.before) ++ dashes (c.first ∷ c.rest)
+      parts = a.stored ∙ ap (λ l. text ++ dashes l) c.cut ∙ ap (λ t. text ++ t) (dashes-append c.before (c.first ∷ c.rest)) ∙ sym (append_assoc text (dashes c.before) (dashes (c.first ∷ c.rest)))
+
+      same_place : end - (place.len + 1) ≡ end - place.len - 1
+      same_place = omega arith
+
+      halves : (take (end - place.len - 1) room ≡ text ++ dashes c.before) × (take (place.len + 1) (drop (end - place.len - 1) room) ≡ dashes (c.first ∷ c.rest))
+      halves = subst (λ (n : ℕ). (take n room ≡ text ++ dashes c.before) × (take (place.len + 1) (drop n room) ≡ dashes (c.first ∷ c.rest))) same_place
+          (split_room room (text ++ dashes c.before) (dashes (c.first ∷ c.rest)) end (place.len + 1) room_end parts long)
+
+      text_is : take k room' ++ take (place.len + 1) (drop (end - place.len - 1) room) ≡ text ++ dashes (c.before ++ (p ∷ (c.first ∷ c.rest)))
+      text_is =
+          (λ j. (h.begins ∙ ap (λ t. t ++ 45 ∷ p) halves.0 ∙ words_stored text c.before p) j ++ halves.1 j)
+          ∙ append_assoc text (dashes (c.before ++ p ∷ [])) (dashes (c.first ∷ c.rest))
+          ∙ ap (λ t. text ++ t) (sym (dashes-append (c.before ++ p ∷ []) (c.first ∷ c.rest)))
+          ∙ ap (λ l. text ++ dashes l) (append_assoc c.before (p ∷ []) (c.first ∷ c.rest))
+
+pub words_in_room : (room text : List ℕ) (start end : ℕ) (ws : List (List ℕ)) → end ≤ length room → AreWordsStored room start end text ws → start < end
+    → pieces (take (end - start - 1) (take (length room - (start + 1)) (drop (start + 1) room))) ≡ ws
+words_in_room room text start end ws room_end a some =
+    pieces_in_room room text start end ws room_end a.before a.stored (all_weaker (IsWord Attribute) IsHyphenFree (word_hyphen_free Attribute) ws a.each) some
+
+pub among_here : (word : List ℕ) (l : Left) → IsLeft l → l.n < 16 → (there : Bool) → (there ≡ true → lower (piece_of l) ≡ lower word) → IsPlaceAmong word (pieces_of l) l.len (record { is_there = there; len = l.len })
+among_here word l h few there one = record {
+  before = [];
+  first = piece_of l;
+  rest = rest_of (pieces_of l);
+  cut = cut_left l h few;
+  there = one;
+  long = sym (length-joined l h) ∙ ap (λ ps. length (join ps)) (cut_left l h few);
+  within = omega arith;
+}
+
+pub among_later : (word p : List ℕ) (ps qs : List (List ℕ)) (m n : ℕ) → ps ≡ p ∷ qs → m ≤ n → (k : Place) → IsPlaceAmong word qs m k → IsPlaceAmong word ps n k
+among_later word p ps qs m n e le k h = record {
+  before = p ∷ h.before;
+  first = h.first;
+  rest = h.rest;
+  cut = e ∙ ap (λ l. p ∷ l) h.cut;
+  there = h.there;
+  long = h.long;
+  within = omega (arith, h.within);
+}
+
+pub attributes_none : (room : List ℕ) (start : ℕ) (l : Left) → start ≤ length room → AreAttributesSoFar (take start room) (pieces_of l) start start room l
+attributes_none room start l inside = record {
+  words = [];
+  kept = [];
+  cut = refl;
+  same = record { each = tt; each_kept = tt; few = omega arith; same = refl };
+  stored = record { before = length-take-le start room inside; stored = sym (append-nil (take start room)); each = tt };
+}
+
+module _ (text room p : List ℕ) (ps : List (List ℕ)) (start end : ℕ) (at : Left) (h : AreAttributesSoFar text ps start end room at) (w : IsWord Attribute p) (new : List ℕ) (e : ℕ)
+    (i : IsWordStored text h.kept p new e) where
+  more_same : AreSameWords (h.words ++ p ∷ []) i.all
+  more_same = record {
+    each = all_append (IsWord Attribute) h.words (p ∷ []) h.same.each (w, tt);
+    each_kept = i.same.each_kept;
+    few = omega (arith, i.same.few, h.same.few, length-append h.words (p ∷ []), length-append h.kept (p ∷ []));
+    same = i.same.same ∙ set_more h.words h.kept p h.same.same;
+  }
+
+  pub attribute_last : (n : ℕ) → pieces_of at ≡ p ∷ [] → AreAttributesStored text ps n new (record { end = e; next = None })
+  attribute_last n cut = record {
+    words = h.words ++ p ∷ [];
+    kept = i.all;
+    cut = h.cut ∙ ap (λ l. h.words ++ l) cut ∙ sym (append-nil (h.words ++ p ∷ []));
+    same = more_same;
+    stored = i.stored;
+    left = tt;
+  }
+
+  pub attribute_more : (next : Left) → pieces_of at ≡ p ∷ pieces_of next → AreAttributesSoFar text ps start e new next
+  attribute_more next cut = record {
+    words = h.words ++ p ∷ [];
+    kept = i.all;
+    cut = h.cut ∙ ap (λ l. h.words ++ l) cut ∙ sym (append_assoc h.words (p ∷ []) (pieces_of next));
+    same = more_same;
+    stored = record { before = h.stored.before; stored = i.stored.begins; each = i.same.each_kept };
+  }
+
+  pub attribute_behind : start ≤ e
+  attribute_behind = omega (arith, i.stored.more, h.stored.before, length-take-le e new (omega (arith, i.stored.more)), ap length i.stored.begins, length-append text (dashes i.all))
+
+pub attributes_end : (text room : List ℕ) (ps : List (List ℕ)) (start end n : ℕ) (at : Left) → AreAttributesSoFar text ps start end room at → end + 16 ≤ length room → IsLeft at → at.len ≤ n
+    → AreAttributesStored text ps n room (record { end = end; next = Some at })
+attributes_end text room ps start end n at h more left le = record {
+  words = h.words;
+  kept = h.kept;
+  cut = h.cut;
+  same = h.same;
+  stored = record { begins = h.stored.stored; more = more };
+  left = (left, le);
+}
+
+take_lower : (n : ℕ) (w : List ℕ) → take n (lower w) ≡ lower (take n w)
+unfolding lower
+take_lower zero w = refl
+take_lower (suc n) [] = refl
+take_lower (suc n) (b ∷ w) = ap (λ l. to_ascii_lowercase b ∷ l) (take_lower n w)
+
+-- the first bytes of sixteen in lower case
+pub first_lower : (n : ℕ) (w : List ℕ) → n ≤ 16 → take n (lower (take 16 w)) ≡ lower (take n w)
+first_lower n w few = take_lower n (take 16 w) ∙ ap lower (take-take n 16 w few)

@@ -1,0 +1,218 @@
+-- Lines that are brought into order.
+use Rattle.std.specs.Prelude.{◌≡◌, ◌≢◌, ⊤, ℕ, ◌+◌, ◌<◌, ◌≤◌, IsTrue, true, false, List, [], ◌∷◌, ◌++◌, length, map, take, Option, Some, None}
+use Rattle.std.specs.List.{AllByRecursion}
+use Rattle.std.specs.FinMap.{find}
+use Rattle.std.specs.Char.{to_ascii_lowercase}
+use Rattle.iloc_spec_grammar.specs.Syntax.{Text, Fields, Unicode, IsHyphenFree, UnicodeKey, Attribute, IsWord, IsKeyword, word_cmp, lower, dashes, join, fields_pieces, is_one_byte, code_u, code_x, languages}
+use Rattle.iloc_spec_grammar.specs.Meaning.{Locale, Means, normal_values, set_of}
+use Rattle.iloc_spec_grammar.specs.ByBlocks.{UnicodeMeans}
+use Rattle.iloc_blocks.specs.Blocks.{left_of}
+use Rattle.iloc_fronts.specs.Words.{two_number}
+use Rattle.iloc_fronts.specs.Left.{pieces_of, IsLeft}
+use Rattle.iloc_blocks.specs.Transform.{IsRest}
+use Rattle.iloc_fronts.specs.declared.left.Left.{Left}
+use Rattle.iloc_rewriting.specs.declared.keywords.Stored.{Stored}
+use Rattle.iloc_rewriting.specs.declared.keywords.Place.{Place}
+
+-- whatever the new text means, the old one means
+abbrev pub IsRewritten : Text → Text → Type 0
+IsRewritten t u = (M : Locale) → Means languages u M → Means languages t M
+
+-- the first n bytes of the room are the text, and there are sixteen more
+pub record AreStored (room t : Text) (n : ℕ) : Type 0 where
+  pub begins : take n room ≡ t
+  pub more : n + 16 ≤ length room
+
+-- what is left is shorter than so many bytes
+abbrev pub IsShorter : ℕ → Option Left → Type 0
+IsShorter len None = ⊤
+IsShorter len (Some l) = IsLeft l × (l.len < len)
+
+-- Fields.
+
+-- the values are words, and without `true` so are those that are kept
+pub record AreValuesKept (values kept : List Text) : Type 0 where
+  pub each : AllByRecursion (IsWord Attribute) values
+  pub each_kept : AllByRecursion (IsWord Attribute) kept
+  pub same : normal_values kept ≡ normal_values values
+
+-- values that come first are stored behind the text, but for `true`
+pub record IsValueStored (text : Text) (ps : List Text) (len : ℕ) (room : Text) (s : Stored) : Type 0 where
+  pub values : List Text
+  pub kept : List Text
+  pub cut : ps ≡ values ++ left_of s.next
+  pub words : AreValuesKept values kept
+  pub stored : AreStored room (text ++ dashes kept) s.end
+  pub left : IsRest len s.next
+
+-- so is a field with this key that comes first
+pub record IsFieldStored (text key : Text) (ps : List Text) (len : ℕ) (room : Text) (s : Stored) : Type 0 where
+  pub values : List Text
+  pub kept : List Text
+  pub cut : ps ≡ key ∷ (values ++ left_of s.next)
+  pub words : AreValuesKept values kept
+  pub stored : AreStored room (text ++ dashes (key ∷ kept)) s.end
+  pub left : IsShorter len s.next
+
+-- each key is less than those after it
+abbrev pub Ascend : Fields → Type 0
+Ascend [] = ⊤
+Ascend (f ∷ fs) = AllByRecursion (λ g. two_number f.0 < two_number g.0) fs × Ascend fs
+
+-- no key has a number above this one
+abbrev pub AreUpTo : ℕ → Fields → Type 0
+AreUpTo last fs = AllByRecursion (λ f. two_number f.0 ≤ last) fs
+
+-- keywords with ascending keys are stored behind the text
+pub record AreFieldsStored (room : Text) (start end : ℕ) (text : Text) (fields : Fields) : Type 0 where
+  pub before : length text ≡ start
+  pub stored : take end room ≡ text ++ dashes (fields_pieces fields)
+  pub each : AllByRecursion IsKeyword fields
+  pub ascend : Ascend fields
+
+-- keys with their values in normal form
+abbrev pub entries : Fields → Fields
+entries fs = map (λ f. (lower f.0, normal_values f.1)) fs
+
+-- both have the same first value for each key
+abbrev pub HaveSame : Fields → Fields → Type 0
+HaveSame fs gs = (q : Text) → find word_cmp q (entries fs) ≡ find word_cmp q (entries gs)
+
+-- a field with this key comes first, and with it the fields behind the text are still in order
+pub record IsInserted (text : Text) (fields : Fields) (key : Text) (ps : List Text) (len : ℕ) (room : Text) (s : Stored) : Type 0 where
+  pub values : List Text
+  pub kept : List Text
+  pub cut : ps ≡ key ∷ (values ++ left_of s.next)
+  pub words : AreValuesKept values kept
+  pub left : IsShorter len s.next
+  pub all : Fields
+  pub few : length all ≤ length fields + 1
+  pub stored : AreStored room (text ++ dashes (fields_pieces all)) s.end
+  pub each : AllByRecursion IsKeyword all
+  pub ascend : Ascend all
+  pub up_to : (m : ℕ) → AreUpTo m fields → two_number key ≤ m → AreUpTo m all
+  pub same : HaveSame (fields ++ (key, kept) ∷ []) all
+
+-- the fields before this place have lesser keys, and that of the next is told
+pub record IsPlace (number : ℕ) (ps : List Text) (len : ℕ) (p : Place) : Type 0 where
+  pub before : Fields
+  pub each : AllByRecursion IsKeyword before
+  pub less : AllByRecursion (λ f. two_number f.0 < number) before
+  pub key : Text
+  pub is_key : IsWord UnicodeKey key
+  pub rest : List Text
+  pub cut : ps ≡ fields_pieces before ++ (key ∷ rest)
+  pub at_least : number ≤ two_number key
+  pub there : IsTrue p.is_there → two_number key ≡ number
+  pub greater : p.is_there ≡ false → number < two_number key
+  pub long : p.len ≡ length (join (key ∷ rest))
+  pub within : p.len ≤ len
+
+-- what is left begins a block
+abbrev pub BeginsBlock : Option Left → Type 0
+BeginsBlock None = ⊤
+BeginsBlock (Some l) = IsLeft l × (l.n ≡ 1)
+
+-- keywords that come first are stored in order
+pub record AreKeywordsStored (text : Text) (ps : List Text) (room : Text) (s : Stored) : Type 0 where
+  pub written : Fields
+  pub kept : Fields
+  pub cut : ps ≡ fields_pieces written ++ left_of s.next
+  pub each : AllByRecursion IsKeyword written
+  pub each_kept : AllByRecursion IsKeyword kept
+  pub some : length kept ≤ length written
+  pub same : HaveSame written kept
+  pub stored : AreStored room (text ++ dashes (fields_pieces kept)) s.end
+  pub left : BeginsBlock s.next
+
+-- The block.
+
+-- the same attributes, in another order and without repeats
+pub record AreSameWords (words kept : List Text) : Type 0 where
+  pub each : AllByRecursion (IsWord Attribute) words
+  pub each_kept : AllByRecursion (IsWord Attribute) kept
+  pub few : length kept ≤ length words
+  pub same : set_of (map lower kept) ≡ set_of (map lower words)
+
+-- attributes that come first are stored
+pub record AreAttributesStored (text : Text) (ps : List Text) (len : ℕ) (room : Text) (s : Stored) : Type 0 where
+  pub words : List Text
+  pub kept : List Text
+  pub cut : ps ≡ words ++ left_of s.next
+  pub same : AreSameWords words kept
+  pub stored : AreStored room (text ++ dashes kept) s.end
+  pub left : IsRest len s.next
+
+-- words are stored behind the text
+pub record AreWordsStored (room : Text) (start end : ℕ) (text : Text) (words : List Text) : Type 0 where
+  pub before : length text ≡ start
+  pub stored : take end room ≡ text ++ dashes words
+  pub each : AllByRecursion (IsWord Attribute) words
+
+-- one word more is stored among them
+pub record IsWordStored (text : Text) (words : List Text) (word room : Text) (end : ℕ) : Type 0 where
+  pub all : List Text
+  pub same : AreSameWords (words ++ word ∷ []) all
+  pub stored : AreStored room (text ++ dashes all) end
+
+-- the word belongs where so many bytes are left of the pieces, or it is what comes there
+pub record IsPlaceAmong (word : Text) (ps : List Text) (len : ℕ) (p : Place) : Type 0 where
+  pub before : List Text
+  pub first : Text
+  pub rest : List Text
+  pub cut : ps ≡ before ++ (first ∷ rest)
+  pub there : p.is_there ≡ true → lower first ≡ lower word
+  pub long : p.len ≡ length (join (first ∷ rest))
+  pub within : p.len ≤ len
+
+-- attributes so far are stored, and other pieces are left
+pub record AreAttributesSoFar (text : Text) (ps : List Text) (start end : ℕ) (room : Text) (l : Left) : Type 0 where
+  pub words : List Text
+  pub kept : List Text
+  pub cut : ps ≡ words ++ pieces_of l
+  pub same : AreSameWords words kept
+  pub stored : AreWordsStored room start end text kept
+
+-- pieces up to the next block are stored as others, of which each meaning is theirs
+pub record IsUnicodeStored (text : Text) (ps : List Text) (room : Text) (s : Stored) : Type 0 where
+  pub body : List Text
+  pub new : List Text
+  pub cut : ps ≡ body ++ left_of s.next
+  pub body_long : AllByRecursion (λ p. is_one_byte p ≡ false) body
+  pub new_long : AllByRecursion (λ p. is_one_byte p ≡ false) new
+  pub new_free : AllByRecursion IsHyphenFree new
+  pub means : (v : Unicode) → UnicodeMeans new v → UnicodeMeans body v
+  pub stored : AreStored room (text ++ dashes new) s.end
+  pub left : BeginsBlock s.next
+
+-- the piece is no singleton `x`
+abbrev pub IsNoPrivate : Text → Type 0
+IsNoPrivate (c ∷ []) = to_ascii_lowercase c ≢ code_x
+IsNoPrivate _ = ⊤
+
+-- a singleton `u` comes before what is left, and none of `x` before it
+pub record LeadsToUnicode (ps : List Text) (len : ℕ) (l : Left) : Type 0 where
+  pub before : List Text
+  pub byte : ℕ
+  pub cut : ps ≡ before ++ ((byte ∷ []) ∷ pieces_of l)
+  pub no_private : AllByRecursion IsNoPrivate before
+  pub is_unicode : to_ascii_lowercase byte ≡ code_u
+  pub left : IsLeft l
+  pub less : l.len < len
+
+-- the new text is stored, and the old one means what it means
+abbrev pub IsRewrittenAs : Text → Text → ℕ → Type 0
+IsRewrittenAs t room n = (n + 16 ≤ length room) × IsRewritten t (take n room)
+
+-- Steps.
+
+-- keywords so far are stored in order behind the text, and others are left
+pub record AreKeywordsSoFar (text : Text) (ps : List Text) (start end last : ℕ) (room : Text) (l : Left) : Type 0 where
+  pub written : Fields
+  pub kept : Fields
+  pub cut : ps ≡ fields_pieces written ++ pieces_of l
+  pub each : AllByRecursion IsKeyword written
+  pub some : length kept ≤ length written
+  pub same : HaveSame written kept
+  pub stored : AreFieldsStored room start end text kept
+  pub up_to : AreUpTo last kept

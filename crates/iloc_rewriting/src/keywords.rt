@@ -1,0 +1,190 @@
+//! Stores keywords in the order of their keys.
+ghost use Rattle.std.specs.Prelude.{◌+◌, ◌≤◌, IfSome, length, take};
+ghost use Rattle.iloc_spec_grammar.specs.Syntax.{Fields, IsWord, Text, UnicodeKey};
+ghost use Rattle.iloc_fronts.specs.Left.{IsLeft, piece_of, pieces_of};
+ghost use Rattle.iloc_rewriting.specs.Rewriting.{
+  AreFieldsStored,
+  AreKeywordsStored,
+  AreUpTo,
+  IsFieldStored,
+  IsInserted,
+  IsPlace,
+  IsValueStored,
+};
+
+use crate::other::past_words;
+use crate::storing::{put_bytes, put_piece};
+use iloc_fronts::left::{Left, after_piece, left_in};
+use iloc_fronts::words::{is_attribute, is_key, is_true, number_of_two};
+use std::cmp::max;
+
+// What was stored of a line.
+#[derive(Clone, Copy)]
+pub(crate) struct Stored<'a> {
+    // Where the new line ends.
+    pub(crate) end: usize,
+    // What is left of the old one; `None` if nothing is.
+    pub(crate) next: Option<Left<'a>>,
+}
+
+// Where a field or an attribute belongs among others.
+#[derive(Clone, Copy)]
+pub(crate) struct Place {
+    // Whether its key, or the attribute, is there.
+    pub(crate) is_there: bool,
+    // How many bytes there are from the first on that is not less.
+    pub(crate) len: usize,
+}
+
+// Stores keywords in the order of their keys, without `true`. Of those with one key the first stays.
+#[inline(always)]
+pub(crate) fn put_keywords<'a>(left: Left<'a>, room: &mut [u8], start: usize) -> Option<Stored<'a>>
+    requires left { IsLeft left }
+    requires room { start + 16 ≤ length room.old }
+    ensures { IfSome result
+        (AreKeywordsStored (take start room.old) (pieces_of left.entry) room.new) }
+{
+    let mut at = left;
+    let mut end = start;
+    let mut last = 0;
+    'keys: while is_key(at.window, at.n) {
+        let stored = put_keyword(at, last, room, start, end)?;
+        last = max(last, number_of_two(at.window));
+        end = stored.end;
+        let Some(next) = stored.next else {
+            return Some(stored);
+        };
+        at = next;
+    }
+    if at.n != 1 {
+        return None;
+    }
+    Some(Stored {
+        end,
+        next: Some(at),
+    })
+}
+
+// Stores a field among those that begin at `start`, of which no key has a number above the last.
+#[inline(always)]
+fn put_keyword<'a>(
+    left: Left<'a>,
+    last: usize,
+    room: &mut [u8],
+    start: usize,
+    end: usize,
+) -> Option<Stored<'a>>
+    requires left { IsLeft left }
+    requires key { IsWord UnicodeKey (piece_of left) }
+    requires room { end + 16 ≤ length room.old }
+    requires start { start ≤ end }
+    ensures { (t : Text) (fs : Fields) → AreFieldsStored room.old start end t fs → AreUpTo last fs
+        → IfSome result (IsInserted t fs (piece_of left.entry) (pieces_of left.entry)
+        left.entry.len room.new) }
+{
+    if number_of_two(left.window) > last {
+        return put_field(left, room, end);
+    }
+    insert_field(left, room, start, end)
+}
+
+// Stores a field behind what is stored: its key, and its value without `true`.
+#[inline(always)]
+fn put_field<'a>(left: Left<'a>, room: &mut [u8], start: usize) -> Option<Stored<'a>>
+    requires left { IsLeft left }
+    requires key { IsWord UnicodeKey (piece_of left) }
+    requires room { start + 16 ≤ length room.old }
+    ensures { IfSome result (IsFieldStored (take start room.old) (piece_of left.entry)
+        (pieces_of left.entry) left.entry.len room.new) }
+{
+    let end = put_piece(left, room, start)?;
+    if left.n == left.len {
+        return Some(Stored { end, next: None });
+    }
+    put_values(after_piece(left), room, end)
+}
+
+// Stores pieces of a value without `true`.
+#[inline(always)]
+fn put_values<'a>(left: Left<'a>, room: &mut [u8], start: usize) -> Option<Stored<'a>>
+    requires left { IsLeft left }
+    requires room { start + 16 ≤ length room.old }
+    ensures { IfSome result
+        (IsValueStored (take start room.old) (pieces_of left.entry) left.entry.len room.new) }
+{
+    let mut at = left;
+    let mut end = start;
+    'values: loop {
+        if !is_attribute(at.window, at.n) {
+            return Some(Stored {
+                end,
+                next: Some(at),
+            });
+        }
+        if !is_true(at.window, at.n) {
+            end = put_piece(at, room, end)?;
+        }
+        if at.n == at.len {
+            return Some(Stored { end, next: None });
+        }
+        at = after_piece(at);
+    }
+}
+
+// Stores a field before the first whose key is greater, unless its key is there. The fields begin at
+// `start`.
+#[inline(never)]
+fn insert_field<'a>(left: Left<'a>, room: &mut [u8], start: usize, end: usize) -> Option<Stored<'a>>
+    requires left { IsLeft left }
+    requires key { IsWord UnicodeKey (piece_of left) }
+    requires room { end + 16 ≤ length room.old }
+    requires start { start ≤ end }
+    ensures { (t : Text) (fs : Fields) → AreFieldsStored room.old start end t fs
+        → IfSome result (IsInserted t fs (piece_of left.entry) (pieces_of left.entry)
+        left.entry.len room.new) }
+{
+    if start == end {
+        return None;
+    }
+    let number = number_of_two(left.window);
+    let place = place_of(left_in(&room[start + 1..], end - start - 1), number)?;
+    if place.is_there {
+        let skipped = put_field(left, room, end)?;
+        return Some(Stored {
+            end,
+            next: skipped.next,
+        });
+    }
+    let before = end - place.len - 1;
+    let mut later = [0u8; 128];
+    let len = put_bytes(&room[before..], place.len + 1, &mut later, 0)?;
+    let stored = put_field(left, room, before)?;
+    let end = put_bytes(&later, len, room, stored.end)?;
+    Some(Stored {
+        end,
+        next: stored.next,
+    })
+}
+
+// Where a field with a key of this number belongs among these fields.
+#[inline(always)]
+fn place_of(left: Left<'_>, number: usize) -> Option<Place>
+    requires { IsLeft left }
+    ensures { IfSome result (IsPlace number (pieces_of left.entry) left.entry.len) }
+{
+    let mut at = left;
+    'fields: while is_key(at.window, at.n) {
+        let other = number_of_two(at.window);
+        if other >= number {
+            return Some(Place {
+                is_there: other == number,
+                len: at.len,
+            });
+        }
+        if at.n == at.len {
+            return None;
+        }
+        at = past_words(3, after_piece(at))?;
+    }
+    None
+}
