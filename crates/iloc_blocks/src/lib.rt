@@ -23,7 +23,7 @@ mod blocks;
 mod body;
 pub mod faults;
 pub mod ordered;
-mod other;
+pub mod other;
 mod transform;
 mod unicode;
 

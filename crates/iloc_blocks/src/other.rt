@@ -9,10 +9,10 @@ use crate::body::Body;
 use iloc_fronts::left::{Left, after_piece};
 use iloc_fronts::words::{is_subtag, is_word_from};
 
-// Passes over words of at least `least` letters and digits. What is left begins with another piece;
-// `None` if nothing is.
+/// Passes over words of at least `least` letters and digits. What is left begins with another piece;
+/// `None` if nothing is.
 #[inline(always)]
-pub(crate) fn past_words(least: usize, left: Left<'_>) -> Option<Left<'_>>
+pub fn past_words(least: usize, left: Left<'_>) -> Option<Left<'_>>
     requires { IsLeft left }
     ensures { ArePast least left.entry.len (pieces_of left.entry) result }
 {

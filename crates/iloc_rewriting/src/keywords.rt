@@ -12,8 +12,8 @@ ghost use Rattle.iloc_rewriting.specs.Rewriting.{
   IsValueStored,
 };
 
-use crate::other::past_words;
 use crate::storing::{put_bytes, put_piece};
+use iloc_blocks::other::past_words;
 use iloc_fronts::left::{Left, after_piece, left_in};
 use iloc_fronts::words::{is_attribute, is_key, is_true, number_of_two};
 use std::cmp::max;
