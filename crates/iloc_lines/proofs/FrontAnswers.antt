@@ -1,12 +1,12 @@
 -- Lines that are refused for what stands at their front.
-use Rattle.std.proofs.Common.{◌≡◌, ◌≢◌, ◌⊎◌, inl, inr, ℕ, ◌==◌, Bool, true, false, cond, ◌&&◌, List, [], ◌∷◌, ◌++◌, get_or, Some, Result, Ok, Err, refl, sym, ap, ◌∙◌}
+use Rattle.std.proofs.Common.{◌≡◌, ◌≢◌, ◌⊎◌, inl, inr, ℕ, ◌==◌, Bool, true, false, cond, ◌&&◌, List, [], ◌∷◌, ◌++◌, get_or, Some, Result, Ok, Err, MatchResult, refl, sym, ap, ◌∙◌, subst}
 use Rattle.std.specs.Prelude.{if◌then◌else◌}
 use Rattle.std.specs.Char.{is_ascii_alphanumeric, to_ascii_lowercase}
 use Rattle.std.specs.List.{AllByRecursion}
 use Rattle.std.proofs.lemmas.Bool.{cases_Bool, true≢false}
 use Rattle.iloc_spec_grammar.specs.Syntax.{pieces, Language, is_word, IsWord, languages, front, blocks, head, tail_blocks, first_piece}
 use Rattle.iloc_spec_grammar.specs.Reading.{rest_of, from_block, starts_block, front_of, after_front, after_region, identifier_of}
-use Rattle.iloc_spec_grammar.specs.Meaning.{Fault, SpellsIdentifier, not_an_identifier}
+use Rattle.iloc_spec_grammar.specs.Meaning.{Fault, SpellsIdentifier, not_a_language, not_an_identifier}
 use Rattle.iloc_spec_grammar.specs.Meaning as faults
 use Rattle.iloc_spec_grammar.proofs.PiecesLaws.{at_pieces, pieces_nonempty}
 use Rattle.iloc_spec_grammar.proofs.RawLaws.{languages_table}
@@ -15,16 +15,14 @@ use Rattle.iloc_spec_grammar.proofs.ReadingLaws.{pieces-front_of, front_words, a
 use Rattle.iloc_spec_parts.specs.Small.{SmallIdentifier, small_identifier}
 use Rattle.iloc_spec_parts.specs.Small as small
 use Rattle.iloc_spec_parts.specs.SmallComputing.{small_identifier_result, has_small_variants, is_u, is_small_block, has_small_keyword, block_fault, keyword_read, blocks_result, after_identifier, small_result}
-use Rattle.iloc_spec_preferences.specs.DataLocales.{not_small, data_text}
+use Rattle.iloc_spec_preferences.specs.DataLocales.{DataMeans, HasDataFault, not_small}
+use Rattle.iloc_spec_preferences.proofs.DataLaws.{data_answer}
 use Rattle.iloc_spec_preferences.specs.DataComputing.{data_result, data_of_result}
-use Rattle.iloc_spec_output.specs.Output.{OfIdentifiers, OfLocales, OfDataLocales, no_identifier, no_locale, no_data_locale}
-use Rattle.iloc_spec_output.specs.Output as outputs
-use Rattle.iloc_spec_output.proofs.OutputLaws.{only_answer}
-use Rattle.iloc_subtags.specs.declared.parse_error.ParseError.TheVariants.{InvalidSubtag}
+use Rattle.iloc_subtags.specs.declared.parse_error.ParseError.TheVariants.{InvalidLanguage, InvalidSubtag}
 use Rattle.iloc_fronts.specs.Front.{GoesOn, IsFront, rest_of_block}
 use Rattle.iloc_fronts.specs.declared.front.Block.{Block}
 use Rattle.iloc_fronts.specs.declared.front.Front.TheVariants as fronts
-use Rattle.iloc_lines.specs.Output.{IsRefused, refusal_text}
+use Rattle.iloc_lines.specs.Told.{IsRefused}
 use Rattle.iloc_lines.specs.declared.Mode.{Mode}
 use Rattle.iloc_lines.specs.declared.Mode.TheVariants.{Langid, Locale, Data}
 
@@ -35,12 +33,19 @@ BeginsWell t = IsWord (Language languages) (first_piece (pieces t))
 -- what is left after the words that fit is more than nothing
 langid_refused : (t : List ℕ) → BeginsWell t → after_front (pieces t) ≢ [] → IsRefused Langid t InvalidSubtag
 langid_refused t l more =
-    sym (only_answer languages_table OfIdentifiers t (refusal_text InvalidSubtag)
-    (no_identifier (not_an_identifier l (λ s. more (ap after_front s.2 ∙ after_front-pieces s.0 s.1.words)))))
+    not_an_identifier l (λ s. more (ap after_front s.2 ∙ after_front-pieces s.0 s.1.words))
 
 pub same_first : (ps : List (List ℕ)) → first_piece ps ≡ first_piece (head ps)
 same_first [] = refl
 same_first (p ∷ ps) = refl
+
+-- ---- no language
+
+pub no_language_refused : (mode : Mode) (t : List ℕ) → IsFront t fronts.NoLanguage → IsRefused mode t InvalidLanguage
+no_language_refused Langid t h = not_a_language h
+no_language_refused Locale t h = faults.no_language h
+no_language_refused Data t h =
+    not_small (small.bad_head (small.no_language (sym (ap (is_word (Language languages)) (same_first (pieces t))) ∙ h)))
 
 -- ---- a piece that fits nowhere
 
@@ -56,13 +61,11 @@ no_head t = at_pieces (λ ps. starts_block (after_front ps) ≡ false → ¬ (Sp
 
 pub misfit_refused : (mode : Mode) (t : List ℕ) → BeginsWell t → starts_block (after_front (pieces t)) ≡ false → IsRefused mode t InvalidSubtag
 misfit_refused Langid t l none = langid_refused t l (λ e. true≢false (sym (ap starts_block e) ∙ none))
-misfit_refused Locale t l none =
-    sym (only_answer languages_table OfLocales t (refusal_text InvalidSubtag) (no_locale (faults.no_identifier l (no_head t none))))
+misfit_refused Locale t l none = faults.no_identifier l (no_head t none)
 misfit_refused Data t l none =
-    sym (only_answer languages_table OfDataLocales t (refusal_text InvalidSubtag)
-    (no_data_locale (not_small (small.bad_head (small.no_identifier
+    not_small (small.bad_head (small.no_identifier
     (sym (ap (is_word (Language languages)) (same_first (pieces t))) ∙ l)
-    (λ r s. no_head t none (s.written, s.grammatical, s.spelled)))))))
+    (λ r s. no_head t none (s.written, s.grammatical, s.spelled))))
 
 -- ---- a block
 
@@ -125,11 +128,15 @@ small_refused t b bs l e other fault = at_pieces Refused by t l e
           ∙ (λ j. if other j then Ok (record { id = good.0; keyword = Some (keyword_read b.1) }) else Err (fault j))
     ]
 
+-- what is computed of a data locale is its fault
+pub data_fault : (t : List ℕ) (f : Fault) → data_result languages t ≡ Err f → HasDataFault languages t f
+data_fault t f e = subst (λ r. MatchResult r (DataMeans languages t) (HasDataFault languages t)) e (data_answer languages_table t)
+
 pub data_refused : (t : List ℕ) (b : ℕ × List (List ℕ)) (bs : List (ℕ × List (List ℕ))) → BeginsWell t → tail_blocks (pieces t) ≡ b ∷ bs
     → is_small_block b bs ≡ false → block_fault b ≡ faults.InvalidSubtag → IsRefused Data t InvalidSubtag
-unfolding outputs.line_answer data_result
+unfolding data_result
 data_refused t b bs l e other fault =
-    ap (λ r. outputs.text_or_refusal data_text (data_of_result r)) (small_refused t b bs l e other fault)
+    data_fault t faults.InvalidSubtag (ap data_of_result (small_refused t b bs l e other fault))
 
 pub no_u : (b : ℕ × List (List ℕ)) (bs : List (ℕ × List (List ℕ))) → is_u b.0 ≡ false → is_small_block b bs ≡ false
 no_u b [] e = ap (λ (u : Bool). u && has_small_keyword b.1) e

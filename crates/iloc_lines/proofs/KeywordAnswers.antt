@@ -20,15 +20,11 @@ use Rattle.iloc_spec_grammar.proofs.FaultLaws.{all_blocks}
 use Rattle.iloc_spec_parts.specs.Small.{SmallIdentifier, IsSmallIdentifier, SmallLocale, small_identifier}
 use Rattle.iloc_spec_parts.specs.Small as small
 use Rattle.iloc_spec_grammar.proofs.IdentifierLaws.{identifier_of-pieces}
-use Rattle.iloc_spec_grammar.proofs.RawLaws.{languages_table}
 use Rattle.iloc_spec_parts.specs.SmallComputing.{small_identifier_result, has_small_variants, is_u, is_small_block, has_small_keyword, keyword_read, block_fault, blocks_result, after_identifier, small_result}
 use Rattle.iloc_spec_preferences.proofs.Keys.{sd}
-use Rattle.iloc_spec_preferences.specs.DataLocales.{not_small, agreed, made_of, named_subdivision, small_part, data_of_small, data_text}
+use Rattle.iloc_spec_preferences.specs.DataLocales.{not_small, agreed, made_of, named_subdivision, small_part, data_of_small}
 use Rattle.iloc_spec_preferences.specs.Subdivisions.{Subdivision, both_words, region_length}
 use Rattle.iloc_spec_preferences.specs.DataComputing.{data_result, data_of_result}
-use Rattle.iloc_spec_output.specs.Output.{OfDataLocales, no_data_locale}
-use Rattle.iloc_spec_output.proofs.OutputLaws.{only_answer}
-use Rattle.iloc_spec_output.specs.Output as outputs
 use Rattle.iloc_subtags.specs.declared.parse_error.ParseError.{ParseError}
 use Rattle.iloc_subtags.specs.declared.parse_error.ParseError.TheVariants.{InvalidSubtag, InvalidExtension}
 use Rattle.iloc_fronts.specs.Front.{GoesOn, IsFront, rest_of_block}
@@ -37,9 +33,9 @@ use Rattle.iloc_blocks.proofs.BlockLemmas.{front_past}
 use Rattle.iloc_fronts.specs.declared.front.Block.{Block}
 use Rattle.iloc_fronts.specs.declared.front.Front.TheVariants as fronts
 use Rattle.iloc_fronts.specs.declared.keyword.Keyword.TheVariants as keyword
-use Rattle.iloc_lines.specs.Output.{IsRefused, refusal_text}
+use Rattle.iloc_lines.specs.Told.{IsRefused}
 use Rattle.iloc_lines.specs.declared.Mode.TheVariants.{Data}
-use Rattle.iloc_lines.proofs.FrontAnswers.{same_first, BeginsWell, blocks_left, block_told, no_u, data_refused}
+use Rattle.iloc_lines.proofs.FrontAnswers.{same_first, BeginsWell, blocks_left, block_told, no_u, data_fault, data_refused}
 
 -- ---- the block of `u`
 
@@ -338,9 +334,9 @@ large_head p qs l h =
     λ j. if l j then (if many j then Ok (small_identifier (identifier_of (p ∷ front qs))) else Err faults.InvalidSubtag) else Err faults.InvalidLanguage
 
 pub large_refused : (t : List ℕ) (b : Block) → IsFront t (fronts.Block b) → b.len + 9 < b.tail → IsRefused Data t InvalidSubtag
-unfolding outputs.line_answer data_result small_result after_identifier
+unfolding data_result small_result after_identifier
 large_refused t b h many =
-    ap (λ r. outputs.text_or_refusal data_text (data_of_result r)) (at_pieces Found by t h.0 (many_before t b h.1 many))
+    data_fault t faults.InvalidSubtag (ap data_of_result (at_pieces Found by t h.0 (many_before t b h.1 many)))
   where
     Found : List (List ℕ) → Type 0
     Found qs = IsWord (Language languages) (first_piece qs) → has_small_variants (front (after_region qs)) ≡ false
@@ -422,11 +418,10 @@ module _ (t : List ℕ) (b : Block) (h : IsFront t (fronts.Block b)) (letter : i
           )
 
   pub single_refused : b.tail ≤ b.len + 9 → IsKeywordOf rest keyword.Single → IsRefused Data t InvalidExtension
-  unfolding outputs.line_answer data_result
+  unfolding data_result
   single_refused few s =
       let found = single_result few (single_reads rest s) in
-      ap (λ r. outputs.text_or_refusal data_text (data_of_result r)) found.1
-      ∙ ap (λ o. outputs.text_or_refusal data_text (ok_or o faults.InvalidExtension)) found.2
+      data_fault t faults.InvalidExtension (ap data_of_result found.1 ∙ ap (λ o. ok_or o faults.InvalidExtension) found.2)
 
 -- ---- two variants or more
 
@@ -456,10 +451,9 @@ many_in_head t = at_pieces (λ qs. past (is_word Variant) (after_region qs) ≡ 
 
 pub variants_refused : (t : List ℕ) → IsFront t fronts.Variants → IsRefused Data t InvalidSubtag
 variants_refused t h =
-    sym (only_answer languages_table OfDataLocales t (refusal_text InvalidSubtag)
-    (no_data_locale (not_small (small.bad_head (small.no_identifier
+    not_small (small.bad_head (small.no_identifier
     (sym (ap (is_word (Language languages)) (same_first (pieces t))) ∙ h.0)
-    (many_in_head t h.1.0 h.1.1))))))
+    (many_in_head t h.1.0 h.1.1)))
 
 -- ---- a singleton that is no letter and no digit
 
@@ -471,9 +465,9 @@ unfolding block_fault
 unlettered_fault b e = rw e refl
 
 pub unlettered_refused : (t : List ℕ) (b : Block) → IsFront t (fronts.Block b) → is_ascii_alphanumeric (get_or b.window.now 0 0) ≡ false → b.tail ≤ b.len + 9 → IsRefused Data t InvalidExtension
-unfolding outputs.line_answer data_result small_result after_identifier blocks_result
+unfolding data_result small_result after_identifier blocks_result
 unlettered_refused t b h no_letter few =
-    ap (λ r. outputs.text_or_refusal data_text (data_of_result r)) (at_pieces Found by t h.0 told.2 (few_before t b h.1 few))
+    data_fault t faults.InvalidExtension (ap data_of_result (at_pieces Found by t h.0 told.2 (few_before t b h.1 few)))
   where
     told : (qs : List (List ℕ)) × (bs : List (ℕ × List (List ℕ))) × (tail_blocks (pieces t) ≡ (get_or b.window.now 0 0, qs) ∷ bs)
     told = block_told t b h.0 h.1

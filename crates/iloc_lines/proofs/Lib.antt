@@ -1,3 +1,6 @@
+pub mod LineCuts
+pub mod LineLaws
+pub mod OutputLaws
 pub mod BlockLemmas
 pub mod EndLemmas
 pub mod KnownLemmas

@@ -8,9 +8,9 @@ use Rattle.std.specs.Io.KnownBytes.{Appends, Consumes, IsAtEnd, Keeps}
 use Rattle.iloc_lines.specs.declared.Mode.{Mode}
 use Rattle.iloc_spec_grammar.proofs.RawLaws.{languages_table}
 use Rattle.iloc_spec_grammar.specs.Syntax.{languages}
-use Rattle.iloc_spec_output.specs.Output.{IsOutput}
-use Rattle.iloc_spec_output.proofs.OutputLaws.{is_output}
-use Rattle.iloc_lines.specs.Output.{mode_of, output, BeginsOutput, WritesAll, WritesBeginning}
+use Rattle.iloc_lines.specs.Answers.{IsOutput}
+use Rattle.iloc_lines.proofs.OutputLaws.{is_output}
+use Rattle.iloc_lines.specs.Output.{output, BeginsOutput, WritesAll, WritesBeginning}
 use Rattle.iloc_writeable.specs.Growth.{appends_nothing, appends_both}
 use Rattle.iloc_lines.proofs.KnownLemmas.{Consumes-kept, Consumes-nothing, Consumes-then}
 
@@ -119,7 +119,7 @@ module _ (mode : Mode) where
 
   -- what begins the output that is computed
   begins_output : (input written : List ℕ) → StartsWith (output mode input) written → BeginsOutput mode input written
-  begins_output input written h = (output mode input, is_output languages_table (mode_of mode) input, h)
+  begins_output input written h = (output mode input, is_output languages_table mode input, h)
 
   pub Stands-front : (u u' h h' : Option (List ℕ)) (pending : List ℕ) → Stands mode u u' h h' pending → WritesBeginning mode u u' h h'
   Stands-front u u' h h' pending s = record {
@@ -158,7 +158,7 @@ module _ (mode : Mode) where
     reads = s.reads;
     all_read = end;
     writes = appends_both h h' h2 s.written replies s.writes k;
-    is_output = subst (IsOutput languages (mode_of mode) s.read) (last u u' h h' pending replies s e) (is_output languages_table (mode_of mode) s.read);
+    is_output = subst (IsOutput languages mode s.read) (last u u' h h' pending replies s e) (is_output languages_table mode s.read);
   }
 
   pub Stands-end_part : (u u' h h' h2 : Option (List ℕ)) (pending replies part : List ℕ) → Stands mode u u' h h' pending → IsAtEnd u'

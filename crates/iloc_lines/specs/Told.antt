@@ -1,31 +1,44 @@
--- What is told of a line at once.
+-- What is told of a text at once.
 use Rattle.std.specs.Prelude.{◌≡◌, ⊤}
-use Rattle.iloc_spec_grammar.specs.Syntax.{Text}
+use Rattle.iloc_spec_grammar.specs.Syntax.{Text, languages}
+use Rattle.iloc_subtags.specs.declared.parse_error.ParseError.{ParseError}
+use Rattle.iloc_subtags.specs.declared.parse_error.ParseError.TheVariants as errors
+use Rattle.iloc_subtags.specs.Judging.{Refusal}
 use Rattle.iloc_blocks.specs.Ordered.{IsStored, text_of}
 use Rattle.iloc_blocks.specs.declared.ordered.Ordered.{Ordered}
 use Rattle.iloc_blocks.specs.declared.faults.BadBlock.{BadBlock}
 use Rattle.iloc_blocks.specs.declared.faults.BadBlock.TheVariants as bad
-use Rattle.iloc_subtags.specs.declared.parse_error.ParseError.{ParseError}
-use Rattle.iloc_subtags.specs.declared.parse_error.ParseError.TheVariants as errors
-use Rattle.iloc_lines.specs.Output.{IsRefused, line_answer}
+use Rattle.iloc_lines.specs.Answers.{IsNormalText, IsFaulty}
 use Rattle.iloc_lines.specs.declared.Mode.{Mode}
 use Rattle.iloc_lines.specs.declared.Mode.TheVariants.{Locale}
-use Rattle.iloc_lines.specs.declared.faults.Told.{Told}
-use Rattle.iloc_lines.specs.declared.faults.Told.TheVariants as told
+use Rattle.iloc_lines.specs.declared.told.Lead.{Lead}
+use Rattle.iloc_lines.specs.declared.told.Lead.TheVariants as lead
+use Rattle.iloc_lines.specs.declared.told.Told.{Told}
+use Rattle.iloc_lines.specs.declared.told.Told.TheVariants as told
 
 -- why a locale with such a bad block is refused
 abbrev pub refusal_of : BadBlock → ParseError
 refusal_of bad.Misfit = errors.InvalidExtension
 refusal_of bad.Duplicated = errors.DuplicatedExtension
 
--- in the mode the line is answered with this text
-pub record IsAnswered (mode : Mode) (line : Text) (o : Ordered) : Type 0 where
-  pub stored : IsStored o
-  pub answer : line_answer mode line ≡ text_of o
+-- in the mode, the text has the fault of this refusal
+abbrev pub IsRefused : Mode → Text → ParseError → Type 0
+IsRefused mode t e = Refusal (IsFaulty languages mode t) ⊥ e
 
--- what is told is so; that a line may have the order of its text is told of locales alone
+-- what the front tells is so; what blocks may tell is asked of locales alone
+abbrev pub IsLead : Mode → Text → Lead → Type 0
+IsLead mode t (lead.Refused e) = IsRefused mode t e
+IsLead mode t (lead.Variant n) = ⊤
+IsLead mode t (lead.Blocks n) = mode ≡ Locale
+IsLead mode t lead.Nothing = ⊤
+
+-- in the mode, the normal text is that of a plain identifier, and what follows it in lower case
+pub record IsInOrder (mode : Mode) (t : Text) (o : Ordered) : Type 0 where
+  pub stored : IsStored o
+  pub normal : IsNormalText languages mode t (text_of o)
+
+-- what is told is so
 abbrev pub IsTold : Mode → Text → Told → Type 0
-IsTold mode line (told.Refused e) = IsRefused mode line e
-IsTold mode line (told.Varied n) = ⊤
-IsTold mode line (told.Ordered n) = mode ≡ Locale
-IsTold mode line told.Nothing = ⊤
+IsTold mode t (told.Ordered o) = IsInOrder mode t o
+IsTold mode t (told.Refused e) = IsRefused mode t e
+IsTold mode t told.Nothing = ⊤

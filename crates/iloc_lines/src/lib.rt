@@ -12,11 +12,11 @@ ghost use Rattle.iloc_lines.specs.ReplyBlock.{held};
 ghost use Rattle.iloc_lines.specs.declared.RunError.TheVariants.{OutOfMemory};
 ghost use Rattle.iloc_lines.specs.Ending.{ending_status, ending_text, word_of};
 
-mod faults;
+pub mod laws;
 mod lines;
 pub mod replies;
 pub mod reply_block;
-mod shape;
+pub mod told;
 
 pub use replies::{write_refusal, write_text};
 pub use reply_block::ReplyBlock;

@@ -24,21 +24,18 @@ ghost use Rattle.std.specs.Io.KnownBytes.{Appends};
 ghost use Rattle.iloc_writeable.specs.Growth.{AddsBeginning};
 ghost use Rattle.iloc_lines.specs.Output.{output, reply};
 ghost use Rattle.iloc_lines.specs.ReplyBlock.{held};
-ghost use Rattle.iloc_spec_output.specs.Lines.{IsOneLine};
+ghost use Rattle.iloc_lines.specs.Lines.{IsOneLine};
 ghost use Rattle.std.specs.Simd.Lanes.{mask_l};
 ghost use Rattle.iloc_spec_grammar.specs.Syntax.{Text};
 ghost use Rattle.iloc_lines.specs.declared.Mode.TheVariants as Mode;
 ghost use Rattle.memchr.specs.Find.{IsFirstByte, Nowhere, Passes, is_byte};
 
-use crate::faults::{Told, error_of, told_at_front};
 use crate::replies::write_refusal;
 use crate::reply_block::ReplyBlock;
-use crate::shape::looks_bad;
+use crate::told::{Lead, ROOM, Told, read_lead, tell_blocks, tell_varied};
 use crate::{Answers, RunError};
-use iloc_blocks::{Reading, find_bad_block, read_ordered, read_varied};
 use iloc_fronts::may_begin;
 use iloc_plain::read_plain;
-use iloc_rewriting::rewrite;
 use iloc_subtags::ParseError;
 use memchr::memchr_iter;
 use std::alloc::{AllocError, Global};
@@ -47,9 +44,6 @@ use std::simd::prelude::*;
 
 // The bytes that are asked of the reader at once.
 const BLOCK: usize = 65536;
-
-// The room for a line that is brought into order. Longer ones are parsed.
-const REWRITTEN: usize = 128;
 
 // Room for what one read gives.
 pub(crate) fn new_block(alloc: Global) -> Result<Vec<u8>, AllocError>
@@ -114,49 +108,36 @@ fn split_line(bytes: &[u8]) -> Option<(&[u8], &[u8])>
     Some((line, &later[1..]))
 }
 
-// Adds the reply to the line that this window begins with: at once if it is plain or told by its front,
-// and else as the mode parses it. Sixteen bytes behind the line may be loaded.
+// Adds the reply to the line that this window begins with: at once if it is told, and else as the mode parses it.
+// Sixteen bytes behind the line may be loaded. A line out of order is brought into order in the room.
 #[inline(always)]
 fn reply_to<A: Answers>(
     answers: &mut A,
     window: &[u8],
-    line: &[u8],
+    len: usize,
+    room: &mut [u8],
     replies: &mut ReplyBlock,
 ) -> Result<(), AllocError>
-    requires { take (length line.now) window.now ≡ line.now }
-    ensures { OnOk result (held replies.new ≡ held replies.old ++ reply A.mode line.now) }
+    requires { len ≤ length window.now }
+    ensures { OnOk result (held replies.new
+        ≡ held replies.old ++ reply A.mode (take len window.now)) }
 {
-    if window.len() - line.len() < 16 {
-        return answers.reply(line, replies);
+    if window.len() - len < 16 {
+        return answers.reply(&window[..len], replies);
     }
-    if !may_begin(window, line.len()) {
+    if !may_begin(window, len) {
         return write_refusal(ParseError::InvalidLanguage, replies);
     }
-    if line.len() <= 16 {
-        if let Some(plain) = read_plain(window, line.len()) {
+    if len <= 16 {
+        if let Some(plain) = read_plain(window, len) {
             return replies.push_plain(&plain);
         }
     }
-    reply_by_front(answers, window, line, replies)
-}
-
-// The same by what stands at the line's front.
-#[inline(always)]
-fn reply_by_front<A: Answers>(
-    answers: &mut A,
-    window: &[u8],
-    line: &[u8],
-    replies: &mut ReplyBlock,
-) -> Result<(), AllocError>
-    requires begins { take (length line.now) window.now ≡ line.now }
-    requires room { length line.now + 16 ≤ length window.now }
-    ensures { OnOk result (held replies.new ≡ held replies.old ++ reply A.mode line.now) }
-{
-    match told_at_front(answers.mode(), window, line.len()) {
-        Told::Refused(error) => write_refusal(error, replies),
-        Told::Varied(at) => reply_to_varied(answers, window, line, at, replies),
-        Told::Ordered(at) => reply_to_ordered(answers, window, line, at, replies),
-        Told::Nothing => answers.reply(line, replies),
+    match read_lead(answers.mode(), window, len) {
+        Lead::Refused(error) => write_refusal(error, replies),
+        Lead::Variant(at) => reply_to_varied(answers, window, len, at, replies),
+        Lead::Blocks(at) => reply_to_blocks(answers, window, len, at, room, replies),
+        Lead::Nothing => answers.reply(&window[..len], replies),
     }
 }
 
@@ -165,88 +146,40 @@ fn reply_by_front<A: Answers>(
 fn reply_to_varied<A: Answers>(
     answers: &mut A,
     window: &[u8],
-    line: &[u8],
+    len: usize,
     at: usize,
     replies: &mut ReplyBlock,
 ) -> Result<(), AllocError>
-    requires begins { take (length line.now) window.now ≡ line.now }
-    requires room { length line.now + 16 ≤ length window.now }
-    ensures { OnOk result (held replies.new ≡ held replies.old ++ reply A.mode line.now) }
+    requires { len + 16 ≤ length window.now }
+    ensures { OnOk result (held replies.new
+        ≡ held replies.old ++ reply A.mode (take len window.now)) }
 {
-    match read_varied(window, line.len(), at) {
-        Some(told) => replies.push_ordered(&told),
-        None => answers.reply(line, replies),
+    match tell_varied(window, len, at) {
+        Told::Ordered(line) => replies.push_ordered(&line),
+        Told::Refused(error) => write_refusal(error, replies),
+        Told::Nothing => answers.reply(&window[..len], replies),
     }
 }
 
-// The same of a locale that may be a plain identifier of so many bytes, and what is printed after it.
+// The same of a locale that may be a plain identifier of so many bytes, and what follows it.
 #[inline(never)]
-fn reply_to_ordered<A: Answers>(
+fn reply_to_blocks<A: Answers>(
     answers: &mut A,
     window: &[u8],
-    line: &[u8],
+    len: usize,
     at: usize,
+    room: &mut [u8],
     replies: &mut ReplyBlock,
 ) -> Result<(), AllocError>
     requires mode { A.mode ≡ Mode.Locale }
-    requires begins { take (length line.now) window.now ≡ line.now }
-    requires room { length line.now + 16 ≤ length window.now }
-    ensures { OnOk result (held replies.new ≡ held replies.old ++ reply A.mode line.now) }
+    requires room { len + 16 ≤ length window.now }
+    ensures { OnOk result (held replies.new
+        ≡ held replies.old ++ reply A.mode (take len window.now)) }
 {
-    match read_ordered(window, line.len(), at) {
-        Reading::Ordered(told) => replies.push_ordered(&told),
-        Reading::BadBlock => write_refusal(ParseError::InvalidExtension, replies),
-        Reading::Unordered => reply_to_rewritten(answers, window, line, at, replies),
-        Reading::Other if looks_bad(window, line.len()) => {
-            reply_to_faulty(answers, window, line, at, replies)
-        }
-        Reading::Other => answers.reply(line, replies),
-    }
-}
-
-// The same of a locale whose block of `u` may have to be brought into order.
-#[inline(never)]
-fn reply_to_rewritten<A: Answers>(
-    answers: &mut A,
-    window: &[u8],
-    line: &[u8],
-    at: usize,
-    replies: &mut ReplyBlock,
-) -> Result<(), AllocError>
-    requires mode { A.mode ≡ Mode.Locale }
-    requires begins { take (length line.now) window.now ≡ line.now }
-    requires room { length line.now + 16 ≤ length window.now }
-    ensures { OnOk result (held replies.new ≡ held replies.old ++ reply A.mode line.now) }
-{
-    let mut room = [0u8; REWRITTEN];
-    let Some(len) = rewrite(window, line.len(), &mut room) else {
-        return reply_to_faulty(answers, window, line, at, replies);
-    };
-    match read_ordered(&room, len, at) {
-        Reading::Ordered(told) => replies.push_ordered(&told),
-        Reading::BadBlock => reply_to_faulty(answers, window, line, at, replies),
-        _ if looks_bad(window, line.len()) => reply_to_faulty(answers, window, line, at, replies),
-        _ => answers.reply(line, replies),
-    }
-}
-
-// The same of a locale that may have a bad block, after good ones in whatever order.
-#[inline(always)]
-fn reply_to_faulty<A: Answers>(
-    answers: &mut A,
-    window: &[u8],
-    line: &[u8],
-    at: usize,
-    replies: &mut ReplyBlock,
-) -> Result<(), AllocError>
-    requires mode { A.mode ≡ Mode.Locale }
-    requires begins { take (length line.now) window.now ≡ line.now }
-    requires room { length line.now + 16 ≤ length window.now }
-    ensures { OnOk result (held replies.new ≡ held replies.old ++ reply A.mode line.now) }
-{
-    match find_bad_block(window, line.len(), at) {
-        Some(bad) => write_refusal(error_of(bad), replies),
-        None => answers.reply(line, replies),
+    match tell_blocks(window, len, at, room) {
+        Told::Ordered(line) => replies.push_ordered(&line),
+        Told::Refused(error) => write_refusal(error, replies),
+        Told::Nothing => answers.reply(&window[..len], replies),
     }
 }
 
@@ -280,9 +213,10 @@ fn feed_lines<A: Answers>(
         held replies.old ++ output A.mode (bytes.now ++ next)
         ≡ held replies.new ++ output A.mode (pending.new.items ++ next)) }
 {
+    let mut room = [0u8; ROOM];
     let mut rest = bytes;
     'lines: while let Some((line, later)) = split_line(rest) {
-        reply_to(answers, rest, line, replies)?;
+        reply_to(answers, rest, line.len(), &mut room, replies)?;
         rest = later;
     }
     pending.extend_from_slice(rest)

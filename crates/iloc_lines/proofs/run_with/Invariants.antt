@@ -1,5 +1,5 @@
 use Rattle.std.proofs.Common.{◌<◌, length}
-use Rattle.iloc_spec_output.specs.Lines.{IsOneLine}
+use Rattle.iloc_lines.specs.Lines.{IsOneLine}
 use Rattle.iloc_lines.proofs.RunLemmas.{Stands}
 use Rattle.iloc_lines.proofs.run_with.Given as goal
 

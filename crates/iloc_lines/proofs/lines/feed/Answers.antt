@@ -1,8 +1,8 @@
 use Rattle.std.proofs.Common.{ℕ, List, ◌++◌, ap, ◌∙◌, sym, append_assoc}
 use Rattle.std.proofs.lemmas.Result.{on_ok_weaker}
 use Rattle.iloc_spec_grammar.specs.Syntax.{languages}
-use Rattle.iloc_spec_output.proofs.LineCuts.{output-cut}
-use Rattle.iloc_lines.specs.Output.{mode_of, output, reply}
+use Rattle.iloc_lines.proofs.LineCuts.{output-cut}
+use Rattle.iloc_lines.specs.Output.{output, reply}
 use Rattle.iloc_lines.specs.ReplyBlock.{held}
 use Rattle.iloc_lines.proofs.lines.feed.Goals as goal
 
@@ -16,7 +16,7 @@ returns-clause-ahead g c =
     on_ok_weaker c.feed_lines-2.result
     (λ later next.
     ap (λ (t : List ℕ). before ++ t)
-    (output-cut languages (mode_of mode) c.args.pending.now.items c.args.piece.now c.in-Some.line.now c.in-Some.later.now next c.requires c.in-Some.ensures.0 c.in-Some.ensures.1)
+    (output-cut languages mode c.args.pending.now.items c.args.piece.now c.in-Some.line.now c.in-Some.later.now next c.requires c.in-Some.ensures.0 c.in-Some.ensures.1)
     ∙ sym (append_assoc before (reply mode line) (output mode (c.in-Some.later.now ++ next)))
     ∙ ap (λ (h : List ℕ). h ++ output mode (c.in-Some.later.now ++ next)) (sym replied)
     ∙ later next)

@@ -1,21 +1,37 @@
-use Rattle.std.proofs.Common.{◌≡◌, ℕ, List, [], ◌∷◌, ◌++◌, OnOk, ap, sym, subst}
-use Rattle.iloc_plain.specs.Plain.{IsPlain}
-use Rattle.iloc_fronts.specs.Front.{IsFront}
-use Rattle.iloc_fronts.specs.declared.front.Front.TheVariants as fronts
+use Rattle.std.proofs.Common.{ℕ, List, ◌≡◌, ◌++◌, OnOk, subst, sym, ◌∙◌, take}
+use Rattle.iloc_spec_grammar.specs.Values.{identifier_text}
+use Rattle.iloc_plain.specs.Plain.{value_of}
+use Rattle.iloc_subtags.specs.declared.parse_error.ParseError.TheVariants.{InvalidLanguage}
 use Rattle.iloc_lines.specs.ReplyBlock.{held}
-use Rattle.iloc_lines.proofs.PlainLemmas.{plain_reply, no_language_answer}
+use Rattle.iloc_lines.specs.Told.{IsRefused}
+use Rattle.iloc_lines.specs.declared.Mode.{Mode}
+use Rattle.iloc_lines.proofs.FrontAnswers.{no_language_refused}
+use Rattle.iloc_lines.proofs.PlainAnswers.{plain_normal}
+use Rattle.iloc_lines.proofs.PlainLemmas.{normal_reply, refused_reply}
 use Rattle.iloc_lines.proofs.lines.reply_to.Goals as goal
 
 pub returns-in-Some : goal.returns-in-Some
 returns-in-Some g c =
-    let plain = c.in-Some.plain in
-    let line_is : IsPlain c.args.line.now plain = subst (λ (t : List ℕ). IsPlain t plain) c.requires c.in-Some.ensures in
+    let mode = g.A.Answers.mode in
+    let line = take c.args.len c.args.window.now in
     subst (λ (t : List ℕ). OnOk c.push_plain.result (held c.push_plain.new.self ≡ held c.args.replies.now ++ t))
-    (plain_reply g.A.Answers.mode c.args.line.now plain line_is) c.push_plain.ensures
+    (normal_reply mode line (identifier_text (value_of c.in-Some.plain)) (plain_normal mode line c.in-Some.plain c.in-Some.ensures)) c.push_plain.ensures
 
 pub returns-then-not-may_begin : goal.returns-then-not-may_begin
 returns-then-not-may_begin g c =
-    let line = c.args.line.now in
-    let none : IsFront line fronts.NoLanguage = subst (λ (t : List ℕ). IsFront t fronts.NoLanguage) c.requires (c.may_begin.ensures c.if-not-may_begin.true) in
+    let mode = g.A.Answers.mode in
+    let line = take c.args.len c.args.window.now in
     subst (λ (t : List ℕ). OnOk c.write_refusal.result (held c.write_refusal.new.replies ≡ held c.args.replies.now ++ t))
-    (ap (λ l. l ++ 10 ∷ []) (sym (no_language_answer g.A.Answers.mode line none))) c.write_refusal.ensures.text
+    (refused_reply mode line InvalidLanguage (no_language_refused mode line (c.may_begin.ensures c.if-not-may_begin.true))) c.write_refusal.ensures.text
+
+pub returns-in-Refused : goal.returns-in-Refused
+returns-in-Refused g c =
+    let mode = g.A.Answers.mode in
+    let line = take c.args.len c.args.window.now in
+    let told : IsRefused mode line c.in-Refused.error =
+    subst (λ (m : Mode). IsRefused m line c.in-Refused.error) c.mode.ensures c.in-Refused.ensures in
+    subst (λ (t : List ℕ). OnOk c.write_refusal-in-Refused.result (held c.write_refusal-in-Refused.new.replies ≡ held c.args.replies.now ++ t))
+    (refused_reply mode line c.in-Refused.error told) c.write_refusal-in-Refused.ensures.text
+
+pub reply_to_blocks-requires-clause-mode : goal.reply_to_blocks-requires-clause-mode
+reply_to_blocks-requires-clause-mode g c = sym c.mode.ensures ∙ c.in-Blocks.ensures

@@ -1,0 +1,204 @@
+//! What is told of a text at once, in each mode: first by its front, and then by what follows that.
+ghost use Rattle.std.specs.Prelude.{◌≡◌, ◌+◌, ◌<◌, ◌≤◌, IfSome, length, take};
+ghost use Rattle.iloc_spec_grammar.specs.Syntax.{Text};
+ghost use Rattle.iloc_fronts.specs.Front.{IsFront};
+ghost use Rattle.iloc_fronts.specs.declared.front.Front.TheVariants as fronts;
+ghost use Rattle.iloc_lines.specs.Told.{IsLead, IsRefused, IsTold, refusal_of};
+
+use crate::Mode;
+use iloc_blocks::{BadBlock, Ordered, Reading, find_bad_block, read_ordered, read_varied};
+use iloc_fronts::{Block, Front, Keyword, read_front, read_keyword};
+use iloc_rewriting::rewrite;
+use iloc_subtags::ParseError;
+
+/// The room for a text that is brought into order. Longer ones are not told.
+pub const ROOM: usize = 128;
+
+/// What the front of a text tells.
+#[derive(Drop)]
+pub enum Lead {
+    /// Why it is refused.
+    Refused(ParseError),
+    /// Nothing, but it may be a plain identifier of so many bytes, and a variant: `tell_varied` tells more.
+    Variant(usize),
+    /// Nothing, but it may be a plain identifier of so many bytes, and what a locale prints after it:
+    /// `tell_blocks` tells more.
+    Blocks(usize),
+    /// Nothing.
+    Nothing,
+}
+
+/// What is told of a text.
+#[derive(Drop)]
+pub enum Told<'a> {
+    /// Its normal text: that of a plain identifier, and what follows it in lower case.
+    Ordered(Ordered<'a>),
+    /// Why it is refused.
+    Refused(ParseError),
+    /// Nothing.
+    Nothing,
+}
+
+/// What is told in the mode of the first `len` bytes by their front. Sixteen bytes after them are loaded too, and
+/// change nothing.
+#[inline(always)]
+pub fn read_lead(mode: Mode, window: &[u8], len: usize) -> Lead
+    requires { len + 16 ≤ length window.now }
+    ensures { IsLead mode (take len window.now) result }
+{
+    match read_front(window, len) {
+        Front::NoLanguage => Lead::Refused(ParseError::InvalidLanguage),
+        Front::Misfit => Lead::Refused(ParseError::InvalidSubtag),
+        Front::Variant(tail) => Lead::Variant(len.wrapping_sub(tail.wrapping_add(1))),
+        Front::Variants => lead_of_variants(mode, &window[..len]),
+        Front::Block(block) => lead_of_block(mode, &window[..len], block),
+        Front::Other => Lead::Nothing,
+    }
+}
+
+// The same of a text with two variants or more. A data locale has no more than one.
+#[inline(always)]
+fn lead_of_variants(mode: Mode, text: &[u8]) -> Lead
+    requires { IsFront text.now fronts.Variants }
+    ensures { IsLead mode text.now result }
+{
+    match mode {
+        Mode::Data => Lead::Refused(ParseError::InvalidSubtag),
+        _ => Lead::Nothing,
+    }
+}
+
+// The same of a text with this block.
+#[inline(always)]
+fn lead_of_block(mode: Mode, text: &[u8], block: Block<'_>) -> Lead
+    requires { IsFront text.now (fronts.Block block) }
+    ensures { IsLead mode text.now result }
+{
+    match mode {
+        Mode::Langid => Lead::Refused(ParseError::InvalidSubtag),
+        Mode::Locale => lead_of_locale(text.len(), block),
+        Mode::Data => lead_of_data(text, block),
+    }
+}
+
+// The same of a locale. So many bytes come before the hyphen after its region.
+#[inline(always)]
+fn lead_of_locale(len: usize, block: Block<'_>) -> Lead
+    ensures { (t : Text) → IsLead Mode.Locale t result }
+{
+    Lead::Blocks(len.wrapping_sub(block.tail.wrapping_add(1)))
+}
+
+// The same of a data locale.
+#[inline(always)]
+fn lead_of_data(text: &[u8], block: Block<'_>) -> Lead
+    requires { IsFront text.now (fronts.Block block) }
+    ensures { IsLead Mode.Data text.now result }
+{
+    match fault_of_data(text, block) {
+        Some(error) => Lead::Refused(error),
+        None => Lead::Nothing,
+    }
+}
+
+// A data locale has at most one variant, no block but that of `u`, and in it no keyword but `sd`.
+#[inline(always)]
+fn fault_of_data(text: &[u8], block: Block<'_>) -> Option<ParseError>
+    requires { IsFront text.now (fronts.Block block) }
+    ensures { IfSome result (IsRefused Mode.Data text.now) }
+{
+    let singleton = block.window[0];
+    if !singleton.is_ascii_alphanumeric() {
+        return Some(fault_after(block));
+    }
+    if singleton.to_ascii_lowercase() != b'u' {
+        return Some(ParseError::InvalidSubtag);
+    }
+    match read_keyword(block) {
+        Keyword::Attribute => Some(ParseError::InvalidSubtag),
+        Keyword::Misfit => Some(ParseError::InvalidSubtag),
+        Keyword::Many => Some(ParseError::InvalidSubtag),
+        Keyword::Single => Some(fault_after(block)),
+        Keyword::Other => None,
+    }
+}
+
+// Why a block is no data locale's that is bad, or names no subdivision. Two variants or more are refused first;
+// one takes at most nine bytes with its hyphen.
+#[inline(always)]
+fn fault_after(block: Block<'_>) -> ParseError
+    requires { block.len + 16 ≤ length block.window.now }
+    ensures few { block.entry.tail ≤ block.entry.len + 9 → result ≡ ParseError.InvalidExtension }
+    ensures many { block.entry.len + 9 < block.entry.tail → result ≡ ParseError.InvalidSubtag }
+{
+    if block.tail > block.len + 9 {
+        return ParseError::InvalidSubtag;
+    }
+    ParseError::InvalidExtension
+}
+
+/// What is told, in whatever mode, of the first `len` bytes, if a plain identifier of `at` bytes and one variant are
+/// all of them.
+#[inline(always)]
+pub fn tell_varied(window: &[u8], len: usize, at: usize) -> Told<'_>
+    requires { len + 16 ≤ length window.now }
+    ensures { (mode : Mode) → IsTold mode (take len window.now) result }
+{
+    match read_varied(window, len, at) {
+        Some(line) => Told::Ordered(line),
+        None => Told::Nothing,
+    }
+}
+
+/// What is told of the first `len` bytes as a locale, if a plain identifier of `at` bytes comes first. A text out of
+/// order is brought into order in the room.
+#[inline(always)]
+pub fn tell_blocks<'a>(window: &'a [u8], len: usize, at: usize, room: &'a mut [u8]) -> Told<'a>
+    requires { len + 16 ≤ length window.now }
+    ensures { IsTold Mode.Locale (take len window.now) result }
+{
+    match read_ordered(window, len, at) {
+        Reading::Ordered(line) => Told::Ordered(line),
+        Reading::BadBlock => Told::Refused(ParseError::InvalidExtension),
+        Reading::Unordered => tell_rewritten(window, len, at, room),
+        Reading::Other => tell_bad_block(window, len, at),
+    }
+}
+
+// The same of one whose blocks may have to be brought into order.
+#[inline(never)]
+fn tell_rewritten<'a>(window: &'a [u8], len: usize, at: usize, room: &'a mut [u8]) -> Told<'a>
+    requires { len + 16 ≤ length window.now }
+    ensures { IsTold Mode.Locale (take len window.now) result }
+{
+    let Some(count) = rewrite(window, len, room) else {
+        return tell_bad_block(window, len, at);
+    };
+    match read_ordered(room, count, at) {
+        Reading::Ordered(line) => Told::Ordered(line),
+        _ => tell_bad_block(window, len, at),
+    }
+}
+
+// The same of one that may have a bad block, after good ones in whatever order.
+#[inline(always)]
+fn tell_bad_block(window: &[u8], len: usize, at: usize) -> Told<'_>
+    requires { len + 16 ≤ length window.now }
+    ensures { IsTold Mode.Locale (take len window.now) result }
+{
+    match find_bad_block(window, len, at) {
+        Some(bad) => Told::Refused(error_of(bad)),
+        None => Told::Nothing,
+    }
+}
+
+// Why a locale with this bad block is refused.
+#[inline(always)]
+fn error_of(bad: BadBlock) -> ParseError
+    ensures { result ≡ refusal_of bad }
+{
+    match bad {
+        BadBlock::Misfit => ParseError::InvalidExtension,
+        BadBlock::Duplicated => ParseError::DuplicatedExtension,
+    }
+}

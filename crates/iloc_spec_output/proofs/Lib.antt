@@ -1,3 +1,0 @@
-pub mod LineCuts
-pub mod LineLaws
-pub mod OutputLaws
