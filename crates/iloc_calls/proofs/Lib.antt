@@ -2,5 +2,4 @@ pub mod AnswerLemmas
 pub mod CopyLemmas
 pub mod Lengths
 pub mod Bounds
-pub mod PlainLemmas
-pub mod ToldLemmas
+pub mod HandedLemmas

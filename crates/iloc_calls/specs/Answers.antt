@@ -6,14 +6,14 @@ use Rattle.std.specs.declared.cmp.Ordering.{Ordering}
 use Rattle.std.specs.declared.cmp.Ordering.TheVariants.{Less, Equal, Greater}
 use Rattle.iloc_spec_grammar.specs.Syntax.{Text, pieces, languages, Identifier}
 use Rattle.iloc_spec_grammar.specs.Meaning as meaning
-use Rattle.iloc_spec_grammar.specs.Meaning.{IdentifierMeans, Means, Fault, HasIdentifierFault, HasFault}
-use Rattle.iloc_spec_preferences.specs.DataLocales.{DataLocale, DataMeans, HasDataFault, data_text}
+use Rattle.iloc_spec_grammar.specs.Meaning.{IdentifierMeans, Means, Fault}
+use Rattle.iloc_spec_preferences.specs.DataLocales.{DataLocale, DataMeans}
 use Rattle.iloc_writeable.specs.Hints.{saturated}
-use Rattle.iloc_langid.specs.Normalizing as langid
 use Rattle.iloc_langid.specs.Reads as langid_reads
 use Rattle.iloc_locale.specs.LocaleReading as locale
 use Rattle.iloc_subtags.specs.declared.parse_error.ParseError.{ParseError}
 use Rattle.iloc_subtags.specs.declared.parse_error.ParseError.TheVariants as refusals
+use Rattle.iloc_lines.specs.Answers as answers
 use Rattle.iloc_lines.specs.declared.Mode.{Mode}
 use Rattle.iloc_lines.specs.declared.Mode.TheVariants.{Langid, Locale, Data}
 use Rattle.iloc_calls.specs.declared.status.Status.{Status}
@@ -23,15 +23,11 @@ use Rattle.iloc_calls.specs.declared.status.Status.TheVariants.{Done, InvalidLan
 
 -- the bytes are the normal text of what the text means
 abbrev pub IsNormalText : Mode → Text → Text → Type 0
-IsNormalText Langid t normal = langid.IsTextOf t normal
-IsNormalText Locale t normal = locale.IsTextOf t normal
-IsNormalText Data t normal = (d : DataLocale) × DataMeans languages t d × (normal ≡ data_text d)
+IsNormalText mode t normal = answers.IsNormalText languages mode t normal
 
 -- the text means nothing, and has this fault
 abbrev pub IsFaulty : Mode → Text → Fault → Type 0
-IsFaulty Langid t f = HasIdentifierFault languages (pieces t) f
-IsFaulty Locale t f = HasFault languages t f
-IsFaulty Data t f = HasDataFault languages t f
+IsFaulty mode t f = answers.IsFaulty languages mode t f
 
 -- when memory may run out to read the text: never if it is short
 abbrev pub WantsMemory : Mode → Text → Type 0

@@ -8,10 +8,11 @@ ghost use Rattle.iloc_lines.specs.declared.Mode.TheVariants as modes;
 
 use crate::filling::{hand_out_ordered, hand_out_plain, hand_out_within};
 use crate::status::Status;
-use crate::told::{MOST, Told, tell, window_of};
+use crate::window::{MOST, window_of};
 use iloc_data_parts::DataParts;
 use iloc_langid::LanguageIdentifier;
 use iloc_langid::reader::read_into as read_identifier;
+use iloc_lines::told::{ROOM, Told, tell};
 use iloc_locale::Locale;
 use iloc_plain::read_plain_text;
 use iloc_program::Mode;
@@ -58,7 +59,8 @@ fn judge_other(alloc: Global, mode: Mode, text: &[u8]) -> Status
     if text.len() > MOST {
         return judge_parsed(alloc, mode, text);
     }
-    match tell(mode, &window_of(text), text.len()) {
+    let mut room = [0u8; ROOM];
+    match tell(mode, &window_of(text), text.len(), &mut room) {
         Told::Ordered(_) => Status::Done,
         Told::Refused(refusal) => Status::from(refusal),
         Told::Nothing => judge_parsed(alloc, mode, text),
@@ -200,7 +202,8 @@ fn normalize_other(
     if text.len() > MOST {
         return normalize_parsed(alloc, mode, text, buffer, needed).number();
     }
-    match tell(mode, &window_of(text), text.len()) {
+    let mut room = [0u8; ROOM];
+    match tell(mode, &window_of(text), text.len(), &mut room) {
         Told::Ordered(line) => hand_out_ordered(&line, buffer, needed).number(),
         Told::Refused(refusal) => refuse(Status::from(refusal), needed).number(),
         Told::Nothing => normalize_parsed(alloc, mode, text, buffer, needed).number(),

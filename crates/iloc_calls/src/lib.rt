@@ -28,7 +28,7 @@ mod filling;
 mod hashing;
 mod same;
 mod status;
-mod told;
+mod window;
 
 use answers::{judge, mode_of};
 pub use comparing::number;

@@ -39,6 +39,21 @@ pub enum Told<'a> {
     Nothing,
 }
 
+/// What is told in the mode of the first `len` bytes. Sixteen bytes after them are loaded too, and change nothing. A
+/// text out of order is brought into order in the room.
+#[inline(always)]
+pub fn tell<'a>(mode: Mode, window: &'a [u8], len: usize, room: &'a mut [u8]) -> Told<'a>
+    requires { len + 16 ≤ length window.now }
+    ensures { IsTold mode (take len window.now) result }
+{
+    match read_lead(mode, window, len) {
+        Lead::Refused(error) => Told::Refused(error),
+        Lead::Variant(at) => tell_varied(window, len, at),
+        Lead::Blocks(at) => tell_blocks(window, len, at, room),
+        Lead::Nothing => Told::Nothing,
+    }
+}
+
 /// What is told in the mode of the first `len` bytes by their front. Sixteen bytes after them are loaded too, and
 /// change nothing.
 #[inline(always)]

@@ -2,7 +2,7 @@
 use Rattle.std.proofs.Common.{subst}
 use Rattle.iloc_blocks.specs.Ordered.{text_of}
 use Rattle.iloc_calls.specs.Answers.{IsNormalText}
-use Rattle.iloc_calls.proofs.PlainLemmas.{handed_out}
+use Rattle.iloc_calls.proofs.HandedLemmas.{handed_out}
 use Rattle.iloc_calls.proofs.answers.normalize_other.Goals as goal
 
 pub returns-in-Ordered : goal.returns-in-Ordered

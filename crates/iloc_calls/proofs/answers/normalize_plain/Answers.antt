@@ -1,7 +1,8 @@
 -- What is handed out of a plain text is its normal text.
 use Rattle.iloc_spec_grammar.specs.Values.{identifier_text}
 use Rattle.iloc_plain.specs.Plain.{value_of}
-use Rattle.iloc_calls.proofs.PlainLemmas.{plain_normal, handed_out}
+use Rattle.iloc_lines.proofs.PlainAnswers.{plain_normal}
+use Rattle.iloc_calls.proofs.HandedLemmas.{handed_out}
 use Rattle.iloc_calls.proofs.answers.normalize_plain.Goals as goal
 
 pub returns-in-Some-clause-some : goal.returns-in-Some-clause-some

@@ -1,0 +1,31 @@
+-- What is handed out and what is refused, of a text that is told at once.
+use Rattle.std.proofs.Common.{ℕ, List}
+use Rattle.iloc_subtags.specs.declared.parse_error.ParseError.{ParseError}
+use Rattle.iloc_subtags.specs.declared.parse_error.ParseError.TheVariants as refusals
+use Rattle.iloc_lines.specs.Told.{IsRefused}
+use Rattle.iloc_lines.specs.declared.Mode.{Mode}
+use Rattle.iloc_calls.specs.Answers.{IsNormalText, HandsOut, JudgedAs, NormalizesTo}
+use Rattle.iloc_calls.specs.Numbers.{status_of}
+use Rattle.iloc_calls.specs.declared.status.Status.{Status}
+use Rattle.iloc_calls.specs.declared.status.Status.TheVariants.{Done, InvalidLanguage, InvalidSubtag, InvalidExtension, DuplicatedExtension, OutOfMemory, BufferTooSmall, UnknownNumber, NotFound}
+
+-- what hands out the normal text normalizes
+pub handed_out : (mode : Mode) (t normal before after : List ℕ) (needed : ℕ) (s : Status) → IsNormalText mode t normal
+    → HandsOut normal before after needed s → NormalizesTo mode t before after needed s
+handed_out mode t normal before after needed Done n h = (normal, n, h)
+handed_out mode t normal before after needed BufferTooSmall n h = (normal, n, h)
+handed_out mode t normal before after needed InvalidLanguage n h = absurd h
+handed_out mode t normal before after needed InvalidSubtag n h = absurd h
+handed_out mode t normal before after needed InvalidExtension n h = absurd h
+handed_out mode t normal before after needed DuplicatedExtension n h = absurd h
+handed_out mode t normal before after needed OutOfMemory n h = absurd h
+handed_out mode t normal before after needed UnknownNumber n h = absurd h
+handed_out mode t normal before after needed NotFound n h = absurd h
+
+-- a text that is refused has the status of its fault
+pub refused_judged : (mode : Mode) (t : List ℕ) (e : ParseError) → IsRefused mode t e → JudgedAs mode t (status_of e)
+refused_judged mode t refusals.InvalidLanguage h = h
+refused_judged mode t refusals.InvalidSubtag h = h
+refused_judged mode t refusals.InvalidExtension h = h
+refused_judged mode t refusals.DuplicatedExtension h = h
+refused_judged mode t refusals.OutOfMemory h = absurd h

@@ -1,0 +1,11 @@
+use Rattle.std.proofs.Common.{subst, sym, take}
+use Rattle.iloc_lines.specs.Told.{IsTold}
+use Rattle.iloc_lines.specs.declared.Mode.{Mode}
+use Rattle.iloc_lines.proofs.told.tell.Goals as goal
+
+pub returns-in-Blocks : goal.returns-in-Blocks
+returns-in-Blocks c =
+    subst (λ (m : Mode). IsTold m (take c.args.len c.args.window.now) c.tell_blocks.result) (sym c.in-Blocks.ensures) c.tell_blocks.ensures
+
+pub returns-in-Variant : goal.returns-in-Variant
+returns-in-Variant c = c.tell_varied.ensures c.args.mode
