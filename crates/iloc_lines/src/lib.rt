@@ -1,9 +1,12 @@
-//! Lines that come in pieces, what answers them, and their replies in blocks.
+//! What the program answers to lines, lines that come in pieces, and their replies in blocks.
 //!
-//! It promises that what `run_with` writes is the output of what it reads, as `iloc_spec_output` defines it, if
-//! each line is answered as `Answers` says: that is what `iloc_program` adds. It stands on `iloc_spec_output` and
-//! `iloc_writeable`, and on no reader of lines. Memory is as long as the longest line and its answer; reads and
-//! writes are in blocks of 64 KiB.
+//! `specs/Answers.antt` defines the answer to a line and the output for an input, in the words of the grammar. The laws
+//! (`laws`) say that there is one of each, and that it is computed. It promises that what `run_with` writes is the output
+//! of what it reads, if each line is answered as `Answers` says: that is what `iloc_program` adds.
+//!
+//! What is told of a text at once, in each mode, stands in one place (`told`), for the lines and for the calls of
+//! `iloc_calls`. It stands on `iloc_plain`, `iloc_fronts`, `iloc_blocks` and `iloc_rewriting`, and on no parser. Memory is
+//! as long as the longest line and its answer; reads and writes are in blocks of 64 KiB.
 #![tactic(auto)]
 
 ghost use Rattle.std.specs.Prelude.{ℕ, List, ◌≡◌, ◌↔◌, ◌++◌, Some, OnOk, OnErr, option_copied};

@@ -1,5 +1,5 @@
 -- The answers to lines, from what their readers say.
-use Rattle.std.proofs.Common.{◌≡◌, ◌≢◌, ℕ, false, List, [], ◌∷◌, refl, sym, ap, ◌∙◌, subst, Option, Some, None, option_map, Result, Ok, Err, OnOk, true≢false}
+use Rattle.std.proofs.Common.{◌≡◌, ◌≢◌, ◌⊎◌, inl, inr, ℕ, false, List, [], ◌∷◌, refl, sym, ap, ◌∙◌, subst, Option, Some, None, option_map, Result, Ok, Err, OnOk, true≢false}
 use Rattle.std.specs.Prelude.{is_some}
 use Rattle.iloc_spec_grammar.specs.Syntax.{pieces, languages, Identifier, blocks, head}
 use Rattle.iloc_spec_grammar.specs.Meaning as meaning
@@ -7,8 +7,7 @@ use Rattle.iloc_spec_grammar.specs.Meaning.{IdentifierMeans, Means, no_extension
 use Rattle.iloc_spec_grammar.specs.ByBlocks.{BlocksMean}
 use Rattle.iloc_spec_grammar.specs.Values.{identifier_text, text}
 use Rattle.iloc_spec_grammar.proofs.RawLaws.{languages_table}
-use Rattle.iloc_spec_output.specs.Output.{OfIdentifiers, OfLocales, OfDataLocales, identifier, no_identifier, locale, no_locale, data_locale, no_data_locale}
-use Rattle.iloc_spec_output.proofs.OutputLaws.{only_answer}
+use Rattle.iloc_lines.proofs.OutputLaws.{only_answer}
 use Rattle.iloc_subtags.specs.declared.parse_error.ParseError.{ParseError}
 use Rattle.iloc_subtags.specs.declared.parse_error.ParseError.TheVariants.{InvalidLanguage, InvalidSubtag, InvalidExtension, DuplicatedExtension, OutOfMemory}
 use Rattle.iloc_spec_grammar.specs.Reading.{after_head, first_item}
@@ -23,23 +22,23 @@ use Rattle.iloc_lines.specs.declared.Mode.TheVariants.{Langid, Locale, Data}
 use Rattle.iloc_lines.specs.Output.{line_answer, refusal_text}
 
 pub answer_accepted : (t : List ℕ) (i : Identifier) → IdentifierMeans languages (pieces t) i → line_answer Langid t ≡ identifier_text i
-answer_accepted t i m = sym (only_answer languages_table OfIdentifiers t (identifier_text i) (identifier m))
+answer_accepted t i m = sym (only_answer languages_table Langid t (identifier_text i) (inl (i, m, refl)))
 
 pub answer_refused : (t : List ℕ) (e : ParseError) → ReadsAs (pieces t) (Err e) → e ≢ OutOfMemory → line_answer Langid t ≡ refusal_text e
-answer_refused t InvalidLanguage r n = sym (only_answer languages_table OfIdentifiers t (refusal_text InvalidLanguage) (no_identifier r))
-answer_refused t InvalidSubtag r n = sym (only_answer languages_table OfIdentifiers t (refusal_text InvalidSubtag) (no_identifier r))
+answer_refused t InvalidLanguage r n = sym (only_answer languages_table Langid t (refusal_text InvalidLanguage) (inr (meaning.InvalidLanguage, r, refl)))
+answer_refused t InvalidSubtag r n = sym (only_answer languages_table Langid t (refusal_text InvalidSubtag) (inr (meaning.InvalidSubtag, r, refl)))
 answer_refused t InvalidExtension r n = absurd r
 answer_refused t DuplicatedExtension r n = absurd r
 answer_refused t OutOfMemory r n = absurd (n refl)
 
 pub locale_accepted : (t : List ℕ) (M : meaning.Locale) → Means languages t M → line_answer Locale t ≡ text M
-locale_accepted t M m = sym (only_answer languages_table OfLocales t (text M) (locale m))
+locale_accepted t M m = sym (only_answer languages_table Locale t (text M) (inl (M, m, refl)))
 
 pub locale_refused : (t : List ℕ) (e : ParseError) → LocaleReadsAs t (Err e) → e ≢ OutOfMemory → line_answer Locale t ≡ refusal_text e
-locale_refused t InvalidLanguage r n = sym (only_answer languages_table OfLocales t (refusal_text InvalidLanguage) (no_locale r))
-locale_refused t InvalidSubtag r n = sym (only_answer languages_table OfLocales t (refusal_text InvalidSubtag) (no_locale r))
-locale_refused t InvalidExtension r n = sym (only_answer languages_table OfLocales t (refusal_text InvalidExtension) (no_locale r))
-locale_refused t DuplicatedExtension r n = sym (only_answer languages_table OfLocales t (refusal_text DuplicatedExtension) (no_locale r))
+locale_refused t InvalidLanguage r n = sym (only_answer languages_table Locale t (refusal_text InvalidLanguage) (inr (meaning.InvalidLanguage, r, refl)))
+locale_refused t InvalidSubtag r n = sym (only_answer languages_table Locale t (refusal_text InvalidSubtag) (inr (meaning.InvalidSubtag, r, refl)))
+locale_refused t InvalidExtension r n = sym (only_answer languages_table Locale t (refusal_text InvalidExtension) (inr (meaning.InvalidExtension, r, refl)))
+locale_refused t DuplicatedExtension r n = sym (only_answer languages_table Locale t (refusal_text DuplicatedExtension) (inr (meaning.DuplicatedExtension, r, refl)))
 locale_refused t OutOfMemory r n = absurd (n refl)
 
 -- where no piece is left after the head, and where the head is bad
@@ -56,12 +55,12 @@ pub head_bad : (t : List ℕ) (e : ParseError) → ReadsAs (head (pieces t)) (Er
 head_bad t e h n = locale_refused t e (head_refused t e h) n
 
 pub data_accepted : (t : List ℕ) (d : DataLocale) → DataMeans languages t d → line_answer Data t ≡ data_text d
-data_accepted t d m = sym (only_answer languages_table OfDataLocales t (data_text d) (data_locale m))
+data_accepted t d m = sym (only_answer languages_table Data t (data_text d) (inl (d, m, refl)))
 
 pub data_refused : (t : List ℕ) (e : ParseError) → PartsReadAs t (Err e) → line_answer Data t ≡ refusal_text e
-data_refused t InvalidLanguage r = sym (only_answer languages_table OfDataLocales t (refusal_text InvalidLanguage) (no_data_locale r))
-data_refused t InvalidSubtag r = sym (only_answer languages_table OfDataLocales t (refusal_text InvalidSubtag) (no_data_locale r))
-data_refused t InvalidExtension r = sym (only_answer languages_table OfDataLocales t (refusal_text InvalidExtension) (no_data_locale r))
+data_refused t InvalidLanguage r = sym (only_answer languages_table Data t (refusal_text InvalidLanguage) (inr (meaning.InvalidLanguage, r, refl)))
+data_refused t InvalidSubtag r = sym (only_answer languages_table Data t (refusal_text InvalidSubtag) (inr (meaning.InvalidSubtag, r, refl)))
+data_refused t InvalidExtension r = sym (only_answer languages_table Data t (refusal_text InvalidExtension) (inr (meaning.InvalidExtension, r, refl)))
 data_refused t DuplicatedExtension r = absurd r
 data_refused t OutOfMemory r = absurd r
 
