@@ -1,5 +1,5 @@
 -- What is stored of a block of `t`, and what it means.
-use Rattle.std.proofs.Common.{take, ◌≡◌, ℕ, ◌+◌, ◌<◌, ◌≤◌, Bool, true, false, cond, List, [], ◌∷◌, ◌++◌, length, Option, Some, None, option_map, refl, sym, ap, ◌∙◌, subst, arith, append_assoc, append-nil}
+use Rattle.std.proofs.Common.{take, ◌≡◌, ℕ, ◌+◌, ◌≤◌, List, [], ◌∷◌, ◌++◌, length, Some, None, option_map, refl, sym, ap, ◌∙◌, subst, arith, append_assoc}
 use Rattle.std.specs.List.{AllByRecursion}
 use Rattle.iloc_spec_grammar.specs.Syntax.{dashes, TransformKey, is_word, IsHyphenFree, IsField, IsTransform, Fields, Transform, fields_pieces, languages}
 use Rattle.iloc_spec_grammar.specs.Meaning.{normal_identifier, normal_transform}
@@ -11,7 +11,6 @@ use Rattle.iloc_spec_grammar.proofs.ReadBack.{all_append}
 use Rattle.iloc_spec_grammar.proofs.Readings.{IsLong, IsNoKey, before_key_read, fields_past, fields_read, fields_pass, transform_of-pieces, pieces-transform_of}
 use Rattle.iloc_spec_grammar.proofs.ValuesLaws.{all_weaker}
 use Rattle.iloc_blocks.specs.Blocks.{left_of}
-use Rattle.iloc_blocks.specs.Transform.{IsRest}
 use Rattle.iloc_fronts.specs.Left.{pieces_of, IsLeft}
 use Rattle.iloc_fronts.specs.declared.left.Left.{Left}
 use Rattle.iloc_rewriting.specs.Rewriting.{AreStored, AreFieldsInOrder, BeginsBlock, HaveSame}

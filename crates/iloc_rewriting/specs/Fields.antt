@@ -1,5 +1,5 @@
 -- A block of `t` that is brought into order.
-use Rattle.std.specs.Prelude.{◌≡◌, ℕ, ◌++◌, true, false, List}
+use Rattle.std.specs.Prelude.{◌≡◌, ℕ, ◌++◌, false, List}
 use Rattle.std.specs.List.{AllByRecursion}
 use Rattle.iloc_spec_grammar.specs.Syntax.{Text, Transform, TransformKey, IsHyphenFree, is_word, is_one_byte, dashes, languages}
 use Rattle.iloc_spec_grammar.specs.ByBlocks.{TransformMeans}
