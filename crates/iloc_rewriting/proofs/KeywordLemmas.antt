@@ -1,5 +1,5 @@
 -- Keywords that are brought into order.
-use Rattle.std.proofs.Common.{inl, inr, codes, take, ◌≡◌, ◌≢◌, ℕ, ◌+◌, ◌*◌, ◌<◌, ◌≤◌, Bool, true, false, cond, List, [], ◌∷◌, ◌++◌, length, get_or, refl, sym, ap, ◌∙◌, arith, Option, Some, None, append_assoc}
+use Rattle.std.proofs.Common.{inl, inr, ◌≡◌, ◌≢◌, ℕ, ◌+◌, ◌*◌, ◌<◌, Bool, true, false, cond, List, [], ◌∷◌, ◌++◌, length, get_or, refl, sym, ap, ◌∙◌, arith, Option, Some, None, append_assoc}
 use Rattle.std.specs.List.{AllByRecursion}
 use Rattle.std.specs.FinMap.{find}
 use Rattle.std.specs.Option.{option_or}
@@ -8,10 +8,10 @@ use Rattle.std.specs.Char.{is_ascii_alphanumeric, to_ascii_lowercase}
 use Rattle.std.proofs.lemmas.Bool.{cases_Bool, false_from_ne_true}
 use Rattle.std.proofs.lemmas.Bool.Decides.{nat_tests}
 use Rattle.std.proofs.lemmas.List.{map-append}
-use Rattle.iloc_spec_grammar.specs.Syntax.{UnicodeKey, IsWord, IsKeyword, Fields, lower, word_cmp, is_true, is_same, fields_pieces}
+use Rattle.iloc_spec_grammar.specs.Syntax.{UnicodeKey, IsWord, IsKeyword, Fields, lower, word_cmp, fields_pieces}
 use Rattle.iloc_spec_grammar.specs.Meaning.{normal_values, normal_fields}
 use Rattle.iloc_spec_grammar.specs.Reading.{fields_from, before_key, is_two}
-use Rattle.iloc_spec_grammar.proofs.MapLaws.{same_is, same_itself, map_of_same, word_cmp_total, same_words}
+use Rattle.iloc_spec_grammar.proofs.MapLaws.{same_is, map_of_same, word_cmp_total, same_words}
 use Rattle.iloc_spec_grammar.proofs.SetLaws.{find-append}
 use Rattle.iloc_spec_grammar.proofs.ValuesLaws.{all_weaker}
 use Rattle.iloc_spec_grammar.proofs.ReadBack.{all_append}

@@ -3,3 +3,5 @@ pub mod RewritingLemmas
 pub mod StoringLemmas
 pub mod StoredLemmas
 pub mod LineLemmas
+pub mod ReplacingLemmas
+pub mod SortingLemmas

@@ -48,10 +48,10 @@ rest_shorter m n less (Some l) h = (h.0, omega (arith, h.1))
 stored_more : (text room p : List ℕ) (e : ℕ) (ps : List (List ℕ)) (new : List ℕ) (end : ℕ) → AreStored room (text ++ 45 ∷ p) e → AreStored new (take e room ++ dashes ps) end → AreStored new (text ++ dashes (p ∷ ps)) end
 stored_more text room p e ps new end a h = subst (λ (t : List ℕ). AreStored new t end) (ap (λ t. t ++ dashes ps) a.begins ∙ piece_more text p ps) h
 
-stored_one : (text room p : List ℕ) (e : ℕ) → AreStored room (text ++ 45 ∷ p) e → AreStored room (text ++ dashes (p ∷ [])) e
+pub stored_one : (text room p : List ℕ) (e : ℕ) → AreStored room (text ++ 45 ∷ p) e → AreStored room (text ++ dashes (p ∷ [])) e
 stored_one text room p e a = subst (λ (t : List ℕ). AreStored room (text ++ t) e) (sym (append-nil (45 ∷ p))) a
 
-stored_none : (room : List ℕ) (e : ℕ) → e + 16 ≤ length room → AreStored room (take e room ++ dashes []) e
+pub stored_none : (room : List ℕ) (e : ℕ) → e + 16 ≤ length room → AreStored room (take e room ++ dashes []) e
 stored_none room e more = record { begins = sym (append-nil (take e room)); more = more }
 
 -- ---- values

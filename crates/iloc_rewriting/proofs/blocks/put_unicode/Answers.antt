@@ -2,7 +2,7 @@ use Rattle.std.proofs.Common.{take}
 use Rattle.std.proofs.lemmas.Option.{IfSome_then}
 use Rattle.iloc_fronts.specs.Left.{pieces_of}
 use Rattle.iloc_rewriting.proofs.LineLemmas.{unicode_of_attributes, unicode_of_both}
-use Rattle.iloc_rewriting.proofs.rewriting.put_unicode.Goals as goal
+use Rattle.iloc_rewriting.proofs.blocks.put_unicode.Goals as goal
 
 pub returns-in_default : goal.returns-in_default
 returns-in_default c =
