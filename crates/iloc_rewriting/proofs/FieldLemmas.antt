@@ -1,5 +1,5 @@
 -- What is stored of a block of `t`, and what it means.
-use Rattle.std.proofs.Common.{take, ◌≡◌, ℕ, ◌+◌, ◌≤◌, List, [], ◌∷◌, ◌++◌, length, Some, None, option_map, refl, sym, ap, ◌∙◌, subst, arith, append_assoc}
+use Rattle.std.proofs.Common.{take, ◌≡◌, ◌≢◌, ℕ, ◌≤◌, List, [], ◌∷◌, ◌++◌, length, Some, None, option_map, refl, sym, ap, ◌∙◌, subst, arith, append_assoc, false, filter, true}
 use Rattle.std.specs.List.{AllByRecursion}
 use Rattle.iloc_spec_grammar.specs.Syntax.{dashes, TransformKey, is_word, IsHyphenFree, IsField, IsTransform, Fields, Transform, fields_pieces, languages}
 use Rattle.iloc_spec_grammar.specs.Meaning.{normal_identifier, normal_transform}
@@ -11,33 +11,25 @@ use Rattle.iloc_spec_grammar.proofs.ReadBack.{all_append}
 use Rattle.iloc_spec_grammar.proofs.Readings.{IsLong, IsNoKey, before_key_read, fields_past, fields_read, fields_pass, transform_of-pieces, pieces-transform_of}
 use Rattle.iloc_spec_grammar.proofs.ValuesLaws.{all_weaker}
 use Rattle.iloc_blocks.specs.Blocks.{left_of}
-use Rattle.iloc_fronts.specs.Left.{pieces_of, IsLeft}
+use Rattle.iloc_fronts.specs.Left.{pieces_of, piece_of, IsLeft}
 use Rattle.iloc_fronts.specs.declared.left.Left.{Left}
 use Rattle.iloc_rewriting.specs.Rewriting.{AreStored, AreFieldsInOrder, BeginsBlock, HaveSame}
-use Rattle.iloc_rewriting.specs.Fields.{IsHeadStored, IsInHead, IsTransformStored}
+use Rattle.iloc_rewriting.specs.Fields.{IsHeadStored, IsInHead}
+use Rattle.iloc_rewriting.specs.Sorting.{IsBodyStored, Keeps}
 use Rattle.iloc_rewriting.specs.declared.keywords.KeyKind.TheVariants as kind
 use Rattle.iloc_rewriting.specs.declared.keywords.Stored.{Stored}
 use Rattle.iloc_rewriting.proofs.KeywordLemmas.{fields_long, fields_free, same_fields}
 use Rattle.iloc_rewriting.proofs.RewritingLemmas.{all_split}
-use Rattle.iloc_rewriting.proofs.StoredLemmas.{rest_weaker, stored_more, stored_one, stored_none}
+use Rattle.iloc_rewriting.proofs.SortingLemmas.{long_piece}
 
 -- ---- the pieces before the first field
 
-pub head_none : (room : List ℕ) (e n : ℕ) (l : Left) → e + 16 ≤ length room → IsLeft l → l.len ≤ n → IsHeadStored (take e room) (pieces_of l) n room (record { end = e; next = Some l })
-head_none room e n l more h le = record { head = []; cut = refl; each = tt; stored = stored_none room e more; left = (h, le) }
+pub in_head : (l : Left) → IsLeft l → l.n ≢ 1 → is_word TransformKey (piece_of l) ≡ false → IsInHead (piece_of l)
+in_head l h n none = record { no_key = none; long = long_piece l h n }
 
-module _ (text room p : List ℕ) (e : ℕ) (is : IsInHead p) (a : AreStored room (text ++ 45 ∷ p) e) (ps : List (List ℕ)) (n : ℕ) where
-  pub head_last : ps ≡ p ∷ [] → IsHeadStored text ps n room (record { end = e; next = None })
-  head_last cut = record { head = p ∷ []; cut = cut; each = (is, tt); stored = stored_one text room p e a; left = tt }
-
-  pub head_more : (qs : List (List ℕ)) (m : ℕ) → ps ≡ p ∷ qs → m ≤ n → (new : List ℕ) (s : Stored) → IsHeadStored (take e room) qs m new s → IsHeadStored text ps n new s
-  head_more qs m cut le new s h = record {
-    head = p ∷ h.head;
-    cut = cut ∙ ap (λ l. p ∷ l) h.cut;
-    each = (is, h.each);
-    stored = stored_more text room p e h.head new s.end a h.stored;
-    left = rest_weaker m n le s.next h.left;
-  }
+all_stay : (ps : List (List ℕ)) → filter (λ p. true) ps ≡ ps
+all_stay [] = refl
+all_stay (p ∷ ps) = ap (λ l. p ∷ l) (all_stay ps)
 
 -- ---- what the block means
 
@@ -66,39 +58,42 @@ same_transform head fs gs h k l same few n m = record {
 
 -- ---- the block
 
-module _ (text : List ℕ) (l : Left) (n : ℕ) (room : List ℕ) (s : Stored) (h : IsHeadStored text (pieces_of l) n room s) where
-  no_key : AllByRecursion IsNoKey h.head
-  no_key = all_weaker IsInHead IsNoKey (λ p i. i.no_key) h.head h.each
+module _ (text : List ℕ) (l : Left) (room : List ℕ) (s : Stored) (h : IsHeadStored text (pieces_of l) room s) where
+  no_key : AllByRecursion IsNoKey h.body
+  no_key = all_weaker IsInHead IsNoKey (λ p i. i.no_key) h.body h.each
 
-  head_long : AllByRecursion IsLong h.head
-  head_long = all_weaker IsInHead IsLong (λ p i. i.long) h.head h.each
+  head_long : AllByRecursion IsLong h.body
+  head_long = all_weaker IsInHead IsLong (λ p i. i.long) h.body h.each
 
-  head_free : AllByRecursion IsHyphenFree h.head
-  head_free = (all_split IsHyphenFree h.head (left_of s.next) (subst (AllByRecursion IsHyphenFree) h.cut (pieces_hyphen_free (take l.len l.window.now)))).0
+  head_free : AllByRecursion IsHyphenFree h.body
+  head_free = (all_split IsHyphenFree h.body (left_of s.next) (subst (AllByRecursion IsHyphenFree) h.cut (pieces_hyphen_free (take l.len l.window.now)))).0
 
-  pub transform_of_head : s.next ≡ None → IsTransformStored text (pieces_of l) room s
+  head_stored : AreStored room (text ++ dashes h.body) s.end
+  head_stored = subst (λ (ps : List (List ℕ)). AreStored room (text ++ dashes ps) s.end) (all_stay h.body) h.stored
+
+  pub transform_of_head : s.next ≡ None → IsBodyStored (Keeps (TransformMeans languages)) text (pieces_of l) room s
   transform_of_head e = record {
-    body = h.head;
-    new = h.head;
+    body = h.body;
+    new = h.body;
     cut = h.cut;
     body_long = head_long;
     new_long = head_long;
     new_free = head_free;
-    means = λ v m. m;
-    stored = h.stored;
+    means = record { means = λ n m. m };
+    stored = head_stored;
     left = subst BeginsBlock (sym e) tt;
   }
 
-  pub transform_of_both : (next : Left) → s.next ≡ Some next → (new : List ℕ) (r : Stored) → AreFieldsInOrder kind.Transform (take s.end room) (pieces_of next) new r → IsTransformStored text (pieces_of l) new r
+  pub transform_of_both : (next : Left) → s.next ≡ Some next → (new : List ℕ) (r : Stored) → AreFieldsInOrder kind.Transform (take s.end room) (pieces_of next) new r → IsBodyStored (Keeps (TransformMeans languages)) text (pieces_of l) new r
   transform_of_both next e new r k = record {
-    body = h.head ++ fields_pieces k.written;
-    new = h.head ++ fields_pieces k.kept;
-    cut = h.cut ∙ ap (λ o. h.head ++ left_of o) e ∙ ap (λ ps. h.head ++ ps) k.cut ∙ sym (append_assoc h.head (fields_pieces k.written) (left_of r.next));
-    body_long = all_append IsLong h.head (fields_pieces k.written) head_long (fields_long kind.Transform k.written k.each);
-    new_long = all_append IsLong h.head (fields_pieces k.kept) head_long (fields_long kind.Transform k.kept k.each_kept);
-    new_free = all_append IsHyphenFree h.head (fields_pieces k.kept) head_free (fields_free kind.Transform k.kept k.each_kept);
-    means = same_transform h.head k.written k.kept no_key k.each k.each_kept k.same k.some;
+    body = h.body ++ fields_pieces k.written;
+    new = h.body ++ fields_pieces k.kept;
+    cut = h.cut ∙ ap (λ o. h.body ++ left_of o) e ∙ ap (λ ps. h.body ++ ps) k.cut ∙ sym (append_assoc h.body (fields_pieces k.written) (left_of r.next));
+    body_long = all_append IsLong h.body (fields_pieces k.written) head_long (fields_long kind.Transform k.written k.each);
+    new_long = all_append IsLong h.body (fields_pieces k.kept) head_long (fields_long kind.Transform k.kept k.each_kept);
+    new_free = all_append IsHyphenFree h.body (fields_pieces k.kept) head_free (fields_free kind.Transform k.kept k.each_kept);
+    means = record { means = same_transform h.body k.written k.kept no_key k.each k.each_kept k.same k.some };
     stored = subst (λ (t : List ℕ). AreStored new t r.end)
-        (ap (λ t. t ++ dashes (fields_pieces k.kept)) h.stored.begins ∙ append_assoc text (dashes h.head) (dashes (fields_pieces k.kept)) ∙ ap (λ t. text ++ t) (sym (dashes-append h.head (fields_pieces k.kept)))) k.stored;
+        (ap (λ t. t ++ dashes (fields_pieces k.kept)) head_stored.begins ∙ append_assoc text (dashes h.body) (dashes (fields_pieces k.kept)) ∙ ap (λ t. text ++ t) (sym (dashes-append h.body (fields_pieces k.kept)))) k.stored;
     left = k.left;
   }

@@ -4,3 +4,5 @@ pub mod StoringLemmas
 pub mod StoredLemmas
 pub mod LineLemmas
 pub mod FieldLemmas
+pub mod ReplacingLemmas
+pub mod SortingLemmas

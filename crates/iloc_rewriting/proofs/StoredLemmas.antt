@@ -35,7 +35,7 @@ use Rattle.iloc_rewriting.proofs.KeywordLemmas.{key_short, length-key, field_fro
 
 -- ---- what is left
 
-pub rest_weaker : (m n : ℕ) → m ≤ n → (o : Option Left) → IsRest m o → IsRest n o
+rest_weaker : (m n : ℕ) → m ≤ n → (o : Option Left) → IsRest m o → IsRest n o
 rest_weaker m n le None h = tt
 rest_weaker m n le (Some l) h = (h.0, omega (arith, h.1))
 
@@ -45,7 +45,7 @@ rest_shorter m n less (Some l) h = (h.0, omega (arith, h.1))
 
 -- ---- a piece
 
-pub stored_more : (text room p : List ℕ) (e : ℕ) (ps : List (List ℕ)) (new : List ℕ) (end : ℕ) → AreStored room (text ++ 45 ∷ p) e → AreStored new (take e room ++ dashes ps) end → AreStored new (text ++ dashes (p ∷ ps)) end
+stored_more : (text room p : List ℕ) (e : ℕ) (ps : List (List ℕ)) (new : List ℕ) (end : ℕ) → AreStored room (text ++ 45 ∷ p) e → AreStored new (take e room ++ dashes ps) end → AreStored new (text ++ dashes (p ∷ ps)) end
 stored_more text room p e ps new end a h = subst (λ (t : List ℕ). AreStored new t end) (ap (λ t. t ++ dashes ps) a.begins ∙ piece_more text p ps) h
 
 pub stored_one : (text room p : List ℕ) (e : ℕ) → AreStored room (text ++ 45 ∷ p) e → AreStored room (text ++ dashes (p ∷ [])) e

@@ -1,11 +1,9 @@
 -- Lines that are brought into order.
-use Rattle.std.specs.Prelude.{◌≡◌, ◌≢◌, ⊤, ℕ, ◌+◌, ◌<◌, ◌≤◌, IsTrue, true, false, List, [], ◌∷◌, ◌++◌, length, map, take, Option, Some, None}
+use Rattle.std.specs.Prelude.{◌≡◌, ⊤, ℕ, ◌+◌, ◌<◌, ◌≤◌, IsTrue, true, false, List, [], ◌∷◌, ◌++◌, length, map, take, Option, Some, None}
 use Rattle.std.specs.List.{AllByRecursion}
 use Rattle.std.specs.FinMap.{find}
-use Rattle.std.specs.Char.{to_ascii_lowercase}
-use Rattle.iloc_spec_grammar.specs.Syntax.{Text, Field, Fields, Unicode, IsHyphenFree, Kind, UnicodeKey, TransformKey, Attribute, is_word, IsWord, IsKeyword, IsField, word_cmp, first_piece, lower, dashes, join, fields_pieces, is_one_byte, code_u, code_x, languages}
+use Rattle.iloc_spec_grammar.specs.Syntax.{Text, Field, Fields, Kind, UnicodeKey, TransformKey, Attribute, is_word, IsWord, IsKeyword, IsField, word_cmp, first_piece, lower, dashes, join, fields_pieces, languages}
 use Rattle.iloc_spec_grammar.specs.Meaning.{Locale, Means, normal_values, set_of}
-use Rattle.iloc_spec_grammar.specs.ByBlocks.{UnicodeMeans}
 use Rattle.iloc_blocks.specs.Blocks.{left_of}
 use Rattle.iloc_fronts.specs.Words.{two_number}
 use Rattle.iloc_fronts.specs.Left.{pieces_of, IsLeft}
@@ -164,10 +162,6 @@ pub record AreFieldsInOrder (k : KeyKind) (text : Text) (ps : List Text) (room :
   pub stored : AreStored room (text ++ dashes (fields_pieces kept)) s.end
   pub left : BeginsBlock s.next
 
--- so are keywords
-abbrev pub AreKeywordsStored : Text → List Text → Text → Stored → Type 0
-AreKeywordsStored = AreFieldsInOrder kind.Unicode
-
 -- The block.
 
 -- the same attributes, in another order and without repeats
@@ -215,33 +209,6 @@ pub record AreAttributesSoFar (text : Text) (ps : List Text) (start end : ℕ) (
   pub cut : ps ≡ words ++ pieces_of l
   pub same : AreSameWords words kept
   pub stored : AreWordsStored room start end text kept
-
--- pieces up to the next block are stored as others, of which each meaning is theirs
-pub record IsUnicodeStored (text : Text) (ps : List Text) (room : Text) (s : Stored) : Type 0 where
-  pub body : List Text
-  pub new : List Text
-  pub cut : ps ≡ body ++ left_of s.next
-  pub body_long : AllByRecursion (λ p. is_one_byte p ≡ false) body
-  pub new_long : AllByRecursion (λ p. is_one_byte p ≡ false) new
-  pub new_free : AllByRecursion IsHyphenFree new
-  pub means : (v : Unicode) → UnicodeMeans new v → UnicodeMeans body v
-  pub stored : AreStored room (text ++ dashes new) s.end
-  pub left : BeginsBlock s.next
-
--- the piece is no singleton `x`
-abbrev pub IsNoPrivate : Text → Type 0
-IsNoPrivate (c ∷ []) = to_ascii_lowercase c ≢ code_x
-IsNoPrivate _ = ⊤
-
--- a singleton `u` comes before what is left, and none of `x` before it
-pub record LeadsToUnicode (ps : List Text) (len : ℕ) (l : Left) : Type 0 where
-  pub before : List Text
-  pub byte : ℕ
-  pub cut : ps ≡ before ++ ((byte ∷ []) ∷ pieces_of l)
-  pub no_private : AllByRecursion IsNoPrivate before
-  pub is_unicode : to_ascii_lowercase byte ≡ code_u
-  pub left : IsLeft l
-  pub less : l.len < len
 
 -- the new text is stored, and the old one means what it means
 abbrev pub IsRewrittenAs : Text → Text → ℕ → Type 0

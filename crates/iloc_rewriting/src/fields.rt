@@ -1,7 +1,10 @@
 //! Stores what follows the singleton `t`.
 ghost use Rattle.std.specs.Prelude.{◌+◌, ◌≤◌, IfSome, length, take};
+ghost use Rattle.iloc_spec_grammar.specs.Syntax.{languages};
+ghost use Rattle.iloc_spec_grammar.specs.ByBlocks.{TransformMeans};
 ghost use Rattle.iloc_fronts.specs.Left.{IsLeft, pieces_of};
-ghost use Rattle.iloc_rewriting.specs.Fields.{IsHeadStored, IsTransformStored};
+ghost use Rattle.iloc_rewriting.specs.Fields.{IsHeadStored};
+ghost use Rattle.iloc_rewriting.specs.Sorting.{IsBodyStored, Keeps};
 
 use crate::keywords::{KeyKind, Stored, put_fields};
 use crate::storing::put_piece;
@@ -13,8 +16,8 @@ use iloc_fronts::words::is_field_key;
 pub(crate) fn put_transform<'a>(left: Left<'a>, room: &mut [u8], start: usize) -> Option<Stored<'a>>
     requires left { IsLeft left }
     requires room { start + 16 ≤ length room.old }
-    ensures { IfSome result
-        (IsTransformStored (take start room.old) (pieces_of left.entry) room.new) }
+    ensures { IfSome result (IsBodyStored (Keeps (TransformMeans languages)) (take start room.old)
+        (pieces_of left.entry) room.new) }
 {
     let stored = put_head(left, room, start)?;
     let Some(next) = stored.next else {
@@ -29,7 +32,7 @@ fn put_head<'a>(left: Left<'a>, room: &mut [u8], start: usize) -> Option<Stored<
     requires left { IsLeft left }
     requires room { start + 16 ≤ length room.old }
     ensures { IfSome result
-        (IsHeadStored (take start room.old) (pieces_of left.entry) left.entry.len room.new) }
+        (IsHeadStored (take start room.old) (pieces_of left.entry) room.new) }
 {
     let mut at = left;
     let mut end = start;

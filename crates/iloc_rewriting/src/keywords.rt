@@ -5,7 +5,6 @@ ghost use Rattle.iloc_fronts.specs.Left.{IsLeft, piece_of, pieces_of};
 ghost use Rattle.iloc_rewriting.specs.Rewriting.{
   AreFieldsInOrder,
   AreFieldsStored,
-  AreKeywordsStored,
   AreUpTo,
   IsFieldStored,
   IsInserted,
@@ -47,17 +46,6 @@ pub(crate) struct Place {
     pub(crate) is_there: bool,
     // How many bytes there are from the first on that is not less.
     pub(crate) len: usize,
-}
-
-// Stores keywords in the order of their keys, without `true`. Of those with one key the first stays.
-#[inline(always)]
-pub(crate) fn put_keywords<'a>(left: Left<'a>, room: &mut [u8], start: usize) -> Option<Stored<'a>>
-    requires left { IsLeft left }
-    requires room { start + 16 ≤ length room.old }
-    ensures { IfSome result
-        (AreKeywordsStored (take start room.old) (pieces_of left.entry) room.new) }
-{
-    put_fields(KeyKind::Unicode, left, room, start)
 }
 
 // Stores fields in the order of their keys, without `true`; if nothing else is in a value of `t`, one

@@ -8,9 +8,8 @@ use Rattle.iloc_rewriting.proofs.fields.put_head.Given as goal
 abbrev pub invariant-pieces : goal.invariant-pieces
 invariant-pieces l = record {
   left : IsLeft l.at;
-  shorter : l.at.len ≤ l.fn.left.len;
   more : l.end + 16 ≤ length l.room;
-  goes : (new : List ℕ) (s : Stored) → IsHeadStored (take l.end l.room) (pieces_of l.at) l.at.len new s → IsHeadStored (take l.fn.start l.fn.room) (pieces_of l.fn.left) l.fn.left.len new s;
+  goes : (new : List ℕ) (s : Stored) → IsHeadStored (take l.end l.room) (pieces_of l.at) new s → IsHeadStored (take l.fn.start l.fn.room) (pieces_of l.fn.left) new s;
 }
 
 abbrev pub decreases-pieces : goal.decreases-pieces
