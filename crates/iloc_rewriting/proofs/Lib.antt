@@ -3,3 +3,6 @@ pub mod RewritingLemmas
 pub mod StoringLemmas
 pub mod StoredLemmas
 pub mod LineLemmas
+pub mod FieldLemmas
+pub mod ReplacingLemmas
+pub mod SortingLemmas

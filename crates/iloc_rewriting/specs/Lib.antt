@@ -1,1 +1,3 @@
 pub mod Rewriting
+pub mod Fields
+pub mod Sorting

@@ -6,16 +6,20 @@
 //! `None` says nothing: the caller parses the text as it would without this crate. So each caller keeps its own contract,
 //! and a shape that is not rewritten here costs time and nothing else.
 //!
-//! A line is rewritten in one walk (`rewriting`, `attributes`, `keywords`), and its pieces are stored as sixteen bytes at
-//! once (`storing`). docs/ARCHITECTURE.md says how to add a shape.
+//! A line is rewritten in one walk (`rewriting`, `sorting`): each block is stored in its place (`blocks`, `attributes`,
+//! `keywords`, `others`), its pieces as sixteen bytes at once (`storing`). docs/ARCHITECTURE.md says how to add a shape.
 //!
 //! It stands on the grammar (`iloc_spec_grammar`), on what `iloc_blocks` tells, and on the walk from piece to piece and
 //! the tests of words of `iloc_fronts`.
 #![tactic(auto)]
 
 mod attributes;
+mod blocks;
+mod fields;
 mod keywords;
+mod others;
 pub mod rewriting;
+mod sorting;
 mod storing;
 
 pub use rewriting::rewrite;
