@@ -1,5 +1,5 @@
 -- Bad blocks after good ones, in whatever order.
-use Rattle.std.proofs.Common.{◌≡◌, ◌≢◌, ◌⊎◌, inl, inr, ℕ, zero, suc, ◌+◌, ◌*◌, ◌<◌, ◌≤◌, ◌==◌, ◌||◌, Bool, true, false, cond, List, [], ◌∷◌, ◌++◌, length, map, filter, take, get_or, bit_or, Option, Some, None, IfSome, refl, sym, ap, ◌∙◌, subst, arith, true≢false, append-nil}
+use Rattle.std.proofs.Common.{◌≡◌, ◌≢◌, ◌⊎◌, inl, inr, ℕ, zero, suc, ◌+◌, ◌*◌, ◌<◌, ◌≤◌, ◌==◌, ◌||◌, Bool, true, false, cond, List, [], ◌∷◌, ◌++◌, length, map, filter, take, get_or, Option, Some, None, IfSome, refl, sym, ap, ◌∙◌, subst, arith, true≢false, append-nil}
 use Rattle.std.specs.Int.{is_in_range}
 use Rattle.std.specs.List.{AllByRecursion, list_all, list_any}
 use Rattle.std.specs.Char.{is_ascii_alphanumeric, to_ascii_lowercase}
@@ -20,16 +20,16 @@ use Rattle.iloc_spec_grammar.proofs.WordsLaws.{length-attribute, length-unicode_
 use Rattle.iloc_fronts.specs.Left.{pieces_of, IsLeft}
 use Rattle.iloc_blocks.specs.Blocks.{IsBodyAs, IsNoUnicode, IsNoOther, IsStray, ArePast, BeginsWithout, is_long, left_of, IsPrivateAs}
 use Rattle.iloc_blocks.specs.Transform.{IsNoTransform, IsHead, IsHeadAs}
-use Rattle.iloc_blocks.specs.Faults.{fault_of, HaveOthers, ArePastVariants, HaveBad, IsUnseen, AreMarked, IsPassedAs, AreUnicodeWords, AreUnicode, AreUnicodeAt, AreBetween, HaveOdd, AreSomeFields, IsSomeTransform}
+use Rattle.iloc_blocks.specs.Faults.{HaveOthers, ArePastVariants, HaveBad, IsUnseen, AreMarked, IsPassedAs, AreUnicodeWords, AreUnicode, AreUnicodeAt, AreBetween, HaveOdd, AreSomeFields, IsSomeTransform}
+use Rattle.iloc_blocks.specs.Bad.{fault_of}
 use Rattle.iloc_fronts.specs.Words.{four_number}
 use Rattle.iloc_fronts.specs.declared.left.Left.{Left}
-use Rattle.iloc_blocks.specs.declared.faults.BadBlock.{BadBlock}
-use Rattle.iloc_blocks.specs.declared.faults.BadBlock.TheVariants as bad
+use Rattle.iloc_blocks.specs.declared.bad_block.BadBlock.{BadBlock}
+use Rattle.iloc_blocks.specs.declared.bad_block.BadBlock.TheVariants as bad
 use Rattle.iloc_blocks.specs.declared.body.Body.{Body}
 use Rattle.iloc_blocks.specs.declared.body.Body.TheVariants as body
 use Rattle.iloc_fronts.proofs.LeftLemmas.{first_left, byte_left}
 use Rattle.iloc_blocks.proofs.BlockLemmas.{front_long, front_past, blocks_past, first_block, private_block}
-use Rattle.iloc_fronts.proofs.WordBytes.{low_bit}
 use Rattle.iloc_blocks.proofs.PrintedBlocks.{other_letter}
 use Rattle.iloc_blocks.proofs.TransformLemmas.{few_different, spelled, part_words}
 use Rattle.iloc_blocks.proofs.BadBlocks.{IsNew, any_block, Refuted}

@@ -12,8 +12,21 @@ ghost use Rattle.iloc_spec_grammar.specs.Syntax.{
 ghost use Rattle.iloc_fronts.specs.Left.{IsLeft, piece_of, pieces_of};
 ghost use Rattle.iloc_blocks.specs.Blocks.{HaveStranger, IsBodyAs, IsNoOther, IsNoUnicode};
 ghost use Rattle.iloc_blocks.specs.Transform.{IsNoTransform, NoFields};
-ghost use Rattle.iloc_blocks.specs.Faults.{ArePastVariants, AreBetween, AreSomeFields, AreUnicode, AreUnicodeAt, HasBadBlock, HaveBad, HaveOdd, HaveOthers, IsPassedAs, IsSomeTransform};
+ghost use Rattle.iloc_blocks.specs.Bad.{HasBadBlock};
+ghost use Rattle.iloc_blocks.specs.Faults.{
+  ArePastVariants,
+  AreBetween,
+  AreSomeFields,
+  AreUnicode,
+  AreUnicodeAt,
+  HaveBad,
+  HaveOdd,
+  HaveOthers,
+  IsPassedAs,
+  IsSomeTransform,
+};
 
+use crate::bad_block::BadBlock;
 use crate::body::Body;
 use crate::ordered::cut_at;
 use crate::other::{past_words, read_private};
@@ -22,15 +35,6 @@ use iloc_fronts::left::{Left, after_piece, left_in};
 use iloc_fronts::words::{
     is_attribute, is_field_key, is_key, is_subtag, is_variant, number_of_four,
 };
-
-/// What is wrong with the first bad block.
-#[derive(Clone, Copy)]
-pub enum BadBlock {
-    /// It breaks the rule of its singleton.
-    Misfit,
-    /// It has the singleton of an earlier one.
-    Duplicated,
-}
 
 /// What is wrong with the first bad block, if a plain identifier of `at` bytes comes first, and variants
 /// that differ in their first four bytes. The blocks before it stand in any order.
