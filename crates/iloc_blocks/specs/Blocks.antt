@@ -85,6 +85,19 @@ IsBodyAs P B len ps body.Bad = B ps
 IsBodyAs P B len ps body.Unordered = ⊤
 IsBodyAs P B len ps body.Other = ⊤
 
+-- what is told of pieces that are not in order: that they are bad, or nothing
+abbrev pub IsBadAs : (List Text → Type 0) → List Text → Body → Type 0
+IsBadAs B ps body.End = ¬ ⊤
+IsBadAs B ps (body.Next l) = ¬ ⊤
+IsBadAs B ps body.Bad = B ps
+IsBadAs B ps body.Unordered = ⊤
+IsBadAs B ps body.Other = ⊤
+
+-- a bad body stays bad, and any other is not in order
+abbrev pub IsUnorderedAs : Body → Body → Type 0
+IsUnorderedAs body.Bad w = w ≡ body.Bad
+IsUnorderedAs v w = w ≡ body.Unordered
+
 -- Words.
 
 -- at least so many and at most eight letters or digits

@@ -1,16 +1,9 @@
 //! Tells the first bad block, whatever the order of what comes before it.
-ghost use Rattle.std.specs.Prelude.{◌≡◌, ℕ, ◌+◌, ◌≤◌, ◌||◌, IsTrue, IfSome, [], length, take, true};
+ghost use Rattle.std.specs.Prelude.{◌≡◌, ℕ, ◌+◌, ◌≤◌, IsTrue, IfSome, [], length, take, true};
 ghost use Rattle.std.specs.Char.{is_ascii_alphanumeric, to_ascii_lowercase};
-ghost use Rattle.iloc_spec_grammar.specs.Syntax.{
-  Attribute,
-  IsOther,
-  IsWord,
-  Subtag,
-  UnicodeKey,
-  is_word,
-};
+ghost use Rattle.iloc_spec_grammar.specs.Syntax.{IsOther, IsWord, Subtag};
 ghost use Rattle.iloc_fronts.specs.Left.{IsLeft, piece_of, pieces_of};
-ghost use Rattle.iloc_blocks.specs.Blocks.{HaveStranger, IsBodyAs, IsNoOther, IsNoUnicode};
+ghost use Rattle.iloc_blocks.specs.Blocks.{IsBodyAs, IsNoOther, IsNoUnicode};
 ghost use Rattle.iloc_blocks.specs.Transform.{IsNoTransform, NoFields};
 ghost use Rattle.iloc_blocks.specs.Bad.{HasBadBlock};
 ghost use Rattle.iloc_blocks.specs.Faults.{
@@ -18,7 +11,6 @@ ghost use Rattle.iloc_blocks.specs.Faults.{
   AreBetween,
   AreSomeFields,
   AreUnicode,
-  AreUnicodeAt,
   HaveBad,
   HaveOdd,
   HaveOthers,
@@ -31,10 +23,9 @@ use crate::body::Body;
 use crate::ordered::cut_at;
 use crate::other::{past_words, read_private};
 use crate::transform::past_identifier;
+use crate::unicode::past_unicode_words;
 use iloc_fronts::left::{Left, after_piece, left_in};
-use iloc_fronts::words::{
-    is_attribute, is_field_key, is_key, is_subtag, is_variant, number_of_four,
-};
+use iloc_fronts::words::{is_attribute, is_field_key, is_subtag, is_variant, number_of_four};
 
 /// What is wrong with the first bad block, if a plain identifier of `at` bytes comes first, and variants
 /// that differ in their first four bytes. The blocks before it stand in any order.
@@ -148,40 +139,6 @@ fn past_unicode(left: Left<'_>) -> Body<'_>
         return Body::Bad;
     }
     past_unicode_words(left)
-}
-
-// What the words are up to the next block.
-#[inline(always)]
-fn past_unicode_words(left: Left<'_>) -> Body<'_>
-    requires { IsLeft left }
-    ensures { IsBodyAs (AreUnicodeAt left.entry.n) HaveStranger left.entry.len
-        (pieces_of left.entry) result }
-{
-    let mut at = left;
-    'words: while is_unicode_word(at.window, at.n) {
-        if at.n == at.len {
-            return Body::End;
-        }
-        at = after_piece(at);
-    }
-    if at.n != 1 {
-        return Body::Bad;
-    }
-    Body::Next(at)
-}
-
-// Whether the first `n` bytes are an attribute, a piece of a value, or a key of `u`.
-#[inline(always)]
-fn is_unicode_word(window: &[u8], n: usize) -> bool
-    requires wide { 16 ≤ length window.now }
-    requires few { n ≤ 16 }
-    ensures { result ≡ is_word Attribute (take n window.now)
-        || is_word UnicodeKey (take n window.now) }
-{
-    if n == 2 {
-        return is_key(window, n);
-    }
-    is_attribute(window, n)
 }
 
 // What follows `t`: perhaps an identifier, and fields.
