@@ -3,3 +3,4 @@ pub mod RewritingLemmas
 pub mod StoringLemmas
 pub mod StoredLemmas
 pub mod LineLemmas
+pub mod FieldLemmas

@@ -14,6 +14,7 @@
 #![tactic(auto)]
 
 mod attributes;
+mod fields;
 mod keywords;
 pub mod rewriting;
 mod storing;
