@@ -289,8 +289,8 @@ module _ (last c len : ℕ) (new : IsNewAfter last (to_ascii_lowercase c)) where
       letter : is_ascii_alphanumeric c ≡ true
       letter = grind (arith, nat_tests)
 
-  pub transform_block : (ps : List (List ℕ)) → to_ascii_lowercase c ≡ 116 → (w : Body) → IsBodyAs IsTransformPart IsNoTransform len ps w → IsBlockAs last (to_ascii_lowercase c) len ((c ∷ []) ∷ ps) w
-  transform_block ps e w h = block_as IsTransformPart IsNoTransform c last len ps less (good_transform c e) misfit w h
+  pub transform_block : (ps : List (List ℕ)) → to_ascii_lowercase c ≡ 116 → (w : Body) → IsBodyAs (IsTransformPart true) IsNoTransform len ps w → IsBlockAs last (to_ascii_lowercase c) len ((c ∷ []) ∷ ps) w
+  transform_block ps e w h = block_as (IsTransformPart true) IsNoTransform c last len ps less (good_transform c e) misfit w h
     where
       letter : is_ascii_alphanumeric c ≡ true
       letter = grind (arith, nat_tests)

@@ -130,7 +130,7 @@ fn read_block(singleton: u8, left: Left<'_>) -> Body<'_>
     match singleton {
         b'u' => read_unicode(left),
         b'x' => read_private(left),
-        b't' => read_transform(left),
+        b't' => read_transform(true, left),
         _ if !singleton.is_ascii_alphanumeric() => Body::Bad,
         _ => read_other(left),
     }
