@@ -1,5 +1,5 @@
 -- Bad blocks after good ones, in whatever order.
-use Rattle.std.proofs.Common.{◌≡◌, ◌≢◌, ◌⊎◌, inl, inr, ℕ, zero, suc, ◌+◌, ◌*◌, ◌<◌, ◌≤◌, ◌==◌, ◌||◌, Bool, true, false, cond, List, [], ◌∷◌, ◌++◌, length, map, filter, take, get_or, bit_or, Option, Some, None, IfSome, refl, sym, ap, ◌∙◌, subst, arith, true≢false, append-nil}
+use Rattle.std.proofs.Common.{◌≡◌, ◌≢◌, ◌⊎◌, inl, inr, ℕ, zero, suc, ◌+◌, ◌*◌, ◌<◌, ◌≤◌, ◌==◌, ◌||◌, Bool, true, false, cond, List, [], ◌∷◌, ◌++◌, length, map, filter, take, get_or, refl, sym, ap, ◌∙◌, subst, arith, true≢false, append-nil}
 use Rattle.std.specs.Int.{is_in_range}
 use Rattle.std.specs.List.{AllByRecursion, list_all, list_any}
 use Rattle.std.specs.Char.{is_ascii_alphanumeric, to_ascii_lowercase}
@@ -8,9 +8,9 @@ use Rattle.std.proofs.lemmas.Bool.{cases_Bool, cases_eq, and_parts, false_from_n
 use Rattle.std.proofs.lemmas.Bool.Decides.{nat_tests}
 use Rattle.std.proofs.lemmas.List.{length-take-le, take-take, get_or-set_same, get_or-set_other}
 use Rattle.std.proofs.Math.ListN.{set, replicate}
-use Rattle.iloc_spec_grammar.specs.Syntax.{first_piece, front, blocks, Variant, UnicodeKey, Attribute, Subtag, is_word, IsWord, IsOther, IsField, IsKeyword, IsUnicode, Identifier, HasWords, IsIdentifier, identifier_pieces, IsTransform, Extension, transform, unicode, other, IsExtension, extension_pieces, languages, letters_or_digits, lower, word_cmp, is_same}
+use Rattle.iloc_spec_grammar.specs.Syntax.{first_piece, front, blocks, Variant, UnicodeKey, Attribute, Subtag, is_word, IsWord, IsOther, IsKeyword, IsUnicode, Extension, transform, unicode, other, IsExtension, extension_pieces, languages, letters_or_digits, lower, word_cmp, is_same}
 use Rattle.iloc_spec_grammar.specs.Meaning.{FirstBadBlock, here, later, IsBlock, no_singleton, duplicated}
-use Rattle.iloc_spec_grammar.specs.Reading.{is_two, before_key, fields_from, unicode_of, front_of, rest_of, starts_block}
+use Rattle.iloc_spec_grammar.specs.Reading.{is_two, before_key, fields_from, unicode_of, rest_of, starts_block}
 use Rattle.iloc_spec_grammar.proofs.PiecesLaws.{at_pieces}
 use Rattle.iloc_spec_grammar.proofs.MapLaws.{same_is}
 use Rattle.iloc_spec_grammar.proofs.RawLaws.{languages_table}
@@ -18,20 +18,20 @@ use Rattle.iloc_spec_grammar.proofs.Readings.{IsLong, long_extension, long_betwe
 use Rattle.iloc_spec_grammar.proofs.Singletons.{untied, self_tied}
 use Rattle.iloc_spec_grammar.proofs.WordsLaws.{length-attribute, length-unicode_key, length-variant, word_letters_or_digits}
 use Rattle.iloc_fronts.specs.Left.{pieces_of, IsLeft}
-use Rattle.iloc_blocks.specs.Blocks.{IsBodyAs, IsNoUnicode, IsNoOther, IsStray, ArePast, BeginsWithout, is_long, left_of, IsPrivateAs}
-use Rattle.iloc_blocks.specs.Transform.{IsNoTransform, IsHead, IsHeadAs}
-use Rattle.iloc_blocks.specs.Faults.{fault_of, HaveOthers, ArePastVariants, HaveBad, IsUnseen, AreMarked, IsPassedAs, AreUnicodeWords, AreUnicode, AreUnicodeAt, AreBetween, HaveOdd, AreSomeFields, IsSomeTransform}
+use Rattle.iloc_blocks.specs.Blocks.{IsBodyAs, IsNoUnicode, IsNoOther, IsStray, IsPrivateAs}
+use Rattle.iloc_blocks.specs.Transform.{IsNoTransform, IsTransformPart}
+use Rattle.iloc_blocks.specs.Faults.{HaveOthers, ArePastVariants, HaveBad, IsUnseen, AreMarked, IsPassedAs, AreUnicodeWords, AreUnicode, AreUnicodeAt, AreBetween, HaveOdd}
+use Rattle.iloc_blocks.specs.Bad.{fault_of}
 use Rattle.iloc_fronts.specs.Words.{four_number}
 use Rattle.iloc_fronts.specs.declared.left.Left.{Left}
-use Rattle.iloc_blocks.specs.declared.faults.BadBlock.{BadBlock}
-use Rattle.iloc_blocks.specs.declared.faults.BadBlock.TheVariants as bad
+use Rattle.iloc_blocks.specs.declared.bad_block.BadBlock.{BadBlock}
+use Rattle.iloc_blocks.specs.declared.bad_block.BadBlock.TheVariants as bad
 use Rattle.iloc_blocks.specs.declared.body.Body.{Body}
 use Rattle.iloc_blocks.specs.declared.body.Body.TheVariants as body
 use Rattle.iloc_fronts.proofs.LeftLemmas.{first_left, byte_left}
 use Rattle.iloc_blocks.proofs.BlockLemmas.{front_long, front_past, blocks_past, first_block, private_block}
-use Rattle.iloc_fronts.proofs.WordBytes.{low_bit}
 use Rattle.iloc_blocks.proofs.PrintedBlocks.{other_letter}
-use Rattle.iloc_blocks.proofs.TransformLemmas.{few_different, spelled, part_words}
+use Rattle.iloc_blocks.proofs.TransformLemmas.{part_means}
 use Rattle.iloc_blocks.proofs.BadBlocks.{IsNew, any_block, Refuted}
 use Rattle.iloc_blocks.proofs.BadBlocks as refuting
 
@@ -183,54 +183,6 @@ pub no_other_after : (p : List ℕ) (ps : List (List ℕ)) → IsWord Subtag p �
 unfolding is_word
 no_other_after p ps h n o = odd_after p ps (and_parts _ _ h).0 n o.lengths
 
--- ---- bodies of `t`
-
-pub attribute_long : (p : List ℕ) → is_long 3 p ≡ is_word Attribute p
-unfolding is_word
-attribute_long p = refl
-
-pub values_past : (len : ℕ) (ps : List (List ℕ)) (o : Option Left) → is_word Attribute (first_piece ps) ≡ true → (a : ArePast 3 len ps o) → AllByRecursion (IsWord Attribute) a.words × (0 < length a.words)
-unfolding is_word
-values_past len ps o h a = (a.each, by a.words o a.cut a.ends)
-  where
-    by : (ws : List (List ℕ)) (o : Option Left) → ps ≡ ws ++ left_of o → BeginsWithout 3 len o → 0 < length ws
-    by (w ∷ ws) o e k = omega arith
-    by [] None e k = absurd (true≢false (sym h ∙ ap (λ (qs : List (List ℕ)). is_word Attribute (first_piece qs)) e))
-    by [] (Some l) e k = absurd (true≢false (sym h ∙ ap (λ (qs : List (List ℕ)). is_word Attribute (first_piece qs)) e ∙ k.2))
-
-pub fields_last : (p : List ℕ) (vs : List (List ℕ)) → IsField (p, vs) → AreSomeFields (p ∷ vs)
-fields_last p vs h = record { fields = (p, vs) ∷ []; spelled = sym (append-nil (p ∷ vs)); each = (h, tt); some = omega arith }
-
-pub fields_more : (p : List ℕ) (vs qs : List (List ℕ)) → IsField (p, vs) → AreSomeFields qs → AreSomeFields (p ∷ (vs ++ qs))
-fields_more p vs qs h f = record { fields = (p, vs) ∷ f.fields; spelled = ap (λ r. p ∷ (vs ++ r)) f.spelled; each = (h, f.each); some = omega arith }
-
-pub some_alone : (ps : List (List ℕ)) → AreSomeFields ps → IsSomeTransform ps
-some_alone ps f = record { id = None; fields = f.fields; spelled = f.spelled; words = tt; each = f.each; some = λ _. f.some }
-
-pub some_id : (ps rest : List (List ℕ)) → IsHead ps rest → IsSomeTransform (identifier_pieces (front_of ps))
-some_id ps rest h = record { id = Some (front_of ps); fields = []; spelled = sym (append-nil (identifier_pieces (front_of ps))); words = part_words ps rest h; each = tt; some = λ e. absurd (cc) }
-
-pub some_id_alone : (ps : List (List ℕ)) → IsHead ps [] → IsSomeTransform ps
-some_id_alone ps h = record { id = Some (front_of ps); fields = []; spelled = spelled ps [] h; words = part_words ps [] h; each = tt; some = λ e. absurd (cc) }
-
-pub some_before : (ps rest qs : List (List ℕ)) → IsHead ps rest → AreSomeFields qs → IsSomeTransform (identifier_pieces (front_of ps) ++ qs)
-some_before ps rest qs h f = record { id = Some (front_of ps); fields = f.fields; spelled = ap (λ l. identifier_pieces (front_of ps) ++ l) f.spelled; words = part_words ps rest h; each = f.each; some = λ e. absurd (cc) }
-
--- what is told of an identifier, if that is all that is told
-pub some_told : (len : ℕ) (ps : List (List ℕ)) (w : Body) → (w ≡ body.Bad → ⊥) → IsHeadAs len ps w → IsBodyAs IsSomeTransform IsNoTransform len ps w
-some_told len ps body.End n h = some_id_alone ps h
-some_told len ps (body.Next l) n h = (h.0, h.1, record { body = identifier_pieces (front_of ps); cut = spelled ps (pieces_of l) h.2; is = some_id ps (pieces_of l) h.2 })
-some_told len ps body.Bad n h = absurd (n refl)
-some_told len ps body.Unordered n h = tt
-some_told len ps body.Other n h = tt
-
-is_transform : (ps : List (List ℕ)) (h : IsSomeTransform ps) → IsTransform languages (record { id = h.id; fields = h.fields })
-is_transform ps h = record { id = identifiers h.id h.words; fields = h.each; nonempty = h.some }
-  where
-    identifiers : (o : Option Identifier) → IfSome o (λ i. HasWords languages i × (length i.variants ≤ 1)) → IfSome o (IsIdentifier languages)
-    identifiers None k = tt
-    identifiers (Some i) k = record { words = k.0; different = few_different i.variants k.1 }
-
 -- ---- a block that keeps to its rule
 
 pub record IsSound (c : ℕ) (ps : List (List ℕ)) : Type 0 where
@@ -254,8 +206,8 @@ sound_unicode c e ps h = sound c ps (unicode (unicode_of ps)) letter (omega (ari
     letter : is_ascii_alphanumeric c ≡ true
     letter = grind (arith, nat_tests)
 
-pub sound_transform : (c : ℕ) → to_ascii_lowercase c ≡ 116 → (ps : List (List ℕ)) → IsSomeTransform ps → IsSound c ps
-sound_transform c e ps h = sound c ps (transform (record { id = h.id; fields = h.fields })) letter (omega (arith, e)) (e, is_transform ps h) h.spelled
+pub sound_transform : (c : ℕ) → to_ascii_lowercase c ≡ 116 → (ps : List (List ℕ)) → IsTransformPart false ps → IsSound c ps
+sound_transform c e ps h = sound c ps (transform (record { id = h.id; fields = h.fields })) letter (omega (arith, e)) (e, part_means false ps h) h.spelled
   where
     letter : is_ascii_alphanumeric c ≡ true
     letter = grind (arith, nat_tests)
@@ -312,8 +264,8 @@ module _ (c len : ℕ) (ps : List (List ℕ)) (letter : is_ascii_alphanumeric c 
   pub passed_unicode : to_ascii_lowercase c ≡ 117 → (w : Body) → IsBodyAs AreUnicode IsNoUnicode len ps w → IsPassedAs c len ps w
   passed_unicode e w h = passed_as AreUnicode IsNoUnicode c len ps (sound_unicode c e) (λ n. wrong_block c ps letter (omega (arith, e)) (refuting.unicode_refuted c ps e n)) w h
 
-  pub passed_transform : to_ascii_lowercase c ≡ 116 → (w : Body) → IsBodyAs IsSomeTransform IsNoTransform len ps w → IsPassedAs c len ps w
-  passed_transform e w h = passed_as IsSomeTransform IsNoTransform c len ps (sound_transform c e) (λ n. wrong_block c ps letter (omega (arith, e)) (refuting.transform_refuted c ps e n)) w h
+  pub passed_transform : to_ascii_lowercase c ≡ 116 → (w : Body) → IsBodyAs (IsTransformPart false) IsNoTransform len ps w → IsPassedAs c len ps w
+  passed_transform e w h = passed_as (IsTransformPart false) IsNoTransform c len ps (sound_transform c e) (λ n. wrong_block c ps letter (omega (arith, e)) (refuting.transform_refuted c ps e n)) w h
 
   pub passed_private : to_ascii_lowercase c ≡ 120 → (w : Body) → IsPrivateAs ps w → IsPassedAs c len ps w
   passed_private e body.End h = tt

@@ -19,6 +19,7 @@
 //! the tests of words of `iloc_fronts`.
 #![tactic(auto)]
 
+mod bad_block;
 mod blocks;
 mod body;
 pub mod faults;
@@ -27,5 +28,6 @@ pub mod other;
 mod transform;
 mod unicode;
 
-pub use faults::{BadBlock, find_bad_block};
+pub use bad_block::BadBlock;
+pub use faults::find_bad_block;
 pub use ordered::{Ordered, Reading, read_ordered, read_varied};

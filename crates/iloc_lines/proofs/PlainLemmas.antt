@@ -5,9 +5,9 @@ use Rattle.iloc_spec_grammar.specs.Meaning as faults
 use Rattle.iloc_spec_grammar.proofs.RawLaws.{languages_table}
 use Rattle.iloc_subtags.specs.declared.parse_error.ParseError.{ParseError}
 use Rattle.iloc_subtags.specs.declared.parse_error.ParseError.TheVariants.{InvalidLanguage, InvalidSubtag, InvalidExtension, DuplicatedExtension, OutOfMemory}
-use Rattle.iloc_blocks.specs.Faults.{HasBadBlock}
-use Rattle.iloc_blocks.specs.declared.faults.BadBlock.{BadBlock}
-use Rattle.iloc_blocks.specs.declared.faults.BadBlock.TheVariants as bad
+use Rattle.iloc_blocks.specs.Bad.{HasBadBlock}
+use Rattle.iloc_blocks.specs.declared.bad_block.BadBlock.{BadBlock}
+use Rattle.iloc_blocks.specs.declared.bad_block.BadBlock.TheVariants as bad
 use Rattle.iloc_lines.specs.Answers.{IsNormalText}
 use Rattle.iloc_lines.specs.Output.{line_answer, reply, refusal_text}
 use Rattle.iloc_lines.specs.Told.{IsRefused, refusal_of}

@@ -6,8 +6,8 @@ use Rattle.iloc_subtags.specs.declared.parse_error.ParseError.TheVariants as err
 use Rattle.iloc_subtags.specs.Judging.{Refusal}
 use Rattle.iloc_blocks.specs.Ordered.{IsStored, text_of}
 use Rattle.iloc_blocks.specs.declared.ordered.Ordered.{Ordered}
-use Rattle.iloc_blocks.specs.declared.faults.BadBlock.{BadBlock}
-use Rattle.iloc_blocks.specs.declared.faults.BadBlock.TheVariants as bad
+use Rattle.iloc_blocks.specs.declared.bad_block.BadBlock.{BadBlock}
+use Rattle.iloc_blocks.specs.declared.bad_block.BadBlock.TheVariants as bad
 use Rattle.iloc_lines.specs.Answers.{IsNormalText, IsFaulty}
 use Rattle.iloc_lines.specs.declared.Mode.{Mode}
 use Rattle.iloc_lines.specs.declared.Mode.TheVariants.{Locale}
