@@ -52,7 +52,7 @@ pub(crate) fn tell(mode: Mode, window: &[u8], len: usize) -> Told<'_>
             Mode::Locale => tell_ordered(window, len, block),
             Mode::Data => Told::Nothing,
         },
-        Front::Variants | Front::Other => Told::Nothing,
+        Front::Variants(_) | Front::Other => Told::Nothing,
     }
 }
 

@@ -34,7 +34,7 @@ pub(crate) fn told_at_front(mode: Mode, window: &[u8], len: usize) -> Told
         Front::NoLanguage => Told::Refused(ParseError::InvalidLanguage),
         Front::Misfit => Told::Refused(ParseError::InvalidSubtag),
         Front::Variant(tail) => Told::Varied(len.wrapping_sub(tail.wrapping_add(1))),
-        Front::Variants => told_of_variants(mode, &window[..len]),
+        Front::Variants(tail) => told_of_variants(mode, &window[..len], tail),
         Front::Block(block) => told_of_block(mode, &window[..len], block),
         Front::Other => Told::Nothing,
     }
@@ -42,8 +42,8 @@ pub(crate) fn told_at_front(mode: Mode, window: &[u8], len: usize) -> Told
 
 // The same of a line with two variants or more. A data locale has no more than one.
 #[inline(always)]
-fn told_of_variants(mode: Mode, line: &[u8]) -> Told
-    requires { IsFront line.now fronts.Variants }
+fn told_of_variants(mode: Mode, line: &[u8], tail: usize) -> Told
+    requires { IsFront line.now (fronts.Variants tail) }
     ensures { IsTold mode line.now result }
 {
     match mode {
