@@ -1,15 +1,16 @@
 -- From what is told of the pieces of blocks to the fault of the line.
-use Rattle.std.proofs.Common.{◌≡◌, ◌≢◌, ◌⊎◌, inl, inr, ℕ, ◌+◌, ◌-◌, ◌<◌, ◌≤◌, ◌==◌, ◌||◌, true, false, cond, List, [], ◌∷◌, ◌++◌, length, Option, Some, None, option_to_list, refl, sym, ap, ◌∙◌, subst, arith, append_assoc, append-nil, true≢false, take, drop}
+use Rattle.std.proofs.Common.{◌≡◌, ◌≢◌, ◌⊎◌, inl, inr, ℕ, ◌+◌, ◌-◌, ◌<◌, ◌≤◌, ◌==◌, ◌||◌, true, false, cond, List, [], ◌∷◌, ◌++◌, length, map, Option, Some, None, option_to_list, refl, sym, ap, ◌∙◌, subst, arith, append_assoc, append-nil, true≢false, take, drop}
 use Rattle.std.specs.List.{AllByRecursion, list_all, list_any, onto_first}
 use Rattle.std.specs.Char.{is_ascii_alphanumeric, to_ascii_lowercase}
 use Rattle.std.specs.Ordering.{nat_cmp, eq_by_cmp}
 use Rattle.std.proofs.lemmas.Bool.{cases_Bool, cases_lt}
 use Rattle.std.proofs.lemmas.Bool.Decides.{nat_tests}
-use Rattle.iloc_spec_grammar.specs.Syntax.{pieces, Variant, UnicodeKey, Attribute, PrivateSubtag, is_word, IsWord, languages, Identifier, Fields, Unicode, Transform, Extension, unicode, transform, other, identifier_pieces, fields_pieces, unicode_pieces, transform_pieces, extension_pieces, optional_pieces, IsIdentifier, IsUnicode, IsTransform, IsOther, IsPrivate, IsExtension, is_other_singleton, front, blocks, head, tail_blocks}
+use Rattle.iloc_spec_grammar.specs.Syntax.{pieces, Variant, UnicodeKey, Attribute, PrivateSubtag, is_word, IsWord, languages, Identifier, Fields, Unicode, Transform, Extension, unicode, transform, other, identifier_pieces, fields_pieces, unicode_pieces, transform_pieces, extension_pieces, optional_pieces, IsIdentifier, IsUnicode, IsTransform, IsOther, IsPrivate, IsExtension, is_other_singleton, front, blocks, head, tail_blocks, lower}
 use Rattle.iloc_spec_grammar.specs.Meaning.{Fault, InvalidExtension, RepeatsVariant, IsBlock, BlockFault, no_singleton, breaks_rule, FirstBadBlock, here, later, HasFault, bad_block}
+use Rattle.iloc_spec_grammar.specs.Values.{IsAscending}
 use Rattle.iloc_spec_grammar.proofs.PiecesLaws.{at_pieces}
 use Rattle.iloc_spec_grammar.proofs.ReadBack.{all_append, fields_each}
-use Rattle.iloc_spec_grammar.proofs.ValuesLaws.{all_weaker}
+use Rattle.iloc_spec_grammar.proofs.ValuesLaws.{all_weaker, ascending_different}
 use Rattle.iloc_spec_grammar.proofs.Readings.{IsLong, after_language, long_after_language}
 use Rattle.iloc_spec_grammar.proofs.Singletons.{no_t, no_u, no_x, untied}
 use Rattle.iloc_plain.specs.Plain.{IsPlain}
@@ -23,10 +24,9 @@ use Rattle.iloc_blocks.specs.declared.blocks.Rest.TheVariants as rest
 use Rattle.iloc_blocks.specs.declared.body.Body.{Body}
 use Rattle.iloc_blocks.specs.declared.body.Body.TheVariants as body
 use Rattle.iloc_blocks.specs.Transform.{IsTransformPart, IsNoTransform}
-use Rattle.iloc_blocks.proofs.TransformLemmas.{few_different}
 use Rattle.iloc_blocks.proofs.BlockLemmas.{front_past, blocks_past, first_block, private_block}
 use Rattle.iloc_blocks.proofs.PrintedBlocks.{IsGood, good_unicode, good_transform, good_other, printed_private, printed_none}
-use Rattle.iloc_blocks.proofs.OrderedLemmas.{after, cut_there, rest_is, tail_blocks as printed_tail, tail_variant}
+use Rattle.iloc_blocks.proofs.OrderedLemmas.{after, cut_there, rest_is}
 
 -- ---- singletons that no earlier block has
 
@@ -288,17 +288,12 @@ module _ (last c len : ℕ) (new : IsNewAfter last (to_ascii_lowercase c)) where
 
 -- ---- what follows the identifier
 
-pub tail_of_blocks : (ps : List (List ℕ)) (r : Rest) → AreBlocksOf 0 ps r → IsTailOf ps r
-tail_of_blocks ps rest.Printed h = printed_tail ps h
-tail_of_blocks ps rest.BadBlock b = record { variants = []; rest = ps; cut = refl; each = tt; few = omega arith; bad = b }
-tail_of_blocks ps rest.Unordered h = tt
-tail_of_blocks ps rest.Other h = tt
-
-pub tail_after : (p : List ℕ) (ps : List (List ℕ)) → IsWord Variant p → (r : Rest) → AreBlocksOf 0 ps r → IsTailOf (p ∷ ps) r
-tail_after p ps v rest.Printed h = tail_variant p ps v h
-tail_after p ps v rest.BadBlock b = record { variants = p ∷ []; rest = ps; cut = refl; each = (v, tt); few = omega arith; bad = b }
-tail_after p ps v rest.Unordered h = tt
-tail_after p ps v rest.Other h = tt
+-- ascending variants, and what is told of the pieces after them
+pub tail_of : (vs qs ps : List (List ℕ)) → ps ≡ vs ++ qs → AllByRecursion (IsWord Variant) vs → IsAscending (map lower vs) → (r : Rest) → AreBlocksOf 0 qs r → IsTailOf ps r
+tail_of vs qs ps e each ascending rest.Printed h = record { variants = vs; rest = qs; cut = e; each = each; ascending = ascending; extensions = h }
+tail_of vs qs ps e each ascending rest.BadBlock h = record { variants = vs; rest = qs; cut = e; each = each; ascending = ascending; bad = h }
+tail_of vs qs ps e each ascending rest.Unordered h = tt
+tail_of vs qs ps e each ascending rest.Other h = tt
 
 -- ---- the line
 
@@ -358,7 +353,7 @@ told_fault f o w len at room b h =
     (has_fault o.plain (take at w) (after w len at room b.less b.hyphen) b.plain f (subst (λ (s : List ℕ). IsFaultyTail (pieces s) f) (rest_is w len at room b.less b.hyphen) h))
 
 faulty : (ps : List (List ℕ)) → IsBadTail ps → IsFaultyTail ps InvalidExtension
-faulty ps b = record { variants = b.variants; rest = b.rest; cut = b.cut; each = b.each; different = few_different b.variants b.few; none_before = b.bad.none_before; first = b.bad.fault [] tt }
+faulty ps b = record { variants = b.variants; rest = b.rest; cut = b.cut; each = b.each; different = ascending_different (map lower b.variants) b.ascending; none_before = b.bad.none_before; first = b.bad.fault [] tt }
 
 pub told_bad : (o : Ordered) (w : List ℕ) (len at : ℕ) → len + 16 ≤ length w → IsBefore w len at o → IsBadTail (pieces (take (len - at - 1) (take (length w - (at + 1)) (drop (at + 1) w))))
     → HasFault languages (take len w) InvalidExtension

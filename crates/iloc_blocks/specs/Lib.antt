@@ -1,4 +1,5 @@
 pub mod Blocks
 pub mod Transform
 pub mod Ordered
+pub mod Variants
 pub mod Faults

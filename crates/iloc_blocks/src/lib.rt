@@ -26,6 +26,8 @@ pub mod ordered;
 pub mod other;
 mod transform;
 mod unicode;
+pub mod variants;
 
 pub use faults::{BadBlock, find_bad_block};
 pub use ordered::{Ordered, Reading, read_ordered, read_varied};
+pub use variants::{Variants, read_variants};
