@@ -301,7 +301,7 @@ onto_append : (c : ℕ) (t : List ℕ) (qs : List (List ℕ)) → onto_first c (
 onto_append c t qs = at_pieces (λ ps. onto_first c (ps ++ qs) ≡ onto_first c ps ++ qs) (λ p ps. refl) t
 
 -- a text is cut at a hyphen
-pieces_both : (s t : List ℕ) → pieces (s ++ 45 ∷ t) ≡ pieces s ++ pieces t
+pub pieces_both : (s t : List ℕ) → pieces (s ++ 45 ∷ t) ≡ pieces s ++ pieces t
 unfolding pieces
 pieces_both [] t = refl
 pieces_both (c ∷ s) t = elim (c == 45) as (λ b. cond b ([] ∷ pieces (s ++ 45 ∷ t)) (onto_first c (pieces (s ++ 45 ∷ t))) ≡ cond b ([] ∷ pieces s) (onto_first c (pieces s)) ++ pieces t) [
@@ -309,7 +309,7 @@ pieces_both (c ∷ s) t = elim (c == 45) as (λ b. cond b ([] ∷ pieces (s ++ 4
   | false ↦ ap (onto_first c) (pieces_both s t) ∙ onto_append c s (pieces t)
 ]
 
-more_variants : (l : List ℕ) (s r : Option (List ℕ)) (vs ws : List (List ℕ)) → vs ≡ [] → l ∷ (option_to_list s ++ (option_to_list r ++ ws)) ≡ (l ∷ (option_to_list s ++ (option_to_list r ++ vs))) ++ ws
+pub more_variants : (l : List ℕ) (s r : Option (List ℕ)) (vs ws : List (List ℕ)) → vs ≡ [] → l ∷ (option_to_list s ++ (option_to_list r ++ ws)) ≡ (l ∷ (option_to_list s ++ (option_to_list r ++ vs))) ++ ws
 more_variants l (Some s) (Some r) vs ws e = ap (λ us. l ∷ s ∷ r ∷ (us ++ ws)) (sym e)
 more_variants l (Some s) None vs ws e = ap (λ us. l ∷ s ∷ (us ++ ws)) (sym e)
 more_variants l None (Some r) vs ws e = ap (λ us. l ∷ r ∷ (us ++ ws)) (sym e)

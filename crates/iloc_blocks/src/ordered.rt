@@ -36,7 +36,8 @@ pub enum Reading<'a> {
 }
 
 /// What the first `len` bytes are as a locale, if a plain identifier of `at` bytes comes first and perhaps
-/// variants, of which each is greater in its first four bytes than the one before it. Blocks are in order if their singletons ascend, and one of `x` comes last: of `u` with
+/// variants, each of which has greater first four bytes than the one before it.
+/// Blocks are in order if their singletons ascend, and one of `x` comes last: of `u` with
 /// attributes and keys that ascend and no `true`; of `t` with at most one variant, keys that ascend and no
 /// `true`; and of words after another singleton. A bad block is told after such blocks.
 #[inline(always)]
@@ -82,9 +83,9 @@ pub fn read_varied(window: &[u8], len: usize, at: usize) -> Option<Ordered<'_>>
     cut_at(window, len, at)
 }
 
-// The plain identifier of `at` bytes and what follows it, if that begins with a hyphen.
+/// The plain identifier of `at` bytes and what follows it, if that begins with a hyphen.
 #[inline(always)]
-pub(crate) fn cut_at(window: &[u8], len: usize, at: usize) -> Option<Ordered<'_>>
+pub fn cut_at(window: &[u8], len: usize, at: usize) -> Option<Ordered<'_>>
     requires { len + 16 ≤ length window.now }
     ensures { IfSome result (IsBefore window.now len at) }
 {

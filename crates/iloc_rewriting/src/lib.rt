@@ -17,5 +17,8 @@ mod attributes;
 mod keywords;
 pub mod rewriting;
 mod storing;
+pub mod variants;
+mod words;
 
 pub use rewriting::rewrite;
+pub use variants::sort_variants;
