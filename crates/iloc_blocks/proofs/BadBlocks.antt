@@ -1,15 +1,16 @@
 -- From what is told of the pieces of blocks to the fault of the line.
-use Rattle.std.proofs.Common.{◌≡◌, ◌≢◌, ◌⊎◌, inl, inr, ℕ, ◌+◌, ◌-◌, ◌<◌, ◌≤◌, ◌==◌, ◌||◌, Bool, true, false, cond, List, [], ◌∷◌, ◌++◌, length, Option, Some, None, option_to_list, refl, sym, ap, ◌∙◌, subst, arith, append_assoc, append-nil, true≢false, take, drop}
+use Rattle.std.proofs.Common.{◌≡◌, ◌≢◌, ◌⊎◌, inl, inr, ℕ, ◌+◌, ◌-◌, ◌<◌, ◌≤◌, ◌==◌, ◌||◌, Bool, true, false, cond, List, [], ◌∷◌, ◌++◌, length, map, Option, Some, None, option_to_list, refl, sym, ap, ◌∙◌, subst, arith, append_assoc, append-nil, true≢false, take, drop}
 use Rattle.std.specs.List.{AllByRecursion, list_all, list_any, onto_first}
 use Rattle.std.specs.Char.{is_ascii_alphanumeric, to_ascii_lowercase}
 use Rattle.std.specs.Ordering.{nat_cmp, eq_by_cmp}
 use Rattle.std.proofs.lemmas.Bool.{cases_Bool, cases_lt}
 use Rattle.std.proofs.lemmas.Bool.Decides.{nat_tests}
-use Rattle.iloc_spec_grammar.specs.Syntax.{pieces, Variant, UnicodeKey, Attribute, PrivateSubtag, is_word, IsWord, languages, Identifier, Fields, Unicode, Transform, Extension, unicode, transform, other, identifier_pieces, fields_pieces, unicode_pieces, transform_pieces, extension_pieces, optional_pieces, IsIdentifier, IsUnicode, IsTransform, IsOther, IsPrivate, IsExtension, is_other_singleton, front, blocks, head, tail_blocks}
+use Rattle.iloc_spec_grammar.specs.Syntax.{pieces, Variant, UnicodeKey, Attribute, PrivateSubtag, is_word, IsWord, languages, Identifier, Fields, Unicode, Transform, Extension, unicode, transform, other, identifier_pieces, fields_pieces, unicode_pieces, transform_pieces, extension_pieces, optional_pieces, IsIdentifier, IsUnicode, IsTransform, IsOther, IsPrivate, IsExtension, is_other_singleton, front, blocks, head, tail_blocks, lower}
 use Rattle.iloc_spec_grammar.specs.Meaning.{Fault, InvalidExtension, RepeatsVariant, IsBlock, BlockFault, no_singleton, breaks_rule, duplicated, FirstBadBlock, here, later, HasFault, bad_block}
+use Rattle.iloc_spec_grammar.specs.Values.{IsAscending}
 use Rattle.iloc_spec_grammar.proofs.PiecesLaws.{at_pieces}
 use Rattle.iloc_spec_grammar.proofs.ReadBack.{all_append, fields_each}
-use Rattle.iloc_spec_grammar.proofs.ValuesLaws.{all_weaker}
+use Rattle.iloc_spec_grammar.proofs.ValuesLaws.{all_weaker, ascending_different}
 use Rattle.iloc_spec_grammar.proofs.Readings.{IsLong, after_language, long_after_language}
 use Rattle.iloc_spec_grammar.proofs.Singletons.{no_t, no_u, no_x, self_tied, untied}
 use Rattle.iloc_plain.specs.Plain.{IsPlain}
@@ -27,10 +28,9 @@ use Rattle.iloc_blocks.specs.declared.blocks.Rest.TheVariants as rest
 use Rattle.iloc_blocks.specs.declared.body.Body.{Body}
 use Rattle.iloc_blocks.specs.declared.body.Body.TheVariants as body
 use Rattle.iloc_blocks.specs.Transform.{IsTransformPart, IsNoTransform}
-use Rattle.iloc_blocks.proofs.TransformLemmas.{few_different}
 use Rattle.iloc_blocks.proofs.BlockLemmas.{front_past, blocks_past, first_block, private_block}
 use Rattle.iloc_blocks.proofs.PrintedBlocks.{IsGood, good_unicode, good_transform, good_other, printed_private, printed_none}
-use Rattle.iloc_blocks.proofs.OrderedLemmas.{after, cut_there, rest_is, tail_blocks as printed_tail, tail_variant}
+use Rattle.iloc_blocks.proofs.OrderedLemmas.{after, cut_there, rest_is}
 
 -- ---- singletons that no earlier block has
 
@@ -313,19 +313,13 @@ module _ (last c len : ℕ) (new : IsNewAfter last (to_ascii_lowercase c)) where
 
 -- ---- what follows the identifier
 
-pub tail_of_blocks : (ps : List (List ℕ)) (r : Rest) → AreBlocksOf 0 ps r → IsTailOf ps r
-tail_of_blocks ps rest.Printed h = printed_tail ps h
-tail_of_blocks ps rest.Misfit b = record { variants = []; rest = ps; cut = refl; each = tt; few = omega arith; bad = b }
-tail_of_blocks ps rest.Duplicated b = record { variants = []; rest = ps; cut = refl; each = tt; few = omega arith; bad = b }
-tail_of_blocks ps rest.Unordered h = tt
-tail_of_blocks ps rest.Other h = tt
-
-pub tail_after : (p : List ℕ) (ps : List (List ℕ)) → IsWord Variant p → (r : Rest) → AreBlocksOf 0 ps r → IsTailOf (p ∷ ps) r
-tail_after p ps v rest.Printed h = tail_variant p ps v h
-tail_after p ps v rest.Misfit b = record { variants = p ∷ []; rest = ps; cut = refl; each = (v, tt); few = omega arith; bad = b }
-tail_after p ps v rest.Duplicated b = record { variants = p ∷ []; rest = ps; cut = refl; each = (v, tt); few = omega arith; bad = b }
-tail_after p ps v rest.Unordered h = tt
-tail_after p ps v rest.Other h = tt
+-- ascending variants, and what is told of the pieces after them
+pub tail_of : (vs qs ps : List (List ℕ)) → ps ≡ vs ++ qs → AllByRecursion (IsWord Variant) vs → IsAscending (map lower vs) → (r : Rest) → AreBlocksOf 0 qs r → IsTailOf ps r
+tail_of vs qs ps e each ascending rest.Printed h = record { variants = vs; rest = qs; cut = e; each = each; ascending = ascending; extensions = h }
+tail_of vs qs ps e each ascending rest.Misfit h = record { variants = vs; rest = qs; cut = e; each = each; ascending = ascending; bad = h }
+tail_of vs qs ps e each ascending rest.Duplicated h = record { variants = vs; rest = qs; cut = e; each = each; ascending = ascending; bad = h }
+tail_of vs qs ps e each ascending rest.Unordered h = tt
+tail_of vs qs ps e each ascending rest.Other h = tt
 
 -- ---- the line
 
@@ -333,7 +327,7 @@ onto_append : (c : ℕ) (t : List ℕ) (qs : List (List ℕ)) → onto_first c (
 onto_append c t qs = at_pieces (λ ps. onto_first c (ps ++ qs) ≡ onto_first c ps ++ qs) (λ p ps. refl) t
 
 -- a text is cut at a hyphen
-pieces_both : (s t : List ℕ) → pieces (s ++ 45 ∷ t) ≡ pieces s ++ pieces t
+pub pieces_both : (s t : List ℕ) → pieces (s ++ 45 ∷ t) ≡ pieces s ++ pieces t
 unfolding pieces
 pieces_both [] t = refl
 pieces_both (c ∷ s) t = elim (c == 45) as (λ b. cond b ([] ∷ pieces (s ++ 45 ∷ t)) (onto_first c (pieces (s ++ 45 ∷ t))) ≡ cond b ([] ∷ pieces s) (onto_first c (pieces s)) ++ pieces t) [
@@ -341,7 +335,7 @@ pieces_both (c ∷ s) t = elim (c == 45) as (λ b. cond b ([] ∷ pieces (s ++ 4
   | false ↦ ap (onto_first c) (pieces_both s t) ∙ onto_append c s (pieces t)
 ]
 
-more_variants : (l : List ℕ) (s r : Option (List ℕ)) (vs ws : List (List ℕ)) → vs ≡ [] → l ∷ (option_to_list s ++ (option_to_list r ++ ws)) ≡ (l ∷ (option_to_list s ++ (option_to_list r ++ vs))) ++ ws
+pub more_variants : (l : List ℕ) (s r : Option (List ℕ)) (vs ws : List (List ℕ)) → vs ≡ [] → l ∷ (option_to_list s ++ (option_to_list r ++ ws)) ≡ (l ∷ (option_to_list s ++ (option_to_list r ++ vs))) ++ ws
 more_variants l (Some s) (Some r) vs ws e = ap (λ us. l ∷ s ∷ r ∷ (us ++ ws)) (sym e)
 more_variants l (Some s) None vs ws e = ap (λ us. l ∷ s ∷ (us ++ ws)) (sym e)
 more_variants l None (Some r) vs ws e = ap (λ us. l ∷ r ∷ (us ++ ws)) (sym e)
@@ -390,7 +384,7 @@ faulty ps bad b = record {
   rest = b.rest;
   cut = b.cut;
   each = b.each;
-  different = few_different b.variants b.few;
+  different = ascending_different (map lower b.variants) b.ascending;
   none_before = b.bad.none_before;
   first = b.bad.fault [] (record { each = tt; greatest = inl refl });
 }

@@ -5,5 +5,6 @@ pub mod OtherLemmas
 pub mod TransformLemmas
 pub mod PrintedBlocks
 pub mod OrderedLemmas
+pub mod VariantLemmas
 pub mod BadBlocks
 pub mod FaultLemmas

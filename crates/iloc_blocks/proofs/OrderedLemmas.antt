@@ -1,6 +1,7 @@
 -- From what follows a plain identifier to the meaning of the line.
 use Rattle.std.proofs.Common.{take, drop, ◌-◌, ◌≡◌, ℕ, zero, suc, ◌+◌, ◌<◌, ◌≤◌, Bool, true, false, List, [], ◌∷◌, ◌++◌, length, map, get_or, Option, Some, None, option_map, refl, sym, ap, ◌∙◌, subst, arith, append_assoc, append-nil}
 use Rattle.std.specs.Char.{to_ascii_lowercase}
+use Rattle.std.specs.List.{AllByRecursion}
 use Rattle.std.proofs.lemmas.List.{map-append, length-take-le, take-take, length-drop}
 use Rattle.iloc_spec_grammar.specs.Syntax.{pieces, join, dashes, Variant, IsWord, lower, title, upper, languages, Identifier, identifier_pieces}
 use Rattle.iloc_spec_grammar.specs.Meaning.{Locale, IdentifierMeans, Means, normal_identifier}
@@ -16,10 +17,10 @@ use Rattle.iloc_spec_grammar.proofs.ReadBack.{reads_back}
 use Rattle.iloc_plain.specs.Shape.{plain_identifier}
 use Rattle.iloc_plain.specs.Plain.{IsPlain, value_of}
 use Rattle.iloc_plain.specs.declared.plain.Plain.{Plain}
-use Rattle.iloc_blocks.specs.Blocks.{ArePrinted}
 use Rattle.iloc_blocks.specs.Ordered.{IsTail, IsBefore, IsCut, IsOrdered, IsVaried}
+use Rattle.iloc_blocks.specs.Variants.{AreVariantsAbove, IsOrderedIdentifier}
 use Rattle.iloc_blocks.specs.declared.ordered.Ordered.{Ordered}
-use Rattle.iloc_blocks.proofs.PrintedBlocks.{all_lower, length_lower, printed_none}
+use Rattle.iloc_blocks.proofs.PrintedBlocks.{all_lower, printed_none}
 
 -- pieces of a text, each after a hyphen, are the text after one
 dashes_of : (t : List ℕ) → dashes (pieces t) ≡ 45 ∷ t
@@ -68,12 +69,6 @@ lower_plain t i m none =
 pub lower_variant : (p : List ℕ) → IsWord Variant p → IsNormal Variant (lower p)
 lower_variant p h = (is_word-lower Variant p ∙ h, lower-lower p)
 
--- at most one word ascends
-few_ascend : (ws : List (List ℕ)) → length ws ≤ 1 → IsAscending ws
-few_ascend [] l = refl
-few_ascend (w ∷ []) l = refl
-few_ascend (w ∷ v ∷ ws) l = absurd (omega arith)
-
 -- the pieces of a plain identifier, and variants after it
 abbrev with_variants : Identifier → List (List ℕ) → Identifier
 with_variants i vs = record { language = i.language; script = i.script; region = i.region; variants = vs }
@@ -95,7 +90,7 @@ module _ (p : Plain) (front rest : List ℕ) (h : IsPlain front p) (tail : IsTai
     script = h.value.script;
     region = h.value.region;
     variants = all_lower Variant lower_variant tail.variants tail.each;
-    ascending = few_ascend (map lower tail.variants) (omega (arith, length_lower tail.variants, tail.few));
+    ascending = tail.ascending;
   }
 
   pub identifier_is : identifier_text identifier ≡ identifier_text (value_of p) ++ dashes (map lower tail.variants)
@@ -142,14 +137,6 @@ module _ (p : Plain) (front rest : List ℕ) (h : IsPlain front p) (tail : IsTai
   means =
       case_means languages languages_table (text locale) (front ++ 45 ∷ rest) locale (ap lower text_is ∙ same_case)
       (reads_back locale (record { id = value; extensions = tail.extensions.value }) tail.extensions.well_formed)
-
--- ---- what follows the identifier
-
-pub tail_blocks : (ps : List (List ℕ)) → ArePrinted 0 ps → IsTail ps
-tail_blocks ps h = record { variants = []; rest = ps; cut = refl; each = tt; few = omega arith; extensions = h }
-
-pub tail_variant : (p : List ℕ) (ps : List (List ℕ)) → IsWord Variant p → ArePrinted 0 ps → IsTail (p ∷ ps)
-tail_variant p ps h k = record { variants = p ∷ []; rest = ps; cut = refl; each = (h, tt); few = omega arith; extensions = k }
 
 -- ---- the line
 
@@ -215,18 +202,22 @@ is_ordered t o c h = record {
   normal = text_is o.plain c.front c.tail c.plain h ∙ ap (λ l. identifier_text (value_of o.plain) ++ lower l) (sym c.rest);
 }
 
-pub is_varied : (t : List ℕ) (o : Ordered) (c : IsCut t o) (p : List ℕ) → IsWord Variant p → pieces c.tail ≡ p ∷ [] → IsVaried t o
-is_varied t o c p v e = record {
+-- a line of which no more than variants follow
+pub is_identifier : (t : List ℕ) (o : Ordered) (c : IsCut t o) (vs : List (List ℕ)) → AllByRecursion (IsWord Variant) vs → IsAscending (map lower vs) → pieces c.tail ≡ vs → IsOrderedIdentifier t o
+is_identifier t o c vs each ascending e = record {
   stored = c.stored;
   identifier = identifier o.plain c.front c.tail c.plain h;
   means = subst (λ (s : List ℕ). IdentifierMeans languages (pieces s) (identifier o.plain c.front c.tail c.plain h)) (sym c.cut)
       (varied_means o.plain c.front c.tail c.plain h refl);
-  few = omega arith;
   normal = varied_text o.plain c.front c.tail c.plain h refl ∙ ap (λ l. identifier_text (value_of o.plain) ++ lower l) (sym c.rest);
 }
   where
     h : IsTail (pieces c.tail)
-    h = record { variants = p ∷ []; rest = []; cut = e; each = (v, tt); few = omega arith; extensions = printed_none 0 }
+    h = record { variants = vs; rest = []; cut = e ∙ sym (append-nil vs); each = each; ascending = ascending; extensions = printed_none 0 }
+
+pub is_varied : (t : List ℕ) (o : Ordered) (c : IsCut t o) (p : List ℕ) → IsWord Variant p → pieces c.tail ≡ p ∷ [] → IsVaried t o
+unfolding is_identifier
+is_varied t o c p v e = let i = is_identifier t o c (p ∷ []) (v, tt) refl e in record { stored = i.stored; identifier = i.identifier; means = i.means; few = omega arith; normal = i.normal }
 
 -- the same of the line and its slice
 
@@ -244,3 +235,9 @@ pub told_varied : (o : Ordered) (w : List ℕ) (len at : ℕ) → len + 16 ≤ l
 unfolding is_cut
 told_varied o w len at room b p v e =
     is_varied (take len w) o (is_cut o w len at room b) p v (ap pieces (sym (rest_is w len at room b.less b.hyphen)) ∙ e)
+
+pub told_identifier : (o : Ordered) (w : List ℕ) (len at : ℕ) → len + 16 ≤ length w → IsBefore w len at o → AreVariantsAbove 0 (pieces (Tail w len at)) → IsOrderedIdentifier (take len w) o
+unfolding is_cut
+told_identifier o w len at room b h =
+    let tail = rest_is w len at room b.less b.hyphen in
+    is_identifier (take len w) o (is_cut o w len at room b) (pieces (Tail w len at)) h.each h.ascending (ap pieces (sym tail))

@@ -24,10 +24,10 @@ use Rattle.iloc_fronts.proofs.WordBytes.{BeginsTwo, attribute_begins, key_begins
 
 -- ---- keys in order
 
-alphanumeric_is_small : (c : ℕ) → is_ascii_alphanumeric c ≡ true → to_ascii_lowercase c < 256
+pub alphanumeric_is_small : (c : ℕ) → is_ascii_alphanumeric c ≡ true → to_ascii_lowercase c < 256
 alphanumeric_is_small c h = grind (arith, nat_tests)
 
-number_below : (a b c d : ℕ) (o : Ordering) → b < 256 → d < 256 → 256 * a + b < 256 * c + d → is_lt (ordering_then (nat_cmp a c) (ordering_then (nat_cmp b d) o)) ≡ true
+pub number_below : (a b c d : ℕ) (o : Ordering) → b < 256 → d < 256 → 256 * a + b < 256 * c + d → is_lt (ordering_then (nat_cmp a c) (ordering_then (nat_cmp b d) o)) ≡ true
 number_below a b c d o small less l = elim (cases_lt a c) [
   | inl below ↦
       let first : nat_cmp a c ≡ Less = grind (arith, nat_tests) in
@@ -112,11 +112,19 @@ unicode_of_keywords n more ps k = record { attributes = []; rest = ps; cut = ref
 pub unicode_last : (p : List ℕ) (ps : List (List ℕ)) → IsWord Attribute p → AreKeywords ps → IsUnicodeFrom (two_number p) (p ∷ ps)
 unicode_last p ps h k = (record { attributes = p ∷ []; rest = ps; cut = refl; each = (h, tt); ascending = refl; keywords = k; some = omega arith }, (omega arith, tt))
 
-attributes_below : (p : List ℕ) → IsWord Attribute p → (n : ℕ) → two_number p < n → (ws : List (List ℕ)) → AllByRecursion (IsWord Attribute) ws → AllByRecursion (λ a. n ≤ two_number a) ws
-    → below_all word_cmp (lower p) (map (λ w. (w, tt {0})) (map lower ws)) ≡ true
-attributes_below p h n l [] each above = refl
-attributes_below p h n l (a ∷ ws) each above =
-    and_from _ _ (word_below p a (attribute_begins p h) (attribute_begins a each.0) (omega (arith, above.0))) (attributes_below p h n l ws each.1 above.1)
+-- the number of a word by which it is below others
+abbrev pub TellsOrder : (List ℕ → Type 0) → (List ℕ → ℕ) → Type 0
+TellsOrder P number = (p q : List ℕ) → P p → P q → number p < number q → is_lt (word_cmp (lower p) (lower q)) ≡ true
+
+-- a word is below those from a greater number on
+pub words_below : (P : List ℕ → Type 0) (number : List ℕ → ℕ) → TellsOrder P number → (p : List ℕ) → P p → (n : ℕ) → number p < n
+    → (ws : List (List ℕ)) → AllByRecursion P ws → AllByRecursion (λ w. n ≤ number w) ws → below_all word_cmp (lower p) (map (λ w. (w, tt {0})) (map lower ws)) ≡ true
+words_below P number tells p h n l [] each above = refl
+words_below P number tells p h n l (w ∷ ws) each above =
+    and_from _ _ (tells p w h each.0 (omega (arith, above.0))) (words_below P number tells p h n l ws each.1 above.1)
+
+attribute_below : TellsOrder (IsWord Attribute) two_number
+attribute_below p q h k l = word_below p q (attribute_begins p h) (attribute_begins q k) l
 
 -- one attribute more
 pub unicode_more : (p : List ℕ) (n : ℕ) → IsWord Attribute p → two_number p < n → (ps : List (List ℕ)) → IsUnicodeFrom n ps → IsUnicodeFrom (two_number p) (p ∷ ps)
@@ -126,7 +134,7 @@ unicode_more p n h l ps (u, above) = (
     rest = u.rest;
     cut = ap (λ l. p ∷ l) u.cut;
     each = (h, u.each);
-    ascending = and_from _ _ (attributes_below p h n l u.attributes u.each above) u.ascending;
+    ascending = and_from _ _ (words_below (IsWord Attribute) two_number attribute_below p h n l u.attributes u.each above) u.ascending;
     keywords = u.keywords;
     some = omega arith;
   },

@@ -2,4 +2,5 @@ pub mod Bad
 pub mod Blocks
 pub mod Transform
 pub mod Ordered
+pub mod Variants
 pub mod Faults

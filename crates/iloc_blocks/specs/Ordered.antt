@@ -3,7 +3,7 @@ use Rattle.std.specs.Prelude.{◌≡◌, ⊤, ℕ, ◌+◌, ◌-◌, ◌<◌, �
 use Rattle.std.specs.List.{AllByRecursion}
 use Rattle.iloc_spec_grammar.specs.Syntax.{Text, pieces, front, blocks, Variant, IsWord, languages, lower, word_cmp, AllDifferent, Identifier}
 use Rattle.iloc_spec_grammar.specs.Meaning.{Locale, IdentifierMeans, Means, Fault, FirstBadBlock}
-use Rattle.iloc_spec_grammar.specs.Values.{identifier_text, text}
+use Rattle.iloc_spec_grammar.specs.Values.{IsAscending, identifier_text, text}
 use Rattle.iloc_plain.specs.Plain.{AreWords, IsPlain, value_of}
 use Rattle.iloc_blocks.specs.Blocks.{ArePrinted, BeginBadly}
 use Rattle.iloc_blocks.specs.Bad.{HasBadBlock}
@@ -57,22 +57,22 @@ pub record IsCut (t : Text) (o : Ordered) : Type 0 where
   pub cut : t ≡ front ++ 45 ∷ tail
   pub rest : take o.len o.rest.now ≡ 45 ∷ tail
 
--- the pieces are at most one variant, and extensions as they are printed
+-- the pieces are ascending variants, and extensions as they are printed
 pub record IsTail (ps : List Text) : Type 0 where
   pub variants : List Text
   pub rest : List Text
   pub cut : ps ≡ variants ++ rest
   pub each : AllByRecursion (IsWord Variant) variants
-  pub few : length variants ≤ 1
+  pub ascending : IsAscending (map lower variants)
   pub extensions : ArePrinted 0 rest
 
--- they are at most one variant, and blocks of which the first bad one is as told
+-- they are ascending variants, and blocks of which the first bad one is as told
 pub record IsBadTail (ps : List Text) (b : BadBlock) : Type 0 where
   pub variants : List Text
   pub rest : List Text
   pub cut : ps ≡ variants ++ rest
   pub each : AllByRecursion (IsWord Variant) variants
-  pub few : length variants ≤ 1
+  pub ascending : IsAscending (map lower variants)
   pub bad : BeginBadly 0 rest b
 
 -- they are different variants, and blocks of which the first bad one has this fault

@@ -27,7 +27,9 @@ pub mod ordered;
 pub mod other;
 mod transform;
 mod unicode;
+pub mod variants;
 
 pub use bad_block::BadBlock;
 pub use faults::find_bad_block;
 pub use ordered::{Ordered, Reading, read_ordered, read_varied};
+pub use variants::{Variants, read_variants};

@@ -5,6 +5,8 @@ ghost use Rattle.iloc_blocks.specs.Ordered.{IsBefore, IsReading, IsTailOf, IsVar
 
 use crate::bad_block::BadBlock;
 use crate::blocks::{Rest, read_blocks};
+use crate::body::Body;
+use crate::variants::past_ascending;
 use iloc_fronts::front::first_len;
 use iloc_fronts::left::{Left, after_piece, left_in};
 use iloc_fronts::words::is_variant;
@@ -36,7 +38,8 @@ pub enum Reading<'a> {
 }
 
 /// What the first `len` bytes are as a locale, if a plain identifier of `at` bytes comes first and perhaps
-/// one variant. Blocks are in order if their singletons ascend, and one of `x` comes last: of `u` with
+/// variants, each of which has greater first four bytes than the one before it.
+/// Blocks are in order if their singletons ascend, and one of `x` comes last: of `u` with
 /// attributes and keys that ascend and no `true`; of `t` with at most one variant, keys that ascend and no
 /// `true`; and of words after another singleton. A bad block is told after such blocks.
 #[inline(always)]
@@ -83,9 +86,9 @@ pub fn read_varied(window: &[u8], len: usize, at: usize) -> Option<Ordered<'_>>
     cut_at(window, len, at)
 }
 
-// The plain identifier of `at` bytes and what follows it, if that begins with a hyphen.
+/// The plain identifier of `at` bytes and what follows it, if that begins with a hyphen.
 #[inline(always)]
-pub(crate) fn cut_at(window: &[u8], len: usize, at: usize) -> Option<Ordered<'_>>
+pub fn cut_at(window: &[u8], len: usize, at: usize) -> Option<Ordered<'_>>
     requires { len + 16 ≤ length window.now }
     ensures { IfSome result (IsBefore window.now len at) }
 {
@@ -100,7 +103,7 @@ pub(crate) fn cut_at(window: &[u8], len: usize, at: usize) -> Option<Ordered<'_>
     })
 }
 
-// What follows the hyphen after it: at most one variant, and blocks.
+// What follows the hyphen after it: ascending variants, and blocks.
 #[inline(always)]
 fn read_tail(left: Left<'_>) -> Rest
     requires { IsLeft left }
@@ -112,5 +115,23 @@ fn read_tail(left: Left<'_>) -> Rest
     if left.n == left.len {
         return Rest::Printed;
     }
-    read_blocks(after_piece(left))
+    let next = after_piece(left);
+    if next.n != 1 {
+        return read_variants_and_blocks(left);
+    }
+    read_blocks(next)
+}
+
+// The same of several variants.
+#[inline(never)]
+fn read_variants_and_blocks(left: Left<'_>) -> Rest
+    requires { IsLeft left }
+    ensures { IsTailOf (pieces_of left.entry) result }
+{
+    match past_ascending(left) {
+        Body::End => Rest::Printed,
+        Body::Next(next) => read_blocks(next),
+        Body::Unordered => Rest::Unordered,
+        Body::Bad | Body::Other => Rest::Other,
+    }
 }

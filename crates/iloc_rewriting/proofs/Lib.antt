@@ -2,6 +2,8 @@ pub mod KeywordLemmas
 pub mod RewritingLemmas
 pub mod StoringLemmas
 pub mod StoredLemmas
+pub mod WordLemmas
+pub mod VariantLemmas
 pub mod LineLemmas
 pub mod FieldLemmas
 pub mod ReplacingLemmas

@@ -1,3 +1,4 @@
 pub mod Rewriting
+pub mod Words
 pub mod Fields
 pub mod Sorting

@@ -180,35 +180,6 @@ pub record AreAttributesStored (text : Text) (ps : List Text) (len : ℕ) (room 
   pub stored : AreStored room (text ++ dashes kept) s.end
   pub left : IsRest len s.next
 
--- words are stored behind the text
-pub record AreWordsStored (room : Text) (start end : ℕ) (text : Text) (words : List Text) : Type 0 where
-  pub before : length text ≡ start
-  pub stored : take end room ≡ text ++ dashes words
-  pub each : AllByRecursion (IsWord Attribute) words
-
--- one word more is stored among them
-pub record IsWordStored (text : Text) (words : List Text) (word room : Text) (end : ℕ) : Type 0 where
-  pub all : List Text
-  pub same : AreSameWords (words ++ word ∷ []) all
-  pub stored : AreStored room (text ++ dashes all) end
-
--- the word belongs where so many bytes are left of the pieces, or it is what comes there
-pub record IsPlaceAmong (word : Text) (ps : List Text) (len : ℕ) (p : Place) : Type 0 where
-  pub before : List Text
-  pub first : Text
-  pub rest : List Text
-  pub cut : ps ≡ before ++ (first ∷ rest)
-  pub there : p.is_there ≡ true → lower first ≡ lower word
-  pub long : p.len ≡ length (join (first ∷ rest))
-  pub within : p.len ≤ len
-
--- attributes so far are stored, and other pieces are left
-pub record AreAttributesSoFar (text : Text) (ps : List Text) (start end : ℕ) (room : Text) (l : Left) : Type 0 where
-  pub words : List Text
-  pub kept : List Text
-  pub cut : ps ≡ words ++ pieces_of l
-  pub same : AreSameWords words kept
-  pub stored : AreWordsStored room start end text kept
 
 -- the new text is stored, and the old one means what it means
 abbrev pub IsRewrittenAs : Text → Text → ℕ → Type 0

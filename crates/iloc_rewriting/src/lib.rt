@@ -21,5 +21,8 @@ mod others;
 pub mod rewriting;
 mod sorting;
 mod storing;
+pub mod variants;
+mod words;
 
 pub use rewriting::rewrite;
+pub use variants::sort_variants;

@@ -80,7 +80,10 @@ fn front(window: &[u8], len: usize, out: &mut String) {
             say(out, "variant ");
             number(out, tail)
         }
-        Front::Variants => say(out, "variants"),
+        Front::Variants(tail) => {
+            say(out, "variants ");
+            number(out, tail)
+        }
         Front::Other => say(out, "not told"),
     }
 }

@@ -1,16 +1,16 @@
 use Rattle.std.proofs.Common.{◌≤◌}
 use Rattle.iloc_fronts.specs.Left.{IsLeft, piece_of, pieces_of}
-use Rattle.iloc_rewriting.specs.Rewriting.{IsPlaceAmong}
+use Rattle.iloc_rewriting.specs.Words.{IsPlaceAmong}
 use Rattle.iloc_rewriting.specs.declared.keywords.Place.{Place}
-use Rattle.iloc_rewriting.proofs.attributes.place_among.Given as goal
+use Rattle.iloc_rewriting.proofs.words.place_among.Given as goal
 
 -- a place among the pieces that are left is one among all
-abbrev pub invariant-attributes : goal.invariant-attributes
-invariant-attributes l = record {
+abbrev pub invariant-words : goal.invariant-words
+invariant-words l = record {
   left : IsLeft l.at;
   shorter : l.at.len ≤ l.fn.left.len;
   goes : (p : Place) → IsPlaceAmong (piece_of l.word) (pieces_of l.at) l.at.len p → IsPlaceAmong (piece_of l.word) (pieces_of l.fn.left) l.fn.left.len p;
 }
 
-abbrev pub decreases-attributes : goal.decreases-attributes
-decreases-attributes l = l.at.len
+abbrev pub decreases-words : goal.decreases-words
+decreases-words l = l.at.len

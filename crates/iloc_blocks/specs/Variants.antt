@@ -1,0 +1,36 @@
+-- What is told of variants that ascend.
+use Rattle.std.specs.Prelude.{◌≡◌, ⊤, ℕ, ◌<◌, List, map}
+use Rattle.std.specs.List.{AllByRecursion}
+use Rattle.iloc_spec_grammar.specs.Syntax.{Text, pieces, Variant, IsWord, Identifier, languages, lower}
+use Rattle.iloc_spec_grammar.specs.Meaning.{IdentifierMeans}
+use Rattle.iloc_spec_grammar.specs.Values.{IsAscending, identifier_text}
+use Rattle.iloc_fronts.specs.Words.{four_number}
+use Rattle.iloc_blocks.specs.Blocks.{IsBodyAs}
+use Rattle.iloc_blocks.specs.Ordered.{IsStored, text_of}
+use Rattle.iloc_blocks.specs.declared.body.Body.{Body}
+use Rattle.iloc_blocks.specs.declared.ordered.Ordered.{Ordered}
+use Rattle.iloc_blocks.specs.declared.variants.Variants.{Variants}
+use Rattle.iloc_blocks.specs.declared.variants.Variants.TheVariants as variants
+
+-- they are ascending variants, whose first four bytes have numbers above this one
+pub record AreVariantsAbove (last : ℕ) (ps : List Text) : Type 0 where
+  pub each : AllByRecursion (IsWord Variant) ps
+  pub ascending : IsAscending (map lower ps)
+  pub above : AllByRecursion (λ v. last < four_number v) ps
+
+-- the pieces are such variants, up to the end or to what is left; they are never bad
+abbrev pub AreVariantsAs : ℕ → ℕ → List Text → Body → Type 0
+AreVariantsAs last len ps w = IsBodyAs (AreVariantsAbove last) (λ qs. ¬ ⊤) len ps w
+
+-- the line means an identifier of this text
+pub record IsOrderedIdentifier (t : Text) (o : Ordered) : Type 0 where
+  pub stored : IsStored o
+  pub identifier : Identifier
+  pub means : IdentifierMeans languages (pieces t) identifier
+  pub normal : identifier_text identifier ≡ text_of o
+
+-- what is told of the line
+abbrev pub AreVariants : Text → Variants → Type 0
+AreVariants t (variants.Ordered o) = IsOrderedIdentifier t o
+AreVariants t variants.Unordered = ⊤
+AreVariants t variants.Other = ⊤

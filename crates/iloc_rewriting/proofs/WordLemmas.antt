@@ -1,0 +1,268 @@
+-- Words that are stored in order.
+use Rattle.std.proofs.Common.{take, drop, ◌≡◌, ℕ, suc, ◌+◌, ◌-◌, ◌<◌, ◌≤◌, Bool, true, false, cond, List, [], ◌∷◌, ◌++◌, length, map, Some, None, refl, sym, ap, ◌∙◌, subst, arith, append_assoc, append-nil, length-append}
+use Rattle.std.specs.List.{AllByRecursion}
+use Rattle.std.specs.FinMap.{find}
+use Rattle.std.specs.Ordering.{eq_by_cmp}
+use Rattle.std.proofs.lemmas.List.{length-take-le, map-append}
+use Rattle.iloc_spec_grammar.specs.Syntax.{pieces, join, dashes, IsWord, IsHyphenFree, lower, word_cmp}
+use Rattle.iloc_spec_grammar.specs.Meaning.{set_of}
+use Rattle.iloc_spec_grammar.specs.Reading.{rest_of}
+use Rattle.iloc_spec_grammar.specs.Values.{Reordered}
+use Rattle.iloc_spec_grammar.proofs.PartTexts.{join-dashes, dashes-append}
+use Rattle.iloc_spec_grammar.proofs.ReadBack.{all_append, word_hyphen_free}
+use Rattle.iloc_spec_grammar.proofs.ValuesLaws.{all_weaker}
+use Rattle.iloc_spec_grammar.proofs.Orders.{all_reordered, map_reordered, set_of_reordered, itself}
+use Rattle.iloc_spec_grammar.proofs.MapLaws.{map_of_same, word_cmp_total, same_words}
+use Rattle.iloc_spec_grammar.proofs.SetLaws.{marked, keys, set_of-first}
+use Rattle.iloc_fronts.specs.Left.{pieces_of, piece_of, IsLeft}
+use Rattle.iloc_fronts.specs.declared.left.Left.{Left}
+use Rattle.iloc_fronts.proofs.FrontLemmas.{IsShort, short_attribute, short_variant}
+use Rattle.iloc_rewriting.specs.Rewriting.{AreStored, AreAttributesStored}
+use Rattle.iloc_rewriting.specs.Words.{word_kind, KeepsAll, AreInPlaceOf, AreWordsStored, AreWordsHeld, IsWordStored, IsPlaceAmong, AreWordsSoFar}
+use Rattle.iloc_rewriting.specs.declared.keywords.Stored.{Stored}
+use Rattle.iloc_rewriting.specs.declared.keywords.Place.{Place}
+use Rattle.iloc_rewriting.specs.declared.words.WordKind.{WordKind}
+use Rattle.iloc_rewriting.specs.declared.words.WordKind.TheVariants as kind
+use Rattle.iloc_rewriting.proofs.RewritingLemmas.{cut_left, length-joined}
+use Rattle.iloc_rewriting.proofs.StoredLemmas.{split_room, pieces_in_room}
+
+pub short_word : (s : WordKind) → IsShort (word_kind s)
+short_word kind.Attribute = short_attribute
+short_word kind.Variant = short_variant
+
+-- ---- the same words
+
+reordered_before : {X : Type 0} (xs : List X) {ys zs : List X} → Reordered ys zs → Reordered (xs ++ ys) (xs ++ zs)
+reordered_before [] r = r
+reordered_before (x ∷ xs) r = Reordered.front_kept (reordered_before xs r)
+
+pub reordered_after : {X : Type 0} {ys zs : List X} (xs : List X) → Reordered ys zs → Reordered (ys ++ xs) (zs ++ xs)
+reordered_after xs Reordered.none = itself xs
+reordered_after xs (Reordered.front_kept r) = Reordered.front_kept (reordered_after xs r)
+reordered_after xs Reordered.first_two = Reordered.first_two
+reordered_after xs (Reordered.in_turn r s) = Reordered.in_turn (reordered_after xs r) (reordered_after xs s)
+
+pub turned : {X : Type 0} {ys zs : List X} → Reordered ys zs → Reordered zs ys
+turned Reordered.none = Reordered.none
+turned (Reordered.front_kept r) = Reordered.front_kept (turned r)
+turned Reordered.first_two = Reordered.first_two
+turned (Reordered.in_turn r s) = Reordered.in_turn (turned s) (turned r)
+
+-- the first comes last
+first_last : {X : Type 0} (xs : List X) (x : X) → Reordered (x ∷ xs) (xs ++ x ∷ [])
+first_last [] x = itself (x ∷ [])
+first_last (y ∷ xs) x = Reordered.in_turn Reordered.first_two (Reordered.front_kept (first_last xs x))
+
+keeps_itself : (s : WordKind) (ws : List (List ℕ)) → KeepsAll s ws ws
+keeps_itself kind.Attribute ws = tt
+keeps_itself kind.Variant ws = itself ws
+
+keeps_reordered : (s : WordKind) (vs ws : List (List ℕ)) → Reordered ws vs → KeepsAll s vs ws
+keeps_reordered kind.Attribute vs ws r = tt
+keeps_reordered kind.Variant vs ws r = r
+
+-- a word more on both sides, and then another order
+keeps_more : (s : WordKind) (vs ws us : List (List ℕ)) (p : List ℕ) → KeepsAll s vs ws → KeepsAll s (ws ++ p ∷ []) us → KeepsAll s (vs ++ p ∷ []) us
+keeps_more kind.Attribute vs ws us p h k = tt
+keeps_more kind.Variant vs ws us p h k = Reordered.in_turn k (reordered_after (p ∷ []) h)
+
+-- a word more on both sides
+set_more : (vs ws : List (List ℕ)) (p : List ℕ) → set_of (map lower ws) ≡ set_of (map lower vs) → set_of (map lower (ws ++ p ∷ [])) ≡ set_of (map lower (vs ++ p ∷ []))
+set_more vs ws p e =
+    ap set_of (map-append lower ws (p ∷ [])) ∙ sym (set_of-first (map lower ws) (lower p ∷ []))
+    ∙ ap (λ l. set_of (l ++ lower p ∷ [])) e
+    ∙ set_of-first (map lower vs) (lower p ∷ []) ∙ ap set_of (sym (map-append lower vs (p ∷ [])))
+
+-- a word that is there adds nothing
+marks_there : (q w : List ℕ) (xs ys : List (List ℕ)) → find word_cmp q (marked ((xs ++ (w ∷ ys)) ++ w ∷ [])) ≡ find word_cmp q (marked (xs ++ (w ∷ ys)))
+marks_there q w [] ys = at (eq_by_cmp word_cmp q w) (later ys)
+  where
+    at : (b : Bool) → (b ≡ false → find word_cmp q (marked (ys ++ w ∷ [])) ≡ find word_cmp q (marked ys)) → cond b (Some (tt {0})) (find word_cmp q (marked (ys ++ w ∷ []))) ≡ cond b (Some (tt {0})) (find word_cmp q (marked ys))
+    at true f = refl
+    at false f = f refl
+
+    later : (zs : List (List ℕ)) → eq_by_cmp word_cmp q w ≡ false → find word_cmp q (marked (zs ++ w ∷ [])) ≡ find word_cmp q (marked zs)
+    later [] e = ap (λ (b : Bool). cond b (Some (tt {0})) None) e
+    later (z ∷ zs) e = ap (cond (eq_by_cmp word_cmp q z) (Some (tt {0}))) (later zs e)
+marks_there q w (x ∷ xs) ys = ap (cond (eq_by_cmp word_cmp q x) (Some (tt {0}))) (marks_there q w xs ys)
+
+set_there : (w : List ℕ) (xs ys : List (List ℕ)) → set_of ((xs ++ (w ∷ ys)) ++ w ∷ []) ≡ set_of (xs ++ (w ∷ ys))
+set_there w xs ys = ap keys (map_of_same word_cmp word_cmp_total same_words (marked ((xs ++ (w ∷ ys)) ++ w ∷ [])) (marked (xs ++ (w ∷ ys))) (λ q. marks_there q w xs ys))
+
+-- ---- one word more
+
+words_stored : (text : List ℕ) (ws : List (List ℕ)) (p : List ℕ) → (text ++ dashes ws) ++ 45 ∷ p ≡ text ++ dashes (ws ++ p ∷ [])
+words_stored text ws p =
+    append_assoc text (dashes ws) (45 ∷ p)
+    ∙ ap (λ t. text ++ t) (ap (λ t. dashes ws ++ t) (sym (append-nil (45 ∷ p))) ∙ sym (dashes-append ws (p ∷ [])))
+
+pub word_appended : (s : WordKind) (text room p : List ℕ) (start end : ℕ) (ws : List (List ℕ)) → AreWordsHeld s room start end text ws → IsWord (word_kind s) p → (new : List ℕ) (e : ℕ) → AreStored new (take end room ++ 45 ∷ p) e → IsWordStored s text ws p new e
+word_appended s text room p start end ws a w new e h = record {
+  all = ws ++ p ∷ [];
+  same =
+      let each = all_append (IsWord (word_kind s)) ws (p ∷ []) a.each (w, tt) in
+      record { each = each; each_kept = each; few = omega arith; same = refl; all = keeps_itself s (ws ++ p ∷ []) };
+  stored = subst (λ (t : List ℕ). AreStored new t e) (ap (λ t. t ++ 45 ∷ p) a.stored ∙ words_stored text ws p) h;
+}
+
+module _ (s : WordKind) (text room p : List ℕ) (start end len : ℕ) (ws : List (List ℕ)) (room_end : end ≤ length room) (a : AreWordsHeld s room start end text ws) (w : IsWord (word_kind s) p)
+    (place : Place) (c : IsPlaceAmong p ws len place) where
+  each_more : AllByRecursion (IsWord (word_kind s)) (ws ++ p ∷ [])
+  each_more = all_append (IsWord (word_kind s)) ws (p ∷ []) a.each (w, tt)
+
+  -- it is an attribute that is there
+  pub word_there : s ≡ kind.Attribute → place.is_there ≡ true → end + 16 ≤ length room → IsWordStored s text ws p room end
+  word_there attribute there more = record {
+    all = ws;
+    same = record {
+      each = each_more;
+      each_kept = a.each;
+      few = omega (arith, length-append ws (p ∷ []));
+      same = sym same;
+      all = subst (λ (k : WordKind). KeepsAll k (ws ++ p ∷ []) ws) (sym attribute) tt;
+    };
+    stored = record { begins = a.stored; more = more };
+  }
+    where
+      one : lower c.first ≡ lower p
+      one = c.there there
+
+      lowered : map lower ws ≡ map lower c.before ++ (lower p ∷ map lower c.rest)
+      lowered = ap (map lower) c.cut ∙ map-append lower c.before (c.first ∷ c.rest) ∙ ap (λ x. map lower c.before ++ (x ∷ map lower c.rest)) one
+
+      same : set_of (map lower (ws ++ p ∷ [])) ≡ set_of (map lower ws)
+      same = ap set_of (map-append lower ws (p ∷ [])) ∙ ap (λ l. set_of (l ++ lower p ∷ [])) lowered ∙ set_there (lower p) (map lower c.before) (map lower c.rest) ∙ ap set_of (sym lowered)
+
+  -- it comes before a greater one
+  pub word_inserted : (room' new : List ℕ) (m e : ℕ) → AreStored room' (take (end - place.len - 1) room ++ 45 ∷ p) m → AreStored new (take m room' ++ take (place.len + 1) (drop (end - place.len - 1) room)) e
+      → IsWordStored s text ws p new e
+  word_inserted room' new m e h stored = record {
+    all = c.before ++ (p ∷ (c.first ∷ c.rest));
+    same = record {
+      each = each_more;
+      each_kept = all_reordered (IsWord (word_kind s)) (turned order) each_more;
+      few = omega (arith, ap length c.cut, length-append ws (p ∷ []), length-append c.before (c.first ∷ c.rest), length-append c.before (p ∷ (c.first ∷ c.rest)));
+      same = set_of_reordered (map_reordered lower order);
+      all = keeps_reordered s (ws ++ p ∷ []) (c.before ++ (p ∷ (c.first ∷ c.rest))) order;
+    };
+    stored = subst (λ (t : List ℕ). AreStored new t e) text_is stored;
+  }
+    where
+      order : Reordered (c.before ++ (p ∷ (c.first ∷ c.rest))) (ws ++ p ∷ [])
+      order = subst (λ (l : List (List ℕ)). Reordered (c.before ++ (p ∷ (c.first ∷ c.rest))) l) (sym (append_assoc c.before (c.first ∷ c.rest) (p ∷ [])) ∙ ap (λ l. l ++ p ∷ []) (sym c.cut))
+          (reordered_before c.before (first_last (c.first ∷ c.rest) p))
+
+      long : length (dashes (c.first ∷ c.rest)) ≡ place.len + 1
+      long = let l : length (dashes (c.first ∷ c.rest)) ≡ suc (length (join (c.first ∷ c.rest))) = ap suc (ap length (sym (join-dashes c.first c.rest))) in omega (arith, l, c.long)
+
+      parts : take end room ≡ (text ++ dashes c.before) ++ dashes (c.first ∷ c.rest)
+      parts = a.stored ∙ ap (λ l. text ++ dashes l) c.cut ∙ ap (λ t. text ++ t) (dashes-append c.before (c.first ∷ c.rest)) ∙ sym (append_assoc text (dashes c.before) (dashes (c.first ∷ c.rest)))
+
+      same_place : end - (place.len + 1) ≡ end - place.len - 1
+      same_place = omega arith
+
+      halves : (take (end - place.len - 1) room ≡ text ++ dashes c.before) × (take (place.len + 1) (drop (end - place.len - 1) room) ≡ dashes (c.first ∷ c.rest))
+      halves = subst (λ (n : ℕ). (take n room ≡ text ++ dashes c.before) × (take (place.len + 1) (drop n room) ≡ dashes (c.first ∷ c.rest))) same_place
+          (split_room room (text ++ dashes c.before) (dashes (c.first ∷ c.rest)) end (place.len + 1) room_end parts long)
+
+      text_is : take m room' ++ take (place.len + 1) (drop (end - place.len - 1) room) ≡ text ++ dashes (c.before ++ (p ∷ (c.first ∷ c.rest)))
+      text_is =
+          (λ j. (h.begins ∙ ap (λ t. t ++ 45 ∷ p) halves.0 ∙ words_stored text c.before p) j ++ halves.1 j)
+          ∙ append_assoc text (dashes (c.before ++ p ∷ [])) (dashes (c.first ∷ c.rest))
+          ∙ ap (λ t. text ++ t) (sym (dashes-append (c.before ++ p ∷ []) (c.first ∷ c.rest)))
+          ∙ ap (λ l. text ++ dashes l) (append_assoc c.before (p ∷ []) (c.first ∷ c.rest))
+
+-- ---- a place among words
+
+pub words_in_room : (s : WordKind) (room text : List ℕ) (start end : ℕ) (ws : List (List ℕ)) → end ≤ length room → AreWordsHeld s room start end text ws → start < end
+    → pieces (take (end - start - 1) (take (length room - (start + 1)) (drop (start + 1) room))) ≡ ws
+words_in_room s room text start end ws room_end a some =
+    pieces_in_room room text start end ws room_end a.before a.stored (all_weaker (IsWord (word_kind s)) IsHyphenFree (word_hyphen_free (word_kind s)) ws a.each) some
+
+pub among_here : (word : List ℕ) (l : Left) → IsLeft l → l.n < 16 → (there : Bool) → (there ≡ true → lower (piece_of l) ≡ lower word) → IsPlaceAmong word (pieces_of l) l.len (record { is_there = there; len = l.len })
+among_here word l h few there one = record {
+  before = [];
+  first = piece_of l;
+  rest = rest_of (pieces_of l);
+  cut = cut_left l h few;
+  there = one;
+  long = sym (length-joined l h) ∙ ap (λ ps. length (join ps)) (cut_left l h few);
+  within = omega arith;
+}
+
+pub among_later : (word p : List ℕ) (ps qs : List (List ℕ)) (m n : ℕ) → ps ≡ p ∷ qs → m ≤ n → (k : Place) → IsPlaceAmong word qs m k → IsPlaceAmong word ps n k
+among_later word p ps qs m n e le k h = record {
+  before = p ∷ h.before;
+  first = h.first;
+  rest = h.rest;
+  cut = e ∙ ap (λ l. p ∷ l) h.cut;
+  there = h.there;
+  long = h.long;
+  within = omega (arith, h.within);
+}
+
+-- ---- words so far
+
+pub words_none : (s : WordKind) (room : List ℕ) (start : ℕ) (l : Left) → start ≤ length room → AreWordsSoFar s (take start room) (pieces_of l) start start room l
+words_none s room start l inside = record {
+  words = [];
+  kept = [];
+  cut = refl;
+  same = record { each = tt; each_kept = tt; few = omega arith; same = refl; all = keeps_itself s [] };
+  held = record { before = length-take-le start room inside; stored = sym (append-nil (take start room)); each = tt };
+}
+
+module _ (s : WordKind) (text room p : List ℕ) (ps : List (List ℕ)) (start end : ℕ) (at : Left) (h : AreWordsSoFar s text ps start end room at) (w : IsWord (word_kind s) p) (new : List ℕ) (e : ℕ)
+    (i : IsWordStored s text h.kept p new e) where
+  more_same : AreInPlaceOf s (h.words ++ p ∷ []) i.all
+  more_same = record {
+    each = all_append (IsWord (word_kind s)) h.words (p ∷ []) h.same.each (w, tt);
+    each_kept = i.same.each_kept;
+    few = omega (arith, i.same.few, h.same.few, length-append h.words (p ∷ []), length-append h.kept (p ∷ []));
+    same = i.same.same ∙ set_more h.words h.kept p h.same.same;
+    all = keeps_more s h.words h.kept i.all p h.same.all i.same.all;
+  }
+
+  pub word_last : (n : ℕ) → pieces_of at ≡ p ∷ [] → AreWordsStored s text ps n new (record { end = e; next = None })
+  word_last n cut = record {
+    words = h.words ++ p ∷ [];
+    kept = i.all;
+    cut = h.cut ∙ ap (λ l. h.words ++ l) cut ∙ sym (append-nil (h.words ++ p ∷ []));
+    same = more_same;
+    stored = i.stored;
+    left = tt;
+  }
+
+  pub word_more : (next : Left) → pieces_of at ≡ p ∷ pieces_of next → AreWordsSoFar s text ps start e new next
+  word_more next cut = record {
+    words = h.words ++ p ∷ [];
+    kept = i.all;
+    cut = h.cut ∙ ap (λ l. h.words ++ l) cut ∙ sym (append_assoc h.words (p ∷ []) (pieces_of next));
+    same = more_same;
+    held = record { before = h.held.before; stored = i.stored.begins; each = i.same.each_kept };
+  }
+
+  pub word_behind : start ≤ e
+  word_behind = omega (arith, i.stored.more, h.held.before, length-take-le e new (omega (arith, i.stored.more)), ap length i.stored.begins, length-append text (dashes i.all))
+
+pub words_end : (s : WordKind) (text room : List ℕ) (ps : List (List ℕ)) (start end n : ℕ) (at : Left) → AreWordsSoFar s text ps start end room at → end + 16 ≤ length room → IsLeft at → at.len ≤ n
+    → AreWordsStored s text ps n room (record { end = end; next = Some at })
+words_end s text room ps start end n at h more left le = record {
+  words = h.words;
+  kept = h.kept;
+  cut = h.cut;
+  same = h.same;
+  stored = record { begins = h.held.stored; more = more };
+  left = (left, le);
+}
+
+-- what is stored of attributes
+pub attributes_of : (text : List ℕ) (ps : List (List ℕ)) (n : ℕ) (room : List ℕ) (t : Stored) → AreWordsStored kind.Attribute text ps n room t → AreAttributesStored text ps n room t
+attributes_of text ps n room t h = record {
+  words = h.words;
+  kept = h.kept;
+  cut = h.cut;
+  same = record { each = h.same.each; each_kept = h.same.each_kept; few = h.same.few; same = h.same.same };
+  stored = h.stored;
+  left = h.left;
+}

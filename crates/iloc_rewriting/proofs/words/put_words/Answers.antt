@@ -1,0 +1,43 @@
+use Rattle.std.proofs.Common.{take, sym, ◌∙◌, arith}
+use Rattle.iloc_spec_grammar.specs.Syntax.{IsWord}
+use Rattle.iloc_fronts.specs.Left.{pieces_of, piece_of}
+use Rattle.iloc_fronts.proofs.LeftLemmas.{last_left, word_left}
+use Rattle.iloc_rewriting.specs.Words.{word_kind}
+use Rattle.iloc_rewriting.proofs.WordLemmas.{short_word, words_none, word_last, word_more, word_behind}
+use Rattle.iloc_rewriting.proofs.words.put_words.Goals as goal
+
+pub words-init : goal.words-init
+words-init c = record {
+  left = c.requires.left;
+  shorter = omega arith;
+  more = c.requires.room;
+  start = omega arith;
+  far = words_none c.args.kind c.args.room.now c.args.start c.args.left (omega (arith, c.requires.room));
+}
+
+pub returns-then-at : goal.returns-then-at
+returns-then-at c =
+    let l = c.words.at in
+    let h = c.words.invariant in
+    let text = take c.args.start c.args.room.now in
+    let word : IsWord (word_kind c.args.kind) (piece_of l) = sym c.is_word_of.ensures ∙ c.words-test.true in
+    let stored = c.in_ok-end.ensures text h.far.kept h.far.held in
+    word_last c.args.kind text c.words.room (piece_of l) (pieces_of c.args.left) c.args.start c.words.end l h.far word c.put_word.new.room c.in_ok-end.end stored c.args.left.len
+    (last_left l h.left (word_left l h.left (word_kind c.args.kind) (short_word c.args.kind) word) c.if-at.true)
+
+pub words-preserved : goal.words-preserved
+words-preserved c =
+    let l = c.words.at in
+    let h = c.words.invariant in
+    let next = c.after_piece-at.result in
+    let text = take c.args.start c.args.room.now in
+    let word : IsWord (word_kind c.args.kind) (piece_of l) = sym c.is_word_of.ensures ∙ c.words-test.true in
+    let stored = c.in_ok-end.ensures text h.far.kept h.far.held in
+    record {
+      left = c.after_piece-at.ensures.left;
+      shorter = omega (arith, c.after_piece-at.ensures.less, h.shorter);
+      more = stored.stored.more;
+      start = word_behind c.args.kind text c.words.room (piece_of l) (pieces_of c.args.left) c.args.start c.words.end l h.far word c.put_word.new.room c.in_ok-end.end stored;
+      far = word_more c.args.kind text c.words.room (piece_of l) (pieces_of c.args.left) c.args.start c.words.end l h.far word c.put_word.new.room c.in_ok-end.end stored next
+          (c.after_piece-at.ensures.pieces (word_left l h.left (word_kind c.args.kind) (short_word c.args.kind) word));
+    }

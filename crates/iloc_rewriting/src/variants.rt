@@ -1,0 +1,44 @@
+//! Brings the variants of a line into order.
+ghost use Rattle.std.specs.Prelude.{◌≡◌, ◌+◌, ◌≤◌, ◌++◌, IfSome, length, take};
+ghost use Rattle.iloc_spec_grammar.specs.Syntax.{dashes};
+ghost use Rattle.iloc_blocks.specs.Blocks.{left_of};
+ghost use Rattle.iloc_rewriting.specs.Rewriting.{AreStored};
+ghost use Rattle.iloc_rewriting.specs.Words.{IsRemaining, IsSortedAs};
+
+use crate::keywords::Stored;
+use crate::storing::{put_bytes, put_left};
+use crate::words::{WordKind, put_words};
+use iloc_blocks::ordered::cut_at;
+use iloc_fronts::left::left_in;
+
+/// Stores a line that means what the first `len` bytes mean, and gives its length. If a plain identifier of `at` bytes
+/// comes first, the variants after it ascend in the new line; all else is as it was. `None` says nothing of the line; it
+/// is returned where two variants have the same first four bytes.
+#[inline(never)]
+pub fn sort_variants(window: &[u8], len: usize, at: usize, room: &mut [u8]) -> Option<usize>
+    requires { len + 16 ≤ length window.now }
+    ensures { IfSome result (IsSortedAs (take len window.now) room.new) }
+{
+    if room.len() < 16 {
+        return None;
+    }
+    cut_at(window, len, at)?;
+    let start = put_bytes(window, at, room, 0)?;
+    let variants = left_in(&window[at + 1..], len - at - 1);
+    let stored = put_words(WordKind::Variant, variants, room, start)?;
+    put_remaining(stored, room)
+}
+
+// Stores what follows them as it stands.
+#[inline(always)]
+fn put_remaining(stored: Stored<'_>, room: &mut [u8]) -> Option<usize>
+    requires left { IsRemaining stored.next }
+    requires room { stored.end + 16 ≤ length room.old }
+    ensures { IfSome result (AreStored room.new
+        (take stored.entry.end room.old ++ dashes (left_of stored.entry.next))) }
+{
+    match stored.next {
+        Some(next) => put_left(next, room, stored.end),
+        None => Some(stored.end),
+    }
+}

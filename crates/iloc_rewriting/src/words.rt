@@ -1,0 +1,188 @@
+//! Stores words in order: attributes, or variants.
+ghost use Rattle.std.specs.Prelude.{◌≡◌, ◌+◌, ◌≤◌, IfSome, List, length, take};
+ghost use Rattle.iloc_spec_grammar.specs.Syntax.{IsWord, Text, is_word};
+ghost use Rattle.iloc_fronts.specs.Left.{IsLeft, piece_of, pieces_of};
+ghost use Rattle.iloc_rewriting.specs.Words.{
+  AreWordsHeld,
+  AreWordsStored,
+  IsPlaceAmong,
+  IsWordStored,
+  number_by,
+  word_kind,
+};
+
+use crate::attributes::are_one;
+use crate::keywords::{Place, Stored};
+use crate::storing::{put_bytes, put_piece};
+use iloc_fronts::left::{Left, after_piece, left_in};
+use iloc_fronts::words::{is_attribute, is_variant, number_of_four, number_of_two};
+use std::cmp::max;
+
+// Which words are stored.
+#[derive(Clone, Copy)]
+pub(crate) enum WordKind {
+    // Attributes, each once, in the order of their first two bytes.
+    Attribute,
+    // Variants, which differ, in the order of their first four bytes.
+    Variant,
+}
+
+// Stores words in order; `None` if two others have one number, or a variant comes twice.
+#[inline(always)]
+pub(crate) fn put_words<'a>(
+    kind: WordKind,
+    left: Left<'a>,
+    room: &mut [u8],
+    start: usize,
+) -> Option<Stored<'a>>
+    requires left { IsLeft left }
+    requires room { start + 16 ≤ length room.old }
+    ensures { IfSome result (AreWordsStored kind (take start room.old) (pieces_of left.entry)
+        left.entry.len room.new) }
+{
+    let mut at = left;
+    let mut end = start;
+    let mut last = 0;
+    'words: while is_word_of(kind, at.window, at.n) {
+        end = put_word(kind, at, last, room, start, end)?;
+        if at.n == at.len {
+            return Some(Stored { end, next: None });
+        }
+        last = max(last, number_of(kind, at));
+        at = after_piece(at);
+    }
+    Some(Stored {
+        end,
+        next: Some(at),
+    })
+}
+
+// Whether the first `n` bytes are such a word.
+#[inline(always)]
+fn is_word_of(kind: WordKind, window: &[u8], n: usize) -> bool
+    requires wide { 16 ≤ length window.now }
+    requires few { n ≤ 16 }
+    ensures { result ≡ is_word (word_kind kind) (take n window.now) }
+{
+    match kind {
+        WordKind::Attribute => is_attribute(window, n),
+        WordKind::Variant => is_variant(window, n),
+    }
+}
+
+// The number of the word, by which it is ordered.
+#[inline(always)]
+fn number_of(kind: WordKind, left: Left<'_>) -> usize
+    requires left { IsLeft left }
+    requires word { IsWord (word_kind kind) (piece_of left) }
+    ensures { result ≡ number_by kind (piece_of left.entry) }
+{
+    match kind {
+        WordKind::Attribute => number_of_two(left.window),
+        WordKind::Variant => number_of_four(left.window),
+    }
+}
+
+// Stores a word among those that begin at `start`, of which none has a number above the last.
+#[inline(always)]
+fn put_word(
+    kind: WordKind,
+    left: Left<'_>,
+    last: usize,
+    room: &mut [u8],
+    start: usize,
+    end: usize,
+) -> Option<usize>
+    requires left { IsLeft left }
+    requires word { IsWord (word_kind kind) (piece_of left) }
+    requires room { end + 16 ≤ length room.old }
+    requires start { start ≤ end }
+    ensures { (t : Text) (ws : List Text) → AreWordsHeld kind room.old start end t ws
+        → IfSome result (IsWordStored kind t ws (piece_of left.entry) room.new) }
+{
+    if number_of(kind, left) > last {
+        return put_piece(left, room, end);
+    }
+    insert_word(kind, left, room, start, end)
+}
+
+// Stores a word before the first that is greater. An attribute that is there is passed over.
+#[inline(never)]
+fn insert_word(
+    kind: WordKind,
+    left: Left<'_>,
+    room: &mut [u8],
+    start: usize,
+    end: usize,
+) -> Option<usize>
+    requires left { IsLeft left }
+    requires word { IsWord (word_kind kind) (piece_of left) }
+    requires room { end + 16 ≤ length room.old }
+    requires start { start ≤ end }
+    ensures { (t : Text) (ws : List Text) → AreWordsHeld kind room.old start end t ws
+        → IfSome result (IsWordStored kind t ws (piece_of left.entry) room.new) }
+{
+    if start == end {
+        return None;
+    }
+    let place = place_among(kind, left, left_in(&room[start + 1..], end - start - 1))?;
+    if place.is_there {
+        return match kind {
+            WordKind::Attribute => Some(end),
+            WordKind::Variant => None,
+        };
+    }
+    let before = end - place.len - 1;
+    let mut later = [0u8; 128];
+    let count = put_bytes(&room[before..], place.len + 1, &mut later, 0)?;
+    let next = put_piece(left, room, before)?;
+    put_bytes(&later, count, room, next)
+}
+
+// Where the word belongs among these; `None` if another has its number.
+#[inline(always)]
+fn place_among(kind: WordKind, word: Left<'_>, left: Left<'_>) -> Option<Place>
+    requires word { IsLeft word }
+    requires fits { IsWord (word_kind kind) (piece_of word) }
+    requires left { IsLeft left }
+    ensures { IfSome result
+        (IsPlaceAmong (piece_of word.entry) (pieces_of left.entry) left.entry.len) }
+{
+    let number = number_of(kind, word);
+    let mut at = left;
+    'words: while is_word_of(kind, at.window, at.n) {
+        let other = number_of(kind, at);
+        if other >= number {
+            return place_at(kind, word, at, other > number);
+        }
+        if at.n == at.len {
+            return None;
+        }
+        at = after_piece(at);
+    }
+    None
+}
+
+// The place here, if this word is greater, or the same.
+#[inline(always)]
+fn place_at(kind: WordKind, word: Left<'_>, left: Left<'_>, is_greater: bool) -> Option<Place>
+    requires word { IsLeft word }
+    requires left { IsLeft left }
+    requires first { IsWord (word_kind kind) (piece_of left) }
+    ensures { IfSome result
+        (IsPlaceAmong (piece_of word.entry) (pieces_of left.entry) left.entry.len) }
+{
+    if is_greater {
+        return Some(Place {
+            is_there: false,
+            len: left.len,
+        });
+    }
+    if !are_one(word, left) {
+        return None;
+    }
+    Some(Place {
+        is_there: true,
+        len: left.len,
+    })
+}
