@@ -1,6 +1,7 @@
 //! Lines that come in pieces, and their replies.
 ghost use Rattle.std.specs.Prelude.{
   ◌≡◌,
+  ◌≢◌,
   ◌+◌,
   ◌≤◌,
   ℕ,
@@ -32,7 +33,7 @@ ghost use Rattle.memchr.specs.Find.{IsFirstByte, Nowhere, Passes, is_byte};
 
 use crate::replies::write_refusal;
 use crate::reply_block::ReplyBlock;
-use crate::told::{Lead, ROOM, Told, read_lead, tell_blocks, tell_varied};
+use crate::told::{Lead, ROOM, Told, read_lead, tell_blocks, tell_variants, tell_varied};
 use crate::{Answers, RunError};
 use iloc_fronts::may_begin;
 use iloc_plain::read_plain;
@@ -136,6 +137,7 @@ fn reply_to<A: Answers>(
     match read_lead(answers.mode(), window, len) {
         Lead::Refused(error) => write_refusal(error, replies),
         Lead::Variant(at) => reply_to_varied(answers, window, len, at, replies),
+        Lead::Variants(at) => reply_to_variants(answers, window, len, at, room, replies),
         Lead::Blocks(at) => reply_to_blocks(answers, window, len, at, room, replies),
         Lead::Nothing => answers.reply(&window[..len], replies),
     }
@@ -155,6 +157,28 @@ fn reply_to_varied<A: Answers>(
         ≡ held replies.old ++ reply A.mode (take len window.now)) }
 {
     match tell_varied(window, len, at) {
+        Told::Ordered(line) => replies.push_ordered(&line),
+        Told::Refused(error) => write_refusal(error, replies),
+        Told::Nothing => answers.reply(&window[..len], replies),
+    }
+}
+
+// The same of an identifier or a locale that may be a plain identifier of so many bytes, and variants.
+#[inline(never)]
+fn reply_to_variants<A: Answers>(
+    answers: &mut A,
+    window: &[u8],
+    len: usize,
+    at: usize,
+    room: &mut [u8],
+    replies: &mut ReplyBlock,
+) -> Result<(), AllocError>
+    requires mode { A.mode ≢ Mode.Data }
+    requires room { len + 16 ≤ length window.now }
+    ensures { OnOk result (held replies.new
+        ≡ held replies.old ++ reply A.mode (take len window.now)) }
+{
+    match tell_variants(window, len, at, room) {
         Told::Ordered(line) => replies.push_ordered(&line),
         Told::Refused(error) => write_refusal(error, replies),
         Told::Nothing => answers.reply(&window[..len], replies),

@@ -1,14 +1,15 @@
 //! What is told of a text at once, in each mode: first by its front, and then by what follows that.
-ghost use Rattle.std.specs.Prelude.{◌≡◌, ◌+◌, ◌<◌, ◌≤◌, IfSome, length, take};
+ghost use Rattle.std.specs.Prelude.{◌≡◌, ◌≢◌, ◌+◌, ◌<◌, ◌≤◌, IfSome, length, take};
 ghost use Rattle.iloc_spec_grammar.specs.Syntax.{Text};
 ghost use Rattle.iloc_fronts.specs.Front.{IsFront};
 ghost use Rattle.iloc_fronts.specs.declared.front.Front.TheVariants as fronts;
 ghost use Rattle.iloc_lines.specs.Told.{IsLead, IsRefused, IsTold, refusal_of};
 
 use crate::Mode;
+use iloc_blocks::variants::{Variants, read_variants};
 use iloc_blocks::{BadBlock, Ordered, Reading, find_bad_block, read_ordered, read_varied};
 use iloc_fronts::{Block, Front, Keyword, read_front, read_keyword};
-use iloc_rewriting::rewrite;
+use iloc_rewriting::{rewrite, sort_variants};
 use iloc_subtags::ParseError;
 
 /// The room for a text that is brought into order. Longer ones are not told.
@@ -21,8 +22,11 @@ pub enum Lead {
     Refused(ParseError),
     /// Nothing, but it may be a plain identifier of so many bytes, and a variant: `tell_varied` tells more.
     Variant(usize),
+    /// Nothing, but it may be a plain identifier of so many bytes, and variants: `tell_variants` tells more. It is said
+    /// of no data locale.
+    Variants(usize),
     /// Nothing, but it may be a plain identifier of so many bytes, and what a locale prints after it:
-    /// `tell_blocks` tells more.
+    /// `tell_blocks` tells more. It is said of locales alone.
     Blocks(usize),
     /// Nothing.
     Nothing,
@@ -49,6 +53,7 @@ pub fn tell<'a>(mode: Mode, window: &'a [u8], len: usize, room: &'a mut [u8]) ->
     match read_lead(mode, window, len) {
         Lead::Refused(error) => Told::Refused(error),
         Lead::Variant(at) => tell_varied(window, len, at),
+        Lead::Variants(at) => tell_variants(window, len, at, room),
         Lead::Blocks(at) => tell_blocks(window, len, at, room),
         Lead::Nothing => Told::Nothing,
     }
@@ -65,7 +70,7 @@ pub fn read_lead(mode: Mode, window: &[u8], len: usize) -> Lead
         Front::NoLanguage => Lead::Refused(ParseError::InvalidLanguage),
         Front::Misfit => Lead::Refused(ParseError::InvalidSubtag),
         Front::Variant(tail) => Lead::Variant(len.wrapping_sub(tail.wrapping_add(1))),
-        Front::Variants => lead_of_variants(mode, &window[..len]),
+        Front::Variants(tail) => lead_of_variants(mode, &window[..len], tail),
         Front::Block(block) => lead_of_block(mode, &window[..len], block),
         Front::Other => Lead::Nothing,
     }
@@ -73,13 +78,13 @@ pub fn read_lead(mode: Mode, window: &[u8], len: usize) -> Lead
 
 // The same of a text with two variants or more. A data locale has no more than one.
 #[inline(always)]
-fn lead_of_variants(mode: Mode, text: &[u8]) -> Lead
-    requires { IsFront text.now fronts.Variants }
+fn lead_of_variants(mode: Mode, text: &[u8], tail: usize) -> Lead
+    requires { IsFront text.now (fronts.Variants tail) }
     ensures { IsLead mode text.now result }
 {
     match mode {
         Mode::Data => Lead::Refused(ParseError::InvalidSubtag),
-        _ => Lead::Nothing,
+        _ => Lead::Variants(text.len().wrapping_sub(tail.wrapping_add(1))),
     }
 }
 
@@ -165,6 +170,40 @@ pub fn tell_varied(window: &[u8], len: usize, at: usize) -> Told<'_>
     }
 }
 
+/// What is told of the first `len` bytes, but as a data locale, if a plain identifier of `at` bytes and variants are all
+/// of them. Variants out of order are brought into order in the room.
+#[inline(always)]
+pub fn tell_variants<'a>(
+    window: &'a [u8],
+    len: usize,
+    at: usize,
+    room: &'a mut [u8],
+) -> Told<'a>
+    requires { len + 16 ≤ length window.now }
+    ensures { (mode : Mode) → mode ≢ Mode.Data → IsTold mode (take len window.now) result }
+{
+    match read_variants(window, len, at) {
+        Variants::Ordered(line) => Told::Ordered(line),
+        Variants::Unordered => tell_sorted(window, len, at, room),
+        Variants::Other => Told::Nothing,
+    }
+}
+
+// The same of one whose variants have to be brought into order.
+#[inline(always)]
+fn tell_sorted<'a>(window: &[u8], len: usize, at: usize, room: &'a mut [u8]) -> Told<'a>
+    requires { len + 16 ≤ length window.now }
+    ensures { (mode : Mode) → mode ≢ Mode.Data → IsTold mode (take len window.now) result }
+{
+    let Some(count) = sort_variants(window, len, at, room) else {
+        return Told::Nothing;
+    };
+    match read_variants(room, count, at) {
+        Variants::Ordered(line) => Told::Ordered(line),
+        _ => Told::Nothing,
+    }
+}
+
 /// What is told of the first `len` bytes as a locale, if a plain identifier of `at` bytes comes first. A text out of
 /// order is brought into order in the room.
 #[inline(always)]
@@ -174,9 +213,9 @@ pub fn tell_blocks<'a>(window: &'a [u8], len: usize, at: usize, room: &'a mut [u
 {
     match read_ordered(window, len, at) {
         Reading::Ordered(line) => Told::Ordered(line),
-        Reading::BadBlock => Told::Refused(ParseError::InvalidExtension),
+        Reading::BadBlock(bad) => Told::Refused(error_of(bad)),
         Reading::Unordered => tell_rewritten(window, len, at, room),
-        Reading::Other => tell_bad_block(window, len, at),
+        Reading::Other => Told::Nothing,
     }
 }
 

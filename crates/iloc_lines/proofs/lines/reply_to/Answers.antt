@@ -35,3 +35,6 @@ returns-in-Refused g c =
 
 pub reply_to_blocks-requires-clause-mode : goal.reply_to_blocks-requires-clause-mode
 reply_to_blocks-requires-clause-mode g c = sym c.mode.ensures ∙ c.in-Blocks.ensures
+
+pub reply_to_variants-requires-clause-mode : goal.reply_to_variants-requires-clause-mode
+reply_to_variants-requires-clause-mode g c e = c.in-Variants.ensures (c.mode.ensures ∙ e)

@@ -9,3 +9,6 @@ returns-in-Blocks c =
 
 pub returns-in-Variant : goal.returns-in-Variant
 returns-in-Variant c = c.tell_varied.ensures c.args.mode
+
+pub returns-in-Variants : goal.returns-in-Variants
+returns-in-Variants c = c.tell_variants.ensures c.args.mode c.in-Variants.ensures
