@@ -1,6 +1,5 @@
 -- Bad blocks after good ones, in whatever order.
-use Rattle.std.proofs.Common.{◌≡◌, ◌≢◌, ◌⊎◌, inl, inr, ℕ, zero, suc, ◌+◌, ◌*◌, ◌<◌, ◌≤◌, ◌==◌, ◌||◌, Bool, true, false, cond, List, [], ◌∷◌, ◌++◌, length, map, filter, take, get_or, refl, sym, ap, ◌∙◌, subst, arith, true≢false, append-nil}
-use Rattle.std.specs.Int.{is_in_range}
+use Rattle.std.proofs.Common.{◌≡◌, ◌≢◌, ◌⊎◌, inl, inr, ℕ, zero, suc, ◌+◌, ◌*◌, ◌<◌, ◌≤◌, ◌==◌, ◌||◌, Bool, true, false, cond, List, [], ◌∷◌, ◌++◌, length, map, take, get_or, refl, sym, ap, ◌∙◌, subst, arith, true≢false, append-nil}
 use Rattle.std.specs.List.{AllByRecursion, list_all, list_any}
 use Rattle.std.specs.Char.{is_ascii_alphanumeric, to_ascii_lowercase}
 use Rattle.std.specs.Ordering.{nat_cmp, eq_by_cmp}
@@ -8,19 +7,19 @@ use Rattle.std.proofs.lemmas.Bool.{cases_Bool, cases_eq, and_parts, false_from_n
 use Rattle.std.proofs.lemmas.Bool.Decides.{nat_tests}
 use Rattle.std.proofs.lemmas.List.{length-take-le, take-take, get_or-set_same, get_or-set_other}
 use Rattle.std.proofs.Math.ListN.{set, replicate}
-use Rattle.iloc_spec_grammar.specs.Syntax.{first_piece, front, blocks, Variant, UnicodeKey, Attribute, Subtag, is_word, IsWord, IsOther, IsKeyword, IsUnicode, Extension, transform, unicode, other, IsExtension, extension_pieces, languages, letters_or_digits, lower, word_cmp, is_same}
+use Rattle.iloc_spec_grammar.specs.Syntax.{first_piece, front, blocks, Variant, UnicodeKey, Attribute, is_word, IsWord, IsOther, IsKeyword, IsUnicode, Extension, transform, unicode, other, IsExtension, extension_pieces, languages, letters_or_digits, lower, word_cmp, is_same}
 use Rattle.iloc_spec_grammar.specs.Meaning.{FirstBadBlock, here, later, IsBlock, no_singleton, duplicated}
-use Rattle.iloc_spec_grammar.specs.Reading.{is_two, before_key, fields_from, unicode_of, rest_of, starts_block}
+use Rattle.iloc_spec_grammar.specs.Reading.{is_two, before_key, fields_from, unicode_of, rest_of}
 use Rattle.iloc_spec_grammar.proofs.PiecesLaws.{at_pieces}
 use Rattle.iloc_spec_grammar.proofs.MapLaws.{same_is}
 use Rattle.iloc_spec_grammar.proofs.RawLaws.{languages_table}
-use Rattle.iloc_spec_grammar.proofs.Readings.{IsLong, long_extension, long_between, not_two, two, pieces-unicode_of}
+use Rattle.iloc_spec_grammar.proofs.Readings.{IsLong, long_extension, not_two, two, pieces-unicode_of}
 use Rattle.iloc_spec_grammar.proofs.Singletons.{untied, self_tied}
 use Rattle.iloc_spec_grammar.proofs.WordsLaws.{length-attribute, length-unicode_key, length-variant, word_letters_or_digits}
 use Rattle.iloc_fronts.specs.Left.{pieces_of, IsLeft}
-use Rattle.iloc_blocks.specs.Blocks.{IsBodyAs, IsNoUnicode, IsNoOther, IsStray, IsPrivateAs}
+use Rattle.iloc_blocks.specs.Blocks.{IsBodyAs, IsNoUnicode, IsNoOther, IsPrivateAs}
 use Rattle.iloc_blocks.specs.Transform.{IsNoTransform, IsTransformPart}
-use Rattle.iloc_blocks.specs.Faults.{HaveOthers, ArePastVariants, HaveBad, IsUnseen, AreMarked, IsPassedAs, AreUnicodeWords, AreUnicode, AreUnicodeAt, AreBetween, HaveOdd}
+use Rattle.iloc_blocks.specs.Faults.{HaveOthers, ArePastVariants, HaveBad, IsUnseen, AreMarked, IsPassedAs, AreUnicodeWords, AreUnicode, AreUnicodeAt}
 use Rattle.iloc_blocks.specs.Bad.{fault_of}
 use Rattle.iloc_fronts.specs.Words.{four_number}
 use Rattle.iloc_fronts.specs.declared.left.Left.{Left}
@@ -29,7 +28,7 @@ use Rattle.iloc_blocks.specs.declared.bad_block.BadBlock.TheVariants as bad
 use Rattle.iloc_blocks.specs.declared.body.Body.{Body}
 use Rattle.iloc_blocks.specs.declared.body.Body.TheVariants as body
 use Rattle.iloc_fronts.proofs.LeftLemmas.{first_left, byte_left}
-use Rattle.iloc_blocks.proofs.BlockLemmas.{front_long, front_past, blocks_past, first_block, private_block}
+use Rattle.iloc_blocks.proofs.BlockLemmas.{front_past, blocks_past, first_block, private_block}
 use Rattle.iloc_blocks.proofs.PrintedBlocks.{other_letter}
 use Rattle.iloc_blocks.proofs.TransformLemmas.{part_means}
 use Rattle.iloc_blocks.proofs.BadBlocks.{IsNew, any_block, Refuted}
@@ -146,42 +145,6 @@ some_words (p ∷ ps) h l = by h.0
 is_unicode : (ps : List (List ℕ)) → AreUnicode ps → IsUnicode (unicode_of ps)
 unfolding unicode_of
 is_unicode ps h = record { attributes = before_words ps h.0; keywords = fields_words ps h.0; nonempty = some_words ps h.0 h.1 }
-
--- ---- bodies of other extensions
-
-pub other_last : (p : List ℕ) → IsWord Subtag p → IsOther (p ∷ [])
-unfolding is_word
-other_last p h = record { lengths = ((and_parts _ _ h).0, tt); nonempty = subst (λ (b : Bool). 0 < length (map lower (cond b (p ∷ []) []))) (sym h) (omega arith) }
-
--- ... that begin with a word
-pub other_first : (p : List ℕ) (ps : List (List ℕ)) → IsWord Subtag p → AreBetween ps → IsOther (p ∷ ps)
-unfolding is_word
-other_first p ps h all = record {
-  lengths = ((and_parts _ _ h).0, all);
-  nonempty = subst (λ (b : Bool). 0 < length (map lower (cond b (p ∷ filter (is_word Subtag) ps) (filter (is_word Subtag) ps)))) (sym h) (omega arith);
-}
-
--- ... that begin with none
-pub other_later : (p : List ℕ) (ps : List (List ℕ)) → IsStray p → IsOther ps → IsOther (p ∷ ps)
-other_later p ps s h = record {
-  lengths = (s.lengths, h.lengths);
-  nonempty = subst (λ (b : Bool). 0 < length (map lower (cond b (p ∷ filter (is_word Subtag) ps) (filter (is_word Subtag) ps)))) (sym s.no_word) h.nonempty;
-}
-
-between_long : (p : List ℕ) → is_in_range 2 8 (length p) ≡ true → IsLong p
-between_long p h = long_between p h
-
-pub odd_after : (p : List ℕ) (ps : List (List ℕ)) → is_in_range 2 8 (length p) ≡ true → HaveOdd ps → HaveOdd (p ∷ ps)
-odd_after p ps h n all = n (subst AreBetween (front_long p ps (between_long p h)) all).1
-
-pub odd_here : (ps : List (List ℕ)) → starts_block ps ≡ false → is_in_range 2 8 (length (first_piece ps)) ≡ false → HaveOdd ps
-odd_here [] long e all = true≢false long
-odd_here (p ∷ ps) long e all = true≢false (sym (subst AreBetween (front_long p ps long) all).0 ∙ e)
-
--- a word before such pieces
-pub no_other_after : (p : List ℕ) (ps : List (List ℕ)) → IsWord Subtag p → HaveOdd ps → IsNoOther (p ∷ ps)
-unfolding is_word
-no_other_after p ps h n o = odd_after p ps (and_parts _ _ h).0 n o.lengths
 
 -- ---- a block that keeps to its rule
 

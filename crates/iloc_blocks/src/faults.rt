@@ -1,16 +1,13 @@
 //! Tells the first bad block, whatever the order of what comes before it.
 ghost use Rattle.std.specs.Prelude.{◌≡◌, ℕ, ◌+◌, ◌≤◌, IsTrue, IfSome, [], length, take, true};
 ghost use Rattle.std.specs.Char.{is_ascii_alphanumeric, to_ascii_lowercase};
-ghost use Rattle.iloc_spec_grammar.specs.Syntax.{IsOther, IsWord, Subtag};
-ghost use Rattle.iloc_fronts.specs.Left.{IsLeft, piece_of, pieces_of};
-ghost use Rattle.iloc_blocks.specs.Blocks.{IsBodyAs, IsNoOther, IsNoUnicode};
+ghost use Rattle.iloc_fronts.specs.Left.{IsLeft, pieces_of};
+ghost use Rattle.iloc_blocks.specs.Blocks.{IsBodyAs, IsNoUnicode};
 ghost use Rattle.iloc_blocks.specs.Bad.{HasBadBlock};
 ghost use Rattle.iloc_blocks.specs.Faults.{
   ArePastVariants,
-  AreBetween,
   AreUnicode,
   HaveBad,
-  HaveOdd,
   HaveOthers,
   IsPassedAs,
 };
@@ -18,11 +15,11 @@ ghost use Rattle.iloc_blocks.specs.Faults.{
 use crate::bad_block::BadBlock;
 use crate::body::Body;
 use crate::ordered::cut_at;
-use crate::other::read_private;
+use crate::other::{past_other, read_private};
 use crate::transform::read_transform;
 use crate::unicode::past_unicode_words;
 use iloc_fronts::left::{Left, after_piece, left_in};
-use iloc_fronts::words::{is_attribute, is_field_key, is_subtag, is_variant, number_of_four};
+use iloc_fronts::words::{is_variant, number_of_four};
 
 /// What is wrong with the first bad block, if a plain identifier of `at` bytes comes first, and variants
 /// that differ in their first four bytes. The blocks before it stand in any order.
@@ -136,55 +133,4 @@ fn past_unicode(left: Left<'_>) -> Body<'_>
         return Body::Bad;
     }
     past_unicode_words(left)
-}
-
-// What follows another singleton: pieces of two to eight bytes, of which one at least is a word.
-#[inline(always)]
-fn past_other(left: Left<'_>) -> Body<'_>
-    requires { IsLeft left }
-    ensures { IsBodyAs IsOther IsNoOther left.entry.len (pieces_of left.entry) result }
-{
-    let mut at = left;
-    'strays: while !is_subtag(at.window, at.n) {
-        if at.n < 2 || at.n > 8 {
-            return Body::Bad;
-        }
-        if at.n == at.len {
-            return Body::Bad;
-        }
-        at = after_piece(at);
-    }
-    past_pieces(at)
-}
-
-// What the pieces are of which the first is a word.
-#[inline(always)]
-fn past_pieces(left: Left<'_>) -> Body<'_>
-    requires left { IsLeft left }
-    requires first { IsWord Subtag (piece_of left) }
-    ensures { IsBodyAs IsOther IsNoOther left.entry.len (pieces_of left.entry) result }
-{
-    if left.n == left.len {
-        return Body::End;
-    }
-    past_between(after_piece(left))
-}
-
-// What the pieces of two to eight bytes are, up to the next block.
-#[inline(always)]
-fn past_between(left: Left<'_>) -> Body<'_>
-    requires { IsLeft left }
-    ensures { IsBodyAs AreBetween HaveOdd left.entry.len (pieces_of left.entry) result }
-{
-    let mut at = left;
-    'pieces: while at.n >= 2 && at.n <= 8 {
-        if at.n == at.len {
-            return Body::End;
-        }
-        at = after_piece(at);
-    }
-    if at.n != 1 {
-        return Body::Bad;
-    }
-    Body::Next(at)
 }
