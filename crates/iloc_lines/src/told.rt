@@ -173,12 +173,7 @@ pub fn tell_varied(window: &[u8], len: usize, at: usize) -> Told<'_>
 /// What is told of the first `len` bytes, but as a data locale, if a plain identifier of `at` bytes and variants are all
 /// of them. Variants out of order are brought into order in the room.
 #[inline(always)]
-pub fn tell_variants<'a>(
-    window: &'a [u8],
-    len: usize,
-    at: usize,
-    room: &'a mut [u8],
-) -> Told<'a>
+pub fn tell_variants<'a>(window: &'a [u8], len: usize, at: usize, room: &'a mut [u8]) -> Told<'a>
     requires { len + 16 ≤ length window.now }
     ensures { (mode : Mode) → mode ≢ Mode.Data → IsTold mode (take len window.now) result }
 {
