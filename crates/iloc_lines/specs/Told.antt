@@ -31,6 +31,7 @@ IsLead mode t (lead.Refused e) = IsRefused mode t e
 IsLead mode t (lead.Variant n) = ⊤
 IsLead mode t (lead.Variants n) = mode ≢ Data
 IsLead mode t (lead.Blocks n) = mode ≡ Locale
+IsLead mode t (lead.AfterVariants n) = mode ≡ Locale
 IsLead mode t lead.Nothing = ⊤
 
 -- in the mode, the normal text is that of a plain identifier, and what follows it in lower case

@@ -33,7 +33,9 @@ ghost use Rattle.memchr.specs.Find.{IsFirstByte, Nowhere, Passes, is_byte};
 
 use crate::replies::write_refusal;
 use crate::reply_block::ReplyBlock;
-use crate::told::{Lead, ROOM, Told, read_lead, tell_blocks, tell_variants, tell_varied};
+use crate::told::{
+    Lead, ROOM, Told, read_lead, tell_after_variants, tell_blocks, tell_variants, tell_varied,
+};
 use crate::{Answers, RunError};
 use iloc_fronts::may_begin;
 use iloc_plain::read_plain;
@@ -139,6 +141,7 @@ fn reply_to<A: Answers>(
         Lead::Variant(at) => reply_to_varied(answers, window, len, at, replies),
         Lead::Variants(at) => reply_to_variants(answers, window, len, at, room, replies),
         Lead::Blocks(at) => reply_to_blocks(answers, window, len, at, room, replies),
+        Lead::AfterVariants(at) => { reply_after_variants(answers, window, len, at, room, replies) }
         Lead::Nothing => answers.reply(&window[..len], replies),
     }
 }
@@ -201,6 +204,28 @@ fn reply_to_blocks<A: Answers>(
         ≡ held replies.old ++ reply A.mode (take len window.now)) }
 {
     match tell_blocks(window, len, at, room) {
+        Told::Ordered(line) => replies.push_ordered(&line),
+        Told::Refused(error) => write_refusal(error, replies),
+        Told::Nothing => answers.reply(&window[..len], replies),
+    }
+}
+
+// The same of one with two variants or more before the blocks.
+#[inline(never)]
+fn reply_after_variants<A: Answers>(
+    answers: &mut A,
+    window: &[u8],
+    len: usize,
+    at: usize,
+    room: &mut [u8],
+    replies: &mut ReplyBlock,
+) -> Result<(), AllocError>
+    requires mode { A.mode ≡ Mode.Locale }
+    requires room { len + 16 ≤ length window.now }
+    ensures { OnOk result (held replies.new
+        ≡ held replies.old ++ reply A.mode (take len window.now)) }
+{
+    match tell_after_variants(window, len, at, room) {
         Told::Ordered(line) => replies.push_ordered(&line),
         Told::Refused(error) => write_refusal(error, replies),
         Told::Nothing => answers.reply(&window[..len], replies),

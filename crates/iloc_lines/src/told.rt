@@ -28,6 +28,8 @@ pub enum Lead {
     /// Nothing, but it may be a plain identifier of so many bytes, and what a locale prints after it:
     /// `tell_blocks` tells more. It is said of locales alone.
     Blocks(usize),
+    /// The same with two variants or more before the blocks: `tell_after_variants` tells more.
+    AfterVariants(usize),
     /// Nothing.
     Nothing,
 }
@@ -55,6 +57,7 @@ pub fn tell<'a>(mode: Mode, window: &'a [u8], len: usize, room: &'a mut [u8]) ->
         Lead::Variant(at) => tell_varied(window, len, at),
         Lead::Variants(at) => tell_variants(window, len, at, room),
         Lead::Blocks(at) => tell_blocks(window, len, at, room),
+        Lead::AfterVariants(at) => tell_after_variants(window, len, at, room),
         Lead::Nothing => Told::Nothing,
     }
 }
@@ -101,12 +104,16 @@ fn lead_of_block(mode: Mode, text: &[u8], block: Block<'_>) -> Lead
     }
 }
 
-// The same of a locale. So many bytes come before the hyphen after its region.
+// The same of a locale. One variant takes at most nine bytes with its hyphen.
 #[inline(always)]
 fn lead_of_locale(len: usize, block: Block<'_>) -> Lead
     ensures { (t : Text) → IsLead Mode.Locale t result }
 {
-    Lead::Blocks(len.wrapping_sub(block.tail.wrapping_add(1)))
+    let at = len.wrapping_sub(block.tail.wrapping_add(1));
+    if block.tail.wrapping_sub(block.len) > 9 {
+        return Lead::AfterVariants(at);
+    }
+    Lead::Blocks(at)
 }
 
 // The same of a data locale.
@@ -221,6 +228,45 @@ fn tell_rewritten<'a>(window: &'a [u8], len: usize, at: usize, room: &'a mut [u8
     ensures { IsTold Mode.Locale (take len window.now) result }
 {
     let Some(count) = rewrite(window, len, room) else {
+        return tell_bad_block(window, len, at);
+    };
+    match read_ordered(room, count, at) {
+        Reading::Ordered(line) => Told::Ordered(line),
+        _ => tell_bad_block(window, len, at),
+    }
+}
+
+/// What is told of the first `len` bytes as a locale, if a plain identifier of `at` bytes comes first, and two variants
+/// or more. A text out of order is brought into order in the room.
+#[inline(always)]
+pub fn tell_after_variants<'a>(
+    window: &'a [u8],
+    len: usize,
+    at: usize,
+    room: &'a mut [u8],
+) -> Told<'a>
+    requires { len + 16 ≤ length window.now }
+    ensures { IsTold Mode.Locale (take len window.now) result }
+{
+    match read_ordered(window, len, at) {
+        Reading::Ordered(line) => Told::Ordered(line),
+        Reading::BadBlock(bad) => Told::Refused(error_of(bad)),
+        Reading::Unordered => tell_resorted(window, len, at, room),
+        Reading::Other => Told::Nothing,
+    }
+}
+
+// The same of one whose variants and blocks may have to be brought into order.
+#[inline(never)]
+fn tell_resorted<'a>(window: &'a [u8], len: usize, at: usize, room: &'a mut [u8]) -> Told<'a>
+    requires { len + 16 ≤ length window.now }
+    ensures { IsTold Mode.Locale (take len window.now) result }
+{
+    let mut sorted = [0u8; ROOM];
+    let Some(part) = sort_variants(window, len, at, &mut sorted) else {
+        return tell_bad_block(window, len, at);
+    };
+    let Some(count) = rewrite(&sorted, part, room) else {
         return tell_bad_block(window, len, at);
     };
     match read_ordered(room, count, at) {
