@@ -4,4 +4,5 @@ pub mod StoringLemmas
 pub mod StoredLemmas
 pub mod WordLemmas
 pub mod VariantLemmas
+pub mod RepeatLemmas
 pub mod LineLemmas

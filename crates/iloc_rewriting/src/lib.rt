@@ -6,8 +6,11 @@
 //! `None` says nothing: the caller parses the text as it would without this crate. So each caller keeps its own contract,
 //! and a shape that is not rewritten here costs time and nothing else.
 //!
-//! A line is rewritten in one walk (`rewriting`, `attributes`, `keywords`), and its pieces are stored as sixteen bytes at
-//! once (`storing`). docs/ARCHITECTURE.md says how to add a shape.
+//! `sort_variants` does the same with variants, and the old line means what the new one means too (`IsSortedAs`).
+//! `repeats_variant` tells lines in which a variant comes twice, which are none (`HasRepeat`).
+//!
+//! A line is rewritten in one walk (`rewriting`, `variants`, `words`, `keywords`), and its pieces are stored as sixteen bytes
+//! at once (`storing`). docs/ARCHITECTURE.md says how to add a shape.
 //!
 //! It stands on the grammar (`iloc_spec_grammar`), on what `iloc_blocks` tells, and on the walk from piece to piece and
 //! the tests of words of `iloc_fronts`.
@@ -15,10 +18,12 @@
 
 mod attributes;
 mod keywords;
+pub mod repeats;
 pub mod rewriting;
 mod storing;
 pub mod variants;
 mod words;
 
+pub use repeats::repeats_variant;
 pub use rewriting::rewrite;
 pub use variants::sort_variants;
