@@ -2,7 +2,8 @@
 //!
 //! Of a line that begins with a plain identifier `read_varied` and `read_ordered` tell whether what follows
 //! has the order of the normal text: one variant, or that and blocks of which the singletons ascend, each in its own
-//! order, and one of `x` (`IsVaried`, `IsOrdered`). The normal text is then the line itself but for the case of
+//! order, and one of `x` (`IsVaried`, `IsOrdered`). `read_variants` tells the same of an identifier with several variants
+//! (`IsOrderedIdentifier`). The normal text is then the line itself but for the case of
 //! letters. If a bad block comes first, or after blocks in order, `read_ordered` tells that: the text has the fault of
 //! the grammar.
 //!

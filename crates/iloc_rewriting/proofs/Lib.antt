@@ -4,6 +4,7 @@ pub mod StoringLemmas
 pub mod StoredLemmas
 pub mod WordLemmas
 pub mod VariantLemmas
+pub mod RepeatLemmas
 pub mod LineLemmas
 pub mod FieldLemmas
 pub mod ReplacingLemmas

@@ -33,20 +33,23 @@ use Rattle.iloc_rewriting.proofs.WordLemmas.{reordered_after, turned}
 -- ---- variants after an identifier without any
 
 module _ (w : Identifier) (h : HasWords languages w) (none : w.variants ≡ []) where
-  abbrev with : List (List ℕ) → Identifier
+  abbrev pub with : List (List ℕ) → Identifier
   with vs = with_variants w.language w.script w.region vs
 
   -- these pieces are the variants, and others after them
   abbrev pub with_pieces : List (List ℕ) → List (List ℕ) → List (List ℕ)
   with_pieces vs rest = identifier_pieces w ++ (vs ++ rest)
 
+  -- those of the identifier with them
+  pub pieces_with : (vs rest : List (List ℕ)) → with_pieces vs rest ≡ identifier_pieces (with vs) ++ rest
+  pieces_with vs rest = sym (append_assoc (identifier_pieces w) vs rest) ∙ ap (λ l. l ++ rest) (sym (more_variants w.language w.script w.region w.variants vs none))
+
   spelled : (vs rest : List (List ℕ)) → with_pieces vs rest ≡ identifier_pieces (with (vs ++ rest))
   spelled vs rest = sym (more_variants w.language w.script w.region w.variants (vs ++ rest) none)
 
   read_first : (k : List ℕ) (ks rest : List (List ℕ)) → IsWord Variant k → identifier_of (with_pieces (k ∷ ks) rest) ≡ with (k ∷ (ks ++ rest))
   read_first k ks rest is =
-      ap identifier_of (sym (append_assoc (identifier_pieces w) (k ∷ ks) rest) ∙ ap (λ l. l ++ rest) (sym (more_variants w.language w.script w.region w.variants (k ∷ ks) none)))
-      ∙ read_longer w.language w.script w.region k ks rest h.script h.region is
+      ap identifier_of (pieces_with (k ∷ ks) rest) ∙ read_longer w.language w.script w.region k ks rest h.script h.region is
 
   -- in another order they mean the same
   pub same_identifier : (vs ks rest : List (List ℕ)) → AllByRecursion (IsWord Variant) ks → Reordered ks vs
@@ -61,7 +64,7 @@ module _ (w : Identifier) (h : HasWords languages w) (none : w.variants ≡ []) 
   long_variants : (vs : List (List ℕ)) → AllByRecursion (IsWord Variant) vs → AllByRecursion IsLong vs
   long_variants = all_weaker (IsWord Variant) IsLong long_variant
 
-  head_is : (vs rest : List (List ℕ)) → AllByRecursion (IsWord Variant) vs → head (with_pieces vs rest) ≡ with_pieces vs (front rest)
+  pub head_is : (vs rest : List (List ℕ)) → AllByRecursion (IsWord Variant) vs → head (with_pieces vs rest) ≡ with_pieces vs (front rest)
   head_is vs rest each =
       ap (λ l. w.language ∷ l) (front_past (after_language w) (vs ++ rest) (long_after_language w h) ∙ ap (λ l. after_language w ++ l) (front_past vs rest (long_variants vs each)))
 
@@ -104,7 +107,7 @@ module _ (w : List ℕ) (len at : ℕ) (o : Ordered) (inside : len + 16 ≤ leng
   abbrev written : Identifier
   written = b.plain.means.written
 
-  old_pieces : pieces (take len w) ≡ identifier_pieces written ++ (k.words ++ rest)
+  pub old_pieces : pieces (take len w) ≡ identifier_pieces written ++ (k.words ++ rest)
   old_pieces =
       ap pieces (cut_there w len at inside b.less b.hyphen) ∙ pieces_both (take at w) (after w len at inside b.less b.hyphen)
       ∙ (λ j. b.plain.means.spelled j ++ (ap pieces (sym (rest_is w len at inside b.less b.hyphen)) ∙ sym tail ∙ k.cut) j)

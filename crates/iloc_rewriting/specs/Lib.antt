@@ -2,3 +2,4 @@ pub mod Rewriting
 pub mod Words
 pub mod Fields
 pub mod Sorting
+pub mod Repeats

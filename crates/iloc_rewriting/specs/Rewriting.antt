@@ -180,7 +180,6 @@ pub record AreAttributesStored (text : Text) (ps : List Text) (len : ℕ) (room 
   pub stored : AreStored room (text ++ dashes kept) s.end
   pub left : IsRest len s.next
 
-
 -- the new text is stored, and the old one means what it means
 abbrev pub IsRewrittenAs : Text → Text → ℕ → Type 0
 IsRewrittenAs t room n = (n + 16 ≤ length room) × IsRewritten t (take n room)

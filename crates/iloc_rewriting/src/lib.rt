@@ -6,8 +6,12 @@
 //! `None` says nothing: the caller parses the text as it would without this crate. So each caller keeps its own contract,
 //! and a shape that is not rewritten here costs time and nothing else.
 //!
+//! `sort_variants` does the same with variants, and the old line means what the new one means too (`IsSortedAs`).
+//! `repeats_variant` tells lines in which a variant comes twice, which are none (`HasRepeat`).
+//!
 //! A line is rewritten in one walk (`rewriting`, `sorting`): each block is stored in its place (`blocks`, `attributes`,
-//! `keywords`, `others`), its pieces as sixteen bytes at once (`storing`). docs/ARCHITECTURE.md says how to add a shape.
+//! `fields`, `others`), its pieces as sixteen bytes at once (`storing`). Words and fields are stored in order alike,
+//! whatever their kind (`words`, `keywords`). docs/ARCHITECTURE.md says how to add a shape.
 //!
 //! It stands on the grammar (`iloc_spec_grammar`), on what `iloc_blocks` tells, and on the walk from piece to piece and
 //! the tests of words of `iloc_fronts`.
@@ -18,11 +22,13 @@ mod blocks;
 mod fields;
 mod keywords;
 mod others;
+pub mod repeats;
 pub mod rewriting;
 mod sorting;
 mod storing;
 pub mod variants;
 mod words;
 
+pub use repeats::repeats_variant;
 pub use rewriting::rewrite;
 pub use variants::sort_variants;

@@ -6,8 +6,8 @@
 //! singleton of the first block, and `line-ordered` of a line in the order of its normal text the plain identifier and
 //! the rest, what is wrong with its first bad block, or that the line is not in order. `line-bad` says what is wrong with
 //! the first bad block, and `line-rewritten` the line that is brought into order. `line-variants` says of an identifier
-//! with variants what `line-ordered` says, or that they are out of order, and `line-sorted` the line whose variants are
-//! brought into order. A line of which nothing is said is `not told`.
+//! with variants what `line-ordered` says, or that they are out of order, `line-sorted` the line whose variants are
+//! brought into order, and `line-repeats` whether a variant comes twice. A line of which nothing is said is `not told`.
 ghost use Rattle.std.specs.Prelude.{◌+◌, ◌≤◌, length};
 ghost use Rattle.iloc_plain.specs.Plain.{AreWords};
 ghost use Rattle.iloc_blocks.specs.Ordered.{IsStored};
@@ -17,7 +17,7 @@ use iloc_blocks::{
 };
 use iloc_fronts::{Block, Front, Keyword, read_front, read_keyword};
 use iloc_plain::{Plain, read_plain, read_plain_text};
-use iloc_rewriting::{rewrite, sort_variants};
+use iloc_rewriting::{repeats_variant, rewrite, sort_variants};
 use test_page::argument::number_of;
 use test_page::{bytes, number, say};
 
@@ -236,6 +236,22 @@ fn sorted(window: &[u8], len: usize, out: &mut String) {
     }
 }
 
+// Says whether a variant comes twice, if sixteen bytes follow the line at least.
+fn repeats(window: &[u8], len: usize, out: &mut String) {
+    if window.len() < 16 || len > window.len() - 16 {
+        return say(out, "not told");
+    }
+    let at = identifier_len(read_front(window, len), len);
+    say(
+        out,
+        if repeats_variant(window, len, at) {
+            "twice"
+        } else {
+            "not told"
+        },
+    )
+}
+
 /// The answer to a call.
 pub fn answer(what: &str, text: &[u8], len: &[u8], out: &mut String) {
     match what {
@@ -248,6 +264,7 @@ pub fn answer(what: &str, text: &[u8], len: &[u8], out: &mut String) {
         "rewritten" => rewritten(text, number_of(len), out),
         "variants" => variants(text, number_of(len), out),
         "sorted" => sorted(text, number_of(len), out),
+        "repeats" => repeats(text, number_of(len), out),
         _ => say(out, "no call"),
     }
 }
