@@ -1,5 +1,5 @@
 -- The answers to texts that are told at once.
-use Rattle.std.proofs.Common.{◌≡◌, inl, inr, ℕ, List, [], ◌∷◌, ◌++◌, refl, ap}
+use Rattle.std.proofs.Common.{◌≡◌, ◌≢◌, inl, inr, ℕ, List, [], ◌∷◌, ◌++◌, refl, ap}
 use Rattle.iloc_spec_grammar.specs.Syntax.{languages}
 use Rattle.iloc_spec_grammar.specs.Meaning as faults
 use Rattle.iloc_spec_grammar.proofs.RawLaws.{languages_table}
@@ -8,11 +8,12 @@ use Rattle.iloc_subtags.specs.declared.parse_error.ParseError.TheVariants.{Inval
 use Rattle.iloc_blocks.specs.Bad.{HasBadBlock}
 use Rattle.iloc_blocks.specs.declared.bad_block.BadBlock.{BadBlock}
 use Rattle.iloc_blocks.specs.declared.bad_block.BadBlock.TheVariants as bad
+use Rattle.iloc_rewriting.specs.Repeats.{HasRepeat}
 use Rattle.iloc_lines.specs.Answers.{IsNormalText}
 use Rattle.iloc_lines.specs.Output.{line_answer, reply, refusal_text}
 use Rattle.iloc_lines.specs.Told.{IsRefused, refusal_of}
 use Rattle.iloc_lines.specs.declared.Mode.{Mode}
-use Rattle.iloc_lines.specs.declared.Mode.TheVariants.{Locale}
+use Rattle.iloc_lines.specs.declared.Mode.TheVariants.{Langid, Locale, Data}
 use Rattle.iloc_lines.proofs.OutputLaws.{only_answer}
 
 pub normal_reply : (mode : Mode) (t normal : List ℕ) → IsNormalText languages mode t normal → normal ++ 10 ∷ [] ≡ reply mode t
@@ -32,3 +33,9 @@ refused_reply mode t e h = ap (λ l. l ++ 10 ∷ []) (refused_answer mode t e h)
 pub bad_refused : (t : List ℕ) (b : BadBlock) → HasBadBlock t b → IsRefused Locale t (refusal_of b)
 bad_refused t bad.Misfit h = h
 bad_refused t bad.Duplicated h = h
+
+-- a text in which a variant comes twice is refused so
+pub repeat_refused : (t : List ℕ) → HasRepeat t → (mode : Mode) → mode ≢ Data → IsRefused mode t InvalidSubtag
+repeat_refused t h Langid n = h.identifier
+repeat_refused t h Locale n = h.locale
+repeat_refused t h Data n = absurd (n refl)

@@ -9,6 +9,7 @@ use crate::Mode;
 use iloc_blocks::variants::{Variants, read_variants};
 use iloc_blocks::{BadBlock, Ordered, Reading, find_bad_block, read_ordered, read_varied};
 use iloc_fronts::{Block, Front, Keyword, read_front, read_keyword};
+use iloc_rewriting::repeats::repeats_variant;
 use iloc_rewriting::{rewrite, sort_variants};
 use iloc_subtags::ParseError;
 
@@ -187,7 +188,7 @@ pub fn tell_variants<'a>(window: &'a [u8], len: usize, at: usize, room: &'a mut 
     match read_variants(window, len, at) {
         Variants::Ordered(line) => Told::Ordered(line),
         Variants::Unordered => tell_sorted(window, len, at, room),
-        Variants::Other => Told::Nothing,
+        Variants::Other => tell_repeated(window, len, at),
     }
 }
 
@@ -198,12 +199,24 @@ fn tell_sorted<'a>(window: &[u8], len: usize, at: usize, room: &'a mut [u8]) -> 
     ensures { (mode : Mode) → mode ≢ Mode.Data → IsTold mode (take len window.now) result }
 {
     let Some(count) = sort_variants(window, len, at, room) else {
-        return Told::Nothing;
+        return tell_repeated(window, len, at);
     };
     match read_variants(room, count, at) {
         Variants::Ordered(line) => Told::Ordered(line),
         _ => Told::Nothing,
     }
+}
+
+// The same of one in which a variant may come twice.
+#[inline(never)]
+fn tell_repeated<'a>(window: &[u8], len: usize, at: usize) -> Told<'a>
+    requires { len + 16 ≤ length window.now }
+    ensures { (mode : Mode) → mode ≢ Mode.Data → IsTold mode (take len window.now) result }
+{
+    if repeats_variant(window, len, at) {
+        return Told::Refused(ParseError::InvalidSubtag);
+    }
+    Told::Nothing
 }
 
 /// What is told of the first `len` bytes as a locale, if a plain identifier of `at` bytes comes first. A text out of
@@ -252,7 +265,7 @@ pub fn tell_after_variants<'a>(
         Reading::Ordered(line) => Told::Ordered(line),
         Reading::BadBlock(bad) => Told::Refused(error_of(bad)),
         Reading::Unordered => tell_resorted(window, len, at, room),
-        Reading::Other => Told::Nothing,
+        Reading::Other => tell_repeated(window, len, at),
     }
 }
 
@@ -264,7 +277,7 @@ fn tell_resorted<'a>(window: &'a [u8], len: usize, at: usize, room: &'a mut [u8]
 {
     let mut sorted = [0u8; ROOM];
     let Some(part) = sort_variants(window, len, at, &mut sorted) else {
-        return tell_bad_block(window, len, at);
+        return tell_repeated(window, len, at);
     };
     let Some(count) = rewrite(&sorted, part, room) else {
         return tell_bad_block(window, len, at);

@@ -1,5 +1,6 @@
 use Rattle.std.proofs.Common.{take}
 use Rattle.iloc_rewriting.proofs.LineLemmas.{ordered_of_rewritten}
+use Rattle.iloc_lines.specs.declared.Mode.TheVariants.{Locale}
 use Rattle.iloc_lines.proofs.PlainAnswers.{ordered_in_order}
 use Rattle.iloc_lines.proofs.told.tell_resorted.Goals as goal
 
@@ -9,3 +10,6 @@ returns-in-Ordered c =
     ordered_in_order t c.in-Ordered.line
     (ordered_of_rewritten t (take c.in-Some-rewrite.count c.rewrite.new.room) c.in-Ordered.line
     (λ M m. c.in-Some.ensures.locale M (c.in-Some-rewrite.ensures.1 M m)) c.in-Ordered.ensures)
+
+pub returns-in_default : goal.returns-in_default
+returns-in_default c = c.tell_repeated.ensures Locale (λ e. cc)
