@@ -25,6 +25,7 @@ ghost use Rattle.std.specs.Io.KnownBytes.{Appends};
 ghost use Rattle.iloc_writeable.specs.Growth.{AddsBeginning};
 ghost use Rattle.iloc_lines.specs.Output.{output, reply};
 ghost use Rattle.iloc_lines.specs.ReplyBlock.{held};
+ghost use Rattle.iloc_lines.specs.Told.{IsTold};
 ghost use Rattle.iloc_lines.specs.Lines.{IsOneLine};
 ghost use Rattle.std.specs.Simd.Lanes.{mask_l};
 ghost use Rattle.iloc_spec_grammar.specs.Syntax.{Text};
@@ -146,7 +147,28 @@ fn reply_to<A: Answers>(
     }
 }
 
-// The same of a line that may be a plain identifier of so many bytes, and a variant.
+// Adds the reply to the line of which this is told.
+#[inline(always)]
+fn reply_told<A: Answers>(
+    answers: &mut A,
+    window: &[u8],
+    len: usize,
+    told: Told<'_>,
+    replies: &mut ReplyBlock,
+) -> Result<(), AllocError>
+    requires within { len ≤ length window.now }
+    requires told { IsTold A.mode (take len window.now) told }
+    ensures { OnOk result (held replies.new
+        ≡ held replies.old ++ reply A.mode (take len window.now)) }
+{
+    match told {
+        Told::Ordered(line) => replies.push_ordered(&line),
+        Told::Refused(error) => write_refusal(error, replies),
+        Told::Nothing => answers.reply(&window[..len], replies),
+    }
+}
+
+// Adds the reply to a line that may be a plain identifier of so many bytes, and a variant.
 #[inline(never)]
 fn reply_to_varied<A: Answers>(
     answers: &mut A,
@@ -159,11 +181,8 @@ fn reply_to_varied<A: Answers>(
     ensures { OnOk result (held replies.new
         ≡ held replies.old ++ reply A.mode (take len window.now)) }
 {
-    match tell_varied(window, len, at) {
-        Told::Ordered(line) => replies.push_ordered(&line),
-        Told::Refused(error) => write_refusal(error, replies),
-        Told::Nothing => answers.reply(&window[..len], replies),
-    }
+    let told = tell_varied(window, len, at);
+    reply_told(answers, window, len, told, replies)
 }
 
 // The same of an identifier or a locale that may be a plain identifier of so many bytes, and variants.
@@ -181,11 +200,8 @@ fn reply_to_variants<A: Answers>(
     ensures { OnOk result (held replies.new
         ≡ held replies.old ++ reply A.mode (take len window.now)) }
 {
-    match tell_variants(window, len, at, room) {
-        Told::Ordered(line) => replies.push_ordered(&line),
-        Told::Refused(error) => write_refusal(error, replies),
-        Told::Nothing => answers.reply(&window[..len], replies),
-    }
+    let told = tell_variants(window, len, at, room);
+    reply_told(answers, window, len, told, replies)
 }
 
 // The same of a locale that may be a plain identifier of so many bytes, and what follows it.
@@ -203,11 +219,8 @@ fn reply_to_blocks<A: Answers>(
     ensures { OnOk result (held replies.new
         ≡ held replies.old ++ reply A.mode (take len window.now)) }
 {
-    match tell_blocks(window, len, at, room) {
-        Told::Ordered(line) => replies.push_ordered(&line),
-        Told::Refused(error) => write_refusal(error, replies),
-        Told::Nothing => answers.reply(&window[..len], replies),
-    }
+    let told = tell_blocks(window, len, at, room);
+    reply_told(answers, window, len, told, replies)
 }
 
 // The same of one with two variants or more before the blocks.
@@ -225,11 +238,8 @@ fn reply_after_variants<A: Answers>(
     ensures { OnOk result (held replies.new
         ≡ held replies.old ++ reply A.mode (take len window.now)) }
 {
-    match tell_after_variants(window, len, at, room) {
-        Told::Ordered(line) => replies.push_ordered(&line),
-        Told::Refused(error) => write_refusal(error, replies),
-        Told::Nothing => answers.reply(&window[..len], replies),
-    }
+    let told = tell_after_variants(window, len, at, room);
+    reply_told(answers, window, len, told, replies)
 }
 
 // Adds the reply to the line that is pending, and forgets the line.

@@ -1,25 +1,8 @@
-use Rattle.std.proofs.Common.{ℕ, List, ◌≡◌, ◌++◌, OnOk, subst, sym, take}
-use Rattle.iloc_blocks.specs.Ordered.{text_of}
-use Rattle.iloc_lines.specs.ReplyBlock.{held}
-use Rattle.iloc_lines.specs.Told.{IsInOrder, IsRefused}
+use Rattle.std.proofs.Common.{subst, sym, take}
+use Rattle.iloc_lines.specs.Told.{IsTold}
 use Rattle.iloc_lines.specs.declared.Mode.{Mode}
-use Rattle.iloc_lines.proofs.PlainLemmas.{normal_reply, refused_reply}
 use Rattle.iloc_lines.proofs.lines.reply_after_variants.Goals as goal
 
-pub returns-in-Ordered : goal.returns-in-Ordered
-returns-in-Ordered g c =
-    let mode = g.A.Answers.mode in
-    let line = take c.args.len c.args.window.now in
-    let told : IsInOrder mode line c.in-Ordered.line =
-    subst (λ (m : Mode). IsInOrder m line c.in-Ordered.line) (sym c.requires.mode) c.in-Ordered.ensures in
-    subst (λ (t : List ℕ). OnOk c.push_ordered.result (held c.push_ordered.new.self ≡ held c.args.replies.now ++ t))
-    (normal_reply mode line (text_of c.in-Ordered.line) told.normal) c.push_ordered.ensures
-
-pub returns-in-Refused : goal.returns-in-Refused
-returns-in-Refused g c =
-    let mode = g.A.Answers.mode in
-    let line = take c.args.len c.args.window.now in
-    let told : IsRefused mode line c.in-Refused.error =
-    subst (λ (m : Mode). IsRefused m line c.in-Refused.error) (sym c.requires.mode) c.in-Refused.ensures in
-    subst (λ (t : List ℕ). OnOk c.write_refusal.result (held c.write_refusal.new.replies ≡ held c.args.replies.now ++ t))
-    (refused_reply mode line c.in-Refused.error told) c.write_refusal.ensures.text
+pub reply_told-requires-clause-told : goal.reply_told-requires-clause-told
+reply_told-requires-clause-told g c =
+    subst (λ (m : Mode). IsTold m (take c.args.len c.args.window.now) c.tell_after_variants-told.result) (sym c.requires.mode) c.tell_after_variants-told.ensures
