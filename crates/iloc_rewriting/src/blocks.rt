@@ -10,7 +10,7 @@ use crate::others::put_other;
 use crate::storing::put_piece;
 use iloc_fronts::left::{Left, after_piece};
 
-// Stores what follows this singleton. None is a letter or digit else.
+// Stores what follows this singleton; `None` if it is no letter or digit.
 #[inline(always)]
 pub(crate) fn put_block<'a>(
     singleton: u8,
