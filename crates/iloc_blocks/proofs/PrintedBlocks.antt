@@ -1,7 +1,8 @@
 -- From a block in order, and what is printed after it, to what is printed from it on.
-use Rattle.std.proofs.Common.{inl, inr, suc, ◌≡◌, ◌≢◌, ℕ, ◌+◌, ◌<◌, ◌≤◌, Bool, true, false, cond, List, [], ◌∷◌, ◌++◌, length, map, refl, sym, ap, ◌∙◌, subst, arith, append_assoc, nat_lt, nat_le, flat_map, Option, Some, None, IfSome, option_map, is_some, ◌||◌}
+use Rattle.std.proofs.Common.{inl, inr, suc, ◌≡◌, ◌≢◌, ℕ, ◌+◌, ◌<◌, ◌≤◌, Bool, true, false, cond, not, List, [], ◌∷◌, ◌++◌, length, map, refl, sym, ap, ◌∙◌, subst, arith, append_assoc, nat_lt, nat_le, flat_map, Option, Some, None, IfSome, option_map, is_some, ◌||◌, ◌&&◌}
 use Rattle.std.specs.Int.{is_in_range}
 use Rattle.std.specs.List.{AllByRecursion}
+use Rattle.std.specs.FinMap.{is_sorted}
 use Rattle.std.specs.FinMap.Entries.{below_all}
 use Rattle.std.specs.Ordering.{nat_cmp, is_lt}
 use Rattle.std.specs.declared.cmp.Ordering.TheVariants.{Less}
@@ -9,9 +10,9 @@ use Rattle.std.specs.Char.{is_ascii_alphanumeric, to_ascii_lowercase}
 use Rattle.std.proofs.lemmas.Bool.{and_parts, and_from, lt-ltb, cases_lt}
 use Rattle.std.proofs.lemmas.Bool.Decides.{nat_tests}
 use Rattle.std.proofs.lemmas.List.{map-append}
-use Rattle.iloc_spec_grammar.specs.Syntax.{pieces, Kind, Subtag, UnicodeKey, Attribute, PrivateSubtag, is_word, IsWord, IsExtension, lower, is_true, languages, is_other_singleton, Fields, fields_pieces, kept, Unicode, unicode, other, extension_pieces, Identifier, Transform, transform, HasWords, IsIdentifier, IsField, TransformKey, identifier_pieces, optional_pieces, transform_pieces, title, upper}
-use Rattle.iloc_spec_grammar.specs.Meaning.{Extensions, IsBlock, no_unicode, no_transform, normal_identifier, set_of}
-use Rattle.iloc_spec_grammar.specs.Values.{IsNormal, other_spelling, before_t, after_t, extensions_spelling, transform_spelling, private_spelling, IsExtensionsValue, IsUnicodeValue, unicode_spelling, IsTransformValue, IsIdentifierValue, lower_identifier, spelled_fields, spelled_value}
+use Rattle.iloc_spec_grammar.specs.Syntax.{pieces, Kind, Subtag, UnicodeKey, Attribute, PrivateSubtag, is_word, IsWord, IsExtension, lower, is_true, word_cmp, languages, is_other_singleton, Fields, fields_pieces, kept, Unicode, unicode, other, extension_pieces, Identifier, Transform, transform, HasWords, IsIdentifier, IsField, TransformKey, identifier_pieces, optional_pieces, transform_pieces, title, upper}
+use Rattle.iloc_spec_grammar.specs.Meaning.{Extensions, IsBlock, no_unicode, no_transform, normal_identifier, normal_values, set_of}
+use Rattle.iloc_spec_grammar.specs.Values.{IsNormal, other_spelling, before_t, after_t, extensions_spelling, transform_spelling, private_spelling, IsExtensionsValue, IsUnicodeValue, unicode_spelling, IsTransformValue, IsIdentifierValue, lower_identifier, spelled_fields}
 use Rattle.iloc_spec_grammar.proofs.PiecesLaws.{at_pieces}
 use Rattle.iloc_spec_grammar.proofs.PartTexts.{unicode_spelling_is, transform_spelling_is, other_spelling_is, private_spelling_is, private_spelling_none}
 use Rattle.iloc_spec_grammar.proofs.RawLaws.{languages_table}
@@ -21,7 +22,7 @@ use Rattle.iloc_spec_grammar.proofs.ValuesLaws.{all_weaker, filter_all}
 use Rattle.iloc_spec_grammar.proofs.WordsLaws.{length-attribute, lower-lower, lower-title, lower-upper, is_word-lower}
 use Rattle.iloc_spec_grammar.proofs.IdentifierTexts.{identifier_means_value}
 use Rattle.iloc_spec_grammar.proofs.Chains.{identifier_pieces-low}
-use Rattle.iloc_blocks.specs.Transform.{AreValues, IsTransformPart}
+use Rattle.iloc_blocks.specs.Transform.{IsFieldValue, IsTransformPart}
 use Rattle.iloc_blocks.proofs.TransformLemmas.{few_different}
 use Rattle.iloc_blocks.specs.Blocks.{ArePrinted, AreSubtags, ArePrivate, IsUnicodePart, IsValue, lower_fields}
 
@@ -362,12 +363,29 @@ same_lower i few = λ j. record {
     one (v ∷ []) l = ap (λ w. w ∷ []) (lower-lower v)
     one (v ∷ w ∷ vs) l = absurd (omega arith)
 
+-- what fields stand for
+abbrev value_fields : Fields → Fields
+value_fields fs = map (λ f. (lower f.0, normal_values f.1)) fs
+
+length_values : (fs : Fields) → length (value_fields fs) ≡ length fs
+length_values [] = refl
+length_values (f ∷ fs) = ap suc (length_values fs)
+
+-- they are sorted as the keys are
+below_values : (w : List ℕ) (fs : Fields) → below_all word_cmp w (value_fields fs) ≡ below_all word_cmp w (lower_fields fs)
+below_values w [] = refl
+below_values w (f ∷ fs) = ap (λ (b : Bool). is_lt (word_cmp w (lower f.0)) && b) (below_values w fs)
+
+sorted_values : (fs : Fields) → is_sorted word_cmp (value_fields fs) ≡ is_sorted word_cmp (lower_fields fs)
+sorted_values [] = refl
+sorted_values (f ∷ fs) = λ j. below_values (lower f.0) fs j && sorted_values fs j
+
 module _ (c : ℕ) (e : to_ascii_lowercase c ≡ 116) (ps : List (List ℕ)) (h : IsTransformPart ps) where
   abbrev written_t : Transform
   written_t = record { id = h.id; fields = h.fields }
 
   abbrev value_t : Transform
-  value_t = record { id = option_map normal_identifier h.id; fields = lower_fields h.fields }
+  value_t = record { id = option_map normal_identifier h.id; fields = value_fields h.fields }
 
   identifiers : (o : Option Identifier) → IfSome o (λ i. HasWords languages i × (length i.variants ≤ 1)) → IfSome o (IsIdentifier languages)
   identifiers None k = tt
@@ -378,7 +396,7 @@ module _ (c : ℕ) (e : to_ascii_lowercase c ≡ 116) (ps : List (List ℕ)) (h 
     e,
     record {
       id = identifiers h.id h.words;
-      fields = all_weaker (λ f. IsWord TransformKey f.0 × AreValues f.1) IsField (λ f k. (k.0, all_weaker IsValue (IsWord Attribute) (λ w v. v.0) f.1 k.1.each, k.1.some)) h.fields h.each;
+      fields = all_weaker (λ f. IsWord TransformKey f.0 × IsFieldValue f.1) IsField (λ f k. (k.0, k.1.each, k.1.some)) h.fields h.each;
       nonempty = h.some;
     },
   )
@@ -387,32 +405,35 @@ module _ (c : ℕ) (e : to_ascii_lowercase c ≡ 116) (ps : List (List ℕ)) (h 
   id_values None k = tt
   id_values (Some i) k = identifier_means_value (identifier_pieces i) (normal_identifier i) (record { written = i; grammatical = k; spelled = refl; means = refl })
 
-  field_values : (ws : List (List ℕ)) → AllByRecursion IsValue ws → AllByRecursion (λ w. IsNormal Attribute w × (is_true w ≡ false)) (map lower ws)
-  field_values [] k = tt
-  field_values (w ∷ ws) k = ((lower_attribute w k.0.0, k.0.1), field_values ws k.1)
+  abbrev are_values : List (List ℕ) → Type 0
+  are_values ws = AllByRecursion (λ w. IsNormal Attribute w × (is_true w ≡ false)) ws
 
-  lower_each : (fs : Fields) → AllByRecursion (λ f. IsWord TransformKey f.0 × AreValues f.1) fs
-      → AllByRecursion (λ f. IsNormal TransformKey f.0 × AllByRecursion (λ w. IsNormal Attribute w × (is_true w ≡ false)) f.1) (lower_fields fs)
+  field_values : (ws : List (List ℕ)) → AllByRecursion (IsWord Attribute) ws → are_values (normal_values ws)
+  field_values [] k = tt
+  field_values (w ∷ ws) k = at (field_values ws k.1) (is_true (lower w)) refl
+    where
+      at : are_values (normal_values ws) → (b : Bool) → is_true (lower w) ≡ b → are_values (cond (not b) (lower w ∷ normal_values ws) (normal_values ws))
+      at h true e = h
+      at h false e = ((lower_attribute w k.0, e), h)
+
+  lower_each : (fs : Fields) → AllByRecursion (λ f. IsWord TransformKey f.0 × IsFieldValue f.1) fs
+      → AllByRecursion (λ f. IsNormal TransformKey f.0 × AllByRecursion (λ w. IsNormal Attribute w × (is_true w ≡ false)) f.1) (value_fields fs)
   lower_each [] k = tt
   lower_each (f ∷ fs) k = (((is_word-lower TransformKey f.0 ∙ k.0.0, lower-lower f.0), field_values f.1 k.0.1.each), lower_each fs k.1)
 
   is_value_t : IsTransformValue languages value_t
-  is_value_t = record { id = id_values h.id (identifiers h.id h.words); fields = lower_each h.fields h.each; keys_ascend = h.ascending }
+  is_value_t = record { id = id_values h.id (identifiers h.id h.words); fields = lower_each h.fields h.each; keys_ascend = sorted_values h.fields ∙ h.ascending }
 
-  spelled_same : (fs : Fields) → AllByRecursion (λ f. IsWord TransformKey f.0 × AreValues f.1) fs → spelled_fields (lower_fields fs) ≡ lower_fields fs
+  spelled_same : (fs : Fields) → AllByRecursion (λ f. IsWord TransformKey f.0 × IsFieldValue f.1) fs → spelled_fields (value_fields fs) ≡ lower_fields fs
   spelled_same [] k = refl
-  spelled_same (f ∷ fs) k = λ j. (lower f.0, some f.1 k.0.1.some j) ∷ spelled_same fs k.1 j
-    where
-      some : (vs : List (List ℕ)) → 0 < length vs → spelled_value (map lower vs) ≡ map lower vs
-      some [] l = absurd (omega arith)
-      some (v ∷ vs) l = refl
+  spelled_same (f ∷ fs) k = λ j. (lower f.0, k.0.1.printed j) ∷ spelled_same fs k.1 j
 
   lower_id : (o : Option Identifier) → IfSome o (λ i. HasWords languages i × (length i.variants ≤ 1)) → optional_pieces (option_map lower_identifier (option_map normal_identifier o)) ≡ map lower (optional_pieces o)
   lower_id None k = refl
   lower_id (Some i) k = ap identifier_pieces (same_lower i k.1) ∙ identifier_pieces-low i
 
-  some_part : (o : Option Identifier) → (o ≡ None → 0 < length h.fields) → (is_some (option_map normal_identifier o) || nat_lt 0 (length (lower_fields h.fields))) ≡ true
-  some_part None n = lt-ltb 0 _ (omega (arith, length_fields h.fields, n refl))
+  some_part : (o : Option Identifier) → (o ≡ None → 0 < length h.fields) → (is_some (option_map normal_identifier o) || nat_lt 0 (length (value_fields h.fields))) ≡ true
+  some_part None n = lt-ltb 0 _ (omega (arith, length_values h.fields, n refl))
   some_part (Some i) n = refl
 
   spelled_t : transform_spelling value_t ≡ (116 ∷ []) ∷ map lower ps

@@ -1,11 +1,12 @@
 -- Blocks of `t`: fields in order, and pieces that break the rule.
-use Rattle.std.proofs.Common.{inl, inr, take, ◌≡◌, ◌≢◌, ◌⊎◌, ℕ, ◌<◌, ◌≤◌, Bool, true, false, cond, List, [], ◌∷◌, ◌++◌, length, map, Option, Some, None, IfSome, refl, sym, ap, ◌∙◌, subst, arith, append_assoc, append-nil, true≢false, length-append}
+use Rattle.std.proofs.Common.{inl, inr, take, ◌≡◌, ◌≢◌, ◌⊎◌, ℕ, ◌<◌, ◌≤◌, Bool, true, false, cond, not, List, [], ◌∷◌, ◌++◌, length, map, Option, Some, None, IfSome, refl, sym, ap, ◌∙◌, subst, arith, append_assoc, append-nil, true≢false, length-append}
 use Rattle.std.specs.List.{AllByRecursion}
 use Rattle.std.specs.FinMap.Entries.{below_all}
 use Rattle.std.proofs.lemmas.Bool.{and_parts, and_from, cases_Bool}
 use Rattle.std.proofs.lemmas.Bool.Decides.{nat_tests}
-use Rattle.iloc_spec_grammar.specs.Syntax.{front, first_piece, Kind, Language, Script, Region, Variant, Attribute, TransformKey, is_word, IsWord, HasWords, IsIdentifier, IsField, IsTransform, Identifier, Fields, Transform, fields_pieces, identifier_pieces, optional_pieces, transform_pieces, AllDifferent, lower, word_cmp, languages}
-use Rattle.iloc_spec_grammar.specs.Meaning.{RepeatsVariant}
+use Rattle.iloc_spec_grammar.specs.Syntax.{front, first_piece, Kind, Language, Script, Region, Variant, Attribute, TransformKey, is_word, IsWord, HasWords, IsIdentifier, IsField, IsTransform, Identifier, Fields, Transform, fields_pieces, identifier_pieces, optional_pieces, transform_pieces, AllDifferent, lower, is_true, word_cmp, languages}
+use Rattle.iloc_spec_grammar.specs.Meaning.{RepeatsVariant, normal_values}
+use Rattle.iloc_spec_grammar.specs.Values.{spelled_value}
 use Rattle.iloc_spec_grammar.specs.Reading.{past, passing, skip_first, rest_of, starts_block, from_block, after_region, front_of, after_front, identifier_of, transform_of, optional_of, before_key, fields_from, IdentifierFront}
 use Rattle.iloc_spec_grammar.proofs.PiecesLaws.{at_pieces}
 use Rattle.iloc_spec_grammar.proofs.Readings.{IsLong, transform_of-pieces, fields_past, fields_all, identifier_no_key, attribute_no_key, long_after_language}
@@ -17,7 +18,7 @@ use Rattle.iloc_spec_grammar.proofs.WordsLaws.{length-language, length-transform
 use Rattle.iloc_fronts.specs.Left.{pieces_of, piece_of, IsLeft}
 use Rattle.iloc_blocks.specs.Blocks.{IsBodyAs, IsValue, lower_fields}
 use Rattle.iloc_fronts.specs.Words.{two_number}
-use Rattle.iloc_blocks.specs.Transform.{AreValues, AreValuesAs, AreFields, AreRuled, NoFields, IsTransformPart, IsNoTransform, IsHead, IsHeadAs}
+use Rattle.iloc_blocks.specs.Transform.{AreValues, AreValuesAs, IsFieldValue, AreFields, AreRuled, NoFields, IsTransformPart, IsNoTransform, IsHead, IsHeadAs}
 use Rattle.iloc_fronts.specs.declared.left.Left.{Left}
 use Rattle.iloc_blocks.specs.declared.body.Body.{Body}
 use Rattle.iloc_blocks.specs.declared.body.Body.TheVariants as body
@@ -25,7 +26,7 @@ use Rattle.iloc_fronts.proofs.FrontLemmas.{IsShort, short_language, short_varian
 use Rattle.iloc_fronts.proofs.LeftLemmas.{first_word}
 use Rattle.iloc_blocks.proofs.BlockLemmas.{front_long, front_past}
 use Rattle.iloc_blocks.proofs.UnicodeLemmas.{word_below}
-use Rattle.iloc_fronts.proofs.WordBytes.{BeginsTwo}
+use Rattle.iloc_fronts.proofs.WordBytes.{BeginsTwo, true_word}
 
 -- ---- fields in order
 
@@ -35,12 +36,12 @@ field_key_begins [] h = absurd (cc)
 field_key_begins (a ∷ []) h = absurd (cc)
 field_key_begins (a ∷ b ∷ p) h = let parts = and_parts _ _ (and_parts _ _ h).1 in record { long = omega arith; first = letter_is a parts.0; second = digit_is b parts.1 }
 
-fields_below : (p : List ℕ) → IsWord TransformKey p → (fs : Fields) → AllByRecursion (λ f. IsWord TransformKey f.0 × AreValues f.1) fs → AllByRecursion (λ f. two_number p < two_number f.0) fs → below_all word_cmp (lower p) (lower_fields fs) ≡ true
+fields_below : (p : List ℕ) → IsWord TransformKey p → (fs : Fields) → AllByRecursion (λ f. IsWord TransformKey f.0 × IsFieldValue f.1) fs → AllByRecursion (λ f. two_number p < two_number f.0) fs → below_all word_cmp (lower p) (lower_fields fs) ≡ true
 fields_below p h [] each above = refl
 fields_below p h (f ∷ fs) each above = and_from _ _ (word_below p f.0 (field_key_begins p h) (field_key_begins f.0 each.0.0) above.0) (fields_below p h fs each.1 above.1)
 
 -- a key and its value alone
-pub field_last : (last : ℕ) (p : List ℕ) (vs : List (List ℕ)) → IsWord TransformKey p → last < two_number p → AreValues vs → AreFields last (p ∷ vs)
+pub field_last : (last : ℕ) (p : List ℕ) (vs : List (List ℕ)) → IsWord TransformKey p → last < two_number p → IsFieldValue vs → AreFields last (p ∷ vs)
 field_last last p vs h l v = record {
   fields = (p, vs) ∷ [];
   spelled = sym (append-nil (p ∷ vs));
@@ -51,7 +52,7 @@ field_last last p vs h l v = record {
 }
 
 -- and before others
-pub field_more : (last : ℕ) (p : List ℕ) (vs : List (List ℕ)) → IsWord TransformKey p → last < two_number p → AreValues vs → (qs : List (List ℕ)) → AreFields (two_number p) qs → AreFields last (p ∷ (vs ++ qs))
+pub field_more : (last : ℕ) (p : List ℕ) (vs : List (List ℕ)) → IsWord TransformKey p → last < two_number p → IsFieldValue vs → (qs : List (List ℕ)) → AreFields (two_number p) qs → AreFields last (p ∷ (vs ++ qs))
 field_more last p vs h l v qs f = record {
   fields = (p, vs) ∷ f.fields;
   spelled = ap (λ r. p ∷ (vs ++ r)) f.spelled;
@@ -69,7 +70,7 @@ value_last p h = record { each = (h, tt); some = omega arith }
 value_more : (p : List ℕ) (ps : List (List ℕ)) → IsValue p → AreValues ps → AreValues (p ∷ ps)
 value_more p ps h v = record { each = (h, v.each); some = omega arith }
 
-pub values_after : (m n : ℕ) (p : List ℕ) (ps whole : List (List ℕ)) → whole ≡ p ∷ ps → m ≤ n → IsValue p → (w : Body) → AreValuesAs m ps w → AreValuesAs n whole w
+pub values_after : (m n : ℕ) (p : List ℕ) (ps whole : List (List ℕ)) → whole ≡ p ∷ ps → m ≤ n → IsValue p → (w : Body) → AreValuesAs AreValues m ps w → AreValuesAs AreValues n whole w
 values_after m n p ps whole e le h body.End v = subst AreValues (sym e) (value_more p ps h v)
 values_after m n p ps whole e le h (body.Next l) v = (v.0, omega (arith, v.1), record { body = p ∷ v.2.body; cut = e ∙ ap (λ l. p ∷ l) v.2.cut; is = value_more p v.2.body h v.2.is }, v.3)
 values_after m n p ps whole e le h body.Bad v = v
@@ -78,6 +79,34 @@ values_after m n p ps whole e le h body.Other v = tt
 
 pub value_words : (vs : List (List ℕ)) → AllByRecursion IsValue vs → AllByRecursion (IsWord Attribute) vs
 value_words vs h = all_weaker IsValue (IsWord Attribute) (λ p v. v.0) vs h
+
+-- without `true` they are printed as they are
+no_true_kept : (vs : List (List ℕ)) → AllByRecursion IsValue vs → normal_values vs ≡ map lower vs
+no_true_kept [] h = refl
+no_true_kept (v ∷ vs) h = ap (λ (b : Bool). cond (not b) (lower v ∷ normal_values vs) (normal_values vs)) h.0.1 ∙ ap (λ l. lower v ∷ l) (no_true_kept vs h.1)
+
+pub values_in_order : (vs : List (List ℕ)) → AreValues vs → IsFieldValue vs
+values_in_order vs h = record { each = value_words vs h.each; some = h.some; printed = ap spelled_value (no_true_kept vs h.each) ∙ spelled vs h.some }
+  where
+    spelled : (vs : List (List ℕ)) → 0 < length vs → spelled_value (map lower vs) ≡ map lower vs
+    spelled [] l = absurd (omega arith)
+    spelled (v ∷ vs) l = refl
+
+-- and so is `true` alone
+pub true_in_order : (p : List ℕ) → IsWord Attribute p → is_true (lower p) ≡ true → IsFieldValue (p ∷ [])
+true_in_order p w t = record {
+  each = (w, tt);
+  some = omega arith;
+  printed = ap (λ (b : Bool). spelled_value (cond (not b) (lower p ∷ []) [])) t ∙ ap (λ w. w ∷ []) (true_word (lower p) t);
+}
+
+-- what is told of such pieces
+pub told_in_order : (len : ℕ) (ps : List (List ℕ)) (w : Body) → AreValuesAs AreValues len ps w → AreValuesAs IsFieldValue len ps w
+told_in_order len ps body.End h = values_in_order ps h
+told_in_order len ps (body.Next l) h = (h.0, h.1, record { body = h.2.body; cut = h.2.cut; is = values_in_order h.2.body h.2.is }, h.3)
+told_in_order len ps body.Bad h = h
+told_in_order len ps body.Unordered h = tt
+told_in_order len ps body.Other h = tt
 
 -- ---- fields that break the rule
 

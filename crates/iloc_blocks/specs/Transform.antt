@@ -1,9 +1,10 @@
 -- What is told of a block of `t`.
-use Rattle.std.specs.Prelude.{◌≡◌, ⊤, ℕ, ◌<◌, ◌≤◌, ◌⊎◌, ◌∷◌, ◌++◌, true, false, List, [], length, Option, Some, None, IfSome}
+use Rattle.std.specs.Prelude.{◌≡◌, ⊤, ℕ, ◌<◌, ◌≤◌, ◌⊎◌, ◌∷◌, ◌++◌, true, false, List, [], length, map, Option, Some, None, IfSome}
 use Rattle.std.specs.List.{AllByRecursion}
 use Rattle.std.specs.FinMap.{is_sorted}
-use Rattle.iloc_spec_grammar.specs.Syntax.{Text, Fields, Identifier, Transform, front, first_piece, Language, Variant, Attribute, TransformKey, is_word, IsWord, HasWords, IsField, IsTransform, fields_pieces, optional_pieces, transform_pieces, languages, word_cmp}
-use Rattle.iloc_spec_grammar.specs.Meaning.{RepeatsVariant}
+use Rattle.iloc_spec_grammar.specs.Syntax.{Text, Fields, Identifier, Transform, front, first_piece, Language, Variant, Attribute, TransformKey, is_word, IsWord, HasWords, IsField, IsTransform, fields_pieces, optional_pieces, transform_pieces, languages, lower, word_cmp}
+use Rattle.iloc_spec_grammar.specs.Meaning.{RepeatsVariant, normal_values}
+use Rattle.iloc_spec_grammar.specs.Values.{spelled_value}
 use Rattle.iloc_spec_grammar.specs.Reading.{before_key, fields_from, after_region}
 use Rattle.iloc_fronts.specs.Left.{pieces_of, piece_of, IsLeft}
 use Rattle.iloc_blocks.specs.Blocks.{IsValue, lower_fields, IsCutAs}
@@ -22,20 +23,26 @@ pub record AreValues (ps : List Text) : Type 0 where
   pub each : AllByRecursion IsValue ps
   pub some : 0 < length ps
 
--- they are such pieces, up to the end or to one that is none
-abbrev pub AreValuesAs : ℕ → List Text → Body → Type 0
-AreValuesAs len ps body.End = AreValues ps
-AreValuesAs len ps (body.Next l) = IsLeft l × (l.len ≤ len)
-    × IsCutAs AreValues ps (pieces_of l) × (is_word Attribute (piece_of l) ≡ false)
-AreValuesAs len ps body.Bad = ¬ ⊤
-AreValuesAs len ps body.Unordered = ⊤
-AreValuesAs len ps body.Other = ⊤
+-- they are words, one at least, whose normal text is their own but for the case: `true` stays if it is alone
+pub record IsFieldValue (ps : List Text) : Type 0 where
+  pub each : AllByRecursion (IsWord Attribute) ps
+  pub some : 0 < length ps
+  pub printed : spelled_value (normal_values ps) ≡ map lower ps
 
--- they are fields with ascending keys above a number, without `true`, one at least
+-- they are such pieces, up to the end or to one that is no word
+abbrev pub AreValuesAs : (List Text → Type 0) → ℕ → List Text → Body → Type 0
+AreValuesAs P len ps body.End = P ps
+AreValuesAs P len ps (body.Next l) = IsLeft l × (l.len ≤ len)
+    × IsCutAs P ps (pieces_of l) × (is_word Attribute (piece_of l) ≡ false)
+AreValuesAs P len ps body.Bad = ¬ ⊤
+AreValuesAs P len ps body.Unordered = ⊤
+AreValuesAs P len ps body.Other = ⊤
+
+-- they are fields with ascending keys above a number, whose values are as they are printed, one at least
 pub record AreFields (last : ℕ) (ps : List Text) : Type 0 where
   pub fields : Fields
   pub spelled : ps ≡ fields_pieces fields
-  pub each : AllByRecursion (λ f. IsWord TransformKey f.0 × AreValues f.1) fields
+  pub each : AllByRecursion (λ f. IsWord TransformKey f.0 × IsFieldValue f.1) fields
   pub ascending : is_sorted word_cmp (lower_fields fields) ≡ true
   pub above : AllByRecursion (λ f. last < two_number f.0) fields
   pub some : 0 < length fields
@@ -76,7 +83,7 @@ pub record IsTransformPart (ps : List Text) : Type 0 where
   pub fields : Fields
   pub spelled : ps ≡ optional_pieces id ++ fields_pieces fields
   pub words : IfSome id (λ i. HasWords languages i × (length i.variants ≤ 1))
-  pub each : AllByRecursion (λ f. IsWord TransformKey f.0 × AreValues f.1) fields
+  pub each : AllByRecursion (λ f. IsWord TransformKey f.0 × IsFieldValue f.1) fields
   pub ascending : is_sorted word_cmp (lower_fields fields) ≡ true
   pub some : id ≡ None → 0 < length fields
 

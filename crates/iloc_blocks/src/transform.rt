@@ -6,7 +6,9 @@ ghost use Rattle.iloc_fronts.specs.Left.{IsLeft, piece_of, pieces_of};
 ghost use Rattle.iloc_blocks.specs.Blocks.{IsBodyAs, left_of};
 ghost use Rattle.iloc_blocks.specs.Transform.{
   AreFields,
+  AreValues,
   AreValuesAs,
+  IsFieldValue,
   IsHeadAs,
   IsNoTransform,
   IsRest,
@@ -115,7 +117,7 @@ fn read_fields(left: Left<'_>) -> Body<'_>
         if !is_attribute(value.window, value.n) {
             return Body::Bad;
         }
-        match past_values(value) {
+        match past_value(value) {
             Body::Next(next) => {
                 if next.n == 1 {
                     return Body::Next(next);
@@ -130,12 +132,32 @@ fn read_fields(left: Left<'_>) -> Body<'_>
     Body::Bad
 }
 
-// What the pieces of a value are, of which the first is a word.
+// What the pieces of a value are, of which the first is a word. In order are words other than `true`, and `true` alone.
+#[inline(always)]
+fn past_value(left: Left<'_>) -> Body<'_>
+    requires left { IsLeft left }
+    requires first { IsWord Attribute (piece_of left) }
+    ensures { AreValuesAs IsFieldValue left.entry.len (pieces_of left.entry) result }
+{
+    if !is_true(left.window, left.n) {
+        return past_values(left);
+    }
+    if left.n == left.len {
+        return Body::End;
+    }
+    let next = after_piece(left);
+    if is_attribute(next.window, next.n) {
+        return Body::Other;
+    }
+    Body::Next(next)
+}
+
+// What they are if none is `true`.
 #[inline(always)]
 fn past_values(left: Left<'_>) -> Body<'_>
     requires left { IsLeft left }
     requires first { IsWord Attribute (piece_of left) }
-    ensures { AreValuesAs left.entry.len (pieces_of left.entry) result }
+    ensures { AreValuesAs AreValues left.entry.len (pieces_of left.entry) result }
 {
     let mut at = left;
     'values: loop {

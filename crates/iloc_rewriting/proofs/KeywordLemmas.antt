@@ -1,5 +1,5 @@
--- Keywords that are brought into order.
-use Rattle.std.proofs.Common.{inl, inr, codes, take, ◌≡◌, ◌≢◌, ℕ, ◌+◌, ◌*◌, ◌<◌, ◌≤◌, Bool, true, false, cond, List, [], ◌∷◌, ◌++◌, length, get_or, refl, sym, ap, ◌∙◌, arith, Option, Some, None, append_assoc}
+-- Keywords, and fields of `t`, that are brought into order.
+use Rattle.std.proofs.Common.{inl, inr, ◌≡◌, ◌≢◌, ℕ, ◌+◌, ◌*◌, ◌<◌, ◌≤◌, Bool, true, false, cond, List, [], ◌∷◌, ◌++◌, length, get_or, refl, sym, ap, ◌∙◌, arith, Option, Some, None, append_assoc}
 use Rattle.std.specs.List.{AllByRecursion}
 use Rattle.std.specs.FinMap.{find}
 use Rattle.std.specs.Option.{option_or}
@@ -8,20 +8,74 @@ use Rattle.std.specs.Char.{is_ascii_alphanumeric, to_ascii_lowercase}
 use Rattle.std.proofs.lemmas.Bool.{cases_Bool, false_from_ne_true}
 use Rattle.std.proofs.lemmas.Bool.Decides.{nat_tests}
 use Rattle.std.proofs.lemmas.List.{map-append}
-use Rattle.iloc_spec_grammar.specs.Syntax.{UnicodeKey, IsWord, IsKeyword, Fields, lower, word_cmp, is_true, is_same, fields_pieces}
+use Rattle.iloc_spec_grammar.specs.Syntax.{Attribute, is_word, IsWord, IsHyphenFree, Fields, lower, word_cmp, is_true, fields_pieces}
 use Rattle.iloc_spec_grammar.specs.Meaning.{normal_values, normal_fields}
 use Rattle.iloc_spec_grammar.specs.Reading.{fields_from, before_key, is_two}
-use Rattle.iloc_spec_grammar.proofs.MapLaws.{same_is, same_itself, map_of_same, word_cmp_total, same_words}
+use Rattle.iloc_spec_grammar.proofs.MapLaws.{same_is, map_of_same, word_cmp_total, same_words}
 use Rattle.iloc_spec_grammar.proofs.SetLaws.{find-append}
 use Rattle.iloc_spec_grammar.proofs.ValuesLaws.{all_weaker}
-use Rattle.iloc_spec_grammar.proofs.ReadBack.{all_append}
-use Rattle.iloc_spec_grammar.proofs.Readings.{KeysPass, keywords_pass, fields_read, fields_past, fields_all, two}
+use Rattle.iloc_spec_grammar.proofs.ReadBack.{all_append, fields_each, word_hyphen_free}
+use Rattle.iloc_spec_grammar.proofs.Readings.{IsLong, KeysPass, long_attribute, not_two, fields_read, fields_past, fields_all}
 use Rattle.iloc_fronts.specs.Words.{two_number}
-use Rattle.iloc_rewriting.specs.Rewriting.{Ascend, HaveSame, entries}
-use Rattle.iloc_fronts.proofs.WordBytes.{BeginsTwo, key_begins}
-use Rattle.iloc_spec_grammar.proofs.WordsLaws.{length-unicode_key}
+use Rattle.iloc_rewriting.specs.Rewriting.{Ascend, HaveSame, IsFieldOf, entries, key_kind, least}
+use Rattle.iloc_rewriting.specs.declared.keywords.KeyKind.{KeyKind}
+use Rattle.iloc_rewriting.specs.declared.keywords.KeyKind.TheVariants as kind
+use Rattle.iloc_fronts.proofs.WordBytes.{BeginsTwo, key_begins, true_word}
+use Rattle.iloc_fronts.proofs.FrontLemmas.{IsShort, short_key, short_field_key}
+use Rattle.iloc_blocks.proofs.TransformLemmas.{field_key_begins}
+use Rattle.iloc_spec_grammar.proofs.WordsLaws.{length-unicode_key, length-transform_key, is_word-lower}
+
+-- ---- the two kinds
+
+pub key_short : (k : KeyKind) → IsShort (key_kind k)
+key_short kind.Unicode = short_key
+key_short kind.Transform = short_field_key
+
+pub length-key : (k : KeyKind) (p : List ℕ) → IsWord (key_kind k) p → length p ≡ 2
+length-key kind.Unicode p h = length-unicode_key p h
+length-key kind.Transform p h = length-transform_key p h
+
+pub begins_two : (k : KeyKind) (p : List ℕ) → IsWord (key_kind k) p → BeginsTwo p
+begins_two kind.Unicode p h = key_begins p h
+begins_two kind.Transform p h = field_key_begins p h
+
+long_key : (k : KeyKind) (p : List ℕ) → IsWord (key_kind k) p → IsLong p
+long_key k p h = rw (length-key k p h)
+
+-- a field has a key, and pieces of a value
+abbrev IsKeyed : KeyKind → List ℕ × List (List ℕ) → Type 0
+IsKeyed k f = IsWord (key_kind k) f.0 × AllByRecursion (IsWord Attribute) f.1
+
+pub keyed : (k : KeyKind) (f : List ℕ × List (List ℕ)) → IsFieldOf k f → IsKeyed k f
+keyed kind.Unicode f h = h
+keyed kind.Transform f h = (h.0, h.1)
+
+pub all_keyed : (k : KeyKind) (fs : Fields) → AllByRecursion (IsFieldOf k) fs → AllByRecursion (IsKeyed k) fs
+all_keyed k = all_weaker (IsFieldOf k) (IsKeyed k) (keyed k)
+
+-- all pieces are long, and have no hyphen
+pub fields_long : (k : KeyKind) (fs : Fields) → AllByRecursion (IsFieldOf k) fs → AllByRecursion IsLong (fields_pieces fs)
+fields_long k fs h = fields_each IsLong (key_kind k) (λ p w. long_key k p w) long_attribute fs (all_keyed k fs h)
+
+pub fields_free : (k : KeyKind) (fs : Fields) → AllByRecursion (IsFieldOf k) fs → AllByRecursion IsHyphenFree (fields_pieces fs)
+fields_free k fs h = fields_each IsHyphenFree (key_kind k) (word_hyphen_free (key_kind k)) (word_hyphen_free Attribute) fs (all_keyed k fs h)
+
+pub field_from : (k : KeyKind) (key : List ℕ) (ws : List (List ℕ)) → IsWord (key_kind k) key → AllByRecursion (IsWord Attribute) ws → least k ≤ length ws → IsFieldOf k (key, ws)
+field_from kind.Unicode key ws h w l = (h, w)
+field_from kind.Transform key ws h w l = (h, w, omega (arith, l))
+
+two_bytes : (k : KeyKind) (p : List ℕ) → IsWord (key_kind k) p → is_two p ≡ true
+two_bytes k p h = rw (length-key k p h)
+
+keyed_pass : (k : KeyKind) (fs : Fields) → AllByRecursion (IsKeyed k) fs → KeysPass is_two fs
+keyed_pass k = all_weaker (IsKeyed k) (λ f. (is_two f.0 ≡ true) × AllByRecursion (λ p. is_two p ≡ false) f.1) (λ f h. (two_bytes k f.0 h.0, all_weaker (IsWord Attribute) (λ p. is_two p ≡ false) not_two f.1 h.1))
 
 -- ---- `true`
+
+-- it is a word
+pub true_is_word : (p : List ℕ) → is_true (lower p) ≡ true → IsWord Attribute p
+unfolding is_word
+true_is_word p h = sym (is_word-lower Attribute p) ∙ ap (is_word Attribute) (sym (true_word (lower p) h))
 
 -- ---- keys by their numbers
 
@@ -29,9 +83,9 @@ alphanumeric_is_small : (c : ℕ) → is_ascii_alphanumeric c ≡ true → to_as
 alphanumeric_is_small c h = grind (arith, nat_tests)
 
 -- keys with one number are one
-pub one_number : (p q : List ℕ) → IsWord UnicodeKey p → IsWord UnicodeKey q → two_number p ≡ two_number q → lower p ≡ lower q
+pub one_number : (k : KeyKind) (p q : List ℕ) → IsWord (key_kind k) p → IsWord (key_kind k) q → two_number p ≡ two_number q → lower p ≡ lower q
 unfolding lower
-one_number p q h k e = by p q (length-unicode_key p h) (length-unicode_key q k) (key_begins p h) (key_begins q k) e
+one_number k p q h l e = by p q (length-key k p h) (length-key k q l) (begins_two k p h) (begins_two k q l) e
   where
     by : (p q : List ℕ) → length p ≡ 2 → length q ≡ 2 → BeginsTwo p → BeginsTwo q → two_number p ≡ two_number q → lower p ≡ lower q
     by (a ∷ b ∷ []) (c ∷ d ∷ []) l m h k e =
@@ -201,16 +255,16 @@ pub record IsFieldsCut (fields before : Fields) (key : List ℕ) (rest : List (L
   pub all : fields ≡ before ++ ((key, value) ∷ after)
   pub pieces : fields_pieces ((key, value) ∷ after) ≡ key ∷ rest
 
-pub cut_fields : (fields before : Fields) (key : List ℕ) (rest : List (List ℕ)) → AllByRecursion IsKeyword fields → AllByRecursion IsKeyword before → IsWord UnicodeKey key
+pub cut_fields : (k : KeyKind) (fields before : Fields) (key : List ℕ) (rest : List (List ℕ)) → AllByRecursion (IsFieldOf k) fields → AllByRecursion (IsKeyed k) before → IsWord (key_kind k) key
     → fields_pieces fields ≡ fields_pieces before ++ (key ∷ rest) → IsFieldsCut fields before key rest
-cut_fields fields before key rest h k w e = record {
+cut_fields k fields before key rest h b w e = record {
   value = before_key is_two rest;
   after = fields_from is_two rest;
   all =
-      sym (fields_read is_two fields (keywords_pass fields h)) ∙ ap (fields_from is_two) e ∙ read_cut before key rest (keywords_pass before k) is
+      sym (fields_read is_two fields (keyed_pass k fields (all_keyed k fields h))) ∙ ap (fields_from is_two) e ∙ read_cut before key rest (keyed_pass k before b) is
       ∙ ap (λ (b : Bool). before ++ cond b ((key, before_key is_two rest) ∷ fields_from is_two rest) (fields_from is_two rest)) is;
   pieces = ap (λ l. key ∷ l) (fields_all is_two rest);
 }
   where
     is : is_two key ≡ true
-    is = two key w
+    is = two_bytes k key w

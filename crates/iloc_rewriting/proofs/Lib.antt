@@ -6,3 +6,6 @@ pub mod WordLemmas
 pub mod VariantLemmas
 pub mod RepeatLemmas
 pub mod LineLemmas
+pub mod FieldLemmas
+pub mod ReplacingLemmas
+pub mod SortingLemmas

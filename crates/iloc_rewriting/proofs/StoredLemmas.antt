@@ -1,37 +1,37 @@
--- What is stored of a block of `u`, from its parts to all of it.
-use Rattle.std.proofs.Common.{take, drop, ◌≡◌, ℕ, zero, suc, ◌+◌, ◌-◌, ◌<◌, ◌≤◌, ◌==◌, IsTrue, Bool, true, false, cond, not, List, [], ◌∷◌, ◌++◌, length, map, Option, Some, None, refl, sym, ap, ◌∙◌, subst, arith, append_assoc, append-nil, length-append, drop-drop}
+-- What is stored of attributes and of fields, from their parts to all of them.
+use Rattle.std.proofs.Common.{take, drop, ◌≡◌, ℕ, zero, suc, ◌+◌, ◌-◌, ◌<◌, ◌≤◌, ◌==◌, IsTrue, Bool, true, false, true≢false, cond, not, List, [], ◌∷◌, ◌++◌, length, map, Option, Some, None, refl, sym, ap, ◌∙◌, subst, arith, append_assoc, append-nil, length-append, drop-drop}
 use Rattle.std.specs.List.{AllByRecursion}
 use Rattle.std.specs.Char.{to_ascii_lowercase}
 use Rattle.std.specs.Ordering.{nat_cmp, ord_max, eq_by_cmp}
 use Rattle.std.proofs.lemmas.Bool.Decides.{nat_tests}
 use Rattle.std.proofs.lemmas.List.{length-take-le, length-drop, drop-take, take-append-le, take-take, append_cancel_left, map-append}
-use Rattle.iloc_spec_grammar.specs.Syntax.{pieces, join, dashes, Attribute, UnicodeKey, IsWord, IsKeyword, IsHyphenFree, lower, is_true, word_cmp, Fields, fields_pieces}
+use Rattle.iloc_spec_grammar.specs.Syntax.{pieces, join, dashes, Attribute, is_word, IsWord, IsHyphenFree, lower, is_true, word_cmp, first_piece, Fields, fields_pieces}
 use Rattle.iloc_spec_grammar.specs.Meaning.{normal_values, set_of}
 use Rattle.iloc_spec_grammar.specs.Reading.{rest_of}
 use Rattle.iloc_spec_grammar.proofs.PiecesLaws.{pieces-join}
 use Rattle.iloc_spec_grammar.proofs.PartTexts.{join-dashes, dashes-append}
-use Rattle.iloc_spec_grammar.proofs.ReadBack.{all_append, fields_each, word_hyphen_free}
+use Rattle.iloc_spec_grammar.proofs.ReadBack.{all_append, word_hyphen_free}
 use Rattle.iloc_spec_grammar.proofs.ValuesLaws.{all_weaker}
 use Rattle.iloc_spec_grammar.proofs.Orders.{all_reordered, map_reordered, set_of_reordered, itself}
 use Rattle.iloc_spec_grammar.proofs.MapLaws.{map_of_same, word_cmp_total, same_words}
 use Rattle.iloc_spec_grammar.proofs.SetLaws.{marked, keys, set_of-first}
 use Rattle.std.specs.FinMap.{find}
 use Rattle.iloc_spec_grammar.specs.Values.{Reordered}
-use Rattle.iloc_spec_grammar.proofs.WordsLaws.{length-unicode_key}
 use Rattle.iloc_blocks.specs.Blocks.{left_of, ArePast}
 use Rattle.iloc_fronts.specs.Words.{two_number}
 use Rattle.iloc_fronts.specs.Left.{pieces_of, piece_of, IsLeft}
 use Rattle.iloc_blocks.specs.Transform.{IsRest}
-use Rattle.iloc_rewriting.specs.Rewriting.{AreStored, IsShorter, IsValueStored, IsFieldStored, Ascend, AreUpTo, AreFieldsStored, HaveSame, IsInserted, IsPlace, AreKeywordsSoFar, AreKeywordsStored, BeginsBlock}
+use Rattle.iloc_rewriting.specs.Rewriting.{AreStored, IsShorter, IsValueStored, IsValueOf, IsFieldOf, IsFieldStored, IsFieldKept, AreValuesKept, Ascend, AreUpTo, AreFieldsStored, HaveSame, IsInserted, IsPlace, AreFieldsSoFar, AreFieldsInOrder, BeginsBlock, key_kind, least}
 use Rattle.iloc_fronts.specs.declared.left.Left.{Left}
+use Rattle.iloc_rewriting.specs.declared.keywords.KeyKind.{KeyKind}
+use Rattle.iloc_rewriting.specs.declared.keywords.KeyKind.TheVariants as kind
 use Rattle.iloc_rewriting.specs.declared.keywords.Stored.{Stored}
 use Rattle.iloc_rewriting.specs.declared.keywords.Place.{Place}
-use Rattle.iloc_fronts.proofs.FrontLemmas.{short_key}
 use Rattle.iloc_fronts.proofs.LeftLemmas.{word_left, length-piece}
 use Rattle.iloc_fronts.proofs.WordBytes.{number_in}
 use Rattle.iloc_rewriting.proofs.StoringLemmas.{take_two}
 use Rattle.iloc_rewriting.proofs.RewritingLemmas.{attribute_from, cut_left, length-joined, piece_more}
-use Rattle.iloc_rewriting.proofs.KeywordLemmas.{one_number, same_more, same_then, same_inserted, same_there, all_insert, ascend_later, ascend_insert, ascend_append, all_above, pieces_of_both, IsFieldsCut, cut_fields}
+use Rattle.iloc_rewriting.proofs.KeywordLemmas.{key_short, length-key, field_from, fields_free, one_number, same_more, same_then, same_inserted, same_there, all_insert, ascend_later, ascend_insert, ascend_append, all_above, pieces_of_both, IsFieldsCut, cut_fields}
 
 -- ---- what is left
 
@@ -48,10 +48,10 @@ rest_shorter m n less (Some l) h = (h.0, omega (arith, h.1))
 stored_more : (text room p : List ℕ) (e : ℕ) (ps : List (List ℕ)) (new : List ℕ) (end : ℕ) → AreStored room (text ++ 45 ∷ p) e → AreStored new (take e room ++ dashes ps) end → AreStored new (text ++ dashes (p ∷ ps)) end
 stored_more text room p e ps new end a h = subst (λ (t : List ℕ). AreStored new t end) (ap (λ t. t ++ dashes ps) a.begins ∙ piece_more text p ps) h
 
-stored_one : (text room p : List ℕ) (e : ℕ) → AreStored room (text ++ 45 ∷ p) e → AreStored room (text ++ dashes (p ∷ [])) e
+pub stored_one : (text room p : List ℕ) (e : ℕ) → AreStored room (text ++ 45 ∷ p) e → AreStored room (text ++ dashes (p ∷ [])) e
 stored_one text room p e a = subst (λ (t : List ℕ). AreStored room (text ++ t) e) (sym (append-nil (45 ∷ p))) a
 
-stored_none : (room : List ℕ) (e : ℕ) → e + 16 ≤ length room → AreStored room (take e room ++ dashes []) e
+pub stored_none : (room : List ℕ) (e : ℕ) → e + 16 ≤ length room → AreStored room (take e room ++ dashes []) e
 stored_none room e more = record { begins = sym (append-nil (take e room)); more = more }
 
 -- ---- values
@@ -61,6 +61,7 @@ pub record IsPieceKept (text p room : List ℕ) (e : ℕ) : Type 0 where
   pub kept : List (List ℕ)
   pub stored : AreStored room (text ++ dashes kept) e
   pub each : AllByRecursion (IsWord Attribute) kept
+  pub few : length kept ≤ 1
   pub same : (vs ws : List (List ℕ)) → normal_values ws ≡ normal_values vs → normal_values (kept ++ ws) ≡ normal_values (p ∷ vs)
 
 pub piece_kept : (text p room : List ℕ) (e : ℕ) → IsWord Attribute p → AreStored room (text ++ 45 ∷ p) e → IsPieceKept text p room e
@@ -68,6 +69,7 @@ piece_kept text p room e w a = record {
   kept = p ∷ [];
   stored = stored_one text room p e a;
   each = (w, tt);
+  few = omega arith;
   same = λ vs ws h. ap (λ l. cond (not (is_true (lower p))) (lower p ∷ l) l) h;
 }
 
@@ -76,6 +78,7 @@ piece_dropped p room e is more = record {
   kept = [];
   stored = stored_none room e more;
   each = tt;
+  few = omega arith;
   same = λ vs ws h. h ∙ ap (λ (b : Bool). cond (not b) (lower p ∷ normal_values vs) (normal_values vs)) (sym is);
 }
 
@@ -85,7 +88,8 @@ value_more text room p e m n ps qs w k cut le new s h = record {
   values = p ∷ h.values;
   kept = k.kept ++ h.kept;
   cut = cut ∙ ap (λ l. p ∷ l) h.cut;
-  words = record { each = (w, h.words.each); each_kept = all_append (IsWord Attribute) k.kept h.kept k.each h.words.each_kept; same = k.same h.values h.kept h.words.same };
+  words = record { each = (w, h.words.each); each_kept = all_append (IsWord Attribute) k.kept h.kept k.each h.words.each_kept; few = omega (arith, k.few, h.words.few, length-append k.kept h.kept); same = k.same h.values h.kept h.words.same };
+  none = λ e. absurd (cc);
   stored = subst (λ (t : List ℕ). AreStored new t s.end)
       (ap (λ t. t ++ dashes h.kept) k.stored.begins ∙ append_assoc text (dashes k.kept) (dashes h.kept) ∙ ap (λ t. text ++ t) (sym (dashes-append k.kept h.kept))) h.stored;
   left = rest_weaker m n le s.next h.left;
@@ -97,41 +101,91 @@ value_last text room p e n ps w k cut = record {
   values = p ∷ [];
   kept = k.kept;
   cut = cut;
-  words = record { each = (w, tt); each_kept = k.each; same = ap normal_values (sym (append-nil k.kept)) ∙ k.same [] [] refl };
+  words = record { each = (w, tt); each_kept = k.each; few = k.few; same = ap normal_values (sym (append-nil k.kept)) ∙ k.same [] [] refl };
+  none = λ e. absurd (cc);
   stored = k.stored;
   left = tt;
 }
 
-pub value_none : (room : List ℕ) (e n : ℕ) (l : Left) → e + 16 ≤ length room → IsLeft l → l.len ≤ n → IsValueStored (take e room) (pieces_of l) n room (record { end = e; next = Some l })
-value_none room e n l more h le = record {
+pub value_none : (room : List ℕ) (e n : ℕ) (l : Left) → e + 16 ≤ length room → IsLeft l → is_word Attribute (first_piece (pieces_of l)) ≡ false → l.len ≤ n → IsValueStored (take e room) (pieces_of l) n room (record { end = e; next = Some l })
+value_none room e n l more h none le = record {
   values = [];
   kept = [];
   cut = refl;
-  words = record { each = tt; each_kept = tt; same = refl };
+  words = record { each = tt; each_kept = tt; few = omega arith; same = refl };
+  none = λ _. none;
   stored = stored_none room e more;
   left = (h, le);
 }
 
+-- a value of `u` may be empty
+pub value_of_keyword : (text : List ℕ) (ps : List (List ℕ)) (n : ℕ) (room : List ℕ) (s : Stored) → IsValueStored text ps n room s → IsValueOf kind.Unicode text ps n room s
+value_of_keyword text ps n room s h = record { values = h.values; kept = h.kept; cut = h.cut; words = h.words; enough = omega arith; stored = h.stored; left = h.left }
+
+module _ (text room : List ℕ) (start n : ℕ) (ps : List (List ℕ)) (s : Stored) (h : IsValueStored text ps n room s) (long : length text ≡ start) where
+  length-kept : length (dashes h.kept) + start ≡ s.end
+  length-kept = omega (arith, length-take-le s.end room (omega (arith, h.stored.more)), ap length h.stored.begins, length-append text (dashes h.kept), long)
+
+  -- something is kept
+  pub value_kept : (s.end ≡ start → ⊥) → IsValueOf kind.Transform text ps n room s
+  value_kept other = record { values = h.values; kept = h.kept; cut = h.cut; words = h.words; enough = some h.kept length-kept; stored = h.stored; left = h.left }
+    where
+      some : (ws : List (List ℕ)) → length (dashes ws) + start ≡ s.end → 1 ≤ length ws
+      some [] e = absurd (other (sym e ∙ omega arith))
+      some (w ∷ ws) e = omega arith
+
+  -- nothing is, and one `true` is stored
+  pub value_true : (p new : List ℕ) (e : ℕ) → s.end ≡ start → first_piece ps ≡ p → is_true (lower p) ≡ true → IsWord Attribute p → AreStored new (take start room ++ 45 ∷ p) e
+      → IsValueOf kind.Transform text ps n new (record { end = e; next = s.next })
+  value_true p new e same first is w a = record {
+    values = h.values;
+    kept = p ∷ [];
+    cut = h.cut;
+    words = record {
+      each = h.words.each;
+      each_kept = (w, tt);
+      few = some h.values h.none;
+      same = ap (λ (b : Bool). cond (not b) (lower p ∷ []) []) is ∙ ap normal_values (sym (empty h.kept (omega (arith, length-kept, same)))) ∙ h.words.same;
+    };
+    enough = omega arith;
+    stored = stored_one text new p e (subst (λ (t : List ℕ). AreStored new (t ++ 45 ∷ p) e) text_is a);
+    left = h.left;
+  }
+    where
+      empty : (ws : List (List ℕ)) → length (dashes ws) ≡ 0 → ws ≡ []
+      empty [] l = refl
+      empty (w ∷ ws) l = absurd (omega arith)
+
+      some : (vs : List (List ℕ)) → (vs ≡ [] → is_word Attribute (first_piece ps) ≡ false) → 1 ≤ length vs
+      some [] none = absurd (true≢false (sym w ∙ ap (is_word Attribute) (sym first) ∙ none refl))
+      some (v ∷ vs) none = omega arith
+
+      text_is : take start room ≡ text
+      text_is = ap (λ (m : ℕ). take m room) (sym same) ∙ h.stored.begins ∙ ap (λ ws. text ++ dashes ws) (empty h.kept (omega (arith, length-kept, same))) ∙ append-nil text
+
 -- ---- a field
 
-pub field_alone : (text room key : List ℕ) (e n : ℕ) (ps : List (List ℕ)) → AreStored room (text ++ 45 ∷ key) e → ps ≡ key ∷ []
-    → IsFieldStored text key ps n room (record { end = e; next = None })
-field_alone text room key e n ps a cut = record {
+field_kept : (k : KeyKind) (key : List ℕ) (values kept : List (List ℕ)) → IsWord (key_kind k) key → AreValuesKept values kept → least k ≤ length kept → IsFieldKept k key values kept
+field_kept k key values kept w h l = record { is = field_from k key values w h.each (omega (arith, h.few)); is_kept = field_from k key kept w h.each_kept l; same = h.same }
+
+pub field_alone : (text room key : List ℕ) (e n : ℕ) (ps : List (List ℕ)) → IsWord (key_kind kind.Unicode) key → AreStored room (text ++ 45 ∷ key) e → ps ≡ key ∷ []
+    → IsFieldStored kind.Unicode text key ps n room (record { end = e; next = None })
+field_alone text room key e n ps w a cut = record {
   values = [];
   kept = [];
   cut = cut;
-  words = record { each = tt; each_kept = tt; same = refl };
+  words = record { is = (w, tt); is_kept = (w, tt); same = refl };
   stored = stored_one text room key e a;
   left = tt;
 }
 
-pub field_of_value : (text room key : List ℕ) (e m n : ℕ) (ps qs : List (List ℕ)) → AreStored room (text ++ 45 ∷ key) e → ps ≡ key ∷ qs → m < n
-    → (new : List ℕ) (s : Stored) → IsValueStored (take e room) qs m new s → IsFieldStored text key ps n new s
-field_of_value text room key e m n ps qs a cut less new s h = record {
+pub field_of_value : (k : KeyKind) (text room key : List ℕ) (e m n : ℕ) (ps qs : List (List ℕ)) → IsWord (key_kind k) key → AreStored room (text ++ 45 ∷ key) e → ps ≡ key ∷ qs → m < n
+    → (new : List ℕ) (s : Stored) → IsValueOf k (take e room) qs m new s → IsFieldStored k text key ps n new s
+field_of_value k text room key e m n ps qs w a cut less new s h = record {
   values = h.values;
   kept = h.kept;
   cut = cut ∙ ap (λ l. key ∷ l) h.cut;
-  words = h.words;
+  words = field_kept k key h.values h.kept w h.words h.enough;
   stored = stored_more text room key e h.kept new s.end a h.stored;
   left = rest_shorter m n less s.next h.left;
 }
@@ -145,9 +199,9 @@ fields_stored text fs key kept =
     ∙ ap (λ l. text ++ dashes l) (ap (λ l. fields_pieces fs ++ l) (sym (append-nil (key ∷ kept))) ∙ sym (pieces_of_both fs ((key, kept) ∷ [])))
 
 -- a field with a greater key comes last
-pub field_appended : (text key room : List ℕ) (start end n : ℕ) (fs : Fields) (ps : List (List ℕ)) → AreFieldsStored room start end text fs → IsWord UnicodeKey key
-    → AllByRecursion (λ f. two_number f.0 < two_number key) fs → (new : List ℕ) (s : Stored) → IsFieldStored (take end room) key ps n new s → IsInserted text fs key ps n new s
-field_appended text key room start end n fs ps a w less new s h = record {
+pub field_appended : (k : KeyKind) (text key room : List ℕ) (start end n : ℕ) (fs : Fields) (ps : List (List ℕ)) → AreFieldsStored k room start end text fs
+    → AllByRecursion (λ f. two_number f.0 < two_number key) fs → (new : List ℕ) (s : Stored) → IsFieldStored k (take end room) key ps n new s → IsInserted k text fs key ps n new s
+field_appended k text key room start end n fs ps a less new s h = record {
   values = h.values;
   kept = h.kept;
   cut = h.cut;
@@ -156,7 +210,7 @@ field_appended text key room start end n fs ps a w less new s h = record {
   all = fs ++ (key, h.kept) ∷ [];
   few = omega (arith, length-append fs ((key, h.kept) ∷ []));
   stored = subst (λ (t : List ℕ). AreStored new t s.end) (ap (λ t. t ++ dashes (key ∷ h.kept)) a.stored ∙ fields_stored text fs key h.kept) h.stored;
-  each = all_append IsKeyword fs ((key, h.kept) ∷ []) a.each ((w, h.words.each_kept), tt);
+  each = all_append (IsFieldOf k) fs ((key, h.kept) ∷ []) a.each (h.words.is_kept, tt);
   ascend = ascend_append fs (key, h.kept) less a.ascend;
   up_to = λ m up le. all_append (λ f. two_number f.0 ≤ m) fs ((key, h.kept) ∷ []) up (le, tt);
   same = λ q. refl;
@@ -170,9 +224,9 @@ at_number a n t = grind (arith, nat_tests)
 above_number : (a n : ℕ) → n ≤ a → (a == n) ≡ false → n < a
 above_number a n le t = grind (arith, nat_tests)
 
-pub place_here : (l : Left) → IsLeft l → IsWord UnicodeKey (piece_of l) → (number other : ℕ) → other ≡ two_number (take 2 l.window.now) → number ≤ other
-    → IsPlace number (pieces_of l) l.len (record { is_there = other == number; len = l.len })
-place_here l h w number other is le = record {
+pub place_here : (k : KeyKind) (l : Left) → IsLeft l → IsWord (key_kind k) (piece_of l) → (number other : ℕ) → other ≡ two_number (take 2 l.window.now) → number ≤ other
+    → IsPlace k number (pieces_of l) l.len (record { is_there = other == number; len = l.len })
+place_here k l h w number other is le = record {
   before = [];
   each = tt;
   less = tt;
@@ -188,14 +242,14 @@ place_here l h w number other is le = record {
 }
   where
     cut : pieces_of l ≡ piece_of l ∷ rest_of (pieces_of l)
-    cut = cut_left l h (word_left l h UnicodeKey short_key w)
+    cut = cut_left l h (word_left l h (key_kind k) (key_short k) w)
 
     same : other ≡ two_number (piece_of l)
-    same = is ∙ number_in l.window.now l.n (omega (arith, length-unicode_key (piece_of l) w, length-piece l h))
+    same = is ∙ number_in l.window.now l.n (omega (arith, length-key k (piece_of l) w, length-piece l h))
 
-pub place_later : (key : List ℕ) (ps qs : List (List ℕ)) (number len m n : ℕ) (next : Left) → IsWord UnicodeKey key → two_number key < number → ps ≡ key ∷ qs → ArePast 3 len qs (Some next) → m ≤ n
-    → (p : Place) → IsPlace number (pieces_of next) m p → IsPlace number ps n p
-place_later key ps qs number len m n next w less cut past le p h = record {
+pub place_later : (k : KeyKind) (key : List ℕ) (ps qs : List (List ℕ)) (number len m n : ℕ) (next : Left) → IsWord (key_kind k) key → two_number key < number → ps ≡ key ∷ qs → ArePast 3 len qs (Some next) → m ≤ n
+    → (p : Place) → IsPlace k number (pieces_of next) m p → IsPlace k number ps n p
+place_later k key ps qs number len m n next w less cut past le p h = record {
   before = (key, past.words) ∷ h.before;
   each = ((w, attribute_from past.words past.each), h.each);
   less = (less, h.less);
@@ -226,9 +280,6 @@ split_room room xs ys e k inside is long =
     whole [] = refl
     whole (c ∷ t) = ap (λ l. c ∷ l) (whole t)
 
-keyword_free : (fs : Fields) → AllByRecursion IsKeyword fs → AllByRecursion IsHyphenFree (fields_pieces fs)
-keyword_free fs h = fields_each IsHyphenFree UnicodeKey (word_hyphen_free UnicodeKey) (word_hyphen_free Attribute) fs h
-
 module _ (room text : List ℕ) (start end : ℕ) (ps : List (List ℕ)) (room_end : end ≤ length room) (before : length text ≡ start) (stored : take end room ≡ text ++ dashes ps)
     (free : AllByRecursion IsHyphenFree ps) (some : start < end) where
   -- what they are in the room, behind the first hyphen
@@ -256,9 +307,9 @@ module _ (room text : List ℕ) (start end : ℕ) (ps : List (List ℕ)) (room_e
       by [] h l e = absurd (omega arith)
       by (p ∷ qs) h l e = ap pieces (e ∙ sym (join-dashes p qs)) ∙ pieces-join p qs h
 
-pub room_pieces : (room text : List ℕ) (start end : ℕ) (fs : Fields) → end ≤ length room → AreFieldsStored room start end text fs → start < end
+pub room_pieces : (k : KeyKind) (room text : List ℕ) (start end : ℕ) (fs : Fields) → end ≤ length room → AreFieldsStored k room start end text fs → start < end
     → pieces (take (end - start - 1) (take (length room - (start + 1)) (drop (start + 1) room))) ≡ fields_pieces fs
-room_pieces room text start end fs room_end a some = pieces_in_room room text start end (fields_pieces fs) room_end a.before a.stored (keyword_free fs a.each) some
+room_pieces k room text start end fs room_end a some = pieces_in_room room text start end (fields_pieces fs) room_end a.before a.stored (fields_free k fs a.each) some
 
 -- ---- a field among others
 
@@ -272,14 +323,14 @@ begins_still room xs ys m e inside long is =
     whole [] = refl
     whole (c ∷ t) = ap (λ l. c ∷ l) (whole t)
 
-module _ (room text key : List ℕ) (start end n number : ℕ) (fs : Fields) (ps : List (List ℕ)) (room_end : end ≤ length room) (a : AreFieldsStored room start end text fs)
-    (w : IsWord UnicodeKey key) (is : number ≡ two_number key) (len : ℕ) (p : Place) (place : IsPlace number (fields_pieces fs) len p) where
+module _ (k : KeyKind) (room text key : List ℕ) (start end n number : ℕ) (fs : Fields) (ps : List (List ℕ)) (room_end : end ≤ length room) (a : AreFieldsStored k room start end text fs)
+    (w : IsWord (key_kind k) key) (is : number ≡ two_number key) (len : ℕ) (p : Place) (place : IsPlace k number (fields_pieces fs) len p) where
   cut : IsFieldsCut fs place.before place.key place.rest
-  cut = cut_fields fs place.before place.key place.rest a.each place.each place.is_key place.cut
+  cut = cut_fields k fs place.before place.key place.rest a.each place.each place.is_key place.cut
 
   -- its key is there
-  pub field_there : IsTrue p.is_there → (new : List ℕ) (e : ℕ) (next : Option Left) (more : end + 16 ≤ length new) → IsFieldStored (take end room) key ps n new (record { end = e; next = next })
-      → IsInserted text fs key ps n new (record { end = end; next = next })
+  pub field_there : IsTrue p.is_there → (new : List ℕ) (e : ℕ) (next : Option Left) (more : end + 16 ≤ length new) → IsFieldStored k (take end room) key ps n new (record { end = e; next = next })
+      → IsInserted k text fs key ps n new (record { end = end; next = next })
   field_there there new e next more h = record {
     values = h.values;
     kept = h.kept;
@@ -299,7 +350,7 @@ module _ (room text key : List ℕ) (start end n number : ℕ) (fs : Fields) (ps
   }
     where
       one : lower place.key ≡ lower key
-      one = one_number place.key key place.is_key w (place.there there ∙ is)
+      one = one_number k place.key key place.is_key w (place.there there ∙ is)
 
       same : HaveSame (fs ++ (key, h.kept) ∷ []) fs
       same = subst (λ (gs : Fields). HaveSame (gs ++ (key, h.kept) ∷ []) gs) (sym cut.all) (same_there place.before cut.after (key, h.kept) (place.key, cut.value) one)
@@ -314,8 +365,8 @@ module _ (room text key : List ℕ) (start end n number : ℕ) (fs : Fields) (ps
       ∙ sym (append_assoc text (dashes (fields_pieces place.before)) (dashes (place.key ∷ place.rest)))
 
   -- it comes before a greater one
-  pub field_inserted : p.is_there ≡ false → (room' new : List ℕ) (s : Stored) (e : ℕ) → IsFieldStored (take (end - p.len - 1) room) key ps n room' s
-      → AreStored new (take s.end room' ++ take (p.len + 1) (drop (end - p.len - 1) room)) e → IsInserted text fs key ps n new (record { end = e; next = s.next })
+  pub field_inserted : p.is_there ≡ false → (room' new : List ℕ) (s : Stored) (e : ℕ) → IsFieldStored k (take (end - p.len - 1) room) key ps n room' s
+      → AreStored new (take s.end room' ++ take (p.len + 1) (drop (end - p.len - 1) room)) e → IsInserted k text fs key ps n new (record { end = e; next = s.next })
   field_inserted other room' new s e h stored = record {
     values = h.values;
     kept = h.kept;
@@ -325,7 +376,7 @@ module _ (room text key : List ℕ) (start end n number : ℕ) (fs : Fields) (ps
     all = place.before ++ ((key, h.kept) ∷ ((place.key, cut.value) ∷ cut.after));
     few = omega (arith, ap length cut.all, length-append place.before ((key, h.kept) ∷ ((place.key, cut.value) ∷ cut.after)), length-append place.before ((place.key, cut.value) ∷ cut.after));
     stored = subst (λ (t : List ℕ). AreStored new t e) text_is stored;
-    each = all_insert IsKeyword place.before ((place.key, cut.value) ∷ cut.after) (key, h.kept) (w, h.words.each_kept) (subst (AllByRecursion IsKeyword) cut.all a.each);
+    each = all_insert (IsFieldOf k) place.before ((place.key, cut.value) ∷ cut.after) (key, h.kept) h.words.is_kept (subst (AllByRecursion (IsFieldOf k)) cut.all a.each);
     ascend = ascend_insert place.before ((place.key, cut.value) ∷ cut.after) (key, h.kept) less above (subst Ascend cut.all a.ascend);
     up_to = λ m up le. all_insert (λ f. two_number f.0 ≤ m) place.before ((place.key, cut.value) ∷ cut.after) (key, h.kept) le (subst (AreUpTo m) cut.all up);
     same = subst (λ (gs : Fields). HaveSame (gs ++ (key, h.kept) ∷ []) (place.before ++ ((key, h.kept) ∷ ((place.key, cut.value) ∷ cut.after)))) (sym cut.all)
@@ -355,23 +406,23 @@ module _ (room text key : List ℕ) (start end n number : ℕ) (fs : Fields) (ps
           ∙ sym (pieces_of_both (place.before ++ (key, h.kept) ∷ []) ((place.key, cut.value) ∷ cut.after))
           ∙ ap fields_pieces (append_assoc place.before ((key, h.kept) ∷ []) ((place.key, cut.value) ∷ cut.after)))
 
--- ---- keywords
+-- ---- fields of a block
 
--- what one keyword more gives
-pub record IsStep (text : List ℕ) (ps : List (List ℕ)) (start last : ℕ) (room : List ℕ) (s : Stored) : Type 0 where
+-- what one field more gives
+pub record IsStep (k : KeyKind) (text : List ℕ) (ps : List (List ℕ)) (start last : ℕ) (room : List ℕ) (s : Stored) : Type 0 where
   pub written : Fields
   pub kept : Fields
   pub cut : ps ≡ fields_pieces written ++ left_of s.next
-  pub each : AllByRecursion IsKeyword written
+  pub each : AllByRecursion (IsFieldOf k) written
   pub some : length kept ≤ length written
   pub same : HaveSame written kept
-  pub stored : AreFieldsStored room start s.end text kept
+  pub stored : AreFieldsStored k room start s.end text kept
   pub up_to : AreUpTo last kept
   pub more : s.end + 16 ≤ length room
   pub behind : start ≤ s.end
 
-pub keywords_none : (room : List ℕ) (start : ℕ) (l : Left) → start ≤ length room → AreKeywordsSoFar (take start room) (pieces_of l) start start 0 room l
-keywords_none room start l inside = record {
+pub fields_none : (k : KeyKind) (room : List ℕ) (start : ℕ) (l : Left) → start ≤ length room → AreFieldsSoFar k (take start room) (pieces_of l) start start 0 room l
+fields_none k room start l inside = record {
   written = [];
   kept = [];
   cut = refl;
@@ -382,15 +433,15 @@ keywords_none room start l inside = record {
   up_to = tt;
 }
 
-pub keyword_more : (text key room new : List ℕ) (ps : List (List ℕ)) (start end last next n : ℕ) (at : Left) (s : Stored) → (h : AreKeywordsSoFar text ps start end last room at) → IsWord UnicodeKey key
-    → last ≤ next → two_number key ≤ next → IsInserted text h.kept key (pieces_of at) n new s → IsStep text ps start next new s
-keyword_more text key room new ps start end last next n at s h w le key_le i = record {
+pub one_more : (k : KeyKind) (text key room new : List ℕ) (ps : List (List ℕ)) (start end last next n : ℕ) (at : Left) (s : Stored) → (h : AreFieldsSoFar k text ps start end last room at)
+    → last ≤ next → two_number key ≤ next → IsInserted k text h.kept key (pieces_of at) n new s → IsStep k text ps start next new s
+one_more k text key room new ps start end last next n at s h le key_le i = record {
   written = h.written ++ (key, i.values) ∷ [];
   kept = i.all;
   cut = h.cut ∙ ap (λ l. fields_pieces h.written ++ l) i.cut
       ∙ sym (append_assoc (fields_pieces h.written) (key ∷ i.values) (left_of s.next))
       ∙ ap (λ l. l ++ left_of s.next) (ap (λ l. fields_pieces h.written ++ l) (sym (append-nil (key ∷ i.values))) ∙ sym (pieces_of_both h.written ((key, i.values) ∷ [])));
-  each = all_append IsKeyword h.written ((key, i.values) ∷ []) h.each ((w, i.words.each), tt);
+  each = all_append (IsFieldOf k) h.written ((key, i.values) ∷ []) h.each (i.words.is, tt);
   some = omega (arith, h.some, i.few, length-append h.written ((key, i.values) ∷ []));
   same = same_then (h.written ++ (key, i.values) ∷ []) (h.kept ++ (key, i.kept) ∷ []) i.all (same_more h.written h.kept key i.values i.kept i.words.same h.same) i.same;
   stored = record { before = h.stored.before; stored = i.stored.begins; each = i.each; ascend = i.ascend };
@@ -399,8 +450,8 @@ keyword_more text key room new ps start end last next n at s h w le key_le i = r
   behind = omega (arith, i.stored.more, h.stored.before, length-take-le s.end new (omega (arith, i.stored.more)), ap length i.stored.begins, length-append text (dashes (fields_pieces i.all)));
 }
 
-pub keywords_further : (text : List ℕ) (ps : List (List ℕ)) (start last : ℕ) (room : List ℕ) (s : Stored) (l : Left) → s.next ≡ Some l → IsStep text ps start last room s → AreKeywordsSoFar text ps start s.end last room l
-keywords_further text ps start last room s l e h = record {
+pub fields_further : (k : KeyKind) (text : List ℕ) (ps : List (List ℕ)) (start last : ℕ) (room : List ℕ) (s : Stored) (l : Left) → s.next ≡ Some l → IsStep k text ps start last room s → AreFieldsSoFar k text ps start s.end last room l
+fields_further k text ps start last room s l e h = record {
   written = h.written;
   kept = h.kept;
   cut = h.cut ∙ ap (λ o. fields_pieces h.written ++ left_of o) e;
@@ -411,8 +462,8 @@ keywords_further text ps start last room s l e h = record {
   up_to = h.up_to;
 }
 
-pub keywords_end : (text : List ℕ) (ps : List (List ℕ)) (start last : ℕ) (room : List ℕ) (s : Stored) → s.next ≡ None → IsStep text ps start last room s → AreKeywordsStored text ps room s
-keywords_end text ps start last room s e h = record {
+pub fields_end : (k : KeyKind) (text : List ℕ) (ps : List (List ℕ)) (start last : ℕ) (room : List ℕ) (s : Stored) → s.next ≡ None → IsStep k text ps start last room s → AreFieldsInOrder k text ps room s
+fields_end k text ps start last room s e h = record {
   written = h.written;
   kept = h.kept;
   cut = h.cut;

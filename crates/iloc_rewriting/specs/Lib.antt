@@ -1,3 +1,5 @@
 pub mod Rewriting
+pub mod Fields
+pub mod Sorting
 pub mod Words
 pub mod Repeats

@@ -1,16 +1,16 @@
 -- Lines that are brought into order.
-use Rattle.std.specs.Prelude.{◌≡◌, ◌≢◌, ⊤, ℕ, ◌+◌, ◌<◌, ◌≤◌, IsTrue, true, false, List, [], ◌∷◌, ◌++◌, length, map, take, Option, Some, None}
+use Rattle.std.specs.Prelude.{◌≡◌, ⊤, ℕ, ◌+◌, ◌<◌, ◌≤◌, IsTrue, Bool, true, false, List, [], ◌∷◌, ◌++◌, length, map, take, Option, Some, None}
 use Rattle.std.specs.List.{AllByRecursion}
 use Rattle.std.specs.FinMap.{find}
-use Rattle.std.specs.Char.{to_ascii_lowercase}
-use Rattle.iloc_spec_grammar.specs.Syntax.{Text, Fields, Unicode, IsHyphenFree, UnicodeKey, Attribute, IsWord, IsKeyword, word_cmp, lower, dashes, join, fields_pieces, is_one_byte, code_u, code_x, languages}
+use Rattle.iloc_spec_grammar.specs.Syntax.{Text, Field, Fields, Kind, UnicodeKey, TransformKey, Attribute, is_word, IsWord, IsKeyword, IsField, word_cmp, first_piece, lower, dashes, join, fields_pieces, languages}
 use Rattle.iloc_spec_grammar.specs.Meaning.{Locale, Means, normal_values, set_of}
-use Rattle.iloc_spec_grammar.specs.ByBlocks.{UnicodeMeans}
 use Rattle.iloc_blocks.specs.Blocks.{left_of}
 use Rattle.iloc_fronts.specs.Words.{two_number}
 use Rattle.iloc_fronts.specs.Left.{pieces_of, IsLeft}
 use Rattle.iloc_blocks.specs.Transform.{IsRest}
 use Rattle.iloc_fronts.specs.declared.left.Left.{Left}
+use Rattle.iloc_rewriting.specs.declared.keywords.KeyKind.{KeyKind}
+use Rattle.iloc_rewriting.specs.declared.keywords.KeyKind.TheVariants as kind
 use Rattle.iloc_rewriting.specs.declared.keywords.Stored.{Stored}
 use Rattle.iloc_rewriting.specs.declared.keywords.Place.{Place}
 
@@ -30,10 +30,31 @@ IsShorter len (Some l) = IsLeft l × (l.len < len)
 
 -- Fields.
 
+-- fields of `t`, or of `u`
+abbrev pub kind_of : Bool → KeyKind
+kind_of true = kind.Transform
+kind_of false = kind.Unicode
+
+-- the keys of fields of `u`, or of `t`
+abbrev pub key_kind : KeyKind → Kind
+key_kind kind.Unicode = UnicodeKey
+key_kind kind.Transform = TransformKey
+
+-- a field with such a key
+abbrev pub IsFieldOf : KeyKind → Field → Type 0
+IsFieldOf kind.Unicode f = IsKeyword f
+IsFieldOf kind.Transform f = IsField f
+
+-- how many pieces its value has at least
+abbrev pub least : KeyKind → ℕ
+least kind.Unicode = 0
+least kind.Transform = 1
+
 -- the values are words, and without `true` so are those that are kept
 pub record AreValuesKept (values kept : List Text) : Type 0 where
   pub each : AllByRecursion (IsWord Attribute) values
   pub each_kept : AllByRecursion (IsWord Attribute) kept
+  pub few : length kept ≤ length values
   pub same : normal_values kept ≡ normal_values values
 
 -- values that come first are stored behind the text, but for `true`
@@ -42,15 +63,32 @@ pub record IsValueStored (text : Text) (ps : List Text) (len : ℕ) (room : Text
   pub kept : List Text
   pub cut : ps ≡ values ++ left_of s.next
   pub words : AreValuesKept values kept
+  pub none : values ≡ [] → is_word Attribute (first_piece ps) ≡ false
   pub stored : AreStored room (text ++ dashes kept) s.end
   pub left : IsRest len s.next
 
--- so is a field with this key that comes first
-pub record IsFieldStored (text key : Text) (ps : List Text) (len : ℕ) (room : Text) (s : Stored) : Type 0 where
+-- so is a value of such a field
+pub record IsValueOf (k : KeyKind) (text : Text) (ps : List Text) (len : ℕ) (room : Text) (s : Stored) : Type 0 where
+  pub values : List Text
+  pub kept : List Text
+  pub cut : ps ≡ values ++ left_of s.next
+  pub words : AreValuesKept values kept
+  pub enough : least k ≤ length kept
+  pub stored : AreStored room (text ++ dashes kept) s.end
+  pub left : IsRest len s.next
+
+-- the key has these values, and those that are kept mean the same
+pub record IsFieldKept (k : KeyKind) (key : Text) (values kept : List Text) : Type 0 where
+  pub is : IsFieldOf k (key, values)
+  pub is_kept : IsFieldOf k (key, kept)
+  pub same : normal_values kept ≡ normal_values values
+
+-- a field with this key that comes first is stored behind the text
+pub record IsFieldStored (k : KeyKind) (text key : Text) (ps : List Text) (len : ℕ) (room : Text) (s : Stored) : Type 0 where
   pub values : List Text
   pub kept : List Text
   pub cut : ps ≡ key ∷ (values ++ left_of s.next)
-  pub words : AreValuesKept values kept
+  pub words : IsFieldKept k key values kept
   pub stored : AreStored room (text ++ dashes (key ∷ kept)) s.end
   pub left : IsShorter len s.next
 
@@ -63,11 +101,11 @@ Ascend (f ∷ fs) = AllByRecursion (λ g. two_number f.0 < two_number g.0) fs ×
 abbrev pub AreUpTo : ℕ → Fields → Type 0
 AreUpTo last fs = AllByRecursion (λ f. two_number f.0 ≤ last) fs
 
--- keywords with ascending keys are stored behind the text
-pub record AreFieldsStored (room : Text) (start end : ℕ) (text : Text) (fields : Fields) : Type 0 where
+-- fields with ascending keys are stored behind the text
+pub record AreFieldsStored (k : KeyKind) (room : Text) (start end : ℕ) (text : Text) (fields : Fields) : Type 0 where
   pub before : length text ≡ start
   pub stored : take end room ≡ text ++ dashes (fields_pieces fields)
-  pub each : AllByRecursion IsKeyword fields
+  pub each : AllByRecursion (IsFieldOf k) fields
   pub ascend : Ascend fields
 
 -- keys with their values in normal form
@@ -79,27 +117,27 @@ abbrev pub HaveSame : Fields → Fields → Type 0
 HaveSame fs gs = (q : Text) → find word_cmp q (entries fs) ≡ find word_cmp q (entries gs)
 
 -- a field with this key comes first, and with it the fields behind the text are still in order
-pub record IsInserted (text : Text) (fields : Fields) (key : Text) (ps : List Text) (len : ℕ) (room : Text) (s : Stored) : Type 0 where
+pub record IsInserted (k : KeyKind) (text : Text) (fields : Fields) (key : Text) (ps : List Text) (len : ℕ) (room : Text) (s : Stored) : Type 0 where
   pub values : List Text
   pub kept : List Text
   pub cut : ps ≡ key ∷ (values ++ left_of s.next)
-  pub words : AreValuesKept values kept
+  pub words : IsFieldKept k key values kept
   pub left : IsShorter len s.next
   pub all : Fields
   pub few : length all ≤ length fields + 1
   pub stored : AreStored room (text ++ dashes (fields_pieces all)) s.end
-  pub each : AllByRecursion IsKeyword all
+  pub each : AllByRecursion (IsFieldOf k) all
   pub ascend : Ascend all
   pub up_to : (m : ℕ) → AreUpTo m fields → two_number key ≤ m → AreUpTo m all
   pub same : HaveSame (fields ++ (key, kept) ∷ []) all
 
 -- the fields before this place have lesser keys, and that of the next is told
-pub record IsPlace (number : ℕ) (ps : List Text) (len : ℕ) (p : Place) : Type 0 where
+pub record IsPlace (k : KeyKind) (number : ℕ) (ps : List Text) (len : ℕ) (p : Place) : Type 0 where
   pub before : Fields
-  pub each : AllByRecursion IsKeyword before
+  pub each : AllByRecursion (λ f. IsWord (key_kind k) f.0 × AllByRecursion (IsWord Attribute) f.1) before
   pub less : AllByRecursion (λ f. two_number f.0 < number) before
   pub key : Text
-  pub is_key : IsWord UnicodeKey key
+  pub is_key : IsWord (key_kind k) key
   pub rest : List Text
   pub cut : ps ≡ fields_pieces before ++ (key ∷ rest)
   pub at_least : number ≤ two_number key
@@ -113,13 +151,13 @@ abbrev pub BeginsBlock : Option Left → Type 0
 BeginsBlock None = ⊤
 BeginsBlock (Some l) = IsLeft l × (l.n ≡ 1)
 
--- keywords that come first are stored in order
-pub record AreKeywordsStored (text : Text) (ps : List Text) (room : Text) (s : Stored) : Type 0 where
+-- fields that come first are stored in order
+pub record AreFieldsInOrder (k : KeyKind) (text : Text) (ps : List Text) (room : Text) (s : Stored) : Type 0 where
   pub written : Fields
   pub kept : Fields
   pub cut : ps ≡ fields_pieces written ++ left_of s.next
-  pub each : AllByRecursion IsKeyword written
-  pub each_kept : AllByRecursion IsKeyword kept
+  pub each : AllByRecursion (IsFieldOf k) written
+  pub each_kept : AllByRecursion (IsFieldOf k) kept
   pub some : length kept ≤ length written
   pub same : HaveSame written kept
   pub stored : AreStored room (text ++ dashes (fields_pieces kept)) s.end
@@ -143,46 +181,19 @@ pub record AreAttributesStored (text : Text) (ps : List Text) (len : ℕ) (room 
   pub stored : AreStored room (text ++ dashes kept) s.end
   pub left : IsRest len s.next
 
--- pieces up to the next block are stored as others, of which each meaning is theirs
-pub record IsUnicodeStored (text : Text) (ps : List Text) (room : Text) (s : Stored) : Type 0 where
-  pub body : List Text
-  pub new : List Text
-  pub cut : ps ≡ body ++ left_of s.next
-  pub body_long : AllByRecursion (λ p. is_one_byte p ≡ false) body
-  pub new_long : AllByRecursion (λ p. is_one_byte p ≡ false) new
-  pub new_free : AllByRecursion IsHyphenFree new
-  pub means : (v : Unicode) → UnicodeMeans new v → UnicodeMeans body v
-  pub stored : AreStored room (text ++ dashes new) s.end
-  pub left : BeginsBlock s.next
-
--- the piece is no singleton `x`
-abbrev pub IsNoPrivate : Text → Type 0
-IsNoPrivate (c ∷ []) = to_ascii_lowercase c ≢ code_x
-IsNoPrivate _ = ⊤
-
--- a singleton `u` comes before what is left, and none of `x` before it
-pub record LeadsToUnicode (ps : List Text) (len : ℕ) (l : Left) : Type 0 where
-  pub before : List Text
-  pub byte : ℕ
-  pub cut : ps ≡ before ++ ((byte ∷ []) ∷ pieces_of l)
-  pub no_private : AllByRecursion IsNoPrivate before
-  pub is_unicode : to_ascii_lowercase byte ≡ code_u
-  pub left : IsLeft l
-  pub less : l.len < len
-
 -- the new text is stored, and the old one means what it means
 abbrev pub IsRewrittenAs : Text → Text → ℕ → Type 0
 IsRewrittenAs t room n = (n + 16 ≤ length room) × IsRewritten t (take n room)
 
 -- Steps.
 
--- keywords so far are stored in order behind the text, and others are left
-pub record AreKeywordsSoFar (text : Text) (ps : List Text) (start end last : ℕ) (room : Text) (l : Left) : Type 0 where
+-- fields so far are stored in order behind the text, and others are left
+pub record AreFieldsSoFar (k : KeyKind) (text : Text) (ps : List Text) (start end last : ℕ) (room : Text) (l : Left) : Type 0 where
   pub written : Fields
   pub kept : Fields
   pub cut : ps ≡ fields_pieces written ++ pieces_of l
-  pub each : AllByRecursion IsKeyword written
+  pub each : AllByRecursion (IsFieldOf k) written
   pub some : length kept ≤ length written
   pub same : HaveSame written kept
-  pub stored : AreFieldsStored room start end text kept
+  pub stored : AreFieldsStored k room start end text kept
   pub up_to : AreUpTo last kept

@@ -1,22 +1,46 @@
-//! Stores keywords in the order of their keys.
-ghost use Rattle.std.specs.Prelude.{◌+◌, ◌≤◌, IfSome, length, take};
-ghost use Rattle.iloc_spec_grammar.specs.Syntax.{Fields, IsWord, Text, UnicodeKey};
+//! Stores keywords, or the fields of `t`, in the order of their keys.
+ghost use Rattle.std.specs.Prelude.{◌≡◌, ◌+◌, ◌≤◌, IfSome, length, take};
+ghost use Rattle.iloc_spec_grammar.specs.Syntax.{Fields, IsWord, Text, is_word};
 ghost use Rattle.iloc_fronts.specs.Left.{IsLeft, piece_of, pieces_of};
+ghost use Rattle.iloc_rewriting.specs.declared.keywords.KeyKind.TheVariants as kinds;
 ghost use Rattle.iloc_rewriting.specs.Rewriting.{
+  AreFieldsInOrder,
   AreFieldsStored,
-  AreKeywordsStored,
   AreUpTo,
   IsFieldStored,
   IsInserted,
   IsPlace,
+  IsValueOf,
   IsValueStored,
+  key_kind,
+  kind_of,
 };
 
 use crate::storing::{put_bytes, put_piece};
 use iloc_blocks::other::past_words;
 use iloc_fronts::left::{Left, after_piece, left_in};
-use iloc_fronts::words::{is_attribute, is_key, is_true, number_of_two};
+use iloc_fronts::words::{is_attribute, is_field_key, is_key, is_true, number_of_two};
 use std::cmp::max;
+
+// Which keys fields have.
+#[derive(Clone, Copy)]
+pub(crate) enum KeyKind {
+    // Those of `u`. A value may be empty.
+    Unicode,
+    // Those of `t`. A value has one piece at least.
+    Transform,
+}
+
+// Those of `t`, or of `u`.
+#[inline(always)]
+fn kind_of(of_t: bool) -> KeyKind
+    ensures { result ≡ kind_of of_t }
+{
+    if of_t {
+        return KeyKind::Transform;
+    }
+    KeyKind::Unicode
+}
 
 // What was stored of a line.
 #[derive(Clone, Copy)]
@@ -36,19 +60,25 @@ pub(crate) struct Place {
     pub(crate) len: usize,
 }
 
-// Stores keywords in the order of their keys, without `true`. Of those with one key the first stays.
+// Stores fields in the order of their keys, without `true`; if nothing else is in a value of `t`, one
+// `true` stays. Of those with one key the first stays.
 #[inline(always)]
-pub(crate) fn put_keywords<'a>(left: Left<'a>, room: &mut [u8], start: usize) -> Option<Stored<'a>>
+pub(crate) fn put_fields<'a>(
+    kind: KeyKind,
+    left: Left<'a>,
+    room: &mut [u8],
+    start: usize,
+) -> Option<Stored<'a>>
     requires left { IsLeft left }
     requires room { start + 16 ≤ length room.old }
     ensures { IfSome result
-        (AreKeywordsStored (take start room.old) (pieces_of left.entry) room.new) }
+        (AreFieldsInOrder kind (take start room.old) (pieces_of left.entry) room.new) }
 {
     let mut at = left;
     let mut end = start;
     let mut last = 0;
-    'keys: while is_key(at.window, at.n) {
-        let stored = put_keyword(at, last, room, start, end)?;
+    'keys: while is_key_of(kind, at.window, at.n) {
+        let stored = put_among(kind, at, last, room, start, end)?;
         last = max(last, number_of_two(at.window));
         end = stored.end;
         let Some(next) = stored.next else {
@@ -65,9 +95,23 @@ pub(crate) fn put_keywords<'a>(left: Left<'a>, room: &mut [u8], start: usize) ->
     })
 }
 
+// Whether the first `n` bytes are such a key.
+#[inline(always)]
+fn is_key_of(kind: KeyKind, window: &[u8], n: usize) -> bool
+    requires wide { 16 ≤ length window.now }
+    requires few { n ≤ 16 }
+    ensures { result ≡ is_word (key_kind kind) (take n window.now) }
+{
+    match kind {
+        KeyKind::Unicode => is_key(window, n),
+        KeyKind::Transform => is_field_key(window, n),
+    }
+}
+
 // Stores a field among those that begin at `start`, of which no key has a number above the last.
 #[inline(always)]
-fn put_keyword<'a>(
+fn put_among<'a>(
+    kind: KeyKind,
     left: Left<'a>,
     last: usize,
     room: &mut [u8],
@@ -75,33 +119,82 @@ fn put_keyword<'a>(
     end: usize,
 ) -> Option<Stored<'a>>
     requires left { IsLeft left }
-    requires key { IsWord UnicodeKey (piece_of left) }
+    requires key { IsWord (key_kind kind) (piece_of left) }
     requires room { end + 16 ≤ length room.old }
     requires start { start ≤ end }
-    ensures { (t : Text) (fs : Fields) → AreFieldsStored room.old start end t fs → AreUpTo last fs
-        → IfSome result (IsInserted t fs (piece_of left.entry) (pieces_of left.entry)
-        left.entry.len room.new) }
+    ensures { (t : Text) (fs : Fields) → AreFieldsStored kind room.old start end t fs
+        → AreUpTo last fs → IfSome result
+        (IsInserted kind t fs (piece_of left.entry) (pieces_of left.entry) left.entry.len room.new) }
 {
     if number_of_two(left.window) > last {
-        return put_field(left, room, end);
+        return put_field(kind, left, room, end);
     }
-    insert_field(left, room, start, end)
+    match kind {
+        KeyKind::Unicode => insert_field::<false>(left, room, start, end),
+        KeyKind::Transform => insert_field::<true>(left, room, start, end),
+    }
 }
 
-// Stores a field behind what is stored: its key, and its value without `true`.
+// Stores a field behind what is stored: its key, and its value.
 #[inline(always)]
-fn put_field<'a>(left: Left<'a>, room: &mut [u8], start: usize) -> Option<Stored<'a>>
+fn put_field<'a>(kind: KeyKind, left: Left<'a>, room: &mut [u8], start: usize) -> Option<Stored<'a>>
     requires left { IsLeft left }
-    requires key { IsWord UnicodeKey (piece_of left) }
+    requires key { IsWord (key_kind kind) (piece_of left) }
     requires room { start + 16 ≤ length room.old }
-    ensures { IfSome result (IsFieldStored (take start room.old) (piece_of left.entry)
+    ensures { IfSome result (IsFieldStored kind (take start room.old) (piece_of left.entry)
         (pieces_of left.entry) left.entry.len room.new) }
 {
     let end = put_piece(left, room, start)?;
-    if left.n == left.len {
-        return Some(Stored { end, next: None });
+    if left.n != left.len {
+        return put_value(kind, after_piece(left), room, end);
     }
-    put_values(after_piece(left), room, end)
+    match kind {
+        KeyKind::Unicode => Some(Stored { end, next: None }),
+        KeyKind::Transform => None,
+    }
+}
+
+// Stores a value without `true`; if nothing else is in one of `t`, one `true` stays.
+#[inline(always)]
+fn put_value<'a>(kind: KeyKind, left: Left<'a>, room: &mut [u8], start: usize) -> Option<Stored<'a>>
+    requires left { IsLeft left }
+    requires room { start + 16 ≤ length room.old }
+    ensures { IfSome result
+        (IsValueOf kind (take start room.old) (pieces_of left.entry) left.entry.len room.new) }
+{
+    let stored = put_values(left, room, start)?;
+    match kind {
+        KeyKind::Unicode => Some(stored),
+        KeyKind::Transform => keep_one(left, stored, room, start),
+    }
+}
+
+// Stores `true` if nothing was stored of the value; `None` if it does not begin so.
+#[inline(always)]
+fn keep_one<'a>(
+    left: Left<'a>,
+    stored: Stored<'a>,
+    room: &mut [u8],
+    start: usize,
+) -> Option<Stored<'a>>
+    requires left { IsLeft left }
+    requires room { start + 16 ≤ length room.old }
+    ensures { (t : Text)
+        → IsValueStored t (pieces_of left.entry) left.entry.len room.old stored.entry
+        → length t ≡ start
+        → IfSome result (IsValueOf kinds.Transform t (pieces_of left.entry) left.entry.len room.new) }
+{
+    if stored.end != start {
+        return Some(stored);
+    }
+    if !is_true(left.window, left.n) {
+        return None;
+    }
+    let end = put_piece(left, room, start)?;
+    Some(Stored {
+        end,
+        next: stored.next,
+    })
 }
 
 // Stores pieces of a value without `true`.
@@ -134,22 +227,28 @@ fn put_values<'a>(left: Left<'a>, room: &mut [u8], start: usize) -> Option<Store
 // Stores a field before the first whose key is greater, unless its key is there. The fields begin at
 // `start`.
 #[inline(never)]
-fn insert_field<'a>(left: Left<'a>, room: &mut [u8], start: usize, end: usize) -> Option<Stored<'a>>
+fn insert_field<'a, const OF_T: bool>(
+    left: Left<'a>,
+    room: &mut [u8],
+    start: usize,
+    end: usize,
+) -> Option<Stored<'a>>
     requires left { IsLeft left }
-    requires key { IsWord UnicodeKey (piece_of left) }
+    requires key { IsWord (key_kind (kind_of OF_T)) (piece_of left) }
     requires room { end + 16 ≤ length room.old }
     requires start { start ≤ end }
-    ensures { (t : Text) (fs : Fields) → AreFieldsStored room.old start end t fs
-        → IfSome result (IsInserted t fs (piece_of left.entry) (pieces_of left.entry)
-        left.entry.len room.new) }
+    ensures { (t : Text) (fs : Fields) → AreFieldsStored (kind_of OF_T) room.old start end t fs
+        → IfSome result (IsInserted (kind_of OF_T) t fs (piece_of left.entry)
+        (pieces_of left.entry) left.entry.len room.new) }
 {
     if start == end {
         return None;
     }
+    let kind = kind_of(OF_T);
     let number = number_of_two(left.window);
-    let place = place_of(left_in(&room[start + 1..], end - start - 1), number)?;
+    let place = place_of(kind, left_in(&room[start + 1..], end - start - 1), number)?;
     if place.is_there {
-        let skipped = put_field(left, room, end)?;
+        let skipped = put_field(kind, left, room, end)?;
         return Some(Stored {
             end,
             next: skipped.next,
@@ -158,7 +257,7 @@ fn insert_field<'a>(left: Left<'a>, room: &mut [u8], start: usize, end: usize) -
     let before = end - place.len - 1;
     let mut later = [0u8; 128];
     let len = put_bytes(&room[before..], place.len + 1, &mut later, 0)?;
-    let stored = put_field(left, room, before)?;
+    let stored = put_field(kind, left, room, before)?;
     let end = put_bytes(&later, len, room, stored.end)?;
     Some(Stored {
         end,
@@ -168,12 +267,12 @@ fn insert_field<'a>(left: Left<'a>, room: &mut [u8], start: usize, end: usize) -
 
 // Where a field with a key of this number belongs among these fields.
 #[inline(always)]
-fn place_of(left: Left<'_>, number: usize) -> Option<Place>
+fn place_of(kind: KeyKind, left: Left<'_>, number: usize) -> Option<Place>
     requires { IsLeft left }
-    ensures { IfSome result (IsPlace number (pieces_of left.entry) left.entry.len) }
+    ensures { IfSome result (IsPlace kind number (pieces_of left.entry) left.entry.len) }
 {
     let mut at = left;
-    'fields: while is_key(at.window, at.n) {
+    'fields: while is_key_of(kind, at.window, at.n) {
         let other = number_of_two(at.window);
         if other >= number {
             return Some(Place {

@@ -1,7 +1,7 @@
 use Rattle.std.proofs.Common.{◌≤◌}
 use Rattle.iloc_spec_grammar.specs.Syntax.{Attribute, IsWord}
 use Rattle.iloc_fronts.specs.Left.{IsLeft, piece_of, pieces_of}
-use Rattle.iloc_blocks.specs.Transform.{AreValuesAs}
+use Rattle.iloc_blocks.specs.Transform.{AreValues, AreValuesAs}
 use Rattle.iloc_blocks.specs.declared.body.Body.{Body}
 use Rattle.iloc_blocks.proofs.transform.past_values.Given as goal
 
@@ -11,7 +11,7 @@ invariant-values l = record {
   left : IsLeft l.at;
   shorter : l.at.len ≤ l.fn.left.len;
   word : IsWord Attribute (piece_of l.at);
-  goes : (w : Body) → AreValuesAs l.at.len (pieces_of l.at) w → AreValuesAs l.fn.left.len (pieces_of l.fn.left) w;
+  goes : (w : Body) → AreValuesAs AreValues l.at.len (pieces_of l.at) w → AreValuesAs AreValues l.fn.left.len (pieces_of l.fn.left) w;
 }
 
 abbrev pub decreases-values : goal.decreases-values

@@ -10,7 +10,7 @@ use Rattle.iloc_fronts.proofs.FrontLemmas.{short_attribute, short_field_key}
 use Rattle.iloc_fronts.proofs.LeftLemmas.{length-piece, last_left, word_left, first_word, no_block_left}
 use Rattle.iloc_blocks.proofs.BodyLemmas.{body_past}
 use Rattle.iloc_fronts.proofs.WordBytes.{window_begins, number_in}
-use Rattle.iloc_blocks.proofs.TransformLemmas.{field_key_begins, field_last, field_more, no_attribute, no_value, no_field, later_fields, value_words}
+use Rattle.iloc_blocks.proofs.TransformLemmas.{field_key_begins, field_last, field_more, no_attribute, no_value, no_field, later_fields}
 use Rattle.iloc_blocks.proofs.transform.read_fields.Goals as goal
 
 pub number_of_two-key-requires-clause-first : goal.number_of_two-key-requires-clause-first
@@ -81,7 +81,7 @@ fields-preserved c =
       goes = λ w h. c.fields.invariant.goes w
           (body_past (AreFields c.number_of_two-key.result) (AreFields c.fields.last) NoFields NoFields at.len l.len (piece_of l ∷ next.2.body) (pieces_of at) (pieces_of l) parts (omega (arith, next.1, c.after_piece-value.ensures.less))
           (λ qs f. field_more c.fields.last (piece_of l) next.2.body key less next.2.is qs (subst (λ (m : ℕ). AreFields m qs) same f))
-          (λ n. subst NoFields (sym parts) (later_fields (piece_of l) next.2.body (pieces_of at) key (value_words next.2.body next.2.is.each) long none n)) w h);
+          (λ n. subst NoFields (sym parts) (later_fields (piece_of l) next.2.body (pieces_of at) key next.2.is.each long none n)) w h);
     }
 
 pub returns : goal.returns

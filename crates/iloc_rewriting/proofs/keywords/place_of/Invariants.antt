@@ -9,7 +9,7 @@ abbrev pub invariant-fields : goal.invariant-fields
 invariant-fields l = record {
   left : IsLeft l.at;
   shorter : l.at.len ≤ l.fn.left.len;
-  goes : (p : Place) → IsPlace l.number (pieces_of l.at) l.at.len p → IsPlace l.fn.number (pieces_of l.fn.left) l.fn.left.len p;
+  goes : (p : Place) → IsPlace l.kind l.number (pieces_of l.at) l.at.len p → IsPlace l.fn.kind l.fn.number (pieces_of l.fn.left) l.fn.left.len p;
 }
 
 abbrev pub decreases-fields : goal.decreases-fields

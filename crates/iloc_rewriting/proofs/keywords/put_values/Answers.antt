@@ -2,7 +2,7 @@ use Rattle.std.proofs.Common.{ℕ, List, sym, ◌∙◌, take, subst, arith}
 use Rattle.iloc_spec_grammar.specs.Syntax.{Attribute, IsWord}
 use Rattle.iloc_fronts.specs.Left.{pieces_of, piece_of}
 use Rattle.iloc_fronts.proofs.FrontLemmas.{short_attribute}
-use Rattle.iloc_fronts.proofs.LeftLemmas.{last_left, word_left}
+use Rattle.iloc_fronts.proofs.LeftLemmas.{first_word, last_left, word_left}
 use Rattle.iloc_rewriting.proofs.StoredLemmas.{IsPieceKept, piece_kept, piece_dropped, value_last, value_more, value_none}
 use Rattle.iloc_rewriting.proofs.keywords.put_values.Goals as goal
 use Rattle.iloc_rewriting.proofs.keywords.put_values.Goals.{then-not-is_true+in_ok-end, else-not-is_true}
@@ -11,7 +11,8 @@ pub returns-then-not-is_attribute : goal.returns-then-not-is_attribute
 returns-then-not-is_attribute c =
     let l = c.values.at in
     let h = c.values.invariant in
-    h.goes c.values.room _ (value_none c.values.room c.values.end l.len l h.more h.left (omega arith))
+    h.goes c.values.room _ (value_none c.values.room c.values.end l.len l h.more h.left
+    (first_word l h.left Attribute short_attribute ∙ sym c.is_attribute.ensures ∙ c.if-not-is_attribute.true) (omega arith))
 
 pub returns-then-at : goal.returns-then-at
 returns-then-at c =

@@ -1,15 +1,15 @@
 use Rattle.std.proofs.Common.{◌+◌, ◌≤◌, length, take}
 use Rattle.iloc_fronts.specs.Left.{IsLeft, pieces_of}
-use Rattle.iloc_rewriting.specs.Rewriting.{AreKeywordsSoFar}
-use Rattle.iloc_rewriting.proofs.keywords.put_keywords.Given as goal
+use Rattle.iloc_rewriting.specs.Rewriting.{AreFieldsSoFar}
+use Rattle.iloc_rewriting.proofs.keywords.put_fields.Given as goal
 
--- the keywords before what is left are stored in order
+-- the fields before what is left are stored in order
 abbrev pub invariant-keys : goal.invariant-keys
 invariant-keys l = record {
   left : IsLeft l.at;
   more : l.end + 16 ≤ length l.room;
   start : l.start ≤ l.end;
-  far : AreKeywordsSoFar (take l.fn.start l.fn.room) (pieces_of l.fn.left) l.start l.end l.last l.room l.at;
+  far : AreFieldsSoFar l.fn.kind (take l.fn.start l.fn.room) (pieces_of l.fn.left) l.start l.end l.last l.room l.at;
 }
 
 abbrev pub decreases-keys : goal.decreases-keys
