@@ -1,5 +1,5 @@
 -- Lines that are brought into order.
-use Rattle.std.specs.Prelude.{◌≡◌, ⊤, ℕ, ◌+◌, ◌<◌, ◌≤◌, IsTrue, true, false, List, [], ◌∷◌, ◌++◌, length, map, take, Option, Some, None}
+use Rattle.std.specs.Prelude.{◌≡◌, ⊤, ℕ, ◌+◌, ◌<◌, ◌≤◌, IsTrue, Bool, true, false, List, [], ◌∷◌, ◌++◌, length, map, take, Option, Some, None}
 use Rattle.std.specs.List.{AllByRecursion}
 use Rattle.std.specs.FinMap.{find}
 use Rattle.iloc_spec_grammar.specs.Syntax.{Text, Field, Fields, Kind, UnicodeKey, TransformKey, Attribute, is_word, IsWord, IsKeyword, IsField, word_cmp, first_piece, lower, dashes, join, fields_pieces, languages}
@@ -29,6 +29,11 @@ IsShorter len None = ⊤
 IsShorter len (Some l) = IsLeft l × (l.len < len)
 
 -- Fields.
+
+-- fields of `t`, or of `u`
+abbrev pub kind_of : Bool → KeyKind
+kind_of true = kind.Transform
+kind_of false = kind.Unicode
 
 -- the keys of fields of `u`, or of `t`
 abbrev pub key_kind : KeyKind → Kind
@@ -71,10 +76,6 @@ pub record IsValueOf (k : KeyKind) (text : Text) (ps : List Text) (len : ℕ) (r
   pub enough : least k ≤ length kept
   pub stored : AreStored room (text ++ dashes kept) s.end
   pub left : IsRest len s.next
-
--- so is one of a field of `t`
-abbrev pub IsTransformValue : Text → List Text → ℕ → Text → Stored → Type 0
-IsTransformValue = IsValueOf kind.Transform
 
 -- the key has these values, and those that are kept mean the same
 pub record IsFieldKept (k : KeyKind) (key : Text) (values kept : List Text) : Type 0 where

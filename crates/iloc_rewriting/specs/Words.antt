@@ -1,5 +1,5 @@
 -- Words that are brought into order: attributes, or variants.
-use Rattle.std.specs.Prelude.{◌≡◌, ⊤, ℕ, ◌+◌, ◌≤◌, true, List, [], ◌∷◌, ◌++◌, length, map, take, Option, Some, None}
+use Rattle.std.specs.Prelude.{◌≡◌, ⊤, ℕ, ◌+◌, ◌≤◌, Bool, true, false, List, [], ◌∷◌, ◌++◌, length, map, take, Option, Some, None}
 use Rattle.std.specs.List.{AllByRecursion}
 use Rattle.iloc_spec_grammar.specs.Syntax.{Text, Kind, Attribute, Variant, IsWord, Identifier, lower, pieces, dashes, join, languages}
 use Rattle.iloc_spec_grammar.specs.Meaning.{IdentifierMeans, set_of}
@@ -14,6 +14,11 @@ use Rattle.iloc_rewriting.specs.declared.keywords.Stored.{Stored}
 use Rattle.iloc_rewriting.specs.declared.keywords.Place.{Place}
 use Rattle.iloc_rewriting.specs.declared.words.WordKind.{WordKind}
 use Rattle.iloc_rewriting.specs.declared.words.WordKind.TheVariants as kind
+
+-- variants, or attributes
+abbrev pub words_of : Bool → WordKind
+words_of true = kind.Variant
+words_of false = kind.Attribute
 
 -- the words
 abbrev pub word_kind : WordKind → Kind

@@ -10,7 +10,7 @@ use crate::keywords::{KeyKind, Stored, put_fields};
 use crate::others::put_other;
 use iloc_fronts::left::Left;
 
-// Stores what follows this singleton. None is a letter or digit else.
+// Stores what follows this singleton; `None` if it is no letter or digit.
 #[inline(always)]
 pub(crate) fn put_block<'a>(
     singleton: u8,

@@ -2,6 +2,7 @@
 ghost use Rattle.std.specs.Prelude.{◌≡◌, ◌+◌, ◌≤◌, IfSome, length, take};
 ghost use Rattle.iloc_spec_grammar.specs.Syntax.{Fields, IsWord, Text, is_word};
 ghost use Rattle.iloc_fronts.specs.Left.{IsLeft, piece_of, pieces_of};
+ghost use Rattle.iloc_rewriting.specs.declared.keywords.KeyKind.TheVariants as kinds;
 ghost use Rattle.iloc_rewriting.specs.Rewriting.{
   AreFieldsInOrder,
   AreFieldsStored,
@@ -9,10 +10,10 @@ ghost use Rattle.iloc_rewriting.specs.Rewriting.{
   IsFieldStored,
   IsInserted,
   IsPlace,
-  IsTransformValue,
   IsValueOf,
   IsValueStored,
   key_kind,
+  kind_of,
 };
 
 use crate::storing::{put_bytes, put_piece};
@@ -28,6 +29,17 @@ pub(crate) enum KeyKind {
     Unicode,
     // Those of `t`. A value has one piece at least.
     Transform,
+}
+
+// Those of `t`, or of `u`.
+#[inline(always)]
+fn kind_of(of_t: bool) -> KeyKind
+    ensures { result ≡ kind_of of_t }
+{
+    if of_t {
+        return KeyKind::Transform;
+    }
+    KeyKind::Unicode
 }
 
 // What was stored of a line.
@@ -117,7 +129,10 @@ fn put_among<'a>(
     if number_of_two(left.window) > last {
         return put_field(kind, left, room, end);
     }
-    insert_field(kind, left, room, start, end)
+    match kind {
+        KeyKind::Unicode => insert_field::<false>(left, room, start, end),
+        KeyKind::Transform => insert_field::<true>(left, room, start, end),
+    }
 }
 
 // Stores a field behind what is stored: its key, and its value.
@@ -167,7 +182,7 @@ fn keep_one<'a>(
     ensures { (t : Text)
         → IsValueStored t (pieces_of left.entry) left.entry.len room.old stored.entry
         → length t ≡ start
-        → IfSome result (IsTransformValue t (pieces_of left.entry) left.entry.len room.new) }
+        → IfSome result (IsValueOf kinds.Transform t (pieces_of left.entry) left.entry.len room.new) }
 {
     if stored.end != start {
         return Some(stored);
@@ -212,24 +227,24 @@ fn put_values<'a>(left: Left<'a>, room: &mut [u8], start: usize) -> Option<Store
 // Stores a field before the first whose key is greater, unless its key is there. The fields begin at
 // `start`.
 #[inline(never)]
-fn insert_field<'a>(
-    kind: KeyKind,
+fn insert_field<'a, const OF_T: bool>(
     left: Left<'a>,
     room: &mut [u8],
     start: usize,
     end: usize,
 ) -> Option<Stored<'a>>
     requires left { IsLeft left }
-    requires key { IsWord (key_kind kind) (piece_of left) }
+    requires key { IsWord (key_kind (kind_of OF_T)) (piece_of left) }
     requires room { end + 16 ≤ length room.old }
     requires start { start ≤ end }
-    ensures { (t : Text) (fs : Fields) → AreFieldsStored kind room.old start end t fs
-        → IfSome result (IsInserted kind t fs (piece_of left.entry) (pieces_of left.entry)
-        left.entry.len room.new) }
+    ensures { (t : Text) (fs : Fields) → AreFieldsStored (kind_of OF_T) room.old start end t fs
+        → IfSome result (IsInserted (kind_of OF_T) t fs (piece_of left.entry)
+        (pieces_of left.entry) left.entry.len room.new) }
 {
     if start == end {
         return None;
     }
+    let kind = kind_of(OF_T);
     let number = number_of_two(left.window);
     let place = place_of(kind, left_in(&room[start + 1..], end - start - 1), number)?;
     if place.is_there {

@@ -9,6 +9,7 @@ ghost use Rattle.iloc_rewriting.specs.Words.{
   IsWordStored,
   number_by,
   word_kind,
+  words_of,
 };
 
 use crate::attributes::are_one;
@@ -103,11 +104,43 @@ fn put_word(
     if number_of(kind, left) > last {
         return put_piece(left, room, end);
     }
-    insert_word(kind, left, room, start, end)
+    match kind {
+        WordKind::Attribute => insert_among::<false>(left, room, start, end),
+        WordKind::Variant => insert_among::<true>(left, room, start, end),
+    }
+}
+
+// Variants, or attributes.
+#[inline(always)]
+fn words_of(variants: bool) -> WordKind
+    ensures { result ≡ words_of variants }
+{
+    if variants {
+        return WordKind::Variant;
+    }
+    WordKind::Attribute
+}
+
+// Stores a variant, or an attribute, before the first that is greater.
+#[inline(never)]
+fn insert_among<const VARIANTS: bool>(
+    left: Left<'_>,
+    room: &mut [u8],
+    start: usize,
+    end: usize,
+) -> Option<usize>
+    requires left { IsLeft left }
+    requires word { IsWord (word_kind (words_of VARIANTS)) (piece_of left) }
+    requires room { end + 16 ≤ length room.old }
+    requires start { start ≤ end }
+    ensures { (t : Text) (ws : List Text) → AreWordsHeld (words_of VARIANTS) room.old start end t ws
+        → IfSome result (IsWordStored (words_of VARIANTS) t ws (piece_of left.entry) room.new) }
+{
+    insert_word(words_of(VARIANTS), left, room, start, end)
 }
 
 // Stores a word before the first that is greater. An attribute that is there is passed over.
-#[inline(never)]
+#[inline(always)]
 fn insert_word(
     kind: WordKind,
     left: Left<'_>,
