@@ -1,6 +1,25 @@
 //! Tells what follows the singleton `t`.
-ghost use Rattle.std.specs.Prelude.{◌≡◌, ◌↔◌, ◌<◌, ◌≤◌, ◌&&◌, IsTrue, true, false, cond, length, take};
-ghost use Rattle.iloc_spec_grammar.specs.Syntax.{Attribute, IsWord, Language, is_true, languages, lower};
+ghost use Rattle.std.specs.Prelude.{
+  ◌≡◌,
+  ◌↔◌,
+  ◌<◌,
+  ◌≤◌,
+  ◌&&◌,
+  IsTrue,
+  true,
+  false,
+  cond,
+  length,
+  take,
+};
+ghost use Rattle.iloc_spec_grammar.specs.Syntax.{
+  Attribute,
+  IsWord,
+  Language,
+  is_true,
+  languages,
+  lower,
+};
 ghost use Rattle.iloc_spec_grammar.specs.Reading.{after_region, rest_of};
 ghost use Rattle.iloc_fronts.specs.Left.{IsLeft, piece_of, pieces_of};
 ghost use Rattle.iloc_blocks.specs.Blocks.{IsBodyAs, left_of};
