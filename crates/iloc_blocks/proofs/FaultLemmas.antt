@@ -16,7 +16,7 @@ use Rattle.iloc_spec_grammar.proofs.RawLaws.{languages_table}
 use Rattle.iloc_spec_grammar.proofs.Readings.{IsLong, long_extension, not_two, two, pieces-unicode_of}
 use Rattle.iloc_spec_grammar.proofs.Singletons.{untied, self_tied}
 use Rattle.iloc_spec_grammar.proofs.WordsLaws.{length-attribute, length-unicode_key, length-variant, word_letters_or_digits}
-use Rattle.iloc_fronts.specs.Left.{pieces_of, IsLeft}
+use Rattle.iloc_fronts.specs.Left.{pieces_of, piece_of, IsLeft}
 use Rattle.iloc_blocks.specs.Blocks.{IsBodyAs, IsNoUnicode, IsNoOther, IsPrivateAs}
 use Rattle.iloc_blocks.specs.Transform.{IsNoTransform, IsTransformPart}
 use Rattle.iloc_blocks.specs.Faults.{HaveOthers, ArePastVariants, HaveBad, IsUnseen, AreMarked, IsPassedAs, AreUnicodeWords, AreUnicode, AreUnicodeAt}
@@ -79,6 +79,13 @@ others_more n p ps differs h [] rest e each = tt
 others_more n p ps differs h (v ∷ vs) rest e each =
     let first : p ≡ v = ap first_piece e in
     (λ same. differs (ap four_number first ∙ same), h vs rest (ap rest_of e) each.1)
+
+-- the other way round
+pub others_later : (n : ℕ) (p : List ℕ) (ps : List (List ℕ)) → IsWord Variant p → HaveOthers n (p ∷ ps) → HaveOthers n ps
+others_later n p ps v h vs rest e each = (h (p ∷ vs) rest (ap (λ qs. p ∷ qs) e) (v, each)).1
+
+pub others_differ : (n : ℕ) (p : List ℕ) (ps : List (List ℕ)) → IsWord Variant p → HaveOthers n (p ∷ ps) → four_number p ≢ n
+others_differ n p ps v h = (h (p ∷ []) ps refl (v, tt)).0
 
 pub no_variant : is_word Variant [] ≡ false
 unfolding is_word
@@ -242,11 +249,14 @@ module _ (c len : ℕ) (ps : List (List ℕ)) (letter : is_ascii_alphanumeric c 
 
 -- ---- singletons
 
--- what is left begins with a piece of one byte
-pub begins_with : (l : Left) → IsLeft l → l.n ≡ 1 → pieces_of l ≡ (get_or l.window.now 0 0 ∷ []) ∷ rest_of (pieces_of l)
-begins_with l h one =
+-- what is left begins with a short piece, and with one of one byte
+pub begins_short : (l : Left) → IsLeft l → l.n < 16 → pieces_of l ≡ piece_of l ∷ rest_of (pieces_of l)
+begins_short l h few =
     at_pieces (λ ps. ps ≡ first_piece ps ∷ rest_of ps) (λ p ps. refl) (take l.len l.window.now)
-    ∙ ap (λ p. p ∷ rest_of (pieces_of l)) (first_left l h (omega arith) ∙ byte_left l h one)
+    ∙ ap (λ p. p ∷ rest_of (pieces_of l)) (first_left l h few)
+
+pub begins_with : (l : Left) → IsLeft l → l.n ≡ 1 → pieces_of l ≡ (get_or l.window.now 0 0 ∷ []) ∷ rest_of (pieces_of l)
+begins_with l h one = begins_short l h (omega arith) ∙ ap (λ p. p ∷ rest_of (pieces_of l)) (byte_left l h one)
 
 pub letter_small : (c : ℕ) → is_ascii_alphanumeric c ≡ true → c < 128
 letter_small c h = grind (arith, nat_tests)

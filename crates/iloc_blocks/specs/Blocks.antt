@@ -77,7 +77,7 @@ pub record IsCutAs (P : List Text → Type 0) (ps left : List Text) : Type 0 whe
   pub cut : ps ≡ body ++ left
   pub is : P body
 
--- the pieces of so many bytes are such a body, up to what is left of them; or this is wrong with them
+-- the pieces of so many bytes are such a body, up to what is left; or this is wrong with them
 abbrev pub IsBodyAs : (List Text → Type 0) → (List Text → Type 0) → ℕ → List Text → Body → Type 0
 IsBodyAs P B len ps body.End = P ps
 IsBodyAs P B len ps (body.Next l) = IsLeft l × (l.len ≤ len) × IsCutAs P ps (pieces_of l)

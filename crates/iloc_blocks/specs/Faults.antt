@@ -45,11 +45,13 @@ IsUnseen c seen = list_any (eq_by_cmp nat_cmp (to_ascii_lowercase c)) seen ≡ f
 abbrev pub AreMarked : List Bool → Text → Type 0
 AreMarked marks seen = (s : ℕ) → list_any (eq_by_cmp nat_cmp s) seen ≡ get_or marks s false
 
--- the first block has the singleton c, which is new: what is bad after it is the first that is bad, or it is bad
+-- the first block has the singleton c, which is new: it is bad, or what is bad after it is the first
 abbrev pub IsPassedAs : ℕ → ℕ → List Text → Body → Type 0
-IsPassedAs c len ps (body.Next l) = IsLeft l × (l.len ≤ len) × ((seen : Text) (b : BadBlock) → IsUnseen c seen
+IsPassedAs c len ps (body.Next l) = IsLeft l × (l.len ≤ len)
+    × ((seen : Text) (b : BadBlock) → IsUnseen c seen
     → HaveBad (to_ascii_lowercase c ∷ seen) (pieces_of l) b → HaveBad seen ((c ∷ []) ∷ ps) b)
-IsPassedAs c len ps body.Bad = (seen : Text) → IsUnseen c seen → HaveBad seen ((c ∷ []) ∷ ps) bad.Misfit
+IsPassedAs c len ps body.Bad = (seen : Text) → IsUnseen c seen
+    → HaveBad seen ((c ∷ []) ∷ ps) bad.Misfit
 IsPassedAs c len ps body.End = ⊤
 IsPassedAs c len ps body.Unordered = ⊤
 IsPassedAs c len ps body.Other = ⊤

@@ -1,5 +1,5 @@
 //! Tells the first bad block, whatever the order of what comes before it.
-ghost use Rattle.std.specs.Prelude.{◌≡◌, ℕ, ◌+◌, ◌≤◌, IsTrue, IfSome, [], length, take, true};
+ghost use Rattle.std.specs.Prelude.{◌≡◌, ◌↔◌, ℕ, ◌+◌, ◌≤◌, IsTrue, IfSome, [], length, take, true};
 ghost use Rattle.std.specs.Char.{is_ascii_alphanumeric, to_ascii_lowercase};
 ghost use Rattle.iloc_fronts.specs.Left.{IsLeft, pieces_of};
 ghost use Rattle.iloc_blocks.specs.Blocks.{IsBodyAs, IsNoUnicode};
@@ -61,7 +61,7 @@ fn past_variants(left: Left<'_>) -> Option<Left<'_>>
 #[inline(always)]
 fn differ_from(number: usize, left: Left<'_>) -> bool
     requires { IsLeft left }
-    ensures { IsTrue result → HaveOthers number (pieces_of left.entry) }
+    ensures { IsTrue result ↔ HaveOthers number (pieces_of left.entry) }
 {
     let mut at = left;
     'variants: while is_variant(at.window, at.n) {

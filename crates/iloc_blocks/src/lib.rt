@@ -5,7 +5,7 @@
 //! order, and one of `x` (`IsVaried`, `IsOrdered`). `read_variants` tells the same of an identifier with several variants
 //! (`IsOrderedIdentifier`). The normal text is then the line itself but for the case of
 //! letters. If a bad block comes first, or after blocks in order, `read_ordered` tells that: the text has the fault of
-//! the grammar.
+//! the grammar. A block that is not in order is read to its end, and may be bad too.
 //!
 //! Of blocks in any order `find_bad_block` tells the first that is bad (`HasBadBlock`).
 //!

@@ -30,8 +30,8 @@ pub enum Reading<'a> {
     Ordered(Ordered<'a>),
     /// An identifier, perhaps blocks in order, and then a bad one.
     BadBlock(BadBlock),
-    /// Not in order: in a block that is good, or since a block has a lesser singleton than the one before it.
-    /// `rewrite` may bring it into order. Nothing is claimed of it.
+    /// Not in order: a good block is not, or one has a lesser singleton than the block before it. `rewrite` may bring
+    /// it into order. Nothing is claimed of it.
     Unordered,
     /// Nothing that is told.
     Other,

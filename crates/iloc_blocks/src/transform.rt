@@ -1,6 +1,25 @@
 //! Tells what follows the singleton `t`.
-ghost use Rattle.std.specs.Prelude.{◌≡◌, ◌↔◌, ◌<◌, ◌≤◌, ◌&&◌, IsTrue, true, false, cond, length, take};
-ghost use Rattle.iloc_spec_grammar.specs.Syntax.{Attribute, IsWord, Language, is_true, languages, lower};
+ghost use Rattle.std.specs.Prelude.{
+  ◌≡◌,
+  ◌↔◌,
+  ◌<◌,
+  ◌≤◌,
+  ◌&&◌,
+  IsTrue,
+  true,
+  false,
+  cond,
+  length,
+  take,
+};
+ghost use Rattle.iloc_spec_grammar.specs.Syntax.{
+  Attribute,
+  IsWord,
+  Language,
+  is_true,
+  languages,
+  lower,
+};
 ghost use Rattle.iloc_spec_grammar.specs.Reading.{after_region, rest_of};
 ghost use Rattle.iloc_fronts.specs.Left.{IsLeft, piece_of, pieces_of};
 ghost use Rattle.iloc_blocks.specs.Blocks.{IsBodyAs, left_of};
@@ -98,43 +117,9 @@ fn past_one(fits: bool, left: Left<'_>) -> Option<Left<'_>>
     Some(after_piece(left))
 }
 
-// What the fields are, one at least.
-#[inline(always)]
+// What the fields are, one at least. From the first that is not in order on, if order is asked, they are read without it.
+#[inline(never)]
 fn read_fields(ordered: bool, left: Left<'_>) -> Body<'_>
-    requires { IsLeft left }
-    ensures { IsBodyAs (AreFields ordered 0) NoFields left.entry.len
-        (pieces_of left.entry) result }
-{
-    if ordered {
-        return read_ordered_fields(left);
-    }
-    past_fields(left)
-}
-
-// What they are in order. If they are not, the rest of the block is read as well.
-#[inline(never)]
-fn read_ordered_fields(left: Left<'_>) -> Body<'_>
-    requires { IsLeft left }
-    ensures { IsBodyAs (AreFields true 0) NoFields left.entry.len (pieces_of left.entry) result }
-{
-    match walk_fields(true, left) {
-        Body::Unordered => unordered(past_fields(left)),
-        told => told,
-    }
-}
-
-// What they are in any order.
-#[inline(never)]
-fn past_fields(left: Left<'_>) -> Body<'_>
-    requires { IsLeft left }
-    ensures { IsBodyAs (AreFields false 0) NoFields left.entry.len (pieces_of left.entry) result }
-{
-    walk_fields(false, left)
-}
-
-// What they are, up to the first that is not in order, if that is asked.
-#[inline(always)]
-fn walk_fields(ordered: bool, left: Left<'_>) -> Body<'_>
     requires { IsLeft left }
     ensures { IsBodyAs (AreFields ordered 0) NoFields left.entry.len
         (pieces_of left.entry) result }
@@ -144,7 +129,7 @@ fn walk_fields(ordered: bool, left: Left<'_>) -> Body<'_>
     'fields: while is_field_key(at.window, at.n) {
         let key = number_of_two(at.window);
         if !may_follow(ordered, key, last) {
-            return Body::Unordered;
+            return unordered(read_fields(false, at));
         }
         if at.n == at.len {
             return Body::Bad;
@@ -162,7 +147,8 @@ fn walk_fields(ordered: bool, left: Left<'_>) -> Body<'_>
                 at = next;
             }
             Body::End => return Body::End,
-            _ => return Body::Unordered,
+            Body::Unordered => return unordered(read_fields(false, at)),
+            Body::Bad | Body::Other => return Body::Other,
         }
     }
     Body::Bad
@@ -173,27 +159,27 @@ fn walk_fields(ordered: bool, left: Left<'_>) -> Body<'_>
 fn may_follow(ordered: bool, key: usize, last: usize) -> bool
     ensures { IsTrue result ↔ (ordered ≡ true → last < key) }
 {
-    !ordered || key > last
+    key > last || !ordered
 }
 
-// What the pieces of a value are, of which the first is a word. In order are words other than `true`, and `true` alone.
+// What the pieces of a value are, of which the first is a word. In order are words other than `true`, and one word.
 #[inline(always)]
 fn past_value(ordered: bool, left: Left<'_>) -> Body<'_>
     requires left { IsLeft left }
     requires first { IsWord Attribute (piece_of left) }
-    ensures { AreValuesAs (IsFieldValue ordered) left.entry.len (pieces_of left.entry) result }
+    ensures { AreValuesAs IsFieldValue ordered left.entry.len (pieces_of left.entry) result }
 {
-    if !is_unordered(ordered, left.window, left.n) {
-        return past_values(ordered, left);
-    }
     if left.n == left.len {
         return Body::End;
     }
     let next = after_piece(left);
-    if is_attribute(next.window, next.n) {
+    if !is_attribute(next.window, next.n) {
+        return Body::Next(next);
+    }
+    if is_unordered(ordered, left.window, left.n) {
         return Body::Unordered;
     }
-    Body::Next(next)
+    past_values(ordered, next)
 }
 
 // What they are, if none is `true` where order is asked.
@@ -201,7 +187,7 @@ fn past_value(ordered: bool, left: Left<'_>) -> Body<'_>
 fn past_values(ordered: bool, left: Left<'_>) -> Body<'_>
     requires left { IsLeft left }
     requires first { IsWord Attribute (piece_of left) }
-    ensures { AreValuesAs (AreValues ordered) left.entry.len (pieces_of left.entry) result }
+    ensures { AreValuesAs AreValues ordered left.entry.len (pieces_of left.entry) result }
 {
     let mut at = left;
     'values: loop {
@@ -223,7 +209,7 @@ fn past_values(ordered: bool, left: Left<'_>) -> Body<'_>
 fn is_unordered(ordered: bool, window: &[u8], n: usize) -> bool
     requires wide { 16 ≤ length window.now }
     requires few { n ≤ 16 }
-    ensures { result ≡ ordered && is_true (lower (take n window.now)) }
+    ensures { result ≡ is_true (lower (take n window.now)) && ordered }
 {
-    ordered && is_true(window, n)
+    is_true(window, n) && ordered
 }

@@ -15,4 +15,4 @@ pub returns : goal.returns
 returns c =
     let l = c.args.left in
     let s = c.args.kind in
-    among_here (piece_of c.args.word) l c.requires.left (word_left l c.requires.left (word_kind s) (short_word s) c.requires.first) true (λ t. c.are_one.ensures c.if-not-are_one.false)
+    among_here (piece_of c.args.word) l c.requires.left (word_left l c.requires.left (word_kind s) (short_word s) c.requires.first) true (λ t. c.are_one.ensures.0 c.if-not-are_one.false)

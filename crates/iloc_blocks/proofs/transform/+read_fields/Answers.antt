@@ -1,36 +1,39 @@
-use Rattle.std.proofs.Common.{◌≡◌, ◌<◌, ◌≤◌, ℕ, true, false, [], ◌∷◌, ◌++◌, subst, sym, ap, ◌∙◌, arith}
+use Rattle.std.proofs.Common.{◌≡◌, ◌<◌, ◌≤◌, ℕ, Bool, true, false, [], ◌∷◌, ◌++◌, subst, sym, ap, ◌∙◌, arith}
 use Rattle.iloc_spec_grammar.specs.Syntax.{Attribute, TransformKey, is_word, IsWord, first_piece}
 use Rattle.iloc_spec_grammar.specs.Reading.{starts_block}
 use Rattle.iloc_spec_grammar.proofs.WordsLaws.{length-transform_key}
 use Rattle.iloc_fronts.specs.Left.{piece_of, pieces_of}
 use Rattle.iloc_fronts.specs.Words.{two_number}
+use Rattle.iloc_fronts.specs.declared.left.Left.{Left}
+use Rattle.iloc_blocks.specs.declared.body.Body.{Body}
+use Rattle.iloc_blocks.specs.Blocks.{IsBodyAs, IsUnorderedAs}
 use Rattle.iloc_blocks.specs.Transform.{AreFields, NoFields}
 use Rattle.iloc_blocks.specs.declared.body.Body.TheVariants as body
 use Rattle.iloc_fronts.proofs.FrontLemmas.{short_attribute, short_field_key}
 use Rattle.iloc_fronts.proofs.LeftLemmas.{length-piece, last_left, word_left, first_word, no_block_left}
-use Rattle.iloc_blocks.proofs.BodyLemmas.{body_past}
+use Rattle.iloc_blocks.proofs.BodyLemmas.{bad_body, body_past, unordered_body}
 use Rattle.iloc_fronts.proofs.WordBytes.{window_begins, number_in}
 use Rattle.iloc_blocks.proofs.TransformLemmas.{field_key_begins, field_last, field_more, no_attribute, no_value, no_field, later_fields}
-use Rattle.iloc_blocks.proofs.transform.walk_fields.Goals as goal
+use Rattle.iloc_blocks.proofs.transform.+read_fields.Goals as goal
 
 pub number_of_two-key-requires-clause-first : goal.number_of_two-key-requires-clause-first
-number_of_two-key-requires-clause-first c =
+number_of_two-key-requires-clause-first t c =
     let l = c.fields.at in
     (window_begins l.window.now l.n (omega (arith, c.fields.invariant.left.room, c.fields.invariant.left.first.few)) (field_key_begins _ (sym c.is_field_key.ensures ∙ c.fields-test.true))).0
 
 pub number_of_two-key-requires-clause-second : goal.number_of_two-key-requires-clause-second
-number_of_two-key-requires-clause-second c =
+number_of_two-key-requires-clause-second t c =
     let l = c.fields.at in
     (window_begins l.window.now l.n (omega (arith, c.fields.invariant.left.room, c.fields.invariant.left.first.few)) (field_key_begins _ (sym c.is_field_key.ensures ∙ c.fields-test.true))).1
 
 pub returns-then-at : goal.returns-then-at
-returns-then-at c =
+returns-then-at t c =
     let l = c.fields.at in
     let key : IsWord TransformKey (piece_of l) = sym c.is_field_key.ensures ∙ c.fields-test.true in
     c.fields.invariant.goes body.Bad (subst NoFields (sym (last_left l c.fields.invariant.left (word_left l c.fields.invariant.left TransformKey short_field_key key) c.if-at.true)) (no_value (piece_of l) [] key no_attribute))
 
 pub returns-then-not-is_attribute : goal.returns-then-not-is_attribute
-returns-then-not-is_attribute c =
+returns-then-not-is_attribute t c =
     let l = c.fields.at in
     let value = c.after_piece-value.result in
     let key : IsWord TransformKey (piece_of l) = sym c.is_field_key.ensures ∙ c.fields-test.true in
@@ -38,7 +41,7 @@ returns-then-not-is_attribute c =
     (no_value (piece_of l) (pieces_of value) key (first_word value c.after_piece-value.ensures.left Attribute short_attribute ∙ sym c.is_attribute.ensures ∙ c.if-not-is_attribute.true)))
 
 pub returns-in-End : goal.returns-in-End
-returns-in-End c =
+returns-in-End t c =
     let l = c.fields.at in
     let key : IsWord TransformKey (piece_of l) = sym c.is_field_key.ensures ∙ c.fields-test.true in
     let two : 2 ≤ l.n = omega (arith, length-transform_key (piece_of l) key, length-piece l c.fields.invariant.left) in
@@ -47,7 +50,7 @@ returns-in-End c =
     (field_last c.args.ordered c.fields.last (piece_of l) (pieces_of c.after_piece-value.result) key less c.in-End.ensures))
 
 pub returns-then-next-eq1 : goal.returns-then-next-eq1
-returns-then-next-eq1 c =
+returns-then-next-eq1 t c =
     let l = c.fields.at in
     let key : IsWord TransformKey (piece_of l) = sym c.is_field_key.ensures ∙ c.fields-test.true in
     let two : 2 ≤ l.n = omega (arith, length-transform_key (piece_of l) key, length-piece l c.fields.invariant.left) in
@@ -64,7 +67,7 @@ returns-then-next-eq1 c =
     )
 
 pub fields-preserved : goal.fields-preserved
-fields-preserved c =
+fields-preserved t c =
     let l = c.fields.at in
     let at = c.in-Next.next in
     let key : IsWord TransformKey (piece_of l) = sym c.is_field_key.ensures ∙ c.fields-test.true in
@@ -85,6 +88,16 @@ fields-preserved c =
     }
 
 pub returns : goal.returns
-returns c =
+returns t c =
     let l = c.fields.at in
     c.fields.invariant.goes body.Bad (no_field (pieces_of l) (first_word l c.fields.invariant.left TransformKey short_field_key ∙ sym c.is_field_key.ensures ∙ c.fields-test.false))
+
+-- what is told of fields that are not in order
+unordered_fields : (ordered : Bool) (last : ℕ) (l : Left) (v w : Body) → IsUnorderedAs v w → IsBodyAs (AreFields false 0) NoFields l.len (pieces_of l) v → IsBodyAs (AreFields ordered last) NoFields l.len (pieces_of l) w
+unordered_fields ordered last l v w e h = bad_body (AreFields ordered last) NoFields l.len (pieces_of l) w (unordered_body (AreFields false 0) NoFields l.len (pieces_of l) v w e h)
+
+pub returns-then-not-may_follow : goal.returns-then-not-may_follow
+returns-then-not-may_follow t c = c.fields.invariant.goes c.unordered.result (unordered_fields c.args.ordered c.fields.last c.fields.at c.read_fields.result c.unordered.result c.unordered.ensures c.read_fields.ensures)
+
+pub returns-in-Unordered : goal.returns-in-Unordered
+returns-in-Unordered t c = c.fields.invariant.goes c.unordered-in-Unordered.result (unordered_fields c.args.ordered c.fields.last c.fields.at c.read_fields-in-Unordered.result c.unordered-in-Unordered.result c.unordered-in-Unordered.ensures c.read_fields-in-Unordered.ensures)

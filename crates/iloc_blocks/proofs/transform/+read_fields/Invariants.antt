@@ -1,9 +1,13 @@
-use Rattle.std.proofs.Common.{◌≤◌}
+use Rattle.std.proofs.Common.{◌≤◌, cond}
 use Rattle.iloc_fronts.specs.Left.{IsLeft, pieces_of}
 use Rattle.iloc_blocks.specs.Blocks.{IsBodyAs}
 use Rattle.iloc_blocks.specs.Transform.{AreFields, NoFields}
 use Rattle.iloc_blocks.specs.declared.body.Body.{Body}
-use Rattle.iloc_blocks.proofs.transform.walk_fields.Given as goal
+use Rattle.iloc_blocks.proofs.transform.+read_fields.Given as goal
+
+-- fields of which no order is asked ask for no others
+abbrev pub decreases-read_fields : goal.decreases-read_fields
+decreases-read_fields l = cond l.ordered 1 0
 
 -- what is told of the fields that are left is told of all
 abbrev pub invariant-fields : goal.invariant-fields
