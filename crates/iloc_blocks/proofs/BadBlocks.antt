@@ -1,19 +1,23 @@
 -- From what is told of the pieces of blocks to the fault of the line.
-use Rattle.std.proofs.Common.{◌≡◌, ◌≢◌, ◌⊎◌, inl, inr, ℕ, ◌+◌, ◌-◌, ◌<◌, ◌≤◌, ◌==◌, ◌||◌, true, false, cond, List, [], ◌∷◌, ◌++◌, length, Option, Some, None, option_to_list, refl, sym, ap, ◌∙◌, subst, arith, append_assoc, append-nil, true≢false, take, drop}
+use Rattle.std.proofs.Common.{◌≡◌, ◌≢◌, ◌⊎◌, inl, inr, ℕ, ◌+◌, ◌-◌, ◌<◌, ◌≤◌, ◌==◌, ◌||◌, Bool, true, false, cond, List, [], ◌∷◌, ◌++◌, length, Option, Some, None, option_to_list, refl, sym, ap, ◌∙◌, subst, arith, append_assoc, append-nil, true≢false, take, drop}
 use Rattle.std.specs.List.{AllByRecursion, list_all, list_any, onto_first}
 use Rattle.std.specs.Char.{is_ascii_alphanumeric, to_ascii_lowercase}
 use Rattle.std.specs.Ordering.{nat_cmp, eq_by_cmp}
 use Rattle.std.proofs.lemmas.Bool.{cases_Bool, cases_lt}
 use Rattle.std.proofs.lemmas.Bool.Decides.{nat_tests}
 use Rattle.iloc_spec_grammar.specs.Syntax.{pieces, Variant, UnicodeKey, Attribute, PrivateSubtag, is_word, IsWord, languages, Identifier, Fields, Unicode, Transform, Extension, unicode, transform, other, identifier_pieces, fields_pieces, unicode_pieces, transform_pieces, extension_pieces, optional_pieces, IsIdentifier, IsUnicode, IsTransform, IsOther, IsPrivate, IsExtension, is_other_singleton, front, blocks, head, tail_blocks}
-use Rattle.iloc_spec_grammar.specs.Meaning.{Fault, InvalidExtension, RepeatsVariant, IsBlock, BlockFault, no_singleton, breaks_rule, FirstBadBlock, here, later, HasFault, bad_block}
+use Rattle.iloc_spec_grammar.specs.Meaning.{Fault, InvalidExtension, RepeatsVariant, IsBlock, BlockFault, no_singleton, breaks_rule, duplicated, FirstBadBlock, here, later, HasFault, bad_block}
 use Rattle.iloc_spec_grammar.proofs.PiecesLaws.{at_pieces}
 use Rattle.iloc_spec_grammar.proofs.ReadBack.{all_append, fields_each}
 use Rattle.iloc_spec_grammar.proofs.ValuesLaws.{all_weaker}
 use Rattle.iloc_spec_grammar.proofs.Readings.{IsLong, after_language, long_after_language}
-use Rattle.iloc_spec_grammar.proofs.Singletons.{no_t, no_u, no_x, untied}
+use Rattle.iloc_spec_grammar.proofs.Singletons.{no_t, no_u, no_x, self_tied, untied}
 use Rattle.iloc_plain.specs.Plain.{IsPlain}
 use Rattle.iloc_plain.specs.declared.plain.Plain.{Plain}
+use Rattle.iloc_blocks.specs.Bad.{HasBadBlock}
+use Rattle.iloc_blocks.specs.Bad.{fault_of as told}
+use Rattle.iloc_blocks.specs.declared.bad_block.BadBlock.{BadBlock}
+use Rattle.iloc_blocks.specs.declared.bad_block.BadBlock.TheVariants as bad
 use Rattle.iloc_blocks.specs.declared.ordered.Ordered.{Ordered}
 use Rattle.iloc_blocks.specs.Ordered.{IsBefore, IsBadTail, IsFaultyTail, IsTailOf}
 use Rattle.iloc_fronts.specs.Left.{pieces_of}
@@ -33,13 +37,16 @@ use Rattle.iloc_blocks.proofs.OrderedLemmas.{after, cut_there, rest_is, tail_blo
 abbrev pub IsNew : ℕ → List ℕ → Type 0
 IsNew s seen = list_any (eq_by_cmp nat_cmp s) seen ≡ false
 
-new_after : (last s : ℕ) → (last < s) ⊎ (s ≡ 120) → (seen : List ℕ) → AreSeen last seen → IsNew s seen
-new_after last s h [] all = refl
-new_after last s h (q ∷ seen) all = (λ j. untied s q (by h) j || list_any (eq_by_cmp nat_cmp s) seen) ∙ new_after last s h seen all.1
+new_among : (last s : ℕ) → (last < s) ⊎ (s ≡ 120) → (seen : List ℕ) → AllByRecursion (λ q. (q ≤ last) × (q ≢ 120)) seen → IsNew s seen
+new_among last s h [] all = refl
+new_among last s h (q ∷ seen) all = (λ j. untied s q (by h) j || list_any (eq_by_cmp nat_cmp s) seen) ∙ new_among last s h seen all.1
   where
     by : (last < s) ⊎ (s ≡ 120) → q ≢ s
     by (inl less) e = omega (arith, all.0.0)
     by (inr is_x) e = all.0.1 (e ∙ is_x)
+
+new_after : (last s : ℕ) → (last < s) ⊎ (s ≡ 120) → (seen : List ℕ) → AreSeen last seen → IsNew s seen
+new_after last s h seen all = new_among last s h seen all.each
 
 -- a letter or digit that may come after the last one
 ascends : (last c : ℕ) → is_ascii_alphanumeric c ≡ true → IsNewAfter last c → (last < c) ⊎ (c ≡ 120)
@@ -67,25 +74,32 @@ new_first c = elim (cases_lt 0 c) [
 -- ---- a good block, and what follows it
 
 seen_more : (last c : ℕ) → last < c → c ≢ 120 → (seen : List ℕ) → AreSeen last seen → AreSeen c (c ∷ seen)
-seen_more last c less differs seen all = ((omega arith, differs), all_weaker (λ s. (s ≤ last) × (s ≢ 120)) (λ s. (s ≤ c) × (s ≢ 120)) (λ s h. (omega (arith, h.0), h.1)) seen all)
+seen_more last c less differs seen all = record {
+  each = ((omega arith, differs), all_weaker (λ s. (s ≤ last) × (s ≢ 120)) (λ s. (s ≤ c) × (s ≢ 120)) (λ s h. (omega (arith, h.0), h.1)) seen all.each);
+  greatest = inr (ap (λ (b : Bool). b || list_any (eq_by_cmp nat_cmp c) seen) (self_tied c));
+}
 
-blocks_after : (c : ℕ) (ps : List (List ℕ)) → IsGood c ps → (last : ℕ) → last < to_ascii_lowercase c → (qs : List (List ℕ)) (r : Rest) → AreBlocksOf (to_ascii_lowercase c) qs r → AreBlocksOf last ((c ∷ []) ∷ (ps ++ qs)) r
-blocks_after c ps g last less qs rest.Printed h = g.printed last less qs h
-blocks_after c ps g last less qs rest.Unordered h = tt
-blocks_after c ps g last less qs rest.Other h = tt
-blocks_after c ps g last less qs rest.BadBlock h = record {
+bad_after : (c : ℕ) (ps : List (List ℕ)) → IsGood c ps → (last : ℕ) → last < to_ascii_lowercase c → (qs : List (List ℕ)) (b : BadBlock) → BeginBadly (to_ascii_lowercase c) qs b → BeginBadly last ((c ∷ []) ∷ (ps ++ qs)) b
+bad_after c ps g last less qs b h = record {
   none_before = refl;
   fault = λ seen all.
-      subst (λ bs. FirstBadBlock languages seen bs InvalidExtension) (sym blocks_are)
+      subst (λ bs. FirstBadBlock languages seen bs (told b)) (sym blocks_are)
       (later g.letter (new_after last (to_ascii_lowercase c) (inl less) seen all) g.block (h.fault (to_ascii_lowercase c ∷ seen) (seen_more last (to_ascii_lowercase c) less g.no_x seen all)));
 }
   where
     blocks_are : blocks ((c ∷ []) ∷ (ps ++ qs)) ≡ (c, ps) ∷ blocks qs
     blocks_are = first_block c (ps ++ qs) g.no_x ∙ (λ j. (c, (front_past ps qs g.long ∙ ap (λ l. ps ++ l) h.none_before ∙ append-nil ps) j) ∷ blocks_past ps qs g.long j)
 
+blocks_after : (c : ℕ) (ps : List (List ℕ)) → IsGood c ps → (last : ℕ) → last < to_ascii_lowercase c → (qs : List (List ℕ)) (r : Rest) → AreBlocksOf (to_ascii_lowercase c) qs r → AreBlocksOf last ((c ∷ []) ∷ (ps ++ qs)) r
+blocks_after c ps g last less qs rest.Printed h = g.printed last less qs h
+blocks_after c ps g last less qs rest.Misfit h = bad_after c ps g last less qs bad.Misfit h
+blocks_after c ps g last less qs rest.Duplicated h = bad_after c ps g last less qs bad.Duplicated h
+blocks_after c ps g last less qs rest.Unordered h = tt
+blocks_after c ps g last less qs rest.Other h = tt
+
 -- what is told of a body is told of its block
 block_as : (P B : List (List ℕ) → Type 0) (c last len : ℕ) (ps : List (List ℕ)) → last < to_ascii_lowercase c
-    → ((qs : List (List ℕ)) → P qs → IsGood c qs) → (B ps → BeginBadly last ((c ∷ []) ∷ ps)) → (w : Body) → IsBodyAs P B len ps w → IsBlockAs last (to_ascii_lowercase c) len ((c ∷ []) ∷ ps) w
+    → ((qs : List (List ℕ)) → P qs → IsGood c qs) → (B ps → BeginBadly last ((c ∷ []) ∷ ps) bad.Misfit) → (w : Body) → IsBodyAs P B len ps w → IsBlockAs last (to_ascii_lowercase c) len ((c ∷ []) ∷ ps) w
 block_as P B c last len ps less good bad body.End h =
     subst (λ (l : List (List ℕ)). ArePrinted last ((c ∷ []) ∷ l)) (append-nil ps) ((good ps h).printed last less [] (printed_none (to_ascii_lowercase c)))
 block_as P B c last len ps less good bad (body.Next l) h =
@@ -118,11 +132,11 @@ module _ (c : ℕ) (qs : List (List ℕ)) where
       by (inr e) = at e.0 e.1 e.2
 
 -- the first block is bad
-begin : (last c : ℕ) (ps qs : List (List ℕ)) (bs : List (ℕ × List (List ℕ))) → blocks ((c ∷ []) ∷ ps) ≡ (c, qs) ∷ bs
-    → ((seen : List ℕ) → AreSeen last seen → BlockFault languages seen (c, qs) InvalidExtension) → BeginBadly last ((c ∷ []) ∷ ps)
-begin last c ps qs bs e f = record {
+begin : (b : BadBlock) (last c : ℕ) (ps qs : List (List ℕ)) (bs : List (ℕ × List (List ℕ))) → blocks ((c ∷ []) ∷ ps) ≡ (c, qs) ∷ bs
+    → ((seen : List ℕ) → AreSeen last seen → BlockFault languages seen (c, qs) (told b)) → BeginBadly last ((c ∷ []) ∷ ps) b
+begin b last c ps qs bs e f = record {
   none_before = refl;
-  fault = λ seen all. subst (λ bs. FirstBadBlock languages seen bs InvalidExtension) (sym e) (here (f seen all));
+  fault = λ seen all. subst (λ bs. FirstBadBlock languages seen bs (told b)) (sym e) (here (f seen all));
 }
 
 -- whatever the block is
@@ -132,17 +146,28 @@ any_block c ps = elim (cases_Bool (to_ascii_lowercase c == 120)) [
   | inr differs ↦ (front ps, blocks ps, first_block c ps (grind (arith, nat_tests)))
 ]
 
-pub bad_singleton : (last c : ℕ) (ps : List (List ℕ)) → is_ascii_alphanumeric c ≡ false → BeginBadly last ((c ∷ []) ∷ ps)
-bad_singleton last c ps e = let b = any_block c ps in begin last c ps b.0 b.1 b.2 (λ seen all. no_singleton e)
+pub bad_singleton : (last c : ℕ) (ps : List (List ℕ)) → is_ascii_alphanumeric c ≡ false → BeginBadly last ((c ∷ []) ∷ ps) bad.Misfit
+bad_singleton last c ps e = let b = any_block c ps in begin bad.Misfit last c ps b.0 b.1 b.2 (λ seen all. no_singleton e)
+
+-- the singleton of the block before comes again
+pub same_again : (last c : ℕ) (ps : List (List ℕ)) → is_ascii_alphanumeric c ≡ true → to_ascii_lowercase c ≡ last → BeginBadly last ((c ∷ []) ∷ ps) bad.Duplicated
+same_again last c ps letter same = let b = any_block c ps in begin bad.Duplicated last c ps b.0 b.1 b.2 (λ seen all. duplicated letter (by seen all.greatest))
+  where
+    some : last ≢ 0
+    some = grind (arith, nat_tests)
+
+    by : (seen : List ℕ) → (last ≡ 0) ⊎ (list_any (eq_by_cmp nat_cmp last) seen ≡ true) → list_any (eq_by_cmp nat_cmp (to_ascii_lowercase c)) seen ≡ true
+    by seen (inl none) = absurd (some none)
+    by seen (inr there) = ap (λ (s : ℕ). list_any (eq_by_cmp nat_cmp s) seen) same ∙ there
 
 module _ (last c : ℕ) (letter : is_ascii_alphanumeric c ≡ true) (new : (last < to_ascii_lowercase c) ⊎ (to_ascii_lowercase c ≡ 120)) where
   -- the block up to the next one
-  until_next : (ps : List (List ℕ)) → to_ascii_lowercase c ≢ 120 → Refuted c (front ps) → BeginBadly last ((c ∷ []) ∷ ps)
-  until_next ps differs r = begin last c ps (front ps) (blocks ps) (first_block c ps differs) (λ seen all. fault_of c (front ps) letter r seen (new_after last (to_ascii_lowercase c) new seen all))
+  until_next : (ps : List (List ℕ)) → to_ascii_lowercase c ≢ 120 → Refuted c (front ps) → BeginBadly last ((c ∷ []) ∷ ps) bad.Misfit
+  until_next ps differs r = begin bad.Misfit last c ps (front ps) (blocks ps) (first_block c ps differs) (λ seen all. fault_of c (front ps) letter r seen (new_after last (to_ascii_lowercase c) new seen all))
 
   -- all that follows `x`
-  to_the_end : (ps : List (List ℕ)) → to_ascii_lowercase c ≡ 120 → Refuted c ps → BeginBadly last ((c ∷ []) ∷ ps)
-  to_the_end ps e r = begin last c ps ps [] (private_block c ps e) (λ seen all. fault_of c ps letter r seen (new_after last (to_ascii_lowercase c) new seen all))
+  to_the_end : (ps : List (List ℕ)) → to_ascii_lowercase c ≡ 120 → Refuted c ps → BeginBadly last ((c ∷ []) ∷ ps) bad.Misfit
+  to_the_end ps e r = begin bad.Misfit last c ps ps [] (private_block c ps e) (λ seen all. fault_of c ps letter r seen (new_after last (to_ascii_lowercase c) new seen all))
 
 abbrev pub IsUnicodeWord : List ℕ → Type 0
 IsUnicodeWord p = IsWord Attribute p ⊎ IsWord UnicodeKey p
@@ -232,7 +257,7 @@ other_refuted c ps u x t n = record {
 -- ---- what is told of the pieces after a singleton is told of the blocks from it on
 
 -- nothing follows it
-pub nothing_after : (last c : ℕ) → IsNewAfter last (to_ascii_lowercase c) → BeginBadly last ((c ∷ []) ∷ [])
+pub nothing_after : (last c : ℕ) → IsNewAfter last (to_ascii_lowercase c) → BeginBadly last ((c ∷ []) ∷ []) bad.Misfit
 nothing_after last c new = elim (cases_Bool (is_ascii_alphanumeric c)) [
   | inr none ↦ bad_singleton last c [] none
   | inl letter ↦ let n = ascends last (to_ascii_lowercase c) (lower_letter c ∙ letter) new in elim (cases_Bool (to_ascii_lowercase c == 120)) [
@@ -243,7 +268,7 @@ nothing_after last c new = elim (cases_Bool (is_ascii_alphanumeric c)) [
 
 module _ (last c len : ℕ) (new : IsNewAfter last (to_ascii_lowercase c)) where
   pub unicode_block : (ps : List (List ℕ)) → to_ascii_lowercase c ≡ 117 → (w : Body) → IsBodyAs IsUnicodePart IsNoUnicode len ps w → IsBlockAs last (to_ascii_lowercase c) len ((c ∷ []) ∷ ps) w
-  unicode_block ps e w h = block_as IsUnicodePart IsNoUnicode c last len ps less (good_unicode c e) bad w h
+  unicode_block ps e w h = block_as IsUnicodePart IsNoUnicode c last len ps less (good_unicode c e) misfit w h
     where
       letter : is_ascii_alphanumeric c ≡ true
       letter = grind (arith, nat_tests)
@@ -251,8 +276,8 @@ module _ (last c len : ℕ) (new : IsNewAfter last (to_ascii_lowercase c)) where
       less : last < to_ascii_lowercase c
       less = above last (to_ascii_lowercase c) (lower_letter c ∙ letter) (omega (arith, e)) new
 
-      bad : IsNoUnicode ps → BeginBadly last ((c ∷ []) ∷ ps)
-      bad n = until_next last c letter (inl less) ps (omega (arith, e)) (unicode_refuted c ps e n)
+      misfit : IsNoUnicode ps → BeginBadly last ((c ∷ []) ∷ ps) bad.Misfit
+      misfit n = until_next last c letter (inl less) ps (omega (arith, e)) (unicode_refuted c ps e n)
 
   pub private_as : (t : List ℕ) → to_ascii_lowercase c ≡ 120 → (w : Body) → IsPrivateAs (pieces t) w → IsBlockAs last (to_ascii_lowercase c) len ((c ∷ []) ∷ pieces t) w
   private_as t e body.End h = printed_private last c t e h
@@ -264,8 +289,8 @@ module _ (last c len : ℕ) (new : IsNewAfter last (to_ascii_lowercase c)) where
       letter : is_ascii_alphanumeric c ≡ true
       letter = grind (arith, nat_tests)
 
-  pub transform_block : (ps : List (List ℕ)) → to_ascii_lowercase c ≡ 116 → (w : Body) → IsBodyAs IsTransformPart IsNoTransform len ps w → IsBlockAs last (to_ascii_lowercase c) len ((c ∷ []) ∷ ps) w
-  transform_block ps e w h = block_as IsTransformPart IsNoTransform c last len ps less (good_transform c e) bad w h
+  pub transform_block : (ps : List (List ℕ)) → to_ascii_lowercase c ≡ 116 → (w : Body) → IsBodyAs (IsTransformPart true) IsNoTransform len ps w → IsBlockAs last (to_ascii_lowercase c) len ((c ∷ []) ∷ ps) w
+  transform_block ps e w h = block_as (IsTransformPart true) IsNoTransform c last len ps less (good_transform c e) misfit w h
     where
       letter : is_ascii_alphanumeric c ≡ true
       letter = grind (arith, nat_tests)
@@ -273,30 +298,32 @@ module _ (last c len : ℕ) (new : IsNewAfter last (to_ascii_lowercase c)) where
       less : last < to_ascii_lowercase c
       less = above last (to_ascii_lowercase c) (lower_letter c ∙ letter) (omega (arith, e)) new
 
-      bad : IsNoTransform ps → BeginBadly last ((c ∷ []) ∷ ps)
-      bad n = until_next last c letter (inl less) ps (omega (arith, e)) (transform_refuted c ps e n)
+      misfit : IsNoTransform ps → BeginBadly last ((c ∷ []) ∷ ps) bad.Misfit
+      misfit n = until_next last c letter (inl less) ps (omega (arith, e)) (transform_refuted c ps e n)
 
   pub other_block : (ps : List (List ℕ)) → is_ascii_alphanumeric c ≡ true → to_ascii_lowercase c ≢ 117 → to_ascii_lowercase c ≢ 120 → to_ascii_lowercase c ≢ 116
       → (w : Body) → IsBodyAs AreSubtags IsNoOther len ps w → IsBlockAs last (to_ascii_lowercase c) len ((c ∷ []) ∷ ps) w
-  other_block ps letter u x t w h = block_as AreSubtags IsNoOther c last len ps less (good_other c letter u x t) bad w h
+  other_block ps letter u x t w h = block_as AreSubtags IsNoOther c last len ps less (good_other c letter u x t) misfit w h
     where
       less : last < to_ascii_lowercase c
       less = above last (to_ascii_lowercase c) (lower_letter c ∙ letter) x new
 
-      bad : IsNoOther ps → BeginBadly last ((c ∷ []) ∷ ps)
-      bad n = until_next last c letter (inl less) ps x (other_refuted c ps u x t n)
+      misfit : IsNoOther ps → BeginBadly last ((c ∷ []) ∷ ps) bad.Misfit
+      misfit n = until_next last c letter (inl less) ps x (other_refuted c ps u x t n)
 
 -- ---- what follows the identifier
 
 pub tail_of_blocks : (ps : List (List ℕ)) (r : Rest) → AreBlocksOf 0 ps r → IsTailOf ps r
 tail_of_blocks ps rest.Printed h = printed_tail ps h
-tail_of_blocks ps rest.BadBlock b = record { variants = []; rest = ps; cut = refl; each = tt; few = omega arith; bad = b }
+tail_of_blocks ps rest.Misfit b = record { variants = []; rest = ps; cut = refl; each = tt; few = omega arith; bad = b }
+tail_of_blocks ps rest.Duplicated b = record { variants = []; rest = ps; cut = refl; each = tt; few = omega arith; bad = b }
 tail_of_blocks ps rest.Unordered h = tt
 tail_of_blocks ps rest.Other h = tt
 
 pub tail_after : (p : List ℕ) (ps : List (List ℕ)) → IsWord Variant p → (r : Rest) → AreBlocksOf 0 ps r → IsTailOf (p ∷ ps) r
 tail_after p ps v rest.Printed h = tail_variant p ps v h
-tail_after p ps v rest.BadBlock b = record { variants = p ∷ []; rest = ps; cut = refl; each = (v, tt); few = omega arith; bad = b }
+tail_after p ps v rest.Misfit b = record { variants = p ∷ []; rest = ps; cut = refl; each = (v, tt); few = omega arith; bad = b }
+tail_after p ps v rest.Duplicated b = record { variants = p ∷ []; rest = ps; cut = refl; each = (v, tt); few = omega arith; bad = b }
 tail_after p ps v rest.Unordered h = tt
 tail_after p ps v rest.Other h = tt
 
@@ -357,9 +384,17 @@ told_fault f o w len at room b h =
     subst (λ (t : List ℕ). HasFault languages t f) (sym (cut_there w len at room b.less b.hyphen))
     (has_fault o.plain (take at w) (after w len at room b.less b.hyphen) b.plain f (subst (λ (s : List ℕ). IsFaultyTail (pieces s) f) (rest_is w len at room b.less b.hyphen) h))
 
-faulty : (ps : List (List ℕ)) → IsBadTail ps → IsFaultyTail ps InvalidExtension
-faulty ps b = record { variants = b.variants; rest = b.rest; cut = b.cut; each = b.each; different = few_different b.variants b.few; none_before = b.bad.none_before; first = b.bad.fault [] tt }
+faulty : (ps : List (List ℕ)) (bad : BadBlock) → IsBadTail ps bad → IsFaultyTail ps (told bad)
+faulty ps bad b = record {
+  variants = b.variants;
+  rest = b.rest;
+  cut = b.cut;
+  each = b.each;
+  different = few_different b.variants b.few;
+  none_before = b.bad.none_before;
+  first = b.bad.fault [] (record { each = tt; greatest = inl refl });
+}
 
-pub told_bad : (o : Ordered) (w : List ℕ) (len at : ℕ) → len + 16 ≤ length w → IsBefore w len at o → IsBadTail (pieces (take (len - at - 1) (take (length w - (at + 1)) (drop (at + 1) w))))
-    → HasFault languages (take len w) InvalidExtension
-told_bad o w len at room b h = told_fault InvalidExtension o w len at room b (faulty _ h)
+pub told_bad : (bad : BadBlock) (o : Ordered) (w : List ℕ) (len at : ℕ) → len + 16 ≤ length w → IsBefore w len at o → IsBadTail (pieces (take (len - at - 1) (take (length w - (at + 1)) (drop (at + 1) w)))) bad
+    → HasBadBlock (take len w) bad
+told_bad bad o w len at room b h = told_fault (told bad) o w len at room b (faulty _ bad h)

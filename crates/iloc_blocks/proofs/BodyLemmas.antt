@@ -1,7 +1,7 @@
 -- What is told of a body, from its later pieces to all of it.
 use Rattle.std.proofs.Common.{◌≡◌, ℕ, ◌≤◌, List, ◌∷◌, ◌++◌, append_assoc, sym, ap, ◌∙◌, subst, arith}
 use Rattle.iloc_fronts.specs.Left.{pieces_of}
-use Rattle.iloc_blocks.specs.Blocks.{IsBodyAs}
+use Rattle.iloc_blocks.specs.Blocks.{IsBadAs, IsBodyAs, IsUnorderedAs}
 use Rattle.iloc_blocks.specs.declared.body.Body.{Body}
 use Rattle.iloc_blocks.specs.declared.body.Body.TheVariants as body
 
@@ -32,3 +32,20 @@ body_past P Q B C m n xs ps whole e le good bad (body.Next l) h =
 body_past P Q B C m n xs ps whole e le good bad body.Bad h = bad h
 body_past P Q B C m n xs ps whole e le good bad body.Unordered h = tt
 body_past P Q B C m n xs ps whole e le good bad body.Other h = tt
+
+-- ---- pieces that are not in order
+
+-- if no more is told of them than that they are bad, that is told of any body
+pub bad_body : (P B : List (List ℕ) → Type 0) (n : ℕ) (ps : List (List ℕ)) (w : Body) → IsBadAs B ps w → IsBodyAs P B n ps w
+bad_body P B n ps body.End h = absurd (h tt)
+bad_body P B n ps (body.Next l) h = absurd (h tt)
+bad_body P B n ps body.Bad h = h
+bad_body P B n ps body.Unordered h = tt
+bad_body P B n ps body.Other h = tt
+
+pub unordered_body : (P B : List (List ℕ) → Type 0) (n : ℕ) (ps : List (List ℕ)) (v w : Body) → IsUnorderedAs v w → IsBodyAs P B n ps v → IsBadAs B ps w
+unordered_body P B n ps body.End w e h = subst (IsBadAs B ps) (sym e) tt
+unordered_body P B n ps (body.Next l) w e h = subst (IsBadAs B ps) (sym e) tt
+unordered_body P B n ps body.Bad w e h = subst (IsBadAs B ps) (sym e) h
+unordered_body P B n ps body.Unordered w e h = subst (IsBadAs B ps) (sym e) tt
+unordered_body P B n ps body.Other w e h = subst (IsBadAs B ps) (sym e) tt

@@ -1,6 +1,5 @@
 -- Bad blocks after good ones, in whatever order.
-use Rattle.std.proofs.Common.{◌≡◌, ◌≢◌, ◌⊎◌, inl, inr, ℕ, zero, suc, ◌+◌, ◌*◌, ◌<◌, ◌≤◌, ◌==◌, ◌||◌, Bool, true, false, cond, List, [], ◌∷◌, ◌++◌, length, map, filter, take, get_or, bit_or, Option, Some, None, IfSome, refl, sym, ap, ◌∙◌, subst, arith, true≢false, append-nil}
-use Rattle.std.specs.Int.{is_in_range}
+use Rattle.std.proofs.Common.{◌≡◌, ◌≢◌, ◌⊎◌, inl, inr, ℕ, zero, suc, ◌+◌, ◌*◌, ◌<◌, ◌≤◌, ◌==◌, ◌||◌, Bool, true, false, cond, List, [], ◌∷◌, ◌++◌, length, map, take, get_or, refl, sym, ap, ◌∙◌, subst, arith, true≢false, append-nil}
 use Rattle.std.specs.List.{AllByRecursion, list_all, list_any}
 use Rattle.std.specs.Char.{is_ascii_alphanumeric, to_ascii_lowercase}
 use Rattle.std.specs.Ordering.{nat_cmp, eq_by_cmp}
@@ -8,30 +7,30 @@ use Rattle.std.proofs.lemmas.Bool.{cases_Bool, cases_eq, and_parts, false_from_n
 use Rattle.std.proofs.lemmas.Bool.Decides.{nat_tests}
 use Rattle.std.proofs.lemmas.List.{length-take-le, take-take, get_or-set_same, get_or-set_other}
 use Rattle.std.proofs.Math.ListN.{set, replicate}
-use Rattle.iloc_spec_grammar.specs.Syntax.{first_piece, front, blocks, Variant, UnicodeKey, Attribute, Subtag, is_word, IsWord, IsOther, IsField, IsKeyword, IsUnicode, Identifier, HasWords, IsIdentifier, identifier_pieces, IsTransform, Extension, transform, unicode, other, IsExtension, extension_pieces, languages, letters_or_digits, lower, word_cmp, is_same}
+use Rattle.iloc_spec_grammar.specs.Syntax.{first_piece, front, blocks, Variant, UnicodeKey, Attribute, is_word, IsWord, IsOther, IsKeyword, IsUnicode, Extension, transform, unicode, other, IsExtension, extension_pieces, languages, letters_or_digits, lower, word_cmp, is_same}
 use Rattle.iloc_spec_grammar.specs.Meaning.{FirstBadBlock, here, later, IsBlock, no_singleton, duplicated}
-use Rattle.iloc_spec_grammar.specs.Reading.{is_two, before_key, fields_from, unicode_of, front_of, rest_of, starts_block}
+use Rattle.iloc_spec_grammar.specs.Reading.{is_two, before_key, fields_from, unicode_of, rest_of}
 use Rattle.iloc_spec_grammar.proofs.PiecesLaws.{at_pieces}
 use Rattle.iloc_spec_grammar.proofs.MapLaws.{same_is}
 use Rattle.iloc_spec_grammar.proofs.RawLaws.{languages_table}
-use Rattle.iloc_spec_grammar.proofs.Readings.{IsLong, long_extension, long_between, not_two, two, pieces-unicode_of}
+use Rattle.iloc_spec_grammar.proofs.Readings.{IsLong, long_extension, not_two, two, pieces-unicode_of}
 use Rattle.iloc_spec_grammar.proofs.Singletons.{untied, self_tied}
 use Rattle.iloc_spec_grammar.proofs.WordsLaws.{length-attribute, length-unicode_key, length-variant, word_letters_or_digits}
-use Rattle.iloc_fronts.specs.Left.{pieces_of, IsLeft}
-use Rattle.iloc_blocks.specs.Blocks.{IsBodyAs, IsNoUnicode, IsNoOther, IsStray, ArePast, BeginsWithout, is_long, left_of, IsPrivateAs}
-use Rattle.iloc_blocks.specs.Transform.{IsNoTransform, IsHead, IsHeadAs}
-use Rattle.iloc_blocks.specs.Faults.{fault_of, HaveOthers, ArePastVariants, HaveBad, IsUnseen, AreMarked, IsPassedAs, AreUnicodeWords, AreUnicode, AreUnicodeAt, AreBetween, HaveOdd, AreSomeFields, IsSomeTransform}
+use Rattle.iloc_fronts.specs.Left.{pieces_of, piece_of, IsLeft}
+use Rattle.iloc_blocks.specs.Blocks.{IsBodyAs, IsNoUnicode, IsNoOther, IsPrivateAs}
+use Rattle.iloc_blocks.specs.Transform.{IsNoTransform, IsTransformPart}
+use Rattle.iloc_blocks.specs.Faults.{HaveOthers, ArePastVariants, HaveBad, IsUnseen, AreMarked, IsPassedAs, AreUnicodeWords, AreUnicode, AreUnicodeAt}
+use Rattle.iloc_blocks.specs.Bad.{fault_of}
 use Rattle.iloc_fronts.specs.Words.{four_number}
 use Rattle.iloc_fronts.specs.declared.left.Left.{Left}
-use Rattle.iloc_blocks.specs.declared.faults.BadBlock.{BadBlock}
-use Rattle.iloc_blocks.specs.declared.faults.BadBlock.TheVariants as bad
+use Rattle.iloc_blocks.specs.declared.bad_block.BadBlock.{BadBlock}
+use Rattle.iloc_blocks.specs.declared.bad_block.BadBlock.TheVariants as bad
 use Rattle.iloc_blocks.specs.declared.body.Body.{Body}
 use Rattle.iloc_blocks.specs.declared.body.Body.TheVariants as body
 use Rattle.iloc_fronts.proofs.LeftLemmas.{first_left, byte_left}
-use Rattle.iloc_blocks.proofs.BlockLemmas.{front_long, front_past, blocks_past, first_block, private_block}
-use Rattle.iloc_fronts.proofs.WordBytes.{low_bit}
+use Rattle.iloc_blocks.proofs.BlockLemmas.{front_past, blocks_past, first_block, private_block}
 use Rattle.iloc_blocks.proofs.PrintedBlocks.{other_letter}
-use Rattle.iloc_blocks.proofs.TransformLemmas.{few_different, spelled, part_words}
+use Rattle.iloc_blocks.proofs.TransformLemmas.{part_means}
 use Rattle.iloc_blocks.proofs.BadBlocks.{IsNew, any_block, Refuted}
 use Rattle.iloc_blocks.proofs.BadBlocks as refuting
 
@@ -80,6 +79,13 @@ others_more n p ps differs h [] rest e each = tt
 others_more n p ps differs h (v ∷ vs) rest e each =
     let first : p ≡ v = ap first_piece e in
     (λ same. differs (ap four_number first ∙ same), h vs rest (ap rest_of e) each.1)
+
+-- the other way round
+pub others_later : (n : ℕ) (p : List ℕ) (ps : List (List ℕ)) → IsWord Variant p → HaveOthers n (p ∷ ps) → HaveOthers n ps
+others_later n p ps v h vs rest e each = (h (p ∷ vs) rest (ap (λ qs. p ∷ qs) e) (v, each)).1
+
+pub others_differ : (n : ℕ) (p : List ℕ) (ps : List (List ℕ)) → IsWord Variant p → HaveOthers n (p ∷ ps) → four_number p ≢ n
+others_differ n p ps v h = (h (p ∷ []) ps refl (v, tt)).0
 
 pub no_variant : is_word Variant [] ≡ false
 unfolding is_word
@@ -147,90 +153,6 @@ is_unicode : (ps : List (List ℕ)) → AreUnicode ps → IsUnicode (unicode_of 
 unfolding unicode_of
 is_unicode ps h = record { attributes = before_words ps h.0; keywords = fields_words ps h.0; nonempty = some_words ps h.0 h.1 }
 
--- ---- bodies of other extensions
-
-pub other_last : (p : List ℕ) → IsWord Subtag p → IsOther (p ∷ [])
-unfolding is_word
-other_last p h = record { lengths = ((and_parts _ _ h).0, tt); nonempty = subst (λ (b : Bool). 0 < length (map lower (cond b (p ∷ []) []))) (sym h) (omega arith) }
-
--- ... that begin with a word
-pub other_first : (p : List ℕ) (ps : List (List ℕ)) → IsWord Subtag p → AreBetween ps → IsOther (p ∷ ps)
-unfolding is_word
-other_first p ps h all = record {
-  lengths = ((and_parts _ _ h).0, all);
-  nonempty = subst (λ (b : Bool). 0 < length (map lower (cond b (p ∷ filter (is_word Subtag) ps) (filter (is_word Subtag) ps)))) (sym h) (omega arith);
-}
-
--- ... that begin with none
-pub other_later : (p : List ℕ) (ps : List (List ℕ)) → IsStray p → IsOther ps → IsOther (p ∷ ps)
-other_later p ps s h = record {
-  lengths = (s.lengths, h.lengths);
-  nonempty = subst (λ (b : Bool). 0 < length (map lower (cond b (p ∷ filter (is_word Subtag) ps) (filter (is_word Subtag) ps)))) (sym s.no_word) h.nonempty;
-}
-
-between_long : (p : List ℕ) → is_in_range 2 8 (length p) ≡ true → IsLong p
-between_long p h = long_between p h
-
-pub odd_after : (p : List ℕ) (ps : List (List ℕ)) → is_in_range 2 8 (length p) ≡ true → HaveOdd ps → HaveOdd (p ∷ ps)
-odd_after p ps h n all = n (subst AreBetween (front_long p ps (between_long p h)) all).1
-
-pub odd_here : (ps : List (List ℕ)) → starts_block ps ≡ false → is_in_range 2 8 (length (first_piece ps)) ≡ false → HaveOdd ps
-odd_here [] long e all = true≢false long
-odd_here (p ∷ ps) long e all = true≢false (sym (subst AreBetween (front_long p ps long) all).0 ∙ e)
-
--- a word before such pieces
-pub no_other_after : (p : List ℕ) (ps : List (List ℕ)) → IsWord Subtag p → HaveOdd ps → IsNoOther (p ∷ ps)
-unfolding is_word
-no_other_after p ps h n o = odd_after p ps (and_parts _ _ h).0 n o.lengths
-
--- ---- bodies of `t`
-
-pub attribute_long : (p : List ℕ) → is_long 3 p ≡ is_word Attribute p
-unfolding is_word
-attribute_long p = refl
-
-pub values_past : (len : ℕ) (ps : List (List ℕ)) (o : Option Left) → is_word Attribute (first_piece ps) ≡ true → (a : ArePast 3 len ps o) → AllByRecursion (IsWord Attribute) a.words × (0 < length a.words)
-unfolding is_word
-values_past len ps o h a = (a.each, by a.words o a.cut a.ends)
-  where
-    by : (ws : List (List ℕ)) (o : Option Left) → ps ≡ ws ++ left_of o → BeginsWithout 3 len o → 0 < length ws
-    by (w ∷ ws) o e k = omega arith
-    by [] None e k = absurd (true≢false (sym h ∙ ap (λ (qs : List (List ℕ)). is_word Attribute (first_piece qs)) e))
-    by [] (Some l) e k = absurd (true≢false (sym h ∙ ap (λ (qs : List (List ℕ)). is_word Attribute (first_piece qs)) e ∙ k.2))
-
-pub fields_last : (p : List ℕ) (vs : List (List ℕ)) → IsField (p, vs) → AreSomeFields (p ∷ vs)
-fields_last p vs h = record { fields = (p, vs) ∷ []; spelled = sym (append-nil (p ∷ vs)); each = (h, tt); some = omega arith }
-
-pub fields_more : (p : List ℕ) (vs qs : List (List ℕ)) → IsField (p, vs) → AreSomeFields qs → AreSomeFields (p ∷ (vs ++ qs))
-fields_more p vs qs h f = record { fields = (p, vs) ∷ f.fields; spelled = ap (λ r. p ∷ (vs ++ r)) f.spelled; each = (h, f.each); some = omega arith }
-
-pub some_alone : (ps : List (List ℕ)) → AreSomeFields ps → IsSomeTransform ps
-some_alone ps f = record { id = None; fields = f.fields; spelled = f.spelled; words = tt; each = f.each; some = λ _. f.some }
-
-pub some_id : (ps rest : List (List ℕ)) → IsHead ps rest → IsSomeTransform (identifier_pieces (front_of ps))
-some_id ps rest h = record { id = Some (front_of ps); fields = []; spelled = sym (append-nil (identifier_pieces (front_of ps))); words = part_words ps rest h; each = tt; some = λ e. absurd (cc) }
-
-pub some_id_alone : (ps : List (List ℕ)) → IsHead ps [] → IsSomeTransform ps
-some_id_alone ps h = record { id = Some (front_of ps); fields = []; spelled = spelled ps [] h; words = part_words ps [] h; each = tt; some = λ e. absurd (cc) }
-
-pub some_before : (ps rest qs : List (List ℕ)) → IsHead ps rest → AreSomeFields qs → IsSomeTransform (identifier_pieces (front_of ps) ++ qs)
-some_before ps rest qs h f = record { id = Some (front_of ps); fields = f.fields; spelled = ap (λ l. identifier_pieces (front_of ps) ++ l) f.spelled; words = part_words ps rest h; each = f.each; some = λ e. absurd (cc) }
-
--- what is told of an identifier, if that is all that is told
-pub some_told : (len : ℕ) (ps : List (List ℕ)) (w : Body) → (w ≡ body.Bad → ⊥) → IsHeadAs len ps w → IsBodyAs IsSomeTransform IsNoTransform len ps w
-some_told len ps body.End n h = some_id_alone ps h
-some_told len ps (body.Next l) n h = (h.0, h.1, record { body = identifier_pieces (front_of ps); cut = spelled ps (pieces_of l) h.2; is = some_id ps (pieces_of l) h.2 })
-some_told len ps body.Bad n h = absurd (n refl)
-some_told len ps body.Unordered n h = tt
-some_told len ps body.Other n h = tt
-
-is_transform : (ps : List (List ℕ)) (h : IsSomeTransform ps) → IsTransform languages (record { id = h.id; fields = h.fields })
-is_transform ps h = record { id = identifiers h.id h.words; fields = h.each; nonempty = h.some }
-  where
-    identifiers : (o : Option Identifier) → IfSome o (λ i. HasWords languages i × (length i.variants ≤ 1)) → IfSome o (IsIdentifier languages)
-    identifiers None k = tt
-    identifiers (Some i) k = record { words = k.0; different = few_different i.variants k.1 }
-
 -- ---- a block that keeps to its rule
 
 pub record IsSound (c : ℕ) (ps : List (List ℕ)) : Type 0 where
@@ -254,8 +176,8 @@ sound_unicode c e ps h = sound c ps (unicode (unicode_of ps)) letter (omega (ari
     letter : is_ascii_alphanumeric c ≡ true
     letter = grind (arith, nat_tests)
 
-pub sound_transform : (c : ℕ) → to_ascii_lowercase c ≡ 116 → (ps : List (List ℕ)) → IsSomeTransform ps → IsSound c ps
-sound_transform c e ps h = sound c ps (transform (record { id = h.id; fields = h.fields })) letter (omega (arith, e)) (e, is_transform ps h) h.spelled
+pub sound_transform : (c : ℕ) → to_ascii_lowercase c ≡ 116 → (ps : List (List ℕ)) → IsTransformPart false ps → IsSound c ps
+sound_transform c e ps h = sound c ps (transform (record { id = h.id; fields = h.fields })) letter (omega (arith, e)) (e, part_means false ps h) h.spelled
   where
     letter : is_ascii_alphanumeric c ≡ true
     letter = grind (arith, nat_tests)
@@ -312,8 +234,8 @@ module _ (c len : ℕ) (ps : List (List ℕ)) (letter : is_ascii_alphanumeric c 
   pub passed_unicode : to_ascii_lowercase c ≡ 117 → (w : Body) → IsBodyAs AreUnicode IsNoUnicode len ps w → IsPassedAs c len ps w
   passed_unicode e w h = passed_as AreUnicode IsNoUnicode c len ps (sound_unicode c e) (λ n. wrong_block c ps letter (omega (arith, e)) (refuting.unicode_refuted c ps e n)) w h
 
-  pub passed_transform : to_ascii_lowercase c ≡ 116 → (w : Body) → IsBodyAs IsSomeTransform IsNoTransform len ps w → IsPassedAs c len ps w
-  passed_transform e w h = passed_as IsSomeTransform IsNoTransform c len ps (sound_transform c e) (λ n. wrong_block c ps letter (omega (arith, e)) (refuting.transform_refuted c ps e n)) w h
+  pub passed_transform : to_ascii_lowercase c ≡ 116 → (w : Body) → IsBodyAs (IsTransformPart false) IsNoTransform len ps w → IsPassedAs c len ps w
+  passed_transform e w h = passed_as (IsTransformPart false) IsNoTransform c len ps (sound_transform c e) (λ n. wrong_block c ps letter (omega (arith, e)) (refuting.transform_refuted c ps e n)) w h
 
   pub passed_private : to_ascii_lowercase c ≡ 120 → (w : Body) → IsPrivateAs ps w → IsPassedAs c len ps w
   passed_private e body.End h = tt
@@ -327,11 +249,14 @@ module _ (c len : ℕ) (ps : List (List ℕ)) (letter : is_ascii_alphanumeric c 
 
 -- ---- singletons
 
--- what is left begins with a piece of one byte
-pub begins_with : (l : Left) → IsLeft l → l.n ≡ 1 → pieces_of l ≡ (get_or l.window.now 0 0 ∷ []) ∷ rest_of (pieces_of l)
-begins_with l h one =
+-- what is left begins with a short piece, and with one of one byte
+pub begins_short : (l : Left) → IsLeft l → l.n < 16 → pieces_of l ≡ piece_of l ∷ rest_of (pieces_of l)
+begins_short l h few =
     at_pieces (λ ps. ps ≡ first_piece ps ∷ rest_of ps) (λ p ps. refl) (take l.len l.window.now)
-    ∙ ap (λ p. p ∷ rest_of (pieces_of l)) (first_left l h (omega arith) ∙ byte_left l h one)
+    ∙ ap (λ p. p ∷ rest_of (pieces_of l)) (first_left l h few)
+
+pub begins_with : (l : Left) → IsLeft l → l.n ≡ 1 → pieces_of l ≡ (get_or l.window.now 0 0 ∷ []) ∷ rest_of (pieces_of l)
+begins_with l h one = begins_short l h (omega arith) ∙ ap (λ p. p ∷ rest_of (pieces_of l)) (byte_left l h one)
 
 pub letter_small : (c : ℕ) → is_ascii_alphanumeric c ≡ true → c < 128
 letter_small c h = grind (arith, nat_tests)

@@ -11,9 +11,10 @@ use Rattle.iloc_spec_grammar.proofs.Readings.{IsLong, long_between}
 use Rattle.iloc_spec_grammar.proofs.ValuesLaws.{all_weaker}
 use Rattle.iloc_fronts.specs.Left.{pieces_of, piece_of, IsLeft}
 use Rattle.iloc_blocks.specs.Blocks.{AreSubtags, IsStray, IsNoOther, ArePast, BeginsWithout, is_long, ArePrivate}
+use Rattle.iloc_blocks.specs.Faults.{AreBetween, HaveOdd}
 use Rattle.iloc_fronts.specs.declared.left.Left.{Left}
 use Rattle.iloc_fronts.proofs.LeftLemmas.{length-piece, short_left, last_left, first_left}
-use Rattle.iloc_blocks.proofs.BlockLemmas.{front_long, front_past}
+use Rattle.iloc_blocks.proofs.BlockLemmas.{front_long}
 
 -- ---- words passed over
 
@@ -126,17 +127,46 @@ odd_first (p ∷ ps) e h = by (is_one_byte p) refl
     by true one = no_words (subst IsOther (ap (λ (b : Bool). cond b [] (p ∷ front ps)) one) h)
     by false long = true≢false (sym (subst IsOther (front_long p ps long) h).lengths.0 ∙ e)
 
-after_words : (P : List ℕ → Type 0) (xs qs : List (List ℕ)) → AllByRecursion P (xs ++ qs) → AllByRecursion P qs
-after_words P [] qs h = h
-after_words P (x ∷ xs) qs h = after_words P xs qs h.1
+-- ---- pieces of other extensions, of which some are words
 
-long_words : (xs : List (List ℕ)) → AllByRecursion (λ q. is_long 2 q ≡ true) xs → AllByRecursion IsLong xs
-long_words xs each = all_weaker (λ q. is_long 2 q ≡ true) IsLong (λ q e. long_between q (and_parts _ _ e).0) xs each
+pub other_last : (p : List ℕ) → IsWord Subtag p → IsOther (p ∷ [])
+unfolding is_word
+other_last p h = record { lengths = ((and_parts _ _ h).0, tt); nonempty = subst (λ (b : Bool). 0 < length (map lower (cond b (p ∷ []) []))) (sym h) (omega arith) }
 
--- a piece of too few or too many bytes that begins no block, after words
-pub odd_later : (xs ps : List (List ℕ)) → AllByRecursion (λ q. is_long 2 q ≡ true) xs → starts_block ps ≡ false → is_in_range 2 8 (length (first_piece ps)) ≡ false → IsNoOther (xs ++ ps)
-odd_later xs [] each long e h = true≢false long
-odd_later xs (p ∷ ps) each long e h =
-    let all : AllByRecursion (λ q. is_in_range 2 8 (length q) ≡ true) (xs ++ (p ∷ front ps)) =
-    subst (AllByRecursion (λ q. is_in_range 2 8 (length q) ≡ true)) (front_past xs (p ∷ ps) (long_words xs each) ∙ ap (λ l. xs ++ l) (front_long p ps long)) h.lengths in
-    true≢false (sym (after_words (λ q. is_in_range 2 8 (length q) ≡ true) xs (p ∷ front ps) all).0 ∙ e)
+-- ... that begin with a word
+pub other_first : (p : List ℕ) (ps : List (List ℕ)) → IsWord Subtag p → AreBetween ps → IsOther (p ∷ ps)
+unfolding is_word
+other_first p ps h all = record {
+  lengths = ((and_parts _ _ h).0, all);
+  nonempty = subst (λ (b : Bool). 0 < length (map lower (cond b (p ∷ filter (is_word Subtag) ps) (filter (is_word Subtag) ps)))) (sym h) (omega arith);
+}
+
+-- ... that begin with none
+pub other_later : (p : List ℕ) (ps : List (List ℕ)) → IsStray p → IsOther ps → IsOther (p ∷ ps)
+other_later p ps s h = record {
+  lengths = (s.lengths, h.lengths);
+  nonempty = subst (λ (b : Bool). 0 < length (map lower (cond b (p ∷ filter (is_word Subtag) ps) (filter (is_word Subtag) ps)))) (sym s.no_word) h.nonempty;
+}
+
+between_long : (p : List ℕ) → is_in_range 2 8 (length p) ≡ true → IsLong p
+between_long p h = long_between p h
+
+pub odd_after : (p : List ℕ) (ps : List (List ℕ)) → is_in_range 2 8 (length p) ≡ true → HaveOdd ps → HaveOdd (p ∷ ps)
+odd_after p ps h n all = n (subst AreBetween (front_long p ps (between_long p h)) all).1
+
+pub odd_here : (ps : List (List ℕ)) → starts_block ps ≡ false → is_in_range 2 8 (length (first_piece ps)) ≡ false → HaveOdd ps
+odd_here [] long e all = true≢false long
+odd_here (p ∷ ps) long e all = true≢false (sym (subst AreBetween (front_long p ps long) all).0 ∙ e)
+
+-- a word before such pieces
+pub no_other_after : (p : List ℕ) (ps : List (List ℕ)) → IsWord Subtag p → HaveOdd ps → IsNoOther (p ∷ ps)
+unfolding is_word
+no_other_after p ps h n o = odd_after p ps (and_parts _ _ h).0 n o.lengths
+
+-- what comes after words
+odd_past : (xs ps : List (List ℕ)) → AllByRecursion (λ q. is_long 2 q ≡ true) xs → HaveOdd ps → HaveOdd (xs ++ ps)
+odd_past [] ps each n = n
+odd_past (x ∷ xs) ps each n = odd_after x (xs ++ ps) (and_parts _ _ each.0).0 (odd_past xs ps each.1 n)
+
+pub no_other_past : (xs ps : List (List ℕ)) → AllByRecursion (λ q. is_long 2 q ≡ true) xs → HaveOdd ps → IsNoOther (xs ++ ps)
+no_other_past xs ps each n o = odd_past xs ps each n o.lengths

@@ -10,7 +10,7 @@ use Rattle.std.specs.Char.{is_ascii_alphanumeric, to_ascii_lowercase}
 use Rattle.std.proofs.lemmas.Bool.{and_parts, and_from, lt-ltb, cases_lt}
 use Rattle.std.proofs.lemmas.Bool.Decides.{nat_tests}
 use Rattle.std.proofs.lemmas.List.{map-append}
-use Rattle.iloc_spec_grammar.specs.Syntax.{pieces, Kind, Subtag, UnicodeKey, Attribute, PrivateSubtag, is_word, IsWord, IsExtension, lower, is_true, word_cmp, languages, is_other_singleton, Fields, fields_pieces, kept, Unicode, unicode, other, extension_pieces, Identifier, Transform, transform, HasWords, IsIdentifier, IsField, TransformKey, identifier_pieces, optional_pieces, transform_pieces, title, upper}
+use Rattle.iloc_spec_grammar.specs.Syntax.{pieces, Kind, Subtag, UnicodeKey, Attribute, PrivateSubtag, is_word, IsWord, IsExtension, lower, is_true, word_cmp, languages, is_other_singleton, Fields, fields_pieces, kept, Unicode, unicode, other, extension_pieces, Identifier, Transform, transform, HasWords, IsIdentifier, IsField, IsTransform, TransformKey, identifier_pieces, optional_pieces, transform_pieces, title, upper}
 use Rattle.iloc_spec_grammar.specs.Meaning.{Extensions, IsBlock, no_unicode, no_transform, normal_identifier, normal_values, set_of}
 use Rattle.iloc_spec_grammar.specs.Values.{IsNormal, other_spelling, before_t, after_t, extensions_spelling, transform_spelling, private_spelling, IsExtensionsValue, IsUnicodeValue, unicode_spelling, IsTransformValue, IsIdentifierValue, lower_identifier, spelled_fields}
 use Rattle.iloc_spec_grammar.proofs.PiecesLaws.{at_pieces}
@@ -22,8 +22,8 @@ use Rattle.iloc_spec_grammar.proofs.ValuesLaws.{all_weaker, filter_all}
 use Rattle.iloc_spec_grammar.proofs.WordsLaws.{length-attribute, lower-lower, lower-title, lower-upper, is_word-lower}
 use Rattle.iloc_spec_grammar.proofs.IdentifierTexts.{identifier_means_value}
 use Rattle.iloc_spec_grammar.proofs.Chains.{identifier_pieces-low}
-use Rattle.iloc_blocks.specs.Transform.{IsFieldValue, IsTransformPart}
-use Rattle.iloc_blocks.proofs.TransformLemmas.{few_different}
+use Rattle.iloc_blocks.specs.Transform.{AreInOrder, IsAsPrinted, IsTransformPart}
+use Rattle.iloc_blocks.proofs.TransformLemmas.{part_means}
 use Rattle.iloc_blocks.specs.Blocks.{ArePrinted, AreSubtags, ArePrivate, IsUnicodePart, IsValue, lower_fields}
 
 -- ---- words in lower case
@@ -380,26 +380,18 @@ sorted_values : (fs : Fields) → is_sorted word_cmp (value_fields fs) ≡ is_so
 sorted_values [] = refl
 sorted_values (f ∷ fs) = λ j. below_values (lower f.0) fs j && sorted_values fs j
 
-module _ (c : ℕ) (e : to_ascii_lowercase c ≡ 116) (ps : List (List ℕ)) (h : IsTransformPart ps) where
+module _ (c : ℕ) (e : to_ascii_lowercase c ≡ 116) (ps : List (List ℕ)) (h : IsTransformPart true ps) where
+  order : AreInOrder 0 h.fields
+  order = h.order refl
+
   abbrev written_t : Transform
   written_t = record { id = h.id; fields = h.fields }
 
   abbrev value_t : Transform
   value_t = record { id = option_map normal_identifier h.id; fields = value_fields h.fields }
 
-  identifiers : (o : Option Identifier) → IfSome o (λ i. HasWords languages i × (length i.variants ≤ 1)) → IfSome o (IsIdentifier languages)
-  identifiers None k = tt
-  identifiers (Some i) k = record { words = k.0; different = few_different i.variants k.1 }
-
-  is_transform : IsExtension languages (to_ascii_lowercase c) (transform written_t)
-  is_transform = (
-    e,
-    record {
-      id = identifiers h.id h.words;
-      fields = all_weaker (λ f. IsWord TransformKey f.0 × IsFieldValue f.1) IsField (λ f k. (k.0, k.1.each, k.1.some)) h.fields h.each;
-      nonempty = h.some;
-    },
-  )
+  is_transform : IsTransform languages written_t
+  is_transform = part_means true ps h
 
   id_values : (o : Option Identifier) → IfSome o (IsIdentifier languages) → IfSome (option_map normal_identifier o) (IsIdentifierValue languages)
   id_values None k = tt
@@ -416,17 +408,17 @@ module _ (c : ℕ) (e : to_ascii_lowercase c ≡ 116) (ps : List (List ℕ)) (h 
       at h true e = h
       at h false e = ((lower_attribute w k.0, e), h)
 
-  lower_each : (fs : Fields) → AllByRecursion (λ f. IsWord TransformKey f.0 × IsFieldValue f.1) fs
+  lower_each : (fs : Fields) → AllByRecursion IsField fs
       → AllByRecursion (λ f. IsNormal TransformKey f.0 × AllByRecursion (λ w. IsNormal Attribute w × (is_true w ≡ false)) f.1) (value_fields fs)
   lower_each [] k = tt
-  lower_each (f ∷ fs) k = (((is_word-lower TransformKey f.0 ∙ k.0.0, lower-lower f.0), field_values f.1 k.0.1.each), lower_each fs k.1)
+  lower_each (f ∷ fs) k = (((is_word-lower TransformKey f.0 ∙ k.0.0, lower-lower f.0), field_values f.1 k.0.1), lower_each fs k.1)
 
   is_value_t : IsTransformValue languages value_t
-  is_value_t = record { id = id_values h.id (identifiers h.id h.words); fields = lower_each h.fields h.each; keys_ascend = sorted_values h.fields ∙ h.ascending }
+  is_value_t = record { id = id_values h.id is_transform.id; fields = lower_each h.fields h.each; keys_ascend = sorted_values h.fields ∙ order.ascending }
 
-  spelled_same : (fs : Fields) → AllByRecursion (λ f. IsWord TransformKey f.0 × IsFieldValue f.1) fs → spelled_fields (value_fields fs) ≡ lower_fields fs
+  spelled_same : (fs : Fields) → AllByRecursion (λ f. IsAsPrinted f.1) fs → spelled_fields (value_fields fs) ≡ lower_fields fs
   spelled_same [] k = refl
-  spelled_same (f ∷ fs) k = λ j. (lower f.0, k.0.1.printed j) ∷ spelled_same fs k.1 j
+  spelled_same (f ∷ fs) k = λ j. (lower f.0, k.0 j) ∷ spelled_same fs k.1 j
 
   lower_id : (o : Option Identifier) → IfSome o (λ i. HasWords languages i × (length i.variants ≤ 1)) → optional_pieces (option_map lower_identifier (option_map normal_identifier o)) ≡ map lower (optional_pieces o)
   lower_id None k = refl
@@ -440,7 +432,7 @@ module _ (c : ℕ) (e : to_ascii_lowercase c ≡ 116) (ps : List (List ℕ)) (h 
   spelled_t =
       transform_spelling_is value_t
       ∙ ap (λ (b : Bool). cond b ((116 ∷ []) ∷ transform_pieces (record { id = option_map lower_identifier value_t.id; fields = spelled_fields value_t.fields })) []) (some_part h.id h.some)
-      ∙ (λ j. (116 ∷ []) ∷ (lower_id h.id h.words j ++ (ap fields_pieces (spelled_same h.fields h.each) ∙ sym (lower_pieces h.fields)) j))
+      ∙ (λ j. (116 ∷ []) ∷ (lower_id h.id h.words j ++ (ap fields_pieces (spelled_same h.fields order.printed) ∙ sym (lower_pieces h.fields)) j))
       ∙ ap (λ l. (116 ∷ []) ∷ l) (sym (map-append lower (optional_pieces h.id) (fields_pieces h.fields)) ∙ ap (map lower) (sym h.spelled))
 
   transform_before : (last : ℕ) → last < to_ascii_lowercase c → (rest : List (List ℕ)) → ArePrinted (to_ascii_lowercase c) rest → ArePrinted last ((c ∷ []) ∷ (ps ++ rest))
@@ -473,7 +465,7 @@ module _ (c : ℕ) (e : to_ascii_lowercase c ≡ 116) (ps : List (List ℕ)) (h 
   good_transform = record {
     letter = letter_116;
     no_x = omega (arith, e);
-    long = subst (AllByRecursion IsLong) (sym h.spelled) (long_extension languages languages_table (to_ascii_lowercase c) (transform written_t) is_transform);
-    block = inr (transform written_t, is_transform, h.spelled);
+    long = subst (AllByRecursion IsLong) (sym h.spelled) (long_extension languages languages_table (to_ascii_lowercase c) (transform written_t) (e, is_transform));
+    block = inr (transform written_t, (e, is_transform), h.spelled);
     printed = transform_before;
   }

@@ -1,5 +1,5 @@
 -- Blocks of `t`: fields in order, and pieces that break the rule.
-use Rattle.std.proofs.Common.{inl, inr, take, ◌≡◌, ◌≢◌, ◌⊎◌, ℕ, ◌<◌, ◌≤◌, Bool, true, false, cond, not, List, [], ◌∷◌, ◌++◌, length, map, Option, Some, None, IfSome, refl, sym, ap, ◌∙◌, subst, arith, append_assoc, append-nil, true≢false, length-append}
+use Rattle.std.proofs.Common.{inl, inr, take, ◌≡◌, ◌≢◌, ◌⊎◌, ℕ, ◌<◌, ◌≤◌, Bool, true, false, cond, not, ◌&&◌, List, [], ◌∷◌, ◌++◌, length, map, Option, Some, None, IfSome, refl, sym, ap, ◌∙◌, subst, arith, append_assoc, append-nil, true≢false, length-append}
 use Rattle.std.specs.List.{AllByRecursion}
 use Rattle.std.specs.FinMap.Entries.{below_all}
 use Rattle.std.proofs.lemmas.Bool.{and_parts, and_from, cases_Bool}
@@ -18,7 +18,7 @@ use Rattle.iloc_spec_grammar.proofs.WordsLaws.{length-language, length-transform
 use Rattle.iloc_fronts.specs.Left.{pieces_of, piece_of, IsLeft}
 use Rattle.iloc_blocks.specs.Blocks.{IsBodyAs, IsValue, lower_fields}
 use Rattle.iloc_fronts.specs.Words.{two_number}
-use Rattle.iloc_blocks.specs.Transform.{AreValues, AreValuesAs, IsFieldValue, AreFields, AreRuled, NoFields, IsTransformPart, IsNoTransform, IsHead, IsHeadAs}
+use Rattle.iloc_blocks.specs.Transform.{AreValues, AreValuesAs, IsAsPrinted, IsFieldValue, AreInOrder, AreFields, AreRuled, NoFields, IsTransformPart, IsNoTransform, IsHead, IsHeadAs}
 use Rattle.iloc_fronts.specs.declared.left.Left.{Left}
 use Rattle.iloc_blocks.specs.declared.body.Body.{Body}
 use Rattle.iloc_blocks.specs.declared.body.Body.TheVariants as body
@@ -36,77 +36,86 @@ field_key_begins [] h = absurd (cc)
 field_key_begins (a ∷ []) h = absurd (cc)
 field_key_begins (a ∷ b ∷ p) h = let parts = and_parts _ _ (and_parts _ _ h).1 in record { long = omega arith; first = letter_is a parts.0; second = digit_is b parts.1 }
 
-fields_below : (p : List ℕ) → IsWord TransformKey p → (fs : Fields) → AllByRecursion (λ f. IsWord TransformKey f.0 × IsFieldValue f.1) fs → AllByRecursion (λ f. two_number p < two_number f.0) fs → below_all word_cmp (lower p) (lower_fields fs) ≡ true
+fields_below : (p : List ℕ) → IsWord TransformKey p → (fs : Fields) → AllByRecursion IsField fs → AllByRecursion (λ f. two_number p < two_number f.0) fs → below_all word_cmp (lower p) (lower_fields fs) ≡ true
 fields_below p h [] each above = refl
 fields_below p h (f ∷ fs) each above = and_from _ _ (word_below p f.0 (field_key_begins p h) (field_key_begins f.0 each.0.0) above.0) (fields_below p h fs each.1 above.1)
 
 -- a key and its value alone
-pub field_last : (last : ℕ) (p : List ℕ) (vs : List (List ℕ)) → IsWord TransformKey p → last < two_number p → IsFieldValue vs → AreFields last (p ∷ vs)
-field_last last p vs h l v = record {
+pub field_last : (ordered : Bool) (last : ℕ) (p : List ℕ) (vs : List (List ℕ)) → IsWord TransformKey p → (ordered ≡ true → last < two_number p) → IsFieldValue ordered vs → AreFields ordered last (p ∷ vs)
+field_last ordered last p vs h l v = record {
   fields = (p, vs) ∷ [];
   spelled = sym (append-nil (p ∷ vs));
-  each = ((h, v), tt);
-  ascending = refl;
-  above = (l, tt);
+  each = ((h, v.each, v.some), tt);
+  order = λ o. record { printed = (v.printed o, tt); ascending = refl; above = (l o, tt) };
   some = omega arith;
 }
 
 -- and before others
-pub field_more : (last : ℕ) (p : List ℕ) (vs : List (List ℕ)) → IsWord TransformKey p → last < two_number p → IsFieldValue vs → (qs : List (List ℕ)) → AreFields (two_number p) qs → AreFields last (p ∷ (vs ++ qs))
-field_more last p vs h l v qs f = record {
+pub field_more : (ordered : Bool) (last : ℕ) (p : List ℕ) (vs : List (List ℕ)) → IsWord TransformKey p → (ordered ≡ true → last < two_number p) → IsFieldValue ordered vs
+    → (qs : List (List ℕ)) → AreFields ordered (two_number p) qs → AreFields ordered last (p ∷ (vs ++ qs))
+field_more ordered last p vs h l v qs f = record {
   fields = (p, vs) ∷ f.fields;
   spelled = ap (λ r. p ∷ (vs ++ r)) f.spelled;
-  each = ((h, v), f.each);
-  ascending = and_from _ _ (fields_below p h f.fields f.each f.above) f.ascending;
-  above = (l, all_weaker (λ g. two_number p < two_number g.0) (λ g. last < two_number g.0) (λ g m. omega arith) f.fields f.above);
+  each = ((h, v.each, v.some), f.each);
+  order = λ o. in_order (l o) (v.printed o) (f.order o);
   some = omega arith;
 }
+  where
+    in_order : last < two_number p → IsAsPrinted vs → AreInOrder (two_number p) f.fields → AreInOrder last ((p, vs) ∷ f.fields)
+    in_order less printed i = record {
+      printed = (printed, i.printed);
+      ascending = and_from _ _ (fields_below p h f.fields f.each i.above) i.ascending;
+      above = (less, all_weaker (λ g. two_number p < two_number g.0) (λ g. last < two_number g.0) (λ g m. omega arith) f.fields i.above);
+    }
 
 -- ---- values
 
-pub value_last : (p : List ℕ) → IsValue p → AreValues (p ∷ [])
-value_last p h = record { each = (h, tt); some = omega arith }
+-- what is asked, and does not hold
+pub not_asked : (ordered b : Bool) → (ordered && b) ≡ false → ordered ≡ true → b ≡ false
+not_asked true b e o = e
+not_asked false b e o = absurd (true≢false (sym o))
 
-value_more : (p : List ℕ) (ps : List (List ℕ)) → IsValue p → AreValues ps → AreValues (p ∷ ps)
-value_more p ps h v = record { each = (h, v.each); some = omega arith }
+pub value_last : (ordered : Bool) (p : List ℕ) → IsWord Attribute p → (ordered ≡ true → is_true (lower p) ≡ false) → AreValues ordered (p ∷ [])
+value_last ordered p h k = record { each = (h, tt); plain = λ o. ((h, k o), tt); some = omega arith }
 
-pub values_after : (m n : ℕ) (p : List ℕ) (ps whole : List (List ℕ)) → whole ≡ p ∷ ps → m ≤ n → IsValue p → (w : Body) → AreValuesAs AreValues m ps w → AreValuesAs AreValues n whole w
-values_after m n p ps whole e le h body.End v = subst AreValues (sym e) (value_more p ps h v)
-values_after m n p ps whole e le h (body.Next l) v = (v.0, omega (arith, v.1), record { body = p ∷ v.2.body; cut = e ∙ ap (λ l. p ∷ l) v.2.cut; is = value_more p v.2.body h v.2.is }, v.3)
-values_after m n p ps whole e le h body.Bad v = v
-values_after m n p ps whole e le h body.Unordered v = tt
-values_after m n p ps whole e le h body.Other v = tt
+value_more : (ordered : Bool) (p : List ℕ) (ps : List (List ℕ)) → IsWord Attribute p → (ordered ≡ true → is_true (lower p) ≡ false) → AreValues ordered ps → AreValues ordered (p ∷ ps)
+value_more ordered p ps h k v = record { each = (h, v.each); plain = λ o. ((h, k o), v.plain o); some = omega arith }
 
-pub value_words : (vs : List (List ℕ)) → AllByRecursion IsValue vs → AllByRecursion (IsWord Attribute) vs
-value_words vs h = all_weaker IsValue (IsWord Attribute) (λ p v. v.0) vs h
+pub values_after : (ordered : Bool) (m n : ℕ) (p : List ℕ) (ps whole : List (List ℕ)) → whole ≡ p ∷ ps → m ≤ n → IsWord Attribute p → (ordered ≡ true → is_true (lower p) ≡ false)
+    → (w : Body) → AreValuesAs (AreValues ordered) m ps w → AreValuesAs (AreValues ordered) n whole w
+values_after ordered m n p ps whole e le h k body.End v = subst (AreValues ordered) (sym e) (value_more ordered p ps h k v)
+values_after ordered m n p ps whole e le h k (body.Next l) v = (v.0, omega (arith, v.1), record { body = p ∷ v.2.body; cut = e ∙ ap (λ l. p ∷ l) v.2.cut; is = value_more ordered p v.2.body h k v.2.is }, v.3)
+values_after ordered m n p ps whole e le h k body.Bad v = v
+values_after ordered m n p ps whole e le h k body.Unordered v = tt
+values_after ordered m n p ps whole e le h k body.Other v = tt
 
 -- without `true` they are printed as they are
 no_true_kept : (vs : List (List ℕ)) → AllByRecursion IsValue vs → normal_values vs ≡ map lower vs
 no_true_kept [] h = refl
 no_true_kept (v ∷ vs) h = ap (λ (b : Bool). cond (not b) (lower v ∷ normal_values vs) (normal_values vs)) h.0.1 ∙ ap (λ l. lower v ∷ l) (no_true_kept vs h.1)
 
-pub values_in_order : (vs : List (List ℕ)) → AreValues vs → IsFieldValue vs
-values_in_order vs h = record { each = value_words vs h.each; some = h.some; printed = ap spelled_value (no_true_kept vs h.each) ∙ spelled vs h.some }
+pub values_in_order : (ordered : Bool) (vs : List (List ℕ)) → AreValues ordered vs → IsFieldValue ordered vs
+values_in_order ordered vs h = record { each = h.each; some = h.some; printed = λ o. ap spelled_value (no_true_kept vs (h.plain o)) ∙ spelled vs h.some }
   where
     spelled : (vs : List (List ℕ)) → 0 < length vs → spelled_value (map lower vs) ≡ map lower vs
     spelled [] l = absurd (omega arith)
     spelled (v ∷ vs) l = refl
 
 -- and so is `true` alone
-pub true_in_order : (p : List ℕ) → IsWord Attribute p → is_true (lower p) ≡ true → IsFieldValue (p ∷ [])
-true_in_order p w t = record {
+pub true_in_order : (ordered : Bool) (p : List ℕ) → IsWord Attribute p → is_true (lower p) ≡ true → IsFieldValue ordered (p ∷ [])
+true_in_order ordered p w t = record {
   each = (w, tt);
   some = omega arith;
-  printed = ap (λ (b : Bool). spelled_value (cond (not b) (lower p ∷ []) [])) t ∙ ap (λ w. w ∷ []) (true_word (lower p) t);
+  printed = λ _. ap (λ (b : Bool). spelled_value (cond (not b) (lower p ∷ []) [])) t ∙ ap (λ w. w ∷ []) (true_word (lower p) t);
 }
 
 -- what is told of such pieces
-pub told_in_order : (len : ℕ) (ps : List (List ℕ)) (w : Body) → AreValuesAs AreValues len ps w → AreValuesAs IsFieldValue len ps w
-told_in_order len ps body.End h = values_in_order ps h
-told_in_order len ps (body.Next l) h = (h.0, h.1, record { body = h.2.body; cut = h.2.cut; is = values_in_order h.2.body h.2.is }, h.3)
-told_in_order len ps body.Bad h = h
-told_in_order len ps body.Unordered h = tt
-told_in_order len ps body.Other h = tt
+pub told_in_order : (ordered : Bool) (len : ℕ) (ps : List (List ℕ)) (w : Body) → AreValuesAs (AreValues ordered) len ps w → AreValuesAs (IsFieldValue ordered) len ps w
+told_in_order ordered len ps body.End h = values_in_order ordered ps h
+told_in_order ordered len ps (body.Next l) h = (h.0, h.1, record { body = h.2.body; cut = h.2.cut; is = values_in_order ordered h.2.body h.2.is }, h.3)
+told_in_order ordered len ps body.Bad h = h
+told_in_order ordered len ps body.Unordered h = tt
+told_in_order ordered len ps body.Other h = tt
 
 -- ---- fields that break the rule
 
@@ -461,24 +470,35 @@ module _ (l : Left) (h : IsLeft l) (word : IsWord (Language languages) (piece_of
         }
   ]
 
--- fields alone
-pub fields_alone : (ps : List (List ℕ)) → AreFields 0 ps → IsTransformPart ps
-fields_alone ps f = record { id = None; fields = f.fields; spelled = f.spelled; words = tt; each = f.each; ascending = f.ascending; some = λ _. f.some }
+-- fields alone, an identifier alone, and one before fields
+module _ (ordered : Bool) where
+  pub fields_alone : (ps : List (List ℕ)) → AreFields ordered 0 ps → IsTransformPart ordered ps
+  fields_alone ps f = record { id = None; fields = f.fields; spelled = f.spelled; words = tt; each = f.each; order = f.order; some = λ _. f.some }
 
--- an identifier alone, and before fields
-pub id_alone : (ps : List (List ℕ)) → IsHead ps [] → IsTransformPart ps
-id_alone ps h = record { id = Some (front_of ps); fields = []; spelled = spelled ps [] h; words = part_words ps [] h; each = tt; ascending = refl; some = λ e. absurd (cc) }
+  none_in_order : ordered ≡ true → AreInOrder 0 []
+  none_in_order o = record { printed = tt; ascending = refl; above = tt }
 
-pub id_before : (ps rest qs : List (List ℕ)) → IsHead ps rest → AreFields 0 qs → IsTransformPart (identifier_pieces (front_of ps) ++ qs)
-id_before ps rest qs h f = record { id = Some (front_of ps); fields = f.fields; spelled = ap (λ l. identifier_pieces (front_of ps) ++ l) f.spelled; words = part_words ps rest h; each = f.each; ascending = f.ascending; some = λ e. absurd (cc) }
+  id_alone : (ps : List (List ℕ)) → IsHead ps [] → IsTransformPart ordered ps
+  id_alone ps h = record { id = Some (front_of ps); fields = []; spelled = spelled ps [] h; words = part_words ps [] h; each = tt; order = none_in_order; some = λ e. absurd (cc) }
 
-pub id_only : (ps rest : List (List ℕ)) → IsHead ps rest → IsTransformPart (identifier_pieces (front_of ps))
-id_only ps rest h = record { id = Some (front_of ps); fields = []; spelled = sym (append-nil (identifier_pieces (front_of ps))); words = part_words ps rest h; each = tt; ascending = refl; some = λ e. absurd (cc) }
+  id_only : (ps rest : List (List ℕ)) → IsHead ps rest → IsTransformPart ordered (identifier_pieces (front_of ps))
+  id_only ps rest h = record { id = Some (front_of ps); fields = []; spelled = sym (append-nil (identifier_pieces (front_of ps))); words = part_words ps rest h; each = tt; order = none_in_order; some = λ e. absurd (cc) }
 
--- what is told of an identifier, if that is all that is told
-pub id_told : (len : ℕ) (ps : List (List ℕ)) (w : Body) → (w ≡ body.Bad → ⊥) → IsHeadAs len ps w → IsBodyAs IsTransformPart IsNoTransform len ps w
-id_told len ps body.End n h = id_alone ps h
-id_told len ps (body.Next l) n h = (h.0, h.1, record { body = identifier_pieces (front_of ps); cut = spelled ps (pieces_of l) h.2; is = id_only ps (pieces_of l) h.2 })
-id_told len ps body.Bad n h = absurd (n refl)
-id_told len ps body.Unordered n h = tt
-id_told len ps body.Other n h = tt
+  pub id_before : (ps rest qs : List (List ℕ)) → IsHead ps rest → AreFields ordered 0 qs → IsTransformPart ordered (identifier_pieces (front_of ps) ++ qs)
+  id_before ps rest qs h f = record { id = Some (front_of ps); fields = f.fields; spelled = ap (λ l. identifier_pieces (front_of ps) ++ l) f.spelled; words = part_words ps rest h; each = f.each; order = f.order; some = λ e. absurd (cc) }
+
+  -- what is told of an identifier, if that is all that is told
+  pub id_told : (len : ℕ) (ps : List (List ℕ)) (w : Body) → (w ≡ body.Bad → ⊥) → IsHeadAs len ps w → IsBodyAs (IsTransformPart ordered) IsNoTransform len ps w
+  id_told len ps body.End n h = id_alone ps h
+  id_told len ps (body.Next l) n h = (h.0, h.1, record { body = identifier_pieces (front_of ps); cut = spelled ps (pieces_of l) h.2; is = id_only ps (pieces_of l) h.2 })
+  id_told len ps body.Bad n h = absurd (n refl)
+  id_told len ps body.Unordered n h = tt
+  id_told len ps body.Other n h = tt
+
+-- what such pieces spell
+pub part_means : (ordered : Bool) (ps : List (List ℕ)) (h : IsTransformPart ordered ps) → IsTransform languages (record { id = h.id; fields = h.fields })
+part_means ordered ps h = record { id = identifiers h.id h.words; fields = h.each; nonempty = h.some }
+  where
+    identifiers : (o : Option Identifier) → IfSome o (λ i. HasWords languages i × (length i.variants ≤ 1)) → IfSome o (IsIdentifier languages)
+    identifiers None k = tt
+    identifiers (Some i) k = record { words = k.0; different = few_different i.variants k.1 }

@@ -1,14 +1,18 @@
 -- What is told of the blocks of a locale, from the first one on.
-use Rattle.std.specs.Prelude.{◌≡◌, ◌≢◌, ◌⊎◌, ⊤, ℕ, ◌+◌, ◌*◌, ◌<◌, ◌≤◌, ◌&&◌, Bool, true, false, List, [], ◌++◌, length, map, get_or, Option, Some, None}
+use Rattle.std.specs.Prelude.{◌≡◌, ◌≢◌, ◌⊎◌, ⊤, ℕ, ◌+◌, ◌<◌, ◌≤◌, ◌&&◌, Bool, true, false, List, [], ◌++◌, length, map, Option, Some, None}
 use Rattle.std.specs.Int.{is_in_range}
-use Rattle.std.specs.List.{AllByRecursion, list_all}
+use Rattle.std.specs.List.{AllByRecursion, list_all, list_any}
 use Rattle.std.specs.FinMap.{is_sorted}
+use Rattle.std.specs.Ordering.{nat_cmp, eq_by_cmp}
 use Rattle.std.specs.Char.{is_ascii_alphanumeric}
 use Rattle.iloc_spec_grammar.specs.Syntax.{Text, Fields, code_t, code_u, code_x, front, blocks, PrivateSubtag, Subtag, UnicodeKey, Attribute, is_word, IsWord, IsOther, is_true, letters_or_digits, lower, word_cmp, fields_pieces, languages, first_piece}
-use Rattle.iloc_spec_grammar.specs.Meaning.{Extensions, InvalidExtension, FirstBadBlock, no_unicode, no_transform}
+use Rattle.iloc_spec_grammar.specs.Meaning.{Extensions, FirstBadBlock, no_unicode, no_transform}
 use Rattle.iloc_spec_grammar.specs.Values.{IsAscending, IsExtensionsValue, AreWellFormed, extensions_spelling}
 use Rattle.iloc_fronts.specs.Left.{pieces_of, IsLeft}
 use Rattle.iloc_fronts.specs.declared.left.Left.{Left}
+use Rattle.iloc_blocks.specs.Bad.{fault_of}
+use Rattle.iloc_blocks.specs.declared.bad_block.BadBlock.{BadBlock}
+use Rattle.iloc_blocks.specs.declared.bad_block.BadBlock.TheVariants as bad
 use Rattle.iloc_blocks.specs.declared.blocks.Rest.{Rest}
 use Rattle.iloc_blocks.specs.declared.blocks.Rest.TheVariants as rest
 use Rattle.iloc_blocks.specs.declared.body.Body.{Body}
@@ -33,20 +37,22 @@ pub record ArePrinted (last : ℕ) (ps : List Text) : Type 0 where
   pub above : AreAbove last extensions
   pub printed : map lower ps ≡ extensions_spelling extensions
 
--- these singletons are none of `x`, and not above the last one
-abbrev pub AreSeen : ℕ → Text → Type 0
-AreSeen last seen = AllByRecursion (λ s. (s ≤ last) × (s ≢ code_x)) seen
+-- these singletons are none of `x`, and the last one, unless it is zero, is the greatest of them
+pub record AreSeen (last : ℕ) (seen : Text) : Type 0 where
+  pub each : AllByRecursion (λ s. (s ≤ last) × (s ≢ code_x)) seen
+  pub greatest : (last ≡ 0) ⊎ (list_any (eq_by_cmp nat_cmp last) seen ≡ true)
 
--- blocks come at once, and after such singletons the first bad one has this fault
-pub record BeginBadly (last : ℕ) (ps : List Text) : Type 0 where
+-- blocks come at once, and after such singletons the first bad one is as told
+pub record BeginBadly (last : ℕ) (ps : List Text) (b : BadBlock) : Type 0 where
   pub none_before : front ps ≡ []
   pub fault : (seen : Text) → AreSeen last seen
-      → FirstBadBlock languages seen (blocks ps) InvalidExtension
+      → FirstBadBlock languages seen (blocks ps) (fault_of b)
 
 -- what is told of the pieces from a singleton on, after blocks with singletons up to the last one
 abbrev pub AreBlocksOf : ℕ → List Text → Rest → Type 0
 AreBlocksOf last ps rest.Printed = ArePrinted last ps
-AreBlocksOf last ps rest.BadBlock = BeginBadly last ps
+AreBlocksOf last ps rest.Misfit = BeginBadly last ps bad.Misfit
+AreBlocksOf last ps rest.Duplicated = BeginBadly last ps bad.Duplicated
 AreBlocksOf last ps rest.Unordered = ⊤
 AreBlocksOf last ps rest.Other = ⊤
 
@@ -59,7 +65,7 @@ abbrev pub IsBlockAs : ℕ → ℕ → ℕ → List Text → Body → Type 0
 IsBlockAs last c len ps body.End = ArePrinted last ps
 IsBlockAs last c len ps (body.Next l) = IsLeft l × (l.len ≤ len)
     × ((r : Rest) → AreBlocksOf c (pieces_of l) r → AreBlocksOf last ps r)
-IsBlockAs last c len ps body.Bad = BeginBadly last ps
+IsBlockAs last c len ps body.Bad = BeginBadly last ps bad.Misfit
 IsBlockAs last c len ps body.Unordered = ⊤
 IsBlockAs last c len ps body.Other = ⊤
 
@@ -71,13 +77,26 @@ pub record IsCutAs (P : List Text → Type 0) (ps left : List Text) : Type 0 whe
   pub cut : ps ≡ body ++ left
   pub is : P body
 
--- the pieces of so many bytes are such a body, up to what is left of them; or this is wrong with them
+-- the pieces of so many bytes are such a body, up to what is left; or this is wrong with them
 abbrev pub IsBodyAs : (List Text → Type 0) → (List Text → Type 0) → ℕ → List Text → Body → Type 0
 IsBodyAs P B len ps body.End = P ps
 IsBodyAs P B len ps (body.Next l) = IsLeft l × (l.len ≤ len) × IsCutAs P ps (pieces_of l)
 IsBodyAs P B len ps body.Bad = B ps
 IsBodyAs P B len ps body.Unordered = ⊤
 IsBodyAs P B len ps body.Other = ⊤
+
+-- what is told of pieces that are not in order: that they are bad, or nothing
+abbrev pub IsBadAs : (List Text → Type 0) → List Text → Body → Type 0
+IsBadAs B ps body.End = ¬ ⊤
+IsBadAs B ps (body.Next l) = ¬ ⊤
+IsBadAs B ps body.Bad = B ps
+IsBadAs B ps body.Unordered = ⊤
+IsBadAs B ps body.Other = ⊤
+
+-- a bad body stays bad, and any other is not in order
+abbrev pub IsUnorderedAs : Body → Body → Type 0
+IsUnorderedAs body.Bad w = w ≡ body.Bad
+IsUnorderedAs v w = w ≡ body.Unordered
 
 -- Words.
 

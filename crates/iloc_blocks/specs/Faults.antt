@@ -1,27 +1,19 @@
 -- What is told of a bad block after good ones, in whatever order.
-use Rattle.std.specs.Prelude.{◌≡◌, ◌≢◌, ◌⊎◌, ⊤, ℕ, ◌+◌, ◌*◌, ◌<◌, ◌≤◌, Bool, true, false, List, [], ◌∷◌, ◌++◌, length, map, get_or, Option, None, IfSome}
+use Rattle.std.specs.Prelude.{◌≡◌, ◌≢◌, ◌⊎◌, ⊤, ℕ, ◌<◌, ◌≤◌, Bool, true, false, List, [], ◌∷◌, ◌++◌, length, map, get_or}
 use Rattle.std.specs.Int.{is_in_range}
 use Rattle.std.specs.List.{AllByRecursion, list_any}
 use Rattle.std.specs.Ordering.{nat_cmp, eq_by_cmp}
 use Rattle.std.specs.Char.{to_ascii_lowercase}
-use Rattle.iloc_spec_grammar.specs.Syntax.{Text, Fields, Identifier, Variant, UnicodeKey, Attribute, IsWord, HasWords, IsField, AllDifferent, front, blocks, fields_pieces, optional_pieces, languages, lower, word_cmp}
-use Rattle.iloc_spec_grammar.specs.Meaning.{Fault, InvalidExtension, DuplicatedExtension, FirstBadBlock, HasFault}
+use Rattle.iloc_spec_grammar.specs.Syntax.{Text, Variant, UnicodeKey, Attribute, IsWord, AllDifferent, front, blocks, languages, lower, word_cmp}
+use Rattle.iloc_spec_grammar.specs.Meaning.{FirstBadBlock}
 use Rattle.iloc_fronts.specs.Left.{pieces_of, IsLeft}
 use Rattle.iloc_fronts.specs.declared.left.Left.{Left}
-use Rattle.iloc_blocks.specs.declared.faults.BadBlock.{BadBlock}
-use Rattle.iloc_blocks.specs.declared.faults.BadBlock.TheVariants as bad
+use Rattle.iloc_blocks.specs.Bad.{fault_of}
+use Rattle.iloc_blocks.specs.declared.bad_block.BadBlock.{BadBlock}
+use Rattle.iloc_blocks.specs.declared.bad_block.BadBlock.TheVariants as bad
 use Rattle.iloc_blocks.specs.declared.body.Body.{Body}
 use Rattle.iloc_blocks.specs.declared.body.Body.TheVariants as body
 use Rattle.iloc_fronts.specs.Words.{four_number}
-
--- the fault that is told
-abbrev pub fault_of : BadBlock → Fault
-fault_of bad.Misfit = InvalidExtension
-fault_of bad.Duplicated = DuplicatedExtension
-
--- the text has it
-abbrev pub HasBadBlock : Text → BadBlock → Type 0
-HasBadBlock t b = HasFault languages t (fault_of b)
 
 -- Variants.
 
@@ -53,11 +45,13 @@ IsUnseen c seen = list_any (eq_by_cmp nat_cmp (to_ascii_lowercase c)) seen ≡ f
 abbrev pub AreMarked : List Bool → Text → Type 0
 AreMarked marks seen = (s : ℕ) → list_any (eq_by_cmp nat_cmp s) seen ≡ get_or marks s false
 
--- the first block has the singleton c, which is new: what is bad after it is the first that is bad, or it is bad
+-- the first block has the singleton c, which is new: it is bad, or what is bad after it is the first
 abbrev pub IsPassedAs : ℕ → ℕ → List Text → Body → Type 0
-IsPassedAs c len ps (body.Next l) = IsLeft l × (l.len ≤ len) × ((seen : Text) (b : BadBlock) → IsUnseen c seen
+IsPassedAs c len ps (body.Next l) = IsLeft l × (l.len ≤ len)
+    × ((seen : Text) (b : BadBlock) → IsUnseen c seen
     → HaveBad (to_ascii_lowercase c ∷ seen) (pieces_of l) b → HaveBad seen ((c ∷ []) ∷ ps) b)
-IsPassedAs c len ps body.Bad = (seen : Text) → IsUnseen c seen → HaveBad seen ((c ∷ []) ∷ ps) bad.Misfit
+IsPassedAs c len ps body.Bad = (seen : Text) → IsUnseen c seen
+    → HaveBad seen ((c ∷ []) ∷ ps) bad.Misfit
 IsPassedAs c len ps body.End = ⊤
 IsPassedAs c len ps body.Unordered = ⊤
 IsPassedAs c len ps body.Other = ⊤
@@ -83,19 +77,3 @@ AreBetween ps = AllByRecursion (λ p. is_in_range 2 8 (length p) ≡ true) ps
 -- up to the next block a piece is longer or shorter
 abbrev pub HaveOdd : List Text → Type 0
 HaveOdd ps = ¬ (AreBetween (front ps))
-
--- fields, one at least
-pub record AreSomeFields (ps : List Text) : Type 0 where
-  pub fields : Fields
-  pub spelled : ps ≡ fields_pieces fields
-  pub each : AllByRecursion IsField fields
-  pub some : 0 < length fields
-
--- perhaps an identifier with at most one variant, and fields, not both absent
-pub record IsSomeTransform (ps : List Text) : Type 0 where
-  pub id : Option Identifier
-  pub fields : Fields
-  pub spelled : ps ≡ optional_pieces id ++ fields_pieces fields
-  pub words : IfSome id (λ i. HasWords languages i × (length i.variants ≤ 1))
-  pub each : AllByRecursion IsField fields
-  pub some : id ≡ None → 0 < length fields

@@ -1,3 +1,4 @@
+pub mod Bad
 pub mod Blocks
 pub mod Transform
 pub mod Ordered

@@ -2,10 +2,13 @@
 use Rattle.std.specs.Prelude.{◌≡◌, ⊤, ℕ, ◌+◌, ◌-◌, ◌<◌, ◌≤◌, List, [], ◌∷◌, ◌++◌, length, map, take, drop, get_or}
 use Rattle.std.specs.List.{AllByRecursion}
 use Rattle.iloc_spec_grammar.specs.Syntax.{Text, pieces, front, blocks, Variant, IsWord, languages, lower, word_cmp, AllDifferent, Identifier}
-use Rattle.iloc_spec_grammar.specs.Meaning.{Locale, IdentifierMeans, Means, Fault, InvalidExtension, FirstBadBlock, HasFault}
+use Rattle.iloc_spec_grammar.specs.Meaning.{Locale, IdentifierMeans, Means, Fault, FirstBadBlock}
 use Rattle.iloc_spec_grammar.specs.Values.{identifier_text, text}
 use Rattle.iloc_plain.specs.Plain.{AreWords, IsPlain, value_of}
 use Rattle.iloc_blocks.specs.Blocks.{ArePrinted, BeginBadly}
+use Rattle.iloc_blocks.specs.Bad.{HasBadBlock}
+use Rattle.iloc_blocks.specs.declared.bad_block.BadBlock.{BadBlock}
+use Rattle.iloc_blocks.specs.declared.bad_block.BadBlock.TheVariants as bad
 use Rattle.iloc_blocks.specs.declared.ordered.Ordered.{Ordered}
 use Rattle.iloc_blocks.specs.declared.ordered.Reading.{Reading}
 use Rattle.iloc_blocks.specs.declared.ordered.Reading.TheVariants as reading
@@ -63,14 +66,14 @@ pub record IsTail (ps : List Text) : Type 0 where
   pub few : length variants ≤ 1
   pub extensions : ArePrinted 0 rest
 
--- they are at most one variant, and blocks of which the first bad one has the fault
-pub record IsBadTail (ps : List Text) : Type 0 where
+-- they are at most one variant, and blocks of which the first bad one is as told
+pub record IsBadTail (ps : List Text) (b : BadBlock) : Type 0 where
   pub variants : List Text
   pub rest : List Text
   pub cut : ps ≡ variants ++ rest
   pub each : AllByRecursion (IsWord Variant) variants
   pub few : length variants ≤ 1
-  pub bad : BeginBadly 0 rest
+  pub bad : BeginBadly 0 rest b
 
 -- they are different variants, and blocks of which the first bad one has this fault
 pub record IsFaultyTail (ps : List Text) (f : Fault) : Type 0 where
@@ -85,13 +88,14 @@ pub record IsFaultyTail (ps : List Text) (f : Fault) : Type 0 where
 -- what is told of the pieces after a plain identifier
 abbrev pub IsTailOf : List Text → Rest → Type 0
 IsTailOf ps rest.Printed = IsTail ps
-IsTailOf ps rest.BadBlock = IsBadTail ps
+IsTailOf ps rest.Misfit = IsBadTail ps bad.Misfit
+IsTailOf ps rest.Duplicated = IsBadTail ps bad.Duplicated
 IsTailOf ps rest.Unordered = ⊤
 IsTailOf ps rest.Other = ⊤
 
 -- what is told of the line
 abbrev pub IsReading : Text → Reading → Type 0
 IsReading t (reading.Ordered o) = IsOrdered t o
-IsReading t reading.BadBlock = HasFault languages t InvalidExtension
+IsReading t (reading.BadBlock b) = HasBadBlock t b
 IsReading t reading.Unordered = ⊤
 IsReading t reading.Other = ⊤

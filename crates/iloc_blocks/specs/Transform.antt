@@ -1,5 +1,5 @@
 -- What is told of a block of `t`.
-use Rattle.std.specs.Prelude.{◌≡◌, ⊤, ℕ, ◌<◌, ◌≤◌, ◌⊎◌, ◌∷◌, ◌++◌, true, false, List, [], length, map, Option, Some, None, IfSome}
+use Rattle.std.specs.Prelude.{◌≡◌, ⊤, ℕ, ◌<◌, ◌≤◌, ◌⊎◌, ◌∷◌, ◌++◌, Bool, true, false, List, [], length, map, Option, Some, None, IfSome}
 use Rattle.std.specs.List.{AllByRecursion}
 use Rattle.std.specs.FinMap.{is_sorted}
 use Rattle.iloc_spec_grammar.specs.Syntax.{Text, Fields, Identifier, Transform, front, first_piece, Language, Variant, Attribute, TransformKey, is_word, IsWord, HasWords, IsField, IsTransform, fields_pieces, optional_pieces, transform_pieces, languages, lower, word_cmp}
@@ -18,16 +18,21 @@ abbrev pub IsRest : ℕ → Option Left → Type 0
 IsRest len None = ⊤
 IsRest len (Some l) = IsLeft l × (l.len ≤ len)
 
--- they are pieces of a value other than `true`, one at least
-pub record AreValues (ps : List Text) : Type 0 where
-  pub each : AllByRecursion IsValue ps
+-- they are words of a value, one at least; if order is asked, none is `true`
+pub record AreValues (ordered : Bool) (ps : List Text) : Type 0 where
+  pub each : AllByRecursion (IsWord Attribute) ps
+  pub plain : ordered ≡ true → AllByRecursion IsValue ps
   pub some : 0 < length ps
 
--- they are words, one at least, whose normal text is their own but for the case: `true` stays if it is alone
-pub record IsFieldValue (ps : List Text) : Type 0 where
+-- the normal text of such words is their own but for the case: `true` stays if it is alone
+abbrev pub IsAsPrinted : List Text → Type 0
+IsAsPrinted ps = spelled_value (normal_values ps) ≡ map lower ps
+
+-- they are words of a value, one at least; if order is asked, as they are printed
+pub record IsFieldValue (ordered : Bool) (ps : List Text) : Type 0 where
   pub each : AllByRecursion (IsWord Attribute) ps
   pub some : 0 < length ps
-  pub printed : spelled_value (normal_values ps) ≡ map lower ps
+  pub printed : ordered ≡ true → IsAsPrinted ps
 
 -- they are such pieces, up to the end or to one that is no word
 abbrev pub AreValuesAs : (List Text → Type 0) → ℕ → List Text → Body → Type 0
@@ -38,13 +43,18 @@ AreValuesAs P len ps body.Bad = ¬ ⊤
 AreValuesAs P len ps body.Unordered = ⊤
 AreValuesAs P len ps body.Other = ⊤
 
--- they are fields with ascending keys above a number, whose values are as they are printed, one at least
-pub record AreFields (last : ℕ) (ps : List Text) : Type 0 where
-  pub fields : Fields
-  pub spelled : ps ≡ fields_pieces fields
-  pub each : AllByRecursion (λ f. IsWord TransformKey f.0 × IsFieldValue f.1) fields
+-- their keys ascend above a number, and their values are as they are printed
+pub record AreInOrder (last : ℕ) (fields : Fields) : Type 0 where
+  pub printed : AllByRecursion (λ f. IsAsPrinted f.1) fields
   pub ascending : is_sorted word_cmp (lower_fields fields) ≡ true
   pub above : AllByRecursion (λ f. last < two_number f.0) fields
+
+-- they are fields, one at least; if order is asked, they are in order above a number
+pub record AreFields (ordered : Bool) (last : ℕ) (ps : List Text) : Type 0 where
+  pub fields : Fields
+  pub spelled : ps ≡ fields_pieces fields
+  pub each : AllByRecursion IsField fields
+  pub order : ordered ≡ true → AreInOrder last fields
   pub some : 0 < length fields
 
 -- they begin with a key, and each key has words for its value
@@ -78,13 +88,13 @@ IsHeadAs len ps body.Unordered = ⊤
 IsHeadAs len ps body.Other = ⊤
 
 -- they are perhaps an identifier with at most one variant, and such fields, not both absent
-pub record IsTransformPart (ps : List Text) : Type 0 where
+pub record IsTransformPart (ordered : Bool) (ps : List Text) : Type 0 where
   pub id : Option Identifier
   pub fields : Fields
   pub spelled : ps ≡ optional_pieces id ++ fields_pieces fields
   pub words : IfSome id (λ i. HasWords languages i × (length i.variants ≤ 1))
-  pub each : AllByRecursion (λ f. IsWord TransformKey f.0 × IsFieldValue f.1) fields
-  pub ascending : is_sorted word_cmp (lower_fields fields) ≡ true
+  pub each : AllByRecursion IsField fields
+  pub order : ordered ≡ true → AreInOrder 0 fields
   pub some : id ≡ None → 0 < length fields
 
 -- what breaks the rule of `t`, but for a repeated variant

@@ -1,5 +1,6 @@
 //! Tells the blocks of a locale, from the first one on.
-ghost use Rattle.std.specs.Prelude.{◌≡◌, ◌∷◌, ℕ, [], IsTrue};
+ghost use Rattle.std.specs.Prelude.{◌≡◌, ◌↔◌, ◌∷◌, ℕ, List, [], IsTrue};
+ghost use Rattle.iloc_spec_grammar.specs.Syntax.{Text};
 ghost use Rattle.std.specs.Char.{to_ascii_lowercase};
 ghost use Rattle.iloc_fronts.specs.Left.{IsLeft, pieces_of};
 ghost use Rattle.iloc_blocks.specs.Blocks.{AreBlocksOf, IsBlockAs, IsNewAfter};
@@ -15,9 +16,11 @@ use iloc_fronts::left::{Left, after_piece};
 pub(crate) enum Rest {
     // What a value prints, but for the case.
     Printed,
-    // Good blocks, then one that is bad, and perhaps others after it.
-    BadBlock,
-    // A block of `u` comes that is not in order.
+    // Good blocks, then one that breaks the rule of its singleton, and perhaps others after it.
+    Misfit,
+    // Good blocks, then one with the singleton of an earlier one, and perhaps others after it.
+    Duplicated,
+    // A good block comes that is not in order, or one with a lesser singleton than the last.
     Unordered,
     // Nothing that is told.
     Other,
@@ -34,13 +37,13 @@ pub(crate) fn read_blocks(left: Left<'_>) -> Rest
         return Rest::Other;
     }
     if left.n == left.len {
-        return Rest::BadBlock;
+        return Rest::Misfit;
     }
     let singleton = left.window[0].to_ascii_lowercase();
     match read_block(singleton, after_piece(left)) {
         Body::End => Rest::Printed,
         Body::Next(next) => after_first(singleton, next),
-        Body::Bad => Rest::BadBlock,
+        Body::Bad => Rest::Misfit,
         Body::Unordered => Rest::Unordered,
         Body::Other => Rest::Other,
     }
@@ -57,7 +60,7 @@ fn after_first(first: u8, left: Left<'_>) -> Rest
     }
     match read_private(after_piece(left)) {
         Body::End => Rest::Printed,
-        Body::Bad => Rest::BadBlock,
+        Body::Bad => Rest::Misfit,
         _ => Rest::Other,
     }
 }
@@ -73,10 +76,10 @@ fn read_later(first: u8, left: Left<'_>) -> Rest
     'following: while at.n == 1 {
         let singleton = at.window[0].to_ascii_lowercase();
         if !may_follow(singleton, last) {
-            return Rest::Other;
+            return out_of_order(singleton, last);
         }
         if at.n == at.len {
-            return Rest::BadBlock;
+            return Rest::Misfit;
         }
         match read_block(singleton, after_piece(at)) {
             Body::End => return Rest::Printed,
@@ -84,7 +87,7 @@ fn read_later(first: u8, left: Left<'_>) -> Rest
                 last = singleton;
                 at = next;
             }
-            Body::Bad => return Rest::BadBlock,
+            Body::Bad => return Rest::Misfit,
             Body::Unordered => return Rest::Unordered,
             Body::Other => return Rest::Other,
         }
@@ -92,11 +95,24 @@ fn read_later(first: u8, left: Left<'_>) -> Rest
     Rest::Other
 }
 
+// What the blocks are if the first has no greater singleton than the last.
+#[inline(always)]
+fn out_of_order(singleton: u8, last: u8) -> Rest
+    requires { ¬ (IsNewAfter last singleton) }
+    ensures { (c : ℕ) (ps : List Text) → to_ascii_lowercase c ≡ singleton
+        → AreBlocksOf last ((c ∷ []) ∷ ps) result }
+{
+    if singleton == last {
+        return Rest::Duplicated;
+    }
+    Rest::Unordered
+}
+
 // Whether a block with this singleton may come after one with the last. A byte that is no letter or
 // digit makes a bad block anywhere.
 #[inline(always)]
 fn may_follow(singleton: u8, last: u8) -> bool
-    ensures { IsTrue result → IsNewAfter last singleton }
+    ensures { IsTrue result ↔ IsNewAfter last singleton }
 {
     if singleton > last {
         return true;
@@ -114,7 +130,7 @@ fn read_block(singleton: u8, left: Left<'_>) -> Body<'_>
     match singleton {
         b'u' => read_unicode(left),
         b'x' => read_private(left),
-        b't' => read_transform(left),
+        b't' => read_transform(true, left),
         _ if !singleton.is_ascii_alphanumeric() => Body::Bad,
         _ => read_other(left),
     }

@@ -1,4 +1,6 @@
 //! What follows a singleton, up to the next block.
+ghost use Rattle.iloc_blocks.specs.Blocks.{IsUnorderedAs};
+
 use iloc_fronts::left::Left;
 
 // What the pieces after a singleton are.
@@ -10,8 +12,19 @@ pub(crate) enum Body<'a> {
     Next(Left<'a>),
     // Pieces that break the rule of the singleton.
     Bad,
-    // Attributes or keywords that are not in order. What follows them is not told.
+    // Pieces that keep to the rule, but are not in order. What follows them is not told.
     Unordered,
     // Nothing that is told.
     Other,
+}
+
+// What is told of pieces that are not in order.
+#[inline(always)]
+pub(crate) fn unordered(body: Body<'_>) -> Body<'_>
+    ensures { IsUnorderedAs body.entry result }
+{
+    match body {
+        Body::Bad => Body::Bad,
+        _ => Body::Unordered,
+    }
 }

@@ -1,36 +1,25 @@
 //! Tells the first bad block, whatever the order of what comes before it.
-ghost use Rattle.std.specs.Prelude.{◌≡◌, ℕ, ◌+◌, ◌≤◌, ◌||◌, IsTrue, IfSome, [], length, take, true};
+ghost use Rattle.std.specs.Prelude.{◌≡◌, ◌↔◌, ℕ, ◌+◌, ◌≤◌, IsTrue, IfSome, [], length, take, true};
 ghost use Rattle.std.specs.Char.{is_ascii_alphanumeric, to_ascii_lowercase};
-ghost use Rattle.iloc_spec_grammar.specs.Syntax.{
-  Attribute,
-  IsOther,
-  IsWord,
-  Subtag,
-  UnicodeKey,
-  is_word,
+ghost use Rattle.iloc_fronts.specs.Left.{IsLeft, pieces_of};
+ghost use Rattle.iloc_blocks.specs.Blocks.{IsBodyAs, IsNoUnicode};
+ghost use Rattle.iloc_blocks.specs.Bad.{HasBadBlock};
+ghost use Rattle.iloc_blocks.specs.Faults.{
+  ArePastVariants,
+  AreUnicode,
+  HaveBad,
+  HaveOthers,
+  IsPassedAs,
 };
-ghost use Rattle.iloc_fronts.specs.Left.{IsLeft, piece_of, pieces_of};
-ghost use Rattle.iloc_blocks.specs.Blocks.{HaveStranger, IsBodyAs, IsNoOther, IsNoUnicode};
-ghost use Rattle.iloc_blocks.specs.Transform.{IsNoTransform, NoFields};
-ghost use Rattle.iloc_blocks.specs.Faults.{ArePastVariants, AreBetween, AreSomeFields, AreUnicode, AreUnicodeAt, HasBadBlock, HaveBad, HaveOdd, HaveOthers, IsPassedAs, IsSomeTransform};
 
+use crate::bad_block::BadBlock;
 use crate::body::Body;
 use crate::ordered::cut_at;
-use crate::other::{past_words, read_private};
-use crate::transform::past_identifier;
+use crate::other::{past_other, read_private};
+use crate::transform::read_transform;
+use crate::unicode::past_unicode_words;
 use iloc_fronts::left::{Left, after_piece, left_in};
-use iloc_fronts::words::{
-    is_attribute, is_field_key, is_key, is_subtag, is_variant, number_of_four,
-};
-
-/// What is wrong with the first bad block.
-#[derive(Clone, Copy)]
-pub enum BadBlock {
-    /// It breaks the rule of its singleton.
-    Misfit,
-    /// It has the singleton of an earlier one.
-    Duplicated,
-}
+use iloc_fronts::words::{is_variant, number_of_four};
 
 /// What is wrong with the first bad block, if a plain identifier of `at` bytes comes first, and variants
 /// that differ in their first four bytes. The blocks before it stand in any order.
@@ -72,7 +61,7 @@ fn past_variants(left: Left<'_>) -> Option<Left<'_>>
 #[inline(always)]
 fn differ_from(number: usize, left: Left<'_>) -> bool
     requires { IsLeft left }
-    ensures { IsTrue result → HaveOthers number (pieces_of left.entry) }
+    ensures { IsTrue result ↔ HaveOthers number (pieces_of left.entry) }
 {
     let mut at = left;
     'variants: while is_variant(at.window, at.n) {
@@ -129,7 +118,7 @@ fn past_block(singleton: u8, left: Left<'_>) -> Body<'_>
     match singleton {
         b'u' => past_unicode(left),
         b'x' => read_private(left),
-        b't' => past_transform(left),
+        b't' => read_transform(false, left),
         _ => past_other(left),
     }
 }
@@ -144,133 +133,4 @@ fn past_unicode(left: Left<'_>) -> Body<'_>
         return Body::Bad;
     }
     past_unicode_words(left)
-}
-
-// What the words are up to the next block.
-#[inline(always)]
-fn past_unicode_words(left: Left<'_>) -> Body<'_>
-    requires { IsLeft left }
-    ensures { IsBodyAs (AreUnicodeAt left.entry.n) HaveStranger left.entry.len
-        (pieces_of left.entry) result }
-{
-    let mut at = left;
-    'words: while is_unicode_word(at.window, at.n) {
-        if at.n == at.len {
-            return Body::End;
-        }
-        at = after_piece(at);
-    }
-    if at.n != 1 {
-        return Body::Bad;
-    }
-    Body::Next(at)
-}
-
-// Whether the first `n` bytes are an attribute, a piece of a value, or a key of `u`.
-#[inline(always)]
-fn is_unicode_word(window: &[u8], n: usize) -> bool
-    requires wide { 16 ≤ length window.now }
-    requires few { n ≤ 16 }
-    ensures { result ≡ is_word Attribute (take n window.now)
-        || is_word UnicodeKey (take n window.now) }
-{
-    if n == 2 {
-        return is_key(window, n);
-    }
-    is_attribute(window, n)
-}
-
-// What follows `t`: perhaps an identifier, and fields.
-#[inline(always)]
-fn past_transform(left: Left<'_>) -> Body<'_>
-    requires { IsLeft left }
-    ensures { IsBodyAs IsSomeTransform IsNoTransform left.entry.len (pieces_of left.entry) result }
-{
-    match past_identifier(left) {
-        Body::Bad => past_fields(left),
-        Body::Next(next) => {
-            if next.n == 1 {
-                return Body::Next(next);
-            }
-            past_fields(next)
-        }
-        told => told,
-    }
-}
-
-// What the fields are, one at least.
-#[inline(always)]
-fn past_fields(left: Left<'_>) -> Body<'_>
-    requires { IsLeft left }
-    ensures { IsBodyAs AreSomeFields NoFields left.entry.len (pieces_of left.entry) result }
-{
-    let mut at = left;
-    'fields: while is_field_key(at.window, at.n) {
-        if at.n == at.len {
-            return Body::Bad;
-        }
-        let value = after_piece(at);
-        if !is_attribute(value.window, value.n) {
-            return Body::Bad;
-        }
-        let Some(next) = past_words(3, value) else {
-            return Body::End;
-        };
-        if next.n == 1 {
-            return Body::Next(next);
-        }
-        at = next;
-    }
-    Body::Bad
-}
-
-// What follows another singleton: pieces of two to eight bytes, of which one at least is a word.
-#[inline(always)]
-fn past_other(left: Left<'_>) -> Body<'_>
-    requires { IsLeft left }
-    ensures { IsBodyAs IsOther IsNoOther left.entry.len (pieces_of left.entry) result }
-{
-    let mut at = left;
-    'strays: while !is_subtag(at.window, at.n) {
-        if at.n < 2 || at.n > 8 {
-            return Body::Bad;
-        }
-        if at.n == at.len {
-            return Body::Bad;
-        }
-        at = after_piece(at);
-    }
-    past_pieces(at)
-}
-
-// What the pieces are of which the first is a word.
-#[inline(always)]
-fn past_pieces(left: Left<'_>) -> Body<'_>
-    requires left { IsLeft left }
-    requires first { IsWord Subtag (piece_of left) }
-    ensures { IsBodyAs IsOther IsNoOther left.entry.len (pieces_of left.entry) result }
-{
-    if left.n == left.len {
-        return Body::End;
-    }
-    past_between(after_piece(left))
-}
-
-// What the pieces of two to eight bytes are, up to the next block.
-#[inline(always)]
-fn past_between(left: Left<'_>) -> Body<'_>
-    requires { IsLeft left }
-    ensures { IsBodyAs AreBetween HaveOdd left.entry.len (pieces_of left.entry) result }
-{
-    let mut at = left;
-    'pieces: while at.n >= 2 && at.n <= 8 {
-        if at.n == at.len {
-            return Body::End;
-        }
-        at = after_piece(at);
-    }
-    if at.n != 1 {
-        return Body::Bad;
-    }
-    Body::Next(at)
 }

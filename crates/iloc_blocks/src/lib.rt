@@ -4,7 +4,7 @@
 //! has the order of the normal text: one variant, or that and blocks of which the singletons ascend, each in its own
 //! order, and one of `x` (`IsVaried`, `IsOrdered`). The normal text is then the line itself but for the case of
 //! letters. If a bad block comes first, or after blocks in order, `read_ordered` tells that: the text has the fault of
-//! the grammar.
+//! the grammar. A block that is not in order is read to its end, and may be bad too.
 //!
 //! Of blocks in any order `find_bad_block` tells the first that is bad (`HasBadBlock`).
 //!
@@ -19,6 +19,7 @@
 //! the tests of words of `iloc_fronts`.
 #![tactic(auto)]
 
+mod bad_block;
 mod blocks;
 mod body;
 pub mod faults;
@@ -27,5 +28,6 @@ pub mod other;
 mod transform;
 mod unicode;
 
-pub use faults::{BadBlock, find_bad_block};
+pub use bad_block::BadBlock;
+pub use faults::find_bad_block;
 pub use ordered::{Ordered, Reading, read_ordered, read_varied};

@@ -3,6 +3,7 @@ ghost use Rattle.std.specs.Prelude.{◌≡◌, ◌+◌, ◌≤◌, IfSome, lengt
 ghost use Rattle.iloc_fronts.specs.Left.{IsLeft, pieces_of};
 ghost use Rattle.iloc_blocks.specs.Ordered.{IsBefore, IsReading, IsTailOf, IsVaried};
 
+use crate::bad_block::BadBlock;
 use crate::blocks::{Rest, read_blocks};
 use iloc_fronts::front::first_len;
 use iloc_fronts::left::{Left, after_piece, left_in};
@@ -26,8 +27,9 @@ pub enum Reading<'a> {
     /// In the order of its normal text.
     Ordered(Ordered<'a>),
     /// An identifier, perhaps blocks in order, and then a bad one.
-    BadBlock,
-    /// Not in order where its block of `u` begins: `rewrite` may bring it into order. Nothing is claimed of it.
+    BadBlock(BadBlock),
+    /// Not in order: a good block is not, or one has a lesser singleton than the block before it. `rewrite` may bring
+    /// it into order. Nothing is claimed of it.
     Unordered,
     /// Nothing that is told.
     Other,
@@ -56,7 +58,8 @@ pub fn read_ordered(window: &[u8], len: usize, at: usize) -> Reading<'_>
     };
     match rest {
         Rest::Printed => Reading::Ordered(line),
-        Rest::BadBlock => Reading::BadBlock,
+        Rest::Misfit => Reading::BadBlock(BadBlock::Misfit),
+        Rest::Duplicated => Reading::BadBlock(BadBlock::Duplicated),
         Rest::Unordered => Reading::Unordered,
         Rest::Other => Reading::Other,
     }

@@ -1,11 +1,18 @@
 //! Tells what follows the singleton `x`, or that of another extension than `t` and `u`.
-ghost use Rattle.std.specs.Prelude.{◌≡◌, ◌≤◌, IsTrue, true, false, length, take};
-ghost use Rattle.std.specs.List.{list_all};
-ghost use Rattle.iloc_spec_grammar.specs.Syntax.{PrivateSubtag, is_word};
-ghost use Rattle.iloc_fronts.specs.Left.{IsLeft, pieces_of};
-ghost use Rattle.iloc_blocks.specs.Blocks.{ArePast, AreSubtags, IsBodyAs, IsNoOther, IsPrivateAs, IsStray};
+ghost use Rattle.std.specs.Prelude.{◌≡◌};
+ghost use Rattle.iloc_spec_grammar.specs.Syntax.{IsOther, IsWord, Subtag};
+ghost use Rattle.iloc_fronts.specs.Left.{IsLeft, piece_of, pieces_of};
+ghost use Rattle.iloc_blocks.specs.Blocks.{
+  ArePast,
+  AreSubtags,
+  IsBadAs,
+  IsBodyAs,
+  IsNoOther,
+  IsPrivateAs,
+};
+ghost use Rattle.iloc_blocks.specs.Faults.{AreBetween, HaveOdd};
 
-use crate::body::Body;
+use crate::body::{Body, unordered};
 use iloc_fronts::left::{Left, after_piece};
 use iloc_fronts::words::{is_subtag, is_word_from};
 
@@ -38,14 +45,14 @@ pub(crate) fn read_private(left: Left<'_>) -> Body<'_>
     }
 }
 
-// What follows another singleton, up to the next block.
+// What follows another singleton, up to the next block. In order are words alone.
 #[inline(always)]
 pub(crate) fn read_other(left: Left<'_>) -> Body<'_>
     requires { IsLeft left }
     ensures { IsBodyAs AreSubtags IsNoOther left.entry.len (pieces_of left.entry) result }
 {
     if !is_subtag(left.window, left.n) {
-        return after_stray(left);
+        return unordered(past_other(left));
     }
     if left.n == left.len {
         return Body::End;
@@ -59,38 +66,66 @@ pub(crate) fn read_other(left: Left<'_>) -> Body<'_>
     if at.n < 2 || at.n > 8 {
         return Body::Bad;
     }
-    Body::Other
+    past_unordered_pieces(at)
 }
 
-// What follows the singleton if no word comes first. The block is bad if it ends, or a piece has one byte
-// too many or too few, before a word comes.
-#[inline(always)]
-fn after_stray(left: Left<'_>) -> Body<'_>
+// What the pieces are after words if the first is none, up to the next block. It is a call of its own, so that lines in
+// order pay nothing.
+#[inline(never)]
+fn past_unordered_pieces(left: Left<'_>) -> Body<'_>
     requires { IsLeft left }
-    ensures { IsBodyAs AreSubtags IsNoOther left.entry.len (pieces_of left.entry) result }
+    ensures { IsBadAs HaveOdd (pieces_of left.entry) result }
+{
+    unordered(past_between(left))
+}
+
+// What follows another singleton: pieces of two to eight bytes, of which one at least is a word.
+#[inline(always)]
+pub(crate) fn past_other(left: Left<'_>) -> Body<'_>
+    requires { IsLeft left }
+    ensures { IsBodyAs IsOther IsNoOther left.entry.len (pieces_of left.entry) result }
 {
     let mut at = left;
-    'pieces: while is_stray(at.window, at.n) {
+    'strays: while !is_subtag(at.window, at.n) {
+        if at.n < 2 || at.n > 8 {
+            return Body::Bad;
+        }
         if at.n == at.len {
             return Body::Bad;
         }
         at = after_piece(at);
     }
-    if at.n < 2 || at.n > 8 {
-        return Body::Bad;
-    }
-    Body::Other
+    past_pieces(at)
 }
 
-// Whether the first `n` bytes are a piece of another extension that means nothing.
+// What the pieces are of which the first is a word.
 #[inline(always)]
-fn is_stray(window: &[u8], n: usize) -> bool
-    requires wide { 16 ≤ length window.now }
-    requires few { n ≤ 16 }
-    ensures { IsTrue result → IsStray (take n window.now) }
+fn past_pieces(left: Left<'_>) -> Body<'_>
+    requires left { IsLeft left }
+    requires first { IsWord Subtag (piece_of left) }
+    ensures { IsBodyAs IsOther IsNoOther left.entry.len (pieces_of left.entry) result }
 {
-    if n < 2 || n > 8 {
-        return false;
+    if left.n == left.len {
+        return Body::End;
     }
-    !is_subtag(window, n)
+    past_between(after_piece(left))
+}
+
+// What the pieces of two to eight bytes are, up to the next block.
+#[inline(always)]
+fn past_between(left: Left<'_>) -> Body<'_>
+    requires { IsLeft left }
+    ensures { IsBodyAs AreBetween HaveOdd left.entry.len (pieces_of left.entry) result }
+{
+    let mut at = left;
+    'pieces: while at.n >= 2 && at.n <= 8 {
+        if at.n == at.len {
+            return Body::End;
+        }
+        at = after_piece(at);
+    }
+    if at.n != 1 {
+        return Body::Bad;
+    }
+    Body::Next(at)
 }

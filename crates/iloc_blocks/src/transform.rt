@@ -1,6 +1,25 @@
 //! Tells what follows the singleton `t`.
-ghost use Rattle.std.specs.Prelude.{◌≡◌, IsTrue, ◌<◌, cond};
-ghost use Rattle.iloc_spec_grammar.specs.Syntax.{Attribute, IsWord, Language, languages};
+ghost use Rattle.std.specs.Prelude.{
+  ◌≡◌,
+  ◌↔◌,
+  ◌<◌,
+  ◌≤◌,
+  ◌&&◌,
+  IsTrue,
+  true,
+  false,
+  cond,
+  length,
+  take,
+};
+ghost use Rattle.iloc_spec_grammar.specs.Syntax.{
+  Attribute,
+  IsWord,
+  Language,
+  is_true,
+  languages,
+  lower,
+};
 ghost use Rattle.iloc_spec_grammar.specs.Reading.{after_region, rest_of};
 ghost use Rattle.iloc_fronts.specs.Left.{IsLeft, piece_of, pieces_of};
 ghost use Rattle.iloc_blocks.specs.Blocks.{IsBodyAs, left_of};
@@ -16,26 +35,27 @@ ghost use Rattle.iloc_blocks.specs.Transform.{
   NoFields,
 };
 
-use crate::body::Body;
+use crate::body::{Body, unordered};
 use iloc_fronts::left::{Left, after_piece};
 use iloc_fronts::words::{
     is_attribute, is_field_key, is_language, is_region, is_script, is_true, is_variant,
     number_of_two,
 };
 
-// What the pieces are up to the next block.
+// What the pieces are up to the next block: in order, if that is asked, or in any.
 #[inline(always)]
-pub(crate) fn read_transform(left: Left<'_>) -> Body<'_>
+pub(crate) fn read_transform(ordered: bool, left: Left<'_>) -> Body<'_>
     requires { IsLeft left }
-    ensures { IsBodyAs IsTransformPart IsNoTransform left.entry.len (pieces_of left.entry) result }
+    ensures { IsBodyAs (IsTransformPart ordered) IsNoTransform left.entry.len
+        (pieces_of left.entry) result }
 {
     match past_identifier(left) {
-        Body::Bad => read_fields(left),
+        Body::Bad => read_fields(ordered, left),
         Body::Next(next) => {
             if next.n == 1 {
                 return Body::Next(next);
             }
-            read_fields(next)
+            read_fields(ordered, next)
         }
         told => told,
     }
@@ -98,17 +118,52 @@ fn past_one(fits: bool, left: Left<'_>) -> Option<Left<'_>>
 }
 
 // What the fields are, one at least.
-#[inline(never)]
-fn read_fields(left: Left<'_>) -> Body<'_>
+#[inline(always)]
+fn read_fields(ordered: bool, left: Left<'_>) -> Body<'_>
     requires { IsLeft left }
-    ensures { IsBodyAs (AreFields 0) NoFields left.entry.len (pieces_of left.entry) result }
+    ensures { IsBodyAs (AreFields ordered 0) NoFields left.entry.len
+        (pieces_of left.entry) result }
+{
+    if ordered {
+        return read_ordered_fields(left);
+    }
+    past_fields(left)
+}
+
+// What they are in order. If they are not, the rest of the block is read as well.
+#[inline(never)]
+fn read_ordered_fields(left: Left<'_>) -> Body<'_>
+    requires { IsLeft left }
+    ensures { IsBodyAs (AreFields true 0) NoFields left.entry.len (pieces_of left.entry) result }
+{
+    match walk_fields(true, left) {
+        Body::Unordered => unordered(past_fields(left)),
+        told => told,
+    }
+}
+
+// What they are in any order.
+#[inline(never)]
+fn past_fields(left: Left<'_>) -> Body<'_>
+    requires { IsLeft left }
+    ensures { IsBodyAs (AreFields false 0) NoFields left.entry.len (pieces_of left.entry) result }
+{
+    walk_fields(false, left)
+}
+
+// What they are, up to the first that is not in order, if that is asked.
+#[inline(always)]
+fn walk_fields(ordered: bool, left: Left<'_>) -> Body<'_>
+    requires { IsLeft left }
+    ensures { IsBodyAs (AreFields ordered 0) NoFields left.entry.len
+        (pieces_of left.entry) result }
 {
     let mut last = 0;
     let mut at = left;
     'fields: while is_field_key(at.window, at.n) {
         let key = number_of_two(at.window);
-        if key <= last {
-            return Body::Other;
+        if !may_follow(ordered, key, last) {
+            return Body::Unordered;
         }
         if at.n == at.len {
             return Body::Bad;
@@ -117,7 +172,7 @@ fn read_fields(left: Left<'_>) -> Body<'_>
         if !is_attribute(value.window, value.n) {
             return Body::Bad;
         }
-        match past_value(value) {
+        match past_value(ordered, value) {
             Body::Next(next) => {
                 if next.n == 1 {
                     return Body::Next(next);
@@ -126,43 +181,51 @@ fn read_fields(left: Left<'_>) -> Body<'_>
                 at = next;
             }
             Body::End => return Body::End,
-            _ => return Body::Other,
+            _ => return Body::Unordered,
         }
     }
     Body::Bad
 }
 
+// Whether a field with this key may come after the last one.
+#[inline(always)]
+fn may_follow(ordered: bool, key: usize, last: usize) -> bool
+    ensures { IsTrue result ↔ (ordered ≡ true → last < key) }
+{
+    !ordered || key > last
+}
+
 // What the pieces of a value are, of which the first is a word. In order are words other than `true`, and `true` alone.
 #[inline(always)]
-fn past_value(left: Left<'_>) -> Body<'_>
+fn past_value(ordered: bool, left: Left<'_>) -> Body<'_>
     requires left { IsLeft left }
     requires first { IsWord Attribute (piece_of left) }
-    ensures { AreValuesAs IsFieldValue left.entry.len (pieces_of left.entry) result }
+    ensures { AreValuesAs (IsFieldValue ordered) left.entry.len (pieces_of left.entry) result }
 {
-    if !is_true(left.window, left.n) {
-        return past_values(left);
+    if !is_unordered(ordered, left.window, left.n) {
+        return past_values(ordered, left);
     }
     if left.n == left.len {
         return Body::End;
     }
     let next = after_piece(left);
     if is_attribute(next.window, next.n) {
-        return Body::Other;
+        return Body::Unordered;
     }
     Body::Next(next)
 }
 
-// What they are if none is `true`.
+// What they are, if none is `true` where order is asked.
 #[inline(always)]
-fn past_values(left: Left<'_>) -> Body<'_>
+fn past_values(ordered: bool, left: Left<'_>) -> Body<'_>
     requires left { IsLeft left }
     requires first { IsWord Attribute (piece_of left) }
-    ensures { AreValuesAs AreValues left.entry.len (pieces_of left.entry) result }
+    ensures { AreValuesAs (AreValues ordered) left.entry.len (pieces_of left.entry) result }
 {
     let mut at = left;
     'values: loop {
-        if is_true(at.window, at.n) {
-            return Body::Other;
+        if is_unordered(ordered, at.window, at.n) {
+            return Body::Unordered;
         }
         if at.n == at.len {
             return Body::End;
@@ -172,4 +235,14 @@ fn past_values(left: Left<'_>) -> Body<'_>
             return Body::Next(at);
         }
     }
+}
+
+// Whether order is asked, and the first `n` bytes are `true`.
+#[inline(always)]
+fn is_unordered(ordered: bool, window: &[u8], n: usize) -> bool
+    requires wide { 16 ≤ length window.now }
+    requires few { n ≤ 16 }
+    ensures { result ≡ ordered && is_true (lower (take n window.now)) }
+{
+    ordered && is_true(window, n)
 }

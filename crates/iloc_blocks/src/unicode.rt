@@ -1,11 +1,21 @@
 //! Tells what follows the singleton `u`.
-ghost use Rattle.std.specs.Prelude.{◌≡◌, ◌≤◌, false, length, take};
-ghost use Rattle.iloc_spec_grammar.specs.Syntax.{Attribute, IsWord, is_word};
+ghost use Rattle.std.specs.Prelude.{◌≡◌, ◌≤◌, ◌||◌, false, length, take};
+ghost use Rattle.iloc_spec_grammar.specs.Syntax.{Attribute, IsWord, UnicodeKey, is_word};
 ghost use Rattle.iloc_fronts.specs.Left.{IsLeft, piece_of, pieces_of};
 ghost use Rattle.iloc_blocks.specs.declared.unicode.Next.TheVariants as nexts;
-ghost use Rattle.iloc_blocks.specs.Blocks.{AreKeywordsAt, Follows, HaveStranger, IsBodyAs, IsNextAs, IsNoUnicode, IsUnicodePart};
+ghost use Rattle.iloc_blocks.specs.Blocks.{
+  AreKeywordsAt,
+  Follows,
+  HaveStranger,
+  IsBadAs,
+  IsBodyAs,
+  IsNextAs,
+  IsNoUnicode,
+  IsUnicodePart,
+};
+ghost use Rattle.iloc_blocks.specs.Faults.{AreUnicodeAt};
 
-use crate::body::Body;
+use crate::body::{Body, unordered};
 use iloc_fronts::left::{Left, after_piece};
 use iloc_fronts::words::{is_attribute, is_key, is_true, number_of_two};
 
@@ -52,7 +62,7 @@ fn read_attributes(left: Left<'_>) -> Body<'_>
             return read_keywords(next);
         }
         if number_of_two(next.window) <= number_of_two(at.window) {
-            return Body::Unordered;
+            return past_unordered_words(next);
         }
         at = next;
     }
@@ -95,7 +105,7 @@ fn read_values(key: usize, left: Left<'_>) -> Body<'_>
                 last = next;
                 at = after_piece(at);
             }
-            Next::Unordered => return Body::Unordered,
+            Next::Unordered => return past_unordered_words(at),
             Next::Misfit if at.n == 1 => return Body::Next(at),
             Next::Misfit => return Body::Bad,
         }
@@ -123,4 +133,48 @@ fn next_key(last: usize, window: &[u8], n: usize) -> Next
         return Next::Unordered;
     }
     Next::Piece(key)
+}
+
+// What the words are that are not in order, up to the next block. It is a call of its own, so that lines in order pay
+// nothing.
+#[inline(never)]
+fn past_unordered_words(left: Left<'_>) -> Body<'_>
+    requires { IsLeft left }
+    ensures { IsBadAs HaveStranger (pieces_of left.entry) result }
+{
+    unordered(past_unicode_words(left))
+}
+
+// What the words are up to the next block.
+#[inline(always)]
+pub(crate) fn past_unicode_words(left: Left<'_>) -> Body<'_>
+    requires { IsLeft left }
+    ensures { IsBodyAs (AreUnicodeAt left.entry.n) HaveStranger left.entry.len
+        (pieces_of left.entry) result }
+{
+    let mut at = left;
+    'words: while is_unicode_word(at.window, at.n) {
+        if at.n == at.len {
+            return Body::End;
+        }
+        at = after_piece(at);
+    }
+    if at.n != 1 {
+        return Body::Bad;
+    }
+    Body::Next(at)
+}
+
+// Whether the first `n` bytes are an attribute, a piece of a value, or a key of `u`.
+#[inline(always)]
+fn is_unicode_word(window: &[u8], n: usize) -> bool
+    requires wide { 16 ≤ length window.now }
+    requires few { n ≤ 16 }
+    ensures { result ≡ is_word Attribute (take n window.now)
+        || is_word UnicodeKey (take n window.now) }
+{
+    if n == 2 {
+        return is_key(window, n);
+    }
+    is_attribute(window, n)
 }

@@ -5,7 +5,7 @@ ghost use Rattle.iloc_calls.specs.Told.{IsTold};
 ghost use Rattle.iloc_lines.specs.declared.Mode.TheVariants.{Locale as OfLocale};
 
 use crate::copying::copy_all;
-use iloc_blocks::{Ordered, Reading, read_ordered, read_varied};
+use iloc_blocks::{BadBlock, Ordered, Reading, read_ordered, read_varied};
 use iloc_fronts::{Block, Front, read_front};
 use iloc_program::Mode;
 use iloc_subtags::ParseError;
@@ -78,7 +78,8 @@ fn tell_ordered<'a>(window: &'a [u8], len: usize, block: Block<'_>) -> Told<'a>
 {
     match read_ordered(window, len, len.wrapping_sub(block.tail.wrapping_add(1))) {
         Reading::Ordered(line) => Told::Ordered(line),
-        Reading::BadBlock => Told::Refused(ParseError::InvalidExtension),
+        Reading::BadBlock(BadBlock::Misfit) => Told::Refused(ParseError::InvalidExtension),
+        Reading::BadBlock(BadBlock::Duplicated) => Told::Refused(ParseError::DuplicatedExtension),
         Reading::Unordered | Reading::Other => Told::Nothing,
     }
 }

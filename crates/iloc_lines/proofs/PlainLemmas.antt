@@ -13,9 +13,9 @@ use Rattle.iloc_spec_preferences.specs.DataLocales.{not_small}
 use Rattle.iloc_spec_output.specs.Output.{OfIdentifiers, OfLocales, OfDataLocales, no_identifier, no_locale, no_data_locale}
 use Rattle.iloc_spec_output.proofs.OutputLaws.{only_answer}
 use Rattle.iloc_subtags.specs.declared.parse_error.ParseError.TheVariants.{InvalidLanguage, InvalidExtension, DuplicatedExtension}
-use Rattle.iloc_blocks.specs.Faults.{HasBadBlock}
-use Rattle.iloc_blocks.specs.declared.faults.BadBlock.{BadBlock}
-use Rattle.iloc_blocks.specs.declared.faults.BadBlock.TheVariants as bad
+use Rattle.iloc_blocks.specs.Bad.{HasBadBlock}
+use Rattle.iloc_blocks.specs.declared.bad_block.BadBlock.{BadBlock}
+use Rattle.iloc_blocks.specs.declared.bad_block.BadBlock.TheVariants as bad
 use Rattle.iloc_lines.specs.Told.{refusal_of}
 use Rattle.iloc_lines.specs.Output.{line_answer, reply, refusal_text}
 use Rattle.iloc_lines.specs.declared.Mode.{Mode}

@@ -3,8 +3,8 @@ use Rattle.std.specs.Prelude.{◌≡◌, ⊤}
 use Rattle.iloc_spec_grammar.specs.Syntax.{Text}
 use Rattle.iloc_blocks.specs.Ordered.{IsStored, text_of}
 use Rattle.iloc_blocks.specs.declared.ordered.Ordered.{Ordered}
-use Rattle.iloc_blocks.specs.declared.faults.BadBlock.{BadBlock}
-use Rattle.iloc_blocks.specs.declared.faults.BadBlock.TheVariants as bad
+use Rattle.iloc_blocks.specs.declared.bad_block.BadBlock.{BadBlock}
+use Rattle.iloc_blocks.specs.declared.bad_block.BadBlock.TheVariants as bad
 use Rattle.iloc_subtags.specs.declared.parse_error.ParseError.{ParseError}
 use Rattle.iloc_subtags.specs.declared.parse_error.ParseError.TheVariants as errors
 use Rattle.iloc_lines.specs.Output.{IsRefused, line_answer}

@@ -195,7 +195,7 @@ fn reply_to_ordered<A: Answers>(
 {
     match read_ordered(window, line.len(), at) {
         Reading::Ordered(told) => replies.push_ordered(&told),
-        Reading::BadBlock => write_refusal(ParseError::InvalidExtension, replies),
+        Reading::BadBlock(bad) => write_refusal(error_of(bad), replies),
         Reading::Unordered => reply_to_rewritten(answers, window, line, at, replies),
         Reading::Other if looks_bad(window, line.len()) => {
             reply_to_faulty(answers, window, line, at, replies)
@@ -224,7 +224,7 @@ fn reply_to_rewritten<A: Answers>(
     };
     match read_ordered(&room, len, at) {
         Reading::Ordered(told) => replies.push_ordered(&told),
-        Reading::BadBlock => reply_to_faulty(answers, window, line, at, replies),
+        Reading::BadBlock(_) => reply_to_faulty(answers, window, line, at, replies),
         _ if looks_bad(window, line.len()) => reply_to_faulty(answers, window, line, at, replies),
         _ => answers.reply(line, replies),
     }

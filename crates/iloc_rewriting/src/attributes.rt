@@ -1,5 +1,5 @@
 //! Stores attributes in order.
-ghost use Rattle.std.specs.Prelude.{◌≡◌, ◌↔◌, ◌+◌, ◌≤◌, IfSome, IsTrue, List, length, take, true};
+ghost use Rattle.std.specs.Prelude.{◌≡◌, ◌↔◌, ◌+◌, ◌≤◌, IfSome, IsTrue, List, length, take};
 ghost use Rattle.iloc_spec_grammar.specs.Syntax.{Attribute, IsWord, Text, lower};
 ghost use Rattle.iloc_fronts.specs.Left.{IsLeft, piece_of, pieces_of};
 ghost use Rattle.iloc_rewriting.specs.Rewriting.{
@@ -145,7 +145,7 @@ fn place_at(word: Left<'_>, left: Left<'_>, is_greater: bool) -> Option<Place>
 fn are_one(word: Left<'_>, left: Left<'_>) -> bool
     requires word { IsLeft word }
     requires left { IsLeft left }
-    ensures { result ≡ true → lower (piece_of left.entry) ≡ lower (piece_of word.entry) }
+    ensures { IsTrue result ↔ (lower (piece_of left.entry) ≡ lower (piece_of word.entry)) }
 {
     if word.n != left.n {
         return false;

@@ -4,8 +4,9 @@
 //! `line-plain TEXT` says the normal text. In the other calls the second argument says how many bytes of the first are the
 //! line: `line-window` says the normal text, `line-front` what stands at the front, `line-keyword` what follows the
 //! singleton of the first block, and `line-ordered` of a line in the order of its normal text the plain identifier and
-//! the rest, or that its first block is bad. `line-bad` says what is wrong with the first bad block, and `line-rewritten`
-//! the line whose block of `u` is brought into order. A line of which nothing is said is `not told`.
+//! the rest, what is wrong with its first bad block, or that the line is not in order. `line-bad` says what is wrong with
+//! the first bad block, and `line-rewritten` the line whose block of `u` is brought into order. A line of which nothing is
+//! said is `not told`.
 ghost use Rattle.std.specs.Prelude.{◌+◌, ◌≤◌, length};
 ghost use Rattle.iloc_plain.specs.Plain.{AreWords};
 ghost use Rattle.iloc_blocks.specs.Ordered.{IsStored};
@@ -133,8 +134,10 @@ fn with_blocks(window: &[u8], len: usize, at: usize, out: &mut String)
 {
     match read_ordered(window, len, at) {
         Reading::Ordered(line) => in_order(&line, out),
-        Reading::BadBlock => say(out, "bad block"),
-        Reading::Unordered | Reading::Other => say(out, "not told"),
+        Reading::BadBlock(BadBlock::Misfit) => say(out, "bad block"),
+        Reading::BadBlock(BadBlock::Duplicated) => say(out, "duplicated"),
+        Reading::Unordered => say(out, "unordered"),
+        Reading::Other => say(out, "not told"),
     }
 }
 

@@ -1,5 +1,6 @@
 use Rattle.std.proofs.Common.{◌≡◌, ℕ, List, [], get_or, subst, sym, arith}
 use Rattle.iloc_fronts.specs.Left.{pieces_of}
+use Rattle.iloc_blocks.specs.declared.bad_block.BadBlock.TheVariants as bad
 use Rattle.iloc_blocks.specs.Blocks.{ArePrinted, BeginBadly, AreBlocksOf}
 use Rattle.iloc_fronts.proofs.LeftLemmas.{block_left, last_left}
 use Rattle.iloc_blocks.proofs.BadBlocks.{nothing_after, new_first}
@@ -9,7 +10,7 @@ pub returns-then-left : goal.returns-then-left
 returns-then-left c =
     let l = c.args.left in
     let one : l.n ≡ 1 = omega arith in
-    subst (BeginBadly 0) (sym (block_left l c.requires one [] (λ few. last_left l c.requires few c.if-left.true))) (nothing_after 0 (get_or l.window.now 0 0) (new_first _))
+    subst (λ (ps : List (List ℕ)). BeginBadly 0 ps bad.Misfit) (sym (block_left l c.requires one [] (λ few. last_left l c.requires few c.if-left.true))) (nothing_after 0 (get_or l.window.now 0 0) (new_first _))
 
 pub after_first-requires : goal.after_first-requires
 after_first-requires c = (c.in-Next.ensures 0 (get_or c.args.left.window.now 0 0) (sym c.to_ascii_lowercase-singleton.ensures.value) (new_first _)).0
@@ -32,5 +33,5 @@ pub returns-in-Bad : goal.returns-in-Bad
 returns-in-Bad c =
     let l = c.args.left in
     let one : l.n ≡ 1 = omega arith in
-    subst (BeginBadly 0) (sym (block_left l c.requires one (pieces_of c.after_piece.result) c.after_piece.ensures.pieces))
+    subst (λ (ps : List (List ℕ)). BeginBadly 0 ps bad.Misfit) (sym (block_left l c.requires one (pieces_of c.after_piece.result) c.after_piece.ensures.pieces))
     (c.in-Bad.ensures 0 (get_or l.window.now 0 0) (sym c.to_ascii_lowercase-singleton.ensures.value) (new_first _))

@@ -2,7 +2,7 @@ use Rattle.std.proofs.Common.{◌≡◌, ◌-◌, ◌+◌, length, take, drop, s
 use Rattle.iloc_spec_grammar.specs.Syntax.{pieces}
 use Rattle.iloc_fronts.specs.Left.{pieces_of}
 use Rattle.iloc_blocks.specs.Ordered.{IsFaultyTail}
-use Rattle.iloc_blocks.specs.Faults.{fault_of}
+use Rattle.iloc_blocks.specs.Bad.{fault_of}
 use Rattle.iloc_blocks.proofs.BadBlocks.{told_fault}
 use Rattle.iloc_blocks.proofs.faults.find_bad_block.Goals as goal
 

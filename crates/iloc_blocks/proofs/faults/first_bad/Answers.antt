@@ -4,7 +4,7 @@ use Rattle.std.proofs.Math.ListN.{length-set}
 use Rattle.iloc_spec_grammar.specs.Reading.{rest_of}
 use Rattle.iloc_fronts.specs.Left.{pieces_of}
 use Rattle.iloc_blocks.specs.Faults.{HaveBad, IsUnseen}
-use Rattle.iloc_blocks.specs.declared.faults.BadBlock.TheVariants as bad
+use Rattle.iloc_blocks.specs.declared.bad_block.BadBlock.TheVariants as bad
 use Rattle.iloc_fronts.proofs.LeftLemmas.{block_left, last_left}
 use Rattle.iloc_blocks.proofs.BadBlocks.{lower_letter}
 use Rattle.iloc_blocks.proofs.FaultLemmas.{again, begins_with, letter_small, no_letter, none_marked, one_marked, wrong_nothing}

@@ -1,7 +1,7 @@
 use Rattle.std.proofs.Common.{◌≡◌, ℕ, List, [], length}
 use Rattle.iloc_fronts.specs.Left.{IsLeft, pieces_of}
 use Rattle.iloc_blocks.specs.Faults.{AreMarked, HaveBad}
-use Rattle.iloc_blocks.specs.declared.faults.BadBlock.{BadBlock}
+use Rattle.iloc_blocks.specs.declared.bad_block.BadBlock.{BadBlock}
 use Rattle.iloc_blocks.proofs.faults.first_bad.Given as goal
 
 -- the marks are those of the blocks before, and what is bad after them is the first that is bad

@@ -15,7 +15,7 @@ returns-in-120 c = λ d e.
 
 pub returns-in-116 : goal.returns-in-116
 returns-in-116 c = λ d e.
-    passed_transform d c.args.left.len (pieces_of c.args.left) (sym (lower_letter d) ∙ ap is_ascii_alphanumeric e ∙ c.requires.letter) (e ∙ c.in-116.is) c.past_transform.result c.past_transform.ensures
+    passed_transform d c.args.left.len (pieces_of c.args.left) (sym (lower_letter d) ∙ ap is_ascii_alphanumeric e ∙ c.requires.letter) (e ∙ c.in-116.is) c.read_transform.result c.read_transform.ensures
 
 pub returns-in_default : goal.returns-in_default
 returns-in_default c = λ d e.

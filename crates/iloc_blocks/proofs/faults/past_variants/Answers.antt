@@ -21,7 +21,7 @@ variants-preserved c =
     let inside : l.n ≤ length l.window.now = omega (arith, c.variants.invariant.left.room, c.variants.invariant.left.first.few) in
     let four = variant_four l.window.now l.n inside word in
     let same : c.number_of_four.result ≡ four_number (piece_of l) = c.number_of_four.ensures ∙ four_in l.window.now l.n four.0 (omega (arith, four.0)) in
-    let others : HaveOthers (four_number (piece_of l)) (pieces_of next) = subst (λ (m : ℕ). HaveOthers m (pieces_of next)) same (c.differ_from.ensures c.if-not-differ_from.false) in
+    let others : HaveOthers (four_number (piece_of l)) (pieces_of next) = subst (λ (m : ℕ). HaveOthers m (pieces_of next)) same (c.differ_from.ensures.0 c.if-not-differ_from.false) in
     record {
       left = c.after_piece-next.ensures.left;
       goes = λ o a. c.variants.invariant.goes o (subst (λ (ps : List (List ℕ)). ArePastVariants ps o) (sym (c.after_piece-next.ensures.pieces (word_left l c.variants.invariant.left Variant short_variant word)))

@@ -1,7 +1,8 @@
-use Rattle.std.proofs.Common.{◌≡◌, ◌-◌, ◌+◌, length, take, drop, subst}
+use Rattle.std.proofs.Common.{◌≡◌, ◌-◌, ◌+◌, ℕ, List, length, take, drop, subst}
 use Rattle.iloc_spec_grammar.specs.Syntax.{pieces}
 use Rattle.iloc_fronts.specs.Left.{pieces_of}
 use Rattle.iloc_blocks.specs.Ordered.{IsTail, IsBadTail}
+use Rattle.iloc_blocks.specs.declared.bad_block.BadBlock.TheVariants as bad
 use Rattle.iloc_blocks.proofs.OrderedLemmas.{told_ordered}
 use Rattle.iloc_blocks.proofs.BadBlocks.{told_bad}
 use Rattle.iloc_blocks.proofs.ordered.read_ordered.Goals as goal
@@ -12,8 +13,14 @@ returns-in-Printed c =
     λ j. pieces (take (c.left_in.ensures.len j) (c.left_in.ensures.window j)) in
     told_ordered _ c.args.window.now c.args.len c.args.at c.requires c.in-Some.ensures (subst IsTail tail c.in-Printed.ensures)
 
-pub returns-in-BadBlock : goal.returns-in-BadBlock
-returns-in-BadBlock c =
+pub returns-in-Misfit : goal.returns-in-Misfit
+returns-in-Misfit c =
     let tail : pieces_of c.left_in.result ≡ pieces (take (c.args.len - c.args.at - 1) (take (length c.args.window.now - (c.args.at + 1)) (drop (c.args.at + 1) c.args.window.now))) =
     λ j. pieces (take (c.left_in.ensures.len j) (c.left_in.ensures.window j)) in
-    told_bad c.in-Some.line c.args.window.now c.args.len c.args.at c.requires c.in-Some.ensures (subst IsBadTail tail c.in-BadBlock.ensures)
+    told_bad bad.Misfit c.in-Some.line c.args.window.now c.args.len c.args.at c.requires c.in-Some.ensures (subst (λ (ps : List (List ℕ)). IsBadTail ps bad.Misfit) tail c.in-Misfit.ensures)
+
+pub returns-in-Duplicated : goal.returns-in-Duplicated
+returns-in-Duplicated c =
+    let tail : pieces_of c.left_in.result ≡ pieces (take (c.args.len - c.args.at - 1) (take (length c.args.window.now - (c.args.at + 1)) (drop (c.args.at + 1) c.args.window.now))) =
+    λ j. pieces (take (c.left_in.ensures.len j) (c.left_in.ensures.window j)) in
+    told_bad bad.Duplicated c.in-Some.line c.args.window.now c.args.len c.args.at c.requires c.in-Some.ensures (subst (λ (ps : List (List ℕ)). IsBadTail ps bad.Duplicated) tail c.in-Duplicated.ensures)

@@ -1,4 +1,5 @@
 use Rattle.std.proofs.Common.{◌∷◌, [], subst, sym, ◌∙◌, arith}
+use Rattle.std.proofs.lemmas.Bool.{and_parts}
 use Rattle.iloc_spec_grammar.specs.Syntax.{Attribute}
 use Rattle.iloc_fronts.specs.Left.{piece_of, pieces_of}
 use Rattle.iloc_blocks.specs.Transform.{IsFieldValue}
@@ -7,14 +8,14 @@ use Rattle.iloc_fronts.proofs.LeftLemmas.{last_left, word_left}
 use Rattle.iloc_blocks.proofs.TransformLemmas.{told_in_order, true_in_order}
 use Rattle.iloc_blocks.proofs.transform.past_value.Goals as goal
 
-pub returns-then-not-is_true : goal.returns-then-not-is_true
-returns-then-not-is_true c = told_in_order c.args.left.len (pieces_of c.args.left) c.past_values.result c.past_values.ensures
+pub returns-then-not-is_unordered : goal.returns-then-not-is_unordered
+returns-then-not-is_unordered c = told_in_order c.args.ordered c.args.left.len (pieces_of c.args.left) c.past_values.result c.past_values.ensures
 
 pub returns-then-left : goal.returns-then-left
 returns-then-left c =
     let l = c.args.left in
-    subst IsFieldValue (sym (last_left l c.requires.left (word_left l c.requires.left Attribute short_attribute c.requires.first) c.if-left.true))
-    (true_in_order (piece_of l) c.requires.first (sym c.is_true.ensures ∙ c.if-not-is_true.false))
+    subst (IsFieldValue c.args.ordered) (sym (last_left l c.requires.left (word_left l c.requires.left Attribute short_attribute c.requires.first) c.if-left.true))
+    (true_in_order c.args.ordered (piece_of l) c.requires.first ((and_parts c.args.ordered _ (sym c.is_unordered.ensures ∙ c.if-not-is_unordered.false)).1))
 
 pub returns : goal.returns
 returns c =
@@ -24,7 +25,7 @@ returns c =
       record {
         body = piece_of l ∷ [];
         cut = c.after_piece-next.ensures.pieces (word_left l c.requires.left Attribute short_attribute c.requires.first);
-        is = true_in_order (piece_of l) c.requires.first (sym c.is_true.ensures ∙ c.if-not-is_true.false);
+        is = true_in_order c.args.ordered (piece_of l) c.requires.first ((and_parts c.args.ordered _ (sym c.is_unordered.ensures ∙ c.if-not-is_unordered.false)).1);
       },
       sym c.is_attribute.ensures ∙ c.if-is_attribute.false,
     )

@@ -11,7 +11,7 @@ invariant-values l = record {
   left : IsLeft l.at;
   shorter : l.at.len ≤ l.fn.left.len;
   word : IsWord Attribute (piece_of l.at);
-  goes : (w : Body) → AreValuesAs AreValues l.at.len (pieces_of l.at) w → AreValuesAs AreValues l.fn.left.len (pieces_of l.fn.left) w;
+  goes : (w : Body) → AreValuesAs (AreValues l.fn.ordered) l.at.len (pieces_of l.at) w → AreValuesAs (AreValues l.fn.ordered) l.fn.left.len (pieces_of l.fn.left) w;
 }
 
 abbrev pub decreases-values : goal.decreases-values

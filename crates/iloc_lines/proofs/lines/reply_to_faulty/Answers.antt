@@ -1,5 +1,5 @@
 use Rattle.std.proofs.Common.{◌≡◌, ℕ, List, [], ◌∷◌, ◌++◌, OnOk, ap, subst, sym, ◌∙◌}
-use Rattle.iloc_blocks.specs.Faults.{HasBadBlock}
+use Rattle.iloc_blocks.specs.Bad.{HasBadBlock}
 use Rattle.iloc_lines.specs.Output.{IsRefused, refusal_text}
 use Rattle.iloc_lines.specs.Told.{refusal_of}
 use Rattle.iloc_lines.specs.ReplyBlock.{held}

@@ -14,4 +14,4 @@ returns-then-is_greater c =
 pub returns : goal.returns
 returns c =
     let l = c.args.left in
-    among_here (piece_of c.args.word) l c.requires.left (word_left l c.requires.left Attribute short_attribute c.requires.first) true (λ t. c.are_one.ensures c.if-not-are_one.false)
+    among_here (piece_of c.args.word) l c.requires.left (word_left l c.requires.left Attribute short_attribute c.requires.first) true (λ t. c.are_one.ensures.0 c.if-not-are_one.false)

@@ -7,10 +7,9 @@ use Rattle.iloc_blocks.specs.Blocks.{IsNoOther, IsStray}
 use Rattle.iloc_blocks.specs.declared.body.Body.TheVariants as body
 use Rattle.iloc_fronts.proofs.LeftLemmas.{length-piece, last_left, odd_left}
 use Rattle.iloc_blocks.proofs.BodyLemmas.{body_after}
-use Rattle.iloc_blocks.proofs.OtherLemmas.{odd_first, stray_last, stray_later}
-use Rattle.iloc_blocks.proofs.FaultLemmas.{other_later}
-use Rattle.iloc_blocks.proofs.faults.past_other.Goals as goal
-use Rattle.iloc_blocks.proofs.faults.past_other.Goals.{then-at-lt2-via-then-at-lt2, then-at-lt2-via-else-at-lt2+then-at-gt8}
+use Rattle.iloc_blocks.proofs.OtherLemmas.{odd_first, other_later, stray_last, stray_later}
+use Rattle.iloc_blocks.proofs.other.past_other.Goals as goal
+use Rattle.iloc_blocks.proofs.other.past_other.Goals.{then-at-lt2-via-then-at-lt2, then-at-lt2-via-else-at-lt2+then-at-gt8}
 
 pub returns-then-at-lt2 : goal.returns-then-at-lt2
 returns-then-at-lt2 c =

@@ -6,8 +6,8 @@ use Rattle.iloc_blocks.specs.Faults.{AreBetween, HaveOdd}
 use Rattle.iloc_fronts.proofs.FrontLemmas.{short_subtag}
 use Rattle.iloc_fronts.proofs.LeftLemmas.{last_left, word_left}
 use Rattle.iloc_blocks.proofs.BodyLemmas.{body_after}
-use Rattle.iloc_blocks.proofs.FaultLemmas.{other_last, other_first, no_other_after}
-use Rattle.iloc_blocks.proofs.faults.past_pieces.Goals as goal
+use Rattle.iloc_blocks.proofs.OtherLemmas.{other_last, other_first, no_other_after}
+use Rattle.iloc_blocks.proofs.other.past_pieces.Goals as goal
 
 pub returns-then-left : goal.returns-then-left
 returns-then-left c =

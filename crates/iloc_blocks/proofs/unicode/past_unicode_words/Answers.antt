@@ -8,7 +8,7 @@ use Rattle.iloc_fronts.proofs.LeftLemmas.{short_left, last_left}
 use Rattle.iloc_blocks.proofs.BodyLemmas.{body_after}
 use Rattle.iloc_blocks.proofs.UnicodeLemmas.{stranger_after, stranger_left}
 use Rattle.iloc_blocks.proofs.FaultLemmas.{either, neither, unicode_short}
-use Rattle.iloc_blocks.proofs.faults.past_unicode_words.Goals as goal
+use Rattle.iloc_blocks.proofs.unicode.past_unicode_words.Goals as goal
 
 pub returns-then-at : goal.returns-then-at
 returns-then-at c =

@@ -3,7 +3,7 @@ use Rattle.iloc_fronts.specs.Left.{IsLeft, pieces_of}
 use Rattle.iloc_blocks.specs.Blocks.{HaveStranger, IsBodyAs}
 use Rattle.iloc_blocks.specs.Faults.{AreUnicodeAt}
 use Rattle.iloc_blocks.specs.declared.body.Body.{Body}
-use Rattle.iloc_blocks.proofs.faults.past_unicode_words.Given as goal
+use Rattle.iloc_blocks.proofs.unicode.past_unicode_words.Given as goal
 
 -- what is told of the words that are left is told of all
 abbrev pub invariant-words : goal.invariant-words

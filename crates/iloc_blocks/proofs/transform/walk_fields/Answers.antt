@@ -1,4 +1,4 @@
-use Rattle.std.proofs.Common.{◌≡◌, ◌<◌, ◌≤◌, ℕ, false, [], ◌∷◌, ◌++◌, subst, sym, ap, ◌∙◌, arith}
+use Rattle.std.proofs.Common.{◌≡◌, ◌<◌, ◌≤◌, ℕ, true, false, [], ◌∷◌, ◌++◌, subst, sym, ap, ◌∙◌, arith}
 use Rattle.iloc_spec_grammar.specs.Syntax.{Attribute, TransformKey, is_word, IsWord, first_piece}
 use Rattle.iloc_spec_grammar.specs.Reading.{starts_block}
 use Rattle.iloc_spec_grammar.proofs.WordsLaws.{length-transform_key}
@@ -11,7 +11,7 @@ use Rattle.iloc_fronts.proofs.LeftLemmas.{length-piece, last_left, word_left, fi
 use Rattle.iloc_blocks.proofs.BodyLemmas.{body_past}
 use Rattle.iloc_fronts.proofs.WordBytes.{window_begins, number_in}
 use Rattle.iloc_blocks.proofs.TransformLemmas.{field_key_begins, field_last, field_more, no_attribute, no_value, no_field, later_fields}
-use Rattle.iloc_blocks.proofs.transform.read_fields.Goals as goal
+use Rattle.iloc_blocks.proofs.transform.walk_fields.Goals as goal
 
 pub number_of_two-key-requires-clause-first : goal.number_of_two-key-requires-clause-first
 number_of_two-key-requires-clause-first c =
@@ -42,16 +42,16 @@ returns-in-End c =
     let l = c.fields.at in
     let key : IsWord TransformKey (piece_of l) = sym c.is_field_key.ensures ∙ c.fields-test.true in
     let two : 2 ≤ l.n = omega (arith, length-transform_key (piece_of l) key, length-piece l c.fields.invariant.left) in
-    let less : c.fields.last < two_number (piece_of l) = omega (arith, c.number_of_two-key.ensures, number_in l.window.now l.n two, c.if-key-last.false) in
-    c.fields.invariant.goes body.End (subst (AreFields c.fields.last) (sym (c.after_piece-value.ensures.pieces (word_left l c.fields.invariant.left TransformKey short_field_key key)))
-    (field_last c.fields.last (piece_of l) (pieces_of c.after_piece-value.result) key less c.in-End.ensures))
+    let less : c.args.ordered ≡ true → c.fields.last < two_number (piece_of l) = λ o. omega (arith, c.number_of_two-key.ensures, number_in l.window.now l.n two, c.may_follow.ensures.0 c.if-not-may_follow.false o) in
+    c.fields.invariant.goes body.End (subst (AreFields c.args.ordered c.fields.last) (sym (c.after_piece-value.ensures.pieces (word_left l c.fields.invariant.left TransformKey short_field_key key)))
+    (field_last c.args.ordered c.fields.last (piece_of l) (pieces_of c.after_piece-value.result) key less c.in-End.ensures))
 
 pub returns-then-next-eq1 : goal.returns-then-next-eq1
 returns-then-next-eq1 c =
     let l = c.fields.at in
     let key : IsWord TransformKey (piece_of l) = sym c.is_field_key.ensures ∙ c.fields-test.true in
     let two : 2 ≤ l.n = omega (arith, length-transform_key (piece_of l) key, length-piece l c.fields.invariant.left) in
-    let less : c.fields.last < two_number (piece_of l) = omega (arith, c.number_of_two-key.ensures, number_in l.window.now l.n two, c.if-key-last.false) in
+    let less : c.args.ordered ≡ true → c.fields.last < two_number (piece_of l) = λ o. omega (arith, c.number_of_two-key.ensures, number_in l.window.now l.n two, c.may_follow.ensures.0 c.if-not-may_follow.false o) in
     let next = c.in-Next.ensures in
     c.fields.invariant.goes (body.Next c.in-Next.next) (
       next.0,
@@ -59,7 +59,7 @@ returns-then-next-eq1 c =
       record {
         body = piece_of l ∷ next.2.body;
         cut = c.after_piece-value.ensures.pieces (word_left l c.fields.invariant.left TransformKey short_field_key key) ∙ ap (λ ps. piece_of l ∷ ps) next.2.cut;
-        is = field_last c.fields.last (piece_of l) next.2.body key less next.2.is;
+        is = field_last c.args.ordered c.fields.last (piece_of l) next.2.body key less next.2.is;
       },
     )
 
@@ -70,7 +70,7 @@ fields-preserved c =
     let key : IsWord TransformKey (piece_of l) = sym c.is_field_key.ensures ∙ c.fields-test.true in
     let two : 2 ≤ l.n = omega (arith, length-transform_key (piece_of l) key, length-piece l c.fields.invariant.left) in
     let same : c.number_of_two-key.result ≡ two_number (piece_of l) = c.number_of_two-key.ensures ∙ number_in l.window.now l.n two in
-    let less : c.fields.last < two_number (piece_of l) = omega (arith, same, c.if-key-last.false) in
+    let less : c.args.ordered ≡ true → c.fields.last < two_number (piece_of l) = λ o. omega (arith, same, c.may_follow.ensures.0 c.if-not-may_follow.false o) in
     let next = c.in-Next.ensures in
     let parts : pieces_of l ≡ (piece_of l ∷ next.2.body) ++ pieces_of at = c.after_piece-value.ensures.pieces (word_left l c.fields.invariant.left TransformKey short_field_key key) ∙ ap (λ ps. piece_of l ∷ ps) next.2.cut in
     let long : starts_block (pieces_of at) ≡ false = no_block_left at next.0 c.if-next-eq1.false in
@@ -79,8 +79,8 @@ fields-preserved c =
       left = next.0;
       shorter = omega (arith, next.1, c.after_piece-value.ensures.less, c.fields.invariant.shorter);
       goes = λ w h. c.fields.invariant.goes w
-          (body_past (AreFields c.number_of_two-key.result) (AreFields c.fields.last) NoFields NoFields at.len l.len (piece_of l ∷ next.2.body) (pieces_of at) (pieces_of l) parts (omega (arith, next.1, c.after_piece-value.ensures.less))
-          (λ qs f. field_more c.fields.last (piece_of l) next.2.body key less next.2.is qs (subst (λ (m : ℕ). AreFields m qs) same f))
+          (body_past (AreFields c.args.ordered c.number_of_two-key.result) (AreFields c.args.ordered c.fields.last) NoFields NoFields at.len l.len (piece_of l ∷ next.2.body) (pieces_of at) (pieces_of l) parts (omega (arith, next.1, c.after_piece-value.ensures.less))
+          (λ qs f. field_more c.args.ordered c.fields.last (piece_of l) next.2.body key less next.2.is qs (subst (λ (m : ℕ). AreFields c.args.ordered m qs) same f))
           (λ n. subst NoFields (sym parts) (later_fields (piece_of l) next.2.body (pieces_of at) key next.2.is.each long none n)) w h);
     }
 

@@ -3,7 +3,7 @@ use Rattle.iloc_fronts.specs.Left.{IsLeft, pieces_of}
 use Rattle.iloc_blocks.specs.Blocks.{IsBodyAs}
 use Rattle.iloc_blocks.specs.Faults.{AreBetween, HaveOdd}
 use Rattle.iloc_blocks.specs.declared.body.Body.{Body}
-use Rattle.iloc_blocks.proofs.faults.past_between.Given as goal
+use Rattle.iloc_blocks.proofs.other.past_between.Given as goal
 
 -- what is told of the pieces that are left is told of all
 abbrev pub invariant-pieces : goal.invariant-pieces

@@ -3,7 +3,7 @@ use Rattle.iloc_spec_grammar.specs.Syntax.{IsOther}
 use Rattle.iloc_fronts.specs.Left.{IsLeft, pieces_of}
 use Rattle.iloc_blocks.specs.Blocks.{IsBodyAs, IsNoOther}
 use Rattle.iloc_blocks.specs.declared.body.Body.{Body}
-use Rattle.iloc_blocks.proofs.faults.past_other.Given as goal
+use Rattle.iloc_blocks.proofs.other.past_other.Given as goal
 
 -- what is told of the pieces that are left is told of all
 abbrev pub invariant-strays : goal.invariant-strays

@@ -6,9 +6,9 @@ use Rattle.iloc_blocks.specs.Faults.{AreBetween, HaveOdd}
 use Rattle.iloc_blocks.specs.declared.body.Body.TheVariants as body
 use Rattle.iloc_fronts.proofs.LeftLemmas.{length-piece, no_block_left, odd_left}
 use Rattle.iloc_blocks.proofs.BodyLemmas.{body_after}
-use Rattle.iloc_blocks.proofs.FaultLemmas.{odd_after, odd_here}
-use Rattle.iloc_blocks.proofs.faults.past_between.Goals as goal
-use Rattle.iloc_blocks.proofs.faults.past_between.Goals.{then-pieces-test+else-at-le8, else-pieces-test}
+use Rattle.iloc_blocks.proofs.OtherLemmas.{odd_after, odd_here}
+use Rattle.iloc_blocks.proofs.other.past_between.Goals as goal
+use Rattle.iloc_blocks.proofs.other.past_between.Goals.{then-pieces-test+else-at-le8, else-pieces-test}
 
 pub pieces-preserved : goal.pieces-preserved
 pieces-preserved c =

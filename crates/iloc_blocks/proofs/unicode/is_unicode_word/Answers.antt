@@ -3,7 +3,7 @@ use Rattle.std.proofs.lemmas.Bool.{false_from_ne_true}
 use Rattle.std.proofs.lemmas.List.{length-take-le}
 use Rattle.iloc_spec_grammar.specs.Syntax.{Attribute, UnicodeKey, is_word}
 use Rattle.iloc_spec_grammar.proofs.WordsLaws.{length-attribute, length-unicode_key}
-use Rattle.iloc_blocks.proofs.faults.is_unicode_word.Goals as goal
+use Rattle.iloc_blocks.proofs.unicode.is_unicode_word.Goals as goal
 
 or_no : (b : Bool) → (b || false) ≡ b
 or_no true = refl
