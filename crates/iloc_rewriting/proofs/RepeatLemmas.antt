@@ -1,10 +1,10 @@
 -- From a variant that comes twice to the fault of the line.
-use Rattle.std.proofs.Common.{take, drop, ◌≡◌, ℕ, ◌+◌, ◌-◌, ◌≤◌, ◌||◌, true, List, [], ◌∷◌, ◌++◌, length, map, refl, sym, ap, ◌∙◌, subst, true≢false}
-use Rattle.std.specs.List.{AllByRecursion, list_any}
+use Rattle.std.proofs.Common.{take, drop, ◌≡◌, ℕ, ◌+◌, ◌-◌, ◌≤◌, List, [], ◌∷◌, ◌++◌, length, map, sym, ap, ◌∙◌, subst, true≢false}
+use Rattle.std.specs.List.{AllByRecursion}
 use Rattle.std.proofs.lemmas.Bool.{or_left, or_right}
 use Rattle.std.proofs.lemmas.List.{map-append}
-use Rattle.iloc_spec_grammar.specs.Syntax.{pieces, first_piece, front, head, Language, Variant, is_word, IsWord, Identifier, HasWords, identifier_pieces, lower, word_cmp, is_same, AllDifferent, languages}
-use Rattle.iloc_spec_grammar.specs.Meaning.{InvalidSubtag, SpellsIdentifier, not_an_identifier, no_identifier}
+use Rattle.iloc_spec_grammar.specs.Syntax.{pieces, first_piece, front, head, Language, Variant, is_word, IsWord, Identifier, HasWords, lower, word_cmp, is_same, AllDifferent, languages}
+use Rattle.iloc_spec_grammar.specs.Meaning.{SpellsIdentifier, not_an_identifier, no_identifier}
 use Rattle.iloc_spec_grammar.specs.Reading.{identifier_of}
 use Rattle.iloc_spec_grammar.proofs.FaultLaws.{some_repeat, repeats_longer}
 use Rattle.iloc_spec_grammar.proofs.IdentifierLaws.{identifier_of-pieces}

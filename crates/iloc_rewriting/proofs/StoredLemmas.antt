@@ -1,22 +1,17 @@
 -- What is stored of attributes and of fields, from their parts to all of them.
-use Rattle.std.proofs.Common.{take, drop, ◌≡◌, ℕ, zero, suc, ◌+◌, ◌-◌, ◌<◌, ◌≤◌, ◌==◌, IsTrue, Bool, true, false, true≢false, cond, not, List, [], ◌∷◌, ◌++◌, length, map, Option, Some, None, refl, sym, ap, ◌∙◌, subst, arith, append_assoc, append-nil, length-append, drop-drop}
+use Rattle.std.proofs.Common.{take, drop, ◌≡◌, ℕ, zero, suc, ◌+◌, ◌-◌, ◌<◌, ◌≤◌, ◌==◌, IsTrue, Bool, true, false, true≢false, cond, not, List, [], ◌∷◌, ◌++◌, length, Option, Some, None, refl, sym, ap, ◌∙◌, subst, arith, append_assoc, append-nil, length-append, drop-drop}
 use Rattle.std.specs.List.{AllByRecursion}
 use Rattle.std.specs.Char.{to_ascii_lowercase}
-use Rattle.std.specs.Ordering.{nat_cmp, ord_max, eq_by_cmp}
+use Rattle.std.specs.Ordering.{nat_cmp, ord_max}
 use Rattle.std.proofs.lemmas.Bool.Decides.{nat_tests}
-use Rattle.std.proofs.lemmas.List.{length-take-le, length-drop, drop-take, take-append-le, take-take, append_cancel_left, map-append}
-use Rattle.iloc_spec_grammar.specs.Syntax.{pieces, join, dashes, Attribute, is_word, IsWord, IsHyphenFree, lower, is_true, word_cmp, first_piece, Fields, fields_pieces}
-use Rattle.iloc_spec_grammar.specs.Meaning.{normal_values, set_of}
+use Rattle.std.proofs.lemmas.List.{length-take-le, length-drop, drop-take, take-append-le, take-take, append_cancel_left}
+use Rattle.iloc_spec_grammar.specs.Syntax.{pieces, join, dashes, Attribute, is_word, IsWord, IsHyphenFree, lower, is_true, first_piece, Fields, fields_pieces}
+use Rattle.iloc_spec_grammar.specs.Meaning.{normal_values}
 use Rattle.iloc_spec_grammar.specs.Reading.{rest_of}
 use Rattle.iloc_spec_grammar.proofs.PiecesLaws.{pieces-join}
 use Rattle.iloc_spec_grammar.proofs.PartTexts.{join-dashes, dashes-append}
-use Rattle.iloc_spec_grammar.proofs.ReadBack.{all_append, word_hyphen_free}
+use Rattle.iloc_spec_grammar.proofs.ReadBack.{all_append}
 use Rattle.iloc_spec_grammar.proofs.ValuesLaws.{all_weaker}
-use Rattle.iloc_spec_grammar.proofs.Orders.{all_reordered, map_reordered, set_of_reordered, itself}
-use Rattle.iloc_spec_grammar.proofs.MapLaws.{map_of_same, word_cmp_total, same_words}
-use Rattle.iloc_spec_grammar.proofs.SetLaws.{marked, keys, set_of-first}
-use Rattle.std.specs.FinMap.{find}
-use Rattle.iloc_spec_grammar.specs.Values.{Reordered}
 use Rattle.iloc_blocks.specs.Blocks.{left_of, ArePast}
 use Rattle.iloc_fronts.specs.Words.{two_number}
 use Rattle.iloc_fronts.specs.Left.{pieces_of, piece_of, IsLeft}

@@ -14,7 +14,7 @@ returns-then-are_one c = λ _.
     let left = c.variants.invariant.left in
     let word : IsWord Variant (piece_of l) = sym c.is_variant.ensures ∙ c.variants-test.true in
     c.variants.invariant.goes (here_again (piece_of c.args.word) (piece_of l) (pieces_of l) (rest_of (pieces_of l)) (cut_left l left (word_left l left Variant short_variant word)) word
-    (c.are_one.ensures c.if-are_one.true))
+    (c.are_one.ensures.0 c.if-are_one.true))
 
 pub variants-preserved : goal.variants-preserved
 variants-preserved c =
