@@ -203,7 +203,7 @@ is_ordered t o c h = record {
 }
 
 -- a line of which no more than variants follow
-pub is_identifier : (t : List ℕ) (o : Ordered) (c : IsCut t o) (vs : List (List ℕ)) → AllByRecursion (IsWord Variant) vs → IsAscending (map lower vs) → pieces c.tail ≡ vs → IsOrderedIdentifier t o
+is_identifier : (t : List ℕ) (o : Ordered) (c : IsCut t o) (vs : List (List ℕ)) → AllByRecursion (IsWord Variant) vs → IsAscending (map lower vs) → pieces c.tail ≡ vs → IsOrderedIdentifier t o
 is_identifier t o c vs each ascending e = record {
   stored = c.stored;
   identifier = identifier o.plain c.front c.tail c.plain h;
@@ -235,9 +235,3 @@ pub told_varied : (o : Ordered) (w : List ℕ) (len at : ℕ) → len + 16 ≤ l
 unfolding is_cut
 told_varied o w len at room b p v e =
     is_varied (take len w) o (is_cut o w len at room b) p v (ap pieces (sym (rest_is w len at room b.less b.hyphen)) ∙ e)
-
-pub told_identifier : (o : Ordered) (w : List ℕ) (len at : ℕ) → len + 16 ≤ length w → IsBefore w len at o → AreVariantsAbove 0 (pieces (Tail w len at)) → IsOrderedIdentifier (take len w) o
-unfolding is_cut
-told_identifier o w len at room b h =
-    let tail = rest_is w len at room b.less b.hyphen in
-    is_identifier (take len w) o (is_cut o w len at room b) (pieces (Tail w len at)) h.each h.ascending (ap pieces (sym tail))

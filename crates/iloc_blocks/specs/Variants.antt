@@ -9,8 +9,6 @@ use Rattle.iloc_blocks.specs.Blocks.{IsBodyAs}
 use Rattle.iloc_blocks.specs.Ordered.{IsStored, text_of}
 use Rattle.iloc_blocks.specs.declared.body.Body.{Body}
 use Rattle.iloc_blocks.specs.declared.ordered.Ordered.{Ordered}
-use Rattle.iloc_blocks.specs.declared.variants.Variants.{Variants}
-use Rattle.iloc_blocks.specs.declared.variants.Variants.TheVariants as variants
 
 -- they are ascending variants, whose first four bytes have numbers above this one
 pub record AreVariantsAbove (last : ℕ) (ps : List Text) : Type 0 where
@@ -28,9 +26,3 @@ pub record IsOrderedIdentifier (t : Text) (o : Ordered) : Type 0 where
   pub identifier : Identifier
   pub means : IdentifierMeans languages (pieces t) identifier
   pub normal : identifier_text identifier ≡ text_of o
-
--- what is told of the line
-abbrev pub AreVariants : Text → Variants → Type 0
-AreVariants t (variants.Ordered o) = IsOrderedIdentifier t o
-AreVariants t variants.Unordered = ⊤
-AreVariants t variants.Other = ⊤

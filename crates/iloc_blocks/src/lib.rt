@@ -1,10 +1,9 @@
 //! The blocks of a line, told at once, without a value being built.
 //!
 //! Of a line that begins with a plain identifier `read_varied` and `read_ordered` tell whether what follows
-//! has the order of the normal text: one variant, or that and blocks of which the singletons ascend, each in its own
-//! order, and one of `x` (`IsVaried`, `IsOrdered`). `read_variants` tells the same of an identifier with several variants
-//! (`IsOrderedIdentifier`). The normal text is then the line itself but for the case of
-//! letters. If a bad block comes first, or after blocks in order, `read_ordered` tells that: the text has the fault of
+//! has the order of the normal text: one variant, or ascending variants and blocks of which the singletons ascend, each
+//! in its own order, and one of `x` (`IsVaried`, `IsOrdered`). The normal text is then the line itself but for the case
+//! of letters. If a bad block comes first, or after blocks in order, `read_ordered` tells that: the text has the fault of
 //! the grammar. A block that is not in order is read to its end, and may be bad too.
 //!
 //! Of blocks in any order `find_bad_block` tells the first that is bad (`HasBadBlock`).
@@ -28,9 +27,8 @@ pub mod ordered;
 pub mod other;
 mod transform;
 mod unicode;
-pub mod variants;
+mod variants;
 
 pub use bad_block::BadBlock;
 pub use faults::find_bad_block;
 pub use ordered::{Ordered, Reading, read_ordered, read_varied};
-pub use variants::{Variants, read_variants};

@@ -296,4 +296,4 @@ is_front t front.Misfit l g = (l, g)
 is_front t (front.Block b) l g = (l, g)
 is_front t front.Other l g = tt
 is_front t (front.Variant n) l g = tt
-is_front t (front.Variants n) l g = (l, g)
+is_front t front.Variants l g = (l, g)

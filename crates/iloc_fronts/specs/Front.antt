@@ -33,7 +33,7 @@ GoesOnAs ps front.NoLanguage = ¬ ⊤
 GoesOnAs ps front.Misfit = starts_block (past (is_word Variant) ps) ≡ false
 GoesOnAs ps (front.Block b) = GoesOn ps b
 GoesOnAs ps (front.Variant n) = ⊤
-GoesOnAs ps (front.Variants n) = (past (is_word Variant) ps ≡ []) × (2 ≤ length ps)
+GoesOnAs ps front.Variants = (past (is_word Variant) ps ≡ []) × (2 ≤ length ps)
 GoesOnAs ps front.Other = ⊤
 
 -- what the text is: no language comes first, or one does, and what follows it is as told

@@ -34,8 +34,8 @@ pub enum Front<'a> {
     Block(Block<'a>),
     /// No more than one variant. The number is as `Block::tail`.
     Variant(usize),
-    /// No more than variants, two or more. The number is as `Block::tail`.
-    Variants(usize),
+    /// No more than variants, two or more.
+    Variants,
     /// Nothing that is told.
     Other,
 }
@@ -124,7 +124,7 @@ fn after_region(window: &[u8], len: usize) -> Front<'_>
             if is_first {
                 return Front::Variant(len);
             }
-            return Front::Variants(len);
+            return Front::Variants;
         }
         rest = &rest[n + 1..];
         left = left - n - 1;

@@ -1,5 +1,5 @@
 -- What is told of a text at once.
-use Rattle.std.specs.Prelude.{◌≡◌, ◌≢◌, ⊤}
+use Rattle.std.specs.Prelude.{◌≡◌, ⊤}
 use Rattle.iloc_spec_grammar.specs.Syntax.{Text, languages}
 use Rattle.iloc_subtags.specs.declared.parse_error.ParseError.{ParseError}
 use Rattle.iloc_subtags.specs.declared.parse_error.ParseError.TheVariants as errors
@@ -10,7 +10,7 @@ use Rattle.iloc_blocks.specs.declared.bad_block.BadBlock.{BadBlock}
 use Rattle.iloc_blocks.specs.declared.bad_block.BadBlock.TheVariants as bad
 use Rattle.iloc_lines.specs.Answers.{IsNormalText, IsFaulty}
 use Rattle.iloc_lines.specs.declared.Mode.{Mode}
-use Rattle.iloc_lines.specs.declared.Mode.TheVariants.{Locale, Data}
+use Rattle.iloc_lines.specs.declared.Mode.TheVariants.{Locale}
 use Rattle.iloc_lines.specs.declared.told.Lead.{Lead}
 use Rattle.iloc_lines.specs.declared.told.Lead.TheVariants as lead
 use Rattle.iloc_lines.specs.declared.told.Told.{Told}
@@ -29,7 +29,6 @@ IsRefused mode t e = Refusal (IsFaulty languages mode t) ⊥ e
 abbrev pub IsLead : Mode → Text → Lead → Type 0
 IsLead mode t (lead.Refused e) = IsRefused mode t e
 IsLead mode t (lead.Variant n) = ⊤
-IsLead mode t (lead.Variants n) = mode ≢ Data
 IsLead mode t (lead.Blocks n) = mode ≡ Locale
 IsLead mode t (lead.AfterVariants n) = mode ≡ Locale
 IsLead mode t lead.Nothing = ⊤

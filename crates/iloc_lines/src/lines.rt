@@ -1,7 +1,6 @@
 //! Lines that come in pieces, and their replies.
 ghost use Rattle.std.specs.Prelude.{
   ◌≡◌,
-  ◌≢◌,
   ◌+◌,
   ◌≤◌,
   ℕ,
@@ -35,7 +34,7 @@ ghost use Rattle.memchr.specs.Find.{IsFirstByte, Nowhere, Passes, is_byte};
 use crate::replies::write_refusal;
 use crate::reply_block::ReplyBlock;
 use crate::told::{
-    Lead, ROOM, Told, read_lead, tell_after_variants, tell_blocks, tell_variants, tell_varied,
+    Lead, ROOM, Told, read_lead, tell_after_variants, tell_blocks, tell_varied,
 };
 use crate::{Answers, RunError};
 use iloc_fronts::may_begin;
@@ -140,7 +139,6 @@ fn reply_to<A: Answers>(
     match read_lead(answers.mode(), window, len) {
         Lead::Refused(error) => write_refusal(error, replies),
         Lead::Variant(at) => reply_to_varied(answers, window, len, at, replies),
-        Lead::Variants(at) => reply_to_variants(answers, window, len, at, room, replies),
         Lead::Blocks(at) => reply_to_blocks(answers, window, len, at, room, replies),
         Lead::AfterVariants(at) => { reply_after_variants(answers, window, len, at, room, replies) }
         Lead::Nothing => answers.reply(&window[..len], replies),
@@ -182,25 +180,6 @@ fn reply_to_varied<A: Answers>(
         ≡ held replies.old ++ reply A.mode (take len window.now)) }
 {
     let told = tell_varied(window, len, at);
-    reply_told(answers, window, len, told, replies)
-}
-
-// The same of an identifier or a locale that may be a plain identifier of so many bytes, and variants.
-#[inline(never)]
-fn reply_to_variants<A: Answers>(
-    answers: &mut A,
-    window: &[u8],
-    len: usize,
-    at: usize,
-    room: &mut [u8],
-    replies: &mut ReplyBlock,
-) -> Result<(), AllocError>
-    requires mode { A.mode ≢ Mode.Data }
-    requires room { len + 16 ≤ length window.now }
-    ensures { OnOk result (held replies.new
-        ≡ held replies.old ++ reply A.mode (take len window.now)) }
-{
-    let told = tell_variants(window, len, at, room);
     reply_told(answers, window, len, told, replies)
 }
 

@@ -1,12 +1,12 @@
 //! What is told of a text at once, in each mode: first by its front, and then by what follows that.
-ghost use Rattle.std.specs.Prelude.{◌≡◌, ◌≢◌, ◌+◌, ◌<◌, ◌≤◌, IfSome, length, take};
+ghost use Rattle.std.specs.Prelude.{◌≡◌, ◌+◌, ◌<◌, ◌≤◌, IfSome, length, take};
 ghost use Rattle.iloc_spec_grammar.specs.Syntax.{Text};
 ghost use Rattle.iloc_fronts.specs.Front.{IsFront};
 ghost use Rattle.iloc_fronts.specs.declared.front.Front.TheVariants as fronts;
+ghost use Rattle.iloc_blocks.specs.Ordered.{IsReading};
 ghost use Rattle.iloc_lines.specs.Told.{IsLead, IsRefused, IsTold, refusal_of};
 
 use crate::Mode;
-use iloc_blocks::variants::{Variants, read_variants};
 use iloc_blocks::{BadBlock, Ordered, Reading, find_bad_block, read_ordered, read_varied};
 use iloc_fronts::{Block, Front, Keyword, read_front, read_keyword};
 use iloc_rewriting::repeats::repeats_variant;
@@ -23,9 +23,6 @@ pub enum Lead {
     Refused(ParseError),
     /// Nothing, but it may be a plain identifier of so many bytes, and a variant: `tell_varied` tells more.
     Variant(usize),
-    /// Nothing, but it may be a plain identifier of so many bytes, and variants: `tell_variants` tells more. It is said
-    /// of no data locale.
-    Variants(usize),
     /// Nothing, but it may be a plain identifier of so many bytes, and what a locale prints after it:
     /// `tell_blocks` tells more. It is said of locales alone.
     Blocks(usize),
@@ -48,7 +45,7 @@ pub enum Told<'a> {
 
 /// What is told in the mode of the first `len` bytes. Sixteen bytes after them are loaded too, and change nothing. A
 /// text out of order is brought into order in the room.
-#[inline(always)]
+#[inline(never)]
 pub fn tell<'a>(mode: Mode, window: &'a [u8], len: usize, room: &'a mut [u8]) -> Told<'a>
     requires { len + 16 ≤ length window.now }
     ensures { IsTold mode (take len window.now) result }
@@ -56,7 +53,6 @@ pub fn tell<'a>(mode: Mode, window: &'a [u8], len: usize, room: &'a mut [u8]) ->
     match read_lead(mode, window, len) {
         Lead::Refused(error) => Told::Refused(error),
         Lead::Variant(at) => tell_varied(window, len, at),
-        Lead::Variants(at) => tell_variants(window, len, at, room),
         Lead::Blocks(at) => tell_blocks(window, len, at, room),
         Lead::AfterVariants(at) => tell_after_variants(window, len, at, room),
         Lead::Nothing => Told::Nothing,
@@ -74,7 +70,7 @@ pub fn read_lead(mode: Mode, window: &[u8], len: usize) -> Lead
         Front::NoLanguage => Lead::Refused(ParseError::InvalidLanguage),
         Front::Misfit => Lead::Refused(ParseError::InvalidSubtag),
         Front::Variant(tail) => Lead::Variant(len.wrapping_sub(tail.wrapping_add(1))),
-        Front::Variants(tail) => lead_of_variants(mode, &window[..len], tail),
+        Front::Variants => lead_of_variants(mode, &window[..len]),
         Front::Block(block) => lead_of_block(mode, &window[..len], block),
         Front::Other => Lead::Nothing,
     }
@@ -82,13 +78,13 @@ pub fn read_lead(mode: Mode, window: &[u8], len: usize) -> Lead
 
 // The same of a text with two variants or more. A data locale has no more than one.
 #[inline(always)]
-fn lead_of_variants(mode: Mode, text: &[u8], tail: usize) -> Lead
-    requires { IsFront text.now (fronts.Variants tail) }
+fn lead_of_variants(mode: Mode, text: &[u8]) -> Lead
+    requires { IsFront text.now fronts.Variants }
     ensures { IsLead mode text.now result }
 {
     match mode {
         Mode::Data => Lead::Refused(ParseError::InvalidSubtag),
-        _ => Lead::Variants(text.len().wrapping_sub(tail.wrapping_add(1))),
+        _ => Lead::Nothing,
     }
 }
 
@@ -178,47 +174,6 @@ pub fn tell_varied(window: &[u8], len: usize, at: usize) -> Told<'_>
     }
 }
 
-/// What is told of the first `len` bytes, but as a data locale, if a plain identifier of `at` bytes and variants are all
-/// of them. Variants out of order are brought into order in the room.
-#[inline(always)]
-pub fn tell_variants<'a>(window: &'a [u8], len: usize, at: usize, room: &'a mut [u8]) -> Told<'a>
-    requires { len + 16 ≤ length window.now }
-    ensures { (mode : Mode) → mode ≢ Mode.Data → IsTold mode (take len window.now) result }
-{
-    match read_variants(window, len, at) {
-        Variants::Ordered(line) => Told::Ordered(line),
-        Variants::Unordered => tell_sorted(window, len, at, room),
-        Variants::Other => tell_repeated(window, len, at),
-    }
-}
-
-// The same of one whose variants have to be brought into order.
-#[inline(always)]
-fn tell_sorted<'a>(window: &[u8], len: usize, at: usize, room: &'a mut [u8]) -> Told<'a>
-    requires { len + 16 ≤ length window.now }
-    ensures { (mode : Mode) → mode ≢ Mode.Data → IsTold mode (take len window.now) result }
-{
-    let Some(count) = sort_variants(window, len, at, room) else {
-        return tell_repeated(window, len, at);
-    };
-    match read_variants(room, count, at) {
-        Variants::Ordered(line) => Told::Ordered(line),
-        _ => Told::Nothing,
-    }
-}
-
-// The same of one in which a variant may come twice.
-#[inline(never)]
-fn tell_repeated<'a>(window: &[u8], len: usize, at: usize) -> Told<'a>
-    requires { len + 16 ≤ length window.now }
-    ensures { (mode : Mode) → mode ≢ Mode.Data → IsTold mode (take len window.now) result }
-{
-    if repeats_variant(window, len, at) {
-        return Told::Refused(ParseError::InvalidSubtag);
-    }
-    Told::Nothing
-}
-
 /// What is told of the first `len` bytes as a locale, if a plain identifier of `at` bytes comes first. A text out of
 /// order is brought into order in the room.
 #[inline(always)]
@@ -243,7 +198,7 @@ fn tell_rewritten<'a>(window: &'a [u8], len: usize, at: usize, room: &'a mut [u8
     let Some(count) = rewrite(window, len, room) else {
         return tell_bad_block(window, len, at);
     };
-    match read_ordered(room, count, at) {
+    match read_again(room, count, at) {
         Reading::Ordered(line) => Told::Ordered(line),
         _ => tell_bad_block(window, len, at),
     }
@@ -261,7 +216,7 @@ pub fn tell_after_variants<'a>(
     requires { len + 16 ≤ length window.now }
     ensures { IsTold Mode.Locale (take len window.now) result }
 {
-    match read_ordered(window, len, at) {
+    match read_again(window, len, at) {
         Reading::Ordered(line) => Told::Ordered(line),
         Reading::BadBlock(bad) => Told::Refused(error_of(bad)),
         Reading::Unordered => tell_resorted(window, len, at, room),
@@ -282,10 +237,22 @@ fn tell_resorted<'a>(window: &'a [u8], len: usize, at: usize, room: &'a mut [u8]
     let Some(count) = rewrite(&sorted, part, room) else {
         return tell_bad_block(window, len, at);
     };
-    match read_ordered(room, count, at) {
+    match read_again(room, count, at) {
         Reading::Ordered(line) => Told::Ordered(line),
         _ => tell_bad_block(window, len, at),
     }
+}
+
+// The same of one in which a variant may come twice.
+#[inline(never)]
+fn tell_repeated<'a>(window: &[u8], len: usize, at: usize) -> Told<'a>
+    requires { len + 16 ≤ length window.now }
+    ensures { IsTold Mode.Locale (take len window.now) result }
+{
+    if repeats_variant(window, len, at) {
+        return Told::Refused(ParseError::InvalidSubtag);
+    }
+    Told::Nothing
 }
 
 // The same of one that may have a bad block, after good ones in whatever order.
@@ -298,6 +265,15 @@ fn tell_bad_block(window: &[u8], len: usize, at: usize) -> Told<'_>
         Some(bad) => Told::Refused(error_of(bad)),
         None => Told::Nothing,
     }
+}
+
+// The same as `read_ordered`. It is a call, so that the first reading of most lines is none.
+#[inline(never)]
+fn read_again(window: &[u8], len: usize, at: usize) -> Reading<'_>
+    requires { len + 16 ≤ length window.now }
+    ensures { IsReading (take len window.now) result }
+{
+    read_ordered(window, len, at)
 }
 
 // Why a locale with this bad block is refused.

@@ -5,20 +5,20 @@
 //! line: `line-window` says the normal text, `line-front` what stands at the front, `line-keyword` what follows the
 //! singleton of the first block, and `line-ordered` of a line in the order of its normal text the plain identifier and
 //! the rest, what is wrong with its first bad block, or that the line is not in order. `line-bad` says what is wrong with
-//! the first bad block, and `line-rewritten` the line that is brought into order. `line-variants` says of an identifier
-//! with variants what `line-ordered` says, or that they are out of order, `line-sorted` the line whose variants are
-//! brought into order, and `line-repeats` whether a variant comes twice. A line of which nothing is said is `not told`.
+//! the first bad block, and `line-rewritten` the line that is brought into order. `line-sorted` says the line whose
+//! variants are brought into order, and `line-repeats` whether a variant comes twice. A line of which nothing is said is `not told`.
 ghost use Rattle.std.specs.Prelude.{◌+◌, ◌≤◌, length};
 ghost use Rattle.iloc_plain.specs.Plain.{AreWords};
 ghost use Rattle.iloc_blocks.specs.Ordered.{IsStored};
 
 use iloc_blocks::{
-    BadBlock, Ordered, Reading, Variants, find_bad_block, read_ordered, read_variants, read_varied,
+    BadBlock, Ordered, Reading, find_bad_block, read_ordered, read_varied,
 };
 use iloc_fronts::{Block, Front, Keyword, read_front, read_keyword};
 use iloc_plain::{Plain, read_plain, read_plain_text};
 use iloc_rewriting::{repeats_variant, rewrite, sort_variants};
 use test_page::argument::number_of;
+use std::cmp::min;
 use test_page::{bytes, number, say};
 
 // Says the normal text.
@@ -83,10 +83,7 @@ fn front(window: &[u8], len: usize, out: &mut String) {
             say(out, "variant ");
             number(out, tail)
         }
-        Front::Variants(tail) => {
-            say(out, "variants ");
-            number(out, tail)
-        }
+        Front::Variants => say(out, "variants"),
         Front::Other => say(out, "not told"),
     }
 }
@@ -190,37 +187,17 @@ fn rewritten(window: &[u8], len: usize, out: &mut String) {
     }
 }
 
-// Says what a line is that may be an identifier of `at` bytes, and variants.
-fn ascending(window: &[u8], len: usize, at: usize, out: &mut String)
+// How many bytes of the line are the longest plain identifier that a hyphen follows; all if there is none.
+fn identifier_len(window: &[u8], len: usize) -> usize
     requires { len + 16 ≤ length window.now }
 {
-    match read_variants(window, len, at) {
-        Variants::Ordered(line) => in_order(&line, out),
-        Variants::Unordered => say(out, "out of order"),
-        Variants::Other => say(out, "not told"),
-    }
-}
-
-// Says what is told of a line with two variants or more, and nothing else, if sixteen bytes follow it at least.
-fn variants(window: &[u8], len: usize, out: &mut String) {
-    if window.len() < 16 || len > window.len() - 16 {
-        return say(out, "not told");
-    }
-    match read_front(window, len) {
-        Front::Variants(tail) => {
-            ascending(window, len, len.wrapping_sub(tail.wrapping_add(1)), out)
+    let mut found = len;
+    for at in 0..min(len, 17) {
+        if window[at] == b'-' && read_plain(window, at).is_some() {
+            found = at;
         }
-        _ => say(out, "not told"),
     }
-}
-
-// How many bytes come before the hyphen after the region, if variants or a block follow it.
-fn identifier_len(front: Front<'_>, len: usize) -> usize {
-    match front {
-        Front::Block(block) => len.wrapping_sub(block.tail.wrapping_add(1)),
-        Front::Variant(tail) | Front::Variants(tail) => len.wrapping_sub(tail.wrapping_add(1)),
-        _ => len,
-    }
+    found
 }
 
 // Says the line with its variants in order, if sixteen bytes follow it at least.
@@ -228,7 +205,7 @@ fn sorted(window: &[u8], len: usize, out: &mut String) {
     if window.len() < 16 || len > window.len() - 16 {
         return say(out, "not told");
     }
-    let at = identifier_len(read_front(window, len), len);
+    let at = identifier_len(window, len);
     let mut room = [0u8; 128];
     match sort_variants(window, len, at, &mut room) {
         Some(len) => bytes(out, room.get(..len).unwrap_or(b"")),
@@ -241,7 +218,7 @@ fn repeats(window: &[u8], len: usize, out: &mut String) {
     if window.len() < 16 || len > window.len() - 16 {
         return say(out, "not told");
     }
-    let at = identifier_len(read_front(window, len), len);
+    let at = identifier_len(window, len);
     say(
         out,
         if repeats_variant(window, len, at) {
@@ -262,7 +239,6 @@ pub fn answer(what: &str, text: &[u8], len: &[u8], out: &mut String) {
         "ordered" => ordered(text, number_of(len), out),
         "bad" => bad(text, number_of(len), out),
         "rewritten" => rewritten(text, number_of(len), out),
-        "variants" => variants(text, number_of(len), out),
         "sorted" => sorted(text, number_of(len), out),
         "repeats" => repeats(text, number_of(len), out),
         _ => say(out, "no call"),

@@ -36,8 +36,5 @@ returns-in-Refused g c =
 pub reply_to_blocks-requires-clause-mode : goal.reply_to_blocks-requires-clause-mode
 reply_to_blocks-requires-clause-mode g c = sym c.mode.ensures ∙ c.in-Blocks.ensures
 
-pub reply_to_variants-requires-clause-mode : goal.reply_to_variants-requires-clause-mode
-reply_to_variants-requires-clause-mode g c e = c.in-Variants.ensures (c.mode.ensures ∙ e)
-
 pub reply_after_variants-requires-clause-mode : goal.reply_after_variants-requires-clause-mode
 reply_after_variants-requires-clause-mode g c = sym c.mode.ensures ∙ c.in-AfterVariants.ensures

@@ -13,6 +13,3 @@ pub returns-in-BadBlock : goal.returns-in-BadBlock
 returns-in-BadBlock c =
     let t = take c.args.len c.args.window.now in
     subst (λ (e : ParseError). IsRefused Locale t e) (sym c.error_of.ensures) (bad_refused t c.in-BadBlock.bad c.in-BadBlock.ensures)
-
-pub returns-in-Other : goal.returns-in-Other
-returns-in-Other c = c.tell_repeated.ensures Locale (λ e. cc)

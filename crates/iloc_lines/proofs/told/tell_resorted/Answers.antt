@@ -10,6 +10,3 @@ returns-in-Ordered c =
     ordered_in_order t c.in-Ordered.line
     (ordered_of_rewritten t (take c.in-Some-rewrite.count c.rewrite.new.room) c.in-Ordered.line
     (λ M m. c.in-Some.ensures.locale M (c.in-Some-rewrite.ensures.1 M m)) c.in-Ordered.ensures)
-
-pub returns-in_default : goal.returns-in_default
-returns-in_default c = c.tell_repeated.ensures Locale (λ e. cc)
