@@ -215,24 +215,25 @@ fn past_value(ordered: bool, left: Left<'_>) -> Body<'_>
     Body::Next(next)
 }
 
-// What they are, if none is `true` where order is asked.
+// What they are, if none is `true` where order is asked. The first is not.
 #[inline(always)]
 fn past_values(ordered: bool, left: Left<'_>) -> Body<'_>
     requires left { IsLeft left }
     requires first { IsWord Attribute (piece_of left) }
+    requires plain { (ordered && is_true (lower (piece_of left))) ≡ false }
     ensures { AreValuesAs (AreValues ordered) left.entry.len (pieces_of left.entry) result }
 {
     let mut at = left;
     'values: loop {
-        if is_unordered(ordered, at.window, at.n) {
-            return Body::Unordered;
-        }
         if at.n == at.len {
             return Body::End;
         }
         at = after_piece(at);
         if !is_attribute(at.window, at.n) {
             return Body::Next(at);
+        }
+        if is_unordered(ordered, at.window, at.n) {
+            return Body::Unordered;
         }
     }
 }
