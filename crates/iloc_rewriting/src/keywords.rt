@@ -225,7 +225,7 @@ fn put_values<'a>(left: Left<'a>, room: &mut [u8], start: usize) -> Option<Store
 }
 
 // Stores a field before the first whose key is greater, unless its key is there. The fields begin at
-// `start`.
+// `start`. Each kind has a function of its own, which does not ask for the kind.
 #[inline(never)]
 fn insert_field<'a, const OF_T: bool>(
     left: Left<'a>,

@@ -7,7 +7,8 @@
 //! and a shape that is not rewritten here costs time and nothing else.
 //!
 //! A line is rewritten in one walk (`rewriting`, `sorting`): each block is stored in its place (`blocks`, `attributes`,
-//! `keywords`, `others`), its pieces as sixteen bytes at once (`storing`). docs/ARCHITECTURE.md says how to add a shape.
+//! `keywords`, `fields`, `others`), its pieces as sixteen bytes at once (`storing`). docs/ARCHITECTURE.md says how to add
+//! a shape.
 //!
 //! It stands on the grammar (`iloc_spec_grammar`), on what `iloc_blocks` tells, and on the walk from piece to piece and
 //! the tests of words of `iloc_fronts`.
