@@ -119,10 +119,42 @@ fn past_one(fits: bool, left: Left<'_>) -> Option<Left<'_>>
     Some(after_piece(left))
 }
 
-// What the fields are, one at least. From the first that is not in order on, if order is asked, they are read without it.
+// What the fields are, one at least.
+#[inline(always)]
+fn read_fields(ordered: bool, left: Left<'_>) -> Body<'_>
+    requires { IsLeft left }
+    ensures { IsBodyAs (AreFields ordered 0) NoFields left.entry.len
+        (pieces_of left.entry) result }
+{
+    if ordered {
+        return fields_in_order(left);
+    }
+    fields_in_any_order(left)
+}
+
+// What they are in order.
+#[inline(never)]
+fn fields_in_order(left: Left<'_>) -> Body<'_>
+    requires { IsLeft left }
+    ensures { IsBodyAs (AreFields true 0) NoFields left.entry.len (pieces_of left.entry) result }
+{
+    walk_fields(true, left)
+}
+
+// What they are in any order.
 #[cycle(fields)]
 #[inline(never)]
-fn read_fields(ordered: bool, left: Left<'_>) -> Body<'_>
+fn fields_in_any_order(left: Left<'_>) -> Body<'_>
+    requires { IsLeft left }
+    ensures { IsBodyAs (AreFields false 0) NoFields left.entry.len (pieces_of left.entry) result }
+{
+    walk_fields(false, left)
+}
+
+// What they are. From the first that is not in order on, if order is asked, they are read in any order.
+#[cycle(fields)]
+#[inline(always)]
+fn walk_fields(ordered: bool, left: Left<'_>) -> Body<'_>
     requires { IsLeft left }
     ensures { IsBodyAs (AreFields ordered 0) NoFields left.entry.len
         (pieces_of left.entry) result }
@@ -165,7 +197,7 @@ fn have_no_fields(window: &[u8], len: usize) -> bool
     requires { len + 16 ≤ length window.now }
     ensures { IsTrue result → NoFields (pieces (take len window.now)) }
 {
-    matches!(read_fields(false, left_in(window, len)), Body::Bad)
+    matches!(fields_in_any_order(left_in(window, len)), Body::Bad)
 }
 
 // Whether a field with this key may come after the last one.
