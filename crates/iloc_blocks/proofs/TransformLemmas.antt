@@ -71,9 +71,9 @@ field_more ordered last p vs h l v qs f = record {
 -- ---- values
 
 -- what is asked, and does not hold
-pub not_asked : (ordered b : Bool) → (ordered && b) ≡ false → ordered ≡ true → b ≡ false
-not_asked true b e o = e
-not_asked false b e o = absurd (true≢false (sym o))
+pub not_asked : (ordered b : Bool) → (b && ordered) ≡ false → ordered ≡ true → b ≡ false
+not_asked ordered false e o = refl
+not_asked ordered true e o = absurd (true≢false (sym o ∙ e))
 
 pub value_last : (ordered : Bool) (p : List ℕ) → IsWord Attribute p → (ordered ≡ true → is_true (lower p) ≡ false) → AreValues ordered (p ∷ [])
 value_last ordered p h k = record { each = (h, tt); plain = λ o. ((h, k o), tt); some = omega arith }
@@ -82,12 +82,12 @@ value_more : (ordered : Bool) (p : List ℕ) (ps : List (List ℕ)) → IsWord A
 value_more ordered p ps h k v = record { each = (h, v.each); plain = λ o. ((h, k o), v.plain o); some = omega arith }
 
 pub values_after : (ordered : Bool) (m n : ℕ) (p : List ℕ) (ps whole : List (List ℕ)) → whole ≡ p ∷ ps → m ≤ n → IsWord Attribute p → (ordered ≡ true → is_true (lower p) ≡ false)
-    → (w : Body) → AreValuesAs (AreValues ordered) m ps w → AreValuesAs (AreValues ordered) n whole w
+    → (w : Body) → AreValuesAs AreValues ordered m ps w → AreValuesAs AreValues ordered n whole w
 values_after ordered m n p ps whole e le h k body.End v = subst (AreValues ordered) (sym e) (value_more ordered p ps h k v)
 values_after ordered m n p ps whole e le h k (body.Next l) v = (v.0, omega (arith, v.1), record { body = p ∷ v.2.body; cut = e ∙ ap (λ l. p ∷ l) v.2.cut; is = value_more ordered p v.2.body h k v.2.is }, v.3)
 values_after ordered m n p ps whole e le h k body.Bad v = v
-values_after ordered m n p ps whole e le h k body.Unordered v = tt
-values_after ordered m n p ps whole e le h k body.Other v = tt
+values_after ordered m n p ps whole e le h k body.Unordered v = v
+values_after ordered m n p ps whole e le h k body.Other v = v
 
 -- without `true` they are printed as they are
 no_true_kept : (vs : List (List ℕ)) → AllByRecursion IsValue vs → normal_values vs ≡ map lower vs
@@ -101,21 +101,21 @@ values_in_order ordered vs h = record { each = h.each; some = h.some; printed = 
     spelled [] l = absurd (omega arith)
     spelled (v ∷ vs) l = refl
 
--- and so is `true` alone
-pub true_in_order : (ordered : Bool) (p : List ℕ) → IsWord Attribute p → is_true (lower p) ≡ true → IsFieldValue ordered (p ∷ [])
-true_in_order ordered p w t = record {
-  each = (w, tt);
-  some = omega arith;
-  printed = λ _. ap (λ (b : Bool). spelled_value (cond (not b) (lower p ∷ []) [])) t ∙ ap (λ w. w ∷ []) (true_word (lower p) t);
-}
+-- and so is one word, `true` too
+pub one_in_order : (ordered : Bool) (p : List ℕ) → IsWord Attribute p → IsFieldValue ordered (p ∷ [])
+one_in_order ordered p w = record { each = (w, tt); some = omega arith; printed = λ _. by (is_true (lower p)) refl }
+  where
+    by : (b : Bool) → is_true (lower p) ≡ b → IsAsPrinted (p ∷ [])
+    by true t = ap (λ (b : Bool). spelled_value (cond (not b) (lower p ∷ []) [])) t ∙ ap (λ w. w ∷ []) (true_word (lower p) t)
+    by false f = ap (λ (b : Bool). spelled_value (cond (not b) (lower p ∷ []) [])) f
 
 -- what is told of such pieces
-pub told_in_order : (ordered : Bool) (len : ℕ) (ps : List (List ℕ)) (w : Body) → AreValuesAs (AreValues ordered) len ps w → AreValuesAs (IsFieldValue ordered) len ps w
+pub told_in_order : (ordered : Bool) (len : ℕ) (ps : List (List ℕ)) (w : Body) → AreValuesAs AreValues ordered len ps w → AreValuesAs IsFieldValue ordered len ps w
 told_in_order ordered len ps body.End h = values_in_order ordered ps h
 told_in_order ordered len ps (body.Next l) h = (h.0, h.1, record { body = h.2.body; cut = h.2.cut; is = values_in_order ordered h.2.body h.2.is }, h.3)
 told_in_order ordered len ps body.Bad h = h
-told_in_order ordered len ps body.Unordered h = tt
-told_in_order ordered len ps body.Other h = tt
+told_in_order ordered len ps body.Unordered h = h
+told_in_order ordered len ps body.Other h = h
 
 -- ---- fields that break the rule
 

@@ -34,14 +34,14 @@ pub record IsFieldValue (ordered : Bool) (ps : List Text) : Type 0 where
   pub some : 0 < length ps
   pub printed : ordered ≡ true → IsAsPrinted ps
 
--- they are such pieces, up to the end or to one that is no word
-abbrev pub AreValuesAs : (List Text → Type 0) → ℕ → List Text → Body → Type 0
-AreValuesAs P len ps body.End = P ps
-AreValuesAs P len ps (body.Next l) = IsLeft l × (l.len ≤ len)
-    × IsCutAs P ps (pieces_of l) × (is_word Attribute (piece_of l) ≡ false)
-AreValuesAs P len ps body.Bad = ¬ ⊤
-AreValuesAs P len ps body.Unordered = ⊤
-AreValuesAs P len ps body.Other = ⊤
+-- they are such pieces, up to the end or to one that is no word; or order is asked, and they are not in order
+abbrev pub AreValuesAs : (Bool → List Text → Type 0) → Bool → ℕ → List Text → Body → Type 0
+AreValuesAs P ordered len ps body.End = P ordered ps
+AreValuesAs P ordered len ps (body.Next l) = IsLeft l × (l.len ≤ len)
+    × IsCutAs (P ordered) ps (pieces_of l) × (is_word Attribute (piece_of l) ≡ false)
+AreValuesAs P ordered len ps body.Bad = ¬ ⊤
+AreValuesAs P ordered len ps body.Unordered = ordered ≡ true
+AreValuesAs P ordered len ps body.Other = ¬ ⊤
 
 -- their keys ascend above a number, and their values are as they are printed
 pub record AreInOrder (last : ℕ) (fields : Fields) : Type 0 where

@@ -2,6 +2,7 @@
 ghost use Rattle.std.specs.Prelude.{
   ◌≡◌,
   ◌↔◌,
+  ◌+◌,
   ◌<◌,
   ◌≤◌,
   ◌&&◌,
@@ -19,6 +20,7 @@ ghost use Rattle.iloc_spec_grammar.specs.Syntax.{
   is_true,
   languages,
   lower,
+  pieces,
 };
 ghost use Rattle.iloc_spec_grammar.specs.Reading.{after_region, rest_of};
 ghost use Rattle.iloc_fronts.specs.Left.{IsLeft, piece_of, pieces_of};
@@ -36,7 +38,7 @@ ghost use Rattle.iloc_blocks.specs.Transform.{
 };
 
 use crate::body::{Body, unordered};
-use iloc_fronts::left::{Left, after_piece};
+use iloc_fronts::left::{Left, after_piece, left_in};
 use iloc_fronts::words::{
     is_attribute, is_field_key, is_language, is_region, is_script, is_true, is_variant,
     number_of_two,
@@ -125,33 +127,32 @@ fn read_fields(ordered: bool, left: Left<'_>) -> Body<'_>
         (pieces_of left.entry) result }
 {
     if ordered {
-        return read_ordered_fields(left);
+        return fields_in_order(left);
     }
-    past_fields(left)
+    fields_in_any_order(left)
 }
 
-// What they are in order. If they are not, the rest of the block is read as well.
+// What they are in order.
 #[inline(never)]
-fn read_ordered_fields(left: Left<'_>) -> Body<'_>
+fn fields_in_order(left: Left<'_>) -> Body<'_>
     requires { IsLeft left }
     ensures { IsBodyAs (AreFields true 0) NoFields left.entry.len (pieces_of left.entry) result }
 {
-    match walk_fields(true, left) {
-        Body::Unordered => unordered(past_fields(left)),
-        told => told,
-    }
+    walk_fields(true, left)
 }
 
 // What they are in any order.
+#[cycle(fields)]
 #[inline(never)]
-fn past_fields(left: Left<'_>) -> Body<'_>
+fn fields_in_any_order(left: Left<'_>) -> Body<'_>
     requires { IsLeft left }
     ensures { IsBodyAs (AreFields false 0) NoFields left.entry.len (pieces_of left.entry) result }
 {
     walk_fields(false, left)
 }
 
-// What they are, up to the first that is not in order, if that is asked.
+// What they are. From the first that is not in order on, if order is asked, they are read in any order.
+#[cycle(fields)]
 #[inline(always)]
 fn walk_fields(ordered: bool, left: Left<'_>) -> Body<'_>
     requires { IsLeft left }
@@ -163,7 +164,7 @@ fn walk_fields(ordered: bool, left: Left<'_>) -> Body<'_>
     'fields: while is_field_key(at.window, at.n) {
         let key = number_of_two(at.window);
         if !may_follow(ordered, key, last) {
-            return Body::Unordered;
+            return unordered(have_no_fields(at.window, at.len));
         }
         if at.n == at.len {
             return Body::Bad;
@@ -181,10 +182,22 @@ fn walk_fields(ordered: bool, left: Left<'_>) -> Body<'_>
                 at = next;
             }
             Body::End => return Body::End,
-            _ => return Body::Unordered,
+            Body::Unordered => return unordered(have_no_fields(at.window, at.len)),
+            Body::Bad | Body::Other => return Body::Other,
         }
     }
     Body::Bad
+}
+
+// Whether what comes before the next block is no fields. It is a call of its own, with no more than numbers to pass, so
+// that fields in order pay nothing.
+#[cycle(fields)]
+#[inline(never)]
+fn have_no_fields(window: &[u8], len: usize) -> bool
+    requires { len + 16 ≤ length window.now }
+    ensures { IsTrue result → NoFields (pieces (take len window.now)) }
+{
+    matches!(fields_in_any_order(left_in(window, len)), Body::Bad)
 }
 
 // Whether a field with this key may come after the last one.
@@ -192,48 +205,47 @@ fn walk_fields(ordered: bool, left: Left<'_>) -> Body<'_>
 fn may_follow(ordered: bool, key: usize, last: usize) -> bool
     ensures { IsTrue result ↔ (ordered ≡ true → last < key) }
 {
-    !ordered || key > last
+    key > last || !ordered
 }
 
-// What the pieces of a value are, of which the first is a word. In order are words other than `true`, and `true` alone.
+// What the pieces of a value are, of which the first is a word. In order are words other than `true`, and one word.
 #[inline(always)]
 fn past_value(ordered: bool, left: Left<'_>) -> Body<'_>
     requires left { IsLeft left }
     requires first { IsWord Attribute (piece_of left) }
-    ensures { AreValuesAs (IsFieldValue ordered) left.entry.len (pieces_of left.entry) result }
+    ensures { AreValuesAs IsFieldValue ordered left.entry.len (pieces_of left.entry) result }
 {
-    if !is_unordered(ordered, left.window, left.n) {
-        return past_values(ordered, left);
-    }
     if left.n == left.len {
         return Body::End;
     }
     let next = after_piece(left);
-    if is_attribute(next.window, next.n) {
+    if !is_attribute(next.window, next.n) {
+        return Body::Next(next);
+    }
+    if is_unordered(ordered, left.window, left.n) {
         return Body::Unordered;
     }
-    Body::Next(next)
+    past_values(ordered, next)
 }
 
-// What they are, if none is `true` where order is asked. The first is not.
+// What they are, if none is `true` where order is asked.
 #[inline(always)]
 fn past_values(ordered: bool, left: Left<'_>) -> Body<'_>
     requires left { IsLeft left }
     requires first { IsWord Attribute (piece_of left) }
-    requires plain { (ordered && is_true (lower (piece_of left))) ≡ false }
-    ensures { AreValuesAs (AreValues ordered) left.entry.len (pieces_of left.entry) result }
+    ensures { AreValuesAs AreValues ordered left.entry.len (pieces_of left.entry) result }
 {
     let mut at = left;
     'values: loop {
+        if is_unordered(ordered, at.window, at.n) {
+            return Body::Unordered;
+        }
         if at.n == at.len {
             return Body::End;
         }
         at = after_piece(at);
         if !is_attribute(at.window, at.n) {
             return Body::Next(at);
-        }
-        if is_unordered(ordered, at.window, at.n) {
-            return Body::Unordered;
         }
     }
 }
@@ -243,7 +255,7 @@ fn past_values(ordered: bool, left: Left<'_>) -> Body<'_>
 fn is_unordered(ordered: bool, window: &[u8], n: usize) -> bool
     requires wide { 16 ≤ length window.now }
     requires few { n ≤ 16 }
-    ensures { result ≡ ordered && is_true (lower (take n window.now)) }
+    ensures { result ≡ is_true (lower (take n window.now)) && ordered }
 {
-    ordered && is_true(window, n)
+    is_true(window, n) && ordered
 }

@@ -12,7 +12,7 @@ pub returns-then-at : goal.returns-then-at
 returns-then-at c =
     let l = c.values.at in
     let word = c.values.invariant.word in
-    let plain = not_asked c.args.ordered (is_true (lower (piece_of l))) c.values.invariant.plain in
+    let plain = not_asked c.args.ordered (is_true (lower (piece_of l))) (sym c.is_unordered.ensures ∙ c.if-is_unordered.false) in
     c.values.invariant.goes body.End (subst (AreValues c.args.ordered) (sym (last_left l c.values.invariant.left (word_left l c.values.invariant.left Attribute short_attribute word) c.if-at.true))
     (value_last c.args.ordered (piece_of l) word plain))
 
@@ -21,7 +21,7 @@ returns-then-not-is_attribute c =
     let l = c.values.at in
     let next = c.after_piece-at.result in
     let word = c.values.invariant.word in
-    let plain = not_asked c.args.ordered (is_true (lower (piece_of l))) c.values.invariant.plain in
+    let plain = not_asked c.args.ordered (is_true (lower (piece_of l))) (sym c.is_unordered.ensures ∙ c.if-is_unordered.false) in
     c.values.invariant.goes (body.Next next) (
       c.after_piece-at.ensures.left,
       omega (arith, c.after_piece-at.ensures.less),
@@ -38,12 +38,11 @@ values-preserved c =
     let l = c.values.at in
     let next = c.after_piece-at.result in
     let word = c.values.invariant.word in
-    let plain = not_asked c.args.ordered (is_true (lower (piece_of l))) c.values.invariant.plain in
+    let plain = not_asked c.args.ordered (is_true (lower (piece_of l))) (sym c.is_unordered.ensures ∙ c.if-is_unordered.false) in
     record {
       left = c.after_piece-at.ensures.left;
       shorter = omega (arith, c.after_piece-at.ensures.less, c.values.invariant.shorter);
       word = sym c.is_attribute.ensures ∙ c.if-not-is_attribute.false;
-      plain = sym c.is_unordered.ensures ∙ c.if-is_unordered.false;
       goes = λ w h. c.values.invariant.goes w (values_after c.args.ordered next.len l.len (piece_of l) (pieces_of next) (pieces_of l) (c.after_piece-at.ensures.pieces (word_left l c.values.invariant.left Attribute short_attribute word))
           (omega (arith, c.after_piece-at.ensures.less)) word plain w h);
     }
