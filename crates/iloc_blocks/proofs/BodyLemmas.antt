@@ -1,7 +1,7 @@
 -- What is told of a body, from its later pieces to all of it.
-use Rattle.std.proofs.Common.{◌≡◌, ℕ, ◌≤◌, List, ◌∷◌, ◌++◌, append_assoc, sym, ap, ◌∙◌, subst, arith}
+use Rattle.std.proofs.Common.{◌≡◌, ℕ, ◌≤◌, Bool, true, false, refl, List, ◌∷◌, ◌++◌, append_assoc, sym, ap, ◌∙◌, subst, arith}
 use Rattle.iloc_fronts.specs.Left.{pieces_of}
-use Rattle.iloc_blocks.specs.Blocks.{IsBadAs, IsBodyAs, IsUnorderedAs}
+use Rattle.iloc_blocks.specs.Blocks.{IsBodyAs, IsUnorderedAs}
 use Rattle.iloc_blocks.specs.declared.body.Body.{Body}
 use Rattle.iloc_blocks.specs.declared.body.Body.TheVariants as body
 
@@ -35,17 +35,11 @@ body_past P Q B C m n xs ps whole e le good bad body.Other h = tt
 
 -- ---- pieces that are not in order
 
--- if no more is told of them than that they are bad, that is told of any body
-pub bad_body : (P B : List (List ℕ) → Type 0) (n : ℕ) (ps : List (List ℕ)) (w : Body) → IsBadAs B ps w → IsBodyAs P B n ps w
-bad_body P B n ps body.End h = absurd (h tt)
-bad_body P B n ps (body.Next l) h = absurd (h tt)
-bad_body P B n ps body.Bad h = h
-bad_body P B n ps body.Unordered h = tt
-bad_body P B n ps body.Other h = tt
+-- if they are told as bad, they are
+pub unordered_body : (P B : List (List ℕ) → Type 0) (n : ℕ) (ps : List (List ℕ)) (are_bad : Bool) (w : Body) → (are_bad ≡ true → B ps) → IsUnorderedAs are_bad w → IsBodyAs P B n ps w
+unordered_body P B n ps true w h e = subst (IsBodyAs P B n ps) (sym e) (h refl)
+unordered_body P B n ps false w h e = subst (IsBodyAs P B n ps) (sym e) tt
 
-pub unordered_body : (P B : List (List ℕ) → Type 0) (n : ℕ) (ps : List (List ℕ)) (v w : Body) → IsUnorderedAs v w → IsBodyAs P B n ps v → IsBadAs B ps w
-unordered_body P B n ps body.End w e h = subst (IsBadAs B ps) (sym e) tt
-unordered_body P B n ps (body.Next l) w e h = subst (IsBadAs B ps) (sym e) tt
-unordered_body P B n ps body.Bad w e h = subst (IsBadAs B ps) (sym e) h
-unordered_body P B n ps body.Unordered w e h = subst (IsBadAs B ps) (sym e) tt
-unordered_body P B n ps body.Other w e h = subst (IsBadAs B ps) (sym e) tt
+-- what is not bad is not told as bad
+pub only_bad : (P B : List (List ℕ) → Type 0) (n : ℕ) (ps : List (List ℕ)) (w : Body) → w ≡ body.Bad → IsBodyAs P B n ps w → B ps
+only_bad P B n ps w e h = subst (IsBodyAs P B n ps) e h

@@ -10,7 +10,7 @@ use Rattle.iloc_spec_grammar.proofs.PiecesLaws.{at_pieces}
 use Rattle.iloc_spec_grammar.proofs.Readings.{IsLong, long_between}
 use Rattle.iloc_spec_grammar.proofs.ValuesLaws.{all_weaker}
 use Rattle.iloc_fronts.specs.Left.{pieces_of, piece_of, IsLeft}
-use Rattle.iloc_blocks.specs.Blocks.{AreSubtags, IsStray, IsNoOther, ArePast, BeginsWithout, is_long, ArePrivate}
+use Rattle.iloc_blocks.specs.Blocks.{AreSubtags, IsStray, IsNoOther, ArePastStrays, ArePast, BeginsWithout, is_long, ArePrivate}
 use Rattle.iloc_blocks.specs.Faults.{AreBetween, HaveOdd}
 use Rattle.iloc_fronts.specs.declared.left.Left.{Left}
 use Rattle.iloc_fronts.proofs.LeftLemmas.{length-piece, short_left, last_left, first_left}
@@ -162,6 +162,19 @@ odd_here (p ∷ ps) long e all = true≢false (sym (subst AreBetween (front_long
 pub no_other_after : (p : List ℕ) (ps : List (List ℕ)) → IsWord Subtag p → HaveOdd ps → IsNoOther (p ∷ ps)
 unfolding is_word
 no_other_after p ps h n o = odd_after p ps (and_parts _ _ h).0 n o.lengths
+
+-- what is told after strays
+pub strays_before : (xs ps : List (List ℕ)) → AllByRecursion IsStray xs → IsOther ps → IsOther (xs ++ ps)
+strays_before [] ps each h = h
+strays_before (x ∷ xs) ps each h = other_later x (xs ++ ps) each.0 (strays_before xs ps each.1 h)
+
+pub no_other_before : (xs ps : List (List ℕ)) → AllByRecursion IsStray xs → IsNoOther ps → IsNoOther (xs ++ ps)
+no_other_before [] ps each n = n
+no_other_before (x ∷ xs) ps each n = stray_later x (xs ++ ps) each.0 (no_other_before xs ps each.1 n)
+
+pub stray_past : (m n : ℕ) (p : List ℕ) (ps whole : List (List ℕ)) → whole ≡ p ∷ ps → m ≤ n → IsStray p → (o : Option Left) → ArePastStrays m ps o → ArePastStrays n whole o
+stray_past m n p ps whole e le s None h = subst IsNoOther (sym e) (stray_later p ps s h)
+stray_past m n p ps whole e le s (Some l) h = record { left = h.left; shorter = omega (arith, h.shorter); word = h.word; strays = p ∷ h.strays; each = (s, h.each); cut = e ∙ ap (λ qs. p ∷ qs) h.cut }
 
 -- what comes after words
 odd_past : (xs ps : List (List ℕ)) → AllByRecursion (λ q. is_long 2 q ≡ true) xs → HaveOdd ps → HaveOdd (xs ++ ps)

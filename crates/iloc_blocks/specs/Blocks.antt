@@ -8,7 +8,7 @@ use Rattle.std.specs.Char.{is_ascii_alphanumeric}
 use Rattle.iloc_spec_grammar.specs.Syntax.{Text, Fields, code_t, code_u, code_x, front, blocks, PrivateSubtag, Subtag, UnicodeKey, Attribute, is_word, IsWord, IsOther, is_true, letters_or_digits, lower, word_cmp, fields_pieces, languages, first_piece}
 use Rattle.iloc_spec_grammar.specs.Meaning.{Extensions, FirstBadBlock, no_unicode, no_transform}
 use Rattle.iloc_spec_grammar.specs.Values.{IsAscending, IsExtensionsValue, AreWellFormed, extensions_spelling}
-use Rattle.iloc_fronts.specs.Left.{pieces_of, IsLeft}
+use Rattle.iloc_fronts.specs.Left.{pieces_of, piece_of, IsLeft}
 use Rattle.iloc_fronts.specs.declared.left.Left.{Left}
 use Rattle.iloc_blocks.specs.Bad.{fault_of}
 use Rattle.iloc_blocks.specs.declared.bad_block.BadBlock.{BadBlock}
@@ -85,18 +85,10 @@ IsBodyAs P B len ps body.Bad = B ps
 IsBodyAs P B len ps body.Unordered = ⊤
 IsBodyAs P B len ps body.Other = ⊤
 
--- what is told of pieces that are not in order: that they are bad, or nothing
-abbrev pub IsBadAs : (List Text → Type 0) → List Text → Body → Type 0
-IsBadAs B ps body.End = ¬ ⊤
-IsBadAs B ps (body.Next l) = ¬ ⊤
-IsBadAs B ps body.Bad = B ps
-IsBadAs B ps body.Unordered = ⊤
-IsBadAs B ps body.Other = ⊤
-
--- a bad body stays bad, and any other is not in order
-abbrev pub IsUnorderedAs : Body → Body → Type 0
-IsUnorderedAs body.Bad w = w ≡ body.Bad
-IsUnorderedAs v w = w ≡ body.Unordered
+-- pieces that are not in order are told as bad, or as that
+abbrev pub IsUnorderedAs : Bool → Body → Type 0
+IsUnorderedAs true w = w ≡ body.Bad
+IsUnorderedAs false w = w ≡ body.Unordered
 
 -- Words.
 
@@ -148,9 +140,23 @@ pub record IsStray (p : Text) : Type 0 where
   pub lengths : is_in_range 2 8 (length p) ≡ true
   pub no_word : is_word Subtag p ≡ false
 
+-- strays come before what is left, which begins with a word
+pub record AreStraysBefore (len : ℕ) (ps : List Text) (l : Left) : Type 0 where
+  pub left : IsLeft l
+  pub shorter : l.len ≤ len
+  pub word : IsWord Subtag (piece_of l)
+  pub strays : List Text
+  pub each : AllByRecursion IsStray strays
+  pub cut : ps ≡ strays ++ pieces_of l
+
 -- up to the next block there is no other extension
 abbrev pub IsNoOther : List Text → Type 0
 IsNoOther ps = ¬ (IsOther (front ps))
+
+-- strays are passed over, or no word comes
+abbrev pub ArePastStrays : ℕ → List Text → Option Left → Type 0
+ArePastStrays len ps None = IsNoOther ps
+ArePastStrays len ps (Some l) = AreStraysBefore len ps l
 
 -- Blocks of `u`.
 

@@ -20,11 +20,11 @@ pub(crate) enum Body<'a> {
 
 // What is told of pieces that are not in order.
 #[inline(always)]
-pub(crate) fn unordered(body: Body<'_>) -> Body<'_>
-    ensures { IsUnorderedAs body.entry result }
+pub(crate) fn unordered<'a>(are_bad: bool) -> Body<'a>
+    ensures { IsUnorderedAs are_bad result }
 {
-    match body {
-        Body::Bad => Body::Bad,
-        _ => Body::Unordered,
+    if are_bad {
+        return Body::Bad;
     }
+    Body::Unordered
 }

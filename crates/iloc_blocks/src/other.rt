@@ -1,11 +1,11 @@
 //! Tells what follows the singleton `x`, or that of another extension than `t` and `u`.
-ghost use Rattle.std.specs.Prelude.{◌≡◌};
-ghost use Rattle.iloc_spec_grammar.specs.Syntax.{IsOther, IsWord, Subtag};
+ghost use Rattle.std.specs.Prelude.{◌≡◌, ◌+◌, ◌≤◌, IsTrue, length, take};
+ghost use Rattle.iloc_spec_grammar.specs.Syntax.{IsOther, IsWord, Subtag, pieces};
 ghost use Rattle.iloc_fronts.specs.Left.{IsLeft, piece_of, pieces_of};
 ghost use Rattle.iloc_blocks.specs.Blocks.{
   ArePast,
+  ArePastStrays,
   AreSubtags,
-  IsBadAs,
   IsBodyAs,
   IsNoOther,
   IsPrivateAs,
@@ -13,7 +13,7 @@ ghost use Rattle.iloc_blocks.specs.Blocks.{
 ghost use Rattle.iloc_blocks.specs.Faults.{AreBetween, HaveOdd};
 
 use crate::body::{Body, unordered};
-use iloc_fronts::left::{Left, after_piece};
+use iloc_fronts::left::{Left, after_piece, left_in};
 use iloc_fronts::words::{is_subtag, is_word_from};
 
 /// Passes over words of at least `least` letters and digits. What is left begins with another piece;
@@ -52,7 +52,7 @@ pub(crate) fn read_other(left: Left<'_>) -> Body<'_>
     ensures { IsBodyAs AreSubtags IsNoOther left.entry.len (pieces_of left.entry) result }
 {
     if !is_subtag(left.window, left.n) {
-        return unordered(past_other(left));
+        return after_stray(left);
     }
     if left.n == left.len {
         return Body::End;
@@ -66,17 +66,29 @@ pub(crate) fn read_other(left: Left<'_>) -> Body<'_>
     if at.n < 2 || at.n > 8 {
         return Body::Bad;
     }
-    past_unordered_pieces(at)
+    unordered(have_odd(at.window, at.len))
 }
 
-// What the pieces are after words if the first is none, up to the next block. It is a call of its own, so that lines in
-// order pay nothing.
-#[inline(never)]
-fn past_unordered_pieces(left: Left<'_>) -> Body<'_>
+// What follows it if no word comes first.
+#[inline(always)]
+fn after_stray(left: Left<'_>) -> Body<'_>
     requires { IsLeft left }
-    ensures { IsBadAs HaveOdd (pieces_of left.entry) result }
+    ensures { IsBodyAs AreSubtags IsNoOther left.entry.len (pieces_of left.entry) result }
 {
-    unordered(past_between(left))
+    match past_strays(left) {
+        None => Body::Bad,
+        Some(at) => unordered(have_odd(at.window, at.len)),
+    }
+}
+
+// Whether a piece of another length than two to eight bytes comes before the next block. It is a call of its own, with no
+// more than numbers to pass, so that words pay nothing.
+#[inline(never)]
+fn have_odd(window: &[u8], len: usize) -> bool
+    requires { len + 16 ≤ length window.now }
+    ensures { IsTrue result → HaveOdd (pieces (take len window.now)) }
+{
+    matches!(past_between(left_in(window, len)), Body::Bad)
 }
 
 // What follows another singleton: pieces of two to eight bytes, of which one at least is a word.
@@ -85,17 +97,30 @@ pub(crate) fn past_other(left: Left<'_>) -> Body<'_>
     requires { IsLeft left }
     ensures { IsBodyAs IsOther IsNoOther left.entry.len (pieces_of left.entry) result }
 {
+    match past_strays(left) {
+        None => Body::Bad,
+        Some(at) => past_pieces(at),
+    }
+}
+
+// Passes over pieces that are no words. What is left begins with a word; `None` if none comes before the next block, or
+// before a piece that is too long or too short.
+#[inline(always)]
+fn past_strays(left: Left<'_>) -> Option<Left<'_>>
+    requires { IsLeft left }
+    ensures { ArePastStrays left.entry.len (pieces_of left.entry) result }
+{
     let mut at = left;
     'strays: while !is_subtag(at.window, at.n) {
         if at.n < 2 || at.n > 8 {
-            return Body::Bad;
+            return None;
         }
         if at.n == at.len {
-            return Body::Bad;
+            return None;
         }
         at = after_piece(at);
     }
-    past_pieces(at)
+    Some(at)
 }
 
 // What the pieces are of which the first is a word.

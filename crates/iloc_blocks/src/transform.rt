@@ -2,6 +2,7 @@
 ghost use Rattle.std.specs.Prelude.{
   ◌≡◌,
   ◌↔◌,
+  ◌+◌,
   ◌<◌,
   ◌≤◌,
   ◌&&◌,
@@ -19,6 +20,7 @@ ghost use Rattle.iloc_spec_grammar.specs.Syntax.{
   is_true,
   languages,
   lower,
+  pieces,
 };
 ghost use Rattle.iloc_spec_grammar.specs.Reading.{after_region, rest_of};
 ghost use Rattle.iloc_fronts.specs.Left.{IsLeft, piece_of, pieces_of};
@@ -36,7 +38,7 @@ ghost use Rattle.iloc_blocks.specs.Transform.{
 };
 
 use crate::body::{Body, unordered};
-use iloc_fronts::left::{Left, after_piece};
+use iloc_fronts::left::{Left, after_piece, left_in};
 use iloc_fronts::words::{
     is_attribute, is_field_key, is_language, is_region, is_script, is_true, is_variant,
     number_of_two,
@@ -117,9 +119,42 @@ fn past_one(fits: bool, left: Left<'_>) -> Option<Left<'_>>
     Some(after_piece(left))
 }
 
-// What the fields are, one at least. From the first that is not in order on, if order is asked, they are read without it.
-#[inline(never)]
+// What the fields are, one at least.
+#[inline(always)]
 fn read_fields(ordered: bool, left: Left<'_>) -> Body<'_>
+    requires { IsLeft left }
+    ensures { IsBodyAs (AreFields ordered 0) NoFields left.entry.len
+        (pieces_of left.entry) result }
+{
+    if ordered {
+        return fields_in_order(left);
+    }
+    fields_in_any_order(left)
+}
+
+// What they are in order.
+#[inline(never)]
+fn fields_in_order(left: Left<'_>) -> Body<'_>
+    requires { IsLeft left }
+    ensures { IsBodyAs (AreFields true 0) NoFields left.entry.len (pieces_of left.entry) result }
+{
+    walk_fields(true, left)
+}
+
+// What they are in any order.
+#[cycle(fields)]
+#[inline(never)]
+fn fields_in_any_order(left: Left<'_>) -> Body<'_>
+    requires { IsLeft left }
+    ensures { IsBodyAs (AreFields false 0) NoFields left.entry.len (pieces_of left.entry) result }
+{
+    walk_fields(false, left)
+}
+
+// What they are. From the first that is not in order on, if order is asked, they are read in any order.
+#[cycle(fields)]
+#[inline(always)]
+fn walk_fields(ordered: bool, left: Left<'_>) -> Body<'_>
     requires { IsLeft left }
     ensures { IsBodyAs (AreFields ordered 0) NoFields left.entry.len
         (pieces_of left.entry) result }
@@ -129,7 +164,7 @@ fn read_fields(ordered: bool, left: Left<'_>) -> Body<'_>
     'fields: while is_field_key(at.window, at.n) {
         let key = number_of_two(at.window);
         if !may_follow(ordered, key, last) {
-            return unordered(read_fields(false, at));
+            return unordered(have_no_fields(at.window, at.len));
         }
         if at.n == at.len {
             return Body::Bad;
@@ -147,11 +182,22 @@ fn read_fields(ordered: bool, left: Left<'_>) -> Body<'_>
                 at = next;
             }
             Body::End => return Body::End,
-            Body::Unordered => return unordered(read_fields(false, at)),
+            Body::Unordered => return unordered(have_no_fields(at.window, at.len)),
             Body::Bad | Body::Other => return Body::Other,
         }
     }
     Body::Bad
+}
+
+// Whether what comes before the next block is no fields. It is a call of its own, with no more than numbers to pass, so
+// that fields in order pay nothing.
+#[cycle(fields)]
+#[inline(never)]
+fn have_no_fields(window: &[u8], len: usize) -> bool
+    requires { len + 16 ≤ length window.now }
+    ensures { IsTrue result → NoFields (pieces (take len window.now)) }
+{
+    matches!(fields_in_any_order(left_in(window, len)), Body::Bad)
 }
 
 // Whether a field with this key may come after the last one.

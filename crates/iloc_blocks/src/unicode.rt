@@ -1,13 +1,12 @@
 //! Tells what follows the singleton `u`.
-ghost use Rattle.std.specs.Prelude.{◌≡◌, ◌≤◌, ◌||◌, false, length, take};
-ghost use Rattle.iloc_spec_grammar.specs.Syntax.{Attribute, IsWord, UnicodeKey, is_word};
+ghost use Rattle.std.specs.Prelude.{◌≡◌, ◌+◌, ◌≤◌, ◌||◌, IsTrue, false, length, take};
+ghost use Rattle.iloc_spec_grammar.specs.Syntax.{Attribute, IsWord, UnicodeKey, is_word, pieces};
 ghost use Rattle.iloc_fronts.specs.Left.{IsLeft, piece_of, pieces_of};
 ghost use Rattle.iloc_blocks.specs.declared.unicode.Next.TheVariants as nexts;
 ghost use Rattle.iloc_blocks.specs.Blocks.{
   AreKeywordsAt,
   Follows,
   HaveStranger,
-  IsBadAs,
   IsBodyAs,
   IsNextAs,
   IsNoUnicode,
@@ -16,7 +15,7 @@ ghost use Rattle.iloc_blocks.specs.Blocks.{
 ghost use Rattle.iloc_blocks.specs.Faults.{AreUnicodeAt};
 
 use crate::body::{Body, unordered};
-use iloc_fronts::left::{Left, after_piece};
+use iloc_fronts::left::{Left, after_piece, left_in};
 use iloc_fronts::words::{is_attribute, is_key, is_true, number_of_two};
 
 // What a piece is after a key, or a piece of its value.
@@ -62,7 +61,7 @@ fn read_attributes(left: Left<'_>) -> Body<'_>
             return read_keywords(next);
         }
         if number_of_two(next.window) <= number_of_two(at.window) {
-            return past_unordered_words(next);
+            return unordered(have_stranger(next.window, next.len));
         }
         at = next;
     }
@@ -105,7 +104,9 @@ fn read_values(key: usize, left: Left<'_>) -> Body<'_>
                 last = next;
                 at = after_piece(at);
             }
-            Next::Unordered => return past_unordered_words(at),
+            Next::Unordered => {
+                return unordered(have_stranger(at.window, at.len));
+            }
             Next::Misfit if at.n == 1 => return Body::Next(at),
             Next::Misfit => return Body::Bad,
         }
@@ -135,14 +136,14 @@ fn next_key(last: usize, window: &[u8], n: usize) -> Next
     Next::Piece(key)
 }
 
-// What the words are that are not in order, up to the next block. It is a call of its own, so that lines in order pay
-// nothing.
+// Whether a stranger comes before the next block. It is a call of its own, with no more than numbers to pass, so that
+// words in order pay nothing.
 #[inline(never)]
-fn past_unordered_words(left: Left<'_>) -> Body<'_>
-    requires { IsLeft left }
-    ensures { IsBadAs HaveStranger (pieces_of left.entry) result }
+fn have_stranger(window: &[u8], len: usize) -> bool
+    requires { len + 16 ≤ length window.now }
+    ensures { IsTrue result → HaveStranger (pieces (take len window.now)) }
 {
-    unordered(past_unicode_words(left))
+    matches!(past_unicode_words(left_in(window, len)), Body::Bad)
 }
 
 // What the words are up to the next block.

@@ -1,9 +1,9 @@
 -- From what is stored of the block of `u` to the line.
 use Rattle.std.proofs.Common.{take, ◌≡◌, ℕ, List, [], ◌++◌, Some, None, refl, sym, ap, ◌∙◌, subst, arith, append_assoc, append-nil}
 use Rattle.std.specs.List.{AllByRecursion}
-use Rattle.iloc_spec_grammar.specs.Syntax.{dashes, Attribute, UnicodeKey, IsWord, IsHyphenFree, fields_pieces}
+use Rattle.iloc_spec_grammar.specs.Syntax.{dashes, Attribute, IsWord, IsHyphenFree, fields_pieces}
 use Rattle.iloc_spec_grammar.proofs.PartTexts.{dashes-append}
-use Rattle.iloc_spec_grammar.proofs.ReadBack.{all_append, fields_each, word_hyphen_free}
+use Rattle.iloc_spec_grammar.proofs.ReadBack.{all_append, word_hyphen_free}
 use Rattle.iloc_spec_grammar.proofs.Readings.{IsLong, long_attribute}
 use Rattle.iloc_spec_grammar.proofs.ValuesLaws.{all_weaker}
 use Rattle.iloc_spec_grammar.specs.ByBlocks.{UnicodeMeans}
@@ -16,7 +16,7 @@ use Rattle.iloc_blocks.specs.declared.ordered.Ordered.{Ordered}
 use Rattle.iloc_fronts.specs.declared.left.Left.{Left}
 use Rattle.iloc_rewriting.specs.declared.keywords.KeyKind.TheVariants as kind
 use Rattle.iloc_rewriting.specs.declared.keywords.Stored.{Stored}
-use Rattle.iloc_blocks.proofs.BlockLemmas.{long_key}
+use Rattle.iloc_rewriting.proofs.KeywordLemmas.{fields_long, fields_free}
 use Rattle.iloc_rewriting.proofs.RewritingLemmas.{same_unicode}
 
 -- ---- the block
@@ -52,9 +52,9 @@ module _ (text : List ℕ) (ps : List (List ℕ)) (n : ℕ) (room : List ℕ) (s
     body = h.words ++ fields_pieces k.written;
     new = h.kept ++ fields_pieces k.kept;
     cut = h.cut ∙ ap (λ o. h.words ++ left_of o) e ∙ ap (λ l. h.words ++ l) k.cut ∙ sym (append_assoc h.words (fields_pieces k.written) (left_of r.next));
-    body_long = all_append IsLong h.words (fields_pieces k.written) (words_long h.words h.same.each) (fields_each IsLong UnicodeKey long_key long_attribute k.written k.each);
-    new_long = all_append IsLong h.kept (fields_pieces k.kept) (words_long h.kept kept_each) (fields_each IsLong UnicodeKey long_key long_attribute k.kept k.each_kept);
-    new_free = all_append IsHyphenFree h.kept (fields_pieces k.kept) kept_free (fields_each IsHyphenFree UnicodeKey (word_hyphen_free UnicodeKey) (word_hyphen_free Attribute) k.kept k.each_kept);
+    body_long = all_append IsLong h.words (fields_pieces k.written) (words_long h.words h.same.each) (fields_long kind.Unicode k.written k.each);
+    new_long = all_append IsLong h.kept (fields_pieces k.kept) (words_long h.kept kept_each) (fields_long kind.Unicode k.kept k.each_kept);
+    new_free = all_append IsHyphenFree h.kept (fields_pieces k.kept) kept_free (fields_free kind.Unicode k.kept k.each_kept);
     means = record { means = same_unicode h.words h.kept k.written k.kept h.same k.each k.each_kept k.same k.some };
     stored = subst (λ (t : List ℕ). AreStored new t r.end)
         (ap (λ t. t ++ dashes (fields_pieces k.kept)) h.stored.begins ∙ append_assoc text (dashes h.kept) (dashes (fields_pieces k.kept)) ∙ ap (λ t. text ++ t) (sym (dashes-append h.kept (fields_pieces k.kept)))) k.stored;

@@ -113,9 +113,7 @@ value_none room e n l more h none le = record {
   left = (h, le);
 }
 
--- a value of `u` may be empty
-pub value_of_keyword : (text : List ℕ) (ps : List (List ℕ)) (n : ℕ) (room : List ℕ) (s : Stored) → IsValueStored text ps n room s → IsValueOf kind.Unicode text ps n room s
-value_of_keyword text ps n room s h = record { values = h.values; kept = h.kept; cut = h.cut; words = h.words; enough = omega arith; stored = h.stored; left = h.left }
+-- ---- a value of `t`
 
 module _ (text room : List ℕ) (start n : ℕ) (ps : List (List ℕ)) (s : Stored) (h : IsValueStored text ps n room s) (long : length text ≡ start) where
   length-kept : length (dashes h.kept) + start ≡ s.end
@@ -123,7 +121,7 @@ module _ (text room : List ℕ) (start n : ℕ) (ps : List (List ℕ)) (s : Stor
 
   -- something is kept
   pub value_kept : (s.end ≡ start → ⊥) → IsValueOf kind.Transform text ps n room s
-  value_kept other = record { values = h.values; kept = h.kept; cut = h.cut; words = h.words; enough = some h.kept length-kept; stored = h.stored; left = h.left }
+  value_kept other = (h, some h.kept length-kept)
     where
       some : (ws : List (List ℕ)) → length (dashes ws) + start ≡ s.end → 1 ≤ length ws
       some [] e = absurd (other (sym e ∙ omega arith))
@@ -132,20 +130,23 @@ module _ (text room : List ℕ) (start n : ℕ) (ps : List (List ℕ)) (s : Stor
   -- nothing is, and one `true` is stored
   pub value_true : (p new : List ℕ) (e : ℕ) → s.end ≡ start → first_piece ps ≡ p → is_true (lower p) ≡ true → IsWord Attribute p → AreStored new (take start room ++ 45 ∷ p) e
       → IsValueOf kind.Transform text ps n new (record { end = e; next = s.next })
-  value_true p new e same first is w a = record {
-    values = h.values;
-    kept = p ∷ [];
-    cut = h.cut;
-    words = record {
-      each = h.words.each;
-      each_kept = (w, tt);
-      few = some h.values h.none;
-      same = ap (λ (b : Bool). cond (not b) (lower p ∷ []) []) is ∙ ap normal_values (sym (empty h.kept (omega (arith, length-kept, same)))) ∙ h.words.same;
-    };
-    enough = omega arith;
-    stored = stored_one text new p e (subst (λ (t : List ℕ). AreStored new (t ++ 45 ∷ p) e) text_is a);
-    left = h.left;
-  }
+  value_true p new e same first is w a = (
+    record {
+      values = h.values;
+      kept = p ∷ [];
+      cut = h.cut;
+      words = record {
+        each = h.words.each;
+        each_kept = (w, tt);
+        few = some h.values h.none;
+        same = ap (λ (b : Bool). cond (not b) (lower p ∷ []) []) is ∙ ap normal_values (sym (empty h.kept (omega (arith, length-kept, same)))) ∙ h.words.same;
+      };
+      none = h.none;
+      stored = stored_one text new p e (subst (λ (t : List ℕ). AreStored new (t ++ 45 ∷ p) e) text_is a);
+      left = h.left;
+    },
+    omega arith,
+  )
     where
       empty : (ws : List (List ℕ)) → length (dashes ws) ≡ 0 → ws ≡ []
       empty [] l = refl
@@ -177,12 +178,12 @@ field_alone text room key e n ps w a cut = record {
 pub field_of_value : (k : KeyKind) (text room key : List ℕ) (e m n : ℕ) (ps qs : List (List ℕ)) → IsWord (key_kind k) key → AreStored room (text ++ 45 ∷ key) e → ps ≡ key ∷ qs → m < n
     → (new : List ℕ) (s : Stored) → IsValueOf k (take e room) qs m new s → IsFieldStored k text key ps n new s
 field_of_value k text room key e m n ps qs w a cut less new s h = record {
-  values = h.values;
-  kept = h.kept;
-  cut = cut ∙ ap (λ l. key ∷ l) h.cut;
-  words = field_kept k key h.values h.kept w h.words h.enough;
-  stored = stored_more text room key e h.kept new s.end a h.stored;
-  left = rest_shorter m n less s.next h.left;
+  values = h.0.values;
+  kept = h.0.kept;
+  cut = cut ∙ ap (λ l. key ∷ l) h.0.cut;
+  words = field_kept k key h.0.values h.0.kept w h.0.words h.1;
+  stored = stored_more text room key e h.0.kept new s.end a h.0.stored;
+  left = rest_shorter m n less s.next h.0.left;
 }
 
 -- ---- fields

@@ -67,15 +67,9 @@ pub record IsValueStored (text : Text) (ps : List Text) (len : ℕ) (room : Text
   pub stored : AreStored room (text ++ dashes kept) s.end
   pub left : IsRest len s.next
 
--- so is a value of such a field
-pub record IsValueOf (k : KeyKind) (text : Text) (ps : List Text) (len : ℕ) (room : Text) (s : Stored) : Type 0 where
-  pub values : List Text
-  pub kept : List Text
-  pub cut : ps ≡ values ++ left_of s.next
-  pub words : AreValuesKept values kept
-  pub enough : least k ≤ length kept
-  pub stored : AreStored room (text ++ dashes kept) s.end
-  pub left : IsRest len s.next
+-- and enough of them for such a field are kept
+abbrev pub IsValueOf : KeyKind → Text → List Text → ℕ → Text → Stored → Type 0
+IsValueOf k text ps len room s = (v : IsValueStored text ps len room s) × (least k ≤ length v.kept)
 
 -- the key has these values, and those that are kept mean the same
 pub record IsFieldKept (k : KeyKind) (key : Text) (values kept : List Text) : Type 0 where

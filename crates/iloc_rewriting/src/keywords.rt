@@ -123,8 +123,8 @@ fn put_among<'a>(
     requires room { end + 16 ≤ length room.old }
     requires start { start ≤ end }
     ensures { (t : Text) (fs : Fields) → AreFieldsStored kind room.old start end t fs
-        → AreUpTo last fs → IfSome result
-        (IsInserted kind t fs (piece_of left.entry) (pieces_of left.entry) left.entry.len room.new) }
+        → AreUpTo last fs → IfSome result (IsInserted kind t fs (piece_of left.entry)
+        (pieces_of left.entry) left.entry.len room.new) }
 {
     if number_of_two(left.window) > last {
         return put_field(kind, left, room, end);
@@ -182,7 +182,8 @@ fn keep_one<'a>(
     ensures { (t : Text)
         → IsValueStored t (pieces_of left.entry) left.entry.len room.old stored.entry
         → length t ≡ start
-        → IfSome result (IsValueOf kinds.Transform t (pieces_of left.entry) left.entry.len room.new) }
+        → IfSome result
+        (IsValueOf kinds.Transform t (pieces_of left.entry) left.entry.len room.new) }
 {
     if stored.end != start {
         return Some(stored);
@@ -225,7 +226,7 @@ fn put_values<'a>(left: Left<'a>, room: &mut [u8], start: usize) -> Option<Store
 }
 
 // Stores a field before the first whose key is greater, unless its key is there. The fields begin at
-// `start`.
+// `start`. Each kind has a function of its own, which does not ask for the kind.
 #[inline(never)]
 fn insert_field<'a, const OF_T: bool>(
     left: Left<'a>,

@@ -10,7 +10,8 @@ use iloc_fronts::left::{Left, after_piece, left_in};
 
 /// Stores a line of which each meaning is one of the first `len` bytes, and gives its length. In it the singletons of
 /// blocks ascend, and that of `x` comes last. In the block of `u` attributes and keys ascend, of equal ones the first
-/// stays, and no value is `true`. In that of another letter or digit each piece is a word. All else is as it was.
+/// stays, and no value is `true`. So do the keys in that of `t`, where `true` stays if it is all of a value. In that of
+/// another letter or digit each piece is a word. All else is as it was.
 /// `None` says nothing of the line.
 #[inline(never)]
 pub fn rewrite(window: &[u8], len: usize, room: &mut [u8]) -> Option<usize>

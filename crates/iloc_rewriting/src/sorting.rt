@@ -73,7 +73,7 @@ fn put_among<'a>(
 }
 
 // Stores a block behind what is stored.
-#[inline(always)]
+#[inline(never)]
 fn put_behind<'a>(
     left: Left<'a>,
     singleton: u8,

@@ -1,4 +1,4 @@
-use Rattle.std.proofs.Common.{ℕ, ◌<◌, ◌≤◌, List, [], inl, subst, sym, ◌∙◌, arith}
+use Rattle.std.proofs.Common.{◌≡◌, ◌<◌, ◌≤◌, [], ◌∷◌, inl, subst, sym, ◌∙◌, arith}
 use Rattle.iloc_spec_grammar.specs.Syntax.{Attribute, IsWord}
 use Rattle.iloc_spec_grammar.proofs.WordsLaws.{length-attribute}
 use Rattle.iloc_fronts.specs.Left.{piece_of, pieces_of}
@@ -7,7 +7,7 @@ use Rattle.iloc_fronts.specs.Words.{two_number}
 use Rattle.iloc_blocks.specs.declared.body.Body.TheVariants as body
 use Rattle.iloc_fronts.proofs.FrontLemmas.{short_attribute}
 use Rattle.iloc_fronts.proofs.LeftLemmas.{length-piece, last_left, word_left}
-use Rattle.iloc_blocks.proofs.BodyLemmas.{bad_body, body_after}
+use Rattle.iloc_blocks.proofs.BodyLemmas.{body_after, unordered_body}
 use Rattle.iloc_blocks.proofs.UnicodeLemmas.{keywords_none, unicode_last, unicode_more, stranger_after}
 use Rattle.iloc_fronts.proofs.WordBytes.{attribute_begins, window_begins, number_in}
 use Rattle.iloc_blocks.proofs.unicode.read_attributes.Goals as goal
@@ -54,11 +54,10 @@ returns-then-number_of_two c =
     let l = c.attributes.at in
     let next = c.after_piece-next.result in
     let word = c.attributes.invariant.word in
-    let told = c.past_unordered_words.result in
-    c.attributes.invariant.goes told
-    (body_after (λ (ps : List (List ℕ)). ⊥) (IsUnicodeFrom (two_number (piece_of l))) HaveStranger HaveStranger next.len l.len (piece_of l) (pieces_of next) (pieces_of l)
-    (c.after_piece-next.ensures.pieces (word_left l c.attributes.invariant.left Attribute short_attribute word)) (omega (arith, c.after_piece-next.ensures.less))
-    (λ qs k. absurd k) (stranger_after (piece_of l) (pieces_of next) (inl word)) told (bad_body (λ (ps : List (List ℕ)). ⊥) HaveStranger next.len (pieces_of next) told c.past_unordered_words.ensures))
+    let parts : pieces_of l ≡ piece_of l ∷ pieces_of next = c.after_piece-next.ensures.pieces (word_left l c.attributes.invariant.left Attribute short_attribute word) in
+    c.attributes.invariant.goes c.unordered.result
+    (unordered_body (IsUnicodeFrom (two_number (piece_of l))) HaveStranger l.len (pieces_of l) c.have_stranger.result c.unordered.result
+    (λ t. subst HaveStranger (sym parts) (stranger_after (piece_of l) (pieces_of next) (inl word) (c.have_stranger.ensures t))) c.unordered.ensures)
 
 pub attributes-preserved : goal.attributes-preserved
 attributes-preserved c =

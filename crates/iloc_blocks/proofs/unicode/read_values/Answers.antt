@@ -3,7 +3,7 @@ use Rattle.iloc_fronts.specs.Left.{piece_of, pieces_of}
 use Rattle.iloc_blocks.specs.Blocks.{Follows, HaveStranger}
 use Rattle.iloc_blocks.specs.declared.body.Body.TheVariants as body
 use Rattle.iloc_fronts.proofs.LeftLemmas.{short_left, last_left}
-use Rattle.iloc_blocks.proofs.BodyLemmas.{bad_body, body_after}
+use Rattle.iloc_blocks.proofs.BodyLemmas.{body_after, unordered_body}
 use Rattle.iloc_blocks.proofs.UnicodeLemmas.{follows_next, follows_none, next_is_short, next_word, stranger_after, stranger_left}
 use Rattle.iloc_blocks.proofs.unicode.read_values.Goals as goal
 
@@ -30,8 +30,7 @@ returns-then-at c =
 pub returns-in-Unordered : goal.returns-in-Unordered
 returns-in-Unordered c =
     let l = c.pieces.at in
-    let told = c.past_unordered_words.result in
-    c.pieces.invariant.goes told (bad_body (Follows c.pieces.last) HaveStranger l.len (pieces_of l) told c.past_unordered_words.ensures)
+    c.pieces.invariant.goes c.unordered.result (unordered_body (Follows c.pieces.last) HaveStranger l.len (pieces_of l) c.have_stranger.result c.unordered.result c.have_stranger.ensures c.unordered.ensures)
 
 pub returns-in-Misfit : goal.returns-in-Misfit
 returns-in-Misfit c = c.pieces.invariant.goes (body.Next c.pieces.at) (c.pieces.invariant.left, omega arith, record { body = []; cut = refl; is = follows_none c.pieces.last })

@@ -4,8 +4,11 @@ use Rattle.iloc_fronts.specs.Left.{pieces_of, piece_of}
 use Rattle.iloc_fronts.proofs.FrontLemmas.{short_attribute}
 use Rattle.iloc_fronts.proofs.LeftLemmas.{first_left, word_left}
 use Rattle.iloc_rewriting.proofs.KeywordLemmas.{true_is_word}
-use Rattle.iloc_rewriting.proofs.StoredLemmas.{value_true}
+use Rattle.iloc_rewriting.proofs.StoredLemmas.{value_kept, value_true}
 use Rattle.iloc_rewriting.proofs.keywords.keep_one.Goals as goal
+
+pub returns-then-stored-start : goal.returns-then-stored-start
+returns-then-stored-start c = λ t h long. value_kept t c.args.room.now c.args.start c.args.left.len (pieces_of c.args.left) c.args.stored h long c.if-stored-start.true
 
 pub returns : goal.returns
 returns c = λ t h long.

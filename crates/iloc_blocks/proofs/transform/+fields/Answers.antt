@@ -1,47 +1,44 @@
-use Rattle.std.proofs.Common.{◌≡◌, ◌<◌, ◌≤◌, ℕ, Bool, true, false, [], ◌∷◌, ◌++◌, subst, sym, ap, ◌∙◌, arith}
+use Rattle.std.proofs.Common.{◌≡◌, ◌<◌, ◌≤◌, ℕ, true, false, [], ◌∷◌, ◌++◌, subst, sym, ap, ◌∙◌, arith}
 use Rattle.iloc_spec_grammar.specs.Syntax.{Attribute, TransformKey, is_word, IsWord, first_piece}
 use Rattle.iloc_spec_grammar.specs.Reading.{starts_block}
 use Rattle.iloc_spec_grammar.proofs.WordsLaws.{length-transform_key}
 use Rattle.iloc_fronts.specs.Left.{piece_of, pieces_of}
 use Rattle.iloc_fronts.specs.Words.{two_number}
-use Rattle.iloc_fronts.specs.declared.left.Left.{Left}
-use Rattle.iloc_blocks.specs.declared.body.Body.{Body}
-use Rattle.iloc_blocks.specs.Blocks.{IsBodyAs, IsUnorderedAs}
 use Rattle.iloc_blocks.specs.Transform.{AreFields, NoFields}
 use Rattle.iloc_blocks.specs.declared.body.Body.TheVariants as body
 use Rattle.iloc_fronts.proofs.FrontLemmas.{short_attribute, short_field_key}
 use Rattle.iloc_fronts.proofs.LeftLemmas.{length-piece, last_left, word_left, first_word, no_block_left}
-use Rattle.iloc_blocks.proofs.BodyLemmas.{bad_body, body_past, unordered_body}
+use Rattle.iloc_blocks.proofs.BodyLemmas.{body_past, unordered_body}
 use Rattle.iloc_fronts.proofs.WordBytes.{window_begins, number_in}
 use Rattle.iloc_blocks.proofs.TransformLemmas.{field_key_begins, field_last, field_more, no_attribute, no_value, no_field, later_fields}
-use Rattle.iloc_blocks.proofs.transform.+read_fields.Goals as goal
+use Rattle.iloc_blocks.proofs.transform.+fields.Goals as goal
 
-pub number_of_two-key-requires-clause-first : goal.number_of_two-key-requires-clause-first
-number_of_two-key-requires-clause-first t c =
+pub walk_fields-number_of_two-key-requires-clause-first : goal.walk_fields-number_of_two-key-requires-clause-first
+walk_fields-number_of_two-key-requires-clause-first t c =
     let l = c.fields.at in
     (window_begins l.window.now l.n (omega (arith, c.fields.invariant.left.room, c.fields.invariant.left.first.few)) (field_key_begins _ (sym c.is_field_key.ensures ∙ c.fields-test.true))).0
 
-pub number_of_two-key-requires-clause-second : goal.number_of_two-key-requires-clause-second
-number_of_two-key-requires-clause-second t c =
+pub walk_fields-number_of_two-key-requires-clause-second : goal.walk_fields-number_of_two-key-requires-clause-second
+walk_fields-number_of_two-key-requires-clause-second t c =
     let l = c.fields.at in
     (window_begins l.window.now l.n (omega (arith, c.fields.invariant.left.room, c.fields.invariant.left.first.few)) (field_key_begins _ (sym c.is_field_key.ensures ∙ c.fields-test.true))).1
 
-pub returns-then-at : goal.returns-then-at
-returns-then-at t c =
+pub walk_fields-returns-then-at : goal.walk_fields-returns-then-at
+walk_fields-returns-then-at t c =
     let l = c.fields.at in
     let key : IsWord TransformKey (piece_of l) = sym c.is_field_key.ensures ∙ c.fields-test.true in
     c.fields.invariant.goes body.Bad (subst NoFields (sym (last_left l c.fields.invariant.left (word_left l c.fields.invariant.left TransformKey short_field_key key) c.if-at.true)) (no_value (piece_of l) [] key no_attribute))
 
-pub returns-then-not-is_attribute : goal.returns-then-not-is_attribute
-returns-then-not-is_attribute t c =
+pub walk_fields-returns-then-not-is_attribute : goal.walk_fields-returns-then-not-is_attribute
+walk_fields-returns-then-not-is_attribute t c =
     let l = c.fields.at in
     let value = c.after_piece-value.result in
     let key : IsWord TransformKey (piece_of l) = sym c.is_field_key.ensures ∙ c.fields-test.true in
     c.fields.invariant.goes body.Bad (subst NoFields (sym (c.after_piece-value.ensures.pieces (word_left l c.fields.invariant.left TransformKey short_field_key key)))
     (no_value (piece_of l) (pieces_of value) key (first_word value c.after_piece-value.ensures.left Attribute short_attribute ∙ sym c.is_attribute.ensures ∙ c.if-not-is_attribute.true)))
 
-pub returns-in-End : goal.returns-in-End
-returns-in-End t c =
+pub walk_fields-returns-in-End : goal.walk_fields-returns-in-End
+walk_fields-returns-in-End t c =
     let l = c.fields.at in
     let key : IsWord TransformKey (piece_of l) = sym c.is_field_key.ensures ∙ c.fields-test.true in
     let two : 2 ≤ l.n = omega (arith, length-transform_key (piece_of l) key, length-piece l c.fields.invariant.left) in
@@ -49,8 +46,8 @@ returns-in-End t c =
     c.fields.invariant.goes body.End (subst (AreFields c.args.ordered c.fields.last) (sym (c.after_piece-value.ensures.pieces (word_left l c.fields.invariant.left TransformKey short_field_key key)))
     (field_last c.args.ordered c.fields.last (piece_of l) (pieces_of c.after_piece-value.result) key less c.in-End.ensures))
 
-pub returns-then-next-eq1 : goal.returns-then-next-eq1
-returns-then-next-eq1 t c =
+pub walk_fields-returns-then-next-eq1 : goal.walk_fields-returns-then-next-eq1
+walk_fields-returns-then-next-eq1 t c =
     let l = c.fields.at in
     let key : IsWord TransformKey (piece_of l) = sym c.is_field_key.ensures ∙ c.fields-test.true in
     let two : 2 ≤ l.n = omega (arith, length-transform_key (piece_of l) key, length-piece l c.fields.invariant.left) in
@@ -66,8 +63,8 @@ returns-then-next-eq1 t c =
       },
     )
 
-pub fields-preserved : goal.fields-preserved
-fields-preserved t c =
+pub walk_fields-fields-preserved : goal.walk_fields-fields-preserved
+walk_fields-fields-preserved t c =
     let l = c.fields.at in
     let at = c.in-Next.next in
     let key : IsWord TransformKey (piece_of l) = sym c.is_field_key.ensures ∙ c.fields-test.true in
@@ -87,17 +84,18 @@ fields-preserved t c =
           (λ n. subst NoFields (sym parts) (later_fields (piece_of l) next.2.body (pieces_of at) key next.2.is.each long none n)) w h);
     }
 
-pub returns : goal.returns
-returns t c =
+pub walk_fields-returns : goal.walk_fields-returns
+walk_fields-returns t c =
     let l = c.fields.at in
     c.fields.invariant.goes body.Bad (no_field (pieces_of l) (first_word l c.fields.invariant.left TransformKey short_field_key ∙ sym c.is_field_key.ensures ∙ c.fields-test.false))
 
--- what is told of fields that are not in order
-unordered_fields : (ordered : Bool) (last : ℕ) (l : Left) (v w : Body) → IsUnorderedAs v w → IsBodyAs (AreFields false 0) NoFields l.len (pieces_of l) v → IsBodyAs (AreFields ordered last) NoFields l.len (pieces_of l) w
-unordered_fields ordered last l v w e h = bad_body (AreFields ordered last) NoFields l.len (pieces_of l) w (unordered_body (AreFields false 0) NoFields l.len (pieces_of l) v w e h)
+pub walk_fields-returns-then-not-may_follow : goal.walk_fields-returns-then-not-may_follow
+walk_fields-returns-then-not-may_follow t c =
+    let l = c.fields.at in
+    c.fields.invariant.goes c.unordered.result (unordered_body (AreFields c.args.ordered c.fields.last) NoFields l.len (pieces_of l) c.have_no_fields.result c.unordered.result c.have_no_fields.ensures c.unordered.ensures)
 
-pub returns-then-not-may_follow : goal.returns-then-not-may_follow
-returns-then-not-may_follow t c = c.fields.invariant.goes c.unordered.result (unordered_fields c.args.ordered c.fields.last c.fields.at c.read_fields.result c.unordered.result c.unordered.ensures c.read_fields.ensures)
-
-pub returns-in-Unordered : goal.returns-in-Unordered
-returns-in-Unordered t c = c.fields.invariant.goes c.unordered-in-Unordered.result (unordered_fields c.args.ordered c.fields.last c.fields.at c.read_fields-in-Unordered.result c.unordered-in-Unordered.result c.unordered-in-Unordered.ensures c.read_fields-in-Unordered.ensures)
+pub walk_fields-returns-in-Unordered : goal.walk_fields-returns-in-Unordered
+walk_fields-returns-in-Unordered t c =
+    let l = c.fields.at in
+    c.fields.invariant.goes c.unordered-in-Unordered.result
+    (unordered_body (AreFields c.args.ordered c.fields.last) NoFields l.len (pieces_of l) c.have_no_fields-in-Unordered.result c.unordered-in-Unordered.result c.have_no_fields-in-Unordered.ensures c.unordered-in-Unordered.ensures)
