@@ -18,7 +18,7 @@ use Rattle.iloc_plain.specs.Shape.{plain_identifier}
 use Rattle.iloc_plain.specs.Plain.{IsPlain, value_of}
 use Rattle.iloc_plain.specs.declared.plain.Plain.{Plain}
 use Rattle.iloc_blocks.specs.Ordered.{IsTail, IsBefore, IsCut, IsOrdered, IsVaried}
-use Rattle.iloc_blocks.specs.Variants.{AreVariantsAbove, IsOrderedIdentifier}
+use Rattle.iloc_blocks.specs.Variants.{IsOrderedIdentifier}
 use Rattle.iloc_blocks.specs.declared.ordered.Ordered.{Ordered}
 use Rattle.iloc_blocks.proofs.PrintedBlocks.{all_lower, printed_none}
 

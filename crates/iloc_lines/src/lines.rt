@@ -33,9 +33,7 @@ ghost use Rattle.memchr.specs.Find.{IsFirstByte, Nowhere, Passes, is_byte};
 
 use crate::replies::write_refusal;
 use crate::reply_block::ReplyBlock;
-use crate::told::{
-    Lead, ROOM, Told, read_lead, tell_after_variants, tell_blocks, tell_varied,
-};
+use crate::told::{Lead, ROOM, Told, read_lead, tell_after_variants, tell_blocks, tell_varied};
 use crate::{Answers, RunError};
 use iloc_fronts::may_begin;
 use iloc_plain::read_plain;

@@ -11,14 +11,12 @@ ghost use Rattle.std.specs.Prelude.{◌+◌, ◌≤◌, length};
 ghost use Rattle.iloc_plain.specs.Plain.{AreWords};
 ghost use Rattle.iloc_blocks.specs.Ordered.{IsStored};
 
-use iloc_blocks::{
-    BadBlock, Ordered, Reading, find_bad_block, read_ordered, read_varied,
-};
+use iloc_blocks::{BadBlock, Ordered, Reading, find_bad_block, read_ordered, read_varied};
 use iloc_fronts::{Block, Front, Keyword, read_front, read_keyword};
 use iloc_plain::{Plain, read_plain, read_plain_text};
 use iloc_rewriting::{repeats_variant, rewrite, sort_variants};
-use test_page::argument::number_of;
 use std::cmp::min;
+use test_page::argument::number_of;
 use test_page::{bytes, number, say};
 
 // Says the normal text.

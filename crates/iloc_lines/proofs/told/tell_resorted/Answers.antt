@@ -1,6 +1,5 @@
 use Rattle.std.proofs.Common.{take}
 use Rattle.iloc_rewriting.proofs.LineLemmas.{ordered_of_rewritten}
-use Rattle.iloc_lines.specs.declared.Mode.TheVariants.{Locale}
 use Rattle.iloc_lines.proofs.PlainAnswers.{ordered_in_order}
 use Rattle.iloc_lines.proofs.told.tell_resorted.Goals as goal
 
