@@ -65,7 +65,7 @@ pub(crate) fn read_transform(ordered: bool, left: Left<'_>) -> Body<'_>
 
 // Passes over an identifier with at most one variant; it is bad if no language comes first.
 #[inline(always)]
-pub(crate) fn past_identifier(left: Left<'_>) -> Body<'_>
+fn past_identifier(left: Left<'_>) -> Body<'_>
     requires { IsLeft left }
     ensures { IsHeadAs left.entry.len (pieces_of left.entry) result }
 {
