@@ -173,7 +173,7 @@ fn bad(window: &[u8], len: usize, out: &mut String) {
     }
 }
 
-// Says the line with its block of `u` in order, if sixteen bytes follow it at least.
+// Says the line that is brought into order, if sixteen bytes follow it at least.
 fn rewritten(window: &[u8], len: usize, out: &mut String) {
     if window.len() < 16 || len > window.len() - 16 {
         return say(out, "not told");
