@@ -10,22 +10,14 @@ use Rattle.iloc_spec_grammar.proofs.WordsLaws.{length-lower}
 use Rattle.iloc_plain.specs.Plain.{value_of}
 use Rattle.iloc_writeable.specs.Hints.{saturated}
 use Rattle.std.proofs.lemmas.Bool.Decides.{nat_tests}
+use Rattle.iloc_rewriting.proofs.StoringLemmas.{take_two}
 use Rattle.iloc_blocks.specs.Ordered.{IsStored, text_of}
 use Rattle.iloc_blocks.specs.declared.ordered.Ordered.{Ordered}
-
-take_nothing : (n : ℕ) → ◌≡◌ {A = List ℕ} (take n []) []
-take_nothing zero = refl
-take_nothing (suc n) = refl
-
-pub take_two : (a b : ℕ) (t : List ℕ) → take a t ++ take b (drop a t) ≡ take (a + b) t
-take_two zero b t = let same : b ≡ 0 + b = omega arith in ap (λ (m : ℕ). take m t) same
-take_two (suc a) b [] = take_nothing b ∙ sym (take_nothing (suc a + b))
-take_two (suc a) b (x ∷ t) = let one : suc (a + b) ≡ suc a + b = omega arith in ap (λ l. x ∷ l) (take_two a b t) ∙ ap (λ (m : ℕ). take m (x ∷ t)) one
 
 -- bytes in lower case, and more of them
 pub lower_two : (a b : ℕ) (t : List ℕ) → lower (take a t) ++ lower (take b (drop a t)) ≡ lower (take (a + b) t)
 unfolding lower
-lower_two a b t = sym (map-append to_ascii_lowercase (take a t) (take b (drop a t))) ∙ ap lower (take_two a b t)
+lower_two a b t = sym (map-append to_ascii_lowercase (take a t) (take b (drop a t))) ∙ ap lower (sym (take_two a b t))
 
 -- the first of the sixteen bytes that stand at a place
 pub lower_part : (n a : ℕ) (t : List ℕ) → n ≤ 16 → a + 16 ≤ length t

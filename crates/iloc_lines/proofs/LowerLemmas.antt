@@ -1,22 +1,9 @@
 -- Bytes that are stored in lower case, sixteen at a time.
-use Rattle.std.proofs.Common.{◌≡◌, ℕ, zero, suc, ◌+◌, ◌-◌, ◌<◌, ◌≤◌, List, [], ◌∷◌, ◌++◌, length, map, take, drop, refl, sym, ap, ◌∙◌, arith}
+use Rattle.std.proofs.Common.{◌≡◌, ℕ, ◌+◌, ◌-◌, ◌<◌, ◌≤◌, List, ◌++◌, length, map, take, drop, sym, ap, ◌∙◌, arith}
 use Rattle.std.specs.Char.{to_ascii_lowercase}
-use Rattle.std.proofs.lemmas.List.{take-take, map-append}
+use Rattle.std.proofs.lemmas.List.{take-take, take-map, map-append}
 use Rattle.iloc_spec_grammar.specs.Syntax.{lower}
-
-take-map : (f : ℕ → ℕ) (n : ℕ) (t : List ℕ) → take n (map f t) ≡ map f (take n t)
-take-map f zero t = refl
-take-map f (suc n) [] = refl
-take-map f (suc n) (b ∷ t) = ap (λ l. f b ∷ l) (take-map f n t)
-
-take_nothing : (n : ℕ) → ◌≡◌ {A = List ℕ} (take n []) []
-take_nothing zero = refl
-take_nothing (suc n) = refl
-
-take_two : (a b : ℕ) (t : List ℕ) → take (a + b) t ≡ take a t ++ take b (drop a t)
-take_two zero b t = let same : 0 + b ≡ b = omega arith in ap (λ (m : ℕ). take m t) same
-take_two (suc a) b [] = take_nothing (suc a + b) ∙ sym (take_nothing b)
-take_two (suc a) b (x ∷ t) = let one : suc a + b ≡ suc (a + b) = omega arith in ap (λ (m : ℕ). take m (x ∷ t)) one ∙ ap (λ l. x ∷ l) (take_two a b t)
+use Rattle.iloc_rewriting.proofs.StoringLemmas.{take_two}
 
 -- the first of sixteen bytes
 pub lower_end : (n : ℕ) (t : List ℕ) → n ≤ 16 → take n (lower (take 16 t)) ≡ lower (take n t)
