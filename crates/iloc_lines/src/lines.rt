@@ -33,8 +33,9 @@ ghost use Rattle.memchr.specs.Find.{IsFirstByte, Nowhere, Passes, is_byte};
 
 use crate::replies::write_refusal;
 use crate::reply_block::ReplyBlock;
-use crate::told::{Lead, ROOM, Told, read_lead, tell_after_variants, tell_blocks, tell_varied};
+use crate::told::{Lead, ROOM, Told, error_of, read_lead, tell_after_variants, tell_rewritten};
 use crate::{Answers, RunError};
+use iloc_blocks::{Reading, read_ordered, read_varied};
 use iloc_fronts::may_begin;
 use iloc_plain::read_plain;
 use iloc_subtags::ParseError;
@@ -177,8 +178,10 @@ fn reply_to_varied<A: Answers>(
     ensures { OnOk result (held replies.new
         ≡ held replies.old ++ reply A.mode (take len window.now)) }
 {
-    let told = tell_varied(window, len, at);
-    reply_told(answers, window, len, told, replies)
+    match read_varied(window, len, at) {
+        Some(line) => replies.push_ordered(&line),
+        None => answers.reply(&window[..len], replies),
+    }
 }
 
 // The same of a locale that may be a plain identifier of so many bytes, and what follows it.
@@ -196,7 +199,30 @@ fn reply_to_blocks<A: Answers>(
     ensures { OnOk result (held replies.new
         ≡ held replies.old ++ reply A.mode (take len window.now)) }
 {
-    let told = tell_blocks(window, len, at, room);
+    match read_ordered(window, len, at) {
+        Reading::Ordered(line) => replies.push_ordered(&line),
+        Reading::BadBlock(bad) => write_refusal(error_of(bad), replies),
+        Reading::Unordered => reply_to_unordered(answers, window, len, at, room, replies),
+        Reading::Other => answers.reply(&window[..len], replies),
+    }
+}
+
+// The same of one that may have to be brought into order.
+#[inline(never)]
+fn reply_to_unordered<A: Answers>(
+    answers: &mut A,
+    window: &[u8],
+    len: usize,
+    at: usize,
+    room: &mut [u8],
+    replies: &mut ReplyBlock,
+) -> Result<(), AllocError>
+    requires mode { A.mode ≡ Mode.Locale }
+    requires room { len + 16 ≤ length window.now }
+    ensures { OnOk result (held replies.new
+        ≡ held replies.old ++ reply A.mode (take len window.now)) }
+{
+    let told = tell_rewritten(window, len, at, room);
     reply_told(answers, window, len, told, replies)
 }
 

@@ -191,7 +191,12 @@ pub fn tell_blocks<'a>(window: &'a [u8], len: usize, at: usize, room: &'a mut [u
 
 // The same of one whose blocks may have to be brought into order.
 #[inline(never)]
-fn tell_rewritten<'a>(window: &'a [u8], len: usize, at: usize, room: &'a mut [u8]) -> Told<'a>
+pub(crate) fn tell_rewritten<'a>(
+    window: &'a [u8],
+    len: usize,
+    at: usize,
+    room: &'a mut [u8],
+) -> Told<'a>
     requires { len + 16 ≤ length window.now }
     ensures { IsTold Mode.Locale (take len window.now) result }
 {
@@ -278,7 +283,7 @@ fn read_again(window: &[u8], len: usize, at: usize) -> Reading<'_>
 
 // Why a locale with this bad block is refused.
 #[inline(always)]
-fn error_of(bad: BadBlock) -> ParseError
+pub(crate) fn error_of(bad: BadBlock) -> ParseError
     ensures { result ≡ refusal_of bad }
 {
     match bad {

@@ -1,8 +1,28 @@
-use Rattle.std.proofs.Common.{subst, sym, take}
-use Rattle.iloc_lines.specs.Told.{IsTold}
+use Rattle.std.proofs.Common.{ℕ, List, ◌≡◌, ◌++◌, OnOk, subst, sym, take}
+use Rattle.iloc_blocks.specs.Ordered.{text_of}
+use Rattle.iloc_subtags.specs.declared.parse_error.ParseError.{ParseError}
+use Rattle.iloc_lines.specs.ReplyBlock.{held}
+use Rattle.iloc_lines.specs.Told.{IsInOrder, IsRefused}
 use Rattle.iloc_lines.specs.declared.Mode.{Mode}
+use Rattle.iloc_lines.specs.declared.Mode.TheVariants.{Locale}
+use Rattle.iloc_lines.proofs.PlainAnswers.{ordered_in_order}
+use Rattle.iloc_lines.proofs.PlainLemmas.{normal_reply, refused_reply, bad_refused}
 use Rattle.iloc_lines.proofs.lines.reply_to_blocks.Goals as goal
 
-pub reply_told-requires-clause-told : goal.reply_told-requires-clause-told
-reply_told-requires-clause-told g c =
-    subst (λ (m : Mode). IsTold m (take c.args.len c.args.window.now) c.tell_blocks-told.result) (sym c.requires.mode) c.tell_blocks-told.ensures
+pub returns-in-Ordered : goal.returns-in-Ordered
+returns-in-Ordered g c =
+    let mode = g.A.Answers.mode in
+    let line = take c.args.len c.args.window.now in
+    let told : IsInOrder mode line c.in-Ordered.line =
+    subst (λ (m : Mode). IsInOrder m line c.in-Ordered.line) (sym c.requires.mode) (ordered_in_order line c.in-Ordered.line c.in-Ordered.ensures) in
+    subst (λ (t : List ℕ). OnOk c.push_ordered.result (held c.push_ordered.new.self ≡ held c.args.replies.now ++ t))
+    (normal_reply mode line (text_of c.in-Ordered.line) told.normal) c.push_ordered.ensures
+
+pub returns-in-BadBlock : goal.returns-in-BadBlock
+returns-in-BadBlock g c =
+    let mode = g.A.Answers.mode in
+    let line = take c.args.len c.args.window.now in
+    let refused : IsRefused Locale line c.error_of.result =
+    subst (λ (e : ParseError). IsRefused Locale line e) (sym c.error_of.ensures) (bad_refused line c.in-BadBlock.bad c.in-BadBlock.ensures) in
+    subst (λ (t : List ℕ). OnOk c.write_refusal.result (held c.write_refusal.new.replies ≡ held c.args.replies.now ++ t))
+    (refused_reply mode line c.error_of.result (subst (λ (m : Mode). IsRefused m line c.error_of.result) (sym c.requires.mode) refused)) c.write_refusal.ensures.text
