@@ -8,7 +8,7 @@ use crate::blocks::{Rest, read_blocks};
 use crate::body::Body;
 use crate::variants::past_ascending;
 use iloc_fronts::front::first_len;
-use iloc_fronts::left::{Left, after_piece, left_in};
+use iloc_fronts::left::{Left, left_in};
 use iloc_fronts::words::is_variant;
 use iloc_plain::{Plain, read_plain};
 
@@ -109,20 +109,13 @@ fn read_tail(left: Left<'_>) -> Rest
     requires { IsLeft left }
     ensures { IsTailOf (pieces_of left.entry) result }
 {
-    if !is_variant(left.window, left.n) {
-        return read_blocks(left);
-    }
-    if left.n == left.len {
-        return Rest::Printed;
-    }
-    let next = after_piece(left);
-    if next.n != 1 {
+    if is_variant(left.window, left.n) {
         return read_variants_and_blocks(left);
     }
-    read_blocks(next)
+    read_blocks(left)
 }
 
-// The same of several variants.
+// The same if a variant comes first. It is a call, so that the walk stands in place where none does.
 #[inline(never)]
 fn read_variants_and_blocks(left: Left<'_>) -> Rest
     requires { IsLeft left }
