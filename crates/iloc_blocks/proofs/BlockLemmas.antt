@@ -1,12 +1,17 @@
 -- Pieces up to the next block, and blocks.
-use Rattle.std.proofs.Common.{◌≡◌, ◌≢◌, ℕ, Bool, true, false, cond, ◌==◌, List, [], ◌∷◌, ◌++◌, length, refl, ap, ◌∙◌, arith}
+use Rattle.std.proofs.Common.{◌≡◌, ◌≢◌, ℕ, ◌<◌, get_or, take, Bool, true, false, cond, ◌==◌, List, [], ◌∷◌, ◌++◌, length, refl, ap, ◌∙◌, arith}
 use Rattle.std.specs.List.{AllByRecursion}
 use Rattle.std.specs.Char.{to_ascii_lowercase}
 use Rattle.std.proofs.lemmas.Bool.Decides.{nat_tests}
 use Rattle.std.proofs.lemmas.Bool.{true≢false}
 use Rattle.iloc_spec_grammar.specs.Syntax.{UnicodeKey, IsWord, front, blocks, first_piece}
+use Rattle.iloc_spec_grammar.specs.Reading.{rest_of}
+use Rattle.iloc_spec_grammar.proofs.PiecesLaws.{at_pieces}
 use Rattle.iloc_spec_grammar.proofs.Readings.{IsLong}
 use Rattle.iloc_spec_grammar.proofs.WordsLaws.{length-unicode_key}
+use Rattle.iloc_fronts.specs.Left.{pieces_of, piece_of, IsLeft}
+use Rattle.iloc_fronts.specs.declared.left.Left.{Left}
+use Rattle.iloc_fronts.proofs.LeftLemmas.{first_left, byte_left}
 
 pub front_long : (p : List ℕ) (ps : List (List ℕ)) → IsLong p → front (p ∷ ps) ≡ p ∷ front ps
 front_long p ps h = ap (λ (b : Bool). cond b [] (p ∷ front ps)) h
@@ -40,3 +45,12 @@ pub private_block : (c : ℕ) (ps : List (List ℕ)) → to_ascii_lowercase c �
 private_block c ps e =
     let is_x : (to_ascii_lowercase c == 120) ≡ true = grind (arith, nat_tests) in
     ap (λ (b : Bool). cond b ((c, ps) ∷ []) ((c, front ps) ∷ blocks ps)) is_x
+
+-- what is left begins with a short piece, and with one of one byte
+pub begins_short : (l : Left) → IsLeft l → l.n < 16 → pieces_of l ≡ piece_of l ∷ rest_of (pieces_of l)
+begins_short l h few =
+    at_pieces (λ ps. ps ≡ first_piece ps ∷ rest_of ps) (λ p ps. refl) (take l.len l.window.now)
+    ∙ ap (λ p. p ∷ rest_of (pieces_of l)) (first_left l h few)
+
+pub begins_with : (l : Left) → IsLeft l → l.n ≡ 1 → pieces_of l ≡ (get_or l.window.now 0 0 ∷ []) ∷ rest_of (pieces_of l)
+begins_with l h one = begins_short l h (omega arith) ∙ ap (λ p. p ∷ rest_of (pieces_of l)) (byte_left l h one)

@@ -1,7 +1,11 @@
 -- What is told of a body, from its later pieces to all of it.
-use Rattle.std.proofs.Common.{◌≡◌, ℕ, ◌≤◌, Bool, true, false, refl, List, ◌∷◌, ◌++◌, append_assoc, sym, ap, ◌∙◌, subst, arith}
+use Rattle.std.proofs.Common.{◌≡◌, ◌≢◌, ℕ, ◌≤◌, Bool, true, false, refl, List, [], append-nil, ◌∷◌, ◌++◌, append_assoc, sym, ap, ◌∙◌, subst, arith}
+use Rattle.std.specs.List.{AllByRecursion}
+use Rattle.iloc_spec_grammar.specs.Syntax.{front}
+use Rattle.iloc_spec_grammar.proofs.Readings.{IsLong}
 use Rattle.iloc_fronts.specs.Left.{pieces_of}
-use Rattle.iloc_blocks.specs.Blocks.{IsBodyAs, IsUnorderedAs}
+use Rattle.iloc_blocks.proofs.BlockLemmas.{begins_with, front_long, front_past}
+use Rattle.iloc_blocks.specs.Blocks.{IsAtBlock, IsBodyAs, IsUnorderedAs}
 use Rattle.iloc_blocks.specs.declared.body.Body.{Body}
 use Rattle.iloc_blocks.specs.declared.body.Body.TheVariants as body
 
@@ -43,3 +47,22 @@ unordered_body P B n ps false w h e = subst (IsBodyAs P B n ps) (sym e) tt
 -- what is not bad is not told as bad
 pub only_bad : (P B : List (List ℕ) → Type 0) (n : ℕ) (ps : List (List ℕ)) (w : Body) → w ≡ body.Bad → IsBodyAs P B n ps w → B ps
 only_bad P B n ps w e h = subst (IsBodyAs P B n ps) e h
+
+-- ---- pieces up to the next block
+
+front_all : (ps : List (List ℕ)) → AllByRecursion IsLong ps → front ps ≡ ps
+front_all [] h = refl
+front_all (p ∷ ps) h = front_long p ps h.0 ∙ ap (λ qs. p ∷ qs) (front_all ps h.1)
+
+-- if a walk passed over a body, that is what comes before the next block
+pub body_passed : (P B : List (List ℕ) → Type 0) (n : ℕ) (ps : List (List ℕ)) (w : Body) → ((qs : List (List ℕ)) → P qs → AllByRecursion IsLong qs) → w ≢ body.Bad → IsAtBlock w → IsBodyAs P B n ps w → P (front ps)
+body_passed P B n ps body.End long good at h = subst P (sym (front_all ps (long ps h))) h
+body_passed P B n ps (body.Next l) long good at h = subst P (sym parts) h.2.is
+  where
+    parts : front ps ≡ h.2.body
+    parts =
+        ap front h.2.cut ∙ front_past h.2.body (pieces_of l) (long h.2.body h.2.is)
+        ∙ ap (λ qs. h.2.body ++ qs) (ap front (begins_with l h.0 at)) ∙ append-nil h.2.body
+body_passed P B n ps body.Bad long good at h = absurd (good refl)
+body_passed P B n ps body.Unordered long good at h = absurd (at tt)
+body_passed P B n ps body.Other long good at h = absurd (at tt)

@@ -10,13 +10,12 @@ use Rattle.std.proofs.Math.ListN.{set, replicate}
 use Rattle.iloc_spec_grammar.specs.Syntax.{first_piece, front, blocks, Variant, UnicodeKey, Attribute, is_word, IsWord, IsOther, IsKeyword, IsUnicode, Extension, transform, unicode, other, IsExtension, extension_pieces, languages, letters_or_digits, lower, word_cmp, is_same}
 use Rattle.iloc_spec_grammar.specs.Meaning.{FirstBadBlock, here, later, IsBlock, no_singleton, duplicated}
 use Rattle.iloc_spec_grammar.specs.Reading.{is_two, before_key, fields_from, unicode_of, rest_of}
-use Rattle.iloc_spec_grammar.proofs.PiecesLaws.{at_pieces}
 use Rattle.iloc_spec_grammar.proofs.MapLaws.{same_is}
 use Rattle.iloc_spec_grammar.proofs.RawLaws.{languages_table}
 use Rattle.iloc_spec_grammar.proofs.Readings.{IsLong, long_extension, not_two, two, pieces-unicode_of}
 use Rattle.iloc_spec_grammar.proofs.Singletons.{untied, self_tied}
 use Rattle.iloc_spec_grammar.proofs.WordsLaws.{length-attribute, length-unicode_key, length-variant, word_letters_or_digits}
-use Rattle.iloc_fronts.specs.Left.{pieces_of, piece_of, IsLeft}
+use Rattle.iloc_fronts.specs.Left.{pieces_of, IsLeft}
 use Rattle.iloc_blocks.specs.Blocks.{IsBodyAs, IsNoUnicode, IsNoOther, IsPrivateAs}
 use Rattle.iloc_blocks.specs.Transform.{IsNoTransform, IsTransformPart}
 use Rattle.iloc_blocks.specs.Faults.{HaveOthers, ArePastVariants, HaveBad, IsUnseen, AreMarked, IsPassedAs, AreUnicodeWords, AreUnicode, AreUnicodeAt}
@@ -27,7 +26,6 @@ use Rattle.iloc_blocks.specs.declared.bad_block.BadBlock.{BadBlock}
 use Rattle.iloc_blocks.specs.declared.bad_block.BadBlock.TheVariants as bad
 use Rattle.iloc_blocks.specs.declared.body.Body.{Body}
 use Rattle.iloc_blocks.specs.declared.body.Body.TheVariants as body
-use Rattle.iloc_fronts.proofs.LeftLemmas.{first_left, byte_left}
 use Rattle.iloc_blocks.proofs.BlockLemmas.{front_past, blocks_past, first_block, private_block}
 use Rattle.iloc_blocks.proofs.PrintedBlocks.{other_letter}
 use Rattle.iloc_blocks.proofs.TransformLemmas.{part_means}
@@ -248,15 +246,6 @@ module _ (c len : ℕ) (ps : List (List ℕ)) (letter : is_ascii_alphanumeric c 
   passed_other u x t w h = passed_as IsOther IsNoOther c len ps (sound_other c letter u x t) (λ n. wrong_block c ps letter x (refuting.other_refuted c ps u x t n)) w h
 
 -- ---- singletons
-
--- what is left begins with a short piece, and with one of one byte
-pub begins_short : (l : Left) → IsLeft l → l.n < 16 → pieces_of l ≡ piece_of l ∷ rest_of (pieces_of l)
-begins_short l h few =
-    at_pieces (λ ps. ps ≡ first_piece ps ∷ rest_of ps) (λ p ps. refl) (take l.len l.window.now)
-    ∙ ap (λ p. p ∷ rest_of (pieces_of l)) (first_left l h few)
-
-pub begins_with : (l : Left) → IsLeft l → l.n ≡ 1 → pieces_of l ≡ (get_or l.window.now 0 0 ∷ []) ∷ rest_of (pieces_of l)
-begins_with l h one = begins_short l h (omega arith) ∙ ap (λ p. p ∷ rest_of (pieces_of l)) (byte_left l h one)
 
 pub letter_small : (c : ℕ) → is_ascii_alphanumeric c ≡ true → c < 128
 letter_small c h = grind (arith, nat_tests)

@@ -148,7 +148,7 @@ other_later p ps s h = record {
   nonempty = subst (λ (b : Bool). 0 < length (map lower (cond b (p ∷ filter (is_word Subtag) ps) (filter (is_word Subtag) ps)))) (sym s.no_word) h.nonempty;
 }
 
-between_long : (p : List ℕ) → is_in_range 2 8 (length p) ≡ true → IsLong p
+pub between_long : (p : List ℕ) → is_in_range 2 8 (length p) ≡ true → IsLong p
 between_long p h = long_between p h
 
 pub odd_after : (p : List ℕ) (ps : List (List ℕ)) → is_in_range 2 8 (length p) ≡ true → HaveOdd ps → HaveOdd (p ∷ ps)

@@ -9,10 +9,11 @@ use Rattle.iloc_spec_grammar.specs.Meaning.{RepeatsVariant, normal_values}
 use Rattle.iloc_spec_grammar.specs.Values.{spelled_value}
 use Rattle.iloc_spec_grammar.specs.Reading.{past, passing, skip_first, rest_of, starts_block, from_block, after_region, front_of, after_front, identifier_of, transform_of, optional_of, before_key, fields_from, IdentifierFront}
 use Rattle.iloc_spec_grammar.proofs.PiecesLaws.{at_pieces}
-use Rattle.iloc_spec_grammar.proofs.Readings.{IsLong, transform_of-pieces, fields_past, fields_all, identifier_no_key, attribute_no_key, long_after_language}
+use Rattle.iloc_spec_grammar.proofs.Readings.{IsLong, KeysPass, transform_of-pieces, before_key_read, fields_past, fields_read, fields_all, identifier_no_key, attribute_no_key, long_after_language}
 use Rattle.iloc_spec_grammar.proofs.ReadingLaws.{front_words, pieces-front_of, front_is_front, front-from_block}
 use Rattle.iloc_spec_grammar.proofs.IdentifierLaws.{pieces-identifier_of}
 use Rattle.iloc_spec_grammar.proofs.RawLaws.{languages_table}
+use Rattle.iloc_spec_grammar.proofs.ReadBack.{all_append}
 use Rattle.iloc_spec_grammar.proofs.ValuesLaws.{all_weaker}
 use Rattle.iloc_spec_grammar.proofs.WordsLaws.{length-language, length-transform_key, length-attribute, letter_is, digit_is, region_no_script, variant_no_script, variant_no_region}
 use Rattle.iloc_fronts.specs.Left.{pieces_of, piece_of, IsLeft}
@@ -141,6 +142,28 @@ long_value p h = let l = length-attribute p h in grind (arith, nat_tests, l)
 
 long_values : (vs : List (List ℕ)) → AllByRecursion (IsWord Attribute) vs → AllByRecursion IsLong vs
 long_values vs h = all_weaker (IsWord Attribute) IsLong long_value vs h
+
+-- fields keep to the rule
+pub long_fields : (ordered : Bool) (last : ℕ) (ps : List (List ℕ)) → AreFields ordered last ps → AllByRecursion IsLong ps
+long_fields ordered last ps f = subst (AllByRecursion IsLong) (sym f.spelled) (each f.fields f.each)
+  where
+    each : (fs : Fields) → AllByRecursion IsField fs → AllByRecursion IsLong (fields_pieces fs)
+    each [] h = tt
+    each (g ∷ fs) h = (long_field_key g.0 h.0.0, all_append IsLong g.1 (fields_pieces fs) (long_values g.1 h.0.1) (each fs h.1))
+
+pub fields_ruled : (ordered : Bool) (last : ℕ) (ps : List (List ℕ)) → AreFields ordered last ps → AreRuled ps
+fields_ruled ordered last ps f = record {
+  begins = ap (before_key is_key) f.spelled ∙ before_key_read is_key [] f.fields tt (keys f.fields f.each);
+  each = subst (AllByRecursion IsField) (sym (ap (fields_from is_key) f.spelled ∙ fields_read is_key f.fields (keys f.fields f.each))) f.each;
+  some = subst (λ (qs : List (List ℕ)). 0 < length qs) (sym f.spelled) (some f.fields f.some);
+}
+  where
+    keys : (fs : Fields) → AllByRecursion IsField fs → KeysPass is_key fs
+    keys fs h = all_weaker IsField (λ g. (is_key g.0 ≡ true) × AllByRecursion (λ p. is_key p ≡ false) g.1) (λ g k. (k.0, words_no_key g.1 k.1)) fs h
+
+    some : (fs : Fields) → 0 < length fs → 0 < length (fields_pieces fs)
+    some [] l = absurd (omega arith)
+    some (g ∷ fs) l = omega arith
 
 -- pieces that are no value of a key
 no_value_in : (p : List ℕ) (qs : List (List ℕ)) → (qs ≡ []) ⊎ (is_word Attribute (first_piece qs) ≡ false) → IsField (p, before_key is_key qs) → ⊥

@@ -146,7 +146,7 @@ unicode_more p n h l ps (u, above) = (
 abbrev IsUnicodeWord : List ℕ → Type 0
 IsUnicodeWord p = IsWord Attribute p ⊎ IsWord UnicodeKey p
 
-long_word : (p : List ℕ) → IsUnicodeWord p → IsLong p
+pub long_word : (p : List ℕ) → IsUnicodeWord p → IsLong p
 long_word p (inl h) = long_attribute p h
 long_word p (inr h) = long_key p h
 

@@ -90,6 +90,14 @@ abbrev pub IsUnorderedAs : Bool → Body → Type 0
 IsUnorderedAs true w = w ≡ body.Bad
 IsUnorderedAs false w = w ≡ body.Unordered
 
+-- the walk went on to the end, or to a block, or to a piece that breaks the rule
+abbrev pub IsAtBlock : Body → Type 0
+IsAtBlock body.End = ⊤
+IsAtBlock (body.Next l) = l.n ≡ 1
+IsAtBlock body.Bad = ⊤
+IsAtBlock body.Unordered = ¬ ⊤
+IsAtBlock body.Other = ¬ ⊤
+
 -- Words.
 
 -- at least so many and at most eight letters or digits

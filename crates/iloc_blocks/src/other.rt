@@ -1,11 +1,12 @@
 //! Tells what follows the singleton `x`, or that of another extension than `t` and `u`.
-ghost use Rattle.std.specs.Prelude.{◌≡◌, ◌+◌, ◌≤◌, IsTrue, length, take};
+ghost use Rattle.std.specs.Prelude.{◌≡◌, ◌↔◌, ◌+◌, ◌≤◌, IsTrue, length, take};
 ghost use Rattle.iloc_spec_grammar.specs.Syntax.{IsOther, IsWord, Subtag, pieces};
 ghost use Rattle.iloc_fronts.specs.Left.{IsLeft, piece_of, pieces_of};
 ghost use Rattle.iloc_blocks.specs.Blocks.{
   ArePast,
   ArePastStrays,
   AreSubtags,
+  IsAtBlock,
   IsBodyAs,
   IsNoOther,
   IsPrivateAs,
@@ -86,7 +87,7 @@ fn after_stray(left: Left<'_>) -> Body<'_>
 #[inline(never)]
 fn have_odd(window: &[u8], len: usize) -> bool
     requires { len + 16 ≤ length window.now }
-    ensures { IsTrue result → HaveOdd (pieces (take len window.now)) }
+    ensures { IsTrue result ↔ HaveOdd (pieces (take len window.now)) }
 {
     matches!(past_between(left_in(window, len)), Body::Bad)
 }
@@ -140,7 +141,8 @@ fn past_pieces(left: Left<'_>) -> Body<'_>
 #[inline(always)]
 fn past_between(left: Left<'_>) -> Body<'_>
     requires { IsLeft left }
-    ensures { IsBodyAs AreBetween HaveOdd left.entry.len (pieces_of left.entry) result }
+    ensures body { IsBodyAs AreBetween HaveOdd left.entry.len (pieces_of left.entry) result }
+    ensures ends { IsAtBlock result }
 {
     let mut at = left;
     'pieces: while at.n >= 2 && at.n <= 8 {

@@ -24,7 +24,7 @@ ghost use Rattle.iloc_spec_grammar.specs.Syntax.{
 };
 ghost use Rattle.iloc_spec_grammar.specs.Reading.{after_region, rest_of};
 ghost use Rattle.iloc_fronts.specs.Left.{IsLeft, piece_of, pieces_of};
-ghost use Rattle.iloc_blocks.specs.Blocks.{IsBodyAs, left_of};
+ghost use Rattle.iloc_blocks.specs.Blocks.{IsAtBlock, IsBodyAs, left_of};
 ghost use Rattle.iloc_blocks.specs.Transform.{
   AreFields,
   AreValues,
@@ -146,7 +146,9 @@ fn fields_in_order(left: Left<'_>) -> Body<'_>
 #[inline(never)]
 fn fields_in_any_order(left: Left<'_>) -> Body<'_>
     requires { IsLeft left }
-    ensures { IsBodyAs (AreFields false 0) NoFields left.entry.len (pieces_of left.entry) result }
+    ensures body { IsBodyAs (AreFields false 0) NoFields left.entry.len
+        (pieces_of left.entry) result }
+    ensures ends { IsAtBlock result }
 {
     walk_fields(false, left)
 }
@@ -156,8 +158,9 @@ fn fields_in_any_order(left: Left<'_>) -> Body<'_>
 #[inline(always)]
 fn walk_fields(ordered: bool, left: Left<'_>) -> Body<'_>
     requires { IsLeft left }
-    ensures { IsBodyAs (AreFields ordered 0) NoFields left.entry.len
+    ensures body { IsBodyAs (AreFields ordered 0) NoFields left.entry.len
         (pieces_of left.entry) result }
+    ensures ends { ordered ≡ false → IsAtBlock result }
 {
     let mut last = 0;
     let mut at = left;
@@ -195,7 +198,7 @@ fn walk_fields(ordered: bool, left: Left<'_>) -> Body<'_>
 #[inline(never)]
 fn have_no_fields(window: &[u8], len: usize) -> bool
     requires { len + 16 ≤ length window.now }
-    ensures { IsTrue result → NoFields (pieces (take len window.now)) }
+    ensures { IsTrue result ↔ NoFields (pieces (take len window.now)) }
 {
     matches!(fields_in_any_order(left_in(window, len)), Body::Bad)
 }

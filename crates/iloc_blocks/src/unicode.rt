@@ -1,5 +1,5 @@
 //! Tells what follows the singleton `u`.
-ghost use Rattle.std.specs.Prelude.{◌≡◌, ◌+◌, ◌≤◌, ◌||◌, IsTrue, false, length, take};
+ghost use Rattle.std.specs.Prelude.{◌≡◌, ◌↔◌, ◌+◌, ◌≤◌, ◌||◌, IsTrue, false, length, take};
 ghost use Rattle.iloc_spec_grammar.specs.Syntax.{Attribute, IsWord, UnicodeKey, is_word, pieces};
 ghost use Rattle.iloc_fronts.specs.Left.{IsLeft, piece_of, pieces_of};
 ghost use Rattle.iloc_blocks.specs.declared.unicode.Next.TheVariants as nexts;
@@ -7,6 +7,7 @@ ghost use Rattle.iloc_blocks.specs.Blocks.{
   AreKeywordsAt,
   Follows,
   HaveStranger,
+  IsAtBlock,
   IsBodyAs,
   IsNextAs,
   IsNoUnicode,
@@ -141,7 +142,7 @@ fn next_key(last: usize, window: &[u8], n: usize) -> Next
 #[inline(never)]
 fn have_stranger(window: &[u8], len: usize) -> bool
     requires { len + 16 ≤ length window.now }
-    ensures { IsTrue result → HaveStranger (pieces (take len window.now)) }
+    ensures { IsTrue result ↔ HaveStranger (pieces (take len window.now)) }
 {
     matches!(past_unicode_words(left_in(window, len)), Body::Bad)
 }
@@ -150,8 +151,9 @@ fn have_stranger(window: &[u8], len: usize) -> bool
 #[inline(always)]
 pub(crate) fn past_unicode_words(left: Left<'_>) -> Body<'_>
     requires { IsLeft left }
-    ensures { IsBodyAs (AreUnicodeAt left.entry.n) HaveStranger left.entry.len
+    ensures body { IsBodyAs (AreUnicodeAt left.entry.n) HaveStranger left.entry.len
         (pieces_of left.entry) result }
+    ensures ends { IsAtBlock result }
 {
     let mut at = left;
     'words: while is_unicode_word(at.window, at.n) {

@@ -33,9 +33,9 @@ ghost use Rattle.memchr.specs.Find.{IsFirstByte, Nowhere, Passes, is_byte};
 
 use crate::replies::write_refusal;
 use crate::reply_block::ReplyBlock;
-use crate::told::{Lead, ROOM, Told, error_of, read_lead, tell_after_variants, tell_rewritten};
+use crate::told::{Lead, ROOM, Told, read_lead, tell_after_variants, tell_rewritten};
 use crate::{Answers, RunError};
-use iloc_blocks::{Reading, read_ordered, read_varied};
+use iloc_blocks::{BadBlock, Reading, read_ordered, read_varied};
 use iloc_fronts::may_begin;
 use iloc_plain::read_plain;
 use iloc_subtags::ParseError;
@@ -201,7 +201,12 @@ fn reply_to_blocks<A: Answers>(
 {
     match read_ordered(window, len, at) {
         Reading::Ordered(line) => replies.push_ordered(&line),
-        Reading::BadBlock(bad) => write_refusal(error_of(bad), replies),
+        Reading::BadBlock(BadBlock::Misfit) => {
+            write_refusal(ParseError::InvalidExtension, replies)
+        }
+        Reading::BadBlock(BadBlock::Duplicated) => {
+            write_refusal(ParseError::DuplicatedExtension, replies)
+        }
         Reading::Unordered => reply_to_unordered(answers, window, len, at, room, replies),
         Reading::Other => answers.reply(&window[..len], replies),
     }

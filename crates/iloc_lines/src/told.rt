@@ -283,7 +283,7 @@ fn read_again(window: &[u8], len: usize, at: usize) -> Reading<'_>
 
 // Why a locale with this bad block is refused.
 #[inline(always)]
-pub(crate) fn error_of(bad: BadBlock) -> ParseError
+fn error_of(bad: BadBlock) -> ParseError
     ensures { result ≡ refusal_of bad }
 {
     match bad {

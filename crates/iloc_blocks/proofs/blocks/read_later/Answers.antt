@@ -6,7 +6,7 @@ use Rattle.iloc_blocks.specs.Blocks.{ArePrinted, BeginBadly, AreBlocksOf, IsNewA
 use Rattle.iloc_blocks.specs.declared.blocks.Rest.TheVariants as rest
 use Rattle.iloc_fronts.proofs.LeftLemmas.{block_left, last_left}
 use Rattle.iloc_blocks.proofs.BadBlocks.{nothing_after}
-use Rattle.iloc_blocks.proofs.FaultLemmas.{begins_with}
+use Rattle.iloc_blocks.proofs.BlockLemmas.{begins_with}
 use Rattle.iloc_blocks.proofs.blocks.read_later.Goals as goal
 
 pub returns-then-not-may_follow : goal.returns-then-not-may_follow

@@ -7,7 +7,8 @@ use Rattle.iloc_blocks.specs.Faults.{HaveOthers}
 use Rattle.iloc_fronts.specs.Words.{four_number}
 use Rattle.iloc_fronts.proofs.FrontLemmas.{short_variant}
 use Rattle.iloc_fronts.proofs.LeftLemmas.{first_word, last_left, word_left}
-use Rattle.iloc_blocks.proofs.FaultLemmas.{begins_short, four_in, variant_four, others_differ, others_later, others_none, others_more, no_variant}
+use Rattle.iloc_blocks.proofs.BlockLemmas.{begins_short}
+use Rattle.iloc_blocks.proofs.FaultLemmas.{four_in, variant_four, others_differ, others_later, others_none, others_more, no_variant}
 use Rattle.iloc_blocks.proofs.faults.differ_from.Goals as goal
 
 inside : (l : Left) → IsLeft l → l.n ≤ length l.window.now

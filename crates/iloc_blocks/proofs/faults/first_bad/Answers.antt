@@ -7,7 +7,8 @@ use Rattle.iloc_blocks.specs.Faults.{HaveBad, IsUnseen}
 use Rattle.iloc_blocks.specs.declared.bad_block.BadBlock.TheVariants as bad
 use Rattle.iloc_fronts.proofs.LeftLemmas.{block_left, last_left}
 use Rattle.iloc_blocks.proofs.BadBlocks.{lower_letter}
-use Rattle.iloc_blocks.proofs.FaultLemmas.{again, begins_with, letter_small, no_letter, none_marked, one_marked, wrong_nothing}
+use Rattle.iloc_blocks.proofs.BlockLemmas.{begins_with}
+use Rattle.iloc_blocks.proofs.FaultLemmas.{again, letter_small, no_letter, none_marked, one_marked, wrong_nothing}
 use Rattle.iloc_blocks.proofs.faults.first_bad.Goals as goal
 
 pub following-init : goal.following-init

@@ -9,4 +9,4 @@ use Rattle.iloc_blocks.proofs.faults.past_unicode.Goals as goal
 pub returns : goal.returns
 returns c =
     let l = c.args.left in
-    body_as (AreUnicodeAt l.n) AreUnicode HaveStranger IsNoUnicode l.len l.len (pieces_of l) (omega arith) (unicode_at l.n c.if-left-eq1.false) (λ n. inr n) c.past_unicode_words.result c.past_unicode_words.ensures
+    body_as (AreUnicodeAt l.n) AreUnicode HaveStranger IsNoUnicode l.len l.len (pieces_of l) (omega arith) (unicode_at l.n c.if-left-eq1.false) (λ n. inr n) c.past_unicode_words.result c.past_unicode_words.ensures.body

@@ -11,4 +11,4 @@ returns-in-Some c =
     let at = c.in-Some.at in
     let past = c.in-Some.ensures in
     unordered_body AreSubtags IsNoOther l.len (pieces_of l) c.have_odd.result c.unordered.result
-    (λ t. subst IsNoOther (sym past.cut) (no_other_before past.strays (pieces_of at) past.each (no_other_past [] (pieces_of at) tt (c.have_odd.ensures t)))) c.unordered.ensures
+    (λ t. subst IsNoOther (sym past.cut) (no_other_before past.strays (pieces_of at) past.each (no_other_past [] (pieces_of at) tt (c.have_odd.ensures.0 t)))) c.unordered.ensures

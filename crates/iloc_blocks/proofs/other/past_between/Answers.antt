@@ -24,11 +24,11 @@ pieces-preserved c =
           (λ qs k. (between, k)) (odd_after (piece_of l) (pieces_of next) between) w h);
     }
 
-pub returns-then-at-ne1 : goal.returns-then-at-ne1
-returns-then-at-ne1 c =
+pub returns-then-at-ne1-clause-body : goal.returns-then-at-ne1-clause-body
+returns-then-at-ne1-clause-body c =
     let l = c.pieces.at in
     let out : is_in_range 2 8 l.n ≡ false = elim c.pieces-test.branch [ then-pieces-test+else-at-le8 v ↦ grind (arith, nat_tests) | else-pieces-test v ↦ grind (arith, nat_tests) ] in
     c.pieces.invariant.goes body.Bad (odd_here (pieces_of l) (no_block_left l c.pieces.invariant.left c.if-at-ne1.true) (odd_left l c.pieces.invariant.left out))
 
-pub returns : goal.returns
-returns c = c.pieces.invariant.goes (body.Next c.pieces.at) (c.pieces.invariant.left, omega arith, record { body = []; cut = refl; is = tt })
+pub returns-clause-body : goal.returns-clause-body
+returns-clause-body c = c.pieces.invariant.goes (body.Next c.pieces.at) (c.pieces.invariant.left, omega arith, record { body = []; cut = refl; is = tt })

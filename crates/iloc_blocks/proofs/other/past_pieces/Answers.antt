@@ -19,4 +19,4 @@ returns c =
     let l = c.args.left in
     let next = c.after_piece.result in
     body_after AreBetween IsOther HaveOdd IsNoOther next.len l.len (piece_of l) (pieces_of next) (pieces_of l) (c.after_piece.ensures.pieces (word_left l c.requires.left Subtag short_subtag c.requires.first)) (omega (arith, c.after_piece.ensures.less))
-    (λ qs k. other_first (piece_of l) qs c.requires.first k) (no_other_after (piece_of l) (pieces_of next) c.requires.first) c.past_between.result c.past_between.ensures
+    (λ qs k. other_first (piece_of l) qs c.requires.first k) (no_other_after (piece_of l) (pieces_of next) c.requires.first) c.past_between.result c.past_between.ensures.body

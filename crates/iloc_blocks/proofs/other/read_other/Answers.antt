@@ -57,4 +57,4 @@ returns c =
     let past = c.in-Some.ensures in
     let parts : pieces_of l ≡ (piece_of l ∷ past.words) ++ pieces_of at = c.after_piece.ensures.pieces (word_left l c.requires Subtag short_subtag fits) ∙ ap (λ ps. piece_of l ∷ ps) past.cut in
     unordered_body AreSubtags IsNoOther l.len (pieces_of l) c.have_odd.result c.unordered.result
-    (λ t. subst IsNoOther (sym parts) (no_other_past (piece_of l ∷ past.words) (pieces_of at) (subtag_long (piece_of l) ∙ fits, past.each) (c.have_odd.ensures t))) c.unordered.ensures
+    (λ t. subst IsNoOther (sym parts) (no_other_past (piece_of l ∷ past.words) (pieces_of at) (subtag_long (piece_of l) ∙ fits, past.each) (c.have_odd.ensures.0 t))) c.unordered.ensures

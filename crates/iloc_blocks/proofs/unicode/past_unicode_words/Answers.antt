@@ -10,8 +10,8 @@ use Rattle.iloc_blocks.proofs.UnicodeLemmas.{stranger_after, stranger_left}
 use Rattle.iloc_blocks.proofs.FaultLemmas.{either, neither, unicode_short}
 use Rattle.iloc_blocks.proofs.unicode.past_unicode_words.Goals as goal
 
-pub returns-then-at : goal.returns-then-at
-returns-then-at c =
+pub returns-then-at-clause-body : goal.returns-then-at-clause-body
+returns-then-at-clause-body c =
     let l = c.words.at in
     let word = either (is_word Attribute (piece_of l)) (is_word UnicodeKey (piece_of l)) (sym c.is_unicode_word.ensures ∙ c.words-test.true) in
     let few : l.n < 16 = short_left l c.words.invariant.left 8 (omega arith) (unicode_short (piece_of l) word) in
@@ -31,11 +31,11 @@ words-preserved c =
           (λ qs k. ((word, k.0), inr (omega arith))) (stranger_after (piece_of l) (pieces_of next) word) w h);
     }
 
-pub returns-then-at-ne1 : goal.returns-then-at-ne1
-returns-then-at-ne1 c =
+pub returns-then-at-ne1-clause-body : goal.returns-then-at-ne1-clause-body
+returns-then-at-ne1-clause-body c =
     let l = c.words.at in
     let none = neither (is_word Attribute (piece_of l)) (is_word UnicodeKey (piece_of l)) (sym c.is_unicode_word.ensures ∙ c.words-test.false) in
     c.words.invariant.goes body.Bad (stranger_left l c.words.invariant.left c.if-at-ne1.true none.0 none.1)
 
-pub returns : goal.returns
-returns c = c.words.invariant.goes (body.Next c.words.at) (c.words.invariant.left, omega arith, record { body = []; cut = refl; is = (tt, inl (omega arith)) })
+pub returns-clause-body : goal.returns-clause-body
+returns-clause-body c = c.words.invariant.goes (body.Next c.words.at) (c.words.invariant.left, omega arith, record { body = []; cut = refl; is = (tt, inl (omega arith)) })

@@ -57,7 +57,7 @@ returns-then-number_of_two c =
     let parts : pieces_of l ≡ piece_of l ∷ pieces_of next = c.after_piece-next.ensures.pieces (word_left l c.attributes.invariant.left Attribute short_attribute word) in
     c.attributes.invariant.goes c.unordered.result
     (unordered_body (IsUnicodeFrom (two_number (piece_of l))) HaveStranger l.len (pieces_of l) c.have_stranger.result c.unordered.result
-    (λ t. subst HaveStranger (sym parts) (stranger_after (piece_of l) (pieces_of next) (inl word) (c.have_stranger.ensures t))) c.unordered.ensures)
+    (λ t. subst HaveStranger (sym parts) (stranger_after (piece_of l) (pieces_of next) (inl word) (c.have_stranger.ensures.0 t))) c.unordered.ensures)
 
 pub attributes-preserved : goal.attributes-preserved
 attributes-preserved c =

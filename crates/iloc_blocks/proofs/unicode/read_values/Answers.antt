@@ -30,7 +30,7 @@ returns-then-at c =
 pub returns-in-Unordered : goal.returns-in-Unordered
 returns-in-Unordered c =
     let l = c.pieces.at in
-    c.pieces.invariant.goes c.unordered.result (unordered_body (Follows c.pieces.last) HaveStranger l.len (pieces_of l) c.have_stranger.result c.unordered.result c.have_stranger.ensures c.unordered.ensures)
+    c.pieces.invariant.goes c.unordered.result (unordered_body (Follows c.pieces.last) HaveStranger l.len (pieces_of l) c.have_stranger.result c.unordered.result c.have_stranger.ensures.0 c.unordered.ensures)
 
 pub returns-in-Misfit : goal.returns-in-Misfit
 returns-in-Misfit c = c.pieces.invariant.goes (body.Next c.pieces.at) (c.pieces.invariant.left, omega arith, record { body = []; cut = refl; is = follows_none c.pieces.last })
