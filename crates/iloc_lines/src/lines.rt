@@ -22,9 +22,9 @@ ghost use Rattle.std.specs.Prelude.{
 };
 ghost use Rattle.std.specs.Io.KnownBytes.{Appends};
 ghost use Rattle.iloc_writeable.specs.Growth.{AddsBeginning};
-ghost use Rattle.iloc_lines.specs.Output.{output, reply};
+ghost use Rattle.iloc_lines.specs.Output.{output, refusal_text, reply};
 ghost use Rattle.iloc_lines.specs.ReplyBlock.{held};
-ghost use Rattle.iloc_lines.specs.Told.{IsTold};
+ghost use Rattle.iloc_lines.specs.Told.{IsTold, refusal_of};
 ghost use Rattle.iloc_lines.specs.Lines.{IsOneLine};
 ghost use Rattle.std.specs.Simd.Lanes.{mask_l};
 ghost use Rattle.iloc_spec_grammar.specs.Syntax.{Text};
@@ -201,14 +201,21 @@ fn reply_to_blocks<A: Answers>(
 {
     match read_ordered(window, len, at) {
         Reading::Ordered(line) => replies.push_ordered(&line),
-        Reading::BadBlock(BadBlock::Misfit) => {
-            write_refusal(ParseError::InvalidExtension, replies)
-        }
-        Reading::BadBlock(BadBlock::Duplicated) => {
-            write_refusal(ParseError::DuplicatedExtension, replies)
-        }
+        Reading::BadBlock(bad) => refuse(bad, replies),
         Reading::Unordered => reply_to_unordered(answers, window, len, at, room, replies),
         Reading::Other => answers.reply(&window[..len], replies),
+    }
+}
+
+// Adds why a locale with this bad block is refused: each reason by a call of its own, so that it is stored at once.
+#[inline(always)]
+fn refuse(bad: BadBlock, replies: &mut ReplyBlock) -> Result<(), AllocError>
+    ensures { OnOk result (held replies.new
+        ≡ held replies.old ++ (refusal_text (refusal_of bad) ++ 10 ∷ [])) }
+{
+    match bad {
+        BadBlock::Misfit => write_refusal(ParseError::InvalidExtension, replies),
+        BadBlock::Duplicated => write_refusal(ParseError::DuplicatedExtension, replies),
     }
 }
 

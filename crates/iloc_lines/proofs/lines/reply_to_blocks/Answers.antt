@@ -1,10 +1,8 @@
 use Rattle.std.proofs.Common.{ℕ, List, ◌≡◌, ◌++◌, OnOk, subst, sym, take}
 use Rattle.iloc_blocks.specs.Ordered.{text_of}
-use Rattle.iloc_subtags.specs.declared.parse_error.ParseError.{ParseError}
 use Rattle.iloc_lines.specs.ReplyBlock.{held}
-use Rattle.iloc_lines.specs.Told.{IsInOrder, IsRefused}
+use Rattle.iloc_lines.specs.Told.{IsInOrder, IsRefused, refusal_of}
 use Rattle.iloc_lines.specs.declared.Mode.{Mode}
-use Rattle.iloc_lines.specs.declared.Mode.TheVariants.{Locale}
 use Rattle.iloc_lines.proofs.PlainAnswers.{ordered_in_order}
 use Rattle.iloc_lines.proofs.PlainLemmas.{normal_reply, refused_reply, bad_refused}
 use Rattle.iloc_lines.proofs.lines.reply_to_blocks.Goals as goal
@@ -22,7 +20,8 @@ pub returns-in-BadBlock : goal.returns-in-BadBlock
 returns-in-BadBlock g c =
     let mode = g.A.Answers.mode in
     let line = take c.args.len c.args.window.now in
-    let refused : IsRefused Locale line c.error_of.result =
-    subst (λ (e : ParseError). IsRefused Locale line e) (sym c.error_of.ensures) (bad_refused line c.in-BadBlock.bad c.in-BadBlock.ensures) in
-    subst (λ (t : List ℕ). OnOk c.write_refusal.result (held c.write_refusal.new.replies ≡ held c.args.replies.now ++ t))
-    (refused_reply mode line c.error_of.result (subst (λ (m : Mode). IsRefused m line c.error_of.result) (sym c.requires.mode) refused)) c.write_refusal.ensures.text
+    let bad = c.in-BadBlock.bad in
+    let refused : IsRefused mode line (refusal_of bad) =
+    subst (λ (m : Mode). IsRefused m line (refusal_of bad)) (sym c.requires.mode) (bad_refused line bad c.in-BadBlock.ensures) in
+    subst (λ (t : List ℕ). OnOk c.refuse.result (held c.refuse.new.replies ≡ held c.args.replies.now ++ t))
+    (refused_reply mode line (refusal_of bad) refused) c.refuse.ensures
