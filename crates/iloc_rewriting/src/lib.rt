@@ -1,7 +1,7 @@
 //! Brings a line into the order of its normal text, without a value being built.
 //!
 //! `rewrite` stores another line, and each meaning of that is one of this line (`IsRewritten`). Nothing says that the new
-//! line is in order: `read_ordered` of `iloc_blocks` is asked of it, and its answer is the answer to the old line.
+//! line is in order. If `read_ordered` of `iloc_blocks` finds that it is, its text is the answer to the old line.
 //!
 //! `None` says nothing: the caller parses the text as it would without this crate. So each caller keeps its own contract,
 //! and a shape that is not rewritten here costs time and nothing else.
