@@ -211,7 +211,7 @@ def allocator_table():
                 name = entry.name if entry.kind != "fn" else module.short
                 where = "" if "::" not in module.short or entry.kind == "fn" else f" of `{module.short}`"
                 rows.append(f"| `{name}`{where} | {' | '.join(', '.join(it) for it in kinds.values())} |")
-    return "\n".join(rows) + "\n\n`clone` of what derives `Clone` takes no allocator either, and needs `?` too."
+    return "\n".join(rows) + "\n\n`clone` never takes the allocator: write `x.clone()?`."
 
 
 def change(call):
