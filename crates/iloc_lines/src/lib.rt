@@ -19,7 +19,6 @@ pub mod laws;
 mod lines;
 pub mod replies;
 pub mod reply_block;
-mod shape;
 pub mod told;
 
 pub use replies::{write_refusal, write_text};

@@ -33,7 +33,7 @@ ghost use Rattle.memchr.specs.Find.{IsFirstByte, Nowhere, Passes, is_byte};
 
 use crate::replies::write_refusal;
 use crate::reply_block::ReplyBlock;
-use crate::told::{Lead, ROOM, Told, read_lead, tell_after_variants, tell_unordered};
+use crate::told::{Lead, ROOM, Told, read_lead, tell_after_variants, tell_rewritten};
 use crate::{Answers, RunError};
 use iloc_blocks::{BadBlock, Reading, read_ordered, read_varied};
 use iloc_fronts::may_begin;
@@ -234,7 +234,7 @@ fn reply_to_unordered<A: Answers>(
     ensures { OnOk result (held replies.new
         ≡ held replies.old ++ reply A.mode (take len window.now)) }
 {
-    let told = tell_unordered(window, len, at, room);
+    let told = tell_rewritten(window, len, at, room);
     reply_told(answers, window, len, told, replies)
 }
 

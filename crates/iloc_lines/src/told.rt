@@ -7,7 +7,6 @@ ghost use Rattle.iloc_blocks.specs.Ordered.{IsReading};
 ghost use Rattle.iloc_lines.specs.Told.{IsLead, IsRefused, IsTold, refusal_of};
 
 use crate::Mode;
-use crate::shape::looks_bad;
 use iloc_blocks::{BadBlock, Ordered, Reading, find_bad_block, read_ordered, read_varied};
 use iloc_fronts::{Block, Front, Keyword, read_front, read_keyword};
 use iloc_rewriting::repeats::repeats_variant;
@@ -185,34 +184,19 @@ pub fn tell_blocks<'a>(window: &'a [u8], len: usize, at: usize, room: &'a mut [u
     match read_ordered(window, len, at) {
         Reading::Ordered(line) => Told::Ordered(line),
         Reading::BadBlock(bad) => Told::Refused(error_of(bad)),
-        Reading::Unordered => tell_unordered(window, len, at, room),
+        Reading::Unordered => tell_rewritten(window, len, at, room),
         Reading::Other => Told::Nothing,
-    }
-}
-
-// The same of one that is not in order: if it looks bad, it is asked first whether it is.
-#[inline(never)]
-pub(crate) fn tell_unordered<'a>(
-    window: &'a [u8],
-    len: usize,
-    at: usize,
-    room: &'a mut [u8],
-) -> Told<'a>
-    requires { len + 16 ≤ length window.now }
-    ensures { IsTold Mode.Locale (take len window.now) result }
-{
-    if !looks_bad(window, len) {
-        return tell_rewritten(window, len, at, room);
-    }
-    match find_bad_block(window, len, at) {
-        Some(bad) => Told::Refused(error_of(bad)),
-        None => tell_rewritten(window, len, at, room),
     }
 }
 
 // The same of one whose blocks may have to be brought into order.
 #[inline(never)]
-fn tell_rewritten<'a>(window: &'a [u8], len: usize, at: usize, room: &'a mut [u8]) -> Told<'a>
+pub(crate) fn tell_rewritten<'a>(
+    window: &'a [u8],
+    len: usize,
+    at: usize,
+    room: &'a mut [u8],
+) -> Told<'a>
     requires { len + 16 ≤ length window.now }
     ensures { IsTold Mode.Locale (take len window.now) result }
 {

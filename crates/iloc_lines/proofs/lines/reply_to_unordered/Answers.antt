@@ -5,4 +5,4 @@ use Rattle.iloc_lines.proofs.lines.reply_to_unordered.Goals as goal
 
 pub reply_told-requires-clause-told : goal.reply_told-requires-clause-told
 reply_told-requires-clause-told g c =
-    subst (λ (m : Mode). IsTold m (take c.args.len c.args.window.now) c.tell_unordered-told.result) (sym c.requires.mode) c.tell_unordered-told.ensures
+    subst (λ (m : Mode). IsTold m (take c.args.len c.args.window.now) c.tell_rewritten-told.result) (sym c.requires.mode) c.tell_rewritten-told.ensures
