@@ -33,11 +33,12 @@ ghost use Rattle.memchr.specs.Find.{IsFirstByte, Nowhere, Passes, is_byte};
 
 use crate::replies::write_refusal;
 use crate::reply_block::ReplyBlock;
-use crate::told::{Lead, ROOM, Told, read_lead, tell_after_variants, tell_rewritten};
+use crate::told::{Lead, ROOM, Told, read_again, read_lead, tell_after_variants};
 use crate::{Answers, RunError};
-use iloc_blocks::{BadBlock, Reading, read_ordered, read_varied};
+use iloc_blocks::{BadBlock, Reading, find_bad_block, read_ordered, read_varied};
 use iloc_fronts::may_begin;
 use iloc_plain::read_plain;
+use iloc_rewriting::rewrite;
 use iloc_subtags::ParseError;
 use memchr::memchr_iter;
 use std::alloc::{AllocError, Global};
@@ -234,8 +235,33 @@ fn reply_to_unordered<A: Answers>(
     ensures { OnOk result (held replies.new
         ≡ held replies.old ++ reply A.mode (take len window.now)) }
 {
-    let told = tell_rewritten(window, len, at, room);
-    reply_told(answers, window, len, told, replies)
+    let Some(count) = rewrite(window, len, room) else {
+        return reply_to_bad(answers, window, len, at, replies);
+    };
+    match read_again(room, count, at) {
+        Reading::Ordered(line) => replies.push_ordered(&line),
+        _ => reply_to_bad(answers, window, len, at, replies),
+    }
+}
+
+// The same of one that may have a bad block, after good ones in whatever order.
+#[inline(never)]
+fn reply_to_bad<A: Answers>(
+    answers: &mut A,
+    window: &[u8],
+    len: usize,
+    at: usize,
+    replies: &mut ReplyBlock,
+) -> Result<(), AllocError>
+    requires mode { A.mode ≡ Mode.Locale }
+    requires room { len + 16 ≤ length window.now }
+    ensures { OnOk result (held replies.new
+        ≡ held replies.old ++ reply A.mode (take len window.now)) }
+{
+    match find_bad_block(window, len, at) {
+        Some(bad) => refuse(bad, replies),
+        None => answers.reply(&window[..len], replies),
+    }
 }
 
 // The same of one with two variants or more before the blocks.

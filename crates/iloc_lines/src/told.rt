@@ -191,12 +191,7 @@ pub fn tell_blocks<'a>(window: &'a [u8], len: usize, at: usize, room: &'a mut [u
 
 // The same of one whose blocks may have to be brought into order.
 #[inline(never)]
-pub(crate) fn tell_rewritten<'a>(
-    window: &'a [u8],
-    len: usize,
-    at: usize,
-    room: &'a mut [u8],
-) -> Told<'a>
+fn tell_rewritten<'a>(window: &'a [u8], len: usize, at: usize, room: &'a mut [u8]) -> Told<'a>
     requires { len + 16 ≤ length window.now }
     ensures { IsTold Mode.Locale (take len window.now) result }
 {
@@ -274,7 +269,7 @@ fn tell_bad_block(window: &[u8], len: usize, at: usize) -> Told<'_>
 
 // The same as `read_ordered`. It is a call, so that the first reading of most lines is none.
 #[inline(never)]
-fn read_again(window: &[u8], len: usize, at: usize) -> Reading<'_>
+pub(crate) fn read_again(window: &[u8], len: usize, at: usize) -> Reading<'_>
     requires { len + 16 ≤ length window.now }
     ensures { IsReading (take len window.now) result }
 {
