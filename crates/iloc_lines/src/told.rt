@@ -45,7 +45,7 @@ pub enum Told<'a> {
 
 /// What is told in the mode of the first `len` bytes. Sixteen bytes after them are loaded too, and change nothing. A
 /// text out of order is brought into order in the room.
-#[inline(always)]
+#[inline(never)]
 pub fn tell<'a>(mode: Mode, window: &'a [u8], len: usize, room: &'a mut [u8]) -> Told<'a>
     requires { len + 16 ≤ length window.now }
     ensures { IsTold mode (take len window.now) result }
@@ -176,7 +176,7 @@ pub fn tell_varied(window: &[u8], len: usize, at: usize) -> Told<'_>
 
 /// What is told of the first `len` bytes as a locale, if a plain identifier of `at` bytes comes first. A text out of
 /// order is brought into order in the room.
-#[inline(never)]
+#[inline(always)]
 pub fn tell_blocks<'a>(window: &'a [u8], len: usize, at: usize, room: &'a mut [u8]) -> Told<'a>
     requires { len + 16 ≤ length window.now }
     ensures { IsTold Mode.Locale (take len window.now) result }
@@ -206,7 +206,7 @@ fn tell_rewritten<'a>(window: &'a [u8], len: usize, at: usize, room: &'a mut [u8
 
 /// What is told of the first `len` bytes as a locale, if a plain identifier of `at` bytes comes first, and two variants
 /// or more. A text out of order is brought into order in the room.
-#[inline(never)]
+#[inline(always)]
 pub fn tell_after_variants<'a>(
     window: &'a [u8],
     len: usize,
