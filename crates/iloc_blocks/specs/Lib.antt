@@ -3,4 +3,4 @@ pub mod Blocks
 pub mod Transform
 pub mod Ordered
 pub mod Variants
-pub mod Faults
+pub mod Bodies

@@ -88,13 +88,13 @@ IsHeadAs len ps body.Unordered = ⊤
 IsHeadAs len ps body.Other = ⊤
 
 -- they are perhaps an identifier with at most one variant, and such fields, not both absent
-pub record IsTransformPart (ordered : Bool) (ps : List Text) : Type 0 where
+pub record IsTransformPart (ps : List Text) : Type 0 where
   pub id : Option Identifier
   pub fields : Fields
   pub spelled : ps ≡ optional_pieces id ++ fields_pieces fields
   pub words : IfSome id (λ i. HasWords languages i × (length i.variants ≤ 1))
   pub each : AllByRecursion IsField fields
-  pub order : ordered ≡ true → AreInOrder 0 fields
+  pub order : AreInOrder 0 fields
   pub some : id ≡ None → 0 < length fields
 
 -- what breaks the rule of `t`, but for a repeated variant

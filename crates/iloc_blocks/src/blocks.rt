@@ -1,9 +1,10 @@
 //! Tells the blocks of a locale, from the first one on.
-ghost use Rattle.std.specs.Prelude.{◌≡◌, ◌↔◌, ◌∷◌, ℕ, List, [], IsTrue};
-ghost use Rattle.iloc_spec_grammar.specs.Syntax.{Text};
-ghost use Rattle.std.specs.Char.{to_ascii_lowercase};
+ghost use Rattle.std.specs.Prelude.{◌≡◌, ◌≢◌, ◌↔◌, ◌∷◌, ℕ, List, [], IsTrue, true};
+ghost use Rattle.iloc_spec_grammar.specs.Syntax.{Text, code_x};
+ghost use Rattle.std.specs.Char.{is_ascii_alphanumeric, to_ascii_lowercase};
 ghost use Rattle.iloc_fronts.specs.Left.{IsLeft, pieces_of};
-ghost use Rattle.iloc_blocks.specs.Blocks.{AreBlocksOf, IsBlockAs, IsNewAfter};
+ghost use Rattle.iloc_blocks.specs.Blocks.{AreBlocksOf, IsBlockAs, IsBodyAs, IsNewAfter};
+ghost use Rattle.iloc_blocks.specs.Bodies.{IsBodyOf, IsNoBodyOf};
 
 use crate::body::Body;
 use crate::other::{read_other, read_private};
@@ -128,10 +129,24 @@ fn read_block(singleton: u8, left: Left<'_>) -> Body<'_>
         → IsBlockAs last singleton left.entry.len ((c ∷ []) ∷ pieces_of left.entry) result }
 {
     match singleton {
-        b'u' => read_unicode(left),
         b'x' => read_private(left),
-        b't' => read_transform(true, left),
         _ if !singleton.is_ascii_alphanumeric() => Body::Bad,
+        _ => read_body(singleton, left),
+    }
+}
+
+/// What follows a letter or digit in lower case that is no `x`, up to the next block.
+#[inline(always)]
+pub fn read_body(singleton: u8, left: Left<'_>) -> Body<'_>
+    requires left { IsLeft left }
+    requires letter { is_ascii_alphanumeric singleton ≡ true }
+    requires no_private { singleton ≢ code_x }
+    ensures { IsBodyAs (IsBodyOf singleton) (IsNoBodyOf singleton) left.entry.len
+        (pieces_of left.entry) result }
+{
+    match singleton {
+        b'u' => read_unicode(left),
+        b't' => read_transform(left),
         _ => read_other(left),
     }
 }

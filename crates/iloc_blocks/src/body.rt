@@ -3,18 +3,18 @@ ghost use Rattle.iloc_blocks.specs.Blocks.{IsUnorderedAs};
 
 use iloc_fronts::left::Left;
 
-// What the pieces after a singleton are.
+/// What the pieces after a singleton are.
 #[derive(Clone, Copy)]
-pub(crate) enum Body<'a> {
-    // In order, up to the end of the line.
+pub enum Body<'a> {
+    /// In order, up to the end of the line.
     End,
-    // In order, up to the next block.
+    /// In order, up to the next block.
     Next(Left<'a>),
-    // Pieces that break the rule of the singleton.
+    /// Pieces that break the rule of the singleton.
     Bad,
-    // Pieces that keep to the rule, but are not in order. What follows them is not told.
+    /// Pieces that keep to the rule, but are not in order. What follows them is not told.
     Unordered,
-    // Nothing that is told.
+    /// Nothing that is told.
     Other,
 }
 

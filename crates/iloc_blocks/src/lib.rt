@@ -6,13 +6,13 @@
 //! of letters. If a bad block comes first, or after blocks in order, `read_ordered` tells that: the text has the fault of
 //! the grammar. A block that is not in order is read to its end, and may be bad too.
 //!
-//! Of blocks in any order `find_bad_block` tells the first that is bad (`HasBadBlock`).
+//! `read_body` tells what follows one singleton, for `iloc_rewriting`, which brings other lines into order.
 //!
 //! `None`, `Reading::Unordered` and `Reading::Other` say nothing: the caller parses the text as it would without this
 //! crate. So each caller keeps its own contract, and a shape that is not told here costs time and nothing else.
 //!
 //! Each kind of block has a walk of its own (`unicode`, `transform`, `other`), which says where the next block begins
-//! (`blocks`); `faults` passes over blocks in any order. `iloc_rewriting` brings other lines into order.
+//! (`blocks`).
 //! docs/ARCHITECTURE.md says how to add a shape.
 //!
 //! It stands on the grammar (`iloc_spec_grammar`), on plain texts (`iloc_plain`), and on the walk from piece to piece and
@@ -20,15 +20,13 @@
 #![tactic(auto)]
 
 mod bad_block;
-mod blocks;
-mod body;
-pub mod faults;
+pub mod blocks;
+pub mod body;
 pub mod ordered;
 pub mod other;
-mod transform;
+pub mod transform;
 mod unicode;
-mod variants;
+pub mod variants;
 
 pub use bad_block::BadBlock;
-pub use faults::find_bad_block;
 pub use ordered::{Ordered, Reading, read_ordered, read_varied};

@@ -11,7 +11,7 @@ ghost use Rattle.iloc_blocks.specs.Blocks.{
   IsNoOther,
   IsPrivateAs,
 };
-ghost use Rattle.iloc_blocks.specs.Faults.{AreBetween, HaveOdd};
+ghost use Rattle.iloc_blocks.specs.Bodies.{AreBetween, HaveOdd};
 
 use crate::body::{Body, unordered};
 use iloc_fronts::left::{Left, after_piece, left_in};
@@ -34,9 +34,9 @@ pub fn past_words(least: usize, left: Left<'_>) -> Option<Left<'_>>
     Some(at)
 }
 
-// What follows the singleton `x`.
+/// What follows the singleton `x`.
 #[inline(always)]
-pub(crate) fn read_private(left: Left<'_>) -> Body<'_>
+pub fn read_private(left: Left<'_>) -> Body<'_>
     requires { IsLeft left }
     ensures { IsPrivateAs (pieces_of left.entry) result }
 {
@@ -92,18 +92,6 @@ fn have_odd(window: &[u8], len: usize) -> bool
     matches!(past_between(left_in(window, len)), Body::Bad)
 }
 
-// What follows another singleton: pieces of two to eight bytes, of which one at least is a word.
-#[inline(always)]
-pub(crate) fn past_other(left: Left<'_>) -> Body<'_>
-    requires { IsLeft left }
-    ensures { IsBodyAs IsOther IsNoOther left.entry.len (pieces_of left.entry) result }
-{
-    match past_strays(left) {
-        None => Body::Bad,
-        Some(at) => past_pieces(at),
-    }
-}
-
 // Passes over pieces that are no words. What is left begins with a word; `None` if none comes before the next block, or
 // before a piece that is too long or too short.
 #[inline(always)]
@@ -122,19 +110,6 @@ fn past_strays(left: Left<'_>) -> Option<Left<'_>>
         at = after_piece(at);
     }
     Some(at)
-}
-
-// What the pieces are of which the first is a word.
-#[inline(always)]
-fn past_pieces(left: Left<'_>) -> Body<'_>
-    requires left { IsLeft left }
-    requires first { IsWord Subtag (piece_of left) }
-    ensures { IsBodyAs IsOther IsNoOther left.entry.len (pieces_of left.entry) result }
-{
-    if left.n == left.len {
-        return Body::End;
-    }
-    past_between(after_piece(left))
 }
 
 // What the pieces of two to eight bytes are, up to the next block.

@@ -44,28 +44,27 @@ use iloc_fronts::words::{
     number_of_two,
 };
 
-// What the pieces are up to the next block: in order, if that is asked, or in any.
+// What the pieces are up to the next block.
 #[inline(always)]
-pub(crate) fn read_transform(ordered: bool, left: Left<'_>) -> Body<'_>
+pub(crate) fn read_transform(left: Left<'_>) -> Body<'_>
     requires { IsLeft left }
-    ensures { IsBodyAs (IsTransformPart ordered) IsNoTransform left.entry.len
-        (pieces_of left.entry) result }
+    ensures { IsBodyAs IsTransformPart IsNoTransform left.entry.len (pieces_of left.entry) result }
 {
     match past_identifier(left) {
-        Body::Bad => read_fields(ordered, left),
+        Body::Bad => fields_in_order(left),
         Body::Next(next) => {
             if next.n == 1 {
                 return Body::Next(next);
             }
-            read_fields(ordered, next)
+            fields_in_order(next)
         }
         told => told,
     }
 }
 
-// Passes over an identifier with at most one variant; it is bad if no language comes first.
+/// Passes over an identifier with at most one variant; it is bad if no language comes first.
 #[inline(always)]
-fn past_identifier(left: Left<'_>) -> Body<'_>
+pub fn past_identifier(left: Left<'_>) -> Body<'_>
     requires { IsLeft left }
     ensures { IsHeadAs left.entry.len (pieces_of left.entry) result }
 {
@@ -119,20 +118,7 @@ fn past_one(fits: bool, left: Left<'_>) -> Option<Left<'_>>
     Some(after_piece(left))
 }
 
-// What the fields are, one at least.
-#[inline(always)]
-fn read_fields(ordered: bool, left: Left<'_>) -> Body<'_>
-    requires { IsLeft left }
-    ensures { IsBodyAs (AreFields ordered 0) NoFields left.entry.len
-        (pieces_of left.entry) result }
-{
-    if ordered {
-        return fields_in_order(left);
-    }
-    fields_in_any_order(left)
-}
-
-// What they are in order.
+// What the fields are in order, one at least.
 #[inline(never)]
 fn fields_in_order(left: Left<'_>) -> Body<'_>
     requires { IsLeft left }

@@ -13,7 +13,7 @@ ghost use Rattle.iloc_blocks.specs.Blocks.{
   IsNoUnicode,
   IsUnicodePart,
 };
-ghost use Rattle.iloc_blocks.specs.Faults.{AreUnicodeAt};
+ghost use Rattle.iloc_blocks.specs.Bodies.{AreUnicodeAt};
 
 use crate::body::{Body, unordered};
 use iloc_fronts::left::{Left, after_piece, left_in};
@@ -149,7 +149,7 @@ fn have_stranger(window: &[u8], len: usize) -> bool
 
 // What the words are up to the next block.
 #[inline(always)]
-pub(crate) fn past_unicode_words(left: Left<'_>) -> Body<'_>
+fn past_unicode_words(left: Left<'_>) -> Body<'_>
     requires { IsLeft left }
     ensures body { IsBodyAs (AreUnicodeAt left.entry.n) HaveStranger left.entry.len
         (pieces_of left.entry) result }

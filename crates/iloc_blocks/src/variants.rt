@@ -6,10 +6,10 @@ use crate::body::Body;
 use iloc_fronts::left::{Left, after_piece};
 use iloc_fronts::words::{is_variant, number_of_four};
 
-// What follows the variants that come first, if the first four bytes of each are greater than those of the one before
-// it.
+/// What follows the variants that come first, if the first four bytes of each are greater than those of the one before
+/// it.
 #[inline(always)]
-pub(crate) fn past_ascending(left: Left<'_>) -> Body<'_>
+pub fn past_ascending(left: Left<'_>) -> Body<'_>
     requires { IsLeft left }
     ensures { AreVariantsAs 0 left.entry.len (pieces_of left.entry) result }
 {

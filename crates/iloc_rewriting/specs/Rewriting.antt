@@ -1,13 +1,13 @@
 -- Lines that are brought into order.
 use Rattle.std.specs.Prelude.{◌≡◌, ⊤, ℕ, ◌+◌, ◌<◌, ◌≤◌, IsTrue, Bool, true, false, List, [], ◌∷◌, ◌++◌, length, map, take, Option, Some, None}
 use Rattle.std.specs.List.{AllByRecursion}
-use Rattle.std.specs.FinMap.{find}
+use Rattle.std.specs.FinMap.{find, is_sorted}
 use Rattle.iloc_spec_grammar.specs.Syntax.{Text, Field, Fields, Kind, UnicodeKey, TransformKey, Attribute, is_word, IsWord, IsKeyword, IsField, word_cmp, first_piece, lower, dashes, join, fields_pieces, languages}
 use Rattle.iloc_spec_grammar.specs.Meaning.{Locale, Means, normal_values, set_of}
-use Rattle.iloc_blocks.specs.Blocks.{left_of}
+use Rattle.iloc_blocks.specs.Blocks.{IsValue, left_of, lower_fields}
 use Rattle.iloc_fronts.specs.Words.{two_number}
 use Rattle.iloc_fronts.specs.Left.{pieces_of, IsLeft}
-use Rattle.iloc_blocks.specs.Transform.{IsRest}
+use Rattle.iloc_blocks.specs.Transform.{IsAsPrinted, IsRest}
 use Rattle.iloc_fronts.specs.declared.left.Left.{Left}
 use Rattle.iloc_rewriting.specs.declared.keywords.KeyKind.{KeyKind}
 use Rattle.iloc_rewriting.specs.declared.keywords.KeyKind.TheVariants as kind
@@ -145,6 +145,11 @@ abbrev pub BeginsBlock : Option Left → Type 0
 BeginsBlock None = ⊤
 BeginsBlock (Some l) = IsLeft l × (l.n ≡ 1)
 
+-- the value is as it is printed
+abbrev pub IsPrintedValue : KeyKind → List Text → Type 0
+IsPrintedValue kind.Unicode ws = AllByRecursion IsValue ws
+IsPrintedValue kind.Transform ws = IsAsPrinted ws
+
 -- fields that come first are stored in order
 pub record AreFieldsInOrder (k : KeyKind) (text : Text) (ps : List Text) (room : Text) (s : Stored) : Type 0 where
   pub written : Fields
@@ -154,6 +159,8 @@ pub record AreFieldsInOrder (k : KeyKind) (text : Text) (ps : List Text) (room :
   pub each_kept : AllByRecursion (IsFieldOf k) kept
   pub some : length kept ≤ length written
   pub same : HaveSame written kept
+  pub ascending : is_sorted word_cmp (lower_fields kept) ≡ true
+  pub printed : AllByRecursion (λ f. IsPrintedValue k f.1) kept
   pub stored : AreStored room (text ++ dashes (fields_pieces kept)) s.end
   pub left : BeginsBlock s.next
 

@@ -12,6 +12,10 @@ use Rattle.iloc_fronts.specs.Left.{pieces_of, IsLeft}
 use Rattle.iloc_fronts.specs.declared.left.Left.{Left}
 use Rattle.iloc_rewriting.specs.Rewriting.{AreStored, BeginsBlock}
 use Rattle.iloc_rewriting.specs.declared.keywords.Stored.{Stored}
+use Rattle.iloc_rewriting.specs.declared.blocks.Failure.{Failure}
+use Rattle.iloc_rewriting.specs.declared.blocks.Failure.TheVariants as failure
+use Rattle.iloc_blocks.specs.Bodies.{IsBodyOf, IsNoBodyOf}
+use Rattle.iloc_blocks.specs.declared.bad_block.BadBlock.TheVariants as bad
 
 -- What follows a singleton.
 
@@ -28,6 +32,22 @@ pub record KeepsBlock (c : ℕ) (new body : List Text) : Type 0 where
   pub unicode : c ≡ code_u → Keeps UnicodeMeans new body
   pub transform : c ≡ code_t → Keeps (TransformMeans languages) new body
   pub other : is_other_singleton c ≡ true → Keeps OtherMeans new body
+
+-- the same, and the new pieces are such a body as it is printed
+pub record IsOrderOf {X : Type 0} (Means : List Text → X → Type 0) (P : List Text → Type 0) (new body : List Text) : Type 0 where
+  pub keeps : Keeps Means new body
+  pub ordered : P new
+
+-- the new pieces follow this singleton in lower case as they are printed, and whatever they mean there, the old ones mean
+pub record StandsFor (c : ℕ) (new body : List Text) : Type 0 where
+  pub keeps : KeepsBlock c new body
+  pub ordered : IsBodyOf c new
+
+-- up to the next block the pieces break the rule of this singleton
+abbrev pub IsWrongBody : ℕ → List Text → Failure → Type 0
+IsWrongBody c ps (failure.Bad bad.Misfit) = IsNoBodyOf c ps
+IsWrongBody c ps (failure.Bad bad.Duplicated) = ¬ ⊤
+IsWrongBody c ps failure.Other = ⊤
 
 -- pieces up to the next block are stored as others, which stand for them
 pub record IsBodyStored (R : List Text → List Text → Type 0) (text : Text) (ps : List Text) (room : Text) (s : Stored) : Type 0 where

@@ -14,6 +14,8 @@ use Rattle.iloc_rewriting.specs.declared.keywords.Stored.{Stored}
 use Rattle.iloc_rewriting.specs.declared.keywords.Place.{Place}
 use Rattle.iloc_rewriting.specs.declared.words.WordKind.{WordKind}
 use Rattle.iloc_rewriting.specs.declared.words.WordKind.TheVariants as kind
+use Rattle.iloc_blocks.specs.Ordered.{IsReading}
+use Rattle.iloc_blocks.specs.declared.ordered.Reading.{Reading}
 
 -- variants, or attributes
 abbrev pub words_of : Bool → WordKind
@@ -89,15 +91,7 @@ abbrev pub IsRemaining : Option Left → Type 0
 IsRemaining None = ⊤
 IsRemaining (Some l) = IsLeft l
 
--- whatever identifier the new text means, the old one means
-abbrev pub MeansIdentifiersOf : Text → Text → Type 0
-MeansIdentifiersOf t u = (i : Identifier) → IdentifierMeans languages (pieces u) i
-    → IdentifierMeans languages (pieces t) i
-
--- the text that is stored means what the old one means
+-- whatever is told of the text that is stored is so of the old one
 pub record IsSortedAs (t room : Text) (n : ℕ) : Type 0 where
   pub more : n + 16 ≤ length room
-  pub locale : IsRewritten t (take n room)
-  pub locale_back : IsRewritten (take n room) t
-  pub identifier : MeansIdentifiersOf t (take n room)
-  pub identifier_back : MeansIdentifiersOf (take n room) t
+  pub told : (r : Reading) → IsReading (take n room) r → IsReading t r

@@ -16,8 +16,8 @@ use iloc_fronts::words::is_field_key;
 pub(crate) fn put_transform<'a>(left: Left<'a>, room: &mut [u8], start: usize) -> Option<Stored<'a>>
     requires left { IsLeft left }
     requires room { start + 16 ≤ length room.old }
-    ensures { IfSome result (IsBodyStored (Keeps (TransformMeans languages)) (take start room.old)
-        (pieces_of left.entry) room.new) }
+    ensures { IfSome result (IsBodyStored (IsOrderOf (TransformMeans languages) IsTransformPart)
+        (take start room.old) (pieces_of left.entry) room.new) }
 {
     let stored = put_head(left, room, start)?;
     let Some(next) = stored.next else {

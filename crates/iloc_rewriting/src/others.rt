@@ -14,7 +14,7 @@ use iloc_fronts::words::is_subtag;
 pub(crate) fn put_other<'a>(left: Left<'a>, room: &mut [u8], start: usize) -> Option<Stored<'a>>
     requires left { IsLeft left }
     requires room { start + 16 ≤ length room.old }
-    ensures { IfSome result (IsBodyStored (Keeps OtherMeans) (take start room.old)
+    ensures { IfSome result (IsBodyStored (IsOrderOf OtherMeans AreSubtags) (take start room.old)
         (pieces_of left.entry) room.new) }
 {
     let stored = put_words(left, room, start)?;

@@ -1,44 +1,85 @@
 //! Brings a line into the order of its normal text.
 ghost use Rattle.std.specs.Prelude.{◌≡◌, ◌+◌, ◌≤◌, IfSome, length, take};
 ghost use Rattle.iloc_fronts.specs.Left.{IsLeft, pieces_of};
-ghost use Rattle.iloc_rewriting.specs.Rewriting.{IsRewrittenAs};
+ghost use Rattle.iloc_blocks.specs.Ordered.{IsReading};
 ghost use Rattle.iloc_rewriting.specs.Sorting.{LeadsToBlock};
 
+use crate::blocks::Failure;
 use crate::sorting::put_blocks;
 use crate::storing::put_bytes;
-use iloc_fronts::left::{Left, after_piece, left_in};
+use iloc_blocks::body::Body;
+use iloc_blocks::ordered::cut_at;
+use iloc_blocks::variants::past_ascending;
+use iloc_blocks::{Ordered, Reading};
+use iloc_fronts::left::{Left, left_in};
+use iloc_plain::Plain;
 
-/// Stores a line of which each meaning is one of the first `len` bytes, and gives its length. In it the singletons of
-/// blocks ascend, and that of `x` comes last. In the block of `u` attributes and keys ascend, of equal ones the first
-/// stays, and no value is `true`. So do the keys in that of `t`, where `true` stays if it is all of a value. In that of
-/// another letter or digit each piece is a word. All else is as it was.
-/// `None` says nothing of the line.
+/// What the first `len` bytes are as a locale, if a plain identifier of `at` bytes comes first, perhaps variants, each of
+/// which has greater first four bytes than the one before it, and blocks in whatever order.
+/// The line is stored in the room, in the order of its normal text. There the singletons of blocks ascend, and that of
+/// `x` comes last. In the block of `u` attributes and keys ascend, of equal ones the first stays, and no value is `true`.
+/// So do the keys in that of `t`, where `true` stays if it is all of a value. In that of another letter or digit each
+/// piece is a word.
+/// The first bad block is told, whatever the order of those before it.
 #[inline(never)]
-pub fn rewrite(window: &[u8], len: usize, room: &mut [u8]) -> Option<usize>
+pub fn rewrite<'a>(window: &[u8], len: usize, at: usize, room: &'a mut [u8]) -> Reading<'a>
     requires { len + 16 ≤ length window.now }
-    ensures { IfSome result (IsRewrittenAs (take len window.now) room.new) }
+    ensures { IsReading (take len window.now) result }
 {
-    let line = left_in(window, len);
-    if line.n == line.len || line.n == 16 || room.len() < 16 {
-        return None;
+    match cut_at(window, len, at) {
+        Some(line) => rewrite_after(line.plain, window, len, at, room),
+        None => Reading::Other,
     }
-    let block = find_block(after_piece(line))?;
-    let end = put_bytes(window, len - block.len - 1, room, 0)?;
+}
+
+// The same after this identifier.
+#[inline(always)]
+fn rewrite_after<'a>(
+    plain: Plain,
+    window: &[u8],
+    len: usize,
+    at: usize,
+    room: &'a mut [u8],
+) -> Reading<'a>
+    requires { len + 16 ≤ length window.now }
+    ensures { IsReading (take len window.now) result }
+{
+    match put_line(window, len, at, room) {
+        Ok(end) => Reading::Ordered(Ordered {
+            plain,
+            rest: &room[at..],
+            len: end - at,
+        }),
+        Err(Failure::Bad(bad)) => Reading::BadBlock(bad),
+        Err(Failure::Other) => Reading::Other,
+    }
+}
+
+// Stores the line in order. Where it ends then.
+#[inline(always)]
+fn put_line(window: &[u8], len: usize, at: usize, room: &mut [u8]) -> Result<usize, Failure>
+    requires { len + 16 ≤ length window.now }
+{
+    if room.len() < 16 {
+        return Err(Failure::Other);
+    }
+    let Some(block) = find_block(left_in(&window[at + 1..], len - at - 1)) else {
+        return Err(Failure::Other);
+    };
+    let Some(end) = put_bytes(window, len - block.len - 1, room, 0) else {
+        return Err(Failure::Other);
+    };
     put_blocks(block, room, end)
 }
 
-// What begins with the first block.
+// What begins with the first block, after variants that ascend.
 #[inline(always)]
 fn find_block(left: Left<'_>) -> Option<Left<'_>>
     requires { IsLeft left }
     ensures { IfSome result (LeadsToBlock (pieces_of left.entry) left.entry.len) }
 {
-    let mut at = left;
-    'pieces: while at.n != 1 {
-        if at.n == at.len || at.n == 16 {
-            return None;
-        }
-        at = after_piece(at);
+    match past_ascending(left) {
+        Body::Next(next) if next.n == 1 => Some(next),
+        _ => None,
     }
-    Some(at)
 }

@@ -1,31 +1,25 @@
 //! Stores blocks in the order of their singletons.
-ghost use Rattle.std.specs.Prelude.{◌≡◌, ◌≢◌, ◌+◌, ◌≤◌, IfSome, List, get_or, length, take};
-ghost use Rattle.std.specs.Char.{to_ascii_lowercase};
-ghost use Rattle.iloc_spec_grammar.specs.Syntax.{Text, code_x};
+ghost use Rattle.std.specs.Prelude.{◌≡◌, ◌≢◌, ◌+◌, ◌≤◌, IfSome, List, OnErr, OnOk, length, take};
+ghost use Rattle.iloc_spec_grammar.specs.Syntax.{Text, Block};
 ghost use Rattle.iloc_fronts.specs.Left.{IsLeft, pieces_of};
-ghost use Rattle.iloc_rewriting.specs.Sorting.{
-  AreBlocksStored,
-  HoldsBlocks,
-  IsBlockAmong,
-  IsBlockPlace,
-  IsBlockStored,
-  IsSingletonOf,
-};
 
-use crate::blocks::put_block;
+use crate::blocks::{Failure, put_body};
 use crate::keywords::Stored;
 use crate::storing::{put_bytes, put_left, put_piece};
+use iloc_blocks::BadBlock;
+use iloc_blocks::body::Body;
+use iloc_blocks::other::read_private;
 use iloc_fronts::left::{Left, after_piece, left_in};
 use std::cmp::max;
 
 // Stores blocks in the order of their singletons. One of `x` comes last, and is stored as it stands.
 #[inline(always)]
-pub(crate) fn put_blocks(left: Left<'_>, room: &mut [u8], start: usize) -> Option<usize>
+pub(crate) fn put_blocks(left: Left<'_>, room: &mut [u8], start: usize) -> Result<usize, Failure>
     requires left { IsLeft left }
     requires block { left.n ≡ 1 }
     requires room { start + 16 ≤ length room.old }
-    ensures { IfSome result
-        (AreBlocksStored (take start room.old) (pieces_of left.entry) room.new) }
+    // ensures ok:  the blocks are stored behind the text as others, in order, which stand for them
+    // ensures err: if Bad b: HaveBad [] (pieces_of left.entry) b
 {
     let mut at = left;
     let mut end = start;
@@ -33,18 +27,32 @@ pub(crate) fn put_blocks(left: Left<'_>, room: &mut [u8], start: usize) -> Optio
     'following: loop {
         let singleton = at.window[0].to_ascii_lowercase();
         if singleton == b'x' {
-            return put_left(at, room, end);
+            return put_private(at, room, end);
         }
-        if at.n == at.len {
-            return None;
+        if !singleton.is_ascii_alphanumeric() {
+            return Err(Failure::Bad(BadBlock::Misfit));
         }
         let stored = put_among(at, singleton, last, room, start, end)?;
         let Some(next) = stored.next else {
-            return Some(stored.end);
+            return Ok(stored.end);
         };
         last = max(last, singleton);
         end = stored.end;
         at = next;
+    }
+}
+
+// Stores the block of `x`, and so the end of the line.
+#[inline(always)]
+fn put_private(left: Left<'_>, room: &mut [u8], end: usize) -> Result<usize, Failure>
+{
+    if left.n == left.len {
+        return Err(Failure::Bad(BadBlock::Misfit));
+    }
+    match read_private(after_piece(left)) {
+        Body::End => put_left(left, room, end).ok_or(Failure::Other),
+        Body::Bad => Err(Failure::Bad(BadBlock::Misfit)),
+        Body::Next(_) | Body::Unordered | Body::Other => Err(Failure::Other),
     }
 }
 
@@ -57,14 +65,11 @@ fn put_among<'a>(
     room: &mut [u8],
     start: usize,
     end: usize,
-) -> Option<Stored<'a>>
+) -> Result<Stored<'a>, Failure>
     requires left { IsLeft left }
-    requires more { left.n ≢ left.len }
     requires singleton { IsSingletonOf left singleton }
     requires room { end + 16 ≤ length room.old }
     requires start { start ≤ end }
-    ensures { (t : Text) (bs : List Text) → HoldsBlocks room.old start end t bs
-        → IfSome result (IsBlockAmong t bs (pieces_of left.entry) room.new) }
 {
     if singleton > last {
         return put_behind(left, singleton, room, end);
@@ -79,18 +84,21 @@ fn put_behind<'a>(
     singleton: u8,
     room: &mut [u8],
     start: usize,
-) -> Option<Stored<'a>>
+) -> Result<Stored<'a>, Failure>
     requires left { IsLeft left }
-    requires more { left.n ≢ left.len }
     requires singleton { IsSingletonOf left singleton }
     requires room { start + 16 ≤ length room.old }
-    ensures { IfSome result (IsBlockStored (take start room.old) (pieces_of left.entry) room.new) }
 {
-    let end = put_piece(left, room, start)?;
-    put_block(singleton, after_piece(left), room, end)
+    if left.n == left.len {
+        return Err(Failure::Bad(BadBlock::Misfit));
+    }
+    let Some(end) = put_piece(left, room, start) else {
+        return Err(Failure::Other);
+    };
+    put_body(singleton, after_piece(left), room, end)
 }
 
-// Stores a block before the first whose singleton is greater; `None` if its singleton is there.
+// Stores a block before the first whose singleton is greater; it is bad if its singleton is there.
 #[inline(never)]
 fn insert_block<'a>(
     left: Left<'a>,
@@ -98,51 +106,51 @@ fn insert_block<'a>(
     room: &mut [u8],
     start: usize,
     end: usize,
-) -> Option<Stored<'a>>
+) -> Result<Stored<'a>, Failure>
     requires left { IsLeft left }
-    requires more { left.n ≢ left.len }
     requires singleton { IsSingletonOf left singleton }
     requires room { end + 16 ≤ length room.old }
     requires start { start ≤ end }
-    ensures { (t : Text) (bs : List Text) → HoldsBlocks room.old start end t bs
-        → IfSome result (IsBlockAmong t bs (pieces_of left.entry) room.new) }
 {
     if start == end {
-        return None;
+        return Err(Failure::Other);
     }
     let len = place_of(left_in(&room[start + 1..], end - start - 1), singleton)?;
     let before = end - len - 1;
     let mut later = [0u8; 128];
-    let count = put_bytes(&room[before..], len + 1, &mut later, 0)?;
+    let Some(count) = put_bytes(&room[before..], len + 1, &mut later, 0) else {
+        return Err(Failure::Other);
+    };
     let stored = put_behind(left, singleton, room, before)?;
-    let end = put_bytes(&later, count, room, stored.end)?;
-    Some(Stored {
+    let Some(end) = put_bytes(&later, count, room, stored.end) else {
+        return Err(Failure::Other);
+    };
+    Ok(Stored {
         end,
         next: stored.next,
     })
 }
 
-// How many bytes there are from the first block on whose singleton is greater; `None` if one has this singleton.
+// How many bytes there are from the first block on whose singleton is greater; a block with this singleton is bad.
 #[inline(always)]
-fn place_of(left: Left<'_>, singleton: u8) -> Option<usize>
+fn place_of(left: Left<'_>, singleton: u8) -> Result<usize, Failure>
     requires { IsLeft left }
-    ensures { IfSome result (IsBlockPlace (pieces_of left.entry) left.entry.len) }
 {
     let mut at = left;
     'pieces: while at.n != 16 {
         if at.n == 1 {
             let other = at.window[0].to_ascii_lowercase();
             if other == singleton {
-                return None;
+                return Err(Failure::Bad(BadBlock::Duplicated));
             }
             if other > singleton {
-                return Some(at.len);
+                return Ok(at.len);
             }
         }
         if at.n == at.len {
-            return None;
+            return Err(Failure::Other);
         }
         at = after_piece(at);
     }
-    None
+    Err(Failure::Other)
 }
