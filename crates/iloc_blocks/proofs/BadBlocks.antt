@@ -3,7 +3,7 @@ use Rattle.std.proofs.Common.{◌≡◌, ◌≢◌, ◌⊎◌, inl, inr, ℕ, �
 use Rattle.std.specs.List.{AllByRecursion, list_all, list_any, onto_first}
 use Rattle.std.specs.Char.{is_ascii_alphanumeric, to_ascii_lowercase}
 use Rattle.std.specs.Ordering.{nat_cmp, eq_by_cmp}
-use Rattle.std.proofs.lemmas.Bool.{cases_Bool, cases_lt}
+use Rattle.std.proofs.lemmas.Bool.{cases_Bool, cases_eq, cases_lt}
 use Rattle.std.proofs.lemmas.Bool.Decides.{nat_tests}
 use Rattle.iloc_spec_grammar.specs.Syntax.{pieces, Variant, UnicodeKey, Attribute, PrivateSubtag, is_word, IsWord, languages, Identifier, Fields, Unicode, Transform, Extension, unicode, transform, other, identifier_pieces, fields_pieces, unicode_pieces, transform_pieces, extension_pieces, optional_pieces, IsIdentifier, IsUnicode, IsTransform, IsOther, IsPrivate, IsExtension, is_other_singleton, front, blocks, head, tail_blocks, lower}
 use Rattle.iloc_spec_grammar.specs.Meaning.{Fault, InvalidExtension, RepeatsVariant, IsBlock, BlockFault, no_singleton, breaks_rule, duplicated, FirstBadBlock, here, later, HasFault, bad_block}
@@ -22,14 +22,15 @@ use Rattle.iloc_blocks.specs.declared.bad_block.BadBlock.TheVariants as bad
 use Rattle.iloc_blocks.specs.declared.ordered.Ordered.{Ordered}
 use Rattle.iloc_blocks.specs.Ordered.{IsBefore, IsBadTail, IsFaultyTail, IsTailOf}
 use Rattle.iloc_fronts.specs.Left.{pieces_of}
-use Rattle.iloc_blocks.specs.Blocks.{AreBlocksOf, AreSeen, BeginBadly, IsBlockAs, IsBodyAs, IsNewAfter, IsNoUnicode, IsUnicodePart, IsNoOther, AreSubtags, IsPrivateAs, ArePrinted}
+use Rattle.iloc_blocks.specs.Blocks.{AreBlocksOf, AreSeen, BeginBadly, IsBlockAs, IsBodyAs, IsNewAfter, IsNoUnicode, IsNoOther, IsPrivateAs, ArePrinted}
 use Rattle.iloc_blocks.specs.declared.blocks.Rest.{Rest}
 use Rattle.iloc_blocks.specs.declared.blocks.Rest.TheVariants as rest
 use Rattle.iloc_blocks.specs.declared.body.Body.{Body}
 use Rattle.iloc_blocks.specs.declared.body.Body.TheVariants as body
-use Rattle.iloc_blocks.specs.Transform.{IsTransformPart, IsNoTransform}
+use Rattle.iloc_blocks.specs.Transform.{IsNoTransform}
+use Rattle.iloc_blocks.specs.Bodies.{IsBodyOf, IsNoBodyOf}
 use Rattle.iloc_blocks.proofs.BlockLemmas.{front_past, blocks_past, first_block, private_block}
-use Rattle.iloc_blocks.proofs.PrintedBlocks.{IsGood, good_unicode, good_transform, good_other, printed_private, printed_none}
+use Rattle.iloc_blocks.proofs.PrintedBlocks.{IsGood, good_body, other_letter, printed_private, printed_none}
 use Rattle.iloc_blocks.proofs.OrderedLemmas.{after, cut_there, rest_is}
 
 -- ---- singletons that no earlier block has
@@ -254,6 +255,15 @@ other_refuted c ps u x t n = record {
   repeats = λ e. absurd (t e);
 }
 
+pub body_refuted : (c : ℕ) (ps : List (List ℕ)) → is_ascii_alphanumeric c ≡ true → to_ascii_lowercase c ≢ 120 → IsNoBodyOf (to_ascii_lowercase c) ps → Refuted c (front ps)
+body_refuted c ps letter x n = elim (cases_eq (to_ascii_lowercase c) 117) [
+  | inl u ↦ unicode_refuted c ps u (n.unicode u)
+  | inr no_u ↦ elim (cases_eq (to_ascii_lowercase c) 116) [
+    | inl t ↦ transform_refuted c ps t (n.transform t)
+    | inr no_t ↦ other_refuted c ps no_u x no_t (n.other (other_letter c letter no_u x no_t))
+  ]
+]
+
 -- ---- what is told of the pieces after a singleton is told of the blocks from it on
 
 -- nothing follows it
@@ -267,17 +277,15 @@ nothing_after last c new = elim (cases_Bool (is_ascii_alphanumeric c)) [
 ]
 
 module _ (last c len : ℕ) (new : IsNewAfter last (to_ascii_lowercase c)) where
-  pub unicode_block : (ps : List (List ℕ)) → to_ascii_lowercase c ≡ 117 → (w : Body) → IsBodyAs IsUnicodePart IsNoUnicode len ps w → IsBlockAs last (to_ascii_lowercase c) len ((c ∷ []) ∷ ps) w
-  unicode_block ps e w h = block_as IsUnicodePart IsNoUnicode c last len ps less (good_unicode c e) misfit w h
+  pub body_block : (ps : List (List ℕ)) → is_ascii_alphanumeric c ≡ true → to_ascii_lowercase c ≢ 120 → (w : Body) → IsBodyAs (IsBodyOf (to_ascii_lowercase c)) (IsNoBodyOf (to_ascii_lowercase c)) len ps w
+      → IsBlockAs last (to_ascii_lowercase c) len ((c ∷ []) ∷ ps) w
+  body_block ps letter x w h = block_as (IsBodyOf (to_ascii_lowercase c)) (IsNoBodyOf (to_ascii_lowercase c)) c last len ps less (good_body c letter x) misfit w h
     where
-      letter : is_ascii_alphanumeric c ≡ true
-      letter = grind (arith, nat_tests)
-
       less : last < to_ascii_lowercase c
-      less = above last (to_ascii_lowercase c) (lower_letter c ∙ letter) (omega (arith, e)) new
+      less = above last (to_ascii_lowercase c) (lower_letter c ∙ letter) x new
 
-      misfit : IsNoUnicode ps → BeginBadly last ((c ∷ []) ∷ ps) bad.Misfit
-      misfit n = until_next last c letter (inl less) ps (omega (arith, e)) (unicode_refuted c ps e n)
+      misfit : IsNoBodyOf (to_ascii_lowercase c) ps → BeginBadly last ((c ∷ []) ∷ ps) bad.Misfit
+      misfit n = until_next last c letter (inl less) ps x (body_refuted c ps letter x n)
 
   pub private_as : (t : List ℕ) → to_ascii_lowercase c ≡ 120 → (w : Body) → IsPrivateAs (pieces t) w → IsBlockAs last (to_ascii_lowercase c) len ((c ∷ []) ∷ pieces t) w
   private_as t e body.End h = printed_private last c t e h
@@ -288,28 +296,6 @@ module _ (last c len : ℕ) (new : IsNewAfter last (to_ascii_lowercase c)) where
     where
       letter : is_ascii_alphanumeric c ≡ true
       letter = grind (arith, nat_tests)
-
-  pub transform_block : (ps : List (List ℕ)) → to_ascii_lowercase c ≡ 116 → (w : Body) → IsBodyAs (IsTransformPart true) IsNoTransform len ps w → IsBlockAs last (to_ascii_lowercase c) len ((c ∷ []) ∷ ps) w
-  transform_block ps e w h = block_as (IsTransformPart true) IsNoTransform c last len ps less (good_transform c e) misfit w h
-    where
-      letter : is_ascii_alphanumeric c ≡ true
-      letter = grind (arith, nat_tests)
-
-      less : last < to_ascii_lowercase c
-      less = above last (to_ascii_lowercase c) (lower_letter c ∙ letter) (omega (arith, e)) new
-
-      misfit : IsNoTransform ps → BeginBadly last ((c ∷ []) ∷ ps) bad.Misfit
-      misfit n = until_next last c letter (inl less) ps (omega (arith, e)) (transform_refuted c ps e n)
-
-  pub other_block : (ps : List (List ℕ)) → is_ascii_alphanumeric c ≡ true → to_ascii_lowercase c ≢ 117 → to_ascii_lowercase c ≢ 120 → to_ascii_lowercase c ≢ 116
-      → (w : Body) → IsBodyAs AreSubtags IsNoOther len ps w → IsBlockAs last (to_ascii_lowercase c) len ((c ∷ []) ∷ ps) w
-  other_block ps letter u x t w h = block_as AreSubtags IsNoOther c last len ps less (good_other c letter u x t) misfit w h
-    where
-      less : last < to_ascii_lowercase c
-      less = above last (to_ascii_lowercase c) (lower_letter c ∙ letter) x new
-
-      misfit : IsNoOther ps → BeginBadly last ((c ∷ []) ∷ ps) bad.Misfit
-      misfit n = until_next last c letter (inl less) ps x (other_refuted c ps u x t n)
 
 -- ---- what follows the identifier
 

@@ -11,7 +11,7 @@ use Rattle.iloc_spec_grammar.proofs.Readings.{IsLong, long_between}
 use Rattle.iloc_spec_grammar.proofs.ValuesLaws.{all_weaker}
 use Rattle.iloc_fronts.specs.Left.{pieces_of, piece_of, IsLeft}
 use Rattle.iloc_blocks.specs.Blocks.{AreSubtags, IsStray, IsNoOther, ArePastStrays, ArePast, BeginsWithout, is_long, ArePrivate}
-use Rattle.iloc_blocks.specs.Faults.{AreBetween, HaveOdd}
+use Rattle.iloc_blocks.specs.Bodies.{AreBetween, HaveOdd}
 use Rattle.iloc_fronts.specs.declared.left.Left.{Left}
 use Rattle.iloc_fronts.proofs.LeftLemmas.{length-piece, short_left, last_left, first_left}
 use Rattle.iloc_blocks.proofs.BlockLemmas.{front_long}
@@ -133,14 +133,6 @@ pub other_last : (p : List ℕ) → IsWord Subtag p → IsOther (p ∷ [])
 unfolding is_word
 other_last p h = record { lengths = ((and_parts _ _ h).0, tt); nonempty = subst (λ (b : Bool). 0 < length (map lower (cond b (p ∷ []) []))) (sym h) (omega arith) }
 
--- ... that begin with a word
-pub other_first : (p : List ℕ) (ps : List (List ℕ)) → IsWord Subtag p → AreBetween ps → IsOther (p ∷ ps)
-unfolding is_word
-other_first p ps h all = record {
-  lengths = ((and_parts _ _ h).0, all);
-  nonempty = subst (λ (b : Bool). 0 < length (map lower (cond b (p ∷ filter (is_word Subtag) ps) (filter (is_word Subtag) ps)))) (sym h) (omega arith);
-}
-
 -- ... that begin with none
 pub other_later : (p : List ℕ) (ps : List (List ℕ)) → IsStray p → IsOther ps → IsOther (p ∷ ps)
 other_later p ps s h = record {
@@ -157,11 +149,6 @@ odd_after p ps h n all = n (subst AreBetween (front_long p ps (between_long p h)
 pub odd_here : (ps : List (List ℕ)) → starts_block ps ≡ false → is_in_range 2 8 (length (first_piece ps)) ≡ false → HaveOdd ps
 odd_here [] long e all = true≢false long
 odd_here (p ∷ ps) long e all = true≢false (sym (subst AreBetween (front_long p ps long) all).0 ∙ e)
-
--- a word before such pieces
-pub no_other_after : (p : List ℕ) (ps : List (List ℕ)) → IsWord Subtag p → HaveOdd ps → IsNoOther (p ∷ ps)
-unfolding is_word
-no_other_after p ps h n o = odd_after p ps (and_parts _ _ h).0 n o.lengths
 
 -- what is told after strays
 pub strays_before : (xs ps : List (List ℕ)) → AllByRecursion IsStray xs → IsOther ps → IsOther (xs ++ ps)

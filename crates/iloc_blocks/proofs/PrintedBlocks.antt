@@ -7,7 +7,7 @@ use Rattle.std.specs.FinMap.Entries.{below_all}
 use Rattle.std.specs.Ordering.{nat_cmp, is_lt}
 use Rattle.std.specs.declared.cmp.Ordering.TheVariants.{Less}
 use Rattle.std.specs.Char.{is_ascii_alphanumeric, to_ascii_lowercase}
-use Rattle.std.proofs.lemmas.Bool.{and_parts, and_from, lt-ltb, cases_lt}
+use Rattle.std.proofs.lemmas.Bool.{and_parts, and_from, lt-ltb, cases_eq, cases_lt}
 use Rattle.std.proofs.lemmas.Bool.Decides.{nat_tests}
 use Rattle.std.proofs.lemmas.List.{map-append}
 use Rattle.iloc_spec_grammar.specs.Syntax.{pieces, Kind, Subtag, UnicodeKey, Attribute, PrivateSubtag, is_word, IsWord, IsExtension, lower, is_true, word_cmp, languages, is_other_singleton, Fields, fields_pieces, kept, Unicode, unicode, other, extension_pieces, Identifier, Transform, transform, HasWords, IsIdentifier, IsField, IsTransform, TransformKey, identifier_pieces, optional_pieces, transform_pieces, title, upper}
@@ -24,6 +24,7 @@ use Rattle.iloc_spec_grammar.proofs.IdentifierTexts.{identifier_means_value}
 use Rattle.iloc_spec_grammar.proofs.Chains.{identifier_pieces-low}
 use Rattle.iloc_blocks.specs.Transform.{AreInOrder, IsAsPrinted, IsTransformPart}
 use Rattle.iloc_blocks.proofs.TransformLemmas.{part_means}
+use Rattle.iloc_blocks.specs.Bodies.{IsBodyOf}
 use Rattle.iloc_blocks.specs.Blocks.{ArePrinted, AreSubtags, ArePrivate, IsUnicodePart, IsValue, lower_fields}
 
 -- ---- words in lower case
@@ -380,9 +381,9 @@ sorted_values : (fs : Fields) → is_sorted word_cmp (value_fields fs) ≡ is_so
 sorted_values [] = refl
 sorted_values (f ∷ fs) = λ j. below_values (lower f.0) fs j && sorted_values fs j
 
-module _ (c : ℕ) (e : to_ascii_lowercase c ≡ 116) (ps : List (List ℕ)) (h : IsTransformPart true ps) where
+module _ (c : ℕ) (e : to_ascii_lowercase c ≡ 116) (ps : List (List ℕ)) (h : IsTransformPart ps) where
   order : AreInOrder 0 h.fields
-  order = h.order refl
+  order = h.order
 
   abbrev written_t : Transform
   written_t = record { id = h.id; fields = h.fields }
@@ -391,7 +392,7 @@ module _ (c : ℕ) (e : to_ascii_lowercase c ≡ 116) (ps : List (List ℕ)) (h 
   value_t = record { id = option_map normal_identifier h.id; fields = value_fields h.fields }
 
   is_transform : IsTransform languages written_t
-  is_transform = part_means true ps h
+  is_transform = part_means ps h
 
   id_values : (o : Option Identifier) → IfSome o (IsIdentifier languages) → IfSome (option_map normal_identifier o) (IsIdentifierValue languages)
   id_values None k = tt
@@ -469,3 +470,14 @@ module _ (c : ℕ) (e : to_ascii_lowercase c ≡ 116) (ps : List (List ℕ)) (h 
     block = inr (transform written_t, (e, is_transform), h.spelled);
     printed = transform_before;
   }
+
+-- ---- whatever the singleton is
+
+pub good_body : (c : ℕ) → is_ascii_alphanumeric c ≡ true → to_ascii_lowercase c ≢ 120 → (ps : List (List ℕ)) → IsBodyOf (to_ascii_lowercase c) ps → IsGood c ps
+good_body c letter x ps h = elim (cases_eq (to_ascii_lowercase c) 117) [
+  | inl u ↦ good_unicode c u ps (h.unicode u)
+  | inr no_u ↦ elim (cases_eq (to_ascii_lowercase c) 116) [
+    | inl t ↦ good_transform c t ps (h.transform t)
+    | inr no_t ↦ good_other c letter no_u x no_t ps (h.other (other_letter c letter no_u x no_t))
+  ]
+]

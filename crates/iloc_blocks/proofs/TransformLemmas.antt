@@ -494,33 +494,32 @@ module _ (l : Left) (h : IsLeft l) (word : IsWord (Language languages) (piece_of
   ]
 
 -- fields alone, an identifier alone, and one before fields
-module _ (ordered : Bool) where
-  pub fields_alone : (ps : List (List ℕ)) → AreFields ordered 0 ps → IsTransformPart ordered ps
-  fields_alone ps f = record { id = None; fields = f.fields; spelled = f.spelled; words = tt; each = f.each; order = f.order; some = λ _. f.some }
+pub fields_alone : (ps : List (List ℕ)) → AreFields true 0 ps → IsTransformPart ps
+fields_alone ps f = record { id = None; fields = f.fields; spelled = f.spelled; words = tt; each = f.each; order = f.order refl; some = λ _. f.some }
 
-  none_in_order : ordered ≡ true → AreInOrder 0 []
-  none_in_order o = record { printed = tt; ascending = refl; above = tt }
+none_in_order : AreInOrder 0 []
+none_in_order = record { printed = tt; ascending = refl; above = tt }
 
-  id_alone : (ps : List (List ℕ)) → IsHead ps [] → IsTransformPart ordered ps
-  id_alone ps h = record { id = Some (front_of ps); fields = []; spelled = spelled ps [] h; words = part_words ps [] h; each = tt; order = none_in_order; some = λ e. absurd (cc) }
+id_alone : (ps : List (List ℕ)) → IsHead ps [] → IsTransformPart ps
+id_alone ps h = record { id = Some (front_of ps); fields = []; spelled = spelled ps [] h; words = part_words ps [] h; each = tt; order = none_in_order; some = λ e. absurd (cc) }
 
-  id_only : (ps rest : List (List ℕ)) → IsHead ps rest → IsTransformPart ordered (identifier_pieces (front_of ps))
-  id_only ps rest h = record { id = Some (front_of ps); fields = []; spelled = sym (append-nil (identifier_pieces (front_of ps))); words = part_words ps rest h; each = tt; order = none_in_order; some = λ e. absurd (cc) }
+id_only : (ps rest : List (List ℕ)) → IsHead ps rest → IsTransformPart (identifier_pieces (front_of ps))
+id_only ps rest h = record { id = Some (front_of ps); fields = []; spelled = sym (append-nil (identifier_pieces (front_of ps))); words = part_words ps rest h; each = tt; order = none_in_order; some = λ e. absurd (cc) }
 
-  pub id_before : (ps rest qs : List (List ℕ)) → IsHead ps rest → AreFields ordered 0 qs → IsTransformPart ordered (identifier_pieces (front_of ps) ++ qs)
-  id_before ps rest qs h f = record { id = Some (front_of ps); fields = f.fields; spelled = ap (λ l. identifier_pieces (front_of ps) ++ l) f.spelled; words = part_words ps rest h; each = f.each; order = f.order; some = λ e. absurd (cc) }
+pub id_before : (ps rest qs : List (List ℕ)) → IsHead ps rest → AreFields true 0 qs → IsTransformPart (identifier_pieces (front_of ps) ++ qs)
+id_before ps rest qs h f = record { id = Some (front_of ps); fields = f.fields; spelled = ap (λ l. identifier_pieces (front_of ps) ++ l) f.spelled; words = part_words ps rest h; each = f.each; order = f.order refl; some = λ e. absurd (cc) }
 
-  -- what is told of an identifier, if that is all that is told
-  pub id_told : (len : ℕ) (ps : List (List ℕ)) (w : Body) → (w ≡ body.Bad → ⊥) → IsHeadAs len ps w → IsBodyAs (IsTransformPart ordered) IsNoTransform len ps w
-  id_told len ps body.End n h = id_alone ps h
-  id_told len ps (body.Next l) n h = (h.0, h.1, record { body = identifier_pieces (front_of ps); cut = spelled ps (pieces_of l) h.2; is = id_only ps (pieces_of l) h.2 })
-  id_told len ps body.Bad n h = absurd (n refl)
-  id_told len ps body.Unordered n h = tt
-  id_told len ps body.Other n h = tt
+-- what is told of an identifier, if that is all that is told
+pub id_told : (len : ℕ) (ps : List (List ℕ)) (w : Body) → (w ≡ body.Bad → ⊥) → IsHeadAs len ps w → IsBodyAs IsTransformPart IsNoTransform len ps w
+id_told len ps body.End n h = id_alone ps h
+id_told len ps (body.Next l) n h = (h.0, h.1, record { body = identifier_pieces (front_of ps); cut = spelled ps (pieces_of l) h.2; is = id_only ps (pieces_of l) h.2 })
+id_told len ps body.Bad n h = absurd (n refl)
+id_told len ps body.Unordered n h = tt
+id_told len ps body.Other n h = tt
 
 -- what such pieces spell
-pub part_means : (ordered : Bool) (ps : List (List ℕ)) (h : IsTransformPart ordered ps) → IsTransform languages (record { id = h.id; fields = h.fields })
-part_means ordered ps h = record { id = identifiers h.id h.words; fields = h.each; nonempty = h.some }
+pub part_means : (ps : List (List ℕ)) (h : IsTransformPart ps) → IsTransform languages (record { id = h.id; fields = h.fields })
+part_means ps h = record { id = identifiers h.id h.words; fields = h.each; nonempty = h.some }
   where
     identifiers : (o : Option Identifier) → IfSome o (λ i. HasWords languages i × (length i.variants ≤ 1)) → IfSome o (IsIdentifier languages)
     identifiers None k = tt

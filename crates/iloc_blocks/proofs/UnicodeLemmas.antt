@@ -1,5 +1,5 @@
 -- Attributes and keywords in order.
-use Rattle.std.proofs.Common.{inl, inr, ◌≡◌, ◌≢◌, ◌⊎◌, ℕ, ◌+◌, ◌*◌, ◌<◌, ◌≤◌, true, false, List, [], ◌∷◌, ◌++◌, length, map, refl, sym, ap, ◌∙◌, subst, arith, true≢false}
+use Rattle.std.proofs.Common.{inl, inr, ◌≡◌, ◌≢◌, ◌⊎◌, ℕ, ◌+◌, ◌*◌, ◌<◌, ◌≤◌, true, false, List, [], ◌∷◌, ◌++◌, length, map, refl, sym, ap, ◌∙◌, subst, arith, true≢false, Bool, ◌||◌}
 use Rattle.std.specs.List.{AllByRecursion}
 use Rattle.std.specs.FinMap.Entries.{below_all}
 use Rattle.std.specs.Ordering.{is_lt, nat_cmp, ordering_then}
@@ -171,3 +171,17 @@ stranger_first (p ∷ ps) e a k all = first (subst (AllByRecursion IsUnicodeWord
 pub stranger_left : (l : Left) → IsLeft l → l.n ≢ 1 → is_word Attribute (piece_of l) ≡ false → is_word UnicodeKey (piece_of l) ≡ false → HaveStranger (pieces_of l)
 stranger_left l h more a k =
     stranger_first (pieces_of l) (no_block_left l h more) (first_word l h Attribute short_attribute ∙ a) (first_word l h UnicodeKey short_key ∙ k)
+
+-- ---- words of `u`
+
+pub either : (a b : Bool) → (a || b) ≡ true → (a ≡ true) ⊎ (b ≡ true)
+either true b h = inl refl
+either false b h = inr h
+
+pub neither : (a b : Bool) → (a || b) ≡ false → (a ≡ false) × (b ≡ false)
+neither true b h = absurd (true≢false h)
+neither false b h = (refl, h)
+
+pub unicode_short : (p : List ℕ) → IsWord Attribute p ⊎ IsWord UnicodeKey p → length p ≤ 8
+unicode_short p (inl a) = (length-attribute p a).1
+unicode_short p (inr k) = omega (arith, length-unicode_key p k)

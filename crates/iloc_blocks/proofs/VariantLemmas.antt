@@ -1,9 +1,11 @@
 -- Variants that ascend.
-use Rattle.std.proofs.Common.{inl, inr, ◌≡◌, ℕ, ◌+◌, ◌*◌, ◌<◌, ◌≤◌, true, List, [], ◌∷◌, length, refl, ◌∙◌, arith}
+use Rattle.std.proofs.lemmas.List.{length-take-le, take-take}
+use Rattle.std.specs.List.{list_all}
+use Rattle.std.proofs.Common.{inl, inr, ◌≡◌, ℕ, ◌+◌, ◌*◌, ◌<◌, ◌≤◌, true, List, [], ◌∷◌, length, refl, ◌∙◌, arith, take, Bool, zero, suc, sym, ap}
 use Rattle.std.specs.Ordering.{is_lt, nat_cmp, ordering_then}
 use Rattle.std.specs.declared.cmp.Ordering.{Ordering}
 use Rattle.std.specs.declared.cmp.Ordering.TheVariants.{Equal}
-use Rattle.std.specs.Char.{to_ascii_lowercase}
+use Rattle.std.specs.Char.{to_ascii_lowercase, is_ascii_alphanumeric}
 use Rattle.std.proofs.lemmas.Bool.{and_parts, and_from, cases_lt}
 use Rattle.std.proofs.lemmas.Bool.Decides.{nat_tests}
 use Rattle.iloc_spec_grammar.specs.Syntax.{Variant, IsWord, letters_or_digits, lower, word_cmp}
@@ -65,3 +67,29 @@ variant_more last p v less ps h = record {
       (all_weaker (λ w. four_number p < four_number w) (λ w. four_number p + 1 ≤ four_number w) (λ w m. omega arith) ps h.above)) h.ascending;
   above = (less, all_weaker (λ w. four_number p < four_number w) (λ w. last < four_number w) (λ w m. omega arith) ps h.above);
 }
+
+-- ---- the first four bytes
+
+-- the number is that of the first four bytes
+pub four_in : (w : List ℕ) (n : ℕ) → 4 ≤ n → 4 ≤ length w → four_number (take 4 w) ≡ four_number (take n w)
+unfolding lower
+four_in w zero l m = absurd (omega arith)
+four_in w (suc zero) l m = absurd (omega arith)
+four_in w (suc (suc zero)) l m = absurd (omega arith)
+four_in w (suc (suc (suc zero))) l m = absurd (omega arith)
+four_in [] (suc (suc (suc (suc n)))) l m = absurd (omega arith)
+four_in (a ∷ []) (suc (suc (suc (suc n)))) l m = absurd (omega arith)
+four_in (a ∷ b ∷ []) (suc (suc (suc (suc n)))) l m = absurd (omega arith)
+four_in (a ∷ b ∷ c ∷ []) (suc (suc (suc (suc n)))) l m = absurd (omega arith)
+four_in (a ∷ b ∷ c ∷ d ∷ w) (suc (suc (suc (suc n)))) l m = refl
+
+all_take : (test : ℕ → Bool) (m : ℕ) (p : List ℕ) → list_all test p ≡ true → list_all test (take m p) ≡ true
+all_take test zero p h = refl
+all_take test (suc m) [] h = refl
+all_take test (suc m) (c ∷ p) h = let parts = and_parts (test c) (list_all test p) h in rw parts.0 (all_take test m p parts.1)
+
+-- a variant begins with four letters or digits
+pub variant_four : (w : List ℕ) (n : ℕ) → n ≤ length w → IsWord Variant (take n w) → (4 ≤ n) × (letters_or_digits (take 4 w) ≡ true)
+variant_four w n inside v =
+    let long : 4 ≤ n = omega (arith, length-variant (take n w) v, length-take-le n w inside) in
+    (long, ap letters_or_digits (sym (take-take 4 n w long)) ∙ all_take is_ascii_alphanumeric 4 (take n w) (word_letters_or_digits Variant (take n w) v))

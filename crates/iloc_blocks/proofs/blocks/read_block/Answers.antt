@@ -1,14 +1,10 @@
 use Rattle.std.proofs.Common.{ℕ, [], ◌∷◌, take, subst, sym, ap, ◌∙◌, arith}
 use Rattle.std.specs.Char.{is_ascii_alphanumeric}
 use Rattle.iloc_fronts.specs.Left.{pieces_of}
-use Rattle.iloc_blocks.specs.Blocks.{IsBlockAs, IsNewAfter}
-use Rattle.iloc_blocks.proofs.BadBlocks.{unicode_block, transform_block, private_as, other_block, bad_singleton, lower_letter}
+use Rattle.iloc_blocks.specs.Blocks.{IsBlockAs, IsBodyAs, IsNewAfter}
+use Rattle.iloc_blocks.specs.Bodies.{IsBodyOf, IsNoBodyOf}
+use Rattle.iloc_blocks.proofs.BadBlocks.{body_block, private_as, bad_singleton, lower_letter}
 use Rattle.iloc_blocks.proofs.blocks.read_block.Goals as goal
-
-pub returns-in-117 : goal.returns-in-117
-returns-in-117 c = λ last d e new.
-    subst (λ (s : ℕ). IsBlockAs last s c.args.left.len ((d ∷ []) ∷ pieces_of c.args.left) c.read_unicode.result) e
-    (unicode_block last d c.args.left.len (subst (IsNewAfter last) (sym e) new) (pieces_of c.args.left) (e ∙ c.in-117.is) c.read_unicode.result c.read_unicode.ensures)
 
 pub returns-in-120 : goal.returns-in-120
 returns-in-120 c = λ last d e new.
@@ -22,10 +18,6 @@ returns-in_default c = λ last d e new.
 pub returns-in_default-2 : goal.returns-in_default-2
 returns-in_default-2 c = λ last d e new.
     let letter = sym (lower_letter d) ∙ ap is_ascii_alphanumeric e ∙ sym c.is_ascii_alphanumeric.ensures.value ∙ c.if-not-is_ascii_alphanumeric.false in
-    subst (λ (s : ℕ). IsBlockAs last s c.args.left.len ((d ∷ []) ∷ pieces_of c.args.left) c.read_other.result) e
-    (other_block last d c.args.left.len (subst (IsNewAfter last) (sym e) new) (pieces_of c.args.left) letter (omega (arith, e)) (omega (arith, e)) (omega (arith, e)) c.read_other.result c.read_other.ensures)
-
-pub returns-in-116 : goal.returns-in-116
-returns-in-116 c = λ last d e new.
-    subst (λ (s : ℕ). IsBlockAs last s c.args.left.len ((d ∷ []) ∷ pieces_of c.args.left) c.read_transform.result) e
-    (transform_block last d c.args.left.len (subst (IsNewAfter last) (sym e) new) (pieces_of c.args.left) (e ∙ c.in-116.is) c.read_transform.result c.read_transform.ensures)
+    let told = subst (λ (s : ℕ). IsBodyAs (IsBodyOf s) (IsNoBodyOf s) c.args.left.len (pieces_of c.args.left) c.read_body.result) (sym e) c.read_body.ensures in
+    subst (λ (s : ℕ). IsBlockAs last s c.args.left.len ((d ∷ []) ∷ pieces_of c.args.left) c.read_body.result) e
+    (body_block last d c.args.left.len (subst (IsNewAfter last) (sym e) new) (pieces_of c.args.left) letter (omega (arith, e)) c.read_body.result told)

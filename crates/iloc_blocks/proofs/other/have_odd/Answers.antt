@@ -4,7 +4,7 @@ use Rattle.iloc_spec_grammar.specs.Syntax.{front, pieces}
 use Rattle.iloc_spec_grammar.proofs.Readings.{IsLong}
 use Rattle.iloc_spec_grammar.proofs.ValuesLaws.{all_weaker}
 use Rattle.iloc_fronts.specs.Left.{pieces_of}
-use Rattle.iloc_blocks.specs.Faults.{AreBetween, HaveOdd}
+use Rattle.iloc_blocks.specs.Bodies.{AreBetween, HaveOdd}
 use Rattle.iloc_blocks.proofs.BodyLemmas.{body_passed}
 use Rattle.iloc_blocks.proofs.OtherLemmas.{between_long}
 use Rattle.iloc_blocks.proofs.other.have_odd.Goals as goal

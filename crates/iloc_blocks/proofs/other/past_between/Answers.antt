@@ -2,7 +2,7 @@ use Rattle.std.proofs.Common.{◌≡◌, true, false, [], refl, length, ap, ◌�
 use Rattle.std.specs.Int.{is_in_range}
 use Rattle.std.proofs.lemmas.Bool.Decides.{nat_tests}
 use Rattle.iloc_fronts.specs.Left.{piece_of, pieces_of}
-use Rattle.iloc_blocks.specs.Faults.{AreBetween, HaveOdd}
+use Rattle.iloc_blocks.specs.Bodies.{AreBetween, HaveOdd}
 use Rattle.iloc_blocks.specs.declared.body.Body.TheVariants as body
 use Rattle.iloc_fronts.proofs.LeftLemmas.{length-piece, no_block_left, odd_left}
 use Rattle.iloc_blocks.proofs.BodyLemmas.{body_after}

@@ -1,7 +1,7 @@
 use Rattle.std.proofs.Common.{◌≤◌}
 use Rattle.iloc_fronts.specs.Left.{IsLeft, pieces_of}
 use Rattle.iloc_blocks.specs.Blocks.{IsBodyAs}
-use Rattle.iloc_blocks.specs.Faults.{AreBetween, HaveOdd}
+use Rattle.iloc_blocks.specs.Bodies.{AreBetween, HaveOdd}
 use Rattle.iloc_blocks.specs.declared.body.Body.{Body}
 use Rattle.iloc_blocks.proofs.other.past_between.Given as goal
 

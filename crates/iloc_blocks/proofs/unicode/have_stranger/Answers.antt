@@ -4,7 +4,7 @@ use Rattle.iloc_spec_grammar.proofs.Readings.{IsLong}
 use Rattle.iloc_spec_grammar.proofs.ValuesLaws.{all_weaker}
 use Rattle.iloc_fronts.specs.Left.{pieces_of}
 use Rattle.iloc_blocks.specs.Blocks.{HaveStranger}
-use Rattle.iloc_blocks.specs.Faults.{AreUnicodeAt, AreUnicodeWords}
+use Rattle.iloc_blocks.specs.Bodies.{AreUnicodeAt, AreUnicodeWords}
 use Rattle.iloc_blocks.proofs.BodyLemmas.{body_passed}
 use Rattle.iloc_blocks.proofs.UnicodeLemmas.{long_word}
 use Rattle.iloc_blocks.proofs.unicode.have_stranger.Goals as goal

@@ -2,12 +2,12 @@ use Rattle.std.proofs.Common.{◌<◌, [], inl, inr, refl, subst, sym, ◌∙◌
 use Rattle.iloc_spec_grammar.specs.Syntax.{Attribute, UnicodeKey, is_word}
 use Rattle.iloc_fronts.specs.Left.{piece_of, pieces_of}
 use Rattle.iloc_blocks.specs.Blocks.{HaveStranger}
-use Rattle.iloc_blocks.specs.Faults.{AreUnicodeAt}
+use Rattle.iloc_blocks.specs.Bodies.{AreUnicodeAt}
 use Rattle.iloc_blocks.specs.declared.body.Body.TheVariants as body
 use Rattle.iloc_fronts.proofs.LeftLemmas.{short_left, last_left}
 use Rattle.iloc_blocks.proofs.BodyLemmas.{body_after}
 use Rattle.iloc_blocks.proofs.UnicodeLemmas.{stranger_after, stranger_left}
-use Rattle.iloc_blocks.proofs.FaultLemmas.{either, neither, unicode_short}
+use Rattle.iloc_blocks.proofs.UnicodeLemmas.{either, neither, unicode_short}
 use Rattle.iloc_blocks.proofs.unicode.past_unicode_words.Goals as goal
 
 pub returns-then-at-clause-body : goal.returns-then-at-clause-body

@@ -1,7 +1,7 @@
 use Rattle.std.proofs.Common.{◌≤◌}
 use Rattle.iloc_fronts.specs.Left.{IsLeft, pieces_of}
 use Rattle.iloc_blocks.specs.Blocks.{HaveStranger, IsBodyAs}
-use Rattle.iloc_blocks.specs.Faults.{AreUnicodeAt}
+use Rattle.iloc_blocks.specs.Bodies.{AreUnicodeAt}
 use Rattle.iloc_blocks.specs.declared.body.Body.{Body}
 use Rattle.iloc_blocks.proofs.unicode.past_unicode_words.Given as goal
 

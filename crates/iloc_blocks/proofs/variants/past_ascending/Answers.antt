@@ -8,8 +8,7 @@ use Rattle.iloc_blocks.specs.declared.body.Body.TheVariants as body
 use Rattle.iloc_fronts.proofs.FrontLemmas.{short_variant}
 use Rattle.iloc_fronts.proofs.LeftLemmas.{last_left, word_left}
 use Rattle.iloc_blocks.proofs.BodyLemmas.{body_after}
-use Rattle.iloc_blocks.proofs.FaultLemmas.{four_in, variant_four}
-use Rattle.iloc_blocks.proofs.VariantLemmas.{no_variants, variant_more}
+use Rattle.iloc_blocks.proofs.VariantLemmas.{four_in, no_variants, variant_four, variant_more}
 use Rattle.iloc_blocks.proofs.variants.past_ascending.Goals as goal
 
 pub number_of_four-number-requires-clause-word : goal.number_of_four-number-requires-clause-word

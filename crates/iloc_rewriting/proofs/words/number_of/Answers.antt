@@ -4,7 +4,7 @@ use Rattle.iloc_spec_grammar.proofs.WordsLaws.{length-attribute}
 use Rattle.iloc_fronts.specs.Left.{piece_of}
 use Rattle.iloc_fronts.proofs.LeftLemmas.{length-piece}
 use Rattle.iloc_fronts.proofs.WordBytes.{attribute_begins, number_in, window_begins}
-use Rattle.iloc_blocks.proofs.FaultLemmas.{four_in, variant_four}
+use Rattle.iloc_blocks.proofs.VariantLemmas.{four_in, variant_four}
 use Rattle.iloc_rewriting.specs.Words.{number_by, word_kind}
 use Rattle.iloc_rewriting.specs.declared.words.WordKind.{WordKind}
 use Rattle.iloc_rewriting.proofs.words.number_of.Goals as goal
