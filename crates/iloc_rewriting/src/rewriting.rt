@@ -1,8 +1,9 @@
 //! Brings a line into the order of its normal text.
-ghost use Rattle.std.specs.Prelude.{◌≡◌, ◌+◌, ◌≤◌, IfSome, length, take};
+ghost use Rattle.std.specs.Prelude.{◌≡◌, ◌+◌, ◌<◌, ◌≤◌, IfErr, IfOk, IfSome, length, take};
 ghost use Rattle.iloc_fronts.specs.Left.{IsLeft, pieces_of};
+ghost use Rattle.iloc_plain.specs.Plain.{IsPlain};
 ghost use Rattle.iloc_blocks.specs.Ordered.{IsReading};
-ghost use Rattle.iloc_rewriting.specs.Sorting.{LeadsToBlock};
+ghost use Rattle.iloc_rewriting.specs.Sorting.{IsBadLine, IsLineStored, LeadsToBlock};
 
 use crate::blocks::Failure;
 use crate::sorting::put_blocks;
