@@ -9,3 +9,4 @@ pub mod LineLemmas
 pub mod FieldLemmas
 pub mod ReplacingLemmas
 pub mod SortingLemmas
+pub mod SortedBlocks

@@ -1,21 +1,26 @@
 -- Blocks that are brought into order.
-use Rattle.std.specs.Prelude.{◌≡◌, ◌≢◌, take, ⊤, ℕ, ◌≤◌, Bool, true, false, List, [], ◌∷◌, ◌++◌, filter, get_or, length, Option}
+use Rattle.std.specs.Prelude.{◌≡◌, ◌≢◌, ◌+◌, ◌-◌, ◌<◌, ◌≤◌, ⊤, ℕ, Bool, true, false, List, [], ◌∷◌, ◌++◌, filter, flat_map, get_or, length, map, take, drop, Option}
 use Rattle.std.specs.Int.{is_in_range}
-use Rattle.std.specs.List.{AllByRecursion}
-use Rattle.std.specs.Char.{to_ascii_lowercase}
-use Rattle.iloc_spec_grammar.specs.Syntax.{Text, Block, Subtag, is_word, IsHyphenFree, dashes, join, blocks, is_one_byte, is_other_singleton, code_t, code_u, code_x, languages}
+use Rattle.std.specs.List.{AllByRecursion, list_any}
+use Rattle.std.specs.Ordering.{nat_cmp, eq_by_cmp}
+use Rattle.std.specs.Char.{is_ascii_alphanumeric, to_ascii_lowercase}
+use Rattle.iloc_spec_grammar.specs.Syntax.{Text, Block, Subtag, is_word, IsHyphenFree, dashes, join, blocks, block_pieces, singleton, is_one_byte, is_other_singleton, code_t, code_u, code_x, languages}
 use Rattle.iloc_spec_grammar.specs.Meaning.{Extensions}
 use Rattle.iloc_spec_grammar.specs.Reading.{starts_block}
 use Rattle.iloc_spec_grammar.specs.ByBlocks.{UnicodeMeans, TransformMeans, OtherMeans, BlocksMean}
-use Rattle.iloc_blocks.specs.Blocks.{left_of}
+use Rattle.iloc_blocks.specs.Bad.{fault_of}
+use Rattle.iloc_blocks.specs.Blocks.{ArePrinted, IsCutAs, left_of}
+use Rattle.iloc_blocks.specs.Bodies.{HaveBad, IsBodyOf, IsNoBodyOf}
+use Rattle.iloc_blocks.specs.Ordered.{IsFaultyTail}
+use Rattle.iloc_blocks.specs.Variants.{AreVariantsAbove}
+use Rattle.iloc_blocks.specs.declared.bad_block.BadBlock.{BadBlock}
+use Rattle.iloc_blocks.specs.declared.bad_block.BadBlock.TheVariants as bad
 use Rattle.iloc_fronts.specs.Left.{pieces_of, IsLeft}
 use Rattle.iloc_fronts.specs.declared.left.Left.{Left}
 use Rattle.iloc_rewriting.specs.Rewriting.{AreStored, BeginsBlock}
 use Rattle.iloc_rewriting.specs.declared.keywords.Stored.{Stored}
 use Rattle.iloc_rewriting.specs.declared.blocks.Failure.{Failure}
 use Rattle.iloc_rewriting.specs.declared.blocks.Failure.TheVariants as failure
-use Rattle.iloc_blocks.specs.Bodies.{IsBodyOf, IsNoBodyOf}
-use Rattle.iloc_blocks.specs.declared.bad_block.BadBlock.TheVariants as bad
 
 -- What follows a singleton.
 
@@ -221,3 +226,17 @@ pub record LeadsToBlock (ps : List Text) (len : ℕ) (l : Left) : Type 0 where
   pub left : IsLeft l
   pub one : l.n ≡ 1
   pub within : l.len ≤ len
+
+-- behind the text ascending variants are stored as they stand, and blocks as they are printed
+pub record IsLineStored (text : Text) (ps : List Text) (room : Text) (n : ℕ) : Type 0 where
+  pub variants : List Text
+  pub rest : List Text
+  pub cut : ps ≡ variants ++ rest
+  pub ascending : AreVariantsAbove 0 variants
+  pub starts : starts_block rest ≡ true
+  pub blocks : AreBlocksStored (text ++ dashes variants) rest room n
+
+-- the pieces after a plain identifier have the fault that is told
+abbrev pub IsBadLine : List Text → Failure → Type 0
+IsBadLine ps (failure.Bad b) = IsFaultyTail ps (fault_of b)
+IsBadLine ps failure.Other = ⊤

@@ -1,0 +1,241 @@
+-- Blocks in order, and one more among them.
+use Rattle.std.proofs.Common.{inl, inr, drop, take, ◌≡◌, ◌≢◌, ◌⊎◌, ℕ, suc, ◌+◌, ◌-◌, ◌<◌, ◌≤◌, ◌==◌, ◌||◌, Bool, true, false, cond, List, [], ◌∷◌, ◌++◌, flat_map, length, get_or, map, Some, None, refl, sym, ap, ◌∙◌, subst, arith, append_assoc, append-nil, length-append}
+use Rattle.std.specs.List.{AllByRecursion, list_any}
+use Rattle.std.specs.Char.{is_ascii_alphanumeric, to_ascii_lowercase}
+use Rattle.std.specs.Ordering.{nat_cmp, eq_by_cmp}
+use Rattle.std.proofs.lemmas.Bool.{true≢false}
+use Rattle.std.proofs.lemmas.Bool.Decides.{nat_tests}
+use Rattle.std.proofs.lemmas.Grind.{flat_map-append}
+use Rattle.std.proofs.lemmas.List.{length-take-le}
+use Rattle.iloc_spec_grammar.specs.Syntax.{Block, IsHyphenFree, Extension, unicode, transform, other, IsExtension, extension_pieces, is_one_byte, first_piece, pieces, join, dashes, front, blocks, block_pieces, singleton, IsOther, is_other_singleton, kept, languages}
+use Rattle.iloc_spec_grammar.specs.Meaning.{Fault, IsBlock, FirstBadBlock, here, later, BlockFault, no_singleton, duplicated, repeats_variant, breaks_rule, normal_unicode, normal_transform}
+use Rattle.iloc_spec_grammar.specs.Reading.{starts_block, rest_of}
+use Rattle.iloc_spec_grammar.specs.ByBlocks.{UnicodeMeans, TransformMeans, OtherMeans, BlocksMean}
+use Rattle.iloc_spec_grammar.proofs.PartTexts.{join-dashes, dashes-append}
+use Rattle.iloc_spec_grammar.proofs.ReadBack.{all_append}
+use Rattle.iloc_spec_grammar.proofs.Readings.{IsLong}
+use Rattle.iloc_spec_grammar.proofs.Singletons.{untied, self_tied}
+use Rattle.iloc_spec_grammar.proofs.ValuesLaws.{all_weaker}
+use Rattle.iloc_blocks.specs.Bad.{fault_of}
+use Rattle.iloc_blocks.specs.Blocks.{ArePrinted, left_of}
+use Rattle.iloc_blocks.specs.Bodies.{HaveBad, IsBodyOf, IsUnseen}
+use Rattle.iloc_blocks.specs.declared.bad_block.BadBlock.{BadBlock}
+use Rattle.iloc_blocks.specs.declared.bad_block.BadBlock.TheVariants as bad
+use Rattle.iloc_blocks.proofs.BadBlocks.{lower_letter}
+use Rattle.iloc_blocks.proofs.BlockLemmas.{front_past, blocks_past, first_block}
+use Rattle.iloc_blocks.proofs.FaultLemmas.{IsSound, sound_before, wrong_body, wrong_nothing, again}
+use Rattle.iloc_blocks.proofs.PrintedBlocks.{IsGood, good_body}
+use Rattle.iloc_fronts.specs.Left.{pieces_of, piece_of, IsLeft}
+use Rattle.iloc_fronts.specs.declared.left.Left.{Left}
+use Rattle.iloc_fronts.proofs.LeftLemmas.{block_left, byte_left, last_left, length-piece}
+use Rattle.iloc_rewriting.specs.Rewriting.{AreStored, BeginsBlock}
+use Rattle.iloc_rewriting.specs.Sorting.{AreAscending, AreBlocksPassed, AreBlocksSoFar, AreBlocksStored, AreLong, AreNoneAbove, HoldsBlocks, IsBadAfter, IsBlockAmong, IsBlockFor, IsBlockInOrder, IsBlockPlace, IsBlockStored, IsBodyStored, IsPlaceTaken, IsSingletonOf, IsWrongBody, KeepsBlock, KeepsBlocks, StandsFor, pieces_in, singletons_of}
+use Rattle.iloc_rewriting.specs.declared.blocks.Failure.{Failure}
+use Rattle.iloc_rewriting.specs.declared.blocks.Failure.TheVariants as failure
+use Rattle.iloc_rewriting.specs.declared.keywords.Stored.{Stored}
+use Rattle.iloc_rewriting.proofs.RewritingLemmas.{all_split, cut_left, dashes_pieces, length-joined, length-left, piece_more}
+use Rattle.iloc_rewriting.proofs.ReplacingLemmas.{block_put}
+use Rattle.iloc_rewriting.proofs.SortingLemmas.{starts_left}
+use Rattle.iloc_rewriting.proofs.StoredLemmas.{split_room, stored_none}
+
+-- ---- a block in order
+
+good_block : (b : Block) → IsBlockInOrder b → IsGood b.0 b.1
+good_block b h = good_body b.0 h.letter h.other b.1 h.ordered
+
+-- whatever the new pieces mean the old ones mean, so they keep to the rule
+keeps_rule : (c d : ℕ) (new body : List (List ℕ)) → to_ascii_lowercase d ≡ c → to_ascii_lowercase d ≢ 120 → KeepsBlock c new body → IsBlock languages (d, new) → IsBlock languages (d, body)
+keeps_rule c d new body is differs k (inl p) = absurd (differs p.0)
+keeps_rule c d new body is differs k (inr e) = inr (by e.0 e.1 e.2)
+  where
+    by : (e : Extension) → IsExtension languages (to_ascii_lowercase d) e → new ≡ extension_pieces e → (x : Extension) × IsExtension languages (to_ascii_lowercase d) x × (body ≡ extension_pieces x)
+    by (unicode u) h s =
+        let m = (k.unicode (sym is ∙ h.0)).means (normal_unicode u) (record { written = u; grammatical = h.1; spelled = s; means = refl }) in
+        (unicode m.written, (h.0, m.grammatical), m.spelled)
+    by (transform t) h s =
+        let m = (k.transform (sym is ∙ h.0)).means (normal_transform t) (record { written = t; grammatical = h.1; spelled = s; means = refl }) in
+        (transform m.written, (h.0, m.grammatical), m.spelled)
+    by (other ps) h s =
+        let m = (k.other (ap is_other_singleton (sym is) ∙ h.0)).means (kept new) (subst IsOther (sym s) h.1, refl) in
+        (other body, (h.0, m.0), refl)
+
+sound_block : (c : ℕ) (ps : List (List ℕ)) (s : Stored) (new : Block) (h : IsBlockFor c ps s.next new) → IsSound new.0 h.body
+sound_block c ps s new h = record {
+  letter = h.ordered.letter;
+  no_x = h.ordered.other;
+  long = h.long;
+  block = keeps_rule c new.0 new.1 h.body h.is h.ordered.other h.keeps (good_block new h.ordered).block;
+}
+
+-- ---- the pieces of blocks
+
+front_of_block : (ps : List (List ℕ)) → starts_block ps ≡ true → front ps ≡ []
+front_of_block [] h = refl
+front_of_block (p ∷ ps) h = ap (λ (b : Bool). cond b [] (p ∷ front ps)) h
+
+block_cut : (c : ℕ) (body rest : List (List ℕ)) → to_ascii_lowercase c ≢ 120 → AreLong body → starts_block rest ≡ true → blocks ((c ∷ []) ∷ (body ++ rest)) ≡ (c, body) ∷ blocks rest
+block_cut c body rest n long s =
+    first_block c (body ++ rest) n
+    ∙ (λ j. (c, (front_past body rest long ∙ ap (λ l. body ++ l) (front_of_block rest s) ∙ append-nil body) j) ∷ blocks_past body rest long j)
+
+pieces_append : (bs cs : List Block) → pieces_in (bs ++ cs) ≡ pieces_in bs ++ pieces_in cs
+pieces_append bs cs = flat_map-append block_pieces bs cs
+
+starts_in : (bs : List Block) (rest : List (List ℕ)) → starts_block rest ≡ true → starts_block (pieces_in bs ++ rest) ≡ true
+starts_in [] rest h = h
+starts_in (b ∷ bs) rest h = refl
+
+some_in : (before after : List Block) (b : Block) (rest : List (List ℕ)) → 0 < length (pieces_in (before ++ (b ∷ after)) ++ rest)
+some_in [] after b rest = omega arith
+some_in (a ∷ before) after b rest = omega arith
+
+blocks_in : (bs : List Block) (rest : List (List ℕ)) → AllByRecursion IsBlockInOrder bs → starts_block rest ≡ true → blocks (pieces_in bs ++ rest) ≡ bs ++ blocks rest
+blocks_in [] rest h s = refl
+blocks_in (b ∷ bs) rest h s =
+    ap (λ l. blocks ((b.0 ∷ []) ∷ l)) (append_assoc b.1 (pieces_in bs) rest)
+    ∙ block_cut b.0 b.1 (pieces_in bs ++ rest) h.0.other (good_block b h.0).long (starts_in bs rest s) ∙ ap (λ l. b ∷ l) (blocks_in bs rest h.1 s)
+
+letter_hyphen_free : (c : ℕ) → is_ascii_alphanumeric c ≡ true → IsHyphenFree (c ∷ [])
+letter_hyphen_free c h = grind (arith, nat_tests)
+
+free_in : (bs : List Block) → AllByRecursion IsBlockInOrder bs → AllByRecursion IsHyphenFree (pieces_in bs)
+free_in [] h = tt
+free_in (b ∷ bs) h = (letter_hyphen_free b.0 h.0.letter, all_append IsHyphenFree b.1 (pieces_in bs) h.0.free (free_in bs h.1))
+
+-- with ascending singletons they are printed as they stand, before what is printed after any
+printed_in : (last : ℕ) (bs : List Block) (rest : List (List ℕ)) → AllByRecursion IsBlockInOrder bs → AllByRecursion (λ b. last < singleton b) bs → AreAscending bs → ((m : ℕ) → ArePrinted m rest)
+    → ArePrinted last (pieces_in bs ++ rest)
+printed_in last [] rest h above ascending p = p last
+printed_in last (b ∷ bs) rest h above ascending p =
+    subst (λ l. ArePrinted last ((b.0 ∷ []) ∷ l)) (sym (append_assoc b.1 (pieces_in bs) rest))
+    ((good_block b h.0).printed last above.0 (pieces_in bs ++ rest) (printed_in (singleton b) bs rest h.1 ascending.0 ascending.1 p))
+
+letter_above : (c : ℕ) → is_ascii_alphanumeric c ≡ true → 0 < to_ascii_lowercase c
+letter_above c h = grind (arith, nat_tests)
+
+-- ---- their singletons
+
+all_put : {X : Type 0} (P : X → Type 0) (before after : List X) (x : X) → AllByRecursion P (before ++ after) → P x → AllByRecursion P (before ++ (x ∷ after))
+all_put P [] after x h k = (k, h)
+all_put P (y ∷ before) after x h k = (h.0, all_put P before after x h.1 k)
+
+ascend_put : (before after : List Block) (new : Block) → AreAscending (before ++ after) → AllByRecursion (λ b. singleton b < singleton new) before → AllByRecursion (λ b. singleton new < singleton b) after
+    → AreAscending (before ++ (new ∷ after))
+ascend_put [] after new h l g = (g, h)
+ascend_put (b ∷ before) after new h l g = (all_put (λ d. singleton b < singleton d) before after new h.0 l.0, ascend_put before after new h.1 l.1 g)
+
+ascend_later : (before after : List Block) (next : Block) → AreAscending (before ++ (next ∷ after)) → AllByRecursion (λ b. singleton next < singleton b) after
+ascend_later [] after next h = h.0
+ascend_later (b ∷ before) after next h = ascend_later before after next h.1
+
+unseen_differ : (c : ℕ) (bs : List Block) → AllByRecursion (λ b. singleton b ≢ c) bs → IsUnseen c (singletons_of bs)
+unseen_differ c [] h = refl
+unseen_differ c (b ∷ bs) h = (λ j. untied c (singleton b) h.0 j || list_any (eq_by_cmp nat_cmp c) (singletons_of bs)) ∙ unseen_differ c bs h.1
+
+pub unseen_between : (c : ℕ) (before after : List Block) → AllByRecursion (λ b. singleton b < c) before → AllByRecursion (λ b. c < singleton b) after → IsUnseen c (singletons_of (before ++ after))
+unseen_between c before after l g =
+    unseen_differ c (before ++ after) (all_append (λ b. singleton b ≢ c) before after
+    (all_weaker (λ b. singleton b < c) (λ b. singleton b ≢ c) (λ b h e. omega arith) before l)
+    (all_weaker (λ b. c < singleton b) (λ b. singleton b ≢ c) (λ b h e. omega arith) after g))
+
+-- both have the same bytes
+abbrev HaveSame : List ℕ → List ℕ → Type 0
+HaveSame seen more = (s : ℕ) → list_any (eq_by_cmp nat_cmp s) seen ≡ list_any (eq_by_cmp nat_cmp s) more
+
+same_put : (before after : List Block) (new : Block) → HaveSame (singletons_of (before ++ (new ∷ after))) (singleton new ∷ singletons_of (before ++ after))
+same_put [] after new s = refl
+same_put (b ∷ before) after new s =
+    ap (λ (t : Bool). eq_by_cmp nat_cmp s (singleton b) || t) (same_put before after new s)
+    ∙ turned (eq_by_cmp nat_cmp s (singleton b)) (eq_by_cmp nat_cmp s (singleton new)) (list_any (eq_by_cmp nat_cmp s) (singletons_of (before ++ after)))
+  where
+    turned : (a b c : Bool) → (a || (b || c)) ≡ (b || (a || c))
+    turned true true c = refl
+    turned true false c = refl
+    turned false b c = refl
+
+-- the fault of a block is the same after the same singletons
+same_fault : {seen more : List ℕ} {b : Block} {f : Fault} → HaveSame seen more → BlockFault languages seen b f → BlockFault languages more b f
+same_fault e (no_singleton h) = no_singleton h
+same_fault {b = b} e (duplicated l h) = duplicated l (sym (e (singleton b)) ∙ h)
+same_fault {b = b} e (repeats_variant l n t r) = repeats_variant l (sym (e (singleton b)) ∙ n) t r
+same_fault {b = b} e (breaks_rule l n r k) = breaks_rule l (sym (e (singleton b)) ∙ n) r k
+
+same_first : {seen more : List ℕ} {bs : List Block} {f : Fault} → HaveSame seen more → FirstBadBlock languages seen bs f → FirstBadBlock languages more bs f
+same_first e (here h) = here (same_fault e h)
+same_first e (later {b = b} l n k h) = later l (sym (e (singleton b)) ∙ n) k (same_first (λ s. ap (λ (t : Bool). eq_by_cmp nat_cmp s (singleton b) || t) (e s)) h)
+
+same_bad : (seen more : List ℕ) (ps : List (List ℕ)) (b : BadBlock) → HaveSame seen more → HaveBad seen ps b → HaveBad more ps b
+same_bad seen more ps b e h = record { none_before = h.none_before; first = same_first e h.first }
+
+-- ---- a walk over the pieces of blocks
+
+-- the first piece is the singleton of the next of them
+record IsNextBlock (c d : ℕ) (bs : List Block) (ps : List (List ℕ)) : Type 0 where
+  pub before : List Block
+  pub next : Block
+  pub after : List Block
+  pub cut : bs ≡ before ++ (next ∷ after)
+  pub lesser : AllByRecursion (λ b. singleton b < c) before
+  pub is : next.0 ≡ d
+  pub pieces_are : ps ≡ next.1 ++ pieces_in after
+
+pub none_passed : (c : ℕ) (bs : List Block) (ps : List (List ℕ)) → ps ≡ pieces_in bs → AreBlocksPassed c bs ps
+none_passed c bs ps e = record { before = []; after = bs; cut = refl; lesser = tt; body = []; long = tt; pieces_are = e }
+
+-- a longer piece is one of the block before
+pub piece_passed : (c : ℕ) (bs : List Block) (p : List ℕ) (ps : List (List ℕ)) → IsLong p → AreBlocksPassed c bs (p ∷ ps) → AreBlocksPassed c bs ps
+piece_passed c bs p ps long h = by h.body h.after h.cut h.long h.pieces_are
+  where
+    by : (body : List (List ℕ)) (after : List Block) → bs ≡ h.before ++ after → AreLong body → p ∷ ps ≡ body ++ pieces_in after → AreBlocksPassed c bs ps
+    by [] [] cut l e = absurd (cc)
+    by [] (b ∷ after) cut l e = absurd (true≢false (ap is_one_byte (sym (ap first_piece e)) ∙ long))
+    by (x ∷ body) after cut l e = record { before = h.before; after = after; cut = cut; lesser = h.lesser; body = body; long = l.1; pieces_are = ap rest_of e }
+
+next_block : (c d : ℕ) (bs : List Block) (ps : List (List ℕ)) → AreBlocksPassed c bs ((d ∷ []) ∷ ps) → IsNextBlock c d bs ps
+next_block c d bs ps h = by h.body h.after h.cut h.long h.pieces_are
+  where
+    by : (body : List (List ℕ)) (after : List Block) → bs ≡ h.before ++ after → AreLong body → (d ∷ []) ∷ ps ≡ body ++ pieces_in after → IsNextBlock c d bs ps
+    by [] [] cut l e = absurd (cc)
+    by [] (b ∷ after) cut l e = record { before = h.before; next = b; after = after; cut = cut; lesser = h.lesser; is = sym (ap (λ (qs : List (List ℕ)). get_or (first_piece qs) 0 0) e); pieces_are = ap rest_of e }
+    by (x ∷ body) after cut l e = absurd (true≢false (ap is_one_byte (ap first_piece e) ∙ l.0))
+
+module _ (c : ℕ) (bs : List Block) (l : Left) (left : IsLeft l) (one : l.n ≡ 1) (h : AreBlocksPassed c bs (pieces_of l)) where
+  here_block : (qs : List (List ℕ)) → (l.n < 16 → pieces_of l ≡ piece_of l ∷ qs) → IsNextBlock c (get_or l.window.now 0 0) bs qs
+  here_block qs parts = next_block c (get_or l.window.now 0 0) bs qs (subst (AreBlocksPassed c bs) (block_left l left one qs parts) h)
+
+  pub place_taken : to_ascii_lowercase (get_or l.window.now 0 0) ≡ c → list_any (eq_by_cmp nat_cmp c) (singletons_of bs) ≡ true
+  place_taken same =
+      let n = here_block (rest_of (pieces_of l)) (cut_left l left) in
+      ap (λ cs. list_any (eq_by_cmp nat_cmp c) (singletons_of cs)) n.cut ∙ same_put n.before n.after n.next c
+      ∙ ap (λ (t : Bool). t || list_any (eq_by_cmp nat_cmp c) (singletons_of (n.before ++ n.after))) (ap (eq_by_cmp nat_cmp c) (ap to_ascii_lowercase n.is ∙ same) ∙ self_tied c)
+
+  pub place_found : (len : ℕ) → l.len ≤ len → c < to_ascii_lowercase (get_or l.window.now 0 0) → IsBlockPlace c bs len l.len
+  place_found len within less =
+      let n = here_block (rest_of (pieces_of l)) (cut_left l left) in
+      record {
+        before = n.before;
+        next = n.next;
+        after = n.after;
+        cut = n.cut;
+        lesser = n.lesser;
+        greater = subst (λ (d : ℕ). c < to_ascii_lowercase d) (sym n.is) less;
+        long = sym (length-joined l left) ∙ ap (λ ps. length (join ps)) (block_left l left one (rest_of (pieces_of l)) (cut_left l left) ∙ (λ j. (sym n.is j ∷ []) ∷ n.pieces_are j));
+        within = within;
+      }
+
+  pub block_passed : AllByRecursion IsBlockInOrder bs → to_ascii_lowercase (get_or l.window.now 0 0) < c → (qs : List (List ℕ)) → (l.n < 16 → pieces_of l ≡ piece_of l ∷ qs) → AreBlocksPassed c bs qs
+  block_passed each less qs parts =
+      let n = here_block qs parts in
+      record {
+        before = n.before ++ n.next ∷ [];
+        after = n.after;
+        cut = n.cut ∙ sym (append_assoc n.before (n.next ∷ []) n.after);
+        lesser = all_append (λ b. singleton b < c) n.before (n.next ∷ []) n.lesser (subst (λ (d : ℕ). to_ascii_lowercase d < c) (sym n.is) less, tt);
+        body = n.next.1;
+        long = (good_block n.next (all_split IsBlockInOrder n.before (n.next ∷ n.after) (subst (AllByRecursion IsBlockInOrder) n.cut each)).1.0).long;
+        pieces_are = n.pieces_are;
+      }
+
+-- a piece that begins none
+pub long_piece : (l : Left) → IsLeft l → l.n ≢ 1 → IsLong (piece_of l)
+long_piece l h n = let long : length (piece_of l) ≡ l.n = length-piece l h in grind (arith, nat_tests)
