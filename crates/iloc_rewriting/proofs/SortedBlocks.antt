@@ -1,13 +1,14 @@
 -- Blocks in order, and one more among them.
-use Rattle.std.proofs.Common.{inl, inr, drop, take, ◌≡◌, ◌≢◌, ◌⊎◌, ℕ, suc, ◌+◌, ◌-◌, ◌<◌, ◌≤◌, ◌==◌, ◌||◌, Bool, true, false, cond, List, [], ◌∷◌, ◌++◌, flat_map, length, get_or, map, Some, None, refl, sym, ap, ◌∙◌, subst, arith, append_assoc, append-nil, length-append}
-use Rattle.std.specs.List.{AllByRecursion, list_any}
+use Rattle.std.proofs.Common.{inl, inr, drop, take, ◌≡◌, ◌≢◌, ◌⊎◌, ℕ, suc, ◌+◌, ◌-◌, ◌<◌, ◌≤◌, ◌==◌, ◌||◌, Bool, true, false, cond, List, [], ◌∷◌, ◌++◌, flat_map, length, get_or, map, Option, Some, None, IfSome, Result, Ok, Err, IfOk, IfErr, refl, sym, ap, ◌∙◌, subst, arith, append_assoc, append-nil, length-append}
+use Rattle.std.specs.List.{AllByRecursion, list_all, list_any}
 use Rattle.std.specs.Char.{is_ascii_alphanumeric, to_ascii_lowercase}
+use Rattle.std.specs.Option.{ok_or}
 use Rattle.std.specs.Ordering.{nat_cmp, eq_by_cmp}
 use Rattle.std.proofs.lemmas.Bool.{true≢false}
 use Rattle.std.proofs.lemmas.Bool.Decides.{nat_tests}
 use Rattle.std.proofs.lemmas.Grind.{flat_map-append}
 use Rattle.std.proofs.lemmas.List.{length-take-le}
-use Rattle.iloc_spec_grammar.specs.Syntax.{Block, IsHyphenFree, Extension, unicode, transform, other, IsExtension, extension_pieces, is_one_byte, first_piece, pieces, join, dashes, front, blocks, block_pieces, singleton, IsOther, is_other_singleton, kept, languages}
+use Rattle.iloc_spec_grammar.specs.Syntax.{Block, PrivateSubtag, is_word, IsHyphenFree, Extension, unicode, transform, other, IsExtension, extension_pieces, is_one_byte, first_piece, pieces, join, dashes, front, blocks, block_pieces, singleton, IsOther, is_other_singleton, kept, languages}
 use Rattle.iloc_spec_grammar.specs.Meaning.{Fault, IsBlock, FirstBadBlock, here, later, BlockFault, no_singleton, duplicated, repeats_variant, breaks_rule, normal_unicode, normal_transform}
 use Rattle.iloc_spec_grammar.specs.Reading.{starts_block, rest_of}
 use Rattle.iloc_spec_grammar.specs.ByBlocks.{UnicodeMeans, TransformMeans, OtherMeans, BlocksMean}
@@ -17,19 +18,19 @@ use Rattle.iloc_spec_grammar.proofs.Readings.{IsLong}
 use Rattle.iloc_spec_grammar.proofs.Singletons.{untied, self_tied}
 use Rattle.iloc_spec_grammar.proofs.ValuesLaws.{all_weaker}
 use Rattle.iloc_blocks.specs.Bad.{fault_of}
-use Rattle.iloc_blocks.specs.Blocks.{ArePrinted, left_of}
-use Rattle.iloc_blocks.specs.Bodies.{HaveBad, IsBodyOf, IsUnseen}
+use Rattle.iloc_blocks.specs.Blocks.{ArePrinted, ArePrivate, left_of}
+use Rattle.iloc_blocks.specs.Bodies.{HaveBad, IsBodyOf, IsNoBodyOf, IsUnseen}
 use Rattle.iloc_blocks.specs.declared.bad_block.BadBlock.{BadBlock}
 use Rattle.iloc_blocks.specs.declared.bad_block.BadBlock.TheVariants as bad
-use Rattle.iloc_blocks.proofs.BadBlocks.{lower_letter}
+use Rattle.iloc_blocks.proofs.BadBlocks.{lower_letter, private_refuted}
 use Rattle.iloc_blocks.proofs.BlockLemmas.{front_past, blocks_past, first_block}
-use Rattle.iloc_blocks.proofs.FaultLemmas.{IsSound, sound_before, wrong_body, wrong_nothing, again}
-use Rattle.iloc_blocks.proofs.PrintedBlocks.{IsGood, good_body}
+use Rattle.iloc_blocks.proofs.FaultLemmas.{IsSound, sound_before, wrong_body, wrong_nothing, wrong_private, again}
+use Rattle.iloc_blocks.proofs.PrintedBlocks.{IsGood, good_body, printed_private}
 use Rattle.iloc_fronts.specs.Left.{pieces_of, piece_of, IsLeft}
 use Rattle.iloc_fronts.specs.declared.left.Left.{Left}
 use Rattle.iloc_fronts.proofs.LeftLemmas.{block_left, byte_left, last_left, length-piece}
 use Rattle.iloc_rewriting.specs.Rewriting.{AreStored, BeginsBlock}
-use Rattle.iloc_rewriting.specs.Sorting.{AreAscending, AreBlocksPassed, AreBlocksSoFar, AreBlocksStored, AreLong, AreNoneAbove, HoldsBlocks, IsBadAfter, IsBlockAmong, IsBlockFor, IsBlockInOrder, IsBlockPlace, IsBlockStored, IsBodyStored, IsPlaceTaken, IsSingletonOf, IsWrongBody, KeepsBlock, KeepsBlocks, StandsFor, pieces_in, singletons_of}
+use Rattle.iloc_rewriting.specs.Sorting.{AreAscending, AreBlocksPassed, AreBlocksSoFar, AreBlocksStored, AreLong, AreNoneAbove, HoldsBlocks, IsBadAfter, IsBlockAmong, IsBlockFor, IsBlockInOrder, IsBlockPlace, IsBlockStored, IsBodyStored, IsPlaceTaken, IsPrivateStored, IsSingletonOf, IsWrongBody, KeepsBlock, KeepsBlocks, StandsFor, pieces_in, singletons_of}
 use Rattle.iloc_rewriting.specs.declared.blocks.Failure.{Failure}
 use Rattle.iloc_rewriting.specs.declared.blocks.Failure.TheVariants as failure
 use Rattle.iloc_rewriting.specs.declared.keywords.Stored.{Stored}
@@ -37,6 +38,23 @@ use Rattle.iloc_rewriting.proofs.RewritingLemmas.{all_split, cut_left, dashes_pi
 use Rattle.iloc_rewriting.proofs.ReplacingLemmas.{block_put}
 use Rattle.iloc_rewriting.proofs.SortingLemmas.{starts_left}
 use Rattle.iloc_rewriting.proofs.StoredLemmas.{split_room, stored_none}
+
+-- ---- results
+
+pub ok_then : {X E : Type 0} (r : Result X E) {P Q : X → Type 0} → IfOk r P → ((x : X) → P x → Q x) → IfOk r Q
+ok_then (Ok x) h f = f x h
+ok_then (Err e) h f = tt
+
+pub err_then : {X E : Type 0} (r : Result X E) {P Q : E → Type 0} → IfErr r P → ((e : E) → P e → Q e) → IfErr r Q
+err_then (Ok x) h f = tt
+err_then (Err e) h f = f e h
+
+pub ok_or_then : {X E : Type 0} (o : Option X) (e : E) (r : Result X E) {P Q : X → Type 0} → r ≡ ok_or o e → IfSome o P → ((x : X) → P x → Q x) → IfOk r Q
+ok_or_then {X = X} {E = E} o e r {P = P} {Q = Q} is h f = subst (λ q. IfOk q Q) (sym is) (by o h)
+  where
+    by : (o : Option X) → IfSome o P → IfOk (ok_or o e) Q
+    by None h = tt
+    by (Some x) h = f x h
 
 -- ---- a block in order
 
@@ -98,7 +116,7 @@ blocks_in (b ∷ bs) rest h s =
 letter_hyphen_free : (c : ℕ) → is_ascii_alphanumeric c ≡ true → IsHyphenFree (c ∷ [])
 letter_hyphen_free c h = grind (arith, nat_tests)
 
-free_in : (bs : List Block) → AllByRecursion IsBlockInOrder bs → AllByRecursion IsHyphenFree (pieces_in bs)
+pub free_in : (bs : List Block) → AllByRecursion IsBlockInOrder bs → AllByRecursion IsHyphenFree (pieces_in bs)
 free_in [] h = tt
 free_in (b ∷ bs) h = (letter_hyphen_free b.0 h.0.letter, all_append IsHyphenFree b.1 (pieces_in bs) h.0.free (free_in bs h.1))
 
@@ -137,6 +155,9 @@ unseen_between c before after l g =
     unseen_differ c (before ++ after) (all_append (λ b. singleton b ≢ c) before after
     (all_weaker (λ b. singleton b < c) (λ b. singleton b ≢ c) (λ b h e. omega arith) before l)
     (all_weaker (λ b. c < singleton b) (λ b. singleton b ≢ c) (λ b h e. omega arith) after g))
+
+pub unseen_above : (last c : ℕ) (bs : List Block) → last < c → AreNoneAbove last bs → IsUnseen c (singletons_of bs)
+unseen_above last c bs less h = unseen_differ c bs (all_weaker (λ b. singleton b ≤ last) (λ b. singleton b ≢ c) (λ b le e. omega arith) bs h)
 
 -- both have the same bytes
 abbrev HaveSame : List ℕ → List ℕ → Type 0
@@ -209,8 +230,8 @@ module _ (c : ℕ) (bs : List Block) (l : Left) (left : IsLeft l) (one : l.n ≡
       ap (λ cs. list_any (eq_by_cmp nat_cmp c) (singletons_of cs)) n.cut ∙ same_put n.before n.after n.next c
       ∙ ap (λ (t : Bool). t || list_any (eq_by_cmp nat_cmp c) (singletons_of (n.before ++ n.after))) (ap (eq_by_cmp nat_cmp c) (ap to_ascii_lowercase n.is ∙ same) ∙ self_tied c)
 
-  pub place_found : (len : ℕ) → l.len ≤ len → c < to_ascii_lowercase (get_or l.window.now 0 0) → IsBlockPlace c bs len l.len
-  place_found len within less =
+  pub place_found : c < to_ascii_lowercase (get_or l.window.now 0 0) → IsBlockPlace c bs l.len
+  place_found less =
       let n = here_block (rest_of (pieces_of l)) (cut_left l left) in
       record {
         before = n.before;
@@ -220,7 +241,6 @@ module _ (c : ℕ) (bs : List Block) (l : Left) (left : IsLeft l) (one : l.n ≡
         lesser = n.lesser;
         greater = subst (λ (d : ℕ). c < to_ascii_lowercase d) (sym n.is) less;
         long = sym (length-joined l left) ∙ ap (λ ps. length (join ps)) (block_left l left one (rest_of (pieces_of l)) (cut_left l left) ∙ (λ j. (sym n.is j ∷ []) ∷ n.pieces_are j));
-        within = within;
       }
 
   pub block_passed : AllByRecursion IsBlockInOrder bs → to_ascii_lowercase (get_or l.window.now 0 0) < c → (qs : List (List ℕ)) → (l.n < 16 → pieces_of l ≡ piece_of l ∷ qs) → AreBlocksPassed c bs qs
@@ -236,6 +256,143 @@ module _ (c : ℕ) (bs : List Block) (l : Left) (left : IsLeft l) (one : l.n ≡
         pieces_are = n.pieces_are;
       }
 
--- a piece that begins none
-pub long_piece : (l : Left) → IsLeft l → l.n ≢ 1 → IsLong (piece_of l)
-long_piece l h n = let long : length (piece_of l) ≡ l.n = length-piece l h in grind (arith, nat_tests)
+-- ---- a block behind the text
+
+module _ (l : Left) (c : ℕ) (h : IsLeft l) (is : IsSingletonOf l c) where
+  abbrev byte : ℕ
+  byte = get_or l.window.now 0 0
+
+  letter_is : is_ascii_alphanumeric byte ≡ true
+  letter_is = sym (lower_letter byte) ∙ ap is_ascii_alphanumeric (sym is.is) ∙ is.letter
+
+  no_x : to_ascii_lowercase byte ≢ 120
+  no_x e = is.other (is.is ∙ e)
+
+  pub block_behind : (text room : List ℕ) (e : ℕ) (qs : List (List ℕ)) → (l.n < 16 → pieces_of l ≡ piece_of l ∷ qs) → AreStored room (text ++ 45 ∷ piece_of l) e
+      → (new : List ℕ) (s : Stored) → IsBodyStored (StandsFor c) (take e room) qs new s → IsBlockStored c text (pieces_of l) new s
+  block_behind text room e qs parts a new s b = record {
+    new = (byte, b.new);
+    block = record {
+      body = b.body;
+      cut = block_left l h is.one qs parts ∙ ap (λ ps. (byte ∷ []) ∷ ps) b.cut;
+      long = b.body_long;
+      is = sym is.is;
+      ordered = record { letter = letter_is; other = no_x; free = b.new_free; ordered = subst (λ (d : ℕ). IsBodyOf d b.new) is.is b.means.ordered };
+      keeps = b.means.keeps;
+      left = b.left;
+    };
+    stored = subst (λ (t : List ℕ). AreStored new t s.end)
+        (ap (λ t. t ++ dashes b.new) (a.begins ∙ ap (λ p. text ++ 45 ∷ p) (byte_left l h is.one)) ∙ piece_more text (byte ∷ []) b.new) b.stored;
+  }
+
+  -- nothing follows the singleton
+  pub bad_end : (seen : List ℕ) → IsUnseen c seen → l.n ≡ l.len → HaveBad seen (pieces_of l) bad.Misfit
+  bad_end seen new end =
+      subst (λ ps. HaveBad seen ps bad.Misfit) (sym (block_left l h is.one [] (λ few. last_left l h few end)))
+      (wrong_nothing byte letter_is seen (subst (λ (d : ℕ). IsUnseen d seen) is.is new))
+
+  pub bad_body : (seen : List ℕ) → IsUnseen c seen → (qs : List (List ℕ)) → (l.n < 16 → pieces_of l ≡ piece_of l ∷ qs) → (f : Failure) → IsWrongBody c qs f → IsBadAfter seen (pieces_of l) f
+  bad_body seen new qs parts (failure.Bad bad.Misfit) n =
+      subst (λ ps. HaveBad seen ps bad.Misfit) (sym (block_left l h is.one qs parts))
+      (wrong_body byte qs letter_is no_x (subst (λ (d : ℕ). IsNoBodyOf d qs) is.is n) seen (subst (λ (d : ℕ). IsUnseen d seen) is.is new))
+  bad_body seen new qs parts (failure.Bad bad.Duplicated) n = absurd (n tt)
+  bad_body seen new qs parts failure.Other n = tt
+
+  -- another block has the singleton
+  pub bad_again : (bs : List Block) (f : Failure) → IsPlaceTaken c bs f → IsBadAfter (singletons_of bs) (pieces_of l) f
+  bad_again bs (failure.Bad bad.Misfit) n = absurd (n tt)
+  bad_again bs (failure.Bad bad.Duplicated) n =
+      subst (λ ps. HaveBad (singletons_of bs) ps bad.Duplicated) (sym (block_left l h is.one (rest_of (pieces_of l)) (cut_left l h)))
+      (again (singletons_of bs) byte (rest_of (pieces_of l)) letter_is (ap (λ (d : ℕ). list_any (eq_by_cmp nat_cmp d) (singletons_of bs)) (sym is.is) ∙ n))
+  bad_again bs failure.Other n = tt
+
+-- ---- a block among others
+
+module _ (room text : List ℕ) (k c : ℕ) (before after : List Block) (lesser : AllByRecursion (λ b. singleton b < c) before) (greater : AllByRecursion (λ b. c < singleton b) after)
+    (prefix : take k room ≡ text ++ dashes (pieces_in before)) where
+  block_among : (ps : List (List ℕ)) (room' : List ℕ) (s : Stored) → IsBlockStored c (take k room) ps room' s → (new : List ℕ) (e : ℕ) → AreStored new (take s.end room' ++ dashes (pieces_in after)) e
+      → IsBlockAmong c text (before ++ after) ps new (record { end = e; next = s.next })
+  block_among ps room' s b new e a = record {
+    before = before;
+    after = after;
+    cut = refl;
+    lesser = lesser;
+    greater = greater;
+    new = b.new;
+    block = b.block;
+    stored = subst (λ (t : List ℕ). AreStored new t e) text_is a;
+  }
+    where
+      text_is : take s.end room' ++ dashes (pieces_in after) ≡ text ++ dashes (pieces_in (before ++ (b.new ∷ after)))
+      text_is =
+          ap (λ t. t ++ dashes (pieces_in after)) (b.stored.begins ∙ ap (λ t. t ++ dashes (block_pieces b.new)) prefix)
+          ∙ ap (λ t. t ++ dashes (pieces_in after)) (append_assoc text (dashes (pieces_in before)) (dashes (block_pieces b.new)))
+          ∙ append_assoc text (dashes (pieces_in before) ++ dashes (block_pieces b.new)) (dashes (pieces_in after))
+          ∙ ap (λ t. text ++ t)
+          (append_assoc (dashes (pieces_in before)) (dashes (block_pieces b.new)) (dashes (pieces_in after))
+          ∙ ap (λ t. dashes (pieces_in before) ++ t) (sym (dashes-append (block_pieces b.new) (pieces_in after)))
+          ∙ sym (dashes-append (pieces_in before) (pieces_in (b.new ∷ after))) ∙ ap dashes (sym (pieces_append before (b.new ∷ after))))
+
+-- the room holds no greater singleton
+pub block_appended : (room text : List ℕ) (start end c : ℕ) (bs : List Block) (ps : List (List ℕ)) → HoldsBlocks room start end text bs → AllByRecursion (λ b. singleton b < c) bs
+    → (new : List ℕ) (s : Stored) → IsBlockStored c (take end room) ps new s → IsBlockAmong c text bs ps new s
+block_appended room text start end c bs ps a lesser new s b =
+    subst (λ l. IsBlockAmong c text l ps new s) (append-nil bs)
+    (block_among room text end c bs [] lesser tt a.stored ps new s b new s.end (stored_none new s.end b.stored.more))
+
+-- the bytes from the place on are laid aside
+module _ (room text : List ℕ) (start end n c : ℕ) (bs : List Block) (inside : end ≤ length room) (a : HoldsBlocks room start end text bs) (p : IsBlockPlace c bs n) where
+  pub all_greater : AllByRecursion (λ b. c < singleton b) (p.next ∷ p.after)
+  all_greater = (p.greater, all_weaker (λ b. singleton p.next < singleton b) (λ b. c < singleton b) (λ b less. omega (arith, p.greater)) p.after (ascend_later p.before p.after p.next (subst AreAscending p.cut a.ascending)))
+
+  pub unseen_at : IsUnseen c (singletons_of bs)
+  unseen_at = subst (λ cs. IsUnseen c (singletons_of cs)) (sym p.cut) (unseen_between c p.before (p.next ∷ p.after) p.lesser all_greater)
+
+  abbrev last : List (List ℕ)
+  last = pieces_in (p.next ∷ p.after)
+
+  last_long : length (dashes last) ≡ n + 1
+  last_long = let l : length (dashes last) ≡ suc (length (join last)) = ap suc (ap length (sym (join-dashes (p.next.0 ∷ []) (p.next.1 ++ pieces_in p.after)))) in omega (arith, l, p.long)
+
+  parts : take end room ≡ (text ++ dashes (pieces_in p.before)) ++ dashes last
+  parts =
+      a.stored ∙ ap (λ l. text ++ dashes (pieces_in l)) p.cut ∙ ap (λ l. text ++ dashes l) (pieces_append p.before (p.next ∷ p.after))
+      ∙ ap (λ t. text ++ t) (dashes-append (pieces_in p.before) last) ∙ sym (append_assoc text (dashes (pieces_in p.before)) (dashes last))
+
+  halves : (take (end - n - 1) room ≡ text ++ dashes (pieces_in p.before)) × (take (n + 1) (drop (end - n - 1) room) ≡ dashes last)
+  halves =
+      let same : end - (n + 1) ≡ end - n - 1 = omega arith in
+      subst (λ (m : ℕ). (take m room ≡ text ++ dashes (pieces_in p.before)) × (take (n + 1) (drop m room) ≡ dashes last)) same
+      (split_room room (text ++ dashes (pieces_in p.before)) (dashes last) end (n + 1) inside parts last_long)
+
+  pub block_inserted : (ps : List (List ℕ)) (room' : List ℕ) (s : Stored) → IsBlockStored c (take (end - n - 1) room) ps room' s
+      → (new : List ℕ) (e : ℕ) → AreStored new (take s.end room' ++ take (n + 1) (drop (end - n - 1) room)) e → IsBlockAmong c text bs ps new (record { end = e; next = s.next })
+  block_inserted ps room' s b new e stored =
+      subst (λ l. IsBlockAmong c text l ps new (record { end = e; next = s.next })) (sym p.cut)
+      (block_among room text (end - n - 1) c p.before (p.next ∷ p.after) p.lesser all_greater halves.0 ps room' s b new e (subst (λ (t : List ℕ). AreStored new (take s.end room' ++ t) e) halves.1 stored))
+
+-- ---- the private part
+
+module _ (l : Left) (h : IsLeft l) (one : l.n ≡ 1) (is_x : to_ascii_lowercase (get_or l.window.now 0 0) ≡ 120) where
+  abbrev byte_x : ℕ
+  byte_x = get_or l.window.now 0 0
+
+  letter_x : (c : ℕ) → to_ascii_lowercase c ≡ 120 → is_ascii_alphanumeric c ≡ true
+  letter_x c e = grind (arith, nat_tests)
+
+  pub bad_private_end : (seen : List ℕ) → IsUnseen 120 seen → l.n ≡ l.len → HaveBad seen (pieces_of l) bad.Misfit
+  bad_private_end seen new end =
+      subst (λ ps. HaveBad seen ps bad.Misfit) (sym (block_left l h one [] (λ few. last_left l h few end)))
+      (wrong_nothing byte_x (letter_x byte_x is_x) seen (subst (λ (d : ℕ). IsUnseen d seen) (sym is_x) new))
+
+  pub bad_private : (seen : List ℕ) → IsUnseen 120 seen → (qs : List (List ℕ)) → (l.n < 16 → pieces_of l ≡ piece_of l ∷ qs) → list_all (is_word PrivateSubtag) qs ≡ false → HaveBad seen (pieces_of l) bad.Misfit
+  bad_private seen new qs parts n =
+      subst (λ ps. HaveBad seen ps bad.Misfit) (sym (block_left l h one qs parts))
+      (wrong_private byte_x qs is_x (private_refuted byte_x qs is_x n) seen (subst (λ (d : ℕ). IsUnseen d seen) (sym is_x) new))
+
+  pub private_stored : (next : Left) → (l.n < 16 → pieces_of l ≡ piece_of l ∷ pieces_of next) → ArePrivate (pieces_of next) → (text new : List ℕ) (n : ℕ) → AreStored new (text ++ 45 ∷ take l.len l.window.now) n
+      → IsPrivateStored text (pieces_of l) new n
+  private_stored next parts words text new n a = record {
+    printed = λ last. subst (ArePrinted last) (sym (block_left l h one (pieces_of next) parts)) (printed_private last byte_x (take next.len next.window.now) is_x words);
+    stored = subst (λ (t : List ℕ). AreStored new (text ++ t) n) (sym (dashes_pieces (take l.len l.window.now))) a;
+  }

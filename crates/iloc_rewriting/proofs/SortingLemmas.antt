@@ -1,5 +1,5 @@
 -- Pieces of blocks, and what is stored of them.
-use Rattle.std.proofs.Common.{take, ◌≡◌, ℕ, ◌+◌, ◌-◌, ◌<◌, ◌≤◌, ◌==◌, Bool, true, false, cond, List, [], ◌∷◌, ◌++◌, length, map, filter, Option, Some, None, refl, sym, ap, ◌∙◌, subst, arith, append_assoc}
+use Rattle.std.proofs.Common.{take, ◌≡◌, ◌≢◌, ℕ, ◌+◌, ◌-◌, ◌<◌, ◌≤◌, ◌==◌, Bool, true, false, cond, List, [], ◌∷◌, ◌++◌, length, map, filter, Option, Some, None, refl, sym, ap, ◌∙◌, subst, arith, append_assoc}
 use Rattle.std.specs.List.{AllByRecursion}
 use Rattle.std.proofs.lemmas.Bool.Decides.{nat_tests}
 use Rattle.iloc_spec_grammar.specs.Syntax.{pieces, dashes, blocks, Subtag, is_word, IsWord, IsHyphenFree, kept, lower}
@@ -24,6 +24,10 @@ use Rattle.iloc_rewriting.proofs.StoredLemmas.{stored_none, stored_one}
 pub starts_left : (o : Option Left) → BeginsBlock o → starts_block (left_of o) ≡ true
 starts_left None h = refl
 starts_left (Some l) h = ap starts_block (cut_left l h.0 (omega (arith, h.1))) ∙ ap (λ (n : ℕ). n == 1) (length-piece l h.0 ∙ h.1)
+
+-- a piece that begins none
+pub long_piece : (l : Left) → IsLeft l → l.n ≢ 1 → IsLong (piece_of l)
+long_piece l h n = let long : length (piece_of l) ≡ l.n = length-piece l h in grind (arith, nat_tests)
 
 -- ---- pieces that come first
 

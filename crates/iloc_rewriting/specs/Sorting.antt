@@ -157,7 +157,7 @@ pub record IsBlockAmong (c : ℕ) (text : Text) (bs : List Block) (ps : List Tex
   pub stored : AreStored room (text ++ dashes (pieces_in (before ++ (new ∷ after)))) s.end
 
 -- the first block with a greater singleton begins where so many bytes are left of the pieces
-pub record IsBlockPlace (c : ℕ) (bs : List Block) (len n : ℕ) : Type 0 where
+pub record IsBlockPlace (c : ℕ) (bs : List Block) (n : ℕ) : Type 0 where
   pub before : List Block
   pub next : Block
   pub after : List Block
@@ -165,7 +165,6 @@ pub record IsBlockPlace (c : ℕ) (bs : List Block) (len n : ℕ) : Type 0 where
   pub lesser : AllByRecursion (λ b. singleton b < c) before
   pub greater : c < singleton next
   pub long : n ≡ length (join (pieces_in (next ∷ after)))
-  pub within : n ≤ len
 
 -- one of them has the singleton
 abbrev pub IsPlaceTaken : ℕ → List Block → Failure → Type 0

@@ -189,8 +189,8 @@ fn insert_block<'a>(
 fn place_of(left: Left<'_>, singleton: u8) -> Result<usize, Failure>
     requires { IsLeft left }
     ensures ok { (bs : List Block) → pieces_of left.entry ≡ pieces_in bs
-        → AllByRecursion IsBlockInOrder bs
-        → IfOk result (IsBlockPlace singleton bs left.entry.len) }
+        → AllByRecursion IsBlockInOrder bs → IfOk result (IsBlockPlace singleton bs) }
+    ensures within { IfOk result (λ n. n ≤ left.entry.len) }
     ensures err { (bs : List Block) → pieces_of left.entry ≡ pieces_in bs
         → AllByRecursion IsBlockInOrder bs → IfErr result (IsPlaceTaken singleton bs) }
 {

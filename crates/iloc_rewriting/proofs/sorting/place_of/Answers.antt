@@ -3,7 +3,8 @@ use Rattle.std.specs.Char.{to_ascii_lowercase}
 use Rattle.iloc_fronts.specs.Left.{piece_of, pieces_of}
 use Rattle.iloc_fronts.proofs.LeftLemmas.{few_left}
 use Rattle.iloc_rewriting.specs.Sorting.{AreBlocksPassed}
-use Rattle.iloc_rewriting.proofs.SortedBlocks.{block_passed, long_piece, none_passed, piece_passed, place_found, place_taken}
+use Rattle.iloc_rewriting.proofs.SortedBlocks.{block_passed, none_passed, piece_passed, place_found, place_taken}
+use Rattle.iloc_rewriting.proofs.SortingLemmas.{long_piece}
 use Rattle.iloc_rewriting.proofs.sorting.place_of.Goals as goal
 use Rattle.iloc_rewriting.proofs.sorting.place_of.Goals.{then-at-eq1+else-other-singleton+else-other-singleton-2, else-at-eq1}
 
@@ -18,7 +19,7 @@ returns-then-other-singleton-clause-err c = λ bs e each.
 pub returns-then-other-singleton-2-clause-ok : goal.returns-then-other-singleton-2-clause-ok
 returns-then-other-singleton-2-clause-ok c = λ bs e each.
     let h = c.pieces.invariant in
-    place_found c.args.singleton bs c.pieces.at h.left c.if-at-eq1.true (h.passed bs e each) c.args.left.len h.within (omega (arith, c.to_ascii_lowercase-other.ensures.value, c.if-other-singleton-2.true))
+    place_found c.args.singleton bs c.pieces.at h.left c.if-at-eq1.true (h.passed bs e each) (omega (arith, c.to_ascii_lowercase-other.ensures.value, c.if-other-singleton-2.true))
 
 -- neither the same nor above
 below : (b s c : ℕ) → s ≡ to_ascii_lowercase b → s ≢ c → s ≤ c → to_ascii_lowercase b < c
