@@ -13,6 +13,7 @@ use Rattle.iloc_spec_grammar.specs.Meaning.{Fault, IsBlock, FirstBadBlock, here,
 use Rattle.iloc_spec_grammar.specs.Reading.{starts_block, rest_of}
 use Rattle.iloc_spec_grammar.specs.ByBlocks.{UnicodeMeans, TransformMeans, OtherMeans, BlocksMean}
 use Rattle.iloc_spec_grammar.proofs.PartTexts.{join-dashes, dashes-append}
+use Rattle.iloc_spec_grammar.proofs.PiecesLaws.{pieces_hyphen_free}
 use Rattle.iloc_spec_grammar.proofs.ReadBack.{all_append}
 use Rattle.iloc_spec_grammar.proofs.Readings.{IsLong}
 use Rattle.iloc_spec_grammar.proofs.Singletons.{untied, self_tied}
@@ -25,7 +26,7 @@ use Rattle.iloc_blocks.specs.declared.bad_block.BadBlock.TheVariants as bad
 use Rattle.iloc_blocks.proofs.BadBlocks.{lower_letter, private_refuted}
 use Rattle.iloc_blocks.proofs.BlockLemmas.{front_past, blocks_past, first_block}
 use Rattle.iloc_blocks.proofs.FaultLemmas.{IsSound, sound_before, wrong_body, wrong_nothing, wrong_private, again}
-use Rattle.iloc_blocks.proofs.PrintedBlocks.{IsGood, good_body, printed_private}
+use Rattle.iloc_blocks.proofs.PrintedBlocks.{IsGood, good_body, printed_none, printed_private}
 use Rattle.iloc_fronts.specs.Left.{pieces_of, piece_of, IsLeft}
 use Rattle.iloc_fronts.specs.declared.left.Left.{Left}
 use Rattle.iloc_fronts.proofs.LeftLemmas.{block_left, byte_left, last_left, length-piece}
@@ -348,22 +349,22 @@ module _ (room text : List ℕ) (start end n c : ℕ) (bs : List Block) (inside 
   pub unseen_at : IsUnseen c (singletons_of bs)
   unseen_at = subst (λ cs. IsUnseen c (singletons_of cs)) (sym p.cut) (unseen_between c p.before (p.next ∷ p.after) p.lesser all_greater)
 
-  abbrev last : List (List ℕ)
-  last = pieces_in (p.next ∷ p.after)
+  abbrev pieces_after : List (List ℕ)
+  pieces_after = pieces_in (p.next ∷ p.after)
 
-  last_long : length (dashes last) ≡ n + 1
-  last_long = let l : length (dashes last) ≡ suc (length (join last)) = ap suc (ap length (sym (join-dashes (p.next.0 ∷ []) (p.next.1 ++ pieces_in p.after)))) in omega (arith, l, p.long)
+  pieces_after_long : length (dashes pieces_after) ≡ n + 1
+  pieces_after_long = let l : length (dashes pieces_after) ≡ suc (length (join pieces_after)) = ap suc (ap length (sym (join-dashes (p.next.0 ∷ []) (p.next.1 ++ pieces_in p.after)))) in omega (arith, l, p.long)
 
-  parts : take end room ≡ (text ++ dashes (pieces_in p.before)) ++ dashes last
+  parts : take end room ≡ (text ++ dashes (pieces_in p.before)) ++ dashes pieces_after
   parts =
       a.stored ∙ ap (λ l. text ++ dashes (pieces_in l)) p.cut ∙ ap (λ l. text ++ dashes l) (pieces_append p.before (p.next ∷ p.after))
-      ∙ ap (λ t. text ++ t) (dashes-append (pieces_in p.before) last) ∙ sym (append_assoc text (dashes (pieces_in p.before)) (dashes last))
+      ∙ ap (λ t. text ++ t) (dashes-append (pieces_in p.before) pieces_after) ∙ sym (append_assoc text (dashes (pieces_in p.before)) (dashes pieces_after))
 
-  halves : (take (end - n - 1) room ≡ text ++ dashes (pieces_in p.before)) × (take (n + 1) (drop (end - n - 1) room) ≡ dashes last)
+  halves : (take (end - n - 1) room ≡ text ++ dashes (pieces_in p.before)) × (take (n + 1) (drop (end - n - 1) room) ≡ dashes pieces_after)
   halves =
       let same : end - (n + 1) ≡ end - n - 1 = omega arith in
-      subst (λ (m : ℕ). (take m room ≡ text ++ dashes (pieces_in p.before)) × (take (n + 1) (drop m room) ≡ dashes last)) same
-      (split_room room (text ++ dashes (pieces_in p.before)) (dashes last) end (n + 1) inside parts last_long)
+      subst (λ (m : ℕ). (take m room ≡ text ++ dashes (pieces_in p.before)) × (take (n + 1) (drop m room) ≡ dashes pieces_after)) same
+      (split_room room (text ++ dashes (pieces_in p.before)) (dashes pieces_after) end (n + 1) inside parts pieces_after_long)
 
   pub block_inserted : (ps : List (List ℕ)) (room' : List ℕ) (s : Stored) → IsBlockStored c (take (end - n - 1) room) ps room' s
       → (new : List ℕ) (e : ℕ) → AreStored new (take s.end room' ++ take (n + 1) (drop (end - n - 1) room)) e → IsBlockAmong c text bs ps new (record { end = e; next = s.next })
@@ -396,3 +397,118 @@ module _ (l : Left) (h : IsLeft l) (one : l.n ≡ 1) (is_x : to_ascii_lowercase 
     printed = λ last. subst (ArePrinted last) (sym (block_left l h one (pieces_of next) parts)) (printed_private last byte_x (take next.len next.window.now) is_x words);
     stored = subst (λ (t : List ℕ). AreStored new (text ++ t) n) (sym (dashes_pieces (take l.len l.window.now))) a;
   }
+
+-- ---- blocks so far
+
+pub blocks_none : (room : List ℕ) (start : ℕ) (ps : List (List ℕ)) → start ≤ length room → AreBlocksSoFar (take start room) ps start start 0 room ps
+blocks_none room start ps inside = record {
+  written = [];
+  cut = refl;
+  new = [];
+  held = record { before = length-take-le start room inside; stored = sym (append-nil (take start room)); each = tt; ascending = tt };
+  none_above = tt;
+  keeps = λ bs e m. m;
+  bad = λ b h. h;
+}
+
+module _ (text : List ℕ) (ps left : List (List ℕ)) (start end last c : ℕ) (room new : List ℕ) (s : Stored) (far : AreBlocksSoFar text ps start end last room left) (a : IsBlockAmong c text far.new left new s) where
+  all_blocks : List Block
+  all_blocks = a.before ++ (a.new ∷ a.after)
+
+  -- what holds of the blocks so far and of this one holds of all
+  of_all : (P : Block → Type 0) → AllByRecursion P far.new → P a.new → AllByRecursion P (a.before ++ (a.new ∷ a.after))
+  of_all P h k = all_put P a.before a.after a.new (subst (AllByRecursion P) a.cut h) k
+
+  sound : IsSound a.new.0 a.block.body
+  sound = sound_block c left s a.new a.block
+
+  lesser : AllByRecursion (λ b. singleton b < singleton a.new) a.before
+  lesser = subst (λ (d : ℕ). AllByRecursion (λ b. singleton b < d) a.before) (sym a.block.is) a.lesser
+
+  greater : AllByRecursion (λ b. singleton a.new < singleton b) a.after
+  greater = subst (λ (d : ℕ). AllByRecursion (λ b. d < singleton b) a.after) (sym a.block.is) a.greater
+
+  unseen : IsUnseen (singleton a.new) (singletons_of far.new)
+  unseen = subst (λ bs. IsUnseen (singleton a.new) (singletons_of bs)) (sym a.cut) (unseen_between (singleton a.new) a.before a.after lesser greater)
+
+  seen_same : HaveSame (singletons_of (a.before ++ (a.new ∷ a.after))) (singleton a.new ∷ singletons_of far.new)
+  seen_same = subst (λ bs. HaveSame (singletons_of (a.before ++ (a.new ∷ a.after))) (singleton a.new ∷ singletons_of bs)) (sym a.cut) (same_put a.before a.after a.new)
+
+  bad_later : (b : BadBlock) → HaveBad (singletons_of (a.before ++ (a.new ∷ a.after))) (left_of s.next) b → HaveBad [] ps b
+  bad_later b h =
+      far.bad b (subst (λ qs. HaveBad (singletons_of far.new) qs b) (sym a.block.cut)
+      (sound_before a.new.0 a.block.body (left_of s.next) sound (singletons_of far.new) b unseen (same_bad _ _ (left_of s.next) b seen_same h)))
+
+  pub blocks_more : (next : ℕ) → last ≤ next → c ≤ next → AreBlocksSoFar text ps start s.end next new (left_of s.next)
+  blocks_more next le le_c = record {
+    written = far.written ++ (a.new.0, a.block.body) ∷ [];
+    cut = far.cut ∙ ap (λ l. far.written ++ blocks l) a.block.cut
+        ∙ ap (λ l. far.written ++ l) (block_cut a.new.0 a.block.body (left_of s.next) a.block.ordered.other a.block.long (starts_left s.next a.block.left))
+        ∙ sym (append_assoc far.written ((a.new.0, a.block.body) ∷ []) (blocks (left_of s.next)));
+    new = a.before ++ (a.new ∷ a.after);
+    held = record {
+      before = far.held.before;
+      stored = a.stored.begins;
+      each = of_all IsBlockInOrder far.held.each a.block.ordered;
+      ascending = ascend_put a.before a.after a.new (subst AreAscending a.cut far.held.ascending) lesser greater;
+    };
+    none_above = of_all (λ b. singleton b ≤ next) (all_weaker (λ b. singleton b ≤ last) (λ b. singleton b ≤ next) (λ b h. omega arith) far.new far.none_above) (omega (arith, a.block.is));
+    keeps = block_put a.before a.after far.written a.new.0 a.new.1 a.block.body a.block.ordered.other (subst (λ (d : ℕ). KeepsBlock d a.new.1 a.block.body) (sym a.block.is) a.block.keeps)
+        (λ cs. subst (λ l. KeepsBlocks (l ++ cs) (far.written ++ cs)) a.cut (far.keeps cs));
+    bad = bad_later;
+  }
+
+-- they end behind the text
+pub behind : (text : List ℕ) (ps left : List (List ℕ)) (start end last : ℕ) (room : List ℕ) → end ≤ length room → AreBlocksSoFar text ps start end last room left → start ≤ end
+behind text ps left start end last room inside far =
+    omega (arith, length-take-le end room inside, ap length far.held.stored, length-append text (dashes (pieces_in far.new)), far.held.before)
+
+-- what is left is stored as it stands
+pub blocks_end : (text : List ℕ) (ps left : List (List ℕ)) (start end last : ℕ) (room new : List ℕ) (n : ℕ) (far : AreBlocksSoFar text ps start end last room left)
+    → 0 < length (pieces_in far.new ++ left) → starts_block left ≡ true → AllByRecursion IsHyphenFree left → ((m : ℕ) → ArePrinted m left) → AreStored new (take end room ++ dashes left) n → AreBlocksStored text ps new n
+blocks_end text ps left start end last room new n far some starts free printed a = record {
+  new = pieces_in far.new ++ left;
+  some = some;
+  starts = starts_in far.new left starts;
+  free = all_append IsHyphenFree (pieces_in far.new) left (free_in far.new far.held.each) free;
+  printed = printed_in 0 far.new left far.held.each (all_weaker IsBlockInOrder (λ b. 0 < singleton b) (λ b h. letter_above b.0 h.letter) far.new far.held.each) far.held.ascending printed;
+  keeps = λ e m. subst (λ l. BlocksMean languages l e) (sym far.cut)
+      (far.keeps (blocks left) e (subst (λ l. BlocksMean languages l e) (blocks_in far.new left far.held.each starts) m));
+  stored = subst (λ (t : List ℕ). AreStored new t n)
+      (ap (λ t. t ++ dashes left) far.held.stored ∙ append_assoc text (dashes (pieces_in far.new)) (dashes left) ∙ ap (λ t. text ++ t) (sym (dashes-append (pieces_in far.new) left))) a;
+}
+
+-- none is left after this one
+pub blocks_last : (text : List ℕ) (ps left : List (List ℕ)) (start end last c : ℕ) (room new : List ℕ) (s : Stored) (far : AreBlocksSoFar text ps start end last room left) (a : IsBlockAmong c text far.new left new s)
+    → s.next ≡ None → AreBlocksStored text ps new s.end
+unfolding blocks_more
+blocks_last text ps left start end last c room new s far a e =
+    let none : left_of s.next ≡ [] = ap left_of e in
+    blocks_end text ps (left_of s.next) start s.end (last + c) new new s.end (blocks_more text ps left start end last c room new s far a (last + c) (omega arith) (omega arith))
+    (some_in a.before a.after a.new (left_of s.next))
+    (starts_left s.next a.block.left) (subst (AllByRecursion IsHyphenFree) (sym none) tt) (λ m. subst (ArePrinted m) (sym none) (printed_none m))
+    (subst (λ qs. AreStored new (take s.end new ++ dashes qs) s.end) (sym none) (stored_none new s.end a.stored.more))
+
+-- less is left after a block
+pub less_left : (l next : Left) (c : ℕ) (body : List (List ℕ)) → IsLeft l → IsLeft next → pieces_of l ≡ (c ∷ []) ∷ (body ++ pieces_of next) → next.len < l.len
+less_left l next c body h k e =
+    let all : length (dashes (pieces_of l)) ≡ suc l.len = ap length (dashes_pieces (take l.len l.window.now)) ∙ ap suc (length-left l h) in
+    let rest : length (dashes (pieces_of next)) ≡ suc next.len = ap length (dashes_pieces (take next.len next.window.now)) ∙ ap suc (length-left next k) in
+    let parts : length (dashes (pieces_of l)) ≡ suc (suc (length (dashes body ++ dashes (pieces_of next)))) = ap (λ ps. length (dashes ps)) e ∙ ap (λ t. suc (suc (length t))) (dashes-append body (pieces_of next)) in
+    omega (arith, all, rest, parts, length-append (dashes body) (dashes (pieces_of next)))
+
+pub unseen_x : (bs : List Block) → AllByRecursion IsBlockInOrder bs → IsUnseen 120 (singletons_of bs)
+unseen_x bs h = unseen_differ 120 bs (all_weaker IsBlockInOrder (λ b. singleton b ≢ 120) (λ b k. k.other) bs h)
+
+module _ (text : List ℕ) (ps : List (List ℕ)) where
+  pub bad_so_far : (left : List (List ℕ)) (start end last : ℕ) (room : List ℕ) (far : AreBlocksSoFar text ps start end last room left) → (f : Failure) → IsBadAfter (singletons_of far.new) left f → IsBadAfter [] ps f
+  bad_so_far left start end last room far (failure.Bad b) h = far.bad b h
+  bad_so_far left start end last room far failure.Other h = tt
+
+  -- the private part is stored behind them
+  pub private_end : (l : Left) (start end last : ℕ) (room new : List ℕ) → IsLeft l → l.n ≡ 1 → AreBlocksSoFar text ps start end last room (pieces_of l) → (n : ℕ) → IsPrivateStored (take end room) (pieces_of l) new n → AreBlocksStored text ps new n
+  private_end l start end last room new h one far n k =
+      blocks_end text ps (pieces_of l) start end last room new n far some (starts_left (Some l) (h, one)) (pieces_hyphen_free (take l.len l.window.now)) k.printed k.stored
+    where
+      some : 0 < length (pieces_in far.new ++ pieces_of l)
+      some = omega (arith, length-append (pieces_in far.new) (pieces_of l), ap length (cut_left l h (omega (arith, one))))
