@@ -10,3 +10,4 @@ pub mod FieldLemmas
 pub mod ReplacingLemmas
 pub mod SortingLemmas
 pub mod SortedBlocks
+pub mod BodyLemmas
