@@ -9,7 +9,7 @@
 //! `sort_variants` does the same with variants, and the old line means what the new one means too (`IsSortedAs`).
 //! `repeats_variant` tells lines in which a variant comes twice, which are none (`HasRepeat`).
 //!
-//! A line is rewritten in one walk (`rewriting`, `sorting`): each block is stored in its place (`blocks`, `attributes`,
+//! A line is rewritten in one walk (`rewriting`, `sorting`): each block is stored in its place (`blocks`,
 //! `fields`, `others`), its pieces as sixteen bytes at once (`storing`). Words and fields are stored in order alike,
 //! whatever their kind (`words`, `keywords`). docs/ARCHITECTURE.md says how to add a shape.
 //!
@@ -17,13 +17,13 @@
 //! the tests of words of `iloc_fronts`.
 #![tactic(auto)]
 
-mod attributes;
 mod blocks;
 mod fields;
 mod keywords;
 mod others;
 pub mod repeats;
 pub mod rewriting;
+mod same;
 mod sorting;
 mod storing;
 pub mod variants;
