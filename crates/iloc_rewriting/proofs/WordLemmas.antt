@@ -281,14 +281,3 @@ module _ (s : WordKind) (text room p : List ℕ) (ps : List (List ℕ)) (start e
 
   pub word_behind : start ≤ e
   word_behind = omega (arith, i.stored.more, h.held.before, length-take-le e new (omega (arith, i.stored.more)), ap length i.stored.begins, length-append text (dashes i.all))
-
-pub words_end : (s : WordKind) (text room : List ℕ) (ps : List (List ℕ)) (start end last n : ℕ) (at : Left) → AreWordsSoFar s text ps start end last room at → end + 16 ≤ length room → IsLeft at → at.len ≤ n
-    → AreWordsStored s text ps n room (record { end = end; next = Some at })
-words_end s text room ps start end last n at h more left le = record {
-  words = h.words;
-  kept = h.kept;
-  cut = h.cut;
-  same = h.same;
-  stored = record { begins = h.held.stored; more = more };
-  left = (left, le);
-}

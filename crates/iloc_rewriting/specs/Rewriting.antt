@@ -3,10 +3,10 @@ use Rattle.std.specs.Prelude.{◌≡◌, ⊤, ℕ, ◌+◌, ◌<◌, ◌≤◌, 
 use Rattle.std.specs.List.{AllByRecursion}
 use Rattle.std.specs.FinMap.{find, is_sorted}
 use Rattle.iloc_spec_grammar.specs.Syntax.{Text, Field, Fields, Kind, UnicodeKey, TransformKey, Attribute, is_word, IsWord, IsKeyword, IsField, word_cmp, first_piece, lower, dashes, join, fields_pieces, languages}
-use Rattle.iloc_spec_grammar.specs.Meaning.{Locale, Means, normal_values, set_of}
+use Rattle.iloc_spec_grammar.specs.Meaning.{Locale, Means, normal_values}
 use Rattle.iloc_blocks.specs.Blocks.{IsValue, left_of, lower_fields}
 use Rattle.iloc_fronts.specs.Words.{two_number}
-use Rattle.iloc_fronts.specs.Left.{pieces_of, IsLeft}
+use Rattle.iloc_fronts.specs.Left.{IsLeft}
 use Rattle.iloc_blocks.specs.Transform.{IsAsPrinted, IsRest}
 use Rattle.iloc_fronts.specs.declared.left.Left.{Left}
 use Rattle.iloc_rewriting.specs.declared.keywords.KeyKind.{KeyKind}

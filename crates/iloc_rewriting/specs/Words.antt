@@ -1,15 +1,15 @@
 -- Words that are brought into order: attributes, or variants.
 use Rattle.std.specs.Prelude.{◌≡◌, ⊤, ℕ, ◌+◌, ◌<◌, ◌≤◌, IsTrue, Bool, true, false, List, [], ◌∷◌, ◌++◌, length, map, take, Option, Some, None}
 use Rattle.std.specs.List.{AllByRecursion}
-use Rattle.iloc_spec_grammar.specs.Syntax.{Text, Kind, Attribute, Variant, IsWord, Identifier, lower, pieces, dashes, join, languages}
-use Rattle.iloc_spec_grammar.specs.Meaning.{IdentifierMeans, set_of}
+use Rattle.iloc_spec_grammar.specs.Syntax.{Text, Kind, Attribute, Variant, IsWord, lower, dashes, join}
+use Rattle.iloc_spec_grammar.specs.Meaning.{set_of}
 use Rattle.iloc_spec_grammar.specs.Values.{Reordered}
 use Rattle.iloc_blocks.specs.Blocks.{left_of}
 use Rattle.iloc_blocks.specs.Transform.{IsRest}
 use Rattle.iloc_fronts.specs.Words.{two_number, four_number}
 use Rattle.iloc_fronts.specs.Left.{pieces_of, IsLeft}
 use Rattle.iloc_fronts.specs.declared.left.Left.{Left}
-use Rattle.iloc_rewriting.specs.Rewriting.{AreStored, IsRewritten, Ascend, AreUpTo}
+use Rattle.iloc_rewriting.specs.Rewriting.{AreStored, Ascend, AreUpTo}
 use Rattle.iloc_rewriting.specs.declared.keywords.Stored.{Stored}
 use Rattle.iloc_rewriting.specs.declared.keywords.Place.{Place}
 use Rattle.iloc_rewriting.specs.declared.words.WordKind.{WordKind}
