@@ -9,9 +9,9 @@
 //! `sort_variants` does the same with variants, and the old line means what the new one means too (`IsSortedAs`).
 //! `repeats_variant` tells lines in which a variant comes twice, which are none (`HasRepeat`).
 //!
-//! A line is rewritten in one walk (`rewriting`, `sorting`): each block is stored in its place (`blocks`,
-//! `fields`, `others`), its pieces as sixteen bytes at once (`storing`). Words and fields are stored in order alike,
-//! whatever their kind (`words`, `keywords`). docs/ARCHITECTURE.md says how to add a shape.
+//! A line is rewritten in one walk (`rewriting`, `sorting`): each block is stored in its place (`blocks`, `fields`,
+//! `others`), its pieces as sixteen bytes at once (`storing`). Words and fields are stored in order alike, whatever
+//! their kind (`words`, `keywords`, `same`). docs/ARCHITECTURE.md says how to add a shape.
 //!
 //! It stands on the grammar (`iloc_spec_grammar`), on what `iloc_blocks` tells, and on the walk from piece to piece and
 //! the tests of words of `iloc_fronts`.
