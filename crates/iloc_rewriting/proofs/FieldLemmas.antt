@@ -24,6 +24,7 @@ use Rattle.iloc_rewriting.specs.Rewriting.{AreStored, AreFieldsInOrder, BeginsBl
 use Rattle.iloc_rewriting.specs.Fields.{IsHeadStored}
 use Rattle.iloc_rewriting.specs.Sorting.{IsBodyStored, IsOrderOf}
 use Rattle.iloc_rewriting.specs.Words.{IsRemaining}
+use Rattle.iloc_rewriting.specs.declared.keywords.KeyKind.{KeyKind}
 use Rattle.iloc_rewriting.specs.declared.keywords.KeyKind.TheVariants as kind
 use Rattle.iloc_rewriting.specs.declared.keywords.Stored.{Stored}
 use Rattle.iloc_rewriting.proofs.KeywordLemmas.{fields_free, same_fields}
@@ -33,14 +34,18 @@ use Rattle.iloc_rewriting.proofs.StoringLemmas.{some_stored}
 
 -- ---- the identifier
 
--- one with at most one variant comes before what is left
+-- the one that comes first
+abbrev pub identifier : Left → Identifier
+identifier l = front_of (pieces_of l)
+
+-- with at most one variant it comes before what is left
 abbrev pub EndsHead : Left → Option Left → Type 0
 EndsHead l next = IsRemaining next × IsHead (pieces_of l) (left_of next)
 
 -- that is shorter
 pub head_shorter : (l : Left) → IsLeft l → (next : Option Left) → EndsHead l next → IsShorter l.len next
 head_shorter l h None e = tt
-head_shorter l h (Some m) e = (e.0, by (front_of (pieces_of l)).language _ (spelled (pieces_of l) (pieces_of m) e.1))
+head_shorter l h (Some m) e = (e.0, by (identifier l).language _ (spelled (pieces_of l) (pieces_of m) e.1))
   where
     by : (p : List ℕ) (ps : List (List ℕ)) → pieces_of l ≡ (p ∷ ps) ++ pieces_of m → m.len < l.len
     by p ps cut =
@@ -48,16 +53,13 @@ head_shorter l h (Some m) e = (e.0, by (front_of (pieces_of l)).language _ (spel
         omega (arith, length-left l h, length-left m e.0, ap length (joined_before (take l.len l.window.now) t p ps cut), length-append (join (p ∷ ps)) (45 ∷ t))
 
 module _ (l : Left) (next : Option Left) (e : EndsHead l next) where
-  abbrev pub identifier : Identifier
-  identifier = front_of (pieces_of l)
-
-  pub identifier_first : pieces_of l ≡ identifier_pieces identifier ++ left_of next
+  pub identifier_first : pieces_of l ≡ identifier_pieces (identifier l) ++ left_of next
   identifier_first = spelled (pieces_of l) (left_of next) e.1
 
-  pub head_stored : (text room : List ℕ) (s : Stored) → AreStored room (text ++ dashes (identifier_pieces identifier)) s.end × (s.next ≡ next) → IsHeadStored text (pieces_of l) room s
+  pub head_stored : (text room : List ℕ) (s : Stored) → AreStored room (text ++ dashes (identifier_pieces (identifier l))) s.end × (s.next ≡ next) → IsHeadStored text (pieces_of l) room s
   head_stored text room s h = record {
-    id = Some identifier;
-    cut = identifier_first ∙ ap (λ o. identifier_pieces identifier ++ left_of o) (sym h.1);
+    id = Some (identifier l);
+    cut = identifier_first ∙ ap (λ o. identifier_pieces (identifier l) ++ left_of o) (sym h.1);
     words = part_words (pieces_of l) (left_of next) e.1;
     some = λ _ o. cc;
     stored = h.0;
@@ -76,6 +78,22 @@ key_above p h = by p (field_key_begins p h)
     by : (p : List ℕ) → BeginsTwo p → 0 < two_number p
     by [] b = absurd (omega (arith, b.long))
     by (a ∷ p) b = let first : is_ascii_alphanumeric a ≡ true = b.first in grind (arith, nat_tests)
+
+-- nothing is left, so there are no fields
+no_fields : (k : KeyKind) (room : List ℕ) (s : Stored) → s.end + 16 ≤ length room → s.next ≡ None → AreFieldsInOrder k (take s.end room) (left_of s.next) room s
+no_fields k room s more e = record {
+  written = [];
+  kept = [];
+  cut = refl;
+  each = tt;
+  each_kept = tt;
+  some = omega arith;
+  same = λ q. refl;
+  ascending = refl;
+  printed = tt;
+  stored = stored_none room s.end more;
+  left = subst BeginsBlock (sym e) tt;
+}
 
 module _ (text : List ℕ) (l : Left) (room : List ℕ) (s : Stored) (h : IsHeadStored text (pieces_of l) room s) where
   abbrev head : List (List ℕ)
@@ -141,22 +159,7 @@ module _ (text : List ℕ) (l : Left) (room : List ℕ) (s : Stored) (h : IsHead
 
   -- nothing follows the identifier
   pub head_alone : s.next ≡ None → IsBodyStored (IsOrderOf (TransformMeans languages) IsTransformPart) text (pieces_of l) room s
-  head_alone e = both room s none (λ o. absurd (h.some e o))
-    where
-      none : AreFieldsInOrder kind.Transform (take s.end room) (left_of s.next) room s
-      none = record {
-        written = [];
-        kept = [];
-        cut = refl;
-        each = tt;
-        each_kept = tt;
-        some = omega arith;
-        same = λ q. refl;
-        ascending = refl;
-        printed = tt;
-        stored = stored_none room s.end h.stored.more;
-        left = subst BeginsBlock (sym e) tt;
-      }
+  head_alone e = both room s (no_fields kind.Transform room s h.stored.more e) (λ o. absurd (h.some e o))
 
   -- fields follow
   pub head_before : (next : Left) → s.next ≡ Some next → (new : List ℕ) (r : Stored) → AreFieldsInOrder kind.Transform (take s.end room) (pieces_of next) new r → r.end ≢ length text

@@ -23,7 +23,7 @@ use Rattle.iloc_fronts.specs.Left.{pieces_of, piece_of, IsLeft}
 use Rattle.iloc_fronts.specs.declared.left.Left.{Left}
 use Rattle.iloc_fronts.proofs.LeftLemmas.{block_left, byte_left, length-piece}
 use Rattle.iloc_rewriting.specs.Rewriting.{AreStored, BeginsBlock, IsRewritten, IsRewrittenAs}
-use Rattle.iloc_rewriting.specs.Sorting.{AreBlocksSoFar, AreBlocksStored, AreLong, ArePiecesStored, AreWordsKept, HoldsBlocks, IsBlockAmong, IsBlockPlace, IsBlockStored, IsBodyStored, IsNoPrivate, IsSingletonOf, Keeps, KeepsBlock, KeepsBlocks, LeadsToBlock, MayStand}
+use Rattle.iloc_rewriting.specs.Sorting.{AreBlocksSoFar, AreBlocksStored, AreLong, HoldsBlocks, IsBlockAmong, IsBlockPlace, IsBlockStored, IsBodyStored, IsNoPrivate, IsSingletonOf, KeepsBlock, KeepsBlocks, LeadsToBlock}
 use Rattle.iloc_rewriting.specs.declared.keywords.Stored.{Stored}
 use Rattle.iloc_rewriting.proofs.RewritingLemmas.{all_split, begins_with, cut_left, dashes_pieces, length-joined, length-left, new_pieces, piece_more}
 use Rattle.iloc_rewriting.proofs.ReplacingLemmas.{block_put}

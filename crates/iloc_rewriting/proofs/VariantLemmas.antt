@@ -57,7 +57,7 @@ module _ (w : Identifier) (h : HasWords languages w) (none : w.variants ≡ []) 
       ap identifier_of (pieces_with (k ∷ ks) rest) ∙ read_longer w.language w.script w.region k ks rest h.script h.region is
 
   -- in another order they mean the same
-  pub same_identifier : (vs ks rest : List (List ℕ)) → AllByRecursion (IsWord Variant) ks → Reordered ks vs
+  same_identifier : (vs ks rest : List (List ℕ)) → AllByRecursion (IsWord Variant) ks → Reordered ks vs
       → (i : Identifier) → IdentifierMeans languages (with_pieces ks rest) i → IdentifierMeans languages (with_pieces vs rest) i
   same_identifier [] [] rest each r i m = m
   same_identifier (v ∷ vs) [] rest each r i m = absurd (omega (arith, total_reordered (λ (x : List ℕ). 1) r))
@@ -130,7 +130,7 @@ module _ (w : List ℕ) (len at : ℕ) (o : Ordered) (inside : len + 16 ≤ leng
   abbrev written : Identifier
   written = b.plain.means.written
 
-  pub old_pieces : pieces (take len w) ≡ identifier_pieces written ++ (k.words ++ rest)
+  old_pieces : pieces (take len w) ≡ identifier_pieces written ++ (k.words ++ rest)
   old_pieces =
       ap pieces (cut_there w len at inside b.less b.hyphen) ∙ pieces_both (take at w) (after w len at inside b.less b.hyphen)
       ∙ (λ j. b.plain.means.spelled j ++ (ap pieces (sym (rest_is w len at inside b.less b.hyphen)) ∙ sym tail ∙ k.cut) j)

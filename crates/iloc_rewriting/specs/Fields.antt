@@ -1,5 +1,5 @@
 -- A block of `t` that is brought into order.
-use Rattle.std.specs.Prelude.{◌≡◌, ◌≢◌, ℕ, ◌≤◌, List, ◌++◌, length, Option, None, IfSome}
+use Rattle.std.specs.Prelude.{◌≡◌, ◌≢◌, ◌≤◌, List, ◌++◌, length, Option, None, IfSome}
 use Rattle.iloc_spec_grammar.specs.Syntax.{Text, Identifier, HasWords, optional_pieces, dashes, languages}
 use Rattle.iloc_blocks.specs.Blocks.{left_of}
 use Rattle.iloc_rewriting.specs.Rewriting.{AreStored}

@@ -1,4 +1,4 @@
-use Rattle.std.proofs.Common.{None, Some, sym, subst, take}
+use Rattle.std.proofs.Common.{sym, subst, take}
 use Rattle.std.proofs.lemmas.Option.{IfSome_then}
 use Rattle.iloc_spec_grammar.specs.Syntax.{identifier_pieces}
 use Rattle.iloc_rewriting.proofs.FieldLemmas.{EndsHead, head_absent, head_shorter, head_stored, identifier, identifier_first}
@@ -25,5 +25,5 @@ returns c =
       | in-End w ↦ subst (EndsHead l) (sym w.next-is) (tt, w.in-End.ensures)
       | in-Next w ↦ subst (EndsHead l) (sym w.next-is) (w.in-Next.ensures.0, w.in-Next.ensures.2)
     ] in
-    IfSome_then c.put_same.result (c.put_same.ensures (identifier_pieces (identifier l next ends)) (identifier_first l next ends))
+    IfSome_then c.put_same.result (c.put_same.ensures (identifier_pieces (identifier l)) (identifier_first l next ends))
     (head_stored l next ends (take c.args.start c.args.room.now) c.put_same.new.room)
