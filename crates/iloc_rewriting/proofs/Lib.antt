@@ -7,5 +7,6 @@ pub mod VariantLemmas
 pub mod RepeatLemmas
 pub mod LineLemmas
 pub mod FieldLemmas
+pub mod OtherLemmas
 pub mod ReplacingLemmas
 pub mod SortingLemmas

@@ -68,7 +68,7 @@ pub(crate) fn put_body<'a>(
 
 // Stores what comes before the next block as it stands.
 #[inline(always)]
-fn put_same<'a>(
+pub(crate) fn put_same<'a>(
     left: Left<'a>,
     next: Option<Left<'a>>,
     room: &mut [u8],

@@ -6,7 +6,7 @@
 //! `None` says nothing: the caller parses the text as it would without this crate. So each caller keeps its own contract,
 //! and a shape that is not rewritten here costs time and nothing else.
 //!
-//! `sort_variants` does the same with variants, and the old line means what the new one means too (`IsSortedAs`).
+//! `sort_variants` does the same with variants: what is told of the new line is so of the old one (`IsSortedAs`).
 //! `repeats_variant` tells lines in which a variant comes twice, which are none (`HasRepeat`).
 //!
 //! A line is rewritten in one walk (`rewriting`, `sorting`): each block is stored in its place (`blocks`, `fields`,
