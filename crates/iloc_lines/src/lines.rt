@@ -25,6 +25,7 @@ ghost use Rattle.iloc_writeable.specs.Growth.{AddsBeginning};
 ghost use Rattle.iloc_lines.specs.Output.{output, refusal_text, reply};
 ghost use Rattle.iloc_lines.specs.ReplyBlock.{held};
 ghost use Rattle.iloc_lines.specs.Told.{IsTold, refusal_of};
+ghost use Rattle.iloc_blocks.specs.Ordered.{IsReading};
 ghost use Rattle.iloc_lines.specs.Lines.{IsOneLine};
 ghost use Rattle.std.specs.Simd.Lanes.{mask_l};
 ghost use Rattle.iloc_spec_grammar.specs.Syntax.{Text};
@@ -33,9 +34,9 @@ ghost use Rattle.memchr.specs.Find.{IsFirstByte, Nowhere, Passes, is_byte};
 
 use crate::replies::write_refusal;
 use crate::reply_block::ReplyBlock;
-use crate::told::{Lead, ROOM, Told, read_again, read_lead, tell_after_variants};
+use crate::told::{Lead, ROOM, Told, read_lead, tell_after_variants};
 use crate::{Answers, RunError};
-use iloc_blocks::{BadBlock, Reading, find_bad_block, read_ordered, read_varied};
+use iloc_blocks::{BadBlock, Reading, read_ordered, read_varied};
 use iloc_fronts::may_begin;
 use iloc_plain::read_plain;
 use iloc_rewriting::rewrite;
@@ -201,10 +202,49 @@ fn reply_to_blocks<A: Answers>(
         ≡ held replies.old ++ reply A.mode (take len window.now)) }
 {
     match read_ordered(window, len, at) {
+        Reading::Unordered => reply_to_unordered(answers, window, len, at, room, replies),
+        reading => reply_read(answers, window, len, reading, replies),
+    }
+}
+
+// The same of one that is brought into order, if it can be.
+#[inline(never)]
+fn reply_to_unordered<A: Answers>(
+    answers: &mut A,
+    window: &[u8],
+    len: usize,
+    at: usize,
+    room: &mut [u8],
+    replies: &mut ReplyBlock,
+) -> Result<(), AllocError>
+    requires mode { A.mode ≡ Mode.Locale }
+    requires room { len + 16 ≤ length window.now }
+    ensures { OnOk result (held replies.new
+        ≡ held replies.old ++ reply A.mode (take len window.now)) }
+{
+    let reading = rewrite(window, len, at, room);
+    reply_read(answers, window, len, reading, replies)
+}
+
+// The same of one that was read so.
+#[inline(always)]
+fn reply_read<A: Answers>(
+    answers: &mut A,
+    window: &[u8],
+    len: usize,
+    reading: Reading<'_>,
+    replies: &mut ReplyBlock,
+) -> Result<(), AllocError>
+    requires mode { A.mode ≡ Mode.Locale }
+    requires within { len ≤ length window.now }
+    requires reading { IsReading (take len window.now) reading }
+    ensures { OnOk result (held replies.new
+        ≡ held replies.old ++ reply A.mode (take len window.now)) }
+{
+    match reading {
         Reading::Ordered(line) => replies.push_ordered(&line),
         Reading::BadBlock(bad) => refuse(bad, replies),
-        Reading::Unordered => reply_to_unordered(answers, window, len, at, room, replies),
-        Reading::Other => answers.reply(&window[..len], replies),
+        Reading::Unordered | Reading::Other => answers.reply(&window[..len], replies),
     }
 }
 
@@ -220,51 +260,7 @@ fn refuse(bad: BadBlock, replies: &mut ReplyBlock) -> Result<(), AllocError>
     }
 }
 
-// The same of one that may have to be brought into order.
-#[inline(never)]
-fn reply_to_unordered<A: Answers>(
-    answers: &mut A,
-    window: &[u8],
-    len: usize,
-    at: usize,
-    room: &mut [u8],
-    replies: &mut ReplyBlock,
-) -> Result<(), AllocError>
-    requires mode { A.mode ≡ Mode.Locale }
-    requires room { len + 16 ≤ length window.now }
-    ensures { OnOk result (held replies.new
-        ≡ held replies.old ++ reply A.mode (take len window.now)) }
-{
-    let Some(count) = rewrite(window, len, room) else {
-        return reply_to_bad(answers, window, len, at, replies);
-    };
-    match read_again(room, count, at) {
-        Reading::Ordered(line) => replies.push_ordered(&line),
-        _ => reply_to_bad(answers, window, len, at, replies),
-    }
-}
-
-// The same of one that may have a bad block, after good ones in whatever order.
-#[inline(never)]
-fn reply_to_bad<A: Answers>(
-    answers: &mut A,
-    window: &[u8],
-    len: usize,
-    at: usize,
-    replies: &mut ReplyBlock,
-) -> Result<(), AllocError>
-    requires mode { A.mode ≡ Mode.Locale }
-    requires room { len + 16 ≤ length window.now }
-    ensures { OnOk result (held replies.new
-        ≡ held replies.old ++ reply A.mode (take len window.now)) }
-{
-    match find_bad_block(window, len, at) {
-        Some(bad) => refuse(bad, replies),
-        None => answers.reply(&window[..len], replies),
-    }
-}
-
-// The same of one with two variants or more before the blocks.
+// Adds the reply to a locale with two variants or more before the blocks.
 #[inline(never)]
 fn reply_after_variants<A: Answers>(
     answers: &mut A,

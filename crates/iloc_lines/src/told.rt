@@ -7,7 +7,7 @@ ghost use Rattle.iloc_blocks.specs.Ordered.{IsReading};
 ghost use Rattle.iloc_lines.specs.Told.{IsLead, IsRefused, IsTold, refusal_of};
 
 use crate::Mode;
-use iloc_blocks::{BadBlock, Ordered, Reading, find_bad_block, read_ordered, read_varied};
+use iloc_blocks::{BadBlock, Ordered, Reading, read_ordered, read_varied};
 use iloc_fronts::{Block, Front, Keyword, read_front, read_keyword};
 use iloc_rewriting::repeats::repeats_variant;
 use iloc_rewriting::{rewrite, sort_variants};
@@ -182,25 +182,20 @@ pub fn tell_blocks<'a>(window: &'a [u8], len: usize, at: usize, room: &'a mut [u
     ensures { IsTold Mode.Locale (take len window.now) result }
 {
     match read_ordered(window, len, at) {
-        Reading::Ordered(line) => Told::Ordered(line),
-        Reading::BadBlock(bad) => Told::Refused(error_of(bad)),
-        Reading::Unordered => tell_rewritten(window, len, at, room),
-        Reading::Other => Told::Nothing,
+        Reading::Unordered => told_by(rewrite(window, len, at, room)),
+        reading => told_by(reading),
     }
 }
 
-// The same of one whose blocks may have to be brought into order.
-#[inline(never)]
-fn tell_rewritten<'a>(window: &'a [u8], len: usize, at: usize, room: &'a mut [u8]) -> Told<'a>
-    requires { len + 16 ≤ length window.now }
-    ensures { IsTold Mode.Locale (take len window.now) result }
+// What a reading tells of a locale.
+#[inline(always)]
+fn told_by<'a>(reading: Reading<'a>) -> Told<'a>
+    ensures { (t : Text) → IsReading t reading.entry → IsTold Mode.Locale t result }
 {
-    let Some(count) = rewrite(window, len, room) else {
-        return tell_bad_block(window, len, at);
-    };
-    match read_again(room, count, at) {
+    match reading {
         Reading::Ordered(line) => Told::Ordered(line),
-        _ => tell_bad_block(window, len, at),
+        Reading::BadBlock(bad) => Told::Refused(error_of(bad)),
+        Reading::Unordered | Reading::Other => Told::Nothing,
     }
 }
 
@@ -216,11 +211,10 @@ pub fn tell_after_variants<'a>(
     requires { len + 16 ≤ length window.now }
     ensures { IsTold Mode.Locale (take len window.now) result }
 {
-    match read_again(window, len, at) {
-        Reading::Ordered(line) => Told::Ordered(line),
-        Reading::BadBlock(bad) => Told::Refused(error_of(bad)),
+    match read_after_variants(window, len, at) {
         Reading::Unordered => tell_resorted(window, len, at, room),
         Reading::Other => tell_repeated(window, len, at),
+        reading => told_by(reading),
     }
 }
 
@@ -231,15 +225,9 @@ fn tell_resorted<'a>(window: &'a [u8], len: usize, at: usize, room: &'a mut [u8]
     ensures { IsTold Mode.Locale (take len window.now) result }
 {
     let mut sorted = [0u8; ROOM];
-    let Some(part) = sort_variants(window, len, at, &mut sorted) else {
-        return tell_repeated(window, len, at);
-    };
-    let Some(count) = rewrite(&sorted, part, room) else {
-        return tell_bad_block(window, len, at);
-    };
-    match read_again(room, count, at) {
-        Reading::Ordered(line) => Told::Ordered(line),
-        _ => tell_bad_block(window, len, at),
+    match sort_variants(window, len, at, &mut sorted) {
+        Some(count) => told_by(rewrite(&sorted, count, at, room)),
+        None => tell_repeated(window, len, at),
     }
 }
 
@@ -255,21 +243,9 @@ fn tell_repeated<'a>(window: &[u8], len: usize, at: usize) -> Told<'a>
     Told::Nothing
 }
 
-// The same of one that may have a bad block, after good ones in whatever order.
-#[inline(always)]
-fn tell_bad_block(window: &[u8], len: usize, at: usize) -> Told<'_>
-    requires { len + 16 ≤ length window.now }
-    ensures { IsTold Mode.Locale (take len window.now) result }
-{
-    match find_bad_block(window, len, at) {
-        Some(bad) => Told::Refused(error_of(bad)),
-        None => Told::Nothing,
-    }
-}
-
-// The same as `read_ordered`. It is a call, so that the first reading of most lines is none.
+// The same as `read_ordered`. It is a call, since few lines have two variants.
 #[inline(never)]
-pub(crate) fn read_again(window: &[u8], len: usize, at: usize) -> Reading<'_>
+fn read_after_variants(window: &[u8], len: usize, at: usize) -> Reading<'_>
     requires { len + 16 ≤ length window.now }
     ensures { IsReading (take len window.now) result }
 {

@@ -31,7 +31,7 @@ shorter l next [] h k some e = absurd (some refl)
 shorter l next (p ∷ body) h k some e =
     let all : length (dashes (pieces_of l)) ≡ suc l.len = ap length (dashes_pieces (take l.len l.window.now)) ∙ ap suc (length-left l h) in
     let rest : length (dashes (pieces_of next)) ≡ suc next.len = ap length (dashes_pieces (take next.len next.window.now)) ∙ ap suc (length-left next k) in
-    let parts : length (dashes (pieces_of l)) ≡ suc (length (p ++ dashes body ++ dashes (pieces_of next))) = ap (λ ps. length (dashes ps)) e ∙ ap (λ t. suc (length (p ++ t))) (dashes-append body (pieces_of next)) in
+    let parts : length (dashes (pieces_of l)) ≡ suc (length (p ++ (dashes body ++ dashes (pieces_of next)))) = ap (λ ps. length (dashes ps)) e ∙ ap (λ t. suc (length (p ++ t))) (dashes-append body (pieces_of next)) in
     omega (arith, all, rest, parts, length-append p (dashes body ++ dashes (pieces_of next)), length-append (dashes body) (dashes (pieces_of next)))
 
 -- ---- a body in order

@@ -1,12 +1,12 @@
 -- Keywords, and fields of `t`, that are brought into order.
 use Rattle.std.proofs.Common.{inl, inr, ◌≡◌, ◌≢◌, ℕ, ◌+◌, ◌*◌, ◌<◌, ◌≤◌, Bool, true, false, cond, List, [], ◌∷◌, ◌++◌, length, get_or, refl, sym, ap, ◌∙◌, arith, Option, Some, None, append_assoc}
 use Rattle.std.specs.List.{AllByRecursion}
-use Rattle.std.specs.FinMap.{find}
+use Rattle.std.specs.FinMap.{find, is_sorted}
+use Rattle.std.specs.FinMap.Entries.{below_all}
 use Rattle.std.specs.Option.{option_or}
 use Rattle.std.specs.Ordering.{eq_by_cmp}
-use Rattle.std.specs.Char.{is_ascii_alphanumeric, to_ascii_lowercase}
-use Rattle.std.proofs.lemmas.Bool.{cases_Bool, false_from_ne_true}
-use Rattle.std.proofs.lemmas.Bool.Decides.{nat_tests}
+use Rattle.std.specs.Char.{to_ascii_lowercase}
+use Rattle.std.proofs.lemmas.Bool.{and_from, cases_Bool, false_from_ne_true}
 use Rattle.std.proofs.lemmas.List.{map-append}
 use Rattle.iloc_spec_grammar.specs.Syntax.{Attribute, is_word, IsWord, IsHyphenFree, Fields, lower, word_cmp, is_true, fields_pieces}
 use Rattle.iloc_spec_grammar.specs.Meaning.{normal_values, normal_fields}
@@ -17,12 +17,14 @@ use Rattle.iloc_spec_grammar.proofs.ValuesLaws.{all_weaker}
 use Rattle.iloc_spec_grammar.proofs.ReadBack.{all_append, fields_each, word_hyphen_free}
 use Rattle.iloc_spec_grammar.proofs.Readings.{IsLong, KeysPass, long_attribute, not_two, fields_read, fields_past, fields_all}
 use Rattle.iloc_fronts.specs.Words.{two_number}
-use Rattle.iloc_rewriting.specs.Rewriting.{Ascend, HaveSame, IsFieldOf, entries, key_kind, least}
+use Rattle.iloc_blocks.specs.Blocks.{lower_fields}
+use Rattle.iloc_rewriting.specs.Rewriting.{Ascend, HaveSame, IsFieldOf, IsPrintedField, entries, key_kind, key_number, least}
 use Rattle.iloc_rewriting.specs.declared.keywords.KeyKind.{KeyKind}
 use Rattle.iloc_rewriting.specs.declared.keywords.KeyKind.TheVariants as kind
 use Rattle.iloc_fronts.proofs.WordBytes.{BeginsTwo, key_begins, true_word}
 use Rattle.iloc_fronts.proofs.FrontLemmas.{IsShort, short_key, short_field_key}
 use Rattle.iloc_blocks.proofs.TransformLemmas.{field_key_begins}
+use Rattle.iloc_blocks.proofs.UnicodeLemmas.{alphanumeric_is_small, word_below}
 use Rattle.iloc_spec_grammar.proofs.WordsLaws.{length-unicode_key, length-transform_key, is_word-lower}
 
 -- ---- the two kinds
@@ -53,6 +55,9 @@ keyed kind.Transform f h = (h.0, h.1)
 pub all_keyed : (k : KeyKind) (fs : Fields) → AllByRecursion (IsFieldOf k) fs → AllByRecursion (IsKeyed k) fs
 all_keyed k = all_weaker (IsFieldOf k) (IsKeyed k) (keyed k)
 
+pub all_fields : (k : KeyKind) (fs : Fields) → AllByRecursion (IsPrintedField k) fs → AllByRecursion (IsFieldOf k) fs
+all_fields k = all_weaker (IsPrintedField k) (IsFieldOf k) (λ f h. h.0)
+
 -- all pieces are long, and have no hyphen
 pub fields_long : (k : KeyKind) (fs : Fields) → AllByRecursion (IsFieldOf k) fs → AllByRecursion IsLong (fields_pieces fs)
 fields_long k fs h = fields_each IsLong (key_kind k) (λ p w. long_key k p w) long_attribute fs (all_keyed k fs h)
@@ -78,9 +83,6 @@ unfolding is_word
 true_is_word p h = sym (is_word-lower Attribute p) ∙ ap (is_word Attribute) (sym (true_word (lower p) h))
 
 -- ---- keys by their numbers
-
-alphanumeric_is_small : (c : ℕ) → is_ascii_alphanumeric c ≡ true → to_ascii_lowercase c < 256
-alphanumeric_is_small c h = grind (arith, nat_tests)
 
 -- keys with one number are one
 pub one_number : (k : KeyKind) (p q : List ℕ) → IsWord (key_kind k) p → IsWord (key_kind k) q → two_number p ≡ two_number q → lower p ≡ lower q
@@ -199,28 +201,37 @@ same_there before after f g same q =
 pub same_fields : (fs gs : Fields) → HaveSame fs gs → normal_fields fs ≡ normal_fields gs
 same_fields fs gs h = map_of_same word_cmp word_cmp_total same_words (entries fs) (entries gs) h
 
--- ---- keys that ascend
+-- ---- numbers that ascend
 
 pub all_insert : {X : Type 0} (P : X → Type 0) (xs ys : List X) (x : X) → P x → AllByRecursion P (xs ++ ys) → AllByRecursion P (xs ++ (x ∷ ys))
 all_insert P [] ys x p h = (p, h)
 all_insert P (z ∷ xs) ys x p h = (h.0, all_insert P xs ys x p h.1)
 
-pub ascend_later : (fs gs : Fields) → Ascend (fs ++ gs) → Ascend gs
-ascend_later [] gs h = h
-ascend_later (f ∷ fs) gs h = ascend_later fs gs h.1
+module _ {X : Type 0} (number : X → ℕ) where
+  pub ascend_later : (xs ys : List X) → Ascend number (xs ++ ys) → Ascend number ys
+  ascend_later [] ys h = h
+  ascend_later (x ∷ xs) ys h = ascend_later xs ys h.1
 
-pub ascend_insert : (fs gs : Fields) (f : List ℕ × List (List ℕ)) → AllByRecursion (λ g. two_number g.0 < two_number f.0) fs → AllByRecursion (λ g. two_number f.0 < two_number g.0) gs
-    → Ascend (fs ++ gs) → Ascend (fs ++ (f ∷ gs))
-ascend_insert [] gs f less more h = (more, h)
-ascend_insert (g ∷ fs) gs f less more h = (all_insert (λ k. two_number g.0 < two_number k.0) fs gs f less.0 h.0, ascend_insert fs gs f less.1 more h.1)
+  pub ascend_insert : (xs ys : List X) (x : X) → AllByRecursion (λ y. number y < number x) xs → AllByRecursion (λ y. number x < number y) ys → Ascend number (xs ++ ys) → Ascend number (xs ++ (x ∷ ys))
+  ascend_insert [] ys x less more h = (more, h)
+  ascend_insert (z ∷ xs) ys x less more h = (all_insert (λ y. number z < number y) xs ys x less.0 h.0, ascend_insert xs ys x less.1 more h.1)
 
-pub ascend_append : (fs : Fields) (f : List ℕ × List (List ℕ)) → AllByRecursion (λ g. two_number g.0 < two_number f.0) fs → Ascend fs → Ascend (fs ++ f ∷ [])
-ascend_append [] f less h = (tt, tt)
-ascend_append (g ∷ fs) f less h = (all_append (λ k. two_number g.0 < two_number k.0) fs (f ∷ []) h.0 (less.0, tt), ascend_append fs f less.1 h.1)
+  pub ascend_append : (xs : List X) (x : X) → AllByRecursion (λ y. number y < number x) xs → Ascend number xs → Ascend number (xs ++ x ∷ [])
+  ascend_append [] x less h = (tt, tt)
+  ascend_append (z ∷ xs) x less h = (all_append (λ y. number z < number y) xs (x ∷ []) h.0 (less.0, tt), ascend_append xs x less.1 h.1)
 
--- all that come after the first are above what it is above
-pub all_above : (n : ℕ) (f : List ℕ × List (List ℕ)) (fs : Fields) → n < two_number f.0 → Ascend (f ∷ fs) → AllByRecursion (λ g. n < two_number g.0) (f ∷ fs)
-all_above n f fs l h = (l, all_weaker (λ g. two_number f.0 < two_number g.0) (λ g. n < two_number g.0) (λ g m. omega arith) fs h.0)
+  -- all that come after the first are above what it is above
+  pub all_above : (n : ℕ) (x : X) (xs : List X) → n < number x → Ascend number (x ∷ xs) → AllByRecursion (λ y. n < number y) (x ∷ xs)
+  all_above n x xs l h = (l, all_weaker (λ y. number x < number y) (λ y. n < number y) (λ y m. omega arith) xs h.0)
+
+keys_below : (k : KeyKind) (p : List ℕ) → IsWord (key_kind k) p → (fs : Fields) → AllByRecursion (IsFieldOf k) fs → AllByRecursion (λ f. two_number p < key_number f) fs → below_all word_cmp (lower p) (lower_fields fs) ≡ true
+keys_below k p w [] each above = refl
+keys_below k p w (f ∷ fs) each above = and_from _ _ (word_below p f.0 (begins_two k p w) (begins_two k f.0 (keyed k f each.0).0) above.0) (keys_below k p w fs each.1 above.1)
+
+-- so do the keys in lower case
+pub keys_ascend : (k : KeyKind) (fs : Fields) → AllByRecursion (IsFieldOf k) fs → Ascend key_number fs → is_sorted word_cmp (lower_fields fs) ≡ true
+keys_ascend k [] each h = refl
+keys_ascend k (f ∷ fs) each h = and_from _ _ (keys_below k f.0 (keyed k f each.0).0 fs each.1 h.0) (keys_ascend k fs each.1 h.1)
 
 -- ---- fields that are cut at a key
 

@@ -7,7 +7,7 @@ pub mod VariantLemmas
 pub mod RepeatLemmas
 pub mod LineLemmas
 pub mod FieldLemmas
+pub mod OtherLemmas
 pub mod ReplacingLemmas
 pub mod SortingLemmas
-pub mod SortedBlocks
 pub mod BodyLemmas

@@ -11,7 +11,9 @@ use Rattle.iloc_spec_grammar.proofs.PartTexts.{join-append, join-dashes}
 use Rattle.iloc_spec_grammar.proofs.ReadBack.{all_append}
 use Rattle.iloc_spec_grammar.proofs.Readings.{keywords_pass, fields_read, fields_past, before_key_read, not_two, unicode_of-pieces}
 use Rattle.iloc_spec_grammar.proofs.ValuesLaws.{all_weaker}
-use Rattle.iloc_rewriting.specs.Rewriting.{AreSameWords, HaveSame}
+use Rattle.iloc_rewriting.specs.Rewriting.{HaveSame}
+use Rattle.iloc_rewriting.specs.Words.{AreInPlaceOf}
+use Rattle.iloc_rewriting.specs.declared.words.WordKind.TheVariants as kind
 use Rattle.iloc_blocks.specs.Blocks.{is_long}
 use Rattle.iloc_fronts.specs.Left.{pieces_of, piece_of, IsLeft}
 use Rattle.iloc_fronts.specs.declared.left.Left.{Left}
@@ -30,7 +32,7 @@ read_parts ws fs h k =
     λ i. record { attributes = before_key_read is_two ws fs words keys i; keywords = fields i }
 
 -- the same attributes, and keywords with the same first values, mean the same
-pub same_unicode : (vs ws : List (List ℕ)) (fs gs : Fields) → AreSameWords vs ws → AllByRecursion IsKeyword fs → AllByRecursion IsKeyword gs
+pub same_unicode : (vs ws : List (List ℕ)) (fs gs : Fields) → AreInPlaceOf kind.Attribute vs ws → AllByRecursion IsKeyword fs → AllByRecursion IsKeyword gs
     → HaveSame fs gs → length gs ≤ length fs → (v : Unicode) → UnicodeMeans (ws ++ fields_pieces gs) v → UnicodeMeans (vs ++ fields_pieces fs) v
 same_unicode vs ws fs gs h k l same few v m = record {
   written = record { attributes = vs; keywords = fs };

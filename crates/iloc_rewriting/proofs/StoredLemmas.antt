@@ -12,11 +12,11 @@ use Rattle.iloc_spec_grammar.proofs.PiecesLaws.{pieces-join}
 use Rattle.iloc_spec_grammar.proofs.PartTexts.{join-dashes, dashes-append}
 use Rattle.iloc_spec_grammar.proofs.ReadBack.{all_append}
 use Rattle.iloc_spec_grammar.proofs.ValuesLaws.{all_weaker}
-use Rattle.iloc_blocks.specs.Blocks.{left_of, ArePast}
+use Rattle.iloc_blocks.specs.Blocks.{left_of, ArePast, IsValue}
 use Rattle.iloc_fronts.specs.Words.{two_number}
 use Rattle.iloc_fronts.specs.Left.{pieces_of, piece_of, IsLeft}
 use Rattle.iloc_blocks.specs.Transform.{IsRest}
-use Rattle.iloc_rewriting.specs.Rewriting.{AreStored, IsShorter, IsValueStored, IsValueOf, IsFieldOf, IsFieldStored, IsFieldKept, AreValuesKept, Ascend, AreUpTo, AreFieldsStored, HaveSame, IsInserted, IsPlace, AreFieldsSoFar, AreFieldsInOrder, BeginsBlock, key_kind, least}
+use Rattle.iloc_rewriting.specs.Rewriting.{AreStored, IsShorter, IsValueStored, IsFieldOf, IsFieldStored, IsFieldKept, AreValuesKept, Ascend, AreUpTo, AreFieldsStored, HaveSame, IsInserted, IsPlace, IsPrintedField, IsPrintedValue, AreFieldsSoFar, AreFieldsInOrder, BeginsBlock, key_kind, key_number}
 use Rattle.iloc_fronts.specs.declared.left.Left.{Left}
 use Rattle.iloc_rewriting.specs.declared.keywords.KeyKind.{KeyKind}
 use Rattle.iloc_rewriting.specs.declared.keywords.KeyKind.TheVariants as kind
@@ -24,9 +24,10 @@ use Rattle.iloc_rewriting.specs.declared.keywords.Stored.{Stored}
 use Rattle.iloc_rewriting.specs.declared.keywords.Place.{Place}
 use Rattle.iloc_fronts.proofs.LeftLemmas.{word_left, length-piece}
 use Rattle.iloc_fronts.proofs.WordBytes.{number_in}
+use Rattle.iloc_blocks.proofs.TransformLemmas.{values_in_order, one_in_order}
 use Rattle.iloc_rewriting.proofs.StoringLemmas.{take_two}
 use Rattle.iloc_rewriting.proofs.RewritingLemmas.{attribute_from, cut_left, length-joined, piece_more}
-use Rattle.iloc_rewriting.proofs.KeywordLemmas.{key_short, length-key, field_from, fields_free, one_number, same_more, same_then, same_inserted, same_there, all_insert, ascend_later, ascend_insert, ascend_append, all_above, pieces_of_both, IsFieldsCut, cut_fields}
+use Rattle.iloc_rewriting.proofs.KeywordLemmas.{key_short, length-key, field_from, fields_free, one_number, same_more, same_then, same_inserted, same_there, all_insert, ascend_later, ascend_insert, ascend_append, all_above, all_fields, keys_ascend, pieces_of_both, IsFieldsCut, cut_fields}
 
 -- ---- what is left
 
@@ -55,11 +56,11 @@ stored_none room e more = record { begins = sym (append-nil (take e room)); more
 pub record IsPieceKept (text p room : List ℕ) (e : ℕ) : Type 0 where
   pub kept : List (List ℕ)
   pub stored : AreStored room (text ++ dashes kept) e
-  pub each : AllByRecursion (IsWord Attribute) kept
+  pub each : AllByRecursion IsValue kept
   pub few : length kept ≤ 1
   pub same : (vs ws : List (List ℕ)) → normal_values ws ≡ normal_values vs → normal_values (kept ++ ws) ≡ normal_values (p ∷ vs)
 
-pub piece_kept : (text p room : List ℕ) (e : ℕ) → IsWord Attribute p → AreStored room (text ++ 45 ∷ p) e → IsPieceKept text p room e
+pub piece_kept : (text p room : List ℕ) (e : ℕ) → IsValue p → AreStored room (text ++ 45 ∷ p) e → IsPieceKept text p room e
 piece_kept text p room e w a = record {
   kept = p ∷ [];
   stored = stored_one text room p e a;
@@ -77,13 +78,23 @@ piece_dropped p room e is more = record {
   same = λ vs ws h. h ∙ ap (λ (b : Bool). cond (not b) (lower p ∷ normal_values vs) (normal_values vs)) (sym is);
 }
 
+words_of_values : (ws : List (List ℕ)) → AllByRecursion IsValue ws → AllByRecursion (IsWord Attribute) ws
+words_of_values = all_weaker IsValue (IsWord Attribute) (λ w h. h.0)
+
 pub value_more : (text room p : List ℕ) (e m n : ℕ) (ps qs : List (List ℕ)) → IsWord Attribute p → IsPieceKept text p room e → ps ≡ p ∷ qs → m ≤ n
-    → (new : List ℕ) (s : Stored) → IsValueStored (take e room) qs m new s → IsValueStored text ps n new s
+    → (new : List ℕ) (s : Stored) → IsValueStored kind.Unicode (take e room) qs m new s → IsValueStored kind.Unicode text ps n new s
 value_more text room p e m n ps qs w k cut le new s h = record {
   values = p ∷ h.values;
   kept = k.kept ++ h.kept;
   cut = cut ∙ ap (λ l. p ∷ l) h.cut;
-  words = record { each = (w, h.words.each); each_kept = all_append (IsWord Attribute) k.kept h.kept k.each h.words.each_kept; few = omega (arith, k.few, h.words.few, length-append k.kept h.kept); same = k.same h.values h.kept h.words.same };
+  words = record {
+    each = (w, h.words.each);
+    each_kept = all_append (IsWord Attribute) k.kept h.kept (words_of_values k.kept k.each) h.words.each_kept;
+    printed = all_append IsValue k.kept h.kept k.each h.words.printed;
+    few = omega (arith, k.few, h.words.few, length-append k.kept h.kept);
+    enough = omega arith;
+    same = k.same h.values h.kept h.words.same;
+  };
   none = λ e. absurd (cc);
   stored = subst (λ (t : List ℕ). AreStored new t s.end)
       (ap (λ t. t ++ dashes h.kept) k.stored.begins ∙ append_assoc text (dashes k.kept) (dashes h.kept) ∙ ap (λ t. text ++ t) (sym (dashes-append k.kept h.kept))) h.stored;
@@ -91,23 +102,30 @@ value_more text room p e m n ps qs w k cut le new s h = record {
 }
 
 pub value_last : (text room p : List ℕ) (e n : ℕ) (ps : List (List ℕ)) → IsWord Attribute p → IsPieceKept text p room e → ps ≡ p ∷ []
-    → IsValueStored text ps n room (record { end = e; next = None })
+    → IsValueStored kind.Unicode text ps n room (record { end = e; next = None })
 value_last text room p e n ps w k cut = record {
   values = p ∷ [];
   kept = k.kept;
   cut = cut;
-  words = record { each = (w, tt); each_kept = k.each; few = k.few; same = ap normal_values (sym (append-nil k.kept)) ∙ k.same [] [] refl };
+  words = record {
+    each = (w, tt);
+    each_kept = words_of_values k.kept k.each;
+    printed = k.each;
+    few = k.few;
+    enough = omega arith;
+    same = ap normal_values (sym (append-nil k.kept)) ∙ k.same [] [] refl;
+  };
   none = λ e. absurd (cc);
   stored = k.stored;
   left = tt;
 }
 
-pub value_none : (room : List ℕ) (e n : ℕ) (l : Left) → e + 16 ≤ length room → IsLeft l → is_word Attribute (first_piece (pieces_of l)) ≡ false → l.len ≤ n → IsValueStored (take e room) (pieces_of l) n room (record { end = e; next = Some l })
+pub value_none : (room : List ℕ) (e n : ℕ) (l : Left) → e + 16 ≤ length room → IsLeft l → is_word Attribute (first_piece (pieces_of l)) ≡ false → l.len ≤ n → IsValueStored kind.Unicode (take e room) (pieces_of l) n room (record { end = e; next = Some l })
 value_none room e n l more h none le = record {
   values = [];
   kept = [];
   cut = refl;
-  words = record { each = tt; each_kept = tt; few = omega arith; same = refl };
+  words = record { each = tt; each_kept = tt; printed = tt; few = omega arith; enough = omega arith; same = refl };
   none = λ _. none;
   stored = stored_none room e more;
   left = (h, le);
@@ -115,38 +133,55 @@ value_none room e n l more h none le = record {
 
 -- ---- a value of `t`
 
-module _ (text room : List ℕ) (start n : ℕ) (ps : List (List ℕ)) (s : Stored) (h : IsValueStored text ps n room s) (long : length text ≡ start) where
+module _ (text room : List ℕ) (start n : ℕ) (ps : List (List ℕ)) (s : Stored) (h : IsValueStored kind.Unicode text ps n room s) (long : length text ≡ start) where
   length-kept : length (dashes h.kept) + start ≡ s.end
   length-kept = omega (arith, length-take-le s.end room (omega (arith, h.stored.more)), ap length h.stored.begins, length-append text (dashes h.kept), long)
 
   -- something is kept
-  pub value_kept : (s.end ≡ start → ⊥) → IsValueOf kind.Transform text ps n room s
-  value_kept other = (h, some h.kept length-kept)
+  pub value_kept : (s.end ≡ start → ⊥) → IsValueStored kind.Transform text ps n room s
+  value_kept other = record {
+    values = h.values;
+    kept = h.kept;
+    cut = h.cut;
+    words = record {
+      each = h.words.each;
+      each_kept = h.words.each_kept;
+      printed = (values_in_order true h.kept (record { each = h.words.each_kept; plain = λ _. h.words.printed; some = omega (arith, enough) })).printed refl;
+      few = h.words.few;
+      enough = enough;
+      same = h.words.same;
+    };
+    none = h.none;
+    stored = h.stored;
+    left = h.left;
+  }
     where
       some : (ws : List (List ℕ)) → length (dashes ws) + start ≡ s.end → 1 ≤ length ws
       some [] e = absurd (other (sym e ∙ omega arith))
       some (w ∷ ws) e = omega arith
 
+      enough : 1 ≤ length h.kept
+      enough = some h.kept length-kept
+
   -- nothing is, and one `true` is stored
   pub value_true : (p new : List ℕ) (e : ℕ) → s.end ≡ start → first_piece ps ≡ p → is_true (lower p) ≡ true → IsWord Attribute p → AreStored new (take start room ++ 45 ∷ p) e
-      → IsValueOf kind.Transform text ps n new (record { end = e; next = s.next })
-  value_true p new e same first is w a = (
-    record {
-      values = h.values;
-      kept = p ∷ [];
-      cut = h.cut;
-      words = record {
-        each = h.words.each;
-        each_kept = (w, tt);
-        few = some h.values h.none;
-        same = ap (λ (b : Bool). cond (not b) (lower p ∷ []) []) is ∙ ap normal_values (sym (empty h.kept (omega (arith, length-kept, same)))) ∙ h.words.same;
-      };
-      none = h.none;
-      stored = stored_one text new p e (subst (λ (t : List ℕ). AreStored new (t ++ 45 ∷ p) e) text_is a);
-      left = h.left;
-    },
-    omega arith,
-  )
+      → IsValueStored kind.Transform text ps n new (record { end = e; next = s.next })
+  value_true p new e same first is w a = record {
+    values = h.values;
+    kept = p ∷ [];
+    cut = h.cut;
+    words = record {
+      each = h.words.each;
+      each_kept = (w, tt);
+      printed = (one_in_order true p w).printed refl;
+      few = some h.values h.none;
+      enough = omega arith;
+      same = ap (λ (b : Bool). cond (not b) (lower p ∷ []) []) is ∙ ap normal_values (sym (empty h.kept (omega (arith, length-kept, same)))) ∙ h.words.same;
+    };
+    none = h.none;
+    stored = stored_one text new p e (subst (λ (t : List ℕ). AreStored new (t ++ 45 ∷ p) e) text_is a);
+    left = h.left;
+  }
     where
       empty : (ws : List (List ℕ)) → length (dashes ws) ≡ 0 → ws ≡ []
       empty [] l = refl
@@ -161,8 +196,8 @@ module _ (text room : List ℕ) (start n : ℕ) (ps : List (List ℕ)) (s : Stor
 
 -- ---- a field
 
-field_kept : (k : KeyKind) (key : List ℕ) (values kept : List (List ℕ)) → IsWord (key_kind k) key → AreValuesKept values kept → least k ≤ length kept → IsFieldKept k key values kept
-field_kept k key values kept w h l = record { is = field_from k key values w h.each (omega (arith, h.few)); is_kept = field_from k key kept w h.each_kept l; same = h.same }
+field_kept : (k : KeyKind) (key : List ℕ) (values kept : List (List ℕ)) → IsWord (key_kind k) key → AreValuesKept k values kept → IsFieldKept k key values kept
+field_kept k key values kept w h = record { is = field_from k key values w h.each (omega (arith, h.few, h.enough)); is_kept = (field_from k key kept w h.each_kept h.enough, h.printed); same = h.same }
 
 pub field_alone : (text room key : List ℕ) (e n : ℕ) (ps : List (List ℕ)) → IsWord (key_kind kind.Unicode) key → AreStored room (text ++ 45 ∷ key) e → ps ≡ key ∷ []
     → IsFieldStored kind.Unicode text key ps n room (record { end = e; next = None })
@@ -170,20 +205,20 @@ field_alone text room key e n ps w a cut = record {
   values = [];
   kept = [];
   cut = cut;
-  words = record { is = (w, tt); is_kept = (w, tt); same = refl };
+  words = record { is = (w, tt); is_kept = ((w, tt), tt); same = refl };
   stored = stored_one text room key e a;
   left = tt;
 }
 
 pub field_of_value : (k : KeyKind) (text room key : List ℕ) (e m n : ℕ) (ps qs : List (List ℕ)) → IsWord (key_kind k) key → AreStored room (text ++ 45 ∷ key) e → ps ≡ key ∷ qs → m < n
-    → (new : List ℕ) (s : Stored) → IsValueOf k (take e room) qs m new s → IsFieldStored k text key ps n new s
+    → (new : List ℕ) (s : Stored) → IsValueStored k (take e room) qs m new s → IsFieldStored k text key ps n new s
 field_of_value k text room key e m n ps qs w a cut less new s h = record {
-  values = h.0.values;
-  kept = h.0.kept;
-  cut = cut ∙ ap (λ l. key ∷ l) h.0.cut;
-  words = field_kept k key h.0.values h.0.kept w h.0.words h.1;
-  stored = stored_more text room key e h.0.kept new s.end a h.0.stored;
-  left = rest_shorter m n less s.next h.0.left;
+  values = h.values;
+  kept = h.kept;
+  cut = cut ∙ ap (λ l. key ∷ l) h.cut;
+  words = field_kept k key h.values h.kept w h.words;
+  stored = stored_more text room key e h.kept new s.end a h.stored;
+  left = rest_shorter m n less s.next h.left;
 }
 
 -- ---- fields
@@ -196,7 +231,7 @@ fields_stored text fs key kept =
 
 -- a field with a greater key comes last
 pub field_appended : (k : KeyKind) (text key room : List ℕ) (start end n : ℕ) (fs : Fields) (ps : List (List ℕ)) → AreFieldsStored k room start end text fs
-    → AllByRecursion (λ f. two_number f.0 < two_number key) fs → (new : List ℕ) (s : Stored) → IsFieldStored k (take end room) key ps n new s → IsInserted k text fs key ps n new s
+    → AllByRecursion (λ f. key_number f < two_number key) fs → (new : List ℕ) (s : Stored) → IsFieldStored k (take end room) key ps n new s → IsInserted k text fs key ps n new s
 field_appended k text key room start end n fs ps a less new s h = record {
   values = h.values;
   kept = h.kept;
@@ -206,18 +241,18 @@ field_appended k text key room start end n fs ps a less new s h = record {
   all = fs ++ (key, h.kept) ∷ [];
   few = omega (arith, length-append fs ((key, h.kept) ∷ []));
   stored = subst (λ (t : List ℕ). AreStored new t s.end) (ap (λ t. t ++ dashes (key ∷ h.kept)) a.stored ∙ fields_stored text fs key h.kept) h.stored;
-  each = all_append (IsFieldOf k) fs ((key, h.kept) ∷ []) a.each (h.words.is_kept, tt);
-  ascend = ascend_append fs (key, h.kept) less a.ascend;
-  up_to = λ m up le. all_append (λ f. two_number f.0 ≤ m) fs ((key, h.kept) ∷ []) up (le, tt);
+  each = all_append (IsPrintedField k) fs ((key, h.kept) ∷ []) a.each (h.words.is_kept, tt);
+  ascend = ascend_append key_number fs (key, h.kept) less a.ascend;
+  up_to = λ m up le. all_append (λ f. key_number f ≤ m) fs ((key, h.kept) ∷ []) up (le, tt);
   same = λ q. refl;
 }
 
 -- ---- a place among them
 
-at_number : (a n : ℕ) → IsTrue (a == n) → a ≡ n
+pub at_number : (a n : ℕ) → IsTrue (a == n) → a ≡ n
 at_number a n t = grind (arith, nat_tests)
 
-above_number : (a n : ℕ) → n ≤ a → (a == n) ≡ false → n < a
+pub above_number : (a n : ℕ) → n ≤ a → (a == n) ≡ false → n < a
 above_number a n le t = grind (arith, nat_tests)
 
 pub place_here : (k : KeyKind) (l : Left) → IsLeft l → IsWord (key_kind k) (piece_of l) → (number other : ℕ) → other ≡ two_number (take 2 l.window.now) → number ≤ other
@@ -305,7 +340,7 @@ module _ (room text : List ℕ) (start end : ℕ) (ps : List (List ℕ)) (room_e
 
 pub room_pieces : (k : KeyKind) (room text : List ℕ) (start end : ℕ) (fs : Fields) → end ≤ length room → AreFieldsStored k room start end text fs → start < end
     → pieces (take (end - start - 1) (take (length room - (start + 1)) (drop (start + 1) room))) ≡ fields_pieces fs
-room_pieces k room text start end fs room_end a some = pieces_in_room room text start end (fields_pieces fs) room_end a.before a.stored (fields_free k fs a.each) some
+room_pieces k room text start end fs room_end a some = pieces_in_room room text start end (fields_pieces fs) room_end a.before a.stored (fields_free k fs (all_fields k fs a.each)) some
 
 -- ---- a field among others
 
@@ -322,7 +357,7 @@ begins_still room xs ys m e inside long is =
 module _ (k : KeyKind) (room text key : List ℕ) (start end n number : ℕ) (fs : Fields) (ps : List (List ℕ)) (room_end : end ≤ length room) (a : AreFieldsStored k room start end text fs)
     (w : IsWord (key_kind k) key) (is : number ≡ two_number key) (len : ℕ) (p : Place) (place : IsPlace k number (fields_pieces fs) len p) where
   cut : IsFieldsCut fs place.before place.key place.rest
-  cut = cut_fields k fs place.before place.key place.rest a.each place.each place.is_key place.cut
+  cut = cut_fields k fs place.before place.key place.rest (all_fields k fs a.each) place.each place.is_key place.cut
 
   -- its key is there
   pub field_there : IsTrue p.is_there → (new : List ℕ) (e : ℕ) (next : Option Left) (more : end + 16 ≤ length new) → IsFieldStored k (take end room) key ps n new (record { end = e; next = next })
@@ -372,18 +407,20 @@ module _ (k : KeyKind) (room text key : List ℕ) (start end n number : ℕ) (fs
     all = place.before ++ ((key, h.kept) ∷ ((place.key, cut.value) ∷ cut.after));
     few = omega (arith, ap length cut.all, length-append place.before ((key, h.kept) ∷ ((place.key, cut.value) ∷ cut.after)), length-append place.before ((place.key, cut.value) ∷ cut.after));
     stored = subst (λ (t : List ℕ). AreStored new t e) text_is stored;
-    each = all_insert (IsFieldOf k) place.before ((place.key, cut.value) ∷ cut.after) (key, h.kept) h.words.is_kept (subst (AllByRecursion (IsFieldOf k)) cut.all a.each);
-    ascend = ascend_insert place.before ((place.key, cut.value) ∷ cut.after) (key, h.kept) less above (subst Ascend cut.all a.ascend);
-    up_to = λ m up le. all_insert (λ f. two_number f.0 ≤ m) place.before ((place.key, cut.value) ∷ cut.after) (key, h.kept) le (subst (AreUpTo m) cut.all up);
+    each = all_insert (IsPrintedField k) place.before ((place.key, cut.value) ∷ cut.after) (key, h.kept) h.words.is_kept (subst (AllByRecursion (IsPrintedField k)) cut.all a.each);
+    ascend = ascend_insert key_number place.before ((place.key, cut.value) ∷ cut.after) (key, h.kept) less above (subst (Ascend key_number) cut.all a.ascend);
+    up_to = λ m up le. all_insert (λ f. key_number f ≤ m) place.before ((place.key, cut.value) ∷ cut.after) (key, h.kept) le (subst (AreUpTo key_number m) cut.all up);
     same = subst (λ (gs : Fields). HaveSame (gs ++ (key, h.kept) ∷ []) (place.before ++ ((key, h.kept) ∷ ((place.key, cut.value) ∷ cut.after)))) (sym cut.all)
         (same_inserted place.before ((place.key, cut.value) ∷ cut.after) (key, h.kept) above);
   }
     where
-      less : AllByRecursion (λ g. two_number g.0 < two_number key) place.before
-      less = all_weaker (λ f. two_number f.0 < number) (λ g. two_number g.0 < two_number key) (λ f l. omega (arith, is, l)) place.before place.less
+      less : AllByRecursion (λ g. key_number g < two_number key) place.before
+      less = all_weaker (λ f. key_number f < number) (λ g. key_number g < two_number key) (λ f l. omega (arith, is, l)) place.before place.less
 
-      above : AllByRecursion (λ g. two_number key < two_number g.0) ((place.key, cut.value) ∷ cut.after)
-      above = all_above (two_number key) (place.key, cut.value) cut.after (omega (arith, is, place.greater other)) (ascend_later place.before ((place.key, cut.value) ∷ cut.after) (subst Ascend cut.all a.ascend))
+      above : AllByRecursion (λ g. two_number key < key_number g) ((place.key, cut.value) ∷ cut.after)
+      above =
+          all_above key_number (two_number key) (place.key, cut.value) cut.after (omega (arith, is, place.greater other))
+          (ascend_later key_number place.before ((place.key, cut.value) ∷ cut.after) (subst (Ascend key_number) cut.all a.ascend))
 
       same_place : end - (p.len + 1) ≡ end - p.len - 1
       same_place = omega arith
@@ -404,20 +441,7 @@ module _ (k : KeyKind) (room text key : List ℕ) (start end n number : ℕ) (fs
 
 -- ---- fields of a block
 
--- what one field more gives
-pub record IsStep (k : KeyKind) (text : List ℕ) (ps : List (List ℕ)) (start last : ℕ) (room : List ℕ) (s : Stored) : Type 0 where
-  pub written : Fields
-  pub kept : Fields
-  pub cut : ps ≡ fields_pieces written ++ left_of s.next
-  pub each : AllByRecursion (IsFieldOf k) written
-  pub some : length kept ≤ length written
-  pub same : HaveSame written kept
-  pub stored : AreFieldsStored k room start s.end text kept
-  pub up_to : AreUpTo last kept
-  pub more : s.end + 16 ≤ length room
-  pub behind : start ≤ s.end
-
-pub fields_none : (k : KeyKind) (room : List ℕ) (start : ℕ) (l : Left) → start ≤ length room → AreFieldsSoFar k (take start room) (pieces_of l) start start 0 room l
+pub fields_none : (k : KeyKind) (room : List ℕ) (start : ℕ) (l : Left) → start ≤ length room → AreFieldsSoFar k (take start room) (pieces_of l) start 0 room (record { end = start; next = Some l })
 fields_none k room start l inside = record {
   written = [];
   kept = [];
@@ -429,46 +453,38 @@ fields_none k room start l inside = record {
   up_to = tt;
 }
 
-pub one_more : (k : KeyKind) (text key room new : List ℕ) (ps : List (List ℕ)) (start end last next n : ℕ) (at : Left) (s : Stored) → (h : AreFieldsSoFar k text ps start end last room at)
-    → last ≤ next → two_number key ≤ next → IsInserted k text h.kept key (pieces_of at) n new s → IsStep k text ps start next new s
-one_more k text key room new ps start end last next n at s h le key_le i = record {
-  written = h.written ++ (key, i.values) ∷ [];
-  kept = i.all;
-  cut = h.cut ∙ ap (λ l. fields_pieces h.written ++ l) i.cut
-      ∙ sym (append_assoc (fields_pieces h.written) (key ∷ i.values) (left_of s.next))
-      ∙ ap (λ l. l ++ left_of s.next) (ap (λ l. fields_pieces h.written ++ l) (sym (append-nil (key ∷ i.values))) ∙ sym (pieces_of_both h.written ((key, i.values) ∷ [])));
-  each = all_append (IsFieldOf k) h.written ((key, i.values) ∷ []) h.each (i.words.is, tt);
-  some = omega (arith, h.some, i.few, length-append h.written ((key, i.values) ∷ []));
-  same = same_then (h.written ++ (key, i.values) ∷ []) (h.kept ++ (key, i.kept) ∷ []) i.all (same_more h.written h.kept key i.values i.kept i.words.same h.same) i.same;
-  stored = record { before = h.stored.before; stored = i.stored.begins; each = i.each; ascend = i.ascend };
-  up_to = i.up_to next (all_weaker (λ f. two_number f.0 ≤ last) (λ f. two_number f.0 ≤ next) (λ f l. omega arith) h.kept h.up_to) key_le;
-  more = i.stored.more;
-  behind = omega (arith, i.stored.more, h.stored.before, length-take-le s.end new (omega (arith, i.stored.more)), ap length i.stored.begins, length-append text (dashes (fields_pieces i.all)));
-}
+module _ (k : KeyKind) (text key room new : List ℕ) (ps : List (List ℕ)) (start end last next n : ℕ) (at : Left) (s : Stored) (h : AreFieldsSoFar k text ps start last room (record { end = end; next = Some at }))
+    (i : IsInserted k text h.kept key (pieces_of at) n new s) where
+  pub one_more : last ≤ next → two_number key ≤ next → AreFieldsSoFar k text ps start next new s
+  one_more le key_le = record {
+    written = h.written ++ (key, i.values) ∷ [];
+    kept = i.all;
+    cut = h.cut ∙ ap (λ l. fields_pieces h.written ++ l) i.cut
+        ∙ sym (append_assoc (fields_pieces h.written) (key ∷ i.values) (left_of s.next))
+        ∙ ap (λ l. l ++ left_of s.next) (ap (λ l. fields_pieces h.written ++ l) (sym (append-nil (key ∷ i.values))) ∙ sym (pieces_of_both h.written ((key, i.values) ∷ [])));
+    each = all_append (IsFieldOf k) h.written ((key, i.values) ∷ []) h.each (i.words.is, tt);
+    some = omega (arith, h.some, i.few, length-append h.written ((key, i.values) ∷ []));
+    same = same_then (h.written ++ (key, i.values) ∷ []) (h.kept ++ (key, i.kept) ∷ []) i.all (same_more h.written h.kept key i.values i.kept i.words.same h.same) i.same;
+    stored = record { before = h.stored.before; stored = i.stored.begins; each = i.each; ascend = i.ascend };
+    up_to = i.up_to next (all_weaker (λ f. key_number f ≤ last) (λ f. key_number f ≤ next) (λ f l. omega arith) h.kept h.up_to) key_le;
+  }
 
-pub fields_further : (k : KeyKind) (text : List ℕ) (ps : List (List ℕ)) (start last : ℕ) (room : List ℕ) (s : Stored) (l : Left) → s.next ≡ Some l → IsStep k text ps start last room s → AreFieldsSoFar k text ps start s.end last room l
-fields_further k text ps start last room s l e h = record {
-  written = h.written;
-  kept = h.kept;
-  cut = h.cut ∙ ap (λ o. fields_pieces h.written ++ left_of o) e;
-  each = h.each;
-  some = h.some;
-  same = h.same;
-  stored = h.stored;
-  up_to = h.up_to;
-}
+  pub behind_start : start ≤ s.end
+  behind_start = omega (arith, i.stored.more, h.stored.before, length-take-le s.end new (omega (arith, i.stored.more)), ap length i.stored.begins, length-append text (dashes (fields_pieces i.all)))
 
-pub fields_end : (k : KeyKind) (text : List ℕ) (ps : List (List ℕ)) (start last : ℕ) (room : List ℕ) (s : Stored) → s.next ≡ None → IsStep k text ps start last room s → AreFieldsInOrder k text ps room s
-fields_end k text ps start last room s e h = record {
+pub fields_end : (k : KeyKind) (text : List ℕ) (ps : List (List ℕ)) (start last : ℕ) (room : List ℕ) (s : Stored) → s.end + 16 ≤ length room → BeginsBlock s.next → AreFieldsSoFar k text ps start last room s → AreFieldsInOrder k text ps room s
+fields_end k text ps start last room s more left h = record {
   written = h.written;
   kept = h.kept;
   cut = h.cut;
   each = h.each;
-  each_kept = h.stored.each;
+  each_kept = all_fields k h.kept h.stored.each;
   some = h.some;
   same = h.same;
-  stored = record { begins = h.stored.stored; more = h.more };
-  left = subst BeginsBlock (sym e) tt;
+  ascending = keys_ascend k h.kept (all_fields k h.kept h.stored.each) h.stored.ascend;
+  printed = all_weaker (IsPrintedField k) (λ f. IsPrintedValue k f.1) (λ f i. i.1) h.kept h.stored.each;
+  stored = record { begins = h.stored.stored; more = more };
+  left = left;
 }
 
 pub max_first : (a b : ℕ) → a ≤ ord_max nat_cmp a b

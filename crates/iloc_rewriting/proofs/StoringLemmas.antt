@@ -1,8 +1,10 @@
 -- Bytes that are stored in the room of a new line.
-use Rattle.std.proofs.Common.{◌≡◌, ℕ, zero, suc, ◌+◌, ◌-◌, ◌<◌, ◌≤◌, List, [], ◌∷◌, ◌++◌, length, take, drop, refl, sym, ap, ◌∙◌, arith}
+use Rattle.std.proofs.Common.{◌≡◌, ◌≢◌, ℕ, zero, suc, ◌+◌, ◌-◌, ◌<◌, ◌≤◌, List, [], ◌∷◌, ◌++◌, length, take, drop, refl, sym, ap, ◌∙◌, arith, length-append}
 use Rattle.std.proofs.Math.Seq.{take-append-add}
 use Rattle.std.proofs.lemmas.List.{length-take-le, take-append-le, take-take}
 use Rattle.std.proofs.lemmas.Simd.{put_chunk_is, length-chunk}
+use Rattle.iloc_spec_grammar.specs.Syntax.{dashes}
+use Rattle.iloc_rewriting.specs.Rewriting.{AreStored}
 use lib.Lanes.{put_chunk, chunk}
 
 take_nothing : (n : ℕ) → ◌≡◌ {A = List ℕ} (take n []) []
@@ -34,3 +36,8 @@ sixteen_more bytes n more room =
     let all : 16 + (n - 16) ≡ n = omega arith in
     ap (λ t. take 16 bytes ++ t) (take-take (n - 16) (length bytes - 16) (drop 16 bytes) (omega arith))
     ∙ sym (take_two 16 (n - 16) bytes) ∙ ap (λ (m : ℕ). take m bytes) all
+
+-- where a line grew, something was stored
+pub some_stored : (text room : List ℕ) (ps : List (List ℕ)) (end : ℕ) → AreStored room (text ++ dashes ps) end → end ≢ length text → 0 < length ps
+some_stored text room [] end a more = absurd (more (omega (arith, length-take-le end room (omega (arith, a.more)), ap length a.begins, length-append text [])))
+some_stored text room (p ∷ ps) end a more = omega arith

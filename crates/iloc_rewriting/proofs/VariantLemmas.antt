@@ -1,8 +1,8 @@
 -- From variants in another order to the meaning of the line.
-use Rattle.std.proofs.Common.{take, drop, ◌≡◌, ℕ, ◌+◌, ◌-◌, ◌≤◌, List, [], ◌∷◌, ◌++◌, length, sym, ap, ◌∙◌, subst, arith, append_assoc, append-nil}
+use Rattle.std.proofs.Common.{take, drop, ◌≡◌, ℕ, ◌+◌, ◌-◌, ◌≤◌, List, [], ◌∷◌, ◌++◌, length, refl, sym, ap, ◌∙◌, subst, arith, append_assoc, append-nil}
 use Rattle.std.specs.List.{AllByRecursion}
 use Rattle.iloc_spec_grammar.specs.Syntax.{pieces, join, dashes, Variant, IsWord, IsHyphenFree, Identifier, IsIdentifier, HasWords, identifier_pieces, front, blocks, head, tail_blocks, languages}
-use Rattle.iloc_spec_grammar.specs.Meaning.{IdentifierMeans, normal_identifier}
+use Rattle.iloc_spec_grammar.specs.Meaning.{IdentifierMeans, normal_identifier, SpellsIdentifier, Fault, InvalidExtension, DuplicatedExtension, FirstBadBlock, HasFault, bad_block}
 use Rattle.iloc_spec_grammar.specs.Reading.{identifier_of}
 use Rattle.iloc_spec_grammar.specs.Values.{Reordered, IdentifierStep, with_variants}
 use Rattle.iloc_spec_grammar.specs.ByBlocks.{BlocksMean, MeansByBlocks}
@@ -18,17 +18,22 @@ use Rattle.iloc_spec_grammar.proofs.Readings.{IsLong, long_variant, after_langua
 use Rattle.iloc_spec_grammar.proofs.StepLaws.{identifier_step}
 use Rattle.iloc_spec_grammar.proofs.ValuesLaws.{all_weaker}
 use Rattle.iloc_blocks.specs.Blocks.{left_of}
-use Rattle.iloc_blocks.specs.Ordered.{IsBefore}
+use Rattle.iloc_blocks.specs.Bad.{HasBadBlock}
+use Rattle.iloc_blocks.specs.declared.bad_block.BadBlock.{BadBlock}
+use Rattle.iloc_blocks.specs.declared.bad_block.BadBlock.TheVariants as bad
+use Rattle.iloc_blocks.specs.Ordered.{IsBefore, IsReading}
 use Rattle.iloc_blocks.specs.declared.ordered.Ordered.{Ordered}
+use Rattle.iloc_blocks.specs.declared.ordered.Reading.{Reading}
+use Rattle.iloc_blocks.specs.declared.ordered.Reading.TheVariants as reading
 use Rattle.iloc_blocks.proofs.BadBlocks.{pieces_both, more_variants}
 use Rattle.iloc_blocks.proofs.BlockLemmas.{front_past, blocks_past}
 use Rattle.iloc_blocks.proofs.OrderedLemmas.{after, cut_there, rest_is}
 use Rattle.iloc_rewriting.specs.Rewriting.{AreStored, IsRewritten}
-use Rattle.iloc_rewriting.specs.Words.{AreWordsStored, MeansIdentifiersOf, IsSortedAs}
+use Rattle.iloc_rewriting.specs.Words.{AreWordsStored, IsSortedAs}
 use Rattle.iloc_rewriting.specs.declared.keywords.Stored.{Stored}
 use Rattle.iloc_rewriting.specs.declared.words.WordKind.TheVariants as kind
 use Rattle.iloc_rewriting.proofs.RewritingLemmas.{all_split}
-use Rattle.iloc_rewriting.proofs.WordLemmas.{reordered_after, turned}
+use Rattle.iloc_rewriting.proofs.WordLemmas.{reordered_after}
 
 -- ---- variants after an identifier without any
 
@@ -52,7 +57,7 @@ module _ (w : Identifier) (h : HasWords languages w) (none : w.variants ≡ []) 
       ap identifier_of (pieces_with (k ∷ ks) rest) ∙ read_longer w.language w.script w.region k ks rest h.script h.region is
 
   -- in another order they mean the same
-  pub same_identifier : (vs ks rest : List (List ℕ)) → AllByRecursion (IsWord Variant) ks → Reordered ks vs
+  same_identifier : (vs ks rest : List (List ℕ)) → AllByRecursion (IsWord Variant) ks → Reordered ks vs
       → (i : Identifier) → IdentifierMeans languages (with_pieces ks rest) i → IdentifierMeans languages (with_pieces vs rest) i
   same_identifier [] [] rest each r i m = m
   same_identifier (v ∷ vs) [] rest each r i m = absurd (omega (arith, total_reordered (λ (x : List ℕ). 1) r))
@@ -73,21 +78,39 @@ module _ (w : Identifier) (h : HasWords languages w) (none : w.variants ≡ []) 
 
   module _ (vs ks rest : List (List ℕ)) (each : AllByRecursion (IsWord Variant) vs) (each_k : AllByRecursion (IsWord Variant) ks) (order : Reordered ks vs)
       (t u : List ℕ) (old : pieces t ≡ with_pieces vs rest) (new : pieces u ≡ with_pieces ks rest) where
-    pub same_identifiers : MeansIdentifiersOf t u
-    same_identifiers i m =
-        subst (λ (ps : List (List ℕ)). IdentifierMeans languages ps i) (sym old) (same_identifier vs ks rest each_k order i (subst (λ (ps : List (List ℕ)). IdentifierMeans languages ps i) new m))
-
-    pub same_locales : IsRewritten t u
-    same_locales M m =
-        let given : MeansByBlocks languages u M = means_by_blocks languages languages_table u M m in
+    same_head : (i : Identifier) → IdentifierMeans languages (head (pieces u)) i → IdentifierMeans languages (head (pieces t)) i
+    same_head i m =
         let old_head : head (pieces t) ≡ with_pieces vs (front rest) = ap head old ∙ head_is vs rest each in
         let new_head : head (pieces u) ≡ with_pieces ks (front rest) = ap head new ∙ head_is ks rest each_k in
-        let same_blocks : tail_blocks (pieces u) ≡ tail_blocks (pieces t) = ap tail_blocks new ∙ blocks_are ks rest each_k ∙ sym (ap tail_blocks old ∙ blocks_are vs rest each) in
+        subst (λ (ps : List (List ℕ)). IdentifierMeans languages ps i) (sym old_head)
+        (same_identifier vs ks (front rest) each_k order i (subst (λ (ps : List (List ℕ)). IdentifierMeans languages ps i) new_head m))
+
+    same_blocks : tail_blocks (pieces u) ≡ tail_blocks (pieces t)
+    same_blocks = ap tail_blocks new ∙ blocks_are ks rest each_k ∙ sym (ap tail_blocks old ∙ blocks_are vs rest each)
+
+    same_locales : IsRewritten t u
+    same_locales M m =
+        let given : MeansByBlocks languages u M = means_by_blocks languages languages_table u M m in
         blocks_mean languages languages_table t M (record {
-          id = subst (λ (ps : List (List ℕ)). IdentifierMeans languages ps M.id) (sym old_head)
-              (same_identifier vs ks (front rest) each_k order M.id (subst (λ (ps : List (List ℕ)). IdentifierMeans languages ps M.id) new_head given.id));
+          id = same_head M.id given.id;
           blocks = subst (λ bs. BlocksMean languages bs M.extensions) same_blocks given.blocks;
         })
+
+    -- a block that is bad is the same there
+    same_fault : (f : Fault) → SpellsIdentifier languages (head (pieces u)) → FirstBadBlock languages [] (tail_blocks (pieces u)) f → HasFault languages t f
+    same_fault f s b =
+        let i = same_head (normal_identifier s.0) (record { written = s.0; grammatical = s.1; spelled = s.2; means = refl }) in
+        bad_block (i.written, i.grammatical, i.spelled) (subst (λ bs. FirstBadBlock languages [] bs f) same_blocks b)
+
+    same_bad : (b : BadBlock) → HasBadBlock u b → HasBadBlock t b
+    same_bad bad.Misfit (bad_block s f) = same_fault InvalidExtension s f
+    same_bad bad.Duplicated (bad_block s f) = same_fault DuplicatedExtension s f
+
+    pub same_told : (r : Reading) → IsReading u r → IsReading t r
+    same_told (reading.Ordered o) h = record { stored = h.stored; locale = h.locale; means = same_locales h.locale h.means; normal = h.normal }
+    same_told (reading.BadBlock b) h = same_bad b h
+    same_told reading.Unordered h = tt
+    same_told reading.Other h = tt
 
 -- ---- the line
 
@@ -107,7 +130,7 @@ module _ (w : List ℕ) (len at : ℕ) (o : Ordered) (inside : len + 16 ≤ leng
   abbrev written : Identifier
   written = b.plain.means.written
 
-  pub old_pieces : pieces (take len w) ≡ identifier_pieces written ++ (k.words ++ rest)
+  old_pieces : pieces (take len w) ≡ identifier_pieces written ++ (k.words ++ rest)
   old_pieces =
       ap pieces (cut_there w len at inside b.less b.hyphen) ∙ pieces_both (take at w) (after w len at inside b.less b.hyphen)
       ∙ (λ j. b.plain.means.spelled j ++ (ap pieces (sym (rest_is w len at inside b.less b.hyphen)) ∙ sym tail ∙ k.cut) j)
@@ -132,10 +155,4 @@ module _ (w : List ℕ) (len at : ℕ) (o : Ordered) (inside : len + 16 ≤ leng
       let none = b.plain.no_variant in
       let old = take len w in
       let new = take end room in
-      record {
-        more = all.more;
-        locale = same_locales written words none k.words k.kept rest k.same.each k.same.each_kept k.same.all old new old_pieces new_pieces;
-        locale_back = same_locales written words none k.kept k.words rest k.same.each_kept k.same.each (turned k.same.all) new old new_pieces old_pieces;
-        identifier = same_identifiers written words none k.words k.kept rest k.same.each k.same.each_kept k.same.all old new old_pieces new_pieces;
-        identifier_back = same_identifiers written words none k.kept k.words rest k.same.each_kept k.same.each (turned k.same.all) new old new_pieces old_pieces;
-      }
+      record { more = all.more; told = same_told written words none k.words k.kept rest k.same.each k.same.each_kept k.same.all old new old_pieces new_pieces }

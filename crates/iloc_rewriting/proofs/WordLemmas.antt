@@ -1,13 +1,14 @@
 -- Words that are stored in order.
-use Rattle.std.proofs.Common.{take, drop, ◌≡◌, ℕ, suc, ◌+◌, ◌-◌, ◌<◌, ◌≤◌, Bool, true, false, cond, List, [], ◌∷◌, ◌++◌, length, map, Some, None, refl, sym, ap, ◌∙◌, subst, arith, append_assoc, append-nil, length-append}
+use Rattle.std.proofs.Common.{take, drop, ◌≡◌, ℕ, suc, ◌+◌, ◌-◌, ◌<◌, ◌≤◌, ◌==◌, IsTrue, Bool, true, false, cond, List, [], ◌∷◌, ◌++◌, length, map, Some, None, refl, sym, ap, ◌∙◌, subst, arith, append_assoc, append-nil, length-append}
 use Rattle.std.specs.List.{AllByRecursion}
 use Rattle.std.specs.FinMap.{find}
 use Rattle.std.specs.Ordering.{eq_by_cmp}
+use Rattle.std.proofs.lemmas.Bool.{and_from}
 use Rattle.std.proofs.lemmas.List.{length-take-le, map-append}
 use Rattle.iloc_spec_grammar.specs.Syntax.{pieces, join, dashes, IsWord, IsHyphenFree, lower, word_cmp}
 use Rattle.iloc_spec_grammar.specs.Meaning.{set_of}
 use Rattle.iloc_spec_grammar.specs.Reading.{rest_of}
-use Rattle.iloc_spec_grammar.specs.Values.{Reordered}
+use Rattle.iloc_spec_grammar.specs.Values.{IsAscending, Reordered}
 use Rattle.iloc_spec_grammar.proofs.PartTexts.{join-dashes, dashes-append}
 use Rattle.iloc_spec_grammar.proofs.ReadBack.{all_append, word_hyphen_free}
 use Rattle.iloc_spec_grammar.proofs.ValuesLaws.{all_weaker}
@@ -17,18 +18,33 @@ use Rattle.iloc_spec_grammar.proofs.SetLaws.{marked, keys, set_of-first}
 use Rattle.iloc_fronts.specs.Left.{pieces_of, piece_of, IsLeft}
 use Rattle.iloc_fronts.specs.declared.left.Left.{Left}
 use Rattle.iloc_fronts.proofs.FrontLemmas.{IsShort, short_attribute, short_variant}
-use Rattle.iloc_rewriting.specs.Rewriting.{AreStored, AreAttributesStored}
-use Rattle.iloc_rewriting.specs.Words.{word_kind, KeepsAll, AreInPlaceOf, AreWordsStored, AreWordsHeld, IsWordStored, IsPlaceAmong, AreWordsSoFar}
-use Rattle.iloc_rewriting.specs.declared.keywords.Stored.{Stored}
+use Rattle.iloc_fronts.proofs.WordBytes.{attribute_begins}
+use Rattle.iloc_blocks.proofs.UnicodeLemmas.{TellsOrder, word_below, words_below}
+use Rattle.iloc_blocks.proofs.VariantLemmas.{variant_below}
+use Rattle.iloc_rewriting.specs.Rewriting.{AreStored, Ascend, AreUpTo}
+use Rattle.iloc_rewriting.specs.Words.{word_kind, number_by, KeepsAll, AreInPlaceOf, AreWordsStored, AreWordsHeld, IsWordStored, IsPlaceAmong, AreWordsSoFar}
 use Rattle.iloc_rewriting.specs.declared.keywords.Place.{Place}
 use Rattle.iloc_rewriting.specs.declared.words.WordKind.{WordKind}
 use Rattle.iloc_rewriting.specs.declared.words.WordKind.TheVariants as kind
 use Rattle.iloc_rewriting.proofs.RewritingLemmas.{cut_left, length-joined}
-use Rattle.iloc_rewriting.proofs.StoredLemmas.{split_room, pieces_in_room}
+use Rattle.iloc_rewriting.proofs.KeywordLemmas.{all_insert, ascend_later, ascend_insert, ascend_append, all_above}
+use Rattle.iloc_rewriting.proofs.StoredLemmas.{split_room, pieces_in_room, at_number, above_number}
 
 pub short_word : (s : WordKind) → IsShort (word_kind s)
 short_word kind.Attribute = short_attribute
 short_word kind.Variant = short_variant
+
+-- ---- words by their numbers
+
+number_tells : (s : WordKind) → TellsOrder (IsWord (word_kind s)) (number_by s)
+number_tells kind.Attribute p q h k l = word_below p q (attribute_begins p h) (attribute_begins q k) l
+number_tells kind.Variant p q h k l = variant_below p q h k l
+
+-- with ascending numbers they ascend
+pub words_ascend : (s : WordKind) (ws : List (List ℕ)) → AllByRecursion (IsWord (word_kind s)) ws → Ascend (number_by s) ws → IsAscending (map lower ws)
+words_ascend s [] each h = refl
+words_ascend s (w ∷ ws) each h = and_from _ _ (words_below (IsWord (word_kind s)) (number_by s) (number_tells s) w each.0 (number_by s w + 1) (omega arith) ws each.1
+    (all_weaker (λ v. number_by s w < number_by s v) (λ v. number_by s w + 1 ≤ number_by s v) (λ v l. omega arith) ws h.0)) (words_ascend s ws each.1 h.1)
 
 -- ---- the same words
 
@@ -96,31 +112,36 @@ words_stored text ws p =
     append_assoc text (dashes ws) (45 ∷ p)
     ∙ ap (λ t. text ++ t) (ap (λ t. dashes ws ++ t) (sym (append-nil (45 ∷ p))) ∙ sym (dashes-append ws (p ∷ [])))
 
-pub word_appended : (s : WordKind) (text room p : List ℕ) (start end : ℕ) (ws : List (List ℕ)) → AreWordsHeld s room start end text ws → IsWord (word_kind s) p → (new : List ℕ) (e : ℕ) → AreStored new (take end room ++ 45 ∷ p) e → IsWordStored s text ws p new e
-word_appended s text room p start end ws a w new e h = record {
+-- a word with a greater number comes last
+pub word_appended : (s : WordKind) (text room p : List ℕ) (start end : ℕ) (ws : List (List ℕ)) → AreWordsHeld s room start end text ws → IsWord (word_kind s) p
+    → AllByRecursion (λ w. number_by s w < number_by s p) ws → (new : List ℕ) (e : ℕ) → AreStored new (take end room ++ 45 ∷ p) e → IsWordStored s text ws p new e
+word_appended s text room p start end ws a w less new e h = record {
   all = ws ++ p ∷ [];
   same =
       let each = all_append (IsWord (word_kind s)) ws (p ∷ []) a.each (w, tt) in
-      record { each = each; each_kept = each; few = omega arith; same = refl; all = keeps_itself s (ws ++ p ∷ []) };
+      record { each = each; each_kept = each; ascend = ascend_append (number_by s) ws p less a.ascend; few = omega arith; same = refl; all = keeps_itself s (ws ++ p ∷ []) };
+  up_to = λ m up le. all_append (λ w. number_by s w ≤ m) ws (p ∷ []) up (le, tt);
   stored = subst (λ (t : List ℕ). AreStored new t e) (ap (λ t. t ++ 45 ∷ p) a.stored ∙ words_stored text ws p) h;
 }
 
 module _ (s : WordKind) (text room p : List ℕ) (start end len : ℕ) (ws : List (List ℕ)) (room_end : end ≤ length room) (a : AreWordsHeld s room start end text ws) (w : IsWord (word_kind s) p)
-    (place : Place) (c : IsPlaceAmong p ws len place) where
+    (place : Place) (c : IsPlaceAmong s p ws len place) where
   each_more : AllByRecursion (IsWord (word_kind s)) (ws ++ p ∷ [])
   each_more = all_append (IsWord (word_kind s)) ws (p ∷ []) a.each (w, tt)
 
   -- it is an attribute that is there
-  pub word_there : s ≡ kind.Attribute → place.is_there ≡ true → end + 16 ≤ length room → IsWordStored s text ws p room end
+  pub word_there : s ≡ kind.Attribute → IsTrue place.is_there → end + 16 ≤ length room → IsWordStored s text ws p room end
   word_there attribute there more = record {
     all = ws;
     same = record {
       each = each_more;
       each_kept = a.each;
+      ascend = a.ascend;
       few = omega (arith, length-append ws (p ∷ []));
       same = sym same;
       all = subst (λ (k : WordKind). KeepsAll k (ws ++ p ∷ []) ws) (sym attribute) tt;
     };
+    up_to = λ m up le. up;
     stored = record { begins = a.stored; more = more };
   }
     where
@@ -134,20 +155,28 @@ module _ (s : WordKind) (text room p : List ℕ) (start end len : ℕ) (ws : Lis
       same = ap set_of (map-append lower ws (p ∷ [])) ∙ ap (λ l. set_of (l ++ lower p ∷ [])) lowered ∙ set_there (lower p) (map lower c.before) (map lower c.rest) ∙ ap set_of (sym lowered)
 
   -- it comes before a greater one
-  pub word_inserted : (room' new : List ℕ) (m e : ℕ) → AreStored room' (take (end - place.len - 1) room ++ 45 ∷ p) m → AreStored new (take m room' ++ take (place.len + 1) (drop (end - place.len - 1) room)) e
+  pub word_inserted : place.is_there ≡ false → (room' new : List ℕ) (m e : ℕ) → AreStored room' (take (end - place.len - 1) room ++ 45 ∷ p) m → AreStored new (take m room' ++ take (place.len + 1) (drop (end - place.len - 1) room)) e
       → IsWordStored s text ws p new e
-  word_inserted room' new m e h stored = record {
+  word_inserted other room' new m e h stored = record {
     all = c.before ++ (p ∷ (c.first ∷ c.rest));
     same = record {
       each = each_more;
       each_kept = all_reordered (IsWord (word_kind s)) (turned order) each_more;
+      ascend = ascend_insert (number_by s) c.before (c.first ∷ c.rest) p c.less above ascending;
       few = omega (arith, ap length c.cut, length-append ws (p ∷ []), length-append c.before (c.first ∷ c.rest), length-append c.before (p ∷ (c.first ∷ c.rest)));
       same = set_of_reordered (map_reordered lower order);
       all = keeps_reordered s (ws ++ p ∷ []) (c.before ++ (p ∷ (c.first ∷ c.rest))) order;
     };
+    up_to = λ n up le. all_insert (λ w. number_by s w ≤ n) c.before (c.first ∷ c.rest) p le (subst (AreUpTo (number_by s) n) c.cut up);
     stored = subst (λ (t : List ℕ). AreStored new t e) text_is stored;
   }
     where
+      ascending : Ascend (number_by s) (c.before ++ (c.first ∷ c.rest))
+      ascending = subst (Ascend (number_by s)) c.cut a.ascend
+
+      above : AllByRecursion (λ w. number_by s p < number_by s w) (c.first ∷ c.rest)
+      above = all_above (number_by s) (number_by s p) c.first c.rest (c.greater other) (ascend_later (number_by s) c.before (c.first ∷ c.rest) ascending)
+
       order : Reordered (c.before ++ (p ∷ (c.first ∷ c.rest))) (ws ++ p ∷ [])
       order = subst (λ (l : List (List ℕ)). Reordered (c.before ++ (p ∷ (c.first ∷ c.rest))) l) (sym (append_assoc c.before (c.first ∷ c.rest) (p ∷ [])) ∙ ap (λ l. l ++ p ∷ []) (sym c.cut))
           (reordered_before c.before (first_last (c.first ∷ c.rest) p))
@@ -179,45 +208,52 @@ pub words_in_room : (s : WordKind) (room text : List ℕ) (start end : ℕ) (ws 
 words_in_room s room text start end ws room_end a some =
     pieces_in_room room text start end ws room_end a.before a.stored (all_weaker (IsWord (word_kind s)) IsHyphenFree (word_hyphen_free (word_kind s)) ws a.each) some
 
-pub among_here : (word : List ℕ) (l : Left) → IsLeft l → l.n < 16 → (there : Bool) → (there ≡ true → lower (piece_of l) ≡ lower word) → IsPlaceAmong word (pieces_of l) l.len (record { is_there = there; len = l.len })
-among_here word l h few there one = record {
+pub among_here : (s : WordKind) (word : List ℕ) (l : Left) → IsLeft l → l.n < 16 → (number other : ℕ) → number ≡ number_by s word → other ≡ number_by s (piece_of l) → number ≤ other
+    → (other ≡ number → lower (piece_of l) ≡ lower word) → IsPlaceAmong s word (pieces_of l) l.len (record { is_there = other == number; len = l.len })
+among_here s word l h few number other is first le one = record {
   before = [];
+  less = tt;
   first = piece_of l;
   rest = rest_of (pieces_of l);
   cut = cut_left l h few;
-  there = one;
+  there = λ t. one (at_number other number t);
+  greater = λ t. omega (arith, is, first, above_number other number le t);
   long = sym (length-joined l h) ∙ ap (λ ps. length (join ps)) (cut_left l h few);
   within = omega arith;
 }
 
-pub among_later : (word p : List ℕ) (ps qs : List (List ℕ)) (m n : ℕ) → ps ≡ p ∷ qs → m ≤ n → (k : Place) → IsPlaceAmong word qs m k → IsPlaceAmong word ps n k
-among_later word p ps qs m n e le k h = record {
+pub among_later : (s : WordKind) (word p : List ℕ) (ps qs : List (List ℕ)) (m n : ℕ) → number_by s p < number_by s word → ps ≡ p ∷ qs → m ≤ n → (k : Place) → IsPlaceAmong s word qs m k → IsPlaceAmong s word ps n k
+among_later s word p ps qs m n less e le k h = record {
   before = p ∷ h.before;
+  less = (less, h.less);
   first = h.first;
   rest = h.rest;
   cut = e ∙ ap (λ l. p ∷ l) h.cut;
   there = h.there;
+  greater = h.greater;
   long = h.long;
   within = omega (arith, h.within);
 }
 
 -- ---- words so far
 
-pub words_none : (s : WordKind) (room : List ℕ) (start : ℕ) (l : Left) → start ≤ length room → AreWordsSoFar s (take start room) (pieces_of l) start start room l
+pub words_none : (s : WordKind) (room : List ℕ) (start : ℕ) (l : Left) → start ≤ length room → AreWordsSoFar s (take start room) (pieces_of l) start start 0 room l
 words_none s room start l inside = record {
   words = [];
   kept = [];
   cut = refl;
-  same = record { each = tt; each_kept = tt; few = omega arith; same = refl; all = keeps_itself s [] };
-  held = record { before = length-take-le start room inside; stored = sym (append-nil (take start room)); each = tt };
+  same = record { each = tt; each_kept = tt; ascend = tt; few = omega arith; same = refl; all = keeps_itself s [] };
+  held = record { before = length-take-le start room inside; stored = sym (append-nil (take start room)); each = tt; ascend = tt };
+  up_to = tt;
 }
 
-module _ (s : WordKind) (text room p : List ℕ) (ps : List (List ℕ)) (start end : ℕ) (at : Left) (h : AreWordsSoFar s text ps start end room at) (w : IsWord (word_kind s) p) (new : List ℕ) (e : ℕ)
+module _ (s : WordKind) (text room p : List ℕ) (ps : List (List ℕ)) (start end last : ℕ) (at : Left) (h : AreWordsSoFar s text ps start end last room at) (w : IsWord (word_kind s) p) (new : List ℕ) (e : ℕ)
     (i : IsWordStored s text h.kept p new e) where
   more_same : AreInPlaceOf s (h.words ++ p ∷ []) i.all
   more_same = record {
     each = all_append (IsWord (word_kind s)) h.words (p ∷ []) h.same.each (w, tt);
     each_kept = i.same.each_kept;
+    ascend = i.same.ascend;
     few = omega (arith, i.same.few, h.same.few, length-append h.words (p ∷ []), length-append h.kept (p ∷ []));
     same = i.same.same ∙ set_more h.words h.kept p h.same.same;
     all = keeps_more s h.words h.kept i.all p h.same.all i.same.all;
@@ -233,36 +269,15 @@ module _ (s : WordKind) (text room p : List ℕ) (ps : List (List ℕ)) (start e
     left = tt;
   }
 
-  pub word_more : (next : Left) → pieces_of at ≡ p ∷ pieces_of next → AreWordsSoFar s text ps start e new next
-  word_more next cut = record {
+  pub word_more : (m : ℕ) (next : Left) → last ≤ m → number_by s p ≤ m → pieces_of at ≡ p ∷ pieces_of next → AreWordsSoFar s text ps start e m new next
+  word_more m next le word_le cut = record {
     words = h.words ++ p ∷ [];
     kept = i.all;
     cut = h.cut ∙ ap (λ l. h.words ++ l) cut ∙ sym (append_assoc h.words (p ∷ []) (pieces_of next));
     same = more_same;
-    held = record { before = h.held.before; stored = i.stored.begins; each = i.same.each_kept };
+    held = record { before = h.held.before; stored = i.stored.begins; each = i.same.each_kept; ascend = i.same.ascend };
+    up_to = i.up_to m (all_weaker (λ w. number_by s w ≤ last) (λ w. number_by s w ≤ m) (λ w l. omega arith) h.kept h.up_to) word_le;
   }
 
   pub word_behind : start ≤ e
   word_behind = omega (arith, i.stored.more, h.held.before, length-take-le e new (omega (arith, i.stored.more)), ap length i.stored.begins, length-append text (dashes i.all))
-
-pub words_end : (s : WordKind) (text room : List ℕ) (ps : List (List ℕ)) (start end n : ℕ) (at : Left) → AreWordsSoFar s text ps start end room at → end + 16 ≤ length room → IsLeft at → at.len ≤ n
-    → AreWordsStored s text ps n room (record { end = end; next = Some at })
-words_end s text room ps start end n at h more left le = record {
-  words = h.words;
-  kept = h.kept;
-  cut = h.cut;
-  same = h.same;
-  stored = record { begins = h.held.stored; more = more };
-  left = (left, le);
-}
-
--- what is stored of attributes
-pub attributes_of : (text : List ℕ) (ps : List (List ℕ)) (n : ℕ) (room : List ℕ) (t : Stored) → AreWordsStored kind.Attribute text ps n room t → AreAttributesStored text ps n room t
-attributes_of text ps n room t h = record {
-  words = h.words;
-  kept = h.kept;
-  cut = h.cut;
-  same = record { each = h.same.each; each_kept = h.same.each_kept; few = h.same.few; same = h.same.same };
-  stored = h.stored;
-  left = h.left;
-}

@@ -1,21 +1,16 @@
 -- A block of `t` that is brought into order.
-use Rattle.std.specs.Prelude.{◌≡◌, ⊤, true, false, List, Option, Some, None}
-use Rattle.iloc_spec_grammar.specs.Syntax.{Text, TransformKey, is_word, is_one_byte}
-use Rattle.iloc_fronts.specs.Left.{IsLeft}
-use Rattle.iloc_fronts.specs.declared.left.Left.{Left}
-use Rattle.iloc_rewriting.specs.Sorting.{ArePiecesStored}
+use Rattle.std.specs.Prelude.{◌≡◌, ◌≢◌, ◌≤◌, List, ◌++◌, length, Option, None, IfSome}
+use Rattle.iloc_spec_grammar.specs.Syntax.{Text, Identifier, HasWords, optional_pieces, dashes, languages}
+use Rattle.iloc_blocks.specs.Blocks.{left_of}
+use Rattle.iloc_rewriting.specs.Rewriting.{AreStored}
+use Rattle.iloc_rewriting.specs.Words.{IsRemaining}
 use Rattle.iloc_rewriting.specs.declared.keywords.Stored.{Stored}
 
--- the piece begins neither a field nor a block
-pub record IsInHead (p : Text) : Type 0 where
-  pub no_key : is_word TransformKey p ≡ false
-  pub long : is_one_byte p ≡ false
-
--- what is left is a part of the line
-abbrev pub IsPart : Option Left → Type 0
-IsPart None = ⊤
-IsPart (Some l) = IsLeft l
-
--- such pieces that come first are stored as they stand
-abbrev pub IsHeadStored : Text → List Text → Text → Stored → Type 0
-IsHeadStored text ps room s = ArePiecesStored IsInHead (λ p. true) IsPart text ps room s
+-- an identifier with at most one variant is stored as it stands, or none comes first and something is left
+pub record IsHeadStored (text : Text) (ps : List Text) (room : Text) (s : Stored) : Type 0 where
+  pub id : Option Identifier
+  pub cut : ps ≡ optional_pieces id ++ left_of s.next
+  pub words : IfSome id (λ i. HasWords languages i × (length i.variants ≤ 1))
+  pub some : s.next ≡ None → id ≢ None
+  pub stored : AreStored room (text ++ dashes (optional_pieces id)) s.end
+  pub left : IsRemaining s.next

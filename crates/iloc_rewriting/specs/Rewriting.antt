@@ -3,10 +3,10 @@ use Rattle.std.specs.Prelude.{◌≡◌, ⊤, ℕ, ◌+◌, ◌<◌, ◌≤◌, 
 use Rattle.std.specs.List.{AllByRecursion}
 use Rattle.std.specs.FinMap.{find, is_sorted}
 use Rattle.iloc_spec_grammar.specs.Syntax.{Text, Field, Fields, Kind, UnicodeKey, TransformKey, Attribute, is_word, IsWord, IsKeyword, IsField, word_cmp, first_piece, lower, dashes, join, fields_pieces, languages}
-use Rattle.iloc_spec_grammar.specs.Meaning.{Locale, Means, normal_values, set_of}
+use Rattle.iloc_spec_grammar.specs.Meaning.{Locale, Means, normal_values}
 use Rattle.iloc_blocks.specs.Blocks.{IsValue, left_of, lower_fields}
 use Rattle.iloc_fronts.specs.Words.{two_number}
-use Rattle.iloc_fronts.specs.Left.{pieces_of, IsLeft}
+use Rattle.iloc_fronts.specs.Left.{IsLeft}
 use Rattle.iloc_blocks.specs.Transform.{IsAsPrinted, IsRest}
 use Rattle.iloc_fronts.specs.declared.left.Left.{Left}
 use Rattle.iloc_rewriting.specs.declared.keywords.KeyKind.{KeyKind}
@@ -50,31 +50,38 @@ abbrev pub least : KeyKind → ℕ
 least kind.Unicode = 0
 least kind.Transform = 1
 
--- the values are words, and without `true` so are those that are kept
-pub record AreValuesKept (values kept : List Text) : Type 0 where
+-- the value is as it is printed
+abbrev pub IsPrintedValue : KeyKind → List Text → Type 0
+IsPrintedValue kind.Unicode ws = AllByRecursion IsValue ws
+IsPrintedValue kind.Transform ws = IsAsPrinted ws
+
+-- a field with such a value
+abbrev pub IsPrintedField : KeyKind → Field → Type 0
+IsPrintedField k f = IsFieldOf k f × IsPrintedValue k f.1
+
+-- the values are words, and so are those that are kept, enough for such a field, as they are printed
+pub record AreValuesKept (k : KeyKind) (values kept : List Text) : Type 0 where
   pub each : AllByRecursion (IsWord Attribute) values
   pub each_kept : AllByRecursion (IsWord Attribute) kept
+  pub printed : IsPrintedValue k kept
   pub few : length kept ≤ length values
+  pub enough : least k ≤ length kept
   pub same : normal_values kept ≡ normal_values values
 
--- values that come first are stored behind the text, but for `true`
-pub record IsValueStored (text : Text) (ps : List Text) (len : ℕ) (room : Text) (s : Stored) : Type 0 where
+-- values that come first are stored behind the text as those of such a field
+pub record IsValueStored (k : KeyKind) (text : Text) (ps : List Text) (len : ℕ) (room : Text) (s : Stored) : Type 0 where
   pub values : List Text
   pub kept : List Text
   pub cut : ps ≡ values ++ left_of s.next
-  pub words : AreValuesKept values kept
+  pub words : AreValuesKept k values kept
   pub none : values ≡ [] → is_word Attribute (first_piece ps) ≡ false
   pub stored : AreStored room (text ++ dashes kept) s.end
   pub left : IsRest len s.next
 
--- and enough of them for such a field are kept
-abbrev pub IsValueOf : KeyKind → Text → List Text → ℕ → Text → Stored → Type 0
-IsValueOf k text ps len room s = (v : IsValueStored text ps len room s) × (least k ≤ length v.kept)
-
--- the key has these values, and those that are kept mean the same
+-- the key has these values, and those that are kept, as they are printed, mean the same
 pub record IsFieldKept (k : KeyKind) (key : Text) (values kept : List Text) : Type 0 where
   pub is : IsFieldOf k (key, values)
-  pub is_kept : IsFieldOf k (key, kept)
+  pub is_kept : IsPrintedField k (key, kept)
   pub same : normal_values kept ≡ normal_values values
 
 -- a field with this key that comes first is stored behind the text
@@ -86,21 +93,25 @@ pub record IsFieldStored (k : KeyKind) (text key : Text) (ps : List Text) (len :
   pub stored : AreStored room (text ++ dashes (key ∷ kept)) s.end
   pub left : IsShorter len s.next
 
--- each key is less than those after it
-abbrev pub Ascend : Fields → Type 0
-Ascend [] = ⊤
-Ascend (f ∷ fs) = AllByRecursion (λ g. two_number f.0 < two_number g.0) fs × Ascend fs
+-- each number is less than those after it
+abbrev pub Ascend : {X : Type 0} → (X → ℕ) → List X → Type 0
+Ascend number [] = ⊤
+Ascend number (x ∷ xs) = AllByRecursion (λ y. number x < number y) xs × Ascend number xs
 
--- no key has a number above this one
-abbrev pub AreUpTo : ℕ → Fields → Type 0
-AreUpTo last fs = AllByRecursion (λ f. two_number f.0 ≤ last) fs
+-- no number is above this one
+abbrev pub AreUpTo : {X : Type 0} → (X → ℕ) → ℕ → List X → Type 0
+AreUpTo number last xs = AllByRecursion (λ x. number x ≤ last) xs
+
+-- the number of a key
+abbrev pub key_number : Field → ℕ
+key_number f = two_number f.0
 
 -- fields with ascending keys are stored behind the text
 pub record AreFieldsStored (k : KeyKind) (room : Text) (start end : ℕ) (text : Text) (fields : Fields) : Type 0 where
   pub before : length text ≡ start
   pub stored : take end room ≡ text ++ dashes (fields_pieces fields)
-  pub each : AllByRecursion (IsFieldOf k) fields
-  pub ascend : Ascend fields
+  pub each : AllByRecursion (IsPrintedField k) fields
+  pub ascend : Ascend key_number fields
 
 -- keys with their values in normal form
 abbrev pub entries : Fields → Fields
@@ -120,16 +131,16 @@ pub record IsInserted (k : KeyKind) (text : Text) (fields : Fields) (key : Text)
   pub all : Fields
   pub few : length all ≤ length fields + 1
   pub stored : AreStored room (text ++ dashes (fields_pieces all)) s.end
-  pub each : AllByRecursion (IsFieldOf k) all
-  pub ascend : Ascend all
-  pub up_to : (m : ℕ) → AreUpTo m fields → two_number key ≤ m → AreUpTo m all
+  pub each : AllByRecursion (IsPrintedField k) all
+  pub ascend : Ascend key_number all
+  pub up_to : (m : ℕ) → AreUpTo key_number m fields → two_number key ≤ m → AreUpTo key_number m all
   pub same : HaveSame (fields ++ (key, kept) ∷ []) all
 
 -- the fields before this place have lesser keys, and that of the next is told
 pub record IsPlace (k : KeyKind) (number : ℕ) (ps : List Text) (len : ℕ) (p : Place) : Type 0 where
   pub before : Fields
   pub each : AllByRecursion (λ f. IsWord (key_kind k) f.0 × AllByRecursion (IsWord Attribute) f.1) before
-  pub less : AllByRecursion (λ f. two_number f.0 < number) before
+  pub less : AllByRecursion (λ f. key_number f < number) before
   pub key : Text
   pub is_key : IsWord (key_kind k) key
   pub rest : List Text
@@ -145,11 +156,6 @@ abbrev pub BeginsBlock : Option Left → Type 0
 BeginsBlock None = ⊤
 BeginsBlock (Some l) = IsLeft l × (l.n ≡ 1)
 
--- the value is as it is printed
-abbrev pub IsPrintedValue : KeyKind → List Text → Type 0
-IsPrintedValue kind.Unicode ws = AllByRecursion IsValue ws
-IsPrintedValue kind.Transform ws = IsAsPrinted ws
-
 -- fields that come first are stored in order
 pub record AreFieldsInOrder (k : KeyKind) (text : Text) (ps : List Text) (room : Text) (s : Stored) : Type 0 where
   pub written : Fields
@@ -164,23 +170,7 @@ pub record AreFieldsInOrder (k : KeyKind) (text : Text) (ps : List Text) (room :
   pub stored : AreStored room (text ++ dashes (fields_pieces kept)) s.end
   pub left : BeginsBlock s.next
 
--- The block.
-
--- the same attributes, in another order and without repeats
-pub record AreSameWords (words kept : List Text) : Type 0 where
-  pub each : AllByRecursion (IsWord Attribute) words
-  pub each_kept : AllByRecursion (IsWord Attribute) kept
-  pub few : length kept ≤ length words
-  pub same : set_of (map lower kept) ≡ set_of (map lower words)
-
--- attributes that come first are stored
-pub record AreAttributesStored (text : Text) (ps : List Text) (len : ℕ) (room : Text) (s : Stored) : Type 0 where
-  pub words : List Text
-  pub kept : List Text
-  pub cut : ps ≡ words ++ left_of s.next
-  pub same : AreSameWords words kept
-  pub stored : AreStored room (text ++ dashes kept) s.end
-  pub left : IsRest len s.next
+-- The line.
 
 -- the new text is stored, and the old one means what it means
 abbrev pub IsRewrittenAs : Text → Text → ℕ → Type 0
@@ -189,12 +179,12 @@ IsRewrittenAs t room n = (n + 16 ≤ length room) × IsRewritten t (take n room)
 -- Steps.
 
 -- fields so far are stored in order behind the text, and others are left
-pub record AreFieldsSoFar (k : KeyKind) (text : Text) (ps : List Text) (start end last : ℕ) (room : Text) (l : Left) : Type 0 where
+pub record AreFieldsSoFar (k : KeyKind) (text : Text) (ps : List Text) (start last : ℕ) (room : Text) (s : Stored) : Type 0 where
   pub written : Fields
   pub kept : Fields
-  pub cut : ps ≡ fields_pieces written ++ pieces_of l
+  pub cut : ps ≡ fields_pieces written ++ left_of s.next
   pub each : AllByRecursion (IsFieldOf k) written
   pub some : length kept ≤ length written
   pub same : HaveSame written kept
-  pub stored : AreFieldsStored k room start end text kept
-  pub up_to : AreUpTo last kept
+  pub stored : AreFieldsStored k room start s.end text kept
+  pub up_to : AreUpTo key_number last kept

@@ -70,17 +70,13 @@ pub record IsBodyStored (R : List Text → List Text → Type 0) (text : Text) (
 abbrev pub MayStand : Text → Type 0
 MayStand p = is_in_range 2 8 (length p) ≡ true
 
--- such pieces that come first are stored, but for those that fail a test; so is what is left
-pub record ArePiecesStored (P : Text → Type 0) (test : Text → Bool) (Ends : Option Left → Type 0) (text : Text) (ps : List Text) (room : Text) (s : Stored) : Type 0 where
+-- the words among such pieces are stored, up to the next block
+pub record AreWordsKept (text : Text) (ps : List Text) (room : Text) (s : Stored) : Type 0 where
   pub body : List Text
   pub cut : ps ≡ body ++ left_of s.next
-  pub each : AllByRecursion P body
-  pub stored : AreStored room (text ++ dashes (filter test body)) s.end
-  pub left : Ends s.next
-
--- the words among pieces of two to eight bytes are stored, up to the next block
-abbrev pub AreWordsKept : Text → List Text → Text → Stored → Type 0
-AreWordsKept text ps room s = ArePiecesStored MayStand (is_word Subtag) BeginsBlock text ps room s
+  pub each : AllByRecursion MayStand body
+  pub stored : AreStored room (text ++ dashes (filter (is_word Subtag) body)) s.end
+  pub left : BeginsBlock s.next
 
 -- A block.
 

@@ -1,15 +1,15 @@
 -- Words that are brought into order: attributes, or variants.
-use Rattle.std.specs.Prelude.{◌≡◌, ⊤, ℕ, ◌+◌, ◌≤◌, Bool, true, false, List, [], ◌∷◌, ◌++◌, length, map, take, Option, Some, None}
+use Rattle.std.specs.Prelude.{◌≡◌, ⊤, ℕ, ◌+◌, ◌<◌, ◌≤◌, IsTrue, Bool, true, false, List, [], ◌∷◌, ◌++◌, length, map, take, Option, Some, None}
 use Rattle.std.specs.List.{AllByRecursion}
-use Rattle.iloc_spec_grammar.specs.Syntax.{Text, Kind, Attribute, Variant, IsWord, Identifier, lower, pieces, dashes, join, languages}
-use Rattle.iloc_spec_grammar.specs.Meaning.{IdentifierMeans, set_of}
+use Rattle.iloc_spec_grammar.specs.Syntax.{Text, Kind, Attribute, Variant, IsWord, lower, dashes, join}
+use Rattle.iloc_spec_grammar.specs.Meaning.{set_of}
 use Rattle.iloc_spec_grammar.specs.Values.{Reordered}
 use Rattle.iloc_blocks.specs.Blocks.{left_of}
 use Rattle.iloc_blocks.specs.Transform.{IsRest}
 use Rattle.iloc_fronts.specs.Words.{two_number, four_number}
 use Rattle.iloc_fronts.specs.Left.{pieces_of, IsLeft}
 use Rattle.iloc_fronts.specs.declared.left.Left.{Left}
-use Rattle.iloc_rewriting.specs.Rewriting.{AreStored, IsRewritten}
+use Rattle.iloc_rewriting.specs.Rewriting.{AreStored, Ascend, AreUpTo}
 use Rattle.iloc_rewriting.specs.declared.keywords.Stored.{Stored}
 use Rattle.iloc_rewriting.specs.declared.keywords.Place.{Place}
 use Rattle.iloc_rewriting.specs.declared.words.WordKind.{WordKind}
@@ -37,15 +37,16 @@ abbrev pub KeepsAll : WordKind → List Text → List Text → Type 0
 KeepsAll kind.Attribute words kept = ⊤
 KeepsAll kind.Variant words kept = Reordered kept words
 
--- the same words in another order, attributes without repeats
+-- the same words with ascending numbers, attributes without repeats
 pub record AreInPlaceOf (k : WordKind) (words kept : List Text) : Type 0 where
   pub each : AllByRecursion (IsWord (word_kind k)) words
   pub each_kept : AllByRecursion (IsWord (word_kind k)) kept
+  pub ascend : Ascend (number_by k) kept
   pub few : length kept ≤ length words
   pub same : set_of (map lower kept) ≡ set_of (map lower words)
   pub all : KeepsAll k words kept
 
--- words that come first are stored behind the text
+-- words that come first are stored in order behind the text
 pub record AreWordsStored (k : WordKind) (text : Text) (ps : List Text) (len : ℕ) (room : Text) (s : Stored) : Type 0 where
   pub words : List Text
   pub kept : List Text
@@ -54,35 +55,40 @@ pub record AreWordsStored (k : WordKind) (text : Text) (ps : List Text) (len : �
   pub stored : AreStored room (text ++ dashes kept) s.end
   pub left : IsRest len s.next
 
--- the room holds words behind the text
+-- the room holds words with ascending numbers behind the text
 pub record AreWordsHeld (k : WordKind) (room : Text) (start end : ℕ) (text : Text) (words : List Text) : Type 0 where
   pub before : length text ≡ start
   pub stored : take end room ≡ text ++ dashes words
   pub each : AllByRecursion (IsWord (word_kind k)) words
+  pub ascend : Ascend (number_by k) words
 
 -- one word more is stored among them
 pub record IsWordStored (k : WordKind) (text : Text) (words : List Text) (word room : Text) (end : ℕ) : Type 0 where
   pub all : List Text
   pub same : AreInPlaceOf k (words ++ word ∷ []) all
+  pub up_to : (m : ℕ) → AreUpTo (number_by k) m words → number_by k word ≤ m → AreUpTo (number_by k) m all
   pub stored : AreStored room (text ++ dashes all) end
 
 -- the word belongs where so many bytes are left of the pieces, or it is what comes there
-pub record IsPlaceAmong (word : Text) (ps : List Text) (len : ℕ) (p : Place) : Type 0 where
+pub record IsPlaceAmong (k : WordKind) (word : Text) (ps : List Text) (len : ℕ) (p : Place) : Type 0 where
   pub before : List Text
+  pub less : AllByRecursion (λ w. number_by k w < number_by k word) before
   pub first : Text
   pub rest : List Text
   pub cut : ps ≡ before ++ (first ∷ rest)
-  pub there : p.is_there ≡ true → lower first ≡ lower word
+  pub there : IsTrue p.is_there → lower first ≡ lower word
+  pub greater : p.is_there ≡ false → number_by k word < number_by k first
   pub long : p.len ≡ length (join (first ∷ rest))
   pub within : p.len ≤ len
 
 -- words so far are stored, and other pieces are left
-pub record AreWordsSoFar (k : WordKind) (text : Text) (ps : List Text) (start end : ℕ) (room : Text) (l : Left) : Type 0 where
+pub record AreWordsSoFar (k : WordKind) (text : Text) (ps : List Text) (start end last : ℕ) (room : Text) (l : Left) : Type 0 where
   pub words : List Text
   pub kept : List Text
   pub cut : ps ≡ words ++ pieces_of l
   pub same : AreInPlaceOf k words kept
   pub held : AreWordsHeld k room start end text kept
+  pub up_to : AreUpTo (number_by k) last kept
 
 -- The line.
 

@@ -68,7 +68,7 @@ pub(crate) fn put_body<'a>(
 
 // Stores what comes before the next block as it stands.
 #[inline(always)]
-fn put_same<'a>(
+pub(crate) fn put_same<'a>(
     left: Left<'a>,
     next: Option<Left<'a>>,
     room: &mut [u8],
@@ -124,10 +124,10 @@ fn put_unicode<'a>(left: Left<'a>, room: &mut [u8], start: usize) -> Option<Stor
         (take start room.old) (pieces_of left.entry) room.new) }
 {
     let words = put_words(WordKind::Attribute, left, room, start)?;
-    let Some(next) = words.next else {
-        return Some(words);
+    let stored = match words.next {
+        Some(next) => put_fields(KeyKind::Unicode, next, room, words.end)?,
+        None => words,
     };
-    let stored = put_fields(KeyKind::Unicode, next, room, words.end)?;
     if stored.end == start {
         return None;
     }

@@ -10,9 +10,9 @@ ghost use Rattle.iloc_rewriting.specs.Rewriting.{
   IsFieldStored,
   IsInserted,
   IsPlace,
-  IsValueOf,
   IsValueStored,
   key_kind,
+  key_number,
   kind_of,
 };
 
@@ -123,7 +123,7 @@ fn put_among<'a>(
     requires room { end + 16 ≤ length room.old }
     requires start { start ≤ end }
     ensures { (t : Text) (fs : Fields) → AreFieldsStored kind room.old start end t fs
-        → AreUpTo last fs → IfSome result (IsInserted kind t fs (piece_of left.entry)
+        → AreUpTo key_number last fs → IfSome result (IsInserted kind t fs (piece_of left.entry)
         (pieces_of left.entry) left.entry.len room.new) }
 {
     if number_of_two(left.window) > last {
@@ -160,7 +160,7 @@ fn put_value<'a>(kind: KeyKind, left: Left<'a>, room: &mut [u8], start: usize) -
     requires left { IsLeft left }
     requires room { start + 16 ≤ length room.old }
     ensures { IfSome result
-        (IsValueOf kind (take start room.old) (pieces_of left.entry) left.entry.len room.new) }
+        (IsValueStored kind (take start room.old) (pieces_of left.entry) left.entry.len room.new) }
 {
     let stored = put_values(left, room, start)?;
     match kind {
@@ -180,10 +180,9 @@ fn keep_one<'a>(
     requires left { IsLeft left }
     requires room { start + 16 ≤ length room.old }
     ensures { (t : Text)
-        → IsValueStored t (pieces_of left.entry) left.entry.len room.old stored.entry
-        → length t ≡ start
-        → IfSome result
-        (IsValueOf kinds.Transform t (pieces_of left.entry) left.entry.len room.new) }
+        → IsValueStored kinds.Unicode t (pieces_of left.entry) left.entry.len room.old stored.entry
+        → length t ≡ start → IfSome result
+        (IsValueStored kinds.Transform t (pieces_of left.entry) left.entry.len room.new) }
 {
     if stored.end != start {
         return Some(stored);
@@ -203,8 +202,8 @@ fn keep_one<'a>(
 fn put_values<'a>(left: Left<'a>, room: &mut [u8], start: usize) -> Option<Stored<'a>>
     requires left { IsLeft left }
     requires room { start + 16 ≤ length room.old }
-    ensures { IfSome result
-        (IsValueStored (take start room.old) (pieces_of left.entry) left.entry.len room.new) }
+    ensures { IfSome result (IsValueStored kinds.Unicode (take start room.old)
+        (pieces_of left.entry) left.entry.len room.new) }
 {
     let mut at = left;
     let mut end = start;

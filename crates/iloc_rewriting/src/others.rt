@@ -1,8 +1,9 @@
 //! Stores what follows the singleton of another extension than `t` and `u`.
 ghost use Rattle.std.specs.Prelude.{◌+◌, ◌≤◌, IfSome, length, take};
 ghost use Rattle.iloc_spec_grammar.specs.ByBlocks.{OtherMeans};
+ghost use Rattle.iloc_blocks.specs.Blocks.{AreSubtags};
 ghost use Rattle.iloc_fronts.specs.Left.{IsLeft, pieces_of};
-ghost use Rattle.iloc_rewriting.specs.Sorting.{AreWordsKept, IsBodyStored, Keeps};
+ghost use Rattle.iloc_rewriting.specs.Sorting.{AreWordsKept, IsBodyStored, IsOrderOf};
 
 use crate::keywords::Stored;
 use crate::storing::put_piece;

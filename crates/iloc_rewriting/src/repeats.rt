@@ -4,7 +4,7 @@ ghost use Rattle.iloc_spec_grammar.specs.Syntax.{IsWord, Variant};
 ghost use Rattle.iloc_fronts.specs.Left.{IsLeft, piece_of, pieces_of};
 ghost use Rattle.iloc_rewriting.specs.Repeats.{ComesAgain, HasRepeat, HaveRepeat};
 
-use crate::attributes::are_one;
+use crate::same::are_one;
 use iloc_blocks::ordered::cut_at;
 use iloc_fronts::left::{Left, after_piece, left_in};
 use iloc_fronts::words::is_variant;

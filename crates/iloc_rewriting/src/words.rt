@@ -2,6 +2,7 @@
 ghost use Rattle.std.specs.Prelude.{◌≡◌, ◌+◌, ◌≤◌, IfSome, List, length, take};
 ghost use Rattle.iloc_spec_grammar.specs.Syntax.{IsWord, Text, is_word};
 ghost use Rattle.iloc_fronts.specs.Left.{IsLeft, piece_of, pieces_of};
+ghost use Rattle.iloc_rewriting.specs.Rewriting.{AreUpTo};
 ghost use Rattle.iloc_rewriting.specs.Words.{
   AreWordsHeld,
   AreWordsStored,
@@ -12,8 +13,8 @@ ghost use Rattle.iloc_rewriting.specs.Words.{
   words_of,
 };
 
-use crate::attributes::are_one;
 use crate::keywords::{Place, Stored};
+use crate::same::are_one;
 use crate::storing::{put_bytes, put_piece};
 use iloc_fronts::left::{Left, after_piece, left_in};
 use iloc_fronts::words::{is_attribute, is_variant, number_of_four, number_of_two};
@@ -99,6 +100,7 @@ fn put_word(
     requires room { end + 16 ≤ length room.old }
     requires start { start ≤ end }
     ensures { (t : Text) (ws : List Text) → AreWordsHeld kind room.old start end t ws
+        → AreUpTo (number_by kind) last ws
         → IfSome result (IsWordStored kind t ws (piece_of left.entry) room.new) }
 {
     if number_of(kind, left) > last {
@@ -179,14 +181,20 @@ fn place_among(kind: WordKind, word: Left<'_>, left: Left<'_>) -> Option<Place>
     requires fits { IsWord (word_kind kind) (piece_of word) }
     requires left { IsLeft left }
     ensures { IfSome result
-        (IsPlaceAmong (piece_of word.entry) (pieces_of left.entry) left.entry.len) }
+        (IsPlaceAmong kind (piece_of word.entry) (pieces_of left.entry) left.entry.len) }
 {
     let number = number_of(kind, word);
     let mut at = left;
     'words: while is_word_of(kind, at.window, at.n) {
         let other = number_of(kind, at);
+        if other == number && !are_one(word, at) {
+            return None;
+        }
         if other >= number {
-            return place_at(kind, word, at, other > number);
+            return Some(Place {
+                is_there: other == number,
+                len: at.len,
+            });
         }
         if at.n == at.len {
             return None;
@@ -194,28 +202,4 @@ fn place_among(kind: WordKind, word: Left<'_>, left: Left<'_>) -> Option<Place>
         at = after_piece(at);
     }
     None
-}
-
-// The place here, if this word is greater, or the same.
-#[inline(always)]
-fn place_at(kind: WordKind, word: Left<'_>, left: Left<'_>, is_greater: bool) -> Option<Place>
-    requires word { IsLeft word }
-    requires left { IsLeft left }
-    requires first { IsWord (word_kind kind) (piece_of left) }
-    ensures { IfSome result
-        (IsPlaceAmong (piece_of word.entry) (pieces_of left.entry) left.entry.len) }
-{
-    if is_greater {
-        return Some(Place {
-            is_there: false,
-            len: left.len,
-        });
-    }
-    if !are_one(word, left) {
-        return None;
-    }
-    Some(Place {
-        is_there: true,
-        len: left.len,
-    })
 }

@@ -11,7 +11,7 @@ ghost use Rattle.std.specs.Prelude.{◌+◌, ◌≤◌, length};
 ghost use Rattle.iloc_plain.specs.Plain.{AreWords};
 ghost use Rattle.iloc_blocks.specs.Ordered.{IsStored};
 
-use iloc_blocks::{BadBlock, Ordered, Reading, find_bad_block, read_ordered, read_varied};
+use iloc_blocks::{BadBlock, Ordered, Reading, read_ordered, read_varied};
 use iloc_fronts::{Block, Front, Keyword, read_front, read_keyword};
 use iloc_plain::{Plain, read_plain, read_plain_text};
 use iloc_rewriting::{repeats_variant, rewrite, sort_variants};
@@ -157,34 +157,6 @@ fn ordered(window: &[u8], len: usize, out: &mut String) {
     }
 }
 
-// Says what is wrong with the first bad block, if sixteen bytes follow the line at least.
-fn bad(window: &[u8], len: usize, out: &mut String) {
-    if window.len() < 16 || len > window.len() - 16 {
-        return say(out, "not told");
-    }
-    let Front::Block(block) = read_front(window, len) else {
-        return say(out, "not told");
-    };
-    let at = len.wrapping_sub(block.tail.wrapping_add(1));
-    match find_bad_block(window, len, at) {
-        Some(BadBlock::Misfit) => say(out, "misfit"),
-        Some(BadBlock::Duplicated) => say(out, "duplicated"),
-        None => say(out, "not told"),
-    }
-}
-
-// Says the line that is brought into order, if sixteen bytes follow it at least.
-fn rewritten(window: &[u8], len: usize, out: &mut String) {
-    if window.len() < 16 || len > window.len() - 16 {
-        return say(out, "not told");
-    }
-    let mut room = [0u8; 128];
-    match rewrite(window, len, &mut room) {
-        Some(len) => bytes(out, room.get(..len).unwrap_or(b"")),
-        None => say(out, "not told"),
-    }
-}
-
 // How many bytes of the line are the longest plain identifier that a hyphen follows; all if there is none.
 fn identifier_len(window: &[u8], len: usize) -> usize
     requires { len + 16 ≤ length window.now }
@@ -196,6 +168,21 @@ fn identifier_len(window: &[u8], len: usize) -> usize
         }
     }
     found
+}
+
+// Says what a line is that is brought into order, if sixteen bytes follow it at least.
+fn rewritten(window: &[u8], len: usize, out: &mut String) {
+    if window.len() < 16 || len > window.len() - 16 {
+        return say(out, "not told");
+    }
+    let at = identifier_len(window, len);
+    let mut room = [0u8; 128];
+    match rewrite(window, len, at, &mut room) {
+        Reading::Ordered(line) => in_order(&line, out),
+        Reading::BadBlock(BadBlock::Misfit) => say(out, "misfit"),
+        Reading::BadBlock(BadBlock::Duplicated) => say(out, "duplicated"),
+        Reading::Unordered | Reading::Other => say(out, "not told"),
+    }
 }
 
 // Says the line with its variants in order, if sixteen bytes follow it at least.
@@ -235,7 +222,6 @@ pub fn answer(what: &str, text: &[u8], len: &[u8], out: &mut String) {
         "front" => front(text, number_of(len), out),
         "keyword" => keyword(text, number_of(len), out),
         "ordered" => ordered(text, number_of(len), out),
-        "bad" => bad(text, number_of(len), out),
         "rewritten" => rewritten(text, number_of(len), out),
         "sorted" => sorted(text, number_of(len), out),
         "repeats" => repeats(text, number_of(len), out),

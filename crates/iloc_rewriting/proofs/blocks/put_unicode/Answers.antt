@@ -1,14 +1,24 @@
-use Rattle.std.proofs.Common.{take}
-use Rattle.std.proofs.lemmas.Option.{IfSome_then}
+use Rattle.std.proofs.Common.{Option, sym, subst, take, arith}
+use Rattle.std.proofs.lemmas.List.{length-take-le}
+use Rattle.iloc_blocks.specs.Blocks.{left_of}
 use Rattle.iloc_fronts.specs.Left.{pieces_of}
-use Rattle.iloc_rewriting.proofs.LineLemmas.{unicode_of_attributes, unicode_of_both}
+use Rattle.iloc_fronts.specs.declared.left.Left.{Left}
+use Rattle.iloc_rewriting.specs.Rewriting.{AreFieldsInOrder}
+use Rattle.iloc_rewriting.specs.declared.keywords.KeyKind.TheVariants as kind
+use Rattle.iloc_rewriting.proofs.LineLemmas.{no_fields, unicode_in_order}
 use Rattle.iloc_rewriting.proofs.blocks.put_unicode.Goals as goal
-
-pub returns-in_default : goal.returns-in_default
-returns-in_default c =
-    unicode_of_attributes (take c.args.start c.args.room.now) (pieces_of c.args.left) c.args.left.len c.put_attributes.new.room c.in_ok-stored.stored c.in_ok-stored.ensures c.in_default.is
+use Rattle.iloc_rewriting.proofs.blocks.put_unicode.Goals.{in-Some+in_ok-stored-in-Some, in-None}
 
 pub returns : goal.returns
 returns c =
-    IfSome_then c.put_fields.result c.put_fields.ensures (unicode_of_both (take c.args.start c.args.room.now) (pieces_of c.args.left) c.args.left.len c.put_attributes.new.room
-    c.in_ok-stored.stored c.in_ok-stored.ensures c.in-Some.next c.in-Some.is c.put_fields.new.room)
+    let words = c.in_ok-words.words in
+    let first = c.put_words.new.room in
+    let fields : AreFieldsInOrder kind.Unicode (take words.end first) (left_of words.next) c.match-words.room c.match-words.stored = elim c.match-words.branch [
+      | in-Some+in_ok-stored-in-Some w ↦ rw (w.room-is, w.stored-is, w.in-Some.is) w.in_ok-stored-in-Some.ensures
+      | in-None w ↦
+          rw (w.room-is, w.stored-is)
+          (subst (λ (o : Option Left). AreFieldsInOrder kind.Unicode (take words.end first) (left_of o) first (record { end = words.end; next = o })) (sym w.in-None.is)
+          (no_fields first words.end c.in_ok-words.ensures.stored.more))
+    ] in
+    unicode_in_order (take c.args.start c.args.room.now) (pieces_of c.args.left) c.args.left.len first words c.in_ok-words.ensures c.match-words.room c.match-words.stored fields
+    c.args.start (length-take-le c.args.start c.args.room.now (omega (arith, c.requires.room))) c.if-stored-start.false

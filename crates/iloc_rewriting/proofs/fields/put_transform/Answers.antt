@@ -1,13 +1,14 @@
-use Rattle.std.proofs.Common.{take}
-use Rattle.std.proofs.lemmas.Option.{IfSome_then}
-use Rattle.iloc_rewriting.proofs.FieldLemmas.{transform_of_head, transform_of_both}
+use Rattle.std.proofs.Common.{take, ◌∙◌, arith}
+use Rattle.std.proofs.lemmas.List.{length-take-le}
+use Rattle.iloc_rewriting.proofs.FieldLemmas.{head_alone, head_before}
 use Rattle.iloc_rewriting.proofs.fields.put_transform.Goals as goal
 
 pub returns-in_default : goal.returns-in_default
 returns-in_default c =
-    transform_of_head (take c.args.start c.args.room.now) c.args.left c.put_head.new.room c.in_ok-stored.stored c.in_ok-stored.ensures c.in_default.is
+    head_alone (take c.args.start c.args.room.now) c.args.left c.put_head.new.room c.in_ok-head.head c.in_ok-head.ensures c.in_default.is
 
 pub returns : goal.returns
 returns c =
-    IfSome_then c.put_fields.result c.put_fields.ensures (transform_of_both (take c.args.start c.args.room.now) c.args.left c.put_head.new.room
-    c.in_ok-stored.stored c.in_ok-stored.ensures c.in-Some.next c.in-Some.is c.put_fields.new.room)
+    let text = take c.args.start c.args.room.now in
+    head_before text c.args.left c.put_head.new.room c.in_ok-head.head c.in_ok-head.ensures c.in-Some.next c.in-Some.is c.put_fields.new.room c.in_ok-stored.stored c.in_ok-stored.ensures
+    (λ e. c.if-stored-start.false (e ∙ length-take-le c.args.start c.args.room.now (omega (arith, c.requires.room))))

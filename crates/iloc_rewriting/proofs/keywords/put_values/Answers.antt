@@ -24,7 +24,7 @@ returns-then-at c =
       | then-not-is_true+in_ok-end w ↦
           subst (λ (x : List ℕ). IsPieceKept (take c.values.end c.values.room) (piece_of l) x c.if-not-is_true.end) (sym w.room-is)
           (subst (λ (e : ℕ). IsPieceKept (take c.values.end c.values.room) (piece_of l) w.put_piece.new.room e) (sym w.end-is)
-          (piece_kept (take c.values.end c.values.room) (piece_of l) w.put_piece.new.room w.in_ok-end.end word w.in_ok-end.ensures))
+          (piece_kept (take c.values.end c.values.room) (piece_of l) w.put_piece.new.room w.in_ok-end.end (word, sym c.is_true.ensures ∙ w.if-not-is_true.true) w.in_ok-end.ensures))
       | else-not-is_true w ↦
           subst (λ (x : List ℕ). IsPieceKept (take c.values.end c.values.room) (piece_of l) x c.if-not-is_true.end) (sym w.room-is)
           (subst (λ (e : ℕ). IsPieceKept (take c.values.end c.values.room) (piece_of l) c.values.room e) (sym w.end-is)
@@ -44,7 +44,7 @@ values-preserved c =
       | then-not-is_true+in_ok-end w ↦
           subst (λ (x : List ℕ). IsPieceKept (take c.values.end c.values.room) (piece_of l) x c.if-not-is_true.end) (sym w.room-is)
           (subst (λ (e : ℕ). IsPieceKept (take c.values.end c.values.room) (piece_of l) w.put_piece.new.room e) (sym w.end-is)
-          (piece_kept (take c.values.end c.values.room) (piece_of l) w.put_piece.new.room w.in_ok-end.end word w.in_ok-end.ensures))
+          (piece_kept (take c.values.end c.values.room) (piece_of l) w.put_piece.new.room w.in_ok-end.end (word, sym c.is_true.ensures ∙ w.if-not-is_true.true) w.in_ok-end.ensures))
       | else-not-is_true w ↦
           subst (λ (x : List ℕ). IsPieceKept (take c.values.end c.values.room) (piece_of l) x c.if-not-is_true.end) (sym w.room-is)
           (subst (λ (e : ℕ). IsPieceKept (take c.values.end c.values.room) (piece_of l) c.values.room e) (sym w.end-is)

@@ -7,7 +7,7 @@ use Rattle.iloc_fronts.specs.declared.left.Left.{Left}
 use Rattle.iloc_rewriting.specs.Rewriting.{AreStored}
 use Rattle.iloc_rewriting.specs.Sorting.{HoldsBlocks, pieces_in, singletons_of}
 use Rattle.iloc_rewriting.proofs.StoredLemmas.{pieces_in_room}
-use Rattle.iloc_rewriting.proofs.SortedBlocks.{bad_again, block_inserted, free_in, unseen_at}
+use Rattle.iloc_rewriting.proofs.SortingLemmas.{bad_again, block_inserted, free_in, unseen_at}
 use Rattle.iloc_rewriting.proofs.sorting.insert_block.Goals as goal
 
 module _ (l : Left) (room text : List ℕ) (start end : ℕ) (bs : List Block) (inside : end + 16 ≤ length room) (a : HoldsBlocks room start end text bs) (some : start < end)

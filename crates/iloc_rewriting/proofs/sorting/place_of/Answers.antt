@@ -3,8 +3,7 @@ use Rattle.std.specs.Char.{to_ascii_lowercase}
 use Rattle.iloc_fronts.specs.Left.{piece_of, pieces_of}
 use Rattle.iloc_fronts.proofs.LeftLemmas.{few_left}
 use Rattle.iloc_rewriting.specs.Sorting.{AreBlocksPassed}
-use Rattle.iloc_rewriting.proofs.SortedBlocks.{block_passed, none_passed, piece_passed, place_found, place_taken}
-use Rattle.iloc_rewriting.proofs.SortingLemmas.{long_piece}
+use Rattle.iloc_rewriting.proofs.SortingLemmas.{block_passed, long_piece, none_passed, piece_passed, place_found, place_taken}
 use Rattle.iloc_rewriting.proofs.sorting.place_of.Goals as goal
 use Rattle.iloc_rewriting.proofs.sorting.place_of.Goals.{then-at-eq1+else-other-singleton+else-other-singleton-2, else-at-eq1}
 

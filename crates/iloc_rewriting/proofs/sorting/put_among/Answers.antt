@@ -3,7 +3,7 @@ use Rattle.iloc_spec_grammar.specs.Syntax.{singleton}
 use Rattle.iloc_spec_grammar.proofs.ValuesLaws.{all_weaker}
 use Rattle.iloc_fronts.specs.Left.{pieces_of}
 use Rattle.iloc_rewriting.specs.Sorting.{singletons_of}
-use Rattle.iloc_rewriting.proofs.SortedBlocks.{block_appended, ok_then, unseen_above}
+use Rattle.iloc_rewriting.proofs.SortingLemmas.{block_appended, ok_then, unseen_above}
 use Rattle.iloc_rewriting.proofs.sorting.put_among.Goals as goal
 
 pub returns-then-singleton-last-clause-ok : goal.returns-then-singleton-last-clause-ok

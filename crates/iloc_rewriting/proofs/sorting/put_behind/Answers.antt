@@ -1,6 +1,6 @@
 use Rattle.std.proofs.Common.{take}
 use Rattle.iloc_fronts.specs.Left.{pieces_of}
-use Rattle.iloc_rewriting.proofs.SortedBlocks.{bad_body, bad_end, block_behind, err_then, ok_then}
+use Rattle.iloc_rewriting.proofs.SortingLemmas.{bad_body, bad_end, block_behind, err_then, ok_then}
 use Rattle.iloc_rewriting.proofs.sorting.put_behind.Goals as goal
 
 pub returns-then-left-clause-err : goal.returns-then-left-clause-err

@@ -11,8 +11,9 @@ use Rattle.iloc_fronts.specs.Left.{pieces_of}
 use Rattle.iloc_fronts.proofs.LeftLemmas.{block_left}
 use Rattle.iloc_rewriting.specs.Rewriting.{BeginsBlock}
 use Rattle.iloc_rewriting.specs.Sorting.{AreBlocksSoFar, singletons_of}
+use Rattle.iloc_rewriting.proofs.BodyLemmas.{shorter}
 use Rattle.iloc_rewriting.proofs.RewritingLemmas.{cut_left}
-use Rattle.iloc_rewriting.proofs.SortedBlocks.{bad_so_far, behind, blocks_last, blocks_more, blocks_none, err_then, less_left, ok_then, private_end, unseen_x}
+use Rattle.iloc_rewriting.proofs.SortingLemmas.{bad_so_far, behind, blocks_last, blocks_more, blocks_none, err_then, ok_then, private_end, unseen_x}
 use Rattle.iloc_rewriting.proofs.StoredLemmas.{max_first, max_second}
 use Rattle.iloc_rewriting.proofs.sorting.put_blocks.Goals as goal
 
@@ -65,7 +66,7 @@ following-smaller c =
     let s = c.in_ok-stored.stored in
     let h = c.following.invariant in
     let among = c.in_ok-stored.ensures.ok (take c.args.start c.args.room.now) h.far.new h.far.held h.far.none_above in
-    less_left c.following.at c.in-Some.next among.new.0 among.block.body h.left (subst BeginsBlock c.in-Some.is among.block.left).0
+    shorter c.following.at c.in-Some.next ((among.new.0 ∷ []) ∷ among.block.body) h.left (subst BeginsBlock c.in-Some.is among.block.left).0 (λ e. cc)
     (subst (λ o. pieces_of c.following.at ≡ (among.new.0 ∷ []) ∷ (among.block.body ++ left_of o)) c.in-Some.is among.block.cut)
 
 pub following-preserved : goal.following-preserved

@@ -1,7 +1,7 @@
 use Rattle.std.proofs.Common.{take}
 use Rattle.iloc_fronts.specs.Left.{pieces_of}
 use Rattle.iloc_rewriting.specs.declared.blocks.Failure.TheVariants as failure
-use Rattle.iloc_rewriting.proofs.SortedBlocks.{bad_private, bad_private_end, ok_or_then, private_stored}
+use Rattle.iloc_rewriting.proofs.SortingLemmas.{bad_private, bad_private_end, ok_or_then, private_stored}
 use Rattle.iloc_rewriting.proofs.sorting.put_private.Goals as goal
 
 pub returns-then-left-clause-err : goal.returns-then-left-clause-err

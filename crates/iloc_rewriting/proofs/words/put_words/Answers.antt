@@ -4,6 +4,7 @@ use Rattle.iloc_fronts.specs.Left.{pieces_of, piece_of}
 use Rattle.iloc_fronts.proofs.LeftLemmas.{last_left, word_left}
 use Rattle.iloc_rewriting.specs.Words.{word_kind}
 use Rattle.iloc_rewriting.proofs.WordLemmas.{short_word, words_none, word_last, word_more, word_behind}
+use Rattle.iloc_rewriting.proofs.StoredLemmas.{max_first, max_second}
 use Rattle.iloc_rewriting.proofs.words.put_words.Goals as goal
 
 pub words-init : goal.words-init
@@ -21,8 +22,8 @@ returns-then-at c =
     let h = c.words.invariant in
     let text = take c.args.start c.args.room.now in
     let word : IsWord (word_kind c.args.kind) (piece_of l) = sym c.is_word_of.ensures ∙ c.words-test.true in
-    let stored = c.in_ok-end.ensures text h.far.kept h.far.held in
-    word_last c.args.kind text c.words.room (piece_of l) (pieces_of c.args.left) c.args.start c.words.end l h.far word c.put_word.new.room c.in_ok-end.end stored c.args.left.len
+    let stored = c.in_ok-end.ensures text h.far.kept h.far.held h.far.up_to in
+    word_last c.args.kind text c.words.room (piece_of l) (pieces_of c.args.left) c.args.start c.words.end c.words.last l h.far word c.put_word.new.room c.in_ok-end.end stored c.args.left.len
     (last_left l h.left (word_left l h.left (word_kind c.args.kind) (short_word c.args.kind) word) c.if-at.true)
 
 pub words-preserved : goal.words-preserved
@@ -32,12 +33,13 @@ words-preserved c =
     let next = c.after_piece-at.result in
     let text = take c.args.start c.args.room.now in
     let word : IsWord (word_kind c.args.kind) (piece_of l) = sym c.is_word_of.ensures ∙ c.words-test.true in
-    let stored = c.in_ok-end.ensures text h.far.kept h.far.held in
+    let stored = c.in_ok-end.ensures text h.far.kept h.far.held h.far.up_to in
     record {
       left = c.after_piece-at.ensures.left;
       shorter = omega (arith, c.after_piece-at.ensures.less, h.shorter);
       more = stored.stored.more;
-      start = word_behind c.args.kind text c.words.room (piece_of l) (pieces_of c.args.left) c.args.start c.words.end l h.far word c.put_word.new.room c.in_ok-end.end stored;
-      far = word_more c.args.kind text c.words.room (piece_of l) (pieces_of c.args.left) c.args.start c.words.end l h.far word c.put_word.new.room c.in_ok-end.end stored next
+      start = word_behind c.args.kind text c.words.room (piece_of l) (pieces_of c.args.left) c.args.start c.words.end c.words.last l h.far word c.put_word.new.room c.in_ok-end.end stored;
+      far = word_more c.args.kind text c.words.room (piece_of l) (pieces_of c.args.left) c.args.start c.words.end c.words.last l h.far word c.put_word.new.room c.in_ok-end.end stored c.max-last.result next
+          (omega (arith, c.max-last.ensures, max_first c.words.last c.number_of.result)) (omega (arith, c.max-last.ensures, max_second c.words.last c.number_of.result, c.number_of.ensures))
           (c.after_piece-at.ensures.pieces (word_left l h.left (word_kind c.args.kind) (short_word c.args.kind) word));
     }

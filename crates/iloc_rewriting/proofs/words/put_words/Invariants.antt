@@ -10,7 +10,7 @@ invariant-words l = record {
   shorter : l.at.len ≤ l.fn.left.len;
   more : l.end + 16 ≤ length l.room;
   start : l.start ≤ l.end;
-  far : AreWordsSoFar l.kind (take l.fn.start l.fn.room) (pieces_of l.fn.left) l.start l.end l.room l.at;
+  far : AreWordsSoFar l.kind (take l.fn.start l.fn.room) (pieces_of l.fn.left) l.start l.end l.last l.room l.at;
 }
 
 abbrev pub decreases-words : goal.decreases-words

@@ -1,29 +1,11 @@
-//! Stores attributes in order.
-ghost use Rattle.std.specs.Prelude.{◌≡◌, ◌↔◌, ◌+◌, ◌≤◌, IfSome, IsTrue, length, take};
+//! Tells whether two words are the same but for the case of letters.
+ghost use Rattle.std.specs.Prelude.{◌≡◌, ◌↔◌, ◌≤◌, IsTrue, take};
 ghost use Rattle.iloc_spec_grammar.specs.Syntax.{lower};
-ghost use Rattle.iloc_fronts.specs.Left.{IsLeft, piece_of, pieces_of};
-ghost use Rattle.iloc_rewriting.specs.Rewriting.{AreAttributesStored};
+ghost use Rattle.iloc_fronts.specs.Left.{IsLeft, piece_of};
 
-use crate::keywords::Stored;
-use crate::words::{WordKind, put_words};
 use iloc_fronts::left::Left;
 use iloc_plain::first_in_lower_case;
 use std::simd::prelude::*;
-
-// Stores attributes in the order of their first two bytes, each once; `None` if two others begin with the same ones.
-#[inline(always)]
-pub(crate) fn put_attributes<'a>(
-    left: Left<'a>,
-    room: &mut [u8],
-    start: usize,
-) -> Option<Stored<'a>>
-    requires left { IsLeft left }
-    requires room { start + 16 ≤ length room.old }
-    ensures { IfSome result (AreAttributesStored (take start room.old) (pieces_of left.entry)
-        left.entry.len room.new) }
-{
-    put_words(WordKind::Attribute, left, room, start)
-}
 
 // Whether the pieces are the same but for the case of letters.
 #[inline(always)]

@@ -5,7 +5,7 @@ use Rattle.iloc_lines.specs.Told.{IsInOrder, IsRefused, refusal_of}
 use Rattle.iloc_lines.specs.declared.Mode.{Mode}
 use Rattle.iloc_lines.proofs.PlainAnswers.{ordered_in_order}
 use Rattle.iloc_lines.proofs.PlainLemmas.{normal_reply, refused_reply, bad_refused}
-use Rattle.iloc_lines.proofs.lines.reply_to_blocks.Goals as goal
+use Rattle.iloc_lines.proofs.lines.reply_read.Goals as goal
 
 pub returns-in-Ordered : goal.returns-in-Ordered
 returns-in-Ordered g c =

@@ -4,7 +4,7 @@ use Rattle.iloc_spec_grammar.proofs.WordsLaws.{length-lower}
 use Rattle.iloc_fronts.specs.Left.{piece_of}
 use Rattle.iloc_fronts.proofs.LeftLemmas.{length-piece}
 use Rattle.iloc_rewriting.proofs.StoredLemmas.{first_lower}
-use Rattle.iloc_rewriting.proofs.attributes.are_one.Goals as goal
+use Rattle.iloc_rewriting.proofs.same.are_one.Goals as goal
 
 pub returns-then-word-left : goal.returns-then-word-left
 returns-then-word-left c =
