@@ -95,7 +95,7 @@ starts_left (Some l) h = ap starts_block (cut_left l h.0 (omega (arith, h.1))) �
 pub long_piece : (l : Left) → IsLeft l → l.n ≢ 1 → IsLong (piece_of l)
 long_piece l h n = let long : length (piece_of l) ≡ l.n = length-piece l h in grind (arith, nat_tests)
 
-front_of_block : (ps : List (List ℕ)) → starts_block ps ≡ true → front ps ≡ []
+pub front_of_block : (ps : List (List ℕ)) → starts_block ps ≡ true → front ps ≡ []
 front_of_block [] h = refl
 front_of_block (p ∷ ps) h = ap (λ (b : Bool). cond b [] (p ∷ front ps)) h
 
