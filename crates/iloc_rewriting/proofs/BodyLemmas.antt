@@ -1,12 +1,12 @@
 -- What follows a singleton, stored as it stands or in order.
-use Rattle.std.proofs.Common.{inl, inr, take, ◌≡◌, ◌≢◌, ℕ, suc, ◌+◌, ◌-◌, ◌<◌, ◌≤◌, ◌++◌, ◌∷◌, List, [], length, true, refl, sym, ap, ◌∙◌, subst, arith, append-nil, length-append, append_assoc, Option, Some, None}
+use Rattle.std.proofs.Common.{inl, inr, take, ◌≡◌, ◌≢◌, ℕ, suc, ◌+◌, ◌-◌, ◌<◌, ◌++◌, ◌∷◌, List, [], length, true, refl, sym, ap, ◌∙◌, subst, arith, append-nil, length-append, append_assoc, Option}
 use Rattle.std.specs.List.{AllByRecursion}
 use Rattle.std.specs.Char.{is_ascii_alphanumeric}
 use Rattle.std.proofs.lemmas.Bool.{cases_eq}
 use Rattle.std.proofs.lemmas.Bool.Decides.{nat_tests}
 use Rattle.std.proofs.lemmas.List.{take_more_set}
 use Rattle.std.proofs.Math.ListN.{set}
-use Rattle.iloc_spec_grammar.specs.Syntax.{IsHyphenFree, dashes, is_other_singleton, languages}
+use Rattle.iloc_spec_grammar.specs.Syntax.{IsHyphenFree, dashes, join, languages}
 use Rattle.iloc_spec_grammar.specs.Meaning.{IsBlock}
 use Rattle.iloc_spec_grammar.specs.ByBlocks.{UnicodeMeans, TransformMeans, OtherMeans}
 use Rattle.iloc_spec_grammar.proofs.PartTexts.{dashes-append, join-dashes}
@@ -22,7 +22,8 @@ use Rattle.iloc_fronts.specs.declared.left.Left.{Left}
 use Rattle.iloc_rewriting.specs.Rewriting.{AreStored, BeginsBlock}
 use Rattle.iloc_rewriting.specs.Sorting.{IsBodyStored, IsOrderOf, StandsFor}
 use Rattle.iloc_rewriting.specs.declared.keywords.Stored.{Stored}
-use Rattle.iloc_rewriting.proofs.RewritingLemmas.{all_split, begins_with, dashes_pieces, length-left}
+use Rattle.iloc_rewriting.proofs.RewritingLemmas.{all_split, dashes_pieces, joined_before, length-left}
+use Rattle.iloc_rewriting.proofs.StoredLemmas.{split_room}
 
 -- ---- how much is left
 
@@ -63,7 +64,6 @@ module _ (c : ℕ) (letter : is_ascii_alphanumeric c ≡ true) (no_x : c ≢ 120
     new = ps;
     cut = cut ∙ ap (λ n. ps ++ left_of n) (sym a.1);
     body_long = good.1.long;
-    new_long = good.1.long;
     new_free = (all_split IsHyphenFree ps (left_of o) (subst (AllByRecursion IsHyphenFree) cut (pieces_hyphen_free (take l.len l.window.now)))).0;
     means = stands_itself;
     stored = a.0;
@@ -80,7 +80,10 @@ bytes_before l next [] h k less e =
     let same : suc l.len ≡ suc next.len = ap suc (sym (length-left l h)) ∙ ap length (sym (dashes_pieces (take l.len l.window.now)) ∙ ap dashes e ∙ dashes_pieces (take next.len next.window.now)) ∙ ap suc (length-left next k) in
     absurd (omega arith)
 bytes_before l next (p ∷ body) h k less e =
-    ap (λ t. 45 ∷ t) (begins_with l.window.now l.len next.len (take next.len next.window.now) p body (omega (arith, h.room)) (length-left next k) e ∙ join-dashes p body)
+    let rest = take next.len next.window.now in
+    let same : l.len - suc next.len ≡ l.len - next.len - 1 = omega arith in
+    let before = (split_room l.window.now (join (p ∷ body)) (45 ∷ rest) l.len (suc next.len) (omega (arith, h.room)) (joined_before (take l.len l.window.now) rest p body e) (ap suc (length-left next k))).0 in
+    ap (λ t. 45 ∷ t) (ap (λ (m : ℕ). take m l.window.now) (sym same) ∙ before ∙ join-dashes p body)
 
 -- a hyphen is stored before them
 pub hyphen_before : (room new bytes : List ℕ) (start end : ℕ) (body : List (List ℕ)) → start < length room → 45 ∷ bytes ≡ dashes body → AreStored new (take (start + 1) (set room start 45) ++ bytes) end → AreStored new (take start room ++ dashes body) end
@@ -95,7 +98,6 @@ body_weaker R Q f text ps room s h = record {
   new = h.new;
   cut = h.cut;
   body_long = h.body_long;
-  new_long = h.new_long;
   new_free = h.new_free;
   means = f h.new h.body h.means;
   stored = h.stored;

@@ -1,10 +1,9 @@
 -- From the blocks that are stored in order to the line.
-use Rattle.std.proofs.Common.{take, drop, ◌≡◌, ℕ, suc, ◌+◌, ◌-◌, ◌<◌, ◌≤◌, true, List, [], ◌∷◌, ◌++◌, length, get_or, Some, refl, sym, ap, ◌∙◌, subst, arith, append_assoc, length-append}
+use Rattle.std.proofs.Common.{take, drop, ◌≡◌, ℕ, suc, ◌+◌, ◌-◌, ◌<◌, ◌≤◌, List, [], ◌∷◌, ◌++◌, length, get_or, Some, refl, sym, ap, ◌∙◌, subst, arith, append_assoc, length-append}
 use Rattle.std.specs.List.{AllByRecursion}
 use Rattle.std.proofs.lemmas.List.{length-take-le, length-drop, take-take}
-use Rattle.iloc_spec_grammar.specs.Syntax.{pieces, join, dashes, front, blocks, head, tail_blocks, Variant, IsWord, IsHyphenFree, Identifier, identifier_pieces, languages, lower}
+use Rattle.iloc_spec_grammar.specs.Syntax.{pieces, join, dashes, front, blocks, head, tail_blocks, Variant, IsWord, IsHyphenFree, Identifier, identifier_pieces, languages}
 use Rattle.iloc_spec_grammar.specs.Meaning.{Fault, HasFault, IdentifierMeans}
-use Rattle.iloc_spec_grammar.specs.Reading.{starts_block}
 use Rattle.iloc_spec_grammar.specs.ByBlocks.{BlocksMean, MeansByBlocks}
 use Rattle.iloc_spec_grammar.proofs.BlockLaws.{means_by_blocks, blocks_mean}
 use Rattle.iloc_spec_grammar.proofs.PartTexts.{join-dashes, dashes-append}
@@ -14,12 +13,11 @@ use Rattle.iloc_spec_grammar.proofs.ReadBack.{all_append, word_hyphen_free}
 use Rattle.iloc_spec_grammar.proofs.ValuesLaws.{all_weaker, ascending_different}
 use Rattle.iloc_plain.specs.Plain.{AreWords, IsPlain}
 use Rattle.iloc_plain.specs.declared.plain.Plain.{Plain}
-use Rattle.iloc_blocks.specs.Bad.{fault_of}
 use Rattle.iloc_blocks.specs.Ordered.{IsCut, IsFaultyTail, IsOrdered, IsTail}
 use Rattle.iloc_blocks.specs.declared.ordered.Ordered.{Ordered}
 use Rattle.iloc_blocks.proofs.BadBlocks.{has_fault, pieces_both}
-use Rattle.iloc_blocks.proofs.OrderedLemmas.{after, cut_there, is_ordered, rest_is}
-use Rattle.iloc_fronts.specs.Left.{pieces_of, IsLeft}
+use Rattle.iloc_blocks.proofs.OrderedLemmas.{after, cut_there, is_ordered}
+use Rattle.iloc_fronts.specs.Left.{pieces_of}
 use Rattle.iloc_fronts.specs.declared.left.Left.{Left}
 use Rattle.iloc_rewriting.specs.Rewriting.{AreStored, IsRewritten}
 use Rattle.iloc_rewriting.specs.Sorting.{AreBlocksStored, IsBadAfter, IsBadLine, IsLineStored, LeadsToBlock, after_byte}
@@ -28,7 +26,7 @@ use Rattle.iloc_rewriting.specs.declared.blocks.Failure.TheVariants as failure
 use Rattle.iloc_rewriting.proofs.RewritingLemmas.{dashes_pieces, length-left}
 use Rattle.iloc_rewriting.proofs.SortingLemmas.{front_of_block, starts_left}
 use Rattle.iloc_rewriting.proofs.StoredLemmas.{split_room}
-use Rattle.iloc_rewriting.proofs.VariantLemmas.{blocks_are, head_is, pieces_behind, with_pieces}
+use Rattle.iloc_rewriting.proofs.VariantLemmas.{blocks_are, head_is, pieces_behind}
 
 -- ---- what comes before the first block
 

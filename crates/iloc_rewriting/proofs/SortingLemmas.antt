@@ -419,9 +419,6 @@ blocks_none room start ps inside = record {
 }
 
 module _ (text : List ℕ) (ps left : List (List ℕ)) (start end last c : ℕ) (room new : List ℕ) (s : Stored) (far : AreBlocksSoFar text ps start end last room left) (a : IsBlockAmong c text far.new left new s) where
-  all_blocks : List Block
-  all_blocks = a.before ++ (a.new ∷ a.after)
-
   -- what holds of the blocks so far and of this one holds of all
   of_all : (P : Block → Type 0) → AllByRecursion P far.new → P a.new → AllByRecursion P (a.before ++ (a.new ∷ a.after))
   of_all P h k = all_put P a.before a.after a.new (subst (AllByRecursion P) a.cut h) k

@@ -82,7 +82,6 @@ module _ (text : List ℕ) (ps : List (List ℕ)) (n : ℕ) (room : List ℕ) (s
     new = h.kept ++ fields_pieces k.kept;
     cut = h.cut ∙ ap (λ l. h.words ++ l) k.cut ∙ sym (append_assoc h.words (fields_pieces k.written) (left_of r.next));
     body_long = all_append IsLong h.words (fields_pieces k.written) (words_long h.words h.same.each) (fields_long kind.Unicode k.written k.each);
-    new_long = all_append IsLong h.kept (fields_pieces k.kept) (words_long h.kept h.same.each_kept) (fields_long kind.Unicode k.kept k.each_kept);
     new_free = all_append IsHyphenFree h.kept (fields_pieces k.kept) kept_free (fields_free kind.Unicode k.kept k.each_kept);
     means = record {
       keeps = record { means = same_unicode h.words h.kept k.written k.kept h.same k.each k.each_kept k.same k.some };

@@ -1,5 +1,5 @@
 -- Blocks that are brought into order.
-use Rattle.std.specs.Prelude.{◌≡◌, ◌≢◌, ◌+◌, ◌-◌, ◌<◌, ◌≤◌, ⊤, ℕ, Bool, true, false, List, [], ◌∷◌, ◌++◌, filter, flat_map, get_or, length, map, take, drop, Option}
+use Rattle.std.specs.Prelude.{◌≡◌, ◌≢◌, ◌+◌, ◌-◌, ◌<◌, ◌≤◌, ⊤, ℕ, true, false, List, [], ◌∷◌, ◌++◌, filter, flat_map, get_or, length, map, take, drop, Option}
 use Rattle.std.specs.Int.{is_in_range}
 use Rattle.std.specs.List.{AllByRecursion, list_any}
 use Rattle.std.specs.Ordering.{nat_cmp, eq_by_cmp}
@@ -60,7 +60,6 @@ pub record IsBodyStored (R : List Text → List Text → Type 0) (text : Text) (
   pub new : List Text
   pub cut : ps ≡ body ++ left_of s.next
   pub body_long : AreLong body
-  pub new_long : AreLong new
   pub new_free : AllByRecursion IsHyphenFree new
   pub means : R new body
   pub stored : AreStored room (text ++ dashes new) s.end
