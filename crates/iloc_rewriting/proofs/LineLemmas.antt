@@ -2,7 +2,7 @@
 use Rattle.std.proofs.Common.{take, drop, ◌≡◌, ℕ, suc, ◌+◌, ◌-◌, ◌<◌, ◌≤◌, List, [], ◌∷◌, ◌++◌, length, get_or, Some, refl, sym, ap, ◌∙◌, subst, arith, append_assoc, length-append}
 use Rattle.std.specs.List.{AllByRecursion}
 use Rattle.std.proofs.lemmas.List.{length-take-le, length-drop, take-take}
-use Rattle.iloc_spec_grammar.specs.Syntax.{pieces, join, dashes, front, blocks, head, tail_blocks, Variant, IsWord, IsHyphenFree, Identifier, identifier_pieces, languages}
+use Rattle.iloc_spec_grammar.specs.Syntax.{pieces, join, dashes, head, tail_blocks, Variant, IsWord, IsHyphenFree, Identifier, identifier_pieces, languages}
 use Rattle.iloc_spec_grammar.specs.Meaning.{Fault, HasFault, IdentifierMeans}
 use Rattle.iloc_spec_grammar.specs.ByBlocks.{BlocksMean, MeansByBlocks}
 use Rattle.iloc_spec_grammar.proofs.BlockLaws.{means_by_blocks, blocks_mean}

@@ -1,5 +1,5 @@
 -- From a block of `u` that is brought into order to the meaning of the line.
-use Rattle.std.proofs.Common.{take, ◌≡◌, ℕ, ◌-◌, ◌<◌, ◌≤◌, true, false, List, [], ◌∷◌, ◌++◌, length, refl, sym, ap, ◌∙◌, subst, arith, append_assoc}
+use Rattle.std.proofs.Common.{take, ◌≡◌, ℕ, ◌<◌, ◌≤◌, true, false, List, [], ◌∷◌, ◌++◌, length, refl, sym, ap, ◌∙◌, subst, arith, append_assoc}
 use Rattle.std.specs.List.{AllByRecursion}
 use Rattle.std.proofs.lemmas.List.{length-take-le}
 use Rattle.iloc_spec_grammar.specs.Syntax.{pieces, join, dashes, first_piece, Attribute, is_word, IsWord, IsKeyword, Fields, Unicode, IsUnicode, fields_pieces}

@@ -8,7 +8,7 @@ use Rattle.std.proofs.lemmas.Bool.{true≢false}
 use Rattle.std.proofs.lemmas.Bool.Decides.{nat_tests}
 use Rattle.std.proofs.lemmas.Grind.{flat_map-append}
 use Rattle.std.proofs.lemmas.List.{length-take-le}
-use Rattle.iloc_spec_grammar.specs.Syntax.{Block, PrivateSubtag, is_word, IsHyphenFree, Extension, unicode, transform, other, IsExtension, extension_pieces, is_one_byte, first_piece, pieces, join, dashes, front, blocks, block_pieces, singleton, IsOther, is_other_singleton, kept, languages}
+use Rattle.iloc_spec_grammar.specs.Syntax.{Block, PrivateSubtag, is_word, IsHyphenFree, Extension, unicode, transform, other, IsExtension, extension_pieces, is_one_byte, first_piece, join, dashes, front, blocks, block_pieces, singleton, IsOther, is_other_singleton, kept, languages}
 use Rattle.iloc_spec_grammar.specs.Meaning.{Fault, IsBlock, FirstBadBlock, here, later, BlockFault, no_singleton, duplicated, repeats_variant, breaks_rule, normal_unicode, normal_transform}
 use Rattle.iloc_spec_grammar.specs.Reading.{starts_block, rest_of}
 use Rattle.iloc_spec_grammar.specs.ByBlocks.{BlocksMean}

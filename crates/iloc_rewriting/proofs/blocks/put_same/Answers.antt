@@ -1,7 +1,6 @@
-use Rattle.std.proofs.Common.{◌≡◌, ◌∷◌, ◌++◌, List, ℕ, take, refl, ap, ◌∙◌, subst, arith}
+use Rattle.std.proofs.Common.{◌≡◌, ◌∷◌, ◌++◌, take, refl, ap, ◌∙◌, subst, arith}
 use Rattle.iloc_spec_grammar.specs.Syntax.{dashes}
 use Rattle.iloc_blocks.specs.Blocks.{left_of}
-use Rattle.iloc_fronts.specs.Left.{pieces_of}
 use Rattle.iloc_rewriting.specs.Rewriting.{IsShorter}
 use Rattle.iloc_rewriting.proofs.BodyLemmas.{bytes_before, hyphen_before, whole_bytes}
 use Rattle.iloc_rewriting.proofs.blocks.put_same.Goals as goal
