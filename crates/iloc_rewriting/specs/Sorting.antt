@@ -163,7 +163,8 @@ pub record IsBlockPlace (c : ℕ) (bs : List Block) (n : ℕ) : Type 0 where
 
 -- one of them has the singleton
 abbrev pub IsPlaceTaken : ℕ → List Block → Failure → Type 0
-IsPlaceTaken c bs (failure.Bad bad.Duplicated) = list_any (eq_by_cmp nat_cmp c) (singletons_of bs) ≡ true
+IsPlaceTaken c bs (failure.Bad bad.Duplicated)
+    = list_any (eq_by_cmp nat_cmp c) (singletons_of bs) ≡ true
 IsPlaceTaken c bs (failure.Bad bad.Misfit) = ¬ ⊤
 IsPlaceTaken c bs failure.Other = ⊤
 
@@ -198,7 +199,7 @@ pub record IsPrivateStored (text : Text) (ps : List Text) (room : Text) (n : ℕ
   pub printed : (last : ℕ) → ArePrinted last ps
   pub stored : AreStored room (text ++ dashes ps) n
 
--- the blocks are stored behind the text as they are printed, and what these mean they mean
+-- blocks are stored behind the text as they are printed, and whatever they mean the old ones mean
 pub record AreBlocksStored (text : Text) (ps : List Text) (room : Text) (n : ℕ) : Type 0 where
   pub new : List Text
   pub some : 0 < length new
@@ -210,7 +211,7 @@ pub record AreBlocksStored (text : Text) (ps : List Text) (room : Text) (n : ℕ
 
 -- The line.
 
--- what follows the byte at a place
+-- what the line has after the byte at this place
 abbrev pub after_byte : Text → ℕ → ℕ → Text
 after_byte w len at = take (len - at - 1) (drop (at + 1) w)
 
