@@ -26,7 +26,6 @@ ghost use Rattle.iloc_writeable.specs.Growth.{AddsBeginning};
 ghost use Rattle.iloc_lines.specs.Output.{output, refusal_text, reply};
 ghost use Rattle.iloc_lines.specs.ReplyBlock.{held};
 ghost use Rattle.iloc_lines.specs.Told.{IsTold, refusal_of};
-ghost use Rattle.iloc_blocks.specs.Ordered.{IsReading};
 ghost use Rattle.iloc_lines.specs.Lines.{IsLineEnd, IsOneLine};
 ghost use Rattle.iloc_plain.specs.Plain.{IsPlain};
 ghost use Rattle.std.specs.Simd.Lanes.{mask_l};
@@ -212,8 +211,10 @@ fn reply_to_blocks<A: Answers>(
         ≡ held replies.old ++ reply A.mode (take len window.now)) }
 {
     match read_ordered(window, len, at) {
+        Reading::Ordered(line) => replies.push_ordered(&line),
+        Reading::BadBlock(bad) => refuse(bad, replies),
         Reading::Unordered => reply_to_unordered(answers, window, len, at, room, replies),
-        reading => reply_read(answers, window, len, reading, replies),
+        Reading::Other => answers.reply(&window[..len], replies),
     }
 }
 
@@ -232,26 +233,7 @@ fn reply_to_unordered<A: Answers>(
     ensures { OnOk result (held replies.new
         ≡ held replies.old ++ reply A.mode (take len window.now)) }
 {
-    let reading = rewrite(window, len, at, room);
-    reply_read(answers, window, len, reading, replies)
-}
-
-// The same of one that was read so.
-#[inline(always)]
-fn reply_read<A: Answers>(
-    answers: &mut A,
-    window: &[u8],
-    len: usize,
-    reading: Reading<'_>,
-    replies: &mut ReplyBlock,
-) -> Result<(), AllocError>
-    requires mode { A.mode ≡ Mode.Locale }
-    requires within { len ≤ length window.now }
-    requires reading { IsReading (take len window.now) reading }
-    ensures { OnOk result (held replies.new
-        ≡ held replies.old ++ reply A.mode (take len window.now)) }
-{
-    match reading {
+    match rewrite(window, len, at, room) {
         Reading::Ordered(line) => replies.push_ordered(&line),
         Reading::BadBlock(bad) => refuse(bad, replies),
         Reading::Unordered | Reading::Other => answers.reply(&window[..len], replies),
