@@ -38,7 +38,7 @@ pub enum Reading<'a> {
 }
 
 /// What the first `len` bytes are as a locale, if a plain identifier of `at` bytes comes first and perhaps
-/// variants, each of which has greater first four bytes than the one before it.
+/// ascending variants.
 /// Blocks are in order if their singletons ascend, and one of `x` comes last: of `u` with attributes and keys that
 /// ascend and no `true`; of `t` with at most one variant, keys that ascend, and no `true` but as a whole value; and of
 /// words after another singleton. A bad block is told after such blocks.

@@ -12,13 +12,13 @@ use Rattle.std.proofs.lemmas.Bool.Decides.{nat_tests}
 use Rattle.std.proofs.lemmas.Nat.{le_bytes_8, or_of_8, pow-add}
 use Rattle.std.proofs.Math.Nat.{mul-add-div_right, mul-le-mul_right, zero-mul, mul_assoc, add-mul, div-eq_of_lt, mod-eq_of_lt}
 use Rattle.std.specs.List.{take-map}
-use Rattle.std.proofs.lemmas.List.{length-map, length-take-le, take-take}
+use Rattle.std.proofs.lemmas.List.{length-map, length-take, length-take-le, take-take}
 use lib.Lanes.{number_l}
 use Rattle.iloc_spec_grammar.specs.Syntax.{Attribute, Variant, IsWord, letters_or_digits, lower, word_cmp}
 use Rattle.iloc_spec_grammar.proofs.MapLaws.{same_words}
 use Rattle.iloc_spec_grammar.proofs.WordsLaws.{length-attribute, length-variant, length-lower, word_letters_or_digits}
 use Rattle.iloc_fronts.proofs.WordBytes.{low_bit}
-use Rattle.iloc_fronts.specs.Words.{high_first, word_number}
+use Rattle.iloc_fronts.specs.Words.{IsUpToEight, high_first, word_number}
 
 -- ---- eight bytes as one number
 
@@ -83,6 +83,12 @@ cut_number (suc m) (suc n) (b ∷ p) l h =
 
 -- ---- the number of a word
 
+pub length_fits : (w : List ℕ) (n : ℕ) → 16 ≤ length w → IsUpToEight (take n w) → (0 < n) × (n ≤ 8)
+length_fits w n wide h = elim (cases_lt n 17) [
+  | inl few ↦ (let long : length (take n w) ≡ n = length-take-le n w (omega arith) in (omega (arith, h.some), omega (arith, h.few)))
+  | inr many ↦ absurd (omega (arith, length-take n w, h.few))
+]
+
 -- bit 5 makes letters lower case, and digits have it
 low_bits : (p : List ℕ) → letters_or_digits p ≡ true → map (λ b. bit_or b 32) p ≡ lower p
 unfolding lower
@@ -116,11 +122,6 @@ number_is w n x z wide few small word lanes e =
     (λ j. eight j / power j * power j % 2 ^ 64) ∙ ap (λ m. m % 2 ^ 64) cut ∙ mod-eq_of_lt fits
 
 -- ---- the order of words
-
--- at most eight letters and digits
-pub record IsUpToEight (p : List ℕ) : Type 0 where
-  pub few : length p ≤ 8
-  pub bytes : letters_or_digits p ≡ true
 
 -- bytes above zero
 abbrev AreAbove : List ℕ → Type 0
@@ -185,16 +186,16 @@ pub word_order : (p q : List ℕ) → IsUpToEight p → IsUpToEight q → nat_cm
 unfolding word_number
 word_order p q h k = order 8 (lower p) (lower q) (omega (arith, length-lower p, h.few)) (omega (arith, length-lower q, k.few)) (above_word p h.bytes) (above_word q k.bytes)
 
--- one with a lesser number is below
-pub word_below : (p q : List ℕ) → IsUpToEight p → IsUpToEight q → word_number p < word_number q → is_lt (word_cmp (lower p) (lower q)) ≡ true
-word_below p q h k l = ap is_lt (sym (word_order p q h k) ∙ is_less (word_number p) (word_number q) l)
+-- a word with a lesser number is below
+pub lesser_below : (p q : List ℕ) → IsUpToEight p → IsUpToEight q → word_number p < word_number q → is_lt (word_cmp (lower p) (lower q)) ≡ true
+lesser_below p q h k l = ap is_lt (sym (word_order p q h k) ∙ is_less (word_number p) (word_number q) l)
 
--- those with one number are the same but for the case
-pub word_same : (p q : List ℕ) → IsUpToEight p → IsUpToEight q → word_number p ≡ word_number q → lower p ≡ lower q
-word_same p q h k e = same_words (lower p) (lower q) (sym (word_order p q h k) ∙ is_equal (word_number p) (word_number q) e)
+-- words with one number are the same but for the case
+pub equal_same : (p q : List ℕ) → IsUpToEight p → IsUpToEight q → word_number p ≡ word_number q → lower p ≡ lower q
+equal_same p q h k e = same_words (lower p) (lower q) (sym (word_order p q h k) ∙ is_equal (word_number p) (word_number q) e)
 
 pub attribute_fits : (p : List ℕ) → IsWord Attribute p → IsUpToEight p
-attribute_fits p h = record { few = (length-attribute p h).1; bytes = word_letters_or_digits Attribute p h }
+attribute_fits p h = record { some = omega (arith, (length-attribute p h).0); few = (length-attribute p h).1; bytes = word_letters_or_digits Attribute p h }
 
 pub variant_fits : (p : List ℕ) → IsWord Variant p → IsUpToEight p
-variant_fits p h = record { few = (length-variant p h).1; bytes = word_letters_or_digits Variant p h }
+variant_fits p h = record { some = omega (arith, (length-variant p h).0); few = (length-variant p h).1; bytes = word_letters_or_digits Variant p h }

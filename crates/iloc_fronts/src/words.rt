@@ -1,8 +1,8 @@
 //! Whether the first bytes of a window are a word of an identifier.
-ghost use Rattle.std.specs.Prelude.{◌≡◌, ◌<◌, ◌≤◌, ◌&&◌, IsTrue, true, false, length, take, get_or};
+ghost use Rattle.std.specs.Prelude.{◌≡◌, ◌≤◌, ◌&&◌, IsTrue, true, false, length, take, get_or};
 ghost use Rattle.std.specs.Int.{is_in_range};
 ghost use Rattle.std.specs.Char.{is_ascii_alphanumeric};
-ghost use Rattle.iloc_fronts.specs.Words.{two_number, word_number};
+ghost use Rattle.iloc_fronts.specs.Words.{IsUpToEight, two_number, word_number};
 ghost use Rattle.iloc_spec_grammar.specs.Syntax.{
   Attribute,
   Language,
@@ -200,9 +200,7 @@ pub fn number_of_two(window: &[u8]) -> usize
 #[inline(always)]
 pub fn number_of_word(window: &[u8], n: usize) -> u64
     requires wide { 16 ≤ length window.now }
-    requires some { 0 < n }
-    requires few { n ≤ 8 }
-    requires word { letters_or_digits (take n window.now) ≡ true }
+    requires word { IsUpToEight (take n window.now) }
     ensures { result ≡ word_number (take n window.now) }
 {
     let bytes = u8x16::from_slice(window) | u8x16::splat(32);
