@@ -18,11 +18,11 @@ use Rattle.iloc_spec_grammar.proofs.SetLaws.{marked, keys, set_of-first}
 use Rattle.iloc_fronts.specs.Left.{pieces_of, piece_of, IsLeft}
 use Rattle.iloc_fronts.specs.declared.left.Left.{Left}
 use Rattle.iloc_fronts.proofs.FrontLemmas.{IsShort, short_attribute, short_variant}
-use Rattle.iloc_fronts.proofs.WordBytes.{attribute_begins}
-use Rattle.iloc_blocks.proofs.UnicodeLemmas.{TellsOrder, word_below, words_below}
-use Rattle.iloc_blocks.proofs.VariantLemmas.{variant_below}
+use Rattle.iloc_fronts.specs.Words.{IsUpToEight, word_number}
+use Rattle.iloc_fronts.proofs.WordNumbers.{attribute_fits, variant_fits, equal_same}
+use Rattle.iloc_blocks.proofs.UnicodeLemmas.{words_below}
 use Rattle.iloc_rewriting.specs.Rewriting.{AreStored, Ascend, AreUpTo}
-use Rattle.iloc_rewriting.specs.Words.{word_kind, number_by, KeepsAll, AreInPlaceOf, AreWordsStored, AreWordsHeld, IsWordStored, IsPlaceAmong, AreWordsSoFar}
+use Rattle.iloc_rewriting.specs.Words.{word_kind, KeepsAll, AreInPlaceOf, AreWordsStored, AreWordsHeld, IsWordStored, IsPlaceAmong, AreWordsSoFar}
 use Rattle.iloc_rewriting.specs.declared.keywords.Place.{Place}
 use Rattle.iloc_rewriting.specs.declared.words.WordKind.{WordKind}
 use Rattle.iloc_rewriting.specs.declared.words.WordKind.TheVariants as kind
@@ -36,15 +36,15 @@ short_word kind.Variant = short_variant
 
 -- ---- words by their numbers
 
-number_tells : (s : WordKind) → TellsOrder (IsWord (word_kind s)) (number_by s)
-number_tells kind.Attribute p q h k l = word_below p q (attribute_begins p h) (attribute_begins q k) l
-number_tells kind.Variant p q h k l = variant_below p q h k l
+pub kind_fits : (s : WordKind) (p : List ℕ) → IsWord (word_kind s) p → IsUpToEight p
+kind_fits kind.Attribute = attribute_fits
+kind_fits kind.Variant = variant_fits
 
 -- with ascending numbers they ascend
-pub words_ascend : (s : WordKind) (ws : List (List ℕ)) → AllByRecursion (IsWord (word_kind s)) ws → Ascend (number_by s) ws → IsAscending (map lower ws)
+pub words_ascend : (s : WordKind) (ws : List (List ℕ)) → AllByRecursion (IsWord (word_kind s)) ws → Ascend word_number ws → IsAscending (map lower ws)
 words_ascend s [] each h = refl
-words_ascend s (w ∷ ws) each h = and_from _ _ (words_below (IsWord (word_kind s)) (number_by s) (number_tells s) w each.0 (number_by s w + 1) (omega arith) ws each.1
-    (all_weaker (λ v. number_by s w < number_by s v) (λ v. number_by s w + 1 ≤ number_by s v) (λ v l. omega arith) ws h.0)) (words_ascend s ws each.1 h.1)
+words_ascend s (w ∷ ws) each h =
+    and_from _ _ (words_below w (kind_fits s w each.0) ws (all_weaker (IsWord (word_kind s)) IsUpToEight (kind_fits s) ws each.1) h.0) (words_ascend s ws each.1 h.1)
 
 -- ---- the same words
 
@@ -114,18 +114,18 @@ words_stored text ws p =
 
 -- a word with a greater number comes last
 pub word_appended : (s : WordKind) (text room p : List ℕ) (start end : ℕ) (ws : List (List ℕ)) → AreWordsHeld s room start end text ws → IsWord (word_kind s) p
-    → AllByRecursion (λ w. number_by s w < number_by s p) ws → (new : List ℕ) (e : ℕ) → AreStored new (take end room ++ 45 ∷ p) e → IsWordStored s text ws p new e
+    → AllByRecursion (λ w. word_number w < word_number p) ws → (new : List ℕ) (e : ℕ) → AreStored new (take end room ++ 45 ∷ p) e → IsWordStored s text ws p new e
 word_appended s text room p start end ws a w less new e h = record {
   all = ws ++ p ∷ [];
   same =
       let each = all_append (IsWord (word_kind s)) ws (p ∷ []) a.each (w, tt) in
-      record { each = each; each_kept = each; ascend = ascend_append (number_by s) ws p less a.ascend; few = omega arith; same = refl; all = keeps_itself s (ws ++ p ∷ []) };
-  up_to = λ m up le. all_append (λ w. number_by s w ≤ m) ws (p ∷ []) up (le, tt);
+      record { each = each; each_kept = each; ascend = ascend_append word_number ws p less a.ascend; few = omega arith; same = refl; all = keeps_itself s (ws ++ p ∷ []) };
+  up_to = λ m up le. all_append (λ w. word_number w ≤ m) ws (p ∷ []) up (le, tt);
   stored = subst (λ (t : List ℕ). AreStored new t e) (ap (λ t. t ++ 45 ∷ p) a.stored ∙ words_stored text ws p) h;
 }
 
 module _ (s : WordKind) (text room p : List ℕ) (start end len : ℕ) (ws : List (List ℕ)) (room_end : end ≤ length room) (a : AreWordsHeld s room start end text ws) (w : IsWord (word_kind s) p)
-    (place : Place) (c : IsPlaceAmong s p ws len place) where
+    (place : Place) (c : IsPlaceAmong p ws len place) where
   each_more : AllByRecursion (IsWord (word_kind s)) (ws ++ p ∷ [])
   each_more = all_append (IsWord (word_kind s)) ws (p ∷ []) a.each (w, tt)
 
@@ -162,20 +162,20 @@ module _ (s : WordKind) (text room p : List ℕ) (start end len : ℕ) (ws : Lis
     same = record {
       each = each_more;
       each_kept = all_reordered (IsWord (word_kind s)) (turned order) each_more;
-      ascend = ascend_insert (number_by s) c.before (c.first ∷ c.rest) p c.less above ascending;
+      ascend = ascend_insert word_number c.before (c.first ∷ c.rest) p c.less above ascending;
       few = omega (arith, ap length c.cut, length-append ws (p ∷ []), length-append c.before (c.first ∷ c.rest), length-append c.before (p ∷ (c.first ∷ c.rest)));
       same = set_of_reordered (map_reordered lower order);
       all = keeps_reordered s (ws ++ p ∷ []) (c.before ++ (p ∷ (c.first ∷ c.rest))) order;
     };
-    up_to = λ n up le. all_insert (λ w. number_by s w ≤ n) c.before (c.first ∷ c.rest) p le (subst (AreUpTo (number_by s) n) c.cut up);
+    up_to = λ n up le. all_insert (λ w. word_number w ≤ n) c.before (c.first ∷ c.rest) p le (subst (AreUpTo word_number n) c.cut up);
     stored = subst (λ (t : List ℕ). AreStored new t e) text_is stored;
   }
     where
-      ascending : Ascend (number_by s) (c.before ++ (c.first ∷ c.rest))
-      ascending = subst (Ascend (number_by s)) c.cut a.ascend
+      ascending : Ascend word_number (c.before ++ (c.first ∷ c.rest))
+      ascending = subst (Ascend word_number) c.cut a.ascend
 
-      above : AllByRecursion (λ w. number_by s p < number_by s w) (c.first ∷ c.rest)
-      above = all_above (number_by s) (number_by s p) c.first c.rest (c.greater other) (ascend_later (number_by s) c.before (c.first ∷ c.rest) ascending)
+      above : AllByRecursion (λ w. word_number p < word_number w) (c.first ∷ c.rest)
+      above = all_above word_number (word_number p) c.first c.rest (c.greater other) (ascend_later word_number c.before (c.first ∷ c.rest) ascending)
 
       order : Reordered (c.before ++ (p ∷ (c.first ∷ c.rest))) (ws ++ p ∷ [])
       order = subst (λ (l : List (List ℕ)). Reordered (c.before ++ (p ∷ (c.first ∷ c.rest))) l) (sym (append_assoc c.before (c.first ∷ c.rest) (p ∷ [])) ∙ ap (λ l. l ++ p ∷ []) (sym c.cut))
@@ -208,22 +208,22 @@ pub words_in_room : (s : WordKind) (room text : List ℕ) (start end : ℕ) (ws 
 words_in_room s room text start end ws room_end a some =
     pieces_in_room room text start end ws room_end a.before a.stored (all_weaker (IsWord (word_kind s)) IsHyphenFree (word_hyphen_free (word_kind s)) ws a.each) some
 
-pub among_here : (s : WordKind) (word : List ℕ) (l : Left) → IsLeft l → l.n < 16 → (number other : ℕ) → number ≡ number_by s word → other ≡ number_by s (piece_of l) → number ≤ other
-    → (other ≡ number → lower (piece_of l) ≡ lower word) → IsPlaceAmong s word (pieces_of l) l.len (record { is_there = other == number; len = l.len })
-among_here s word l h few number other is first le one = record {
+pub among_here : (word : List ℕ) (l : Left) → IsLeft l → l.n < 16 → IsUpToEight word → IsUpToEight (piece_of l) → (number other : ℕ) → number ≡ word_number word → other ≡ word_number (piece_of l) → number ≤ other
+    → IsPlaceAmong word (pieces_of l) l.len (record { is_there = other == number; len = l.len })
+among_here word l h few fits fit number other is first le = record {
   before = [];
   less = tt;
   first = piece_of l;
   rest = rest_of (pieces_of l);
   cut = cut_left l h few;
-  there = λ t. one (at_number other number t);
+  there = λ t. equal_same (piece_of l) word fit fits (sym first ∙ at_number other number t ∙ is);
   greater = λ t. omega (arith, is, first, above_number other number le t);
   long = sym (length-joined l h) ∙ ap (λ ps. length (join ps)) (cut_left l h few);
   within = omega arith;
 }
 
-pub among_later : (s : WordKind) (word p : List ℕ) (ps qs : List (List ℕ)) (m n : ℕ) → number_by s p < number_by s word → ps ≡ p ∷ qs → m ≤ n → (k : Place) → IsPlaceAmong s word qs m k → IsPlaceAmong s word ps n k
-among_later s word p ps qs m n less e le k h = record {
+pub among_later : (word p : List ℕ) (ps qs : List (List ℕ)) (m n : ℕ) → word_number p < word_number word → ps ≡ p ∷ qs → m ≤ n → (k : Place) → IsPlaceAmong word qs m k → IsPlaceAmong word ps n k
+among_later word p ps qs m n less e le k h = record {
   before = p ∷ h.before;
   less = (less, h.less);
   first = h.first;
@@ -269,14 +269,14 @@ module _ (s : WordKind) (text room p : List ℕ) (ps : List (List ℕ)) (start e
     left = tt;
   }
 
-  pub word_more : (m : ℕ) (next : Left) → last ≤ m → number_by s p ≤ m → pieces_of at ≡ p ∷ pieces_of next → AreWordsSoFar s text ps start e m new next
+  pub word_more : (m : ℕ) (next : Left) → last ≤ m → word_number p ≤ m → pieces_of at ≡ p ∷ pieces_of next → AreWordsSoFar s text ps start e m new next
   word_more m next le word_le cut = record {
     words = h.words ++ p ∷ [];
     kept = i.all;
     cut = h.cut ∙ ap (λ l. h.words ++ l) cut ∙ sym (append_assoc h.words (p ∷ []) (pieces_of next));
     same = more_same;
     held = record { before = h.held.before; stored = i.stored.begins; each = i.same.each_kept; ascend = i.same.ascend };
-    up_to = i.up_to m (all_weaker (λ w. number_by s w ≤ last) (λ w. number_by s w ≤ m) (λ w l. omega arith) h.kept h.up_to) word_le;
+    up_to = i.up_to m (all_weaker (λ w. word_number w ≤ last) (λ w. word_number w ≤ m) (λ w l. omega arith) h.kept h.up_to) word_le;
   }
 
   pub word_behind : start ≤ e

@@ -4,10 +4,9 @@ ghost use Rattle.iloc_spec_grammar.specs.Syntax.{IsWord, Variant};
 ghost use Rattle.iloc_fronts.specs.Left.{IsLeft, piece_of, pieces_of};
 ghost use Rattle.iloc_rewriting.specs.Repeats.{ComesAgain, HasRepeat, HaveRepeat};
 
-use crate::same::are_one;
 use iloc_blocks::ordered::cut_at;
 use iloc_fronts::left::{Left, after_piece, left_in};
-use iloc_fronts::words::is_variant;
+use iloc_fronts::words::{is_variant, number_of_word};
 
 /// Whether a plain identifier of `at` bytes comes first, and among the variants after it one comes twice, in whatever
 /// case. Such a line is no identifier and no locale.
@@ -46,12 +45,14 @@ fn have_repeat(left: Left<'_>) -> bool
 #[inline(always)]
 fn comes_again(word: Left<'_>, left: Left<'_>) -> bool
     requires word { IsLeft word }
+    requires is { IsWord Variant (piece_of word) }
     requires left { IsLeft left }
     ensures { IsTrue result → ComesAgain (piece_of word.entry) (pieces_of left.entry) }
 {
+    let number = number_of_word(word.window, word.n);
     let mut at = left;
     'variants: while is_variant(at.window, at.n) {
-        if are_one(word, at) {
+        if number_of_word(at.window, at.n) == number {
             return true;
         }
         if at.n == at.len {

@@ -13,8 +13,8 @@ use iloc_fronts::left::left_in;
 
 /// Stores another line in the room, and gives its length. What is told of that line is so of the first `len` bytes too,
 /// be it its normal text or a bad block. A plain identifier of `at` bytes comes first in both; in the new line the
-/// variants after it ascend, and all else is as it was. `None` says nothing of the line; it is returned where two
-/// variants have the same first four bytes.
+/// variants after it ascend, and all else is as it was. `None` says nothing of the line; it is returned where a variant
+/// comes twice.
 #[inline(never)]
 pub fn sort_variants(window: &[u8], len: usize, at: usize, room: &mut [u8]) -> Option<usize>
     requires { len + 16 ≤ length window.now }

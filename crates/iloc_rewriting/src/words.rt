@@ -2,34 +2,33 @@
 ghost use Rattle.std.specs.Prelude.{◌≡◌, ◌+◌, ◌≤◌, IfSome, List, length, take};
 ghost use Rattle.iloc_spec_grammar.specs.Syntax.{IsWord, Text, is_word};
 ghost use Rattle.iloc_fronts.specs.Left.{IsLeft, piece_of, pieces_of};
+ghost use Rattle.iloc_fronts.specs.Words.{word_number};
 ghost use Rattle.iloc_rewriting.specs.Rewriting.{AreUpTo};
 ghost use Rattle.iloc_rewriting.specs.Words.{
   AreWordsHeld,
   AreWordsStored,
   IsPlaceAmong,
   IsWordStored,
-  number_by,
   word_kind,
   words_of,
 };
 
 use crate::keywords::{Place, Stored};
-use crate::same::are_one;
 use crate::storing::{put_bytes, put_piece};
 use iloc_fronts::left::{Left, after_piece, left_in};
-use iloc_fronts::words::{is_attribute, is_variant, number_of_four, number_of_two};
+use iloc_fronts::words::{is_attribute, is_variant, number_of_word};
 use std::cmp::max;
 
 // Which words are stored.
 #[derive(Clone, Copy)]
 pub(crate) enum WordKind {
-    // Attributes, each once, in the order of their first two bytes.
+    // Attributes, each once.
     Attribute,
-    // Variants, which differ, in the order of their first four bytes.
+    // Variants, which differ.
     Variant,
 }
 
-// Stores words in order; `None` if two others have one number, or a variant comes twice.
+// Stores words in order; `None` if a variant comes twice.
 #[inline(always)]
 pub(crate) fn put_words<'a>(
     kind: WordKind,
@@ -50,7 +49,7 @@ pub(crate) fn put_words<'a>(
         if at.n == at.len {
             return Some(Stored { end, next: None });
         }
-        last = max(last, number_of(kind, at));
+        last = max(last, number_of_word(at.window, at.n));
         at = after_piece(at);
     }
     Some(Stored {
@@ -72,25 +71,12 @@ fn is_word_of(kind: WordKind, window: &[u8], n: usize) -> bool
     }
 }
 
-// The number of the word, by which it is ordered.
-#[inline(always)]
-fn number_of(kind: WordKind, left: Left<'_>) -> usize
-    requires left { IsLeft left }
-    requires word { IsWord (word_kind kind) (piece_of left) }
-    ensures { result ≡ number_by kind (piece_of left.entry) }
-{
-    match kind {
-        WordKind::Attribute => number_of_two(left.window),
-        WordKind::Variant => number_of_four(left.window),
-    }
-}
-
 // Stores a word among those that begin at `start`, of which none has a number above the last.
 #[inline(always)]
 fn put_word(
     kind: WordKind,
     left: Left<'_>,
-    last: usize,
+    last: u64,
     room: &mut [u8],
     start: usize,
     end: usize,
@@ -100,10 +86,10 @@ fn put_word(
     requires room { end + 16 ≤ length room.old }
     requires start { start ≤ end }
     ensures { (t : Text) (ws : List Text) → AreWordsHeld kind room.old start end t ws
-        → AreUpTo (number_by kind) last ws
+        → AreUpTo word_number last ws
         → IfSome result (IsWordStored kind t ws (piece_of left.entry) room.new) }
 {
-    if number_of(kind, left) > last {
+    if number_of_word(left.window, left.n) > last {
         return put_piece(left, room, end);
     }
     match kind {
@@ -174,22 +160,19 @@ fn insert_word(
     put_bytes(&later, count, room, next)
 }
 
-// Where the word belongs among these; `None` if another has its number.
+// Where the word belongs among these.
 #[inline(always)]
 fn place_among(kind: WordKind, word: Left<'_>, left: Left<'_>) -> Option<Place>
     requires word { IsLeft word }
     requires fits { IsWord (word_kind kind) (piece_of word) }
     requires left { IsLeft left }
     ensures { IfSome result
-        (IsPlaceAmong kind (piece_of word.entry) (pieces_of left.entry) left.entry.len) }
+        (IsPlaceAmong (piece_of word.entry) (pieces_of left.entry) left.entry.len) }
 {
-    let number = number_of(kind, word);
+    let number = number_of_word(word.window, word.n);
     let mut at = left;
     'words: while is_word_of(kind, at.window, at.n) {
-        let other = number_of(kind, at);
-        if other == number && !are_one(word, at) {
-            return None;
-        }
+        let other = number_of_word(at.window, at.n);
         if other >= number {
             return Some(Place {
                 is_there: other == number,

@@ -15,7 +15,7 @@ returns-in-Attribute c = λ t ws a.
     let some : c.args.start < c.args.end = omega (arith, c.requires.start, c.if-start-end.false) in
     let inside : c.args.end ≤ length r = omega (arith, c.requires.room) in
     let tail : pieces_of c.left_in.result ≡ ws = (λ j. pieces (take (c.left_in.ensures.len j) (c.left_in.ensures.window j))) ∙ words_in_room c.args.kind r t c.args.start c.args.end ws inside a some in
-    let place : IsPlaceAmong c.args.kind (piece_of l) ws c.left_in.result.len c.in_ok-place.place = subst (λ (ps : List (List ℕ)). IsPlaceAmong c.args.kind (piece_of l) ps c.left_in.result.len c.in_ok-place.place) tail c.in_ok-place.ensures in
+    let place : IsPlaceAmong (piece_of l) ws c.left_in.result.len c.in_ok-place.place = subst (λ (ps : List (List ℕ)). IsPlaceAmong (piece_of l) ps c.left_in.result.len c.in_ok-place.place) tail c.in_ok-place.ensures in
     word_there c.args.kind t r (piece_of l) c.args.start c.args.end c.left_in.result.len ws inside a c.requires.word c.in_ok-place.place place c.in-Attribute.is c.if-place.true c.requires.room
 
 pub returns : goal.returns
@@ -26,7 +26,7 @@ returns c = λ t ws a.
     let some : c.args.start < c.args.end = omega (arith, c.requires.start, c.if-start-end.false) in
     let inside : c.args.end ≤ length r = omega (arith, c.requires.room) in
     let tail : pieces_of c.left_in.result ≡ ws = (λ j. pieces (take (c.left_in.ensures.len j) (c.left_in.ensures.window j))) ∙ words_in_room c.args.kind r t c.args.start c.args.end ws inside a some in
-    let place : IsPlaceAmong c.args.kind (piece_of l) ws c.left_in.result.len c.in_ok-place.place = subst (λ (ps : List (List ℕ)). IsPlaceAmong c.args.kind (piece_of l) ps c.left_in.result.len c.in_ok-place.place) tail c.in_ok-place.ensures in
+    let place : IsPlaceAmong (piece_of l) ws c.left_in.result.len c.in_ok-place.place = subst (λ (ps : List (List ℕ)). IsPlaceAmong (piece_of l) ps c.left_in.result.len c.in_ok-place.place) tail c.in_ok-place.ensures in
     let before = c.args.end - m - 1 in
     let later : take c.in_ok-count.count c.put_bytes.new.room ≡ take (m + 1) (drop before r) =
     c.in_ok-count.ensures.begins ∙ take-take (m + 1) (length r - before) (drop before r) (omega (arith, c.requires.room, place.within, c.left_in.ensures.len)) in

@@ -3,7 +3,7 @@ use Rattle.iloc_spec_grammar.specs.Syntax.{IsWord}
 use Rattle.iloc_fronts.specs.Left.{pieces_of, piece_of}
 use Rattle.iloc_fronts.proofs.LeftLemmas.{last_left, word_left}
 use Rattle.iloc_rewriting.specs.Words.{word_kind}
-use Rattle.iloc_rewriting.proofs.WordLemmas.{short_word, words_none, word_last, word_more, word_behind}
+use Rattle.iloc_rewriting.proofs.WordLemmas.{kind_fits, short_word, words_none, word_last, word_more, word_behind}
 use Rattle.iloc_rewriting.proofs.StoredLemmas.{max_first, max_second}
 use Rattle.iloc_rewriting.proofs.words.put_words.Goals as goal
 
@@ -26,6 +26,9 @@ returns-then-at c =
     word_last c.args.kind text c.words.room (piece_of l) (pieces_of c.args.left) c.args.start c.words.end c.words.last l h.far word c.put_word.new.room c.in_ok-end.end stored c.args.left.len
     (last_left l h.left (word_left l h.left (word_kind c.args.kind) (short_word c.args.kind) word) c.if-at.true)
 
+pub number_of_word-requires-clause-word : goal.number_of_word-requires-clause-word
+number_of_word-requires-clause-word c = kind_fits c.args.kind _ (sym c.is_word_of.ensures ∙ c.words-test.true)
+
 pub words-preserved : goal.words-preserved
 words-preserved c =
     let l = c.words.at in
@@ -40,6 +43,6 @@ words-preserved c =
       more = stored.stored.more;
       start = word_behind c.args.kind text c.words.room (piece_of l) (pieces_of c.args.left) c.args.start c.words.end c.words.last l h.far word c.put_word.new.room c.in_ok-end.end stored;
       far = word_more c.args.kind text c.words.room (piece_of l) (pieces_of c.args.left) c.args.start c.words.end c.words.last l h.far word c.put_word.new.room c.in_ok-end.end stored c.max-last.result next
-          (omega (arith, c.max-last.ensures, max_first c.words.last c.number_of.result)) (omega (arith, c.max-last.ensures, max_second c.words.last c.number_of.result, c.number_of.ensures))
+          (omega (arith, c.max-last.ensures, max_first c.words.last c.number_of_word.result)) (omega (arith, c.max-last.ensures, max_second c.words.last c.number_of_word.result, c.number_of_word.ensures))
           (c.after_piece-at.ensures.pieces (word_left l h.left (word_kind c.args.kind) (short_word c.args.kind) word));
     }
