@@ -6,7 +6,7 @@ use crate::body::Body;
 use iloc_fronts::left::{Left, after_piece};
 use iloc_fronts::words::{is_variant, number_of_word};
 
-/// What follows the variants that come first, if they ascend. One that comes twice in a row is no part of that.
+/// What follows the variants that come first, if they ascend.
 #[inline(always)]
 pub fn past_ascending(left: Left<'_>) -> Body<'_>
     requires { IsLeft left }
@@ -16,11 +16,8 @@ pub fn past_ascending(left: Left<'_>) -> Body<'_>
     let mut last = 0;
     'variants: while is_variant(at.window, at.n) {
         let number = number_of_word(at.window, at.n);
-        if number < last {
+        if number <= last {
             return Body::Unordered;
-        }
-        if number == last {
-            return Body::Other;
         }
         if at.n == at.len {
             return Body::End;
