@@ -1,5 +1,5 @@
 //! Tells lines whose normal text is their own but for the case of letters, and lines with a bad block.
-ghost use Rattle.std.specs.Prelude.{◌≡◌, ◌+◌, ◌<◌, ◌≤◌, IfSome, get_or, length, take};
+ghost use Rattle.std.specs.Prelude.{◌≡◌, ◌+◌, ◌<◌, ◌≤◌, IfSome, length, slice_index, take};
 ghost use Rattle.iloc_fronts.specs.Front.{EndsInVariant};
 ghost use Rattle.iloc_fronts.specs.Left.{IsLeft, pieces_of};
 ghost use Rattle.iloc_blocks.specs.Ordered.{
@@ -117,7 +117,7 @@ pub fn cut_at(window: &[u8], len: usize, at: usize) -> Option<Ordered<'_>>
 fn cut_before(window: &[u8], len: usize, at: usize) -> Option<Ordered<'_>>
     requires room { len + 16 ≤ length window.now }
     requires less { at < len }
-    requires hyphen { get_or window.now at 0 ≡ 45 }
+    requires hyphen { slice_index window.now at ≡ 45 }
     ensures { IfSome result (IsBefore window.now len at) }
 {
     if at > 16 {
