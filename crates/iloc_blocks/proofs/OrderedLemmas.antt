@@ -203,7 +203,7 @@ is_ordered t o c h = record {
 }
 
 -- a line of which no more than variants follow
-is_identifier : (t : List ℕ) (o : Ordered) (c : IsCut t o) (vs : List (List ℕ)) → AllByRecursion (IsWord Variant) vs → IsAscending (map lower vs) → pieces c.tail ≡ vs → IsOrderedIdentifier t o
+pub is_identifier : (t : List ℕ) (o : Ordered) (c : IsCut t o) (vs : List (List ℕ)) → AllByRecursion (IsWord Variant) vs → IsAscending (map lower vs) → pieces c.tail ≡ vs → IsOrderedIdentifier t o
 is_identifier t o c vs each ascending e = record {
   stored = c.stored;
   identifier = identifier o.plain c.front c.tail c.plain h;

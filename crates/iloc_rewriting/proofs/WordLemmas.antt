@@ -1,19 +1,20 @@
 -- Words that are stored in order.
 use Rattle.std.proofs.Common.{take, drop, ◌≡◌, ℕ, suc, ◌+◌, ◌-◌, ◌<◌, ◌≤◌, ◌==◌, IsTrue, Bool, true, false, cond, List, [], ◌∷◌, ◌++◌, length, map, Some, None, refl, sym, ap, ◌∙◌, subst, arith, append_assoc, append-nil, length-append}
-use Rattle.std.specs.List.{AllByRecursion}
+use Rattle.std.specs.List.{AllByRecursion, list_any}
 use Rattle.std.specs.FinMap.{find}
 use Rattle.std.specs.Ordering.{eq_by_cmp}
-use Rattle.std.proofs.lemmas.Bool.{and_from}
+use Rattle.std.proofs.lemmas.Bool.{and_from, or_left, or_right, true≢false}
 use Rattle.std.proofs.lemmas.List.{length-take-le, map-append}
-use Rattle.iloc_spec_grammar.specs.Syntax.{pieces, join, dashes, IsWord, IsHyphenFree, lower, word_cmp}
+use Rattle.std.proofs.lemmas.List.Folds.{list_any-append}
+use Rattle.iloc_spec_grammar.specs.Syntax.{pieces, join, dashes, IsWord, IsHyphenFree, AllDifferent, is_same, lower, word_cmp}
 use Rattle.iloc_spec_grammar.specs.Meaning.{set_of}
 use Rattle.iloc_spec_grammar.specs.Reading.{rest_of}
 use Rattle.iloc_spec_grammar.specs.Values.{IsAscending, Reordered}
 use Rattle.iloc_spec_grammar.proofs.PartTexts.{join-dashes, dashes-append}
 use Rattle.iloc_spec_grammar.proofs.ReadBack.{all_append, word_hyphen_free}
 use Rattle.iloc_spec_grammar.proofs.ValuesLaws.{all_weaker}
-use Rattle.iloc_spec_grammar.proofs.Orders.{all_reordered, map_reordered, set_of_reordered, itself}
-use Rattle.iloc_spec_grammar.proofs.MapLaws.{map_of_same, word_cmp_total, same_words}
+use Rattle.iloc_spec_grammar.proofs.Orders.{all_reordered, any_reordered, different_reordered, map_reordered, set_of_reordered, itself}
+use Rattle.iloc_spec_grammar.proofs.MapLaws.{map_of_same, same_itself, word_cmp_total, same_words}
 use Rattle.iloc_spec_grammar.proofs.SetLaws.{marked, keys, set_of-first}
 use Rattle.iloc_fronts.specs.Left.{pieces_of, piece_of, IsLeft}
 use Rattle.iloc_fronts.specs.declared.left.Left.{Left}
@@ -22,8 +23,10 @@ use Rattle.iloc_fronts.specs.Words.{IsUpToEight, word_number}
 use Rattle.iloc_fronts.proofs.WordNumbers.{attribute_fits, variant_fits, equal_same}
 use Rattle.iloc_blocks.proofs.UnicodeLemmas.{words_below}
 use Rattle.iloc_rewriting.specs.Rewriting.{AreStored, Ascend, AreUpTo}
-use Rattle.iloc_rewriting.specs.Words.{word_kind, KeepsAll, AreInPlaceOf, AreWordsStored, AreWordsHeld, IsWordStored, IsPlaceAmong, AreWordsSoFar}
+use Rattle.iloc_rewriting.specs.Words.{word_kind, KeepsAll, AreInPlaceOf, AreWordsStored, AreWordsHeld, IsWordStored, IsPlaceAmong, AreUnsorted, IsThere, AreWordsSoFar}
 use Rattle.iloc_rewriting.specs.declared.keywords.Place.{Place}
+use Rattle.iloc_rewriting.specs.declared.words.Unsorted.{Unsorted}
+use Rattle.iloc_rewriting.specs.declared.words.Unsorted.TheVariants as unsorted
 use Rattle.iloc_rewriting.specs.declared.words.WordKind.{WordKind}
 use Rattle.iloc_rewriting.specs.declared.words.WordKind.TheVariants as kind
 use Rattle.iloc_rewriting.proofs.RewritingLemmas.{cut_left, length-joined}
@@ -154,10 +157,20 @@ module _ (s : WordKind) (text room p : List ℕ) (start end len : ℕ) (ws : Lis
       same : set_of (map lower (ws ++ p ∷ [])) ≡ set_of (map lower ws)
       same = ap set_of (map-append lower ws (p ∷ [])) ∙ ap (λ l. set_of (l ++ lower p ∷ [])) lowered ∙ set_there (lower p) (map lower c.before) (map lower c.rest) ∙ ap set_of (sym lowered)
 
+  -- it is a variant that is there
+  pub word_again : s ≡ kind.Variant → IsTrue place.is_there → IsThere s p ws unsorted.Repeated
+  word_again variant there = (variant, again)
+    where
+      again : list_any (is_same (lower p)) (map lower ws) ≡ true
+      again =
+          ap (list_any (is_same (lower p))) (ap (map lower) c.cut ∙ map-append lower c.before (c.first ∷ c.rest))
+          ∙ list_any-append (is_same (lower p)) (map lower c.before) (map lower (c.first ∷ c.rest))
+          ∙ or_right _ _ (or_left _ _ (ap (is_same (lower p)) (c.there there) ∙ same_itself (lower p)))
+
   -- it comes before a greater one
-  pub word_inserted : place.is_there ≡ false → (room' new : List ℕ) (m e : ℕ) → AreStored room' (take (end - place.len - 1) room ++ 45 ∷ p) m → AreStored new (take m room' ++ take (place.len + 1) (drop (end - place.len - 1) room)) e
+  pub word_inserted : place.is_there ≡ false → (new : List ℕ) (e : ℕ) → AreStored new ((take (end - place.len - 1) room ++ 45 ∷ p) ++ take (place.len + 1) (drop (end - place.len - 1) room)) e
       → IsWordStored s text ws p new e
-  word_inserted other room' new m e h stored = record {
+  word_inserted other new e stored = record {
     all = c.before ++ (p ∷ (c.first ∷ c.rest));
     same = record {
       each = each_more;
@@ -194,19 +207,25 @@ module _ (s : WordKind) (text room p : List ℕ) (start end len : ℕ) (ws : Lis
       halves = subst (λ (n : ℕ). (take n room ≡ text ++ dashes c.before) × (take (place.len + 1) (drop n room) ≡ dashes (c.first ∷ c.rest))) same_place
           (split_room room (text ++ dashes c.before) (dashes (c.first ∷ c.rest)) end (place.len + 1) room_end parts long)
 
-      text_is : take m room' ++ take (place.len + 1) (drop (end - place.len - 1) room) ≡ text ++ dashes (c.before ++ (p ∷ (c.first ∷ c.rest)))
+      text_is : (take (end - place.len - 1) room ++ 45 ∷ p) ++ take (place.len + 1) (drop (end - place.len - 1) room) ≡ text ++ dashes (c.before ++ (p ∷ (c.first ∷ c.rest)))
       text_is =
-          (λ j. (h.begins ∙ ap (λ t. t ++ 45 ∷ p) halves.0 ∙ words_stored text c.before p) j ++ halves.1 j)
+          (λ j. (ap (λ t. t ++ 45 ∷ p) halves.0 ∙ words_stored text c.before p) j ++ halves.1 j)
           ∙ append_assoc text (dashes (c.before ++ p ∷ [])) (dashes (c.first ∷ c.rest))
           ∙ ap (λ t. text ++ t) (sym (dashes-append (c.before ++ p ∷ []) (c.first ∷ c.rest)))
           ∙ ap (λ l. text ++ dashes l) (append_assoc c.before (p ∷ []) (c.first ∷ c.rest))
 
 -- ---- a place among words
 
-pub words_in_room : (s : WordKind) (room text : List ℕ) (start end : ℕ) (ws : List (List ℕ)) → end ≤ length room → AreWordsHeld s room start end text ws → start < end
-    → pieces (take (end - start - 1) (take (length room - (start + 1)) (drop (start + 1) room))) ≡ ws
-words_in_room s room text start end ws room_end a some =
-    pieces_in_room room text start end ws room_end a.before a.stored (all_weaker (IsWord (word_kind s)) IsHyphenFree (word_hyphen_free (word_kind s)) ws a.each) some
+-- a place among the pieces behind the text is one among the words that are held there
+pub place_held : (s : WordKind) (room text word : List ℕ) (start end : ℕ) (ws : List (List ℕ)) → end ≤ length room → AreWordsHeld s room start end text ws → start < end
+    → (l : Left) → l.window.now ≡ take (length room - (start + 1)) (drop (start + 1) room) → l.len ≡ end - start - 1
+    → (p : Place) → IsPlaceAmong word (pieces_of l) l.len p → IsPlaceAmong word ws l.len p
+place_held s room text word start end ws room_end a some l window len p h = subst (λ (ps : List (List ℕ)). IsPlaceAmong word ps l.len p) words h
+  where
+    words : pieces_of l ≡ ws
+    words =
+        (λ j. pieces (take (len j) (window j)))
+        ∙ pieces_in_room room text start end ws room_end a.before a.stored (all_weaker (IsWord (word_kind s)) IsHyphenFree (word_hyphen_free (word_kind s)) ws a.each) some
 
 pub among_here : (word : List ℕ) (l : Left) → IsLeft l → l.n < 16 → IsUpToEight word → IsUpToEight (piece_of l) → (number other : ℕ) → number ≡ word_number word → other ≡ word_number (piece_of l) → number ≤ other
     → IsPlaceAmong word (pieces_of l) l.len (record { is_there = other == number; len = l.len })
@@ -281,3 +300,24 @@ module _ (s : WordKind) (text room p : List ℕ) (ps : List (List ℕ)) (start e
 
   pub word_behind : start ≤ e
   word_behind = omega (arith, i.stored.more, h.held.before, length-take-le e new (omega (arith, i.stored.more)), ap length i.stored.begins, length-append text (dashes i.all))
+
+-- ---- a variant that comes twice
+
+-- a word that is there stands behind words that are different only if it is none of them
+none_behind : (p : List ℕ) (ws : List (List ℕ)) → AllDifferent word_cmp (map lower (ws ++ p ∷ [])) → list_any (is_same (lower p)) (map lower ws) ≡ false
+none_behind p ws d = (different_reordered word_cmp word_cmp_total (map_reordered lower (turned (first_last ws p))) d).0
+
+-- a variant that is among those so far repeats one
+pub variant_repeats : (s : WordKind) (text room p : List ℕ) (ps qs : List (List ℕ)) (start end last : ℕ) (at : Left) (h : AreWordsSoFar s text ps start end last room at) → IsWord (word_kind s) p → pieces_of at ≡ p ∷ qs
+    → (e : Unsorted) → IsThere s p h.kept e → AreUnsorted ps e
+variant_repeats s text room p ps qs start end last at h w cut unsorted.Other there = tt
+variant_repeats s text room p ps qs start end last at h w cut unsorted.Repeated (variant, there) = record {
+  variants = h.words ++ p ∷ [];
+  rest = qs;
+  cut = h.cut ∙ ap (λ l. h.words ++ l) cut ∙ sym (append_assoc h.words (p ∷ []) qs);
+  each = subst (λ (k : WordKind). AllByRecursion (IsWord (word_kind k)) (h.words ++ p ∷ [])) variant (all_append (IsWord (word_kind s)) h.words (p ∷ []) h.same.each (w, tt));
+  repeat = λ d. true≢false (sym there ∙ any_reordered (is_same (lower p)) (map_reordered lower order) ∙ none_behind p h.words d);
+}
+  where
+    order : Reordered h.kept h.words
+    order = subst (λ (k : WordKind). KeepsAll k h.words h.kept) variant h.same.all

@@ -1,7 +1,7 @@
 -- Words that are brought into order: attributes, or variants.
 use Rattle.std.specs.Prelude.{◌≡◌, ⊤, ℕ, ◌+◌, ◌<◌, ◌≤◌, IsTrue, Bool, true, false, List, [], ◌∷◌, ◌++◌, length, map, take, Option, Some, None}
-use Rattle.std.specs.List.{AllByRecursion}
-use Rattle.iloc_spec_grammar.specs.Syntax.{Text, Kind, Attribute, Variant, IsWord, lower, dashes, join}
+use Rattle.std.specs.List.{AllByRecursion, list_any}
+use Rattle.iloc_spec_grammar.specs.Syntax.{Text, Kind, Attribute, Variant, IsWord, is_same, lower, dashes, join}
 use Rattle.iloc_spec_grammar.specs.Meaning.{set_of}
 use Rattle.iloc_spec_grammar.specs.Values.{Reordered}
 use Rattle.iloc_blocks.specs.Blocks.{left_of}
@@ -10,10 +10,13 @@ use Rattle.iloc_fronts.specs.Words.{word_number}
 use Rattle.iloc_fronts.specs.Left.{pieces_of, IsLeft}
 use Rattle.iloc_fronts.specs.declared.left.Left.{Left}
 use Rattle.iloc_rewriting.specs.Rewriting.{AreStored, Ascend, AreUpTo}
+use Rattle.iloc_rewriting.specs.Repeats.{HaveRepeat, HasRepeat}
 use Rattle.iloc_rewriting.specs.declared.keywords.Stored.{Stored}
 use Rattle.iloc_rewriting.specs.declared.keywords.Place.{Place}
 use Rattle.iloc_rewriting.specs.declared.words.WordKind.{WordKind}
 use Rattle.iloc_rewriting.specs.declared.words.WordKind.TheVariants as kind
+use Rattle.iloc_rewriting.specs.declared.words.Unsorted.{Unsorted}
+use Rattle.iloc_rewriting.specs.declared.words.Unsorted.TheVariants as unsorted
 use Rattle.iloc_blocks.specs.Ordered.{IsReading}
 use Rattle.iloc_blocks.specs.declared.ordered.Reading.{Reading}
 
@@ -75,6 +78,22 @@ pub record IsPlaceAmong (word : Text) (ps : List Text) (len : ℕ) (p : Place) :
   pub greater : p.is_there ≡ false → word_number word < word_number first
   pub long : p.len ≡ length (join (first ∷ rest))
   pub within : p.len ≤ len
+
+-- why words are not sorted: a variant comes twice, or this is not told
+abbrev pub AreUnsorted : List Text → Unsorted → Type 0
+AreUnsorted ps unsorted.Repeated = HaveRepeat ps
+AreUnsorted ps unsorted.Other = ⊤
+
+-- the same of the variants of a line
+abbrev pub IsUnsorted : Text → Unsorted → Type 0
+IsUnsorted t unsorted.Repeated = HasRepeat t
+IsUnsorted t unsorted.Other = ⊤
+
+-- why a word is not stored: it is a variant, and one of these, or this is not told
+abbrev pub IsThere : WordKind → Text → List Text → Unsorted → Type 0
+IsThere k word ws unsorted.Repeated = (k ≡ kind.Variant)
+    × (list_any (is_same (lower word)) (map lower ws) ≡ true)
+IsThere k word ws unsorted.Other = ⊤
 
 -- words so far are stored, and other pieces are left
 pub record AreWordsSoFar (k : WordKind) (text : Text) (ps : List Text) (start end last : ℕ) (room : Text) (l : Left) : Type 0 where

@@ -24,13 +24,12 @@ mod blocks;
 mod fields;
 mod keywords;
 mod others;
-pub mod repeats;
 pub mod rewriting;
 mod sorting;
 mod storing;
 pub mod variants;
 mod words;
 
-pub use repeats::repeats_variant;
 pub use rewriting::rewrite;
-pub use variants::sort_variants;
+pub use variants::{sort_identifier, sort_variants};
+pub use words::Unsorted;
