@@ -2,23 +2,23 @@
 use Rattle.std.proofs.Common.{take, drop, ◌-◌, ◌≡◌, ℕ, zero, suc, ◌+◌, ◌<◌, ◌≤◌, Bool, true, false, List, [], ◌∷◌, ◌++◌, length, map, get_or, Option, Some, None, option_map, refl, sym, ap, ◌∙◌, subst, arith, append_assoc, append-nil}
 use Rattle.std.specs.Char.{to_ascii_lowercase}
 use Rattle.std.specs.List.{AllByRecursion}
-use Rattle.std.proofs.lemmas.List.{map-append, length-take-le, take-take, length-drop}
+use Rattle.std.proofs.lemmas.List.{map-append, get_or-take, length-append, length-take-le, take-take, length-drop}
 use Rattle.iloc_spec_grammar.specs.Syntax.{pieces, join, dashes, Variant, IsWord, lower, title, upper, languages, Identifier, identifier_pieces}
 use Rattle.iloc_spec_grammar.specs.Meaning.{Locale, IdentifierMeans, Means, normal_identifier}
 use Rattle.iloc_spec_grammar.specs.Values.{IsNormal, IsAscending, IsIdentifierValue, lower_identifier, identifier_text, text, extensions_spelling, IdentifierTextStep}
-use Rattle.iloc_spec_grammar.proofs.PiecesLaws.{at_pieces, join-pieces}
+use Rattle.iloc_spec_grammar.proofs.PiecesLaws.{at_pieces, join-pieces, pieces-join}
 use Rattle.iloc_spec_grammar.proofs.PartTexts.{join-append, join-dashes, dashes-append, text_of_parts}
 use Rattle.iloc_spec_grammar.proofs.WordsLaws.{lower-lower, lower-title, lower-upper, is_word-lower}
 use Rattle.iloc_spec_grammar.proofs.CaseLaws.{pieces-lower, case_means}
 use Rattle.iloc_spec_grammar.proofs.Chains.{identifier_pieces-low, lower-join}
 use Rattle.iloc_spec_grammar.proofs.IdentifierTexts.{identifier_text_means, identifier_text_step_means}
 use Rattle.iloc_spec_grammar.proofs.RawLaws.{languages_table}
-use Rattle.iloc_spec_grammar.proofs.ReadBack.{reads_back}
+use Rattle.iloc_spec_grammar.proofs.ReadBack.{reads_back, word_hyphen_free}
 use Rattle.iloc_plain.specs.Shape.{plain_identifier}
 use Rattle.iloc_plain.specs.Plain.{IsPlain, value_of}
 use Rattle.iloc_plain.specs.declared.plain.Plain.{Plain}
-use Rattle.iloc_blocks.specs.Ordered.{IsTail, IsBefore, IsCut, IsOrdered, IsVaried}
-use Rattle.iloc_blocks.specs.Variants.{IsOrderedIdentifier}
+use Rattle.iloc_fronts.specs.Front.{EndsInVariant}
+use Rattle.iloc_blocks.specs.Ordered.{IsTail, IsBefore, IsCut, IsOrdered, IsOrderedIdentifier, IsVaried}
 use Rattle.iloc_blocks.specs.declared.ordered.Ordered.{Ordered}
 use Rattle.iloc_blocks.proofs.PrintedBlocks.{all_lower, printed_none}
 
@@ -203,7 +203,7 @@ is_ordered t o c h = record {
 }
 
 -- a line of which no more than variants follow
-is_identifier : (t : List ℕ) (o : Ordered) (c : IsCut t o) (vs : List (List ℕ)) → AllByRecursion (IsWord Variant) vs → IsAscending (map lower vs) → pieces c.tail ≡ vs → IsOrderedIdentifier t o
+pub is_identifier : (t : List ℕ) (o : Ordered) (c : IsCut t o) (vs : List (List ℕ)) → AllByRecursion (IsWord Variant) vs → IsAscending (map lower vs) → pieces c.tail ≡ vs → IsOrderedIdentifier t o
 is_identifier t o c vs each ascending e = record {
   stored = c.stored;
   identifier = identifier o.plain c.front c.tail c.plain h;
@@ -214,10 +214,6 @@ is_identifier t o c vs each ascending e = record {
   where
     h : IsTail (pieces c.tail)
     h = record { variants = vs; rest = []; cut = e ∙ sym (append-nil vs); each = each; ascending = ascending; extensions = printed_none 0 }
-
-pub is_varied : (t : List ℕ) (o : Ordered) (c : IsCut t o) (p : List ℕ) → IsWord Variant p → pieces c.tail ≡ p ∷ [] → IsVaried t o
-unfolding is_identifier
-is_varied t o c p v e = let i = is_identifier t o c (p ∷ []) (v, tt) refl e in record { stored = i.stored; identifier = i.identifier; means = i.means; few = omega arith; normal = i.normal }
 
 -- the same of the line and its slice
 
@@ -230,8 +226,53 @@ unfolding is_cut
 told_ordered o w len at room b h =
     is_ordered (take len w) o (is_cut o w len at room b) (subst (λ (s : List ℕ). IsTail (pieces s)) (rest_is w len at room b.less b.hyphen) h)
 
-pub told_varied : (o : Ordered) (w : List ℕ) (len at : ℕ) → len + 16 ≤ length w → IsBefore w len at o
-    → (p : List ℕ) → IsWord Variant p → pieces (Tail w len at) ≡ p ∷ [] → IsVaried (take len w) o
+-- a line of which no more than ascending variants follow
+pub told_variants : (o : Ordered) (w : List ℕ) (len at : ℕ) → len + 16 ≤ length w → IsBefore w len at o
+    → (vs : List (List ℕ)) → AllByRecursion (IsWord Variant) vs → IsAscending (map lower vs) → pieces (Tail w len at) ≡ vs → IsOrderedIdentifier (take len w) o
 unfolding is_cut
-told_varied o w len at room b p v e =
-    is_varied (take len w) o (is_cut o w len at room b) p v (ap pieces (sym (rest_is w len at room b.less b.hyphen)) ∙ e)
+told_variants o w len at room b vs each ascending e =
+    is_identifier (take len w) o (is_cut o w len at room b) vs each ascending (ap pieces (sym (rest_is w len at room b.less b.hyphen)) ∙ e)
+
+-- ---- one variant
+
+tail_after : (xs ys zs vs : List ℕ) → length xs ≡ length zs → xs ++ 45 ∷ ys ≡ zs ++ 45 ∷ vs → ys ≡ vs
+tail_after [] ys [] vs l e = ap (drop 1) e
+tail_after [] ys (z ∷ zs) vs l e = absurd (omega arith)
+tail_after (x ∷ xs) ys [] vs l e = absurd (omega arith)
+tail_after (x ∷ xs) ys (z ∷ zs) vs l e = tail_after xs ys zs vs (omega arith) (ap (drop 1) e)
+
+hyphen_there : (xs ys : List ℕ) (n : ℕ) → n ≡ length xs → get_or (xs ++ 45 ∷ ys) n 0 ≡ 45
+hyphen_there [] ys n e = ap (λ (i : ℕ). get_or (45 ∷ ys) i 0) e
+hyphen_there (x ∷ xs) ys n e = ap (λ (i : ℕ). get_or (x ∷ (xs ++ 45 ∷ ys)) i 0) e ∙ hyphen_there xs ys (length xs) refl
+
+pieces_one : (v : List ℕ) → IsWord Variant v → pieces v ≡ v ∷ []
+unfolding join
+pieces_one v h = pieces-join v [] (word_hyphen_free Variant v h, tt)
+
+-- a line that ends in one behind a hyphen
+module _ (w : List ℕ) (len n : ℕ) (room : len + 16 ≤ length w) (v : EndsInVariant (take len w) n) where
+  fits_in : length v.front + (1 + n) ≡ len
+  fits_in =
+      let whole : length (take len w) ≡ len = length-take-le len w (omega arith) in
+      omega (arith, whole, ap length v.cut, length-append v.front (45 ∷ v.variant), v.long)
+
+  pub before_it : (n + 1 ≤ len) × (len - n - 1 < len)
+  before_it = (omega (arith, fits_in), omega (arith, fits_in))
+
+  there : len - n - 1 ≡ length v.front
+  there = omega (arith, fits_in)
+
+  pub hyphen_before : get_or w (len - n - 1) 0 ≡ 45
+  hyphen_before =
+      sym (get_or-take len w (len - n - 1) 0 (omega (arith, fits_in))) ∙ ap (λ (t : List ℕ). get_or t (len - n - 1) 0) v.cut ∙ hyphen_there v.front v.variant (len - n - 1) there
+
+  pub told_varied : (o : Ordered) → IsBefore w len (len - n - 1) o → IsVaried (take len w) o
+  unfolding is_cut is_identifier
+  told_varied o b =
+      let c = is_cut o w len (len - n - 1) room b in
+      let front_long : length c.front ≡ length v.front = length-take-le (len - n - 1) w (omega arith) ∙ there in
+      let same : c.tail ≡ v.variant = tail_after c.front c.tail v.front v.variant front_long (sym c.cut ∙ v.cut) in
+      record {
+        is = is_identifier (take len w) o c (v.variant ∷ []) (v.is, tt) refl (ap pieces same ∙ pieces_one v.variant v.is);
+        few = omega arith;
+      }

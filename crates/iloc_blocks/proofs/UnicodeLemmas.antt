@@ -13,14 +13,15 @@ use Rattle.iloc_spec_grammar.specs.Reading.{starts_block}
 use Rattle.iloc_spec_grammar.proofs.ValuesLaws.{all_weaker}
 use Rattle.iloc_spec_grammar.proofs.WordsLaws.{length-attribute, length-unicode_key}
 use Rattle.iloc_blocks.specs.Blocks.{IsValue, AreKeywords, AreKeywordsAt, Follows, IsNext, IsUnicodePart, IsUnicodeFrom, HaveStranger, lower_fields}
-use Rattle.iloc_fronts.specs.Words.{two_number}
+use Rattle.iloc_fronts.specs.Words.{IsUpToEight, two_number, word_number}
 use Rattle.iloc_fronts.specs.Left.{pieces_of, piece_of, IsLeft}
 use Rattle.iloc_fronts.specs.declared.left.Left.{Left}
 use Rattle.iloc_fronts.proofs.FrontLemmas.{short_attribute, short_key}
 use Rattle.iloc_fronts.proofs.LeftLemmas.{no_block_left, first_word}
 use Rattle.iloc_blocks.proofs.BlockLemmas.{front_long, long_key}
 use Rattle.iloc_spec_grammar.proofs.Readings.{IsLong, long_attribute}
-use Rattle.iloc_fronts.proofs.WordBytes.{BeginsTwo, attribute_begins, key_begins}
+use Rattle.iloc_fronts.proofs.WordBytes.{BeginsTwo, key_begins}
+use Rattle.iloc_fronts.proofs.WordNumbers.{attribute_fits, lesser_below}
 
 -- ---- keys in order
 
@@ -39,7 +40,7 @@ number_below a b c d o small less l = elim (cases_lt a c) [
       (λ j. is_lt (ordering_then (first j) (ordering_then (second j) o)))
 ]
 
--- a word that begins with a lesser number is below
+-- a word whose first two bytes have a lesser number is below
 pub word_below : (p q : List ℕ) → BeginsTwo p → BeginsTwo q → two_number p < two_number q → is_lt (word_cmp (lower p) (lower q)) ≡ true
 unfolding lower
 word_below (a ∷ b ∷ p) (c ∷ d ∷ q) h k l =
@@ -109,36 +110,29 @@ unicode_of_keywords n more ps k = record { attributes = []; rest = ps; cut = ref
     by (inr some) = omega arith
 
 -- one attribute, and keywords
-pub unicode_last : (p : List ℕ) (ps : List (List ℕ)) → IsWord Attribute p → AreKeywords ps → IsUnicodeFrom (two_number p) (p ∷ ps)
+pub unicode_last : (p : List ℕ) (ps : List (List ℕ)) → IsWord Attribute p → AreKeywords ps → IsUnicodeFrom (word_number p) (p ∷ ps)
 unicode_last p ps h k = (record { attributes = p ∷ []; rest = ps; cut = refl; each = (h, tt); ascending = refl; keywords = k; some = omega arith }, (omega arith, tt))
 
--- the number of a word by which it is below others
-abbrev pub TellsOrder : (List ℕ → Type 0) → (List ℕ → ℕ) → Type 0
-TellsOrder P number = (p q : List ℕ) → P p → P q → number p < number q → is_lt (word_cmp (lower p) (lower q)) ≡ true
-
--- a word is below those from a greater number on
-pub words_below : (P : List ℕ → Type 0) (number : List ℕ → ℕ) → TellsOrder P number → (p : List ℕ) → P p → (n : ℕ) → number p < n
-    → (ws : List (List ℕ)) → AllByRecursion P ws → AllByRecursion (λ w. n ≤ number w) ws → below_all word_cmp (lower p) (map (λ w. (w, tt {0})) (map lower ws)) ≡ true
-words_below P number tells p h n l [] each above = refl
-words_below P number tells p h n l (w ∷ ws) each above =
-    and_from _ _ (tells p w h each.0 (omega (arith, above.0))) (words_below P number tells p h n l ws each.1 above.1)
-
-attribute_below : TellsOrder (IsWord Attribute) two_number
-attribute_below p q h k l = word_below p q (attribute_begins p h) (attribute_begins q k) l
+-- a word is below those with greater numbers
+pub words_below : (p : List ℕ) → IsUpToEight p → (ws : List (List ℕ)) → AllByRecursion IsUpToEight ws → AllByRecursion (λ w. word_number p < word_number w) ws
+    → below_all word_cmp (lower p) (map (λ w. (w, tt {0})) (map lower ws)) ≡ true
+words_below p h [] each above = refl
+words_below p h (w ∷ ws) each above = and_from _ _ (lesser_below p w h each.0 above.0) (words_below p h ws each.1 above.1)
 
 -- one attribute more
-pub unicode_more : (p : List ℕ) (n : ℕ) → IsWord Attribute p → two_number p < n → (ps : List (List ℕ)) → IsUnicodeFrom n ps → IsUnicodeFrom (two_number p) (p ∷ ps)
+pub unicode_more : (p : List ℕ) (n : ℕ) → IsWord Attribute p → word_number p < n → (ps : List (List ℕ)) → IsUnicodeFrom n ps → IsUnicodeFrom (word_number p) (p ∷ ps)
 unicode_more p n h l ps (u, above) = (
   record {
     attributes = p ∷ u.attributes;
     rest = u.rest;
     cut = ap (λ l. p ∷ l) u.cut;
     each = (h, u.each);
-    ascending = and_from _ _ (words_below (IsWord Attribute) two_number attribute_below p h n l u.attributes u.each above) u.ascending;
+    ascending = and_from _ _ (words_below p (attribute_fits p h) u.attributes (all_weaker (IsWord Attribute) IsUpToEight attribute_fits u.attributes u.each)
+        (all_weaker (λ a. n ≤ word_number a) (λ a. word_number p < word_number a) (λ a m. omega arith) u.attributes above)) u.ascending;
     keywords = u.keywords;
     some = omega arith;
   },
-  (omega arith, all_weaker (λ a. n ≤ two_number a) (λ a. two_number p ≤ two_number a) (λ a m. omega arith) u.attributes above),
+  (omega arith, all_weaker (λ a. n ≤ word_number a) (λ a. word_number p ≤ word_number a) (λ a m. omega arith) u.attributes above),
 )
 
 -- ---- pieces that are neither attributes nor keys

@@ -19,7 +19,7 @@ use Rattle.iloc_blocks.specs.declared.body.Body.{Body}
 use Rattle.iloc_blocks.specs.declared.body.Body.TheVariants as body
 use Rattle.iloc_blocks.specs.declared.unicode.Next.{Next}
 use Rattle.iloc_blocks.specs.declared.unicode.Next.TheVariants as next
-use Rattle.iloc_fronts.specs.Words.{two_number}
+use Rattle.iloc_fronts.specs.Words.{two_number, word_number}
 
 -- Blocks with ascending singletons above a byte; those of `x` come last.
 
@@ -219,7 +219,7 @@ pub record IsUnicodePart (ps : List Text) : Type 0 where
 
 -- the same, and so are the attributes from this number on
 abbrev pub IsUnicodeFrom : ℕ → List Text → Type 0
-IsUnicodeFrom n ps = (u : IsUnicodePart ps) × AllByRecursion (λ a. n ≤ two_number a) u.attributes
+IsUnicodeFrom n ps = (u : IsUnicodePart ps) × AllByRecursion (λ a. n ≤ word_number a) u.attributes
 
 -- up to the next block a piece is neither an attribute nor a key
 abbrev pub HaveStranger : List Text → Type 0

@@ -31,13 +31,17 @@ pub record IsOrdered (t : Text) (o : Ordered) : Type 0 where
   pub means : Means languages t locale
   pub normal : text locale ≡ text_of o
 
--- the line means an identifier of this text, with at most one variant
-pub record IsVaried (t : Text) (o : Ordered) : Type 0 where
+-- the line means an identifier of this text
+pub record IsOrderedIdentifier (t : Text) (o : Ordered) : Type 0 where
   pub stored : IsStored o
   pub identifier : Identifier
   pub means : IdentifierMeans languages (pieces t) identifier
-  pub few : length identifier.variants ≤ 1
   pub normal : identifier_text identifier ≡ text_of o
+
+-- the same, with at most one variant
+pub record IsVaried (t : Text) (o : Ordered) : Type 0 where
+  pub is : IsOrderedIdentifier t o
+  pub few : length is.identifier.variants ≤ 1
 
 -- a plain identifier of so many bytes comes first, then a hyphen of the line, and both are told
 pub record IsBefore (w : Text) (len at : ℕ) (o : Ordered) : Type 0 where

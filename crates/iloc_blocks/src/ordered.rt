@@ -1,13 +1,19 @@
 //! Tells lines whose normal text is their own but for the case of letters, and lines with a bad block.
-ghost use Rattle.std.specs.Prelude.{◌≡◌, ◌+◌, ◌≤◌, IfSome, length, take};
+ghost use Rattle.std.specs.Prelude.{◌≡◌, ◌+◌, ◌<◌, ◌≤◌, IfSome, length, slice_index, take};
+ghost use Rattle.iloc_fronts.specs.Front.{EndsInVariant};
 ghost use Rattle.iloc_fronts.specs.Left.{IsLeft, pieces_of};
-ghost use Rattle.iloc_blocks.specs.Ordered.{IsBefore, IsReading, IsTailOf, IsVaried};
+ghost use Rattle.iloc_blocks.specs.Ordered.{
+  IsBefore,
+  IsOrderedIdentifier,
+  IsReading,
+  IsTailOf,
+  IsVaried,
+};
 
 use crate::bad_block::BadBlock;
 use crate::blocks::{Rest, read_blocks};
 use crate::body::Body;
 use crate::variants::past_ascending;
-use iloc_fronts::front::first_len;
 use iloc_fronts::left::{Left, left_in};
 use iloc_fronts::words::is_variant;
 use iloc_plain::{Plain, read_plain};
@@ -38,7 +44,7 @@ pub enum Reading<'a> {
 }
 
 /// What the first `len` bytes are as a locale, if a plain identifier of `at` bytes comes first and perhaps
-/// variants, each of which has greater first four bytes than the one before it.
+/// ascending variants.
 /// Blocks are in order if their singletons ascend, and one of `x` comes last: of `u` with attributes and keys that
 /// ascend and no `true`; of `t` with at most one variant, keys that ascend, and no `true` but as a whole value; and of
 /// words after another singleton. A bad block is told after such blocks.
@@ -68,22 +74,30 @@ pub fn read_ordered(window: &[u8], len: usize, at: usize) -> Reading<'_>
     }
 }
 
-/// The identifier that they are, if a plain one of `at` bytes comes first and one variant follows it.
+/// The identifier that they are, if a plain one comes before the hyphen and the variant that end them, which has `n`
+/// bytes.
 #[inline(always)]
-pub fn read_varied(window: &[u8], len: usize, at: usize) -> Option<Ordered<'_>>
-    requires { len + 16 ≤ length window.now }
+pub fn read_varied(window: &[u8], len: usize, n: usize) -> Option<Ordered<'_>>
+    requires room { len + 16 ≤ length window.now }
+    requires variant { EndsInVariant (take len window.now) n }
     ensures { IfSome result (IsVaried (take len window.now)) }
+{
+    cut_before(window, len, len - n - 1)
+}
+
+/// The identifier that they are, if a plain one of `at` bytes comes first, and then no more than ascending variants.
+#[inline(always)]
+pub fn read_variants(window: &[u8], len: usize, at: usize) -> Option<Ordered<'_>>
+    requires { len + 16 ≤ length window.now }
+    ensures { IfSome result (IsOrderedIdentifier (take len window.now)) }
 {
     if at >= len {
         return None;
     }
-    let rest = &window[at + 1..];
-    let left = len - at - 1;
-    let n = first_len(rest, left);
-    if n != left || !is_variant(rest, n) {
-        return None;
+    match past_ascending(left_in(&window[at + 1..], len - at - 1)) {
+        Body::End => cut_at(window, len, at),
+        Body::Next(_) | Body::Bad | Body::Unordered | Body::Other => None,
     }
-    cut_at(window, len, at)
 }
 
 /// The plain identifier of `at` bytes and what follows it, if that begins with a hyphen.
@@ -92,7 +106,21 @@ pub fn cut_at(window: &[u8], len: usize, at: usize) -> Option<Ordered<'_>>
     requires { len + 16 ≤ length window.now }
     ensures { IfSome result (IsBefore window.now len at) }
 {
-    if at > 16 || at >= len || window[at] != b'-' {
+    if at >= len || window[at] != b'-' {
+        return None;
+    }
+    cut_before(window, len, at)
+}
+
+// The same if it does.
+#[inline(always)]
+fn cut_before(window: &[u8], len: usize, at: usize) -> Option<Ordered<'_>>
+    requires room { len + 16 ≤ length window.now }
+    requires less { at < len }
+    requires hyphen { slice_index window.now at ≡ 45 }
+    ensures { IfSome result (IsBefore window.now len at) }
+{
+    if at > 16 {
         return None;
     }
     let plain = read_plain(window, at)?;

@@ -17,7 +17,7 @@ ghost use Rattle.iloc_blocks.specs.Bodies.{AreUnicodeAt};
 
 use crate::body::{Body, unordered};
 use iloc_fronts::left::{Left, after_piece, left_in};
-use iloc_fronts::words::{is_attribute, is_key, is_true, number_of_two};
+use iloc_fronts::words::{is_attribute, is_key, is_true, number_of_two, number_of_word};
 
 // What a piece is after a key, or a piece of its value.
 #[derive(Clone, Copy)]
@@ -45,7 +45,7 @@ pub(crate) fn read_unicode(left: Left<'_>) -> Body<'_>
     read_attributes(left)
 }
 
-// What follows if an attribute comes first. Attributes ascend by their first two bytes.
+// What follows if an attribute comes first. Attributes ascend.
 #[inline(always)]
 fn read_attributes(left: Left<'_>) -> Body<'_>
     requires left { IsLeft left }
@@ -61,7 +61,7 @@ fn read_attributes(left: Left<'_>) -> Body<'_>
         if !is_attribute(next.window, next.n) {
             return read_keywords(next);
         }
-        if number_of_two(next.window) <= number_of_two(at.window) {
+        if number_of_word(next.window, next.n) <= number_of_word(at.window, at.n) {
             return unordered(have_stranger(next.window, next.len));
         }
         at = next;

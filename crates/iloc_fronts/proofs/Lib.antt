@@ -4,3 +4,4 @@ pub mod FrontLemmas
 pub mod LeftLemmas
 pub mod DataKeywordLemmas
 pub mod WordBytes
+pub mod WordNumbers

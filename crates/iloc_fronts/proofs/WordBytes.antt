@@ -1,6 +1,5 @@
--- The bytes of words: the first two and the first four, and those of `true`.
-use Rattle.std.proofs.Common.{inl, inr, codes, take, ◌≡◌, ℕ, zero, suc, ◌+◌, ◌*◌, ◌<◌, ◌≤◌, true, false, List, [], ◌∷◌, length, map, get_or, bit_or, ◌==◌, refl, sym, ap, ◌∙◌, subst, arith, Bool, cond}
-use Rattle.std.specs.declared.cmp.Ordering.TheVariants.{Equal}
+-- The bytes of words: the first two, and those of `true`.
+use Rattle.std.proofs.Common.{inl, inr, codes, take, ◌≡◌, ℕ, zero, suc, ◌<◌, ◌≤◌, true, false, List, [], ◌∷◌, length, map, get_or, bit_or, ◌==◌, refl, sym, ap, ◌∙◌, subst, arith}
 use Rattle.std.specs.Cmp.{Equal-is}
 use Rattle.std.specs.Char.{is_ascii_alphanumeric, to_ascii_lowercase}
 use Rattle.std.proofs.lemmas.Bool.{and_parts, eqb-true, cases_Bool}
@@ -11,7 +10,6 @@ use Rattle.iloc_spec_grammar.proofs.MapLaws.{same_words, same_itself}
 use Rattle.iloc_spec_grammar.proofs.WordsLaws.{length-attribute, letter_is, word_letters_or_digits}
 use Rattle.iloc_plain.proofs.LaneLemmas.{of_byte}
 use Rattle.iloc_fronts.specs.Words.{two_number}
-use Rattle.iloc_fronts.specs.Words.{four_number}
 
 -- ---- the bytes of pieces
 
@@ -108,22 +106,3 @@ true_here w n inside h = subst (λ (k : ℕ). is_true (map to_ascii_lowercase (t
     bytes (a ∷ b ∷ []) l p q r s = absurd (omega arith)
     bytes (a ∷ b ∷ c ∷ []) l p q r s = absurd (omega arith)
     bytes (a ∷ b ∷ c ∷ d ∷ v) l p q r s = (λ j. is_same (codes "true") (p j ∷ q j ∷ r j ∷ s j ∷ [])) ∙ same_itself (codes "true")
-
-first_four : (w : List ℕ) → 4 ≤ length w → letters_or_digits (take 4 w) ≡ true
-    → (bit_or (get_or w 0 0) 32 ≡ get_or (lower (take 4 w)) 0 0) × (bit_or (get_or w 1 0) 32 ≡ get_or (lower (take 4 w)) 1 0)
-    × (bit_or (get_or w 2 0) 32 ≡ get_or (lower (take 4 w)) 2 0) × (bit_or (get_or w 3 0) 32 ≡ get_or (lower (take 4 w)) 3 0)
-unfolding lower
-first_four [] l h = absurd (omega arith)
-first_four (a ∷ []) l h = absurd (omega arith)
-first_four (a ∷ b ∷ []) l h = absurd (omega arith)
-first_four (a ∷ b ∷ c ∷ []) l h = absurd (omega arith)
-first_four (a ∷ b ∷ c ∷ d ∷ w) l h =
-    let one = and_parts _ _ h in
-    let two = and_parts _ _ one.1 in
-    let three = and_parts _ _ two.1 in
-    let four = and_parts _ _ three.1 in
-    (low_bit a one.0, low_bit b two.0, low_bit c three.0, low_bit d four.0)
-
-pub four_is : (w : List ℕ) → 4 ≤ length w → letters_or_digits (take 4 w) ≡ true
-    → 256 * (256 * (256 * bit_or (get_or w 0 0) 32 + bit_or (get_or w 1 0) 32) + bit_or (get_or w 2 0) 32) + bit_or (get_or w 3 0) 32 ≡ four_number (take 4 w)
-four_is w l h = let f = first_four w l h in (λ j. 256 * (256 * (256 * f.0 j + f.1 j) + f.2 j) + f.3 j)

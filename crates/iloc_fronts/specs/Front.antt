@@ -1,5 +1,5 @@
 -- What stands at the front of a line: the words of an identifier that fit, and what follows them.
-use Rattle.std.specs.Prelude.{◌≡◌, ℕ, suc, ◌+◌, ◌<◌, ◌≤◌, false, [], ◌∷◌, List, length, take, drop, get_or, ⊤}
+use Rattle.std.specs.Prelude.{◌≡◌, ℕ, suc, ◌+◌, ◌<◌, ◌≤◌, false, [], ◌∷◌, ◌++◌, List, length, take, drop, get_or, ⊤}
 use Rattle.iloc_spec_grammar.specs.Syntax.{Text, pieces, first_piece, Language, Variant, is_word, IsWord, languages}
 use Rattle.iloc_spec_grammar.specs.Reading.{past, starts_block, after_region}
 use Rattle.iloc_fronts.specs.declared.front.Block.{Block}
@@ -27,18 +27,33 @@ pub record GoesOn (ps : List Text) (b : Block) : Type 0 where
   pub some : 0 < b.len
   pub room : b.len + 16 ≤ length b.window.now
 
+-- a variant of so many bytes is all
+pub record IsOneVariant (ps : List Text) (n : ℕ) : Type 0 where
+  pub variant : Text
+  pub all : ps ≡ variant ∷ []
+  pub is : IsWord Variant variant
+  pub long : length variant ≡ n
+
+-- behind a hyphen the last n bytes are a variant
+pub record EndsInVariant (t : Text) (n : ℕ) : Type 0 where
+  pub front : Text
+  pub variant : Text
+  pub cut : t ≡ front ++ 45 ∷ variant
+  pub is : IsWord Variant variant
+  pub long : length variant ≡ n
+
 -- what the pieces after a region are: variants, and then nothing, a piece that fits nowhere, or a block
 abbrev pub GoesOnAs : List Text → Front → Type 0
 GoesOnAs ps front.NoLanguage = ¬ ⊤
 GoesOnAs ps front.Misfit = starts_block (past (is_word Variant) ps) ≡ false
 GoesOnAs ps (front.Block b) = GoesOn ps b
-GoesOnAs ps (front.Variant n) = ⊤
-GoesOnAs ps front.Variants = (past (is_word Variant) ps ≡ []) × (2 ≤ length ps)
+GoesOnAs ps (front.Variant n) = IsOneVariant ps n
+GoesOnAs ps (front.Variants n) = (past (is_word Variant) ps ≡ []) × (2 ≤ length ps)
 GoesOnAs ps front.Other = ⊤
 
--- what the text is: no language comes first, or one does, and what follows it is as told
+-- what the text is: no language comes first, or a variant last, or what follows a language is as told
 abbrev pub IsFront : Text → Front → Type 0
 IsFront t front.NoLanguage = is_word (Language languages) (first_piece (pieces t)) ≡ false
 IsFront t front.Other = ⊤
-IsFront t (front.Variant n) = ⊤
+IsFront t (front.Variant n) = EndsInVariant t n
 IsFront t f = IsWord (Language languages) (first_piece (pieces t)) × GoesOnAs (after_region (pieces t)) f

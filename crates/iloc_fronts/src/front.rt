@@ -32,10 +32,10 @@ pub enum Front<'a> {
     Misfit,
     /// A block.
     Block(Block<'a>),
-    /// No more than one variant. The number is as `Block::tail`.
+    /// No more than one variant, of so many bytes.
     Variant(usize),
-    /// No more than variants, two or more.
-    Variants,
+    /// No more than variants, two or more. The number is as `Block::tail`.
+    Variants(usize),
     /// Nothing that is told.
     Other,
 }
@@ -124,7 +124,7 @@ fn after_region(window: &[u8], len: usize) -> Front<'_>
             if is_first {
                 return Front::Variant(len);
             }
-            return Front::Variants;
+            return Front::Variants(len);
         }
         rest = &rest[n + 1..];
         left = left - n - 1;

@@ -2,8 +2,7 @@
 ghost use Rattle.std.specs.Prelude.{◌≡◌, ◌≤◌, ◌&&◌, IsTrue, true, false, length, take, get_or};
 ghost use Rattle.std.specs.Int.{is_in_range};
 ghost use Rattle.std.specs.Char.{is_ascii_alphanumeric};
-ghost use Rattle.iloc_fronts.specs.Words.{two_number};
-ghost use Rattle.iloc_fronts.specs.Words.{four_number};
+ghost use Rattle.iloc_fronts.specs.Words.{IsUpToEight, two_number, word_number};
 ghost use Rattle.iloc_spec_grammar.specs.Syntax.{
   Attribute,
   Language,
@@ -24,6 +23,7 @@ ghost use Rattle.iloc_spec_grammar.specs.Syntax.{
 
 use crate::run::{first_alphanumerics, first_digits, first_letters};
 use iloc_plain::is_language_length;
+use std::simd::prelude::*;
 
 // Whether the first `n` bytes are letters.
 #[inline(always)]
@@ -184,8 +184,7 @@ pub fn is_true(window: &[u8], n: usize) -> bool
     window[3].to_ascii_lowercase() == b'e'
 }
 
-/// The number of the first two bytes, by which keys are ordered, and words that begin differently. Bit 5
-/// makes a letter lower case, and digits have it.
+/// The number of the first two bytes, by which keys are ordered. Bit 5 makes a letter lower case, and digits have it.
 #[inline(always)]
 pub fn number_of_two(window: &[u8]) -> usize
     requires wide { 16 ≤ length window.now }
@@ -196,16 +195,18 @@ pub fn number_of_two(window: &[u8]) -> usize
     256 * ((window[0] | 32) as usize) + (window[1] | 32) as usize
 }
 
-/// The number of the first four bytes, which is another if they differ but for the case.
+/// The number of the first `n` bytes, by which words are ordered. It is that of eight bytes, the first highest, and zeros
+/// stand behind a shorter word. Bit 5 makes a letter lower case, and digits have it.
 #[inline(always)]
-pub fn number_of_four(window: &[u8]) -> usize
+pub fn number_of_word(window: &[u8], n: usize) -> u64
     requires wide { 16 ≤ length window.now }
-    requires word { letters_or_digits (take 4 window.now) ≡ true }
-    ensures { result ≡ four_number (take 4 window.now) }
+    requires word { IsUpToEight (take n window.now) }
+    ensures { result ≡ word_number (take n window.now) }
 {
-    256 * (256 * (256 * ((window[0] | 32) as usize) + (window[1] | 32) as usize)
-        + (window[2] | 32) as usize)
-        + (window[3] | 32) as usize
+    let bytes = u8x16::from_slice(window) | u8x16::splat(32);
+    let first = u64x2::from_le_bytes(bytes).to_array()[0].swap_bytes();
+    let unused = 64 - 8 * n;
+    (first >> unused) << unused
 }
 
 /// Whether the first `n` bytes are a key of `t`.

@@ -4,6 +4,7 @@ pub mod StoringLemmas
 pub mod StoredLemmas
 pub mod WordLemmas
 pub mod VariantLemmas
+pub mod IdentifierLemmas
 pub mod RepeatLemmas
 pub mod UnicodeLemmas
 pub mod FieldLemmas

@@ -6,8 +6,7 @@ use Rattle.iloc_spec_grammar.specs.Syntax.{pieces, join, dashes, head, tail_bloc
 use Rattle.iloc_spec_grammar.specs.Meaning.{Fault, HasFault, IdentifierMeans}
 use Rattle.iloc_spec_grammar.specs.ByBlocks.{BlocksMean, MeansByBlocks}
 use Rattle.iloc_spec_grammar.proofs.BlockLaws.{means_by_blocks, blocks_mean}
-use Rattle.iloc_spec_grammar.proofs.PartTexts.{join-dashes, dashes-append}
-use Rattle.iloc_spec_grammar.proofs.PiecesLaws.{pieces-join}
+use Rattle.iloc_spec_grammar.proofs.PartTexts.{dashes-append}
 use Rattle.iloc_spec_grammar.proofs.RawLaws.{languages_table}
 use Rattle.iloc_spec_grammar.proofs.ReadBack.{all_append, word_hyphen_free}
 use Rattle.iloc_spec_grammar.proofs.ValuesLaws.{all_weaker, ascending_different}
@@ -23,7 +22,7 @@ use Rattle.iloc_rewriting.specs.Rewriting.{AreStored, IsRewritten}
 use Rattle.iloc_rewriting.specs.Sorting.{AreBlocksStored, IsBadAfter, IsBadLine, IsLineStored, LeadsToBlock, after_byte}
 use Rattle.iloc_rewriting.specs.declared.blocks.Failure.{Failure}
 use Rattle.iloc_rewriting.specs.declared.blocks.Failure.TheVariants as failure
-use Rattle.iloc_rewriting.proofs.RewritingLemmas.{dashes_pieces, length-left}
+use Rattle.iloc_rewriting.proofs.RewritingLemmas.{dashes_join, dashes_pieces, length-left}
 use Rattle.iloc_rewriting.proofs.SortingLemmas.{front_of_block, starts_left}
 use Rattle.iloc_rewriting.proofs.StoredLemmas.{split_room}
 use Rattle.iloc_rewriting.proofs.VariantLemmas.{blocks_are, head_is, pieces_behind}
@@ -113,10 +112,6 @@ module _ (w : List ℕ) (len at : ℕ) (inside : len + 16 ≤ length w) (less : 
             id = subst (λ (ps : List (List ℕ)). IdentifierMeans languages ps M.id) heads given.id;
             blocks = subst (λ bs. BlocksMean languages bs M.extensions) (sym old_blocks) (h.blocks.keeps M.extensions (subst (λ bs. BlocksMean languages bs M.extensions) new_blocks given.blocks));
           })
-
-      dashes_join : (qs : List (List ℕ)) → 0 < length qs → AllByRecursion IsHyphenFree qs → (dashes qs ≡ 45 ∷ join qs) × (pieces (join qs) ≡ qs)
-      dashes_join [] l f = absurd (omega arith)
-      dashes_join (q ∷ qs) l f = (ap (λ t. 45 ∷ t) (sym (join-dashes q qs)), pieces-join q qs f)
 
       before_is : length (take at w) ≡ at
       before_is = length-take-le at w (omega (arith, inside, less))

@@ -2,11 +2,11 @@
 use Rattle.std.proofs.Common.{take, ◌≡◌, ℕ, ◌<◌, ◌≤◌, true, false, List, [], ◌∷◌, ◌++◌, length, refl, sym, ap, ◌∙◌, subst, arith, append_assoc}
 use Rattle.std.specs.List.{AllByRecursion}
 use Rattle.std.proofs.lemmas.List.{length-take-le}
-use Rattle.iloc_spec_grammar.specs.Syntax.{pieces, join, dashes, first_piece, Attribute, is_word, IsWord, IsKeyword, Fields, Unicode, IsUnicode, fields_pieces}
+use Rattle.iloc_spec_grammar.specs.Syntax.{pieces, join, dashes, first_piece, Attribute, is_word, IsWord, IsHyphenFree, IsKeyword, Fields, Unicode, IsUnicode, fields_pieces}
 use Rattle.iloc_spec_grammar.specs.Meaning.{normal_unicode}
 use Rattle.iloc_spec_grammar.specs.Reading.{fields_from, is_two, unicode_of, rest_of}
 use Rattle.iloc_spec_grammar.specs.ByBlocks.{UnicodeMeans}
-use Rattle.iloc_spec_grammar.proofs.PiecesLaws.{at_pieces, join-pieces}
+use Rattle.iloc_spec_grammar.proofs.PiecesLaws.{at_pieces, join-pieces, pieces-join}
 use Rattle.iloc_spec_grammar.proofs.PartTexts.{join-append, join-dashes}
 use Rattle.iloc_spec_grammar.proofs.Readings.{keywords_pass, fields_read, fields_past, before_key_read, not_two, unicode_of-pieces}
 use Rattle.iloc_spec_grammar.proofs.ValuesLaws.{all_weaker}
@@ -55,6 +55,11 @@ all_split P (x ∷ xs) ys h = let r = all_split P xs ys h.1 in ((h.0, r.0), r.1)
 -- pieces of a text, each after a hyphen, are the text after one
 pub dashes_pieces : (t : List ℕ) → dashes (pieces t) ≡ 45 ∷ t
 dashes_pieces t = at_pieces (λ ps. dashes ps ≡ 45 ∷ join ps) (λ p ps. ap (λ l. 45 ∷ l) (sym (join-dashes p ps))) t ∙ ap (λ l. 45 ∷ l) (join-pieces t)
+
+-- pieces without hyphens, each after one, are their join after one
+pub dashes_join : (qs : List (List ℕ)) → 0 < length qs → AllByRecursion IsHyphenFree qs → (dashes qs ≡ 45 ∷ join qs) × (pieces (join qs) ≡ qs)
+dashes_join [] l f = absurd (omega arith)
+dashes_join (q ∷ qs) l f = (ap (λ t. 45 ∷ t) (sym (join-dashes q qs)), pieces-join q qs f)
 
 -- a text of which the last pieces are those of another begins with the join of the others
 pub joined_before : (t s : List ℕ) (p : List ℕ) (ps : List (List ℕ)) → pieces t ≡ (p ∷ ps) ++ pieces s → t ≡ join (p ∷ ps) ++ 45 ∷ s

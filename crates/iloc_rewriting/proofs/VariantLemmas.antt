@@ -57,7 +57,7 @@ module _ (w : Identifier) (h : HasWords languages w) (none : w.variants ≡ []) 
       ap identifier_of (pieces_with (k ∷ ks) rest) ∙ read_longer w.language w.script w.region k ks rest h.script h.region is
 
   -- in another order they mean the same
-  same_identifier : (vs ks rest : List (List ℕ)) → AllByRecursion (IsWord Variant) ks → Reordered ks vs
+  pub same_identifier : (vs ks rest : List (List ℕ)) → AllByRecursion (IsWord Variant) ks → Reordered ks vs
       → (i : Identifier) → IdentifierMeans languages (with_pieces ks rest) i → IdentifierMeans languages (with_pieces vs rest) i
   same_identifier [] [] rest each r i m = m
   same_identifier (v ∷ vs) [] rest each r i m = absurd (omega (arith, total_reordered (λ (x : List ℕ). 1) r))
@@ -119,6 +119,13 @@ pub pieces_behind : (t : List ℕ) (qs : List (List ℕ)) → AllByRecursion IsH
 pieces_behind t [] free = ap pieces (append-nil t) ∙ sym (append-nil (pieces t))
 pieces_behind t (q ∷ qs) free = ap (λ l. pieces (t ++ 45 ∷ l)) (sym (join-dashes q qs)) ∙ pieces_both t (join (q ∷ qs)) ∙ ap (λ l. pieces t ++ l) (pieces-join q qs free)
 
+-- a line of a plain identifier and what follows its hyphen
+pub line_pieces : (w : List ℕ) (len at : ℕ) (o : Ordered) (inside : len + 16 ≤ length w) (b : IsBefore w len at o)
+    → (ps : List (List ℕ)) → ps ≡ pieces (take (len - at - 1) (take (length w - (at + 1)) (drop (at + 1) w))) → pieces (take len w) ≡ identifier_pieces b.plain.means.written ++ ps
+line_pieces w len at o inside b ps tail =
+    ap pieces (cut_there w len at inside b.less b.hyphen) ∙ pieces_both (take at w) (after w len at inside b.less b.hyphen)
+    ∙ (λ j. b.plain.means.spelled j ++ (ap pieces (sym (rest_is w len at inside b.less b.hyphen)) ∙ sym tail) j)
+
 module _ (w : List ℕ) (len at : ℕ) (o : Ordered) (inside : len + 16 ≤ length w) (b : IsBefore w len at o)
     (ps : List (List ℕ)) (tail : ps ≡ pieces (take (len - at - 1) (take (length w - (at + 1)) (drop (at + 1) w))))
     (first : List ℕ) (start : ℕ) (before : AreStored first (take at w) start)
@@ -131,9 +138,7 @@ module _ (w : List ℕ) (len at : ℕ) (o : Ordered) (inside : len + 16 ≤ leng
   written = b.plain.means.written
 
   old_pieces : pieces (take len w) ≡ identifier_pieces written ++ (k.words ++ rest)
-  old_pieces =
-      ap pieces (cut_there w len at inside b.less b.hyphen) ∙ pieces_both (take at w) (after w len at inside b.less b.hyphen)
-      ∙ (λ j. b.plain.means.spelled j ++ (ap pieces (sym (rest_is w len at inside b.less b.hyphen)) ∙ sym tail ∙ k.cut) j)
+  old_pieces = line_pieces w len at o inside b ps tail ∙ ap (λ l. identifier_pieces written ++ l) k.cut
 
   free : AllByRecursion IsHyphenFree (k.kept ++ rest)
   free =

@@ -1,29 +1,32 @@
 -- Words that are stored in order.
 use Rattle.std.proofs.Common.{take, drop, ◌≡◌, ℕ, suc, ◌+◌, ◌-◌, ◌<◌, ◌≤◌, ◌==◌, IsTrue, Bool, true, false, cond, List, [], ◌∷◌, ◌++◌, length, map, Some, None, refl, sym, ap, ◌∙◌, subst, arith, append_assoc, append-nil, length-append}
-use Rattle.std.specs.List.{AllByRecursion}
+use Rattle.std.specs.List.{AllByRecursion, list_any}
 use Rattle.std.specs.FinMap.{find}
 use Rattle.std.specs.Ordering.{eq_by_cmp}
-use Rattle.std.proofs.lemmas.Bool.{and_from}
+use Rattle.std.proofs.lemmas.Bool.{and_from, or_left, or_right, true≢false}
 use Rattle.std.proofs.lemmas.List.{length-take-le, map-append}
-use Rattle.iloc_spec_grammar.specs.Syntax.{pieces, join, dashes, IsWord, IsHyphenFree, lower, word_cmp}
+use Rattle.std.proofs.lemmas.List.Folds.{list_any-append}
+use Rattle.iloc_spec_grammar.specs.Syntax.{pieces, join, dashes, IsWord, IsHyphenFree, AllDifferent, is_same, lower, word_cmp}
 use Rattle.iloc_spec_grammar.specs.Meaning.{set_of}
 use Rattle.iloc_spec_grammar.specs.Reading.{rest_of}
 use Rattle.iloc_spec_grammar.specs.Values.{IsAscending, Reordered}
 use Rattle.iloc_spec_grammar.proofs.PartTexts.{join-dashes, dashes-append}
 use Rattle.iloc_spec_grammar.proofs.ReadBack.{all_append, word_hyphen_free}
 use Rattle.iloc_spec_grammar.proofs.ValuesLaws.{all_weaker}
-use Rattle.iloc_spec_grammar.proofs.Orders.{all_reordered, map_reordered, set_of_reordered, itself}
-use Rattle.iloc_spec_grammar.proofs.MapLaws.{map_of_same, word_cmp_total, same_words}
+use Rattle.iloc_spec_grammar.proofs.Orders.{all_reordered, any_reordered, different_reordered, map_reordered, set_of_reordered, itself}
+use Rattle.iloc_spec_grammar.proofs.MapLaws.{map_of_same, same_itself, word_cmp_total, same_words}
 use Rattle.iloc_spec_grammar.proofs.SetLaws.{marked, keys, set_of-first}
 use Rattle.iloc_fronts.specs.Left.{pieces_of, piece_of, IsLeft}
 use Rattle.iloc_fronts.specs.declared.left.Left.{Left}
 use Rattle.iloc_fronts.proofs.FrontLemmas.{IsShort, short_attribute, short_variant}
-use Rattle.iloc_fronts.proofs.WordBytes.{attribute_begins}
-use Rattle.iloc_blocks.proofs.UnicodeLemmas.{TellsOrder, word_below, words_below}
-use Rattle.iloc_blocks.proofs.VariantLemmas.{variant_below}
+use Rattle.iloc_fronts.specs.Words.{IsUpToEight, word_number}
+use Rattle.iloc_fronts.proofs.WordNumbers.{attribute_fits, variant_fits, equal_same}
+use Rattle.iloc_blocks.proofs.UnicodeLemmas.{words_below}
 use Rattle.iloc_rewriting.specs.Rewriting.{AreStored, Ascend, AreUpTo}
-use Rattle.iloc_rewriting.specs.Words.{word_kind, number_by, KeepsAll, AreInPlaceOf, AreWordsStored, AreWordsHeld, IsWordStored, IsPlaceAmong, AreWordsSoFar}
+use Rattle.iloc_rewriting.specs.Words.{word_kind, KeepsAll, AreInPlaceOf, AreWordsStored, AreWordsHeld, IsWordStored, IsPlaceAmong, AreUnsorted, IsThere, AreWordsSoFar}
 use Rattle.iloc_rewriting.specs.declared.keywords.Place.{Place}
+use Rattle.iloc_rewriting.specs.declared.words.Unsorted.{Unsorted}
+use Rattle.iloc_rewriting.specs.declared.words.Unsorted.TheVariants as unsorted
 use Rattle.iloc_rewriting.specs.declared.words.WordKind.{WordKind}
 use Rattle.iloc_rewriting.specs.declared.words.WordKind.TheVariants as kind
 use Rattle.iloc_rewriting.proofs.RewritingLemmas.{cut_left, length-joined}
@@ -36,15 +39,15 @@ short_word kind.Variant = short_variant
 
 -- ---- words by their numbers
 
-number_tells : (s : WordKind) → TellsOrder (IsWord (word_kind s)) (number_by s)
-number_tells kind.Attribute p q h k l = word_below p q (attribute_begins p h) (attribute_begins q k) l
-number_tells kind.Variant p q h k l = variant_below p q h k l
+pub kind_fits : (s : WordKind) (p : List ℕ) → IsWord (word_kind s) p → IsUpToEight p
+kind_fits kind.Attribute = attribute_fits
+kind_fits kind.Variant = variant_fits
 
 -- with ascending numbers they ascend
-pub words_ascend : (s : WordKind) (ws : List (List ℕ)) → AllByRecursion (IsWord (word_kind s)) ws → Ascend (number_by s) ws → IsAscending (map lower ws)
+pub words_ascend : (s : WordKind) (ws : List (List ℕ)) → AllByRecursion (IsWord (word_kind s)) ws → Ascend word_number ws → IsAscending (map lower ws)
 words_ascend s [] each h = refl
-words_ascend s (w ∷ ws) each h = and_from _ _ (words_below (IsWord (word_kind s)) (number_by s) (number_tells s) w each.0 (number_by s w + 1) (omega arith) ws each.1
-    (all_weaker (λ v. number_by s w < number_by s v) (λ v. number_by s w + 1 ≤ number_by s v) (λ v l. omega arith) ws h.0)) (words_ascend s ws each.1 h.1)
+words_ascend s (w ∷ ws) each h =
+    and_from _ _ (words_below w (kind_fits s w each.0) ws (all_weaker (IsWord (word_kind s)) IsUpToEight (kind_fits s) ws each.1) h.0) (words_ascend s ws each.1 h.1)
 
 -- ---- the same words
 
@@ -114,18 +117,18 @@ words_stored text ws p =
 
 -- a word with a greater number comes last
 pub word_appended : (s : WordKind) (text room p : List ℕ) (start end : ℕ) (ws : List (List ℕ)) → AreWordsHeld s room start end text ws → IsWord (word_kind s) p
-    → AllByRecursion (λ w. number_by s w < number_by s p) ws → (new : List ℕ) (e : ℕ) → AreStored new (take end room ++ 45 ∷ p) e → IsWordStored s text ws p new e
+    → AllByRecursion (λ w. word_number w < word_number p) ws → (new : List ℕ) (e : ℕ) → AreStored new (take end room ++ 45 ∷ p) e → IsWordStored s text ws p new e
 word_appended s text room p start end ws a w less new e h = record {
   all = ws ++ p ∷ [];
   same =
       let each = all_append (IsWord (word_kind s)) ws (p ∷ []) a.each (w, tt) in
-      record { each = each; each_kept = each; ascend = ascend_append (number_by s) ws p less a.ascend; few = omega arith; same = refl; all = keeps_itself s (ws ++ p ∷ []) };
-  up_to = λ m up le. all_append (λ w. number_by s w ≤ m) ws (p ∷ []) up (le, tt);
+      record { each = each; each_kept = each; ascend = ascend_append word_number ws p less a.ascend; few = omega arith; same = refl; all = keeps_itself s (ws ++ p ∷ []) };
+  up_to = λ m up le. all_append (λ w. word_number w ≤ m) ws (p ∷ []) up (le, tt);
   stored = subst (λ (t : List ℕ). AreStored new t e) (ap (λ t. t ++ 45 ∷ p) a.stored ∙ words_stored text ws p) h;
 }
 
 module _ (s : WordKind) (text room p : List ℕ) (start end len : ℕ) (ws : List (List ℕ)) (room_end : end ≤ length room) (a : AreWordsHeld s room start end text ws) (w : IsWord (word_kind s) p)
-    (place : Place) (c : IsPlaceAmong s p ws len place) where
+    (place : Place) (c : IsPlaceAmong p ws len place) where
   each_more : AllByRecursion (IsWord (word_kind s)) (ws ++ p ∷ [])
   each_more = all_append (IsWord (word_kind s)) ws (p ∷ []) a.each (w, tt)
 
@@ -154,28 +157,38 @@ module _ (s : WordKind) (text room p : List ℕ) (start end len : ℕ) (ws : Lis
       same : set_of (map lower (ws ++ p ∷ [])) ≡ set_of (map lower ws)
       same = ap set_of (map-append lower ws (p ∷ [])) ∙ ap (λ l. set_of (l ++ lower p ∷ [])) lowered ∙ set_there (lower p) (map lower c.before) (map lower c.rest) ∙ ap set_of (sym lowered)
 
+  -- it is a variant that is there
+  pub word_again : s ≡ kind.Variant → IsTrue place.is_there → IsThere s p ws unsorted.Repeated
+  word_again variant there = (variant, again)
+    where
+      again : list_any (is_same (lower p)) (map lower ws) ≡ true
+      again =
+          ap (list_any (is_same (lower p))) (ap (map lower) c.cut ∙ map-append lower c.before (c.first ∷ c.rest))
+          ∙ list_any-append (is_same (lower p)) (map lower c.before) (map lower (c.first ∷ c.rest))
+          ∙ or_right _ _ (or_left _ _ (ap (is_same (lower p)) (c.there there) ∙ same_itself (lower p)))
+
   -- it comes before a greater one
-  pub word_inserted : place.is_there ≡ false → (room' new : List ℕ) (m e : ℕ) → AreStored room' (take (end - place.len - 1) room ++ 45 ∷ p) m → AreStored new (take m room' ++ take (place.len + 1) (drop (end - place.len - 1) room)) e
+  pub word_inserted : place.is_there ≡ false → (new : List ℕ) (e : ℕ) → AreStored new ((take (end - place.len - 1) room ++ 45 ∷ p) ++ take (place.len + 1) (drop (end - place.len - 1) room)) e
       → IsWordStored s text ws p new e
-  word_inserted other room' new m e h stored = record {
+  word_inserted other new e stored = record {
     all = c.before ++ (p ∷ (c.first ∷ c.rest));
     same = record {
       each = each_more;
       each_kept = all_reordered (IsWord (word_kind s)) (turned order) each_more;
-      ascend = ascend_insert (number_by s) c.before (c.first ∷ c.rest) p c.less above ascending;
+      ascend = ascend_insert word_number c.before (c.first ∷ c.rest) p c.less above ascending;
       few = omega (arith, ap length c.cut, length-append ws (p ∷ []), length-append c.before (c.first ∷ c.rest), length-append c.before (p ∷ (c.first ∷ c.rest)));
       same = set_of_reordered (map_reordered lower order);
       all = keeps_reordered s (ws ++ p ∷ []) (c.before ++ (p ∷ (c.first ∷ c.rest))) order;
     };
-    up_to = λ n up le. all_insert (λ w. number_by s w ≤ n) c.before (c.first ∷ c.rest) p le (subst (AreUpTo (number_by s) n) c.cut up);
+    up_to = λ n up le. all_insert (λ w. word_number w ≤ n) c.before (c.first ∷ c.rest) p le (subst (AreUpTo word_number n) c.cut up);
     stored = subst (λ (t : List ℕ). AreStored new t e) text_is stored;
   }
     where
-      ascending : Ascend (number_by s) (c.before ++ (c.first ∷ c.rest))
-      ascending = subst (Ascend (number_by s)) c.cut a.ascend
+      ascending : Ascend word_number (c.before ++ (c.first ∷ c.rest))
+      ascending = subst (Ascend word_number) c.cut a.ascend
 
-      above : AllByRecursion (λ w. number_by s p < number_by s w) (c.first ∷ c.rest)
-      above = all_above (number_by s) (number_by s p) c.first c.rest (c.greater other) (ascend_later (number_by s) c.before (c.first ∷ c.rest) ascending)
+      above : AllByRecursion (λ w. word_number p < word_number w) (c.first ∷ c.rest)
+      above = all_above word_number (word_number p) c.first c.rest (c.greater other) (ascend_later word_number c.before (c.first ∷ c.rest) ascending)
 
       order : Reordered (c.before ++ (p ∷ (c.first ∷ c.rest))) (ws ++ p ∷ [])
       order = subst (λ (l : List (List ℕ)). Reordered (c.before ++ (p ∷ (c.first ∷ c.rest))) l) (sym (append_assoc c.before (c.first ∷ c.rest) (p ∷ [])) ∙ ap (λ l. l ++ p ∷ []) (sym c.cut))
@@ -194,36 +207,42 @@ module _ (s : WordKind) (text room p : List ℕ) (start end len : ℕ) (ws : Lis
       halves = subst (λ (n : ℕ). (take n room ≡ text ++ dashes c.before) × (take (place.len + 1) (drop n room) ≡ dashes (c.first ∷ c.rest))) same_place
           (split_room room (text ++ dashes c.before) (dashes (c.first ∷ c.rest)) end (place.len + 1) room_end parts long)
 
-      text_is : take m room' ++ take (place.len + 1) (drop (end - place.len - 1) room) ≡ text ++ dashes (c.before ++ (p ∷ (c.first ∷ c.rest)))
+      text_is : (take (end - place.len - 1) room ++ 45 ∷ p) ++ take (place.len + 1) (drop (end - place.len - 1) room) ≡ text ++ dashes (c.before ++ (p ∷ (c.first ∷ c.rest)))
       text_is =
-          (λ j. (h.begins ∙ ap (λ t. t ++ 45 ∷ p) halves.0 ∙ words_stored text c.before p) j ++ halves.1 j)
+          (λ j. (ap (λ t. t ++ 45 ∷ p) halves.0 ∙ words_stored text c.before p) j ++ halves.1 j)
           ∙ append_assoc text (dashes (c.before ++ p ∷ [])) (dashes (c.first ∷ c.rest))
           ∙ ap (λ t. text ++ t) (sym (dashes-append (c.before ++ p ∷ []) (c.first ∷ c.rest)))
           ∙ ap (λ l. text ++ dashes l) (append_assoc c.before (p ∷ []) (c.first ∷ c.rest))
 
 -- ---- a place among words
 
-pub words_in_room : (s : WordKind) (room text : List ℕ) (start end : ℕ) (ws : List (List ℕ)) → end ≤ length room → AreWordsHeld s room start end text ws → start < end
-    → pieces (take (end - start - 1) (take (length room - (start + 1)) (drop (start + 1) room))) ≡ ws
-words_in_room s room text start end ws room_end a some =
-    pieces_in_room room text start end ws room_end a.before a.stored (all_weaker (IsWord (word_kind s)) IsHyphenFree (word_hyphen_free (word_kind s)) ws a.each) some
+-- a place among the pieces behind the text is one among the words that are held there
+pub place_held : (s : WordKind) (room text word : List ℕ) (start end : ℕ) (ws : List (List ℕ)) → end ≤ length room → AreWordsHeld s room start end text ws → start < end
+    → (l : Left) → l.window.now ≡ take (length room - (start + 1)) (drop (start + 1) room) → l.len ≡ end - start - 1
+    → (p : Place) → IsPlaceAmong word (pieces_of l) l.len p → IsPlaceAmong word ws l.len p
+place_held s room text word start end ws room_end a some l window len p h = subst (λ (ps : List (List ℕ)). IsPlaceAmong word ps l.len p) words h
+  where
+    words : pieces_of l ≡ ws
+    words =
+        (λ j. pieces (take (len j) (window j)))
+        ∙ pieces_in_room room text start end ws room_end a.before a.stored (all_weaker (IsWord (word_kind s)) IsHyphenFree (word_hyphen_free (word_kind s)) ws a.each) some
 
-pub among_here : (s : WordKind) (word : List ℕ) (l : Left) → IsLeft l → l.n < 16 → (number other : ℕ) → number ≡ number_by s word → other ≡ number_by s (piece_of l) → number ≤ other
-    → (other ≡ number → lower (piece_of l) ≡ lower word) → IsPlaceAmong s word (pieces_of l) l.len (record { is_there = other == number; len = l.len })
-among_here s word l h few number other is first le one = record {
+pub among_here : (word : List ℕ) (l : Left) → IsLeft l → l.n < 16 → IsUpToEight word → IsUpToEight (piece_of l) → (number other : ℕ) → number ≡ word_number word → other ≡ word_number (piece_of l) → number ≤ other
+    → IsPlaceAmong word (pieces_of l) l.len (record { is_there = other == number; len = l.len })
+among_here word l h few fits fit number other is first le = record {
   before = [];
   less = tt;
   first = piece_of l;
   rest = rest_of (pieces_of l);
   cut = cut_left l h few;
-  there = λ t. one (at_number other number t);
+  there = λ t. equal_same (piece_of l) word fit fits (sym first ∙ at_number other number t ∙ is);
   greater = λ t. omega (arith, is, first, above_number other number le t);
   long = sym (length-joined l h) ∙ ap (λ ps. length (join ps)) (cut_left l h few);
   within = omega arith;
 }
 
-pub among_later : (s : WordKind) (word p : List ℕ) (ps qs : List (List ℕ)) (m n : ℕ) → number_by s p < number_by s word → ps ≡ p ∷ qs → m ≤ n → (k : Place) → IsPlaceAmong s word qs m k → IsPlaceAmong s word ps n k
-among_later s word p ps qs m n less e le k h = record {
+pub among_later : (word p : List ℕ) (ps qs : List (List ℕ)) (m n : ℕ) → word_number p < word_number word → ps ≡ p ∷ qs → m ≤ n → (k : Place) → IsPlaceAmong word qs m k → IsPlaceAmong word ps n k
+among_later word p ps qs m n less e le k h = record {
   before = p ∷ h.before;
   less = (less, h.less);
   first = h.first;
@@ -269,15 +288,36 @@ module _ (s : WordKind) (text room p : List ℕ) (ps : List (List ℕ)) (start e
     left = tt;
   }
 
-  pub word_more : (m : ℕ) (next : Left) → last ≤ m → number_by s p ≤ m → pieces_of at ≡ p ∷ pieces_of next → AreWordsSoFar s text ps start e m new next
+  pub word_more : (m : ℕ) (next : Left) → last ≤ m → word_number p ≤ m → pieces_of at ≡ p ∷ pieces_of next → AreWordsSoFar s text ps start e m new next
   word_more m next le word_le cut = record {
     words = h.words ++ p ∷ [];
     kept = i.all;
     cut = h.cut ∙ ap (λ l. h.words ++ l) cut ∙ sym (append_assoc h.words (p ∷ []) (pieces_of next));
     same = more_same;
     held = record { before = h.held.before; stored = i.stored.begins; each = i.same.each_kept; ascend = i.same.ascend };
-    up_to = i.up_to m (all_weaker (λ w. number_by s w ≤ last) (λ w. number_by s w ≤ m) (λ w l. omega arith) h.kept h.up_to) word_le;
+    up_to = i.up_to m (all_weaker (λ w. word_number w ≤ last) (λ w. word_number w ≤ m) (λ w l. omega arith) h.kept h.up_to) word_le;
   }
 
   pub word_behind : start ≤ e
   word_behind = omega (arith, i.stored.more, h.held.before, length-take-le e new (omega (arith, i.stored.more)), ap length i.stored.begins, length-append text (dashes i.all))
+
+-- ---- a variant that comes twice
+
+-- a word that is there stands behind words that are different only if it is none of them
+none_behind : (p : List ℕ) (ws : List (List ℕ)) → AllDifferent word_cmp (map lower (ws ++ p ∷ [])) → list_any (is_same (lower p)) (map lower ws) ≡ false
+none_behind p ws d = (different_reordered word_cmp word_cmp_total (map_reordered lower (turned (first_last ws p))) d).0
+
+-- a variant that is among those so far repeats one
+pub variant_repeats : (s : WordKind) (text room p : List ℕ) (ps qs : List (List ℕ)) (start end last : ℕ) (at : Left) (h : AreWordsSoFar s text ps start end last room at) → IsWord (word_kind s) p → pieces_of at ≡ p ∷ qs
+    → (e : Unsorted) → IsThere s p h.kept e → AreUnsorted ps e
+variant_repeats s text room p ps qs start end last at h w cut unsorted.Other there = tt
+variant_repeats s text room p ps qs start end last at h w cut unsorted.Repeated (variant, there) = record {
+  variants = h.words ++ p ∷ [];
+  rest = qs;
+  cut = h.cut ∙ ap (λ l. h.words ++ l) cut ∙ sym (append_assoc h.words (p ∷ []) qs);
+  each = subst (λ (k : WordKind). AllByRecursion (IsWord (word_kind k)) (h.words ++ p ∷ [])) variant (all_append (IsWord (word_kind s)) h.words (p ∷ []) h.same.each (w, tt));
+  repeat = λ d. true≢false (sym there ∙ any_reordered (is_same (lower p)) (map_reordered lower order) ∙ none_behind p h.words d);
+}
+  where
+    order : Reordered h.kept h.words
+    order = subst (λ (k : WordKind). KeepsAll k h.words h.kept) variant h.same.all

@@ -1,5 +1,5 @@
 pub mod Rewriting
+pub mod Repeats
 pub mod Words
 pub mod Fields
 pub mod Sorting
-pub mod Repeats

@@ -1,16 +1,8 @@
 -- Lines in which a variant comes twice.
-use Rattle.std.specs.Prelude.{◌≡◌, true, List, ◌++◌, map}
-use Rattle.std.specs.List.{AllByRecursion, list_any}
-use Rattle.iloc_spec_grammar.specs.Syntax.{Text, Variant, IsWord, AllDifferent, pieces, lower, word_cmp, is_same, languages}
+use Rattle.std.specs.Prelude.{◌≡◌, List, ◌++◌, map}
+use Rattle.std.specs.List.{AllByRecursion}
+use Rattle.iloc_spec_grammar.specs.Syntax.{Text, Variant, IsWord, AllDifferent, pieces, lower, word_cmp, languages}
 use Rattle.iloc_spec_grammar.specs.Meaning.{InvalidSubtag, HasIdentifierFault, HasFault}
-
--- variants come first, and the word is one of them, in whatever case
-pub record ComesAgain (word : Text) (ps : List Text) : Type 0 where
-  pub variants : List Text
-  pub rest : List Text
-  pub cut : ps ≡ variants ++ rest
-  pub each : AllByRecursion (IsWord Variant) variants
-  pub there : list_any (is_same (lower word)) (map lower variants) ≡ true
 
 -- variants come first, and one of them twice
 pub record HaveRepeat (ps : List Text) : Type 0 where

@@ -12,7 +12,7 @@ use Rattle.iloc_blocks.specs.Bad.{fault_of}
 use Rattle.iloc_blocks.specs.Blocks.{ArePrinted, IsCutAs, left_of}
 use Rattle.iloc_blocks.specs.Bodies.{HaveBad, IsBodyOf, IsNoBodyOf}
 use Rattle.iloc_blocks.specs.Ordered.{IsFaultyTail}
-use Rattle.iloc_blocks.specs.Variants.{AreVariantsAbove}
+use Rattle.iloc_blocks.specs.Variants.{AreVariantsInOrder}
 use Rattle.iloc_blocks.specs.declared.bad_block.BadBlock.{BadBlock}
 use Rattle.iloc_blocks.specs.declared.bad_block.BadBlock.TheVariants as bad
 use Rattle.iloc_fronts.specs.Left.{pieces_of, IsLeft}
@@ -217,7 +217,7 @@ after_byte w len at = take (len - at - 1) (drop (at + 1) w)
 
 -- ascending variants come before a block
 pub record LeadsToBlock (ps : List Text) (len : ℕ) (l : Left) : Type 0 where
-  pub variants : IsCutAs (AreVariantsAbove 0) ps (pieces_of l)
+  pub variants : IsCutAs (AreVariantsInOrder) ps (pieces_of l)
   pub left : IsLeft l
   pub one : l.n ≡ 1
   pub within : l.len ≤ len
@@ -227,7 +227,7 @@ pub record IsLineStored (text : Text) (ps : List Text) (room : Text) (n : ℕ) :
   pub variants : List Text
   pub rest : List Text
   pub cut : ps ≡ variants ++ rest
-  pub ascending : AreVariantsAbove 0 variants
+  pub ascending : AreVariantsInOrder variants
   pub starts : starts_block rest ≡ true
   pub blocks : AreBlocksStored (text ++ dashes variants) rest room n
 

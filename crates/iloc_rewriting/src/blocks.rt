@@ -123,7 +123,9 @@ fn put_unicode<'a>(left: Left<'a>, room: &mut [u8], start: usize) -> Option<Stor
     ensures { IfSome result (IsBodyStored (IsOrderOf UnicodeMeans IsUnicodePart)
         (take start room.old) (pieces_of left.entry) room.new) }
 {
-    let words = put_words(WordKind::Attribute, left, room, start)?;
+    let Ok(words) = put_words(WordKind::Attribute, left, room, start) else {
+        return None;
+    };
     let stored = match words.next {
         Some(next) => put_fields(KeyKind::Unicode, next, room, words.end)?,
         None => words,

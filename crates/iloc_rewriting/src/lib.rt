@@ -13,8 +13,8 @@
 //!
 //! A line is rewritten in one walk (`rewriting`, `sorting`): each block is stored in its place. What follows its singleton
 //! is stored as it stands if it is in order, and else in order (`blocks`, `fields`, `others`), its pieces as sixteen bytes
-//! at once (`storing`). Words and fields are stored in order alike, whatever
-//! their kind (`words`, `keywords`, `same`). docs/ARCHITECTURE.md says how to add a shape.
+//! at once (`storing`). Words and fields are stored in order alike, whatever their kind (`words`, `keywords`).
+//! docs/ARCHITECTURE.md says how to add a shape.
 //!
 //! It stands on the grammar (`iloc_spec_grammar`), on what `iloc_blocks` tells, and on the walk from piece to piece and
 //! the tests of words of `iloc_fronts`.
@@ -24,14 +24,12 @@ mod blocks;
 mod fields;
 mod keywords;
 mod others;
-pub mod repeats;
 pub mod rewriting;
-mod same;
 mod sorting;
 mod storing;
 pub mod variants;
 mod words;
 
-pub use repeats::repeats_variant;
 pub use rewriting::rewrite;
-pub use variants::sort_variants;
+pub use variants::{sort_identifier, sort_variants};
+pub use words::Unsorted;

@@ -27,8 +27,8 @@ use iloc_blocks::{Ordered, Reading};
 use iloc_fronts::left::{Left, left_in};
 use iloc_plain::Plain;
 
-/// What the first `len` bytes are as a locale, if a plain identifier of `at` bytes comes first, perhaps variants, each of
-/// which has greater first four bytes than the one before it, and blocks in whatever order.
+/// What the first `len` bytes are as a locale, if a plain identifier of `at` bytes comes first, perhaps ascending
+/// variants, and blocks in whatever order.
 /// The line is stored in the room, in the order of its normal text. There the singletons of blocks ascend, and that of
 /// `x` comes last. In the block of `u` attributes and keys ascend, of equal ones the first stays, and no value is `true`.
 /// So do the keys in that of `t`, where `true` stays if it is all of a value. In that of another letter or digit each

@@ -1,16 +1,20 @@
-use Rattle.std.proofs.Common.{◌-◌, ◌+◌, length, take, drop, sym, ◌∙◌, arith}
+use Rattle.std.proofs.Common.{arith}
 use Rattle.std.proofs.lemmas.Option.{IfSome_then}
-use Rattle.iloc_spec_grammar.specs.Syntax.{Variant, IsWord}
-use Rattle.iloc_fronts.proofs.FrontLemmas.{short_variant, whole_word}
-use Rattle.iloc_blocks.proofs.OrderedLemmas.{told_varied}
+use Rattle.iloc_blocks.proofs.OrderedLemmas.{before_it, hyphen_before, told_varied}
 use Rattle.iloc_blocks.proofs.ordered.read_varied.Goals as goal
+
+pub overflow_sub-len : goal.overflow_sub-len
+overflow_sub-len c = omega (arith, (before_it c.args.window.now c.args.len c.args.n c.requires.room c.requires.variant).0)
+
+pub overflow_sub-len-2 : goal.overflow_sub-len-2
+overflow_sub-len-2 c = omega (arith, (before_it c.args.window.now c.args.len c.args.n c.requires.room c.requires.variant).0)
+
+pub cut_before-requires-clause-less : goal.cut_before-requires-clause-less
+cut_before-requires-clause-less c = (before_it c.args.window.now c.args.len c.args.n c.requires.room c.requires.variant).1
+
+pub cut_before-requires-clause-hyphen : goal.cut_before-requires-clause-hyphen
+cut_before-requires-clause-hyphen c = hyphen_before c.args.window.now c.args.len c.args.n c.requires.room c.requires.variant
 
 pub returns : goal.returns
 returns c =
-    let w = c.args.window.now in
-    let at = c.args.at in
-    let r = take (length w - (at + 1)) (drop (at + 1) w) in
-    let n = c.first_len-n.result in
-    let fits : IsWord Variant (take n r) = sym c.is_variant.ensures ∙ c.if-not-is_variant.false in
-    IfSome_then c.cut_at.result c.cut_at.ensures (λ o h. told_varied o w c.args.len at c.requires h (take n r) fits
-    (whole_word r (c.args.len - at - 1) n (omega arith) c.first_len-n.ensures Variant short_variant fits (omega arith)))
+    IfSome_then c.cut_before.result c.cut_before.ensures (told_varied c.args.window.now c.args.len c.args.n c.requires.room c.requires.variant)

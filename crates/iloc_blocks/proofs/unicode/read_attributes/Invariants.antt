@@ -2,7 +2,7 @@ use Rattle.std.proofs.Common.{◌≤◌}
 use Rattle.iloc_spec_grammar.specs.Syntax.{Attribute, IsWord}
 use Rattle.iloc_fronts.specs.Left.{IsLeft, piece_of, pieces_of}
 use Rattle.iloc_blocks.specs.Blocks.{HaveStranger, IsBodyAs, IsUnicodeFrom, IsUnicodePart}
-use Rattle.iloc_fronts.specs.Words.{two_number}
+use Rattle.iloc_fronts.specs.Words.{word_number}
 use Rattle.iloc_blocks.specs.declared.body.Body.{Body}
 use Rattle.iloc_blocks.proofs.unicode.read_attributes.Given as goal
 
@@ -12,7 +12,7 @@ invariant-attributes l = record {
   left : IsLeft l.at;
   shorter : l.at.len ≤ l.fn.left.len;
   word : IsWord Attribute (piece_of l.at);
-  goes : (w : Body) → IsBodyAs (IsUnicodeFrom (two_number (piece_of l.at))) HaveStranger l.at.len (pieces_of l.at) w → IsBodyAs IsUnicodePart HaveStranger l.fn.left.len (pieces_of l.fn.left) w;
+  goes : (w : Body) → IsBodyAs (IsUnicodeFrom (word_number (piece_of l.at))) HaveStranger l.at.len (pieces_of l.at) w → IsBodyAs IsUnicodePart HaveStranger l.fn.left.len (pieces_of l.fn.left) w;
 }
 
 abbrev pub decreases-attributes : goal.decreases-attributes

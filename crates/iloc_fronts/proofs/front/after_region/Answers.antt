@@ -1,4 +1,4 @@
-use Rattle.std.proofs.Common.{◌≡◌, ◌≢◌, ◌≤◌, Bool, cond, [], ◌∷◌, length, take, sym, ap, ◌∙◌, arith}
+use Rattle.std.proofs.Common.{◌≡◌, ◌≢◌, ◌≤◌, Bool, cond, [], ◌∷◌, length, take, sym, ap, ◌∙◌, arith, true≢false}
 use Rattle.std.proofs.lemmas.List.{length-take-le}
 use Rattle.iloc_spec_grammar.specs.Syntax.{Variant, is_word, IsWord}
 use Rattle.iloc_spec_grammar.proofs.WordsLaws.{length-variant}
@@ -21,6 +21,7 @@ variants-preserved c =
       same = c.variants.invariant.same
           ∙ passes_one c.variants.rest.now c.variants.left c.variants.n c.variants.invariant.room c.variants.invariant.first Variant short_variant
           (sym c.is_variant.ensures ∙ c.variants-test.true) more;
+      unmoved = λ f. absurd (true≢false (sym f));
       fewer = omega (arith, c.variants.invariant.fewer, ap length parts);
       moved = λ _. omega (arith, c.variants.invariant.fewer, ap length parts);
       least = omega (arith, c.variants.invariant.least, ap length parts, size.0, inside);
@@ -34,6 +35,20 @@ returns-then-n-ne1 c =
     ∙ passes_none c.variants.rest.now c.variants.left c.variants.n c.variants.invariant.room c.variants.invariant.first Variant short_variant
     (sym c.is_variant.ensures ∙ c.variants-test.false))
     ∙ begins_none c.variants.rest.now c.variants.left c.variants.n c.variants.invariant.room c.variants.invariant.first other
+
+pub returns-then-is_first : goal.returns-then-is_first
+returns-then-is_first c =
+    let w = c.variants.rest.now in
+    let n = c.variants.n in
+    let h = c.variants.invariant in
+    let word : IsWord Variant (take n w) = sym c.is_variant.ensures ∙ c.variants-test.true in
+    let unmoved = h.unmoved c.if-is_first.true in
+    record {
+      variant = take n w;
+      all = sym unmoved.1 ∙ whole_word w c.variants.left n h.room h.first Variant short_variant word c.if-n-left.true;
+      is = word;
+      long = omega (arith, length-take-le n w (omega (arith, h.room, c.if-n-left.true)), unmoved.0, c.if-n-left.true);
+    }
 
 pub returns-then-n-left : goal.returns-then-n-left
 returns-then-n-left c =

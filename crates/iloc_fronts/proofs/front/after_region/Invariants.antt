@@ -1,4 +1,4 @@
-use Rattle.std.proofs.Common.{◌≡◌, ◌+◌, ◌*◌, ◌<◌, ◌≤◌, false, length, take}
+use Rattle.std.proofs.Common.{◌≡◌, ◌+◌, ◌*◌, ◌<◌, ◌≤◌, true, false, length, take}
 use Rattle.iloc_spec_grammar.specs.Syntax.{pieces, Variant, is_word}
 use Rattle.iloc_spec_grammar.specs.Reading.{past}
 use Rattle.iloc_fronts.specs.Front.{IsFirst}
@@ -10,6 +10,7 @@ invariant-variants l = record {
   room : l.left + 16 ≤ length l.rest;
   first : IsFirst (take l.left l.rest) l.n;
   same : past (is_word Variant) (pieces (take l.fn.len l.fn.window)) ≡ past (is_word Variant) (pieces (take l.left l.rest));
+  unmoved : l.is_first ≡ true → (l.left ≡ l.fn.len) × (pieces (take l.left l.rest) ≡ pieces (take l.fn.len l.fn.window));
   fewer : length (pieces (take l.left l.rest)) ≤ length (pieces (take l.fn.len l.fn.window));
   moved : l.is_first ≡ false → length (pieces (take l.left l.rest)) < length (pieces (take l.fn.len l.fn.window));
   least : l.left + 5 * length (pieces (take l.fn.len l.fn.window)) ≤ l.fn.len + 5 * length (pieces (take l.left l.rest));

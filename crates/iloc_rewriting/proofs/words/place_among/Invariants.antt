@@ -9,7 +9,7 @@ abbrev pub invariant-words : goal.invariant-words
 invariant-words l = record {
   left : IsLeft l.at;
   shorter : l.at.len ≤ l.fn.left.len;
-  goes : (p : Place) → IsPlaceAmong l.kind (piece_of l.word) (pieces_of l.at) l.at.len p → IsPlaceAmong l.kind (piece_of l.word) (pieces_of l.fn.left) l.fn.left.len p;
+  goes : (p : Place) → IsPlaceAmong (piece_of l.word) (pieces_of l.at) l.at.len p → IsPlaceAmong (piece_of l.word) (pieces_of l.fn.left) l.fn.left.len p;
 }
 
 abbrev pub decreases-words : goal.decreases-words
