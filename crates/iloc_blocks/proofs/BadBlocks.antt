@@ -92,7 +92,7 @@ blocks_after : (c : ℕ) (ps : List (List ℕ)) → IsGood c ps → (last : ℕ)
 blocks_after c ps g last less qs rest.Printed h = g.printed last less qs h
 blocks_after c ps g last less qs rest.Misfit h = bad_after c ps g last less qs bad.Misfit h
 blocks_after c ps g last less qs rest.Duplicated h = bad_after c ps g last less qs bad.Duplicated h
-blocks_after c ps g last less qs rest.Unordered h = tt
+blocks_after c ps g last less qs (rest.Unordered n) h = tt
 blocks_after c ps g last less qs rest.Other h = tt
 
 -- what is told of a body is told of its block
@@ -304,7 +304,7 @@ pub tail_of : (vs qs ps : List (List ℕ)) → ps ≡ vs ++ qs → AllByRecursio
 tail_of vs qs ps e each ascending rest.Printed h = record { variants = vs; rest = qs; cut = e; each = each; ascending = ascending; extensions = h }
 tail_of vs qs ps e each ascending rest.Misfit h = record { variants = vs; rest = qs; cut = e; each = each; ascending = ascending; bad = h }
 tail_of vs qs ps e each ascending rest.Duplicated h = record { variants = vs; rest = qs; cut = e; each = each; ascending = ascending; bad = h }
-tail_of vs qs ps e each ascending rest.Unordered h = tt
+tail_of vs qs ps e each ascending (rest.Unordered n) h = tt
 tail_of vs qs ps e each ascending rest.Other h = tt
 
 -- ---- the line

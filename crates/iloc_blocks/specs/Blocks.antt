@@ -53,7 +53,7 @@ abbrev pub AreBlocksOf : ℕ → List Text → Rest → Type 0
 AreBlocksOf last ps rest.Printed = ArePrinted last ps
 AreBlocksOf last ps rest.Misfit = BeginBadly last ps bad.Misfit
 AreBlocksOf last ps rest.Duplicated = BeginBadly last ps bad.Duplicated
-AreBlocksOf last ps rest.Unordered = ⊤
+AreBlocksOf last ps (rest.Unordered n) = ⊤
 AreBlocksOf last ps rest.Other = ⊤
 
 -- the singleton c is no letter or digit, or it may come after the last one

@@ -94,12 +94,12 @@ abbrev pub IsTailOf : List Text → Rest → Type 0
 IsTailOf ps rest.Printed = IsTail ps
 IsTailOf ps rest.Misfit = IsBadTail ps bad.Misfit
 IsTailOf ps rest.Duplicated = IsBadTail ps bad.Duplicated
-IsTailOf ps rest.Unordered = ⊤
+IsTailOf ps (rest.Unordered n) = ⊤
 IsTailOf ps rest.Other = ⊤
 
 -- what is told of the line
 abbrev pub IsReading : Text → Reading → Type 0
 IsReading t (reading.Ordered o) = IsOrdered t o
 IsReading t (reading.BadBlock b) = HasBadBlock t b
-IsReading t reading.Unordered = ⊤
+IsReading t (reading.Unordered n) = ⊤
 IsReading t reading.Other = ⊤

@@ -21,8 +21,9 @@ pub(crate) enum Rest {
     Misfit,
     // Good blocks, then one with the singleton of an earlier one, and perhaps others after it.
     Duplicated,
-    // A good block comes that is not in order, or one with a lesser singleton than the last.
-    Unordered,
+    // A good block comes that is not in order, or one with a lesser singleton than the last. The number is how many bytes
+    // are left from the first on; it is zero of the second.
+    Unordered(usize),
     // Nothing that is told.
     Other,
 }
@@ -45,7 +46,7 @@ pub(crate) fn read_blocks(left: Left<'_>) -> Rest
         Body::End => Rest::Printed,
         Body::Next(next) => after_first(singleton, next),
         Body::Bad => Rest::Misfit,
-        Body::Unordered => Rest::Unordered,
+        Body::Unordered => Rest::Unordered(left.len),
         Body::Other => Rest::Other,
     }
 }
@@ -89,7 +90,7 @@ fn read_later(first: u8, left: Left<'_>) -> Rest
                 at = next;
             }
             Body::Bad => return Rest::Misfit,
-            Body::Unordered => return Rest::Unordered,
+            Body::Unordered => return Rest::Unordered(at.len),
             Body::Other => return Rest::Other,
         }
     }
@@ -106,7 +107,7 @@ fn out_of_order(singleton: u8, last: u8) -> Rest
     if singleton == last {
         return Rest::Duplicated;
     }
-    Rest::Unordered
+    Rest::Unordered(0)
 }
 
 // Whether a block with this singleton may come after one with the last. A byte that is no letter or

@@ -36,9 +36,10 @@ pub enum Reading<'a> {
     Ordered(Ordered<'a>),
     /// An identifier, perhaps blocks in order, and then a bad one.
     BadBlock(BadBlock),
-    /// Not in order: a good block is not, or one has a lesser singleton than the block before it. `rewrite` may bring
-    /// it into order. Nothing is claimed of it.
-    Unordered,
+    /// Not in order: a good block is not, or one has a lesser singleton than the block before it, or variants are not.
+    /// `rewrite` may bring it into order. The number is how many bytes are left from that block on, or zero. Nothing is
+    /// claimed of the line.
+    Unordered(usize),
     /// Nothing that is told.
     Other,
 }
@@ -58,7 +59,7 @@ pub fn read_ordered(window: &[u8], len: usize, at: usize) -> Reading<'_>
     }
     let rest = read_tail(left_in(&window[at + 1..], len - at - 1));
     match rest {
-        Rest::Unordered => return Reading::Unordered,
+        Rest::Unordered(left) => return Reading::Unordered(left),
         Rest::Other => return Reading::Other,
         _ => (),
     }
@@ -69,7 +70,7 @@ pub fn read_ordered(window: &[u8], len: usize, at: usize) -> Reading<'_>
         Rest::Printed => Reading::Ordered(line),
         Rest::Misfit => Reading::BadBlock(BadBlock::Misfit),
         Rest::Duplicated => Reading::BadBlock(BadBlock::Duplicated),
-        Rest::Unordered => Reading::Unordered,
+        Rest::Unordered(left) => Reading::Unordered(left),
         Rest::Other => Reading::Other,
     }
 }
@@ -152,7 +153,7 @@ fn read_variants_and_blocks(left: Left<'_>) -> Rest
     match past_ascending(left) {
         Body::End => Rest::Printed,
         Body::Next(next) => read_blocks(next),
-        Body::Unordered => Rest::Unordered,
+        Body::Unordered => Rest::Unordered(0),
         Body::Bad | Body::Other => Rest::Other,
     }
 }

@@ -213,7 +213,9 @@ fn reply_to_blocks<A: Answers>(
     match read_ordered(window, len, at) {
         Reading::Ordered(line) => replies.push_ordered(&line),
         Reading::BadBlock(bad) => refuse(bad, replies),
-        Reading::Unordered => reply_to_unordered(answers, window, len, at, room, replies),
+        Reading::Unordered(left) => {
+            reply_to_unordered(answers, window, len, at, left, room, replies)
+        }
         Reading::Other => answers.reply(&window[..len], replies),
     }
 }
@@ -225,6 +227,7 @@ fn reply_to_unordered<A: Answers>(
     window: &[u8],
     len: usize,
     at: usize,
+    unordered: usize,
     room: &mut [u8],
     replies: &mut ReplyBlock,
 ) -> Result<(), AllocError>
@@ -233,10 +236,10 @@ fn reply_to_unordered<A: Answers>(
     ensures { OnOk result (held replies.new
         ≡ held replies.old ++ reply A.mode (take len window.now)) }
 {
-    match rewrite(window, len, at, room) {
+    match rewrite(window, len, at, unordered, room) {
         Reading::Ordered(line) => replies.push_ordered(&line),
         Reading::BadBlock(bad) => refuse(bad, replies),
-        Reading::Unordered | Reading::Other => answers.reply(&window[..len], replies),
+        Reading::Unordered(_) | Reading::Other => answers.reply(&window[..len], replies),
     }
 }
 

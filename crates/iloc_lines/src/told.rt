@@ -182,7 +182,7 @@ pub fn tell_blocks<'a>(window: &'a [u8], len: usize, at: usize, room: &'a mut [u
     ensures { IsTold Mode.Locale (take len window.now) result }
 {
     match read_ordered(window, len, at) {
-        Reading::Unordered => told_by(rewrite(window, len, at, room)),
+        Reading::Unordered(left) => told_by(rewrite(window, len, at, left, room)),
         reading => told_by(reading),
     }
 }
@@ -195,7 +195,7 @@ fn told_by<'a>(reading: Reading<'a>) -> Told<'a>
     match reading {
         Reading::Ordered(line) => Told::Ordered(line),
         Reading::BadBlock(bad) => Told::Refused(error_of(bad)),
-        Reading::Unordered | Reading::Other => Told::Nothing,
+        Reading::Unordered(_) | Reading::Other => Told::Nothing,
     }
 }
 
@@ -212,7 +212,7 @@ pub fn tell_after_variants<'a>(
     ensures { IsTold Mode.Locale (take len window.now) result }
 {
     match read_after_variants(window, len, at) {
-        Reading::Unordered => tell_resorted(window, len, at, room),
+        Reading::Unordered(_) => tell_resorted(window, len, at, room),
         Reading::Other => tell_repeated(window, len, at),
         reading => told_by(reading),
     }
@@ -226,7 +226,7 @@ fn tell_resorted<'a>(window: &'a [u8], len: usize, at: usize, room: &'a mut [u8]
 {
     let mut sorted = [0u8; ROOM];
     match sort_variants(window, len, at, &mut sorted) {
-        Some(count) => told_by(rewrite(&sorted, count, at, room)),
+        Some(count) => told_by(rewrite(&sorted, count, at, 0, room)),
         None => tell_repeated(window, len, at),
     }
 }

@@ -66,6 +66,25 @@ pub(crate) fn put_body<'a>(
     stored.ok_or(Failure::Other)
 }
 
+// The same if it is not in order.
+#[inline(always)]
+pub(crate) fn put_unordered<'a>(
+    singleton: u8,
+    left: Left<'a>,
+    room: &mut [u8],
+    start: usize,
+) -> Result<Stored<'a>, Failure>
+    requires left { IsLeft left }
+    requires letter { is_ascii_alphanumeric singleton ≡ true }
+    requires no_private { singleton ≢ code_x }
+    requires room { start + 16 ≤ length room.old }
+    ensures ok { IfOk result (IsBodyStored (StandsFor singleton) (take start room.old)
+        (pieces_of left.entry) room.new) }
+    ensures err { IfErr result (IsWrongBody singleton (pieces_of left.entry)) }
+{
+    put_sorted(singleton, left, room, start).ok_or(Failure::Other)
+}
+
 // Stores what comes before the next block as it stands.
 #[inline(always)]
 pub(crate) fn put_same<'a>(

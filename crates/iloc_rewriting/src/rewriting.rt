@@ -34,13 +34,20 @@ use iloc_plain::Plain;
 /// So do the keys in that of `t`, where `true` stays if it is all of a value. In that of another letter or digit each
 /// piece is a word.
 /// The first bad block is told, whatever the order of those before it.
+/// The block from which on `unordered` bytes are left, if there is one, is not read to see whether it is in order.
 #[inline(never)]
-pub fn rewrite<'a>(window: &[u8], len: usize, at: usize, room: &'a mut [u8]) -> Reading<'a>
+pub fn rewrite<'a>(
+    window: &[u8],
+    len: usize,
+    at: usize,
+    unordered: usize,
+    room: &'a mut [u8],
+) -> Reading<'a>
     requires { len + 16 ≤ length window.now }
     ensures { IsReading (take len window.now) result }
 {
     match cut_at(window, len, at) {
-        Some(line) => rewrite_after(line.plain, window, len, at, room),
+        Some(line) => rewrite_after(line.plain, window, len, at, unordered, room),
         None => Reading::Other,
     }
 }
@@ -52,6 +59,7 @@ fn rewrite_after<'a>(
     window: &[u8],
     len: usize,
     at: usize,
+    unordered: usize,
     room: &'a mut [u8],
 ) -> Reading<'a>
     requires window { len + 16 ≤ length window.now }
@@ -60,7 +68,7 @@ fn rewrite_after<'a>(
     requires hyphen { slice_index window.now at ≡ 45 }
     ensures { IsReading (take len window.now) result }
 {
-    match put_line(window, len, at, room) {
+    match put_line(window, len, at, unordered, room) {
         Ok(end) => Reading::Ordered(Ordered {
             plain,
             rest: &room[at..],
@@ -73,7 +81,13 @@ fn rewrite_after<'a>(
 
 // Stores the line in order. Where it ends then.
 #[inline(always)]
-fn put_line(window: &[u8], len: usize, at: usize, room: &mut [u8]) -> Result<usize, Failure>
+fn put_line(
+    window: &[u8],
+    len: usize,
+    at: usize,
+    unordered: usize,
+    room: &mut [u8],
+) -> Result<usize, Failure>
     requires window { len + 16 ≤ length window.now }
     requires less { at < len }
     requires hyphen { slice_index window.now at ≡ 45 }
@@ -90,7 +104,7 @@ fn put_line(window: &[u8], len: usize, at: usize, room: &mut [u8]) -> Result<usi
     let Some(end) = put_bytes(window, len - block.len - 1, room, 0) else {
         return Err(Failure::Other);
     };
-    put_blocks(block, room, end)
+    put_blocks(block, unordered, room, end)
 }
 
 // What begins with the first block, after variants that ascend.

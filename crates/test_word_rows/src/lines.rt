@@ -137,7 +137,7 @@ fn with_blocks(window: &[u8], len: usize, at: usize, out: &mut String)
         Reading::Ordered(line) => in_order(&line, out),
         Reading::BadBlock(BadBlock::Misfit) => say(out, "bad block"),
         Reading::BadBlock(BadBlock::Duplicated) => say(out, "duplicated"),
-        Reading::Unordered => say(out, "unordered"),
+        Reading::Unordered(_) => say(out, "unordered"),
         Reading::Other => say(out, "not told"),
     }
 }
@@ -177,11 +177,11 @@ fn rewritten(window: &[u8], len: usize, out: &mut String) {
     }
     let at = identifier_len(window, len);
     let mut room = [0u8; 128];
-    match rewrite(window, len, at, &mut room) {
+    match rewrite(window, len, at, 0, &mut room) {
         Reading::Ordered(line) => in_order(&line, out),
         Reading::BadBlock(BadBlock::Misfit) => say(out, "misfit"),
         Reading::BadBlock(BadBlock::Duplicated) => say(out, "duplicated"),
-        Reading::Unordered | Reading::Other => say(out, "not told"),
+        Reading::Unordered(_) | Reading::Other => say(out, "not told"),
     }
 }
 
