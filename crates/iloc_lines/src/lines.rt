@@ -14,7 +14,6 @@ ghost use Rattle.std.specs.Prelude.{
   map,
   IfSome,
   MatchOption,
-  MatchResult,
   IfOk,
   OnOk,
   OnErr,
