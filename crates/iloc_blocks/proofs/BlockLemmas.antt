@@ -26,11 +26,6 @@ blocks_past ([] ∷ xs) ps h = blocks_past xs ps h.1
 blocks_past ((c ∷ []) ∷ xs) ps h = absurd (true≢false h.0)
 blocks_past ((c ∷ d ∷ p) ∷ xs) ps h = blocks_past xs ps h.1
 
--- none stand before one of one byte
-pub front_none : (ps : List (List ℕ)) (c : ℕ) → first_piece ps ≡ c ∷ [] → front ps ≡ []
-front_none [] c e = refl
-front_none (p ∷ ps) c e = ap (λ q. front (q ∷ ps)) e
-
 pub long_key : (p : List ℕ) → IsWord UnicodeKey p → IsLong p
 long_key p h = let two : length p ≡ 2 = length-unicode_key p h in grind (arith, nat_tests)
 

@@ -44,10 +44,6 @@ pub unordered_body : (P B : List (List ℕ) → Type 0) (n : ℕ) (ps : List (Li
 unordered_body P B n ps true w h e = subst (IsBodyAs P B n ps) (sym e) (h refl)
 unordered_body P B n ps false w h e = subst (IsBodyAs P B n ps) (sym e) tt
 
--- what is not bad is not told as bad
-pub only_bad : (P B : List (List ℕ) → Type 0) (n : ℕ) (ps : List (List ℕ)) (w : Body) → w ≡ body.Bad → IsBodyAs P B n ps w → B ps
-only_bad P B n ps w e h = subst (IsBodyAs P B n ps) e h
-
 -- ---- pieces up to the next block
 
 front_all : (ps : List (List ℕ)) → AllByRecursion IsLong ps → front ps ≡ ps

@@ -129,10 +129,6 @@ odd_first (p ∷ ps) e h = by (is_one_byte p) refl
 
 -- ---- pieces of other extensions, of which some are words
 
-pub other_last : (p : List ℕ) → IsWord Subtag p → IsOther (p ∷ [])
-unfolding is_word
-other_last p h = record { lengths = ((and_parts _ _ h).0, tt); nonempty = subst (λ (b : Bool). 0 < length (map lower (cond b (p ∷ []) []))) (sym h) (omega arith) }
-
 -- ... that begin with none
 pub other_later : (p : List ℕ) (ps : List (List ℕ)) → IsStray p → IsOther ps → IsOther (p ∷ ps)
 other_later p ps s h = record {

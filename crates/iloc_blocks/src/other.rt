@@ -1,7 +1,7 @@
 //! Tells what follows the singleton `x`, or that of another extension than `t` and `u`.
-ghost use Rattle.std.specs.Prelude.{◌≡◌, ◌↔◌, ◌+◌, ◌≤◌, IsTrue, length, take};
-ghost use Rattle.iloc_spec_grammar.specs.Syntax.{IsOther, IsWord, Subtag, pieces};
-ghost use Rattle.iloc_fronts.specs.Left.{IsLeft, piece_of, pieces_of};
+ghost use Rattle.std.specs.Prelude.{◌↔◌, ◌+◌, ◌≤◌, IsTrue, length, take};
+ghost use Rattle.iloc_spec_grammar.specs.Syntax.{pieces};
+ghost use Rattle.iloc_fronts.specs.Left.{IsLeft, pieces_of};
 ghost use Rattle.iloc_blocks.specs.Blocks.{
   ArePast,
   ArePastStrays,

@@ -6,7 +6,7 @@ use Rattle.std.proofs.lemmas.Bool.{cases_lt, cases_Bool, and_parts}
 use Rattle.std.proofs.lemmas.Bool.Decides.{nat_tests}
 use Rattle.std.proofs.lemmas.List.{get_or-take, length-drop, length-take-le, take-take, drop-take}
 use Rattle.std.proofs.lemmas.List.Splits.{slice_split-cons_yes, slice_split-cons_no}
-use Rattle.iloc_spec_grammar.specs.Syntax.{pieces, join, first_piece, Kind, Attribute, Language, Script, Region, Subtag, TransformKey, UnicodeKey, Variant, PrivateSubtag, is_word, IsWord, is_true, lower, languages}
+use Rattle.iloc_spec_grammar.specs.Syntax.{pieces, join, first_piece, Kind, Attribute, Language, Script, Region, Subtag, TransformKey, UnicodeKey, Variant, is_word, IsWord, is_true, lower, languages}
 use Rattle.iloc_spec_grammar.specs.Meaning.{normal_values}
 use Rattle.iloc_spec_grammar.specs.Reading.{past, skip_first, starts_block, after_region}
 use Rattle.iloc_spec_grammar.proofs.PiecesLaws.{at_pieces, join-pieces}
@@ -127,13 +127,6 @@ short_subtag p h = in_range (length p) (and_parts _ _ h).0
 
 pub short_attribute : IsShort Attribute
 short_attribute p h = (length-attribute p h).1
-
-pub short_private : IsShort PrivateSubtag
-unfolding is_word
-short_private p h = in_range (length p) (and_parts _ _ h).0
-  where
-    in_range : (n : ℕ) → is_in_range 1 8 n ≡ true → n ≤ 8
-    in_range n h = grind (arith, nat_tests)
 
 pub short_variant : IsShort Variant
 short_variant p h = (length-variant p h).1
@@ -277,18 +270,6 @@ module _ (w : List ℕ) (len n : ℕ) (room : len + 16 ≤ length w) (first : Is
       front : (v : List ℕ) → 1 ≤ length v → take 1 v ≡ get_or v 0 0 ∷ []
       front [] l = absurd (omega arith)
       front (b ∷ v) l = refl
-
-  -- a singleton that doesn't end the line
-  pub after_singleton_byte : n ≡ 1 → n ≢ len → pieces text ≡ (get_or w 0 0 ∷ []) ∷ pieces next
-  after_singleton_byte one more =
-      let parts : pieces text ≡ take n w ∷ pieces next = after_short (omega arith) more in
-      parts ∙ ap (λ p. p ∷ pieces next) (sym (ap first_piece parts) ∙ one_byte one)
-
-  -- one that does
-  pub whole_singleton_byte : n ≡ 1 → n ≡ len → pieces text ≡ (get_or w 0 0 ∷ []) ∷ []
-  whole_singleton_byte one end =
-      let parts : pieces text ≡ take n w ∷ [] = whole_short (omega arith) end in
-      parts ∙ ap (λ p. p ∷ []) (sym (ap first_piece parts) ∙ one_byte one)
 
 -- what is skipped comes before what is not
 skipped : (f : List ℕ → Bool) (ps : List (List ℕ)) → (xs : List (List ℕ)) × (ps ≡ xs ++ skip_first f ps)

@@ -9,9 +9,6 @@ use Rattle.iloc_fronts.specs.declared.left.Left.{Left}
 use Rattle.iloc_fronts.proofs.FrontLemmas.{IsShort, word_is_short, whole_short, word_of_first, begins_none, other_length, one_byte, short_first}
 
 module _ (l : Left) (h : IsLeft l) where
-  pub wide_left : 16 ≤ length l.window.now
-  wide_left = omega (arith, h.room)
-
   pub few_left : l.n ≤ 16
   few_left = h.first.few
 

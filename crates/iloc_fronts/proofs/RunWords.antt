@@ -6,7 +6,7 @@ use Rattle.std.specs.Char.{is_ascii_alphabetic, is_ascii_alphanumeric, is_ascii_
 use Rattle.std.proofs.lemmas.Bool.{cases_lt}
 use Rattle.std.proofs.lemmas.Bool.Decides.{nat_tests}
 use Rattle.std.proofs.lemmas.List.{length-take-le}
-use Rattle.iloc_spec_grammar.specs.Syntax.{Attribute, Language, Script, Region, Subtag, TransformKey, UnicodeKey, Variant, PrivateSubtag, is_word, letters, digits, letters_or_digits, languages}
+use Rattle.iloc_spec_grammar.specs.Syntax.{Attribute, Language, Script, Region, Subtag, TransformKey, UnicodeKey, Variant, is_word, letters, digits, letters_or_digits, languages}
 use Rattle.iloc_fronts.specs.Run.{IsRun}
 
 all_pass : (p : ℕ → Bool) (n : ℕ) (w : List ℕ) → n ≤ length w → ((i : ℕ) → i < n → p (get_or w i 0) ≡ true) → list_all p (take n w) ≡ true
@@ -71,7 +71,3 @@ module _ (w : List ℕ) (n : ℕ) (wide : 16 ≤ length w) (few : n ≤ 16) wher
   pub attribute_is : is_word Attribute (take n w) ≡ is_in_range 3 8 n && letters_or_digits (take n w)
   unfolding is_word
   attribute_is = ap (λ m. is_in_range 3 8 m && letters_or_digits (take n w)) long
-
-  pub private_is : is_word PrivateSubtag (take n w) ≡ is_in_range 1 8 n && letters_or_digits (take n w)
-  unfolding is_word
-  private_is = ap (λ m. is_in_range 1 8 m && letters_or_digits (take n w)) long

@@ -5,9 +5,9 @@ use Rattle.std.specs.Char.{is_ascii_alphanumeric, to_ascii_lowercase}
 use Rattle.std.proofs.lemmas.Bool.{and_parts, eqb-true, cases_Bool}
 use Rattle.std.proofs.lemmas.Bool.Decides.{nat_tests}
 use Rattle.std.proofs.lemmas.List.{length-map, length-take-le, get_or-take}
-use Rattle.iloc_spec_grammar.specs.Syntax.{UnicodeKey, Attribute, is_word, IsWord, letters_or_digits, lower, is_same, is_true}
+use Rattle.iloc_spec_grammar.specs.Syntax.{UnicodeKey, is_word, IsWord, lower, is_same, is_true}
 use Rattle.iloc_spec_grammar.proofs.MapLaws.{same_words, same_itself}
-use Rattle.iloc_spec_grammar.proofs.WordsLaws.{length-attribute, letter_is, word_letters_or_digits}
+use Rattle.iloc_spec_grammar.proofs.WordsLaws.{letter_is}
 use Rattle.iloc_plain.proofs.LaneLemmas.{of_byte}
 use Rattle.iloc_fronts.specs.Words.{two_number}
 
@@ -38,14 +38,6 @@ unfolding is_word
 key_begins [] h = absurd (cc)
 key_begins (a ∷ []) h = absurd (cc)
 key_begins (a ∷ b ∷ p) h = let parts = and_parts _ _ (and_parts _ _ h).1 in record { long = omega arith; first = parts.0; second = letter_is b parts.1 }
-
-pub attribute_begins : (p : List ℕ) → IsWord Attribute p → BeginsTwo p
-attribute_begins p h = by p (length-attribute p h).0 (word_letters_or_digits Attribute p h)
-  where
-    by : (p : List ℕ) → 3 ≤ length p → letters_or_digits p ≡ true → BeginsTwo p
-    by [] l h = absurd (omega arith)
-    by (a ∷ []) l h = absurd (omega arith)
-    by (a ∷ b ∷ p) l h = let parts = and_parts _ _ h in record { long = omega arith; first = parts.0; second = (and_parts _ _ parts.1).0 }
 
 -- ... of a window that begins with it
 pub window_begins : (w : List ℕ) (n : ℕ) → n ≤ length w → BeginsTwo (take n w) → (is_ascii_alphanumeric (get_or w 0 0) ≡ true) × (is_ascii_alphanumeric (get_or w 1 0) ≡ true)

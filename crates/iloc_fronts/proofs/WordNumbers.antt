@@ -175,9 +175,9 @@ order (suc n) (a ∷ p) (b ∷ q) l m h k =
       | inr other ↦ elim (cases_lt b a) [
         | inl less ↦ is_greater _ _ (first_counts b a (256 ^ n) (high_first n q) (high_first n p) less (number_fits n q (above_bytes q k.1))) ∙ sym (ap (λ o. ordering_then o (slice_cmp nat_cmp p q)) (is_greater a b less))
         | inr same ↦ (
-          let one : a ≡ b = omega arith in
-          ap (λ c. nat_cmp (c * 256 ^ n + high_first n p) (b * 256 ^ n + high_first n q)) one ∙ rest_counts (b * 256 ^ n) (high_first n p) (high_first n q)
-          ∙ order n p q (omega arith) (omega arith) h.1 k.1 ∙ sym (ap (λ o. ordering_then o (slice_cmp nat_cmp p q)) (is_equal a b one)))
+            let one : a ≡ b = omega arith in
+            ap (λ c. nat_cmp (c * 256 ^ n + high_first n p) (b * 256 ^ n + high_first n q)) one ∙ rest_counts (b * 256 ^ n) (high_first n p) (high_first n q)
+            ∙ order n p q (omega arith) (omega arith) h.1 k.1 ∙ sym (ap (λ o. ordering_then o (slice_cmp nat_cmp p q)) (is_equal a b one)))
       ]
     ]
 

@@ -449,8 +449,8 @@ many_in_head t = at_pieces (λ qs. past (is_word Variant) (after_region qs) ≡ 
         sym (head_region p qs ∙ only_variants (after_region (p ∷ qs)) e) ∙ ap after_region s.spelled ∙ variants_of s.written s.grammatical.words in
         omega (arith, ap length same, s.one_variant)
 
-pub variants_refused : (t : List ℕ) → IsFront t fronts.Variants → IsRefused Data t InvalidSubtag
-variants_refused t h =
+pub variants_refused : (t : List ℕ) (n : ℕ) → IsFront t (fronts.Variants n) → IsRefused Data t InvalidSubtag
+variants_refused t n h =
     not_small (small.bad_head (small.no_identifier
     (sym (ap (is_word (Language languages)) (same_first (pieces t))) ∙ h.0)
     (many_in_head t h.1.0 h.1.1)))

@@ -1,5 +1,5 @@
 -- The answers to texts that are told at once.
-use Rattle.std.proofs.Common.{◌≡◌, inl, inr, ℕ, List, [], ◌∷◌, ◌++◌, refl, ap}
+use Rattle.std.proofs.Common.{◌≡◌, ◌≢◌, inl, inr, ℕ, List, [], ◌∷◌, ◌++◌, refl, ap}
 use Rattle.iloc_spec_grammar.specs.Syntax.{languages}
 use Rattle.iloc_spec_grammar.specs.Meaning as faults
 use Rattle.iloc_spec_grammar.proofs.RawLaws.{languages_table}
@@ -13,7 +13,7 @@ use Rattle.iloc_lines.specs.Answers.{IsNormalText}
 use Rattle.iloc_lines.specs.Output.{line_answer, reply, refusal_text}
 use Rattle.iloc_lines.specs.Told.{IsRefused, refusal_of}
 use Rattle.iloc_lines.specs.declared.Mode.{Mode}
-use Rattle.iloc_lines.specs.declared.Mode.TheVariants.{Locale}
+use Rattle.iloc_lines.specs.declared.Mode.TheVariants.{Langid, Locale, Data}
 use Rattle.iloc_lines.proofs.OutputLaws.{only_answer}
 
 pub normal_reply : (mode : Mode) (t normal : List ℕ) → IsNormalText languages mode t normal → normal ++ 10 ∷ [] ≡ reply mode t
@@ -34,6 +34,8 @@ pub bad_refused : (t : List ℕ) (b : BadBlock) → HasBadBlock t b → IsRefuse
 bad_refused t bad.Misfit h = h
 bad_refused t bad.Duplicated h = h
 
--- a locale in which a variant comes twice is refused so
-pub repeat_refused : (t : List ℕ) → HasRepeat t → IsRefused Locale t InvalidSubtag
-repeat_refused t h = h.locale
+-- a text whose variants are not sorted is refused if one comes twice, in another mode than that of data locales
+pub repeat_refused : (t : List ℕ) → HasRepeat t → (mode : Mode) → mode ≢ Data → IsRefused mode t InvalidSubtag
+repeat_refused t h Langid other = h.identifier
+repeat_refused t h Locale other = h.locale
+repeat_refused t h Data other = absurd (other refl)

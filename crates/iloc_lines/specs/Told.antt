@@ -1,16 +1,17 @@
 -- What is told of a text at once.
-use Rattle.std.specs.Prelude.{◌≡◌, ⊤}
+use Rattle.std.specs.Prelude.{◌≡◌, ◌≢◌, ⊤}
 use Rattle.iloc_spec_grammar.specs.Syntax.{Text, languages}
 use Rattle.iloc_subtags.specs.declared.parse_error.ParseError.{ParseError}
 use Rattle.iloc_subtags.specs.declared.parse_error.ParseError.TheVariants as errors
 use Rattle.iloc_subtags.specs.Judging.{Refusal}
+use Rattle.iloc_fronts.specs.Front.{EndsInVariant}
 use Rattle.iloc_blocks.specs.Ordered.{IsStored, text_of}
 use Rattle.iloc_blocks.specs.declared.ordered.Ordered.{Ordered}
 use Rattle.iloc_blocks.specs.declared.bad_block.BadBlock.{BadBlock}
 use Rattle.iloc_blocks.specs.declared.bad_block.BadBlock.TheVariants as bad
 use Rattle.iloc_lines.specs.Answers.{IsNormalText, IsFaulty}
 use Rattle.iloc_lines.specs.declared.Mode.{Mode}
-use Rattle.iloc_lines.specs.declared.Mode.TheVariants.{Locale}
+use Rattle.iloc_lines.specs.declared.Mode.TheVariants.{Locale, Data}
 use Rattle.iloc_lines.specs.declared.told.Lead.{Lead}
 use Rattle.iloc_lines.specs.declared.told.Lead.TheVariants as lead
 use Rattle.iloc_lines.specs.declared.told.Told.{Told}
@@ -28,7 +29,8 @@ IsRefused mode t e = Refusal (IsFaulty languages mode t) ⊥ e
 -- what the front tells is so; who may be asked next is said of the mode
 abbrev pub IsLead : Mode → Text → Lead → Type 0
 IsLead mode t (lead.Refused e) = IsRefused mode t e
-IsLead mode t (lead.Variant n) = ⊤
+IsLead mode t (lead.Variant n) = EndsInVariant t n
+IsLead mode t (lead.Variants n) = mode ≢ Data
 IsLead mode t (lead.Blocks n) = mode ≡ Locale
 IsLead mode t (lead.AfterVariants n) = mode ≡ Locale
 IsLead mode t lead.Nothing = ⊤

@@ -1,6 +1,7 @@
 //! Lines that come in pieces, and their replies.
 ghost use Rattle.std.specs.Prelude.{
   ◌≡◌,
+  ◌≢◌,
   ◌+◌,
   ◌≤◌,
   ℕ,
@@ -13,7 +14,6 @@ ghost use Rattle.std.specs.Prelude.{
   map,
   IfSome,
   MatchOption,
-  MatchResult,
   IfOk,
   OnOk,
   OnErr,
@@ -26,6 +26,7 @@ ghost use Rattle.iloc_writeable.specs.Growth.{AddsBeginning};
 ghost use Rattle.iloc_lines.specs.Output.{output, refusal_text, reply};
 ghost use Rattle.iloc_lines.specs.ReplyBlock.{held};
 ghost use Rattle.iloc_lines.specs.Told.{IsTold, refusal_of};
+ghost use Rattle.iloc_fronts.specs.Front.{EndsInVariant};
 ghost use Rattle.iloc_lines.specs.Lines.{IsLineEnd, IsOneLine};
 ghost use Rattle.iloc_plain.specs.Plain.{IsPlain};
 ghost use Rattle.std.specs.Simd.Lanes.{mask_l};
@@ -35,9 +36,9 @@ ghost use Rattle.memchr.specs.Find.{Nowhere, Passes, is_byte};
 
 use crate::replies::write_refusal;
 use crate::reply_block::ReplyBlock;
-use crate::told::{Lead, ROOM, Told, read_lead, tell_after_variants};
+use crate::told::{Lead, ROOM, Told, read_lead, tell_after_variants, tell_sorted};
 use crate::{Answers, RunError};
-use iloc_blocks::{BadBlock, Reading, read_ordered, read_varied};
+use iloc_blocks::{BadBlock, Reading, read_ordered, read_variants, read_varied};
 use iloc_fronts::may_begin;
 use iloc_plain::{Plain, read_plain};
 use iloc_rewriting::rewrite;
@@ -148,7 +149,8 @@ fn reply_to<A: Answers>(
     }
     match read_lead(answers.mode(), window, len) {
         Lead::Refused(error) => write_refusal(error, replies),
-        Lead::Variant(at) => reply_to_varied(answers, window, len, at, replies),
+        Lead::Variant(n) => reply_to_varied(answers, window, len, n, replies),
+        Lead::Variants(at) => reply_to_variants(answers, window, len, at, room, replies),
         Lead::Blocks(at) => reply_to_blocks(answers, window, len, at, room, replies),
         Lead::AfterVariants(at) => { reply_after_variants(answers, window, len, at, room, replies) }
         Lead::Nothing => answers.reply(&window[..len], replies),
@@ -176,23 +178,64 @@ fn reply_told<A: Answers>(
     }
 }
 
-// Adds the reply to a line that may be a plain identifier of so many bytes, and a variant.
+// Adds the reply to a line that a variant of so many bytes ends, and that may begin with a plain identifier.
 #[inline(never)]
 fn reply_to_varied<A: Answers>(
     answers: &mut A,
     window: &[u8],
     len: usize,
-    at: usize,
+    n: usize,
     replies: &mut ReplyBlock,
 ) -> Result<(), AllocError>
-    requires { len + 16 ≤ length window.now }
+    requires room { len + 16 ≤ length window.now }
+    requires variant { EndsInVariant (take len window.now) n }
     ensures { OnOk result (held replies.new
         ≡ held replies.old ++ reply A.mode (take len window.now)) }
 {
-    match read_varied(window, len, at) {
+    match read_varied(window, len, n) {
         Some(line) => replies.push_ordered(&line),
         None => answers.reply(&window[..len], replies),
     }
+}
+
+// The same of one that may be a plain identifier of so many bytes, and two variants or more. It is no data locale.
+#[inline(never)]
+fn reply_to_variants<A: Answers>(
+    answers: &mut A,
+    window: &[u8],
+    len: usize,
+    at: usize,
+    room: &mut [u8],
+    replies: &mut ReplyBlock,
+) -> Result<(), AllocError>
+    requires mode { A.mode ≢ Mode.Data }
+    requires room { len + 16 ≤ length window.now }
+    ensures { OnOk result (held replies.new
+        ≡ held replies.old ++ reply A.mode (take len window.now)) }
+{
+    match read_variants(window, len, at) {
+        Some(line) => replies.push_ordered(&line),
+        None => reply_to_unsorted(answers, window, len, at, room, replies),
+    }
+}
+
+// The same of one whose variants do not ascend.
+#[inline(never)]
+fn reply_to_unsorted<A: Answers>(
+    answers: &mut A,
+    window: &[u8],
+    len: usize,
+    at: usize,
+    room: &mut [u8],
+    replies: &mut ReplyBlock,
+) -> Result<(), AllocError>
+    requires mode { A.mode ≢ Mode.Data }
+    requires room { len + 16 ≤ length window.now }
+    ensures { OnOk result (held replies.new
+        ≡ held replies.old ++ reply A.mode (take len window.now)) }
+{
+    let told = tell_sorted(window, len, at, room);
+    reply_told(answers, window, len, told, replies)
 }
 
 // The same of a locale that may be a plain identifier of so many bytes, and what follows it.

@@ -1,16 +1,16 @@
 //! What is told of a text at once, in each mode: first by its front, and then by what follows that.
-ghost use Rattle.std.specs.Prelude.{◌≡◌, ◌+◌, ◌<◌, ◌≤◌, IfSome, length, take};
+ghost use Rattle.std.specs.Prelude.{◌≡◌, ◌≢◌, ◌+◌, ◌<◌, ◌≤◌, IfSome, length, take};
 ghost use Rattle.iloc_spec_grammar.specs.Syntax.{Text};
-ghost use Rattle.iloc_fronts.specs.Front.{IsFront};
+ghost use Rattle.iloc_fronts.specs.Front.{EndsInVariant, IsFront};
 ghost use Rattle.iloc_fronts.specs.declared.front.Front.TheVariants as fronts;
 ghost use Rattle.iloc_blocks.specs.Ordered.{IsReading};
+ghost use Rattle.iloc_rewriting.specs.Words.{IsUnsorted};
 ghost use Rattle.iloc_lines.specs.Told.{IsLead, IsRefused, IsTold, refusal_of};
 
 use crate::Mode;
-use iloc_blocks::{BadBlock, Ordered, Reading, read_ordered, read_varied};
+use iloc_blocks::{BadBlock, Ordered, Reading, read_ordered, read_variants, read_varied};
 use iloc_fronts::{Block, Front, Keyword, read_front, read_keyword};
-use iloc_rewriting::repeats::repeats_variant;
-use iloc_rewriting::{rewrite, sort_variants};
+use iloc_rewriting::{Unsorted, rewrite, sort_identifier, sort_variants};
 use iloc_subtags::ParseError;
 
 /// The room for a text that is brought into order. Longer ones are not told.
@@ -21,8 +21,12 @@ pub const ROOM: usize = 128;
 pub enum Lead {
     /// Why it is refused.
     Refused(ParseError),
-    /// Nothing, but it may be a plain identifier of so many bytes, and a variant: `tell_varied` tells more.
+    /// Nothing, but a variant of so many bytes ends it, and what comes before may be a plain identifier: `tell_varied`
+    /// tells more.
     Variant(usize),
+    /// Nothing, but it may be a plain identifier of so many bytes, and two variants or more: `tell_variants` tells more.
+    /// It is said of no data locale.
+    Variants(usize),
     /// Nothing, but it may be a plain identifier of so many bytes, and what a locale prints after it:
     /// `tell_blocks` tells more. It is said of locales alone.
     Blocks(usize),
@@ -52,7 +56,8 @@ pub fn tell<'a>(mode: Mode, window: &'a [u8], len: usize, room: &'a mut [u8]) ->
 {
     match read_lead(mode, window, len) {
         Lead::Refused(error) => Told::Refused(error),
-        Lead::Variant(at) => tell_varied(window, len, at),
+        Lead::Variant(n) => tell_varied(window, len, n),
+        Lead::Variants(at) => tell_variants(window, len, at, room),
         Lead::Blocks(at) => tell_blocks(window, len, at, room),
         Lead::AfterVariants(at) => tell_after_variants(window, len, at, room),
         Lead::Nothing => Told::Nothing,
@@ -69,8 +74,8 @@ pub fn read_lead(mode: Mode, window: &[u8], len: usize) -> Lead
     match read_front(window, len) {
         Front::NoLanguage => Lead::Refused(ParseError::InvalidLanguage),
         Front::Misfit => Lead::Refused(ParseError::InvalidSubtag),
-        Front::Variant(tail) => Lead::Variant(len.wrapping_sub(tail.wrapping_add(1))),
-        Front::Variants => lead_of_variants(mode, &window[..len]),
+        Front::Variant(n) => Lead::Variant(n),
+        Front::Variants(tail) => lead_of_variants(mode, &window[..len], tail),
         Front::Block(block) => lead_of_block(mode, &window[..len], block),
         Front::Other => Lead::Nothing,
     }
@@ -78,13 +83,15 @@ pub fn read_lead(mode: Mode, window: &[u8], len: usize) -> Lead
 
 // The same of a text with two variants or more. A data locale has no more than one.
 #[inline(always)]
-fn lead_of_variants(mode: Mode, text: &[u8]) -> Lead
-    requires { IsFront text.now fronts.Variants }
+fn lead_of_variants(mode: Mode, text: &[u8], tail: usize) -> Lead
+    requires { IsFront text.now (fronts.Variants tail) }
     ensures { IsLead mode text.now result }
 {
     match mode {
         Mode::Data => Lead::Refused(ParseError::InvalidSubtag),
-        _ => Lead::Nothing,
+        Mode::Langid | Mode::Locale => {
+            Lead::Variants(text.len().wrapping_sub(tail.wrapping_add(1)))
+        }
     }
 }
 
@@ -161,16 +168,54 @@ fn fault_after(block: Block<'_>) -> ParseError
     ParseError::InvalidExtension
 }
 
-/// What is told, in whatever mode, of the first `len` bytes, if a plain identifier of `at` bytes and one variant are
-/// all of them.
+/// What is told, in whatever mode, of the first `len` bytes, if a plain identifier comes before the hyphen and the variant
+/// that end them, which has `n` bytes.
 #[inline(always)]
-pub fn tell_varied(window: &[u8], len: usize, at: usize) -> Told<'_>
-    requires { len + 16 ≤ length window.now }
+pub fn tell_varied(window: &[u8], len: usize, n: usize) -> Told<'_>
+    requires room { len + 16 ≤ length window.now }
+    requires variant { EndsInVariant (take len window.now) n }
     ensures { (mode : Mode) → IsTold mode (take len window.now) result }
 {
-    match read_varied(window, len, at) {
+    match read_varied(window, len, n) {
         Some(line) => Told::Ordered(line),
         None => Told::Nothing,
+    }
+}
+
+/// What is told, in another mode than that of data locales, of the first `len` bytes, if a plain identifier of `at` bytes
+/// and variants are all of them. Variants out of order are brought into order in the room.
+#[inline(always)]
+pub fn tell_variants<'a>(window: &'a [u8], len: usize, at: usize, room: &'a mut [u8]) -> Told<'a>
+    requires { len + 16 ≤ length window.now }
+    ensures { (mode : Mode) → mode ≢ Mode.Data → IsTold mode (take len window.now) result }
+{
+    match read_variants(window, len, at) {
+        Some(line) => Told::Ordered(line),
+        None => tell_sorted(window, len, at, room),
+    }
+}
+
+/// The same if the variants do not ascend.
+#[inline(never)]
+pub fn tell_sorted<'a>(window: &[u8], len: usize, at: usize, room: &'a mut [u8]) -> Told<'a>
+    requires { len + 16 ≤ length window.now }
+    ensures { (mode : Mode) → mode ≢ Mode.Data → IsTold mode (take len window.now) result }
+{
+    match sort_identifier(window, len, at, room) {
+        Ok(line) => Told::Ordered(line),
+        Err(why) => told_unsorted(why),
+    }
+}
+
+// What is told of a text whose variants are not brought into order.
+#[inline(always)]
+fn told_unsorted<'a>(why: Unsorted) -> Told<'a>
+    ensures { (t : Text) (mode : Mode) → mode ≢ Mode.Data → IsUnsorted t why
+        → IsTold mode t result }
+{
+    match why {
+        Unsorted::Repeated => Told::Refused(ParseError::InvalidSubtag),
+        Unsorted::Other => Told::Nothing,
     }
 }
 
@@ -213,7 +258,6 @@ pub fn tell_after_variants<'a>(
 {
     match read_after_variants(window, len, at) {
         Reading::Unordered(_) => tell_resorted(window, len, at, room),
-        Reading::Other => tell_repeated(window, len, at),
         reading => told_by(reading),
     }
 }
@@ -226,21 +270,9 @@ fn tell_resorted<'a>(window: &'a [u8], len: usize, at: usize, room: &'a mut [u8]
 {
     let mut sorted = [0u8; ROOM];
     match sort_variants(window, len, at, &mut sorted) {
-        Some(count) => told_by(rewrite(&sorted, count, at, 0, room)),
-        None => tell_repeated(window, len, at),
+        Ok(count) => told_by(rewrite(&sorted, count, at, 0, room)),
+        Err(why) => told_unsorted(why),
     }
-}
-
-// The same of one in which a variant may come twice.
-#[inline(never)]
-fn tell_repeated<'a>(window: &[u8], len: usize, at: usize) -> Told<'a>
-    requires { len + 16 ≤ length window.now }
-    ensures { IsTold Mode.Locale (take len window.now) result }
-{
-    if repeats_variant(window, len, at) {
-        return Told::Refused(ParseError::InvalidSubtag);
-    }
-    Told::Nothing
 }
 
 // The same as `read_ordered`. It is a call, since few lines have two variants.

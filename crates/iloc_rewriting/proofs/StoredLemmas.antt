@@ -1,7 +1,6 @@
 -- What is stored of attributes and of fields, from their parts to all of them.
-use Rattle.std.proofs.Common.{take, drop, ◌≡◌, ℕ, zero, suc, ◌+◌, ◌-◌, ◌<◌, ◌≤◌, ◌==◌, IsTrue, Bool, true, false, true≢false, cond, not, List, [], ◌∷◌, ◌++◌, length, Option, Some, None, refl, sym, ap, ◌∙◌, subst, arith, append_assoc, append-nil, length-append, drop-drop}
+use Rattle.std.proofs.Common.{take, drop, ◌≡◌, ℕ, suc, ◌+◌, ◌-◌, ◌<◌, ◌≤◌, ◌==◌, IsTrue, Bool, true, false, true≢false, cond, not, List, [], ◌∷◌, ◌++◌, length, Option, Some, None, refl, sym, ap, ◌∙◌, subst, arith, append_assoc, append-nil, length-append, drop-drop}
 use Rattle.std.specs.List.{AllByRecursion}
-use Rattle.std.specs.Char.{to_ascii_lowercase}
 use Rattle.std.specs.Ordering.{nat_cmp, ord_max}
 use Rattle.std.proofs.lemmas.Bool.Decides.{nat_tests}
 use Rattle.std.proofs.lemmas.List.{length-take-le, length-drop, drop-take, take-append-le, take-take, append_cancel_left}
@@ -492,13 +491,3 @@ max_first a b = grind (arith, nat_tests)
 
 pub max_second : (a b : ℕ) → b ≤ ord_max nat_cmp a b
 max_second a b = grind (arith, nat_tests)
-
-take_lower : (n : ℕ) (w : List ℕ) → take n (lower w) ≡ lower (take n w)
-unfolding lower
-take_lower zero w = refl
-take_lower (suc n) [] = refl
-take_lower (suc n) (b ∷ w) = ap (λ l. to_ascii_lowercase b ∷ l) (take_lower n w)
-
--- the first bytes of sixteen in lower case
-pub first_lower : (n : ℕ) (w : List ℕ) → n ≤ 16 → take n (lower (take 16 w)) ≡ lower (take n w)
-first_lower n w few = take_lower n (take 16 w) ∙ ap lower (take-take n 16 w few)

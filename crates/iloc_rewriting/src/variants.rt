@@ -1,18 +1,5 @@
 //! Brings the variants of a line into order.
-ghost use Rattle.std.specs.Prelude.{
-  ◌≡◌,
-  ◌+◌,
-  ◌-◌,
-  ◌<◌,
-  ◌≤◌,
-  ◌∷◌,
-  ◌++◌,
-  IfErr,
-  IfOk,
-  IfSome,
-  length,
-  take,
-};
+ghost use Rattle.std.specs.Prelude.{◌+◌, ◌≤◌, ◌++◌, IfErr, IfOk, IfSome, length, take};
 ghost use Rattle.iloc_spec_grammar.specs.Syntax.{dashes};
 ghost use Rattle.iloc_blocks.specs.Blocks.{left_of};
 ghost use Rattle.iloc_blocks.specs.Ordered.{IsOrderedIdentifier};

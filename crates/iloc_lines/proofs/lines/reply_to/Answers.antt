@@ -1,8 +1,9 @@
-use Rattle.std.proofs.Common.{ℕ, List, ◌≡◌, ◌++◌, OnOk, subst, sym, ◌∙◌, take}
+use Rattle.std.proofs.Common.{ℕ, List, ◌≡◌, ◌≢◌, ◌++◌, OnOk, subst, sym, ◌∙◌, take}
 use Rattle.iloc_subtags.specs.declared.parse_error.ParseError.TheVariants.{InvalidLanguage}
 use Rattle.iloc_lines.specs.ReplyBlock.{held}
 use Rattle.iloc_lines.specs.Told.{IsRefused}
 use Rattle.iloc_lines.specs.declared.Mode.{Mode}
+use Rattle.iloc_lines.specs.declared.Mode.TheVariants.{Data}
 use Rattle.iloc_lines.proofs.FrontAnswers.{no_language_refused}
 use Rattle.iloc_lines.proofs.PlainLemmas.{refused_reply}
 use Rattle.iloc_lines.proofs.lines.reply_to.Goals as goal
@@ -28,3 +29,6 @@ reply_to_blocks-requires-clause-mode g c = sym c.mode.ensures ∙ c.in-Blocks.en
 
 pub reply_after_variants-requires-clause-mode : goal.reply_after_variants-requires-clause-mode
 reply_after_variants-requires-clause-mode g c = sym c.mode.ensures ∙ c.in-AfterVariants.ensures
+
+pub reply_to_variants-requires-clause-mode : goal.reply_to_variants-requires-clause-mode
+reply_to_variants-requires-clause-mode g c = subst (λ (m : Mode). m ≢ Data) c.mode.ensures c.in-Variants.ensures

@@ -13,4 +13,4 @@ returns-in-Some g c =
     (normal_reply mode line (text_of c.in-Some.line) (varied_in_order line c.in-Some.line c.in-Some.ensures mode).normal) c.push_ordered.ensures
 
 pub push_ordered-requires : goal.push_ordered-requires
-push_ordered-requires g c = c.in-Some.ensures.stored
+push_ordered-requires g c = c.in-Some.ensures.is.stored

@@ -13,3 +13,6 @@ returns-in-Variant c = c.tell_varied.ensures c.args.mode
 pub returns-in-AfterVariants : goal.returns-in-AfterVariants
 returns-in-AfterVariants c =
     subst (λ (m : Mode). IsTold m (take c.args.len c.args.window.now) c.tell_after_variants.result) (sym c.in-AfterVariants.ensures) c.tell_after_variants.ensures
+
+pub returns-in-Variants : goal.returns-in-Variants
+returns-in-Variants c = c.tell_variants.ensures c.args.mode c.in-Variants.ensures
