@@ -28,17 +28,14 @@ use Rattle.iloc_blocks.specs.declared.blocks.Rest.TheVariants as rest
 use Rattle.iloc_blocks.specs.declared.body.Body.{Body}
 use Rattle.iloc_blocks.specs.declared.body.Body.TheVariants as body
 use Rattle.iloc_blocks.specs.Transform.{IsNoTransform}
-use Rattle.iloc_blocks.specs.Bodies.{IsBodyOf, IsNoBodyOf}
+use Rattle.iloc_blocks.specs.Bodies.{IsBodyOf, IsNoBodyOf, IsUnseen}
 use Rattle.iloc_blocks.proofs.BlockLemmas.{front_past, blocks_past, first_block, private_block}
 use Rattle.iloc_blocks.proofs.PrintedBlocks.{IsGood, good_body, other_letter, printed_private, printed_none}
 use Rattle.iloc_blocks.proofs.OrderedLemmas.{after, cut_there, rest_is}
 
 -- ---- singletons that no earlier block has
 
-abbrev pub IsNew : ℕ → List ℕ → Type 0
-IsNew s seen = list_any (eq_by_cmp nat_cmp s) seen ≡ false
-
-new_among : (last s : ℕ) → (last < s) ⊎ (s ≡ 120) → (seen : List ℕ) → AllByRecursion (λ q. (q ≤ last) × (q ≢ 120)) seen → IsNew s seen
+new_among : (last s : ℕ) → (last < s) ⊎ (s ≡ 120) → (seen : List ℕ) → AllByRecursion (λ q. (q ≤ last) × (q ≢ 120)) seen → IsUnseen s seen
 new_among last s h [] all = refl
 new_among last s h (q ∷ seen) all = (λ j. untied s q (by h) j || list_any (eq_by_cmp nat_cmp s) seen) ∙ new_among last s h seen all.1
   where
@@ -46,7 +43,7 @@ new_among last s h (q ∷ seen) all = (λ j. untied s q (by h) j || list_any (eq
     by (inl less) e = omega (arith, all.0.0)
     by (inr is_x) e = all.0.1 (e ∙ is_x)
 
-new_after : (last s : ℕ) → (last < s) ⊎ (s ≡ 120) → (seen : List ℕ) → AreSeen last seen → IsNew s seen
+new_after : (last s : ℕ) → (last < s) ⊎ (s ≡ 120) → (seen : List ℕ) → AreSeen last seen → IsUnseen s seen
 new_after last s h seen all = new_among last s h seen all.each
 
 -- a letter or digit that may come after the last one
@@ -120,8 +117,8 @@ module _ (c : ℕ) (qs : List (List ℕ)) where
     pub other_ : is_other_singleton (to_ascii_lowercase c) ≡ true → ¬ (IsOther qs)
     pub repeats : to_ascii_lowercase c ≡ 116 → ¬ (RepeatsVariant languages qs)
 
-  pub fault_of : is_ascii_alphanumeric c ≡ true → Refuted → (seen : List ℕ) → IsNew (to_ascii_lowercase c) seen → BlockFault languages seen (c, qs) InvalidExtension
-  fault_of letter r seen new = breaks_rule letter new (λ x. r.repeats x.0 x.1) by
+  pub no_block : Refuted → ¬ (IsBlock languages (c, qs))
+  no_block r = by
     where
       at : (e : Extension) → IsExtension languages (to_ascii_lowercase c) e → qs ≡ extension_pieces e → ⊥
       at (unicode u) h s = r.unicode_ h.0 u h.1 s
@@ -131,6 +128,9 @@ module _ (c : ℕ) (qs : List (List ℕ)) where
       by : ¬ (IsBlock languages (c, qs))
       by (inl p) = r.private p.0 p.1
       by (inr e) = at e.0 e.1 e.2
+
+  pub fault_of : is_ascii_alphanumeric c ≡ true → Refuted → (seen : List ℕ) → IsUnseen (to_ascii_lowercase c) seen → BlockFault languages seen (c, qs) InvalidExtension
+  fault_of letter r seen new = breaks_rule letter new (λ x. r.repeats x.0 x.1) (no_block r)
 
 -- the first block is bad
 begin : (b : BadBlock) (last c : ℕ) (ps qs : List (List ℕ)) (bs : List (ℕ × List (List ℕ))) → blocks ((c ∷ []) ∷ ps) ≡ (c, qs) ∷ bs

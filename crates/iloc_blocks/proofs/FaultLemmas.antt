@@ -26,7 +26,7 @@ pub record IsSound (c : ℕ) (ps : List (List ℕ)) : Type 0 where
 
 -- ---- a block, and what follows it
 
-pub sound_before : (c : ℕ) (ps qs : List (List ℕ)) → IsSound c ps → (seen : List ℕ) (b : BadBlock) → IsUnseen c seen → HaveBad (to_ascii_lowercase c ∷ seen) qs b → HaveBad seen ((c ∷ []) ∷ (ps ++ qs)) b
+pub sound_before : (c : ℕ) (ps qs : List (List ℕ)) → IsSound c ps → (seen : List ℕ) (b : BadBlock) → IsUnseen (to_ascii_lowercase c) seen → HaveBad (to_ascii_lowercase c ∷ seen) qs b → HaveBad seen ((c ∷ []) ∷ (ps ++ qs)) b
 sound_before c ps qs g seen b new h = record {
   none_before = refl;
   first = subst (λ bs. FirstBadBlock languages seen bs (fault_of b)) (sym blocks_are) (later g.letter new g.block h.first);
@@ -37,7 +37,7 @@ sound_before c ps qs g seen b new h = record {
 
 -- it breaks its rule, whatever comes before it
 abbrev pub IsMisfit : ℕ → List (List ℕ) → Type 0
-IsMisfit c ps = (seen : List ℕ) → IsUnseen c seen → HaveBad seen ((c ∷ []) ∷ ps) bad.Misfit
+IsMisfit c ps = (seen : List ℕ) → IsUnseen (to_ascii_lowercase c) seen → HaveBad seen ((c ∷ []) ∷ ps) bad.Misfit
 
 -- up to the next block, and all that follows `x`
 wrong_block : (c : ℕ) (ps : List (List ℕ)) → is_ascii_alphanumeric c ≡ true → to_ascii_lowercase c ≢ 120 → Refuted c (front ps) → IsMisfit c ps

@@ -3,7 +3,6 @@ use Rattle.std.specs.Prelude.{◌≡◌, ◌⊎◌, ℕ, ◌<◌, true, false, L
 use Rattle.std.specs.Int.{is_in_range}
 use Rattle.std.specs.List.{AllByRecursion, list_any}
 use Rattle.std.specs.Ordering.{nat_cmp, eq_by_cmp}
-use Rattle.std.specs.Char.{to_ascii_lowercase}
 use Rattle.iloc_spec_grammar.specs.Syntax.{Text, UnicodeKey, Attribute, IsWord, code_t, code_u, is_other_singleton, front, blocks, languages}
 use Rattle.iloc_spec_grammar.specs.Meaning.{FirstBadBlock}
 use Rattle.iloc_blocks.specs.Bad.{fault_of}
@@ -32,9 +31,9 @@ pub record HaveBad (seen : Text) (ps : List Text) (b : BadBlock) : Type 0 where
   pub none_before : front ps ≡ []
   pub first : FirstBadBlock languages seen (blocks ps) (fault_of b)
 
--- no block with the singleton c came before
+-- no block with the singleton c, which is given in lower case, came before
 abbrev pub IsUnseen : ℕ → Text → Type 0
-IsUnseen c seen = list_any (eq_by_cmp nat_cmp (to_ascii_lowercase c)) seen ≡ false
+IsUnseen c seen = list_any (eq_by_cmp nat_cmp c) seen ≡ false
 
 -- In whatever order.
 

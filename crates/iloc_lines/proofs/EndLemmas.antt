@@ -1,5 +1,5 @@
 -- The first LF, told by a mask of 32 bytes.
-use Rattle.std.proofs.Common.{◌≡◌, ℕ, ◌^◌, ◌<◌, ◌≤◌, Bool, true, false, not, List, length, map, get_or, take, drop, ◌+◌, ◌-◌, refl, sym, ap, ◌∙◌, subst, arith, inl, inr, Some}
+use Rattle.std.proofs.Common.{◌≡◌, ◌≢◌, suc, ◌++◌, ◌∷◌, None, ℕ, ◌^◌, ◌<◌, ◌≤◌, Bool, true, false, not, List, length, map, get_or, take, drop, ◌+◌, ◌-◌, refl, sym, ap, ◌∙◌, subst, arith, inl, inr, Some}
 use Rattle.std.specs.List.{prefix_len}
 use Rattle.std.proofs.lemmas.Bool.{false≢true, cases_lt}
 use Rattle.std.proofs.lemmas.List.{get_or-take, get_or-drop, length-drop, length-take-le, length-map}
@@ -9,6 +9,10 @@ use Rattle.std.proofs.lemmas.Simd.{leading_from_mask_l, trailing_mask_l, mask_l-
 use lib.Count.{count_trailing_zeros}
 use lib.Lanes.{mask_l}
 use mir.Syntax.{w64}
+use Rattle.std.proofs.Math.Seq.{split_at}
+use Rattle.std.proofs.lemmas.Bool.Decides.{nat_tests}
+use Rattle.std.proofs.lemmas.List.Elements.{All-from_get_or}
+use Rattle.iloc_lines.specs.Lines.{IsLineEnd, IsOneLine}
 use Rattle.memchr.specs.Find.{IsFirstByte, Nowhere, Passes, NoneBefore, is_byte}
 
 not-false : (b : Bool) → not b ≡ true → b ≡ false
@@ -96,3 +100,29 @@ second_end hay long none m e some =
     let size : length (drop 32 hay) ≡ length hay - 32 = length-drop 32 hay in
     later_passes (is_byte 10) hay (drop 32 hay) 32 (count_trailing_zeros 64 m) none (omega (arith, size))
     (λ i less. get_or-drop 32 hay i 0) (first_end (drop 32 hay) (omega (arith, size)) m e some)
+
+-- ---- where the line ends
+
+none_before : (hay : List ℕ) (k : ℕ) → k ≤ length hay → Nowhere (Passes (is_byte 10) hay) 0 k → IsOneLine (take k hay)
+none_before hay k within none =
+    All-from_get_or (λ c. c ≢ 10) (take k hay) 0
+    (λ i less e.
+    let small : i < k = omega (arith, length-take-le k hay within) in
+    none i (omega arith) small (ap (is_byte 10) (sym (get_or-take k hay i 0 small) ∙ e)))
+
+-- the first LF ends it
+pub end_there : (hay : List ℕ) (k : ℕ) → IsFirstByte (is_byte 10) hay (Some k) → IsLineEnd hay k
+end_there hay k f = record {
+  within = omega (arith, f.0.high);
+  before = none_before hay k (omega (arith, f.0.high)) f.0.before;
+  newline = λ less. split_at hay k 0 less ∙ (λ j. take k hay ++ is j ∷ drop (next j) hay);
+}
+  where
+    is : get_or hay k 0 ≡ 10
+    is = let p : is_byte 10 (get_or hay k 0) ≡ true = f.1 in grind (arith, nat_tests)
+
+    next : suc k ≡ k + 1
+    next = omega arith
+
+pub end_nowhere : (hay : List ℕ) → IsFirstByte (is_byte 10) hay None → IsLineEnd hay (length hay)
+end_nowhere hay none = record { within = omega arith; before = none_before hay (length hay) (omega arith) none; newline = λ less. absurd (omega arith) }

@@ -1,6 +1,6 @@
 -- Lines of a text: it is cut at each newline, and a last line without one counts if it isn't empty.
 -- This project's rule.
-use Rattle.std.specs.Prelude.{◌≡◌, ◌≢◌, ◌⊎◌, ℕ, ◌==◌, List, [], ◌∷◌, ◌++◌, All, if◌then◌else◌}
+use Rattle.std.specs.Prelude.{◌≡◌, ◌≢◌, ◌⊎◌, ℕ, ◌+◌, ◌<◌, ◌≤◌, ◌==◌, List, [], ◌∷◌, ◌++◌, All, length, take, drop, if◌then◌else◌}
 use Rattle.std.specs.List.{flat_map, AllByRecursion}
 use Rattle.iloc_spec_grammar.specs.Syntax.{Text}
 
@@ -37,3 +37,9 @@ abbrev pub IsEndedOrOpen : Type 0
 IsEndedOrOpen = (text : Text) → (lines : List Text) × AllByRecursion IsOneLine lines
     × ((text ≡ ended lines)
     ⊎ ((last : Text) × IsOneLine last × (last ≢ []) × (text ≡ ended lines ++ last)))
+
+-- The first newline stands there; or none does, and there are so many bytes.
+pub record IsLineEnd (bytes : Text) (n : ℕ) : Type 0 where
+  pub within : n ≤ length bytes
+  pub before : IsOneLine (take n bytes)
+  pub newline : n < length bytes → bytes ≡ take n bytes ++ 10 ∷ drop (n + 1) bytes

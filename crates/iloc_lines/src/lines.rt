@@ -11,6 +11,7 @@ ghost use Rattle.std.specs.Prelude.{
   take,
   length,
   map,
+  IfSome,
   MatchOption,
   MatchResult,
   IfOk,
@@ -26,11 +27,12 @@ ghost use Rattle.iloc_lines.specs.Output.{output, refusal_text, reply};
 ghost use Rattle.iloc_lines.specs.ReplyBlock.{held};
 ghost use Rattle.iloc_lines.specs.Told.{IsTold, refusal_of};
 ghost use Rattle.iloc_blocks.specs.Ordered.{IsReading};
-ghost use Rattle.iloc_lines.specs.Lines.{IsOneLine};
+ghost use Rattle.iloc_lines.specs.Lines.{IsLineEnd, IsOneLine};
+ghost use Rattle.iloc_plain.specs.Plain.{IsPlain};
 ghost use Rattle.std.specs.Simd.Lanes.{mask_l};
 ghost use Rattle.iloc_spec_grammar.specs.Syntax.{Text};
 ghost use Rattle.iloc_lines.specs.declared.Mode.TheVariants as Mode;
-ghost use Rattle.memchr.specs.Find.{IsFirstByte, Nowhere, Passes, is_byte};
+ghost use Rattle.memchr.specs.Find.{Nowhere, Passes, is_byte};
 
 use crate::replies::write_refusal;
 use crate::reply_block::ReplyBlock;
@@ -38,7 +40,7 @@ use crate::told::{Lead, ROOM, Told, read_lead, tell_after_variants};
 use crate::{Answers, RunError};
 use iloc_blocks::{BadBlock, Reading, read_ordered, read_varied};
 use iloc_fronts::may_begin;
-use iloc_plain::read_plain;
+use iloc_plain::{Plain, read_plain};
 use iloc_rewriting::rewrite;
 use iloc_subtags::ParseError;
 use memchr::memchr_iter;
@@ -64,15 +66,15 @@ fn line_ends(lanes: u8x32) -> u64
     lanes.simd_eq(u8x32::splat(10)).to_bitmask()
 }
 
-// Where the first newline stands. Most lines end within 32 bytes.
+// Where the first newline stands, or how many bytes there are if none does. Most lines end within 32 bytes.
 #[inline(always)]
-fn line_end(bytes: &[u8]) -> Option<usize>
-    ensures { IsFirstByte (is_byte 10) bytes.now result }
+fn line_end(bytes: &[u8]) -> usize
+    ensures { IsLineEnd bytes.now result }
 {
     if bytes.len() >= 32 {
         let ends = line_ends(u8x32::from_slice(bytes));
         if ends > 0 {
-            return Some(ends.trailing_zeros() as usize);
+            return ends.trailing_zeros() as usize;
         }
     }
     line_end_later(bytes)
@@ -80,14 +82,14 @@ fn line_end(bytes: &[u8]) -> Option<usize>
 
 // The same if none stands among the first 32. It is a call of its own, so that shorter lines pay nothing.
 #[inline(never)]
-fn line_end_later(bytes: &[u8]) -> Option<usize>
+fn line_end_later(bytes: &[u8]) -> usize
     requires { 32 ≤ length bytes.now → Nowhere (Passes (is_byte 10) bytes.now) 0 32 }
-    ensures { IsFirstByte (is_byte 10) bytes.now result }
+    ensures { IsLineEnd bytes.now result }
 {
     if bytes.len() >= 64 {
         let ends = line_ends(u8x32::from_slice(&bytes[32..]));
         if ends > 0 {
-            return Some(32 + ends.trailing_zeros() as usize);
+            return 32 + ends.trailing_zeros() as usize;
         }
     }
     line_end_beyond(bytes)
@@ -95,25 +97,41 @@ fn line_end_later(bytes: &[u8]) -> Option<usize>
 
 // The same of any bytes.
 #[inline(never)]
-fn line_end_beyond(bytes: &[u8]) -> Option<usize>
-    ensures { IsFirstByte (is_byte 10) bytes.now result }
+fn line_end_beyond(bytes: &[u8]) -> usize
+    ensures { IsLineEnd bytes.now result }
 {
-    memchr_iter(b'\n', bytes).next()
+    match memchr_iter(b'\n', bytes).next() {
+        Some(end) => end,
+        None => bytes.len(),
+    }
 }
 
 // The first line and what follows its newline, if the newline is there.
-#[inline(always)]
 fn split_line(bytes: &[u8]) -> Option<(&[u8], &[u8])>
     ensures { MatchOption result (IsOneLine bytes.now)
         (λ parts. IsOneLine parts.0.now × (bytes.now ≡ parts.0.now ++ 10 ∷ parts.1.now)) }
 {
-    let end = line_end(bytes)?;
-    let (line, later) = bytes.split_at(end);
-    Some((line, &later[1..]))
+    let end = line_end(bytes);
+    if end == bytes.len() {
+        return None;
+    }
+    Some((&bytes[..end], &bytes[end + 1..]))
 }
 
-// Adds the reply to the line that this window begins with: at once if it is told, and else as the mode parses it.
-// Sixteen bytes behind the line may be loaded. A line out of order is brought into order in the room.
+// What the line is that this window begins with, if it is plain. Sixteen bytes behind it may be loaded.
+#[inline(always)]
+fn plain_line(window: &[u8], len: usize) -> Option<Plain>
+    requires { len + 16 ≤ length window.now }
+    ensures { IfSome result (IsPlain (take len window.now)) }
+{
+    if len > 16 {
+        return None;
+    }
+    read_plain(window, len)
+}
+
+// Adds the reply to the line that this window begins with, if it is not plain: at once if it is told, and else as the
+// mode parses it. Sixteen bytes behind the line may be loaded. A line out of order is brought into order in the room.
 #[inline(always)]
 fn reply_to<A: Answers>(
     answers: &mut A,
@@ -122,20 +140,12 @@ fn reply_to<A: Answers>(
     room: &mut [u8],
     replies: &mut ReplyBlock,
 ) -> Result<(), AllocError>
-    requires { len ≤ length window.now }
+    requires { len + 16 ≤ length window.now }
     ensures { OnOk result (held replies.new
         ≡ held replies.old ++ reply A.mode (take len window.now)) }
 {
-    if window.len() - len < 16 {
-        return answers.reply(&window[..len], replies);
-    }
     if !may_begin(window, len) {
         return write_refusal(ParseError::InvalidLanguage, replies);
-    }
-    if len <= 16 {
-        if let Some(plain) = read_plain(window, len) {
-            return replies.push_plain(&plain);
-        }
     }
     match read_lead(answers.mode(), window, len) {
         Lead::Refused(error) => write_refusal(error, replies),
@@ -311,9 +321,20 @@ fn feed_lines<A: Answers>(
 {
     let mut room = [0u8; ROOM];
     let mut rest = bytes;
-    'lines: while let Some((line, later)) = split_line(rest) {
-        reply_to(answers, rest, line.len(), &mut room, replies)?;
-        rest = later;
+    'lines: loop {
+        let end = line_end(rest);
+        if end == rest.len() {
+            break 'lines;
+        }
+        let (line, later) = rest.split_at(end);
+        if rest.len() - end < 16 {
+            answers.reply(line, replies)?;
+        } else if let Some(plain) = plain_line(rest, end) {
+            replies.push_plain(&plain)?;
+        } else {
+            reply_to(answers, rest, end, &mut room, replies)?;
+        }
+        rest = &later[1..];
     }
     pending.extend_from_slice(rest)
 }

@@ -162,9 +162,10 @@ impl ReplyBlock {
         ensures len { self.new.len ≡ self.old.len + count }
         ensures room { vec_len self.new.room ≡ vec_len self.old.room }
     {
-        let end = self.len + bytes.len();
-        self.room.as_mut_slice()[self.len..end].copy_from_slice(bytes);
-        self.len += count;
+        let start = self.len;
+        let end = start + bytes.len();
+        self.room.as_mut_slice()[start..end].copy_from_slice(bytes);
+        self.len = start + count;
     }
 }
 

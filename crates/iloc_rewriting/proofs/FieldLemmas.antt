@@ -150,7 +150,6 @@ module _ (text : List ℕ) (l : Left) (room : List ℕ) (s : Stored) (h : IsHead
         new = head ++ fields_pieces k.kept;
         cut = h.cut ∙ ap (λ ps. head ++ ps) k.cut ∙ sym (append_assoc head (fields_pieces k.written) (left_of r.next));
         body_long = long_with k.written good_written;
-        new_long = long_with k.kept good;
         new_free = all_append IsHyphenFree head (fields_pieces k.kept) head_free (fields_free kind.Transform k.kept k.each_kept);
         means = record { keeps = record { means = same }; ordered = part };
         stored = stored;

@@ -5,8 +5,10 @@ pub mod StoredLemmas
 pub mod WordLemmas
 pub mod VariantLemmas
 pub mod RepeatLemmas
-pub mod LineLemmas
+pub mod UnicodeLemmas
 pub mod FieldLemmas
 pub mod OtherLemmas
 pub mod ReplacingLemmas
 pub mod SortingLemmas
+pub mod BodyLemmas
+pub mod LineLemmas

@@ -1,101 +1,160 @@
--- From what is stored of the block of `u` to the line.
-use Rattle.std.proofs.Common.{take, ◌≡◌, ℕ, ◌+◌, ◌<◌, ◌≤◌, List, [], ◌∷◌, ◌++◌, length, None, refl, sym, ap, ◌∙◌, subst, arith, append_assoc, length-append}
+-- From the blocks that are stored in order to the line.
+use Rattle.std.proofs.Common.{take, drop, ◌≡◌, ℕ, suc, ◌+◌, ◌-◌, ◌<◌, ◌≤◌, List, [], ◌∷◌, ◌++◌, length, get_or, Some, refl, sym, ap, ◌∙◌, subst, arith, append_assoc, length-append}
 use Rattle.std.specs.List.{AllByRecursion}
-use Rattle.std.proofs.lemmas.List.{length-take-le}
-use Rattle.iloc_spec_grammar.specs.Syntax.{dashes, Attribute, UnicodeKey, IsWord, IsKeyword, IsHyphenFree, Fields, fields_pieces}
-use Rattle.iloc_spec_grammar.proofs.PartTexts.{dashes-append}
+use Rattle.std.proofs.lemmas.List.{length-take-le, length-drop, take-take}
+use Rattle.iloc_spec_grammar.specs.Syntax.{pieces, join, dashes, head, tail_blocks, Variant, IsWord, IsHyphenFree, Identifier, identifier_pieces, languages}
+use Rattle.iloc_spec_grammar.specs.Meaning.{Fault, HasFault, IdentifierMeans}
+use Rattle.iloc_spec_grammar.specs.ByBlocks.{BlocksMean, MeansByBlocks}
+use Rattle.iloc_spec_grammar.proofs.BlockLaws.{means_by_blocks, blocks_mean}
+use Rattle.iloc_spec_grammar.proofs.PartTexts.{join-dashes, dashes-append}
+use Rattle.iloc_spec_grammar.proofs.PiecesLaws.{pieces-join}
+use Rattle.iloc_spec_grammar.proofs.RawLaws.{languages_table}
 use Rattle.iloc_spec_grammar.proofs.ReadBack.{all_append, word_hyphen_free}
-use Rattle.iloc_spec_grammar.proofs.Readings.{IsLong, long_attribute}
-use Rattle.iloc_spec_grammar.proofs.ValuesLaws.{all_both, all_weaker}
-use Rattle.iloc_spec_grammar.specs.ByBlocks.{UnicodeMeans}
-use Rattle.iloc_blocks.specs.Blocks.{IsUnicodePart, IsValue, left_of}
-use Rattle.iloc_rewriting.specs.Rewriting.{AreStored, AreFieldsInOrder, IsRewritten}
-use Rattle.iloc_rewriting.specs.Words.{AreWordsStored}
-use Rattle.iloc_rewriting.specs.Sorting.{IsBodyStored, IsOrderOf}
-use Rattle.iloc_blocks.specs.Ordered.{IsOrdered}
+use Rattle.iloc_spec_grammar.proofs.ValuesLaws.{all_weaker, ascending_different}
+use Rattle.iloc_plain.specs.Plain.{AreWords, IsPlain}
+use Rattle.iloc_plain.specs.declared.plain.Plain.{Plain}
+use Rattle.iloc_blocks.specs.Ordered.{IsCut, IsFaultyTail, IsOrdered, IsTail}
 use Rattle.iloc_blocks.specs.declared.ordered.Ordered.{Ordered}
-use Rattle.iloc_rewriting.specs.declared.keywords.KeyKind.TheVariants as kind
-use Rattle.iloc_rewriting.specs.declared.keywords.Stored.{Stored}
-use Rattle.iloc_rewriting.specs.declared.words.WordKind.TheVariants as words
-use Rattle.iloc_rewriting.proofs.KeywordLemmas.{fields_long, fields_free}
-use Rattle.iloc_rewriting.proofs.RewritingLemmas.{same_unicode}
-use Rattle.iloc_rewriting.proofs.StoredLemmas.{stored_none}
-use Rattle.iloc_rewriting.proofs.WordLemmas.{words_ascend}
+use Rattle.iloc_blocks.proofs.BadBlocks.{has_fault, pieces_both}
+use Rattle.iloc_blocks.proofs.OrderedLemmas.{after, cut_there, is_ordered}
+use Rattle.iloc_fronts.specs.Left.{pieces_of}
+use Rattle.iloc_fronts.specs.declared.left.Left.{Left}
+use Rattle.iloc_rewriting.specs.Rewriting.{AreStored, IsRewritten}
+use Rattle.iloc_rewriting.specs.Sorting.{AreBlocksStored, IsBadAfter, IsBadLine, IsLineStored, LeadsToBlock, after_byte}
+use Rattle.iloc_rewriting.specs.declared.blocks.Failure.{Failure}
+use Rattle.iloc_rewriting.specs.declared.blocks.Failure.TheVariants as failure
+use Rattle.iloc_rewriting.proofs.RewritingLemmas.{dashes_pieces, length-left}
+use Rattle.iloc_rewriting.proofs.SortingLemmas.{front_of_block, starts_left}
+use Rattle.iloc_rewriting.proofs.StoredLemmas.{split_room}
+use Rattle.iloc_rewriting.proofs.VariantLemmas.{blocks_are, head_is, pieces_behind}
 
--- ---- the block
+-- ---- what comes before the first block
 
--- nothing is left, so there are no fields
-pub no_fields : (room : List ℕ) (e : ℕ) → e + 16 ≤ length room → AreFieldsInOrder kind.Unicode (take e room) [] room (record { end = e; next = None })
-no_fields room e more = record {
-  written = [];
-  kept = [];
-  cut = refl;
-  each = tt;
-  each_kept = tt;
-  some = omega arith;
-  same = λ q. refl;
-  ascending = refl;
-  printed = tt;
-  stored = stored_none room e more;
-  left = tt;
-}
+module _ (w : List ℕ) (len at : ℕ) (inside : len + 16 ≤ length w) (less : at < len) (hyphen : get_or w at 0 ≡ 45) where
+  after_is : after_byte w len at ≡ after w len at inside less hyphen
+  after_is = let same : at + 1 ≡ suc at = omega arith in ap (λ (m : ℕ). take (len - at - 1) (drop m w)) same
 
--- attributes, and then fields
-module _ (text : List ℕ) (ps : List (List ℕ)) (n : ℕ) (room : List ℕ) (s : Stored) (h : AreWordsStored words.Attribute text ps n room s)
-    (new : List ℕ) (r : Stored) (k : AreFieldsInOrder kind.Unicode (take s.end room) (left_of s.next) new r) where
-  words_long : (ws : List (List ℕ)) → AllByRecursion (IsWord Attribute) ws → AllByRecursion IsLong ws
-  words_long = all_weaker (IsWord Attribute) IsLong long_attribute
+  module _ (b : Left) (h : LeadsToBlock (pieces (after_byte w len at)) (len - at - 1) b) where
+    -- its bytes are the identifier and the variants
+    before_block : take (len - b.len - 1) w ≡ take at w ++ dashes h.variants.body
+    before_block =
+        let rest = take b.len b.window.now in
+        let parts : take len w ≡ (take at w ++ dashes h.variants.body) ++ 45 ∷ rest =
+        cut_there w len at inside less hyphen
+        ∙ ap (λ t. take at w ++ t) (ap (λ t. 45 ∷ t) (sym after_is) ∙ sym (dashes_pieces (after_byte w len at)) ∙ ap dashes h.variants.cut ∙ dashes-append h.variants.body (pieces_of b) ∙ ap (λ t. dashes h.variants.body ++ t) (dashes_pieces rest))
+        ∙ sym (append_assoc (take at w) (dashes h.variants.body) (45 ∷ rest)) in
+        let same : len - suc b.len ≡ len - b.len - 1 = omega arith in
+        ap (λ (m : ℕ). take m w) (sym same) ∙ (split_room w (take at w ++ dashes h.variants.body) (45 ∷ rest) len (suc b.len) (omega (arith, inside)) parts (ap suc (length-left b h.left))).0
 
-  kept_free : AllByRecursion IsHyphenFree h.kept
-  kept_free = all_weaker (IsWord Attribute) IsHyphenFree (word_hyphen_free Attribute) h.kept h.same.each_kept
+    pub line_stored : (first new : List ℕ) (e n : ℕ) → AreStored first (take (len - b.len - 1) w) e → AreBlocksStored (take e first) (pieces_of b) new n → IsLineStored (take at w) (pieces (after_byte w len at)) new n
+    line_stored first new e n a k = record {
+      variants = h.variants.body;
+      rest = pieces_of b;
+      cut = h.variants.cut;
+      ascending = h.variants.is;
+      starts = starts_left (Some b) (h.left, h.one);
+      blocks = subst (λ (t : List ℕ). AreBlocksStored t (pieces_of b) new n) (a.begins ∙ before_block) k;
+    }
 
-  all_stored : AreStored new (text ++ dashes (h.kept ++ fields_pieces k.kept)) r.end
-  all_stored = subst (λ (t : List ℕ). AreStored new t r.end)
-      (ap (λ t. t ++ dashes (fields_pieces k.kept)) h.stored.begins ∙ append_assoc text (dashes h.kept) (dashes (fields_pieces k.kept)) ∙ ap (λ t. text ++ t) (sym (dashes-append h.kept (fields_pieces k.kept)))) k.stored
-
-  -- something is stored
-  some : (start : ℕ) → length text ≡ start → (r.end ≡ start → ⊥) → 0 < length h.kept + length k.kept
-  some start before other =
-      by h.kept k.kept (omega (arith, length-take-le r.end new (omega (arith, all_stored.more)), ap length all_stored.begins, length-append text (dashes (h.kept ++ fields_pieces k.kept))))
-    where
-      by : (ws : List (List ℕ)) (fs : Fields) → r.end ≡ start + length (dashes (ws ++ fields_pieces fs)) → 0 < length ws + length fs
-      by [] [] e = absurd (other (e ∙ omega arith))
-      by [] (f ∷ fs) e = omega arith
-      by (w ∷ ws) fs e = omega arith
-
-  part : 0 < length h.kept + length k.kept → IsUnicodePart (h.kept ++ fields_pieces k.kept)
-  part some = record {
-    attributes = h.kept;
-    rest = fields_pieces k.kept;
-    cut = refl;
-    each = h.same.each_kept;
-    ascending = words_ascend words.Attribute h.kept h.same.each_kept h.same.ascend;
-    keywords = record {
-      fields = k.kept;
-      spelled = refl;
-      each = all_weaker (λ f. IsKeyword f × AllByRecursion IsValue f.1) (λ f. IsWord UnicodeKey f.0 × AllByRecursion IsValue f.1) (λ f i. (i.0.0, i.1)) k.kept
-          (all_both IsKeyword (λ f. AllByRecursion IsValue f.1) k.kept k.each_kept k.printed);
-      ascending = k.ascending;
-    };
-    some = some;
+  pub bad_line : (b : Left) → LeadsToBlock (pieces (after_byte w len at)) (len - at - 1) b → (f : Failure) → IsBadAfter [] (pieces_of b) f → IsBadLine (pieces (after_byte w len at)) f
+  bad_line b h (failure.Bad bad) k = record {
+    variants = h.variants.body;
+    rest = pieces_of b;
+    cut = h.variants.cut;
+    each = h.variants.is.each;
+    different = ascending_different _ h.variants.is.ascending;
+    none_before = k.none_before;
+    first = k.first;
   }
+  bad_line b h failure.Other k = tt
 
-  pub unicode_in_order : (start : ℕ) → length text ≡ start → (r.end ≡ start → ⊥) → IsBodyStored (IsOrderOf UnicodeMeans IsUnicodePart) text ps new r
-  unicode_in_order start before other = record {
-    body = h.words ++ fields_pieces k.written;
-    new = h.kept ++ fields_pieces k.kept;
-    cut = h.cut ∙ ap (λ l. h.words ++ l) k.cut ∙ sym (append_assoc h.words (fields_pieces k.written) (left_of r.next));
-    body_long = all_append IsLong h.words (fields_pieces k.written) (words_long h.words h.same.each) (fields_long kind.Unicode k.written k.each);
-    new_long = all_append IsLong h.kept (fields_pieces k.kept) (words_long h.kept h.same.each_kept) (fields_long kind.Unicode k.kept k.each_kept);
-    new_free = all_append IsHyphenFree h.kept (fields_pieces k.kept) kept_free (fields_free kind.Unicode k.kept k.each_kept);
-    means = record {
-      keeps = record { means = same_unicode h.words h.kept k.written k.kept h.same k.each k.each_kept k.same k.some };
-      ordered = part (some start before other);
-    };
-    stored = all_stored;
-    left = k.left;
-  }
+  -- ---- the line
 
--- the text of a rewritten line is that of the line
-pub ordered_of_rewritten : (t u : List ℕ) (o : Ordered) → IsRewritten t u → IsOrdered u o → IsOrdered t o
-ordered_of_rewritten t u o f h = record { stored = h.stored; locale = h.locale; means = f h.locale h.means; normal = h.normal }
+  module _ (p : Plain) (plain : IsPlain (take at w) p) where
+    pub told_bad : (f : Fault) → IsFaultyTail (pieces (after_byte w len at)) f → HasFault languages (take len w) f
+    told_bad f h =
+        subst (λ (t : List ℕ). HasFault languages t f) (sym (cut_there w len at inside less hyphen))
+        (has_fault p (take at w) (after w len at inside less hyphen) plain f (subst (λ (t : List ℕ). IsFaultyTail (pieces t) f) after_is h))
+
+    module _ (room : List ℕ) (n : ℕ) (h : IsLineStored (take at w) (pieces (after_byte w len at)) room n) where
+      abbrev all : List (List ℕ)
+      all = h.variants ++ h.blocks.new
+
+      some : 0 < length all
+      some = omega (arith, h.blocks.some, length-append h.variants h.blocks.new)
+
+      free : AllByRecursion IsHyphenFree all
+      free = all_append IsHyphenFree h.variants h.blocks.new (all_weaker (IsWord Variant) IsHyphenFree (word_hyphen_free Variant) h.variants h.ascending.each) h.blocks.free
+
+      text_is : take n room ≡ take at w ++ dashes all
+      text_is = h.blocks.stored.begins ∙ append_assoc (take at w) (dashes h.variants) (dashes h.blocks.new) ∙ ap (λ t. take at w ++ t) (sym (dashes-append h.variants h.blocks.new))
+
+      abbrev words : Identifier
+      words = plain.means.written
+
+      old_pieces : pieces (take len w) ≡ identifier_pieces words ++ (h.variants ++ h.rest)
+      old_pieces =
+          ap pieces (cut_there w len at inside less hyphen) ∙ pieces_both (take at w) (after w len at inside less hyphen)
+          ∙ (λ j. plain.means.spelled j ++ (ap pieces (sym after_is) ∙ h.cut) j)
+
+      new_pieces : pieces (take n room) ≡ identifier_pieces words ++ (h.variants ++ h.blocks.new)
+      new_pieces = ap pieces text_is ∙ pieces_behind (take at w) all free ∙ ap (λ l. l ++ all) plain.means.spelled
+
+      rewritten : IsRewritten (take len w) (take n room)
+      rewritten M m =
+          let given : MeansByBlocks languages (take n room) M = means_by_blocks languages languages_table (take n room) M m in
+          let heads : head (pieces (take n room)) ≡ head (pieces (take len w)) =
+          ap head new_pieces ∙ head_is words plain.means.grammatical.words plain.no_variant h.variants h.blocks.new h.ascending.each
+          ∙ ap (λ l. identifier_pieces words ++ (h.variants ++ l)) (front_of_block h.blocks.new h.blocks.starts ∙ sym (front_of_block h.rest h.starts))
+          ∙ sym (ap head old_pieces ∙ head_is words plain.means.grammatical.words plain.no_variant h.variants h.rest h.ascending.each) in
+          let new_blocks = ap tail_blocks new_pieces ∙ blocks_are words plain.means.grammatical.words plain.no_variant h.variants h.blocks.new h.ascending.each in
+          let old_blocks = ap tail_blocks old_pieces ∙ blocks_are words plain.means.grammatical.words plain.no_variant h.variants h.rest h.ascending.each in
+          blocks_mean languages languages_table (take len w) M (record {
+            id = subst (λ (ps : List (List ℕ)). IdentifierMeans languages ps M.id) heads given.id;
+            blocks = subst (λ bs. BlocksMean languages bs M.extensions) (sym old_blocks) (h.blocks.keeps M.extensions (subst (λ bs. BlocksMean languages bs M.extensions) new_blocks given.blocks));
+          })
+
+      dashes_join : (qs : List (List ℕ)) → 0 < length qs → AllByRecursion IsHyphenFree qs → (dashes qs ≡ 45 ∷ join qs) × (pieces (join qs) ≡ qs)
+      dashes_join [] l f = absurd (omega arith)
+      dashes_join (q ∷ qs) l f = (ap (λ t. 45 ∷ t) (sym (join-dashes q qs)), pieces-join q qs f)
+
+      before_is : length (take at w) ≡ at
+      before_is = length-take-le at w (omega (arith, inside, less))
+
+      pub stored_inside : (at < n) × (n + 16 ≤ length room)
+      stored_inside =
+          let more = h.blocks.stored.more in
+          (omega (arith, more, length-take-le n room (omega (arith, more)), ap length text_is, length-append (take at w) (dashes all), before_is, ap length (dashes_join all some free).0), more)
+
+      module _ (o : Ordered) (same : o.plain ≡ p) (rest : o.rest.now ≡ take (length room - at) (drop at room)) (long : o.len ≡ n - at) where
+        is_cut : IsCut (take n room) o
+        is_cut = record {
+          stored = record {
+            words = subst (λ q. AreWords q) (sym same) plain.words;
+            room = omega (arith, long, stored_inside.0, stored_inside.1, ap length rest, length-take-le (length room - at) (drop at room) (omega (arith, length-drop at room)), length-drop at room);
+          };
+          some = omega (arith, long, stored_inside.0);
+          front = take at w;
+          tail = join all;
+          plain = subst (λ q. IsPlain (take at w) q) (sym same) plain;
+          cut = text_is ∙ ap (λ t. take at w ++ t) (dashes_join all some free).0;
+          rest = bytes ∙ (dashes_join all some free).0;
+        }
+          where
+            back : n - (n - at) ≡ at
+            back = omega (arith, stored_inside.0)
+
+            tail_long : length (dashes all) ≡ n - at
+            tail_long = omega (arith, length-take-le n room (omega (arith, stored_inside.1)), ap length text_is, length-append (take at w) (dashes all), before_is)
+
+            bytes : take o.len o.rest.now ≡ dashes all
+            bytes =
+                (λ j. take (long j) (rest j)) ∙ take-take (n - at) (length room - at) (drop at room) (omega (arith, stored_inside.1))
+                ∙ ap (λ (m : ℕ). take (n - at) (drop m room)) (sym back) ∙ (split_room room (take at w) (dashes all) n (n - at) (omega (arith, stored_inside.1)) text_is tail_long).1
+
+        pub told_ordered : IsOrdered (take len w) o
+        unfolding is_cut
+        told_ordered =
+            let tail : IsTail all = record { variants = h.variants; rest = h.blocks.new; cut = refl; each = h.ascending.each; ascending = h.ascending.ascending; extensions = h.blocks.printed } in
+            let ordered = is_ordered (take n room) o is_cut (subst IsTail (sym (dashes_join all some free).1) tail) in
+            record { stored = ordered.stored; locale = ordered.locale; means = rewritten ordered.locale ordered.means; normal = ordered.normal }

@@ -66,10 +66,6 @@ words_none room e l more ends = record { body = []; cut = refl; each = tt; store
 
 -- ---- the block
 
-word_may : (p : List ℕ) → IsWord Subtag p → MayStand p
-unfolding is_word
-word_may p h = grind (arith, nat_tests)
-
 words_stay : (ps : List (List ℕ)) → AllByRecursion (IsWord Subtag) ps → words ps ≡ ps
 words_stay [] h = refl
 words_stay (p ∷ ps) h = ap (λ (b : Bool). cond b (p ∷ words ps) (words ps)) h.0 ∙ ap (λ l. p ∷ l) (words_stay ps h.1)
@@ -81,7 +77,6 @@ other_of_words text ps room s h more = record {
   new = words h.body;
   cut = h.cut;
   body_long = all_weaker MayStand IsLong long_between h.body h.each;
-  new_long = all_weaker (IsWord Subtag) IsLong (λ p w. long_between p (word_may p w)) (words h.body) are_words;
   new_free = all_weaker (IsWord Subtag) IsHyphenFree (word_hyphen_free Subtag) (words h.body) are_words;
   means = record {
     keeps = record { means = λ ws m. (record { lengths = h.each; nonempty = subst (λ (l : List (List ℕ)). 0 < length l) same m.0.nonempty }, m.1 ∙ same) };

@@ -1,14 +1,13 @@
 -- From a block of `u` that is brought into order to the meaning of the line.
-use Rattle.std.proofs.Common.{take, ◌≡◌, ℕ, ◌-◌, ◌<◌, ◌≤◌, true, false, List, [], ◌∷◌, ◌++◌, length, refl, sym, ap, ◌∙◌, subst, arith, append_assoc, length-append}
+use Rattle.std.proofs.Common.{take, ◌≡◌, ℕ, ◌<◌, ◌≤◌, true, false, List, [], ◌∷◌, ◌++◌, length, refl, sym, ap, ◌∙◌, subst, arith, append_assoc}
 use Rattle.std.specs.List.{AllByRecursion}
-use Rattle.std.proofs.lemmas.List.{take-append-le, take-take, length-take-le}
-use Rattle.iloc_spec_grammar.specs.Syntax.{pieces, join, dashes, first_piece, Attribute, is_word, IsWord, IsKeyword, IsHyphenFree, Fields, Unicode, IsUnicode, fields_pieces}
+use Rattle.std.proofs.lemmas.List.{length-take-le}
+use Rattle.iloc_spec_grammar.specs.Syntax.{pieces, join, dashes, first_piece, Attribute, is_word, IsWord, IsKeyword, Fields, Unicode, IsUnicode, fields_pieces}
 use Rattle.iloc_spec_grammar.specs.Meaning.{normal_unicode}
 use Rattle.iloc_spec_grammar.specs.Reading.{fields_from, is_two, unicode_of, rest_of}
 use Rattle.iloc_spec_grammar.specs.ByBlocks.{UnicodeMeans}
-use Rattle.iloc_spec_grammar.proofs.PiecesLaws.{at_pieces, join-pieces, pieces-join}
+use Rattle.iloc_spec_grammar.proofs.PiecesLaws.{at_pieces, join-pieces}
 use Rattle.iloc_spec_grammar.proofs.PartTexts.{join-append, join-dashes}
-use Rattle.iloc_spec_grammar.proofs.ReadBack.{all_append}
 use Rattle.iloc_spec_grammar.proofs.Readings.{keywords_pass, fields_read, fields_past, before_key_read, not_two, unicode_of-pieces}
 use Rattle.iloc_spec_grammar.proofs.ValuesLaws.{all_weaker}
 use Rattle.iloc_rewriting.specs.Rewriting.{HaveSame}
@@ -60,26 +59,6 @@ dashes_pieces t = at_pieces (λ ps. dashes ps ≡ 45 ∷ join ps) (λ p ps. ap (
 -- a text of which the last pieces are those of another begins with the join of the others
 pub joined_before : (t s : List ℕ) (p : List ℕ) (ps : List (List ℕ)) → pieces t ≡ (p ∷ ps) ++ pieces s → t ≡ join (p ∷ ps) ++ 45 ∷ s
 joined_before t s p ps e = sym (join-pieces t) ∙ ap join e ∙ join-append p ps (pieces s) ∙ ap (λ l. join (p ∷ ps) ++ l) (dashes_pieces s)
-
--- so that is what stands before the other, without the hyphen
-pub begins_with : (w : List ℕ) (len m : ℕ) (s p : List ℕ) (ps : List (List ℕ)) → len ≤ length w → length s ≡ m → pieces (take len w) ≡ (p ∷ ps) ++ pieces s
-    → take (len - m - 1) w ≡ join (p ∷ ps)
-begins_with w len m s p ps inside long e =
-    let t = take len w in
-    let parts : t ≡ join (p ∷ ps) ++ 45 ∷ s = joined_before t s p ps e in
-    let size : len - m - 1 ≡ length (join (p ∷ ps)) = omega (arith, length-take-le len w inside, ap length parts, length-append (join (p ∷ ps)) (45 ∷ s)) in
-    let less : len - m - 1 ≤ len = omega arith in
-    sym (take-take (len - m - 1) len w less) ∙ (λ j. take (size j) (parts j)) ∙ take-append-le (length (join (p ∷ ps))) (join (p ∷ ps)) (45 ∷ s) (omega arith) ∙ take_all (join (p ∷ ps))
-  where
-    take_all : (t : List ℕ) → take (length t) t ≡ t
-    take_all [] = refl
-    take_all (c ∷ t) = ap (λ l. c ∷ l) (take_all t)
-
--- a text is cut at its hyphens as it was made
-pub new_pieces : (text : List ℕ) (first : List ℕ) (before new : List (List ℕ)) → AllByRecursion IsHyphenFree (first ∷ before) → AllByRecursion IsHyphenFree new
-    → text ≡ join (first ∷ before) ++ dashes new → pieces text ≡ first ∷ (before ++ new)
-new_pieces text first before new h k e =
-    ap pieces (e ∙ sym (join-append first before new)) ∙ pieces-join first (before ++ new) (h.0, all_append IsHyphenFree before new h.1 k)
 
 -- ---- pieces that come first
 

@@ -73,7 +73,7 @@ module _ (w : Identifier) (h : HasWords languages w) (none : w.variants ≡ []) 
   head_is vs rest each =
       ap (λ l. w.language ∷ l) (front_past (after_language w) (vs ++ rest) (long_after_language w h) ∙ ap (λ l. after_language w ++ l) (front_past vs rest (long_variants vs each)))
 
-  blocks_are : (vs rest : List (List ℕ)) → AllByRecursion (IsWord Variant) vs → tail_blocks (with_pieces vs rest) ≡ blocks rest
+  pub blocks_are : (vs rest : List (List ℕ)) → AllByRecursion (IsWord Variant) vs → tail_blocks (with_pieces vs rest) ≡ blocks rest
   blocks_are vs rest each = blocks_past (after_language w) (vs ++ rest) (long_after_language w h) ∙ blocks_past vs rest (long_variants vs each)
 
   module _ (vs ks rest : List (List ℕ)) (each : AllByRecursion (IsWord Variant) vs) (each_k : AllByRecursion (IsWord Variant) ks) (order : Reordered ks vs)
@@ -115,7 +115,7 @@ module _ (w : Identifier) (h : HasWords languages w) (none : w.variants ≡ []) 
 -- ---- the line
 
 -- pieces behind a text
-pieces_behind : (t : List ℕ) (qs : List (List ℕ)) → AllByRecursion IsHyphenFree qs → pieces (t ++ dashes qs) ≡ pieces t ++ qs
+pub pieces_behind : (t : List ℕ) (qs : List (List ℕ)) → AllByRecursion IsHyphenFree qs → pieces (t ++ dashes qs) ≡ pieces t ++ qs
 pieces_behind t [] free = ap pieces (append-nil t) ∙ sym (append-nil (pieces t))
 pieces_behind t (q ∷ qs) free = ap (λ l. pieces (t ++ 45 ∷ l)) (sym (join-dashes q qs)) ∙ pieces_both t (join (q ∷ qs)) ∙ ap (λ l. pieces t ++ l) (pieces-join q qs free)
 

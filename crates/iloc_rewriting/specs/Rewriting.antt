@@ -172,10 +172,6 @@ pub record AreFieldsInOrder (k : KeyKind) (text : Text) (ps : List Text) (room :
 
 -- The line.
 
--- the new text is stored, and the old one means what it means
-abbrev pub IsRewrittenAs : Text → Text → ℕ → Type 0
-IsRewrittenAs t room n = (n + 16 ≤ length room) × IsRewritten t (take n room)
-
 -- Steps.
 
 -- fields so far are stored in order behind the text, and others are left

@@ -1,21 +1,26 @@
 -- Blocks that are brought into order.
-use Rattle.std.specs.Prelude.{◌≡◌, ◌≢◌, take, ⊤, ℕ, ◌≤◌, Bool, true, false, List, [], ◌∷◌, ◌++◌, filter, get_or, length, Option}
+use Rattle.std.specs.Prelude.{◌≡◌, ◌≢◌, ◌+◌, ◌-◌, ◌<◌, ◌≤◌, ⊤, ℕ, true, false, List, [], ◌∷◌, ◌++◌, filter, flat_map, get_or, length, map, take, drop, Option}
 use Rattle.std.specs.Int.{is_in_range}
-use Rattle.std.specs.List.{AllByRecursion}
-use Rattle.std.specs.Char.{to_ascii_lowercase}
-use Rattle.iloc_spec_grammar.specs.Syntax.{Text, Block, Subtag, is_word, IsHyphenFree, dashes, join, blocks, is_one_byte, is_other_singleton, code_t, code_u, code_x, languages}
+use Rattle.std.specs.List.{AllByRecursion, list_any}
+use Rattle.std.specs.Ordering.{nat_cmp, eq_by_cmp}
+use Rattle.std.specs.Char.{is_ascii_alphanumeric, to_ascii_lowercase}
+use Rattle.iloc_spec_grammar.specs.Syntax.{Text, Block, Subtag, is_word, IsHyphenFree, dashes, join, blocks, block_pieces, singleton, is_one_byte, is_other_singleton, code_t, code_u, code_x, languages}
 use Rattle.iloc_spec_grammar.specs.Meaning.{Extensions}
 use Rattle.iloc_spec_grammar.specs.Reading.{starts_block}
 use Rattle.iloc_spec_grammar.specs.ByBlocks.{UnicodeMeans, TransformMeans, OtherMeans, BlocksMean}
-use Rattle.iloc_blocks.specs.Blocks.{left_of}
+use Rattle.iloc_blocks.specs.Bad.{fault_of}
+use Rattle.iloc_blocks.specs.Blocks.{ArePrinted, IsCutAs, left_of}
+use Rattle.iloc_blocks.specs.Bodies.{HaveBad, IsBodyOf, IsNoBodyOf}
+use Rattle.iloc_blocks.specs.Ordered.{IsFaultyTail}
+use Rattle.iloc_blocks.specs.Variants.{AreVariantsAbove}
+use Rattle.iloc_blocks.specs.declared.bad_block.BadBlock.{BadBlock}
+use Rattle.iloc_blocks.specs.declared.bad_block.BadBlock.TheVariants as bad
 use Rattle.iloc_fronts.specs.Left.{pieces_of, IsLeft}
 use Rattle.iloc_fronts.specs.declared.left.Left.{Left}
 use Rattle.iloc_rewriting.specs.Rewriting.{AreStored, BeginsBlock}
 use Rattle.iloc_rewriting.specs.declared.keywords.Stored.{Stored}
 use Rattle.iloc_rewriting.specs.declared.blocks.Failure.{Failure}
 use Rattle.iloc_rewriting.specs.declared.blocks.Failure.TheVariants as failure
-use Rattle.iloc_blocks.specs.Bodies.{IsBodyOf, IsNoBodyOf}
-use Rattle.iloc_blocks.specs.declared.bad_block.BadBlock.TheVariants as bad
 
 -- What follows a singleton.
 
@@ -55,7 +60,6 @@ pub record IsBodyStored (R : List Text → List Text → Type 0) (text : Text) (
   pub new : List Text
   pub cut : ps ≡ body ++ left_of s.next
   pub body_long : AreLong body
-  pub new_long : AreLong new
   pub new_free : AllByRecursion IsHyphenFree new
   pub means : R new body
   pub stored : AreStored room (text ++ dashes new) s.end
@@ -75,61 +79,104 @@ pub record AreWordsKept (text : Text) (ps : List Text) (room : Text) (s : Stored
 
 -- A block.
 
--- what is left begins with this singleton in lower case, which is not `x`
+-- what is left begins with this singleton in lower case, a letter or digit other than `x`
 pub record IsSingletonOf (l : Left) (c : ℕ) : Type 0 where
   pub one : l.n ≡ 1
   pub is : c ≡ to_ascii_lowercase (get_or l.window.now 0 0)
+  pub letter : is_ascii_alphanumeric c ≡ true
   pub other : c ≢ code_x
 
--- a block that comes first is stored behind the text
-pub record IsBlockStored (text : Text) (ps : List Text) (room : Text) (s : Stored) : Type 0 where
-  pub byte : ℕ
-  pub rest : List Text
-  pub cut : ps ≡ (byte ∷ []) ∷ rest
-  pub free : IsHyphenFree (byte ∷ [])
-  pub no_private : to_ascii_lowercase byte ≢ code_x
-  pub body : IsBodyStored (KeepsBlock (to_ascii_lowercase byte)) (text ++ 45 ∷ byte ∷ []) rest room s
+-- the block is in the order in which it is printed
+pub record IsBlockInOrder (b : Block) : Type 0 where
+  pub letter : is_ascii_alphanumeric b.0 ≡ true
+  pub other : singleton b ≢ code_x
+  pub free : AllByRecursion IsHyphenFree b.1
+  pub ordered : IsBodyOf (singleton b) b.1
 
--- the piece is no singleton `x`
-abbrev pub IsNoPrivate : Text → Type 0
-IsNoPrivate (c ∷ []) = to_ascii_lowercase c ≢ code_x
-IsNoPrivate _ = ⊤
-
--- the room holds the pieces of blocks behind the text, none of `x`
-pub record HoldsBlocks (room : Text) (start end : ℕ) (text : Text) (ps : List Text) : Type 0 where
-  pub before : length text ≡ start
-  pub stored : take end room ≡ text ++ dashes ps
-  pub starts : starts_block ps ≡ true
-  pub free : AllByRecursion IsHyphenFree ps
-  pub no_private : AllByRecursion IsNoPrivate ps
-
--- a block that comes first is stored among those that the room held
-pub record IsBlockAmong (text : Text) (all ps : List Text) (room : Text) (s : Stored) : Type 0 where
-  pub before : List Text
-  pub after : List Text
-  pub cut : all ≡ before ++ after
-  pub starts : starts_block after ≡ true
-  pub byte : ℕ
+-- a block with this singleton in lower case comes first, and the other one stands for it
+pub record IsBlockFor (c : ℕ) (ps : List Text) (next : Option Left) (new : Block) : Type 0 where
   pub body : List Text
-  pub new : List Text
-  pub is : ps ≡ (byte ∷ []) ∷ (body ++ left_of s.next)
-  pub free : IsHyphenFree (byte ∷ [])
-  pub no_private : to_ascii_lowercase byte ≢ code_x
-  pub body_long : AreLong body
-  pub new_long : AreLong new
-  pub new_free : AllByRecursion IsHyphenFree new
-  pub means : KeepsBlock (to_ascii_lowercase byte) new body
-  pub stored : AreStored room (text ++ dashes (before ++ ((byte ∷ []) ∷ (new ++ after)))) s.end
-  pub left : BeginsBlock s.next
+  pub cut : ps ≡ (new.0 ∷ []) ∷ (body ++ left_of next)
+  pub long : AreLong body
+  pub is : singleton new ≡ c
+  pub ordered : IsBlockInOrder new
+  pub keeps : KeepsBlock c new.1 body
+  pub left : BeginsBlock next
 
--- a block begins where so many bytes are left of the pieces
-pub record IsBlockPlace (ps : List Text) (len n : ℕ) : Type 0 where
-  pub before : List Text
-  pub byte : ℕ
-  pub rest : List Text
-  pub cut : ps ≡ before ++ ((byte ∷ []) ∷ rest)
-  pub long : n ≡ length (join ((byte ∷ []) ∷ rest))
-  pub within : n ≤ len
+-- that one is stored behind the text
+pub record IsBlockStored (c : ℕ) (text : Text) (ps : List Text) (room : Text) (s : Stored) : Type 0 where
+  pub new : Block
+  pub block : IsBlockFor c ps s.next new
+  pub stored : AreStored room (text ++ dashes (block_pieces new)) s.end
+
+-- after blocks with such singletons in lower case the first bad one is as told
+abbrev pub IsBadAfter : Text → List Text → Failure → Type 0
+IsBadAfter seen ps (failure.Bad b) = HaveBad seen ps b
+IsBadAfter seen ps failure.Other = ⊤
+
+-- Blocks.
+
+-- their pieces
+abbrev pub pieces_in : List Block → List Text
+pieces_in bs = flat_map block_pieces bs
+
+-- their singletons in lower case
+abbrev pub singletons_of : List Block → Text
+singletons_of bs = map (λ b. singleton b) bs
+
+-- each singleton is less than those after it
+abbrev pub AreAscending : List Block → Type 0
+AreAscending [] = ⊤
+AreAscending (b ∷ bs) = AllByRecursion (λ d. singleton b < singleton d) bs × AreAscending bs
+
+-- no singleton is above this one
+abbrev pub AreNoneAbove : ℕ → List Block → Type 0
+AreNoneAbove last bs = AllByRecursion (λ b. singleton b ≤ last) bs
+
+-- the room holds blocks in order behind the text, with ascending singletons
+pub record HoldsBlocks (room : Text) (start end : ℕ) (text : Text) (bs : List Block) : Type 0 where
+  pub before : length text ≡ start
+  pub stored : take end room ≡ text ++ dashes (pieces_in bs)
+  pub each : AllByRecursion IsBlockInOrder bs
+  pub ascending : AreAscending bs
+
+-- one that stands for the first block is stored among those that the room held
+pub record IsBlockAmong (c : ℕ) (text : Text) (bs : List Block) (ps : List Text) (room : Text) (s : Stored) : Type 0 where
+  pub before : List Block
+  pub after : List Block
+  pub cut : bs ≡ before ++ after
+  pub lesser : AllByRecursion (λ b. singleton b < c) before
+  pub greater : AllByRecursion (λ b. c < singleton b) after
+  pub new : Block
+  pub block : IsBlockFor c ps s.next new
+  pub stored : AreStored room (text ++ dashes (pieces_in (before ++ (new ∷ after)))) s.end
+
+-- the first block with a greater singleton begins where so many bytes are left of the pieces
+pub record IsBlockPlace (c : ℕ) (bs : List Block) (n : ℕ) : Type 0 where
+  pub before : List Block
+  pub next : Block
+  pub after : List Block
+  pub cut : bs ≡ before ++ (next ∷ after)
+  pub lesser : AllByRecursion (λ b. singleton b < c) before
+  pub greater : c < singleton next
+  pub long : n ≡ length (join (pieces_in (next ∷ after)))
+
+-- one of them has the singleton
+abbrev pub IsPlaceTaken : ℕ → List Block → Failure → Type 0
+IsPlaceTaken c bs (failure.Bad bad.Duplicated)
+    = list_any (eq_by_cmp nat_cmp c) (singletons_of bs) ≡ true
+IsPlaceTaken c bs (failure.Bad bad.Misfit) = ¬ ⊤
+IsPlaceTaken c bs failure.Other = ⊤
+
+-- blocks with lesser singletons came before the pieces, which are the end of one and the later ones
+pub record AreBlocksPassed (c : ℕ) (bs : List Block) (ps : List Text) : Type 0 where
+  pub before : List Block
+  pub after : List Block
+  pub cut : bs ≡ before ++ after
+  pub lesser : AllByRecursion (λ b. singleton b < c) before
+  pub body : List Text
+  pub long : AreLong body
+  pub pieces_are : ps ≡ body ++ pieces_in after
 
 -- All blocks.
 
@@ -137,27 +184,54 @@ pub record IsBlockPlace (ps : List Text) (len n : ℕ) : Type 0 where
 abbrev pub KeepsBlocks : List Block → List Block → Type 0
 KeepsBlocks new old = (e : Extensions) → BlocksMean languages new e → BlocksMean languages old e
 
--- blocks so far are stored behind the text, and other pieces are left
-pub record AreBlocksSoFar (text : Text) (ps : List Text) (start end : ℕ) (room : Text) (left : List Text) : Type 0 where
+-- blocks so far are stored in order behind the text, and other pieces are left
+pub record AreBlocksSoFar (text : Text) (ps : List Text) (start end last : ℕ) (room : Text) (left : List Text) : Type 0 where
   pub written : List Block
   pub cut : blocks ps ≡ written ++ blocks left
-  pub new : List Text
+  pub new : List Block
   pub held : HoldsBlocks room start end text new
-  pub keeps : (bs : List Block) → KeepsBlocks (blocks new ++ bs) (written ++ bs)
+  pub none_above : AreNoneAbove last new
+  pub keeps : (bs : List Block) → KeepsBlocks (new ++ bs) (written ++ bs)
+  pub bad : (b : BadBlock) → HaveBad (singletons_of new) left b → HaveBad [] ps b
 
--- the blocks are stored behind the text as others, which stand for them
+-- what is left is the private part, which is stored behind the text
+pub record IsPrivateStored (text : Text) (ps : List Text) (room : Text) (n : ℕ) : Type 0 where
+  pub printed : (last : ℕ) → ArePrinted last ps
+  pub stored : AreStored room (text ++ dashes ps) n
+
+-- blocks are stored behind the text as they are printed, and whatever they mean the old ones mean
 pub record AreBlocksStored (text : Text) (ps : List Text) (room : Text) (n : ℕ) : Type 0 where
   pub new : List Text
+  pub some : 0 < length new
   pub starts : starts_block new ≡ true
   pub free : AllByRecursion IsHyphenFree new
+  pub printed : ArePrinted 0 new
   pub keeps : KeepsBlocks (blocks new) (blocks ps)
   pub stored : AreStored room (text ++ dashes new) n
 
--- pieces of more or fewer bytes than one come before a block
+-- The line.
+
+-- what the line has after the byte at this place
+abbrev pub after_byte : Text → ℕ → ℕ → Text
+after_byte w len at = take (len - at - 1) (drop (at + 1) w)
+
+-- ascending variants come before a block
 pub record LeadsToBlock (ps : List Text) (len : ℕ) (l : Left) : Type 0 where
-  pub before : List Text
-  pub cut : ps ≡ before ++ pieces_of l
-  pub long : AreLong before
+  pub variants : IsCutAs (AreVariantsAbove 0) ps (pieces_of l)
   pub left : IsLeft l
   pub one : l.n ≡ 1
   pub within : l.len ≤ len
+
+-- behind the text ascending variants are stored as they stand, and blocks as they are printed
+pub record IsLineStored (text : Text) (ps : List Text) (room : Text) (n : ℕ) : Type 0 where
+  pub variants : List Text
+  pub rest : List Text
+  pub cut : ps ≡ variants ++ rest
+  pub ascending : AreVariantsAbove 0 variants
+  pub starts : starts_block rest ≡ true
+  pub blocks : AreBlocksStored (text ++ dashes variants) rest room n
+
+-- the pieces after a plain identifier have the fault that is told
+abbrev pub IsBadLine : List Text → Failure → Type 0
+IsBadLine ps (failure.Bad b) = IsFaultyTail ps (fault_of b)
+IsBadLine ps failure.Other = ⊤

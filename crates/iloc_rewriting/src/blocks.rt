@@ -5,10 +5,10 @@ ghost use Rattle.std.specs.Prelude.{
   ◌+◌,
   ◌++◌,
   ◌≤◌,
+  IfErr,
+  IfOk,
   IfSome,
   List,
-  OnErr,
-  OnOk,
   length,
   take,
   true,
@@ -52,9 +52,9 @@ pub(crate) fn put_body<'a>(
     requires letter { is_ascii_alphanumeric singleton ≡ true }
     requires no_private { singleton ≢ code_x }
     requires room { start + 16 ≤ length room.old }
-    ensures ok { OnOk result (IsBodyStored (StandsFor singleton) (take start room.old)
+    ensures ok { IfOk result (IsBodyStored (StandsFor singleton) (take start room.old)
         (pieces_of left.entry) room.new) }
-    ensures err { OnErr result (IsWrongBody singleton (pieces_of left.entry)) }
+    ensures err { IfErr result (IsWrongBody singleton (pieces_of left.entry)) }
 {
     let stored = match read_body(singleton, left) {
         Body::End => put_same(left, None, room, start),

@@ -1,8 +1,21 @@
 //! Brings a line into the order of its normal text.
-ghost use Rattle.std.specs.Prelude.{◌≡◌, ◌+◌, ◌≤◌, IfSome, length, take};
+ghost use Rattle.std.specs.Prelude.{
+  ◌≡◌,
+  ◌+◌,
+  ◌<◌,
+  ◌≤◌,
+  IfErr,
+  IfOk,
+  IfSome,
+  length,
+  slice_index,
+  take,
+};
+ghost use Rattle.iloc_spec_grammar.specs.Syntax.{pieces};
 ghost use Rattle.iloc_fronts.specs.Left.{IsLeft, pieces_of};
+ghost use Rattle.iloc_plain.specs.Plain.{IsPlain};
 ghost use Rattle.iloc_blocks.specs.Ordered.{IsReading};
-ghost use Rattle.iloc_rewriting.specs.Sorting.{LeadsToBlock};
+ghost use Rattle.iloc_rewriting.specs.Sorting.{IsBadLine, IsLineStored, LeadsToBlock, after_byte};
 
 use crate::blocks::Failure;
 use crate::sorting::put_blocks;
@@ -41,7 +54,10 @@ fn rewrite_after<'a>(
     at: usize,
     room: &'a mut [u8],
 ) -> Reading<'a>
-    requires { len + 16 ≤ length window.now }
+    requires window { len + 16 ≤ length window.now }
+    requires plain { IsPlain (take at window.now) plain }
+    requires less { at < len }
+    requires hyphen { slice_index window.now at ≡ 45 }
     ensures { IsReading (take len window.now) result }
 {
     match put_line(window, len, at, room) {
@@ -58,7 +74,12 @@ fn rewrite_after<'a>(
 // Stores the line in order. Where it ends then.
 #[inline(always)]
 fn put_line(window: &[u8], len: usize, at: usize, room: &mut [u8]) -> Result<usize, Failure>
-    requires { len + 16 ≤ length window.now }
+    requires window { len + 16 ≤ length window.now }
+    requires less { at < len }
+    requires hyphen { slice_index window.now at ≡ 45 }
+    ensures ok { IfOk result (IsLineStored (take at window.now)
+        (pieces (after_byte window.now len at)) room.new) }
+    ensures err { IfErr result (IsBadLine (pieces (after_byte window.now len at))) }
 {
     if room.len() < 16 {
         return Err(Failure::Other);

@@ -1,7 +1,37 @@
 //! Stores blocks in the order of their singletons.
-ghost use Rattle.std.specs.Prelude.{◌≡◌, ◌≢◌, ◌+◌, ◌≤◌, IfSome, List, OnErr, OnOk, length, take};
-ghost use Rattle.iloc_spec_grammar.specs.Syntax.{Text, Block};
+ghost use Rattle.std.specs.Prelude.{
+  ◌≡◌,
+  ◌≢◌,
+  ◌+◌,
+  ◌≤◌,
+  [],
+  IfErr,
+  IfOk,
+  List,
+  get_or,
+  length,
+  take,
+};
+ghost use Rattle.std.specs.Char.{to_ascii_lowercase};
+ghost use Rattle.std.specs.List.{AllByRecursion};
+ghost use Rattle.iloc_spec_grammar.specs.Syntax.{Block, Text, code_x};
+ghost use Rattle.iloc_blocks.specs.Bodies.{IsUnseen};
 ghost use Rattle.iloc_fronts.specs.Left.{IsLeft, pieces_of};
+ghost use Rattle.iloc_rewriting.specs.Sorting.{
+  AreBlocksStored,
+  AreNoneAbove,
+  HoldsBlocks,
+  IsBadAfter,
+  IsBlockAmong,
+  IsBlockInOrder,
+  IsBlockPlace,
+  IsBlockStored,
+  IsPlaceTaken,
+  IsPrivateStored,
+  IsSingletonOf,
+  pieces_in,
+  singletons_of,
+};
 
 use crate::blocks::{Failure, put_body};
 use crate::keywords::Stored;
@@ -18,8 +48,9 @@ pub(crate) fn put_blocks(left: Left<'_>, room: &mut [u8], start: usize) -> Resul
     requires left { IsLeft left }
     requires block { left.n ≡ 1 }
     requires room { start + 16 ≤ length room.old }
-    // ensures ok:  the blocks are stored behind the text as others, in order, which stand for them
-    // ensures err: if Bad b: HaveBad [] (pieces_of left.entry) b
+    ensures ok { IfOk result
+        (AreBlocksStored (take start room.old) (pieces_of left.entry) room.new) }
+    ensures err { IfErr result (IsBadAfter [] (pieces_of left.entry)) }
 {
     let mut at = left;
     let mut end = start;
@@ -45,6 +76,14 @@ pub(crate) fn put_blocks(left: Left<'_>, room: &mut [u8], start: usize) -> Resul
 // Stores the block of `x`, and so the end of the line.
 #[inline(always)]
 fn put_private(left: Left<'_>, room: &mut [u8], end: usize) -> Result<usize, Failure>
+    requires left { IsLeft left }
+    requires block { left.n ≡ 1 }
+    requires private { to_ascii_lowercase (get_or left.window.now 0 0) ≡ code_x }
+    requires room { end + 16 ≤ length room.old }
+    ensures ok { IfOk result
+        (IsPrivateStored (take end room.old) (pieces_of left.entry) room.new) }
+    ensures err { (seen : Text) → IsUnseen code_x seen
+        → IfErr result (IsBadAfter seen (pieces_of left.entry)) }
 {
     if left.n == left.len {
         return Err(Failure::Bad(BadBlock::Misfit));
@@ -70,6 +109,12 @@ fn put_among<'a>(
     requires singleton { IsSingletonOf left singleton }
     requires room { end + 16 ≤ length room.old }
     requires start { start ≤ end }
+    ensures ok { (t : Text) (bs : List Block) → HoldsBlocks room.old start end t bs
+        → AreNoneAbove last bs
+        → IfOk result (IsBlockAmong singleton t bs (pieces_of left.entry) room.new) }
+    ensures err { (t : Text) (bs : List Block) → HoldsBlocks room.old start end t bs
+        → AreNoneAbove last bs
+        → IfErr result (IsBadAfter (singletons_of bs) (pieces_of left.entry)) }
 {
     if singleton > last {
         return put_behind(left, singleton, room, end);
@@ -88,6 +133,10 @@ fn put_behind<'a>(
     requires left { IsLeft left }
     requires singleton { IsSingletonOf left singleton }
     requires room { start + 16 ≤ length room.old }
+    ensures ok { IfOk result
+        (IsBlockStored singleton (take start room.old) (pieces_of left.entry) room.new) }
+    ensures err { (seen : Text) → IsUnseen singleton seen
+        → IfErr result (IsBadAfter seen (pieces_of left.entry)) }
 {
     if left.n == left.len {
         return Err(Failure::Bad(BadBlock::Misfit));
@@ -111,6 +160,10 @@ fn insert_block<'a>(
     requires singleton { IsSingletonOf left singleton }
     requires room { end + 16 ≤ length room.old }
     requires start { start ≤ end }
+    ensures ok { (t : Text) (bs : List Block) → HoldsBlocks room.old start end t bs
+        → IfOk result (IsBlockAmong singleton t bs (pieces_of left.entry) room.new) }
+    ensures err { (t : Text) (bs : List Block) → HoldsBlocks room.old start end t bs
+        → IfErr result (IsBadAfter (singletons_of bs) (pieces_of left.entry)) }
 {
     if start == end {
         return Err(Failure::Other);
@@ -135,6 +188,11 @@ fn insert_block<'a>(
 #[inline(always)]
 fn place_of(left: Left<'_>, singleton: u8) -> Result<usize, Failure>
     requires { IsLeft left }
+    ensures ok { (bs : List Block) → pieces_of left.entry ≡ pieces_in bs
+        → AllByRecursion IsBlockInOrder bs → IfOk result (IsBlockPlace singleton bs) }
+    ensures within { IfOk result (λ n. n ≤ left.entry.len) }
+    ensures err { (bs : List Block) → pieces_of left.entry ≡ pieces_in bs
+        → AllByRecursion IsBlockInOrder bs → IfErr result (IsPlaceTaken singleton bs) }
 {
     let mut at = left;
     'pieces: while at.n != 16 {

@@ -1,21 +1,54 @@
-use Rattle.std.proofs.Common.{◌≡◌, ◌≢◌, ℕ, List, [], ◌∷◌, ◌++◌, length, take, ap, ◌∙◌, sym, append_assoc}
-use Rattle.std.proofs.Math.Seq.{take-append_seam}
+use Rattle.std.proofs.Common.{◌≡◌, ◌≢◌, ℕ, ◌+◌, ◌-◌, ◌<◌, List, [], ◌++◌, length, take, drop, ap, subst, ◌∙◌, sym, arith, append_assoc}
+use Rattle.std.specs.Prelude.{if◌then◌else◌, Result, Ok, Err, OnOk}
+use Rattle.std.specs.Result.{is_ok}
+use Rattle.iloc_lines.specs.Lines.{IsOneLine}
+use Rattle.std.proofs.lemmas.List.{drop-drop, length-drop, take_all}
 use Rattle.std.proofs.lemmas.List.Elements.{All-nil}
 use Rattle.iloc_spec_grammar.specs.Syntax.{languages}
+use Rattle.iloc_spec_grammar.specs.Values.{identifier_text}
+use Rattle.iloc_plain.specs.Plain.{value_of}
 use Rattle.iloc_lines.proofs.LineCuts.{output-cut}
+use Rattle.iloc_lines.proofs.PlainAnswers.{plain_normal}
+use Rattle.iloc_lines.proofs.PlainLemmas.{normal_reply}
 use Rattle.iloc_lines.specs.Output.{output, reply}
 use Rattle.iloc_lines.specs.ReplyBlock.{held}
 use Rattle.iloc_lines.proofs.lines.feed_lines.Goals as goal
+use Rattle.iloc_lines.proofs.lines.feed_lines.Goals.{then-rest-end-lt16+in_ok-reply, else-rest-end-lt16+in-Some+in_ok-push_plain, else-rest-end-lt16+in_default+in_ok-reply_to}
 
 pub lines-preserved : goal.lines-preserved
 lines-preserved g c =
     let mode = g.A.Answers.mode in
-    let line = c.in-Some.line.now in
-    let is_line : take (length line) c.lines.rest.now ≡ line =
-    ap (λ (t : List ℕ). take (length line) t) c.in-Some.ensures.1 ∙ take-append_seam line (10 ∷ c.in-Some.later.now) in
-    rw (c.in_ok-reply_to.ensures ∙ ap (λ (t : List ℕ). held c.lines.replies ++ reply mode t) is_line) (record {
+    let rest = c.lines.rest.now in
+    let end = c.line_end-end.result in
+    let line = take end rest in
+    let later = drop (end + 1) rest in
+    let ends = c.line_end-end.ensures in
+    let less : end < length rest = omega (arith, ends.within, c.if-end-rest.false) in
+    let replied : held c.if-rest-end-lt16.replies ≡ held c.lines.replies ++ reply mode line = elim c.if-rest-end-lt16.branch [
+      | then-rest-end-lt16+in_ok-reply w ↦
+          ap held w.replies-is ∙ w.in_ok-reply.ensures ∙ ap (λ (t : List ℕ). held c.lines.replies ++ reply mode t) c.split_at.ensures.front
+      | else-rest-end-lt16+in-Some+in_ok-push_plain w ↦
+          ap held w.replies-is ∙ w.in_ok-push_plain.ensures
+          ∙ ap (λ (t : List ℕ). held c.lines.replies ++ t) (normal_reply mode line (identifier_text (value_of w.in-Some.plain)) (plain_normal mode line w.in-Some.plain w.in-Some.ensures))
+      | else-rest-end-lt16+in_default+in_ok-reply_to w ↦ ap held w.replies-is ∙ w.in_ok-reply_to.ensures
+    ] in
+    let back : c.split_at.result.1.now ≡ drop end rest = c.split_at.ensures.back in
+    let next_is : take (length c.split_at.result.1.now - 1) (drop 1 c.split_at.result.1.now) ≡ later =
+    take_all _ (drop 1 c.split_at.result.1.now) (omega (arith, length-drop 1 c.split_at.result.1.now)) ∙ ap (drop 1) back ∙ drop-drop 1 end rest in
+    record {
       ahead = λ next. c.lines.invariant.ahead next
           ∙ ap (λ (t : List ℕ). held c.lines.replies ++ t)
-          (output-cut languages g.A.Answers.mode [] c.lines.rest.now c.in-Some.line.now c.in-Some.later.now next (All-nil (λ (b : ℕ). b ≢ 10)) c.in-Some.ensures.0 c.in-Some.ensures.1)
-          ∙ sym (append_assoc (held c.lines.replies) (reply g.A.Answers.mode c.in-Some.line.now) (output g.A.Answers.mode (c.in-Some.later.now ++ next)));
-    })
+          (output-cut languages mode [] rest line later next (All-nil (λ (b : ℕ). b ≢ 10)) ends.before (ends.newline less))
+          ∙ sym (append_assoc (held c.lines.replies) (reply mode line) (output mode (later ++ next)))
+          ∙ (λ j. sym replied j ++ output mode (sym next_is j ++ next));
+    }
+
+pub returns-clause-one_line : goal.returns-clause-one_line
+returns-clause-one_line g c =
+    let rest = c.lines.rest.now in
+    let whole : IsOneLine rest = subst IsOneLine (take_all c.line_end-end.result rest (omega (arith, c.if-end-rest.true))) c.line_end-end.ensures.before in
+    grown c.extend_from_slice.result c.extend_from_slice.new.self.items c.args.pending.now.items rest c.extend_from_slice.ensures.items c.requires whole
+  where
+    grown : {T E : Type 0} (r : Result T E) (new old more : List ℕ) → new ≡ (if is_ok r then old ++ more else old) → old ≡ [] → IsOneLine more → OnOk r (IsOneLine new)
+    grown (Ok x) new old more e none h = subst IsOneLine (sym (e ∙ ap (λ (t : List ℕ). t ++ more) none)) h
+    grown (Err x) new old more e none h = tt

@@ -1,11 +1,11 @@
 use Rattle.std.proofs.Common.{◌≡◌, sym, ◌∙◌, arith}
 use Rattle.memchr.specs.Find.{is_byte}
-use Rattle.iloc_lines.proofs.EndLemmas.{first_end, none_passes}
+use Rattle.iloc_lines.proofs.EndLemmas.{end_there, first_end, none_passes}
 use Rattle.iloc_lines.proofs.lines.line_end.Goals as goal
 use Rattle.iloc_lines.proofs.lines.line_end.Goals.{then-bytes-ge32+else-ends-gt0, else-bytes-ge32}
 
 pub returns-then-ends-gt0 : goal.returns-then-ends-gt0
-returns-then-ends-gt0 c = first_end c.args.bytes.now (omega arith) _ c.line_ends-ends.ensures (omega arith)
+returns-then-ends-gt0 c = end_there c.args.bytes.now _ (first_end c.args.bytes.now (omega arith) _ c.line_ends-ends.ensures (omega arith))
 
 pub line_end_later-requires : goal.line_end_later-requires
 line_end_later-requires c = elim c.if-bytes-ge32.branch [

@@ -1,21 +1,11 @@
 use Rattle.std.proofs.Common.{ℕ, List, ◌≡◌, ◌++◌, OnOk, subst, sym, ◌∙◌, take}
-use Rattle.iloc_spec_grammar.specs.Values.{identifier_text}
-use Rattle.iloc_plain.specs.Plain.{value_of}
 use Rattle.iloc_subtags.specs.declared.parse_error.ParseError.TheVariants.{InvalidLanguage}
 use Rattle.iloc_lines.specs.ReplyBlock.{held}
 use Rattle.iloc_lines.specs.Told.{IsRefused}
 use Rattle.iloc_lines.specs.declared.Mode.{Mode}
 use Rattle.iloc_lines.proofs.FrontAnswers.{no_language_refused}
-use Rattle.iloc_lines.proofs.PlainAnswers.{plain_normal}
-use Rattle.iloc_lines.proofs.PlainLemmas.{normal_reply, refused_reply}
+use Rattle.iloc_lines.proofs.PlainLemmas.{refused_reply}
 use Rattle.iloc_lines.proofs.lines.reply_to.Goals as goal
-
-pub returns-in-Some : goal.returns-in-Some
-returns-in-Some g c =
-    let mode = g.A.Answers.mode in
-    let line = take c.args.len c.args.window.now in
-    subst (λ (t : List ℕ). OnOk c.push_plain.result (held c.push_plain.new.self ≡ held c.args.replies.now ++ t))
-    (normal_reply mode line (identifier_text (value_of c.in-Some.plain)) (plain_normal mode line c.in-Some.plain c.in-Some.ensures)) c.push_plain.ensures
 
 pub returns-then-not-may_begin : goal.returns-then-not-may_begin
 returns-then-not-may_begin g c =

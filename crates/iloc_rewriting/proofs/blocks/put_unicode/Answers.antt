@@ -5,7 +5,7 @@ use Rattle.iloc_fronts.specs.Left.{pieces_of}
 use Rattle.iloc_fronts.specs.declared.left.Left.{Left}
 use Rattle.iloc_rewriting.specs.Rewriting.{AreFieldsInOrder}
 use Rattle.iloc_rewriting.specs.declared.keywords.KeyKind.TheVariants as kind
-use Rattle.iloc_rewriting.proofs.LineLemmas.{no_fields, unicode_in_order}
+use Rattle.iloc_rewriting.proofs.UnicodeLemmas.{no_fields, unicode_in_order}
 use Rattle.iloc_rewriting.proofs.blocks.put_unicode.Goals as goal
 use Rattle.iloc_rewriting.proofs.blocks.put_unicode.Goals.{in-Some+in_ok-stored-in-Some, in-None}
 

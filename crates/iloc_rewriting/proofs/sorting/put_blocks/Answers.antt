@@ -1,13 +1,20 @@
-use Rattle.std.proofs.Common.{◌≡◌, ℕ, [], ◌∷◌, ◌++◌, List, Some, take, refl, sym, subst, arith}
-use Rattle.std.proofs.lemmas.Option.{IfSome_then}
-use Rattle.iloc_spec_grammar.proofs.PiecesLaws.{pieces_hyphen_free}
+use Rattle.std.proofs.Common.{◌≡◌, ℕ, [], ◌∷◌, ◌++◌, List, get_or, take, false, sym, ap, ◌∙◌, subst, arith}
+use Rattle.std.specs.Char.{is_ascii_alphanumeric}
+use Rattle.std.proofs.lemmas.Result.{err_from_is_err_and}
+use Rattle.iloc_spec_grammar.specs.Reading.{rest_of}
 use Rattle.iloc_blocks.specs.Blocks.{left_of}
+use Rattle.iloc_blocks.specs.Bodies.{HaveBad}
+use Rattle.iloc_blocks.specs.declared.bad_block.BadBlock.TheVariants as bad
+use Rattle.iloc_blocks.proofs.BadBlocks.{lower_letter}
+use Rattle.iloc_blocks.proofs.FaultLemmas.{no_letter}
 use Rattle.iloc_fronts.specs.Left.{pieces_of}
-use Rattle.iloc_rewriting.specs.Rewriting.{AreStored, BeginsBlock}
-use Rattle.iloc_rewriting.specs.Sorting.{AreBlocksSoFar}
-use Rattle.iloc_rewriting.proofs.RewritingLemmas.{dashes_pieces}
-use Rattle.iloc_rewriting.proofs.StoredLemmas.{stored_none}
-use Rattle.iloc_rewriting.proofs.SortingLemmas.{behind, blocks_end, blocks_more, blocks_none, less_left, starts_left}
+use Rattle.iloc_fronts.proofs.LeftLemmas.{block_left}
+use Rattle.iloc_rewriting.specs.Rewriting.{BeginsBlock}
+use Rattle.iloc_rewriting.specs.Sorting.{AreBlocksSoFar, singletons_of}
+use Rattle.iloc_rewriting.proofs.BodyLemmas.{shorter}
+use Rattle.iloc_rewriting.proofs.RewritingLemmas.{cut_left}
+use Rattle.iloc_rewriting.proofs.SortingLemmas.{bad_so_far, behind, blocks_last, blocks_more, blocks_none, err_then, ok_then, private_end, unseen_x}
+use Rattle.iloc_rewriting.proofs.StoredLemmas.{max_first, max_second}
 use Rattle.iloc_rewriting.proofs.sorting.put_blocks.Goals as goal
 
 pub following-init : goal.following-init
@@ -19,32 +26,48 @@ following-init c = record {
   far = blocks_none c.args.room.now c.args.start (pieces_of c.args.left) (omega (arith, c.requires.room));
 }
 
-pub returns-then-singleton-eq120 : goal.returns-then-singleton-eq120
-returns-then-singleton-eq120 c =
+pub returns-then-singleton-eq120-clause-ok : goal.returns-then-singleton-eq120-clause-ok
+returns-then-singleton-eq120-clause-ok c =
+    let h = c.following.invariant in
+    ok_then c.put_private.result c.put_private.ensures.ok (private_end (take c.args.start c.args.room.now) (pieces_of c.args.left) c.following.at c.args.start c.following.end c.following.last c.following.room c.put_private.new.room
+    h.left h.block h.far)
+
+pub returns-then-singleton-eq120-clause-err : goal.returns-then-singleton-eq120-clause-err
+returns-then-singleton-eq120-clause-err c =
+    let h = c.following.invariant in
+    err_then c.put_private.result (c.put_private.ensures.err (singletons_of h.far.new) (unseen_x h.far.new h.far.held.each))
+    (bad_so_far (take c.args.start c.args.room.now) (pieces_of c.args.left) (pieces_of c.following.at) c.args.start c.following.end c.following.last c.following.room h.far)
+
+pub returns-then-not-is_ascii_alphanumeric-clause-err : goal.returns-then-not-is_ascii_alphanumeric-clause-err
+returns-then-not-is_ascii_alphanumeric-clause-err c =
     let l = c.following.at in
     let h = c.following.invariant in
-    IfSome_then c.put_left.result c.put_left.ensures (λ n a. blocks_end (take c.args.start c.args.room.now) (pieces_of c.args.left) (pieces_of l) c.args.start c.following.end c.following.room c.put_left.new.room n h.far
-    (starts_left (Some l) (h.left, h.block)) (pieces_hyphen_free (take l.len l.window.now))
-    (subst (λ (t : List ℕ). AreStored c.put_left.new.room (take c.following.end c.following.room ++ t) n) (sym (dashes_pieces (take l.len l.window.now))) a))
+    let byte = get_or l.window.now 0 0 in
+    let none : is_ascii_alphanumeric byte ≡ false = sym (lower_letter byte) ∙ ap is_ascii_alphanumeric (sym c.to_ascii_lowercase-singleton.ensures.value) ∙ sym c.is_ascii_alphanumeric.ensures.value ∙ c.if-not-is_ascii_alphanumeric.true in
+    h.far.bad bad.Misfit (subst (λ (ps : List (List ℕ)). HaveBad (singletons_of h.far.new) ps bad.Misfit) (sym (block_left l h.left h.block (rest_of (pieces_of l)) (cut_left l h.left)))
+    (no_letter (singletons_of h.far.new) byte (rest_of (pieces_of l)) none))
 
-pub returns-in_default : goal.returns-in_default
-returns-in_default c =
-    let s = c.in_ok-stored.stored in
+pub returns-in_err-stored-clause-err : goal.returns-in_err-stored-clause-err
+returns-in_err-stored-clause-err c =
+    let h = c.following.invariant in
+    let p = err_from_is_err_and c.from_residual.result c.from_residual.ensures.1 in
+    rw (p.1, p.2) (bad_so_far (take c.args.start c.args.room.now) (pieces_of c.args.left) (pieces_of c.following.at) c.args.start c.following.end c.following.last c.following.room h.far c.in_err-stored.field-0.0
+    (c.in_err-stored.ensures.err (take c.args.start c.args.room.now) h.far.new h.far.held h.far.none_above))
+
+pub returns-in_default-clause-ok : goal.returns-in_default-clause-ok
+returns-in_default-clause-ok c =
     let h = c.following.invariant in
     let text = take c.args.start c.args.room.now in
-    let ps = pieces_of c.args.left in
-    let among = c.in_ok-stored.ensures text h.far.new h.far.held in
-    let far = blocks_more text ps (pieces_of c.following.at) c.args.start c.following.end c.following.room c.put_among.new.room s h.far among in
-    blocks_end text ps [] c.args.start s.end c.put_among.new.room c.put_among.new.room s.end
-    (subst (λ o. AreBlocksSoFar text ps c.args.start s.end c.put_among.new.room (left_of o)) c.in_default.is far) refl tt (stored_none c.put_among.new.room s.end among.stored.more)
+    blocks_last text (pieces_of c.args.left) (pieces_of c.following.at) c.args.start c.following.end c.following.last c.to_ascii_lowercase-singleton.result c.following.room c.put_among.new.room c.in_ok-stored.stored h.far
+    (c.in_ok-stored.ensures.ok text h.far.new h.far.held h.far.none_above) c.in_default.is
 
 pub following-smaller : goal.following-smaller
 following-smaller c =
     let s = c.in_ok-stored.stored in
     let h = c.following.invariant in
-    let among = c.in_ok-stored.ensures (take c.args.start c.args.room.now) h.far.new h.far.held in
-    less_left c.following.at c.in-Some.next among.byte among.body h.left (subst BeginsBlock c.in-Some.is among.left).0
-    (subst (λ o. pieces_of c.following.at ≡ (among.byte ∷ []) ∷ (among.body ++ left_of o)) c.in-Some.is among.is)
+    let among = c.in_ok-stored.ensures.ok (take c.args.start c.args.room.now) h.far.new h.far.held h.far.none_above in
+    shorter c.following.at c.in-Some.next ((among.new.0 ∷ []) ∷ among.block.body) h.left (subst BeginsBlock c.in-Some.is among.block.left).0 (λ e. cc)
+    (subst (λ o. pieces_of c.following.at ≡ (among.new.0 ∷ []) ∷ (among.block.body ++ left_of o)) c.in-Some.is among.block.cut)
 
 pub following-preserved : goal.following-preserved
 following-preserved c =
@@ -52,13 +75,15 @@ following-preserved c =
     let h = c.following.invariant in
     let text = take c.args.start c.args.room.now in
     let ps = pieces_of c.args.left in
-    let among = c.in_ok-stored.ensures text h.far.new h.far.held in
-    let next = subst BeginsBlock c.in-Some.is among.left in
-    let far = blocks_more text ps (pieces_of c.following.at) c.args.start c.following.end c.following.room c.put_among.new.room s h.far among in
+    let singleton = c.to_ascii_lowercase-singleton.result in
+    let last = c.max-last.result in
+    let among = c.in_ok-stored.ensures.ok text h.far.new h.far.held h.far.none_above in
+    let next = subst BeginsBlock c.in-Some.is among.block.left in
+    let far = blocks_more text ps (pieces_of c.following.at) c.args.start c.following.end c.following.last singleton c.following.room c.put_among.new.room s h.far among last (rw c.max-last.ensures (max_first c.following.last singleton)) (rw c.max-last.ensures (max_second c.following.last singleton)) in
     record {
       left = next.0;
       block = next.1;
       more = among.stored.more;
-      start = behind text ps (left_of s.next) c.args.start s.end c.put_among.new.room (omega (arith, among.stored.more)) far;
-      far = subst (λ o. AreBlocksSoFar text ps c.args.start s.end c.put_among.new.room (left_of o)) c.in-Some.is far;
+      start = behind text ps (left_of s.next) c.args.start s.end last c.put_among.new.room (omega (arith, among.stored.more)) far;
+      far = subst (λ o. AreBlocksSoFar text ps c.args.start s.end last c.put_among.new.room (left_of o)) c.in-Some.is far;
     }

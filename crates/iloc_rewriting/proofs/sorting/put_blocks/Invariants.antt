@@ -10,7 +10,7 @@ invariant-following l = record {
   block : l.at.n ≡ 1;
   more : l.end + 16 ≤ length l.room;
   start : l.start ≤ l.end;
-  far : AreBlocksSoFar (take l.fn.start l.fn.room) (pieces_of l.fn.left) l.start l.end l.room (pieces_of l.at);
+  far : AreBlocksSoFar (take l.fn.start l.fn.room) (pieces_of l.fn.left) l.start l.end l.last l.room (pieces_of l.at);
 }
 
 abbrev pub decreases-following : goal.decreases-following
