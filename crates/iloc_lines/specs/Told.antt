@@ -10,7 +10,7 @@ use Rattle.iloc_blocks.specs.declared.bad_block.BadBlock.{BadBlock}
 use Rattle.iloc_blocks.specs.declared.bad_block.BadBlock.TheVariants as bad
 use Rattle.iloc_lines.specs.Answers.{IsNormalText, IsFaulty}
 use Rattle.iloc_lines.specs.declared.Mode.{Mode}
-use Rattle.iloc_lines.specs.declared.Mode.TheVariants.{Locale}
+use Rattle.iloc_lines.specs.declared.Mode.TheVariants.{Locale, Data}
 use Rattle.iloc_lines.specs.declared.told.Lead.{Lead}
 use Rattle.iloc_lines.specs.declared.told.Lead.TheVariants as lead
 use Rattle.iloc_lines.specs.declared.told.Told.{Told}
@@ -31,6 +31,7 @@ IsLead mode t (lead.Refused e) = IsRefused mode t e
 IsLead mode t (lead.Variant n) = ⊤
 IsLead mode t (lead.Blocks n) = mode ≡ Locale
 IsLead mode t (lead.AfterVariants n) = mode ≡ Locale
+IsLead mode t (lead.Subdivision n m) = mode ≡ Data
 IsLead mode t lead.Nothing = ⊤
 
 -- in the mode, the normal text is that of a plain identifier, and what follows it in lower case
