@@ -1,6 +1,6 @@
 -- The keyword `sd`, its value, and what that names.
 use Rattle.std.proofs.Common.{◌≡◌, ◌≢◌, ◌⊎◌, inl, inr, ℕ, zero, suc, ◌+◌, ◌-◌, ◌<◌, ◌≤◌, ◌==◌, Bool, true, false, cond, not, ◌&&◌, List, [], ◌∷◌, ◌++◌, length, get_or, take, drop, codes, Option, None, Some, take-append-drop, refl, sym, ap, ◌∙◌, arith}
-use Rattle.std.specs.Prelude.{if◌then◌else◌, option_and_then, ok_or, Err}
+use Rattle.std.specs.Prelude.{if◌then◌else◌, option_and_then, ok_or, Err, Ok, Result}
 use Rattle.std.specs.Int.{is_in_range}
 use Rattle.std.specs.Char.{is_ascii_alphabetic, is_ascii_alphanumeric, to_ascii_lowercase}
 use Rattle.std.specs.Result.{result_ok}
@@ -10,7 +10,7 @@ use Rattle.std.proofs.lemmas.Bool.Decides.{nat_tests}
 use Rattle.std.proofs.lemmas.List.{drop-take, get_or-take, length-drop, length-map, length-take, length-take-le, map-append, take-take}
 use Rattle.std.proofs.lemmas.List.Folds.{list_all-append}
 use Rattle.iloc_spec_grammar.specs.Syntax.{pieces, join, Attribute, Region, Subtag, SubdivisionSuffix, IsHyphenFree, normal, is_word, IsWord, is_same, is_true, letters_or_digits, lower, upper, word}
-use Rattle.iloc_spec_grammar.specs.Meaning.{normal_values}
+use Rattle.iloc_spec_grammar.specs.Meaning.{Fault, normal_values}
 use Rattle.iloc_spec_grammar.specs.Meaning as faults
 use Rattle.iloc_spec_grammar.specs.Reading.{first_item}
 use Rattle.iloc_spec_grammar.proofs.PiecesLaws.{pieces-join}
@@ -19,7 +19,7 @@ use Rattle.iloc_spec_grammar.proofs.MapLaws.{same_is}
 use Rattle.iloc_spec_grammar.proofs.WordsLaws.{is_word-lower, length-attribute, is_word-normal, lower-lower, lower-upper, normal-normal}
 use Rattle.iloc_spec_parts.specs.SmallComputing.{is_u}
 use Rattle.iloc_spec_preferences.specs.DataLocales.{named_subdivision, whole}
-use Rattle.iloc_spec_preferences.specs.Subdivisions.{Subdivision, both_words, region_length, subdivision_text}
+use Rattle.iloc_spec_preferences.specs.Subdivisions.{Subdivision, both_words, region_length, subdivision, subdivision_text}
 use Rattle.iloc_spec_preferences.proofs.SubdivisionLaws.{subdivision_back}
 use Rattle.iloc_lines.specs.Subdivisions.{IsSubdivisionBlock, value_named}
 
@@ -147,6 +147,21 @@ and-true false = refl
 length-lower : (p : List ℕ) → length (lower p) ≡ length p
 unfolding lower
 length-lower p = length-map p to_ascii_lowercase
+
+-- what a value that names a subdivision is read as
+pub named_read : (v : List ℕ) (s : Subdivision) → value_named v ≡ Some s → (is_true (lower v) ≡ false) × (subdivision (lower v) ≡ Ok s)
+named_read v s e = either (is_true (lower v)) refl
+  where
+    either : (b : Bool) → is_true (lower v) ≡ b → (is_true (lower v) ≡ false) × (subdivision (lower v) ≡ Ok s)
+    either true holds = absurd (none_is_some (sym (by_true v true holds) ∙ e))
+      where
+        none_is_some : ◌≡◌ {A = Option Subdivision} None (Some s) → ⊥
+        none_is_some e = cc
+    either false fails = (fails, of_result (subdivision (lower v)) (sym (by_true v false fails) ∙ e))
+      where
+        of_result : (r : Result Subdivision Fault) → result_ok r ≡ Some s → r ≡ Ok s
+        of_result (Ok x) e = cc
+        of_result (Err f) e = cc
 
 -- ---- a value in a window
 

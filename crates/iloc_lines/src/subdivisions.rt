@@ -33,7 +33,9 @@ pub(crate) fn tell_subdivision(window: &[u8], len: usize, at: usize, start: usiz
     if start <= at || start >= len || window[start - 1] != b'-' {
         return Told::Nothing;
     }
-    if !has_subdivision(&window[start..], len - start) {
+    let block = &window[start..];
+    let left = len - start;
+    if !has_subdivision(block, left) {
         return Told::Nothing;
     }
     let Some(line) = cut_at(window, len, at) else {
@@ -43,7 +45,7 @@ pub(crate) fn tell_subdivision(window: &[u8], len: usize, at: usize, start: usiz
     if between > 0 && !is_one_variant(&window[at + 1..], between - 1) {
         return Told::Nothing;
     }
-    let Some(named) = name_of(&window[start + 5..], len - start - 5) else {
+    let Some(named) = name_of(&block[5..], left - 5) else {
         return Told::Refused(ParseError::InvalidExtension);
     };
     let Some(region) = line.plain.region() else {
