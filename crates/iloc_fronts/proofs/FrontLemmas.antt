@@ -21,10 +21,10 @@ use Rattle.iloc_fronts.specs.declared.front.Front.TheVariants as front
 -- ---- the first piece, by the bytes before the first hyphen
 
 -- no hyphen is among the first n bytes
-abbrev Free : ℕ → List ℕ → Type 0
+abbrev pub Free : ℕ → List ℕ → Type 0
 Free n t = (i : ℕ) → i < n → is_other is_hyphen (get_or t i 0) ≡ true
 
-is_no : (b : Bool) → not b ≡ true → b ≡ false
+pub is_no : (b : Bool) → not b ≡ true → b ≡ false
 is_no true e = sym e
 is_no false e = refl
 
@@ -32,10 +32,10 @@ is_yes : (b : Bool) → not b ≡ false → b ≡ true
 is_yes true e = refl
 is_yes false e = sym e
 
-later : (n c : ℕ) (t : List ℕ) → Free (suc n) (c ∷ t) → Free n t
+pub later : (n c : ℕ) (t : List ℕ) → Free (suc n) (c ∷ t) → Free n t
 later n c t h i l = h (suc i) (omega arith)
 
-go_on : (n c : ℕ) (t : List ℕ) → Free (suc n) (c ∷ t) → slice_split is_hyphen (c ∷ t) ≡ onto_first c (slice_split is_hyphen t)
+pub go_on : (n c : ℕ) (t : List ℕ) → Free (suc n) (c ∷ t) → slice_split is_hyphen (c ∷ t) ≡ onto_first c (slice_split is_hyphen t)
 go_on n c t h = slice_split-cons_no is_hyphen c t (is_no _ (h 0 (omega arith)))
 
 cut_at : (k : ℕ) (t : List ℕ) → k < length t → Free k t → is_other is_hyphen (get_or t k 0) ≡ false
@@ -49,37 +49,45 @@ uncut : (t : List ℕ) → Free (length t) t → slice_split is_hyphen t ≡ t �
 uncut [] h = refl
 uncut (c ∷ t) h = go_on (length t) c t h ∙ ap (onto_first c) (uncut t (later (length t) c t h))
 
-first_onto : (c : ℕ) (ps : List (List ℕ)) → length (first_piece (onto_first c ps)) ≡ suc (length (first_piece ps))
+pub first_onto : (c : ℕ) (ps : List (List ℕ)) → length (first_piece (onto_first c ps)) ≡ suc (length (first_piece ps))
 first_onto c [] = refl
 first_onto c (p ∷ ps) = refl
 
-goes_far : (k : ℕ) (t : List ℕ) → k ≤ length t → Free k t → k ≤ length (first_piece (slice_split is_hyphen t))
+pub goes_far : (k : ℕ) (t : List ℕ) → k ≤ length t → Free k t → k ≤ length (first_piece (slice_split is_hyphen t))
 goes_far zero t l h = omega arith
 goes_far (suc k) [] l h = absurd (omega arith)
 goes_far (suc k) (c ∷ t) l h =
     omega (arith, ap (λ ps. length (first_piece ps)) (go_on k c t h) ∙ first_onto c (slice_split is_hyphen t), goes_far k t (omega arith) (later k c t h))
 
--- n is the lesser of the line's length and of the bytes before the first hyphen of the window
-pub first_is : (w : List ℕ) (len k n : ℕ) → 16 ≤ length w → len ≤ length w → IsRun (is_other is_hyphen) w k
-    → n ≤ len → n ≤ k → (n < len → n ≡ k) → IsFirst (take len w) n
+-- n bytes come before the first hyphen of what the line has
+pub first_by : (w : List ℕ) (len n : ℕ) → len ≤ length w → n ≤ len → n ≤ 16
+    → ((i : ℕ) → i < n → is_other is_hyphen (get_or w i 0) ≡ true)
+    → (n < len → n < 16 → is_other is_hyphen (get_or w n 0) ≡ false) → IsFirst (take len w) n
 unfolding pieces
-first_is w len k n wide inside r few less least =
+first_by w len n inside less few pass ends =
     let t = take len w in
     let long : length t ≡ len = length-take-le len w inside in
     let free : Free n t = λ i early.
     let there : i < len = omega arith in
-    ap (is_other is_hyphen) (get_or-take len w i 0 there) ∙ r.pass i (omega arith) in
+    ap (is_other is_hyphen) (get_or-take len w i 0 there) ∙ pass i early in
     record {
       within = omega arith;
-      few = omega (arith, r.few);
+      few = few;
       cut = λ more short.
           let there : n < len = omega arith in
-          let same : n ≡ k = least there in
-          let end : k < 16 = omega arith in
-          cut_at n t more free (ap (is_other is_hyphen) (get_or-take len w n 0 there ∙ ap (λ i. get_or w i 0) same) ∙ r.ends end);
+          cut_at n t more free (ap (is_other is_hyphen) (get_or-take len w n 0 there) ∙ ends there short);
       last = λ short whole. uncut t (subst (λ (m : ℕ). Free m t) whole free);
       long = λ sixteen. subst (λ (m : ℕ). m ≤ length (first_piece (slice_split is_hyphen t))) sixteen (goes_far n t (omega arith) free);
     }
+
+-- n is the lesser of the line's length and of the bytes before the first hyphen of the window
+pub first_is : (w : List ℕ) (len k n : ℕ) → 16 ≤ length w → len ≤ length w → IsRun (is_other is_hyphen) w k
+    → n ≤ len → n ≤ k → (n < len → n ≡ k) → IsFirst (take len w) n
+first_is w len k n wide inside r few less least =
+    first_by w len n inside few (omega (arith, r.few)) (λ i early. r.pass i (omega arith))
+    (λ more short.
+        let same : n ≡ k = least more in
+        ap (λ i. is_other is_hyphen (get_or w i 0)) same ∙ r.ends (omega arith))
 
 -- ---- words among the pieces
 
@@ -98,6 +106,9 @@ values_later p ps = by (is_true (lower p))
 
 pub values_word : (p : List ℕ) (ps : List (List ℕ)) → is_true (lower p) ≡ false → length (normal_values (p ∷ ps)) ≡ suc (length (normal_values ps))
 values_word p ps e = ap (λ (b : Bool). length (cond (not b) (lower p ∷ normal_values ps) (normal_values ps))) e
+
+pub values_true : (p : List ℕ) (ps : List (List ℕ)) → is_true (lower p) ≡ true → normal_values (p ∷ ps) ≡ normal_values ps
+values_true p ps e = ap (λ (b : Bool). cond (not b) (lower p ∷ normal_values ps) (normal_values ps)) e
 
 -- no word of the kind has more than eight bytes
 abbrev pub IsShort : Kind → Type 0
@@ -131,7 +142,7 @@ short_attribute p h = (length-attribute p h).1
 pub short_variant : IsShort Variant
 short_variant p h = (length-variant p h).1
 
-too_long : (k : Kind) → IsShort k → (p : List ℕ) → 8 < length p → is_word k p ≡ false
+pub too_long : (k : Kind) → IsShort k → (p : List ℕ) → 8 < length p → is_word k p ≡ false
 too_long k short p more = elim (cases_Bool (is_word k p)) [
   | inl fits ↦ absurd (omega (arith, short p fits))
   | inr fails ↦ fails

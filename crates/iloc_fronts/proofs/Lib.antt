@@ -2,6 +2,7 @@ pub mod RunLemmas
 pub mod RunWords
 pub mod FrontLemmas
 pub mod LeftLemmas
-pub mod DataKeywordLemmas
+pub mod AttributeLemmas
+pub mod KeyLemmas
 pub mod WordBytes
 pub mod WordNumbers

@@ -1,12 +1,12 @@
 -- From a mask of sixteen bytes to those that come first.
-use Rattle.std.proofs.Common.{◌≡◌, ℕ, ◌%◌, ◌^◌, ◌<◌, ◌≤◌, Bool, true, false, not, List, [], ◌∷◌, length, map, get_or, take, Fits, w8, refl, sym, ap, ◌∙◌, arith}
+use Rattle.std.proofs.Common.{◌≡◌, ℕ, ◌+◌, ◌*◌, ◌/◌, ◌%◌, ◌^◌, ◌<◌, ◌≤◌, Bool, true, false, cond, not, List, [], ◌∷◌, ◌++◌, length, map, get_or, take, drop, Fits, w8, refl, sym, ap, ◌∙◌, arith, length-append}
 use Rattle.std.specs.List.{prefix_len}
 use Rattle.std.proofs.lemmas.Bool.{agree_below, agree_below_at}
-use Rattle.std.proofs.lemmas.List.{length-map, length-take-le, get_or-take}
+use Rattle.std.proofs.lemmas.List.{length-map, length-take-le, get_or-take, get_or_append_left, map-append}
 use Rattle.std.proofs.lemmas.List.Sums.{prefix_len_passes, prefix_len_stops, prefix_len-le-length}
 use Rattle.std.proofs.lemmas.Simd.{map-map, mask_l-mod}
 use lib.Lanes.{mask_l, top, Each1}
-use Rattle.iloc_fronts.specs.Run.{IsRun}
+use Rattle.iloc_fronts.specs.Run.{IsRun, IsRunOf}
 
 -- two tests that agree on the 256 bytes
 same_map : (q r : ℕ → Bool) (v : List ℕ) → Each1 (Fits w8) v → agree_below q r 256 ≡ true → map q v ≡ map r v
@@ -43,3 +43,45 @@ run_is p q w n wide same e =
 pub twice : (b : Bool) → not (not b) ≡ b
 twice true = refl
 twice false = refl
+
+-- ---- after three bytes
+
+-- marks of bytes that are added and not marked change nothing
+unmarked : (ms : List Bool) → mask_l (ms ++ false ∷ false ∷ false ∷ []) ≡ mask_l ms
+unmarked [] = refl
+unmarked (m ∷ ms) = ap (λ n. cond m 1 0 + 2 * n) (unmarked ms)
+
+eighth : (a b c : Bool) (n : ℕ) → (cond a 1 0 + 2 * (cond b 1 0 + 2 * (cond c 1 0 + 2 * n))) / 2 ^ 3 ≡ n
+eighth true true true n = omega arith
+eighth true true false n = omega arith
+eighth true false true n = omega arith
+eighth true false false n = omega arith
+eighth false true true n = omega arith
+eighth false true false n = omega arith
+eighth false false true n = omega arith
+eighth false false false n = omega arith
+
+-- thirteen bytes, and three that no test marks
+abbrev pub padded : List ℕ → List ℕ
+padded w = take 13 w ++ 97 ∷ 97 ∷ 97 ∷ []
+
+pub length-padded : (w : List ℕ) → 13 ≤ length w → length (padded w) ≡ 16
+length-padded w wide = length-append (take 13 w) (97 ∷ 97 ∷ 97 ∷ []) ∙ ap (λ n. n + 3) (length-take-le 13 w wide)
+
+pub later_mask : (p : ℕ → Bool) → p 97 ≡ false → (w : List ℕ) → 16 ≤ length w → mask_l (map p (take 16 w)) / 2 ^ 3 ≡ mask_l (map p (padded (drop 3 w)))
+later_mask p none [] l = absurd (omega arith)
+later_mask p none (a ∷ []) l = absurd (omega arith)
+later_mask p none (a ∷ b ∷ []) l = absurd (omega arith)
+later_mask p none (a ∷ b ∷ c ∷ w) l =
+    eighth (p a) (p b) (p c) (mask_l (map p (take 13 w))) ∙ sym (unmarked (map p (take 13 w)))
+    ∙ sym (ap mask_l (map-append p (take 13 w) (97 ∷ 97 ∷ 97 ∷ []) ∙ ap (λ (m : Bool). map p (take 13 w) ++ m ∷ m ∷ m ∷ []) none))
+
+-- a run of these is one of thirteen bytes
+pub later_run : (q : ℕ → Bool) (w : List ℕ) (n : ℕ) → 13 ≤ length w → IsRun q (padded w) n → IsRunOf 13 q w n
+later_run q w n wide r = record {
+  pass = λ i less few. sym (ap q (same i few)) ∙ r.pass i less;
+  ends = λ few. sym (ap q (same n few)) ∙ r.ends (omega arith);
+}
+  where
+    same : (i : ℕ) → i < 13 → get_or (padded w) i 0 ≡ get_or w i 0
+    same i few = get_or_append_left (take 13 w) (97 ∷ 97 ∷ 97 ∷ []) 0 i (omega (arith, length-take-le 13 w wide)) ∙ get_or-take 13 w i 0 few

@@ -9,12 +9,12 @@ use Rattle.std.proofs.lemmas.List.{length-take-le}
 use Rattle.iloc_spec_grammar.specs.Syntax.{Attribute, Language, Script, Region, Subtag, TransformKey, UnicodeKey, Variant, is_word, letters, digits, letters_or_digits, languages}
 use Rattle.iloc_fronts.specs.Run.{IsRun}
 
-all_pass : (p : ℕ → Bool) (n : ℕ) (w : List ℕ) → n ≤ length w → ((i : ℕ) → i < n → p (get_or w i 0) ≡ true) → list_all p (take n w) ≡ true
+pub all_pass : (p : ℕ → Bool) (n : ℕ) (w : List ℕ) → n ≤ length w → ((i : ℕ) → i < n → p (get_or w i 0) ≡ true) → list_all p (take n w) ≡ true
 all_pass p zero w l h = refl
 all_pass p (suc n) [] l h = absurd (omega arith)
 all_pass p (suc n) (b ∷ w) l h = ap (λ a. a && list_all p (take n w)) (h 0 (omega arith)) ∙ all_pass p n w (omega arith) (λ i less. h (suc i) (omega arith))
 
-and-false : (b : Bool) → (b && false) ≡ false
+pub and-false : (b : Bool) → (b && false) ≡ false
 and-false true = refl
 and-false false = refl
 

@@ -15,3 +15,8 @@ pub record IsRun (p : ℕ → Bool) (w : Text) (n : ℕ) : Type 0 where
   pub few : n ≤ 16
   pub pass : (i : ℕ) → i < n → p (get_or w i 0) ≡ true
   pub ends : n < 16 → p (get_or w n 0) ≡ false
+
+-- n of the first m bytes pass the test one after the other, and then one fails; if all pass, n is m or more
+pub record IsRunOf (m : ℕ) (p : ℕ → Bool) (w : Text) (n : ℕ) : Type 0 where
+  pub pass : (i : ℕ) → i < n → i < m → p (get_or w i 0) ≡ true
+  pub ends : n < m → p (get_or w n 0) ≡ false

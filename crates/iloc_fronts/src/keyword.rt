@@ -1,10 +1,33 @@
 //! Tells what keyword follows the singleton of a block.
-ghost use Rattle.std.specs.Prelude.{◌≡◌, ◌+◌, ◌≤◌, ◌≢◌, false, length, take, codes, IsTrue};
-ghost use Rattle.iloc_spec_grammar.specs.Syntax.{Attribute, IsWord, pieces, lower};
-ghost use Rattle.iloc_fronts.specs.Keyword.{AreValues, IsKeywordOf, IsUnreadable, after_singleton};
+ghost use Rattle.std.specs.Prelude.{
+  ◌≡◌,
+  ◌+◌,
+  ◌≤◌,
+  [],
+  ◌∷◌,
+  MatchOption,
+  true,
+  false,
+  length,
+  take,
+  get_or,
+};
+ghost use Rattle.std.specs.Char.{is_ascii_alphanumeric};
+ghost use Rattle.std.specs.List.{list_all};
+ghost use Rattle.iloc_spec_grammar.specs.Syntax.{
+  Attribute,
+  first_piece,
+  is_word,
+  pieces,
+};
+ghost use Rattle.iloc_spec_grammar.specs.Meaning.{normal_values};
+ghost use Rattle.iloc_fronts.specs.Front.{rest_of_block};
+ghost use Rattle.iloc_fronts.specs.Keyword.{IsFirstAttribute, IsKeywordOf, after_singleton};
+ghost use Rattle.iloc_fronts.specs.Run.{IsRunOf};
 
 use crate::front::{Block, first_len};
-use crate::words::{is_attribute, is_key, is_region, is_true};
+use crate::run::{alphanumerics_after_key, first_alphanumerics};
+use crate::words::{is_attribute, is_true, number_of_two};
 
 /// What follows a singleton.
 #[derive(Clone, Copy)]
@@ -13,38 +36,31 @@ pub enum Keyword {
     Attribute,
     /// A key, and among what follows it a piece that is no part of its value.
     Misfit,
-    /// A key and at most one piece, of its value; if the key is `sd`, the piece names no subdivision.
+    /// A key, and pieces of its value, of which at most one is not `true`. If the key is `sd`, none.
     Single,
     /// A key, and pieces of its value, of which two or more are not `true`.
     Many,
+    /// The key `sd`, and one piece. No clause says it: who uses it tests what it finds there.
+    Subdivision,
     /// Nothing that is told.
     Other,
 }
 
-// What the pieces that follow a key are.
-#[derive(Clone, Copy)]
-enum Values {
-    // One of them is no part of a value.
-    Misfit,
-    // One piece of a value.
-    Single,
-    // Pieces of a value, of which two or more are not `true`.
-    Many,
-    // Nothing that is told.
-    Other,
-}
+// The number of `sd`, as `number_of_two` has it.
+const SUBDIVISION: usize = 29_540;
 
 /// What follows the singleton of the block.
 #[inline(always)]
 pub fn read_keyword(block: Block<'_>) -> Keyword
-    requires { block.len + 16 ≤ length block.window.now }
+    requires room { block.len + 16 ≤ length block.window.now }
+    requires singleton { first_piece (pieces (rest_of_block block))
+        ≡ get_or block.window.now 0 0 ∷ [] }
     ensures { IsKeywordOf (after_singleton block.entry) result }
 {
-    let n = first_len(block.window, block.len);
-    if n == block.len || n != 1 {
+    if block.len < 2 {
         return Keyword::Other;
     }
-    keyword_of(&block.window[n + 1..], block.len - n - 1)
+    keyword_of(&block.window[2..], block.len - 2)
 }
 
 // What the first `len` bytes are.
@@ -53,95 +69,100 @@ fn keyword_of(window: &[u8], len: usize) -> Keyword
     requires { len + 16 ≤ length window.now }
     ensures { IsKeywordOf (pieces (take len window.now)) result }
 {
-    let n = first_len(window, len);
-    if is_attribute(window, n) {
+    let run = first_alphanumerics(window);
+    if run == 2 && len > 2 && window[2] == b'-' {
+        return keyword_with_values(window, len);
+    }
+    if first_attribute(window, len, run).is_some() {
         return Keyword::Attribute;
     }
-    if !is_key(window, n) {
-        return Keyword::Other;
-    }
-    if n == len {
+    if len == 2 && run >= 2 && window[1] > b'9' {
         return Keyword::Single;
     }
-    let is_other = is_other_key(window);
-    let value = &window[n + 1..];
-    let left = len - n - 1;
-    match values_of(value, left) {
-        Values::Misfit => Keyword::Misfit,
-        Values::Single => {
-            if is_other {
-                return Keyword::Single;
-            }
-            if is_subdivision(value, left) {
-                return Keyword::Other;
-            }
-            Keyword::Single
-        }
-        Values::Many => Keyword::Many,
-        Values::Other => Keyword::Other,
-    }
+    Keyword::Other
 }
 
-// Whether the first `n` bytes, a piece of a value, are a region and one to four bytes more, and not `true`.
+// The same if two letters or digits come first, and then a hyphen. They are a key if the second is no digit.
 #[inline(always)]
-fn is_subdivision(window: &[u8], n: usize) -> bool
-    requires wide { 16 ≤ length window.now }
-    requires word { IsWord Attribute (take n window.now) }
-    ensures { result ≡ false → IsUnreadable (take n window.now) }
+fn keyword_with_values(window: &[u8], len: usize) -> Keyword
+    requires room { len + 16 ≤ length window.now }
+    requires more { 3 ≤ len }
+    requires first { is_ascii_alphanumeric (get_or window.now 0 0) ≡ true }
+    requires second { is_ascii_alphanumeric (get_or window.now 1 0) ≡ true }
+    requires hyphen { get_or window.now 2 0 ≡ 45 }
+    ensures { IsKeywordOf (pieces (take len window.now)) result }
 {
-    if is_true(window, n) {
-        return false;
+    if window[1] <= b'9' {
+        return Keyword::Other;
     }
-    if window[0].is_ascii_alphabetic() {
-        if n > 6 {
-            return false;
+    let value = &window[3..];
+    let left = len - 3;
+    let Some(n) = first_attribute(value, left, alphanumerics_after_key(window)) else {
+        return Keyword::Misfit;
+    };
+    if n == left {
+        if number_of_two(window) == SUBDIVISION {
+            return Keyword::Subdivision;
         }
-        return is_region(window, 2);
+        return Keyword::Single;
     }
-    if n < 4 {
-        return false;
+    let Some(words) = count_words(&value[n + 1..], left - n - 1) else {
+        return Keyword::Misfit;
+    };
+    if words > 1 || words == 1 && !is_true(value, n) {
+        return Keyword::Many;
     }
-    if n > 7 {
-        return false;
+    if number_of_two(window) == SUBDIVISION {
+        return Keyword::Other;
     }
-    is_region(window, 3)
+    Keyword::Single
 }
 
-// Whether the first two bytes are not `sd`, in whatever case.
+// The length of the first piece, if it is an attribute or a piece of a value. Of thirteen bytes, so many letters and
+// digits come first.
 #[inline(always)]
-fn is_other_key(window: &[u8]) -> bool
-    requires { 16 ≤ length window.now }
-    ensures { IsTrue result → lower (take 2 window.now) ≢ codes "sd" }
+fn first_attribute(window: &[u8], len: usize, run: usize) -> Option<usize>
+    requires room { len + 16 ≤ length window.now }
+    requires run { IsRunOf 13 is_ascii_alphanumeric window.now run }
+    ensures { MatchOption result
+        (is_word Attribute (first_piece (pieces (take len window.now))) ≡ false)
+        (IsFirstAttribute window.now len) }
 {
-    window[0].to_ascii_lowercase() != b's' || window[1].to_ascii_lowercase() != b'd'
+    if run < len {
+        if run < 3 || run > 8 || window[run] != b'-' {
+            return None;
+        }
+        return Some(run);
+    }
+    if len < 3 || len > 8 {
+        return None;
+    }
+    Some(len)
 }
 
-// What the first `len` bytes are as pieces that follow a key.
+// How many of the pieces are not `true`, if all are of a value.
 #[inline(always)]
-fn values_of(window: &[u8], len: usize) -> Values
+fn count_words(window: &[u8], len: usize) -> Option<usize>
     requires { len + 16 ≤ length window.now }
-    ensures { AreValues (pieces (take len window.now)) result }
+    ensures { MatchOption result
+        (list_all (is_word Attribute) (pieces (take len window.now)) ≡ false)
+        (λ words. (list_all (is_word Attribute) (pieces (take len window.now)) ≡ true)
+            × (words ≡ length (normal_values (pieces (take len window.now))))) }
 {
     let mut rest = window;
     let mut left = len;
-    let mut is_first = true;
-    let mut has_word = false;
+    let mut words: usize = 0;
     let mut n = first_len(rest, left);
     'values: while is_attribute(rest, n) {
-        if n == left {
-            if is_first {
-                return Values::Single;
-            }
-            if has_word && !is_true(rest, n) {
-                return Values::Many;
-            }
-            return Values::Other;
+        if !is_true(rest, n) {
+            words += 1;
         }
-        has_word |= !is_true(rest, n);
+        if n == left {
+            return Some(words);
+        }
         rest = &rest[n + 1..];
         left = left - n - 1;
-        is_first = false;
         n = first_len(rest, left);
     }
-    Values::Misfit
+    None
 }

@@ -1,8 +1,10 @@
 //! How many bytes of a class come first among sixteen.
-ghost use Rattle.std.specs.Prelude.{◌≡◌, ◌≤◌, length, map};
+ghost use Rattle.std.specs.Prelude.{◌≡◌, ℕ, ◌≤◌, ◌==◌, Bool, List, length, drop, map, not};
+ghost use Rattle.std.specs.List.{prefix_len};
 ghost use Rattle.std.specs.Simd.Lanes.{mask_l};
 ghost use Rattle.std.specs.Char.{is_ascii_alphabetic, is_ascii_alphanumeric, is_ascii_digit};
-ghost use Rattle.iloc_fronts.specs.Run.{IsRun, is_hyphen, is_other};
+ghost use Rattle.iloc_spec_grammar.specs.Syntax.{Text};
+ghost use Rattle.iloc_fronts.specs.Run.{IsRun, IsRunOf, is_hyphen, is_other};
 
 use iloc_plain::before_marked;
 use std::simd::prelude::*;
@@ -70,6 +72,15 @@ pub(crate) fn first_alphanumerics(window: &[u8]) -> usize
     ensures { IsRun is_ascii_alphanumeric window.now result }
 {
     before_marked(no_alphanumerics_in(u8x16::from_slice(window)))
+}
+
+// How many letters and digits come first after three bytes, of thirteen.
+#[inline(always)]
+pub(crate) fn alphanumerics_after_key(window: &[u8]) -> usize
+    requires { 16 ≤ length window.now }
+    ensures { IsRunOf 13 is_ascii_alphanumeric (drop 3 window.now) result }
+{
+    before_marked(no_alphanumerics_in(u8x16::from_slice(window)) >> 3)
 }
 
 // How many bytes come before the first hyphen.

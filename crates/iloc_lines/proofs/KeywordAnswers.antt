@@ -28,7 +28,7 @@ use Rattle.iloc_spec_preferences.specs.DataComputing.{data_result, data_of_resul
 use Rattle.iloc_subtags.specs.declared.parse_error.ParseError.{ParseError}
 use Rattle.iloc_subtags.specs.declared.parse_error.ParseError.TheVariants.{InvalidSubtag, InvalidExtension}
 use Rattle.iloc_fronts.specs.Front.{GoesOn, IsFront, rest_of_block}
-use Rattle.iloc_fronts.specs.Keyword.{IsKeywordOf, IsSingle, IsUnreadable, after_singleton, region_end}
+use Rattle.iloc_fronts.specs.Keyword.{IsKeywordOf, IsSingle, after_singleton}
 use Rattle.iloc_blocks.proofs.BlockLemmas.{front_past}
 use Rattle.iloc_fronts.specs.declared.front.Block.{Block}
 use Rattle.iloc_fronts.specs.declared.front.Front.TheVariants as fronts
@@ -183,15 +183,6 @@ whole_front : (qs : List (List ℕ)) → IsWord UnicodeKey (first_piece qs) → 
 whole_front [] k v = refl
 whole_front (q ∷ qs) k v = front_long q qs (key_long q k) ∙ ap (λ rs. q ∷ rs) (values_whole qs v).0
 
-few_values : (qs : List (List ℕ)) → length qs ≤ 1 → nat_le (length (normal_values qs)) 1 ≡ true
-few_values [] l = refl
-few_values (q ∷ []) l = at_most (not (is_true (lower q)))
-  where
-    at_most : (x : Bool) → nat_le (length (cond x (lower q ∷ []) [])) 1 ≡ true
-    at_most true = refl
-    at_most false = refl
-few_values (q ∷ r ∷ qs) l = absurd (omega arith)
-
 no_word : IsWord UnicodeKey [] → ⊥
 unfolding is_word
 no_word e = true≢false (sym e)
@@ -199,65 +190,7 @@ no_word e = true≢false (sym e)
 abbrev both_hold : Bool → Bool → Bool
 both_hold x y = x && y
 
--- a value that names no subdivision
-
-low_letter : (c : ℕ) → is_ascii_alphabetic (to_ascii_lowercase c) ≡ is_ascii_alphabetic c
-low_letter c = grind (arith, nat_tests)
-
-end_is : (v : List ℕ) → region_length (lower v) ≡ region_end v
-unfolding lower
-end_is [] = refl
-end_is (c ∷ v) = ap (λ (x : Bool). cond x 2 3) (low_letter c)
-
-lower_take : (k : ℕ) (v : List ℕ) → take k (lower v) ≡ lower (take k v)
-unfolding lower
-lower_take zero v = refl
-lower_take (suc k) [] = refl
-lower_take (suc k) (c ∷ v) = ap (λ l. to_ascii_lowercase c ∷ l) (lower_take k v)
-
-lower_drop : (k : ℕ) (v : List ℕ) → drop k (lower v) ≡ lower (drop k v)
-unfolding lower
-lower_drop zero v = refl
-lower_drop (suc k) [] = refl
-lower_drop (suc k) (c ∷ v) = lower_drop k v
-
-named_none : (v : List ℕ) → (is_word Region (take (region_end v) v) && is_word SubdivisionSuffix (drop (region_end v) v)) ≡ false → named_subdivision (lower v) ≡ None
-named_none v e = by (is_word Subtag (lower v)) (is_word Region (take (region_length (lower v)) (lower v))) (is_word SubdivisionSuffix (drop (region_length (lower v)) (lower v)))
-    ((λ j. region j && suffix j) ∙ e)
-  where
-    region : is_word Region (take (region_length (lower v)) (lower v)) ≡ is_word Region (take (region_end v) v)
-    region = (λ j. is_word Region (take (end_is v j) (lower v))) ∙ ap (is_word Region) (lower_take (region_end v) v) ∙ is_word-lower Region (take (region_end v) v)
-
-    suffix : is_word SubdivisionSuffix (drop (region_length (lower v)) (lower v)) ≡ is_word SubdivisionSuffix (drop (region_end v) v)
-    suffix = (λ j. is_word SubdivisionSuffix (drop (end_is v j) (lower v))) ∙ ap (is_word SubdivisionSuffix) (lower_drop (region_end v) v) ∙ is_word-lower SubdivisionSuffix (drop (region_end v) v)
-
-    read_as : Bool → Bool → Bool → Option Subdivision
-    read_as s x y = result_ok (if s then ok_or (both_words (if x then Some (normal Region (take (region_length (lower v)) (lower v))) else None)
-        (if y then Some (normal SubdivisionSuffix (drop (region_length (lower v)) (lower v))) else None)) faults.InvalidExtension else Err faults.InvalidSubtag)
-
-    by : (s x y : Bool) → (x && y) ≡ false → read_as s x y ≡ None
-    by true true true e = absurd (true≢false e)
-    by true true false e = refl
-    by true false y e = refl
-    by false x y e = refl
-
-no_subdivision : (qs : List (List ℕ)) → AllByRecursion IsUnreadable qs → length qs ≤ 1 → option_and_then named_subdivision (first_item (normal_values qs)) ≡ None
-no_subdivision [] none few = refl
-no_subdivision (v ∷ w ∷ qs) none few = absurd (omega arith)
-no_subdivision (v ∷ []) none few = by none.0
-  where
-    value : Bool → Option Subdivision
-    value x = option_and_then named_subdivision (first_item (cond (not x) (lower v ∷ []) []))
-
-    by : IsUnreadable v → value (is_true (lower v)) ≡ None
-    by (inl e) = ap value e
-    by (inr e) = either (is_true (lower v))
-      where
-        either : (x : Bool) → value x ≡ None
-        either true = refl
-        either false = named_none v e
-
--- what a keyword of one piece at most is read as
+-- what a keyword of one word at most is read as
 record Reads (qs : List (List ℕ)) : Type 0 where
   whole : front qs ≡ qs
   alone : blocks qs ≡ []
@@ -272,10 +205,13 @@ single_reads (q ∷ qs) s =
     record {
       whole = front_long q qs long ∙ ap (λ rs. q ∷ rs) values.0;
       alone = skip_long q qs long ∙ values.1;
-      small = λ j. both (s.key j) (s.values j) (few_values qs s.few j);
+      small = λ j. both (s.key j) (s.values j) (few j);
       unread = λ region. unread s.other region;
     }
   where
+    few : nat_le (length (normal_values qs)) 1 ≡ true
+    few = grind (arith, nat_tests, s.few)
+
     both : Bool → Bool → Bool → Bool
     both x y z = x && (y && z)
 
@@ -286,11 +222,13 @@ single_reads (q ∷ qs) s =
     never region true = refl
     never region false = refl
 
-    unread : (lower q ≢ codes "sd") ⊎ AllByRecursion IsUnreadable qs → (region : Option (List ℕ)) → small_part region (Some (keyword_read (q ∷ qs))) ≡ None
+    unread : (lower q ≢ codes "sd") ⊎ (qs ≡ []) → (region : Option (List ℕ)) → small_part region (Some (keyword_read (q ∷ qs))) ≡ None
     unread (inl differs) region =
-        let no : is_same (lower q) sd ≡ false = false_from_ne_true _ (λ e. differs (same_is (lower q) sd e)) in
-        ap (λ (x : Bool). part region x (option_and_then named_subdivision (first_item (normal_values qs)))) no
-    unread (inr none) region = ap (part region (is_same (lower q) sd)) (no_subdivision qs none s.few) ∙ never region (is_same (lower q) sd)
+        let other : is_same (lower q) sd ≡ false = false_from_ne_true _ (λ e. differs (same_is (lower q) sd e)) in
+        ap (λ (x : Bool). part region x (option_and_then named_subdivision (first_item (normal_values qs)))) other
+    unread (inr none) region =
+        ap (λ (rs : List (List ℕ)). part region (is_same (lower q) sd) (option_and_then named_subdivision (first_item (normal_values rs)))) none
+        ∙ never region (is_same (lower q) sd)
 
 -- ---- the head of a text with no variants
 
@@ -354,6 +292,9 @@ after_variants t b h e few many told = elim (cases_lt (b.len + 9) b.tail) [
 ]
 
 -- ---- the answers
+
+pub letter_u : (c : ℕ) → is_u c ≡ true → is_ascii_alphanumeric c ≡ true
+letter_u c u = grind (arith, nat_tests)
 
 module _ (t : List ℕ) (b : Block) (h : IsFront t (fronts.Block b)) (letter : is_ascii_alphanumeric (get_or b.window.now 0 0) ≡ true) (u : is_u (get_or b.window.now 0 0) ≡ true) where
   abbrev block : ℕ × List (List ℕ)

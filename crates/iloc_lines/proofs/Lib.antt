@@ -11,3 +11,5 @@ pub mod PlainLemmas
 pub mod RunLemmas
 mod FrontAnswers
 mod KeywordAnswers
+mod SubdivisionBlocks
+mod SubdivisionAnswers

@@ -33,6 +33,7 @@ IsLead mode t (lead.Variant n) = EndsInVariant t n
 IsLead mode t (lead.Variants n) = mode ≢ Data
 IsLead mode t (lead.Blocks n) = mode ≡ Locale
 IsLead mode t (lead.AfterVariants n) = mode ≡ Locale
+IsLead mode t (lead.Subdivision n m) = mode ≡ Data
 IsLead mode t lead.Nothing = ⊤
 
 -- in the mode, the normal text is that of a plain identifier, and what follows it in lower case

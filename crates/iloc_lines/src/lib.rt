@@ -19,6 +19,7 @@ pub mod laws;
 mod lines;
 pub mod replies;
 pub mod reply_block;
+mod subdivisions;
 pub mod told;
 
 pub use replies::{write_refusal, write_text};

@@ -36,6 +36,7 @@ ghost use Rattle.memchr.specs.Find.{Nowhere, Passes, is_byte};
 
 use crate::replies::write_refusal;
 use crate::reply_block::ReplyBlock;
+use crate::subdivisions::tell_subdivision;
 use crate::told::{Lead, ROOM, Told, read_lead, tell_after_variants, tell_sorted};
 use crate::{Answers, RunError};
 use iloc_blocks::{BadBlock, Reading, read_ordered, read_variants, read_varied};
@@ -153,8 +154,30 @@ fn reply_to<A: Answers>(
         Lead::Variants(at) => reply_to_variants(answers, window, len, at, room, replies),
         Lead::Blocks(at) => reply_to_blocks(answers, window, len, at, room, replies),
         Lead::AfterVariants(at) => { reply_after_variants(answers, window, len, at, room, replies) }
+        Lead::Subdivision(at, start) => {
+            reply_to_subdivision(answers, window, len, at, start, replies)
+        }
         Lead::Nothing => answers.reply(&window[..len], replies),
     }
+}
+
+// Adds the reply to a data locale that may have the keyword `sd` after so many bytes.
+#[inline(never)]
+fn reply_to_subdivision<A: Answers>(
+    answers: &mut A,
+    window: &[u8],
+    len: usize,
+    at: usize,
+    start: usize,
+    replies: &mut ReplyBlock,
+) -> Result<(), AllocError>
+    requires mode { A.mode ≡ Mode.Data }
+    requires room { len + 16 ≤ length window.now }
+    ensures { OnOk result (held replies.new
+        ≡ held replies.old ++ reply A.mode (take len window.now)) }
+{
+    let told = tell_subdivision(window, len, at, start);
+    reply_told(answers, window, len, told, replies)
 }
 
 // Adds the reply to the line of which this is told.

@@ -1,6 +1,7 @@
 //! What is told of a text at once, in each mode: first by its front, and then by what follows that.
-ghost use Rattle.std.specs.Prelude.{◌≡◌, ◌≢◌, ◌+◌, ◌<◌, ◌≤◌, IfSome, length, take};
+ghost use Rattle.std.specs.Prelude.{◌≡◌, ◌≢◌, ◌+◌, ◌<◌, ◌≤◌, IfSome, true, length, take, get_or};
 ghost use Rattle.iloc_spec_grammar.specs.Syntax.{Text};
+ghost use Rattle.iloc_spec_parts.specs.SmallComputing.{is_u};
 ghost use Rattle.iloc_fronts.specs.Front.{EndsInVariant, IsFront};
 ghost use Rattle.iloc_fronts.specs.declared.front.Front.TheVariants as fronts;
 ghost use Rattle.iloc_blocks.specs.Ordered.{IsReading};
@@ -8,6 +9,7 @@ ghost use Rattle.iloc_rewriting.specs.Words.{IsUnsorted};
 ghost use Rattle.iloc_lines.specs.Told.{IsLead, IsRefused, IsTold, refusal_of};
 
 use crate::Mode;
+use crate::subdivisions::tell_subdivision;
 use iloc_blocks::{BadBlock, Ordered, Reading, read_ordered, read_variants, read_varied};
 use iloc_fronts::{Block, Front, Keyword, read_front, read_keyword};
 use iloc_rewriting::{Unsorted, rewrite, sort_identifier, sort_variants};
@@ -32,6 +34,9 @@ pub enum Lead {
     Blocks(usize),
     /// The same with two variants or more before the blocks: `tell_after_variants` tells more.
     AfterVariants(usize),
+    /// Nothing, but it may be a plain identifier of so many bytes, perhaps a variant, and after so many bytes a keyword
+    /// `sd`: `tell_subdivision` tells more. It is said of data locales alone.
+    Subdivision(usize, usize),
     /// Nothing.
     Nothing,
 }
@@ -60,6 +65,7 @@ pub fn tell<'a>(mode: Mode, window: &'a [u8], len: usize, room: &'a mut [u8]) ->
         Lead::Variants(at) => tell_variants(window, len, at, room),
         Lead::Blocks(at) => tell_blocks(window, len, at, room),
         Lead::AfterVariants(at) => tell_after_variants(window, len, at, room),
+        Lead::Subdivision(at, start) => tell_subdivision(window, len, at, start),
         Lead::Nothing => Told::Nothing,
     }
 }
@@ -120,38 +126,50 @@ fn lead_of_locale(len: usize, block: Block<'_>) -> Lead
     Lead::Blocks(at)
 }
 
-// The same of a data locale.
+// The same of a data locale. It has no block but that of `u`.
 #[inline(always)]
 fn lead_of_data(text: &[u8], block: Block<'_>) -> Lead
     requires { IsFront text.now (fronts.Block block) }
     ensures { IsLead Mode.Data text.now result }
 {
-    match fault_of_data(text, block) {
-        Some(error) => Lead::Refused(error),
-        None => Lead::Nothing,
+    let singleton = block.window[0];
+    if singleton == b'u' || singleton == b'U' {
+        return lead_of_keyword(text, block);
+    }
+    if singleton.is_ascii_alphanumeric() {
+        return Lead::Refused(ParseError::InvalidSubtag);
+    }
+    Lead::Refused(fault_after(block))
+}
+
+// The same if the block is of `u`. It has no keyword but `sd`.
+#[inline(always)]
+fn lead_of_keyword(text: &[u8], block: Block<'_>) -> Lead
+    requires front { IsFront text.now (fronts.Block block) }
+    requires u { is_u (get_or block.window.now 0 0) ≡ true }
+    ensures { IsLead Mode.Data text.now result }
+{
+    match read_keyword(block) {
+        Keyword::Attribute => Lead::Refused(ParseError::InvalidSubtag),
+        Keyword::Misfit => Lead::Refused(ParseError::InvalidSubtag),
+        Keyword::Many => Lead::Refused(ParseError::InvalidSubtag),
+        Keyword::Single => Lead::Refused(fault_after(block)),
+        Keyword::Subdivision => lead_of_subdivision(text, block),
+        Keyword::Other => Lead::Nothing,
     }
 }
 
-// A data locale has at most one variant, no block but that of `u`, and in it no keyword but `sd`.
+// The same if that has the keyword `sd`.
 #[inline(always)]
-fn fault_of_data(text: &[u8], block: Block<'_>) -> Option<ParseError>
+fn lead_of_subdivision(text: &[u8], block: Block<'_>) -> Lead
     requires { IsFront text.now (fronts.Block block) }
-    ensures { IfSome result (IsRefused Mode.Data text.now) }
+    ensures { IsLead Mode.Data text.now result }
 {
-    let singleton = block.window[0];
-    if !singleton.is_ascii_alphanumeric() {
-        return Some(fault_after(block));
+    if block.tail > block.len + 9 {
+        return Lead::Refused(ParseError::InvalidSubtag);
     }
-    if singleton.to_ascii_lowercase() != b'u' {
-        return Some(ParseError::InvalidSubtag);
-    }
-    match read_keyword(block) {
-        Keyword::Attribute => Some(ParseError::InvalidSubtag),
-        Keyword::Misfit => Some(ParseError::InvalidSubtag),
-        Keyword::Many => Some(ParseError::InvalidSubtag),
-        Keyword::Single => Some(fault_after(block)),
-        Keyword::Other => None,
-    }
+    let len = text.len();
+    Lead::Subdivision(len.wrapping_sub(block.tail.wrapping_add(1)), len.wrapping_sub(block.len))
 }
 
 // Why a block is no data locale's that is bad, or names no subdivision. Two variants or more are refused first;
