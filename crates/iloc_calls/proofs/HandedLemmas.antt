@@ -1,5 +1,11 @@
 -- What is handed out and what is refused, of a text that is told at once.
-use Rattle.std.proofs.Common.{ℕ, List}
+use Rattle.std.proofs.Common.{◌≡◌, ◌<◌, ℕ, List, length, length-take-le, refl, sym, ap, ◌∙◌, arith}
+use Rattle.std.proofs.lemmas.Bool.Decides.{nat_tests}
+use Rattle.iloc_spec_grammar.specs.Values.{identifier_text}
+use Rattle.iloc_writeable.specs.Hints.{saturated}
+use Rattle.iloc_plain.specs.Plain.{AreWords, IsPlain, value_of}
+use Rattle.iloc_plain.specs.declared.plain.Plain.{Plain}
+use Rattle.iloc_lines.proofs.PlainAnswers.{plain_normal}
 use Rattle.iloc_subtags.specs.declared.parse_error.ParseError.{ParseError}
 use Rattle.iloc_subtags.specs.declared.parse_error.ParseError.TheVariants as refusals
 use Rattle.iloc_lines.specs.Told.{IsRefused}
@@ -21,6 +27,20 @@ handed_out mode t normal before after needed DuplicatedExtension n h = absurd h
 handed_out mode t normal before after needed OutOfMemory n h = absurd h
 handed_out mode t normal before after needed UnknownNumber n h = absurd h
 handed_out mode t normal before after needed NotFound n h = absurd h
+
+-- how long the normal text of a plain text is
+plain_length : (p : Plain) → AreWords p → length (identifier_text (value_of p)) ≡ p.len
+plain_length p h = ap length (sym h.normal) ∙ length-take-le p.len p.bytes (omega (arith, h.wide, h.fits))
+
+-- a plain text for which there is too little room
+pub withheld : (mode : Mode) (t : List ℕ) (p : Plain) (before : List ℕ) (needed : ℕ) → IsPlain t p → length before < p.len → needed ≡ p.len
+    → NormalizesTo mode t before before needed BufferTooSmall
+withheld mode t p before needed h few is =
+    let long = plain_length p h.words in
+    let fits = h.words.fits in
+    let same : saturated p.len ≡ p.len = grind (arith, nat_tests) in
+    let less : length before < length (identifier_text (value_of p)) = omega (arith, long, few) in
+    (identifier_text (value_of p), plain_normal mode t p h, (less, is ∙ sym same ∙ ap saturated (sym long), refl))
 
 -- a text that is refused has the status of its fault
 pub refused_judged : (mode : Mode) (t : List ℕ) (e : ParseError) → IsRefused mode t e → JudgedAs mode t (status_of e)

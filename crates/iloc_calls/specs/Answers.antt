@@ -16,6 +16,7 @@ use Rattle.iloc_subtags.specs.declared.parse_error.ParseError.TheVariants as ref
 use Rattle.iloc_lines.specs.Answers as answers
 use Rattle.iloc_lines.specs.declared.Mode.{Mode}
 use Rattle.iloc_lines.specs.declared.Mode.TheVariants.{Langid, Locale, Data}
+use Rattle.iloc_calls.specs.Numbers.{EndsAs, mode_number, number_of}
 use Rattle.iloc_calls.specs.declared.status.Status.{Status}
 use Rattle.iloc_calls.specs.declared.status.Status.TheVariants.{Done, InvalidLanguage, InvalidSubtag, InvalidExtension, DuplicatedExtension, OutOfMemory, BufferTooSmall, UnknownNumber, NotFound}
 
@@ -73,6 +74,12 @@ NormalizesTo mode t before after needed BufferTooSmall =
     × HandsOut normal before after needed BufferTooSmall
 NormalizesTo mode t before after needed status =
     JudgedAs mode t status × (needed ≡ 0) × (after ≡ before)
+
+-- the same by the number of a mode, which says the number of the status; of any other number, nothing is
+-- handed out
+pub record Normalizes (mode : ℕ) (t before after : Text) (needed result : ℕ) : Type 0 where
+  pub known : (m : Mode) → mode ≡ mode_number m → EndsAs (NormalizesTo m t before after needed) result
+  pub unknown : 2 < mode → (result ≡ number_of UnknownNumber) × (needed ≡ 0) × (after ≡ before)
 
 -- how much longer than a text its normal text may be: a data locale is printed with its
 -- subdivision's region

@@ -1,14 +1,14 @@
 //! What is answered of a text.
 ghost use Rattle.std.specs.Prelude.{◌≡◌, ◌↔◌, ◌+◌, ◌<◌, ◌≤◌, length, Some, IfNone, IfOk, IfSome, MatchResult};
 ghost use Rattle.iloc_calls.specs.declared.status.Status.{Status};
-ghost use Rattle.iloc_calls.specs.Answers.{HandsOut, JudgedAs, NormalizesTo};
+ghost use Rattle.iloc_calls.specs.Answers.{HandsOut, JudgedAs, Normalizes, NormalizesTo};
 ghost use Rattle.iloc_calls.specs.Numbers.{EndsAs, mode_number, number_of, status_of};
 ghost use Rattle.iloc_lines.specs.declared.Mode.{Mode};
 ghost use Rattle.iloc_lines.specs.declared.Mode.TheVariants as modes;
 
-use crate::filling::{hand_out_ordered, hand_out_plain, hand_out_within};
+use crate::filling::{hand_out_fitting_plain, hand_out_ordered, hand_out_within};
 use crate::status::Status;
-use crate::window::{MOST, window_of};
+use crate::window::{MOST, WINDOW, put_in_front};
 use iloc_data_parts::DataParts;
 use iloc_langid::LanguageIdentifier;
 use iloc_langid::reader::read_into as read_identifier;
@@ -59,8 +59,10 @@ fn judge_other(alloc: Global, mode: Mode, text: &[u8]) -> Status
     if text.len() > MOST {
         return judge_parsed(alloc, mode, text);
     }
+    let mut window = [0u8; WINDOW];
+    put_in_front(text, &mut window);
     let mut room = [0u8; ROOM];
-    match tell(mode, &window_of(text), text.len(), &mut room) {
+    match tell(mode, &window, text.len(), &mut room) {
         Told::Ordered(_) => Status::Done,
         Told::Refused(refusal) => Status::from(refusal),
         Told::Nothing => judge_parsed(alloc, mode, text),
@@ -100,35 +102,51 @@ fn refuse(why: Status, needed: &mut usize) -> Status
     why
 }
 
+// Hands out nothing of a plain text of so many bytes: the number is that of no mode, or there is too little room.
+// It is called cold, so that the plain path has no status but that of what is done.
+#[inline(never)]
+#[cold]
+fn withhold(mode: u32, len: usize, needed: &mut usize) -> u32
+    ensures known { mode ≤ 2
+        → (result ≡ number_of Status.BufferTooSmall) × (needed.new ≡ len) }
+    ensures unknown { 2 < mode
+        → (result ≡ number_of Status.UnknownNumber) × (needed.new ≡ 0) }
+{
+    if mode > 2 {
+        return refuse(Status::UnknownNumber, needed).number();
+    }
+    *needed = len;
+    Status::BufferTooSmall.number()
+}
+
 // Hands out the normal text of a plain text, whose first and last `W` bytes are all of it. If it is not
-// plain, or the number is that of no mode, nothing is written to the buffer.
+// plain, nothing is written to the buffer.
 #[inline(always)]
 fn normalize_plain<const W: usize>(
     mode: u32,
     text: &[u8],
     buffer: &mut [u8],
     needed: &mut usize,
-) -> Option<Status>
+) -> Option<u32>
     requires wide { W ≤ length text.now }
     requires few { length text.now ≤ W + W }
-    ensures some { (m : Mode) → IfSome result
-        (NormalizesTo m text.now buffer.old buffer.new needed.new) }
-    ensures known { IfSome result (λ _. mode ≤ 2) }
+    ensures some { IfSome result
+        (Normalizes mode text.now buffer.old buffer.new needed.new) }
     ensures none { IfNone result (buffer.new ≡ buffer.old) }
 {
-    match read_plain_text(text) {
-        Some(plain) if mode <= 2 => Some(hand_out_plain::<W>(&plain, buffer, needed)),
-        _ => None,
+    let plain = read_plain_text(text)?;
+    if mode > 2 || plain.len > buffer.len() {
+        return Some(withhold(mode, plain.len, needed));
     }
+    Some(hand_out_fitting_plain::<W>(&plain, buffer, needed).number())
 }
 
 // The same of a text of less than four bytes.
 #[inline(always)]
-fn normalize_tiny(mode: u32, text: &[u8], buffer: &mut [u8], needed: &mut usize) -> Option<Status>
+fn normalize_tiny(mode: u32, text: &[u8], buffer: &mut [u8], needed: &mut usize) -> Option<u32>
     requires { length text.now < 4 }
-    ensures some { (m : Mode) → IfSome result
-        (NormalizesTo m text.now buffer.old buffer.new needed.new) }
-    ensures known { IfSome result (λ _. mode ≤ 2) }
+    ensures some { IfSome result
+        (Normalizes mode text.now buffer.old buffer.new needed.new) }
     ensures none { IfNone result (buffer.new ≡ buffer.old) }
 {
     if text.len() < 2 {
@@ -144,23 +162,22 @@ fn normalize_at_once(
     text: &[u8],
     buffer: &mut [u8],
     needed: &mut usize,
-) -> Option<Status>
-    ensures some { (m : Mode) → IfSome result
-        (NormalizesTo m text.now buffer.old buffer.new needed.new) }
-    ensures known { IfSome result (λ _. mode ≤ 2) }
+) -> Option<u32>
+    ensures some { IfSome result
+        (Normalizes mode text.now buffer.old buffer.new needed.new) }
     ensures none { IfNone result (buffer.new ≡ buffer.old) }
 {
     let len = text.len();
-    if len < 4 {
-        return normalize_tiny(mode, text, buffer, needed);
-    }
-    if len <= 8 {
-        return normalize_plain::<4>(mode, text, buffer, needed);
-    }
     if len > 16 {
         return None;
     }
-    normalize_plain::<8>(mode, text, buffer, needed)
+    if len > 8 {
+        return normalize_plain::<8>(mode, text, buffer, needed);
+    }
+    if len >= 4 {
+        return normalize_plain::<4>(mode, text, buffer, needed);
+    }
+    normalize_tiny(mode, text, buffer, needed)
 }
 
 /// Hands out the normal text of what the text means, and gives the number of the status. Which mode it is,
@@ -173,17 +190,11 @@ pub(crate) fn normalize(
     buffer: &mut [u8],
     needed: &mut usize,
 ) -> u32
-    ensures known { (m : Mode) → mode ≡ mode_number m
-        → EndsAs (NormalizesTo m text.now buffer.old buffer.new needed.new) result }
-    ensures unknown { 2 < mode → (result ≡ number_of Status.UnknownNumber)
-        × (needed.new ≡ 0) × (buffer.new ≡ buffer.old) }
+    ensures { Normalizes mode text.now buffer.old buffer.new needed.new result }
 {
-    if let Some(status) = normalize_at_once(mode, text, buffer, needed) {
-        return status.number();
-    }
-    match mode_of(mode) {
-        Some(mode) => normalize_other(alloc, mode, text, buffer, needed),
-        None => refuse(Status::UnknownNumber, needed).number(),
+    match normalize_at_once(mode, text, buffer, needed) {
+        Some(number) => number,
+        None => normalize_other(alloc, mode, text, buffer, needed),
     }
 }
 
@@ -191,6 +202,23 @@ pub(crate) fn normalize(
 #[inline(never)]
 #[cold]
 fn normalize_other(
+    alloc: Global,
+    mode: u32,
+    text: &[u8],
+    buffer: &mut [u8],
+    needed: &mut usize,
+) -> u32
+    ensures { Normalizes mode text.now buffer.old buffer.new needed.new result }
+{
+    match mode_of(mode) {
+        Some(mode) => normalize_told(alloc, mode, text, buffer, needed),
+        None => refuse(Status::UnknownNumber, needed).number(),
+    }
+}
+
+// The same by what is told of it.
+#[inline(always)]
+fn normalize_told(
     alloc: Global,
     mode: Mode,
     text: &[u8],
@@ -202,8 +230,10 @@ fn normalize_other(
     if text.len() > MOST {
         return normalize_parsed(alloc, mode, text, buffer, needed).number();
     }
+    let mut window = [0u8; WINDOW];
+    put_in_front(text, &mut window);
     let mut room = [0u8; ROOM];
-    match tell(mode, &window_of(text), text.len(), &mut room) {
+    match tell(mode, &window, text.len(), &mut room) {
         Told::Ordered(line) => hand_out_ordered(&line, buffer, needed).number(),
         Told::Refused(refusal) => refuse(Status::from(refusal), needed).number(),
         Told::Nothing => normalize_parsed(alloc, mode, text, buffer, needed).number(),

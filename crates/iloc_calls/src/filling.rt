@@ -109,9 +109,9 @@ pub(crate) fn hand_out_within<W: Writeable>(
     }
 }
 
-/// The same of a plain identifier, whose first and last `W` bytes are all of it.
+/// The same of a plain identifier that fits, whose first and last `W` bytes are all of it.
 #[inline(always)]
-pub(crate) fn hand_out_plain<const W: usize>(
+pub(crate) fn hand_out_fitting_plain<const W: usize>(
     plain: &Plain,
     buffer: &mut [u8],
     needed: &mut usize,
@@ -119,13 +119,11 @@ pub(crate) fn hand_out_plain<const W: usize>(
     requires words { AreWords plain.now }
     requires wide { W ≤ plain.now.len }
     requires few { plain.now.len ≤ W + W }
+    requires room { plain.now.len ≤ length buffer.old }
     ensures { HandsOut (identifier_text (value_of plain.now)) buffer.old buffer.new needed.new
         result }
 {
     *needed = plain.len;
-    if plain.len > buffer.len() {
-        return Status::BufferTooSmall;
-    }
     let bytes = plain.bytes;
     copy_ends::<W>(&bytes.as_array()[..plain.len], &mut buffer[..plain.len]);
     Status::Done

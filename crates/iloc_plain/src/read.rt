@@ -2,9 +2,9 @@
 ghost use Rattle.std.specs.Prelude.{◌≤◌, IfSome, length, take};
 ghost use Rattle.iloc_plain.specs.Plain.{IsPlain};
 
-use crate::lanes::{are_digits, are_marked, hyphens_in, in_case, letters_in};
+use crate::lanes::hyphens_in;
 use crate::load::load;
-use crate::marks::{all_places, first_place, is_language_length};
+use crate::marks::{first_place, is_language_length};
 use crate::plain::Plain;
 use crate::tail::Tail;
 use std::simd::prelude::*;
@@ -26,24 +26,17 @@ pub(crate) fn read_lanes(v: u8x16, len: usize) -> Option<Plain>
     requires { len ≤ 16 }
     ensures { IfSome result (IsPlain (take len v)) }
 {
-    let hyphens = hyphens_in(v);
-    let language = first_place(hyphens, len);
+    let language = first_place(hyphens_in(v), len);
     if !is_language_length(language) {
         return None;
     }
     let tail = Tail::of(len - language);
-    if tail.is_none() {
-        return None;
-    }
-    let marks = letters_in(v) | (hyphens << 32);
-    if !are_marked(marks, 0, all_places(language, tail.marks)) {
-        return None;
-    }
-    if !are_digits(v, language, tail.digits) {
+    let above = tail.above_least(v, language);
+    if !tail.allows(above, language) {
         return None;
     }
     Some(Plain {
-        bytes: in_case(v, language, &tail.turning),
+        bytes: tail.in_normal(above, language),
         len,
         language,
         has_script: tail.has_script,

@@ -1,7 +1,8 @@
 -- The number of a piece, and the piece of a text's number.
-use Rattle.std.proofs.Common.{◌≡◌, ℕ, zero, suc, ◌+◌, ◌-◌, ◌*◌, ◌/◌, ◌%◌, ◌^◌, ◌<◌, ◌≤◌, true, get_or, List, [], ◌∷◌, length, refl, ◌∙◌, ap, arith, pow-suc}
+use Rattle.std.proofs.Common.{◌≡◌, ℕ, zero, suc, ◌+◌, ◌-◌, ◌*◌, ◌/◌, ◌%◌, ◌^◌, ◌<◌, ◌≤◌, true, get_or, List, [], ◌∷◌, length, refl, ◌∙◌, ap, arith, pow-suc, bit_or}
 use Rattle.std.specs.Int.Count.{count_leading_zeros}
-use Rattle.std.proofs.lemmas.Nat.{leading_length, pow-add}
+use Rattle.std.specs.Int.Bits.{or_self, or_zero_l, or_zero_r}
+use Rattle.std.proofs.lemmas.Nat.{leading_length, pow-add, pow_pos, or_block}
 use Rattle.std.proofs.lemmas.Bool.Decides.{nat_tests}
 use Rattle.std.specs.List.{list_all}
 use Rattle.iloc_tinystr.specs.Number.{number, bytes, IsPacked}
@@ -16,17 +17,39 @@ module _ (xs : List ℕ) (y : ℕ) (fit : (k : ℕ) → get_or xs k 0 < 256) (fe
   pub piece_shows : bytes (length xs) y ≡ xs
   piece_shows = (makes (length xs) y xs refl few fit e).shows
 
+-- two numbers with the same middle part m: the first has k bits before it, the second begins with it
+in_common : (k j x m y : ℕ) → x < 2 ^ k → m < 2 ^ j → (low high : ℕ) → low ≡ m * 2 ^ k + x → high ≡ (y * 2 ^ j + m) * 2 ^ k + 0
+    → bit_or low high ≡ (y * 2 ^ j + m) * 2 ^ k + x
+in_common k j x m y few less low high p q =
+    let alone : m ≡ 0 * 2 ^ j + m = omega arith in
+    let same : bit_or m (y * 2 ^ j + m) ≡ y * 2 ^ j + m =
+    ap (λ n. bit_or n (y * 2 ^ j + m)) alone ∙ or_block j 0 y m m less less ∙ (λ i. or_zero_l y i * 2 ^ j + or_self m i) in
+    (λ i. bit_or (p i) (q i)) ∙ or_block k m (y * 2 ^ j + m) x 0 few (pow_pos k) ∙ (λ i. same i * 2 ^ k + or_zero_r x i)
+
 -- by its first four bytes and its last
 pub wide : (xs : List ℕ) (low high : ℕ) → ((k : ℕ) → get_or xs k 0 < 256) → 4 ≤ length xs → length xs ≤ 8
     → low ≡ get_or xs 0 0 + 256 * get_or xs 1 0 + 65536 * get_or xs 2 0 + 16777216 * get_or xs 3 0
     → high ≡ get_or xs (length xs - 4) 0 + 256 * get_or xs (length xs - 3) 0 + 65536 * get_or xs (length xs - 2) 0 + 16777216 * get_or xs (length xs - 1) 0
-    → low + high / 2 ^ (64 - 8 * length xs) * 4294967296 % 18446744073709551616 ≡ number xs
-wide (a ∷ b ∷ c ∷ d ∷ []) low high h le ge p q = omega (arith, h 0, h 1, h 2, h 3)
-wide (a ∷ b ∷ c ∷ d ∷ e ∷ []) low high h le ge p q = omega (arith, h 0, h 1, h 2, h 3, h 4)
-wide (a ∷ b ∷ c ∷ d ∷ e ∷ f ∷ []) low high h le ge p q = omega (arith, h 0, h 1, h 2, h 3, h 4, h 5)
-wide (a ∷ b ∷ c ∷ d ∷ e ∷ f ∷ g ∷ []) low high h le ge p q = omega (arith, h 0, h 1, h 2, h 3, h 4, h 5, h 6)
-wide (a ∷ b ∷ c ∷ d ∷ e ∷ f ∷ g ∷ i ∷ []) low high h le ge p q = omega (arith, h 0, h 1, h 2, h 3, h 4, h 5, h 6, h 7)
+    → bit_or low (high * 2 ^ (8 * length xs - 32) % 18446744073709551616) ≡ number xs
+wide (a ∷ b ∷ c ∷ d ∷ []) low high h le ge p q =
+    in_common 0 32 0 low 0 (omega arith) (omega (arith, h 0, h 1, h 2, h 3)) low _ (omega arith) (omega (arith, h 0, h 1, h 2, h 3)) ∙ omega arith
+wide (a ∷ b ∷ c ∷ d ∷ e ∷ []) low high h le ge p q =
+    in_common 8 24 a (b + 256 * c + 65536 * d) e (h 0) (omega (arith, h 1, h 2, h 3)) low _ (omega arith) (omega (arith, h 1, h 2, h 3, h 4)) ∙ omega arith
+wide (a ∷ b ∷ c ∷ d ∷ e ∷ f ∷ []) low high h le ge p q =
+    in_common 16 16 (a + 256 * b) (c + 256 * d) (e + 256 * f) (omega (arith, h 0, h 1)) (omega (arith, h 2, h 3)) low _ (omega arith) (omega (arith, h 2, h 3, h 4, h 5)) ∙ omega arith
+wide (a ∷ b ∷ c ∷ d ∷ e ∷ f ∷ g ∷ []) low high h le ge p q =
+    in_common 24 8 (a + 256 * b + 65536 * c) d (e + 256 * f + 65536 * g) (omega (arith, h 0, h 1, h 2)) (h 3) low _ (omega arith) (omega (arith, h 3, h 4, h 5, h 6)) ∙ omega arith
+wide (a ∷ b ∷ c ∷ d ∷ e ∷ f ∷ g ∷ i ∷ []) low high h le ge p q =
+    in_common 32 0 low 0 high (omega (arith, h 0, h 1, h 2, h 3)) (omega arith) low _ (omega arith) (omega (arith, h 4, h 5, h 6, h 7)) ∙ omega arith
 wide xs low high h le ge p q = absurd (omega arith)
+
+-- by its first two bytes and its last
+pub narrow : (xs : List ℕ) (low : ℕ) → ((k : ℕ) → get_or xs k 0 < 256) → 2 ≤ length xs → length xs < 4
+    → low ≡ get_or xs 0 0 + 256 * get_or xs 1 0
+    → bit_or low (get_or xs (length xs - 1) 0 * 2 ^ (8 * length xs - 8) % 18446744073709551616) ≡ number xs
+narrow (a ∷ b ∷ []) low h le few p = in_common 8 8 a b 0 (h 0) (h 1) low _ (omega arith) (omega (arith, h 1)) ∙ omega arith
+narrow (a ∷ b ∷ c ∷ []) low h le few p = in_common 16 0 low 0 c (omega (arith, h 0, h 1)) (omega arith) low _ (omega arith) (omega (arith, h 2)) ∙ omega arith
+narrow xs low h le few p = absurd (omega arith)
 
 pub first-text : (b : ℕ) (text : List ℕ) → list_all is_text_byte (b ∷ text) ≡ true → (0 < b) × (b < 128) × (list_all is_text_byte text ≡ true)
 first-text b text h = (grind (arith, nat_tests), grind (arith, nat_tests), grind (arith, nat_tests))

@@ -1,14 +1,16 @@
--- What is handed out of a text in order is its normal text.
-use Rattle.std.proofs.Common.{subst}
-use Rattle.iloc_blocks.specs.Ordered.{text_of}
-use Rattle.iloc_calls.specs.Answers.{IsNormalText}
-use Rattle.iloc_calls.proofs.HandedLemmas.{handed_out}
+-- The number is that of the mode, and of no other.
+use Rattle.std.proofs.Common.{sym, ap, subst, ◌∙◌}
+use Rattle.std.specs.Option.{unwrap_or}
+use Rattle.iloc_lines.specs.declared.Mode.{Mode}
+use Rattle.iloc_calls.specs.Answers.{NormalizesTo}
+use Rattle.iloc_calls.specs.Numbers.{EndsAs}
+use Rattle.iloc_calls.proofs.AnswerLemmas.{no_mode}
 use Rattle.iloc_calls.proofs.answers.normalize_other.Goals as goal
 
-pub returns-in-Ordered : goal.returns-in-Ordered
-returns-in-Ordered c = (
-  c.hand_out_ordered.result,
-  c.number-in-Ordered.ensures,
-  handed_out c.args.mode c.args.text.now (text_of c.in-Ordered.line) c.args.buffer.now c.hand_out_ordered.new.buffer c.hand_out_ordered.new.needed c.hand_out_ordered.result
-      (subst (λ t. IsNormalText c.args.mode t (text_of c.in-Ordered.line)) c.window_of.ensures.text c.in-Ordered.ensures.normal) c.hand_out_ordered.ensures,
-)
+pub returns-in-Some : goal.returns-in-Some
+returns-in-Some c = record {
+  known = λ m e.
+      subst (λ (n : Mode). EndsAs (NormalizesTo n c.args.text.now c.args.buffer.now c.normalize_told.new.buffer c.normalize_told.new.needed) c.normalize_told.result)
+      (ap (λ o. unwrap_or o m) (sym c.in-Some.is ∙ (c.mode_of.ensures m).1 e)) c.normalize_told.ensures;
+  unknown = λ far. absurd (no_mode c.in-Some.mode c.args.mode ((c.mode_of.ensures c.in-Some.mode).0 c.in-Some.is) far);
+}

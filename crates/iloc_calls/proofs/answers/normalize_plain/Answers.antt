@@ -1,11 +1,37 @@
--- What is handed out of a plain text is its normal text.
+-- What is handed out of a plain text is its normal text. Nothing is where the number names no mode, or there is
+-- too little room.
+use Rattle.std.proofs.Common.{refl, arith}
 use Rattle.iloc_spec_grammar.specs.Values.{identifier_text}
 use Rattle.iloc_plain.specs.Plain.{value_of}
 use Rattle.iloc_lines.proofs.PlainAnswers.{plain_normal}
-use Rattle.iloc_calls.proofs.HandedLemmas.{handed_out}
+use Rattle.iloc_calls.specs.declared.status.Status.TheVariants.{BufferTooSmall}
+use Rattle.iloc_calls.proofs.AnswerLemmas.{no_mode}
+use Rattle.iloc_calls.proofs.HandedLemmas.{handed_out, withheld}
 use Rattle.iloc_calls.proofs.answers.normalize_plain.Goals as goal
+use Rattle.iloc_calls.proofs.answers.normalize_plain.Goals.{then-mode-gt2-via-then-mode-gt2, then-mode-gt2-via-else-mode-gt2+then-plain-buffer}
 
-pub returns-in-Some-clause-some : goal.returns-in-Some-clause-some
-returns-in-Some-clause-some g c mode =
-    handed_out mode c.args.text.now (identifier_text (value_of c.in-Some.plain)) c.args.buffer.now c.hand_out_plain.new.buffer c.hand_out_plain.new.needed c.hand_out_plain.result
-    (plain_normal mode c.args.text.now c.in-Some.plain c.in-Some.ensures) c.hand_out_plain.ensures
+pub returns-then-mode-gt2-clause-some : goal.returns-then-mode-gt2-clause-some
+returns-then-mode-gt2-clause-some g c =
+    elim c.then-mode-gt2.branch [
+      | then-mode-gt2-via-then-mode-gt2 w ↦ record {
+          known = λ m e. absurd (no_mode m c.args.mode e w.if-mode-gt2.true);
+          unknown = λ far. let told = c.withhold.ensures.unknown far in (told.0, told.1, refl);
+        }
+      | then-mode-gt2-via-else-mode-gt2+then-plain-buffer w ↦ record {
+          known = λ m e.
+              let told = c.withhold.ensures.known w.if-mode-gt2.false in
+              (BufferTooSmall, told.0, withheld m c.args.text.now c.in_ok-plain.plain c.args.buffer.now c.withhold.new.needed c.in_ok-plain.ensures w.if-plain-buffer.true told.1);
+          unknown = λ far. absurd (omega (arith, far, w.if-mode-gt2.false));
+        }
+    ]
+
+pub returns-clause-some : goal.returns-clause-some
+returns-clause-some g c = record {
+  known = λ m e. (
+    c.hand_out_fitting_plain.result,
+    c.number.ensures,
+    handed_out m c.args.text.now (identifier_text (value_of c.in_ok-plain.plain)) c.args.buffer.now c.hand_out_fitting_plain.new.buffer c.hand_out_fitting_plain.new.needed c.hand_out_fitting_plain.result
+        (plain_normal m c.args.text.now c.in_ok-plain.plain c.in_ok-plain.ensures) c.hand_out_fitting_plain.ensures,
+  );
+  unknown = λ far. absurd (omega (arith, far, c.if-mode-gt2.false));
+}
