@@ -157,12 +157,7 @@ fn normalize_tiny(mode: u32, text: &[u8], buffer: &mut [u8], needed: &mut usize)
 
 // The same of any text, by its length.
 #[inline(always)]
-fn normalize_at_once(
-    mode: u32,
-    text: &[u8],
-    buffer: &mut [u8],
-    needed: &mut usize,
-) -> Option<u32>
+fn normalize_at_once(mode: u32, text: &[u8], buffer: &mut [u8], needed: &mut usize) -> Option<u32>
     ensures some { IfSome result
         (Normalizes mode text.now buffer.old buffer.new needed.new) }
     ensures none { IfNone result (buffer.new ≡ buffer.old) }

@@ -86,8 +86,8 @@ pub first_is : (w : List ℕ) (len k n : ℕ) → 16 ≤ length w → len ≤ le
 first_is w len k n wide inside r few less least =
     first_by w len n inside few (omega (arith, r.few)) (λ i early. r.pass i (omega arith))
     (λ more short.
-        let same : n ≡ k = least more in
-        ap (λ i. is_other is_hyphen (get_or w i 0)) same ∙ r.ends (omega arith))
+    let same : n ≡ k = least more in
+    ap (λ i. is_other is_hyphen (get_or w i 0)) same ∙ r.ends (omega arith))
 
 -- ---- words among the pieces
 

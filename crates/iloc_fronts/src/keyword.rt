@@ -147,7 +147,7 @@ fn count_words(window: &[u8], len: usize) -> Option<usize>
     ensures { MatchOption result
         (list_all (is_word Attribute) (pieces (take len window.now)) ≡ false)
         (λ words. (list_all (is_word Attribute) (pieces (take len window.now)) ≡ true)
-            × (words ≡ length (normal_values (pieces (take len window.now))))) }
+        × (words ≡ length (normal_values (pieces (take len window.now))))) }
 {
     let mut rest = window;
     let mut left = len;

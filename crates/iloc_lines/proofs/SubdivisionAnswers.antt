@@ -82,7 +82,12 @@ module _ (w : List ℕ) (len at end : ℕ) (o : Ordered) (room : len + 16 ≤ le
       take-take (end - at - 1) (length w - (at + 1)) (drop (at + 1) w) (omega arith) ∙ ap (λ (m : ℕ). take (end - at - 1) (drop m w)) next in
       let fits : IsWord Variant p = subst (IsWord Variant) same word in
       let h : IsTail (pieces p) = record {
-        variants = p ∷ []; rest = []; cut = one_piece p fits; each = (fits, tt); ascending = refl; extensions = printed_none 0
+        variants = p ∷ [];
+        rest = [];
+        cut = one_piece p fits;
+        each = (fits, tt);
+        ascending = refl;
+        extensions = printed_none 0;
       } in
       record {
         identifier = varied (value_of o.plain) p;

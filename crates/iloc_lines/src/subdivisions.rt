@@ -113,7 +113,11 @@ fn region_len(window: &[u8]) -> usize
     requires { 16 ≤ length window.now }
     ensures { result ≡ (if is_ascii_alphabetic (slice_index window.now 0) then 2 else 3) }
 {
-    if window[0].is_ascii_alphabetic() { 2 } else { 3 }
+    if window[0].is_ascii_alphabetic() {
+        2
+    } else {
+        3
+    }
 }
 
 // Whether the first four bytes are `zzzz`, in whatever case.

@@ -169,7 +169,10 @@ fn lead_of_subdivision(text: &[u8], block: Block<'_>) -> Lead
         return Lead::Refused(ParseError::InvalidSubtag);
     }
     let len = text.len();
-    Lead::Subdivision(len.wrapping_sub(block.tail.wrapping_add(1)), len.wrapping_sub(block.len))
+    Lead::Subdivision(
+        len.wrapping_sub(block.tail.wrapping_add(1)),
+        len.wrapping_sub(block.len),
+    )
 }
 
 // Why a block is no data locale's that is bad, or names no subdivision. Two variants or more are refused first;

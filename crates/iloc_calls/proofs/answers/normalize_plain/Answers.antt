@@ -14,15 +14,15 @@ pub returns-then-mode-gt2-clause-some : goal.returns-then-mode-gt2-clause-some
 returns-then-mode-gt2-clause-some g c =
     elim c.then-mode-gt2.branch [
       | then-mode-gt2-via-then-mode-gt2 w ↦ record {
-          known = λ m e. absurd (no_mode m c.args.mode e w.if-mode-gt2.true);
-          unknown = λ far. let told = c.withhold.ensures.unknown far in (told.0, told.1, refl);
-        }
+        known = λ m e. absurd (no_mode m c.args.mode e w.if-mode-gt2.true);
+        unknown = λ far. let told = c.withhold.ensures.unknown far in (told.0, told.1, refl);
+      }
       | then-mode-gt2-via-else-mode-gt2+then-plain-buffer w ↦ record {
-          known = λ m e.
-              let told = c.withhold.ensures.known w.if-mode-gt2.false in
-              (BufferTooSmall, told.0, withheld m c.args.text.now c.in_ok-plain.plain c.args.buffer.now c.withhold.new.needed c.in_ok-plain.ensures w.if-plain-buffer.true told.1);
-          unknown = λ far. absurd (omega (arith, far, w.if-mode-gt2.false));
-        }
+        known = λ m e.
+            let told = c.withhold.ensures.known w.if-mode-gt2.false in
+            (BufferTooSmall, told.0, withheld m c.args.text.now c.in_ok-plain.plain c.args.buffer.now c.withhold.new.needed c.in_ok-plain.ensures w.if-plain-buffer.true told.1);
+        unknown = λ far. absurd (omega (arith, far, w.if-mode-gt2.false));
+      }
     ]
 
 pub returns-clause-some : goal.returns-clause-some

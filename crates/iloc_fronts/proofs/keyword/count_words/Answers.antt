@@ -13,8 +13,8 @@ returns-then-n-left c =
     let fits = sym c.is_attribute.ensures ∙ c.values-test.true in
     let p = take v.n v.rest.now in
     let one : pieces (take v.left v.rest.now) ≡ p ∷ [] = whole_word v.rest.now v.left v.n v.invariant.room v.invariant.first Attribute short_attribute fits c.if-n-left.true in
-    let now : length (normal_values (pieces (take v.left v.rest.now))) ≡ length (normal_values (p ∷ [])) = ap (λ ps. length (normal_values ps)) one in
-    (v.invariant.same ∙ ap (list_all (is_word Attribute)) one ∙ ap (λ (b : Bool). b && true) fits,
+    let now : length (normal_values (pieces (take v.left v.rest.now))) ≡ length (normal_values (p ∷ [])) = ap (λ ps. length (normal_values ps)) one in (
+      v.invariant.same ∙ ap (list_all (is_word Attribute)) one ∙ ap (λ (b : Bool). b && true) fits,
       elim c.if-not-is_true.branch [
         | then-not-is_true b ↦ omega (arith, v.invariant.count, now, values_word p [] (sym c.is_true.ensures ∙ b.if-not-is_true.true))
         | else-not-is_true b ↦ omega (arith, v.invariant.count, now, ap length (values_true p [] (sym c.is_true.ensures ∙ b.if-not-is_true.false)))

@@ -40,7 +40,7 @@ returns c =
     few_values c.args.window.now c.args.len r.room r.first r.second (omega arith) r.more r.hyphen c.in-Some.n c.in-Some.ensures c.if-n-left.false c.in-Some-count_words.ensures.0
     c.in-Some-count_words.words c.in-Some-count_words.ensures.1 (omega arith)
     (λ one. elim c.if-words-eq1.branch [
-        | then-words-eq1 d ↦ sym d.is_true.ensures ∙ not-false _ (sym d.value-is ∙ c.if-not-is_true.false)
-        | else-words-eq1 d ↦ absurd (d.if-words-eq1.false one)
-      ])
+      | then-words-eq1 d ↦ sym d.is_true.ensures ∙ not-false _ (sym d.value-is ∙ c.if-not-is_true.false)
+      | else-words-eq1 d ↦ absurd (d.if-words-eq1.false one)
+    ])
     (other_number (take 2 c.args.window.now) c.number_of_two-2.result c.number_of_two-2.ensures c.if-number_of_two-eq-SUBDIVISION-2.false)
