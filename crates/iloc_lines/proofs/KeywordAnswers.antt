@@ -1,16 +1,15 @@
 -- Data locales that are refused for the keyword in their first block.
-use Rattle.std.proofs.Common.{◌≡◌, ◌≢◌, ◌⊎◌, inl, inr, ℕ, zero, suc, ◌+◌, ◌<◌, ◌≤◌, ◌==◌, Bool, true, false, not, cond, ◌&&◌, nat_le, List, [], ◌∷◌, ◌++◌, length, flat_map, get_or, take, drop, codes, Option, None, Some, option_map, Ok, Err, refl, sym, ap, ◌∙◌, subst, arith, append-nil, length-append}
+use Rattle.std.proofs.Common.{◌≡◌, ◌≢◌, ◌⊎◌, inl, inr, ℕ, ◌+◌, ◌<◌, ◌≤◌, ◌==◌, Bool, true, false, cond, ◌&&◌, nat_le, List, [], ◌∷◌, ◌++◌, length, flat_map, get_or, codes, Option, None, Some, option_map, Ok, Err, refl, sym, ap, ◌∙◌, subst, arith, append-nil, length-append}
 use Rattle.std.specs.Prelude.{if◌then◌else◌, option_and_then, ok_or}
-use Rattle.std.specs.Char.{is_ascii_alphabetic, is_ascii_alphanumeric, to_ascii_lowercase}
-use Rattle.std.specs.Result.{result_ok}
+use Rattle.std.specs.Char.{is_ascii_alphanumeric, to_ascii_lowercase}
 use Rattle.std.specs.List.{AllByRecursion, list_all}
 use Rattle.std.proofs.lemmas.Bool.{cases_Bool, cases_lt, true≢false, false_from_ne_true}
 use Rattle.std.proofs.lemmas.Bool.Decides.{nat_tests}
-use Rattle.iloc_spec_grammar.specs.Syntax.{pieces, Kind, Language, Script, Region, Variant, Identifier, identifier_pieces, HasWords, UnicodeKey, Attribute, Subtag, SubdivisionSuffix, normal, is_word, IsWord, is_same, is_true, languages, lower, block_pieces, is_one_byte, front, blocks, head, tail_blocks, first_piece}
+use Rattle.iloc_spec_grammar.specs.Syntax.{pieces, Kind, Language, Script, Region, Variant, Identifier, identifier_pieces, HasWords, UnicodeKey, Attribute, is_word, IsWord, is_same, languages, lower, block_pieces, is_one_byte, front, blocks, head, tail_blocks, first_piece}
 use Rattle.iloc_spec_grammar.specs.Meaning.{normal_values, Fault}
 use Rattle.iloc_spec_grammar.specs.Reading.{first_item, passing, past, skip_first, rest_of, identifier_of, after_region, after_front}
 use Rattle.iloc_spec_grammar.specs.Meaning as faults
-use Rattle.iloc_spec_grammar.proofs.WordsLaws.{length-unicode_key, is_word-lower}
+use Rattle.iloc_spec_grammar.proofs.WordsLaws.{length-unicode_key}
 use Rattle.iloc_spec_grammar.proofs.ReadingLaws.{all_while, keep_while_passes}
 use Rattle.iloc_spec_grammar.proofs.ValuesLaws.{all_weaker}
 use Rattle.iloc_spec_grammar.proofs.MapLaws.{same_is}
@@ -23,7 +22,7 @@ use Rattle.iloc_spec_grammar.proofs.IdentifierLaws.{identifier_of-pieces}
 use Rattle.iloc_spec_parts.specs.SmallComputing.{small_identifier_result, has_small_variants, is_u, is_small_block, has_small_keyword, keyword_read, block_fault, blocks_result, after_identifier, small_result}
 use Rattle.iloc_spec_preferences.proofs.Keys.{sd}
 use Rattle.iloc_spec_preferences.specs.DataLocales.{not_small, agreed, made_of, named_subdivision, small_part, data_of_small}
-use Rattle.iloc_spec_preferences.specs.Subdivisions.{Subdivision, both_words, region_length}
+use Rattle.iloc_spec_preferences.specs.Subdivisions.{Subdivision}
 use Rattle.iloc_spec_preferences.specs.DataComputing.{data_result, data_of_result}
 use Rattle.iloc_subtags.specs.declared.parse_error.ParseError.{ParseError}
 use Rattle.iloc_subtags.specs.declared.parse_error.ParseError.TheVariants.{InvalidSubtag, InvalidExtension}

@@ -1,11 +1,11 @@
 -- The normal text of a data locale with the keyword `sd`.
-use Rattle.std.proofs.Common.{◌≡◌, ◌⊎◌, inl, inr, ℕ, suc, ◌+◌, ◌-◌, ◌<◌, ◌≤◌, Bool, true, false, cond, List, [], ◌∷◌, ◌++◌, length, map, get_or, take, drop, codes, Option, None, Some, refl, sym, ap, ◌∙◌, subst, arith, append_assoc, append-nil}
+use Rattle.std.proofs.Common.{◌≡◌, ◌⊎◌, inl, inr, ℕ, suc, ◌+◌, ◌-◌, ◌<◌, ◌≤◌, Bool, true, false, List, [], ◌∷◌, ◌++◌, length, map, get_or, take, drop, codes, Option, None, Some, refl, sym, ap, ◌∙◌, subst, arith, append_assoc, append-nil}
 use Rattle.std.specs.Prelude.{if◌then◌else◌, option_map, option_and_then, option_to_list, Ok, Result}
 use Rattle.std.proofs.lemmas.Bool.{cases_Bool, cases_lt, eqb-true}
 use Rattle.std.proofs.lemmas.List.{drop-append-le, drop-take, length-drop, length-take-le, map-append, take-take}
 use Rattle.std.specs.Char.{to_ascii_lowercase}
 use Rattle.std.specs.Result.{result_ok}
-use Rattle.iloc_spec_grammar.specs.Syntax.{pieces, join, dashes, UnicodeKey, Variant, Identifier, identifier_pieces, is_true, is_same, is_word, IsWord, languages, lower}
+use Rattle.iloc_spec_grammar.specs.Syntax.{pieces, join, dashes, UnicodeKey, Variant, Identifier, is_true, is_same, is_word, IsWord, languages, lower}
 use Rattle.iloc_spec_grammar.specs.Meaning.{Fault, IdentifierMeans, normal_values}
 use Rattle.iloc_spec_grammar.specs.Reading.{first_item}
 use Rattle.iloc_spec_grammar.specs.Values.{identifier_text}
@@ -16,12 +16,12 @@ use Rattle.iloc_spec_grammar.proofs.PartTexts.{join-append}
 use Rattle.iloc_spec_grammar.proofs.PiecesLaws.{pieces-join}
 use Rattle.iloc_spec_grammar.proofs.ReadBack.{word_hyphen_free}
 use Rattle.iloc_spec_parts.specs.Small.{SmallLocale, IsSmall}
-use Rattle.iloc_spec_preferences.specs.DataLocales.{DataLocale, DataMeans, agreed, data_of_small, data_text, made_of, whole_region, is_whole, no_subdivision, subdivision_keyword, subdivision_pieces}
+use Rattle.iloc_spec_preferences.specs.DataLocales.{DataLocale, DataMeans, agreed, data_text, made_of, whole_region, is_whole, no_subdivision, subdivision_keyword, subdivision_pieces}
 use Rattle.iloc_spec_preferences.specs.Subdivisions.{Subdivision, subdivision, subdivision_text}
 use Rattle.iloc_spec_preferences.proofs.DataLaws.{sd_key}
 use Rattle.iloc_spec_preferences.proofs.SubdivisionLaws.{read_is_subdivision, subdivision_back, text_of_read}
 use Rattle.iloc_plain.specs.Shape.{plain_identifier}
-use Rattle.iloc_plain.specs.Plain.{IsPlain, value_of}
+use Rattle.iloc_plain.specs.Plain.{value_of}
 use Rattle.iloc_blocks.specs.Ordered.{IsBefore, IsStored, IsTail, text_of}
 use Rattle.iloc_blocks.specs.declared.ordered.Ordered.{Ordered}
 use Rattle.iloc_blocks.proofs.BadBlocks.{pieces_both}
@@ -35,7 +35,7 @@ use Rattle.iloc_lines.specs.Subdivisions.{IsSubdivisionBlock, value_named}
 use Rattle.iloc_lines.specs.Told.{IsRefused}
 use Rattle.iloc_lines.specs.declared.Mode.TheVariants.{Data}
 use Rattle.iloc_lines.proofs.SubdivisionBlocks.{named_read}
-use Rattle.iloc_lines.proofs.PlainAnswers.{few, variants_are, data_of, data_text_is, one_item}
+use Rattle.iloc_lines.proofs.PlainAnswers.{few, variants_are, data_text_is, one_item}
 
 -- ---- what stands before the block
 

@@ -1,10 +1,9 @@
 -- The keyword `sd`, its value, and what that names.
-use Rattle.std.proofs.Common.{◌≡◌, ◌≢◌, ◌⊎◌, inl, inr, ℕ, zero, suc, ◌+◌, ◌-◌, ◌<◌, ◌≤◌, ◌==◌, Bool, true, false, cond, not, ◌&&◌, List, [], ◌∷◌, ◌++◌, length, get_or, take, drop, codes, Option, None, Some, take-append-drop, refl, sym, ap, ◌∙◌, arith}
+use Rattle.std.proofs.Common.{◌≡◌, ◌≢◌, ℕ, zero, suc, ◌+◌, ◌-◌, ◌<◌, ◌≤◌, ◌==◌, Bool, true, false, cond, not, ◌&&◌, List, [], ◌∷◌, ◌++◌, length, get_or, take, drop, Option, None, Some, take-append-drop, refl, sym, ap, ◌∙◌, arith}
 use Rattle.std.specs.Prelude.{if◌then◌else◌, option_and_then, ok_or, Err, Ok, Result}
 use Rattle.std.specs.Int.{is_in_range}
 use Rattle.std.specs.Char.{is_ascii_alphabetic, is_ascii_alphanumeric, to_ascii_lowercase}
 use Rattle.std.specs.Result.{result_ok}
-use Rattle.std.specs.List.{list_any}
 use Rattle.std.proofs.lemmas.Bool.{and_parts, false_from_ne_true, true≢false}
 use Rattle.std.proofs.lemmas.Bool.Decides.{nat_tests}
 use Rattle.std.proofs.lemmas.List.{drop-take, get_or-take, length-drop, length-map, length-take, length-take-le, map-append, take-take}
@@ -17,7 +16,6 @@ use Rattle.iloc_spec_grammar.proofs.PiecesLaws.{pieces-join}
 use Rattle.iloc_spec_grammar.proofs.ReadBack.{word_hyphen_free}
 use Rattle.iloc_spec_grammar.proofs.MapLaws.{same_is}
 use Rattle.iloc_spec_grammar.proofs.WordsLaws.{is_word-lower, length-attribute, is_word-normal, lower-lower, lower-upper, normal-normal}
-use Rattle.iloc_spec_parts.specs.SmallComputing.{is_u}
 use Rattle.iloc_spec_preferences.specs.DataLocales.{named_subdivision, whole}
 use Rattle.iloc_spec_preferences.specs.Subdivisions.{Subdivision, both_words, region_length, subdivision, subdivision_text}
 use Rattle.iloc_spec_preferences.proofs.SubdivisionLaws.{subdivision_back}

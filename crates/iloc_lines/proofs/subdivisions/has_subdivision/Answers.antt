@@ -1,4 +1,4 @@
-use Rattle.std.proofs.Common.{◌-◌, drop, length, take, ap, sym, ◌∙◌, arith}
+use Rattle.std.proofs.Common.{◌-◌, drop, length, ap, sym, ◌∙◌, arith}
 use Rattle.std.proofs.lemmas.List.{take-take}
 use Rattle.iloc_spec_grammar.specs.Syntax.{Attribute, is_word}
 use Rattle.iloc_lines.proofs.SubdivisionBlocks.{is_block}

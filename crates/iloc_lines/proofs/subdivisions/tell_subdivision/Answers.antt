@@ -1,9 +1,9 @@
-use Rattle.std.proofs.Common.{◌≡◌, ◌<◌, ◌⊎◌, inl, inr, ◌-◌, ℕ, List, true, false, length, take, drop, refl, sym, ap, ◌∙◌, subst, arith}
+use Rattle.std.proofs.Common.{◌≡◌, ◌<◌, ◌⊎◌, inl, inr, ◌-◌, ℕ, List, true, false, take, refl, sym, ap, ◌∙◌, subst, arith}
 use Rattle.std.specs.Cmp.Lexicographic.{texts_ties}
 use Rattle.iloc_spec_grammar.specs.Syntax.{Attribute, IsWord, is_same, languages}
 use Rattle.iloc_spec_preferences.specs.DataLocales.{is_whole}
 use Rattle.iloc_lines.specs.Answers.{IsNormalText}
-use Rattle.iloc_lines.specs.Subdivisions.{IsNamed, IsSubdivisionBlock, value_named}
+use Rattle.iloc_lines.specs.Subdivisions.{IsNamed, value_named}
 use Rattle.iloc_lines.specs.declared.Mode.TheVariants.{Data}
 use Rattle.iloc_lines.proofs.SubdivisionAnswers.{IsHead, cut_to, dropped, head_is, is_stored, kept, line_stored, refused, value, value_there}
 use Rattle.iloc_lines.proofs.subdivisions.tell_subdivision.Goals as goal
