@@ -1,5 +1,5 @@
 //! What is told of a text at once, in each mode: first by its front, and then by what follows that.
-ghost use Rattle.std.specs.Prelude.{◌≡◌, ◌≢◌, ◌+◌, ◌<◌, ◌≤◌, IfSome, true, length, take, get_or};
+ghost use Rattle.std.specs.Prelude.{◌≡◌, ◌≢◌, ◌↔◌, ◌+◌, ◌<◌, ◌≤◌, IfSome, IsTrue, true, length, take, get_or};
 ghost use Rattle.iloc_spec_grammar.specs.Syntax.{Text};
 ghost use Rattle.iloc_spec_parts.specs.SmallComputing.{is_u};
 ghost use Rattle.iloc_fronts.specs.Front.{EndsInVariant, IsFront};
@@ -165,7 +165,7 @@ fn lead_of_subdivision(text: &[u8], block: Block<'_>) -> Lead
     requires { IsFront text.now (fronts.Block block) }
     ensures { IsLead Mode.Data text.now result }
 {
-    if block.tail > block.len + 9 {
+    if comes_after_variants(block) {
         return Lead::Refused(ParseError::InvalidSubtag);
     }
     let len = text.len();
@@ -175,15 +175,23 @@ fn lead_of_subdivision(text: &[u8], block: Block<'_>) -> Lead
     )
 }
 
-// Why a block is no data locale's that is bad, or names no subdivision. Two variants or more are refused first;
-// one takes at most nine bytes with its hyphen.
+// Whether two variants or more come before the block. One takes at most nine bytes with its hyphen.
+#[inline(always)]
+fn comes_after_variants(block: Block<'_>) -> bool
+    requires { block.len + 16 ≤ length block.window.now }
+    ensures { IsTrue result ↔ (block.entry.len + 9 < block.entry.tail) }
+{
+    block.tail > block.len + 9
+}
+
+// Why a block is no data locale's that is bad, or names no subdivision. Two variants or more are refused first.
 #[inline(always)]
 fn fault_after(block: Block<'_>) -> ParseError
     requires { block.len + 16 ≤ length block.window.now }
     ensures few { block.entry.tail ≤ block.entry.len + 9 → result ≡ ParseError.InvalidExtension }
     ensures many { block.entry.len + 9 < block.entry.tail → result ≡ ParseError.InvalidSubtag }
 {
-    if block.tail > block.len + 9 {
+    if comes_after_variants(block) {
         return ParseError::InvalidSubtag;
     }
     ParseError::InvalidExtension

@@ -2,4 +2,4 @@ use Rattle.iloc_lines.proofs.KeywordAnswers.{large_refused}
 use Rattle.iloc_lines.proofs.told.lead_of_subdivision.Goals as goal
 
 pub returns-then-block : goal.returns-then-block
-returns-then-block c = large_refused c.args.text.now c.args.block c.requires c.if-block.true
+returns-then-block c = large_refused c.args.text.now c.args.block c.requires (c.comes_after_variants.ensures.0 c.if-comes_after_variants.true)
