@@ -6,15 +6,16 @@
 //! singleton of the first block, and `line-ordered` of a line in the order of its normal text the plain identifier and
 //! the rest, what is wrong with its first bad block, or that the line is not in order. `line-bad` says what is wrong with
 //! the first bad block, and `line-rewritten` the line that is brought into order. `line-sorted` says the line whose
-//! variants are brought into order, and `line-repeats` whether a variant comes twice. A line of which nothing is said is `not told`.
-ghost use Rattle.std.specs.Prelude.{◌+◌, ◌≤◌, length};
+//! variants are brought into order, and `line-identifier` the identifier whose variants are; both say if one comes twice.
+//! A line of which nothing is said is `not told`.
+ghost use Rattle.std.specs.Prelude.{◌+◌, ◌≤◌, IfSome, length};
 ghost use Rattle.iloc_plain.specs.Plain.{AreWords};
 ghost use Rattle.iloc_blocks.specs.Ordered.{IsStored};
 
-use iloc_blocks::{BadBlock, Ordered, Reading, read_ordered, read_varied};
+use iloc_blocks::{BadBlock, Ordered, Reading, read_ordered, read_variants, read_varied};
 use iloc_fronts::{Block, Front, Keyword, read_front, read_keyword};
 use iloc_plain::{Plain, read_plain, read_plain_text};
-use iloc_rewriting::{repeats_variant, rewrite, sort_variants};
+use iloc_rewriting::{Unsorted, rewrite, sort_identifier, sort_variants};
 use std::cmp::min;
 use test_page::argument::number_of;
 use test_page::{bytes, number, say};
@@ -77,11 +78,14 @@ fn front(window: &[u8], len: usize, out: &mut String) {
         Front::NoLanguage => say(out, "no language"),
         Front::Misfit => say(out, "misfit"),
         Front::Block(found) => block(&found, out),
-        Front::Variant(tail) => {
+        Front::Variant(n) => {
             say(out, "variant ");
+            number(out, n)
+        }
+        Front::Variants(tail) => {
+            say(out, "variants ");
             number(out, tail)
         }
-        Front::Variants => say(out, "variants"),
         Front::Other => say(out, "not told"),
     }
 }
@@ -119,11 +123,11 @@ fn in_order(line: &Ordered<'_>, out: &mut String)
     bytes(out, line.rest.get(..line.len).unwrap_or(b""))
 }
 
-// Says what a line is that may be an identifier of `at` bytes, and a variant.
-fn varied(window: &[u8], len: usize, at: usize, out: &mut String)
-    requires { len + 16 ≤ length window.now }
+// Says the line that is in order.
+fn perhaps_in_order(line: Option<Ordered<'_>>, out: &mut String)
+    requires { IfSome line (λ o. IsStored o) }
 {
-    match read_varied(window, len, at) {
+    match line {
         Some(line) => in_order(&line, out),
         None => say(out, "not told"),
     }
@@ -152,7 +156,11 @@ fn ordered(window: &[u8], len: usize, out: &mut String) {
             let at = len.wrapping_sub(block.tail.wrapping_add(1));
             with_blocks(window, len, at, out)
         }
-        Front::Variant(tail) => varied(window, len, len.wrapping_sub(tail.wrapping_add(1)), out),
+        Front::Variant(n) => perhaps_in_order(read_varied(window, len, n), out),
+        Front::Variants(tail) => {
+            let at = len.wrapping_sub(tail.wrapping_add(1));
+            perhaps_in_order(read_variants(window, len, at), out)
+        }
         _ => say(out, "not told"),
     }
 }
@@ -185,6 +193,14 @@ fn rewritten(window: &[u8], len: usize, out: &mut String) {
     }
 }
 
+// Says why variants are not in order.
+fn unsorted(why: Unsorted, out: &mut String) {
+    match why {
+        Unsorted::Repeated => say(out, "twice"),
+        Unsorted::Other => say(out, "not told"),
+    }
+}
+
 // Says the line with its variants in order, if sixteen bytes follow it at least.
 fn sorted(window: &[u8], len: usize, out: &mut String) {
     if window.len() < 16 || len > window.len() - 16 {
@@ -193,25 +209,22 @@ fn sorted(window: &[u8], len: usize, out: &mut String) {
     let at = identifier_len(window, len);
     let mut room = [0u8; 128];
     match sort_variants(window, len, at, &mut room) {
-        Some(len) => bytes(out, room.get(..len).unwrap_or(b"")),
-        None => say(out, "not told"),
+        Ok(len) => bytes(out, room.get(..len).unwrap_or(b"")),
+        Err(why) => unsorted(why, out),
     }
 }
 
-// Says whether a variant comes twice, if sixteen bytes follow the line at least.
-fn repeats(window: &[u8], len: usize, out: &mut String) {
+// Says the identifier with its variants in order, if sixteen bytes follow the line at least.
+fn identifier(window: &[u8], len: usize, out: &mut String) {
     if window.len() < 16 || len > window.len() - 16 {
         return say(out, "not told");
     }
     let at = identifier_len(window, len);
-    say(
-        out,
-        if repeats_variant(window, len, at) {
-            "twice"
-        } else {
-            "not told"
-        },
-    )
+    let mut room = [0u8; 128];
+    match sort_identifier(window, len, at, &mut room) {
+        Ok(line) => in_order(&line, out),
+        Err(why) => unsorted(why, out),
+    }
 }
 
 /// The answer to a call.
@@ -224,7 +237,7 @@ pub fn answer(what: &str, text: &[u8], len: &[u8], out: &mut String) {
         "ordered" => ordered(text, number_of(len), out),
         "rewritten" => rewritten(text, number_of(len), out),
         "sorted" => sorted(text, number_of(len), out),
-        "repeats" => repeats(text, number_of(len), out),
+        "identifier" => identifier(text, number_of(len), out),
         _ => say(out, "no call"),
     }
 }
