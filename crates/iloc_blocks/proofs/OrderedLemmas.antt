@@ -226,13 +226,6 @@ unfolding is_cut
 told_ordered o w len at room b h =
     is_ordered (take len w) o (is_cut o w len at room b) (subst (λ (s : List ℕ). IsTail (pieces s)) (rest_is w len at room b.less b.hyphen) h)
 
--- a line of which no more than ascending variants follow
-pub told_variants : (o : Ordered) (w : List ℕ) (len at : ℕ) → len + 16 ≤ length w → IsBefore w len at o
-    → (vs : List (List ℕ)) → AllByRecursion (IsWord Variant) vs → IsAscending (map lower vs) → pieces (Tail w len at) ≡ vs → IsOrderedIdentifier (take len w) o
-unfolding is_cut
-told_variants o w len at room b vs each ascending e =
-    is_identifier (take len w) o (is_cut o w len at room b) vs each ascending (ap pieces (sym (rest_is w len at room b.less b.hyphen)) ∙ e)
-
 -- ---- one variant
 
 tail_after : (xs ys zs vs : List ℕ) → length xs ≡ length zs → xs ++ 45 ∷ ys ≡ zs ++ 45 ∷ vs → ys ≡ vs

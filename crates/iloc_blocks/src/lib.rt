@@ -1,9 +1,9 @@
 //! The blocks of a line, told at once, without a value being built.
 //!
-//! Of a line that begins with a plain identifier `read_varied`, `read_variants` and `read_ordered` tell whether what
-//! follows has the order of the normal text: one variant, ascending variants, or ascending variants and blocks of which
-//! the singletons ascend, each in its own order, and one of `x` (`IsVaried`, `IsOrderedIdentifier`, `IsOrdered`). The normal text is then the line itself but for the case
-//! of letters. If a bad block comes first, or after blocks in order, `read_ordered` tells that: the text has the fault of
+//! Of a line that begins with a plain identifier `read_varied` and `read_ordered` tell whether what follows has the order
+//! of the normal text: one variant, or ascending variants and blocks of which the singletons ascend, each in its own
+//! order, and one of `x` (`IsVaried`, `IsOrdered`). The normal text is then the line itself but for the case of letters.
+//! If a bad block comes first, or after blocks in order, `read_ordered` tells that: the text has the fault of
 //! the grammar. A block that is not in order is read to its end, and may be bad too.
 //!
 //! `read_body` tells what follows one singleton, for `iloc_rewriting`, which brings other lines into order.
@@ -29,4 +29,4 @@ mod unicode;
 pub mod variants;
 
 pub use bad_block::BadBlock;
-pub use ordered::{Ordered, Reading, read_ordered, read_variants, read_varied};
+pub use ordered::{Ordered, Reading, read_ordered, read_varied};

@@ -86,21 +86,6 @@ pub fn read_varied(window: &[u8], len: usize, n: usize) -> Option<Ordered<'_>>
     cut_before(window, len, len - n - 1)
 }
 
-/// The identifier that they are, if a plain one of `at` bytes comes first, and then no more than ascending variants.
-#[inline(always)]
-pub fn read_variants(window: &[u8], len: usize, at: usize) -> Option<Ordered<'_>>
-    requires { len + 16 ≤ length window.now }
-    ensures { IfSome result (IsOrderedIdentifier (take len window.now)) }
-{
-    if at >= len {
-        return None;
-    }
-    match past_ascending(left_in(&window[at + 1..], len - at - 1)) {
-        Body::End => cut_at(window, len, at),
-        Body::Next(_) | Body::Bad | Body::Unordered | Body::Other => None,
-    }
-}
-
 /// The plain identifier of `at` bytes and what follows it, if that begins with a hyphen.
 #[inline(always)]
 pub fn cut_at(window: &[u8], len: usize, at: usize) -> Option<Ordered<'_>>

@@ -37,9 +37,9 @@ ghost use Rattle.memchr.specs.Find.{Nowhere, Passes, is_byte};
 use crate::replies::write_refusal;
 use crate::reply_block::ReplyBlock;
 use crate::subdivisions::tell_subdivision;
-use crate::told::{Lead, ROOM, Told, read_lead, tell_after_variants, tell_sorted};
+use crate::told::{Lead, ROOM, Told, read_lead, tell_after_variants, tell_variants};
 use crate::{Answers, RunError};
-use iloc_blocks::{BadBlock, Reading, read_ordered, read_variants, read_varied};
+use iloc_blocks::{BadBlock, Reading, read_ordered, read_varied};
 use iloc_fronts::may_begin;
 use iloc_plain::{Plain, read_plain};
 use iloc_rewriting::rewrite;
@@ -145,9 +145,6 @@ fn reply_to<A: Answers>(
     ensures { OnOk result (held replies.new
         ≡ held replies.old ++ reply A.mode (take len window.now)) }
 {
-    if !may_begin(window, len) {
-        return write_refusal(ParseError::InvalidLanguage, replies);
-    }
     match read_lead(answers.mode(), window, len) {
         Lead::Refused(error) => write_refusal(error, replies),
         Lead::Variant(n) => reply_to_varied(answers, window, len, n, replies),
@@ -236,28 +233,7 @@ fn reply_to_variants<A: Answers>(
     ensures { OnOk result (held replies.new
         ≡ held replies.old ++ reply A.mode (take len window.now)) }
 {
-    match read_variants(window, len, at) {
-        Some(line) => replies.push_ordered(&line),
-        None => reply_to_unsorted(answers, window, len, at, room, replies),
-    }
-}
-
-// The same of one whose variants do not ascend.
-#[inline(never)]
-fn reply_to_unsorted<A: Answers>(
-    answers: &mut A,
-    window: &[u8],
-    len: usize,
-    at: usize,
-    room: &mut [u8],
-    replies: &mut ReplyBlock,
-) -> Result<(), AllocError>
-    requires mode { A.mode ≢ Mode.Data }
-    requires room { len + 16 ≤ length window.now }
-    ensures { OnOk result (held replies.new
-        ≡ held replies.old ++ reply A.mode (take len window.now)) }
-{
-    let told = tell_sorted(window, len, at, room);
+    let told = tell_variants(window, len, at, room);
     reply_told(answers, window, len, told, replies)
 }
 
@@ -380,6 +356,8 @@ fn feed_lines<A: Answers>(
         let (line, later) = rest.split_at(end);
         if rest.len() - end < 16 {
             answers.reply(line, replies)?;
+        } else if !may_begin(rest, end) {
+            write_refusal(ParseError::InvalidLanguage, replies)?;
         } else if let Some(plain) = plain_line(rest, end) {
             replies.push_plain(&plain)?;
         } else {

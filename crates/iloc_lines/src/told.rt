@@ -10,7 +10,7 @@ ghost use Rattle.iloc_lines.specs.Told.{IsLead, IsRefused, IsTold, refusal_of};
 
 use crate::Mode;
 use crate::subdivisions::tell_subdivision;
-use iloc_blocks::{BadBlock, Ordered, Reading, read_ordered, read_variants, read_varied};
+use iloc_blocks::{BadBlock, Ordered, Reading, read_ordered, read_varied};
 use iloc_fronts::{Block, Front, Keyword, read_front, read_keyword};
 use iloc_rewriting::{Unsorted, rewrite, sort_identifier, sort_variants};
 use iloc_subtags::ParseError;
@@ -214,19 +214,7 @@ pub fn tell_varied(window: &[u8], len: usize, n: usize) -> Told<'_>
 /// What is told, in another mode than that of data locales, of the first `len` bytes, if a plain identifier of `at` bytes
 /// and variants are all of them. Variants out of order are brought into order in the room.
 #[inline(always)]
-pub fn tell_variants<'a>(window: &'a [u8], len: usize, at: usize, room: &'a mut [u8]) -> Told<'a>
-    requires { len + 16 ≤ length window.now }
-    ensures { (mode : Mode) → mode ≢ Mode.Data → IsTold mode (take len window.now) result }
-{
-    match read_variants(window, len, at) {
-        Some(line) => Told::Ordered(line),
-        None => tell_sorted(window, len, at, room),
-    }
-}
-
-/// The same if the variants do not ascend.
-#[inline(never)]
-pub fn tell_sorted<'a>(window: &[u8], len: usize, at: usize, room: &'a mut [u8]) -> Told<'a>
+pub fn tell_variants<'a>(window: &[u8], len: usize, at: usize, room: &'a mut [u8]) -> Told<'a>
     requires { len + 16 ≤ length window.now }
     ensures { (mode : Mode) → mode ≢ Mode.Data → IsTold mode (take len window.now) result }
 {

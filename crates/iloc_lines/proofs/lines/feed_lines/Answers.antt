@@ -9,11 +9,13 @@ use Rattle.iloc_spec_grammar.specs.Values.{identifier_text}
 use Rattle.iloc_plain.specs.Plain.{value_of}
 use Rattle.iloc_lines.proofs.LineCuts.{output-cut}
 use Rattle.iloc_lines.proofs.PlainAnswers.{plain_normal}
-use Rattle.iloc_lines.proofs.PlainLemmas.{normal_reply}
+use Rattle.iloc_lines.proofs.PlainLemmas.{normal_reply, refused_reply}
+use Rattle.iloc_lines.proofs.FrontAnswers.{no_language_refused}
+use Rattle.iloc_subtags.specs.declared.parse_error.ParseError.TheVariants.{InvalidLanguage}
 use Rattle.iloc_lines.specs.Output.{output, reply}
 use Rattle.iloc_lines.specs.ReplyBlock.{held}
 use Rattle.iloc_lines.proofs.lines.feed_lines.Goals as goal
-use Rattle.iloc_lines.proofs.lines.feed_lines.Goals.{then-rest-end-lt16+in_ok-reply, else-rest-end-lt16+in-Some+in_ok-push_plain, else-rest-end-lt16+in_default+in_ok-reply_to}
+use Rattle.iloc_lines.proofs.lines.feed_lines.Goals.{then-rest-end-lt16+in_ok-reply, else-rest-end-lt16+then-not-may_begin+in_ok-write_refusal, else-rest-end-lt16+else-not-may_begin+in-Some+in_ok-push_plain, else-rest-end-lt16+else-not-may_begin+in_default+in_ok-reply_to}
 
 pub lines-preserved : goal.lines-preserved
 lines-preserved g c =
@@ -27,10 +29,13 @@ lines-preserved g c =
     let replied : held c.if-rest-end-lt16.replies ≡ held c.lines.replies ++ reply mode line = elim c.if-rest-end-lt16.branch [
       | then-rest-end-lt16+in_ok-reply w ↦
           ap held w.replies-is ∙ w.in_ok-reply.ensures ∙ ap (λ (t : List ℕ). held c.lines.replies ++ reply mode t) c.split_at.ensures.front
-      | else-rest-end-lt16+in-Some+in_ok-push_plain w ↦
+      | else-rest-end-lt16+then-not-may_begin+in_ok-write_refusal w ↦
+          ap held w.replies-is ∙ w.in_ok-write_refusal.ensures.text
+          ∙ ap (λ (t : List ℕ). held c.lines.replies ++ t) (refused_reply mode line InvalidLanguage (no_language_refused mode line (w.may_begin.ensures w.if-not-may_begin.true)))
+      | else-rest-end-lt16+else-not-may_begin+in-Some+in_ok-push_plain w ↦
           ap held w.replies-is ∙ w.in_ok-push_plain.ensures
           ∙ ap (λ (t : List ℕ). held c.lines.replies ++ t) (normal_reply mode line (identifier_text (value_of w.in-Some.plain)) (plain_normal mode line w.in-Some.plain w.in-Some.ensures))
-      | else-rest-end-lt16+in_default+in_ok-reply_to w ↦ ap held w.replies-is ∙ w.in_ok-reply_to.ensures
+      | else-rest-end-lt16+else-not-may_begin+in_default+in_ok-reply_to w ↦ ap held w.replies-is ∙ w.in_ok-reply_to.ensures
     ] in
     let back : c.split_at.result.1.now ≡ drop end rest = c.split_at.ensures.back in
     let next_is : take (length c.split_at.result.1.now - 1) (drop 1 c.split_at.result.1.now) ≡ later =

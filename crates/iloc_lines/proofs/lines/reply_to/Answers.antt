@@ -8,13 +8,6 @@ use Rattle.iloc_lines.proofs.FrontAnswers.{no_language_refused}
 use Rattle.iloc_lines.proofs.PlainLemmas.{refused_reply}
 use Rattle.iloc_lines.proofs.lines.reply_to.Goals as goal
 
-pub returns-then-not-may_begin : goal.returns-then-not-may_begin
-returns-then-not-may_begin g c =
-    let mode = g.A.Answers.mode in
-    let line = take c.args.len c.args.window.now in
-    subst (λ (t : List ℕ). OnOk c.write_refusal.result (held c.write_refusal.new.replies ≡ held c.args.replies.now ++ t))
-    (refused_reply mode line InvalidLanguage (no_language_refused mode line (c.may_begin.ensures c.if-not-may_begin.true))) c.write_refusal.ensures.text
-
 pub returns-in-Refused : goal.returns-in-Refused
 returns-in-Refused g c =
     let mode = g.A.Answers.mode in

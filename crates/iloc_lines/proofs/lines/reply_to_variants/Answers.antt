@@ -1,13 +1,4 @@
-use Rattle.std.proofs.Common.{ℕ, List, ◌≡◌, ◌++◌, OnOk, subst, take}
-use Rattle.iloc_blocks.specs.Ordered.{text_of}
-use Rattle.iloc_lines.specs.ReplyBlock.{held}
-use Rattle.iloc_lines.proofs.PlainAnswers.{identifier_in_order}
-use Rattle.iloc_lines.proofs.PlainLemmas.{normal_reply}
 use Rattle.iloc_lines.proofs.lines.reply_to_variants.Goals as goal
 
-pub returns-in-Some : goal.returns-in-Some
-returns-in-Some g c =
-    let mode = g.A.Answers.mode in
-    let line = take c.args.len c.args.window.now in
-    subst (λ (t : List ℕ). OnOk c.push_ordered.result (held c.push_ordered.new.self ≡ held c.args.replies.now ++ t))
-    (normal_reply mode line (text_of c.in-Some.line) (identifier_in_order line c.in-Some.line c.in-Some.ensures mode c.requires.mode).normal) c.push_ordered.ensures
+pub reply_told-requires-clause-told : goal.reply_told-requires-clause-told
+reply_told-requires-clause-told g c = c.tell_variants-told.ensures g.A.Answers.mode c.requires.mode
