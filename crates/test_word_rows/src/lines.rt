@@ -8,11 +8,12 @@
 //! the first bad block, and `line-rewritten` the line that is brought into order. `line-sorted` says the line whose
 //! variants are brought into order, and `line-identifier` the identifier whose variants are; both say if one comes twice.
 //! A line of which nothing is said is `not told`.
-ghost use Rattle.std.specs.Prelude.{◌+◌, ◌≤◌, IfSome, length};
+ghost use Rattle.std.specs.Prelude.{◌+◌, ◌≤◌, length, take};
 ghost use Rattle.iloc_plain.specs.Plain.{AreWords};
+ghost use Rattle.iloc_fronts.specs.Front.{EndsInVariant};
 ghost use Rattle.iloc_blocks.specs.Ordered.{IsStored};
 
-use iloc_blocks::{BadBlock, Ordered, Reading, read_ordered, read_variants, read_varied};
+use iloc_blocks::{BadBlock, Ordered, Reading, read_ordered, read_varied};
 use iloc_fronts::{Block, Front, Keyword, read_front, read_keyword};
 use iloc_plain::{Plain, read_plain, read_plain_text};
 use iloc_rewriting::{Unsorted, rewrite, sort_identifier, sort_variants};
@@ -123,11 +124,12 @@ fn in_order(line: &Ordered<'_>, out: &mut String)
     bytes(out, line.rest.get(..line.len).unwrap_or(b""))
 }
 
-// Says the line that is in order.
-fn perhaps_in_order(line: Option<Ordered<'_>>, out: &mut String)
-    requires { IfSome line (λ o. IsStored o) }
+// Says what a line is that a variant of `n` bytes ends.
+fn varied(window: &[u8], len: usize, n: usize, out: &mut String)
+    requires room { len + 16 ≤ length window.now }
+    requires variant { EndsInVariant (take len window.now) n }
 {
-    match line {
+    match read_varied(window, len, n) {
         Some(line) => in_order(&line, out),
         None => say(out, "not told"),
     }
@@ -156,11 +158,7 @@ fn ordered(window: &[u8], len: usize, out: &mut String) {
             let at = len.wrapping_sub(block.tail.wrapping_add(1));
             with_blocks(window, len, at, out)
         }
-        Front::Variant(n) => perhaps_in_order(read_varied(window, len, n), out),
-        Front::Variants(tail) => {
-            let at = len.wrapping_sub(tail.wrapping_add(1));
-            perhaps_in_order(read_variants(window, len, at), out)
-        }
+        Front::Variant(n) => varied(window, len, n, out),
         _ => say(out, "not told"),
     }
 }
