@@ -110,6 +110,7 @@ fn keyword(window: &[u8], len: usize, out: &mut String) {
             Keyword::Misfit => "misfit",
             Keyword::Single => "single",
             Keyword::Many => "many",
+            Keyword::Subdivision => "subdivision",
             Keyword::Other => "not told",
         },
     )
