@@ -10,7 +10,7 @@
 //! A line of which nothing is said is `not told`.
 ghost use Rattle.std.specs.Prelude.{◌+◌, ◌≤◌, length, take};
 ghost use Rattle.iloc_plain.specs.Plain.{AreWords};
-ghost use Rattle.iloc_fronts.specs.Front.{EndsInVariant};
+ghost use Rattle.iloc_fronts.specs.Front.{EndsInVariant, IsFront};
 ghost use Rattle.iloc_blocks.specs.Ordered.{IsStored};
 
 use iloc_blocks::{BadBlock, Ordered, Reading, read_ordered, read_varied};
@@ -50,7 +50,9 @@ fn window(text: &[u8], len: usize, out: &mut String) {
 }
 
 // What the first bytes begin with, if sixteen follow them at least.
-fn front_of(window: &[u8], len: usize) -> Front<'_> {
+fn front_of(window: &[u8], len: usize) -> Front<'_>
+    ensures { IsFront (take len window.now) result }
+{
     if window.len() < 16 || len > window.len() - 16 {
         return Front::Other;
     }
@@ -94,9 +96,7 @@ fn front(window: &[u8], len: usize, out: &mut String) {
 // What follows the singleton of the first block, if sixteen bytes follow the line at least.
 fn keyword_of(window: &[u8], len: usize) -> Keyword {
     match front_of(window, len) {
-        Front::Block(block) if block.window.len() >= 16 && block.len <= block.window.len() - 16 => {
-            read_keyword(block)
-        }
+        Front::Block(block) => read_keyword(block),
         _ => Keyword::Other,
     }
 }
