@@ -1,10 +1,8 @@
 use Rattle.std.proofs.Common.{ℕ, List, ◌≡◌, ◌≢◌, ◌++◌, OnOk, subst, sym, ◌∙◌, take}
-use Rattle.iloc_subtags.specs.declared.parse_error.ParseError.TheVariants.{InvalidLanguage}
 use Rattle.iloc_lines.specs.ReplyBlock.{held}
 use Rattle.iloc_lines.specs.Told.{IsRefused}
 use Rattle.iloc_lines.specs.declared.Mode.{Mode}
 use Rattle.iloc_lines.specs.declared.Mode.TheVariants.{Data}
-use Rattle.iloc_lines.proofs.FrontAnswers.{no_language_refused}
 use Rattle.iloc_lines.proofs.PlainLemmas.{refused_reply}
 use Rattle.iloc_lines.proofs.lines.reply_to.Goals as goal
 
@@ -14,8 +12,8 @@ returns-in-Refused g c =
     let line = take c.args.len c.args.window.now in
     let told : IsRefused mode line c.in-Refused.error =
     subst (λ (m : Mode). IsRefused m line c.in-Refused.error) c.mode.ensures c.in-Refused.ensures in
-    subst (λ (t : List ℕ). OnOk c.write_refusal-in-Refused.result (held c.write_refusal-in-Refused.new.replies ≡ held c.args.replies.now ++ t))
-    (refused_reply mode line c.in-Refused.error told) c.write_refusal-in-Refused.ensures.text
+    subst (λ (t : List ℕ). OnOk c.write_refusal.result (held c.write_refusal.new.replies ≡ held c.args.replies.now ++ t))
+    (refused_reply mode line c.in-Refused.error told) c.write_refusal.ensures.text
 
 pub reply_to_blocks-requires-clause-mode : goal.reply_to_blocks-requires-clause-mode
 reply_to_blocks-requires-clause-mode g c = sym c.mode.ensures ∙ c.in-Blocks.ensures
