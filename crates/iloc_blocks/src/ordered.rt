@@ -2,13 +2,7 @@
 ghost use Rattle.std.specs.Prelude.{◌≡◌, ◌+◌, ◌<◌, ◌≤◌, IfSome, length, slice_index, take};
 ghost use Rattle.iloc_fronts.specs.Front.{EndsInVariant};
 ghost use Rattle.iloc_fronts.specs.Left.{IsLeft, pieces_of};
-ghost use Rattle.iloc_blocks.specs.Ordered.{
-  IsBefore,
-  IsOrderedIdentifier,
-  IsReading,
-  IsTailOf,
-  IsVaried,
-};
+ghost use Rattle.iloc_blocks.specs.Ordered.{IsBefore, IsReading, IsTailOf, IsVaried};
 
 use crate::bad_block::BadBlock;
 use crate::blocks::{Rest, read_blocks};

@@ -209,9 +209,6 @@ module _ (w : List ℕ) (len n : ℕ) (room : len + 16 ≤ length w) (first : Is
   all_later k short fits more =
       ap (list_all (is_word k)) (after_word k short fits more) ∙ ap (λ (b : Bool). b && list_all (is_word k) (pieces next)) fits
 
-  pub key_is_two : is_word UnicodeKey (take n w) ≡ true → n ≡ 2
-  key_is_two fits = omega (arith, length-unicode_key (take n w) fits, length-take-le n w (omega (arith, inside)))
-
   -- a short piece, and a word, that ends the line
   pub whole_short : n < 16 → n ≡ len → pieces text ≡ take n w ∷ []
   whole_short few end = first.last few (omega (arith, whole)) ∙ (λ j. take (sym end j) w ∷ [])
