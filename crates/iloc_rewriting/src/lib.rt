@@ -5,11 +5,13 @@
 //! (`IsReading`): the normal text of the old line is the new one but for the case of letters. Of a line with a bad block
 //! it tells the first one, whatever the order of the blocks before it.
 //!
-//! `Reading::Other` and `None` say nothing: the caller parses the text as it would without this crate. So each caller
-//! keeps its own contract, and a shape that is not rewritten here costs time and nothing else.
+//! `sort_identifier` does the same with an identifier: its variants are stored in order (`IsOrderedIdentifier`).
+//! `sort_variants` stores a line with its variants in order, and what follows them as it stands. What is told of the new
+//! line is so of the old one (`IsSortedAs`). Both tell lines in which a variant comes twice, which mean nothing
+//! (`HasRepeat`).
 //!
-//! `sort_variants` does the same with variants: what is told of the new line is so of the old one (`IsSortedAs`).
-//! `repeats_variant` tells lines in which a variant comes twice, which are none (`HasRepeat`).
+//! `Reading::Other` and `Unsorted::Other` say nothing: the caller parses the text as it would without this crate. So each
+//! caller keeps its own contract, and a shape that is not rewritten here costs time and nothing else.
 //!
 //! A line is rewritten in one walk (`rewriting`, `sorting`): each block is stored in its place. What follows its singleton
 //! is stored as it stands if it is in order, and else in order (`blocks`, `fields`, `others`), its pieces as sixteen bytes
