@@ -1,6 +1,6 @@
 //! Calls on the attributes of a locale.
 ghost use Rattle.std.specs.Prelude.{◌≡◌, ◌↔◌, IsTrue, length};
-ghost use Rattle.iloc_spec_grammar.specs.Syntax.{Attribute as the_kind};
+ghost use Rattle.iloc_spec_grammar.specs.Syntax.{Alphanum};
 ghost use Rattle.iloc_calls.specs.Answers.{Tells};
 ghost use Rattle.iloc_calls.specs.Numbers.{EndsAs};
 ghost use Rattle.iloc_handles.specs.Clearing.{Clears};

@@ -5,7 +5,7 @@ use Rattle.std.specs.List.{AllByRecursion, list_all, list_any}
 use Rattle.std.specs.FinMap.{is_sorted}
 use Rattle.std.specs.Ordering.{nat_cmp, eq_by_cmp}
 use Rattle.std.specs.Char.{is_ascii_alphanumeric}
-use Rattle.iloc_spec_grammar.specs.Syntax.{Text, Fields, code_t, code_u, code_x, front, blocks, PrivateSubtag, Subtag, UnicodeKey, Attribute, is_word, IsWord, IsOther, is_true, letters_or_digits, lower, word_cmp, fields_pieces, languages, first_piece}
+use Rattle.iloc_spec_grammar.specs.Syntax.{Text, Fields, code_t, code_u, code_x, front, blocks, Alphanum, UnicodeKey, is_word, IsWord, IsOther, is_true, letters_or_digits, lower, word_cmp, fields_pieces, languages, first_piece}
 use Rattle.iloc_spec_grammar.specs.Meaning.{Extensions, FirstBadBlock, no_unicode, no_transform}
 use Rattle.iloc_spec_grammar.specs.Values.{IsAscending, IsExtensionsValue, AreWellFormed, extensions_spelling}
 use Rattle.iloc_fronts.specs.Left.{pieces_of, piece_of, IsLeft}
@@ -126,12 +126,12 @@ pub record ArePast (least len : ℕ) (ps : List Text) (o : Option Left) : Type 0
 
 -- the pieces are words after `x`
 abbrev pub ArePrivate : List Text → Type 0
-ArePrivate ps = list_all (is_word PrivateSubtag) ps ≡ true
+ArePrivate ps = list_all (is_word (Alphanum 1 8)) ps ≡ true
 
 -- they are, or one of them is none
 abbrev pub IsPrivateAs : List Text → Body → Type 0
 IsPrivateAs ps body.End = ArePrivate ps
-IsPrivateAs ps body.Bad = list_all (is_word PrivateSubtag) ps ≡ false
+IsPrivateAs ps body.Bad = list_all (is_word (Alphanum 1 8)) ps ≡ false
 IsPrivateAs ps (body.Next l) = ¬ ⊤
 IsPrivateAs ps body.Unordered = ¬ ⊤
 IsPrivateAs ps body.Other = ¬ ⊤
@@ -140,19 +140,19 @@ IsPrivateAs ps body.Other = ¬ ⊤
 
 -- words of another extension, one at least
 pub record AreSubtags (ps : List Text) : Type 0 where
-  pub each : AllByRecursion (IsWord Subtag) ps
+  pub each : AllByRecursion (IsWord (Alphanum 2 8)) ps
   pub some : 0 < length ps
 
 -- the piece may stand in another extension, and means nothing
 pub record IsStray (p : Text) : Type 0 where
   pub lengths : is_in_range 2 8 (length p) ≡ true
-  pub no_word : is_word Subtag p ≡ false
+  pub no_word : is_word (Alphanum 2 8) p ≡ false
 
 -- strays come before what is left, which begins with a word
 pub record AreStraysBefore (len : ℕ) (ps : List Text) (l : Left) : Type 0 where
   pub left : IsLeft l
   pub shorter : l.len ≤ len
-  pub word : IsWord Subtag (piece_of l)
+  pub word : IsWord (Alphanum 2 8) (piece_of l)
   pub strays : List Text
   pub each : AllByRecursion IsStray strays
   pub cut : ps ≡ strays ++ pieces_of l
@@ -174,7 +174,7 @@ lower_fields fs = map (λ f. (lower f.0, map lower f.1)) fs
 
 -- a piece of a value other than `true`
 abbrev pub IsValue : Text → Type 0
-IsValue p = IsWord Attribute p × (is_true (lower p) ≡ false)
+IsValue p = IsWord (Alphanum 3 8) p × (is_true (lower p) ≡ false)
 
 -- they are keywords with ascending keys, without `true`
 pub record AreKeywords (ps : List Text) : Type 0 where
@@ -205,14 +205,14 @@ pub data IsNext (last : ℕ) (p : Text) : ℕ → Type 0 where
 abbrev pub IsNextAs : ℕ → Text → Next → Type 0
 IsNextAs last p (next.Piece k) = IsNext last p k
 IsNextAs last p next.Unordered = ⊤
-IsNextAs last p next.Misfit = (is_word Attribute p ≡ false) × (is_word UnicodeKey p ≡ false)
+IsNextAs last p next.Misfit = (is_word (Alphanum 3 8) p ≡ false) × (is_word UnicodeKey p ≡ false)
 
 -- they are ascending attributes and keywords, one of both at least
 pub record IsUnicodePart (ps : List Text) : Type 0 where
   pub attributes : List Text
   pub rest : List Text
   pub cut : ps ≡ attributes ++ rest
-  pub each : AllByRecursion (IsWord Attribute) attributes
+  pub each : AllByRecursion (IsWord (Alphanum 3 8)) attributes
   pub ascending : IsAscending (map lower attributes)
   pub keywords : AreKeywords rest
   pub some : 0 < length attributes + length keywords.fields
@@ -223,7 +223,7 @@ IsUnicodeFrom n ps = (u : IsUnicodePart ps) × AllByRecursion (λ a. n ≤ two_n
 
 -- up to the next block a piece is neither an attribute nor a key
 abbrev pub HaveStranger : List Text → Type 0
-HaveStranger ps = ¬ (AllByRecursion (λ p. IsWord Attribute p ⊎ IsWord UnicodeKey p) (front ps))
+HaveStranger ps = ¬ (AllByRecursion (λ p. IsWord (Alphanum 3 8) p ⊎ IsWord UnicodeKey p) (front ps))
 
 -- what breaks the rule of `u`: nothing follows, or such a piece
 abbrev pub IsNoUnicode : List Text → Type 0

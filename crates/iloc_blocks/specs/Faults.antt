@@ -4,7 +4,7 @@ use Rattle.std.specs.Int.{is_in_range}
 use Rattle.std.specs.List.{AllByRecursion, list_any}
 use Rattle.std.specs.Ordering.{nat_cmp, eq_by_cmp}
 use Rattle.std.specs.Char.{to_ascii_lowercase}
-use Rattle.iloc_spec_grammar.specs.Syntax.{Text, Variant, UnicodeKey, Attribute, IsWord, AllDifferent, front, blocks, languages, lower, word_cmp}
+use Rattle.iloc_spec_grammar.specs.Syntax.{Text, Variant, UnicodeKey, Alphanum, IsWord, AllDifferent, front, blocks, languages, lower, word_cmp}
 use Rattle.iloc_spec_grammar.specs.Meaning.{FirstBadBlock}
 use Rattle.iloc_fronts.specs.Left.{pieces_of, IsLeft}
 use Rattle.iloc_fronts.specs.declared.left.Left.{Left}
@@ -60,7 +60,7 @@ IsPassedAs c len ps body.Other = ⊤
 
 -- attributes, keys and pieces of values
 abbrev pub AreUnicodeWords : List Text → Type 0
-AreUnicodeWords ps = AllByRecursion (λ p. IsWord Attribute p ⊎ IsWord UnicodeKey p) ps
+AreUnicodeWords ps = AllByRecursion (λ p. IsWord (Alphanum 3 8) p ⊎ IsWord UnicodeKey p) ps
 
 -- one at least
 abbrev pub AreUnicode : List Text → Type 0

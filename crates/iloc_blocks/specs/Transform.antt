@@ -2,7 +2,7 @@
 use Rattle.std.specs.Prelude.{◌≡◌, ⊤, ℕ, ◌<◌, ◌≤◌, ◌⊎◌, ◌∷◌, ◌++◌, Bool, true, false, List, [], length, map, Option, Some, None, IfSome}
 use Rattle.std.specs.List.{AllByRecursion}
 use Rattle.std.specs.FinMap.{is_sorted}
-use Rattle.iloc_spec_grammar.specs.Syntax.{Text, Fields, Identifier, Transform, front, first_piece, Language, Variant, Attribute, TransformKey, is_word, IsWord, HasWords, IsField, IsTransform, fields_pieces, optional_pieces, transform_pieces, languages, lower, word_cmp}
+use Rattle.iloc_spec_grammar.specs.Syntax.{Text, Fields, Identifier, Transform, front, first_piece, Language, Variant, Alphanum, TransformKey, is_word, IsWord, HasWords, IsField, IsTransform, fields_pieces, optional_pieces, transform_pieces, languages, lower, word_cmp}
 use Rattle.iloc_spec_grammar.specs.Meaning.{RepeatsVariant, normal_values}
 use Rattle.iloc_spec_grammar.specs.Values.{spelled_value}
 use Rattle.iloc_spec_grammar.specs.Reading.{before_key, fields_from, after_region}
@@ -20,7 +20,7 @@ IsRest len (Some l) = IsLeft l × (l.len ≤ len)
 
 -- they are words of a value, one at least; if order is asked, none is `true`
 pub record AreValues (ordered : Bool) (ps : List Text) : Type 0 where
-  pub each : AllByRecursion (IsWord Attribute) ps
+  pub each : AllByRecursion (IsWord (Alphanum 3 8)) ps
   pub plain : ordered ≡ true → AllByRecursion IsValue ps
   pub some : 0 < length ps
 
@@ -30,7 +30,7 @@ IsAsPrinted ps = spelled_value (normal_values ps) ≡ map lower ps
 
 -- they are words of a value, one at least; if order is asked, as they are printed
 pub record IsFieldValue (ordered : Bool) (ps : List Text) : Type 0 where
-  pub each : AllByRecursion (IsWord Attribute) ps
+  pub each : AllByRecursion (IsWord (Alphanum 3 8)) ps
   pub some : 0 < length ps
   pub printed : ordered ≡ true → IsAsPrinted ps
 
@@ -38,7 +38,7 @@ pub record IsFieldValue (ordered : Bool) (ps : List Text) : Type 0 where
 abbrev pub AreValuesAs : (Bool → List Text → Type 0) → Bool → ℕ → List Text → Body → Type 0
 AreValuesAs P ordered len ps body.End = P ordered ps
 AreValuesAs P ordered len ps (body.Next l) = IsLeft l × (l.len ≤ len)
-    × IsCutAs (P ordered) ps (pieces_of l) × (is_word Attribute (piece_of l) ≡ false)
+    × IsCutAs (P ordered) ps (pieces_of l) × (is_word (Alphanum 3 8) (piece_of l) ≡ false)
 AreValuesAs P ordered len ps body.Bad = ¬ ⊤
 AreValuesAs P ordered len ps body.Unordered = ordered ≡ true
 AreValuesAs P ordered len ps body.Other = ¬ ⊤

@@ -1,6 +1,6 @@
 //! Tells what follows the singleton `x`, or that of another extension than `t` and `u`.
 ghost use Rattle.std.specs.Prelude.{◌≡◌, ◌↔◌, ◌+◌, ◌≤◌, IsTrue, length, take};
-ghost use Rattle.iloc_spec_grammar.specs.Syntax.{IsOther, IsWord, Subtag, pieces};
+ghost use Rattle.iloc_spec_grammar.specs.Syntax.{IsOther, IsWord, Alphanum, pieces};
 ghost use Rattle.iloc_fronts.specs.Left.{IsLeft, piece_of, pieces_of};
 ghost use Rattle.iloc_blocks.specs.Blocks.{
   ArePast,
@@ -128,7 +128,7 @@ fn past_strays(left: Left<'_>) -> Option<Left<'_>>
 #[inline(always)]
 fn past_pieces(left: Left<'_>) -> Body<'_>
     requires left { IsLeft left }
-    requires first { IsWord Subtag (piece_of left) }
+    requires first { IsWord (Alphanum 2 8) (piece_of left) }
     ensures { IsBodyAs IsOther IsNoOther left.entry.len (pieces_of left.entry) result }
 {
     if left.n == left.len {

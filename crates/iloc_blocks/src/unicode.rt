@@ -1,6 +1,6 @@
 //! Tells what follows the singleton `u`.
 ghost use Rattle.std.specs.Prelude.{◌≡◌, ◌↔◌, ◌+◌, ◌≤◌, ◌||◌, IsTrue, false, length, take};
-ghost use Rattle.iloc_spec_grammar.specs.Syntax.{Attribute, IsWord, UnicodeKey, is_word, pieces};
+ghost use Rattle.iloc_spec_grammar.specs.Syntax.{Alphanum, IsWord, UnicodeKey, is_word, pieces};
 ghost use Rattle.iloc_fronts.specs.Left.{IsLeft, piece_of, pieces_of};
 ghost use Rattle.iloc_blocks.specs.declared.unicode.Next.TheVariants as nexts;
 ghost use Rattle.iloc_blocks.specs.Blocks.{
@@ -49,7 +49,7 @@ pub(crate) fn read_unicode(left: Left<'_>) -> Body<'_>
 #[inline(always)]
 fn read_attributes(left: Left<'_>) -> Body<'_>
     requires left { IsLeft left }
-    requires first { IsWord Attribute (piece_of left) }
+    requires first { IsWord (Alphanum 3 8) (piece_of left) }
     ensures { IsBodyAs IsUnicodePart HaveStranger left.entry.len (pieces_of left.entry) result }
 {
     let mut at = left;
@@ -72,7 +72,7 @@ fn read_attributes(left: Left<'_>) -> Body<'_>
 #[inline(always)]
 fn read_keywords(left: Left<'_>) -> Body<'_>
     requires left { IsLeft left }
-    requires none { is_word Attribute (piece_of left) ≡ false }
+    requires none { is_word (Alphanum 3 8) (piece_of left) ≡ false }
     ensures { IsBodyAs (AreKeywordsAt left.entry.n) HaveStranger left.entry.len
         (pieces_of left.entry) result }
 {
@@ -173,7 +173,7 @@ pub(crate) fn past_unicode_words(left: Left<'_>) -> Body<'_>
 fn is_unicode_word(window: &[u8], n: usize) -> bool
     requires wide { 16 ≤ length window.now }
     requires few { n ≤ 16 }
-    ensures { result ≡ is_word Attribute (take n window.now)
+    ensures { result ≡ is_word (Alphanum 3 8) (take n window.now)
         || is_word UnicodeKey (take n window.now) }
 {
     if n == 2 {

@@ -1,4 +1,5 @@
 -- What the reader of fields answers.
+use Rattle.iloc_spec_grammar.specs.Meaning as faults
 use Rattle.std.specs.Prelude.{◌≡◌, ℕ, false, List, Result}
 use Rattle.std.specs.List.{AllByRecursion, list_all}
 use Rattle.iloc_spec_grammar.specs.Syntax.{Text, TransformKey, Fields, fields_pieces, IsField}
@@ -7,7 +8,7 @@ use Rattle.iloc_spec_grammar.specs.Values.{IsNormal}
 use Rattle.iloc_spec_parts.specs.Fronts.{fields_front, after_fields, BeginsField, fields_at}
 use Rattle.iloc_spec_grammar.specs.Computing.{is_field}
 use Rattle.iloc_subtags.specs.declared.parse_error.ParseError.{ParseError}
-use Rattle.iloc_subtags.specs.Judging.{Answers, ExtensionFault}
+use Rattle.iloc_subtags.specs.Judging.{Answers, Just}
 use Rattle.iloc_fields.specs.ValueReading.{IsValueWord}
 
 -- what fields hold: a key with the words of a value
@@ -25,4 +26,4 @@ pub record FieldsRead (ps : List Text) (m : Fields) (rest : List Text) : Type 0 
 -- What the pieces at the front are read as, and the pieces that are left. The first field may allocate.
 abbrev pub FieldsFrontRead : List Text → List Text → Result Fields ParseError → Type 0
 FieldsFrontRead ps rest = Answers (λ m. FieldsRead ps m rest)
-    (ExtensionFault (list_all is_field (fields_at ps) ≡ false)) (BeginsField ps)
+    (Just faults.InvalidExtension (list_all is_field (fields_at ps) ≡ false)) (BeginsField ps)

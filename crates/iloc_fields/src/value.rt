@@ -18,7 +18,7 @@ ghost use Rattle.std.specs.Prelude.{
   if◌then◌else◌,
 };
 ghost use Rattle.std.specs.List.{AllByRecursion};
-ghost use Rattle.iloc_spec_grammar.specs.Syntax.{Text, pieces, Attribute as the_kind, is_true};
+ghost use Rattle.iloc_spec_grammar.specs.Syntax.{Text, pieces, Alphanum, is_true};
 ghost use Rattle.iloc_spec_grammar.specs.Values.{field_value_text, spelled_value};
 ghost use Rattle.iloc_subtags.specs.Left.{left};
 ghost use Rattle.iloc_spec_grammar.specs.Meaning.{Fault};

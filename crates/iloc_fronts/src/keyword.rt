@@ -1,6 +1,6 @@
 //! Tells what keyword follows the singleton of a block.
 ghost use Rattle.std.specs.Prelude.{◌≡◌, ◌+◌, ◌≤◌, ◌≢◌, false, length, take, codes, IsTrue};
-ghost use Rattle.iloc_spec_grammar.specs.Syntax.{Attribute, IsWord, pieces, lower};
+ghost use Rattle.iloc_spec_grammar.specs.Syntax.{Alphanum, IsWord, pieces, lower};
 ghost use Rattle.iloc_fronts.specs.Keyword.{AreValues, IsKeywordOf, IsUnreadable, after_singleton};
 
 use crate::front::{Block, first_len};
@@ -86,7 +86,7 @@ fn keyword_of(window: &[u8], len: usize) -> Keyword
 #[inline(always)]
 fn is_subdivision(window: &[u8], n: usize) -> bool
     requires wide { 16 ≤ length window.now }
-    requires word { IsWord Attribute (take n window.now) }
+    requires word { IsWord (Alphanum 3 8) (take n window.now) }
     ensures { result ≡ false → IsUnreadable (take n window.now) }
 {
     if is_true(window, n) {

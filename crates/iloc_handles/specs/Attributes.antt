@@ -1,8 +1,9 @@
 -- The attributes of a locale: what setting them does.
+use Rattle.iloc_spec_grammar.specs.Meaning as faults
 use Rattle.std.specs.Prelude.{◌≡◌, ℕ, false, List, [], ◌∷◌, ◌++◌, slice_get, Option}
-use Rattle.iloc_spec_grammar.specs.Syntax.{Text, Attribute, IsWord, is_word, normal}
+use Rattle.iloc_spec_grammar.specs.Syntax.{Text, Alphanum, IsWord, is_word, normal}
 use Rattle.iloc_spec_grammar.specs.Meaning.{Locale, set_of}
-use Rattle.iloc_subtags.specs.Judging.{ExtensionFault}
+use Rattle.iloc_subtags.specs.Judging.{Just}
 use Rattle.iloc_calls.specs.declared.status.Status.TheVariants.{OutOfMemory}
 use Rattle.iloc_handles.specs.Finding.{Changing, Sets, Removes}
 use Rattle.iloc_handles.specs.Subtags.{HasWord, without_word}
@@ -24,12 +25,12 @@ attribute_at i M = slice_get (attributes_of M) i
 -- the attribute is among them; memory may be wanted
 abbrev pub AddsAttribute : Text → Changing
 AddsAttribute t = Sets
-    (λ before after. IsWord Attribute t
-    × (after ≡ with_attributes (set_of (attributes_of before ++ normal Attribute t ∷ [])) before))
-    (ExtensionFault (is_word Attribute t ≡ false)) (Unit {0})
+    (λ before after. IsWord (Alphanum 3 8) t
+    × (after ≡ with_attributes (set_of (attributes_of before ++ normal (Alphanum 3 8) t ∷ [])) before))
+    (Just faults.InvalidExtension (is_word (Alphanum 3 8) t ≡ false)) (Unit {0})
 
 -- the attribute is not among them any more; memory may be wanted, and then they stay
 abbrev pub RemovesAttribute : Text → Changing
 RemovesAttribute t before after OutOfMemory = after ≡ before
-RemovesAttribute t before after status = Removes (λ M. HasWord Attribute t (attributes_of M))
-    (λ M. with_attributes (without_word Attribute t (attributes_of M)) M) before after status
+RemovesAttribute t before after status = Removes (λ M. HasWord (Alphanum 3 8) t (attributes_of M))
+    (λ M. with_attributes (without_word (Alphanum 3 8) t (attributes_of M)) M) before after status

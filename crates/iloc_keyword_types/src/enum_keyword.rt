@@ -9,7 +9,7 @@ ghost use Rattle.iloc_keyword_types.specs.Reads.{
   ReadsVariant,
   GivesVariant,
 };
-ghost use Rattle.iloc_spec_grammar.specs.Syntax.{Subtag as subtag};
+ghost use Rattle.iloc_spec_grammar.specs.Syntax.{Alphanum};
 ghost use Rattle.iloc_spec_grammar.specs.Values.{IsNormal, spelled_value};
 
 use crate::preference_key::PreferenceKey;
@@ -64,7 +64,7 @@ pub fn give_keyword<E: EnumKeyword>(keyword: E) -> Value
 
 /// The subtag of a text that is one in its normal case.
 pub(crate) fn known_subtag(text: &str) -> Subtag
-    requires { IsNormal subtag text.now }
+    requires { IsNormal (Alphanum 2 8) text.now }
     ensures { result ≡ text.now }
 {
     match Subtag::try_from_str(text) {

@@ -1,7 +1,7 @@
 -- What the pieces after a singleton are read as.
 use Rattle.std.specs.Prelude.{ℕ, ◌&&◌, nat_le, List, [], ◌++◌, length, if◌then◌else◌, Option, Result, Ok, Err}
 use Rattle.std.specs.List.{list_all}
-use Rattle.iloc_spec_grammar.specs.Syntax.{Text, Attribute, is_word, first_piece}
+use Rattle.iloc_spec_grammar.specs.Syntax.{Text, Alphanum, is_word, first_piece}
 use Rattle.iloc_spec_grammar.specs.Meaning.{normal_values, Fault}
 use Rattle.iloc_spec_grammar.specs.Reading.{first_item}
 use Rattle.iloc_spec_grammar.specs.Meaning as faults
@@ -22,9 +22,9 @@ block_result c ps = if is_small_block (c, ps) [] then Ok (keyword_read ps) else 
 
 -- why no key stands first
 abbrev pub refusal_without_key : List Text → ParseError
-refusal_without_key ps = if is_word Attribute (first_piece ps) then InvalidSubtag else InvalidExtension
+refusal_without_key ps = if is_word (Alphanum 3 8) (first_piece ps) then InvalidSubtag else InvalidExtension
 
 -- the one value besides `true`, of some that were read and those of the pieces
 unfoldable pub value_result : List Text → List Text → Result (Option Text) Fault
-value_result ws ps = if list_all (is_word Attribute) ps && nat_le (length (ws ++ normal_values ps)) 1
+value_result ws ps = if list_all (is_word (Alphanum 3 8)) ps && nat_le (length (ws ++ normal_values ps)) 1
     then Ok (first_item (ws ++ normal_values ps)) else Err faults.InvalidSubtag

@@ -1,12 +1,13 @@
 -- What the readers of identifiers answer.
-use Rattle.std.specs.Prelude.{◌≡◌, ℕ, ◌<◌, false, List, [], length, map, None, Result, IfOk, IfErr}
+use Rattle.iloc_spec_grammar.specs.Meaning as faults
+use Rattle.std.specs.Prelude.{◌≡◌, ℕ, ◌<◌, ◌⊎◌, false, List, [], length, map, None, Result, IfOk, IfErr}
 use Rattle.iloc_spec_grammar.specs.Syntax.{Text, Language, Variant, is_word, IsWord, lower, word_cmp, languages, two_or_three, Identifier, AllDifferent, first_piece, pieces}
-use Rattle.iloc_spec_grammar.specs.Meaning.{IdentifierMeans, normal_identifier, set_of, HasIdentifierFault}
+use Rattle.iloc_spec_grammar.specs.Meaning.{IdentifierMeans, normal_identifier, set_of, HasIdentifierFault, RepeatsVariant, Fault}
 use Rattle.iloc_spec_grammar.specs.Reading.{IdentifierFront}
-use Rattle.iloc_spec_grammar.specs.Values.{IdentifierChain}
+use Rattle.iloc_spec_grammar.specs.Values.{IdentifierTextStep, Leads}
 use Rattle.iloc_spec_grammar.specs.Reading.{passing, past, front_of, after_front}
 use Rattle.iloc_subtags.specs.declared.parse_error.ParseError.{ParseError}
-use Rattle.iloc_subtags.specs.Judging.{Answers, SubtagFault, IdentifierFaults, OfIdentifier}
+use Rattle.iloc_subtags.specs.Judging.{Answers, Just}
 use Rattle.iloc_subtags.specs.declared.parse_error.ParseError.TheVariants.{OutOfMemory}
 use Rattle.iloc_langid.specs.declared.identifier.LanguageIdentifier.{LanguageIdentifier}
 
@@ -31,7 +32,7 @@ WantsMemory ps = IsWord (Language languages) (first_piece ps) × (4 < length (fr
 -- what the pieces are read as, as a whole identifier
 abbrev pub ReadsAs : List Text → Result LanguageIdentifier ParseError → Type 0
 ReadsAs ps = Answers (λ i. IdentifierMeans languages ps (value_of i))
-    (OfIdentifier (HasIdentifierFault languages ps)) (WantsMemory ps)
+    (HasIdentifierFault languages ps) (WantsMemory ps)
 
 -- what the table of two or three letters accepts is read with the same value, unless memory runs out
 abbrev pub KeepsNarrow : Text → Result LanguageIdentifier ParseError → Type 0
@@ -43,16 +44,19 @@ AcceptsNarrow t r = (i : Identifier) → IdentifierMeans two_or_three (pieces t)
 
 -- every text that steps of rewriting lead to means what was read
 abbrev pub KeepsThroughSteps : Text → Result LanguageIdentifier ParseError → Type 0
-KeepsThroughSteps t r = IfOk r (λ i. (n : ℕ) (u : Text) → IdentifierChain languages n t u → IdentifierMeans languages (pieces u) (value_of i))
+KeepsThroughSteps t r = IfOk r (λ i. (n : ℕ) (u : Text) → Leads (IdentifierTextStep languages) n t u → IdentifierMeans languages (pieces u) (value_of i))
+
+-- no language stands first, or a variant of the front stands twice
+abbrev pub FrontFault : List Text → Fault → Type 0
+FrontFault ps f = Just faults.InvalidLanguage (is_word (Language languages) (first_piece ps) ≡ false) f
+    ⊎ Just faults.InvalidSubtag (RepeatsVariant languages ps) f
 
 -- what a longest front is read as, and the pieces that are left after it
 abbrev pub FrontReadsAs : List Text → List Text → Result LanguageIdentifier ParseError → Type 0
 FrontReadsAs ps rest = Answers
     (λ i. (w : Identifier) × IdentifierFront languages ps w rest
     × AllDifferent word_cmp (map lower w.variants) × (value_of i ≡ normal_identifier w))
-    (IdentifierFaults (is_word (Language languages) (first_piece ps) ≡ false)
-    ((w : Identifier) × (more : List Text) × IdentifierFront languages ps w more
-    × ¬ (AllDifferent word_cmp (map lower w.variants))))
+    (FrontFault ps)
     ((w : Identifier) × (more : List Text) × IdentifierFront languages ps w more
     × (4 < length w.variants))
 
@@ -62,9 +66,7 @@ FrontGives ps rest = Answers
     (λ i. IsWord (Language languages) (first_piece ps)
     × AllDifferent word_cmp (map lower (front_of ps).variants)
     × (value_of i ≡ normal_identifier (front_of ps)) × (rest ≡ after_front ps))
-    (IdentifierFaults (is_word (Language languages) (first_piece ps) ≡ false)
-    (IsWord (Language languages) (first_piece ps)
-    × ¬ (AllDifferent word_cmp (map lower (front_of ps).variants))))
+    (FrontFault ps)
     (WantsMemory ps)
 
 -- what the variants at the front are read as, and the pieces that are left
@@ -73,5 +75,5 @@ VariantsGive ps rest = Answers
     (λ vs. (vs ≡ set_of (map lower (passing (is_word Variant) ps)))
     × AllDifferent word_cmp (map lower (passing (is_word Variant) ps))
     × (rest ≡ past (is_word Variant) ps))
-    (SubtagFault (¬ (AllDifferent word_cmp (map lower (passing (is_word Variant) ps)))))
+    (Just faults.InvalidSubtag (¬ (AllDifferent word_cmp (map lower (passing (is_word Variant) ps)))))
     (4 < length (passing (is_word Variant) ps))

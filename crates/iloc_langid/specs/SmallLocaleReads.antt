@@ -3,7 +3,7 @@ use Rattle.std.specs.Prelude.{ℕ, List, Option, Result}
 use Rattle.iloc_spec_grammar.specs.Syntax.{Text, languages}
 use Rattle.iloc_spec_parts.specs.Small.{SmallLocale, IsSmall, HasSmallFault}
 use Rattle.iloc_subtags.specs.declared.parse_error.ParseError.{ParseError}
-use Rattle.iloc_subtags.specs.Judging.{Answers, ButDuplicate}
+use Rattle.iloc_subtags.specs.Judging.{Answers}
 
 -- a key, and perhaps a value
 abbrev pub Keyword : Type 0
@@ -20,4 +20,4 @@ small_locale_of p = record { id = record { language = p.0; script = p.1; region 
 -- what a text is read as, as a whole; it allocates nothing
 abbrev pub SmallLocaleReadsAs : Text → Result LocaleParts ParseError → Type 0
 SmallLocaleReadsAs t = Answers (λ p. IsSmall languages t (small_locale_of p))
-    (ButDuplicate (HasSmallFault languages t)) ⊥
+    (HasSmallFault languages t) ⊥

@@ -1,10 +1,11 @@
 -- What the readers of identifiers with at most one variant answer.
+use Rattle.iloc_spec_grammar.specs.Meaning as faults
 use Rattle.std.specs.Prelude.{◌≡◌, ℕ, false, List, Option, option_map, Result}
 use Rattle.iloc_spec_grammar.specs.Syntax.{Text, Language, Script, Region, Variant, is_word, IsWord, lower, title, upper, languages, first_piece}
 use Rattle.iloc_spec_grammar.specs.Reading.{take_first, skip_first, rest_of, after_script, after_region}
 use Rattle.iloc_spec_parts.specs.Small.{SmallIdentifier, IsSmallIdentifier, HasSmallIdentifierFault}
 use Rattle.iloc_subtags.specs.declared.parse_error.ParseError.{ParseError}
-use Rattle.iloc_subtags.specs.Judging.{Answers, LanguageFault, OfIdentifier}
+use Rattle.iloc_subtags.specs.Judging.{Answers, Just}
 
 -- a language, and perhaps a script, a region and a variant
 abbrev pub Parts : Type 0
@@ -17,7 +18,7 @@ small_of p = record { language = p.0; script = p.1; region = p.2; variant = p.3 
 -- what the pieces are read as, as a whole; it allocates nothing
 abbrev pub SmallReadsAs : List Text → Result Parts ParseError → Type 0
 SmallReadsAs ps = Answers (λ p. IsSmallIdentifier languages ps (small_of p))
-    (OfIdentifier (HasSmallIdentifierFault languages ps)) ⊥
+    (HasSmallIdentifierFault languages ps) ⊥
 
 -- the parts that stand at the front, each if it fits
 abbrev pub front_parts : List Text → Parts
@@ -37,5 +38,5 @@ abbrev pub SmallFrontGives : List Text → List Text → Result Parts ParseError
 SmallFrontGives ps rest = Answers
     (λ p. IsWord (Language languages) (first_piece ps) × (p ≡ front_parts ps)
     × (rest ≡ after_parts ps))
-    (LanguageFault (is_word (Language languages) (first_piece ps) ≡ false))
+    (Just faults.InvalidLanguage (is_word (Language languages) (first_piece ps) ≡ false))
     ⊥

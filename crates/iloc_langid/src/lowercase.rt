@@ -43,10 +43,9 @@ fn lower_word<K: WordKind<N>, const N: usize>(word: &Option<WordOf<K, N>>) -> Op
 
 impl<'a> Pieces for Lowercase<'a> {
     ghost use Rattle.iloc_spec_grammar.specs.Syntax.{identifier_pieces};
-    ghost use Rattle.iloc_spec_grammar.specs.Values.{lower_identifier};
     ghost use Rattle.iloc_langid.specs.Reads.{value_of};
 
-    ghost pieces = { λ i. identifier_pieces (lower_identifier (value_of i.0.now)) };
+    ghost pieces = { λ i. map lower (identifier_pieces (value_of i.0.now)) };
 
     fn has_pieces(&self) -> bool {
         self.0.has_pieces()

@@ -9,7 +9,7 @@ use Rattle.iloc_spec_grammar.specs.ByBlocks.{BlocksMean}
 use Rattle.iloc_spec_grammar.specs.Reading.{starts_block}
 use Rattle.iloc_spec_parts.specs.Inline.{ReachesLongBlock}
 use Rattle.iloc_subtags.specs.declared.parse_error.ParseError.{ParseError}
-use Rattle.iloc_subtags.specs.Judging.{Answers, ButLanguage}
+use Rattle.iloc_subtags.specs.Judging.{Answers}
 
 -- While blocks are read: those that were, the last one first, and those that are left.
 
@@ -42,5 +42,5 @@ pub record BlockAt (T : Table) (start : List Text) (c : ℕ) (ps : List Text) (e
 -- out only if a block is reached that isn't short.
 abbrev pub BlockReads : List Text → List Text → Extensions → Result (Unit {0}) ParseError → Type 0
 BlockReads start rest e = Answers (λ _. BlocksDone languages start rest e)
-    (ButLanguage (FirstBadBlock languages [] (blocks start)))
+    (FirstBadBlock languages [] (blocks start))
     (ReachesLongBlock languages [] (blocks start))

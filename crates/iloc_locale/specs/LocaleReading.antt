@@ -5,13 +5,13 @@ use Rattle.iloc_langid.specs.Reads as langid
 use Rattle.iloc_langid.specs.Unknown.{unknown_identifier}
 use Rattle.iloc_locale.specs.ExtensionsValue as extensions
 use Rattle.iloc_locale.specs.declared.locale.Locale.{Locale}
-use Rattle.iloc_spec_grammar.specs.Syntax.{Text, pieces, languages, head, tail_blocks}
-use Rattle.iloc_spec_grammar.specs.Meaning.{Means, HasFault, SpellsIdentifier}
+use Rattle.iloc_spec_grammar.specs.Syntax.{Text, Identifier, pieces, languages, head, tail_blocks}
+use Rattle.iloc_spec_grammar.specs.Meaning.{Means, Spells, HasFault, SpellsIdentifier}
 use Rattle.iloc_spec_parts.specs.Inline.{ReachesLongBlock}
 use Rattle.iloc_subtags.specs.declared.parse_error.ParseError.{ParseError}
 use Rattle.iloc_subtags.specs.declared.parse_error.ParseError.TheVariants.{OutOfMemory}
 use Rattle.iloc_subtags.specs.Judging.{Answers}
-use Rattle.iloc_spec_grammar.specs.Values.{text, TextStep, Chain, LeadToOne}
+use Rattle.iloc_spec_grammar.specs.Values.{text, TextStep, LeadToOne, Leads}
 
 -- the value of a locale: that of its identifier and that of its extensions
 abbrev pub value_of : Locale → meaning.Locale
@@ -22,10 +22,9 @@ value_of l =
 abbrev pub unknown_locale : meaning.Locale
 unknown_locale = meaning.without_extensions unknown_identifier
 
--- nothing but a language: the text is then lent
+-- its language alone spells it, so it has nothing else: the text is then lent
 abbrev pub IsLanguageAlone : Locale → Type 0
-IsLanguageAlone l = ((value_of l).extensions ≡ meaning.no_extensions)
-    × (l.id.script ≡ None) × (l.id.region ≡ None) × (l.id.variants ≡ [])
+IsLanguageAlone l = Spells languages l.id.language (value_of l)
 
 -- What the readers of locales answer, by cases on the whole answer. The cases exclude one another, so each says both directions.
 
@@ -39,7 +38,8 @@ RunsOutOnlyIf Wants _ = ⊤
 abbrev pub WantsMemory : Text → Type 0
 WantsMemory t =
     langid.WantsMemory (head (pieces t))
-    ⊎ (SpellsIdentifier languages (head (pieces t)) × ReachesLongBlock languages [] (tail_blocks (pieces t)))
+    ⊎ ((i : Identifier) × SpellsIdentifier languages (head (pieces t)) i
+    × ReachesLongBlock languages (tail_blocks (pieces t)))
 
 -- what the text is read as: the value that it means, or the fault that the grammar names
 abbrev pub LocaleReads : Text → Result Locale ParseError → Type 0
@@ -70,7 +70,7 @@ pub record IsNormalizedFrom (input t : Text) : Type 0 where
   -- and no text that means the same is shorter
   pub shortest : (u : Text) (M : meaning.Locale) → Means languages input M → Means languages u M → length t ≤ length u
   -- eight steps of rewriting at most lead here
-  pub steps : Chain languages 8 input t
+  pub steps : Leads (TextStep languages) 8 input t
   -- so every accepted text means the same exactly if such steps lead both to one text
   pub together : (u : Text) (L M : meaning.Locale) → Means languages input L → Means languages u M → (L ≡ M) ↔ LeadToOne (TextStep languages) 8 input u
 

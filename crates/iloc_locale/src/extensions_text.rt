@@ -1,7 +1,7 @@
 //! Prints extensions.
 ghost use Rattle.std.specs.Prelude.{◌≡◌, Some};
 ghost use Rattle.iloc_spec_grammar.specs.Values.{
-  extensions_spelling,
+  extensions_pieces,
   extensions_text,
   before_t,
   after_t,
@@ -33,14 +33,14 @@ impl Extensions {
 impl Pieces for Extensions {
     ghost use Rattle.iloc_locale.specs.ExtensionsValue.{value_of};
 
-    ghost pieces = { λ e. extensions_spelling (value_of e) };
+    ghost pieces = { λ e. extensions_pieces (value_of e) };
 
-    #[tactic(auto, unfolding(iloc_spec_grammar::specs::Values::extensions_spelling))]
+    #[tactic(auto, unfolding(iloc_spec_grammar::specs::Values::extensions_pieces))]
     fn has_pieces(&self) -> bool {
         self.parts().has_pieces()
     }
 
-    #[tactic(auto, unfolding(iloc_spec_grammar::specs::Values::extensions_spelling))]
+    #[tactic(auto, unfolding(iloc_spec_grammar::specs::Values::extensions_pieces))]
     fn write_pieces<S: Sink>(&self, sink: &mut S, first: bool) -> fmt::Result {
         if self.is_empty() {
             return Ok(());

@@ -1,7 +1,7 @@
 //! What the types keep of all extensions, parsed or built.
 ghost use Rattle.std.specs.Prelude.{IfSome};
 ghost use Rattle.std.specs.List.{AllByRecursion};
-ghost use Rattle.iloc_spec_grammar.specs.Syntax.{languages, Subtag as the_kind};
+ghost use Rattle.iloc_spec_grammar.specs.Syntax.{languages, Alphanum};
 ghost use Rattle.iloc_spec_grammar.specs.Values.{
   IsExtensionsValue,
   IsIdentifierValue,
@@ -65,7 +65,7 @@ fn look_at_lang(lang: &Option<LanguageIdentifier>)
 }
 
 fn look_at_others(others: &[Other])
-    ensures { AllByRecursion (λ o. AllByRecursion (IsNormal the_kind) o.1) others.now }
+    ensures { AllByRecursion (λ o. AllByRecursion (IsNormal (Alphanum 2 8)) o.1) others.now }
 {
     for other in others {
         let _ = other.as_slice();

@@ -5,7 +5,7 @@ ghost use Rattle.iloc_spec_grammar.specs.Syntax.{Text, pieces, languages, two_or
 ghost use Rattle.iloc_spec_grammar.specs.Meaning as meaning;
 ghost use Rattle.iloc_spec_grammar.specs.Meaning.{Means, Fault, HasFault};
 ghost use Rattle.iloc_spec_grammar.specs.Reading.{after_head, starts_block};
-ghost use Rattle.iloc_spec_grammar.specs.Values.{Chain, IsValue, IsWellFormed};
+ghost use Rattle.iloc_spec_grammar.specs.Values.{IsValue, IsWellFormed, TextStep, Leads};
 ghost use Rattle.iloc_subtags.specs.Left.{left};
 ghost use Rattle.iloc_langid.specs.Reads as langid;
 ghost use Rattle.iloc_locale.specs.LocaleReading.{value_of, unknown_locale, LocaleReadsAs};
@@ -67,7 +67,7 @@ impl Locale {
         ensures well_formed { IfOk result
             (λ l. IsValue languages (value_of l) × IsWellFormed (value_of l)) }
         ensures steps { IfOk result (λ l. (n : ℕ) (u : Text)
-            → Chain languages n code_units.now u → Means languages u (value_of l)) }
+            → Leads (TextStep languages) n code_units.now u → Means languages u (value_of l)) }
         ensures narrow { (M : meaning.Locale) → Means two_or_three code_units.now M
             → Accepts value_of ⊤ M result }
     {
@@ -105,7 +105,7 @@ impl Locale {
         ensures well_formed { IfOk result
             (λ l. IsValue languages (value_of l) × IsWellFormed (value_of l)) }
         ensures steps { IfOk result (λ l. (n : ℕ) (u : Text)
-            → Chain languages n s.now u → Means languages u (value_of l)) }
+            → Leads (TextStep languages) n s.now u → Means languages u (value_of l)) }
         ensures narrow { (M : meaning.Locale) → Means two_or_three s.now M
             → Accepts value_of ⊤ M result }
     {

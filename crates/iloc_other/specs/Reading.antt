@@ -6,12 +6,12 @@ use Rattle.iloc_spec_grammar.specs.Reading.{rest_of}
 use Rattle.iloc_spec_parts.specs.Fronts.{OtherRead, OtherFault, PrivateRead, PrivateFault, other_front, private_front}
 use Rattle.iloc_spec_parts.specs.Parts.{begins_part, is_letter, OtherText, OtherTextFault, PrivateText, PrivateTextFault}
 use Rattle.iloc_subtags.specs.declared.parse_error.ParseError.{ParseError}
-use Rattle.iloc_subtags.specs.Judging.{Answers, ExtensionFault}
+use Rattle.iloc_subtags.specs.Judging.{Answers}
 
 -- What the pieces after `x` are read as, and the pieces that are left. Memory may run out only for a fifth word.
 abbrev pub PrivateReads : List Text → List Text → Result (List Text) ParseError → Type 0
 PrivateReads ps rest = Answers (λ ws. PrivateRead ps ws rest)
-    (ExtensionFault (PrivateFault ps faults.InvalidExtension))
+    (PrivateFault ps)
     (4 < length (private_front ps))
 
 -- memory may run out on a text only after `x`, the letter of such an extension
@@ -21,13 +21,13 @@ PrivateTextWants t = (begins_part (is_letter code_x) (pieces t) ≡ true) × (4 
 -- what a text is read as
 abbrev pub PrivateTextReads : Text → Result (List Text) ParseError → Type 0
 PrivateTextReads t = Answers (PrivateText t)
-    (ExtensionFault (PrivateTextFault t faults.InvalidExtension))
+    (PrivateTextFault t)
     (PrivateTextWants t)
 
 -- What the pieces after the singleton ext are read as, and the pieces that are left. Memory may run out only for a fifth word.
 abbrev pub OtherReads : ℕ → List Text → List Text → Result (ℕ × List Text) ParseError → Type 0
 OtherReads ext ps rest = Answers (λ o. (o.0 ≡ ext) × OtherRead ps o.1 rest)
-    (ExtensionFault (OtherFault ps faults.InvalidExtension))
+    (OtherFault ps)
     (4 < length (kept (other_front ps)))
 
 -- memory may run out on a text only after the singleton of such an extension
@@ -37,5 +37,5 @@ OtherTextWants t = (begins_part is_other_singleton (pieces t) ≡ true) × (4 < 
 -- what a text is read as
 abbrev pub OtherTextReads : Text → Result (ℕ × List Text) ParseError → Type 0
 OtherTextReads t = Answers (OtherText t)
-    (ExtensionFault (OtherTextFault t faults.InvalidExtension))
+    (OtherTextFault t)
     (OtherTextWants t)

@@ -3,9 +3,9 @@ ghost use Rattle.std.specs.Prelude.{◌≡◌, ℕ, List, ◌<◌, ◌++◌, ◌
 ghost use Rattle.std.specs.Char.{is_ascii_alphanumeric};
 ghost use Rattle.std.specs.List.{AllByRecursion};
 ghost use Rattle.std.specs.Option.{option_copied};
-ghost use Rattle.iloc_spec_grammar.specs.Syntax.{Subtag as the_kind, is_word, lower, is_other_singleton};
+ghost use Rattle.iloc_spec_grammar.specs.Syntax.{Alphanum, is_word, lower, is_other_singleton};
 ghost use Rattle.iloc_spec_grammar.specs.Reading.{take_first, skip_first};
-ghost use Rattle.iloc_spec_grammar.specs.Values.{IsNormal, other_spelling, other_text};
+ghost use Rattle.iloc_spec_grammar.specs.Values.{IsNormal, block_pieces, other_text};
 ghost use Rattle.iloc_spec_grammar.specs.Meaning.{Fault};
 ghost use Rattle.iloc_spec_parts.specs.Fronts.{has_other_length};
 ghost use Rattle.iloc_spec_parts.specs.Parts.{OtherText, OtherTextFault};
@@ -92,7 +92,7 @@ impl Other {
     /// The subtags in list order.
     pub fn as_slice(&self) -> &[Subtag]
         ensures words { result.now ≡ self.now.1 }
-        ensures normal { AllByRecursion (IsNormal the_kind) self.now.1 }
+        ensures normal { AllByRecursion (IsNormal (Alphanum 2 8)) self.now.1 }
     {
         self.keys.as_slice()
     }
@@ -165,10 +165,10 @@ impl Other {
     fn push_word(&mut self, alloc: Global, piece: &[u8]) -> Result<(), ParseError>
         ensures singleton { self.new.0 ≡ self.old.0 }
         ensures ok { OnOk result (self.new.1
-            ≡ (if is_word the_kind piece.now then self.old.1 ++ lower piece.now ∷ []
+            ≡ (if is_word (Alphanum 2 8) piece.now then self.old.1 ++ lower piece.now ∷ []
             else self.old.1)) }
         ensures err { IfErr result
-            (λ e. (e ≡ ParseError.OutOfMemory) × (is_word the_kind piece.now ≡ true)) }
+            (λ e. (e ≡ ParseError.OutOfMemory) × (is_word (Alphanum 2 8) piece.now ≡ true)) }
         ensures succeeds { length self.old.1 < 4 → IsOk result }
     {
         match Subtag::try_from_utf8(piece) {
@@ -191,7 +191,7 @@ impl Clone for Other {
 
 /// The pieces are the singleton and the subtags; one without subtags has none.
 impl Pieces for Other {
-    ghost pieces = { other_spelling };
+    ghost pieces = { block_pieces };
 
     fn has_pieces(&self) -> bool {
         !self.as_slice().is_empty()

@@ -4,8 +4,8 @@ ghost use Rattle.std.specs.List.{AllByRecursion};
 ghost use Rattle.std.specs.Option.{option_copied};
 ghost use Rattle.std.specs.Result.{result_and};
 ghost use Rattle.std.specs.Slice.Iter.{iter_rest};
-ghost use Rattle.iloc_spec_grammar.specs.Syntax.{Text, pieces, PrivateSubtag as the_kind};
-ghost use Rattle.iloc_spec_grammar.specs.Values.{private_text, private_spelling, IsNormal};
+ghost use Rattle.iloc_spec_grammar.specs.Syntax.{Text, pieces, Alphanum, code_x};
+ghost use Rattle.iloc_spec_grammar.specs.Values.{private_text, block_pieces, IsNormal};
 ghost use Rattle.iloc_subtags.specs.Left.{left};
 ghost use Rattle.iloc_spec_grammar.specs.Meaning.{Fault};
 ghost use Rattle.iloc_spec_parts.specs.Parts.{PrivateText, PrivateTextFault};
@@ -77,7 +77,7 @@ impl Private {
     /// The subtags in list order.
     pub fn as_slice(&self) -> &[Subtag]
         ensures words { result.now ≡ self.now }
-        ensures normal { AllByRecursion (IsNormal the_kind) self.now }
+        ensures normal { AllByRecursion (IsNormal (Alphanum 1 8)) self.now }
     {
         self.words.as_slice()
     }
@@ -206,7 +206,7 @@ impl Clone for Private {
 
 /// The pieces are `x` and the subtags; an empty list has none.
 impl Pieces for Private {
-    ghost pieces = { private_spelling };
+    ghost pieces = { λ ws. block_pieces (code_x, ws) };
 
     fn has_pieces(&self) -> bool {
         !self.is_empty()

@@ -2,7 +2,7 @@
 use Rattle.std.specs.Prelude.{◌≡◌, ⊤, ℕ, ◌+◌, ◌<◌, ◌≤◌, IsTrue, Bool, true, false, List, [], ◌∷◌, ◌++◌, length, map, take, Option, Some, None}
 use Rattle.std.specs.List.{AllByRecursion}
 use Rattle.std.specs.FinMap.{find}
-use Rattle.iloc_spec_grammar.specs.Syntax.{Text, Field, Fields, Kind, UnicodeKey, TransformKey, Attribute, is_word, IsWord, IsKeyword, IsField, word_cmp, first_piece, lower, dashes, join, fields_pieces, languages}
+use Rattle.iloc_spec_grammar.specs.Syntax.{Text, Field, Fields, Kind, UnicodeKey, TransformKey, Alphanum, is_word, IsWord, IsKeyword, IsField, word_cmp, first_piece, lower, dashes, join, fields_pieces, languages}
 use Rattle.iloc_spec_grammar.specs.Meaning.{Locale, Means, normal_values, set_of}
 use Rattle.iloc_blocks.specs.Blocks.{left_of}
 use Rattle.iloc_fronts.specs.Words.{two_number}
@@ -52,8 +52,8 @@ least kind.Transform = 1
 
 -- the values are words, and without `true` so are those that are kept
 pub record AreValuesKept (values kept : List Text) : Type 0 where
-  pub each : AllByRecursion (IsWord Attribute) values
-  pub each_kept : AllByRecursion (IsWord Attribute) kept
+  pub each : AllByRecursion (IsWord (Alphanum 3 8)) values
+  pub each_kept : AllByRecursion (IsWord (Alphanum 3 8)) kept
   pub few : length kept ≤ length values
   pub same : normal_values kept ≡ normal_values values
 
@@ -63,7 +63,7 @@ pub record IsValueStored (text : Text) (ps : List Text) (len : ℕ) (room : Text
   pub kept : List Text
   pub cut : ps ≡ values ++ left_of s.next
   pub words : AreValuesKept values kept
-  pub none : values ≡ [] → is_word Attribute (first_piece ps) ≡ false
+  pub none : values ≡ [] → is_word (Alphanum 3 8) (first_piece ps) ≡ false
   pub stored : AreStored room (text ++ dashes kept) s.end
   pub left : IsRest len s.next
 
@@ -128,7 +128,7 @@ pub record IsInserted (k : KeyKind) (text : Text) (fields : Fields) (key : Text)
 -- the fields before this place have lesser keys, and that of the next is told
 pub record IsPlace (k : KeyKind) (number : ℕ) (ps : List Text) (len : ℕ) (p : Place) : Type 0 where
   pub before : Fields
-  pub each : AllByRecursion (λ f. IsWord (key_kind k) f.0 × AllByRecursion (IsWord Attribute) f.1) before
+  pub each : AllByRecursion (λ f. IsWord (key_kind k) f.0 × AllByRecursion (IsWord (Alphanum 3 8)) f.1) before
   pub less : AllByRecursion (λ f. two_number f.0 < number) before
   pub key : Text
   pub is_key : IsWord (key_kind k) key
@@ -161,8 +161,8 @@ pub record AreFieldsInOrder (k : KeyKind) (text : Text) (ps : List Text) (room :
 
 -- the same attributes, in another order and without repeats
 pub record AreSameWords (words kept : List Text) : Type 0 where
-  pub each : AllByRecursion (IsWord Attribute) words
-  pub each_kept : AllByRecursion (IsWord Attribute) kept
+  pub each : AllByRecursion (IsWord (Alphanum 3 8)) words
+  pub each_kept : AllByRecursion (IsWord (Alphanum 3 8)) kept
   pub few : length kept ≤ length words
   pub same : set_of (map lower kept) ≡ set_of (map lower words)
 

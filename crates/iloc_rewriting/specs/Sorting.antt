@@ -3,7 +3,7 @@ use Rattle.std.specs.Prelude.{◌≡◌, ◌≢◌, take, ⊤, ℕ, ◌≤◌, B
 use Rattle.std.specs.Int.{is_in_range}
 use Rattle.std.specs.List.{AllByRecursion}
 use Rattle.std.specs.Char.{to_ascii_lowercase}
-use Rattle.iloc_spec_grammar.specs.Syntax.{Text, Block, Subtag, is_word, IsHyphenFree, dashes, join, blocks, is_one_byte, is_other_singleton, code_t, code_u, code_x, languages}
+use Rattle.iloc_spec_grammar.specs.Syntax.{Text, Block, Alphanum, is_word, IsHyphenFree, dashes, join, blocks, is_one_byte, is_other_singleton, code_t, code_u, code_x, languages}
 use Rattle.iloc_spec_grammar.specs.Meaning.{Extensions}
 use Rattle.iloc_spec_grammar.specs.Reading.{starts_block}
 use Rattle.iloc_spec_grammar.specs.ByBlocks.{UnicodeMeans, TransformMeans, OtherMeans, BlocksMean}
@@ -55,7 +55,7 @@ pub record ArePiecesStored (P : Text → Type 0) (test : Text → Bool) (Ends : 
 
 -- the words among pieces of two to eight bytes are stored, up to the next block
 abbrev pub AreWordsKept : Text → List Text → Text → Stored → Type 0
-AreWordsKept text ps room s = ArePiecesStored MayStand (is_word Subtag) BeginsBlock text ps room s
+AreWordsKept text ps room s = ArePiecesStored MayStand (is_word (Alphanum 2 8)) BeginsBlock text ps room s
 
 -- A block.
 

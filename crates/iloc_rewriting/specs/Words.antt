@@ -1,7 +1,7 @@
 -- Words that are brought into order: attributes, or variants.
 use Rattle.std.specs.Prelude.{◌≡◌, ⊤, ℕ, ◌+◌, ◌≤◌, Bool, true, false, List, [], ◌∷◌, ◌++◌, length, map, take, Option, Some, None}
 use Rattle.std.specs.List.{AllByRecursion}
-use Rattle.iloc_spec_grammar.specs.Syntax.{Text, Kind, Attribute, Variant, IsWord, Identifier, lower, pieces, dashes, join, languages}
+use Rattle.iloc_spec_grammar.specs.Syntax.{Text, Kind, Alphanum, Variant, IsWord, Identifier, lower, pieces, dashes, join, languages}
 use Rattle.iloc_spec_grammar.specs.Meaning.{IdentifierMeans, set_of}
 use Rattle.iloc_spec_grammar.specs.Values.{Reordered}
 use Rattle.iloc_blocks.specs.Blocks.{left_of}
@@ -22,7 +22,7 @@ words_of false = kind.Attribute
 
 -- the words
 abbrev pub word_kind : WordKind → Kind
-word_kind kind.Attribute = Attribute
+word_kind kind.Attribute = (Alphanum 3 8)
 word_kind kind.Variant = Variant
 
 -- the number by which a word is ordered

@@ -7,7 +7,7 @@ use Rattle.std.specs.Int.{is_in_range}
 use Rattle.std.specs.List.{list_any, list_all}
 use Rattle.std.specs.Ordering.{nat_cmp, eq_by_cmp}
 use Rattle.std.specs.declared.cmp.Ordering.{Ordering}
-use Rattle.iloc_spec_grammar.specs.Syntax.{Text, Table, Field, Block, code_t, code_u, code_x, pieces, Language, Script, Region, Variant, UnicodeKey, TransformKey, Attribute, PrivateSubtag, is_word, lower, word_cmp, Identifier, Unicode, Transform, Extension, unicode, transform, other, kept, is_other_singleton, singleton, first_piece, head, tail_blocks}
+use Rattle.iloc_spec_grammar.specs.Syntax.{Text, Table, Field, Block, code_t, code_u, code_x, pieces, Language, Script, Region, Variant, UnicodeKey, TransformKey, Alphanum, is_word, lower, word_cmp, Identifier, Unicode, Transform, Extension, unicode, transform, other, kept, is_other_singleton, singleton, first_piece, head, tail_blocks}
 use Rattle.iloc_spec_grammar.specs.Meaning.{Locale, normal_identifier, meaning, Fault, InvalidLanguage, InvalidSubtag, InvalidExtension, DuplicatedExtension}
 use Rattle.iloc_spec_grammar.specs.Values.{text, identifier_text}
 use Rattle.iloc_spec_grammar.specs.Reading.{identifier_of, front_of, extension_of, written_of}
@@ -35,16 +35,16 @@ is_identifier T i = has_words T i && all_different word_cmp (map lower i.variant
 
 -- computes `IsKeyword`: a key and its values
 abbrev pub is_keyword : Field → Bool
-is_keyword f = is_word UnicodeKey f.0 && list_all (is_word Attribute) f.1
+is_keyword f = is_word UnicodeKey f.0 && list_all (is_word (Alphanum 3 8)) f.1
 
 -- computes `IsUnicode`: attributes and keywords, one at least
 abbrev pub is_unicode : Unicode → Bool
-is_unicode u = (list_all (is_word Attribute) u.attributes && list_all is_keyword u.keywords)
+is_unicode u = (list_all (is_word (Alphanum 3 8)) u.attributes && list_all is_keyword u.keywords)
     && nat_lt 0 (length u.attributes + length u.keywords)
 
 -- computes `IsField`: a key and one value or more
 abbrev pub is_field : Field → Bool
-is_field f = (is_word TransformKey f.0 && list_all (is_word Attribute) f.1) && nat_lt 0 (length f.1)
+is_field f = (is_word TransformKey f.0 && list_all (is_word (Alphanum 3 8)) f.1) && nat_lt 0 (length f.1)
 
 -- computes `IsTransform`: perhaps an identifier, and fields, not both absent
 abbrev pub is_transform : Table → Transform → Bool
@@ -57,7 +57,7 @@ is_other ps = list_all (λ p. is_in_range 2 8 (length p)) ps && nat_lt 0 (length
 
 -- computes `IsPrivate`: private words, one at least
 abbrev pub is_private : List Text → Bool
-is_private ps = list_all (is_word PrivateSubtag) ps && nat_lt 0 (length ps)
+is_private ps = list_all (is_word (Alphanum 1 8)) ps && nat_lt 0 (length ps)
 
 -- computes `IsExtension`: the extension follows the rule of its singleton
 abbrev pub is_extension : Table → ℕ → Extension → Bool

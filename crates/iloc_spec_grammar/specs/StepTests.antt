@@ -4,7 +4,7 @@
 use Rattle.std.specs.Prelude.{◌≡◌, ◌↔◌, IsTrue, ℕ, Bool, true, false, not, ◌&&◌, ◌||◌, ◌==◌, List, [], ◌∷◌, length, map, Option, Some, None, nat_lt, if◌then◌else◌}
 use Rattle.std.specs.List.{list_any}
 use Rattle.std.specs.Result.{is_ok}
-use Rattle.iloc_spec_grammar.specs.Syntax.{Text, Table, Field, pieces, Subtag, is_word, lower, is_same, is_true, word_cmp, Identifier, Fields, Unicode, Transform, Extension, unicode, transform, other, Written}
+use Rattle.iloc_spec_grammar.specs.Syntax.{Text, Table, Field, pieces, Alphanum, is_word, lower, is_same, is_true, word_cmp, Identifier, Fields, Unicode, Transform, Extension, unicode, transform, other, Written}
 use Rattle.iloc_spec_grammar.specs.Reading.{identifier_of, written_of}
 use Rattle.iloc_spec_grammar.specs.Computing.{all_different, identifier_result, locale_result}
 use Rattle.iloc_spec_grammar.specs.Values.{Rule, VariantOrder, AttributeOrder, FieldOrder, Repeats, Trues, DroppedPieces}
@@ -145,7 +145,7 @@ is_transform_step r m n =
 
 -- what they do to other extensions
 abbrev pub is_other_step : Rule → List Text → List Text → Bool
-is_other_step DroppedPieces ps qs = is_without is_same (λ p. not (is_word Subtag p)) ps qs
+is_other_step DroppedPieces ps qs = is_without is_same (λ p. not (is_word (Alphanum 2 8) p)) ps qs
 is_other_step _ ps qs = false
 
 -- a rule changes the first into the second

@@ -68,10 +68,10 @@ pub record ArePieces (t : Text) (ps : List Text) : Type 0 where
 abbrev pub is_one_byte : Text → Bool
 is_one_byte p = length p == 1
 
--- the pieces before the first of one byte: a block ends there (UTS #35 3.2)
+-- the pieces before the first of one byte, where a block begins (UTS #35 3.2, `extensions`)
 abbrev pub front : List Text → List Text
 front [] = []
-front (p ∷ ps) = cond (is_one_byte p) [] (p ∷ front ps)
+front (p ∷ ps) = cond (length p == 1) [] (p ∷ front ps)
 
 -- A block is a piece of one byte, its singleton, and the pieces up to the next such piece; that of
 -- `x` takes all the rest (UTS #35 3.2, `pu_extensions`). Pieces before the first block are passed over.
@@ -103,19 +103,17 @@ first_piece (p ∷ ps) = p
 -- of letters in its canonical syntax. Letters and digits are those of ASCII; a word is a list of
 -- bytes.
 
--- The kinds of words (UTS #35 3.1 and 3.2). Which lengths a language may have is a table.
+-- The kinds of words (UTS #35 3.1 and 3.2). Which lengths a language may have is a table. `Alphanum 3 8` is
+-- alphanum{3,8}: an attribute or a value; a private subtag is alphanum{1,8}, any subtag alphanum{2,8}.
 pub data Kind : Type 0 where
   Language : (ℕ → Bool) → Kind
   Script : Kind
   Region : Kind
   Variant : Kind
-  Subtag : Kind
   UnicodeKey : Kind
   TransformKey : Kind
-  Attribute : Kind
-  PrivateSubtag : Kind
-  SubdivisionSuffix : Kind
   CurrencyType : Kind
+  Alphanum : ℕ → ℕ → Kind
 
 -- Tables of the lengths of languages.
 
@@ -129,23 +127,15 @@ pub record IsTable (T : Table) : Type 0 where
 abbrev pub two_or_three : ℕ → Bool
 two_or_three n = is_in_range 2 3 n
 
--- the wide table: 2 to 8 letters, but not 4 (UTS #35 3.1, `unicode_language_subtag`)
-abbrev pub all_but_four : ℕ → Bool
-all_but_four n = is_in_range 2 3 n || is_in_range 5 8 n
-
--- the table of this library: the wide one (UTS #35 3.1)
+-- the table of this library, the wide one: 2 to 8 letters, but not 4 (UTS #35 3.1, `unicode_language_subtag`)
 unfoldable pub languages : ℕ → Bool
-languages n = all_but_four n
+languages n = is_in_range 2 3 n || is_in_range 5 8 n
 
 -- Which pieces are words.
 
 -- whether all bytes are letters (UTS #35 3.1, `alpha`)
 abbrev pub letters : Text → Bool
 letters p = list_all is_ascii_alphabetic p
-
--- whether all bytes are digits (UTS #35 3.1, `digit`)
-abbrev pub digits : Text → Bool
-digits p = list_all is_ascii_digit p
 
 -- whether all bytes are letters or digits (UTS #35 3.1, `alphanum`)
 abbrev pub letters_or_digits : Text → Bool
@@ -157,17 +147,14 @@ letters_or_digits p = list_all is_ascii_alphanumeric p
 unfoldable pub is_word : Kind → Text → Bool
 is_word (Language T) p = T (length p) && letters p
 is_word Script p = (length p == 4) && letters p
-is_word Region p = ((length p == 2) && letters p) || ((length p == 3) && digits p)
+is_word Region p = ((length p == 2) && letters p) || ((length p == 3) && list_all is_ascii_digit p)
 is_word Variant p = (is_in_range 5 8 (length p)
     || ((length p == 4) && is_ascii_digit (slice_index p 0))) && letters_or_digits p
-is_word Subtag p = is_in_range 2 8 (length p) && letters_or_digits p
 is_word UnicodeKey p = (length p == 2)
     && (is_ascii_alphanumeric (slice_index p 0) && is_ascii_alphabetic (slice_index p 1))
 is_word TransformKey p = (length p == 2)
     && (is_ascii_alphabetic (slice_index p 0) && is_ascii_digit (slice_index p 1))
-is_word Attribute p = is_in_range 3 8 (length p) && letters_or_digits p
-is_word PrivateSubtag p = is_in_range 1 8 (length p) && letters_or_digits p
-is_word SubdivisionSuffix p = is_in_range 1 4 (length p) && letters_or_digits p
+is_word (Alphanum least most) p = is_in_range least most (length p) && letters_or_digits p
 is_word CurrencyType p = (length p == 3) && letters p
 
 -- the piece is a word of the kind
@@ -230,7 +217,7 @@ greatest n Script = 4
 greatest n Region = 3
 greatest n UnicodeKey = 2
 greatest n TransformKey = 2
-greatest n SubdivisionSuffix = 4
+greatest n (Alphanum least most) = most
 greatest n CurrencyType = 3
 greatest n _ = 8
 
@@ -336,13 +323,9 @@ extension_block e = (e.0, extension_pieces e.1)
 abbrev pub blocks_of : Written → List Block
 blocks_of w = map extension_block w.extensions ++ option_to_list w.private
 
--- the pieces of a block: its singleton is one of one byte
-abbrev pub block_pieces : Block → List Text
-block_pieces b = (b.0 ∷ []) ∷ b.1
-
 -- the pieces of the whole text; the singleton of a block is a piece of one byte
 abbrev pub spelling : Written → List Text
-spelling w = identifier_pieces w.id ++ flat_map block_pieces (blocks_of w)
+spelling w = identifier_pieces w.id ++ flat_map (λ b. (b.0 ∷ []) ∷ b.1) (blocks_of w)
 
 -- The rules that they follow.
 
@@ -365,27 +348,25 @@ pub record IsIdentifier (T : Table) (i : Identifier) : Type 0 where
 
 -- a key of `u` with any number of values (UTS #35 3.2, `ufield`)
 abbrev pub IsKeyword : Field → Type 0
-IsKeyword f = IsWord UnicodeKey f.0 × AllByRecursion (IsWord Attribute) f.1
+IsKeyword f = IsWord UnicodeKey f.0 × AllByRecursion (IsWord (Alphanum 3 8)) f.1
 
 -- a key of `t` with one value or more (UTS #35 3.2, `tfield`)
 abbrev pub IsField : Field → Type 0
-IsField f = IsWord TransformKey f.0 × AllByRecursion (IsWord Attribute) f.1 × (0 < length f.1)
+IsField f = IsWord TransformKey f.0 × AllByRecursion (IsWord (Alphanum 3 8)) f.1 × (0 < length f.1)
 
--- attributes and keywords, one at least (UTS #35 3.2, `unicode_locale_extensions`)
+-- attributes and keywords (UTS #35 3.2, `unicode_locale_extensions`)
 pub record IsUnicode (u : Unicode) : Type 0 where
-  pub attributes : AllByRecursion (IsWord Attribute) u.attributes
+  pub attributes : AllByRecursion (IsWord (Alphanum 3 8)) u.attributes
   pub keywords : AllByRecursion IsKeyword u.keywords
-  pub nonempty : 0 < length u.attributes + length u.keywords
 
--- perhaps an identifier, and fields, not both absent (UTS #35 3.2, `transformed_extensions`)
+-- perhaps an identifier, and fields (UTS #35 3.2, `transformed_extensions`)
 pub record IsTransform (T : Table) (m : Transform) : Type 0 where
   pub id : IfSome m.id (IsIdentifier T)
   pub fields : AllByRecursion IsField m.fields
-  pub nonempty : m.id ≡ None → 0 < length m.fields
 
 -- the words among the pieces, in lower case; the other pieces mean nothing (not in UTS #35: the Rust crate's rule)
 abbrev pub kept : List Text → List Text
-kept ps = map lower (filter (is_word Subtag) ps)
+kept ps = map lower (filter (is_word (Alphanum 2 8)) ps)
 
 -- pieces of 2 to 8 bytes, of which one at least is a word (UTS #35 3.2, `other_extensions`, asks that each is)
 pub record IsOther (ps : List Text) : Type 0 where
@@ -394,7 +375,7 @@ pub record IsOther (ps : List Text) : Type 0 where
 
 -- private words, one at least (UTS #35 3.2, `pu_extensions`)
 pub record IsPrivate (ps : List Text) : Type 0 where
-  pub words : AllByRecursion (IsWord PrivateSubtag) ps
+  pub words : AllByRecursion (IsWord (Alphanum 1 8)) ps
   pub nonempty : 0 < length ps
 
 -- a letter or digit other than `t`, `u` and `x`, which have rules of their own (UTS #35 3.2)

@@ -7,8 +7,8 @@ use Rattle.std.specs.Char.{to_ascii_lowercase}
 use Rattle.std.specs.List.{AllByRecursion, list_any, AllZip}
 use Rattle.std.specs.Ordering.{nat_cmp}
 use Rattle.std.specs.FinMap.{is_sorted}
-use Rattle.iloc_spec_grammar.specs.Syntax.{Text, Table, Block, code_t, code_u, code_x, Field, join, pieces, Kind, Language, Script, Region, Variant, Subtag, UnicodeKey, TransformKey, Attribute, PrivateSubtag, IsWord, normal, lower, word_cmp, is_true, is_word, is_same, Identifier, Fields, Unicode, Transform, Extension, unicode, transform, other, Written, is_other_singleton, identifier_pieces, fields_pieces, extension_block, block_pieces, spelling, AllDifferent, IsIdentifier, IsWritten}
-use Rattle.iloc_spec_grammar.specs.Meaning.{Locale, Extensions}
+use Rattle.iloc_spec_grammar.specs.Syntax.{Text, Table, Block, code_t, code_u, code_x, Field, join, pieces, Kind, Language, Script, Region, Variant, Alphanum, UnicodeKey, TransformKey, IsWord, normal, lower, word_cmp, is_true, is_word, is_same, Identifier, Fields, Unicode, Transform, optional_pieces, unicode_pieces, languages, is_other_singleton, identifier_pieces, fields_pieces, AllDifferent, IsIdentifier}
+use Rattle.iloc_spec_grammar.specs.Meaning.{Locale, Extensions, Means, Spells, SpellsIdentifier}
 
 -- What the types keep.
 
@@ -30,10 +30,10 @@ pub record IsIdentifierValue (T : Table) (i : Identifier) : Type 0 where
 
 -- a set of attributes, and a map from keys to lists of subtags (UTS #35 3.2, `unicode_locale_extensions`)
 pub record IsUnicodeValue (u : Unicode) : Type 0 where
-  pub attributes : AllByRecursion (IsNormal Attribute) u.attributes
+  pub attributes : AllByRecursion (IsNormal (Alphanum 3 8)) u.attributes
   pub ascending : IsAscending u.attributes
   pub keywords : AllByRecursion
-      (λ f. IsNormal UnicodeKey f.0 × AllByRecursion (IsNormal Subtag) f.1) u.keywords
+      (λ f. IsNormal UnicodeKey f.0 × AllByRecursion (IsNormal (Alphanum 2 8)) f.1) u.keywords
   pub keys_ascend : is_sorted word_cmp u.keywords ≡ true
 
 -- perhaps an identifier, and a map from keys to lists of subtags of three or more other than `true`
@@ -41,7 +41,7 @@ pub record IsTransformValue (T : Table) (m : Transform) : Type 0 where
   pub id : IfSome m.id (IsIdentifierValue T)
   pub fields : AllByRecursion
       (λ f. IsNormal TransformKey f.0
-      × AllByRecursion (λ w. IsNormal Attribute w × (is_true w ≡ false)) f.1) m.fields
+      × AllByRecursion (λ w. IsNormal (Alphanum 3 8) w × (is_true w ≡ false)) f.1) m.fields
   pub keys_ascend : is_sorted word_cmp m.fields ≡ true
 
 -- The others are a list, with any bytes for singletons. (The type keeps letters and digits; callers may
@@ -49,131 +49,57 @@ pub record IsTransformValue (T : Table) (m : Transform) : Type 0 where
 pub record IsExtensionsValue (T : Table) (e : Extensions) : Type 0 where
   pub unicode : IsUnicodeValue e.unicode
   pub transform : IsTransformValue T e.transform
-  pub private : AllByRecursion (IsNormal PrivateSubtag) e.private
-  pub others : AllByRecursion (λ o. AllByRecursion (IsNormal Subtag) o.1) e.others
+  pub private : AllByRecursion (IsNormal (Alphanum 1 8)) e.private
+  pub others : AllByRecursion (λ o. AllByRecursion (IsNormal (Alphanum 2 8)) o.1) e.others
 
 -- what a locale in memory stands for: normal words, ascending sets and maps, in each part
 pub record IsValue (T : Table) (M : Locale) : Type 0 where
   pub id : IsIdentifierValue T M.id
   pub extensions : IsExtensionsValue T M.extensions
 
--- What `is_well_formed` tests: the others ascend, with singletons of their own and a subtag each;
--- no keyword holds `true` or a subtag of two, which would be read as a key.
-pub record AreWellFormed (e : Extensions) : Type 0 where
-  pub ascending : is_sorted nat_cmp e.others ≡ true
-  pub singletons : AllByRecursion
-      (λ o. (is_other_singleton o.0 ≡ true) × (to_ascii_lowercase o.0 ≡ o.0)) e.others
-  pub nonempty : AllByRecursion (λ o. 0 < length o.1) e.others
-  pub values : AllByRecursion
-      (λ f. AllByRecursion (λ w. (is_true w ≡ false) × (length w ≢ 2)) f.1) e.unicode.keywords
-
--- a locale is well-formed if its extensions are
-abbrev pub IsWellFormed : Locale → Type 0
-IsWellFormed M = AreWellFormed M.extensions
-
--- The form in which a value is written.
-
--- the identifier of a transform is written in lower case (UTS #35 3.2.1)
-abbrev pub lower_identifier : Identifier → Identifier
-lower_identifier i = record {
-  language = lower i.language;
-  script = option_map lower i.script;
-  region = option_map lower i.region;
-  variants = map lower i.variants;
-}
+-- The text.
 
 -- an empty value of a transform is spelled `true`, since a `tfield` has a value (UTS #35 3.2)
 abbrev pub spelled_value : List Text → List Text
 spelled_value [] = codes "true" ∷ []
 spelled_value (w ∷ ws) = w ∷ ws
 
--- fields as they are printed, with `true` for an empty value of `t`
+-- fields as they are printed after `t`, with `true` for an empty value
 abbrev pub spelled_fields : Fields → Fields
 spelled_fields fs = map (λ f. (f.0, spelled_value f.1)) fs
 
--- the blocks of `t`, of `u`, of the others and of `x`; an empty part gives none
+-- the block of `t` as it is printed, with its identifier in lower case (UTS #35 3.2.1)
+abbrev pub transform_block : Transform → Block
+transform_block m =
+    (code_t, map lower (optional_pieces m.id) ++ fields_pieces (spelled_fields m.fields))
 
--- the extension of `t` as it is printed: none if the part is empty
-abbrev pub transform_form : Transform → List (ℕ × Extension)
-transform_form m = if is_some m.id || nat_lt 0 (length m.fields)
-    then (
-      code_t,
-      transform
-          (record { id = option_map lower_identifier m.id; fields = spelled_fields m.fields }),
-    ) ∷ []
-    else []
+-- the block of `u` as it is printed
+abbrev pub unicode_block : Unicode → Block
+unicode_block u = (code_u, unicode_pieces u)
 
--- the extension of `u` as it is printed: none if the part is empty
-abbrev pub unicode_form : Unicode → List (ℕ × Extension)
-unicode_form u = if nat_lt 0 (length u.attributes + length u.keywords) then (code_u, unicode u) ∷ []
-    else []
+-- the blocks of `t` and `u` stand before the first of the others whose singleton is above `t`
+abbrev pub before_above : List Block → List Block → List Block
+before_above bs [] = bs
+before_above bs (o ∷ os) = if nat_le o.0 code_t then o ∷ before_above bs os else bs ++ (o ∷ os)
 
--- the other extensions as they are printed: those with words
-abbrev pub others_form : List Block → List (ℕ × Extension)
-others_form os = map (λ o. (o.0, other o.1)) (filter (λ o. nat_lt 0 (length o.1)) os)
+-- the pieces of a block, its singleton first; an empty block gives none
+abbrev pub block_pieces : Block → List Text
+block_pieces (c, []) = []
+block_pieces (c, p ∷ ps) = (c ∷ []) ∷ p ∷ ps
 
--- the private extension as it is printed: none if it has no words
-abbrev pub private_form : List Text → Option Block
-private_form [] = None
-private_form (w ∷ ws) = Some (code_x, w ∷ ws)
-
--- the others before the first whose singleton is above `t`
-abbrev pub before_t : List Block → List Block
-before_t [] = []
-before_t (o ∷ os) = if nat_le o.0 code_t then o ∷ before_t os else []
-
--- the others from the first whose singleton is above `t` on
-abbrev pub after_t : List Block → List Block
-after_t [] = []
-after_t (o ∷ os) = if nat_le o.0 code_t then after_t os else o ∷ os
-
--- the extensions in the order in which they are printed (UTS #35 3.2.1): others up to `t`, `t`, `u`, other others
-abbrev pub extensions_form : Extensions → List (ℕ × Extension)
-extensions_form e = others_form (before_t e.others)
-    ++ (transform_form e.transform ++ (unicode_form e.unicode ++ others_form (after_t e.others)))
-
--- the written form that a value is printed as
-abbrev pub printed : Locale → Written
-printed M = record {
-  id = M.id;
-  extensions = extensions_form M.extensions;
-  private = private_form M.extensions.private;
-}
-
--- The text.
+-- all that follows the identifier: others up to `t`, `t`, `u`, other others, and `x` (UTS #35 3.2.1)
+abbrev pub extensions_pieces : Extensions → List Text
+extensions_pieces e = flat_map block_pieces
+    (before_above (transform_block e.transform ∷ unicode_block e.unicode ∷ []) e.others
+    ++ ((code_x, e.private) ∷ []))
 
 -- the printed text: the canonical syntax of UTS #35 3.2.1; aliases stay
 abbrev pub text : Locale → Text
-text M = join (spelling (printed M))
+text M = join (identifier_pieces M.id ++ extensions_pieces M.extensions)
 
--- The pieces that each part gives, its singleton among them; an empty part gives none.
-
--- the pieces of blocks: each singleton, and what follows it
-abbrev pub form_pieces : List (ℕ × Extension) → List Text
-form_pieces es = flat_map block_pieces (map extension_block es)
-
--- the pieces that a unicode part prints, with its singleton (UTS #35 3.2.1)
-unfoldable pub unicode_spelling : Unicode → List Text
-unicode_spelling u = form_pieces (unicode_form u)
-
--- the pieces that a transform part prints, with its singleton (UTS #35 3.2.1)
-unfoldable pub transform_spelling : Transform → List Text
-transform_spelling m = form_pieces (transform_form m)
-
--- the pieces that another extension prints, with its singleton (UTS #35 3.2.1)
-unfoldable pub other_spelling : Block → List Text
-other_spelling o = form_pieces (others_form (o ∷ []))
-
--- the pieces that a private part prints, with its singleton (UTS #35 3.2.1)
-unfoldable pub private_spelling : List Text → List Text
-private_spelling ws = flat_map block_pieces (option_to_list (private_form ws))
-
--- all that follows the identifier
-unfoldable pub extensions_spelling : Extensions → List Text
-extensions_spelling e = flat_map other_spelling (before_t e.others)
-    ++ (transform_spelling e.transform
-    ++ (unicode_spelling e.unicode
-    ++ (flat_map other_spelling (after_t e.others) ++ private_spelling e.private)))
+-- a locale is well-formed if its text means it
+abbrev pub IsWellFormed : Locale → Type 0
+IsWellFormed M = Means languages (text M) M
 
 -- The text of each part alone is the join of its share; of an empty part it is empty.
 
@@ -183,23 +109,23 @@ identifier_text i = join (identifier_pieces i)
 
 -- the text of a unicode part (UTS #35 3.2.1)
 unfoldable pub unicode_text : Unicode → Text
-unicode_text u = join (unicode_spelling u)
+unicode_text u = join (block_pieces (unicode_block u))
 
 -- the text of a transform part (UTS #35 3.2.1)
 unfoldable pub transform_text : Transform → Text
-transform_text m = join (transform_spelling m)
+transform_text m = join (block_pieces (transform_block m))
 
 -- the text of another extension (UTS #35 3.2.1)
 unfoldable pub other_text : Block → Text
-other_text o = join (other_spelling o)
+other_text o = join (block_pieces o)
 
 -- the text of a private part (UTS #35 3.2.1)
 unfoldable pub private_text : List Text → Text
-private_text ws = join (private_spelling ws)
+private_text ws = join (block_pieces (code_x, ws))
 
 -- the text of all extensions (UTS #35 3.2.1)
 unfoldable pub extensions_text : Extensions → Text
-extensions_text e = join (extensions_spelling e)
+extensions_text e = join (extensions_pieces e)
 
 -- Sets of variants or attributes, and values of keywords, are the join of their words; an empty
 -- value of a field is `true`.
@@ -212,11 +138,11 @@ field_value_text ws = join (spelled_value ws)
 unfoldable pub fields_text : Fields → Text
 fields_text fs = join (fields_pieces (spelled_fields fs))
 
--- Steps of rewriting: eight ways to change an accepted text that keep its meaning and do not
--- lengthen it. They change the case of letters; the order of blocks, variants, attributes or
--- fields; or leave out repeated attributes and fields, `true` in values, and pieces that other
--- extensions drop. The laws `steps` and `chain` say that they keep the meaning, and that at most
--- eight lead to the normal text. UTS #35, section 3, gives its canonical syntax by such steps.
+-- Steps of rewriting: ways to change an accepted text that keep its meaning and do not lengthen it. They
+-- change the case of letters; the order of blocks, variants, attributes or fields; or leave out
+-- repeated attributes and fields, `true` in values, and pieces that other extensions drop. The laws
+-- `steps` and `chain` say that they keep the meaning, and that few lead to the normal text.
+-- UTS #35, section 3, gives its canonical syntax by such steps.
 
 -- What a step does to a list.
 
@@ -227,117 +153,60 @@ pub data Reordered {X : Type 0} : List X → List X → Type 0 where
   first_two : {x y : X} {xs : List X} → Reordered (x ∷ y ∷ xs) (y ∷ x ∷ xs)
   in_turn : {xs ys zs : List X} → Reordered xs ys → Reordered ys zs → Reordered xs zs
 
--- ys is xs without some of the items that pass the test
-pub data Without {X : Type 0} (test : X → Bool) : List X → List X → Type 0 where
-  none : Without test [] []
-  kept : {x : X} {xs ys : List X} → Without test xs ys → Without test (x ∷ xs) (x ∷ ys)
-  left_out : {x : X} {xs ys : List X} → test x ≡ true → Without test xs ys
-      → Without test (x ∷ xs) ys
+-- ys is xs without some items; the test tells which may go, of the items that are kept before one and of it
+pub data Without {X : Type 0} (test : List X → X → Bool) : List X → List X → List X → Type 0 where
+  none : {before : List X} → Without test before [] []
+  kept : {before : List X} {x : X} {xs ys : List X} → Without test (x ∷ before) xs ys
+      → Without test before (x ∷ xs) (x ∷ ys)
+  left_out : {before : List X} {x : X} {xs ys : List X} → test before x ≡ true
+      → Without test before xs ys → Without test before (x ∷ xs) ys
 
--- ys is xs without some items whose key, in lower case, an earlier kept item has, or the list seen has
-pub data WithoutRepeats {X : Type 0} (key : X → Text) : List Text → List X → List X → Type 0 where
-  none : {seen : List Text} → WithoutRepeats key seen [] []
-  kept : {seen : List Text} {x : X} {xs ys : List X}
-      → WithoutRepeats key (lower (key x) ∷ seen) xs ys → WithoutRepeats key seen (x ∷ xs) (x ∷ ys)
-  left_out : {seen : List Text} {x : X} {xs ys : List X}
-      → list_any (is_same (lower (key x))) seen ≡ true → WithoutRepeats key seen xs ys
-      → WithoutRepeats key seen (x ∷ xs) ys
-
--- What a step does to a field.
+-- items whose keys all differ in another order; or some left out whose key an earlier one has, in whatever case
+abbrev pub ListStep : {X : Type 0} → (X → Text) → List X → List X → Type 0
+ListStep key xs ys = (AllDifferent word_cmp (map (λ x. lower (key x)) xs) × Reordered xs ys)
+    ⊎ Without (λ before x. list_any (λ y. is_same (lower (key y)) (lower (key x))) before) [] xs ys
 
 -- some values that are `true` are left out
 abbrev pub LessTrue : Field → Field → Type 0
-LessTrue f g = (f.0 ≡ g.0) × Without (λ p. is_true (lower p)) f.1 g.1
+LessTrue f g = (f.0 ≡ g.0) × Without (λ _ w. is_true (lower w)) [] f.1 g.1
 
--- no two keys are equal without case
-abbrev pub keys_differ : Fields → Type 0
-keys_differ fs = AllDifferent word_cmp (map (λ f. lower f.0) fs)
+-- `ca-foo-hc-h12` to `hc-h12-ca-foo`, `ca-foo-ca-bar` to `ca-foo`, or `ca-foo-true` to `ca-foo`
+abbrev pub FieldsStep : Fields → Fields → Type 0
+FieldsStep fs gs = ListStep (λ f. f.0) fs gs ⊎ AllZip LessTrue fs gs
 
--- The steps.
+-- `en-posix-macos` to `en-macos-posix`
+pub record IdentifierStep (i j : Identifier) : Type 0 where
+  pub language : i.language ≡ j.language
+  pub script : i.script ≡ j.script
+  pub region : i.region ≡ j.region
+  pub variants : Reordered i.variants j.variants
 
--- six of the eight change the inside of parts, everywhere at once
-pub data Rule : Type 0 where
-  VariantOrder AttributeOrder FieldOrder Repeats Trues DroppedPieces : Rule
+-- the others in another order, and some pieces left out that are no words: `a-foo-!!-bar` to `a-foo-bar`
+abbrev pub OthersStep : List Block → List Block → Type 0
+OthersStep os ps = (ns : List Block) × Reordered os ns × AllZip (λ n p. (n.0 ≡ p.0)
+    × Without (λ _ q. not (is_word (Alphanum 2 8) q)) [] n.1 p.1) ns ps
 
--- an identifier but for its variants
-abbrev pub with_variants : Text → Option Text → Option Text → List Text → Identifier
-with_variants l s r vs = record { language = l; script = s; region = r; variants = vs }
+-- One step in each part, which may leave it as it is. In which order the parts stand in a text does not count.
+pub record Step (L M : Locale) : Type 0 where
+  pub id : IdentifierStep L.id M.id
+  pub attributes : ListStep (λ w. w) L.extensions.unicode.attributes M.extensions.unicode.attributes
+  pub keywords : FieldsStep L.extensions.unicode.keywords M.extensions.unicode.keywords
+  pub transform : AllZip IdentifierStep
+      (option_to_list L.extensions.transform.id) (option_to_list M.extensions.transform.id)
+  pub fields : FieldsStep L.extensions.transform.fields M.extensions.transform.fields
+  pub private : L.extensions.private ≡ M.extensions.private
+  pub others : OthersStep L.extensions.others M.extensions.others
 
--- a step inside an identifier, if it has one: other steps leave it as it is
-pub data IdentifierStep : Rule → Identifier → Identifier → Type 0 where
-  same : {r : Rule} {i : Identifier} → IdentifierStep r i i
-  -- `en-posix-macos` to `en-macos-posix`
-  variants : {l : Text} {s r : Option Text} {vs ws : List Text} → Reordered vs ws
-      → IdentifierStep VariantOrder (with_variants l s r vs) (with_variants l s r ws)
+-- one step leads from the text t to u: in the case of letters, or in what they spell
+pub data TextStep (T : Table) (t u : Text) : Type 0 where
+  letter_case : lower t ≡ lower u → TextStep T t u
+  rewritten : {L M : Locale} → Spells T t L → Spells T u M → Step L M → TextStep T t u
 
--- what follows `u`, and what follows `t`
-abbrev pub unicode_extension : List Text → Fields → Extension
-unicode_extension vs fs = unicode (record { attributes = vs; keywords = fs })
-
--- the extension of `t` with this identifier and these fields
-abbrev pub transform_extension : Option Identifier → Fields → Extension
-transform_extension i fs = transform (record { id = i; fields = fs })
-
--- a step inside an extension: fields are reordered only if all keys differ; a field of `t` keeps
--- a value
-pub data ExtensionStep : Rule → Extension → Extension → Type 0 where
-  same : {r : Rule} {e : Extension} → ExtensionStep r e e
-  -- `t-en-posix-macos` to `t-en-macos-posix`
-  identifier : {r : Rule} {i j : Identifier} {fs : Fields} → IdentifierStep r i j
-      → ExtensionStep r (transform_extension (Some i) fs) (transform_extension (Some j) fs)
-  -- `u-foo-bar` to `u-bar-foo`
-  attribute_order : {vs ws : List Text} {fs : Fields} → Reordered vs ws
-      → ExtensionStep AttributeOrder (unicode_extension vs fs) (unicode_extension ws fs)
-  -- `u-hc-h12-ca-foo` to `u-ca-foo-hc-h12`
-  keyword_order : {vs : List Text} {fs gs : Fields} → keys_differ fs → Reordered fs gs
-      → ExtensionStep FieldOrder (unicode_extension vs fs) (unicode_extension vs gs)
-  -- `t-m0-foo-h0-bar` to `t-h0-bar-m0-foo`
-  field_order : {i : Option Identifier} {fs gs : Fields} → keys_differ fs → Reordered fs gs
-      → ExtensionStep FieldOrder (transform_extension i fs) (transform_extension i gs)
-  -- `u-foo-FOO-ca-foo-ca-bar` to `u-foo-ca-foo`
-  unicode_repeats : {vs ws : List Text} {fs gs : Fields} → WithoutRepeats (λ a. a) [] vs ws
-      → WithoutRepeats (λ f. f.0) [] fs gs
-      → ExtensionStep Repeats (unicode_extension vs fs) (unicode_extension ws gs)
-  -- `t-m0-foo-m0-bar` to `t-m0-foo`
-  transform_repeats : {i : Option Identifier} {fs gs : Fields} → WithoutRepeats (λ f. f.0) [] fs gs
-      → ExtensionStep Repeats (transform_extension i fs) (transform_extension i gs)
-  -- `u-ca-foo-true` to `u-ca-foo`
-  unicode_trues : {vs : List Text} {fs gs : Fields} → AllZip LessTrue fs gs
-      → ExtensionStep Trues (unicode_extension vs fs) (unicode_extension vs gs)
-  -- `t-m0-foo-true` to `t-m0-foo`
-  transform_trues : {i : Option Identifier} {fs gs : Fields}
-      → AllZip (λ f g. LessTrue f g × (0 < length g.1)) fs gs
-      → ExtensionStep Trues (transform_extension i fs) (transform_extension i gs)
-  -- `a-foo-!!-bar` to `a-foo-bar`
-  dropped_pieces : {ps qs : List Text} → Without (λ p. not (is_word Subtag p)) ps qs
-      → ExtensionStep DroppedPieces (other ps) (other qs)
-
--- a written locale of these parts
-abbrev pub written : Identifier → List (ℕ × Extension) → Option Block → Written
-written i es x = record { id = i; extensions = es; private = x }
-
--- a step of a written locale: its blocks in another order, or one rule inside its parts
-pub data Step : Written → Written → Type 0 where
-  -- `en-u-ca-foo-a-bar` to `en-a-bar-u-ca-foo`
-  block_order : {i : Identifier} {es fs : List (ℕ × Extension)} {x : Option Block} → Reordered es fs
-      → Step (written i es x) (written i fs x)
-  inside : (r : Rule) → {i j : Identifier} {es fs : List (ℕ × Extension)} {x : Option Block}
-      → IdentifierStep r i j → AllZip (λ e f. (e.0 ≡ f.0) × ExtensionStep r e.1 f.1) es fs
-      → Step (written i es x) (written j fs x)
-
--- one step leads from the text t to u: in the case of letters, or by a step of what it spells,
--- which follows the rules
-pub data TextStep (T : Table) (t : Text) : Text → Type 0 where
-  -- `EN-us` to `en-US`
-  letter_case : {u : Text} → lower t ≡ lower u → TextStep T t u
-  rewritten : {v w : Written} → IsWritten T v → pieces t ≡ spelling v → Step v w
-      → TextStep T t (join (spelling w))
-
--- the same for the text of an identifier: in the case of letters, or in the order of variants
-pub data IdentifierTextStep (T : Table) (t : Text) : Text → Type 0 where
-  letter_case : {u : Text} → lower t ≡ lower u → IdentifierTextStep T t u
-  variant_order : {i j : Identifier} → IsIdentifier T i → pieces t ≡ identifier_pieces i
-      → IdentifierStep VariantOrder i j → IdentifierTextStep T t (identifier_text j)
+-- the same for the texts of identifiers
+pub data IdentifierTextStep (T : Table) (t u : Text) : Type 0 where
+  letter_case : lower t ≡ lower u → IdentifierTextStep T t u
+  variant_order : {i j : Identifier} → SpellsIdentifier T (pieces t) i
+      → SpellsIdentifier T (pieces u) j → IdentifierStep i j → IdentifierTextStep T t u
 
 -- Chains.
 
@@ -345,14 +214,6 @@ pub data IdentifierTextStep (T : Table) (t : Text) : Text → Type 0 where
 abbrev pub Leads : (Text → Text → Type 0) → ℕ → Text → Text → Type 0
 Leads R zero t u = t ≡ u
 Leads R (suc n) t u = (t ≡ u) ⊎ ((s : Text) × R t s × Leads R n s u)
-
--- n steps at most lead from t to u
-abbrev pub Chain : Table → ℕ → Text → Text → Type 0
-Chain T n t u = Leads (TextStep T) n t u
-
--- n steps or fewer lead from one identifier's text to another
-abbrev pub IdentifierChain : Table → ℕ → Text → Text → Type 0
-IdentifierChain T n t u = Leads (IdentifierTextStep T) n t u
 
 -- at most n steps lead from t, and at most n from u, to one text
 pub record LeadToOne (R : Text → Text → Type 0) (n : ℕ) (t u : Text) : Type 0 where

@@ -19,7 +19,7 @@ ghost use Rattle.iloc_spec_grammar.specs.Reading.{front_of, after_front, identif
 ghost use Rattle.iloc_spec_grammar.specs.Meaning.{map_of, set_of, Locale, Means, IdentifierMeans, Fault, InvalidLanguage, InvalidSubtag, InvalidExtension, DuplicatedExtension, HasFault, HasIdentifierFault};
 ghost use Rattle.iloc_spec_grammar.specs.Computing.{identifier_result, locale_result};
 ghost use Rattle.iloc_spec_grammar.specs.Examples.{Normalises, IsRefused, NormalisesIdentifier, IsRefusedIdentifier};
-ghost use Rattle.iloc_spec_grammar.specs.Values.{Reordered, keys_differ, TextStep, Chain, IdentifierTextStep, IdentifierChain, LeadToOne, IsNormal, IsAscending, IsIdentifierValue, IsValue, IsWellFormed, lower_identifier, spelled_fields, printed, text, unicode_spelling, transform_spelling, other_spelling, private_spelling, extensions_spelling, identifier_text};
+ghost use Rattle.iloc_spec_grammar.specs.Values.{Reordered, keys_differ, TextStep, IdentifierTextStep, LeadToOne, IsNormal, IsAscending, IsIdentifierValue, IsValue, IsWellFormed, lower_identifier, spelled_fields, printed, text, unicode_spelling, transform_spelling, other_spelling, private_spelling, extensions_spelling, identifier_text, Leads};
 ghost use Rattle.iloc_spec_grammar.specs.ByBlocks.{MeansByBlocks};
 
 /// Each text has exactly one list of pieces.
@@ -145,7 +145,7 @@ pub fn steps()
 
 /// At most eight steps lead from each accepted text to the printed one, which no text of its meaning is shorter than; two accepted texts mean the same exactly if such steps lead both to one text.
 pub fn chain()
-    ensures steps { (T : Table) (t : Text) (M : Locale) → Means T t M → Chain T 8 t (text M) }
+    ensures steps { (T : Table) (t : Text) (M : Locale) → Means T t M → Leads (TextStep T) 8 t (text M) }
     ensures shortest { (T : Table) (t : Text) (M : Locale) → Means T t M
         → length (text M) ≤ length t }
     ensures same { (T : Table) → IsTable T → (t u : Text) (L M : Locale) → Means T t L → Means T u M
@@ -223,7 +223,7 @@ pub fn identifier_steps()
 /// At most two steps lead from each identifier's text to the text of its meaning, so all texts of a meaning are as long; two mean the same exactly if such steps lead both to one text.
 pub fn identifier_chain()
     ensures steps { (T : Table) (t : Text) (i : Identifier) → IdentifierMeans T (pieces t) i
-        → IdentifierChain T 2 t (identifier_text i) }
+        → Leads (IdentifierTextStep T) 2 t (identifier_text i) }
     ensures long { (T : Table) (t : Text) (i : Identifier) → IdentifierMeans T (pieces t) i
         → length (identifier_text i) ≡ length t }
     ensures same { (T : Table) (t u : Text) (i j : Identifier) → IdentifierMeans T (pieces t) i

@@ -7,23 +7,23 @@
 ghost use Rattle.std.specs.Prelude.{◌≡◌, ◌↔◌, ℕ, ◌≤◌, Bool, List, length, codes, IsTrue, true, false};
 ghost use Rattle.iloc_spec_grammar.specs.Syntax.{Text, Table, Field, pieces, IsTable, languages, Identifier, Extension, Written};
 ghost use Rattle.iloc_spec_grammar.specs.Meaning.{Locale, Means, IdentifierMeans};
-ghost use Rattle.iloc_spec_grammar.specs.Values.{TextStep, Chain, IdentifierTextStep, IdentifierChain, LeadToOne, Reordered, Without, WithoutRepeats, LessTrue, Rule, IdentifierStep, ExtensionStep, Step};
+ghost use Rattle.iloc_spec_grammar.specs.Values.{TextStep, IdentifierTextStep, LeadToOne, Reordered, Without, WithoutRepeats, LessTrue, Rule, IdentifierStep, ExtensionStep, Step, Leads};
 ghost use Rattle.iloc_spec_grammar.specs.StepTests.{DecidesEquality, is_reordered, is_without, is_without_repeats, has_less_true, is_identifier_step, is_extension_step, is_step, is_text_step, is_identifier_text_step};
 
 /// Any number of steps keeps the meaning and does not lengthen the text; two accepted texts mean the same exactly if some number of steps leads both to one text.
 pub fn any_steps()
-    ensures mean { (T : Table) → IsTable T → (n : ℕ) (t u : Text) (M : Locale) → Chain T n t u
+    ensures mean { (T : Table) → IsTable T → (n : ℕ) (t u : Text) (M : Locale) → Leads (TextStep T) n t u
         → Means T t M → Means T u M }
-    ensures shorten { (T : Table) (n : ℕ) (t u : Text) → Chain T n t u → length u ≤ length t }
+    ensures shorten { (T : Table) (n : ℕ) (t u : Text) → Leads (TextStep T) n t u → length u ≤ length t }
     ensures same { (T : Table) → IsTable T → (t u : Text) (L M : Locale) → Means T t L → Means T u M
         → (L ≡ M) ↔ ((n : ℕ) × LeadToOne (TextStep T) n t u) }
 {}
 
 /// The same for identifiers, by steps in the case of letters and in the order of variants.
 pub fn any_identifier_steps()
-    ensures mean { (T : Table) (n : ℕ) (t u : Text) (i : Identifier) → IdentifierChain T n t u
+    ensures mean { (T : Table) (n : ℕ) (t u : Text) (i : Identifier) → Leads (IdentifierTextStep T) n t u
         → IdentifierMeans T (pieces t) i → IdentifierMeans T (pieces u) i }
-    ensures long { (T : Table) (n : ℕ) (t u : Text) → IdentifierChain T n t u
+    ensures long { (T : Table) (n : ℕ) (t u : Text) → Leads (IdentifierTextStep T) n t u
         → length u ≡ length t }
     ensures same { (T : Table) (t u : Text) (i j : Identifier) → IdentifierMeans T (pieces t) i
         → IdentifierMeans T (pieces u) j
@@ -43,7 +43,7 @@ pub fn by_example()
     ensures trues { TextStep languages (codes "en-u-ca-foo-true") (codes "en-u-ca-foo") }
     ensures dropped_pieces { TextStep languages (codes "en-a-foo-!!-bar") (codes "en-a-foo-bar") }
     ensures same_key_stays_in_order { (n : ℕ)
-        → Chain languages n (codes "en-u-ca-foo-CA-bar") (codes "en-u-CA-bar-ca-foo") → ⊥ }
+        → Leads (TextStep languages) n (codes "en-u-ca-foo-CA-bar") (codes "en-u-CA-bar-ca-foo") → ⊥ }
 {}
 
 /// What a step does to a list is what the tests of lists say.

@@ -5,7 +5,7 @@
 use Rattle.std.specs.Prelude.{◌≡◌, ◌+◌, ◌<◌, Bool, true, false, not, ◌&&◌, ◌||◌, List, [], length, map, if◌then◌else◌, Option, Some, None, nat_lt, ◌∷◌, is_some, Result, Ok, Err}
 use Rattle.std.specs.Int.{is_in_range}
 use Rattle.std.specs.List.{AllByRecursion, list_any, list_all}
-use Rattle.iloc_spec_grammar.specs.Syntax.{Text, Table, Language, UnicodeKey, TransformKey, Attribute, PrivateSubtag, is_word, IsWord, lower, word_cmp, Identifier, Fields, Unicode, Transform, fields_pieces, IsKeyword, IsField, IsOther, IsPrivate, IsIdentifier, kept, first_piece}
+use Rattle.iloc_spec_grammar.specs.Syntax.{Text, Table, Language, UnicodeKey, TransformKey, Alphanum, is_word, IsWord, lower, word_cmp, Identifier, Fields, Unicode, Transform, fields_pieces, IsKeyword, IsField, IsOther, IsPrivate, IsIdentifier, kept, first_piece}
 use Rattle.iloc_spec_grammar.specs.Meaning.{set_of, normal_fields, normal_transform, Fault, InvalidSubtag, InvalidExtension, RepeatsVariant}
 use Rattle.iloc_spec_grammar.specs.Reading.{passing, past, is_two, rest_of, IdentifierFront, front_of, after_front, fields_from}
 use Rattle.iloc_spec_grammar.specs.Computing.{all_different, is_field, is_other, is_private}
@@ -23,11 +23,11 @@ past_from first test ps = if first (first_piece ps) then past test ps else ps
 
 -- the longest front of attributes
 abbrev pub attributes_front : List Text → List Text
-attributes_front ps = passing (is_word Attribute) ps
+attributes_front ps = passing (is_word (Alphanum 3 8)) ps
 
 -- what is left after it
 abbrev pub after_attributes : List Text → List Text
-after_attributes ps = past (is_word Attribute) ps
+after_attributes ps = past (is_word (Alphanum 3 8)) ps
 
 -- the attributes that are read, as a set
 abbrev pub attributes_read : List Text → List Text
@@ -38,7 +38,7 @@ attributes_read ps = set_of (map lower (attributes_front ps))
 
 -- whether the piece goes on with keywords: a key's two bytes, or a value
 abbrev pub is_keyword_piece : Text → Bool
-is_keyword_piece p = is_two p || is_word Attribute p
+is_keyword_piece p = is_two p || is_word (Alphanum 3 8) p
 
 -- the longest front of such pieces, if a piece of two bytes begins it
 abbrev pub keywords_front : List Text → List Text
@@ -88,7 +88,7 @@ pub data FrontRead (T : Table) (ps : List Text) : Option Identifier → List Tex
 
 -- whether the piece may stand in fields: a key or a value (UTS #35 3.2, `tfield`)
 abbrev pub is_field_piece : Text → Bool
-is_field_piece p = is_word TransformKey p || is_word Attribute p
+is_field_piece p = is_word TransformKey p || is_word (Alphanum 3 8) p
 
 -- the pieces of the fields at the front (UTS #35 3.2, `tfield`)
 abbrev pub fields_front : List Text → List Text
@@ -100,7 +100,8 @@ after_fields ps = past_from (is_word TransformKey) is_field_piece ps
 
 -- a key is first, and a value is after it: one field at least
 abbrev pub BeginsField : List Text → Type 0
-BeginsField ps = IsWord TransformKey (first_piece ps) × IsWord Attribute (first_piece (rest_of ps))
+BeginsField ps = IsWord TransformKey (first_piece ps)
+    × IsWord (Alphanum 3 8) (first_piece (rest_of ps))
 
 -- an identifier and fields, one after the other, not both absent
 pub record TransformRead (T : Table) (ps : List Text) (m : Transform) (rest : List Text) : Type 0 where
@@ -144,7 +145,7 @@ pub data OtherFault (ps : List Text) : Fault → Type 0 where
 
 -- the longest front of private words
 abbrev pub private_front : List Text → List Text
-private_front ps = passing (is_word PrivateSubtag) ps
+private_front ps = passing (is_word (Alphanum 1 8)) ps
 
 -- after `x` all pieces are read, and nothing is left (UTS #35 3.2, `pu_extensions`)
 pub record PrivateRead (ps ws rest : List Text) : Type 0 where

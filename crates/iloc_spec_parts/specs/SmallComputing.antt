@@ -2,7 +2,7 @@
 use Rattle.std.specs.Prelude.{ℕ, Bool, true, false, ◌&&◌, ◌==◌, nat_le, List, [], ◌∷◌, length, if◌then◌else◌, Option, Some, None, Result, Ok, Err}
 use Rattle.std.specs.Char.{is_ascii_alphanumeric, to_ascii_lowercase}
 use Rattle.std.specs.List.{list_all}
-use Rattle.iloc_spec_grammar.specs.Syntax.{Text, Table, Block, code_u, pieces, Language, Variant, UnicodeKey, Attribute, is_word, lower, Extension, unicode, Written, singleton}
+use Rattle.iloc_spec_grammar.specs.Syntax.{Text, Table, Block, code_u, pieces, Language, Variant, UnicodeKey, Alphanum, is_word, lower, Extension, unicode, Written, singleton}
 use Rattle.iloc_spec_grammar.specs.Meaning.{Locale, normal_values, Fault, InvalidLanguage, InvalidSubtag, InvalidExtension, head, tail_blocks, first_piece}
 use Rattle.iloc_spec_grammar.specs.Values.{text}
 use Rattle.iloc_spec_grammar.specs.Reading.{identifier_of, first_item, written_of}
@@ -30,7 +30,7 @@ small_identifier_result T (p ∷ ps) = if is_word (Language T) p
 abbrev pub has_small_keyword : List Text → Bool
 has_small_keyword [] = false
 has_small_keyword (p ∷ ps) = is_word UnicodeKey p
-    && (list_all (is_word Attribute) ps && nat_le (length (normal_values ps)) 1)
+    && (list_all (is_word (Alphanum 3 8)) ps && nat_le (length (normal_values ps)) 1)
 
 -- whether the singleton is `u`, in whatever case
 abbrev pub is_u : ℕ → Bool
@@ -50,7 +50,7 @@ keyword_read (p ∷ ps) = (lower p, first_item (normal_values ps))
 unfoldable pub block_fault : Block → Fault
 block_fault b = if is_ascii_alphanumeric b.0
     then (if singleton b == code_u
-    then (if is_word Attribute (first_piece b.1) then InvalidSubtag
+    then (if is_word (Alphanum 3 8) (first_piece b.1) then InvalidSubtag
     else (if is_word UnicodeKey (first_piece b.1) then InvalidSubtag else InvalidExtension))
     else InvalidSubtag)
     else InvalidExtension

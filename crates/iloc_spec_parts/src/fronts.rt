@@ -9,7 +9,7 @@ ghost use Rattle.std.specs.Prelude.{◌≡◌, ◌↔◌, true, false, ◌||◌,
 ghost use Rattle.std.specs.FinMap.{find};
 ghost use Rattle.std.specs.List.{AllByRecursion, list_any};
 ghost use Rattle.std.specs.Option.{option_or};
-ghost use Rattle.iloc_spec_grammar.specs.Syntax.{Text, Table, Block, code_t, code_u, code_x, pieces, join, IsTable, Subtag, Attribute, is_true, is_same, word_cmp, languages, Unicode, Transform, IsOther, IsPrivate, is_other_singleton, singleton};
+ghost use Rattle.iloc_spec_grammar.specs.Syntax.{Text, Table, Block, code_t, code_u, code_x, pieces, join, IsTable, Alphanum, is_true, is_same, word_cmp, languages, Unicode, Transform, IsOther, IsPrivate, is_other_singleton, singleton};
 ghost use Rattle.iloc_spec_grammar.specs.Values.{IsNormal, IsUnicodeValue, spelled_value};
 ghost use Rattle.iloc_spec_grammar.specs.Meaning.{InvalidSubtag, InvalidExtension, IsBlock, RepeatsVariant, front, Locale, Means};
 ghost use Rattle.iloc_spec_grammar.specs.ByBlocks.{UnicodeMeans, TransformMeans, OtherMeans};
@@ -95,10 +95,10 @@ pub fn block_rules()
 #[tactic(auto, using(crate::proofs::ValueLaws::transform_value_back, crate::proofs::ValueLaws::unicode_value_back))]
 pub fn values()
     ensures unicode { (ws : List Text)
-        → AllByRecursion (λ w. IsNormal Subtag w × (is_true w ≡ false)) ws
+        → AllByRecursion (λ w. IsNormal (Alphanum 2 8) w × (is_true w ≡ false)) ws
         → unicode_value (join ws) ≡ Ok ws }
     ensures transform { (ws : List Text)
-        → AllByRecursion (λ w. IsNormal Attribute w × (is_true w ≡ false)) ws
+        → AllByRecursion (λ w. IsNormal (Alphanum 3 8) w × (is_true w ≡ false)) ws
         → transform_value (join (spelled_value ws)) ≡ Ok ws }
 {}
 

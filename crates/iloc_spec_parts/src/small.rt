@@ -5,7 +5,7 @@
 //! its blocks, so no parser of a part allocates.
 
 ghost use Rattle.std.specs.Prelude.{◌≡◌, ◌↔◌, ◌⊎◌, ℕ, true, false, List, [], Ok, Err, MatchResult, codes};
-ghost use Rattle.iloc_spec_grammar.specs.Syntax.{Text, Table, Block, code_t, code_u, pieces, TransformKey, Attribute, is_word, IsWord, IsTable, languages, kept, singleton, is_other_singleton, first_piece};
+ghost use Rattle.iloc_spec_grammar.specs.Syntax.{Text, Table, Block, code_t, code_u, pieces, TransformKey, Alphanum, is_word, IsWord, IsTable, languages, kept, singleton, is_other_singleton, first_piece};
 ghost use Rattle.iloc_spec_grammar.specs.Reading.{rest_of};
 ghost use Rattle.iloc_spec_parts.specs.Fronts.{is_bad_key, other_front};
 ghost use Rattle.iloc_spec_grammar.specs.Meaning.{Locale, Means, IdentifierMeans, Fault, InvalidLanguage, InvalidSubtag, InvalidExtension};
@@ -125,7 +125,7 @@ pub fn broken_blocks()
         → is_bad_key (first_piece b.1) ≡ true → IsShortBlock T b }
     ensures transform { (T : Table) (b : Block) → singleton b ≡ code_t
         → IsWord TransformKey (first_piece b.1)
-        → is_word Attribute (first_piece (rest_of b.1)) ≡ false → IsShortBlock T b }
+        → is_word (Alphanum 3 8) (first_piece (rest_of b.1)) ≡ false → IsShortBlock T b }
     ensures other { (T : Table) (b : Block) → is_other_singleton (singleton b) ≡ true
         → kept (other_front b.1) ≡ [] → IsShortBlock T b }
 {}

@@ -5,7 +5,7 @@
 use Rattle.std.specs.Prelude.{◌≡◌, Bool, IfSome, List, [], ◌∷◌, ◌++◌, Option, Some, None, option_map, option_and_then, option_to_list, codes, if◌then◌else◌}
 use Rattle.std.specs.Option.{option_or}
 use Rattle.std.specs.Result.{result_ok}
-use Rattle.iloc_spec_grammar.specs.Syntax.{Text, Table, join, Language, Script, Region, Variant, Subtag, lower, is_same, is_true, Identifier, Fields}
+use Rattle.iloc_spec_grammar.specs.Syntax.{Text, Table, join, Language, Script, Region, Variant, Alphanum, lower, is_same, is_true, Identifier, Fields}
 use Rattle.iloc_spec_grammar.specs.Meaning.{Locale, just_unicode, Fault, InvalidExtension}
 use Rattle.iloc_spec_grammar.specs.Values.{IsNormal}
 use Rattle.iloc_spec_parts.specs.Small.{SmallLocale, identifier_of_small, locale_of_small, IsSmall, HasSmallFault}
@@ -26,7 +26,7 @@ pub record IsDataLocale (T : Table) (d : DataLocale) : Type 0 where
   pub script : IfSome d.script (IsNormal Script)
   pub region : IfSome d.region (IsNormal Region)
   pub variant : IfSome d.variant (IsNormal Variant)
-  pub subdivision : IfSome d.subdivision (IsNormal Subtag)
+  pub subdivision : IfSome d.subdivision (IsNormal (Alphanum 2 8))
 
 -- What a data locale stands for; a region is a subdivision too, as a whole.
 pub record DataKey : Type 0 where

@@ -3,7 +3,7 @@
 -- of 1 to 4 letters or digits.
 use Rattle.std.specs.Prelude.{ℕ, [], ◌∷◌, ◌++◌, take, drop, if◌then◌else◌, Option, Some, None, Result, Err, ok_or}
 use Rattle.std.specs.Char.{is_ascii_alphabetic}
-use Rattle.iloc_spec_grammar.specs.Syntax.{Text, Region, Subtag, SubdivisionSuffix, is_word, word, lower}
+use Rattle.iloc_spec_grammar.specs.Syntax.{Text, Region, Alphanum, is_word, word, lower}
 use Rattle.iloc_spec_grammar.specs.Values.{IsNormal}
 use Rattle.iloc_spec_grammar.specs.Meaning.{Fault, InvalidSubtag, InvalidExtension}
 
@@ -25,9 +25,9 @@ both_words _ _ = None
 -- The subdivision that a text names, or why it names none: it is no subtag, or its parts are no
 -- words.
 abbrev pub subdivision : Text → Result Subdivision Fault
-subdivision t = if is_word Subtag t
+subdivision t = if is_word (Alphanum 2 8) t
     then ok_or (both_words (word Region (take (region_length t) t))
-    (word SubdivisionSuffix (drop (region_length t) t))) InvalidExtension
+    (word (Alphanum 1 4) (drop (region_length t) t))) InvalidExtension
     else Err InvalidSubtag
 
 -- Its text: region and suffix in lower case.
@@ -37,4 +37,4 @@ subdivision_text s = lower s.region ++ lower s.suffix
 -- What the type keeps of each.
 pub record IsSubdivision (s : Subdivision) : Type 0 where
   pub region : IsNormal Region s.region
-  pub suffix : IsNormal SubdivisionSuffix s.suffix
+  pub suffix : IsNormal (Alphanum 1 4) s.suffix

@@ -98,11 +98,11 @@ pub struct AttributeKind;
 
 impl WordKind<8> for AttributeKind {
     ghost use Rattle.std.specs.Prelude.{refl};
-    ghost use Rattle.iloc_spec_grammar.specs.Syntax.{Attribute as the_kind};
+    ghost use Rattle.iloc_spec_grammar.specs.Syntax.{Alphanum};
     ghost use Rattle.iloc_subtags.specs.declared.parse_error.ParseError.TheVariants.{InvalidExtension};
     ghost use Rattle.iloc_subtags.specs.KindLaws.{attribute_fits};
 
-    ghost kind = { the_kind };
+    ghost kind = { (Alphanum 3 8) };
 
     ghost refusal = { InvalidExtension };
 
@@ -140,11 +140,11 @@ pub struct PrivateSubtagKind;
 
 impl WordKind<8> for PrivateSubtagKind {
     ghost use Rattle.std.specs.Prelude.{refl};
-    ghost use Rattle.iloc_spec_grammar.specs.Syntax.{PrivateSubtag as the_kind};
+    ghost use Rattle.iloc_spec_grammar.specs.Syntax.{Alphanum};
     ghost use Rattle.iloc_subtags.specs.declared.parse_error.ParseError.TheVariants.{InvalidExtension};
     ghost use Rattle.iloc_subtags.specs.KindLaws.{private_subtag_fits};
 
-    ghost kind = { the_kind };
+    ghost kind = { (Alphanum 1 8) };
 
     ghost refusal = { InvalidExtension };
 
@@ -182,11 +182,11 @@ pub struct SubdivisionSuffixKind;
 
 impl WordKind<4> for SubdivisionSuffixKind {
     ghost use Rattle.std.specs.Prelude.{refl};
-    ghost use Rattle.iloc_spec_grammar.specs.Syntax.{SubdivisionSuffix as the_kind};
+    ghost use Rattle.iloc_spec_grammar.specs.Syntax.{Alphanum};
     ghost use Rattle.iloc_subtags.specs.declared.parse_error.ParseError.TheVariants.{InvalidExtension};
     ghost use Rattle.iloc_subtags.specs.KindLaws.{subdivision_suffix_fits};
 
-    ghost kind = { the_kind };
+    ghost kind = { (Alphanum 1 4) };
 
     ghost refusal = { InvalidExtension };
 

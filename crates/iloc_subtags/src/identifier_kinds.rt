@@ -234,11 +234,11 @@ pub struct SubtagKind;
 
 impl WordKind<8> for SubtagKind {
     ghost use Rattle.std.specs.Prelude.{refl};
-    ghost use Rattle.iloc_spec_grammar.specs.Syntax.{Subtag as the_kind};
+    ghost use Rattle.iloc_spec_grammar.specs.Syntax.{Alphanum};
     ghost use Rattle.iloc_subtags.specs.declared.parse_error.ParseError.TheVariants.{InvalidSubtag};
     ghost use Rattle.iloc_subtags.specs.KindLaws.{subtag_fits};
 
-    ghost kind = { the_kind };
+    ghost kind = { (Alphanum 2 8) };
 
     ghost refusal = { InvalidSubtag };
 
@@ -297,7 +297,7 @@ impl WordOf<SubtagKind, 8> {
 
     /// The subtag of a text of 2 to 8 lower-case letters or digits.
     pub fn from_tinystr_unvalidated(input: TinyAsciiStr<8>) -> Subtag
-        requires { IsNormal words.Subtag input }
+        requires { IsNormal (words.Alphanum 2 8) input }
         ensures { result ≡ input }
     {
         Subtag::from_known(input)
@@ -308,7 +308,7 @@ impl WordOf<SubtagKind, 8> {
 impl<const M: usize> TryFrom<TinyAsciiStr<M>> for Subtag {
     type Error = ParseError;
 
-    ghost try_from_gives = { λ text r. r ≡ read words.Subtag InvalidSubtag text };
+    ghost try_from_gives = { λ text r. r ≡ read (words.Alphanum 2 8) InvalidSubtag text };
 
     fn try_from(value: TinyAsciiStr<M>) -> Result<Subtag, ParseError> {
         Subtag::try_from_utf8(value.as_str().as_bytes())

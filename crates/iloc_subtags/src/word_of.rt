@@ -3,7 +3,7 @@ ghost use Rattle.std.specs.Prelude.{IsTrue, ◌≡◌, ◌↔◌, ℕ, List, [],
 ghost use Rattle.std.specs.List.{AllByRecursion};
 ghost use Rattle.std.specs.Cmp.Lexicographic.{slice_cmp};
 ghost use Rattle.std.specs.Ordering.{nat_cmp};
-ghost use Rattle.iloc_spec_grammar.specs.Syntax.{Text, Subtag as the_kind, lower, word, read, raw};
+ghost use Rattle.iloc_spec_grammar.specs.Syntax.{Text, Alphanum, lower, word, read, raw};
 ghost use Rattle.iloc_spec_grammar.specs.Values.{IsNormal};
 ghost use Rattle.iloc_subtags.specs.RawForms.{ReadsRaw};
 
@@ -166,7 +166,7 @@ impl<K: WordKind<N>, const N: usize> WordOf<K, N> {
 
 /// The subtag as one of any sort, for kinds whose subtags all are.
 pub fn subtag_of<K: WordKind<N>, const N: usize>(word: &WordOf<K, N>) -> Subtag
-    requires { (w : Text) → IsNormal K.kind w → IsNormal the_kind w }
+    requires { (w : Text) → IsNormal K.kind w → IsNormal (Alphanum 2 8) w }
     ensures { result ≡ word.now }
 {
     Subtag::from_known(TinyAsciiStr::from_piece(word.to_piece()))

@@ -6,7 +6,7 @@ use Rattle.iloc_spec_grammar.specs.Reading.{rest_of}
 use Rattle.iloc_spec_parts.specs.Fronts.{FrontRead, BeginsField, TransformRead, TransformFault}
 use Rattle.iloc_spec_parts.specs.Parts.{begins_part, is_letter, TransformText, TransformTextFault}
 use Rattle.iloc_subtags.specs.declared.parse_error.ParseError.{ParseError}
-use Rattle.iloc_subtags.specs.Judging.{Answers, OfPart}
+use Rattle.iloc_subtags.specs.Judging.{Answers}
 use Rattle.iloc_langid.specs.Reads as langid
 use Rattle.iloc_transform.specs.LangReading.{HasFiveVariants}
 use Rattle.iloc_transform.specs.declared.transform.Transform.{Transform}
@@ -23,7 +23,7 @@ pub data WantsMemory (ps : List Text) : Type 0 where
 -- what the pieces after `t` are read as, and the pieces that are left
 abbrev pub TransformReads : List Text → List Text → Result Transform ParseError → Type 0
 TransformReads ps rest = Answers (λ m. TransformRead languages ps (value_of m) rest)
-    (OfPart (TransformFault languages ps)) (WantsMemory ps)
+    (TransformFault languages ps) (WantsMemory ps)
 
 -- the same of a text: only after `t`, the letter of such an extension
 abbrev pub TransformTextWants : Text → Type 0
@@ -32,5 +32,5 @@ TransformTextWants t = (begins_part (is_letter code_t) (pieces t) ≡ true) × W
 -- what a text is read as
 abbrev pub TransformTextReads : Text → Result Transform ParseError → Type 0
 TransformTextReads t = Answers (λ m. TransformText languages t (value_of m))
-    (OfPart (TransformTextFault languages t))
+    (TransformTextFault languages t)
     (TransformTextWants t)

@@ -164,10 +164,10 @@ pub fn fill_transform(
 /// The pieces are `t`, those of the identifier in lower case and those of the fields; an empty one has
 /// none.
 impl Pieces for Transform {
-    ghost use Rattle.iloc_spec_grammar.specs.Values.{transform_spelling};
+    ghost use Rattle.iloc_spec_grammar.specs.Values.{transform_block, block_pieces};
     ghost use Rattle.iloc_transform.specs.TransformReading.{value_of};
 
-    ghost pieces = { λ m. transform_spelling (value_of m) };
+    ghost pieces = { λ m. block_pieces (transform_block (value_of m)) };
 
     fn has_pieces(&self) -> bool {
         !self.is_empty()

@@ -7,7 +7,7 @@ use Rattle.iloc_spec_grammar.specs.Meaning as faults
 use Rattle.iloc_spec_parts.specs.Fronts.{attributes_read, KeywordsRead, KeywordsFault, keywords_kept}
 use Rattle.iloc_spec_parts.specs.Parts.{AttributesText, KeywordsText, KeywordsTextFault}
 use Rattle.iloc_subtags.specs.declared.parse_error.ParseError.{ParseError}
-use Rattle.iloc_subtags.specs.Judging.{Answers, NoFault, ExtensionFault}
+use Rattle.iloc_subtags.specs.Judging.{Answers}
 
 -- the field has more than four subtags besides `true`
 abbrev pub has_many_values : Text × List Text → Bool
@@ -21,13 +21,13 @@ pub data KeywordsWantMemory (ps : List Text) : Type 0 where
 -- of the pieces ps, keywords were read, and rest is left
 abbrev pub KeywordsGive : List Text → List Text → Result Fields ParseError → Type 0
 KeywordsGive ps rest = Answers (λ m. KeywordsRead ps m rest)
-    (ExtensionFault (KeywordsFault ps faults.InvalidExtension)) (KeywordsWantMemory ps)
+    (KeywordsFault ps) (KeywordsWantMemory ps)
 
 -- the text is read as attributes: the longest front of them, as a set
 abbrev pub AttributesReadAs : Text → Result (List Text) ParseError → Type 0
-AttributesReadAs t = Answers (AttributesText t) NoFault (4 < length (attributes_read (pieces t)))
+AttributesReadAs t = Answers (AttributesText t) (λ f. ⊥) (4 < length (attributes_read (pieces t)))
 
 -- the text is read as keywords
 abbrev pub KeywordsReadAs : Text → Result Fields ParseError → Type 0
 KeywordsReadAs t = Answers (KeywordsText t)
-    (ExtensionFault (KeywordsTextFault t faults.InvalidExtension)) (KeywordsWantMemory (pieces t))
+    (KeywordsTextFault t) (KeywordsWantMemory (pieces t))

@@ -6,7 +6,7 @@ use Rattle.iloc_spec_grammar.specs.Meaning as faults
 use Rattle.iloc_spec_parts.specs.Fronts.{attributes_read, after_attributes, UnicodeRead, UnicodeFault}
 use Rattle.iloc_spec_parts.specs.Parts.{begins_part, is_letter, UnicodeText, UnicodeTextFault}
 use Rattle.iloc_subtags.specs.declared.parse_error.ParseError.{ParseError}
-use Rattle.iloc_subtags.specs.Judging.{Answers, ExtensionFault}
+use Rattle.iloc_subtags.specs.Judging.{Answers}
 use Rattle.iloc_unicode.specs.declared.unicode.Unicode.{Unicode}
 use Rattle.iloc_unicode.specs.Reads.{KeywordsWantMemory}
 use Rattle.iloc_unicode.specs.UnicodeValue.{value_of}
@@ -19,7 +19,7 @@ pub data UnicodeWantsMemory (ps : List Text) : Type 0 where
 -- of the pieces ps, which stand after `u`, an extension was read, and rest is left
 abbrev pub UnicodeGives : List Text → List Text → Result Unicode ParseError → Type 0
 UnicodeGives ps rest = Answers (λ u. UnicodeRead ps (value_of u) rest)
-    (ExtensionFault (UnicodeFault ps faults.InvalidExtension)) (UnicodeWantsMemory ps)
+    (UnicodeFault ps) (UnicodeWantsMemory ps)
 
 -- the same of a text: only after `u`
 abbrev pub UnicodeTextWants : Text → Type 0
@@ -28,5 +28,5 @@ UnicodeTextWants t = (begins_part (is_letter code_u) (pieces t) ≡ true) × Uni
 -- the text is read, `u` and all
 abbrev pub UnicodeReadsAs : Text → Result Unicode ParseError → Type 0
 UnicodeReadsAs t = Answers (λ u. UnicodeText t (value_of u))
-    (ExtensionFault (UnicodeTextFault t faults.InvalidExtension))
+    (UnicodeTextFault t)
     (UnicodeTextWants t)

@@ -26,7 +26,7 @@ ghost use Rattle.std.specs.Hash.{same_Alike};
 ghost use Rattle.std.proofs.Common.{rules};
 ghost use Rattle.std.specs.Slice.{IsItemAt};
 ghost use Rattle.std.specs.Slice.Iter.{iter_rest};
-ghost use Rattle.iloc_spec_grammar.specs.Syntax.{Text, pieces, join, Attribute, is_same, word_cmp};
+ghost use Rattle.iloc_spec_grammar.specs.Syntax.{Text, pieces, join, Alphanum, is_same, word_cmp};
 ghost use Rattle.iloc_spec_grammar.specs.Meaning.{set_of};
 ghost use Rattle.iloc_spec_grammar.specs.Values.{IsNormal, IsAscending};
 ghost use Rattle.iloc_spec_parts.specs.Fronts.{attributes_read};
@@ -144,7 +144,7 @@ impl Attributes {
     pub fn as_slice(&self) -> &[Attribute]
         ensures words { result.now ≡ self.now }
         ensures ascending { IsAscending self.now }
-        ensures normal { AllByRecursion (IsNormal Attribute) self.now }
+        ensures normal { AllByRecursion (IsNormal (Alphanum 3 8)) self.now }
     {
         self.words.as_slice()
     }

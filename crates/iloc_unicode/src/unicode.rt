@@ -6,7 +6,7 @@ ghost use Rattle.iloc_spec_parts.specs.Extending.{extend};
 ghost use Rattle.iloc_spec_parts.specs.Parts.{UnicodeText, UnicodeTextFault};
 ghost use Rattle.iloc_spec_grammar.specs.Meaning.{Fault};
 ghost use Rattle.iloc_subtags.specs.Judging.{Accepts, Refuses};
-ghost use Rattle.iloc_spec_grammar.specs.Values.{unicode_spelling, unicode_text};
+ghost use Rattle.iloc_spec_grammar.specs.Values.{unicode_block, block_pieces, unicode_text};
 ghost use Rattle.iloc_spec_grammar.specs.Syntax.{Unicode as UnicodeParts};
 ghost use Rattle.iloc_spec_parts.specs.Orders.{unicode_cmp};
 
@@ -152,7 +152,7 @@ impl Hash for Unicode {
 impl Pieces for Unicode {
     ghost use Rattle.iloc_unicode.specs.UnicodeValue.{value_of};
 
-    ghost pieces = { λ u. unicode_spelling (value_of u) };
+    ghost pieces = { λ u. block_pieces (unicode_block (value_of u)) };
 
     fn has_pieces(&self) -> bool {
         !self.is_empty()

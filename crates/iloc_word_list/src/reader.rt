@@ -1,6 +1,6 @@
 //! Parses values from pieces.
 ghost use Rattle.std.specs.Prelude.{◌≡◌, ◌≤◌, ℕ, List, [], length, map, Ok, Err, IfOk, OnOk, IsOk};
-ghost use Rattle.iloc_spec_grammar.specs.Syntax.{Text, pieces, Attribute, Subtag, is_word, normal};
+ghost use Rattle.iloc_spec_grammar.specs.Syntax.{Text, pieces, Alphanum, is_word, normal};
 ghost use Rattle.iloc_spec_grammar.specs.Values.{IsNormal};
 ghost use Rattle.iloc_spec_grammar.specs.Meaning.{normal_values, Fault};
 ghost use Rattle.iloc_spec_grammar.specs.Reading.{passing, past};
@@ -61,9 +61,9 @@ impl Value {
 #[tactic(auto, using(iloc_spec_grammar::proofs::WellRead::attribute_is_subtag))]
 pub fn read_value(alloc: Global, iter: &mut SubtagIterator<'_>) -> Result<Value, AllocError>
     ensures value { IfOk result
-        (λ v. v ≡ normal_values (passing (is_word Attribute) (left iter.old))) }
-    ensures rest { OnOk result (left iter.new ≡ past (is_word Attribute) (left iter.old)) }
-    ensures succeeds { length (normal_values (passing (is_word Attribute) (left iter.old))) ≤ 4
+        (λ v. v ≡ normal_values (passing (is_word (Alphanum 3 8)) (left iter.old))) }
+    ensures rest { OnOk result (left iter.new ≡ past (is_word (Alphanum 3 8)) (left iter.old)) }
+    ensures succeeds { length (normal_values (passing (is_word (Alphanum 3 8)) (left iter.old))) ≤ 4
         → IsOk result }
 {
     read_words::<AttributeKind>(alloc, iter)
@@ -74,7 +74,7 @@ fn read_words<K: WordKind<8>>(
     alloc: Global,
     iter: &mut SubtagIterator<'_>,
 ) -> Result<Value, AllocError>
-    requires { (w : Text) → IsNormal K.kind w → IsNormal Subtag w }
+    requires { (w : Text) → IsNormal K.kind w → IsNormal (Alphanum 2 8) w }
     ensures value { IfOk result
         (λ v. v ≡ without_true (map (normal K.kind) (passing (is_word K.kind) (left iter.old)))) }
     ensures rest { OnOk result (left iter.new ≡ past (is_word K.kind) (left iter.old)) }

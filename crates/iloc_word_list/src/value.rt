@@ -5,7 +5,7 @@ ghost use Rattle.std.specs.Iterator.{IsFiniteIterable, Drains};
 ghost use Rattle.std.specs.Option.{option_copied};
 ghost use Rattle.std.specs.Cmp.Rules.{comparing};
 ghost use Rattle.std.proofs.Common.{rules};
-ghost use Rattle.iloc_spec_grammar.specs.Syntax.{Text, Subtag, is_true};
+ghost use Rattle.iloc_spec_grammar.specs.Syntax.{Text, Alphanum, is_true};
 ghost use Rattle.iloc_spec_grammar.specs.Values.{IsNormal};
 ghost use Rattle.iloc_shortvec.specs.ShortList.{only_of};
 ghost use Rattle.iloc_word_list.specs.Equality.{words_eq, words_exact, alike};
@@ -46,7 +46,7 @@ impl Value {
     /// The subtags in order.
     pub fn as_subtags_slice(&self) -> &[Subtag]
         ensures subtags { result.now ≡ self.now }
-        ensures normal { AllByRecursion (IsNormal Subtag) self.now }
+        ensures normal { AllByRecursion (IsNormal (Alphanum 2 8)) self.now }
     {
         self.subtags.as_slice()
     }
@@ -204,7 +204,7 @@ impl Value {
 #[tactic(auto, unfolding(iloc_spec_grammar::specs::Syntax::is_true))]
 fn spells_true(subtag: &Subtag) -> bool
     ensures value { result ≡ is_true subtag.now }
-    ensures normal { IsNormal Subtag subtag.now }
+    ensures normal { IsNormal (Alphanum 2 8) subtag.now }
 {
     subtag.as_str() == "true"
 }
