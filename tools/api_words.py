@@ -91,13 +91,13 @@ def begins(letter, faults):
 
 # The refusals of a parser, and when it may run out of memory (`None`: never), by its relation.
 READERS = {
-    "iloc_langid.ReadsAs": ([NO_LANGUAGE, NO_IDENTIFIER], FIVE_VARIANTS),
-    "iloc_langid.SmallReadsAs": ([NO_LANGUAGE, ("InvalidSubtag", "the rest is no script, region and at most one variant in this order")], None),
-    "iloc_langid.RefusesNormalizing": ([NO_LANGUAGE, NO_IDENTIFIER], f"the text is accepted and not normalized, or {FIVE_VARIANTS}"),
-    "iloc_locale.LocaleReads": (LOCALE, LONG_LOCALE),
+    "iloc_langid.IdentifierReads": ([NO_LANGUAGE, NO_IDENTIFIER], FIVE_VARIANTS),
+    "iloc_langid.SmallReads": ([NO_LANGUAGE, ("InvalidSubtag", "the rest is no script, region and at most one variant in this order")], None),
+    "iloc_langid.NormalizingIdentifierWantsMemory": ([NO_LANGUAGE, NO_IDENTIFIER], f"the text is accepted and not normalized, or {FIVE_VARIANTS}"),
+    "iloc_locale.LocaleTextReads": (LOCALE, LONG_LOCALE),
     "iloc_locale.NormalizingWantsMemory": (LOCALE, f"the text is accepted and not normalized, or {LONG_LOCALE}"),
-    "iloc_langid.SmallLocaleReadsAs": (SMALL, None),
-    "iloc_data.DataReadsAs": (
+    "iloc_langid.SmallLocaleTextReads": (SMALL, None),
+    "iloc_data.DataTextReads": (
         [
             NO_LANGUAGE,
             ("InvalidSubtag", BAD_SMALL),
@@ -105,21 +105,21 @@ READERS = {
         ],
         None,
     ),
-    "iloc_unicode.AttributesReadAs": ([], "there are more than four different attributes"),
-    "iloc_unicode.KeywordsReadAs": (KEYWORDS, "there is a second key, or a keyword of more than four subtags besides `true`"),
-    "iloc_unicode.KeywordsGive": (KEYWORDS, "there is a second key, or a keyword of more than four subtags besides `true`"),
-    "iloc_unicode.UnicodeReadsAs": (begins("`u`", UNICODE), UNICODE_MEMORY),
-    "iloc_unicode.UnicodeGives": (UNICODE, UNICODE_MEMORY),
-    "iloc_word_list.ReadsAs": ([("InvalidSubtag", "the text is not empty, and not all of it is subtags of 2 to 8 letters or digits")], "there are more than four subtags besides `true`"),
+    "iloc_unicode.AttributesTextReads": ([], "there are more than four different attributes"),
+    "iloc_unicode.KeywordsTextReads": (KEYWORDS, "there is a second key, or a keyword of more than four subtags besides `true`"),
+    "iloc_unicode.KeywordsReads": (KEYWORDS, "there is a second key, or a keyword of more than four subtags besides `true`"),
+    "iloc_unicode.UnicodeTextReads": (begins("`u`", UNICODE), UNICODE_MEMORY),
+    "iloc_unicode.UnicodeReads": (UNICODE, UNICODE_MEMORY),
+    "iloc_word_list.ValueTextReads": ([("InvalidSubtag", "the text is not empty, and not all of it is subtags of 2 to 8 letters or digits")], "there are more than four subtags besides `true`"),
     "iloc_transform.TransformTextReads": (begins("`t`", TRANSFORM), "there is a field, or a fifth variant"),
     "iloc_transform.TransformReads": (TRANSFORM, "there is a field, or a fifth variant"),
-    "iloc_fields.FieldsFrontRead": ([("InvalidExtension", "a key has no value")], "there is a field"),
-    "iloc_fields.ValueReads": ([("InvalidExtension", "not all of the text is subtags of 3 to 8 letters or digits, one at least")], "there are more than four subtags besides `true`"),
+    "iloc_fields.FieldsReads": ([("InvalidExtension", "a key has no value")], "there is a field"),
+    "iloc_fields.FieldValueTextReads": ([("InvalidExtension", "not all of the text is subtags of 3 to 8 letters or digits, one at least")], "there are more than four subtags besides `true`"),
     "iloc_other.OtherTextReads": (begins("a letter or digit other than `t`, `u`, `x`", OTHER), FIVE_WORDS),
     "iloc_other.OtherReads": (OTHER, FIVE_WORDS),
     "iloc_other.PrivateTextReads": (begins("`x`", PRIVATE), "there are more than four private subtags"),
     "iloc_other.PrivateReads": (PRIVATE, "there are more than four private subtags"),
-    "iloc_keyword_types.ReadsAs": (
+    "iloc_keyword_types.SubdivisionTextReads": (
         [
             ("InvalidSubtag", "the text is no subtag of 2 to 8 letters or digits"),
             ("InvalidExtension", "its beginning is no region, or its rest no suffix of 1 to 4 letters or digits"),

@@ -167,7 +167,7 @@ class Page:
         read = sum(it.count() for it in self.plain.definitions)
         said = f"`specs/` of the library holds {len(every):,} definitions in {lines:,} lines."
         said += f" The ten stops hold {read:,} of these lines."
-        return f"{said} The headline rests on no other, but for memory."
+        return f"{said} The headline rests on no other, but for memory and for the views of stop 9."
 
     def made(self, text):
         """Returns the page with its parts made anew, and what is wrong with it."""

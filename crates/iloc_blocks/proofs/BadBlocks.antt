@@ -5,11 +5,13 @@ use Rattle.std.specs.Char.{is_ascii_alphanumeric, to_ascii_lowercase}
 use Rattle.std.specs.Ordering.{nat_cmp, eq_by_cmp}
 use Rattle.std.proofs.lemmas.Bool.{cases_Bool, cases_eq, cases_lt}
 use Rattle.std.proofs.lemmas.Bool.Decides.{nat_tests}
-use Rattle.iloc_spec_grammar.specs.Syntax.{pieces, Variant, UnicodeKey, Attribute, PrivateSubtag, is_word, IsWord, languages, Identifier, Fields, Unicode, Transform, Extension, unicode, transform, other, identifier_pieces, fields_pieces, unicode_pieces, transform_pieces, extension_pieces, optional_pieces, IsIdentifier, IsUnicode, IsTransform, IsOther, IsPrivate, IsExtension, is_other_singleton, front, blocks, head, tail_blocks, lower}
-use Rattle.iloc_spec_grammar.specs.Meaning.{Fault, InvalidExtension, RepeatsVariant, IsBlock, BlockFault, no_singleton, breaks_rule, duplicated, FirstBadBlock, here, later, HasFault, bad_block}
+use Rattle.iloc_spec_grammar.specs.Syntax.{pieces, Variant, UnicodeKey, Attribute, PrivateSubtag, is_word, IsWord, languages, Identifier, Fields, Unicode, Transform, identifier_pieces, fields_pieces, unicode_pieces, transform_pieces, optional_pieces, IsIdentifier, IsOther, is_other_singleton, front, blocks, head, tail_blocks, lower}
+use Rattle.iloc_spec_grammar.specs.Tree.{Extension, unicode, transform, other, extension_pieces, IsUnicodeBlock, IsTransformBlock, IsPrivate, IsExtension, IsBlock, TreeBlockFault, no_singleton, breaks_rule, duplicated, FirstBadBlock, here, later}
+use Rattle.iloc_spec_grammar.specs.Meaning.{Fault, InvalidExtension, RepeatsVariant, HasFault, in_block}
 use Rattle.iloc_spec_grammar.specs.Values.{IsAscending}
 use Rattle.iloc_spec_grammar.proofs.PiecesLaws.{at_pieces}
 use Rattle.iloc_spec_grammar.proofs.ReadBack.{all_append, fields_each}
+use Rattle.iloc_spec_grammar.proofs.SameFaults.{fault_of_first}
 use Rattle.iloc_spec_grammar.proofs.ValuesLaws.{all_weaker, ascending_different}
 use Rattle.iloc_spec_grammar.proofs.Readings.{IsLong, after_language, long_after_language}
 use Rattle.iloc_spec_grammar.proofs.Singletons.{no_t, no_u, no_x, self_tied, untied}
@@ -112,8 +114,8 @@ block_as P B c last len ps less good bad body.Other h = tt
 module _ (c : ℕ) (qs : List (List ℕ)) where
   pub record Refuted : Type 0 where
     pub private : to_ascii_lowercase c ≡ 120 → ¬ (IsPrivate qs)
-    pub unicode_ : to_ascii_lowercase c ≡ 117 → (u : Unicode) → IsUnicode u → ¬ (qs ≡ unicode_pieces u)
-    pub transform_ : to_ascii_lowercase c ≡ 116 → (m : Transform) → IsTransform languages m → ¬ (qs ≡ transform_pieces m)
+    pub unicode_ : to_ascii_lowercase c ≡ 117 → (u : Unicode) → IsUnicodeBlock u → ¬ (qs ≡ unicode_pieces u)
+    pub transform_ : to_ascii_lowercase c ≡ 116 → (m : Transform) → IsTransformBlock languages m → ¬ (qs ≡ transform_pieces m)
     pub other_ : is_other_singleton (to_ascii_lowercase c) ≡ true → ¬ (IsOther qs)
     pub repeats : to_ascii_lowercase c ≡ 116 → ¬ (RepeatsVariant languages qs)
 
@@ -129,12 +131,12 @@ module _ (c : ℕ) (qs : List (List ℕ)) where
       by (inl p) = r.private p.0 p.1
       by (inr e) = at e.0 e.1 e.2
 
-  pub fault_of : is_ascii_alphanumeric c ≡ true → Refuted → (seen : List ℕ) → IsUnseen (to_ascii_lowercase c) seen → BlockFault languages seen (c, qs) InvalidExtension
+  pub fault_of : is_ascii_alphanumeric c ≡ true → Refuted → (seen : List ℕ) → IsUnseen (to_ascii_lowercase c) seen → TreeBlockFault languages seen (c, qs) InvalidExtension
   fault_of letter r seen new = breaks_rule letter new (λ x. r.repeats x.0 x.1) (no_block r)
 
 -- the first block is bad
 begin : (b : BadBlock) (last c : ℕ) (ps qs : List (List ℕ)) (bs : List (ℕ × List (List ℕ))) → blocks ((c ∷ []) ∷ ps) ≡ (c, qs) ∷ bs
-    → ((seen : List ℕ) → AreSeen last seen → BlockFault languages seen (c, qs) (told b)) → BeginBadly last ((c ∷ []) ∷ ps) b
+    → ((seen : List ℕ) → AreSeen last seen → TreeBlockFault languages seen (c, qs) (told b)) → BeginBadly last ((c ∷ []) ∷ ps) b
 begin b last c ps qs bs e f = record {
   none_before = refl;
   fault = λ seen all. subst (λ bs. FirstBadBlock languages seen bs (told b)) (sym e) (here (f seen all));
@@ -173,7 +175,7 @@ module _ (last c : ℕ) (letter : is_ascii_alphanumeric c ≡ true) (new : (last
 abbrev pub IsUnicodeWord : List ℕ → Type 0
 IsUnicodeWord p = IsWord Attribute p ⊎ IsWord UnicodeKey p
 
-unicode_words : (u : Unicode) → IsUnicode u → AllByRecursion IsUnicodeWord (unicode_pieces u)
+unicode_words : (u : Unicode) → IsUnicodeBlock u → AllByRecursion IsUnicodeWord (unicode_pieces u)
 unicode_words u h =
     all_append IsUnicodeWord u.attributes (fields_pieces u.keywords) (all_weaker (IsWord Attribute) IsUnicodeWord (λ p k. inl k) u.attributes h.attributes)
     (fields_each IsUnicodeWord UnicodeKey (λ p k. inr k) (λ p k. inl k) u.keywords h.keywords)
@@ -183,7 +185,7 @@ some_words [] [] l e = omega arith
 some_words [] (k ∷ ks) l e = cc
 some_words (w ∷ ws) ks l e = cc
 
-no_transform : (m : Transform) → IsTransform languages m → ¬ ([] ≡ transform_pieces m)
+no_transform : (m : Transform) → IsTransformBlock languages m → ¬ ([] ≡ transform_pieces m)
 no_transform m h = by m.id m.fields h.nonempty
   where
     by : (o : Option Identifier) (fs : Fields) → (o ≡ None → 0 < length fs) → ¬ ([] ≡ optional_pieces o ++ fields_pieces fs)
@@ -220,7 +222,7 @@ unicode_refuted c ps e n = record {
   repeats = λ t. absurd (omega arith);
 }
   where
-    by : IsNoUnicode ps → (u : Unicode) → IsUnicode u → front ps ≡ unicode_pieces u → ⊥
+    by : IsNoUnicode ps → (u : Unicode) → IsUnicodeBlock u → front ps ≡ unicode_pieces u → ⊥
     by (inl none) u k s = some_words u.attributes u.keywords k.nonempty (sym s ∙ none)
     by (inr n) u k s = n (subst (AllByRecursion IsUnicodeWord) (sym s) (unicode_words u k))
 
@@ -356,7 +358,7 @@ module _ (p : Plain) (start rest : List ℕ) (h : IsPlain start p) (f : Fault) (
   blocks_are = ap tail_blocks spelled ∙ blocks_past (after_language id) b.rest long
 
   pub has_fault : HasFault languages (start ++ 45 ∷ rest) f
-  has_fault = bad_block (id, is_identifier, head_is) (subst (λ bs. FirstBadBlock languages [] bs f) (sym blocks_are) b.first)
+  has_fault = in_block (id, is_identifier, head_is) (fault_of_first (subst (λ bs. FirstBadBlock languages [] bs f) (sym blocks_are) b.first))
 
 pub told_fault : (f : Fault) (o : Ordered) (w : List ℕ) (len at : ℕ) → len + 16 ≤ length w → IsBefore w len at o → IsFaultyTail (pieces (take (len - at - 1) (take (length w - (at + 1)) (drop (at + 1) w)))) f
     → HasFault languages (take len w) f

@@ -6,7 +6,7 @@ use Rattle.std.specs.Ordering.{nat_cmp, eq_by_cmp}
 use Rattle.std.proofs.lemmas.Bool.{cases_Bool}
 use Rattle.std.proofs.lemmas.Bool.Decides.{nat_tests}
 use Rattle.iloc_spec_grammar.specs.Syntax.{front, blocks, languages}
-use Rattle.iloc_spec_grammar.specs.Meaning.{FirstBadBlock, here, later, IsBlock, no_singleton, duplicated}
+use Rattle.iloc_spec_grammar.specs.Tree.{FirstBadBlock, here, later, IsBlock, no_singleton, duplicated}
 use Rattle.iloc_spec_grammar.proofs.Readings.{IsLong}
 use Rattle.iloc_blocks.specs.Bodies.{HaveBad, IsNoBodyOf, IsUnseen}
 use Rattle.iloc_blocks.specs.Bad.{fault_of}

@@ -5,15 +5,17 @@ use Rattle.std.specs.List.{AllByRecursion}
 use Rattle.std.proofs.lemmas.List.{map-append, get_or-take, length-append, length-take-le, take-take, length-drop}
 use Rattle.iloc_spec_grammar.specs.Syntax.{pieces, join, dashes, Variant, IsWord, lower, title, upper, languages, Identifier, identifier_pieces}
 use Rattle.iloc_spec_grammar.specs.Meaning.{Locale, IdentifierMeans, Means, normal_identifier}
-use Rattle.iloc_spec_grammar.specs.Values.{IsNormal, IsAscending, IsIdentifierValue, lower_identifier, identifier_text, text, extensions_spelling, IdentifierTextStep}
+use Rattle.iloc_spec_grammar.specs.Values.{IsNormal, IsAscending, IsIdentifierValue, lower_identifier, identifier_text, text, extensions_spelling, TextStep, IdentifierTextStep}
 use Rattle.iloc_spec_grammar.proofs.PiecesLaws.{at_pieces, join-pieces, pieces-join}
 use Rattle.iloc_spec_grammar.proofs.PartTexts.{join-append, join-dashes, dashes-append, text_of_parts}
 use Rattle.iloc_spec_grammar.proofs.WordsLaws.{lower-lower, lower-title, lower-upper, is_word-lower}
-use Rattle.iloc_spec_grammar.proofs.CaseLaws.{pieces-lower, case_means}
+use Rattle.iloc_spec_grammar.proofs.AnySteps.{text_step_means, identifier_step_means}
+use Rattle.iloc_spec_grammar.proofs.CaseLaws.{pieces-lower}
 use Rattle.iloc_spec_grammar.proofs.Chains.{identifier_pieces-low, lower-join}
-use Rattle.iloc_spec_grammar.proofs.IdentifierTexts.{identifier_text_means, identifier_text_step_means}
+use Rattle.iloc_spec_grammar.proofs.IdentifierTexts.{identifier_text_means}
 use Rattle.iloc_spec_grammar.proofs.RawLaws.{languages_table}
-use Rattle.iloc_spec_grammar.proofs.ReadBack.{reads_back, word_hyphen_free}
+use Rattle.iloc_spec_grammar.proofs.ReadBack.{word_hyphen_free}
+use Rattle.iloc_spec_grammar.proofs.SameText.{well_formed_is}
 use Rattle.iloc_plain.specs.Shape.{plain_identifier}
 use Rattle.iloc_plain.specs.Plain.{IsPlain, value_of}
 use Rattle.iloc_plain.specs.declared.plain.Plain.{Plain}
@@ -130,13 +132,13 @@ module _ (p : Plain) (front rest : List ℕ) (h : IsPlain front p) (tail : IsTai
 
   pub varied_means : tail.rest ≡ [] → IdentifierMeans languages (pieces (front ++ 45 ∷ rest)) identifier
   varied_means none =
-      identifier_text_step_means languages (identifier_text identifier) (front ++ 45 ∷ rest) identifier
+      identifier_step_means languages (identifier_text identifier) (front ++ 45 ∷ rest) identifier
       (IdentifierTextStep.letter_case (ap lower (varied_text none) ∙ same_case)) (identifier_text_means identifier value)
 
   pub means : Means languages (front ++ 45 ∷ rest) locale
   means =
-      case_means languages languages_table (text locale) (front ++ 45 ∷ rest) locale (ap lower text_is ∙ same_case)
-      (reads_back locale (record { id = value; extensions = tail.extensions.value }) tail.extensions.well_formed)
+      text_step_means languages languages_table (text locale) (front ++ 45 ∷ rest) locale (TextStep.letter_case (ap lower text_is ∙ same_case))
+      ((well_formed_is locale (record { id = value; extensions = tail.extensions.value })).1 tail.extensions.well_formed)
 
 -- ---- the line
 

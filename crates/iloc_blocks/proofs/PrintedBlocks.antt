@@ -10,11 +10,12 @@ use Rattle.std.specs.Char.{is_ascii_alphanumeric, to_ascii_lowercase}
 use Rattle.std.proofs.lemmas.Bool.{and_parts, and_from, lt-ltb, cases_eq, cases_lt}
 use Rattle.std.proofs.lemmas.Bool.Decides.{nat_tests}
 use Rattle.std.proofs.lemmas.List.{map-append}
-use Rattle.iloc_spec_grammar.specs.Syntax.{pieces, Kind, Subtag, UnicodeKey, Attribute, PrivateSubtag, is_word, IsWord, IsExtension, lower, is_true, word_cmp, languages, is_other_singleton, Fields, fields_pieces, kept, Unicode, unicode, other, extension_pieces, Identifier, Transform, transform, HasWords, IsIdentifier, IsField, IsTransform, TransformKey, identifier_pieces, optional_pieces, transform_pieces, title, upper}
-use Rattle.iloc_spec_grammar.specs.Meaning.{Extensions, IsBlock, no_unicode, no_transform, normal_identifier, normal_values, set_of}
-use Rattle.iloc_spec_grammar.specs.Values.{IsNormal, other_spelling, before_t, after_t, extensions_spelling, transform_spelling, private_spelling, IsExtensionsValue, IsUnicodeValue, unicode_spelling, IsTransformValue, IsIdentifierValue, lower_identifier, spelled_fields}
+use Rattle.iloc_spec_grammar.specs.Syntax.{pieces, Kind, Subtag, UnicodeKey, Attribute, PrivateSubtag, is_word, IsWord, lower, is_true, word_cmp, languages, is_other_singleton, Fields, fields_pieces, kept, Unicode, Identifier, Transform, HasWords, IsIdentifier, IsField, TransformKey, identifier_pieces, optional_pieces, transform_pieces, title, upper}
+use Rattle.iloc_spec_grammar.specs.Tree.{IsExtension, unicode, other, extension_pieces, transform, IsTransformBlock, IsBlock, before_t, after_t}
+use Rattle.iloc_spec_grammar.specs.Meaning.{Extensions, no_unicode, no_transform, normal_identifier, normal_values, set_of}
+use Rattle.iloc_spec_grammar.specs.Values.{IsNormal, other_spelling, extensions_spelling, transform_spelling, private_spelling, IsExtensionsValue, IsUnicodeValue, unicode_spelling, IsTransformValue, IsIdentifierValue, lower_identifier, spelled_fields}
 use Rattle.iloc_spec_grammar.proofs.PiecesLaws.{at_pieces}
-use Rattle.iloc_spec_grammar.proofs.PartTexts.{unicode_spelling_is, transform_spelling_is, other_spelling_is, private_spelling_is, private_spelling_none}
+use Rattle.iloc_spec_grammar.proofs.PartTexts.{unicode_spelling_is, transform_spelling_is, other_spelling_is, private_spelling_is, private_spelling_none, spelling_of_parts}
 use Rattle.iloc_spec_grammar.proofs.RawLaws.{languages_table}
 use Rattle.iloc_spec_grammar.proofs.Readings.{IsLong, long_extension}
 use Rattle.iloc_spec_grammar.proofs.Singletons.{lower_letter}
@@ -86,15 +87,15 @@ last_spelling e = flat_map other_spelling e.others ++ private_spelling e.private
 
 -- nothing is printed before `u`
 from_unicode : (e : Extensions) → AllByRecursion (λ o. 116 < o.0) e.others → e.transform ≡ no_transform → extensions_spelling e ≡ unicode_spelling e.unicode ++ last_spelling e
-unfolding extensions_spelling
 from_unicode e os t = let n = none_before 116 (omega arith) e.others os in
-    (λ j. flat_map other_spelling (n.0 j) ++ ((ap transform_spelling t ∙ no_transform_spelling) j ++ (unicode_spelling e.unicode ++ (flat_map other_spelling (n.1 j) ++ private_spelling e.private))))
+    spelling_of_parts e
+    ∙ (λ j. flat_map other_spelling (n.0 j) ++ ((ap transform_spelling t ∙ no_transform_spelling) j ++ (unicode_spelling e.unicode ++ (flat_map other_spelling (n.1 j) ++ private_spelling e.private))))
 
 -- nothing is printed before `t`
 from_transform : (e : Extensions) → AllByRecursion (λ o. 116 < o.0) e.others → extensions_spelling e ≡ transform_spelling e.transform ++ (unicode_spelling e.unicode ++ last_spelling e)
-unfolding extensions_spelling
 from_transform e os = let n = none_before 116 (omega arith) e.others os in
-    (λ j. flat_map other_spelling (n.0 j) ++ (transform_spelling e.transform ++ (unicode_spelling e.unicode ++ (flat_map other_spelling (n.1 j) ++ private_spelling e.private))))
+    spelling_of_parts e
+    ∙ (λ j. flat_map other_spelling (n.0 j) ++ (transform_spelling e.transform ++ (unicode_spelling e.unicode ++ (flat_map other_spelling (n.1 j) ++ private_spelling e.private))))
 
 -- nor `u` itself
 from_others : (e : Extensions) → AllByRecursion (λ o. 116 < o.0) e.others → e.transform ≡ no_transform → e.unicode ≡ no_unicode → extensions_spelling e ≡ last_spelling e
@@ -106,12 +107,13 @@ other_is c ws some = other_spelling_is (c, ws) ∙ ap (λ (b : Bool). cond b ((c
 -- an extension up to `t` comes first
 first_other : (e : Extensions) (c : ℕ) (ws : List (List ℕ)) → c ≤ 116 → 0 < length ws
     → extensions_spelling (record { unicode = e.unicode; transform = e.transform; private = e.private; others = (c, ws) ∷ e.others }) ≡ ((c ∷ []) ∷ ws) ++ extensions_spelling e
-unfolding extensions_spelling
 first_other e c ws l some =
     let low : nat_le c 116 ≡ true = grind (arith, nat_tests) in
-    (λ j. flat_map other_spelling (cond (low j) ((c, ws) ∷ before_t e.others) []) ++ (transform_spelling e.transform ++ (unicode_spelling e.unicode ++ (flat_map other_spelling (cond (low j) (after_t e.others) ((c, ws) ∷ e.others)) ++ private_spelling e.private))))
+    spelling_of_parts (record { unicode = e.unicode; transform = e.transform; private = e.private; others = (c, ws) ∷ e.others })
+    ∙ (λ j. flat_map other_spelling (cond (low j) ((c, ws) ∷ before_t e.others) []) ++ (transform_spelling e.transform ++ (unicode_spelling e.unicode ++ (flat_map other_spelling (cond (low j) (after_t e.others) ((c, ws) ∷ e.others)) ++ private_spelling e.private))))
     ∙ ap (λ l. (l ++ flat_map other_spelling (before_t e.others)) ++ after) (other_is c ws some)
     ∙ append_assoc ((c ∷ []) ∷ ws) (flat_map other_spelling (before_t e.others)) after
+    ∙ ap (λ l. ((c ∷ []) ∷ ws) ++ l) (sym (spelling_of_parts e))
   where
     after : List (List ℕ)
     after = transform_spelling e.transform ++ (unicode_spelling e.unicode ++ (flat_map other_spelling (after_t e.others) ++ private_spelling e.private))
@@ -391,7 +393,7 @@ module _ (c : ℕ) (e : to_ascii_lowercase c ≡ 116) (ps : List (List ℕ)) (h 
   abbrev value_t : Transform
   value_t = record { id = option_map normal_identifier h.id; fields = value_fields h.fields }
 
-  is_transform : IsTransform languages written_t
+  is_transform : IsTransformBlock languages written_t
   is_transform = part_means ps h
 
   id_values : (o : Option Identifier) → IfSome o (IsIdentifier languages) → IfSome (option_map normal_identifier o) (IsIdentifierValue languages)

@@ -4,7 +4,8 @@ use Rattle.std.specs.List.{AllByRecursion}
 use Rattle.std.specs.FinMap.Entries.{below_all}
 use Rattle.std.proofs.lemmas.Bool.{and_parts, and_from, cases_Bool}
 use Rattle.std.proofs.lemmas.Bool.Decides.{nat_tests}
-use Rattle.iloc_spec_grammar.specs.Syntax.{front, first_piece, Kind, Language, Script, Region, Variant, Attribute, TransformKey, is_word, IsWord, HasWords, IsIdentifier, IsField, IsTransform, Identifier, Fields, Transform, fields_pieces, identifier_pieces, optional_pieces, transform_pieces, AllDifferent, lower, is_true, word_cmp, languages}
+use Rattle.iloc_spec_grammar.specs.Syntax.{front, first_piece, Kind, Language, Script, Region, Variant, Attribute, TransformKey, is_word, IsWord, HasWords, IsIdentifier, IsField, Identifier, Fields, Transform, fields_pieces, identifier_pieces, optional_pieces, transform_pieces, AllDifferent, lower, is_true, word_cmp, languages}
+use Rattle.iloc_spec_grammar.specs.Tree.{IsTransformBlock}
 use Rattle.iloc_spec_grammar.specs.Meaning.{RepeatsVariant, normal_values}
 use Rattle.iloc_spec_grammar.specs.Values.{spelled_value}
 use Rattle.iloc_spec_grammar.specs.Reading.{past, passing, skip_first, rest_of, starts_block, from_block, after_region, front_of, after_front, identifier_of, transform_of, optional_of, before_key, fields_from, IdentifierFront}
@@ -331,8 +332,8 @@ module _ (ps rest : List (List ℕ)) (h : IsHead ps rest) where
   front_is = ap front spelled ∙ front_past (identifier_pieces id) rest long_id
 
   -- where no fields follow, the pieces are no block of `t`
-  again : (m : Transform) → IsTransform languages m → front ps ≡ transform_pieces m → IsTransform languages (transform_of (front ps))
-  again m k e = subst (IsTransform languages) (sym (ap transform_of e ∙ transform_of-pieces m k)) k
+  again : (m : Transform) → IsTransformBlock languages m → front ps ≡ transform_pieces m → IsTransformBlock languages (transform_of (front ps))
+  again m k e = subst (IsTransformBlock languages) (sym (ap transform_of e ∙ transform_of-pieces m k)) k
 
   abbrev between : List (List ℕ)
   between = before_key is_key (front rest)
@@ -346,7 +347,7 @@ module _ (ps rest : List (List ℕ)) (h : IsHead ps rest) where
   abbrev wider : Identifier
   wider = identifier_of (identifier_pieces id ++ between)
 
-  wider_words : IsTransform languages (transform_of (front ps)) → HasWords languages wider
+  wider_words : IsTransformBlock languages (transform_of (front ps)) → HasWords languages wider
   unfolding transform_of
   wider_words k = (subst (λ (qs : List (List ℕ)). IfSome (optional_of qs) (IsIdentifier languages)) before_is k.id).words
 
@@ -364,7 +365,7 @@ module _ (ps rest : List (List ℕ)) (h : IsHead ps rest) where
   whole : ps ≡ identifier_pieces wider ++ more
   whole = spelled ∙ ap (λ l. identifier_pieces id ++ l) rest_parts ∙ sym (append_assoc (identifier_pieces id) between more) ∙ ap (λ l. l ++ more) (sym wider_pieces)
 
-  none_between : IsTransform languages (transform_of (front ps)) → between ≡ []
+  none_between : IsTransformBlock languages (transform_of (front ps)) → between ≡ []
   none_between k = by between (omega (arith, length-append (identifier_pieces id) between, ap length wider_pieces, longest))
     where
       is_front : IdentifierFront languages ps id (after_front ps)
@@ -377,11 +378,11 @@ module _ (ps rest : List (List ℕ)) (h : IsHead ps rest) where
       by [] l = refl
       by (q ∷ qs) l = absurd (omega arith)
 
-  each_field : IsTransform languages (transform_of (front ps)) → AllByRecursion IsField (fields_from is_key (front rest))
+  each_field : IsTransformBlock languages (transform_of (front ps)) → AllByRecursion IsField (fields_from is_key (front rest))
   unfolding transform_of
   each_field k = subst (AllByRecursion IsField) fields_are k.fields
 
-  no_rule : starts_block rest ≡ false → NoFields rest → (m : Transform) → IsTransform languages m → ¬ (front ps ≡ transform_pieces m)
+  no_rule : starts_block rest ≡ false → NoFields rest → (m : Transform) → IsTransformBlock languages m → ¬ (front ps ≡ transform_pieces m)
   no_rule long n m k e = n (record { begins = none_between (again m k e); each = each_field (again m k e); some = some_front rest long })
 
   -- nor is a variant repeated
@@ -418,7 +419,7 @@ module _ (ps rest : List (List ℕ)) (h : IsHead ps rest) where
 
 -- without a language
 module _ (ps : List (List ℕ)) (none : is_word (Language languages) (first_piece ps) ≡ false) where
-  nothing_is : (m : Transform) → IsTransform languages m → ¬ ([] ≡ transform_pieces m)
+  nothing_is : (m : Transform) → IsTransformBlock languages m → ¬ ([] ≡ transform_pieces m)
   nothing_is m h = by m.id m.fields h.nonempty
     where
       by : (o : Option Identifier) (fs : Fields) → (o ≡ None → 0 < length fs) → ¬ ([] ≡ optional_pieces o ++ fields_pieces fs)
@@ -426,7 +427,7 @@ module _ (ps : List (List ℕ)) (none : is_word (Language languages) (first_piec
       by None [] n e = omega (arith, n refl)
       by None (f ∷ fs) n e = cc
 
-  ruled : (qs : List (List ℕ)) → is_word (Language languages) (first_piece qs) ≡ false → qs ≢ [] → IsTransform languages (transform_of qs) → AreRuled qs
+  ruled : (qs : List (List ℕ)) → is_word (Language languages) (first_piece qs) ≡ false → qs ≢ [] → IsTransformBlock languages (transform_of qs) → AreRuled qs
   unfolding transform_of identifier_of
   ruled [] e some k = absurd (some refl)
   ruled (q ∷ qs) e some k = record { begins = by (is_key q) refl; each = k.fields; some = omega arith }
@@ -441,14 +442,14 @@ module _ (ps : List (List ℕ)) (none : is_word (Language languages) (first_piec
   pub no_transform_here : NoFields ps → IsNoTransform ps
   no_transform_here n = (rule, repeats)
     where
-      rule : (m : Transform) → IsTransform languages m → ¬ (front ps ≡ transform_pieces m)
+      rule : (m : Transform) → IsTransformBlock languages m → ¬ (front ps ≡ transform_pieces m)
       rule m k e = by (front_first ps)
         where
           by : (front ps ≡ []) ⊎ (first_piece (front ps) ≡ first_piece ps) → ⊥
           by (inl empty) = nothing_is m k (sym empty ∙ e)
           by (inr same) = elim (cases_empty (front ps)) [
             | inl empty ↦ nothing_is m k (sym empty ∙ e)
-            | inr some ↦ n (ruled (front ps) (ap (is_word (Language languages)) same ∙ none) some (subst (IsTransform languages) (sym (ap transform_of e ∙ transform_of-pieces m k)) k))
+            | inr some ↦ n (ruled (front ps) (ap (is_word (Language languages)) same ∙ none) some (subst (IsTransformBlock languages) (sym (ap transform_of e ∙ transform_of-pieces m k)) k))
           ]
 
       repeats : ¬ (RepeatsVariant languages (front ps))
@@ -518,7 +519,7 @@ id_told len ps body.Unordered n h = tt
 id_told len ps body.Other n h = tt
 
 -- what such pieces spell
-pub part_means : (ps : List (List ℕ)) (h : IsTransformPart ps) → IsTransform languages (record { id = h.id; fields = h.fields })
+pub part_means : (ps : List (List ℕ)) (h : IsTransformPart ps) → IsTransformBlock languages (record { id = h.id; fields = h.fields })
 part_means ps h = record { id = identifiers h.id h.words; fields = h.each; nonempty = h.some }
   where
     identifiers : (o : Option Identifier) → IfSome o (λ i. HasWords languages i × (length i.variants ≤ 1)) → IfSome o (IsIdentifier languages)

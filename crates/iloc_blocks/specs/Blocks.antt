@@ -6,8 +6,9 @@ use Rattle.std.specs.FinMap.{is_sorted}
 use Rattle.std.specs.Ordering.{nat_cmp, eq_by_cmp}
 use Rattle.std.specs.Char.{is_ascii_alphanumeric}
 use Rattle.iloc_spec_grammar.specs.Syntax.{Text, Fields, code_t, code_u, code_x, front, blocks, PrivateSubtag, Subtag, UnicodeKey, Attribute, is_word, IsWord, IsOther, is_true, letters_or_digits, lower, word_cmp, fields_pieces, languages, first_piece}
-use Rattle.iloc_spec_grammar.specs.Meaning.{Extensions, FirstBadBlock, no_unicode, no_transform}
-use Rattle.iloc_spec_grammar.specs.Values.{IsAscending, IsExtensionsValue, AreWellFormed, extensions_spelling}
+use Rattle.iloc_spec_grammar.specs.Meaning.{Extensions, no_unicode, no_transform}
+use Rattle.iloc_spec_grammar.specs.Tree.{FirstBadBlock}
+use Rattle.iloc_spec_grammar.specs.Values.{AreWellFormed, IsAscending, IsExtensionsValue, extensions_spelling}
 use Rattle.iloc_fronts.specs.Left.{pieces_of, piece_of, IsLeft}
 use Rattle.iloc_fronts.specs.declared.left.Left.{Left}
 use Rattle.iloc_blocks.specs.Bad.{fault_of}

@@ -4,7 +4,7 @@ use Rattle.std.specs.Int.{is_in_range}
 use Rattle.std.specs.List.{AllByRecursion, list_any}
 use Rattle.std.specs.Ordering.{nat_cmp, eq_by_cmp}
 use Rattle.iloc_spec_grammar.specs.Syntax.{Text, UnicodeKey, Attribute, IsWord, code_t, code_u, is_other_singleton, front, blocks, languages}
-use Rattle.iloc_spec_grammar.specs.Meaning.{FirstBadBlock}
+use Rattle.iloc_spec_grammar.specs.Tree.{FirstBadBlock}
 use Rattle.iloc_blocks.specs.Bad.{fault_of}
 use Rattle.iloc_blocks.specs.Blocks.{AreSubtags, IsNoOther, IsNoUnicode, IsUnicodePart}
 use Rattle.iloc_blocks.specs.Transform.{IsNoTransform, IsTransformPart}

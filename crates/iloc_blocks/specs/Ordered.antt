@@ -2,7 +2,8 @@
 use Rattle.std.specs.Prelude.{◌≡◌, ⊤, ℕ, ◌+◌, ◌-◌, ◌<◌, ◌≤◌, List, [], ◌∷◌, ◌++◌, length, map, take, drop, get_or}
 use Rattle.std.specs.List.{AllByRecursion}
 use Rattle.iloc_spec_grammar.specs.Syntax.{Text, pieces, front, blocks, Variant, IsWord, languages, lower, word_cmp, AllDifferent, Identifier}
-use Rattle.iloc_spec_grammar.specs.Meaning.{Locale, IdentifierMeans, Means, Fault, FirstBadBlock}
+use Rattle.iloc_spec_grammar.specs.Meaning.{Locale, IdentifierMeans, Means, Fault}
+use Rattle.iloc_spec_grammar.specs.Tree.{FirstBadBlock}
 use Rattle.iloc_spec_grammar.specs.Values.{IsAscending, identifier_text, text}
 use Rattle.iloc_plain.specs.Plain.{AreWords, IsPlain, value_of}
 use Rattle.iloc_blocks.specs.Blocks.{ArePrinted, BeginBadly}

@@ -2,7 +2,8 @@
 use Rattle.std.specs.Prelude.{◌≡◌, ⊤, ℕ, ◌<◌, ◌≤◌, ◌⊎◌, ◌∷◌, ◌++◌, Bool, true, false, List, [], length, map, Option, Some, None, IfSome}
 use Rattle.std.specs.List.{AllByRecursion}
 use Rattle.std.specs.FinMap.{is_sorted}
-use Rattle.iloc_spec_grammar.specs.Syntax.{Text, Fields, Identifier, Transform, front, first_piece, Language, Variant, Attribute, TransformKey, is_word, IsWord, HasWords, IsField, IsTransform, fields_pieces, optional_pieces, transform_pieces, languages, lower, word_cmp}
+use Rattle.iloc_spec_grammar.specs.Syntax.{Text, Fields, Identifier, Transform, front, first_piece, Language, Variant, Attribute, TransformKey, is_word, IsWord, HasWords, IsField, fields_pieces, optional_pieces, transform_pieces, languages, lower, word_cmp}
+use Rattle.iloc_spec_grammar.specs.Tree.{IsTransformBlock}
 use Rattle.iloc_spec_grammar.specs.Meaning.{RepeatsVariant, normal_values}
 use Rattle.iloc_spec_grammar.specs.Values.{spelled_value}
 use Rattle.iloc_spec_grammar.specs.Reading.{before_key, fields_from, after_region}
@@ -99,5 +100,5 @@ pub record IsTransformPart (ps : List Text) : Type 0 where
 
 -- what breaks the rule of `t`, but for a repeated variant
 abbrev pub IsNoTransform : List Text → Type 0
-IsNoTransform ps = ((m : Transform) → IsTransform languages m → ¬ (front ps ≡ transform_pieces m))
+IsNoTransform ps = ((m : Transform) → IsTransformBlock languages m → ¬ (front ps ≡ transform_pieces m))
     × ¬ (RepeatsVariant languages (front ps))

@@ -12,9 +12,9 @@ use Rattle.iloc_spec_grammar.specs.Meaning as meaning
 use Rattle.iloc_spec_grammar.specs.Meaning.{IdentifierMeans, Means}
 use Rattle.iloc_spec_grammar.specs.Values.{identifier_text, text}
 use Rattle.iloc_spec_grammar.proofs.RawLaws.{languages_table}
-use Rattle.iloc_spec_grammar.proofs.FaultLaws.{accepted_no_fault}
+use Rattle.iloc_spec_grammar.proofs.SameFaults.{accepted_no_fault}
 use Rattle.iloc_spec_grammar.proofs.IdentifierLaws as identifiers
-use Rattle.iloc_spec_grammar.proofs.Readings as readings
+use Rattle.iloc_spec_grammar.proofs.SameMeaning as locales
 use Rattle.iloc_spec_parts.specs.Orders.{identifier_cmp, locale_cmp}
 use Rattle.iloc_spec_parts.proofs.OrderLaws.{word_exact, identifier_exact, locale_exact}
 use Rattle.iloc_spec_preferences.specs.DataLocales.{DataLocale, DataMeans, data_text}
@@ -25,12 +25,13 @@ use Rattle.iloc_subtags.specs.declared.parse_error.ParseError.TheVariants as ref
 use Rattle.iloc_langid.specs.Reads as langid
 use Rattle.iloc_langid.specs.declared.identifier.LanguageIdentifier.{LanguageIdentifier}
 use Rattle.iloc_locale.specs.LocaleReading as locale
-use Rattle.iloc_locale.specs.LocaleReading.{LocaleReads, RunsOutOnlyIf, WantsMemory}
+use Rattle.iloc_locale.specs.LocaleReading.{LocaleTextReads, LocaleWantsMemory}
+use Rattle.iloc_subtags.specs.Judging.{RunsOutOnlyIf}
 use Rattle.iloc_locale.specs.declared.locale.Locale as types
 use Rattle.iloc_data_parts.specs.PartsReading as parts
 use Rattle.iloc_data_parts.specs.declared.parts.DataParts.{DataParts}
 use Rattle.iloc_data.specs.DataValue as data_locale
-use Rattle.iloc_data.specs.Reads.{DataReadsAs}
+use Rattle.iloc_data.specs.Reads.{DataTextReads}
 use Rattle.iloc_data.specs.declared.data_locale.DataLocale as data_types
 use Rattle.iloc_lines.specs.declared.Mode.{Mode}
 use Rattle.iloc_lines.specs.declared.Mode.TheVariants.{Langid, Locale, Data}
@@ -74,16 +75,16 @@ text_of_data d = data_text (data_locale.value_of d)
 abbrev pub text_of_parts : DataParts → List ℕ
 text_of_parts p = data_text (parts.value_of p)
 
-pub identifier_read : (t : List ℕ) (r : Result LanguageIdentifier ParseError) → langid.ReadsAs (pieces t) r
+pub identifier_read : (t : List ℕ) (r : Result LanguageIdentifier ParseError) → langid.IdentifierReads (pieces t) r → RunsOutOnlyIf (langid.IdentifierWantsMemory (pieces t)) r
     → Reads Langid t text_of_identifier r
-identifier_read t (Ok i) h = (langid.value_of i, h, refl)
-identifier_read t (Err refusals.InvalidLanguage) h = h
-identifier_read t (Err refusals.InvalidSubtag) h = h
-identifier_read t (Err refusals.InvalidExtension) h = absurd h
-identifier_read t (Err refusals.DuplicatedExtension) h = absurd h
-identifier_read t (Err refusals.OutOfMemory) h = h
+identifier_read t (Ok i) h m = (langid.value_of i, h, refl)
+identifier_read t (Err refusals.InvalidLanguage) h m = h
+identifier_read t (Err refusals.InvalidSubtag) h m = h
+identifier_read t (Err refusals.InvalidExtension) h m = h
+identifier_read t (Err refusals.DuplicatedExtension) h m = h
+identifier_read t (Err refusals.OutOfMemory) h m = m
 
-pub locale_read : (t : List ℕ) (r : Result types.Locale ParseError) → LocaleReads t r → RunsOutOnlyIf (WantsMemory t) r
+pub locale_read : (t : List ℕ) (r : Result types.Locale ParseError) → LocaleTextReads t r → RunsOutOnlyIf (LocaleWantsMemory t) r
     → Reads Locale t text_of_locale r
 locale_read t (Ok l) h m = (locale.value_of l, h, refl)
 locale_read t (Err refusals.InvalidLanguage) h m = h
@@ -92,13 +93,13 @@ locale_read t (Err refusals.InvalidExtension) h m = h
 locale_read t (Err refusals.DuplicatedExtension) h m = h
 locale_read t (Err refusals.OutOfMemory) h m = m
 
-pub data_read : (t : List ℕ) (r : Result data_types.DataLocale ParseError) → DataReadsAs t r → RunsOutOnlyIf ⊥ r
+pub data_read : (t : List ℕ) (r : Result data_types.DataLocale ParseError) → DataTextReads t r → RunsOutOnlyIf ⊥ r
     → Reads Data t text_of_data r
 data_read t (Ok d) h m = (data_locale.value_of d, h, refl)
 data_read t (Err refusals.InvalidLanguage) h m = h
 data_read t (Err refusals.InvalidSubtag) h m = h
 data_read t (Err refusals.InvalidExtension) h m = h
-data_read t (Err refusals.DuplicatedExtension) h m = absurd h
+data_read t (Err refusals.DuplicatedExtension) h m = h
 data_read t (Err refusals.OutOfMemory) h m = absurd m
 
 -- the parts of a data locale that were parsed have its text
@@ -196,7 +197,7 @@ same_locales_read t other before after M N same m n e a =
       (text M, (M, m, refl)),
       told Locale t other after same a (
         (λ s. (M, m, subst (Means languages other) (sym ((locale_exact.exact M N).0 (q.0 s))) n)),
-        (λ h. q.1 ((locale_exact.exact M N).1 (readings.one_meaning languages_table t M h.0 m h.1 ∙ readings.one_meaning languages_table other h.0 N h.2 n))),
+        (λ h. q.1 ((locale_exact.exact M N).1 (locales.one_meaning languages_table t M h.0 m h.1 ∙ locales.one_meaning languages_table other h.0 N h.2 n))),
       ),
     )
 
@@ -217,21 +218,22 @@ same_data_read t other before after d e o same m n is f a =
 
 -- What is refused means nothing, unless memory was wanted.
 
-no_identifier : (ps : List (List ℕ)) (e : ParseError) → langid.ReadsAs ps (Err e) → (e ≡ refusals.OutOfMemory → ⊥) → (i : Identifier) → IdentifierMeans languages ps i → ⊥
+no_identifier : (ps : List (List ℕ)) (e : ParseError) → langid.IdentifierReads ps (Err e) → (e ≡ refusals.OutOfMemory → ⊥) → (i : Identifier) → IdentifierMeans languages ps i → ⊥
 no_identifier ps refusals.InvalidLanguage h n i m = identifier_apart ps i _ m h
 no_identifier ps refusals.InvalidSubtag h n i m = identifier_apart ps i _ m h
-no_identifier ps refusals.InvalidExtension h n i m = absurd h
-no_identifier ps refusals.DuplicatedExtension h n i m = absurd h
+no_identifier ps refusals.InvalidExtension h n i m = identifier_apart ps i _ m h
+no_identifier ps refusals.DuplicatedExtension h n i m = identifier_apart ps i _ m h
 no_identifier ps refusals.OutOfMemory h n i m = absurd (n refl)
 
 pub other_identifier : (t other : List ℕ) (before after : ℕ) (i : Identifier) (e : ParseError) (s : Status) → IdentifierMeans languages (pieces t) i
-    → langid.ReadsAs (pieces other) (Err e) → RefusedTells e before after s → TellsSame Langid t other before after s
-other_identifier t other before after i e s m h (inl r) =
-    subst (TellsSame Langid t other before after) (sym r.1) (inr (subst (λ f. langid.ReadsAs (pieces other) (Err f)) r.0 h), r.2)
-other_identifier t other before after i e s m h (inr r) =
+    → langid.IdentifierReads (pieces other) (Err e) → RunsOutOnlyIf {X = LanguageIdentifier} (langid.IdentifierWantsMemory (pieces other)) (Err e)
+    → RefusedTells e before after s → TellsSame Langid t other before after s
+other_identifier t other before after i e s m h w (inl r) =
+    subst (TellsSame Langid t other before after) (sym r.1) (inr (subst (λ f. RunsOutOnlyIf {X = LanguageIdentifier} (langid.IdentifierWantsMemory (pieces other)) (Err f)) r.0 w), r.2)
+other_identifier t other before after i e s m h w (inr r) =
     subst (TellsSame Langid t other before after) (sym r.1) ((identifier_text i, (i, m, refl)), inr (r.2, λ k. no_identifier (pieces other) e h r.0 k.0 k.2))
 
-no_locale : (t : List ℕ) (e : ParseError) → LocaleReads t (Err e) → (e ≡ refusals.OutOfMemory → ⊥) → (M : meaning.Locale) → Means languages t M → ⊥
+no_locale : (t : List ℕ) (e : ParseError) → LocaleTextReads t (Err e) → (e ≡ refusals.OutOfMemory → ⊥) → (M : meaning.Locale) → Means languages t M → ⊥
 no_locale t refusals.InvalidLanguage h n M m = accepted_no_fault languages_table t M _ m h
 no_locale t refusals.InvalidSubtag h n M m = accepted_no_fault languages_table t M _ m h
 no_locale t refusals.InvalidExtension h n M m = accepted_no_fault languages_table t M _ m h
@@ -239,22 +241,22 @@ no_locale t refusals.DuplicatedExtension h n M m = accepted_no_fault languages_t
 no_locale t refusals.OutOfMemory h n M m = absurd (n refl)
 
 pub other_locale : (t other : List ℕ) (before after : ℕ) (M : meaning.Locale) (e : ParseError) (s : Status) → Means languages t M
-    → LocaleReads other (Err e) → RunsOutOnlyIf {X = types.Locale} (WantsMemory other) (Err e)
+    → LocaleTextReads other (Err e) → RunsOutOnlyIf {X = types.Locale} (LocaleWantsMemory other) (Err e)
     → RefusedTells e before after s → TellsSame Locale t other before after s
 other_locale t other before after M e s m h w (inl r) =
-    subst (TellsSame Locale t other before after) (sym r.1) (inr (subst (λ f. RunsOutOnlyIf {X = types.Locale} (WantsMemory other) (Err f)) r.0 w), r.2)
+    subst (TellsSame Locale t other before after) (sym r.1) (inr (subst (λ f. RunsOutOnlyIf {X = types.Locale} (LocaleWantsMemory other) (Err f)) r.0 w), r.2)
 other_locale t other before after M e s m h w (inr r) =
     subst (TellsSame Locale t other before after) (sym r.1) ((text M, (M, m, refl)), inr (r.2, λ k. no_locale other e h r.0 k.0 k.2))
 
-no_data_locale : (t : List ℕ) (e : ParseError) → DataReadsAs t (Err e) → RunsOutOnlyIf {X = data_types.DataLocale} ⊥ (Err e) → (d : DataLocale) → DataMeans languages t d → ⊥
+no_data_locale : (t : List ℕ) (e : ParseError) → DataTextReads t (Err e) → RunsOutOnlyIf {X = data_types.DataLocale} ⊥ (Err e) → (d : DataLocale) → DataMeans languages t d → ⊥
 no_data_locale t refusals.InvalidLanguage h w d m = data_apart languages_table t d _ m h
 no_data_locale t refusals.InvalidSubtag h w d m = data_apart languages_table t d _ m h
 no_data_locale t refusals.InvalidExtension h w d m = data_apart languages_table t d _ m h
-no_data_locale t refusals.DuplicatedExtension h w d m = absurd h
+no_data_locale t refusals.DuplicatedExtension h w d m = data_apart languages_table t d _ m h
 no_data_locale t refusals.OutOfMemory h w d m = absurd w
 
 pub other_data_locale : (t other : List ℕ) (before after : ℕ) (d : DataLocale) (e : ParseError) → DataMeans languages t d
-    → DataReadsAs other (Err e) → RunsOutOnlyIf {X = data_types.DataLocale} ⊥ (Err e) → after ≡ 0 → TellsSame Data t other before after Done
+    → DataTextReads other (Err e) → RunsOutOnlyIf {X = data_types.DataLocale} ⊥ (Err e) → after ≡ 0 → TellsSame Data t other before after Done
 other_data_locale t other before after d e m h w a = ((data_text d, (d, m, refl)), inr (a, λ s. no_data_locale other e h w s.0 s.2))
 
 pub unprinted_data_locale : (t other : List ℕ) (before : ℕ) (e : DataLocale) (s : Status) → DataMeans languages other e → s ≡ OutOfMemory

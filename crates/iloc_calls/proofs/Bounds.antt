@@ -5,8 +5,7 @@ use Rattle.std.proofs.lemmas.Bool.Decides.{nat_tests}
 use Rattle.iloc_spec_grammar.specs.Syntax.{languages, pieces}
 use Rattle.iloc_spec_grammar.specs.Meaning.{IdentifierMeans, Means}
 use Rattle.iloc_spec_grammar.specs.Values.{identifier_text, text}
-use Rattle.iloc_spec_grammar.proofs.Chains.{shortest}
-use Rattle.iloc_spec_grammar.proofs.IdentifierTexts.{length-identifier_means}
+use Rattle.iloc_spec_grammar.proofs.AnySteps.{shortest, length-identifier_means}
 use Rattle.iloc_spec_preferences.specs.DataLocales.{DataMeans, data_text}
 use Rattle.iloc_writeable.specs.Hints.{saturated}
 use Rattle.iloc_lines.specs.declared.Mode.{Mode}

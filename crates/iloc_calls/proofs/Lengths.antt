@@ -4,8 +4,8 @@ use Rattle.std.specs.Result.{result_ok}
 use Rattle.std.proofs.lemmas.Bool.{cond_both}
 use Rattle.std.proofs.lemmas.Bool.Decides.{nat_tests}
 use Rattle.iloc_spec_grammar.specs.Syntax.{join, dashes, Region, languages, is_word, is_same, is_true, lower}
-use Rattle.iloc_spec_grammar.specs.Values.{IsNormal, text}
-use Rattle.iloc_spec_grammar.proofs.Chains.{shortest}
+use Rattle.iloc_spec_grammar.specs.Values.{IsNormal, text, extensions_spelling}
+use Rattle.iloc_spec_grammar.proofs.AnySteps.{shortest}
 use Rattle.iloc_spec_grammar.proofs.MapLaws.{same_is}
 use Rattle.iloc_spec_grammar.proofs.PartTexts.{join-dashes, dashes-append}
 use Rattle.iloc_spec_grammar.proofs.WordsLaws.{length-lower}
@@ -45,6 +45,7 @@ length_of_words l s r v rest =
 length_of_small : (i : SmallIdentifier) (k : Option (List ℕ × Option (List ℕ)))
     → length (text (locale_of_small (record { id = i; keyword = k })))
     ≡ length i.language + share i.script + share i.region + share i.variant + keyword_share k
+unfolding extensions_spelling
 length_of_small i None =
     let a = dashes_share i.script in let b = dashes_share i.region in let c = dashes_share i.variant in
     let e : length (join (i.language ∷ ((option_to_list i.script ++ (option_to_list i.region ++ option_to_list i.variant)) ++ [])))

@@ -31,10 +31,10 @@ abbrev pub IsFaulty : Mode → Text → Fault → Type 0
 IsFaulty mode t f = answers.IsFaulty languages mode t f
 
 -- when memory may run out to read the text: never if it is short
-abbrev pub WantsMemory : Mode → Text → Type 0
-WantsMemory Langid t = langid_reads.WantsMemory (pieces t)
-WantsMemory Locale t = locale.WantsMemory t
-WantsMemory Data t = ⊥
+abbrev pub CallWantsMemory : Mode → Text → Type 0
+CallWantsMemory Langid t = langid_reads.IdentifierWantsMemory (pieces t)
+CallWantsMemory Locale t = locale.LocaleWantsMemory t
+CallWantsMemory Data t = ⊥
 
 -- the status of a text: it means something, or has the fault, or memory ran out
 abbrev pub JudgedAs : Mode → Text → Status → Type 0
@@ -43,7 +43,7 @@ JudgedAs mode t InvalidLanguage = IsFaulty mode t meaning.InvalidLanguage
 JudgedAs mode t InvalidSubtag = IsFaulty mode t meaning.InvalidSubtag
 JudgedAs mode t InvalidExtension = IsFaulty mode t meaning.InvalidExtension
 JudgedAs mode t DuplicatedExtension = IsFaulty mode t meaning.DuplicatedExtension
-JudgedAs mode t OutOfMemory = WantsMemory mode t
+JudgedAs mode t OutOfMemory = CallWantsMemory mode t
 JudgedAs mode t BufferTooSmall = ⊥
 JudgedAs mode t UnknownNumber = ⊥
 JudgedAs mode t NotFound = ⊥
@@ -116,7 +116,7 @@ abbrev pub OrdersTo : Mode → Text → Text → ℤ → ℤ → Status → Type
 OrdersTo mode t other before after Done = (a b : Text) × IsNormalText mode t a
     × IsNormalText mode other b × (after ≡ order_number (slice_cmp nat_cmp a b))
 OrdersTo mode t other before after OutOfMemory =
-    (WantsMemory mode t ⊎ (WantsMemory mode other ⊎ IsNotNormal mode other)) × (after ≡ before)
+    (CallWantsMemory mode t ⊎ (CallWantsMemory mode other ⊎ IsNotNormal mode other)) × (after ≡ before)
 OrdersTo mode t other before after status =
     (JudgedAs mode t status
     ⊎ ((normal : Text) × IsNormalText mode t normal × JudgedAs mode other status))
@@ -132,8 +132,8 @@ MeanSame Data t u = (d : DataLocale) × DataMeans languages t d × DataMeans lan
 -- when telling whether they do may allocate: to parse either; a data locale is printed to be
 -- compared
 abbrev pub TellingWantsMemory : Mode → Text → Text → Type 0
-TellingWantsMemory Langid t u = WantsMemory Langid t ⊎ WantsMemory Langid u
-TellingWantsMemory Locale t u = WantsMemory Locale t ⊎ WantsMemory Locale u
+TellingWantsMemory Langid t u = CallWantsMemory Langid t ⊎ CallWantsMemory Langid u
+TellingWantsMemory Locale t u = CallWantsMemory Locale t ⊎ CallWantsMemory Locale u
 TellingWantsMemory Data t u = IsNotNormal Data u
 
 -- what is told of a refused text: that it means something else, unless memory ran out to parse it

@@ -1,8 +1,8 @@
 //! Reads data locales by their parts, as the calls that normalize and check do: so all calls share one parser.
 ghost use Rattle.iloc_data.specs.DataValue.{value_of};
-ghost use Rattle.iloc_data.specs.Reads.{DataReadsAs};
+ghost use Rattle.iloc_data.specs.Reads.{DataTextReads};
 ghost use Rattle.iloc_data_parts.specs.PartsReading as reading;
-ghost use Rattle.iloc_locale.specs.LocaleReading.{RunsOutOnlyIf};
+ghost use Rattle.iloc_subtags.specs.Judging.{RunsOutOnlyIf};
 ghost use Rattle.std.specs.Prelude.{◌≡◌};
 
 use iloc_data::DataLocale;
@@ -28,7 +28,7 @@ fn made_of(parts: &DataParts) -> DataLocale
 
 /// Parses all of the text, as `DataLocale::try_from_utf8` does.
 pub(crate) fn read_data(text: &[u8]) -> Result<DataLocale, ParseError>
-    ensures reads { DataReadsAs text.now result }
+    ensures reads { DataTextReads text.now result }
     ensures memory { RunsOutOnlyIf ⊥ result }
 {
     match DataParts::try_from_utf8(text) {

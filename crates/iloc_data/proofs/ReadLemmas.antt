@@ -5,7 +5,7 @@ use Rattle.iloc_spec_grammar.specs.Syntax.{languages, two_or_three}
 use Rattle.iloc_spec_grammar.specs.Meaning as meaning
 use Rattle.iloc_spec_grammar.specs.Meaning.{Means, Fault}
 use Rattle.iloc_spec_grammar.proofs.RawLaws.{languages_table, narrow_in_wide}
-use Rattle.iloc_langid.specs.SmallLocaleReads.{LocaleParts, small_locale_of, SmallLocaleReadsAs}
+use Rattle.iloc_langid.specs.SmallLocaleReads.{LocaleParts, small_locale_of, SmallLocaleTextReads}
 use Rattle.iloc_spec_preferences.specs.Subdivisions.{Subdivision}
 use Rattle.iloc_spec_preferences.specs.DataLocales as parts
 use Rattle.iloc_spec_preferences.specs.DataLocales.{DataMeans, HasDataFault, not_small, no_subdivision, made_of, small_part, data_text}
@@ -16,35 +16,34 @@ use Rattle.iloc_spec_preferences.proofs.ConversionLaws.{agrees}
 use Rattle.iloc_subtags.specs.declared.parse_error.ParseError.{ParseError}
 use Rattle.iloc_subtags.specs.declared.parse_error.ParseError.TheVariants.{InvalidLanguage, InvalidSubtag, InvalidExtension, DuplicatedExtension, OutOfMemory}
 use Rattle.iloc_data.specs.declared.data_locale.DataLocale.{DataLocale}
-use Rattle.iloc_subtags.specs.Judging.{ButDuplicate, Accepts, Refuses}
-use Rattle.iloc_locale.specs.LocaleReading.{RunsOutOnlyIf}
-use Rattle.iloc_subtags.proofs.Judged.{Judges, accepts, refuses, but_duplicate}
+use Rattle.iloc_subtags.specs.Judging.{Accepts, Refuses, RunsOutOnlyIf}
+use Rattle.iloc_subtags.proofs.Judged.{Judges, accepts, refuses}
 use Rattle.iloc_data.specs.DataValue.{value_of}
-use Rattle.iloc_data.specs.Reads.{DataReadsAs}
+use Rattle.iloc_data.specs.Reads.{DataTextReads}
 
 -- the parts of the small locale, with its region part
 abbrev of_part : LocaleParts → Option (Option Subdivision) → Option parts.DataLocale
 of_part p o = option_map (λ part. made_of p.0 p.1 part p.3) o
 
-pub accepted : (t : List ℕ) (p : LocaleParts) (part : Option Subdivision) (d : parts.DataLocale) → SmallLocaleReadsAs t (Ok p) → small_part p.2 p.4 ≡ Some part → d ≡ made_of p.0 p.1 part p.3 → DataMeans languages t d
+pub accepted : (t : List ℕ) (p : LocaleParts) (part : Option Subdivision) (d : parts.DataLocale) → SmallLocaleTextReads t (Ok p) → small_part p.2 p.4 ≡ Some part → d ≡ made_of p.0 p.1 part p.3 → DataMeans languages t d
 accepted t p part d s h e = record { small = small_locale_of p; is_small = s; means = ap (of_part p) h ∙ ap Some (sym e) }
 
-pub not_read : (t : List ℕ) (e : ParseError) → SmallLocaleReadsAs t (Err e) → DataReadsAs t (Err e)
+pub not_read : (t : List ℕ) (e : ParseError) → SmallLocaleTextReads t (Err e) → DataTextReads t (Err e)
 not_read t InvalidLanguage h = not_small h
 not_read t InvalidSubtag h = not_small h
 not_read t InvalidExtension h = not_small h
-not_read t DuplicatedExtension h = absurd h
+not_read t DuplicatedExtension h = not_small h
 not_read t OutOfMemory h = absurd h
 
 -- memory never runs out
-pub not_without : (t : List ℕ) (e : ParseError) → SmallLocaleReadsAs t (Err e) → RunsOutOnlyIf {X = DataLocale} ⊥ (Err e)
+pub not_without : (t : List ℕ) (e : ParseError) → SmallLocaleTextReads t (Err e) → RunsOutOnlyIf {X = DataLocale} ⊥ (Err e)
 not_without t InvalidLanguage h = tt
 not_without t InvalidSubtag h = tt
 not_without t InvalidExtension h = tt
 not_without t DuplicatedExtension h = tt
 not_without t OutOfMemory h = h
 
-pub no_part : (t : List ℕ) (p : LocaleParts) → SmallLocaleReadsAs t (Ok p) → small_part p.2 p.4 ≡ None → DataReadsAs t (Err InvalidExtension)
+pub no_part : (t : List ℕ) (p : LocaleParts) → SmallLocaleTextReads t (Ok p) → small_part p.2 p.4 ≡ None → DataTextReads t (Err InvalidExtension)
 no_part t p s h = no_subdivision s (ap (of_part p) h)
 
 -- what is owed to each text
@@ -52,11 +51,11 @@ no_part t p s h = no_subdivision s (ap (of_part p) h)
 data_judges : (t : List ℕ) → Judges (DataMeans languages t) (HasDataFault languages t)
 data_judges t = record { one = one_data languages_table t; apart = data_apart languages_table t; one_fault = λ f g. one_data_fault t }
 
-pub data_accepts : (t : List ℕ) (r : Result DataLocale ParseError) → DataReadsAs t r → (d : parts.DataLocale) → DataMeans languages t d → Accepts value_of ⊤ d r
-data_accepts t r h = accepts value_of (ButDuplicate (HasDataFault languages t)) ⊤ (data_judges t) (but_duplicate (HasDataFault languages t)) r h
+pub data_accepts : (t : List ℕ) (r : Result DataLocale ParseError) → DataTextReads t r → (d : parts.DataLocale) → DataMeans languages t d → Accepts value_of ⊤ d r
+data_accepts t r h = accepts value_of ⊤ (data_judges t) r h
 
-pub data_refuses : (t : List ℕ) (r : Result DataLocale ParseError) → DataReadsAs t r → (f : Fault) → HasDataFault languages t f → Refuses ⊤ f r
-data_refuses t r h = refuses value_of (ButDuplicate (HasDataFault languages t)) ⊤ (data_judges t) (but_duplicate (HasDataFault languages t)) r h
+pub data_refuses : (t : List ℕ) (r : Result DataLocale ParseError) → DataTextReads t r → (f : Fault) → HasDataFault languages t f → Refuses ⊤ f r
+data_refuses t r h = refuses value_of ⊤ (data_judges t) r h
 
 -- what else is known of what is read
 
@@ -69,5 +68,5 @@ reads_back t d h = read_back t d h
 pub is_converted : (t : List ℕ) (d : parts.DataLocale) → DataMeans languages t d → (M : meaning.Locale) → Means languages t M → d ≡ language_priority (preferences M)
 is_converted t d h M m = agrees languages_table t d M h m
 
-pub keeps_narrow : (t : List ℕ) (r : Result DataLocale ParseError) → DataReadsAs t r → (d : parts.DataLocale) → DataMeans two_or_three t d → Accepts value_of ⊤ d r
+pub keeps_narrow : (t : List ℕ) (r : Result DataLocale ParseError) → DataTextReads t r → (d : parts.DataLocale) → DataMeans two_or_three t d → Accepts value_of ⊤ d r
 keeps_narrow t r h d n = data_accepts t r h d (ours t d n)

@@ -7,19 +7,18 @@ use Rattle.iloc_spec_preferences.specs.DataLocales as parts
 use Rattle.iloc_spec_preferences.specs.DataLocales.{DataMeans, HasDataFault, data_text}
 use Rattle.iloc_spec_preferences.specs.Preferences.{language_priority, preferences}
 use Rattle.iloc_subtags.specs.declared.parse_error.ParseError.{ParseError}
-use Rattle.iloc_subtags.specs.Judging.{Answers, ButDuplicate, Accepts, Refuses}
-use Rattle.iloc_locale.specs.LocaleReading.{RunsOutOnlyIf}
+use Rattle.iloc_subtags.specs.Judging.{Answers, Accepts, Refuses, RunsOutOnlyIf}
 use Rattle.iloc_data.specs.declared.data_locale.DataLocale.{DataLocale}
 use Rattle.iloc_data.specs.DataValue.{value_of}
 
 -- The text is read as the data locale that it means, or refused for its fault.
-abbrev pub DataReadsAs : Text → Result DataLocale ParseError → Type 0
-DataReadsAs t = Answers (λ d. DataMeans languages t (value_of d))
-    (ButDuplicate (HasDataFault languages t)) ⊤
+abbrev pub DataTextReads : Text → Result DataLocale ParseError → Type 0
+DataTextReads t = Answers (λ d. DataMeans languages t (value_of d))
+    (HasDataFault languages t) ⊤
 
 -- All that is promised of the result on a text: each clause of `try_from_str`.
 pub record IsDataAnswer (t : Text) (r : Result DataLocale ParseError) : Type 0 where
-  pub reads : DataReadsAs t r
+  pub reads : DataTextReads t r
   pub accepted : (d : parts.DataLocale) → DataMeans languages t d → Accepts value_of ⊤ d r
   pub refused : (f : Fault) → HasDataFault languages t f → Refuses ⊤ f r
   pub memory : RunsOutOnlyIf ⊥ r

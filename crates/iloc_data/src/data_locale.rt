@@ -6,8 +6,7 @@ ghost use Rattle.iloc_spec_grammar.specs.Meaning as meaning;
 ghost use Rattle.iloc_spec_grammar.specs.Meaning.{Means, Fault};
 ghost use Rattle.iloc_spec_preferences.specs.DataLocales as parts;
 ghost use Rattle.iloc_spec_preferences.specs.DataLocales.{DataMeans, HasDataFault, data_text};
-ghost use Rattle.iloc_subtags.specs.Judging.{Accepts, Refuses};
-ghost use Rattle.iloc_locale.specs.LocaleReading.{RunsOutOnlyIf};
+ghost use Rattle.iloc_subtags.specs.Judging.{Accepts, Refuses, RunsOutOnlyIf};
 
 use iloc_data_parts::region::part_of;
 use iloc_keyword_types::SubdivisionId;
@@ -41,7 +40,7 @@ pub struct DataLocale {
 
 impl DataLocale {
     ghost use Rattle.iloc_data.specs.DataValue.{value_of, unknown_data};
-    ghost use Rattle.iloc_data.specs.Reads.{DataReadsAs};
+    ghost use Rattle.iloc_data.specs.Reads.{DataTextReads};
 
     /// The unknown data locale, `und`.
     pub fn default() -> Self
@@ -66,7 +65,7 @@ impl DataLocale {
     /// singleton that is no letter or digit, a `u` that neither a key nor an attribute follows, and one keyword that
     /// is not `sd` with a readable subdivision; and with `InvalidSubtag` everything else.
     pub fn try_from_utf8(code_units: &[u8]) -> Result<Self, ParseError>
-        ensures reads { DataReadsAs code_units.now result }
+        ensures reads { DataTextReads code_units.now result }
         ensures accepted { (d : parts.DataLocale) → DataMeans languages code_units.now d
             → Accepts value_of ⊤ d result }
         ensures refused { (f : Fault) → HasDataFault languages code_units.now f
@@ -86,7 +85,7 @@ impl DataLocale {
 
     /// Parses all of a `str`, as `try_from_utf8` parses bytes.
     pub fn try_from_str(s: &str) -> Result<Self, ParseError>
-        ensures reads { DataReadsAs s.now result }
+        ensures reads { DataTextReads s.now result }
         ensures accepted { (d : parts.DataLocale) → DataMeans languages s.now d
             → Accepts value_of ⊤ d result }
         ensures refused { (f : Fault) → HasDataFault languages s.now f → Refuses ⊤ f result }

@@ -24,11 +24,11 @@ pub struct DataParts {
 }
 
 impl DataParts {
-    ghost use Rattle.iloc_data_parts.specs.PartsReading.{value_of, PartsReadAs};
+    ghost use Rattle.iloc_data_parts.specs.PartsReading.{value_of, PartsTextReads};
 
     /// Parses all of the text, which need not be UTF-8, in whatever case. It allocates nothing.
     pub fn try_from_utf8(code_units: &[u8]) -> Result<Self, ParseError>
-        ensures { PartsReadAs code_units.now result }
+        ensures { PartsTextReads code_units.now result }
     {
         let (language, script, region, variant, keyword) = read_small_locale(code_units)?;
         let part = part_of(region, keyword)?;

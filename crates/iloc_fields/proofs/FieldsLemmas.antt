@@ -1,5 +1,5 @@
 -- Fields that are taken one at a time.
-use Rattle.std.proofs.Common.{◌≡◌, ℕ, suc, ◌+◌, ◌<◌, Bool, true, false, cond, ◌&&◌, List, [], ◌∷◌, ◌++◌, length, map, refl, sym, ap, ◌∙◌, arith, append_assoc, append-nil, length-append, Option, Some, None, option_map, is_some, if◌then◌else◌, Err}
+use Rattle.std.proofs.Common.{◌≡◌, ℕ, suc, ◌<◌, Bool, true, false, cond, ◌&&◌, List, [], ◌∷◌, ◌++◌, length, map, refl, sym, ap, ◌∙◌, arith, append_assoc, append-nil, Option, Some, None, option_map, is_some, if◌then◌else◌, Err}
 use Rattle.std.specs.List.{AllByRecursion, list_all}
 use Rattle.std.specs.FinMap.{find, put}
 use Rattle.std.proofs.lemmas.List.{map-append}
@@ -14,8 +14,8 @@ use Rattle.iloc_litemap.proofs.Maps.{map_of_more}
 use Rattle.iloc_subtags.proofs.TakingLemmas.{took}
 use Rattle.iloc_subtags.specs.declared.parse_error.ParseError.{ParseError}
 use Rattle.iloc_subtags.specs.declared.parse_error.ParseError.TheVariants.{InvalidLanguage, InvalidSubtag, InvalidExtension, DuplicatedExtension, OutOfMemory}
-use Rattle.iloc_fields.specs.ValueReading.{values_front, ValueFrontReads}
-use Rattle.iloc_fields.specs.FieldsReading.{FieldsRead, FieldsFrontRead}
+use Rattle.iloc_fields.specs.ValueReading.{values_front, FieldValueReads}
+use Rattle.iloc_fields.specs.FieldsReading.{FieldsRead, FieldsReads}
 use Rattle.iloc_spec_grammar.proofs.ReadBack.{all_append}
 use Rattle.iloc_spec_grammar.proofs.ReadingLaws.{length-past}
 use Rattle.iloc_spec_parts.proofs.TransformLaws.{no_key_empty}
@@ -175,12 +175,12 @@ lacks_value before now m k qs h e s n =
     ap (λ l. list_all is_field (fields_from is_key l)) f.3 ∙ later_false (fields_pieces f.2) (f.0 ∷ rest) here
 
 -- what the reader of a value refuses, the reader of fields does
-pub refuses : (before now : List (List ℕ)) (m : Fields) (k : List ℕ) (qs rest left : List (List ℕ)) (f : ParseError) → TakingFields before now m → Some k ≡ option_map lower (take_first is_key now) → qs ≡ skip_first is_key now → ValueFrontReads qs rest (Err f) → FieldsFrontRead before left (Err f)
-refuses before now m k qs rest left InvalidExtension h e s r = lacks_value before now m k qs h e s r
+pub refuses : (before now : List (List ℕ)) (m : Fields) (k : List ℕ) (qs rest left : List (List ℕ)) (f : ParseError) → TakingFields before now m → Some k ≡ option_map lower (take_first is_key now) → qs ≡ skip_first is_key now → FieldValueReads qs rest (Err f) → FieldsReads before left (Err f)
+refuses before now m k qs rest left InvalidExtension h e s r = (refl, lacks_value before now m k qs h e s r.1)
 refuses before now m k qs rest left OutOfMemory h e s r = wants_memory before now m k qs h e s (some_values (values_front qs) r)
-refuses before now m k qs rest left InvalidLanguage h e s r = r
-refuses before now m k qs rest left InvalidSubtag h e s r = r
-refuses before now m k qs rest left DuplicatedExtension h e s r = r
+refuses before now m k qs rest left InvalidLanguage h e s r = let other = r.0 in cc
+refuses before now m k qs rest left InvalidSubtag h e s r = let other = r.0 in cc
+refuses before now m k qs rest left DuplicatedExtension h e s r = let other = r.0 in cc
 
 pub shorter : (now qs more : List (List ℕ)) (k : List ℕ) → Some k ≡ option_map lower (take_first is_key now) → qs ≡ skip_first is_key now → more ≡ past (is_word Attribute) qs → length more < length now
 shorter now qs more k e s r =

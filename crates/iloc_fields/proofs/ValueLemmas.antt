@@ -10,7 +10,10 @@ use Rattle.iloc_spec_grammar.proofs.PiecesLaws.{pieces_nonempty}
 use Rattle.iloc_subtags.specs.declared.parse_error.ParseError.{ParseError}
 use Rattle.iloc_subtags.specs.declared.parse_error.ParseError.TheVariants.{InvalidLanguage, InvalidSubtag, InvalidExtension, DuplicatedExtension, OutOfMemory}
 use Rattle.iloc_subtags.proofs.TakingLemmas.{took, took_none}
-use Rattle.iloc_fields.specs.ValueReading.{values_front, ValueFrontReads, ValueReads}
+use Rattle.iloc_subtags.specs.Judging.{Answers, RunsOutOnlyIf}
+use Rattle.iloc_subtags.proofs.Judged.{without_memory, runs_out}
+use Rattle.iloc_spec_parts.specs.PartValues.{transform_value}
+use Rattle.iloc_fields.specs.ValueReading.{values_front, FieldValueReads, FieldValueTextReads, FieldValueTextWants}
 
 -- of the pieces before, those up to now are taken, and gave the value
 pub record TakingValues (before now v : List (List ℕ)) : Type 0 where
@@ -71,18 +74,24 @@ whole_none t n e = false_from_ne_true _ (λ h. n (sym (some_fails (is_word Attri
 
 -- at the pieces of a text
 module _ (t : List ℕ) (ps : List (List ℕ)) (is : ps ≡ pieces t) (rest : List (List ℕ)) where
-  pub value_gives : (v : List (List ℕ)) → ValueFrontReads ps rest (Ok v) → None ≡ first_item rest → ValueReads t (Ok v)
+  pub value_gives : (v : List (List ℕ)) → FieldValueReads ps rest (Ok v) → None ≡ first_item rest → FieldValueTextReads t (Ok v)
   value_gives v r n =
-      let there = subst (λ (l : List (List ℕ)). ValueFrontReads l rest (Ok v)) is r in
+      let there = subst (λ (l : List (List ℕ)). FieldValueReads l rest (Ok v)) is r in
       let h = whole_gives (pieces t) v rest there.2 there.1 n in
       rw h.0 (ap (λ l. Ok l) (sym h.1))
 
-  pub value_more_left : (v : List (List ℕ)) (p : List ℕ) → ValueFrontReads ps rest (Ok v) → Some p ≡ first_item rest → ValueReads t (Err InvalidExtension)
+  pub value_more_left : (v : List (List ℕ)) (p : List ℕ) → FieldValueReads ps rest (Ok v) → Some p ≡ first_item rest → FieldValueTextReads t (Err InvalidExtension)
   value_more_left v p r n = rw (whole_more (pieces t) rest p (r.2 ∙ ap (past (is_word Attribute)) is) n) refl
 
-  pub value_refuses : (f : ParseError) → ValueFrontReads ps rest (Err f) → ValueReads t (Err f)
-  value_refuses InvalidExtension r = rw (whole_none (pieces t) (pieces_nonempty t) (ap values_front (sym is) ∙ r)) refl
-  value_refuses OutOfMemory r = subst (λ (l : List (List ℕ)). 4 < length (normal_values (values_front l))) is r
-  value_refuses InvalidLanguage r = r
-  value_refuses InvalidSubtag r = r
-  value_refuses DuplicatedExtension r = r
+  value_refused : (f : ParseError) → FieldValueReads ps rest (Err f) → Answers (λ v. transform_value t ≡ Ok v) (λ f. transform_value t ≡ Err f) (FieldValueTextWants t) (Err f)
+  value_refused InvalidExtension r = rw (whole_none (pieces t) (pieces_nonempty t) (ap values_front (sym is) ∙ r.1)) refl
+  value_refused OutOfMemory r = subst (λ (l : List (List ℕ)). 4 < length (normal_values (values_front l))) is r
+  value_refused InvalidLanguage r = let other = r.0 in cc
+  value_refused InvalidSubtag r = let other = r.0 in cc
+  value_refused DuplicatedExtension r = let other = r.0 in cc
+
+  pub value_refuses : (f : ParseError) → FieldValueReads ps rest (Err f) → FieldValueTextReads t (Err f)
+  value_refuses f r = without_memory (λ v. transform_value t ≡ Ok v) (λ f. transform_value t ≡ Err f) (FieldValueTextWants t) (Err f) (value_refused f r)
+
+  pub value_memory : (f : ParseError) → FieldValueReads ps rest (Err f) → RunsOutOnlyIf {X = List (List ℕ)} (FieldValueTextWants t) (Err f)
+  value_memory f r = runs_out (λ v. transform_value t ≡ Ok v) (λ f. transform_value t ≡ Err f) (FieldValueTextWants t) (Err f) (value_refused f r)

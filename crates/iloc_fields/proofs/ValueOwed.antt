@@ -1,19 +1,18 @@
 -- What the reader of values owes to each text.
 use Rattle.std.proofs.Common.{◌≡◌, ℕ, List, Result, Ok, Err}
-use Rattle.iloc_spec_grammar.specs.Syntax.{pieces}
-use Rattle.iloc_spec_grammar.specs.Meaning as faults
+use Rattle.std.specs.Prelude.{⊤}
 use Rattle.iloc_spec_grammar.specs.Meaning.{Fault}
 use Rattle.iloc_subtags.specs.declared.parse_error.ParseError.{ParseError}
-use Rattle.iloc_subtags.specs.Judging.{ExtensionFault, Accepts, Refuses}
-use Rattle.iloc_subtags.proofs.Judged.{Judges, told, accepts, refuses, of_extension}
+use Rattle.iloc_subtags.specs.Judging.{Accepts, Refuses}
+use Rattle.iloc_subtags.proofs.Judged.{Judges, told, accepts, refuses}
 use Rattle.iloc_spec_parts.specs.PartValues.{transform_value}
-use Rattle.iloc_fields.specs.ValueReading.{ValueReads, ValueWants}
+use Rattle.iloc_fields.specs.ValueReading.{FieldValueTextReads}
 
 value_judges : (t : List ℕ) → Judges (λ v. transform_value t ≡ Ok v) (λ f. transform_value t ≡ Err f)
 value_judges t = told (transform_value t)
 
-pub value_accepts : (t : List ℕ) (r : Result (List (List ℕ)) ParseError) → ValueReads t r → (v : List (List ℕ)) → transform_value t ≡ Ok v → Accepts (λ v. v) (ValueWants t) v r
-value_accepts t r h = accepts (λ v. v) (ExtensionFault (transform_value t ≡ Err faults.InvalidExtension)) (ValueWants t) (value_judges t) (of_extension (λ f. transform_value t ≡ Err f)) r h
+pub value_accepts : (t : List ℕ) (r : Result (List (List ℕ)) ParseError) → FieldValueTextReads t r → (v : List (List ℕ)) → transform_value t ≡ Ok v → Accepts (λ v. v) ⊤ v r
+value_accepts t r h = accepts (λ v. v) ⊤ (value_judges t) r h
 
-pub value_refuses : (t : List ℕ) (r : Result (List (List ℕ)) ParseError) → ValueReads t r → (f : Fault) → transform_value t ≡ Err f → Refuses (ValueWants t) f r
-value_refuses t r h = refuses (λ v. v) (ExtensionFault (transform_value t ≡ Err faults.InvalidExtension)) (ValueWants t) (value_judges t) (of_extension (λ f. transform_value t ≡ Err f)) r h
+pub value_refuses : (t : List ℕ) (r : Result (List (List ℕ)) ParseError) → FieldValueTextReads t r → (f : Fault) → transform_value t ≡ Err f → Refuses ⊤ f r
+value_refuses t r h = refuses (λ v. v) ⊤ (value_judges t) r h

@@ -1,5 +1,5 @@
 -- What the readers of a field's value answer.
-use Rattle.std.specs.Prelude.{◌≡◌, ℕ, ◌<◌, false, List, [], length, Result, Ok, Err}
+use Rattle.std.specs.Prelude.{◌≡◌, ⊤, ◌<◌, false, List, [], length, Result, Ok, Err}
 use Rattle.iloc_spec_grammar.specs.Syntax.{Text, pieces, Attribute, is_word, is_true}
 use Rattle.iloc_spec_grammar.specs.Meaning.{normal_values}
 use Rattle.iloc_spec_grammar.specs.Values.{IsNormal}
@@ -7,7 +7,7 @@ use Rattle.iloc_spec_grammar.specs.Reading.{passing, past}
 use Rattle.iloc_spec_grammar.specs.Meaning as faults
 use Rattle.iloc_spec_parts.specs.PartValues.{transform_value}
 use Rattle.iloc_subtags.specs.declared.parse_error.ParseError.{ParseError}
-use Rattle.iloc_subtags.specs.Judging.{Answers, ExtensionFault}
+use Rattle.iloc_subtags.specs.Judging.{Answers, Only}
 
 -- what a value holds: words of 3 to 8 letters or digits in lower case, and none is `true`
 abbrev pub IsValueWord : Text → Type 0
@@ -18,19 +18,17 @@ abbrev pub values_front : List Text → List Text
 values_front ps = passing (is_word Attribute) ps
 
 -- What the pieces at the front are read as, and the pieces that are left. Memory may run out only for a fifth subtag.
-abbrev pub ValueFrontReads : List Text → List Text → Result (List Text) ParseError → Type 0
-ValueFrontReads ps rest = Answers
+abbrev pub FieldValueReads : List Text → List Text → Result (List Text) ParseError → Type 0
+FieldValueReads ps rest = Answers
     (λ v. (0 < length (values_front ps)) × (v ≡ normal_values (values_front ps))
     × (rest ≡ past (is_word Attribute) ps))
-    (ExtensionFault (values_front ps ≡ []))
+    (Only faults.InvalidExtension (values_front ps ≡ []))
     (4 < length (normal_values (values_front ps)))
 
 -- memory may run out on a text only for a fifth subtag
-abbrev pub ValueWants : Text → Type 0
-ValueWants t = 4 < length (normal_values (values_front (pieces t)))
+abbrev pub FieldValueTextWants : Text → Type 0
+FieldValueTextWants t = 4 < length (normal_values (values_front (pieces t)))
 
 -- what a text is read as
-abbrev pub ValueReads : Text → Result (List Text) ParseError → Type 0
-ValueReads t = Answers (λ v. transform_value t ≡ Ok v)
-    (ExtensionFault (transform_value t ≡ Err faults.InvalidExtension))
-    (ValueWants t)
+abbrev pub FieldValueTextReads : Text → Result (List Text) ParseError → Type 0
+FieldValueTextReads t = Answers (λ v. transform_value t ≡ Ok v) (λ f. transform_value t ≡ Err f) ⊤

@@ -33,7 +33,7 @@ ghost use Rattle.iloc_spec_parts.specs.Orders.{fields_cmp};
 ghost use Rattle.iloc_fields.specs.FieldsOrder.{fields_ties, fields_total};
 ghost use Rattle.iloc_litemap.specs.Pairs.{IsAscending};
 ghost use Rattle.iloc_subtags.specs.Left.{left};
-ghost use Rattle.iloc_fields.specs.FieldsReading.{IsFieldPair, FieldsFrontRead};
+ghost use Rattle.iloc_fields.specs.FieldsReading.{IsFieldPair, FieldsReads};
 
 use crate::value::Value;
 use iloc_litemap::LiteMap;
@@ -199,7 +199,7 @@ pub fn fill_fields(
     fields: &mut Fields,
 ) -> Result<(), ParseError>
     requires { fields.old ≡ [] }
-    ensures { FieldsFrontRead (left iter.old) (left iter.new)
+    ensures { FieldsReads (left iter.old) (left iter.new)
         (result_and result (Ok fields.new)) }
 {
     'keys: while let Some(key) = take_word::<TransformKeyKind, 2>(iter) {

@@ -1,6 +1,7 @@
 //! The value of a transform field.
 ghost use Rattle.std.specs.Prelude.{
   ◌≡◌,
+  ⊤,
   ◌<◌,
   ◌++◌,
   ◌∷◌,
@@ -23,8 +24,8 @@ ghost use Rattle.iloc_spec_grammar.specs.Values.{field_value_text, spelled_value
 ghost use Rattle.iloc_subtags.specs.Left.{left};
 ghost use Rattle.iloc_spec_grammar.specs.Meaning.{Fault};
 ghost use Rattle.iloc_spec_parts.specs.PartValues.{transform_value};
-ghost use Rattle.iloc_subtags.specs.Judging.{Accepts, Refuses};
-ghost use Rattle.iloc_fields.specs.ValueReading.{IsValueWord, ValueFrontReads, ValueReads, ValueWants};
+ghost use Rattle.iloc_subtags.specs.Judging.{Accepts, Refuses, RunsOutOnlyIf};
+ghost use Rattle.iloc_fields.specs.ValueReading.{IsValueWord, FieldValueReads, FieldValueTextReads, FieldValueTextWants};
 
 use iloc_shortvec::ShortWords;
 use iloc_subtags::{Attribute, AttributeKind, ParseError, SubtagIterator, take_word};
@@ -79,18 +80,20 @@ impl Value {
     /// Anything else is refused with `InvalidExtension`, the empty text too. `OutOfMemory` comes only
     /// if more than four subtags are to be kept. These are the `tvalue`s of UTS #35, section 3.2.
     pub fn try_from_utf8(alloc: Global, code_units: &[u8]) -> Result<Self, ParseError>
-        ensures reads { ValueReads code_units.now result }
+        ensures reads { FieldValueTextReads code_units.now result }
         ensures accepted { (v : List Text) → transform_value code_units.now ≡ Ok v
-            → Accepts (λ v. v) (ValueWants code_units.now) v result }
+            → Accepts (λ v. v) ⊤ v result }
         ensures refused { (f : Fault) → transform_value code_units.now ≡ Err f
-            → Refuses (ValueWants code_units.now) f result }
+            → Refuses ⊤ f result }
+        ensures memory { RunsOutOnlyIf (FieldValueTextWants code_units.now) result }
     {
         Self::read_text(alloc, code_units)
     }
 
-    // The same by what it reads alone.
+    // The same by what it reads, and when memory runs out, alone.
     fn read_text(alloc: Global, code_units: &[u8]) -> Result<Self, ParseError>
-        ensures { ValueReads code_units.now result }
+        ensures reads { FieldValueTextReads code_units.now result }
+        ensures memory { RunsOutOnlyIf (FieldValueTextWants code_units.now) result }
     {
         let mut iter = SubtagIterator::new(code_units);
         let value = Value::read_front(alloc, &mut iter)?;
@@ -102,11 +105,12 @@ impl Value {
 
     /// Parses a `str`, as `try_from_utf8` parses bytes.
     pub fn try_from_str(alloc: Global, s: &str) -> Result<Self, ParseError>
-        ensures reads { ValueReads s.now result }
+        ensures reads { FieldValueTextReads s.now result }
         ensures accepted { (v : List Text) → transform_value s.now ≡ Ok v
-            → Accepts (λ v. v) (ValueWants s.now) v result }
+            → Accepts (λ v. v) ⊤ v result }
         ensures refused { (f : Fault) → transform_value s.now ≡ Err f
-            → Refuses (ValueWants s.now) f result }
+            → Refuses ⊤ f result }
+        ensures memory { RunsOutOnlyIf (FieldValueTextWants s.now) result }
     {
         Self::try_from_utf8(alloc, s.as_bytes())
     }
@@ -116,7 +120,7 @@ impl Value {
         alloc: Global,
         iter: &mut SubtagIterator<'_>,
     ) -> Result<Self, ParseError>
-        ensures { ValueFrontReads (left iter.old) (left iter.new) result }
+        ensures { FieldValueReads (left iter.old) (left iter.new) result }
     {
         let mut value = Value::new();
         let Some(first) = take_word::<AttributeKind, 8>(iter) else {

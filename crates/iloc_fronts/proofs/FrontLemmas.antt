@@ -148,6 +148,16 @@ too_long k short p more = elim (cases_Bool (is_word k p)) [
   | inr fails ↦ fails
 ]
 
+-- what follows a byte of the line, in the line and in the rest of the window
+pub later_bytes : (w : List ℕ) (len n : ℕ) → len ≤ length w → n < len
+    → drop (suc n) (take len w) ≡ take (len - n - 1) (take (length w - (n + 1)) (drop (n + 1) w))
+later_bytes w len n inside less =
+    let parts : len ≡ suc n + (len - n - 1) = omega arith in
+    let one_more : suc n ≡ n + 1 = omega arith in
+    let enough : len - n - 1 ≤ length w - (n + 1) = omega arith in
+    ap (λ (m : ℕ). drop (suc n) (take m w)) parts ∙ drop-take (suc n) (len - n - 1) w
+    ∙ ap (λ (m : ℕ). take (len - n - 1) (drop m w)) one_more ∙ sym (take-take (len - n - 1) (length w - (n + 1)) (drop (n + 1) w) enough)
+
 module _ (w : List ℕ) (len n : ℕ) (room : len + 16 ≤ length w) (first : IsFirst (take len w) n) where
   abbrev text : List ℕ
   text = take len w
@@ -192,13 +202,7 @@ module _ (w : List ℕ) (len n : ℕ) (room : len + 16 ≤ length w) (first : Is
   pub after_short : n < 16 → n ≢ len → pieces text ≡ take n w ∷ pieces next
   after_short few more =
       let less : n < len = omega (arith, inside) in
-      let parts : len ≡ suc n + (len - n - 1) = omega arith in
-      let later : drop (suc n) (take len w) ≡ take (len - n - 1) (drop (suc n) w) =
-      ap (λ (m : ℕ). drop (suc n) (take m w)) parts ∙ drop-take (suc n) (len - n - 1) w in
-      let one_more : suc n ≡ n + 1 = omega arith in
-      let enough : len - n - 1 ≤ length w - (n + 1) = omega arith in
-      let rest : drop (suc n) (take len w) ≡ next =
-      later ∙ ap (λ (m : ℕ). take (len - n - 1) (drop m w)) one_more ∙ sym (take-take (len - n - 1) (length w - (n + 1)) (drop (n + 1) w) enough) in
+      let rest : drop (suc n) (take len w) ≡ next = later_bytes w len n (omega arith) less in
       first.cut (omega (arith, whole)) few ∙ (λ j. front_same j ∷ pieces (rest j))
 
   pub after_word : (k : Kind) → IsShort k → is_word k (take n w) ≡ true → n ≢ len → pieces text ≡ take n w ∷ pieces next

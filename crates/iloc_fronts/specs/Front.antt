@@ -1,5 +1,5 @@
 -- What stands at the front of a line: the words of an identifier that fit, and what follows them.
-use Rattle.std.specs.Prelude.{◌≡◌, ℕ, suc, ◌+◌, ◌<◌, ◌≤◌, false, [], ◌∷◌, ◌++◌, List, length, take, drop, get_or, ⊤}
+use Rattle.std.specs.Prelude.{◌≡◌, ℕ, suc, ◌+◌, ◌-◌, ◌<◌, ◌≤◌, true, false, [], ◌∷◌, ◌++◌, List, length, take, drop, get_or, ⊤}
 use Rattle.iloc_spec_grammar.specs.Syntax.{Text, pieces, first_piece, Language, Variant, is_word, IsWord, languages}
 use Rattle.iloc_spec_grammar.specs.Reading.{past, starts_block, after_region}
 use Rattle.iloc_fronts.specs.declared.front.Block.{Block}
@@ -57,3 +57,15 @@ IsFront t front.NoLanguage = is_word (Language languages) (first_piece (pieces t
 IsFront t front.Other = ⊤
 IsFront t (front.Variant n) = EndsInVariant t n
 IsFront t f = IsWord (Language languages) (first_piece (pieces t)) × GoesOnAs (after_region (pieces t)) f
+
+-- a language comes first, and the block later; if a block follows the words of an identifier, it is this one
+pub record IsFound (t : Text) (b : Block) : Type 0 where
+  pub begins : IsWord (Language languages) (first_piece (pieces t))
+  pub less : b.len < length t
+  pub cut : t ≡ take (length t - (b.len + 1)) t ++ 45 ∷ rest_of_block b
+  pub next : starts_block (past (is_word Variant) (after_region (pieces t))) ≡ true
+      → past (is_word Variant) (after_region (pieces t)) ≡ pieces (rest_of_block b)
+  pub singleton : first_piece (pieces (rest_of_block b)) ≡ get_or b.window.now 0 0 ∷ []
+  pub tail : b.tail ≡ b.len
+  pub some : 0 < b.len
+  pub room : b.len + 16 ≤ length b.window.now

@@ -1,5 +1,5 @@
 -- Bytes of one class that come first.
-use Rattle.std.specs.Prelude.{◌≡◌, ℕ, ◌<◌, ◌≤◌, ◌==◌, Bool, true, false, not, get_or}
+use Rattle.std.specs.Prelude.{◌≡◌, ℕ, suc, ◌<◌, ◌≤◌, ◌==◌, Bool, true, false, not, get_or}
 use Rattle.iloc_spec_grammar.specs.Syntax.{Text}
 
 -- whether the byte is a hyphen
@@ -20,3 +20,10 @@ pub record IsRun (p : ℕ → Bool) (w : Text) (n : ℕ) : Type 0 where
 pub record IsRunOf (m : ℕ) (p : ℕ → Bool) (w : Text) (n : ℕ) : Type 0 where
   pub pass : (i : ℕ) → i < n → i < m → p (get_or w i 0) ≡ true
   pub ends : n < m → p (get_or w n 0) ≡ false
+
+-- at n a hyphen stands that has another one two bytes later, and nowhere before
+pub record IsFirstSingle (w : Text) (n : ℕ) : Type 0 where
+  pub few : n < 14
+  pub there : is_hyphen (get_or w n 0) ≡ true
+  pub after : is_hyphen (get_or w (suc (suc n)) 0) ≡ true
+  pub first : (i : ℕ) → i < n → is_hyphen (get_or w i 0) ≡ true → is_hyphen (get_or w (suc (suc i)) 0) ≡ false

@@ -1,11 +1,11 @@
 //! Tells what stands at the front of a line.
-ghost use Rattle.std.specs.Prelude.{◌≡◌, ◌+◌, ◌≤◌, false, length, take};
+ghost use Rattle.std.specs.Prelude.{◌≡◌, ◌+◌, ◌≤◌, IfSome, false, length, take};
 ghost use Rattle.iloc_spec_grammar.specs.Syntax.{pieces, Region, Script, is_word};
 ghost use Rattle.iloc_spec_grammar.specs.Reading.{skip_first};
-ghost use Rattle.iloc_fronts.specs.Front.{IsFirst, GoesOnAs, IsFront};
+ghost use Rattle.iloc_fronts.specs.Front.{IsFirst, GoesOnAs, IsFound, IsFront};
 ghost use Rattle.iloc_fronts.specs.declared.front.Front.TheVariants as front;
 
-use crate::run::before_hyphen;
+use crate::run::{before_hyphen, before_single};
 use crate::words::{is_language, is_region, is_script, is_variant};
 use iloc_plain::is_language_length;
 
@@ -58,6 +58,29 @@ pub fn may_begin(window: &[u8], len: usize) -> bool
     ensures { result ≡ false → IsFront (take len window.now) front.NoLanguage }
 {
     is_language_length(first_len(window, len))
+}
+
+/// The first block of a line that begins with a language, if its singleton stands among the first fifteen bytes and a
+/// hyphen follows. Nothing is claimed of the pieces between. No variants are counted in `tail`.
+#[inline(always)]
+pub fn find_block(window: &[u8], len: usize) -> Option<Block<'_>>
+    requires { len + 16 ≤ length window.now }
+    ensures { IfSome result (IsFound (take len window.now)) }
+{
+    let n = first_len(window, len);
+    if !is_language(window, n) {
+        return None;
+    }
+    let at = before_single(window)?;
+    if at + 2 >= len || window[at + 1] == b'-' {
+        return None;
+    }
+    let left = len - at - 1;
+    Some(Block {
+        window: &window[at + 1..],
+        len: left,
+        tail: left,
+    })
 }
 
 /// What the first `len` bytes begin with. The bytes after them are loaded too, and change nothing.

@@ -1,8 +1,8 @@
 //! How many bytes of a class come first among sixteen.
-ghost use Rattle.std.specs.Prelude.{◌≡◌, ◌≤◌, length, drop, map};
+ghost use Rattle.std.specs.Prelude.{◌≡◌, ◌≤◌, IfSome, length, drop, map};
 ghost use Rattle.std.specs.Simd.Lanes.{mask_l};
 ghost use Rattle.std.specs.Char.{is_ascii_alphabetic, is_ascii_alphanumeric, is_ascii_digit};
-ghost use Rattle.iloc_fronts.specs.Run.{IsRun, IsRunOf, is_hyphen, is_other};
+ghost use Rattle.iloc_fronts.specs.Run.{IsFirstSingle, IsRun, IsRunOf, is_hyphen, is_other};
 
 use iloc_plain::before_marked;
 use std::simd::prelude::*;
@@ -88,4 +88,18 @@ pub(crate) fn before_hyphen(window: &[u8]) -> usize
     ensures { IsRun (is_other is_hyphen) window.now result }
 {
     before_marked(hyphens_of(u8x16::from_slice(window)))
+}
+
+// How many bytes come before the first hyphen that has another one two bytes later.
+#[inline(always)]
+pub(crate) fn before_single(window: &[u8]) -> Option<usize>
+    requires { 16 ≤ length window.now }
+    ensures { IfSome result (IsFirstSingle window.now) }
+{
+    let hyphens = hyphens_of(u8x16::from_slice(window));
+    let marks = hyphens & (hyphens >> 2);
+    if marks == 0 {
+        return None;
+    }
+    Some(marks.trailing_zeros() as usize)
 }

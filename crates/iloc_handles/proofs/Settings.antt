@@ -9,7 +9,7 @@ use Rattle.iloc_spec_grammar.specs.Syntax.{languages}
 use Rattle.iloc_spec_grammar.specs.Meaning as meaning
 use Rattle.iloc_spec_grammar.specs.Meaning.{Means}
 use Rattle.iloc_spec_grammar.proofs.RawLaws.{languages_table}
-use Rattle.iloc_spec_grammar.proofs.Readings.{one_meaning}
+use Rattle.iloc_spec_grammar.proofs.SameMeaning.{one_meaning}
 use Rattle.iloc_spec_parts.specs.Orders.{locale_cmp}
 use Rattle.iloc_spec_parts.proofs.OrderLaws.{locale_exact}
 use Rattle.iloc_calls.specs.declared.status.Status.{Status}

@@ -2,7 +2,8 @@
 use Rattle.std.specs.Prelude.{◌≡◌, ℕ, false, List, [], ◌∷◌, ◌++◌, slice_get, Option}
 use Rattle.iloc_spec_grammar.specs.Syntax.{Text, Attribute, IsWord, is_word, normal}
 use Rattle.iloc_spec_grammar.specs.Meaning.{Locale, set_of}
-use Rattle.iloc_subtags.specs.Judging.{ExtensionFault}
+use Rattle.iloc_spec_grammar.specs.Meaning as faults
+use Rattle.iloc_subtags.specs.Judging.{Only}
 use Rattle.iloc_calls.specs.declared.status.Status.TheVariants.{OutOfMemory}
 use Rattle.iloc_handles.specs.Finding.{Changing, Sets, Removes}
 use Rattle.iloc_handles.specs.Subtags.{HasWord, without_word}
@@ -26,7 +27,7 @@ abbrev pub AddsAttribute : Text → Changing
 AddsAttribute t = Sets
     (λ before after. IsWord Attribute t
     × (after ≡ with_attributes (set_of (attributes_of before ++ normal Attribute t ∷ [])) before))
-    (ExtensionFault (is_word Attribute t ≡ false)) (Unit {0})
+    (Only faults.InvalidExtension (is_word Attribute t ≡ false)) (Unit {0})
 
 -- the attribute is not among them any more; memory may be wanted, and then they stay
 abbrev pub RemovesAttribute : Text → Changing

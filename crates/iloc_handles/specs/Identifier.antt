@@ -2,7 +2,8 @@
 use Rattle.std.specs.Prelude.{◌≡◌, ℕ, ◌≤◌, false, List, [], ◌∷◌, length, slice_get, Option, unwrap_or, codes}
 use Rattle.iloc_spec_grammar.specs.Syntax.{Text, Language, Script, Region, Variant, IsWord, is_word, languages, normal}
 use Rattle.iloc_spec_grammar.specs.Meaning.{Locale, set_of}
-use Rattle.iloc_subtags.specs.Judging.{LanguageFault, SubtagFault}
+use Rattle.iloc_spec_grammar.specs.Meaning as faults
+use Rattle.iloc_subtags.specs.Judging.{Only}
 use Rattle.iloc_handles.specs.Finding.{Changing, Sets, Removes}
 use Rattle.iloc_handles.specs.Subtags.{IsOptional, IsNeither, HasWord, without_word}
 
@@ -31,26 +32,27 @@ abbrev pub SetsLanguage : Text → Changing
 SetsLanguage t = Sets
     (λ before after. (o : Option Text) × IsOptional (Language languages) t o
     × (after ≡ with_language (language_or_und o) before))
-    (LanguageFault (IsNeither (Language languages) t)) ⊥
+    (Only faults.InvalidLanguage (IsNeither (Language languages) t)) ⊥
 
 -- the script becomes that of the text, or absent
 abbrev pub SetsScript : Text → Changing
 SetsScript t = Sets
     (λ before after. (o : Option Text) × IsOptional Script t o × (after ≡ with_script o before))
-    (SubtagFault (IsNeither Script t)) ⊥
+    (Only faults.InvalidSubtag (IsNeither Script t)) ⊥
 
 -- the region becomes that of the text, or absent
 abbrev pub SetsRegion : Text → Changing
 SetsRegion t = Sets
     (λ before after. (o : Option Text) × IsOptional Region t o × (after ≡ with_region o before))
-    (SubtagFault (IsNeither Region t)) ⊥
+    (Only faults.InvalidSubtag (IsNeither Region t)) ⊥
 
 -- the variant is among the variants; memory may be wanted only if there are four or more
 abbrev pub AddsVariant : Text → Changing
 AddsVariant t before after status = Sets
     (λ before after. IsWord Variant t
     × (after ≡ with_variants (set_of (normal Variant t ∷ before.id.variants)) before))
-    (SubtagFault (is_word Variant t ≡ false)) (4 ≤ length before.id.variants) before after status
+    (Only faults.InvalidSubtag (is_word Variant t ≡ false)) (4 ≤ length before.id.variants)
+    before after status
 
 -- the variant is not among them any more
 abbrev pub RemovesVariant : Text → Changing

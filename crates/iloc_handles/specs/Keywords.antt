@@ -3,7 +3,7 @@ use Rattle.std.specs.Prelude.{◌≤◌, List, length}
 use Rattle.iloc_spec_grammar.specs.Syntax.{Text, Fields}
 use Rattle.iloc_spec_grammar.specs.Meaning.{Locale}
 use Rattle.iloc_spec_parts.specs.PartValues.{unicode_value}
-use Rattle.iloc_word_list.specs.Reads.{ValueWants}
+use Rattle.iloc_word_list.specs.Reads.{ValueTextWants}
 use Rattle.iloc_handles.specs.Pairs.{Map}
 
 -- the keywords
@@ -22,6 +22,6 @@ keywords = record {
   pairs = keywords_of;
   with_pairs = with_keywords;
   value = unicode_value;
-  ValueWants = ValueWants;
+  ValueWants = ValueTextWants;
   KeyWants = λ k ks. 1 ≤ length ks;
 }

@@ -5,10 +5,11 @@ use Rattle.std.specs.FinMap.{find, put}
 use Rattle.std.specs.Ordering.{nat_cmp}
 use Rattle.iloc_spec_grammar.specs.Syntax.{Text, Block, pieces, is_other_singleton}
 use Rattle.iloc_spec_grammar.specs.Meaning.{Locale}
+use Rattle.iloc_spec_grammar.specs.Meaning as faults
 use Rattle.iloc_spec_grammar.specs.Values.{other_text}
 use Rattle.iloc_spec_parts.specs.Fronts.{OtherRead}
 use Rattle.iloc_spec_parts.specs.Parts.{PartRead}
-use Rattle.iloc_subtags.specs.Judging.{ExtensionFault}
+use Rattle.iloc_subtags.specs.Judging.{Only}
 use Rattle.iloc_handles.specs.Finding.{Changing, Sets, Removes}
 
 -- the other extensions are others, and all else is the same
@@ -37,7 +38,7 @@ abbrev pub SetsOther : Text → Changing
 SetsOther t = Sets
     (λ before after. (o : Block) × IsOtherText t o
     × (after ≡ with_others (put nat_cmp o.0 o.1 before.extensions.others) before))
-    (ExtensionFault ((o : Block) → ¬ (IsOtherText t o))) (Unit {0})
+    (Only faults.InvalidExtension ((o : Block) → ¬ (IsOtherText t o))) (Unit {0})
 
 -- no extension has the singleton any more
 abbrev pub RemovesOther : ℕ → Changing

@@ -4,12 +4,10 @@ use Rattle.std.specs.FinMap.{find}
 use Rattle.iloc_spec_grammar.specs.Syntax.{Text, pieces, languages, word_cmp, Identifier, Fields}
 use Rattle.iloc_spec_grammar.specs.Meaning.{Locale, IdentifierMeans, HasIdentifierFault}
 use Rattle.iloc_spec_grammar.specs.Values.{identifier_text}
-use Rattle.iloc_spec_grammar.specs.Meaning as faults
 use Rattle.iloc_spec_parts.specs.PartValues.{transform_value}
 use Rattle.iloc_spec_parts.specs.Parts.{PrivateText, PrivateTextFault}
-use Rattle.iloc_subtags.specs.Judging.{ExtensionFault, OfIdentifier}
-use Rattle.iloc_langid.specs.Reads.{WantsMemory}
-use Rattle.iloc_fields.specs.ValueReading.{ValueWants}
+use Rattle.iloc_langid.specs.Reads.{IdentifierWantsMemory}
+use Rattle.iloc_fields.specs.ValueReading.{FieldValueTextWants}
 use Rattle.iloc_other.specs.Reading.{PrivateTextWants}
 use Rattle.iloc_handles.specs.Finding.{Changing, Sets}
 use Rattle.iloc_handles.specs.Pairs.{Map}
@@ -34,7 +32,7 @@ abbrev pub SetsTransformLanguage : Text → Changing
 SetsTransformLanguage t = Sets
     (λ before after. (o : Option Identifier) × IsOptionalIdentifier t o
     × (after ≡ with_transform_language o before))
-    (OfIdentifier (λ f. (t ≢ []) × HasIdentifierFault languages (pieces t) f)) (WantsMemory (pieces t))
+    (λ f. (t ≢ []) × HasIdentifierFault languages (pieces t) f) (IdentifierWantsMemory (pieces t))
 
 -- the fields
 abbrev pub fields_of : Locale → Fields
@@ -52,7 +50,7 @@ fields = record {
   pairs = fields_of;
   with_pairs = with_fields;
   value = transform_value;
-  ValueWants = ValueWants;
+  ValueWants = FieldValueTextWants;
   KeyWants = λ k fs. is_some (find word_cmp k fs) ≢ true;
 }
 
@@ -68,4 +66,4 @@ IsOptionalPrivate t ws = ((t ≡ []) × (ws ≡ [])) ⊎ PrivateText t ws
 abbrev pub SetsPrivate : Text → Changing
 SetsPrivate t = Sets
     (λ before after. (ws : List Text) × IsOptionalPrivate t ws × (after ≡ with_private ws before))
-    (ExtensionFault ((t ≢ []) × PrivateTextFault t faults.InvalidExtension)) (PrivateTextWants t)
+    (λ f. (t ≢ []) × PrivateTextFault t f) (PrivateTextWants t)

@@ -5,7 +5,7 @@ use Rattle.iloc_spec_grammar.specs.Meaning as meaning
 use Rattle.iloc_spec_grammar.specs.Meaning.{Means, HasFault}
 use Rattle.iloc_spec_parts.specs.Extending.{extend}
 use Rattle.iloc_spec_grammar.specs.Values.{IsWellFormed}
-use Rattle.iloc_locale.specs.LocaleReading.{WantsMemory, unknown_locale}
+use Rattle.iloc_locale.specs.LocaleReading.{LocaleWantsMemory, unknown_locale}
 use Rattle.iloc_calls.specs.declared.status.Status.{Status}
 use Rattle.iloc_calls.specs.declared.status.Status.TheVariants.{Done, OutOfMemory}
 use Rattle.iloc_handles.specs.declared.whole.Test.{Test}
@@ -19,7 +19,7 @@ Passes WellFormed M = IsWellFormed M
 
 -- the locale becomes what the text means
 abbrev pub ParsesTo : Text → Changing
-ParsesTo t = Sets (λ before after. Means languages t after) (HasFault languages t) (WantsMemory t)
+ParsesTo t = Sets (λ before after. Means languages t after) (HasFault languages t) (LocaleWantsMemory t)
 
 -- the locale becomes another; memory may be refused, and then it stays
 abbrev pub Copies : meaning.Locale → Changing
@@ -36,5 +36,5 @@ ExtendsUnicode M before after _ = ⊥
 -- 1 is written if the text means the locale, and else 0; memory may be wanted to parse it, and then nothing is
 abbrev pub TellsMeant : Text → meaning.Locale → ℕ → ℕ → Status → Type 0
 TellsMeant t M before after Done = ((after ≡ 1) × Means languages t M) ⊎ ((after ≡ 0) × ¬ (Means languages t M))
-TellsMeant t M before after OutOfMemory = WantsMemory t × (after ≡ before)
+TellsMeant t M before after OutOfMemory = LocaleWantsMemory t × (after ≡ before)
 TellsMeant t M before after _ = ⊥

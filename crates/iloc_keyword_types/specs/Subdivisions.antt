@@ -3,8 +3,8 @@ use Rattle.std.specs.Prelude.{◌≡◌, Result, Ok, Err}
 use Rattle.iloc_spec_grammar.specs.Syntax.{Text}
 use Rattle.iloc_spec_preferences.specs.Subdivisions.{Subdivision, subdivision}
 use Rattle.iloc_subtags.specs.declared.parse_error.ParseError.{ParseError}
-use Rattle.iloc_subtags.specs.Judging.{Answers, OfPart}
+use Rattle.iloc_subtags.specs.Judging.{Answers}
 
 -- The text is read as the subdivision that it names, or refused for what it lacks.
-abbrev pub ReadsAs : Text → Result Subdivision ParseError → Type 0
-ReadsAs t = Answers (λ s. subdivision t ≡ Ok s) (OfPart (λ f. subdivision t ≡ Err f)) ⊥
+abbrev pub SubdivisionTextReads : Text → Result Subdivision ParseError → Type 0
+SubdivisionTextReads t = Answers (λ s. subdivision t ≡ Ok s) (λ f. subdivision t ≡ Err f) ⊥

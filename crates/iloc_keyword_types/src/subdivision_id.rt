@@ -30,7 +30,7 @@ impl Model for SubdivisionId {
 
 impl SubdivisionId {
     ghost use Rattle.iloc_spec_preferences.specs.Subdivisions.{Subdivision, subdivision, subdivision_text};
-    ghost use Rattle.iloc_keyword_types.specs.Subdivisions.{ReadsAs};
+    ghost use Rattle.iloc_keyword_types.specs.Subdivisions.{SubdivisionTextReads};
 
     /// The subdivision of that region with that suffix.
     pub fn new(region: Region, suffix: SubdivisionSuffix) -> Self
@@ -44,7 +44,7 @@ impl SubdivisionId {
     /// with a digit, and then the suffix. What is no subtag is refused by `InvalidSubtag`, a bad region or
     /// suffix by `InvalidExtension`.
     pub fn try_from_utf8(code_units: &[u8]) -> Result<Self, ParseError>
-        ensures reads { ReadsAs code_units.now result }
+        ensures reads { SubdivisionTextReads code_units.now result }
         ensures accepted { (id : Subdivision) → subdivision code_units.now ≡ Ok id
             → Accepts (λ id. id) ⊥ id result }
         ensures refused { (f : Fault) → subdivision code_units.now ≡ Err f → Refuses ⊥ f result }
@@ -54,7 +54,7 @@ impl SubdivisionId {
 
     // The same by what it reads alone.
     fn read_text(code_units: &[u8]) -> Result<Self, ParseError>
-        ensures { ReadsAs code_units.now result }
+        ensures { SubdivisionTextReads code_units.now result }
     {
         let _subtag = Subtag::try_from_utf8(code_units)?;
         let (region, suffix) = code_units.split_at(region_length(code_units));
@@ -67,7 +67,7 @@ impl SubdivisionId {
 
     /// Parses a `str`, as `try_from_utf8` parses bytes.
     pub fn try_from_str(s: &str) -> Result<Self, ParseError>
-        ensures reads { ReadsAs s.now result }
+        ensures reads { SubdivisionTextReads s.now result }
         ensures accepted { (id : Subdivision) → subdivision s.now ≡ Ok id
             → Accepts (λ id. id) ⊥ id result }
         ensures refused { (f : Fault) → subdivision s.now ≡ Err f → Refuses ⊥ f result }
@@ -99,9 +99,9 @@ fn region_length(code_units: &[u8]) -> usize
 impl FromStr for SubdivisionId {
     type Err = ParseError;
 
-    ghost use Rattle.iloc_keyword_types.specs.Subdivisions.{ReadsAs};
+    ghost use Rattle.iloc_keyword_types.specs.Subdivisions.{SubdivisionTextReads};
 
-    ghost from_str_gives = { ReadsAs };
+    ghost from_str_gives = { SubdivisionTextReads };
 
     fn from_str(s: &str) -> Result<Self, ParseError> {
         SubdivisionId::try_from_str(s)

@@ -8,14 +8,14 @@ use Rattle.iloc_spec_grammar.specs.Meaning.{Fault}
 use Rattle.iloc_spec_grammar.specs.Meaning as faults
 use Rattle.iloc_spec_grammar.proofs.WordsLaws.{length-script, length-region, length-variant}
 use Rattle.iloc_spec_grammar.proofs.RawLaws.{languages_table}
-use Rattle.iloc_spec_parts.specs.Small.{SmallIdentifier, SmallLocale, IsSmallIdentifier, IsSmall, HasSmallIdentifierFault, no_language, no_identifier, SmallBlockFault, no_singleton, not_u, attribute, no_key, after_key, HasSmallFault, bad_head, bad_block}
+use Rattle.iloc_spec_parts.specs.Small.{SmallIdentifier, SmallLocale, IsSmallIdentifier, IsSmall, HasSmallIdentifierFault, no_language, HasSmallFault, bad_head}
 use Rattle.iloc_spec_parts.specs.SmallComputing.{small_identifier_result, blocks_result, after_identifier, small_result}
 use Rattle.iloc_spec_parts.proofs.SmallLaws.{one_small_identifier, small_identifier_answer, small_identifier_apart, small_answer}
-use Rattle.iloc_langid.specs.SmallReads.{Parts, small_of, front_parts, after_parts, SmallFrontGives}
+use Rattle.iloc_langid.specs.SmallReads.{Parts, small_of, front_parts, after_parts, SmallFrontReads}
 use Rattle.iloc_langid.proofs.SmallLemmas.{parts_whole, parts_more}
 use Rattle.iloc_subtags.specs.declared.parse_error.ParseError.{ParseError}
 use Rattle.iloc_subtags.specs.declared.parse_error.ParseError.TheVariants.{InvalidLanguage, InvalidSubtag, InvalidExtension, DuplicatedExtension, OutOfMemory}
-use Rattle.iloc_langid.specs.SmallLocaleReads.{Keyword, LocaleParts, small_locale_of, SmallLocaleReadsAs}
+use Rattle.iloc_langid.specs.SmallLocaleReads.{Keyword, LocaleParts, small_locale_of, SmallLocaleTextReads}
 use Rattle.iloc_langid.specs.BlockReads.{answer_of, block_result}
 use Rattle.iloc_langid.proofs.BlockLemmas.{blocks_past, with_keyword, blocks_read}
 use Rattle.iloc_subtags.specs.Judging.{error_of}
@@ -87,11 +87,11 @@ blocks-after_parts p ps =
 
 -- what is read from all pieces is read from the head, and what is left begins with the blocks
 
-head_gives : (ps rest : List (List ℕ)) (p : Parts) → SmallFrontGives ps rest (Ok p) → SmallFrontGives (head ps) (front rest) (Ok p)
+head_gives : (ps rest : List (List ℕ)) (p : Parts) → SmallFrontReads ps rest (Ok p) → SmallFrontReads (head ps) (front rest) (Ok p)
 head_gives [] rest p g = (g.0, g.1, ap front g.2)
 head_gives (q ∷ ps) rest p g = (g.0, g.1 ∙ sym (front_parts-front q ps), ap front g.2 ∙ sym (after_parts-front q ps))
 
-blocks_left : (ps rest : List (List ℕ)) (p : Parts) → SmallFrontGives ps rest (Ok p) → tail_blocks ps ≡ blocks rest
+blocks_left : (ps rest : List (List ℕ)) (p : Parts) → SmallFrontReads ps rest (Ok p) → tail_blocks ps ≡ blocks rest
 blocks_left [] rest p g = ap blocks (sym g.2)
 blocks_left (q ∷ ps) rest p g = sym (blocks-after_parts q ps) ∙ ap blocks (sym g.2)
 
@@ -111,35 +111,18 @@ result_is (p ∷ ps) r h = by (small_identifier_result languages (p ∷ ps)) (sm
     by (Ok s) k = ap Ok (one_small_identifier (p ∷ ps) s r k h)
     by (Err f) k = absurd (small_identifier_apart (p ∷ ps) r f h k)
 
--- no text that isn't small has the fault of a repeated singleton
-
-no_duplicate_head : (ps : List (List ℕ)) (f : Fault) → f ≡ faults.DuplicatedExtension → HasSmallIdentifierFault languages ps f → ⊥
-no_duplicate_head ps f e (no_language h) = cc
-no_duplicate_head ps f e (no_identifier h n) = cc
-
-no_duplicate_block : (b : ℕ × List (List ℕ)) (f : Fault) → f ≡ faults.DuplicatedExtension → SmallBlockFault b f → ⊥
-no_duplicate_block b f e (no_singleton a) = cc
-no_duplicate_block b f e (not_u a n) = cc
-no_duplicate_block b f e (attribute u a) = cc
-no_duplicate_block b f e (no_key u a k) = cc
-no_duplicate_block b f e (after_key u k) = cc
-
-no_duplicate : (t : List ℕ) (f : Fault) → f ≡ faults.DuplicatedExtension → HasSmallFault languages t f → ⊥
-no_duplicate t f e (bad_head h) = no_duplicate_head (head (pieces t)) f e h
-no_duplicate t f e (bad_block {b = b} i n k h) = no_duplicate_block b f e h
-
-fault_reads : (t : List ℕ) (f : Fault) → HasSmallFault languages t f → SmallLocaleReadsAs t (Err (error_of f))
+fault_reads : (t : List ℕ) (f : Fault) → HasSmallFault languages t f → SmallLocaleTextReads t (Err (error_of f))
 fault_reads t faults.InvalidLanguage h = h
 fault_reads t faults.InvalidSubtag h = h
 fault_reads t faults.InvalidExtension h = h
-fault_reads t faults.DuplicatedExtension h = no_duplicate t faults.DuplicatedExtension refl h
+fault_reads t faults.DuplicatedExtension h = h
 
 -- The whole text, where its head is read and these pieces are left.
 
 abbrev pub with_parts : Parts → Option Keyword → LocaleParts
 with_parts p k = (p.0, p.1, p.2, p.3, k)
 
-module _ (t : List ℕ) (ps rest : List (List ℕ)) (p : Parts) (e : ps ≡ pieces t) (g : SmallFrontGives ps rest (Ok p)) where
+module _ (t : List ℕ) (ps rest : List (List ℕ)) (p : Parts) (e : ps ≡ pieces t) (g : SmallFrontReads ps rest (Ok p)) where
   result_after : front rest ≡ [] → small_result languages t ≡ after_identifier (Ok (small_of p)) (blocks rest)
   unfolding small_result
   result_after n =
@@ -150,11 +133,11 @@ module _ (t : List ℕ) (ps rest : List (List ℕ)) (p : Parts) (e : ps ≡ piec
   answer_at : (o : Result SmallLocale Fault) → small_result languages t ≡ o → MatchResult o (IsSmall languages t) (HasSmallFault languages t)
   answer_at o is = subst (λ (r : Result SmallLocale Fault). MatchResult r (IsSmall languages t) (HasSmallFault languages t)) is (small_answer languages_table t)
 
-  pub nothing_more : rest ≡ [] → SmallLocaleReadsAs t (Ok (with_parts p None))
+  pub nothing_more : rest ≡ [] → SmallLocaleTextReads t (Ok (with_parts p None))
   unfolding after_identifier blocks_result
   nothing_more n = answer_at (Ok (small_locale_of (with_parts p None))) (result_after (ap front n) ∙ ap (λ l. after_identifier (Ok (small_of p)) (blocks l)) n)
 
-  pub more_pieces : starts_block rest ≡ false → SmallLocaleReadsAs t (Err InvalidSubtag)
+  pub more_pieces : starts_block rest ≡ false → SmallLocaleTextReads t (Err InvalidSubtag)
   more_pieces more =
       subst (λ (l : List (List ℕ)). HasSmallIdentifierFault languages (head l) faults.InvalidSubtag → HasSmallFault languages t faults.InvalidSubtag) (sym e) (λ h. bad_head h)
       (parts_more (head ps) (front rest) p (head_gives ps rest p g) (some rest more))
@@ -171,29 +154,29 @@ module _ (t : List ℕ) (ps rest : List (List ℕ)) (p : Parts) (e : ps ≡ piec
     unfolding after_identifier
     block_answer = answer_at (with_keyword (small_of p) (block_result c later)) (result_after (ap front n) ∙ ap (λ l. after_identifier (Ok (small_of p)) (blocks l)) n ∙ blocks_read (small_of p) c later)
 
-    pub keyword_read : (k : Keyword) → Ok k ≡ answer_of (block_result c later) → SmallLocaleReadsAs t (Ok (with_parts p (Some k)))
+    pub keyword_read : (k : Keyword) → Ok k ≡ answer_of (block_result c later) → SmallLocaleTextReads t (Ok (with_parts p (Some k)))
     keyword_read k is = by (block_result c later) block_answer is
       where
-        by : (o : Result Keyword Fault) → MatchResult (with_keyword (small_of p) o) (IsSmall languages t) (HasSmallFault languages t) → Ok k ≡ answer_of o → SmallLocaleReadsAs t (Ok (with_parts p (Some k)))
-        by (Ok x) h is = let same : x ≡ k = cc in subst (λ (y : Keyword). SmallLocaleReadsAs t (Ok (with_parts p (Some y)))) same h
+        by : (o : Result Keyword Fault) → MatchResult (with_keyword (small_of p) o) (IsSmall languages t) (HasSmallFault languages t) → Ok k ≡ answer_of o → SmallLocaleTextReads t (Ok (with_parts p (Some k)))
+        by (Ok x) h is = let same : x ≡ k = cc in subst (λ (y : Keyword). SmallLocaleTextReads t (Ok (with_parts p (Some y)))) same h
         by (Err f) h is = cc
 
-    pub block_refused : (r : ParseError) → Err r ≡ answer_of (block_result c later) → SmallLocaleReadsAs t (Err r)
+    pub block_refused : (r : ParseError) → Err r ≡ answer_of (block_result c later) → SmallLocaleTextReads t (Err r)
     block_refused r is = by (block_result c later) block_answer is
       where
-        by : (o : Result Keyword Fault) → MatchResult (with_keyword (small_of p) o) (IsSmall languages t) (HasSmallFault languages t) → Err r ≡ answer_of o → SmallLocaleReadsAs t (Err r)
+        by : (o : Result Keyword Fault) → MatchResult (with_keyword (small_of p) o) (IsSmall languages t) (HasSmallFault languages t) → Err r ≡ answer_of o → SmallLocaleTextReads t (Err r)
         by (Ok x) h is = cc
-        by (Err f) h is = let same : error_of f ≡ r = cc in subst (λ (s : ParseError). SmallLocaleReadsAs t (Err s)) same (fault_reads t f h)
+        by (Err f) h is = let same : error_of f ≡ r = cc in subst (λ (s : ParseError). SmallLocaleTextReads t (Err s)) same (fault_reads t f h)
 
 -- its first piece is no language
 
-pub front_refused : (t : List ℕ) (ps rest : List (List ℕ)) (r : ParseError) → ps ≡ pieces t → SmallFrontGives ps rest (Err r) → SmallLocaleReadsAs t (Err r)
-front_refused t ps rest InvalidLanguage e g = bad_head (subst (λ (l : List (List ℕ)). HasSmallIdentifierFault languages (head l) faults.InvalidLanguage) e (by ps g))
+pub front_refused : (t : List ℕ) (ps rest : List (List ℕ)) (r : ParseError) → ps ≡ pieces t → SmallFrontReads ps rest (Err r) → SmallLocaleTextReads t (Err r)
+front_refused t ps rest InvalidLanguage e g = bad_head (subst (λ (l : List (List ℕ)). HasSmallIdentifierFault languages (head l) faults.InvalidLanguage) e (by ps g.1))
   where
     by : (qs : List (List ℕ)) → is_word (Language languages) (first_piece qs) ≡ false → HasSmallIdentifierFault languages (head qs) faults.InvalidLanguage
     by [] h = no_language h
     by (q ∷ qs) h = no_language h
-front_refused t ps rest InvalidSubtag e g = absurd g
-front_refused t ps rest InvalidExtension e g = absurd g
-front_refused t ps rest DuplicatedExtension e g = g
+front_refused t ps rest InvalidSubtag e g = let other = g.0 in cc
+front_refused t ps rest InvalidExtension e g = let other = g.0 in cc
+front_refused t ps rest DuplicatedExtension e g = let other = g.0 in cc
 front_refused t ps rest OutOfMemory e g = g

@@ -1,21 +1,19 @@
 -- The normal text of an identifier.
-use Rattle.std.proofs.Common.{◌≡◌, ◌↔◌, inl, inr, Ok, Err, ℕ, false, true, List, length, sym, ap, ◌∙◌, subst, true≢false}
+use Rattle.std.proofs.Common.{◌≡◌, ◌↔◌, inr, Ok, Err, ℕ, false, true, List, length, sym, ap, ◌∙◌, subst, true≢false}
 use Rattle.std.specs.Cow.{cow_str_bytes}
 use Rattle.std.specs.declared.borrow.CowStr.{CowStr}
 use Rattle.iloc_spec_grammar.specs.Syntax.{pieces, languages, Identifier}
 use Rattle.iloc_spec_grammar.specs.Meaning.{IdentifierMeans}
-use Rattle.iloc_spec_grammar.specs.Values.{identifier_text, IdentifierChain}
+use Rattle.iloc_spec_grammar.specs.Values.{identifier_text, IdentifierTextStep, Leads}
 use Rattle.iloc_spec_grammar.proofs.IdentifierLaws.{one_meaning}
-use Rattle.iloc_spec_grammar.proofs.IdentifierTexts.{identifier_means_again, same_identifier_meaning, length-identifier_means, identifier_chain_to_text, identifiers_lead_to_one}
-use Rattle.iloc_subtags.specs.declared.parse_error.ParseError.{ParseError}
-use Rattle.iloc_subtags.specs.declared.parse_error.ParseError.TheVariants.{InvalidLanguage, InvalidSubtag, InvalidExtension, DuplicatedExtension, OutOfMemory}
-use Rattle.iloc_langid.specs.Reads.{ReadsAs}
+use Rattle.iloc_spec_grammar.proofs.IdentifierTexts.{identifier_means_again, same_identifier_meaning}
+use Rattle.iloc_spec_grammar.proofs.AnySteps.{length-identifier_means, identifier_chain_to_text, identifiers_lead_to_one}
 use Rattle.iloc_writeable.specs.Writing.{IsLent}
-use Rattle.iloc_langid.specs.Normalizing.{IsNormalizedFrom, RefusesNormalizing}
+use Rattle.iloc_langid.specs.Normalizing.{IsNormalizedIdentifier, NormalizingIdentifierWantsMemory}
 use Rattle.iloc_langid.specs.PlainTexts.{IsNormalOfPlain}
 
 -- the text of the meaning is the normal text
-pub is_normalized : (input : List ℕ) (i : Identifier) (t : List ℕ) → IdentifierMeans languages (pieces input) i → t ≡ identifier_text i → IsNormalizedFrom input t
+pub is_normalized : (input : List ℕ) (i : Identifier) (t : List ℕ) → IdentifierMeans languages (pieces input) i → t ≡ identifier_text i → IsNormalizedIdentifier input t
 is_normalized input i t m e = record {
   text_is = (i, m, e);
   again = (i, subst (λ u. IdentifierMeans languages (pieces u) i) (sym e) (identifier_means_again (pieces input) i m), e);
@@ -24,26 +22,18 @@ is_normalized input i t m e = record {
       let is : t ≡ identifier_text j = e ∙ ap identifier_text (one_meaning (pieces input) i j m mj) in
       (λ p. is ∙ by.0 p, λ p. by.1 (sym is ∙ p));
   long = λ u j mj mu. sym (length-identifier_means languages u j mu) ∙ ap length (sym (e ∙ ap identifier_text (one_meaning (pieces input) i j m mj)));
-  steps = subst (IdentifierChain languages 2 input) (sym e) (identifier_chain_to_text languages input i m);
+  steps = subst (Leads (IdentifierTextStep languages) 2 input) (sym e) (identifier_chain_to_text languages input i m);
   together = λ u j k mj mk. identifiers_lead_to_one languages input u j k mj mk;
 }
 
 -- memory was refused for the text of another than the input
-pub refuses_memory : (input : List ℕ) (i : Identifier) → IdentifierMeans languages (pieces input) i → (input ≡ identifier_text i → false ≡ true) → RefusesNormalizing input OutOfMemory
+pub refuses_memory : (input : List ℕ) (i : Identifier) → IdentifierMeans languages (pieces input) i → (input ≡ identifier_text i → false ≡ true) → NormalizingIdentifierWantsMemory input
 refuses_memory input i m other = inr (i, m, λ e. absurd (true≢false (sym (other e))))
-
--- as the reader refuses
-pub refuses : (t : List ℕ) (e : ParseError) → ReadsAs (pieces t) (Err e) → RefusesNormalizing t e
-refuses t InvalidLanguage h = h
-refuses t InvalidSubtag h = h
-refuses t InvalidExtension h = h
-refuses t DuplicatedExtension h = h
-refuses t OutOfMemory h = inl h
 
 -- what a plain text is normalised to
 
-pub plain_normal : {Z E : Type 0} (t : List ℕ) (c : CowStr Z) → IsNormalOfPlain {E = E} t (Ok c) → IsNormalizedFrom t (cow_str_bytes c) × (IsLent c ↔ (t ≡ cow_str_bytes c))
+pub plain_normal : {Z E : Type 0} (t : List ℕ) (c : CowStr Z) → IsNormalOfPlain {E = E} t (Ok c) → IsNormalizedIdentifier t (cow_str_bytes c) × (IsLent c ↔ (t ≡ cow_str_bytes c))
 plain_normal t c h = (is_normalized t h.identifier (cow_str_bytes c) h.means h.text, (λ l. h.borrowed.0 l ∙ sym h.text, λ e. h.borrowed.1 (e ∙ h.text)))
 
-pub plain_refused : {Z E : Type 0} (t : List ℕ) (e : E) → IsNormalOfPlain {Z = Z} t (Err e) → RefusesNormalizing t OutOfMemory
+pub plain_refused : {Z E : Type 0} (t : List ℕ) (e : E) → IsNormalOfPlain {Z = Z} t (Err e) → NormalizingIdentifierWantsMemory t
 plain_refused t e h = refuses_memory t h.identifier h.means h.succeeds

@@ -9,12 +9,14 @@ use Rattle.iloc_subtags.specs.declared.parse_error.ParseError.{ParseError}
 use Rattle.iloc_subtags.specs.declared.parse_error.ParseError.TheVariants.{InvalidLanguage, InvalidSubtag, InvalidExtension, DuplicatedExtension, OutOfMemory}
 use Rattle.iloc_langid.specs.declared.plain.PlainParts.{PlainParts}
 use Rattle.iloc_langid.specs.PlainReads.{IsPlainFront}
-use Rattle.iloc_langid.specs.SmallReads.{Parts, small_of, SmallReadsAs, front_parts, after_parts, SmallFrontGives}
+use Rattle.iloc_langid.specs.SmallReads.{Parts, small_of, SmallReads, front_parts, after_parts, SmallFrontReads}
 use Rattle.iloc_langid.proofs.FrontLemmas.{no_empty_language}
+use Rattle.iloc_spec_parts.specs.SmallComputing.{small_identifier}
+use Rattle.iloc_spec_parts.proofs.SmallShapes.{small_identifier_of, one_variant}
 use Rattle.iloc_spec_parts.proofs.SmallLaws.{short_different, small_identifier_means, one_small_identifier, small_identifier_apart, one_small_identifier_fault}
 use Rattle.iloc_spec_grammar.specs.Meaning.{Fault, IdentifierMeans}
-use Rattle.iloc_subtags.specs.Judging.{OfIdentifier, Accepts, Refuses}
-use Rattle.iloc_subtags.proofs.Judged.{Judges, accepts, refuses, of_identifier}
+use Rattle.iloc_subtags.specs.Judging.{Accepts, Refuses}
+use Rattle.iloc_subtags.proofs.Judged.{Judges, accepts, refuses}
 
 abbrev variant : List ℕ → Bool
 variant p = is_word Variant p
@@ -67,13 +69,11 @@ small_read p ps h e =
     let short : length (front_of (p ∷ ps)).variants ≤ 1 = subst (λ l. length l ≤ 1) (sym kept) one in
     let nothing : after_front (p ∷ ps) ≡ [] = left_are (p ∷ ps) ∙ past_none us all in
     let parts = parts_are (p ∷ ps) in
-    record {
-      written = front_of (p ∷ ps);
-      grammatical = record { words = front_words (p ∷ ps) h; different = short_different (front_of (p ∷ ps)).variants short };
-      spelled = sym (sym (append-nil (identifier_pieces (front_of (p ∷ ps)))) ∙ ap (λ l. identifier_pieces (front_of (p ∷ ps)) ++ l) (sym nothing) ∙ pieces-front_of p ps);
-      one_variant = short;
-      means = let l = sym parts.0 in let c = sym parts.1 in let r = sym parts.2 in λ i. record { language = lower (l i); script = option_map title (c i); region = option_map upper (r i); variant = (sym first ∙ ap (λ l. first_item (map lower l)) (sym kept)) i };
-    }
+    let is : small_of (front_parts (p ∷ ps)) ≡ small_identifier (front_of (p ∷ ps)) = let l = sym parts.0 in let c = sym parts.1 in let r = sym parts.2 in λ i. record { language = lower (l i); script = option_map title (c i); region = option_map upper (r i); variant = (sym first ∙ ap (λ l. first_item (map lower l)) (sym kept)) i } in
+    subst (IsSmallIdentifier languages (p ∷ ps)) (sym is) (small_identifier_of (p ∷ ps) (front_of (p ∷ ps))
+    (record { words = front_words (p ∷ ps) h; different = short_different (front_of (p ∷ ps)).variants short })
+    (sym (sym (append-nil (identifier_pieces (front_of (p ∷ ps)))) ∙ ap (λ l. identifier_pieces (front_of (p ∷ ps)) ++ l) (sym nothing) ∙ pieces-front_of p ps))
+    short)
 
 -- what follows the region of an identifier are its variants
 pub after_region-pieces : (w : Identifier) → HasWords languages w → after_region (identifier_pieces w) ≡ w.variants
@@ -89,29 +89,29 @@ pub small_left : (ps : List (List ℕ)) (r : SmallIdentifier) → IsSmallIdentif
 small_left ps r h =
     let e = after_region-pieces h.written h.grammatical.words in
     subst (λ l. after_parts l ≡ []) (sym h.spelled)
-    (ap (skip_first variant) e ∙ none_left h.written.variants h.one_variant h.grammatical.words.variants)
+    (ap (skip_first variant) e ∙ none_left h.written.variants (one_variant ps r h) h.grammatical.words.variants)
 
 no_parts : {P : Type 0} → IsWord (Language languages) [] → P
 no_parts h = absurd (true≢false (sym h ∙ no_empty_language))
 
-pub parts_whole : (ps rest : List (List ℕ)) (p : Parts) → SmallFrontGives ps rest (Ok p) → rest ≡ [] → SmallReadsAs ps (Ok p)
+pub parts_whole : (ps rest : List (List ℕ)) (p : Parts) → SmallFrontReads ps rest (Ok p) → rest ≡ [] → SmallReads ps (Ok p)
 parts_whole [] rest p g e = no_parts g.0
 parts_whole (q ∷ ps) rest p g e = subst (λ x. IsSmallIdentifier languages (q ∷ ps) (small_of x)) (sym g.1) (small_read q ps g.0 (sym g.2 ∙ e))
 
-pub parts_more : (ps rest : List (List ℕ)) (p : Parts) → SmallFrontGives ps rest (Ok p) → rest ≢ [] → SmallReadsAs ps (Err InvalidSubtag)
+pub parts_more : (ps rest : List (List ℕ)) (p : Parts) → SmallFrontReads ps rest (Ok p) → rest ≢ [] → SmallReads ps (Err InvalidSubtag)
 parts_more ps rest p g n = no_identifier g.0 (λ r h. n (g.2 ∙ small_left ps r h))
 
-pub parts_refused : (ps rest : List (List ℕ)) (e : ParseError) → SmallFrontGives ps rest (Err e) → SmallReadsAs ps (Err e)
-parts_refused ps rest InvalidLanguage g = no_language g
-parts_refused ps rest InvalidSubtag g = absurd g
-parts_refused ps rest InvalidExtension g = g
-parts_refused ps rest DuplicatedExtension g = g
+pub parts_refused : (ps rest : List (List ℕ)) (e : ParseError) → SmallFrontReads ps rest (Err e) → SmallReads ps (Err e)
+parts_refused ps rest InvalidLanguage g = no_language g.1
+parts_refused ps rest InvalidSubtag g = let other = g.0 in cc
+parts_refused ps rest InvalidExtension g = let other = g.0 in cc
+parts_refused ps rest DuplicatedExtension g = let other = g.0 in cc
 parts_refused ps rest OutOfMemory g = g
 
 -- the parts at the front, and a variant after them
 pub parts_give : (ps us rest : List (List ℕ)) (plain : PlainParts) (v : Option (List ℕ)) → IsPlainFront ps us plain
     → v ≡ option_map lower (take_first variant us) → rest ≡ skip_first variant us
-    → SmallFrontGives ps rest (Ok (plain.language, plain.script, plain.region, v))
+    → SmallFrontReads ps rest (Ok (plain.language, plain.script, plain.region, v))
 parts_give ps us rest plain v f e el =
     (f.word, (λ i. (f.language i, f.script i, f.region i, (e ∙ ap (λ x. option_map lower (take_first variant x)) f.after) i)), el ∙ ap (skip_first variant) f.after)
 
@@ -120,12 +120,12 @@ parts_give ps us rest plain v f e el =
 small_judges : (ps : List (List ℕ)) → Judges (IsSmallIdentifier languages ps) (HasSmallIdentifierFault languages ps)
 small_judges ps = record { one = one_small_identifier ps; apart = small_identifier_apart ps; one_fault = λ f g. one_small_identifier_fault ps }
 
-pub small_accepts : (ps : List (List ℕ)) (r : Result Parts ParseError) → SmallReadsAs ps r → (s : SmallIdentifier) → IsSmallIdentifier languages ps s → Accepts small_of ⊥ s r
-small_accepts ps r h = accepts small_of (OfIdentifier (HasSmallIdentifierFault languages ps)) ⊥ (small_judges ps) (of_identifier (HasSmallIdentifierFault languages ps)) r h
+pub small_accepts : (ps : List (List ℕ)) (r : Result Parts ParseError) → SmallReads ps r → (s : SmallIdentifier) → IsSmallIdentifier languages ps s → Accepts small_of ⊥ s r
+small_accepts ps r h = accepts small_of ⊥ (small_judges ps) r h
 
-pub small_refuses : (ps : List (List ℕ)) (r : Result Parts ParseError) → SmallReadsAs ps r → (f : Fault) → HasSmallIdentifierFault languages ps f → Refuses ⊥ f r
-small_refuses ps r h = refuses small_of (OfIdentifier (HasSmallIdentifierFault languages ps)) ⊥ (small_judges ps) (of_identifier (HasSmallIdentifierFault languages ps)) r h
+pub small_refuses : (ps : List (List ℕ)) (r : Result Parts ParseError) → SmallReads ps r → (f : Fault) → HasSmallIdentifierFault languages ps f → Refuses ⊥ f r
+small_refuses ps r h = refuses small_of ⊥ (small_judges ps) r h
 
-pub small_means : (ps : List (List ℕ)) (r : Result Parts ParseError) → SmallReadsAs ps r → IfOk r (λ p. IdentifierMeans languages ps (identifier_of_small (small_of p)))
+pub small_means : (ps : List (List ℕ)) (r : Result Parts ParseError) → SmallReads ps r → IfOk r (λ p. IdentifierMeans languages ps (identifier_of_small (small_of p)))
 small_means ps (Ok p) h = small_identifier_means ps (small_of p) h
 small_means ps (Err e) h = tt

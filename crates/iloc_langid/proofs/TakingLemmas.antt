@@ -20,7 +20,7 @@ use Rattle.iloc_subtags.proofs.TakingLemmas.{took, took_none}
 use Rattle.iloc_word_set.proofs.CollectorLaws.{permuted_set, differ, taken_in, known_there, one_more}
 use Rattle.iloc_subtags.specs.declared.parse_error.ParseError.{ParseError}
 use Rattle.iloc_subtags.specs.declared.parse_error.ParseError.TheVariants.{InvalidLanguage, InvalidSubtag, InvalidExtension, DuplicatedExtension, OutOfMemory}
-use Rattle.iloc_langid.specs.Reads.{VariantsGive}
+use Rattle.iloc_langid.specs.Reads.{VariantsReads}
 use Rattle.iloc_langid.proofs.LowercaseLemmas.{lower-variants}
 
 -- of the variants before, those up to now are taken, as these words
@@ -89,7 +89,7 @@ different_permutation : (vs ws : List (List ℕ)) → IsPermutation vs ws → Al
 different_permutation vs ws p d = differ ws (ap length (sym (permuted_set vs ws p)) ∙ length-set_of-different vs d ∙ sym (length_permutation vs ws p))
 
 -- what is read after them is read of all
-pub taken_after : (before now ws rest : List (List ℕ)) → Taking before now ws → AllByRecursion (IsNormal Variant) ws → (r : Result (List (List ℕ)) ParseError) → VariantsGive (ws ++ now) rest r → VariantsGive before rest r
+pub taken_after : (before now ws rest : List (List ℕ)) → Taking before now ws → AllByRecursion (IsNormal Variant) ws → (r : Result (List (List ℕ)) ParseError) → VariantsReads (ws ++ now) rest r → VariantsReads before rest r
 taken_after before now ws rest t n r = by r
   where
     kept : map lower (passing (is_word Variant) (ws ++ now)) ≡ ws ++ map lower (passing (is_word Variant) now)
@@ -104,13 +104,13 @@ taken_after before now ws rest t n r = by r
     as_many : length (passing (is_word Variant) (ws ++ now)) ≡ length (passing (is_word Variant) before)
     as_many = sym (length-map _ lower) ∙ length_permutation _ _ same ∙ length-map _ lower
 
-    by : (r : Result (List (List ℕ)) ParseError) → VariantsGive (ws ++ now) rest r → VariantsGive before rest r
+    by : (r : Result (List (List ℕ)) ParseError) → VariantsReads (ws ++ now) rest r → VariantsReads before rest r
     by (Ok vs) v = (v.0 ∙ sym (permuted_set _ _ same), different_permutation _ _ (IsPermutation-sym _ _ same) v.1, v.2 ∙ (few_pass ws now n).1 ∙ sym t.skips)
-    by (Err InvalidSubtag) v = λ d. v (different_permutation _ _ same d)
+    by (Err InvalidSubtag) v = (refl, λ d. v.1 (different_permutation _ _ same d))
     by (Err OutOfMemory) v = subst (λ k. 4 < k) as_many v
-    by (Err InvalidLanguage) v = v
-    by (Err InvalidExtension) v = v
-    by (Err DuplicatedExtension) v = v
+    by (Err InvalidLanguage) v = let other = v.0 in cc
+    by (Err InvalidExtension) v = let other = v.0 in cc
+    by (Err DuplicatedExtension) v = let other = v.0 in cc
 
 -- all are taken
 module _ (before now words : List (List ℕ)) (t : Taking before now words) (none : (passing (is_word Variant) now ≡ []) × (past (is_word Variant) now ≡ now)) (set : List (List ℕ)) (e : set ≡ set_of words) where
@@ -121,7 +121,7 @@ module _ (before now words : List (List ℕ)) (t : Taking before now words) (non
   set_is = e ∙ sym (permuted_set _ _ all_of)
 
   -- as many in the set: all differ
-  pub taken_all : (length set < length words → ⊥) → VariantsGive before now (Ok set)
+  pub taken_all : (length set < length words → ⊥) → VariantsReads before now (Ok set)
   taken_all many =
       let l = length_permutation _ _ all_of in
       let n = length-set_of words in
@@ -136,10 +136,10 @@ module _ (before now words : List (List ℕ)) (t : Taking before now words) (non
       let n = ap length set_is ∙ length-set_of-different _ d in
       omega (arith, fewer, l, n)
 
-pub more_done : (before now words later set : List (List ℕ)) → Taking before now words → None ≡ option_map (normal Variant) (take_first (is_word Variant) now) → later ≡ skip_first (is_word Variant) now → set ≡ set_of words → (length set < length words → ⊥) → VariantsGive before later (Ok set)
+pub more_done : (before now words later set : List (List ℕ)) → Taking before now words → None ≡ option_map (normal Variant) (take_first (is_word Variant) now) → later ≡ skip_first (is_word Variant) now → set ≡ set_of words → (length set < length words → ⊥) → VariantsReads before later (Ok set)
 more_done before now words later set t e l is many =
     let (ended, past_is, stays) = took_none Variant now e in
-    subst (λ rest. VariantsGive before rest (Ok set)) (sym (l ∙ stays)) (taken_all before now words t (ended, past_is) set is many)
+    subst (λ rest. VariantsReads before rest (Ok set)) (sym (l ∙ stays)) (taken_all before now words t (ended, past_is) set is many)
 
 pub more_twice : (before now words set : List (List ℕ)) → Taking before now words → None ≡ option_map (normal Variant) (take_first (is_word Variant) now) → set ≡ set_of words → length set < length words → ¬ (AllDifferent word_cmp (map lower (passing (is_word Variant) before)))
 more_twice before now words set t e is fewer =
@@ -205,7 +205,7 @@ module _ (before now set : List (List ℕ)) (t : TakingFew before now set) (w : 
     short = below _ few_length fewer;
   }
 
-  pub few_more : added ≡ true → (rest : List (List ℕ)) (r : Result (List (List ℕ)) ParseError) → VariantsGive (more ++ later) rest r → VariantsGive before rest r
+  pub few_more : added ≡ true → (rest : List (List ℕ)) (r : Result (List (List ℕ)) ParseError) → VariantsReads (more ++ later) rest r → VariantsReads before rest r
   few_more new rest r = taken_after before later more rest (few_taken new) few_normal r
 
   pub few_old : added ≡ false → ¬ (AllDifferent word_cmp (map lower (passing (is_word Variant) before)))
@@ -214,7 +214,7 @@ module _ (before now set : List (List ℕ)) (t : TakingFew before now set) (w : 
 not_less : (n : ℕ) → n < n → ⊥
 not_less n l = omega (arith, l)
 
-pub few_done : (before now set later : List (List ℕ)) → TakingFew before now set → None ≡ option_map (normal Variant) (take_first (is_word Variant) now) → later ≡ skip_first (is_word Variant) now → VariantsGive before later (Ok set)
+pub few_done : (before now set later : List (List ℕ)) → TakingFew before now set → None ≡ option_map (normal Variant) (take_first (is_word Variant) now) → later ≡ skip_first (is_word Variant) now → VariantsReads before later (Ok set)
 few_done before now set later t e l = more_done before now set later set t.taking e l (sym (set_of_ascending set t.ascending)) (not_less (length set))
 
 -- a variant that no other follows
@@ -223,7 +223,7 @@ ended : (ps : List (List ℕ)) → EndsBefore (is_word Variant) ps → (passing 
 ended [] h = (refl, refl)
 ended (p ∷ ps) h = (rw h refl, rw h refl)
 
-pub one_variant : (ps rest : List (List ℕ)) (v : List ℕ) → Some v ≡ option_map lower (take_first (is_word Variant) ps) → rest ≡ skip_first (is_word Variant) ps → EndsBefore (is_word Variant) rest → VariantsGive ps rest (Ok (v ∷ []))
+pub one_variant : (ps rest : List (List ℕ)) (v : List ℕ) → Some v ≡ option_map lower (take_first (is_word Variant) ps) → rest ≡ skip_first (is_word Variant) ps → EndsBefore (is_word Variant) rest → VariantsReads ps rest (Ok (v ∷ []))
 one_variant ps rest v e r ends =
     let (p, h, same, cut) = took Variant ps v e in
     let whole : ps ≡ p ∷ rest = cut ∙ ap (λ l. p ∷ l) (sym r) in

@@ -1,5 +1,5 @@
 -- Pieces and variants that are the same, in whatever order and case.
-use Rattle.std.specs.Prelude.{ℕ, Bool, ◌==◌, ◌&&◌, List, length}
+use Rattle.std.specs.Prelude.{Bool, ◌==◌, ◌&&◌, List, length}
 use Rattle.std.specs.List.{AllByRecursion, list_any, list_all}
 use Rattle.iloc_spec_grammar.specs.Syntax.{Text, Variant, lower, is_same}
 use Rattle.iloc_spec_grammar.specs.Values.{IsNormal, IsAscending}

@@ -1,9 +1,9 @@
 -- What the reader of small locales answers.
-use Rattle.std.specs.Prelude.{ℕ, List, Option, Result}
+use Rattle.std.specs.Prelude.{Option, Result}
 use Rattle.iloc_spec_grammar.specs.Syntax.{Text, languages}
 use Rattle.iloc_spec_parts.specs.Small.{SmallLocale, IsSmall, HasSmallFault}
 use Rattle.iloc_subtags.specs.declared.parse_error.ParseError.{ParseError}
-use Rattle.iloc_subtags.specs.Judging.{Answers, ButDuplicate}
+use Rattle.iloc_subtags.specs.Judging.{Answers}
 
 -- a key, and perhaps a value
 abbrev pub Keyword : Type 0
@@ -18,6 +18,6 @@ abbrev pub small_locale_of : LocaleParts → SmallLocale
 small_locale_of p = record { id = record { language = p.0; script = p.1; region = p.2; variant = p.3 }; keyword = p.4 }
 
 -- what a text is read as, as a whole; it allocates nothing
-abbrev pub SmallLocaleReadsAs : Text → Result LocaleParts ParseError → Type 0
-SmallLocaleReadsAs t = Answers (λ p. IsSmall languages t (small_locale_of p))
-    (ButDuplicate (HasSmallFault languages t)) ⊥
+abbrev pub SmallLocaleTextReads : Text → Result LocaleParts ParseError → Type 0
+SmallLocaleTextReads t = Answers (λ p. IsSmall languages t (small_locale_of p))
+    (HasSmallFault languages t) ⊥

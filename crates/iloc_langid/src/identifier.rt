@@ -1,13 +1,13 @@
 //! Language identifiers.
-ghost use Rattle.std.specs.Prelude.{◌≡◌, ◌↔◌, IsTrue, IfSome, Ok, OnErr};
+ghost use Rattle.std.specs.Prelude.{◌≡◌, ◌↔◌, ⊤, IsTrue, IfSome, Ok, OnErr};
 ghost use Rattle.std.specs.Result.{result_and};
 ghost use Rattle.std.specs.Ordering.{nat_cmp};
 ghost use Rattle.std.specs.Cmp.Lexicographic.{slice_cmp};
-ghost use Rattle.iloc_spec_grammar.specs.Syntax.{languages, pieces, head, Identifier};
+ghost use Rattle.iloc_spec_grammar.specs.Syntax.{languages, two_or_three, pieces, head, Identifier};
 ghost use Rattle.iloc_spec_grammar.specs.Meaning.{IdentifierMeans, Fault, HasIdentifierFault};
 ghost use Rattle.iloc_spec_grammar.specs.Values.{IsIdentifierValue, IsNormal, identifier_text};
 ghost use Rattle.iloc_spec_parts.specs.Orders.{identifier_cmp};
-ghost use Rattle.iloc_subtags.specs.Judging.{Accepts, Refuses};
+ghost use Rattle.iloc_subtags.specs.Judging.{Accepts, Refuses, RunsOutOnlyIf};
 ghost use Rattle.iloc_langid.specs.Unknown.{unknown_identifier};
 
 use crate::reader::{read_head, read_whole};
@@ -38,7 +38,7 @@ pub struct LanguageIdentifier {
 }
 
 impl LanguageIdentifier {
-    ghost use Rattle.iloc_langid.specs.Reads.{value_of, ReadsAs, WantsMemory, KeepsNarrow, AcceptsNarrow, KeepsThroughSteps};
+    ghost use Rattle.iloc_langid.specs.Reads.{value_of, IdentifierReads, IdentifierWantsMemory, KeepsThroughSteps};
 
     /// The unknown identifier, `und`.
     pub fn unknown() -> Self
@@ -74,14 +74,15 @@ impl LanguageIdentifier {
     /// variants stand in the text. Steps of rewriting keep what is parsed, and so does the wider table of
     /// languages: what is accepted with languages of two or three letters is read with the same value.
     pub fn try_from_utf8(alloc: Global, code_units: &[u8]) -> Result<Self, ParseError>
-        ensures reads { ReadsAs (pieces code_units.now) result }
+        ensures reads { IdentifierReads (pieces code_units.now) result }
         ensures accepted { (i : Identifier) → IdentifierMeans languages (pieces code_units.now) i
-            → Accepts value_of (WantsMemory (pieces code_units.now)) i result }
+            → Accepts value_of ⊤ i result }
         ensures refused { (f : Fault) → HasIdentifierFault languages (pieces code_units.now) f
-            → Refuses (WantsMemory (pieces code_units.now)) f result }
+            → Refuses ⊤ f result }
+        ensures memory { RunsOutOnlyIf (IdentifierWantsMemory (pieces code_units.now)) result }
         ensures steps { KeepsThroughSteps code_units.now result }
-        ensures narrow { KeepsNarrow code_units.now result }
-        ensures narrow_accepted { AcceptsNarrow code_units.now result }
+        ensures narrow { (i : Identifier) → IdentifierMeans two_or_three (pieces code_units.now) i
+            → Accepts value_of ⊤ i result }
     {
         read_whole(alloc, &mut SubtagIterator::new(code_units))
     }
@@ -98,14 +99,15 @@ impl LanguageIdentifier {
 
     /// Parses all of a `str`, as `try_from_utf8` parses bytes.
     pub fn try_from_str(alloc: Global, s: &str) -> Result<Self, ParseError>
-        ensures reads { ReadsAs (pieces s.now) result }
+        ensures reads { IdentifierReads (pieces s.now) result }
         ensures accepted { (i : Identifier) → IdentifierMeans languages (pieces s.now) i
-            → Accepts value_of (WantsMemory (pieces s.now)) i result }
+            → Accepts value_of ⊤ i result }
         ensures refused { (f : Fault) → HasIdentifierFault languages (pieces s.now) f
-            → Refuses (WantsMemory (pieces s.now)) f result }
+            → Refuses ⊤ f result }
+        ensures memory { RunsOutOnlyIf (IdentifierWantsMemory (pieces s.now)) result }
         ensures steps { KeepsThroughSteps s.now result }
-        ensures narrow { KeepsNarrow s.now result }
-        ensures narrow_accepted { AcceptsNarrow s.now result }
+        ensures narrow { (i : Identifier) → IdentifierMeans two_or_three (pieces s.now) i
+            → Accepts value_of ⊤ i result }
     {
         Self::try_from_utf8(alloc, s.as_bytes())
     }
@@ -113,11 +115,12 @@ impl LanguageIdentifier {
     /// Parses the identifier of a locale: up to the first piece of one byte that isn't the first piece. What
     /// follows is ignored.
     pub fn try_from_locale_bytes(alloc: Global, v: &[u8]) -> Result<Self, ParseError>
-        ensures reads { ReadsAs (head (pieces v.now)) result }
+        ensures reads { IdentifierReads (head (pieces v.now)) result }
         ensures accepted { (i : Identifier) → IdentifierMeans languages (head (pieces v.now)) i
-            → Accepts value_of (WantsMemory (head (pieces v.now))) i result }
+            → Accepts value_of ⊤ i result }
         ensures refused { (f : Fault) → HasIdentifierFault languages (head (pieces v.now)) f
-            → Refuses (WantsMemory (head (pieces v.now))) f result }
+            → Refuses ⊤ f result }
+        ensures memory { RunsOutOnlyIf (IdentifierWantsMemory (head (pieces v.now))) result }
     {
         read_head(alloc, &mut SubtagIterator::new(v))
     }
@@ -180,12 +183,14 @@ impl Pieces for LanguageIdentifier {
 /// Prints the normal text: language, script, region, variants ascending, joined by hyphens. It is borrowed
 /// if there is a language and nothing else.
 impl Writeable for LanguageIdentifier {
-    ghost use Rattle.iloc_langid.specs.Reads.{value_of, IsLanguageAlone};
+    ghost use Rattle.std.specs.Prelude.{IsSome};
+    ghost use Rattle.iloc_langid.specs.Reads.{value_of, IsIdentifierLanguageAlone};
+    ghost use Rattle.iloc_spec_grammar.specs.Syntax.{Language as the_kind};
     ghost use Rattle.iloc_spec_grammar.specs.Values.{identifier_text};
 
     ghost text = { λ i. identifier_text (value_of i) };
 
-    ghost lends = { IsLanguageAlone };
+    ghost lends = { IsIdentifierLanguageAlone };
 
     #[tactic(auto, unfolding(iloc_spec_grammar::specs::Values::identifier_text, iloc_spec_grammar::specs::Syntax::join))]
     fn write_to<S: Sink>(&self, sink: &mut S) -> fmt::Result {
@@ -193,7 +198,11 @@ impl Writeable for LanguageIdentifier {
     }
 
     #[tactic(auto, unfolding(iloc_spec_grammar::specs::Values::identifier_text, iloc_spec_grammar::specs::Syntax::join))]
-    fn writeable_borrow(&self) -> Option<&str> {
+    fn writeable_borrow(&self) -> Option<&str>
+        ensures lends { IsSome result ↔ IsIdentifierLanguageAlone self.now }
+        ensures text { IfSome result (λ t. t.now ≡ identifier_text (value_of self.now)) }
+        ensures normal { IsSome result → IsNormal (the_kind languages) self.now.language }
+    {
         if self.script.is_none() && self.region.is_none() && self.variants.is_empty() {
             return Some(self.language.as_str());
         }
@@ -205,7 +214,7 @@ impl LanguageIdentifier {
     ghost use Rattle.std.specs.Prelude.{IfOk, IsOkAnd};
     ghost use Rattle.std.specs.Cow.{cow_str_bytes};
     ghost use Rattle.iloc_writeable.specs.Writing.{IsLent};
-    ghost use Rattle.iloc_langid.specs.Reads.{value_of, IsLanguageAlone, IdentifierMeansOnly};
+    ghost use Rattle.iloc_langid.specs.Reads.{value_of, IsIdentifierLanguageAlone, IdentifierMeansOnly};
 
     /// Returns the printed text, borrowed exactly if the identifier is a language alone.
     ///
@@ -215,8 +224,8 @@ impl LanguageIdentifier {
         ensures text { IfOk result (λ t. cow_str_bytes t ≡ identifier_text (value_of self.now)) }
         ensures back { IfOk result
             (λ t. IdentifierMeansOnly (cow_str_bytes t) (value_of self.now)) }
-        ensures lent { IsLanguageAlone self.now → IsOkAnd result IsLent }
-        ensures owned { IfOk result (λ t. IsLent t → IsLanguageAlone self.now) }
+        ensures lent { IsIdentifierLanguageAlone self.now → IsOkAnd result IsLent }
+        ensures owned { IfOk result (λ t. IsLent t → IsIdentifierLanguageAlone self.now) }
     {
         // (it states that every identifier is a value, without which `back` would not be known)
         let _ = self.is_unknown();

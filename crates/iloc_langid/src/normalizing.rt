@@ -1,8 +1,9 @@
 //! Normal texts of identifiers, and whether a text means an identifier.
-ghost use Rattle.std.specs.Prelude.{◌≡◌, ◌↔◌, IsTrue, IfOk, IfErr};
+ghost use Rattle.std.specs.Prelude.{◌≡◌, ◌↔◌, ⊤, IsTrue, IfOk, IfErr};
 ghost use Rattle.std.specs.Cow.{cow_str_bytes};
 ghost use Rattle.iloc_spec_grammar.specs.Syntax.{pieces, languages};
-ghost use Rattle.iloc_spec_grammar.specs.Meaning.{IdentifierMeans};
+ghost use Rattle.iloc_spec_grammar.specs.Meaning.{IdentifierMeans, HasIdentifierFault};
+ghost use Rattle.iloc_subtags.specs.Judging.{Refusal, RunsOutOnlyIf};
 ghost use Rattle.iloc_writeable.specs.Writing.{IsLent};
 
 use crate::agreeing::has_variants;
@@ -15,7 +16,7 @@ use std::borrow::CowStr;
 
 impl LanguageIdentifier {
     ghost use Rattle.iloc_langid.specs.Reads.{value_of};
-    ghost use Rattle.iloc_langid.specs.Normalizing.{IsNormalizedFrom, RefusesNormalizing};
+    ghost use Rattle.iloc_langid.specs.Normalizing.{IsNormalizedIdentifier, NormalizingIdentifierWantsMemory};
 
     /// The normal text of what the text means, borrowed exactly if the text is that already.
     ///
@@ -23,9 +24,10 @@ impl LanguageIdentifier {
     /// Normalizing twice is once; texts mean the same exactly if their normal texts are equal; each text
     /// of a meaning is as long; two steps, in case and in the order of variants, lead there.
     pub fn normalize_utf8(alloc: Global, input: &[u8]) -> Result<CowStr<'_, Global>, ParseError>
-        ensures ok { IfOk result (λ text. IsNormalizedFrom input.now (cow_str_bytes text)
+        ensures ok { IfOk result (λ text. IsNormalizedIdentifier input.now (cow_str_bytes text)
             × (IsLent text ↔ (input.now ≡ cow_str_bytes text))) }
-        ensures err { IfErr result (RefusesNormalizing input.now) }
+        ensures err { IfErr result (Refusal (HasIdentifierFault languages (pieces input.now)) ⊤) }
+        ensures memory { RunsOutOnlyIf (NormalizingIdentifierWantsMemory input.now) result }
     {
         match normalize_plain(alloc, input) {
             Some(normal) => Ok(normal?),
@@ -36,9 +38,10 @@ impl LanguageIdentifier {
     // The same by parsing the text.
     #[inline(never)]
     fn normalize_parsed(alloc: Global, input: &[u8]) -> Result<CowStr<'_, Global>, ParseError>
-        ensures ok { IfOk result (λ text. IsNormalizedFrom input.now (cow_str_bytes text)
+        ensures ok { IfOk result (λ text. IsNormalizedIdentifier input.now (cow_str_bytes text)
             × (IsLent text ↔ (input.now ≡ cow_str_bytes text))) }
-        ensures err { IfErr result (RefusesNormalizing input.now) }
+        ensures err { IfErr result (Refusal (HasIdentifierFault languages (pieces input.now)) ⊤) }
+        ensures memory { RunsOutOnlyIf (NormalizingIdentifierWantsMemory input.now) result }
     {
         let identifier = Self::try_from_utf8(alloc, input)?;
         Ok(to_string_or_borrow(alloc, &identifier, input)?)
@@ -46,9 +49,10 @@ impl LanguageIdentifier {
 
     /// Returns the normalized text of a `str`, as `normalize_utf8` does for bytes.
     pub fn normalize(alloc: Global, input: &str) -> Result<CowStr<'_, Global>, ParseError>
-        ensures ok { IfOk result (λ text. IsNormalizedFrom input.now (cow_str_bytes text)
+        ensures ok { IfOk result (λ text. IsNormalizedIdentifier input.now (cow_str_bytes text)
             × (IsLent text ↔ (input.now ≡ cow_str_bytes text))) }
-        ensures err { IfErr result (RefusesNormalizing input.now) }
+        ensures err { IfErr result (Refusal (HasIdentifierFault languages (pieces input.now)) ⊤) }
+        ensures memory { RunsOutOnlyIf (NormalizingIdentifierWantsMemory input.now) result }
     {
         Self::normalize_utf8(alloc, input.as_bytes())
     }

@@ -4,7 +4,8 @@ ghost use Rattle.std.specs.Result.{result_and};
 ghost use Rattle.iloc_spec_grammar.specs.Syntax.{pieces, head};
 ghost use Rattle.iloc_spec_grammar.specs.Reading.{after_head};
 ghost use Rattle.iloc_subtags.specs.Left.{left};
-ghost use Rattle.iloc_langid.specs.Reads.{value_of, VariantsGive, FrontGives, FrontReadsAs, ReadsAs};
+ghost use Rattle.iloc_subtags.specs.Judging.{RunsOutOnlyIf};
+ghost use Rattle.iloc_langid.specs.Reads.{value_of, VariantsReads, FrontReadsBy, FrontReads, IdentifierReads, IdentifierWantsMemory};
 ghost use Rattle.iloc_langid.specs.Unknown.{unknown_identifier};
 
 use crate::identifier::LanguageIdentifier;
@@ -24,7 +25,7 @@ fn fill_variants(
     iter: &mut SubtagIterator<'_>,
     variants: &mut Variants,
 ) -> Result<(), ParseError>
-    ensures { VariantsGive (left iter.old) (left iter.new) (result_and result (Ok variants.new)) }
+    ensures { VariantsReads (left iter.old) (left iter.new) (result_and result (Ok variants.new)) }
 {
     let Some(first) = take_word::<VariantKind, 8>(iter) else {
         if !variants.is_empty() {
@@ -47,7 +48,7 @@ fn add_variants(
     variants: &mut Variants,
 ) -> Result<(), ParseError>
     requires { length variants.old < 4 }
-    ensures { VariantsGive (variants.old ++ left iter.old) (left iter.new)
+    ensures { VariantsReads (variants.old ++ left iter.old) (left iter.new)
         (result_and result (Ok variants.new)) }
 {
     variants.as_slice();
@@ -72,7 +73,7 @@ fn read_more_variants(
     four: Variants,
 ) -> Result<Variants, ParseError>
     requires { length four ≡ 4 }
-    ensures { VariantsGive (four ++ left iter.old) (left iter.new) result }
+    ensures { VariantsReads (four ++ left iter.old) (left iter.new) result }
 {
     four.as_slice();
     let mut words = WordCollector::from_set(four);
@@ -96,7 +97,7 @@ fn fill(
     iter: &mut SubtagIterator<'_>,
     identifier: &mut LanguageIdentifier,
 ) -> Result<(), ParseError>
-    ensures { FrontGives (left iter.old) (left iter.new) (result_and result (Ok identifier.new)) }
+    ensures { FrontReadsBy (left iter.old) (left iter.new) (result_and result (Ok identifier.new)) }
 {
     let Some(plain) = take_plain(iter) else {
         return Err(ParseError::InvalidLanguage);
@@ -112,7 +113,7 @@ pub fn read_front(
     alloc: Global,
     iter: &mut SubtagIterator<'_>,
 ) -> Result<LanguageIdentifier, ParseError>
-    ensures { FrontReadsAs (left iter.old) (left iter.new) result }
+    ensures { FrontReads (left iter.old) (left iter.new) result }
 {
     let mut identifier = LanguageIdentifier::unknown();
     fill_front(alloc, iter, &mut identifier)?;
@@ -125,7 +126,7 @@ pub fn fill_front(
     iter: &mut SubtagIterator<'_>,
     identifier: &mut LanguageIdentifier,
 ) -> Result<(), ParseError>
-    ensures { FrontReadsAs (left iter.old) (left iter.new) (result_and result (Ok identifier.new)) }
+    ensures { FrontReads (left iter.old) (left iter.new) (result_and result (Ok identifier.new)) }
 {
     fill(alloc, iter, identifier)
 }
@@ -135,7 +136,8 @@ pub fn read_whole(
     alloc: Global,
     iter: &mut SubtagIterator<'_>,
 ) -> Result<LanguageIdentifier, ParseError>
-    ensures reads { ReadsAs (left iter.old) result }
+    ensures reads { IdentifierReads (left iter.old) result }
+    ensures memory { RunsOutOnlyIf (IdentifierWantsMemory (left iter.old)) result }
     ensures rest { OnOk result (left iter.new ≡ []) }
 {
     let mut identifier = LanguageIdentifier::unknown();
@@ -150,7 +152,8 @@ pub fn fill_whole(
     iter: &mut SubtagIterator<'_>,
     identifier: &mut LanguageIdentifier,
 ) -> Result<(), ParseError>
-    ensures reads { ReadsAs (left iter.old) (result_and result (Ok identifier.new)) }
+    ensures reads { IdentifierReads (left iter.old) (result_and result (Ok identifier.new)) }
+    ensures memory { RunsOutOnlyIf (IdentifierWantsMemory (left iter.old)) result }
     ensures rest { OnOk result (left iter.new ≡ []) }
 {
     fill(alloc, iter, identifier)?;
@@ -168,7 +171,9 @@ pub fn read_into(
     code_units: &[u8],
     identifier: &mut LanguageIdentifier,
 ) -> Result<(), ParseError>
-    ensures reads { ReadsAs (pieces code_units.now) (result_and result (Ok identifier.new)) }
+    ensures reads { IdentifierReads (pieces code_units.now)
+        (result_and result (Ok identifier.new)) }
+    ensures memory { RunsOutOnlyIf (IdentifierWantsMemory (pieces code_units.now)) result }
     ensures refused { OnErr result (value_of identifier.new ≡ unknown_identifier) }
 {
     let answer = fill_whole(alloc, &mut SubtagIterator::new(code_units), identifier);
@@ -183,7 +188,8 @@ pub fn read_head(
     alloc: Global,
     iter: &mut SubtagIterator<'_>,
 ) -> Result<LanguageIdentifier, ParseError>
-    ensures reads { ReadsAs (head (left iter.old)) result }
+    ensures reads { IdentifierReads (head (left iter.old)) result }
+    ensures memory { RunsOutOnlyIf (IdentifierWantsMemory (head (left iter.old))) result }
     ensures rest { OnOk result (left iter.new ≡ after_head (left iter.old)) }
 {
     let mut identifier = LanguageIdentifier::unknown();
@@ -197,7 +203,8 @@ pub fn fill_head(
     iter: &mut SubtagIterator<'_>,
     identifier: &mut LanguageIdentifier,
 ) -> Result<(), ParseError>
-    ensures reads { ReadsAs (head (left iter.old)) (result_and result (Ok identifier.new)) }
+    ensures reads { IdentifierReads (head (left iter.old)) (result_and result (Ok identifier.new)) }
+    ensures memory { RunsOutOnlyIf (IdentifierWantsMemory (head (left iter.old))) result }
     ensures rest { OnOk result (left iter.new ≡ after_head (left iter.old)) }
 {
     fill(alloc, iter, identifier)?;

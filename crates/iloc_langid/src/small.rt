@@ -10,7 +10,7 @@ ghost use Rattle.iloc_spec_parts.specs.Small.{
 };
 ghost use Rattle.iloc_subtags.specs.Judging.{Accepts, Refuses};
 ghost use Rattle.iloc_subtags.specs.Left.{left};
-ghost use Rattle.iloc_langid.specs.SmallReads.{SmallFrontGives, SmallReadsAs, small_of};
+ghost use Rattle.iloc_langid.specs.SmallReads.{SmallFrontReads, SmallReads, small_of};
 
 use crate::identifier::LanguageIdentifier;
 use crate::plain::take_plain;
@@ -24,7 +24,7 @@ pub type SmallParts = (Language, Option<Script>, Option<Region>, Option<Variant>
 /// Takes the subtags at the front, each if it fits, and one variant at most. `InvalidLanguage` if the
 /// first piece is no language.
 pub fn read_small_front(iter: &mut SubtagIterator<'_>) -> Result<SmallParts, ParseError>
-    ensures { SmallFrontGives (left iter.old) (left iter.new) result }
+    ensures { SmallFrontReads (left iter.old) (left iter.new) result }
 {
     let Some(plain) = take_plain(iter) else {
         return Err(ParseError::InvalidLanguage);
@@ -40,7 +40,7 @@ impl LanguageIdentifier {
     /// Refuses with `InvalidLanguage` if the first piece is no language, and with `InvalidSubtag` for
     /// anything else, a second variant among it, even an equal one.
     pub fn try_from_utf8_with_single_variant(code_units: &[u8]) -> Result<SmallParts, ParseError>
-        ensures reads { SmallReadsAs (pieces code_units.now) result }
+        ensures reads { SmallReads (pieces code_units.now) result }
         ensures accepted { (r : SmallIdentifier)
             → IsSmallIdentifier languages (pieces code_units.now) r
             → Accepts small_of ⊥ r result }
@@ -55,7 +55,7 @@ impl LanguageIdentifier {
 
 // Takes all of the text.
 fn read_small_whole(code_units: &[u8]) -> Result<SmallParts, ParseError>
-    ensures { SmallReadsAs (pieces code_units.now) result }
+    ensures { SmallReads (pieces code_units.now) result }
 {
     let mut iter = SubtagIterator::new(code_units);
     let parts = read_small_front(&mut iter)?;

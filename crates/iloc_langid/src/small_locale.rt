@@ -3,7 +3,7 @@ ghost use Rattle.std.specs.Prelude.{◌≡◌, []};
 ghost use Rattle.iloc_spec_grammar.specs.Syntax.{code_u};
 ghost use Rattle.iloc_spec_grammar.specs.Syntax as words;
 ghost use Rattle.iloc_subtags.specs.Left.{left};
-ghost use Rattle.iloc_langid.specs.SmallLocaleReads.{SmallLocaleReadsAs};
+ghost use Rattle.iloc_langid.specs.SmallLocaleReads.{SmallLocaleTextReads};
 ghost use Rattle.iloc_langid.specs.BlockReads.{
   answer_of,
   block_result,
@@ -37,7 +37,7 @@ pub type SmallLocaleParts = (
 /// is no letter or digit, and a `u` that neither a key nor an attribute follows; and with `InvalidSubtag`
 /// everything else.
 pub fn read_small_locale(code_units: &[u8]) -> Result<SmallLocaleParts, ParseError>
-    ensures { SmallLocaleReadsAs code_units.now result }
+    ensures { SmallLocaleTextReads code_units.now result }
 {
     let mut iter = SubtagIterator::new(code_units);
     let (language, script, region, variant) = read_small_front(&mut iter)?;

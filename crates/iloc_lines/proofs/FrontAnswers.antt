@@ -6,20 +6,20 @@ use Rattle.std.specs.List.{AllByRecursion}
 use Rattle.std.proofs.lemmas.Bool.{cases_Bool, true≢false}
 use Rattle.iloc_spec_grammar.specs.Syntax.{pieces, Language, is_word, IsWord, languages, front, blocks, head, tail_blocks, first_piece}
 use Rattle.iloc_spec_grammar.specs.Reading.{rest_of, from_block, starts_block, front_of, after_front, after_region, identifier_of}
-use Rattle.iloc_spec_grammar.specs.Meaning.{Fault, SpellsIdentifier, not_a_language, not_an_identifier}
+use Rattle.iloc_spec_grammar.specs.Meaning.{Fault, SpellsIdentifier, not_a_language, not_an_identifier, in_head}
 use Rattle.iloc_spec_grammar.specs.Meaning as faults
 use Rattle.iloc_spec_grammar.proofs.PiecesLaws.{at_pieces, pieces_nonempty}
 use Rattle.iloc_spec_grammar.proofs.RawLaws.{languages_table}
 use Rattle.iloc_spec_grammar.proofs.Readings.{IsLong, after_language, long_after_language}
 use Rattle.iloc_spec_grammar.proofs.ReadingLaws.{pieces-front_of, front_words, after_front-pieces, starts_ends, front-from_block, from_block_starts, refuses_more}
-use Rattle.iloc_spec_parts.specs.Small.{SmallIdentifier, small_identifier}
+use Rattle.iloc_spec_parts.specs.Small.{SmallIdentifier}
 use Rattle.iloc_spec_parts.specs.Small as small
-use Rattle.iloc_spec_parts.specs.SmallComputing.{small_identifier_result, has_small_variants, is_u, is_small_block, has_small_keyword, block_fault, keyword_read, blocks_result, after_identifier, small_result}
+use Rattle.iloc_spec_parts.specs.SmallComputing.{small_identifier, small_identifier_result, has_small_variants, is_u, is_small_block, has_small_keyword, block_fault, keyword_read, blocks_result, after_identifier, small_result}
 use Rattle.iloc_spec_preferences.specs.DataLocales.{DataMeans, HasDataFault, not_small}
 use Rattle.iloc_spec_preferences.proofs.DataLaws.{data_answer}
 use Rattle.iloc_spec_preferences.specs.DataComputing.{data_result, data_of_result}
 use Rattle.iloc_subtags.specs.declared.parse_error.ParseError.TheVariants.{InvalidLanguage, InvalidSubtag}
-use Rattle.iloc_fronts.specs.Front.{GoesOn, IsFront, rest_of_block}
+use Rattle.iloc_fronts.specs.Front.{GoesOn, IsFound, IsFront, rest_of_block}
 use Rattle.iloc_fronts.specs.declared.front.Block.{Block}
 use Rattle.iloc_fronts.specs.declared.front.Front.TheVariants as fronts
 use Rattle.iloc_lines.specs.Told.{IsRefused}
@@ -35,17 +35,20 @@ langid_refused : (t : List ℕ) → BeginsWell t → after_front (pieces t) ≢ 
 langid_refused t l more =
     not_an_identifier l (λ s. more (ap after_front s.2 ∙ after_front-pieces s.0 s.1.words))
 
-pub same_first : (ps : List (List ℕ)) → first_piece ps ≡ first_piece (head ps)
+same_first : (ps : List (List ℕ)) → first_piece ps ≡ first_piece (head ps)
 same_first [] = refl
 same_first (p ∷ ps) = refl
+
+-- the head begins with a language where the text does
+pub head_language : (t : List ℕ) → is_word (Language languages) (first_piece (head (pieces t))) ≡ is_word (Language languages) (first_piece (pieces t))
+head_language t = sym (ap (is_word (Language languages)) (same_first (pieces t)))
 
 -- ---- no language
 
 pub no_language_refused : (mode : Mode) (t : List ℕ) → IsFront t fronts.NoLanguage → IsRefused mode t InvalidLanguage
 no_language_refused Langid t h = not_a_language h
-no_language_refused Locale t h = faults.no_language h
-no_language_refused Data t h =
-    not_small (small.bad_head (small.no_language (sym (ap (is_word (Language languages)) (same_first (pieces t))) ∙ h)))
+no_language_refused Locale t h = in_head (not_a_language (head_language t ∙ h))
+no_language_refused Data t h = not_small (small.bad_head (small.no_language (head_language t ∙ h)))
 
 -- ---- a piece that fits nowhere
 
@@ -61,11 +64,9 @@ no_head t = at_pieces (λ ps. starts_block (after_front ps) ≡ false → ¬ (Sp
 
 pub misfit_refused : (mode : Mode) (t : List ℕ) → BeginsWell t → starts_block (after_front (pieces t)) ≡ false → IsRefused mode t InvalidSubtag
 misfit_refused Langid t l none = langid_refused t l (λ e. true≢false (sym (ap starts_block e) ∙ none))
-misfit_refused Locale t l none = faults.no_identifier l (no_head t none)
+misfit_refused Locale t l none = in_head (not_an_identifier (head_language t ∙ l) (no_head t none))
 misfit_refused Data t l none =
-    not_small (small.bad_head (small.no_identifier
-    (sym (ap (is_word (Language languages)) (same_first (pieces t))) ∙ l)
-    (λ r s. no_head t none (s.written, s.grammatical, s.spelled))))
+    not_small (small.bad_head (small.no_identifier (head_language t ∙ l) (λ r s. no_head t none (s.written, s.grammatical, s.spelled))))
 
 -- ---- a block
 
@@ -180,3 +181,11 @@ misfit_is_refused mode t h = misfit_refused mode t h.0 h.1
 pub block_is_refused : (t : List ℕ) (b : Block) → IsFront t (fronts.Block b) → IsRefused Langid t InvalidSubtag
 unfolding after_front
 block_is_refused t b h = block_is_no_identifier t b h.0 h.1.rest
+
+-- a piece of one byte after a language: it is that of a block, or comes after a piece that fits nowhere
+pub found_is_refused : (t : List ℕ) (b : Block) → IsFound t b → IsRefused Langid t InvalidSubtag
+unfolding after_front
+found_is_refused t b f = elim (cases_Bool (starts_block (after_front (pieces t)))) [
+  | inl is ↦ block_is_no_identifier t b f.begins (f.next is)
+  | inr other ↦ misfit_refused Langid t f.begins other
+]

@@ -5,7 +5,8 @@ use Rattle.std.specs.Char.{is_ascii_alphanumeric, to_ascii_lowercase}
 use Rattle.std.specs.List.{AllByRecursion, list_all}
 use Rattle.std.proofs.lemmas.Bool.{cases_Bool, cases_lt, true≢false, false_from_ne_true}
 use Rattle.std.proofs.lemmas.Bool.Decides.{nat_tests}
-use Rattle.iloc_spec_grammar.specs.Syntax.{pieces, Kind, Language, Script, Region, Variant, Identifier, identifier_pieces, HasWords, UnicodeKey, Attribute, is_word, IsWord, is_same, languages, lower, block_pieces, is_one_byte, front, blocks, head, tail_blocks, first_piece}
+use Rattle.iloc_spec_grammar.specs.Syntax.{pieces, Kind, Language, Script, Region, Variant, Identifier, identifier_pieces, HasWords, UnicodeKey, Attribute, is_word, IsWord, is_same, languages, lower, is_one_byte, front, blocks, head, tail_blocks, first_piece}
+use Rattle.iloc_spec_grammar.specs.Tree.{block_pieces}
 use Rattle.iloc_spec_grammar.specs.Meaning.{normal_values, Fault}
 use Rattle.iloc_spec_grammar.specs.Reading.{first_item, passing, past, skip_first, rest_of, identifier_of, after_region, after_front}
 use Rattle.iloc_spec_grammar.specs.Meaning as faults
@@ -16,10 +17,11 @@ use Rattle.iloc_spec_grammar.proofs.MapLaws.{same_is}
 use Rattle.iloc_spec_grammar.proofs.PiecesLaws.{at_pieces}
 use Rattle.iloc_spec_grammar.proofs.Readings.{IsLong, long_script, long_region, long_variant, long_attribute, not_two, two}
 use Rattle.iloc_spec_grammar.proofs.FaultLaws.{all_blocks}
-use Rattle.iloc_spec_parts.specs.Small.{SmallIdentifier, IsSmallIdentifier, SmallLocale, small_identifier}
+use Rattle.iloc_spec_parts.specs.Small.{SmallIdentifier, IsSmallIdentifier, SmallLocale}
 use Rattle.iloc_spec_parts.specs.Small as small
 use Rattle.iloc_spec_grammar.proofs.IdentifierLaws.{identifier_of-pieces}
-use Rattle.iloc_spec_parts.specs.SmallComputing.{small_identifier_result, has_small_variants, is_u, is_small_block, has_small_keyword, keyword_read, block_fault, blocks_result, after_identifier, small_result}
+use Rattle.iloc_spec_parts.specs.SmallComputing.{small_identifier, small_identifier_result, has_small_variants, is_u, is_small_block, has_small_keyword, keyword_read, block_fault, blocks_result, after_identifier, small_result}
+use Rattle.iloc_spec_parts.proofs.SmallShapes.{one_variant}
 use Rattle.iloc_spec_preferences.proofs.Keys.{sd}
 use Rattle.iloc_spec_preferences.specs.DataLocales.{not_small, agreed, made_of, named_subdivision, small_part, data_of_small}
 use Rattle.iloc_spec_preferences.specs.Subdivisions.{Subdivision}
@@ -34,7 +36,7 @@ use Rattle.iloc_fronts.specs.declared.front.Front.TheVariants as fronts
 use Rattle.iloc_fronts.specs.declared.keyword.Keyword.TheVariants as keyword
 use Rattle.iloc_lines.specs.Told.{IsRefused}
 use Rattle.iloc_lines.specs.declared.Mode.TheVariants.{Data}
-use Rattle.iloc_lines.proofs.FrontAnswers.{same_first, BeginsWell, blocks_left, block_told, no_u, data_fault, data_refused}
+use Rattle.iloc_lines.proofs.FrontAnswers.{head_language, BeginsWell, blocks_left, block_told, no_u, data_fault, data_refused}
 
 -- ---- the block of `u`
 
@@ -387,13 +389,11 @@ many_in_head t = at_pieces (λ qs. past (is_word Variant) (after_region qs) ≡ 
     by p qs e l r s =
         let same : after_region (p ∷ qs) ≡ s.written.variants =
         sym (head_region p qs ∙ only_variants (after_region (p ∷ qs)) e) ∙ ap after_region s.spelled ∙ variants_of s.written s.grammatical.words in
-        omega (arith, ap length same, s.one_variant)
+        omega (arith, ap length same, one_variant (p ∷ front qs) r s)
 
 pub variants_refused : (t : List ℕ) (n : ℕ) → IsFront t (fronts.Variants n) → IsRefused Data t InvalidSubtag
 variants_refused t n h =
-    not_small (small.bad_head (small.no_identifier
-    (sym (ap (is_word (Language languages)) (same_first (pieces t))) ∙ h.0)
-    (many_in_head t h.1.0 h.1.1)))
+    not_small (small.bad_head (small.no_identifier (head_language t ∙ h.0) (many_in_head t h.1.0 h.1.1)))
 
 -- ---- a singleton that is no letter and no digit
 

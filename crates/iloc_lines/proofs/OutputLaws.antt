@@ -6,8 +6,8 @@ use Rattle.iloc_spec_grammar.specs.Meaning.{Means, IdentifierMeans, Fault, HasId
 use Rattle.iloc_spec_grammar.specs.Values.{identifier_text, text}
 use Rattle.iloc_spec_grammar.proofs.IdentifierLaws as identifiers
 use Rattle.iloc_spec_grammar.proofs.IdentifierTexts.{identifier_apart, one_identifier_fault}
-use Rattle.iloc_spec_grammar.proofs.Readings as readings
-use Rattle.iloc_spec_grammar.proofs.FaultLaws.{accepted_no_fault, one_fault}
+use Rattle.iloc_spec_grammar.proofs.SameMeaning as locales
+use Rattle.iloc_spec_grammar.proofs.SameFaults.{accepted_no_fault, one_fault}
 use Rattle.iloc_spec_preferences.specs.DataLocales.{DataMeans, HasDataFault, data_text}
 use Rattle.iloc_spec_preferences.specs.DataComputing.{data_result}
 use Rattle.iloc_spec_preferences.proofs.DataLaws.{data_answer, one_data, data_apart, one_data_fault}
@@ -32,7 +32,7 @@ module _ {T : ℕ → Bool} (table : IsTable T) where
 
   one_normal_text : (mode : Mode) (line a b : List ℕ) → IsNormalText T mode line a → IsNormalText T mode line b → a ≡ b
   one_normal_text Langid line a b x y = x.2 ∙ ap identifier_text (identifiers.one_meaning (pieces line) _ _ x.1 y.1) ∙ sym y.2
-  one_normal_text Locale line a b x y = x.2 ∙ ap text (readings.one_meaning table line _ _ x.1 y.1) ∙ sym y.2
+  one_normal_text Locale line a b x y = x.2 ∙ ap text (locales.one_meaning table line _ _ x.1 y.1) ∙ sym y.2
   one_normal_text Data line a b x y = x.2 ∙ ap data_text (one_data table line _ _ x.1 y.1) ∙ sym y.2
 
   one_line_fault : (mode : Mode) (line : List ℕ) (f g : Fault) → IsFaulty T mode line f → IsFaulty T mode line g → f ≡ g

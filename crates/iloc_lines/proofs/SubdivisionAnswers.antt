@@ -16,6 +16,7 @@ use Rattle.iloc_spec_grammar.proofs.PartTexts.{join-append}
 use Rattle.iloc_spec_grammar.proofs.PiecesLaws.{pieces-join}
 use Rattle.iloc_spec_grammar.proofs.ReadBack.{word_hyphen_free}
 use Rattle.iloc_spec_parts.specs.Small.{SmallLocale, IsSmall}
+use Rattle.iloc_spec_parts.proofs.SmallTrees.{tree_is_small}
 use Rattle.iloc_spec_preferences.specs.DataLocales.{DataLocale, DataMeans, agreed, data_text, made_of, whole_region, is_whole, no_subdivision, subdivision_keyword, subdivision_pieces}
 use Rattle.iloc_spec_preferences.specs.Subdivisions.{Subdivision, subdivision, subdivision_text}
 use Rattle.iloc_spec_preferences.proofs.DataLaws.{sd_key}
@@ -190,7 +191,7 @@ module _ (w : List ℕ) (len at start : ℕ) (o : Ordered) (room : len + 16 ≤ 
   key = sym (is_word-lower UnicodeKey s.key) ∙ ap (is_word UnicodeKey) s.sd ∙ sd_key.0
 
   is_small : IsSmall languages (take len w) small
-  is_small = record {
+  is_small = tree_is_small (take len w) small (record {
     id = h.means.written;
     keyword = Some (record { byte = singleton; key = s.key; values = value ∷ [] });
     grammatical = record {
@@ -206,7 +207,7 @@ module _ (w : List ℕ) (len at start : ℕ) (o : Ordered) (room : len + 16 ≤ 
       id = record { language = (h.means.means j).language; script = (h.means.means j).script; region = (h.means.means j).region; variant = first_item (variants_are front i h.means h.few j) };
       keyword = Some (sym s.sd j, first_item (normal_values (value ∷ [])));
     };
-  }
+  })
 
   abbrev of_named : Option Subdivision → Option DataLocale
   of_named o = option_map (λ part. made_of i.language i.script part (first_item i.variants)) (option_map (λ x. Some (agreed i.region x)) o)

@@ -37,7 +37,9 @@ ghost use Rattle.memchr.specs.Find.{Nowhere, Passes, is_byte};
 use crate::replies::write_refusal;
 use crate::reply_block::ReplyBlock;
 use crate::subdivisions::tell_subdivision;
-use crate::told::{Lead, ROOM, Told, read_lead, tell_after_variants, tell_variants};
+use crate::told::{
+    Lead, ROOM, Told, ends_identifier, read_lead, tell_after_variants, tell_variants,
+};
 use crate::{Answers, RunError};
 use iloc_blocks::{BadBlock, Reading, read_ordered, read_varied};
 use iloc_fronts::may_begin;
@@ -145,7 +147,11 @@ fn reply_to<A: Answers>(
     ensures { OnOk result (held replies.new
         ≡ held replies.old ++ reply A.mode (take len window.now)) }
 {
-    match read_lead(answers.mode(), window, len) {
+    let mode = answers.mode();
+    if ends_identifier(mode, window, len) {
+        return write_refusal(ParseError::InvalidSubtag, replies);
+    }
+    match read_lead(mode, window, len) {
         Lead::Refused(error) => write_refusal(error, replies),
         Lead::Variant(n) => reply_to_varied(answers, window, len, n, replies),
         Lead::Variants(at) => reply_to_variants(answers, window, len, at, room, replies),

@@ -11,7 +11,7 @@ ghost use Rattle.iloc_lines.specs.Told.{IsLead, IsRefused, IsTold, refusal_of};
 use crate::Mode;
 use crate::subdivisions::tell_subdivision;
 use iloc_blocks::{BadBlock, Ordered, Reading, read_ordered, read_varied};
-use iloc_fronts::{Block, Front, Keyword, read_front, read_keyword};
+use iloc_fronts::{Block, Front, Keyword, find_block, read_front, read_keyword};
 use iloc_rewriting::{Unsorted, rewrite, sort_identifier, sort_variants};
 use iloc_subtags::ParseError;
 
@@ -59,6 +59,9 @@ pub fn tell<'a>(mode: Mode, window: &'a [u8], len: usize, room: &'a mut [u8]) ->
     requires { len + 16 ≤ length window.now }
     ensures { IsTold mode (take len window.now) result }
 {
+    if ends_identifier(mode, window, len) {
+        return Told::Refused(ParseError::InvalidSubtag);
+    }
     match read_lead(mode, window, len) {
         Lead::Refused(error) => Told::Refused(error),
         Lead::Variant(n) => tell_varied(window, len, n),
@@ -67,6 +70,22 @@ pub fn tell<'a>(mode: Mode, window: &'a [u8], len: usize, room: &'a mut [u8]) ->
         Lead::AfterVariants(at) => tell_after_variants(window, len, at, room),
         Lead::Subdivision(at, start) => tell_subdivision(window, len, at, start),
         Lead::Nothing => Told::Nothing,
+    }
+}
+
+/// Whether the first piece of one byte refuses the first `len` bytes with `InvalidSubtag`, whatever comes before: no
+/// identifier has one. Sixteen bytes after them are loaded too, and change nothing.
+#[inline(always)]
+pub fn ends_identifier(mode: Mode, window: &[u8], len: usize) -> bool
+    requires { len + 16 ≤ length window.now }
+    ensures { IsTrue result → IsRefused mode (take len window.now) ParseError.InvalidSubtag }
+{
+    match mode {
+        Mode::Langid => match find_block(window, len) {
+            Some(_) => true,
+            None => false,
+        },
+        Mode::Locale | Mode::Data => false,
     }
 }
 

@@ -1,5 +1,5 @@
 -- From what a block's reader answers to the answer of the whole.
-use Rattle.std.proofs.Common.{◌≡◌, ◌≢◌, OnOk, IfErr, ℕ, ◌≤◌, Bool, true, false, cond, ◌||◌, ◌==◌, List, [], ◌∷◌, length, refl, sym, ap, ◌∙◌, subst, arith, Some, None, Result, Ok, Err, true≢false, nat_lt, suc, Option, option_map, not, is_some, ◌&&◌}
+use Rattle.std.proofs.Common.{◌≡◌, OnOk, IfErr, ℕ, ◌≤◌, Bool, true, false, cond, ◌||◌, ◌==◌, List, [], ◌∷◌, length, refl, sym, ap, ◌∙◌, subst, arith, Some, None, Result, Ok, Err, true≢false, nat_lt, suc, Option, option_map, not, is_some, ◌&&◌}
 use Rattle.std.specs.Result.{result_and}
 use Rattle.iloc_langid.specs.Reads as langid
 use Rattle.std.specs.List.{AllByRecursion, list_any}
@@ -9,16 +9,18 @@ use Rattle.std.specs.FinMap.{put}
 use Rattle.std.proofs.lemmas.Bool.Decides.{nat_tests}
 use Rattle.iloc_spec_grammar.specs.Syntax.{languages, is_word, PrivateSubtag, IsOther, is_other_singleton, kept, is_one_byte, front, blocks}
 use Rattle.iloc_spec_grammar.specs.Syntax as written
-use Rattle.iloc_spec_grammar.specs.Meaning.{Extensions, normal_values, FirstBadBlock}
-use Rattle.iloc_spec_grammar.specs.ByBlocks.{OtherMeans, BlocksMean}
+use Rattle.iloc_spec_grammar.specs.Meaning.{Extensions, no_extensions, BlocksMean, HasBlockFault, normal_values}
+use Rattle.iloc_spec_grammar.specs.ByBlocks.{OtherMeans}
 use Rattle.iloc_spec_grammar.specs.Meaning as faults
 use Rattle.iloc_subtags.specs.NextPiece.{byte_at}
 use Rattle.iloc_subtags.proofs.ByteLemmas.{byte_first, no_byte}
-use Rattle.iloc_locale.specs.Whole.{BlocksReadAs}
-use Rattle.iloc_locale.proofs.DoneLaws.{turned}
-use Rattle.iloc_spec_grammar.specs.Reading.{passing, from_block, starts_block, rest_of}
+use Rattle.iloc_locale.specs.Whole.{BlocksReads}
+use Rattle.iloc_locale.proofs.DoneLaws.{turned_means}
+use Rattle.iloc_spec_grammar.specs.Reading.{from_block, starts_block, rest_of}
 use Rattle.iloc_spec_parts.specs.Fronts.{not_private}
 use Rattle.iloc_spec_parts.specs.Inline.{IsShortUnicode, IsShortTransform}
+use Rattle.iloc_spec_parts.proofs.ShortFronts.{fronts_are_short}
+use Rattle.iloc_spec_grammar.proofs.RawLaws.{languages_table}
 use Rattle.iloc_subtags.specs.declared.parse_error.ParseError.{ParseError}
 use Rattle.iloc_subtags.specs.declared.parse_error.ParseError.TheVariants.{InvalidLanguage, InvalidSubtag, InvalidExtension, DuplicatedExtension, OutOfMemory}
 use Rattle.iloc_unicode.specs.declared.unicode.Unicode.{Unicode}
@@ -27,9 +29,10 @@ use Rattle.iloc_unicode.specs.UnicodeReads.{UnicodeWantsMemory, fifth_attribute,
 use Rattle.iloc_unicode.specs.UnicodeValue as unicode
 use Rattle.iloc_transform.specs.declared.transform.Transform.{Transform}
 use Rattle.iloc_transform.specs.TransformReading as transform
-use Rattle.iloc_other.specs.Reading.{PrivateReads}
+use Rattle.iloc_other.specs.Reading.{PrivateFills}
 use Rattle.iloc_locale.specs.Blocks.{BlocksDone, BlockAt, BlockReads, is_read}
 use Rattle.iloc_locale.proofs.PartAnswers.{UnicodeBlock, TransformBlock, OtherBlock}
+use Rattle.iloc_locale.proofs.FaultNames.{private_names}
 use Rattle.iloc_locale.proofs.RoundLaws.{no_letter, met_before, unicode_done, unicode_bad, unicode_long, transform_done, transform_repeats, transform_bad, transform_long, other_done, other_bad, other_long, private_done, private_bad, private_long}
 use Rattle.std.proofs.lemmas.Bool.{not-false}
 
@@ -51,16 +54,16 @@ short_unicode ps s (fifth_attribute h) = let a = s.attributes in omega (arith, a
 short_unicode ps s (for_keywords (second_key h)) = let a = s.keys in omega (arith, a, h)
 short_unicode ps s (for_keywords (fifth_value h)) = no_many _ s.values h
 
-short_transform : (ps : List (List ℕ)) → IsShortTransform languages ps → transform.WantsMemory ps → ⊥
-short_transform ps s (transform.variants h) = let a = s.variants h.written h.rest h.front in let b = h.many in omega (arith, a, b)
-short_transform ps s (transform.fields {id = id} {middle = middle} f h) = s.no_field id middle f h
+short_transform : (ps : List (List ℕ)) → IsShortTransform languages ps → transform.TransformWantsMemory ps → ⊥
+short_transform ps s (transform.variants h) = let a = (fronts_are_short ps s).variants h.written h.rest h.front in let b = h.many in omega (arith, a, b)
+short_transform ps s (transform.fields {id = id} {middle = middle} f h) = (fronts_are_short ps s).no_field id middle f h
 
 module _ {start : List (List ℕ)} {c : ℕ} {ps : List (List ℕ)} {M : Extensions} (a : BlockAt languages start c ps M) where
   pub unicode_goes : to_ascii_lowercase c ≡ 117 → (rest : List (List ℕ)) (u : Unicode) → UnicodeBlock ps rest (Ok u) → BlocksDone languages start rest (record M { unicode = unicode.value_of u })
   unicode_goes e rest u h = subst (λ (r : List (List ℕ)). BlocksDone languages start r (record M { unicode = unicode.value_of u })) (sym h.1) (unicode_done a e (unicode.value_of u) h.0)
 
   pub unicode_fails : to_ascii_lowercase c ≡ 117 → (rest more : List (List ℕ)) (N : Extensions) (f : ParseError) → UnicodeBlock ps rest (Err f) → BlockReads start more N (Err f)
-  unicode_fails e rest more N InvalidLanguage h = h
+  unicode_fails e rest more N InvalidLanguage h = absurd h
   unicode_fails e rest more N InvalidSubtag h = absurd h
   unicode_fails e rest more N InvalidExtension h = unicode_bad a e h
   unicode_fails e rest more N DuplicatedExtension h = absurd h
@@ -70,23 +73,23 @@ module _ {start : List (List ℕ)} {c : ℕ} {ps : List (List ℕ)} {M : Extensi
   transform_goes e rest m h = subst (λ (r : List (List ℕ)). BlocksDone languages start r (record M { transform = transform.value_of m })) (sym h.1) (transform_done a e (transform.value_of m) h.0)
 
   pub transform_fails : to_ascii_lowercase c ≡ 116 → (rest more : List (List ℕ)) (N : Extensions) (f : ParseError) → TransformBlock ps rest (Err f) → BlockReads start more N (Err f)
-  transform_fails e rest more N InvalidLanguage h = h
+  transform_fails e rest more N InvalidLanguage h = absurd h
   transform_fails e rest more N InvalidSubtag h = transform_repeats a e h
   transform_fails e rest more N InvalidExtension h = transform_bad a e h.0 h.1
   transform_fails e rest more N DuplicatedExtension h = absurd h
-  transform_fails e rest more N OutOfMemory h = transform_long a e (λ s. short_transform ps s h)
+  transform_fails e rest more N OutOfMemory h = transform_long a languages_table e (λ s. short_transform ps s h)
 
-  pub private_goes : to_ascii_lowercase c ≡ 120 → (rest ws : List (List ℕ)) → PrivateReads ps rest (Ok ws) → BlocksDone languages start rest (record M { private = ws })
-  private_goes e rest ws h = subst (λ (r : List (List ℕ)). BlocksDone languages start r (record M { private = ws })) (sym h.left) (private_done a e ws (h.follows, h.means))
+  pub private_goes : to_ascii_lowercase c ≡ 120 → (rest ws : List (List ℕ)) → PrivateFills ps rest (Ok ws) → BlocksDone languages start rest (record M { private = ws })
+  private_goes e rest ws h = subst (λ (r : List (List ℕ)). BlocksDone languages start r (record M { private = ws })) (sym h.left) (private_done a e ws (record { words = h.follows.words; nonempty = h.follows.nonempty }, h.means))
 
-  pub private_fails : to_ascii_lowercase c ≡ 120 → (rest more : List (List ℕ)) (N : Extensions) (f : ParseError) → PrivateReads ps rest (Err f) → BlockReads start more N (Err f)
-  private_fails e rest more N InvalidLanguage h = h
-  private_fails e rest more N InvalidSubtag h = absurd h
-  private_fails e rest more N InvalidExtension (not_private n) = private_bad a e n
-  private_fails e rest more N DuplicatedExtension h = absurd h
+  pub private_fails : to_ascii_lowercase c ≡ 120 → (rest more : List (List ℕ)) (N : Extensions) (f : ParseError) → PrivateFills ps rest (Err f) → BlockReads start more N (Err f)
+  private_fails e rest more N InvalidLanguage h = let other = private_names ps faults.InvalidLanguage h in cc
+  private_fails e rest more N InvalidSubtag h = let other = private_names ps faults.InvalidSubtag h in cc
+  private_fails e rest more N InvalidExtension (not_private n) = private_bad a e (λ h. n (record { words = h.words; nonempty = h.nonempty }))
+  private_fails e rest more N DuplicatedExtension h = let other = private_names ps faults.DuplicatedExtension h in cc
   private_fails e rest more N OutOfMemory h = private_long a e (λ l. omega (arith, l, h))
 
-  pub private_reads : to_ascii_lowercase c ≡ 120 → (rest ws : List (List ℕ)) (r : Result (Unit {0}) ParseError) → PrivateReads ps rest (result_and r (Ok ws)) → BlockReads start rest (record M { private = ws }) r
+  pub private_reads : to_ascii_lowercase c ≡ 120 → (rest ws : List (List ℕ)) (r : Result (Unit {0}) ParseError) → PrivateFills ps rest (result_and r (Ok ws)) → BlockReads start rest (record M { private = ws }) r
   private_reads e rest ws (Ok x) h = private_goes e rest ws h
   private_reads e rest ws (Err f) h = private_fails e rest rest (record M { private = ws }) f h
 
@@ -97,7 +100,7 @@ module _ {start : List (List ℕ)} {c : ℕ} {ps : List (List ℕ)} {M : Extensi
       subst (λ (r : List (List ℕ)). BlocksDone languages start r (record M { others = os })) (sym h.2) (subst (λ (l : List (ℕ × List (List ℕ))). BlocksDone languages start (from_block ps) (record M { others = l })) (sym same) (other_done a k means))
 
   pub other_fails : is_other_singleton (to_ascii_lowercase c) ≡ true → (rest more : List (List ℕ)) (N : Extensions) (f : ParseError) → OtherBlock (to_ascii_lowercase c) ps rest (Err f) → BlockReads start more N (Err f)
-  other_fails k rest more N InvalidLanguage h = h
+  other_fails k rest more N InvalidLanguage h = absurd h
   other_fails k rest more N InvalidSubtag h = absurd h
   other_fails k rest more N InvalidExtension h = other_bad a k h
   other_fails k rest more N DuplicatedExtension h = absurd h
@@ -108,10 +111,10 @@ module _ {start : List (List ℕ)} {c : ℕ} {ps : List (List ℕ)} {M : Extensi
 
 -- the byte of a block, with its form in lower case
 
-pub letter_refused : {start : List (List ℕ)} {c : ℕ} {ps : List (List ℕ)} {M : Extensions} → BlocksDone languages start ((c ∷ []) ∷ ps) M → is_ascii_alphanumeric c ≡ false → FirstBadBlock languages [] (blocks start) faults.InvalidExtension
+pub letter_refused : {start : List (List ℕ)} {c : ℕ} {ps : List (List ℕ)} {M : Extensions} → BlocksDone languages start ((c ∷ []) ∷ ps) M → is_ascii_alphanumeric c ≡ false → HasBlockFault languages (blocks start) faults.InvalidExtension
 letter_refused d h = no_letter d h
 
-pub part_refused : {start : List (List ℕ)} {c : ℕ} {ps : List (List ℕ)} {M : Extensions} (ext : ℕ) → BlocksDone languages start ((c ∷ []) ∷ ps) M → is_ascii_alphanumeric c ≡ true → ext ≡ to_ascii_lowercase c → is_read M ext ≡ true → FirstBadBlock languages [] (blocks start) faults.DuplicatedExtension
+pub part_refused : {start : List (List ℕ)} {c : ℕ} {ps : List (List ℕ)} {M : Extensions} (ext : ℕ) → BlocksDone languages start ((c ∷ []) ∷ ps) M → is_ascii_alphanumeric c ≡ true → ext ≡ to_ascii_lowercase c → is_read M ext ≡ true → HasBlockFault languages (blocks start) faults.DuplicatedExtension
 part_refused {M = M} ext d h e r = met_before d h (ap (is_read M) (sym e) ∙ r)
 
 pub block_at : {start : List (List ℕ)} {c : ℕ} {ps : List (List ℕ)} {M : Extensions} (ext : ℕ) → BlocksDone languages start ((c ∷ []) ∷ ps) M → is_ascii_alphanumeric c ≡ true → ext ≡ to_ascii_lowercase c → is_read M ext ≡ false → BlockAt languages start c ps M
@@ -141,7 +144,7 @@ pub on_any : {A X E : Type 0} (r : Result X E) → A → OnOk r A
 on_any (Ok x) a = a
 on_any (Err e) a = tt
 
-pub private_shorter : (ps rest ws : List (List ℕ)) (r : Result (Unit {0}) ParseError) → PrivateReads ps rest (result_and r (Ok ws)) → OnOk r (length rest ≤ length ps)
+pub private_shorter : (ps rest ws : List (List ℕ)) (r : Result (Unit {0}) ParseError) → PrivateFills ps rest (result_and r (Ok ws)) → OnOk r (length rest ≤ length ps)
 private_shorter ps rest ws (Ok x) h = none_short ps rest h.left
 private_shorter ps rest ws (Err e) h = tt
 
@@ -181,10 +184,20 @@ no_private M c e h = no_items M.private (not-false _ (read_at M c 120 e h))
 
 -- the whole loop
 
-pub all_done : (start : List (List ℕ)) (M : Extensions) → BlocksDone languages start [] M → BlocksMean languages (blocks start) M
-all_done start M d = subst (λ (bs : List (ℕ × List (List ℕ))). BlocksMean languages bs M) (sym d.together) (turned d.done M d.means)
+none_mean : BlocksMean languages [] no_extensions
+none_mean = (
+  no_extensions,
+  record { blocks = tt; different = tt; unicode = (record { attributes = tt; keywords = tt }, refl); transform = (record { id = tt; fields = tt }, refl); private = (tt, refl); others = (tt, refl) },
+  refl,
+)
 
-pub whole_fails : (start rest more : List (List ℕ)) (M : Extensions) (f : ParseError) → BlockReads start rest M (Err f) → BlocksReadAs start M (Err f)
+pub none_done : (start : List (List ℕ)) (M : Extensions) → starts_block start ≡ true → M ≡ no_extensions → BlocksDone languages start start M
+none_done start M s e = record { done = []; together = refl; begins = s; means = subst (BlocksMean languages []) (sym e) none_mean }
+
+pub all_done : (start : List (List ℕ)) (M : Extensions) → BlocksDone languages start [] M → BlocksMean languages (blocks start) M
+all_done start M d = subst (λ (bs : List (ℕ × List (List ℕ))). BlocksMean languages bs M) (sym d.together) (turned_means d.done M d.means)
+
+pub whole_fails : (start rest more : List (List ℕ)) (M : Extensions) (f : ParseError) → BlockReads start rest M (Err f) → BlocksReads start M (Err f)
 whole_fails start rest more M InvalidLanguage h = h
 whole_fails start rest more M InvalidSubtag h = h
 whole_fails start rest more M InvalidExtension h = h

@@ -10,9 +10,10 @@ use Rattle.std.specs.Cmp.{nat_cmp_total}
 use Rattle.std.specs.FinMap.{find, put}
 use Rattle.std.specs.FinMap.Entries.{by_order, is_some-find}
 use Rattle.std.proofs.lemmas.Bool.Decides.{nat_tests}
-use Rattle.iloc_spec_grammar.specs.Syntax.{lower, word_cmp, Identifier, Unicode, Transform, Fields, IsPrivate, kept, singleton, is_other_singleton}
-use Rattle.iloc_spec_grammar.specs.Meaning.{Extensions, map_of, set_of, normal_fields, normal_identifier, no_unicode, no_transform, by_singleton}
-use Rattle.iloc_spec_grammar.specs.ByBlocks.{UnicodeMeans, TransformMeans, PrivateMeans, other_blocks, PartIs, BlocksMean}
+use Rattle.iloc_spec_grammar.specs.Syntax.{lower, word_cmp, Identifier, Unicode, Transform, Fields, kept, singleton, is_other_singleton}
+use Rattle.iloc_spec_grammar.specs.Tree.{IsPrivate, by_singleton}
+use Rattle.iloc_spec_grammar.specs.Meaning.{Extensions, map_of, set_of, normal_fields, normal_identifier, no_unicode, no_transform}
+use Rattle.iloc_spec_grammar.specs.ByBlocks.{UnicodeMeans, TransformMeans, PrivateMeans, other_blocks, grammar_rules, PartIs, BlocksGive}
 use Rattle.iloc_spec_grammar.proofs.MapLaws.{find-map_of}
 use Rattle.iloc_locale.specs.Blocks.{is_read}
 use Rattle.iloc_spec_grammar.proofs.Singletons.{tied, no_u, no_t, no_x, IsKind, of_u, of_t, of_x, another, kind_of}
@@ -103,7 +104,7 @@ is_read-other M c h = at (c == 117) (c == 116) (c == 120) (no c 117 h (λ e. no_
     at false false false e f g = refl
 
 -- which singletons were read shows in the parts
-pub read_is_known : (T : ℕ → Bool) (ds : List (ℕ × List (List ℕ))) (M : Extensions) (c : ℕ) → BlocksMean T ds M → is_ascii_alphanumeric c ≡ true → is_read M c ≡ list_any (eq_by_cmp nat_cmp c) (map (λ b. singleton b) ds)
+pub read_is_known : (T : ℕ → Bool) (ds : List (ℕ × List (List ℕ))) (M : Extensions) (c : ℕ) → BlocksGive (grammar_rules T) ds M → is_ascii_alphanumeric c ≡ true → is_read M c ≡ list_any (eq_by_cmp nat_cmp c) (map (λ b. singleton b) ds)
 read_is_known T ds M c m h = at (kind_of c h) ∙ known T c ds
   where
     at : IsKind c → is_read M c ≡ is_some (find nat_cmp c (by_singleton ds))

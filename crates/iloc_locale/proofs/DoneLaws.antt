@@ -7,11 +7,13 @@ use Rattle.std.specs.Cmp.{nat_cmp_total}
 use Rattle.std.specs.FinMap.{find, nat_cmp-IsAntisymmetric}
 use Rattle.std.proofs.lemmas.Bool.{or_parts, or_from}
 use Rattle.iloc_spec_grammar.specs.Syntax.{kept, AllDifferent, singleton, is_other_singleton}
-use Rattle.iloc_spec_grammar.specs.Meaning.{Extensions, no_unicode, no_transform, by_singleton}
+use Rattle.iloc_spec_grammar.specs.Meaning.{Extensions, BlocksMean, no_unicode, no_transform}
+use Rattle.iloc_spec_grammar.specs.Tree.{by_singleton}
 use Rattle.iloc_spec_grammar.specs.ByBlocks.{Rules, other_blocks, PartIs, BlocksGive}
 use Rattle.iloc_spec_grammar.specs.Values.{Reordered, none, front_kept, first_two, in_turn}
 use Rattle.iloc_spec_grammar.proofs.Orders.{all_reordered, map_reordered, different_reordered, find_reordered}
 use Rattle.iloc_spec_grammar.proofs.MapLaws.{map_of_same}
+use Rattle.iloc_spec_grammar.proofs.SameMeaning.{mean_give, give_mean}
 use Rattle.iloc_spec_grammar.proofs.Sorting.{itself}
 use Rattle.iloc_locale.specs.Blocks.{onto}
 
@@ -90,3 +92,6 @@ reordered {R = R} {bs = bs} {cs = cs} e r m =
 
 pub turned : {R : Rules} (bs : List (ℕ × List (List ℕ))) (e : Extensions) → BlocksGive R bs e → BlocksGive R (onto bs []) e
 turned bs e m = reordered e (subst (λ (l : List (ℕ × List (List ℕ))). Reordered l (onto bs [])) (append-nil bs) (onto_reordered bs [])) m
+
+pub turned_means : {T : ℕ → Bool} (bs : List (ℕ × List (List ℕ))) (e : Extensions) → BlocksMean T bs e → BlocksMean T (onto bs []) e
+turned_means bs e m = give_mean (turned bs e (mean_give m))

@@ -8,10 +8,12 @@ pub mod ArmLaws
 pub mod StepLaws
 pub mod RoundLaws
 pub mod PartAnswers
+pub mod FaultNames
 pub mod PartLemmas
 pub mod AnswerLemmas
 pub mod PlaceLemmas
 mod EqualityLemmas
 pub mod ReadLemmas
+pub mod AloneLemmas
 pub mod NormalLemmas
 pub mod SmallLemmas

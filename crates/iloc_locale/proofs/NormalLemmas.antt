@@ -1,35 +1,35 @@
 -- From the locale that was read to its normal text.
-use Rattle.std.proofs.Common.{◌≡◌, inl, inr, ◌↔◌, IsTrue, ℕ, ◌≤◌, Bool, true, false, List, [], length, None, refl, sym, ap, ◌∙◌, subst, append-nil, true≢false, IfOk, Err, Ok, Result}
+use Rattle.std.proofs.Common.{◌≡◌, inl, inr, ◌↔◌, IsTrue, ℕ, ◌≤◌, Bool, true, false, List, length, refl, sym, ap, ◌∙◌, subst, true≢false, IfOk, Err, Ok, Result}
 use Rattle.std.specs.Cow.{cow_str_bytes}
 use Rattle.std.specs.declared.borrow.CowStr.{CowStr}
-use Rattle.iloc_spec_grammar.specs.Syntax.{languages, pieces, Identifier, identifier_pieces, join}
+use Rattle.iloc_spec_grammar.specs.Syntax.{languages}
 use Rattle.iloc_spec_grammar.specs.Meaning as meaning
-use Rattle.iloc_spec_grammar.specs.Meaning.{Extensions, IdentifierMeans, Means, no_extensions, without_extensions}
-use Rattle.iloc_spec_grammar.specs.Values.{IsValue, IsWellFormed, text, identifier_text}
-use Rattle.iloc_spec_grammar.proofs.FaultLaws.{accepted_no_fault}
+use Rattle.iloc_spec_grammar.specs.Meaning.{Means, no_extensions, without_extensions}
+use Rattle.iloc_spec_grammar.specs.Values.{IsWellFormed, text}
+use Rattle.iloc_spec_grammar.proofs.SameMeaning.{one_meaning}
+use Rattle.iloc_spec_grammar.proofs.SameFaults.{accepted_no_fault}
 use Rattle.std.specs.Ordering.{is_eq}
 use Rattle.iloc_spec_parts.specs.Orders.{locale_cmp}
 use Rattle.iloc_spec_parts.proofs.OrderLaws.{locale_exact}
 use Rattle.iloc_spec_grammar.proofs.RawLaws.{languages_table}
-use Rattle.iloc_spec_grammar.proofs.Corollaries.{texts_lead_to_one, same_meaning, means_again}
-use Rattle.iloc_spec_grammar.proofs.Chains.{chain_to_text, shortest}
-use Rattle.iloc_spec_grammar.proofs.ReadBack.{reads_back}
-use Rattle.iloc_spec_grammar.proofs.Readings as readings
+use Rattle.iloc_spec_grammar.proofs.Corollaries.{same_meaning, means_again}
+use Rattle.iloc_spec_grammar.proofs.AnySteps.{chain_to_text, shortest, texts_lead_to_one}
 use Rattle.iloc_subtags.specs.declared.parse_error.ParseError.{ParseError}
 use Rattle.iloc_subtags.specs.declared.parse_error.ParseError.TheVariants.{InvalidLanguage, InvalidSubtag, InvalidExtension, DuplicatedExtension, OutOfMemory}
 use Rattle.iloc_writeable.specs.Writing.{IsLent}
 use Rattle.iloc_langid.specs.PlainTexts.{IsNormalOfPlain}
-use Rattle.iloc_locale.specs.LocaleReading.{LocaleReads, MeansOnly, IsTextOf, IsNormalizedFrom, NormalizingWantsMemory}
+use Rattle.iloc_locale.specs.LocaleReading.{LocaleTextReads, MeansOnly, IsTextOf, IsNormalizedFrom, NormalizingWantsMemory}
 use Rattle.iloc_locale.proofs.ReadLemmas.{inline_wants_none}
+use Rattle.iloc_locale.proofs.AloneLemmas.{text_alone, means_alone}
 use Rattle.iloc_spec_parts.specs.Inline.{IsInline}
 use Rattle.std.specs.Cmp.{Equal-is}
 
 pub is_normalized : (t u : List ℕ) (M : meaning.Locale) → Means languages t M → u ≡ text M → IsNormalizedFrom t u
 is_normalized t u M m e = subst (IsNormalizedFrom t) (sym e) (record {
   text_is = (M, m, refl);
-  again = (M, means_again t M m, refl);
-  same = λ v L N l n. subst (λ (K : meaning.Locale). (L ≡ N) ↔ (text K ≡ text N)) (readings.one_meaning languages_table t L M l m) (same_meaning languages languages_table t v L N l n);
-  shortest = λ v N l n. subst (λ (K : meaning.Locale). length (text K) ≤ length v) (readings.one_meaning languages_table t N M l m) (shortest languages v N n);
+  again = (M, means_again languages_table t M m, refl);
+  same = λ v L N l n. subst (λ (K : meaning.Locale). (L ≡ N) ↔ (text K ≡ text N)) (one_meaning languages_table t L M l m) (same_meaning languages languages_table t v L N l n);
+  shortest = λ v N l n. subst (λ (K : meaning.Locale). length (text K) ≤ length v) (one_meaning languages_table t N M l m) (shortest languages v N n);
   steps = chain_to_text languages t M m;
   together = λ v L N l n. texts_lead_to_one languages languages_table t v L N l n;
 })
@@ -40,44 +40,28 @@ refuses_memory t M m other = inr (M, m, λ e. absurd (true≢false (sym (other e
 -- a normal text that is inline wants no memory
 pub normal_inline : (t : List ℕ) → IsInline languages t → IsTextOf t t → NormalizingWantsMemory t → ⊥
 normal_inline t i n (inl h) = inline_wants_none t i h
-normal_inline t i n (inr h) = h.2 (n.2 ∙ ap text (readings.one_meaning languages_table t n.0 h.0 n.1 h.1))
-
--- the text of an identifier alone
-pub text_alone : (i : Identifier) (e : Extensions) → e ≡ no_extensions → text (record { id = i; extensions = e }) ≡ identifier_text i
-unfolding identifier_text
-text_alone i e n = ap (λ (x : Extensions). text (record { id = i; extensions = x })) n ∙ ap join (append-nil _)
+normal_inline t i n (inr h) = h.2 (n.2 ∙ ap text (one_meaning languages_table t n.0 h.0 n.1 h.1))
 
 pub same_meaning_ties : (t : List ℕ) (L M : meaning.Locale) (same : Bool) → Means languages t L → same ≡ is_eq (locale_cmp M L) → IsTrue same ↔ Means languages t M
 same_meaning_ties t L M same m e = (
   λ s. subst (Means languages t) (sym ((locale_exact.exact M L).0 ((Equal-is (locale_cmp M L)).0 (sym e ∙ s)))) m,
-  λ n. e ∙ ap is_eq ((locale_exact.exact M L).1 (readings.one_meaning languages_table t M L n m)),
+  λ n. e ∙ ap is_eq ((locale_exact.exact M L).1 (one_meaning languages_table t M L n m)),
 )
 
-pub no_meaning : (t : List ℕ) (M : meaning.Locale) (f : ParseError) → LocaleReads t (Err f) → (f ≡ OutOfMemory → ⊥) → Means languages t M → ⊥
+pub no_meaning : (t : List ℕ) (M : meaning.Locale) (f : ParseError) → LocaleTextReads t (Err f) → (f ≡ OutOfMemory → ⊥) → Means languages t M → ⊥
 no_meaning t M InvalidLanguage h n m = accepted_no_fault languages_table t M meaning.InvalidLanguage m h
 no_meaning t M InvalidSubtag h n m = accepted_no_fault languages_table t M meaning.InvalidSubtag m h
 no_meaning t M InvalidExtension h n m = accepted_no_fault languages_table t M meaning.InvalidExtension m h
 no_meaning t M DuplicatedExtension h n m = accepted_no_fault languages_table t M meaning.DuplicatedExtension m h
 no_meaning t M OutOfMemory h n m = n refl
 
-pub refusal_differs : (t : List ℕ) (M : meaning.Locale) (f : ParseError) {E : Type 0} (r : Result Bool E) → LocaleReads t (Err f) → IfOk r (λ same. (same ≡ false) × ¬ (f ≡ OutOfMemory)) → IfOk r (λ same. IsTrue same ↔ Means languages t M)
+pub refusal_differs : (t : List ℕ) (M : meaning.Locale) (f : ParseError) {E : Type 0} (r : Result Bool E) → LocaleTextReads t (Err f) → IfOk r (λ same. (same ≡ false) × ¬ (f ≡ OutOfMemory)) → IfOk r (λ same. IsTrue same ↔ Means languages t M)
 refusal_differs t M f (Ok same) h d = (λ s. absurd (true≢false (sym s ∙ d.0)), λ m. absurd (no_meaning t M f h d.1 m))
 refusal_differs t M f (Err e) h d = tt
 
 -- the text of a well-formed value means that value, and no other
-pub text_means_only : (M : meaning.Locale) → IsValue languages M → IsWellFormed M → MeansOnly (text M) M
-text_means_only M v w =
-    let m : Means languages (text M) M = reads_back M v w in
-    (m, λ N n. readings.one_meaning languages_table (text M) N M n m)
-
--- an identifier alone is a locale without extensions
-means_alone : (t : List ℕ) (i : Identifier) → IdentifierMeans languages (pieces t) i → Means languages t (without_extensions i)
-means_alone t i m = record {
-  written = record { id = m.written; extensions = []; private = None };
-  grammatical = record { id = m.grammatical; extensions = tt; different = tt; private = tt };
-  spelled = m.spelled ∙ sym (append-nil (identifier_pieces m.written));
-  means = λ j. record { id = m.means j; extensions = no_extensions };
-}
+pub text_means_only : (M : meaning.Locale) → IsWellFormed M → MeansOnly (text M) M
+text_means_only M w = (w, λ N n. one_meaning languages_table (text M) N M n w)
 
 -- what a plain text is normalised to
 

@@ -28,7 +28,7 @@ abbrev pub TransformBlock : List (List ℕ) → List (List ℕ) → Result Trans
 TransformBlock ps rest (Ok m) = TransformMeans languages (front ps) (transform.value_of m) × (rest ≡ from_block ps)
 TransformBlock ps rest (Err InvalidSubtag) = RepeatsVariant languages (front ps)
 TransformBlock ps rest (Err InvalidExtension) = ¬ (RepeatsVariant languages (front ps)) × ((v : written.Transform) → ¬ (TransformMeans languages (front ps) v))
-TransformBlock ps rest (Err OutOfMemory) = transform.WantsMemory ps
+TransformBlock ps rest (Err OutOfMemory) = transform.TransformWantsMemory ps
 TransformBlock ps rest (Err InvalidLanguage) = ⊥
 TransformBlock ps rest (Err DuplicatedExtension) = ⊥
 

@@ -5,14 +5,19 @@ use Rattle.std.specs.Char.{is_ascii_alphanumeric, to_ascii_lowercase}
 use Rattle.std.specs.Ordering.{nat_cmp, eq_by_cmp}
 use Rattle.std.specs.FinMap.{put}
 use Rattle.std.proofs.lemmas.Bool.Decides.{nat_tests}
-use Rattle.iloc_spec_grammar.specs.Syntax.{Unicode, Transform, IsOther, IsPrivate, kept, AllDifferent, singleton, is_other_singleton, front, blocks}
-use Rattle.iloc_spec_grammar.specs.Meaning.{Extensions, Fault, InvalidSubtag, InvalidExtension, DuplicatedExtension, IsBlock, RepeatsVariant, BlockFault, no_singleton, duplicated, repeats_variant, breaks_rule, FirstBadBlock, here, later}
-use Rattle.iloc_spec_grammar.specs.ByBlocks.{UnicodeMeans, TransformMeans, PrivateMeans, OtherMeans, BlocksMean}
+use Rattle.iloc_spec_grammar.specs.Syntax.{IsTable, Unicode, Transform, IsOther, kept, AllDifferent, singleton, is_other_singleton, front, blocks}
+use Rattle.iloc_spec_grammar.specs.Tree.{IsPrivate, IsBlock, TreeBlockFault, no_singleton, duplicated, repeats_variant, breaks_rule, FirstBadBlock, here, later}
+use Rattle.iloc_spec_grammar.specs.Meaning.{Extensions, Fault, InvalidSubtag, InvalidExtension, DuplicatedExtension, HasBlockFault, RepeatsVariant}
+use Rattle.iloc_spec_grammar.specs.ByBlocks.{UnicodeMeans, TransformMeans, PrivateMeans, OtherMeans, grammar_rules, BlocksGive}
 use Rattle.iloc_spec_grammar.specs.Reading.{starts_block, from_block}
 use Rattle.iloc_spec_grammar.proofs.ReadingLaws.{front-from_block, from_block_starts}
+use Rattle.iloc_spec_grammar.proofs.FaultLaws.{AreGood}
+use Rattle.iloc_spec_grammar.proofs.SameMeaning.{good_blocks, mean_give, give_mean}
+use Rattle.iloc_spec_grammar.proofs.SameFaults.{fault_of_first}
 use Rattle.iloc_spec_parts.specs.Fronts.{private_front}
 use Rattle.iloc_spec_parts.proofs.BlockRules.{unicode_rule, transform_rule, private_rule, other_rule}
-use Rattle.iloc_spec_parts.specs.Inline as long
+use Rattle.iloc_spec_parts.proofs.ShortFronts as long
+use Rattle.iloc_spec_parts.proofs.ShortFronts.{MeetsLongBlock, met_is_reached, short_unicode_front, short_transform_front}
 use Rattle.iloc_spec_parts.specs.Inline.{IsShortUnicode, IsShortTransform, IsShortOther, IsShortBlock, ReachesLongBlock}
 use Rattle.iloc_locale.specs.Blocks.{BlocksDone, BlockAt, onto, is_read}
 use Rattle.iloc_locale.proofs.ArmLaws.{read_is_known}
@@ -61,75 +66,86 @@ after : {T : ℕ → Bool} (P : List ℕ → List (ℕ × List (List ℕ)) → T
 after P step [] bs l n r h = h
 after P step (d ∷ ds) bs l n r h = after P step ds (d ∷ bs) l.1 n.1 r.1 (step (map (λ b. singleton b) ds) d bs l.0 n.0 r.0 h)
 
+-- good blocks follow the rules of their singletons
+rules_of : (T : ℕ → Bool) (seen : List ℕ) (ds : List (ℕ × List (List ℕ))) → AreGood T seen ds → AllByRecursion (IsBlock T) ds
+rules_of T seen [] g = tt
+rules_of T seen (d ∷ ds) g = (g.0.2, rules_of T (singleton d ∷ seen) ds g.1)
+
 module _ {T : ℕ → Bool} {start : List (List ℕ)} {c : ℕ} {ps : List (List ℕ)} {M : Extensions} where
-  bad_here : (qs : List (List ℕ)) (bs : List (ℕ × List (List ℕ))) → blocks ((c ∷ []) ∷ ps) ≡ (c, qs) ∷ bs → (d : BlocksDone T start ((c ∷ []) ∷ ps) M) → (f : Fault) → BlockFault T (map (λ b. singleton b) d.done) (c, qs) f → FirstBadBlock T [] (blocks start) f
-  bad_here qs bs e d f h = subst (λ l. FirstBadBlock T [] l f) (sym (d.together ∙ ap (onto d.done) e)) (after (λ seen l. FirstBadBlock T seen l f) (λ seen b l k n r x. later k n r x) d.done ((c, qs) ∷ bs) d.means.letters d.means.different d.rules (here h))
+  gives : (d : BlocksDone T start ((c ∷ []) ∷ ps) M) → BlocksGive (grammar_rules T) d.done M
+  gives d = mean_give d.means
+
+  rules : (d : BlocksDone T start ((c ∷ []) ∷ ps) M) → AllByRecursion (IsBlock T) d.done
+  rules d = rules_of T [] d.done (good_blocks d.means.1)
+
+  bad_here : (qs : List (List ℕ)) (bs : List (ℕ × List (List ℕ))) → blocks ((c ∷ []) ∷ ps) ≡ (c, qs) ∷ bs → (d : BlocksDone T start ((c ∷ []) ∷ ps) M) → (f : Fault) → TreeBlockFault T (map (λ b. singleton b) d.done) (c, qs) f → HasBlockFault T (blocks start) f
+  bad_here qs bs e d f h = fault_of_first (subst (λ l. FirstBadBlock T [] l f) (sym (d.together ∙ ap (onto d.done) e)) (after (λ seen l. FirstBadBlock T seen l f) (λ seen b l k n r x. later k n r x) d.done ((c, qs) ∷ bs) (gives d).letters (gives d).different (rules d) (here h)))
 
   -- the singleton is no letter or digit
-  pub no_letter : BlocksDone T start ((c ∷ []) ∷ ps) M → is_ascii_alphanumeric c ≡ false → FirstBadBlock T [] (blocks start) InvalidExtension
+  pub no_letter : BlocksDone T start ((c ∷ []) ∷ ps) M → is_ascii_alphanumeric c ≡ false → HasBlockFault T (blocks start) InvalidExtension
   no_letter d h = let b = some_block c ps in bad_here b.0 b.1 b.2 d InvalidExtension (no_singleton h)
 
   -- it was met before
-  pub met_before : BlocksDone T start ((c ∷ []) ∷ ps) M → is_ascii_alphanumeric c ≡ true → is_read M (to_ascii_lowercase c) ≡ true → FirstBadBlock T [] (blocks start) DuplicatedExtension
-  met_before d h r = let b = some_block c ps in bad_here b.0 b.1 b.2 d DuplicatedExtension (duplicated h (sym (read_is_known T d.done M (to_ascii_lowercase c) d.means (lower_letter c h)) ∙ r))
+  pub met_before : BlocksDone T start ((c ∷ []) ∷ ps) M → is_ascii_alphanumeric c ≡ true → is_read M (to_ascii_lowercase c) ≡ true → HasBlockFault T (blocks start) DuplicatedExtension
+  met_before d h r = let b = some_block c ps in bad_here b.0 b.1 b.2 d DuplicatedExtension (duplicated h (sym (read_is_known T d.done M (to_ascii_lowercase c) (gives d) (lower_letter c h)) ∙ r))
 
   module _ (a : BlockAt T start c ps M) where
     fresh : list_any (eq_by_cmp nat_cmp (to_ascii_lowercase c)) (map (λ b. singleton b) a.before.done) ≡ false
-    fresh = sym (read_is_known T a.before.done M (to_ascii_lowercase c) a.before.means (lower_letter c a.letter)) ∙ a.new
+    fresh = sym (read_is_known T a.before.done M (to_ascii_lowercase c) (gives a.before) (lower_letter c a.letter)) ∙ a.new
 
-    good : (qs rest : List (List ℕ)) (N : Extensions) → blocks ((c ∷ []) ∷ ps) ≡ (c, qs) ∷ blocks rest → starts_block rest ≡ true → IsBlock T (c, qs) → BlocksMean T ((c, qs) ∷ a.before.done) N → BlocksDone T start rest N
-    good qs rest N e s r m = record { done = (c, qs) ∷ a.before.done; together = a.before.together ∙ ap (onto a.before.done) e; begins = s; rules = (r, a.before.rules); means = m }
+    good : (qs rest : List (List ℕ)) (N : Extensions) → blocks ((c ∷ []) ∷ ps) ≡ (c, qs) ∷ blocks rest → starts_block rest ≡ true → BlocksGive (grammar_rules T) ((c, qs) ∷ a.before.done) N → BlocksDone T start rest N
+    good qs rest N e s m = record { done = (c, qs) ∷ a.before.done; together = a.before.together ∙ ap (onto a.before.done) e; begins = s; means = give_mean m }
 
-    breaks : (qs : List (List ℕ)) (bs : List (ℕ × List (List ℕ))) → blocks ((c ∷ []) ∷ ps) ≡ (c, qs) ∷ bs → ¬ ((to_ascii_lowercase c ≡ 116) × RepeatsVariant T qs) → ¬ (IsBlock T (c, qs)) → FirstBadBlock T [] (blocks start) InvalidExtension
+    breaks : (qs : List (List ℕ)) (bs : List (ℕ × List (List ℕ))) → blocks ((c ∷ []) ∷ ps) ≡ (c, qs) ∷ bs → ¬ ((to_ascii_lowercase c ≡ 116) × RepeatsVariant T qs) → ¬ (IsBlock T (c, qs)) → HasBlockFault T (blocks start) InvalidExtension
     breaks qs bs e v r = bad_here qs bs e a.before InvalidExtension (breaks_rule a.letter fresh v r)
 
-    long_here : (qs : List (List ℕ)) (bs : List (ℕ × List (List ℕ))) → blocks ((c ∷ []) ∷ ps) ≡ (c, qs) ∷ bs → ¬ (IsShortBlock T (c, qs)) → ReachesLongBlock T [] (blocks start)
-    long_here qs bs e n = subst (ReachesLongBlock T []) (sym (a.before.together ∙ ap (onto a.before.done) e))
-        (after (ReachesLongBlock T) (λ seen b l k m r x. long.later k m r x) a.before.done ((c, qs) ∷ bs) a.before.means.letters a.before.means.different a.before.rules (long.here a.letter fresh n))
+    long_here : (qs : List (List ℕ)) (bs : List (ℕ × List (List ℕ))) → blocks ((c ∷ []) ∷ ps) ≡ (c, qs) ∷ bs → ¬ (IsShortBlock T (c, qs)) → ReachesLongBlock T (blocks start)
+    long_here qs bs e n = met_is_reached (subst (MeetsLongBlock T []) (sym (a.before.together ∙ ap (onto a.before.done) e))
+        (after (MeetsLongBlock T) (λ seen b l k m r x. long.later k m r x) a.before.done ((c, qs) ∷ bs) (gives a.before).letters (gives a.before).different (rules a.before) (long.here a.letter fresh n)))
 
     -- after `u`
 
     pub unicode_done : to_ascii_lowercase c ≡ 117 → (v : Unicode) → UnicodeMeans (front ps) v → BlocksDone T start (from_block ps) (record M { unicode = v })
-    unicode_done e v m = good (front ps) (from_block ps) (record M { unicode = v }) (block_until c ps (other_than (to_ascii_lowercase c) 117 e (λ d. absurd (omega (arith, d))))) (from_block_starts ps) ((unicode_rule T (c, front ps) e).1 (v, m)) (unicode_added (c, front ps) a.before.means a.letter fresh e v m)
+    unicode_done e v m = good (front ps) (from_block ps) (record M { unicode = v }) (block_until c ps (other_than (to_ascii_lowercase c) 117 e (λ d. absurd (omega (arith, d))))) (from_block_starts ps) (unicode_added (c, front ps) (gives a.before) a.letter fresh e v m)
 
-    pub unicode_bad : to_ascii_lowercase c ≡ 117 → ((v : Unicode) → ¬ (UnicodeMeans (front ps) v)) → FirstBadBlock T [] (blocks start) InvalidExtension
+    pub unicode_bad : to_ascii_lowercase c ≡ 117 → ((v : Unicode) → ¬ (UnicodeMeans (front ps) v)) → HasBlockFault T (blocks start) InvalidExtension
     unicode_bad e n = breaks (front ps) (blocks (from_block ps)) (block_until c ps (other_than (to_ascii_lowercase c) 117 e (λ d. absurd (omega (arith, d))))) (λ h. apart (to_ascii_lowercase c) 117 116 e h.0 refl) (λ r. let s = (unicode_rule T (c, front ps) e).0 r in n s.0 s.1)
 
-    pub unicode_long : to_ascii_lowercase c ≡ 117 → ¬ (IsShortUnicode ps) → ReachesLongBlock T [] (blocks start)
-    unicode_long e n = long_here (front ps) (blocks (from_block ps)) (block_until c ps (other_than (to_ascii_lowercase c) 117 e (λ d. absurd (omega (arith, d))))) (λ s. n (subst IsShortUnicode (front-from_block ps) (s.unicode e (from_block ps) (from_block_starts ps))))
+    pub unicode_long : to_ascii_lowercase c ≡ 117 → ¬ (IsShortUnicode ps) → ReachesLongBlock T (blocks start)
+    unicode_long e n = long_here (front ps) (blocks (from_block ps)) (block_until c ps (other_than (to_ascii_lowercase c) 117 e (λ d. absurd (omega (arith, d))))) (λ s. n (subst IsShortUnicode (front-from_block ps) ((short_unicode_front (front ps) (from_block ps) (from_block_starts ps)).0 (s.unicode e))))
 
     -- after `t`
 
     pub transform_done : to_ascii_lowercase c ≡ 116 → (v : Transform) → TransformMeans T (front ps) v → BlocksDone T start (from_block ps) (record M { transform = v })
-    transform_done e v m = good (front ps) (from_block ps) (record M { transform = v }) (block_until c ps (other_than (to_ascii_lowercase c) 116 e (λ d. absurd (omega (arith, d))))) (from_block_starts ps) ((transform_rule T (c, front ps) e).1 (v, m)) (transform_added (c, front ps) a.before.means a.letter fresh e v m)
+    transform_done e v m = good (front ps) (from_block ps) (record M { transform = v }) (block_until c ps (other_than (to_ascii_lowercase c) 116 e (λ d. absurd (omega (arith, d))))) (from_block_starts ps) (transform_added (c, front ps) (gives a.before) a.letter fresh e v m)
 
-    pub transform_repeats : to_ascii_lowercase c ≡ 116 → RepeatsVariant T (front ps) → FirstBadBlock T [] (blocks start) InvalidSubtag
+    pub transform_repeats : to_ascii_lowercase c ≡ 116 → RepeatsVariant T (front ps) → HasBlockFault T (blocks start) InvalidSubtag
     transform_repeats e r = bad_here (front ps) (blocks (from_block ps)) (block_until c ps (other_than (to_ascii_lowercase c) 116 e (λ d. absurd (omega (arith, d))))) a.before InvalidSubtag (repeats_variant a.letter fresh e r)
 
-    pub transform_bad : to_ascii_lowercase c ≡ 116 → ¬ (RepeatsVariant T (front ps)) → ((v : Transform) → ¬ (TransformMeans T (front ps) v)) → FirstBadBlock T [] (blocks start) InvalidExtension
+    pub transform_bad : to_ascii_lowercase c ≡ 116 → ¬ (RepeatsVariant T (front ps)) → ((v : Transform) → ¬ (TransformMeans T (front ps) v)) → HasBlockFault T (blocks start) InvalidExtension
     transform_bad e v n = breaks (front ps) (blocks (from_block ps)) (block_until c ps (other_than (to_ascii_lowercase c) 116 e (λ d. absurd (omega (arith, d))))) (λ h. v h.1) (λ r. let s = (transform_rule T (c, front ps) e).0 r in n s.0 s.1)
 
-    pub transform_long : to_ascii_lowercase c ≡ 116 → ¬ (IsShortTransform T ps) → ReachesLongBlock T [] (blocks start)
-    transform_long e n = long_here (front ps) (blocks (from_block ps)) (block_until c ps (other_than (to_ascii_lowercase c) 116 e (λ d. absurd (omega (arith, d))))) (λ s. n (subst (IsShortTransform T) (front-from_block ps) (s.transform e (from_block ps) (from_block_starts ps))))
+    pub transform_long : IsTable T → to_ascii_lowercase c ≡ 116 → ¬ (IsShortTransform T ps) → ReachesLongBlock T (blocks start)
+    transform_long table e n = long_here (front ps) (blocks (from_block ps)) (block_until c ps (other_than (to_ascii_lowercase c) 116 e (λ d. absurd (omega (arith, d))))) (λ s. n (subst (IsShortTransform T) (front-from_block ps) ((short_transform_front table (front ps) (from_block ps) (from_block_starts ps)).0 (s.transform e))))
 
     -- after another singleton
 
     pub other_done : is_other_singleton (to_ascii_lowercase c) ≡ true → OtherMeans (front ps) (kept (front ps)) → BlocksDone T start (from_block ps) (record M { others = put nat_cmp (to_ascii_lowercase c) (kept (front ps)) M.others })
-    other_done o m = good (front ps) (from_block ps) (record M { others = put nat_cmp (to_ascii_lowercase c) (kept (front ps)) M.others }) (block_until c ps (no_x (to_ascii_lowercase c) o)) (from_block_starts ps) ((other_rule T (c, front ps) o).1 m.0) (other_added (c, front ps) a.before.means a.letter fresh o m)
+    other_done o m = good (front ps) (from_block ps) (record M { others = put nat_cmp (to_ascii_lowercase c) (kept (front ps)) M.others }) (block_until c ps (no_x (to_ascii_lowercase c) o)) (from_block_starts ps) (other_added (c, front ps) (gives a.before) a.letter fresh o m)
 
-    pub other_bad : is_other_singleton (to_ascii_lowercase c) ≡ true → ¬ (IsOther (front ps)) → FirstBadBlock T [] (blocks start) InvalidExtension
+    pub other_bad : is_other_singleton (to_ascii_lowercase c) ≡ true → ¬ (IsOther (front ps)) → HasBlockFault T (blocks start) InvalidExtension
     other_bad o n = breaks (front ps) (blocks (from_block ps)) (block_until c ps (no_x (to_ascii_lowercase c) o)) (λ h. no_t (to_ascii_lowercase c) h.0 o) (λ r. n ((other_rule T (c, front ps) o).0 r))
 
-    pub other_long : is_other_singleton (to_ascii_lowercase c) ≡ true → ¬ (IsShortOther (front ps)) → ReachesLongBlock T [] (blocks start)
+    pub other_long : is_other_singleton (to_ascii_lowercase c) ≡ true → ¬ (IsShortOther (front ps)) → ReachesLongBlock T (blocks start)
     other_long o n = long_here (front ps) (blocks (from_block ps)) (block_until c ps (no_x (to_ascii_lowercase c) o)) (λ s. n (s.other o))
 
     -- after `x`
 
     pub private_done : to_ascii_lowercase c ≡ 120 → (v : List (List ℕ)) → PrivateMeans ps v → BlocksDone T start [] (record M { private = v })
-    private_done e v m = good ps [] (record M { private = v }) (block_of_x c ps e) refl ((private_rule T (c, ps) e).1 m.0) (private_added (c, ps) a.before.means a.letter fresh e v m)
+    private_done e v m = good ps [] (record M { private = v }) (block_of_x c ps e) refl (private_added (c, ps) (gives a.before) a.letter fresh e v m)
 
-    pub private_bad : to_ascii_lowercase c ≡ 120 → ¬ (IsPrivate ps) → FirstBadBlock T [] (blocks start) InvalidExtension
+    pub private_bad : to_ascii_lowercase c ≡ 120 → ¬ (IsPrivate ps) → HasBlockFault T (blocks start) InvalidExtension
     private_bad e n = breaks ps [] (block_of_x c ps e) (λ h. apart (to_ascii_lowercase c) 120 116 e h.0 refl) (λ r. n ((private_rule T (c, ps) e).0 r))
 
-    pub private_long : to_ascii_lowercase c ≡ 120 → ¬ (length (private_front ps) ≤ 4) → ReachesLongBlock T [] (blocks start)
+    pub private_long : to_ascii_lowercase c ≡ 120 → ¬ (length (private_front ps) ≤ 4) → ReachesLongBlock T (blocks start)
     private_long e n = long_here ps [] (block_of_x c ps e) (λ s. n (s.private e))

@@ -1,7 +1,10 @@
--- Where the others are cut.
-use Rattle.std.proofs.Common.{◌≡◌, ℕ, suc, ◌+◌, ◌<◌, ◌≤◌, true, false, cond, List, [], ◌∷◌, take, drop, nat_le, refl, ap, ◌∙◌, arith}
+-- Where the others are cut, and the pieces of all parts.
+use Rattle.std.proofs.Common.{◌≡◌, ℕ, suc, ◌+◌, ◌<◌, ◌≤◌, true, false, cond, List, [], ◌∷◌, ◌++◌, take, drop, flat_map, nat_le, refl, sym, ap, ◌∙◌, arith, append-nil}
 use Rattle.std.proofs.lemmas.Bool.Decides.{nat_tests}
-use Rattle.iloc_spec_grammar.specs.Values.{before_t, after_t}
+use Rattle.iloc_spec_grammar.specs.Syntax.{Unicode, Transform}
+use Rattle.iloc_spec_grammar.specs.Meaning.{Extensions}
+use Rattle.iloc_spec_grammar.specs.Values.{before_above, other_spelling, transform_spelling, unicode_spelling, private_spelling, extensions_spelling}
+use Rattle.iloc_spec_grammar.proofs.PartTexts.{spelling_around}
 
 abbrev Others : Type 0
 Others = List (ℕ × List (List ℕ))
@@ -23,12 +26,15 @@ pub count_none : count [] ≡ 0
 unfolding count
 count_none = refl
 
-pub taken : (os : Others) → take (count os) os ≡ before_t os
+-- what stands between the two parts stands before the first above `t`
+pub split_there : (bs os : Others) → before_above bs os ≡ take (count os) os ++ (bs ++ drop (count os) os)
 unfolding count
-taken [] = refl
-taken (o ∷ os) = elim (nat_le o.0 116) as (λ b. take (cond b (suc (count os)) 0) (o ∷ os) ≡ cond b (o ∷ before_t os) []) [ true ↦ ap (λ xs. o ∷ xs) (taken os) | false ↦ refl ]
+split_there bs [] = sym (append-nil bs)
+split_there bs (o ∷ os) = elim (nat_le o.0 116) as (λ b. cond b (o ∷ before_above bs os) (bs ++ (o ∷ os)) ≡ take (cond b (suc (count os)) 0) (o ∷ os) ++ (bs ++ drop (cond b (suc (count os)) 0) (o ∷ os))) [ true ↦ ap (λ xs. o ∷ xs) (split_there bs os) | false ↦ refl ]
 
-pub dropped : (os : Others) → drop (count os) os ≡ after_t os
-unfolding count
-dropped [] = refl
-dropped (o ∷ os) = elim (nat_le o.0 116) as (λ b. drop (cond b (suc (count os)) 0) (o ∷ os) ≡ cond b (after_t os) (o ∷ os)) [ true ↦ dropped os | false ↦ refl ]
+-- the pieces of the parts, the others in two
+pub parts_pieces : (e : Extensions) (before after : Others) (t : Transform) (u : Unicode) (x : List (List ℕ)) → ((bs : Others) → before_above bs e.others ≡ before ++ (bs ++ after)) → t ≡ e.transform → u ≡ e.unicode → x ≡ e.private
+    → flat_map other_spelling before ++ (transform_spelling t ++ (unicode_spelling u ++ (flat_map other_spelling after ++ private_spelling x))) ≡ extensions_spelling e
+parts_pieces e before after t u x others a b c =
+    (λ k. flat_map other_spelling before ++ (transform_spelling (a k) ++ (unicode_spelling (b k) ++ (flat_map other_spelling after ++ private_spelling (c k)))))
+    ∙ sym (spelling_around e before after others)

@@ -2,26 +2,26 @@
 -- #35, section 3: the extensions and the private part of unicode_locale_id.
 use Rattle.std.specs.Prelude.{◌≡◌, ℕ, Bool, true, false, not, ◌&&◌, ◌==◌, List, [], ◌∷◌, length, is_some, if◌then◌else◌, Result}
 use Rattle.std.specs.Char.{is_ascii_alphanumeric, to_ascii_lowercase}
-use Rattle.std.specs.List.{AllByRecursion, list_any}
+use Rattle.std.specs.List.{list_any}
 use Rattle.iloc_spec_grammar.specs.Syntax.{Text, Table, Block, code_t, code_u, code_x, languages, blocks}
-use Rattle.iloc_spec_grammar.specs.Meaning.{Extensions, IsBlock, FirstBadBlock}
-use Rattle.iloc_spec_grammar.specs.ByBlocks.{BlocksMean}
+use Rattle.iloc_spec_grammar.specs.Meaning.{Extensions, BlocksMean, HasBlockFault}
 use Rattle.iloc_spec_grammar.specs.Reading.{starts_block}
 use Rattle.iloc_spec_parts.specs.Inline.{ReachesLongBlock}
 use Rattle.iloc_subtags.specs.declared.parse_error.ParseError.{ParseError}
-use Rattle.iloc_subtags.specs.Judging.{Answers, ButLanguage}
+use Rattle.iloc_subtags.specs.Judging.{Answers}
 
 -- While blocks are read: those that were, the last one first, and those that are left.
 
+-- the first list, turned, and then the second
 abbrev pub onto : {X : Type 0} → List X → List X → List X
 onto [] ys = ys
 onto (x ∷ xs) ys = onto xs (x ∷ ys)
 
+-- the blocks from start up to now mean e; there a block begins, or nothing is left
 pub record BlocksDone (T : Table) (start now : List Text) (e : Extensions) : Type 0 where
   pub done : List Block
   pub together : blocks start ≡ onto done (blocks now)
   pub begins : starts_block now ≡ true
-  pub rules : AllByRecursion (IsBlock T) done
   pub means : BlocksMean T done e
 
 -- whether a part of this singleton, in lower case, was read: no part that was read is empty
@@ -42,5 +42,4 @@ pub record BlockAt (T : Table) (start : List Text) (c : ℕ) (ps : List Text) (e
 -- out only if a block is reached that isn't short.
 abbrev pub BlockReads : List Text → List Text → Extensions → Result (Unit {0}) ParseError → Type 0
 BlockReads start rest e = Answers (λ _. BlocksDone languages start rest e)
-    (ButLanguage (FirstBadBlock languages [] (blocks start)))
-    (ReachesLongBlock languages [] (blocks start))
+    (HasBlockFault languages (blocks start)) (ReachesLongBlock languages (blocks start))

@@ -1,5 +1,5 @@
 -- What a `Locale` stands for, what a text is read as, and what it is normalized to.
-use Rattle.std.specs.Prelude.{◌≡◌, [], None, ◌⊎◌, ⊤, ℕ, List, Result, Err, ◌↔◌, ◌≤◌, length}
+use Rattle.std.specs.Prelude.{◌≡◌, ◌⊎◌, ⊤, Result, ◌↔◌, ◌≤◌, length}
 use Rattle.iloc_spec_grammar.specs.Meaning as meaning
 use Rattle.iloc_langid.specs.Reads as langid
 use Rattle.iloc_langid.specs.Unknown.{unknown_identifier}
@@ -9,9 +9,8 @@ use Rattle.iloc_spec_grammar.specs.Syntax.{Text, pieces, languages, head, tail_b
 use Rattle.iloc_spec_grammar.specs.Meaning.{Means, HasFault, SpellsIdentifier}
 use Rattle.iloc_spec_parts.specs.Inline.{ReachesLongBlock}
 use Rattle.iloc_subtags.specs.declared.parse_error.ParseError.{ParseError}
-use Rattle.iloc_subtags.specs.declared.parse_error.ParseError.TheVariants.{OutOfMemory}
 use Rattle.iloc_subtags.specs.Judging.{Answers}
-use Rattle.iloc_spec_grammar.specs.Values.{text, TextStep, Chain, LeadToOne}
+use Rattle.iloc_spec_grammar.specs.Values.{text, TextStep, Leads, LeadToOne}
 
 -- the value of a locale: that of its identifier and that of its extensions
 abbrev pub value_of : Locale → meaning.Locale
@@ -22,32 +21,26 @@ value_of l =
 abbrev pub unknown_locale : meaning.Locale
 unknown_locale = meaning.without_extensions unknown_identifier
 
--- nothing but a language: the text is then lent
+-- nothing but a language, which alone means the locale: the text is then lent
 abbrev pub IsLanguageAlone : Locale → Type 0
-IsLanguageAlone l = ((value_of l).extensions ≡ meaning.no_extensions)
-    × (l.id.script ≡ None) × (l.id.region ≡ None) × (l.id.variants ≡ [])
+IsLanguageAlone l = Means languages (value_of l).id.language (value_of l)
 
 -- What the readers of locales answer, by cases on the whole answer. The cases exclude one another, so each says both directions.
 
--- memory runs out only if this holds
-abbrev pub RunsOutOnlyIf : {X : Type 0} → Type 0 → Result X ParseError → Type 0
-RunsOutOnlyIf Wants (Err OutOfMemory) = Wants
-RunsOutOnlyIf Wants _ = ⊤
-
 -- when memory may run out: the head has more than four variants at its front, or is an identifier after which a
 -- block is reached that isn't short
-abbrev pub WantsMemory : Text → Type 0
-WantsMemory t =
-    langid.WantsMemory (head (pieces t))
-    ⊎ (SpellsIdentifier languages (head (pieces t)) × ReachesLongBlock languages [] (tail_blocks (pieces t)))
+abbrev pub LocaleWantsMemory : Text → Type 0
+LocaleWantsMemory t =
+    langid.IdentifierWantsMemory (head (pieces t))
+    ⊎ (SpellsIdentifier languages (head (pieces t)) × ReachesLongBlock languages (tail_blocks (pieces t)))
 
 -- what the text is read as: the value that it means, or the fault that the grammar names
-abbrev pub LocaleReads : Text → Result Locale ParseError → Type 0
-LocaleReads t = Answers (λ l. Means languages t (value_of l)) (HasFault languages t) ⊤
+abbrev pub LocaleTextReads : Text → Result Locale ParseError → Type 0
+LocaleTextReads t = Answers (λ l. Means languages t (value_of l)) (HasFault languages t) ⊤
 
 -- the same, with when memory may run out
-abbrev pub LocaleReadsAs : Text → Result Locale ParseError → Type 0
-LocaleReadsAs t = Answers (λ l. Means languages t (value_of l)) (HasFault languages t) (WantsMemory t)
+abbrev pub LocaleTextAnswers : Text → Result Locale ParseError → Type 0
+LocaleTextAnswers t = Answers (λ l. Means languages t (value_of l)) (HasFault languages t) (LocaleWantsMemory t)
 
 -- the text means this value and no other: it reads back
 abbrev pub MeansOnly : Text → meaning.Locale → Type 0
@@ -70,10 +63,10 @@ pub record IsNormalizedFrom (input t : Text) : Type 0 where
   -- and no text that means the same is shorter
   pub shortest : (u : Text) (M : meaning.Locale) → Means languages input M → Means languages u M → length t ≤ length u
   -- eight steps of rewriting at most lead here
-  pub steps : Chain languages 8 input t
+  pub steps : Leads (TextStep languages) 8 input t
   -- so every accepted text means the same exactly if such steps lead both to one text
   pub together : (u : Text) (L M : meaning.Locale) → Means languages input L → Means languages u M → (L ≡ M) ↔ LeadToOne (TextStep languages) 8 input u
 
 -- memory may run out only if the reader may allocate, or if the input is accepted and isn't normal
 abbrev pub NormalizingWantsMemory : Text → Type 0
-NormalizingWantsMemory t = WantsMemory t ⊎ ((M : meaning.Locale) × Means languages t M × ¬ (t ≡ text M))
+NormalizingWantsMemory t = LocaleWantsMemory t ⊎ ((M : meaning.Locale) × Means languages t M × ¬ (t ≡ text M))

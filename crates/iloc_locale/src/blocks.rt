@@ -6,7 +6,7 @@ ghost use Rattle.iloc_spec_grammar.specs.Meaning.{no_extensions};
 ghost use Rattle.iloc_subtags.specs.Left.{left};
 ghost use Rattle.iloc_locale.specs.ExtensionsValue.{value_of};
 ghost use Rattle.iloc_locale.specs.Blocks.{BlocksDone, BlockReads, is_read};
-ghost use Rattle.iloc_locale.specs.Whole.{BlocksReadAs};
+ghost use Rattle.iloc_locale.specs.Whole.{BlocksReads};
 
 use crate::Extensions;
 use crate::others::has_other;
@@ -27,7 +27,7 @@ pub fn read_blocks(
 ) -> Result<(), ParseError>
     requires starts { starts_block (left iter.old) ≡ true }
     requires empty { value_of extensions.old ≡ no_extensions }
-    ensures reads { BlocksReadAs (left iter.old) (value_of extensions.new) result }
+    ensures reads { BlocksReads (left iter.old) (value_of extensions.new) result }
     ensures rest { OnOk result (left iter.new ≡ []) }
 {
     'blocks: while let Some(byte) = take_byte(iter) {

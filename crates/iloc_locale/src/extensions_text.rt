@@ -1,11 +1,7 @@
 //! Prints extensions.
-ghost use Rattle.std.specs.Prelude.{◌≡◌, Some};
-ghost use Rattle.iloc_spec_grammar.specs.Values.{
-  extensions_spelling,
-  extensions_text,
-  before_t,
-  after_t,
-};
+ghost use Rattle.std.specs.Prelude.{◌≡◌, ◌++◌, List, Some};
+ghost use Rattle.iloc_spec_grammar.specs.Syntax.{Block};
+ghost use Rattle.iloc_spec_grammar.specs.Values.{before_above, extensions_spelling, extensions_text};
 
 use crate::extensions::Extensions;
 use iloc_other::{Other, Private};
@@ -17,10 +13,10 @@ use std::fmt;
 impl Extensions {
     // The parts in the order in which they are printed.
     fn parts(&self) -> (&[Other], &Transform, &Unicode, &[Other], &Private)
-        ensures before { result.0.now ≡ before_t self.now.other.items }
+        ensures others { (bs : List Block)
+            → before_above bs self.now.other.items ≡ result.0.now ++ (bs ++ result.3.now) }
         ensures transform { result.1.now ≡ self.now.transform }
         ensures unicode { result.2.now ≡ self.now.unicode }
-        ensures after { result.3.now ≡ after_t self.now.other.items }
         ensures private { result.4.now ≡ self.now.private }
     {
         let (before, after) = split_after_t(&self.other);
@@ -35,12 +31,10 @@ impl Pieces for Extensions {
 
     ghost pieces = { λ e. extensions_spelling (value_of e) };
 
-    #[tactic(auto, unfolding(iloc_spec_grammar::specs::Values::extensions_spelling))]
     fn has_pieces(&self) -> bool {
         self.parts().has_pieces()
     }
 
-    #[tactic(auto, unfolding(iloc_spec_grammar::specs::Values::extensions_spelling))]
     fn write_pieces<S: Sink>(&self, sink: &mut S, first: bool) -> fmt::Result {
         if self.is_empty() {
             return Ok(());
@@ -77,8 +71,8 @@ impl fmt::Display for Extensions {
 
 // The others up to the first singleton above `t`, and the remaining ones.
 fn split_after_t(others: &[Other]) -> (&[Other], &[Other])
-    ensures before { result.0.now ≡ before_t others.now }
-    ensures after { result.1.now ≡ after_t others.now }
+    ensures { (bs : List Block)
+        → before_above bs others.now ≡ result.0.now ++ (bs ++ result.1.now) }
 {
     let above = others.iter().position(|other| other.get_ext_byte() > b't');
     others.split_at(above.unwrap_or(others.len()))

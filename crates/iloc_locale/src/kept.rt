@@ -2,13 +2,7 @@
 ghost use Rattle.std.specs.Prelude.{IfSome};
 ghost use Rattle.std.specs.List.{AllByRecursion};
 ghost use Rattle.iloc_spec_grammar.specs.Syntax.{languages, Subtag as the_kind};
-ghost use Rattle.iloc_spec_grammar.specs.Values.{
-  IsExtensionsValue,
-  IsIdentifierValue,
-  IsNormal,
-  IsTransformValue,
-  IsUnicodeValue,
-};
+ghost use Rattle.iloc_spec_grammar.specs.Values.{IsExtensionsValue, IsIdentifierValue, IsNormal, IsTransformValue, IsUnicodeValue};
 ghost use Rattle.iloc_langid.specs.Reads as identifiers;
 ghost use Rattle.iloc_transform.specs.TransformReading as transforms;
 ghost use Rattle.iloc_unicode.specs.UnicodeValue as unicodes;

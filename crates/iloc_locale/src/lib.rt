@@ -30,7 +30,7 @@ ghost use Rattle.std.specs.Prelude.{◌≡◌, ◌↔◌, IsTrue};
 ghost use Rattle.iloc_spec_grammar.specs.Syntax.{Text, pieces, Language, IsWord, languages, first_piece};
 ghost use Rattle.iloc_spec_parts.specs.Inline.{IsInline};
 ghost use Rattle.iloc_spec_parts.specs.Hashes.{locale_fed};
-ghost use Rattle.iloc_locale.specs.LocaleReading.{WantsMemory, IsTextOf, NormalizingWantsMemory, value_of};
+ghost use Rattle.iloc_locale.specs.LocaleReading.{LocaleWantsMemory, IsTextOf, NormalizingWantsMemory, value_of};
 
 use std::hash::Hash;
 
@@ -69,9 +69,9 @@ pub fn equality()
 /// Memory is wanted only after a language. A text that is inline wants none to be parsed; one that is its own
 /// normal text besides wants none to be normalized.
 pub fn memory()
-    ensures language { (t : Text) → WantsMemory t
+    ensures language { (t : Text) → LocaleWantsMemory t
         → IsWord (Language languages) (first_piece (pieces t)) }
-    ensures inline { (t : Text) → IsInline languages t → ¬ (WantsMemory t) }
+    ensures inline { (t : Text) → IsInline languages t → ¬ (LocaleWantsMemory t) }
     ensures normal { (t : Text) → IsInline languages t → IsTextOf t t
         → ¬ (NormalizingWantsMemory t) }
 {}

@@ -5,10 +5,10 @@ ghost use Rattle.iloc_spec_grammar.specs.Syntax.{Text, pieces, languages, two_or
 ghost use Rattle.iloc_spec_grammar.specs.Meaning as meaning;
 ghost use Rattle.iloc_spec_grammar.specs.Meaning.{Means, Fault, HasFault};
 ghost use Rattle.iloc_spec_grammar.specs.Reading.{after_head, starts_block};
-ghost use Rattle.iloc_spec_grammar.specs.Values.{Chain, IsValue, IsWellFormed};
+ghost use Rattle.iloc_spec_grammar.specs.Values.{TextStep, Leads, IsValue, IsWellFormed};
 ghost use Rattle.iloc_subtags.specs.Left.{left};
 ghost use Rattle.iloc_langid.specs.Reads as langid;
-ghost use Rattle.iloc_locale.specs.LocaleReading.{value_of, unknown_locale, LocaleReadsAs};
+ghost use Rattle.iloc_locale.specs.LocaleReading.{value_of, unknown_locale, LocaleTextAnswers};
 
 use crate::{Extensions, read_blocks};
 use iloc_langid::LanguageIdentifier;
@@ -37,8 +37,8 @@ pub struct Locale {
 impl Locale {
     ghost use Rattle.iloc_locale.specs.ExtensionsValue as extensions;
     ghost use Rattle.iloc_spec_grammar.specs.Meaning.{no_extensions};
-    ghost use Rattle.iloc_locale.specs.LocaleReading.{LocaleReads, RunsOutOnlyIf, WantsMemory};
-    ghost use Rattle.iloc_subtags.specs.Judging.{Accepts, Refuses};
+    ghost use Rattle.iloc_locale.specs.LocaleReading.{LocaleTextReads, LocaleWantsMemory};
+    ghost use Rattle.iloc_subtags.specs.Judging.{Accepts, Refuses, RunsOutOnlyIf};
 
     /// The unknown locale, `und`.
     pub fn unknown(alloc: Global) -> Self
@@ -58,16 +58,16 @@ impl Locale {
     /// `OutOfMemory` comes only if the front of the head has more than four variants, or a block is reached
     /// that is not short.
     pub fn try_from_utf8(alloc: Global, code_units: &[u8]) -> Result<Self, ParseError>
-        ensures reads { LocaleReads code_units.now result }
+        ensures reads { LocaleTextReads code_units.now result }
         ensures accepted { (M : meaning.Locale) → Means languages code_units.now M
             → Accepts value_of ⊤ M result }
         ensures refused { (f : Fault) → HasFault languages code_units.now f
             → Refuses ⊤ f result }
-        ensures memory { RunsOutOnlyIf (WantsMemory code_units.now) result }
+        ensures memory { RunsOutOnlyIf (LocaleWantsMemory code_units.now) result }
         ensures well_formed { IfOk result
             (λ l. IsValue languages (value_of l) × IsWellFormed (value_of l)) }
         ensures steps { IfOk result (λ l. (n : ℕ) (u : Text)
-            → Chain languages n code_units.now u → Means languages u (value_of l)) }
+            → Leads (TextStep languages) n code_units.now u → Means languages u (value_of l)) }
         ensures narrow { (M : meaning.Locale) → Means two_or_three code_units.now M
             → Accepts value_of ⊤ M result }
     {
@@ -87,7 +87,7 @@ impl Locale {
     // Parses all of the text in place of an identifier.
     fn fill(&mut self, alloc: Global, code_units: &[u8]) -> Result<(), ParseError>
         requires { extensions.value_of self.old.extensions ≡ no_extensions }
-        ensures { LocaleReadsAs code_units.now (result_and result (Ok self.new)) }
+        ensures { LocaleTextAnswers code_units.now (result_and result (Ok self.new)) }
     {
         let mut iter = SubtagIterator::new(code_units);
         fill_head(alloc, &mut iter, &mut self.id)?;
@@ -96,16 +96,16 @@ impl Locale {
 
     /// Parses all of a `str`, as `try_from_utf8` parses bytes.
     pub fn try_from_str(alloc: Global, s: &str) -> Result<Self, ParseError>
-        ensures reads { LocaleReads s.now result }
+        ensures reads { LocaleTextReads s.now result }
         ensures accepted { (M : meaning.Locale) → Means languages s.now M
             → Accepts value_of ⊤ M result }
         ensures refused { (f : Fault) → HasFault languages s.now f
             → Refuses ⊤ f result }
-        ensures memory { RunsOutOnlyIf (WantsMemory s.now) result }
+        ensures memory { RunsOutOnlyIf (LocaleWantsMemory s.now) result }
         ensures well_formed { IfOk result
             (λ l. IsValue languages (value_of l) × IsWellFormed (value_of l)) }
         ensures steps { IfOk result (λ l. (n : ℕ) (u : Text)
-            → Chain languages n s.now u → Means languages u (value_of l)) }
+            → Leads (TextStep languages) n s.now u → Means languages u (value_of l)) }
         ensures narrow { (M : meaning.Locale) → Means two_or_three s.now M
             → Accepts value_of ⊤ M result }
     {
@@ -123,9 +123,9 @@ pub fn read_rest(
     locale: &mut Locale,
 ) -> Result<(), ParseError>
     requires starts { starts_block (left iter.old) ≡ true }
-    ensures { (t : Text) → langid.ReadsAs (head (pieces t)) (Ok locale.old.id)
+    ensures { (t : Text) → langid.IdentifierReads (head (pieces t)) (Ok locale.old.id)
         → left iter.old ≡ after_head (pieces t)
-        → LocaleReadsAs t (result_and result (Ok locale.new)) }
+        → LocaleTextAnswers t (result_and result (Ok locale.new)) }
 {
     locale.extensions.clear();
     read_blocks(alloc, iter, &mut locale.extensions)

@@ -7,8 +7,8 @@ ghost use Rattle.iloc_spec_grammar.specs.Meaning.{Means, Fault, HasFault};
 ghost use Rattle.iloc_spec_grammar.specs.Values.{IsValue, IsWellFormed, text};
 ghost use Rattle.iloc_writeable.specs.Writing.{IsLent};
 ghost use Rattle.iloc_spec_parts.specs.Small.{SmallLocale, IsSmall, HasSmallFault, locale_of_small};
-ghost use Rattle.iloc_subtags.specs.Judging.{Refusal, Accepts, Refuses};
-ghost use Rattle.iloc_langid.specs.SmallLocaleReads.{SmallLocaleReadsAs, small_locale_of};
+ghost use Rattle.iloc_subtags.specs.Judging.{Refusal, Accepts, Refuses, RunsOutOnlyIf};
+ghost use Rattle.iloc_langid.specs.SmallLocaleReads.{SmallLocaleTextReads, small_locale_of};
 
 use crate::is_well_formed;
 use crate::locale::Locale;
@@ -19,7 +19,7 @@ use std::alloc::Global;
 use std::borrow::CowStr;
 
 impl Locale {
-    ghost use Rattle.iloc_locale.specs.LocaleReading.{value_of, RunsOutOnlyIf, IsNormalizedFrom, NormalizingWantsMemory};
+    ghost use Rattle.iloc_locale.specs.LocaleReading.{value_of, IsNormalizedFrom, NormalizingWantsMemory};
 
     /// The normal text of what the text means, borrowed exactly if the text is that already.
     ///
@@ -95,7 +95,7 @@ impl Locale {
         ),
         ParseError,
     >
-        ensures reads { SmallLocaleReadsAs code_units.now result }
+        ensures reads { SmallLocaleTextReads code_units.now result }
         ensures accepted { (r : SmallLocale) → IsSmall languages code_units.now r
             → Accepts small_locale_of ⊥ r result }
         ensures refused { (f : Fault) → HasSmallFault languages code_units.now f

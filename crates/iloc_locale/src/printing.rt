@@ -32,11 +32,13 @@ impl Locale {
 
 /// The pieces are those of the identifier, and then those of the extensions.
 impl Pieces for Locale {
-    ghost use Rattle.iloc_spec_grammar.specs.Syntax.{spelling};
-    ghost use Rattle.iloc_spec_grammar.specs.Values.{printed};
+    ghost use Rattle.std.specs.Prelude.{◌++◌};
+    ghost use Rattle.iloc_spec_grammar.specs.Syntax.{identifier_pieces};
+    ghost use Rattle.iloc_spec_grammar.specs.Values.{extensions_spelling};
     ghost use Rattle.iloc_locale.specs.LocaleReading.{value_of};
 
-    ghost pieces = { λ l. spelling (printed (value_of l)) };
+    ghost pieces = { λ l. identifier_pieces (value_of l).id
+        ++ extensions_spelling (value_of l).extensions };
 
     fn has_pieces(&self) -> bool {
         true

@@ -2,8 +2,7 @@
 
 ghost use Rattle.std.specs.Prelude.{List, []};
 ghost use Rattle.iloc_spec_grammar.specs.Syntax.{Table, Block};
-ghost use Rattle.iloc_spec_grammar.specs.Meaning.{Extensions as Parts};
-ghost use Rattle.iloc_spec_grammar.specs.ByBlocks.{BlocksMean};
+ghost use Rattle.iloc_spec_grammar.specs.Meaning.{Extensions as Parts, BlocksMean};
 ghost use Rattle.iloc_locale.specs.Blocks.{onto};
 
 /// Blocks mean the same from the last to the first.

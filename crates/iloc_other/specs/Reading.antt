@@ -1,41 +1,45 @@
 -- What the readers of the private extension and of other extensions answer.
-use Rattle.std.specs.Prelude.{◌≡◌, ℕ, ◌<◌, true, List, length, Result}
+use Rattle.std.specs.Prelude.{◌≡◌, ⊤, ℕ, ◌<◌, true, List, length, Result}
 use Rattle.iloc_spec_grammar.specs.Syntax.{Text, code_x, pieces, kept, is_other_singleton}
-use Rattle.iloc_spec_grammar.specs.Meaning as faults
 use Rattle.iloc_spec_grammar.specs.Reading.{rest_of}
 use Rattle.iloc_spec_parts.specs.Fronts.{OtherRead, OtherFault, PrivateRead, PrivateFault, other_front, private_front}
 use Rattle.iloc_spec_parts.specs.Parts.{begins_part, is_letter, OtherText, OtherTextFault, PrivateText, PrivateTextFault}
 use Rattle.iloc_subtags.specs.declared.parse_error.ParseError.{ParseError}
-use Rattle.iloc_subtags.specs.Judging.{Answers, ExtensionFault}
+use Rattle.iloc_subtags.specs.Judging.{Answers}
 
--- What the pieces after `x` are read as, and the pieces that are left. Memory may run out only for a fifth word.
+-- for what memory may run out after `x`: a fifth word
+abbrev pub PrivateWantsMemory : List Text → Type 0
+PrivateWantsMemory ps = 4 < length (private_front ps)
+
+-- what the pieces after `x` are read as, and the pieces that are left
 abbrev pub PrivateReads : List Text → List Text → Result (List Text) ParseError → Type 0
-PrivateReads ps rest = Answers (λ ws. PrivateRead ps ws rest)
-    (ExtensionFault (PrivateFault ps faults.InvalidExtension))
-    (4 < length (private_front ps))
+PrivateReads ps rest = Answers (λ ws. PrivateRead ps ws rest) (PrivateFault ps) ⊤
+
+-- the same, and when memory may run out
+abbrev pub PrivateFills : List Text → List Text → Result (List Text) ParseError → Type 0
+PrivateFills ps rest = Answers (λ ws. PrivateRead ps ws rest)
+    (PrivateFault ps) (PrivateWantsMemory ps)
 
 -- memory may run out on a text only after `x`, the letter of such an extension
 abbrev pub PrivateTextWants : Text → Type 0
-PrivateTextWants t = (begins_part (is_letter code_x) (pieces t) ≡ true) × (4 < length (private_front (rest_of (pieces t))))
+PrivateTextWants t = (begins_part (is_letter code_x) (pieces t) ≡ true) × PrivateWantsMemory (rest_of (pieces t))
 
 -- what a text is read as
 abbrev pub PrivateTextReads : Text → Result (List Text) ParseError → Type 0
-PrivateTextReads t = Answers (PrivateText t)
-    (ExtensionFault (PrivateTextFault t faults.InvalidExtension))
-    (PrivateTextWants t)
+PrivateTextReads t = Answers (PrivateText t) (PrivateTextFault t) ⊤
 
--- What the pieces after the singleton ext are read as, and the pieces that are left. Memory may run out only for a fifth word.
+-- for what memory may run out after the singleton: a fifth word
+abbrev pub OtherWantsMemory : List Text → Type 0
+OtherWantsMemory ps = 4 < length (kept (other_front ps))
+
+-- what the pieces after the singleton ext are read as, and the pieces that are left
 abbrev pub OtherReads : ℕ → List Text → List Text → Result (ℕ × List Text) ParseError → Type 0
-OtherReads ext ps rest = Answers (λ o. (o.0 ≡ ext) × OtherRead ps o.1 rest)
-    (ExtensionFault (OtherFault ps faults.InvalidExtension))
-    (4 < length (kept (other_front ps)))
+OtherReads ext ps rest = Answers (λ o. (o.0 ≡ ext) × OtherRead ps o.1 rest) (OtherFault ps) ⊤
 
 -- memory may run out on a text only after the singleton of such an extension
 abbrev pub OtherTextWants : Text → Type 0
-OtherTextWants t = (begins_part is_other_singleton (pieces t) ≡ true) × (4 < length (kept (other_front (rest_of (pieces t)))))
+OtherTextWants t = (begins_part is_other_singleton (pieces t) ≡ true) × OtherWantsMemory (rest_of (pieces t))
 
 -- what a text is read as
 abbrev pub OtherTextReads : Text → Result (ℕ × List Text) ParseError → Type 0
-OtherTextReads t = Answers (OtherText t)
-    (ExtensionFault (OtherTextFault t faults.InvalidExtension))
-    (OtherTextWants t)
+OtherTextReads t = Answers (OtherText t) (OtherTextFault t) ⊤

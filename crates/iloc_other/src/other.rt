@@ -1,5 +1,5 @@
 //! The extensions that are neither unicode, transform nor private.
-ghost use Rattle.std.specs.Prelude.{◌≡◌, ℕ, List, ◌<◌, ◌++◌, ◌∷◌, [], length, true, OnOk, IfErr, IsOk, Some, if◌then◌else◌};
+ghost use Rattle.std.specs.Prelude.{◌≡◌, ⊤, ℕ, List, ◌<◌, ◌++◌, ◌∷◌, [], length, true, OnOk, IfErr, IsOk, Some, if◌then◌else◌};
 ghost use Rattle.std.specs.Char.{is_ascii_alphanumeric};
 ghost use Rattle.std.specs.List.{AllByRecursion};
 ghost use Rattle.std.specs.Option.{option_copied};
@@ -9,9 +9,9 @@ ghost use Rattle.iloc_spec_grammar.specs.Values.{IsNormal, other_spelling, other
 ghost use Rattle.iloc_spec_grammar.specs.Meaning.{Fault};
 ghost use Rattle.iloc_spec_parts.specs.Fronts.{has_other_length};
 ghost use Rattle.iloc_spec_parts.specs.Parts.{OtherText, OtherTextFault};
-ghost use Rattle.iloc_subtags.specs.Judging.{Accepts, Refuses};
+ghost use Rattle.iloc_subtags.specs.Judging.{Accepts, Refuses, RunsOutOnlyIf};
 ghost use Rattle.iloc_subtags.specs.Left.{left};
-ghost use Rattle.iloc_other.specs.Reading.{OtherReads, OtherTextReads, OtherTextWants};
+ghost use Rattle.iloc_other.specs.Reading.{OtherReads, OtherWantsMemory, OtherTextReads, OtherTextWants};
 
 use crate::singleton::take_singleton;
 use iloc_subtags::{ParseError, Subtag, SubtagIterator, SubtagKind, next_has_length};
@@ -107,16 +107,18 @@ impl Other {
     pub fn try_from_utf8(alloc: Global, code_units: &[u8]) -> Result<Self, ParseError>
         ensures reads { OtherTextReads code_units.now result }
         ensures accepted { (o : ℕ × List (List ℕ)) → OtherText code_units.now o
-            → Accepts (λ o. o) (OtherTextWants code_units.now) o result }
+            → Accepts (λ o. o) ⊤ o result }
         ensures refused { (f : Fault) → OtherTextFault code_units.now f
-            → Refuses (OtherTextWants code_units.now) f result }
+            → Refuses ⊤ f result }
+        ensures memory { RunsOutOnlyIf (OtherTextWants code_units.now) result }
     {
         Self::read_text(alloc, code_units)
     }
 
-    // The same by what it reads alone.
+    // The same by what it reads, and when memory runs out, alone.
     fn read_text(alloc: Global, code_units: &[u8]) -> Result<Self, ParseError>
-        ensures { OtherTextReads code_units.now result }
+        ensures reads { OtherTextReads code_units.now result }
+        ensures memory { RunsOutOnlyIf (OtherTextWants code_units.now) result }
     {
         let mut iter = SubtagIterator::new(code_units);
         let Some(ext) = take_singleton(&mut iter) else {
@@ -132,9 +134,10 @@ impl Other {
     pub fn try_from_str(alloc: Global, s: &str) -> Result<Self, ParseError>
         ensures reads { OtherTextReads s.now result }
         ensures accepted { (o : ℕ × List (List ℕ)) → OtherText s.now o
-            → Accepts (λ o. o) (OtherTextWants s.now) o result }
+            → Accepts (λ o. o) ⊤ o result }
         ensures refused { (f : Fault) → OtherTextFault s.now f
-            → Refuses (OtherTextWants s.now) f result }
+            → Refuses ⊤ f result }
+        ensures memory { RunsOutOnlyIf (OtherTextWants s.now) result }
     {
         Self::try_from_utf8(alloc, s.as_bytes())
     }
@@ -146,7 +149,8 @@ impl Other {
         iter: &mut SubtagIterator<'_>,
     ) -> Result<Self, ParseError>
         requires { is_ascii_alphanumeric ext ≡ true }
-        ensures { OtherReads ext (left iter.old) (left iter.new) result }
+        ensures reads { OtherReads ext (left iter.old) (left iter.new) result }
+        ensures memory { RunsOutOnlyIf (OtherWantsMemory (left iter.old)) result }
     {
         let mut other = Other {
             ext,

@@ -1,5 +1,5 @@
 //! The private extension: a list of private subtags.
-ghost use Rattle.std.specs.Prelude.{◌≡◌, ℕ, List, ◌∷◌, [], ◌↔◌, IsTrue, length, slice_get, Some, Ok};
+ghost use Rattle.std.specs.Prelude.{◌≡◌, ⊤, ℕ, List, ◌∷◌, [], ◌↔◌, IsTrue, length, slice_get, Some, Ok};
 ghost use Rattle.std.specs.List.{AllByRecursion};
 ghost use Rattle.std.specs.Option.{option_copied};
 ghost use Rattle.std.specs.Result.{result_and};
@@ -9,8 +9,14 @@ ghost use Rattle.iloc_spec_grammar.specs.Values.{private_text, private_spelling,
 ghost use Rattle.iloc_subtags.specs.Left.{left};
 ghost use Rattle.iloc_spec_grammar.specs.Meaning.{Fault};
 ghost use Rattle.iloc_spec_parts.specs.Parts.{PrivateText, PrivateTextFault};
-ghost use Rattle.iloc_subtags.specs.Judging.{Accepts, Refuses};
-ghost use Rattle.iloc_other.specs.Reading.{PrivateReads, PrivateTextReads, PrivateTextWants};
+ghost use Rattle.iloc_subtags.specs.Judging.{Accepts, Refuses, RunsOutOnlyIf};
+ghost use Rattle.iloc_other.specs.Reading.{
+  PrivateReads,
+  PrivateFills,
+  PrivateWantsMemory,
+  PrivateTextReads,
+  PrivateTextWants,
+};
 
 use crate::singleton::take_singleton;
 use iloc_subtags::{ParseError, PrivateSubtag, PrivateSubtagKind, SubtagIterator};
@@ -117,16 +123,18 @@ impl Private {
     pub fn try_from_utf8(alloc: Global, code_units: &[u8]) -> Result<Self, ParseError>
         ensures reads { PrivateTextReads code_units.now result }
         ensures accepted { (ws : List Text) → PrivateText code_units.now ws
-            → Accepts (λ p. p) (PrivateTextWants code_units.now) ws result }
+            → Accepts (λ p. p) ⊤ ws result }
         ensures refused { (f : Fault) → PrivateTextFault code_units.now f
-            → Refuses (PrivateTextWants code_units.now) f result }
+            → Refuses ⊤ f result }
+        ensures memory { RunsOutOnlyIf (PrivateTextWants code_units.now) result }
     {
         Self::read_text(alloc, code_units)
     }
 
-    // The same by what it reads alone.
+    // The same by what it reads, and when memory runs out, alone.
     fn read_text(alloc: Global, code_units: &[u8]) -> Result<Self, ParseError>
-        ensures { PrivateTextReads code_units.now result }
+        ensures reads { PrivateTextReads code_units.now result }
+        ensures memory { RunsOutOnlyIf (PrivateTextWants code_units.now) result }
     {
         let mut iter = SubtagIterator::new(code_units);
         let Some(ext) = take_singleton(&mut iter) else {
@@ -142,16 +150,18 @@ impl Private {
     pub fn try_from_str(alloc: Global, s: &str) -> Result<Self, ParseError>
         ensures reads { PrivateTextReads s.now result }
         ensures accepted { (ws : List Text) → PrivateText s.now ws
-            → Accepts (λ p. p) (PrivateTextWants s.now) ws result }
+            → Accepts (λ p. p) ⊤ ws result }
         ensures refused { (f : Fault) → PrivateTextFault s.now f
-            → Refuses (PrivateTextWants s.now) f result }
+            → Refuses ⊤ f result }
+        ensures memory { RunsOutOnlyIf (PrivateTextWants s.now) result }
     {
         Self::try_from_utf8(alloc, s.as_bytes())
     }
 
     /// Parses what follows `x`: all the pieces that are left.
     pub fn try_from_iter(alloc: Global, iter: &mut SubtagIterator<'_>) -> Result<Self, ParseError>
-        ensures { PrivateReads (left iter.old) (left iter.new) result }
+        ensures reads { PrivateReads (left iter.old) (left iter.new) result }
+        ensures memory { RunsOutOnlyIf (PrivateWantsMemory (left iter.old)) result }
     {
         let mut words = Private::new();
         fill_private(alloc, iter, &mut words)?;
@@ -174,7 +184,7 @@ pub fn fill_private(
     private: &mut Private,
 ) -> Result<(), ParseError>
     requires { private.old ≡ [] }
-    ensures { PrivateReads (left iter.old) (left iter.new) (result_and result (Ok private.new)) }
+    ensures { PrivateFills (left iter.old) (left iter.new) (result_and result (Ok private.new)) }
 {
     'words: while let Some(piece) = iter.next() {
         let word = Subtag::try_from_utf8(piece)?;

@@ -7,7 +7,7 @@ use Rattle.std.proofs.lemmas.Bool.Decides.{nat_tests}
 use Rattle.std.proofs.lemmas.List.{take_more_set}
 use Rattle.std.proofs.Math.ListN.{set}
 use Rattle.iloc_spec_grammar.specs.Syntax.{IsHyphenFree, dashes, join, languages}
-use Rattle.iloc_spec_grammar.specs.Meaning.{IsBlock}
+use Rattle.iloc_spec_grammar.specs.Tree.{IsBlock}
 use Rattle.iloc_spec_grammar.specs.ByBlocks.{UnicodeMeans, TransformMeans, OtherMeans}
 use Rattle.iloc_spec_grammar.proofs.PartTexts.{dashes-append, join-dashes}
 use Rattle.iloc_spec_grammar.proofs.PiecesLaws.{pieces_hyphen_free}

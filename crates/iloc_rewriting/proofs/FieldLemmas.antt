@@ -3,7 +3,8 @@ use Rattle.std.proofs.Common.{take, ◌≡◌, ◌≢◌, ℕ, ◌+◌, ◌<◌,
 use Rattle.std.specs.List.{AllByRecursion}
 use Rattle.std.specs.Char.{is_ascii_alphanumeric}
 use Rattle.std.proofs.lemmas.Bool.Decides.{nat_tests}
-use Rattle.iloc_spec_grammar.specs.Syntax.{dashes, join, TransformKey, IsWord, IsHyphenFree, IsField, IsTransform, Fields, Identifier, Transform, transform, fields_pieces, identifier_pieces, optional_pieces, lower, languages}
+use Rattle.iloc_spec_grammar.specs.Syntax.{dashes, join, TransformKey, IsWord, IsHyphenFree, IsField, Fields, Identifier, Transform, fields_pieces, identifier_pieces, optional_pieces, lower, languages}
+use Rattle.iloc_spec_grammar.specs.Tree.{IsTransformBlock, transform}
 use Rattle.iloc_spec_grammar.specs.Meaning.{normal_identifier, normal_transform}
 use Rattle.iloc_spec_grammar.specs.Reading.{front_of, transform_of}
 use Rattle.iloc_spec_grammar.specs.ByBlocks.{TransformMeans}
@@ -105,7 +106,7 @@ module _ (text : List ℕ) (l : Left) (room : List ℕ) (s : Stored) (h : IsHead
   abbrev with : Fields → Transform
   with fs = record { id = h.id; fields = fs }
 
-  long_with : (fs : Fields) → IsTransform languages (with fs) → AllByRecursion IsLong (head ++ fields_pieces fs)
+  long_with : (fs : Fields) → IsTransformBlock languages (with fs) → AllByRecursion IsLong (head ++ fields_pieces fs)
   long_with fs m = long_extension languages languages_table 116 (transform (with fs)) (refl, m)
 
   module _ (new : List ℕ) (r : Stored) (k : AreFieldsInOrder kind.Transform (take s.end room) (left_of s.next) new r) where
@@ -125,11 +126,11 @@ module _ (text : List ℕ) (l : Left) (room : List ℕ) (s : Stored) (h : IsHead
         some = some;
       }
 
-      good : IsTransform languages (with k.kept)
+      good : IsTransformBlock languages (with k.kept)
       unfolding part
       good = part_means (head ++ fields_pieces k.kept) part
 
-      good_written : IsTransform languages (with k.written)
+      good_written : IsTransformBlock languages (with k.written)
       good_written = record { id = good.id; fields = k.each; nonempty = λ e. omega (arith, some e, k.some) }
 
       -- fields with the same first values mean the same

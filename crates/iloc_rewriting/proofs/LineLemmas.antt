@@ -4,11 +4,10 @@ use Rattle.std.specs.List.{AllByRecursion}
 use Rattle.std.proofs.lemmas.List.{length-take-le, length-drop, take-take}
 use Rattle.iloc_spec_grammar.specs.Syntax.{pieces, join, dashes, head, tail_blocks, Variant, IsWord, IsHyphenFree, Identifier, identifier_pieces, languages}
 use Rattle.iloc_spec_grammar.specs.Meaning.{Fault, HasFault, IdentifierMeans}
-use Rattle.iloc_spec_grammar.specs.ByBlocks.{BlocksMean, MeansByBlocks}
-use Rattle.iloc_spec_grammar.proofs.BlockLaws.{means_by_blocks, blocks_mean}
+use Rattle.iloc_spec_grammar.specs.ByBlocks.{BlocksGive, grammar_rules, MeansByBlocks}
 use Rattle.iloc_spec_grammar.proofs.PartTexts.{dashes-append}
-use Rattle.iloc_spec_grammar.proofs.RawLaws.{languages_table}
 use Rattle.iloc_spec_grammar.proofs.ReadBack.{all_append, word_hyphen_free}
+use Rattle.iloc_spec_grammar.proofs.SameMeaning.{means_by_blocks, blocks_mean}
 use Rattle.iloc_spec_grammar.proofs.ValuesLaws.{all_weaker, ascending_different}
 use Rattle.iloc_plain.specs.Plain.{AreWords, IsPlain}
 use Rattle.iloc_plain.specs.declared.plain.Plain.{Plain}
@@ -101,16 +100,16 @@ module _ (w : List ℕ) (len at : ℕ) (inside : len + 16 ≤ length w) (less : 
 
       rewritten : IsRewritten (take len w) (take n room)
       rewritten M m =
-          let given : MeansByBlocks languages (take n room) M = means_by_blocks languages languages_table (take n room) M m in
+          let given : MeansByBlocks languages (take n room) M = means_by_blocks (take n room) M m in
           let heads : head (pieces (take n room)) ≡ head (pieces (take len w)) =
           ap head new_pieces ∙ head_is words plain.means.grammatical.words plain.no_variant h.variants h.blocks.new h.ascending.each
           ∙ ap (λ l. identifier_pieces words ++ (h.variants ++ l)) (front_of_block h.blocks.new h.blocks.starts ∙ sym (front_of_block h.rest h.starts))
           ∙ sym (ap head old_pieces ∙ head_is words plain.means.grammatical.words plain.no_variant h.variants h.rest h.ascending.each) in
           let new_blocks = ap tail_blocks new_pieces ∙ blocks_are words plain.means.grammatical.words plain.no_variant h.variants h.blocks.new h.ascending.each in
           let old_blocks = ap tail_blocks old_pieces ∙ blocks_are words plain.means.grammatical.words plain.no_variant h.variants h.rest h.ascending.each in
-          blocks_mean languages languages_table (take len w) M (record {
+          blocks_mean (take len w) M (record {
             id = subst (λ (ps : List (List ℕ)). IdentifierMeans languages ps M.id) heads given.id;
-            blocks = subst (λ bs. BlocksMean languages bs M.extensions) (sym old_blocks) (h.blocks.keeps M.extensions (subst (λ bs. BlocksMean languages bs M.extensions) new_blocks given.blocks));
+            blocks = subst (λ bs. BlocksGive (grammar_rules languages) bs M.extensions) (sym old_blocks) (h.blocks.keeps M.extensions (subst (λ bs. BlocksGive (grammar_rules languages) bs M.extensions) new_blocks given.blocks));
           })
 
       before_is : length (take at w) ≡ at

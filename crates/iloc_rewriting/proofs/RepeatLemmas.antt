@@ -3,10 +3,12 @@ use Rattle.std.proofs.Common.{take, drop, ◌≡◌, ℕ, ◌+◌, ◌-◌, ◌�
 use Rattle.std.specs.List.{AllByRecursion}
 use Rattle.std.proofs.lemmas.List.{map-append}
 use Rattle.iloc_spec_grammar.specs.Syntax.{pieces, first_piece, front, head, Language, Variant, is_word, IsWord, Identifier, HasWords, identifier_pieces, lower, word_cmp, AllDifferent, languages}
-use Rattle.iloc_spec_grammar.specs.Meaning.{SpellsIdentifier, not_an_identifier, no_identifier}
+use Rattle.iloc_spec_grammar.specs.Meaning.{SpellsIdentifier, not_an_identifier}
+use Rattle.iloc_spec_grammar.specs.Tree.{no_identifier}
 use Rattle.iloc_spec_grammar.specs.Reading.{identifier_of}
 use Rattle.iloc_spec_grammar.proofs.FaultLaws.{some_repeat, repeats_longer}
 use Rattle.iloc_spec_grammar.proofs.IdentifierLaws.{identifier_of-pieces}
+use Rattle.iloc_spec_grammar.proofs.SameFaults.{fault_by_tree}
 use Rattle.iloc_blocks.specs.Ordered.{IsBefore}
 use Rattle.iloc_blocks.specs.declared.ordered.Ordered.{Ordered}
 use Rattle.iloc_rewriting.specs.Repeats.{HaveRepeat, HasRepeat}
@@ -32,7 +34,7 @@ module _ (w : Identifier) (h : HasWords languages w) (none : w.variants ≡ []) 
       let language : IsWord (Language languages) (first_piece (pieces t)) = ap (λ ps. is_word (Language languages) (first_piece ps)) e ∙ h.language in
       record {
         identifier = not_an_identifier language (λ s. no_spelling rest (subst (SpellsIdentifier languages) e s));
-        locale = no_identifier language (λ s. no_spelling (front rest) (subst (SpellsIdentifier languages) (ap head e ∙ head_is w h none vs rest each) s));
+        locale = fault_by_tree t (no_identifier language (λ s. no_spelling (front rest) (subst (SpellsIdentifier languages) (ap head e ∙ head_is w h none vs rest each) s)));
       }
 
 line_repeats : (w : List ℕ) (len at : ℕ) (o : Ordered) → len + 16 ≤ length w → IsBefore w len at o

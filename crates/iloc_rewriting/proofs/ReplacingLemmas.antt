@@ -8,8 +8,9 @@ use Rattle.std.specs.Char.{is_ascii_alphanumeric, to_ascii_lowercase}
 use Rattle.std.proofs.lemmas.Bool.{or_parts, or_from}
 use Rattle.std.proofs.lemmas.Simd.{map-map}
 use Rattle.iloc_spec_grammar.specs.Syntax.{Block, languages, is_other_singleton, singleton, AllDifferent, kept}
-use Rattle.iloc_spec_grammar.specs.Meaning.{no_unicode, no_transform, by_singleton, map_of}
-use Rattle.iloc_spec_grammar.specs.ByBlocks.{UnicodeMeans, TransformMeans, PrivateMeans, OtherMeans, PartIs, BlocksMean, other_blocks}
+use Rattle.iloc_spec_grammar.specs.Meaning.{no_unicode, no_transform, map_of}
+use Rattle.iloc_spec_grammar.specs.Tree.{by_singleton}
+use Rattle.iloc_spec_grammar.specs.ByBlocks.{UnicodeMeans, TransformMeans, PrivateMeans, OtherMeans, PartIs, BlocksGive, grammar_rules, other_blocks}
 use Rattle.iloc_spec_grammar.specs.Values.{Reordered}
 use Rattle.iloc_spec_grammar.proofs.MapLaws.{map_of_same}
 use Rattle.iloc_spec_grammar.proofs.Orders.{all_reordered, map_reordered, different_reordered, find_reordered, itself}
@@ -171,7 +172,7 @@ moved (z ∷ xs) ys zs x = Reordered.front_kept (moved xs ys zs x)
 pub block_put : (xs ys written : List Block) (c : ℕ) (new old : List (List ℕ)) → to_ascii_lowercase c ≢ 120 → KeepsBlock (to_ascii_lowercase c) new old
     → ((bs : List Block) → KeepsBlocks ((xs ++ ys) ++ bs) (written ++ bs)) → (bs : List Block) → KeepsBlocks ((xs ++ ((c, new) ∷ ys)) ++ bs) ((written ++ (c, old) ∷ []) ++ bs)
 block_put xs ys written c new old no_x k f bs e m =
-    let last : BlocksMean languages (xs ++ (ys ++ ((c, new) ∷ bs))) e =
-    reordered_give (xs ++ ((c, new) ∷ (ys ++ bs))) (xs ++ (ys ++ ((c, new) ∷ bs))) (moved xs ys bs (c, new)) e (subst (λ l. BlocksMean languages l e) (append_assoc xs ((c, new) ∷ ys) bs) m) in
-    let before : BlocksMean languages (written ++ ((c, new) ∷ bs)) e = f ((c, new) ∷ bs) e (subst (λ l. BlocksMean languages l e) (sym (append_assoc xs ys ((c, new) ∷ bs))) last) in
-    subst (λ l. BlocksMean languages l e) (sym (append_assoc written ((c, old) ∷ []) bs)) (replaced_give bs c new old no_x k written e before)
+    let last : BlocksGive (grammar_rules languages) (xs ++ (ys ++ ((c, new) ∷ bs))) e =
+    reordered_give (xs ++ ((c, new) ∷ (ys ++ bs))) (xs ++ (ys ++ ((c, new) ∷ bs))) (moved xs ys bs (c, new)) e (subst (λ l. BlocksGive (grammar_rules languages) l e) (append_assoc xs ((c, new) ∷ ys) bs) m) in
+    let before : BlocksGive (grammar_rules languages) (written ++ ((c, new) ∷ bs)) e = f ((c, new) ∷ bs) e (subst (λ l. BlocksGive (grammar_rules languages) l e) (sym (append_assoc xs ys ((c, new) ∷ bs))) last) in
+    subst (λ l. BlocksGive (grammar_rules languages) l e) (sym (append_assoc written ((c, old) ∷ []) bs)) (replaced_give bs c new old no_x k written e before)

@@ -2,7 +2,8 @@
 use Rattle.std.proofs.Common.{take, ◌≡◌, ℕ, ◌<◌, ◌≤◌, true, false, List, [], ◌∷◌, ◌++◌, length, refl, sym, ap, ◌∙◌, subst, arith, append_assoc}
 use Rattle.std.specs.List.{AllByRecursion}
 use Rattle.std.proofs.lemmas.List.{length-take-le}
-use Rattle.iloc_spec_grammar.specs.Syntax.{pieces, join, dashes, first_piece, Attribute, is_word, IsWord, IsHyphenFree, IsKeyword, Fields, Unicode, IsUnicode, fields_pieces}
+use Rattle.iloc_spec_grammar.specs.Syntax.{pieces, join, dashes, first_piece, Attribute, is_word, IsWord, IsHyphenFree, IsKeyword, Fields, Unicode, fields_pieces}
+use Rattle.iloc_spec_grammar.specs.Tree.{IsUnicodeBlock}
 use Rattle.iloc_spec_grammar.specs.Meaning.{normal_unicode}
 use Rattle.iloc_spec_grammar.specs.Reading.{fields_from, is_two, unicode_of, rest_of}
 use Rattle.iloc_spec_grammar.specs.ByBlocks.{UnicodeMeans}
@@ -43,8 +44,8 @@ same_unicode vs ws fs gs h k l same few v m = record {
     is : m.written ≡ record { attributes = ws; keywords = gs }
     is = sym (unicode_of-pieces m.written m.grammatical) ∙ ap unicode_of (sym m.spelled) ∙ read_parts ws gs h.each_kept l
 
-    some : IsUnicode (record { attributes = ws; keywords = gs })
-    some = subst IsUnicode is m.grammatical
+    some : IsUnicodeBlock (record { attributes = ws; keywords = gs })
+    some = subst IsUnicodeBlock is m.grammatical
 
 -- ---- the text
 

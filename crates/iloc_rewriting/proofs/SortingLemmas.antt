@@ -8,10 +8,11 @@ use Rattle.std.proofs.lemmas.Bool.{true≢false}
 use Rattle.std.proofs.lemmas.Bool.Decides.{nat_tests}
 use Rattle.std.proofs.lemmas.Grind.{flat_map-append}
 use Rattle.std.proofs.lemmas.List.{length-take-le}
-use Rattle.iloc_spec_grammar.specs.Syntax.{Block, PrivateSubtag, is_word, IsHyphenFree, Extension, unicode, transform, other, IsExtension, extension_pieces, is_one_byte, first_piece, join, dashes, front, blocks, block_pieces, singleton, IsOther, is_other_singleton, kept, languages}
-use Rattle.iloc_spec_grammar.specs.Meaning.{Fault, IsBlock, FirstBadBlock, here, later, BlockFault, no_singleton, duplicated, repeats_variant, breaks_rule, normal_unicode, normal_transform}
+use Rattle.iloc_spec_grammar.specs.Syntax.{Block, PrivateSubtag, is_word, IsHyphenFree, is_one_byte, first_piece, join, dashes, front, blocks, singleton, IsOther, is_other_singleton, kept, languages}
+use Rattle.iloc_spec_grammar.specs.Tree.{Extension, unicode, transform, other, IsExtension, extension_pieces, block_pieces, IsBlock, FirstBadBlock, here, later, TreeBlockFault, no_singleton, duplicated, repeats_variant, breaks_rule}
+use Rattle.iloc_spec_grammar.specs.Meaning.{Fault, normal_unicode, normal_transform}
 use Rattle.iloc_spec_grammar.specs.Reading.{starts_block, rest_of}
-use Rattle.iloc_spec_grammar.specs.ByBlocks.{BlocksMean}
+use Rattle.iloc_spec_grammar.specs.ByBlocks.{BlocksGive, grammar_rules}
 use Rattle.iloc_spec_grammar.proofs.PartTexts.{join-dashes, dashes-append}
 use Rattle.iloc_spec_grammar.proofs.PiecesLaws.{pieces_hyphen_free}
 use Rattle.iloc_spec_grammar.proofs.ReadBack.{all_append}
@@ -183,7 +184,7 @@ same_put (b ∷ before) after new s =
     turned false b c = refl
 
 -- the fault of a block is the same after the same singletons
-same_fault : {seen more : List ℕ} {b : Block} {f : Fault} → HaveSame seen more → BlockFault languages seen b f → BlockFault languages more b f
+same_fault : {seen more : List ℕ} {b : Block} {f : Fault} → HaveSame seen more → TreeBlockFault languages seen b f → TreeBlockFault languages more b f
 same_fault e (no_singleton h) = no_singleton h
 same_fault {b = b} e (duplicated l h) = duplicated l (sym (e (singleton b)) ∙ h)
 same_fault {b = b} e (repeats_variant l n t r) = repeats_variant l (sym (e (singleton b)) ∙ n) t r
@@ -476,8 +477,8 @@ blocks_end text ps left start end last room new n far some starts free printed a
   starts = starts_in far.new left starts;
   free = all_append IsHyphenFree (pieces_in far.new) left (free_in far.new far.held.each) free;
   printed = printed_in 0 far.new left far.held.each (all_weaker IsBlockInOrder (λ b. 0 < singleton b) (λ b h. letter_above b.0 h.letter) far.new far.held.each) far.held.ascending printed;
-  keeps = λ e m. subst (λ l. BlocksMean languages l e) (sym far.cut)
-      (far.keeps (blocks left) e (subst (λ l. BlocksMean languages l e) (blocks_in far.new left far.held.each starts) m));
+  keeps = λ e m. subst (λ l. BlocksGive (grammar_rules languages) l e) (sym far.cut)
+      (far.keeps (blocks left) e (subst (λ l. BlocksGive (grammar_rules languages) l e) (blocks_in far.new left far.held.each starts) m));
   stored = subst (λ (t : List ℕ). AreStored new t n)
       (ap (λ t. t ++ dashes left) far.held.stored ∙ append_assoc text (dashes (pieces_in far.new)) (dashes left) ∙ ap (λ t. text ++ t) (sym (dashes-append (pieces_in far.new) left))) a;
 }

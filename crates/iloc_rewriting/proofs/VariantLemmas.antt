@@ -2,23 +2,25 @@
 use Rattle.std.proofs.Common.{take, drop, ◌≡◌, ℕ, ◌+◌, ◌-◌, ◌≤◌, List, [], ◌∷◌, ◌++◌, length, refl, sym, ap, ◌∙◌, subst, arith, append_assoc, append-nil}
 use Rattle.std.specs.List.{AllByRecursion}
 use Rattle.iloc_spec_grammar.specs.Syntax.{pieces, join, dashes, Variant, IsWord, IsHyphenFree, Identifier, IsIdentifier, HasWords, identifier_pieces, front, blocks, head, tail_blocks, languages}
-use Rattle.iloc_spec_grammar.specs.Meaning.{IdentifierMeans, normal_identifier, SpellsIdentifier, Fault, InvalidExtension, DuplicatedExtension, FirstBadBlock, HasFault, bad_block}
+use Rattle.iloc_spec_grammar.specs.Meaning.{IdentifierMeans, normal_identifier, SpellsIdentifier, Fault, InvalidExtension, DuplicatedExtension, HasFault, in_block}
+use Rattle.iloc_spec_grammar.specs.Tree.{FirstBadBlock, HasTreeFault, bad_block}
 use Rattle.iloc_spec_grammar.specs.Reading.{identifier_of}
-use Rattle.iloc_spec_grammar.specs.Values.{Reordered, IdentifierStep, with_variants}
-use Rattle.iloc_spec_grammar.specs.ByBlocks.{BlocksMean, MeansByBlocks}
-use Rattle.iloc_spec_grammar.proofs.BlockLaws.{means_by_blocks, blocks_mean}
+use Rattle.iloc_spec_grammar.specs.Values.{Reordered}
+use Rattle.iloc_spec_grammar.specs.TreeSteps.{TreeIdentifierStep, with_variants}
+use Rattle.iloc_spec_grammar.specs.ByBlocks.{BlocksGive, grammar_rules, MeansByBlocks}
 use Rattle.iloc_spec_grammar.proofs.FaultLaws.{read_longer}
 use Rattle.iloc_spec_grammar.proofs.IdentifierLaws.{identifier_of-pieces}
 use Rattle.iloc_spec_grammar.proofs.Orders.{total_reordered}
 use Rattle.iloc_spec_grammar.proofs.PartTexts.{join-dashes, dashes-append}
 use Rattle.iloc_spec_grammar.proofs.PiecesLaws.{pieces-join, pieces_hyphen_free}
-use Rattle.iloc_spec_grammar.proofs.RawLaws.{languages_table}
 use Rattle.iloc_spec_grammar.proofs.ReadBack.{all_append, word_hyphen_free}
 use Rattle.iloc_spec_grammar.proofs.Readings.{IsLong, long_variant, after_language, long_after_language}
+use Rattle.iloc_spec_grammar.proofs.SameFaults.{tree_fault, fault_of_first}
+use Rattle.iloc_spec_grammar.proofs.SameMeaning.{means_by_blocks, blocks_mean}
 use Rattle.iloc_spec_grammar.proofs.StepLaws.{identifier_step}
 use Rattle.iloc_spec_grammar.proofs.ValuesLaws.{all_weaker}
 use Rattle.iloc_blocks.specs.Blocks.{left_of}
-use Rattle.iloc_blocks.specs.Bad.{HasBadBlock}
+use Rattle.iloc_blocks.specs.Bad.{HasBadBlock, fault_of}
 use Rattle.iloc_blocks.specs.declared.bad_block.BadBlock.{BadBlock}
 use Rattle.iloc_blocks.specs.declared.bad_block.BadBlock.TheVariants as bad
 use Rattle.iloc_blocks.specs.Ordered.{IsBefore, IsReading}
@@ -63,7 +65,7 @@ module _ (w : Identifier) (h : HasWords languages w) (none : w.variants ≡ []) 
   same_identifier (v ∷ vs) [] rest each r i m = absurd (omega (arith, total_reordered (λ (x : List ℕ). 1) r))
   same_identifier vs (k ∷ ks) rest each r i m =
       let read : m.written ≡ with ((k ∷ ks) ++ rest) = sym (identifier_of-pieces m.written m.grammatical.words) ∙ ap identifier_of (sym m.spelled) ∙ read_first k ks rest each.0 in
-      let step = identifier_step (IdentifierStep.variants {l = w.language} {s = w.script} {r = w.region} (reordered_after rest r)) (subst (IsIdentifier languages) read m.grammatical) in
+      let step = identifier_step (TreeIdentifierStep.variants {l = w.language} {s = w.script} {r = w.region} (reordered_after rest r)) (subst (IsIdentifier languages) read m.grammatical) in
       record { written = with (vs ++ rest); grammatical = step.0; spelled = spelled vs rest; means = m.means ∙ ap normal_identifier read ∙ sym step.1 }
 
   long_variants : (vs : List (List ℕ)) → AllByRecursion (IsWord Variant) vs → AllByRecursion IsLong vs
@@ -90,21 +92,24 @@ module _ (w : Identifier) (h : HasWords languages w) (none : w.variants ≡ []) 
 
     same_locales : IsRewritten t u
     same_locales M m =
-        let given : MeansByBlocks languages u M = means_by_blocks languages languages_table u M m in
-        blocks_mean languages languages_table t M (record {
+        let given : MeansByBlocks languages u M = means_by_blocks u M m in
+        blocks_mean t M (record {
           id = same_head M.id given.id;
-          blocks = subst (λ bs. BlocksMean languages bs M.extensions) same_blocks given.blocks;
+          blocks = subst (λ bs. BlocksGive (grammar_rules languages) bs M.extensions) same_blocks given.blocks;
         })
 
     -- a block that is bad is the same there
     same_fault : (f : Fault) → SpellsIdentifier languages (head (pieces u)) → FirstBadBlock languages [] (tail_blocks (pieces u)) f → HasFault languages t f
     same_fault f s b =
         let i = same_head (normal_identifier s.0) (record { written = s.0; grammatical = s.1; spelled = s.2; means = refl }) in
-        bad_block (i.written, i.grammatical, i.spelled) (subst (λ bs. FirstBadBlock languages [] bs f) same_blocks b)
+        in_block (i.written, i.grammatical, i.spelled) (fault_of_first (subst (λ bs. FirstBadBlock languages [] bs f) same_blocks b))
 
     same_bad : (b : BadBlock) → HasBadBlock u b → HasBadBlock t b
-    same_bad bad.Misfit (bad_block s f) = same_fault InvalidExtension s f
-    same_bad bad.Duplicated (bad_block s f) = same_fault DuplicatedExtension s f
+    same_bad b h = same b (tree_fault u h)
+      where
+        same : (b : BadBlock) → HasTreeFault languages u (fault_of b) → HasBadBlock t b
+        same bad.Misfit (bad_block s f) = same_fault InvalidExtension s f
+        same bad.Duplicated (bad_block s f) = same_fault DuplicatedExtension s f
 
     pub same_told : (r : Reading) → IsReading u r → IsReading t r
     same_told (reading.Ordered o) h = record { stored = h.stored; locale = h.locale; means = same_locales h.locale h.means; normal = h.normal }

@@ -4,10 +4,11 @@ use Rattle.std.specs.Int.{is_in_range}
 use Rattle.std.specs.List.{AllByRecursion, list_any}
 use Rattle.std.specs.Ordering.{nat_cmp, eq_by_cmp}
 use Rattle.std.specs.Char.{is_ascii_alphanumeric, to_ascii_lowercase}
-use Rattle.iloc_spec_grammar.specs.Syntax.{Text, Block, Subtag, is_word, IsHyphenFree, dashes, join, blocks, block_pieces, singleton, is_one_byte, is_other_singleton, code_t, code_u, code_x, languages}
+use Rattle.iloc_spec_grammar.specs.Syntax.{Text, Block, Subtag, is_word, IsHyphenFree, dashes, join, blocks, singleton, is_one_byte, is_other_singleton, code_t, code_u, code_x, languages}
+use Rattle.iloc_spec_grammar.specs.Tree.{block_pieces}
 use Rattle.iloc_spec_grammar.specs.Meaning.{Extensions}
 use Rattle.iloc_spec_grammar.specs.Reading.{starts_block}
-use Rattle.iloc_spec_grammar.specs.ByBlocks.{UnicodeMeans, TransformMeans, OtherMeans, BlocksMean}
+use Rattle.iloc_spec_grammar.specs.ByBlocks.{UnicodeMeans, TransformMeans, OtherMeans, BlocksGive, grammar_rules}
 use Rattle.iloc_blocks.specs.Bad.{fault_of}
 use Rattle.iloc_blocks.specs.Blocks.{ArePrinted, IsCutAs, left_of}
 use Rattle.iloc_blocks.specs.Bodies.{HaveBad, IsBodyOf, IsNoBodyOf}
@@ -182,7 +183,7 @@ pub record AreBlocksPassed (c : ℕ) (bs : List Block) (ps : List Text) : Type 0
 
 -- whatever the new blocks give, the old ones give
 abbrev pub KeepsBlocks : List Block → List Block → Type 0
-KeepsBlocks new old = (e : Extensions) → BlocksMean languages new e → BlocksMean languages old e
+KeepsBlocks new old = (e : Extensions) → BlocksGive (grammar_rules languages) new e → BlocksGive (grammar_rules languages) old e
 
 -- blocks so far are stored in order behind the text, and other pieces are left
 pub record AreBlocksSoFar (text : Text) (ps : List Text) (start end last : ℕ) (room : Text) (left : List Text) : Type 0 where

@@ -1,16 +1,17 @@
--- A text means a value block by block exactly where it means it as a whole.
+-- A text means a value block by block as its tree does.
 use Rattle.std.proofs.Common.{◌≡◌, ◌≢◌, ◌⊎◌, inl, inr, ℕ, Bool, true, false, cond, List, [], ◌∷◌, ◌++◌, map, filter_map, refl, sym, ap, ◌∙◌, subst, arith, Option, Some, None, IfSome, option_map, option_to_list, true≢false}
 use Rattle.std.specs.List.{AllByRecursion, list_any}
 use Rattle.std.specs.Ordering.{nat_cmp, eq_by_cmp}
 use Rattle.std.specs.FinMap.{find}
 use Rattle.std.proofs.lemmas.Bool.{or_parts}
-use Rattle.iloc_spec_grammar.specs.Syntax.{pieces, IsTable, lower, Unicode, Transform, Extension, unicode, transform, other, Written, extension_pieces, extension_block, blocks_of, IsOther, IsPrivate, kept, is_other_singleton, IsExtension, singleton, IsWritten, AllDifferent, head, tail_blocks}
-use Rattle.iloc_spec_grammar.specs.Meaning.{Locale, Extensions, Means, extensions_meaning, map_of, no_unicode, no_transform, unicode_part, transform_part, private_part, other_part, by_singleton, normal_unicode, normal_transform, IsBlock, HasSingleton}
+use Rattle.iloc_spec_grammar.specs.Syntax.{pieces, IsTable, lower, Unicode, Transform, IsOther, kept, is_other_singleton, singleton, AllDifferent, head, tail_blocks}
+use Rattle.iloc_spec_grammar.specs.Tree.{Extension, unicode, transform, other, Written, extension_pieces, extension_block, blocks_of, IsPrivate, IsExtension, IsWritten, TreeMeans, meaning, extensions_meaning, unicode_part, transform_part, private_part, other_part, by_singleton, IsBlock, HasSingleton}
+use Rattle.iloc_spec_grammar.specs.Meaning.{Locale, Extensions, SpellsIdentifier, map_of, no_unicode, no_transform, normal_unicode, normal_transform}
 use Rattle.iloc_spec_grammar.specs.ByBlocks.{UnicodeMeans, TransformMeans, PrivateMeans, OtherMeans, other_blocks, grammar_rules, PartIs, BlocksGive, MeansByBlocks}
 use Rattle.iloc_spec_grammar.proofs.Readings.{head-spelling, blocks-spelling, unicode_of-pieces, transform_of-pieces}
-use Rattle.iloc_spec_grammar.specs.Reading.{unicode_of, transform_of}
+use Rattle.iloc_spec_grammar.specs.Reading.{unicode_of, transform_of, written_of}
 use Rattle.iloc_spec_grammar.proofs.IdentifierLaws.{one_meaning}
-use Rattle.iloc_spec_grammar.proofs.FaultLaws.{AreGood, good_means, good_from, block_rules, different_by}
+use Rattle.iloc_spec_grammar.proofs.FaultLaws.{AreGood, good_means, good_from, block_rules, different_by, good_written, pieces-written_of, blocks_read}
 use Rattle.iloc_spec_grammar.proofs.Singletons.{tied, untied, self_tied, IsKind, of_u, of_t, of_x, another, kind_of, lower_letter, find_holds}
 use Rattle.iloc_spec_grammar.proofs.General.{all_of}
 use Rattle.iloc_spec_grammar.proofs.ValuesLaws.{all_weaker, all_both}
@@ -59,7 +60,7 @@ private_by T _ h x k = absurd (let k = h.0 in omega arith)
 abbrev kept_of : ℕ × List (List ℕ) → ℕ × List (List ℕ)
 kept_of b = (b.0, kept b.1)
 
-abbrev KeepsWords : ℕ × List (List ℕ) → Type 0
+abbrev pub KeepsWords : ℕ × List (List ℕ) → Type 0
 KeepsWords b = OtherMeans b.1 (kept b.1)
 
 no_others_private : (x : Option (ℕ × List (List ℕ))) → IfSome x (λ e. (singleton e ≡ 120) × IsPrivate e.1) → other_blocks (by_singleton (option_to_list x)) ≡ []
@@ -79,7 +80,7 @@ others_by T (e ∷ es) x h k = at_kind e.1 h.0 (others_by T es x h.1 k)
     at_kind (transform m) r rest = rw r.0 rest
     at_kind (other ps) r rest = rw r.0 (ap (λ l. (singleton e, kept ps) ∷ l) rest.0, ((r.1, refl), rest.1))
 
-blocks_give : (T : ℕ → Bool) (w : Written) → IsWritten T w → BlocksGive (grammar_rules T) (blocks_of w) (extensions_meaning w)
+pub blocks_give : (T : ℕ → Bool) (w : Written) → IsWritten T w → BlocksGive (grammar_rules T) (blocks_of w) (extensions_meaning w)
 blocks_give T w h =
     let o = others_by T w.extensions w.private h.extensions h.private in record {
       letters = all_weaker (λ b. HasSingleton b × IsBlock T b) (λ b. HasSingleton b) (λ b k. k.0) _ (block_rules T w.extensions w.private h.extensions h.private);
@@ -91,15 +92,15 @@ blocks_give T w h =
       others = ap (map_of nat_cmp) o.0;
     }
 
-pub means_by_blocks : (T : ℕ → Bool) → IsTable T → (t : List ℕ) (M : Locale) → Means T t M → MeansByBlocks T t M
-means_by_blocks T table t M m = subst (MeansByBlocks T t) (sym m.means) (record {
+pub tree_by_blocks : (T : ℕ → Bool) → IsTable T → (t : List ℕ) (M : Locale) → TreeMeans T t M → MeansByBlocks T t M
+tree_by_blocks T table t M m = subst (MeansByBlocks T t) (sym m.means) (record {
   id = record { written = m.written.id; grammatical = m.grammatical.id; spelled = ap head m.spelled ∙ head-spelling m.written m.grammatical; means = refl };
   blocks = subst (λ bs. BlocksGive (grammar_rules T) bs (extensions_meaning m.written)) (sym (ap tail_blocks m.spelled ∙ blocks-spelling table m.written m.grammatical)) (blocks_give T m.written m.grammatical);
 })
 
 -- and back: each block follows its rule
 
-abbrev RuleAt : (ℕ → Bool) → ℕ → List (List ℕ) → Type 0
+abbrev pub RuleAt : (ℕ → Bool) → ℕ → List (List ℕ) → Type 0
 RuleAt T q ps = ((q ≡ 120) × IsPrivate ps) ⊎ ((e : Extension) × IsExtension T q e × (ps ≡ extension_pieces e))
 
 find_later : (P : List (List ℕ) → Type 0) (q : ℕ) (b : ℕ × List (List ℕ)) (bs : List (ℕ × List (List ℕ))) → list_any (eq_by_cmp nat_cmp (singleton b)) (map (λ b. singleton b) bs) ≡ false → IfSome (find nat_cmp q (by_singleton (b ∷ bs))) P → IfSome (find nat_cmp q (by_singleton bs)) P
@@ -147,7 +148,7 @@ rule_of T b k o (of_t e) = k.1 e
 rule_of T b k o (of_x e) = k.2 e
 rule_of T b k o (another e) = inr (other b.1, (e, o e), refl)
 
-blocks_good : (T : ℕ → Bool) (bs : List (ℕ × List (List ℕ))) (e : Extensions) → BlocksGive (grammar_rules T) bs e → AreGood T [] bs
+pub blocks_good : (T : ℕ → Bool) (bs : List (ℕ × List (List ℕ))) (e : Extensions) → BlocksGive (grammar_rules T) bs e → AreGood T [] bs
 blocks_good T bs e m =
     let known_each = each_block (KnownAt T) bs m.different (λ q. known T q (λ q. find nat_cmp q (by_singleton bs))
     (part_rule T 117 UnicodeMeans (λ ps v h. inr (unicode h.written, (refl, h.grammatical), h.spelled)) no_unicode _ e.unicode m.unicode)
@@ -168,7 +169,7 @@ one_unicode ps u v a b = a.means ∙ ap normal_unicode (sym (unicode_of-pieces a
 one_transform : (T : ℕ → Bool) (ps : List (List ℕ)) (m n : Transform) → TransformMeans T ps m → TransformMeans T ps n → m ≡ n
 one_transform T ps m n a b = a.means ∙ ap normal_transform (sym (transform_of-pieces a.written a.grammatical) ∙ ap transform_of (sym a.spelled ∙ b.spelled) ∙ transform_of-pieces b.written b.grammatical) ∙ sym b.means
 
-one_extensions : (T : ℕ → Bool) (bs : List (ℕ × List (List ℕ))) (d e : Extensions) → BlocksGive (grammar_rules T) bs d → BlocksGive (grammar_rules T) bs e → d ≡ e
+pub one_extensions : (T : ℕ → Bool) (bs : List (ℕ × List (List ℕ))) (d e : Extensions) → BlocksGive (grammar_rules T) bs d → BlocksGive (grammar_rules T) bs e → d ≡ e
 one_extensions T bs d e a b = λ i. record {
   unicode = one_part UnicodeMeans one_unicode no_unicode _ d.unicode e.unicode a.unicode b.unicode i;
   transform = one_part (TransformMeans T) (one_transform T) no_transform _ d.transform e.transform a.transform b.transform i;
@@ -176,13 +177,22 @@ one_extensions T bs d e a b = λ i. record {
   others = (a.others ∙ sym b.others) i;
 }
 
-one_by_blocks : (T : ℕ → Bool) (t : List ℕ) (L M : Locale) → MeansByBlocks T t L → MeansByBlocks T t M → L ≡ M
+pub one_by_blocks : (T : ℕ → Bool) (t : List ℕ) (L M : Locale) → MeansByBlocks T t L → MeansByBlocks T t M → L ≡ M
 one_by_blocks T t L M a b = λ i. record {
   id = one_meaning (head (pieces t)) L.id M.id a.id b.id i;
   extensions = one_extensions T (tail_blocks (pieces t)) L.extensions M.extensions a.blocks b.blocks i;
 }
 
-pub blocks_mean : (T : ℕ → Bool) → IsTable T → (t : List ℕ) (M : Locale) → MeansByBlocks T t M → Means T t M
-blocks_mean T table t M m =
-    let r = good_means T t (m.id.written, m.id.grammatical, m.id.spelled) (blocks_good T (tail_blocks (pieces t)) M.extensions m.blocks) in
-    subst (Means T t) (one_by_blocks T t _ M (means_by_blocks T table t _ r) m) r
+-- good blocks after an identifier give what is read of them
+pub read_by_blocks : (T : ℕ → Bool) (t : List ℕ) → SpellsIdentifier T (head (pieces t)) → AreGood T [] (tail_blocks (pieces t)) → MeansByBlocks T t (meaning (written_of (pieces t)))
+read_by_blocks T t s g =
+    let w = written_of (pieces t) in let h = good_written T t s g in record {
+      id = record { written = w.id; grammatical = h.id; spelled = ap head (pieces-written_of t) ∙ head-spelling w h; means = refl };
+      blocks = subst (λ bs. BlocksGive (grammar_rules T) bs (extensions_meaning w)) (blocks_read (pieces t)) (blocks_give T w h);
+    }
+
+pub blocks_tree : (T : ℕ → Bool) (t : List ℕ) (M : Locale) → MeansByBlocks T t M → TreeMeans T t M
+blocks_tree T t M m =
+    let s : SpellsIdentifier T (head (pieces t)) = (m.id.written, m.id.grammatical, m.id.spelled) in
+    let g = blocks_good T (tail_blocks (pieces t)) M.extensions m.blocks in
+    subst (TreeMeans T t) (one_by_blocks T t _ M (read_by_blocks T t s g) m) (good_means T t s g)

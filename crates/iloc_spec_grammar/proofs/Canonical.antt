@@ -3,9 +3,11 @@ use Rattle.std.proofs.Common.{◌≡◌, ℕ, ◌<◌, Bool, true, false, cond, 
 use Rattle.std.specs.Prelude.{codes}
 use Rattle.std.specs.List.{AllByRecursion, AllZip}
 use Rattle.std.specs.FinMap.{is_sorted}
-use Rattle.iloc_spec_grammar.specs.Syntax.{Subtag, is_word, lower, upper, title, word_cmp, is_true, Identifier, Fields, Extension, unicode, transform, other, kept, IsIdentifier, IsField, IsExtension, AllDifferent}
+use Rattle.iloc_spec_grammar.specs.Syntax.{Subtag, is_word, lower, upper, title, word_cmp, is_true, Identifier, Fields, kept, IsIdentifier, IsField, AllDifferent}
+use Rattle.iloc_spec_grammar.specs.Tree.{Extension, unicode, transform, other, IsExtension}
 use Rattle.iloc_spec_grammar.specs.Meaning.{set_of, normal_identifier, normal_values, normal_fields, normal_unicode, normal_transform}
-use Rattle.iloc_spec_grammar.specs.Values.{lower_identifier, spelled_value, spelled_fields, Without, LessTrue, keys_differ, Repeats, Trues, DroppedPieces, VariantOrder, AttributeOrder, FieldOrder, IdentifierStep, ExtensionStep}
+use Rattle.iloc_spec_grammar.specs.Values.{lower_identifier, spelled_value, spelled_fields}
+use Rattle.iloc_spec_grammar.specs.TreeSteps.{TreeWithout, TreeLessTrue, keys_differ, Repeats, Trues, DroppedPieces, VariantOrder, AttributeOrder, FieldOrder, TreeIdentifierStep, ExtensionStep}
 use Rattle.iloc_spec_grammar.proofs.WordsLaws.{lower-lower, lower-title, lower-upper}
 use Rattle.iloc_spec_grammar.proofs.MapLaws.{map_of_sorted, word_cmp_total, same_words}
 use Rattle.iloc_spec_grammar.proofs.ValuesLaws.{set_of_ascending, lower_twice, spelled_transform, same_identifier, filter_all, all_weaker}
@@ -75,7 +77,7 @@ repeats_step (other ps) = ExtensionStep.same
 
 -- the values of a field where one stays
 record Kept (ps qs : List (List ℕ)) : Type 0 where
-  less : Without (λ p. is_true (lower p)) ps qs
+  less : TreeWithout (λ p. is_true (lower p)) ps qs
   positive : 0 < length qs
   value : spelled_value (normal_values qs) ≡ low qs
 
@@ -94,9 +96,9 @@ kept_one : (p : List ℕ) (ps : List (List ℕ)) → Kept (p ∷ ps) (keep_one (
 kept_one p ps = at_rest (no_trues (p ∷ ps)) refl (none_true (p ∷ ps))
   where
     at_rest : (qs : List (List ℕ)) → no_trues (p ∷ ps) ≡ qs → AllByRecursion (λ q. is_true (lower q) ≡ false) qs → Kept (p ∷ ps) (or_first qs (p ∷ ps))
-    at_rest (q ∷ qs) e n = record { less = subst (Without (λ p. is_true (lower p)) (p ∷ ps)) e (without-filter (λ p. is_true (lower p)) (p ∷ ps)); positive = omega arith; value = ap spelled_value (no_true_means (q ∷ qs) n) }
+    at_rest (q ∷ qs) e n = record { less = subst (TreeWithout (λ p. is_true (lower p)) (p ∷ ps)) e (without-filter (λ p. is_true (lower p)) (p ∷ ps)); positive = omega arith; value = ap spelled_value (no_true_means (q ∷ qs) n) }
     at_rest [] e n = (elim (is_true (lower p)) as (λ b. is_true (lower p) ≡ b → cond (not b) (p ∷ no_trues ps) (no_trues ps) ≡ [] → Kept (p ∷ ps) (p ∷ [])) [
-      | true ↦ λ t e. record { less = Without.kept (subst (Without (λ p. is_true (lower p)) ps) e (without-filter (λ p. is_true (lower p)) ps)); positive = omega arith; value = ap (λ b. spelled_value (cond (not b) (lower p ∷ []) [])) t ∙ ap (λ w. w ∷ []) (true_word (lower p) t) }
+      | true ↦ λ t e. record { less = TreeWithout.kept (subst (TreeWithout (λ p. is_true (lower p)) ps) e (without-filter (λ p. is_true (lower p)) ps)); positive = omega arith; value = ap (λ b. spelled_value (cond (not b) (lower p ∷ []) [])) t ∙ ap (λ w. w ∷ []) (true_word (lower p) t) }
       | false ↦ λ t e. cc
     ]) refl e
 
@@ -104,27 +106,27 @@ kept_some : (ps : List (List ℕ)) → 0 < length ps → Kept ps (keep_one ps)
 kept_some [] h = absurd (omega arith)
 kept_some (p ∷ ps) h = kept_one p ps
 
-trues_unicode : (fs : Fields) → AllZip LessTrue fs (map (λ f. (f.0, no_trues f.1)) fs)
-trues_unicode fs = zip_map LessTrue (λ f. Unit {0}) (λ f. (f.0, no_trues f.1)) (λ f _. (refl, without-filter (λ p. is_true (lower p)) f.1)) fs (all_of _ (λ f. tt) fs)
+trues_unicode : (fs : Fields) → AllZip TreeLessTrue fs (map (λ f. (f.0, no_trues f.1)) fs)
+trues_unicode fs = zip_map TreeLessTrue (λ f. Unit {0}) (λ f. (f.0, no_trues f.1)) (λ f _. (refl, without-filter (λ p. is_true (lower p)) f.1)) fs (all_of _ (λ f. tt) fs)
 
-trues_transform : (fs : Fields) → AllByRecursion IsField fs → AllZip (λ f g. LessTrue f g × (0 < length g.1)) fs (map (λ f. (f.0, keep_one f.1)) fs)
-trues_transform = zip_map (λ f g. LessTrue f g × (0 < length g.1)) IsField (λ f. (f.0, keep_one f.1)) (λ f h. let k = kept_some f.1 h.2 in ((refl, k.less), k.positive))
+trues_transform : (fs : Fields) → AllByRecursion IsField fs → AllZip (λ f g. TreeLessTrue f g × (0 < length g.1)) fs (map (λ f. (f.0, keep_one f.1)) fs)
+trues_transform = zip_map (λ f g. TreeLessTrue f g × (0 < length g.1)) IsField (λ f. (f.0, keep_one f.1)) (λ f h. let k = kept_some f.1 h.2 in ((refl, k.less), k.positive))
 
 pub trues_step : (T : ℕ → Bool) (c : ℕ) (e : Extension) → IsExtension T c e → ExtensionStep Trues e (without_trues e)
 trues_step T c (unicode u) h = ExtensionStep.unicode_trues (trues_unicode u.keywords)
 trues_step T c (transform m) h = ExtensionStep.transform_trues (trues_transform m.fields h.1.fields)
 trues_step T c (other ps) h = ExtensionStep.same
 
-without_others : (keep : List ℕ → Bool) (ps : List (List ℕ)) → Without (λ p. not (keep p)) ps (filter keep ps)
-without_others keep [] = Without.none
-without_others keep (p ∷ ps) = cond_both (keep p) _ _ (Without (λ p. not (keep p)) (p ∷ ps)) (λ _. Without.kept (without_others keep ps)) (λ e. Without.left_out (ap not e) (without_others keep ps))
+without_others : (keep : List ℕ → Bool) (ps : List (List ℕ)) → TreeWithout (λ p. not (keep p)) ps (filter keep ps)
+without_others keep [] = TreeWithout.none
+without_others keep (p ∷ ps) = cond_both (keep p) _ _ (TreeWithout (λ p. not (keep p)) (p ∷ ps)) (λ _. TreeWithout.kept (without_others keep ps)) (λ e. TreeWithout.left_out (ap not e) (without_others keep ps))
 
 pub dropped_step : (e : Extension) → ExtensionStep DroppedPieces e (without_dropped e)
 dropped_step (other ps) = ExtensionStep.dropped_pieces (without_others (is_word Subtag) ps)
 dropped_step _ = ExtensionStep.same
 
-pub identifier_order_step : (i : Identifier) → IdentifierStep VariantOrder i (sort_identifier i)
-identifier_order_step i = IdentifierStep.variants (reordered-sort word_cmp lower i.variants)
+pub identifier_order_step : (i : Identifier) → TreeIdentifierStep VariantOrder i (sort_identifier i)
+identifier_order_step i = TreeIdentifierStep.variants (reordered-sort word_cmp lower i.variants)
 
 pub variant_order_step : (e : Extension) → ExtensionStep VariantOrder e (with_sorted_variants e)
 variant_order_step (transform m) = at_id m.id m.fields

@@ -1,5 +1,5 @@
 -- Reading doesn't see the case of letters.
-use Rattle.std.proofs.Common.{◌≡◌, inl, inr, ℕ, zero, suc, ◌+◌, ◌&&◌, ◌||◌, is_some, nat_lt, ◌≤◌, Bool, true, false, not, ◌==◌, List, [], ◌∷◌, length, map, filter, filter_map, refl, sym, ap, ap₂, ◌∙◌, subst, arith, Option, Some, None, IfSome, option_map}
+use Rattle.std.proofs.Common.{◌≡◌, ℕ, ◌+◌, ◌&&◌, ◌||◌, is_some, nat_lt, ◌≤◌, Bool, true, false, not, ◌==◌, List, [], ◌∷◌, length, map, filter, filter_map, refl, sym, ap, ap₂, ◌∙◌, subst, arith, Option, Some, None, IfSome, option_map}
 use Rattle.std.specs.List.{AllByRecursion, cons_option, slice_split, onto_first, list_all}
 use Rattle.std.specs.Char.{to_ascii_lowercase}
 use Rattle.std.specs.Int.{is_in_range}
@@ -7,9 +7,11 @@ use Rattle.std.specs.Ordering.{nat_cmp, eq_by_cmp}
 use Rattle.std.specs.FinMap.{find}
 use Rattle.std.proofs.lemmas.Bool.Decides.{nat_tests}
 use Rattle.std.proofs.lemmas.Str.Ascii.{lowercase-lowercase}
-use Rattle.iloc_spec_grammar.specs.Syntax.{pieces, join, Kind, Language, Script, Region, Variant, Subtag, UnicodeKey, TransformKey, Attribute, PrivateSubtag, is_word, IsTable, lower, word_cmp, is_true, Identifier, Fields, Extension, unicode, transform, other, Written, spelling, IsIdentifier, IsPrivate, kept, is_other_singleton, IsExtension, singleton, IsWritten, AllDifferent, is_one_byte, front, blocks, head, tail_blocks, first_piece}
-use Rattle.iloc_spec_grammar.specs.Meaning.{map_of, set_of, normal_identifier, normal_values, Locale, unicode_part, transform_part, private_part, other_part, by_singleton, meaning, Means}
-use Rattle.iloc_spec_grammar.specs.Values.{lower_identifier, TextStep, Chain}
+use Rattle.iloc_spec_grammar.specs.Syntax.{pieces, join, Kind, Language, Script, Region, Variant, Subtag, UnicodeKey, TransformKey, Attribute, PrivateSubtag, is_word, IsTable, lower, word_cmp, is_true, Identifier, Fields, IsIdentifier, kept, is_other_singleton, singleton, AllDifferent, is_one_byte, front, blocks, head, tail_blocks, first_piece}
+use Rattle.iloc_spec_grammar.specs.Tree.{Extension, unicode, transform, other, Written, spelling, IsPrivate, IsExtension, IsWritten, unicode_part, transform_part, private_part, other_part, by_singleton, meaning, TreeMeans}
+use Rattle.iloc_spec_grammar.specs.Meaning.{map_of, set_of, normal_identifier, normal_values, Locale}
+use Rattle.iloc_spec_grammar.specs.Values.{lower_identifier}
+use Rattle.iloc_spec_grammar.specs.TreeSteps.{TreeTextStep}
 use Rattle.std.proofs.lemmas.List.{length-map}
 use Rattle.iloc_spec_grammar.specs.Computing.{holds_if_some, all_different, is_identifier, is_keyword, is_field, is_private, is_extension}
 use Rattle.iloc_spec_grammar.proofs.RuleTests.{Tests, tests_and, tests_like, tests_all, tests_if_some, tests_different, tests_nat, tests_identifier, tests_private, tests_extension}
@@ -267,7 +269,7 @@ meaning-low w = same_parts (low_written w) w (normal-lower_identifier w.id)
     (private_part-low w.private) (ap (map_of nat_cmp) (others-low w.extensions))
 
 -- texts that are equal without case mean the same
-pub case_means : (T : ℕ → Bool) → IsTable T → (t u : List ℕ) (M : Locale) → lower t ≡ lower u → Means T t M → Means T u M
+pub case_means : (T : ℕ → Bool) → IsTable T → (t u : List ℕ) (M : Locale) → lower t ≡ lower u → TreeMeans T t M → TreeMeans T u M
 case_means T table t u M e m =
     let v = m.written in
     let w = written_of (pieces u) in
@@ -281,16 +283,11 @@ case_means T table t u M e m =
     }
 
 -- a step keeps each meaning of a text
-pub text_step_means : (T : ℕ → Bool) → IsTable T → (t u : List ℕ) (M : Locale) → TextStep T t u → Means T t M → Means T u M
-text_step_means T table t u M (TextStep.letter_case e) m = case_means T table t u M e m
-text_step_means T table t u M (TextStep.rewritten {v = v} {w = w} h e s) m = subst (Means T (join (spelling w))) (one_meaning table t (meaning v) M (record { written = v; grammatical = h; spelled = e; means = refl }) m) (step_means T t h e s)
+pub text_step_means : (T : ℕ → Bool) → IsTable T → (t u : List ℕ) (M : Locale) → TreeTextStep T t u → TreeMeans T t M → TreeMeans T u M
+text_step_means T table t u M (TreeTextStep.letter_case e) m = case_means T table t u M e m
+text_step_means T table t u M (TreeTextStep.rewritten {v = v} {w = w} h e s) m = subst (TreeMeans T (join (spelling w))) (one_meaning table t (meaning v) M (record { written = v; grammatical = h; spelled = e; means = refl }) m) (step_means T t h e s)
 
 -- and doesn't lengthen it
-pub text_step_length : (T : ℕ → Bool) (t u : List ℕ) → TextStep T t u → length u ≤ length t
-text_step_length T t u (TextStep.letter_case e) = let a : length (lower t) ≡ length (lower u) = ap length e in let b = length-lower t in let c = length-lower u in omega arith
-text_step_length T t u (TextStep.rewritten h e s) = step_length t e s
-
-pub chain_means : (T : ℕ → Bool) → IsTable T → (n : ℕ) (t u : List ℕ) (M : Locale) → Chain T n t u → Means T t M → Means T u M
-chain_means T table zero t u M c m = subst (λ (s : List ℕ). Means T s M) c m
-chain_means T table (suc n) t u M (inl e) m = subst (λ (s : List ℕ). Means T s M) e m
-chain_means T table (suc n) t u M (inr c) m = chain_means T table n c.0 u M c.2 (text_step_means T table t c.0 M c.1 m)
+pub text_step_length : (T : ℕ → Bool) (t u : List ℕ) → TreeTextStep T t u → length u ≤ length t
+text_step_length T t u (TreeTextStep.letter_case e) = let a : length (lower t) ≡ length (lower u) = ap length e in let b = length-lower t in let c = length-lower u in omega arith
+text_step_length T t u (TreeTextStep.rewritten h e s) = step_length t e s

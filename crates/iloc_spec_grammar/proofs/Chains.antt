@@ -1,5 +1,5 @@
 -- At most eight steps lead from each accepted text to the printed text of its meaning.
-use Rattle.std.proofs.Common.{true≢false, ◌≡◌, ◌≢◌, ◌⊎◌, inl, inr, ℕ, zero, suc, ◌+◌, ◌<◌, ◌≤◌, Bool, true, false, cond, ◌||◌, List, [], ◌∷◌, ◌++◌, length, map, filter_map, flat_map, refl, sym, ap, ◌∙◌, subst, arith, Option, Some, None, IfSome, option_map, option_to_list, is_some, nat_lt, le_of_eq, le_trans}
+use Rattle.std.proofs.Common.{true≢false, ◌≡◌, ◌≢◌, ◌⊎◌, inl, inr, ℕ, zero, suc, ◌+◌, ◌<◌, Bool, true, false, cond, ◌||◌, List, [], ◌∷◌, ◌++◌, length, map, filter_map, flat_map, refl, sym, ap, ◌∙◌, subst, arith, Option, Some, None, IfSome, option_map, option_to_list, is_some, nat_lt}
 use Rattle.std.specs.List.{AllByRecursion, AllZip}
 use Rattle.std.specs.Char.{to_ascii_lowercase}
 use Rattle.std.specs.Ordering.{nat_cmp, eq_by_cmp}
@@ -9,9 +9,11 @@ use Rattle.std.specs.FinMap.Entries.{same_entries}
 use Rattle.std.proofs.lemmas.Bool.{cases_eq, lt-ltb}
 use Rattle.std.proofs.lemmas.List.{map-append, length-map}
 use Rattle.std.proofs.lemmas.Str.Ascii.{lowercase-lowercase}
-use Rattle.iloc_spec_grammar.specs.Syntax.{pieces, join, lower, Identifier, Fields, Unicode, Transform, Extension, unicode, transform, other, Written, identifier_pieces, optional_pieces, fields_pieces, extension_pieces, extension_block, block_pieces, blocks_of, spelling, kept, IsPrivate, IsExtension, singleton, IsWritten, AllDifferent}
-use Rattle.iloc_spec_grammar.specs.Meaning.{normal_identifier, normal_fields, normal_unicode, normal_transform, Locale, unicode_part, transform_part, private_part, other_part, by_singleton, meaning, Means}
-use Rattle.iloc_spec_grammar.specs.Values.{IsValue, IsWellFormed, lower_identifier, private_form, printed, text, spelled_fields, Rule, Repeats, Trues, DroppedPieces, VariantOrder, AttributeOrder, FieldOrder, IdentifierStep, ExtensionStep, Step, TextStep, Chain, written}
+use Rattle.iloc_spec_grammar.specs.Syntax.{join, lower, Identifier, Fields, Unicode, Transform, identifier_pieces, optional_pieces, fields_pieces, kept, singleton, AllDifferent}
+use Rattle.iloc_spec_grammar.specs.Tree.{Extension, unicode, transform, other, Written, extension_pieces, extension_block, block_pieces, blocks_of, spelling, IsPrivate, IsExtension, IsWritten, unicode_part, transform_part, private_part, other_part, by_singleton, meaning, IsTreeWellFormed, private_form, printed, tree_text}
+use Rattle.iloc_spec_grammar.specs.Meaning.{normal_identifier, normal_fields, normal_unicode, normal_transform}
+use Rattle.iloc_spec_grammar.specs.Values.{IsValue, lower_identifier, spelled_fields}
+use Rattle.iloc_spec_grammar.specs.TreeSteps.{TreeRule, Repeats, Trues, DroppedPieces, VariantOrder, AttributeOrder, FieldOrder, TreeIdentifierStep, ExtensionStep, Step, written}
 use Rattle.iloc_spec_grammar.proofs.WordsLaws.{lower-lower}
 use Rattle.iloc_spec_grammar.proofs.MapLaws.{find-map_of, to_T}
 use Rattle.iloc_spec_grammar.proofs.ValuesLaws.{lower_twice, spelled_transform, length-spelled_fields, same_identifier, all_both}
@@ -19,32 +21,20 @@ use Rattle.iloc_spec_grammar.proofs.ReadBack as back
 use Rattle.iloc_spec_grammar.proofs.WellRead.{written_value, written_well_formed}
 use Rattle.iloc_spec_grammar.proofs.Orders.{all_reordered}
 use Rattle.iloc_spec_grammar.proofs.StepLaws.{written_step, extension_step}
-use Rattle.iloc_spec_grammar.proofs.StepSizes.{step_pieces}
-use Rattle.iloc_spec_grammar.proofs.CaseLaws.{text_step_length, low, low_fields, low_extension, low_entry, low_entries, low_block, low_written}
+use Rattle.iloc_spec_grammar.proofs.CaseLaws.{low, low_fields, low_extension, low_entry, low_entries, low_block, low_written}
 use Rattle.iloc_spec_grammar.proofs.Sorting.{sort, reordered-sort, sorted-sort}
 use Rattle.iloc_spec_grammar.proofs.Canonical.{sort_identifier, without_repeats, without_trues, without_dropped, with_sorted_variants, with_sorted_attributes, with_sorted_fields, repeats_step, trues_step, dropped_step, variant_order_step, attribute_order_step, field_order_step, identifier_order_step, keys_differ_then, IsCanonical, canonical, canonical_identifier}
 use Rattle.iloc_spec_grammar.proofs.Singletons.{untied, find_holds}
 use Rattle.iloc_spec_grammar.proofs.General.{cond-map, map-then, option_map-then, zip_map, all_mapped}
 use Rattle.std.proofs.lemmas.Simd.{map-map}
-use Rattle.iloc_spec_grammar.proofs.PiecesLaws.{join-pieces}
+pub use Rattle.iloc_spec_grammar.proofs.PartTexts.{identifier_pieces-low}
+use Rattle.iloc_spec_grammar.proofs.PartTexts.{option_to_list-map, id_pieces-low}
 
 -- the lower case of a spelling
-
-option_to_list-map : {X Y : Type 0} (f : X → Y) (o : Option X) → option_to_list (option_map f o) ≡ map f (option_to_list o)
-option_to_list-map f None = refl
-option_to_list-map f (Some x) = refl
-
-pub identifier_pieces-low : (i : Identifier) → identifier_pieces (lower_identifier i) ≡ low (identifier_pieces i)
-identifier_pieces-low i = (λ k. lower i.language ∷ (option_to_list-map lower i.script k ++ (option_to_list-map lower i.region k ++ low i.variants)))
-    ∙ ap (λ l. lower i.language ∷ l) (ap (λ l. low (option_to_list i.script) ++ l) (sym (map-append lower (option_to_list i.region) i.variants)) ∙ sym (map-append lower (option_to_list i.script) (option_to_list i.region ++ i.variants)))
 
 fields_pieces-low : (fs : Fields) → fields_pieces (low_fields fs) ≡ low (fields_pieces fs)
 fields_pieces-low [] = refl
 fields_pieces-low (f ∷ fs) = ap (λ l. (lower f.0 ∷ low f.1) ++ l) (fields_pieces-low fs) ∙ sym (map-append lower (f.0 ∷ f.1) (fields_pieces fs))
-
-id_pieces-low : (o : Option Identifier) → optional_pieces (option_map lower_identifier o) ≡ low (optional_pieces o)
-id_pieces-low None = refl
-id_pieces-low (Some i) = identifier_pieces-low i
 
 extension_pieces-low : (e : Extension) → extension_pieces (low_extension e) ≡ low (extension_pieces e)
 extension_pieces-low (unicode u) = ap (λ l. low u.attributes ++ l) (fields_pieces-low u.keywords) ∙ sym (map-append lower u.attributes (fields_pieces u.keywords))
@@ -158,7 +148,7 @@ ending T w h c s i = λ k. record { id = sym i k; extensions = (sym (entries_twi
     v : IsValue T (meaning w)
     v = written_value w h
 
-    g : IsWellFormed (meaning w)
+    g : IsTreeWellFormed (meaning w)
     g = written_well_formed w h
 
     at : (q : ℕ) → (q ≡ 116) ⊎ (q ≡ 116 → ⊥) → (q ≡ 117) ⊎ (q ≡ 117 → ⊥) → find nat_cmp q (low_entries w.extensions) ≡ find nat_cmp q (printed (meaning w)).extensions
@@ -175,26 +165,32 @@ abbrev at_all : (Extension → Extension) → List (ℕ × Extension) → List (
 at_all f es = map (λ e. (e.0, f e.1)) es
 
 -- one rule at each extension, from one stage to the next
-stage : (T : ℕ → Bool) (r : Rule) (f g : Extension → Extension) → ((c : ℕ) (e : Extension) → IsExtension T c e → ExtensionStep r (f e) (g e)) → (es : List (ℕ × Extension)) → AllByRecursion (λ e. IsExtension T (singleton e) e.1) es → AllZip (λ e g. (e.0 ≡ g.0) × ExtensionStep r e.1 g.1) (at_all f es) (at_all g es)
+stage : (T : ℕ → Bool) (r : TreeRule) (f g : Extension → Extension) → ((c : ℕ) (e : Extension) → IsExtension T c e → ExtensionStep r (f e) (g e)) → (es : List (ℕ × Extension)) → AllByRecursion (λ e. IsExtension T (singleton e) e.1) es → AllZip (λ e g. (e.0 ≡ g.0) × ExtensionStep r e.1 g.1) (at_all f es) (at_all g es)
 stage T r f g s [] h = tt
 stage T r f g s (e ∷ es) h = ((refl, s (singleton e) e.1 h.0), stage T r f g s es h.1)
 
 -- n steps of written locales, one after the other
-abbrev Steps : ℕ → Written → Written → Type 0
+abbrev pub Steps : ℕ → Written → Written → Type 0
 Steps zero v w = v ≡ w
 Steps (suc n) v w = (u : Written) × Step v u × Steps n u w
 
--- they keep the rules and the meaning, and one more leads to each text that differs in case
-walk : (T : ℕ → Bool) (n : ℕ) (t : List ℕ) (v w : Written) → IsWritten T v → pieces t ≡ spelling v → Steps n v w → IsWritten T w × (meaning w ≡ meaning v) × ((u : List ℕ) → lower (join (spelling w)) ≡ lower u → Chain T (suc n) t u)
-walk T zero t v w h e s = (subst (IsWritten T) s h, ap meaning (sym s), λ u k. inr (u, TextStep.letter_case (ap lower (sym (join-pieces t) ∙ ap join (e ∙ ap spelling s)) ∙ k), refl))
-walk T (suc n) t v w h e s =
+-- they keep the rules and the meaning
+steps_keep : (T : ℕ → Bool) (n : ℕ) (v w : Written) → IsWritten T v → Steps n v w → IsWritten T w × (meaning w ≡ meaning v)
+steps_keep T zero v w h s = (subst (IsWritten T) s h, ap meaning (sym s))
+steps_keep T (suc n) v w h s =
     let p = written_step T s.1 h in
-    let r = walk T n (join (spelling s.0)) s.0 w p.0 (step_pieces t e s.1) s.2 in
-    (r.0, r.1 ∙ p.1, λ u k. inr (join (spelling s.0), TextStep.rewritten h e s.1, r.2 u k))
+    let r = steps_keep T n s.0 w p.0 s.2 in
+    (r.0, r.1 ∙ p.1)
 
-pub chain_to_text : (T : ℕ → Bool) (t : List ℕ) (M : Locale) → Means T t M → Chain T 8 t (text M)
-chain_to_text T t M m =
-    let w = m.written in let h = m.grammatical in let es = w.extensions in let x = w.private in
+-- seven steps lead to a text that differs from the printed one in case alone
+pub record SevenSteps (w : Written) : Type 0 where
+  pub end : Written
+  pub steps : Steps 7 w end
+  pub same : lower (join (spelling end)) ≡ lower (tree_text (meaning w))
+
+pub seven_steps : (T : ℕ → Bool) (w : Written) → IsWritten T w → SevenSteps w
+seven_steps T w h =
+    let es = w.extensions in let x = w.private in
     let i = sort_identifier w.id in
     let f2 = λ (e : Extension). without_trues (without_repeats e) in
     let f3 = λ (e : Extension). without_dropped (f2 e) in
@@ -206,22 +202,22 @@ chain_to_text T t M m =
     let end = written i (sort nat_cmp key (at_all f6 es)) x in
     let steps : Steps 7 w end = (
       written w.id (at_all without_repeats es) x,
-      Step.inside Repeats IdentifierStep.same (zip_map _ (λ e. IsExtension T (singleton e) e.1) (λ e. (e.0, without_repeats e.1)) (λ e _. (refl, repeats_step e.1)) es h.extensions),
+      Step.inside Repeats TreeIdentifierStep.same (zip_map _ (λ e. IsExtension T (singleton e) e.1) (λ e. (e.0, without_repeats e.1)) (λ e _. (refl, repeats_step e.1)) es h.extensions),
       (
         written w.id (at_all f2 es) x,
-        Step.inside Trues IdentifierStep.same (stage T Trues without_repeats f2 (λ c e k. trues_step T c (without_repeats e) (extension_step T c (repeats_step e) k).0) es h.extensions),
+        Step.inside Trues TreeIdentifierStep.same (stage T Trues without_repeats f2 (λ c e k. trues_step T c (without_repeats e) (extension_step T c (repeats_step e) k).0) es h.extensions),
         (
           written w.id (at_all f3 es) x,
-          Step.inside DroppedPieces IdentifierStep.same (stage T DroppedPieces f2 f3 (λ c e _. dropped_step (f2 e)) es h.extensions),
+          Step.inside DroppedPieces TreeIdentifierStep.same (stage T DroppedPieces f2 f3 (λ c e _. dropped_step (f2 e)) es h.extensions),
           (
             written i (at_all f4 es) x,
             Step.inside VariantOrder (identifier_order_step w.id) (stage T VariantOrder f3 f4 (λ c e _. variant_order_step (f3 e)) es h.extensions),
             (
               written i (at_all f5 es) x,
-              Step.inside AttributeOrder IdentifierStep.same (stage T AttributeOrder f4 f5 (λ c e _. attribute_order_step (f4 e)) es h.extensions),
+              Step.inside AttributeOrder TreeIdentifierStep.same (stage T AttributeOrder f4 f5 (λ c e _. attribute_order_step (f4 e)) es h.extensions),
               (
                 written i (at_all f6 es) x,
-                Step.inside FieldOrder IdentifierStep.same (stage T FieldOrder f5 f6 (λ c e _. field_order_step (f5 e) (keys_differ_then e)) es h.extensions),
+                Step.inside FieldOrder TreeIdentifierStep.same (stage T FieldOrder f5 f6 (λ c e _. field_order_step (f5 e) (keys_differ_then e)) es h.extensions),
                 (
                   end,
                   Step.block_order sorted,
@@ -233,17 +229,8 @@ chain_to_text T t M m =
         ),
       ),
     ) in
-    let walked = walk T 7 t w end h m.spelled steps in
+    let after = steps_keep T 7 w end h steps in
     let canonicals = all_mapped (λ e. IsExtension T (singleton e) e.1) (λ e. IsCanonical e.1) (λ e. (e.0, f6 e.1)) (λ e k. canonical T (singleton e) e.1 k) es h.extensions in
     let different = subst (AllDifferent nat_cmp) (sym (map-map key (λ e. (e.0, f6 e.1)) es)) h.different in
-    let same = ending T end walked.0 (all_reordered (λ (e : ℕ × Extension). IsCanonical e.1) sorted canonicals) (sorted-sort nat_cmp key nat_cmp_total (λ e. low_extension e.1) (at_all f6 es) different) (canonical_identifier w.id h.id.different) in
-    walked.2 (text M) (same_text end (printed (meaning end)) same ∙ ap (λ N. lower (text N)) (walked.1 ∙ sym m.means))
-
-pub chain_length : (T : ℕ → Bool) (n : ℕ) (t u : List ℕ) → Chain T n t u → length u ≤ length t
-chain_length T zero t u e = le_of_eq (ap length (sym e))
-chain_length T (suc n) t u (inl e) = le_of_eq (ap length (sym e))
-chain_length T (suc n) t u (inr c) = le_trans (chain_length T n c.0 u c.2) (text_step_length T t c.0 c.1)
-
--- no text of a meaning is shorter than the printed one
-pub shortest : (T : ℕ → Bool) (t : List ℕ) (M : Locale) → Means T t M → length (text M) ≤ length t
-shortest T t M m = chain_length T 8 t (text M) (chain_to_text T t M m)
+    let same = ending T end after.0 (all_reordered (λ (e : ℕ × Extension). IsCanonical e.1) sorted canonicals) (sorted-sort nat_cmp key nat_cmp_total (λ e. low_extension e.1) (at_all f6 es) different) (canonical_identifier w.id h.id.different) in
+    record { end = end; steps = steps; same = same_text end (printed (meaning end)) same ∙ ap (λ N. lower (tree_text N)) after.1 }

@@ -1,17 +1,19 @@
 -- The answers of the plain programs are the meaning and the fault of a text.
 use Rattle.std.proofs.Common.{◌≡◌, ℕ, Bool, List, ap, subst, Result, Ok, Err, MatchResult, ◌↔◌}
 use Rattle.iloc_spec_grammar.specs.Syntax.{pieces, IsTable, Identifier}
-use Rattle.iloc_spec_grammar.specs.Meaning.{Locale, Means, IdentifierMeans, Fault, HasIdentifierFault, HasFault}
+use Rattle.iloc_spec_grammar.specs.Meaning.{Locale, Means, IdentifierMeans, Fault, HasFault, HasIdentifierFault}
+use Rattle.iloc_spec_grammar.specs.Tree.{TreeMeans}
 use Rattle.iloc_spec_grammar.specs.Computing.{identifier_result, locale_result}
 use Rattle.iloc_spec_grammar.proofs.PiecesLaws.{at_pieces}
 use Rattle.iloc_spec_grammar.proofs.IdentifierLaws.{one_meaning}
-use Rattle.iloc_spec_grammar.proofs.FaultLaws.{answered, means_answered, fault_answered}
+use Rattle.iloc_spec_grammar.proofs.SameMeaning.{tree_means, means_by_tree}
+use Rattle.iloc_spec_grammar.proofs.SameFaults.{answered, means_answered, fault_answered}
 use Rattle.iloc_spec_grammar.proofs.IdentifierTexts.{IdentifierAnswers, identifier_answers, identifier_apart, one_identifier_fault}
 
-abbrev pub Answers : (ℕ → Bool) → List ℕ → Result Locale Fault → Type 0
+abbrev Answers : (ℕ → Bool) → List ℕ → Result Locale Fault → Type 0
 Answers T t r = MatchResult r (Means T t) (HasFault T t)
 
-pub locale_answers : (T : ℕ → Bool) → IsTable T → (t : List ℕ) → Answers T t (locale_result T t)
+pub locale_answers : (T : ℕ → Bool) → IsTable T → (t : List ℕ) → MatchResult (locale_result T t) (Means T t) (HasFault T t)
 locale_answers T table t = answered T t
 
 pub computed_means : (T : ℕ → Bool) → IsTable T → (t : List ℕ) (M : Locale) → (locale_result T t ≡ Ok M) ↔ Means T t M
@@ -19,6 +21,9 @@ computed_means T table t M = (λ e. subst (Answers T t) e (answered T t), λ m. 
 
 pub computed_fault : (T : ℕ → Bool) → IsTable T → (t : List ℕ) (f : Fault) → (locale_result T t ≡ Err f) ↔ HasFault T t f
 computed_fault T table t f = (λ e. subst (Answers T t) e (answered T t), λ h. fault_answered T t h)
+
+pub computed_tree : (T : ℕ → Bool) → IsTable T → (t : List ℕ) (M : Locale) → (locale_result T t ≡ Ok M) ↔ TreeMeans T t M
+computed_tree T table t M = (λ e. tree_means t M ((computed_means T table t M).0 e), λ m. (computed_means T table t M).1 (means_by_tree table t M m))
 
 -- identifiers
 

@@ -1,7 +1,8 @@
 -- The equality tests decide equality.
 use Rattle.std.proofs.Common.{◌≡◌, ◌↔◌, Bool, true, false, ◌&&◌, ◌==◌, [], ◌∷◌, Some, None, refl, sym, ap, subst, true≢false}
 use Rattle.std.specs.Bool.{IsTrue}
-use Rattle.iloc_spec_grammar.specs.Syntax.{is_same, Identifier, unicode, transform, other}
+use Rattle.iloc_spec_grammar.specs.Syntax.{is_same, Identifier}
+use Rattle.iloc_spec_grammar.specs.Tree.{unicode, transform, other}
 use Rattle.iloc_spec_grammar.proofs.MapLaws.{same_is, same_itself}
 use Rattle.iloc_spec_grammar.proofs.RuleTests.{Tests, tests_and, tests_like, tests_nat}
 use Rattle.iloc_spec_grammar.specs.StepTests.{DecidesEquality, all_zip, option_zip, block_zip, same_words, same_field, same_fields, same_but_variants, same_identifier, same_extension}

@@ -8,8 +8,9 @@ use Rattle.std.proofs.lemmas.Bool.{or_from, or_parts, cond_both, both_ways, eqb-
 use Rattle.std.proofs.lemmas.Bool.Decides.{nat_tests}
 use Rattle.std.proofs.lemmas.List.{map-append}
 use Rattle.std.proofs.lemmas.List.Folds.{list_any-append}
-use Rattle.iloc_spec_grammar.specs.Syntax.{pieces, Language, Script, Region, Variant, TransformKey, is_word, IsWord, IsTable, lower, word_cmp, Identifier, Transform, Extension, Written, identifier_pieces, optional_pieces, transform_pieces, extension_block, block_pieces, blocks_of, spelling, HasWords, IsIdentifier, IsTransform, IsPrivate, IsExtension, singleton, IsWritten, AllDifferent, front, blocks, head, tail_blocks, first_piece}
-use Rattle.iloc_spec_grammar.specs.Meaning.{Locale, Means, meaning, Fault, InvalidLanguage, InvalidSubtag, InvalidExtension, DuplicatedExtension, SpellsIdentifier, HasSingleton, IsNew, IsBlock, RepeatsVariant, BlockFault, no_singleton, duplicated, breaks_rule, FirstBadBlock, here, later, HasFault, no_language, no_identifier, bad_block}
+use Rattle.iloc_spec_grammar.specs.Syntax.{pieces, Language, Script, Region, Variant, TransformKey, is_word, IsWord, IsTable, lower, word_cmp, Identifier, Transform, identifier_pieces, optional_pieces, transform_pieces, HasWords, IsIdentifier, singleton, AllDifferent, front, blocks, head, tail_blocks, first_piece}
+use Rattle.iloc_spec_grammar.specs.Tree.{Extension, Written, extension_block, block_pieces, blocks_of, spelling, IsTransformBlock, IsPrivate, IsExtension, IsWritten, TreeMeans, meaning, HasSingleton, IsNew, IsBlock, TreeBlockFault, no_singleton, duplicated, breaks_rule, FirstBadBlock, here, later, HasTreeFault, no_language, no_identifier, bad_block}
+use Rattle.iloc_spec_grammar.specs.Meaning.{Locale, Fault, InvalidLanguage, InvalidSubtag, InvalidExtension, DuplicatedExtension, SpellsIdentifier, RepeatsVariant}
 use Rattle.iloc_spec_grammar.specs.Reading.{skip_first, passing, past, identifier_of, front_of, after_front, before_key, extensions_in, private_in, written_of, transform_of}
 use Rattle.iloc_spec_grammar.specs.Computing.{is_identifier, is_block, repeats_variant, first_fault, unless_fault, locale_result}
 use Rattle.iloc_spec_grammar.proofs.WordsLaws.{region_no_script, variant_no_script, variant_no_region}
@@ -99,7 +100,7 @@ before_no_key : (xs ys : List (List ℕ)) → AllByRecursion (λ p. is_word Tran
 before_no_key [] ys h = refl
 before_no_key (x ∷ xs) ys h = rw h.0 (ap (λ l. x ∷ l) (before_no_key xs ys h.1))
 
-good_no_repeat : (T : ℕ → Bool) (m : Transform) → IsTransform T m → ¬ (RepeatsVariant T (transform_pieces m))
+good_no_repeat : (T : ℕ → Bool) (m : Transform) → IsTransformBlock T m → ¬ (RepeatsVariant T (transform_pieces m))
 good_no_repeat T m h r = at_id m.id h.id (sym (before_key_read (is_word TransformKey) (optional_pieces m.id) m.fields (optional_no_key T m.id h.id) (fields_pass m.fields h.fields)) ∙ ap (before_key (is_word TransformKey)) r.3 ∙ before_no_key (identifier_pieces r.0) r.1 (identifier_no_key r.0 r.2))
   where
     at_id : (o : Option Identifier) → IfSome o (IsIdentifier T) → optional_pieces o ≡ identifier_pieces r.0 ++ before_key (is_word TransformKey) r.1 → ⊥
@@ -133,7 +134,7 @@ first_is T seen (b ∷ bs) = at_tests (is_ascii_alphanumeric b.0) refl (list_any
     at_tests true a true e g d r k o rest = here (duplicated a e)
     at_tests true a false e true d r k None rest = ((a, e, (tests_block T b).holds d), rest)
     at_tests true a false e true d r k (Some f) rest = later a e ((tests_block T b).holds d) rest
-    at_tests true a false e false d true k o rest = let x = (tests_variant_twice T b).holds k in here (BlockFault.repeats_variant a e x.0 x.1)
+    at_tests true a false e false d true k o rest = let x = (tests_variant_twice T b).holds k in here (TreeBlockFault.repeats_variant a e x.0 x.1)
     at_tests true a false e false d false k o rest = here (breaks_rule a e (tests_not (tests_variant_twice T b) k) (tests_not (tests_block T b) d))
 
 good_first : (T : ℕ → Bool) (seen : List ℕ) (bs : List (ℕ × List (List ℕ))) → AreGood T seen bs → first_fault T seen bs ≡ None
@@ -143,20 +144,20 @@ good_first T seen (b ∷ bs) g = rw (g.0.0, g.0.1, (tests_block T b).passes g.0.
 fault_first : (T : ℕ → Bool) {seen : List ℕ} {bs : List (ℕ × List (List ℕ))} {f : Fault} → FirstBadBlock T seen bs f → first_fault T seen bs ≡ Some f
 fault_first T (here (no_singleton e)) = rw e
 fault_first T (here (duplicated a e)) = rw (a, e)
-fault_first T (here {b = b} (BlockFault.repeats_variant a e t r)) = rw (a, e, tests_fails (tests_block T b) (λ g. block_no_repeat T b t g r), (tests_variant_twice T b).passes (t, r))
+fault_first T (here {b = b} (TreeBlockFault.repeats_variant a e t r)) = rw (a, e, tests_fails (tests_block T b) (λ g. block_no_repeat T b t g r), (tests_variant_twice T b).passes (t, r))
 fault_first T (here {b = b} (breaks_rule a e n d)) = rw (a, e, tests_fails (tests_block T b) d, tests_fails (tests_variant_twice T b) n)
 fault_first T (later {b = b} a e g x) = rw (a, e, (tests_block T b).passes g) (fault_first T x)
 
 -- the blocks of a locale are good
 
-abbrev NotSeen : {X : Type 0} → List ℕ → List (ℕ × X) → Type 0
+abbrev pub NotSeen : {X : Type 0} → List ℕ → List (ℕ × X) → Type 0
 NotSeen seen es = AllByRecursion (λ e. list_any (eq_by_cmp nat_cmp (singleton e)) seen ≡ false) es
 
 see_one : {X : Type 0} (s : ℕ) (seen : List ℕ) (es : List (ℕ × X)) → list_any (eq_by_cmp nat_cmp s) (map (λ e. singleton e) es) ≡ false → NotSeen seen es → NotSeen (s ∷ seen) es
 see_one s seen [] h n = tt
 see_one s seen (e ∷ es) h n = let parts = or_parts _ _ h in (or_from _ _ (tied_back s (singleton e) parts.0) n.0, see_one s seen es parts.1 n.1)
 
-unsee_one : {X : Type 0} (s : ℕ) (seen : List ℕ) (es : List (ℕ × X)) → NotSeen (s ∷ seen) es → (list_any (eq_by_cmp nat_cmp s) (map (λ e. singleton e) es) ≡ false) × NotSeen seen es
+pub unsee_one : {X : Type 0} (s : ℕ) (seen : List ℕ) (es : List (ℕ × X)) → NotSeen (s ∷ seen) es → (list_any (eq_by_cmp nat_cmp s) (map (λ e. singleton e) es) ≡ false) × NotSeen seen es
 unsee_one s seen [] n = (refl, tt)
 unsee_one s seen (e ∷ es) n = let parts = or_parts _ _ n.0 in let rest = unsee_one s seen es n.1 in (or_from _ _ (tied_back (singleton e) s parts.0) rest.0, (parts.1, rest.1))
 
@@ -186,7 +187,7 @@ different_by T [] None h d k = tt
 different_by T [] (Some b) h d k = (refl, tt)
 different_by T (e ∷ es) x h d k = (any_by T (singleton e) es x (rule_no_x T (singleton e) e.1 h.0) d.0 k, different_by T es x h.1 d.1 k)
 
-written_good : {T : ℕ → Bool} (w : Written) → IsWritten T w → AreGood T [] (blocks_of w)
+pub written_good : {T : ℕ → Bool} (w : Written) → IsWritten T w → AreGood T [] (blocks_of w)
 written_good {T = T} w h = good_from T [] (blocks_of w) (block_rules T w.extensions w.private h.extensions h.private) (different_by T w.extensions w.private h.extensions h.different h.private) (all_of _ (λ b. refl) (blocks_of w))
 
 -- the blocks of a text
@@ -200,6 +201,10 @@ ends_at_x [] = tt
 ends_at_x ([] ∷ ps) = ends_at_x ps
 ends_at_x ((c ∷ []) ∷ ps) = cond_both (to_ascii_lowercase c == 120) _ _ EndsAtX (λ _. (λ _. refl, tt)) (λ e. (λ h. absurd (both_ways _ e h), ends_at_x ps))
 ends_at_x ((c ∷ d ∷ p) ∷ ps) = ends_at_x ps
+
+pub tail_ends : (ps : List (List ℕ)) → EndsAtX (tail_blocks ps)
+tail_ends [] = tt
+tail_ends (p ∷ ps) = ends_at_x ps
 
 pub all_blocks : (ps : List (List ℕ)) → front ps ++ flat_map block_pieces (blocks ps) ≡ ps
 all_blocks [] = refl
@@ -244,15 +249,17 @@ are_read T seen (b ∷ bs) g = at_block g.0.2 (are_read T (singleton b ∷ seen)
         rw (is_no_x T (singleton b) q.0 q.1) (record { rules = (extension_read T (singleton b) b.1 q, r.rules); different = (parts.0, r.different); unseen = (g.0.1, parts.1); private = r.private })
 
 -- good blocks make a locale
-pub good_means : (T : ℕ → Bool) (t : List ℕ) → SpellsIdentifier T (head (pieces t)) → AreGood T [] (tail_blocks (pieces t)) → Means T t (meaning (written_of (pieces t)))
+
+pub good_written : (T : ℕ → Bool) (t : List ℕ) → SpellsIdentifier T (head (pieces t)) → AreGood T [] (tail_blocks (pieces t)) → IsWritten T (written_of (pieces t))
 unfolding written_of
-good_means T t s g =
-    let r = are_read T [] (tail_blocks (pieces t)) g in record {
-      written = written_of (pieces t);
-      grammatical = record { id = identifier_read s; extensions = r.rules; different = r.different; private = r.private };
-      spelled = pieces-written_of t;
-      means = refl;
-    }
+good_written T t s g = let r = are_read T [] (tail_blocks (pieces t)) g in record { id = identifier_read s; extensions = r.rules; different = r.different; private = r.private }
+
+pub good_means : (T : ℕ → Bool) (t : List ℕ) → SpellsIdentifier T (head (pieces t)) → AreGood T [] (tail_blocks (pieces t)) → TreeMeans T t (meaning (written_of (pieces t)))
+good_means T t s g = record { written = written_of (pieces t); grammatical = good_written T t s g; spelled = pieces-written_of t; means = refl }
+
+pub blocks_read : (ps : List (List ℕ)) → blocks_of (written_of ps) ≡ tail_blocks ps
+unfolding written_of
+blocks_read ps = extensions_kept (tail_blocks ps) (tail_ends ps)
 
 -- the plain program answers a meaning or a fault
 
@@ -263,20 +270,24 @@ either (Err e) m = inr (e, m)
 tests_head : (T : ℕ → Bool) (t : List ℕ) → Tests (is_identifier T (identifier_of (head (pieces t)))) (SpellsIdentifier T (head (pieces t)))
 tests_head T t = at_pieces (λ ps. Tests (is_identifier T (identifier_of (head ps))) (SpellsIdentifier T (head ps))) (λ p ps. tests_spelled T p (front ps)) t
 
-pub answered : (T : ℕ → Bool) (t : List ℕ) → MatchResult (locale_result T t) (Means T t) (HasFault T t)
+-- of an accepted text it answers whatever holds of what is read, where good blocks make it hold
+pub answered_by : (T : ℕ → Bool) (t : List ℕ) (P : Locale → Type 0) → (SpellsIdentifier T (head (pieces t)) → AreGood T [] (tail_blocks (pieces t)) → P (meaning (written_of (pieces t)))) → MatchResult (locale_result T t) P (HasTreeFault T t)
 unfolding locale_result
-answered T t = at_tests (is_word (Language T) (first_piece (pieces t))) refl (is_identifier T (identifier_of (head (pieces t)))) refl (first_fault T [] (tail_blocks (pieces t))) (first_is T [] (tail_blocks (pieces t)))
+answered_by T t P from = at_tests (is_word (Language T) (first_piece (pieces t))) refl (is_identifier T (identifier_of (head (pieces t)))) refl (first_fault T [] (tail_blocks (pieces t))) (first_is T [] (tail_blocks (pieces t)))
   where
     at_tests : (l : Bool) → is_word (Language T) (first_piece (pieces t)) ≡ l → (i : Bool) → is_identifier T (identifier_of (head (pieces t))) ≡ i → (o : Option Fault) → MatchOption o (AreGood T [] (tail_blocks (pieces t))) (FirstBadBlock T [] (tail_blocks (pieces t)))
-        → MatchResult (cond (not l) (Err InvalidLanguage) (cond (not i) (Err InvalidSubtag) (unless_fault o (meaning (written_of (pieces t)))))) (Means T t) (HasFault T t)
+        → MatchResult (cond (not l) (Err InvalidLanguage) (cond (not i) (Err InvalidSubtag) (unless_fault o (meaning (written_of (pieces t)))))) P (HasTreeFault T t)
     at_tests false l i k o g = no_language l
     at_tests true l false k o g = no_identifier l (tests_not (tests_head T t) k)
-    at_tests true l true k None g = good_means T t ((tests_head T t).holds k) g
+    at_tests true l true k None g = from ((tests_head T t).holds k) g
     at_tests true l true k (Some f) g = bad_block ((tests_head T t).holds k) g
+
+pub answered : (T : ℕ → Bool) (t : List ℕ) → MatchResult (locale_result T t) (TreeMeans T t) (HasTreeFault T t)
+answered T t = answered_by T t (TreeMeans T t) (good_means T t)
 
 -- and each meaning and each fault is answered
 
-pub means_answered : {T : ℕ → Bool} → IsTable T → (t : List ℕ) (M : Locale) → Means T t M → locale_result T t ≡ Ok M
+pub means_answered : {T : ℕ → Bool} → IsTable T → (t : List ℕ) (M : Locale) → TreeMeans T t M → locale_result T t ≡ Ok M
 unfolding locale_result
 means_answered {T = T} table t M m =
     let w = m.written in let h = m.grammatical in
@@ -286,17 +297,14 @@ means_answered {T = T} table t M m =
       good_first T [] (tail_blocks (pieces t)) (subst (AreGood T []) (sym (ap tail_blocks m.spelled ∙ blocks-spelling table w h)) (written_good w h)),
     ) (ap Ok (ap (λ ps. meaning (written_of ps)) m.spelled ∙ ap meaning (written_of-spelling table w h) ∙ sym m.means))
 
-pub fault_answered : (T : ℕ → Bool) (t : List ℕ) {f : Fault} → HasFault T t f → locale_result T t ≡ Err f
+pub fault_answered : (T : ℕ → Bool) (t : List ℕ) {f : Fault} → HasTreeFault T t f → locale_result T t ≡ Err f
 unfolding locale_result
 fault_answered T t (no_language e) = rw e
 fault_answered T t (no_identifier l n) = rw (l, tests_fails (tests_head T t) n)
 fault_answered T t (bad_block s b) = rw (at_pieces (λ ps. SpellsIdentifier T (head ps) → IsWord (Language T) (first_piece ps)) (λ p ps s. ap (λ l. is_word (Language T) (first_piece l)) s.2 ∙ s.1.words.language) t s, (tests_head T t).passes s, fault_first T b)
 
-pub accepted_or_fault : (T : ℕ → Bool) (t : List ℕ) → ((M : Locale) × Means T t M) ⊎ ((f : Fault) × HasFault T t f)
-accepted_or_fault T t = either (locale_result T t) (answered T t)
-
-pub accepted_no_fault : {T : ℕ → Bool} → IsTable T → (t : List ℕ) (M : Locale) (f : Fault) → Means T t M → HasFault T t f → ⊥
+pub accepted_no_fault : {T : ℕ → Bool} → IsTable T → (t : List ℕ) (M : Locale) (f : Fault) → TreeMeans T t M → HasTreeFault T t f → ⊥
 accepted_no_fault {T = T} table t M f m h = cc (means_answered table t M m, fault_answered T t h)
 
-pub one_fault : {T : ℕ → Bool} (t : List ℕ) {f g : Fault} → HasFault T t f → HasFault T t g → f ≡ g
+pub one_fault : {T : ℕ → Bool} (t : List ℕ) {f g : Fault} → HasTreeFault T t f → HasTreeFault T t g → f ≡ g
 one_fault {T = T} t h k = cc (fault_answered T t h, fault_answered T t k)

@@ -1,8 +1,9 @@
 -- Texts of identifiers: reading them back, the two steps between texts of one meaning, and faults.
-use Rattle.std.proofs.Common.{◌≡◌, ◌⊎◌, inl, inr, ℕ, zero, suc, ◌+◌, Bool, true, false, cond, not, List, ◌∷◌, length, refl, sym, ap, ◌∙◌, subst, arith, ◌↔◌, true≢false, Result, Ok, Err, MatchResult}
+use Rattle.std.proofs.Common.{◌≡◌, ◌⊎◌, ℕ, ◌+◌, Bool, true, false, cond, not, List, ◌∷◌, length, refl, sym, ap, ◌∙◌, subst, arith, ◌↔◌, true≢false, Result, Ok, Err, MatchResult}
 use Rattle.iloc_spec_grammar.specs.Syntax.{pieces, join, Language, is_word, lower, Identifier, identifier_pieces, HasWords, first_piece, head, front}
 use Rattle.iloc_spec_grammar.specs.Meaning.{normal_identifier, IdentifierMeans, Fault, InvalidLanguage, InvalidSubtag, HasIdentifierFault, not_a_language, not_an_identifier}
-use Rattle.iloc_spec_grammar.specs.Values.{IsIdentifierValue, lower_identifier, identifier_text, IdentifierTextStep, IdentifierChain, LeadToOne}
+use Rattle.iloc_spec_grammar.specs.Values.{IsIdentifierValue, lower_identifier, identifier_text}
+use Rattle.iloc_spec_grammar.specs.TreeSteps.{TreeIdentifierTextStep}
 use Rattle.iloc_spec_grammar.proofs.WordsLaws.{length-lower}
 use Rattle.iloc_spec_grammar.proofs.PiecesLaws.{pieces-join, join-pieces, at_pieces}
 use Rattle.iloc_spec_grammar.proofs.IdentifierLaws.{pieces-identifier_of, identifier_of-pieces, one_identifier, one_meaning}
@@ -17,7 +18,6 @@ use Rattle.iloc_spec_grammar.proofs.StepLaws.{identifier_step}
 use Rattle.iloc_spec_grammar.proofs.Orders.{total}
 use Rattle.iloc_spec_grammar.proofs.StepSizes.{identifier_size, piece_length, length-join}
 use Rattle.iloc_spec_grammar.proofs.CaseLaws.{pieces-lower, identifier_of-low, is_identifier-low}
-use Rattle.iloc_spec_grammar.proofs.Canonical.{sort_identifier, identifier_order_step, canonical_identifier}
 use Rattle.iloc_spec_grammar.proofs.Chains.{identifier_pieces-low, lower-join}
 
 -- the text has the pieces that were joined
@@ -59,9 +59,9 @@ case_means T t u i e m =
       means = m.means ∙ sym (normal-lower_identifier v) ∙ ap normal_identifier same ∙ normal-lower_identifier w;
     }
 
-pub identifier_text_step_means : (T : ℕ → Bool) (t u : List ℕ) (i : Identifier) → IdentifierTextStep T t u → IdentifierMeans T (pieces t) i → IdentifierMeans T (pieces u) i
-identifier_text_step_means T t u i (IdentifierTextStep.letter_case e) m = case_means T t u i e m
-identifier_text_step_means T t u i (IdentifierTextStep.variant_order {i = v} {j = w} h e s) m =
+pub identifier_text_step_means : (T : ℕ → Bool) (t u : List ℕ) (i : Identifier) → TreeIdentifierTextStep T t u → IdentifierMeans T (pieces t) i → IdentifierMeans T (pieces u) i
+identifier_text_step_means T t u i (TreeIdentifierTextStep.letter_case e) m = case_means T t u i e m
+identifier_text_step_means T t u i (TreeIdentifierTextStep.variant_order {i = v} {j = w} h e s) m =
     let p = identifier_step s h in
     record {
       written = w;
@@ -72,7 +72,7 @@ identifier_text_step_means T t u i (IdentifierTextStep.variant_order {i = v} {j 
 
 -- and the length
 
-join-identifier : (i : Identifier) → join (identifier_pieces i) ≡ identifier_text i
+pub join-identifier : (i : Identifier) → join (identifier_pieces i) ≡ identifier_text i
 unfolding identifier_text
 join-identifier i = refl
 
@@ -80,49 +80,18 @@ length-identifier_text : (i : Identifier) → length (identifier_text i) + 1 ≡
 unfolding identifier_text
 length-identifier_text i = length-join i.language _
 
-pub identifier_text_step_length : (T : ℕ → Bool) (t u : List ℕ) → IdentifierTextStep T t u → length u ≡ length t
-identifier_text_step_length T t u (IdentifierTextStep.letter_case e) = sym (length-lower u) ∙ ap length (sym e) ∙ length-lower t
-identifier_text_step_length T t u (IdentifierTextStep.variant_order {i = v} {j = w} h e s) =
+pub identifier_text_step_length : (T : ℕ → Bool) (t u : List ℕ) → TreeIdentifierTextStep T t u → length u ≡ length t
+identifier_text_step_length T t u (TreeIdentifierTextStep.letter_case e) = sym (length-lower u) ∙ ap length (sym e) ∙ length-lower t
+identifier_text_step_length T t u (TreeIdentifierTextStep.variant_order {i = v} {j = w} h e s) =
     let a = length-identifier_text v in let b = length-identifier_text w in let c = identifier_size piece_length s in
     let d : length t ≡ length (identifier_text v) = ap length (sym (join-pieces t) ∙ ap join e ∙ join-identifier v) in
     omega arith
 
 -- texts in one order differ in case alone
 
-lower-identifier_text : (i : Identifier) → lower (identifier_text i) ≡ join (identifier_pieces (lower_identifier i))
+pub lower-identifier_text : (i : Identifier) → lower (identifier_text i) ≡ join (identifier_pieces (lower_identifier i))
 unfolding identifier_text
 lower-identifier_text i = lower-join (identifier_pieces i) ∙ ap join (sym (identifier_pieces-low i))
-
--- at most two steps lead to the normal text: the order of the variants, and the case of the letters
-pub identifier_chain_to_text : (T : ℕ → Bool) (t : List ℕ) (i : Identifier) → IdentifierMeans T (pieces t) i → IdentifierChain T 2 t (identifier_text i)
-identifier_chain_to_text T t i m =
-    let v = m.written in
-    let w = sort_identifier v in
-    let sorted : normal_identifier w ≡ i = (identifier_step (identifier_order_step v) m.grammatical).1 ∙ sym m.means in
-    let case : lower (identifier_text w) ≡ lower (identifier_text i) =
-    lower-identifier_text w ∙ ap (λ j. join (identifier_pieces j)) (sym (canonical_identifier v m.grammatical.different) ∙ ap lower_identifier sorted) ∙ sym (lower-identifier_text i) in
-    inr (identifier_text w, IdentifierTextStep.variant_order m.grammatical m.spelled (identifier_order_step v), inr (identifier_text i, IdentifierTextStep.letter_case case, refl))
-
-pub identifier_chain_means : (T : ℕ → Bool) (n : ℕ) (t u : List ℕ) (i : Identifier) → IdentifierChain T n t u → IdentifierMeans T (pieces t) i → IdentifierMeans T (pieces u) i
-identifier_chain_means T zero t u i c m = subst (λ (s : List ℕ). IdentifierMeans T (pieces s) i) c m
-identifier_chain_means T (suc n) t u i (inl e) m = subst (λ (s : List ℕ). IdentifierMeans T (pieces s) i) e m
-identifier_chain_means T (suc n) t u i (inr c) m = identifier_chain_means T n c.0 u i c.2 (identifier_text_step_means T t c.0 i c.1 m)
-
-pub identifier_chain_length : (T : ℕ → Bool) (n : ℕ) (t u : List ℕ) → IdentifierChain T n t u → length u ≡ length t
-identifier_chain_length T zero t u e = ap length (sym e)
-identifier_chain_length T (suc n) t u (inl e) = ap length (sym e)
-identifier_chain_length T (suc n) t u (inr c) = identifier_chain_length T n c.0 u c.2 ∙ identifier_text_step_length T t c.0 c.1
-
--- all texts of a meaning are as long as the normal one
-pub length-identifier_means : (T : ℕ → Bool) (t : List ℕ) (i : Identifier) → IdentifierMeans T (pieces t) i → length (identifier_text i) ≡ length t
-length-identifier_means T t i m = identifier_chain_length T 2 t (identifier_text i) (identifier_chain_to_text T t i m)
-
--- texts mean the same exactly where steps lead both to one text
-pub identifiers_lead_to_one : (T : ℕ → Bool) (t u : List ℕ) (i j : Identifier) → IdentifierMeans T (pieces t) i → IdentifierMeans T (pieces u) j → (i ≡ j) ↔ LeadToOne (IdentifierTextStep T) 2 t u
-identifiers_lead_to_one T t u i j m n = (
-  λ e. record { end = identifier_text i; first = identifier_chain_to_text T t i m; second = subst (λ (k : Identifier). IdentifierChain T 2 u (identifier_text k)) (sym e) (identifier_chain_to_text T u j n) },
-  λ l. one_meaning (pieces l.end) i j (identifier_chain_means T 2 t l.end i l.first m) (identifier_chain_means T 2 u l.end j l.second n),
-)
 
 -- a meaning, or one fault
 

@@ -19,12 +19,15 @@ pub mod Canonical
 pub mod Chains
 pub mod WiderTables
 pub mod BlockLaws
+pub mod SameMeaning
+pub mod SameFaults
 pub mod Corollaries
 pub mod ReadWords
 pub mod ReadingLaws
 pub mod IdentifierTexts
 pub mod RawLaws
 pub mod PartTexts
+pub mod SameText
 pub mod ComputingLaws
 pub mod Examples
 pub mod Singletons
@@ -34,3 +37,5 @@ pub mod Equality
 pub mod ListTests
 pub mod PartTests
 pub mod TextTests
+pub mod SamePartSteps
+pub mod SameSteps

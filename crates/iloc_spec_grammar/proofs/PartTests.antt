@@ -3,8 +3,10 @@ use Rattle.std.proofs.Common.{◌≡◌, inl, inr, ℕ, ◌<◌, Bool, true, fal
 use Rattle.std.specs.List.{AllZip, list_any}
 use Rattle.std.proofs.lemmas.Bool.{and_parts, and_from, or_cases, or_left, or_right}
 use Rattle.std.proofs.Math.Bool.{or-true}
-use Rattle.iloc_spec_grammar.specs.Syntax.{Subtag, is_word, lower, is_same, is_true, word_cmp, Identifier, Fields, Unicode, Transform, Extension, unicode, transform, other, Written}
-use Rattle.iloc_spec_grammar.specs.Values.{Reordered, WithoutRepeats, LessTrue, keys_differ, Rule, VariantOrder, AttributeOrder, FieldOrder, Repeats, Trues, DroppedPieces, IdentifierStep, ExtensionStep, Step}
+use Rattle.iloc_spec_grammar.specs.Syntax.{Subtag, is_word, lower, is_same, is_true, word_cmp, Identifier, Fields, Unicode, Transform}
+use Rattle.iloc_spec_grammar.specs.Tree.{Extension, unicode, transform, other, Written}
+use Rattle.iloc_spec_grammar.specs.Values.{Reordered}
+use Rattle.iloc_spec_grammar.specs.TreeSteps.{WithoutRepeats, TreeLessTrue, keys_differ, TreeRule, VariantOrder, AttributeOrder, FieldOrder, Repeats, Trues, DroppedPieces, TreeIdentifierStep, ExtensionStep, Step}
 use Rattle.iloc_spec_grammar.proofs.RuleTests.{Tests, tests_and, tests_like, tests_different, tests_positive, tests_nat}
 use Rattle.iloc_spec_grammar.proofs.Sorting.{itself}
 use Rattle.iloc_spec_grammar.specs.StepTests.{all_zip, option_zip, block_zip, same_words, same_field, same_fields, same_identifier, same_extension, has_less_true, are_fields_reordered, are_fields_without_repeats, is_identifier_step, is_unicode_step, is_fields_step, is_transform_step, is_other_step, is_change, is_extension_step, rules, is_block_order, is_step_by, is_step}
@@ -13,11 +15,11 @@ use Rattle.iloc_spec_grammar.proofs.ListTests.{tests_zip, tests_reordered, tests
 
 -- fields
 
-pub tests_less_true : (f g : List ℕ × List (List ℕ)) → Tests (has_less_true f g) (LessTrue f g)
+pub tests_less_true : (f g : List ℕ × List (List ℕ)) → Tests (has_less_true f g) (TreeLessTrue f g)
 tests_less_true f g = tests_and (word_equality f.0 g.0) (tests_without is_same word_equality (λ p. is_true (lower p)) f.1 g.1)
 
 abbrev KeepsValue : List ℕ × List (List ℕ) → List ℕ × List (List ℕ) → Type 0
-KeepsValue f g = LessTrue f g × (0 < length g.1)
+KeepsValue f g = TreeLessTrue f g × (0 < length g.1)
 
 tests_keeps_value : (fs gs : Fields) → Tests (all_zip (λ f g. has_less_true f g && nat_lt 0 (length g.1)) fs gs) (AllZip KeepsValue fs gs)
 tests_keeps_value fs gs = tests_zip (λ f g. has_less_true f g && nat_lt 0 (length g.1)) KeepsValue (λ f g. tests_and (tests_less_true f g) (tests_positive (length g.1))) fs gs
@@ -30,34 +32,34 @@ tests_fields_without_repeats fs gs = tests_without_repeats same_field field_equa
 
 -- identifiers
 
-orders_variants : Rule → Bool
+orders_variants : TreeRule → Bool
 orders_variants VariantOrder = true
 orders_variants _ = false
 
 -- other rules leave an identifier as it is
-unchanged : {r : Rule} {i j : Identifier} → orders_variants r ≡ false → IdentifierStep r i j → i ≡ j
+unchanged : {r : TreeRule} {i j : Identifier} → orders_variants r ≡ false → TreeIdentifierStep r i j → i ≡ j
 unfolding orders_variants
-unchanged h IdentifierStep.same = refl
-unchanged h (IdentifierStep.variants p) = absurd (true≢false h)
+unchanged h TreeIdentifierStep.same = refl
+unchanged h (TreeIdentifierStep.variants p) = absurd (true≢false h)
 
-tests_unchanged : (r : Rule) → orders_variants r ≡ false → (i j : Identifier) → Tests (same_identifier i j) (IdentifierStep r i j)
-tests_unchanged r h i j = tests_like (λ (e : i ≡ j). subst (IdentifierStep r i) e IdentifierStep.same) (unchanged h) (identifier_equality i j)
+tests_unchanged : (r : TreeRule) → orders_variants r ≡ false → (i j : Identifier) → Tests (same_identifier i j) (TreeIdentifierStep r i j)
+tests_unchanged r h i j = tests_like (λ (e : i ≡ j). subst (TreeIdentifierStep r i) e TreeIdentifierStep.same) (unchanged h) (identifier_equality i j)
 
-variants_step : (i j : Identifier) → FrontsEqual i j → Reordered i.variants j.variants → IdentifierStep VariantOrder i j
-variants_step i j f p = subst (IdentifierStep VariantOrder i) (λ k. record { language = f.0 k; script = f.1.0 k; region = f.1.1 k; variants = j.variants }) (IdentifierStep.variants p)
+variants_step : (i j : Identifier) → FrontsEqual i j → Reordered i.variants j.variants → TreeIdentifierStep VariantOrder i j
+variants_step i j f p = subst (TreeIdentifierStep VariantOrder i) (λ k. record { language = f.0 k; script = f.1.0 k; region = f.1.1 k; variants = j.variants }) (TreeIdentifierStep.variants p)
 
-step_variants : {i j : Identifier} → IdentifierStep VariantOrder i j → FrontsEqual i j × Reordered i.variants j.variants
-step_variants {i = i} IdentifierStep.same = ((refl, (refl, refl)), itself i.variants)
-step_variants (IdentifierStep.variants p) = ((refl, (refl, refl)), p)
+step_variants : {i j : Identifier} → TreeIdentifierStep VariantOrder i j → FrontsEqual i j × Reordered i.variants j.variants
+step_variants {i = i} TreeIdentifierStep.same = ((refl, (refl, refl)), itself i.variants)
+step_variants (TreeIdentifierStep.variants p) = ((refl, (refl, refl)), p)
 
-pub tests_identifier_step : (r : Rule) (i j : Identifier) → Tests (is_identifier_step r i j) (IdentifierStep r i j)
+pub tests_identifier_step : (r : TreeRule) (i j : Identifier) → Tests (is_identifier_step r i j) (TreeIdentifierStep r i j)
 unfolding orders_variants
 tests_identifier_step VariantOrder i j = tests_like (λ (p : FrontsEqual i j × Reordered i.variants j.variants). variants_step i j p.0 p.1) step_variants (tests_and (fronts_equality i j) (tests_reordered is_same word_equality i.variants j.variants))
 tests_identifier_step r i j = tests_unchanged r refl i j
 
 -- extensions
 
-unicode_holds : (r : Rule) (u v : Unicode) → is_unicode_step r u v ≡ true → ExtensionStep r (unicode u) (unicode v)
+unicode_holds : (r : TreeRule) (u v : Unicode) → is_unicode_step r u v ≡ true → ExtensionStep r (unicode u) (unicode v)
 unicode_holds AttributeOrder u v e =
     let parts = and_parts _ (same_fields u.keywords v.keywords) e in
     subst (λ fs. ExtensionStep AttributeOrder (unicode u) (unicode (record { attributes = v.attributes; keywords = fs }))) ((fields_equality u.keywords v.keywords).holds parts.1) (ExtensionStep.attribute_order ((tests_reordered is_same word_equality u.attributes v.attributes).holds parts.0))
@@ -70,22 +72,22 @@ unicode_holds Repeats u v e =
     ExtensionStep.unicode_repeats ((tests_without_repeats is_same word_equality (λ a. a) [] u.attributes v.attributes).holds parts.0) ((tests_fields_without_repeats u.keywords v.keywords).holds parts.1)
 unicode_holds Trues u v e =
     let parts = and_parts (same_words u.attributes v.attributes) _ e in
-    subst (λ vs. ExtensionStep Trues (unicode u) (unicode (record { attributes = vs; keywords = v.keywords }))) ((words_equality u.attributes v.attributes).holds parts.0) (ExtensionStep.unicode_trues ((tests_zip has_less_true LessTrue tests_less_true u.keywords v.keywords).holds parts.1))
+    subst (λ vs. ExtensionStep Trues (unicode u) (unicode (record { attributes = vs; keywords = v.keywords }))) ((words_equality u.attributes v.attributes).holds parts.0) (ExtensionStep.unicode_trues ((tests_zip has_less_true TreeLessTrue tests_less_true u.keywords v.keywords).holds parts.1))
 unicode_holds _ u v e = absurd (true≢false (sym e))
 
-fields_holds : (r : Rule) (o : Option Identifier) (fs gs : Fields) → is_fields_step r fs gs ≡ true → ExtensionStep r (transform (record { id = o; fields = fs })) (transform (record { id = o; fields = gs }))
+fields_holds : (r : TreeRule) (o : Option Identifier) (fs gs : Fields) → is_fields_step r fs gs ≡ true → ExtensionStep r (transform (record { id = o; fields = fs })) (transform (record { id = o; fields = gs }))
 fields_holds FieldOrder o fs gs e = let p = (tests_fields_reordered fs gs).holds e in ExtensionStep.field_order p.0 p.1
 fields_holds Repeats o fs gs e = ExtensionStep.transform_repeats ((tests_fields_without_repeats fs gs).holds e)
 fields_holds Trues o fs gs e = ExtensionStep.transform_trues ((tests_keeps_value fs gs).holds e)
 fields_holds _ o fs gs e = absurd (true≢false (sym e))
 
-optional_holds : (r : Rule) (o p : Option Identifier) (fs : Fields) → option_zip (is_identifier_step r) o p ≡ true → ExtensionStep r (transform (record { id = o; fields = fs })) (transform (record { id = p; fields = fs }))
+optional_holds : (r : TreeRule) (o p : Option Identifier) (fs : Fields) → option_zip (is_identifier_step r) o p ≡ true → ExtensionStep r (transform (record { id = o; fields = fs })) (transform (record { id = p; fields = fs }))
 optional_holds r None None fs e = ExtensionStep.same
 optional_holds r None (Some j) fs e = absurd (true≢false (sym e))
 optional_holds r (Some i) None fs e = absurd (true≢false (sym e))
 optional_holds r (Some i) (Some j) fs e = ExtensionStep.identifier ((tests_identifier_step r i j).holds e)
 
-transform_holds : (r : Rule) (m n : Transform) → is_transform_step r m n ≡ true → ExtensionStep r (transform m) (transform n)
+transform_holds : (r : TreeRule) (m n : Transform) → is_transform_step r m n ≡ true → ExtensionStep r (transform m) (transform n)
 transform_holds r m n e = elim (or_cases _ _ e) [
   | inl h ↦
       let parts = and_parts (option_zip (is_identifier_step r) m.id n.id) _ h in
@@ -95,23 +97,23 @@ transform_holds r m n e = elim (or_cases _ _ e) [
       subst (λ o. ExtensionStep r (transform m) (transform (record { id = o; fields = n.fields }))) ((optional_equality m.id n.id).holds parts.0) (fields_holds r m.id m.fields n.fields parts.1)
 ]
 
-other_holds : (r : Rule) (ps qs : List (List ℕ)) → is_other_step r ps qs ≡ true → ExtensionStep r (other ps) (other qs)
+other_holds : (r : TreeRule) (ps qs : List (List ℕ)) → is_other_step r ps qs ≡ true → ExtensionStep r (other ps) (other qs)
 other_holds DroppedPieces ps qs e = ExtensionStep.dropped_pieces ((tests_without is_same word_equality (λ p. not (is_word Subtag p)) ps qs).holds e)
 other_holds _ ps qs e = absurd (true≢false (sym e))
 
-change_holds : (r : Rule) (e f : Extension) → is_change r e f ≡ true → ExtensionStep r e f
+change_holds : (r : TreeRule) (e f : Extension) → is_change r e f ≡ true → ExtensionStep r e f
 change_holds r (unicode u) (unicode v) h = unicode_holds r u v h
 change_holds r (transform m) (transform n) h = transform_holds r m n h
 change_holds r (other ps) (other qs) h = other_holds r ps qs h
 change_holds r _ _ h = absurd (true≢false (sym h))
 
-extension_holds : (r : Rule) (e f : Extension) → is_extension_step r e f ≡ true → ExtensionStep r e f
+extension_holds : (r : TreeRule) (e f : Extension) → is_extension_step r e f ≡ true → ExtensionStep r e f
 extension_holds r e f h = elim (or_cases _ _ h) [
   | inl s ↦ subst (ExtensionStep r e) ((extension_equality e f).holds s) ExtensionStep.same
   | inr c ↦ change_holds r e f c
 ]
 
-extension_passes : {r : Rule} {e f : Extension} → ExtensionStep r e f → is_extension_step r e f ≡ true
+extension_passes : {r : TreeRule} {e f : Extension} → ExtensionStep r e f → is_extension_step r e f ≡ true
 extension_passes {e = e} ExtensionStep.same = or_left _ _ ((extension_equality e e).passes refl)
 extension_passes (ExtensionStep.identifier {r = r} {i = i} {j = j} {fs = fs} s) = or_right _ _ (or_left _ _ (and_from _ _ ((tests_identifier_step r i j).passes s) ((fields_equality fs fs).passes refl)))
 extension_passes (ExtensionStep.attribute_order {vs = vs} {ws = ws} {fs = fs} o) = or_right _ _ (and_from _ _ ((tests_reordered is_same word_equality vs ws).passes o) ((fields_equality fs fs).passes refl))
@@ -119,27 +121,27 @@ extension_passes (ExtensionStep.keyword_order {vs = vs} {fs = fs} {gs = gs} d o)
 extension_passes (ExtensionStep.field_order {i = i} {fs = fs} {gs = gs} d o) = or_right _ _ (or_right _ _ (and_from _ _ ((optional_equality i i).passes refl) ((tests_fields_reordered fs gs).passes (d, o))))
 extension_passes (ExtensionStep.unicode_repeats {vs = vs} {ws = ws} {fs = fs} {gs = gs} a s) = or_right _ _ (and_from _ _ ((tests_without_repeats is_same word_equality (λ a. a) [] vs ws).passes a) ((tests_fields_without_repeats fs gs).passes s))
 extension_passes (ExtensionStep.transform_repeats {i = i} {fs = fs} {gs = gs} s) = or_right _ _ (or_right _ _ (and_from _ _ ((optional_equality i i).passes refl) ((tests_fields_without_repeats fs gs).passes s)))
-extension_passes (ExtensionStep.unicode_trues {vs = vs} {fs = fs} {gs = gs} z) = or_right _ _ (and_from _ _ ((words_equality vs vs).passes refl) ((tests_zip has_less_true LessTrue tests_less_true fs gs).passes z))
+extension_passes (ExtensionStep.unicode_trues {vs = vs} {fs = fs} {gs = gs} z) = or_right _ _ (and_from _ _ ((words_equality vs vs).passes refl) ((tests_zip has_less_true TreeLessTrue tests_less_true fs gs).passes z))
 extension_passes (ExtensionStep.transform_trues {i = i} {fs = fs} {gs = gs} z) = or_right _ _ (or_right _ _ (and_from _ _ ((optional_equality i i).passes refl) ((tests_keeps_value fs gs).passes z)))
 extension_passes (ExtensionStep.dropped_pieces {ps = ps} {qs = qs} w) = or_right _ _ ((tests_without is_same word_equality (λ p. not (is_word Subtag p)) ps qs).passes w)
 
-pub tests_extension_step : (r : Rule) (e f : Extension) → Tests (is_extension_step r e f) (ExtensionStep r e f)
+pub tests_extension_step : (r : TreeRule) (e f : Extension) → Tests (is_extension_step r e f) (ExtensionStep r e f)
 tests_extension_step r e f = record { holds = extension_holds r e f; passes = extension_passes }
 
 -- written locales
 
-abbrev BlockStep : Rule → ℕ × Extension → ℕ × Extension → Type 0
+abbrev BlockStep : TreeRule → ℕ × Extension → ℕ × Extension → Type 0
 BlockStep r e f = (e.0 ≡ f.0) × ExtensionStep r e.1 f.1
 
-tests_block_steps : (r : Rule) (es fs : List (ℕ × Extension)) → Tests (all_zip (block_zip (is_extension_step r)) es fs) (AllZip (BlockStep r) es fs)
+tests_block_steps : (r : TreeRule) (es fs : List (ℕ × Extension)) → Tests (all_zip (block_zip (is_extension_step r)) es fs) (AllZip (BlockStep r) es fs)
 tests_block_steps r es fs = tests_zip (block_zip (is_extension_step r)) (BlockStep r) (λ e f. tests_and (tests_nat e.0 f.0) (tests_extension_step r e.1 f.1)) es fs
 
 -- some rule passes the test, and any that does is among them
-some_rule : {test : Rule → Bool} (rs : List Rule) → list_any test rs ≡ true → (r : Rule) × (test r ≡ true)
+some_rule : {test : TreeRule → Bool} (rs : List TreeRule) → list_any test rs ≡ true → (r : TreeRule) × (test r ≡ true)
 some_rule [] e = absurd (true≢false (sym e))
 some_rule {test = test} (r ∷ rs) e = elim (or_cases _ _ e) [ inl h ↦ (r, h) | inr h ↦ some_rule {test = test} rs h ]
 
-among_rules : (test : Rule → Bool) (r : Rule) → test r ≡ true → list_any test rules ≡ true
+among_rules : (test : TreeRule → Bool) (r : TreeRule) → test r ≡ true → list_any test rules ≡ true
 among_rules test VariantOrder e = simp e
 among_rules test _ e = simp (e, or-true)
 

@@ -1,11 +1,12 @@
 -- Texts of parts: the text of a locale is the join of its parts.
-use Rattle.std.proofs.Common.{◌≡◌, ℕ, ◌+◌, ◌<◌, ◌≤◌, arith, get_or, true, false, cond, ◌||◌, List, [], ◌∷◌, ◌++◌, length, map, flat_map, refl, sym, ap, ◌∙◌, option_map, option_to_list, is_some, nat_lt, append_assoc, append-nil}
+use Rattle.std.proofs.Common.{◌≡◌, ℕ, ◌+◌, ◌<◌, ◌≤◌, arith, get_or, Bool, true, false, cond, ◌||◌, List, [], ◌∷◌, ◌++◌, length, map, flat_map, refl, sym, ap, ◌∙◌, Option, Some, None, option_map, option_to_list, is_some, nat_le, nat_lt, append_assoc, append-nil}
+use Rattle.std.proofs.lemmas.Bool.{lt-ltb}
 use Rattle.std.proofs.lemmas.List.{map-append}
 use Rattle.std.proofs.lemmas.List.Concat.{flat_map-append}
-use Rattle.iloc_spec_grammar.specs.Syntax.{join, dashes, Unicode, unicode, Transform, transform, Extension, other, identifier_pieces, unicode_pieces, transform_pieces, extension_block, block_pieces, spelling}
-use Rattle.iloc_spec_grammar.specs.Meaning.{Locale}
-use Rattle.iloc_spec_grammar.specs.Values.{lower_identifier, spelled_fields, transform_form, unicode_form, others_form, private_form, before_t, after_t, printed, text, form_pieces, unicode_spelling, transform_spelling, other_spelling, private_spelling, extensions_spelling, identifier_text}
-use Rattle.std.proofs.lemmas.Bool.{cond_both}
+use Rattle.iloc_spec_grammar.specs.Syntax.{join, dashes, lower, Identifier, Fields, Unicode, Transform, identifier_pieces, optional_pieces, fields_pieces, unicode_pieces, transform_pieces}
+use Rattle.iloc_spec_grammar.specs.Tree.{before_t, after_t}
+use Rattle.iloc_spec_grammar.specs.Meaning.{Locale, Extensions}
+use Rattle.iloc_spec_grammar.specs.Values.{lower_identifier, spelled_fields, printed_pieces, transform_block, before_above, text, unicode_spelling, transform_spelling, other_spelling, private_spelling, extensions_spelling, identifier_text}
 
 -- joins
 
@@ -34,61 +35,81 @@ join-append p ps qs = join-dashes p (ps ++ qs) ∙ ap (λ l. p ++ l) (dashes-app
 
 pub ruleset join_laws = (join-nothing, join-dashes, dashes-append, join-append)
 
--- blocks one after the other
-
-form_pieces-append : (es fs : List (ℕ × Extension)) → form_pieces (es ++ fs) ≡ form_pieces es ++ form_pieces fs
-form_pieces-append es fs = ap (flat_map block_pieces) (map-append extension_block es fs) ∙ flat_map-append block_pieces (map extension_block es) (map extension_block fs)
-
-others_pieces : (os : List (ℕ × List (List ℕ))) → form_pieces (others_form os) ≡ flat_map other_spelling os
-unfolding other_spelling
-others_pieces [] = refl
-others_pieces (o ∷ os) = cond_both (nat_lt 0 (length o.1)) _ _ (λ l. form_pieces (map (λ (o : ℕ × List (List ℕ)). (o.0, other o.1)) l) ≡ other_spelling o ++ flat_map other_spelling os)
-    (λ e. rw e (ap (λ l. ((o.0 ∷ []) ∷ o.1) ++ l) (others_pieces os) ∙ ap (λ l. l ++ flat_map other_spelling os) (sym (append-nil ((o.0 ∷ []) ∷ o.1)))))
-    (λ e. rw e (others_pieces os))
-
--- a locale gives the pieces of its identifier, and of each other part
-pub printed_pieces : (M : Locale) → spelling (printed M) ≡ identifier_pieces M.id ++ extensions_spelling M.extensions
-unfolding extensions_spelling transform_spelling unicode_spelling private_spelling
-printed_pieces M =
-    let o = others_form (before_t M.extensions.others) in
-    let t = transform_form M.extensions.transform in
-    let u = unicode_form M.extensions.unicode in
-    let r = others_form (after_t M.extensions.others) in
-    let x = private_form M.extensions.private in
-    let p = flat_map block_pieces (option_to_list x) in
-    let extensions : form_pieces (o ++ (t ++ (u ++ r))) ≡ form_pieces o ++ (form_pieces t ++ (form_pieces u ++ form_pieces r)) =
-    form_pieces-append o (t ++ (u ++ r)) ∙ ap (λ l. form_pieces o ++ l) (form_pieces-append t (u ++ r) ∙ ap (λ l. form_pieces t ++ l) (form_pieces-append u r)) in
-    ap (λ l. identifier_pieces M.id ++ l) (
-    flat_map-append block_pieces (map extension_block (o ++ (t ++ (u ++ r)))) (option_to_list x)
-    ∙ ap (λ l. l ++ p) extensions
-    ∙ append_assoc (form_pieces o) (form_pieces t ++ (form_pieces u ++ form_pieces r)) p
-    ∙ ap (λ l. form_pieces o ++ l) (append_assoc (form_pieces t) (form_pieces u ++ form_pieces r) p ∙ ap (λ l. form_pieces t ++ l) (append_assoc (form_pieces u) (form_pieces r) p))
-    ∙ (λ k. others_pieces (before_t M.extensions.others) k ++ (form_pieces t ++ (form_pieces u ++ (others_pieces (after_t M.extensions.others) k ++ p)))))
-
+-- a locale gives the text of its identifier, and each other piece after a hyphen
 pub text_of_parts : (M : Locale) → text M ≡ identifier_text M.id ++ dashes (extensions_spelling M.extensions)
 unfolding identifier_text
-text_of_parts M = ap join (printed_pieces M) ∙ join-append M.id.language _ (extensions_spelling M.extensions)
+text_of_parts M = join-append M.id.language _ (extensions_spelling M.extensions)
+
+-- the pieces of an identifier in lower case
+
+pub option_to_list-map : {X Y : Type 0} (f : X → Y) (o : Option X) → option_to_list (option_map f o) ≡ map f (option_to_list o)
+option_to_list-map f None = refl
+option_to_list-map f (Some x) = refl
+
+pub identifier_pieces-low : (i : Identifier) → identifier_pieces (lower_identifier i) ≡ map lower (identifier_pieces i)
+identifier_pieces-low i = (λ k. lower i.language ∷ (option_to_list-map lower i.script k ++ (option_to_list-map lower i.region k ++ map lower i.variants)))
+    ∙ ap (λ l. lower i.language ∷ l) (ap (λ l. map lower (option_to_list i.script) ++ l) (sym (map-append lower (option_to_list i.region) i.variants)) ∙ sym (map-append lower (option_to_list i.script) (option_to_list i.region ++ i.variants)))
+
+pub id_pieces-low : (o : Option Identifier) → optional_pieces (option_map lower_identifier o) ≡ map lower (optional_pieces o)
+id_pieces-low None = refl
+id_pieces-low (Some i) = identifier_pieces-low i
 
 -- each part, where it is empty and where it isn't
 
+there : (n : ℕ) (ps : List (List ℕ)) → 0 < n → ps ≡ cond (nat_lt 0 n) ps []
+there n ps l = ap (λ (b : Bool). cond b ps []) (sym (lt-ltb 0 n l))
+
 pub unicode_spelling_is : (u : Unicode) → unicode_spelling u ≡ cond (nat_lt 0 (length u.attributes + length u.keywords)) ((117 ∷ []) ∷ unicode_pieces u) []
 unfolding unicode_spelling
-unicode_spelling_is u = elim (nat_lt 0 (length u.attributes + length u.keywords)) as (λ b. form_pieces (cond b ((117, unicode u) ∷ []) []) ≡ cond b ((117 ∷ []) ∷ unicode_pieces u) []) [ true ↦ append-nil ((117 ∷ []) ∷ unicode_pieces u) | false ↦ refl ]
+unicode_spelling_is u = parts u.attributes u.keywords
+  where
+    parts : (ws : List (List ℕ)) (ks : Fields) → printed_pieces (117, ws ++ fields_pieces ks) ≡ cond (nat_lt 0 (length ws + length ks)) ((117 ∷ []) ∷ (ws ++ fields_pieces ks)) []
+    parts [] [] = refl
+    parts [] (k ∷ ks) = there (0 + length (k ∷ ks)) _ (omega arith)
+    parts (w ∷ ws) ks = there (length (w ∷ ws) + length ks) _ (omega arith)
 
 pub transform_spelling_is : (m : Transform) → transform_spelling m ≡ cond (is_some m.id || nat_lt 0 (length m.fields)) ((116 ∷ []) ∷ transform_pieces (record { id = option_map lower_identifier m.id; fields = spelled_fields m.fields })) []
 unfolding transform_spelling
 transform_spelling_is m =
-    let n : Transform = record { id = option_map lower_identifier m.id; fields = spelled_fields m.fields } in
-    elim (is_some m.id || nat_lt 0 (length m.fields)) as (λ b. form_pieces (cond b ((116, transform n) ∷ []) []) ≡ cond b ((116 ∷ []) ∷ transform_pieces n) []) [ true ↦ append-nil ((116 ∷ []) ∷ transform_pieces n) | false ↦ refl ]
+    ap (λ ps. printed_pieces (116, ps ++ fields_pieces (spelled_fields m.fields))) (sym (id_pieces-low m.id)) ∙ parts m.id m.fields
+  where
+    parts : (o : Option Identifier) (fs : Fields) → printed_pieces (116, optional_pieces (option_map lower_identifier o) ++ fields_pieces (spelled_fields fs)) ≡ cond (is_some o || nat_lt 0 (length fs)) ((116 ∷ []) ∷ (optional_pieces (option_map lower_identifier o) ++ fields_pieces (spelled_fields fs))) []
+    parts None [] = refl
+    parts None (f ∷ fs) = there (length (f ∷ fs)) _ (omega arith)
+    parts (Some i) fs = refl
 
 pub other_spelling_is : (o : ℕ × List (List ℕ)) → other_spelling o ≡ cond (nat_lt 0 (length o.1)) ((o.0 ∷ []) ∷ o.1) []
 unfolding other_spelling
-other_spelling_is o = elim (nat_lt 0 (length o.1)) as (λ b. form_pieces (map (λ (o : ℕ × List (List ℕ)). (o.0, other o.1)) (cond b (o ∷ []) [])) ≡ cond b ((o.0 ∷ []) ∷ o.1) []) [ true ↦ append-nil ((o.0 ∷ []) ∷ o.1) | false ↦ refl ]
+other_spelling_is (c, []) = refl
+other_spelling_is (c, p ∷ ps) = there (length (p ∷ ps)) _ (omega arith)
 
 pub private_spelling_is : (w : List ℕ) (ws : List (List ℕ)) → private_spelling (w ∷ ws) ≡ (120 ∷ []) ∷ (w ∷ ws)
 unfolding private_spelling
-private_spelling_is w ws = append-nil ((120 ∷ []) ∷ (w ∷ ws))
+private_spelling_is w ws = refl
 
 pub private_spelling_none : private_spelling [] ≡ []
 unfolding private_spelling
 private_spelling_none = refl
+
+-- others up to `t`, the parts of `t` and `u`, and the others after it
+
+pub before_above_is : (bs os : List (ℕ × List (List ℕ))) → before_above bs os ≡ before_t os ++ (bs ++ after_t os)
+before_above_is bs [] = sym (append-nil bs)
+before_above_is bs (o ∷ os) = elim (nat_le o.0 116) as (λ b. cond b (o ∷ before_above bs os) (bs ++ (o ∷ os)) ≡ cond b (o ∷ before_t os) [] ++ (bs ++ cond b (after_t os) (o ∷ os))) [ true ↦ ap (λ l. o ∷ l) (before_above_is bs os) | false ↦ refl ]
+
+-- the pieces of extensions whose others are split in two, the parts of `t` and `u` between them
+pub spelling_around : (e : Extensions) (before after : List (ℕ × List (List ℕ))) → ((bs : List (ℕ × List (List ℕ))) → before_above bs e.others ≡ before ++ (bs ++ after)) → extensions_spelling e ≡ flat_map other_spelling before ++ (transform_spelling e.transform ++ (unicode_spelling e.unicode ++ (flat_map other_spelling after ++ private_spelling e.private)))
+unfolding extensions_spelling transform_spelling unicode_spelling other_spelling private_spelling
+spelling_around e before after split =
+    let parts = transform_block e.transform ∷ (117, unicode_pieces e.unicode) ∷ [] in
+    let t = printed_pieces (transform_block e.transform) in
+    let u = printed_pieces (117, unicode_pieces e.unicode) in
+    let x = printed_pieces (120, e.private) in
+    flat_map-append printed_pieces (before_above parts e.others) ((120, e.private) ∷ [])
+    ∙ (λ k. flat_map printed_pieces (split parts k) ++ append-nil x k)
+    ∙ ap (λ l. l ++ x) (flat_map-append printed_pieces before (parts ++ after))
+    ∙ append_assoc (flat_map printed_pieces before) (t ++ (u ++ flat_map printed_pieces after)) x
+    ∙ ap (λ l. flat_map printed_pieces before ++ l) (append_assoc t (u ++ flat_map printed_pieces after) x ∙ ap (λ l. t ++ l) (append_assoc u (flat_map printed_pieces after) x))
+
+pub spelling_of_parts : (e : Extensions) → extensions_spelling e ≡ flat_map other_spelling (before_t e.others) ++ (transform_spelling e.transform ++ (unicode_spelling e.unicode ++ (flat_map other_spelling (after_t e.others) ++ private_spelling e.private)))
+spelling_of_parts e = spelling_around e (before_t e.others) (after_t e.others) (λ bs. before_above_is bs e.others)

@@ -11,9 +11,10 @@ use Rattle.std.proofs.lemmas.Bool.Decides.{nat_tests}
 use Rattle.std.proofs.lemmas.List.Elements.{filter_map-append}
 use Rattle.std.proofs.lemmas.List.Concat.{flat_map-append}
 use Rattle.std.proofs.lemmas.List.{map-append}
-use Rattle.iloc_spec_grammar.specs.Syntax.{pieces, join, IsHyphenFree, Kind, Language, Script, Region, Variant, Subtag, UnicodeKey, TransformKey, Attribute, PrivateSubtag, is_word, IsWord, lower, Identifier, Fields, Unicode, Transform, Extension, unicode, transform, other, Written, identifier_pieces, optional_pieces, fields_pieces, extension_pieces, block_pieces, extension_block, spelling, HasWords, IsIdentifier, IsField, IsPrivate, kept, is_other_singleton, IsExtension, singleton, IsWritten, AllDifferent}
-use Rattle.iloc_spec_grammar.specs.Meaning.{map_of, Locale, unicode_part, transform_part, private_part, other_part, by_singleton, meaning, Means, normal_unicode, normal_transform}
-use Rattle.iloc_spec_grammar.specs.Values.{IsNormal, IsValue, IsWellFormed, lower_identifier, transform_form, unicode_form, others_form, private_form, before_t, after_t, printed, text, spelled_fields}
+use Rattle.iloc_spec_grammar.specs.Syntax.{pieces, join, IsHyphenFree, Kind, Language, Script, Region, Variant, Subtag, UnicodeKey, TransformKey, Attribute, PrivateSubtag, is_word, IsWord, lower, Identifier, Fields, Unicode, Transform, identifier_pieces, optional_pieces, fields_pieces, HasWords, IsIdentifier, IsField, kept, is_other_singleton, singleton, AllDifferent}
+use Rattle.iloc_spec_grammar.specs.Tree.{Extension, unicode, transform, other, Written, extension_pieces, block_pieces, extension_block, spelling, IsPrivate, IsExtension, IsWritten, unicode_part, transform_part, private_part, other_part, by_singleton, meaning, TreeMeans, IsTreeWellFormed, transform_form, unicode_form, others_form, private_form, before_t, after_t, printed, tree_text}
+use Rattle.iloc_spec_grammar.specs.Meaning.{map_of, Locale, normal_unicode, normal_transform}
+use Rattle.iloc_spec_grammar.specs.Values.{IsNormal, IsValue, lower_identifier, spelled_fields}
 use Rattle.iloc_spec_grammar.proofs.WordsLaws.{word_letters_or_digits}
 use Rattle.iloc_spec_grammar.proofs.PiecesLaws.{pieces-join}
 use Rattle.iloc_spec_grammar.proofs.MapLaws.{map_of_sorted, sorted_different}
@@ -256,7 +257,7 @@ private_rule : (ws : List (List ℕ)) → AllByRecursion (IsNormal PrivateSubtag
 private_rule [] h = tt
 private_rule (w ∷ ws) h = (refl, record { words = all_weaker (IsNormal PrivateSubtag) (IsWord PrivateSubtag) (λ w n. n.0) (w ∷ ws) h; nonempty = omega arith })
 
-module _ {T : ℕ → Bool} (M : Locale) (h : IsValue T M) (g : IsWellFormed M) where
+module _ {T : ℕ → Bool} (M : Locale) (h : IsValue T M) (g : IsTreeWellFormed M) where
   entries : AllByRecursion IsOtherEntry M.extensions.others
   entries = all_weaker (λ o. (((is_other_singleton o.0 ≡ true) × (to_ascii_lowercase o.0 ≡ o.0)) × (0 < length o.1)) × AllByRecursion (IsNormal Subtag) o.1) IsOtherEntry (λ o x. (x.0.0, x.0.1, x.1)) M.extensions.others
       (all_both _ _ M.extensions.others (all_both _ _ M.extensions.others g.singletons g.nonempty) h.extensions.others)
@@ -349,7 +350,7 @@ module _ {T : ℕ → Bool} (M : Locale) (h : IsValue T M) (g : IsWellFormed M) 
       keys_lower : (es : List (ℕ × Extension)) → by_singleton es ≡ es → map (λ e. e.0) es ≡ map (λ e. singleton e) es
       keys_lower es e = ap (map (λ e. e.0)) (sym e) ∙ keys_twice es
 
-  spelled : pieces (text M) ≡ spelling (printed M)
+  spelled : pieces (tree_text M) ≡ spelling (printed M)
   spelled = pieces_spelled (printed M) grammatical (subst (AllByRecursion (λ e. OfWords e.1)) (sym extensions_are) (all_weaker (λ e. IsExtension T (singleton e) e.1 × OfWords e.1) (λ e. OfWords e.1) (λ e x. x.1) extensions rules))
 
   entries_are : by_singleton (printed M).extensions ≡ extensions
@@ -367,7 +368,7 @@ module _ {T : ℕ → Bool} (M : Locale) (h : IsValue T M) (g : IsWellFormed M) 
   }
 
   -- the printed text means the value
-  pub reads_back : Means T (text M) M
+  pub reads_back : TreeMeans T (tree_text M) M
   reads_back = record { written = printed M; grammatical = grammatical; spelled = spelled; means = sym means_value }
 
   -- what is found of the printed form

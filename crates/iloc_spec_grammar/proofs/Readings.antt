@@ -5,8 +5,9 @@ use Rattle.std.specs.Char.{is_ascii_alphabetic, is_ascii_digit}
 use Rattle.std.proofs.lemmas.Bool.{and_parts, false_from_ne_true, or_cases, ne_eqb, eqb-true}
 use Rattle.std.proofs.lemmas.Bool.Decides.{nat_tests}
 use Rattle.std.specs.Int.{is_in_range}
-use Rattle.iloc_spec_grammar.specs.Syntax.{Language, Script, Region, Variant, UnicodeKey, TransformKey, Attribute, is_word, IsWord, IsTable, letters, digits, Identifier, Fields, Unicode, Transform, Extension, unicode, transform, other, Written, identifier_pieces, optional_pieces, fields_pieces, unicode_pieces, transform_pieces, extension_pieces, extension_block, block_pieces, blocks_of, spelling, HasWords, IsIdentifier, IsUnicode, IsTransform, IsKeyword, IsField, IsPrivate, IsExtension, singleton, IsWritten, is_one_byte, front, blocks, head, tail_blocks}
-use Rattle.iloc_spec_grammar.specs.Meaning.{Locale, Means, meaning}
+use Rattle.iloc_spec_grammar.specs.Syntax.{Language, Script, Region, Variant, UnicodeKey, TransformKey, Attribute, is_word, IsWord, IsTable, letters, digits, Identifier, Fields, Unicode, Transform, identifier_pieces, optional_pieces, fields_pieces, unicode_pieces, transform_pieces, HasWords, IsIdentifier, IsKeyword, IsField, IsUnicode, IsTransform, singleton, is_one_byte, front, blocks, head, tail_blocks}
+use Rattle.iloc_spec_grammar.specs.Tree.{Extension, unicode, transform, other, Written, extension_pieces, extension_block, block_pieces, blocks_of, spelling, IsUnicodeBlock, IsTransformBlock, IsPrivate, IsExtension, IsWritten, TreeMeans, meaning}
+use Rattle.iloc_spec_grammar.specs.Meaning.{Locale}
 use Rattle.iloc_spec_grammar.proofs.WordsLaws.{length-language, length-script, length-region, length-variant, length-attribute, length-unicode_key, length-transform_key}
 use Rattle.iloc_spec_grammar.proofs.IdentifierLaws.{pieces-identifier_of, identifier_of-pieces}
 use Rattle.iloc_spec_grammar.specs.Reading.{identifier_of, before_key, fields_from, is_two, unicode_of, optional_of, transform_of, extension_by, extension_of, extensions_in, private_in, written_of}
@@ -87,16 +88,26 @@ is_120 : (x : Option (ℕ × List (List ℕ))) → IfSome x (λ e. (singleton e 
 is_120 None h = tt
 is_120 (Some b) h = rw h.0
 
-extension_blocks : (T : ℕ → Bool) → IsTable T → (es : List (ℕ × Extension)) → AllByRecursion (λ e. IsExtension T (singleton e) e.1) es → AllByRecursion (λ b. ((singleton b == 120) ≡ false) × AllByRecursion IsLong b.1) (map extension_block es)
-extension_blocks T t [] h = tt
-extension_blocks T t (e ∷ es) h = ((is_no_x T _ e.1 h.0, long_extension T t _ e.1 h.0), extension_blocks T t es h.1)
+-- each extension has pieces of more than one byte
+abbrev pub AreLong : List (ℕ × Extension) → Type 0
+AreLong es = AllByRecursion (λ e. AllByRecursion IsLong (extension_pieces e.1)) es
+
+pub long_extensions : {T : ℕ → Bool} → IsTable T → (es : List (ℕ × Extension)) → AllByRecursion (λ e. IsExtension T (singleton e) e.1) es → AreLong es
+long_extensions {T = T} t = all_weaker _ (λ e. AllByRecursion IsLong (extension_pieces e.1)) (λ e h. long_extension T t (singleton e) e.1 h)
+
+extension_blocks : (T : ℕ → Bool) (es : List (ℕ × Extension)) → AllByRecursion (λ e. IsExtension T (singleton e) e.1) es → AreLong es → AllByRecursion (λ b. ((singleton b == 120) ≡ false) × AllByRecursion IsLong b.1) (map extension_block es)
+extension_blocks T [] h l = tt
+extension_blocks T (e ∷ es) h l = ((is_no_x T _ e.1 h.0, l.0), extension_blocks T es h.1 l.1)
 
 -- the head and the blocks of a spelling
 pub head-spelling : {T : ℕ → Bool} (w : Written) → IsWritten T w → head (spelling w) ≡ identifier_pieces w.id
 head-spelling w h = ap (λ ps. w.id.language ∷ ps) (front_before (after_language w.id) (blocks_of w) (long_after_language w.id h.id.words))
 
+pub blocks-spelling-long : {T : ℕ → Bool} (w : Written) → IsWritten T w → AreLong w.extensions → tail_blocks (spelling w) ≡ blocks_of w
+blocks-spelling-long {T = T} w h l = blocks_past (after_language w.id) _ (long_after_language w.id h.id.words) ∙ blocks_spelled (map extension_block w.extensions) w.private (extension_blocks T w.extensions h.extensions l) (is_120 w.private h.private)
+
 pub blocks-spelling : {T : ℕ → Bool} → IsTable T → (w : Written) → IsWritten T w → tail_blocks (spelling w) ≡ blocks_of w
-blocks-spelling {T = T} t w h = blocks_past (after_language w.id) _ (long_after_language w.id h.id.words) ∙ blocks_spelled (map extension_block w.extensions) w.private (extension_blocks T t w.extensions h.extensions) (is_120 w.private h.private)
+blocks-spelling t w h = blocks-spelling-long w h (long_extensions t w.extensions h.extensions)
 
 -- fields
 
@@ -132,13 +143,16 @@ two p h = rw (length-unicode_key p h)
 pub keywords_pass : (fs : Fields) → AllByRecursion IsKeyword fs → KeysPass is_two fs
 keywords_pass = all_weaker IsKeyword (λ f. (is_two f.0 ≡ true) × AllByRecursion (λ p. is_two p ≡ false) f.1) (λ f h. (two f.0 h.0, all_weaker (IsWord Attribute) (λ p. is_two p ≡ false) not_two f.1 h.1))
 
-pub unicode_of-pieces : (u : Unicode) → IsUnicode u → unicode_of (unicode_pieces u) ≡ u
+pub unicode_read : (u : Unicode) → IsUnicode u → unicode_of (unicode_pieces u) ≡ u
 unfolding unicode_of
-unicode_of-pieces u h =
+unicode_read u h =
     let attributes = all_weaker (IsWord Attribute) (λ p. is_two p ≡ false) not_two u.attributes h.attributes in
     let keys = keywords_pass u.keywords h.keywords in
     let keywords : fields_from is_two (unicode_pieces u) ≡ u.keywords = fields_past is_two u.attributes _ attributes ∙ fields_read is_two u.keywords keys in
     λ i. record { attributes = before_key_read is_two u.attributes u.keywords attributes keys i; keywords = keywords i }
+
+pub unicode_of-pieces : (u : Unicode) → IsUnicodeBlock u → unicode_of (unicode_pieces u) ≡ u
+unicode_of-pieces u h = unicode_read u (record { attributes = h.attributes; keywords = h.keywords })
 
 pub pieces-unicode_of : (ps : List (List ℕ)) → unicode_pieces (unicode_of ps) ≡ ps
 unfolding unicode_of
@@ -199,14 +213,17 @@ optional_read : (T : ℕ → Bool) (o : Option Identifier) → IfSome o (IsIdent
 optional_read T None h = refl
 optional_read T (Some i) h = ap Some (identifier_of-pieces i h.words)
 
-pub transform_of-pieces : {T : ℕ → Bool} (m : Transform) → IsTransform T m → transform_of (transform_pieces m) ≡ m
+pub transform_read : {T : ℕ → Bool} (m : Transform) → IsTransform T m → transform_of (transform_pieces m) ≡ m
 unfolding transform_of
-transform_of-pieces {T = T} m h =
+transform_read {T = T} m h =
     let front = optional_no_key T m.id h.id in
     let keys = fields_pass m.fields h.fields in
     let id : optional_of (before_key (is_word TransformKey) (transform_pieces m)) ≡ m.id = ap optional_of (before_key_read (is_word TransformKey) (optional_pieces m.id) m.fields front keys) ∙ optional_read T m.id h.id in
     let fields : fields_from (is_word TransformKey) (transform_pieces m) ≡ m.fields = fields_past (is_word TransformKey) (optional_pieces m.id) _ front ∙ fields_read (is_word TransformKey) m.fields keys in
     λ i. record { id = id i; fields = fields i }
+
+pub transform_of-pieces : {T : ℕ → Bool} (m : Transform) → IsTransformBlock T m → transform_of (transform_pieces m) ≡ m
+transform_of-pieces m h = transform_read m (record { id = h.id; fields = h.fields })
 
 pieces-optional_of : (ps : List (List ℕ)) → optional_pieces (optional_of ps) ≡ ps
 pieces-optional_of [] = refl
@@ -247,6 +264,6 @@ written_of-spelling {T = T} t w h =
     λ i. record { id = id i; extensions = extensions i; private = private i }
 
 -- a text means one value at most
-pub one_meaning : {T : ℕ → Bool} → IsTable T → (t : List ℕ) (L M : Locale) → Means T t L → Means T t M → L ≡ M
+pub one_meaning : {T : ℕ → Bool} → IsTable T → (t : List ℕ) (L M : Locale) → TreeMeans T t L → TreeMeans T t M → L ≡ M
 one_meaning table t L M a b =
     a.means ∙ ap meaning (sym (written_of-spelling table a.written a.grammatical) ∙ ap written_of (sym a.spelled ∙ b.spelled) ∙ written_of-spelling table b.written b.grammatical) ∙ sym b.means

@@ -5,8 +5,9 @@ use Rattle.std.specs.Int.{is_in_range}
 use Rattle.std.specs.declared.cmp.Ordering.{Ordering}
 use Rattle.std.proofs.lemmas.Bool.{false_from_ne_true, not-true, not_from_false}
 use Rattle.std.proofs.lemmas.Bool.Decides.{Decides-ltb, Decides-eqb, Decides-and, Decides-or}
-use Rattle.iloc_spec_grammar.specs.Syntax.{Kind, Language, Script, Region, Variant, UnicodeKey, TransformKey, Attribute, PrivateSubtag, is_word, IsWord, lower, word_cmp, Identifier, Unicode, Transform, Extension, unicode, transform, other, extension_pieces, kept, HasWords, IsIdentifier, IsKeyword, IsField, IsUnicode, IsTransform, IsOther, IsPrivate, IsExtension, singleton, AllDifferent}
-use Rattle.iloc_spec_grammar.specs.Meaning.{SpellsIdentifier, IsBlock}
+use Rattle.iloc_spec_grammar.specs.Syntax.{Kind, Language, Script, Region, Variant, UnicodeKey, TransformKey, Attribute, PrivateSubtag, is_word, IsWord, lower, word_cmp, Identifier, Unicode, Transform, kept, HasWords, IsIdentifier, IsKeyword, IsField, IsOther, singleton, AllDifferent}
+use Rattle.iloc_spec_grammar.specs.Tree.{Extension, unicode, transform, other, extension_pieces, IsUnicodeBlock, IsTransformBlock, IsPrivate, IsExtension, IsBlock}
+use Rattle.iloc_spec_grammar.specs.Meaning.{SpellsIdentifier}
 use Rattle.iloc_spec_grammar.specs.Reading.{identifier_of, extension_of}
 use Rattle.iloc_spec_grammar.specs.Computing.{holds_if_some, all_different, has_words, is_identifier, is_keyword, is_unicode, is_field, is_transform, is_other, is_private, is_extension, is_block}
 use Rattle.iloc_spec_grammar.proofs.IdentifierLaws.{pieces-identifier_of, identifier_of-pieces}
@@ -70,10 +71,10 @@ tests_attributes ps = tests_all (is_word Attribute) (IsWord Attribute) (tests_wo
 pub tests_keyword : (f : List ℕ × List (List ℕ)) → Tests (is_keyword f) (IsKeyword f)
 tests_keyword f = tests_and (tests_word UnicodeKey f.0) (tests_attributes f.1)
 
-pub tests_unicode : (u : Unicode) → Tests (is_unicode u) (IsUnicode u)
+pub tests_unicode : (u : Unicode) → Tests (is_unicode u) (IsUnicodeBlock u)
 tests_unicode u = tests_like
     (λ (x : (AllByRecursion (IsWord Attribute) u.attributes × AllByRecursion IsKeyword u.keywords) × (0 < length u.attributes + length u.keywords)). record { attributes = x.0.0; keywords = x.0.1; nonempty = x.1 })
-    (λ (h : IsUnicode u). ((h.attributes, h.keywords), h.nonempty))
+    (λ (h : IsUnicodeBlock u). ((h.attributes, h.keywords), h.nonempty))
     (tests_and (tests_and (tests_attributes u.attributes) (tests_all is_keyword IsKeyword tests_keyword u.keywords)) (tests_positive (length u.attributes + length u.keywords)))
 
 pub tests_field : (f : List ℕ × List (List ℕ)) → Tests (is_field f) (IsField f)
@@ -83,10 +84,10 @@ pub tests_needed : (o : Option Identifier) (n : ℕ) → Tests (is_some o || nat
 tests_needed None n = tests_like (λ (h : 0 < n) e. h) (λ (f : None ≡ None → 0 < n). f refl) (tests_positive n)
 tests_needed (Some i) n = record { holds = λ e k. cc; passes = λ f. refl }
 
-pub tests_transform : (T : ℕ → Bool) (m : Transform) → Tests (is_transform T m) (IsTransform T m)
+pub tests_transform : (T : ℕ → Bool) (m : Transform) → Tests (is_transform T m) (IsTransformBlock T m)
 tests_transform T m = tests_like
     (λ (x : (IfSome m.id (IsIdentifier T) × AllByRecursion IsField m.fields) × (m.id ≡ None → 0 < length m.fields)). record { id = x.0.0; fields = x.0.1; nonempty = x.1 })
-    (λ (h : IsTransform T m). ((h.id, h.fields), h.nonempty))
+    (λ (h : IsTransformBlock T m). ((h.id, h.fields), h.nonempty))
     (tests_and (tests_and (tests_if_some (is_identifier T) (IsIdentifier T) (tests_identifier T) m.id) (tests_all is_field IsField tests_field m.fields)) (tests_needed m.id (length m.fields)))
 
 pub tests_other : (ps : List (List ℕ)) → Tests (is_other ps) (IsOther ps)

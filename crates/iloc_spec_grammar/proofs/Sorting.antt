@@ -9,7 +9,8 @@ use Rattle.std.specs.FinMap.{is_sorted}
 use Rattle.std.specs.FinMap.Entries.{below_all}
 use Rattle.std.proofs.lemmas.Bool.{and_parts, and_from, or_parts, or_from, or_left, or_right, false_from_ne_true, both_ways, cond_both, not-false}
 use Rattle.iloc_spec_grammar.specs.Syntax.{lower, word_cmp, is_same, AllDifferent}
-use Rattle.iloc_spec_grammar.specs.Values.{Reordered, Without, WithoutRepeats}
+use Rattle.iloc_spec_grammar.specs.Values.{Reordered}
+use Rattle.iloc_spec_grammar.specs.TreeSteps.{TreeWithout, WithoutRepeats}
 use Rattle.iloc_spec_grammar.proofs.MapLaws.{word_cmp_total, less}
 pub use Rattle.iloc_spec_grammar.proofs.Orders.{itself}
 use Rattle.iloc_spec_grammar.proofs.Orders.{or_swap}
@@ -101,9 +102,9 @@ module _ {X : Type 0} (key : X → List ℕ) where
 
 -- what doesn't pass
 
-pub without-filter : {X : Type 0} (test : X → Bool) (xs : List X) → Without test xs (filter (λ x. not (test x)) xs)
-without-filter test [] = Without.none
-without-filter test (x ∷ xs) = cond_both (not (test x)) _ _ (Without test (x ∷ xs)) (λ _. Without.kept (without-filter test xs)) (λ e. Without.left_out (not-false _ e) (without-filter test xs))
+pub without-filter : {X : Type 0} (test : X → Bool) (xs : List X) → TreeWithout test xs (filter (λ x. not (test x)) xs)
+without-filter test [] = TreeWithout.none
+without-filter test (x ∷ xs) = cond_both (not (test x)) _ _ (TreeWithout test (x ∷ xs)) (λ _. TreeWithout.kept (without-filter test xs)) (λ e. TreeWithout.left_out (not-false _ e) (without-filter test xs))
 
 pub filter-passes : {X : Type 0} (test : X → Bool) (xs : List X) → AllByRecursion (λ x. test x ≡ true) (filter test xs)
 filter-passes test [] = tt

@@ -7,9 +7,11 @@ use Rattle.std.specs.Ordering.{nat_cmp, eq_by_cmp}
 use Rattle.std.specs.Cmp.{nat_cmp_total}
 use Rattle.std.specs.FinMap.{find, nat_cmp-IsAntisymmetric}
 use Rattle.std.proofs.lemmas.Bool.{or_parts, or_from, not-true}
-use Rattle.iloc_spec_grammar.specs.Syntax.{Variant, Subtag, UnicodeKey, TransformKey, Attribute, is_word, IsWord, lower, word_cmp, is_true, Identifier, Fields, Extension, other, Written, IsIdentifier, IsKeyword, IsField, kept, IsExtension, singleton, IsWritten, AllDifferent}
-use Rattle.iloc_spec_grammar.specs.Meaning.{map_of, set_of, normal_identifier, normal_values, normal_fields, unicode_part, transform_part, private_part, other_part, by_singleton, meaning}
-use Rattle.iloc_spec_grammar.specs.Values.{Reordered, Without, WithoutRepeats, LessTrue, keys_differ, Rule, IdentifierStep, ExtensionStep, Step, unicode_extension, transform_extension}
+use Rattle.iloc_spec_grammar.specs.Syntax.{Variant, Subtag, UnicodeKey, TransformKey, Attribute, is_word, IsWord, lower, word_cmp, is_true, Identifier, Fields, IsIdentifier, IsKeyword, IsField, kept, singleton, AllDifferent}
+use Rattle.iloc_spec_grammar.specs.Tree.{Extension, other, Written, IsExtension, IsWritten, unicode_part, transform_part, private_part, other_part, by_singleton, meaning}
+use Rattle.iloc_spec_grammar.specs.Meaning.{map_of, set_of, normal_identifier, normal_values, normal_fields}
+use Rattle.iloc_spec_grammar.specs.Values.{Reordered}
+use Rattle.iloc_spec_grammar.specs.TreeSteps.{TreeWithout, WithoutRepeats, TreeLessTrue, keys_differ, TreeRule, TreeIdentifierStep, ExtensionStep, Step, unicode_extension, transform_extension}
 use Rattle.iloc_spec_grammar.proofs.MapLaws.{map_of_same, word_cmp_total, same_words}
 use Rattle.iloc_spec_grammar.proofs.Orders.{all_reordered, map_reordered, different_reordered, find_reordered, set_of_reordered, map_repeats, all_repeats, all_without, filter_without, itself}
 use Rattle.iloc_spec_grammar.proofs.General.{map-zip, all_zip, zip_weaker}
@@ -18,9 +20,9 @@ use Rattle.std.proofs.lemmas.Slice.Zip.{AllZip-long}
 
 -- identifiers
 
-pub identifier_step : {T : ℕ → Bool} {r : Rule} {i j : Identifier} → IdentifierStep r i j → IsIdentifier T i → IsIdentifier T j × (normal_identifier j ≡ normal_identifier i)
-identifier_step IdentifierStep.same h = (h, refl)
-identifier_step (IdentifierStep.variants {l = l} {s = s} {r = r} {vs = vs} {ws = ws} p) h = (
+pub identifier_step : {T : ℕ → Bool} {r : TreeRule} {i j : Identifier} → TreeIdentifierStep r i j → IsIdentifier T i → IsIdentifier T j × (normal_identifier j ≡ normal_identifier i)
+identifier_step TreeIdentifierStep.same h = (h, refl)
+identifier_step (TreeIdentifierStep.variants {l = l} {s = s} {r = r} {vs = vs} {ws = ws} p) h = (
   record { words = record { language = h.words.language; script = h.words.script; region = h.words.region; variants = all_reordered (IsWord Variant) p h.words.variants }; different = different_reordered word_cmp word_cmp_total (map_reordered lower p) h.different },
   λ k. record { language = lower l; script = (normal_identifier (record { language = l; script = s; region = r; variants = vs })).script; region = (normal_identifier (record { language = l; script = s; region = r; variants = vs })).region; variants = sym (set_of_reordered (map_reordered lower p)) k },
 )
@@ -34,19 +36,19 @@ fields_reordered : {fs gs : Fields} → keys_differ fs → Reordered fs gs → n
 fields_reordered {fs = fs} {gs = gs} d r = sym (map_of_same word_cmp word_cmp_total same_words (map entry fs) (map entry gs) (λ q. find_reordered word_cmp word_cmp_total q (map_reordered entry r) (subst (AllDifferent word_cmp) (sym (map-map (λ (e : List ℕ × List (List ℕ)). e.0) entry fs)) d)))
 
 -- what is `true` is dropped
-values_without : {ps qs : List (List ℕ)} → Without (λ p. is_true (lower p)) ps qs → normal_values ps ≡ normal_values qs
-values_without Without.none = refl
-values_without (Without.kept {x = x} r) = ap (λ l. cond (not (is_true (lower x))) (lower x ∷ l) l) (values_without r)
-values_without (Without.left_out {x = x} {xs = xs} e r) = ap (λ b. cond (not b) (lower x ∷ normal_values xs) (normal_values xs)) e ∙ values_without r
+values_without : {ps qs : List (List ℕ)} → TreeWithout (λ p. is_true (lower p)) ps qs → normal_values ps ≡ normal_values qs
+values_without TreeWithout.none = refl
+values_without (TreeWithout.kept {x = x} r) = ap (λ l. cond (not (is_true (lower x))) (lower x ∷ l) l) (values_without r)
+values_without (TreeWithout.left_out {x = x} {xs = xs} e r) = ap (λ b. cond (not b) (lower x ∷ normal_values xs) (normal_values xs)) e ∙ values_without r
 
-entries_less : (fs gs : Fields) → AllZip LessTrue fs gs → map entry fs ≡ map entry gs
-entries_less = map-zip LessTrue entry entry (λ f g z i. (lower (z.0 i), values_without z.1 i))
+entries_less : (fs gs : Fields) → AllZip TreeLessTrue fs gs → map entry fs ≡ map entry gs
+entries_less = map-zip TreeLessTrue entry entry (λ f g z i. (lower (z.0 i), values_without z.1 i))
 
-keywords_less : (fs gs : Fields) → AllZip LessTrue fs gs → AllByRecursion IsKeyword fs → AllByRecursion IsKeyword gs
-keywords_less = all_zip LessTrue IsKeyword IsKeyword (λ f g z h. (subst (IsWord UnicodeKey) z.0 h.0, all_without (IsWord Attribute) _ z.1 h.1))
+keywords_less : (fs gs : Fields) → AllZip TreeLessTrue fs gs → AllByRecursion IsKeyword fs → AllByRecursion IsKeyword gs
+keywords_less = all_zip TreeLessTrue IsKeyword IsKeyword (λ f g z h. (subst (IsWord UnicodeKey) z.0 h.0, all_without (IsWord Attribute) _ z.1 h.1))
 
 abbrev LessKept : List ℕ × List (List ℕ) → List ℕ × List (List ℕ) → Type 0
-LessKept f g = LessTrue f g × (0 < length g.1)
+LessKept f g = TreeLessTrue f g × (0 < length g.1)
 
 fields_less : (fs gs : Fields) → AllZip LessKept fs gs → AllByRecursion IsField fs → AllByRecursion IsField gs
 fields_less = all_zip LessKept IsField IsField (λ f g z h. (subst (IsWord TransformKey) z.0.0 h.0, all_without (IsWord Attribute) _ z.0.1 h.1, z.1))
@@ -94,7 +96,7 @@ fields_step T c i fs gs k n q h = (
   record { u = refl; t = λ k. record { id = option_map normal_identifier i; fields = q k }; o = λ c. refl },
 )
 
-pub extension_step : (T : ℕ → Bool) {r : Rule} {e f : Extension} (c : ℕ) → ExtensionStep r e f → IsExtension T c e → IsExtension T c f × SameParts e f
+pub extension_step : (T : ℕ → Bool) {r : TreeRule} {e f : Extension} (c : ℕ) → ExtensionStep r e f → IsExtension T c e → IsExtension T c f × SameParts e f
 extension_step T c ExtensionStep.same h = (h, record { u = refl; t = refl; o = λ c. refl })
 extension_step T c (ExtensionStep.identifier {fs = fs} s) h =
     let p = identifier_step s h.1.id in
@@ -111,9 +113,9 @@ extension_step T c (ExtensionStep.unicode_repeats {vs = vs} {ws = ws} {fs = fs} 
 extension_step T c (ExtensionStep.transform_repeats {i = i} {fs = fs} {gs = gs} s) h =
     fields_step T c i fs gs (all_repeats IsField (λ f. f.0) s) (some_left (λ f. f.0) s) (sym (map_repeats (λ f. f.0) (λ f. normal_values f.1) s)) h
 extension_step T c (ExtensionStep.unicode_trues {vs = vs} {fs = fs} {gs = gs} z) h =
-    unicode_step T c vs vs fs gs (λ a. a) (keywords_less fs gs z) (λ n. let l = AllZip-long LessTrue fs gs z in omega arith) refl (ap (map_of word_cmp) (sym (entries_less fs gs z))) h
+    unicode_step T c vs vs fs gs (λ a. a) (keywords_less fs gs z) (λ n. let l = AllZip-long TreeLessTrue fs gs z in omega arith) refl (ap (map_of word_cmp) (sym (entries_less fs gs z))) h
 extension_step T c (ExtensionStep.transform_trues {i = i} {fs = fs} {gs = gs} z) h =
-    fields_step T c i fs gs (fields_less fs gs z) (λ n. let l = AllZip-long LessKept fs gs z in omega arith) (ap (map_of word_cmp) (sym (entries_less fs gs (zip_weaker LessKept LessTrue (λ f g k. k.0) fs gs z)))) h
+    fields_step T c i fs gs (fields_less fs gs z) (λ n. let l = AllZip-long LessKept fs gs z in omega arith) (ap (map_of word_cmp) (sym (entries_less fs gs (zip_weaker LessKept TreeLessTrue (λ f g k. k.0) fs gs z)))) h
 extension_step T c (ExtensionStep.dropped_pieces {ps = ps} {qs = qs} w) h =
     let same : kept ps ≡ kept qs = ap (map lower) (filter_without (λ p. not (is_word Subtag p)) (is_word Subtag) (λ p e. not-true (is_word Subtag p) e) w) in (
       (h.0, record { lengths = all_without (λ p. is_in_range 2 8 (length p) ≡ true) _ w h.1.lengths; nonempty = subst (λ (l : List (List ℕ)). 0 < length l) same h.1.nonempty }),
@@ -122,24 +124,24 @@ extension_step T c (ExtensionStep.dropped_pieces {ps = ps} {qs = qs} w) h =
 
 -- whole texts
 
-abbrev Steps : Rule → List (ℕ × Extension) → List (ℕ × Extension) → Type 0
+abbrev Steps : TreeRule → List (ℕ × Extension) → List (ℕ × Extension) → Type 0
 Steps r es fs = AllZip (λ e f. (e.0 ≡ f.0) × ExtensionStep r e.1 f.1) es fs
 
-rules_step : (T : ℕ → Bool) (r : Rule) (es fs : List (ℕ × Extension)) → Steps r es fs → AllByRecursion (λ e. IsExtension T (singleton e) e.1) es → AllByRecursion (λ e. IsExtension T (singleton e) e.1) fs
+rules_step : (T : ℕ → Bool) (r : TreeRule) (es fs : List (ℕ × Extension)) → Steps r es fs → AllByRecursion (λ e. IsExtension T (singleton e) e.1) es → AllByRecursion (λ e. IsExtension T (singleton e) e.1) fs
 rules_step T r = all_zip _ (λ e. IsExtension T (singleton e) e.1) (λ e. IsExtension T (singleton e) e.1) (λ e f z h. subst (λ (c : ℕ). IsExtension T (to_ascii_lowercase c) f.1) z.0 (extension_step T (singleton e) z.1 h).0)
 
-singletons_step : (r : Rule) (es fs : List (ℕ × Extension)) → Steps r es fs → map (λ (e : ℕ × Extension). singleton e) es ≡ map (λ f. singleton f) fs
+singletons_step : (r : TreeRule) (es fs : List (ℕ × Extension)) → Steps r es fs → map (λ (e : ℕ × Extension). singleton e) es ≡ map (λ f. singleton f) fs
 singletons_step r = map-zip _ (λ (e : ℕ × Extension). singleton e) (λ f. singleton f) (λ e f z i. to_ascii_lowercase (z.0 i))
 
 -- a part that is looked up
-part_step : {A : Type 0} (T : ℕ → Bool) (part : Option Extension → A) → ((e f : Extension) → SameParts e f → part (Some f) ≡ part (Some e)) → (q : ℕ) (r : Rule) (es fs : List (ℕ × Extension)) → Steps r es fs → AllByRecursion (λ e. IsExtension T (singleton e) e.1) es → part (find nat_cmp q (by_singleton fs)) ≡ part (find nat_cmp q (by_singleton es))
+part_step : {A : Type 0} (T : ℕ → Bool) (part : Option Extension → A) → ((e f : Extension) → SameParts e f → part (Some f) ≡ part (Some e)) → (q : ℕ) (r : TreeRule) (es fs : List (ℕ × Extension)) → Steps r es fs → AllByRecursion (λ e. IsExtension T (singleton e) e.1) es → part (find nat_cmp q (by_singleton fs)) ≡ part (find nat_cmp q (by_singleton es))
 part_step T part same q r [] [] z h = refl
 part_step T part same q r (e ∷ es) (f ∷ fs) z h =
     ap (λ c. part (cond (eq_by_cmp nat_cmp q (to_ascii_lowercase c)) (Some f.1) (find nat_cmp q (by_singleton fs)))) (sym z.0.0)
     ∙ elim (eq_by_cmp nat_cmp q (singleton e)) as (λ b. part (cond b (Some f.1) (find nat_cmp q (by_singleton fs))) ≡ part (cond b (Some e.1) (find nat_cmp q (by_singleton es)))) [ true ↦ same e.1 f.1 (extension_step T (singleton e) z.0.1 h.0).1 | false ↦ part_step T part same q r es fs z.1 h.1 ]
 part_step T part same q r _ _ z h = absurd z
 
-others_step : (T : ℕ → Bool) (r : Rule) (es fs : List (ℕ × Extension)) → Steps r es fs → AllByRecursion (λ e. IsExtension T (singleton e) e.1) es → filter_map other_part (by_singleton fs) ≡ filter_map other_part (by_singleton es)
+others_step : (T : ℕ → Bool) (r : TreeRule) (es fs : List (ℕ × Extension)) → Steps r es fs → AllByRecursion (λ e. IsExtension T (singleton e) e.1) es → filter_map other_part (by_singleton fs) ≡ filter_map other_part (by_singleton es)
 others_step T r [] [] z h = refl
 others_step T r (e ∷ es) (f ∷ fs) z h = λ i. cons_option ((ap (λ c. other_part (to_ascii_lowercase c, f.1)) (sym z.0.0) ∙ (extension_step T (singleton e) z.0.1 h.0).1.o (singleton e)) i) (others_step T r es fs z.1 h.1 i)
 others_step T r _ _ z h = absurd z

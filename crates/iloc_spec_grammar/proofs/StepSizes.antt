@@ -1,10 +1,10 @@
 -- A step lengthens no text, and makes no hyphen.
-use Rattle.std.proofs.Common.{◌≡◌, ℕ, ◌+◌, ◌<◌, ◌≤◌, Bool, cond, ◌==◌, List, [], ◌∷◌, length, map, flat_map, refl, sym, ap, ◌∙◌, arith, option_to_list, le_refl, length-append}
+use Rattle.std.proofs.Common.{◌≡◌, ℕ, false, ◌+◌, ◌<◌, ◌≤◌, Bool, cond, ◌==◌, List, [], ◌∷◌, length, map, flat_map, refl, sym, ap, ◌∙◌, arith, option_to_list, le_refl, length-append}
 use Rattle.std.specs.List.{AllByRecursion, list_any}
 use Rattle.std.proofs.lemmas.List.Concat.{flat_map-append}
-use Rattle.iloc_spec_grammar.specs.Syntax.{pieces, join, IsHyphenFree, lower, is_true, Identifier, Fields, Extension, Written, identifier_pieces, fields_pieces, extension_pieces, extension_block, block_pieces, blocks_of, spelling, IsWritten}
-use Rattle.iloc_spec_grammar.specs.Meaning.{Means, meaning}
-use Rattle.iloc_spec_grammar.specs.Values.{LessTrue, Rule, IdentifierStep, ExtensionStep, Step}
+use Rattle.iloc_spec_grammar.specs.Syntax.{pieces, join, lower, is_true, Identifier, Fields, identifier_pieces, fields_pieces}
+use Rattle.iloc_spec_grammar.specs.Tree.{Extension, Written, extension_pieces, extension_block, block_pieces, blocks_of, spelling, IsWritten, TreeMeans, meaning}
+use Rattle.iloc_spec_grammar.specs.TreeSteps.{TreeLessTrue, TreeRule, TreeIdentifierStep, ExtensionStep, Step}
 use Rattle.iloc_spec_grammar.proofs.PiecesLaws.{pieces-join, pieces_hyphen_free, join-pieces}
 use Rattle.iloc_spec_grammar.proofs.Orders.{total, total-append, total_reordered, total_without, total_repeats, total_zip}
 use Rattle.iloc_spec_grammar.proofs.StepLaws.{written_step}
@@ -18,14 +18,14 @@ module _ (f : List ℕ → ℕ) where
   fields_size [] = refl
   fields_size (k ∷ fs) = let a = total-append f (k.0 ∷ k.1) (fields_pieces fs) in let b = fields_size fs in omega arith
 
-  pub identifier_size : {r : Rule} {i j : Identifier} → IdentifierStep r i j → total f (identifier_pieces j) ≡ total f (identifier_pieces i)
-  identifier_size IdentifierStep.same = refl
-  identifier_size (IdentifierStep.variants p) = let e = total_reordered f p in omega (arith, total-append f)
+  pub identifier_size : {r : TreeRule} {i j : Identifier} → TreeIdentifierStep r i j → total f (identifier_pieces j) ≡ total f (identifier_pieces i)
+  identifier_size TreeIdentifierStep.same = refl
+  identifier_size (TreeIdentifierStep.variants p) = let e = total_reordered f p in omega (arith, total-append f)
 
-  less_size : (j k : List ℕ × List (List ℕ)) → LessTrue j k → field_size k ≤ field_size j
+  less_size : (j k : List ℕ × List (List ℕ)) → TreeLessTrue j k → field_size k ≤ field_size j
   less_size j k z = let a = total_without f (λ p. is_true (lower p)) z.1 in let b : f j.0 ≡ f k.0 = ap f z.0 in omega arith
 
-  extension_size : {r : Rule} {e g : Extension} → ExtensionStep r e g → total f (extension_pieces g) ≤ total f (extension_pieces e)
+  extension_size : {r : TreeRule} {e g : Extension} → ExtensionStep r e g → total f (extension_pieces g) ≤ total f (extension_pieces e)
   extension_size ExtensionStep.same = le_refl _
   extension_size (ExtensionStep.identifier {i = i} {j = j} {fs = fs} s) =
       let a = total-append f (identifier_pieces i) (fields_pieces fs) in let b = total-append f (identifier_pieces j) (fields_pieces fs) in let c = identifier_size s in omega arith
@@ -34,8 +34,8 @@ module _ (f : List ℕ → ℕ) where
   extension_size (ExtensionStep.field_order d r) = let g = total_reordered field_size r in omega (arith, total-append f, fields_size)
   extension_size (ExtensionStep.unicode_repeats r s) = let g = total_repeats f (λ a. a) r in let h = total_repeats field_size (λ k. k.0) s in omega (arith, total-append f, fields_size)
   extension_size (ExtensionStep.transform_repeats s) = let h = total_repeats field_size (λ k. k.0) s in omega (arith, total-append f, fields_size)
-  extension_size (ExtensionStep.unicode_trues {fs = fs} {gs = gs} z) = let h = total_zip field_size LessTrue less_size fs gs z in omega (arith, total-append f, fields_size)
-  extension_size (ExtensionStep.transform_trues {fs = fs} {gs = gs} z) = let h = total_zip field_size (λ j k. LessTrue j k × (0 < length k.1)) (λ j k z. less_size j k z.0) fs gs z in omega (arith, total-append f, fields_size)
+  extension_size (ExtensionStep.unicode_trues {fs = fs} {gs = gs} z) = let h = total_zip field_size TreeLessTrue less_size fs gs z in omega (arith, total-append f, fields_size)
+  extension_size (ExtensionStep.transform_trues {fs = fs} {gs = gs} z) = let h = total_zip field_size (λ j k. TreeLessTrue j k × (0 < length k.1)) (λ j k z. less_size j k z.0) fs gs z in omega (arith, total-append f, fields_size)
   extension_size (ExtensionStep.dropped_pieces w) = total_without f _ w
 
   abbrev block_size : ℕ × Extension → ℕ
@@ -51,7 +51,7 @@ module _ (f : List ℕ → ℕ) where
       let b : total f (flat_map block_pieces (blocks_of w)) ≡ total f (flat_map block_pieces (map extension_block w.extensions)) + total f (flat_map block_pieces (option_to_list w.private)) = ap (total f) (flat_map-append block_pieces (map extension_block w.extensions) (option_to_list w.private)) ∙ total-append f _ _ in
       let c = blocks_size w.extensions in omega arith
 
-  block_step_size : (r : Rule) (e g : ℕ × Extension) → (e.0 ≡ g.0) × ExtensionStep r e.1 g.1 → block_size g ≤ block_size e
+  block_step_size : (r : TreeRule) (e g : ℕ × Extension) → (e.0 ≡ g.0) × ExtensionStep r e.1 g.1 → block_size g ≤ block_size e
   block_step_size r e g z = let a = extension_size z.1 in let b : f (e.0 ∷ []) ≡ f (g.0 ∷ []) = ap (λ c. f (c ∷ [])) z.0 in omega arith
 
   pub step_size : {v w : Written} → Step v w → total f (spelling w) ≤ total f (spelling v)
@@ -71,23 +71,31 @@ unfolding join
 length-join p [] = omega arith
 length-join p (q ∷ ps) = let a = length-join q ps in let b = length-append p (45 ∷ join (q ∷ ps)) in omega arith
 
--- a piece with a hyphen counts
-abbrev hyphened : List ℕ → ℕ
-hyphened p = cond (list_any (λ b. b == 45) p) 1 0
+-- how many pieces pass a test
 
-none_hyphened : (ps : List (List ℕ)) → AllByRecursion IsHyphenFree ps → total hyphened ps ≡ 0
-none_hyphened [] h = refl
-none_hyphened (p ∷ ps) h = let a : hyphened p ≡ 0 = ap (λ b. cond b 1 0) h.0 in let b = none_hyphened ps h.1 in omega arith
+abbrev counted : (List ℕ → Bool) → List ℕ → ℕ
+counted test p = cond (test p) 1 0
 
-all_hyphen_free : (ps : List (List ℕ)) → total hyphened ps ≡ 0 → AllByRecursion IsHyphenFree ps
-all_hyphen_free [] h = tt
-all_hyphen_free (p ∷ ps) h = (false_from_ne_true _ (λ e. let a : hyphened p ≡ 1 = ap (λ b. cond b 1 0) e in absurd (omega arith)), all_hyphen_free ps (omega arith))
+none_counted : (test : List ℕ → Bool) (ps : List (List ℕ)) → AllByRecursion (λ p. test p ≡ false) ps → total (counted test) ps ≡ 0
+none_counted test [] h = refl
+none_counted test (p ∷ ps) h = let a : counted test p ≡ 0 = ap (λ b. cond b 1 0) h.0 in let b = none_counted test ps h.1 in omega arith
+
+all_uncounted : (test : List ℕ → Bool) (ps : List (List ℕ)) → total (counted test) ps ≡ 0 → AllByRecursion (λ p. test p ≡ false) ps
+all_uncounted test [] h = tt
+all_uncounted test (p ∷ ps) h = (false_from_ne_true _ (λ e. let a : counted test p ≡ 1 = ap (λ b. cond b 1 0) e in absurd (omega arith)), all_uncounted test ps (omega arith))
+
+-- a step makes no piece that passes a test
+pub extension_passes : (test : List ℕ → Bool) {r : TreeRule} {e g : Extension} → ExtensionStep r e g → AllByRecursion (λ p. test p ≡ false) (extension_pieces e) → AllByRecursion (λ p. test p ≡ false) (extension_pieces g)
+extension_passes test {e = e} {g = g} s h = let a = none_counted test (extension_pieces e) h in let b = extension_size (counted test) s in all_uncounted test (extension_pieces g) (omega arith)
+
+abbrev has_hyphen : List ℕ → Bool
+has_hyphen p = list_any (λ b. b == 45) p
 
 pub step_pieces : (t : List ℕ) {v w : Written} → pieces t ≡ spelling v → Step v w → pieces (join (spelling w)) ≡ spelling w
 step_pieces t {v = v} {w = w} e s =
-    let a : total hyphened (spelling v) ≡ 0 = ap (total hyphened) (sym e) ∙ none_hyphened (pieces t) (pieces_hyphen_free t) in
-    let b = step_size hyphened s in
-    pieces-join w.id.language _ (all_hyphen_free (spelling w) (omega arith))
+    let a : total (counted has_hyphen) (spelling v) ≡ 0 = ap (total (counted has_hyphen)) (sym e) ∙ none_counted has_hyphen (pieces t) (pieces_hyphen_free t) in
+    let b = step_size (counted has_hyphen) s in
+    pieces-join w.id.language _ (all_uncounted has_hyphen (spelling w) (omega arith))
 
 pub step_length : (t : List ℕ) {v w : Written} → pieces t ≡ spelling v → Step v w → length (join (spelling w)) ≤ length t
 step_length t {v = v} {w = w} e s =
@@ -98,5 +106,5 @@ step_length t {v = v} {w = w} e s =
     omega arith
 
 -- the text after a step means the same
-pub step_means : (T : ℕ → Bool) (t : List ℕ) {v w : Written} → IsWritten T v → pieces t ≡ spelling v → Step v w → Means T (join (spelling w)) (meaning v)
+pub step_means : (T : ℕ → Bool) (t : List ℕ) {v w : Written} → IsWritten T v → pieces t ≡ spelling v → Step v w → TreeMeans T (join (spelling w)) (meaning v)
 step_means T t {w = w} h e s = let p = written_step T s h in record { written = w; grammatical = p.0; spelled = step_pieces t e s; means = sym p.1 }

@@ -2,9 +2,11 @@
 use Rattle.std.proofs.Common.{◌≡◌, inl, inr, ℕ, Bool, true, List, [], ◌∷◌, Result, Ok, Err, refl, sym, ap, ap₂, ◌∙◌, subst, true≢false}
 use Rattle.std.specs.Result.{is_ok}
 use Rattle.std.proofs.lemmas.Bool.{and_parts, and_from, or_cases, or_left, or_right}
-use Rattle.iloc_spec_grammar.specs.Syntax.{pieces, join, IsTable, lower, IsIdentifier, IsWritten, identifier_pieces, spelling}
-use Rattle.iloc_spec_grammar.specs.Meaning.{meaning, normal_identifier, Fault}
-use Rattle.iloc_spec_grammar.specs.Values.{identifier_text, VariantOrder, TextStep, IdentifierTextStep}
+use Rattle.iloc_spec_grammar.specs.Syntax.{pieces, join, IsTable, lower, IsIdentifier, identifier_pieces}
+use Rattle.iloc_spec_grammar.specs.Tree.{IsWritten, spelling, meaning}
+use Rattle.iloc_spec_grammar.specs.Meaning.{normal_identifier, Fault}
+use Rattle.iloc_spec_grammar.specs.Values.{TextStep, IdentifierTextStep, identifier_text}
+use Rattle.iloc_spec_grammar.specs.TreeSteps.{VariantOrder, TreeTextStep, TreeIdentifierTextStep}
 use Rattle.iloc_spec_grammar.specs.Reading.{identifier_of, written_of}
 use Rattle.iloc_spec_grammar.specs.Computing.{identifier_result, locale_result}
 use Rattle.iloc_spec_grammar.proofs.PiecesLaws.{pieces_nonempty, join-pieces}
@@ -12,10 +14,11 @@ use Rattle.iloc_spec_grammar.proofs.IdentifierLaws.{pieces-identifier_of, identi
 use Rattle.iloc_spec_grammar.proofs.IdentifierTexts.{pieces-identifier_text}
 use Rattle.iloc_spec_grammar.proofs.Readings.{written_of-spelling}
 use Rattle.iloc_spec_grammar.proofs.RuleTests.{Tests}
-use Rattle.iloc_spec_grammar.proofs.ComputingLaws.{computed_means, computed_identifier}
+use Rattle.iloc_spec_grammar.proofs.ComputingLaws.{computed_tree, computed_identifier}
 use Rattle.iloc_spec_grammar.proofs.CaseLaws.{spelling-written_of}
 use Rattle.iloc_spec_grammar.proofs.StepLaws.{identifier_step, written_step}
 use Rattle.iloc_spec_grammar.proofs.StepSizes.{step_pieces}
+use Rattle.iloc_spec_grammar.proofs.SameSteps.{tree_step, step_by_tree, tree_identifier_step, identifier_step_by_tree}
 use Rattle.iloc_spec_grammar.specs.StepTests.{is_identifier_step, is_step, is_text_step, is_identifier_text_step}
 use Rattle.iloc_spec_grammar.proofs.Equality.{word_equality}
 use Rattle.iloc_spec_grammar.proofs.PartTests.{tests_identifier_step, tests_step}
@@ -41,29 +44,29 @@ read_text t = ap join (read_spelling t) ∙ join-pieces t
 read_written : (T : ℕ → Bool) → IsTable T → (t : List ℕ) → is_ok (locale_result T t) ≡ true → IsWritten T (written_of (pieces t))
 read_written T table t e =
     let value = ok_value (locale_result T t) e in
-    let m = (computed_means T table t value.0).0 value.1 in
+    let m = (computed_tree T table t value.0).0 value.1 in
     subst (IsWritten T) (sym (ap written_of m.spelled ∙ written_of-spelling table m.written m.grammatical)) m.grammatical
 
-text_holds : (T : ℕ → Bool) → IsTable T → (t u : List ℕ) → is_text_step T t u ≡ true → TextStep T t u
+text_holds : (T : ℕ → Bool) → IsTable T → (t u : List ℕ) → is_text_step T t u ≡ true → TreeTextStep T t u
 unfolding is_text_step
 text_holds T table t u e = elim (or_cases _ _ e) [
-  | inl h ↦ TextStep.letter_case ((word_equality (lower t) (lower u)).holds h)
+  | inl h ↦ TreeTextStep.letter_case ((word_equality (lower t) (lower u)).holds h)
   | inr h ↦
       let parts = and_parts (is_ok (locale_result T t)) _ h in
-      subst (TextStep T t) (read_text u) (TextStep.rewritten (read_written T table t parts.0) (sym (read_spelling t)) ((tests_step (written_of (pieces t)) (written_of (pieces u))).holds parts.1))
+      subst (TreeTextStep T t) (read_text u) (TreeTextStep.rewritten (read_written T table t parts.0) (sym (read_spelling t)) ((tests_step (written_of (pieces t)) (written_of (pieces u))).holds parts.1))
 ]
 
-text_passes : (T : ℕ → Bool) → IsTable T → {t u : List ℕ} → TextStep T t u → is_text_step T t u ≡ true
+text_passes : (T : ℕ → Bool) → IsTable T → {t u : List ℕ} → TreeTextStep T t u → is_text_step T t u ≡ true
 unfolding is_text_step
-text_passes T table {t = t} {u = u} (TextStep.letter_case e) = or_left _ _ ((word_equality (lower t) (lower u)).passes e)
-text_passes T table {t = t} (TextStep.rewritten {v = v} {w = w} g p s) =
-    let accepted : locale_result T t ≡ Ok (meaning v) = (computed_means T table t (meaning v)).1 (record { written = v; grammatical = g; spelled = p; means = refl }) in
+text_passes T table {t = t} {u = u} (TreeTextStep.letter_case e) = or_left _ _ ((word_equality (lower t) (lower u)).passes e)
+text_passes T table {t = t} (TreeTextStep.rewritten {v = v} {w = w} g p s) =
+    let accepted : locale_result T t ≡ Ok (meaning v) = (computed_tree T table t (meaning v)).1 (record { written = v; grammatical = g; spelled = p; means = refl }) in
     let first : written_of (pieces t) ≡ v = ap written_of p ∙ written_of-spelling table v g in
     let second : written_of (pieces (join (spelling w))) ≡ w = ap written_of (step_pieces t p s) ∙ written_of-spelling table w (written_step T s g).0 in
     or_right _ _ (and_from _ _ (ap is_ok accepted) (ap₂ is_step first second ∙ (tests_step v w).passes s))
 
 pub tests_text_step : (T : ℕ → Bool) → IsTable T → (t u : List ℕ) → Tests (is_text_step T t u) (TextStep T t u)
-tests_text_step T table t u = record { holds = text_holds T table t u; passes = text_passes T table }
+tests_text_step T table t u = record { holds = λ e. step_by_tree table t u (text_holds T table t u e); passes = λ s. text_passes T table (tree_step t u s) }
 
 -- texts of identifiers
 
@@ -80,19 +83,19 @@ read_identifier T t e =
     let m = (computed_identifier T t value.0).0 value.1 in
     subst (IsIdentifier T) (sym (ap identifier_of m.spelled ∙ identifier_of-pieces m.written m.grammatical.words)) m.grammatical
 
-identifier_text_holds : (T : ℕ → Bool) (t u : List ℕ) → is_identifier_text_step T t u ≡ true → IdentifierTextStep T t u
+identifier_text_holds : (T : ℕ → Bool) (t u : List ℕ) → is_identifier_text_step T t u ≡ true → TreeIdentifierTextStep T t u
 unfolding is_identifier_text_step
 identifier_text_holds T t u e = elim (or_cases _ _ e) [
-  | inl h ↦ IdentifierTextStep.letter_case ((word_equality (lower t) (lower u)).holds h)
+  | inl h ↦ TreeIdentifierTextStep.letter_case ((word_equality (lower t) (lower u)).holds h)
   | inr h ↦
       let parts = and_parts (is_ok (identifier_result T (pieces t))) _ h in
-      subst (IdentifierTextStep T t) (read_identifier_text u) (IdentifierTextStep.variant_order (read_identifier T t parts.0) (sym (read_identifier_spelling t)) ((tests_identifier_step VariantOrder (identifier_of (pieces t)) (identifier_of (pieces u))).holds parts.1))
+      subst (TreeIdentifierTextStep T t) (read_identifier_text u) (TreeIdentifierTextStep.variant_order (read_identifier T t parts.0) (sym (read_identifier_spelling t)) ((tests_identifier_step VariantOrder (identifier_of (pieces t)) (identifier_of (pieces u))).holds parts.1))
 ]
 
-identifier_text_passes : (T : ℕ → Bool) {t u : List ℕ} → IdentifierTextStep T t u → is_identifier_text_step T t u ≡ true
+identifier_text_passes : (T : ℕ → Bool) {t u : List ℕ} → TreeIdentifierTextStep T t u → is_identifier_text_step T t u ≡ true
 unfolding is_identifier_text_step
-identifier_text_passes T {t = t} {u = u} (IdentifierTextStep.letter_case e) = or_left _ _ ((word_equality (lower t) (lower u)).passes e)
-identifier_text_passes T {t = t} (IdentifierTextStep.variant_order {i = i} {j = j} g p s) =
+identifier_text_passes T {t = t} {u = u} (TreeIdentifierTextStep.letter_case e) = or_left _ _ ((word_equality (lower t) (lower u)).passes e)
+identifier_text_passes T {t = t} (TreeIdentifierTextStep.variant_order {i = i} {j = j} g p s) =
     let accepted : identifier_result T (pieces t) ≡ Ok (normal_identifier i) = (computed_identifier T t (normal_identifier i)).1 (record { written = i; grammatical = g; spelled = p; means = refl }) in
     let after : IsIdentifier T j = (identifier_step s g).0 in
     let first : identifier_of (pieces t) ≡ i = ap identifier_of p ∙ identifier_of-pieces i g.words in
@@ -100,4 +103,4 @@ identifier_text_passes T {t = t} (IdentifierTextStep.variant_order {i = i} {j = 
     or_right _ _ (and_from _ _ (ap is_ok accepted) (ap₂ (is_identifier_step VariantOrder) first second ∙ (tests_identifier_step VariantOrder i j).passes s))
 
 pub tests_identifier_text_step : (T : ℕ → Bool) (t u : List ℕ) → Tests (is_identifier_text_step T t u) (IdentifierTextStep T t u)
-tests_identifier_text_step T t u = record { holds = identifier_text_holds T t u; passes = identifier_text_passes T }
+tests_identifier_text_step T t u = record { holds = λ e. identifier_step_by_tree t u (identifier_text_holds T t u e); passes = λ s. identifier_text_passes T (tree_identifier_step t u s) }

@@ -3,7 +3,8 @@ use Rattle.std.proofs.Common.{◌≡◌, ◌≢◌, ℕ, ◌+◌, ◌<◌, Bool,
 use Rattle.std.specs.List.{AllByRecursion}
 use Rattle.std.specs.FinMap.{is_sorted}
 use Rattle.std.proofs.lemmas.Bool.Decides.{nat_tests}
-use Rattle.iloc_spec_grammar.specs.Syntax.{Kind, Language, Script, Region, Variant, Subtag, UnicodeKey, TransformKey, Attribute, is_word, IsWord, normal, lower, upper, title, word_cmp, is_true, Identifier, Fields, Unicode, Transform, identifier_pieces, HasWords, IsIdentifier, IsUnicode, IsTransform, IsKeyword, IsField, AllDifferent}
+use Rattle.iloc_spec_grammar.specs.Syntax.{Kind, Language, Script, Region, Variant, Subtag, UnicodeKey, TransformKey, Attribute, is_word, IsWord, normal, lower, upper, title, word_cmp, is_true, Identifier, Fields, Unicode, Transform, identifier_pieces, HasWords, IsIdentifier, IsKeyword, IsField, AllDifferent}
+use Rattle.iloc_spec_grammar.specs.Tree.{IsUnicodeBlock, IsTransformBlock}
 use Rattle.iloc_spec_grammar.specs.Meaning.{map_of, set_of, normal_identifier, normal_unicode, normal_transform, normal_fields, normal_values, IdentifierMeans}
 use Rattle.iloc_spec_grammar.specs.Values.{IsNormal, IsAscending, IsIdentifierValue, IsUnicodeValue, IsTransformValue, lower_identifier, spelled_value, spelled_fields}
 use Rattle.iloc_spec_grammar.proofs.WordsLaws.{lower-lower, title-lower, upper-lower, is_word-lower}
@@ -103,7 +104,7 @@ keyword_rule f h v = (h.0.0, all_weaker (λ w. IsNormal Subtag w × ((is_true w 
 keyword_fixed : (f : List ℕ × List (List ℕ)) → IsNormal UnicodeKey f.0 × AllByRecursion (IsNormal Subtag) f.1 → AllByRecursion (λ w. (is_true w ≡ false) × (length w ≢ 2)) f.1 → (lower f.0 ≡ f.0) × (normal_values f.1 ≡ f.1)
 keyword_fixed f h v = (h.0.1, values_fixed f.1 (all_weaker (IsNormal Subtag) (λ w. lower w ≡ w) (λ w n. n.1) f.1 h.1) (all_weaker (λ w. (is_true w ≡ false) × (length w ≢ 2)) (λ w. is_true w ≡ false) (λ w n. n.0) f.1 v))
 
-pub value_unicode : (u : Unicode) → IsUnicodeValue u → AreKeywordValues u.keywords → 0 < length u.attributes + length u.keywords → IsUnicode u
+pub value_unicode : (u : Unicode) → IsUnicodeValue u → AreKeywordValues u.keywords → 0 < length u.attributes + length u.keywords → IsUnicodeBlock u
 value_unicode u h v n = record {
   attributes = all_weaker (IsNormal Attribute) (IsWord Attribute) (λ w n. n.0) u.attributes h.attributes;
   keywords = all_weaker (λ f. (IsNormal UnicodeKey f.0 × AllByRecursion (IsNormal Subtag) f.1) × AllByRecursion (λ w. (is_true w ≡ false) × (length w ≢ 2)) f.1) IsKeyword (λ f b. keyword_rule f b.0 b.1) u.keywords (all_both _ _ u.keywords h.keywords v);
@@ -148,7 +149,7 @@ spelled_transform m = record { id = option_map lower_identifier m.id; fields = s
 pub length-spelled_fields : (fs : Fields) → length (spelled_fields fs) ≡ length fs
 length-spelled_fields fs = length-map fs (λ f. (f.0, spelled_value f.1))
 
-pub value_transform : {T : ℕ → Bool} (m : Transform) → IsTransformValue T m → (option_map lower_identifier m.id ≡ None → 0 < length (spelled_fields m.fields)) → IsTransform T (spelled_transform m)
+pub value_transform : {T : ℕ → Bool} (m : Transform) → IsTransformValue T m → (option_map lower_identifier m.id ≡ None → 0 < length (spelled_fields m.fields)) → IsTransformBlock T (spelled_transform m)
 value_transform {T = T} m h n = record { id = some_mapped (IsIdentifierValue T) (IsIdentifier T) lower_identifier (λ i g. lower_is_identifier i (value_identifier i g)) m.id h.id; fields = fields_rule m.fields h.fields; nonempty = n }
 
 pub normal_value_transform : {T : ℕ → Bool} (m : Transform) → IsTransformValue T m → normal_transform (spelled_transform m) ≡ m

@@ -7,9 +7,10 @@ use Rattle.std.specs.Cmp.{nat_cmp_total}
 use Rattle.std.specs.FinMap.{is_sorted, find, nat_cmp-IsAntisymmetric}
 use Rattle.std.proofs.lemmas.Bool.Decides.{nat_tests}
 use Rattle.std.proofs.lemmas.Str.Ascii.{lowercase-lowercase}
-use Rattle.iloc_spec_grammar.specs.Syntax.{Kind, Language, Script, Region, Variant, Subtag, UnicodeKey, TransformKey, Attribute, PrivateSubtag, is_word, IsWord, normal, lower, word_cmp, is_true, Identifier, Fields, Unicode, Transform, Extension, unicode, transform, other, Written, HasWords, IsIdentifier, IsUnicode, IsTransform, IsKeyword, IsOther, IsPrivate, kept, is_other_singleton, IsExtension, singleton, IsWritten}
-use Rattle.iloc_spec_grammar.specs.Meaning.{map_of, set_of, normal_identifier, normal_values, normal_fields, normal_unicode, normal_transform, Locale, unicode_part, transform_part, private_part, other_part, by_singleton, extensions_meaning, meaning, Means}
-use Rattle.iloc_spec_grammar.specs.Values.{IsNormal, IsAscending, IsIdentifierValue, IsUnicodeValue, IsTransformValue, IsValue, IsWellFormed}
+use Rattle.iloc_spec_grammar.specs.Syntax.{Kind, Language, Script, Region, Variant, Subtag, UnicodeKey, TransformKey, Attribute, PrivateSubtag, is_word, IsWord, normal, lower, word_cmp, is_true, Identifier, Fields, Unicode, Transform, HasWords, IsIdentifier, IsKeyword, IsOther, kept, is_other_singleton, singleton}
+use Rattle.iloc_spec_grammar.specs.Tree.{Extension, unicode, transform, other, Written, IsUnicodeBlock, IsTransformBlock, IsPrivate, IsExtension, IsWritten, unicode_part, transform_part, private_part, other_part, by_singleton, extensions_meaning, meaning, TreeMeans, IsTreeWellFormed}
+use Rattle.iloc_spec_grammar.specs.Meaning.{map_of, set_of, normal_identifier, normal_values, normal_fields, normal_unicode, normal_transform, Locale}
+use Rattle.iloc_spec_grammar.specs.Values.{IsNormal, IsAscending, IsIdentifierValue, IsUnicodeValue, IsTransformValue, IsValue}
 use Rattle.iloc_spec_grammar.proofs.WordsLaws.{length-attribute}
 use Rattle.iloc_spec_grammar.proofs.MapLaws.{is_sorted-map_of, all-map_of, word_cmp_total, same_words}
 use Rattle.iloc_spec_grammar.proofs.ValuesLaws.{all_weaker}
@@ -72,7 +73,7 @@ attribute_is_subtag w h = (attribute_is_word w h.0, h.1)
 keyword_entries : (fs : Fields) → AllByRecursion IsKeyword fs → AllByRecursion (IsEntry UnicodeKey) (normal_fields fs)
 keyword_entries fs h = field_entries UnicodeKey (λ p. refl) fs h
 
-pub unicode_value : (u : Unicode) → IsUnicode u → IsUnicodeValue (normal_unicode u)
+pub unicode_value : (u : Unicode) → IsUnicodeBlock u → IsUnicodeValue (normal_unicode u)
 unicode_value u h = record {
   attributes = all-set_of (IsNormal Attribute) _ (all_normal Attribute u.attributes (λ p. refl) h.attributes);
   ascending = set_of-ascending (map lower u.attributes);
@@ -80,10 +81,10 @@ unicode_value u h = record {
   keys_ascend = is_sorted-map_of word_cmp word_cmp_total (map (λ f. (lower f.0, normal_values f.1)) u.keywords);
 }
 
-pub unicode_well : (u : Unicode) → IsUnicode u → AllByRecursion (λ f. AllByRecursion (λ w. (is_true w ≡ false) × (length w ≢ 2)) f.1) (normal_unicode u).keywords
+pub unicode_well : (u : Unicode) → IsUnicodeBlock u → AllByRecursion (λ f. AllByRecursion (λ w. (is_true w ≡ false) × (length w ≢ 2)) f.1) (normal_unicode u).keywords
 unicode_well u h = all_weaker (IsEntry UnicodeKey) (λ f. AllByRecursion (λ w. (is_true w ≡ false) × (length w ≢ 2)) f.1) (λ f e. all_weaker IsPlain (λ w. (is_true w ≡ false) × (length w ≢ 2)) (λ w n. (n.1, let l = length-attribute w n.0.0 in omega arith)) f.1 e.1) _ (keyword_entries u.keywords h.keywords)
 
-pub transform_value : (T : ℕ → Bool) (m : Transform) → IsTransform T m → IsTransformValue T (normal_transform m)
+pub transform_value : (T : ℕ → Bool) (m : Transform) → IsTransformBlock T m → IsTransformValue T (normal_transform m)
 transform_value T m h = record {
   id = some_mapped (IsIdentifier T) (IsIdentifierValue T) normal_identifier (λ i g. identifier_value i g.words) m.id h.id;
   fields = field_entries TransformKey (λ p. refl) m.fields (plain_fields m.fields h.fields);
@@ -93,8 +94,8 @@ transform_value T m h = record {
 -- what a look-up finds
 
 abbrev pub FollowsRule : (ℕ → Bool) → Extension → Type 0
-FollowsRule T (unicode u) = IsUnicode u
-FollowsRule T (transform m) = IsTransform T m
+FollowsRule T (unicode u) = IsUnicodeBlock u
+FollowsRule T (transform m) = IsTransformBlock T m
 FollowsRule T (other ps) = IsOther ps
 
 follows : (T : ℕ → Bool) (c : ℕ) (e : Extension) → IsExtension T c e → FollowsRule T e
@@ -150,7 +151,7 @@ module _ {T : ℕ → Bool} (w : Written) (h : IsWritten T w) where
     };
   }
 
-  pub written_well_formed : IsWellFormed (meaning w)
+  pub written_well_formed : IsTreeWellFormed (meaning w)
   written_well_formed = record {
     ascending = is_sorted-map_of nat_cmp nat_cmp_total (filter_map other_part (by_singleton w.extensions));
     singletons = all_weaker IsOtherEntry (λ o. (is_other_singleton o.0 ≡ true) × (to_ascii_lowercase o.0 ≡ o.0)) (λ o x. x.0) _ others;
@@ -158,8 +159,8 @@ module _ {T : ℕ → Bool} (w : Written) (h : IsWritten T w) where
     values = part_well T _ (rules 117);
   }
 
-pub means_value : {T : ℕ → Bool} (t : List ℕ) (M : Locale) → Means T t M → IsValue T M
+pub means_value : {T : ℕ → Bool} (t : List ℕ) (M : Locale) → TreeMeans T t M → IsValue T M
 means_value {T = T} t M m = subst (IsValue T) (sym m.means) (written_value m.written m.grammatical)
 
-pub means_well_formed : {T : ℕ → Bool} (t : List ℕ) (M : Locale) → Means T t M → IsWellFormed M
-means_well_formed t M m = subst IsWellFormed (sym m.means) (written_well_formed m.written m.grammatical)
+pub means_well_formed : {T : ℕ → Bool} (t : List ℕ) (M : Locale) → TreeMeans T t M → IsTreeWellFormed M
+means_well_formed t M m = subst IsTreeWellFormed (sym m.means) (written_well_formed m.written m.grammatical)

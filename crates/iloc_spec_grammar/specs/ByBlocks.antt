@@ -6,22 +6,23 @@ use Rattle.std.specs.Char.{is_ascii_alphanumeric}
 use Rattle.std.specs.List.{AllByRecursion}
 use Rattle.std.specs.Ordering.{nat_cmp}
 use Rattle.std.specs.FinMap.{find}
-use Rattle.iloc_spec_grammar.specs.Syntax.{Text, Table, Block, code_t, code_u, code_x, pieces, lower, Unicode, Transform, unicode_pieces, transform_pieces, IsUnicode, IsTransform, IsOther, IsPrivate, kept, is_other_singleton, AllDifferent, singleton, head, tail_blocks}
-use Rattle.iloc_spec_grammar.specs.Meaning.{Locale, Extensions, IdentifierMeans, map_of, normal_unicode, normal_transform, no_unicode, no_transform, by_singleton}
+use Rattle.iloc_spec_grammar.specs.Syntax.{Text, Table, Block, code_t, code_u, code_x, pieces, lower, Unicode, Transform, unicode_pieces, transform_pieces, IsOther, kept, is_other_singleton, AllDifferent, singleton, head, tail_blocks}
+use Rattle.iloc_spec_grammar.specs.Tree.{IsUnicodeBlock, IsTransformBlock, IsPrivate, by_singleton}
+use Rattle.iloc_spec_grammar.specs.Meaning.{Locale, Extensions, IdentifierMeans, map_of, normal_unicode, normal_transform, no_unicode, no_transform}
 
 -- The rules of the grammar: what the pieces after a singleton mean.
 
 -- after `u`
 pub record UnicodeMeans (ps : List Text) (v : Unicode) : Type 0 where
   pub written : Unicode
-  pub grammatical : IsUnicode written
+  pub grammatical : IsUnicodeBlock written
   pub spelled : ps ≡ unicode_pieces written
   pub means : v ≡ normal_unicode written
 
 -- after `t`
 pub record TransformMeans (T : Table) (ps : List Text) (n : Transform) : Type 0 where
   pub written : Transform
-  pub grammatical : IsTransform T written
+  pub grammatical : IsTransformBlock T written
   pub spelled : ps ≡ transform_pieces written
   pub means : n ≡ normal_transform written
 
@@ -70,10 +71,6 @@ pub record BlocksGive (R : Rules) (bs : List Block) (e : Extensions) : Type 0 wh
   pub each_other : AllByRecursion (λ b. R.other b.1 (kept b.1)) (other_blocks (by_singleton bs))
   pub others : e.others
       ≡ map_of nat_cmp (map (λ b. (b.0, kept b.1)) (other_blocks (by_singleton bs)))
-
--- by the rules of the grammar
-abbrev pub BlocksMean : Table → List Block → Extensions → Type 0
-BlocksMean T bs e = BlocksGive (grammar_rules T) bs e
 
 -- The head is an identifier, and the blocks after it give the extensions.
 pub record MeansBy (R : Rules) (T : Table) (t : Text) (M : Locale) : Type 0 where

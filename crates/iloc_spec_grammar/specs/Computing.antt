@@ -1,4 +1,4 @@
--- Plain programs for what a text means and why it is refused. The rules of Written become tests of
+-- Plain programs for what a text means and why it is refused. The rules of the tree become tests of
 -- what Reading reads; the law `computed` says that the answers are those of `Means` and `HasFault`,
 -- so examples can be computed.
 use Rattle.std.specs.Prelude.{ℕ, ◌+◌, Bool, true, not, ◌&&◌, ◌||◌, ◌==◌, List, [], ◌∷◌, length, map, Option, Some, None, is_some, Result, Ok, Err, nat_lt, if◌then◌else◌}
@@ -7,8 +7,9 @@ use Rattle.std.specs.Int.{is_in_range}
 use Rattle.std.specs.List.{list_any, list_all}
 use Rattle.std.specs.Ordering.{nat_cmp, eq_by_cmp}
 use Rattle.std.specs.declared.cmp.Ordering.{Ordering}
-use Rattle.iloc_spec_grammar.specs.Syntax.{Text, Table, Field, Block, code_t, code_u, code_x, pieces, Language, Script, Region, Variant, UnicodeKey, TransformKey, Attribute, PrivateSubtag, is_word, lower, word_cmp, Identifier, Unicode, Transform, Extension, unicode, transform, other, kept, is_other_singleton, singleton, first_piece, head, tail_blocks}
-use Rattle.iloc_spec_grammar.specs.Meaning.{Locale, normal_identifier, meaning, Fault, InvalidLanguage, InvalidSubtag, InvalidExtension, DuplicatedExtension}
+use Rattle.iloc_spec_grammar.specs.Syntax.{Text, Table, Field, Block, code_t, code_u, code_x, pieces, Language, Script, Region, Variant, UnicodeKey, TransformKey, Attribute, PrivateSubtag, is_word, lower, word_cmp, Identifier, Unicode, Transform, kept, is_other_singleton, singleton, first_piece, head, tail_blocks}
+use Rattle.iloc_spec_grammar.specs.Tree.{Extension, unicode, transform, other, meaning}
+use Rattle.iloc_spec_grammar.specs.Meaning.{Locale, normal_identifier, Fault, InvalidLanguage, InvalidSubtag, InvalidExtension, DuplicatedExtension}
 use Rattle.iloc_spec_grammar.specs.Values.{text, identifier_text}
 use Rattle.iloc_spec_grammar.specs.Reading.{identifier_of, front_of, extension_of, written_of}
 
@@ -37,7 +38,7 @@ is_identifier T i = has_words T i && all_different word_cmp (map lower i.variant
 abbrev pub is_keyword : Field → Bool
 is_keyword f = is_word UnicodeKey f.0 && list_all (is_word Attribute) f.1
 
--- computes `IsUnicode`: attributes and keywords, one at least
+-- computes `IsUnicodeBlock`: attributes and keywords, one at least
 abbrev pub is_unicode : Unicode → Bool
 is_unicode u = (list_all (is_word Attribute) u.attributes && list_all is_keyword u.keywords)
     && nat_lt 0 (length u.attributes + length u.keywords)
@@ -46,7 +47,7 @@ is_unicode u = (list_all (is_word Attribute) u.attributes && list_all is_keyword
 abbrev pub is_field : Field → Bool
 is_field f = (is_word TransformKey f.0 && list_all (is_word Attribute) f.1) && nat_lt 0 (length f.1)
 
--- computes `IsTransform`: perhaps an identifier, and fields, not both absent
+-- computes `IsTransformBlock`: perhaps an identifier, and fields, not both absent
 abbrev pub is_transform : Table → Transform → Bool
 is_transform T m = (holds_if_some (is_identifier T) m.id && list_all is_field m.fields)
     && (is_some m.id || nat_lt 0 (length m.fields))
@@ -112,6 +113,6 @@ abbrev pub identifier_text_of : Result Identifier Fault → Result Text Fault
 identifier_text_of (Ok i) = Ok (identifier_text i)
 identifier_text_of (Err f) = Err f
 
-abbrev pub text_of : Result Locale Fault → Result Text Fault
-text_of (Ok M) = Ok (text M)
-text_of (Err f) = Err f
+abbrev pub computed_text : Result Locale Fault → Result Text Fault
+computed_text (Ok M) = Ok (text M)
+computed_text (Err f) = Err f

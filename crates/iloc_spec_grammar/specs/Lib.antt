@@ -1,6 +1,8 @@
 pub mod Syntax
 -- In the order in which they read.
 pub mod Meaning
+pub mod Tree
+pub mod TreeSteps
 pub mod ByBlocks
 pub mod Values
 pub mod Reading

@@ -1,17 +1,17 @@
--- Meaning: what a written locale stands for. Words are in their normal case; variants and
--- attributes are sets, keywords and fields maps, both as ascending lists; `true` in a value means
--- nothing. Restates the canonical syntax of UTS #35, section 3.2.1. That the first of equal keys stays is
--- what RFC 6067, section 2.1, says after `u`, and the rule of this library after `t`.
-use Rattle.std.specs.Prelude.{◌≡◌, ℕ, not, List, [], ◌∷◌, map, filter, filter_map, Option, Some, None, option_map, ◌⊎◌, true, false, ◌++◌}
-use Rattle.std.specs.Ordering.{nat_cmp, eq_by_cmp}
+-- Meaning: what a text stands for. Words are in their normal case; variants and attributes are sets,
+-- keywords and fields maps, both as ascending lists; `true` in a value means nothing. Restates the
+-- canonical syntax of UTS #35, section 3.2.1. That the first of equal keys stays is what RFC 6067,
+-- section 2.1, says after `u`, and the rule of this library after `t`.
+use Rattle.std.specs.Prelude.{◌≡◌, ℕ, ◌<◌, ◌==◌, length, flat_map, if◌then◌else◌, not, List, [], ◌∷◌, map, filter, None, option_map, true, false, ◌++◌}
+use Rattle.std.specs.Ordering.{nat_cmp}
 use Rattle.std.specs.declared.cmp.Ordering.{Ordering}
-use Rattle.std.specs.FinMap.{put, find}
-use Rattle.iloc_spec_grammar.specs.Syntax.{Text, Table, Block, code_t, code_u, code_x, pieces, lower, upper, title, word_cmp, is_true, Language, is_word, IsWord, Identifier, Fields, Unicode, Transform, Extension, unicode, transform, other, Written, identifier_pieces, kept, IsWritten, IsIdentifier, singleton, spelling, extension_pieces, HasWords, IsExtension, IsPrivate, AllDifferent}
+use Rattle.std.specs.FinMap.{put}
+use Rattle.iloc_spec_grammar.specs.Syntax.{Text, Table, Block, code_t, code_u, code_x, pieces, lower, upper, title, word_cmp, is_true, Language, PrivateSubtag, is_word, IsWord, Identifier, Fields, Unicode, Transform, identifier_pieces, kept, IsIdentifier, singleton, HasWords, AllDifferent, IsUnicode, IsTransform, IsOther, unicode_pieces, transform_pieces, is_other_singleton}
 use Rattle.std.specs.Char.{is_ascii_alphanumeric}
-use Rattle.std.specs.List.{list_any}
+use Rattle.std.specs.List.{list_any, AllByRecursion}
 pub use Rattle.iloc_spec_grammar.specs.Syntax.{is_one_byte, front, blocks, head, tail_blocks, first_piece}
 
--- the map of the entries: by ascending keys (UTS #35 3.2.1), and of equal keys the first stays (this library's rule)
+-- the map of the entries: by ascending keys (UTS #35 3.2.1), and of equal keys the first stays (RFC 6067, 2.1)
 abbrev pub map_of : {K X : Type 0} → (K → K → Ordering) → List (K × X) → List (K × X)
 map_of cmp [] = []
 map_of cmp (e ∷ es) = put cmp e.0 e.1 (map_of cmp es)
@@ -56,10 +56,19 @@ pub record Extensions : Type 0 where
   pub private : List Text
   pub others : List Block
 
--- what a text means: an identifier and extensions (UTS #35 3.2, `unicode_locale_id`)
+-- an identifier and extensions: what a text means (UTS #35 3.2, `unicode_locale_id`)
 pub record Locale : Type 0 where
   pub id : Identifier
   pub extensions : Extensions
+
+-- words in lower case, of other extensions those that are kept, by ascending singletons (UTS #35 3.2.1)
+abbrev pub normal_extensions : Extensions → Extensions
+normal_extensions e = record {
+  unicode = normal_unicode e.unicode;
+  transform = normal_transform e.transform;
+  private = map lower e.private;
+  others = map_of nat_cmp (map (λ o. (o.0, kept o.1)) e.others);
+}
 
 -- Empty parts, and no extensions.
 
@@ -83,43 +92,6 @@ no_extensions = just_unicode no_unicode
 abbrev pub without_extensions : Identifier → Locale
 without_extensions i = record { id = i; extensions = no_extensions }
 
--- the part that a block gives; an absent block gives the empty part
-abbrev pub unicode_part : Option Extension → Unicode
-unicode_part (Some (unicode u)) = normal_unicode u
-unicode_part _ = no_unicode
-
--- what the block of `t` means, if there is one
-abbrev pub transform_part : Option Extension → Transform
-transform_part (Some (transform m)) = normal_transform m
-transform_part _ = no_transform
-
--- what the block of `x` means, if there is one: its words in lower case
-abbrev pub private_part : Option Block → List Text
-private_part None = []
-private_part (Some e) = map lower e.1
-
--- the words that another extension keeps
-abbrev pub other_part : ℕ × Extension → Option Block
-other_part (c, other ps) = Some (c, kept ps)
-other_part _ = None
-
--- extensions by their singletons in lower case (UTS #35 3.2.1)
-abbrev pub by_singleton : {X : Type 0} → List (ℕ × X) → List (ℕ × X)
-by_singleton es = map (λ e. (singleton e, e.1)) es
-
--- the parts are those of `u`, of `t`, of the private part and of the others
-abbrev pub extensions_meaning : Written → Extensions
-extensions_meaning w = let es = by_singleton w.extensions in record {
-  unicode = unicode_part (find nat_cmp code_u es);
-  transform = transform_part (find nat_cmp code_t es);
-  private = private_part w.private;
-  others = map_of nat_cmp (filter_map other_part es);
-}
-
--- what a written text means: identifier and extensions, each in normal form (UTS #35 3.2.1)
-abbrev pub meaning : Written → Locale
-meaning w = record { id = normal_identifier w.id; extensions = extensions_meaning w }
-
 -- Which pieces and texts have a meaning, and which.
 
 -- the pieces are an identifier that means i
@@ -129,13 +101,30 @@ pub record IdentifierMeans (T : Table) (ps : List Text) (i : Identifier) : Type 
   pub spelled : ps ≡ identifier_pieces written
   pub means : i ≡ normal_identifier written
 
--- the text is a locale that means M: some written locale follows the rules, is spelled by its
--- pieces, and means M
+-- the pieces after the singleton; none if no block has it
+abbrev pub after : ℕ → List Block → List Text
+after c bs = flat_map (λ b. if singleton b == c then b.1 else []) bs
+
+-- What blocks spell: each has a letter or digit for its singleton, and pieces; no singleton stands
+-- twice; and the pieces after `u`, `t`, `x` and the others are those of parts that follow their rules
+-- (UTS #35 3.2, `extensions` and `pu_extensions`).
+pub record SpellsExtensions (T : Table) (bs : List Block) (e : Extensions) : Type 0 where
+  pub blocks : AllByRecursion (λ b. (is_ascii_alphanumeric b.0 ≡ true) × (0 < length b.1)) bs
+  pub different : AllDifferent nat_cmp (map (λ b. singleton b) bs)
+  pub unicode : IsUnicode e.unicode × (after code_u bs ≡ unicode_pieces e.unicode)
+  pub transform : IsTransform T e.transform × (after code_t bs ≡ transform_pieces e.transform)
+  pub private : AllByRecursion (IsWord PrivateSubtag) e.private × (after code_x bs ≡ e.private)
+  pub others : AllByRecursion (λ o. IsOther o.1) e.others
+      × (filter (λ b. is_other_singleton b.0) (map (λ b. (singleton b, b.1)) bs) ≡ e.others)
+
+-- the blocks mean e: they spell extensions whose normal form it is
+abbrev pub BlocksMean : Table → List Block → Extensions → Type 0
+BlocksMean T bs e = (w : Extensions) × SpellsExtensions T bs w × (e ≡ normal_extensions w)
+
+-- the text means M: its head an identifier, and its blocks extensions (UTS #35 3.2, `unicode_locale_id`)
 pub record Means (T : Table) (t : Text) (M : Locale) : Type 0 where
-  pub written : Written
-  pub grammatical : IsWritten T written
-  pub spelled : pieces t ≡ spelling written
-  pub means : M ≡ meaning written
+  pub id : IdentifierMeans T (head (pieces t)) M.id
+  pub extensions : BlocksMean T (tail_blocks (pieces t)) M.extensions
 
 -- Faults: why a text is refused, as a property of its head and its blocks. If UTS #35 only says
 -- that a text is not well-formed, this library names one of four faults; which one is its own rule.
@@ -159,48 +148,36 @@ pub data HasIdentifierFault (T : Table) (ps : List Text) : Fault → Type 0 wher
 
 -- Faults of blocks.
 
--- the block follows the rule of its singleton, which for `x` is that of the private part
-abbrev pub IsBlock : Table → Block → Type 0
-IsBlock T b = ((singleton b ≡ code_x) × IsPrivate b.1)
-    ⊎ ((e : Extension) × IsExtension T (singleton b) e × (b.1 ≡ extension_pieces e))
-
 -- the pieces begin with a language, perhaps a script and a region, and variants, of which one
 -- stands twice
 abbrev pub RepeatsVariant : Table → List Text → Type 0
 RepeatsVariant T ps = (i : Identifier) × (rest : List Text) × HasWords T i
     × (ps ≡ identifier_pieces i ++ rest) × ¬ (AllDifferent word_cmp (map lower i.variants))
 
--- the block's singleton is a letter or digit
-abbrev pub HasSingleton : Block → Type 0
-HasSingleton b = is_ascii_alphanumeric b.0 ≡ true
+-- the blocks follow the rules of their singletons, which differ
+abbrev pub AreBlocks : Table → List Block → Type 0
+AreBlocks T bs = (e : Extensions) × SpellsExtensions T bs e
 
--- no earlier block has this singleton; seen are those of the earlier blocks
-abbrev pub IsNew : Text → Block → Type 0
-IsNew seen b = list_any (eq_by_cmp nat_cmp (singleton b)) seen ≡ false
+-- an earlier block has this singleton
+abbrev pub IsSecond : List Block → Block → Type 0
+IsSecond earlier b = list_any (λ c. singleton b == singleton c) earlier ≡ true
 
--- What is wrong with a block, after blocks with the singletons in seen. The singleton comes first:
--- it is a letter or digit, and new. Then a repeated variant after `t`; and then all else.
-pub data BlockFault (T : Table) (seen : Text) (b : Block) : Fault → Type 0 where
-  no_singleton : is_ascii_alphanumeric b.0 ≡ false → BlockFault T seen b InvalidExtension
-  duplicated : HasSingleton b → list_any (eq_by_cmp nat_cmp (singleton b)) seen ≡ true
-      → BlockFault T seen b DuplicatedExtension
-  repeats_variant : HasSingleton b → IsNew seen b → singleton b ≡ code_t → RepeatsVariant T b.1
-      → BlockFault T seen b InvalidSubtag
-  breaks_rule : HasSingleton b → IsNew seen b → ¬ ((singleton b ≡ code_t) × RepeatsVariant T b.1)
-      → ¬ (IsBlock T b) → BlockFault T seen b InvalidExtension
+-- What is wrong with a block: an earlier one has its singleton; or else a variant is repeated after
+-- `t`; or else the block alone breaks the rule of its singleton, or has none.
+pub data BlockFault (T : Table) (earlier : List Block) (b : Block) : Fault → Type 0 where
+  duplicated : IsSecond earlier b → BlockFault T earlier b DuplicatedExtension
+  repeats_variant : ¬ (IsSecond earlier b) → RepeatsVariant T (after code_t (b ∷ []))
+      → BlockFault T earlier b InvalidSubtag
+  breaks_rule : ¬ (IsSecond earlier b) → ¬ (RepeatsVariant T (after code_t (b ∷ [])))
+      → ¬ (AreBlocks T (b ∷ [])) → BlockFault T earlier b InvalidExtension
 
--- the blocks before this one are good, and it has the fault
-pub data FirstBadBlock (T : Table) : Text → List Block → Fault → Type 0 where
-  here : {seen : Text} {b : Block} {bs : List Block} {f : Fault} → BlockFault T seen b f
-      → FirstBadBlock T seen (b ∷ bs) f
-  later : {seen : Text} {b : Block} {bs : List Block} {f : Fault} → HasSingleton b → IsNew seen b
-      → IsBlock T b → FirstBadBlock T (singleton b ∷ seen) bs f → FirstBadBlock T seen (b ∷ bs) f
+-- the first bad block from the left has the fault
+abbrev pub HasBlockFault : Table → List Block → Fault → Type 0
+HasBlockFault T bs f = (good : List Block) × (b : Block) × (rest : List Block)
+    × (bs ≡ good ++ (b ∷ rest)) × AreBlocks T good × BlockFault T good b f
 
--- Why a text is no locale: no language stands first; or the head is no identifier; or the first bad
--- block from the left has the fault.
+-- why a text is no locale: its head is no identifier, or a block is bad
 pub data HasFault (T : Table) (t : Text) : Fault → Type 0 where
-  no_language : is_word (Language T) (first_piece (pieces t)) ≡ false → HasFault T t InvalidLanguage
-  no_identifier : IsWord (Language T) (first_piece (pieces t))
-      → ¬ (SpellsIdentifier T (head (pieces t))) → HasFault T t InvalidSubtag
-  bad_block : {f : Fault} → SpellsIdentifier T (head (pieces t))
-      → FirstBadBlock T [] (tail_blocks (pieces t)) f → HasFault T t f
+  in_head : {f : Fault} → HasIdentifierFault T (head (pieces t)) f → HasFault T t f
+  in_block : {f : Fault} → SpellsIdentifier T (head (pieces t))
+      → HasBlockFault T (tail_blocks (pieces t)) f → HasFault T t f

@@ -1,10 +1,11 @@
 -- Plain programs that read pieces from the left. Two readings of an identifier: `identifier_of`
 -- takes all the pieces, and leaves it to the rules whether they are words; `front_of` takes the
 -- longest front of words. The other functions named `.._of` take all the pieces of a part in the
--- same way. Each loses nothing, and gives back what follows the rules of Written, so the rules have
+-- same way. Each loses nothing, and gives back what follows the rules, so the rules have
 -- one reading at most.
 use Rattle.std.specs.Prelude.{◌≡◌, ℕ, ◌≤◌, Bool, true, false, cond, ◌==◌, List, [], ◌∷◌, ◌++◌, length, Option, Some, None}
-use Rattle.iloc_spec_grammar.specs.Syntax.{Text, Table, Block, code_t, code_u, code_x, Script, Region, Variant, TransformKey, is_word, Identifier, Fields, Unicode, Transform, Extension, unicode, transform, other, Written, HasWords, identifier_pieces, singleton, is_one_byte, first_piece, head, tail_blocks}
+use Rattle.iloc_spec_grammar.specs.Syntax.{Text, Table, Block, code_t, code_u, code_x, Script, Region, Variant, TransformKey, is_word, Identifier, Fields, Unicode, Transform, HasWords, identifier_pieces, singleton, is_one_byte, first_piece, head, tail_blocks}
+use Rattle.iloc_spec_grammar.specs.Tree.{Extension, unicode, transform, other, Written}
 
 -- Lists of pieces.
 

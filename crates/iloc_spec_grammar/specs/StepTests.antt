@@ -4,10 +4,11 @@
 use Rattle.std.specs.Prelude.{◌≡◌, ◌↔◌, IsTrue, ℕ, Bool, true, false, not, ◌&&◌, ◌||◌, ◌==◌, List, [], ◌∷◌, length, map, Option, Some, None, nat_lt, if◌then◌else◌}
 use Rattle.std.specs.List.{list_any}
 use Rattle.std.specs.Result.{is_ok}
-use Rattle.iloc_spec_grammar.specs.Syntax.{Text, Table, Field, pieces, Subtag, is_word, lower, is_same, is_true, word_cmp, Identifier, Fields, Unicode, Transform, Extension, unicode, transform, other, Written}
+use Rattle.iloc_spec_grammar.specs.Syntax.{Text, Table, Field, pieces, Subtag, is_word, lower, is_same, is_true, word_cmp, Identifier, Fields, Unicode, Transform}
+use Rattle.iloc_spec_grammar.specs.Tree.{Extension, unicode, transform, other, Written}
 use Rattle.iloc_spec_grammar.specs.Reading.{identifier_of, written_of}
 use Rattle.iloc_spec_grammar.specs.Computing.{all_different, identifier_result, locale_result}
-use Rattle.iloc_spec_grammar.specs.Values.{Rule, VariantOrder, AttributeOrder, FieldOrder, Repeats, Trues, DroppedPieces}
+use Rattle.iloc_spec_grammar.specs.TreeSteps.{TreeRule, VariantOrder, AttributeOrder, FieldOrder, Repeats, Trues, DroppedPieces}
 
 -- What a step does to a list. Each of these takes a test `same` of whether two items are equal.
 
@@ -113,13 +114,13 @@ abbrev pub are_fields_without_repeats : Fields → Fields → Bool
 are_fields_without_repeats fs gs = is_without_repeats same_field (λ f. f.0) [] fs gs
 
 -- one rule orders the variants, and the others leave an identifier as it is
-abbrev pub is_identifier_step : Rule → Identifier → Identifier → Bool
+abbrev pub is_identifier_step : TreeRule → Identifier → Identifier → Bool
 is_identifier_step VariantOrder i j = same_but_variants i j
     && is_reordered is_same i.variants j.variants
 is_identifier_step _ i j = same_identifier i j
 
 -- what the rules do after `u`
-abbrev pub is_unicode_step : Rule → Unicode → Unicode → Bool
+abbrev pub is_unicode_step : TreeRule → Unicode → Unicode → Bool
 is_unicode_step AttributeOrder u v = is_reordered is_same u.attributes v.attributes
     && same_fields u.keywords v.keywords
 is_unicode_step FieldOrder u v = same_words u.attributes v.attributes
@@ -131,36 +132,36 @@ is_unicode_step Trues u v = same_words u.attributes v.attributes
 is_unicode_step _ u v = false
 
 -- what they do to the fields after `t`
-abbrev pub is_fields_step : Rule → Fields → Fields → Bool
+abbrev pub is_fields_step : TreeRule → Fields → Fields → Bool
 is_fields_step FieldOrder fs gs = are_fields_reordered fs gs
 is_fields_step Repeats fs gs = are_fields_without_repeats fs gs
 is_fields_step Trues fs gs = all_zip (λ f g. has_less_true f g && nat_lt 0 (length g.1)) fs gs
 is_fields_step _ fs gs = false
 
 -- after `t`, a step is one of the identifier or one of the fields
-abbrev pub is_transform_step : Rule → Transform → Transform → Bool
+abbrev pub is_transform_step : TreeRule → Transform → Transform → Bool
 is_transform_step r m n =
     (option_zip (is_identifier_step r) m.id n.id && same_fields m.fields n.fields)
     || (option_zip same_identifier m.id n.id && is_fields_step r m.fields n.fields)
 
 -- what they do to other extensions
-abbrev pub is_other_step : Rule → List Text → List Text → Bool
+abbrev pub is_other_step : TreeRule → List Text → List Text → Bool
 is_other_step DroppedPieces ps qs = is_without is_same (λ p. not (is_word Subtag p)) ps qs
 is_other_step _ ps qs = false
 
 -- a rule changes the first into the second
-abbrev pub is_change : Rule → Extension → Extension → Bool
+abbrev pub is_change : TreeRule → Extension → Extension → Bool
 is_change r (unicode u) (unicode v) = is_unicode_step r u v
 is_change r (transform m) (transform n) = is_transform_step r m n
 is_change r (other ps) (other qs) = is_other_step r ps qs
 is_change r _ _ = false
 
 -- or leaves it as it is
-abbrev pub is_extension_step : Rule → Extension → Extension → Bool
+abbrev pub is_extension_step : TreeRule → Extension → Extension → Bool
 is_extension_step r e f = same_extension e f || is_change r e f
 
 -- all six
-abbrev pub rules : List Rule
+abbrev pub rules : List TreeRule
 rules = VariantOrder ∷ AttributeOrder ∷ FieldOrder ∷ Repeats ∷ Trues ∷ DroppedPieces ∷ []
 
 -- the blocks in another order
@@ -169,7 +170,7 @@ is_block_order v w = same_identifier v.id w.id
     && is_reordered (block_zip same_extension) v.extensions w.extensions
 
 -- one rule in all parts
-abbrev pub is_step_by : Rule → Written → Written → Bool
+abbrev pub is_step_by : TreeRule → Written → Written → Bool
 is_step_by r v w = is_identifier_step r v.id w.id
     && all_zip (block_zip (is_extension_step r)) v.extensions w.extensions
 

@@ -1,6 +1,6 @@
 -- Syntax: what texts are made of. First the shapes that all definitions speak of; then the pieces of
--- a text, its blocks, its words, and the tree that a text spells. Restates UTS #35, section 3.
-use Rattle.std.specs.Prelude.{ℕ, Bool, List, ◌==◌, ◌≡◌, [], ◌∷◌, flat_map, ◌≢◌, false, cond, length, ◌-◌, ◌≤◌, ⊤, true, ◌&&◌, ◌||◌, ◌++◌, map, replicate, slice_index, Option, Some, None, Result, Ok, Err, if◌then◌else◌, codes, ◌+◌, ◌<◌, not, filter, IfSome, option_to_list}
+-- a text, its blocks, its words, and the parts that it spells. Restates UTS #35, section 3.
+use Rattle.std.specs.Prelude.{ℕ, Bool, List, ◌==◌, ◌≡◌, [], ◌∷◌, flat_map, ◌≢◌, false, cond, length, ◌-◌, ◌≤◌, ⊤, true, ◌&&◌, ◌||◌, ◌++◌, map, replicate, slice_index, Option, Some, None, Result, Ok, Err, if◌then◌else◌, codes, ◌<◌, not, filter, IfSome, option_to_list}
 use Rattle.std.specs.List.{slice_split, join_with_byte, list_any, AllByRecursion, list_all}
 use Rattle.std.specs.Char.{to_ascii_lowercase, is_ascii_alphabetic, is_ascii_digit, is_ascii_alphanumeric, to_ascii_uppercase}
 use Rattle.std.specs.Int.{is_in_range}
@@ -71,7 +71,7 @@ is_one_byte p = length p == 1
 -- the pieces before the first of one byte: a block ends there (UTS #35 3.2)
 abbrev pub front : List Text → List Text
 front [] = []
-front (p ∷ ps) = cond (is_one_byte p) [] (p ∷ front ps)
+front (p ∷ ps) = cond (length p == 1) [] (p ∷ front ps)
 
 -- A block is a piece of one byte, its singleton, and the pieces up to the next such piece; that of
 -- `x` takes all the rest (UTS #35 3.2, `pu_extensions`). Pieces before the first block are passed over.
@@ -105,17 +105,9 @@ first_piece (p ∷ ps) = p
 
 -- The kinds of words (UTS #35 3.1 and 3.2). Which lengths a language may have is a table.
 pub data Kind : Type 0 where
-  Language : (ℕ → Bool) → Kind
-  Script : Kind
-  Region : Kind
-  Variant : Kind
-  Subtag : Kind
-  UnicodeKey : Kind
-  TransformKey : Kind
-  Attribute : Kind
-  PrivateSubtag : Kind
-  SubdivisionSuffix : Kind
-  CurrencyType : Kind
+  Language : Table → Kind
+  Script Region Variant Subtag UnicodeKey TransformKey Attribute PrivateSubtag SubdivisionSuffix
+      CurrencyType : Kind
 
 -- Tables of the lengths of languages.
 
@@ -129,13 +121,9 @@ pub record IsTable (T : Table) : Type 0 where
 abbrev pub two_or_three : ℕ → Bool
 two_or_three n = is_in_range 2 3 n
 
--- the wide table: 2 to 8 letters, but not 4 (UTS #35 3.1, `unicode_language_subtag`)
-abbrev pub all_but_four : ℕ → Bool
-all_but_four n = is_in_range 2 3 n || is_in_range 5 8 n
-
--- the table of this library: the wide one (UTS #35 3.1)
+-- the wide table, which is that of this library: 2 to 8 letters, but not 4 (UTS #35 3.1)
 unfoldable pub languages : ℕ → Bool
-languages n = all_but_four n
+languages n = is_in_range 2 3 n || is_in_range 5 8 n
 
 -- Which pieces are words.
 
@@ -157,7 +145,7 @@ letters_or_digits p = list_all is_ascii_alphanumeric p
 unfoldable pub is_word : Kind → Text → Bool
 is_word (Language T) p = T (length p) && letters p
 is_word Script p = (length p == 4) && letters p
-is_word Region p = ((length p == 2) && letters p) || ((length p == 3) && digits p)
+is_word Region p = ((length p == 2) && letters p) || ((length p == 3) && list_all is_ascii_digit p)
 is_word Variant p = (is_in_range 5 8 (length p)
     || ((length p == 4) && is_ascii_digit (slice_index p 0))) && letters_or_digits p
 is_word Subtag p = is_in_range 2 8 (length p) && letters_or_digits p
@@ -285,19 +273,6 @@ pub record Transform : Type 0 where
   pub id : Option Identifier
   pub fields : Fields
 
--- what follows a singleton other than `x` (UTS #35 3.2, `extensions`); of another extension it is any pieces
-pub data Extension : Type 0 where
-  unicode : Unicode → Extension
-  transform : Transform → Extension
-  other : List Text → Extension
-
--- a whole text: an identifier, extensions with their singletons, and the private part with its own
--- (UTS #35 3.2, `unicode_locale_id`)
-pub record Written : Type 0 where
-  pub id : Identifier
-  pub extensions : List (ℕ × Extension)
-  pub private : Option Block
-
 -- How they are spelled: the pieces, in order.
 
 -- the pieces of an identifier, in the order of UTS #35 3.1: language, script, region, variants
@@ -321,28 +296,6 @@ optional_pieces (Some i) = identifier_pieces i
 -- the pieces after `t`: the identifier, then the fields (UTS #35 3.2, `transformed_extensions`)
 abbrev pub transform_pieces : Transform → List Text
 transform_pieces m = optional_pieces m.id ++ fields_pieces m.fields
-
--- the pieces after the singleton of an extension
-abbrev pub extension_pieces : Extension → List Text
-extension_pieces (unicode u) = unicode_pieces u
-extension_pieces (transform m) = transform_pieces m
-extension_pieces (other ps) = ps
-
--- a block: its singleton, and the pieces after that
-abbrev pub extension_block : ℕ × Extension → Block
-extension_block e = (e.0, extension_pieces e.1)
-
--- the private part is the last block (UTS #35 3.2, `unicode_locale_id`)
-abbrev pub blocks_of : Written → List Block
-blocks_of w = map extension_block w.extensions ++ option_to_list w.private
-
--- the pieces of a block: its singleton is one of one byte
-abbrev pub block_pieces : Block → List Text
-block_pieces b = (b.0 ∷ []) ∷ b.1
-
--- the pieces of the whole text; the singleton of a block is a piece of one byte
-abbrev pub spelling : Written → List Text
-spelling w = identifier_pieces w.id ++ flat_map block_pieces (blocks_of w)
 
 -- The rules that they follow.
 
@@ -371,17 +324,15 @@ IsKeyword f = IsWord UnicodeKey f.0 × AllByRecursion (IsWord Attribute) f.1
 abbrev pub IsField : Field → Type 0
 IsField f = IsWord TransformKey f.0 × AllByRecursion (IsWord Attribute) f.1 × (0 < length f.1)
 
--- attributes and keywords, one at least (UTS #35 3.2, `unicode_locale_extensions`)
+-- attributes and keywords (UTS #35 3.2, `unicode_locale_extensions`)
 pub record IsUnicode (u : Unicode) : Type 0 where
   pub attributes : AllByRecursion (IsWord Attribute) u.attributes
   pub keywords : AllByRecursion IsKeyword u.keywords
-  pub nonempty : 0 < length u.attributes + length u.keywords
 
--- perhaps an identifier, and fields, not both absent (UTS #35 3.2, `transformed_extensions`)
+-- perhaps an identifier, and fields (UTS #35 3.2, `transformed_extensions`)
 pub record IsTransform (T : Table) (m : Transform) : Type 0 where
   pub id : IfSome m.id (IsIdentifier T)
   pub fields : AllByRecursion IsField m.fields
-  pub nonempty : m.id ≡ None → 0 < length m.fields
 
 -- the words among the pieces, in lower case; the other pieces mean nothing (not in UTS #35: the Rust crate's rule)
 abbrev pub kept : List Text → List Text
@@ -392,28 +343,10 @@ pub record IsOther (ps : List Text) : Type 0 where
   pub lengths : AllByRecursion (λ p. is_in_range 2 8 (length p) ≡ true) ps
   pub nonempty : 0 < length (kept ps)
 
--- private words, one at least (UTS #35 3.2, `pu_extensions`)
-pub record IsPrivate (ps : List Text) : Type 0 where
-  pub words : AllByRecursion (IsWord PrivateSubtag) ps
-  pub nonempty : 0 < length ps
-
--- a letter or digit other than `t`, `u` and `x`, which have rules of their own (UTS #35 3.2)
+-- of a singleton in lower case: a letter or digit other than `t`, `u` and `x`, which have rules of their own (UTS #35 3.2)
 abbrev pub is_other_singleton : ℕ → Bool
 is_other_singleton c = is_ascii_alphanumeric c && not (((c == code_t) || (c == code_u)) || (c == code_x))
-
--- the extension follows the rule of its singleton, which is given in lower case (UTS #35 3.2, `extensions`)
-abbrev pub IsExtension : Table → ℕ → Extension → Type 0
-IsExtension T c (unicode u) = (c ≡ code_u) × IsUnicode u
-IsExtension T c (transform m) = (c ≡ code_t) × IsTransform T m
-IsExtension T c (other ps) = (is_other_singleton c ≡ true) × IsOther ps
 
 -- a singleton in lower case, of an extension or a block (UTS #35 3.2.1)
 abbrev pub singleton : {X : Type 0} → ℕ × X → ℕ
 singleton e = to_ascii_lowercase e.0
-
--- an identifier, extensions of different singletons, and perhaps a private part (UTS #35 3.2, `unicode_locale_id`)
-pub record IsWritten (T : Table) (w : Written) : Type 0 where
-  pub id : IsIdentifier T w.id
-  pub extensions : AllByRecursion (λ e. IsExtension T (singleton e) e.1) w.extensions
-  pub different : AllDifferent nat_cmp (map (λ e. singleton e) w.extensions)
-  pub private : IfSome w.private (λ e. (singleton e ≡ code_x) × IsPrivate e.1)

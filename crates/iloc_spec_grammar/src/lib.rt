@@ -4,23 +4,22 @@
 //! A text means at most one locale, or has exactly one fault. The normal text of what a text means is accepted, means
 //! the same, and no accepted text of that meaning is shorter; at most eight steps lead there from each accepted text.
 //! Each law is a function with an empty body, whose contract says it. `rewriting` has the laws of any number of steps,
-//! and plain programs that tell whether a step leads from one text to another.
+//! and plain programs that tell whether a step leads from one text to another. `models` has the laws of other ways to
+//! say the same: by trees, block by block, and by plain programs.
 //!
 //! It stands on std.
 #![tactic(auto)]
 
+pub mod models;
 pub mod rewriting;
 
-ghost use Rattle.std.specs.Prelude.{◌≡◌, ◌↔◌, ◌⊎◌, ℕ, ◌+◌, ◌≤◌, true, ◌||◌, List, [], ◌∷◌, ◌++◌, length, replicate, nat_lt, is_some, option_map, Some, if◌then◌else◌, Ok, Err, MatchResult, codes};
+ghost use Rattle.std.specs.Prelude.{◌≡◌, ◌↔◌, ◌⊎◌, ℕ, ◌+◌, ◌≤◌, true, ◌||◌, List, [], ◌∷◌, ◌++◌, length, replicate, nat_lt, is_some, option_map, Some, if◌then◌else◌, Ok, Err, MatchResult, codes, map};
 ghost use Rattle.std.specs.FinMap.{find, is_sorted};
 ghost use Rattle.std.specs.List.{list_any};
-ghost use Rattle.iloc_spec_grammar.specs.Syntax.{Text, Table, Block, code_t, code_u, code_x, pieces, join, dashes, ArePieces, Kind, Language, IsTable, two_or_three, all_but_four, languages, IsWord, is_word, normal, lower, word, word_cmp, is_same, EndsAt, greatest, Bounds, raw, wide_raw, narrow_raw, before_zero, Identifier, Fields, Unicode, Transform, Written, AllDifferent, HasWords, IsUnicode, IsTransform, IsWritten, identifier_pieces, unicode_pieces, transform_pieces, spelling, head};
-ghost use Rattle.iloc_spec_grammar.specs.Reading.{front_of, after_front, identifier_of, unicode_of, transform_of, written_of};
+ghost use Rattle.iloc_spec_grammar.specs.Syntax.{Text, Table, Block, code_t, code_u, code_x, pieces, join, dashes, ArePieces, Kind, Language, IsTable, two_or_three, languages, IsWord, is_word, normal, lower, word, word_cmp, is_same, EndsAt, greatest, Bounds, raw, wide_raw, narrow_raw, before_zero, Identifier, Fields, Unicode, Transform, AllDifferent, HasWords, identifier_pieces, unicode_pieces, transform_pieces, head, IsUnicode, IsTransform};
 ghost use Rattle.iloc_spec_grammar.specs.Meaning.{map_of, set_of, Locale, Means, IdentifierMeans, Fault, InvalidLanguage, InvalidSubtag, InvalidExtension, DuplicatedExtension, HasFault, HasIdentifierFault};
-ghost use Rattle.iloc_spec_grammar.specs.Computing.{identifier_result, locale_result};
 ghost use Rattle.iloc_spec_grammar.specs.Examples.{Normalises, IsRefused, NormalisesIdentifier, IsRefusedIdentifier};
-ghost use Rattle.iloc_spec_grammar.specs.Values.{Reordered, keys_differ, TextStep, Chain, IdentifierTextStep, IdentifierChain, LeadToOne, IsNormal, IsAscending, IsIdentifierValue, IsValue, IsWellFormed, lower_identifier, spelled_fields, printed, text, unicode_spelling, transform_spelling, other_spelling, private_spelling, extensions_spelling, identifier_text};
-ghost use Rattle.iloc_spec_grammar.specs.ByBlocks.{MeansByBlocks};
+ghost use Rattle.iloc_spec_grammar.specs.Values.{Reordered, AreWellFormed, TextStep, IdentifierTextStep, Leads, LeadToOne, IsNormal, IsAscending, IsIdentifierValue, IsValue, IsWellFormed, lower_identifier, spelled_fields, text, unicode_spelling, transform_spelling, other_spelling, private_spelling, extensions_spelling, identifier_text};
 
 /// Each text has exactly one list of pieces.
 #[tactic(auto, using(crate::proofs::PiecesLaws::pieces_are, crate::proofs::PiecesLaws::pieces_unique))]
@@ -63,11 +62,10 @@ pub fn raw_forms()
 {}
 
 /// Both tables are tables, the wide one has each length of the narrow one, and they end at eight and at three.
-#[tactic(auto, using(crate::proofs::RawLaws::narrow_table, crate::proofs::RawLaws::wide_table, crate::proofs::RawLaws::languages_table, crate::proofs::RawLaws::narrow_in_wide, crate::proofs::RawLaws::wide_ends, crate::proofs::RawLaws::narrow_ends))]
+#[tactic(auto, using(crate::proofs::RawLaws::narrow_table, crate::proofs::RawLaws::languages_table, crate::proofs::RawLaws::narrow_in_wide, crate::proofs::RawLaws::wide_ends, crate::proofs::RawLaws::narrow_ends))]
 pub fn tables()
     ensures narrow { IsTable two_or_three }
-    ensures wide { IsTable all_but_four }
-    ensures ours { IsTable languages }
+    ensures wide { IsTable languages }
     ensures wider { (n : ℕ) → two_or_three n ≡ true → languages n ≡ true }
     ensures wide_ends { EndsAt 8 languages }
     ensures narrow_ends { EndsAt 3 two_or_three }
@@ -107,11 +105,20 @@ pub fn sets()
         → length (set_of ws) ≡ length ws }
 {}
 
-/// The text of a well-formed value means the value; so the normal text of what a text means has the same meaning.
-#[tactic(auto, using(crate::proofs::ReadBack::reads_back, crate::proofs::Corollaries::means_again))]
+/// A value is well-formed, by what its text means, exactly if its extensions pass the tests of `AreWellFormed`; so too over each table.
+pub fn well_formed()
+    ensures tests { (M : Locale) → IsValue languages M
+        → IsWellFormed M ↔ AreWellFormed M.extensions }
+    ensures each_table { (T : Table) → IsTable T → (M : Locale) → IsValue T M
+        → Means T (text M) M ↔ AreWellFormed M.extensions }
+{}
+
+/// The text of a well-formed value means the value, over each table; so the normal text of what a text means has the same meaning.
 pub fn reads_back()
-    ensures again { (T : Table) (t : Text) (M : Locale) → Means T t M → Means T (text M) M }
-    ensures back { (T : Table) (M : Locale) → IsValue T M → IsWellFormed M → Means T (text M) M }
+    ensures again { (T : Table) → IsTable T → (t : Text) (M : Locale) → Means T t M
+        → Means T (text M) M }
+    ensures back { (T : Table) → IsTable T → (M : Locale) → IsValue T M → IsWellFormed M
+        → Means T (text M) M }
 {}
 
 /// A text means one value at most.
@@ -132,11 +139,13 @@ pub fn accepted_or_one_fault()
 /// What is read is a well-formed value.
 pub fn read_is_well_formed()
     ensures value { (T : Table) (t : Text) (M : Locale) → Means T t M → IsValue T M }
-    ensures well_formed { (T : Table) (t : Text) (M : Locale) → Means T t M → IsWellFormed M }
+    ensures well_formed { (T : Table) → IsTable T → (t : Text) (M : Locale) → Means T t M
+        → IsWellFormed M }
+    ensures tests { (T : Table) (t : Text) (M : Locale) → Means T t M
+        → AreWellFormed M.extensions }
 {}
 
 /// A step keeps the meaning and does not lengthen the text.
-#[tactic(auto, using(crate::proofs::CaseLaws::text_step_means, crate::proofs::CaseLaws::text_step_length))]
 pub fn steps()
     ensures mean { (T : Table) → IsTable T → (t u : Text) (M : Locale) → TextStep T t u
         → Means T t M → Means T u M }
@@ -145,7 +154,8 @@ pub fn steps()
 
 /// At most eight steps lead from each accepted text to the printed one, which no text of its meaning is shorter than; two accepted texts mean the same exactly if such steps lead both to one text.
 pub fn chain()
-    ensures steps { (T : Table) (t : Text) (M : Locale) → Means T t M → Chain T 8 t (text M) }
+    ensures steps { (T : Table) (t : Text) (M : Locale) → Means T t M
+        → Leads (TextStep T) 8 t (text M) }
     ensures shortest { (T : Table) (t : Text) (M : Locale) → Means T t M
         → length (text M) ≤ length t }
     ensures same { (T : Table) → IsTable T → (t u : Text) (L M : Locale) → Means T t L → Means T u M
@@ -153,7 +163,6 @@ pub fn chain()
 {}
 
 /// Over a wider table of languages each word, identifier and text keeps its meaning: what the narrow table accepts, this library accepts with the same locale, and so with the same normal text.
-#[tactic(auto, using(crate::proofs::WiderTables::language, crate::proofs::WiderTables::identifier_means_wider, crate::proofs::WiderTables::means_wider, crate::proofs::WiderTables::means_ours))]
 pub fn wider()
     ensures words { (T U : Table) → ((n : ℕ) → T n ≡ true → U n ≡ true) → (p : Text)
         → IsWord (Language T) p → IsWord (Language U) p }
@@ -164,38 +173,12 @@ pub fn wider()
     ensures ours { (t : Text) (M : Locale) → Means two_or_three t M → Means languages t M }
 {}
 
-/// A text means a value as a whole exactly if it means it block by block.
-pub fn by_blocks()
-    ensures { (T : Table) → IsTable T → (t : Text) (M : Locale)
-        → Means T t M ↔ MeansByBlocks T t M }
-{}
-
 /// Printing is injective on well-formed values, and equal printed texts are equal meanings.
 pub fn printing()
-    ensures injective { (T : Table) → IsTable T → (L M : Locale) → IsValue T L → IsWellFormed L
-        → IsValue T M → IsWellFormed M → text L ≡ text M → L ≡ M }
+    ensures injective { (L M : Locale) → IsWellFormed L → IsWellFormed M → text L ≡ text M
+        → L ≡ M }
     ensures same { (T : Table) → IsTable T → (t u : Text) (L M : Locale) → Means T t L → Means T u M
         → (L ≡ M) ↔ (text L ≡ text M) }
-{}
-
-/// Readings of pieces from the left give back what is spelled and follows the rules, and lose no piece.
-pub fn whole_readings()
-    ensures front { (T : Table) (i : Identifier) → HasWords T i
-        → front_of (identifier_pieces i) ≡ i }
-    ensures front_pieces { (p : Text) (ps : List Text)
-        → identifier_pieces (front_of (p ∷ ps)) ++ after_front (p ∷ ps) ≡ p ∷ ps }
-    ensures identifier { (T : Table) (i : Identifier) → HasWords T i
-        → identifier_of (identifier_pieces i) ≡ i }
-    ensures identifier_whole { (p : Text) (ps : List Text)
-        → identifier_pieces (identifier_of (p ∷ ps)) ≡ p ∷ ps }
-    ensures unicode { (u : Unicode) → IsUnicode u → unicode_of (unicode_pieces u) ≡ u }
-    ensures unicode_whole { (ps : List Text) → unicode_pieces (unicode_of ps) ≡ ps }
-    ensures transform { (T : Table) (m : Transform) → IsTransform T m
-        → transform_of (transform_pieces m) ≡ m }
-    ensures transform_whole { (ps : List Text) → transform_pieces (transform_of ps) ≡ ps }
-    ensures written { (T : Table) → IsTable T → (w : Written) → IsWritten T w
-        → written_of (spelling w) ≡ w }
-    ensures written_whole { (p : Text) (ps : List Text) → spelling (written_of (p ∷ ps)) ≡ p ∷ ps }
 {}
 
 /// What is read as an identifier is a value, and the text of a value means it; so texts of identifiers mean the same exactly if the texts of their meanings are equal, and the text of a meaning is its own.
@@ -213,7 +196,6 @@ pub fn identifier_texts()
 {}
 
 /// A step in the case of letters or in the order of the variants keeps the meaning and the length of an identifier's text.
-#[tactic(auto, using(crate::proofs::IdentifierTexts::identifier_text_step_means, crate::proofs::IdentifierTexts::identifier_text_step_length))]
 pub fn identifier_steps()
     ensures mean { (T : Table) (t u : Text) (i : Identifier) → IdentifierTextStep T t u
         → IdentifierMeans T (pieces t) i → IdentifierMeans T (pieces u) i }
@@ -223,7 +205,7 @@ pub fn identifier_steps()
 /// At most two steps lead from each identifier's text to the text of its meaning, so all texts of a meaning are as long; two mean the same exactly if such steps lead both to one text.
 pub fn identifier_chain()
     ensures steps { (T : Table) (t : Text) (i : Identifier) → IdentifierMeans T (pieces t) i
-        → IdentifierChain T 2 t (identifier_text i) }
+        → Leads (IdentifierTextStep T) 2 t (identifier_text i) }
     ensures long { (T : Table) (t : Text) (i : Identifier) → IdentifierMeans T (pieces t) i
         → length (identifier_text i) ≡ length t }
     ensures same { (T : Table) (t u : Text) (i j : Identifier) → IdentifierMeans T (pieces t) i
@@ -255,10 +237,8 @@ pub fn joins()
 {}
 
 /// The text of a locale is the join of its parts: its identifier, and each other part after a hyphen; an empty part gives nothing.
-#[tactic(auto, using(crate::proofs::PartTexts::printed_pieces, crate::proofs::PartTexts::text_of_parts, crate::proofs::PartTexts::unicode_spelling_is, crate::proofs::PartTexts::transform_spelling_is, crate::proofs::PartTexts::other_spelling_is, crate::proofs::PartTexts::private_spelling_is, crate::proofs::PartTexts::private_spelling_none))]
+#[tactic(auto, using(crate::proofs::PartTexts::text_of_parts, crate::proofs::PartTexts::unicode_spelling_is, crate::proofs::PartTexts::transform_spelling_is, crate::proofs::PartTexts::other_spelling_is, crate::proofs::PartTexts::private_spelling_is, crate::proofs::PartTexts::private_spelling_none))]
 pub fn texts_of_parts()
-    ensures pieces { (M : Locale)
-        → spelling (printed M) ≡ identifier_pieces M.id ++ extensions_spelling M.extensions }
     ensures text { (M : Locale)
         → text M ≡ identifier_text M.id ++ dashes (extensions_spelling M.extensions) }
     ensures unicode { (u : Unicode)
@@ -275,23 +255,6 @@ pub fn texts_of_parts()
     ensures private { (w : Text) (ws : List Text)
         → private_spelling (w ∷ ws) ≡ (code_x ∷ []) ∷ (w ∷ ws) }
     ensures no_private { private_spelling [] ≡ [] }
-{}
-
-/// The plain programs answer the meaning and the fault of a text.
-pub fn computed()
-    ensures answer { (T : Table) → IsTable T → (t : Text)
-        → MatchResult (locale_result T t) (Means T t) (HasFault T t) }
-    ensures identifier_answer { (T : Table) (t : Text)
-        → MatchResult (identifier_result T (pieces t)) (IdentifierMeans T (pieces t))
-        (HasIdentifierFault T (pieces t)) }
-    ensures means { (T : Table) → IsTable T → (t : Text) (M : Locale)
-        → (locale_result T t ≡ Ok M) ↔ Means T t M }
-    ensures fault { (T : Table) → IsTable T → (t : Text) (f : Fault)
-        → (locale_result T t ≡ Err f) ↔ HasFault T t f }
-    ensures identifier { (T : Table) (t : Text) (i : Identifier)
-        → (identifier_result T (pieces t) ≡ Ok i) ↔ IdentifierMeans T (pieces t) i }
-    ensures identifier_fault { (T : Table) (t : Text) (f : Fault)
-        → (identifier_result T (pieces t) ≡ Err f) ↔ HasIdentifierFault T (pieces t) f }
 {}
 
 /// Worked examples: texts with the normal texts of their meanings, and texts that are refused.
@@ -351,8 +314,8 @@ pub fn by_example()
     ensures identifier_with_extension { IsRefusedIdentifier (codes "en-u-ca") InvalidSubtag }
     ensures identifier_variant_twice { IsRefusedIdentifier
         (codes "en-macos-posix-MACOS") InvalidSubtag }
-    ensures same_key_in_two_cases { keys_differ
-        ((codes "ca", codes "foo" ∷ []) ∷ (codes "CA", codes "bar" ∷ []) ∷ []) → ⊥ }
+    ensures same_key_in_two_cases { AllDifferent word_cmp
+        (map (λ k. lower k) (codes "ca" ∷ codes "CA" ∷ [])) → ⊥ }
     ensures one_true_stays { TextStep languages (codes "und-t-m0-true-true")
         (codes "und-t-m0-true") }
 {}

@@ -5,29 +5,41 @@
 //! true exactly if the relation holds, of lists, of parts, of whole written locales, and of texts.
 
 ghost use Rattle.std.specs.Prelude.{◌≡◌, ◌↔◌, ℕ, ◌≤◌, Bool, List, length, codes, IsTrue, true, false};
-ghost use Rattle.iloc_spec_grammar.specs.Syntax.{Text, Table, Field, pieces, IsTable, languages, Identifier, Extension, Written};
+ghost use Rattle.iloc_spec_grammar.specs.Syntax.{Text, Table, Field, pieces, IsTable, languages, Identifier};
+ghost use Rattle.iloc_spec_grammar.specs.Tree.{Extension, Written};
 ghost use Rattle.iloc_spec_grammar.specs.Meaning.{Locale, Means, IdentifierMeans};
-ghost use Rattle.iloc_spec_grammar.specs.Values.{TextStep, Chain, IdentifierTextStep, IdentifierChain, LeadToOne, Reordered, Without, WithoutRepeats, LessTrue, Rule, IdentifierStep, ExtensionStep, Step};
+ghost use Rattle.iloc_spec_grammar.specs.Values.{TextStep, IdentifierTextStep, Leads, LeadToOne, Reordered};
+ghost use Rattle.iloc_spec_grammar.specs.TreeSteps.{TreeWithout, WithoutRepeats, TreeLessTrue, TreeRule, TreeIdentifierStep, ExtensionStep, Step, TreeTextStep, TreeIdentifierTextStep};
 ghost use Rattle.iloc_spec_grammar.specs.StepTests.{DecidesEquality, is_reordered, is_without, is_without_repeats, has_less_true, is_identifier_step, is_extension_step, is_step, is_text_step, is_identifier_text_step};
 
 /// Any number of steps keeps the meaning and does not lengthen the text; two accepted texts mean the same exactly if some number of steps leads both to one text.
 pub fn any_steps()
-    ensures mean { (T : Table) → IsTable T → (n : ℕ) (t u : Text) (M : Locale) → Chain T n t u
-        → Means T t M → Means T u M }
-    ensures shorten { (T : Table) (n : ℕ) (t u : Text) → Chain T n t u → length u ≤ length t }
+    ensures mean { (T : Table) → IsTable T → (n : ℕ) (t u : Text) (M : Locale)
+        → Leads (TextStep T) n t u → Means T t M → Means T u M }
+    ensures shorten { (T : Table) (n : ℕ) (t u : Text) → Leads (TextStep T) n t u
+        → length u ≤ length t }
     ensures same { (T : Table) → IsTable T → (t u : Text) (L M : Locale) → Means T t L → Means T u M
         → (L ≡ M) ↔ ((n : ℕ) × LeadToOne (TextStep T) n t u) }
 {}
 
 /// The same for identifiers, by steps in the case of letters and in the order of variants.
 pub fn any_identifier_steps()
-    ensures mean { (T : Table) (n : ℕ) (t u : Text) (i : Identifier) → IdentifierChain T n t u
-        → IdentifierMeans T (pieces t) i → IdentifierMeans T (pieces u) i }
-    ensures long { (T : Table) (n : ℕ) (t u : Text) → IdentifierChain T n t u
+    ensures mean { (T : Table) (n : ℕ) (t u : Text) (i : Identifier)
+        → Leads (IdentifierTextStep T) n t u → IdentifierMeans T (pieces t) i
+        → IdentifierMeans T (pieces u) i }
+    ensures long { (T : Table) (n : ℕ) (t u : Text) → Leads (IdentifierTextStep T) n t u
         → length u ≡ length t }
     ensures same { (T : Table) (t u : Text) (i j : Identifier) → IdentifierMeans T (pieces t) i
         → IdentifierMeans T (pieces u) j
         → (i ≡ j) ↔ ((n : ℕ) × LeadToOne (IdentifierTextStep T) n t u) }
+{}
+
+/// A step of a text, by its identifier and its blocks, is one of the tree that it spells.
+pub fn same_steps()
+    ensures texts { (T : Table) → IsTable T → (t u : Text) → TextStep T t u ↔ TreeTextStep T t u }
+    ensures tree { (T : Table) (t u : Text) → TextStep T t u → TreeTextStep T t u }
+    ensures identifiers { (T : Table) (t u : Text)
+        → IdentifierTextStep T t u ↔ TreeIdentifierTextStep T t u }
 {}
 
 /// One worked example of each step, and two texts that no step joins.
@@ -43,7 +55,7 @@ pub fn by_example()
     ensures trues { TextStep languages (codes "en-u-ca-foo-true") (codes "en-u-ca-foo") }
     ensures dropped_pieces { TextStep languages (codes "en-a-foo-!!-bar") (codes "en-a-foo-bar") }
     ensures same_key_stays_in_order { (n : ℕ)
-        → Chain languages n (codes "en-u-ca-foo-CA-bar") (codes "en-u-CA-bar-ca-foo") → ⊥ }
+        → Leads (TextStep languages) n (codes "en-u-ca-foo-CA-bar") (codes "en-u-CA-bar-ca-foo") → ⊥ }
 {}
 
 /// What a step does to a list is what the tests of lists say.
@@ -52,7 +64,7 @@ pub fn tests_of_lists<X>()
         → IsTrue (is_reordered same xs ys) ↔ Reordered xs ys }
     ensures without { (same : X → X → Bool) → DecidesEquality same
         → (test : X → Bool) (xs ys : List X)
-        → IsTrue (is_without same test xs ys) ↔ Without test xs ys }
+        → IsTrue (is_without same test xs ys) ↔ TreeWithout test xs ys }
     ensures without_repeats { (same : X → X → Bool) → DecidesEquality same
         → (key : X → Text) (seen : List Text) (xs ys : List X)
         → IsTrue (is_without_repeats same key seen xs ys) ↔ WithoutRepeats key seen xs ys }
@@ -60,10 +72,10 @@ pub fn tests_of_lists<X>()
 
 /// The same for the parts of a written locale and for the whole.
 pub fn tests_of_parts()
-    ensures less_true { (f g : Field) → IsTrue (has_less_true f g) ↔ LessTrue f g }
-    ensures identifier { (r : Rule) (i j : Identifier)
-        → IsTrue (is_identifier_step r i j) ↔ IdentifierStep r i j }
-    ensures extension { (r : Rule) (e f : Extension)
+    ensures less_true { (f g : Field) → IsTrue (has_less_true f g) ↔ TreeLessTrue f g }
+    ensures identifier { (r : TreeRule) (i j : Identifier)
+        → IsTrue (is_identifier_step r i j) ↔ TreeIdentifierStep r i j }
+    ensures extension { (r : TreeRule) (e f : Extension)
         → IsTrue (is_extension_step r e f) ↔ ExtensionStep r e f }
     ensures written { (v w : Written) → IsTrue (is_step v w) ↔ Step v w }
 {}

@@ -1,9 +1,14 @@
 -- The rule of a block, by its singleton.
-use Rattle.std.proofs.Common.{◌≡◌, ◌↔◌, inl, inr, ℕ, Bool, true, List, sym, refl, subst, arith}
-use Rattle.iloc_spec_grammar.specs.Syntax.{Unicode, Transform, Extension, unicode, transform, other, extension_pieces, IsExtension, IsOther, IsPrivate, is_other_singleton, singleton}
-use Rattle.iloc_spec_grammar.specs.Meaning.{normal_unicode, normal_transform, IsBlock}
+use Rattle.std.proofs.Common.{◌≡◌, ◌≤◌, ◌↔◌, inl, inr, ℕ, Bool, true, List, [], ◌∷◌, sym, refl, subst, arith}
+use Rattle.std.specs.Char.{is_ascii_alphanumeric, to_ascii_lowercase}
+use Rattle.std.proofs.lemmas.Bool.Decides.{nat_tests}
+use Rattle.iloc_spec_grammar.specs.Syntax.{Unicode, Transform, IsOther, is_other_singleton, singleton}
+use Rattle.iloc_spec_grammar.specs.Tree.{Extension, unicode, transform, other, extension_pieces, IsExtension, IsPrivate, IsBlock}
+use Rattle.iloc_spec_grammar.specs.Meaning.{normal_unicode, normal_transform, AreBlocks}
 use Rattle.iloc_spec_grammar.specs.ByBlocks.{UnicodeMeans, TransformMeans}
 use Rattle.iloc_spec_grammar.proofs.Singletons.{no_u, no_t, no_x}
+use Rattle.iloc_spec_grammar.proofs.SameMeaning.{good_blocks, blocks_spelled}
+use Rattle.iloc_spec_parts.specs.Fronts as fronts
 
 module _ (T : ℕ → Bool) (b : ℕ × List (List ℕ)) where
   pub unicode_rule : singleton b ≡ 117 → IsBlock T b ↔ ((u : Unicode) × UnicodeMeans b.1 u)
@@ -37,3 +42,29 @@ module _ (T : ℕ → Bool) (b : ℕ × List (List ℕ)) where
       at (unicode u) h s = absurd (no_u _ h.0 e)
       at (transform m) h s = absurd (no_t _ h.0 e)
       at (other ps) h s = subst IsOther (sym s) h.1
+
+-- the rule of a block that stands alone
+
+abbrev pub its_own : {T : ℕ → Bool} {X : Type 0} (b : ℕ × List (List ℕ)) → is_ascii_alphanumeric b.0 ≡ true → IsBlock T b ↔ X → AreBlocks T (b ∷ []) ↔ X
+its_own b l rule = (λ a. rule.0 (good_blocks a.1).0.2, λ x. blocks_spelled ((l, refl, rule.1 x), tt))
+
+letter_of : (b : ℕ × List (List ℕ)) (q : ℕ) → singleton b ≡ q → (97 ≤ q) → (q ≤ 122) → is_ascii_alphanumeric b.0 ≡ true
+letter_of b q e l m = grind (arith, nat_tests)
+
+other_letter : (c : ℕ) → is_other_singleton (to_ascii_lowercase c) ≡ true → is_ascii_alphanumeric c ≡ true
+other_letter c h = grind (arith, nat_tests)
+
+module _ (T : ℕ → Bool) (b : ℕ × List (List ℕ)) where
+  pub unicode_alone : singleton b ≡ 117 → AreBlocks T (b ∷ []) ↔ ((u : Unicode) × UnicodeMeans b.1 u)
+  unicode_alone e = its_own b (letter_of b 117 e (omega arith) (omega arith)) (unicode_rule T b e)
+
+  pub transform_alone : singleton b ≡ 116 → AreBlocks T (b ∷ []) ↔ ((m : Transform) × TransformMeans T b.1 m)
+  transform_alone e = its_own b (letter_of b 116 e (omega arith) (omega arith)) (transform_rule T b e)
+
+  pub private_alone : singleton b ≡ 120 → AreBlocks T (b ∷ []) ↔ fronts.IsPrivate b.1
+  private_alone e =
+      let alone = its_own b (letter_of b 120 e (omega arith) (omega arith)) (private_rule T b e) in
+      (λ a. let h = alone.0 a in record { words = h.words; nonempty = h.nonempty }, λ h. alone.1 (record { words = h.words; nonempty = h.nonempty }))
+
+  pub other_alone : is_other_singleton (singleton b) ≡ true → AreBlocks T (b ∷ []) ↔ IsOther b.1
+  other_alone e = its_own b (other_letter b.0 e) (other_rule T b e)

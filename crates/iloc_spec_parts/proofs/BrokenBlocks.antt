@@ -1,15 +1,14 @@
 -- Blocks that break their rule before anything is kept of them.
-use Rattle.std.proofs.Common.{◌≡◌, ℕ, ◌≤◌, Bool, true, false, List, [], ◌∷◌, ◌++◌, length, map, refl, sym, ap, ◌∙◌, subst, arith, Option, true≢false}
+use Rattle.std.proofs.Common.{◌≡◌, ℕ, ◌≤◌, Bool, true, false, cond, List, [], ◌∷◌, length, map, refl, sym, ap, ◌∙◌, subst, arith, true≢false}
 use Rattle.std.specs.List.{AllByRecursion}
 use Rattle.std.proofs.lemmas.Bool.{and_parts, false_from_ne_true, not-true}
-use Rattle.iloc_spec_grammar.specs.Syntax.{Language, UnicodeKey, TransformKey, Attribute, is_word, IsWord, lower, Identifier, kept, singleton, is_other_singleton, first_piece}
+use Rattle.iloc_spec_grammar.specs.Syntax.{Language, UnicodeKey, TransformKey, Attribute, is_word, IsWord, lower, kept, singleton, is_other_singleton, first_piece}
 use Rattle.iloc_spec_grammar.specs.Meaning.{set_of, normal_fields, normal_values}
-use Rattle.iloc_spec_grammar.specs.Reading.{is_two, rest_of, starts_block}
-use Rattle.iloc_spec_grammar.proofs.Readings.{long_attribute, language_no_key}
+use Rattle.iloc_spec_grammar.specs.Reading.{is_two, rest_of, after_front}
+use Rattle.iloc_spec_grammar.proofs.Readings.{language_no_key}
 use Rattle.iloc_spec_grammar.proofs.Singletons.{no_u, no_t, no_x}
-use Rattle.iloc_spec_parts.specs.Fronts.{attributes_front, after_attributes, is_bad_key, FrontRead, absent, present, BeginsField, has_other_length, other_front, keywords_kept}
+use Rattle.iloc_spec_parts.specs.Fronts.{attributes_front, after_attributes, is_bad_key, BeginsField, has_other_length, other_front, keywords_kept}
 use Rattle.iloc_spec_parts.proofs.FrontLaws.{not_two_bytes}
-use Rattle.iloc_spec_parts.proofs.TransformLaws.{front_language, no_key_empty}
 use Rattle.iloc_spec_parts.specs.Inline.{IsShortUnicode, IsShortTransform, IsShortOther, IsShortBlock}
 
 -- after `u`
@@ -32,34 +31,21 @@ short_at p qs two bad =
       values = subst (AllByRecursion (λ f. length (normal_values f.1) ≤ 4)) (sym keys) tt;
     }
 
-pub bad_unicode : (ps rest : List (List ℕ)) → is_bad_key (first_piece ps) ≡ true → IsShortUnicode (ps ++ rest)
-bad_unicode [] rest h = absurd (true≢false (sym h))
-bad_unicode (p ∷ ps) rest h = let parts = and_parts _ _ h in short_at p (ps ++ rest) parts.0 (not-true _ parts.1)
+pub bad_unicode : (ps : List (List ℕ)) → is_bad_key (first_piece ps) ≡ true → IsShortUnicode ps
+bad_unicode [] h = absurd (true≢false (sym h))
+bad_unicode (p ∷ ps) h = let parts = and_parts _ _ h in short_at p ps parts.0 (not-true _ parts.1)
 
 -- after `t`
 
-no_value : (ps rest : List (List ℕ)) → is_word Attribute (first_piece ps) ≡ false → starts_block rest ≡ true → is_word Attribute (first_piece (ps ++ rest)) ≡ false
-no_value (p ∷ ps) rest h s = h
-no_value [] [] h s = h
-no_value [] (q ∷ qs) h s = false_from_ne_true _ (λ w. true≢false (sym s ∙ long_attribute q w))
+key_is_no_language : (T : ℕ → Bool) (k : List ℕ) → IsWord TransformKey k → is_word (Language T) k ≡ false
+key_is_no_language T k key = false_from_ne_true _ (λ l. true≢false (sym key ∙ language_no_key T k l))
 
-key_is_no_language : (T : ℕ → Bool) (k : List ℕ) → IsWord TransformKey k → IsWord (Language T) k → ⊥
-key_is_no_language T k key l = true≢false (sym key ∙ language_no_key T k l)
-
-module _ {T : ℕ → Bool} (k : List ℕ) (ps rest : List (List ℕ)) (key : IsWord TransformKey k) (none : is_word Attribute (first_piece ps) ≡ false) (s : starts_block rest ≡ true) where
-  no_field : (o : Option Identifier) (middle : List (List ℕ)) → FrontRead T (k ∷ (ps ++ rest)) o middle → BeginsField middle → ⊥
-  no_field _ _ (absent e) b = true≢false (sym b.1 ∙ no_value ps rest none s)
-  no_field _ _ (present {i = i} {rest = more} g f) b = key_is_no_language T k key (front_language (k ∷ (ps ++ rest)) i more f.words f.spelled)
-
-  short_transform : IsShortTransform T (k ∷ (ps ++ rest))
-  short_transform = record {
-    variants = λ i more f. absurd (key_is_no_language T k key (front_language (k ∷ (ps ++ rest)) i more f.words f.spelled));
-    no_field = no_field;
-  }
-
-pub bad_transform : {T : ℕ → Bool} (ps rest : List (List ℕ)) → IsWord TransformKey (first_piece ps) → is_word Attribute (first_piece (rest_of ps)) ≡ false → starts_block rest ≡ true → IsShortTransform T (ps ++ rest)
-bad_transform [] rest key none s = absurd (true≢false (sym key ∙ no_key_empty))
-bad_transform (k ∷ ps) rest key none s = short_transform k ps rest key none s
+pub bad_transform : {T : ℕ → Bool} (ps : List (List ℕ)) → IsWord TransformKey (first_piece ps) → is_word Attribute (first_piece (rest_of ps)) ≡ false → IsShortTransform T ps
+bad_transform {T = T} ps key none =
+    let language = key_is_no_language T (first_piece ps) key in record {
+      variants = λ l. absurd (true≢false (sym l ∙ language));
+      no_field = λ r b. true≢false (sym (subst (λ t. BeginsField (cond t (after_front ps) ps)) language b).1 ∙ none);
+    }
 
 -- after another singleton
 
@@ -78,7 +64,7 @@ bad_other ps none = record {
 module _ {T : ℕ → Bool} (b : ℕ × List (List ℕ)) where
   pub broken_unicode : singleton b ≡ 117 → is_bad_key (first_piece b.1) ≡ true → IsShortBlock T b
   broken_unicode e h = record {
-    unicode = λ s rest r. bad_unicode b.1 rest h;
+    unicode = λ s. bad_unicode b.1 h;
     transform = λ s. absurd (omega arith);
     private = λ s. absurd (omega arith);
     other = λ o. absurd (no_u _ e o);
@@ -87,7 +73,7 @@ module _ {T : ℕ → Bool} (b : ℕ × List (List ℕ)) where
   pub broken_transform : singleton b ≡ 116 → IsWord TransformKey (first_piece b.1) → is_word Attribute (first_piece (rest_of b.1)) ≡ false → IsShortBlock T b
   broken_transform e key none = record {
     unicode = λ s. absurd (omega arith);
-    transform = λ s rest r. bad_transform b.1 rest key none r;
+    transform = λ s. bad_transform b.1 key none;
     private = λ s. absurd (omega arith);
     other = λ o. absurd (no_t _ e o);
   }

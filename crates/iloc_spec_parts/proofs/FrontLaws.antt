@@ -4,7 +4,8 @@ use Rattle.std.specs.List.{AllByRecursion, list_any}
 use Rattle.std.proofs.lemmas.Bool.{or_parts, or_cases, not-false, cond_both, false_from_ne_true, eqb-true, ne_eqb, ltb-true}
 use Rattle.std.proofs.lemmas.List.{nil_from_length}
 use Rattle.std.proofs.lemmas.Bool.Decides.{nat_tests}
-use Rattle.iloc_spec_grammar.specs.Syntax.{UnicodeKey, Attribute, is_word, IsWord, lower, Fields, Unicode, fields_pieces, unicode_pieces, IsKeyword, IsOther, IsUnicode, kept, front}
+use Rattle.iloc_spec_grammar.specs.Syntax.{UnicodeKey, Attribute, is_word, IsWord, lower, Fields, Unicode, fields_pieces, unicode_pieces, IsKeyword, IsUnicode, IsOther, kept, front}
+use Rattle.iloc_spec_grammar.specs.Tree.{IsUnicodeBlock}
 use Rattle.iloc_spec_grammar.specs.Meaning.{set_of, normal_fields, normal_unicode, Fault, InvalidExtension}
 use Rattle.iloc_spec_grammar.specs.ByBlocks.{UnicodeMeans, OtherMeans}
 use Rattle.iloc_spec_grammar.specs.Reading.{EndsBefore, starts_block, from_block, is_two, fields_from}
@@ -14,9 +15,10 @@ use Rattle.iloc_spec_grammar.proofs.ReadBack.{all_append}
 use Rattle.iloc_spec_grammar.proofs.Readings.{IsLong, long_attribute, long_between, keywords_pass, fields_read}
 use Rattle.iloc_spec_grammar.proofs.ReadingLaws.{front-from_block, from_block_starts, all_while}
 use Rattle.iloc_spec_grammar.specs.Computing.{is_other, is_private}
-use Rattle.iloc_spec_grammar.proofs.RuleTests.{tests_other, tests_private, tests_not}
+use Rattle.iloc_spec_grammar.proofs.RuleTests.{Tests, tests_other, tests_not}
+use Rattle.iloc_spec_grammar.proofs.RuleTests as rules
 use Rattle.iloc_spec_parts.specs.Readers.{IsReader, AgreesWithBlocks}
-use Rattle.iloc_spec_parts.specs.Fronts.{attributes_front, after_attributes, is_keyword_piece, keywords_front, after_keywords, is_bad_key, KeywordsRead, KeywordsFault, bad_key, UnicodeRead, UnicodeFault, in_keywords, both_absent, has_other_length, other_front, OtherRead, OtherFault, no_word, PrivateRead, PrivateFault, not_private, keywords_at, keywords_result, with_attributes, unicode_result, other_result, private_result}
+use Rattle.iloc_spec_parts.specs.Fronts.{attributes_front, after_attributes, is_keyword_piece, keywords_front, after_keywords, is_bad_key, KeywordsRead, KeywordsFault, bad_key, UnicodeRead, UnicodeFault, in_keywords, both_absent, has_other_length, other_front, OtherRead, OtherFault, no_word, IsPrivate, PrivateRead, PrivateFault, not_private, keywords_at, keywords_result, with_attributes, unicode_result, other_result, private_result}
 use Rattle.iloc_spec_parts.proofs.FieldLaws.{passing_all, passing_stops, past_stops, all_from_pieces, passing_from_all, front_of_fields, fields_words, fields_stop, pieces_pass}
 use Rattle.iloc_spec_parts.proofs.ReaderLaws.{reader_of, agreeing, until_block, Answer, Answers}
 use Rattle.std.proofs.Math.Bool.{or-true, and-false}
@@ -139,12 +141,13 @@ unicode_whole ps u rest h s =
 pub not_attribute : (p : List ℕ) → length p ≤ 2 → is_word Attribute p ≡ false
 not_attribute p h = false_from_ne_true _ (λ a. let l = length-attribute p a in absurd (omega arith))
 
-record NoneGoOn (rest : List (List ℕ)) : Type 0 where
-  attribute : EndsBefore (is_word Attribute) rest
-  keyword_piece : EndsBefore is_keyword_piece rest
-  two_bytes : EndsBefore is_two rest
+-- what may follow a block goes on with none of its parts
+pub record NoneGoOn (rest : List (List ℕ)) : Type 0 where
+  pub attribute : EndsBefore (is_word Attribute) rest
+  pub keyword_piece : EndsBefore is_keyword_piece rest
+  pub two_bytes : EndsBefore is_two rest
 
-block_ends : (rest : List (List ℕ)) → starts_block rest ≡ true → NoneGoOn rest
+pub block_ends : (rest : List (List ℕ)) → starts_block rest ≡ true → NoneGoOn rest
 block_ends [] e = record { attribute = tt; keyword_piece = tt; two_bytes = tt }
 block_ends (p ∷ ps) e =
     let one = eqb-true (length p) 1 e in
@@ -195,9 +198,9 @@ keywords_taken w rest g e =
     let t = unicode_taken w rest g e in
     ap (fields_from is_two) (ap keywords_front t.after ∙ t.keywords) ∙ fields_read is_two w.keywords (keywords_pass w.keywords g.keywords)
 
-unicode_spelled : (w : Unicode) (rest : List (List ℕ)) → IsUnicode w → starts_block rest ≡ true → UnicodeRead (unicode_pieces w ++ rest) (normal_unicode w) rest
+unicode_spelled : (w : Unicode) (rest : List (List ℕ)) → IsUnicodeBlock w → starts_block rest ≡ true → UnicodeRead (unicode_pieces w ++ rest) (normal_unicode w) rest
 unicode_spelled w rest g e =
-    let t = unicode_taken w rest g e in
+    let t = unicode_taken w rest (record { attributes = g.attributes; keywords = g.keywords }) e in
     record {
       attributes_are = ap (λ l. set_of (map lower l)) (sym t.attributes);
       keywords_are = subst (λ (l : List (List ℕ)). KeywordsRead l (normal_unicode w).keywords rest) (sym t.after) (record { written = w.keywords; keywords = g.keywords; spelled = t.keywords; means = refl; left = sym t.left });
@@ -253,6 +256,9 @@ pub other_agrees : AgreesWithBlocks OtherRead OtherFault OtherMeans
 other_agrees = agreeing OtherRead OtherFault OtherMeans other_reader other_whole other_block
 
 -- private words
+
+pub tests_private : (ps : List (List ℕ)) → Tests (is_private ps) (IsPrivate ps)
+tests_private ps = let t = rules.tests_private ps in record { holds = λ e. let h = t.holds e in record { words = h.words; nonempty = h.nonempty }; passes = λ h. t.passes (record { words = h.words; nonempty = h.nonempty }) }
 
 pub private_answer : Answers PrivateRead PrivateFault private_result
 unfolding private_result

@@ -1,39 +1,206 @@
--- A small text is one of few words; a test says which texts are.
-use Rattle.std.proofs.Common.{◌≡◌, ◌≤◌, ◌↔◌, ℕ, Bool, true, nat_le, List, [], ◌∷◌, length, refl, sym, ap, ◌∙◌, subst, true≢false, arith, Result, Ok, Err, Option, Some, None, IfSome, option_map}
+-- Inline texts, by their blocks and by the trees that they spell; and a test that says which they are.
+use Rattle.std.proofs.Common.{◌≡◌, ◌≤◌, ◌↔◌, ℕ, Bool, true, false, nat_le, cond, ◌==◌, List, [], ◌∷◌, ◌++◌, length, map, refl, sym, ap, ◌∙◌, subst, true≢false, arith, Result, Ok, Err, Option, Some, None, IfSome, option_map, option_to_list, append-nil}
 use Rattle.std.specs.List.{AllByRecursion}
-use Rattle.std.proofs.lemmas.Bool.{leb-true, le-leb}
-use Rattle.iloc_spec_grammar.specs.Syntax.{pieces, IsTable, Extension, unicode, transform, other, Written}
-use Rattle.iloc_spec_grammar.specs.Meaning.{Locale, Means, meaning, normal_values, Fault}
+use Rattle.std.specs.Cmp.{nat_cmp_total}
+use Rattle.std.specs.Ordering.{nat_cmp}
+use Rattle.std.proofs.lemmas.Bool.{eqb-true, leb-true, le-leb}
+use Rattle.std.proofs.lemmas.List.{length-map}
+use Rattle.iloc_spec_grammar.specs.Syntax.{pieces, lower, Identifier, Fields, Unicode, unicode_pieces, IsUnicode, kept, AllDifferent, IsTable, head, tail_blocks, singleton}
+use Rattle.iloc_spec_grammar.specs.Tree.{Extension, unicode, transform, other, Written, IsWritten, IsExtension, IsPrivate, spelling, extension_pieces, extension_block, blocks_of, meaning}
+use Rattle.iloc_spec_grammar.specs.Meaning.{Locale, Extensions, Means, IdentifierMeans, SpellsExtensions, normal_identifier, normal_values, normal_fields, normal_extensions, after, Fault}
 use Rattle.iloc_spec_grammar.specs.Reading.{written_of}
 use Rattle.iloc_spec_grammar.specs.Computing.{locale_result}
 use Rattle.iloc_spec_grammar.proofs.RuleTests.{Tests, tests_and, tests_all, tests_if_some}
-use Rattle.iloc_spec_grammar.proofs.Readings.{written_of-spelling}
+use Rattle.iloc_spec_grammar.proofs.ReadBack.{all_append}
+use Rattle.iloc_spec_grammar.proofs.Readings.{written_of-spelling, blocks-spelling}
 use Rattle.iloc_spec_grammar.proofs.ComputingLaws.{computed_means}
-use Rattle.iloc_spec_parts.specs.Small.{WrittenKeyword, SmallLocale, small_identifier, keyword_of_small, small_written, keyword_extension, IsSmall}
-use Rattle.iloc_spec_parts.specs.Inline.{IsInline, HasFewValues}
+use Rattle.iloc_spec_grammar.proofs.SameMeaning.{tree_means, means_by_tree}
+use Rattle.iloc_spec_grammar.proofs.Singletons.{no_u}
+use Rattle.iloc_spec_parts.specs.Small.{SmallLocale, identifier_of_small, keyword_of_small, IsSmall}
+use Rattle.iloc_spec_parts.specs.Inline.{IsInline}
 use Rattle.iloc_spec_parts.specs.SmallComputing.{has_few_values, has_few_words, few_where_read, is_inline}
-use Rattle.iloc_spec_parts.proofs.SmallLaws.{one_at_most, meaning_small}
+use Rattle.iloc_spec_parts.specs.Fronts.{after_attributes, keywords_at}
+use Rattle.iloc_spec_parts.proofs.FrontLaws.{keywords_taken}
+use Rattle.iloc_spec_parts.proofs.InlineBlockLaws.{none_after, each_after}
+use Rattle.iloc_spec_parts.proofs.SmallShapes.{one_at_most, none_mapped, none_there, no_normal_fields}
+
+-- what a text means has few words
+pub record HasFewWords (M : Locale) : Type 0 where
+  pub variants : length M.id.variants ≤ 4
+  pub attributes : length M.extensions.unicode.attributes ≤ 4
+  pub keywords : length M.extensions.unicode.keywords ≤ 1
+  pub transform_variants : IfSome M.extensions.transform.id (λ i. length i.variants ≤ 4)
+  pub no_fields : M.extensions.transform.fields ≡ []
+  pub private : length M.extensions.private ≤ 4
+  pub no_others : M.extensions.others ≡ []
+
+-- at most four values besides `true` at each key
+abbrev pub HaveFewValues : Fields → Type 0
+HaveFewValues fs = AllByRecursion (λ f. length (normal_values f.1) ≤ 4) fs
+
+mapped : (o : Option Identifier) → IfSome o (λ i. length (normal_identifier i).variants ≤ 4) → IfSome (option_map normal_identifier o) (λ i. length i.variants ≤ 4)
+mapped None h = tt
+mapped (Some i) h = h
+
+unmapped : (o : Option Identifier) → IfSome (option_map normal_identifier o) (λ i. length i.variants ≤ 4) → IfSome o (λ i. length (normal_identifier i).variants ≤ 4)
+unmapped None h = tt
+unmapped (Some i) h = h
+
+pub inline_has_few : {T : ℕ → Bool} (t : List ℕ) (h : IsInline T t) → HasFewWords (record { id = h.id; extensions = normal_extensions h.extensions })
+inline_has_few t h = record {
+  variants = h.variants;
+  attributes = h.attributes;
+  keywords = h.keywords;
+  transform_variants = mapped h.extensions.transform.id h.transform_variants;
+  no_fields = ap normal_fields h.no_fields;
+  private = subst (λ (n : ℕ). n ≤ 4) (sym (length-map h.extensions.private lower)) h.private;
+  no_others = subst (λ (os : List (ℕ × List (List ℕ))). (normal_extensions (record h.extensions { others = os })).others ≡ []) (sym h.no_others) refl;
+}
+
+pub inline_of_few : {T : ℕ → Bool} (t : List ℕ) (M : Locale) (e : Extensions) → IdentifierMeans T (head (pieces t)) M.id → SpellsExtensions T (tail_blocks (pieces t)) e → M.extensions ≡ normal_extensions e → HasFewWords M → HaveFewValues e.unicode.keywords → IsInline T t
+inline_of_few t M e i s p h v = record {
+  id = M.id;
+  extensions = e;
+  means = i;
+  spelled = s;
+  variants = h.variants;
+  attributes = subst (λ (n : Extensions). length n.unicode.attributes ≤ 4) p h.attributes;
+  keywords = subst (λ (n : Extensions). length n.unicode.keywords ≤ 1) p h.keywords;
+  values = v;
+  transform_variants = unmapped e.transform.id (subst (λ (n : Extensions). IfSome n.transform.id (λ i. length i.variants ≤ 4)) p h.transform_variants);
+  no_fields = no_normal_fields e.transform.fields (sym (ap (λ (n : Extensions). n.transform.fields) p) ∙ h.no_fields);
+  private = subst (λ (n : ℕ). n ≤ 4) (length-map e.private lower) (subst (λ (n : Extensions). length n.private ≤ 4) p h.private);
+  no_others = none_mapped (λ (o : ℕ × List (List ℕ)). (o.0, kept o.1)) e.others (none_there nat_cmp nat_cmp_total _ (sym (ap (λ (n : Extensions). n.others) p) ∙ h.no_others));
+}
+
+-- a small text is inline
 
 pub small_is_inline : {T : ℕ → Bool} (t : List ℕ) (r : SmallLocale) → IsSmall T t r → IsInline T t
-small_is_inline {T = T} t r h =
-    let m = meaning_small h.id h.keyword h.grammatical h.one_variant h.one_value in
-    record {
-      written = small_written h.id h.keyword;
-      grammatical = h.grammatical;
-      spelled = h.spelled;
-      variants = subst (λ (M : Locale). length M.id.variants ≤ 4) m (let l = one_at_most (small_identifier h.id).variant in omega arith);
-      attributes = subst (λ (M : Locale). length M.extensions.unicode.attributes ≤ 4) m (omega arith);
-      keywords = subst (λ (M : Locale). length M.extensions.unicode.keywords ≤ 1) m (one_at_most (option_map keyword_of_small _));
-      values = few_values h.keyword h.one_value;
-      transform_variants = subst (λ (M : Locale). IfSome M.extensions.transform.id (λ i. length i.variants ≤ 4)) m tt;
-      no_fields = subst (λ (M : Locale). M.extensions.transform.fields ≡ []) m refl;
-      private = subst (λ (M : Locale). length M.extensions.private ≤ 4) m (omega arith);
-      no_others = subst (λ (M : Locale). M.extensions.others ≡ []) m refl;
-    }
+small_is_inline t r h = record {
+  id = identifier_of_small r.id;
+  extensions = h.written;
+  means = h.id;
+  spelled = h.spelled;
+  variants = let l = one_at_most r.id.variant in omega arith;
+  attributes = subst (λ (e : Extensions). length e.unicode.attributes ≤ 4) h.means (omega arith);
+  keywords = subst (λ (e : Extensions). length e.unicode.keywords ≤ 1) h.means (one_at_most (option_map keyword_of_small r.keyword));
+  values = few h.written.unicode.keywords h.one_keyword r.keyword (ap (λ (e : Extensions). e.unicode.keywords) h.means);
+  transform_variants = unmapped h.written.transform.id (subst (λ (e : Extensions). IfSome e.transform.id (λ i. length i.variants ≤ 4)) h.means tt);
+  no_fields = no_normal_fields h.written.transform.fields (sym (ap (λ (e : Extensions). e.transform.fields) h.means));
+  private = subst (λ (n : ℕ). n ≤ 4) (length-map h.written.private lower) (subst (λ (e : Extensions). length e.private ≤ 4) h.means (omega arith));
+  no_others = none_mapped (λ (o : ℕ × List (List ℕ)). (o.0, kept o.1)) h.written.others (none_there nat_cmp nat_cmp_total _ (sym (ap (λ (e : Extensions). e.others) h.means)));
+}
   where
-    few_values : (k : Option WrittenKeyword) → IfSome k (λ k. length (normal_values k.values) ≤ 1) → AllByRecursion (λ e. HasFewValues e.1) (keyword_extension k)
-    few_values None h = tt
-    few_values (Some k) h = ((omega arith, tt), tt)
+    few : (fs : Fields) → length fs ≤ 1 → (o : Option (List ℕ × Option (List ℕ))) → option_to_list (option_map keyword_of_small o) ≡ normal_fields fs → HaveFewValues fs
+    few [] l o e = tt
+    few (f ∷ []) l None e = absurd (cc)
+    few (f ∷ []) l (Some q) e =
+        let both : keyword_of_small q ≡ (lower f.0, normal_values f.1) = cc in
+        let same = ap (λ (e : List ℕ × List (List ℕ)). length e.1) both in
+        let one = one_at_most q.1 in
+        (omega (arith, same, one), tt)
+    few (f ∷ g ∷ fs) l o e = absurd (omega arith)
+
+pub inline_means : {T : ℕ → Bool} (t : List ℕ) → IsInline T t → (M : Locale) × Means T t M
+inline_means t h = (record { id = h.id; extensions = normal_extensions h.extensions }, record { id = h.means; extensions = (h.extensions, h.spelled, refl) })
+
+-- by the tree that it spells
+
+-- each keyword as it is written, a repeated one too, has at most four values besides `true`
+abbrev pub HasFewValues : Extension → Type 0
+HasFewValues (unicode u) = HaveFewValues u.keywords
+HasFewValues _ = Unit {0}
+
+-- The text is a locale with few words: no transform fields, no other extensions, one keyword at
+-- most.
+pub record IsTreeInline (T : ℕ → Bool) (t : List ℕ) : Type 0 where
+  pub written : Written
+  pub grammatical : IsWritten T written
+  pub spelled : pieces t ≡ spelling written
+  pub few : HasFewWords (meaning written)
+  pub values : AllByRecursion (λ e. HasFewValues e.1) written.extensions
+
+-- what stands after a singleton is nothing, or what stands after it in some block
+after_holds : (P : List (List ℕ) → Type 0) (q : ℕ) (bs : List (ℕ × List (List ℕ))) → AllDifferent nat_cmp (map (λ b. singleton b) bs) → P [] → AllByRecursion (λ b. singleton b ≡ q → P b.1) bs → P (after q bs)
+after_holds P q [] d n h = n
+after_holds P q (b ∷ bs) d n h = at (singleton b == q) refl (after_holds P q bs d.1 n h.1)
+  where
+    at : (t : Bool) → (singleton b == q) ≡ t → P (after q bs) → P (cond t b.1 [] ++ after q bs)
+    at true e rest = let same = eqb-true (singleton b) q e in subst P (sym (ap (λ l. b.1 ++ l) (subst (λ (c : ℕ). after c bs ≡ []) same (none_after (singleton b) bs d.0)) ∙ append-nil b.1)) (h.0 same)
+    at false e rest = rest
+
+same_keywords : (u v : Unicode) → IsUnicode u → IsUnicode v → unicode_pieces u ≡ unicode_pieces v → v.keywords ≡ u.keywords
+same_keywords u v g h e = sym (keywords_taken v [] h refl) ∙ ap (λ l. keywords_at (after_attributes (l ++ []))) (sym e) ∙ keywords_taken u [] g refl
+
+all_left : {X : Type 0} (P : X → Type 0) (xs ys : List X) → AllByRecursion P (xs ++ ys) → AllByRecursion P xs
+all_left P [] ys h = tt
+all_left P (x ∷ xs) ys h = (h.0, all_left P xs ys h.1)
+
+all_mapped : {X Y : Type 0} (f : X → Y) (P : Y → Type 0) (xs : List X) → AllByRecursion (λ x. P (f x)) xs → AllByRecursion P (map f xs)
+all_mapped f P [] h = tt
+all_mapped f P (x ∷ xs) h = (h.0, all_mapped f P xs h.1)
+
+all_unmapped : {X Y : Type 0} (f : X → Y) (P : Y → Type 0) (xs : List X) → AllByRecursion P (map f xs) → AllByRecursion (λ x. P (f x)) xs
+all_unmapped f P [] h = tt
+all_unmapped f P (x ∷ xs) h = (h.0, all_unmapped f P xs h.1)
+
+-- the keywords of the parts that blocks spell, and those of the tree
+module _ {T : ℕ → Bool} (w : Written) (g : IsWritten T w) (e : Extensions) (s : SpellsExtensions T (blocks_of w) e) where
+  few_in_tree : HaveFewValues e.unicode.keywords → AllByRecursion (λ x. HasFewValues x.1) w.extensions
+  few_in_tree h = each w.extensions g.extensions (all_unmapped extension_block (λ b. after (singleton b) (blocks_of w) ≡ b.1) w.extensions (all_left _ (map extension_block w.extensions) (option_to_list w.private) (each_after (blocks_of w) s.different)))
+    where
+      at : (c : ℕ) (x : Extension) → IsExtension T (singleton (c, x)) x → after (singleton (c, x)) (blocks_of w) ≡ extension_pieces x → HasFewValues x
+      at c (unicode u) k own = subst HaveFewValues (same_keywords u e.unicode (record { attributes = k.1.attributes; keywords = k.1.keywords }) s.unicode.0 (sym own ∙ ap (λ q. after q (blocks_of w)) k.0 ∙ s.unicode.1)) h
+      at c (transform m) k own = tt
+      at c (other ps) k own = tt
+
+      each : (es : List (ℕ × Extension)) → AllByRecursion (λ x. IsExtension T (singleton x) x.1) es → AllByRecursion (λ x. after (singleton x) (blocks_of w) ≡ extension_pieces x.1) es → AllByRecursion (λ x. HasFewValues x.1) es
+      each [] k own = tt
+      each (x ∷ es) k own = (at x.0 x.1 k.0 own.0, each es k.1 own.1)
+
+  abbrev IsFewSpelled : List (List ℕ) → Type 0
+  IsFewSpelled ps = (u : Unicode) → IsUnicode u → ps ≡ unicode_pieces u → HaveFewValues u.keywords
+
+  few_in_parts : AllByRecursion (λ x. HasFewValues x.1) w.extensions → HaveFewValues e.unicode.keywords
+  few_in_parts h = after_holds IsFewSpelled 117 (blocks_of w) s.different none
+      (all_append (λ b. singleton b ≡ 117 → IsFewSpelled b.1) (map extension_block w.extensions) (option_to_list w.private) (all_mapped extension_block (λ b. singleton b ≡ 117 → IsFewSpelled b.1) w.extensions (each w.extensions g.extensions h)) (of_private w.private g.private))
+      e.unicode s.unicode.0 s.unicode.1
+    where
+      none : IsFewSpelled []
+      none u g k = subst HaveFewValues (sym (same_keywords (record { attributes = []; keywords = [] }) u (record { attributes = tt; keywords = tt }) g k)) tt
+
+      at : (c : ℕ) (x : Extension) → IsExtension T (singleton (c, x)) x → HasFewValues x → singleton (c, x) ≡ 117 → IsFewSpelled (extension_pieces x)
+      at c (unicode v) k few q = λ u g p. subst HaveFewValues (same_keywords u v g (record { attributes = k.1.attributes; keywords = k.1.keywords }) (sym p)) few
+      at c (transform m) k few q = absurd (omega (arith, k.0, q))
+      at c (other ps) k few q = absurd (no_u (singleton (c, other ps)) q k.0)
+
+      each : (es : List (ℕ × Extension)) → AllByRecursion (λ x. IsExtension T (singleton x) x.1) es → AllByRecursion (λ x. HasFewValues x.1) es → AllByRecursion (λ x. singleton x ≡ 117 → IsFewSpelled (extension_pieces x.1)) es
+      each [] k few = tt
+      each (x ∷ es) k few = (at x.0 x.1 k.0 few.0, each es k.1 few.1)
+
+      of_private : (x : Option (ℕ × List (List ℕ))) → IfSome x (λ b. (singleton b ≡ 120) × IsPrivate b.1) → AllByRecursion (λ b. singleton b ≡ 117 → IsFewSpelled b.1) (option_to_list x)
+      of_private None k = tt
+      of_private (Some b) k = ((λ q. absurd (omega (arith, k.0, q))), tt)
+
+pub inline_is_tree : {T : ℕ → Bool} → IsTable T → (t : List ℕ) → IsInline T t → IsTreeInline T t
+unfolding inline_means
+inline_is_tree {T = T} table t h =
+    let m = tree_means t (inline_means t h).0 (inline_means t h).1 in
+    let bs : tail_blocks (pieces t) ≡ blocks_of m.written = ap tail_blocks m.spelled ∙ blocks-spelling table m.written m.grammatical in
+    record {
+      written = m.written;
+      grammatical = m.grammatical;
+      spelled = m.spelled;
+      few = subst HasFewWords m.means (inline_has_few t h);
+      values = few_in_tree m.written m.grammatical h.extensions (subst (λ bs. SpellsExtensions T bs h.extensions) bs h.spelled) h.values;
+    }
+
+pub tree_is_inline : {T : ℕ → Bool} → IsTable T → (t : List ℕ) → IsTreeInline T t → IsInline T t
+tree_is_inline {T = T} table t h =
+    let m = means_by_tree table t (meaning h.written) (record { written = h.written; grammatical = h.grammatical; spelled = h.spelled; means = refl }) in
+    let bs : tail_blocks (pieces t) ≡ blocks_of h.written = ap tail_blocks h.spelled ∙ blocks-spelling table h.written h.grammatical in
+    inline_of_few t (meaning h.written) m.extensions.0 m.id m.extensions.1 m.extensions.2 h.few
+    (few_in_parts h.written h.grammatical m.extensions.0 (subst (λ bs. SpellsExtensions T bs m.extensions.0) bs m.extensions.1) h.values)
 
 -- the test of inline texts
 
@@ -49,41 +216,45 @@ tests_values (unicode u) = tests_all (λ f. nat_le (length (normal_values f.1)) 
 tests_values (transform m) = record { holds = λ e. tt; passes = λ h. refl }
 tests_values (other ps) = record { holds = λ e. tt; passes = λ h. refl }
 
-tests_few : (w : Written) (M : Locale) → Tests (has_few_words w M) ((((length M.id.variants ≤ 4) × (length M.extensions.unicode.attributes ≤ 4)) × ((length M.extensions.unicode.keywords ≤ 1) × AllByRecursion (λ e. HasFewValues e.1) w.extensions)) × ((IfSome M.extensions.transform.id (λ i. length i.variants ≤ 4) × (M.extensions.transform.fields ≡ [])) × ((length M.extensions.private ≤ 4) × (M.extensions.others ≡ []))))
+-- what is tested is few
+abbrev AreFew : Written → Locale → Type 0
+AreFew w M = (((length M.id.variants ≤ 4) × (length M.extensions.unicode.attributes ≤ 4)) × ((length M.extensions.unicode.keywords ≤ 1) × AllByRecursion (λ e. HasFewValues e.1) w.extensions)) × ((IfSome M.extensions.transform.id (λ i. length i.variants ≤ 4) × (M.extensions.transform.fields ≡ [])) × ((length M.extensions.private ≤ 4) × (M.extensions.others ≡ [])))
+
+tests_few : (w : Written) (M : Locale) → Tests (has_few_words w M) (AreFew w M)
 tests_few w M = tests_and
     (tests_and (tests_and (tests_at_most _ 4) (tests_at_most _ 4)) (tests_and (tests_at_most _ 1) (tests_all (λ e. has_few_values e.1) (λ e. HasFewValues e.1) (λ e. tests_values e.1) w.extensions)))
     (tests_and (tests_and (tests_if_some (λ i. nat_le (length i.variants) 4) (λ i. length i.variants ≤ 4) (λ i. tests_at_most _ 4) M.extensions.transform.id) (tests_empty M.extensions.transform.fields)) (tests_and (tests_at_most _ 4) (tests_empty M.extensions.others)))
 
-pub inline_means : {T : ℕ → Bool} (t : List ℕ) → IsInline T t → (M : Locale) × Means T t M
-inline_means t h = (meaning h.written, record { written = h.written; grammatical = h.grammatical; spelled = h.spelled; means = refl })
-
-inline_passes : {T : ℕ → Bool} → IsTable T → (t : List ℕ) → IsInline T t → is_inline T t ≡ true
-unfolding is_inline inline_means
-inline_passes {T = T} table t h =
-    let e : locale_result T t ≡ Ok (meaning h.written) = (computed_means T table t (meaning h.written)).1 (inline_means t h).1 in
+tree_passes : {T : ℕ → Bool} → IsTable T → (t : List ℕ) → IsTreeInline T t → is_inline T t ≡ true
+unfolding is_inline
+tree_passes {T = T} table t h =
+    let few = h.few in
+    let e : locale_result T t ≡ Ok (meaning h.written) = (computed_means T table t (meaning h.written)).1 (means_by_tree table t (meaning h.written) (record { written = h.written; grammatical = h.grammatical; spelled = h.spelled; means = refl })) in
     let w : written_of (pieces t) ≡ h.written = ap written_of h.spelled ∙ written_of-spelling table h.written h.grammatical in
-    (λ i. few_where_read (w i) (e i)) ∙ (tests_few h.written (meaning h.written)).passes ((((h.variants, h.attributes), (h.keywords, h.values)), ((h.transform_variants, h.no_fields), (h.private, h.no_others))))
+    (λ i. few_where_read (w i) (e i)) ∙ (tests_few h.written (meaning h.written)).passes ((((few.variants, few.attributes), (few.keywords, h.values)), ((few.transform_variants, few.no_fields), (few.private, few.no_others))))
 
-few_is_inline : {T : ℕ → Bool} → IsTable T → (t : List ℕ) (r : Result Locale Fault) → locale_result T t ≡ r → few_where_read (written_of (pieces t)) r ≡ true → IsInline T t
-few_is_inline table t (Err f) e h = absurd (true≢false (sym h))
-few_is_inline {T = T} table t (Ok M) e h =
-    let m = (computed_means T table t M).0 e in
+few_is_tree : {T : ℕ → Bool} → IsTable T → (t : List ℕ) (r : Result Locale Fault) → locale_result T t ≡ r → few_where_read (written_of (pieces t)) r ≡ true → IsTreeInline T t
+few_is_tree table t (Err f) e h = absurd (true≢false (sym h))
+few_is_tree {T = T} table t (Ok M) e h =
+    let m = tree_means t M ((computed_means T table t M).0 e) in
     let w : written_of (pieces t) ≡ m.written = ap written_of m.spelled ∙ written_of-spelling table m.written m.grammatical in
     let few = (tests_few m.written (meaning m.written)).holds ((λ i. has_few_words (sym w i) (sym m.means i)) ∙ h) in
     record {
       written = m.written;
       grammatical = m.grammatical;
       spelled = m.spelled;
-      variants = few.0.0.0;
-      attributes = few.0.0.1;
-      keywords = few.0.1.0;
+      few = record {
+        variants = few.0.0.0;
+        attributes = few.0.0.1;
+        keywords = few.0.1.0;
+        transform_variants = few.1.0.0;
+        no_fields = few.1.0.1;
+        private = few.1.1.0;
+        no_others = few.1.1.1;
+      };
       values = few.0.1.1;
-      transform_variants = few.1.0.0;
-      no_fields = few.1.0.1;
-      private = few.1.1.0;
-      no_others = few.1.1.1;
     }
 
 pub inline_answer : (T : ℕ → Bool) → IsTable T → (t : List ℕ) → (is_inline T t ≡ true) ↔ IsInline T t
 unfolding is_inline
-inline_answer T table t = (λ h. few_is_inline table t (locale_result T t) refl h, λ h. inline_passes table t h)
+inline_answer T table t = (λ h. tree_is_inline table t (few_is_tree table t (locale_result T t) refl h), λ h. tree_passes table t (inline_is_tree table t h))

@@ -9,7 +9,10 @@ pub mod BlockRules
 pub mod PartAnswers
 pub mod ReaderBlocks
 pub mod PartReaders
+pub mod ShortFronts
 pub mod KeptLaws
+pub mod SmallShapes
+pub mod SmallTrees
 pub mod SmallLaws
 pub mod SmallBack
 pub mod InlineLaws

@@ -6,11 +6,12 @@ use Rattle.std.specs.Ordering.{nat_cmp, eq_by_cmp}
 use Rattle.std.specs.FinMap.{find}
 use Rattle.std.proofs.lemmas.Bool.{cond_both, eqb-true}
 use Rattle.iloc_spec_grammar.specs.Syntax.{pieces, IsTable, Unicode, Transform, kept, is_other_singleton, singleton, is_one_byte, front, blocks, tail_blocks}
-use Rattle.iloc_spec_grammar.specs.Meaning.{Locale, Extensions, Means, no_unicode, no_transform, by_singleton, Fault}
+use Rattle.iloc_spec_grammar.specs.Meaning.{Locale, Extensions, Means, no_unicode, no_transform, Fault}
+use Rattle.iloc_spec_grammar.specs.Tree.{by_singleton}
 use Rattle.iloc_spec_grammar.specs.ByBlocks.{UnicodeMeans, TransformMeans, OtherMeans, Rules, grammar_rules, other_blocks, PartIs, BlocksGive, MeansBy}
 use Rattle.iloc_spec_grammar.specs.Reading.{from_block}
 use Rattle.iloc_spec_grammar.proofs.ValuesLaws.{all_weaker, all_both}
-use Rattle.iloc_spec_grammar.proofs.BlockLaws.{means_by_blocks, blocks_mean}
+use Rattle.iloc_spec_grammar.proofs.SameMeaning.{means_by_blocks, blocks_mean}
 use Rattle.iloc_spec_parts.specs.Readers.{AgreesWithBlocks}
 use Rattle.iloc_spec_parts.specs.Fronts.{UnicodeRead, TransformRead, OtherRead}
 use Rattle.iloc_spec_parts.proofs.FrontLaws.{unicode_agrees, other_agrees}
@@ -101,7 +102,7 @@ module _ (T : ℕ → Bool) (table : IsTable T) where
   read_by_grammar = record {
     unicode = λ ps v c. block_read UnicodeRead _ UnicodeMeans unicode_agrees ps v c;
     transform = λ ps m c. block_read (TransformRead T) _ (TransformMeans T) (transform_agrees T table) ps m c;
-    private = λ ps ws h. record { follows = h.0; means = h.1; left = refl };
+    private = λ ps ws h. record { follows = record { words = h.0.words; nonempty = h.0.nonempty }; means = h.1; left = refl };
     other = λ ps ws c. block_read OtherRead _ OtherMeans other_agrees ps ws c;
   }
 
@@ -109,7 +110,7 @@ module _ (T : ℕ → Bool) (table : IsTable T) where
   grammar_by_reading = record {
     unicode = λ ps v c. read_block UnicodeRead _ UnicodeMeans unicode_agrees ps v c;
     transform = λ ps m c. read_block (TransformRead T) _ (TransformMeans T) (transform_agrees T table) ps m c;
-    private = λ ps ws h. (h.follows, h.means);
+    private = λ ps ws h. (record { words = h.follows.words; nonempty = h.follows.nonempty }, h.means);
     other = λ ps ws c. read_block OtherRead _ OtherMeans other_agrees ps ws c;
   }
 
@@ -117,4 +118,4 @@ module _ (T : ℕ → Bool) (table : IsTable T) where
   all_carried c t M m = record { id = m.id; blocks = carried c (tail_blocks (pieces t)) M.extensions (tail_closed (pieces t)) m.blocks }
 
   pub by_readers : (t : List ℕ) (M : Locale) → Means T t M ↔ MeansByReaders T t M
-  by_readers t M = (λ m. all_carried read_by_grammar t M (means_by_blocks T table t M m), λ m. blocks_mean T table t M (all_carried grammar_by_reading t M m))
+  by_readers t M = (λ m. all_carried read_by_grammar t M (means_by_blocks t M m), λ m. blocks_mean t M (all_carried grammar_by_reading t M m))

@@ -2,15 +2,20 @@
 use Rattle.std.proofs.Common.{◌≡◌, ◌≤◌, ℕ, Bool, false, not, cond, List, [], ◌∷◌, length, map, filter, refl, sym, ap, ◌∙◌, subst, arith, Option, Some, None, IfSome, option_map, option_to_list}
 use Rattle.std.specs.List.{AllByRecursion}
 use Rattle.std.proofs.lemmas.Bool.{cond_both, not-true}
-use Rattle.iloc_spec_grammar.specs.Syntax.{pieces, join, Kind, Language, Script, Region, Variant, UnicodeKey, Attribute, IsWord, lower, normal, is_true, IsWritten, HasWords, spelling}
+use Rattle.iloc_spec_grammar.specs.Syntax.{pieces, join, IsTable, Kind, Language, Script, Region, Variant, UnicodeKey, Attribute, IsWord, lower, normal, is_true, HasWords}
+use Rattle.iloc_spec_grammar.specs.Tree.{IsWritten, spelling, printed}
 use Rattle.iloc_spec_grammar.specs.Meaning.{normal_values}
-use Rattle.iloc_spec_grammar.specs.Values.{IsNormal, IsAscending, IsValue, IsWellFormed, IsIdentifierValue, printed, text}
+use Rattle.iloc_spec_grammar.specs.Values.{IsNormal, IsAscending, IsValue, IsWellFormed, IsIdentifierValue, text}
 use Rattle.iloc_spec_grammar.proofs.ReadBack.{pieces_spelled, OfWords}
 use Rattle.iloc_spec_grammar.proofs.ValuesLaws.{value_identifier}
-use Rattle.iloc_spec_grammar.proofs.WellRead.{means_value, means_well_formed, option_normal}
-use Rattle.iloc_spec_parts.specs.Small.{WrittenKeyword, small_keyword, SmallLocale, identifier_of_small, locale_of_small, small_written, keyword_extension, IsSmall, IsSmallValue}
+use Rattle.iloc_spec_grammar.proofs.WellRead.{option_normal}
+use Rattle.iloc_spec_grammar.proofs.Corollaries.{means_a_value, read_well_formed}
+use Rattle.iloc_spec_grammar.proofs.SameText.{text_is}
+use Rattle.iloc_spec_parts.specs.Small.{SmallLocale, identifier_of_small, locale_of_small, IsSmall, IsSmallValue}
+use Rattle.iloc_spec_parts.proofs.SmallShapes.{WrittenKeyword, small_keyword, one_at_most, first-option}
+use Rattle.iloc_spec_parts.proofs.SmallTrees.{keyword_extension, small_written, IsTreeSmall, tree_is_small, small_is_tree}
 use Rattle.iloc_spec_grammar.specs.Reading.{first_item}
-use Rattle.iloc_spec_parts.proofs.SmallLaws.{one_at_most, first-option, small_means}
+use Rattle.iloc_spec_parts.proofs.SmallLaws.{small_means}
 use Rattle.iloc_spec_grammar.proofs.ReadWords.{IsNormal-normal}
 
 -- a small value is a value
@@ -64,22 +69,25 @@ keyword_stays None a b = refl
 keyword_stays (Some k) a b = λ i. Some (a.1 i, (ap first_item (values_stay k.1 b) ∙ first-option k.1) i)
 
 pub small_back : {T : ℕ → Bool} (r : SmallLocale) → IsSmallValue T r → IsSmall T (text (locale_of_small r)) r
-small_back {T = T} r h = record {
+small_back {T = T} r h = tree_is_small _ r (record {
   id = identifier_of_small r.id;
   keyword = with_u r.keyword;
   grammatical = keyword_written r h;
-  spelled = ap (λ w. pieces (join (spelling w))) (printed_small r) ∙ pieces_spelled _ (keyword_written r h) (elim r.keyword as (λ k. AllByRecursion (λ e. OfWords e.1) (keyword_extension (with_u k))) [ None ↦ tt | Some k ↦ (tt, tt) ]);
+  spelled = ap pieces (text_is (locale_of_small r)) ∙ ap (λ w. pieces (join (spelling w))) (printed_small r) ∙ pieces_spelled _ (keyword_written r h) (elim r.keyword as (λ k. AllByRecursion (λ e. OfWords e.1) (keyword_extension (with_u k))) [ None ↦ tt | Some k ↦ (tt, tt) ]);
   one_variant = one_at_most r.id.variant;
   one_value = one_left r.keyword h.value;
   means = λ i. record { id = record { language = sym h.language.1 i; script = sym (option_stays Script r.id.script h.script) i; region = sym (option_stays Region r.id.region h.region) i; variant = sym (variant_stays r.id.variant h.variant) i }; keyword = sym (keyword_stays r.keyword h.key h.value) i };
-}
+})
   where
     one_left : (k : Option (List ℕ × Option (List ℕ))) → IfSome k (λ k. IfSome k.1 (λ w. IsNormal Attribute w × (is_true w ≡ false))) → IfSome (with_u k) (λ k. length (normal_values k.values) ≤ 1)
     one_left None b = tt
     one_left (Some k) b = subst (λ (n : ℕ). n ≤ 1) (sym (ap length (values_stay k.1 b))) (one_at_most k.1)
 
-pub small_is_value : {T : ℕ → Bool} (r : SmallLocale) → IsSmallValue T r → IsValue T (locale_of_small r) × IsWellFormed (locale_of_small r)
-small_is_value r h = let m = small_means _ r (small_back r h) in (means_value _ _ m, means_well_formed _ _ m)
+pub small_is_value : {T : ℕ → Bool} (r : SmallLocale) → IsSmallValue T r → IsValue T (locale_of_small r)
+small_is_value r h = means_a_value _ _ (small_means _ r (small_back r h))
+
+pub small_is_well_formed : {T : ℕ → Bool} → IsTable T → (r : SmallLocale) → IsSmallValue T r → IsWellFormed (locale_of_small r)
+small_is_well_formed table r h = read_well_formed table _ _ (small_means _ r (small_back r h))
 
 -- what is read is a small value
 
@@ -94,7 +102,7 @@ value_is (w ∷ ws) h = cond_both (not (is_true (lower w))) _ _ (λ ws. IfSome (
     (λ e. value_is ws h.1)
 
 pub read_is_small_value : {T : ℕ → Bool} (t : List ℕ) (r : SmallLocale) → IsSmall T t r → IsSmallValue T r
-read_is_small_value {T = T} t r h = subst (IsSmallValue T) (sym h.means) (record {
+read_is_small_value {T = T} t r small = subst (IsSmallValue T) (sym h.means) (record {
   language = IsNormal-normal (Language T) h.id.language words.language;
   script = option_normal Script h.id.script words.script;
   region = option_normal Region h.id.region words.region;
@@ -103,6 +111,9 @@ read_is_small_value {T = T} t r h = subst (IsSmallValue T) (sym h.means) (record
   value = (parts_are h.keyword h.grammatical).1;
 })
   where
+    h : IsTreeSmall T t r
+    h = small_is_tree t r small
+
     words : HasWords T h.id
     words = h.grammatical.id.words
 

@@ -4,7 +4,8 @@ use Rattle.std.specs.List.{AllByRecursion, list_all}
 use Rattle.std.proofs.lemmas.Bool.{cond_both, false_from_ne_true, eqb-true}
 use Rattle.std.proofs.lemmas.List.{map-append, take-append-le, take-append-drop}
 use Rattle.std.proofs.Math.Seq.{take-append_seam, drop-append_seam}
-use Rattle.iloc_spec_grammar.specs.Syntax.{Language, Script, Region, Variant, TransformKey, Attribute, is_word, IsWord, IsTable, lower, word_cmp, Identifier, Fields, Transform, transform, identifier_pieces, optional_pieces, fields_pieces, HasWords, IsIdentifier, IsField, IsTransform, AllDifferent, first_piece, front}
+use Rattle.iloc_spec_grammar.specs.Syntax.{Language, Script, Region, Variant, TransformKey, Attribute, is_word, IsWord, IsTable, lower, word_cmp, Identifier, Fields, Transform, identifier_pieces, optional_pieces, fields_pieces, HasWords, IsIdentifier, IsField, AllDifferent, first_piece, front}
+use Rattle.iloc_spec_grammar.specs.Tree.{transform, IsTransformBlock}
 use Rattle.iloc_spec_grammar.specs.Meaning.{normal_transform, Fault, InvalidSubtag, RepeatsVariant}
 use Rattle.iloc_spec_grammar.specs.ByBlocks.{TransformMeans}
 use Rattle.iloc_spec_grammar.specs.Reading.{IdentifierFront, EndsBefore, starts_block, from_block, front_of, after_front, identifier_of, fields_from}
@@ -110,7 +111,7 @@ one_transform T ps v w rest more a b =
     let fields : a.written.fields ≡ b.written.fields = sym (fields_are a.middle a.written.fields a.fields a.spelled) ∙ ap fields_at fronts.1 ∙ fields_are b.middle b.written.fields b.fields b.spelled in
     (a.means ∙ (λ i. normal_transform (record { id = fronts.0 i; fields = fields i })) ∙ sym b.means, a.left ∙ ap after_fields fronts.1 ∙ sym b.left)
 
-read_no_repeats : {T : ℕ → Bool} (ps : List (List ℕ)) {o : Option Identifier} {rest : List (List ℕ)} → FrontRead T ps o rest → RepeatsVariant T ps → ⊥
+pub read_no_repeats : {T : ℕ → Bool} (ps : List (List ℕ)) {o : Option Identifier} {rest : List (List ℕ)} → FrontRead T ps o rest → RepeatsVariant T ps → ⊥
 read_no_repeats ps (absent e) r = true≢false (sym (front_language ps r.0 r.1 r.2 r.3) ∙ e)
 read_no_repeats ps (present h f) r = no_repeats ps _ _ h f r
 
@@ -139,7 +140,7 @@ fields_answer {T = T} ps o middle h = cond_both (list_all is_field (fields_at mi
     let fields : r.written.fields ≡ fields_at middle = sym (fields_are r.middle r.written.fields r.fields r.spelled) ∙ ap fields_at fronts.1 in
     tests_not (fields_test o (fields_at middle)) n (subst (AllByRecursion IsField) fields r.fields, λ e. subst (λ (fs : Fields). 0 < length fs) fields (r.nonempty (fronts.0 ∙ e)))))
 
-no_empty_language : {T : ℕ → Bool} → IsTable T → is_word (Language T) [] ≡ false
+pub no_empty_language : {T : ℕ → Bool} → IsTable T → is_word (Language T) [] ≡ false
 no_empty_language {T = T} table = false_from_ne_true _ (λ h. let l = table.least 0 (length-language T [] h) in absurd (omega arith))
 
 pub transform_answer : {T : ℕ → Bool} → IsTable T → Answers (TransformRead T) (TransformFault T) (transform_result T)
@@ -169,7 +170,7 @@ transform_whole T table ps m rest h s =
     let front_is = front_parts ps h.id in
     let middle : h.middle ≡ fs ++ rest = sym (all_from_pieces is_key is_field_piece h.middle) ∙ (λ i. h.spelled i ++ sym h.left i) in
     let all : ps ≡ (o ++ fs) ++ rest = front_is.0 ∙ ap (λ l. o ++ l) middle ∙ sym (append_assoc o fs rest) in
-    let g : IsTransform T h.written = record { id = front_is.1; fields = h.fields; nonempty = h.nonempty } in
+    let g : IsTransformBlock T h.written = record { id = front_is.1; fields = h.fields; nonempty = h.nonempty } in
     let ends = until_block (o ++ fs) rest (long_extension T table 116 (transform h.written) (refl, g)) s in
     (record { written = h.written; grammatical = g; spelled = ap front all ∙ ends.0; means = h.means }, sym (ap from_block all ∙ ends.1))
 
@@ -214,7 +215,7 @@ transform_spelled {T = T} ps rest m h e = subst (λ (l : List (List ℕ)). Trans
     fs : Fields
     fs = h.written.fields
 
-    g : IsTransform T h.written
+    g : IsTransformBlock T h.written
     g = h.grammatical
 
     no_language : (fs : Fields) → AllByRecursion IsField fs → 0 < length fs → is_word (Language T) (first_piece (fields_pieces fs ++ rest)) ≡ false
@@ -251,8 +252,9 @@ one_is_short (p ∷ ps) e = λ l. true≢false (sym e ∙ l)
 repeats_before : {T : ℕ → Bool} → (ps rest : List (List ℕ)) → RepeatsVariant T ps → RepeatsVariant T (ps ++ rest)
 repeats_before ps rest r = (r.0, r.1 ++ rest, r.2, ap (λ l. l ++ rest) r.3 ∙ append_assoc (identifier_pieces r.0) r.1 rest, r.4)
 
-pub repeats_by_block : (T : ℕ → Bool) → IsTable T → (ps : List (List ℕ)) → RepeatsVariant T (front ps) ↔ RepeatsVariant T ps
-repeats_by_block T table ps = (λ r. subst (RepeatsVariant T) (front-from_block ps) (repeats_before (front ps) (from_block ps) r), λ r. whole (front ps) (from_block ps) (from_block_starts ps) (subst (RepeatsVariant T) (sym (front-from_block ps)) r))
+-- and what follows a block adds none
+pub repeats_in_block : {T : ℕ → Bool} → IsTable T → (ps rest : List (List ℕ)) → starts_block rest ≡ true → RepeatsVariant T ps ↔ RepeatsVariant T (ps ++ rest)
+repeats_in_block {T = T} table ps rest s = (repeats_before ps rest, whole ps)
   where
     no_first : (rest : List (List ℕ)) → starts_block rest ≡ true → RepeatsVariant T rest → ⊥
     no_first [] s r = let e = r.3 in absurd (cc)
@@ -262,11 +264,16 @@ repeats_by_block T table ps = (λ r. subst (RepeatsVariant T) (front-from_block 
         let one = eqb-true (length p) 1 s in
         absurd (omega arith)
 
-    whole : (qs rest : List (List ℕ)) → starts_block rest ≡ true → RepeatsVariant T (qs ++ rest) → RepeatsVariant T qs
-    whole [] rest s r = absurd (no_first rest s r)
-    whole (q ∷ qs) rest s r =
+    whole : (qs : List (List ℕ)) → RepeatsVariant T (qs ++ rest) → RepeatsVariant T qs
+    whole [] r = absurd (no_first rest s r)
+    whole (q ∷ qs) r =
         let tails : qs ++ rest ≡ after_language r.0 ++ r.1 = cc (r.3) in
         let heads : q ≡ r.0.language = cc (r.3) in
         let l = not_longer IsLong qs (after_language r.0) rest r.1 tails (long_after_language r.0 r.2) (one_is_short rest s) in
         let found = longer_front qs (after_language r.0) rest r.1 tails l in
         (r.0, found.0, r.2, (λ i. heads i ∷ found.1 i), r.4)
+
+pub repeats_by_block : (T : ℕ → Bool) → IsTable T → (ps : List (List ℕ)) → RepeatsVariant T (front ps) ↔ RepeatsVariant T ps
+repeats_by_block T table ps =
+    let same = repeats_in_block table (front ps) (from_block ps) (from_block_starts ps) in
+    (λ r. subst (RepeatsVariant T) (front-from_block ps) (same.0 r), λ r. same.1 (subst (RepeatsVariant T) (sym (front-from_block ps)) r))

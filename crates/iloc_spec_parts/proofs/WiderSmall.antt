@@ -1,18 +1,24 @@
 -- Over a wider table small texts stay what they are.
 use Rattle.std.proofs.Common.{◌≡◌, ℕ, Bool, true, List}
-use Rattle.iloc_spec_grammar.specs.Syntax.{IsExtension, singleton}
-use Rattle.iloc_spec_grammar.proofs.ValuesLaws.{all_weaker}
+use Rattle.std.proofs.lemmas.Option.{IfSome_then}
+use Rattle.iloc_spec_grammar.specs.Syntax.{IsIdentifier}
 use Rattle.iloc_spec_grammar.proofs.WiderTables as tables
-use Rattle.iloc_spec_parts.specs.Small.{SmallLocale, small_written, IsSmall}
+use Rattle.iloc_spec_parts.specs.Small.{SmallLocale, identifier_of_small, IsSmall}
 
 module _ {T U : ℕ → Bool} (wider : (n : ℕ) → T n ≡ true → U n ≡ true) where
   pub small_wider : (t : List ℕ) (r : SmallLocale) → IsSmall T t r → IsSmall U t r
-  small_wider t r h = record {
-    id = h.id;
-    keyword = h.keyword;
-    grammatical = record { id = tables.identifier wider h.id h.grammatical.id; extensions = all_weaker (λ e. IsExtension T (singleton e) e.1) (λ e. IsExtension U (singleton e) e.1) (λ e h. tables.extension wider (singleton e) e.1 h) (small_written h.id h.keyword).extensions h.grammatical.extensions; different = h.grammatical.different; private = h.grammatical.private };
-    spelled = h.spelled;
-    one_variant = h.one_variant;
-    one_value = h.one_value;
-    means = h.means;
-  }
+  small_wider t r h =
+      let s = h.spelled in record {
+        id = tables.identifier_means_wider wider _ (identifier_of_small r.id) h.id;
+        written = h.written;
+        spelled = record {
+          blocks = s.blocks;
+          different = s.different;
+          unicode = s.unicode;
+          transform = (record { id = IfSome_then h.written.transform.id {P = IsIdentifier T} s.transform.0.id (tables.identifier wider); fields = s.transform.0.fields }, s.transform.1);
+          private = s.private;
+          others = s.others;
+        };
+        one_keyword = h.one_keyword;
+        means = h.means;
+      }

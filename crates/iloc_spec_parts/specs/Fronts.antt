@@ -5,7 +5,7 @@
 use Rattle.std.specs.Prelude.{◌≡◌, ◌+◌, ◌<◌, Bool, true, false, not, ◌&&◌, ◌||◌, List, [], length, map, if◌then◌else◌, Option, Some, None, nat_lt, ◌∷◌, is_some, Result, Ok, Err}
 use Rattle.std.specs.Int.{is_in_range}
 use Rattle.std.specs.List.{AllByRecursion, list_any, list_all}
-use Rattle.iloc_spec_grammar.specs.Syntax.{Text, Table, Language, UnicodeKey, TransformKey, Attribute, PrivateSubtag, is_word, IsWord, lower, word_cmp, Identifier, Fields, Unicode, Transform, fields_pieces, IsKeyword, IsField, IsOther, IsPrivate, IsIdentifier, kept, first_piece}
+use Rattle.iloc_spec_grammar.specs.Syntax.{Text, Table, Language, UnicodeKey, TransformKey, Attribute, PrivateSubtag, is_word, IsWord, lower, word_cmp, Identifier, Fields, Unicode, Transform, fields_pieces, IsKeyword, IsField, IsOther, IsIdentifier, kept, first_piece}
 use Rattle.iloc_spec_grammar.specs.Meaning.{set_of, normal_fields, normal_transform, Fault, InvalidSubtag, InvalidExtension, RepeatsVariant}
 use Rattle.iloc_spec_grammar.specs.Reading.{passing, past, is_two, rest_of, IdentifierFront, front_of, after_front, fields_from}
 use Rattle.iloc_spec_grammar.specs.Computing.{all_different, is_field, is_other, is_private}
@@ -145,6 +145,11 @@ pub data OtherFault (ps : List Text) : Fault → Type 0 where
 -- the longest front of private words
 abbrev pub private_front : List Text → List Text
 private_front ps = passing (is_word PrivateSubtag) ps
+
+-- private words, one at least (UTS #35 3.2, `pu_extensions`)
+pub record IsPrivate (ps : List Text) : Type 0 where
+  pub words : AllByRecursion (IsWord PrivateSubtag) ps
+  pub nonempty : 0 < length ps
 
 -- after `x` all pieces are read, and nothing is left (UTS #35 3.2, `pu_extensions`)
 pub record PrivateRead (ps ws rest : List Text) : Type 0 where

@@ -1,34 +1,31 @@
 -- Inline texts: locales of at most four words in each list and one keyword, which are read without
 -- memory, since so many are kept inline. Every small text is one. This project's rule.
-use Rattle.std.specs.Prelude.{◌≡◌, ◌≤◌, [], length, IfSome, ⊤, true, List, ◌∷◌, ◌++◌, Option}
+use Rattle.std.specs.Prelude.{◌≡◌, ◌≤◌, if◌then◌else◌, [], length, IfSome, true, List, ◌∷◌, ◌++◌}
 use Rattle.std.specs.List.{AllByRecursion}
-use Rattle.iloc_spec_grammar.specs.Syntax.{Text, Table, Block, code_t, code_u, code_x, pieces, Extension, unicode, Written, IsWritten, spelling, Identifier, identifier_pieces, IsIdentifier, IsOther, kept, is_other_singleton, singleton}
-use Rattle.iloc_spec_grammar.specs.Meaning.{extensions_meaning, normal_identifier, normal_values, normal_fields, head, tail_blocks, IsBlock, HasSingleton, IsNew}
-use Rattle.iloc_spec_grammar.specs.Reading.{starts_block, IdentifierFront}
-use Rattle.iloc_spec_parts.specs.Fronts.{attributes_read, after_attributes, FrontRead, BeginsField, other_front, private_front, keywords_kept}
-
--- each keyword as it is written, a repeated one too, has at most four values besides `true`
-abbrev pub HasFewValues : Extension → Type 0
-HasFewValues (unicode u) = AllByRecursion (λ f. length (normal_values f.1) ≤ 4) u.keywords
-HasFewValues _ = ⊤
+use Rattle.std.specs.Char.{is_ascii_alphanumeric}
+use Rattle.iloc_spec_grammar.specs.Syntax.{Text, Table, Block, code_t, code_u, code_x, pieces, Language, IsWord, is_word, first_piece, Identifier, identifier_pieces, IsIdentifier, IsOther, kept, is_other_singleton, singleton}
+use Rattle.iloc_spec_grammar.specs.Meaning.{Extensions, IdentifierMeans, SpellsExtensions, normal_identifier, normal_unicode, normal_values, normal_fields, head, tail_blocks, AreBlocks, IsSecond, RepeatsVariant}
+use Rattle.iloc_spec_grammar.specs.Reading.{front_of, after_front}
+use Rattle.iloc_spec_parts.specs.Fronts.{attributes_read, after_attributes, BeginsField, other_front, private_front, keywords_kept}
 
 -- The text is a locale with few words: no transform fields, no other extensions, one keyword at
--- most.
+-- most, and at most four values besides `true` at each key as it is written.
 pub record IsInline (T : Table) (t : Text) : Type 0 where
-  pub written : Written
-  pub grammatical : IsWritten T written
-  pub spelled : pieces t ≡ spelling written
-  pub variants : length (normal_identifier written.id).variants ≤ 4
-  pub attributes : length (extensions_meaning written).unicode.attributes ≤ 4
-  pub keywords : length (extensions_meaning written).unicode.keywords ≤ 1
-  pub values : AllByRecursion (λ e. HasFewValues e.1) written.extensions
-  pub transform_variants : IfSome (extensions_meaning written).transform.id (λ i. length i.variants ≤ 4)
-  pub no_fields : (extensions_meaning written).transform.fields ≡ []
-  pub private : length (extensions_meaning written).private ≤ 4
-  pub no_others : (extensions_meaning written).others ≡ []
+  pub id : Identifier
+  pub extensions : Extensions
+  pub means : IdentifierMeans T (head (pieces t)) id
+  pub spelled : SpellsExtensions T (tail_blocks (pieces t)) extensions
+  pub variants : length id.variants ≤ 4
+  pub attributes : length (normal_unicode extensions.unicode).attributes ≤ 4
+  pub keywords : length (normal_unicode extensions.unicode).keywords ≤ 1
+  pub values : AllByRecursion (λ f. length (normal_values f.1) ≤ 4) extensions.unicode.keywords
+  pub transform_variants : IfSome extensions.transform.id
+      (λ i. length (normal_identifier i).variants ≤ 4)
+  pub no_fields : extensions.transform.fields ≡ []
+  pub private : length extensions.private ≤ 4
+  pub no_others : extensions.others ≡ []
 
--- Inline texts, told block by block: what the reader of each part finds at its front, whatever
--- follows the block.
+-- Inline texts, told block by block: what the reader of each part finds at its front.
 
 -- after `u`: four attributes at most, and of the keywords before a bad key one key, and four values
 -- at each key as it is written
@@ -38,35 +35,33 @@ pub record IsShortUnicode (ps : List Text) : Type 0 where
   pub values : AllByRecursion (λ f. length (normal_values f.1) ≤ 4)
       (keywords_kept (after_attributes ps))
 
--- after `t`: four variants at most, and no key with a value
+-- after `t`: four variants at most after a language; and no key with a value follows, unless a
+-- variant stands twice
 pub record IsShortTransform (T : Table) (ps : List Text) : Type 0 where
-  pub variants : (i : Identifier) (rest : List Text) → IdentifierFront T ps i rest
-      → length i.variants ≤ 4
-  pub no_field : (o : Option Identifier) (middle : List Text) → FrontRead T ps o middle
-      → ¬ (BeginsField middle)
+  pub variants : IsWord (Language T) (first_piece ps) → length (front_of ps).variants ≤ 4
+  pub no_field : ¬ (RepeatsVariant T ps)
+      → ¬ (BeginsField (if is_word (Language T) (first_piece ps) then after_front ps else ps))
 
 -- after another singleton: the rule is broken, and at most four words are before the fault
 pub record IsShortOther (ps : List Text) : Type 0 where
   pub words : length (kept (other_front ps)) ≤ 4
   pub broken : ¬ (IsOther ps)
 
--- after `x`: four words at most before a fault
+-- the block holds few words up to the end of its part, or up to a fault; after `x`, four at most
 pub record IsShortBlock (T : Table) (b : Block) : Type 0 where
-  pub unicode : singleton b ≡ code_u → (rest : List Text) → starts_block rest ≡ true
-      → IsShortUnicode (b.1 ++ rest)
-  pub transform : singleton b ≡ code_t → (rest : List Text) → starts_block rest ≡ true
-      → IsShortTransform T (b.1 ++ rest)
+  pub unicode : singleton b ≡ code_u → IsShortUnicode b.1
+  pub transform : singleton b ≡ code_t → IsShortTransform T b.1
   pub private : singleton b ≡ code_x → length (private_front b.1) ≤ 4
   pub other : is_other_singleton (singleton b) ≡ true → IsShortOther b.1
 
 -- A block that isn't short is reached: those before it are good, and its own singleton is a letter
 -- or digit, and new. Only there may a reader of blocks allocate.
-pub data ReachesLongBlock (T : Table) : Text → List Block → Type 0 where
-  here : {seen : Text} {b : Block} {bs : List Block} → HasSingleton b → IsNew seen b
-      → ¬ (IsShortBlock T b) → ReachesLongBlock T seen (b ∷ bs)
-  later : {seen : Text} {b : Block} {bs : List Block} → HasSingleton b → IsNew seen b
-      → IsBlock T b → ReachesLongBlock T (singleton b ∷ seen) bs → ReachesLongBlock T seen (b ∷ bs)
+abbrev pub ReachesLongBlock : Table → List Block → Type 0
+ReachesLongBlock T bs = (good rest : List Block) × (b : Block) × (bs ≡ good ++ (b ∷ rest))
+    × AreBlocks T good × (is_ascii_alphanumeric b.0 ≡ true) × ¬ (IsSecond good b)
+    × ¬ (IsShortBlock T b)
 
+-- the head has four variants at most, and each block after it is short
 pub record IsInlineByBlocks (T : Table) (t : Text) : Type 0 where
   pub variants : (i : Identifier) → IsIdentifier T i → head (pieces t) ≡ identifier_pieces i
       → length i.variants ≤ 4

@@ -2,12 +2,11 @@
 -- most one value besides `true`, as in `en-US-u-ca-buddhist`. They are the part of UTS #35's
 -- unicode_locale_id that is read without allocating; where it ends, and how the others are refused, is
 -- this project's rule.
-use Rattle.std.specs.Prelude.{◌≡◌, ◌≢◌, ℕ, ◌≤◌, true, false, List, [], ◌∷◌, length, map, Option, Some, None, IfSome, option_map, option_to_list}
+use Rattle.std.specs.Prelude.{◌≡◌, ◌≢◌, ◌≤◌, true, false, List, [], ◌∷◌, length, Option, IfSome, option_map, option_to_list}
 use Rattle.std.specs.Char.{is_ascii_alphanumeric}
-use Rattle.iloc_spec_grammar.specs.Syntax.{Text, Table, Field, Block, code_u, pieces, Language, Script, Region, Variant, UnicodeKey, Attribute, is_word, IsWord, is_true, lower, title, upper, Identifier, Extension, unicode, Written, identifier_pieces, IsIdentifier, IsWritten, spelling, singleton, head, tail_blocks, first_piece}
-use Rattle.iloc_spec_grammar.specs.Meaning.{Locale, just_unicode, normal_values, Fault, InvalidLanguage, InvalidSubtag, InvalidExtension}
+use Rattle.iloc_spec_grammar.specs.Syntax.{Text, Table, Field, Block, code_u, pieces, Language, Script, Region, Variant, UnicodeKey, Attribute, is_word, IsWord, is_true, Identifier, singleton, head, tail_blocks, first_piece}
+use Rattle.iloc_spec_grammar.specs.Meaning.{Locale, Extensions, just_unicode, IdentifierMeans, SpellsExtensions, normal_extensions, Fault, InvalidLanguage, InvalidSubtag, InvalidExtension}
 use Rattle.iloc_spec_grammar.specs.Values.{IsNormal}
-use Rattle.iloc_spec_grammar.specs.Reading.{first_item}
 
 -- What is read.
 
@@ -46,53 +45,17 @@ locale_of_small r = record {
       (record { attributes = []; keywords = option_to_list (option_map keyword_of_small r.keyword) });
 }
 
--- the normal words of an identifier with at most one variant
-abbrev pub small_identifier : Identifier → SmallIdentifier
-small_identifier i = record {
-  language = lower i.language;
-  script = option_map title i.script;
-  region = option_map upper i.region;
-  variant = first_item (map lower i.variants);
-}
+-- the pieces mean an identifier with at most one variant
+abbrev pub IsSmallIdentifier : Table → List Text → SmallIdentifier → Type 0
+IsSmallIdentifier T ps r = IdentifierMeans T ps (identifier_of_small r)
 
--- The pieces are an identifier with at most one variant.
-pub record IsSmallIdentifier (T : Table) (ps : List Text) (r : SmallIdentifier) : Type 0 where
-  pub written : Identifier
-  pub grammatical : IsIdentifier T written
-  pub spelled : ps ≡ identifier_pieces written
-  pub one_variant : length written.variants ≤ 1
-  pub means : r ≡ small_identifier written
-
--- a keyword as it is written: its singleton, its key, and the pieces after it
-pub record WrittenKeyword : Type 0 where
-  pub byte : ℕ
-  pub key : Text
-  pub values : List Text
-
--- its key and its first value besides `true`
-abbrev pub small_keyword : WrittenKeyword → Text × Option Text
-small_keyword k = (lower k.key, first_item (normal_values k.values))
-
--- no extension, or one keyword after its singleton
-abbrev pub keyword_extension : Option WrittenKeyword → List (ℕ × Extension)
-keyword_extension None = []
-keyword_extension (Some k) =
-    (k.byte, unicode (record { attributes = []; keywords = (k.key, k.values) ∷ [] })) ∷ []
-
--- what is written: the identifier, and perhaps a block of `u`
-abbrev pub small_written : Identifier → Option WrittenKeyword → Written
-small_written i k = record { id = i; extensions = keyword_extension k; private = None }
-
--- The text is an identifier with at most one variant, and perhaps one keyword with at most one
--- value besides `true`.
+-- The text means such a locale, and one keyword at most is written.
 pub record IsSmall (T : Table) (t : Text) (r : SmallLocale) : Type 0 where
-  pub id : Identifier
-  pub keyword : Option WrittenKeyword
-  pub grammatical : IsWritten T (small_written id keyword)
-  pub spelled : pieces t ≡ spelling (small_written id keyword)
-  pub one_variant : length id.variants ≤ 1
-  pub one_value : IfSome keyword (λ k. length (normal_values k.values) ≤ 1)
-  pub means : r ≡ record { id = small_identifier id; keyword = option_map small_keyword keyword }
+  pub id : IsSmallIdentifier T (head (pieces t)) r.id
+  pub written : Extensions
+  pub spelled : SpellsExtensions T (tail_blocks (pieces t)) written
+  pub one_keyword : length written.unicode.keywords ≤ 1
+  pub means : (locale_of_small r).extensions ≡ normal_extensions written
 
 -- Why a text isn't small.
 
@@ -119,7 +82,7 @@ pub data SmallBlockFault (b : Block) : Fault → Type 0 where
 -- The text is not small, for this reason: its head, or else its first block.
 pub data HasSmallFault (T : Table) (t : Text) : Fault → Type 0 where
   bad_head : {f : Fault} → HasSmallIdentifierFault T (head (pieces t)) f → HasSmallFault T t f
-  bad_block : {f : Fault} {r : SmallIdentifier} {b : Block} {bs : List Block}
+  bad_block : {f : Fault} (r : SmallIdentifier) {b : Block} {bs : List Block}
       → IsSmallIdentifier T (head (pieces t)) r → ((r : SmallLocale) → ¬ (IsSmall T t r))
       → tail_blocks (pieces t) ≡ b ∷ bs → SmallBlockFault b f → HasSmallFault T t f
 

@@ -1,19 +1,29 @@
 -- Plain programs: what is read of a small text, or the fault; and whether a text is inline.
-use Rattle.std.specs.Prelude.{ℕ, Bool, true, false, ◌&&◌, ◌==◌, nat_le, List, [], ◌∷◌, length, if◌then◌else◌, Option, Some, None, Result, Ok, Err}
+use Rattle.std.specs.Prelude.{ℕ, Bool, true, false, ◌&&◌, ◌==◌, nat_le, List, [], ◌∷◌, length, if◌then◌else◌, Option, Some, None, Result, Ok, Err, map, option_map}
 use Rattle.std.specs.Char.{is_ascii_alphanumeric, to_ascii_lowercase}
 use Rattle.std.specs.List.{list_all}
-use Rattle.iloc_spec_grammar.specs.Syntax.{Text, Table, Block, code_u, pieces, Language, Variant, UnicodeKey, Attribute, is_word, lower, Extension, unicode, Written, singleton}
+use Rattle.iloc_spec_grammar.specs.Syntax.{Text, Table, Block, code_u, pieces, Language, Variant, UnicodeKey, Attribute, Identifier, is_word, lower, title, upper, singleton}
+use Rattle.iloc_spec_grammar.specs.Tree.{Extension, unicode, Written}
 use Rattle.iloc_spec_grammar.specs.Meaning.{Locale, normal_values, Fault, InvalidLanguage, InvalidSubtag, InvalidExtension, head, tail_blocks, first_piece}
 use Rattle.iloc_spec_grammar.specs.Values.{text}
 use Rattle.iloc_spec_grammar.specs.Reading.{identifier_of, first_item, written_of}
 use Rattle.iloc_spec_grammar.specs.Computing.{holds_if_some, locale_result}
-use Rattle.iloc_spec_parts.specs.Small.{SmallIdentifier, SmallLocale, locale_of_small, small_identifier}
+use Rattle.iloc_spec_parts.specs.Small.{SmallIdentifier, SmallLocale, locale_of_small}
 
 -- Identifiers: after the words at the front there is at most one piece, a variant.
 
 -- whether the pieces are variants, one at most
 abbrev pub has_small_variants : List Text → Bool
 has_small_variants vs = list_all (is_word Variant) vs && nat_le (length vs) 1
+
+-- the normal words of an identifier with at most one variant
+abbrev pub small_identifier : Identifier → SmallIdentifier
+small_identifier i = record {
+  language = lower i.language;
+  script = option_map title i.script;
+  region = option_map upper i.region;
+  variant = first_item (map lower i.variants);
+}
 
 -- the small identifier that the pieces are, or why they are none
 unfoldable pub small_identifier_result : Table → List Text → Result SmallIdentifier Fault

@@ -9,12 +9,12 @@ ghost use Rattle.std.specs.Prelude.{◌≡◌, ◌↔◌, true, false, ◌||◌,
 ghost use Rattle.std.specs.FinMap.{find};
 ghost use Rattle.std.specs.List.{AllByRecursion, list_any};
 ghost use Rattle.std.specs.Option.{option_or};
-ghost use Rattle.iloc_spec_grammar.specs.Syntax.{Text, Table, Block, code_t, code_u, code_x, pieces, join, IsTable, Subtag, Attribute, is_true, is_same, word_cmp, languages, Unicode, Transform, IsOther, IsPrivate, is_other_singleton, singleton};
+ghost use Rattle.iloc_spec_grammar.specs.Syntax.{Text, Table, Block, code_t, code_u, code_x, pieces, join, IsTable, Subtag, Attribute, is_true, is_same, word_cmp, languages, Unicode, Transform, IsOther, is_other_singleton, singleton};
 ghost use Rattle.iloc_spec_grammar.specs.Values.{IsNormal, IsUnicodeValue, spelled_value};
-ghost use Rattle.iloc_spec_grammar.specs.Meaning.{InvalidSubtag, InvalidExtension, IsBlock, RepeatsVariant, front, Locale, Means};
+ghost use Rattle.iloc_spec_grammar.specs.Meaning.{InvalidSubtag, InvalidExtension, RepeatsVariant, AreBlocks, front, Locale, Means};
 ghost use Rattle.iloc_spec_grammar.specs.ByBlocks.{UnicodeMeans, TransformMeans, OtherMeans};
 ghost use Rattle.iloc_spec_parts.specs.Readers.{IsReader, AgreesWithBlocks};
-ghost use Rattle.iloc_spec_parts.specs.Fronts.{attributes_read, KeywordsRead, KeywordsFault, UnicodeRead, UnicodeFault, TransformRead, TransformFault, OtherRead, OtherFault, PrivateRead, PrivateFault, keywords_result, unicode_result, transform_result, other_result, private_result};
+ghost use Rattle.iloc_spec_parts.specs.Fronts.{attributes_read, KeywordsRead, KeywordsFault, UnicodeRead, UnicodeFault, TransformRead, TransformFault, OtherRead, OtherFault, IsPrivate, PrivateRead, PrivateFault, keywords_result, unicode_result, transform_result, other_result, private_result};
 ghost use Rattle.iloc_spec_parts.specs.Parts.{PartRead, PartFault, is_letter};
 ghost use Rattle.iloc_spec_parts.specs.PartValues.{unicode_value, transform_value};
 ghost use Rattle.iloc_spec_parts.specs.Extending.{extend};
@@ -83,12 +83,13 @@ pub fn parts()
 /// A block follows its rule exactly if it means a part.
 pub fn block_rules()
     ensures unicode { (T : Table) (b : Block) → singleton b ≡ code_u
-        → IsBlock T b ↔ ((u : Unicode) × UnicodeMeans b.1 u) }
+        → AreBlocks T (b ∷ []) ↔ ((u : Unicode) × UnicodeMeans b.1 u) }
     ensures transform { (T : Table) (b : Block) → singleton b ≡ code_t
-        → IsBlock T b ↔ ((m : Transform) × TransformMeans T b.1 m) }
-    ensures private { (T : Table) (b : Block) → singleton b ≡ code_x → IsBlock T b ↔ IsPrivate b.1 }
+        → AreBlocks T (b ∷ []) ↔ ((m : Transform) × TransformMeans T b.1 m) }
+    ensures private { (T : Table) (b : Block) → singleton b ≡ code_x
+        → AreBlocks T (b ∷ []) ↔ IsPrivate b.1 }
     ensures other { (T : Table) (b : Block) → is_other_singleton (singleton b) ≡ true
-        → IsBlock T b ↔ IsOther b.1 }
+        → AreBlocks T (b ∷ []) ↔ IsOther b.1 }
 {}
 
 /// The text of a value is read as it.

@@ -115,8 +115,8 @@ pub fn by_blocks()
 /// If all blocks are short, none that is long is reached.
 #[tactic(auto, using(crate::proofs::InlineBlockLaws::none_long))]
 pub fn short_blocks()
-    ensures { (T : Table) (seen : Text) (bs : List Block)
-        → ReachesLongBlock T seen bs → ¬ (AllByRecursion (IsShortBlock T) bs) }
+    ensures { (T : Table) (bs : List Block) → ReachesLongBlock T bs
+        → ¬ (AllByRecursion (IsShortBlock T) bs) }
 {}
 
 /// A block that breaks its rule before anything is kept of it is short: so `en-u-a8`, `en-t-m0` and `en-a-!!` are refused without allocating.

@@ -5,7 +5,7 @@ use Rattle.std.proofs.lemmas.Bool.{cond_both}
 use Rattle.std.proofs.lemmas.Bool.Decides.{nat_tests}
 use Rattle.iloc_spec_grammar.specs.Syntax.{join, Region, Subtag, UnicodeKey, Attribute, SubdivisionSuffix, is_word, IsWord, IsTable, lower, is_same, is_true, identifier_pieces}
 use Rattle.iloc_spec_grammar.specs.Meaning.{Locale, Fault, InvalidExtension}
-use Rattle.iloc_spec_grammar.specs.Values.{IsNormal, IsValue, IsWellFormed, text}
+use Rattle.iloc_spec_grammar.specs.Values.{IsNormal, IsValue, IsWellFormed, extensions_spelling, text}
 use Rattle.iloc_spec_grammar.proofs.MapLaws.{same_itself, same_is}
 use Rattle.iloc_spec_grammar.proofs.WordsLaws.{is_word-lower, lower-lower}
 use Rattle.iloc_spec_grammar.proofs.Corollaries.{same_text_same_value}
@@ -17,7 +17,7 @@ use Rattle.iloc_spec_preferences.specs.DataLocales.{DataLocale, IsDataLocale, wh
 use Rattle.iloc_spec_preferences.proofs.Keys.{sd}
 use Rattle.iloc_spec_parts.proofs.SmallLaws.{one_small, small_answer, small_apart, one_small_fault, by_result}
 use Rattle.iloc_spec_parts.specs.SmallComputing.{small_result}
-use Rattle.iloc_spec_parts.proofs.SmallBack.{small_back, small_is_value, read_is_small_value}
+use Rattle.iloc_spec_parts.proofs.SmallBack.{small_back, small_is_value, small_is_well_formed, read_is_small_value}
 use Rattle.iloc_spec_preferences.proofs.SubdivisionLaws.{subdivision_back, subdivision_is_subtag, read_is_subdivision, text_of_read, read_is_long}
 
 -- what is read of a text
@@ -66,6 +66,7 @@ words_first : (l : List ℕ) (s r v : List (List ℕ)) (rest : List (List ℕ)) 
 words_first l s r v rest = ap (λ ws. l ∷ ws) (append_assoc s (r ++ v) rest ∙ ap (λ ws. s ++ ws) (append_assoc r v rest))
 
 pub text_of_data : (d : DataLocale) → text (locale_of_data d) ≡ data_text d
+unfolding extensions_spelling
 text_of_data d = from (subdivision_keyword d)
   where
     id : SmallIdentifier
@@ -105,9 +106,12 @@ small_value_of_data d h =
     parts_are None k = (tt, tt)
     parts_are (Some w) k = (sd_key, cond_both (is_true (lower w)) _ _ (λ ws. IfSome (first_item ws) (λ w. IsNormal Attribute w × (is_true w ≡ false))) (λ e. tt) (λ e. ((is_word-lower Attribute w ∙ attribute_from w k.0 k.1, lower-lower w), e)))
 
--- the locale that a data locale becomes is a well-formed value
-pub locale_of_data_is_value : {T : ℕ → Bool} (d : DataLocale) → IsDataLocale T d → IsValue T (locale_of_data d) × IsWellFormed (locale_of_data d)
+-- the locale that a data locale becomes is a value, and well-formed
+pub locale_of_data_is_value : {T : ℕ → Bool} (d : DataLocale) → IsDataLocale T d → IsValue T (locale_of_data d)
 locale_of_data_is_value d h = small_is_value (small_of_data d) (small_value_of_data d h)
+
+pub locale_of_data_is_well_formed : {T : ℕ → Bool} → IsTable T → (d : DataLocale) → IsDataLocale T d → IsWellFormed (locale_of_data d)
+locale_of_data_is_well_formed table d h = small_is_well_formed table (small_of_data d) (small_value_of_data d h)
 
 -- what is read: made of a part that spells no `true`
 
@@ -194,4 +198,4 @@ data_or_fault {T = T} table t = by_result (DataMeans T t) (HasDataFault T t) (da
 
 -- no other well-formed value has its text
 pub only_locale : {T : ℕ → Bool} → IsTable T → (d : DataLocale) → IsDataLocale T d → (M : Locale) → IsValue T M → IsWellFormed M → text M ≡ data_text d → M ≡ locale_of_data d
-only_locale {T = T} table d h M v w e = let l = locale_of_data_is_value d h in same_text_same_value T table M (locale_of_data d) v w l.0 l.1 (e ∙ sym (text_of_data d))
+only_locale {T = T} table d h M v w e = same_text_same_value M (locale_of_data d) w (locale_of_data_is_well_formed table d h) (e ∙ sym (text_of_data d))

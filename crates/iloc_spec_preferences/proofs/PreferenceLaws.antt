@@ -4,10 +4,11 @@ use Rattle.std.specs.Option.{option_or}
 use Rattle.std.specs.Result.{result_ok}
 use Rattle.std.specs.List.{AllByRecursion}
 use Rattle.std.specs.FinMap.{find, is_sorted}
-use Rattle.iloc_spec_grammar.specs.Syntax.{Region, Variant, Subtag, UnicodeKey, word_cmp, is_same, is_word, lower, is_true}
+use Rattle.iloc_spec_grammar.specs.Syntax.{IsTable, Region, Variant, Subtag, UnicodeKey, word_cmp, is_same, is_word, lower, is_true}
 use Rattle.iloc_spec_grammar.specs.Meaning.{Locale}
 use Rattle.iloc_spec_grammar.specs.Values.{IsNormal, IsValue, IsWellFormed}
 use Rattle.iloc_spec_grammar.proofs.ValuesLaws.{all_weaker}
+use Rattle.iloc_spec_grammar.proofs.Corollaries.{well_formed_value}
 use Rattle.iloc_spec_grammar.proofs.WordsLaws.{length-lower, length-region}
 use Rattle.iloc_spec_grammar.specs.Reading.{first_item}
 use Rattle.iloc_spec_preferences.specs.Subdivisions.{Subdivision, IsSubdivision, subdivision, subdivision_text}
@@ -127,26 +128,26 @@ entries_ascend (Some s) None = refl
 entries_ascend None (Some q) = elim (is_whole q) as (λ b. is_sorted word_cmp (cond b [] ((sd, subdivision_gives q) ∷ [])) ≡ true) [ true ↦ refl | false ↦ refl ]
 entries_ascend (Some s) (Some q) = elim (is_whole q) as (λ b. is_sorted word_cmp ((rg, subdivision_gives s) ∷ cond b [] ((sd, subdivision_gives q) ∷ [])) ≡ true) [ true ↦ refl | false ↦ refl ]
 
-pub locale_is_value : {T : ℕ → Bool} (p : Preferences) → IsPreferences T p → IsValue T (locale_of_preferences p) × IsWellFormed (locale_of_preferences p)
-locale_is_value {T = T} p h = (
-  record {
-    id = record { language = h.language; script = h.script; region = region_is p.region h.region; variants = one_normal Variant p.variant h.variant; ascending = one_ascends p.variant };
-    extensions = record {
-      unicode = record { attributes = tt; ascending = refl; keywords = all_weaker IsEntry (λ f. IsNormal UnicodeKey f.0 × AllByRecursion (IsNormal Subtag) f.1) (λ f e. e.0) _ entries; keys_ascend = entries_ascend p.region_override p.region };
-      transform = record { id = tt; fields = tt; keys_ascend = refl };
-      private = tt;
-      others = tt;
-    };
-  },
-  record { ascending = refl; singletons = tt; nonempty = tt; values = all_weaker IsEntry (λ f. AllByRecursion (λ w. (is_true w ≡ false) × (length w ≢ 2)) f.1) (λ f e. e.1) _ entries },
-)
-  where
-    entries : AllByRecursion IsEntry (rg_entry p.region_override ++ sd_entry p.region)
-    entries = entries_are p.region_override p.region h.region_override h.region
+locale_entries : (p : Preferences) → {T : ℕ → Bool} → IsPreferences T p → AllByRecursion IsEntry (rg_entry p.region_override ++ sd_entry p.region)
+locale_entries p h = entries_are p.region_override p.region h.region_override h.region
 
+pub locale_is_value : {T : ℕ → Bool} (p : Preferences) → IsPreferences T p → IsValue T (locale_of_preferences p)
+locale_is_value p h = record {
+  id = record { language = h.language; script = h.script; region = region_is p.region h.region; variants = one_normal Variant p.variant h.variant; ascending = one_ascends p.variant };
+  extensions = record {
+    unicode = record { attributes = tt; ascending = refl; keywords = all_weaker IsEntry (λ f. IsNormal UnicodeKey f.0 × AllByRecursion (IsNormal Subtag) f.1) (λ f e. e.0) _ (locale_entries p h); keys_ascend = entries_ascend p.region_override p.region };
+    transform = record { id = tt; fields = tt; keys_ascend = refl };
+    private = tt;
+    others = tt;
+  };
+}
+  where
     region_is : (o : Option Subdivision) → IfSome o IsSubdivision → IfSome (option_map (λ s. s.region) o) (IsNormal Region)
     region_is None h = tt
     region_is (Some s) h = h.region
+
+pub locale_is_well_formed : {T : ℕ → Bool} → IsTable T → (p : Preferences) → IsPreferences T p → IsWellFormed (locale_of_preferences p)
+locale_is_well_formed table p h = well_formed_value table (locale_of_preferences p) (locale_is_value p h) (record { ascending = refl; singletons = tt; nonempty = tt; values = all_weaker IsEntry (λ f. AllByRecursion (λ w. (is_true w ≡ false) × (length w ≢ 2)) f.1) (λ f e. e.1) _ (locale_entries p h) })
 
 -- preferences of a value keep what the type keeps
 

@@ -1,17 +1,14 @@
 -- Worked examples are shown on texts.
 use Rattle.std.specs.Prelude.{Bool, Result, Ok, Err}
-use Rattle.iloc_spec_grammar.specs.Syntax.{Text, Table, pieces}
-use Rattle.iloc_spec_grammar.specs.Meaning.{Locale, meaning, Fault}
+use Rattle.iloc_spec_grammar.specs.Syntax.{Text, Table}
+use Rattle.iloc_spec_grammar.specs.Meaning.{Locale, Fault}
 use Rattle.iloc_spec_grammar.specs.Values.{text}
-use Rattle.iloc_spec_grammar.specs.Reading.{written_of}
 use Rattle.iloc_spec_grammar.specs.Computing.{locale_result}
+use Rattle.iloc_spec_parts.specs.Examples.{meaning_of}
 use Rattle.iloc_spec_preferences.specs.DataLocales.{data_text}
 use Rattle.iloc_spec_preferences.specs.Preferences.{Preferences, preferences, is_strict, language_priority, region_priority, locale_of_preferences}
 
--- what the text means, if it is a locale, and its preferences
-abbrev pub meaning_of : Text → Locale
-meaning_of t = meaning (written_of (pieces t))
-
+-- the preferences of what the text means, if it is a locale
 abbrev pub preferences_of : Text → Preferences
 preferences_of t = preferences (meaning_of t)
 

@@ -14,7 +14,8 @@ ghost use Rattle.iloc_spec_preferences.specs.DataLocales.{DataLocale, DataMeans,
 ghost use Rattle.iloc_spec_preferences.specs.Keywords.{EnumKeyword, CalendarAlgorithm, CollationNumericOrdering, HourCycle, enum_reads, enum_gives, ReadsWhatItGives, subtag_gives, scripts_read, scripts_give, subdivision_reads, subdivision_gives};
 ghost use Rattle.iloc_spec_preferences.specs.Preferences.{Preferences, is_strict, IsPreferences, SpellsNoTrue, default_preferences, preferences, identifier_preferences, language_priority, merge, locale_of_preferences};
 ghost use Rattle.iloc_spec_preferences.specs.Formatters.{FormatPreferences, TimePreferences, plain_time, plain_format, merge_time, merge_format, is_strict_format, format_preferences};
-ghost use Rattle.iloc_spec_preferences.specs.PreferenceExamples.{meaning_of, preferences_of, conversions, text_of_preferences};
+ghost use Rattle.iloc_spec_parts.specs.Examples.{meaning_of};
+ghost use Rattle.iloc_spec_preferences.specs.PreferenceExamples.{preferences_of, conversions, text_of_preferences};
 
 /// Each keyword turned into a list and read is itself; a list that would spell `true` is empty, and lost for keywords that hold subtags.
 #[tactic(auto, using(crate::proofs::PreferenceLaws::read_given, crate::proofs::KeywordLaws::reads_what_it_gives, crate::proofs::KeywordLaws::currency_read_back, crate::proofs::KeywordLaws::subtag_read_back, crate::proofs::KeywordLaws::scripts_read_back))]
@@ -53,11 +54,13 @@ pub fn merging_formatters()
 {}
 
 /// The locale of preferences is well-formed, and has these preferences exactly if no subdivision spells `true`.
-#[tactic(auto, using(crate::proofs::PreferenceLaws::strict_locale, crate::proofs::PreferenceLaws::preferences_are, crate::proofs::PreferenceLaws::locale_is_value, crate::proofs::PreferenceLaws::preferences_back, crate::proofs::PreferenceLaws::back_only))]
+#[tactic(auto, using(crate::proofs::PreferenceLaws::strict_locale, crate::proofs::PreferenceLaws::preferences_are, crate::proofs::PreferenceLaws::locale_is_value, crate::proofs::PreferenceLaws::locale_is_well_formed, crate::proofs::PreferenceLaws::preferences_back, crate::proofs::PreferenceLaws::back_only))]
 pub fn preferences_of_locales()
     ensures valid { (T : Table) (M : Locale) → IsValue T M → IsPreferences T (preferences M) }
-    ensures well_formed { (T : Table) (p : Preferences) → IsPreferences T p
-        → IsValue T (locale_of_preferences p) × IsWellFormed (locale_of_preferences p) }
+    ensures value { (T : Table) (p : Preferences) → IsPreferences T p
+        → IsValue T (locale_of_preferences p) }
+    ensures well_formed { (T : Table) → IsTable T → (p : Preferences) → IsPreferences T p
+        → IsWellFormed (locale_of_preferences p) }
     ensures back { (T : Table) (p : Preferences) → IsPreferences T p → SpellsNoTrue p
         → preferences (locale_of_preferences p) ≡ p }
     ensures only { (T : Table) (p : Preferences) → IsPreferences T p

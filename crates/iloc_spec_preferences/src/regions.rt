@@ -46,8 +46,9 @@ pub fn data_locales()
     ensures back { (T : Table) (t : Text) (d : DataLocale) → DataMeans T t d
         → DataMeans T (data_text d) d }
     ensures text { (d : DataLocale) → text (locale_of_data d) ≡ data_text d }
-    ensures value { (T : Table) (d : DataLocale) → IsDataLocale T d
-        → IsValue T (locale_of_data d) × IsWellFormed (locale_of_data d) }
+    ensures value { (T : Table) (d : DataLocale) → IsDataLocale T d → IsValue T (locale_of_data d) }
+    ensures well_formed { (T : Table) → IsTable T → (d : DataLocale) → IsDataLocale T d
+        → IsWellFormed (locale_of_data d) }
     ensures only { (T : Table) → IsTable T → (d : DataLocale) → IsDataLocale T d → (M : Locale)
         → IsValue T M → IsWellFormed M → text M ≡ data_text d → M ≡ locale_of_data d }
 {}

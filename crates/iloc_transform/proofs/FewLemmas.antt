@@ -13,7 +13,7 @@ use Rattle.iloc_spec_parts.specs.Fronts.{FrontRead, absent, present, fields_fron
 use Rattle.iloc_spec_parts.proofs.TransformLaws.{one_front, transform_agrees}
 use Rattle.iloc_spec_parts.proofs.KeptLaws.{some_fields}
 use Rattle.iloc_transform.specs.LangReading.{HasFiveVariants}
-use Rattle.iloc_transform.specs.TransformReading.{WantsMemory, variants, fields}
+use Rattle.iloc_transform.specs.TransformReading.{TransformWantsMemory, variants, fields}
 use Rattle.iloc_transform.proofs.TransformLemmas.{no_fields}
 
 same_fronts : (xs ys a b : List (List ℕ)) → xs ++ a ≡ ys ++ b → length xs ≡ length ys → xs ≡ ys
@@ -46,12 +46,12 @@ few_variants ps _ _ (present {i = i} {rest = rest} w f) few h =
     let many : 4 < length h.written.variants = h.many in
     absurd (omega (arith, kept, all, those, many, few))
 
-read_takes_none : (ps : List (List ℕ)) (m : written.Transform) (rest : List (List ℕ)) → TransformRead languages ps m rest → IfSome m.id (λ i. length i.variants ≤ 4) → m.fields ≡ [] → WantsMemory ps → ⊥
+read_takes_none : (ps : List (List ℕ)) (m : written.Transform) (rest : List (List ℕ)) → TransformRead languages ps m rest → IfSome m.id (λ i. length i.variants ≤ 4) → m.fields ≡ [] → TransformWantsMemory ps → ⊥
 read_takes_none ps m rest r few none (variants h) = few_variants ps r.written.id r.middle r.id (subst (λ (o : Option Identifier). IfSome o (λ i. length i.variants ≤ 4)) (ap (λ (n : written.Transform). n.id) r.means) few) h
 read_takes_none ps m rest r few none (fields {id = o} {middle = middle} f n) =
     let same : middle ≡ r.middle = (one_front ps f r.id).1 in
     let gone : r.written.fields ≡ [] = no_fields r.written.fields (ap (λ (fs : written.Fields). length fs) (sym (ap (λ (n : written.Transform). n.fields) r.means) ∙ none)) in
     some_fields middle n (ap fields_front same ∙ r.spelled ∙ ap fields_pieces gone)
 
-pub few_take_none : (ps : List (List ℕ)) (m : written.Transform) → TransformMeans languages (front ps) m → IfSome m.id (λ i. length i.variants ≤ 4) → m.fields ≡ [] → WantsMemory ps → ⊥
+pub few_take_none : (ps : List (List ℕ)) (m : written.Transform) → TransformMeans languages (front ps) m → IfSome m.id (λ i. length i.variants ≤ 4) → m.fields ≡ [] → TransformWantsMemory ps → ⊥
 few_take_none ps m h few none w = read_takes_none ps m (from_block ps) ((transform_agrees languages languages_table).block ps m h) few none w

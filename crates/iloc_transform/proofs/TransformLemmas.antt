@@ -1,5 +1,5 @@
 -- An identifier and fields, one after the other.
-use Rattle.std.proofs.Common.{◌≡◌, ◌≢◌, ℕ, ◌<◌, ◌==◌, true, false, not, cond, ◌&&◌, ◌||◌, List, [], ◌∷◌, length, nat_lt, refl, sym, ap, ◌∙◌, subst, arith, Option, Some, None, option_map, is_some, Result, Ok, Err, true≢false}
+use Rattle.std.proofs.Common.{◌≡◌, ◌≢◌, inl, inr, ℕ, ◌<◌, ◌==◌, true, false, not, cond, ◌&&◌, ◌||◌, List, [], ◌∷◌, length, nat_lt, refl, sym, ap, ◌∙◌, subst, arith, Option, Some, None, option_map, is_some, Result, Ok, Err, true≢false}
 use Rattle.std.specs.List.{list_all}
 use Rattle.std.specs.FinMap.{put}
 use Rattle.std.specs.FinMap.Entries.{by_order}
@@ -13,21 +13,22 @@ use Rattle.iloc_spec_grammar.specs.Meaning as faults
 use Rattle.iloc_spec_grammar.specs.Reading.{first_item, rest_of, fields_from}
 use Rattle.iloc_spec_grammar.specs.Computing.{is_field}
 use Rattle.iloc_spec_parts.specs.Fronts.{absent, present, after_fields, TransformRead, TransformFault, repeats, fields_at, fields_result}
-use Rattle.iloc_spec_parts.specs.Parts.{is_letter, TransformTextFault}
+use Rattle.iloc_spec_parts.specs.Parts.{is_letter, TransformText, TransformTextFault}
 use Rattle.iloc_spec_parts.proofs.TransformLaws.{fields_answer, IsTransformAnswer}
 use Rattle.iloc_other.specs.Singleton.{singleton_at}
 use Rattle.iloc_other.proofs.SingletonLemmas.{begins, part_reads, part_fault, part_other, part_none}
 use Rattle.iloc_other.proofs.TextLemmas.{another_letter}
 use Rattle.iloc_subtags.specs.declared.parse_error.ParseError.{ParseError}
 use Rattle.iloc_subtags.specs.declared.parse_error.ParseError.TheVariants.{InvalidLanguage, InvalidSubtag, InvalidExtension, DuplicatedExtension, OutOfMemory}
-use Rattle.iloc_langid.specs.Reads.{FrontReadsAs}
+use Rattle.iloc_langid.specs.Reads.{FrontReads}
 use Rattle.iloc_langid.specs.Reads as langid
 use Rattle.iloc_langid.specs.declared.identifier.LanguageIdentifier.{LanguageIdentifier}
-use Rattle.iloc_fields.specs.FieldsReading.{FieldsRead, FieldsFrontRead}
+use Rattle.iloc_fields.specs.FieldsReading.{FieldsRead, FieldsReads}
 use Rattle.iloc_transform.specs.LangReading.{LangRead, LangReads}
-use Rattle.iloc_transform.specs.TransformReading.{value_of, WantsMemory, variants, fields, TransformReads, TransformTextReads}
+use Rattle.iloc_subtags.specs.Judging.{RunsOutOnlyIf}
+use Rattle.iloc_transform.specs.TransformReading.{value_of, TransformWantsMemory, variants, fields, TransformReads, TransformFills, TransformTextReads, TransformTextWants}
 use Rattle.iloc_transform.specs.declared.transform.Transform.{Transform}
-use Rattle.iloc_spec_grammar.proofs.ReadWords.{refused_from_read}
+use Rattle.iloc_spec_grammar.proofs.ReadWords.{accepted_from_read, refused_from_read}
 use Rattle.iloc_langid.proofs.FrontLemmas.{no_empty_language}
 
 -- the identifier
@@ -40,8 +41,23 @@ pub other_lang : {E : Type 0} (e f : E) (ps : List (List ℕ)) (p : List ℕ) �
 other_lang e f [] p i h = cc
 other_lang e f (q ∷ ps) p i h = let same : p ≡ q = cc in record { written = None; front = absent (ap (is_word (Language languages)) (sym same) ∙ (refused_from_read (Language languages) e f p h).0); means = refl }
 
-pub some_lang : (ps rest : List (List ℕ)) (i : LanguageIdentifier) → FrontReadsAs ps rest (Ok i) → LangRead ps (Some i) rest
+pub some_lang : (ps rest : List (List ℕ)) (i : LanguageIdentifier) → FrontReads ps rest (Ok i) → LangRead ps (Some i) rest
 some_lang ps rest i r = record { written = Some r.0; front = present (record { words = r.1.words; different = r.2 }) r.1; means = ap (λ j. Some j) r.3 }
+
+-- after a language, what is wrong with the front of an identifier is a repeated variant
+pub front_refused : {E : Type 0} (e : E) (w p : List ℕ) (ps rest left : List (List ℕ)) (f : ParseError) → Some p ≡ first_item ps → Ok w ≡ read (Language languages) e p → FrontReads ps rest (Err f) → LangReads ps left (Err f)
+front_refused e w p [] rest left f i h g = cc
+front_refused e w p (q ∷ ps) rest left InvalidLanguage i h (inl g) =
+    let same : p ≡ q = cc in
+    absurd (true≢false (sym (accepted_from_read (Language languages) e p w h).0 ∙ ap (is_word (Language languages)) same ∙ g.1))
+front_refused e w p (q ∷ ps) rest left InvalidLanguage i h (inr g) = let other = g.0 in cc
+front_refused e w p (q ∷ ps) rest left InvalidSubtag i h (inl g) = let other = g.0 in cc
+front_refused e w p (q ∷ ps) rest left InvalidSubtag i h (inr g) = let (v, more, front, twice) = g.1 in (refl, (v, more, front.words, front.spelled, twice))
+front_refused e w p (q ∷ ps) rest left InvalidExtension i h (inl g) = let other = g.0 in cc
+front_refused e w p (q ∷ ps) rest left InvalidExtension i h (inr g) = let other = g.0 in cc
+front_refused e w p (q ∷ ps) rest left DuplicatedExtension i h (inl g) = let other = g.0 in cc
+front_refused e w p (q ∷ ps) rest left DuplicatedExtension i h (inr g) = let other = g.0 in cc
+front_refused e w p (q ∷ ps) rest left OutOfMemory i h g = let (v, more, front, five) = g in record { written = v; rest = more; front = front; many = five }
 
 -- fields that mean none are none
 
@@ -101,19 +117,19 @@ module _ (ps middle : List (List ℕ)) (lang : Option LanguageIdentifier) (l : L
   pub lacking : list_all is_field (fields_at middle) ≡ false → TransformFault languages ps faults.InvalidExtension
   lacking e = answer faults.InvalidExtension (λ i. cond (e i && (is_some l.written || nat_lt 0 (length (fields_at middle)))) (Ok (normal_transform (record { id = l.written; fields = fields_at middle }), after_fields middle)) (Err faults.InvalidExtension))
 
-  pub bad_fields : (f : ParseError) (rest left : List (List ℕ)) → FieldsFrontRead middle rest (Err f) → TransformReads ps left (Err f)
-  bad_fields InvalidExtension rest left r = lacking r
+  pub bad_fields : (f : ParseError) (rest left : List (List ℕ)) → FieldsReads middle rest (Err f) → TransformFills ps left (Err f)
+  bad_fields InvalidExtension rest left r = lacking r.1
   bad_fields OutOfMemory rest left r = fields l.front r
-  bad_fields InvalidLanguage rest left r = r
-  bad_fields InvalidSubtag rest left r = absurd r
-  bad_fields DuplicatedExtension rest left r = r
+  bad_fields InvalidLanguage rest left r = let other = r.0 in cc
+  bad_fields InvalidSubtag rest left r = let other = r.0 in cc
+  bad_fields DuplicatedExtension rest left r = let other = r.0 in cc
 
-pub no_transform : (ps rest left : List (List ℕ)) (f : ParseError) → LangReads ps rest (Err f) → TransformReads ps left (Err f)
-no_transform ps rest left InvalidSubtag r = repeats r
+pub no_transform : (ps rest left : List (List ℕ)) (f : ParseError) → LangReads ps rest (Err f) → TransformFills ps left (Err f)
+no_transform ps rest left InvalidSubtag r = repeats r.1
 no_transform ps rest left OutOfMemory r = variants r
-no_transform ps rest left InvalidLanguage r = r
-no_transform ps rest left InvalidExtension r = absurd r
-no_transform ps rest left DuplicatedExtension r = r
+no_transform ps rest left InvalidLanguage r = let other = r.0 in cc
+no_transform ps rest left InvalidExtension r = let other = r.0 in cc
+no_transform ps rest left DuplicatedExtension r = let other = r.0 in cc
 
 -- a text
 
@@ -132,6 +148,14 @@ module _ (t : List ℕ) where
     text_reads (Ok m) h = (rest, part_reads (is_letter 116) (pieces t) (TransformRead languages) 116 (value_of m) rest found refl (subst (λ l. TransformRead languages l (value_of m) rest) after h))
     text_reads (Err InvalidSubtag) h = fault faults.InvalidSubtag h
     text_reads (Err InvalidExtension) h = fault faults.InvalidExtension h
-    text_reads (Err OutOfMemory) h = (begins (is_letter 116) (pieces t) 116 found, subst WantsMemory after h)
-    text_reads (Err InvalidLanguage) h = h
-    text_reads (Err DuplicatedExtension) h = h
+    text_reads (Err OutOfMemory) h = tt
+    text_reads (Err InvalidLanguage) h = fault faults.InvalidLanguage h
+    text_reads (Err DuplicatedExtension) h = fault faults.DuplicatedExtension h
+
+    pub text_memory : (r : Result Transform ParseError) → RunsOutOnlyIf (TransformWantsMemory more) r → RunsOutOnlyIf (TransformTextWants t) r
+    text_memory (Ok m) h = tt
+    text_memory (Err InvalidLanguage) h = tt
+    text_memory (Err InvalidSubtag) h = tt
+    text_memory (Err InvalidExtension) h = tt
+    text_memory (Err DuplicatedExtension) h = tt
+    text_memory (Err OutOfMemory) h = (begins (is_letter 116) (pieces t) 116 found, subst TransformWantsMemory after h)

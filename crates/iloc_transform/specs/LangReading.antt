@@ -1,11 +1,12 @@
 -- What the reader of a transform's identifier answers.
-use Rattle.std.specs.Prelude.{◌≡◌, ℕ, ◌<◌, List, length, Option, option_map, Result}
+use Rattle.std.specs.Prelude.{◌≡◌, ◌<◌, List, length, Option, option_map, Result}
 use Rattle.iloc_spec_grammar.specs.Syntax.{Text, languages, Identifier}
 use Rattle.iloc_spec_grammar.specs.Meaning.{normal_identifier, RepeatsVariant}
+use Rattle.iloc_spec_grammar.specs.Meaning as faults
 use Rattle.iloc_spec_grammar.specs.Reading.{IdentifierFront}
 use Rattle.iloc_spec_parts.specs.Fronts.{FrontRead}
 use Rattle.iloc_subtags.specs.declared.parse_error.ParseError.{ParseError}
-use Rattle.iloc_subtags.specs.Judging.{Answers, SubtagFault}
+use Rattle.iloc_subtags.specs.Judging.{Answers, Only}
 use Rattle.iloc_langid.specs.Reads.{value_of}
 use Rattle.iloc_langid.specs.declared.identifier.LanguageIdentifier.{LanguageIdentifier}
 
@@ -24,5 +25,5 @@ pub record HasFiveVariants (ps : List Text) : Type 0 where
 
 -- what the pieces are read as, and the pieces that are left
 abbrev pub LangReads : List Text → List Text → Result (Option LanguageIdentifier) ParseError → Type 0
-LangReads ps rest = Answers (λ lang. LangRead ps lang rest) (SubtagFault (RepeatsVariant languages ps))
-    (HasFiveVariants ps)
+LangReads ps rest = Answers (λ lang. LangRead ps lang rest)
+    (Only faults.InvalidSubtag (RepeatsVariant languages ps)) (HasFiveVariants ps)

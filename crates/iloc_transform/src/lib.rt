@@ -13,7 +13,7 @@ ghost use Rattle.iloc_spec_grammar.specs.Meaning.{front};
 ghost use Rattle.iloc_spec_grammar.specs.ByBlocks.{TransformMeans};
 ghost use Rattle.iloc_spec_parts.specs.Hashes.{transform_fed};
 ghost use Rattle.iloc_transform.specs.declared.transform.Transform.{Transform};
-ghost use Rattle.iloc_transform.specs.TransformReading.{WantsMemory, value_of};
+ghost use Rattle.iloc_transform.specs.TransformReading.{TransformWantsMemory, value_of};
 
 use std::hash::Hash;
 
@@ -26,7 +26,7 @@ pub use transform::Transform;
 /// A block that means an identifier of at most four variants, or none, and no field allocates nothing.
 pub fn few_words()
     ensures { (ps : List Text) (m : written.Transform) → TransformMeans languages (front ps) m
-        → IfSome m.id (λ i. length i.variants ≤ 4) → m.fields ≡ [] → ¬ (WantsMemory ps) }
+        → IfSome m.id (λ i. length i.variants ≤ 4) → m.fields ≡ [] → ¬ (TransformWantsMemory ps) }
 {}
 
 /// `==` tells whether the two stand for the same.

@@ -1,6 +1,7 @@
 //! The transform extension.
 ghost use Rattle.std.specs.Prelude.{
   ◌≡◌,
+  ⊤,
   ◌==◌,
   ◌&&◌,
   ◌∷◌,
@@ -21,9 +22,13 @@ ghost use Rattle.iloc_spec_grammar.specs.Syntax as written;
 ghost use Rattle.iloc_spec_grammar.specs.Meaning.{Fault};
 ghost use Rattle.iloc_spec_parts.specs.Parts.{TransformText, TransformTextFault};
 ghost use Rattle.iloc_spec_parts.specs.Orders.{transform_cmp};
-ghost use Rattle.iloc_subtags.specs.Judging.{Accepts, Refuses};
+ghost use Rattle.iloc_subtags.specs.Judging.{Accepts, Refuses, RunsOutOnlyIf};
 ghost use Rattle.iloc_subtags.specs.Left.{left};
-ghost use Rattle.iloc_transform.specs.TransformReading.{TransformReads};
+ghost use Rattle.iloc_transform.specs.TransformReading.{
+  TransformReads,
+  TransformFills,
+  TransformWantsMemory,
+};
 
 use crate::lang::{cmp_langs, fill_lang, lowercase};
 use iloc_fields::Fields;
@@ -99,16 +104,18 @@ impl Transform {
     pub fn try_from_utf8(alloc: Global, code_units: &[u8]) -> Result<Self, ParseError>
         ensures reads { TransformTextReads code_units.now result }
         ensures accepted { (m : written.Transform) → TransformText languages code_units.now m
-            → Accepts value_of (TransformTextWants code_units.now) m result }
+            → Accepts value_of ⊤ m result }
         ensures refused { (f : Fault) → TransformTextFault languages code_units.now f
-            → Refuses (TransformTextWants code_units.now) f result }
+            → Refuses ⊤ f result }
+        ensures memory { RunsOutOnlyIf (TransformTextWants code_units.now) result }
     {
         Self::read_text(alloc, code_units)
     }
 
-    // The same by what it reads alone.
+    // The same by what it reads, and when memory runs out, alone.
     fn read_text(alloc: Global, code_units: &[u8]) -> Result<Self, ParseError>
-        ensures { TransformTextReads code_units.now result }
+        ensures reads { TransformTextReads code_units.now result }
+        ensures memory { RunsOutOnlyIf (TransformTextWants code_units.now) result }
     {
         let mut iter = SubtagIterator::new(code_units);
         let Some(ext) = take_singleton(&mut iter) else {
@@ -124,16 +131,18 @@ impl Transform {
     pub fn try_from_str(alloc: Global, s: &str) -> Result<Self, ParseError>
         ensures reads { TransformTextReads s.now result }
         ensures accepted { (m : written.Transform) → TransformText languages s.now m
-            → Accepts value_of (TransformTextWants s.now) m result }
+            → Accepts value_of ⊤ m result }
         ensures refused { (f : Fault) → TransformTextFault languages s.now f
-            → Refuses (TransformTextWants s.now) f result }
+            → Refuses ⊤ f result }
+        ensures memory { RunsOutOnlyIf (TransformTextWants s.now) result }
     {
         Self::try_from_utf8(alloc, s.as_bytes())
     }
 
     /// Parses what follows `t`, and leaves what no transform takes.
     pub fn try_from_iter(alloc: Global, iter: &mut SubtagIterator<'_>) -> Result<Self, ParseError>
-        ensures { TransformReads (left iter.old) (left iter.new) result }
+        ensures reads { TransformReads (left iter.old) (left iter.new) result }
+        ensures memory { RunsOutOnlyIf (TransformWantsMemory (left iter.old)) result }
     {
         let mut transform = Transform::new(alloc);
         fill_transform(alloc, iter, &mut transform)?;
@@ -150,7 +159,7 @@ pub fn fill_transform(
 ) -> Result<(), ParseError>
     requires lang { transform.old.lang ≡ None }
     requires fields { transform.old.fields ≡ [] }
-    ensures { TransformReads (left iter.old) (left iter.new)
+    ensures { TransformFills (left iter.old) (left iter.new)
         (result_and result (Ok transform.new)) }
 {
     fill_lang(alloc, iter, &mut transform.lang)?;

@@ -12,13 +12,16 @@ use Rattle.iloc_spec_grammar.specs.Meaning.{map_of, set_of, normal_fields}
 use Rattle.iloc_spec_grammar.specs.Reading.{rest_of}
 use Rattle.iloc_spec_grammar.specs.Meaning as faults
 use Rattle.iloc_spec_parts.specs.Fronts.{attributes_front, after_attributes, attributes_read, keywords_front, KeywordsRead, UnicodeRead, UnicodeFault, in_keywords, both_absent}
-use Rattle.iloc_spec_parts.specs.Parts.{begins_part, is_letter, no_singleton, after_singleton, UnicodeTextFault}
+use Rattle.iloc_spec_parts.specs.Parts.{begins_part, is_letter, no_singleton, after_singleton, UnicodeText, UnicodeTextFault}
 use Rattle.iloc_subtags.specs.declared.parse_error.ParseError.{ParseError}
 use Rattle.iloc_subtags.specs.declared.parse_error.ParseError.TheVariants.{InvalidLanguage, InvalidSubtag, InvalidExtension, DuplicatedExtension, OutOfMemory}
+use Rattle.iloc_subtags.specs.Judging.{Answers, RunsOutOnlyIf}
 use Rattle.iloc_subtags.specs.NextPiece.{byte_at}
 use Rattle.iloc_subtags.proofs.ByteLemmas.{byte_first}
-use Rattle.iloc_unicode.specs.Reads.{KeywordsGive}
-use Rattle.iloc_unicode.specs.UnicodeReads.{UnicodeGives, UnicodeReadsAs, for_keywords}
+use Rattle.iloc_subtags.proofs.Judged.{without_memory, runs_out, with_memory}
+use Rattle.iloc_unicode.specs.Reads.{KeywordsFills}
+use Rattle.iloc_unicode.specs.UnicodeReads.{UnicodeReads, UnicodeWantsMemory, UnicodeFills, UnicodeTextReads, UnicodeTextWants, for_keywords}
+use Rattle.iloc_unicode.specs.UnicodeValue.{value_of}
 use Rattle.iloc_unicode.specs.declared.unicode.Unicode as shown
 
 -- the letter before the part, by the byte that is taken
@@ -79,12 +82,16 @@ unicode_empty ps middle rest a m ea em k empty =
     both_absent (no_words _ (ap (λ (l : List (List ℕ)). length l == 0) (sym ea) ∙ parts.0)) (ap keywords_front (sym em) ∙ k.spelled ∙ ap fields_pieces (no_fields k.written (ap (λ (l : Fields). length l == 0) (sym k.means) ∙ parts.1)))
 
 -- what is wrong with the keywords is wrong with the whole
-pub keywords_refused : (ps middle rest more : List (List ℕ)) (e : ParseError) → middle ≡ after_attributes ps → KeywordsGive middle rest (Err e) → UnicodeGives ps more (Err e)
-keywords_refused ps middle rest more InvalidExtension em k = in_keywords (subst (λ (l : List (List ℕ)). KeywordsGive l rest (Err InvalidExtension)) em k)
-keywords_refused ps middle rest more OutOfMemory em k = for_keywords (subst (λ (l : List (List ℕ)). KeywordsGive l rest (Err OutOfMemory)) em k)
-keywords_refused ps middle rest more InvalidLanguage em k = k
-keywords_refused ps middle rest more InvalidSubtag em k = k
-keywords_refused ps middle rest more DuplicatedExtension em k = k
+pub keywords_refused : (ps middle rest more : List (List ℕ)) (e : ParseError) → middle ≡ after_attributes ps → KeywordsFills middle rest (Err e) → UnicodeFills ps more (Err e)
+keywords_refused ps middle rest more InvalidExtension em k = in_keywords (subst (λ (l : List (List ℕ)). KeywordsFills l rest (Err InvalidExtension)) em k)
+keywords_refused ps middle rest more OutOfMemory em k = for_keywords (subst (λ (l : List (List ℕ)). KeywordsFills l rest (Err OutOfMemory)) em k)
+keywords_refused ps middle rest more InvalidLanguage em k = in_keywords (subst (λ (l : List (List ℕ)). KeywordsFills l rest (Err InvalidLanguage)) em k)
+keywords_refused ps middle rest more InvalidSubtag em k = in_keywords (subst (λ (l : List (List ℕ)). KeywordsFills l rest (Err InvalidSubtag)) em k)
+keywords_refused ps middle rest more DuplicatedExtension em k = in_keywords (subst (λ (l : List (List ℕ)). KeywordsFills l rest (Err DuplicatedExtension)) em k)
+
+-- what is read, and when memory may run out, together
+pub unicode_joined : (ps rest : List (List ℕ)) (r : Result shown.Unicode ParseError) → UnicodeReads ps rest r → RunsOutOnlyIf (UnicodeWantsMemory ps) r → UnicodeFills ps rest r
+unicode_joined ps rest = with_memory (λ u. UnicodeRead ps (value_of u) rest) (UnicodeFault ps) (UnicodeWantsMemory ps)
 
 -- the letter
 
@@ -100,12 +107,22 @@ begins ((b ∷ c ∷ p) ∷ ps) h = absurd (true≢false (sym h))
 pub no_letter : (t : List ℕ) → begins_part (is_letter 117) (pieces t) ≡ false → UnicodeTextFault t faults.InvalidExtension
 no_letter t h = no_singleton h
 
-pub after_letter : (t : List ℕ) (rest : List (List ℕ)) (r : Result shown.Unicode ParseError) → begins_part (is_letter 117) (pieces t) ≡ true → UnicodeGives (rest_of (pieces t)) rest r → UnicodeReadsAs t r
+-- what is answered to the text, with when memory may run out
+abbrev pub TextAnswers : List ℕ → Result shown.Unicode ParseError → Type 0
+TextAnswers t = Answers (λ u. UnicodeText t (value_of u)) (UnicodeTextFault t) (UnicodeTextWants t)
+
+pub reads_apart : (t : List ℕ) (r : Result shown.Unicode ParseError) → TextAnswers t r → UnicodeTextReads t r
+reads_apart t = without_memory (λ u. UnicodeText t (value_of u)) (UnicodeTextFault t) (UnicodeTextWants t)
+
+pub reads_memory : (t : List ℕ) (r : Result shown.Unicode ParseError) → TextAnswers t r → RunsOutOnlyIf (UnicodeTextWants t) r
+reads_memory t = runs_out (λ u. UnicodeText t (value_of u)) (UnicodeTextFault t) (UnicodeTextWants t)
+
+pub after_letter : (t : List ℕ) (rest : List (List ℕ)) (r : Result shown.Unicode ParseError) → begins_part (is_letter 117) (pieces t) ≡ true → UnicodeFills (rest_of (pieces t)) rest r → TextAnswers t r
 after_letter t rest (Ok u) h g =
     let (b, spelled, same) = begins (pieces t) h in
     (rest, record { byte = b; after = rest_of (pieces t); spelled = spelled; singleton = same; passes = refl; reads = g })
 after_letter t rest (Err InvalidExtension) h g = let (b, spelled, same) = begins (pieces t) h in after_singleton spelled h g
 after_letter t rest (Err OutOfMemory) h g = (h, g)
-after_letter t rest (Err InvalidLanguage) h g = g
-after_letter t rest (Err InvalidSubtag) h g = g
-after_letter t rest (Err DuplicatedExtension) h g = g
+after_letter t rest (Err InvalidLanguage) h g = let (b, spelled, same) = begins (pieces t) h in after_singleton spelled h g
+after_letter t rest (Err InvalidSubtag) h g = let (b, spelled, same) = begins (pieces t) h in after_singleton spelled h g
+after_letter t rest (Err DuplicatedExtension) h g = let (b, spelled, same) = begins (pieces t) h in after_singleton spelled h g

@@ -4,7 +4,7 @@ ghost use Rattle.std.specs.Prelude.{
   ◌↔◌,
   ℕ,
   List,
-  ◌<◌,
+  ⊤,
   ◌≤◌,
   ◌+◌,
   ◌==◌,
@@ -29,10 +29,9 @@ ghost use Rattle.std.specs.Slice.Iter.{iter_rest};
 ghost use Rattle.iloc_spec_grammar.specs.Syntax.{Text, pieces, join, Attribute, is_same, word_cmp};
 ghost use Rattle.iloc_spec_grammar.specs.Meaning.{set_of};
 ghost use Rattle.iloc_spec_grammar.specs.Values.{IsNormal, IsAscending};
-ghost use Rattle.iloc_spec_parts.specs.Fronts.{attributes_read};
 ghost use Rattle.iloc_spec_parts.specs.Parts.{AttributesText};
-ghost use Rattle.iloc_subtags.specs.Judging.{Accepts};
-ghost use Rattle.iloc_unicode.specs.Reads.{AttributesReadAs};
+ghost use Rattle.iloc_subtags.specs.Judging.{Accepts, RunsOutOnlyIf};
+ghost use Rattle.iloc_unicode.specs.Reads.{AttributesTextReads, AttributesWantMemory};
 ghost use Rattle.iloc_word_list.specs.Equality.{words_eq, words_exact};
 ghost use Rattle.iloc_word_set.specs.Ascending.{ascends};
 
@@ -75,16 +74,18 @@ impl Attributes {
     /// the rest of the text. It is refused by `OutOfMemory` alone, and if there are at most four
     /// different ones not at all.
     pub fn try_from_utf8(alloc: Global, code_units: &[u8]) -> Result<Self, ParseError>
-        ensures reads { AttributesReadAs code_units.now result }
+        ensures reads { AttributesTextReads code_units.now result }
         ensures accepted { (ws : List Text) → AttributesText code_units.now ws
-            → Accepts (λ a. a) (4 < length (attributes_read (pieces code_units.now))) ws result }
+            → Accepts (λ a. a) ⊤ ws result }
+        ensures memory { RunsOutOnlyIf (AttributesWantMemory (pieces code_units.now)) result }
     {
         Self::read_text(alloc, code_units)
     }
 
-    // The same by what it reads alone.
+    // The same by what it reads, and when memory runs out, alone.
     fn read_text(alloc: Global, code_units: &[u8]) -> Result<Self, ParseError>
-        ensures { AttributesReadAs code_units.now result }
+        ensures reads { AttributesTextReads code_units.now result }
+        ensures memory { RunsOutOnlyIf (AttributesWantMemory (pieces code_units.now)) result }
     {
         let mut iter = SubtagIterator::new(code_units);
         Ok(Self::try_from_iter(alloc, &mut iter)?)
@@ -92,9 +93,10 @@ impl Attributes {
 
     /// Parses a `str`, as `try_from_utf8` parses bytes.
     pub fn try_from_str(alloc: Global, s: &str) -> Result<Self, ParseError>
-        ensures reads { AttributesReadAs s.now result }
+        ensures reads { AttributesTextReads s.now result }
         ensures accepted { (ws : List Text) → AttributesText s.now ws
-            → Accepts (λ a. a) (4 < length (attributes_read (pieces s.now))) ws result }
+            → Accepts (λ a. a) ⊤ ws result }
+        ensures memory { RunsOutOnlyIf (AttributesWantMemory (pieces s.now)) result }
     {
         Attributes::try_from_utf8(alloc, s.as_bytes())
     }

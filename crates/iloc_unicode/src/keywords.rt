@@ -1,6 +1,7 @@
 //! The keywords of a unicode extension.
 ghost use Rattle.std.specs.Prelude.{
   ◌≡◌,
+  ⊤,
   ◌<◌,
   ◌==◌,
   ◌↔◌,
@@ -40,8 +41,8 @@ ghost use Rattle.iloc_spec_grammar.specs.Syntax.{word_cmp, pieces, Fields};
 ghost use Rattle.iloc_spec_grammar.specs.Meaning.{map_of, Fault};
 ghost use Rattle.iloc_unicode.specs.Equality.{fields_eq, fields_exact};
 ghost use Rattle.iloc_spec_parts.specs.Parts.{KeywordsText, KeywordsTextFault};
-ghost use Rattle.iloc_subtags.specs.Judging.{Accepts, Refuses};
-ghost use Rattle.iloc_unicode.specs.Reads.{KeywordsReadAs, KeywordsWantMemory};
+ghost use Rattle.iloc_subtags.specs.Judging.{Accepts, Refuses, RunsOutOnlyIf};
+ghost use Rattle.iloc_unicode.specs.Reads.{KeywordsTextReads, KeywordsWantMemory};
 ghost use Rattle.iloc_litemap.specs.Pairs.{IsAscending};
 
 use iloc_litemap::LiteMap;
@@ -108,29 +109,32 @@ impl Keywords {
     /// dropped. A piece of two bytes that is met and is no key is refused by `InvalidExtension`. One key
     /// with at most four subtags allocates nothing.
     pub fn try_from_utf8(alloc: Global, code_units: &[u8]) -> Result<Self, ParseError>
-        ensures reads { KeywordsReadAs code_units.now result }
+        ensures reads { KeywordsTextReads code_units.now result }
         ensures accepted { (m : Fields) → KeywordsText code_units.now m
-            → Accepts (λ k. k) (KeywordsWantMemory (pieces code_units.now)) m result }
+            → Accepts (λ k. k) ⊤ m result }
         ensures refused { (f : Fault) → KeywordsTextFault code_units.now f
-            → Refuses (KeywordsWantMemory (pieces code_units.now)) f result }
+            → Refuses ⊤ f result }
+        ensures memory { RunsOutOnlyIf (KeywordsWantMemory (pieces code_units.now)) result }
     {
         Self::read_text(alloc, code_units)
     }
 
-    // The same by what it reads alone.
+    // The same by what it reads, and when memory runs out, alone.
     fn read_text(alloc: Global, code_units: &[u8]) -> Result<Self, ParseError>
-        ensures { KeywordsReadAs code_units.now result }
+        ensures reads { KeywordsTextReads code_units.now result }
+        ensures memory { RunsOutOnlyIf (KeywordsWantMemory (pieces code_units.now)) result }
     {
         Self::try_from_iter(alloc, &mut SubtagIterator::new(code_units))
     }
 
     /// Parses a `str`, as `try_from_utf8` parses bytes.
     pub fn try_from_str(alloc: Global, s: &str) -> Result<Self, ParseError>
-        ensures reads { KeywordsReadAs s.now result }
+        ensures reads { KeywordsTextReads s.now result }
         ensures accepted { (m : Fields) → KeywordsText s.now m
-            → Accepts (λ k. k) (KeywordsWantMemory (pieces s.now)) m result }
+            → Accepts (λ k. k) ⊤ m result }
         ensures refused { (f : Fault) → KeywordsTextFault s.now f
-            → Refuses (KeywordsWantMemory (pieces s.now)) f result }
+            → Refuses ⊤ f result }
+        ensures memory { RunsOutOnlyIf (KeywordsWantMemory (pieces s.now)) result }
     {
         Keywords::try_from_utf8(alloc, s.as_bytes())
     }

@@ -4,10 +4,11 @@ ghost use Rattle.std.specs.Result.{result_and};
 ghost use Rattle.iloc_spec_grammar.specs.Syntax.{code_u, Attribute, is_word};
 ghost use Rattle.iloc_spec_grammar.specs.Reading.{rest_of};
 ghost use Rattle.iloc_spec_parts.specs.Fronts.{attributes_read, after_attributes};
+ghost use Rattle.iloc_subtags.specs.Judging.{RunsOutOnlyIf};
 ghost use Rattle.iloc_subtags.specs.Left.{left};
 ghost use Rattle.iloc_spec_parts.specs.Parts.{begins_part, is_letter};
-ghost use Rattle.iloc_unicode.specs.Reads.{KeywordsGive};
-ghost use Rattle.iloc_unicode.specs.UnicodeReads.{UnicodeGives};
+ghost use Rattle.iloc_unicode.specs.Reads.{KeywordsReads, KeywordsFills, KeywordsWantMemory};
+ghost use Rattle.iloc_unicode.specs.UnicodeReads.{UnicodeReads, UnicodeFills, UnicodeWantsMemory};
 
 use crate::attributes::Attributes;
 use crate::keywords::Keywords;
@@ -64,7 +65,8 @@ impl Keywords {
     /// bytes there that is no key is refused by `InvalidExtension`. One key with up to four subtags
     /// allocates nothing.
     pub fn try_from_iter(alloc: Global, iter: &mut SubtagIterator<'_>) -> Result<Self, ParseError>
-        ensures { KeywordsGive (left iter.old) (left iter.new) result }
+        ensures reads { KeywordsReads (left iter.old) (left iter.new) result }
+        ensures memory { RunsOutOnlyIf (KeywordsWantMemory (left iter.old)) result }
     {
         let mut keywords = Keywords::new();
         fill_keywords(alloc, iter, &mut keywords)?;
@@ -79,7 +81,7 @@ fn fill_keywords(
     keywords: &mut Keywords,
 ) -> Result<(), ParseError>
     requires { keywords.old ≡ [] }
-    ensures { KeywordsGive (left iter.old) (left iter.new) (result_and result (Ok keywords.new)) }
+    ensures { KeywordsFills (left iter.old) (left iter.new) (result_and result (Ok keywords.new)) }
 {
     'keys: while let Some(key) = take_word::<UnicodeKeyKind, 2>(iter) {
         let value = read_value(alloc, iter)?;
@@ -95,7 +97,8 @@ impl Unicode {
     /// Parses what follows `u`: attributes, and then keywords, not both empty, which is refused by
     /// `InvalidExtension`.
     pub fn try_from_iter(alloc: Global, iter: &mut SubtagIterator<'_>) -> Result<Self, ParseError>
-        ensures { UnicodeGives (left iter.old) (left iter.new) result }
+        ensures reads { UnicodeReads (left iter.old) (left iter.new) result }
+        ensures memory { RunsOutOnlyIf (UnicodeWantsMemory (left iter.old)) result }
     {
         let mut unicode = Unicode::new();
         fill_unicode(alloc, iter, &mut unicode)?;
@@ -112,7 +115,7 @@ pub fn fill_unicode(
 ) -> Result<(), ParseError>
     requires keywords { unicode.old.keywords ≡ [] }
     requires attributes { unicode.old.attributes ≡ [] }
-    ensures { UnicodeGives (left iter.old) (left iter.new) (result_and result (Ok unicode.new)) }
+    ensures { UnicodeFills (left iter.old) (left iter.new) (result_and result (Ok unicode.new)) }
 {
     unicode.attributes = Attributes::try_from_iter(alloc, iter)?;
     fill_keywords(alloc, iter, &mut unicode.keywords)?;

@@ -1,11 +1,11 @@
 //! The unicode extension.
-ghost use Rattle.std.specs.Prelude.{◌≡◌, ◌↔◌, ◌&&◌, ◌==◌, [], length, IsTrue, OnOk, OnErr, Some};
+ghost use Rattle.std.specs.Prelude.{◌≡◌, ⊤, ◌↔◌, ◌&&◌, ◌==◌, [], length, IsTrue, OnOk, OnErr, Some};
 ghost use Rattle.std.specs.Cmp.{decided, partial_equiv_from_equiv};
 ghost use Rattle.std.specs.Hash.{same_Alike};
 ghost use Rattle.iloc_spec_parts.specs.Extending.{extend};
 ghost use Rattle.iloc_spec_parts.specs.Parts.{UnicodeText, UnicodeTextFault};
 ghost use Rattle.iloc_spec_grammar.specs.Meaning.{Fault};
-ghost use Rattle.iloc_subtags.specs.Judging.{Accepts, Refuses};
+ghost use Rattle.iloc_subtags.specs.Judging.{Accepts, Refuses, RunsOutOnlyIf};
 ghost use Rattle.iloc_spec_grammar.specs.Values.{unicode_spelling, unicode_text};
 ghost use Rattle.iloc_spec_grammar.specs.Syntax.{Unicode as UnicodeParts};
 ghost use Rattle.iloc_spec_parts.specs.Orders.{unicode_cmp};
@@ -28,7 +28,7 @@ pub struct Unicode {
 }
 
 impl Unicode {
-    ghost use Rattle.iloc_unicode.specs.UnicodeReads.{UnicodeReadsAs, UnicodeTextWants};
+    ghost use Rattle.iloc_unicode.specs.UnicodeReads.{UnicodeTextReads, UnicodeTextWants};
     ghost use Rattle.iloc_unicode.specs.UnicodeValue.{value_of};
 
     /// The empty extension.
@@ -46,18 +46,20 @@ impl Unicode {
     /// (UTS #35 section 3.2). Refused by `InvalidExtension` are another first piece, a piece of two bytes
     /// that is met among the keywords and is no key, and an extension in which both parts are empty.
     pub fn try_from_utf8(alloc: Global, code_units: &[u8]) -> Result<Self, ParseError>
-        ensures reads { UnicodeReadsAs code_units.now result }
+        ensures reads { UnicodeTextReads code_units.now result }
         ensures accepted { (u : UnicodeParts) → UnicodeText code_units.now u
-            → Accepts value_of (UnicodeTextWants code_units.now) u result }
+            → Accepts value_of ⊤ u result }
         ensures refused { (f : Fault) → UnicodeTextFault code_units.now f
-            → Refuses (UnicodeTextWants code_units.now) f result }
+            → Refuses ⊤ f result }
+        ensures memory { RunsOutOnlyIf (UnicodeTextWants code_units.now) result }
     {
         Self::read_text(alloc, code_units)
     }
 
-    // The same by what it reads alone.
+    // The same by what it reads, and when memory runs out, alone.
     fn read_text(alloc: Global, code_units: &[u8]) -> Result<Self, ParseError>
-        ensures { UnicodeReadsAs code_units.now result }
+        ensures reads { UnicodeTextReads code_units.now result }
+        ensures memory { RunsOutOnlyIf (UnicodeTextWants code_units.now) result }
     {
         let mut iter = SubtagIterator::new(code_units);
         if !takes_u(&mut iter) {
@@ -68,11 +70,12 @@ impl Unicode {
 
     /// Parses a `str`, as `try_from_utf8` parses bytes.
     pub fn try_from_str(alloc: Global, s: &str) -> Result<Self, ParseError>
-        ensures reads { UnicodeReadsAs s.now result }
+        ensures reads { UnicodeTextReads s.now result }
         ensures accepted { (u : UnicodeParts) → UnicodeText s.now u
-            → Accepts value_of (UnicodeTextWants s.now) u result }
+            → Accepts value_of ⊤ u result }
         ensures refused { (f : Fault) → UnicodeTextFault s.now f
-            → Refuses (UnicodeTextWants s.now) f result }
+            → Refuses ⊤ f result }
+        ensures memory { RunsOutOnlyIf (UnicodeTextWants s.now) result }
     {
         Unicode::try_from_utf8(alloc, s.as_bytes())
     }

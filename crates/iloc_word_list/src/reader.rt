@@ -1,5 +1,5 @@
 //! Parses values from pieces.
-ghost use Rattle.std.specs.Prelude.{◌≡◌, ◌≤◌, ℕ, List, [], length, map, Ok, Err, IfOk, OnOk, IsOk};
+ghost use Rattle.std.specs.Prelude.{◌≡◌, ◌≤◌, ⊤, ℕ, List, [], length, map, Ok, Err, IfOk, OnOk, IsOk};
 ghost use Rattle.iloc_spec_grammar.specs.Syntax.{Text, pieces, Attribute, Subtag, is_word, normal};
 ghost use Rattle.iloc_spec_grammar.specs.Values.{IsNormal};
 ghost use Rattle.iloc_spec_grammar.specs.Meaning.{normal_values, Fault};
@@ -7,8 +7,8 @@ ghost use Rattle.iloc_spec_grammar.specs.Reading.{passing, past};
 ghost use Rattle.iloc_subtags.specs.Left.{left};
 ghost use Rattle.iloc_word_list.specs.Values.{without_true};
 ghost use Rattle.iloc_spec_parts.specs.PartValues.{unicode_value};
-ghost use Rattle.iloc_subtags.specs.Judging.{Accepts, Refuses};
-ghost use Rattle.iloc_word_list.specs.Reads.{ReadsAs, ValueWants};
+ghost use Rattle.iloc_subtags.specs.Judging.{Accepts, Refuses, RunsOutOnlyIf};
+ghost use Rattle.iloc_word_list.specs.Reads.{ValueTextReads, ValueTextWants};
 
 use crate::value::Value;
 use iloc_subtags::{
@@ -20,18 +20,20 @@ impl Value {
     /// Parses all pieces of the text as subtags, of which `true` is dropped; the empty text is the
     /// empty value. Refuses any other piece by `InvalidSubtag`.
     pub fn try_from_utf8(alloc: Global, code_units: &[u8]) -> Result<Self, ParseError>
-        ensures reads { ReadsAs code_units.now result }
+        ensures reads { ValueTextReads code_units.now result }
         ensures accepted { (v : List Text) → unicode_value code_units.now ≡ Ok v
-            → Accepts (λ v. v) (ValueWants code_units.now) v result }
+            → Accepts (λ v. v) ⊤ v result }
         ensures refused { (f : Fault) → unicode_value code_units.now ≡ Err f
-            → Refuses (ValueWants code_units.now) f result }
+            → Refuses ⊤ f result }
+        ensures memory { RunsOutOnlyIf (ValueTextWants code_units.now) result }
     {
         Self::read_text(alloc, code_units)
     }
 
-    // The same by what it reads alone.
+    // The same by what it reads, and when memory runs out, alone.
     fn read_text(alloc: Global, code_units: &[u8]) -> Result<Self, ParseError>
-        ensures { ReadsAs code_units.now result }
+        ensures reads { ValueTextReads code_units.now result }
+        ensures memory { RunsOutOnlyIf (ValueTextWants code_units.now) result }
     {
         if code_units.is_empty() {
             return Ok(Value::new_empty());
@@ -46,11 +48,12 @@ impl Value {
 
     /// Parses a `str`, as `try_from_utf8` parses bytes.
     pub fn try_from_str(alloc: Global, s: &str) -> Result<Self, ParseError>
-        ensures reads { ReadsAs s.now result }
+        ensures reads { ValueTextReads s.now result }
         ensures accepted { (v : List Text) → unicode_value s.now ≡ Ok v
-            → Accepts (λ v. v) (ValueWants s.now) v result }
+            → Accepts (λ v. v) ⊤ v result }
         ensures refused { (f : Fault) → unicode_value s.now ≡ Err f
-            → Refuses (ValueWants s.now) f result }
+            → Refuses ⊤ f result }
+        ensures memory { RunsOutOnlyIf (ValueTextWants s.now) result }
     {
         Value::try_from_utf8(alloc, s.as_bytes())
     }

@@ -2,8 +2,8 @@
 //! silently went the old way would show nowhere else.
 //!
 //! `line-plain TEXT` says the normal text. In the other calls the second argument says how many bytes of the first are the
-//! line: `line-window` says the normal text, `line-front` what stands at the front, `line-keyword` what follows the
-//! singleton of the first block, and `line-ordered` of a line in the order of its normal text the plain identifier and
+//! line: `line-window` says the normal text, `line-front` what stands at the front, `line-block` the first block by the
+//! first piece of one byte, `line-keyword` what follows the singleton of the first block, and `line-ordered` of a line in the order of its normal text the plain identifier and
 //! the rest, what is wrong with its first bad block, or that the line is not in order. `line-bad` says what is wrong with
 //! the first bad block, and `line-rewritten` the line that is brought into order. `line-sorted` says the line whose
 //! variants are brought into order, and `line-identifier` the identifier whose variants are; both say if one comes twice.
@@ -14,7 +14,7 @@ ghost use Rattle.iloc_fronts.specs.Front.{EndsInVariant, IsFront};
 ghost use Rattle.iloc_blocks.specs.Ordered.{IsStored};
 
 use iloc_blocks::{BadBlock, Ordered, Reading, read_ordered, read_varied};
-use iloc_fronts::{Block, Front, Keyword, read_front, read_keyword};
+use iloc_fronts::{Block, Front, Keyword, find_block, read_front, read_keyword};
 use iloc_plain::{Plain, read_plain, read_plain_text};
 use iloc_rewriting::{Unsorted, rewrite, sort_identifier, sort_variants};
 use std::cmp::min;
@@ -90,6 +90,17 @@ fn front(window: &[u8], len: usize, out: &mut String) {
             number(out, tail)
         }
         Front::Other => say(out, "not told"),
+    }
+}
+
+// Says the first block by the first piece of one byte, if sixteen bytes follow the line at least.
+fn first_block(window: &[u8], len: usize, out: &mut String) {
+    if window.len() < 16 || len > window.len() - 16 {
+        return say(out, "not told");
+    }
+    match find_block(window, len) {
+        Some(found) => block(&found, out),
+        None => say(out, "not told"),
     }
 }
 
@@ -232,6 +243,7 @@ pub fn answer(what: &str, text: &[u8], len: &[u8], out: &mut String) {
         "plain" => plain(text, out),
         "window" => window(text, number_of(len), out),
         "front" => front(text, number_of(len), out),
+        "block" => first_block(text, number_of(len), out),
         "keyword" => keyword(text, number_of(len), out),
         "ordered" => ordered(text, number_of(len), out),
         "rewritten" => rewritten(text, number_of(len), out),

@@ -1,6 +1,5 @@
 -- From the sorting of each part.
-use Rattle.iloc_spec_grammar.proofs.Corollaries.{texts_lead_to_one}
-use Rattle.iloc_spec_grammar.proofs.Chains.{chain_to_text, shortest}
+use Rattle.iloc_spec_grammar.proofs.AnySteps.{chain_to_text, shortest, texts_lead_to_one}
 use Rattle.iloc_spec_grammar.proofs.chain.Goals as goal
 
 pub returns : goal.returns

@@ -5,7 +5,7 @@ use Rattle.iloc_calls.proofs.answers.judge_parsed.Goals as goal
 
 pub returns-in-Langid : goal.returns-in-Langid
 returns-in-Langid c =
-    rw c.in-Langid.is (judged Langid c.args.text.now text_of_identifier c.try_from_utf8.result c.outcome.result (identifier_read c.args.text.now c.try_from_utf8.result c.try_from_utf8.ensures.reads) c.outcome.ensures)
+    rw c.in-Langid.is (judged Langid c.args.text.now text_of_identifier c.try_from_utf8.result c.outcome.result (identifier_read c.args.text.now c.try_from_utf8.result c.try_from_utf8.ensures.reads c.try_from_utf8.ensures.memory) c.outcome.ensures)
 
 pub returns-in-Locale : goal.returns-in-Locale
 returns-in-Locale c =

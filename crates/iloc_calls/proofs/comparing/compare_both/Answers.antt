@@ -5,7 +5,7 @@ use Rattle.iloc_calls.proofs.comparing.compare_both.Goals as goal
 
 pub returns-in-Langid : goal.returns-in-Langid
 returns-in-Langid c =
-    rw c.in-Langid.is (ordered Langid c.args.text.now c.args.other.now c.args.order.now c.order_read.new.order text_of_identifier c.order_read.result c.try_from_utf8.result c.try_from_utf8-in-Langid.result (identifier_read c.args.text.now c.try_from_utf8.result c.try_from_utf8.ensures.reads) (identifier_read c.args.other.now c.try_from_utf8-in-Langid.result c.try_from_utf8-in-Langid.ensures.reads) c.order_read.ensures)
+    rw c.in-Langid.is (ordered Langid c.args.text.now c.args.other.now c.args.order.now c.order_read.new.order text_of_identifier c.order_read.result c.try_from_utf8.result c.try_from_utf8-in-Langid.result (identifier_read c.args.text.now c.try_from_utf8.result c.try_from_utf8.ensures.reads c.try_from_utf8.ensures.memory) (identifier_read c.args.other.now c.try_from_utf8-in-Langid.result c.try_from_utf8-in-Langid.ensures.reads c.try_from_utf8-in-Langid.ensures.memory) c.order_read.ensures)
 
 pub returns-in-Locale : goal.returns-in-Locale
 returns-in-Locale c =

@@ -5,7 +5,7 @@ use Rattle.iloc_calls.proofs.comparing.strict_cmp.Goals as goal
 
 pub returns-in-Langid : goal.returns-in-Langid
 returns-in-Langid c =
-    rw c.in-Langid.is (compared Langid c.args.text.now c.args.other.now c.args.order.now c.compare.new.order text_of_identifier c.try_from_utf8.result c.compare.result (identifier_read c.args.text.now c.try_from_utf8.result c.try_from_utf8.ensures.reads) c.compare.ensures)
+    rw c.in-Langid.is (compared Langid c.args.text.now c.args.other.now c.args.order.now c.compare.new.order text_of_identifier c.try_from_utf8.result c.compare.result (identifier_read c.args.text.now c.try_from_utf8.result c.try_from_utf8.ensures.reads c.try_from_utf8.ensures.memory) c.compare.ensures)
 
 pub returns-in-Locale : goal.returns-in-Locale
 returns-in-Locale c =

@@ -10,4 +10,4 @@ returns-in-Ok-try_from_utf8 c =
 
 pub returns : goal.returns
 returns c =
-    other_identifier c.args.text.now c.args.other.now c.args.same.now c.tell_refused.new.same (value_of c.in-Ok.identifier) c.in-Err-try_from_utf8.refusal c.tell_refused.result c.in-Ok.ensures.reads c.in-Err-try_from_utf8.ensures.reads c.tell_refused.ensures
+    other_identifier c.args.text.now c.args.other.now c.args.same.now c.tell_refused.new.same (value_of c.in-Ok.identifier) c.in-Err-try_from_utf8.refusal c.tell_refused.result c.in-Ok.ensures.reads c.in-Err-try_from_utf8.ensures.reads c.in-Err-try_from_utf8.ensures.memory c.tell_refused.ensures

@@ -1,4 +1,4 @@
-use Rattle.std.proofs.Common.{◌≡◌, ℕ, ◌<◌, ◌≤◌, ◌++◌, true≢false, arith, false, true, sym, subst}
+use Rattle.std.proofs.Common.{◌≡◌, ℕ, ◌<◌, ◌≤◌, ◌++◌, true≢false, refl, arith, false, true, sym, subst}
 use Rattle.std.proofs.lemmas.Result.{err_from_is_err_and}
 use Rattle.iloc_subtags.specs.Left.{left}
 use Rattle.iloc_word_set.proofs.CollectorLaws.{known_there, one_more}
@@ -10,7 +10,7 @@ words-init c = subst (Taking (c.args.four ++ left c.args.iter.now) (left c.args.
 
 pub returns-then-not-branch : goal.returns-then-not-branch
 returns-then-not-branch c =
-    takes_old (c.args.four ++ left c.args.iter.now) (left c.words.iter) c.words.words c.words.invariant c.in-Some.variant (left c.take_word.new.iter) c.in-Some.ensures.word c.in-Some.ensures.rest (known_there c.in-Some.variant c.words.words c.push.new.self c.in_ok-push.field-0 c.in_ok-push.ensures.taken c.if-not-branch.true)
+    (refl, takes_old (c.args.four ++ left c.args.iter.now) (left c.words.iter) c.words.words c.words.invariant c.in-Some.variant (left c.take_word.new.iter) c.in-Some.ensures.word c.in-Some.ensures.rest (known_there c.in-Some.variant c.words.words c.push.new.self c.in_ok-push.field-0 c.in_ok-push.ensures.taken c.if-not-branch.true))
 
 pub words-preserved : goal.words-preserved
 words-preserved c =
@@ -35,7 +35,7 @@ not_fewer a b m n d e l h = omega (arith, d, e, l, h)
 
 pub returns-then-len-taken : goal.returns-then-len-taken
 returns-then-len-taken c =
-    more_twice (c.args.four ++ left c.args.iter.now) (left c.words.iter) c.words.words c.into_set-variants.result c.words.invariant c.in_default.ensures.word c.into_set-variants.ensures (fewer _ _ _ _ c.len.ensures c.len-taken.ensures c.if-len-taken.true)
+    (refl, more_twice (c.args.four ++ left c.args.iter.now) (left c.words.iter) c.words.words c.into_set-variants.result c.words.invariant c.in_default.ensures.word c.into_set-variants.ensures (fewer _ _ _ _ c.len.ensures c.len-taken.ensures c.if-len-taken.true))
 
 pub returns : goal.returns
 returns c =

@@ -2,7 +2,7 @@
 use Rattle.std.proofs.Common.{refl}
 use Rattle.iloc_spec_grammar.specs.Syntax.{pieces, join, is_word, lower, upper, title, is_true, languages}
 use Rattle.iloc_spec_grammar.specs.Reading.{written_of, unicode_of, transform_of, identifier_of, front_of}
-use Rattle.iloc_spec_grammar.specs.Values.{identifier_text}
+use Rattle.iloc_spec_grammar.specs.Values.{identifier_text, extensions_spelling}
 use Rattle.iloc_spec_grammar.specs.Computing.{locale_result}
 use Rattle.iloc_spec_parts.specs.SmallComputing.{small_result, small_identifier_result, after_identifier, blocks_result, block_fault}
 use Rattle.iloc_spec_preferences.specs.DataComputing.{data_result}
@@ -10,5 +10,5 @@ use Rattle.iloc_lines.specs.Answers.{line_answer}
 use Rattle.iloc_lines.proofs.laws.by_example.Goals as goal
 
 pub returns : goal.returns
-unfolding line_answer identifier_text locale_result data_result small_result small_identifier_result after_identifier blocks_result block_fault written_of unicode_of transform_of identifier_of front_of pieces join is_word lower upper title is_true languages
+unfolding line_answer identifier_text extensions_spelling locale_result data_result small_result small_identifier_result after_identifier blocks_result block_fault written_of unicode_of transform_of identifier_of front_of pieces join is_word lower upper title is_true languages
 returns c = record { locales = refl; nothing = refl; carriage_return = refl; identifiers = refl; extensions = refl; data_locales = refl }

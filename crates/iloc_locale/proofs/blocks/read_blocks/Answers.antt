@@ -1,8 +1,7 @@
-use Rattle.std.proofs.Common.{sym}
 use Rattle.std.proofs.lemmas.Result.{err_from_is_err_and}
 use Rattle.iloc_subtags.specs.Left.{left}
 use Rattle.iloc_locale.specs.ExtensionsValue.{value_of}
-use Rattle.iloc_locale.proofs.AnswerLemmas.{whole_fails, goes_on, stops}
+use Rattle.iloc_locale.proofs.AnswerLemmas.{none_done, whole_fails, goes_on, stops}
 use Rattle.iloc_locale.proofs.blocks.read_blocks.Goals as goal
 
 pub returns-in_err-read_block-clause-reads : goal.returns-in_err-read_block-clause-reads
@@ -13,3 +12,6 @@ returns-in_err-read_block-clause-reads c =
 
 pub returns-clause-reads : goal.returns-clause-reads
 returns-clause-reads c = stops (left c.args.iter.now) (left c.blocks-2.iter) (value_of c.blocks-2.extensions) c.blocks-2.invariant c.in_default.ensures.byte
+
+pub blocks-2-init : goal.blocks-2-init
+blocks-2-init c = none_done (left c.args.iter.now) (value_of c.args.extensions.now) c.requires.starts c.requires.empty

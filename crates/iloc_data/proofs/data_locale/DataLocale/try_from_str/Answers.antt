@@ -1,11 +1,11 @@
 -- a text is read as its bytes are
 use Rattle.std.proofs.Common.{ℕ, List, subst}
-use Rattle.iloc_data.specs.Reads.{DataReadsAs}
+use Rattle.iloc_data.specs.Reads.{DataTextReads}
 use Rattle.iloc_data.proofs.ReadLemmas.{data_accepts, data_refuses, keeps_narrow}
 use Rattle.iloc_data.proofs.data_locale.DataLocale.try_from_str.Goals as goal
 
 pub returns-clause-reads : goal.returns-clause-reads
-returns-clause-reads c = subst (λ (t : List ℕ). DataReadsAs t c.try_from_utf8.result) c.as_bytes.ensures.value c.try_from_utf8.ensures.reads
+returns-clause-reads c = subst (λ (t : List ℕ). DataTextReads t c.try_from_utf8.result) c.as_bytes.ensures.value c.try_from_utf8.ensures.reads
 
 pub returns-clause-memory : goal.returns-clause-memory
 returns-clause-memory c = c.try_from_utf8.ensures.memory

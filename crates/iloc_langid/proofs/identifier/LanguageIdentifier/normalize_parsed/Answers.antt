@@ -4,8 +4,8 @@ use Rattle.iloc_langid.specs.Reads.{value_of}
 use Rattle.iloc_langid.proofs.NormalizingLemmas.{is_normalized, refuses_memory}
 use Rattle.iloc_langid.proofs.identifier.LanguageIdentifier.normalize_parsed.Goals as goal
 
-pub returns-in_err-to_string_or_borrow-clause-err : goal.returns-in_err-to_string_or_borrow-clause-err
-returns-in_err-to_string_or_borrow-clause-err c =
+pub returns-in_err-to_string_or_borrow-clause-memory : goal.returns-in_err-to_string_or_borrow-clause-memory
+returns-in_err-to_string_or_borrow-clause-memory c =
     let p = err_from_is_err_and c.from_residual-in_err-to_string_or_borrow.result c.from_residual-in_err-to_string_or_borrow.ensures.1 in
     rw (p.1, p.2) (refuses_memory c.args.input.now (value_of c.in_ok-identifier.identifier) c.in_ok-identifier.ensures.reads c.in_err-to_string_or_borrow.ensures.succeeds)
 

@@ -1,12 +1,13 @@
 -- a text is read as its bytes are
-use Rattle.std.proofs.Common.{ℕ, List, ap, subst}
+use Rattle.std.proofs.Common.{ℕ, List, subst}
 use Rattle.iloc_spec_grammar.specs.Syntax.{pieces}
-use Rattle.iloc_langid.specs.Reads.{ReadsAs, AcceptsNarrow}
-use Rattle.iloc_langid.proofs.ReadLemmas.{reads_accepts, reads_refuses}
+use Rattle.iloc_subtags.specs.Judging.{RunsOutOnlyIf}
+use Rattle.iloc_langid.specs.Reads.{IdentifierReads, IdentifierWantsMemory}
+use Rattle.iloc_langid.proofs.ReadLemmas.{reads_accepts, reads_refuses, reads_narrow}
 use Rattle.iloc_langid.proofs.identifier.LanguageIdentifier.try_from_str.Goals as goal
 
 pub returns-clause-reads : goal.returns-clause-reads
-returns-clause-reads c = subst (λ (t : List ℕ). ReadsAs (pieces t) c.try_from_utf8.result) c.as_bytes.ensures.value c.try_from_utf8.ensures.reads
+returns-clause-reads c = subst (λ (t : List ℕ). IdentifierReads (pieces t) c.try_from_utf8.result) c.as_bytes.ensures.value c.try_from_utf8.ensures.reads
 
 pub returns-clause-accepted : goal.returns-clause-accepted
 returns-clause-accepted c = reads_accepts (pieces c.args.s.now) c.try_from_utf8.result (returns-clause-reads c)
@@ -14,5 +15,8 @@ returns-clause-accepted c = reads_accepts (pieces c.args.s.now) c.try_from_utf8.
 pub returns-clause-refused : goal.returns-clause-refused
 returns-clause-refused c = reads_refuses (pieces c.args.s.now) c.try_from_utf8.result (returns-clause-reads c)
 
-pub returns-clause-narrow_accepted : goal.returns-clause-narrow_accepted
-returns-clause-narrow_accepted c = subst (λ (t : List ℕ). AcceptsNarrow t c.try_from_utf8.result) c.as_bytes.ensures.value c.try_from_utf8.ensures.narrow_accepted
+pub returns-clause-narrow : goal.returns-clause-narrow
+returns-clause-narrow c = reads_narrow c.args.s.now c.try_from_utf8.result (returns-clause-reads c)
+
+pub returns-clause-memory : goal.returns-clause-memory
+returns-clause-memory c = subst (λ (t : List ℕ). RunsOutOnlyIf (IdentifierWantsMemory (pieces t)) c.try_from_utf8.result) c.as_bytes.ensures.value c.try_from_utf8.ensures.memory

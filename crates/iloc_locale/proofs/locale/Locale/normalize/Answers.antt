@@ -3,8 +3,8 @@ use Rattle.std.specs.Prelude.{⊤}
 use Rattle.std.proofs.Common.{ℕ, List, IfErr, subst}
 use Rattle.iloc_spec_grammar.specs.Syntax.{languages}
 use Rattle.iloc_spec_grammar.specs.Meaning.{HasFault}
-use Rattle.iloc_subtags.specs.Judging.{Refusal}
-use Rattle.iloc_locale.specs.LocaleReading.{RunsOutOnlyIf, NormalizingWantsMemory}
+use Rattle.iloc_subtags.specs.Judging.{Refusal, RunsOutOnlyIf}
+use Rattle.iloc_locale.specs.LocaleReading.{NormalizingWantsMemory}
 use Rattle.iloc_locale.proofs.locale.Locale.normalize.Goals as goal
 
 pub returns-clause-err : goal.returns-clause-err

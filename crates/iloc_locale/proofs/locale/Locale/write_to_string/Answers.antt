@@ -9,4 +9,4 @@ pub returns-clause-back : goal.returns-clause-back
 returns-clause-back c = λ w.
     let M = value_of c.args.self.now in
     printed cow_str_bytes (λ t. MeansOnly t M) (text M) c.write_to_string.result
-    c.write_to_string.ensures.text (text_means_only M c.is_well_formed.ensures.value w)
+    c.write_to_string.ensures.text (text_means_only M w)

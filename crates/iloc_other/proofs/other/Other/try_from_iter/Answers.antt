@@ -9,5 +9,5 @@ pieces-preserved c = record {
   words = takes_piece (left c.args.iter.now) (left c.pieces.iter) c.pieces.other.1 c.in-Some.piece.now (left c.take_piece.new.iter) c.push_word.new.self.1 c.pieces.invariant.words c.in-Some.ensures.piece c.in-Some.ensures.rest c.in_ok-push_word.ensures.ok;
 }
 
-pub returns-then-is_empty : goal.returns-then-is_empty
-returns-then-is_empty c = takes_none (left c.args.iter.now) (left c.pieces.iter) c.pieces.other.1 c.pieces.invariant.words c.in_default.ensures.piece (ap length (sym c.as_slice.ensures.words) ∙ no_item _ (sym c.is_empty.ensures ∙ c.if-is_empty.true))
+pub returns-then-is_empty-clause-reads : goal.returns-then-is_empty-clause-reads
+returns-then-is_empty-clause-reads c = takes_none (left c.args.iter.now) (left c.pieces.iter) c.pieces.other.1 c.pieces.invariant.words c.in_default.ensures.piece (ap length (sym c.as_slice.ensures.words) ∙ no_item _ (sym c.is_empty.ensures ∙ c.if-is_empty.true))

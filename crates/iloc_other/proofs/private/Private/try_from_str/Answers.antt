@@ -1,11 +1,15 @@
 -- what is owed to each text follows from what is read
 use Rattle.std.proofs.Common.{ℕ, List, subst}
-use Rattle.iloc_other.specs.Reading.{PrivateTextReads}
+use Rattle.iloc_other.specs.Reading.{PrivateTextReads, PrivateTextWants}
+use Rattle.iloc_subtags.specs.Judging.{RunsOutOnlyIf}
 use Rattle.iloc_other.proofs.OwedLemmas.{private_accepts, private_refuses}
 use Rattle.iloc_other.proofs.private.Private.try_from_str.Goals as goal
 
 pub returns-clause-reads : goal.returns-clause-reads
 returns-clause-reads c = subst (λ (t : List ℕ). PrivateTextReads t c.try_from_utf8.result) c.as_bytes.ensures.value c.try_from_utf8.ensures.reads
+
+pub returns-clause-memory : goal.returns-clause-memory
+returns-clause-memory c = subst (λ (t : List ℕ). RunsOutOnlyIf (PrivateTextWants t) c.try_from_utf8.result) c.as_bytes.ensures.value c.try_from_utf8.ensures.memory
 
 pub returns-clause-accepted : goal.returns-clause-accepted
 returns-clause-accepted c = private_accepts c.args.s.now c.try_from_utf8.result (returns-clause-reads c)

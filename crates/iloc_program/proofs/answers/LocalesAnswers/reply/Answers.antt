@@ -3,7 +3,7 @@ use Rattle.std.proofs.lemmas.Result.{on_ok_weaker}
 use Rattle.iloc_spec_grammar.specs.Syntax.{head}
 use Rattle.iloc_spec_grammar.specs.Reading.{after_head, starts_block}
 use Rattle.iloc_subtags.specs.Left.{left}
-use Rattle.iloc_langid.specs.Reads.{ReadsAs}
+use Rattle.iloc_langid.specs.Reads.{IdentifierReads}
 use Rattle.iloc_locale.specs.LocaleReading.{value_of}
 use Rattle.iloc_locale.proofs.ReadLemmas.{after_head_starts}
 use Rattle.iloc_lines.specs.ReplyBlock.{held}
@@ -14,13 +14,13 @@ pub returns-in-Err : goal.returns-in-Err
 returns-in-Err c =
     on_ok_both c.write_refusal.result c.write_refusal.ensures.text c.write_refusal.ensures.known
     (λ e n. e ∙ ap (λ t. held c.args.replies.now ++ (t ++ 10 ∷ [])) (sym (head_bad c.args.line.now c.in-Err.error
-    (subst (λ (ps : List (List ℕ)). ReadsAs (head ps) (Err c.in-Err.error)) c.new-iter.ensures c.in-Err.ensures.reads) n)))
+    (subst (λ (ps : List (List ℕ)). IdentifierReads (head ps) (Err c.in-Err.error)) c.new-iter.ensures c.in-Err.ensures.reads) n)))
 
 pub returns-then-is_none : goal.returns-then-is_none
 returns-then-is_none c =
     on_ok_weaker c.write_text.result
     (λ e. e ∙ ap (λ t. held c.args.replies.now ++ (t ++ 10 ∷ [])) (sym (head_alone c.args.line.now c.fill_head.new.identifier (left c.fill_head.new.iter)
-    (subst (λ (ps : List (List ℕ)). ReadsAs (head ps) (Ok c.fill_head.new.identifier)) c.new-iter.ensures c.in_default.ensures.reads)
+    (subst (λ (ps : List (List ℕ)). IdentifierReads (head ps) (Ok c.fill_head.new.identifier)) c.new-iter.ensures c.in_default.ensures.reads)
     (c.in_default.ensures.rest ∙ ap after_head c.new-iter.ensures)
     (nothing_left (λ p. p.now) (left c.fill_head.new.iter) c.peek.result c.peek.ensures (c.is_none.ensures ∙ ap not c.if-is_none.true)))))
     c.write_text.ensures
@@ -33,7 +33,7 @@ returns-in-Ok c =
     on_ok_weaker c.write_text-in-Ok.result
     (λ e. e ∙ ap (λ t. held c.args.replies.now ++ (t ++ 10 ∷ [])) (sym (locale_accepted c.args.line.now (value_of c.read_rest.new.locale)
     (c.in-Ok.ensures c.args.line.now
-    (subst (λ (ps : List (List ℕ)). ReadsAs (head ps) (Ok c.fill_head.new.identifier)) c.new-iter.ensures c.in_default.ensures.reads)
+    (subst (λ (ps : List (List ℕ)). IdentifierReads (head ps) (Ok c.fill_head.new.identifier)) c.new-iter.ensures c.in_default.ensures.reads)
     (c.in_default.ensures.rest ∙ ap after_head c.new-iter.ensures)))))
     c.write_text-in-Ok.ensures
 
@@ -42,5 +42,5 @@ returns-in-Err-read_rest c =
     on_ok_both c.write_refusal-in-Err-read_rest.result c.write_refusal-in-Err-read_rest.ensures.text c.write_refusal-in-Err-read_rest.ensures.known
     (λ e n. e ∙ ap (λ t. held c.args.replies.now ++ (t ++ 10 ∷ [])) (sym (locale_refused c.args.line.now c.in-Err-read_rest.error
     (c.in-Err-read_rest.ensures c.args.line.now
-    (subst (λ (ps : List (List ℕ)). ReadsAs (head ps) (Ok c.fill_head.new.identifier)) c.new-iter.ensures c.in_default.ensures.reads)
+    (subst (λ (ps : List (List ℕ)). IdentifierReads (head ps) (Ok c.fill_head.new.identifier)) c.new-iter.ensures c.in_default.ensures.reads)
     (c.in_default.ensures.rest ∙ ap after_head c.new-iter.ensures)) n)))

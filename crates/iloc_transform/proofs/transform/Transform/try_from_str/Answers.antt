@@ -1,11 +1,15 @@
 -- what is owed to each text follows from what is read
 use Rattle.std.proofs.Common.{ℕ, List, subst}
-use Rattle.iloc_transform.specs.TransformReading.{TransformTextReads}
+use Rattle.iloc_transform.specs.TransformReading.{TransformTextReads, TransformTextWants}
+use Rattle.iloc_subtags.specs.Judging.{RunsOutOnlyIf}
 use Rattle.iloc_transform.proofs.OwedLemmas.{transform_accepts, transform_refuses}
 use Rattle.iloc_transform.proofs.transform.Transform.try_from_str.Goals as goal
 
 pub returns-clause-reads : goal.returns-clause-reads
 returns-clause-reads c = subst (λ (t : List ℕ). TransformTextReads t c.try_from_utf8.result) c.as_bytes.ensures.value c.try_from_utf8.ensures.reads
+
+pub returns-clause-memory : goal.returns-clause-memory
+returns-clause-memory c = subst (λ (t : List ℕ). RunsOutOnlyIf (TransformTextWants t) c.try_from_utf8.result) c.as_bytes.ensures.value c.try_from_utf8.ensures.memory
 
 pub returns-clause-accepted : goal.returns-clause-accepted
 returns-clause-accepted c = transform_accepts c.args.s.now c.try_from_utf8.result (returns-clause-reads c)

@@ -1,9 +1,8 @@
 -- From the laws of each reading.
 use Rattle.iloc_spec_grammar.proofs.IdentifierLaws.{identifier_of-pieces, pieces-identifier_of}
 use Rattle.iloc_spec_grammar.proofs.ReadingLaws.{front_of-pieces, pieces-front_of}
-use Rattle.iloc_spec_grammar.proofs.Readings.{unicode_of-pieces, pieces-unicode_of, transform_of-pieces, pieces-transform_of, written_of-spelling}
-use Rattle.iloc_spec_grammar.proofs.CaseLaws.{spelling-written_of}
-use Rattle.iloc_spec_grammar.proofs.whole_readings.Goals as goal
+use Rattle.iloc_spec_grammar.proofs.Readings.{unicode_read, pieces-unicode_of, transform_read, pieces-transform_of}
+use Rattle.iloc_spec_grammar.proofs.models.whole_readings.Goals as goal
 
 pub returns : goal.returns
 returns c = record {
@@ -11,10 +10,8 @@ returns c = record {
   front_pieces = pieces-front_of;
   identifier = λ T i h. identifier_of-pieces i h;
   identifier_whole = pieces-identifier_of;
-  unicode = unicode_of-pieces;
+  unicode = unicode_read;
   unicode_whole = pieces-unicode_of;
-  transform = λ T m h. transform_of-pieces m h;
+  transform = λ T m h. transform_read m h;
   transform_whole = pieces-transform_of;
-  written = λ T table w h. written_of-spelling table w h;
-  written_whole = spelling-written_of;
 }
