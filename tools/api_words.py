@@ -16,7 +16,7 @@ CONDITIONS = [
     (r"^length self \+ length other ≤ Q$", r"Both texts together have at most `Q` bytes."),
     (r"^All \(λ b\. b < 128\) \(take len padded\)$", r"The first `len` bytes are ASCII."),
     (r"^len ≤ 8$", r"There are at most eight bytes."),
-    (r"^IsAscending K\.cmp .*$", r"The keys ascend strictly."),
+    (r"^HasAscendingKeys K\.cmp .*$", r"The keys ascend strictly."),
     (r"^\(k c : K\) → K\.is_clone k c → c ≡ k$", r"A clone of a key equals the key."),
     (r"^\(v c : V\) → V\.is_clone v c → c ≡ v$", r"A clone of a value equals the value."),
     (r"^\(x y : T\) → T\.is_clone x y → y ≡ x$", r"A clone of an item equals the item."),

@@ -2,9 +2,10 @@
 
 A part stands between `<!-- trusted: WHAT -->` and `<!-- /trusted -->`, where WHAT is one of
 
-- `counts`: how much there is to read;
+- `counts`: how much there is to read, on each route;
 - `clause CALL NAME`: a clause of a contract, word for word;
-- `files PATH ..`: the definitions of these files on which the headline rests; `?PATH` need not hold any;
+- `files PATH ..`: the definitions of these files on which the headline rests, word for word; after
+  a path may stand the names of the first and of the last one;
 - `types`: the types and views through which its contracts see values;
 - `memory`: what only the clauses on memory cite;
 - `outside`: how much of specs/ the headline does not rest on."""
@@ -19,6 +20,9 @@ from common import without_prefix
 
 HEADLINE = ("Locale::try_from_utf8", "Locale::normalize_utf8", "Locale::is_well_formed", "Locale::write_to_string")
 ON_MEMORY = ("memory", "succeeds")
+# what several types have, each its own: its value, its place in an enum, the items of its list, the
+# list with others, the words of an error, how a value of a map is lent
+ALIKE = ("value_of", "place", "items_of", "with_list", "words_of", "lends_value", "lends_slice", "lends_item")
 PAGE = "docs/REVIEW.md"
 PART = re.compile(r"<!-- trusted: (.+?) -->\n(.*?)<!-- /trusted -->", re.S)
 
@@ -92,19 +96,14 @@ class Page:
         kept = tuple(it for it in ("reads", "accepted", "refused") if it in names)
         named = ", ".join(f"`{it}`" for it in kept)
         rows = [
-            (f"meaning and fault of `Locale::try_from_utf8`: {named}", without_memory(self.sources, [(meaning[0], kept)])),
-            ("the headline without its clauses on memory: the ten stops", self.plain),
-            ("the headline with every clause", self.whole),
-            ("every contract that `icu_locale_core` re-exports", graph.closure_of(self.sources, graph.public(self.sources))),
+            (f"parsing: {named} of `Locale::try_from_utf8`", without_memory(self.sources, [(meaning[0], kept)])),
+            ("the whole headline", self.plain),
+            ("with its clauses on memory, which are not on this page", self.whole),
         ]
-        lines = [
-            "| Contracts | Definitions | Lines | Files | Types | Members | Their lines |",
-            "|---|---|---|---|---|---|---|",
-        ]
+        lines = ["| Contracts | Definitions | Lines | Files |", "|---|---|---|---|"]
         for label, it in rows:
             files = {one.module.path for one in it.definitions}
             numbers = (len(it.definitions), lines_of(it.definitions), len(files))
-            numbers += (len(it.types), len(it.members), lines_of(it.types + it.members))
             lines.append(f"| {label} | " + " | ".join(f"{one:,}" for one in numbers) + " |")
         return "\n".join(lines)
 
@@ -119,35 +118,37 @@ class Page:
                 return f"{where}:\n\n```text\n{kind} {{ {dedented(text)} }}\n```"
         raise Wrong(f"{call} has no clause {name!r}: take the part out, or name another clause")
 
-    def part_files(self, *paths):
+    def part_files(self, *words):
+        """Shows the definitions of files, word for word. After a path may stand the first and the last one."""
         ordered = dict(self.plain.ordered(self.plain.definitions))
-        lines = []
-        for named in paths:
-            path = without_prefix(named, "?")
-            if named != path and path not in ordered:
-                continue
+        shown = []
+        for path, *ends in re.findall(r"(\S*/\S*)(?: ([^\s/]+) ([^\s/]+))?", " ".join(words)):
             if path not in ordered:
                 raise Wrong(f"the headline rests on no definition of {path}: take the path out")
-            self.placed.add(path)
-            found = ordered[path]
+            found = between(ordered[path], *ends) if ends[0] else ordered[path]
+            if not found:
+                raise Wrong(f"{path} has no {ends[0]} and {ends[1]} after it on which the headline rests")
+            self.placed.update(found)
             many = "1 definition" if len(found) == 1 else f"{len(found)} definitions"
-            lines += [f"`{path}`: {many}, {sum(it.count() for it in found)} lines.", ""]
-            lines += [f"- `{it.name}`" + (f": {it.sentence()}" if it.sentence() else "") for it in found]
-            lines.append("")
-        return "\n".join(lines).strip()
+            lines = sum(it.count() for it in found)
+            shown.append(f"`{path}`: {many}, {'1 line' if lines == 1 else f'{lines} lines'}.")
+            shown.append("```text\n" + "\n\n".join(quoted(it) for it in found) + "\n```")
+        return "\n\n".join(shown)
 
     def part_types(self):
-        seen = []
+        """Says how the types on the way are seen, but for those that are seen as they are."""
+        rows, fields = ["| Type | Seen as |", "|---|---|"], []
         views = {(one.crate, of_type(one)): one for one in self.plain.members if one.name == "view"}
         for it in sorted(self.plain.types, key=self.place):
             view = views.get((it.crate, it.name))
-            shown = f"; seen as `{' '.join(view.body.split())}`" if view else "; seen as it is"
-            if it.kind in ("struct", "enum") and not it.name.endswith("Kind"):
-                seen.append(f"- `{it.name}` ({it.module.path}){shown}")
+            if view and re.fullmatch(r"\s*λ (\w+)\. \1\.\w+\s*", view.body):
+                fields.append(f"`{it.name}`")
+            elif view and it.kind in ("struct", "enum") and not it.name.endswith("Kind"):
+                rows.append(f"| `{it.name}` ({it.module.path}) | `{' '.join(view.body.split())}` |")
+        made = f"Seen as their one field: {', '.join(dict.fromkeys(fields))}. Seen otherwise:\n\n" + "\n".join(rows)
         if self.plain.behind:
-            named = [f"`{it.name}` ({it.module.path})" for it in self.plain.behind]
-            seen += ["", f"The views cite these definitions besides: {', '.join(named)}."]
-        return "\n".join(seen)
+            made += "\n\n```text\n" + "\n\n".join(quoted(it) for it in self.plain.behind) + "\n```"
+        return made
 
     def place(self, item):
         return self.sources.crates.index(item.crate), item.module.path, item.line
@@ -166,8 +167,8 @@ class Page:
         lines = sum(it.count() for it in every)
         read = sum(it.count() for it in self.plain.definitions)
         said = f"`specs/` of the library holds {len(every):,} definitions in {lines:,} lines."
-        said += f" The ten stops hold {read:,} of these lines."
-        return f"{said} The headline rests on no other, but for memory and for the views of stop 9."
+        said += f" This page shows {read:,} of these lines."
+        return f"{said} The headline rests on no other, but for memory and for the views of stop 8."
 
     def made(self, text):
         """Returns the page with its parts made anew, and what is wrong with it."""
@@ -181,9 +182,9 @@ class Page:
                 return found[0]
 
         made = PART.sub(one, text)
-        for path, _ in self.plain.ordered(self.plain.definitions):
-            if path not in self.placed:
-                wrong.append(f"{PAGE}: {path} is at no stop: name it in a part 'files'")
+        for it in self.plain.definitions:
+            if it not in self.placed:
+                wrong.append(f"{PAGE}: {it.where}: {it.name} is at no stop: name it in a part 'files'")
         for call, name in self.clauses():
             if (call, name) not in self.shown:
                 wrong.append(f"{PAGE}: the clause {name!r} of {call} is not shown: add a part 'clause {call} {name}'")
@@ -197,6 +198,18 @@ class Page:
                     name = " ".join(kind.split()[1:])
                     if name not in ON_MEMORY:
                         yield call, name
+
+
+def between(definitions, first, last):
+    names = [it.name for it in definitions]
+    return definitions[names.index(first) : names.index(last) + 1] if {first, last} <= set(names) else []
+
+
+def quoted(definition):
+    """Returns the comment and the text of a definition, without the words that say who may use it."""
+    lines = ["-- " + it for it in definition.comment]
+    lines += [re.sub(r"^(\s*)((abbrev|unfoldable|pub) )+", r"\1", it) for it in definition.lines]
+    return "\n".join(lines).rstrip()
 
 
 def of_type(member):
@@ -232,6 +245,8 @@ def check(sources):
     wrong += [f"{it.where}: {it.name} cites {', '.join(sorted(names))}, which nothing in scope explains" for it, names in sources.unknown.items()]
     library = graph.closure_of(sources, graph.library(sources))
     wrong += [f"{it.where}: {it.name} has no sentence" for it in library.definitions if not it.sentence()]
+    wrong += [f"the same text: {named(group)}" for group in same_text(sources)]
+    wrong += [f"one name for two things: {named(group)}" for group in same_name(sources)]
     parts = list(zip(PART.finditer(text), PART.finditer(made)))
     for old, new in parts:
         if old[2] != new[2]:
@@ -253,11 +268,29 @@ def same_text(sources):
     return [it for it in groups.values() if len(it) > 1]
 
 
+def same_name(sources):
+    """Returns the groups of public definitions that share a name, but for what several types have alike."""
+    groups = {}
+    for module in sources.modules.values():
+        for it in module.definitions:
+            if it.kind != "abstract" and it.name not in ALIKE and re.match(r"[^=:]*\bpub ", it.lines[0]):
+                groups.setdefault(it.name, []).append(it)
+    return [it for it in groups.values() if len(it) > 1]
+
+
+def named(group):
+    return ", ".join(f"{it.name} ({it.where})" for it in group)
+
+
 def shape_of(sources, definition):
     """Returns the clauses of a definition, with what each name means in the place of the name."""
     text = " ;; ".join(part[0] for part in definition.parts if part[1] == "clause")
     shape, bound = [], {}
-    for token in re.findall(r"\"[^\"]*\"|\.[^\s(){};,]+|[^\s(){};,]+|[(){};,]", text):
+    tokens = re.findall(r"\"[^\"]*\"|\.[^\s(){};,]+|[^\s(){};,]+|[(){};,]", text)
+    for before, token, after in zip([""] + tokens, tokens, tokens[1:] + [""]):
+        if after == "=" and before in ("{", ";"):
+            shape.append(f"field {token}")
+            continue
         sign = definition.module.operators().get(token, token)
         try:
             meant = sources.lookup(definition.module, token.rstrip(".").split("."))
@@ -290,7 +323,9 @@ def cited_by_nothing(sources):
 def twice(sources):
     """Says which definitions stand twice, and which no contract cites."""
     for group in same_text(sources):
-        print("the same text: " + ", ".join(f"{it.name} ({it.where})" for it in group))
+        print(f"the same text: {named(group)}")
+    for group in same_name(sources):
+        print(f"one name for two things: {named(group)}")
     for it in cited_by_nothing(sources):
         print(f"cited by no contract: {it.name} ({it.where})")
     return 0

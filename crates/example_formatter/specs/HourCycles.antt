@@ -1,5 +1,6 @@
--- How hours are counted: the first and the last hour of each cycle (UTS #35, the key `hc`). `c12` and `c24` leave to the
--- locale which cycle of 12 or 24 hours it is; this program takes `h12` and `h23`.
+-- How hours are counted: the first and the last hour of each cycle (UTS #35, the key `hc`). `c12`
+-- and `c24` leave to the locale which cycle of 12 or 24 hours it is; this program takes `h12` and
+-- `h23`.
 use Rattle.std.specs.Prelude.{ℕ}
 use Rattle.icu_locale_core.specs.HourCycles.{HourCycle}
 use Rattle.icu_locale_core.specs.HourCycles.TheVariants.{H11, H12, H23, Clock12, Clock24}

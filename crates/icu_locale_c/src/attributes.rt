@@ -5,7 +5,7 @@ ghost use Rattle.iloc_calls.specs.Answers.{Tells};
 ghost use Rattle.iloc_calls.specs.Numbers.{EndsAs};
 ghost use Rattle.iloc_handles.specs.Clearing.{Clears};
 ghost use Rattle.iloc_handles.specs.declared.clearing.Clear.{Clear};
-ghost use Rattle.iloc_handles.specs.Held.{IsTight, meaning_of};
+ghost use Rattle.iloc_handles.specs.Held.{IsTight, held_locale};
 ghost use Rattle.iloc_handles.specs.Finding.{Changes};
 ghost use Rattle.iloc_handles.specs.Subtags.{HasWord};
 ghost use Rattle.iloc_handles.specs.Attributes.{AddsAttribute, RemovesAttribute, attribute_at, attributes_of};
@@ -20,7 +20,7 @@ use std::alloc::Global;
 #[unsafe(no_mangle)]
 pub extern "C" fn icu_locale_attribute_count(alloc: Global, handle: &mut Handle) -> usize
     ensures same { handle.new.value ≡ handle.old.value }
-    ensures answered { result ≡ length (attributes_of (meaning_of handle.old.value)) }
+    ensures answered { result ≡ length (attributes_of (held_locale handle.old.value)) }
 {
     ask(alloc, handle, &WordCount(OfAttributes))
 }
@@ -35,7 +35,7 @@ pub extern "C" fn icu_locale_get_attribute(
     needed: &mut usize,
 ) -> u32
     ensures same { handle.new.value ≡ handle.old.value }
-    ensures told { EndsAs (Tells (attribute_at index (meaning_of handle.old.value)) buffer.old
+    ensures told { EndsAs (Tells (attribute_at index (held_locale handle.old.value)) buffer.old
         buffer.new needed.new) result }
 {
     tell(alloc, handle, &WordAt(OfAttributes, index), buffer, needed)
@@ -46,7 +46,7 @@ pub extern "C" fn icu_locale_get_attribute(
 pub extern "C" fn icu_locale_has_attribute(alloc: Global, handle: &mut Handle, text: &[u8]) -> bool
     ensures same { handle.new.value ≡ handle.old.value }
     ensures answered { IsTrue result
-        ↔ HasWord the_kind text.now (attributes_of (meaning_of handle.old.value)) }
+        ↔ HasWord the_kind text.now (attributes_of (held_locale handle.old.value)) }
 {
     ask(alloc, handle, &HasText(OfAttributes, text))
 }

@@ -9,7 +9,7 @@ ghost use Rattle.iloc_calls.specs.Numbers.{EndsAs, number_of};
 ghost use Rattle.iloc_calls.specs.declared.status.Status.{Status};
 ghost use Rattle.iloc_handles.specs.declared.data.Priority.{Priority};
 ghost use Rattle.iloc_handles.specs.Data.{calendar_text, data_of, hours_text, numbering_text, priority_number};
-ghost use Rattle.iloc_handles.specs.Held.{meaning_of};
+ghost use Rattle.iloc_handles.specs.Held.{held_locale};
 
 use iloc_calls::{Status, hand_out, number};
 use iloc_handles::{Handle, Named, Priority, ask, tell};
@@ -28,7 +28,7 @@ pub extern "C" fn icu_locale_get_data_locale(
 ) -> u32
     ensures same { handle.new.value ≡ handle.old.value }
     ensures known { (p : Priority) → priority ≡ priority_number p
-        → EndsAs (HandsOut (data_text (data_of p (meaning_of handle.old.value))) buffer.old
+        → EndsAs (HandsOut (data_text (data_of p (held_locale handle.old.value))) buffer.old
         buffer.new needed.new) result }
     ensures unknown { 1 < priority → (result ≡ number_of Status.UnknownNumber)
         × (needed.new ≡ 0) × (buffer.new ≡ buffer.old) }
@@ -54,7 +54,7 @@ pub extern "C" fn icu_locale_data_cmp_bytes(
     ensures same { handle.new.value ≡ handle.old.value }
     ensures known { (p : Priority) → priority ≡ priority_number p
         → (result ≡ number_of Status.Done) × (order.new ≡ order_number (slice_cmp nat_cmp
-        (data_text (data_of p (meaning_of handle.old.value))) other.now)) }
+        (data_text (data_of p (held_locale handle.old.value))) other.now)) }
     ensures unknown { 1 < priority
         → (result ≡ number_of Status.UnknownNumber) × (order.new ≡ order.old) }
 {
@@ -80,7 +80,7 @@ pub extern "C" fn icu_locale_data_cmp(
     ensures same_other { other.new.value ≡ other.old.value }
     ensures known { (p : Priority) → priority ≡ priority_number p
         → (result ≡ number_of Status.Done) × (order.new ≡ order_number (data_locale_cmp
-        (data_of p (meaning_of handle.old.value)) (data_of p (meaning_of other.old.value)))) }
+        (data_of p (held_locale handle.old.value)) (data_of p (held_locale other.old.value)))) }
     ensures unknown { 1 < priority
         → (result ≡ number_of Status.UnknownNumber) × (order.new ≡ order.old) }
 {
@@ -103,7 +103,7 @@ pub extern "C" fn icu_locale_get_calendar_algorithm(
     needed: &mut usize,
 ) -> u32
     ensures same { handle.new.value ≡ handle.old.value }
-    ensures told { EndsAs (Tells (calendar_text (meaning_of handle.old.value)) buffer.old
+    ensures told { EndsAs (Tells (calendar_text (held_locale handle.old.value)) buffer.old
         buffer.new needed.new) result }
 {
     tell(alloc, handle, &Named::Calendar, buffer, needed)
@@ -118,7 +118,7 @@ pub extern "C" fn icu_locale_get_hour_cycle(
     needed: &mut usize,
 ) -> u32
     ensures same { handle.new.value ≡ handle.old.value }
-    ensures told { EndsAs (Tells (hours_text (meaning_of handle.old.value)) buffer.old
+    ensures told { EndsAs (Tells (hours_text (held_locale handle.old.value)) buffer.old
         buffer.new needed.new) result }
 {
     tell(alloc, handle, &Named::HourCycle, buffer, needed)
@@ -133,7 +133,7 @@ pub extern "C" fn icu_locale_get_numbering_system(
     needed: &mut usize,
 ) -> u32
     ensures same { handle.new.value ≡ handle.old.value }
-    ensures told { EndsAs (Tells (numbering_text (meaning_of handle.old.value)) buffer.old
+    ensures told { EndsAs (Tells (numbering_text (held_locale handle.old.value)) buffer.old
         buffer.new needed.new) result }
 {
     tell(alloc, handle, &Named::NumberingSystem, buffer, needed)

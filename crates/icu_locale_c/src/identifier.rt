@@ -3,7 +3,7 @@ ghost use Rattle.std.specs.Prelude.{◌≡◌, Some};
 ghost use Rattle.iloc_spec_grammar.specs.Values.{identifier_text};
 ghost use Rattle.iloc_calls.specs.Answers.{Tells};
 ghost use Rattle.iloc_calls.specs.Numbers.{EndsAs};
-ghost use Rattle.iloc_handles.specs.Held.{IsTight, meaning_of};
+ghost use Rattle.iloc_handles.specs.Held.{IsTight, held_locale};
 ghost use Rattle.iloc_handles.specs.Finding.{Changes};
 ghost use Rattle.iloc_handles.specs.Identifier.{SetsLanguage, SetsRegion, SetsScript, text_or_empty};
 
@@ -19,7 +19,7 @@ pub extern "C" fn icu_locale_get_base_name(
     needed: &mut usize,
 ) -> u32
     ensures same { handle.new.value ≡ handle.old.value }
-    ensures told { EndsAs (Tells (Some (identifier_text (meaning_of handle.old.value).id))
+    ensures told { EndsAs (Tells (Some (identifier_text (held_locale handle.old.value).id))
         buffer.old buffer.new needed.new) result }
 {
     tell(alloc, handle, &Named::BaseName, buffer, needed)
@@ -34,7 +34,7 @@ pub extern "C" fn icu_locale_get_language(
     needed: &mut usize,
 ) -> u32
     ensures same { handle.new.value ≡ handle.old.value }
-    ensures told { EndsAs (Tells (Some (meaning_of handle.old.value).id.language) buffer.old
+    ensures told { EndsAs (Tells (Some (held_locale handle.old.value).id.language) buffer.old
         buffer.new needed.new) result }
 {
     tell(alloc, handle, &Named::Language, buffer, needed)
@@ -49,7 +49,7 @@ pub extern "C" fn icu_locale_get_script(
     needed: &mut usize,
 ) -> u32
     ensures same { handle.new.value ≡ handle.old.value }
-    ensures told { EndsAs (Tells (Some (text_or_empty (meaning_of handle.old.value).id.script))
+    ensures told { EndsAs (Tells (Some (text_or_empty (held_locale handle.old.value).id.script))
         buffer.old buffer.new needed.new) result }
 {
     tell(alloc, handle, &Named::Script, buffer, needed)
@@ -64,7 +64,7 @@ pub extern "C" fn icu_locale_get_region(
     needed: &mut usize,
 ) -> u32
     ensures same { handle.new.value ≡ handle.old.value }
-    ensures told { EndsAs (Tells (Some (text_or_empty (meaning_of handle.old.value).id.region))
+    ensures told { EndsAs (Tells (Some (text_or_empty (held_locale handle.old.value).id.region))
         buffer.old buffer.new needed.new) result }
 {
     tell(alloc, handle, &Named::Region, buffer, needed)

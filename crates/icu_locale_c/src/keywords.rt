@@ -5,7 +5,7 @@ ghost use Rattle.iloc_calls.specs.Answers.{Tells};
 ghost use Rattle.iloc_calls.specs.Numbers.{EndsAs};
 ghost use Rattle.iloc_handles.specs.Clearing.{Clears};
 ghost use Rattle.iloc_handles.specs.declared.clearing.Clear.{Clear};
-ghost use Rattle.iloc_handles.specs.Held.{IsTight, meaning_of};
+ghost use Rattle.iloc_handles.specs.Held.{IsTight, held_locale};
 ghost use Rattle.iloc_handles.specs.Finding.{Changes};
 ghost use Rattle.iloc_handles.specs.Keywords.{keywords, keywords_of};
 ghost use Rattle.iloc_handles.specs.Pairs.{RemovesPair, SetsPair, key_at, value_at, value_of_key};
@@ -21,7 +21,7 @@ use std::alloc::Global;
 #[unsafe(no_mangle)]
 pub extern "C" fn icu_locale_keyword_count(alloc: Global, handle: &mut Handle) -> usize
     ensures same { handle.new.value ≡ handle.old.value }
-    ensures answered { result ≡ length (keywords_of (meaning_of handle.old.value)) }
+    ensures answered { result ≡ length (keywords_of (held_locale handle.old.value)) }
 {
     ask(alloc, handle, &PairCount(OfKeywords))
 }
@@ -36,7 +36,7 @@ pub extern "C" fn icu_locale_get_keyword_key(
     needed: &mut usize,
 ) -> u32
     ensures same { handle.new.value ≡ handle.old.value }
-    ensures told { EndsAs (Tells (key_at index (keywords_of (meaning_of handle.old.value)))
+    ensures told { EndsAs (Tells (key_at index (keywords_of (held_locale handle.old.value)))
         buffer.old buffer.new needed.new) result }
 {
     tell(alloc, handle, &KeyAt(OfKeywords, index), buffer, needed)
@@ -53,7 +53,7 @@ pub extern "C" fn icu_locale_get_keyword_value(
 ) -> u32
     ensures same { handle.new.value ≡ handle.old.value }
     ensures told { EndsAs (Tells
-        (option_map join (value_at index (keywords_of (meaning_of handle.old.value))))
+        (option_map join (value_at index (keywords_of (held_locale handle.old.value))))
         buffer.old buffer.new needed.new) result }
 {
     tell(alloc, handle, &ValueAt(OfKeywords, index), buffer, needed)
@@ -70,7 +70,7 @@ pub extern "C" fn icu_locale_get_keyword(
 ) -> u32
     ensures same { handle.new.value ≡ handle.old.value }
     ensures told { EndsAs (Tells (option_map join
-        (value_of_key UnicodeKey key.now (keywords_of (meaning_of handle.old.value))))
+        (value_of_key UnicodeKey key.now (keywords_of (held_locale handle.old.value))))
         buffer.old buffer.new needed.new) result }
 {
     tell(alloc, handle, &ValueOf(OfKeywords, key), buffer, needed)
@@ -119,7 +119,7 @@ pub extern "C" fn icu_locale_extend_unicode(
     from: &mut Handle,
 ) -> u32
     ensures same { from.new.value ≡ from.old.value }
-    ensures changed { EndsAs (Changes (ExtendsUnicode (meaning_of from.old.value))
+    ensures changed { EndsAs (Changes (ExtendsUnicode (held_locale from.old.value))
         handle.old.value handle.new.value) result }
     ensures tight { IsTight handle.new.value }
 {

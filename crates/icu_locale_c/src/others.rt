@@ -2,7 +2,7 @@
 ghost use Rattle.std.specs.Prelude.{◌≡◌, ◌↔◌, IsTrue};
 ghost use Rattle.iloc_calls.specs.Answers.{Tells};
 ghost use Rattle.iloc_calls.specs.Numbers.{EndsAs};
-ghost use Rattle.iloc_handles.specs.Held.{IsTight, meaning_of};
+ghost use Rattle.iloc_handles.specs.Held.{IsTight, held_locale};
 ghost use Rattle.iloc_handles.specs.Finding.{Changes};
 ghost use Rattle.iloc_handles.specs.Others.{HasOther as IsThere, RemovesOther, SetsOther, other_text_at};
 
@@ -13,7 +13,7 @@ use std::alloc::Global;
 #[unsafe(no_mangle)]
 pub extern "C" fn icu_locale_has_other(alloc: Global, handle: &mut Handle, singleton: u8) -> bool
     ensures same { handle.new.value ≡ handle.old.value }
-    ensures answered { IsTrue result ↔ IsThere singleton (meaning_of handle.old.value) }
+    ensures answered { IsTrue result ↔ IsThere singleton (held_locale handle.old.value) }
 {
     ask(alloc, handle, &HasOther(singleton))
 }
@@ -28,7 +28,7 @@ pub extern "C" fn icu_locale_get_other(
     needed: &mut usize,
 ) -> u32
     ensures same { handle.new.value ≡ handle.old.value }
-    ensures told { EndsAs (Tells (other_text_at singleton (meaning_of handle.old.value)) buffer.old
+    ensures told { EndsAs (Tells (other_text_at singleton (held_locale handle.old.value)) buffer.old
         buffer.new needed.new) result }
 {
     tell(alloc, handle, &OfOther(singleton), buffer, needed)

@@ -6,7 +6,7 @@ ghost use Rattle.iloc_calls.specs.Answers.{Tells};
 ghost use Rattle.iloc_calls.specs.Numbers.{EndsAs};
 ghost use Rattle.iloc_handles.specs.Clearing.{Clears};
 ghost use Rattle.iloc_handles.specs.declared.clearing.Clear.{Clear};
-ghost use Rattle.iloc_handles.specs.Held.{IsTight, meaning_of};
+ghost use Rattle.iloc_handles.specs.Held.{IsTight, held_locale};
 ghost use Rattle.iloc_handles.specs.Finding.{Changes};
 ghost use Rattle.iloc_handles.specs.Pairs.{RemovesPair, SetsPair, key_at, value_at, value_of_key};
 ghost use Rattle.iloc_handles.specs.Transform.{SetsPrivate, SetsTransformLanguage, fields, fields_of, transform_language};
@@ -26,7 +26,7 @@ pub extern "C" fn icu_locale_get_transform_language(
     needed: &mut usize,
 ) -> u32
     ensures same { handle.new.value ≡ handle.old.value }
-    ensures told { EndsAs (Tells (transform_language (meaning_of handle.old.value)) buffer.old
+    ensures told { EndsAs (Tells (transform_language (held_locale handle.old.value)) buffer.old
         buffer.new needed.new) result }
 {
     tell(alloc, handle, &Named::TransformLanguage, buffer, needed)
@@ -50,7 +50,7 @@ pub extern "C" fn icu_locale_set_transform_language(
 #[unsafe(no_mangle)]
 pub extern "C" fn icu_locale_field_count(alloc: Global, handle: &mut Handle) -> usize
     ensures same { handle.new.value ≡ handle.old.value }
-    ensures answered { result ≡ length (fields_of (meaning_of handle.old.value)) }
+    ensures answered { result ≡ length (fields_of (held_locale handle.old.value)) }
 {
     ask(alloc, handle, &PairCount(OfFields))
 }
@@ -65,7 +65,7 @@ pub extern "C" fn icu_locale_get_field_key(
     needed: &mut usize,
 ) -> u32
     ensures same { handle.new.value ≡ handle.old.value }
-    ensures told { EndsAs (Tells (key_at index (fields_of (meaning_of handle.old.value)))
+    ensures told { EndsAs (Tells (key_at index (fields_of (held_locale handle.old.value)))
         buffer.old buffer.new needed.new) result }
 {
     tell(alloc, handle, &KeyAt(OfFields, index), buffer, needed)
@@ -82,7 +82,7 @@ pub extern "C" fn icu_locale_get_field_value(
 ) -> u32
     ensures same { handle.new.value ≡ handle.old.value }
     ensures told { EndsAs (Tells
-        (option_map field_value_text (value_at index (fields_of (meaning_of handle.old.value))))
+        (option_map field_value_text (value_at index (fields_of (held_locale handle.old.value))))
         buffer.old buffer.new needed.new) result }
 {
     tell(alloc, handle, &ValueAt(OfFields, index), buffer, needed)
@@ -99,7 +99,7 @@ pub extern "C" fn icu_locale_get_field(
 ) -> u32
     ensures same { handle.new.value ≡ handle.old.value }
     ensures told { EndsAs (Tells (option_map field_value_text
-        (value_of_key TransformKey key.now (fields_of (meaning_of handle.old.value))))
+        (value_of_key TransformKey key.now (fields_of (held_locale handle.old.value))))
         buffer.old buffer.new needed.new) result }
 {
     tell(alloc, handle, &ValueOf(OfFields, key), buffer, needed)
@@ -150,7 +150,7 @@ pub extern "C" fn icu_locale_get_private(
 ) -> u32
     ensures same { handle.new.value ≡ handle.old.value }
     ensures told { EndsAs (Tells
-        (Some (private_text (meaning_of handle.old.value).extensions.private)) buffer.old
+        (Some (private_text (held_locale handle.old.value).extensions.private)) buffer.old
         buffer.new needed.new) result }
 {
     tell(alloc, handle, &Named::Private, buffer, needed)

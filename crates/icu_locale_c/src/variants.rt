@@ -5,7 +5,7 @@ ghost use Rattle.iloc_calls.specs.Answers.{Tells};
 ghost use Rattle.iloc_calls.specs.Numbers.{EndsAs};
 ghost use Rattle.iloc_handles.specs.Clearing.{Clears};
 ghost use Rattle.iloc_handles.specs.declared.clearing.Clear.{Clear};
-ghost use Rattle.iloc_handles.specs.Held.{IsTight, meaning_of};
+ghost use Rattle.iloc_handles.specs.Held.{IsTight, held_locale};
 ghost use Rattle.iloc_handles.specs.Finding.{Changes};
 ghost use Rattle.iloc_handles.specs.Subtags.{HasWord};
 ghost use Rattle.iloc_handles.specs.Identifier.{AddsVariant, RemovesVariant, variant_at};
@@ -20,7 +20,7 @@ use std::alloc::Global;
 #[unsafe(no_mangle)]
 pub extern "C" fn icu_locale_variant_count(alloc: Global, handle: &mut Handle) -> usize
     ensures same { handle.new.value ≡ handle.old.value }
-    ensures answered { result ≡ length (meaning_of handle.old.value).id.variants }
+    ensures answered { result ≡ length (held_locale handle.old.value).id.variants }
 {
     ask(alloc, handle, &WordCount(OfVariants))
 }
@@ -35,7 +35,7 @@ pub extern "C" fn icu_locale_get_variant(
     needed: &mut usize,
 ) -> u32
     ensures same { handle.new.value ≡ handle.old.value }
-    ensures told { EndsAs (Tells (variant_at index (meaning_of handle.old.value)) buffer.old
+    ensures told { EndsAs (Tells (variant_at index (held_locale handle.old.value)) buffer.old
         buffer.new needed.new) result }
 {
     tell(alloc, handle, &WordAt(OfVariants, index), buffer, needed)
@@ -46,7 +46,7 @@ pub extern "C" fn icu_locale_get_variant(
 pub extern "C" fn icu_locale_has_variant(alloc: Global, handle: &mut Handle, text: &[u8]) -> bool
     ensures same { handle.new.value ≡ handle.old.value }
     ensures answered { IsTrue result
-        ↔ HasWord the_kind text.now (meaning_of handle.old.value).id.variants }
+        ↔ HasWord the_kind text.now (held_locale handle.old.value).id.variants }
 {
     ask(alloc, handle, &HasText(OfVariants, text))
 }

@@ -7,7 +7,7 @@ ghost use Rattle.iloc_spec_parts.specs.Orders.{locale_cmp};
 ghost use Rattle.iloc_locale.specs.LocaleReading.{unknown_locale};
 ghost use Rattle.iloc_calls.specs.Answers.{Tells, order_number};
 ghost use Rattle.iloc_calls.specs.Numbers.{EndsAs};
-ghost use Rattle.iloc_handles.specs.Held.{IsTight, meaning_of};
+ghost use Rattle.iloc_handles.specs.Held.{IsTight, held_locale};
 ghost use Rattle.iloc_handles.specs.Finding.{Changes};
 ghost use Rattle.iloc_handles.specs.Whole.{Copies, ParsesTo, TellsMeant};
 ghost use Rattle.iloc_calls.specs.Hashing.{hash_of};
@@ -33,7 +33,7 @@ pub extern "C" fn icu_locale_parse(alloc: Global, handle: &mut Handle, text: &[u
 #[unsafe(no_mangle)]
 pub extern "C" fn icu_locale_copy(alloc: Global, handle: &mut Handle, from: &mut Handle) -> u32
     ensures same { from.new.value ≡ from.old.value }
-    ensures changed { EndsAs (Changes (Copies (meaning_of from.old.value)) handle.old.value
+    ensures changed { EndsAs (Changes (Copies (held_locale from.old.value)) handle.old.value
         handle.new.value) result }
     ensures tight { IsTight handle.new.value }
 {
@@ -52,7 +52,7 @@ pub extern "C" fn icu_locale_free(alloc: Global, handle: &mut Handle)
 #[unsafe(no_mangle)]
 pub extern "C" fn icu_locale_is_und(alloc: Global, handle: &mut Handle) -> bool
     ensures same { handle.new.value ≡ handle.old.value }
-    ensures answered { IsTrue result ↔ (meaning_of handle.old.value ≡ unknown_locale) }
+    ensures answered { IsTrue result ↔ (held_locale handle.old.value ≡ unknown_locale) }
 {
     ask(alloc, handle, &Test::Und)
 }
@@ -61,7 +61,7 @@ pub extern "C" fn icu_locale_is_und(alloc: Global, handle: &mut Handle) -> bool
 #[unsafe(no_mangle)]
 pub extern "C" fn icu_locale_is_well_formed(alloc: Global, handle: &mut Handle) -> bool
     ensures same { handle.new.value ≡ handle.old.value }
-    ensures answered { IsTrue result ↔ IsWellFormed (meaning_of handle.old.value) }
+    ensures answered { IsTrue result ↔ IsWellFormed (held_locale handle.old.value) }
 {
     ask(alloc, handle, &Test::WellFormed)
 }
@@ -75,7 +75,7 @@ pub extern "C" fn icu_locale_to_string(
     needed: &mut usize,
 ) -> u32
     ensures same { handle.new.value ≡ handle.old.value }
-    ensures told { EndsAs (Tells (Some (text_of (meaning_of handle.old.value))) buffer.old
+    ensures told { EndsAs (Tells (Some (text_of (held_locale handle.old.value))) buffer.old
         buffer.new needed.new) result }
 {
     tell(alloc, handle, &Named::Whole, buffer, needed)
@@ -87,7 +87,7 @@ pub extern "C" fn icu_locale_cmp(alloc: Global, handle: &mut Handle, other: &mut
     ensures same { handle.new.value ≡ handle.old.value }
     ensures same_other { other.new.value ≡ other.old.value }
     ensures answered { result ≡ order_number
-        (locale_cmp (meaning_of handle.old.value) (meaning_of other.old.value)) }
+        (locale_cmp (held_locale handle.old.value) (held_locale other.old.value)) }
 {
     number(order_of(alloc, handle, other))
 }
@@ -98,7 +98,7 @@ pub extern "C" fn icu_locale_eq(alloc: Global, handle: &mut Handle, other: &mut 
     ensures same { handle.new.value ≡ handle.old.value }
     ensures same_other { other.new.value ≡ other.old.value }
     ensures answered { IsTrue result
-        ↔ (meaning_of handle.old.value ≡ meaning_of other.old.value) }
+        ↔ (held_locale handle.old.value ≡ held_locale other.old.value) }
 {
     iloc_handles::eq(alloc, handle, other)
 }
@@ -108,7 +108,7 @@ pub extern "C" fn icu_locale_eq(alloc: Global, handle: &mut Handle, other: &mut 
 pub extern "C" fn icu_locale_cmp_bytes(alloc: Global, handle: &mut Handle, other: &[u8]) -> i8
     ensures same { handle.new.value ≡ handle.old.value }
     ensures answered { result ≡ order_number
-        (slice_cmp nat_cmp (text_of (meaning_of handle.old.value)) other.now) }
+        (slice_cmp nat_cmp (text_of (held_locale handle.old.value)) other.now) }
 {
     ask(alloc, handle, &AgainstBytes(other))
 }
@@ -122,7 +122,7 @@ pub extern "C" fn icu_locale_eq_text(
     same: &mut u8,
 ) -> u32
     ensures same_locale { handle.new.value ≡ handle.old.value }
-    ensures told { EndsAs (TellsMeant text.now (meaning_of handle.old.value) same.old same.new)
+    ensures told { EndsAs (TellsMeant text.now (held_locale handle.old.value) same.old same.new)
         result }
 {
     tell_meant(alloc, handle, text, same).number()
@@ -132,7 +132,7 @@ pub extern "C" fn icu_locale_eq_text(
 #[unsafe(no_mangle)]
 pub extern "C" fn icu_locale_hash(alloc: Global, handle: &mut Handle) -> u64
     ensures same { handle.new.value ≡ handle.old.value }
-    ensures answered { result ≡ hash_of (text_of (meaning_of handle.old.value)) }
+    ensures answered { result ≡ hash_of (text_of (held_locale handle.old.value)) }
 {
     ask(alloc, handle, &Hashed)
 }

@@ -43,14 +43,15 @@ pub use Rattle.iloc_data.specs.DataValue
 pub use Rattle.iloc_data.specs.DataEquality
 pub use Rattle.iloc_json.specs.Json
 pub use Rattle.iloc_json.specs.Carrying
+pub use Rattle.iloc_lines.specs.Answers as ProgramAnswers
 pub use Rattle.iloc_lines.specs.Output as ProgramOutput
 pub use Rattle.iloc_data.specs.FormatterValues as FormatterValues
 pub use Rattle.iloc_enum_keywords.specs.declared.hour_cycle.HourCycle as HourCycles
-pub use Rattle.iloc_tinystr.specs.Text as TinyTextCase
 pub use Rattle.iloc_tinystr.specs.TinyText
 pub use Rattle.iloc_writeable.specs.Held
 pub use Rattle.iloc_shortvec.specs.ShortList
 pub use Rattle.iloc_shortvec.specs.ShortOrder
+pub use Rattle.iloc_spec_grammar.specs.ShortLists
 pub use Rattle.iloc_shortvec.specs.ShortBoxSliceLends
 pub use Rattle.iloc_shortvec.specs.ShortWordsLends
 pub use Rattle.iloc_litemap.specs.Calls as MapCalls

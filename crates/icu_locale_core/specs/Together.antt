@@ -1,5 +1,5 @@
--- What `==`, the order and the hash of a type have to do with one another: the rules of Rust's `Eq`,
--- `Ord` and `Hash`.
+-- What `==`, the order and the hash of a type have to do with one another: the rules of Rust's
+-- `Eq`, `Ord` and `Hash`.
 use Rattle.std.specs.Prelude.{◌≡◌, ◌↔◌, Bool, IsTrue}
 use Rattle.std.specs.Hash.{HashWrites}
 use Rattle.std.specs.declared.cmp.Ordering.{Ordering}

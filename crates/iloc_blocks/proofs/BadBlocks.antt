@@ -5,8 +5,8 @@ use Rattle.std.specs.Char.{is_ascii_alphanumeric, to_ascii_lowercase}
 use Rattle.std.specs.Ordering.{nat_cmp, eq_by_cmp}
 use Rattle.std.proofs.lemmas.Bool.{cases_Bool, cases_eq, cases_lt}
 use Rattle.std.proofs.lemmas.Bool.Decides.{nat_tests}
-use Rattle.iloc_spec_grammar.specs.Syntax.{pieces, Variant, UnicodeKey, Attribute, PrivateSubtag, is_word, IsWord, languages, Identifier, Fields, Unicode, Transform, identifier_pieces, fields_pieces, unicode_pieces, transform_pieces, optional_pieces, IsIdentifier, IsOther, is_other_singleton, front, blocks, head, tail_blocks, lower}
-use Rattle.iloc_spec_grammar.specs.Tree.{Extension, unicode, transform, other, extension_pieces, IsUnicodeBlock, IsTransformBlock, IsPrivate, IsExtension, IsBlock, TreeBlockFault, no_singleton, breaks_rule, duplicated, FirstBadBlock, here, later}
+use Rattle.iloc_spec_grammar.specs.Syntax.{pieces, Variant, UnicodeKey, Attribute, PrivateSubtag, is_word, IsWord, languages, Identifier, Fields, Unicode, Transform, identifier_pieces, fields_pieces, unicode_pieces, transform_pieces, optional_pieces, IsIdentifier, IsOther, is_other_singleton, front, blocks, head, tail_blocks, lower, IsPrivate}
+use Rattle.iloc_spec_grammar.specs.Tree.{Extension, unicode, transform, other, extension_pieces, IsUnicodeBlock, IsTransformBlock, IsExtension, IsBlock, TreeBlockFault, no_singleton, breaks_rule, duplicated, FirstBadBlock, here, later}
 use Rattle.iloc_spec_grammar.specs.Meaning.{Fault, InvalidExtension, RepeatsVariant, HasFault, in_block}
 use Rattle.iloc_spec_grammar.specs.Values.{IsAscending}
 use Rattle.iloc_spec_grammar.proofs.PiecesLaws.{at_pieces}

@@ -11,7 +11,8 @@ use Rattle.iloc_spec_grammar.proofs.PartTexts.{join-append, join-dashes, dashes-
 use Rattle.iloc_spec_grammar.proofs.WordsLaws.{lower-lower, lower-title, lower-upper, is_word-lower}
 use Rattle.iloc_spec_grammar.proofs.AnySteps.{text_step_means, identifier_step_means}
 use Rattle.iloc_spec_grammar.proofs.CaseLaws.{pieces-lower}
-use Rattle.iloc_spec_grammar.proofs.Chains.{identifier_pieces-low, lower-join}
+use Rattle.iloc_spec_grammar.proofs.Chains.{lower-join}
+use Rattle.iloc_spec_grammar.proofs.PartTexts.{identifier_pieces-low}
 use Rattle.iloc_spec_grammar.proofs.IdentifierTexts.{identifier_text_means}
 use Rattle.iloc_spec_grammar.proofs.RawLaws.{languages_table}
 use Rattle.iloc_spec_grammar.proofs.ReadBack.{word_hyphen_free}

@@ -22,11 +22,11 @@ use Rattle.iloc_spec_grammar.proofs.Singletons.{lower_letter}
 use Rattle.iloc_spec_grammar.proofs.ValuesLaws.{all_weaker, filter_all}
 use Rattle.iloc_spec_grammar.proofs.WordsLaws.{length-attribute, lower-lower, lower-title, lower-upper, is_word-lower}
 use Rattle.iloc_spec_grammar.proofs.IdentifierTexts.{identifier_means_value}
-use Rattle.iloc_spec_grammar.proofs.Chains.{identifier_pieces-low}
+use Rattle.iloc_spec_grammar.proofs.PartTexts.{identifier_pieces-low}
 use Rattle.iloc_blocks.specs.Transform.{AreInOrder, IsAsPrinted, IsTransformPart}
 use Rattle.iloc_blocks.proofs.TransformLemmas.{part_means}
 use Rattle.iloc_blocks.specs.Bodies.{IsBodyOf}
-use Rattle.iloc_blocks.specs.Blocks.{ArePrinted, AreSubtags, ArePrivate, IsUnicodePart, IsValue, lower_fields}
+use Rattle.iloc_blocks.specs.Blocks.{ArePrinted, AreSubtags, ArePrivate, IsUnicodePart, IsValuePiece, lower_fields}
 
 -- ---- words in lower case
 
@@ -183,20 +183,20 @@ module _ (c : ℕ) (e : to_ascii_lowercase c ≡ 117) (ps : List (List ℕ)) (h 
     e,
     record {
       attributes = h.each;
-      keywords = all_weaker (λ f. IsWord UnicodeKey f.0 × AllByRecursion IsValue f.1) (λ f. IsWord UnicodeKey f.0 × AllByRecursion (IsWord Attribute) f.1)
-          (λ f k. (k.0, all_weaker IsValue (IsWord Attribute) (λ w v. v.0) f.1 k.1)) h.keywords.fields h.keywords.each;
+      keywords = all_weaker (λ f. IsWord UnicodeKey f.0 × AllByRecursion IsValuePiece f.1) (λ f. IsWord UnicodeKey f.0 × AllByRecursion (IsWord Attribute) f.1)
+          (λ f k. (k.0, all_weaker IsValuePiece (IsWord Attribute) (λ w v. v.0) f.1 k.1)) h.keywords.fields h.keywords.each;
       nonempty = h.some;
     },
   )
 
-  lower_values : (ws : List (List ℕ)) → AllByRecursion IsValue ws → AllByRecursion (IsNormal Subtag) (map lower ws) × AllByRecursion (λ w. (is_true w ≡ false) × (length w ≢ 2)) (map lower ws)
+  lower_values : (ws : List (List ℕ)) → AllByRecursion IsValuePiece ws → AllByRecursion (IsNormal Subtag) (map lower ws) × AllByRecursion (λ w. (is_true w ≡ false) × (length w ≢ 2)) (map lower ws)
   lower_values [] k = (tt, tt)
   lower_values (w ∷ ws) k =
       let normal = lower_attribute w k.0.0 in
       let rest = lower_values ws k.1 in
       (((subtag_from (lower w) normal.0, normal.1), rest.0), ((k.0.1, omega (arith, (length-attribute (lower w) normal.0).0)), rest.1))
 
-  lower_keywords : (fs : Fields) → AllByRecursion (λ f. IsWord UnicodeKey f.0 × AllByRecursion IsValue f.1) fs
+  lower_keywords : (fs : Fields) → AllByRecursion (λ f. IsWord UnicodeKey f.0 × AllByRecursion IsValuePiece f.1) fs
       → AllByRecursion (λ f. IsNormal UnicodeKey f.0 × AllByRecursion (IsNormal Subtag) f.1) (lower_fields fs)
       × AllByRecursion (λ f. AllByRecursion (λ w. (is_true w ≡ false) × (length w ≢ 2)) f.1) (lower_fields fs)
   lower_keywords [] k = (tt, tt)

@@ -18,7 +18,7 @@ use Rattle.iloc_spec_grammar.proofs.ReadBack.{all_append}
 use Rattle.iloc_spec_grammar.proofs.ValuesLaws.{all_weaker}
 use Rattle.iloc_spec_grammar.proofs.WordsLaws.{length-language, length-transform_key, length-attribute, letter_is, digit_is, region_no_script, variant_no_script, variant_no_region}
 use Rattle.iloc_fronts.specs.Left.{pieces_of, piece_of, IsLeft}
-use Rattle.iloc_blocks.specs.Blocks.{IsBodyAs, IsValue, lower_fields}
+use Rattle.iloc_blocks.specs.Blocks.{IsBodyAs, IsValuePiece, lower_fields}
 use Rattle.iloc_fronts.specs.Words.{two_number}
 use Rattle.iloc_blocks.specs.Transform.{AreValues, AreValuesAs, IsAsPrinted, IsFieldValue, AreInOrder, AreFields, AreRuled, NoFields, IsTransformPart, IsNoTransform, IsHead, IsHeadAs}
 use Rattle.iloc_fronts.specs.declared.left.Left.{Left}
@@ -92,7 +92,7 @@ values_after ordered m n p ps whole e le h k body.Unordered v = v
 values_after ordered m n p ps whole e le h k body.Other v = v
 
 -- without `true` they are printed as they are
-no_true_kept : (vs : List (List ℕ)) → AllByRecursion IsValue vs → normal_values vs ≡ map lower vs
+no_true_kept : (vs : List (List ℕ)) → AllByRecursion IsValuePiece vs → normal_values vs ≡ map lower vs
 no_true_kept [] h = refl
 no_true_kept (v ∷ vs) h = ap (λ (b : Bool). cond (not b) (lower v ∷ normal_values vs) (normal_values vs)) h.0.1 ∙ ap (λ l. lower v ∷ l) (no_true_kept vs h.1)
 

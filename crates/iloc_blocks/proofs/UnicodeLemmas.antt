@@ -1,5 +1,5 @@
 -- Attributes and keywords in order.
-use Rattle.std.proofs.Common.{inl, inr, ◌≡◌, ◌≢◌, ◌⊎◌, ℕ, ◌+◌, ◌*◌, ◌<◌, ◌≤◌, true, false, List, [], ◌∷◌, ◌++◌, length, map, refl, sym, ap, ◌∙◌, subst, arith, true≢false, Bool, ◌||◌}
+use Rattle.std.proofs.Common.{inl, inr, ◌≡◌, ◌≢◌, ◌⊎◌, ℕ, suc, ◌+◌, ◌*◌, ◌<◌, ◌≤◌, true, false, List, [], ◌∷◌, ◌++◌, length, map, refl, sym, ap, ◌∙◌, subst, arith, true≢false, Bool, ◌||◌}
 use Rattle.std.specs.List.{AllByRecursion}
 use Rattle.std.specs.FinMap.Entries.{below_all}
 use Rattle.std.specs.Ordering.{is_lt, nat_cmp, ordering_then}
@@ -12,7 +12,7 @@ use Rattle.iloc_spec_grammar.specs.Syntax.{UnicodeKey, Attribute, is_word, IsWor
 use Rattle.iloc_spec_grammar.specs.Reading.{starts_block}
 use Rattle.iloc_spec_grammar.proofs.ValuesLaws.{all_weaker}
 use Rattle.iloc_spec_grammar.proofs.WordsLaws.{length-attribute, length-unicode_key}
-use Rattle.iloc_blocks.specs.Blocks.{IsValue, AreKeywords, AreKeywordsAt, Follows, IsNext, IsUnicodePart, IsUnicodeFrom, HaveStranger, lower_fields}
+use Rattle.iloc_blocks.specs.Blocks.{IsValuePiece, AreKeywords, AreKeywordsAt, Follows, IsNext, IsUnicodePart, IsUnicodeFrom, HaveStranger, lower_fields}
 use Rattle.iloc_fronts.specs.Words.{IsUpToEight, two_number, word_number}
 use Rattle.iloc_fronts.specs.Left.{pieces_of, piece_of, IsLeft}
 use Rattle.iloc_fronts.specs.declared.left.Left.{Left}
@@ -51,7 +51,7 @@ word_below (a ∷ b ∷ p) [] h k l = absurd (omega (arith, k.long))
 word_below (a ∷ b ∷ p) (c ∷ []) h k l = absurd (omega (arith, k.long))
 
 abbrev IsKeyword : List ℕ × List (List ℕ) → Type 0
-IsKeyword f = IsWord UnicodeKey f.0 × AllByRecursion IsValue f.1
+IsKeyword f = IsWord UnicodeKey f.0 × AllByRecursion IsValuePiece f.1
 
 keys_below : (p : List ℕ) → IsWord UnicodeKey p → (fs : Fields) → AllByRecursion IsKeyword fs → AllByRecursion (λ f. two_number p < two_number f.0) fs → below_all word_cmp (lower p) (lower_fields fs) ≡ true
 keys_below p h [] each above = refl
@@ -134,6 +134,28 @@ unicode_more p n h l ps (u, above) = (
   },
   (omega arith, all_weaker (λ a. n ≤ word_number a) (λ a. word_number p ≤ word_number a) (λ a m. omega arith) u.attributes above),
 )
+
+from_less : (m n : ℕ) → m ≤ n → (ps : List (List ℕ)) → IsUnicodeFrom n ps → IsUnicodeFrom m ps
+from_less m n le ps (u, above) = (u, all_weaker (λ a. n ≤ word_number a) (λ a. m ≤ word_number a) (λ a h. omega arith) u.attributes above)
+
+-- pieces that may follow attributes, of which the last has this number; it is zero if none comes before
+abbrev pub MayFollow : ℕ → List (List ℕ) → Type 0
+MayFollow last ps = ((last ≡ 0) × IsUnicodePart ps) ⊎ ((0 < last) × (AreKeywords ps ⊎ IsUnicodeFrom (suc last) ps))
+
+pub follow_none : (ps : List (List ℕ)) → MayFollow 0 ps → IsUnicodePart ps
+follow_none ps (inl none) = none.1
+follow_none ps (inr some) = absurd (omega (arith, some.0))
+
+pub follow_more : (last n : ℕ) (p : List ℕ) → IsWord Attribute p → n ≡ word_number p → last < n → (ps : List (List ℕ)) → MayFollow n ps → MayFollow last (p ∷ ps)
+follow_more last n p h e less ps f = elim (cases_lt 0 last) [
+  | inl some ↦ inr (some, inr (from_less (suc last) (word_number p) (omega (arith, e)) (p ∷ ps) (from f)))
+  | inr none ↦ inl (omega arith, (from f).0)
+]
+  where
+    from : MayFollow n ps → IsUnicodeFrom (word_number p) (p ∷ ps)
+    from (inl none) = absurd (omega (arith, none.0))
+    from (inr (some, inl keywords)) = unicode_last p ps h keywords
+    from (inr (some, inr later)) = unicode_more p (suc n) h (omega (arith, e)) ps later
 
 -- ---- pieces that are neither attributes nor keys
 

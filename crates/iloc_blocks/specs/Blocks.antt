@@ -20,6 +20,7 @@ use Rattle.iloc_blocks.specs.declared.body.Body.{Body}
 use Rattle.iloc_blocks.specs.declared.body.Body.TheVariants as body
 use Rattle.iloc_blocks.specs.declared.unicode.Next.{Next}
 use Rattle.iloc_blocks.specs.declared.unicode.Next.TheVariants as next
+use Rattle.iloc_fronts.specs.Walk.{left_of}
 use Rattle.iloc_fronts.specs.Words.{two_number, word_number}
 
 -- Blocks with ascending singletons above a byte; those of `x` come last.
@@ -105,11 +106,6 @@ IsAtBlock body.Other = ¬ ⊤
 abbrev pub is_long : ℕ → Text → Bool
 is_long least p = is_in_range least 8 (length p) && letters_or_digits p
 
--- what is left after words
-abbrev pub left_of : Option Left → List Text
-left_of None = []
-left_of (Some l) = pieces_of l
-
 -- what is left begins with a piece that is no such word
 abbrev pub BeginsWithout : ℕ → ℕ → Option Left → Type 0
 BeginsWithout least len None = ⊤
@@ -174,14 +170,14 @@ abbrev pub lower_fields : Fields → Fields
 lower_fields fs = map (λ f. (lower f.0, map lower f.1)) fs
 
 -- a piece of a value other than `true`
-abbrev pub IsValue : Text → Type 0
-IsValue p = IsWord Attribute p × (is_true (lower p) ≡ false)
+abbrev pub IsValuePiece : Text → Type 0
+IsValuePiece p = IsWord Attribute p × (is_true (lower p) ≡ false)
 
 -- they are keywords with ascending keys, without `true`
 pub record AreKeywords (ps : List Text) : Type 0 where
   pub fields : Fields
   pub spelled : ps ≡ fields_pieces fields
-  pub each : AllByRecursion (λ f. IsWord UnicodeKey f.0 × AllByRecursion IsValue f.1) fields
+  pub each : AllByRecursion (λ f. IsWord UnicodeKey f.0 × AllByRecursion IsValuePiece f.1) fields
   pub ascending : is_sorted word_cmp (lower_fields fields) ≡ true
 
 -- they are such keywords, one at least unless a piece of so many bytes begins a block
@@ -193,13 +189,13 @@ pub record Follows (key : ℕ) (ps : List Text) : Type 0 where
   pub values : List Text
   pub rest : List Text
   pub cut : ps ≡ values ++ rest
-  pub each : AllByRecursion IsValue values
+  pub each : AllByRecursion IsValuePiece values
   pub keywords : AreKeywords rest
   pub above : AllByRecursion (λ f. key < two_number f.0) keywords.fields
 
 -- after the key with the number last, the piece is one of its value, or a greater key
 pub data IsNext (last : ℕ) (p : Text) : ℕ → Type 0 where
-  value : IsValue p → IsNext last p last
+  value : IsValuePiece p → IsNext last p last
   key : IsWord UnicodeKey p → last < two_number p → IsNext last p (two_number p)
 
 -- the piece after the key with the number last, or after one of its value

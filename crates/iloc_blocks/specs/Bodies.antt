@@ -12,7 +12,8 @@ use Rattle.iloc_blocks.specs.declared.bad_block.BadBlock.{BadBlock}
 
 -- After a singleton.
 
--- the pieces are what follows the singleton c, which is given in lower case, in the order in which it is printed
+-- the pieces are what follows the singleton c, which is given in lower case, in the order in which
+-- it is printed
 pub record IsBodyOf (c : ℕ) (ps : List Text) : Type 0 where
   pub unicode : c ≡ code_u → IsUnicodePart ps
   pub transform : c ≡ code_t → IsTransformPart ps

@@ -17,8 +17,8 @@ use Rattle.iloc_blocks.specs.declared.blocks.Rest.{Rest}
 use Rattle.iloc_blocks.specs.declared.blocks.Rest.TheVariants as rest
 
 -- the text of the plain identifier, and what follows it in lower case
-abbrev pub text_of : Ordered → Text
-text_of o = identifier_text (value_of o.plain) ++ lower (take o.len o.rest.now)
+abbrev pub ordered_text : Ordered → Text
+ordered_text o = identifier_text (value_of o.plain) ++ lower (take o.len o.rest.now)
 
 -- the words of the identifier stand in its bytes, and sixteen bytes follow the line
 pub record IsStored (o : Ordered) : Type 0 where
@@ -30,14 +30,14 @@ pub record IsOrdered (t : Text) (o : Ordered) : Type 0 where
   pub stored : IsStored o
   pub locale : Locale
   pub means : Means languages t locale
-  pub normal : text locale ≡ text_of o
+  pub normal : text locale ≡ ordered_text o
 
 -- the line means an identifier of this text
 pub record IsOrderedIdentifier (t : Text) (o : Ordered) : Type 0 where
   pub stored : IsStored o
   pub identifier : Identifier
   pub means : IdentifierMeans languages (pieces t) identifier
-  pub normal : identifier_text identifier ≡ text_of o
+  pub normal : identifier_text identifier ≡ ordered_text o
 
 -- the same, with at most one variant
 pub record IsVaried (t : Text) (o : Ordered) : Type 0 where

@@ -8,7 +8,7 @@ use Rattle.iloc_spec_grammar.specs.Meaning.{RepeatsVariant, normal_values}
 use Rattle.iloc_spec_grammar.specs.Values.{spelled_value}
 use Rattle.iloc_spec_grammar.specs.Reading.{before_key, fields_from, after_region}
 use Rattle.iloc_fronts.specs.Left.{pieces_of, piece_of, IsLeft}
-use Rattle.iloc_blocks.specs.Blocks.{IsValue, lower_fields, IsCutAs}
+use Rattle.iloc_blocks.specs.Blocks.{IsValuePiece, lower_fields, IsCutAs}
 use Rattle.iloc_fronts.specs.Words.{two_number}
 use Rattle.iloc_fronts.specs.declared.left.Left.{Left}
 use Rattle.iloc_blocks.specs.declared.body.Body.{Body}
@@ -22,7 +22,7 @@ IsRest len (Some l) = IsLeft l × (l.len ≤ len)
 -- they are words of a value, one at least; if order is asked, none is `true`
 pub record AreValues (ordered : Bool) (ps : List Text) : Type 0 where
   pub each : AllByRecursion (IsWord Attribute) ps
-  pub plain : ordered ≡ true → AllByRecursion IsValue ps
+  pub plain : ordered ≡ true → AllByRecursion IsValuePiece ps
   pub some : 0 < length ps
 
 -- the normal text of such words is their own but for the case: `true` stays if it is alone
@@ -35,7 +35,8 @@ pub record IsFieldValue (ordered : Bool) (ps : List Text) : Type 0 where
   pub some : 0 < length ps
   pub printed : ordered ≡ true → IsAsPrinted ps
 
--- they are such pieces, up to the end or to one that is no word; or order is asked, and they are not in order
+-- they are such pieces, up to the end or to one that is no word; or order is asked, and they are
+-- not in order
 abbrev pub AreValuesAs : (Bool → List Text → Type 0) → Bool → ℕ → List Text → Body → Type 0
 AreValuesAs P ordered len ps body.End = P ordered ps
 AreValuesAs P ordered len ps (body.Next l) = IsLeft l × (l.len ≤ len)
@@ -100,5 +101,6 @@ pub record IsTransformPart (ps : List Text) : Type 0 where
 
 -- what breaks the rule of `t`, but for a repeated variant
 abbrev pub IsNoTransform : List Text → Type 0
-IsNoTransform ps = ((m : Transform) → IsTransformBlock languages m → ¬ (front ps ≡ transform_pieces m))
+IsNoTransform ps =
+    ((m : Transform) → IsTransformBlock languages m → ¬ (front ps ≡ transform_pieces m))
     × ¬ (RepeatsVariant languages (front ps))

@@ -24,7 +24,8 @@ ghost use Rattle.iloc_spec_grammar.specs.Syntax.{
 };
 ghost use Rattle.iloc_spec_grammar.specs.Reading.{after_region, rest_of};
 ghost use Rattle.iloc_fronts.specs.Left.{IsLeft, piece_of, pieces_of};
-ghost use Rattle.iloc_blocks.specs.Blocks.{IsAtBlock, IsBodyAs, left_of};
+ghost use Rattle.iloc_blocks.specs.Blocks.{IsAtBlock, IsBodyAs};
+ghost use Rattle.iloc_fronts.specs.Walk.{left_of};
 ghost use Rattle.iloc_blocks.specs.Transform.{
   AreFields,
   AreValues,

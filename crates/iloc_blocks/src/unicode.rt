@@ -30,7 +30,7 @@ enum Next {
     Misfit,
 }
 
-// What the pieces are up to the next block.
+// What the pieces are up to the next block. Attributes ascend.
 #[inline(always)]
 pub(crate) fn read_unicode(left: Left<'_>) -> Body<'_>
     requires { IsLeft left }
@@ -39,33 +39,20 @@ pub(crate) fn read_unicode(left: Left<'_>) -> Body<'_>
     if left.n == 1 {
         return Body::Bad;
     }
-    if !is_attribute(left.window, left.n) {
-        return read_keywords(left);
-    }
-    read_attributes(left)
-}
-
-// What follows if an attribute comes first. Attributes ascend.
-#[inline(always)]
-fn read_attributes(left: Left<'_>) -> Body<'_>
-    requires left { IsLeft left }
-    requires first { IsWord Attribute (piece_of left) }
-    ensures { IsBodyAs IsUnicodePart HaveStranger left.entry.len (pieces_of left.entry) result }
-{
     let mut at = left;
-    'attributes: loop {
+    let mut last = 0;
+    'attributes: while is_attribute(at.window, at.n) {
+        let number = number_of_word(at.window, at.n);
+        if number <= last {
+            return unordered(have_stranger(at.window, at.len));
+        }
         if at.n == at.len {
             return Body::End;
         }
-        let next = after_piece(at);
-        if !is_attribute(next.window, next.n) {
-            return read_keywords(next);
-        }
-        if number_of_word(next.window, next.n) <= number_of_word(at.window, at.n) {
-            return unordered(have_stranger(next.window, next.len));
-        }
-        at = next;
+        last = number;
+        at = after_piece(at);
     }
+    read_keywords(at)
 }
 
 // What follows the attributes.

@@ -1,7 +1,7 @@
 -- From what the readers answer to what a caller finds.
 use Rattle.std.specs.Prelude.{ℤ}
 use Rattle.std.proofs.Common.{◌≡◌, ℕ, ◌<◌, Bool, true, false, IsTrue, ◌↔◌, ◌⊎◌, List, Result, Ok, Err, inl, inr, refl, sym, ap, ◌∙◌, subst, true≢false, arith}
-use Rattle.std.specs.Prelude.{MatchResult}
+use Rattle.std.specs.Prelude.{MatchResult, ⊤}
 use Rattle.std.specs.Int.{from_bool}
 use Rattle.std.specs.Ordering.{is_eq, nat_cmp}
 use Rattle.std.specs.Cmp.Lexicographic.{slice_cmp}
@@ -26,7 +26,7 @@ use Rattle.iloc_langid.specs.Reads as langid
 use Rattle.iloc_langid.specs.declared.identifier.LanguageIdentifier.{LanguageIdentifier}
 use Rattle.iloc_locale.specs.LocaleReading as locale
 use Rattle.iloc_locale.specs.LocaleReading.{LocaleTextReads, LocaleWantsMemory}
-use Rattle.iloc_subtags.specs.Judging.{RunsOutOnlyIf}
+use Rattle.iloc_subtags.specs.Judging.{Answers, RunsOutOnlyIf}
 use Rattle.iloc_locale.specs.declared.locale.Locale as types
 use Rattle.iloc_data_parts.specs.PartsReading as parts
 use Rattle.iloc_data_parts.specs.declared.parts.DataParts.{DataParts}
@@ -35,10 +35,11 @@ use Rattle.iloc_data.specs.Reads.{DataTextReads}
 use Rattle.iloc_data.specs.declared.data_locale.DataLocale as data_types
 use Rattle.iloc_lines.specs.declared.Mode.{Mode}
 use Rattle.iloc_lines.specs.declared.Mode.TheVariants.{Langid, Locale, Data}
-use Rattle.iloc_calls.specs.Answers.{IsNormalText, JudgedAs, ComparesTo, IsOrderOf, OrdersTo, MeanSame, RefusedTells, TellsSame, order_number}
+use Rattle.iloc_calls.specs.Answers.{CallWantsMemory, JudgedAs, ComparesTo, WritesOrder, OrdersTo, MeanSame, RefusedTells, TellsSame, order_number}
 use Rattle.iloc_calls.specs.Numbers.{mode_number, number_of, status_of}
 use Rattle.iloc_calls.specs.declared.status.Status.{Status}
 use Rattle.iloc_calls.specs.declared.status.Status.TheVariants.{Done, InvalidLanguage, InvalidSubtag, InvalidExtension, DuplicatedExtension, OutOfMemory, BufferTooSmall, UnknownNumber, NotFound}
+use Rattle.iloc_lines.specs.Answers.{IsNormalText, IsFaulty}
 use Rattle.std.specs.Cmp.{Equal-is}
 
 -- no mode has a number above 2
@@ -61,7 +62,7 @@ no_status NotFound k e h = omega (arith, e, h)
 
 -- what was read has a normal text, which is that of the text; a refusal is the status of the text
 abbrev pub Reads : {X : Type 0} → Mode → List ℕ → (X → List ℕ) → Result X ParseError → Type 0
-Reads mode t text_of r = MatchResult r (λ x. IsNormalText mode t (text_of x)) (λ e. JudgedAs mode t (status_of e))
+Reads mode t text_of r = MatchResult r (λ x. IsNormalText languages mode t (text_of x)) (λ e. JudgedAs mode t (status_of e))
 
 abbrev pub text_of_identifier : LanguageIdentifier → List ℕ
 text_of_identifier i = identifier_text (langid.value_of i)
@@ -75,32 +76,29 @@ text_of_data d = data_text (data_locale.value_of d)
 abbrev pub text_of_parts : DataParts → List ℕ
 text_of_parts p = data_text (parts.value_of p)
 
-pub identifier_read : (t : List ℕ) (r : Result LanguageIdentifier ParseError) → langid.IdentifierReads (pieces t) r → RunsOutOnlyIf (langid.IdentifierWantsMemory (pieces t)) r
-    → Reads Langid t text_of_identifier r
-identifier_read t (Ok i) h m = (langid.value_of i, h, refl)
-identifier_read t (Err refusals.InvalidLanguage) h m = h
-identifier_read t (Err refusals.InvalidSubtag) h m = h
-identifier_read t (Err refusals.InvalidExtension) h m = h
-identifier_read t (Err refusals.DuplicatedExtension) h m = h
-identifier_read t (Err refusals.OutOfMemory) h m = m
+-- a reader answers by the grammar, with its memory: so what it read has a normal text
+by_grammar : {X : Type 0} (mode : Mode) (t : List ℕ) (text_of : X → List ℕ) {IsMeant : X → Type 0}
+    → ((x : X) → IsMeant x → IsNormalText languages mode t (text_of x)) → (r : Result X ParseError)
+    → Answers IsMeant (IsFaulty languages mode t) ⊤ r → RunsOutOnlyIf (CallWantsMemory mode t) r
+    → Reads mode t text_of r
+by_grammar mode t text_of normal (Ok x) h m = normal x h
+by_grammar mode t text_of normal (Err refusals.InvalidLanguage) h m = h
+by_grammar mode t text_of normal (Err refusals.InvalidSubtag) h m = h
+by_grammar mode t text_of normal (Err refusals.InvalidExtension) h m = h
+by_grammar mode t text_of normal (Err refusals.DuplicatedExtension) h m = h
+by_grammar mode t text_of normal (Err refusals.OutOfMemory) h m = m
 
-pub locale_read : (t : List ℕ) (r : Result types.Locale ParseError) → LocaleTextReads t r → RunsOutOnlyIf (LocaleWantsMemory t) r
-    → Reads Locale t text_of_locale r
-locale_read t (Ok l) h m = (locale.value_of l, h, refl)
-locale_read t (Err refusals.InvalidLanguage) h m = h
-locale_read t (Err refusals.InvalidSubtag) h m = h
-locale_read t (Err refusals.InvalidExtension) h m = h
-locale_read t (Err refusals.DuplicatedExtension) h m = h
-locale_read t (Err refusals.OutOfMemory) h m = m
+pub identifier_read : (t : List ℕ) (r : Result LanguageIdentifier ParseError) → langid.IdentifierReads (pieces t) r
+    → RunsOutOnlyIf (langid.IdentifierWantsMemory (pieces t)) r → Reads Langid t text_of_identifier r
+identifier_read t = by_grammar Langid t text_of_identifier (λ i h. (langid.value_of i, h, refl))
+
+pub locale_read : (t : List ℕ) (r : Result types.Locale ParseError) → LocaleTextReads t r
+    → RunsOutOnlyIf (LocaleWantsMemory t) r → Reads Locale t text_of_locale r
+locale_read t = by_grammar Locale t text_of_locale (λ l h. (locale.value_of l, h, refl))
 
 pub data_read : (t : List ℕ) (r : Result data_types.DataLocale ParseError) → DataTextReads t r → RunsOutOnlyIf ⊥ r
     → Reads Data t text_of_data r
-data_read t (Ok d) h m = (data_locale.value_of d, h, refl)
-data_read t (Err refusals.InvalidLanguage) h m = h
-data_read t (Err refusals.InvalidSubtag) h m = h
-data_read t (Err refusals.InvalidExtension) h m = h
-data_read t (Err refusals.DuplicatedExtension) h m = h
-data_read t (Err refusals.OutOfMemory) h m = absurd m
+data_read t = by_grammar Data t text_of_data (λ d h. (data_locale.value_of d, h, refl))
 
 -- the parts of a data locale that were parsed have its text
 pub parts_judged : (t : List ℕ) (p : DataParts) → DataMeans languages t (parts.value_of p) → JudgedAs Data t Done
@@ -128,11 +126,11 @@ compared mode t other before after text_of (Err refusals.OutOfMemory) s h e = su
 module _ {X : Type 0} (mode : Mode) (t other : List ℕ) (before after : ℤ) (text_of : X → List ℕ) (s : Status) where
   abbrev Ordered : Result X ParseError → Result X ParseError → Type 0
   Ordered first second = MatchResult first
-      (λ a. MatchResult second (λ b. IsOrderOf (text_of a) (text_of b) other before after s) (λ e. (s ≡ status_of e) × (after ≡ before)))
+      (λ a. MatchResult second (λ b. WritesOrder (text_of a) (text_of b) other before after s) (λ e. (s ≡ status_of e) × (after ≡ before)))
       (λ e. (s ≡ status_of e) × (after ≡ before))
 
-  both_read : (a b : X) → IsNormalText mode t (text_of a) → IsNormalText mode other (text_of b) → (k : Status) → s ≡ k
-      → IsOrderOf (text_of a) (text_of b) other before after k → OrdersTo mode t other before after k
+  both_read : (a b : X) → IsNormalText languages mode t (text_of a) → IsNormalText languages mode other (text_of b) → (k : Status) → s ≡ k
+      → WritesOrder (text_of a) (text_of b) other before after k → OrdersTo mode t other before after k
   both_read a b h n Done e o = (text_of a, text_of b, h, n, o)
   both_read a b h n OutOfMemory e o = (inr (inr (text_of b, n, o.0)), o.1)
   both_read a b h n InvalidLanguage e o = absurd o
@@ -150,7 +148,7 @@ module _ {X : Type 0} (mode : Mode) (t other : List ℕ) (before after : ℤ) (t
   first_refused refusals.DuplicatedExtension h u = (inl h, u)
   first_refused refusals.OutOfMemory h u = (inl h, u)
 
-  second_refused : (a : X) → IsNormalText mode t (text_of a) → (e : ParseError) → JudgedAs mode other (status_of e) → after ≡ before → OrdersTo mode t other before after (status_of e)
+  second_refused : (a : X) → IsNormalText languages mode t (text_of a) → (e : ParseError) → JudgedAs mode other (status_of e) → after ≡ before → OrdersTo mode t other before after (status_of e)
   second_refused a n refusals.InvalidLanguage h u = (inr (text_of a, n, h), u)
   second_refused a n refusals.InvalidSubtag h u = (inr (text_of a, n, h), u)
   second_refused a n refusals.InvalidExtension h u = (inr (text_of a, n, h), u)

@@ -12,7 +12,7 @@ use Rattle.iloc_lines.specs.declared.Mode.{Mode}
 use Rattle.iloc_lines.specs.declared.Mode.TheVariants.{Langid, Locale, Data}
 use Rattle.iloc_calls.specs.declared.status.Status.{Status}
 use Rattle.iloc_calls.specs.declared.status.Status.TheVariants.{Done, InvalidLanguage, InvalidSubtag, InvalidExtension, DuplicatedExtension, OutOfMemory, BufferTooSmall, UnknownNumber, NotFound}
-use Rattle.iloc_calls.specs.Answers.{IsNormalText, NormalizesTo, growth}
+use Rattle.iloc_calls.specs.Answers.{NormalizesTo, growth}
 use Rattle.iloc_calls.proofs.Lengths.{data_text_fits}
 use Rattle.iloc_calls.proofs.AnswerLemmas.{text_of_identifier, text_of_locale, text_of_parts}
 use Rattle.iloc_langid.specs.Reads as langid
@@ -21,8 +21,9 @@ use Rattle.iloc_locale.specs.LocaleReading as locale
 use Rattle.iloc_locale.specs.declared.locale.Locale as types
 use Rattle.iloc_data_parts.specs.PartsReading as parts
 use Rattle.iloc_data_parts.specs.declared.parts.DataParts.{DataParts}
+use Rattle.iloc_lines.specs.Answers.{IsNormalText}
 
-normal_text_fits : (m : Mode) (t n : List ℕ) → IsNormalText m t n → length n ≤ length t + growth m
+normal_text_fits : (m : Mode) (t n : List ℕ) → IsNormalText languages m t n → length n ≤ length t + growth m
 normal_text_fits Langid t n h =
     let a : length (identifier_text h.0) ≡ length t = length-identifier_means languages t h.0 h.1 in
     let b : length n ≡ length (identifier_text h.0) = ap length h.2 in

@@ -11,7 +11,7 @@ use Rattle.iloc_plain.specs.Plain.{value_of}
 use Rattle.iloc_writeable.specs.Hints.{saturated}
 use Rattle.std.proofs.lemmas.Bool.Decides.{nat_tests}
 use Rattle.iloc_rewriting.proofs.StoringLemmas.{take_two}
-use Rattle.iloc_blocks.specs.Ordered.{IsStored, text_of}
+use Rattle.iloc_blocks.specs.Ordered.{IsStored, ordered_text}
 use Rattle.iloc_blocks.specs.declared.ordered.Ordered.{Ordered}
 
 -- bytes in lower case, and more of them
@@ -28,9 +28,9 @@ lower_part n a t few room =
     ∙ ap lower (take-take n 16 (take (length t - a) (drop a t)) few ∙ take-take n (length t - a) (drop a t) (omega (arith, few, room)))
 
 -- how long the text of a line in order is
-pub ordered_length : (o : Ordered) → IsStored o → length (text_of o) ≡ o.plain.len + o.len
+pub ordered_length : (o : Ordered) → IsStored o → length (ordered_text o) ≡ o.plain.len + o.len
 ordered_length o h =
-    let a : length (text_of o) ≡ length (identifier_text (value_of o.plain)) + length (lower (take o.len o.rest.now)) = length-append _ _ in
+    let a : length (ordered_text o) ≡ length (identifier_text (value_of o.plain)) + length (lower (take o.len o.rest.now)) = length-append _ _ in
     let b : length (take o.plain.len o.plain.bytes) ≡ length (identifier_text (value_of o.plain)) = ap length h.words.normal in
     let c : length (take o.plain.len o.plain.bytes) ≡ o.plain.len = length-take-le o.plain.len o.plain.bytes (omega (arith, h.words.wide, h.words.fits)) in
     let d : length (lower (take o.len o.rest.now)) ≡ length (take o.len o.rest.now) = length-lower (take o.len o.rest.now) in
@@ -65,7 +65,7 @@ sixteen k t part e is =
     ∙ ap (λ (m : ℕ). take m (lower (take 16 t))) (sym e)
 
 -- and the room that is asked for it
-pub ordered_needed : (o : Ordered) → IsStored o → o.plain.len + o.len < 2 ^ 64 → o.plain.len + o.len ≡ saturated (length (text_of o))
+pub ordered_needed : (o : Ordered) → IsStored o → o.plain.len + o.len < 2 ^ 64 → o.plain.len + o.len ≡ saturated (length (ordered_text o))
 ordered_needed o h fits =
     let long = ordered_length o h in
     let same : saturated (o.plain.len + o.len) ≡ o.plain.len + o.len = grind (arith, nat_tests) in

@@ -8,15 +8,17 @@ use Rattle.iloc_plain.specs.declared.plain.Plain.{Plain}
 use Rattle.iloc_lines.proofs.PlainAnswers.{plain_normal}
 use Rattle.iloc_subtags.specs.declared.parse_error.ParseError.{ParseError}
 use Rattle.iloc_subtags.specs.declared.parse_error.ParseError.TheVariants as refusals
-use Rattle.iloc_lines.specs.Told.{IsRefused}
+use Rattle.iloc_lines.specs.Told.{HasRefusal}
 use Rattle.iloc_lines.specs.declared.Mode.{Mode}
-use Rattle.iloc_calls.specs.Answers.{IsNormalText, HandsOut, JudgedAs, NormalizesTo}
+use Rattle.iloc_calls.specs.Answers.{HandsOut, JudgedAs, NormalizesTo}
 use Rattle.iloc_calls.specs.Numbers.{status_of}
 use Rattle.iloc_calls.specs.declared.status.Status.{Status}
 use Rattle.iloc_calls.specs.declared.status.Status.TheVariants.{Done, InvalidLanguage, InvalidSubtag, InvalidExtension, DuplicatedExtension, OutOfMemory, BufferTooSmall, UnknownNumber, NotFound}
+use Rattle.iloc_lines.specs.Answers.{IsNormalText}
+use Rattle.iloc_spec_grammar.specs.Syntax.{languages}
 
 -- what hands out the normal text normalizes
-pub handed_out : (mode : Mode) (t normal before after : List ℕ) (needed : ℕ) (s : Status) → IsNormalText mode t normal
+pub handed_out : (mode : Mode) (t normal before after : List ℕ) (needed : ℕ) (s : Status) → IsNormalText languages mode t normal
     → HandsOut normal before after needed s → NormalizesTo mode t before after needed s
 handed_out mode t normal before after needed Done n h = (normal, n, h)
 handed_out mode t normal before after needed BufferTooSmall n h = (normal, n, h)
@@ -43,7 +45,7 @@ withheld mode t p before needed h few is =
     (identifier_text (value_of p), plain_normal mode t p h, (less, is ∙ sym same ∙ ap saturated (sym long), refl))
 
 -- a text that is refused has the status of its fault
-pub refused_judged : (mode : Mode) (t : List ℕ) (e : ParseError) → IsRefused mode t e → JudgedAs mode t (status_of e)
+pub refused_judged : (mode : Mode) (t : List ℕ) (e : ParseError) → HasRefusal mode t e → JudgedAs mode t (status_of e)
 refused_judged mode t refusals.InvalidLanguage h = h
 refused_judged mode t refusals.InvalidSubtag h = h
 refused_judged mode t refusals.InvalidExtension h = h

@@ -6,14 +6,14 @@ use Rattle.std.specs.declared.cmp.Ordering.{Ordering}
 use Rattle.std.specs.declared.cmp.Ordering.TheVariants.{Less, Equal, Greater}
 use Rattle.iloc_spec_grammar.specs.Syntax.{Text, pieces, languages, Identifier}
 use Rattle.iloc_spec_grammar.specs.Meaning as meaning
-use Rattle.iloc_spec_grammar.specs.Meaning.{IdentifierMeans, Means, Fault}
+use Rattle.iloc_spec_grammar.specs.Meaning.{IdentifierMeans, Means}
 use Rattle.iloc_spec_preferences.specs.DataLocales.{DataLocale, DataMeans}
 use Rattle.iloc_writeable.specs.Hints.{saturated}
 use Rattle.iloc_langid.specs.Reads as langid_reads
 use Rattle.iloc_locale.specs.LocaleReading as locale
 use Rattle.iloc_subtags.specs.declared.parse_error.ParseError.{ParseError}
 use Rattle.iloc_subtags.specs.declared.parse_error.ParseError.TheVariants as refusals
-use Rattle.iloc_lines.specs.Answers as answers
+use Rattle.iloc_lines.specs.Answers.{IsNormalText, IsFaulty}
 use Rattle.iloc_lines.specs.declared.Mode.{Mode}
 use Rattle.iloc_lines.specs.declared.Mode.TheVariants.{Langid, Locale, Data}
 use Rattle.iloc_calls.specs.Numbers.{EndsAs, mode_number, number_of}
@@ -21,14 +21,6 @@ use Rattle.iloc_calls.specs.declared.status.Status.{Status}
 use Rattle.iloc_calls.specs.declared.status.Status.TheVariants.{Done, InvalidLanguage, InvalidSubtag, InvalidExtension, DuplicatedExtension, OutOfMemory, BufferTooSmall, UnknownNumber, NotFound}
 
 -- Texts, by the mode.
-
--- the bytes are the normal text of what the text means
-abbrev pub IsNormalText : Mode → Text → Text → Type 0
-IsNormalText mode t normal = answers.IsNormalText languages mode t normal
-
--- the text means nothing, and has this fault
-abbrev pub IsFaulty : Mode → Text → Fault → Type 0
-IsFaulty mode t f = answers.IsFaulty languages mode t f
 
 -- when memory may run out to read the text: never if it is short
 abbrev pub CallWantsMemory : Mode → Text → Type 0
@@ -38,11 +30,11 @@ CallWantsMemory Data t = ⊥
 
 -- the status of a text: it means something, or has the fault, or memory ran out
 abbrev pub JudgedAs : Mode → Text → Status → Type 0
-JudgedAs mode t Done = (normal : Text) × IsNormalText mode t normal
-JudgedAs mode t InvalidLanguage = IsFaulty mode t meaning.InvalidLanguage
-JudgedAs mode t InvalidSubtag = IsFaulty mode t meaning.InvalidSubtag
-JudgedAs mode t InvalidExtension = IsFaulty mode t meaning.InvalidExtension
-JudgedAs mode t DuplicatedExtension = IsFaulty mode t meaning.DuplicatedExtension
+JudgedAs mode t Done = (normal : Text) × IsNormalText languages mode t normal
+JudgedAs mode t InvalidLanguage = IsFaulty languages mode t meaning.InvalidLanguage
+JudgedAs mode t InvalidSubtag = IsFaulty languages mode t meaning.InvalidSubtag
+JudgedAs mode t InvalidExtension = IsFaulty languages mode t meaning.InvalidExtension
+JudgedAs mode t DuplicatedExtension = IsFaulty languages mode t meaning.DuplicatedExtension
 JudgedAs mode t OutOfMemory = CallWantsMemory mode t
 JudgedAs mode t BufferTooSmall = ⊥
 JudgedAs mode t UnknownNumber = ⊥
@@ -67,18 +59,20 @@ Tells None before after needed _ = ⊥
 
 -- the normal text is handed out; if there is none, nothing is
 abbrev pub NormalizesTo : Mode → Text → Text → Text → ℕ → Status → Type 0
-NormalizesTo mode t before after needed Done = (normal : Text) × IsNormalText mode t normal
+NormalizesTo mode t before after needed Done = (normal : Text)
+    × IsNormalText languages mode t normal
     × HandsOut normal before after needed Done
 NormalizesTo mode t before after needed BufferTooSmall =
-    (normal : Text) × IsNormalText mode t normal
+    (normal : Text) × IsNormalText languages mode t normal
     × HandsOut normal before after needed BufferTooSmall
 NormalizesTo mode t before after needed status =
     JudgedAs mode t status × (needed ≡ 0) × (after ≡ before)
 
--- the same by the number of a mode, which says the number of the status; of any other number, nothing is
--- handed out
+-- the same by the number of a mode, which says the number of the status; of any other number,
+-- nothing is handed out
 pub record Normalizes (mode : ℕ) (t before after : Text) (needed result : ℕ) : Type 0 where
-  pub known : (m : Mode) → mode ≡ mode_number m → EndsAs (NormalizesTo m t before after needed) result
+  pub known : (m : Mode) → mode ≡ mode_number m
+      → EndsAs (NormalizesTo m t before after needed) result
   pub unknown : 2 < mode → (result ≡ number_of UnknownNumber) × (needed ≡ 0) × (after ≡ before)
 
 -- how much longer than a text its normal text may be: a data locale is printed with its
@@ -95,31 +89,32 @@ order_number Greater = pos 1
 
 -- the byte order of the normal text against other bytes is written, and else nothing is
 abbrev pub ComparesTo : Mode → Text → Text → ℤ → ℤ → Status → Type 0
-ComparesTo mode t other before after Done = (normal : Text) × IsNormalText mode t normal
+ComparesTo mode t other before after Done = (normal : Text) × IsNormalText languages mode t normal
     × (after ≡ order_number (slice_cmp nat_cmp normal other))
 ComparesTo mode t other before after status = JudgedAs mode t status × (after ≡ before)
 
 -- the normal text of the other bytes is written out of place only if they are not that text
 abbrev pub IsNotNormal : Mode → Text → Type 0
-IsNotNormal mode t = (normal : Text) × IsNormalText mode t normal × ¬ (t ≡ normal)
+IsNotNormal mode t = (normal : Text) × IsNormalText languages mode t normal × ¬ (t ≡ normal)
 
 -- the order of two normal texts is written; or memory ran out for the second, which is not the
 -- bytes
-abbrev pub IsOrderOf : Text → Text → Text → ℤ → ℤ → Status → Type 0
-IsOrderOf a b bytes before after Done = after ≡ order_number (slice_cmp nat_cmp a b)
-IsOrderOf a b bytes before after OutOfMemory = ¬ (bytes ≡ b) × (after ≡ before)
-IsOrderOf a b bytes before after _ = ⊥
+abbrev pub WritesOrder : Text → Text → Text → ℤ → ℤ → Status → Type 0
+WritesOrder a b bytes before after Done = after ≡ order_number (slice_cmp nat_cmp a b)
+WritesOrder a b bytes before after OutOfMemory = ¬ (bytes ≡ b) × (after ≡ before)
+WritesOrder a b bytes before after _ = ⊥
 
 -- the byte order of both normal texts is written; a refusal is of the first text, or else of the
 -- other
 abbrev pub OrdersTo : Mode → Text → Text → ℤ → ℤ → Status → Type 0
-OrdersTo mode t other before after Done = (a b : Text) × IsNormalText mode t a
-    × IsNormalText mode other b × (after ≡ order_number (slice_cmp nat_cmp a b))
+OrdersTo mode t other before after Done = (a b : Text) × IsNormalText languages mode t a
+    × IsNormalText languages mode other b × (after ≡ order_number (slice_cmp nat_cmp a b))
 OrdersTo mode t other before after OutOfMemory =
-    (CallWantsMemory mode t ⊎ (CallWantsMemory mode other ⊎ IsNotNormal mode other)) × (after ≡ before)
+    (CallWantsMemory mode t ⊎ (CallWantsMemory mode other ⊎ IsNotNormal mode other))
+    × (after ≡ before)
 OrdersTo mode t other before after status =
     (JudgedAs mode t status
-    ⊎ ((normal : Text) × IsNormalText mode t normal × JudgedAs mode other status))
+    ⊎ ((normal : Text) × IsNormalText languages mode t normal × JudgedAs mode other status))
     × (after ≡ before)
 
 -- both texts mean the same
@@ -144,7 +139,7 @@ RefusedTells refusal before after status =
 
 -- 1 is written if the other bytes mean what the text means, and else 0
 abbrev pub TellsSame : Mode → Text → Text → ℕ → ℕ → Status → Type 0
-TellsSame mode t other before after Done = ((normal : Text) × IsNormalText mode t normal)
+TellsSame mode t other before after Done = ((normal : Text) × IsNormalText languages mode t normal)
     × (((after ≡ 1) × MeanSame mode t other) ⊎ ((after ≡ 0) × ¬ (MeanSame mode t other)))
 TellsSame mode t other before after OutOfMemory = TellingWantsMemory mode t other × (after ≡ before)
 TellsSame mode t other before after status = JudgedAs mode t status × (after ≡ before)

@@ -2,7 +2,7 @@
 ghost use Rattle.std.specs.Prelude.{◌≡◌, MatchResult};
 ghost use Rattle.std.specs.Ordering.{nat_cmp};
 ghost use Rattle.std.specs.Cmp.Lexicographic.{slice_cmp};
-ghost use Rattle.iloc_calls.specs.Answers.{ComparesTo, IsOrderOf, OrdersTo, order_number};
+ghost use Rattle.iloc_calls.specs.Answers.{ComparesTo, WritesOrder, OrdersTo, order_number};
 ghost use Rattle.iloc_calls.specs.Numbers.{status_of};
 
 use crate::data::read_data;
@@ -86,7 +86,7 @@ fn order_read<T: Writeable + Drop>(
 ) -> Status
     ensures { MatchResult first
         (λ a. MatchResult second
-        (λ b. IsOrderOf (T.text a) (T.text b) bytes.now order.old order.new result)
+        (λ b. WritesOrder (T.text a) (T.text b) bytes.now order.old order.new result)
         (λ refusal. (result ≡ status_of refusal) × (order.new ≡ order.old)))
         (λ refusal. (result ≡ status_of refusal) × (order.new ≡ order.old)) }
 {

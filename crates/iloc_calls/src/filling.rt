@@ -2,7 +2,7 @@
 ghost use Rattle.std.specs.Prelude.{◌≡◌, ◌+◌, ◌≤◌, length, option_map};
 ghost use Rattle.std.specs.Option.{option_copied};
 ghost use Rattle.iloc_spec_grammar.specs.Values.{identifier_text};
-ghost use Rattle.iloc_blocks.specs.Ordered.{IsStored, text_of};
+ghost use Rattle.iloc_blocks.specs.Ordered.{IsStored, ordered_text};
 ghost use Rattle.iloc_plain.specs.Plain.{AreWords, value_of};
 ghost use Rattle.iloc_calls.specs.declared.status.Status.{Status};
 ghost use Rattle.iloc_calls.specs.Answers.{HandsOut, Tells};
@@ -134,7 +134,7 @@ pub(crate) fn hand_out_fitting_plain<const W: usize>(
 #[inline(always)]
 pub(crate) fn hand_out_ordered(line: &Ordered<'_>, buffer: &mut [u8], needed: &mut usize) -> Status
     requires { IsStored line.now }
-    ensures { HandsOut (text_of line.now) buffer.old buffer.new needed.new result }
+    ensures { HandsOut (ordered_text line.now) buffer.old buffer.new needed.new result }
 {
     let at = line.plain.len;
     let end = at + line.len;

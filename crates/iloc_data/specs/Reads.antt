@@ -1,5 +1,5 @@
 -- What the parser of data locales returns. It allocates nothing. This library's rule.
-use Rattle.std.specs.Prelude.{◌≡◌, ⊤, ℕ, List, Result, IfOk}
+use Rattle.std.specs.Prelude.{◌≡◌, ⊤, ℕ, Result, IfOk}
 use Rattle.iloc_spec_grammar.specs.Syntax.{Text, languages, two_or_three}
 use Rattle.iloc_spec_grammar.specs.Meaning as meaning
 use Rattle.iloc_spec_grammar.specs.Meaning.{Means, Fault}

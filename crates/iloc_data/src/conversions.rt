@@ -21,7 +21,7 @@ use std::alloc::Global;
 
 impl DataLocale {
     ghost use Rattle.iloc_data.specs.DataValue.{value_of};
-    ghost use Rattle.iloc_spec_preferences.specs.DataLocales.{with_keywords};
+    ghost use Rattle.iloc_spec_preferences.specs.DataLocales.{locale_with_keywords};
 
     /// The locale of the same parts: the one well-formed locale that prints the same text. It allocates nothing.
     pub fn into_locale(self, alloc: Global) -> Locale
@@ -48,7 +48,7 @@ impl DataLocale {
 
     /// The locale of the identifier's parts and these keywords.
     pub(crate) fn with_keywords(&self, alloc: Global, keywords: Keywords) -> Locale
-        ensures { locale_value result ≡ with_keywords (value_of self.now) keywords }
+        ensures { locale_value result ≡ locale_with_keywords (value_of self.now) keywords }
     {
         let variants = match self.variant {
             Some(variant) => Variants::from_variant(variant),

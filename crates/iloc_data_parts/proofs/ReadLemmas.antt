@@ -1,5 +1,5 @@
 -- From the small locale that was read, or its refusal, to what the reader of the parts answers.
-use Rattle.std.proofs.Common.{◌≡◌, ℕ, List, Option, Some, None, ap, Result, Ok, Err, option_map}
+use Rattle.std.proofs.Common.{◌≡◌, ℕ, List, Option, Some, None, ap, Ok, Err, option_map}
 use Rattle.iloc_spec_grammar.specs.Syntax.{languages}
 use Rattle.iloc_langid.specs.SmallLocaleReads.{LocaleParts, small_locale_of, SmallLocaleTextReads}
 use Rattle.iloc_spec_preferences.specs.Subdivisions.{Subdivision}

@@ -14,8 +14,9 @@ use Rattle.iloc_litemap.proofs.Maps.{map_of_more}
 use Rattle.iloc_subtags.proofs.TakingLemmas.{took}
 use Rattle.iloc_subtags.specs.declared.parse_error.ParseError.{ParseError}
 use Rattle.iloc_subtags.specs.declared.parse_error.ParseError.TheVariants.{InvalidLanguage, InvalidSubtag, InvalidExtension, DuplicatedExtension, OutOfMemory}
-use Rattle.iloc_fields.specs.ValueReading.{values_front, FieldValueReads}
-use Rattle.iloc_fields.specs.FieldsReading.{FieldsRead, FieldsReads}
+use Rattle.iloc_spec_parts.specs.Fronts.{attributes_front}
+use Rattle.iloc_fields.specs.ValueReading.{FieldValueReads}
+use Rattle.iloc_fields.specs.FieldsReading.{FieldsRead, FieldsFills}
 use Rattle.iloc_spec_grammar.proofs.ReadBack.{all_append}
 use Rattle.iloc_spec_grammar.proofs.ReadingLaws.{length-past}
 use Rattle.iloc_spec_parts.proofs.TransformLaws.{no_key_empty}
@@ -39,12 +40,12 @@ takes_nothing ps = record { taken = []; fields = tt; front = refl; rest = refl; 
 key_goes_on : (p : List ℕ) (ps : List (List ℕ)) → IsWord TransformKey p → (fields_front (p ∷ ps) ≡ p ∷ passing is_field_piece ps) × (after_fields (p ∷ ps) ≡ past is_field_piece ps)
 key_goes_on p ps k = (rw k refl, rw k refl)
 
-after_values : (ps : List (List ℕ)) → (passing is_field_piece ps ≡ values_front ps ++ fields_front (past (is_word Attribute) ps)) × (past is_field_piece ps ≡ after_fields (past (is_word Attribute) ps))
+after_values : (ps : List (List ℕ)) → (passing is_field_piece ps ≡ attributes_front ps ++ fields_front (past (is_word Attribute) ps)) × (past is_field_piece ps ≡ after_fields (past (is_word Attribute) ps))
 after_values [] = (rw no_key_empty refl, rw no_key_empty refl)
 after_values (p ∷ ps) = by (is_word Attribute p) refl (is_key p) refl (after_values ps)
   where
-    by : (a : Bool) → is_word Attribute p ≡ a → (k : Bool) → is_key p ≡ k → (passing is_field_piece ps ≡ values_front ps ++ fields_front (past (is_word Attribute) ps)) × (past is_field_piece ps ≡ after_fields (past (is_word Attribute) ps))
-        → (passing is_field_piece (p ∷ ps) ≡ values_front (p ∷ ps) ++ fields_front (past (is_word Attribute) (p ∷ ps))) × (past is_field_piece (p ∷ ps) ≡ after_fields (past (is_word Attribute) (p ∷ ps)))
+    by : (a : Bool) → is_word Attribute p ≡ a → (k : Bool) → is_key p ≡ k → (passing is_field_piece ps ≡ attributes_front ps ++ fields_front (past (is_word Attribute) ps)) × (past is_field_piece ps ≡ after_fields (past (is_word Attribute) ps))
+        → (passing is_field_piece (p ∷ ps) ≡ attributes_front (p ∷ ps) ++ fields_front (past (is_word Attribute) (p ∷ ps))) × (past is_field_piece (p ∷ ps) ≡ after_fields (past (is_word Attribute) (p ∷ ps)))
     by true e true i more = (rw (e, i) (ap (λ l. p ∷ l) more.0), rw (e, i) more.1)
     by true e false i more = (rw (e, i) (ap (λ l. p ∷ l) more.0), rw (e, i) more.1)
     by false e true i more = (rw (e, i) refl, rw (e, i) refl)
@@ -56,11 +57,11 @@ pieces-last : (fs : Fields) (f : List ℕ × List (List ℕ)) → fields_pieces 
 pieces-last [] f = append-nil (f.0 ∷ f.1)
 pieces-last (g ∷ fs) f = ap (λ l. (g.0 ∷ g.1) ++ l) (pieces-last fs f) ∙ sym (append_assoc (g.0 ∷ g.1) (fields_pieces fs) (f.0 ∷ f.1))
 
-values_are : (ps : List (List ℕ)) → AllByRecursion (IsWord Attribute) (values_front ps)
+values_are : (ps : List (List ℕ)) → AllByRecursion (IsWord Attribute) (attributes_front ps)
 values_are [] = tt
 values_are (p ∷ ps) = by (is_word Attribute p) refl (values_are ps)
   where
-    by : (b : Bool) → is_word Attribute p ≡ b → AllByRecursion (IsWord Attribute) (values_front ps) → AllByRecursion (IsWord Attribute) (cond b (p ∷ values_front ps) [])
+    by : (b : Bool) → is_word Attribute p ≡ b → AllByRecursion (IsWord Attribute) (attributes_front ps) → AllByRecursion (IsWord Attribute) (cond b (p ∷ attributes_front ps) [])
     by true e more = (e, more)
     by false e more = tt
 
@@ -72,12 +73,12 @@ normal-last fs p vs =
 -- a key with its values
 pub takes_field : (before now : List (List ℕ)) (m : Fields) (k : List ℕ) (qs more v : List (List ℕ)) (n : Fields) → TakingFields before now m
     → Some k ≡ option_map lower (take_first is_key now) → qs ≡ skip_first is_key now
-    → (0 < length (values_front qs)) × (v ≡ normal_values (values_front qs)) × (more ≡ past (is_word Attribute) qs)
+    → (0 < length (attributes_front qs)) × (v ≡ normal_values (attributes_front qs)) × (more ≡ past (is_word Attribute) qs)
     → n ≡ (if is_some (find word_cmp k m) then m else put word_cmp k v m) → TakingFields before more n
 takes_field before now m k qs more v n h e s r i =
     let t = took TransformKey now k e in
     let p = t.0 in
-    let vs : List (List ℕ) = values_front qs in
+    let vs : List (List ℕ) = attributes_front qs in
     let first : now ≡ p ∷ qs = t.3 ∙ ap (λ l. p ∷ l) (sym s) in
     let goes = key_goes_on p qs t.1 in
     let after = after_values qs in
@@ -122,14 +123,14 @@ begins : (ps : List (List ℕ)) (k : List ℕ) (vs more : List (List ℕ)) → f
 begins ps k [] more e key all some = absurd (omega (arith, some))
 begins ps k (v ∷ vs) more e key all some = begins_field ps k v (vs ++ more) e key all.0
 
-pub wants_memory : (before now : List (List ℕ)) (m : Fields) (k : List ℕ) (qs : List (List ℕ)) → TakingFields before now m → Some k ≡ option_map lower (take_first is_key now) → qs ≡ skip_first is_key now → 0 < length (values_front qs) → BeginsField before
+pub wants_memory : (before now : List (List ℕ)) (m : Fields) (k : List ℕ) (qs : List (List ℕ)) → TakingFields before now m → Some k ≡ option_map lower (take_first is_key now) → qs ≡ skip_first is_key now → 0 < length (attributes_front qs) → BeginsField before
 wants_memory before now m k qs h e s some = at h.taken h.fields h.front
   where
     at : (fs : Fields) → AllByRecursion IsField fs → fields_front before ≡ fields_pieces fs ++ fields_front now → BeginsField before
     at [] g front =
         let t = took TransformKey now k e in
         let first : now ≡ t.0 ∷ qs = t.3 ∙ ap (λ l. t.0 ∷ l) (sym s) in
-        begins before t.0 (values_front qs) (fields_front (past (is_word Attribute) qs)) (front ∙ ap fields_front first ∙ (key_goes_on t.0 qs t.1).0 ∙ ap (λ l. t.0 ∷ l) (after_values qs).0) t.1 (values_are qs) some
+        begins before t.0 (attributes_front qs) (fields_front (past (is_word Attribute) qs)) (front ∙ ap fields_front first ∙ (key_goes_on t.0 qs t.1).0 ∙ ap (λ l. t.0 ∷ l) (after_values qs).0) t.1 (values_are qs) some
     at (f ∷ fs) g front = begins before f.0 f.1 (fields_pieces fs ++ fields_front now) (front ∙ append_assoc (f.0 ∷ f.1) (fields_pieces fs) (fields_front now)) g.0.0 g.0.1 g.0.2
 
 some_values : (vs : List (List ℕ)) → 4 < length (normal_values vs) → 0 < length vs
@@ -157,27 +158,27 @@ later_false (x ∷ xs) ys h = by (is_key x) (later_false xs ys h)
     by true more = and_false _ _ more
     by false more = more
 
-no_value_there : (qs : List (List ℕ)) → values_front qs ≡ [] → before_key is_key (passing is_field_piece qs) ≡ []
+no_value_there : (qs : List (List ℕ)) → attributes_front qs ≡ [] → before_key is_key (passing is_field_piece qs) ≡ []
 no_value_there [] e = refl
 no_value_there (q ∷ qs) e = by (is_word Attribute q) refl (is_key q) refl e
   where
-    by : (a : Bool) → is_word Attribute q ≡ a → (k : Bool) → is_key q ≡ k → cond a (q ∷ values_front qs) [] ≡ [] → before_key is_key (passing is_field_piece (q ∷ qs)) ≡ []
+    by : (a : Bool) → is_word Attribute q ≡ a → (k : Bool) → is_key q ≡ k → cond a (q ∷ attributes_front qs) [] ≡ [] → before_key is_key (passing is_field_piece (q ∷ qs)) ≡ []
     by true h k i e = cc
     by false h true i e = rw (h, i) (rw i refl)
     by false h false i e = rw (h, i) refl
 
-pub lacks_value : (before now : List (List ℕ)) (m : Fields) (k : List ℕ) (qs : List (List ℕ)) → TakingFields before now m → Some k ≡ option_map lower (take_first is_key now) → qs ≡ skip_first is_key now → values_front qs ≡ [] → list_all is_field (fields_at before) ≡ false
+pub lacks_value : (before now : List (List ℕ)) (m : Fields) (k : List ℕ) (qs : List (List ℕ)) → TakingFields before now m → Some k ≡ option_map lower (take_first is_key now) → qs ≡ skip_first is_key now → attributes_front qs ≡ [] → list_all is_field (fields_at before) ≡ false
 lacks_value before now m k qs h e s n =
     let f = front_at before now m k h e in
     let rest : List (List ℕ) = passing is_field_piece (skip_first is_key now) in
-    let none : before_key is_key rest ≡ [] = no_value_there (skip_first is_key now) (ap values_front (sym s) ∙ n) in
+    let none : before_key is_key rest ≡ [] = no_value_there (skip_first is_key now) (ap attributes_front (sym s) ∙ n) in
     let here : list_all is_field (fields_from is_key (f.0 ∷ rest)) ≡ false = rw (f.1, none) (no_field f.0 _) in
     ap (λ l. list_all is_field (fields_from is_key l)) f.3 ∙ later_false (fields_pieces f.2) (f.0 ∷ rest) here
 
 -- what the reader of a value refuses, the reader of fields does
-pub refuses : (before now : List (List ℕ)) (m : Fields) (k : List ℕ) (qs rest left : List (List ℕ)) (f : ParseError) → TakingFields before now m → Some k ≡ option_map lower (take_first is_key now) → qs ≡ skip_first is_key now → FieldValueReads qs rest (Err f) → FieldsReads before left (Err f)
+pub refuses : (before now : List (List ℕ)) (m : Fields) (k : List ℕ) (qs rest left : List (List ℕ)) (f : ParseError) → TakingFields before now m → Some k ≡ option_map lower (take_first is_key now) → qs ≡ skip_first is_key now → FieldValueReads qs rest (Err f) → FieldsFills before left (Err f)
 refuses before now m k qs rest left InvalidExtension h e s r = (refl, lacks_value before now m k qs h e s r.1)
-refuses before now m k qs rest left OutOfMemory h e s r = wants_memory before now m k qs h e s (some_values (values_front qs) r)
+refuses before now m k qs rest left OutOfMemory h e s r = wants_memory before now m k qs h e s (some_values (attributes_front qs) r)
 refuses before now m k qs rest left InvalidLanguage h e s r = let other = r.0 in cc
 refuses before now m k qs rest left InvalidSubtag h e s r = let other = r.0 in cc
 refuses before now m k qs rest left DuplicatedExtension h e s r = let other = r.0 in cc

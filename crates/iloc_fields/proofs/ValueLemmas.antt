@@ -13,33 +13,34 @@ use Rattle.iloc_subtags.proofs.TakingLemmas.{took, took_none}
 use Rattle.iloc_subtags.specs.Judging.{Answers, RunsOutOnlyIf}
 use Rattle.iloc_subtags.proofs.Judged.{without_memory, runs_out}
 use Rattle.iloc_spec_parts.specs.PartValues.{transform_value}
-use Rattle.iloc_fields.specs.ValueReading.{values_front, FieldValueReads, FieldValueTextReads, FieldValueTextWants}
+use Rattle.iloc_spec_parts.specs.Fronts.{attributes_front}
+use Rattle.iloc_fields.specs.ValueReading.{FieldValueReads, FieldValueTextReads, FieldValueTextWants}
 
 -- of the pieces before, those up to now are taken, and gave the value
 pub record TakingValues (before now v : List (List ℕ)) : Type 0 where
-  pub front : v ++ normal_values (values_front now) ≡ normal_values (values_front before)
+  pub front : v ++ normal_values (attributes_front now) ≡ normal_values (attributes_front before)
   pub rest : past (is_word Attribute) now ≡ past (is_word Attribute) before
 
 pub takes_nothing : (ps : List (List ℕ)) → TakingValues ps ps []
 takes_nothing ps = record { front = refl; rest = refl }
 
-front_first : (p : List ℕ) (ps : List (List ℕ)) → IsWord Attribute p → (values_front (p ∷ ps) ≡ p ∷ values_front ps) × (past (is_word Attribute) (p ∷ ps) ≡ past (is_word Attribute) ps)
+front_first : (p : List ℕ) (ps : List (List ℕ)) → IsWord Attribute p → (attributes_front (p ∷ ps) ≡ p ∷ attributes_front ps) × (past (is_word Attribute) (p ∷ ps) ≡ past (is_word Attribute) ps)
 front_first p ps h = (rw h refl, rw h refl)
 
 -- a fifth subtag
-pub wants_memory : (before now v : List (List ℕ)) (w : List ℕ) → TakingValues before now v → Some w ≡ option_map lower (take_first (is_word Attribute) now) → is_true w ≡ false → (length v < 4 → ⊥) → 4 < length (normal_values (values_front before))
+pub wants_memory : (before now v : List (List ℕ)) (w : List ℕ) → TakingValues before now v → Some w ≡ option_map lower (take_first (is_word Attribute) now) → is_true w ≡ false → (length v < 4 → ⊥) → 4 < length (normal_values (attributes_front before))
 wants_memory before now v w h e t n =
     let k = took Attribute now w e in
     let f = front_first k.0 (skip_first (is_word Attribute) now) k.1 in
-    let more : List (List ℕ) = values_front (skip_first (is_word Attribute) now) in
+    let more : List (List ℕ) = attributes_front (skip_first (is_word Attribute) now) in
     let false_there : is_true (lower k.0) ≡ false = ap is_true (sym k.2) ∙ t in
-    let all : v ++ (lower k.0 ∷ normal_values more) ≡ normal_values (values_front before) =
-    ap (λ b. v ++ cond (not b) (lower k.0 ∷ normal_values more) (normal_values more)) (sym false_there) ∙ ap (λ l. v ++ normal_values l) (sym (ap values_front k.3 ∙ f.0)) ∙ h.front in
-    let many : length (normal_values (values_front before)) ≡ length v + suc (length (normal_values more)) = ap length (sym all) ∙ length-append v (lower k.0 ∷ normal_values more) in
+    let all : v ++ (lower k.0 ∷ normal_values more) ≡ normal_values (attributes_front before) =
+    ap (λ b. v ++ cond (not b) (lower k.0 ∷ normal_values more) (normal_values more)) (sym false_there) ∙ ap (λ l. v ++ normal_values l) (sym (ap attributes_front k.3 ∙ f.0)) ∙ h.front in
+    let many : length (normal_values (attributes_front before)) ≡ length v + suc (length (normal_values more)) = ap length (sym all) ∙ length-append v (lower k.0 ∷ normal_values more) in
     omega (arith, many, n)
 
 -- at the end of the front
-pub takes_all : (before now v : List (List ℕ)) → TakingValues before now v → None ≡ option_map lower (take_first (is_word Attribute) now) → (v ≡ normal_values (values_front before)) × (now ≡ past (is_word Attribute) before)
+pub takes_all : (before now v : List (List ℕ)) → TakingValues before now v → None ≡ option_map lower (take_first (is_word Attribute) now) → (v ≡ normal_values (attributes_front before)) × (now ≡ past (is_word Attribute) before)
 takes_all before now v h e =
     let t = took_none Attribute now e in
     (sym (append-nil v) ∙ ap (λ l. v ++ normal_values l) (sym t.0) ∙ h.front, sym t.1 ∙ h.rest)
@@ -61,7 +62,7 @@ some_fails test (p ∷ ps) h =
     let more = some_fails test ps parts.1 in
     (rw parts.0 more.0, rw parts.0 (ap (λ l. p ∷ l) more.1))
 
-pub whole_gives : (t v rest : List (List ℕ)) → rest ≡ past (is_word Attribute) t → v ≡ normal_values (values_front t) → None ≡ first_item rest → (list_all (is_word Attribute) t ≡ true) × (v ≡ normal_values t)
+pub whole_gives : (t v rest : List (List ℕ)) → rest ≡ past (is_word Attribute) t → v ≡ normal_values (attributes_front t) → None ≡ first_item rest → (list_all (is_word Attribute) t ≡ true) × (v ≡ normal_values t)
 whole_gives t v [] e i n = let h = all_pass (is_word Attribute) t (sym e) in (h.0, i ∙ ap normal_values h.1)
 whole_gives t v (p ∷ rest) e i n = cc
 
@@ -69,7 +70,7 @@ pub whole_more : (t rest : List (List ℕ)) (p : List ℕ) → rest ≡ past (is
 whole_more t [] p e n = cc
 whole_more t (q ∷ rest) p e n = false_from_ne_true _ (λ h. let z : q ∷ rest ≡ [] = e ∙ (some_fails (is_word Attribute) t h).0 in cc)
 
-pub whole_none : (t : List (List ℕ)) → (t ≡ [] → ⊥) → values_front t ≡ [] → list_all (is_word Attribute) t ≡ false
+pub whole_none : (t : List (List ℕ)) → (t ≡ [] → ⊥) → attributes_front t ≡ [] → list_all (is_word Attribute) t ≡ false
 whole_none t n e = false_from_ne_true _ (λ h. n (sym (some_fails (is_word Attribute) t h).1 ∙ e))
 
 -- at the pieces of a text
@@ -84,8 +85,8 @@ module _ (t : List ℕ) (ps : List (List ℕ)) (is : ps ≡ pieces t) (rest : Li
   value_more_left v p r n = rw (whole_more (pieces t) rest p (r.2 ∙ ap (past (is_word Attribute)) is) n) refl
 
   value_refused : (f : ParseError) → FieldValueReads ps rest (Err f) → Answers (λ v. transform_value t ≡ Ok v) (λ f. transform_value t ≡ Err f) (FieldValueTextWants t) (Err f)
-  value_refused InvalidExtension r = rw (whole_none (pieces t) (pieces_nonempty t) (ap values_front (sym is) ∙ r.1)) refl
-  value_refused OutOfMemory r = subst (λ (l : List (List ℕ)). 4 < length (normal_values (values_front l))) is r
+  value_refused InvalidExtension r = rw (whole_none (pieces t) (pieces_nonempty t) (ap attributes_front (sym is) ∙ r.1)) refl
+  value_refused OutOfMemory r = subst (λ (l : List (List ℕ)). 4 < length (normal_values (attributes_front l))) is r
   value_refused InvalidLanguage r = let other = r.0 in cc
   value_refused InvalidSubtag r = let other = r.0 in cc
   value_refused DuplicatedExtension r = let other = r.0 in cc

@@ -25,8 +25,12 @@ word_ties : (v w : Text) → pointwise nat_eq v w ≡ eq_by_cmp word_cmp v w
 word_ties v w = lists_ties nat_cmp nat_ties v w
 
 -- fields tie exactly if they are equal pair by pair
-pub fields_ties : (es fs : Fields) → pointwise (λ (x y : Text × List Text). pointwise nat_eq x.0 y.0 && pointwise (pointwise nat_eq) x.1 y.1) es fs ≡ eq_by_cmp fields_cmp es fs
-fields_ties es fs = lists_ties (pair_cmp word_cmp words_cmp) (λ x y. ap₂ (λ a b. a && b) (word_ties x.0 y.0) (short_ties word_cmp word_ties x.1 y.1) ∙ sym (then_is_eq (word_cmp x.0 y.0) (words_cmp x.1 y.1))) es fs
+pub fields_ties : (es fs : Fields)
+    → pointwise (λ (x y : Text × List Text). pointwise nat_eq x.0 y.0
+    && pointwise (pointwise nat_eq) x.1 y.1) es fs ≡ eq_by_cmp fields_cmp es fs
+fields_ties es fs = lists_ties (pair_cmp word_cmp words_cmp)
+    (λ x y. ap₂ (λ a b. a && b) (word_ties x.0 y.0) (short_ties word_cmp word_ties x.1 y.1)
+    ∙ sym (then_is_eq (word_cmp x.0 y.0) (words_cmp x.1 y.1))) es fs
 
 pub fields_total : IsTotalOrder fields_cmp
 fields_total = fields_exact.total

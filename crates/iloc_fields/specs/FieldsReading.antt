@@ -23,7 +23,8 @@ pub record FieldsRead (ps : List Text) (m : Fields) (rest : List Text) : Type 0 
   pub means : m ≡ normal_fields written
   pub left : rest ≡ after_fields ps
 
--- What the pieces at the front are read as, and the pieces that are left. The first field may allocate.
-abbrev pub FieldsReads : List Text → List Text → Result Fields ParseError → Type 0
-FieldsReads ps rest = Answers (λ m. FieldsRead ps m rest)
+-- What the pieces at the front are read as, and the pieces that are left. The first field may
+-- allocate.
+abbrev pub FieldsFills : List Text → List Text → Result Fields ParseError → Type 0
+FieldsFills ps rest = Answers (λ m. FieldsRead ps m rest)
     (Only faults.InvalidExtension (list_all is_field (fields_at ps) ≡ false)) (BeginsField ps)

@@ -31,9 +31,9 @@ ghost use Rattle.std.specs.Cmp.{partial_order_from_agreeing_total};
 ghost use Rattle.std.proofs.Common.{refl};
 ghost use Rattle.iloc_spec_parts.specs.Orders.{fields_cmp};
 ghost use Rattle.iloc_fields.specs.FieldsOrder.{fields_ties, fields_total};
-ghost use Rattle.iloc_litemap.specs.Pairs.{IsAscending};
+ghost use Rattle.iloc_litemap.specs.Pairs.{HasAscendingKeys};
 ghost use Rattle.iloc_subtags.specs.Left.{left};
-ghost use Rattle.iloc_fields.specs.FieldsReading.{IsFieldPair, FieldsReads};
+ghost use Rattle.iloc_fields.specs.FieldsReading.{IsFieldPair, FieldsFills};
 
 use crate::value::Value;
 use iloc_litemap::LiteMap;
@@ -87,7 +87,7 @@ impl Fields {
     /// The pairs by ascending key.
     pub fn as_slice(&self) -> &[(Key, Value)]
         ensures pairs { result.now ≡ self.now }
-        ensures ascending { IsAscending word_cmp self.now }
+        ensures ascending { HasAscendingKeys word_cmp self.now }
         ensures normal { AllByRecursion IsFieldPair self.now }
     {
         self.map.as_slice()
@@ -199,7 +199,7 @@ pub fn fill_fields(
     fields: &mut Fields,
 ) -> Result<(), ParseError>
     requires { fields.old ≡ [] }
-    ensures { FieldsReads (left iter.old) (left iter.new)
+    ensures { FieldsFills (left iter.old) (left iter.new)
         (result_and result (Ok fields.new)) }
 {
     'keys: while let Some(key) = take_word::<TransformKeyKind, 2>(iter) {

@@ -8,7 +8,7 @@ use Rattle.std.proofs.lemmas.Bool.Decides.{nat_tests}
 use Rattle.std.proofs.lemmas.List.{length-take-le, get_or-take}
 use Rattle.std.proofs.lemmas.List.Splits.{slice_split-cons_no}
 use Rattle.iloc_spec_grammar.specs.Syntax.{Attribute, pieces, first_piece, is_word, letters_or_digits}
-use Rattle.iloc_fronts.specs.Run.{IsRunOf, is_hyphen, is_other}
+use Rattle.iloc_fronts.specs.Run.{IsRunOf, is_hyphen, fails}
 use Rattle.iloc_fronts.specs.Front.{IsFirst}
 use Rattle.iloc_fronts.specs.Keyword.{IsFirstAttribute}
 use Rattle.iloc_fronts.proofs.RunWords.{all_pass, and-false, attribute_is}
@@ -19,7 +19,7 @@ and-true true = refl
 and-true false = refl
 
 -- a letter or a digit is no hyphen
-pub no_hyphen : (b : ℕ) → is_ascii_alphanumeric b ≡ true → is_other is_hyphen b ≡ true
+pub no_hyphen : (b : ℕ) → is_ascii_alphanumeric b ≡ true → fails is_hyphen b ≡ true
 no_hyphen b e = grind (arith, nat_tests)
 
 -- a byte that is no hyphen stands in the first piece, so that is no word
@@ -27,7 +27,7 @@ all_onto : (c : ℕ) (ps : List (List ℕ)) → letters_or_digits (first_piece (
 all_onto c [] = refl
 all_onto c (p ∷ ps) = refl
 
-stranger : (k : ℕ) (t : List ℕ) → k < length t → Free k t → is_other is_hyphen (get_or t k 0) ≡ true → is_ascii_alphanumeric (get_or t k 0) ≡ false
+stranger : (k : ℕ) (t : List ℕ) → k < length t → Free k t → fails is_hyphen (get_or t k 0) ≡ true → is_ascii_alphanumeric (get_or t k 0) ≡ false
     → letters_or_digits (first_piece (slice_split is_hyphen t)) ≡ false
 stranger k [] l f h e = absurd (omega arith)
 stranger zero (c ∷ t) l f h e =
@@ -44,16 +44,16 @@ module _ (w : List ℕ) (len run : ℕ) (room : len + 16 ≤ length w) (r : IsRu
   whole : length text ≡ len
   whole = length-take-le len w (omega arith)
 
-  free : (n : ℕ) → n ≤ run → n ≤ 13 → (i : ℕ) → i < n → is_other is_hyphen (get_or w i 0) ≡ true
+  free : (n : ℕ) → n ≤ run → n ≤ 13 → (i : ℕ) → i < n → fails is_hyphen (get_or w i 0) ≡ true
   free n early few i less = no_hyphen (get_or w i 0) (r.pass i (omega arith) (omega arith))
 
   free_text : (n : ℕ) → n ≤ run → n ≤ 13 → n ≤ len → Free n text
   free_text n early few inside = λ i less.
       let there : i < len = omega arith in
-      ap (is_other is_hyphen) (get_or-take len w i 0 there) ∙ free n early few i less
+      ap (fails is_hyphen) (get_or-take len w i 0 there) ∙ free n early few i less
 
-  hyphen_at : (n : ℕ) → get_or w n 0 ≡ 45 → is_other is_hyphen (get_or w n 0) ≡ false
-  hyphen_at n e = ap (is_other is_hyphen) e
+  hyphen_at : (n : ℕ) → get_or w n 0 ≡ 45 → fails is_hyphen (get_or w n 0) ≡ false
+  hyphen_at n e = ap (fails is_hyphen) e
 
   -- as many bytes as pass, up to a hyphen or the end
   pub is_first : (n : ℕ) → n ≤ run → n ≤ 8 → n ≤ len → (n < len → get_or w n 0 ≡ 45) → IsFirst text n
@@ -84,9 +84,9 @@ module _ (w : List ℕ) (len run : ℕ) (room : len + 16 ≤ length w) (r : IsRu
   unfolding pieces is_word
   none_strange more few other =
       let same : get_or text run 0 ≡ get_or w run 0 = get_or-take len w run 0 more in
-      let no : is_other is_hyphen (get_or w run 0) ≡ true = grind (arith, nat_tests, other) in
+      let no : fails is_hyphen (get_or w run 0) ≡ true = grind (arith, nat_tests, other) in
       ap (λ (b : Bool). is_in_range 3 8 (length (first_piece (pieces text))) && b)
-      (stranger run text (omega (arith, whole)) (free_text run (omega arith) (omega arith) (omega arith)) (ap (is_other is_hyphen) same ∙ no)
+      (stranger run text (omega (arith, whole)) (free_text run (omega arith) (omega arith) (omega arith)) (ap (fails is_hyphen) same ∙ no)
       (ap is_ascii_alphanumeric same ∙ r.ends (omega arith)))
       ∙ and-false (is_in_range 3 8 (length (first_piece (pieces text))))
 

@@ -13,7 +13,7 @@ use Rattle.iloc_spec_grammar.proofs.PiecesLaws.{at_pieces, join-pieces}
 use Rattle.iloc_spec_grammar.proofs.PartTexts.{join-append}
 use Rattle.iloc_spec_grammar.proofs.WordsLaws.{length-language, length-script, length-region, length-variant, length-attribute, length-unicode_key, length-transform_key}
 use Rattle.iloc_spec_grammar.proofs.RawLaws.{languages_table}
-use Rattle.iloc_fronts.specs.Run.{IsRun, is_hyphen, is_other}
+use Rattle.iloc_fronts.specs.Run.{IsRun, is_hyphen, fails}
 use Rattle.iloc_fronts.specs.Front.{IsFirst, IsOneVariant, EndsInVariant, GoesOnAs, IsFront}
 use Rattle.iloc_fronts.specs.declared.front.Front.{Front}
 use Rattle.iloc_fronts.specs.declared.front.Front.TheVariants as front
@@ -22,7 +22,7 @@ use Rattle.iloc_fronts.specs.declared.front.Front.TheVariants as front
 
 -- no hyphen is among the first n bytes
 abbrev pub Free : ℕ → List ℕ → Type 0
-Free n t = (i : ℕ) → i < n → is_other is_hyphen (get_or t i 0) ≡ true
+Free n t = (i : ℕ) → i < n → fails is_hyphen (get_or t i 0) ≡ true
 
 pub is_no : (b : Bool) → not b ≡ true → b ≡ false
 is_no true e = sym e
@@ -38,7 +38,7 @@ later n c t h i l = h (suc i) (omega arith)
 pub go_on : (n c : ℕ) (t : List ℕ) → Free (suc n) (c ∷ t) → slice_split is_hyphen (c ∷ t) ≡ onto_first c (slice_split is_hyphen t)
 go_on n c t h = slice_split-cons_no is_hyphen c t (is_no _ (h 0 (omega arith)))
 
-cut_at : (k : ℕ) (t : List ℕ) → k < length t → Free k t → is_other is_hyphen (get_or t k 0) ≡ false
+cut_at : (k : ℕ) (t : List ℕ) → k < length t → Free k t → fails is_hyphen (get_or t k 0) ≡ false
     → slice_split is_hyphen t ≡ take k t ∷ slice_split is_hyphen (drop (suc k) t)
 cut_at zero [] l h e = absurd (omega arith)
 cut_at zero (c ∷ t) l h e = slice_split-cons_yes is_hyphen c t (is_yes _ e)
@@ -61,33 +61,33 @@ goes_far (suc k) (c ∷ t) l h =
 
 -- n bytes come before the first hyphen of what the line has
 pub first_by : (w : List ℕ) (len n : ℕ) → len ≤ length w → n ≤ len → n ≤ 16
-    → ((i : ℕ) → i < n → is_other is_hyphen (get_or w i 0) ≡ true)
-    → (n < len → n < 16 → is_other is_hyphen (get_or w n 0) ≡ false) → IsFirst (take len w) n
+    → ((i : ℕ) → i < n → fails is_hyphen (get_or w i 0) ≡ true)
+    → (n < len → n < 16 → fails is_hyphen (get_or w n 0) ≡ false) → IsFirst (take len w) n
 unfolding pieces
 first_by w len n inside less few pass ends =
     let t = take len w in
     let long : length t ≡ len = length-take-le len w inside in
     let free : Free n t = λ i early.
     let there : i < len = omega arith in
-    ap (is_other is_hyphen) (get_or-take len w i 0 there) ∙ pass i early in
+    ap (fails is_hyphen) (get_or-take len w i 0 there) ∙ pass i early in
     record {
       within = omega arith;
       few = few;
       cut = λ more short.
           let there : n < len = omega arith in
-          cut_at n t more free (ap (is_other is_hyphen) (get_or-take len w n 0 there) ∙ ends there short);
+          cut_at n t more free (ap (fails is_hyphen) (get_or-take len w n 0 there) ∙ ends there short);
       last = λ short whole. uncut t (subst (λ (m : ℕ). Free m t) whole free);
       long = λ sixteen. subst (λ (m : ℕ). m ≤ length (first_piece (slice_split is_hyphen t))) sixteen (goes_far n t (omega arith) free);
     }
 
 -- n is the lesser of the line's length and of the bytes before the first hyphen of the window
-pub first_is : (w : List ℕ) (len k n : ℕ) → 16 ≤ length w → len ≤ length w → IsRun (is_other is_hyphen) w k
+pub first_is : (w : List ℕ) (len k n : ℕ) → 16 ≤ length w → len ≤ length w → IsRun (fails is_hyphen) w k
     → n ≤ len → n ≤ k → (n < len → n ≡ k) → IsFirst (take len w) n
 first_is w len k n wide inside r few less least =
     first_by w len n inside few (omega (arith, r.few)) (λ i early. r.pass i (omega arith))
     (λ more short.
     let same : n ≡ k = least more in
-    ap (λ i. is_other is_hyphen (get_or w i 0)) same ∙ r.ends (omega arith))
+    ap (λ i. fails is_hyphen (get_or w i 0)) same ∙ r.ends (omega arith))
 
 -- ---- words among the pieces
 

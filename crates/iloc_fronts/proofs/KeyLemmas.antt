@@ -9,7 +9,7 @@ use Rattle.std.proofs.lemmas.List.{get_or-take, length-drop, length-take-le}
 use Rattle.std.proofs.lemmas.List.Splits.{slice_split-cons_no, slice_split-cons_yes}
 use Rattle.iloc_spec_grammar.specs.Syntax.{Attribute, UnicodeKey, pieces, first_piece, is_word, IsWord, is_true, lower}
 use Rattle.iloc_spec_grammar.specs.Meaning.{normal_values}
-use Rattle.iloc_fronts.specs.Run.{is_hyphen, is_other}
+use Rattle.iloc_fronts.specs.Run.{is_hyphen, fails}
 use Rattle.iloc_fronts.specs.Words.{two_number}
 use Rattle.iloc_fronts.specs.Front.{IsFirst}
 use Rattle.iloc_fronts.specs.Keyword.{IsFirstAttribute, IsKeywordOf, IsSingle}
@@ -33,15 +33,15 @@ one_word p ps none = elim (cases_Bool (is_true (lower p))) [
 ]
 
 module _ (w : List ℕ) (len : ℕ) (room : len + 16 ≤ length w) (first : is_ascii_alphanumeric (get_or w 0 0) ≡ true) (second : is_ascii_alphanumeric (get_or w 1 0) ≡ true) where
-  free : (i : ℕ) → i < 2 → is_other is_hyphen (get_or w i 0) ≡ true
+  free : (i : ℕ) → i < 2 → fails is_hyphen (get_or w i 0) ≡ true
   free i less = elim (cases_lt i 1) [
-    | inl none ↦ let same : i ≡ 0 = omega arith in ap (λ k. is_other is_hyphen (get_or w k 0)) same ∙ no_hyphen (get_or w 0 0) first
-    | inr some ↦ let same : i ≡ 1 = omega arith in ap (λ k. is_other is_hyphen (get_or w k 0)) same ∙ no_hyphen (get_or w 1 0) second
+    | inl none ↦ let same : i ≡ 0 = omega arith in ap (λ k. fails is_hyphen (get_or w k 0)) same ∙ no_hyphen (get_or w 0 0) first
+    | inr some ↦ let same : i ≡ 1 = omega arith in ap (λ k. fails is_hyphen (get_or w k 0)) same ∙ no_hyphen (get_or w 1 0) second
   ]
 
   -- both are the first piece, up to a hyphen or the end
   pub two_first : 2 ≤ len → (2 < len → get_or w 2 0 ≡ 45) → IsFirst (take len w) 2
-  two_first least ends = first_by w len 2 (omega arith) least (omega arith) free (λ more few. ap (is_other is_hyphen) (ends more))
+  two_first least ends = first_by w len 2 (omega arith) least (omega arith) free (λ more few. ap (fails is_hyphen) (ends more))
 
   -- they are a key if the second is no digit
   pub is_key : 57 < get_or w 1 0 → IsWord UnicodeKey (take 2 w)

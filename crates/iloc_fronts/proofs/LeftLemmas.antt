@@ -1,9 +1,10 @@
 -- The first piece of what is left of a line.
-use Rattle.std.proofs.Common.{◌≡◌, ◌≢◌, ℕ, ◌<◌, ◌≤◌, true, false, List, [], ◌∷◌, length, get_or, sym, ap, ◌∙◌, arith}
+use Rattle.std.proofs.Common.{◌≡◌, ◌≢◌, ℕ, ◌<◌, ◌≤◌, Bool, true, false, cond, List, [], ◌∷◌, length, get_or, take, refl, sym, ap, ◌∙◌, arith}
 use Rattle.std.specs.Int.{is_in_range}
 use Rattle.std.proofs.lemmas.List.{length-take-le}
 use Rattle.iloc_spec_grammar.specs.Syntax.{first_piece, Kind, is_word}
-use Rattle.iloc_spec_grammar.specs.Reading.{starts_block}
+use Rattle.iloc_spec_grammar.specs.Reading.{rest_of, skip_first, starts_block}
+use Rattle.iloc_spec_grammar.proofs.PiecesLaws.{at_pieces}
 use Rattle.iloc_fronts.specs.Left.{pieces_of, piece_of, IsLeft}
 use Rattle.iloc_fronts.specs.declared.left.Left.{Left}
 use Rattle.iloc_fronts.proofs.FrontLemmas.{IsShort, word_is_short, whole_short, word_of_first, begins_none, other_length, one_byte, short_first}
@@ -44,3 +45,9 @@ module _ (l : Left) (h : IsLeft l) where
   -- one that begins a block
   pub block_left : l.n ≡ 1 → (ps : List (List ℕ)) → (l.n < 16 → pieces_of l ≡ piece_of l ∷ ps) → pieces_of l ≡ (get_or l.window.now 0 0 ∷ []) ∷ ps
   block_left one ps parts = parts (omega arith) ∙ ap (λ p. p ∷ ps) (byte_left one)
+
+-- what is left after a first piece that may fit
+pub skips : (k : Kind) → IsShort k → (l : Left) → IsLeft l → cond (is_word k (piece_of l)) (rest_of (pieces_of l)) (pieces_of l) ≡ skip_first (is_word k) (pieces_of l)
+skips k short l h =
+    ap (λ (b : Bool). cond b (rest_of (pieces_of l)) (pieces_of l)) (sym (first_word l h k short))
+    ∙ at_pieces (λ ps. cond (is_word k (first_piece ps)) (rest_of ps) ps ≡ skip_first (is_word k) ps) (λ p ps. refl) (take l.len l.window.now)

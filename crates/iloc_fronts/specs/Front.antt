@@ -42,7 +42,8 @@ pub record EndsInVariant (t : Text) (n : ℕ) : Type 0 where
   pub is : IsWord Variant variant
   pub long : length variant ≡ n
 
--- what the pieces after a region are: variants, and then nothing, a piece that fits nowhere, or a block
+-- what the pieces after a region are: variants, and then nothing, a piece that fits nowhere, or a
+-- block
 abbrev pub GoesOnAs : List Text → Front → Type 0
 GoesOnAs ps front.NoLanguage = ¬ ⊤
 GoesOnAs ps front.Misfit = starts_block (past (is_word Variant) ps) ≡ false
@@ -51,14 +52,17 @@ GoesOnAs ps (front.Variant n) = IsOneVariant ps n
 GoesOnAs ps (front.Variants n) = (past (is_word Variant) ps ≡ []) × (2 ≤ length ps)
 GoesOnAs ps front.Other = ⊤
 
--- what the text is: no language comes first, or a variant last, or what follows a language is as told
+-- what the text is: no language comes first, or a variant last, or what follows a language is as
+-- told
 abbrev pub IsFront : Text → Front → Type 0
 IsFront t front.NoLanguage = is_word (Language languages) (first_piece (pieces t)) ≡ false
 IsFront t front.Other = ⊤
 IsFront t (front.Variant n) = EndsInVariant t n
-IsFront t f = IsWord (Language languages) (first_piece (pieces t)) × GoesOnAs (after_region (pieces t)) f
+IsFront t f = IsWord (Language languages) (first_piece (pieces t))
+    × GoesOnAs (after_region (pieces t)) f
 
--- a language comes first, and the block later; if a block follows the words of an identifier, it is this one
+-- a language comes first, and the block later; if a block follows the words of an identifier, it is
+-- this one
 pub record IsFound (t : Text) (b : Block) : Type 0 where
   pub begins : IsWord (Language languages) (first_piece (pieces t))
   pub less : b.len < length t

@@ -3,3 +3,4 @@ pub mod Run
 pub mod Front
 pub mod Left
 pub mod Keyword
+pub mod Walk

@@ -7,8 +7,8 @@ abbrev pub is_hyphen : ℕ → Bool
 is_hyphen b = b == 45
 
 -- whether the byte fails the test
-abbrev pub is_other : (ℕ → Bool) → ℕ → Bool
-is_other p b = not (p b)
+abbrev pub fails : (ℕ → Bool) → ℕ → Bool
+fails p b = not (p b)
 
 -- n of the first sixteen bytes pass the test one after the other, and then one fails
 pub record IsRun (p : ℕ → Bool) (w : Text) (n : ℕ) : Type 0 where
@@ -16,7 +16,8 @@ pub record IsRun (p : ℕ → Bool) (w : Text) (n : ℕ) : Type 0 where
   pub pass : (i : ℕ) → i < n → p (get_or w i 0) ≡ true
   pub ends : n < 16 → p (get_or w n 0) ≡ false
 
--- n of the first m bytes pass the test one after the other, and then one fails; if all pass, n is m or more
+-- n of the first m bytes pass the test one after the other, and then one fails; if all pass, n is m
+-- or more
 pub record IsRunOf (m : ℕ) (p : ℕ → Bool) (w : Text) (n : ℕ) : Type 0 where
   pub pass : (i : ℕ) → i < n → i < m → p (get_or w i 0) ≡ true
   pub ends : n < m → p (get_or w n 0) ≡ false
@@ -26,4 +27,5 @@ pub record IsFirstSingle (w : Text) (n : ℕ) : Type 0 where
   pub few : n < 14
   pub there : is_hyphen (get_or w n 0) ≡ true
   pub after : is_hyphen (get_or w (suc (suc n)) 0) ≡ true
-  pub first : (i : ℕ) → i < n → is_hyphen (get_or w i 0) ≡ true → is_hyphen (get_or w (suc (suc i)) 0) ≡ false
+  pub first : (i : ℕ) → i < n → is_hyphen (get_or w i 0) ≡ true
+      → is_hyphen (get_or w (suc (suc i)) 0) ≡ false

@@ -1,11 +1,26 @@
 //! Tells what stands at the front of a line.
-ghost use Rattle.std.specs.Prelude.{◌≡◌, ◌+◌, ◌≤◌, IfSome, false, length, take};
-ghost use Rattle.iloc_spec_grammar.specs.Syntax.{pieces, Region, Script, is_word};
-ghost use Rattle.iloc_spec_grammar.specs.Reading.{skip_first};
+ghost use Rattle.std.specs.Prelude.{
+  ◌≡◌,
+  ◌+◌,
+  ◌<◌,
+  ◌≤◌,
+  IfSome,
+  IsTrue,
+  cond,
+  false,
+  length,
+  take,
+};
+ghost use Rattle.iloc_spec_grammar.specs.Syntax.{IsWord, Language, languages};
+ghost use Rattle.iloc_spec_grammar.specs.Reading.{rest_of};
+ghost use Rattle.iloc_spec_grammar.specs.Reading.{after_region as region_past};
 ghost use Rattle.iloc_fronts.specs.Front.{IsFirst, GoesOnAs, IsFound, IsFront};
+ghost use Rattle.iloc_fronts.specs.Left.{IsLeft, piece_of, pieces_of};
+ghost use Rattle.iloc_fronts.specs.Walk.{left_of};
 ghost use Rattle.iloc_fronts.specs.declared.front.Front.TheVariants as front;
 
-use crate::run::{before_hyphen, before_single};
+use crate::left::{Left, after_piece, left_in};
+use crate::run::{before_hyphen, before_singles};
 use crate::words::{is_language, is_region, is_script, is_variant};
 use iloc_plain::is_language_length;
 
@@ -71,7 +86,11 @@ pub fn find_block(window: &[u8], len: usize) -> Option<Block<'_>>
     if !is_language(window, n) {
         return None;
     }
-    let at = before_single(window)?;
+    let marks = before_singles(window);
+    if marks == 0 {
+        return None;
+    }
+    let at = marks.trailing_zeros() as usize;
     if at + 2 >= len || window[at + 1] == b'-' {
         return None;
     }
@@ -89,65 +108,67 @@ pub fn read_front(window: &[u8], len: usize) -> Front<'_>
     requires { len + 16 ≤ length window.now }
     ensures { IsFront (take len window.now) result }
 {
-    let n = first_len(window, len);
-    if !is_language(window, n) {
+    let left = left_in(window, len);
+    if !is_language(left.window, left.n) {
         return Front::NoLanguage;
     }
-    if n == len {
-        return Front::Other;
+    match after_identifier(left) {
+        Some(next) => after_region(next),
+        None => Front::Other,
     }
-    after_language(&window[n + 1..], len - n - 1)
 }
 
-// What follows the language.
+// What follows a language, perhaps a script and a region; `None` if nothing does.
 #[inline(always)]
-fn after_language(window: &[u8], len: usize) -> Front<'_>
-    requires { len + 16 ≤ length window.now }
-    ensures { GoesOnAs (skip_first (is_word Region)
-        (skip_first (is_word Script) (pieces (take len window.now)))) result }
+fn after_identifier(left: Left<'_>) -> Option<Left<'_>>
+    requires left { IsLeft left }
+    requires language { IsWord (Language languages) (piece_of left) }
+    ensures left { IfSome result IsLeft }
+    ensures pieces { left_of result ≡ region_past (pieces_of left.entry) }
 {
-    let n = first_len(window, len);
-    if !is_script(window, n) {
-        return after_script(window, len);
-    }
-    if n == len {
-        return Front::Other;
-    }
-    after_script(&window[n + 1..], len - n - 1)
+    let Some(at) = past_one(true, left) else {
+        return None;
+    };
+    let Some(next) = past_one(is_script(at.window, at.n), at) else {
+        return None;
+    };
+    past_one(is_region(next.window, next.n), next)
 }
 
-// What follows the script.
+// Passes over the first piece, if it fits. What is left; `None` if nothing is.
 #[inline(always)]
-fn after_script(window: &[u8], len: usize) -> Front<'_>
-    requires { len + 16 ≤ length window.now }
-    ensures { GoesOnAs (skip_first (is_word Region) (pieces (take len window.now))) result }
+fn past_one(fits: bool, left: Left<'_>) -> Option<Left<'_>>
+    requires left { IsLeft left }
+    requires short { IsTrue fits → left.n < 16 }
+    ensures left { IfSome result IsLeft }
+    ensures pieces { left_of result
+        ≡ cond fits (rest_of (pieces_of left.entry)) (pieces_of left.entry) }
 {
-    let n = first_len(window, len);
-    if !is_region(window, n) {
-        return after_region(window, len);
+    if !fits {
+        return Some(left);
     }
-    if n == len {
-        return Front::Other;
+    if left.n == left.len {
+        return None;
     }
-    after_region(&window[n + 1..], len - n - 1)
+    Some(after_piece(left))
 }
 
 // What follows the region: variants, and then what is told.
 #[inline(always)]
-fn after_region(window: &[u8], len: usize) -> Front<'_>
-    requires { len + 16 ≤ length window.now }
-    ensures { GoesOnAs (pieces (take len window.now)) result }
+fn after_region(at: Left<'_>) -> Front<'_>
+    requires { IsLeft at }
+    ensures { GoesOnAs (pieces_of at.entry) result }
 {
-    let mut rest = window;
-    let mut left = len;
+    let mut rest = at.window;
+    let mut left = at.len;
+    let mut n = at.n;
     let mut is_first = true;
-    let mut n = first_len(rest, left);
     'variants: while is_variant(rest, n) {
         if n == left {
             if is_first {
-                return Front::Variant(len);
+                return Front::Variant(at.len);
             }
-            return Front::Variants(len);
+            return Front::Variants(at.len);
         }
         rest = &rest[n + 1..];
         left = left - n - 1;
@@ -160,6 +181,6 @@ fn after_region(window: &[u8], len: usize) -> Front<'_>
     Front::Block(Block {
         window: rest,
         len: left,
-        tail: len,
+        tail: at.len,
     })
 }

@@ -1,8 +1,9 @@
 //! How many bytes of a class come first among sixteen.
-ghost use Rattle.std.specs.Prelude.{◌≡◌, ◌≤◌, IfSome, length, drop, map};
+ghost use Rattle.std.specs.Prelude.{◌≡◌, ◌≤◌, length, drop, map, take};
 ghost use Rattle.std.specs.Simd.Lanes.{mask_l};
 ghost use Rattle.std.specs.Char.{is_ascii_alphabetic, is_ascii_alphanumeric, is_ascii_digit};
-ghost use Rattle.iloc_fronts.specs.Run.{IsFirstSingle, IsRun, IsRunOf, is_hyphen, is_other};
+ghost use Rattle.iloc_fronts.specs.Run.{IsRun, IsRunOf, is_hyphen, fails};
+ghost use Rattle.iloc_fronts.specs.Walk.{single_marks};
 
 use iloc_plain::before_marked;
 use std::simd::prelude::*;
@@ -10,7 +11,7 @@ use std::simd::prelude::*;
 // A bit for each byte that is no letter.
 #[inline(always)]
 fn no_letters_in(v: u8x16) -> u64
-    ensures { result ≡ mask_l (map (is_other is_ascii_alphabetic) v) }
+    ensures { result ≡ mask_l (map (fails is_ascii_alphabetic) v) }
 {
     ((v | u8x16::splat(32)) - u8x16::splat(97))
         .simd_ge(u8x16::splat(26))
@@ -20,7 +21,7 @@ fn no_letters_in(v: u8x16) -> u64
 // A bit for each byte that is no digit.
 #[inline(always)]
 fn no_digits_in(v: u8x16) -> u64
-    ensures { result ≡ mask_l (map (is_other is_ascii_digit) v) }
+    ensures { result ≡ mask_l (map (fails is_ascii_digit) v) }
 {
     (v - u8x16::splat(48))
         .simd_ge(u8x16::splat(10))
@@ -30,7 +31,7 @@ fn no_digits_in(v: u8x16) -> u64
 // A bit for each byte that is neither.
 #[inline(always)]
 fn no_alphanumerics_in(v: u8x16) -> u64
-    ensures { result ≡ mask_l (map (is_other is_ascii_alphanumeric) v) }
+    ensures { result ≡ mask_l (map (fails is_ascii_alphanumeric) v) }
 {
     let letters = ((v | u8x16::splat(32)) - u8x16::splat(97)).simd_ge(u8x16::splat(26));
     let digits = (v - u8x16::splat(48)).simd_ge(u8x16::splat(10));
@@ -85,21 +86,17 @@ pub(crate) fn alphanumerics_after_key(window: &[u8]) -> usize
 #[inline(always)]
 pub(crate) fn before_hyphen(window: &[u8]) -> usize
     requires { 16 ≤ length window.now }
-    ensures { IsRun (is_other is_hyphen) window.now result }
+    ensures { IsRun (fails is_hyphen) window.now result }
 {
     before_marked(hyphens_of(u8x16::from_slice(window)))
 }
 
-// How many bytes come before the first hyphen that has another one two bytes later.
+// A bit for each hyphen that has another one two bytes later.
 #[inline(always)]
-pub(crate) fn before_single(window: &[u8]) -> Option<usize>
+pub(crate) fn before_singles(window: &[u8]) -> u64
     requires { 16 ≤ length window.now }
-    ensures { IfSome result (IsFirstSingle window.now) }
+    ensures { result ≡ single_marks (take 16 window.now) }
 {
     let hyphens = hyphens_of(u8x16::from_slice(window));
-    let marks = hyphens & (hyphens >> 2);
-    if marks == 0 {
-        return None;
-    }
-    Some(marks.trailing_zeros() as usize)
+    hyphens & (hyphens >> 2)
 }

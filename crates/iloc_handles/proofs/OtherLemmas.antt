@@ -9,7 +9,7 @@ use Rattle.std.specs.FinMap.{find, put}
 use Rattle.std.specs.FinMap.Entries.{by_order}
 use Rattle.std.proofs.lemmas.Bool.Decides.{nat_tests}
 use Rattle.iloc_spec_grammar.specs.Syntax.{Block}
-use Rattle.iloc_handles.specs.OtherPlaces.{place, place_of_singleton}
+use Rattle.iloc_handles.specs.OtherPlaces.{how_many_less, place_of_singleton}
 
 tied : (a b : ℕ) → b ≡ a → eq_by_cmp nat_cmp a b ≡ true
 tied a b e = grind (arith, nat_tests)
@@ -52,18 +52,18 @@ singleton_miss c o os h =
     let is : (o.0 == c) ≡ false = grind (arith, nat_tests) in
     ap (λ b. cond b 0 (suc (place_of_singleton c os))) is ∙ next
 
-pub place_none : (c : ℕ) → place c [] ≡ 0
+pub place_none : (c : ℕ) → how_many_less c [] ≡ 0
 place_none c = refl
 
-pub place_hit : (c : ℕ) (o : Block) (os : List Block) → c ≤ o.0 → place c (o ∷ os) ≡ 0
+pub place_hit : (c : ℕ) (o : Block) (os : List Block) → c ≤ o.0 → how_many_less c (o ∷ os) ≡ 0
 place_hit c o os h =
-    let is : nat_lt o.0 c ≡ false = grind (arith, nat_tests) in ap (λ b. cond b (suc (place c os)) 0) is
+    let is : nat_lt o.0 c ≡ false = grind (arith, nat_tests) in ap (λ b. cond b (suc (how_many_less c os)) 0) is
 
-pub place_miss : (c : ℕ) (o : Block) (os : List Block) → o.0 < c → place c (o ∷ os) ≡ place c os + 1
+pub place_miss : (c : ℕ) (o : Block) (os : List Block) → o.0 < c → how_many_less c (o ∷ os) ≡ how_many_less c os + 1
 place_miss c o os h =
-    let next : suc (place c os) ≡ place c os + 1 = omega arith in
+    let next : suc (how_many_less c os) ≡ how_many_less c os + 1 = omega arith in
     let is : nat_lt o.0 c ≡ true = grind (arith, nat_tests) in
-    ap (λ b. cond b (suc (place c os)) 0) is ∙ next
+    ap (λ b. cond b (suc (how_many_less c os)) 0) is ∙ next
 
 less : (a b : ℕ) → nat_lt b a ≡ false → b ≢ a → nat_cmp a b ≡ Less
 less a b n d = grind (arith, nat_tests)
@@ -79,16 +79,16 @@ module _ (c : ℕ) (ws : List (List ℕ)) where
   Put p os r = by_order r ((c, ws) ∷ p ∷ os) ((p.0, ws) ∷ os) (p ∷ put nat_cmp c ws os)
 
   abbrev At : Block → List Block → Bool → ℕ
-  At p os b = cond b (suc (place c os)) 0
+  At p os b = cond b (suc (how_many_less c os)) 0
 
   -- an extension is put over that of its singleton
-  pub put_there : (os : List Block) (o : Block) → slice_get os (place c os) ≡ Some o → o.0 ≡ c
-      → slice_set os (place c os) (c, ws) ≡ put nat_cmp c ws os
+  pub put_there : (os : List Block) (o : Block) → slice_get os (how_many_less c os) ≡ Some o → o.0 ≡ c
+      → slice_set os (how_many_less c os) (c, ws) ≡ put nat_cmp c ws os
   put_there [] o e s = absurd (true≢false (sym (ap is_some e)))
   put_there (p ∷ os) o e s = by_test (nat_lt p.0 c) refl (put_there os o)
     where
       by_test : (b : Bool) → nat_lt p.0 c ≡ b
-          → (slice_get os (place c os) ≡ Some o → o.0 ≡ c → slice_set os (place c os) (c, ws) ≡ put nat_cmp c ws os)
+          → (slice_get os (how_many_less c os) ≡ Some o → o.0 ≡ c → slice_set os (how_many_less c os) (c, ws) ≡ put nat_cmp c ws os)
           → slice_set (p ∷ os) (At p os b) (c, ws) ≡ Put p os (nat_cmp c p.0)
       by_test true q more =
           ap (λ l. p ∷ l) (more (subst (λ b. slice_get (p ∷ os) (At p os b) ≡ Some o) q e) s)
@@ -98,14 +98,14 @@ module _ (c : ℕ) (ws : List (List ℕ)) where
           ap (λ d. (d, ws) ∷ os) (sym (here ∙ s)) ∙ sym (ap (Put p os) (equal c p.0 (here ∙ s)))
 
   -- and another one is put before the first that is greater
-  pub put_new : (os : List Block) → ((o : Block) → slice_get os (place c os) ≡ Some o → o.0 ≢ c)
-      → insert os (place c os) (c, ws) ≡ put nat_cmp c ws os
+  pub put_new : (os : List Block) → ((o : Block) → slice_get os (how_many_less c os) ≡ Some o → o.0 ≢ c)
+      → insert os (how_many_less c os) (c, ws) ≡ put nat_cmp c ws os
   put_new [] new = refl
   put_new (p ∷ os) new = by_test (nat_lt p.0 c) refl (put_new os)
     where
       by_test : (b : Bool) → nat_lt p.0 c ≡ b
-          → (((o : Block) → slice_get os (place c os) ≡ Some o → o.0 ≢ c)
-          → insert os (place c os) (c, ws) ≡ put nat_cmp c ws os)
+          → (((o : Block) → slice_get os (how_many_less c os) ≡ Some o → o.0 ≢ c)
+          → insert os (how_many_less c os) (c, ws) ≡ put nat_cmp c ws os)
           → insert (p ∷ os) (At p os b) (c, ws) ≡ Put p os (nat_cmp c p.0)
       by_test true q more =
           ap (λ l. p ∷ l) (more (λ o e. new o (subst (λ b. slice_get (p ∷ os) (At p os b) ≡ Some o) (sym q) e)))
@@ -115,11 +115,11 @@ module _ (c : ℕ) (ws : List (List ℕ)) where
           sym (ap (Put p os) (less c p.0 q other))
 
 -- the place is one of the list, or its end
-pub place_fits : (c : ℕ) (os : List Block) → place c os ≤ length os
+pub place_fits : (c : ℕ) (os : List Block) → how_many_less c os ≤ length os
 place_fits c [] = omega arith
 place_fits c (o ∷ os) =
     let h = place_fits c os in
-    elim (nat_lt o.0 c) as (λ b. cond b (suc (place c os)) 0 ≤ suc (length os)) [
+    elim (nat_lt o.0 c) as (λ b. cond b (suc (how_many_less c os)) 0 ≤ suc (length os)) [
       | true ↦ omega (arith, h)
       | false ↦ omega arith
     ]

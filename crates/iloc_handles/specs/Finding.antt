@@ -6,40 +6,44 @@ use Rattle.iloc_locale.specs.LocaleReading.{unknown_locale}
 use Rattle.iloc_locale.specs.declared.locale.Locale.{Locale}
 use Rattle.iloc_calls.specs.declared.status.Status.{Status}
 use Rattle.iloc_calls.specs.declared.status.Status.TheVariants.{Done, InvalidLanguage, InvalidSubtag, InvalidExtension, DuplicatedExtension, OutOfMemory, BufferTooSmall, UnknownNumber, NotFound}
-use Rattle.iloc_handles.specs.Held.{meaning_of}
+use Rattle.iloc_handles.specs.Held.{held_locale}
 
 -- a relation of the locale before, the locale after, and the status
 abbrev pub Changing : Type 1
 Changing = meaning.Locale → meaning.Locale → Status → Type 0
 
--- a handle without a box is changed to another locale than `und`, so that a box is wanted, and has none afterwards
+-- a handle without a box is changed to another locale than `und`, so that a box is wanted, and has
+-- none afterwards
 abbrev pub LacksBox : Changing → Option Locale → Option Locale → Type 0
-LacksBox P None None = (M : meaning.Locale) × (s : Status) × P unknown_locale M s × (M ≢ unknown_locale)
+LacksBox P None None = (M : meaning.Locale) × (s : Status) × P unknown_locale M s
+    × (M ≢ unknown_locale)
 LacksBox P _ _ = ⊥
 
 -- the locale of the handle is changed so; or a box was wanted, and memory for it was refused
 abbrev pub Changes : Changing → Option Locale → Option Locale → Status → Type 0
 Changes P before after status =
-    P (meaning_of before) (meaning_of after) status ⊎ ((status ≡ OutOfMemory) × LacksBox P before after)
+    P (held_locale before) (held_locale after) status
+    ⊎ ((status ≡ OutOfMemory) × LacksBox P before after)
 
 -- Setting.
 
 -- why a text is refused: it has the fault, or memory was wanted to parse it
-abbrev pub Refused : (Fault → Type 0) → Type 0 → Status → Type 0
-Refused HasFault Wants Done = ⊥
-Refused HasFault Wants InvalidLanguage = HasFault meaning.InvalidLanguage
-Refused HasFault Wants InvalidSubtag = HasFault meaning.InvalidSubtag
-Refused HasFault Wants InvalidExtension = HasFault meaning.InvalidExtension
-Refused HasFault Wants DuplicatedExtension = HasFault meaning.DuplicatedExtension
-Refused HasFault Wants OutOfMemory = Wants
-Refused HasFault Wants BufferTooSmall = ⊥
-Refused HasFault Wants UnknownNumber = ⊥
-Refused HasFault Wants NotFound = ⊥
+abbrev pub RefusedFor : (Fault → Type 0) → Type 0 → Status → Type 0
+RefusedFor HasFault Wants Done = ⊥
+RefusedFor HasFault Wants InvalidLanguage = HasFault meaning.InvalidLanguage
+RefusedFor HasFault Wants InvalidSubtag = HasFault meaning.InvalidSubtag
+RefusedFor HasFault Wants InvalidExtension = HasFault meaning.InvalidExtension
+RefusedFor HasFault Wants DuplicatedExtension = HasFault meaning.DuplicatedExtension
+RefusedFor HasFault Wants OutOfMemory = Wants
+RefusedFor HasFault Wants BufferTooSmall = ⊥
+RefusedFor HasFault Wants UnknownNumber = ⊥
+RefusedFor HasFault Wants NotFound = ⊥
 
 -- the locale becomes this; where the text is refused, it stays
 abbrev pub Sets : (meaning.Locale → meaning.Locale → Type 0) → (Fault → Type 0) → Type 0 → Changing
 Sets Becomes HasFault Wants before after Done = Becomes before after
-Sets Becomes HasFault Wants before after status = Refused HasFault Wants status × (after ≡ before)
+Sets Becomes HasFault Wants before after status = RefusedFor HasFault Wants status
+    × (after ≡ before)
 
 -- the locale loses a part that it has; where it has none such, it stays
 abbrev pub Removes : (meaning.Locale → Type 0) → (meaning.Locale → meaning.Locale) → Changing

@@ -5,9 +5,9 @@ use Rattle.iloc_locale.specs.LocaleReading.{value_of, unknown_locale}
 use Rattle.iloc_locale.specs.declared.locale.Locale.{Locale}
 
 -- the locale in its box; without a box, `und`
-abbrev pub meaning_of : Option Locale → meaning.Locale
-meaning_of None = unknown_locale
-meaning_of (Some l) = value_of l
+abbrev pub held_locale : Option Locale → meaning.Locale
+held_locale None = unknown_locale
+held_locale (Some l) = value_of l
 
 -- a handle that stands for `und` has no box
 abbrev pub IsTight : Option Locale → Type 0

@@ -8,6 +8,6 @@ place_of_singleton c [] = 0
 place_of_singleton c (o ∷ os) = if o.0 == c then 0 else suc (place_of_singleton c os)
 
 -- how many stand before the first that is not less
-abbrev pub place : ℕ → List Block → ℕ
-place c [] = 0
-place c (o ∷ os) = if nat_lt o.0 c then suc (place c os) else 0
+abbrev pub how_many_less : ℕ → List Block → ℕ
+how_many_less c [] = 0
+how_many_less c (o ∷ os) = if nat_lt o.0 c then suc (how_many_less c os) else 0

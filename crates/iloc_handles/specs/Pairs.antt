@@ -40,8 +40,10 @@ abbrev pub without_key : {V : Type 0} → Text → List (Text × V) → List (Te
 without_key k pairs = filter (λ p. not (is_same k p.0)) pairs
 
 -- the key is given the value in the map; or memory was wanted, and nothing changed
-abbrev pub HasSet : {V X E : Type 0} → Map V → Text → V → meaning.Locale → meaning.Locale → Result X E → Type 0
-HasSet map k v before after (Ok _) = after ≡ map.with_pairs (put word_cmp k v (map.pairs before)) before
+abbrev pub HasSet : {V X E : Type 0} → Map V → Text → V → meaning.Locale → meaning.Locale
+    → Result X E → Type 0
+HasSet map k v before after (Ok _) =
+    after ≡ map.with_pairs (put word_cmp k v (map.pairs before)) before
 HasSet map k v before after (Err _) = (after ≡ before) × map.KeyWants k (map.pairs before)
 
 -- why a key and a value are refused: the key is none, or else the value is none

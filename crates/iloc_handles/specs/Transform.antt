@@ -1,4 +1,5 @@
--- The transform extension of a locale, t, and its private extension, x: what setting their parts does.
+-- The transform extension of a locale, t, and its private extension, x: what setting their parts
+-- does.
 use Rattle.std.specs.Prelude.{◌≡◌, ◌≢◌, ◌⊎◌, true, List, [], Option, Some, None, option_map, is_some}
 use Rattle.std.specs.FinMap.{find}
 use Rattle.iloc_spec_grammar.specs.Syntax.{Text, pieces, languages, word_cmp, Identifier, Fields}

@@ -6,7 +6,7 @@ ghost use Rattle.iloc_locale.specs.LocaleReading.{value_of};
 ghost use Rattle.iloc_calls.specs.Answers.{Tells};
 ghost use Rattle.iloc_calls.specs.Numbers.{EndsAs, status_of};
 ghost use Rattle.iloc_calls.specs.declared.status.Status.{Status};
-ghost use Rattle.iloc_handles.specs.Held.{IsTight, meaning_of};
+ghost use Rattle.iloc_handles.specs.Held.{IsTight, held_locale};
 ghost use Rattle.iloc_handles.specs.Finding.{Changes};
 
 use crate::handle::{Handle, is_und};
@@ -72,7 +72,7 @@ pub fn tell<P: Part>(
     needed: &mut usize,
 ) -> u32
     ensures same { handle.new.value ≡ handle.old.value }
-    ensures told { EndsAs (Tells (P.text part.now (meaning_of handle.old.value)) buffer.old
+    ensures told { EndsAs (Tells (P.text part.now (held_locale handle.old.value)) buffer.old
         buffer.new needed.new) result }
 {
     match handle.take(alloc) {
@@ -90,7 +90,7 @@ pub fn tell<P: Part>(
 /// Answers the question.
 pub fn ask<Q: Question>(alloc: Global, handle: &mut Handle, question: &Q) -> Q::Answer
     ensures same { handle.new.value ≡ handle.old.value }
-    ensures answered { Q.is_answer question.now (meaning_of handle.old.value) result }
+    ensures answered { Q.is_answer question.now (held_locale handle.old.value) result }
 {
     match handle.take(alloc) {
         Some(boxed) => {

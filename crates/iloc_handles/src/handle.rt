@@ -2,7 +2,7 @@
 ghost use Rattle.iloc_locale.specs.declared.locale.Locale.{Locale};
 ghost use Rattle.iloc_locale.specs.LocaleReading.{unknown_locale, value_of};
 ghost use Rattle.std.specs.Prelude.{◌≡◌, ◌↔◌, IsTrue, Option, Some, None, IfSome, IfNone};
-ghost use Rattle.iloc_handles.specs.Held.{IsTight, meaning_of};
+ghost use Rattle.iloc_handles.specs.Held.{IsTight, held_locale};
 
 use crate::open_box::OpenBox;
 use iloc_locale::Locale;
@@ -88,7 +88,7 @@ impl Handle {
 
     /// Stands for the locale, and holds its box unless that is `und`.
     pub fn keep(&mut self, alloc: Global, boxed: Box<Locale, Global>)
-        ensures means { meaning_of self.new.value ≡ value_of boxed.value }
+        ensures means { held_locale self.new.value ≡ value_of boxed.value }
         ensures tight { IsTight self.new.value }
     {
         if is_und(boxed.as_ref()) {

@@ -2,7 +2,7 @@
 ghost use Rattle.std.specs.Prelude.{◌≡◌};
 ghost use Rattle.iloc_locale.specs.LocaleReading.{value_of};
 ghost use Rattle.iloc_calls.specs.Numbers.{EndsAs};
-ghost use Rattle.iloc_handles.specs.Held.{IsTight, meaning_of};
+ghost use Rattle.iloc_handles.specs.Held.{IsTight, held_locale};
 ghost use Rattle.iloc_handles.specs.Finding.{Changes};
 ghost use Rattle.iloc_handles.specs.Merging.{Merges};
 ghost use Rattle.iloc_handles.specs.Whole.{Copies, ExtendsUnicode};
@@ -61,7 +61,7 @@ fn extend_unicode(alloc: Global, from: &Locale, locale: &mut Locale) -> Status
 /// Changes the locale by that of the other handle, which stays.
 pub fn change_by(alloc: Global, handle: &mut Handle, from: &mut Handle, merge: Merge) -> u32
     ensures same { from.new.value ≡ from.old.value }
-    ensures changed { EndsAs (Changes (Merges merge (meaning_of from.old.value)) handle.old.value
+    ensures changed { EndsAs (Changes (Merges merge (held_locale from.old.value)) handle.old.value
         handle.new.value) result }
     ensures tight { IsTight handle.new.value }
 {

@@ -13,7 +13,7 @@ ghost use Rattle.iloc_handles.specs.Others.{
   other_at,
   other_text_at,
 };
-ghost use Rattle.iloc_handles.specs.OtherPlaces.{place, place_of_singleton};
+ghost use Rattle.iloc_handles.specs.OtherPlaces.{how_many_less, place_of_singleton};
 
 use crate::asking::{Change, Part, Question};
 use iloc_calls::{Status, hand_out_found};
@@ -94,7 +94,7 @@ fn read_other(alloc: Global, text: &[u8]) -> Result<Other, ParseError>
 
 // How many of the others stand before the first that is not less than this singleton.
 fn place_to_put(others: &[Other], ext: u8) -> usize
-    ensures { result ≡ place ext others.now }
+    ensures { result ≡ how_many_less ext others.now }
 {
     let above = others.iter().position(|other| ext <= other.get_ext_byte());
     above.unwrap_or(others.len())

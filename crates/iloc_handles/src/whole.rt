@@ -7,7 +7,7 @@ ghost use Rattle.iloc_spec_parts.specs.Orders.{locale_cmp};
 ghost use Rattle.iloc_locale.specs.LocaleReading.{value_of};
 ghost use Rattle.iloc_calls.specs.Answers.{order_number};
 ghost use Rattle.iloc_calls.specs.Hashing.{hash_of};
-ghost use Rattle.iloc_handles.specs.Held.{meaning_of};
+ghost use Rattle.iloc_handles.specs.Held.{held_locale};
 ghost use Rattle.iloc_handles.specs.Whole.{ParsesTo, Passes, TellsMeant};
 
 use crate::asking::{Change, Question, ask, put_parsed};
@@ -70,7 +70,7 @@ pub fn order_of(alloc: Global, handle: &mut Handle, other: &mut Handle) -> Order
     ensures same { handle.new.value ≡ handle.old.value }
     ensures same_other { other.new.value ≡ other.old.value }
     ensures answered { result
-        ≡ locale_cmp (meaning_of handle.old.value) (meaning_of other.old.value) }
+        ≡ locale_cmp (held_locale handle.old.value) (held_locale other.old.value) }
 {
     match other.take(alloc) {
         Some(boxed) => {
@@ -87,7 +87,7 @@ pub fn eq(alloc: Global, handle: &mut Handle, other: &mut Handle) -> bool
     ensures same { handle.new.value ≡ handle.old.value }
     ensures same_other { other.new.value ≡ other.old.value }
     ensures answered { IsTrue result
-        ↔ (meaning_of handle.old.value ≡ meaning_of other.old.value) }
+        ↔ (held_locale handle.old.value ≡ held_locale other.old.value) }
 {
     order_of(alloc, handle, other).is_eq()
 }
@@ -110,7 +110,7 @@ impl<'a> Question for AgainstBytes<'a> {
 /// Writes 1 if the text means the locale, and else 0.
 pub fn tell_meant(alloc: Global, handle: &mut Handle, text: &[u8], same: &mut u8) -> Status
     ensures same_locale { handle.new.value ≡ handle.old.value }
-    ensures told { TellsMeant text.now (meaning_of handle.old.value) same.old same.new result }
+    ensures told { TellsMeant text.now (held_locale handle.old.value) same.old same.new result }
 {
     match Locale::try_from_utf8(alloc, text) {
         Ok(parsed) => {

@@ -4,7 +4,7 @@ use Rattle.std.specs.List.{flat_map, AllByRecursion}
 use Rattle.iloc_spec_grammar.specs.Syntax.{Language, languages, two_or_three, narrow_raw, wide_raw}
 use Rattle.iloc_spec_grammar.specs.Values.{IsNormal}
 use Rattle.iloc_json.specs.declared.carry_error.CarryError.TheVariants.{Word, OutOfMemory}
-use Rattle.iloc_json.specs.Carrying.{BeginsWith, Refused, SoFar}
+use Rattle.iloc_json.specs.Carrying.{BeginsWith, CannotCarry, SoFar}
 use Rattle.std.proofs.Math.Seq.{take-length}
 
 abbrev pub first_three : List ℕ → List ℕ
@@ -24,7 +24,7 @@ pub dropped : (xs : List ℕ) → 3 ≤ length xs → take (length xs - 3) (drop
 dropped xs h = ap (λ n. take n (drop 3 xs)) (let l = length-three xs h in let e : length xs - 3 ≡ length (drop 3 xs) = omega arith in e) ∙ take-length (drop 3 xs)
 
 -- the next three bytes are bad
-pub refused : (row rest out : List ℕ) (count : ℕ) → SoFar row rest out count → length row % 3 ≡ 0 → 3 ≤ length rest → ((w : List ℕ) → IsNormal (Language two_or_three) w → narrow_raw (Language two_or_three) w ≢ first_three rest) → Refused row (Word count)
+pub refused : (row rest out : List ℕ) (count : ℕ) → SoFar row rest out count → length row % 3 ≡ 0 → 3 ≤ length rest → ((w : List ℕ) → IsNormal (Language two_or_three) w → narrow_raw (Language two_or_three) w ≢ first_three rest) → CannotCarry row (Word count)
 refused row rest out count s whole long bad = (whole, s.words, first_three rest, drop 3 rest, (s.begins.0, s.begins.1, s.begins.2 ∙ ap (λ r. s.begins.0 ++ r) (three_and_rest rest long)), s.counted, (refl, bad))
 
 all_then : (ws : List (List ℕ)) (w : List ℕ) → AllByRecursion (IsNormal (Language two_or_three)) ws → IsNormal (Language two_or_three) w → AllByRecursion (IsNormal (Language two_or_three)) (ws ++ w ∷ [])
@@ -54,7 +54,7 @@ one_more row rest out count w more new s long normal is more_is new_is = record 
 }
 
 -- words that the row begins with, one of them at least, leave a first one
-first_word : (row : List ℕ) (ws : List (List ℕ)) (after : List ℕ) → BeginsWith row ws after → 1 ≤ length ws → length row % 3 ≡ 0 → Refused row OutOfMemory
+first_word : (row : List ℕ) (ws : List (List ℕ)) (after : List ℕ) → BeginsWith row ws after → 1 ≤ length ws → length row % 3 ≡ 0 → CannotCarry row OutOfMemory
 first_word row [] after b h whole = absurd (omega (arith, h))
 first_word row (w ∷ ws) after b h whole = (
   whole,
@@ -68,5 +68,5 @@ first_word row (w ∷ ws) after b h whole = (
 )
 
 -- the next word was read, and there is no memory for it
-pub no_memory : (row rest out : List ℕ) (count : ℕ) (w : List ℕ) → SoFar row rest out count → length row % 3 ≡ 0 → 3 ≤ length rest → IsNormal (Language two_or_three) w → narrow_raw (Language two_or_three) w ≡ first_three rest → Refused row OutOfMemory
+pub no_memory : (row rest out : List ℕ) (count : ℕ) (w : List ℕ) → SoFar row rest out count → length row % 3 ≡ 0 → 3 ≤ length rest → IsNormal (Language two_or_three) w → narrow_raw (Language two_or_three) w ≡ first_three rest → CannotCarry row OutOfMemory
 no_memory row rest out count w s whole long normal is = first_word row (s.words ++ w ∷ []) (drop 3 rest) (begins_then row rest s.words w (drop 3 rest) s.begins long normal is refl) (let l = length-append s.words (w ∷ []) in omega arith) whole

@@ -3,7 +3,7 @@ use Rattle.std.proofs.Common.{◌≡◌, ℕ, List, Option, Some, Result, Ok, Er
 use Rattle.serde_json.specs.Data.{Data, string}
 use Rattle.serde_json.specs.Find.{as_str}
 use Rattle.iloc_spec_grammar.specs.Syntax.{Kind, read, normal, languages, pieces}
-use Rattle.iloc_spec_grammar.specs.Values.{IsNormal, IsIdentifierValue, IsValue, IsWellFormed, identifier_text, text}
+use Rattle.iloc_spec_grammar.specs.Values.{IsNormal, IsIdentifierValue, IsWellFormed, identifier_text, text}
 use Rattle.iloc_spec_grammar.specs.Meaning as faults
 use Rattle.iloc_spec_grammar.proofs.IdentifierTexts.{identifier_text_means, identifier_apart}
 use Rattle.iloc_spec_grammar.proofs.IdentifierLaws as identifiers
@@ -36,13 +36,13 @@ identifier_back i h (Err InvalidExtension) f = absurd (identifier_apart (pieces 
 identifier_back i h (Err DuplicatedExtension) f = absurd (identifier_apart (pieces (identifier_text (identifier_of i))) (identifier_of i) faults.DuplicatedExtension (identifier_text_means (identifier_of i) h) f.0)
 identifier_back i h (Err OutOfMemory) f = refl
 
-pub locale_back : (l : Locale) → IsValue languages (locale_of l) → IsWellFormed (locale_of l) → (r : Result Locale ParseError) → LocaleTextAnswers (text (locale_of l)) r → SucceedsOr OutOfMemory (λ other. locale_of other ≡ locale_of l) r
-locale_back l v h (Ok k) m = one_meaning languages_table (text (locale_of l)) (locale_of k) (locale_of l) m h
-locale_back l v h (Err InvalidLanguage) f = absurd (accepted_no_fault languages_table (text (locale_of l)) (locale_of l) faults.InvalidLanguage h f)
-locale_back l v h (Err InvalidSubtag) f = absurd (accepted_no_fault languages_table (text (locale_of l)) (locale_of l) faults.InvalidSubtag h f)
-locale_back l v h (Err InvalidExtension) f = absurd (accepted_no_fault languages_table (text (locale_of l)) (locale_of l) faults.InvalidExtension h f)
-locale_back l v h (Err DuplicatedExtension) f = absurd (accepted_no_fault languages_table (text (locale_of l)) (locale_of l) faults.DuplicatedExtension h f)
-locale_back l v h (Err OutOfMemory) f = refl
+pub locale_back : (l : Locale) → IsWellFormed (locale_of l) → (r : Result Locale ParseError) → LocaleTextAnswers (text (locale_of l)) r → SucceedsOr OutOfMemory (λ other. locale_of other ≡ locale_of l) r
+locale_back l h (Ok k) m = one_meaning languages_table (text (locale_of l)) (locale_of k) (locale_of l) m h
+locale_back l h (Err InvalidLanguage) f = absurd (accepted_no_fault languages_table (text (locale_of l)) (locale_of l) faults.InvalidLanguage h f)
+locale_back l h (Err InvalidSubtag) f = absurd (accepted_no_fault languages_table (text (locale_of l)) (locale_of l) faults.InvalidSubtag h f)
+locale_back l h (Err InvalidExtension) f = absurd (accepted_no_fault languages_table (text (locale_of l)) (locale_of l) faults.InvalidExtension h f)
+locale_back l h (Err DuplicatedExtension) f = absurd (accepted_no_fault languages_table (text (locale_of l)) (locale_of l) faults.DuplicatedExtension h f)
+locale_back l h (Err OutOfMemory) f = refl
 
 as_json_back : {X : Type 0} (same : X → Type 0) (x : Result X ParseError) → SucceedsOr OutOfMemory same x → SucceedsOr NoRoom same (as_json x)
 as_json_back same (Ok x) h = h

@@ -6,7 +6,7 @@
 
 ghost use Rattle.std.specs.Prelude.{◌≡◌, ℕ, List, IfOk, IfErr};
 ghost use Rattle.iloc_spec_grammar.specs.Syntax.{Text};
-ghost use Rattle.iloc_json.specs.Carrying.{IsOldRow, new_row, Refused};
+ghost use Rattle.iloc_json.specs.Carrying.{IsOldRow, new_row, CannotCarry};
 
 use crate::CarryError;
 use iloc_subtags::Language;
@@ -18,7 +18,7 @@ use std::alloc::Global;
 pub fn carry_v1(alloc: Global, row: &[u8]) -> Result<Vec<u8>, CarryError>
     ensures ok { IfOk result
         (λ v. (ws : List Text) × IsOldRow row.now ws × (v.items ≡ new_row ws)) }
-    ensures err { IfErr result (λ e. Refused row.now e) }
+    ensures err { IfErr result (λ e. CannotCarry row.now e) }
 {
     if row.len() % 3 != 0 {
         return Err(CarryError::Length);

@@ -95,7 +95,6 @@ impl TextValue for Locale {
 
     #[tactic(auto, using(crate::proofs::ReadBack::locale_back))]
     fn write_text(&self, alloc: Global) -> Result<String, AllocError> {
-        let _ = self.is_well_formed();
         printed(self, alloc)
     }
 }

@@ -9,7 +9,7 @@ use Rattle.std.specs.Cmp.Lexicographic.{slice_cmp, pointwise, texts_ties}
 use Rattle.iloc_spec_grammar.specs.Syntax.{word_cmp, is_same}
 use Rattle.iloc_spec_preferences.specs.Keywords as keywords
 use Rattle.iloc_spec_preferences.specs.Keywords.{EnumValue, numbered, variants, further_readings, readings, hijri_kinds}
-use Rattle.iloc_keyword_types.specs.WordTables.{place_of}
+use Rattle.iloc_keyword_types.specs.WordTables.{table_place}
 use Rattle.iloc_keyword_types.proofs.EnumLemmas.{variant, one_word, more_words, entry}
 use Rattle.iloc_keyword_types.specs.CalendarReading.{calendar_reads}
 use Rattle.iloc_spec_grammar.proofs.MapLaws.{same_is}
@@ -90,8 +90,8 @@ pub old_form : (w : List ℕ) → pointwise nat_eq w (codes "islamicc") ≡ true
 unfolding calendar_reads
 old_form w h = rw (same_is w (codes "islamicc") (sym (texts_ties w (codes "islamicc")) ∙ h)) refl
 
-pub plain_form : (w : List ℕ) → pointwise nat_eq w (codes "islamicc") ≡ false → calendar_reads (w ∷ []) ≡ option_map variant (place_of w cs)
-unfolding calendar_reads place_of
+pub plain_form : (w : List ℕ) → pointwise nat_eq w (codes "islamicc") ≡ false → calendar_reads (w ∷ []) ≡ option_map variant (table_place w cs)
+unfolding calendar_reads table_place
 plain_form w h = one w ∙ ap (λ b. option_or (option_map variant (find word_cmp w (numbered 0 cs))) (cond b (Some (9, Some 2)) None)) (sym (texts_ties w (codes "islamicc")) ∙ h) ∙ or_none (option_map variant (find word_cmp w (numbered 0 cs)))
 
 -- two words
@@ -125,8 +125,8 @@ pub no_kind : (v w : List ℕ) → pointwise nat_eq v (codes "islamic") ≡ fals
 unfolding calendar_reads
 no_kind v w h = two v w ∙ ap (λ b. cond b (option_map of_kind (find word_cmp w (numbered 0 hijri_kinds))) None) (sym (texts_ties v (codes "islamic")) ∙ h)
 
-pub with_kind : (v w : List ℕ) → pointwise nat_eq v (codes "islamic") ≡ true → calendar_reads (v ∷ w ∷ []) ≡ option_map of_kind (place_of w hijri_kinds)
-unfolding calendar_reads place_of
+pub with_kind : (v w : List ℕ) → pointwise nat_eq v (codes "islamic") ≡ true → calendar_reads (v ∷ w ∷ []) ≡ option_map of_kind (table_place w hijri_kinds)
+unfolding calendar_reads table_place
 with_kind v w h = two v w ∙ ap (λ b. cond b (option_map of_kind (find word_cmp w (numbered 0 hijri_kinds))) None) (sym (texts_ties v (codes "islamic")) ∙ h)
 
 -- three words, and more

@@ -18,7 +18,7 @@ use Rattle.iloc_spec_parts.specs.SingleValues.{single}
 use Rattle.iloc_spec_preferences.specs.Keywords.{EnumKeyword, CalendarAlgorithm, CollationType, CollationCaseFirst, CollationNumericOrdering, CurrencyFormatStyle, EmojiPresentationStyle, FirstDay, HourCycle, LineBreakStyle, LineBreakWordHandling, MeasurementSystem, MeasurementUnitOverride, SentenceBreakSupressions, CommonVariantType, EnumValue, numbered, variants, further_readings, readings, unspelled_value, enum_reads, enum_words, enum_gives}
 use Rattle.iloc_spec_preferences.proofs.KeywordLaws.{reads_what_it_gives}
 use Rattle.iloc_word_list.specs.declared.errors.PreferencesParseError.TheVariants.{InvalidKeywordValue}
-use Rattle.iloc_keyword_types.specs.WordTables.{place_of, word_at}
+use Rattle.iloc_keyword_types.specs.WordTables.{table_place, word_at}
 use Rattle.iloc_keyword_types.specs.Reads.{Reads}
 use Rattle.iloc_spec_grammar.proofs.MapLaws.{same_is}
 
@@ -48,8 +48,8 @@ more_words v w ws (e ∷ es) = elim (word_cmp v e.0) as (λ r. cond (is_eq (orde
 ]
 
 -- what the words read as: the variant of the only word
-by_word : (ws vs : List (List ℕ)) → find (slice_cmp word_cmp) (spelled_value ws) (map entry (numbered 0 vs)) ≡ option_and_then (λ w. option_map variant (place_of w vs)) (single (spelled_value ws))
-unfolding place_of
+by_word : (ws vs : List (List ℕ)) → find (slice_cmp word_cmp) (spelled_value ws) (map entry (numbered 0 vs)) ≡ option_and_then (λ w. option_map variant (table_place w vs)) (single (spelled_value ws))
+unfolding table_place
 by_word [] vs = one_word (codes "true") (numbered 0 vs)
 by_word (w ∷ []) vs = one_word w (numbered 0 vs)
 by_word (v ∷ w ∷ ws) vs = more_words v w ws (numbered 0 vs)
@@ -57,7 +57,7 @@ by_word (v ∷ w ∷ ws) vs = more_words v w ws (numbered 0 vs)
 all_readings : (k : EnumKeyword) → further_readings k ≡ [] → readings k ≡ map entry (numbered 0 (variants k))
 all_readings k plain = ap (λ r. map entry (numbered 0 (variants k)) ++ r) plain ∙ append-nil (map entry (numbered 0 (variants k)))
 
-pub read_by_word : (k : EnumKeyword) (vs : List (List ℕ)) → vs ≡ variants k → further_readings k ≡ [] → (ws : List (List ℕ)) → enum_reads k ws ≡ option_and_then (λ w. option_map variant (place_of w vs)) (single (spelled_value ws))
+pub read_by_word : (k : EnumKeyword) (vs : List (List ℕ)) → vs ≡ variants k → further_readings k ≡ [] → (ws : List (List ℕ)) → enum_reads k ws ≡ option_and_then (λ w. option_map variant (table_place w vs)) (single (spelled_value ws))
 read_by_word k vs same plain ws = ap (find (slice_cmp word_cmp) (spelled_value ws)) (all_readings k plain ∙ ap (λ vs. map entry (numbered 0 vs)) (sym same)) ∙ by_word ws vs
 
 module _ {X : Type 0} (place : X → ℕ) where

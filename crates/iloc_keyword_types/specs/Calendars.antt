@@ -25,8 +25,8 @@ abbrev pub value_of : CalendarAlgorithm → EnumValue
 value_of c = (place c, kind c)
 
 -- The text of a value.
-abbrev pub text_of : EnumValue → Option Text
-text_of v = option_map join (enum_words keywords.CalendarAlgorithm v)
+abbrev pub enum_text : EnumValue → Option Text
+enum_text v = option_map join (enum_words keywords.CalendarAlgorithm v)
 
 pub placed_at : (c : CalendarAlgorithm)
     → slice_get (variants keywords.CalendarAlgorithm) (place c)

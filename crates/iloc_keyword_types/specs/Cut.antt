@@ -1,5 +1,5 @@
 -- Where a text is cut into region and suffix.
-use Rattle.std.specs.Prelude.{ℕ, List, length, min}
+use Rattle.std.specs.Prelude.{ℕ, length, min}
 use Rattle.iloc_spec_grammar.specs.Syntax.{Text}
 use Rattle.iloc_spec_preferences.specs.Subdivisions.{region_length}
 

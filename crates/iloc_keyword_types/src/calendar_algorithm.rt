@@ -3,7 +3,7 @@ ghost use Rattle.std.specs.Prelude.{◌≡◌, Some, None, option_map};
 ghost use Rattle.iloc_spec_preferences.specs.Keywords.{CalendarAlgorithm as the_keyword, variants};
 ghost use Rattle.iloc_keyword_types.specs.WordTables.{word_at};
 ghost use Rattle.iloc_keyword_types.specs.Hijri.{kind_place};
-ghost use Rattle.iloc_keyword_types.specs.Calendars.{place, kind, placed_at, value_of, text_of};
+ghost use Rattle.iloc_keyword_types.specs.Calendars.{place, kind, placed_at, value_of, enum_text};
 
 use crate::WordEnum;
 use crate::hijri::HijriCalendarAlgorithm;
@@ -45,7 +45,7 @@ impl CalendarAlgorithm {
     /// The text of the calendar: of a Hijri calendar of a kind, `islamic-` and the word of the kind.
     #[tactic(auto, unfolding(iloc_spec_grammar::specs::Syntax::join))]
     pub fn as_str(&self) -> &'static str
-        ensures { text_of (value_of self.now) ≡ Some result.now }
+        ensures { enum_text (value_of self.now) ≡ Some result.now }
     {
         match self {
             Self::Hijri(kind) => hijri_text(*kind),
@@ -77,7 +77,7 @@ impl CalendarAlgorithm {
 // The text of a Hijri calendar.
 #[tactic(auto, unfolding(iloc_spec_grammar::specs::Syntax::join))]
 fn hijri_text(kind: Option<HijriCalendarAlgorithm>) -> &'static str
-    ensures { text_of (9, option_map kind_place kind) ≡ Some result.now }
+    ensures { enum_text (9, option_map kind_place kind) ≡ Some result.now }
 {
     match kind {
         None => "islamic",

@@ -2,7 +2,7 @@
 ghost use Rattle.std.specs.Prelude.{◌≡◌, ℕ, List, Some, map, option_map, find, nat_eq, slice_get};
 ghost use Rattle.std.specs.Cmp.Lexicographic.{pointwise};
 ghost use Rattle.iloc_spec_preferences.specs.Keywords.{numbered};
-ghost use Rattle.iloc_keyword_types.specs.WordTables.{place_of, word_at};
+ghost use Rattle.iloc_keyword_types.specs.WordTables.{table_place, word_at};
 
 /// An enum of which each variant has a word of its own.
 pub trait WordEnum: Copy + 'static {
@@ -26,7 +26,7 @@ pub trait WordEnum: Copy + 'static {
 
 /// The variant of which this is the word.
 pub fn find_word<E: WordEnum>(word: &str) -> Option<E>
-    ensures { option_map E.place result ≡ place_of word.now E.words }
+    ensures { option_map E.place result ≡ table_place word.now E.words }
 {
     first_with_word(E::all(), word)
 }

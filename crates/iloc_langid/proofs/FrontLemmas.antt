@@ -15,7 +15,7 @@ use Rattle.iloc_subtags.proofs.Judged.{without_memory, runs_out}
 use Rattle.iloc_langid.specs.declared.identifier.LanguageIdentifier.{LanguageIdentifier}
 use Rattle.iloc_langid.specs.declared.plain.PlainParts.{PlainParts}
 use Rattle.iloc_langid.specs.PlainReads.{IsPlainFront}
-use Rattle.iloc_langid.specs.Reads.{value_of, IdentifierReads, IdentifierWantsMemory, FrontReadsBy, FrontReads, VariantsReads}
+use Rattle.iloc_langid.specs.Reads.{value_of, IdentifierReads, IdentifierWantsMemory, FrontComputed, FrontReads, VariantsReads}
 
 pub no_empty_language : is_word (Language languages) [] ≡ false
 unfolding is_word languages
@@ -48,17 +48,17 @@ plain_of i = record { language = i.language; script = i.script; region = i.regio
 
 -- these, and the variants after them
 module _ (ps us rest : List (List ℕ)) (i : LanguageIdentifier) (plain : IsPlainFront ps us (plain_of i)) where
-  pub front_gives : VariantsReads us rest (Ok i.variants) → FrontReadsBy ps rest (Ok i)
+  pub front_gives : VariantsReads us rest (Ok i.variants) → FrontComputed ps rest (Ok i)
   unfolding front_of after_front
   front_gives v =
       let given : VariantsReads (after_region ps) rest (Ok i.variants) = subst (λ x. VariantsReads x rest (Ok i.variants)) plain.after v in
       (plain.word, given.1, (λ j. record { language = plain.language j; script = plain.script j; region = plain.region j; variants = given.0 j }), given.2)
 
-  front_refuses : (f : ParseError) → VariantsReads us rest (Err f) → FrontReadsBy ps rest (Err f)
+  front_refuses : (f : ParseError) → VariantsReads us rest (Err f) → FrontComputed ps rest (Err f)
   unfolding front_of
   front_refuses f v = by f (subst (λ x. VariantsReads x rest (Err f)) plain.after v)
     where
-      by : (f : ParseError) → VariantsReads (after_region ps) rest (Err f) → FrontReadsBy ps rest (Err f)
+      by : (f : ParseError) → VariantsReads (after_region ps) rest (Err f) → FrontComputed ps rest (Err f)
       by InvalidSubtag v = inr (refl, (plain.word, v.1))
       by OutOfMemory v = (plain.word, v)
       by InvalidLanguage v = let other = v.0 in cc
@@ -66,7 +66,7 @@ module _ (ps us rest : List (List ℕ)) (i : LanguageIdentifier) (plain : IsPlai
       by DuplicatedExtension v = let other = v.0 in cc
 
   -- by the answer of what fills in the variants
-  pub front_filled : (r : Result (Unit {0}) ParseError) → VariantsReads us rest (result_and r (Ok i.variants)) → FrontReadsBy ps rest (result_and r (Ok i))
+  pub front_filled : (r : Result (Unit {0}) ParseError) → VariantsReads us rest (result_and r (Ok i.variants)) → FrontComputed ps rest (result_and r (Ok i))
   front_filled (Ok _) v = front_gives v
   front_filled (Err f) v = front_refuses f v
 
@@ -84,7 +84,7 @@ refused_wants ps f h = runs_out (λ (x : Unit {0}). ⊤) (HasIdentifierFault lan
 
 -- where the front should end before rest
 module _ (p : List ℕ) (qs rest : List (List ℕ)) (ends : EndsWords rest) (r : List (List ℕ)) where
-  cut_refuses : (f : ParseError) → FrontReadsBy (p ∷ (qs ++ rest)) r (Err f) → ReadsWithMemory (p ∷ qs) (Err f)
+  cut_refuses : (f : ParseError) → FrontComputed (p ∷ (qs ++ rest)) r (Err f) → ReadsWithMemory (p ∷ qs) (Err f)
   cut_refuses InvalidLanguage (inl g) = not_a_language g.1
   cut_refuses InvalidLanguage (inr g) = let other = g.0 in cc
   cut_refuses InvalidSubtag (inl g) = let other = g.0 in cc
@@ -95,10 +95,10 @@ module _ (p : List ℕ) (qs rest : List (List ℕ)) (ends : EndsWords rest) (r :
   cut_refuses DuplicatedExtension (inl g) = let other = g.0 in cc
   cut_refuses DuplicatedExtension (inr g) = let other = g.0 in cc
 
-  cut_gives : (i : LanguageIdentifier) → FrontReadsBy (p ∷ (qs ++ rest)) r (Ok i) → r ≡ rest → IdentifierReads (p ∷ qs) (Ok i)
+  cut_gives : (i : LanguageIdentifier) → FrontComputed (p ∷ (qs ++ rest)) r (Ok i) → r ≡ rest → IdentifierReads (p ∷ qs) (Ok i)
   cut_gives i g e = subst (IdentifierMeans languages (p ∷ qs)) (sym g.2) (front_means languages p qs rest ends g.0 g.1 (sym g.3 ∙ e))
 
-  cut_more : (i : LanguageIdentifier) → FrontReadsBy (p ∷ (qs ++ rest)) r (Ok i) → r ≢ rest → IdentifierReads (p ∷ qs) (Err InvalidSubtag)
+  cut_more : (i : LanguageIdentifier) → FrontComputed (p ∷ (qs ++ rest)) r (Ok i) → r ≢ rest → IdentifierReads (p ∷ qs) (Err InvalidSubtag)
   cut_more i g n = not_an_identifier g.0 (refuses_more languages p qs rest ends (λ e. n (g.3 ∙ e)))
 
 ends_nowhere : EndsWords []
@@ -106,10 +106,10 @@ ends_nowhere = record { script = tt; region = tt; variant = tt }
 
 -- all the pieces
 
-at_end : (p : List ℕ) (ps r : List (List ℕ)) (x : Result LanguageIdentifier ParseError) → FrontReadsBy (p ∷ ps) r x → FrontReadsBy (p ∷ (ps ++ [])) r x
-at_end p ps r x g = subst (λ l. FrontReadsBy (p ∷ l) r x) (sym (append-nil ps)) g
+at_end : (p : List ℕ) (ps r : List (List ℕ)) (x : Result LanguageIdentifier ParseError) → FrontComputed (p ∷ ps) r x → FrontComputed (p ∷ (ps ++ [])) r x
+at_end p ps r x g = subst (λ l. FrontComputed (p ∷ l) r x) (sym (append-nil ps)) g
 
-pub whole_refuses : (ps r : List (List ℕ)) (f : ParseError) → FrontReadsBy ps r (Err f) → ReadsWithMemory ps (Err f)
+pub whole_refuses : (ps r : List (List ℕ)) (f : ParseError) → FrontComputed ps r (Err f) → ReadsWithMemory ps (Err f)
 whole_refuses (p ∷ ps) r f g = cut_refuses p ps [] ends_nowhere r f (at_end p ps r (Err f) g)
 whole_refuses [] r InvalidLanguage (inl g) = not_a_language g.1
 whole_refuses [] r InvalidLanguage (inr g) = let other = g.0 in cc
@@ -121,39 +121,39 @@ whole_refuses [] r InvalidExtension (inr g) = let other = g.0 in cc
 whole_refuses [] r DuplicatedExtension (inl g) = let other = g.0 in cc
 whole_refuses [] r DuplicatedExtension (inr g) = let other = g.0 in cc
 
-pub whole_gives : (ps r : List (List ℕ)) (i : LanguageIdentifier) → FrontReadsBy ps r (Ok i) → r ≡ [] → IdentifierReads ps (Ok i)
+pub whole_gives : (ps r : List (List ℕ)) (i : LanguageIdentifier) → FrontComputed ps r (Ok i) → r ≡ [] → IdentifierReads ps (Ok i)
 whole_gives [] r i g e = no_language g.0
 whole_gives (p ∷ ps) r i g e = cut_gives p ps [] ends_nowhere r i (at_end p ps r (Ok i) g) e
 
-pub whole_more : (ps r : List (List ℕ)) (i : LanguageIdentifier) → FrontReadsBy ps r (Ok i) → r ≢ [] → IdentifierReads ps (Err InvalidSubtag)
+pub whole_more : (ps r : List (List ℕ)) (i : LanguageIdentifier) → FrontComputed ps r (Ok i) → r ≢ [] → IdentifierReads ps (Err InvalidSubtag)
 whole_more [] r i g n = no_language g.0
 whole_more (p ∷ ps) r i g n = cut_more p ps [] ends_nowhere r i (at_end p ps r (Ok i) g) n
 
 -- the pieces before the first block
 
-at_block : (p : List ℕ) (ps r : List (List ℕ)) (x : Result LanguageIdentifier ParseError) → FrontReadsBy (p ∷ ps) r x → FrontReadsBy (p ∷ (front ps ++ from_block ps)) r x
-at_block p ps r x g = subst (λ l. FrontReadsBy (p ∷ l) r x) (sym (front-from_block ps)) g
+at_block : (p : List ℕ) (ps r : List (List ℕ)) (x : Result LanguageIdentifier ParseError) → FrontComputed (p ∷ ps) r x → FrontComputed (p ∷ (front ps ++ from_block ps)) r x
+at_block p ps r x g = subst (λ l. FrontComputed (p ∷ l) r x) (sym (front-from_block ps)) g
 
 block_ends : (ps : List (List ℕ)) → EndsWords (from_block ps)
 block_ends ps = starts_ends (from_block ps) (from_block_starts ps)
 
-pub head_refuses : (ps r : List (List ℕ)) (f : ParseError) → FrontReadsBy ps r (Err f) → ReadsWithMemory (head ps) (Err f)
+pub head_refuses : (ps r : List (List ℕ)) (f : ParseError) → FrontComputed ps r (Err f) → ReadsWithMemory (head ps) (Err f)
 head_refuses (p ∷ ps) r f g = cut_refuses p (front ps) (from_block ps) (block_ends ps) r f (at_block p ps r (Err f) g)
 head_refuses [] r f g = whole_refuses [] r f g
 
-starts_there : (p : List ℕ) (ps r : List (List ℕ)) (i : LanguageIdentifier) → FrontReadsBy (p ∷ ps) r (Ok i) → starts_block r ≡ true → r ≡ from_block ps
+starts_there : (p : List ℕ) (ps r : List (List ℕ)) (i : LanguageIdentifier) → FrontComputed (p ∷ ps) r (Ok i) → starts_block r ≡ true → r ≡ from_block ps
 starts_there p ps r i g s =
     let cut : r ≡ after_front (p ∷ front ps) ++ from_block ps = (at_block p ps r (Ok i) g).3 ∙ after_front-append p (front ps) (from_block ps) (block_ends ps) in
     let none : after_front (p ∷ front ps) ≡ [] = starts_empty (after_front (p ∷ front ps)) (from_block ps) (after_long p (front ps) (front_long ps)) (ap starts_block (sym cut) ∙ s) in
     cut ∙ ap (λ l. l ++ from_block ps) none
 
-pub head_gives : (ps r : List (List ℕ)) (i : LanguageIdentifier) → FrontReadsBy ps r (Ok i) → starts_block r ≡ true → IdentifierReads (head ps) (Ok i) × (r ≡ after_head ps)
+pub head_gives : (ps r : List (List ℕ)) (i : LanguageIdentifier) → FrontComputed ps r (Ok i) → starts_block r ≡ true → IdentifierReads (head ps) (Ok i) × (r ≡ after_head ps)
 head_gives [] r i g s = no_language g.0
 head_gives (p ∷ ps) r i g s =
     let e = starts_there p ps r i g s in
     (cut_gives p (front ps) (from_block ps) (block_ends ps) r i (at_block p ps r (Ok i) g) e, e)
 
-pub head_more : (ps r : List (List ℕ)) (i : LanguageIdentifier) → FrontReadsBy ps r (Ok i) → starts_block r ≡ false → IdentifierReads (head ps) (Err InvalidSubtag)
+pub head_more : (ps r : List (List ℕ)) (i : LanguageIdentifier) → FrontComputed ps r (Ok i) → starts_block r ≡ false → IdentifierReads (head ps) (Err InvalidSubtag)
 head_more [] r i g s = no_language g.0
 head_more (p ∷ ps) r i g s =
     cut_more p (front ps) (from_block ps) (block_ends ps) r i (at_block p ps r (Ok i) g) (λ e. true≢false (sym (from_block_starts ps) ∙ ap starts_block (sym e) ∙ s))
@@ -169,7 +169,7 @@ peeked_some [] p e = cc
 peeked_some (q ∷ ps) p e = λ h. cc
 
 -- the reading from the left is that of the longest front
-pub front_reads : (ps rest : List (List ℕ)) (r : Result LanguageIdentifier ParseError) → FrontReadsBy ps rest r → FrontReads ps rest r
+pub front_reads : (ps rest : List (List ℕ)) (r : Result LanguageIdentifier ParseError) → FrontComputed ps rest r → FrontReads ps rest r
 front_reads (p ∷ ps) rest (Ok i) g = (front_of (p ∷ ps), subst (IdentifierFront languages (p ∷ ps) (front_of (p ∷ ps))) (sym g.3) (front_is_front p ps g.0), g.1, g.2)
 front_reads (p ∷ ps) rest (Err InvalidSubtag) (inl g) = let other = g.0 in cc
 front_reads (p ∷ ps) rest (Err InvalidSubtag) (inr g) = inr (refl, (front_of (p ∷ ps), after_front (p ∷ ps), front_is_front p ps g.1.0, g.1.1))

@@ -1,5 +1,5 @@
 -- The normal text of an identifier.
-use Rattle.std.proofs.Common.{◌≡◌, ◌↔◌, inr, Ok, Err, ℕ, false, true, List, length, sym, ap, ◌∙◌, subst, true≢false}
+use Rattle.std.proofs.Common.{◌≡◌, ◌↔◌, inr, Ok, Err, ℕ, false, true, List, length, sym, ap, ◌∙◌, subst, true≢false, arith}
 use Rattle.std.specs.Cow.{cow_str_bytes}
 use Rattle.std.specs.declared.borrow.CowStr.{CowStr}
 use Rattle.iloc_spec_grammar.specs.Syntax.{pieces, languages, Identifier}
@@ -14,17 +14,26 @@ use Rattle.iloc_langid.specs.PlainTexts.{IsNormalOfPlain}
 
 -- the text of the meaning is the normal text
 pub is_normalized : (input : List ℕ) (i : Identifier) (t : List ℕ) → IdentifierMeans languages (pieces input) i → t ≡ identifier_text i → IsNormalizedIdentifier input t
-is_normalized input i t m e = record {
-  text_is = (i, m, e);
-  again = (i, subst (λ u. IdentifierMeans languages (pieces u) i) (sym e) (identifier_means_again (pieces input) i m), e);
-  same = λ u j k mj mk.
-      let by = same_identifier_meaning (pieces input) (pieces u) j k mj mk in
-      let is : t ≡ identifier_text j = e ∙ ap identifier_text (one_meaning (pieces input) i j m mj) in
-      (λ p. is ∙ by.0 p, λ p. by.1 (sym is ∙ p));
-  long = λ u j mj mu. sym (length-identifier_means languages u j mu) ∙ ap length (sym (e ∙ ap identifier_text (one_meaning (pieces input) i j m mj)));
-  steps = subst (Leads (IdentifierTextStep languages) 2 input) (sym e) (identifier_chain_to_text languages input i m);
-  together = λ u j k mj mk. identifiers_lead_to_one languages input u j k mj mk;
-}
+is_normalized input i t m e =
+    let as_long : (u : List ℕ) (j : Identifier) → IdentifierMeans languages (pieces input) j
+    → IdentifierMeans languages (pieces u) j → length u ≡ length t =
+    λ u j mj mu.
+    sym (length-identifier_means languages u j mu)
+    ∙ ap length (sym (e ∙ ap identifier_text (one_meaning (pieces input) i j m mj))) in
+    record {
+      is = record {
+        text_is = (i, m, e);
+        again = (i, subst (λ u. IdentifierMeans languages (pieces u) i) (sym e) (identifier_means_again (pieces input) i m), e);
+        same = λ u j k mj mk.
+            let by = same_identifier_meaning (pieces input) (pieces u) j k mj mk in
+            let is : t ≡ identifier_text j = e ∙ ap identifier_text (one_meaning (pieces input) i j m mj) in
+            (λ p. is ∙ by.0 p, λ p. by.1 (sym is ∙ p));
+        shortest = λ u j mj mu. omega (arith, as_long u j mj mu);
+        steps = subst (Leads (IdentifierTextStep languages) 2 input) (sym e) (identifier_chain_to_text languages input i m);
+        together = λ u j k mj mk. identifiers_lead_to_one languages input u j k mj mk;
+      };
+      long = as_long;
+    }
 
 -- memory was refused for the text of another than the input
 pub refuses_memory : (input : List ℕ) (i : Identifier) → IdentifierMeans languages (pieces input) i → (input ≡ identifier_text i → false ≡ true) → NormalizingIdentifierWantsMemory input

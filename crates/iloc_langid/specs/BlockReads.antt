@@ -16,15 +16,19 @@ abbrev pub answer_of : {X : Type 0} → Result X Fault → Result X ParseError
 answer_of (Ok x) = Ok x
 answer_of (Err f) = Err (error_of f)
 
--- the keyword that the pieces after a singleton are, which are all that follows it; or the fault of this block
+-- the keyword that the pieces after a singleton are, which are all that follows it; or the fault of
+-- this block
 unfoldable pub block_result : ℕ → List Text → Result Keyword Fault
-block_result c ps = if is_small_block (c, ps) [] then Ok (keyword_read ps) else Err (block_fault (c, ps))
+block_result c ps =
+    if is_small_block (c, ps) [] then Ok (keyword_read ps) else Err (block_fault (c, ps))
 
 -- why no key stands first
 abbrev pub refusal_without_key : List Text → ParseError
-refusal_without_key ps = if is_word Attribute (first_piece ps) then InvalidSubtag else InvalidExtension
+refusal_without_key ps =
+    if is_word Attribute (first_piece ps) then InvalidSubtag else InvalidExtension
 
 -- the one value besides `true`, of some that were read and those of the pieces
 unfoldable pub value_result : List Text → List Text → Result (Option Text) Fault
-value_result ws ps = if list_all (is_word Attribute) ps && nat_le (length (ws ++ normal_values ps)) 1
+value_result ws ps =
+    if list_all (is_word Attribute) ps && nat_le (length (ws ++ normal_values ps)) 1
     then Ok (first_item (ws ++ normal_values ps)) else Err faults.InvalidSubtag

@@ -7,7 +7,8 @@ use Rattle.iloc_spec_grammar.specs.Meaning.{IdentifierMeans}
 use Rattle.iloc_spec_grammar.specs.Values.{identifier_text}
 use Rattle.iloc_writeable.specs.Writing.{IsLent}
 
--- t means an identifier, whose text is answered: t itself if it is that, and else a text of its own, unless memory runs out
+-- t means an identifier, whose text is answered: t itself if it is that, and else a text of its
+-- own, unless memory runs out
 pub record IsNormalOfPlain {Z E : Type 0} (t : Text) (r : Result (CowStr Z) E) : Type 0 where
   pub identifier : Identifier
   pub means : IdentifierMeans languages (pieces t) identifier

@@ -12,7 +12,8 @@ use Rattle.iloc_langid.specs.declared.identifier.LanguageIdentifier.{LanguageIde
 
 -- the value of an identifier
 abbrev pub value_of : LanguageIdentifier → Identifier
-value_of i = record { language = i.language; script = i.script; region = i.region; variants = i.variants }
+value_of i =
+    record { language = i.language; script = i.script; region = i.region; variants = i.variants }
 
 -- nothing but a language: the text is then lent
 abbrev pub IsIdentifierLanguageAlone : LanguageIdentifier → Type 0
@@ -23,10 +24,11 @@ abbrev pub IdentifierMeansOnly : Text → Identifier → Type 0
 IdentifierMeansOnly t i = IdentifierMeans languages (pieces t) i
     × ((j : Identifier) → IdentifierMeans languages (pieces t) j → j ≡ i)
 
--- a language stands first, and more than four variants at the front of an identifier's words: only there may a reader
--- allocate
+-- a language stands first, and more than four variants at the front of an identifier's words: only
+-- there may a reader allocate
 abbrev pub IdentifierWantsMemory : List Text → Type 0
-IdentifierWantsMemory ps = IsWord (Language languages) (first_piece ps) × (4 < length (front_of ps).variants)
+IdentifierWantsMemory ps = IsWord (Language languages) (first_piece ps)
+    × (4 < length (front_of ps).variants)
 
 -- what the pieces are read as, as a whole identifier
 abbrev pub IdentifierReads : List Text → Result LanguageIdentifier ParseError → Type 0
@@ -35,7 +37,9 @@ IdentifierReads ps = Answers (λ i. IdentifierMeans languages ps (value_of i))
 
 -- every text that steps of rewriting lead to means what was read
 abbrev pub KeepsThroughSteps : Text → Result LanguageIdentifier ParseError → Type 0
-KeepsThroughSteps t r = IfOk r (λ i. (n : ℕ) (u : Text) → Leads (IdentifierTextStep languages) n t u → IdentifierMeans languages (pieces u) (value_of i))
+KeepsThroughSteps t r = IfOk r
+    (λ i. (n : ℕ) (u : Text) → Leads (IdentifierTextStep languages) n t u
+    → IdentifierMeans languages (pieces u) (value_of i))
 
 -- what a longest front is read as, and the pieces that are left after it
 abbrev pub FrontReads : List Text → List Text → Result LanguageIdentifier ParseError → Type 0
@@ -50,8 +54,8 @@ FrontReads ps rest = Answers
     × (4 < length w.variants))
 
 -- the same by the reading from the left
-abbrev pub FrontReadsBy : List Text → List Text → Result LanguageIdentifier ParseError → Type 0
-FrontReadsBy ps rest = Answers
+abbrev pub FrontComputed : List Text → List Text → Result LanguageIdentifier ParseError → Type 0
+FrontComputed ps rest = Answers
     (λ i. IsWord (Language languages) (first_piece ps)
     × AllDifferent word_cmp (map lower (front_of ps).variants)
     × (value_of i ≡ normal_identifier (front_of ps)) × (rest ≡ after_front ps))
@@ -66,5 +70,6 @@ VariantsReads ps rest = Answers
     (λ vs. (vs ≡ set_of (map lower (passing (is_word Variant) ps)))
     × AllDifferent word_cmp (map lower (passing (is_word Variant) ps))
     × (rest ≡ past (is_word Variant) ps))
-    (Only faults.InvalidSubtag (¬ (AllDifferent word_cmp (map lower (passing (is_word Variant) ps)))))
+    (Only faults.InvalidSubtag
+    (¬ (AllDifferent word_cmp (map lower (passing (is_word Variant) ps)))))
     (4 < length (passing (is_word Variant) ps))

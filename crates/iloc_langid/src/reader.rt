@@ -5,7 +5,7 @@ ghost use Rattle.iloc_spec_grammar.specs.Syntax.{pieces, head};
 ghost use Rattle.iloc_spec_grammar.specs.Reading.{after_head};
 ghost use Rattle.iloc_subtags.specs.Left.{left};
 ghost use Rattle.iloc_subtags.specs.Judging.{RunsOutOnlyIf};
-ghost use Rattle.iloc_langid.specs.Reads.{value_of, VariantsReads, FrontReadsBy, FrontReads, IdentifierReads, IdentifierWantsMemory};
+ghost use Rattle.iloc_langid.specs.Reads.{value_of, VariantsReads, FrontComputed, FrontReads, IdentifierReads, IdentifierWantsMemory};
 ghost use Rattle.iloc_langid.specs.Unknown.{unknown_identifier};
 
 use crate::identifier::LanguageIdentifier;
@@ -97,7 +97,8 @@ fn fill(
     iter: &mut SubtagIterator<'_>,
     identifier: &mut LanguageIdentifier,
 ) -> Result<(), ParseError>
-    ensures { FrontReadsBy (left iter.old) (left iter.new) (result_and result (Ok identifier.new)) }
+    ensures { FrontComputed (left iter.old) (left iter.new)
+        (result_and result (Ok identifier.new)) }
 {
     let Some(plain) = take_plain(iter) else {
         return Err(ParseError::InvalidLanguage);

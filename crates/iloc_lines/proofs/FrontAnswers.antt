@@ -22,7 +22,7 @@ use Rattle.iloc_subtags.specs.declared.parse_error.ParseError.TheVariants.{Inval
 use Rattle.iloc_fronts.specs.Front.{GoesOn, IsFound, IsFront, rest_of_block}
 use Rattle.iloc_fronts.specs.declared.front.Block.{Block}
 use Rattle.iloc_fronts.specs.declared.front.Front.TheVariants as fronts
-use Rattle.iloc_lines.specs.Told.{IsRefused}
+use Rattle.iloc_lines.specs.Told.{HasRefusal}
 use Rattle.iloc_lines.specs.declared.Mode.{Mode}
 use Rattle.iloc_lines.specs.declared.Mode.TheVariants.{Langid, Locale, Data}
 
@@ -31,7 +31,7 @@ abbrev pub BeginsWell : List ℕ → Type 0
 BeginsWell t = IsWord (Language languages) (first_piece (pieces t))
 
 -- what is left after the words that fit is more than nothing
-langid_refused : (t : List ℕ) → BeginsWell t → after_front (pieces t) ≢ [] → IsRefused Langid t InvalidSubtag
+langid_refused : (t : List ℕ) → BeginsWell t → after_front (pieces t) ≢ [] → HasRefusal Langid t InvalidSubtag
 langid_refused t l more =
     not_an_identifier l (λ s. more (ap after_front s.2 ∙ after_front-pieces s.0 s.1.words))
 
@@ -45,7 +45,7 @@ head_language t = sym (ap (is_word (Language languages)) (same_first (pieces t))
 
 -- ---- no language
 
-pub no_language_refused : (mode : Mode) (t : List ℕ) → IsFront t fronts.NoLanguage → IsRefused mode t InvalidLanguage
+pub no_language_refused : (mode : Mode) (t : List ℕ) → IsFront t fronts.NoLanguage → HasRefusal mode t InvalidLanguage
 no_language_refused Langid t h = not_a_language h
 no_language_refused Locale t h = in_head (not_a_language (head_language t ∙ h))
 no_language_refused Data t h = not_small (small.bad_head (small.no_language (head_language t ∙ h)))
@@ -62,7 +62,7 @@ no_head t = at_pieces (λ ps. starts_block (after_front ps) ≡ false → ¬ (Sp
         refuses_more languages p (front ps) (from_block ps) (starts_ends (from_block ps) (from_block_starts ps))
         (λ e. true≢false (sym (from_block_starts ps) ∙ ap starts_block (sym e ∙ ap (λ l. after_front (p ∷ l)) whole) ∙ none))
 
-pub misfit_refused : (mode : Mode) (t : List ℕ) → BeginsWell t → starts_block (after_front (pieces t)) ≡ false → IsRefused mode t InvalidSubtag
+pub misfit_refused : (mode : Mode) (t : List ℕ) → BeginsWell t → starts_block (after_front (pieces t)) ≡ false → HasRefusal mode t InvalidSubtag
 misfit_refused Langid t l none = langid_refused t l (λ e. true≢false (sym (ap starts_block e) ∙ none))
 misfit_refused Locale t l none = in_head (not_an_identifier (head_language t ∙ l) (no_head t none))
 misfit_refused Data t l none =
@@ -70,7 +70,7 @@ misfit_refused Data t l none =
 
 -- ---- a block
 
-pub block_is_no_identifier : (t : List ℕ) (b : Block) → BeginsWell t → after_front (pieces t) ≡ pieces (rest_of_block b) → IsRefused Langid t InvalidSubtag
+pub block_is_no_identifier : (t : List ℕ) (b : Block) → BeginsWell t → after_front (pieces t) ≡ pieces (rest_of_block b) → HasRefusal Langid t InvalidSubtag
 block_is_no_identifier t b l rest = langid_refused t l (λ e. pieces_nonempty (rest_of_block b) (sym rest ∙ e))
 
 -- pieces of more than one byte begin no block
@@ -134,7 +134,7 @@ pub data_fault : (t : List ℕ) (f : Fault) → data_result languages t ≡ Err 
 data_fault t f e = subst (λ r. MatchResult r (DataMeans languages t) (HasDataFault languages t)) e (data_answer languages_table t)
 
 pub data_refused : (t : List ℕ) (b : ℕ × List (List ℕ)) (bs : List (ℕ × List (List ℕ))) → BeginsWell t → tail_blocks (pieces t) ≡ b ∷ bs
-    → is_small_block b bs ≡ false → block_fault b ≡ faults.InvalidSubtag → IsRefused Data t InvalidSubtag
+    → is_small_block b bs ≡ false → block_fault b ≡ faults.InvalidSubtag → HasRefusal Data t InvalidSubtag
 unfolding data_result
 data_refused t b bs l e other fault =
     data_fault t faults.InvalidSubtag (ap data_of_result (small_refused t b bs l e other fault))
@@ -166,7 +166,7 @@ block_told t b l g = at_rest g.singleton
 
 -- no other block than that of `u` is a data locale's
 pub other_block_refused : (t : List ℕ) (b : Block) → BeginsWell t → GoesOn (after_region (pieces t)) b
-    → is_ascii_alphanumeric (get_or b.window.now 0 0) ≡ true → is_u (get_or b.window.now 0 0) ≡ false → IsRefused Data t InvalidSubtag
+    → is_ascii_alphanumeric (get_or b.window.now 0 0) ≡ true → is_u (get_or b.window.now 0 0) ≡ false → HasRefusal Data t InvalidSubtag
 other_block_refused t b l g letter other =
     let told = block_told t b l g in
     let first : ℕ × List (List ℕ) = (get_or b.window.now 0 0, told.0) in
@@ -174,16 +174,16 @@ other_block_refused t b l g letter other =
 
 -- the same facts as the contract of the front has them
 
-pub misfit_is_refused : (mode : Mode) (t : List ℕ) → IsFront t fronts.Misfit → IsRefused mode t InvalidSubtag
+pub misfit_is_refused : (mode : Mode) (t : List ℕ) → IsFront t fronts.Misfit → HasRefusal mode t InvalidSubtag
 unfolding after_front
 misfit_is_refused mode t h = misfit_refused mode t h.0 h.1
 
-pub block_is_refused : (t : List ℕ) (b : Block) → IsFront t (fronts.Block b) → IsRefused Langid t InvalidSubtag
+pub block_is_refused : (t : List ℕ) (b : Block) → IsFront t (fronts.Block b) → HasRefusal Langid t InvalidSubtag
 unfolding after_front
 block_is_refused t b h = block_is_no_identifier t b h.0 h.1.rest
 
 -- a piece of one byte after a language: it is that of a block, or comes after a piece that fits nowhere
-pub found_is_refused : (t : List ℕ) (b : Block) → IsFound t b → IsRefused Langid t InvalidSubtag
+pub found_is_refused : (t : List ℕ) (b : Block) → IsFound t b → HasRefusal Langid t InvalidSubtag
 unfolding after_front
 found_is_refused t b f = elim (cases_Bool (starts_block (after_front (pieces t)))) [
   | inl is ↦ block_is_no_identifier t b f.begins (f.next is)

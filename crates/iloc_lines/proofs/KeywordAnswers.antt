@@ -34,7 +34,7 @@ use Rattle.iloc_blocks.proofs.BlockLemmas.{front_past}
 use Rattle.iloc_fronts.specs.declared.front.Block.{Block}
 use Rattle.iloc_fronts.specs.declared.front.Front.TheVariants as fronts
 use Rattle.iloc_fronts.specs.declared.keyword.Keyword.TheVariants as keyword
-use Rattle.iloc_lines.specs.Told.{IsRefused}
+use Rattle.iloc_lines.specs.Told.{HasRefusal}
 use Rattle.iloc_lines.specs.declared.Mode.TheVariants.{Data}
 use Rattle.iloc_lines.proofs.FrontAnswers.{head_language, BeginsWell, blocks_left, block_told, no_u, data_fault, data_refused}
 
@@ -272,7 +272,7 @@ large_head p qs l h =
     let many : has_small_variants (identifier_of (p ∷ front qs)).variants ≡ false = ap has_small_variants (head_region p qs) ∙ h in
     λ j. if l j then (if many j then Ok (small_identifier (identifier_of (p ∷ front qs))) else Err faults.InvalidSubtag) else Err faults.InvalidLanguage
 
-pub large_refused : (t : List ℕ) (b : Block) → IsFront t (fronts.Block b) → b.len + 9 < b.tail → IsRefused Data t InvalidSubtag
+pub large_refused : (t : List ℕ) (b : Block) → IsFront t (fronts.Block b) → b.len + 9 < b.tail → HasRefusal Data t InvalidSubtag
 unfolding data_result small_result after_identifier
 large_refused t b h many =
     data_fault t faults.InvalidSubtag (ap data_of_result (at_pieces Found by t h.0 (many_before t b h.1 many)))
@@ -286,10 +286,10 @@ large_refused t b h many =
 
 -- a fault that is told where at most one variant comes before, and else that of the variants
 pub after_variants : (t : List ℕ) (b : Block) → IsFront t (fronts.Block b) → (e : ParseError) → (b.tail ≤ b.len + 9 → e ≡ InvalidExtension) → (b.len + 9 < b.tail → e ≡ InvalidSubtag)
-    → (b.tail ≤ b.len + 9 → IsRefused Data t InvalidExtension) → IsRefused Data t e
+    → (b.tail ≤ b.len + 9 → HasRefusal Data t InvalidExtension) → HasRefusal Data t e
 after_variants t b h e few many told = elim (cases_lt (b.len + 9) b.tail) [
-  | inl more ↦ subst (IsRefused Data t) (sym (many more)) (large_refused t b h more)
-  | inr less ↦ subst (IsRefused Data t) (sym (few less)) (told less)
+  | inl more ↦ subst (HasRefusal Data t) (sym (many more)) (large_refused t b h more)
+  | inr less ↦ subst (HasRefusal Data t) (sym (few less)) (told less)
 ]
 
 -- ---- the answers
@@ -311,14 +311,14 @@ module _ (t : List ℕ) (b : Block) (h : IsFront t (fronts.Block b)) (letter : i
   not_alone [] e = ap (λ (x : Bool). is_u block.0 && x) e ∙ and-false (is_u block.0)
   not_alone (d ∷ bs) e = refl
 
-  pub attribute_refused : IsKeywordOf rest keyword.Attribute → IsRefused Data t InvalidSubtag
+  pub attribute_refused : IsKeywordOf rest keyword.Attribute → HasRefusal Data t InvalidSubtag
   attribute_refused k =
       let same = front_first rest (long_attribute (first_piece rest) k) in
       let attribute : is_word Attribute (first_piece (front rest)) ≡ true = ap (is_word Attribute) same ∙ k in
       let key : is_word UnicodeKey (first_piece (front rest)) ≡ false = ap (is_word UnicodeKey) same ∙ attribute_no_key (first_piece rest) k in
       data_refused t block (blocks rest) h.0 there (not_alone (blocks rest) (no_key (front rest) key)) (fault_is block true false letter u attribute key)
 
-  pub misfit_refused : IsKeywordOf rest keyword.Misfit → IsRefused Data t InvalidSubtag
+  pub misfit_refused : IsKeywordOf rest keyword.Misfit → HasRefusal Data t InvalidSubtag
   misfit_refused k =
       let same = front_first rest (key_long (first_piece rest) k.0) in
       let attribute : is_word Attribute (first_piece (front rest)) ≡ false = ap (is_word Attribute) same ∙ key_no_attribute (first_piece rest) k.0 in
@@ -331,7 +331,7 @@ module _ (t : List ℕ) (b : Block) (h : IsFront t (fronts.Block b)) (letter : i
           not_alone [] (ap has_small_keyword whole ∙ no_values rest k.1)
       by (d ∷ bs) e = refl
 
-  pub many_refused : IsKeywordOf rest keyword.Many → IsRefused Data t InvalidSubtag
+  pub many_refused : IsKeywordOf rest keyword.Many → HasRefusal Data t InvalidSubtag
   many_refused k =
       let same = front_first rest (key_long (first_piece rest) k.0) in
       let attribute : is_word Attribute (first_piece (front rest)) ≡ false = ap (is_word Attribute) same ∙ key_no_attribute (first_piece rest) k.0 in
@@ -359,7 +359,7 @@ module _ (t : List ℕ) (b : Block) (h : IsFront t (fronts.Block b)) (letter : i
             ap (option_map (λ part. made_of id.language id.script part id.variant)) (read.unread id.region),
           )
 
-  pub single_refused : b.tail ≤ b.len + 9 → IsKeywordOf rest keyword.Single → IsRefused Data t InvalidExtension
+  pub single_refused : b.tail ≤ b.len + 9 → IsKeywordOf rest keyword.Single → HasRefusal Data t InvalidExtension
   unfolding data_result
   single_refused few s =
       let found = single_result few (single_reads rest s) in
@@ -391,7 +391,7 @@ many_in_head t = at_pieces (λ qs. past (is_word Variant) (after_region qs) ≡ 
         sym (head_region p qs ∙ only_variants (after_region (p ∷ qs)) e) ∙ ap after_region s.spelled ∙ variants_of s.written s.grammatical.words in
         omega (arith, ap length same, one_variant (p ∷ front qs) r s)
 
-pub variants_refused : (t : List ℕ) (n : ℕ) → IsFront t (fronts.Variants n) → IsRefused Data t InvalidSubtag
+pub variants_refused : (t : List ℕ) (n : ℕ) → IsFront t (fronts.Variants n) → HasRefusal Data t InvalidSubtag
 variants_refused t n h =
     not_small (small.bad_head (small.no_identifier (head_language t ∙ h.0) (many_in_head t h.1.0 h.1.1)))
 
@@ -404,7 +404,7 @@ unlettered_fault : (b : ℕ × List (List ℕ)) → is_ascii_alphanumeric b.0 �
 unfolding block_fault
 unlettered_fault b e = rw e refl
 
-pub unlettered_refused : (t : List ℕ) (b : Block) → IsFront t (fronts.Block b) → is_ascii_alphanumeric (get_or b.window.now 0 0) ≡ false → b.tail ≤ b.len + 9 → IsRefused Data t InvalidExtension
+pub unlettered_refused : (t : List ℕ) (b : Block) → IsFront t (fronts.Block b) → is_ascii_alphanumeric (get_or b.window.now 0 0) ≡ false → b.tail ≤ b.len + 9 → HasRefusal Data t InvalidExtension
 unfolding data_result small_result after_identifier blocks_result
 unlettered_refused t b h no_letter few =
     data_fault t faults.InvalidExtension (ap data_of_result (at_pieces Found by t h.0 told.2 (few_before t b h.1 few)))

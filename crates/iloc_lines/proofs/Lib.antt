@@ -10,6 +10,7 @@ pub mod PlainAnswers
 pub mod PlainLemmas
 pub mod RunLemmas
 mod FrontAnswers
+mod FoundAnswers
 mod KeywordAnswers
 mod SubdivisionBlocks
 mod SubdivisionAnswers

@@ -1,7 +1,7 @@
 -- Each line has one answer, and each input one output: those that are computed.
 use Rattle.std.proofs.Common.{◌≡◌, inl, inr, ℕ, Bool, List, [], ◌∷◌, ◌++◌, map, refl, sym, ap, ◌∙◌, MatchResult, Result, Ok, Err}
 use Rattle.std.specs.List.{AllZip, flat_map}
-use Rattle.iloc_spec_grammar.specs.Syntax.{pieces, IsTable}
+use Rattle.iloc_spec_grammar.specs.Syntax.{pieces, AreLengths}
 use Rattle.iloc_spec_grammar.specs.Meaning.{Means, IdentifierMeans, Fault, HasIdentifierFault, HasFault}
 use Rattle.iloc_spec_grammar.specs.Values.{identifier_text, text}
 use Rattle.iloc_spec_grammar.proofs.IdentifierLaws as identifiers
@@ -23,7 +23,7 @@ by_result : {X : Type 0} (P : X → Type 0) (F : Fault → Type 0) (A : List ℕ
 by_result P F A print ok err (Ok x) h = ok x h
 by_result P F A print ok err (Err f) h = err f h
 
-module _ {T : ℕ → Bool} (table : IsTable T) where
+module _ {T : ℕ → Bool} (table : AreLengths T) where
   pub is_answer : (mode : Mode) (line : List ℕ) → IsAnswer T mode line (line_answer T mode line)
   unfolding line_answer
   is_answer Langid line = by_result (IdentifierMeans T (pieces line)) (HasIdentifierFault T (pieces line)) (IsAnswer T Langid line) identifier_text (λ x h. inl (x, h, refl)) (λ f h. inr (f, h, refl)) (identifier_result T (pieces line)) (text_identifier_answers T line)

@@ -8,9 +8,9 @@ use Rattle.std.specs.Io.KnownBytes.{Appends, Consumes, IsAtEnd, Keeps}
 use Rattle.iloc_lines.specs.declared.Mode.{Mode}
 use Rattle.iloc_spec_grammar.proofs.RawLaws.{languages_table}
 use Rattle.iloc_spec_grammar.specs.Syntax.{languages}
-use Rattle.iloc_lines.specs.Answers.{IsOutput}
+use Rattle.iloc_lines.specs.Answers.{IsOutput, output}
 use Rattle.iloc_lines.proofs.OutputLaws.{is_output}
-use Rattle.iloc_lines.specs.Output.{output, BeginsOutput, WritesAll, WritesBeginning}
+use Rattle.iloc_lines.specs.Output.{BeginsOutput, WritesAll, WritesBeginning}
 use Rattle.iloc_writeable.specs.Growth.{appends_nothing, appends_both}
 use Rattle.iloc_lines.proofs.KnownLemmas.{Consumes-kept, Consumes-nothing, Consumes-then}
 
@@ -20,11 +20,11 @@ pub record Stands (mode : Mode) (unread unread' held held' : Option (List ℕ)) 
   pub written : List ℕ
   pub reads : Consumes unread unread' read
   pub writes : Appends held held' written
-  pub ahead : (next : List ℕ) → output mode (read ++ next) ≡ written ++ output mode (pending ++ next)
+  pub ahead : (next : List ℕ) → output languages mode (read ++ next) ≡ written ++ output languages mode (pending ++ next)
 
 -- these replies bring the pending bytes to others
 pub record Replies (mode : Mode) (pending pending' replies : List ℕ) : Type 0 where
-  pub ahead : (next : List ℕ) → output mode (pending ++ next) ≡ replies ++ output mode (pending' ++ next)
+  pub ahead : (next : List ℕ) → output languages mode (pending ++ next) ≡ replies ++ output languages mode (pending' ++ next)
 
 StartsWith-front : (whole front rest : List ℕ) → whole ≡ front ++ rest → StartsWith whole front
 StartsWith-front whole front rest e = rw e (take-append_seam front rest)
@@ -89,11 +89,11 @@ module _ (mode : Mode) where
 
   -- what `feed` ensures, from no replies
   pub Replies-fed : (old pending piece pending' replies : List ℕ) → old ≡ []
-      → ((next : List ℕ) → old ++ output mode (pending ++ (piece ++ next)) ≡ replies ++ output mode (pending' ++ next))
+      → ((next : List ℕ) → old ++ output languages mode (pending ++ (piece ++ next)) ≡ replies ++ output languages mode (pending' ++ next))
       → Replies mode (pending ++ piece) pending' replies
   Replies-fed old pending piece pending' replies none f = record {
-    ahead = λ next. ap (output mode) (append_assoc pending piece next)
-        ∙ ap (λ (t : List ℕ). t ++ output mode (pending ++ (piece ++ next))) (sym none) ∙ f next;
+    ahead = λ next. ap (output languages mode) (append_assoc pending piece next)
+        ∙ ap (λ (t : List ℕ). t ++ output languages mode (pending ++ (piece ++ next))) (sym none) ∙ f next;
   }
 
   pub Stands-written : (u u' h h' h2 : Option (List ℕ)) (pending pending' replies : List ℕ) → Stands mode u u' h h' pending
@@ -103,7 +103,7 @@ module _ (mode : Mode) where
     written = s.written ++ replies;
     reads = s.reads;
     writes = appends_both h h' h2 s.written replies s.writes k;
-    ahead = λ next. s.ahead next ∙ ap (λ (t : List ℕ). s.written ++ t) (r.ahead next) ∙ sym (append_assoc s.written replies (output mode (pending' ++ next)));
+    ahead = λ next. s.ahead next ∙ ap (λ (t : List ℕ). s.written ++ t) (r.ahead next) ∙ sym (append_assoc s.written replies (output languages mode (pending' ++ next)));
   }
 
   IfSome-all : (u : Option (List ℕ)) (P : List ℕ → Type 0) → ((left : List ℕ) → P left) → IfSome u P
@@ -114,12 +114,12 @@ module _ (mode : Mode) where
   at_end None P e p = tt
   at_end (Some left) P e p = subst P (sym e) p
 
-  now : (read written out : List ℕ) → output mode (read ++ []) ≡ written ++ out → output mode read ≡ written ++ out
-  now read written out e = ap (output mode) (sym (append-nil read)) ∙ e
+  now : (read written out : List ℕ) → output languages mode (read ++ []) ≡ written ++ out → output languages mode read ≡ written ++ out
+  now read written out e = ap (output languages mode) (sym (append-nil read)) ∙ e
 
   -- what begins the output that is computed
-  begins_output : (input written : List ℕ) → StartsWith (output mode input) written → BeginsOutput mode input written
-  begins_output input written h = (output mode input, is_output languages_table mode input, h)
+  begins_output : (input written : List ℕ) → StartsWith (output languages mode input) written → BeginsOutput mode input written
+  begins_output input written h = (output languages mode input, is_output languages_table mode input, h)
 
   pub Stands-front : (u u' h h' : Option (List ℕ)) (pending : List ℕ) → Stands mode u u' h h' pending → WritesBeginning mode u u' h h'
   Stands-front u u' h h' pending s = record {
@@ -127,31 +127,31 @@ module _ (mode : Mode) where
     written = s.written;
     reads = s.reads;
     writes = s.writes;
-    begins = begins_output s.read s.written (StartsWith-front (output mode s.read) s.written (output mode (pending ++ [])) (now s.read s.written _ (s.ahead [])));
-    begins_all = IfSome-all u' _ (λ left. begins_output (s.read ++ left) s.written (StartsWith-front (output mode (s.read ++ left)) s.written (output mode (pending ++ left)) (s.ahead left)));
+    begins = begins_output s.read s.written (StartsWith-front (output languages mode s.read) s.written (output languages mode (pending ++ [])) (now s.read s.written _ (s.ahead [])));
+    begins_all = IfSome-all u' _ (λ left. begins_output (s.read ++ left) s.written (StartsWith-front (output languages mode (s.read ++ left)) s.written (output languages mode (pending ++ left)) (s.ahead left)));
   }
 
   pub Stands-part : (u u' h h' h2 : Option (List ℕ)) (pending pending' replies part : List ℕ) → Stands mode u u' h h' pending
       → Replies mode pending pending' replies → Appends h' h2 part → StartsWith replies part → WritesBeginning mode u u' h h2
   Stands-part u u' h h' h2 pending pending' replies part s r k b =
-      let whole : (next : List ℕ) → output mode (s.read ++ next) ≡ s.written ++ (replies ++ output mode (pending' ++ next)) =
+      let whole : (next : List ℕ) → output languages mode (s.read ++ next) ≡ s.written ++ (replies ++ output languages mode (pending' ++ next)) =
       λ next. s.ahead next ∙ ap (λ (t : List ℕ). s.written ++ t) (r.ahead next) in
       record {
         read = s.read;
         written = s.written ++ part;
         reads = s.reads;
         writes = appends_both h h' h2 s.written part s.writes k;
-        begins = begins_output s.read (s.written ++ part) (StartsWith-within (output mode s.read) s.written replies (output mode (pending' ++ [])) part b (now s.read s.written _ (whole [])));
-        begins_all = IfSome-all u' _ (λ left. begins_output (s.read ++ left) (s.written ++ part) (StartsWith-within (output mode (s.read ++ left)) s.written replies (output mode (pending' ++ left)) part b (whole left)));
+        begins = begins_output s.read (s.written ++ part) (StartsWith-within (output languages mode s.read) s.written replies (output languages mode (pending' ++ [])) part b (now s.read s.written _ (whole [])));
+        begins_all = IfSome-all u' _ (λ left. begins_output (s.read ++ left) (s.written ++ part) (StartsWith-within (output languages mode (s.read ++ left)) s.written replies (output languages mode (pending' ++ left)) part b (whole left)));
       }
 
-  last : (u u' h h' : Option (List ℕ)) (pending replies : List ℕ) → (s : Stands mode u u' h h' pending) → replies ≡ output mode pending
-      → output mode s.read ≡ s.written ++ replies
+  last : (u u' h h' : Option (List ℕ)) (pending replies : List ℕ) → (s : Stands mode u u' h h' pending) → replies ≡ output languages mode pending
+      → output languages mode s.read ≡ s.written ++ replies
   last u u' h h' pending replies s e =
-      now s.read s.written _ (s.ahead []) ∙ ap (λ (t : List ℕ). s.written ++ t) (ap (output mode) (append-nil pending) ∙ sym e)
+      now s.read s.written _ (s.ahead []) ∙ ap (λ (t : List ℕ). s.written ++ t) (ap (output languages mode) (append-nil pending) ∙ sym e)
 
   pub Stands-end : (u u' h h' h2 : Option (List ℕ)) (pending replies : List ℕ) → Stands mode u u' h h' pending → IsAtEnd u'
-      → replies ≡ output mode pending → Appends h' h2 replies → WritesAll mode u u' h h2
+      → replies ≡ output languages mode pending → Appends h' h2 replies → WritesAll mode u u' h h2
   Stands-end u u' h h' h2 pending replies s end e k = record {
     read = s.read;
     written = s.written ++ replies;
@@ -162,9 +162,9 @@ module _ (mode : Mode) where
   }
 
   pub Stands-end_part : (u u' h h' h2 : Option (List ℕ)) (pending replies part : List ℕ) → Stands mode u u' h h' pending → IsAtEnd u'
-      → replies ≡ output mode pending → Appends h' h2 part → StartsWith replies part → WritesBeginning mode u u' h h2
+      → replies ≡ output languages mode pending → Appends h' h2 part → StartsWith replies part → WritesBeginning mode u u' h h2
   Stands-end_part u u' h h' h2 pending replies part s end e k b =
-      let whole : BeginsOutput mode s.read (s.written ++ part) = begins_output s.read (s.written ++ part) (StartsWith-within (output mode s.read) s.written replies [] part b
+      let whole : BeginsOutput mode s.read (s.written ++ part) = begins_output s.read (s.written ++ part) (StartsWith-within (output languages mode s.read) s.written replies [] part b
       (last u u' h h' pending replies s e ∙ ap (λ (t : List ℕ). s.written ++ t) (sym (append-nil replies)))) in
       record {
         read = s.read;

@@ -23,7 +23,7 @@ use Rattle.iloc_spec_preferences.proofs.DataLaws.{sd_key}
 use Rattle.iloc_spec_preferences.proofs.SubdivisionLaws.{read_is_subdivision, subdivision_back, text_of_read}
 use Rattle.iloc_plain.specs.Shape.{plain_identifier}
 use Rattle.iloc_plain.specs.Plain.{value_of}
-use Rattle.iloc_blocks.specs.Ordered.{IsBefore, IsStored, IsTail, text_of}
+use Rattle.iloc_blocks.specs.Ordered.{IsBefore, IsStored, IsTail, ordered_text}
 use Rattle.iloc_blocks.specs.declared.ordered.Ordered.{Ordered}
 use Rattle.iloc_blocks.proofs.BadBlocks.{pieces_both}
 use Rattle.iloc_blocks.proofs.OrderedLemmas.{cut_there, rest_there, room_there, varied_means, varied_text}
@@ -33,7 +33,7 @@ use Rattle.iloc_rewriting.proofs.RewritingLemmas.{dashes_pieces}
 use Rattle.iloc_subtags.specs.declared.parse_error.ParseError.TheVariants.{InvalidExtension}
 use Rattle.iloc_lines.specs.Answers.{IsNormalText}
 use Rattle.iloc_lines.specs.Subdivisions.{IsSubdivisionBlock, value_named}
-use Rattle.iloc_lines.specs.Told.{IsRefused}
+use Rattle.iloc_lines.specs.Told.{HasRefusal}
 use Rattle.iloc_lines.specs.declared.Mode.TheVariants.{Data}
 use Rattle.iloc_lines.proofs.SubdivisionBlocks.{named_read}
 use Rattle.iloc_lines.proofs.PlainAnswers.{few, variants_are, data_text_is, one_item}
@@ -45,7 +45,7 @@ pub record IsHead (t : List ℕ) (o : Ordered) : Type 0 where
   pub identifier : Identifier
   pub means : IdentifierMeans languages (pieces t) identifier
   pub few : length identifier.variants ≤ 1
-  pub normal : identifier_text identifier ≡ text_of o
+  pub normal : identifier_text identifier ≡ ordered_text o
   pub region : identifier.region ≡ (value_of o.plain).region
 
 -- the same of a shorter line
@@ -172,7 +172,7 @@ module _ (w : List ℕ) (len at start : ℕ) (o : Ordered) (room : len + 16 ≤ 
       ∙ sym all ∙ ap (drop at) cut ∙ drop-append-le at front (45 ∷ block) long ∙ ap (λ l. l ++ 45 ∷ block) some
       ∙ ap (λ l. l ++ 45 ∷ block) (sym (ap (take (start - at - 1)) b.rest ∙ take-take (start - at - 1) (length w - at) (drop at w) (omega arith)))
 
-  whole_line : text_of o ≡ identifier_text i ++ 45 ∷ lower block
+  whole_line : ordered_text o ≡ identifier_text i ++ 45 ∷ lower block
   unfolding lower
   whole_line =
       let t = identifier_text (value_of o.plain) in
@@ -212,7 +212,7 @@ module _ (w : List ℕ) (len at start : ℕ) (o : Ordered) (room : len + 16 ≤ 
   abbrev of_named : Option Subdivision → Option DataLocale
   of_named o = option_map (λ part. made_of i.language i.script part (first_item i.variants)) (option_map (λ x. Some (agreed i.region x)) o)
 
-  pub refused : value_named value ≡ None → IsRefused Data (take len w) InvalidExtension
+  pub refused : value_named value ≡ None → HasRefusal Data (take len w) InvalidExtension
   refused none = no_subdivision is_small (ap of_named none)
 
   module _ (n : Subdivision) (names : value_named value ≡ Some n) (r : List ℕ) (region : i.region ≡ Some r) where
@@ -282,7 +282,7 @@ module _ (w : List ℕ) (len at start : ℕ) (o : Ordered) (room : len + 16 ≤ 
           ∙ sym (append_assoc (option_to_list i.script) (option_to_list i.region ++ i.variants) keyword))
           ∙ join-append i.language (option_to_list i.script ++ (option_to_list i.region ++ i.variants)) keyword
 
-      pub kept : IsNormalText languages Data (take len w) (text_of o)
+      pub kept : IsNormalText languages Data (take len w) (ordered_text o)
       kept = (
         with_part n,
         means_part n (ap (λ (b : Bool). if b then n else whole_region r) same),

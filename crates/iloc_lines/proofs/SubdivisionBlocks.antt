@@ -9,7 +9,7 @@ use Rattle.std.proofs.lemmas.Bool.Decides.{nat_tests}
 use Rattle.std.proofs.lemmas.List.{drop-take, get_or-take, length-drop, length-map, length-take, length-take-le, map-append, take-take}
 use Rattle.std.proofs.lemmas.List.Folds.{list_all-append}
 use Rattle.iloc_spec_grammar.specs.Syntax.{pieces, join, Attribute, Region, Subtag, SubdivisionSuffix, IsHyphenFree, normal, is_word, IsWord, is_same, is_true, letters_or_digits, lower, upper, word}
-use Rattle.iloc_spec_grammar.specs.Meaning.{Fault, normal_values}
+use Rattle.iloc_spec_grammar.specs.Meaning.{Fault}
 use Rattle.iloc_spec_grammar.specs.Meaning as faults
 use Rattle.iloc_spec_grammar.specs.Reading.{first_item}
 use Rattle.iloc_spec_grammar.proofs.PiecesLaws.{pieces-join}

@@ -1,7 +1,7 @@
 -- What the program answers to a line, and writes for an input. This library's rule.
 use Rattle.std.specs.Prelude.{◌≡◌, ◌⊎◌, List, [], ◌∷◌, ◌++◌, codes, Result, Ok, Err}
 use Rattle.std.specs.List.{flat_map, AllZip}
-use Rattle.iloc_spec_grammar.specs.Syntax.{Text, Table, pieces, Identifier}
+use Rattle.iloc_spec_grammar.specs.Syntax.{Text, LanguageLengths, pieces, Identifier}
 use Rattle.iloc_spec_grammar.specs.Meaning.{Means, IdentifierMeans, Fault, HasIdentifierFault, HasFault}
 use Rattle.iloc_spec_grammar.specs.Meaning as grammar
 use Rattle.iloc_spec_grammar.specs.Values.{identifier_text, text}
@@ -16,13 +16,14 @@ use Rattle.iloc_lines.specs.declared.Mode.{Mode}
 use Rattle.iloc_lines.specs.declared.Mode.TheVariants.{Langid, Locale, Data}
 
 -- In the mode, the text is the normal text of what the line means.
-abbrev pub IsNormalText : Table → Mode → Text → Text → Type 0
-IsNormalText T Langid line t = (i : Identifier) × IdentifierMeans T (pieces line) i × (t ≡ identifier_text i)
+abbrev pub IsNormalText : LanguageLengths → Mode → Text → Text → Type 0
+IsNormalText T Langid line t = (i : Identifier) × IdentifierMeans T (pieces line) i
+    × (t ≡ identifier_text i)
 IsNormalText T Locale line t = (M : grammar.Locale) × Means T line M × (t ≡ text M)
 IsNormalText T Data line t = (d : DataLocale) × DataMeans T line d × (t ≡ data_text d)
 
 -- The line means nothing in the mode, and has this fault.
-abbrev pub IsFaulty : Table → Mode → Text → Fault → Type 0
+abbrev pub IsFaulty : LanguageLengths → Mode → Text → Fault → Type 0
 IsFaulty T Langid line f = HasIdentifierFault T (pieces line) f
 IsFaulty T Locale line f = HasFault T line f
 IsFaulty T Data line f = HasDataFault T line f
@@ -36,12 +37,12 @@ abbrev pub refusal : Fault → Text
 refusal f = refusal_text (error_of f)
 
 -- The answer to a line, in the words of the grammar: its normal text, or why it has none.
-abbrev pub IsAnswer : Table → Mode → Text → Text → Type 0
+abbrev pub IsAnswer : LanguageLengths → Mode → Text → Text → Type 0
 IsAnswer T mode line t = IsNormalText T mode line t
     ⊎ ((f : Fault) × IsFaulty T mode line f × (t ≡ refusal f))
 
 -- The output for an input: its lines' answers, each with a newline.
-pub record IsOutput (T : Table) (mode : Mode) (input output : Text) : Type 0 where
+pub record IsOutput (T : LanguageLengths) (mode : Mode) (input output : Text) : Type 0 where
   pub answers : List Text
   pub each : AllZip (IsAnswer T mode) (lines_of input) answers
   pub are : output ≡ ended answers
@@ -54,15 +55,15 @@ text_or_refusal print (Ok x) = print x
 text_or_refusal print (Err f) = refusal f
 
 -- The answer to a line.
-unfoldable pub line_answer : Table → Mode → Text → Text
+unfoldable pub line_answer : LanguageLengths → Mode → Text → Text
 line_answer T Langid line = text_or_refusal identifier_text (identifier_result T (pieces line))
 line_answer T Locale line = text_or_refusal text (locale_result T line)
 line_answer T Data line = text_or_refusal data_text (data_result T line)
 
 -- What is written for a line.
-abbrev pub reply : Table → Mode → Text → Text
+abbrev pub reply : LanguageLengths → Mode → Text → Text
 reply T mode line = line_answer T mode line ++ 10 ∷ []
 
 -- What is written for an input.
-abbrev pub output : Table → Mode → Text → Text
+abbrev pub output : LanguageLengths → Mode → Text → Text
 output T mode input = flat_map (reply T mode) (lines_of input)

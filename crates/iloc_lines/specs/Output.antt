@@ -3,21 +3,8 @@ use Rattle.std.specs.Prelude.{◌++◌, Option, IfSome}
 use Rattle.std.specs.Io.{StartsWith}
 use Rattle.std.specs.Io.KnownBytes.{Appends, Consumes, IsAtEnd}
 use Rattle.iloc_spec_grammar.specs.Syntax.{Text, languages}
-use Rattle.iloc_lines.specs.Answers as answers
-pub use Rattle.iloc_lines.specs.Answers.{IsAnswer, IsOutput, refusal_text}
+use Rattle.iloc_lines.specs.Answers.{IsOutput}
 use Rattle.iloc_lines.specs.declared.Mode.{Mode}
-
--- The answer to a line, as it is computed.
-abbrev pub line_answer : Mode → Text → Text
-line_answer mode line = answers.line_answer languages mode line
-
--- The same with its newline.
-abbrev pub reply : Mode → Text → Text
-reply mode line = answers.reply languages mode line
-
--- What is written for an input, as it is computed.
-abbrev pub output : Mode → Text → Text
-output mode input = answers.output languages mode input
 
 -- The text begins the output for the input, as the answers to its lines make it.
 abbrev pub BeginsOutput : Mode → Text → Text → Type 0

@@ -9,11 +9,12 @@ abbrev pub held : ReplyBlock → Text
 held b = take b.len b.room.items
 
 -- the text stands after what was held
-abbrev pub Added : ReplyBlock → Text → ReplyBlock → Type 0
-Added old text new = held new ≡ held old ++ text
+abbrev pub ReplyAdded : ReplyBlock → Text → ReplyBlock → Type 0
+ReplyAdded old text new = held new ≡ held old ++ text
 
-pub added_nothing : (b : ReplyBlock) → Added b [] b
+pub added_nothing : (b : ReplyBlock) → ReplyAdded b [] b
 added_nothing b = sym (append-nil (held b))
 
-pub added_both : (a b c : ReplyBlock) (s t : Text) → Added a s b → Added b t c → Added a (s ++ t) c
+pub added_both : (a b c : ReplyBlock) (s t : Text) → ReplyAdded a s b → ReplyAdded b t c
+    → ReplyAdded a (s ++ t) c
 added_both a b c s t p q = q ∙ ap (λ x. x ++ t) p ∙ append_assoc (held a) s t

@@ -1,6 +1,6 @@
 //! Laws of the definitions: the answers to lines and the output for an input are those that the grammar allows.
 ghost use Rattle.std.specs.Prelude.{◌≡◌, ◌<◌, [], ◌∷◌, ◌++◌, length, codes};
-ghost use Rattle.iloc_spec_grammar.specs.Syntax.{Text, Table, IsTable, languages};
+ghost use Rattle.iloc_spec_grammar.specs.Syntax.{Text, LanguageLengths, AreLengths, languages};
 ghost use Rattle.iloc_lines.specs.Lines.{IsOneLine, ReadsEnded, ReadsOpen, IsEndedOrOpen};
 ghost use Rattle.iloc_lines.specs.Answers.{IsAnswer, IsOutput, line_answer, reply, output};
 ghost use Rattle.iloc_lines.specs.declared.Mode.{Mode};
@@ -8,17 +8,17 @@ ghost use Rattle.iloc_lines.specs.declared.Mode.TheVariants.{Langid, Locale, Dat
 
 /// What is computed of a line is its one answer in the words of the grammar.
 pub fn line_answers()
-    ensures is { (T : Table) → IsTable T → (mode : Mode) (line : Text)
+    ensures is { (T : LanguageLengths) → AreLengths T → (mode : Mode) (line : Text)
         → IsAnswer T mode line (line_answer T mode line) }
-    ensures only { (T : Table) → IsTable T → (mode : Mode) (line answer : Text)
+    ensures only { (T : LanguageLengths) → AreLengths T → (mode : Mode) (line answer : Text)
         → IsAnswer T mode line answer → answer ≡ line_answer T mode line }
 {}
 
 /// What is computed of an input is its one output.
 pub fn outputs()
-    ensures is { (T : Table) → IsTable T → (mode : Mode) (input : Text)
+    ensures is { (T : LanguageLengths) → AreLengths T → (mode : Mode) (input : Text)
         → IsOutput T mode input (output T mode input) }
-    ensures only { (T : Table) → IsTable T → (mode : Mode) (input written : Text)
+    ensures only { (T : LanguageLengths) → AreLengths T → (mode : Mode) (input written : Text)
         → IsOutput T mode input written → written ≡ output T mode input }
 {}
 
@@ -27,11 +27,12 @@ pub fn lines()
     ensures ended { ReadsEnded }
     ensures open { ReadsOpen }
     ensures all { IsEndedOrOpen }
-    ensures line { (T : Table) (mode : Mode) (line rest : Text) → IsOneLine line
+    ensures line { (T : LanguageLengths) (mode : Mode) (line rest : Text) → IsOneLine line
         → output T mode (line ++ 10 ∷ rest) ≡ reply T mode line ++ output T mode rest }
-    ensures last { (T : Table) (mode : Mode) (line : Text) → IsOneLine line → 0 < length line
+    ensures last { (T : LanguageLengths) (mode : Mode) (line : Text) → IsOneLine line
+        → 0 < length line
         → output T mode line ≡ reply T mode line }
-    ensures cut { (T : Table) (mode : Mode) (pending piece line later next : Text)
+    ensures cut { (T : LanguageLengths) (mode : Mode) (pending piece line later next : Text)
         → IsOneLine pending → IsOneLine line → piece ≡ line ++ 10 ∷ later
         → output T mode (pending ++ (piece ++ next))
         ≡ reply T mode (pending ++ line) ++ output T mode (later ++ next) }

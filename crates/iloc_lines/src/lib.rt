@@ -10,10 +10,12 @@
 #![tactic(auto)]
 
 ghost use Rattle.std.specs.Prelude.{ℕ, List, ◌≡◌, ◌↔◌, ◌++◌, Some, OnOk, OnErr, option_copied};
-ghost use Rattle.iloc_lines.specs.Output.{WritesAll, WritesBeginning, reply};
+ghost use Rattle.iloc_lines.specs.Output.{WritesAll, WritesBeginning};
 ghost use Rattle.iloc_lines.specs.ReplyBlock.{held};
 ghost use Rattle.iloc_lines.specs.declared.RunError.TheVariants.{OutOfMemory};
 ghost use Rattle.iloc_lines.specs.Ending.{ending_status, ending_text, word_of};
+ghost use Rattle.iloc_lines.specs.Answers.{reply};
+ghost use Rattle.iloc_spec_grammar.specs.Syntax.{languages};
 
 pub mod laws;
 mod lines;
@@ -101,7 +103,8 @@ pub trait Answers {
 
     /// Adds the reply to one line.
     fn reply(&mut self, line: &[u8], replies: &mut ReplyBlock) -> Result<(), AllocError>
-        ensures { OnOk result (held replies.new ≡ held replies.old ++ reply mode line.now) };
+        ensures { OnOk result (held replies.new ≡ held replies.old
+            ++ reply languages mode line.now) };
 }
 
 /// Writes the answer to each line of what the reader gives, up to its end. No call is made again after an error.

@@ -23,23 +23,21 @@ ghost use Rattle.std.specs.Prelude.{
 };
 ghost use Rattle.std.specs.Io.KnownBytes.{Appends};
 ghost use Rattle.iloc_writeable.specs.Growth.{AddsBeginning};
-ghost use Rattle.iloc_lines.specs.Output.{output, refusal_text, reply};
 ghost use Rattle.iloc_lines.specs.ReplyBlock.{held};
 ghost use Rattle.iloc_lines.specs.Told.{IsTold, refusal_of};
 ghost use Rattle.iloc_fronts.specs.Front.{EndsInVariant};
 ghost use Rattle.iloc_lines.specs.Lines.{IsLineEnd, IsOneLine};
 ghost use Rattle.iloc_plain.specs.Plain.{IsPlain};
 ghost use Rattle.std.specs.Simd.Lanes.{mask_l};
-ghost use Rattle.iloc_spec_grammar.specs.Syntax.{Text};
+ghost use Rattle.iloc_spec_grammar.specs.Syntax.{Text, languages};
+ghost use Rattle.iloc_lines.specs.Answers.{reply, output, refusal_text};
 ghost use Rattle.iloc_lines.specs.declared.Mode.TheVariants as Mode;
 ghost use Rattle.memchr.specs.Find.{Nowhere, Passes, is_byte};
 
 use crate::replies::write_refusal;
 use crate::reply_block::ReplyBlock;
 use crate::subdivisions::tell_subdivision;
-use crate::told::{
-    Lead, ROOM, Told, ends_identifier, read_lead, tell_after_variants, tell_variants,
-};
+use crate::told::{Lead, ROOM, Told, read_found, read_lead, tell_after_variants, tell_variants};
 use crate::{Answers, RunError};
 use iloc_blocks::{BadBlock, Reading, read_ordered, read_varied};
 use iloc_fronts::may_begin;
@@ -145,11 +143,15 @@ fn reply_to<A: Answers>(
 ) -> Result<(), AllocError>
     requires { len + 16 ≤ length window.now }
     ensures { OnOk result (held replies.new
-        ≡ held replies.old ++ reply A.mode (take len window.now)) }
+        ≡ held replies.old ++ reply languages A.mode (take len window.now)) }
 {
     let mode = answers.mode();
-    if ends_identifier(mode, window, len) {
-        return write_refusal(ParseError::InvalidSubtag, replies);
+    match read_found(mode, window, len) {
+        Lead::Refused(error) => return write_refusal(error, replies),
+        Lead::Subdivision(at, start) => {
+            return reply_to_subdivision(answers, window, len, at, start, replies);
+        }
+        _ => (),
     }
     match read_lead(mode, window, len) {
         Lead::Refused(error) => write_refusal(error, replies),
@@ -177,7 +179,7 @@ fn reply_to_subdivision<A: Answers>(
     requires mode { A.mode ≡ Mode.Data }
     requires room { len + 16 ≤ length window.now }
     ensures { OnOk result (held replies.new
-        ≡ held replies.old ++ reply A.mode (take len window.now)) }
+        ≡ held replies.old ++ reply languages A.mode (take len window.now)) }
 {
     let told = tell_subdivision(window, len, at, start);
     reply_told(answers, window, len, told, replies)
@@ -195,7 +197,7 @@ fn reply_told<A: Answers>(
     requires within { len ≤ length window.now }
     requires told { IsTold A.mode (take len window.now) told }
     ensures { OnOk result (held replies.new
-        ≡ held replies.old ++ reply A.mode (take len window.now)) }
+        ≡ held replies.old ++ reply languages A.mode (take len window.now)) }
 {
     match told {
         Told::Ordered(line) => replies.push_ordered(&line),
@@ -216,7 +218,7 @@ fn reply_to_varied<A: Answers>(
     requires room { len + 16 ≤ length window.now }
     requires variant { EndsInVariant (take len window.now) n }
     ensures { OnOk result (held replies.new
-        ≡ held replies.old ++ reply A.mode (take len window.now)) }
+        ≡ held replies.old ++ reply languages A.mode (take len window.now)) }
 {
     match read_varied(window, len, n) {
         Some(line) => replies.push_ordered(&line),
@@ -237,7 +239,7 @@ fn reply_to_variants<A: Answers>(
     requires mode { A.mode ≢ Mode.Data }
     requires room { len + 16 ≤ length window.now }
     ensures { OnOk result (held replies.new
-        ≡ held replies.old ++ reply A.mode (take len window.now)) }
+        ≡ held replies.old ++ reply languages A.mode (take len window.now)) }
 {
     let told = tell_variants(window, len, at, room);
     reply_told(answers, window, len, told, replies)
@@ -256,14 +258,12 @@ fn reply_to_blocks<A: Answers>(
     requires mode { A.mode ≡ Mode.Locale }
     requires room { len + 16 ≤ length window.now }
     ensures { OnOk result (held replies.new
-        ≡ held replies.old ++ reply A.mode (take len window.now)) }
+        ≡ held replies.old ++ reply languages A.mode (take len window.now)) }
 {
     match read_ordered(window, len, at) {
         Reading::Ordered(line) => replies.push_ordered(&line),
         Reading::BadBlock(bad) => refuse(bad, replies),
-        Reading::Unordered(left) => {
-            reply_to_unordered(answers, window, len, at, left, room, replies)
-        }
+        Reading::Unordered(_) => reply_to_unordered(answers, window, len, at, room, replies),
         Reading::Other => answers.reply(&window[..len], replies),
     }
 }
@@ -275,16 +275,15 @@ fn reply_to_unordered<A: Answers>(
     window: &[u8],
     len: usize,
     at: usize,
-    unordered: usize,
     room: &mut [u8],
     replies: &mut ReplyBlock,
 ) -> Result<(), AllocError>
     requires mode { A.mode ≡ Mode.Locale }
     requires room { len + 16 ≤ length window.now }
     ensures { OnOk result (held replies.new
-        ≡ held replies.old ++ reply A.mode (take len window.now)) }
+        ≡ held replies.old ++ reply languages A.mode (take len window.now)) }
 {
-    match rewrite(window, len, at, unordered, room) {
+    match rewrite(window, len, at, room) {
         Reading::Ordered(line) => replies.push_ordered(&line),
         Reading::BadBlock(bad) => refuse(bad, replies),
         Reading::Unordered(_) | Reading::Other => answers.reply(&window[..len], replies),
@@ -316,7 +315,7 @@ fn reply_after_variants<A: Answers>(
     requires mode { A.mode ≡ Mode.Locale }
     requires room { len + 16 ≤ length window.now }
     ensures { OnOk result (held replies.new
-        ≡ held replies.old ++ reply A.mode (take len window.now)) }
+        ≡ held replies.old ++ reply languages A.mode (take len window.now)) }
 {
     let told = tell_after_variants(window, len, at, room);
     reply_told(answers, window, len, told, replies)
@@ -330,7 +329,7 @@ fn end_pending<A: Answers>(
     replies: &mut ReplyBlock,
 ) -> Result<(), AllocError>
     ensures replies { OnOk result
-        (held replies.new ≡ held replies.old ++ reply A.mode pending.old.items) }
+        (held replies.new ≡ held replies.old ++ reply languages A.mode pending.old.items) }
     ensures pending { OnOk result (pending.new.items ≡ []) }
 {
     answers.reply(pending.as_slice(), replies)?;
@@ -349,8 +348,8 @@ fn feed_lines<A: Answers>(
     requires { pending.old.items ≡ [] }
     ensures one_line { OnOk result (IsOneLine pending.new.items) }
     ensures ahead { OnOk result ((next : Text) →
-        held replies.old ++ output A.mode (bytes.now ++ next)
-        ≡ held replies.new ++ output A.mode (pending.new.items ++ next)) }
+        held replies.old ++ output languages A.mode (bytes.now ++ next)
+        ≡ held replies.new ++ output languages A.mode (pending.new.items ++ next)) }
 {
     let mut room = [0u8; ROOM];
     let mut rest = bytes;
@@ -386,8 +385,8 @@ pub(crate) fn feed<A: Answers>(
     ensures one_line { OnOk result (IsOneLine pending.new.items) }
     // Whatever comes next, the replies to it all are these and what is still to come.
     ensures ahead { OnOk result ((next : Text) →
-        held replies.old ++ output A.mode (pending.old.items ++ (piece.now ++ next))
-        ≡ held replies.new ++ output A.mode (pending.new.items ++ next)) }
+        held replies.old ++ output languages A.mode (pending.old.items ++ (piece.now ++ next))
+        ≡ held replies.new ++ output languages A.mode (pending.new.items ++ next)) }
 {
     if pending.is_empty() {
         return feed_lines(answers, pending, piece, replies);
@@ -408,7 +407,7 @@ pub(crate) fn finish<A: Answers>(
 ) -> Result<(), AllocError>
     requires { IsOneLine pending.old.items }
     ensures { OnOk result (held replies.new
-        ≡ held replies.old ++ output A.mode pending.old.items) }
+        ≡ held replies.old ++ output languages A.mode pending.old.items) }
 {
     if pending.is_empty() {
         return Ok(());

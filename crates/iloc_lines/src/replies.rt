@@ -1,7 +1,7 @@
 //! What is replied to a line: the text of a value, or why there is none.
 ghost use Rattle.std.specs.Prelude.{◌≡◌, ◌≢◌, [], ◌∷◌, ◌++◌, OnOk};
-ghost use Rattle.iloc_lines.specs.Output.{refusal_text};
 ghost use Rattle.iloc_lines.specs.ReplyBlock.{held};
+ghost use Rattle.iloc_lines.specs.Answers.{refusal_text};
 
 use crate::reply_block::ReplyBlock;
 use iloc_subtags::ParseError;

@@ -25,7 +25,7 @@ impl ReplyBlock {
     ghost use Rattle.iloc_spec_grammar.specs.Values.{identifier_text};
     ghost use Rattle.iloc_spec_grammar.specs.Syntax.{lower};
     ghost use Rattle.iloc_plain.specs.Plain.{AreWords, value_of};
-    ghost use Rattle.iloc_blocks.specs.Ordered.{IsStored, text_of};
+    ghost use Rattle.iloc_blocks.specs.Ordered.{IsStored, ordered_text};
 
     /// No bytes. It allocates nothing.
     pub fn new(alloc: Global) -> Self
@@ -89,7 +89,8 @@ impl ReplyBlock {
     #[inline(always)]
     pub(crate) fn push_ordered(&mut self, line: &Ordered<'_>) -> Result<(), AllocError>
         requires { IsStored line.now }
-        ensures { OnOk result (held self.new ≡ held self.old ++ (text_of line.now ++ 10 ∷ [])) }
+        ensures { OnOk result (held self.new ≡ held self.old
+            ++ (ordered_text line.now ++ 10 ∷ [])) }
     {
         self.make_room(line.len + 33)?;
         self.put(line.plain.bytes.as_array(), line.plain.len);
@@ -171,11 +172,11 @@ impl ReplyBlock {
 
 /// It holds its text exactly, and after a failure all that was written before it.
 impl Sink for ReplyBlock {
-    ghost use Rattle.iloc_lines.specs.ReplyBlock.{Added, added_nothing, added_both};
+    ghost use Rattle.iloc_lines.specs.ReplyBlock.{ReplyAdded, added_nothing, added_both};
 
-    ghost took = { Added };
+    ghost took = { ReplyAdded };
 
-    ghost failed = { λ a t _ b. Added a t b };
+    ghost failed = { λ a t _ b. ReplyAdded a t b };
 
     fn write_str(&mut self, text: &str) -> fmt::Result {
         match self.extend_from_slice(text.as_bytes()) {

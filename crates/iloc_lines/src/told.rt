@@ -2,16 +2,17 @@
 ghost use Rattle.std.specs.Prelude.{◌≡◌, ◌≢◌, ◌↔◌, ◌+◌, ◌<◌, ◌≤◌, IfSome, IsTrue, true, length, take, get_or};
 ghost use Rattle.iloc_spec_grammar.specs.Syntax.{Text};
 ghost use Rattle.iloc_spec_parts.specs.SmallComputing.{is_u};
-ghost use Rattle.iloc_fronts.specs.Front.{EndsInVariant, IsFront};
+ghost use Rattle.iloc_fronts.specs.Front.{EndsInVariant, IsFound, IsFront};
 ghost use Rattle.iloc_fronts.specs.declared.front.Front.TheVariants as fronts;
 ghost use Rattle.iloc_blocks.specs.Ordered.{IsReading};
 ghost use Rattle.iloc_rewriting.specs.Words.{IsUnsorted};
-ghost use Rattle.iloc_lines.specs.Told.{IsLead, IsRefused, IsTold, refusal_of};
+ghost use Rattle.iloc_lines.specs.Told.{ArePlain, IsLead, HasRefusal, IsTold, refusal_of};
 
 use crate::Mode;
 use crate::subdivisions::tell_subdivision;
 use iloc_blocks::{BadBlock, Ordered, Reading, read_ordered, read_varied};
 use iloc_fronts::{Block, Front, Keyword, find_block, read_front, read_keyword};
+use iloc_plain::read_plain;
 use iloc_rewriting::{Unsorted, rewrite, sort_identifier, sort_variants};
 use iloc_subtags::ParseError;
 
@@ -59,8 +60,10 @@ pub fn tell<'a>(mode: Mode, window: &'a [u8], len: usize, room: &'a mut [u8]) ->
     requires { len + 16 ≤ length window.now }
     ensures { IsTold mode (take len window.now) result }
 {
-    if ends_identifier(mode, window, len) {
-        return Told::Refused(ParseError::InvalidSubtag);
+    match read_found(mode, window, len) {
+        Lead::Refused(error) => return Told::Refused(error),
+        Lead::Subdivision(at, start) => return tell_subdivision(window, len, at, start),
+        _ => (),
     }
     match read_lead(mode, window, len) {
         Lead::Refused(error) => Told::Refused(error),
@@ -73,20 +76,71 @@ pub fn tell<'a>(mode: Mode, window: &'a [u8], len: usize, room: &'a mut [u8]) ->
     }
 }
 
-/// Whether the first piece of one byte refuses the first `len` bytes with `InvalidSubtag`, whatever comes before: no
-/// identifier has one. Sixteen bytes after them are loaded too, and change nothing.
+/// What is told in the mode of the first `len` bytes by their first piece of one byte, before anything
+/// else is read: a refusal, or `Lead::Subdivision`. No identifier has such a piece. Sixteen bytes after
+/// them are loaded too, and change nothing.
 #[inline(always)]
-pub fn ends_identifier(mode: Mode, window: &[u8], len: usize) -> bool
+pub fn read_found(mode: Mode, window: &[u8], len: usize) -> Lead
     requires { len + 16 ≤ length window.now }
-    ensures { IsTrue result → IsRefused mode (take len window.now) ParseError.InvalidSubtag }
+    ensures { IsLead mode (take len window.now) result }
 {
     match mode {
         Mode::Langid => match find_block(window, len) {
-            Some(_) => true,
-            None => false,
+            Some(_) => Lead::Refused(ParseError::InvalidSubtag),
+            None => Lead::Nothing,
         },
-        Mode::Locale | Mode::Data => false,
+        Mode::Data => match find_block(window, len) {
+            Some(block) => lead_of_found(window, len, block),
+            None => Lead::Nothing,
+        },
+        Mode::Locale => Lead::Nothing,
     }
+}
+
+// The same of a data locale with such a piece. It has no block but that of `u`.
+#[inline(always)]
+fn lead_of_found(window: &[u8], len: usize, block: Block<'_>) -> Lead
+    requires room { len + 16 ≤ length window.now }
+    requires found { IsFound (take len window.now) block }
+    ensures { IsLead Mode.Data (take len window.now) result }
+{
+    let singleton = block.window[0];
+    if singleton == b'U' || singleton == b'u' {
+        return lead_of_found_keyword(window, len, block);
+    }
+    if singleton.is_ascii_alphanumeric() {
+        return Lead::Refused(ParseError::InvalidSubtag);
+    }
+    Lead::Nothing
+}
+
+// The same if the piece is `u`. Most keywords are refused whatever comes before.
+#[inline(always)]
+fn lead_of_found_keyword(window: &[u8], len: usize, block: Block<'_>) -> Lead
+    requires room { len + 16 ≤ length window.now }
+    requires found { IsFound (take len window.now) block }
+    requires u { is_u (get_or block.window.now 0 0) ≡ true }
+    ensures { IsLead Mode.Data (take len window.now) result }
+{
+    let at = len - block.len - 1;
+    let error = ParseError::InvalidSubtag;
+    match read_keyword(block) {
+        Keyword::Attribute => Lead::Refused(error),
+        Keyword::Misfit => Lead::Refused(error),
+        Keyword::Many => Lead::Refused(error),
+        Keyword::Single if is_plain(window, at) => Lead::Refused(ParseError::InvalidExtension),
+        Keyword::Subdivision if is_plain(window, at) => Lead::Subdivision(at, at + 1),
+        Keyword::Single | Keyword::Subdivision | Keyword::Other => Lead::Nothing,
+    }
+}
+
+// Whether the first `at` bytes are a plain identifier.
+#[inline(always)]
+fn is_plain(window: &[u8], at: usize) -> bool
+    requires { 16 ≤ length window.now }
+    ensures { IsTrue result → ArePlain (take at window.now) }
+{
+    at <= 16 && read_plain(window, at).is_some()
 }
 
 /// What is told in the mode of the first `len` bytes by their front. Sixteen bytes after them are loaded too, and
@@ -263,7 +317,7 @@ pub fn tell_blocks<'a>(window: &'a [u8], len: usize, at: usize, room: &'a mut [u
     ensures { IsTold Mode.Locale (take len window.now) result }
 {
     match read_ordered(window, len, at) {
-        Reading::Unordered(left) => told_by(rewrite(window, len, at, left, room)),
+        Reading::Unordered(_) => told_by(rewrite(window, len, at, room)),
         reading => told_by(reading),
     }
 }
@@ -304,9 +358,21 @@ fn tell_resorted<'a>(window: &'a [u8], len: usize, at: usize, room: &'a mut [u8]
     requires { len + 16 ≤ length window.now }
     ensures { IsTold Mode.Locale (take len window.now) result }
 {
+    match rewrite(window, len, at, room) {
+        Reading::Other => tell_repeated(window, len, at),
+        reading => told_by(reading),
+    }
+}
+
+// The same of one that is not brought into order: whether a variant comes twice.
+#[inline(never)]
+fn tell_repeated<'a>(window: &[u8], len: usize, at: usize) -> Told<'a>
+    requires { len + 16 ≤ length window.now }
+    ensures { IsTold Mode.Locale (take len window.now) result }
+{
     let mut sorted = [0u8; ROOM];
     match sort_variants(window, len, at, &mut sorted) {
-        Ok(count) => told_by(rewrite(&sorted, count, at, 0, room)),
+        Ok(_) => Told::Nothing,
         Err(why) => told_unsorted(why),
     }
 }

@@ -13,7 +13,7 @@ use Rattle.std.proofs.lemmas.List.{reverse-append}
 use Rattle.iloc_spec_grammar.specs.Meaning.{map_of}
 use Rattle.iloc_spec_grammar.proofs.MapLaws.{less, map_of_sorted, map_of_same, find-map_of}
 use Rattle.iloc_spec_grammar.proofs.SetLaws.{find-append}
-use Rattle.iloc_litemap.specs.Pairs.{IsAscending}
+use Rattle.iloc_litemap.specs.Pairs.{HasAscendingKeys}
 
 -- keys that tie are one
 pub tied : {K : Type 0} (R : K → K → Ordering) → IsAntisymmetric R → (q k : K) → eq_by_cmp R q k ≡ true → q ≡ k
@@ -29,7 +29,7 @@ module _ {K X : Type 0} (R : K → K → Ordering) where
   put_over es [] = refl
   put_over es (f ∷ fs) = put_over (f ∷ es) fs ∙ ap (map_of R) (sym (append_assoc (reverse fs) (f ∷ []) es) ∙ ap (λ l. l ++ es) (sym (reverse-append (f ∷ []) fs)))
 
-  pub put_all_over : (es fs : List (K × X)) → IsAscending R es → put_all R es fs ≡ map_of R (reverse fs ++ es)
+  pub put_all_over : (es fs : List (K × X)) → HasAscendingKeys R es → put_all R es fs ≡ map_of R (reverse fs ++ es)
   put_all_over es fs s = ap (λ m. put_all R m fs) (sym (map_of_sorted R es s)) ∙ put_over es fs
 
   -- a key below all others is none of them
@@ -51,7 +51,7 @@ module _ {K X : Type 0} (R : K → K → Ordering) where
   shown false (Some x) v h = refl
 
   module _ (total : IsTotalOrder R) where
-    find-reverse : (q : K) (es : List (K × X)) → IsAscending R es → find R q (reverse es) ≡ find R q es
+    find-reverse : (q : K) (es : List (K × X)) → HasAscendingKeys R es → find R q (reverse es) ≡ find R q es
     find-reverse q [] s = refl
     find-reverse q (e ∷ es) s =
         let parts = and_parts _ _ s in
@@ -61,7 +61,7 @@ module _ {K X : Type 0} (R : K → K → Ordering) where
 
     module _ (same : IsAntisymmetric R) where
       -- a map put over another: its entries win, in whatever order they come
-      pub reversed_over : (es fs : List (K × X)) → IsAscending R fs → map_of R (reverse fs ++ es) ≡ map_of R (fs ++ es)
+      pub reversed_over : (es fs : List (K × X)) → HasAscendingKeys R fs → map_of R (reverse fs ++ es) ≡ map_of R (fs ++ es)
       reversed_over es fs s = map_of_same R total same _ _ (λ q. find-append R q (reverse fs) es ∙ ap (λ o. option_or o (find R q es)) (find-reverse q fs s) ∙ sym (find-append R q fs es))
 
       at_last : (es : List (K × X)) (k : K) (v : X) (b : Bool) → is_some (find R k es) ≡ b → map_of R (es ++ (k, v) ∷ []) ≡ cond b (map_of R es) (put R k v (map_of R es))

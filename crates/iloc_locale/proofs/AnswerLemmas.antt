@@ -7,7 +7,7 @@ use Rattle.std.specs.Char.{is_ascii_alphanumeric, to_ascii_lowercase}
 use Rattle.std.specs.Ordering.{nat_cmp}
 use Rattle.std.specs.FinMap.{put}
 use Rattle.std.proofs.lemmas.Bool.Decides.{nat_tests}
-use Rattle.iloc_spec_grammar.specs.Syntax.{languages, is_word, PrivateSubtag, IsOther, is_other_singleton, kept, is_one_byte, front, blocks}
+use Rattle.iloc_spec_grammar.specs.Syntax.{languages, IsOther, is_other_singleton, kept, is_one_byte, front, blocks}
 use Rattle.iloc_spec_grammar.specs.Syntax as written
 use Rattle.iloc_spec_grammar.specs.Meaning.{Extensions, no_extensions, BlocksMean, HasBlockFault, normal_values}
 use Rattle.iloc_spec_grammar.specs.ByBlocks.{OtherMeans}
@@ -85,7 +85,7 @@ module _ {start : List (List ℕ)} {c : ℕ} {ps : List (List ℕ)} {M : Extensi
   pub private_fails : to_ascii_lowercase c ≡ 120 → (rest more : List (List ℕ)) (N : Extensions) (f : ParseError) → PrivateFills ps rest (Err f) → BlockReads start more N (Err f)
   private_fails e rest more N InvalidLanguage h = let other = private_names ps faults.InvalidLanguage h in cc
   private_fails e rest more N InvalidSubtag h = let other = private_names ps faults.InvalidSubtag h in cc
-  private_fails e rest more N InvalidExtension (not_private n) = private_bad a e (λ h. n (record { words = h.words; nonempty = h.nonempty }))
+  private_fails e rest more N InvalidExtension (not_private n) = private_bad a e n
   private_fails e rest more N DuplicatedExtension h = let other = private_names ps faults.DuplicatedExtension h in cc
   private_fails e rest more N OutOfMemory h = private_long a e (λ l. omega (arith, l, h))
 
@@ -104,10 +104,10 @@ module _ {start : List (List ℕ)} {c : ℕ} {ps : List (List ℕ)} {M : Extensi
   other_fails k rest more N InvalidSubtag h = absurd h
   other_fails k rest more N InvalidExtension h = other_bad a k h
   other_fails k rest more N DuplicatedExtension h = absurd h
-  other_fails k rest more N OutOfMemory h = other_long a k (λ s. let few = s.words in omega (arith, few, h))
+  other_fails k rest more N OutOfMemory h = other_long a k (λ s. let few = s.0 in omega (arith, few, h))
 
   pub other_full : is_other_singleton (to_ascii_lowercase c) ≡ true → IsOther (front ps) → (more : List (List ℕ)) (N : Extensions) (f : ParseError) → f ≡ OutOfMemory → BlockReads start more N (Err f)
-  other_full k whole more N f e = subst (λ (x : ParseError). BlockReads start more N (Err x)) (sym e) (other_long a k (λ s. s.broken whole))
+  other_full k whole more N f e = subst (λ (x : ParseError). BlockReads start more N (Err x)) (sym e) (other_long a k (λ s. s.1 whole))
 
 -- the byte of a block, with its form in lower case
 

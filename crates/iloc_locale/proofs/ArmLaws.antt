@@ -10,8 +10,8 @@ use Rattle.std.specs.Cmp.{nat_cmp_total}
 use Rattle.std.specs.FinMap.{find, put}
 use Rattle.std.specs.FinMap.Entries.{by_order, is_some-find}
 use Rattle.std.proofs.lemmas.Bool.Decides.{nat_tests}
-use Rattle.iloc_spec_grammar.specs.Syntax.{lower, word_cmp, Identifier, Unicode, Transform, Fields, kept, singleton, is_other_singleton}
-use Rattle.iloc_spec_grammar.specs.Tree.{IsPrivate, by_singleton}
+use Rattle.iloc_spec_grammar.specs.Syntax.{lower, word_cmp, Identifier, Unicode, Transform, Fields, kept, lower_singleton, is_other_singleton, IsPrivate}
+use Rattle.iloc_spec_grammar.specs.Tree.{by_singleton}
 use Rattle.iloc_spec_grammar.specs.Meaning.{Extensions, map_of, set_of, normal_fields, normal_identifier, no_unicode, no_transform}
 use Rattle.iloc_spec_grammar.specs.ByBlocks.{UnicodeMeans, TransformMeans, PrivateMeans, other_blocks, grammar_rules, PartIs, BlocksGive}
 use Rattle.iloc_spec_grammar.proofs.MapLaws.{find-map_of}
@@ -62,7 +62,7 @@ some_private (p ∷ ps) ws h e = ap (λ (l : List (List ℕ)). length l == 0) e 
 
 -- singletons that were read
 
-known : (T : ℕ → Bool) (q : ℕ) (ds : List (ℕ × List (List ℕ))) → is_some (find nat_cmp q (by_singleton ds)) ≡ list_any (eq_by_cmp nat_cmp q) (map (λ b. singleton b) ds)
+known : (T : ℕ → Bool) (q : ℕ) (ds : List (ℕ × List (List ℕ))) → is_some (find nat_cmp q (by_singleton ds)) ≡ list_any (eq_by_cmp nat_cmp q) (map (λ b. lower_singleton b) ds)
 known T q ds = is_some-find nat_cmp q (by_singleton ds) ∙ ap (list_any (eq_by_cmp nat_cmp q)) (letter_keys ds)
 
 part_known : {X : Type 0} (Rule : List (List ℕ) → X → Type 0) (is_empty : X → Bool) → ((ps : List (List ℕ)) (v : X) → Rule ps v → is_empty v ≡ false) → (empty : X) → is_empty empty ≡ true → (o : Option (List (List ℕ))) (v : X) → PartIs Rule empty o v → not (is_empty v) ≡ is_some o
@@ -78,12 +78,12 @@ any_key q (o ∷ os) = ap₂ ◌||◌ (same_test o.0 q) (any_key q os) ∙ elim 
 
 others_known : (q : ℕ) (bs : List (ℕ × List (List ℕ))) → is_other_singleton q ≡ true → is_some (find nat_cmp q (map (λ b. (b.0, kept b.1)) (other_blocks (by_singleton bs)))) ≡ is_some (find nat_cmp q (by_singleton bs))
 others_known q [] h = refl
-others_known q (b ∷ bs) h = at (eq_by_cmp nat_cmp q (singleton b)) (is_other_singleton (singleton b)) (others_known q bs h) refl refl
+others_known q (b ∷ bs) h = at (eq_by_cmp nat_cmp q (lower_singleton b)) (is_other_singleton (lower_singleton b)) (others_known q bs h) refl refl
   where
-    at : (t k : Bool) → is_some (find nat_cmp q (map (λ b. (b.0, kept b.1)) (other_blocks (by_singleton bs)))) ≡ is_some (find nat_cmp q (by_singleton bs)) → eq_by_cmp nat_cmp q (singleton b) ≡ t → is_other_singleton (singleton b) ≡ k
-        → is_some (find nat_cmp q (map (λ b. (b.0, kept b.1)) (cond k ((singleton b, b.1) ∷ other_blocks (by_singleton bs)) (other_blocks (by_singleton bs))))) ≡ is_some (cond t (Some b.1) (find nat_cmp q (by_singleton bs)))
+    at : (t k : Bool) → is_some (find nat_cmp q (map (λ b. (b.0, kept b.1)) (other_blocks (by_singleton bs)))) ≡ is_some (find nat_cmp q (by_singleton bs)) → eq_by_cmp nat_cmp q (lower_singleton b) ≡ t → is_other_singleton (lower_singleton b) ≡ k
+        → is_some (find nat_cmp q (map (λ b. (b.0, kept b.1)) (cond k ((lower_singleton b, b.1) ∷ other_blocks (by_singleton bs)) (other_blocks (by_singleton bs))))) ≡ is_some (cond t (Some b.1) (find nat_cmp q (by_singleton bs)))
     at true true more e k = ap (λ t. is_some (cond t (Some (kept b.1)) (find nat_cmp q (map (λ b. (b.0, kept b.1)) (other_blocks (by_singleton bs)))))) e
-    at true false more e k = absurd (true≢false (sym h ∙ ap is_other_singleton (sym (tied q (singleton b) e)) ∙ k))
+    at true false more e k = absurd (true≢false (sym h ∙ ap is_other_singleton (sym (tied q (lower_singleton b) e)) ∙ k))
     at false true more e k = ap (λ t. is_some (cond t (Some (kept b.1)) (find nat_cmp q (map (λ b. (b.0, kept b.1)) (other_blocks (by_singleton bs)))))) e ∙ more
     at false false more e k = more
 
@@ -104,7 +104,7 @@ is_read-other M c h = at (c == 117) (c == 116) (c == 120) (no c 117 h (λ e. no_
     at false false false e f g = refl
 
 -- which singletons were read shows in the parts
-pub read_is_known : (T : ℕ → Bool) (ds : List (ℕ × List (List ℕ))) (M : Extensions) (c : ℕ) → BlocksGive (grammar_rules T) ds M → is_ascii_alphanumeric c ≡ true → is_read M c ≡ list_any (eq_by_cmp nat_cmp c) (map (λ b. singleton b) ds)
+pub read_is_known : (T : ℕ → Bool) (ds : List (ℕ × List (List ℕ))) (M : Extensions) (c : ℕ) → BlocksGive (grammar_rules T) ds M → is_ascii_alphanumeric c ≡ true → is_read M c ≡ list_any (eq_by_cmp nat_cmp c) (map (λ b. lower_singleton b) ds)
 read_is_known T ds M c m h = at (kind_of c h) ∙ known T c ds
   where
     at : IsKind c → is_read M c ≡ is_some (find nat_cmp c (by_singleton ds))

@@ -6,7 +6,7 @@ use Rattle.std.specs.Ordering.{nat_cmp, eq_by_cmp}
 use Rattle.std.specs.Cmp.{nat_cmp_total}
 use Rattle.std.specs.FinMap.{find, nat_cmp-IsAntisymmetric}
 use Rattle.std.proofs.lemmas.Bool.{or_parts, or_from}
-use Rattle.iloc_spec_grammar.specs.Syntax.{kept, AllDifferent, singleton, is_other_singleton}
+use Rattle.iloc_spec_grammar.specs.Syntax.{kept, AllDifferent, lower_singleton, is_other_singleton}
 use Rattle.iloc_spec_grammar.specs.Meaning.{Extensions, BlocksMean, no_unicode, no_transform}
 use Rattle.iloc_spec_grammar.specs.Tree.{by_singleton}
 use Rattle.iloc_spec_grammar.specs.ByBlocks.{Rules, other_blocks, PartIs, BlocksGive}
@@ -42,14 +42,14 @@ filter_reordered test (in_turn r s) = in_turn (filter_reordered test r) (filter_
 -- keys of blocks
 
 abbrev letter_of : ℕ × List (List ℕ) → ℕ × List (List ℕ)
-letter_of b = (singleton b, b.1)
+letter_of b = (lower_singleton b, b.1)
 
 abbrev kept_of : ℕ × List (List ℕ) → ℕ × List (List ℕ)
 kept_of b = (b.0, kept b.1)
 
-pub letter_keys : (bs : List (ℕ × List (List ℕ))) → map (λ e. e.0) (by_singleton bs) ≡ map (λ b. singleton b) bs
+pub letter_keys : (bs : List (ℕ × List (List ℕ))) → map (λ e. e.0) (by_singleton bs) ≡ map (λ b. lower_singleton b) bs
 letter_keys [] = refl
-letter_keys (b ∷ bs) = ap (λ l. singleton b ∷ l) (letter_keys bs)
+letter_keys (b ∷ bs) = ap (λ l. lower_singleton b ∷ l) (letter_keys bs)
 
 kept_keys : (bs : List (ℕ × List (List ℕ))) → map (λ e. e.0) (map kept_of bs) ≡ map (λ e. e.0) bs
 kept_keys [] = refl
@@ -82,7 +82,7 @@ reordered {R = R} {bs = bs} {cs = cs} e r m =
     let kinds : AllDifferent nat_cmp (map (λ e. e.0) (map kept_of (other_blocks (by_singleton bs)))) = subst (AllDifferent nat_cmp) (sym (kept_keys (other_blocks (by_singleton bs)))) (still_different (λ b. is_other_singleton b.0) (by_singleton bs) keys) in
     record {
       letters = all_reordered (λ b. is_ascii_alphanumeric b.0 ≡ true) r m.letters;
-      different = different_reordered nat_cmp nat_cmp_total (map_reordered (λ b. singleton b) r) m.different;
+      different = different_reordered nat_cmp nat_cmp_total (map_reordered (λ b. lower_singleton b) r) m.different;
       unicode = subst (λ o. PartIs R.unicode no_unicode o e.unicode) (found 117) m.unicode;
       transform = subst (λ o. PartIs R.transform no_transform o e.transform) (found 116) m.transform;
       private = subst (λ o. PartIs R.private [] o e.private) (found 120) m.private;

@@ -18,14 +18,14 @@ use Rattle.iloc_subtags.specs.declared.parse_error.ParseError.{ParseError}
 use Rattle.iloc_subtags.specs.declared.parse_error.ParseError.TheVariants.{InvalidLanguage, InvalidSubtag, InvalidExtension, DuplicatedExtension, OutOfMemory}
 use Rattle.iloc_writeable.specs.Writing.{IsLent}
 use Rattle.iloc_langid.specs.PlainTexts.{IsNormalOfPlain}
-use Rattle.iloc_locale.specs.LocaleReading.{LocaleTextReads, MeansOnly, IsTextOf, IsNormalizedFrom, NormalizingWantsMemory}
+use Rattle.iloc_locale.specs.LocaleReading.{LocaleTextReads, MeansOnly, IsTextOf, IsNormalizedLocale, NormalizingWantsMemory}
 use Rattle.iloc_locale.proofs.ReadLemmas.{inline_wants_none}
 use Rattle.iloc_locale.proofs.AloneLemmas.{text_alone, means_alone}
 use Rattle.iloc_spec_parts.specs.Inline.{IsInline}
 use Rattle.std.specs.Cmp.{Equal-is}
 
-pub is_normalized : (t u : List ℕ) (M : meaning.Locale) → Means languages t M → u ≡ text M → IsNormalizedFrom t u
-is_normalized t u M m e = subst (IsNormalizedFrom t) (sym e) (record {
+pub is_normalized : (t u : List ℕ) (M : meaning.Locale) → Means languages t M → u ≡ text M → IsNormalizedLocale t u
+is_normalized t u M m e = subst (IsNormalizedLocale t) (sym e) (record {
   text_is = (M, m, refl);
   again = (M, means_again languages_table t M m, refl);
   same = λ v L N l n. subst (λ (K : meaning.Locale). (L ≡ N) ↔ (text K ≡ text N)) (one_meaning languages_table t L M l m) (same_meaning languages languages_table t v L N l n);
@@ -65,7 +65,7 @@ text_means_only M w = (w, λ N n. one_meaning languages_table (text M) N M n w)
 
 -- what a plain text is normalised to
 
-pub plain_normal : {Z E : Type 0} (t : List ℕ) (c : CowStr Z) → IsNormalOfPlain {E = E} t (Ok c) → IsNormalizedFrom t (cow_str_bytes c) × (IsLent c ↔ (t ≡ cow_str_bytes c))
+pub plain_normal : {Z E : Type 0} (t : List ℕ) (c : CowStr Z) → IsNormalOfPlain {E = E} t (Ok c) → IsNormalizedLocale t (cow_str_bytes c) × (IsLent c ↔ (t ≡ cow_str_bytes c))
 plain_normal t c h = (
   is_normalized t (cow_str_bytes c) (without_extensions h.identifier) (means_alone t h.identifier h.means) (h.text ∙ sym (text_alone h.identifier no_extensions refl)),
   (λ l. h.borrowed.0 l ∙ sym h.text, λ e. h.borrowed.1 (e ∙ h.text)),

@@ -5,8 +5,8 @@ use Rattle.std.specs.Char.{is_ascii_alphanumeric, to_ascii_lowercase}
 use Rattle.std.specs.Ordering.{nat_cmp, eq_by_cmp}
 use Rattle.std.specs.FinMap.{put}
 use Rattle.std.proofs.lemmas.Bool.Decides.{nat_tests}
-use Rattle.iloc_spec_grammar.specs.Syntax.{IsTable, Unicode, Transform, IsOther, kept, AllDifferent, singleton, is_other_singleton, front, blocks}
-use Rattle.iloc_spec_grammar.specs.Tree.{IsPrivate, IsBlock, TreeBlockFault, no_singleton, duplicated, repeats_variant, breaks_rule, FirstBadBlock, here, later}
+use Rattle.iloc_spec_grammar.specs.Syntax.{AreLengths, Unicode, Transform, IsOther, kept, AllDifferent, lower_singleton, is_other_singleton, front, blocks, IsPrivate}
+use Rattle.iloc_spec_grammar.specs.Tree.{IsBlock, TreeBlockFault, no_singleton, duplicated, repeats_variant, breaks_rule, FirstBadBlock, here, later}
 use Rattle.iloc_spec_grammar.specs.Meaning.{Extensions, Fault, InvalidSubtag, InvalidExtension, DuplicatedExtension, HasBlockFault, RepeatsVariant}
 use Rattle.iloc_spec_grammar.specs.ByBlocks.{UnicodeMeans, TransformMeans, PrivateMeans, OtherMeans, grammar_rules, BlocksGive}
 use Rattle.iloc_spec_grammar.specs.Reading.{starts_block, from_block}
@@ -61,15 +61,15 @@ apart n k m e f h = grind (arith, nat_tests)
 
 -- what holds from here on, after the singletons of the blocks that were read, holds of all
 after : {T : ℕ → Bool} (P : List ℕ → List (ℕ × List (List ℕ)) → Type 0)
-    → ((seen : List ℕ) (b : ℕ × List (List ℕ)) (bs : List (ℕ × List (List ℕ))) → is_ascii_alphanumeric b.0 ≡ true → list_any (eq_by_cmp nat_cmp (singleton b)) seen ≡ false → IsBlock T b → P (singleton b ∷ seen) bs → P seen (b ∷ bs))
-    → (ds bs : List (ℕ × List (List ℕ))) → AllByRecursion (λ b. is_ascii_alphanumeric b.0 ≡ true) ds → AllDifferent nat_cmp (map (λ b. singleton b) ds) → AllByRecursion (IsBlock T) ds → P (map (λ b. singleton b) ds) bs → P [] (onto ds bs)
+    → ((seen : List ℕ) (b : ℕ × List (List ℕ)) (bs : List (ℕ × List (List ℕ))) → is_ascii_alphanumeric b.0 ≡ true → list_any (eq_by_cmp nat_cmp (lower_singleton b)) seen ≡ false → IsBlock T b → P (lower_singleton b ∷ seen) bs → P seen (b ∷ bs))
+    → (ds bs : List (ℕ × List (List ℕ))) → AllByRecursion (λ b. is_ascii_alphanumeric b.0 ≡ true) ds → AllDifferent nat_cmp (map (λ b. lower_singleton b) ds) → AllByRecursion (IsBlock T) ds → P (map (λ b. lower_singleton b) ds) bs → P [] (onto ds bs)
 after P step [] bs l n r h = h
-after P step (d ∷ ds) bs l n r h = after P step ds (d ∷ bs) l.1 n.1 r.1 (step (map (λ b. singleton b) ds) d bs l.0 n.0 r.0 h)
+after P step (d ∷ ds) bs l n r h = after P step ds (d ∷ bs) l.1 n.1 r.1 (step (map (λ b. lower_singleton b) ds) d bs l.0 n.0 r.0 h)
 
 -- good blocks follow the rules of their singletons
 rules_of : (T : ℕ → Bool) (seen : List ℕ) (ds : List (ℕ × List (List ℕ))) → AreGood T seen ds → AllByRecursion (IsBlock T) ds
 rules_of T seen [] g = tt
-rules_of T seen (d ∷ ds) g = (g.0.2, rules_of T (singleton d ∷ seen) ds g.1)
+rules_of T seen (d ∷ ds) g = (g.0.2, rules_of T (lower_singleton d ∷ seen) ds g.1)
 
 module _ {T : ℕ → Bool} {start : List (List ℕ)} {c : ℕ} {ps : List (List ℕ)} {M : Extensions} where
   gives : (d : BlocksDone T start ((c ∷ []) ∷ ps) M) → BlocksGive (grammar_rules T) d.done M
@@ -78,7 +78,7 @@ module _ {T : ℕ → Bool} {start : List (List ℕ)} {c : ℕ} {ps : List (List
   rules : (d : BlocksDone T start ((c ∷ []) ∷ ps) M) → AllByRecursion (IsBlock T) d.done
   rules d = rules_of T [] d.done (good_blocks d.means.1)
 
-  bad_here : (qs : List (List ℕ)) (bs : List (ℕ × List (List ℕ))) → blocks ((c ∷ []) ∷ ps) ≡ (c, qs) ∷ bs → (d : BlocksDone T start ((c ∷ []) ∷ ps) M) → (f : Fault) → TreeBlockFault T (map (λ b. singleton b) d.done) (c, qs) f → HasBlockFault T (blocks start) f
+  bad_here : (qs : List (List ℕ)) (bs : List (ℕ × List (List ℕ))) → blocks ((c ∷ []) ∷ ps) ≡ (c, qs) ∷ bs → (d : BlocksDone T start ((c ∷ []) ∷ ps) M) → (f : Fault) → TreeBlockFault T (map (λ b. lower_singleton b) d.done) (c, qs) f → HasBlockFault T (blocks start) f
   bad_here qs bs e d f h = fault_of_first (subst (λ l. FirstBadBlock T [] l f) (sym (d.together ∙ ap (onto d.done) e)) (after (λ seen l. FirstBadBlock T seen l f) (λ seen b l k n r x. later k n r x) d.done ((c, qs) ∷ bs) (gives d).letters (gives d).different (rules d) (here h)))
 
   -- the singleton is no letter or digit
@@ -90,7 +90,7 @@ module _ {T : ℕ → Bool} {start : List (List ℕ)} {c : ℕ} {ps : List (List
   met_before d h r = let b = some_block c ps in bad_here b.0 b.1 b.2 d DuplicatedExtension (duplicated h (sym (read_is_known T d.done M (to_ascii_lowercase c) (gives d) (lower_letter c h)) ∙ r))
 
   module _ (a : BlockAt T start c ps M) where
-    fresh : list_any (eq_by_cmp nat_cmp (to_ascii_lowercase c)) (map (λ b. singleton b) a.before.done) ≡ false
+    fresh : list_any (eq_by_cmp nat_cmp (to_ascii_lowercase c)) (map (λ b. lower_singleton b) a.before.done) ≡ false
     fresh = sym (read_is_known T a.before.done M (to_ascii_lowercase c) (gives a.before) (lower_letter c a.letter)) ∙ a.new
 
     good : (qs rest : List (List ℕ)) (N : Extensions) → blocks ((c ∷ []) ∷ ps) ≡ (c, qs) ∷ blocks rest → starts_block rest ≡ true → BlocksGive (grammar_rules T) ((c, qs) ∷ a.before.done) N → BlocksDone T start rest N
@@ -125,7 +125,7 @@ module _ {T : ℕ → Bool} {start : List (List ℕ)} {c : ℕ} {ps : List (List
     pub transform_bad : to_ascii_lowercase c ≡ 116 → ¬ (RepeatsVariant T (front ps)) → ((v : Transform) → ¬ (TransformMeans T (front ps) v)) → HasBlockFault T (blocks start) InvalidExtension
     transform_bad e v n = breaks (front ps) (blocks (from_block ps)) (block_until c ps (other_than (to_ascii_lowercase c) 116 e (λ d. absurd (omega (arith, d))))) (λ h. v h.1) (λ r. let s = (transform_rule T (c, front ps) e).0 r in n s.0 s.1)
 
-    pub transform_long : IsTable T → to_ascii_lowercase c ≡ 116 → ¬ (IsShortTransform T ps) → ReachesLongBlock T (blocks start)
+    pub transform_long : AreLengths T → to_ascii_lowercase c ≡ 116 → ¬ (IsShortTransform T ps) → ReachesLongBlock T (blocks start)
     transform_long table e n = long_here (front ps) (blocks (from_block ps)) (block_until c ps (other_than (to_ascii_lowercase c) 116 e (λ d. absurd (omega (arith, d))))) (λ s. n (subst (IsShortTransform T) (front-from_block ps) ((short_transform_front table (front ps) (from_block ps) (from_block_starts ps)).0 (s.transform e))))
 
     -- after another singleton

@@ -1,5 +1,5 @@
 -- What a `Locale` stands for, what a text is read as, and what it is normalized to.
-use Rattle.std.specs.Prelude.{◌≡◌, ◌⊎◌, ⊤, Result, ◌↔◌, ◌≤◌, length}
+use Rattle.std.specs.Prelude.{◌≡◌, ◌⊎◌, ⊤, Result}
 use Rattle.iloc_spec_grammar.specs.Meaning as meaning
 use Rattle.iloc_langid.specs.Reads as langid
 use Rattle.iloc_langid.specs.Unknown.{unknown_identifier}
@@ -10,12 +10,11 @@ use Rattle.iloc_spec_grammar.specs.Meaning.{Means, HasFault, SpellsIdentifier}
 use Rattle.iloc_spec_parts.specs.Inline.{ReachesLongBlock}
 use Rattle.iloc_subtags.specs.declared.parse_error.ParseError.{ParseError}
 use Rattle.iloc_subtags.specs.Judging.{Answers}
-use Rattle.iloc_spec_grammar.specs.Values.{text, TextStep, Leads, LeadToOne}
+use Rattle.iloc_spec_grammar.specs.Values.{text, TextStep, IsNormalizedFrom}
 
 -- the value of a locale: that of its identifier and that of its extensions
 abbrev pub value_of : Locale → meaning.Locale
-value_of l =
-    record { id = langid.value_of l.id; extensions = extensions.value_of l.extensions }
+value_of l = record { id = langid.value_of l.id; extensions = extensions.value_of l.extensions }
 
 -- `und` and no extension
 abbrev pub unknown_locale : meaning.Locale
@@ -25,14 +24,15 @@ unknown_locale = meaning.without_extensions unknown_identifier
 abbrev pub IsLanguageAlone : Locale → Type 0
 IsLanguageAlone l = Means languages (value_of l).id.language (value_of l)
 
--- What the readers of locales answer, by cases on the whole answer. The cases exclude one another, so each says both directions.
+-- What the readers of locales answer, by cases on the whole answer. The cases exclude one another,
+-- so each says both directions.
 
--- when memory may run out: the head has more than four variants at its front, or is an identifier after which a
--- block is reached that isn't short
+-- when memory may run out: the head has more than four variants at its front, or is an identifier
+-- after which a block is reached that isn't short
 abbrev pub LocaleWantsMemory : Text → Type 0
-LocaleWantsMemory t =
-    langid.IdentifierWantsMemory (head (pieces t))
-    ⊎ (SpellsIdentifier languages (head (pieces t)) × ReachesLongBlock languages (tail_blocks (pieces t)))
+LocaleWantsMemory t = langid.IdentifierWantsMemory (head (pieces t))
+    ⊎ (SpellsIdentifier languages (head (pieces t))
+    × ReachesLongBlock languages (tail_blocks (pieces t)))
 
 -- what the text is read as: the value that it means, or the fault that the grammar names
 abbrev pub LocaleTextReads : Text → Result Locale ParseError → Type 0
@@ -40,7 +40,8 @@ LocaleTextReads t = Answers (λ l. Means languages t (value_of l)) (HasFault lan
 
 -- the same, with when memory may run out
 abbrev pub LocaleTextAnswers : Text → Result Locale ParseError → Type 0
-LocaleTextAnswers t = Answers (λ l. Means languages t (value_of l)) (HasFault languages t) (LocaleWantsMemory t)
+LocaleTextAnswers t =
+    Answers (λ l. Means languages t (value_of l)) (HasFault languages t) (LocaleWantsMemory t)
 
 -- the text means this value and no other: it reads back
 abbrev pub MeansOnly : Text → meaning.Locale → Type 0
@@ -52,21 +53,11 @@ MeansOnly t M = Means languages t M × ((N : meaning.Locale) → Means languages
 abbrev pub IsTextOf : Text → Text → Type 0
 IsTextOf u t = (M : meaning.Locale) × Means languages u M × (t ≡ text M)
 
--- t is the normal text of input
-pub record IsNormalizedFrom (input t : Text) : Type 0 where
-  -- the text of its meaning
-  pub text_is : IsTextOf input t
-  -- which is its own normal text
-  pub again : IsTextOf t t
-  -- an accepted text u means what the input means exactly if t is its normal text
-  pub same : (u : Text) (L M : meaning.Locale) → Means languages input L → Means languages u M → (L ≡ M) ↔ (t ≡ text M)
-  -- and no text that means the same is shorter
-  pub shortest : (u : Text) (M : meaning.Locale) → Means languages input M → Means languages u M → length t ≤ length u
-  -- eight steps of rewriting at most lead here
-  pub steps : Leads (TextStep languages) 8 input t
-  -- so every accepted text means the same exactly if such steps lead both to one text
-  pub together : (u : Text) (L M : meaning.Locale) → Means languages input L → Means languages u M → (L ≡ M) ↔ LeadToOne (TextStep languages) 8 input u
+-- t is the normal text of input as a locale: at most eight steps lead there
+abbrev pub IsNormalizedLocale : Text → Text → Type 0
+IsNormalizedLocale = IsNormalizedFrom (Means languages) text (TextStep languages) 8
 
 -- memory may run out only if the reader may allocate, or if the input is accepted and isn't normal
 abbrev pub NormalizingWantsMemory : Text → Type 0
-NormalizingWantsMemory t = LocaleWantsMemory t ⊎ ((M : meaning.Locale) × Means languages t M × ¬ (t ≡ text M))
+NormalizingWantsMemory t = LocaleWantsMemory t
+    ⊎ ((M : meaning.Locale) × Means languages t M × ¬ (t ≡ text M))

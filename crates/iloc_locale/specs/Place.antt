@@ -3,6 +3,6 @@ use Rattle.std.specs.Prelude.{ℕ, suc, List, [], ◌∷◌, nat_lt, if◌then�
 use Rattle.iloc_spec_grammar.specs.Syntax.{Text}
 
 -- how many stand before the first greater one
-abbrev pub place : ℕ → List (ℕ × List Text) → ℕ
-place c [] = 0
-place c (o ∷ os) = if nat_lt c o.0 then 0 else suc (place c os)
+abbrev pub how_many_up_to : ℕ → List (ℕ × List Text) → ℕ
+how_many_up_to c [] = 0
+how_many_up_to c (o ∷ os) = if nat_lt c o.0 then 0 else suc (how_many_up_to c os)

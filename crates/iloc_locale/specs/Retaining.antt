@@ -5,9 +5,11 @@ use Rattle.iloc_spec_grammar.specs.Meaning.{Extensions, no_unicode, no_transform
 use Rattle.iloc_locale.specs.declared.extension_type.ExtensionType.{ExtensionType}
 use Rattle.iloc_locale.specs.declared.extension_type.ExtensionType.TheVariants.{Transform, Unicode, Private, Other}
 
--- A predicate that started as f was asked of the unicode extension, of the transform, of the private one and of each
--- other in list order, each call starting where the last one ended. What it answered false at is empty afterwards.
-pub record RetainsByType {F : Type 0} (step : F → ExtensionType → Bool → F → Type 0) (f : F) (old new : Extensions) : Type 0 where
+-- A predicate that started as f was asked of the unicode extension, of the transform, of the
+-- private one and of each other in list order, each call starting where the last one ended. What it
+-- answered false at is empty afterwards.
+pub record RetainsByType {F : Type 0} (step : F → ExtensionType → Bool → F → Type 0) (f : F)
+    (old new : Extensions) : Type 0 where
   pub after_unicode : F
   pub after_transform : F
   pub after_private : F

@@ -8,7 +8,8 @@ use Rattle.iloc_spec_grammar.specs.Syntax.{Text, is_true, Fields, is_other_singl
 
 -- an other extension has a singleton of its own, and a word
 abbrev pub has_own_place : ℕ × List Text → Bool
-has_own_place o = is_other_singleton o.0 && ((to_ascii_lowercase o.0 == o.0) && nat_lt 0 (length o.1))
+has_own_place o =
+    is_other_singleton o.0 && ((to_ascii_lowercase o.0 == o.0) && nat_lt 0 (length o.1))
 
 -- a subtag in a value is no `true`, and no key
 abbrev pub is_plain : Text → Bool

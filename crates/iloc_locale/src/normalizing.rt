@@ -19,7 +19,7 @@ use std::alloc::Global;
 use std::borrow::CowStr;
 
 impl Locale {
-    ghost use Rattle.iloc_locale.specs.LocaleReading.{value_of, IsNormalizedFrom, NormalizingWantsMemory};
+    ghost use Rattle.iloc_locale.specs.LocaleReading.{value_of, IsNormalizedLocale, NormalizingWantsMemory};
 
     /// The normal text of what the text means, borrowed exactly if the text is that already.
     ///
@@ -27,7 +27,7 @@ impl Locale {
     /// once; texts mean the same exactly if their normal texts are equal; no text of a meaning is shorter;
     /// at most eight steps of rewriting lead there.
     pub fn normalize_utf8(alloc: Global, input: &[u8]) -> Result<CowStr<'_, Global>, ParseError>
-        ensures ok { IfOk result (λ text. IsNormalizedFrom input.now (cow_str_bytes text)
+        ensures ok { IfOk result (λ text. IsNormalizedLocale input.now (cow_str_bytes text)
             × (IsLent text ↔ (input.now ≡ cow_str_bytes text))) }
         ensures err { IfErr result (Refusal (HasFault languages input.now) ⊤) }
         ensures memory { RunsOutOnlyIf (NormalizingWantsMemory input.now) result }
@@ -41,7 +41,7 @@ impl Locale {
     // The same by parsing the text.
     #[inline(never)]
     fn normalize_parsed(alloc: Global, input: &[u8]) -> Result<CowStr<'_, Global>, ParseError>
-        ensures ok { IfOk result (λ text. IsNormalizedFrom input.now (cow_str_bytes text)
+        ensures ok { IfOk result (λ text. IsNormalizedLocale input.now (cow_str_bytes text)
             × (IsLent text ↔ (input.now ≡ cow_str_bytes text))) }
         ensures err { IfErr result (Refusal (HasFault languages input.now) ⊤) }
         ensures memory { RunsOutOnlyIf (NormalizingWantsMemory input.now) result }
@@ -52,7 +52,7 @@ impl Locale {
 
     /// Returns the normalized text of a `str`, as `normalize_utf8` does for bytes.
     pub fn normalize(alloc: Global, input: &str) -> Result<CowStr<'_, Global>, ParseError>
-        ensures ok { IfOk result (λ text. IsNormalizedFrom input.now (cow_str_bytes text)
+        ensures ok { IfOk result (λ text. IsNormalizedLocale input.now (cow_str_bytes text)
             × (IsLent text ↔ (input.now ≡ cow_str_bytes text))) }
         ensures err { IfErr result (Refusal (HasFault languages input.now) ⊤) }
         ensures memory { RunsOutOnlyIf (NormalizingWantsMemory input.now) result }

@@ -3,7 +3,7 @@ ghost use Rattle.std.specs.Prelude.{◌≡◌, ◌==◌, false, OnOk, IfErr};
 ghost use Rattle.std.specs.FinMap.{put};
 ghost use Rattle.std.specs.List.{list_any};
 ghost use Rattle.std.specs.Ordering.{nat_cmp};
-ghost use Rattle.iloc_locale.specs.Place.{place};
+ghost use Rattle.iloc_locale.specs.Place.{how_many_up_to};
 
 use iloc_other::Other;
 use iloc_subtags::ParseError;
@@ -17,7 +17,7 @@ pub(crate) fn has_other(others: &[Other], ext: u8) -> bool
 
 // How many of the others, which ascend, stand before this singleton.
 fn place_of(others: &[Other], ext: u8) -> usize
-    ensures { result ≡ place ext others.now }
+    ensures { result ≡ how_many_up_to ext others.now }
 {
     let above = others.iter().position(|other| ext < other.get_ext_byte());
     above.unwrap_or(others.len())

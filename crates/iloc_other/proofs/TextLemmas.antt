@@ -5,7 +5,7 @@ use Rattle.iloc_spec_grammar.specs.Syntax.{pieces, is_other_singleton}
 use Rattle.iloc_spec_grammar.specs.Meaning as faults
 use Rattle.iloc_spec_grammar.specs.Reading.{rest_of}
 use Rattle.iloc_spec_parts.specs.Fronts.{OtherRead, OtherFault, PrivateRead, PrivateFault}
-use Rattle.iloc_spec_parts.specs.Parts.{PartRead, is_letter, OtherText, OtherTextFault, PrivateText, PrivateTextFault}
+use Rattle.iloc_spec_parts.specs.Parts.{PartRead, is_letter, OtherTextFault, PrivateTextFault}
 use Rattle.iloc_subtags.specs.declared.parse_error.ParseError.{ParseError}
 use Rattle.iloc_subtags.specs.declared.parse_error.ParseError.TheVariants.{InvalidLanguage, InvalidSubtag, InvalidExtension, DuplicatedExtension, OutOfMemory}
 use Rattle.iloc_subtags.specs.Judging.{RunsOutOnlyIf}

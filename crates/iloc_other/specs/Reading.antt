@@ -22,7 +22,8 @@ PrivateFills ps rest = Answers (λ ws. PrivateRead ps ws rest)
 
 -- memory may run out on a text only after `x`, the letter of such an extension
 abbrev pub PrivateTextWants : Text → Type 0
-PrivateTextWants t = (begins_part (is_letter code_x) (pieces t) ≡ true) × PrivateWantsMemory (rest_of (pieces t))
+PrivateTextWants t = (begins_part (is_letter code_x) (pieces t) ≡ true)
+    × PrivateWantsMemory (rest_of (pieces t))
 
 -- what a text is read as
 abbrev pub PrivateTextReads : Text → Result (List Text) ParseError → Type 0
@@ -38,7 +39,8 @@ OtherReads ext ps rest = Answers (λ o. (o.0 ≡ ext) × OtherRead ps o.1 rest) 
 
 -- memory may run out on a text only after the singleton of such an extension
 abbrev pub OtherTextWants : Text → Type 0
-OtherTextWants t = (begins_part is_other_singleton (pieces t) ≡ true) × OtherWantsMemory (rest_of (pieces t))
+OtherTextWants t = (begins_part is_other_singleton (pieces t) ≡ true)
+    × OtherWantsMemory (rest_of (pieces t))
 
 -- what a text is read as
 abbrev pub OtherTextReads : Text → Result (ℕ × List Text) ParseError → Type 0

@@ -1,6 +1,6 @@
 //! Tells whether a plain text is its normal text already.
 ghost use Rattle.std.specs.Prelude.{◌≡◌, ◌↔◌, ◌≤◌, IfSome, IsTrue, take};
-ghost use Rattle.iloc_plain.specs.Normal.{IsTold};
+ghost use Rattle.iloc_plain.specs.Normal.{IsToldPlain};
 
 use crate::load::load;
 use crate::plain::Plain;
@@ -20,7 +20,7 @@ pub struct PlainText {
 /// `None` says nothing of it.
 #[inline(always)]
 pub fn tell_normal(text: &[u8]) -> Option<PlainText>
-    ensures { IfSome result (IsTold text.now) }
+    ensures { IfSome result (IsToldPlain text.now) }
 {
     if text.len() > 16 {
         return None;

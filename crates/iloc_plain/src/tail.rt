@@ -1,7 +1,7 @@
 //! What follows the language.
 ghost use Rattle.std.specs.Prelude.{◌≡◌, ◌-◌, ◌≤◌, ◌<◌, length, IsTrue};
 ghost use Rattle.iloc_plain.specs.Shape.{part};
-ghost use Rattle.iloc_plain.specs.Plain.{AreAbove, AreAllowed, AreNormal, IsTail};
+ghost use Rattle.iloc_plain.specs.Plain.{AreAboveLeast, AreAllowed, AreNormal, MayHaveShape};
 
 use std::simd::prelude::*;
 
@@ -136,7 +136,7 @@ impl Tail {
     #[inline(always)]
     pub(crate) fn of(len: usize) -> &'static Tail
         requires { len < 16 }
-        ensures { IsTail len result.now }
+        ensures { MayHaveShape len result.now }
     {
         &TAILS[len]
     }
@@ -145,7 +145,7 @@ impl Tail {
     #[inline(always)]
     pub(crate) fn above_least(&self, v: u8x16, language: usize) -> u8x16
         requires { language ≤ 8 }
-        ensures { AreAbove self.now language v result }
+        ensures { AreAboveLeast self.now language v result }
     {
         (v & part_of(&self.kept, language)) - part_of(&self.least, language)
     }

@@ -1,28 +1,19 @@
 -- What follows a singleton, stored as it stands or in order.
-use Rattle.std.proofs.Common.{inl, inr, take, ◌≡◌, ◌≢◌, ℕ, suc, ◌+◌, ◌-◌, ◌<◌, ◌++◌, ◌∷◌, List, [], length, true, refl, sym, ap, ◌∙◌, subst, arith, append-nil, length-append, append_assoc, Option}
-use Rattle.std.specs.List.{AllByRecursion}
-use Rattle.std.specs.Char.{is_ascii_alphanumeric}
-use Rattle.std.proofs.lemmas.Bool.{cases_eq}
-use Rattle.std.proofs.lemmas.Bool.Decides.{nat_tests}
+use Rattle.std.proofs.Common.{take, ◌≡◌, ◌≢◌, ℕ, suc, ◌+◌, ◌-◌, ◌<◌, ◌++◌, ◌∷◌, List, [], length, refl, sym, ap, ◌∙◌, subst, arith, append-nil, length-append, append_assoc}
 use Rattle.std.proofs.lemmas.List.{take_more_set}
 use Rattle.std.proofs.Math.ListN.{set}
-use Rattle.iloc_spec_grammar.specs.Syntax.{IsHyphenFree, dashes, join, languages}
-use Rattle.iloc_spec_grammar.specs.Tree.{IsBlock}
+use Rattle.iloc_spec_grammar.specs.Syntax.{dashes, join, languages}
 use Rattle.iloc_spec_grammar.specs.ByBlocks.{UnicodeMeans, TransformMeans, OtherMeans}
 use Rattle.iloc_spec_grammar.proofs.PartTexts.{dashes-append, join-dashes}
-use Rattle.iloc_spec_grammar.proofs.PiecesLaws.{pieces_hyphen_free}
 use Rattle.iloc_spec_grammar.proofs.Singletons.{no_t, no_u}
-use Rattle.iloc_blocks.specs.Blocks.{AreSubtags, IsUnicodePart, left_of}
-use Rattle.iloc_blocks.specs.Bodies.{IsBodyOf}
+use Rattle.iloc_blocks.specs.Blocks.{AreSubtags, IsUnicodePart}
 use Rattle.iloc_blocks.specs.Transform.{IsTransformPart}
-use Rattle.iloc_blocks.proofs.BadBlocks.{no_block, nothing_refuted}
-use Rattle.iloc_blocks.proofs.PrintedBlocks.{IsGood, good_unicode, good_transform, good_other}
 use Rattle.iloc_fronts.specs.Left.{pieces_of, IsLeft}
 use Rattle.iloc_fronts.specs.declared.left.Left.{Left}
-use Rattle.iloc_rewriting.specs.Rewriting.{AreStored, BeginsBlock}
+use Rattle.iloc_rewriting.specs.Rewriting.{AreStored}
 use Rattle.iloc_rewriting.specs.Sorting.{IsBodyStored, IsOrderOf, StandsFor}
 use Rattle.iloc_rewriting.specs.declared.keywords.Stored.{Stored}
-use Rattle.iloc_rewriting.proofs.RewritingLemmas.{all_split, dashes_pieces, joined_before, length-left}
+use Rattle.iloc_rewriting.proofs.RewritingLemmas.{dashes_pieces, joined_before, length-left}
 use Rattle.iloc_rewriting.proofs.StoredLemmas.{split_room}
 
 -- ---- how much is left
@@ -34,41 +25,6 @@ shorter l next (p ∷ body) h k some e =
     let rest : length (dashes (pieces_of next)) ≡ suc next.len = ap length (dashes_pieces (take next.len next.window.now)) ∙ ap suc (length-left next k) in
     let parts : length (dashes (pieces_of l)) ≡ suc (length (p ++ (dashes body ++ dashes (pieces_of next)))) = ap (λ ps. length (dashes ps)) e ∙ ap (λ t. suc (length (p ++ t))) (dashes-append body (pieces_of next)) in
     omega (arith, all, rest, parts, length-append p (dashes body ++ dashes (pieces_of next)), length-append (dashes body) (dashes (pieces_of next)))
-
--- ---- a body in order
-
-module _ (c : ℕ) (letter : is_ascii_alphanumeric c ≡ true) (no_x : c ≢ 120) (ps : List (List ℕ)) (h : IsBodyOf c ps) where
-  -- it may follow some singleton
-  good : (d : ℕ) × IsGood d ps
-  good = elim (cases_eq c 117) [
-    | inl u ↦ (117, good_unicode 117 refl ps (h.unicode u))
-    | inr no_u ↦ elim (cases_eq c 116) [
-      | inl t ↦ (116, good_transform 116 refl ps (h.transform t))
-      | inr no_t ↦ (97, good_other 97 refl (omega arith) (omega arith) (omega arith) ps (h.other (grind (arith, nat_tests))))
-    ]
-  ]
-
-  pub some_body : ps ≢ []
-  some_body e = no_block good.0 [] (nothing_refuted good.0) (subst (λ qs. IsBlock languages (good.0, qs)) e good.1.block)
-
-  stands_itself : StandsFor c ps ps
-  stands_itself = record {
-    keeps = record { unicode = λ _. record { means = λ v m. m }; transform = λ _. record { means = λ v m. m }; other = λ _. record { means = λ v m. m } };
-    ordered = h;
-  }
-
-  -- it is stored as it stands
-  pub body_same : (l : Left) (o : Option Left) → pieces_of l ≡ ps ++ left_of o → BeginsBlock o → (text room : List ℕ) (s : Stored) → AreStored room (text ++ dashes ps) s.end × (s.next ≡ o) → IsBodyStored (StandsFor c) text (pieces_of l) room s
-  body_same l o cut begins text room s a = record {
-    body = ps;
-    new = ps;
-    cut = cut ∙ ap (λ n. ps ++ left_of n) (sym a.1);
-    body_long = good.1.long;
-    new_free = (all_split IsHyphenFree ps (left_of o) (subst (AllByRecursion IsHyphenFree) cut (pieces_hyphen_free (take l.len l.window.now)))).0;
-    means = stands_itself;
-    stored = a.0;
-    left = subst BeginsBlock (sym a.1) begins;
-  }
 
 -- ---- its bytes
 

@@ -14,7 +14,6 @@ use Rattle.iloc_spec_grammar.proofs.RawLaws.{languages_table}
 use Rattle.iloc_spec_grammar.proofs.ReadBack.{all_append}
 use Rattle.iloc_spec_grammar.proofs.Readings.{IsLong, long_extension, transform_of-pieces}
 use Rattle.iloc_spec_grammar.proofs.ValuesLaws.{all_weaker}
-use Rattle.iloc_blocks.specs.Blocks.{left_of}
 use Rattle.iloc_blocks.specs.Transform.{IsHead, IsTransformPart}
 use Rattle.iloc_blocks.proofs.TransformLemmas.{field_key_begins, spelled, part_words, part_means}
 use Rattle.iloc_fronts.specs.Words.{two_number}
@@ -32,6 +31,7 @@ use Rattle.iloc_rewriting.proofs.KeywordLemmas.{fields_free, same_fields}
 use Rattle.iloc_rewriting.proofs.RewritingLemmas.{all_split, joined_before, length-left}
 use Rattle.iloc_rewriting.proofs.StoredLemmas.{stored_none}
 use Rattle.iloc_rewriting.proofs.StoringLemmas.{some_stored}
+use Rattle.iloc_fronts.specs.Walk.{left_of}
 
 -- ---- the identifier
 

@@ -9,7 +9,6 @@ use Rattle.iloc_spec_grammar.proofs.Orders.{total_reordered}
 use Rattle.iloc_spec_grammar.proofs.PiecesLaws.{pieces_nonempty}
 use Rattle.iloc_spec_grammar.proofs.ReadBack.{word_hyphen_free}
 use Rattle.iloc_spec_grammar.proofs.ValuesLaws.{all_weaker}
-use Rattle.iloc_blocks.specs.Blocks.{left_of}
 use Rattle.iloc_blocks.specs.Ordered.{IsBefore, IsCut, IsOrderedIdentifier}
 use Rattle.iloc_blocks.specs.declared.ordered.Ordered.{Ordered}
 use Rattle.iloc_blocks.proofs.BadBlocks.{pieces_both}
@@ -20,6 +19,7 @@ use Rattle.iloc_rewriting.specs.declared.words.WordKind.TheVariants as kind
 use Rattle.iloc_rewriting.proofs.RewritingLemmas.{dashes_join}
 use Rattle.iloc_rewriting.proofs.VariantLemmas.{with_pieces, line_pieces, same_identifier}
 use Rattle.iloc_rewriting.proofs.WordLemmas.{words_ascend}
+use Rattle.iloc_fronts.specs.Walk.{left_of}
 
 some_kept : (vs ks : List (List ℕ)) → Reordered ks vs → vs ≢ [] → 0 < length ks
 some_kept [] ks r some = absurd (some refl)

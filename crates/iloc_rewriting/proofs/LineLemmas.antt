@@ -1,8 +1,8 @@
 -- From the blocks that are stored in order to the line.
-use Rattle.std.proofs.Common.{take, drop, ◌≡◌, ℕ, suc, ◌+◌, ◌-◌, ◌<◌, ◌≤◌, List, [], ◌∷◌, ◌++◌, length, get_or, Some, refl, sym, ap, ◌∙◌, subst, arith, append_assoc, length-append}
+use Rattle.std.proofs.Common.{take, drop, ◌≡◌, ℕ, suc, ◌+◌, ◌-◌, ◌<◌, ◌≤◌, List, [], ◌++◌, length, get_or, Some, refl, sym, ap, ◌∙◌, subst, arith, append_assoc, length-append}
 use Rattle.std.specs.List.{AllByRecursion}
 use Rattle.std.proofs.lemmas.List.{length-take-le, length-drop, take-take}
-use Rattle.iloc_spec_grammar.specs.Syntax.{pieces, join, dashes, head, tail_blocks, Variant, IsWord, IsHyphenFree, Identifier, identifier_pieces, languages}
+use Rattle.iloc_spec_grammar.specs.Syntax.{pieces, join, dashes, head, tail_blocks, Variant, IsWord, IsHyphenFree, Identifier, identifier_pieces, lower, word_cmp, languages}
 use Rattle.iloc_spec_grammar.specs.Meaning.{Fault, HasFault, IdentifierMeans}
 use Rattle.iloc_spec_grammar.specs.ByBlocks.{BlocksGive, grammar_rules, MeansByBlocks}
 use Rattle.iloc_spec_grammar.proofs.PartTexts.{dashes-append}
@@ -15,16 +15,24 @@ use Rattle.iloc_blocks.specs.Ordered.{IsCut, IsFaultyTail, IsOrdered, IsTail}
 use Rattle.iloc_blocks.specs.declared.ordered.Ordered.{Ordered}
 use Rattle.iloc_blocks.proofs.BadBlocks.{has_fault, pieces_both}
 use Rattle.iloc_blocks.proofs.OrderedLemmas.{after, cut_there, is_ordered}
-use Rattle.iloc_fronts.specs.Left.{pieces_of}
+use Rattle.iloc_fronts.specs.Left.{pieces_of, IsLeft}
 use Rattle.iloc_fronts.specs.declared.left.Left.{Left}
 use Rattle.iloc_rewriting.specs.Rewriting.{AreStored, IsRewritten}
-use Rattle.iloc_rewriting.specs.Sorting.{AreBlocksStored, IsBadAfter, IsBadLine, IsLineStored, LeadsToBlock, after_byte}
+use Rattle.iloc_rewriting.specs.Sorting.{AreBlocksStored, IsBadAfter, IsBadLine, IsLineStored, after_byte}
 use Rattle.iloc_rewriting.specs.declared.blocks.Failure.{Failure}
 use Rattle.iloc_rewriting.specs.declared.blocks.Failure.TheVariants as failure
-use Rattle.iloc_rewriting.proofs.RewritingLemmas.{dashes_join, dashes_pieces, length-left}
+use Rattle.iloc_rewriting.proofs.RewritingLemmas.{dashes_join}
 use Rattle.iloc_rewriting.proofs.SortingLemmas.{front_of_block, starts_left}
 use Rattle.iloc_rewriting.proofs.StoredLemmas.{split_room}
-use Rattle.iloc_rewriting.proofs.VariantLemmas.{blocks_are, head_is, pieces_behind}
+use Rattle.iloc_rewriting.proofs.VariantLemmas.{blocks_are, head_is, pieces_behind, same_identifier}
+use Rattle.iloc_rewriting.proofs.WordLemmas.{words_ascend}
+use Rattle.iloc_rewriting.specs.Words.{AreWordsStored}
+use Rattle.iloc_rewriting.specs.declared.keywords.Stored.{Stored}
+use Rattle.iloc_rewriting.specs.declared.words.WordKind.TheVariants as kind
+use Rattle.iloc_blocks.specs.Variants.{AreVariantsInOrder}
+use Rattle.iloc_spec_grammar.proofs.Orders.{different_reordered, map_reordered}
+use Rattle.iloc_spec_grammar.proofs.MapLaws.{word_cmp_total}
+use Rattle.iloc_fronts.specs.Walk.{left_of}
 
 -- ---- what comes before the first block
 
@@ -32,39 +40,40 @@ module _ (w : List ℕ) (len at : ℕ) (inside : len + 16 ≤ length w) (less : 
   after_is : after_byte w len at ≡ after w len at inside less hyphen
   after_is = let same : at + 1 ≡ suc at = omega arith in ap (λ (m : ℕ). take (len - at - 1) (drop m w)) same
 
-  module _ (b : Left) (h : LeadsToBlock (pieces (after_byte w len at)) (len - at - 1) b) where
-    -- its bytes are the identifier and the variants
-    before_block : take (len - b.len - 1) w ≡ take at w ++ dashes h.variants.body
-    before_block =
-        let rest = take b.len b.window.now in
-        let parts : take len w ≡ (take at w ++ dashes h.variants.body) ++ 45 ∷ rest =
-        cut_there w len at inside less hyphen
-        ∙ ap (λ t. take at w ++ t) (ap (λ t. 45 ∷ t) (sym after_is) ∙ sym (dashes_pieces (after_byte w len at)) ∙ ap dashes h.variants.cut ∙ dashes-append h.variants.body (pieces_of b) ∙ ap (λ t. dashes h.variants.body ++ t) (dashes_pieces rest))
-        ∙ sym (append_assoc (take at w) (dashes h.variants.body) (45 ∷ rest)) in
-        let same : len - suc b.len ≡ len - b.len - 1 = omega arith in
-        ap (λ (m : ℕ). take m w) (sym same) ∙ (split_room w (take at w ++ dashes h.variants.body) (45 ∷ rest) len (suc b.len) (omega (arith, inside)) parts (ap suc (length-left b h.left))).0
+  -- ---- what comes before the first block
 
-    pub line_stored : (first new : List ℕ) (e n : ℕ) → AreStored first (take (len - b.len - 1) w) e → AreBlocksStored (take e first) (pieces_of b) new n → IsLineStored (take at w) (pieces (after_byte w len at)) new n
-    line_stored first new e n a k = record {
-      variants = h.variants.body;
+  module _ (ps : List (List ℕ)) (first mid : List ℕ) (start len' : ℕ) (a : AreStored first (take at w) start) (s : Stored) (k : AreWordsStored kind.Variant (take start first) ps len' mid s)
+      (b : Left) (next : s.next ≡ Some b) where
+    cut_block : ps ≡ k.words ++ pieces_of b
+    cut_block = k.cut ∙ ap (λ o. k.words ++ left_of o) next
+
+    in_order : AreVariantsInOrder k.kept
+    in_order = record { each = k.same.each_kept; ascending = words_ascend kind.Variant k.kept k.same.each_kept k.same.ascend }
+
+    pub line_stored : IsLeft b → b.n ≡ 1 → (new : List ℕ) (n : ℕ) → AreBlocksStored (take s.end mid) (pieces_of b) new n → IsLineStored (take at w) ps new n
+    line_stored left one new n h = record {
+      written = k.words;
+      variants = k.kept;
       rest = pieces_of b;
-      cut = h.variants.cut;
-      ascending = h.variants.is;
-      starts = starts_left (Some b) (h.left, h.one);
-      blocks = subst (λ (t : List ℕ). AreBlocksStored t (pieces_of b) new n) (a.begins ∙ before_block) k;
+      cut = cut_block;
+      each = k.same.each;
+      order = k.same.all;
+      ascending = in_order;
+      starts = starts_left (Some b) (left, one);
+      blocks = subst (λ (t : List ℕ). AreBlocksStored t (pieces_of b) new n) (k.stored.begins ∙ ap (λ t. t ++ dashes k.kept) a.begins) h;
     }
 
-  pub bad_line : (b : Left) → LeadsToBlock (pieces (after_byte w len at)) (len - at - 1) b → (f : Failure) → IsBadAfter [] (pieces_of b) f → IsBadLine (pieces (after_byte w len at)) f
-  bad_line b h (failure.Bad bad) k = record {
-    variants = h.variants.body;
-    rest = pieces_of b;
-    cut = h.variants.cut;
-    each = h.variants.is.each;
-    different = ascending_different _ h.variants.is.ascending;
-    none_before = k.none_before;
-    first = k.first;
-  }
-  bad_line b h failure.Other k = tt
+    pub bad_line : (f : Failure) → IsBadAfter [] (pieces_of b) f → IsBadLine ps f
+    bad_line (failure.Bad bad) h = record {
+      variants = k.words;
+      rest = pieces_of b;
+      cut = cut_block;
+      each = k.same.each;
+      different = different_reordered word_cmp word_cmp_total (map_reordered lower k.same.all) (ascending_different _ in_order.ascending);
+      none_before = h.none_before;
+      first = h.first;
+    }
+    bad_line failure.Other h = tt
 
   -- ---- the line
 
@@ -90,7 +99,7 @@ module _ (w : List ℕ) (len at : ℕ) (inside : len + 16 ≤ length w) (less : 
       abbrev words : Identifier
       words = plain.means.written
 
-      old_pieces : pieces (take len w) ≡ identifier_pieces words ++ (h.variants ++ h.rest)
+      old_pieces : pieces (take len w) ≡ identifier_pieces words ++ (h.written ++ h.rest)
       old_pieces =
           ap pieces (cut_there w len at inside less hyphen) ∙ pieces_both (take at w) (after w len at inside less hyphen)
           ∙ (λ j. plain.means.spelled j ++ (ap pieces (sym after_is) ∙ h.cut) j)
@@ -98,17 +107,24 @@ module _ (w : List ℕ) (len at : ℕ) (inside : len + 16 ≤ length w) (less : 
       new_pieces : pieces (take n room) ≡ identifier_pieces words ++ (h.variants ++ h.blocks.new)
       new_pieces = ap pieces text_is ∙ pieces_behind (take at w) all free ∙ ap (λ l. l ++ all) plain.means.spelled
 
+      -- variants in another order mean the same
+      same_head : (i : Identifier) → IdentifierMeans languages (head (pieces (take n room))) i → IdentifierMeans languages (head (pieces (take len w))) i
+      same_head i m =
+          let grammatical = plain.means.grammatical.words in
+          let new_head : head (pieces (take n room)) ≡ identifier_pieces words ++ (h.variants ++ []) =
+          ap head new_pieces ∙ head_is words grammatical plain.no_variant h.variants h.blocks.new h.ascending.each ∙ ap (λ l. identifier_pieces words ++ (h.variants ++ l)) (front_of_block h.blocks.new h.blocks.starts) in
+          let old_head : head (pieces (take len w)) ≡ identifier_pieces words ++ (h.written ++ []) =
+          ap head old_pieces ∙ head_is words grammatical plain.no_variant h.written h.rest h.each ∙ ap (λ l. identifier_pieces words ++ (h.written ++ l)) (front_of_block h.rest h.starts) in
+          subst (λ (ps : List (List ℕ)). IdentifierMeans languages ps i) (sym old_head)
+          (same_identifier words grammatical plain.no_variant h.written h.variants [] h.ascending.each h.order i (subst (λ (ps : List (List ℕ)). IdentifierMeans languages ps i) new_head m))
+
       rewritten : IsRewritten (take len w) (take n room)
       rewritten M m =
           let given : MeansByBlocks languages (take n room) M = means_by_blocks (take n room) M m in
-          let heads : head (pieces (take n room)) ≡ head (pieces (take len w)) =
-          ap head new_pieces ∙ head_is words plain.means.grammatical.words plain.no_variant h.variants h.blocks.new h.ascending.each
-          ∙ ap (λ l. identifier_pieces words ++ (h.variants ++ l)) (front_of_block h.blocks.new h.blocks.starts ∙ sym (front_of_block h.rest h.starts))
-          ∙ sym (ap head old_pieces ∙ head_is words plain.means.grammatical.words plain.no_variant h.variants h.rest h.ascending.each) in
           let new_blocks = ap tail_blocks new_pieces ∙ blocks_are words plain.means.grammatical.words plain.no_variant h.variants h.blocks.new h.ascending.each in
-          let old_blocks = ap tail_blocks old_pieces ∙ blocks_are words plain.means.grammatical.words plain.no_variant h.variants h.rest h.ascending.each in
+          let old_blocks = ap tail_blocks old_pieces ∙ blocks_are words plain.means.grammatical.words plain.no_variant h.written h.rest h.each in
           blocks_mean (take len w) M (record {
-            id = subst (λ (ps : List (List ℕ)). IdentifierMeans languages ps M.id) heads given.id;
+            id = same_head M.id given.id;
             blocks = subst (λ bs. BlocksGive (grammar_rules languages) bs M.extensions) (sym old_blocks) (h.blocks.keeps M.extensions (subst (λ bs. BlocksGive (grammar_rules languages) bs M.extensions) new_blocks given.blocks));
           })
 

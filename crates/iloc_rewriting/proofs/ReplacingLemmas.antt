@@ -7,7 +7,7 @@ use Rattle.std.specs.Cmp.{nat_cmp_total}
 use Rattle.std.specs.Char.{is_ascii_alphanumeric, to_ascii_lowercase}
 use Rattle.std.proofs.lemmas.Bool.{or_parts, or_from}
 use Rattle.std.proofs.lemmas.Simd.{map-map}
-use Rattle.iloc_spec_grammar.specs.Syntax.{Block, languages, is_other_singleton, singleton, AllDifferent, kept}
+use Rattle.iloc_spec_grammar.specs.Syntax.{Block, languages, is_other_singleton, lower_singleton, AllDifferent, kept}
 use Rattle.iloc_spec_grammar.specs.Meaning.{no_unicode, no_transform, map_of}
 use Rattle.iloc_spec_grammar.specs.Tree.{by_singleton}
 use Rattle.iloc_spec_grammar.specs.ByBlocks.{UnicodeMeans, TransformMeans, PrivateMeans, OtherMeans, PartIs, BlocksGive, grammar_rules, other_blocks}
@@ -60,12 +60,12 @@ different_others (b ∷ bs) d = at (is_other_singleton b.0) (different_others bs
     at true rest = (none_among b.0 bs d.0, rest)
     at false rest = rest
 
-module _ (bs cs : List Block) (r : Reordered bs cs) (d : AllDifferent nat_cmp (map (λ b. singleton b) bs)) where
+module _ (bs cs : List Block) (r : Reordered bs cs) (d : AllDifferent nat_cmp (map (λ b. lower_singleton b) bs)) where
   by_order : Reordered (by_singleton bs) (by_singleton cs)
-  by_order = map_reordered (λ (b : Block). (singleton b, b.1)) r
+  by_order = map_reordered (λ (b : Block). (lower_singleton b, b.1)) r
 
   by_different : AllDifferent nat_cmp (map (λ (b : Block). b.0) (by_singleton bs))
-  by_different = subst (AllDifferent nat_cmp) (sym (map-map (λ (b : Block). b.0) (λ b. (singleton b, b.1)) bs)) d
+  by_different = subst (AllDifferent nat_cmp) (sym (map-map (λ (b : Block). b.0) (λ b. (lower_singleton b, b.1)) bs)) d
 
   found_reordered : (q : ℕ) → find nat_cmp q (by_singleton bs) ≡ find nat_cmp q (by_singleton cs)
   found_reordered q = find_reordered nat_cmp nat_cmp_total q by_order by_different
@@ -82,7 +82,7 @@ module _ (bs cs : List Block) (r : Reordered bs cs) (d : AllDifferent nat_cmp (m
 pub reordered_give : (bs cs : List Block) → Reordered bs cs → KeepsBlocks bs cs
 reordered_give bs cs r e m = record {
   letters = all_reordered (λ b. is_ascii_alphanumeric b.0 ≡ true) r m.letters;
-  different = different_reordered nat_cmp nat_cmp_total (map_reordered (λ (b : Block). singleton b) r) m.different;
+  different = different_reordered nat_cmp nat_cmp_total (map_reordered (λ (b : Block). lower_singleton b) r) m.different;
   unicode = subst (λ o. PartIs UnicodeMeans no_unicode o e.unicode) (found_reordered bs cs r m.different 117) m.unicode;
   transform = subst (λ o. PartIs (TransformMeans languages) no_transform o e.transform) (found_reordered bs cs r m.different 116) m.transform;
   private = subst (λ o. PartIs PrivateMeans [] o e.private) (found_reordered bs cs r m.different 120) m.private;
@@ -111,7 +111,7 @@ module _ (cs : List Block) (c : ℕ) (new old : List (List ℕ)) where
       at : (t : Bool) → (t ≡ true → to_ascii_lowercase c ≡ q) → PartIs Means empty (cond t (Some new) (find nat_cmp q (by_singleton cs))) v → PartIs Means empty (cond t (Some old) (find nat_cmp q (by_singleton cs))) v
       at true g h = f (g refl) h
       at false g h = h
-  part_replaced Means empty v q f (b ∷ bs) h = at (eq_by_cmp nat_cmp q (singleton b)) (part_replaced Means empty v q f bs) h
+  part_replaced Means empty v q f (b ∷ bs) h = at (eq_by_cmp nat_cmp q (lower_singleton b)) (part_replaced Means empty v q f bs) h
     where
       at : (t : Bool) → (PartIs Means empty (find nat_cmp q (by_singleton (with_block bs new))) v → PartIs Means empty (find nat_cmp q (by_singleton (with_block bs old))) v)
           → PartIs Means empty (cond t (Some b.1) (find nat_cmp q (by_singleton (with_block bs new)))) v → PartIs Means empty (cond t (Some b.1) (find nat_cmp q (by_singleton (with_block bs old)))) v
@@ -133,7 +133,7 @@ module _ (cs : List Block) (c : ℕ) (new old : List (List ℕ)) where
           → AreOthers (cond t ((to_ascii_lowercase c, old) ∷ rest) rest) × (words_of (cond t ((to_ascii_lowercase c, new) ∷ rest) rest) ≡ words_of (cond t ((to_ascii_lowercase c, old) ∷ rest) rest))
       at true g h = let r = g refl h.0 in ((r.0, h.1), ap (λ ws. (to_ascii_lowercase c, ws) ∷ words_of rest) r.1)
       at false g h = (h, refl)
-  others_replaced f (b ∷ bs) h = at (is_other_singleton (singleton b)) (others_replaced f bs) h
+  others_replaced f (b ∷ bs) h = at (is_other_singleton (lower_singleton b)) (others_replaced f bs) h
     where
       news : List Block
       news = other_blocks (by_singleton (with_block bs new))
@@ -141,9 +141,9 @@ module _ (cs : List Block) (c : ℕ) (new old : List (List ℕ)) where
       olds : List Block
       olds = other_blocks (by_singleton (with_block bs old))
 
-      at : (t : Bool) → (AreOthers news → AreOthers olds × (words_of news ≡ words_of olds)) → AreOthers (cond t ((singleton b, b.1) ∷ news) news)
-          → AreOthers (cond t ((singleton b, b.1) ∷ olds) olds) × (words_of (cond t ((singleton b, b.1) ∷ news) news) ≡ words_of (cond t ((singleton b, b.1) ∷ olds) olds))
-      at true g h = let r = g h.1 in ((h.0, r.0), ap (λ l. (singleton b, kept b.1) ∷ l) r.1)
+      at : (t : Bool) → (AreOthers news → AreOthers olds × (words_of news ≡ words_of olds)) → AreOthers (cond t ((lower_singleton b, b.1) ∷ news) news)
+          → AreOthers (cond t ((lower_singleton b, b.1) ∷ olds) olds) × (words_of (cond t ((lower_singleton b, b.1) ∷ news) news) ≡ words_of (cond t ((lower_singleton b, b.1) ∷ olds) olds))
+      at true g h = let r = g h.1 in ((h.0, r.0), ap (λ l. (lower_singleton b, kept b.1) ∷ l) r.1)
       at false g h = g h
 
   -- a block whose pieces stand for others gives what they give
@@ -152,7 +152,7 @@ module _ (cs : List Block) (c : ℕ) (new old : List (List ℕ)) where
       let others = others_replaced (λ is n. let r = (k.other is).means (kept new) n in ((r.0, refl), r.1)) bs m.each_other in
       record {
         letters = all_at (λ b. is_ascii_alphanumeric b.0 ≡ true) bs cs (c, new) (c, old) (λ h. h) m.letters;
-        different = subst (AllDifferent nat_cmp) (map_at (λ b. singleton b) bs cs (c, new) (c, old) refl) m.different;
+        different = subst (AllDifferent nat_cmp) (map_at (λ b. lower_singleton b) bs cs (c, new) (c, old) refl) m.different;
         unicode = part_replaced UnicodeMeans no_unicode e.unicode 117 (λ is. (k.unicode is).means e.unicode) bs m.unicode;
         transform = part_replaced (TransformMeans languages) no_transform e.transform 116 (λ is. (k.transform is).means e.transform) bs m.transform;
         private = part_replaced PrivateMeans [] e.private 120 (λ is. absurd (no_x is)) bs m.private;

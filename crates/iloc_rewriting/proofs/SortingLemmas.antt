@@ -8,7 +8,7 @@ use Rattle.std.proofs.lemmas.Bool.{true≢false}
 use Rattle.std.proofs.lemmas.Bool.Decides.{nat_tests}
 use Rattle.std.proofs.lemmas.Grind.{flat_map-append}
 use Rattle.std.proofs.lemmas.List.{length-take-le}
-use Rattle.iloc_spec_grammar.specs.Syntax.{Block, PrivateSubtag, is_word, IsHyphenFree, is_one_byte, first_piece, join, dashes, front, blocks, singleton, IsOther, is_other_singleton, kept, languages}
+use Rattle.iloc_spec_grammar.specs.Syntax.{Block, PrivateSubtag, is_word, IsHyphenFree, is_one_byte, first_piece, join, dashes, front, blocks, lower_singleton, IsOther, is_other_singleton, kept, languages}
 use Rattle.iloc_spec_grammar.specs.Tree.{Extension, unicode, transform, other, IsExtension, extension_pieces, block_pieces, IsBlock, FirstBadBlock, here, later, TreeBlockFault, no_singleton, duplicated, repeats_variant, breaks_rule}
 use Rattle.iloc_spec_grammar.specs.Meaning.{Fault, normal_unicode, normal_transform}
 use Rattle.iloc_spec_grammar.specs.Reading.{starts_block, rest_of}
@@ -19,7 +19,7 @@ use Rattle.iloc_spec_grammar.proofs.ReadBack.{all_append}
 use Rattle.iloc_spec_grammar.proofs.Readings.{IsLong}
 use Rattle.iloc_spec_grammar.proofs.Singletons.{untied, self_tied}
 use Rattle.iloc_spec_grammar.proofs.ValuesLaws.{all_weaker}
-use Rattle.iloc_blocks.specs.Blocks.{ArePrinted, ArePrivate, left_of}
+use Rattle.iloc_blocks.specs.Blocks.{ArePrinted, ArePrivate}
 use Rattle.iloc_blocks.specs.Bodies.{HaveBad, IsBodyOf, IsNoBodyOf, IsUnseen}
 use Rattle.iloc_blocks.specs.declared.bad_block.BadBlock.{BadBlock}
 use Rattle.iloc_blocks.specs.declared.bad_block.BadBlock.TheVariants as bad
@@ -38,6 +38,7 @@ use Rattle.iloc_rewriting.specs.declared.keywords.Stored.{Stored}
 use Rattle.iloc_rewriting.proofs.RewritingLemmas.{all_split, cut_left, dashes_pieces, length-joined, piece_more}
 use Rattle.iloc_rewriting.proofs.ReplacingLemmas.{block_put}
 use Rattle.iloc_rewriting.proofs.StoredLemmas.{split_room, stored_none}
+use Rattle.iloc_fronts.specs.Walk.{left_of}
 
 -- ---- results
 
@@ -130,12 +131,12 @@ free_in [] h = tt
 free_in (b ∷ bs) h = (letter_hyphen_free b.0 h.0.letter, all_append IsHyphenFree b.1 (pieces_in bs) h.0.free (free_in bs h.1))
 
 -- with ascending singletons they are printed as they stand, before what is printed after any
-printed_in : (last : ℕ) (bs : List Block) (rest : List (List ℕ)) → AllByRecursion IsBlockInOrder bs → AllByRecursion (λ b. last < singleton b) bs → AreAscending bs → ((m : ℕ) → ArePrinted m rest)
+printed_in : (last : ℕ) (bs : List Block) (rest : List (List ℕ)) → AllByRecursion IsBlockInOrder bs → AllByRecursion (λ b. last < lower_singleton b) bs → AreAscending bs → ((m : ℕ) → ArePrinted m rest)
     → ArePrinted last (pieces_in bs ++ rest)
 printed_in last [] rest h above ascending p = p last
 printed_in last (b ∷ bs) rest h above ascending p =
     subst (λ l. ArePrinted last ((b.0 ∷ []) ∷ l)) (sym (append_assoc b.1 (pieces_in bs) rest))
-    ((good_block b h.0).printed last above.0 (pieces_in bs ++ rest) (printed_in (singleton b) bs rest h.1 ascending.0 ascending.1 p))
+    ((good_block b h.0).printed last above.0 (pieces_in bs ++ rest) (printed_in (lower_singleton b) bs rest h.1 ascending.0 ascending.1 p))
 
 letter_above : (c : ℕ) → is_ascii_alphanumeric c ≡ true → 0 < to_ascii_lowercase c
 letter_above c h = grind (arith, nat_tests)
@@ -146,37 +147,37 @@ all_put : {X : Type 0} (P : X → Type 0) (before after : List X) (x : X) → Al
 all_put P [] after x h k = (k, h)
 all_put P (y ∷ before) after x h k = (h.0, all_put P before after x h.1 k)
 
-ascend_put : (before after : List Block) (new : Block) → AreAscending (before ++ after) → AllByRecursion (λ b. singleton b < singleton new) before → AllByRecursion (λ b. singleton new < singleton b) after
+ascend_put : (before after : List Block) (new : Block) → AreAscending (before ++ after) → AllByRecursion (λ b. lower_singleton b < lower_singleton new) before → AllByRecursion (λ b. lower_singleton new < lower_singleton b) after
     → AreAscending (before ++ (new ∷ after))
 ascend_put [] after new h l g = (g, h)
-ascend_put (b ∷ before) after new h l g = (all_put (λ d. singleton b < singleton d) before after new h.0 l.0, ascend_put before after new h.1 l.1 g)
+ascend_put (b ∷ before) after new h l g = (all_put (λ d. lower_singleton b < lower_singleton d) before after new h.0 l.0, ascend_put before after new h.1 l.1 g)
 
-ascend_later : (before after : List Block) (next : Block) → AreAscending (before ++ (next ∷ after)) → AllByRecursion (λ b. singleton next < singleton b) after
+ascend_later : (before after : List Block) (next : Block) → AreAscending (before ++ (next ∷ after)) → AllByRecursion (λ b. lower_singleton next < lower_singleton b) after
 ascend_later [] after next h = h.0
 ascend_later (b ∷ before) after next h = ascend_later before after next h.1
 
-unseen_differ : (c : ℕ) (bs : List Block) → AllByRecursion (λ b. singleton b ≢ c) bs → IsUnseen c (singletons_of bs)
+unseen_differ : (c : ℕ) (bs : List Block) → AllByRecursion (λ b. lower_singleton b ≢ c) bs → IsUnseen c (singletons_of bs)
 unseen_differ c [] h = refl
-unseen_differ c (b ∷ bs) h = (λ j. untied c (singleton b) h.0 j || list_any (eq_by_cmp nat_cmp c) (singletons_of bs)) ∙ unseen_differ c bs h.1
+unseen_differ c (b ∷ bs) h = (λ j. untied c (lower_singleton b) h.0 j || list_any (eq_by_cmp nat_cmp c) (singletons_of bs)) ∙ unseen_differ c bs h.1
 
-pub unseen_between : (c : ℕ) (before after : List Block) → AllByRecursion (λ b. singleton b < c) before → AllByRecursion (λ b. c < singleton b) after → IsUnseen c (singletons_of (before ++ after))
+pub unseen_between : (c : ℕ) (before after : List Block) → AllByRecursion (λ b. lower_singleton b < c) before → AllByRecursion (λ b. c < lower_singleton b) after → IsUnseen c (singletons_of (before ++ after))
 unseen_between c before after l g =
-    unseen_differ c (before ++ after) (all_append (λ b. singleton b ≢ c) before after
-    (all_weaker (λ b. singleton b < c) (λ b. singleton b ≢ c) (λ b h e. omega arith) before l)
-    (all_weaker (λ b. c < singleton b) (λ b. singleton b ≢ c) (λ b h e. omega arith) after g))
+    unseen_differ c (before ++ after) (all_append (λ b. lower_singleton b ≢ c) before after
+    (all_weaker (λ b. lower_singleton b < c) (λ b. lower_singleton b ≢ c) (λ b h e. omega arith) before l)
+    (all_weaker (λ b. c < lower_singleton b) (λ b. lower_singleton b ≢ c) (λ b h e. omega arith) after g))
 
 pub unseen_above : (last c : ℕ) (bs : List Block) → last < c → AreNoneAbove last bs → IsUnseen c (singletons_of bs)
-unseen_above last c bs less h = unseen_differ c bs (all_weaker (λ b. singleton b ≤ last) (λ b. singleton b ≢ c) (λ b le e. omega arith) bs h)
+unseen_above last c bs less h = unseen_differ c bs (all_weaker (λ b. lower_singleton b ≤ last) (λ b. lower_singleton b ≢ c) (λ b le e. omega arith) bs h)
 
 -- both have the same bytes
 abbrev HaveSame : List ℕ → List ℕ → Type 0
 HaveSame seen more = (s : ℕ) → list_any (eq_by_cmp nat_cmp s) seen ≡ list_any (eq_by_cmp nat_cmp s) more
 
-same_put : (before after : List Block) (new : Block) → HaveSame (singletons_of (before ++ (new ∷ after))) (singleton new ∷ singletons_of (before ++ after))
+same_put : (before after : List Block) (new : Block) → HaveSame (singletons_of (before ++ (new ∷ after))) (lower_singleton new ∷ singletons_of (before ++ after))
 same_put [] after new s = refl
 same_put (b ∷ before) after new s =
-    ap (λ (t : Bool). eq_by_cmp nat_cmp s (singleton b) || t) (same_put before after new s)
-    ∙ turned (eq_by_cmp nat_cmp s (singleton b)) (eq_by_cmp nat_cmp s (singleton new)) (list_any (eq_by_cmp nat_cmp s) (singletons_of (before ++ after)))
+    ap (λ (t : Bool). eq_by_cmp nat_cmp s (lower_singleton b) || t) (same_put before after new s)
+    ∙ turned (eq_by_cmp nat_cmp s (lower_singleton b)) (eq_by_cmp nat_cmp s (lower_singleton new)) (list_any (eq_by_cmp nat_cmp s) (singletons_of (before ++ after)))
   where
     turned : (a b c : Bool) → (a || (b || c)) ≡ (b || (a || c))
     turned true true c = refl
@@ -186,13 +187,13 @@ same_put (b ∷ before) after new s =
 -- the fault of a block is the same after the same singletons
 same_fault : {seen more : List ℕ} {b : Block} {f : Fault} → HaveSame seen more → TreeBlockFault languages seen b f → TreeBlockFault languages more b f
 same_fault e (no_singleton h) = no_singleton h
-same_fault {b = b} e (duplicated l h) = duplicated l (sym (e (singleton b)) ∙ h)
-same_fault {b = b} e (repeats_variant l n t r) = repeats_variant l (sym (e (singleton b)) ∙ n) t r
-same_fault {b = b} e (breaks_rule l n r k) = breaks_rule l (sym (e (singleton b)) ∙ n) r k
+same_fault {b = b} e (duplicated l h) = duplicated l (sym (e (lower_singleton b)) ∙ h)
+same_fault {b = b} e (repeats_variant l n t r) = repeats_variant l (sym (e (lower_singleton b)) ∙ n) t r
+same_fault {b = b} e (breaks_rule l n r k) = breaks_rule l (sym (e (lower_singleton b)) ∙ n) r k
 
 same_first : {seen more : List ℕ} {bs : List Block} {f : Fault} → HaveSame seen more → FirstBadBlock languages seen bs f → FirstBadBlock languages more bs f
 same_first e (here h) = here (same_fault e h)
-same_first e (later {b = b} l n k h) = later l (sym (e (singleton b)) ∙ n) k (same_first (λ s. ap (λ (t : Bool). eq_by_cmp nat_cmp s (singleton b) || t) (e s)) h)
+same_first e (later {b = b} l n k h) = later l (sym (e (lower_singleton b)) ∙ n) k (same_first (λ s. ap (λ (t : Bool). eq_by_cmp nat_cmp s (lower_singleton b) || t) (e s)) h)
 
 same_bad : (seen more : List ℕ) (ps : List (List ℕ)) (b : BadBlock) → HaveSame seen more → HaveBad seen ps b → HaveBad more ps b
 same_bad seen more ps b e h = record { none_before = h.none_before; first = same_first e h.first }
@@ -205,7 +206,7 @@ record IsNextBlock (c d : ℕ) (bs : List Block) (ps : List (List ℕ)) : Type 0
   pub next : Block
   pub after : List Block
   pub cut : bs ≡ before ++ (next ∷ after)
-  pub lesser : AllByRecursion (λ b. singleton b < c) before
+  pub lesser : AllByRecursion (λ b. lower_singleton b < c) before
   pub is : next.0 ≡ d
   pub pieces_are : ps ≡ next.1 ++ pieces_in after
 
@@ -259,7 +260,7 @@ module _ (c : ℕ) (bs : List Block) (l : Left) (left : IsLeft l) (one : l.n ≡
         before = n.before ++ n.next ∷ [];
         after = n.after;
         cut = n.cut ∙ sym (append_assoc n.before (n.next ∷ []) n.after);
-        lesser = all_append (λ b. singleton b < c) n.before (n.next ∷ []) n.lesser (subst (λ (d : ℕ). to_ascii_lowercase d < c) (sym n.is) less, tt);
+        lesser = all_append (λ b. lower_singleton b < c) n.before (n.next ∷ []) n.lesser (subst (λ (d : ℕ). to_ascii_lowercase d < c) (sym n.is) less, tt);
         body = n.next.1;
         long = (good_block n.next (all_split IsBlockInOrder n.before (n.next ∷ n.after) (subst (AllByRecursion IsBlockInOrder) n.cut each)).1.0).long;
         pieces_are = n.pieces_are;
@@ -317,7 +318,7 @@ module _ (l : Left) (c : ℕ) (h : IsLeft l) (is : IsSingletonOf l c) where
 
 -- ---- a block among others
 
-module _ (room text : List ℕ) (k c : ℕ) (before after : List Block) (lesser : AllByRecursion (λ b. singleton b < c) before) (greater : AllByRecursion (λ b. c < singleton b) after)
+module _ (room text : List ℕ) (k c : ℕ) (before after : List Block) (lesser : AllByRecursion (λ b. lower_singleton b < c) before) (greater : AllByRecursion (λ b. c < lower_singleton b) after)
     (prefix : take k room ≡ text ++ dashes (pieces_in before)) where
   block_among : (ps : List (List ℕ)) (room' : List ℕ) (s : Stored) → IsBlockStored c (take k room) ps room' s → (new : List ℕ) (e : ℕ) → AreStored new (take s.end room' ++ dashes (pieces_in after)) e
       → IsBlockAmong c text (before ++ after) ps new (record { end = e; next = s.next })
@@ -343,7 +344,7 @@ module _ (room text : List ℕ) (k c : ℕ) (before after : List Block) (lesser 
           ∙ sym (dashes-append (pieces_in before) (pieces_in (b.new ∷ after))) ∙ ap dashes (sym (pieces_append before (b.new ∷ after))))
 
 -- the room holds no greater singleton
-pub block_appended : (room text : List ℕ) (start end c : ℕ) (bs : List Block) (ps : List (List ℕ)) → HoldsBlocks room start end text bs → AllByRecursion (λ b. singleton b < c) bs
+pub block_appended : (room text : List ℕ) (start end c : ℕ) (bs : List Block) (ps : List (List ℕ)) → HoldsBlocks room start end text bs → AllByRecursion (λ b. lower_singleton b < c) bs
     → (new : List ℕ) (s : Stored) → IsBlockStored c (take end room) ps new s → IsBlockAmong c text bs ps new s
 block_appended room text start end c bs ps a lesser new s b =
     subst (λ l. IsBlockAmong c text l ps new s) (append-nil bs)
@@ -351,8 +352,8 @@ block_appended room text start end c bs ps a lesser new s b =
 
 -- the bytes from the place on are laid aside
 module _ (room text : List ℕ) (start end n c : ℕ) (bs : List Block) (inside : end ≤ length room) (a : HoldsBlocks room start end text bs) (p : IsBlockPlace c bs n) where
-  pub all_greater : AllByRecursion (λ b. c < singleton b) (p.next ∷ p.after)
-  all_greater = (p.greater, all_weaker (λ b. singleton p.next < singleton b) (λ b. c < singleton b) (λ b less. omega (arith, p.greater)) p.after (ascend_later p.before p.after p.next (subst AreAscending p.cut a.ascending)))
+  pub all_greater : AllByRecursion (λ b. c < lower_singleton b) (p.next ∷ p.after)
+  all_greater = (p.greater, all_weaker (λ b. lower_singleton p.next < lower_singleton b) (λ b. c < lower_singleton b) (λ b less. omega (arith, p.greater)) p.after (ascend_later p.before p.after p.next (subst AreAscending p.cut a.ascending)))
 
   pub unseen_at : IsUnseen c (singletons_of bs)
   unseen_at = subst (λ cs. IsUnseen c (singletons_of cs)) (sym p.cut) (unseen_between c p.before (p.next ∷ p.after) p.lesser all_greater)
@@ -427,17 +428,17 @@ module _ (text : List ℕ) (ps left : List (List ℕ)) (start end last c : ℕ) 
   sound : IsSound a.new.0 a.block.body
   sound = sound_block c left s a.new a.block
 
-  lesser : AllByRecursion (λ b. singleton b < singleton a.new) a.before
-  lesser = subst (λ (d : ℕ). AllByRecursion (λ b. singleton b < d) a.before) (sym a.block.is) a.lesser
+  lesser : AllByRecursion (λ b. lower_singleton b < lower_singleton a.new) a.before
+  lesser = subst (λ (d : ℕ). AllByRecursion (λ b. lower_singleton b < d) a.before) (sym a.block.is) a.lesser
 
-  greater : AllByRecursion (λ b. singleton a.new < singleton b) a.after
-  greater = subst (λ (d : ℕ). AllByRecursion (λ b. d < singleton b) a.after) (sym a.block.is) a.greater
+  greater : AllByRecursion (λ b. lower_singleton a.new < lower_singleton b) a.after
+  greater = subst (λ (d : ℕ). AllByRecursion (λ b. d < lower_singleton b) a.after) (sym a.block.is) a.greater
 
-  unseen : IsUnseen (singleton a.new) (singletons_of far.new)
-  unseen = subst (λ bs. IsUnseen (singleton a.new) (singletons_of bs)) (sym a.cut) (unseen_between (singleton a.new) a.before a.after lesser greater)
+  unseen : IsUnseen (lower_singleton a.new) (singletons_of far.new)
+  unseen = subst (λ bs. IsUnseen (lower_singleton a.new) (singletons_of bs)) (sym a.cut) (unseen_between (lower_singleton a.new) a.before a.after lesser greater)
 
-  seen_same : HaveSame (singletons_of (a.before ++ (a.new ∷ a.after))) (singleton a.new ∷ singletons_of far.new)
-  seen_same = subst (λ bs. HaveSame (singletons_of (a.before ++ (a.new ∷ a.after))) (singleton a.new ∷ singletons_of bs)) (sym a.cut) (same_put a.before a.after a.new)
+  seen_same : HaveSame (singletons_of (a.before ++ (a.new ∷ a.after))) (lower_singleton a.new ∷ singletons_of far.new)
+  seen_same = subst (λ bs. HaveSame (singletons_of (a.before ++ (a.new ∷ a.after))) (lower_singleton a.new ∷ singletons_of bs)) (sym a.cut) (same_put a.before a.after a.new)
 
   bad_later : (b : BadBlock) → HaveBad (singletons_of (a.before ++ (a.new ∷ a.after))) (left_of s.next) b → HaveBad [] ps b
   bad_later b h =
@@ -457,7 +458,7 @@ module _ (text : List ℕ) (ps left : List (List ℕ)) (start end last c : ℕ) 
       each = of_all IsBlockInOrder far.held.each a.block.ordered;
       ascending = ascend_put a.before a.after a.new (subst AreAscending a.cut far.held.ascending) lesser greater;
     };
-    none_above = of_all (λ b. singleton b ≤ next) (all_weaker (λ b. singleton b ≤ last) (λ b. singleton b ≤ next) (λ b h. omega arith) far.new far.none_above) (omega (arith, a.block.is));
+    none_above = of_all (λ b. lower_singleton b ≤ next) (all_weaker (λ b. lower_singleton b ≤ last) (λ b. lower_singleton b ≤ next) (λ b h. omega arith) far.new far.none_above) (omega (arith, a.block.is));
     keeps = block_put a.before a.after far.written a.new.0 a.new.1 a.block.body a.block.ordered.other (subst (λ (d : ℕ). KeepsBlock d a.new.1 a.block.body) (sym a.block.is) a.block.keeps)
         (λ cs. subst (λ l. KeepsBlocks (l ++ cs) (far.written ++ cs)) a.cut (far.keeps cs));
     bad = bad_later;
@@ -476,7 +477,7 @@ blocks_end text ps left start end last room new n far some starts free printed a
   some = some;
   starts = starts_in far.new left starts;
   free = all_append IsHyphenFree (pieces_in far.new) left (free_in far.new far.held.each) free;
-  printed = printed_in 0 far.new left far.held.each (all_weaker IsBlockInOrder (λ b. 0 < singleton b) (λ b h. letter_above b.0 h.letter) far.new far.held.each) far.held.ascending printed;
+  printed = printed_in 0 far.new left far.held.each (all_weaker IsBlockInOrder (λ b. 0 < lower_singleton b) (λ b h. letter_above b.0 h.letter) far.new far.held.each) far.held.ascending printed;
   keeps = λ e m. subst (λ l. BlocksGive (grammar_rules languages) l e) (sym far.cut)
       (far.keeps (blocks left) e (subst (λ l. BlocksGive (grammar_rules languages) l e) (blocks_in far.new left far.held.each starts) m));
   stored = subst (λ (t : List ℕ). AreStored new t n)
@@ -495,7 +496,7 @@ blocks_last text ps left start end last c room new s far a e =
     (subst (λ qs. AreStored new (take s.end new ++ dashes qs) s.end) (sym none) (stored_none new s.end a.stored.more))
 
 pub unseen_x : (bs : List Block) → AllByRecursion IsBlockInOrder bs → IsUnseen 120 (singletons_of bs)
-unseen_x bs h = unseen_differ 120 bs (all_weaker IsBlockInOrder (λ b. singleton b ≢ 120) (λ b k. k.other) bs h)
+unseen_x bs h = unseen_differ 120 bs (all_weaker IsBlockInOrder (λ b. lower_singleton b ≢ 120) (λ b k. k.other) bs h)
 
 module _ (text : List ℕ) (ps : List (List ℕ)) where
   pub bad_so_far : (left : List (List ℕ)) (start end last : ℕ) (room : List ℕ) (far : AreBlocksSoFar text ps start end last room left) → (f : Failure) → IsBadAfter (singletons_of far.new) left f → IsBadAfter [] ps f

@@ -11,11 +11,11 @@ use Rattle.iloc_spec_grammar.proofs.PiecesLaws.{pieces-join}
 use Rattle.iloc_spec_grammar.proofs.PartTexts.{join-dashes, dashes-append}
 use Rattle.iloc_spec_grammar.proofs.ReadBack.{all_append}
 use Rattle.iloc_spec_grammar.proofs.ValuesLaws.{all_weaker}
-use Rattle.iloc_blocks.specs.Blocks.{left_of, ArePast, IsValue}
+use Rattle.iloc_blocks.specs.Blocks.{ArePast, IsValuePiece}
 use Rattle.iloc_fronts.specs.Words.{two_number}
 use Rattle.iloc_fronts.specs.Left.{pieces_of, piece_of, IsLeft}
 use Rattle.iloc_blocks.specs.Transform.{IsRest}
-use Rattle.iloc_rewriting.specs.Rewriting.{AreStored, IsShorter, IsValueStored, IsFieldOf, IsFieldStored, IsFieldKept, AreValuesKept, Ascend, AreUpTo, AreFieldsStored, HaveSame, IsInserted, IsPlace, IsPrintedField, IsPrintedValue, AreFieldsSoFar, AreFieldsInOrder, BeginsBlock, key_kind, key_number}
+use Rattle.iloc_rewriting.specs.Rewriting.{AreStored, IsShorter, IsValueStored, IsFieldOf, IsFieldStored, IsFieldKept, AreValuesKept, Ascend, AreUpTo, AreFieldsStored, HaveSame, IsInserted, IsFieldPlace, IsPrintedField, IsPrintedValue, AreFieldsSoFar, AreFieldsInOrder, BeginsBlock, key_kind, key_number}
 use Rattle.iloc_fronts.specs.declared.left.Left.{Left}
 use Rattle.iloc_rewriting.specs.declared.keywords.KeyKind.{KeyKind}
 use Rattle.iloc_rewriting.specs.declared.keywords.KeyKind.TheVariants as kind
@@ -27,6 +27,7 @@ use Rattle.iloc_blocks.proofs.TransformLemmas.{values_in_order, one_in_order}
 use Rattle.iloc_rewriting.proofs.StoringLemmas.{take_two}
 use Rattle.iloc_rewriting.proofs.RewritingLemmas.{attribute_from, cut_left, length-joined, piece_more}
 use Rattle.iloc_rewriting.proofs.KeywordLemmas.{key_short, length-key, field_from, fields_free, one_number, same_more, same_then, same_inserted, same_there, all_insert, ascend_later, ascend_insert, ascend_append, all_above, all_fields, keys_ascend, pieces_of_both, IsFieldsCut, cut_fields}
+use Rattle.iloc_fronts.specs.Walk.{left_of}
 
 -- ---- what is left
 
@@ -55,11 +56,11 @@ stored_none room e more = record { begins = sym (append-nil (take e room)); more
 pub record IsPieceKept (text p room : List ℕ) (e : ℕ) : Type 0 where
   pub kept : List (List ℕ)
   pub stored : AreStored room (text ++ dashes kept) e
-  pub each : AllByRecursion IsValue kept
+  pub each : AllByRecursion IsValuePiece kept
   pub few : length kept ≤ 1
   pub same : (vs ws : List (List ℕ)) → normal_values ws ≡ normal_values vs → normal_values (kept ++ ws) ≡ normal_values (p ∷ vs)
 
-pub piece_kept : (text p room : List ℕ) (e : ℕ) → IsValue p → AreStored room (text ++ 45 ∷ p) e → IsPieceKept text p room e
+pub piece_kept : (text p room : List ℕ) (e : ℕ) → IsValuePiece p → AreStored room (text ++ 45 ∷ p) e → IsPieceKept text p room e
 piece_kept text p room e w a = record {
   kept = p ∷ [];
   stored = stored_one text room p e a;
@@ -77,8 +78,8 @@ piece_dropped p room e is more = record {
   same = λ vs ws h. h ∙ ap (λ (b : Bool). cond (not b) (lower p ∷ normal_values vs) (normal_values vs)) (sym is);
 }
 
-words_of_values : (ws : List (List ℕ)) → AllByRecursion IsValue ws → AllByRecursion (IsWord Attribute) ws
-words_of_values = all_weaker IsValue (IsWord Attribute) (λ w h. h.0)
+words_of_values : (ws : List (List ℕ)) → AllByRecursion IsValuePiece ws → AllByRecursion (IsWord Attribute) ws
+words_of_values = all_weaker IsValuePiece (IsWord Attribute) (λ w h. h.0)
 
 pub value_more : (text room p : List ℕ) (e m n : ℕ) (ps qs : List (List ℕ)) → IsWord Attribute p → IsPieceKept text p room e → ps ≡ p ∷ qs → m ≤ n
     → (new : List ℕ) (s : Stored) → IsValueStored kind.Unicode (take e room) qs m new s → IsValueStored kind.Unicode text ps n new s
@@ -89,7 +90,7 @@ value_more text room p e m n ps qs w k cut le new s h = record {
   words = record {
     each = (w, h.words.each);
     each_kept = all_append (IsWord Attribute) k.kept h.kept (words_of_values k.kept k.each) h.words.each_kept;
-    printed = all_append IsValue k.kept h.kept k.each h.words.printed;
+    printed = all_append IsValuePiece k.kept h.kept k.each h.words.printed;
     few = omega (arith, k.few, h.words.few, length-append k.kept h.kept);
     enough = omega arith;
     same = k.same h.values h.kept h.words.same;
@@ -255,7 +256,7 @@ pub above_number : (a n : ℕ) → n ≤ a → (a == n) ≡ false → n < a
 above_number a n le t = grind (arith, nat_tests)
 
 pub place_here : (k : KeyKind) (l : Left) → IsLeft l → IsWord (key_kind k) (piece_of l) → (number other : ℕ) → other ≡ two_number (take 2 l.window.now) → number ≤ other
-    → IsPlace k number (pieces_of l) l.len (record { is_there = other == number; len = l.len })
+    → IsFieldPlace k number (pieces_of l) l.len (record { is_there = other == number; len = l.len })
 place_here k l h w number other is le = record {
   before = [];
   each = tt;
@@ -278,7 +279,7 @@ place_here k l h w number other is le = record {
     same = is ∙ number_in l.window.now l.n (omega (arith, length-key k (piece_of l) w, length-piece l h))
 
 pub place_later : (k : KeyKind) (key : List ℕ) (ps qs : List (List ℕ)) (number len m n : ℕ) (next : Left) → IsWord (key_kind k) key → two_number key < number → ps ≡ key ∷ qs → ArePast 3 len qs (Some next) → m ≤ n
-    → (p : Place) → IsPlace k number (pieces_of next) m p → IsPlace k number ps n p
+    → (p : Place) → IsFieldPlace k number (pieces_of next) m p → IsFieldPlace k number ps n p
 place_later k key ps qs number len m n next w less cut past le p h = record {
   before = (key, past.words) ∷ h.before;
   each = ((w, attribute_from past.words past.each), h.each);
@@ -354,7 +355,7 @@ begins_still room xs ys m e inside long is =
     whole (c ∷ t) = ap (λ l. c ∷ l) (whole t)
 
 module _ (k : KeyKind) (room text key : List ℕ) (start end n number : ℕ) (fs : Fields) (ps : List (List ℕ)) (room_end : end ≤ length room) (a : AreFieldsStored k room start end text fs)
-    (w : IsWord (key_kind k) key) (is : number ≡ two_number key) (len : ℕ) (p : Place) (place : IsPlace k number (fields_pieces fs) len p) where
+    (w : IsWord (key_kind k) key) (is : number ≡ two_number key) (len : ℕ) (p : Place) (place : IsFieldPlace k number (fields_pieces fs) len p) where
   cut : IsFieldsCut fs place.before place.key place.rest
   cut = cut_fields k fs place.before place.key place.rest (all_fields k fs a.each) place.each place.is_key place.cut
 

@@ -8,7 +8,7 @@ use Rattle.iloc_spec_grammar.proofs.ReadBack.{all_append, word_hyphen_free}
 use Rattle.iloc_spec_grammar.proofs.Readings.{IsLong, long_attribute}
 use Rattle.iloc_spec_grammar.proofs.ValuesLaws.{all_both, all_weaker}
 use Rattle.iloc_spec_grammar.specs.ByBlocks.{UnicodeMeans}
-use Rattle.iloc_blocks.specs.Blocks.{IsUnicodePart, IsValue, left_of}
+use Rattle.iloc_blocks.specs.Blocks.{IsUnicodePart, IsValuePiece}
 use Rattle.iloc_rewriting.specs.Rewriting.{AreStored, AreFieldsInOrder}
 use Rattle.iloc_rewriting.specs.Words.{AreWordsStored}
 use Rattle.iloc_rewriting.specs.Sorting.{IsBodyStored, IsOrderOf}
@@ -19,6 +19,7 @@ use Rattle.iloc_rewriting.proofs.KeywordLemmas.{fields_long, fields_free}
 use Rattle.iloc_rewriting.proofs.RewritingLemmas.{same_unicode}
 use Rattle.iloc_rewriting.proofs.StoredLemmas.{stored_none}
 use Rattle.iloc_rewriting.proofs.WordLemmas.{words_ascend}
+use Rattle.iloc_fronts.specs.Walk.{left_of}
 
 -- nothing is left, so there are no fields
 pub no_fields : (room : List ℕ) (e : ℕ) → e + 16 ≤ length room → AreFieldsInOrder kind.Unicode (take e room) [] room (record { end = e; next = None })
@@ -69,8 +70,8 @@ module _ (text : List ℕ) (ps : List (List ℕ)) (n : ℕ) (room : List ℕ) (s
     keywords = record {
       fields = k.kept;
       spelled = refl;
-      each = all_weaker (λ f. IsKeyword f × AllByRecursion IsValue f.1) (λ f. IsWord UnicodeKey f.0 × AllByRecursion IsValue f.1) (λ f i. (i.0.0, i.1)) k.kept
-          (all_both IsKeyword (λ f. AllByRecursion IsValue f.1) k.kept k.each_kept k.printed);
+      each = all_weaker (λ f. IsKeyword f × AllByRecursion IsValuePiece f.1) (λ f. IsWord UnicodeKey f.0 × AllByRecursion IsValuePiece f.1) (λ f i. (i.0.0, i.1)) k.kept
+          (all_both IsKeyword (λ f. AllByRecursion IsValuePiece f.1) k.kept k.each_kept k.printed);
       ascending = k.ascending;
     };
     some = some;

@@ -6,7 +6,7 @@ use Rattle.iloc_spec_grammar.specs.Meaning.{IdentifierMeans, normal_identifier, 
 use Rattle.iloc_spec_grammar.specs.Tree.{FirstBadBlock, HasTreeFault, bad_block}
 use Rattle.iloc_spec_grammar.specs.Reading.{identifier_of}
 use Rattle.iloc_spec_grammar.specs.Values.{Reordered}
-use Rattle.iloc_spec_grammar.specs.TreeSteps.{TreeIdentifierStep, with_variants}
+use Rattle.iloc_spec_grammar.specs.TreeSteps.{TreeIdentifierStep, identifier_with}
 use Rattle.iloc_spec_grammar.specs.ByBlocks.{BlocksGive, grammar_rules, MeansByBlocks}
 use Rattle.iloc_spec_grammar.proofs.FaultLaws.{read_longer}
 use Rattle.iloc_spec_grammar.proofs.IdentifierLaws.{identifier_of-pieces}
@@ -19,7 +19,6 @@ use Rattle.iloc_spec_grammar.proofs.SameFaults.{tree_fault, fault_of_first}
 use Rattle.iloc_spec_grammar.proofs.SameMeaning.{means_by_blocks, blocks_mean}
 use Rattle.iloc_spec_grammar.proofs.StepLaws.{identifier_step}
 use Rattle.iloc_spec_grammar.proofs.ValuesLaws.{all_weaker}
-use Rattle.iloc_blocks.specs.Blocks.{left_of}
 use Rattle.iloc_blocks.specs.Bad.{HasBadBlock, fault_of}
 use Rattle.iloc_blocks.specs.declared.bad_block.BadBlock.{BadBlock}
 use Rattle.iloc_blocks.specs.declared.bad_block.BadBlock.TheVariants as bad
@@ -36,12 +35,13 @@ use Rattle.iloc_rewriting.specs.declared.keywords.Stored.{Stored}
 use Rattle.iloc_rewriting.specs.declared.words.WordKind.TheVariants as kind
 use Rattle.iloc_rewriting.proofs.RewritingLemmas.{all_split}
 use Rattle.iloc_rewriting.proofs.WordLemmas.{reordered_after}
+use Rattle.iloc_fronts.specs.Walk.{left_of}
 
 -- ---- variants after an identifier without any
 
 module _ (w : Identifier) (h : HasWords languages w) (none : w.variants ≡ []) where
   abbrev pub with : List (List ℕ) → Identifier
-  with vs = with_variants w.language w.script w.region vs
+  with vs = identifier_with w.language w.script w.region vs
 
   -- these pieces are the variants, and others after them
   abbrev pub with_pieces : List (List ℕ) → List (List ℕ) → List (List ℕ)

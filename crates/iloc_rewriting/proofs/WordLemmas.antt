@@ -1,12 +1,12 @@
 -- Words that are stored in order.
-use Rattle.std.proofs.Common.{take, drop, ◌≡◌, ℕ, suc, ◌+◌, ◌-◌, ◌<◌, ◌≤◌, ◌==◌, IsTrue, Bool, true, false, cond, List, [], ◌∷◌, ◌++◌, length, map, Some, None, refl, sym, ap, ◌∙◌, subst, arith, append_assoc, append-nil, length-append}
+use Rattle.std.proofs.Common.{take, drop, ◌≡◌, ◌≢◌, ℕ, suc, ◌+◌, ◌-◌, ◌<◌, ◌≤◌, ◌==◌, IsTrue, Bool, true, false, cond, List, [], ◌∷◌, ◌++◌, length, map, Some, None, refl, sym, ap, ◌∙◌, subst, arith, append_assoc, append-nil, length-append}
 use Rattle.std.specs.List.{AllByRecursion, list_any}
 use Rattle.std.specs.FinMap.{find}
 use Rattle.std.specs.Ordering.{eq_by_cmp}
 use Rattle.std.proofs.lemmas.Bool.{and_from, or_left, or_right, true≢false}
 use Rattle.std.proofs.lemmas.List.{length-take-le, map-append}
 use Rattle.std.proofs.lemmas.List.Folds.{list_any-append}
-use Rattle.iloc_spec_grammar.specs.Syntax.{pieces, join, dashes, IsWord, IsHyphenFree, AllDifferent, is_same, lower, word_cmp}
+use Rattle.iloc_spec_grammar.specs.Syntax.{pieces, join, dashes, IsWord, IsHyphenFree, AllDifferent, is_same, first_piece, lower, word_cmp}
 use Rattle.iloc_spec_grammar.specs.Meaning.{set_of}
 use Rattle.iloc_spec_grammar.specs.Reading.{rest_of}
 use Rattle.iloc_spec_grammar.specs.Values.{IsAscending, Reordered}
@@ -18,12 +18,14 @@ use Rattle.iloc_spec_grammar.proofs.MapLaws.{map_of_same, same_itself, word_cmp_
 use Rattle.iloc_spec_grammar.proofs.SetLaws.{marked, keys, set_of-first}
 use Rattle.iloc_fronts.specs.Left.{pieces_of, piece_of, IsLeft}
 use Rattle.iloc_fronts.specs.declared.left.Left.{Left}
+use Rattle.iloc_fronts.proofs.LeftLemmas.{few_left, first_left, length-piece}
+use Rattle.iloc_spec_grammar.proofs.PiecesLaws.{pieces_nonempty}
 use Rattle.iloc_fronts.proofs.FrontLemmas.{IsShort, short_attribute, short_variant}
 use Rattle.iloc_fronts.specs.Words.{IsUpToEight, word_number}
 use Rattle.iloc_fronts.proofs.WordNumbers.{attribute_fits, variant_fits, equal_same}
 use Rattle.iloc_blocks.proofs.UnicodeLemmas.{words_below}
 use Rattle.iloc_rewriting.specs.Rewriting.{AreStored, Ascend, AreUpTo}
-use Rattle.iloc_rewriting.specs.Words.{word_kind, KeepsAll, AreInPlaceOf, AreWordsStored, AreWordsHeld, IsWordStored, IsPlaceAmong, AreUnsorted, IsThere, AreWordsSoFar}
+use Rattle.iloc_rewriting.specs.Words.{word_kind, AreHeld, KeepsAll, AreInPlaceOf, AreWordsStored, AreWordsHeld, IsWordStored, IsPlaceAmong, AreUnsorted, IsThere, AreWordsSoFar}
 use Rattle.iloc_rewriting.specs.declared.keywords.Place.{Place}
 use Rattle.iloc_rewriting.specs.declared.words.Unsorted.{Unsorted}
 use Rattle.iloc_rewriting.specs.declared.words.Unsorted.TheVariants as unsorted
@@ -216,16 +218,42 @@ module _ (s : WordKind) (text room p : List ℕ) (start end len : ℕ) (ws : Lis
 
 -- ---- a place among words
 
--- a place among the pieces behind the text is one among the words that are held there
+-- the pieces behind the text are the words that are held there
+pub pieces_held : (s : WordKind) (room text : List ℕ) (start end : ℕ) (ws : List (List ℕ)) → end ≤ length room → AreWordsHeld s room start end text ws → start < end
+    → (l : Left) → l.window.now ≡ take (length room - (start + 1)) (drop (start + 1) room) → l.len ≡ end - start - 1 → pieces_of l ≡ ws
+pieces_held s room text start end ws room_end a some l window len =
+    (λ j. pieces (take (len j) (window j)))
+    ∙ pieces_in_room room text start end ws room_end a.before a.stored (all_weaker (IsWord (word_kind s)) IsHyphenFree (word_hyphen_free (word_kind s)) ws a.each) some
+
+pub words_held : (s : WordKind) (room : List ℕ) (start end : ℕ) → end ≤ length room → AreHeld s room start end → start < end
+    → (l : Left) → l.window.now ≡ take (length room - (start + 1)) (drop (start + 1) room) → l.len ≡ end - start - 1 → AllByRecursion IsUpToEight (pieces_of l)
+words_held s room start end room_end h some l window len =
+    subst (AllByRecursion IsUpToEight) (sym (pieces_held s room h.text start end h.words room_end h.held some l window len))
+    (all_weaker (IsWord (word_kind s)) IsUpToEight (kind_fits s) h.words h.held.each)
+
+-- a place among them is one among the words
 pub place_held : (s : WordKind) (room text word : List ℕ) (start end : ℕ) (ws : List (List ℕ)) → end ≤ length room → AreWordsHeld s room start end text ws → start < end
     → (l : Left) → l.window.now ≡ take (length room - (start + 1)) (drop (start + 1) room) → l.len ≡ end - start - 1
     → (p : Place) → IsPlaceAmong word (pieces_of l) l.len p → IsPlaceAmong word ws l.len p
-place_held s room text word start end ws room_end a some l window len p h = subst (λ (ps : List (List ℕ)). IsPlaceAmong word ps l.len p) words h
+place_held s room text word start end ws room_end a some l window len p h =
+    subst (λ (ps : List (List ℕ)). IsPlaceAmong word ps l.len p) (pieces_held s room text start end ws room_end a some l window len) h
+
+-- the first of words is one
+pub word_first : (l : Left) → IsLeft l → AllByRecursion IsUpToEight (pieces_of l) → IsUpToEight (piece_of l)
+word_first l h each =
+    let one = first (pieces_of l) (pieces_nonempty (take l.len l.window.now)) each in
+    let few : l.n < 16 = under (l.n) (length (first_piece (pieces_of l))) (few_left l h) h.first.long one.few in
+    subst IsUpToEight (first_left l h few) one
   where
-    words : pieces_of l ≡ ws
-    words =
-        (λ j. pieces (take (len j) (window j)))
-        ∙ pieces_in_room room text start end ws room_end a.before a.stored (all_weaker (IsWord (word_kind s)) IsHyphenFree (word_hyphen_free (word_kind s)) ws a.each) some
+    first : (ps : List (List ℕ)) → ps ≢ [] → AllByRecursion IsUpToEight ps → IsUpToEight (first_piece ps)
+    first [] some e = absurd (some refl)
+    first (p ∷ ps) some e = e.0
+
+    under : (n m : ℕ) → n ≤ 16 → (n ≡ 16 → 16 ≤ m) → m ≤ 8 → n < 16
+    under n m le long few = grind arith
+
+pub short_first : (l : Left) → IsLeft l → IsUpToEight (piece_of l) → l.n < 16
+short_first l h one = omega (arith, length-piece l h, few_left l h, one.few)
 
 pub among_here : (word : List ℕ) (l : Left) → IsLeft l → l.n < 16 → IsUpToEight word → IsUpToEight (piece_of l) → (number other : ℕ) → number ≡ word_number word → other ≡ word_number (piece_of l) → number ≤ other
     → IsPlaceAmong word (pieces_of l) l.len (record { is_there = other == number; len = l.len })

@@ -4,7 +4,7 @@ use Rattle.std.specs.List.{AllByRecursion}
 use Rattle.std.specs.FinMap.{find, is_sorted}
 use Rattle.iloc_spec_grammar.specs.Syntax.{Text, Field, Fields, Kind, UnicodeKey, TransformKey, Attribute, is_word, IsWord, IsKeyword, IsField, word_cmp, first_piece, lower, dashes, join, fields_pieces, languages}
 use Rattle.iloc_spec_grammar.specs.Meaning.{Locale, Means, normal_values}
-use Rattle.iloc_blocks.specs.Blocks.{IsValue, left_of, lower_fields}
+use Rattle.iloc_blocks.specs.Blocks.{IsValuePiece, lower_fields}
 use Rattle.iloc_fronts.specs.Words.{two_number}
 use Rattle.iloc_fronts.specs.Left.{IsLeft}
 use Rattle.iloc_blocks.specs.Transform.{IsAsPrinted, IsRest}
@@ -13,6 +13,7 @@ use Rattle.iloc_rewriting.specs.declared.keywords.KeyKind.{KeyKind}
 use Rattle.iloc_rewriting.specs.declared.keywords.KeyKind.TheVariants as kind
 use Rattle.iloc_rewriting.specs.declared.keywords.Stored.{Stored}
 use Rattle.iloc_rewriting.specs.declared.keywords.Place.{Place}
+use Rattle.iloc_fronts.specs.Walk.{left_of}
 
 -- whatever the new text means, the old one means
 abbrev pub IsRewritten : Text → Text → Type 0
@@ -31,9 +32,9 @@ IsShorter len (Some l) = IsLeft l × (l.len < len)
 -- Fields.
 
 -- fields of `t`, or of `u`
-abbrev pub kind_of : Bool → KeyKind
-kind_of true = kind.Transform
-kind_of false = kind.Unicode
+abbrev pub transform_or_unicode : Bool → KeyKind
+transform_or_unicode true = kind.Transform
+transform_or_unicode false = kind.Unicode
 
 -- the keys of fields of `u`, or of `t`
 abbrev pub key_kind : KeyKind → Kind
@@ -52,14 +53,15 @@ least kind.Transform = 1
 
 -- the value is as it is printed
 abbrev pub IsPrintedValue : KeyKind → List Text → Type 0
-IsPrintedValue kind.Unicode ws = AllByRecursion IsValue ws
+IsPrintedValue kind.Unicode ws = AllByRecursion IsValuePiece ws
 IsPrintedValue kind.Transform ws = IsAsPrinted ws
 
 -- a field with such a value
 abbrev pub IsPrintedField : KeyKind → Field → Type 0
 IsPrintedField k f = IsFieldOf k f × IsPrintedValue k f.1
 
--- the values are words, and so are those that are kept, enough for such a field, as they are printed
+-- the values are words, and so are those that are kept, enough for such a field, as they are
+-- printed
 pub record AreValuesKept (k : KeyKind) (values kept : List Text) : Type 0 where
   pub each : AllByRecursion (IsWord Attribute) values
   pub each_kept : AllByRecursion (IsWord Attribute) kept
@@ -69,7 +71,8 @@ pub record AreValuesKept (k : KeyKind) (values kept : List Text) : Type 0 where
   pub same : normal_values kept ≡ normal_values values
 
 -- values that come first are stored behind the text as those of such a field
-pub record IsValueStored (k : KeyKind) (text : Text) (ps : List Text) (len : ℕ) (room : Text) (s : Stored) : Type 0 where
+pub record IsValueStored (k : KeyKind) (text : Text) (ps : List Text) (len : ℕ) (room : Text)
+    (s : Stored) : Type 0 where
   pub values : List Text
   pub kept : List Text
   pub cut : ps ≡ values ++ left_of s.next
@@ -85,7 +88,8 @@ pub record IsFieldKept (k : KeyKind) (key : Text) (values kept : List Text) : Ty
   pub same : normal_values kept ≡ normal_values values
 
 -- a field with this key that comes first is stored behind the text
-pub record IsFieldStored (k : KeyKind) (text key : Text) (ps : List Text) (len : ℕ) (room : Text) (s : Stored) : Type 0 where
+pub record IsFieldStored (k : KeyKind) (text key : Text) (ps : List Text) (len : ℕ) (room : Text)
+    (s : Stored) : Type 0 where
   pub values : List Text
   pub kept : List Text
   pub cut : ps ≡ key ∷ (values ++ left_of s.next)
@@ -107,7 +111,8 @@ abbrev pub key_number : Field → ℕ
 key_number f = two_number f.0
 
 -- fields with ascending keys are stored behind the text
-pub record AreFieldsStored (k : KeyKind) (room : Text) (start end : ℕ) (text : Text) (fields : Fields) : Type 0 where
+pub record AreFieldsStored (k : KeyKind) (room : Text) (start end : ℕ) (text : Text)
+    (fields : Fields) : Type 0 where
   pub before : length text ≡ start
   pub stored : take end room ≡ text ++ dashes (fields_pieces fields)
   pub each : AllByRecursion (IsPrintedField k) fields
@@ -122,7 +127,8 @@ abbrev pub HaveSame : Fields → Fields → Type 0
 HaveSame fs gs = (q : Text) → find word_cmp q (entries fs) ≡ find word_cmp q (entries gs)
 
 -- a field with this key comes first, and with it the fields behind the text are still in order
-pub record IsInserted (k : KeyKind) (text : Text) (fields : Fields) (key : Text) (ps : List Text) (len : ℕ) (room : Text) (s : Stored) : Type 0 where
+pub record IsInserted (k : KeyKind) (text : Text) (fields : Fields) (key : Text) (ps : List Text)
+    (len : ℕ) (room : Text) (s : Stored) : Type 0 where
   pub values : List Text
   pub kept : List Text
   pub cut : ps ≡ key ∷ (values ++ left_of s.next)
@@ -137,9 +143,11 @@ pub record IsInserted (k : KeyKind) (text : Text) (fields : Fields) (key : Text)
   pub same : HaveSame (fields ++ (key, kept) ∷ []) all
 
 -- the fields before this place have lesser keys, and that of the next is told
-pub record IsPlace (k : KeyKind) (number : ℕ) (ps : List Text) (len : ℕ) (p : Place) : Type 0 where
+pub record IsFieldPlace (k : KeyKind) (number : ℕ) (ps : List Text) (len : ℕ)
+    (p : Place) : Type 0 where
   pub before : Fields
-  pub each : AllByRecursion (λ f. IsWord (key_kind k) f.0 × AllByRecursion (IsWord Attribute) f.1) before
+  pub each : AllByRecursion
+      (λ f. IsWord (key_kind k) f.0 × AllByRecursion (IsWord Attribute) f.1) before
   pub less : AllByRecursion (λ f. key_number f < number) before
   pub key : Text
   pub is_key : IsWord (key_kind k) key
@@ -157,7 +165,8 @@ BeginsBlock None = ⊤
 BeginsBlock (Some l) = IsLeft l × (l.n ≡ 1)
 
 -- fields that come first are stored in order
-pub record AreFieldsInOrder (k : KeyKind) (text : Text) (ps : List Text) (room : Text) (s : Stored) : Type 0 where
+pub record AreFieldsInOrder (k : KeyKind) (text : Text) (ps : List Text) (room : Text)
+    (s : Stored) : Type 0 where
   pub written : Fields
   pub kept : Fields
   pub cut : ps ≡ fields_pieces written ++ left_of s.next
@@ -175,7 +184,8 @@ pub record AreFieldsInOrder (k : KeyKind) (text : Text) (ps : List Text) (room :
 -- Steps.
 
 -- fields so far are stored in order behind the text, and others are left
-pub record AreFieldsSoFar (k : KeyKind) (text : Text) (ps : List Text) (start last : ℕ) (room : Text) (s : Stored) : Type 0 where
+pub record AreFieldsSoFar (k : KeyKind) (text : Text) (ps : List Text) (start last : ℕ)
+    (room : Text) (s : Stored) : Type 0 where
   pub written : Fields
   pub kept : Fields
   pub cut : ps ≡ fields_pieces written ++ left_of s.next

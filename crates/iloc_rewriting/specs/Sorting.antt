@@ -4,23 +4,24 @@ use Rattle.std.specs.Int.{is_in_range}
 use Rattle.std.specs.List.{AllByRecursion, list_any}
 use Rattle.std.specs.Ordering.{nat_cmp, eq_by_cmp}
 use Rattle.std.specs.Char.{is_ascii_alphanumeric, to_ascii_lowercase}
-use Rattle.iloc_spec_grammar.specs.Syntax.{Text, Block, Subtag, is_word, IsHyphenFree, dashes, join, blocks, singleton, is_one_byte, is_other_singleton, code_t, code_u, code_x, languages}
+use Rattle.iloc_spec_grammar.specs.Syntax.{Text, Block, Subtag, Variant, is_word, IsWord, IsHyphenFree, dashes, join, blocks, lower_singleton, is_one_byte, is_other_singleton, code_t, code_u, code_x, languages}
 use Rattle.iloc_spec_grammar.specs.Tree.{block_pieces}
 use Rattle.iloc_spec_grammar.specs.Meaning.{Extensions}
 use Rattle.iloc_spec_grammar.specs.Reading.{starts_block}
+use Rattle.iloc_spec_grammar.specs.Values.{Reordered}
 use Rattle.iloc_spec_grammar.specs.ByBlocks.{UnicodeMeans, TransformMeans, OtherMeans, BlocksGive, grammar_rules}
 use Rattle.iloc_blocks.specs.Bad.{fault_of}
-use Rattle.iloc_blocks.specs.Blocks.{ArePrinted, IsCutAs, left_of}
+use Rattle.iloc_blocks.specs.Blocks.{ArePrinted}
 use Rattle.iloc_blocks.specs.Bodies.{HaveBad, IsBodyOf, IsNoBodyOf}
 use Rattle.iloc_blocks.specs.Ordered.{IsFaultyTail}
 use Rattle.iloc_blocks.specs.Variants.{AreVariantsInOrder}
 use Rattle.iloc_blocks.specs.declared.bad_block.BadBlock.{BadBlock}
 use Rattle.iloc_blocks.specs.declared.bad_block.BadBlock.TheVariants as bad
-use Rattle.iloc_fronts.specs.Left.{pieces_of, IsLeft}
 use Rattle.iloc_fronts.specs.declared.left.Left.{Left}
 use Rattle.iloc_rewriting.specs.Rewriting.{AreStored, BeginsBlock}
 use Rattle.iloc_rewriting.specs.declared.keywords.Stored.{Stored}
 use Rattle.iloc_rewriting.specs.declared.blocks.Failure.{Failure}
+use Rattle.iloc_fronts.specs.Walk.{left_of}
 use Rattle.iloc_rewriting.specs.declared.blocks.Failure.TheVariants as failure
 
 -- What follows a singleton.
@@ -40,11 +41,13 @@ pub record KeepsBlock (c : ℕ) (new body : List Text) : Type 0 where
   pub other : is_other_singleton c ≡ true → Keeps OtherMeans new body
 
 -- the same, and the new pieces are such a body as it is printed
-pub record IsOrderOf {X : Type 0} (Means : List Text → X → Type 0) (P : List Text → Type 0) (new body : List Text) : Type 0 where
+pub record IsOrderOf {X : Type 0} (Means : List Text → X → Type 0) (P : List Text → Type 0)
+    (new body : List Text) : Type 0 where
   pub keeps : Keeps Means new body
   pub ordered : P new
 
--- the new pieces follow this singleton in lower case as they are printed, and whatever they mean there, the old ones mean
+-- the new pieces follow this singleton in lower case as they are printed, and whatever they mean
+-- there, the old ones mean
 pub record StandsFor (c : ℕ) (new body : List Text) : Type 0 where
   pub keeps : KeepsBlock c new body
   pub ordered : IsBodyOf c new
@@ -56,7 +59,8 @@ IsWrongBody c ps (failure.Bad bad.Duplicated) = ¬ ⊤
 IsWrongBody c ps failure.Other = ⊤
 
 -- pieces up to the next block are stored as others, which stand for them
-pub record IsBodyStored (R : List Text → List Text → Type 0) (text : Text) (ps : List Text) (room : Text) (s : Stored) : Type 0 where
+pub record IsBodyStored (R : List Text → List Text → Type 0) (text : Text) (ps : List Text)
+    (room : Text) (s : Stored) : Type 0 where
   pub body : List Text
   pub new : List Text
   pub cut : ps ≡ body ++ left_of s.next
@@ -90,22 +94,23 @@ pub record IsSingletonOf (l : Left) (c : ℕ) : Type 0 where
 -- the block is in the order in which it is printed
 pub record IsBlockInOrder (b : Block) : Type 0 where
   pub letter : is_ascii_alphanumeric b.0 ≡ true
-  pub other : singleton b ≢ code_x
+  pub other : lower_singleton b ≢ code_x
   pub free : AllByRecursion IsHyphenFree b.1
-  pub ordered : IsBodyOf (singleton b) b.1
+  pub ordered : IsBodyOf (lower_singleton b) b.1
 
 -- a block with this singleton in lower case comes first, and the other one stands for it
 pub record IsBlockFor (c : ℕ) (ps : List Text) (next : Option Left) (new : Block) : Type 0 where
   pub body : List Text
   pub cut : ps ≡ (new.0 ∷ []) ∷ (body ++ left_of next)
   pub long : AreLong body
-  pub is : singleton new ≡ c
+  pub is : lower_singleton new ≡ c
   pub ordered : IsBlockInOrder new
   pub keeps : KeepsBlock c new.1 body
   pub left : BeginsBlock next
 
 -- that one is stored behind the text
-pub record IsBlockStored (c : ℕ) (text : Text) (ps : List Text) (room : Text) (s : Stored) : Type 0 where
+pub record IsBlockStored (c : ℕ) (text : Text) (ps : List Text) (room : Text)
+    (s : Stored) : Type 0 where
   pub new : Block
   pub block : IsBlockFor c ps s.next new
   pub stored : AreStored room (text ++ dashes (block_pieces new)) s.end
@@ -123,16 +128,17 @@ pieces_in bs = flat_map block_pieces bs
 
 -- their singletons in lower case
 abbrev pub singletons_of : List Block → Text
-singletons_of bs = map (λ b. singleton b) bs
+singletons_of bs = map (λ b. lower_singleton b) bs
 
 -- each singleton is less than those after it
 abbrev pub AreAscending : List Block → Type 0
 AreAscending [] = ⊤
-AreAscending (b ∷ bs) = AllByRecursion (λ d. singleton b < singleton d) bs × AreAscending bs
+AreAscending (b ∷ bs) = AllByRecursion (λ d. lower_singleton b < lower_singleton d) bs
+    × AreAscending bs
 
 -- no singleton is above this one
 abbrev pub AreNoneAbove : ℕ → List Block → Type 0
-AreNoneAbove last bs = AllByRecursion (λ b. singleton b ≤ last) bs
+AreNoneAbove last bs = AllByRecursion (λ b. lower_singleton b ≤ last) bs
 
 -- the room holds blocks in order behind the text, with ascending singletons
 pub record HoldsBlocks (room : Text) (start end : ℕ) (text : Text) (bs : List Block) : Type 0 where
@@ -142,12 +148,13 @@ pub record HoldsBlocks (room : Text) (start end : ℕ) (text : Text) (bs : List 
   pub ascending : AreAscending bs
 
 -- one that stands for the first block is stored among those that the room held
-pub record IsBlockAmong (c : ℕ) (text : Text) (bs : List Block) (ps : List Text) (room : Text) (s : Stored) : Type 0 where
+pub record IsBlockAmong (c : ℕ) (text : Text) (bs : List Block) (ps : List Text) (room : Text)
+    (s : Stored) : Type 0 where
   pub before : List Block
   pub after : List Block
   pub cut : bs ≡ before ++ after
-  pub lesser : AllByRecursion (λ b. singleton b < c) before
-  pub greater : AllByRecursion (λ b. c < singleton b) after
+  pub lesser : AllByRecursion (λ b. lower_singleton b < c) before
+  pub greater : AllByRecursion (λ b. c < lower_singleton b) after
   pub new : Block
   pub block : IsBlockFor c ps s.next new
   pub stored : AreStored room (text ++ dashes (pieces_in (before ++ (new ∷ after)))) s.end
@@ -158,8 +165,8 @@ pub record IsBlockPlace (c : ℕ) (bs : List Block) (n : ℕ) : Type 0 where
   pub next : Block
   pub after : List Block
   pub cut : bs ≡ before ++ (next ∷ after)
-  pub lesser : AllByRecursion (λ b. singleton b < c) before
-  pub greater : c < singleton next
+  pub lesser : AllByRecursion (λ b. lower_singleton b < c) before
+  pub greater : c < lower_singleton next
   pub long : n ≡ length (join (pieces_in (next ∷ after)))
 
 -- one of them has the singleton
@@ -174,7 +181,7 @@ pub record AreBlocksPassed (c : ℕ) (bs : List Block) (ps : List Text) : Type 0
   pub before : List Block
   pub after : List Block
   pub cut : bs ≡ before ++ after
-  pub lesser : AllByRecursion (λ b. singleton b < c) before
+  pub lesser : AllByRecursion (λ b. lower_singleton b < c) before
   pub body : List Text
   pub long : AreLong body
   pub pieces_are : ps ≡ body ++ pieces_in after
@@ -183,10 +190,12 @@ pub record AreBlocksPassed (c : ℕ) (bs : List Block) (ps : List Text) : Type 0
 
 -- whatever the new blocks give, the old ones give
 abbrev pub KeepsBlocks : List Block → List Block → Type 0
-KeepsBlocks new old = (e : Extensions) → BlocksGive (grammar_rules languages) new e → BlocksGive (grammar_rules languages) old e
+KeepsBlocks new old = (e : Extensions) → BlocksGive (grammar_rules languages) new e
+    → BlocksGive (grammar_rules languages) old e
 
 -- blocks so far are stored in order behind the text, and other pieces are left
-pub record AreBlocksSoFar (text : Text) (ps : List Text) (start end last : ℕ) (room : Text) (left : List Text) : Type 0 where
+pub record AreBlocksSoFar (text : Text) (ps : List Text) (start end last : ℕ) (room : Text)
+    (left : List Text) : Type 0 where
   pub written : List Block
   pub cut : blocks ps ≡ written ++ blocks left
   pub new : List Block
@@ -216,18 +225,14 @@ pub record AreBlocksStored (text : Text) (ps : List Text) (room : Text) (n : ℕ
 abbrev pub after_byte : Text → ℕ → ℕ → Text
 after_byte w len at = take (len - at - 1) (drop (at + 1) w)
 
--- ascending variants come before a block
-pub record LeadsToBlock (ps : List Text) (len : ℕ) (l : Left) : Type 0 where
-  pub variants : IsCutAs (AreVariantsInOrder) ps (pieces_of l)
-  pub left : IsLeft l
-  pub one : l.n ≡ 1
-  pub within : l.len ≤ len
-
--- behind the text ascending variants are stored as they stand, and blocks as they are printed
+-- behind the text variants are stored in ascending order, and blocks as they are printed
 pub record IsLineStored (text : Text) (ps : List Text) (room : Text) (n : ℕ) : Type 0 where
+  pub written : List Text
   pub variants : List Text
   pub rest : List Text
-  pub cut : ps ≡ variants ++ rest
+  pub cut : ps ≡ written ++ rest
+  pub each : AllByRecursion (IsWord Variant) written
+  pub order : Reordered variants written
   pub ascending : AreVariantsInOrder variants
   pub starts : starts_block rest ≡ true
   pub blocks : AreBlocksStored (text ++ dashes variants) rest room n

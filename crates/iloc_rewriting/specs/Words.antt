@@ -1,10 +1,9 @@
 -- Words that are brought into order: attributes, or variants.
-use Rattle.std.specs.Prelude.{◌≡◌, ⊤, ℕ, ◌+◌, ◌<◌, ◌≤◌, IsTrue, Bool, true, false, List, [], ◌∷◌, ◌++◌, length, map, take, Option, Some, None}
+use Rattle.std.specs.Prelude.{◌≡◌, ⊤, ℕ, ◌+◌, ◌<◌, ◌≤◌, IsTrue, true, false, List, [], ◌∷◌, ◌++◌, length, map, take, Option, Some, None}
 use Rattle.std.specs.List.{AllByRecursion, list_any}
 use Rattle.iloc_spec_grammar.specs.Syntax.{Text, Kind, Attribute, Variant, IsWord, is_same, lower, dashes, join}
 use Rattle.iloc_spec_grammar.specs.Meaning.{set_of}
 use Rattle.iloc_spec_grammar.specs.Values.{Reordered}
-use Rattle.iloc_blocks.specs.Blocks.{left_of}
 use Rattle.iloc_blocks.specs.Transform.{IsRest}
 use Rattle.iloc_fronts.specs.Words.{word_number}
 use Rattle.iloc_fronts.specs.Left.{pieces_of, IsLeft}
@@ -19,11 +18,7 @@ use Rattle.iloc_rewriting.specs.declared.words.Unsorted.{Unsorted}
 use Rattle.iloc_rewriting.specs.declared.words.Unsorted.TheVariants as unsorted
 use Rattle.iloc_blocks.specs.Ordered.{IsReading}
 use Rattle.iloc_blocks.specs.declared.ordered.Reading.{Reading}
-
--- variants, or attributes
-abbrev pub words_of : Bool → WordKind
-words_of true = kind.Variant
-words_of false = kind.Attribute
+use Rattle.iloc_fronts.specs.Walk.{left_of}
 
 -- the words
 abbrev pub word_kind : WordKind → Kind
@@ -45,7 +40,8 @@ pub record AreInPlaceOf (k : WordKind) (words kept : List Text) : Type 0 where
   pub all : KeepsAll k words kept
 
 -- words that come first are stored in order behind the text
-pub record AreWordsStored (k : WordKind) (text : Text) (ps : List Text) (len : ℕ) (room : Text) (s : Stored) : Type 0 where
+pub record AreWordsStored (k : WordKind) (text : Text) (ps : List Text) (len : ℕ) (room : Text)
+    (s : Stored) : Type 0 where
   pub words : List Text
   pub kept : List Text
   pub cut : ps ≡ words ++ left_of s.next
@@ -54,17 +50,26 @@ pub record AreWordsStored (k : WordKind) (text : Text) (ps : List Text) (len : �
   pub left : IsRest len s.next
 
 -- the room holds ascending words behind the text
-pub record AreWordsHeld (k : WordKind) (room : Text) (start end : ℕ) (text : Text) (words : List Text) : Type 0 where
+pub record AreWordsHeld (k : WordKind) (room : Text) (start end : ℕ) (text : Text)
+    (words : List Text) : Type 0 where
   pub before : length text ≡ start
   pub stored : take end room ≡ text ++ dashes words
   pub each : AllByRecursion (IsWord (word_kind k)) words
   pub ascend : Ascend word_number words
 
+-- the room holds ascending words behind some text
+pub record AreHeld (k : WordKind) (room : Text) (start end : ℕ) : Type 0 where
+  pub text : Text
+  pub words : List Text
+  pub held : AreWordsHeld k room start end text words
+
 -- one word more is stored among them
-pub record IsWordStored (k : WordKind) (text : Text) (words : List Text) (word room : Text) (end : ℕ) : Type 0 where
+pub record IsWordStored (k : WordKind) (text : Text) (words : List Text) (word room : Text)
+    (end : ℕ) : Type 0 where
   pub all : List Text
   pub same : AreInPlaceOf k (words ++ word ∷ []) all
-  pub up_to : (m : ℕ) → AreUpTo word_number m words → word_number word ≤ m → AreUpTo word_number m all
+  pub up_to : (m : ℕ) → AreUpTo word_number m words → word_number word ≤ m
+      → AreUpTo word_number m all
   pub stored : AreStored room (text ++ dashes all) end
 
 -- the word belongs where so many bytes are left of the pieces, or it is what comes there
@@ -96,7 +101,8 @@ IsThere k word ws unsorted.Repeated = (k ≡ kind.Variant)
 IsThere k word ws unsorted.Other = ⊤
 
 -- words so far are stored, and other pieces are left
-pub record AreWordsSoFar (k : WordKind) (text : Text) (ps : List Text) (start end last : ℕ) (room : Text) (l : Left) : Type 0 where
+pub record AreWordsSoFar (k : WordKind) (text : Text) (ps : List Text) (start end last : ℕ)
+    (room : Text) (l : Left) : Type 0 where
   pub words : List Text
   pub kept : List Text
   pub cut : ps ≡ words ++ pieces_of l

@@ -16,10 +16,11 @@ ghost use Rattle.std.specs.Prelude.{
 ghost use Rattle.std.specs.Char.{is_ascii_alphanumeric};
 ghost use Rattle.iloc_spec_grammar.specs.ByBlocks.{UnicodeMeans};
 ghost use Rattle.iloc_spec_grammar.specs.Syntax.{Text, code_x, dashes};
-ghost use Rattle.iloc_blocks.specs.Blocks.{IsUnicodePart, left_of};
+ghost use Rattle.iloc_blocks.specs.Blocks.{IsUnicodePart};
 ghost use Rattle.iloc_fronts.specs.Left.{IsLeft, pieces_of};
 ghost use Rattle.iloc_rewriting.specs.Rewriting.{AreStored, IsShorter};
 ghost use Rattle.iloc_rewriting.specs.Sorting.{IsBodyStored, IsOrderOf, IsWrongBody, StandsFor};
+ghost use Rattle.iloc_fronts.specs.Walk.{left_of};
 
 use crate::fields::put_transform;
 use crate::keywords::{KeyKind, Stored, put_fields};
@@ -40,7 +41,7 @@ pub(crate) enum Failure {
     Other,
 }
 
-// Stores what follows a letter or digit in lower case that is no `x`: as it stands if it is in order.
+// Stores what follows a letter or digit in lower case that is no `x`, in order. Only if that fails it is read to see why.
 #[inline(always)]
 pub(crate) fn put_body<'a>(
     singleton: u8,
@@ -56,33 +57,24 @@ pub(crate) fn put_body<'a>(
         (pieces_of left.entry) room.new) }
     ensures err { IfErr result (IsWrongBody singleton (pieces_of left.entry)) }
 {
-    let stored = match read_body(singleton, left) {
-        Body::End => put_same(left, None, room, start),
-        Body::Next(next) if next.n == 1 => put_same(left, Some(next), room, start),
-        Body::Unordered => put_sorted(singleton, left, room, start),
-        Body::Bad => return Err(Failure::Bad(BadBlock::Misfit)),
-        Body::Next(_) | Body::Other => None,
-    };
-    stored.ok_or(Failure::Other)
+    match put_sorted(singleton, left, room, start) {
+        Some(stored) => Ok(stored),
+        None => Err(failure_of(singleton, left)),
+    }
 }
 
-// The same if it is not in order.
-#[inline(always)]
-pub(crate) fn put_unordered<'a>(
-    singleton: u8,
-    left: Left<'a>,
-    room: &mut [u8],
-    start: usize,
-) -> Result<Stored<'a>, Failure>
+// Why it is not stored.
+#[inline(never)]
+fn failure_of(singleton: u8, left: Left<'_>) -> Failure
     requires left { IsLeft left }
     requires letter { is_ascii_alphanumeric singleton ≡ true }
     requires no_private { singleton ≢ code_x }
-    requires room { start + 16 ≤ length room.old }
-    ensures ok { IfOk result (IsBodyStored (StandsFor singleton) (take start room.old)
-        (pieces_of left.entry) room.new) }
-    ensures err { IfErr result (IsWrongBody singleton (pieces_of left.entry)) }
+    ensures { IsWrongBody singleton (pieces_of left.entry) result }
 {
-    put_sorted(singleton, left, room, start).ok_or(Failure::Other)
+    match read_body(singleton, left) {
+        Body::Bad => Failure::Bad(BadBlock::Misfit),
+        Body::End | Body::Next(_) | Body::Unordered | Body::Other => Failure::Other,
+    }
 }
 
 // Stores what comes before the next block as it stands.

@@ -2,6 +2,7 @@
 ghost use Rattle.std.specs.Prelude.{◌≡◌, ◌+◌, ◌≤◌, IfSome, length, take};
 ghost use Rattle.iloc_spec_grammar.specs.Syntax.{Fields, IsWord, Text, is_word};
 ghost use Rattle.iloc_fronts.specs.Left.{IsLeft, piece_of, pieces_of};
+ghost use Rattle.iloc_fronts.specs.Words.{two_number};
 ghost use Rattle.iloc_rewriting.specs.declared.keywords.KeyKind.TheVariants as kinds;
 ghost use Rattle.iloc_rewriting.specs.Rewriting.{
   AreFieldsInOrder,
@@ -9,11 +10,11 @@ ghost use Rattle.iloc_rewriting.specs.Rewriting.{
   AreUpTo,
   IsFieldStored,
   IsInserted,
-  IsPlace,
+  IsFieldPlace,
   IsValueStored,
   key_kind,
   key_number,
-  kind_of,
+  transform_or_unicode,
 };
 
 use crate::storing::{put_bytes, put_piece};
@@ -33,8 +34,8 @@ pub(crate) enum KeyKind {
 
 // Those of `t`, or of `u`.
 #[inline(always)]
-fn kind_of(of_t: bool) -> KeyKind
-    ensures { result ≡ kind_of of_t }
+fn transform_or_unicode(of_t: bool) -> KeyKind
+    ensures { result ≡ transform_or_unicode of_t }
 {
     if of_t {
         return KeyKind::Transform;
@@ -78,8 +79,9 @@ pub(crate) fn put_fields<'a>(
     let mut end = start;
     let mut last = 0;
     'keys: while is_key_of(kind, at.window, at.n) {
-        let stored = put_among(kind, at, last, room, start, end)?;
-        last = max(last, number_of_two(at.window));
+        let number = number_of_two(at.window);
+        let stored = put_among(kind, at, number, last, room, start, end)?;
+        last = max(last, number);
         end = stored.end;
         let Some(next) = stored.next else {
             return Some(stored);
@@ -113,6 +115,7 @@ fn is_key_of(kind: KeyKind, window: &[u8], n: usize) -> bool
 fn put_among<'a>(
     kind: KeyKind,
     left: Left<'a>,
+    number: usize,
     last: usize,
     room: &mut [u8],
     start: usize,
@@ -120,13 +123,14 @@ fn put_among<'a>(
 ) -> Option<Stored<'a>>
     requires left { IsLeft left }
     requires key { IsWord (key_kind kind) (piece_of left) }
+    requires number { number ≡ two_number (piece_of left) }
     requires room { end + 16 ≤ length room.old }
     requires start { start ≤ end }
     ensures { (t : Text) (fs : Fields) → AreFieldsStored kind room.old start end t fs
         → AreUpTo key_number last fs → IfSome result (IsInserted kind t fs (piece_of left.entry)
         (pieces_of left.entry) left.entry.len room.new) }
 {
-    if number_of_two(left.window) > last {
+    if number > last {
         return put_field(kind, left, room, end);
     }
     match kind {
@@ -234,17 +238,18 @@ fn insert_field<'a, const OF_T: bool>(
     end: usize,
 ) -> Option<Stored<'a>>
     requires left { IsLeft left }
-    requires key { IsWord (key_kind (kind_of OF_T)) (piece_of left) }
+    requires key { IsWord (key_kind (transform_or_unicode OF_T)) (piece_of left) }
     requires room { end + 16 ≤ length room.old }
     requires start { start ≤ end }
-    ensures { (t : Text) (fs : Fields) → AreFieldsStored (kind_of OF_T) room.old start end t fs
-        → IfSome result (IsInserted (kind_of OF_T) t fs (piece_of left.entry)
+    ensures { (t : Text) (fs : Fields)
+        → AreFieldsStored (transform_or_unicode OF_T) room.old start end t fs
+        → IfSome result (IsInserted (transform_or_unicode OF_T) t fs (piece_of left.entry)
         (pieces_of left.entry) left.entry.len room.new) }
 {
     if start == end {
         return None;
     }
-    let kind = kind_of(OF_T);
+    let kind = transform_or_unicode(OF_T);
     let number = number_of_two(left.window);
     let place = place_of(kind, left_in(&room[start + 1..], end - start - 1), number)?;
     if place.is_there {
@@ -269,7 +274,7 @@ fn insert_field<'a, const OF_T: bool>(
 #[inline(always)]
 fn place_of(kind: KeyKind, left: Left<'_>, number: usize) -> Option<Place>
     requires { IsLeft left }
-    ensures { IfSome result (IsPlace kind number (pieces_of left.entry) left.entry.len) }
+    ensures { IfSome result (IsFieldPlace kind number (pieces_of left.entry) left.entry.len) }
 {
     let mut at = left;
     'fields: while is_key_of(kind, at.window, at.n) {

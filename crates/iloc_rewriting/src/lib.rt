@@ -13,10 +13,9 @@
 //! `Reading::Other` and `Unsorted::Other` say nothing: the caller parses the text as it would without this crate. So each
 //! caller keeps its own contract, and a shape that is not rewritten here costs time and nothing else.
 //!
-//! A line is rewritten in one walk (`rewriting`, `sorting`): each block is stored in its place. What follows its singleton
-//! is stored as it stands if it is in order, and else in order (`blocks`, `fields`, `others`), its pieces as sixteen bytes
-//! at once (`storing`). Words and fields are stored in order alike, whatever their kind (`words`, `keywords`).
-//! docs/ARCHITECTURE.md says how to add a shape.
+//! A line is rewritten in one walk (`rewriting`, `sorting`): each block is stored in its place, and what follows its
+//! singleton in order (`blocks`, `fields`, `others`), its pieces as sixteen bytes at once (`storing`). Words and fields are
+//! stored in order alike, whatever their kind (`words`, `keywords`). docs/ARCHITECTURE.md says how to add a shape.
 //!
 //! It stands on the grammar (`iloc_spec_grammar`), on what `iloc_blocks` tells, and on the walk from piece to piece and
 //! the tests of words of `iloc_fronts`.

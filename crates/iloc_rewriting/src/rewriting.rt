@@ -15,39 +15,31 @@ ghost use Rattle.iloc_spec_grammar.specs.Syntax.{pieces};
 ghost use Rattle.iloc_fronts.specs.Left.{IsLeft, pieces_of};
 ghost use Rattle.iloc_plain.specs.Plain.{IsPlain};
 ghost use Rattle.iloc_blocks.specs.Ordered.{IsReading};
-ghost use Rattle.iloc_rewriting.specs.Sorting.{IsBadLine, IsLineStored, LeadsToBlock, after_byte};
+ghost use Rattle.iloc_rewriting.specs.Sorting.{IsBadLine, IsLineStored, after_byte};
 
 use crate::blocks::Failure;
 use crate::sorting::put_blocks;
 use crate::storing::put_bytes;
-use iloc_blocks::body::Body;
+use crate::words::{WordKind, put_words};
 use iloc_blocks::ordered::cut_at;
-use iloc_blocks::variants::past_ascending;
 use iloc_blocks::{Ordered, Reading};
-use iloc_fronts::left::{Left, left_in};
+use iloc_fronts::left::left_in;
 use iloc_plain::Plain;
 
-/// What the first `len` bytes are as a locale, if a plain identifier of `at` bytes comes first, perhaps ascending
-/// variants, and blocks in whatever order.
-/// The line is stored in the room, in the order of its normal text. There the singletons of blocks ascend, and that of
+/// What the first `len` bytes are as a locale, if a plain identifier of `at` bytes comes first, perhaps variants, and
+/// blocks, both in whatever order.
+/// The line is stored in the room, in the order of its normal text. There variants ascend, and the singletons of blocks, and that of
 /// `x` comes last. In the block of `u` attributes and keys ascend, of equal ones the first stays, and no value is `true`.
 /// So do the keys in that of `t`, where `true` stays if it is all of a value. In that of another letter or digit each
 /// piece is a word.
 /// The first bad block is told, whatever the order of those before it.
-/// The block from which on `unordered` bytes are left, if there is one, is not read to see whether it is in order.
 #[inline(never)]
-pub fn rewrite<'a>(
-    window: &[u8],
-    len: usize,
-    at: usize,
-    unordered: usize,
-    room: &'a mut [u8],
-) -> Reading<'a>
+pub fn rewrite<'a>(window: &[u8], len: usize, at: usize, room: &'a mut [u8]) -> Reading<'a>
     requires { len + 16 ≤ length window.now }
     ensures { IsReading (take len window.now) result }
 {
     match cut_at(window, len, at) {
-        Some(line) => rewrite_after(line.plain, window, len, at, unordered, room),
+        Some(line) => rewrite_after(line.plain, window, len, at, room),
         None => Reading::Other,
     }
 }
@@ -59,7 +51,6 @@ fn rewrite_after<'a>(
     window: &[u8],
     len: usize,
     at: usize,
-    unordered: usize,
     room: &'a mut [u8],
 ) -> Reading<'a>
     requires window { len + 16 ≤ length window.now }
@@ -68,7 +59,7 @@ fn rewrite_after<'a>(
     requires hyphen { slice_index window.now at ≡ 45 }
     ensures { IsReading (take len window.now) result }
 {
-    match put_line(window, len, at, unordered, room) {
+    match put_line(window, len, at, room) {
         Ok(end) => Reading::Ordered(Ordered {
             plain,
             rest: &room[at..],
@@ -81,13 +72,7 @@ fn rewrite_after<'a>(
 
 // Stores the line in order. Where it ends then.
 #[inline(always)]
-fn put_line(
-    window: &[u8],
-    len: usize,
-    at: usize,
-    unordered: usize,
-    room: &mut [u8],
-) -> Result<usize, Failure>
+fn put_line(window: &[u8], len: usize, at: usize, room: &mut [u8]) -> Result<usize, Failure>
     requires window { len + 16 ≤ length window.now }
     requires less { at < len }
     requires hyphen { slice_index window.now at ≡ 45 }
@@ -98,23 +83,15 @@ fn put_line(
     if room.len() < 16 {
         return Err(Failure::Other);
     }
-    let Some(block) = find_block(left_in(&window[at + 1..], len - at - 1)) else {
+    let Some(start) = put_bytes(window, at, room, 0) else {
         return Err(Failure::Other);
     };
-    let Some(end) = put_bytes(window, len - block.len - 1, room, 0) else {
+    let variants = left_in(&window[at + 1..], len - at - 1);
+    let Ok(stored) = put_words(WordKind::Variant, variants, room, start) else {
         return Err(Failure::Other);
     };
-    put_blocks(block, unordered, room, end)
-}
-
-// What begins with the first block, after variants that ascend.
-#[inline(always)]
-fn find_block(left: Left<'_>) -> Option<Left<'_>>
-    requires { IsLeft left }
-    ensures { IfSome result (LeadsToBlock (pieces_of left.entry) left.entry.len) }
-{
-    match past_ascending(left) {
-        Body::Next(next) if next.n == 1 => Some(next),
-        _ => None,
+    match stored.next {
+        Some(block) if block.n == 1 => put_blocks(block, room, stored.end),
+        _ => Err(Failure::Other),
     }
 }

@@ -33,7 +33,7 @@ ghost use Rattle.iloc_rewriting.specs.Sorting.{
   singletons_of,
 };
 
-use crate::blocks::{Failure, put_body, put_unordered};
+use crate::blocks::{Failure, put_body};
 use crate::keywords::Stored;
 use crate::storing::{put_bytes, put_left, put_piece};
 use iloc_blocks::BadBlock;
@@ -42,15 +42,9 @@ use iloc_blocks::other::read_private;
 use iloc_fronts::left::{Left, after_piece, left_in};
 use std::cmp::max;
 
-// Stores blocks in the order of their singletons. One of `x` comes last, and is stored as it stands. The block from
-// which on `unordered` bytes are left is not read before it is stored in order.
+// Stores blocks in the order of their singletons. One of `x` comes last, and is stored as it stands.
 #[inline(always)]
-pub(crate) fn put_blocks(
-    left: Left<'_>,
-    unordered: usize,
-    room: &mut [u8],
-    start: usize,
-) -> Result<usize, Failure>
+pub(crate) fn put_blocks(left: Left<'_>, room: &mut [u8], start: usize) -> Result<usize, Failure>
     requires left { IsLeft left }
     requires block { left.n ≡ 1 }
     requires room { start + 16 ≤ length room.old }
@@ -69,7 +63,7 @@ pub(crate) fn put_blocks(
         if !singleton.is_ascii_alphanumeric() {
             return Err(Failure::Bad(BadBlock::Misfit));
         }
-        let stored = put_among(at, singleton, unordered, last, room, start, end)?;
+        let stored = put_among(at, singleton, last, room, start, end)?;
         let Some(next) = stored.next else {
             return Ok(stored.end);
         };
@@ -106,7 +100,6 @@ fn put_private(left: Left<'_>, room: &mut [u8], end: usize) -> Result<usize, Fai
 fn put_among<'a>(
     left: Left<'a>,
     singleton: u8,
-    unordered: usize,
     last: u8,
     room: &mut [u8],
     start: usize,
@@ -124,17 +117,17 @@ fn put_among<'a>(
         → IfErr result (IsBadAfter (singletons_of bs) (pieces_of left.entry)) }
 {
     if singleton > last {
-        return put_behind(left, singleton, unordered, room, end);
+        return put_behind(left, singleton, room, end);
     }
-    insert_block(left, singleton, unordered, room, start, end)
+    insert_block(left, singleton, room, start, end)
 }
 
-// Stores a block behind what is stored.
-#[inline(never)]
+// Stores a block behind what is stored. It stands in place, since a call would pass what is left and the answer through
+// memory.
+#[inline(always)]
 fn put_behind<'a>(
     left: Left<'a>,
     singleton: u8,
-    unordered: usize,
     room: &mut [u8],
     start: usize,
 ) -> Result<Stored<'a>, Failure>
@@ -152,19 +145,14 @@ fn put_behind<'a>(
     let Some(end) = put_piece(left, room, start) else {
         return Err(Failure::Other);
     };
-    let body = after_piece(left);
-    if left.len == unordered {
-        return put_unordered(singleton, body, room, end);
-    }
-    put_body(singleton, body, room, end)
+    put_body(singleton, after_piece(left), room, end)
 }
 
 // Stores a block before the first whose singleton is greater; it is bad if its singleton is there.
-#[inline(never)]
+#[inline(always)]
 fn insert_block<'a>(
     left: Left<'a>,
     singleton: u8,
-    unordered: usize,
     room: &mut [u8],
     start: usize,
     end: usize,
@@ -187,7 +175,7 @@ fn insert_block<'a>(
     let Some(count) = put_bytes(&room[before..], len + 1, &mut later, 0) else {
         return Err(Failure::Other);
     };
-    let stored = put_behind(left, singleton, unordered, room, before)?;
+    let stored = put_behind(left, singleton, room, before)?;
     let Some(end) = put_bytes(&later, count, room, stored.end) else {
         return Err(Failure::Other);
     };

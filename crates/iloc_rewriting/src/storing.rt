@@ -8,7 +8,7 @@ use std::simd::prelude::*;
 
 // Stores sixteen bytes at this place, of which only the first count.
 #[inline(always)]
-fn put_first(bytes: &[u8], count: usize, room: &mut [u8], at: usize)
+pub(crate) fn put_first(bytes: &[u8], count: usize, room: &mut [u8], at: usize)
     requires bytes { 16 ≤ length bytes.now }
     requires few { count ≤ 16 }
     requires room { at + 16 ≤ length room.old }

@@ -1,10 +1,10 @@
 //! Brings the variants of a line into order.
 ghost use Rattle.std.specs.Prelude.{◌+◌, ◌≤◌, ◌++◌, IfErr, IfOk, IfSome, length, take};
 ghost use Rattle.iloc_spec_grammar.specs.Syntax.{dashes};
-ghost use Rattle.iloc_blocks.specs.Blocks.{left_of};
 ghost use Rattle.iloc_blocks.specs.Ordered.{IsOrderedIdentifier};
 ghost use Rattle.iloc_rewriting.specs.Rewriting.{AreStored};
 ghost use Rattle.iloc_rewriting.specs.Words.{IsRemaining, IsSortedAs, IsUnsorted};
+ghost use Rattle.iloc_fronts.specs.Walk.{left_of};
 
 use crate::keywords::Stored;
 use crate::storing::{put_bytes, put_left};

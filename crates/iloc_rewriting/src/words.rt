@@ -2,9 +2,11 @@
 ghost use Rattle.std.specs.Prelude.{◌≡◌, ◌+◌, ◌-◌, ◌<◌, ◌≤◌, ◌∷◌, ◌++◌, IfErr, IfOk, IfSome, List, drop, length, take};
 ghost use Rattle.iloc_spec_grammar.specs.Syntax.{IsWord, Text, is_word};
 ghost use Rattle.iloc_fronts.specs.Left.{IsLeft, piece_of, pieces_of};
-ghost use Rattle.iloc_fronts.specs.Words.{word_number};
+ghost use Rattle.iloc_fronts.specs.Words.{IsUpToEight, word_number};
 ghost use Rattle.iloc_rewriting.specs.Rewriting.{AreStored, AreUpTo};
+ghost use Rattle.std.specs.List.{AllByRecursion};
 ghost use Rattle.iloc_rewriting.specs.Words.{
+  AreHeld,
   AreUnsorted,
   AreWordsHeld,
   AreWordsStored,
@@ -12,11 +14,10 @@ ghost use Rattle.iloc_rewriting.specs.Words.{
   IsThere,
   IsWordStored,
   word_kind,
-  words_of,
 };
 
 use crate::keywords::{Place, Stored};
-use crate::storing::{put_bytes, put_piece};
+use crate::storing::{put_bytes, put_first, put_piece};
 use iloc_fronts::left::{Left, after_piece, left_in};
 use iloc_fronts::words::{is_attribute, is_variant, number_of_word};
 use std::cmp::max;
@@ -57,11 +58,12 @@ pub(crate) fn put_words<'a>(
     let mut end = start;
     let mut last = 0;
     'words: while is_word_of(kind, at.window, at.n) {
-        end = put_word(kind, at, last, room, start, end)?;
+        let number = number_of_word(at.window, at.n);
+        end = put_word(kind, at, number, last, room, start, end)?;
         if at.n == at.len {
             return Ok(Stored { end, next: None });
         }
-        last = max(last, number_of_word(at.window, at.n));
+        last = max(last, number);
         at = after_piece(at);
     }
     Ok(Stored {
@@ -88,6 +90,7 @@ fn is_word_of(kind: WordKind, window: &[u8], n: usize) -> bool
 fn put_word(
     kind: WordKind,
     left: Left<'_>,
+    number: u64,
     last: u64,
     room: &mut [u8],
     start: usize,
@@ -95,54 +98,20 @@ fn put_word(
 ) -> Result<usize, Unsorted>
     requires left { IsLeft left }
     requires word { IsWord (word_kind kind) (piece_of left) }
+    requires number { number ≡ word_number (piece_of left) }
     requires room { end + 16 ≤ length room.old }
     requires start { start ≤ end }
+    requires held { AreHeld kind room.old start end }
     ensures ok { (t : Text) (ws : List Text) → AreWordsHeld kind room.old start end t ws
         → AreUpTo word_number last ws
         → IfOk result (IsWordStored kind t ws (piece_of left.entry) room.new) }
     ensures err { (t : Text) (ws : List Text) → AreWordsHeld kind room.old start end t ws
         → IfErr result (IsThere kind (piece_of left.entry) ws) }
 {
-    if number_of_word(left.window, left.n) > last {
+    if number > last {
         return put_piece(left, room, end).ok_or(Unsorted::Other);
     }
-    match kind {
-        WordKind::Attribute => insert_among::<false>(left, room, start, end),
-        WordKind::Variant => insert_among::<true>(left, room, start, end),
-    }
-}
-
-// Variants, or attributes.
-#[inline(always)]
-fn words_of(variants: bool) -> WordKind
-    ensures { result ≡ words_of variants }
-{
-    if variants {
-        return WordKind::Variant;
-    }
-    WordKind::Attribute
-}
-
-// Stores a variant, or an attribute, before the first that is greater.
-#[inline(never)]
-fn insert_among<const VARIANTS: bool>(
-    left: Left<'_>,
-    room: &mut [u8],
-    start: usize,
-    end: usize,
-) -> Result<usize, Unsorted>
-    requires left { IsLeft left }
-    requires word { IsWord (word_kind (words_of VARIANTS)) (piece_of left) }
-    requires room { end + 16 ≤ length room.old }
-    requires start { start ≤ end }
-    ensures ok { (t : Text) (ws : List Text)
-        → AreWordsHeld (words_of VARIANTS) room.old start end t ws
-        → IfOk result (IsWordStored (words_of VARIANTS) t ws (piece_of left.entry) room.new) }
-    ensures err { (t : Text) (ws : List Text)
-        → AreWordsHeld (words_of VARIANTS) room.old start end t ws
-        → IfErr result (IsThere (words_of VARIANTS) (piece_of left.entry) ws) }
-{
-    insert_word(words_of(VARIANTS), left, room, start, end)
+    insert_word(kind, left, number, room, start, end)
 }
 
 // Stores a word before the first that is greater. An attribute that is there is passed over.
@@ -150,14 +119,17 @@ fn insert_among<const VARIANTS: bool>(
 fn insert_word(
     kind: WordKind,
     left: Left<'_>,
+    number: u64,
     room: &mut [u8],
     start: usize,
     end: usize,
 ) -> Result<usize, Unsorted>
     requires left { IsLeft left }
     requires word { IsWord (word_kind kind) (piece_of left) }
+    requires number { number ≡ word_number (piece_of left) }
     requires room { end + 16 ≤ length room.old }
     requires start { start ≤ end }
+    requires held { AreHeld kind room.old start end }
     ensures ok { (t : Text) (ws : List Text) → AreWordsHeld kind room.old start end t ws
         → IfOk result (IsWordStored kind t ws (piece_of left.entry) room.new) }
     ensures err { (t : Text) (ws : List Text) → AreWordsHeld kind room.old start end t ws
@@ -166,7 +138,7 @@ fn insert_word(
     if start == end {
         return Err(Unsorted::Other);
     }
-    let Some(place) = place_among(kind, left, left_in(&room[start + 1..], end - start - 1)) else {
+    let Some(place) = place_among(number, left_in(&room[start + 1..], end - start - 1)) else {
         return Err(Unsorted::Other);
     };
     if place.is_there {
@@ -188,6 +160,9 @@ fn insert_before(len: usize, left: Left<'_>, room: &mut [u8], end: usize) -> Opt
         ((take (end - len - 1) room.old ++ 45 ∷ piece_of left.entry)
         ++ take (len + 1) (drop (end - len - 1) room.old))) }
 {
+    if len < 16 {
+        return insert_near(len, left, room, end);
+    }
     let before = end - len - 1;
     let mut later = [0u8; 128];
     let count = put_bytes(&room[before..], len + 1, &mut later, 0)?;
@@ -195,18 +170,38 @@ fn insert_before(len: usize, left: Left<'_>, room: &mut [u8], end: usize) -> Opt
     put_bytes(&later, count, room, next)
 }
 
-// Where the word belongs among these.
+// The same if these are at most sixteen bytes.
 #[inline(always)]
-fn place_among(kind: WordKind, word: Left<'_>, left: Left<'_>) -> Option<Place>
-    requires word { IsLeft word }
-    requires fits { IsWord (word_kind kind) (piece_of word) }
+fn insert_near(len: usize, left: Left<'_>, room: &mut [u8], end: usize) -> Option<usize>
     requires left { IsLeft left }
-    ensures { IfSome result
-        (IsPlaceAmong (piece_of word.entry) (pieces_of left.entry) left.entry.len) }
+    requires within { len < end }
+    requires few { len < 16 }
+    requires room { end + 16 ≤ length room.old }
+    ensures { IfSome result (AreStored room.new
+        ((take (end - len - 1) room.old ++ 45 ∷ piece_of left.entry)
+        ++ take (len + 1) (drop (end - len - 1) room.old))) }
 {
-    let number = number_of_word(word.window, word.n);
+    let before = end - len - 1;
+    let mut later = [0u8; 16];
+    put_first(&room[before..], len + 1, &mut later, 0);
+    let next = put_piece(left, room, before)?;
+    if room.len() - next < 33 {
+        return None;
+    }
+    put_first(&later, len + 1, room, next);
+    Some(next + len + 1)
+}
+
+// Where a word with this number belongs among these words.
+#[inline(always)]
+fn place_among(number: u64, left: Left<'_>) -> Option<Place>
+    requires left { IsLeft left }
+    requires words { AllByRecursion IsUpToEight (pieces_of left) }
+    ensures { (w : Text) → IsUpToEight w → number ≡ word_number w
+        → IfSome result (IsPlaceAmong w (pieces_of left.entry) left.entry.len) }
+{
     let mut at = left;
-    'words: while is_word_of(kind, at.window, at.n) {
+    'words: loop {
         let other = number_of_word(at.window, at.n);
         if other >= number {
             return Some(Place {
@@ -219,5 +214,4 @@ fn place_among(kind: WordKind, word: Left<'_>, left: Left<'_>) -> Option<Place>
         }
         at = after_piece(at);
     }
-    None
 }

@@ -1,7 +1,7 @@
 -- The list that a `ShortWords` holds, by how it is kept.
 use Rattle.std.specs.Prelude.{◌≤◌, List, [], length}
 use Rattle.std.specs.Vec.{with_items}
-use Rattle.iloc_shortvec.specs.ShortList.{written}
+use Rattle.iloc_shortvec.specs.ShortList.{overwritten}
 use Rattle.iloc_shortvec.specs.declared.kept.Kept.{Kept}
 use Rattle.iloc_shortvec.specs.declared.kept.Kept.TheVariants.{Empty, Inline, Heap}
 
@@ -20,5 +20,5 @@ IsKept (Heap items) = 5 ≤ length items.items
 -- the same place, after a write of its items as a slice
 abbrev pub with_list : {T : Type 0} → Kept T → List T → Kept T
 with_list (Empty none) ws = Empty none
-with_list (Inline items) ws = Inline (written items ws)
+with_list (Inline items) ws = Inline (overwritten items ws)
 with_list (Heap items) ws = Heap (with_items items ws)

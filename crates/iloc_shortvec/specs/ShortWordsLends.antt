@@ -1,9 +1,9 @@
 use Rattle.std.specs.Prelude.{List}
 use Rattle.std.specs.Borrow.{Lends, MutBor, Fml, RattleType, Array}
-use Rattle.iloc_shortvec.specs.ShortList.{written}
+use Rattle.iloc_shortvec.specs.ShortList.{overwritten}
 use Rattle.iloc_shortvec.specs.contracts.short_words.ShortWords.{the_row}
 
 module _ (T : RattleType) (list : MutBor (List T.Denot)) where
   -- once the borrow ends, the items are those that it shows last
   abbrev pub lends_slice : MutBor (List T.Denot) → Fml
-  lends_slice r = Lends (the_row T) (Array T 0) list r (written list.now)
+  lends_slice r = Lends (the_row T) (Array T 0) list r (overwritten list.now)

@@ -15,7 +15,8 @@ ghost use Rattle.std.specs.Cmp.{partial_order_from_agreeing_total};
 ghost use Rattle.std.specs.Cmp.Lexicographic.{pointwise, lists_per, lists_equiv};
 ghost use Rattle.std.proofs.Common.{refl};
 ghost use Rattle.iloc_shortvec.specs.ShortList.{only_of};
-ghost use Rattle.iloc_shortvec.specs.ShortOrder.{short_cmp, short_total, short_ties};
+ghost use Rattle.iloc_spec_grammar.specs.ShortLists.{short_cmp};
+ghost use Rattle.iloc_shortvec.specs.ShortOrder.{short_total, short_ties};
 
 use crate::few::Few;
 use crate::items::Nothing;

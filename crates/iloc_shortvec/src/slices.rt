@@ -2,7 +2,7 @@
 ghost use Rattle.std.specs.Prelude.{◌≡◌, slice_get};
 ghost use Rattle.std.specs.Option.{option_copied};
 ghost use Rattle.iloc_shortvec.specs.ShortList.{only_of};
-ghost use Rattle.iloc_shortvec.specs.ShortOrder.{short_cmp};
+ghost use Rattle.iloc_spec_grammar.specs.ShortLists.{short_cmp};
 
 use std::cmp::Ordering;
 

@@ -3,7 +3,7 @@ use Rattle.std.proofs.Common.{◌≡◌, ◌↔◌, inl, inr, ℕ, zero, suc, �
 use Rattle.std.specs.Char.{to_ascii_lowercase}
 use Rattle.std.specs.List.{AllByRecursion}
 use Rattle.std.proofs.lemmas.Bool.{cases_Bool, cond_both, both_ways}
-use Rattle.iloc_spec_grammar.specs.Syntax.{pieces, join, lower, IsTable, Identifier, identifier_pieces, singleton, is_one_byte, front, blocks, head, tail_blocks}
+use Rattle.iloc_spec_grammar.specs.Syntax.{pieces, join, lower, AreLengths, Identifier, identifier_pieces, lower_singleton, is_one_byte, front, blocks, head, tail_blocks}
 use Rattle.iloc_spec_grammar.specs.Meaning.{Locale, Means, IdentifierMeans, SpellsIdentifier, normal_identifier}
 use Rattle.iloc_spec_grammar.specs.Tree.{Extension, Written, extension_pieces, spelling, IsWritten, meaning, tree_text}
 use Rattle.iloc_spec_grammar.specs.Values.{text, lower_identifier, identifier_text, TextStep, IdentifierTextStep, Leads, LeadToOne}
@@ -28,11 +28,11 @@ use Rattle.iloc_spec_grammar.proofs.SameSteps.{tree_step, spelled_step, tree_ide
 
 -- one step
 
-pub text_step_means : (T : ℕ → Bool) → IsTable T → (t u : List ℕ) (M : Locale) → TextStep T t u → Means T t M → Means T u M
+pub text_step_means : (T : ℕ → Bool) → AreLengths T → (t u : List ℕ) (M : Locale) → TextStep T t u → Means T t M → Means T u M
 text_step_means T table t u M s m = means_by_tree table u M (tree.text_step_means T table t u M (tree_step t u s) (tree_means t M m))
 
 -- texts that are equal without case mean the same
-pub case_means : (T : ℕ → Bool) → IsTable T → (t u : List ℕ) (M : Locale) → lower t ≡ lower u → Means T t M → Means T u M
+pub case_means : (T : ℕ → Bool) → AreLengths T → (t u : List ℕ) (M : Locale) → lower t ≡ lower u → Means T t M → Means T u M
 case_means T table t u M e m = text_step_means T table t u M (TextStep.letter_case e) m
 
 pub text_step_length : (T : ℕ → Bool) (t u : List ℕ) → TextStep T t u → length u ≤ length t
@@ -40,7 +40,7 @@ text_step_length T t u s = tree.text_step_length T t u (tree_step t u s)
 
 -- any number of steps
 
-pub chain_means : (T : ℕ → Bool) → IsTable T → (n : ℕ) (t u : List ℕ) (M : Locale) → Leads (TextStep T) n t u → Means T t M → Means T u M
+pub chain_means : (T : ℕ → Bool) → AreLengths T → (n : ℕ) (t u : List ℕ) (M : Locale) → Leads (TextStep T) n t u → Means T t M → Means T u M
 chain_means T table zero t u M c m = subst (λ (s : List ℕ). Means T s M) c m
 chain_means T table (suc n) t u M (inl e) m = subst (λ (s : List ℕ). Means T s M) e m
 chain_means T table (suc n) t u M (inr c) m = chain_means T table n c.0 u M c.2 (text_step_means T table t c.0 M c.1 m)
@@ -57,7 +57,7 @@ front_long [] = tt
 front_long (p ∷ ps) = cond_both (is_one_byte p) _ _ (AllByRecursion IsLong) (λ e. tt) (λ e. (e, front_long ps))
 
 abbrev IsLongBlock : ℕ × List (List ℕ) → Type 0
-IsLongBlock b = (singleton b == 120) ≡ false → AllByRecursion IsLong b.1
+IsLongBlock b = (lower_singleton b == 120) ≡ false → AllByRecursion IsLong b.1
 
 blocks_long : (ps : List (List ℕ)) → AllByRecursion IsLongBlock (blocks ps)
 blocks_long [] = tt
@@ -71,9 +71,9 @@ tail_long (p ∷ ps) = blocks_long ps
 
 read_long : (bs : List (ℕ × List (List ℕ))) → AllByRecursion IsLongBlock bs → AreLong (extensions_in bs)
 read_long [] h = tt
-read_long (b ∷ bs) h = elim (cases_Bool (singleton b == 120)) [
+read_long (b ∷ bs) h = elim (cases_Bool (lower_singleton b == 120)) [
   | inl t ↦ rw t tt
-  | inr t ↦ rw t (subst (AllByRecursion IsLong) (sym (pieces-extension_of (singleton b) b.1)) (h.0 t), read_long bs h.1)
+  | inr t ↦ rw t (subst (AllByRecursion IsLong) (sym (pieces-extension_of (lower_singleton b) b.1)) (h.0 t), read_long bs h.1)
 ]
 
 written_long : (ps : List (List ℕ)) → AreLong (written_of ps).extensions
@@ -109,13 +109,13 @@ shortest T t M m = chain_length T 8 t (text M) (chain_to_text T t M m)
 
 -- to one text
 
-pub texts_lead_to_one : (T : ℕ → Bool) → IsTable T → (t u : List ℕ) (L M : Locale) → Means T t L → Means T u M → (L ≡ M) ↔ LeadToOne (TextStep T) 8 t u
+pub texts_lead_to_one : (T : ℕ → Bool) → AreLengths T → (t u : List ℕ) (L M : Locale) → Means T t L → Means T u M → (L ≡ M) ↔ LeadToOne (TextStep T) 8 t u
 texts_lead_to_one T table t u L M a b = (
   λ e. record { end = text L; first = chain_to_text T t L a; second = subst (λ (N : Locale). Leads (TextStep T) 8 u (text N)) (sym e) (chain_to_text T u M b) },
   λ l. one_meaning table l.end L M (chain_means T table 8 t l.end L l.first a) (chain_means T table 8 u l.end M l.second b),
 )
 
-pub any_steps_join : (T : ℕ → Bool) → IsTable T → (t u : List ℕ) (L M : Locale) → Means T t L → Means T u M → (L ≡ M) ↔ ((n : ℕ) × LeadToOne (TextStep T) n t u)
+pub any_steps_join : (T : ℕ → Bool) → AreLengths T → (t u : List ℕ) (L M : Locale) → Means T t L → Means T u M → (L ≡ M) ↔ ((n : ℕ) × LeadToOne (TextStep T) n t u)
 any_steps_join T table t u L M a b = (
   λ e. (8, (texts_lead_to_one T table t u L M a b).0 e),
   λ l. one_meaning table l.1.end L M (chain_means T table l.0 t l.1.end L l.1.first a) (chain_means T table l.0 u l.1.end M l.1.second b),

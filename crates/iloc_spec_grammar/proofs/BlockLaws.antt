@@ -4,8 +4,8 @@ use Rattle.std.specs.List.{AllByRecursion, list_any}
 use Rattle.std.specs.Ordering.{nat_cmp, eq_by_cmp}
 use Rattle.std.specs.FinMap.{find}
 use Rattle.std.proofs.lemmas.Bool.{or_parts}
-use Rattle.iloc_spec_grammar.specs.Syntax.{pieces, IsTable, lower, Unicode, Transform, IsOther, kept, is_other_singleton, singleton, AllDifferent, head, tail_blocks}
-use Rattle.iloc_spec_grammar.specs.Tree.{Extension, unicode, transform, other, Written, extension_pieces, extension_block, blocks_of, IsPrivate, IsExtension, IsWritten, TreeMeans, meaning, extensions_meaning, unicode_part, transform_part, private_part, other_part, by_singleton, IsBlock, HasSingleton}
+use Rattle.iloc_spec_grammar.specs.Syntax.{pieces, AreLengths, lower, Unicode, Transform, IsOther, kept, is_other_singleton, lower_singleton, AllDifferent, head, tail_blocks, IsPrivate}
+use Rattle.iloc_spec_grammar.specs.Tree.{Extension, unicode, transform, other, Written, extension_pieces, extension_block, blocks_of, IsExtension, IsWritten, TreeMeans, meaning, extensions_meaning, unicode_part, transform_part, private_part, other_part, by_singleton, IsBlock, HasSingleton}
 use Rattle.iloc_spec_grammar.specs.Meaning.{Locale, Extensions, SpellsIdentifier, map_of, no_unicode, no_transform, normal_unicode, normal_transform}
 use Rattle.iloc_spec_grammar.specs.ByBlocks.{UnicodeMeans, TransformMeans, PrivateMeans, OtherMeans, other_blocks, grammar_rules, PartIs, BlocksGive, MeansByBlocks}
 use Rattle.iloc_spec_grammar.proofs.Readings.{head-spelling, blocks-spelling, unicode_of-pieces, transform_of-pieces}
@@ -25,12 +25,12 @@ or_else (Some x) p = Some x
 find_block : (q : ℕ) (es : List (ℕ × Extension)) (x : Option (ℕ × List (List ℕ))) → find nat_cmp q (by_singleton (map extension_block es ++ option_to_list x)) ≡ or_else (option_map extension_pieces (find nat_cmp q (by_singleton es))) (find nat_cmp q (by_singleton (option_to_list x)))
 unfolding or_else
 find_block q [] x = refl
-find_block q (e ∷ es) x = ap (cond (eq_by_cmp nat_cmp q (singleton e)) (Some (extension_pieces e.1))) (find_block q es x)
-    ∙ elim (eq_by_cmp nat_cmp q (singleton e)) as (λ b. cond b (Some (extension_pieces e.1)) (or_else (option_map extension_pieces (find nat_cmp q (by_singleton es))) (find nat_cmp q (by_singleton (option_to_list x)))) ≡ or_else (option_map extension_pieces (cond b (Some e.1) (find nat_cmp q (by_singleton es)))) (find nat_cmp q (by_singleton (option_to_list x)))) [ true ↦ refl | false ↦ refl ]
+find_block q (e ∷ es) x = ap (cond (eq_by_cmp nat_cmp q (lower_singleton e)) (Some (extension_pieces e.1))) (find_block q es x)
+    ∙ elim (eq_by_cmp nat_cmp q (lower_singleton e)) as (λ b. cond b (Some (extension_pieces e.1)) (or_else (option_map extension_pieces (find nat_cmp q (by_singleton es))) (find nat_cmp q (by_singleton (option_to_list x)))) ≡ or_else (option_map extension_pieces (cond b (Some e.1) (find nat_cmp q (by_singleton es)))) (find nat_cmp q (by_singleton (option_to_list x)))) [ true ↦ refl | false ↦ refl ]
 
-no_private : (q : ℕ) → q ≢ 120 → (x : Option (ℕ × List (List ℕ))) → IfSome x (λ e. (singleton e ≡ 120) × IsPrivate e.1) → find nat_cmp q (by_singleton (option_to_list x)) ≡ None
+no_private : (q : ℕ) → q ≢ 120 → (x : Option (ℕ × List (List ℕ))) → IfSome x (λ e. (lower_singleton e ≡ 120) × IsPrivate e.1) → find nat_cmp q (by_singleton (option_to_list x)) ≡ None
 no_private q n None h = refl
-no_private q n (Some b) h = ap (λ t. cond t (Some b.1) None) (untied q (singleton b) (λ e. n (sym e ∙ h.0)))
+no_private q n (Some b) h = ap (λ t. cond t (Some b.1) None) (untied q (lower_singleton b) (λ e. n (sym e ∙ h.0)))
 
 -- what is found gives its part
 
@@ -48,7 +48,7 @@ transform_by T (Some (transform m)) h p e = record { written = m; grammatical = 
 transform_by T (Some (unicode u)) h p e = absurd (let k = h.0 in omega arith)
 transform_by T (Some (other ps)) h p e = absurd (true≢false (sym h.0))
 
-private_by : (T : ℕ → Bool) (o : Option Extension) → IfSome o (IsExtension T 120) → (x : Option (ℕ × List (List ℕ))) → IfSome x (λ e. (singleton e ≡ 120) × IsPrivate e.1) → PartIs PrivateMeans [] (or_else (option_map extension_pieces o) (find nat_cmp 120 (by_singleton (option_to_list x)))) (private_part x)
+private_by : (T : ℕ → Bool) (o : Option Extension) → IfSome o (IsExtension T 120) → (x : Option (ℕ × List (List ℕ))) → IfSome x (λ e. (lower_singleton e ≡ 120) × IsPrivate e.1) → PartIs PrivateMeans [] (or_else (option_map extension_pieces o) (find nat_cmp 120 (by_singleton (option_to_list x)))) (private_part x)
 unfolding or_else
 private_by T None h None k = refl
 private_by T None h (Some b) k = subst (λ (c : ℕ). PartIs PrivateMeans [] (cond (eq_by_cmp nat_cmp 120 c) (Some b.1) None) (map lower b.1)) (sym k.0) (k.1, refl)
@@ -63,22 +63,22 @@ kept_of b = (b.0, kept b.1)
 abbrev pub KeepsWords : ℕ × List (List ℕ) → Type 0
 KeepsWords b = OtherMeans b.1 (kept b.1)
 
-no_others_private : (x : Option (ℕ × List (List ℕ))) → IfSome x (λ e. (singleton e ≡ 120) × IsPrivate e.1) → other_blocks (by_singleton (option_to_list x)) ≡ []
+no_others_private : (x : Option (ℕ × List (List ℕ))) → IfSome x (λ e. (lower_singleton e ≡ 120) × IsPrivate e.1) → other_blocks (by_singleton (option_to_list x)) ≡ []
 no_others_private None h = refl
-no_others_private (Some b) h = ap (λ c. cond (is_other_singleton c) ((singleton b, b.1) ∷ []) []) h.0
+no_others_private (Some b) h = ap (λ c. cond (is_other_singleton c) ((lower_singleton b, b.1) ∷ []) []) h.0
 
-others_by : (T : ℕ → Bool) (es : List (ℕ × Extension)) (x : Option (ℕ × List (List ℕ))) → AllByRecursion (λ e. IsExtension T (singleton e) e.1) es → IfSome x (λ e. (singleton e ≡ 120) × IsPrivate e.1) →
+others_by : (T : ℕ → Bool) (es : List (ℕ × Extension)) (x : Option (ℕ × List (List ℕ))) → AllByRecursion (λ e. IsExtension T (lower_singleton e) e.1) es → IfSome x (λ e. (lower_singleton e ≡ 120) × IsPrivate e.1) →
     (filter_map other_part (by_singleton es) ≡ map kept_of (other_blocks (by_singleton (map extension_block es ++ option_to_list x)))) × AllByRecursion KeepsWords (other_blocks (by_singleton (map extension_block es ++ option_to_list x)))
 others_by T [] x h k = (ap (map kept_of) (sym (no_others_private x k)), subst (AllByRecursion KeepsWords) (sym (no_others_private x k)) tt)
 others_by T (e ∷ es) x h k = at_kind e.1 h.0 (others_by T es x h.1 k)
   where
     Goal : Extension → Type 0
-    Goal f = (filter_map other_part ((singleton e, f) ∷ by_singleton es) ≡ map kept_of (other_blocks ((singleton e, extension_pieces f) ∷ by_singleton (map extension_block es ++ option_to_list x)))) × AllByRecursion KeepsWords (other_blocks ((singleton e, extension_pieces f) ∷ by_singleton (map extension_block es ++ option_to_list x)))
+    Goal f = (filter_map other_part ((lower_singleton e, f) ∷ by_singleton es) ≡ map kept_of (other_blocks ((lower_singleton e, extension_pieces f) ∷ by_singleton (map extension_block es ++ option_to_list x)))) × AllByRecursion KeepsWords (other_blocks ((lower_singleton e, extension_pieces f) ∷ by_singleton (map extension_block es ++ option_to_list x)))
 
-    at_kind : (f : Extension) → IsExtension T (singleton e) f → (filter_map other_part (by_singleton es) ≡ map kept_of (other_blocks (by_singleton (map extension_block es ++ option_to_list x)))) × AllByRecursion KeepsWords (other_blocks (by_singleton (map extension_block es ++ option_to_list x))) → Goal f
+    at_kind : (f : Extension) → IsExtension T (lower_singleton e) f → (filter_map other_part (by_singleton es) ≡ map kept_of (other_blocks (by_singleton (map extension_block es ++ option_to_list x)))) × AllByRecursion KeepsWords (other_blocks (by_singleton (map extension_block es ++ option_to_list x))) → Goal f
     at_kind (unicode u) r rest = rw r.0 rest
     at_kind (transform m) r rest = rw r.0 rest
-    at_kind (other ps) r rest = rw r.0 (ap (λ l. (singleton e, kept ps) ∷ l) rest.0, ((r.1, refl), rest.1))
+    at_kind (other ps) r rest = rw r.0 (ap (λ l. (lower_singleton e, kept ps) ∷ l) rest.0, ((r.1, refl), rest.1))
 
 pub blocks_give : (T : ℕ → Bool) (w : Written) → IsWritten T w → BlocksGive (grammar_rules T) (blocks_of w) (extensions_meaning w)
 blocks_give T w h =
@@ -92,7 +92,7 @@ blocks_give T w h =
       others = ap (map_of nat_cmp) o.0;
     }
 
-pub tree_by_blocks : (T : ℕ → Bool) → IsTable T → (t : List ℕ) (M : Locale) → TreeMeans T t M → MeansByBlocks T t M
+pub tree_by_blocks : (T : ℕ → Bool) → AreLengths T → (t : List ℕ) (M : Locale) → TreeMeans T t M → MeansByBlocks T t M
 tree_by_blocks T table t M m = subst (MeansByBlocks T t) (sym m.means) (record {
   id = record { written = m.written.id; grammatical = m.grammatical.id; spelled = ap head m.spelled ∙ head-spelling m.written m.grammatical; means = refl };
   blocks = subst (λ bs. BlocksGive (grammar_rules T) bs (extensions_meaning m.written)) (sym (ap tail_blocks m.spelled ∙ blocks-spelling table m.written m.grammatical)) (blocks_give T m.written m.grammatical);
@@ -103,19 +103,19 @@ tree_by_blocks T table t M m = subst (MeansByBlocks T t) (sym m.means) (record {
 abbrev pub RuleAt : (ℕ → Bool) → ℕ → List (List ℕ) → Type 0
 RuleAt T q ps = ((q ≡ 120) × IsPrivate ps) ⊎ ((e : Extension) × IsExtension T q e × (ps ≡ extension_pieces e))
 
-find_later : (P : List (List ℕ) → Type 0) (q : ℕ) (b : ℕ × List (List ℕ)) (bs : List (ℕ × List (List ℕ))) → list_any (eq_by_cmp nat_cmp (singleton b)) (map (λ b. singleton b) bs) ≡ false → IfSome (find nat_cmp q (by_singleton (b ∷ bs))) P → IfSome (find nat_cmp q (by_singleton bs)) P
-find_later P q b bs d h = (elim (eq_by_cmp nat_cmp q (singleton b)) as (λ t. eq_by_cmp nat_cmp q (singleton b) ≡ t → IfSome (cond t (Some b.1) (find nat_cmp q (by_singleton bs))) P → IfSome (find nat_cmp q (by_singleton bs)) P) [
-  | true ↦ λ t h. subst (λ (o : Option (List (List ℕ))). IfSome o P) (sym (none_found bs (subst (λ (c : ℕ). list_any (eq_by_cmp nat_cmp c) (map (λ b. singleton b) bs) ≡ false) (tied q (singleton b) t) d))) tt
+find_later : (P : List (List ℕ) → Type 0) (q : ℕ) (b : ℕ × List (List ℕ)) (bs : List (ℕ × List (List ℕ))) → list_any (eq_by_cmp nat_cmp (lower_singleton b)) (map (λ b. lower_singleton b) bs) ≡ false → IfSome (find nat_cmp q (by_singleton (b ∷ bs))) P → IfSome (find nat_cmp q (by_singleton bs)) P
+find_later P q b bs d h = (elim (eq_by_cmp nat_cmp q (lower_singleton b)) as (λ t. eq_by_cmp nat_cmp q (lower_singleton b) ≡ t → IfSome (cond t (Some b.1) (find nat_cmp q (by_singleton bs))) P → IfSome (find nat_cmp q (by_singleton bs)) P) [
+  | true ↦ λ t h. subst (λ (o : Option (List (List ℕ))). IfSome o P) (sym (none_found bs (subst (λ (c : ℕ). list_any (eq_by_cmp nat_cmp c) (map (λ b. lower_singleton b) bs) ≡ false) (tied q (lower_singleton b) t) d))) tt
   | false ↦ λ t h. h
 ]) refl h
   where
-    none_found : (bs : List (ℕ × List (List ℕ))) → list_any (eq_by_cmp nat_cmp q) (map (λ b. singleton b) bs) ≡ false → find nat_cmp q (by_singleton bs) ≡ None
+    none_found : (bs : List (ℕ × List (List ℕ))) → list_any (eq_by_cmp nat_cmp q) (map (λ b. lower_singleton b) bs) ≡ false → find nat_cmp q (by_singleton bs) ≡ None
     none_found [] d = refl
     none_found (b ∷ bs) d = let parts = or_parts _ _ d in ap (λ t. cond t (Some b.1) (find nat_cmp q (by_singleton bs))) parts.0 ∙ none_found bs parts.1
 
-each_block : (P : ℕ → List (List ℕ) → Type 0) (bs : List (ℕ × List (List ℕ))) → AllDifferent nat_cmp (map (λ b. singleton b) bs) → ((q : ℕ) → IfSome (find nat_cmp q (by_singleton bs)) (P q)) → AllByRecursion (λ b. P (singleton b) b.1) bs
+each_block : (P : ℕ → List (List ℕ) → Type 0) (bs : List (ℕ × List (List ℕ))) → AllDifferent nat_cmp (map (λ b. lower_singleton b) bs) → ((q : ℕ) → IfSome (find nat_cmp q (by_singleton bs)) (P q)) → AllByRecursion (λ b. P (lower_singleton b) b.1) bs
 each_block P [] d f = tt
-each_block P (b ∷ bs) d f = (subst (λ (t : Bool). IfSome (cond t (Some b.1) (find nat_cmp (singleton b) (by_singleton bs))) (P (singleton b))) (self_tied (singleton b)) (f (singleton b)), each_block P bs d.1 (λ q. find_later (P q) q b bs d.0 (f q)))
+each_block P (b ∷ bs) d f = (subst (λ (t : Bool). IfSome (cond t (Some b.1) (find nat_cmp (lower_singleton b) (by_singleton bs))) (P (lower_singleton b))) (self_tied (lower_singleton b)) (f (lower_singleton b)), each_block P bs d.1 (λ q. find_later (P q) q b bs d.0 (f q)))
 
 -- only the rule of its singleton
 abbrev KnownAt : (ℕ → Bool) → ℕ → List (List ℕ) → Type 0
@@ -135,14 +135,14 @@ known T q f u t x = both (f q) (at q 117 u) (at q 116 t) (at q 120 x)
     both None a b c = tt
     both (Some ps) a b c = (a, b, c)
 
-others_each : (bs : List (ℕ × List (List ℕ))) → AllByRecursion KeepsWords (other_blocks (by_singleton bs)) → AllByRecursion (λ b. is_other_singleton (singleton b) ≡ true → IsOther b.1) bs
+others_each : (bs : List (ℕ × List (List ℕ))) → AllByRecursion KeepsWords (other_blocks (by_singleton bs)) → AllByRecursion (λ b. is_other_singleton (lower_singleton b) ≡ true → IsOther b.1) bs
 others_each [] h = tt
-others_each (b ∷ bs) h = (elim (is_other_singleton (singleton b)) as (λ t. is_other_singleton (singleton b) ≡ t → AllByRecursion KeepsWords (cond t ((singleton b, b.1) ∷ other_blocks (by_singleton bs)) (other_blocks (by_singleton bs))) → AllByRecursion (λ b. is_other_singleton (singleton b) ≡ true → IsOther b.1) (b ∷ bs)) [
+others_each (b ∷ bs) h = (elim (is_other_singleton (lower_singleton b)) as (λ t. is_other_singleton (lower_singleton b) ≡ t → AllByRecursion KeepsWords (cond t ((lower_singleton b, b.1) ∷ other_blocks (by_singleton bs)) (other_blocks (by_singleton bs))) → AllByRecursion (λ b. is_other_singleton (lower_singleton b) ≡ true → IsOther b.1) (b ∷ bs)) [
   | true ↦ λ t h. ((λ _. h.0.0), others_each bs h.1)
   | false ↦ λ t h. ((λ e. absurd (true≢false (sym e ∙ t))), others_each bs h)
 ]) refl h
 
-rule_of : (T : ℕ → Bool) (b : ℕ × List (List ℕ)) → KnownAt T (singleton b) b.1 → (is_other_singleton (singleton b) ≡ true → IsOther b.1) → IsKind (singleton b) → IsBlock T b
+rule_of : (T : ℕ → Bool) (b : ℕ × List (List ℕ)) → KnownAt T (lower_singleton b) b.1 → (is_other_singleton (lower_singleton b) ≡ true → IsOther b.1) → IsKind (lower_singleton b) → IsBlock T b
 rule_of T b k o (of_u e) = k.0 e
 rule_of T b k o (of_t e) = k.1 e
 rule_of T b k o (of_x e) = k.2 e
@@ -155,7 +155,7 @@ blocks_good T bs e m =
     (part_rule T 116 (TransformMeans T) (λ ps v h. inr (transform h.written, (refl, h.grammatical), h.spelled)) no_transform _ e.transform m.transform)
     (part_rule T 120 PrivateMeans (λ ps v h. inl (refl, h.0)) [] _ e.private m.private)) in
     let rules = all_both _ _ bs m.letters (all_both _ _ bs known_each (others_each bs m.each_other)) in
-    good_from T [] bs (all_weaker _ (λ b. HasSingleton b × IsBlock T b) (λ b k. (k.0, rule_of T b k.1.0 k.1.1 (kind_of (singleton b) (lower_letter b.0 k.0)))) bs rules) m.different (all_of _ (λ b. refl) bs)
+    good_from T [] bs (all_weaker _ (λ b. HasSingleton b × IsBlock T b) (λ b k. (k.0, rule_of T b k.1.0 k.1.1 (kind_of (lower_singleton b) (lower_letter b.0 k.0)))) bs rules) m.different (all_of _ (λ b. refl) bs)
 
 -- one value
 

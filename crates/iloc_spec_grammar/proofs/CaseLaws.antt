@@ -7,8 +7,8 @@ use Rattle.std.specs.Ordering.{nat_cmp, eq_by_cmp}
 use Rattle.std.specs.FinMap.{find}
 use Rattle.std.proofs.lemmas.Bool.Decides.{nat_tests}
 use Rattle.std.proofs.lemmas.Str.Ascii.{lowercase-lowercase}
-use Rattle.iloc_spec_grammar.specs.Syntax.{pieces, join, Kind, Language, Script, Region, Variant, Subtag, UnicodeKey, TransformKey, Attribute, PrivateSubtag, is_word, IsTable, lower, word_cmp, is_true, Identifier, Fields, IsIdentifier, kept, is_other_singleton, singleton, AllDifferent, is_one_byte, front, blocks, head, tail_blocks, first_piece}
-use Rattle.iloc_spec_grammar.specs.Tree.{Extension, unicode, transform, other, Written, spelling, IsPrivate, IsExtension, IsWritten, unicode_part, transform_part, private_part, other_part, by_singleton, meaning, TreeMeans}
+use Rattle.iloc_spec_grammar.specs.Syntax.{pieces, join, Kind, Language, Script, Region, Variant, Subtag, UnicodeKey, TransformKey, Attribute, PrivateSubtag, is_word, AreLengths, lower, word_cmp, is_true, Identifier, Fields, IsIdentifier, kept, is_other_singleton, lower_singleton, AllDifferent, is_one_byte, front, blocks, head, tail_blocks, first_piece, IsPrivate}
+use Rattle.iloc_spec_grammar.specs.Tree.{Extension, unicode, transform, other, Written, spelling, IsExtension, IsWritten, unicode_part, transform_part, private_part, other_part, by_singleton, meaning, TreeMeans}
 use Rattle.iloc_spec_grammar.specs.Meaning.{map_of, set_of, normal_identifier, normal_values, Locale}
 use Rattle.iloc_spec_grammar.specs.Values.{lower_identifier}
 use Rattle.iloc_spec_grammar.specs.TreeSteps.{TreeTextStep}
@@ -121,7 +121,7 @@ low_entries es = map (λ e. (to_ascii_lowercase e.0, low_extension e.1)) es
 
 extensions_in-low : (bs : List (ℕ × List (List ℕ))) → extensions_in (map low_block bs) ≡ low_entries (extensions_in bs)
 extensions_in-low [] = refl
-extensions_in-low (b ∷ bs) = cond-map low_entries _ _ (ap (λ c. c == 120) (lowercase-lowercase b.0)) refl (λ i. (to_ascii_lowercase b.0, (ap (λ c. extension_of c (low b.1)) (lowercase-lowercase b.0) ∙ extension_of-low (singleton b) b.1) i) ∷ extensions_in-low bs i)
+extensions_in-low (b ∷ bs) = cond-map low_entries _ _ (ap (λ c. c == 120) (lowercase-lowercase b.0)) refl (λ i. (to_ascii_lowercase b.0, (ap (λ c. extension_of c (low b.1)) (lowercase-lowercase b.0) ∙ extension_of-low (lower_singleton b) b.1) i) ∷ extensions_in-low bs i)
 
 private_in-low : (bs : List (ℕ × List (List ℕ))) → private_in (map low_block bs) ≡ option_map low_block (private_in bs)
 private_in-low [] = refl
@@ -207,29 +207,29 @@ is_extension-low T c (other ps) = ap (λ b. is_other_singleton c && b) (ap₂ �
 -- the rules of a whole text as one test
 
 abbrev is_entry : (ℕ → Bool) → ℕ × Extension → Bool
-is_entry T e = is_extension T (singleton e) e.1
+is_entry T e = is_extension T (lower_singleton e) e.1
 
 abbrev is_private_block : ℕ × List (List ℕ) → Bool
-is_private_block e = (singleton e == 120) && is_private e.1
+is_private_block e = (lower_singleton e == 120) && is_private e.1
 
 abbrev is_written : (ℕ → Bool) → Written → Bool
-is_written T w = (is_identifier T w.id && list_all (is_entry T) w.extensions) && (all_different nat_cmp (map (λ e. singleton e) w.extensions) && holds_if_some is_private_block w.private)
+is_written T w = (is_identifier T w.id && list_all (is_entry T) w.extensions) && (all_different nat_cmp (map (λ e. lower_singleton e) w.extensions) && holds_if_some is_private_block w.private)
 
 tests_written : (T : ℕ → Bool) (w : Written) → Tests (is_written T w) (IsWritten T w)
 tests_written T w = tests_like
-    (λ (x : (IsIdentifier T w.id × AllByRecursion (λ e. IsExtension T (singleton e) e.1) w.extensions) × (AllDifferent nat_cmp (map (λ e. singleton e) w.extensions) × IfSome w.private (λ e. (singleton e ≡ 120) × IsPrivate e.1))). record { id = x.0.0; extensions = x.0.1; different = x.1.0; private = x.1.1 })
+    (λ (x : (IsIdentifier T w.id × AllByRecursion (λ e. IsExtension T (lower_singleton e) e.1) w.extensions) × (AllDifferent nat_cmp (map (λ e. lower_singleton e) w.extensions) × IfSome w.private (λ e. (lower_singleton e ≡ 120) × IsPrivate e.1))). record { id = x.0.0; extensions = x.0.1; different = x.1.0; private = x.1.1 })
     (λ (h : IsWritten T w). ((h.id, h.extensions), (h.different, h.private)))
     (tests_and
-    (tests_and (tests_identifier T w.id) (tests_all (is_entry T) (λ e. IsExtension T (singleton e) e.1) (λ e. tests_extension T (singleton e) e.1) w.extensions))
-    (tests_and (tests_different nat_cmp _) (tests_if_some is_private_block (λ e. (singleton e ≡ 120) × IsPrivate e.1) (λ e. tests_and (tests_nat (singleton e) 120) (tests_private e.1)) w.private)))
+    (tests_and (tests_identifier T w.id) (tests_all (is_entry T) (λ e. IsExtension T (lower_singleton e) e.1) (λ e. tests_extension T (lower_singleton e) e.1) w.extensions))
+    (tests_and (tests_different nat_cmp _) (tests_if_some is_private_block (λ e. (lower_singleton e ≡ 120) × IsPrivate e.1) (λ e. tests_and (tests_nat (lower_singleton e) 120) (tests_private e.1)) w.private)))
 
 abbrev pub low_entry : ℕ × Extension → ℕ × Extension
 low_entry e = (to_ascii_lowercase e.0, low_extension e.1)
 
 is_written-low : (T : ℕ → Bool) (w : Written) → is_written T (low_written w) ≡ is_written T w
 is_written-low T w =
-    let entries = list_all-mapped (is_entry T) low_entry (is_entry T) (λ e. ap (λ c. is_extension T c (low_extension e.1)) (lowercase-lowercase e.0) ∙ is_extension-low T (singleton e) e.1) w.extensions in
-    let singletons = map-then (λ (e : ℕ × Extension). singleton e) low_entry (λ e. singleton e) (λ e. lowercase-lowercase e.0) w.extensions in
+    let entries = list_all-mapped (is_entry T) low_entry (is_entry T) (λ e. ap (λ c. is_extension T c (low_extension e.1)) (lowercase-lowercase e.0) ∙ is_extension-low T (lower_singleton e) e.1) w.extensions in
+    let singletons = map-then (λ (e : ℕ × Extension). lower_singleton e) low_entry (λ e. lower_singleton e) (λ e. lowercase-lowercase e.0) w.extensions in
     let private = option-low is_private_block low_block (λ e. ap₂ ◌&&◌ (ap (λ c. c == 120) (lowercase-lowercase e.0)) (ap₂ ◌&&◌ (words-low PrivateSubtag e.1) (ap (nat_lt 0) (length-map e.1 lower)))) w.private in
     ap₂ ◌&&◌ (ap₂ ◌&&◌ (is_identifier-low T w.id) entries) (ap₂ ◌&&◌ (ap (all_different nat_cmp) singletons) private)
 
@@ -269,7 +269,7 @@ meaning-low w = same_parts (low_written w) w (normal-lower_identifier w.id)
     (private_part-low w.private) (ap (map_of nat_cmp) (others-low w.extensions))
 
 -- texts that are equal without case mean the same
-pub case_means : (T : ℕ → Bool) → IsTable T → (t u : List ℕ) (M : Locale) → lower t ≡ lower u → TreeMeans T t M → TreeMeans T u M
+pub case_means : (T : ℕ → Bool) → AreLengths T → (t u : List ℕ) (M : Locale) → lower t ≡ lower u → TreeMeans T t M → TreeMeans T u M
 case_means T table t u M e m =
     let v = m.written in
     let w = written_of (pieces u) in
@@ -283,7 +283,7 @@ case_means T table t u M e m =
     }
 
 -- a step keeps each meaning of a text
-pub text_step_means : (T : ℕ → Bool) → IsTable T → (t u : List ℕ) (M : Locale) → TreeTextStep T t u → TreeMeans T t M → TreeMeans T u M
+pub text_step_means : (T : ℕ → Bool) → AreLengths T → (t u : List ℕ) (M : Locale) → TreeTextStep T t u → TreeMeans T t M → TreeMeans T u M
 text_step_means T table t u M (TreeTextStep.letter_case e) m = case_means T table t u M e m
 text_step_means T table t u M (TreeTextStep.rewritten {v = v} {w = w} h e s) m = subst (TreeMeans T (join (spelling w))) (one_meaning table t (meaning v) M (record { written = v; grammatical = h; spelled = e; means = refl }) m) (step_means T t h e s)
 

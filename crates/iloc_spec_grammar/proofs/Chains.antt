@@ -9,8 +9,8 @@ use Rattle.std.specs.FinMap.Entries.{same_entries}
 use Rattle.std.proofs.lemmas.Bool.{cases_eq, lt-ltb}
 use Rattle.std.proofs.lemmas.List.{map-append, length-map}
 use Rattle.std.proofs.lemmas.Str.Ascii.{lowercase-lowercase}
-use Rattle.iloc_spec_grammar.specs.Syntax.{join, lower, Identifier, Fields, Unicode, Transform, identifier_pieces, optional_pieces, fields_pieces, kept, singleton, AllDifferent}
-use Rattle.iloc_spec_grammar.specs.Tree.{Extension, unicode, transform, other, Written, extension_pieces, extension_block, block_pieces, blocks_of, spelling, IsPrivate, IsExtension, IsWritten, unicode_part, transform_part, private_part, other_part, by_singleton, meaning, IsTreeWellFormed, private_form, printed, tree_text}
+use Rattle.iloc_spec_grammar.specs.Syntax.{join, lower, Identifier, Fields, Unicode, Transform, identifier_pieces, optional_pieces, fields_pieces, kept, lower_singleton, AllDifferent, IsPrivate}
+use Rattle.iloc_spec_grammar.specs.Tree.{Extension, unicode, transform, other, Written, extension_pieces, extension_block, block_pieces, blocks_of, spelling, IsExtension, IsWritten, unicode_part, transform_part, private_part, other_part, by_singleton, meaning, IsTreeWellFormed, private_form, printed, tree_text}
 use Rattle.iloc_spec_grammar.specs.Meaning.{normal_identifier, normal_fields, normal_unicode, normal_transform}
 use Rattle.iloc_spec_grammar.specs.Values.{IsValue, lower_identifier, spelled_fields}
 use Rattle.iloc_spec_grammar.specs.TreeSteps.{TreeRule, Repeats, Trues, DroppedPieces, VariantOrder, AttributeOrder, FieldOrder, TreeIdentifierStep, ExtensionStep, Step, written}
@@ -27,8 +27,7 @@ use Rattle.iloc_spec_grammar.proofs.Canonical.{sort_identifier, without_repeats,
 use Rattle.iloc_spec_grammar.proofs.Singletons.{untied, find_holds}
 use Rattle.iloc_spec_grammar.proofs.General.{cond-map, map-then, option_map-then, zip_map, all_mapped}
 use Rattle.std.proofs.lemmas.Simd.{map-map}
-pub use Rattle.iloc_spec_grammar.proofs.PartTexts.{identifier_pieces-low}
-use Rattle.iloc_spec_grammar.proofs.PartTexts.{option_to_list-map, id_pieces-low}
+use Rattle.iloc_spec_grammar.proofs.PartTexts.{identifier_pieces-low, option_to_list-map, id_pieces-low}
 
 -- the lower case of a spelling
 
@@ -120,18 +119,18 @@ transform_found T (Some (transform m)) h =
 transform_found T (Some (unicode u)) h = absurd (let k = h.0.0 in omega arith)
 transform_found T (Some (other ps)) h = absurd (true≢false (sym h.0.0))
 
-others_found : (T : ℕ → Bool) (q : ℕ) → q ≢ 116 → q ≢ 117 → (es : List (ℕ × Extension)) → AllByRecursion (λ e. Fine T (singleton e) e.1) es → option_map other (find nat_cmp q (filter_map other_part (by_singleton es))) ≡ option_map low_extension (find nat_cmp q (by_singleton es))
+others_found : (T : ℕ → Bool) (q : ℕ) → q ≢ 116 → q ≢ 117 → (es : List (ℕ × Extension)) → AllByRecursion (λ e. Fine T (lower_singleton e) e.1) es → option_map other (find nat_cmp q (filter_map other_part (by_singleton es))) ≡ option_map low_extension (find nat_cmp q (by_singleton es))
 others_found T q t u [] h = refl
 others_found T q t u (e ∷ es) h = at_kind e.1 h.0 (others_found T q t u es h.1)
   where
-    at_kind : (x : Extension) → Fine T (singleton e) x → option_map other (find nat_cmp q (filter_map other_part (by_singleton es))) ≡ option_map low_extension (find nat_cmp q (by_singleton es)) → option_map other (find nat_cmp q (filter_map other_part ((singleton e, x) ∷ by_singleton es))) ≡ option_map low_extension (find nat_cmp q ((singleton e, x) ∷ by_singleton es))
-    at_kind (unicode v) f rest = rest ∙ ap (λ b. option_map low_extension (cond b (Some (unicode v)) (find nat_cmp q (by_singleton es)))) (sym (untied q (singleton e) (λ k. u (sym k ∙ f.0.0))))
-    at_kind (transform m) f rest = rest ∙ ap (λ b. option_map low_extension (cond b (Some (transform m)) (find nat_cmp q (by_singleton es)))) (sym (untied q (singleton e) (λ k. t (sym k ∙ f.0.0))))
-    at_kind (other ps) f rest = elim (eq_by_cmp nat_cmp q (singleton e)) as (λ b. option_map other (cond b (Some (kept ps)) (find nat_cmp q (filter_map other_part (by_singleton es)))) ≡ option_map low_extension (cond b (Some (other ps)) (find nat_cmp q (by_singleton es)))) [ true ↦ ap (λ l. Some (other l)) f.1 | false ↦ rest ]
+    at_kind : (x : Extension) → Fine T (lower_singleton e) x → option_map other (find nat_cmp q (filter_map other_part (by_singleton es))) ≡ option_map low_extension (find nat_cmp q (by_singleton es)) → option_map other (find nat_cmp q (filter_map other_part ((lower_singleton e, x) ∷ by_singleton es))) ≡ option_map low_extension (find nat_cmp q ((lower_singleton e, x) ∷ by_singleton es))
+    at_kind (unicode v) f rest = rest ∙ ap (λ b. option_map low_extension (cond b (Some (unicode v)) (find nat_cmp q (by_singleton es)))) (sym (untied q (lower_singleton e) (λ k. u (sym k ∙ f.0.0))))
+    at_kind (transform m) f rest = rest ∙ ap (λ b. option_map low_extension (cond b (Some (transform m)) (find nat_cmp q (by_singleton es)))) (sym (untied q (lower_singleton e) (λ k. t (sym k ∙ f.0.0))))
+    at_kind (other ps) f rest = elim (eq_by_cmp nat_cmp q (lower_singleton e)) as (λ b. option_map other (cond b (Some (kept ps)) (find nat_cmp q (filter_map other_part (by_singleton es)))) ≡ option_map low_extension (cond b (Some (other ps)) (find nat_cmp q (by_singleton es)))) [ true ↦ ap (λ l. Some (other l)) f.1 | false ↦ rest ]
 
 -- a text in order differs from its printed form in case alone
 
-private_printed : (x : Option (ℕ × List (List ℕ))) → IfSome x (λ e. (singleton e ≡ 120) × IsPrivate e.1) → option_map low_block x ≡ option_map low_block (private_form (private_part x))
+private_printed : (x : Option (ℕ × List (List ℕ))) → IfSome x (λ e. (lower_singleton e ≡ 120) × IsPrivate e.1) → option_map low_block x ≡ option_map low_block (private_form (private_part x))
 private_printed None h = refl
 private_printed (Some e) h = at_words e.1 h.1.nonempty
   where
@@ -142,8 +141,8 @@ private_printed (Some e) h = at_words e.1 h.1.nonempty
 ending : (T : ℕ → Bool) (w : Written) → IsWritten T w → AllByRecursion (λ e. IsCanonical e.1) w.extensions → is_sorted nat_cmp (low_entries w.extensions) ≡ true → lower_identifier (normal_identifier w.id) ≡ lower_identifier w.id → low_written w ≡ low_written (printed (meaning w))
 ending T w h c s i = λ k. record { id = sym i k; extensions = (sym (entries_twice w.extensions) ∙ ap low_entries same) k; private = private_printed w.private h.private k }
   where
-    fine : AllByRecursion (λ e. Fine T (singleton e) e.1) w.extensions
-    fine = all_both (λ e. IsExtension T (singleton e) e.1) (λ e. IsCanonical e.1) w.extensions h.extensions c
+    fine : AllByRecursion (λ e. Fine T (lower_singleton e) e.1) w.extensions
+    fine = all_both (λ e. IsExtension T (lower_singleton e) e.1) (λ e. IsCanonical e.1) w.extensions h.extensions c
 
     v : IsValue T (meaning w)
     v = written_value w h
@@ -165,9 +164,9 @@ abbrev at_all : (Extension → Extension) → List (ℕ × Extension) → List (
 at_all f es = map (λ e. (e.0, f e.1)) es
 
 -- one rule at each extension, from one stage to the next
-stage : (T : ℕ → Bool) (r : TreeRule) (f g : Extension → Extension) → ((c : ℕ) (e : Extension) → IsExtension T c e → ExtensionStep r (f e) (g e)) → (es : List (ℕ × Extension)) → AllByRecursion (λ e. IsExtension T (singleton e) e.1) es → AllZip (λ e g. (e.0 ≡ g.0) × ExtensionStep r e.1 g.1) (at_all f es) (at_all g es)
+stage : (T : ℕ → Bool) (r : TreeRule) (f g : Extension → Extension) → ((c : ℕ) (e : Extension) → IsExtension T c e → ExtensionStep r (f e) (g e)) → (es : List (ℕ × Extension)) → AllByRecursion (λ e. IsExtension T (lower_singleton e) e.1) es → AllZip (λ e g. (e.0 ≡ g.0) × ExtensionStep r e.1 g.1) (at_all f es) (at_all g es)
 stage T r f g s [] h = tt
-stage T r f g s (e ∷ es) h = ((refl, s (singleton e) e.1 h.0), stage T r f g s es h.1)
+stage T r f g s (e ∷ es) h = ((refl, s (lower_singleton e) e.1 h.0), stage T r f g s es h.1)
 
 -- n steps of written locales, one after the other
 abbrev pub Steps : ℕ → Written → Written → Type 0
@@ -197,12 +196,12 @@ seven_steps T w h =
     let f4 = λ (e : Extension). with_sorted_variants (f3 e) in
     let f5 = λ (e : Extension). with_sorted_attributes (f4 e) in
     let f6 = λ (e : Extension). with_sorted_fields (f5 e) in
-    let key = λ (e : ℕ × Extension). singleton e in
+    let key = λ (e : ℕ × Extension). lower_singleton e in
     let sorted = reordered-sort nat_cmp key (at_all f6 es) in
     let end = written i (sort nat_cmp key (at_all f6 es)) x in
     let steps : Steps 7 w end = (
       written w.id (at_all without_repeats es) x,
-      Step.inside Repeats TreeIdentifierStep.same (zip_map _ (λ e. IsExtension T (singleton e) e.1) (λ e. (e.0, without_repeats e.1)) (λ e _. (refl, repeats_step e.1)) es h.extensions),
+      Step.inside Repeats TreeIdentifierStep.same (zip_map _ (λ e. IsExtension T (lower_singleton e) e.1) (λ e. (e.0, without_repeats e.1)) (λ e _. (refl, repeats_step e.1)) es h.extensions),
       (
         written w.id (at_all f2 es) x,
         Step.inside Trues TreeIdentifierStep.same (stage T Trues without_repeats f2 (λ c e k. trues_step T c (without_repeats e) (extension_step T c (repeats_step e) k).0) es h.extensions),
@@ -230,7 +229,7 @@ seven_steps T w h =
       ),
     ) in
     let after = steps_keep T 7 w end h steps in
-    let canonicals = all_mapped (λ e. IsExtension T (singleton e) e.1) (λ e. IsCanonical e.1) (λ e. (e.0, f6 e.1)) (λ e k. canonical T (singleton e) e.1 k) es h.extensions in
+    let canonicals = all_mapped (λ e. IsExtension T (lower_singleton e) e.1) (λ e. IsCanonical e.1) (λ e. (e.0, f6 e.1)) (λ e k. canonical T (lower_singleton e) e.1 k) es h.extensions in
     let different = subst (AllDifferent nat_cmp) (sym (map-map key (λ e. (e.0, f6 e.1)) es)) h.different in
     let same = ending T end after.0 (all_reordered (λ (e : ℕ × Extension). IsCanonical e.1) sorted canonicals) (sorted-sort nat_cmp key nat_cmp_total (λ e. low_extension e.1) (at_all f6 es) different) (canonical_identifier w.id h.id.different) in
     record { end = end; steps = steps; same = same_text end (printed (meaning end)) same ∙ ap (λ N. lower (tree_text N)) after.1 }

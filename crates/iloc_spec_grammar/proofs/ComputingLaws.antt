@@ -1,6 +1,6 @@
 -- The answers of the plain programs are the meaning and the fault of a text.
 use Rattle.std.proofs.Common.{◌≡◌, ℕ, Bool, List, ap, subst, Result, Ok, Err, MatchResult, ◌↔◌}
-use Rattle.iloc_spec_grammar.specs.Syntax.{pieces, IsTable, Identifier}
+use Rattle.iloc_spec_grammar.specs.Syntax.{pieces, AreLengths, Identifier}
 use Rattle.iloc_spec_grammar.specs.Meaning.{Locale, Means, IdentifierMeans, Fault, HasFault, HasIdentifierFault}
 use Rattle.iloc_spec_grammar.specs.Tree.{TreeMeans}
 use Rattle.iloc_spec_grammar.specs.Computing.{identifier_result, locale_result}
@@ -13,16 +13,16 @@ use Rattle.iloc_spec_grammar.proofs.IdentifierTexts.{IdentifierAnswers, identifi
 abbrev Answers : (ℕ → Bool) → List ℕ → Result Locale Fault → Type 0
 Answers T t r = MatchResult r (Means T t) (HasFault T t)
 
-pub locale_answers : (T : ℕ → Bool) → IsTable T → (t : List ℕ) → MatchResult (locale_result T t) (Means T t) (HasFault T t)
+pub locale_answers : (T : ℕ → Bool) → AreLengths T → (t : List ℕ) → MatchResult (locale_result T t) (Means T t) (HasFault T t)
 locale_answers T table t = answered T t
 
-pub computed_means : (T : ℕ → Bool) → IsTable T → (t : List ℕ) (M : Locale) → (locale_result T t ≡ Ok M) ↔ Means T t M
+pub computed_means : (T : ℕ → Bool) → AreLengths T → (t : List ℕ) (M : Locale) → (locale_result T t ≡ Ok M) ↔ Means T t M
 computed_means T table t M = (λ e. subst (Answers T t) e (answered T t), λ m. means_answered table t M m)
 
-pub computed_fault : (T : ℕ → Bool) → IsTable T → (t : List ℕ) (f : Fault) → (locale_result T t ≡ Err f) ↔ HasFault T t f
+pub computed_fault : (T : ℕ → Bool) → AreLengths T → (t : List ℕ) (f : Fault) → (locale_result T t ≡ Err f) ↔ HasFault T t f
 computed_fault T table t f = (λ e. subst (Answers T t) e (answered T t), λ h. fault_answered T t h)
 
-pub computed_tree : (T : ℕ → Bool) → IsTable T → (t : List ℕ) (M : Locale) → (locale_result T t ≡ Ok M) ↔ TreeMeans T t M
+pub computed_tree : (T : ℕ → Bool) → AreLengths T → (t : List ℕ) (M : Locale) → (locale_result T t ≡ Ok M) ↔ TreeMeans T t M
 computed_tree T table t M = (λ e. tree_means t M ((computed_means T table t M).0 e), λ m. (computed_means T table t M).1 (means_by_tree table t M m))
 
 -- identifiers

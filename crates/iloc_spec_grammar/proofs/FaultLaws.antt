@@ -8,8 +8,8 @@ use Rattle.std.proofs.lemmas.Bool.{or_from, or_parts, cond_both, both_ways, eqb-
 use Rattle.std.proofs.lemmas.Bool.Decides.{nat_tests}
 use Rattle.std.proofs.lemmas.List.{map-append}
 use Rattle.std.proofs.lemmas.List.Folds.{list_any-append}
-use Rattle.iloc_spec_grammar.specs.Syntax.{pieces, Language, Script, Region, Variant, TransformKey, is_word, IsWord, IsTable, lower, word_cmp, Identifier, Transform, identifier_pieces, optional_pieces, transform_pieces, HasWords, IsIdentifier, singleton, AllDifferent, front, blocks, head, tail_blocks, first_piece}
-use Rattle.iloc_spec_grammar.specs.Tree.{Extension, Written, extension_block, block_pieces, blocks_of, spelling, IsTransformBlock, IsPrivate, IsExtension, IsWritten, TreeMeans, meaning, HasSingleton, IsNew, IsBlock, TreeBlockFault, no_singleton, duplicated, breaks_rule, FirstBadBlock, here, later, HasTreeFault, no_language, no_identifier, bad_block}
+use Rattle.iloc_spec_grammar.specs.Syntax.{pieces, Language, Script, Region, Variant, TransformKey, is_word, IsWord, AreLengths, lower, word_cmp, Identifier, Transform, identifier_pieces, optional_pieces, transform_pieces, HasWords, IsIdentifier, lower_singleton, AllDifferent, front, blocks, head, tail_blocks, first_piece, IsPrivate}
+use Rattle.iloc_spec_grammar.specs.Tree.{Extension, Written, extension_block, block_pieces, blocks_of, spelling, IsTransformBlock, IsExtension, IsWritten, TreeMeans, meaning, HasSingleton, IsNew, IsBlock, TreeBlockFault, no_singleton, duplicated, breaks_rule, FirstBadBlock, here, later, HasTreeFault, no_language, no_identifier, bad_block}
 use Rattle.iloc_spec_grammar.specs.Meaning.{Locale, Fault, InvalidLanguage, InvalidSubtag, InvalidExtension, DuplicatedExtension, SpellsIdentifier, RepeatsVariant}
 use Rattle.iloc_spec_grammar.specs.Reading.{skip_first, passing, past, identifier_of, front_of, after_front, before_key, extensions_in, private_in, written_of, transform_of}
 use Rattle.iloc_spec_grammar.specs.Computing.{is_identifier, is_block, repeats_variant, first_fault, unless_fault, locale_result}
@@ -109,26 +109,26 @@ good_no_repeat T m h r = at_id m.id h.id (sym (before_key_read (is_word Transfor
         let same : j.variants ≡ r.0.variants ++ before_key (is_word TransformKey) r.1 = ap (λ (i : Identifier). i.variants) (sym (identifier_of-pieces j g.words)) ∙ ap (λ l. (identifier_of l).variants) e ∙ repeats_longer r.0 _ r.2 r.4 in
         r.4 (some_repeat word_cmp (map lower r.0.variants) _ (subst (AllDifferent word_cmp) (ap (map lower) same ∙ map-append lower r.0.variants _) g.different))
 
-block_no_repeat : (T : ℕ → Bool) (b : ℕ × List (List ℕ)) → singleton b ≡ 116 → IsBlock T b → ¬ (RepeatsVariant T b.1)
+block_no_repeat : (T : ℕ → Bool) (b : ℕ × List (List ℕ)) → lower_singleton b ≡ 116 → IsBlock T b → ¬ (RepeatsVariant T b.1)
 block_no_repeat T b e (inl x) r = absurd (let k = x.0 in omega arith)
-block_no_repeat T b e (inr x) r = let k = rw e at (extension_read T (singleton b) b.1 x) in good_no_repeat T (transform_of b.1) k.1 (rw pieces-transform_of r)
+block_no_repeat T b e (inr x) r = let k = rw e at (extension_read T (lower_singleton b) b.1 x) in good_no_repeat T (transform_of b.1) k.1 (rw pieces-transform_of r)
 
 -- blocks one after another
 
 abbrev pub AreGood : (ℕ → Bool) → List ℕ → List (ℕ × List (List ℕ)) → Type 0
 AreGood T seen [] = Unit {0}
-AreGood T seen (b ∷ bs) = (HasSingleton b × IsNew seen b × IsBlock T b) × AreGood T (singleton b ∷ seen) bs
+AreGood T seen (b ∷ bs) = (HasSingleton b × IsNew seen b × IsBlock T b) × AreGood T (lower_singleton b ∷ seen) bs
 
-tests_variant_twice : (T : ℕ → Bool) (b : ℕ × List (List ℕ)) → Tests ((singleton b == 116) && repeats_variant T b.1) ((singleton b ≡ 116) × RepeatsVariant T b.1)
-tests_variant_twice T b = tests_and (tests_nat (singleton b) 116) (tests_repeats T b.1)
+tests_variant_twice : (T : ℕ → Bool) (b : ℕ × List (List ℕ)) → Tests ((lower_singleton b == 116) && repeats_variant T b.1) ((lower_singleton b ≡ 116) × RepeatsVariant T b.1)
+tests_variant_twice T b = tests_and (tests_nat (lower_singleton b) 116) (tests_repeats T b.1)
 
 -- the plain program finds the first bad block
 
 first_is : (T : ℕ → Bool) (seen : List ℕ) (bs : List (ℕ × List (List ℕ))) → MatchOption (first_fault T seen bs) (AreGood T seen bs) (FirstBadBlock T seen bs)
 first_is T seen [] = tt
-first_is T seen (b ∷ bs) = at_tests (is_ascii_alphanumeric b.0) refl (list_any (eq_by_cmp nat_cmp (singleton b)) seen) refl (is_block T b) refl ((singleton b == 116) && repeats_variant T b.1) refl (first_fault T (singleton b ∷ seen) bs) (first_is T (singleton b ∷ seen) bs)
+first_is T seen (b ∷ bs) = at_tests (is_ascii_alphanumeric b.0) refl (list_any (eq_by_cmp nat_cmp (lower_singleton b)) seen) refl (is_block T b) refl ((lower_singleton b == 116) && repeats_variant T b.1) refl (first_fault T (lower_singleton b ∷ seen) bs) (first_is T (lower_singleton b ∷ seen) bs)
   where
-    at_tests : (a : Bool) → is_ascii_alphanumeric b.0 ≡ a → (s : Bool) → list_any (eq_by_cmp nat_cmp (singleton b)) seen ≡ s → (g : Bool) → is_block T b ≡ g → (r : Bool) → ((singleton b == 116) && repeats_variant T b.1) ≡ r → (o : Option Fault) → MatchOption o (AreGood T (singleton b ∷ seen) bs) (FirstBadBlock T (singleton b ∷ seen) bs)
+    at_tests : (a : Bool) → is_ascii_alphanumeric b.0 ≡ a → (s : Bool) → list_any (eq_by_cmp nat_cmp (lower_singleton b)) seen ≡ s → (g : Bool) → is_block T b ≡ g → (r : Bool) → ((lower_singleton b == 116) && repeats_variant T b.1) ≡ r → (o : Option Fault) → MatchOption o (AreGood T (lower_singleton b ∷ seen) bs) (FirstBadBlock T (lower_singleton b ∷ seen) bs)
         → MatchOption (cond (not a) (Some InvalidExtension) (cond s (Some DuplicatedExtension) (cond g o (cond r (Some InvalidSubtag) (Some InvalidExtension))))) (AreGood T seen (b ∷ bs)) (FirstBadBlock T seen (b ∷ bs))
     at_tests false a s e g d r k o rest = here (no_singleton a)
     at_tests true a true e g d r k o rest = here (duplicated a e)
@@ -139,7 +139,7 @@ first_is T seen (b ∷ bs) = at_tests (is_ascii_alphanumeric b.0) refl (list_any
 
 good_first : (T : ℕ → Bool) (seen : List ℕ) (bs : List (ℕ × List (List ℕ))) → AreGood T seen bs → first_fault T seen bs ≡ None
 good_first T seen [] g = refl
-good_first T seen (b ∷ bs) g = rw (g.0.0, g.0.1, (tests_block T b).passes g.0.2) (good_first T (singleton b ∷ seen) bs g.1)
+good_first T seen (b ∷ bs) g = rw (g.0.0, g.0.1, (tests_block T b).passes g.0.2) (good_first T (lower_singleton b ∷ seen) bs g.1)
 
 fault_first : (T : ℕ → Bool) {seen : List ℕ} {bs : List (ℕ × List (List ℕ))} {f : Fault} → FirstBadBlock T seen bs f → first_fault T seen bs ≡ Some f
 fault_first T (here (no_singleton e)) = rw e
@@ -151,41 +151,41 @@ fault_first T (later {b = b} a e g x) = rw (a, e, (tests_block T b).passes g) (f
 -- the blocks of a locale are good
 
 abbrev pub NotSeen : {X : Type 0} → List ℕ → List (ℕ × X) → Type 0
-NotSeen seen es = AllByRecursion (λ e. list_any (eq_by_cmp nat_cmp (singleton e)) seen ≡ false) es
+NotSeen seen es = AllByRecursion (λ e. list_any (eq_by_cmp nat_cmp (lower_singleton e)) seen ≡ false) es
 
-see_one : {X : Type 0} (s : ℕ) (seen : List ℕ) (es : List (ℕ × X)) → list_any (eq_by_cmp nat_cmp s) (map (λ e. singleton e) es) ≡ false → NotSeen seen es → NotSeen (s ∷ seen) es
+see_one : {X : Type 0} (s : ℕ) (seen : List ℕ) (es : List (ℕ × X)) → list_any (eq_by_cmp nat_cmp s) (map (λ e. lower_singleton e) es) ≡ false → NotSeen seen es → NotSeen (s ∷ seen) es
 see_one s seen [] h n = tt
-see_one s seen (e ∷ es) h n = let parts = or_parts _ _ h in (or_from _ _ (tied_back s (singleton e) parts.0) n.0, see_one s seen es parts.1 n.1)
+see_one s seen (e ∷ es) h n = let parts = or_parts _ _ h in (or_from _ _ (tied_back s (lower_singleton e) parts.0) n.0, see_one s seen es parts.1 n.1)
 
-pub unsee_one : {X : Type 0} (s : ℕ) (seen : List ℕ) (es : List (ℕ × X)) → NotSeen (s ∷ seen) es → (list_any (eq_by_cmp nat_cmp s) (map (λ e. singleton e) es) ≡ false) × NotSeen seen es
+pub unsee_one : {X : Type 0} (s : ℕ) (seen : List ℕ) (es : List (ℕ × X)) → NotSeen (s ∷ seen) es → (list_any (eq_by_cmp nat_cmp s) (map (λ e. lower_singleton e) es) ≡ false) × NotSeen seen es
 unsee_one s seen [] n = (refl, tt)
-unsee_one s seen (e ∷ es) n = let parts = or_parts _ _ n.0 in let rest = unsee_one s seen es n.1 in (or_from _ _ (tied_back (singleton e) s parts.0) rest.0, (parts.1, rest.1))
+unsee_one s seen (e ∷ es) n = let parts = or_parts _ _ n.0 in let rest = unsee_one s seen es n.1 in (or_from _ _ (tied_back (lower_singleton e) s parts.0) rest.0, (parts.1, rest.1))
 
 pub letter : (c : ℕ) → is_ascii_alphanumeric (to_ascii_lowercase c) ≡ true → is_ascii_alphanumeric c ≡ true
 letter c h = grind (arith, nat_tests)
 
 -- blocks that follow their rules are good where their singletons differ
-pub good_from : (T : ℕ → Bool) (seen : List ℕ) (bs : List (ℕ × List (List ℕ))) → AllByRecursion (λ b. HasSingleton b × IsBlock T b) bs → AllDifferent nat_cmp (map (λ b. singleton b) bs) → NotSeen seen bs → AreGood T seen bs
+pub good_from : (T : ℕ → Bool) (seen : List ℕ) (bs : List (ℕ × List (List ℕ))) → AllByRecursion (λ b. HasSingleton b × IsBlock T b) bs → AllDifferent nat_cmp (map (λ b. lower_singleton b) bs) → NotSeen seen bs → AreGood T seen bs
 good_from T seen [] h d n = tt
-good_from T seen (b ∷ bs) h d n = ((h.0.0, n.0, h.0.1), good_from T (singleton b ∷ seen) bs h.1 d.1 (see_one (singleton b) seen bs d.0 n.1))
+good_from T seen (b ∷ bs) h d n = ((h.0.0, n.0, h.0.1), good_from T (lower_singleton b ∷ seen) bs h.1 d.1 (see_one (lower_singleton b) seen bs d.0 n.1))
 
-pub block_rules : (T : ℕ → Bool) (es : List (ℕ × Extension)) (x : Option (ℕ × List (List ℕ))) → AllByRecursion (λ e. IsExtension T (singleton e) e.1) es → IfSome x (λ e. (singleton e ≡ 120) × IsPrivate e.1) → AllByRecursion (λ b. HasSingleton b × IsBlock T b) (map extension_block es ++ option_to_list x)
+pub block_rules : (T : ℕ → Bool) (es : List (ℕ × Extension)) (x : Option (ℕ × List (List ℕ))) → AllByRecursion (λ e. IsExtension T (lower_singleton e) e.1) es → IfSome x (λ e. (lower_singleton e ≡ 120) × IsPrivate e.1) → AllByRecursion (λ b. HasSingleton b × IsBlock T b) (map extension_block es ++ option_to_list x)
 block_rules T [] None h k = tt
 block_rules T [] (Some b) h k = ((letter b.0 (rw k.0), inl k), tt)
-block_rules T (e ∷ es) x h k = ((letter e.0 (extension_singleton T (singleton e) e.1 h.0), inr (e.1, h.0, refl)), block_rules T es x h.1 k)
+block_rules T (e ∷ es) x h k = ((letter e.0 (extension_singleton T (lower_singleton e) e.1 h.0), inr (e.1, h.0, refl)), block_rules T es x h.1 k)
 
 rule_no_x : (T : ℕ → Bool) (c : ℕ) (e : Extension) → IsExtension T c e → eq_by_cmp nat_cmp c 120 ≡ false
 rule_no_x T c e h = untied c 120 (λ k. eqb-false c 120 (is_no_x T c e h) (sym k))
 
-any_by : (T : ℕ → Bool) (c : ℕ) (es : List (ℕ × Extension)) (x : Option (ℕ × List (List ℕ))) → eq_by_cmp nat_cmp c 120 ≡ false → list_any (eq_by_cmp nat_cmp c) (map (λ e. singleton e) es) ≡ false → IfSome x (λ e. (singleton e ≡ 120) × IsPrivate e.1) → list_any (eq_by_cmp nat_cmp c) (map (λ b. singleton b) (map extension_block es ++ option_to_list x)) ≡ false
+any_by : (T : ℕ → Bool) (c : ℕ) (es : List (ℕ × Extension)) (x : Option (ℕ × List (List ℕ))) → eq_by_cmp nat_cmp c 120 ≡ false → list_any (eq_by_cmp nat_cmp c) (map (λ e. lower_singleton e) es) ≡ false → IfSome x (λ e. (lower_singleton e ≡ 120) × IsPrivate e.1) → list_any (eq_by_cmp nat_cmp c) (map (λ b. lower_singleton b) (map extension_block es ++ option_to_list x)) ≡ false
 any_by T c [] None n a k = refl
 any_by T c [] (Some b) n a k = ap (λ d. eq_by_cmp nat_cmp c d || false) k.0 ∙ ap (λ t. t || false) n
 any_by T c (e ∷ es) x n a k = let parts = or_parts _ _ a in or_from _ _ parts.0 (any_by T c es x n parts.1 k)
 
-pub different_by : (T : ℕ → Bool) (es : List (ℕ × Extension)) (x : Option (ℕ × List (List ℕ))) → AllByRecursion (λ e. IsExtension T (singleton e) e.1) es → AllDifferent nat_cmp (map (λ e. singleton e) es) → IfSome x (λ e. (singleton e ≡ 120) × IsPrivate e.1) → AllDifferent nat_cmp (map (λ b. singleton b) (map extension_block es ++ option_to_list x))
+pub different_by : (T : ℕ → Bool) (es : List (ℕ × Extension)) (x : Option (ℕ × List (List ℕ))) → AllByRecursion (λ e. IsExtension T (lower_singleton e) e.1) es → AllDifferent nat_cmp (map (λ e. lower_singleton e) es) → IfSome x (λ e. (lower_singleton e ≡ 120) × IsPrivate e.1) → AllDifferent nat_cmp (map (λ b. lower_singleton b) (map extension_block es ++ option_to_list x))
 different_by T [] None h d k = tt
 different_by T [] (Some b) h d k = (refl, tt)
-different_by T (e ∷ es) x h d k = (any_by T (singleton e) es x (rule_no_x T (singleton e) e.1 h.0) d.0 k, different_by T es x h.1 d.1 k)
+different_by T (e ∷ es) x h d k = (any_by T (lower_singleton e) es x (rule_no_x T (lower_singleton e) e.1 h.0) d.0 k, different_by T es x h.1 d.1 k)
 
 pub written_good : {T : ℕ → Bool} (w : Written) → IsWritten T w → AreGood T [] (blocks_of w)
 written_good {T = T} w h = good_from T [] (blocks_of w) (block_rules T w.extensions w.private h.extensions h.private) (different_by T w.extensions w.private h.extensions h.different h.private) (all_of _ (λ b. refl) (blocks_of w))
@@ -194,7 +194,7 @@ written_good {T = T} w h = good_from T [] (blocks_of w) (block_rules T w.extensi
 
 abbrev pub EndsAtX : List (ℕ × List (List ℕ)) → Type 0
 EndsAtX [] = Unit {0}
-EndsAtX (b ∷ bs) = ((singleton b == 120) ≡ true → bs ≡ []) × EndsAtX bs
+EndsAtX (b ∷ bs) = ((lower_singleton b == 120) ≡ true → bs ≡ []) × EndsAtX bs
 
 pub ends_at_x : (ps : List (List ℕ)) → EndsAtX (blocks ps)
 ends_at_x [] = tt
@@ -219,9 +219,9 @@ head-and-blocks p ps = ap (λ l. p ∷ l) (all_blocks ps)
 
 extensions_kept : (bs : List (ℕ × List (List ℕ))) → EndsAtX bs → map extension_block (extensions_in bs) ++ option_to_list (private_in bs) ≡ bs
 extensions_kept [] e = refl
-extensions_kept (b ∷ bs) e = elim (cases_Bool (singleton b == 120)) [
+extensions_kept (b ∷ bs) e = elim (cases_Bool (lower_singleton b == 120)) [
   | inl t ↦ rw t (ap (λ l. b ∷ l) (sym (e.0 t)))
-  | inr t ↦ rw t (λ i. (b.0, pieces-extension_of (singleton b) b.1 i) ∷ extensions_kept bs e.1 i)
+  | inr t ↦ rw t (λ i. (b.0, pieces-extension_of (lower_singleton b) b.1 i) ∷ extensions_kept bs e.1 i)
 ]
 
 pub spelling-written_of : (p : List ℕ) (ps : List (List ℕ)) → spelling (written_of (p ∷ ps)) ≡ p ∷ ps
@@ -233,20 +233,20 @@ pieces-written_of t = at_pieces (λ ps. ps ≡ spelling (written_of ps)) (λ p p
 
 -- what is read of good blocks follows the rules
 record AreRead (T : ℕ → Bool) (seen : List ℕ) (es : List (ℕ × Extension)) (x : Option (ℕ × List (List ℕ))) : Type 0 where
-  rules : AllByRecursion (λ e. IsExtension T (singleton e) e.1) es
-  different : AllDifferent nat_cmp (map (λ e. singleton e) es)
+  rules : AllByRecursion (λ e. IsExtension T (lower_singleton e) e.1) es
+  different : AllDifferent nat_cmp (map (λ e. lower_singleton e) es)
   unseen : NotSeen seen es
-  private : IfSome x (λ e. (singleton e ≡ 120) × IsPrivate e.1)
+  private : IfSome x (λ e. (lower_singleton e ≡ 120) × IsPrivate e.1)
 
 are_read : (T : ℕ → Bool) (seen : List ℕ) (bs : List (ℕ × List (List ℕ))) → AreGood T seen bs → AreRead T seen (extensions_in bs) (private_in bs)
 are_read T seen [] g = record { rules = tt; different = tt; unseen = tt; private = tt }
-are_read T seen (b ∷ bs) g = at_block g.0.2 (are_read T (singleton b ∷ seen) bs g.1)
+are_read T seen (b ∷ bs) g = at_block g.0.2 (are_read T (lower_singleton b ∷ seen) bs g.1)
   where
-    at_block : IsBlock T b → AreRead T (singleton b ∷ seen) (extensions_in bs) (private_in bs) → AreRead T seen (extensions_in (b ∷ bs)) (private_in (b ∷ bs))
-    at_block (inl p) r = let t : (singleton b == 120) ≡ true = rw p.0 in rw t (record { rules = tt; different = tt; unseen = tt; private = p })
+    at_block : IsBlock T b → AreRead T (lower_singleton b ∷ seen) (extensions_in bs) (private_in bs) → AreRead T seen (extensions_in (b ∷ bs)) (private_in (b ∷ bs))
+    at_block (inl p) r = let t : (lower_singleton b == 120) ≡ true = rw p.0 in rw t (record { rules = tt; different = tt; unseen = tt; private = p })
     at_block (inr q) r =
-        let parts = unsee_one (singleton b) seen (extensions_in bs) r.unseen in
-        rw (is_no_x T (singleton b) q.0 q.1) (record { rules = (extension_read T (singleton b) b.1 q, r.rules); different = (parts.0, r.different); unseen = (g.0.1, parts.1); private = r.private })
+        let parts = unsee_one (lower_singleton b) seen (extensions_in bs) r.unseen in
+        rw (is_no_x T (lower_singleton b) q.0 q.1) (record { rules = (extension_read T (lower_singleton b) b.1 q, r.rules); different = (parts.0, r.different); unseen = (g.0.1, parts.1); private = r.private })
 
 -- good blocks make a locale
 
@@ -287,7 +287,7 @@ answered T t = answered_by T t (TreeMeans T t) (good_means T t)
 
 -- and each meaning and each fault is answered
 
-pub means_answered : {T : ℕ → Bool} → IsTable T → (t : List ℕ) (M : Locale) → TreeMeans T t M → locale_result T t ≡ Ok M
+pub means_answered : {T : ℕ → Bool} → AreLengths T → (t : List ℕ) (M : Locale) → TreeMeans T t M → locale_result T t ≡ Ok M
 unfolding locale_result
 means_answered {T = T} table t M m =
     let w = m.written in let h = m.grammatical in
@@ -303,7 +303,7 @@ fault_answered T t (no_language e) = rw e
 fault_answered T t (no_identifier l n) = rw (l, tests_fails (tests_head T t) n)
 fault_answered T t (bad_block s b) = rw (at_pieces (λ ps. SpellsIdentifier T (head ps) → IsWord (Language T) (first_piece ps)) (λ p ps s. ap (λ l. is_word (Language T) (first_piece l)) s.2 ∙ s.1.words.language) t s, (tests_head T t).passes s, fault_first T b)
 
-pub accepted_no_fault : {T : ℕ → Bool} → IsTable T → (t : List ℕ) (M : Locale) (f : Fault) → TreeMeans T t M → HasTreeFault T t f → ⊥
+pub accepted_no_fault : {T : ℕ → Bool} → AreLengths T → (t : List ℕ) (M : Locale) (f : Fault) → TreeMeans T t M → HasTreeFault T t f → ⊥
 accepted_no_fault {T = T} table t M f m h = cc (means_answered table t M m, fault_answered T t h)
 
 pub one_fault : {T : ℕ → Bool} (t : List ℕ) {f g : Fault} → HasTreeFault T t f → HasTreeFault T t g → f ≡ g

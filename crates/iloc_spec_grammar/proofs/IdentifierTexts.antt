@@ -18,7 +18,8 @@ use Rattle.iloc_spec_grammar.proofs.StepLaws.{identifier_step}
 use Rattle.iloc_spec_grammar.proofs.Orders.{total}
 use Rattle.iloc_spec_grammar.proofs.StepSizes.{identifier_size, piece_length, length-join}
 use Rattle.iloc_spec_grammar.proofs.CaseLaws.{pieces-lower, identifier_of-low, is_identifier-low}
-use Rattle.iloc_spec_grammar.proofs.Chains.{identifier_pieces-low, lower-join}
+use Rattle.iloc_spec_grammar.proofs.Chains.{lower-join}
+use Rattle.iloc_spec_grammar.proofs.PartTexts.{identifier_pieces-low}
 
 -- the text has the pieces that were joined
 pub pieces-identifier_text : {T : ℕ → Bool} (i : Identifier) → HasWords T i → pieces (identifier_text i) ≡ identifier_pieces i

@@ -5,16 +5,16 @@ use Rattle.std.specs.Char.{is_ascii_alphanumeric}
 use Rattle.std.proofs.lemmas.Bool.{and_parts, or_parts}
 use Rattle.std.proofs.lemmas.Bool.Decides.{nat_tests}
 use Rattle.std.proofs.lemmas.List.{length-replicate, replicate-append-replicate}
-use Rattle.iloc_spec_grammar.specs.Syntax.{Kind, Language, IsTable, two_or_three, languages, is_word, IsWord, EndsAt, greatest, Bounds, raw, wide_raw, narrow_raw, before_zero}
+use Rattle.iloc_spec_grammar.specs.Syntax.{Kind, Language, AreLengths, two_or_three, languages, is_word, IsWord, EndsAt, greatest, Bounds, raw, wide_raw, narrow_raw, before_zero}
 use Rattle.iloc_spec_grammar.proofs.WordsLaws.{word_letters_or_digits}
 use Rattle.iloc_spec_grammar.proofs.General.{none_passes}
 
 -- the tables
 
-pub narrow_table : IsTable two_or_three
+pub narrow_table : AreLengths two_or_three
 narrow_table = record { least = λ n h. grind (arith, nat_tests); most = λ n h. grind (arith, nat_tests); no_script = λ n h. grind (arith, nat_tests) }
 
-pub languages_table : IsTable languages
+pub languages_table : AreLengths languages
 unfolding languages
 languages_table = record { least = λ n h. grind (arith, nat_tests); most = λ n h. grind (arith, nat_tests); no_script = λ n h. grind (arith, nat_tests) }
 
@@ -23,7 +23,7 @@ unfolding languages
 narrow_in_wide n h = grind (arith, nat_tests)
 
 -- no table has a length that the library's lacks
-pub table_in_ours : {T : ℕ → Bool} → IsTable T → (n : ℕ) → T n ≡ true → languages n ≡ true
+pub table_in_ours : {T : ℕ → Bool} → AreLengths T → (n : ℕ) → T n ≡ true → languages n ≡ true
 unfolding languages
 table_in_ours table n h = let a = table.least n h in let b = table.most n h in let c = table.no_script n h in grind (arith, nat_tests)
 

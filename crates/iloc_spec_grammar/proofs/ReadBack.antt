@@ -11,8 +11,8 @@ use Rattle.std.proofs.lemmas.Bool.Decides.{nat_tests}
 use Rattle.std.proofs.lemmas.List.Elements.{filter_map-append}
 use Rattle.std.proofs.lemmas.List.Concat.{flat_map-append}
 use Rattle.std.proofs.lemmas.List.{map-append}
-use Rattle.iloc_spec_grammar.specs.Syntax.{pieces, join, IsHyphenFree, Kind, Language, Script, Region, Variant, Subtag, UnicodeKey, TransformKey, Attribute, PrivateSubtag, is_word, IsWord, lower, Identifier, Fields, Unicode, Transform, identifier_pieces, optional_pieces, fields_pieces, HasWords, IsIdentifier, IsField, kept, is_other_singleton, singleton, AllDifferent}
-use Rattle.iloc_spec_grammar.specs.Tree.{Extension, unicode, transform, other, Written, extension_pieces, block_pieces, extension_block, spelling, IsPrivate, IsExtension, IsWritten, unicode_part, transform_part, private_part, other_part, by_singleton, meaning, TreeMeans, IsTreeWellFormed, transform_form, unicode_form, others_form, private_form, before_t, after_t, printed, tree_text}
+use Rattle.iloc_spec_grammar.specs.Syntax.{pieces, join, IsHyphenFree, Kind, Language, Script, Region, Variant, Subtag, UnicodeKey, TransformKey, Attribute, PrivateSubtag, is_word, IsWord, lower, Identifier, Fields, Unicode, Transform, identifier_pieces, optional_pieces, fields_pieces, HasWords, IsIdentifier, IsField, kept, is_other_singleton, lower_singleton, AllDifferent, IsPrivate}
+use Rattle.iloc_spec_grammar.specs.Tree.{Extension, unicode, transform, other, Written, extension_pieces, block_pieces, extension_block, spelling, IsExtension, IsWritten, unicode_part, transform_part, private_part, other_part, by_singleton, meaning, TreeMeans, IsTreeWellFormed, transform_form, unicode_form, others_form, private_form, before_t, after_t, printed, tree_text}
 use Rattle.iloc_spec_grammar.specs.Meaning.{map_of, Locale, normal_unicode, normal_transform}
 use Rattle.iloc_spec_grammar.specs.Values.{IsNormal, IsValue, lower_identifier, spelled_fields}
 use Rattle.iloc_spec_grammar.proofs.WordsLaws.{word_letters_or_digits}
@@ -89,11 +89,11 @@ pub extension_singleton : (T : ℕ → Bool) (c : ℕ) (e : Extension) → IsExt
 extension_singleton T c (other ps) h = (and_parts _ _ h.0).0
 extension_singleton T c _ h = rw h.0
 
-extensions_hyphen_free : (T : ℕ → Bool) (es : List (ℕ × Extension)) → AllByRecursion (λ e. IsExtension T (singleton e) e.1 × OfWords e.1) es → AllByRecursion IsHyphenFree (flat_map block_pieces (map extension_block es))
+extensions_hyphen_free : (T : ℕ → Bool) (es : List (ℕ × Extension)) → AllByRecursion (λ e. IsExtension T (lower_singleton e) e.1 × OfWords e.1) es → AllByRecursion IsHyphenFree (flat_map block_pieces (map extension_block es))
 extensions_hyphen_free T [] h = tt
 extensions_hyphen_free T (e ∷ es) h = (or_from _ _ (hyphen_byte e.0 (extension_singleton T _ e.1 h.0.0)) refl, all_append IsHyphenFree (extension_pieces e.1) _ (extension_hyphen_free T _ e.1 h.0.0 h.0.1) (extensions_hyphen_free T es h.1))
 
-private_hyphen_free : (x : Option (ℕ × List (List ℕ))) → IfSome x (λ e. (singleton e ≡ 120) × IsPrivate e.1) → AllByRecursion IsHyphenFree (flat_map block_pieces (option_to_list x))
+private_hyphen_free : (x : Option (ℕ × List (List ℕ))) → IfSome x (λ e. (lower_singleton e ≡ 120) × IsPrivate e.1) → AllByRecursion IsHyphenFree (flat_map block_pieces (option_to_list x))
 private_hyphen_free None h = tt
 private_hyphen_free (Some e) h = (or_from _ _ (hyphen_byte e.0 (rw h.0)) refl, all_append IsHyphenFree e.1 [] (words_hyphen_free PrivateSubtag e.1 h.1.words) tt)
 
@@ -253,7 +253,7 @@ private_back : (ws : List (List ℕ)) → AllByRecursion (IsNormal PrivateSubtag
 private_back [] h = refl
 private_back (w ∷ ws) h = map_fixed lower (w ∷ ws) (all_weaker (IsNormal PrivateSubtag) (λ w. lower w ≡ w) (λ w n. n.1) (w ∷ ws) h)
 
-private_rule : (ws : List (List ℕ)) → AllByRecursion (IsNormal PrivateSubtag) ws → IfSome (private_form ws) (λ e. (singleton e ≡ 120) × IsPrivate e.1)
+private_rule : (ws : List (List ℕ)) → AllByRecursion (IsNormal PrivateSubtag) ws → IfSome (private_form ws) (λ e. (lower_singleton e ≡ 120) × IsPrivate e.1)
 private_rule [] h = tt
 private_rule (w ∷ ws) h = (refl, record { words = all_weaker (IsNormal PrivateSubtag) (IsWord PrivateSubtag) (λ w n. n.0) (w ∷ ws) h; nonempty = omega arith })
 
@@ -296,17 +296,17 @@ module _ {T : ℕ → Bool} (M : Locale) (h : IsValue T M) (g : IsTreeWellFormed
   all_extensions : (P : ℕ × Extension → Type 0) → AllByRecursion P (plain_form before) → (has_t ≡ true → P (116, transform (spelled_transform M.extensions.transform))) → (has_u ≡ true → P (117, unicode M.extensions.unicode)) → AllByRecursion P (plain_form after) → AllByRecursion P extensions
   all_extensions P a b c d = all_append P (plain_form before) _ a (all_append P (cond has_t _ []) _ (all_if P has_t _ b) (all_append P (cond has_u _ []) _ (all_if P has_u _ c) d))
 
-  rules : AllByRecursion (λ e. IsExtension T (singleton e) e.1 × OfWords e.1) extensions
-  rules = all_extensions (λ e. IsExtension T (singleton e) e.1 × OfWords e.1)
-      (all_plain (λ e. IsExtension T (singleton e) e.1 × OfWords e.1) IsOtherEntry (other_rule T) before entries_before)
+  rules : AllByRecursion (λ e. IsExtension T (lower_singleton e) e.1 × OfWords e.1) extensions
+  rules = all_extensions (λ e. IsExtension T (lower_singleton e) e.1 × OfWords e.1)
+      (all_plain (λ e. IsExtension T (lower_singleton e) e.1 × OfWords e.1) IsOtherEntry (other_rule T) before entries_before)
       (λ e. ((refl, value_transform M.extensions.transform h.extensions.transform (transform_nonempty M.extensions.transform e)), tt))
       (λ e. ((refl, value_unicode M.extensions.unicode h.extensions.unicode g.values (ltb-true 0 _ e)), tt))
-      (all_plain (λ e. IsExtension T (singleton e) e.1 × OfWords e.1) IsOtherEntry (other_rule T) after entries_after)
+      (all_plain (λ e. IsExtension T (lower_singleton e) e.1 × OfWords e.1) IsOtherEntry (other_rule T) after entries_after)
 
   lower_singletons : by_singleton extensions ≡ extensions
-  lower_singletons = map_fixed (λ e. (singleton e, e.1)) extensions (all_extensions (λ e. (singleton e, e.1) ≡ e)
-      (all_plain (λ e. (singleton e, e.1) ≡ e) IsOtherEntry (λ o x i. (x.0.1 i, other o.1)) before entries_before) (λ _. refl) (λ _. refl)
-      (all_plain (λ e. (singleton e, e.1) ≡ e) IsOtherEntry (λ o x i. (x.0.1 i, other o.1)) after entries_after))
+  lower_singletons = map_fixed (λ e. (lower_singleton e, e.1)) extensions (all_extensions (λ e. (lower_singleton e, e.1) ≡ e)
+      (all_plain (λ e. (lower_singleton e, e.1) ≡ e) IsOtherEntry (λ o x i. (x.0.1 i, other o.1)) before entries_before) (λ _. refl) (λ _. refl)
+      (all_plain (λ e. (lower_singleton e, e.1) ≡ e) IsOtherEntry (λ o x i. (x.0.1 i, other o.1)) after entries_after))
 
   below_t : AllByRecursion (λ e. e.0 < 116) (plain_form before)
   below_t = all_plain (λ e. e.0 < 116) (λ o. IsOtherEntry o × (o.0 ≤ 116)) (λ o x. let n : o.0 ≢ 116 = λ e. no_t o.0 e x.0.0.0 in let l = x.1 in omega arith) (before_t M.extensions.others) (all_both IsOtherEntry (λ o. o.0 ≤ 116) (before_t M.extensions.others) (all_before IsOtherEntry M.extensions.others entries) (before_le M.extensions.others))
@@ -338,20 +338,20 @@ module _ {T : ℕ → Bool} (M : Locale) (h : IsValue T M) (g : IsTreeWellFormed
   grammatical : IsWritten T (printed M)
   grammatical = record {
     id = value_identifier M.id h.id;
-    extensions = subst (AllByRecursion (λ e. IsExtension T (singleton e) e.1)) (sym extensions_are) (all_weaker (λ e. IsExtension T (singleton e) e.1 × OfWords e.1) (λ e. IsExtension T (singleton e) e.1) (λ e x. x.0) extensions rules);
-    different = subst (λ es. AllDifferent nat_cmp (map (λ (e : ℕ × Extension). singleton e) es)) (sym extensions_are) (subst (AllDifferent nat_cmp) (keys_lower extensions lower_singletons) (sorted_different nat_cmp extensions in_order));
+    extensions = subst (AllByRecursion (λ e. IsExtension T (lower_singleton e) e.1)) (sym extensions_are) (all_weaker (λ e. IsExtension T (lower_singleton e) e.1 × OfWords e.1) (λ e. IsExtension T (lower_singleton e) e.1) (λ e x. x.0) extensions rules);
+    different = subst (λ es. AllDifferent nat_cmp (map (λ (e : ℕ × Extension). lower_singleton e) es)) (sym extensions_are) (subst (AllDifferent nat_cmp) (keys_lower extensions lower_singletons) (sorted_different nat_cmp extensions in_order));
     private = private_rule M.extensions.private h.extensions.private;
   }
     where
-      keys_twice : (es : List (ℕ × Extension)) → map (λ e. e.0) (by_singleton es) ≡ map (λ e. singleton e) es
+      keys_twice : (es : List (ℕ × Extension)) → map (λ e. e.0) (by_singleton es) ≡ map (λ e. lower_singleton e) es
       keys_twice [] = refl
-      keys_twice (e ∷ es) = ap (λ l. singleton e ∷ l) (keys_twice es)
+      keys_twice (e ∷ es) = ap (λ l. lower_singleton e ∷ l) (keys_twice es)
 
-      keys_lower : (es : List (ℕ × Extension)) → by_singleton es ≡ es → map (λ e. e.0) es ≡ map (λ e. singleton e) es
+      keys_lower : (es : List (ℕ × Extension)) → by_singleton es ≡ es → map (λ e. e.0) es ≡ map (λ e. lower_singleton e) es
       keys_lower es e = ap (map (λ e. e.0)) (sym e) ∙ keys_twice es
 
   spelled : pieces (tree_text M) ≡ spelling (printed M)
-  spelled = pieces_spelled (printed M) grammatical (subst (AllByRecursion (λ e. OfWords e.1)) (sym extensions_are) (all_weaker (λ e. IsExtension T (singleton e) e.1 × OfWords e.1) (λ e. OfWords e.1) (λ e x. x.1) extensions rules))
+  spelled = pieces_spelled (printed M) grammatical (subst (AllByRecursion (λ e. OfWords e.1)) (sym extensions_are) (all_weaker (λ e. IsExtension T (lower_singleton e) e.1 × OfWords e.1) (λ e. OfWords e.1) (λ e x. x.1) extensions rules))
 
   entries_are : by_singleton (printed M).extensions ≡ extensions
   entries_are = ap by_singleton extensions_are ∙ lower_singletons

@@ -5,8 +5,8 @@ use Rattle.std.specs.Char.{is_ascii_alphabetic, is_ascii_digit}
 use Rattle.std.proofs.lemmas.Bool.{and_parts, false_from_ne_true, or_cases, ne_eqb, eqb-true}
 use Rattle.std.proofs.lemmas.Bool.Decides.{nat_tests}
 use Rattle.std.specs.Int.{is_in_range}
-use Rattle.iloc_spec_grammar.specs.Syntax.{Language, Script, Region, Variant, UnicodeKey, TransformKey, Attribute, is_word, IsWord, IsTable, letters, digits, Identifier, Fields, Unicode, Transform, identifier_pieces, optional_pieces, fields_pieces, unicode_pieces, transform_pieces, HasWords, IsIdentifier, IsKeyword, IsField, IsUnicode, IsTransform, singleton, is_one_byte, front, blocks, head, tail_blocks}
-use Rattle.iloc_spec_grammar.specs.Tree.{Extension, unicode, transform, other, Written, extension_pieces, extension_block, block_pieces, blocks_of, spelling, IsUnicodeBlock, IsTransformBlock, IsPrivate, IsExtension, IsWritten, TreeMeans, meaning}
+use Rattle.iloc_spec_grammar.specs.Syntax.{Language, Script, Region, Variant, UnicodeKey, TransformKey, Attribute, is_word, IsWord, AreLengths, letters, digits, Identifier, Fields, Unicode, Transform, identifier_pieces, optional_pieces, fields_pieces, unicode_pieces, transform_pieces, HasWords, IsIdentifier, IsKeyword, IsField, IsUnicode, IsTransform, lower_singleton, is_one_byte, front, blocks, head, tail_blocks, IsPrivate}
+use Rattle.iloc_spec_grammar.specs.Tree.{Extension, unicode, transform, other, Written, extension_pieces, extension_block, block_pieces, blocks_of, spelling, IsUnicodeBlock, IsTransformBlock, IsExtension, IsWritten, TreeMeans, meaning}
 use Rattle.iloc_spec_grammar.specs.Meaning.{Locale}
 use Rattle.iloc_spec_grammar.proofs.WordsLaws.{length-language, length-script, length-region, length-variant, length-attribute, length-unicode_key, length-transform_key}
 use Rattle.iloc_spec_grammar.proofs.IdentifierLaws.{pieces-identifier_of, identifier_of-pieces}
@@ -42,7 +42,7 @@ after_language i = option_to_list i.script ++ (option_to_list i.region ++ i.vari
 pub long_after_language : {T : ℕ → Bool} (i : Identifier) → HasWords T i → AllByRecursion IsLong (after_language i)
 long_after_language i h = after_language_each IsLong long_script long_region long_variant i h
 
-long_identifier : (T : ℕ → Bool) → IsTable T → (i : Identifier) → HasWords T i → AllByRecursion IsLong (identifier_pieces i)
+long_identifier : (T : ℕ → Bool) → AreLengths T → (i : Identifier) → HasWords T i → AllByRecursion IsLong (identifier_pieces i)
 long_identifier T t i h = (long _ (t.least _ (length-language T i.language h.language)), long_after_language i h)
 
 long_key : (p : List ℕ) → length p ≡ 2 → IsLong p
@@ -51,7 +51,7 @@ long_key p h = long _ (omega arith)
 pub long_between : (p : List ℕ) → is_in_range 2 8 (length p) ≡ true → IsLong p
 long_between p h = grind (arith, nat_tests)
 
-pub long_extension : (T : ℕ → Bool) → IsTable T → (c : ℕ) (e : Extension) → IsExtension T c e → AllByRecursion IsLong (extension_pieces e)
+pub long_extension : (T : ℕ → Bool) → AreLengths T → (c : ℕ) (e : Extension) → IsExtension T c e → AllByRecursion IsLong (extension_pieces e)
 long_extension T t c (unicode u) h = all_append IsLong u.attributes _ (all_weaker (IsWord Attribute) IsLong long_attribute u.attributes h.1.attributes) (fields_each IsLong UnicodeKey (λ p k. long_key p (length-unicode_key p k)) long_attribute u.keywords h.1.keywords)
 long_extension T t c (transform m) h = all_append IsLong (optional_pieces m.id) _ (optional_each IsLong T (long_identifier T t) m.id h.1.id) (fields_each IsLong TransformKey (λ p k. long_key p (length-transform_key p k)) long_attribute m.fields (plain_fields m.fields h.1.fields))
 long_extension T t c (other ps) h = all_weaker (λ p. is_in_range 2 8 (length p) ≡ true) IsLong long_between ps h.1.lengths
@@ -75,7 +75,7 @@ blocks_past : (xs ys : List (List ℕ)) → AllByRecursion IsLong xs → blocks 
 blocks_past [] ys h = refl
 blocks_past (x ∷ xs) ys h = blocks_skip x (xs ++ ys) h.0 ∙ blocks_past xs ys h.1
 
-pub blocks_spelled : (bs : List (ℕ × List (List ℕ))) (x : Option (ℕ × List (List ℕ))) → AllByRecursion (λ b. ((singleton b == 120) ≡ false) × AllByRecursion IsLong b.1) bs → IfSome x (λ b. (singleton b == 120) ≡ true) → blocks (flat_map block_pieces (bs ++ option_to_list x)) ≡ bs ++ option_to_list x
+pub blocks_spelled : (bs : List (ℕ × List (List ℕ))) (x : Option (ℕ × List (List ℕ))) → AllByRecursion (λ b. ((lower_singleton b == 120) ≡ false) × AllByRecursion IsLong b.1) bs → IfSome x (λ b. (lower_singleton b == 120) ≡ true) → blocks (flat_map block_pieces (bs ++ option_to_list x)) ≡ bs ++ option_to_list x
 blocks_spelled [] None h k = refl
 blocks_spelled [] (Some b) h k = rw k (ap (λ ps. (b.0, ps) ∷ []) (append-nil b.1))
 blocks_spelled (b ∷ bs) x h k = rw h.0.0 (λ i. (b.0, front_before b.1 (bs ++ option_to_list x) h.0.1 i) ∷ (blocks_past b.1 (flat_map block_pieces (bs ++ option_to_list x)) h.0.1 ∙ blocks_spelled bs x h.1 k) i)
@@ -84,7 +84,7 @@ pub is_no_x : (T : ℕ → Bool) (c : ℕ) (e : Extension) → IsExtension T c e
 is_no_x T c (other ps) h = grind (arith, nat_tests, h.0)
 is_no_x T c _ h = rw h.0
 
-is_120 : (x : Option (ℕ × List (List ℕ))) → IfSome x (λ e. (singleton e ≡ 120) × IsPrivate e.1) → IfSome x (λ b. (singleton b == 120) ≡ true)
+is_120 : (x : Option (ℕ × List (List ℕ))) → IfSome x (λ e. (lower_singleton e ≡ 120) × IsPrivate e.1) → IfSome x (λ b. (lower_singleton b == 120) ≡ true)
 is_120 None h = tt
 is_120 (Some b) h = rw h.0
 
@@ -92,10 +92,10 @@ is_120 (Some b) h = rw h.0
 abbrev pub AreLong : List (ℕ × Extension) → Type 0
 AreLong es = AllByRecursion (λ e. AllByRecursion IsLong (extension_pieces e.1)) es
 
-pub long_extensions : {T : ℕ → Bool} → IsTable T → (es : List (ℕ × Extension)) → AllByRecursion (λ e. IsExtension T (singleton e) e.1) es → AreLong es
-long_extensions {T = T} t = all_weaker _ (λ e. AllByRecursion IsLong (extension_pieces e.1)) (λ e h. long_extension T t (singleton e) e.1 h)
+pub long_extensions : {T : ℕ → Bool} → AreLengths T → (es : List (ℕ × Extension)) → AllByRecursion (λ e. IsExtension T (lower_singleton e) e.1) es → AreLong es
+long_extensions {T = T} t = all_weaker _ (λ e. AllByRecursion IsLong (extension_pieces e.1)) (λ e h. long_extension T t (lower_singleton e) e.1 h)
 
-extension_blocks : (T : ℕ → Bool) (es : List (ℕ × Extension)) → AllByRecursion (λ e. IsExtension T (singleton e) e.1) es → AreLong es → AllByRecursion (λ b. ((singleton b == 120) ≡ false) × AllByRecursion IsLong b.1) (map extension_block es)
+extension_blocks : (T : ℕ → Bool) (es : List (ℕ × Extension)) → AllByRecursion (λ e. IsExtension T (lower_singleton e) e.1) es → AreLong es → AllByRecursion (λ b. ((lower_singleton b == 120) ≡ false) × AllByRecursion IsLong b.1) (map extension_block es)
 extension_blocks T [] h l = tt
 extension_blocks T (e ∷ es) h l = ((is_no_x T _ e.1 h.0, l.0), extension_blocks T es h.1 l.1)
 
@@ -106,7 +106,7 @@ head-spelling w h = ap (λ ps. w.id.language ∷ ps) (front_before (after_langua
 pub blocks-spelling-long : {T : ℕ → Bool} (w : Written) → IsWritten T w → AreLong w.extensions → tail_blocks (spelling w) ≡ blocks_of w
 blocks-spelling-long {T = T} w h l = blocks_past (after_language w.id) _ (long_after_language w.id h.id.words) ∙ blocks_spelled (map extension_block w.extensions) w.private (extension_blocks T w.extensions h.extensions l) (is_120 w.private h.private)
 
-pub blocks-spelling : {T : ℕ → Bool} → IsTable T → (w : Written) → IsWritten T w → tail_blocks (spelling w) ≡ blocks_of w
+pub blocks-spelling : {T : ℕ → Bool} → AreLengths T → (w : Written) → IsWritten T w → tail_blocks (spelling w) ≡ blocks_of w
 blocks-spelling t w h = blocks-spelling-long w h (long_extensions t w.extensions h.extensions)
 
 -- fields
@@ -248,13 +248,13 @@ pieces-extension_of c ps = elim (c == 116) as (λ t. extension_pieces (extension
 
 -- whole texts
 
-parts_read : (T : ℕ → Bool) (es : List (ℕ × Extension)) (x : Option (ℕ × List (List ℕ))) → AllByRecursion (λ e. IsExtension T (singleton e) e.1) es → IfSome x (λ b. (singleton b == 120) ≡ true) → (extensions_in (map extension_block es ++ option_to_list x) ≡ es) × (private_in (map extension_block es ++ option_to_list x) ≡ x)
+parts_read : (T : ℕ → Bool) (es : List (ℕ × Extension)) (x : Option (ℕ × List (List ℕ))) → AllByRecursion (λ e. IsExtension T (lower_singleton e) e.1) es → IfSome x (λ b. (lower_singleton b == 120) ≡ true) → (extensions_in (map extension_block es ++ option_to_list x) ≡ es) × (private_in (map extension_block es ++ option_to_list x) ≡ x)
 parts_read T [] None h k = (refl, refl)
 parts_read T [] (Some b) h k = rw k (refl, refl)
-parts_read T (e ∷ es) x h k = let r = parts_read T es x h.1 k in rw (is_no_x T (singleton e) e.1 h.0) (λ i. (e.0, extension_of-pieces T (singleton e) e.1 h.0 i) ∷ r.0 i, r.1)
+parts_read T (e ∷ es) x h k = let r = parts_read T es x h.1 k in rw (is_no_x T (lower_singleton e) e.1 h.0) (λ i. (e.0, extension_of-pieces T (lower_singleton e) e.1 h.0 i) ∷ r.0 i, r.1)
 
 -- what is spelled is read
-pub written_of-spelling : {T : ℕ → Bool} → IsTable T → (w : Written) → IsWritten T w → written_of (spelling w) ≡ w
+pub written_of-spelling : {T : ℕ → Bool} → AreLengths T → (w : Written) → IsWritten T w → written_of (spelling w) ≡ w
 unfolding written_of
 written_of-spelling {T = T} t w h =
     let id : identifier_of (head (spelling w)) ≡ w.id = ap identifier_of (head-spelling w h) ∙ identifier_of-pieces w.id h.id.words in
@@ -264,6 +264,6 @@ written_of-spelling {T = T} t w h =
     λ i. record { id = id i; extensions = extensions i; private = private i }
 
 -- a text means one value at most
-pub one_meaning : {T : ℕ → Bool} → IsTable T → (t : List ℕ) (L M : Locale) → TreeMeans T t L → TreeMeans T t M → L ≡ M
+pub one_meaning : {T : ℕ → Bool} → AreLengths T → (t : List ℕ) (L M : Locale) → TreeMeans T t L → TreeMeans T t M → L ≡ M
 one_meaning table t L M a b =
     a.means ∙ ap meaning (sym (written_of-spelling table a.written a.grammatical) ∙ ap written_of (sym a.spelled ∙ b.spelled) ∙ written_of-spelling table b.written b.grammatical) ∙ sym b.means

@@ -5,8 +5,8 @@ use Rattle.std.specs.Int.{is_in_range}
 use Rattle.std.specs.declared.cmp.Ordering.{Ordering}
 use Rattle.std.proofs.lemmas.Bool.{false_from_ne_true, not-true, not_from_false}
 use Rattle.std.proofs.lemmas.Bool.Decides.{Decides-ltb, Decides-eqb, Decides-and, Decides-or}
-use Rattle.iloc_spec_grammar.specs.Syntax.{Kind, Language, Script, Region, Variant, UnicodeKey, TransformKey, Attribute, PrivateSubtag, is_word, IsWord, lower, word_cmp, Identifier, Unicode, Transform, kept, HasWords, IsIdentifier, IsKeyword, IsField, IsOther, singleton, AllDifferent}
-use Rattle.iloc_spec_grammar.specs.Tree.{Extension, unicode, transform, other, extension_pieces, IsUnicodeBlock, IsTransformBlock, IsPrivate, IsExtension, IsBlock}
+use Rattle.iloc_spec_grammar.specs.Syntax.{Kind, Language, Script, Region, Variant, UnicodeKey, TransformKey, Attribute, PrivateSubtag, is_word, IsWord, lower, word_cmp, Identifier, Unicode, Transform, kept, HasWords, IsIdentifier, IsKeyword, IsField, IsOther, lower_singleton, AllDifferent, IsPrivate}
+use Rattle.iloc_spec_grammar.specs.Tree.{Extension, unicode, transform, other, extension_pieces, IsUnicodeBlock, IsTransformBlock, IsExtension, IsBlock}
 use Rattle.iloc_spec_grammar.specs.Meaning.{SpellsIdentifier}
 use Rattle.iloc_spec_grammar.specs.Reading.{identifier_of, extension_of}
 use Rattle.iloc_spec_grammar.specs.Computing.{holds_if_some, all_different, has_words, is_identifier, is_keyword, is_unicode, is_field, is_transform, is_other, is_private, is_extension, is_block}
@@ -125,7 +125,7 @@ pub tests_either : {a b : Bool} {P Q : Type 0} → Tests a P → Tests b Q → T
 tests_either {a = a} {b = b} s t = let d = Decides-or a b (s.holds, s.passes) (t.holds, t.passes) in record { holds = d.0; passes = d.1 }
 
 pub tests_block : (T : ℕ → Bool) (b : ℕ × List (List ℕ)) → Tests (is_block T b) (IsBlock T b)
-tests_block T b = tests_either (tests_and (tests_nat (singleton b) 120) (tests_private b.1)) (tests_like
-    (λ (h : IsExtension T (singleton b) (extension_of (singleton b) b.1)). (extension_of (singleton b) b.1, h, sym (pieces-extension_of (singleton b) b.1)))
-    (extension_read T (singleton b) b.1)
-    (tests_extension T (singleton b) (extension_of (singleton b) b.1)))
+tests_block T b = tests_either (tests_and (tests_nat (lower_singleton b) 120) (tests_private b.1)) (tests_like
+    (λ (h : IsExtension T (lower_singleton b) (extension_of (lower_singleton b) b.1)). (extension_of (lower_singleton b) b.1, h, sym (pieces-extension_of (lower_singleton b) b.1)))
+    (extension_read T (lower_singleton b) b.1)
+    (tests_extension T (lower_singleton b) (extension_of (lower_singleton b) b.1)))

@@ -6,7 +6,7 @@ use Rattle.std.specs.Cmp.{unsigned_tied}
 use Rattle.std.specs.Ordering.{nat_cmp, eq_by_cmp}
 use Rattle.std.proofs.Math.Bool.{or-false}
 use Rattle.std.proofs.lemmas.Bool.{or_cases, cases_Bool, eqb-true, false_from_ne_true}
-use Rattle.iloc_spec_grammar.specs.Syntax.{pieces, IsTable, Language, is_word, singleton, head, first_piece}
+use Rattle.iloc_spec_grammar.specs.Syntax.{pieces, AreLengths, Language, is_word, lower_singleton, head, first_piece}
 use Rattle.iloc_spec_grammar.specs.Tree.{HasSingleton, IsNew, TreeBlockFault, no_singleton, FirstBadBlock, here, later, HasTreeFault, no_language, no_identifier, bad_block}
 use Rattle.iloc_spec_grammar.specs.Meaning.{Locale, Means, Fault, RepeatsVariant, IsSecond, BlockFault, HasFault, in_head, in_block, HasBlockFault, not_a_language, not_an_identifier, after}
 use Rattle.iloc_spec_grammar.specs.Computing.{locale_result}
@@ -19,7 +19,7 @@ use Rattle.iloc_spec_grammar.proofs.SameMeaning.{good_blocks, blocks_spelled, go
 
 abbrev seen_after : List ℕ → List (ℕ × List (List ℕ)) → List ℕ
 seen_after seen [] = seen
-seen_after seen (b ∷ bs) = seen_after (singleton b ∷ seen) bs
+seen_after seen (b ∷ bs) = seen_after (lower_singleton b ∷ seen) bs
 
 shuffle : (x y z : Bool) → (x || (y || z)) ≡ ((y || x) || z)
 shuffle true true z = refl
@@ -27,12 +27,12 @@ shuffle true false z = refl
 shuffle false true z = refl
 shuffle false false z = refl
 
-any_seen : (c : ℕ) (seen : List ℕ) (bs : List (ℕ × List (List ℕ))) → list_any (eq_by_cmp nat_cmp c) (seen_after seen bs) ≡ (list_any (λ d. c == singleton d) bs || list_any (eq_by_cmp nat_cmp c) seen)
+any_seen : (c : ℕ) (seen : List ℕ) (bs : List (ℕ × List (List ℕ))) → list_any (eq_by_cmp nat_cmp c) (seen_after seen bs) ≡ (list_any (λ d. c == lower_singleton d) bs || list_any (eq_by_cmp nat_cmp c) seen)
 any_seen c seen [] = refl
-any_seen c seen (b ∷ bs) = any_seen c (singleton b ∷ seen) bs ∙ ap (λ t. list_any (λ d. c == singleton d) bs || (t || list_any (eq_by_cmp nat_cmp c) seen)) (unsigned_tied c (singleton b)) ∙ shuffle _ (c == singleton b) _
+any_seen c seen (b ∷ bs) = any_seen c (lower_singleton b ∷ seen) bs ∙ ap (λ t. list_any (λ d. c == lower_singleton d) bs || (t || list_any (eq_by_cmp nat_cmp c) seen)) (unsigned_tied c (lower_singleton b)) ∙ shuffle _ (c == lower_singleton b) _
 
-seen_is : (b : ℕ × List (List ℕ)) (good : List (ℕ × List (List ℕ))) → list_any (eq_by_cmp nat_cmp (singleton b)) (seen_after [] good) ≡ list_any (λ c. singleton b == singleton c) good
-seen_is b good = any_seen (singleton b) [] good ∙ or-false _
+seen_is : (b : ℕ × List (List ℕ)) (good : List (ℕ × List (List ℕ))) → list_any (eq_by_cmp nat_cmp (lower_singleton b)) (seen_after [] good) ≡ list_any (λ c. lower_singleton b == lower_singleton c) good
+seen_is b good = any_seen (lower_singleton b) [] good ∙ or-false _
 
 is_new : (b : ℕ × List (List ℕ)) (good : List (ℕ × List (List ℕ))) → ¬ (IsSecond good b) → IsNew (seen_after [] good) b
 is_new b good n = seen_is b good ∙ false_from_ne_true _ n
@@ -42,29 +42,29 @@ no_second b good e s = true≢false (sym s ∙ sym (seen_is b good) ∙ e)
 
 second_letter : (T : ℕ → Bool) (seen : List ℕ) (b : ℕ × List (List ℕ)) (good : List (ℕ × List (List ℕ))) → AreGood T seen good → IsSecond good b → HasSingleton b
 second_letter T seen b [] g s = absurd (true≢false (sym s))
-second_letter T seen b (c ∷ cs) g s = elim (or_cases (singleton b == singleton c) _ s) [
-  | inl e ↦ letter b.0 (subst (λ (n : ℕ). is_ascii_alphanumeric n ≡ true) (sym (eqb-true (singleton b) (singleton c) e)) (lower_letter c.0 g.0.0))
-  | inr e ↦ second_letter T (singleton c ∷ seen) b cs g.1 e
+second_letter T seen b (c ∷ cs) g s = elim (or_cases (lower_singleton b == lower_singleton c) _ s) [
+  | inl e ↦ letter b.0 (subst (λ (n : ℕ). is_ascii_alphanumeric n ≡ true) (sym (eqb-true (lower_singleton b) (lower_singleton c) e)) (lower_letter c.0 g.0.0))
+  | inr e ↦ second_letter T (lower_singleton c ∷ seen) b cs g.1 e
 ]
 
 -- a variant that is repeated in one block
 
-after_one : (b : ℕ × List (List ℕ)) → singleton b ≡ 116 → after 116 (b ∷ []) ≡ b.1
+after_one : (b : ℕ × List (List ℕ)) → lower_singleton b ≡ 116 → after 116 (b ∷ []) ≡ b.1
 after_one b e = rw e (append-nil b.1)
 
-repeats_at : (T : ℕ → Bool) (b : ℕ × List (List ℕ)) → RepeatsVariant T (after 116 (b ∷ [])) → (singleton b ≡ 116) × RepeatsVariant T b.1
-repeats_at T b r = elim (cases_Bool (singleton b == 116)) [
-  | inl t ↦ let e = eqb-true (singleton b) 116 t in (e, subst (RepeatsVariant T) (after_one b e) r)
+repeats_at : (T : ℕ → Bool) (b : ℕ × List (List ℕ)) → RepeatsVariant T (after 116 (b ∷ [])) → (lower_singleton b ≡ 116) × RepeatsVariant T b.1
+repeats_at T b r = elim (cases_Bool (lower_singleton b == 116)) [
+  | inl t ↦ let e = eqb-true (lower_singleton b) 116 t in (e, subst (RepeatsVariant T) (after_one b e) r)
   | inr t ↦ absurd (none (ap (λ u. cond u b.1 [] ++ []) t) r.3)
 ]
   where
     none : {ps qs : List (List ℕ)} {q : List ℕ} → ps ≡ [] → ps ≡ q ∷ qs → ⊥
     none e k = cc
 
-repeats_one : (T : ℕ → Bool) (b : ℕ × List (List ℕ)) → singleton b ≡ 116 → RepeatsVariant T b.1 → RepeatsVariant T (after 116 (b ∷ []))
+repeats_one : (T : ℕ → Bool) (b : ℕ × List (List ℕ)) → lower_singleton b ≡ 116 → RepeatsVariant T b.1 → RepeatsVariant T (after 116 (b ∷ []))
 repeats_one T b e r = subst (RepeatsVariant T) (sym (after_one b e)) r
 
-t_letter : (b : ℕ × List (List ℕ)) → singleton b ≡ 116 → HasSingleton b
+t_letter : (b : ℕ × List (List ℕ)) → lower_singleton b ≡ 116 → HasSingleton b
 t_letter b e = letter b.0 (rw e refl)
 
 -- the fault of one block
@@ -88,7 +88,7 @@ block_fault_by_tree T good b g (TreeBlockFault.breaks_rule a e n d) = BlockFault
 
 after_good : (T : ℕ → Bool) (seen : List ℕ) (good : List (ℕ × List (List ℕ))) (b : ℕ × List (List ℕ)) (rest : List (ℕ × List (List ℕ))) {f : Fault} → AreGood T seen good → TreeBlockFault T (seen_after seen good) b f → FirstBadBlock T seen (good ++ (b ∷ rest)) f
 after_good T seen [] b rest g x = here x
-after_good T seen (c ∷ cs) b rest g x = later g.0.0 g.0.1 g.0.2 (after_good T (singleton c ∷ seen) cs b rest g.1 x)
+after_good T seen (c ∷ cs) b rest g x = later g.0.0 g.0.1 g.0.2 (after_good T (lower_singleton c ∷ seen) cs b rest g.1 x)
 
 record BadSplit (T : ℕ → Bool) (seen : List ℕ) (bs : List (ℕ × List (List ℕ))) (f : Fault) : Type 0 where
   before : List (ℕ × List (List ℕ))
@@ -139,7 +139,7 @@ answered T t = with_fault (locale_result T t) (trees.answered_by T t (Means T t)
     with_fault (Ok M) m = m
     with_fault (Err f) h = fault_by_tree t h
 
-pub means_answered : {T : ℕ → Bool} → IsTable T → (t : List ℕ) (M : Locale) → Means T t M → locale_result T t ≡ Ok M
+pub means_answered : {T : ℕ → Bool} → AreLengths T → (t : List ℕ) (M : Locale) → Means T t M → locale_result T t ≡ Ok M
 means_answered table t M m = trees.means_answered table t M (tree_means t M m)
 
 pub fault_answered : (T : ℕ → Bool) (t : List ℕ) {f : Fault} → HasFault T t f → locale_result T t ≡ Err f
@@ -148,7 +148,7 @@ fault_answered T t h = trees.fault_answered T t (tree_fault t h)
 pub accepted_or_fault : (T : ℕ → Bool) (t : List ℕ) → ((M : Locale) × Means T t M) ⊎ ((f : Fault) × HasFault T t f)
 accepted_or_fault T t = trees.either (locale_result T t) (answered T t)
 
-pub accepted_no_fault : {T : ℕ → Bool} → IsTable T → (t : List ℕ) (M : Locale) (f : Fault) → Means T t M → HasFault T t f → ⊥
+pub accepted_no_fault : {T : ℕ → Bool} → AreLengths T → (t : List ℕ) (M : Locale) (f : Fault) → Means T t M → HasFault T t f → ⊥
 accepted_no_fault table t M f m h = trees.accepted_no_fault table t M f (tree_means t M m) (tree_fault t h)
 
 pub one_fault : {T : ℕ → Bool} (t : List ℕ) {f g : Fault} → HasFault T t f → HasFault T t g → f ≡ g

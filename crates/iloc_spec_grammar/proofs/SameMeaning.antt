@@ -6,7 +6,7 @@ use Rattle.std.specs.Ordering.{nat_cmp, eq_by_cmp}
 use Rattle.std.specs.FinMap.{find}
 use Rattle.std.proofs.lemmas.Bool.{or_parts, cond_both}
 use Rattle.std.proofs.lemmas.Bool.Decides.{nat_tests}
-use Rattle.iloc_spec_grammar.specs.Syntax.{pieces, IsTable, PrivateSubtag, IsWord, lower, Identifier, Fields, Unicode, Transform, fields_pieces, unicode_pieces, transform_pieces, IsUnicode, IsTransform, IsOther, kept, is_other_singleton, singleton, AllDifferent, head, tail_blocks}
+use Rattle.iloc_spec_grammar.specs.Syntax.{pieces, AreLengths, PrivateSubtag, IsWord, lower, Identifier, Fields, Unicode, Transform, fields_pieces, unicode_pieces, transform_pieces, IsUnicode, IsTransform, IsOther, kept, is_other_singleton, lower_singleton, AllDifferent, head, tail_blocks}
 use Rattle.iloc_spec_grammar.specs.Tree.{Extension, unicode, transform, other, extension_pieces, IsExtension, TreeMeans, meaning, by_singleton, IsBlock, HasSingleton}
 use Rattle.iloc_spec_grammar.specs.Meaning.{Locale, Extensions, BlocksMean, Means, SpellsExtensions, AreBlocks, SpellsIdentifier, after, map_of, no_unicode, no_transform, normal_unicode, normal_transform, normal_extensions}
 use Rattle.iloc_spec_grammar.specs.ByBlocks.{UnicodeMeans, TransformMeans, PrivateMeans, other_blocks, grammar_rules, PartIs, BlocksGive, MeansByBlocks}
@@ -27,14 +27,14 @@ or_empty (Some ps) = ps
 same_test : (q c : ℕ) → (c == q) ≡ eq_by_cmp nat_cmp q c
 same_test q c = grind (arith, nat_tests)
 
-none_after : (q : ℕ) (bs : List (ℕ × List (List ℕ))) → list_any (eq_by_cmp nat_cmp q) (map (λ b. singleton b) bs) ≡ false → after q bs ≡ []
+none_after : (q : ℕ) (bs : List (ℕ × List (List ℕ))) → list_any (eq_by_cmp nat_cmp q) (map (λ b. lower_singleton b) bs) ≡ false → after q bs ≡ []
 none_after q [] d = refl
-none_after q (b ∷ bs) d = let parts = or_parts _ _ d in rw (same_test q (singleton b) ∙ parts.0) (none_after q bs parts.1)
+none_after q (b ∷ bs) d = let parts = or_parts _ _ d in rw (same_test q (lower_singleton b) ∙ parts.0) (none_after q bs parts.1)
 
-after_find : (q : ℕ) (bs : List (ℕ × List (List ℕ))) → AllDifferent nat_cmp (map (λ b. singleton b) bs) → after q bs ≡ or_empty (find nat_cmp q (by_singleton bs))
+after_find : (q : ℕ) (bs : List (ℕ × List (List ℕ))) → AllDifferent nat_cmp (map (λ b. lower_singleton b) bs) → after q bs ≡ or_empty (find nat_cmp q (by_singleton bs))
 after_find q [] d = refl
-after_find q (b ∷ bs) d = ap (λ t. cond t b.1 [] ++ after q bs) (same_test q (singleton b)) ∙ cond_both (eq_by_cmp nat_cmp q (singleton b)) _ _ (λ o. cond (eq_by_cmp nat_cmp q (singleton b)) b.1 [] ++ after q bs ≡ or_empty o)
-    (λ e. rw e (ap (λ l. b.1 ++ l) (none_after q bs (subst (λ (c : ℕ). list_any (eq_by_cmp nat_cmp c) (map (λ b. singleton b) bs) ≡ false) (tied q (singleton b) e) d.0)) ∙ append-nil b.1))
+after_find q (b ∷ bs) d = ap (λ t. cond t b.1 [] ++ after q bs) (same_test q (lower_singleton b)) ∙ cond_both (eq_by_cmp nat_cmp q (lower_singleton b)) _ _ (λ o. cond (eq_by_cmp nat_cmp q (lower_singleton b)) b.1 [] ++ after q bs ≡ or_empty o)
+    (λ e. rw e (ap (λ l. b.1 ++ l) (none_after q bs (subst (λ (c : ℕ). list_any (eq_by_cmp nat_cmp c) (map (λ b. lower_singleton b) bs) ≡ false) (tied q (lower_singleton b) e) d.0)) ∙ append-nil b.1))
     (λ e. rw e (after_find q bs d.1))
 
 -- parts that are spelled by some piece, and by none
@@ -130,13 +130,13 @@ read_of bs = record {
 
 record GoodParts (T : ℕ → Bool) (seen : List ℕ) (bs : List (ℕ × List (List ℕ))) : Type 0 where
   rules : AllByRecursion (λ b. HasSingleton b × IsBlock T b) bs
-  different : AllDifferent nat_cmp (map (λ b. singleton b) bs)
+  different : AllDifferent nat_cmp (map (λ b. lower_singleton b) bs)
   unseen : NotSeen seen bs
 
 good_parts : (T : ℕ → Bool) (seen : List ℕ) (bs : List (ℕ × List (List ℕ))) → AreGood T seen bs → GoodParts T seen bs
 good_parts T seen [] g = record { rules = tt; different = tt; unseen = tt }
 good_parts T seen (b ∷ bs) g =
-    let r = good_parts T (singleton b ∷ seen) bs g.1 in let parts = unsee_one (singleton b) seen bs r.unseen in
+    let r = good_parts T (lower_singleton b ∷ seen) bs g.1 in let parts = unsee_one (lower_singleton b) seen bs r.unseen in
     record { rules = ((g.0.0, g.0.2), r.rules); different = (parts.0, r.different); unseen = (g.0.1, parts.1) }
 
 -- a block has a piece
@@ -181,16 +181,16 @@ other_rule T q ps (inr (other qs, h, e)) k = subst IsOther (sym e) h.1
 other_rule T q ps (inr (unicode u, h, e)) k = absurd (no_u q h.0 k)
 other_rule T q ps (inr (transform m, h, e)) k = absurd (no_t q h.0 k)
 
-others_rule : (T : ℕ → Bool) (bs : List (ℕ × List (List ℕ))) → AllByRecursion (λ b. RuleAt T (singleton b) b.1) bs → AllByRecursion (λ o. IsOther o.1) (other_blocks (by_singleton bs))
+others_rule : (T : ℕ → Bool) (bs : List (ℕ × List (List ℕ))) → AllByRecursion (λ b. RuleAt T (lower_singleton b) b.1) bs → AllByRecursion (λ o. IsOther o.1) (other_blocks (by_singleton bs))
 others_rule T [] h = tt
-others_rule T (b ∷ bs) h = cond_both (is_other_singleton (singleton b)) _ _ (AllByRecursion (λ o. IsOther o.1)) (λ e. (other_rule T (singleton b) b.1 h.0 e, others_rule T bs h.1)) (λ e. others_rule T bs h.1)
+others_rule T (b ∷ bs) h = cond_both (is_other_singleton (lower_singleton b)) _ _ (AllByRecursion (λ o. IsOther o.1)) (λ e. (other_rule T (lower_singleton b) b.1 h.0 e, others_rule T bs h.1)) (λ e. others_rule T bs h.1)
 
 pub good_spell : (T : ℕ → Bool) (bs : List (ℕ × List (List ℕ))) → AreGood T [] bs → SpellsExtensions T bs (read_of bs)
 good_spell T bs g =
     let parts = good_parts T [] bs g in
-    let rules = all_weaker (λ b. HasSingleton b × IsBlock T b) (λ b. RuleAt T (singleton b) b.1) (λ b k. k.1) bs parts.rules in
+    let rules = all_weaker (λ b. HasSingleton b × IsBlock T b) (λ b. RuleAt T (lower_singleton b) b.1) (λ b k. k.1) bs parts.rules in
     record {
-      blocks = all_weaker (λ b. HasSingleton b × IsBlock T b) (λ b. (is_ascii_alphanumeric b.0 ≡ true) × (0 < length b.1)) (λ b k. (k.0, rule_some T (singleton b) b.1 k.1)) bs parts.rules;
+      blocks = all_weaker (λ b. HasSingleton b × IsBlock T b) (λ b. (is_ascii_alphanumeric b.0 ≡ true) × (0 < length b.1)) (λ b k. (k.0, rule_some T (lower_singleton b) b.1 k.1)) bs parts.rules;
       different = parts.different;
       unicode = (subst (λ (l : List (List ℕ)). IsUnicode (unicode_of l)) (sym (after_find 117 bs parts.different)) (unicode_rule T _ (find_holds (RuleAt T) 117 bs rules)), sym (pieces-unicode_of (after 117 bs)));
       transform = (subst (λ (l : List (List ℕ)). IsTransform T (transform_of l)) (sym (after_find 116 bs parts.different)) (transform_rule T _ (find_holds (RuleAt T) 116 bs rules)), sym (pieces-transform_of (after 116 bs)));
@@ -222,7 +222,7 @@ blocks_mean t M m = record { id = m.id; extensions = give_mean m.blocks }
 pub tree_means : {T : ℕ → Bool} (t : List ℕ) (M : Locale) → Means T t M → TreeMeans T t M
 tree_means {T = T} t M m = blocks_tree T t M (means_by_blocks t M m)
 
-pub means_by_tree : {T : ℕ → Bool} → IsTable T → (t : List ℕ) (M : Locale) → TreeMeans T t M → Means T t M
+pub means_by_tree : {T : ℕ → Bool} → AreLengths T → (t : List ℕ) (M : Locale) → TreeMeans T t M → Means T t M
 means_by_tree {T = T} table t M m = blocks_mean t M (tree_by_blocks T table t M m)
 
 -- good blocks after an identifier mean what is read of them
@@ -230,5 +230,5 @@ pub good_text : (T : ℕ → Bool) (t : List ℕ) → SpellsIdentifier T (head (
 good_text T t s g = blocks_mean t (meaning (written_of (pieces t))) (read_by_blocks T t s g)
 
 -- a text means one value at most
-pub one_meaning : {T : ℕ → Bool} → IsTable T → (t : List ℕ) (L M : Locale) → Means T t L → Means T t M → L ≡ M
+pub one_meaning : {T : ℕ → Bool} → AreLengths T → (t : List ℕ) (L M : Locale) → Means T t L → Means T t M → L ≡ M
 one_meaning table t L M a b = trees.one_meaning table t L M (tree_means t L a) (tree_means t M b)

@@ -2,7 +2,7 @@
 use Rattle.std.proofs.Common.{◌≡◌, ◌≢◌, ◌⊎◌, inl, inr, ℕ, Bool, true, false, cond, not, ◌==◌, List, [], ◌∷◌, ◌++◌, map, filter, refl, sym, ap, ◌∙◌, subst, arith, Option, Some, None, option_to_list}
 use Rattle.std.specs.List.{AllByRecursion, AllZip}
 use Rattle.std.proofs.lemmas.Bool.{cases_Bool, ne_eqb}
-use Rattle.iloc_spec_grammar.specs.Syntax.{pieces, join, head, tail_blocks, IsTable, IsIdentifier, identifier_pieces, Identifier, Unicode, Transform, unicode_pieces, transform_pieces, IsUnicode, IsTransform, singleton}
+use Rattle.iloc_spec_grammar.specs.Syntax.{pieces, join, head, tail_blocks, AreLengths, IsIdentifier, identifier_pieces, Identifier, Unicode, Transform, unicode_pieces, transform_pieces, IsUnicode, IsTransform, lower_singleton}
 use Rattle.iloc_spec_grammar.specs.Tree.{Extension, unicode, transform, other, Written, extension_pieces, extension_block, blocks_of, spelling, IsUnicodeBlock, IsTransformBlock, IsExtension, IsWritten, IsBlock}
 use Rattle.iloc_spec_grammar.specs.Meaning.{Locale, Means, AreBlocks, normal_identifier, normal_extensions}
 use Rattle.iloc_spec_grammar.specs.Values.{Reordered, Rule, AttributesStep, FieldsStep, IdentifierStep, BlockStep, BlocksStep, TextStep, IdentifierTextStep, identifier_text}
@@ -42,34 +42,34 @@ one_reordered None (Some y) r = absurd (let n = total_reordered (λ z. 1) r in o
 one_reordered (Some x) None r = absurd (let n = total_reordered (λ z. 1) r in omega arith)
 
 abbrev read_block : ℕ × List (List ℕ) → ℕ × Extension
-read_block b = (b.0, extension_of (singleton b) b.1)
+read_block b = (b.0, extension_of (lower_singleton b) b.1)
 
-extensions_before : (bs : List (ℕ × List (List ℕ))) → EndsAtX bs → map read_block (filter (λ b. not (singleton b == 120)) bs) ≡ extensions_in bs
+extensions_before : (bs : List (ℕ × List (List ℕ))) → EndsAtX bs → map read_block (filter (λ b. not (lower_singleton b == 120)) bs) ≡ extensions_in bs
 extensions_before [] e = refl
-extensions_before (b ∷ bs) e = elim (cases_Bool (singleton b == 120)) [
+extensions_before (b ∷ bs) e = elim (cases_Bool (lower_singleton b == 120)) [
   | inl t ↦ rw (t, e.0 t) refl
   | inr t ↦ rw t (ap (λ l. read_block b ∷ l) (extensions_before bs e.1))
 ]
 
-private_after : (bs : List (ℕ × List (List ℕ))) → EndsAtX bs → filter (λ b. singleton b == 120) bs ≡ option_to_list (private_in bs)
+private_after : (bs : List (ℕ × List (List ℕ))) → EndsAtX bs → filter (λ b. lower_singleton b == 120) bs ≡ option_to_list (private_in bs)
 private_after [] e = refl
-private_after (b ∷ bs) e = elim (cases_Bool (singleton b == 120)) [
+private_after (b ∷ bs) e = elim (cases_Bool (lower_singleton b == 120)) [
   | inl t ↦ rw (t, e.0 t) refl
   | inr t ↦ rw t (private_after bs e.1)
 ]
 
 -- those of `x` stay last
 pub extensions_reordered : (bs cs : List (ℕ × List (List ℕ))) → EndsAtX bs → EndsAtX cs → Reordered bs cs → Reordered (extensions_in bs) (extensions_in cs)
-extensions_reordered bs cs e f r = subst (λ l. Reordered l (extensions_in cs)) (extensions_before bs e) (subst (Reordered (map read_block (filter (λ b. not (singleton b == 120)) bs))) (extensions_before cs f) (map_reordered read_block (filter_reordered _ r)))
+extensions_reordered bs cs e f r = subst (λ l. Reordered l (extensions_in cs)) (extensions_before bs e) (subst (Reordered (map read_block (filter (λ b. not (lower_singleton b == 120)) bs))) (extensions_before cs f) (map_reordered read_block (filter_reordered _ r)))
 
 pub private_reordered : (bs cs : List (ℕ × List (List ℕ))) → EndsAtX bs → EndsAtX cs → Reordered bs cs → private_in bs ≡ private_in cs
-private_reordered bs cs e f r = one_reordered (private_in bs) (private_in cs) (subst (λ l. Reordered l (option_to_list (private_in cs))) (private_after bs e) (subst (Reordered (filter (λ b. singleton b == 120) bs)) (private_after cs f) (filter_reordered _ r)))
+private_reordered bs cs e f r = one_reordered (private_in bs) (private_in cs) (subst (λ l. Reordered l (option_to_list (private_in cs))) (private_after bs e) (subst (Reordered (filter (λ b. lower_singleton b == 120) bs)) (private_after cs f) (filter_reordered _ r)))
 
 -- a step inside a block is one of what is read of it
 
-rule_read : (T : ℕ → Bool) (b : ℕ × List (List ℕ)) → singleton b ≢ 120 → IsBlock T b → IsExtension T (singleton b) (extension_of (singleton b) b.1)
+rule_read : (T : ℕ → Bool) (b : ℕ × List (List ℕ)) → lower_singleton b ≢ 120 → IsBlock T b → IsExtension T (lower_singleton b) (extension_of (lower_singleton b) b.1)
 rule_read T b n (inl p) = absurd (n p.0)
-rule_read T b n (inr h) = extension_read T (singleton b) b.1 h
+rule_read T b n (inr h) = extension_read T (lower_singleton b) b.1 h
 
 unicode_read_step : (T : ℕ → Bool) (r : Rule) (u v : Unicode) → IsUnicode u → AttributesStep r u.attributes v.attributes → FieldsStep r 0 u.keywords v.keywords → IsExtension T 117 (unicode (unicode_of (unicode_pieces u))) → ExtensionStep (tree_rule r) (unicode (unicode_of (unicode_pieces u))) (unicode (unicode_of (unicode_pieces v)))
 unicode_read_step T r u v h a k g =
@@ -89,9 +89,9 @@ transform_read_step T r m n h i k g =
 
 -- of blocks that differ
 record ReadStep (T : ℕ → Bool) (r : Rule) (b c : ℕ × List (List ℕ)) : Type 0 where
-  no_x : (singleton b == 120) ≡ false
+  no_x : (lower_singleton b == 120) ≡ false
   singletons : b.0 ≡ c.0
-  step : IsBlock T b → ExtensionStep (tree_rule r) (extension_of (singleton b) b.1) (extension_of (singleton b) c.1)
+  step : IsBlock T b → ExtensionStep (tree_rule r) (extension_of (lower_singleton b) b.1) (extension_of (lower_singleton b) c.1)
 
 read_step : (T : ℕ → Bool) (r : Rule) {b c : ℕ × List (List ℕ)} → BlockStep T r b c → (b ≡ c) ⊎ ReadStep T r b c
 read_step T r BlockStep.same = inl refl
@@ -122,7 +122,7 @@ read_steps T r [] [] z h = (tt, refl)
 read_steps T r (b ∷ bs) (c ∷ cs) z h = at_block (read_step T r z.0) (read_steps T r bs cs z.1 h.1)
   where
     at_block : (b ≡ c) ⊎ ReadStep T r b c → ReadSteps r bs cs → ReadSteps r (b ∷ bs) (c ∷ cs)
-    at_block (inl e) rest = subst (λ d. ReadSteps r (b ∷ bs) (d ∷ cs)) e (elim (cases_Bool (singleton b == 120)) [
+    at_block (inl e) rest = subst (λ d. ReadSteps r (b ∷ bs) (d ∷ cs)) e (elim (cases_Bool (lower_singleton b == 120)) [
       | inl t ↦ rw t (tt, refl)
       | inr t ↦ rw t (((refl, ExtensionStep.same), rest.0), rest.1)
     ])
@@ -131,7 +131,7 @@ read_steps T r _ _ z h = absurd z
 
 good_rules : (T : ℕ → Bool) (seen : List ℕ) (bs : List (ℕ × List (List ℕ))) → AreGood T seen bs → AllByRecursion (IsBlock T) bs
 good_rules T seen [] g = tt
-good_rules T seen (b ∷ bs) g = (g.0.2, good_rules T (singleton b ∷ seen) bs g.1)
+good_rules T seen (b ∷ bs) g = (g.0.2, good_rules T (lower_singleton b ∷ seen) bs g.1)
 
 -- texts
 
@@ -166,7 +166,7 @@ reordered_before zs (Reordered.front_kept r) = Reordered.front_kept (reordered_b
 reordered_before zs Reordered.first_two = Reordered.first_two
 reordered_before zs (Reordered.in_turn r s) = Reordered.in_turn (reordered_before zs r) (reordered_before zs s)
 
-blocks_by_tree : (T : ℕ → Bool) (r : TreeRule) (es fs : List (ℕ × Extension)) (x : List (ℕ × List (List ℕ))) → AllZip (λ e f. (e.0 ≡ f.0) × ExtensionStep r e.1 f.1) es fs → AllByRecursion (λ e. IsExtension T (singleton e) e.1) es → AllZip (BlockStep T (rule_of r)) (map extension_block es ++ x) (map extension_block fs ++ x)
+blocks_by_tree : (T : ℕ → Bool) (r : TreeRule) (es fs : List (ℕ × Extension)) (x : List (ℕ × List (List ℕ))) → AllZip (λ e f. (e.0 ≡ f.0) × ExtensionStep r e.1 f.1) es fs → AllByRecursion (λ e. IsExtension T (lower_singleton e) e.1) es → AllZip (BlockStep T (rule_of r)) (map extension_block es ++ x) (map extension_block fs ++ x)
 blocks_by_tree T r [] [] x z h = same_blocks x
   where
     same_blocks : (bs : List (ℕ × List (List ℕ))) → AllZip (BlockStep T (rule_of r)) bs bs
@@ -205,7 +205,7 @@ spelled_step {T = T} t {v = v} {w = w} h e bs cs s =
     TextStep.rewritten k.rule means h.id.words front (ap head p ∙ head-spelling w after) k.id
     (subst (λ bs. BlocksStep T k.rule bs (tail_blocks (pieces (join (spelling w))))) (sym first) (subst (BlocksStep T k.rule (blocks_of v)) (sym second) k.blocks))
 
-pub step_by_tree : {T : ℕ → Bool} → IsTable T → (t u : List ℕ) → TreeTextStep T t u → TextStep T t u
+pub step_by_tree : {T : ℕ → Bool} → AreLengths T → (t u : List ℕ) → TreeTextStep T t u → TextStep T t u
 step_by_tree table t u (TreeTextStep.letter_case e) = TextStep.letter_case e
 step_by_tree {T = T} table t u (TreeTextStep.rewritten {v = v} {w = w} h e s) = spelled_step t h e (blocks-spelling table v h) (blocks-spelling table w (written_step T s h).0) s
 

@@ -3,7 +3,7 @@ use Rattle.std.proofs.Common.{◌≡◌, ◌↔◌, ℕ, ◌+◌, ◌||◌, Bool
 use Rattle.std.proofs.lemmas.Bool.{cond_both}
 use Rattle.std.proofs.lemmas.List.{map-append}
 use Rattle.std.proofs.lemmas.List.Concat.{flat_map-append}
-use Rattle.iloc_spec_grammar.specs.Syntax.{join, IsTable, languages, Unicode, Transform, identifier_pieces, unicode_pieces, transform_pieces}
+use Rattle.iloc_spec_grammar.specs.Syntax.{join, AreLengths, languages, Unicode, Transform, identifier_pieces, unicode_pieces, transform_pieces}
 use Rattle.iloc_spec_grammar.specs.Tree.{Extension, unicode, transform, other, extension_block, block_pieces, spelling, transform_form, unicode_form, others_form, private_form, extensions_form, before_t, after_t, printed, tree_text, form_pieces, TreeMeans, IsTreeWellFormed}
 use Rattle.iloc_spec_grammar.specs.Meaning.{Locale, Extensions, Means}
 use Rattle.iloc_spec_grammar.specs.Values.{lower_identifier, spelled_fields, unicode_spelling, transform_spelling, other_spelling, private_spelling, extensions_spelling, text, IsValue, IsWellFormed}
@@ -65,7 +65,7 @@ text_is M = ap join (pieces_are M)
 
 -- a value is well-formed, by its text, if it passes the tests
 
-pub well_formed_in : {T : ℕ → Bool} → IsTable T → (M : Locale) → IsValue T M → Means T (text M) M ↔ IsTreeWellFormed M
+pub well_formed_in : {T : ℕ → Bool} → AreLengths T → (M : Locale) → IsValue T M → Means T (text M) M ↔ IsTreeWellFormed M
 well_formed_in {T = T} table M h = (
   λ m. means_well_formed (text M) M (tree_means (text M) M m),
   λ g. means_by_tree table (text M) M (subst (λ (t : List ℕ). TreeMeans T t M) (sym (text_is M)) (back.reads_back M h g)),

@@ -5,7 +5,7 @@ use Rattle.std.specs.Cmp.{nat_cmp_total, tied_itself}
 use Rattle.std.specs.Ordering.{nat_cmp, eq_by_cmp, is_eq}
 use Rattle.std.proofs.lemmas.Bool.{cases_eq, cond_both}
 use Rattle.std.proofs.lemmas.Bool.Decides.{nat_tests}
-use Rattle.iloc_spec_grammar.specs.Syntax.{is_other_singleton, singleton}
+use Rattle.iloc_spec_grammar.specs.Syntax.{is_other_singleton, lower_singleton}
 use Rattle.std.specs.List.{AllByRecursion}
 use Rattle.std.specs.FinMap.{find}
 
@@ -22,9 +22,9 @@ pub self_tied : (q : ℕ) → eq_by_cmp nat_cmp q q ≡ true
 self_tied q = ap is_eq (tied_itself nat_cmp_total q)
 
 -- what holds of each item at its singleton holds of the one that is found
-pub find_holds : {X : Type 0} (P : ℕ → X → Type 0) (q : ℕ) (es : List (ℕ × X)) → AllByRecursion (λ e. P (singleton e) e.1) es → IfSome (find nat_cmp q (map (λ e. (singleton e, e.1)) es)) (P q)
+pub find_holds : {X : Type 0} (P : ℕ → X → Type 0) (q : ℕ) (es : List (ℕ × X)) → AllByRecursion (λ e. P (lower_singleton e) e.1) es → IfSome (find nat_cmp q (map (λ e. (lower_singleton e, e.1)) es)) (P q)
 find_holds P q [] h = tt
-find_holds P q (e ∷ es) h = cond_both (eq_by_cmp nat_cmp q (singleton e)) _ _ (λ o. IfSome o (P q)) (λ t. subst (λ (c : ℕ). P c e.1) (tied q (singleton e) t) h.0) (λ t. find_holds P q es h.1)
+find_holds P q (e ∷ es) h = cond_both (eq_by_cmp nat_cmp q (lower_singleton e)) _ _ (λ o. IfSome o (P q)) (λ t. subst (λ (c : ℕ). P c e.1) (tied q (lower_singleton e) t) h.0) (λ t. find_holds P q es h.1)
 
 -- a piece of two bytes and more has more than one
 pub two_more : (n : ℕ) → (suc (suc n) == 1) ≡ false

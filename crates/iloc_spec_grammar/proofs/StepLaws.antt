@@ -7,7 +7,7 @@ use Rattle.std.specs.Ordering.{nat_cmp, eq_by_cmp}
 use Rattle.std.specs.Cmp.{nat_cmp_total}
 use Rattle.std.specs.FinMap.{find, nat_cmp-IsAntisymmetric}
 use Rattle.std.proofs.lemmas.Bool.{or_parts, or_from, not-true}
-use Rattle.iloc_spec_grammar.specs.Syntax.{Variant, Subtag, UnicodeKey, TransformKey, Attribute, is_word, IsWord, lower, word_cmp, is_true, Identifier, Fields, IsIdentifier, IsKeyword, IsField, kept, singleton, AllDifferent}
+use Rattle.iloc_spec_grammar.specs.Syntax.{Variant, Subtag, UnicodeKey, TransformKey, Attribute, is_word, IsWord, lower, word_cmp, is_true, Identifier, Fields, IsIdentifier, IsKeyword, IsField, kept, lower_singleton, AllDifferent}
 use Rattle.iloc_spec_grammar.specs.Tree.{Extension, other, Written, IsExtension, IsWritten, unicode_part, transform_part, private_part, other_part, by_singleton, meaning}
 use Rattle.iloc_spec_grammar.specs.Meaning.{map_of, set_of, normal_identifier, normal_values, normal_fields}
 use Rattle.iloc_spec_grammar.specs.Values.{Reordered}
@@ -127,29 +127,29 @@ extension_step T c (ExtensionStep.dropped_pieces {ps = ps} {qs = qs} w) h =
 abbrev Steps : TreeRule → List (ℕ × Extension) → List (ℕ × Extension) → Type 0
 Steps r es fs = AllZip (λ e f. (e.0 ≡ f.0) × ExtensionStep r e.1 f.1) es fs
 
-rules_step : (T : ℕ → Bool) (r : TreeRule) (es fs : List (ℕ × Extension)) → Steps r es fs → AllByRecursion (λ e. IsExtension T (singleton e) e.1) es → AllByRecursion (λ e. IsExtension T (singleton e) e.1) fs
-rules_step T r = all_zip _ (λ e. IsExtension T (singleton e) e.1) (λ e. IsExtension T (singleton e) e.1) (λ e f z h. subst (λ (c : ℕ). IsExtension T (to_ascii_lowercase c) f.1) z.0 (extension_step T (singleton e) z.1 h).0)
+rules_step : (T : ℕ → Bool) (r : TreeRule) (es fs : List (ℕ × Extension)) → Steps r es fs → AllByRecursion (λ e. IsExtension T (lower_singleton e) e.1) es → AllByRecursion (λ e. IsExtension T (lower_singleton e) e.1) fs
+rules_step T r = all_zip _ (λ e. IsExtension T (lower_singleton e) e.1) (λ e. IsExtension T (lower_singleton e) e.1) (λ e f z h. subst (λ (c : ℕ). IsExtension T (to_ascii_lowercase c) f.1) z.0 (extension_step T (lower_singleton e) z.1 h).0)
 
-singletons_step : (r : TreeRule) (es fs : List (ℕ × Extension)) → Steps r es fs → map (λ (e : ℕ × Extension). singleton e) es ≡ map (λ f. singleton f) fs
-singletons_step r = map-zip _ (λ (e : ℕ × Extension). singleton e) (λ f. singleton f) (λ e f z i. to_ascii_lowercase (z.0 i))
+singletons_step : (r : TreeRule) (es fs : List (ℕ × Extension)) → Steps r es fs → map (λ (e : ℕ × Extension). lower_singleton e) es ≡ map (λ f. lower_singleton f) fs
+singletons_step r = map-zip _ (λ (e : ℕ × Extension). lower_singleton e) (λ f. lower_singleton f) (λ e f z i. to_ascii_lowercase (z.0 i))
 
 -- a part that is looked up
-part_step : {A : Type 0} (T : ℕ → Bool) (part : Option Extension → A) → ((e f : Extension) → SameParts e f → part (Some f) ≡ part (Some e)) → (q : ℕ) (r : TreeRule) (es fs : List (ℕ × Extension)) → Steps r es fs → AllByRecursion (λ e. IsExtension T (singleton e) e.1) es → part (find nat_cmp q (by_singleton fs)) ≡ part (find nat_cmp q (by_singleton es))
+part_step : {A : Type 0} (T : ℕ → Bool) (part : Option Extension → A) → ((e f : Extension) → SameParts e f → part (Some f) ≡ part (Some e)) → (q : ℕ) (r : TreeRule) (es fs : List (ℕ × Extension)) → Steps r es fs → AllByRecursion (λ e. IsExtension T (lower_singleton e) e.1) es → part (find nat_cmp q (by_singleton fs)) ≡ part (find nat_cmp q (by_singleton es))
 part_step T part same q r [] [] z h = refl
 part_step T part same q r (e ∷ es) (f ∷ fs) z h =
     ap (λ c. part (cond (eq_by_cmp nat_cmp q (to_ascii_lowercase c)) (Some f.1) (find nat_cmp q (by_singleton fs)))) (sym z.0.0)
-    ∙ elim (eq_by_cmp nat_cmp q (singleton e)) as (λ b. part (cond b (Some f.1) (find nat_cmp q (by_singleton fs))) ≡ part (cond b (Some e.1) (find nat_cmp q (by_singleton es)))) [ true ↦ same e.1 f.1 (extension_step T (singleton e) z.0.1 h.0).1 | false ↦ part_step T part same q r es fs z.1 h.1 ]
+    ∙ elim (eq_by_cmp nat_cmp q (lower_singleton e)) as (λ b. part (cond b (Some f.1) (find nat_cmp q (by_singleton fs))) ≡ part (cond b (Some e.1) (find nat_cmp q (by_singleton es)))) [ true ↦ same e.1 f.1 (extension_step T (lower_singleton e) z.0.1 h.0).1 | false ↦ part_step T part same q r es fs z.1 h.1 ]
 part_step T part same q r _ _ z h = absurd z
 
-others_step : (T : ℕ → Bool) (r : TreeRule) (es fs : List (ℕ × Extension)) → Steps r es fs → AllByRecursion (λ e. IsExtension T (singleton e) e.1) es → filter_map other_part (by_singleton fs) ≡ filter_map other_part (by_singleton es)
+others_step : (T : ℕ → Bool) (r : TreeRule) (es fs : List (ℕ × Extension)) → Steps r es fs → AllByRecursion (λ e. IsExtension T (lower_singleton e) e.1) es → filter_map other_part (by_singleton fs) ≡ filter_map other_part (by_singleton es)
 others_step T r [] [] z h = refl
-others_step T r (e ∷ es) (f ∷ fs) z h = λ i. cons_option ((ap (λ c. other_part (to_ascii_lowercase c, f.1)) (sym z.0.0) ∙ (extension_step T (singleton e) z.0.1 h.0).1.o (singleton e)) i) (others_step T r es fs z.1 h.1 i)
+others_step T r (e ∷ es) (f ∷ fs) z h = λ i. cons_option ((ap (λ c. other_part (to_ascii_lowercase c, f.1)) (sym z.0.0) ∙ (extension_step T (lower_singleton e) z.0.1 h.0).1.o (lower_singleton e)) i) (others_step T r es fs z.1 h.1 i)
 others_step T r _ _ z h = absurd z
 
 -- blocks in another order
 
-find_blocks : {es fs : List (ℕ × Extension)} → Reordered es fs → AllDifferent nat_cmp (map (λ e. singleton e) es) → (q : ℕ) → find nat_cmp q (by_singleton es) ≡ find nat_cmp q (by_singleton fs)
-find_blocks {es = es} r d q = find_reordered nat_cmp nat_cmp_total q (map_reordered (λ (e : ℕ × Extension). (singleton e, e.1)) r) (subst (AllDifferent nat_cmp) (sym (map-map (λ (e : ℕ × Extension). e.0) (λ e. (singleton e, e.1)) es)) d)
+find_blocks : {es fs : List (ℕ × Extension)} → Reordered es fs → AllDifferent nat_cmp (map (λ e. lower_singleton e) es) → (q : ℕ) → find nat_cmp q (by_singleton es) ≡ find nat_cmp q (by_singleton fs)
+find_blocks {es = es} r d q = find_reordered nat_cmp nat_cmp_total q (map_reordered (λ (e : ℕ × Extension). (lower_singleton e, e.1)) r) (subst (AllDifferent nat_cmp) (sym (map-map (λ (e : ℕ × Extension). e.0) (λ e. (lower_singleton e, e.1)) es)) d)
 
 filter_map_reordered : {X Y : Type 0} (h : X → Option Y) {xs ys : List X} → Reordered xs ys → Reordered (filter_map h xs) (filter_map h ys)
 filter_map_reordered h Reordered.none = Reordered.none
@@ -183,9 +183,9 @@ different_others (e ∷ es) d = at_kind e.1 (different_others es d.1)
     at_kind (other ps) rest = (none_among_others e.0 es d.0, rest)
     at_kind _ rest = rest
 
-others_reordered : {es fs : List (ℕ × Extension)} → Reordered es fs → AllDifferent nat_cmp (map (λ e. singleton e) es) → map_of nat_cmp (filter_map other_part (by_singleton es)) ≡ map_of nat_cmp (filter_map other_part (by_singleton fs))
+others_reordered : {es fs : List (ℕ × Extension)} → Reordered es fs → AllDifferent nat_cmp (map (λ e. lower_singleton e) es) → map_of nat_cmp (filter_map other_part (by_singleton es)) ≡ map_of nat_cmp (filter_map other_part (by_singleton fs))
 others_reordered {es = es} {fs = fs} r d = map_of_same nat_cmp nat_cmp_total nat_cmp-IsAntisymmetric (filter_map other_part (by_singleton es)) (filter_map other_part (by_singleton fs))
-    (λ q. find_reordered nat_cmp nat_cmp_total q (filter_map_reordered other_part (map_reordered (λ (e : ℕ × Extension). (singleton e, e.1)) r)) (different_others (by_singleton es) (subst (AllDifferent nat_cmp) (sym (map-map (λ (e : ℕ × Extension). e.0) (λ e. (singleton e, e.1)) es)) d)))
+    (λ q. find_reordered nat_cmp nat_cmp_total q (filter_map_reordered other_part (map_reordered (λ (e : ℕ × Extension). (lower_singleton e, e.1)) r)) (different_others (by_singleton es) (subst (AllDifferent nat_cmp) (sym (map-map (λ (e : ℕ × Extension). e.0) (λ e. (lower_singleton e, e.1)) es)) d)))
 
 -- written locales of which each part means the same
 pub same_parts : (v w : Written) → normal_identifier v.id ≡ normal_identifier w.id → unicode_part (find nat_cmp 117 (by_singleton v.extensions)) ≡ unicode_part (find nat_cmp 117 (by_singleton w.extensions)) → transform_part (find nat_cmp 116 (by_singleton v.extensions)) ≡ transform_part (find nat_cmp 116 (by_singleton w.extensions)) → private_part v.private ≡ private_part w.private → map_of nat_cmp (filter_map other_part (by_singleton v.extensions)) ≡ map_of nat_cmp (filter_map other_part (by_singleton w.extensions)) → meaning v ≡ meaning w
@@ -194,7 +194,7 @@ same_parts v w i u t x o = λ k. record { id = i k; extensions = record { unicod
 -- a step keeps the rules and the meaning
 pub written_step : (T : ℕ → Bool) {v w : Written} → Step v w → IsWritten T v → IsWritten T w × (meaning w ≡ meaning v)
 written_step T (Step.block_order {i = i} {es = es} {fs = fs} {x = x} r) h = (
-  record { id = h.id; extensions = all_reordered (λ e. IsExtension T (singleton e) e.1) r h.extensions; different = different_reordered nat_cmp nat_cmp_total (map_reordered (λ (e : ℕ × Extension). singleton e) r) h.different; private = h.private },
+  record { id = h.id; extensions = all_reordered (λ e. IsExtension T (lower_singleton e) e.1) r h.extensions; different = different_reordered nat_cmp nat_cmp_total (map_reordered (λ (e : ℕ × Extension). lower_singleton e) r) h.different; private = h.private },
   same_parts (record { id = i; extensions = fs; private = x }) (record { id = i; extensions = es; private = x }) refl (ap unicode_part (sym (find_blocks r h.different 117))) (ap transform_part (sym (find_blocks r h.different 116))) refl (sym (others_reordered r h.different)),
 )
 written_step T (Step.inside r {i = i} {j = j} {es = es} {fs = fs} {x = x} s z) h =

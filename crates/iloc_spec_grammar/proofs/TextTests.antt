@@ -2,7 +2,7 @@
 use Rattle.std.proofs.Common.{◌≡◌, inl, inr, ℕ, Bool, true, List, [], ◌∷◌, Result, Ok, Err, refl, sym, ap, ap₂, ◌∙◌, subst, true≢false}
 use Rattle.std.specs.Result.{is_ok}
 use Rattle.std.proofs.lemmas.Bool.{and_parts, and_from, or_cases, or_left, or_right}
-use Rattle.iloc_spec_grammar.specs.Syntax.{pieces, join, IsTable, lower, IsIdentifier, identifier_pieces}
+use Rattle.iloc_spec_grammar.specs.Syntax.{pieces, join, AreLengths, lower, IsIdentifier, identifier_pieces}
 use Rattle.iloc_spec_grammar.specs.Tree.{IsWritten, spelling, meaning}
 use Rattle.iloc_spec_grammar.specs.Meaning.{normal_identifier, Fault}
 use Rattle.iloc_spec_grammar.specs.Values.{TextStep, IdentifierTextStep, identifier_text}
@@ -41,13 +41,13 @@ read_text : (t : List ℕ) → join (spelling (written_of (pieces t))) ≡ t
 read_text t = ap join (read_spelling t) ∙ join-pieces t
 
 -- of an accepted text it follows the rules
-read_written : (T : ℕ → Bool) → IsTable T → (t : List ℕ) → is_ok (locale_result T t) ≡ true → IsWritten T (written_of (pieces t))
+read_written : (T : ℕ → Bool) → AreLengths T → (t : List ℕ) → is_ok (locale_result T t) ≡ true → IsWritten T (written_of (pieces t))
 read_written T table t e =
     let value = ok_value (locale_result T t) e in
     let m = (computed_tree T table t value.0).0 value.1 in
     subst (IsWritten T) (sym (ap written_of m.spelled ∙ written_of-spelling table m.written m.grammatical)) m.grammatical
 
-text_holds : (T : ℕ → Bool) → IsTable T → (t u : List ℕ) → is_text_step T t u ≡ true → TreeTextStep T t u
+text_holds : (T : ℕ → Bool) → AreLengths T → (t u : List ℕ) → is_text_step T t u ≡ true → TreeTextStep T t u
 unfolding is_text_step
 text_holds T table t u e = elim (or_cases _ _ e) [
   | inl h ↦ TreeTextStep.letter_case ((word_equality (lower t) (lower u)).holds h)
@@ -56,7 +56,7 @@ text_holds T table t u e = elim (or_cases _ _ e) [
       subst (TreeTextStep T t) (read_text u) (TreeTextStep.rewritten (read_written T table t parts.0) (sym (read_spelling t)) ((tests_step (written_of (pieces t)) (written_of (pieces u))).holds parts.1))
 ]
 
-text_passes : (T : ℕ → Bool) → IsTable T → {t u : List ℕ} → TreeTextStep T t u → is_text_step T t u ≡ true
+text_passes : (T : ℕ → Bool) → AreLengths T → {t u : List ℕ} → TreeTextStep T t u → is_text_step T t u ≡ true
 unfolding is_text_step
 text_passes T table {t = t} {u = u} (TreeTextStep.letter_case e) = or_left _ _ ((word_equality (lower t) (lower u)).passes e)
 text_passes T table {t = t} (TreeTextStep.rewritten {v = v} {w = w} g p s) =
@@ -65,7 +65,7 @@ text_passes T table {t = t} (TreeTextStep.rewritten {v = v} {w = w} g p s) =
     let second : written_of (pieces (join (spelling w))) ≡ w = ap written_of (step_pieces t p s) ∙ written_of-spelling table w (written_step T s g).0 in
     or_right _ _ (and_from _ _ (ap is_ok accepted) (ap₂ is_step first second ∙ (tests_step v w).passes s))
 
-pub tests_text_step : (T : ℕ → Bool) → IsTable T → (t u : List ℕ) → Tests (is_text_step T t u) (TextStep T t u)
+pub tests_text_step : (T : ℕ → Bool) → AreLengths T → (t u : List ℕ) → Tests (is_text_step T t u) (TextStep T t u)
 tests_text_step T table t u = record { holds = λ e. step_by_tree table t u (text_holds T table t u e); passes = λ s. text_passes T table (tree_step t u s) }
 
 -- texts of identifiers

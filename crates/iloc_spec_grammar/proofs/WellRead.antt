@@ -7,8 +7,8 @@ use Rattle.std.specs.Cmp.{nat_cmp_total}
 use Rattle.std.specs.FinMap.{is_sorted, find, nat_cmp-IsAntisymmetric}
 use Rattle.std.proofs.lemmas.Bool.Decides.{nat_tests}
 use Rattle.std.proofs.lemmas.Str.Ascii.{lowercase-lowercase}
-use Rattle.iloc_spec_grammar.specs.Syntax.{Kind, Language, Script, Region, Variant, Subtag, UnicodeKey, TransformKey, Attribute, PrivateSubtag, is_word, IsWord, normal, lower, word_cmp, is_true, Identifier, Fields, Unicode, Transform, HasWords, IsIdentifier, IsKeyword, IsOther, kept, is_other_singleton, singleton}
-use Rattle.iloc_spec_grammar.specs.Tree.{Extension, unicode, transform, other, Written, IsUnicodeBlock, IsTransformBlock, IsPrivate, IsExtension, IsWritten, unicode_part, transform_part, private_part, other_part, by_singleton, extensions_meaning, meaning, TreeMeans, IsTreeWellFormed}
+use Rattle.iloc_spec_grammar.specs.Syntax.{Kind, Language, Script, Region, Variant, Subtag, UnicodeKey, TransformKey, Attribute, PrivateSubtag, is_word, IsWord, normal, lower, word_cmp, is_true, Identifier, Fields, Unicode, Transform, HasWords, IsIdentifier, IsKeyword, IsOther, kept, is_other_singleton, lower_singleton, IsPrivate}
+use Rattle.iloc_spec_grammar.specs.Tree.{Extension, unicode, transform, other, Written, IsUnicodeBlock, IsTransformBlock, IsExtension, IsWritten, unicode_part, transform_part, private_part, other_part, by_singleton, extensions_meaning, meaning, TreeMeans, IsTreeWellFormed}
 use Rattle.iloc_spec_grammar.specs.Meaning.{map_of, set_of, normal_identifier, normal_values, normal_fields, normal_unicode, normal_transform, Locale}
 use Rattle.iloc_spec_grammar.specs.Values.{IsNormal, IsAscending, IsIdentifierValue, IsUnicodeValue, IsTransformValue, IsValue}
 use Rattle.iloc_spec_grammar.proofs.WordsLaws.{length-attribute}
@@ -121,15 +121,15 @@ kept_normal (p ∷ ps) = cond_both (is_word Subtag p) _ _ (λ l. AllByRecursion 
 abbrev IsOtherEntry : ℕ × List (List ℕ) → Type 0
 IsOtherEntry o = ((is_other_singleton o.0 ≡ true) × (to_ascii_lowercase o.0 ≡ o.0)) × (0 < length o.1) × AllByRecursion (IsNormal Subtag) o.1
 
-other_entries : (T : ℕ → Bool) (es : List (ℕ × Extension)) → AllByRecursion (λ e. IsExtension T (singleton e) e.1) es → AllByRecursion IsOtherEntry (filter_map other_part (by_singleton es))
+other_entries : (T : ℕ → Bool) (es : List (ℕ × Extension)) → AllByRecursion (λ e. IsExtension T (lower_singleton e) e.1) es → AllByRecursion IsOtherEntry (filter_map other_part (by_singleton es))
 other_entries T [] h = tt
 other_entries T (e ∷ es) h = at_kind e.1 h.0 (other_entries T es h.1)
   where
-    at_kind : (x : Extension) → IsExtension T (singleton e) x → AllByRecursion IsOtherEntry (filter_map other_part (by_singleton es)) → AllByRecursion IsOtherEntry (filter_map other_part ((singleton e, x) ∷ by_singleton es))
+    at_kind : (x : Extension) → IsExtension T (lower_singleton e) x → AllByRecursion IsOtherEntry (filter_map other_part (by_singleton es)) → AllByRecursion IsOtherEntry (filter_map other_part ((lower_singleton e, x) ∷ by_singleton es))
     at_kind (other ps) k rest = (((k.0, lowercase-lowercase e.0), k.1.nonempty, kept_normal ps), rest)
     at_kind _ k rest = rest
 
-private_value : (x : Option (ℕ × List (List ℕ))) → IfSome x (λ e. (singleton e ≡ 120) × IsPrivate e.1) → AllByRecursion (IsNormal PrivateSubtag) (private_part x)
+private_value : (x : Option (ℕ × List (List ℕ))) → IfSome x (λ e. (lower_singleton e ≡ 120) × IsPrivate e.1) → AllByRecursion (IsNormal PrivateSubtag) (private_part x)
 private_value None h = tt
 private_value (Some e) h = all_normal PrivateSubtag e.1 (λ p. refl) h.1.words
 
@@ -138,7 +138,7 @@ module _ {T : ℕ → Bool} (w : Written) (h : IsWritten T w) where
   others = all-map_of nat_cmp nat_cmp-IsAntisymmetric IsOtherEntry _ (other_entries T w.extensions h.extensions)
 
   rules : (q : ℕ) → IfSome (find nat_cmp q (by_singleton w.extensions)) (FollowsRule T)
-  rules q = find_holds (λ c. FollowsRule T) q w.extensions (all_weaker (λ e. IsExtension T (singleton e) e.1) (λ e. FollowsRule T e.1) (λ e k. follows T (singleton e) e.1 k) w.extensions h.extensions)
+  rules q = find_holds (λ c. FollowsRule T) q w.extensions (all_weaker (λ e. IsExtension T (lower_singleton e) e.1) (λ e. FollowsRule T e.1) (λ e k. follows T (lower_singleton e) e.1 k) w.extensions h.extensions)
 
   pub written_value : IsValue T (meaning w)
   written_value = record {

@@ -40,7 +40,7 @@ unfolding lower upper
 lower-upper p = map-then _ _ _ lowercase-uppercase p
 
 pub lower-title : (p : List ℕ) → lower (title p) ≡ lower p
-unfolding lower title
+unfolding lower upper title
 lower-title [] = refl
 lower-title (c ∷ p) = ap₂ ◌∷◌ (lowercase-uppercase c) (map-then _ _ _ lowercase-lowercase p)
 
@@ -49,7 +49,7 @@ unfolding lower upper
 upper-lower p = map-then _ _ _ uppercase-lowercase p
 
 pub title-lower : (p : List ℕ) → title (lower p) ≡ title p
-unfolding lower title
+unfolding lower upper title
 title-lower [] = refl
 title-lower (c ∷ p) = ap₂ ◌∷◌ (uppercase-lowercase c) (map-then _ _ _ lowercase-lowercase p)
 

@@ -6,8 +6,8 @@ use Rattle.std.specs.Char.{is_ascii_alphanumeric}
 use Rattle.std.specs.List.{AllByRecursion}
 use Rattle.std.specs.Ordering.{nat_cmp}
 use Rattle.std.specs.FinMap.{find}
-use Rattle.iloc_spec_grammar.specs.Syntax.{Text, Table, Block, code_t, code_u, code_x, pieces, lower, Unicode, Transform, unicode_pieces, transform_pieces, IsOther, kept, is_other_singleton, AllDifferent, singleton, head, tail_blocks}
-use Rattle.iloc_spec_grammar.specs.Tree.{IsUnicodeBlock, IsTransformBlock, IsPrivate, by_singleton}
+use Rattle.iloc_spec_grammar.specs.Syntax.{Text, LanguageLengths, Block, code_t, code_u, code_x, pieces, lower, Unicode, Transform, unicode_pieces, transform_pieces, IsOther, kept, is_other_singleton, AllDifferent, lower_singleton, head, tail_blocks, IsPrivate}
+use Rattle.iloc_spec_grammar.specs.Tree.{IsUnicodeBlock, IsTransformBlock, by_singleton}
 use Rattle.iloc_spec_grammar.specs.Meaning.{Locale, Extensions, IdentifierMeans, map_of, normal_unicode, normal_transform, no_unicode, no_transform}
 
 -- The rules of the grammar: what the pieces after a singleton mean.
@@ -20,7 +20,7 @@ pub record UnicodeMeans (ps : List Text) (v : Unicode) : Type 0 where
   pub means : v ≡ normal_unicode written
 
 -- after `t`
-pub record TransformMeans (T : Table) (ps : List Text) (n : Transform) : Type 0 where
+pub record TransformMeans (T : LanguageLengths) (ps : List Text) (n : Transform) : Type 0 where
   pub written : Transform
   pub grammatical : IsTransformBlock T written
   pub spelled : ps ≡ transform_pieces written
@@ -42,7 +42,7 @@ pub record Rules : Type 1 where
   pub other : List Text → List Text → Type 0
 
 -- the rules of the grammar, part by part (UTS #35 3.2)
-abbrev pub grammar_rules : Table → Rules
+abbrev pub grammar_rules : LanguageLengths → Rules
 grammar_rules T = record {
   unicode = UnicodeMeans;
   transform = TransformMeans T;
@@ -64,19 +64,20 @@ PartIs Rule empty block v = MatchOption block (v ≡ empty) (λ ps. Rule ps v)
 -- give their parts, and each other one the words that it keeps.
 pub record BlocksGive (R : Rules) (bs : List Block) (e : Extensions) : Type 0 where
   pub letters : AllByRecursion (λ b. is_ascii_alphanumeric b.0 ≡ true) bs
-  pub different : AllDifferent nat_cmp (map (λ b. singleton b) bs)
+  pub different : AllDifferent nat_cmp (map (λ b. lower_singleton b) bs)
   pub unicode : PartIs R.unicode no_unicode (find nat_cmp code_u (by_singleton bs)) e.unicode
-  pub transform : PartIs R.transform no_transform (find nat_cmp code_t (by_singleton bs)) e.transform
+  pub transform : PartIs R.transform no_transform
+      (find nat_cmp code_t (by_singleton bs)) e.transform
   pub private : PartIs R.private [] (find nat_cmp code_x (by_singleton bs)) e.private
   pub each_other : AllByRecursion (λ b. R.other b.1 (kept b.1)) (other_blocks (by_singleton bs))
   pub others : e.others
       ≡ map_of nat_cmp (map (λ b. (b.0, kept b.1)) (other_blocks (by_singleton bs)))
 
 -- The head is an identifier, and the blocks after it give the extensions.
-pub record MeansBy (R : Rules) (T : Table) (t : Text) (M : Locale) : Type 0 where
+pub record MeansBy (R : Rules) (T : LanguageLengths) (t : Text) (M : Locale) : Type 0 where
   pub id : IdentifierMeans T (head (pieces t)) M.id
   pub blocks : BlocksGive R (tail_blocks (pieces t)) M.extensions
 
 -- the text means M by the grammar's rule of each block (UTS #35 3.2, `extensions`)
-abbrev pub MeansByBlocks : Table → Text → Locale → Type 0
+abbrev pub MeansByBlocks : LanguageLengths → Text → Locale → Type 0
 MeansByBlocks T t M = MeansBy (grammar_rules T) T t M

@@ -7,7 +7,7 @@ use Rattle.std.specs.Int.{is_in_range}
 use Rattle.std.specs.List.{list_any, list_all}
 use Rattle.std.specs.Ordering.{nat_cmp, eq_by_cmp}
 use Rattle.std.specs.declared.cmp.Ordering.{Ordering}
-use Rattle.iloc_spec_grammar.specs.Syntax.{Text, Table, Field, Block, code_t, code_u, code_x, pieces, Language, Script, Region, Variant, UnicodeKey, TransformKey, Attribute, PrivateSubtag, is_word, lower, word_cmp, Identifier, Unicode, Transform, kept, is_other_singleton, singleton, first_piece, head, tail_blocks}
+use Rattle.iloc_spec_grammar.specs.Syntax.{Text, LanguageLengths, Field, Block, code_t, code_u, code_x, pieces, Language, Script, Region, Variant, UnicodeKey, TransformKey, Attribute, PrivateSubtag, is_word, lower, word_cmp, Identifier, Unicode, Transform, kept, is_other_singleton, lower_singleton, first_piece, head, tail_blocks}
 use Rattle.iloc_spec_grammar.specs.Tree.{Extension, unicode, transform, other, meaning}
 use Rattle.iloc_spec_grammar.specs.Meaning.{Locale, normal_identifier, Fault, InvalidLanguage, InvalidSubtag, InvalidExtension, DuplicatedExtension}
 use Rattle.iloc_spec_grammar.specs.Values.{text, identifier_text}
@@ -26,12 +26,12 @@ all_different cmp [] = true
 all_different cmp (x ∷ xs) = not (list_any (eq_by_cmp cmp x) xs) && all_different cmp xs
 
 -- computes `HasWords`: whether each piece is a word of its kind
-abbrev pub has_words : Table → Identifier → Bool
+abbrev pub has_words : LanguageLengths → Identifier → Bool
 has_words T i = (is_word (Language T) i.language && holds_if_some (is_word Script) i.script)
     && (holds_if_some (is_word Region) i.region && list_all (is_word Variant) i.variants)
 
 -- computes `IsIdentifier`: such words, no variant twice
-abbrev pub is_identifier : Table → Identifier → Bool
+abbrev pub is_identifier : LanguageLengths → Identifier → Bool
 is_identifier T i = has_words T i && all_different word_cmp (map lower i.variants)
 
 -- computes `IsKeyword`: a key and its values
@@ -48,7 +48,7 @@ abbrev pub is_field : Field → Bool
 is_field f = (is_word TransformKey f.0 && list_all (is_word Attribute) f.1) && nat_lt 0 (length f.1)
 
 -- computes `IsTransformBlock`: perhaps an identifier, and fields, not both absent
-abbrev pub is_transform : Table → Transform → Bool
+abbrev pub is_transform : LanguageLengths → Transform → Bool
 is_transform T m = (holds_if_some (is_identifier T) m.id && list_all is_field m.fields)
     && (is_some m.id || nat_lt 0 (length m.fields))
 
@@ -61,38 +61,38 @@ abbrev pub is_private : List Text → Bool
 is_private ps = list_all (is_word PrivateSubtag) ps && nat_lt 0 (length ps)
 
 -- computes `IsExtension`: the extension follows the rule of its singleton
-abbrev pub is_extension : Table → ℕ → Extension → Bool
+abbrev pub is_extension : LanguageLengths → ℕ → Extension → Bool
 is_extension T c (unicode u) = (c == code_u) && is_unicode u
 is_extension T c (transform m) = (c == code_t) && is_transform T m
 is_extension T c (other ps) = is_other_singleton c && is_other ps
 
 -- computes `IsBlock`: the block follows the rule of its singleton
-abbrev pub is_block : Table → Block → Bool
-is_block T b = ((singleton b == code_x) && is_private b.1)
-    || is_extension T (singleton b) (extension_of (singleton b) b.1)
+abbrev pub is_block : LanguageLengths → Block → Bool
+is_block T b = ((lower_singleton b == code_x) && is_private b.1)
+    || is_extension T (lower_singleton b) (extension_of (lower_singleton b) b.1)
 
 -- computes `RepeatsVariant`: an identifier's front of which a variant stands twice
-abbrev pub repeats_variant : Table → List Text → Bool
+abbrev pub repeats_variant : LanguageLengths → List Text → Bool
 repeats_variant T ps = is_word (Language T) (first_piece ps)
     && not (all_different word_cmp (map lower (front_of ps).variants))
 
 -- Answers.
 
 -- what pieces are as an identifier
-abbrev pub identifier_result : Table → List Text → Result Identifier Fault
+abbrev pub identifier_result : LanguageLengths → List Text → Result Identifier Fault
 identifier_result T ps =
     if not (is_word (Language T) (first_piece ps)) then Err InvalidLanguage else
     if not (is_identifier T (identifier_of ps)) then Err InvalidSubtag else
     Ok (normal_identifier (identifier_of ps))
 
 -- the fault of the first bad block, after blocks with the singletons in seen
-abbrev pub first_fault : Table → Text → List Block → Option Fault
+abbrev pub first_fault : LanguageLengths → Text → List Block → Option Fault
 first_fault T seen [] = None
 first_fault T seen (b ∷ bs) =
     if not (is_ascii_alphanumeric b.0) then Some InvalidExtension else
-    if list_any (eq_by_cmp nat_cmp (singleton b)) seen then Some DuplicatedExtension else
-    if is_block T b then first_fault T (singleton b ∷ seen) bs else
-    if (singleton b == code_t) && repeats_variant T b.1 then Some InvalidSubtag else
+    if list_any (eq_by_cmp nat_cmp (lower_singleton b)) seen then Some DuplicatedExtension else
+    if is_block T b then first_fault T (lower_singleton b ∷ seen) bs else
+    if (lower_singleton b == code_t) && repeats_variant T b.1 then Some InvalidSubtag else
     Some InvalidExtension
 
 -- the value, or the fault if there is one
@@ -101,7 +101,7 @@ unless_fault None x = Ok x
 unless_fault (Some f) x = Err f
 
 -- what a text is as a locale
-unfoldable pub locale_result : Table → Text → Result Locale Fault
+unfoldable pub locale_result : LanguageLengths → Text → Result Locale Fault
 locale_result T t =
     if not (is_word (Language T) (first_piece (pieces t))) then Err InvalidLanguage else
     if not (is_identifier T (identifier_of (head (pieces t)))) then Err InvalidSubtag else

@@ -1,4 +1,5 @@
 pub mod Syntax
+pub mod ShortLists
 -- In the order in which they read.
 pub mod Meaning
 pub mod Tree

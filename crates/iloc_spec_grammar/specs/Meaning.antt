@@ -1,17 +1,18 @@
--- Meaning: what a text stands for. Words are in their normal case; variants and attributes are sets,
--- keywords and fields maps, both as ascending lists; `true` in a value means nothing. Restates the
--- canonical syntax of UTS #35, section 3.2.1. That the first of equal keys stays is what RFC 6067,
--- section 2.1, says after `u`, and the rule of this library after `t`.
+-- Meaning: what a text stands for. Words are in their normal case; variants and attributes are
+-- sets, keywords and fields maps, both as ascending lists; `true` in a value means nothing.
+-- Restates the canonical syntax of UTS #35, section 3.2.1. That the first of equal keys stays is
+-- what RFC 6067, section 2.1, says after `u`, and the rule of this library after `t`.
 use Rattle.std.specs.Prelude.{◌≡◌, ℕ, ◌<◌, ◌==◌, length, flat_map, if◌then◌else◌, not, List, [], ◌∷◌, map, filter, None, option_map, true, false, ◌++◌}
 use Rattle.std.specs.Ordering.{nat_cmp}
 use Rattle.std.specs.declared.cmp.Ordering.{Ordering}
 use Rattle.std.specs.FinMap.{put}
-use Rattle.iloc_spec_grammar.specs.Syntax.{Text, Table, Block, code_t, code_u, code_x, pieces, lower, upper, title, word_cmp, is_true, Language, PrivateSubtag, is_word, IsWord, Identifier, Fields, Unicode, Transform, identifier_pieces, kept, IsIdentifier, singleton, HasWords, AllDifferent, IsUnicode, IsTransform, IsOther, unicode_pieces, transform_pieces, is_other_singleton}
+use Rattle.iloc_spec_grammar.specs.Syntax.{Text, LanguageLengths, Block, code_t, code_u, code_x, pieces, lower, upper, title, word_cmp, is_true, Language, PrivateSubtag, is_word, IsWord, Identifier, Fields, Unicode, Transform, identifier_pieces, kept, IsIdentifier, lower_singleton, HasWords, AllDifferent, IsUnicode, IsTransform, IsOther, unicode_pieces, transform_pieces, is_other_singleton}
 use Rattle.std.specs.Char.{is_ascii_alphanumeric}
 use Rattle.std.specs.List.{list_any, AllByRecursion}
 pub use Rattle.iloc_spec_grammar.specs.Syntax.{is_one_byte, front, blocks, head, tail_blocks, first_piece}
 
--- the map of the entries: by ascending keys (UTS #35 3.2.1), and of equal keys the first stays (RFC 6067, 2.1)
+-- the map of the entries: by ascending keys (UTS #35 3.2.1), and of equal keys the first stays (RFC
+-- 6067, 2.1)
 abbrev pub map_of : {K X : Type 0} → (K → K → Ordering) → List (K × X) → List (K × X)
 map_of cmp [] = []
 map_of cmp (e ∷ es) = put cmp e.0 e.1 (map_of cmp es)
@@ -31,7 +32,8 @@ normal_identifier i = record {
   variants = set_of (map lower i.variants);
 }
 
--- the values in lower case, without any `true` (UTS #35 3.2.1 leaves `true` out if it is the whole value)
+-- the values in lower case, without any `true` (UTS #35 3.2.1 leaves `true` out if it is the whole
+-- value)
 abbrev pub normal_values : List Text → List Text
 normal_values ps = filter (λ w. not (is_true w)) (map lower ps)
 
@@ -61,7 +63,8 @@ pub record Locale : Type 0 where
   pub id : Identifier
   pub extensions : Extensions
 
--- words in lower case, of other extensions those that are kept, by ascending singletons (UTS #35 3.2.1)
+-- words in lower case, of other extensions those that are kept, by ascending singletons (UTS #35
+-- 3.2.1)
 abbrev pub normal_extensions : Extensions → Extensions
 normal_extensions e = record {
   unicode = normal_unicode e.unicode;
@@ -95,7 +98,7 @@ without_extensions i = record { id = i; extensions = no_extensions }
 -- Which pieces and texts have a meaning, and which.
 
 -- the pieces are an identifier that means i
-pub record IdentifierMeans (T : Table) (ps : List Text) (i : Identifier) : Type 0 where
+pub record IdentifierMeans (T : LanguageLengths) (ps : List Text) (i : Identifier) : Type 0 where
   pub written : Identifier
   pub grammatical : IsIdentifier T written
   pub spelled : ps ≡ identifier_pieces written
@@ -103,44 +106,46 @@ pub record IdentifierMeans (T : Table) (ps : List Text) (i : Identifier) : Type 
 
 -- the pieces after the singleton; none if no block has it
 abbrev pub after : ℕ → List Block → List Text
-after c bs = flat_map (λ b. if singleton b == c then b.1 else []) bs
+after c bs = flat_map (λ b. if lower_singleton b == c then b.1 else []) bs
 
 -- What blocks spell: each has a letter or digit for its singleton, and pieces; no singleton stands
--- twice; and the pieces after `u`, `t`, `x` and the others are those of parts that follow their rules
--- (UTS #35 3.2, `extensions` and `pu_extensions`).
-pub record SpellsExtensions (T : Table) (bs : List Block) (e : Extensions) : Type 0 where
+-- twice; and the pieces after `u`, `t`, `x` and the others are those of parts that follow their
+-- rules (UTS #35 3.2, `extensions` and `pu_extensions`).
+pub record SpellsExtensions (T : LanguageLengths) (bs : List Block) (w : Extensions) : Type 0 where
   pub blocks : AllByRecursion (λ b. (is_ascii_alphanumeric b.0 ≡ true) × (0 < length b.1)) bs
-  pub different : AllDifferent nat_cmp (map (λ b. singleton b) bs)
-  pub unicode : IsUnicode e.unicode × (after code_u bs ≡ unicode_pieces e.unicode)
-  pub transform : IsTransform T e.transform × (after code_t bs ≡ transform_pieces e.transform)
-  pub private : AllByRecursion (IsWord PrivateSubtag) e.private × (after code_x bs ≡ e.private)
-  pub others : AllByRecursion (λ o. IsOther o.1) e.others
-      × (filter (λ b. is_other_singleton b.0) (map (λ b. (singleton b, b.1)) bs) ≡ e.others)
+  pub different : AllDifferent nat_cmp (map (λ b. lower_singleton b) bs)
+  pub unicode : IsUnicode w.unicode × (after code_u bs ≡ unicode_pieces w.unicode)
+  pub transform : IsTransform T w.transform × (after code_t bs ≡ transform_pieces w.transform)
+  pub private : AllByRecursion (IsWord PrivateSubtag) w.private × (after code_x bs ≡ w.private)
+  pub others : AllByRecursion (λ o. IsOther o.1) w.others
+      × (filter (λ b. is_other_singleton b.0) (map (λ b. (lower_singleton b, b.1)) bs) ≡ w.others)
 
 -- the blocks mean e: they spell extensions whose normal form it is
-abbrev pub BlocksMean : Table → List Block → Extensions → Type 0
+abbrev pub BlocksMean : LanguageLengths → List Block → Extensions → Type 0
 BlocksMean T bs e = (w : Extensions) × SpellsExtensions T bs w × (e ≡ normal_extensions w)
 
--- the text means M: its head an identifier, and its blocks extensions (UTS #35 3.2, `unicode_locale_id`)
-pub record Means (T : Table) (t : Text) (M : Locale) : Type 0 where
+-- the text means M: its head an identifier, and its blocks extensions (UTS #35 3.2,
+-- `unicode_locale_id`)
+pub record Means (T : LanguageLengths) (t : Text) (M : Locale) : Type 0 where
   pub id : IdentifierMeans T (head (pieces t)) M.id
   pub extensions : BlocksMean T (tail_blocks (pieces t)) M.extensions
 
 -- Faults: why a text is refused, as a property of its head and its blocks. If UTS #35 only says
 -- that a text is not well-formed, this library names one of four faults; which one is its own rule.
 
--- Why a text means nothing. UTS #35 names no faults: these, and which of them is named, follow the Rust crate.
+-- Why a text means nothing. UTS #35 names no faults: these, and which of them is named, follow the
+-- Rust crate.
 pub data Fault : Type 0 where
   InvalidLanguage InvalidSubtag InvalidExtension DuplicatedExtension : Fault
 
 -- Faults of identifiers.
 
 -- the pieces spell an identifier
-abbrev pub SpellsIdentifier : Table → List Text → Type 0
+abbrev pub SpellsIdentifier : LanguageLengths → List Text → Type 0
 SpellsIdentifier T ps = (i : Identifier) × IsIdentifier T i × (ps ≡ identifier_pieces i)
 
 -- why the pieces are no identifier: no language stands first, or else something after it is wrong
-pub data HasIdentifierFault (T : Table) (ps : List Text) : Fault → Type 0 where
+pub data HasIdentifierFault (T : LanguageLengths) (ps : List Text) : Fault → Type 0 where
   not_a_language : is_word (Language T) (first_piece ps) ≡ false
       → HasIdentifierFault T ps InvalidLanguage
   not_an_identifier : IsWord (Language T) (first_piece ps) → ¬ (SpellsIdentifier T ps)
@@ -150,21 +155,21 @@ pub data HasIdentifierFault (T : Table) (ps : List Text) : Fault → Type 0 wher
 
 -- the pieces begin with a language, perhaps a script and a region, and variants, of which one
 -- stands twice
-abbrev pub RepeatsVariant : Table → List Text → Type 0
+abbrev pub RepeatsVariant : LanguageLengths → List Text → Type 0
 RepeatsVariant T ps = (i : Identifier) × (rest : List Text) × HasWords T i
     × (ps ≡ identifier_pieces i ++ rest) × ¬ (AllDifferent word_cmp (map lower i.variants))
 
 -- the blocks follow the rules of their singletons, which differ
-abbrev pub AreBlocks : Table → List Block → Type 0
-AreBlocks T bs = (e : Extensions) × SpellsExtensions T bs e
+abbrev pub AreBlocks : LanguageLengths → List Block → Type 0
+AreBlocks T bs = (w : Extensions) × SpellsExtensions T bs w
 
 -- an earlier block has this singleton
 abbrev pub IsSecond : List Block → Block → Type 0
-IsSecond earlier b = list_any (λ c. singleton b == singleton c) earlier ≡ true
+IsSecond earlier b = list_any (λ c. lower_singleton b == lower_singleton c) earlier ≡ true
 
 -- What is wrong with a block: an earlier one has its singleton; or else a variant is repeated after
 -- `t`; or else the block alone breaks the rule of its singleton, or has none.
-pub data BlockFault (T : Table) (earlier : List Block) (b : Block) : Fault → Type 0 where
+pub data BlockFault (T : LanguageLengths) (earlier : List Block) (b : Block) : Fault → Type 0 where
   duplicated : IsSecond earlier b → BlockFault T earlier b DuplicatedExtension
   repeats_variant : ¬ (IsSecond earlier b) → RepeatsVariant T (after code_t (b ∷ []))
       → BlockFault T earlier b InvalidSubtag
@@ -172,12 +177,12 @@ pub data BlockFault (T : Table) (earlier : List Block) (b : Block) : Fault → T
       → ¬ (AreBlocks T (b ∷ [])) → BlockFault T earlier b InvalidExtension
 
 -- the first bad block from the left has the fault
-abbrev pub HasBlockFault : Table → List Block → Fault → Type 0
+abbrev pub HasBlockFault : LanguageLengths → List Block → Fault → Type 0
 HasBlockFault T bs f = (good : List Block) × (b : Block) × (rest : List Block)
     × (bs ≡ good ++ (b ∷ rest)) × AreBlocks T good × BlockFault T good b f
 
 -- why a text is no locale: its head is no identifier, or a block is bad
-pub data HasFault (T : Table) (t : Text) : Fault → Type 0 where
+pub data HasFault (T : LanguageLengths) (t : Text) : Fault → Type 0 where
   in_head : {f : Fault} → HasIdentifierFault T (head (pieces t)) f → HasFault T t f
   in_block : {f : Fault} → SpellsIdentifier T (head (pieces t))
       → HasBlockFault T (tail_blocks (pieces t)) f → HasFault T t f

@@ -4,7 +4,7 @@
 -- same way. Each loses nothing, and gives back what follows the rules, so the rules have
 -- one reading at most.
 use Rattle.std.specs.Prelude.{◌≡◌, ℕ, ◌≤◌, Bool, true, false, cond, ◌==◌, List, [], ◌∷◌, ◌++◌, length, Option, Some, None}
-use Rattle.iloc_spec_grammar.specs.Syntax.{Text, Table, Block, code_t, code_u, code_x, Script, Region, Variant, TransformKey, is_word, Identifier, Fields, Unicode, Transform, HasWords, identifier_pieces, singleton, is_one_byte, first_piece, head, tail_blocks}
+use Rattle.iloc_spec_grammar.specs.Syntax.{Text, LanguageLengths, Block, code_t, code_u, code_x, Script, Region, Variant, TransformKey, is_word, Identifier, Fields, Unicode, Transform, HasWords, identifier_pieces, lower_singleton, is_one_byte, first_piece, head, tail_blocks}
 use Rattle.iloc_spec_grammar.specs.Tree.{Extension, unicode, transform, other, Written}
 
 -- Lists of pieces.
@@ -77,7 +77,8 @@ unfoldable pub after_front : List Text → List Text
 after_front ps = past (is_word Variant) (after_region ps)
 
 -- the longest front of a language and the words after it
-pub record IdentifierFront (T : Table) (ps : List Text) (i : Identifier) (rest : List Text) : Type 0 where
+pub record IdentifierFront (T : LanguageLengths) (ps : List Text) (i : Identifier)
+    (rest : List Text) : Type 0 where
   pub words : HasWords T i
   pub spelled : ps ≡ identifier_pieces i ++ rest
   pub longest : (j : Identifier) (more : List Text) → HasWords T j
@@ -91,11 +92,10 @@ abbrev pub before_key : (Text → Bool) → List Text → List Text
 before_key test [] = []
 before_key test (p ∷ ps) = cond (test p) [] (p ∷ before_key test ps)
 
--- each key with the pieces up to the next one
+-- each key, as k tells it, with the pieces up to the next one
 abbrev pub fields_from : (Text → Bool) → List Text → Fields
-fields_from test [] = []
-fields_from test (p ∷ ps) = cond (test p) ((p, before_key test ps) ∷ fields_from test ps)
-    (fields_from test ps)
+fields_from k [] = []
+fields_from k (p ∷ ps) = cond (k p) ((p, before_key k ps) ∷ fields_from k ps) (fields_from k ps)
 
 -- Extensions.
 
@@ -134,15 +134,16 @@ extension_of c ps = extension_by (c == code_t) (c == code_u) ps
 -- the extensions of the blocks before the one of `x`, and that one
 abbrev pub extensions_in : List Block → List (ℕ × Extension)
 extensions_in [] = []
-extensions_in (b ∷ bs) = cond (singleton b == code_x) []
-    ((b.0, extension_of (singleton b) b.1) ∷ extensions_in bs)
+extensions_in (b ∷ bs) = cond (lower_singleton b == code_x) []
+    ((b.0, extension_of (lower_singleton b) b.1) ∷ extensions_in bs)
 
 -- the first block of `x`, which is the private part (UTS #35 3.2, `pu_extensions`)
 abbrev pub private_in : List Block → Option Block
 private_in [] = None
-private_in (b ∷ bs) = cond (singleton b == code_x) (Some b) (private_in bs)
+private_in (b ∷ bs) = cond (lower_singleton b == code_x) (Some b) (private_in bs)
 
--- what the pieces are read as, whether or not it follows the rules (UTS #35 3.2, `unicode_locale_id`)
+-- what the pieces are read as, whether or not it follows the rules (UTS #35 3.2,
+-- `unicode_locale_id`)
 unfoldable pub written_of : List Text → Written
 written_of ps = record {
   id = identifier_of (head ps);

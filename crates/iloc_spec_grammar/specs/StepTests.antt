@@ -4,7 +4,7 @@
 use Rattle.std.specs.Prelude.{◌≡◌, ◌↔◌, IsTrue, ℕ, Bool, true, false, not, ◌&&◌, ◌||◌, ◌==◌, List, [], ◌∷◌, length, map, Option, Some, None, nat_lt, if◌then◌else◌}
 use Rattle.std.specs.List.{list_any}
 use Rattle.std.specs.Result.{is_ok}
-use Rattle.iloc_spec_grammar.specs.Syntax.{Text, Table, Field, pieces, Subtag, is_word, lower, is_same, is_true, word_cmp, Identifier, Fields, Unicode, Transform}
+use Rattle.iloc_spec_grammar.specs.Syntax.{Text, LanguageLengths, Field, pieces, Subtag, is_word, lower, is_same, is_true, word_cmp, Identifier, Fields, Unicode, Transform}
 use Rattle.iloc_spec_grammar.specs.Tree.{Extension, unicode, transform, other, Written}
 use Rattle.iloc_spec_grammar.specs.Reading.{identifier_of, written_of}
 use Rattle.iloc_spec_grammar.specs.Computing.{all_different, identifier_result, locale_result}
@@ -184,12 +184,12 @@ is_step v w = option_zip (block_zip same_words) v.private w.private
 
 -- the texts are equal without case; or the first is accepted, and a step leads from what it spells
 -- to what the second spells, which then is accepted too
-unfoldable pub is_text_step : Table → Text → Text → Bool
+unfoldable pub is_text_step : LanguageLengths → Text → Text → Bool
 is_text_step T t u = is_same (lower t) (lower u)
     || (is_ok (locale_result T t) && is_step (written_of (pieces t)) (written_of (pieces u)))
 
 -- the same for the text of an identifier
-unfoldable pub is_identifier_text_step : Table → Text → Text → Bool
+unfoldable pub is_identifier_text_step : LanguageLengths → Text → Text → Bool
 is_identifier_text_step T t u =
     is_same (lower t) (lower u)
     || (is_ok (identifier_result T (pieces t))

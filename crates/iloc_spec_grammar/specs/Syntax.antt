@@ -1,6 +1,6 @@
--- Syntax: what texts are made of. First the shapes that all definitions speak of; then the pieces of
--- a text, its blocks, its words, and the parts that it spells. Restates UTS #35, section 3.
-use Rattle.std.specs.Prelude.{ℕ, Bool, List, ◌==◌, ◌≡◌, [], ◌∷◌, flat_map, ◌≢◌, false, cond, length, ◌-◌, ◌≤◌, ⊤, true, ◌&&◌, ◌||◌, ◌++◌, map, replicate, slice_index, Option, Some, None, Result, Ok, Err, if◌then◌else◌, codes, ◌<◌, not, filter, IfSome, option_to_list}
+-- Syntax: what texts are made of. First the shapes that all definitions speak of; then the pieces
+-- of a text, its blocks, its words, and the parts that it spells. Restates UTS #35, section 3.
+use Rattle.std.specs.Prelude.{ℕ, take, drop, Bool, List, ◌==◌, ◌≡◌, [], ◌∷◌, flat_map, ◌≢◌, false, cond, length, ◌-◌, ◌≤◌, ⊤, true, ◌&&◌, ◌||◌, ◌++◌, map, replicate, slice_index, Option, Some, None, Result, Ok, Err, if◌then◌else◌, codes, ◌<◌, not, filter, IfSome, option_to_list}
 use Rattle.std.specs.List.{slice_split, join_with_byte, list_any, AllByRecursion, list_all}
 use Rattle.std.specs.Char.{to_ascii_lowercase, is_ascii_alphabetic, is_ascii_digit, is_ascii_alphanumeric, to_ascii_uppercase}
 use Rattle.std.specs.Int.{is_in_range}
@@ -13,8 +13,8 @@ abbrev pub Text : Type 0
 Text = List ℕ
 
 -- which lengths a language may have (UTS #35 3.1, `unicode_language_subtag`)
-abbrev pub Table : Type 0
-Table = ℕ → Bool
+abbrev pub LanguageLengths : Type 0
+LanguageLengths = ℕ → Bool
 
 -- a key and the pieces after it, as `ca-islamic-civil` (UTS #35 3.2, `ufield` and `tfield`)
 abbrev pub Field : Type 0
@@ -28,7 +28,8 @@ Block = ℕ × List Text
 abbrev pub code_t : ℕ
 code_t = 116
 
--- the byte of `u`, whose extension has attributes and keywords (UTS #35 3.2, `unicode_locale_extensions`)
+-- the byte of `u`, whose extension has attributes and keywords (UTS #35 3.2,
+-- `unicode_locale_extensions`)
 abbrev pub code_u : ℕ
 code_u = 117
 
@@ -39,7 +40,8 @@ code_x = 120
 -- Pieces: a text is cut at its hyphens, and at nothing else. Restates how UTS #35, section 3,
 -- separates subtags; its other separator, the underscore, is none here. A text is a list of bytes.
 
--- the text split at each hyphen (45; UTS #35 3.1, `sep`): `en--us` has three pieces, the empty text one
+-- the text split at each hyphen (45; UTS #35 3.1, `sep`): `en--us` has three pieces, the empty text
+-- one
 unfoldable pub pieces : Text → List Text
 pieces t = slice_split (λ b. b == 45) t
 
@@ -74,7 +76,8 @@ front [] = []
 front (p ∷ ps) = cond (length p == 1) [] (p ∷ front ps)
 
 -- A block is a piece of one byte, its singleton, and the pieces up to the next such piece; that of
--- `x` takes all the rest (UTS #35 3.2, `pu_extensions`). Pieces before the first block are passed over.
+-- `x` takes all the rest (UTS #35 3.2, `pu_extensions`). Pieces before the first block are passed
+-- over.
 abbrev pub blocks : List Text → List Block
 blocks [] = []
 blocks ([] ∷ ps) = blocks ps
@@ -82,7 +85,8 @@ blocks ((c ∷ []) ∷ ps) = cond (to_ascii_lowercase c == code_x) ((c, ps) ∷ 
     ((c, front ps) ∷ blocks ps)
 blocks ((c ∷ d ∷ p) ∷ ps) = blocks ps
 
--- the first piece, and those after it up to the first of one byte (UTS #35 3.2, `unicode_locale_id`)
+-- the first piece, and those after it up to the first of one byte (UTS #35 3.2,
+-- `unicode_locale_id`)
 abbrev pub head : List Text → List Text
 head [] = []
 head (p ∷ ps) = p ∷ front ps
@@ -103,25 +107,25 @@ first_piece (p ∷ ps) = p
 -- of letters in its canonical syntax. Letters and digits are those of ASCII; a word is a list of
 -- bytes.
 
--- The kinds of words (UTS #35 3.1 and 3.2). Which lengths a language may have is a table.
+-- The kinds of words (UTS #35 3.1 and 3.2). Which lengths a language may have is given.
 pub data Kind : Type 0 where
-  Language : Table → Kind
+  Language : LanguageLengths → Kind
   Script Region Variant Subtag UnicodeKey TransformKey Attribute PrivateSubtag SubdivisionSuffix
       CurrencyType : Kind
 
--- Tables of the lengths of languages.
+-- Lengths of languages.
 
--- what every table keeps to: a language is no singleton and no script
-pub record IsTable (T : Table) : Type 0 where
+-- what such lengths keep to: a language is no singleton and no script
+pub record AreLengths (T : LanguageLengths) : Type 0 where
   pub least : (n : ℕ) → T n ≡ true → 2 ≤ n
   pub most : (n : ℕ) → T n ≡ true → n ≤ 8
   pub no_script : (n : ℕ) → T n ≡ true → n ≢ 4
 
--- the narrow table: 2 or 3 letters, as in the Rust crate
+-- the narrow lengths: 2 or 3 letters, as in the Rust crate
 abbrev pub two_or_three : ℕ → Bool
 two_or_three n = is_in_range 2 3 n
 
--- the wide table, which is that of this library: 2 to 8 letters, but not 4 (UTS #35 3.1)
+-- the wide lengths, which are those of this library: 2 to 8 letters, but not 4 (UTS #35 3.1)
 unfoldable pub languages : ℕ → Bool
 languages n = is_in_range 2 3 n || is_in_range 5 8 n
 
@@ -140,8 +144,8 @@ abbrev pub letters_or_digits : Text → Bool
 letters_or_digits p = list_all is_ascii_alphanumeric p
 
 -- Whether the piece is a word of the kind: `en`, `Latn`, `US` or `419`, `posix` or `1994`, any
--- subtag, `ca`, `m0`, and so on (UTS #35 3.1: language, script, region, variant; 3.2: the others; 3.6.5:
--- subdivisions). A variant of four begins with a digit, so that it is no script.
+-- subtag, `ca`, `m0`, and so on (UTS #35 3.1: language, script, region, variant; 3.2: the others;
+-- 3.6.5: subdivisions). A variant of four begins with a digit, so that it is no script.
 unfoldable pub is_word : Kind → Text → Bool
 is_word (Language T) p = T (length p) && letters p
 is_word Script p = (length p == 4) && letters p
@@ -174,8 +178,7 @@ upper p = map to_ascii_uppercase p
 
 -- the first letter in upper case, the others in lower case (UTS #35 3.2.1)
 unfoldable pub title : Text → Text
-title [] = []
-title (c ∷ p) = to_ascii_uppercase c ∷ map to_ascii_lowercase p
+title p = upper (take 1 p) ++ lower (drop 1 p)
 
 -- the piece in the case of the kind: `Latn`, `US`, and all else in lower case (UTS #35 3.2.1)
 abbrev pub normal : Kind → Text → Text
@@ -207,7 +210,7 @@ is_true w = is_same (codes "true") w
 
 -- Raw forms.
 
--- the table allows no language longer than n
+-- no language is longer than n
 abbrev pub EndsAt : ℕ → (ℕ → Bool) → Type 0
 EndsAt n T = (m : ℕ) → T m ≡ true → m ≤ n
 
@@ -231,12 +234,12 @@ Bounds n _ = ⊤
 abbrev pub raw : ℕ → Kind → Text → Text
 raw n k w = w ++ replicate (greatest n k - length w) 0
 
--- over the wide table, where a language takes eight bytes; and over the narrow one, where it takes
--- three
+-- with the wide lengths, where a language takes eight bytes; and with the narrow ones, where it
+-- takes three
 abbrev pub wide_raw : Kind → Text → Text
 wide_raw k w = raw 8 k w
 
--- over the narrow table, where a language takes three bytes
+-- with the narrow lengths, where a language takes three bytes
 abbrev pub narrow_raw : Kind → Text → Text
 narrow_raw k w = raw 3 k w
 
@@ -252,14 +255,16 @@ before_zero (b ∷ bytes) = if b == 0 then [] else b ∷ before_zero bytes
 
 -- The shapes.
 
--- `en-Latn-US-posix`: a language, perhaps a script and a region, and variants (UTS #35 3.1, `unicode_language_id`)
+-- `en-Latn-US-posix`: a language, perhaps a script and a region, and variants (UTS #35 3.1,
+-- `unicode_language_id`)
 pub record Identifier : Type 0 where
   pub language : Text
   pub script : Option Text
   pub region : Option Text
   pub variants : List Text
 
--- fields: keys, each with the pieces after it, as `ca-islamic-civil` (UTS #35 3.2, `ufield` and `tfield`)
+-- fields: keys, each with the pieces after it, as `ca-islamic-civil` (UTS #35 3.2, `ufield` and
+-- `tfield`)
 abbrev pub Fields : Type 0
 Fields = List Field
 
@@ -305,14 +310,14 @@ AllDifferent cmp [] = ⊤
 AllDifferent cmp (x ∷ xs) = (list_any (eq_by_cmp cmp x) xs ≡ false) × AllDifferent cmp xs
 
 -- each piece is a word of its kind (UTS #35 3.1)
-pub record HasWords (T : Table) (i : Identifier) : Type 0 where
+pub record HasWords (T : LanguageLengths) (i : Identifier) : Type 0 where
   pub language : IsWord (Language T) i.language
   pub script : IfSome i.script (IsWord Script)
   pub region : IfSome i.region (IsWord Region)
   pub variants : AllByRecursion (IsWord Variant) i.variants
 
 -- such words, no variant twice in whatever case (UTS #35 3.1, `unicode_language_id`)
-pub record IsIdentifier (T : Table) (i : Identifier) : Type 0 where
+pub record IsIdentifier (T : LanguageLengths) (i : Identifier) : Type 0 where
   pub words : HasWords T i
   pub different : AllDifferent word_cmp (map lower i.variants)
 
@@ -330,23 +335,32 @@ pub record IsUnicode (u : Unicode) : Type 0 where
   pub keywords : AllByRecursion IsKeyword u.keywords
 
 -- perhaps an identifier, and fields (UTS #35 3.2, `transformed_extensions`)
-pub record IsTransform (T : Table) (m : Transform) : Type 0 where
+pub record IsTransform (T : LanguageLengths) (m : Transform) : Type 0 where
   pub id : IfSome m.id (IsIdentifier T)
   pub fields : AllByRecursion IsField m.fields
 
--- the words among the pieces, in lower case; the other pieces mean nothing (not in UTS #35: the Rust crate's rule)
+-- the words among the pieces, in lower case; the other pieces mean nothing (not in UTS #35: the
+-- Rust crate's rule)
 abbrev pub kept : List Text → List Text
 kept ps = map lower (filter (is_word Subtag) ps)
 
--- pieces of 2 to 8 bytes, of which one at least is a word (UTS #35 3.2, `other_extensions`, asks that each is)
+-- pieces of 2 to 8 bytes, of which one at least is a word (UTS #35 3.2, `other_extensions`, asks
+-- that each is)
 pub record IsOther (ps : List Text) : Type 0 where
   pub lengths : AllByRecursion (λ p. is_in_range 2 8 (length p) ≡ true) ps
   pub nonempty : 0 < length (kept ps)
 
--- of a singleton in lower case: a letter or digit other than `t`, `u` and `x`, which have rules of their own (UTS #35 3.2)
-abbrev pub is_other_singleton : ℕ → Bool
-is_other_singleton c = is_ascii_alphanumeric c && not (((c == code_t) || (c == code_u)) || (c == code_x))
+-- what follows `x`: private words, one at least (UTS #35 3.2, `pu_extensions`)
+pub record IsPrivate (ps : List Text) : Type 0 where
+  pub words : AllByRecursion (IsWord PrivateSubtag) ps
+  pub nonempty : 0 < length ps
 
--- a singleton in lower case, of an extension or a block (UTS #35 3.2.1)
-abbrev pub singleton : {X : Type 0} → ℕ × X → ℕ
-singleton e = to_ascii_lowercase e.0
+-- of a singleton in lower case: a letter or digit other than `t`, `u` and `x`, which have rules of
+-- their own (UTS #35 3.2)
+abbrev pub is_other_singleton : ℕ → Bool
+is_other_singleton c =
+    is_ascii_alphanumeric c && not (((c == code_t) || (c == code_u)) || (c == code_x))
+
+-- the singleton of an extension or a block, in lower case (UTS #35 3.2.1)
+abbrev pub lower_singleton : {X : Type 0} → ℕ × X → ℕ
+lower_singleton e = to_ascii_lowercase e.0

@@ -1,13 +1,13 @@
--- The tree of a text: the same grammar told another way. A text spells a tree, which has a meaning, or
--- its first bad block is found from the left. No contract of a type rests on it. Proofs do, since a tree
--- can be taken apart case by case: SameMeaning, SameFaults and SameText show that it agrees with the
--- definitions of Meaning and Values.
+-- The tree of a text: the same grammar told another way. A text spells a tree, which has a meaning,
+-- or its first bad block is found from the left. No contract of a type rests on it. Proofs do,
+-- since a tree can be taken apart case by case: SameMeaning, SameFaults and SameText show that it
+-- agrees with the definitions of Meaning and Values.
 use Rattle.std.specs.Prelude.{◌≡◌, ℕ, ◌+◌, ◌<◌, true, false, ◌||◌, List, [], ◌∷◌, ◌++◌, length, map, filter, filter_map, flat_map, Option, Some, None, IfSome, option_map, option_to_list, is_some, nat_le, nat_lt, if◌then◌else◌, ◌⊎◌}
 use Rattle.std.specs.Char.{is_ascii_alphanumeric}
 use Rattle.std.specs.List.{AllByRecursion, list_any}
 use Rattle.std.specs.Ordering.{nat_cmp, eq_by_cmp}
 use Rattle.std.specs.FinMap.{find}
-use Rattle.iloc_spec_grammar.specs.Syntax.{Text, Table, Block, code_t, code_u, code_x, join, pieces, lower, Language, PrivateSubtag, Attribute, IsKeyword, IsField, is_word, IsWord, Identifier, Unicode, Transform, identifier_pieces, unicode_pieces, transform_pieces, kept, IsIdentifier, IsOther, is_other_singleton, singleton, AllDifferent, head, tail_blocks, first_piece}
+use Rattle.iloc_spec_grammar.specs.Syntax.{Text, LanguageLengths, Block, code_t, code_u, code_x, join, pieces, lower, Language, Attribute, IsKeyword, IsField, is_word, IsWord, Identifier, Unicode, Transform, identifier_pieces, unicode_pieces, transform_pieces, kept, IsIdentifier, IsOther, IsPrivate, is_other_singleton, lower_singleton, AllDifferent, head, tail_blocks, first_piece}
 use Rattle.iloc_spec_grammar.specs.Meaning.{Locale, Extensions, map_of, normal_identifier, normal_unicode, normal_transform, no_unicode, no_transform, Fault, InvalidLanguage, InvalidSubtag, InvalidExtension, DuplicatedExtension, SpellsIdentifier, RepeatsVariant}
 use Rattle.iloc_spec_grammar.specs.Values.{AreWellFormed, lower_identifier, spelled_fields}
 
@@ -20,12 +20,13 @@ pub record IsUnicodeBlock (u : Unicode) : Type 0 where
   pub nonempty : 0 < length u.attributes + length u.keywords
 
 -- perhaps an identifier, and fields, not both absent (UTS #35 3.2, `transformed_extensions`)
-pub record IsTransformBlock (T : Table) (m : Transform) : Type 0 where
+pub record IsTransformBlock (T : LanguageLengths) (m : Transform) : Type 0 where
   pub id : IfSome m.id (IsIdentifier T)
   pub fields : AllByRecursion IsField m.fields
   pub nonempty : m.id ≡ None → 0 < length m.fields
 
--- what follows a singleton other than `x` (UTS #35 3.2, `extensions`); of another extension it is any pieces
+-- what follows a singleton other than `x` (UTS #35 3.2, `extensions`); of another extension it is
+-- any pieces
 pub data Extension : Type 0 where
   unicode : Unicode → Extension
   transform : Transform → Extension
@@ -60,23 +61,20 @@ block_pieces b = (b.0 ∷ []) ∷ b.1
 abbrev pub spelling : Written → List Text
 spelling w = identifier_pieces w.id ++ flat_map block_pieces (blocks_of w)
 
--- private words, one at least (UTS #35 3.2, `pu_extensions`)
-pub record IsPrivate (ps : List Text) : Type 0 where
-  pub words : AllByRecursion (IsWord PrivateSubtag) ps
-  pub nonempty : 0 < length ps
-
--- the extension follows the rule of its singleton, which is given in lower case (UTS #35 3.2, `extensions`)
-abbrev pub IsExtension : Table → ℕ → Extension → Type 0
+-- the extension follows the rule of its singleton, which is given in lower case (UTS #35 3.2,
+-- `extensions`)
+abbrev pub IsExtension : LanguageLengths → ℕ → Extension → Type 0
 IsExtension T c (unicode u) = (c ≡ code_u) × IsUnicodeBlock u
 IsExtension T c (transform m) = (c ≡ code_t) × IsTransformBlock T m
 IsExtension T c (other ps) = (is_other_singleton c ≡ true) × IsOther ps
 
--- an identifier, extensions of different singletons, and perhaps a private part (UTS #35 3.2, `unicode_locale_id`)
-pub record IsWritten (T : Table) (w : Written) : Type 0 where
+-- an identifier, extensions of different singletons, and perhaps a private part (UTS #35 3.2,
+-- `unicode_locale_id`)
+pub record IsWritten (T : LanguageLengths) (w : Written) : Type 0 where
   pub id : IsIdentifier T w.id
-  pub extensions : AllByRecursion (λ e. IsExtension T (singleton e) e.1) w.extensions
-  pub different : AllDifferent nat_cmp (map (λ e. singleton e) w.extensions)
-  pub private : IfSome w.private (λ e. (singleton e ≡ code_x) × IsPrivate e.1)
+  pub extensions : AllByRecursion (λ e. IsExtension T (lower_singleton e) e.1) w.extensions
+  pub different : AllDifferent nat_cmp (map (λ e. lower_singleton e) w.extensions)
+  pub private : IfSome w.private (λ e. (lower_singleton e ≡ code_x) × IsPrivate e.1)
 
 -- What it means.
 
@@ -102,7 +100,7 @@ other_part _ = None
 
 -- extensions by their singletons in lower case (UTS #35 3.2.1)
 abbrev pub by_singleton : {X : Type 0} → List (ℕ × X) → List (ℕ × X)
-by_singleton es = map (λ e. (singleton e, e.1)) es
+by_singleton es = map (λ e. (lower_singleton e, e.1)) es
 
 -- the parts are those of `u`, of `t`, of the private part and of the others
 abbrev pub extensions_meaning : Written → Extensions
@@ -119,7 +117,7 @@ meaning w = record { id = normal_identifier w.id; extensions = extensions_meanin
 
 -- the text is a locale that means M: some written locale follows the rules, is spelled by its
 -- pieces, and means M
-pub record TreeMeans (T : Table) (t : Text) (M : Locale) : Type 0 where
+pub record TreeMeans (T : LanguageLengths) (t : Text) (M : Locale) : Type 0 where
   pub written : Written
   pub grammatical : IsWritten T written
   pub spelled : pieces t ≡ spelling written
@@ -128,9 +126,9 @@ pub record TreeMeans (T : Table) (t : Text) (M : Locale) : Type 0 where
 -- Faults.
 
 -- the block follows the rule of its singleton, which for `x` is that of the private part
-abbrev pub IsBlock : Table → Block → Type 0
-IsBlock T b = ((singleton b ≡ code_x) × IsPrivate b.1)
-    ⊎ ((e : Extension) × IsExtension T (singleton b) e × (b.1 ≡ extension_pieces e))
+abbrev pub IsBlock : LanguageLengths → Block → Type 0
+IsBlock T b = ((lower_singleton b ≡ code_x) × IsPrivate b.1)
+    ⊎ ((e : Extension) × IsExtension T (lower_singleton b) e × (b.1 ≡ extension_pieces e))
 
 -- the block's singleton is a letter or digit
 abbrev pub HasSingleton : Block → Type 0
@@ -138,30 +136,34 @@ HasSingleton b = is_ascii_alphanumeric b.0 ≡ true
 
 -- no earlier block has this singleton; seen are those of the earlier blocks
 abbrev pub IsNew : Text → Block → Type 0
-IsNew seen b = list_any (eq_by_cmp nat_cmp (singleton b)) seen ≡ false
+IsNew seen b = list_any (eq_by_cmp nat_cmp (lower_singleton b)) seen ≡ false
 
 -- What is wrong with a block, after blocks with the singletons in seen. The singleton comes first:
 -- it is a letter or digit, and new. Then a repeated variant after `t`; and then all else.
-pub data TreeBlockFault (T : Table) (seen : Text) (b : Block) : Fault → Type 0 where
+pub data TreeBlockFault (T : LanguageLengths) (seen : Text) (b : Block) : Fault → Type 0 where
   no_singleton : is_ascii_alphanumeric b.0 ≡ false → TreeBlockFault T seen b InvalidExtension
-  duplicated : HasSingleton b → list_any (eq_by_cmp nat_cmp (singleton b)) seen ≡ true
+  duplicated : HasSingleton b → list_any (eq_by_cmp nat_cmp (lower_singleton b)) seen ≡ true
       → TreeBlockFault T seen b DuplicatedExtension
-  repeats_variant : HasSingleton b → IsNew seen b → singleton b ≡ code_t → RepeatsVariant T b.1
+  repeats_variant : HasSingleton b → IsNew seen b → lower_singleton b ≡ code_t
+      → RepeatsVariant T b.1
       → TreeBlockFault T seen b InvalidSubtag
-  breaks_rule : HasSingleton b → IsNew seen b → ¬ ((singleton b ≡ code_t) × RepeatsVariant T b.1)
+  breaks_rule : HasSingleton b → IsNew seen b
+      → ¬ ((lower_singleton b ≡ code_t) × RepeatsVariant T b.1)
       → ¬ (IsBlock T b) → TreeBlockFault T seen b InvalidExtension
 
 -- the blocks before this one are good, and it has the fault
-pub data FirstBadBlock (T : Table) : Text → List Block → Fault → Type 0 where
+pub data FirstBadBlock (T : LanguageLengths) : Text → List Block → Fault → Type 0 where
   here : {seen : Text} {b : Block} {bs : List Block} {f : Fault} → TreeBlockFault T seen b f
       → FirstBadBlock T seen (b ∷ bs) f
   later : {seen : Text} {b : Block} {bs : List Block} {f : Fault} → HasSingleton b → IsNew seen b
-      → IsBlock T b → FirstBadBlock T (singleton b ∷ seen) bs f → FirstBadBlock T seen (b ∷ bs) f
+      → IsBlock T b → FirstBadBlock T (lower_singleton b ∷ seen) bs f
+      → FirstBadBlock T seen (b ∷ bs) f
 
 -- Why a text is no locale: no language stands first; or the head is no identifier; or the first bad
 -- block from the left has the fault.
-pub data HasTreeFault (T : Table) (t : Text) : Fault → Type 0 where
-  no_language : is_word (Language T) (first_piece (pieces t)) ≡ false → HasTreeFault T t InvalidLanguage
+pub data HasTreeFault (T : LanguageLengths) (t : Text) : Fault → Type 0 where
+  no_language : is_word (Language T) (first_piece (pieces t)) ≡ false
+      → HasTreeFault T t InvalidLanguage
   no_identifier : IsWord (Language T) (first_piece (pieces t))
       → ¬ (SpellsIdentifier T (head (pieces t))) → HasTreeFault T t InvalidSubtag
   bad_block : {f : Fault} → SpellsIdentifier T (head (pieces t))
@@ -207,7 +209,8 @@ abbrev pub after_t : List Block → List Block
 after_t [] = []
 after_t (o ∷ os) = if nat_le o.0 code_t then after_t os else o ∷ os
 
--- the extensions in the order in which they are printed (UTS #35 3.2.1): others up to `t`, `t`, `u`, other others
+-- the extensions in the order in which they are printed (UTS #35 3.2.1): others up to `t`, `t`,
+-- `u`, other others
 abbrev pub extensions_form : Extensions → List (ℕ × Extension)
 extensions_form e = others_form (before_t e.others)
     ++ (transform_form e.transform ++ (unicode_form e.unicode ++ others_form (after_t e.others)))

@@ -1,8 +1,9 @@
--- Steps of the tree: the eight ways to change an accepted text, as changes of the tree that it spells.
--- No contract of a type rests on them: SameSteps shows that they agree with those of Values.
+-- Steps of the tree: the eight ways to change an accepted text, as changes of the tree that it
+-- spells. No contract of a type rests on them: SameSteps shows that they agree with those of
+-- Values.
 use Rattle.std.specs.Prelude.{◌≡◌, ℕ, ◌<◌, true, List, [], ◌∷◌, length, map, Option, Some, Bool, not}
 use Rattle.std.specs.List.{list_any, AllZip}
-use Rattle.iloc_spec_grammar.specs.Syntax.{Text, Table, Block, Field, join, pieces, Subtag, lower, word_cmp, is_true, is_word, is_same, Identifier, Fields, identifier_pieces, AllDifferent, IsIdentifier}
+use Rattle.iloc_spec_grammar.specs.Syntax.{Text, LanguageLengths, Block, Field, join, pieces, Subtag, lower, word_cmp, is_true, is_word, is_same, Identifier, Fields, identifier_pieces, AllDifferent, IsIdentifier}
 use Rattle.iloc_spec_grammar.specs.Values.{Reordered, identifier_text}
 use Rattle.iloc_spec_grammar.specs.Tree.{Extension, unicode, transform, other, Written, spelling, IsWritten}
 
@@ -13,7 +14,8 @@ pub data TreeWithout {X : Type 0} (test : X → Bool) : List X → List X → Ty
   left_out : {x : X} {xs ys : List X} → test x ≡ true → TreeWithout test xs ys
       → TreeWithout test (x ∷ xs) ys
 
--- ys is xs without some items whose key, in lower case, an earlier kept item has, or the list seen has
+-- ys is xs without some items whose key, in lower case, an earlier kept item has, or the list seen
+-- has
 pub data WithoutRepeats {X : Type 0} (key : X → Text) : List Text → List X → List X → Type 0 where
   none : {seen : List Text} → WithoutRepeats key seen [] []
   kept : {seen : List Text} {x : X} {xs ys : List X}
@@ -35,15 +37,15 @@ pub data TreeRule : Type 0 where
   VariantOrder AttributeOrder FieldOrder Repeats Trues DroppedPieces : TreeRule
 
 -- an identifier but for its variants
-abbrev pub with_variants : Text → Option Text → Option Text → List Text → Identifier
-with_variants l s r vs = record { language = l; script = s; region = r; variants = vs }
+abbrev pub identifier_with : Text → Option Text → Option Text → List Text → Identifier
+identifier_with l s r vs = record { language = l; script = s; region = r; variants = vs }
 
 -- a step inside an identifier, if it has one: other steps leave it as it is
 pub data TreeIdentifierStep : TreeRule → Identifier → Identifier → Type 0 where
   same : {r : TreeRule} {i : Identifier} → TreeIdentifierStep r i i
   -- `en-posix-macos` to `en-macos-posix`
   variants : {l : Text} {s r : Option Text} {vs ws : List Text} → Reordered vs ws
-      → TreeIdentifierStep VariantOrder (with_variants l s r vs) (with_variants l s r ws)
+      → TreeIdentifierStep VariantOrder (identifier_with l s r vs) (identifier_with l s r ws)
 
 -- what follows `u`, and what follows `t`
 abbrev pub unicode_extension : List Text → Fields → Extension
@@ -102,14 +104,14 @@ pub data Step : Written → Written → Type 0 where
 
 -- one step leads from the text t to u: in the case of letters, or by a step of what it spells,
 -- which follows the rules
-pub data TreeTextStep (T : Table) (t : Text) : Text → Type 0 where
+pub data TreeTextStep (T : LanguageLengths) (t : Text) : Text → Type 0 where
   -- `EN-us` to `en-US`
   letter_case : {u : Text} → lower t ≡ lower u → TreeTextStep T t u
   rewritten : {v w : Written} → IsWritten T v → pieces t ≡ spelling v → Step v w
       → TreeTextStep T t (join (spelling w))
 
 -- the same for the text of an identifier: in the case of letters, or in the order of variants
-pub data TreeIdentifierTextStep (T : Table) (t : Text) : Text → Type 0 where
+pub data TreeIdentifierTextStep (T : LanguageLengths) (t : Text) : Text → Type 0 where
   letter_case : {u : Text} → lower t ≡ lower u → TreeIdentifierTextStep T t u
   variant_order : {i j : Identifier} → IsIdentifier T i → pieces t ≡ identifier_pieces i
       → TreeIdentifierStep VariantOrder i j → TreeIdentifierTextStep T t (identifier_text j)

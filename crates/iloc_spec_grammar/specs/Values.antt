@@ -2,12 +2,12 @@
 -- that of the canonical syntax of UTS #35, section 3.2.1: one case for each kind of word, variants,
 -- attributes, keys and singletons in ascending order, and no value `true` (but in a field of `t`,
 -- which has no other empty value). It is defined for values that are not well-formed too.
-use Rattle.std.specs.Prelude.{◌≡◌, ◌≢◌, ℕ, ◌<◌, ◌≤◌, true, false, List, [], ◌∷◌, ◌++◌, length, map, flat_map, IfSome, option_map, option_to_list, nat_le, codes, if◌then◌else◌, ◌⊎◌, zero, suc, Bool, not}
+use Rattle.std.specs.Prelude.{◌≡◌, ◌↔◌, ◌≢◌, ℕ, ◌<◌, ◌≤◌, true, false, List, [], ◌∷◌, ◌++◌, length, map, flat_map, IfSome, option_map, option_to_list, nat_le, codes, if◌then◌else◌, ◌⊎◌, zero, suc, Bool, not}
 use Rattle.std.specs.Char.{to_ascii_lowercase}
 use Rattle.std.specs.List.{AllByRecursion, list_any, AllZip}
 use Rattle.std.specs.FinMap.{is_sorted}
 use Rattle.std.specs.Ordering.{nat_cmp}
-use Rattle.iloc_spec_grammar.specs.Syntax.{Text, Table, Block, code_t, code_u, code_x, Field, join, pieces, head, tail_blocks, Kind, Language, Script, Region, Variant, Subtag, UnicodeKey, TransformKey, Attribute, PrivateSubtag, IsWord, normal, lower, word_cmp, is_true, is_word, is_same, languages, Identifier, Fields, Unicode, Transform, optional_pieces, unicode_pieces, transform_pieces, is_other_singleton, identifier_pieces, fields_pieces, AllDifferent, HasWords, IsIdentifier, IsUnicode, IsTransform}
+use Rattle.iloc_spec_grammar.specs.Syntax.{Text, LanguageLengths, Block, code_t, code_u, code_x, Field, join, pieces, head, tail_blocks, Kind, Language, Script, Region, Variant, Subtag, UnicodeKey, TransformKey, Attribute, PrivateSubtag, IsWord, normal, lower, word_cmp, is_true, is_word, is_same, languages, Identifier, Fields, Unicode, Transform, optional_pieces, unicode_pieces, transform_pieces, is_other_singleton, identifier_pieces, fields_pieces, AllDifferent, HasWords, IsIdentifier, IsUnicode, IsTransform}
 use Rattle.iloc_spec_grammar.specs.Meaning.{Locale, Extensions, Means}
 
 -- What the types keep.
@@ -21,14 +21,15 @@ abbrev pub IsAscending : List Text → Type 0
 IsAscending ws = is_sorted word_cmp (map (λ w. (w, tt {0})) ws) ≡ true
 
 -- normal words, the variants a set (UTS #35 3.1, `unicode_language_id`)
-pub record IsIdentifierValue (T : Table) (i : Identifier) : Type 0 where
+pub record IsIdentifierValue (T : LanguageLengths) (i : Identifier) : Type 0 where
   pub language : IsNormal (Language T) i.language
   pub script : IfSome i.script (IsNormal Script)
   pub region : IfSome i.region (IsNormal Region)
   pub variants : AllByRecursion (IsNormal Variant) i.variants
   pub ascending : IsAscending i.variants
 
--- a set of attributes, and a map from keys to lists of subtags (UTS #35 3.2, `unicode_locale_extensions`)
+-- a set of attributes, and a map from keys to lists of subtags (UTS #35 3.2,
+-- `unicode_locale_extensions`)
 pub record IsUnicodeValue (u : Unicode) : Type 0 where
   pub attributes : AllByRecursion (IsNormal Attribute) u.attributes
   pub ascending : IsAscending u.attributes
@@ -36,24 +37,25 @@ pub record IsUnicodeValue (u : Unicode) : Type 0 where
       (λ f. IsNormal UnicodeKey f.0 × AllByRecursion (IsNormal Subtag) f.1) u.keywords
   pub keys_ascend : is_sorted word_cmp u.keywords ≡ true
 
--- perhaps an identifier, and a map from keys to lists of subtags of three bytes or more other than `true`
-pub record IsTransformValue (T : Table) (m : Transform) : Type 0 where
+-- perhaps an identifier, and a map from keys to lists of subtags of three bytes or more other than
+-- `true`
+pub record IsTransformValue (T : LanguageLengths) (m : Transform) : Type 0 where
   pub id : IfSome m.id (IsIdentifierValue T)
   pub fields : AllByRecursion
       (λ f. IsNormal TransformKey f.0
       × AllByRecursion (λ w. IsNormal Attribute w × (is_true w ≡ false)) f.1) m.fields
   pub keys_ascend : is_sorted word_cmp m.fields ≡ true
 
--- The others are a list, with any bytes for singletons. (The type keeps letters and digits; callers may
--- build what no text means, as an other extension of `t`.)
-pub record IsExtensionsValue (T : Table) (e : Extensions) : Type 0 where
+-- The others are a list in any order, with any bytes for singletons: callers may build what no text
+-- means, as an other extension of `t`.
+pub record IsExtensionsValue (T : LanguageLengths) (e : Extensions) : Type 0 where
   pub unicode : IsUnicodeValue e.unicode
   pub transform : IsTransformValue T e.transform
   pub private : AllByRecursion (IsNormal PrivateSubtag) e.private
   pub others : AllByRecursion (λ o. AllByRecursion (IsNormal Subtag) o.1) e.others
 
 -- what a locale in memory stands for: normal words, ascending sets and maps, in each part
-pub record IsValue (T : Table) (M : Locale) : Type 0 where
+pub record IsValue (T : LanguageLengths) (M : Locale) : Type 0 where
   pub id : IsIdentifierValue T M.id
   pub extensions : IsExtensionsValue T M.extensions
 
@@ -80,9 +82,9 @@ spelled_fields fs = map (λ f. (f.0, spelled_value f.1)) fs
 -- the block of `t` as it is printed: after a singleton all is in lower case (RFC 5646, 2.1.1)
 abbrev pub transform_block : Transform → Block
 transform_block m =
-    (code_t, map lower (optional_pieces m.id) ++ fields_pieces (map (λ f. (f.0, spelled_value f.1)) m.fields))
+    (code_t, map lower (optional_pieces m.id) ++ fields_pieces (spelled_fields m.fields))
 
--- the blocks bs among the others: before the first of these whose singleton is above `t` (UTS #35 3.2.1)
+-- the others, with the blocks bs before the first whose singleton is above `t` (UTS #35 3.2.1)
 abbrev pub before_above : List Block → List Block → List Block
 before_above bs [] = bs
 before_above bs (o ∷ os) = if nat_le o.0 code_t then o ∷ before_above bs os else bs ++ (o ∷ os)
@@ -92,7 +94,8 @@ abbrev pub printed_pieces : Block → List Text
 printed_pieces (c, []) = []
 printed_pieces (c, p ∷ ps) = (c ∷ []) ∷ p ∷ ps
 
--- all that follows the identifier: others up to `t`, `t`, `u`, other others, and `x` (UTS #35 3.2.1)
+-- all that follows the identifier: others up to `t`, `t`, `u`, other others, and `x` (UTS #35
+-- 3.2.1)
 unfoldable pub extensions_spelling : Extensions → List Text
 extensions_spelling e = flat_map printed_pieces
     (before_above (transform_block e.transform ∷ (code_u, unicode_pieces e.unicode) ∷ []) e.others
@@ -186,7 +189,8 @@ pub data Reordered {X : Type 0} : List X → List X → Type 0 where
   first_two : {x y : X} {xs : List X} → Reordered (x ∷ y ∷ xs) (y ∷ x ∷ xs)
   in_turn : {xs ys zs : List X} → Reordered xs ys → Reordered ys zs → Reordered xs zs
 
--- ys is xs without some items: one may go if the test holds of the items kept before it (last first) and of it
+-- ys is xs with some items left out; an item may go if the test holds of what is kept before it,
+-- last first, and of it
 pub data Without {X : Type 0} (may_go : List X → X → Bool) : List X → List X → List X → Type 0 where
   none : {before : List X} → Without may_go before [] []
   kept : {before : List X} {x : X} {xs ys : List X} → Without may_go (x ∷ before) xs ys
@@ -196,19 +200,18 @@ pub data Without {X : Type 0} (may_go : List X → X → Bool) : List X → List
 
 -- The steps.
 
--- each step but that in the case of letters follows one rule, in as many places as wanted
+-- seven rules, and with the case of letters eight ways; a step follows one, in as many places as
+-- wanted
 pub data Rule : Type 0 where
   BlockOrder VariantOrder AttributeOrder FieldOrder Repeats Trues DroppedPieces : Rule
 
--- some items are left out whose key an earlier one has, in whatever case
+-- some items are left out whose key, given by k, an earlier one has, in whatever case
 abbrev pub LessRepeats : {X : Type 0} → (X → Text) → List X → List X → Type 0
-LessRepeats key xs ys =
-    Without (λ before x. list_any (λ y. is_same (lower (key x)) (lower (key y))) before) [] xs ys
+LessRepeats k = Without (λ before x. list_any (λ y. is_same (lower (k x)) (lower (k y))) before) []
 
--- some values that are `true` are left out, and so many stay at least
+-- some values that are `true` are left out, and n stay at least
 abbrev pub LessTrue : ℕ → Field → Field → Type 0
-LessTrue least f g =
-    (f.0 ≡ g.0) × Without (λ before w. is_true (lower w)) [] f.1 g.1 × (least ≤ length g.1)
+LessTrue n f g = (f.0 ≡ g.0) × Without (λ before w. is_true (lower w)) [] f.1 g.1 × (n ≤ length g.1)
 
 -- the variants of an identifier: `posix-macos` to `macos-posix`
 abbrev pub VariantsStep : Rule → List Text → List Text → Type 0
@@ -221,25 +224,26 @@ AttributesStep AttributeOrder vs ws = Reordered vs ws
 AttributesStep Repeats vs ws = LessRepeats (λ w. w) vs ws
 AttributesStep r vs ws = vs ≡ ws
 
--- the fields of a block: `hc-h12-ca-foo` to `ca-foo-hc-h12` if all keys differ, `ca-foo-ca-bar` to
--- `ca-foo`, or `ca-foo-true` to `ca-foo`
+-- the fields of a block, each with n values at least: `hc-h12-ca-foo` to `ca-foo-hc-h12` if all
+-- keys differ, `ca-foo-ca-bar` to `ca-foo`, or `ca-foo-true` to `ca-foo`
 abbrev pub FieldsStep : Rule → ℕ → Fields → Fields → Type 0
-FieldsStep FieldOrder least fs gs = AllDifferent word_cmp (map (λ f. lower f.0) fs) × Reordered fs gs
-FieldsStep Repeats least fs gs = LessRepeats (λ f. f.0) fs gs
-FieldsStep Trues least fs gs = AllZip (LessTrue least) fs gs
-FieldsStep r least fs gs = fs ≡ gs
+FieldsStep FieldOrder n fs gs = AllDifferent word_cmp (map (λ f. lower f.0) fs) × Reordered fs gs
+FieldsStep Repeats n fs gs = LessRepeats (λ f. f.0) fs gs
+FieldsStep Trues n fs gs = AllZip (LessTrue n) fs gs
+FieldsStep r n fs gs = fs ≡ gs
 
 -- j is i with other variants: `en-posix-macos` to `en-macos-posix`
 abbrev pub IdentifierStep : Rule → Identifier → Identifier → Type 0
-IdentifierStep r i j = (j ≡ record i { variants = j.variants }) × VariantsStep r i.variants j.variants
+IdentifierStep r i j = (j ≡ record i { variants = j.variants })
+    × VariantsStep r i.variants j.variants
 
--- a step inside a block, which keeps its singleton, or none: a field of `t` keeps a value
-pub data BlockStep (T : Table) (r : Rule) : Block → Block → Type 0 where
+-- what a rule does inside a block, whose singleton stays; a block may also stay as it is, and in a
+-- field of `t` one value stays at least
+pub data BlockStep (T : LanguageLengths) (r : Rule) : Block → Block → Type 0 where
   same : {b : Block} → BlockStep T r b b
   -- `u-foo-bar` to `u-bar-foo`
   unicode : {c : ℕ} (u v : Unicode) → to_ascii_lowercase c ≡ code_u → IsUnicode u
-      → AttributesStep r u.attributes v.attributes
-      → FieldsStep r 0 u.keywords v.keywords
+      → AttributesStep r u.attributes v.attributes → FieldsStep r 0 u.keywords v.keywords
       → BlockStep T r (c, unicode_pieces u) (c, unicode_pieces v)
   -- `t-m0-foo-true` to `t-m0-foo`
   transform : {c : ℕ} (m n : Transform) → to_ascii_lowercase c ≡ code_t → IsTransform T m
@@ -251,14 +255,15 @@ pub data BlockStep (T : Table) (r : Rule) : Block → Block → Type 0 where
       → r ≡ DroppedPieces → Without (λ before p. not (is_word Subtag p)) [] ps qs
       → BlockStep T r (c, ps) (c, qs)
 
--- the blocks in another order, as `u-ca-foo-a-bar` to `a-bar-u-ca-foo`, or a step inside some of them
-abbrev pub BlocksStep : Table → Rule → List Block → List Block → Type 0
+-- the blocks in another order, as `u-ca-foo-a-bar` to `a-bar-u-ca-foo`, or a step inside some of
+-- them
+abbrev pub BlocksStep : LanguageLengths → Rule → List Block → List Block → Type 0
 BlocksStep T BlockOrder bs cs = Reordered bs cs
 BlocksStep T r bs cs = AllZip (BlockStep T r) bs cs
 
--- one step leads from the text t to u: in the case of letters, as `EN-us` to `en-US`, or by a rule in
--- the identifier and the blocks of an accepted text
-pub data TextStep (T : Table) (t u : Text) : Type 0 where
+-- one step leads from the text t to u: in the case of letters, as `EN-us` to `en-US`, or by a rule
+-- in the identifier and the blocks of an accepted text
+pub data TextStep (T : LanguageLengths) (t u : Text) : Type 0 where
   letter_case : lower t ≡ lower u → TextStep T t u
   rewritten : (r : Rule) {M : Locale} {i j : Identifier} → Means T t M → HasWords T i
       → head (pieces t) ≡ identifier_pieces i → head (pieces u) ≡ identifier_pieces j
@@ -266,7 +271,7 @@ pub data TextStep (T : Table) (t u : Text) : Type 0 where
       → TextStep T t u
 
 -- the same for the texts of identifiers: in the case of letters, or in the order of variants
-pub data IdentifierTextStep (T : Table) (t u : Text) : Type 0 where
+pub data IdentifierTextStep (T : LanguageLengths) (t u : Text) : Type 0 where
   letter_case : lower t ≡ lower u → IdentifierTextStep T t u
   variant_order : {i j : Identifier} → IsIdentifier T i → pieces t ≡ identifier_pieces i
       → pieces u ≡ identifier_pieces j → IdentifierStep VariantOrder i j → IdentifierTextStep T t u
@@ -283,3 +288,22 @@ pub record LeadToOne (R : Text → Text → Type 0) (n : ℕ) (t u : Text) : Typ
   pub end : Text
   pub first : Leads R n t end
   pub second : Leads R n u end
+
+-- Normal texts.
+
+-- t is the normal text of input, given what each text says, how that is printed, and which steps
+-- rewrite texts (canonical syntax, UTS #35 3.2.1)
+pub record IsNormalizedFrom {X : Type 0} (Says : Text → X → Type 0) (print : X → Text)
+    (Step : Text → Text → Type 0) (n : ℕ) (input t : Text) : Type 0 where
+  -- the text of its meaning
+  pub text_is : (M : X) × Says input M × (t ≡ print M)
+  -- which is its own normal text
+  pub again : (M : X) × Says t M × (t ≡ print M)
+  -- an accepted text u means what the input means exactly if t is its normal text
+  pub same : (u : Text) (L M : X) → Says input L → Says u M → (L ≡ M) ↔ (t ≡ print M)
+  -- and no text that means the same is shorter
+  pub shortest : (u : Text) (M : X) → Says input M → Says u M → length t ≤ length u
+  -- n steps of rewriting at most lead here
+  pub steps : Leads Step n input t
+  -- so every accepted text means the same exactly if such steps lead both to one text
+  pub together : (u : Text) (L M : X) → Says input L → Says u M → (L ≡ M) ↔ LeadToOne Step n input u

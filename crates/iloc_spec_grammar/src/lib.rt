@@ -16,7 +16,7 @@ pub mod rewriting;
 ghost use Rattle.std.specs.Prelude.{◌≡◌, ◌↔◌, ◌⊎◌, ℕ, ◌+◌, ◌≤◌, true, ◌||◌, List, [], ◌∷◌, ◌++◌, length, replicate, nat_lt, is_some, option_map, Some, if◌then◌else◌, Ok, Err, MatchResult, codes, map};
 ghost use Rattle.std.specs.FinMap.{find, is_sorted};
 ghost use Rattle.std.specs.List.{list_any};
-ghost use Rattle.iloc_spec_grammar.specs.Syntax.{Text, Table, Block, code_t, code_u, code_x, pieces, join, dashes, ArePieces, Kind, Language, IsTable, two_or_three, languages, IsWord, is_word, normal, lower, word, word_cmp, is_same, EndsAt, greatest, Bounds, raw, wide_raw, narrow_raw, before_zero, Identifier, Fields, Unicode, Transform, AllDifferent, HasWords, identifier_pieces, unicode_pieces, transform_pieces, head, IsUnicode, IsTransform};
+ghost use Rattle.iloc_spec_grammar.specs.Syntax.{Text, LanguageLengths, Block, code_t, code_u, code_x, pieces, join, dashes, ArePieces, Kind, Language, AreLengths, two_or_three, languages, IsWord, is_word, normal, lower, word, word_cmp, is_same, EndsAt, greatest, Bounds, raw, wide_raw, narrow_raw, before_zero, Identifier, Fields, Unicode, Transform, AllDifferent, HasWords, identifier_pieces, unicode_pieces, transform_pieces, head, IsUnicode, IsTransform};
 ghost use Rattle.iloc_spec_grammar.specs.Meaning.{map_of, set_of, Locale, Means, IdentifierMeans, Fault, InvalidLanguage, InvalidSubtag, InvalidExtension, DuplicatedExtension, HasFault, HasIdentifierFault};
 ghost use Rattle.iloc_spec_grammar.specs.Examples.{Normalises, IsRefused, NormalisesIdentifier, IsRefusedIdentifier};
 ghost use Rattle.iloc_spec_grammar.specs.Values.{Reordered, AreWellFormed, TextStep, IdentifierTextStep, Leads, LeadToOne, IsNormal, IsAscending, IsIdentifierValue, IsValue, IsWellFormed, lower_identifier, spelled_fields, text, unicode_spelling, transform_spelling, other_spelling, private_spelling, extensions_spelling, identifier_text};
@@ -64,8 +64,8 @@ pub fn raw_forms()
 /// Both tables are tables, the wide one has each length of the narrow one, and they end at eight and at three.
 #[tactic(auto, using(crate::proofs::RawLaws::narrow_table, crate::proofs::RawLaws::languages_table, crate::proofs::RawLaws::narrow_in_wide, crate::proofs::RawLaws::wide_ends, crate::proofs::RawLaws::narrow_ends))]
 pub fn tables()
-    ensures narrow { IsTable two_or_three }
-    ensures wide { IsTable languages }
+    ensures narrow { AreLengths two_or_three }
+    ensures wide { AreLengths languages }
     ensures wider { (n : ℕ) → two_or_three n ≡ true → languages n ≡ true }
     ensures wide_ends { EndsAt 8 languages }
     ensures narrow_ends { EndsAt 3 two_or_three }
@@ -73,7 +73,7 @@ pub fn tables()
 
 /// Pieces have one meaning as an identifier.
 pub fn one_identifier()
-    ensures { (T : Table) (ps : List Text) (i j : Identifier) → IdentifierMeans T ps i
+    ensures { (T : LanguageLengths) (ps : List Text) (i j : Identifier) → IdentifierMeans T ps i
         → IdentifierMeans T ps j → i ≡ j }
 {}
 
@@ -109,66 +109,73 @@ pub fn sets()
 pub fn well_formed()
     ensures tests { (M : Locale) → IsValue languages M
         → IsWellFormed M ↔ AreWellFormed M.extensions }
-    ensures each_table { (T : Table) → IsTable T → (M : Locale) → IsValue T M
+    ensures each_table { (T : LanguageLengths) → AreLengths T → (M : Locale) → IsValue T M
         → Means T (text M) M ↔ AreWellFormed M.extensions }
 {}
 
 /// The text of a well-formed value means the value, over each table; so the normal text of what a text means has the same meaning.
 pub fn reads_back()
-    ensures again { (T : Table) → IsTable T → (t : Text) (M : Locale) → Means T t M
+    ensures again { (T : LanguageLengths) → AreLengths T → (t : Text) (M : Locale) → Means T t M
         → Means T (text M) M }
-    ensures back { (T : Table) → IsTable T → (M : Locale) → IsValue T M → IsWellFormed M
+    ensures back { (T : LanguageLengths) → AreLengths T → (M : Locale) → IsValue T M
+        → IsWellFormed M
         → Means T (text M) M }
 {}
 
 /// A text means one value at most.
 pub fn one_meaning()
-    ensures { (T : Table) → IsTable T → (t : Text) (L M : Locale) → Means T t L → Means T t M
+    ensures { (T : LanguageLengths) → AreLengths T → (t : Text) (L M : Locale) → Means T t L
+        → Means T t M
         → L ≡ M }
 {}
 
 /// Each text is a locale or has a fault, never both, and one fault at most.
 pub fn accepted_or_one_fault()
-    ensures either { (T : Table) (t : Text)
+    ensures either { (T : LanguageLengths) (t : Text)
         → ((M : Locale) × Means T t M) ⊎ ((f : Fault) × HasFault T t f) }
-    ensures apart { (T : Table) → IsTable T → (t : Text) (M : Locale) (f : Fault) → Means T t M
+    ensures apart { (T : LanguageLengths) → AreLengths T → (t : Text) (M : Locale) (f : Fault)
+        → Means T t M
         → HasFault T t f → ⊥ }
-    ensures one { (T : Table) (t : Text) (f g : Fault) → HasFault T t f → HasFault T t g → f ≡ g }
+    ensures one { (T : LanguageLengths) (t : Text) (f g : Fault) → HasFault T t f → HasFault T t g
+        → f ≡ g }
 {}
 
 /// What is read is a well-formed value.
 pub fn read_is_well_formed()
-    ensures value { (T : Table) (t : Text) (M : Locale) → Means T t M → IsValue T M }
-    ensures well_formed { (T : Table) → IsTable T → (t : Text) (M : Locale) → Means T t M
+    ensures value { (T : LanguageLengths) (t : Text) (M : Locale) → Means T t M → IsValue T M }
+    ensures well_formed { (T : LanguageLengths) → AreLengths T → (t : Text) (M : Locale)
+        → Means T t M
         → IsWellFormed M }
-    ensures tests { (T : Table) (t : Text) (M : Locale) → Means T t M
+    ensures tests { (T : LanguageLengths) (t : Text) (M : Locale) → Means T t M
         → AreWellFormed M.extensions }
 {}
 
 /// A step keeps the meaning and does not lengthen the text.
 pub fn steps()
-    ensures mean { (T : Table) → IsTable T → (t u : Text) (M : Locale) → TextStep T t u
+    ensures mean { (T : LanguageLengths) → AreLengths T → (t u : Text) (M : Locale) → TextStep T t u
         → Means T t M → Means T u M }
-    ensures shorten { (T : Table) (t u : Text) → TextStep T t u → length u ≤ length t }
+    ensures shorten { (T : LanguageLengths) (t u : Text) → TextStep T t u → length u ≤ length t }
 {}
 
 /// At most eight steps lead from each accepted text to the printed one, which no text of its meaning is shorter than; two accepted texts mean the same exactly if such steps lead both to one text.
 pub fn chain()
-    ensures steps { (T : Table) (t : Text) (M : Locale) → Means T t M
+    ensures steps { (T : LanguageLengths) (t : Text) (M : Locale) → Means T t M
         → Leads (TextStep T) 8 t (text M) }
-    ensures shortest { (T : Table) (t : Text) (M : Locale) → Means T t M
+    ensures shortest { (T : LanguageLengths) (t : Text) (M : Locale) → Means T t M
         → length (text M) ≤ length t }
-    ensures same { (T : Table) → IsTable T → (t u : Text) (L M : Locale) → Means T t L → Means T u M
+    ensures same { (T : LanguageLengths) → AreLengths T → (t u : Text) (L M : Locale) → Means T t L
+        → Means T u M
         → (L ≡ M) ↔ LeadToOne (TextStep T) 8 t u }
 {}
 
 /// Over a wider table of languages each word, identifier and text keeps its meaning: what the narrow table accepts, this library accepts with the same locale, and so with the same normal text.
 pub fn wider()
-    ensures words { (T U : Table) → ((n : ℕ) → T n ≡ true → U n ≡ true) → (p : Text)
+    ensures words { (T U : LanguageLengths) → ((n : ℕ) → T n ≡ true → U n ≡ true) → (p : Text)
         → IsWord (Language T) p → IsWord (Language U) p }
-    ensures identifiers { (T U : Table) → ((n : ℕ) → T n ≡ true → U n ≡ true)
+    ensures identifiers { (T U : LanguageLengths) → ((n : ℕ) → T n ≡ true → U n ≡ true)
         → (ps : List Text) (i : Identifier) → IdentifierMeans T ps i → IdentifierMeans U ps i }
-    ensures texts { (T U : Table) → ((n : ℕ) → T n ≡ true → U n ≡ true) → (t : Text) (M : Locale)
+    ensures texts { (T U : LanguageLengths) → ((n : ℕ) → T n ≡ true → U n ≡ true)
+        → (t : Text) (M : Locale)
         → Means T t M → Means U t M }
     ensures ours { (t : Text) (M : Locale) → Means two_or_three t M → Means languages t M }
 {}
@@ -177,52 +184,59 @@ pub fn wider()
 pub fn printing()
     ensures injective { (L M : Locale) → IsWellFormed L → IsWellFormed M → text L ≡ text M
         → L ≡ M }
-    ensures same { (T : Table) → IsTable T → (t u : Text) (L M : Locale) → Means T t L → Means T u M
+    ensures same { (T : LanguageLengths) → AreLengths T → (t u : Text) (L M : Locale) → Means T t L
+        → Means T u M
         → (L ≡ M) ↔ (text L ≡ text M) }
 {}
 
 /// What is read as an identifier is a value, and the text of a value means it; so texts of identifiers mean the same exactly if the texts of their meanings are equal, and the text of a meaning is its own.
 pub fn identifier_texts()
-    ensures value { (T : Table) (ps : List Text) (i : Identifier) → IdentifierMeans T ps i
+    ensures value { (T : LanguageLengths) (ps : List Text) (i : Identifier) → IdentifierMeans T ps i
         → IsIdentifierValue T i }
-    ensures back { (T : Table) (i : Identifier) → IsIdentifierValue T i
+    ensures back { (T : LanguageLengths) (i : Identifier) → IsIdentifierValue T i
         → IdentifierMeans T (pieces (identifier_text i)) i }
-    ensures again { (T : Table) (t : Text) (i : Identifier) → IdentifierMeans T (pieces t) i
+    ensures again { (T : LanguageLengths) (t : Text) (i : Identifier)
+        → IdentifierMeans T (pieces t) i
         → IdentifierMeans T (pieces (identifier_text i)) i }
-    ensures injective { (T : Table) (i j : Identifier) → IsIdentifierValue T i
+    ensures injective { (T : LanguageLengths) (i j : Identifier) → IsIdentifierValue T i
         → IsIdentifierValue T j → identifier_text i ≡ identifier_text j → i ≡ j }
-    ensures same { (T : Table) (t u : Text) (i j : Identifier) → IdentifierMeans T (pieces t) i
+    ensures same { (T : LanguageLengths) (t u : Text) (i j : Identifier)
+        → IdentifierMeans T (pieces t) i
         → IdentifierMeans T (pieces u) j → (i ≡ j) ↔ (identifier_text i ≡ identifier_text j) }
 {}
 
 /// A step in the case of letters or in the order of the variants keeps the meaning and the length of an identifier's text.
 pub fn identifier_steps()
-    ensures mean { (T : Table) (t u : Text) (i : Identifier) → IdentifierTextStep T t u
+    ensures mean { (T : LanguageLengths) (t u : Text) (i : Identifier) → IdentifierTextStep T t u
         → IdentifierMeans T (pieces t) i → IdentifierMeans T (pieces u) i }
-    ensures long { (T : Table) (t u : Text) → IdentifierTextStep T t u → length u ≡ length t }
+    ensures long { (T : LanguageLengths) (t u : Text) → IdentifierTextStep T t u
+        → length u ≡ length t }
 {}
 
 /// At most two steps lead from each identifier's text to the text of its meaning, so all texts of a meaning are as long; two mean the same exactly if such steps lead both to one text.
 pub fn identifier_chain()
-    ensures steps { (T : Table) (t : Text) (i : Identifier) → IdentifierMeans T (pieces t) i
+    ensures steps { (T : LanguageLengths) (t : Text) (i : Identifier)
+        → IdentifierMeans T (pieces t) i
         → Leads (IdentifierTextStep T) 2 t (identifier_text i) }
-    ensures long { (T : Table) (t : Text) (i : Identifier) → IdentifierMeans T (pieces t) i
+    ensures long { (T : LanguageLengths) (t : Text) (i : Identifier)
+        → IdentifierMeans T (pieces t) i
         → length (identifier_text i) ≡ length t }
-    ensures same { (T : Table) (t u : Text) (i j : Identifier) → IdentifierMeans T (pieces t) i
+    ensures same { (T : LanguageLengths) (t u : Text) (i j : Identifier)
+        → IdentifierMeans T (pieces t) i
         → IdentifierMeans T (pieces u) j → (i ≡ j) ↔ LeadToOne (IdentifierTextStep T) 2 t u }
 {}
 
 /// Each text is an identifier or has a fault as one, never both, and one fault at most; so too for the head of a text.
 pub fn identifier_or_one_fault()
-    ensures either { (T : Table) (t : Text)
+    ensures either { (T : LanguageLengths) (t : Text)
         → ((i : Identifier) × IdentifierMeans T (pieces t) i)
         ⊎ ((f : Fault) × HasIdentifierFault T (pieces t) f) }
-    ensures head { (T : Table) (t : Text)
+    ensures head { (T : LanguageLengths) (t : Text)
         → ((i : Identifier) × IdentifierMeans T (head (pieces t)) i)
         ⊎ ((f : Fault) × HasIdentifierFault T (head (pieces t)) f) }
-    ensures apart { (T : Table) (ps : List Text) (i : Identifier) (f : Fault)
+    ensures apart { (T : LanguageLengths) (ps : List Text) (i : Identifier) (f : Fault)
         → IdentifierMeans T ps i → HasIdentifierFault T ps f → ⊥ }
-    ensures one { (T : Table) (ps : List Text) (f g : Fault) → HasIdentifierFault T ps f
+    ensures one { (T : LanguageLengths) (ps : List Text) (f g : Fault) → HasIdentifierFault T ps f
         → HasIdentifierFault T ps g → f ≡ g }
 {}
 

@@ -4,7 +4,7 @@
 //! (`ByBlocks`). Or plain programs compute what it means (`Reading`, `Computing`). Proofs go by the one that fits best.
 
 ghost use Rattle.std.specs.Prelude.{◌≡◌, ◌↔◌, List, ◌∷◌, ◌++◌, Ok, Err, MatchResult};
-ghost use Rattle.iloc_spec_grammar.specs.Syntax.{Text, Table, pieces, IsTable, Identifier, Unicode, Transform, HasWords, IsUnicode, IsTransform, identifier_pieces, unicode_pieces, transform_pieces};
+ghost use Rattle.iloc_spec_grammar.specs.Syntax.{Text, LanguageLengths, pieces, AreLengths, Identifier, Unicode, Transform, HasWords, IsUnicode, IsTransform, identifier_pieces, unicode_pieces, transform_pieces};
 ghost use Rattle.iloc_spec_grammar.specs.Meaning.{Locale, Means, IdentifierMeans, Fault, HasFault, HasIdentifierFault};
 ghost use Rattle.iloc_spec_grammar.specs.Values.{text};
 ghost use Rattle.iloc_spec_grammar.specs.Tree.{TreeMeans, HasTreeFault, tree_text};
@@ -14,14 +14,15 @@ ghost use Rattle.iloc_spec_grammar.specs.Computing.{identifier_result, locale_re
 
 /// A text means a value exactly if a tree that it spells does. From the tree, languages are those of a table.
 pub fn same_meaning()
-    ensures tree { (T : Table) (t : Text) (M : Locale) → Means T t M → TreeMeans T t M }
-    ensures blocks { (T : Table) → IsTable T → (t : Text) (M : Locale) → TreeMeans T t M
+    ensures tree { (T : LanguageLengths) (t : Text) (M : Locale) → Means T t M → TreeMeans T t M }
+    ensures blocks { (T : LanguageLengths) → AreLengths T → (t : Text) (M : Locale)
+        → TreeMeans T t M
         → Means T t M }
 {}
 
 /// A text has the fault that its tree has.
 pub fn same_faults()
-    ensures { (T : Table) (t : Text) (f : Fault) → HasFault T t f ↔ HasTreeFault T t f }
+    ensures { (T : LanguageLengths) (t : Text) (f : Fault) → HasFault T t f ↔ HasTreeFault T t f }
 {}
 
 /// The text of a value is that of its tree.
@@ -31,40 +32,40 @@ pub fn same_text()
 
 /// A text means a value as a whole exactly if it means it block by block.
 pub fn by_blocks()
-    ensures { (T : Table) → IsTable T → (t : Text) (M : Locale)
+    ensures { (T : LanguageLengths) → AreLengths T → (t : Text) (M : Locale)
         → Means T t M ↔ MeansByBlocks T t M }
 {}
 
 /// Readings of pieces from the left give back what is spelled and follows the rules, and lose no piece.
 pub fn whole_readings()
-    ensures front { (T : Table) (i : Identifier) → HasWords T i
+    ensures front { (T : LanguageLengths) (i : Identifier) → HasWords T i
         → front_of (identifier_pieces i) ≡ i }
     ensures front_pieces { (p : Text) (ps : List Text)
         → identifier_pieces (front_of (p ∷ ps)) ++ after_front (p ∷ ps) ≡ p ∷ ps }
-    ensures identifier { (T : Table) (i : Identifier) → HasWords T i
+    ensures identifier { (T : LanguageLengths) (i : Identifier) → HasWords T i
         → identifier_of (identifier_pieces i) ≡ i }
     ensures identifier_whole { (p : Text) (ps : List Text)
         → identifier_pieces (identifier_of (p ∷ ps)) ≡ p ∷ ps }
     ensures unicode { (u : Unicode) → IsUnicode u → unicode_of (unicode_pieces u) ≡ u }
     ensures unicode_whole { (ps : List Text) → unicode_pieces (unicode_of ps) ≡ ps }
-    ensures transform { (T : Table) (m : Transform) → IsTransform T m
+    ensures transform { (T : LanguageLengths) (m : Transform) → IsTransform T m
         → transform_of (transform_pieces m) ≡ m }
     ensures transform_whole { (ps : List Text) → transform_pieces (transform_of ps) ≡ ps }
 {}
 
 /// The plain programs answer the meaning and the fault of a text.
 pub fn computed()
-    ensures answer { (T : Table) → IsTable T → (t : Text)
+    ensures answer { (T : LanguageLengths) → AreLengths T → (t : Text)
         → MatchResult (locale_result T t) (Means T t) (HasFault T t) }
-    ensures identifier_answer { (T : Table) (t : Text)
+    ensures identifier_answer { (T : LanguageLengths) (t : Text)
         → MatchResult (identifier_result T (pieces t)) (IdentifierMeans T (pieces t))
         (HasIdentifierFault T (pieces t)) }
-    ensures means { (T : Table) → IsTable T → (t : Text) (M : Locale)
+    ensures means { (T : LanguageLengths) → AreLengths T → (t : Text) (M : Locale)
         → (locale_result T t ≡ Ok M) ↔ Means T t M }
-    ensures fault { (T : Table) → IsTable T → (t : Text) (f : Fault)
+    ensures fault { (T : LanguageLengths) → AreLengths T → (t : Text) (f : Fault)
         → (locale_result T t ≡ Err f) ↔ HasFault T t f }
-    ensures identifier { (T : Table) (t : Text) (i : Identifier)
+    ensures identifier { (T : LanguageLengths) (t : Text) (i : Identifier)
         → (identifier_result T (pieces t) ≡ Ok i) ↔ IdentifierMeans T (pieces t) i }
-    ensures identifier_fault { (T : Table) (t : Text) (f : Fault)
+    ensures identifier_fault { (T : LanguageLengths) (t : Text) (f : Fault)
         → (identifier_result T (pieces t) ≡ Err f) ↔ HasIdentifierFault T (pieces t) f }
 {}

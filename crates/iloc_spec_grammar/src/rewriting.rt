@@ -5,7 +5,7 @@
 //! true exactly if the relation holds, of lists, of parts, of whole written locales, and of texts.
 
 ghost use Rattle.std.specs.Prelude.{◌≡◌, ◌↔◌, ℕ, ◌≤◌, Bool, List, length, codes, IsTrue, true, false};
-ghost use Rattle.iloc_spec_grammar.specs.Syntax.{Text, Table, Field, pieces, IsTable, languages, Identifier};
+ghost use Rattle.iloc_spec_grammar.specs.Syntax.{Text, LanguageLengths, Field, pieces, AreLengths, languages, Identifier};
 ghost use Rattle.iloc_spec_grammar.specs.Tree.{Extension, Written};
 ghost use Rattle.iloc_spec_grammar.specs.Meaning.{Locale, Means, IdentifierMeans};
 ghost use Rattle.iloc_spec_grammar.specs.Values.{TextStep, IdentifierTextStep, Leads, LeadToOne, Reordered};
@@ -14,31 +14,34 @@ ghost use Rattle.iloc_spec_grammar.specs.StepTests.{DecidesEquality, is_reordere
 
 /// Any number of steps keeps the meaning and does not lengthen the text; two accepted texts mean the same exactly if some number of steps leads both to one text.
 pub fn any_steps()
-    ensures mean { (T : Table) → IsTable T → (n : ℕ) (t u : Text) (M : Locale)
+    ensures mean { (T : LanguageLengths) → AreLengths T → (n : ℕ) (t u : Text) (M : Locale)
         → Leads (TextStep T) n t u → Means T t M → Means T u M }
-    ensures shorten { (T : Table) (n : ℕ) (t u : Text) → Leads (TextStep T) n t u
+    ensures shorten { (T : LanguageLengths) (n : ℕ) (t u : Text) → Leads (TextStep T) n t u
         → length u ≤ length t }
-    ensures same { (T : Table) → IsTable T → (t u : Text) (L M : Locale) → Means T t L → Means T u M
+    ensures same { (T : LanguageLengths) → AreLengths T → (t u : Text) (L M : Locale) → Means T t L
+        → Means T u M
         → (L ≡ M) ↔ ((n : ℕ) × LeadToOne (TextStep T) n t u) }
 {}
 
 /// The same for identifiers, by steps in the case of letters and in the order of variants.
 pub fn any_identifier_steps()
-    ensures mean { (T : Table) (n : ℕ) (t u : Text) (i : Identifier)
+    ensures mean { (T : LanguageLengths) (n : ℕ) (t u : Text) (i : Identifier)
         → Leads (IdentifierTextStep T) n t u → IdentifierMeans T (pieces t) i
         → IdentifierMeans T (pieces u) i }
-    ensures long { (T : Table) (n : ℕ) (t u : Text) → Leads (IdentifierTextStep T) n t u
+    ensures long { (T : LanguageLengths) (n : ℕ) (t u : Text) → Leads (IdentifierTextStep T) n t u
         → length u ≡ length t }
-    ensures same { (T : Table) (t u : Text) (i j : Identifier) → IdentifierMeans T (pieces t) i
+    ensures same { (T : LanguageLengths) (t u : Text) (i j : Identifier)
+        → IdentifierMeans T (pieces t) i
         → IdentifierMeans T (pieces u) j
         → (i ≡ j) ↔ ((n : ℕ) × LeadToOne (IdentifierTextStep T) n t u) }
 {}
 
 /// A step of a text, by its identifier and its blocks, is one of the tree that it spells.
 pub fn same_steps()
-    ensures texts { (T : Table) → IsTable T → (t u : Text) → TextStep T t u ↔ TreeTextStep T t u }
-    ensures tree { (T : Table) (t u : Text) → TextStep T t u → TreeTextStep T t u }
-    ensures identifiers { (T : Table) (t u : Text)
+    ensures texts { (T : LanguageLengths) → AreLengths T → (t u : Text) → TextStep T t u
+        ↔ TreeTextStep T t u }
+    ensures tree { (T : LanguageLengths) (t u : Text) → TextStep T t u → TreeTextStep T t u }
+    ensures identifiers { (T : LanguageLengths) (t u : Text)
         → IdentifierTextStep T t u ↔ TreeIdentifierTextStep T t u }
 {}
 
@@ -55,7 +58,8 @@ pub fn by_example()
     ensures trues { TextStep languages (codes "en-u-ca-foo-true") (codes "en-u-ca-foo") }
     ensures dropped_pieces { TextStep languages (codes "en-a-foo-!!-bar") (codes "en-a-foo-bar") }
     ensures same_key_stays_in_order { (n : ℕ)
-        → Leads (TextStep languages) n (codes "en-u-ca-foo-CA-bar") (codes "en-u-CA-bar-ca-foo") → ⊥ }
+        → Leads (TextStep languages) n (codes "en-u-ca-foo-CA-bar") (codes "en-u-CA-bar-ca-foo")
+        → ⊥ }
 {}
 
 /// What a step does to a list is what the tests of lists say.
@@ -82,9 +86,9 @@ pub fn tests_of_parts()
 
 /// The same for texts.
 pub fn tests_of_texts()
-    ensures text { (T : Table) → IsTable T → (t u : Text)
+    ensures text { (T : LanguageLengths) → AreLengths T → (t u : Text)
         → IsTrue (is_text_step T t u) ↔ TextStep T t u }
-    ensures identifier_text { (T : Table) (t u : Text)
+    ensures identifier_text { (T : LanguageLengths) (t u : Text)
         → IsTrue (is_identifier_text_step T t u) ↔ IdentifierTextStep T t u }
 {}
 

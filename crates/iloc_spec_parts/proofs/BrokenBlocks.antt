@@ -2,7 +2,7 @@
 use Rattle.std.proofs.Common.{◌≡◌, ℕ, ◌≤◌, Bool, true, false, cond, List, [], ◌∷◌, length, map, refl, sym, ap, ◌∙◌, subst, arith, true≢false}
 use Rattle.std.specs.List.{AllByRecursion}
 use Rattle.std.proofs.lemmas.Bool.{and_parts, false_from_ne_true, not-true}
-use Rattle.iloc_spec_grammar.specs.Syntax.{Language, UnicodeKey, TransformKey, Attribute, is_word, IsWord, lower, kept, singleton, is_other_singleton, first_piece}
+use Rattle.iloc_spec_grammar.specs.Syntax.{Language, UnicodeKey, TransformKey, Attribute, is_word, IsWord, lower, kept, lower_singleton, is_other_singleton, first_piece}
 use Rattle.iloc_spec_grammar.specs.Meaning.{set_of, normal_fields, normal_values}
 use Rattle.iloc_spec_grammar.specs.Reading.{is_two, rest_of, after_front}
 use Rattle.iloc_spec_grammar.proofs.Readings.{language_no_key}
@@ -54,15 +54,15 @@ all_pass [] h = refl
 all_pass (p ∷ ps) h = rw h.0 (ap (λ l. p ∷ l) (all_pass ps h.1))
 
 pub bad_other : (ps : List (List ℕ)) → kept (other_front ps) ≡ [] → IsShortOther ps
-bad_other ps none = record {
-  words = let n : length (kept (other_front ps)) ≡ 0 = ap length none in omega (arith, n);
-  broken = λ i. let n : length (kept ps) ≡ 0 = ap (λ l. length (kept l)) (sym (all_pass ps i.lengths)) ∙ ap length none in let m = i.nonempty in omega (arith, n, m);
-}
+bad_other ps none = (
+  let n : length (kept (other_front ps)) ≡ 0 = ap length none in omega (arith, n),
+  λ i. let n : length (kept ps) ≡ 0 = ap (λ l. length (kept l)) (sym (all_pass ps i.lengths)) ∙ ap length none in let m = i.nonempty in omega (arith, n, m),
+)
 
 -- the blocks
 
 module _ {T : ℕ → Bool} (b : ℕ × List (List ℕ)) where
-  pub broken_unicode : singleton b ≡ 117 → is_bad_key (first_piece b.1) ≡ true → IsShortBlock T b
+  pub broken_unicode : lower_singleton b ≡ 117 → is_bad_key (first_piece b.1) ≡ true → IsShortBlock T b
   broken_unicode e h = record {
     unicode = λ s. bad_unicode b.1 h;
     transform = λ s. absurd (omega arith);
@@ -70,7 +70,7 @@ module _ {T : ℕ → Bool} (b : ℕ × List (List ℕ)) where
     other = λ o. absurd (no_u _ e o);
   }
 
-  pub broken_transform : singleton b ≡ 116 → IsWord TransformKey (first_piece b.1) → is_word Attribute (first_piece (rest_of b.1)) ≡ false → IsShortBlock T b
+  pub broken_transform : lower_singleton b ≡ 116 → IsWord TransformKey (first_piece b.1) → is_word Attribute (first_piece (rest_of b.1)) ≡ false → IsShortBlock T b
   broken_transform e key none = record {
     unicode = λ s. absurd (omega arith);
     transform = λ s. bad_transform b.1 key none;
@@ -78,7 +78,7 @@ module _ {T : ℕ → Bool} (b : ℕ × List (List ℕ)) where
     other = λ o. absurd (no_t _ e o);
   }
 
-  pub broken_other : is_other_singleton (singleton b) ≡ true → kept (other_front b.1) ≡ [] → IsShortBlock T b
+  pub broken_other : is_other_singleton (lower_singleton b) ≡ true → kept (other_front b.1) ≡ [] → IsShortBlock T b
   broken_other o none = record {
     unicode = λ s. absurd (no_u _ s o);
     transform = λ s. absurd (no_t _ s o);

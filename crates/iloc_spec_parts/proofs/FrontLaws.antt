@@ -15,10 +15,10 @@ use Rattle.iloc_spec_grammar.proofs.ReadBack.{all_append}
 use Rattle.iloc_spec_grammar.proofs.Readings.{IsLong, long_attribute, long_between, keywords_pass, fields_read}
 use Rattle.iloc_spec_grammar.proofs.ReadingLaws.{front-from_block, from_block_starts, all_while}
 use Rattle.iloc_spec_grammar.specs.Computing.{is_other, is_private}
-use Rattle.iloc_spec_grammar.proofs.RuleTests.{Tests, tests_other, tests_not}
+use Rattle.iloc_spec_grammar.proofs.RuleTests.{tests_other, tests_not}
 use Rattle.iloc_spec_grammar.proofs.RuleTests as rules
 use Rattle.iloc_spec_parts.specs.Readers.{IsReader, AgreesWithBlocks}
-use Rattle.iloc_spec_parts.specs.Fronts.{attributes_front, after_attributes, is_keyword_piece, keywords_front, after_keywords, is_bad_key, KeywordsRead, KeywordsFault, bad_key, UnicodeRead, UnicodeFault, in_keywords, both_absent, has_other_length, other_front, OtherRead, OtherFault, no_word, IsPrivate, PrivateRead, PrivateFault, not_private, keywords_at, keywords_result, with_attributes, unicode_result, other_result, private_result}
+use Rattle.iloc_spec_parts.specs.Fronts.{attributes_front, after_attributes, is_keyword_piece, keywords_front, after_keywords, is_bad_key, KeywordsRead, KeywordsFault, bad_key, UnicodeRead, UnicodeFault, in_keywords, both_absent, has_other_length, other_front, OtherRead, OtherFault, no_word, PrivateRead, PrivateFault, not_private, keywords_at, keywords_result, attributes_and, unicode_result, other_result, private_result}
 use Rattle.iloc_spec_parts.proofs.FieldLaws.{passing_all, passing_stops, past_stops, all_from_pieces, passing_from_all, front_of_fields, fields_words, fields_stop, pieces_pass}
 use Rattle.iloc_spec_parts.proofs.ReaderLaws.{reader_of, agreeing, until_block, Answer, Answers}
 use Rattle.std.proofs.Math.Bool.{or-true, and-false}
@@ -91,7 +91,7 @@ pub unicode_answer : Answers UnicodeRead UnicodeFault unicode_result
 unfolding unicode_result
 unicode_answer ps = at_keywords (keywords_result (after_attributes ps)) (keywords_answer (after_attributes ps))
   where
-    at_keywords : (o : Result (Fields × List (List ℕ)) Fault) → Answer KeywordsRead KeywordsFault (after_attributes ps) o → Answer UnicodeRead UnicodeFault ps (with_attributes ps o)
+    at_keywords : (o : Result (Fields × List (List ℕ)) Fault) → Answer KeywordsRead KeywordsFault (after_attributes ps) o → Answer UnicodeRead UnicodeFault ps (attributes_and ps o)
     at_keywords (Err f) h = in_keywords h
     at_keywords (Ok r) h = cond_both (nat_lt 0 (length (attributes_front ps) + length (keywords_front (after_attributes ps)))) _ _ (Answer UnicodeRead UnicodeFault ps)
         (λ n. record { attributes_are = refl; keywords_are = h; nonempty = ltb-true 0 _ n })
@@ -257,14 +257,11 @@ other_agrees = agreeing OtherRead OtherFault OtherMeans other_reader other_whole
 
 -- private words
 
-pub tests_private : (ps : List (List ℕ)) → Tests (is_private ps) (IsPrivate ps)
-tests_private ps = let t = rules.tests_private ps in record { holds = λ e. let h = t.holds e in record { words = h.words; nonempty = h.nonempty }; passes = λ h. t.passes (record { words = h.words; nonempty = h.nonempty }) }
-
 pub private_answer : Answers PrivateRead PrivateFault private_result
 unfolding private_result
 private_answer ps = cond_both (is_private ps) _ _ (Answer PrivateRead PrivateFault ps)
-    (λ h. record { follows = (tests_private ps).holds h; means = refl; left = refl })
-    (λ n. not_private (tests_not (tests_private ps) n))
+    (λ h. record { follows = (rules.tests_private ps).holds h; means = refl; left = refl })
+    (λ n. not_private (tests_not (rules.tests_private ps) n))
 
 private_apart : (ps ws rest : List (List ℕ)) (f : Fault) → PrivateRead ps ws rest → PrivateFault ps f → ⊥
 private_apart ps ws rest f h (not_private n) = n h.follows

@@ -5,7 +5,7 @@ use Rattle.std.specs.Ordering.{nat_cmp, eq_by_cmp}
 use Rattle.std.proofs.lemmas.Bool.{or_parts, eq-eqb}
 use Rattle.std.proofs.lemmas.Bool.Decides.{nat_tests}
 use Rattle.std.proofs.lemmas.List.{length-map}
-use Rattle.iloc_spec_grammar.specs.Syntax.{pieces, IsTable, PrivateSubtag, is_word, lower, word_cmp, Identifier, Fields, Unicode, Transform, identifier_pieces, fields_pieces, unicode_pieces, transform_pieces, IsIdentifier, IsUnicode, AllDifferent, is_other_singleton, singleton, head, tail_blocks}
+use Rattle.iloc_spec_grammar.specs.Syntax.{pieces, AreLengths, PrivateSubtag, is_word, lower, word_cmp, Identifier, Fields, Unicode, Transform, identifier_pieces, fields_pieces, unicode_pieces, transform_pieces, IsIdentifier, IsUnicode, AllDifferent, is_other_singleton, lower_singleton, head, tail_blocks}
 use Rattle.iloc_spec_grammar.specs.Meaning.{set_of, normal_identifier, normal_fields, normal_values, normal_unicode, normal_transform, after}
 use Rattle.iloc_spec_grammar.specs.Reading.{passing, IdentifierFront}
 use Rattle.iloc_spec_grammar.proofs.IdentifierLaws.{one_identifier}
@@ -23,21 +23,21 @@ use Rattle.iloc_spec_parts.proofs.TransformLaws.{one_front, one_longest, front_l
 same_test : (q c : ℕ) → (c == q) ≡ eq_by_cmp nat_cmp q c
 same_test q c = grind (arith, nat_tests)
 
-pub none_after : (q : ℕ) (bs : List (ℕ × List (List ℕ))) → list_any (eq_by_cmp nat_cmp q) (map (λ b. singleton b) bs) ≡ false → after q bs ≡ []
+pub none_after : (q : ℕ) (bs : List (ℕ × List (List ℕ))) → list_any (eq_by_cmp nat_cmp q) (map (λ b. lower_singleton b) bs) ≡ false → after q bs ≡ []
 none_after q [] d = refl
-none_after q (b ∷ bs) d = let parts = or_parts _ _ d in rw (same_test q (singleton b) ∙ parts.0) (none_after q bs parts.1)
+none_after q (b ∷ bs) d = let parts = or_parts _ _ d in rw (same_test q (lower_singleton b) ∙ parts.0) (none_after q bs parts.1)
 
-later_after : (d : ℕ × List (List ℕ)) (all bs : List (ℕ × List (List ℕ))) → list_any (eq_by_cmp nat_cmp (singleton d)) (map (λ b. singleton b) bs) ≡ false → AllByRecursion (λ b. after (singleton b) all ≡ b.1) bs → AllByRecursion (λ b. after (singleton b) (d ∷ all) ≡ b.1) bs
+later_after : (d : ℕ × List (List ℕ)) (all bs : List (ℕ × List (List ℕ))) → list_any (eq_by_cmp nat_cmp (lower_singleton d)) (map (λ b. lower_singleton b) bs) ≡ false → AllByRecursion (λ b. after (lower_singleton b) all ≡ b.1) bs → AllByRecursion (λ b. after (lower_singleton b) (d ∷ all) ≡ b.1) bs
 later_after d all [] n h = tt
-later_after d all (b ∷ bs) n h = let parts = or_parts _ _ n in (rw (differ (singleton d) (singleton b) parts.0) h.0, later_after d all bs parts.1 h.1)
+later_after d all (b ∷ bs) n h = let parts = or_parts _ _ n in (rw (differ (lower_singleton d) (lower_singleton b) parts.0) h.0, later_after d all bs parts.1 h.1)
   where
     differ : (q c : ℕ) → eq_by_cmp nat_cmp q c ≡ false → (q == c) ≡ false
     differ q c h = grind (arith, nat_tests)
 
-pub each_after : (bs : List (ℕ × List (List ℕ))) → AllDifferent nat_cmp (map (λ b. singleton b) bs) → AllByRecursion (λ b. after (singleton b) bs ≡ b.1) bs
+pub each_after : (bs : List (ℕ × List (List ℕ))) → AllDifferent nat_cmp (map (λ b. lower_singleton b) bs) → AllByRecursion (λ b. after (lower_singleton b) bs ≡ b.1) bs
 each_after [] d = tt
 each_after (b ∷ bs) d = (
-  ap (λ t. cond t b.1 [] ++ after (singleton b) bs) (eq-eqb (singleton b) (singleton b) refl) ∙ ap (λ l. b.1 ++ l) (none_after (singleton b) bs d.0) ∙ append-nil b.1,
+  ap (λ t. cond t b.1 [] ++ after (lower_singleton b) bs) (eq-eqb (lower_singleton b) (lower_singleton b) refl) ∙ ap (λ l. b.1 ++ l) (none_after (lower_singleton b) bs d.0) ∙ append-nil b.1,
   later_after b bs bs d.0 (each_after bs d.1),
 )
 
@@ -71,30 +71,30 @@ short_identifier {T = T} i g v =
     } in
     subst (IsShortTransform T) (append-nil ps ∙ append-nil (identifier_pieces i)) (short_by_fronts (ps ++ []) short)
 
-short_transform : {T : ℕ → Bool} → IsTable T → (o : Option Identifier) → IfSome o (IsIdentifier T) → IfSome o (λ i. length (normal_identifier i).variants ≤ 4) → (fs : Fields) → fs ≡ [] → IsShortTransform T (transform_pieces (record { id = o; fields = fs }))
+short_transform : {T : ℕ → Bool} → AreLengths T → (o : Option Identifier) → IfSome o (IsIdentifier T) → IfSome o (λ i. length (normal_identifier i).variants ≤ 4) → (fs : Fields) → fs ≡ [] → IsShortTransform T (transform_pieces (record { id = o; fields = fs }))
 short_transform table None g v fs e = subst (IsShortTransform _) (ap fields_pieces (sym e)) (none_first table [] refl)
 short_transform table (Some i) g v fs e = subst (IsShortTransform _) (sym (ap (λ fs. identifier_pieces i ++ fields_pieces fs) e ∙ append-nil (identifier_pieces i))) (short_identifier i g v)
 
 -- no block is another
 
 abbrev Others : List (ℕ × List (List ℕ)) → List (ℕ × List (List ℕ))
-Others bs = filter {X = ℕ × List (List ℕ)} (λ b. is_other_singleton b.0) (map (λ b. (singleton b, b.1)) bs)
+Others bs = filter {X = ℕ × List (List ℕ)} (λ b. is_other_singleton b.0) (map (λ b. (lower_singleton b, b.1)) bs)
 
-no_first_other : (b : ℕ × List (List ℕ)) (bs : List (ℕ × List (List ℕ))) → Others (b ∷ bs) ≡ [] → (is_other_singleton (singleton b) ≡ true → ⊥) × (Others bs ≡ [])
-no_first_other b bs e = at (is_other_singleton (singleton b)) refl e
+no_first_other : (b : ℕ × List (List ℕ)) (bs : List (ℕ × List (List ℕ))) → Others (b ∷ bs) ≡ [] → (is_other_singleton (lower_singleton b) ≡ true → ⊥) × (Others bs ≡ [])
+no_first_other b bs e = at (is_other_singleton (lower_singleton b)) refl e
   where
-    at : (t : Bool) → is_other_singleton (singleton b) ≡ t → cond t ((singleton b, b.1) ∷ Others bs) (Others bs) ≡ [] → (is_other_singleton (singleton b) ≡ true → ⊥) × (Others bs ≡ [])
+    at : (t : Bool) → is_other_singleton (lower_singleton b) ≡ t → cond t ((lower_singleton b, b.1) ∷ Others bs) (Others bs) ≡ [] → (is_other_singleton (lower_singleton b) ≡ true → ⊥) × (Others bs ≡ [])
     at true k e = absurd (cc)
     at false k e = ((λ o. true≢false (sym o ∙ k)), e)
 
-no_other : (bs : List (ℕ × List (List ℕ))) → Others bs ≡ [] → AllByRecursion (λ b. is_other_singleton (singleton b) ≡ true → ⊥) bs
+no_other : (bs : List (ℕ × List (List ℕ))) → Others bs ≡ [] → AllByRecursion (λ b. is_other_singleton (lower_singleton b) ≡ true → ⊥) bs
 no_other [] e = tt
 no_other (b ∷ bs) e = let first = no_first_other b bs e in (first.0, no_other bs first.1)
 
 -- the blocks
 
-module _ (T : ℕ → Bool) (table : IsTable T) (t : List ℕ) (h : IsInline T t) where
-  short_block : (b : ℕ × List (List ℕ)) → after (singleton b) (tail_blocks (pieces t)) ≡ b.1 → (is_other_singleton (singleton b) ≡ true → ⊥) → IsShortBlock T b
+module _ (T : ℕ → Bool) (table : AreLengths T) (t : List ℕ) (h : IsInline T t) where
+  short_block : (b : ℕ × List (List ℕ)) → after (lower_singleton b) (tail_blocks (pieces t)) ≡ b.1 → (is_other_singleton (lower_singleton b) ≡ true → ⊥) → IsShortBlock T b
   short_block b own none = record {
     unicode = λ s. subst IsShortUnicode (sym h.spelled.unicode.1 ∙ at 117 s) (short_unicode h.extensions.unicode h.spelled.unicode.0 h.attributes h.keywords h.values);
     transform = λ s. subst (IsShortTransform T) (sym h.spelled.transform.1 ∙ at 116 s) (short_transform table h.extensions.transform.id h.spelled.transform.0.id h.transform_variants h.extensions.transform.fields h.no_fields);
@@ -102,13 +102,13 @@ module _ (T : ℕ → Bool) (table : IsTable T) (t : List ℕ) (h : IsInline T t
     other = λ o. absurd (none o);
   }
     where
-      at : (q : ℕ) → singleton b ≡ q → after q (tail_blocks (pieces t)) ≡ b.1
+      at : (q : ℕ) → lower_singleton b ≡ q → after q (tail_blocks (pieces t)) ≡ b.1
       at q s = ap (λ q. after q (tail_blocks (pieces t))) (sym s) ∙ own
 
       few : (ps : List (List ℕ)) → length ps ≤ 4 → length (passing (is_word PrivateSubtag) ps) ≤ 4
       few ps k = omega (arith, k, passing_short (is_word PrivateSubtag) ps)
 
-  all_blocks : (bs : List (ℕ × List (List ℕ))) → AllByRecursion (λ b. after (singleton b) (tail_blocks (pieces t)) ≡ b.1) bs → AllByRecursion (λ b. is_other_singleton (singleton b) ≡ true → ⊥) bs → AllByRecursion (IsShortBlock T) bs
+  all_blocks : (bs : List (ℕ × List (List ℕ))) → AllByRecursion (λ b. after (lower_singleton b) (tail_blocks (pieces t)) ≡ b.1) bs → AllByRecursion (λ b. is_other_singleton (lower_singleton b) ≡ true → ⊥) bs → AllByRecursion (IsShortBlock T) bs
   all_blocks [] own none = tt
   all_blocks (b ∷ bs) own none = (short_block b own.0 none.0, all_blocks bs own.1 none.1)
 
@@ -117,7 +117,7 @@ module _ (T : ℕ → Bool) (table : IsTable T) (t : List ℕ) (h : IsInline T t
       let same = one_identifier h.means.written i h.means.grammatical.words g.words (sym h.means.spelled ∙ e) in
       few_variants i g.different (subst (λ (j : Identifier). length j.variants ≤ 4) (h.means.means ∙ ap normal_identifier same) h.variants)
 
-pub inline_by_blocks : (T : ℕ → Bool) → IsTable T → (t : List ℕ) → IsInline T t → IsInlineByBlocks T t
+pub inline_by_blocks : (T : ℕ → Bool) → AreLengths T → (t : List ℕ) → IsInline T t → IsInlineByBlocks T t
 inline_by_blocks T table t h =
     let bs = tail_blocks (pieces t) in record {
       variants = identifier_few T table t h;

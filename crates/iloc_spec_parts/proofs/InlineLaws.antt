@@ -5,8 +5,8 @@ use Rattle.std.specs.Cmp.{nat_cmp_total}
 use Rattle.std.specs.Ordering.{nat_cmp}
 use Rattle.std.proofs.lemmas.Bool.{eqb-true, leb-true, le-leb}
 use Rattle.std.proofs.lemmas.List.{length-map}
-use Rattle.iloc_spec_grammar.specs.Syntax.{pieces, lower, Identifier, Fields, Unicode, unicode_pieces, IsUnicode, kept, AllDifferent, IsTable, head, tail_blocks, singleton}
-use Rattle.iloc_spec_grammar.specs.Tree.{Extension, unicode, transform, other, Written, IsWritten, IsExtension, IsPrivate, spelling, extension_pieces, extension_block, blocks_of, meaning}
+use Rattle.iloc_spec_grammar.specs.Syntax.{pieces, lower, Identifier, Fields, Unicode, unicode_pieces, IsUnicode, kept, AllDifferent, AreLengths, head, tail_blocks, lower_singleton, IsPrivate}
+use Rattle.iloc_spec_grammar.specs.Tree.{Extension, unicode, transform, other, Written, IsWritten, IsExtension, spelling, extension_pieces, extension_block, blocks_of, meaning}
 use Rattle.iloc_spec_grammar.specs.Meaning.{Locale, Extensions, Means, IdentifierMeans, SpellsExtensions, normal_identifier, normal_values, normal_fields, normal_extensions, after, Fault}
 use Rattle.iloc_spec_grammar.specs.Reading.{written_of}
 use Rattle.iloc_spec_grammar.specs.Computing.{locale_result}
@@ -121,12 +121,12 @@ pub record IsTreeInline (T : ℕ → Bool) (t : List ℕ) : Type 0 where
   pub values : AllByRecursion (λ e. HasFewValues e.1) written.extensions
 
 -- what stands after a singleton is nothing, or what stands after it in some block
-after_holds : (P : List (List ℕ) → Type 0) (q : ℕ) (bs : List (ℕ × List (List ℕ))) → AllDifferent nat_cmp (map (λ b. singleton b) bs) → P [] → AllByRecursion (λ b. singleton b ≡ q → P b.1) bs → P (after q bs)
+after_holds : (P : List (List ℕ) → Type 0) (q : ℕ) (bs : List (ℕ × List (List ℕ))) → AllDifferent nat_cmp (map (λ b. lower_singleton b) bs) → P [] → AllByRecursion (λ b. lower_singleton b ≡ q → P b.1) bs → P (after q bs)
 after_holds P q [] d n h = n
-after_holds P q (b ∷ bs) d n h = at (singleton b == q) refl (after_holds P q bs d.1 n h.1)
+after_holds P q (b ∷ bs) d n h = at (lower_singleton b == q) refl (after_holds P q bs d.1 n h.1)
   where
-    at : (t : Bool) → (singleton b == q) ≡ t → P (after q bs) → P (cond t b.1 [] ++ after q bs)
-    at true e rest = let same = eqb-true (singleton b) q e in subst P (sym (ap (λ l. b.1 ++ l) (subst (λ (c : ℕ). after c bs ≡ []) same (none_after (singleton b) bs d.0)) ∙ append-nil b.1)) (h.0 same)
+    at : (t : Bool) → (lower_singleton b == q) ≡ t → P (after q bs) → P (cond t b.1 [] ++ after q bs)
+    at true e rest = let same = eqb-true (lower_singleton b) q e in subst P (sym (ap (λ l. b.1 ++ l) (subst (λ (c : ℕ). after c bs ≡ []) same (none_after (lower_singleton b) bs d.0)) ∙ append-nil b.1)) (h.0 same)
     at false e rest = rest
 
 same_keywords : (u v : Unicode) → IsUnicode u → IsUnicode v → unicode_pieces u ≡ unicode_pieces v → v.keywords ≡ u.keywords
@@ -147,14 +147,14 @@ all_unmapped f P (x ∷ xs) h = (h.0, all_unmapped f P xs h.1)
 -- the keywords of the parts that blocks spell, and those of the tree
 module _ {T : ℕ → Bool} (w : Written) (g : IsWritten T w) (e : Extensions) (s : SpellsExtensions T (blocks_of w) e) where
   few_in_tree : HaveFewValues e.unicode.keywords → AllByRecursion (λ x. HasFewValues x.1) w.extensions
-  few_in_tree h = each w.extensions g.extensions (all_unmapped extension_block (λ b. after (singleton b) (blocks_of w) ≡ b.1) w.extensions (all_left _ (map extension_block w.extensions) (option_to_list w.private) (each_after (blocks_of w) s.different)))
+  few_in_tree h = each w.extensions g.extensions (all_unmapped extension_block (λ b. after (lower_singleton b) (blocks_of w) ≡ b.1) w.extensions (all_left _ (map extension_block w.extensions) (option_to_list w.private) (each_after (blocks_of w) s.different)))
     where
-      at : (c : ℕ) (x : Extension) → IsExtension T (singleton (c, x)) x → after (singleton (c, x)) (blocks_of w) ≡ extension_pieces x → HasFewValues x
+      at : (c : ℕ) (x : Extension) → IsExtension T (lower_singleton (c, x)) x → after (lower_singleton (c, x)) (blocks_of w) ≡ extension_pieces x → HasFewValues x
       at c (unicode u) k own = subst HaveFewValues (same_keywords u e.unicode (record { attributes = k.1.attributes; keywords = k.1.keywords }) s.unicode.0 (sym own ∙ ap (λ q. after q (blocks_of w)) k.0 ∙ s.unicode.1)) h
       at c (transform m) k own = tt
       at c (other ps) k own = tt
 
-      each : (es : List (ℕ × Extension)) → AllByRecursion (λ x. IsExtension T (singleton x) x.1) es → AllByRecursion (λ x. after (singleton x) (blocks_of w) ≡ extension_pieces x.1) es → AllByRecursion (λ x. HasFewValues x.1) es
+      each : (es : List (ℕ × Extension)) → AllByRecursion (λ x. IsExtension T (lower_singleton x) x.1) es → AllByRecursion (λ x. after (lower_singleton x) (blocks_of w) ≡ extension_pieces x.1) es → AllByRecursion (λ x. HasFewValues x.1) es
       each [] k own = tt
       each (x ∷ es) k own = (at x.0 x.1 k.0 own.0, each es k.1 own.1)
 
@@ -163,26 +163,26 @@ module _ {T : ℕ → Bool} (w : Written) (g : IsWritten T w) (e : Extensions) (
 
   few_in_parts : AllByRecursion (λ x. HasFewValues x.1) w.extensions → HaveFewValues e.unicode.keywords
   few_in_parts h = after_holds IsFewSpelled 117 (blocks_of w) s.different none
-      (all_append (λ b. singleton b ≡ 117 → IsFewSpelled b.1) (map extension_block w.extensions) (option_to_list w.private) (all_mapped extension_block (λ b. singleton b ≡ 117 → IsFewSpelled b.1) w.extensions (each w.extensions g.extensions h)) (of_private w.private g.private))
+      (all_append (λ b. lower_singleton b ≡ 117 → IsFewSpelled b.1) (map extension_block w.extensions) (option_to_list w.private) (all_mapped extension_block (λ b. lower_singleton b ≡ 117 → IsFewSpelled b.1) w.extensions (each w.extensions g.extensions h)) (of_private w.private g.private))
       e.unicode s.unicode.0 s.unicode.1
     where
       none : IsFewSpelled []
       none u g k = subst HaveFewValues (sym (same_keywords (record { attributes = []; keywords = [] }) u (record { attributes = tt; keywords = tt }) g k)) tt
 
-      at : (c : ℕ) (x : Extension) → IsExtension T (singleton (c, x)) x → HasFewValues x → singleton (c, x) ≡ 117 → IsFewSpelled (extension_pieces x)
+      at : (c : ℕ) (x : Extension) → IsExtension T (lower_singleton (c, x)) x → HasFewValues x → lower_singleton (c, x) ≡ 117 → IsFewSpelled (extension_pieces x)
       at c (unicode v) k few q = λ u g p. subst HaveFewValues (same_keywords u v g (record { attributes = k.1.attributes; keywords = k.1.keywords }) (sym p)) few
       at c (transform m) k few q = absurd (omega (arith, k.0, q))
-      at c (other ps) k few q = absurd (no_u (singleton (c, other ps)) q k.0)
+      at c (other ps) k few q = absurd (no_u (lower_singleton (c, other ps)) q k.0)
 
-      each : (es : List (ℕ × Extension)) → AllByRecursion (λ x. IsExtension T (singleton x) x.1) es → AllByRecursion (λ x. HasFewValues x.1) es → AllByRecursion (λ x. singleton x ≡ 117 → IsFewSpelled (extension_pieces x.1)) es
+      each : (es : List (ℕ × Extension)) → AllByRecursion (λ x. IsExtension T (lower_singleton x) x.1) es → AllByRecursion (λ x. HasFewValues x.1) es → AllByRecursion (λ x. lower_singleton x ≡ 117 → IsFewSpelled (extension_pieces x.1)) es
       each [] k few = tt
       each (x ∷ es) k few = (at x.0 x.1 k.0 few.0, each es k.1 few.1)
 
-      of_private : (x : Option (ℕ × List (List ℕ))) → IfSome x (λ b. (singleton b ≡ 120) × IsPrivate b.1) → AllByRecursion (λ b. singleton b ≡ 117 → IsFewSpelled b.1) (option_to_list x)
+      of_private : (x : Option (ℕ × List (List ℕ))) → IfSome x (λ b. (lower_singleton b ≡ 120) × IsPrivate b.1) → AllByRecursion (λ b. lower_singleton b ≡ 117 → IsFewSpelled b.1) (option_to_list x)
       of_private None k = tt
       of_private (Some b) k = ((λ q. absurd (omega (arith, k.0, q))), tt)
 
-pub inline_is_tree : {T : ℕ → Bool} → IsTable T → (t : List ℕ) → IsInline T t → IsTreeInline T t
+pub inline_is_tree : {T : ℕ → Bool} → AreLengths T → (t : List ℕ) → IsInline T t → IsTreeInline T t
 unfolding inline_means
 inline_is_tree {T = T} table t h =
     let m = tree_means t (inline_means t h).0 (inline_means t h).1 in
@@ -195,7 +195,7 @@ inline_is_tree {T = T} table t h =
       values = few_in_tree m.written m.grammatical h.extensions (subst (λ bs. SpellsExtensions T bs h.extensions) bs h.spelled) h.values;
     }
 
-pub tree_is_inline : {T : ℕ → Bool} → IsTable T → (t : List ℕ) → IsTreeInline T t → IsInline T t
+pub tree_is_inline : {T : ℕ → Bool} → AreLengths T → (t : List ℕ) → IsTreeInline T t → IsInline T t
 tree_is_inline {T = T} table t h =
     let m = means_by_tree table t (meaning h.written) (record { written = h.written; grammatical = h.grammatical; spelled = h.spelled; means = refl }) in
     let bs : tail_blocks (pieces t) ≡ blocks_of h.written = ap tail_blocks h.spelled ∙ blocks-spelling table h.written h.grammatical in
@@ -225,7 +225,7 @@ tests_few w M = tests_and
     (tests_and (tests_and (tests_at_most _ 4) (tests_at_most _ 4)) (tests_and (tests_at_most _ 1) (tests_all (λ e. has_few_values e.1) (λ e. HasFewValues e.1) (λ e. tests_values e.1) w.extensions)))
     (tests_and (tests_and (tests_if_some (λ i. nat_le (length i.variants) 4) (λ i. length i.variants ≤ 4) (λ i. tests_at_most _ 4) M.extensions.transform.id) (tests_empty M.extensions.transform.fields)) (tests_and (tests_at_most _ 4) (tests_empty M.extensions.others)))
 
-tree_passes : {T : ℕ → Bool} → IsTable T → (t : List ℕ) → IsTreeInline T t → is_inline T t ≡ true
+tree_passes : {T : ℕ → Bool} → AreLengths T → (t : List ℕ) → IsTreeInline T t → is_inline T t ≡ true
 unfolding is_inline
 tree_passes {T = T} table t h =
     let few = h.few in
@@ -233,7 +233,7 @@ tree_passes {T = T} table t h =
     let w : written_of (pieces t) ≡ h.written = ap written_of h.spelled ∙ written_of-spelling table h.written h.grammatical in
     (λ i. few_where_read (w i) (e i)) ∙ (tests_few h.written (meaning h.written)).passes ((((few.variants, few.attributes), (few.keywords, h.values)), ((few.transform_variants, few.no_fields), (few.private, few.no_others))))
 
-few_is_tree : {T : ℕ → Bool} → IsTable T → (t : List ℕ) (r : Result Locale Fault) → locale_result T t ≡ r → few_where_read (written_of (pieces t)) r ≡ true → IsTreeInline T t
+few_is_tree : {T : ℕ → Bool} → AreLengths T → (t : List ℕ) (r : Result Locale Fault) → locale_result T t ≡ r → few_where_read (written_of (pieces t)) r ≡ true → IsTreeInline T t
 few_is_tree table t (Err f) e h = absurd (true≢false (sym h))
 few_is_tree {T = T} table t (Ok M) e h =
     let m = tree_means t M ((computed_means T table t M).0 e) in
@@ -255,6 +255,6 @@ few_is_tree {T = T} table t (Ok M) e h =
       values = few.0.1.1;
     }
 
-pub inline_answer : (T : ℕ → Bool) → IsTable T → (t : List ℕ) → (is_inline T t ≡ true) ↔ IsInline T t
+pub inline_answer : (T : ℕ → Bool) → AreLengths T → (t : List ℕ) → (is_inline T t ≡ true) ↔ IsInline T t
 unfolding is_inline
 inline_answer T table t = (λ h. tree_is_inline table t (few_is_tree table t (locale_result T t) refl h), λ h. tree_passes table t (inline_is_tree table t h))

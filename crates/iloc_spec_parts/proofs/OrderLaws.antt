@@ -10,7 +10,8 @@ use Rattle.std.specs.FinMap.{IsAntisymmetric, nat_cmp-IsAntisymmetric, slice_cmp
 use Rattle.std.proofs.lemmas.Map.Lookups.{exact_pairs}
 use Rattle.iloc_spec_grammar.specs.Syntax.{word_cmp, Identifier, Fields, Unicode, Transform}
 use Rattle.iloc_spec_grammar.specs.Meaning.{Extensions}
-use Rattle.iloc_spec_parts.specs.Orders.{IsExactOrder, short_list_cmp, pair_cmp, words_cmp, identifier_cmp, keywords_cmp, fields_cmp, unicode_cmp, transform_cmp, other_cmp, extensions_cmp, locale_cmp, ExtensionKind, OfTransform, OfUnicode, OfPrivate, OfOther, place_of_kind, kind_cmp}
+use Rattle.iloc_spec_parts.specs.Orders.{IsExactOrder, pair_cmp, words_cmp, identifier_cmp, keywords_cmp, fields_cmp, unicode_cmp, transform_cmp, other_cmp, extensions_cmp, locale_cmp, ExtensionKind, OfTransform, OfUnicode, OfPrivate, OfOther, place_of_kind, kind_cmp}
+use Rattle.iloc_spec_grammar.specs.ShortLists.{short_cmp}
 
 -- orders of parts
 
@@ -34,7 +35,7 @@ module _ {X : Type 0} {R : X → X → Ordering} where
   list_exact : IsExactOrder R → IsExactOrder (slice_cmp R)
   list_exact o = exactly (lists_total o.total) (slice_cmp-IsAntisymmetric (ties o))
 
-  short_exact : IsExactOrder R → IsExactOrder (short_list_cmp R)
+  short_exact : IsExactOrder R → IsExactOrder (short_cmp R)
   short_exact o = exactly (then_total (on_total (λ (xs : List X). nat_lt 1 (length xs)) bool_cmp_total) (lists_total o.total)) (λ xs ys e. ties (list_exact o) xs ys (second _ _ e))
     where
       second : (r s : Ordering) → ordering_then r s ≡ Equal → s ≡ Equal

@@ -1,5 +1,5 @@
 -- The readers of single parts with their singletons.
-use Rattle.iloc_spec_grammar.specs.Syntax.{IsTable, is_other_singleton}
+use Rattle.iloc_spec_grammar.specs.Syntax.{AreLengths, is_other_singleton}
 use Rattle.iloc_spec_parts.specs.Readers.{IsReader}
 use Rattle.iloc_spec_parts.specs.Fronts.{UnicodeRead, UnicodeFault, TransformRead, TransformFault, OtherRead, OtherFault, PrivateRead, PrivateFault, unicode_result, transform_result, other_result, private_result}
 use Rattle.iloc_spec_parts.specs.Parts.{PartRead, PartFault, is_letter}
@@ -11,7 +11,7 @@ use Rattle.std.proofs.Common.{ℕ, Bool}
 pub unicode_part : IsReader (PartRead (is_letter 117) UnicodeRead) (PartFault (is_letter 117) UnicodeFault)
 unicode_part = part_reader (is_letter 117) UnicodeRead UnicodeFault unicode_reader unicode_result unicode_answer
 
-pub transform_part : (T : ℕ → Bool) → IsTable T → IsReader (PartRead (is_letter 116) (TransformRead T)) (PartFault (is_letter 116) (TransformFault T))
+pub transform_part : (T : ℕ → Bool) → AreLengths T → IsReader (PartRead (is_letter 116) (TransformRead T)) (PartFault (is_letter 116) (TransformFault T))
 transform_part T table = part_reader (is_letter 116) (TransformRead T) (TransformFault T) (transform_reader T table) (transform_result T) (transform_answer table)
 
 pub other_part : IsReader (PartRead is_other_singleton OtherRead) (PartFault is_other_singleton OtherFault)

@@ -5,7 +5,7 @@ use Rattle.std.specs.Char.{to_ascii_lowercase}
 use Rattle.std.specs.Ordering.{nat_cmp, eq_by_cmp}
 use Rattle.std.specs.FinMap.{find}
 use Rattle.std.proofs.lemmas.Bool.{cond_both, eqb-true}
-use Rattle.iloc_spec_grammar.specs.Syntax.{pieces, IsTable, Unicode, Transform, kept, is_other_singleton, singleton, is_one_byte, front, blocks, tail_blocks}
+use Rattle.iloc_spec_grammar.specs.Syntax.{pieces, AreLengths, Unicode, Transform, kept, is_other_singleton, lower_singleton, is_one_byte, front, blocks, tail_blocks}
 use Rattle.iloc_spec_grammar.specs.Meaning.{Locale, Extensions, Means, no_unicode, no_transform, Fault}
 use Rattle.iloc_spec_grammar.specs.Tree.{by_singleton}
 use Rattle.iloc_spec_grammar.specs.ByBlocks.{UnicodeMeans, TransformMeans, OtherMeans, Rules, grammar_rules, other_blocks, PartIs, BlocksGive, MeansBy}
@@ -33,7 +33,7 @@ closed_front (p ∷ ps) = cond_both (is_one_byte p) _ _ IsClosed (λ e. record {
 })
 
 abbrev IsXOrClosed : ℕ × List (List ℕ) → Type 0
-IsXOrClosed b = (singleton b ≡ 120) ⊎ IsClosed b.1
+IsXOrClosed b = (lower_singleton b ≡ 120) ⊎ IsClosed b.1
 
 blocks_closed : (ps : List (List ℕ)) → AllByRecursion IsXOrClosed (blocks ps)
 blocks_closed [] = tt
@@ -51,14 +51,14 @@ closed_of q n c ps e (inr h) = h
 
 found_closed : (q : ℕ) → q ≢ 120 → (bs : List (ℕ × List (List ℕ))) → AllByRecursion IsXOrClosed bs → IfSome (find nat_cmp q (by_singleton bs)) IsClosed
 found_closed q n [] h = tt
-found_closed q n (b ∷ bs) h = cond_both (eq_by_cmp nat_cmp q (singleton b)) _ _ (λ o. IfSome o IsClosed)
-    (λ e. closed_of q n (singleton b) b.1 (tied q (singleton b) e) h.0)
+found_closed q n (b ∷ bs) h = cond_both (eq_by_cmp nat_cmp q (lower_singleton b)) _ _ (λ o. IfSome o IsClosed)
+    (λ e. closed_of q n (lower_singleton b) b.1 (tied q (lower_singleton b) e) h.0)
     (λ e. found_closed q n bs h.1)
 
 others_closed : (bs : List (ℕ × List (List ℕ))) → AllByRecursion IsXOrClosed bs → AllByRecursion (λ b. IsClosed b.1) (other_blocks (by_singleton bs))
 others_closed [] h = tt
-others_closed (b ∷ bs) h = cond_both (is_other_singleton (singleton b)) _ _ (AllByRecursion (λ b. IsClosed b.1))
-    (λ e. (closed_of (singleton b) (λ x. no_x (singleton b) x e) (singleton b) b.1 refl h.0, others_closed bs h.1))
+others_closed (b ∷ bs) h = cond_both (is_other_singleton (lower_singleton b)) _ _ (AllByRecursion (λ b. IsClosed b.1))
+    (λ e. (closed_of (lower_singleton b) (λ x. no_x (lower_singleton b) x e) (lower_singleton b) b.1 refl h.0, others_closed bs h.1))
     (λ e. others_closed bs h.1)
 
 -- a reader that agrees with the rule of its blocks
@@ -97,7 +97,7 @@ carried {R = R} {S = S} c bs e closed m = record {
   others = m.others;
 }
 
-module _ (T : ℕ → Bool) (table : IsTable T) where
+module _ (T : ℕ → Bool) (table : AreLengths T) where
   read_by_grammar : Carries (grammar_rules T) (reading_rules T)
   read_by_grammar = record {
     unicode = λ ps v c. block_read UnicodeRead _ UnicodeMeans unicode_agrees ps v c;

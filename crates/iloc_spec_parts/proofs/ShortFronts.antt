@@ -5,7 +5,7 @@ use Rattle.std.specs.List.{AllByRecursion, list_any}
 use Rattle.std.specs.Ordering.{nat_cmp, eq_by_cmp}
 use Rattle.std.proofs.lemmas.Bool.{cond_both, false_from_ne_true, eqb-true, or_parts}
 use Rattle.std.proofs.lemmas.Bool.Decides.{nat_tests}
-use Rattle.iloc_spec_grammar.specs.Syntax.{Kind, Language, Script, Region, Variant, Attribute, is_word, IsWord, IsTable, lower, word_cmp, Identifier, Fields, singleton, first_piece}
+use Rattle.iloc_spec_grammar.specs.Syntax.{Kind, Language, Script, Region, Variant, Attribute, is_word, IsWord, AreLengths, lower, word_cmp, Identifier, Fields, lower_singleton, first_piece}
 use Rattle.iloc_spec_grammar.specs.Tree.{HasSingleton, IsNew, IsBlock}
 use Rattle.iloc_spec_grammar.specs.Meaning.{set_of, normal_fields, normal_values, RepeatsVariant}
 use Rattle.iloc_spec_grammar.specs.Reading.{passing, past, take_first, skip_first, EndsBefore, starts_block, is_two, after_script, after_region, front_of, after_front, IdentifierFront, fields_from}
@@ -97,11 +97,11 @@ begins_before [] rest s = (λ b. absurd (no_first_key [] refl b), λ b. absurd (
 begins_before (k ∷ []) rest s = (λ b. absurd (no_first_value [] refl b.1), λ b. absurd (no_first_value rest s b.1))
 begins_before (k ∷ v ∷ ps) rest s = (λ b. b, λ b. b)
 
-no_first_language : {T : ℕ → Bool} → IsTable T → (rest : List (List ℕ)) → starts_block rest ≡ true → is_word (Language T) (first_piece rest) ≡ false
+no_first_language : {T : ℕ → Bool} → AreLengths T → (rest : List (List ℕ)) → starts_block rest ≡ true → is_word (Language T) (first_piece rest) ≡ false
 no_first_language table [] s = no_empty_language table
 no_first_language {T = T} table (p ∷ ps) s = false_from_ne_true _ (λ w. let l = table.least _ (length-language T p w) in let one = eqb-true (length p) 1 s in absurd (omega arith))
 
-pub none_first : {T : ℕ → Bool} → IsTable T → (rest : List (List ℕ)) → starts_block rest ≡ true → IsShortTransform T rest
+pub none_first : {T : ℕ → Bool} → AreLengths T → (rest : List (List ℕ)) → starts_block rest ≡ true → IsShortTransform T rest
 none_first {T = T} table rest s =
     let none = no_first_language table rest s in record {
       variants = λ l. absurd (true≢false (sym l ∙ none));
@@ -114,7 +114,7 @@ field_before T p ps rest s = elim (is_word (Language T) p) as (λ t. BeginsField
   | false ↦ begins_before (p ∷ ps) rest s
 ]
 
-pub short_transform_front : {T : ℕ → Bool} → IsTable T → (ps rest : List (List ℕ)) → starts_block rest ≡ true → IsShortTransform T ps ↔ IsShortTransform T (ps ++ rest)
+pub short_transform_front : {T : ℕ → Bool} → AreLengths T → (ps rest : List (List ℕ)) → starts_block rest ≡ true → IsShortTransform T ps ↔ IsShortTransform T (ps ++ rest)
 short_transform_front table [] rest s = (λ h. none_first table rest s, λ h. none_first table [] refl)
 short_transform_front {T = T} table (p ∷ ps) rest s =
     let few = variants_before p ps rest s in
@@ -174,7 +174,7 @@ short_by_fronts {T = T} (p ∷ ps) h = record { variants = λ l. h.variants _ _ 
 -- is a letter or digit, and new.
 pub data MeetsLongBlock (T : ℕ → Bool) : List ℕ → List (ℕ × List (List ℕ)) → Type 0 where
   here : {seen : List ℕ} {b : ℕ × List (List ℕ)} {bs : List (ℕ × List (List ℕ))} → HasSingleton b → IsNew seen b → ¬ (IsShortBlock T b) → MeetsLongBlock T seen (b ∷ bs)
-  later : {seen : List ℕ} {b : ℕ × List (List ℕ)} {bs : List (ℕ × List (List ℕ))} → HasSingleton b → IsNew seen b → IsBlock T b → MeetsLongBlock T (singleton b ∷ seen) bs → MeetsLongBlock T seen (b ∷ bs)
+  later : {seen : List ℕ} {b : ℕ × List (List ℕ)} {bs : List (ℕ × List (List ℕ))} → HasSingleton b → IsNew seen b → IsBlock T b → MeetsLongBlock T (lower_singleton b ∷ seen) bs → MeetsLongBlock T seen (b ∷ bs)
 
 same_test : (q c : ℕ) → (q == c) ≡ eq_by_cmp nat_cmp q c
 same_test q c = grind (arith, nat_tests)
@@ -188,15 +188,15 @@ record Met (T : ℕ → Bool) (seen : List ℕ) (bs : List (ℕ × List (List �
   good_before : AreGood T seen good
   letter : HasSingleton block
   new : IsNew seen block
-  first : list_any (λ c. singleton block == singleton c) good ≡ false
+  first : list_any (λ c. lower_singleton block == lower_singleton c) good ≡ false
   long : ¬ (IsShortBlock T block)
 
 module _ {T : ℕ → Bool} where
-  after_good : (b : ℕ × List (List ℕ)) (rest : List (ℕ × List (List ℕ))) (seen : List ℕ) (good : List (ℕ × List (List ℕ))) → AreGood T seen good → HasSingleton b → IsNew seen b → list_any (λ c. singleton b == singleton c) good ≡ false → ¬ (IsShortBlock T b) → MeetsLongBlock T seen (good ++ (b ∷ rest))
+  after_good : (b : ℕ × List (List ℕ)) (rest : List (ℕ × List (List ℕ))) (seen : List ℕ) (good : List (ℕ × List (List ℕ))) → AreGood T seen good → HasSingleton b → IsNew seen b → list_any (λ c. lower_singleton b == lower_singleton c) good ≡ false → ¬ (IsShortBlock T b) → MeetsLongBlock T seen (good ++ (b ∷ rest))
   after_good b rest seen [] g l k n x = here l k x
   after_good b rest seen (d ∷ ds) g l k n x =
       let parts = or_parts _ _ n in
-      later g.0.0 g.0.1 g.0.2 (after_good b rest (singleton d ∷ seen) ds g.1 l (λ i. (sym (same_test (singleton b) (singleton d)) ∙ parts.0) i || k i) parts.1 x)
+      later g.0.0 g.0.1 g.0.2 (after_good b rest (lower_singleton d ∷ seen) ds g.1 l (λ i. (sym (same_test (lower_singleton b) (lower_singleton d)) ∙ parts.0) i || k i) parts.1 x)
 
   pub reached_is_met : {bs : List (ℕ × List (List ℕ))} → ReachesLongBlock T bs → MeetsLongBlock T [] bs
   reached_is_met (good, rest, b, e, blocks, l, n, x) = subst (MeetsLongBlock T []) (sym e) (after_good b rest [] good (good_blocks blocks.1) l refl (false_from_ne_true _ n) x)
@@ -214,7 +214,7 @@ module _ {T : ℕ → Bool} where
         good_before = ((l, n, r), h.good_before);
         letter = h.letter;
         new = parts.1;
-        first = λ i. (same_test (singleton h.block) (singleton d) ∙ parts.0) i || h.first i;
+        first = λ i. (same_test (lower_singleton h.block) (lower_singleton d) ∙ parts.0) i || h.first i;
         long = h.long;
       }
 

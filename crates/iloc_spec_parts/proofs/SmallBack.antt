@@ -2,7 +2,7 @@
 use Rattle.std.proofs.Common.{◌≡◌, ◌≤◌, ℕ, Bool, false, not, cond, List, [], ◌∷◌, length, map, filter, refl, sym, ap, ◌∙◌, subst, arith, Option, Some, None, IfSome, option_map, option_to_list}
 use Rattle.std.specs.List.{AllByRecursion}
 use Rattle.std.proofs.lemmas.Bool.{cond_both, not-true}
-use Rattle.iloc_spec_grammar.specs.Syntax.{pieces, join, IsTable, Kind, Language, Script, Region, Variant, UnicodeKey, Attribute, IsWord, lower, normal, is_true, HasWords}
+use Rattle.iloc_spec_grammar.specs.Syntax.{pieces, join, AreLengths, Kind, Language, Script, Region, Variant, UnicodeKey, Attribute, IsWord, lower, normal, is_true, HasWords}
 use Rattle.iloc_spec_grammar.specs.Tree.{IsWritten, spelling, printed}
 use Rattle.iloc_spec_grammar.specs.Meaning.{normal_values}
 use Rattle.iloc_spec_grammar.specs.Values.{IsNormal, IsAscending, IsValue, IsWellFormed, IsIdentifierValue, text}
@@ -86,7 +86,7 @@ small_back {T = T} r h = tree_is_small _ r (record {
 pub small_is_value : {T : ℕ → Bool} (r : SmallLocale) → IsSmallValue T r → IsValue T (locale_of_small r)
 small_is_value r h = means_a_value _ _ (small_means _ r (small_back r h))
 
-pub small_is_well_formed : {T : ℕ → Bool} → IsTable T → (r : SmallLocale) → IsSmallValue T r → IsWellFormed (locale_of_small r)
+pub small_is_well_formed : {T : ℕ → Bool} → AreLengths T → (r : SmallLocale) → IsSmallValue T r → IsWellFormed (locale_of_small r)
 small_is_well_formed table r h = read_well_formed table _ _ (small_means _ r (small_back r h))
 
 -- what is read is a small value

@@ -3,7 +3,7 @@ use Rattle.std.proofs.Common.{◌≡◌, ◌≢◌, ◌⊎◌, inl, inr, ℕ, �
 use Rattle.std.specs.List.{AllByRecursion, list_all}
 use Rattle.std.specs.Char.{is_ascii_alphanumeric}
 use Rattle.std.proofs.lemmas.Bool.{and_parts, and_from, cond_both, false_from_ne_true, leb-true, le-leb, eqb-true, eqb-false, eq-eqb, ne_eqb}
-use Rattle.iloc_spec_grammar.specs.Syntax.{pieces, Kind, Language, Script, Region, Variant, UnicodeKey, Attribute, is_word, IsWord, IsTable, Identifier, HasWords, singleton, head, tail_blocks, front, first_piece}
+use Rattle.iloc_spec_grammar.specs.Syntax.{pieces, Kind, Language, Script, Region, Variant, UnicodeKey, Attribute, is_word, IsWord, AreLengths, Identifier, HasWords, lower_singleton, head, tail_blocks, front, first_piece}
 use Rattle.iloc_spec_grammar.specs.Meaning.{Locale, Means, normal_values, IdentifierMeans, Fault}
 use Rattle.iloc_spec_grammar.proofs.WordsLaws.{length-attribute, length-unicode_key}
 use Rattle.iloc_spec_grammar.proofs.IdentifierLaws.{one_identifier, pieces-identifier_of, identifier_of-pieces}
@@ -46,7 +46,7 @@ small_of-locale_of_small : (r : SmallLocale) → small_of_locale (locale_of_smal
 unfolding small_of_locale
 small_of-locale_of_small r = λ i. record { id = record { language = r.id.language; script = r.id.script; region = r.id.region; variant = first-option r.id.variant i }; keyword = keyword_back r.keyword i }
 
-pub one_small : {T : ℕ → Bool} → IsTable T → (t : List ℕ) (r s : SmallLocale) → IsSmall T t r → IsSmall T t s → r ≡ s
+pub one_small : {T : ℕ → Bool} → AreLengths T → (t : List ℕ) (r s : SmallLocale) → IsSmall T t r → IsSmall T t s → r ≡ s
 one_small table t r s a b = sym (small_of-locale_of_small r) ∙ ap small_of_locale (one_meaning table t _ _ (tree_means t _ (small_means t r a)) (tree_means t _ (small_means t s b))) ∙ small_of-locale_of_small s
 
 -- reading an identifier
@@ -100,7 +100,7 @@ letter_or_digit b = is_ascii_alphanumeric b.0
 has_block_fault : (b : ℕ × List (List ℕ)) → SmallBlockFault b (block_fault b)
 unfolding block_fault
 has_block_fault b = cond_both (is_ascii_alphanumeric b.0) _ _ (SmallBlockFault b)
-    (λ a. cond_both (singleton b == 117) _ _ (SmallBlockFault b)
+    (λ a. cond_both (lower_singleton b == 117) _ _ (SmallBlockFault b)
     (λ u. cond_both (is_word Attribute (first_piece b.1)) _ _ (SmallBlockFault b)
     (λ w. attribute (eqb-true _ _ u) w)
     (λ n. cond_both (is_word UnicodeKey (first_piece b.1)) _ _ (SmallBlockFault b) (λ k. after_key (eqb-true _ _ u) k) (λ k. no_key (eqb-true _ _ u) n k)))
@@ -113,10 +113,10 @@ no_both p a k = let l = length-attribute p a in let m = length-unicode_key p k i
 is_block_fault : (b : ℕ × List (List ℕ)) {f : Fault} → SmallBlockFault b f → block_fault b ≡ f
 unfolding block_fault
 is_block_fault b (no_singleton e) = rw e refl
-is_block_fault b (not_u a n) = rw (a, ne_eqb (singleton b) 117 n) refl
-is_block_fault b (attribute u a) = rw (u_letter b.0 u, eq-eqb (singleton b) 117 u, a) refl
-is_block_fault b (no_key u a k) = rw (u_letter b.0 u, eq-eqb (singleton b) 117 u, a, k) refl
-is_block_fault b (after_key u k) = rw (u_letter b.0 u, eq-eqb (singleton b) 117 u, false_from_ne_true (is_word Attribute (first_piece b.1)) (λ a. no_both (first_piece b.1) a k), k) refl
+is_block_fault b (not_u a n) = rw (a, ne_eqb (lower_singleton b) 117 n) refl
+is_block_fault b (attribute u a) = rw (u_letter b.0 u, eq-eqb (lower_singleton b) 117 u, a) refl
+is_block_fault b (no_key u a k) = rw (u_letter b.0 u, eq-eqb (lower_singleton b) 117 u, a, k) refl
+is_block_fault b (after_key u k) = rw (u_letter b.0 u, eq-eqb (lower_singleton b) 117 u, false_from_ne_true (is_word Attribute (first_piece b.1)) (λ a. no_both (first_piece b.1) a k), k) refl
 
 -- a small text without a block, and with one
 module _ {T : ℕ → Bool} (t : List ℕ) (r : SmallIdentifier) (h : IsSmallIdentifier T (head (pieces t)) r) where
@@ -149,7 +149,7 @@ has_small_block t r h b bs e = let s = keyword_spelled t r h in from s.keyword s
         let bs_is : bs ≡ [] = cc in
         (λ i. is_small_block (b_is i) (bs_is i)) ∙ here
 
-pub small_answer : {T : ℕ → Bool} → IsTable T → (t : List ℕ) → MatchResult (small_result T t) (IsSmall T t) (HasSmallFault T t)
+pub small_answer : {T : ℕ → Bool} → AreLengths T → (t : List ℕ) → MatchResult (small_result T t) (IsSmall T t) (HasSmallFault T t)
 unfolding small_result after_identifier blocks_result
 small_answer {T = T} table t = at_identifier (small_identifier_result T (head (pieces t))) (head_answer (pieces t) (pieces_nonempty t))
   where
@@ -188,7 +188,7 @@ pub by_result : {X Y : Type 0} (P : X → Type 0) (Q : Y → Type 0) (o : Result
 by_result P Q (Ok x) h = inl (x, h)
 by_result P Q (Err y) h = inr (y, h)
 
-pub small_or_fault : {T : ℕ → Bool} → IsTable T → (t : List ℕ) → ((r : SmallLocale) × IsSmall T t r) ⊎ ((f : Fault) × HasSmallFault T t f)
+pub small_or_fault : {T : ℕ → Bool} → AreLengths T → (t : List ℕ) → ((r : SmallLocale) × IsSmall T t r) ⊎ ((f : Fault) × HasSmallFault T t f)
 small_or_fault {T = T} table t = by_result (IsSmall T t) (HasSmallFault T t) (small_result T t) (small_answer table t)
 
 pub small_identifier_text_answer : (T : ℕ → Bool) (t : List ℕ) → MatchResult (small_identifier_result T (pieces t)) (IsSmallIdentifier T (pieces t)) (HasSmallIdentifierFault T (pieces t))

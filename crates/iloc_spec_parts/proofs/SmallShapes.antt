@@ -10,7 +10,7 @@ use Rattle.std.specs.FinMap.{find}
 use Rattle.std.proofs.lemmas.Bool.{or_parts, eq-eqb, false_from_ne_true}
 use Rattle.std.proofs.lemmas.Bool.Decides.{nat_tests}
 use Rattle.std.proofs.lemmas.List.{length-map}
-use Rattle.iloc_spec_grammar.specs.Syntax.{pieces, UnicodeKey, Attribute, IsWord, lower, word_cmp, Identifier, Fields, Transform, identifier_pieces, fields_pieces, transform_pieces, IsIdentifier, AllDifferent, kept, is_other_singleton, singleton, head, tail_blocks}
+use Rattle.iloc_spec_grammar.specs.Syntax.{pieces, UnicodeKey, Attribute, IsWord, lower, word_cmp, Identifier, Fields, Transform, identifier_pieces, fields_pieces, transform_pieces, IsIdentifier, AllDifferent, kept, is_other_singleton, lower_singleton, head, tail_blocks}
 use Rattle.iloc_spec_grammar.specs.Meaning.{Extensions, map_of, set_of, normal_identifier, normal_values, normal_fields, normal_extensions, just_unicode, no_transform, SpellsExtensions, after}
 use Rattle.iloc_spec_grammar.specs.Reading.{first_item}
 use Rattle.iloc_spec_grammar.proofs.MapLaws.{word_cmp_total, find-map_of}
@@ -119,7 +119,7 @@ pub record SpellsKeyword (bs : List (ℕ × List (List ℕ))) (o : Option (List 
 
 -- blocks that have nothing after `t`, `x` and another singleton are blocks of `u`
 abbrev IsOfU : ℕ × List (List ℕ) → Type 0
-IsOfU b = singleton b ≡ 117
+IsOfU b = lower_singleton b ≡ 117
 
 abbrev HasPieces : ℕ × List (List ℕ) → Type 0
 HasPieces b = (is_ascii_alphanumeric b.0 ≡ true) × (0 < length b.1)
@@ -128,22 +128,22 @@ nothing_here : {X : Type 0} (xs : List X) → 0 < length xs → xs ≡ [] → �
 nothing_here [] h e = absurd (omega arith)
 nothing_here (x ∷ xs) h e = absurd (cc)
 
-only_u : (bs : List (ℕ × List (List ℕ))) → AllByRecursion HasPieces bs → after 116 bs ≡ [] → after 120 bs ≡ [] → filter {X = ℕ × List (List ℕ)} (λ b. is_other_singleton b.0) (map (λ b. (singleton b, b.1)) bs) ≡ [] → AllByRecursion IsOfU bs
+only_u : (bs : List (ℕ × List (List ℕ))) → AllByRecursion HasPieces bs → after 116 bs ≡ [] → after 120 bs ≡ [] → filter {X = ℕ × List (List ℕ)} (λ b. is_other_singleton b.0) (map (λ b. (lower_singleton b, b.1)) bs) ≡ [] → AllByRecursion IsOfU bs
 only_u [] h t x o = tt
-only_u (b ∷ bs) h t x o = (at (kind_of (singleton b) (lower_letter b.0 h.0.0)), only_u bs h.1 (none_of_both _ _ t).1 (none_of_both _ _ x).1 (others (is_other_singleton (singleton b)) o))
+only_u (b ∷ bs) h t x o = (at (kind_of (lower_singleton b) (lower_letter b.0 h.0.0)), only_u bs h.1 (none_of_both _ _ t).1 (none_of_both _ _ x).1 (others (is_other_singleton (lower_singleton b)) o))
   where
-    at : IsKind (singleton b) → IsOfU b
+    at : IsKind (lower_singleton b) → IsOfU b
     at (of_u e) = e
-    at (of_t e) = absurd (nothing_here b.1 h.0.1 (ap (λ t. cond t b.1 []) (sym (eq-eqb (singleton b) 116 e)) ∙ (none_of_both _ _ t).0))
-    at (of_x e) = absurd (nothing_here b.1 h.0.1 (ap (λ t. cond t b.1 []) (sym (eq-eqb (singleton b) 120 e)) ∙ (none_of_both _ _ x).0))
-    at (another e) = let some : (singleton b, b.1) ∷ filter {X = ℕ × List (List ℕ)} (λ b. is_other_singleton b.0) (map (λ b. (singleton b, b.1)) bs) ≡ [] = ap (λ t. cond t ((singleton b, b.1) ∷ filter {X = ℕ × List (List ℕ)} (λ b. is_other_singleton b.0) (map (λ b. (singleton b, b.1)) bs)) (filter {X = ℕ × List (List ℕ)} (λ b. is_other_singleton b.0) (map (λ b. (singleton b, b.1)) bs))) (sym e) ∙ o in absurd (cc)
+    at (of_t e) = absurd (nothing_here b.1 h.0.1 (ap (λ t. cond t b.1 []) (sym (eq-eqb (lower_singleton b) 116 e)) ∙ (none_of_both _ _ t).0))
+    at (of_x e) = absurd (nothing_here b.1 h.0.1 (ap (λ t. cond t b.1 []) (sym (eq-eqb (lower_singleton b) 120 e)) ∙ (none_of_both _ _ x).0))
+    at (another e) = let some : (lower_singleton b, b.1) ∷ filter {X = ℕ × List (List ℕ)} (λ b. is_other_singleton b.0) (map (λ b. (lower_singleton b, b.1)) bs) ≡ [] = ap (λ t. cond t ((lower_singleton b, b.1) ∷ filter {X = ℕ × List (List ℕ)} (λ b. is_other_singleton b.0) (map (λ b. (lower_singleton b, b.1)) bs)) (filter {X = ℕ × List (List ℕ)} (λ b. is_other_singleton b.0) (map (λ b. (lower_singleton b, b.1)) bs))) (sym e) ∙ o in absurd (cc)
 
-    others : (t : Bool) → cond t ((singleton b, b.1) ∷ filter {X = ℕ × List (List ℕ)} (λ b. is_other_singleton b.0) (map (λ b. (singleton b, b.1)) bs)) (filter {X = ℕ × List (List ℕ)} (λ b. is_other_singleton b.0) (map (λ b. (singleton b, b.1)) bs)) ≡ [] → filter {X = ℕ × List (List ℕ)} (λ b. is_other_singleton b.0) (map (λ b. (singleton b, b.1)) bs) ≡ []
+    others : (t : Bool) → cond t ((lower_singleton b, b.1) ∷ filter {X = ℕ × List (List ℕ)} (λ b. is_other_singleton b.0) (map (λ b. (lower_singleton b, b.1)) bs)) (filter {X = ℕ × List (List ℕ)} (λ b. is_other_singleton b.0) (map (λ b. (lower_singleton b, b.1)) bs)) ≡ [] → filter {X = ℕ × List (List ℕ)} (λ b. is_other_singleton b.0) (map (λ b. (lower_singleton b, b.1)) bs) ≡ []
     others true e = absurd (cc)
     others false e = e
 
 -- one of `u` and what it spells
-one_of_u : (bs : List (ℕ × List (List ℕ))) → AllDifferent nat_cmp (map (λ b. singleton b) bs) → AllByRecursion HasPieces bs → AllByRecursion IsOfU bs → (fs : Fields) → after 117 bs ≡ fields_pieces fs → AllByRecursion (λ f. IsWord UnicodeKey f.0 × AllByRecursion (IsWord Attribute) f.1) fs → length fs ≤ 1 → (o : Option (List ℕ × Option (List ℕ))) → option_to_list (option_map keyword_of_small o) ≡ normal_fields fs → SpellsKeyword bs o
+one_of_u : (bs : List (ℕ × List (List ℕ))) → AllDifferent nat_cmp (map (λ b. lower_singleton b) bs) → AllByRecursion HasPieces bs → AllByRecursion IsOfU bs → (fs : Fields) → after 117 bs ≡ fields_pieces fs → AllByRecursion (λ f. IsWord UnicodeKey f.0 × AllByRecursion (IsWord Attribute) f.1) fs → length fs ≤ 1 → (o : Option (List ℕ × Option (List ℕ))) → option_to_list (option_map keyword_of_small o) ≡ normal_fields fs → SpellsKeyword bs o
 one_of_u [] d h u [] k w l None e = record { keyword = None; grammatical = tt; spelled = refl; means = refl }
 one_of_u [] d h u (f ∷ fs) k w l o e = absurd (cc)
 one_of_u bs d h u [] k w l (Some q) e = absurd (cc)
@@ -161,7 +161,7 @@ one_of_u ((c, ps) ∷ []) d h u (f ∷ []) k w l (Some q) e =
       means = λ i. Some (key i, (sym (first-option q.1) ∙ ap first_item value) i);
     }
 one_of_u bs d h u (f ∷ g ∷ fs) k w l o e = absurd (omega arith)
-one_of_u (b ∷ c ∷ bs) d h u fs k w l o e = absurd (true≢false (sym (ap (λ q. eq_by_cmp nat_cmp q (singleton c)) u.0 ∙ ap (eq_by_cmp nat_cmp 117) u.1.0 ∙ self_tied 117) ∙ (or_parts _ _ d.0).0))
+one_of_u (b ∷ c ∷ bs) d h u fs k w l o e = absurd (true≢false (sym (ap (λ q. eq_by_cmp nat_cmp q (lower_singleton c)) u.0 ∙ ap (eq_by_cmp nat_cmp 117) u.1.0 ∙ self_tied 117) ∙ (or_parts _ _ d.0).0))
 
 pub keyword_spelled : {T : ℕ → Bool} (t : List ℕ) (r : SmallLocale) → IsSmall T t r → SpellsKeyword (tail_blocks (pieces t)) r.keyword
 keyword_spelled t r h =

@@ -2,7 +2,7 @@
 use Rattle.std.proofs.Common.{◌≡◌, ◌≢◌, ℕ, ◌≤◌, Bool, false, ◌==◌, List, [], ◌∷◌, ◌++◌, length, map, flat_map, refl, sym, ap, ◌∙◌, subst, arith, Option, Some, None, IfSome, option_map, true≢false, append-nil}
 use Rattle.std.specs.List.{AllByRecursion}
 use Rattle.std.proofs.lemmas.Bool.{ne_eqb}
-use Rattle.iloc_spec_grammar.specs.Syntax.{pieces, UnicodeKey, Attribute, IsWord, Identifier, HasWords, head, tail_blocks, blocks, singleton}
+use Rattle.iloc_spec_grammar.specs.Syntax.{pieces, UnicodeKey, Attribute, IsWord, Identifier, HasWords, head, tail_blocks, blocks, lower_singleton}
 use Rattle.iloc_spec_grammar.specs.Tree.{Extension, unicode, Written, IsWritten, spelling, block_pieces, extension_block}
 use Rattle.iloc_spec_grammar.specs.Meaning.{normal_values}
 use Rattle.iloc_spec_grammar.proofs.FaultLaws.{head-and-blocks}
@@ -49,7 +49,7 @@ past_long ((c ∷ d ∷ p) ∷ xs) ys h = past_long xs ys h.1
 long_key : (p : List ℕ) → IsWord UnicodeKey p → IsLong p
 long_key p h = ne_eqb (length p) 1 (λ e. let l = length-unicode_key p h in absurd (omega arith))
 
-long_blocks : (k : Option WrittenKeyword) → IfSome k IsSmallKeyword → AllByRecursion (λ b. ((singleton b == 120) ≡ false) × AllByRecursion IsLong b.1) (keyword_blocks k)
+long_blocks : (k : Option WrittenKeyword) → IfSome k IsSmallKeyword → AllByRecursion (λ b. ((lower_singleton b == 120) ≡ false) × AllByRecursion IsLong b.1) (keyword_blocks k)
 long_blocks None g = tt
 long_blocks (Some k) g = ((rw g.u refl, (long_key k.key g.key, all_weaker (IsWord Attribute) IsLong long_attribute k.values g.values)), tt)
 

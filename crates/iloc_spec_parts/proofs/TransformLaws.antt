@@ -4,7 +4,7 @@ use Rattle.std.specs.List.{AllByRecursion, list_all}
 use Rattle.std.proofs.lemmas.Bool.{cond_both, false_from_ne_true, eqb-true}
 use Rattle.std.proofs.lemmas.List.{map-append, take-append-le, take-append-drop}
 use Rattle.std.proofs.Math.Seq.{take-append_seam, drop-append_seam}
-use Rattle.iloc_spec_grammar.specs.Syntax.{Language, Script, Region, Variant, TransformKey, Attribute, is_word, IsWord, IsTable, lower, word_cmp, Identifier, Fields, Transform, identifier_pieces, optional_pieces, fields_pieces, HasWords, IsIdentifier, IsField, AllDifferent, first_piece, front}
+use Rattle.iloc_spec_grammar.specs.Syntax.{Language, Script, Region, Variant, TransformKey, Attribute, is_word, IsWord, AreLengths, lower, word_cmp, Identifier, Fields, Transform, identifier_pieces, optional_pieces, fields_pieces, HasWords, IsIdentifier, IsField, AllDifferent, first_piece, front}
 use Rattle.iloc_spec_grammar.specs.Tree.{transform, IsTransformBlock}
 use Rattle.iloc_spec_grammar.specs.Meaning.{normal_transform, Fault, InvalidSubtag, RepeatsVariant}
 use Rattle.iloc_spec_grammar.specs.ByBlocks.{TransformMeans}
@@ -140,10 +140,10 @@ fields_answer {T = T} ps o middle h = cond_both (list_all is_field (fields_at mi
     let fields : r.written.fields ≡ fields_at middle = sym (fields_are r.middle r.written.fields r.fields r.spelled) ∙ ap fields_at fronts.1 in
     tests_not (fields_test o (fields_at middle)) n (subst (AllByRecursion IsField) fields r.fields, λ e. subst (λ (fs : Fields). 0 < length fs) fields (r.nonempty (fronts.0 ∙ e)))))
 
-pub no_empty_language : {T : ℕ → Bool} → IsTable T → is_word (Language T) [] ≡ false
+pub no_empty_language : {T : ℕ → Bool} → AreLengths T → is_word (Language T) [] ≡ false
 no_empty_language {T = T} table = false_from_ne_true _ (λ h. let l = table.least 0 (length-language T [] h) in absurd (omega arith))
 
-pub transform_answer : {T : ℕ → Bool} → IsTable T → Answers (TransformRead T) (TransformFault T) (transform_result T)
+pub transform_answer : {T : ℕ → Bool} → AreLengths T → Answers (TransformRead T) (TransformFault T) (transform_result T)
 unfolding transform_result
 transform_answer {T = T} table [] = subst (λ b. IsTransformAnswer T [] (cond b (cond (all_different word_cmp (map lower (front_of []).variants)) (fields_result (Some (front_of [])) (after_front [])) (Err InvalidSubtag)) (fields_result None []))) (sym (no_empty_language table)) (fields_answer [] None [] (absent (no_empty_language table)))
 transform_answer {T = T} table (p ∷ ps) = cond_both (is_word (Language T) p) _ _ (IsTransformAnswer T (p ∷ ps))
@@ -154,7 +154,7 @@ transform_answer {T = T} table (p ∷ ps) = cond_both (is_word (Language T) p) _
     (λ n. repeats (front_of (p ∷ ps), after_front (p ∷ ps), taken.words, taken.spelled, tests_not (tests_different word_cmp _) n)))
     (λ l. fields_answer (p ∷ ps) None (p ∷ ps) (absent l))
 
-pub transform_reader : (T : ℕ → Bool) → IsTable T → IsReader (TransformRead T) (TransformFault T)
+pub transform_reader : (T : ℕ → Bool) → AreLengths T → IsReader (TransformRead T) (TransformFault T)
 transform_reader T table = reader_of (TransformRead T) (TransformFault T) (transform_result T) (transform_answer table) (one_transform T) (transform_apart T) (one_transform_fault T)
 
 -- its block
@@ -163,7 +163,7 @@ front_parts : {T : ℕ → Bool} (ps : List (List ℕ)) {o : Option Identifier} 
 front_parts ps (absent e) = (refl, tt)
 front_parts ps (present h f) = (f.spelled, h)
 
-transform_whole : (T : ℕ → Bool) → IsTable T → (ps : List (List ℕ)) (m : Transform) (rest : List (List ℕ)) → TransformRead T ps m rest → starts_block rest ≡ true → TransformMeans T (front ps) m × (rest ≡ from_block ps)
+transform_whole : (T : ℕ → Bool) → AreLengths T → (ps : List (List ℕ)) (m : Transform) (rest : List (List ℕ)) → TransformRead T ps m rest → starts_block rest ≡ true → TransformMeans T (front ps) m × (rest ≡ from_block ps)
 transform_whole T table ps m rest h s =
     let o = optional_pieces h.written.id in
     let fs = fields_pieces h.written.fields in
@@ -235,7 +235,7 @@ transform_spelled {T = T} ps rest m h e = subst (λ (l : List (List ℕ)). Trans
 transform_block : (T : ℕ → Bool) (ps : List (List ℕ)) (m : Transform) → TransformMeans T (front ps) m → TransformRead T ps m (from_block ps)
 transform_block T ps m h = subst (λ (l : List (List ℕ)). TransformRead T l m (from_block ps)) (front-from_block ps) (transform_spelled (front ps) (from_block ps) m h (from_block_starts ps))
 
-pub transform_agrees : (T : ℕ → Bool) → IsTable T → AgreesWithBlocks (TransformRead T) (TransformFault T) (TransformMeans T)
+pub transform_agrees : (T : ℕ → Bool) → AreLengths T → AgreesWithBlocks (TransformRead T) (TransformFault T) (TransformMeans T)
 transform_agrees T table = agreeing (TransformRead T) (TransformFault T) (TransformMeans T) (transform_reader T table) (transform_whole T table) (transform_block T)
 
 -- variants that repeat, with and without what follows the block
@@ -253,7 +253,7 @@ repeats_before : {T : ℕ → Bool} → (ps rest : List (List ℕ)) → RepeatsV
 repeats_before ps rest r = (r.0, r.1 ++ rest, r.2, ap (λ l. l ++ rest) r.3 ∙ append_assoc (identifier_pieces r.0) r.1 rest, r.4)
 
 -- and what follows a block adds none
-pub repeats_in_block : {T : ℕ → Bool} → IsTable T → (ps rest : List (List ℕ)) → starts_block rest ≡ true → RepeatsVariant T ps ↔ RepeatsVariant T (ps ++ rest)
+pub repeats_in_block : {T : ℕ → Bool} → AreLengths T → (ps rest : List (List ℕ)) → starts_block rest ≡ true → RepeatsVariant T ps ↔ RepeatsVariant T (ps ++ rest)
 repeats_in_block {T = T} table ps rest s = (repeats_before ps rest, whole ps)
   where
     no_first : (rest : List (List ℕ)) → starts_block rest ≡ true → RepeatsVariant T rest → ⊥
@@ -273,7 +273,7 @@ repeats_in_block {T = T} table ps rest s = (repeats_before ps rest, whole ps)
         let found = longer_front qs (after_language r.0) rest r.1 tails l in
         (r.0, found.0, r.2, (λ i. heads i ∷ found.1 i), r.4)
 
-pub repeats_by_block : (T : ℕ → Bool) → IsTable T → (ps : List (List ℕ)) → RepeatsVariant T (front ps) ↔ RepeatsVariant T ps
+pub repeats_by_block : (T : ℕ → Bool) → AreLengths T → (ps : List (List ℕ)) → RepeatsVariant T (front ps) ↔ RepeatsVariant T ps
 repeats_by_block T table ps =
     let same = repeats_in_block table (front ps) (from_block ps) (from_block_starts ps) in
     (λ r. subst (RepeatsVariant T) (front-from_block ps) (same.0 r), λ r. same.1 (subst (RepeatsVariant T) (sym (front-from_block ps)) r))

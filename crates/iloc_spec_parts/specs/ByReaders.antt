@@ -2,13 +2,13 @@
 -- it of them. The law `by_readers` says that the two agree. Restates UTS #35, section 3,
 -- unicode_locale_id.
 use Rattle.std.specs.Prelude.{[]}
-use Rattle.iloc_spec_grammar.specs.Syntax.{Text, Table}
+use Rattle.iloc_spec_grammar.specs.Syntax.{Text, LanguageLengths}
 use Rattle.iloc_spec_grammar.specs.Meaning.{Locale}
 use Rattle.iloc_spec_grammar.specs.ByBlocks.{Rules, MeansBy}
 use Rattle.iloc_spec_parts.specs.Fronts.{UnicodeRead, TransformRead, OtherRead, PrivateRead}
 
 -- each reader reads its part of all the pieces
-abbrev pub reading_rules : Table → Rules
+abbrev pub reading_rules : LanguageLengths → Rules
 reading_rules T = record {
   unicode = λ ps v. UnicodeRead ps v [];
   transform = λ ps m. TransformRead T ps m [];
@@ -16,5 +16,5 @@ reading_rules T = record {
   other = λ ps ws. OtherRead ps ws [];
 }
 
-abbrev pub MeansByReaders : Table → Text → Locale → Type 0
+abbrev pub MeansByReaders : LanguageLengths → Text → Locale → Type 0
 MeansByReaders T t M = MeansBy (reading_rules T) T t M

@@ -5,7 +5,7 @@
 use Rattle.std.specs.Prelude.{◌≡◌, ◌+◌, ◌<◌, Bool, true, false, not, ◌&&◌, ◌||◌, List, [], length, map, if◌then◌else◌, Option, Some, None, nat_lt, ◌∷◌, is_some, Result, Ok, Err}
 use Rattle.std.specs.Int.{is_in_range}
 use Rattle.std.specs.List.{AllByRecursion, list_any, list_all}
-use Rattle.iloc_spec_grammar.specs.Syntax.{Text, Table, Language, UnicodeKey, TransformKey, Attribute, PrivateSubtag, is_word, IsWord, lower, word_cmp, Identifier, Fields, Unicode, Transform, fields_pieces, IsKeyword, IsField, IsOther, IsIdentifier, kept, first_piece}
+use Rattle.iloc_spec_grammar.specs.Syntax.{Text, LanguageLengths, Language, UnicodeKey, TransformKey, Attribute, PrivateSubtag, is_word, IsWord, lower, word_cmp, Identifier, Fields, Unicode, Transform, fields_pieces, IsKeyword, IsField, IsOther, IsPrivate, IsIdentifier, kept, first_piece}
 use Rattle.iloc_spec_grammar.specs.Meaning.{set_of, normal_fields, normal_transform, Fault, InvalidSubtag, InvalidExtension, RepeatsVariant}
 use Rattle.iloc_spec_grammar.specs.Reading.{passing, past, is_two, rest_of, IdentifierFront, front_of, after_front, fields_from}
 use Rattle.iloc_spec_grammar.specs.Computing.{all_different, is_field, is_other, is_private}
@@ -79,7 +79,8 @@ pub data UnicodeFault (ps : List Text) : Fault → Type 0 where
 -- After `t`: if the first piece is a language, the longest front of an identifier's words.
 
 -- an identifier and the longest front that is one, or none if no language is first
-pub data FrontRead (T : Table) (ps : List Text) : Option Identifier → List Text → Type 0 where
+pub data FrontRead (T : LanguageLengths)
+    (ps : List Text) : Option Identifier → List Text → Type 0 where
   absent : is_word (Language T) (first_piece ps) ≡ false → FrontRead T ps None ps
   present : {i : Identifier} {rest : List Text} → IsIdentifier T i → IdentifierFront T ps i rest
       → FrontRead T ps (Some i) rest
@@ -103,7 +104,8 @@ abbrev pub BeginsField : List Text → Type 0
 BeginsField ps = IsWord TransformKey (first_piece ps) × IsWord Attribute (first_piece (rest_of ps))
 
 -- an identifier and fields, one after the other, not both absent
-pub record TransformRead (T : Table) (ps : List Text) (m : Transform) (rest : List Text) : Type 0 where
+pub record TransformRead (T : LanguageLengths) (ps : List Text) (m : Transform)
+    (rest : List Text) : Type 0 where
   pub written : Transform
   pub middle : List Text
   pub id : FrontRead T ps written.id middle
@@ -114,7 +116,7 @@ pub record TransformRead (T : Table) (ps : List Text) (m : Transform) (rest : Li
   pub left : rest ≡ after_fields middle
 
 -- a repeated variant, or else a key without a value or nothing there
-pub data TransformFault (T : Table) (ps : List Text) : Fault → Type 0 where
+pub data TransformFault (T : LanguageLengths) (ps : List Text) : Fault → Type 0 where
   repeats : RepeatsVariant T ps → TransformFault T ps InvalidSubtag
   unread : ¬ (RepeatsVariant T ps)
       → ((m : Transform) (rest : List Text) → ¬ (TransformRead T ps m rest))
@@ -130,7 +132,8 @@ has_other_length p = is_in_range 2 8 (length p)
 abbrev pub other_front : List Text → List Text
 other_front ps = passing has_other_length ps
 
--- after another singleton ws are read from the front, and rest is left (UTS #35 3.2, `other_extensions`)
+-- after another singleton ws are read from the front, and rest is left (UTS #35 3.2,
+-- `other_extensions`)
 pub record OtherRead (ps ws rest : List Text) : Type 0 where
   pub follows : IsOther (other_front ps)
   pub means : ws ≡ kept (other_front ps)
@@ -145,11 +148,6 @@ pub data OtherFault (ps : List Text) : Fault → Type 0 where
 -- the longest front of private words
 abbrev pub private_front : List Text → List Text
 private_front ps = passing (is_word PrivateSubtag) ps
-
--- private words, one at least (UTS #35 3.2, `pu_extensions`)
-pub record IsPrivate (ps : List Text) : Type 0 where
-  pub words : AllByRecursion (IsWord PrivateSubtag) ps
-  pub nonempty : 0 < length ps
 
 -- after `x` all pieces are read, and nothing is left (UTS #35 3.2, `pu_extensions`)
 pub record PrivateRead (ps ws rest : List Text) : Type 0 where
@@ -186,16 +184,16 @@ keywords_result ps = if list_any is_bad_key (keywords_front ps) then Err Invalid
     else Ok (normal_fields (keywords_at ps), after_keywords ps)
 
 -- the attributes of ps and the keywords after them
-abbrev pub with_attributes : List Text → Result (Fields × List Text) Fault
+abbrev pub attributes_and : List Text → Result (Fields × List Text) Fault
     → Result (Unicode × List Text) Fault
-with_attributes ps (Err f) = Err f
-with_attributes ps (Ok r) = if nat_lt 0
+attributes_and ps (Err f) = Err f
+attributes_and ps (Ok r) = if nat_lt 0
     (length (attributes_front ps) + length (keywords_front (after_attributes ps)))
     then Ok (record { attributes = attributes_read ps; keywords = r.0 }, r.1)
     else Err InvalidExtension
 
 unfoldable pub unicode_result : List Text → Result (Unicode × List Text) Fault
-unicode_result ps = with_attributes ps (keywords_result (after_attributes ps))
+unicode_result ps = attributes_and ps (keywords_result (after_attributes ps))
 
 -- the fields after an identifier, or after none
 abbrev pub fields_result : Option Identifier → List Text → Result (Transform × List Text) Fault
@@ -204,7 +202,7 @@ fields_result o ps = if list_all is_field (fields_at ps)
     then Ok (normal_transform (record { id = o; fields = fields_at ps }), after_fields ps)
     else Err InvalidExtension
 
-unfoldable pub transform_result : Table → List Text → Result (Transform × List Text) Fault
+unfoldable pub transform_result : LanguageLengths → List Text → Result (Transform × List Text) Fault
 transform_result T ps = if is_word (Language T) (first_piece ps)
     then (if all_different word_cmp (map lower (front_of ps).variants)
     then fields_result (Some (front_of ps)) (after_front ps) else Err InvalidSubtag)

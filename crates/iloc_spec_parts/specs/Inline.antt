@@ -3,14 +3,14 @@
 use Rattle.std.specs.Prelude.{◌≡◌, ◌≤◌, if◌then◌else◌, [], length, IfSome, true, List, ◌∷◌, ◌++◌}
 use Rattle.std.specs.List.{AllByRecursion}
 use Rattle.std.specs.Char.{is_ascii_alphanumeric}
-use Rattle.iloc_spec_grammar.specs.Syntax.{Text, Table, Block, code_t, code_u, code_x, pieces, Language, IsWord, is_word, first_piece, Identifier, identifier_pieces, IsIdentifier, IsOther, kept, is_other_singleton, singleton}
+use Rattle.iloc_spec_grammar.specs.Syntax.{Text, LanguageLengths, Block, code_t, code_u, code_x, pieces, Language, IsWord, is_word, first_piece, Identifier, identifier_pieces, IsIdentifier, IsOther, kept, is_other_singleton, lower_singleton}
 use Rattle.iloc_spec_grammar.specs.Meaning.{Extensions, IdentifierMeans, SpellsExtensions, normal_identifier, normal_unicode, normal_values, normal_fields, head, tail_blocks, AreBlocks, IsSecond, RepeatsVariant}
 use Rattle.iloc_spec_grammar.specs.Reading.{front_of, after_front}
 use Rattle.iloc_spec_parts.specs.Fronts.{attributes_read, after_attributes, BeginsField, other_front, private_front, keywords_kept}
 
 -- The text is a locale with few words: no transform fields, no other extensions, one keyword at
 -- most, and at most four values besides `true` at each key as it is written.
-pub record IsInline (T : Table) (t : Text) : Type 0 where
+pub record IsInline (T : LanguageLengths) (t : Text) : Type 0 where
   pub id : Identifier
   pub extensions : Extensions
   pub means : IdentifierMeans T (head (pieces t)) id
@@ -37,32 +37,31 @@ pub record IsShortUnicode (ps : List Text) : Type 0 where
 
 -- after `t`: four variants at most after a language; and no key with a value follows, unless a
 -- variant stands twice
-pub record IsShortTransform (T : Table) (ps : List Text) : Type 0 where
+pub record IsShortTransform (T : LanguageLengths) (ps : List Text) : Type 0 where
   pub variants : IsWord (Language T) (first_piece ps) → length (front_of ps).variants ≤ 4
   pub no_field : ¬ (RepeatsVariant T ps)
       → ¬ (BeginsField (if is_word (Language T) (first_piece ps) then after_front ps else ps))
 
--- after another singleton: the rule is broken, and at most four words are before the fault
-pub record IsShortOther (ps : List Text) : Type 0 where
-  pub words : length (kept (other_front ps)) ≤ 4
-  pub broken : ¬ (IsOther ps)
+-- after another singleton: at most four words are before the fault, and the rule is broken
+abbrev pub IsShortOther : List Text → Type 0
+IsShortOther ps = (length (kept (other_front ps)) ≤ 4) × ¬ (IsOther ps)
 
 -- the block holds few words up to the end of its part, or up to a fault; after `x`, four at most
-pub record IsShortBlock (T : Table) (b : Block) : Type 0 where
-  pub unicode : singleton b ≡ code_u → IsShortUnicode b.1
-  pub transform : singleton b ≡ code_t → IsShortTransform T b.1
-  pub private : singleton b ≡ code_x → length (private_front b.1) ≤ 4
-  pub other : is_other_singleton (singleton b) ≡ true → IsShortOther b.1
+pub record IsShortBlock (T : LanguageLengths) (b : Block) : Type 0 where
+  pub unicode : lower_singleton b ≡ code_u → IsShortUnicode b.1
+  pub transform : lower_singleton b ≡ code_t → IsShortTransform T b.1
+  pub private : lower_singleton b ≡ code_x → length (private_front b.1) ≤ 4
+  pub other : is_other_singleton (lower_singleton b) ≡ true → IsShortOther b.1
 
 -- A block that isn't short is reached: those before it are good, and its own singleton is a letter
 -- or digit, and new. Only there may a reader of blocks allocate.
-abbrev pub ReachesLongBlock : Table → List Block → Type 0
+abbrev pub ReachesLongBlock : LanguageLengths → List Block → Type 0
 ReachesLongBlock T bs = (good rest : List Block) × (b : Block) × (bs ≡ good ++ (b ∷ rest))
     × AreBlocks T good × (is_ascii_alphanumeric b.0 ≡ true) × ¬ (IsSecond good b)
     × ¬ (IsShortBlock T b)
 
 -- the head has four variants at most, and each block after it is short
-pub record IsInlineByBlocks (T : Table) (t : Text) : Type 0 where
+pub record IsInlineByBlocks (T : LanguageLengths) (t : Text) : Type 0 where
   pub variants : (i : Identifier) → IsIdentifier T i → head (pieces t) ≡ identifier_pieces i
       → length i.variants ≤ 4
   pub blocks : AllByRecursion (IsShortBlock T) (tail_blocks (pieces t))

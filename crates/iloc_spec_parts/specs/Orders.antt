@@ -1,7 +1,7 @@
 -- The orders of values: part by part, None before Some, words by their bytes. This project's rule,
 -- as in the Rust crate.
-use Rattle.std.specs.Prelude.{◌≡◌, ◌↔◌, ℕ, List, length, nat_lt}
-use Rattle.std.specs.Ordering.{nat_cmp, bool_cmp, on, then_cmp}
+use Rattle.std.specs.Prelude.{◌≡◌, ◌↔◌, ℕ, List}
+use Rattle.std.specs.Ordering.{nat_cmp, on, then_cmp}
 use Rattle.std.specs.Option.{option_cmp}
 use Rattle.std.specs.declared.cmp.Ordering.{Ordering}
 use Rattle.std.specs.declared.cmp.Ordering.TheVariants.{Equal}
@@ -9,18 +9,12 @@ use Rattle.std.specs.Cmp.{IsTotalOrder}
 use Rattle.std.specs.Cmp.Lexicographic.{slice_cmp}
 use Rattle.iloc_spec_grammar.specs.Syntax.{Text, Block, word_cmp, Identifier, Fields, Unicode, Transform}
 use Rattle.iloc_spec_grammar.specs.Meaning.{Locale, Extensions}
+use Rattle.iloc_spec_grammar.specs.ShortLists.{short_cmp}
 
 -- A total order, by which only equal values tie.
 pub record IsExactOrder {X : Type 0} (R : X → X → Ordering) : Type 0 where
   pub total : IsTotalOrder R
   pub exact : (x y : X) → (R x y ≡ Equal) ↔ (x ≡ y)
-
--- Lists that keep an item inline: those of at most one item come before all longer ones, and within
--- each class the first different item decides, or else the length. So are variants, attributes,
--- values, private words, the words of other extensions and the pairs of keywords; the pairs of
--- fields and the list of others are compared by items alone.
-abbrev pub short_list_cmp : {X : Type 0} → (X → X → Ordering) → List X → List X → Ordering
-short_list_cmp R = then_cmp (on (λ xs. nat_lt 1 (length xs)) bool_cmp) (slice_cmp R)
 
 -- Pairs, first by the key.
 abbrev pub pair_cmp : {X Y : Type 0} → (X → X → Ordering) → (Y → Y → Ordering) → X × Y → X × Y
@@ -29,7 +23,7 @@ pair_cmp R S = then_cmp (on (λ p. p.0) R) (on (λ p. p.1) S)
 
 -- Lists of words, as short lists.
 abbrev pub words_cmp : List Text → List Text → Ordering
-words_cmp = short_list_cmp word_cmp
+words_cmp = short_cmp word_cmp
 
 -- Identifiers by language, script, region and variants.
 abbrev pub identifier_cmp : Identifier → Identifier → Ordering
@@ -39,7 +33,7 @@ identifier_cmp = then_cmp (on (λ i. i.language) word_cmp)
 
 -- Keywords: pairs of a key and its value, as a short list.
 abbrev pub keywords_cmp : Fields → Fields → Ordering
-keywords_cmp = short_list_cmp (pair_cmp word_cmp words_cmp)
+keywords_cmp = short_cmp (pair_cmp word_cmp words_cmp)
 
 -- Fields after `t`: pairs of a key and its value, item by item.
 abbrev pub fields_cmp : Fields → Fields → Ordering

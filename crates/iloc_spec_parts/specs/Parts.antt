@@ -2,7 +2,7 @@
 -- That the rest of the text is ignored is this project's rule.
 use Rattle.std.specs.Prelude.{◌≡◌, ℕ, Bool, true, false, ◌==◌, List, [], ◌∷◌}
 use Rattle.std.specs.Char.{to_ascii_lowercase}
-use Rattle.iloc_spec_grammar.specs.Syntax.{Text, Table, Block, code_t, code_u, code_x, pieces, Fields, Unicode, Transform, is_other_singleton}
+use Rattle.iloc_spec_grammar.specs.Syntax.{Text, LanguageLengths, Block, code_t, code_u, code_x, pieces, Fields, Unicode, Transform, is_other_singleton}
 use Rattle.iloc_spec_grammar.specs.Meaning.{Fault, InvalidExtension}
 use Rattle.iloc_spec_parts.specs.Fronts.{attributes_read, KeywordsRead, KeywordsFault, UnicodeRead, UnicodeFault, TransformRead, TransformFault, OtherRead, OtherFault, PrivateRead, PrivateFault}
 
@@ -14,7 +14,8 @@ begins_part test ((b ∷ []) ∷ ps) = test (to_ascii_lowercase b)
 begins_part test ((b ∷ c ∷ p) ∷ ps) = false
 
 -- the singleton is read, and the value after it
-pub record PartRead {X : Type 0} (test : ℕ → Bool) (R : List Text → X → List Text → Type 0) (ps : List Text) (part : ℕ × X) (rest : List Text) : Type 0 where
+pub record PartRead {X : Type 0} (test : ℕ → Bool) (R : List Text → X → List Text → Type 0)
+    (ps : List Text) (part : ℕ × X) (rest : List Text) : Type 0 where
   pub byte : ℕ
   pub after : List Text
   pub spelled : ps ≡ (byte ∷ []) ∷ after
@@ -23,7 +24,8 @@ pub record PartRead {X : Type 0} (test : ℕ → Bool) (R : List Text → X → 
   pub reads : R after part.1 rest
 
 -- another first piece, or a fault after the singleton
-pub data PartFault (test : ℕ → Bool) (F : List Text → Fault → Type 0) (ps : List Text) : Fault → Type 0 where
+pub data PartFault (test : ℕ → Bool) (F : List Text → Fault → Type 0)
+    (ps : List Text) : Fault → Type 0 where
   no_singleton : begins_part test ps ≡ false → PartFault test F ps InvalidExtension
   after_singleton : {b : ℕ} {after : List Text} {f : Fault} → ps ≡ (b ∷ []) ∷ after
       → begins_part test ps ≡ true → F after f → PartFault test F ps f
@@ -48,19 +50,20 @@ KeywordsTextFault t f = KeywordsFault (pieces t) f
 
 -- the text alone, with its `u`, is read as this unicode part
 abbrev pub UnicodeText : Text → Unicode → Type 0
-UnicodeText t u = (rest : List Text) × PartRead (is_letter code_u) UnicodeRead (pieces t) (code_u, u) rest
+UnicodeText t u = (rest : List Text)
+    × PartRead (is_letter code_u) UnicodeRead (pieces t) (code_u, u) rest
 
 -- why the text alone is not read as a unicode part
 abbrev pub UnicodeTextFault : Text → Fault → Type 0
 UnicodeTextFault t f = PartFault (is_letter code_u) UnicodeFault (pieces t) f
 
 -- the text alone, with its `t`, is read as this transform part
-abbrev pub TransformText : Table → Text → Transform → Type 0
+abbrev pub TransformText : LanguageLengths → Text → Transform → Type 0
 TransformText T t m = (rest : List Text)
     × PartRead (is_letter code_t) (TransformRead T) (pieces t) (code_t, m) rest
 
 -- why the text alone is not read as a transform part
-abbrev pub TransformTextFault : Table → Text → Fault → Type 0
+abbrev pub TransformTextFault : LanguageLengths → Text → Fault → Type 0
 TransformTextFault T t f = PartFault (is_letter code_t) (TransformFault T) (pieces t) f
 
 -- the text alone, with its singleton, is read as this other extension

@@ -7,7 +7,8 @@ use Rattle.iloc_spec_grammar.specs.Reading.{starts_block, from_block}
 
 -- R: a value is read from the front of the pieces, and the rest is left. F: the pieces have a
 -- fault. Always the one or the other, and only one.
-pub record IsReader {X : Type 0} (R : List Text → X → List Text → Type 0) (F : List Text → Fault → Type 0) : Type 0 where
+pub record IsReader {X : Type 0} (R : List Text → X → List Text → Type 0)
+    (F : List Text → Fault → Type 0) : Type 0 where
   pub one : (ps : List Text) (v w : X) (rest more : List Text) → R ps v rest → R ps w more
       → (v ≡ w) × (rest ≡ more)
   pub either : (ps : List Text)
@@ -18,7 +19,8 @@ pub record IsReader {X : Type 0} (R : List Text → X → List Text → Type 0) 
 -- B: what the pieces of a block mean. The block ends before the next piece of one byte. If the
 -- reader stops there, its value is the block's; if it stops before, or finds a fault, the block
 -- means nothing.
-pub record AgreesWithBlocks {X : Type 0} (R : List Text → X → List Text → Type 0) (F : List Text → Fault → Type 0) (B : List Text → X → Type 0) : Type 0 where
+pub record AgreesWithBlocks {X : Type 0} (R : List Text → X → List Text → Type 0)
+    (F : List Text → Fault → Type 0) (B : List Text → X → Type 0) : Type 0 where
   pub whole : (ps : List Text) (v : X) (rest : List Text) → R ps v rest → starts_block rest ≡ true
       → B (front ps) v × (rest ≡ from_block ps)
   pub block : (ps : List Text) (v : X) → B (front ps) v → R ps v (from_block ps)

@@ -1,10 +1,10 @@
 -- Small texts: an identifier with at most one variant, and after it nothing, or `u`, a key and at
 -- most one value besides `true`, as in `en-US-u-ca-buddhist`. They are the part of UTS #35's
--- unicode_locale_id that is read without allocating; where it ends, and how the others are refused, is
--- this project's rule.
+-- unicode_locale_id that is read without allocating; where it ends, and how the others are refused,
+-- is this project's rule.
 use Rattle.std.specs.Prelude.{◌≡◌, ◌≢◌, ◌≤◌, true, false, List, [], ◌∷◌, length, Option, IfSome, option_map, option_to_list}
 use Rattle.std.specs.Char.{is_ascii_alphanumeric}
-use Rattle.iloc_spec_grammar.specs.Syntax.{Text, Table, Field, Block, code_u, pieces, Language, Script, Region, Variant, UnicodeKey, Attribute, is_word, IsWord, is_true, Identifier, singleton, head, tail_blocks, first_piece}
+use Rattle.iloc_spec_grammar.specs.Syntax.{Text, LanguageLengths, Field, Block, code_u, pieces, Language, Script, Region, Variant, UnicodeKey, Attribute, is_word, IsWord, is_true, Identifier, lower_singleton, head, tail_blocks, first_piece}
 use Rattle.iloc_spec_grammar.specs.Meaning.{Locale, Extensions, just_unicode, IdentifierMeans, SpellsExtensions, normal_extensions, Fault, InvalidLanguage, InvalidSubtag, InvalidExtension}
 use Rattle.iloc_spec_grammar.specs.Values.{IsNormal}
 
@@ -42,15 +42,18 @@ abbrev pub locale_of_small : SmallLocale → Locale
 locale_of_small r = record {
   id = identifier_of_small r.id;
   extensions = just_unicode
-      (record { attributes = []; keywords = option_to_list (option_map keyword_of_small r.keyword) });
+      (record {
+        attributes = [];
+        keywords = option_to_list (option_map keyword_of_small r.keyword);
+      });
 }
 
 -- the pieces mean an identifier with at most one variant
-abbrev pub IsSmallIdentifier : Table → List Text → SmallIdentifier → Type 0
+abbrev pub IsSmallIdentifier : LanguageLengths → List Text → SmallIdentifier → Type 0
 IsSmallIdentifier T ps r = IdentifierMeans T ps (identifier_of_small r)
 
 -- The text means such a locale, and one keyword at most is written.
-pub record IsSmall (T : Table) (t : Text) (r : SmallLocale) : Type 0 where
+pub record IsSmall (T : LanguageLengths) (t : Text) (r : SmallLocale) : Type 0 where
   pub id : IsSmallIdentifier T (head (pieces t)) r.id
   pub written : Extensions
   pub spelled : SpellsExtensions T (tail_blocks (pieces t)) written
@@ -60,7 +63,7 @@ pub record IsSmall (T : Table) (t : Text) (r : SmallLocale) : Type 0 where
 -- Why a text isn't small.
 
 -- The pieces are no identifier with at most one variant, for this reason.
-pub data HasSmallIdentifierFault (T : Table) (ps : List Text) : Fault → Type 0 where
+pub data HasSmallIdentifierFault (T : LanguageLengths) (ps : List Text) : Fault → Type 0 where
   no_language : is_word (Language T) (first_piece ps) ≡ false
       → HasSmallIdentifierFault T ps InvalidLanguage
   no_identifier : IsWord (Language T) (first_piece ps)
@@ -71,23 +74,24 @@ pub data HasSmallIdentifierFault (T : Table) (ps : List Text) : Fault → Type 0
 -- attribute, no key, or anything after the key.
 pub data SmallBlockFault (b : Block) : Fault → Type 0 where
   no_singleton : is_ascii_alphanumeric b.0 ≡ false → SmallBlockFault b InvalidExtension
-  not_u : is_ascii_alphanumeric b.0 ≡ true → singleton b ≢ code_u → SmallBlockFault b InvalidSubtag
-  attribute : singleton b ≡ code_u → IsWord Attribute (first_piece b.1)
+  not_u : is_ascii_alphanumeric b.0 ≡ true → lower_singleton b ≢ code_u
       → SmallBlockFault b InvalidSubtag
-  no_key : singleton b ≡ code_u → is_word Attribute (first_piece b.1) ≡ false
+  attribute : lower_singleton b ≡ code_u → IsWord Attribute (first_piece b.1)
+      → SmallBlockFault b InvalidSubtag
+  no_key : lower_singleton b ≡ code_u → is_word Attribute (first_piece b.1) ≡ false
       → is_word UnicodeKey (first_piece b.1) ≡ false → SmallBlockFault b InvalidExtension
-  after_key : singleton b ≡ code_u → IsWord UnicodeKey (first_piece b.1)
+  after_key : lower_singleton b ≡ code_u → IsWord UnicodeKey (first_piece b.1)
       → SmallBlockFault b InvalidSubtag
 
 -- The text is not small, for this reason: its head, or else its first block.
-pub data HasSmallFault (T : Table) (t : Text) : Fault → Type 0 where
+pub data HasSmallFault (T : LanguageLengths) (t : Text) : Fault → Type 0 where
   bad_head : {f : Fault} → HasSmallIdentifierFault T (head (pieces t)) f → HasSmallFault T t f
   bad_block : {f : Fault} (r : SmallIdentifier) {b : Block} {bs : List Block}
       → IsSmallIdentifier T (head (pieces t)) r → ((r : SmallLocale) → ¬ (IsSmall T t r))
       → tail_blocks (pieces t) ≡ b ∷ bs → SmallBlockFault b f → HasSmallFault T t f
 
 -- what is read is of normal words, and no value is `true`
-pub record IsSmallValue (T : Table) (r : SmallLocale) : Type 0 where
+pub record IsSmallValue (T : LanguageLengths) (r : SmallLocale) : Type 0 where
   pub language : IsNormal (Language T) r.id.language
   pub script : IfSome r.id.script (IsNormal Script)
   pub region : IfSome r.id.region (IsNormal Region)

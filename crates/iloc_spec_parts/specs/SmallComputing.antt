@@ -2,7 +2,7 @@
 use Rattle.std.specs.Prelude.{ℕ, Bool, true, false, ◌&&◌, ◌==◌, nat_le, List, [], ◌∷◌, length, if◌then◌else◌, Option, Some, None, Result, Ok, Err, map, option_map}
 use Rattle.std.specs.Char.{is_ascii_alphanumeric, to_ascii_lowercase}
 use Rattle.std.specs.List.{list_all}
-use Rattle.iloc_spec_grammar.specs.Syntax.{Text, Table, Block, code_u, pieces, Language, Variant, UnicodeKey, Attribute, Identifier, is_word, lower, title, upper, singleton}
+use Rattle.iloc_spec_grammar.specs.Syntax.{Text, LanguageLengths, Block, code_u, pieces, Language, Variant, UnicodeKey, Attribute, Identifier, is_word, lower, title, upper, lower_singleton}
 use Rattle.iloc_spec_grammar.specs.Tree.{Extension, unicode, Written}
 use Rattle.iloc_spec_grammar.specs.Meaning.{Locale, normal_values, Fault, InvalidLanguage, InvalidSubtag, InvalidExtension, head, tail_blocks, first_piece}
 use Rattle.iloc_spec_grammar.specs.Values.{text}
@@ -26,7 +26,7 @@ small_identifier i = record {
 }
 
 -- the small identifier that the pieces are, or why they are none
-unfoldable pub small_identifier_result : Table → List Text → Result SmallIdentifier Fault
+unfoldable pub small_identifier_result : LanguageLengths → List Text → Result SmallIdentifier Fault
 small_identifier_result T [] = Err InvalidLanguage
 small_identifier_result T (p ∷ ps) = if is_word (Language T) p
     then (if has_small_variants (identifier_of (p ∷ ps)).variants
@@ -59,7 +59,7 @@ keyword_read (p ∷ ps) = (lower p, first_item (normal_values ps))
 -- the fault of another first block
 unfoldable pub block_fault : Block → Fault
 block_fault b = if is_ascii_alphanumeric b.0
-    then (if singleton b == code_u
+    then (if lower_singleton b == code_u
     then (if is_word Attribute (first_piece b.1) then InvalidSubtag
     else (if is_word UnicodeKey (first_piece b.1) then InvalidSubtag else InvalidExtension))
     else InvalidSubtag)
@@ -78,7 +78,7 @@ after_identifier (Ok r) bs = blocks_result r bs
 after_identifier (Err f) bs = Err f
 
 -- the whole text
-unfoldable pub small_result : Table → Text → Result SmallLocale Fault
+unfoldable pub small_result : LanguageLengths → Text → Result SmallLocale Fault
 small_result T t = after_identifier (small_identifier_result T (head (pieces t)))
     (tail_blocks (pieces t))
 
@@ -106,5 +106,5 @@ abbrev pub few_where_read : Written → Result Locale Fault → Bool
 few_where_read w (Ok M) = has_few_words w M
 few_where_read w (Err f) = false
 
-unfoldable pub is_inline : Table → Text → Bool
+unfoldable pub is_inline : LanguageLengths → Text → Bool
 is_inline T t = few_where_read (written_of (pieces t)) (locale_result T t)

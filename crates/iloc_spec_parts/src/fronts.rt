@@ -9,12 +9,12 @@ ghost use Rattle.std.specs.Prelude.{◌≡◌, ◌↔◌, true, false, ◌||◌,
 ghost use Rattle.std.specs.FinMap.{find};
 ghost use Rattle.std.specs.List.{AllByRecursion, list_any};
 ghost use Rattle.std.specs.Option.{option_or};
-ghost use Rattle.iloc_spec_grammar.specs.Syntax.{Text, Table, Block, code_t, code_u, code_x, pieces, join, IsTable, Subtag, Attribute, is_true, is_same, word_cmp, languages, Unicode, Transform, IsOther, is_other_singleton, singleton};
+ghost use Rattle.iloc_spec_grammar.specs.Syntax.{Text, LanguageLengths, Block, code_t, code_u, code_x, pieces, join, AreLengths, Subtag, Attribute, is_true, is_same, word_cmp, languages, Unicode, Transform, IsOther, is_other_singleton, lower_singleton, IsPrivate};
 ghost use Rattle.iloc_spec_grammar.specs.Values.{IsNormal, IsUnicodeValue, spelled_value};
 ghost use Rattle.iloc_spec_grammar.specs.Meaning.{InvalidSubtag, InvalidExtension, RepeatsVariant, AreBlocks, front, Locale, Means};
 ghost use Rattle.iloc_spec_grammar.specs.ByBlocks.{UnicodeMeans, TransformMeans, OtherMeans};
 ghost use Rattle.iloc_spec_parts.specs.Readers.{IsReader, AgreesWithBlocks};
-ghost use Rattle.iloc_spec_parts.specs.Fronts.{attributes_read, KeywordsRead, KeywordsFault, UnicodeRead, UnicodeFault, TransformRead, TransformFault, OtherRead, OtherFault, IsPrivate, PrivateRead, PrivateFault, keywords_result, unicode_result, transform_result, other_result, private_result};
+ghost use Rattle.iloc_spec_parts.specs.Fronts.{attributes_read, KeywordsRead, KeywordsFault, UnicodeRead, UnicodeFault, TransformRead, TransformFault, OtherRead, OtherFault, PrivateRead, PrivateFault, keywords_result, unicode_result, transform_result, other_result, private_result};
 ghost use Rattle.iloc_spec_parts.specs.Parts.{PartRead, PartFault, is_letter};
 ghost use Rattle.iloc_spec_parts.specs.PartValues.{unicode_value, transform_value};
 ghost use Rattle.iloc_spec_parts.specs.Extending.{extend};
@@ -40,13 +40,14 @@ pub fn unicode_front()
 
 /// The same after `t`. A variant is repeated in the block exactly if it is at the front.
 pub fn transform_front()
-    ensures reader { (T : Table) → IsTable T → IsReader (TransformRead T) (TransformFault T) }
-    ensures answer { (T : Table) → IsTable T → (ps : List Text)
+    ensures reader { (T : LanguageLengths) → AreLengths T
+        → IsReader (TransformRead T) (TransformFault T) }
+    ensures answer { (T : LanguageLengths) → AreLengths T → (ps : List Text)
         → MatchResult (transform_result T ps) (λ r. TransformRead T ps r.0 r.1)
         (TransformFault T ps) }
-    ensures blocks { (T : Table) → IsTable T
+    ensures blocks { (T : LanguageLengths) → AreLengths T
         → AgreesWithBlocks (TransformRead T) (TransformFault T) (TransformMeans T) }
-    ensures repeats { (T : Table) → IsTable T → (ps : List Text)
+    ensures repeats { (T : LanguageLengths) → AreLengths T → (ps : List Text)
         → RepeatsVariant T (front ps) ↔ RepeatsVariant T ps }
 {}
 
@@ -71,7 +72,7 @@ pub fn private_front()
 pub fn parts()
     ensures unicode { IsReader (PartRead (is_letter code_u) UnicodeRead)
         (PartFault (is_letter code_u) UnicodeFault) }
-    ensures transform { (T : Table) → IsTable T
+    ensures transform { (T : LanguageLengths) → AreLengths T
         → IsReader (PartRead (is_letter code_t) (TransformRead T))
         (PartFault (is_letter code_t) (TransformFault T)) }
     ensures other { IsReader (PartRead is_other_singleton OtherRead)
@@ -82,13 +83,14 @@ pub fn parts()
 
 /// A block follows its rule exactly if it means a part.
 pub fn block_rules()
-    ensures unicode { (T : Table) (b : Block) → singleton b ≡ code_u
+    ensures unicode { (T : LanguageLengths) (b : Block) → lower_singleton b ≡ code_u
         → AreBlocks T (b ∷ []) ↔ ((u : Unicode) × UnicodeMeans b.1 u) }
-    ensures transform { (T : Table) (b : Block) → singleton b ≡ code_t
+    ensures transform { (T : LanguageLengths) (b : Block) → lower_singleton b ≡ code_t
         → AreBlocks T (b ∷ []) ↔ ((m : Transform) × TransformMeans T b.1 m) }
-    ensures private { (T : Table) (b : Block) → singleton b ≡ code_x
+    ensures private { (T : LanguageLengths) (b : Block) → lower_singleton b ≡ code_x
         → AreBlocks T (b ∷ []) ↔ IsPrivate b.1 }
-    ensures other { (T : Table) (b : Block) → is_other_singleton (singleton b) ≡ true
+    ensures other { (T : LanguageLengths) (b : Block)
+        → is_other_singleton (lower_singleton b) ≡ true
         → AreBlocks T (b ∷ []) ↔ IsOther b.1 }
 {}
 
@@ -176,7 +178,7 @@ pub fn by_example()
 
 /// A text means a value exactly if the readers of its parts read that value from its blocks and leave nothing.
 pub fn by_readers()
-    ensures { (T : Table) → IsTable T → (t : Text) (M : Locale)
+    ensures { (T : LanguageLengths) → AreLengths T → (t : Text) (M : Locale)
         → Means T t M ↔ MeansByReaders T t M }
 {}
 
@@ -186,7 +188,7 @@ pub fn part_answers()
         → MatchResult (part_result (is_letter code_u) unicode_result ps)
         (λ r. PartRead (is_letter code_u) UnicodeRead ps r.0 r.1)
         (PartFault (is_letter code_u) UnicodeFault ps) }
-    ensures transform { (T : Table) → IsTable T → (ps : List Text)
+    ensures transform { (T : LanguageLengths) → AreLengths T → (ps : List Text)
         → MatchResult (part_result (is_letter code_t) (transform_result T) ps)
         (λ r. PartRead (is_letter code_t) (TransformRead T) ps r.0 r.1)
         (PartFault (is_letter code_t) (TransformFault T) ps) }

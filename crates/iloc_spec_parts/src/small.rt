@@ -5,7 +5,7 @@
 //! its blocks, so no parser of a part allocates.
 
 ghost use Rattle.std.specs.Prelude.{◌≡◌, ◌↔◌, ◌⊎◌, ℕ, true, false, List, [], Ok, Err, MatchResult, codes};
-ghost use Rattle.iloc_spec_grammar.specs.Syntax.{Text, Table, Block, code_t, code_u, pieces, TransformKey, Attribute, is_word, IsWord, IsTable, languages, kept, singleton, is_other_singleton, first_piece};
+ghost use Rattle.iloc_spec_grammar.specs.Syntax.{Text, LanguageLengths, Block, code_t, code_u, pieces, TransformKey, Attribute, is_word, IsWord, AreLengths, languages, kept, lower_singleton, is_other_singleton, first_piece};
 ghost use Rattle.iloc_spec_grammar.specs.Reading.{rest_of};
 ghost use Rattle.iloc_spec_parts.specs.Fronts.{is_bad_key, other_front};
 ghost use Rattle.iloc_spec_grammar.specs.Meaning.{Locale, Means, IdentifierMeans, Fault, InvalidLanguage, InvalidSubtag, InvalidExtension};
@@ -17,61 +17,69 @@ ghost use Rattle.std.specs.List.{AllByRecursion};
 
 /// A small text is read in one way, as a value of normal words, and is a locale of the same parts and nothing else.
 pub fn small_texts()
-    ensures one { (T : Table) → IsTable T → (t : Text) (r s : SmallLocale) → IsSmall T t r
+    ensures one { (T : LanguageLengths) → AreLengths T → (t : Text) (r s : SmallLocale)
+        → IsSmall T t r
         → IsSmall T t s → r ≡ s }
-    ensures locale { (T : Table) (t : Text) (r : SmallLocale) → IsSmall T t r
+    ensures locale { (T : LanguageLengths) (t : Text) (r : SmallLocale) → IsSmall T t r
         → Means T t (locale_of_small r) }
-    ensures value { (T : Table) (t : Text) (r : SmallLocale) → IsSmall T t r → IsSmallValue T r }
-    ensures back { (T : Table) (r : SmallLocale) → IsSmallValue T r
+    ensures value { (T : LanguageLengths) (t : Text) (r : SmallLocale) → IsSmall T t r
+        → IsSmallValue T r }
+    ensures back { (T : LanguageLengths) (r : SmallLocale) → IsSmallValue T r
         → IsSmall T (text (locale_of_small r)) r }
 {}
 
 /// Each text is small or has a fault, never both, and one fault at most; and a plain program says which.
 pub fn small_or_one_fault()
-    ensures either { (T : Table) → IsTable T → (t : Text)
+    ensures either { (T : LanguageLengths) → AreLengths T → (t : Text)
         → ((r : SmallLocale) × IsSmall T t r) ⊎ ((f : Fault) × HasSmallFault T t f) }
-    ensures apart { (T : Table) (t : Text) (r : SmallLocale) (f : Fault) → IsSmall T t r
+    ensures apart { (T : LanguageLengths) (t : Text) (r : SmallLocale) (f : Fault) → IsSmall T t r
         → HasSmallFault T t f → ⊥ }
-    ensures one { (T : Table) (t : Text) (f g : Fault) → HasSmallFault T t f → HasSmallFault T t g
+    ensures one { (T : LanguageLengths) (t : Text) (f g : Fault) → HasSmallFault T t f
+        → HasSmallFault T t g
         → f ≡ g }
-    ensures answer { (T : Table) → IsTable T → (t : Text)
+    ensures answer { (T : LanguageLengths) → AreLengths T → (t : Text)
         → MatchResult (small_result T t) (IsSmall T t) (HasSmallFault T t) }
 {}
 
 /// The same for identifiers with at most one variant.
 pub fn small_identifiers()
-    ensures one { (T : Table) (ps : List Text) (r s : SmallIdentifier) → IsSmallIdentifier T ps r
+    ensures one { (T : LanguageLengths) (ps : List Text) (r s : SmallIdentifier)
+        → IsSmallIdentifier T ps r
         → IsSmallIdentifier T ps s → r ≡ s }
-    ensures means { (T : Table) (ps : List Text) (r : SmallIdentifier) → IsSmallIdentifier T ps r
+    ensures means { (T : LanguageLengths) (ps : List Text) (r : SmallIdentifier)
+        → IsSmallIdentifier T ps r
         → IdentifierMeans T ps (identifier_of_small r) }
-    ensures either { (T : Table) (t : Text)
+    ensures either { (T : LanguageLengths) (t : Text)
         → ((r : SmallIdentifier) × IsSmallIdentifier T (pieces t) r)
         ⊎ ((f : Fault) × HasSmallIdentifierFault T (pieces t) f) }
-    ensures apart { (T : Table) (ps : List Text) (r : SmallIdentifier) (f : Fault)
+    ensures apart { (T : LanguageLengths) (ps : List Text) (r : SmallIdentifier) (f : Fault)
         → IsSmallIdentifier T ps r → HasSmallIdentifierFault T ps f → ⊥ }
-    ensures one_fault { (T : Table) (ps : List Text) (f g : Fault) → HasSmallIdentifierFault T ps f
+    ensures one_fault { (T : LanguageLengths) (ps : List Text) (f g : Fault)
+        → HasSmallIdentifierFault T ps f
         → HasSmallIdentifierFault T ps g → f ≡ g }
-    ensures answer { (T : Table) (t : Text)
+    ensures answer { (T : LanguageLengths) (t : Text)
         → MatchResult (small_identifier_result T (pieces t)) (IsSmallIdentifier T (pieces t))
         (HasSmallIdentifierFault T (pieces t)) }
 {}
 
 /// A small text is one of few words.
 pub fn small_is_inline()
-    ensures { (T : Table) (t : Text) (r : SmallLocale) → IsSmall T t r → IsInline T t }
+    ensures { (T : LanguageLengths) (t : Text) (r : SmallLocale) → IsSmall T t r → IsInline T t }
 {}
 
 /// An inline text is a locale; and a plain program says whether a text is inline.
 #[tactic(auto, using(crate::proofs::InlineLaws::inline_means, crate::proofs::InlineLaws::inline_answer))]
 pub fn inline_texts()
-    ensures locale { (T : Table) (t : Text) → IsInline T t → (M : Locale) × Means T t M }
-    ensures answer { (T : Table) → IsTable T → (t : Text) → (is_inline T t ≡ true) ↔ IsInline T t }
+    ensures locale { (T : LanguageLengths) (t : Text) → IsInline T t → (M : Locale) × Means T t M }
+    ensures answer { (T : LanguageLengths) → AreLengths T → (t : Text) → (is_inline T t ≡ true)
+        ↔ IsInline T t }
 {}
 
 /// Over a wider table of languages a small text stays what it is.
 #[tactic(auto, using(crate::proofs::WiderSmall::small_wider))]
 pub fn wider_small()
-    ensures { (T U : Table) → ((n : ℕ) → T n ≡ true → U n ≡ true) → (t : Text) (r : SmallLocale)
+    ensures { (T U : LanguageLengths) → ((n : ℕ) → T n ≡ true → U n ≡ true)
+        → (t : Text) (r : SmallLocale)
         → IsSmall T t r → IsSmall U t r }
 {}
 
@@ -109,23 +117,25 @@ pub fn by_example()
 
 /// Each block of an inline text has few words.
 pub fn by_blocks()
-    ensures { (T : Table) → IsTable T → (t : Text) → IsInline T t → IsInlineByBlocks T t }
+    ensures { (T : LanguageLengths) → AreLengths T → (t : Text) → IsInline T t
+        → IsInlineByBlocks T t }
 {}
 
 /// If all blocks are short, none that is long is reached.
 #[tactic(auto, using(crate::proofs::InlineBlockLaws::none_long))]
 pub fn short_blocks()
-    ensures { (T : Table) (bs : List Block) → ReachesLongBlock T bs
+    ensures { (T : LanguageLengths) (bs : List Block) → ReachesLongBlock T bs
         → ¬ (AllByRecursion (IsShortBlock T) bs) }
 {}
 
 /// A block that breaks its rule before anything is kept of it is short: so `en-u-a8`, `en-t-m0` and `en-a-!!` are refused without allocating.
 pub fn broken_blocks()
-    ensures unicode { (T : Table) (b : Block) → singleton b ≡ code_u
+    ensures unicode { (T : LanguageLengths) (b : Block) → lower_singleton b ≡ code_u
         → is_bad_key (first_piece b.1) ≡ true → IsShortBlock T b }
-    ensures transform { (T : Table) (b : Block) → singleton b ≡ code_t
+    ensures transform { (T : LanguageLengths) (b : Block) → lower_singleton b ≡ code_t
         → IsWord TransformKey (first_piece b.1)
         → is_word Attribute (first_piece (rest_of b.1)) ≡ false → IsShortBlock T b }
-    ensures other { (T : Table) (b : Block) → is_other_singleton (singleton b) ≡ true
+    ensures other { (T : LanguageLengths) (b : Block)
+        → is_other_singleton (lower_singleton b) ≡ true
         → kept (other_front b.1) ≡ [] → IsShortBlock T b }
 {}

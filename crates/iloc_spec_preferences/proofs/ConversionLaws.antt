@@ -4,10 +4,10 @@ use Rattle.std.proofs.lemmas.Bool.{cond_both}
 use Rattle.std.specs.Option.{option_or}
 use Rattle.std.specs.Result.{result_ok}
 use Rattle.std.specs.FinMap.{find}
-use Rattle.iloc_spec_grammar.specs.Syntax.{Region, IsTable, word_cmp, is_same, Identifier}
+use Rattle.iloc_spec_grammar.specs.Syntax.{Region, AreLengths, word_cmp, is_same, Identifier}
 use Rattle.iloc_spec_grammar.specs.Meaning.{Locale, Means}
 use Rattle.iloc_spec_grammar.specs.Values.{IsNormal}
-use Rattle.iloc_spec_grammar.proofs.Corollaries.{only_meaning}
+use Rattle.iloc_spec_grammar.proofs.SameMeaning.{one_meaning}
 use Rattle.iloc_spec_parts.specs.Small.{SmallLocale, keyword_of_small, locale_of_small}
 use Rattle.iloc_spec_grammar.specs.Reading.{first_item}
 use Rattle.iloc_spec_preferences.specs.Subdivisions.{Subdivision, subdivision, subdivision_text}
@@ -43,8 +43,8 @@ part_of_locale r p e = from r.id.region r.keyword e
         (λ q e. absurd (cc))
         e
 
-pub agrees : {T : ℕ → Bool} → IsTable T → (t : List ℕ) (d : DataLocale) (M : Locale) → DataMeans T t d → Means T t M → d ≡ language_priority (preferences M)
-agrees table t d M h m = from (small_part h.small.id.region h.small.keyword) refl h.means ∙ ap (λ (M : Locale). language_priority (preferences M)) (only_meaning table t _ _ (small_means t h.small h.is_small) m)
+pub agrees : {T : ℕ → Bool} → AreLengths T → (t : List ℕ) (d : DataLocale) (M : Locale) → DataMeans T t d → Means T t M → d ≡ language_priority (preferences M)
+agrees table t d M h m = from (small_part h.small.id.region h.small.keyword) refl h.means ∙ ap (λ (M : Locale). language_priority (preferences M)) (one_meaning table t _ _ (small_means t h.small h.is_small) m)
   where
     from : (o : Option (Option Subdivision)) → small_part h.small.id.region h.small.keyword ≡ o → option_map (λ part. made_of h.small.id.language h.small.id.script part h.small.id.variant) o ≡ Some d → d ≡ language_priority (preferences (locale_of_small h.small))
     from None q e = absurd (cc)

@@ -3,7 +3,7 @@ use Rattle.std.proofs.Common.{◌≡◌, ◌≤◌, ◌⊎◌, ℕ, Bool, true, 
 use Rattle.std.specs.Result.{result_ok}
 use Rattle.std.proofs.lemmas.Bool.{cond_both}
 use Rattle.std.proofs.lemmas.Bool.Decides.{nat_tests}
-use Rattle.iloc_spec_grammar.specs.Syntax.{join, Region, Subtag, UnicodeKey, Attribute, SubdivisionSuffix, is_word, IsWord, IsTable, lower, is_same, is_true, identifier_pieces}
+use Rattle.iloc_spec_grammar.specs.Syntax.{join, Region, Subtag, UnicodeKey, Attribute, SubdivisionSuffix, is_word, IsWord, AreLengths, lower, is_same, is_true, identifier_pieces}
 use Rattle.iloc_spec_grammar.specs.Meaning.{Locale, Fault, InvalidExtension}
 use Rattle.iloc_spec_grammar.specs.Values.{IsNormal, IsValue, IsWellFormed, extensions_spelling, text}
 use Rattle.iloc_spec_grammar.proofs.MapLaws.{same_itself, same_is}
@@ -22,7 +22,7 @@ use Rattle.iloc_spec_preferences.proofs.SubdivisionLaws.{subdivision_back, subdi
 
 -- what is read of a text
 
-pub data_answer : {T : ℕ → Bool} → IsTable T → (t : List ℕ) → MatchResult (data_result T t) (DataMeans T t) (HasDataFault T t)
+pub data_answer : {T : ℕ → Bool} → AreLengths T → (t : List ℕ) → MatchResult (data_result T t) (DataMeans T t) (HasDataFault T t)
 unfolding data_result
 data_answer {T = T} table t = at_small (small_result T t) (small_answer table t)
   where
@@ -37,12 +37,12 @@ data_answer {T = T} table t = at_small (small_result T t) (small_answer table t)
     at_small (Ok r) h = at_data r h (data_of_small r) refl
     at_small (Err f) h = not_small h
 
-pub one_data : {T : ℕ → Bool} → IsTable T → (t : List ℕ) (d e : DataLocale) → DataMeans T t d → DataMeans T t e → d ≡ e
+pub one_data : {T : ℕ → Bool} → AreLengths T → (t : List ℕ) (d e : DataLocale) → DataMeans T t d → DataMeans T t e → d ≡ e
 one_data table t d e a b =
     let same : Some d ≡ Some e = sym a.means ∙ ap data_of_small (one_small table t a.small b.small a.is_small b.is_small) ∙ b.means in
     cc
 
-pub data_apart : {T : ℕ → Bool} → IsTable T → (t : List ℕ) (d : DataLocale) (f : Fault) → DataMeans T t d → HasDataFault T t f → ⊥
+pub data_apart : {T : ℕ → Bool} → AreLengths T → (t : List ℕ) (d : DataLocale) (f : Fault) → DataMeans T t d → HasDataFault T t f → ⊥
 data_apart table t d f h (not_small x) = small_apart t h.small f h.is_small x
 data_apart table t d f h (no_subdivision {r = r} s e) =
     let same : Some d ≡ None = sym h.means ∙ ap data_of_small (one_small table t h.small r h.is_small s) ∙ e in
@@ -110,7 +110,7 @@ small_value_of_data d h =
 pub locale_of_data_is_value : {T : ℕ → Bool} (d : DataLocale) → IsDataLocale T d → IsValue T (locale_of_data d)
 locale_of_data_is_value d h = small_is_value (small_of_data d) (small_value_of_data d h)
 
-pub locale_of_data_is_well_formed : {T : ℕ → Bool} → IsTable T → (d : DataLocale) → IsDataLocale T d → IsWellFormed (locale_of_data d)
+pub locale_of_data_is_well_formed : {T : ℕ → Bool} → AreLengths T → (d : DataLocale) → IsDataLocale T d → IsWellFormed (locale_of_data d)
 locale_of_data_is_well_formed table d h = small_is_well_formed table (small_of_data d) (small_value_of_data d h)
 
 -- what is read: made of a part that spells no `true`
@@ -193,9 +193,9 @@ read_back {T = T} t d h =
       means = ap (λ (e : DataLocale). data_of_small (small_of_data e)) m.2 ∙ ap (option_map (λ part. made_of h.small.id.language h.small.id.script part h.small.id.variant)) (part_back m.0 m.1) ∙ ap Some (sym m.2);
     }
 
-pub data_or_fault : {T : ℕ → Bool} → IsTable T → (t : List ℕ) → ((d : DataLocale) × DataMeans T t d) ⊎ ((f : Fault) × HasDataFault T t f)
+pub data_or_fault : {T : ℕ → Bool} → AreLengths T → (t : List ℕ) → ((d : DataLocale) × DataMeans T t d) ⊎ ((f : Fault) × HasDataFault T t f)
 data_or_fault {T = T} table t = by_result (DataMeans T t) (HasDataFault T t) (data_result T t) (data_answer table t)
 
 -- no other well-formed value has its text
-pub only_locale : {T : ℕ → Bool} → IsTable T → (d : DataLocale) → IsDataLocale T d → (M : Locale) → IsValue T M → IsWellFormed M → text M ≡ data_text d → M ≡ locale_of_data d
+pub only_locale : {T : ℕ → Bool} → AreLengths T → (d : DataLocale) → IsDataLocale T d → (M : Locale) → IsValue T M → IsWellFormed M → text M ≡ data_text d → M ≡ locale_of_data d
 only_locale {T = T} table d h M v w e = same_text_same_value M (locale_of_data d) w (locale_of_data_is_well_formed table d h) (e ∙ sym (text_of_data d))

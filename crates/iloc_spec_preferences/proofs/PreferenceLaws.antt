@@ -4,7 +4,7 @@ use Rattle.std.specs.Option.{option_or}
 use Rattle.std.specs.Result.{result_ok}
 use Rattle.std.specs.List.{AllByRecursion}
 use Rattle.std.specs.FinMap.{find, is_sorted}
-use Rattle.iloc_spec_grammar.specs.Syntax.{IsTable, Region, Variant, Subtag, UnicodeKey, word_cmp, is_same, is_word, lower, is_true}
+use Rattle.iloc_spec_grammar.specs.Syntax.{AreLengths, Region, Variant, Subtag, UnicodeKey, word_cmp, is_same, is_word, lower, is_true}
 use Rattle.iloc_spec_grammar.specs.Meaning.{Locale}
 use Rattle.iloc_spec_grammar.specs.Values.{IsNormal, IsValue, IsWellFormed}
 use Rattle.iloc_spec_grammar.proofs.ValuesLaws.{all_weaker}
@@ -146,7 +146,7 @@ locale_is_value p h = record {
     region_is None h = tt
     region_is (Some s) h = h.region
 
-pub locale_is_well_formed : {T : ℕ → Bool} → IsTable T → (p : Preferences) → IsPreferences T p → IsWellFormed (locale_of_preferences p)
+pub locale_is_well_formed : {T : ℕ → Bool} → AreLengths T → (p : Preferences) → IsPreferences T p → IsWellFormed (locale_of_preferences p)
 locale_is_well_formed table p h = well_formed_value table (locale_of_preferences p) (locale_is_value p h) (record { ascending = refl; singletons = tt; nonempty = tt; values = all_weaker IsEntry (λ f. AllByRecursion (λ w. (is_true w ≡ false) × (length w ≢ 2)) f.1) (λ f e. e.1) _ (locale_entries p h) })
 
 -- preferences of a value keep what the type keeps

@@ -5,7 +5,7 @@
 use Rattle.std.specs.Prelude.{◌≡◌, Bool, IfSome, List, [], ◌∷◌, ◌++◌, Option, Some, None, option_map, option_and_then, option_to_list, codes, if◌then◌else◌}
 use Rattle.std.specs.Option.{option_or}
 use Rattle.std.specs.Result.{result_ok}
-use Rattle.iloc_spec_grammar.specs.Syntax.{Text, Table, join, Language, Script, Region, Variant, Subtag, lower, is_same, is_true, Identifier, Fields}
+use Rattle.iloc_spec_grammar.specs.Syntax.{Text, LanguageLengths, join, Language, Script, Region, Variant, Subtag, lower, is_same, is_true, Identifier, Fields}
 use Rattle.iloc_spec_grammar.specs.Meaning.{Locale, just_unicode, Fault, InvalidExtension}
 use Rattle.iloc_spec_grammar.specs.Values.{IsNormal}
 use Rattle.iloc_spec_parts.specs.Small.{SmallLocale, identifier_of_small, locale_of_small, IsSmall, HasSmallFault}
@@ -21,7 +21,7 @@ pub record DataLocale : Type 0 where
   pub subdivision : Option Text
 
 -- What the type keeps of each.
-pub record IsDataLocale (T : Table) (d : DataLocale) : Type 0 where
+pub record IsDataLocale (T : LanguageLengths) (d : DataLocale) : Type 0 where
   pub language : IsNormal (Language T) d.language
   pub script : IfSome d.script (IsNormal Script)
   pub region : IfSome d.region (IsNormal Region)
@@ -91,13 +91,13 @@ data_of_small r = option_map (λ part. made_of r.id.language r.id.script part r.
     (small_part r.id.region r.keyword)
 
 -- The text means the data locale.
-pub record DataMeans (T : Table) (t : Text) (d : DataLocale) : Type 0 where
+pub record DataMeans (T : LanguageLengths) (t : Text) (d : DataLocale) : Type 0 where
   pub small : SmallLocale
   pub is_small : IsSmall T t small
   pub means : data_of_small small ≡ Some d
 
 -- The text is no data locale, for this reason.
-pub data HasDataFault (T : Table) (t : Text) : Fault → Type 0 where
+pub data HasDataFault (T : LanguageLengths) (t : Text) : Fault → Type 0 where
   not_small : {f : Fault} → HasSmallFault T t f → HasDataFault T t f
   no_subdivision : {r : SmallLocale} → IsSmall T t r → data_of_small r ≡ None
       → HasDataFault T t InvalidExtension
@@ -144,8 +144,8 @@ abbrev pub locale_of_data : DataLocale → Locale
 locale_of_data d = locale_of_small (small_of_data d)
 
 -- The locale of the identifier's parts and these keywords.
-abbrev pub with_keywords : DataLocale → Fields → Locale
-with_keywords d fields = record {
+abbrev pub locale_with_keywords : DataLocale → Fields → Locale
+locale_with_keywords d fields = record {
   id = identifier_of_small (small_of_data d).id;
   extensions = just_unicode (record { attributes = []; keywords = fields });
 }

@@ -1,6 +1,6 @@
 -- Worked examples are shown on texts.
 use Rattle.std.specs.Prelude.{Bool, Result, Ok, Err}
-use Rattle.iloc_spec_grammar.specs.Syntax.{Text, Table}
+use Rattle.iloc_spec_grammar.specs.Syntax.{Text, LanguageLengths}
 use Rattle.iloc_spec_grammar.specs.Meaning.{Locale, Fault}
 use Rattle.iloc_spec_grammar.specs.Values.{text}
 use Rattle.iloc_spec_grammar.specs.Computing.{locale_result}
@@ -22,7 +22,7 @@ conversions_of (Ok M) = Ok (
 )
 conversions_of (Err f) = Err f
 
-abbrev pub conversions : Table → Text → Result (Bool × Text × Text) Fault
+abbrev pub conversions : LanguageLengths → Text → Result (Bool × Text × Text) Fault
 conversions T t = conversions_of (locale_result T t)
 
 -- the text of the locale that preferences become

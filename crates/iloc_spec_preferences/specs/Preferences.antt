@@ -4,12 +4,12 @@
 use Rattle.std.specs.Prelude.{◌≡◌, Bool, IfSome, true, false, not, ◌&&◌, ◌||◌, List, [], ◌∷◌, ◌++◌, Option, Some, None, option_map, option_and_then, is_some, is_none, codes, if◌then◌else◌}
 use Rattle.std.specs.Option.{option_or}
 use Rattle.std.specs.FinMap.{find}
-use Rattle.iloc_spec_grammar.specs.Syntax.{Text, Table, Language, Script, Variant, word_cmp, is_same, is_true, Identifier, Fields}
+use Rattle.iloc_spec_grammar.specs.Syntax.{Text, LanguageLengths, Language, Script, Variant, word_cmp, is_same, is_true, Identifier, Fields}
 use Rattle.iloc_spec_grammar.specs.Meaning.{Locale, without_extensions}
 use Rattle.iloc_spec_grammar.specs.Values.{IsNormal}
 use Rattle.iloc_spec_grammar.specs.Reading.{first_item}
 use Rattle.iloc_spec_preferences.specs.Subdivisions.{Subdivision, IsSubdivision, subdivision_text}
-use Rattle.iloc_spec_preferences.specs.DataLocales.{DataLocale, made_of, whole_region, is_whole, agreed, with_keywords}
+use Rattle.iloc_spec_preferences.specs.DataLocales.{DataLocale, made_of, whole_region, is_whole, agreed, locale_with_keywords}
 use Rattle.iloc_spec_preferences.specs.Keywords.{subdivision_reads, subdivision_gives}
 
 -- What is kept: what a locale says of each part, with the region that overrides its own.
@@ -21,7 +21,7 @@ pub record Preferences : Type 0 where
   pub region_override : Option Subdivision
 
 -- What the type keeps of each.
-pub record IsPreferences (T : Table) (p : Preferences) : Type 0 where
+pub record IsPreferences (T : LanguageLengths) (p : Preferences) : Type 0 where
   pub language : IsNormal (Language T) p.language
   pub script : IfSome p.script (IsNormal Script)
   pub region : IfSome p.region IsSubdivision
@@ -129,5 +129,5 @@ rg_entry (Some s) = (codes "rg", subdivision_gives s) ∷ []
 
 -- The locale that preferences are turned into.
 abbrev pub locale_of_preferences : Preferences → Locale
-locale_of_preferences p = with_keywords (language_priority p)
+locale_of_preferences p = locale_with_keywords (language_priority p)
     (rg_entry p.region_override ++ sd_entry p.region)

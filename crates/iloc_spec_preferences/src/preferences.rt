@@ -5,7 +5,7 @@
 
 ghost use Rattle.std.specs.Prelude.{◌≡◌, true, false, List, [], ◌∷◌, Some, None, Ok, IfSome, codes};
 ghost use Rattle.std.specs.List.{AllByRecursion};
-ghost use Rattle.iloc_spec_grammar.specs.Syntax.{Text, Table, IsTable, CurrencyType, Script, Region, is_true, languages, Identifier};
+ghost use Rattle.iloc_spec_grammar.specs.Syntax.{Text, LanguageLengths, AreLengths, CurrencyType, Script, Region, is_true, languages, Identifier};
 ghost use Rattle.iloc_spec_grammar.specs.Meaning.{Locale, Means};
 ghost use Rattle.iloc_spec_grammar.specs.Values.{IsNormal, IsValue, IsWellFormed};
 ghost use Rattle.iloc_spec_parts.specs.SingleValues.{single, currency_reads, currency_gives};
@@ -56,25 +56,27 @@ pub fn merging_formatters()
 /// The locale of preferences is well-formed, and has these preferences exactly if no subdivision spells `true`.
 #[tactic(auto, using(crate::proofs::PreferenceLaws::strict_locale, crate::proofs::PreferenceLaws::preferences_are, crate::proofs::PreferenceLaws::locale_is_value, crate::proofs::PreferenceLaws::locale_is_well_formed, crate::proofs::PreferenceLaws::preferences_back, crate::proofs::PreferenceLaws::back_only))]
 pub fn preferences_of_locales()
-    ensures valid { (T : Table) (M : Locale) → IsValue T M → IsPreferences T (preferences M) }
-    ensures value { (T : Table) (p : Preferences) → IsPreferences T p
+    ensures valid { (T : LanguageLengths) (M : Locale) → IsValue T M
+        → IsPreferences T (preferences M) }
+    ensures value { (T : LanguageLengths) (p : Preferences) → IsPreferences T p
         → IsValue T (locale_of_preferences p) }
-    ensures well_formed { (T : Table) → IsTable T → (p : Preferences) → IsPreferences T p
+    ensures well_formed { (T : LanguageLengths) → AreLengths T → (p : Preferences)
+        → IsPreferences T p
         → IsWellFormed (locale_of_preferences p) }
-    ensures back { (T : Table) (p : Preferences) → IsPreferences T p → SpellsNoTrue p
+    ensures back { (T : LanguageLengths) (p : Preferences) → IsPreferences T p → SpellsNoTrue p
         → preferences (locale_of_preferences p) ≡ p }
-    ensures only { (T : Table) (p : Preferences) → IsPreferences T p
+    ensures only { (T : LanguageLengths) (p : Preferences) → IsPreferences T p
         → preferences (locale_of_preferences p) ≡ p → SpellsNoTrue p }
-    ensures strict { (T : Table) (p : Preferences) → IsPreferences T p → SpellsNoTrue p
+    ensures strict { (T : LanguageLengths) (p : Preferences) → IsPreferences T p → SpellsNoTrue p
         → is_strict (locale_of_preferences p) ≡ true }
 {}
 
 /// A text that means a data locale means a locale, of which that data locale is the conversion; the data locale of an
 /// identifier stands for the conversion of its preferences.
 pub fn data_locales_of_locales()
-    ensures accepted { (T : Table) (t : Text) (d : DataLocale) → DataMeans T t d
+    ensures accepted { (T : LanguageLengths) (t : Text) (d : DataLocale) → DataMeans T t d
         → (M : Locale) × Means T t M }
-    ensures read { (T : Table) → IsTable T → (t : Text) (d : DataLocale) (M : Locale)
+    ensures read { (T : LanguageLengths) → AreLengths T → (t : Text) (d : DataLocale) (M : Locale)
         → DataMeans T t d → Means T t M → d ≡ language_priority (preferences M) }
     ensures identifier { (i : Identifier) → IfSome i.region (IsNormal Region)
         → data_key (data_of_identifier i)

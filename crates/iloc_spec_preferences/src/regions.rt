@@ -6,7 +6,7 @@
 ghost use Rattle.std.specs.Prelude.{◌≡◌, ◌↔◌, ◌⊎◌, ℕ, true, Some, None, Ok, Err, MatchResult, codes};
 ghost use Rattle.std.specs.Cmp.{IsTotalOrder};
 ghost use Rattle.std.specs.declared.cmp.Ordering.TheVariants.{Equal};
-ghost use Rattle.iloc_spec_grammar.specs.Syntax.{Text, Table, IsTable, lower, languages};
+ghost use Rattle.iloc_spec_grammar.specs.Syntax.{Text, LanguageLengths, AreLengths, lower, languages};
 ghost use Rattle.iloc_spec_grammar.specs.Meaning.{Locale, Fault, InvalidLanguage, InvalidSubtag, InvalidExtension};
 ghost use Rattle.iloc_spec_grammar.specs.Values.{IsValue, IsWellFormed, text};
 ghost use Rattle.iloc_spec_preferences.specs.Subdivisions.{Subdivision, IsSubdivision, subdivision, subdivision_text};
@@ -28,28 +28,32 @@ pub fn subdivisions()
 
 /// Each text means one data locale or has one fault; and a plain program says which.
 pub fn data_locale_or_one_fault()
-    ensures one { (T : Table) → IsTable T → (t : Text) (d e : DataLocale) → DataMeans T t d
+    ensures one { (T : LanguageLengths) → AreLengths T → (t : Text) (d e : DataLocale)
+        → DataMeans T t d
         → DataMeans T t e → d ≡ e }
-    ensures either { (T : Table) → IsTable T → (t : Text)
+    ensures either { (T : LanguageLengths) → AreLengths T → (t : Text)
         → ((d : DataLocale) × DataMeans T t d) ⊎ ((f : Fault) × HasDataFault T t f) }
-    ensures apart { (T : Table) → IsTable T → (t : Text) (d : DataLocale) (f : Fault)
+    ensures apart { (T : LanguageLengths) → AreLengths T → (t : Text) (d : DataLocale) (f : Fault)
         → DataMeans T t d → HasDataFault T t f → ⊥ }
-    ensures one_fault { (T : Table) (t : Text) (f g : Fault) → HasDataFault T t f
+    ensures one_fault { (T : LanguageLengths) (t : Text) (f g : Fault) → HasDataFault T t f
         → HasDataFault T t g → f ≡ g }
-    ensures answer { (T : Table) → IsTable T → (t : Text)
+    ensures answer { (T : LanguageLengths) → AreLengths T → (t : Text)
         → MatchResult (data_result T t) (DataMeans T t) (HasDataFault T t) }
 {}
 
 /// A data locale that was read is of normal words, and prints a text that means it; its locale prints the same text, and no other does.
 pub fn data_locales()
-    ensures read { (T : Table) (t : Text) (d : DataLocale) → DataMeans T t d → IsDataLocale T d }
-    ensures back { (T : Table) (t : Text) (d : DataLocale) → DataMeans T t d
+    ensures read { (T : LanguageLengths) (t : Text) (d : DataLocale) → DataMeans T t d
+        → IsDataLocale T d }
+    ensures back { (T : LanguageLengths) (t : Text) (d : DataLocale) → DataMeans T t d
         → DataMeans T (data_text d) d }
     ensures text { (d : DataLocale) → text (locale_of_data d) ≡ data_text d }
-    ensures value { (T : Table) (d : DataLocale) → IsDataLocale T d → IsValue T (locale_of_data d) }
-    ensures well_formed { (T : Table) → IsTable T → (d : DataLocale) → IsDataLocale T d
+    ensures value { (T : LanguageLengths) (d : DataLocale) → IsDataLocale T d
+        → IsValue T (locale_of_data d) }
+    ensures well_formed { (T : LanguageLengths) → AreLengths T → (d : DataLocale) → IsDataLocale T d
         → IsWellFormed (locale_of_data d) }
-    ensures only { (T : Table) → IsTable T → (d : DataLocale) → IsDataLocale T d → (M : Locale)
+    ensures only { (T : LanguageLengths) → AreLengths T → (d : DataLocale) → IsDataLocale T d
+        → (M : Locale)
         → IsValue T M → IsWellFormed M → text M ≡ data_text d → M ≡ locale_of_data d }
 {}
 
@@ -72,7 +76,8 @@ pub fn data_hashes()
 /// Over a wider table of languages a text means the data locale that it meant.
 #[tactic(auto, using(crate::proofs::WiderData::data_wider))]
 pub fn wider_data_locales()
-    ensures { (T U : Table) → ((n : ℕ) → T n ≡ true → U n ≡ true) → (t : Text) (d : DataLocale)
+    ensures { (T U : LanguageLengths) → ((n : ℕ) → T n ≡ true → U n ≡ true)
+        → (t : Text) (d : DataLocale)
         → DataMeans T t d → DataMeans U t d }
 {}
 

@@ -113,7 +113,7 @@ impl WordKind<4> for ScriptKind {
         len == 4
     }
 
-    #[tactic(auto, unfolding(iloc_spec_grammar::specs::Syntax::title))]
+    #[tactic(auto, unfolding(iloc_spec_grammar::specs::Syntax::lower, iloc_spec_grammar::specs::Syntax::upper, iloc_spec_grammar::specs::Syntax::title))]
     fn normal(piece: ShortPiece) -> ShortPiece {
         piece.to_ascii_titlecase()
     }

@@ -5,7 +5,7 @@ use Rattle.std.proofs.lemmas.Nat.{and_le_r, xor_comm}
 use Rattle.std.proofs.lemmas.List.{length-map}
 use Rattle.std.specs.Char.{is_ascii_alphabetic, to_ascii_lowercase, to_ascii_uppercase}
 use Rattle.iloc_tinystr.specs.Number.{number, bytes, flag, flags, IsPacked}
-use Rattle.iloc_tinystr.specs.Text.{lower, upper, title}
+use Rattle.iloc_tinystr.proofs.Titles.{title}
 use Rattle.iloc_tinystr.proofs.ByBytes.{length_bytes, kept, alike, Bytewise, itself, alike_made, ands, ors, xors, first_byte, of_both}
 use Rattle.iloc_tinystr.proofs.Packed.{below, word-lt, wider, Makes, makes, changed, fit-map}
 
@@ -65,7 +65,7 @@ module _ (n x : ℕ) (h : IsPacked n x) (f : ℕ) (e : f ≡ flags is_ascii_alph
   pub lower_whole : number (bytes n (bit_or x (f / 4))) ≡ bit_or x (f / 4)
   lower_whole = (changed h refl lowered).word.whole
 
-  pub lower_shows : bytes n (bit_or x (f / 4)) ≡ lower (bytes n x)
+  pub lower_shows : bytes n (bit_or x (f / 4)) ≡ map to_ascii_lowercase (bytes n x)
   lower_shows = (changed h refl lowered).shows
 
   raised : Bytewise x to_ascii_uppercase (bit_xor x (bit_and x (f / 4)))
@@ -76,7 +76,7 @@ module _ (n x : ℕ) (h : IsPacked n x) (f : ℕ) (e : f ≡ flags is_ascii_alph
   pub upper_whole : number (bytes n (bit_xor x (bit_and x (f / 4)))) ≡ bit_xor x (bit_and x (f / 4))
   upper_whole = (changed h refl raised).word.whole
 
-  pub upper_shows : bytes n (bit_xor x (bit_and x (f / 4))) ≡ upper (bytes n x)
+  pub upper_shows : bytes n (bit_xor x (bit_and x (f / 4))) ≡ map to_ascii_uppercase (bytes n x)
   upper_shows = (changed h refl raised).shows
 
   titled : Makes n (bit_xor (bit_or x (f / 4)) (bit_and (f / 4) 32)) (title (bytes n x))

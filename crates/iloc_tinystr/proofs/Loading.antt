@@ -6,7 +6,7 @@ use Rattle.std.proofs.lemmas.Nat.{leading_length, pow-add, pow_pos, or_block}
 use Rattle.std.proofs.lemmas.Bool.Decides.{nat_tests}
 use Rattle.std.specs.List.{list_all}
 use Rattle.iloc_tinystr.specs.Number.{number, bytes, IsPacked}
-use Rattle.iloc_tinystr.specs.Text.{is_text_byte}
+use Rattle.iloc_tinystr.specs.TinyText.{is_text_byte}
 use Rattle.iloc_tinystr.proofs.ByBytes.{number-bytes, length_bytes, bytes-number}
 use Rattle.iloc_tinystr.proofs.Packed.{number-lt, makes, same_power, le_power, lt_power}
 

@@ -1,13 +1,13 @@
 //! A piece that is held as its number.
-ghost use Rattle.std.specs.Prelude.{◌≡◌, ℕ, ◌+◌, ◌-◌, ◌≤◌, ◌<◌, ◌++◌, List, length, replicate, true, slice_index, IfSome, IfNone};
+ghost use Rattle.std.specs.Prelude.{◌≡◌, ℕ, ◌+◌, ◌-◌, ◌≤◌, ◌<◌, ◌++◌, List, length, replicate, true, slice_index, map, take, drop, IfSome, IfNone};
 ghost use Rattle.std.specs.Prelude.{nat_eq};
 ghost use Rattle.std.specs.Cmp.Lexicographic.{pointwise};
 ghost use Rattle.std.specs.Cmp.Rules.{comparing};
 ghost use Rattle.std.proofs.Common.{rules};
-ghost use Rattle.std.specs.Char.{is_ascii_alphabetic, is_ascii_alphanumeric, is_ascii_digit};
+ghost use Rattle.std.specs.Char.{is_ascii_alphabetic, is_ascii_alphanumeric, is_ascii_digit, to_ascii_lowercase, to_ascii_uppercase};
 ghost use Rattle.std.specs.List.{list_all};
 ghost use Rattle.iloc_tinystr.specs.Number.{number, bytes};
-ghost use Rattle.iloc_tinystr.specs.Text.{is_text_byte, lower, upper, title};
+ghost use Rattle.iloc_tinystr.specs.TinyText.{is_text_byte};
 
 use crate::flags::{digit_flags, high_bits, letter_flags};
 use crate::number::number_of;
@@ -122,7 +122,7 @@ impl ShortPiece {
     #[tactic(auto, using(crate::proofs::Cases::lower_whole, crate::proofs::Cases::lower_shows, crate::proofs::ByBytes::length_bytes))]
     #[inline(always)]
     pub fn to_ascii_lowercase(self) -> Self
-        ensures { result ≡ lower self }
+        ensures { result ≡ map to_ascii_lowercase self }
     {
         ShortPiece {
             packed: self.packed | letter_flags(self.packed) >> 2,
@@ -134,7 +134,7 @@ impl ShortPiece {
     #[tactic(auto, using(crate::proofs::Cases::upper_whole, crate::proofs::Cases::upper_shows, crate::proofs::ByBytes::length_bytes))]
     #[inline(always)]
     pub fn to_ascii_uppercase(self) -> Self
-        ensures { result ≡ upper self }
+        ensures { result ≡ map to_ascii_uppercase self }
     {
         ShortPiece {
             packed: self.packed ^ (self.packed & letter_flags(self.packed) >> 2),
@@ -146,7 +146,8 @@ impl ShortPiece {
     #[tactic(auto, using(crate::proofs::Cases::title_whole, crate::proofs::Cases::title_shows, crate::proofs::ByBytes::length_bytes))]
     #[inline(always)]
     pub fn to_ascii_titlecase(self) -> Self
-        ensures { result ≡ title self }
+        ensures { result ≡ map to_ascii_uppercase (take 1 self)
+            ++ map to_ascii_lowercase (drop 1 self) }
     {
         let case = letter_flags(self.packed) >> 2;
         ShortPiece {

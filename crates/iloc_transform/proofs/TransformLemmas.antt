@@ -13,7 +13,7 @@ use Rattle.iloc_spec_grammar.specs.Meaning as faults
 use Rattle.iloc_spec_grammar.specs.Reading.{first_item, rest_of, fields_from}
 use Rattle.iloc_spec_grammar.specs.Computing.{is_field}
 use Rattle.iloc_spec_parts.specs.Fronts.{absent, present, after_fields, TransformRead, TransformFault, repeats, fields_at, fields_result}
-use Rattle.iloc_spec_parts.specs.Parts.{is_letter, TransformText, TransformTextFault}
+use Rattle.iloc_spec_parts.specs.Parts.{is_letter, TransformTextFault}
 use Rattle.iloc_spec_parts.proofs.TransformLaws.{fields_answer, IsTransformAnswer}
 use Rattle.iloc_other.specs.Singleton.{singleton_at}
 use Rattle.iloc_other.proofs.SingletonLemmas.{begins, part_reads, part_fault, part_other, part_none}
@@ -23,8 +23,8 @@ use Rattle.iloc_subtags.specs.declared.parse_error.ParseError.TheVariants.{Inval
 use Rattle.iloc_langid.specs.Reads.{FrontReads}
 use Rattle.iloc_langid.specs.Reads as langid
 use Rattle.iloc_langid.specs.declared.identifier.LanguageIdentifier.{LanguageIdentifier}
-use Rattle.iloc_fields.specs.FieldsReading.{FieldsRead, FieldsReads}
-use Rattle.iloc_transform.specs.LangReading.{LangRead, LangReads}
+use Rattle.iloc_fields.specs.FieldsReading.{FieldsRead, FieldsFills}
+use Rattle.iloc_transform.specs.LangReading.{LangRead, LangFills}
 use Rattle.iloc_subtags.specs.Judging.{RunsOutOnlyIf}
 use Rattle.iloc_transform.specs.TransformReading.{value_of, TransformWantsMemory, variants, fields, TransformReads, TransformFills, TransformTextReads, TransformTextWants}
 use Rattle.iloc_transform.specs.declared.transform.Transform.{Transform}
@@ -45,7 +45,7 @@ pub some_lang : (ps rest : List (List ℕ)) (i : LanguageIdentifier) → FrontRe
 some_lang ps rest i r = record { written = Some r.0; front = present (record { words = r.1.words; different = r.2 }) r.1; means = ap (λ j. Some j) r.3 }
 
 -- after a language, what is wrong with the front of an identifier is a repeated variant
-pub front_refused : {E : Type 0} (e : E) (w p : List ℕ) (ps rest left : List (List ℕ)) (f : ParseError) → Some p ≡ first_item ps → Ok w ≡ read (Language languages) e p → FrontReads ps rest (Err f) → LangReads ps left (Err f)
+pub front_refused : {E : Type 0} (e : E) (w p : List ℕ) (ps rest left : List (List ℕ)) (f : ParseError) → Some p ≡ first_item ps → Ok w ≡ read (Language languages) e p → FrontReads ps rest (Err f) → LangFills ps left (Err f)
 front_refused e w p [] rest left f i h g = cc
 front_refused e w p (q ∷ ps) rest left InvalidLanguage i h (inl g) =
     let same : p ≡ q = cc in
@@ -117,14 +117,14 @@ module _ (ps middle : List (List ℕ)) (lang : Option LanguageIdentifier) (l : L
   pub lacking : list_all is_field (fields_at middle) ≡ false → TransformFault languages ps faults.InvalidExtension
   lacking e = answer faults.InvalidExtension (λ i. cond (e i && (is_some l.written || nat_lt 0 (length (fields_at middle)))) (Ok (normal_transform (record { id = l.written; fields = fields_at middle }), after_fields middle)) (Err faults.InvalidExtension))
 
-  pub bad_fields : (f : ParseError) (rest left : List (List ℕ)) → FieldsReads middle rest (Err f) → TransformFills ps left (Err f)
+  pub bad_fields : (f : ParseError) (rest left : List (List ℕ)) → FieldsFills middle rest (Err f) → TransformFills ps left (Err f)
   bad_fields InvalidExtension rest left r = lacking r.1
   bad_fields OutOfMemory rest left r = fields l.front r
   bad_fields InvalidLanguage rest left r = let other = r.0 in cc
   bad_fields InvalidSubtag rest left r = let other = r.0 in cc
   bad_fields DuplicatedExtension rest left r = let other = r.0 in cc
 
-pub no_transform : (ps rest left : List (List ℕ)) (f : ParseError) → LangReads ps rest (Err f) → TransformFills ps left (Err f)
+pub no_transform : (ps rest left : List (List ℕ)) (f : ParseError) → LangFills ps rest (Err f) → TransformFills ps left (Err f)
 no_transform ps rest left InvalidSubtag r = repeats r.1
 no_transform ps rest left OutOfMemory r = variants r
 no_transform ps rest left InvalidLanguage r = let other = r.0 in cc

@@ -11,7 +11,8 @@ use Rattle.iloc_langid.specs.Reads.{value_of}
 use Rattle.iloc_langid.specs.declared.identifier.LanguageIdentifier.{LanguageIdentifier}
 
 -- an identifier was read, or there is none
-pub record LangRead (ps : List Text) (lang : Option LanguageIdentifier) (rest : List Text) : Type 0 where
+pub record LangRead (ps : List Text) (lang : Option LanguageIdentifier)
+    (rest : List Text) : Type 0 where
   pub written : Option Identifier
   pub front : FrontRead languages ps written rest
   pub means : option_map value_of lang ≡ option_map normal_identifier written
@@ -24,6 +25,7 @@ pub record HasFiveVariants (ps : List Text) : Type 0 where
   pub many : 4 < length written.variants
 
 -- what the pieces are read as, and the pieces that are left
-abbrev pub LangReads : List Text → List Text → Result (Option LanguageIdentifier) ParseError → Type 0
-LangReads ps rest = Answers (λ lang. LangRead ps lang rest)
+abbrev pub LangFills : List Text → List Text → Result (Option LanguageIdentifier) ParseError
+    → Type 0
+LangFills ps rest = Answers (λ lang. LangRead ps lang rest)
     (Only faults.InvalidSubtag (RepeatsVariant languages ps)) (HasFiveVariants ps)

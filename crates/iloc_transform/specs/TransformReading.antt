@@ -18,7 +18,8 @@ value_of m = record { id = option_map langid.value_of m.lang; fields = m.fields 
 -- memory may run out for a fifth variant, and for a field
 pub data TransformWantsMemory (ps : List Text) : Type 0 where
   variants : HasFiveVariants ps → TransformWantsMemory ps
-  fields : {id : Option written.Identifier} {middle : List Text} → FrontRead languages ps id middle → BeginsField middle → TransformWantsMemory ps
+  fields : {id : Option written.Identifier} {middle : List Text} → FrontRead languages ps id middle
+      → BeginsField middle → TransformWantsMemory ps
 
 -- what the pieces after `t` are read as, and the pieces that are left
 abbrev pub TransformReads : List Text → List Text → Result Transform ParseError → Type 0
@@ -32,7 +33,8 @@ TransformFills ps rest = Answers (λ m. TransformRead languages ps (value_of m) 
 
 -- memory may run out on a text only after `t`, the letter of such an extension
 abbrev pub TransformTextWants : Text → Type 0
-TransformTextWants t = (begins_part (is_letter code_t) (pieces t) ≡ true) × TransformWantsMemory (rest_of (pieces t))
+TransformTextWants t = (begins_part (is_letter code_t) (pieces t) ≡ true)
+    × TransformWantsMemory (rest_of (pieces t))
 
 -- what a text is read as
 abbrev pub TransformTextReads : Text → Result Transform ParseError → Type 0

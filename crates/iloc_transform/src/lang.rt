@@ -8,7 +8,7 @@ ghost use Rattle.iloc_spec_grammar.specs.Values.{lower_identifier};
 ghost use Rattle.iloc_langid.specs.Reads.{value_of};
 ghost use Rattle.iloc_spec_parts.specs.Orders.{identifier_cmp};
 ghost use Rattle.iloc_subtags.specs.Left.{left};
-ghost use Rattle.iloc_transform.specs.LangReading.{LangReads};
+ghost use Rattle.iloc_transform.specs.LangReading.{LangFills};
 
 use iloc_langid::reader::fill_front;
 use iloc_langid::{LanguageIdentifier, Lowercase};
@@ -23,7 +23,7 @@ pub(crate) fn fill_lang(
     lang: &mut Option<LanguageIdentifier>,
 ) -> Result<(), ParseError>
     requires { lang.old ≡ None }
-    ensures { LangReads (left iter.old) (left iter.new) (result_and result (Ok lang.new)) }
+    ensures { LangFills (left iter.old) (left iter.new) (result_and result (Ok lang.new)) }
 {
     let Some(piece) = iter.peek() else {
         return Ok(());

@@ -10,7 +10,12 @@ abbrev pub pair_eq : Text × List Text → Text × List Text → Bool
 pair_eq x y = pointwise nat_eq x.0 y.0 && words_eq x.1 y.1
 
 pair_exact : IsExactTest pair_eq
-pair_exact x y = (λ h. let parts = and_parts _ _ h in λ i. ((word_exact x.0 y.0).0 parts.0 i, (words_exact x.1 y.1).0 parts.1 i), λ e. and_from _ _ ((word_exact x.0 y.0).1 (ap (λ p. p.0) e)) ((words_exact x.1 y.1).1 (ap (λ p. p.1) e)))
+pair_exact x y = (
+  λ h. let parts = and_parts _ _ h in
+      λ i. ((word_exact x.0 y.0).0 parts.0 i, (words_exact x.1 y.1).0 parts.1 i),
+  λ e. and_from _ _
+      ((word_exact x.0 y.0).1 (ap (λ p. p.0) e)) ((words_exact x.1 y.1).1 (ap (λ p. p.1) e)),
+)
 
 -- the equality test of keywords
 abbrev pub fields_eq : Fields → Fields → Bool
@@ -25,6 +30,11 @@ unicode_eq u v = fields_eq u.keywords v.keywords && words_eq u.attributes v.attr
 
 pub unicode_exact : IsExactTest unicode_eq
 unicode_exact u v = (
-  λ h. let parts = and_parts _ _ h in λ i. record { attributes = (words_exact u.attributes v.attributes).0 parts.1 i; keywords = (fields_exact u.keywords v.keywords).0 parts.0 i },
-  λ e. and_from _ _ ((fields_exact u.keywords v.keywords).1 (ap (λ w. w.keywords) e)) ((words_exact u.attributes v.attributes).1 (ap (λ w. w.attributes) e)),
+  λ h. let parts = and_parts _ _ h in
+      λ i. record {
+        attributes = (words_exact u.attributes v.attributes).0 parts.1 i;
+        keywords = (fields_exact u.keywords v.keywords).0 parts.0 i;
+      },
+  λ e. and_from _ _ ((fields_exact u.keywords v.keywords).1 (ap (λ w. w.keywords) e))
+      ((words_exact u.attributes v.attributes).1 (ap (λ w. w.attributes) e)),
 )

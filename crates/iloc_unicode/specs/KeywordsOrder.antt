@@ -24,7 +24,8 @@ both Equal s = refl
 both Greater s = refl
 
 pairs_tie : (x y : Text × List Text) → pair_eq x y ≡ eq_by_cmp (pair_cmp word_cmp words_cmp) x y
-pairs_tie x y = ap₂ ◌&&◌ (texts_ties x.0 y.0) (words_tie x.1 y.1) ∙ both (word_cmp x.0 y.0) (words_cmp x.1 y.1)
+pairs_tie x y = ap₂ ◌&&◌ (texts_ties x.0 y.0) (words_tie x.1 y.1)
+    ∙ both (word_cmp x.0 y.0) (words_cmp x.1 y.1)
 
 pub keywords_ties : (v w : Fields) → fields_eq v w ≡ eq_by_cmp keywords_cmp v w
 keywords_ties v w = short_ties (pair_cmp word_cmp words_cmp) pairs_tie v w

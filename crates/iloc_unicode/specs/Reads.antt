@@ -1,4 +1,5 @@
--- What the readers of attributes, of keywords and of what follows `u` answer, by cases on the whole answer.
+-- What the readers of attributes, of keywords and of what follows `u` answer, by cases on the whole
+-- answer.
 use Rattle.std.specs.Prelude.{◌≡◌, ⊤, ◌<◌, true, List, length, nat_lt, Bool, Result}
 use Rattle.std.specs.List.{list_any}
 use Rattle.iloc_spec_grammar.specs.Syntax.{Text, Fields}

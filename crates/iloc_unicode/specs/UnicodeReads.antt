@@ -26,7 +26,8 @@ UnicodeFills ps rest = Answers (λ u. UnicodeRead ps (value_of u) rest)
 
 -- for what memory may run out in a text: only after `u`
 abbrev pub UnicodeTextWants : Text → Type 0
-UnicodeTextWants t = (begins_part (is_letter code_u) (pieces t) ≡ true) × UnicodeWantsMemory (rest_of (pieces t))
+UnicodeTextWants t = (begins_part (is_letter code_u) (pieces t) ≡ true)
+    × UnicodeWantsMemory (rest_of (pieces t))
 
 -- the text is read, `u` and all
 abbrev pub UnicodeTextReads : Text → Result Unicode ParseError → Type 0

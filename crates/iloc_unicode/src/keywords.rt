@@ -43,7 +43,7 @@ ghost use Rattle.iloc_unicode.specs.Equality.{fields_eq, fields_exact};
 ghost use Rattle.iloc_spec_parts.specs.Parts.{KeywordsText, KeywordsTextFault};
 ghost use Rattle.iloc_subtags.specs.Judging.{Accepts, Refuses, RunsOutOnlyIf};
 ghost use Rattle.iloc_unicode.specs.Reads.{KeywordsTextReads, KeywordsWantMemory};
-ghost use Rattle.iloc_litemap.specs.Pairs.{IsAscending};
+ghost use Rattle.iloc_litemap.specs.Pairs.{HasAscendingKeys};
 
 use iloc_litemap::LiteMap;
 use iloc_shortvec::ShortBoxSlice;
@@ -149,7 +149,7 @@ impl Keywords {
     /// The pairs by ascending key.
     pub fn as_slice(&self) -> &[(Key, Value)]
         ensures pairs { result.now ≡ self.now }
-        ensures ascending { IsAscending word_cmp self.now }
+        ensures ascending { HasAscendingKeys word_cmp self.now }
     {
         self.map.as_slice()
     }

@@ -7,9 +7,9 @@ use Rattle.iloc_word_set.specs.declared.word_collector.Collected.{Collected}
 use Rattle.iloc_word_set.specs.declared.word_collector.Collected.TheVariants.{Four, Many}
 
 -- the words
-abbrev pub words_of : {K : Type 0} {N : ℕ} → Collected K N → List Text
-words_of (Four set) = set
-words_of (Many words ascend) = words.items
+abbrev pub collected_words : {K : Type 0} {N : ℕ} → Collected K N → List Text
+collected_words (Four set) = set
+collected_words (Many words ascend) = words.items
 
 -- a set of four, or more than four different ones, which ascend if that is said
 abbrev pub IsCollected : {K : Type 0} {N : ℕ} → Collected K N → Type 0

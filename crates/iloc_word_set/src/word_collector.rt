@@ -34,9 +34,9 @@ impl<K: WordKind<N>, const N: usize> Model for WordCollector<K, N> {
 
     ghost Value = { List (List ℕ) };
 
-    ghost use Rattle.iloc_word_set.specs.Collected.{words_of, IsCollected};
+    ghost use Rattle.iloc_word_set.specs.Collected.{collected_words, IsCollected};
 
-    ghost view = { λ c. words_of c.words };
+    ghost view = { λ c. collected_words c.words };
 
     ghost invariant = { λ c. IsCollected c.words };
 }

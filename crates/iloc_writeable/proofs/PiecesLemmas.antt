@@ -3,11 +3,11 @@ use Rattle.std.proofs.Common.{◌≡◌, ℕ, zero, suc, ◌+◌, ◌<◌, Bool,
 use Rattle.std.proofs.lemmas.Grind.{flat_map-append}
 use Rattle.std.proofs.Math.Seq.{take-suc}
 use Rattle.std.specs.List.{flat_map, join_with_byte}
-use Rattle.iloc_writeable.specs.Pieces.{dashes, hyphened, is_there}
+use Rattle.iloc_writeable.specs.Pieces.{hyphened, is_there}
 use Rattle.std.proofs.Math.Bool.{or-true}
 
 -- the first piece, and each other after a hyphen
-pub join-cons : (p : List ℕ) (ps : List (List ℕ)) → join_with_byte 45 (p ∷ ps) ≡ p ++ dashes ps
+pub join-cons : (p : List ℕ) (ps : List (List ℕ)) → join_with_byte 45 (p ∷ ps) ≡ p ++ hyphened false ps
 join-cons p [] = sym (append-nil p)
 join-cons p (q ∷ ps) = ap (λ t. p ++ 45 ∷ t) (join-cons q ps)
 
@@ -17,8 +17,8 @@ hyphened-append true [] qs = refl
 hyphened-append true (p ∷ ps) qs =
     join-cons p (ps ++ qs)
     ∙ ap (λ t. p ++ t) (flat_map-append (λ q. 45 ∷ q) ps qs)
-    ∙ sym (append_assoc p (dashes ps) (dashes qs))
-    ∙ ap (λ t. t ++ dashes qs) (sym (join-cons p ps))
+    ∙ sym (append_assoc p (hyphened false ps) (hyphened false qs))
+    ∙ ap (λ t. t ++ hyphened false qs) (sym (join-cons p ps))
 hyphened-append false ps qs = flat_map-append (λ q. 45 ∷ q) ps qs
 
 pub hyphened-one : (p : List ℕ) → (45 ∷ []) ++ p ≡ hyphened false (p ∷ [])

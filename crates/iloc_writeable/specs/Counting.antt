@@ -11,5 +11,8 @@ Counted a text b = (n : ℕ) → a ≡ hint_of n → b ≡ hint_of (n + length t
 pub counted_nothing : (a : LengthHint) → Counted a [] a
 counted_nothing a n h = h ∙ ap (λ m. hint_of m) (sym (add-zero n))
 
-pub counted_both : (a b c : LengthHint) (s t : List ℕ) → Counted a s b → Counted b t c → Counted a (s ++ t) c
-counted_both a b c s t p q n h = q (n + length s) (p n h) ∙ ap (λ m. hint_of m) (add_assoc n (length s) (length t) ∙ ap (λ m. n + m) (sym (length-append s t)))
+pub counted_both : (a b c : LengthHint) (s t : List ℕ) → Counted a s b → Counted b t c
+    → Counted a (s ++ t) c
+counted_both a b c s t p q n h = q (n + length s) (p n h)
+    ∙ ap (λ m. hint_of m)
+    (add_assoc n (length s) (length t) ∙ ap (λ m. n + m) (sym (length-append s t)))

@@ -16,11 +16,11 @@ pub(crate) struct ShortText {
 }
 
 impl ShortText {
-    ghost use Rattle.iloc_writeable.specs.ShortTexts.{kept};
+    ghost use Rattle.iloc_writeable.specs.ShortTexts.{text_kept};
 
     /// No text.
     pub(crate) fn new() -> Self
-        ensures { kept result ≡ [] }
+        ensures { text_kept result ≡ [] }
     {
         ShortText {
             bytes: [0; 64],
@@ -30,7 +30,7 @@ impl ShortText {
 
     /// What was written.
     pub(crate) fn as_str(&self) -> &str
-        ensures { result.now ≡ kept self.now }
+        ensures { result.now ≡ text_kept self.now }
     {
         unsafe { str::from_utf8_unchecked(&self.bytes[..self.len]) }
     }
@@ -38,7 +38,7 @@ impl ShortText {
 
 /// It fails only if a text has no room.
 impl Sink for ShortText {
-    ghost use Rattle.iloc_writeable.specs.ShortTexts.{kept, Grown};
+    ghost use Rattle.iloc_writeable.specs.ShortTexts.{text_kept, Grown};
 
     ghost took = { Grown };
 

@@ -195,7 +195,7 @@ fn rewritten(window: &[u8], len: usize, out: &mut String) {
     }
     let at = identifier_len(window, len);
     let mut room = [0u8; 128];
-    match rewrite(window, len, at, 0, &mut room) {
+    match rewrite(window, len, at, &mut room) {
         Reading::Ordered(line) => in_order(&line, out),
         Reading::BadBlock(BadBlock::Misfit) => say(out, "misfit"),
         Reading::BadBlock(BadBlock::Duplicated) => say(out, "duplicated"),

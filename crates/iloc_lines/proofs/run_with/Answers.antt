@@ -1,9 +1,10 @@
 use Rattle.std.proofs.Common.{◌≡◌, ℕ, List, ◌++◌, take, length, ◌<◌, ap, ◌∙◌, sym, subst, arith}
 use Rattle.std.specs.Io.{StartsWith}
 use Rattle.std.specs.Io.KnownBytes.{Appends, Consumes}
-use Rattle.iloc_lines.specs.Output.{output}
 use Rattle.iloc_lines.specs.ReplyBlock.{held}
 use Rattle.iloc_lines.proofs.RunLemmas.{Replies-fed, Stands-end, Stands-end_part, Stands-first, Stands-front, Stands-kept, Stands-part, Stands-read, Stands-read_none, Stands-written, on_err, on_err_then, on_ok_then}
+use Rattle.iloc_lines.specs.Answers.{output}
+use Rattle.iloc_spec_grammar.specs.Syntax.{languages}
 use Rattle.iloc_lines.proofs.run_with.Goals as goal
 
 pub returns-in_err-room-clause-err : goal.returns-in_err-room-clause-err
@@ -23,8 +24,8 @@ pub returns-then-count-eq0-clause-ok : goal.returns-then-count-eq0-clause-ok
 returns-then-count-eq0-clause-ok g c =
     let room : 0 < length c.read.new.buf = omega arith in
     let end = c.in-Ok.ensures.bytes.1 c.if-count-eq0.true room in
-    let written : c.as_slice.result.now ≡ output g.A.Answers.mode c.reads.pending.items =
-    c.as_slice.ensures ∙ c.in_ok-finish.ensures ∙ ap (λ (t : List ℕ). t ++ output g.A.Answers.mode c.reads.pending.items) c.clear.ensures in
+    let written : c.as_slice.result.now ≡ output languages g.A.Answers.mode c.reads.pending.items =
+    c.as_slice.ensures ∙ c.in_ok-finish.ensures ∙ ap (λ (t : List ℕ). t ++ output languages g.A.Answers.mode c.reads.pending.items) c.clear.ensures in
     on_ok_then _ _ _ c.write_whole.ensures.ok (λ took. Stands-end _ _ _ _ _ _ _ c.as_slice.result.now
     (Stands-read_none _ _ _ _ _ _ _ _ _ c.reads.invariant.stands c.in-Ok.ensures.bytes.0 c.if-count-eq0.true) end written took)
 
@@ -32,8 +33,8 @@ pub returns-then-count-eq0-clause-err : goal.returns-then-count-eq0-clause-err
 returns-then-count-eq0-clause-err g c =
     let room : 0 < length c.read.new.buf = omega arith in
     let end = c.in-Ok.ensures.bytes.1 c.if-count-eq0.true room in
-    let written : c.as_slice.result.now ≡ output g.A.Answers.mode c.reads.pending.items =
-    c.as_slice.ensures ∙ c.in_ok-finish.ensures ∙ ap (λ (t : List ℕ). t ++ output g.A.Answers.mode c.reads.pending.items) c.clear.ensures in
+    let written : c.as_slice.result.now ≡ output languages g.A.Answers.mode c.reads.pending.items =
+    c.as_slice.ensures ∙ c.in_ok-finish.ensures ∙ ap (λ (t : List ℕ). t ++ output languages g.A.Answers.mode c.reads.pending.items) c.clear.ensures in
     on_err_then _ _ _ c.write_whole.ensures.err (λ took. Stands-end_part _ _ _ _ _ _ _ c.as_slice.result.now took.written
     (Stands-read_none _ _ _ _ _ _ _ _ _ c.reads.invariant.stands c.in-Ok.ensures.bytes.0 c.if-count-eq0.true) end written took.bytes took.begins)
 

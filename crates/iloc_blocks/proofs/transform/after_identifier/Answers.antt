@@ -2,10 +2,10 @@ use Rattle.std.proofs.Common.{◌≡◌, Bool, cond, sym, ap, ◌∙◌}
 use Rattle.iloc_spec_grammar.specs.Syntax.{Language, Script, Region, is_word, languages}
 use Rattle.iloc_spec_grammar.specs.Reading.{skip_first, rest_of}
 use Rattle.iloc_fronts.specs.Left.{pieces_of}
-use Rattle.iloc_blocks.specs.Blocks.{left_of}
 use Rattle.iloc_fronts.proofs.FrontLemmas.{short_language, short_script, short_region}
 use Rattle.iloc_fronts.proofs.LeftLemmas.{word_left}
 use Rattle.iloc_blocks.proofs.TransformLemmas.{skips}
+use Rattle.iloc_fronts.specs.Walk.{left_of}
 use Rattle.iloc_blocks.proofs.transform.after_identifier.Goals as goal
 
 pub past_one-requires-clause-short : goal.past_one-requires-clause-short

@@ -17,7 +17,7 @@ variants-preserved c =
     let size : (4 ≤ c.variants.n) × (c.variants.n ≤ 8) = (omega (arith, (length-variant _ word).0, long), omega (arith, (length-variant _ word).1, long)) in
     record {
       room = room_left c.variants.rest.now c.variants.left c.variants.n c.variants.invariant.room c.variants.invariant.first more;
-      first = c.first_len-n-in-variants.ensures;
+      first = c.first_len-n.ensures;
       same = c.variants.invariant.same
           ∙ passes_one c.variants.rest.now c.variants.left c.variants.n c.variants.invariant.room c.variants.invariant.first Variant short_variant
           (sym c.is_variant.ensures ∙ c.variants-test.true) more;

@@ -2,7 +2,7 @@ use Rattle.std.proofs.Common.{ℕ, cond, refl}
 use Rattle.std.specs.Char.{is_ascii_digit}
 use Rattle.std.proofs.lemmas.Simd.{zip2_splat}
 use lib.Dec.{leb}
-use Rattle.iloc_fronts.specs.Run.{is_other}
+use Rattle.iloc_fronts.specs.Run.{fails}
 use Rattle.iloc_plain.proofs.LaneLemmas.{splat_then}
 use Rattle.iloc_fronts.proofs.RunLemmas.{mask_is}
 use Rattle.iloc_fronts.proofs.run.no_digits_in.Goals as goal
@@ -15,4 +15,4 @@ pub returns : goal.returns
 returns c =
     let v = c.args.v in
     let long = c.fits-v.0 in
-    mask_is _ (is_other is_ascii_digit) v _ c.fits-v (splat_then at_most _ v 16 10 long (zip2_splat {Y = ℕ} _ v 16 48 long)) refl
+    mask_is _ (fails is_ascii_digit) v _ c.fits-v (splat_then at_most _ v 16 10 long (zip2_splat {Y = ℕ} _ v 16 48 long)) refl

@@ -1,7 +1,7 @@
 -- The place is that of the first that is not less.
 use Rattle.std.proofs.Common.{rules, ◌<◌, ◌≤◌, sym, ◌∙◌}
 use Rattle.std.proofs.lemmas.Iterator.{IsFirst-from_position, index_from_first, YieldsList-from_slice}
-use Rattle.iloc_handles.specs.OtherPlaces.{place}
+use Rattle.iloc_handles.specs.OtherPlaces.{how_many_less}
 use Rattle.iloc_handles.proofs.OtherLemmas.{place_hit, place_miss, place_none}
 use borrow.Author.Tests.{tests}
 use Rattle.iloc_handles.proofs.others.place_to_put.Goals as goal
@@ -11,7 +11,7 @@ returns c =
     let others = c.args.others.now in
     let ext = c.args.ext in
     c.unwrap_or.ensures
-    ∙ sym (index_from_first (place ext) (λ o. ext ≤ o.0) (λ o. o.0 < ext) (place_none ext) (place_hit ext) (place_miss ext)
+    ∙ sym (index_from_first (how_many_less ext) (λ o. ext ≤ o.0) (λ o. o.0 < ext) (place_none ext) (place_hit ext) (place_miss ext)
     others _ (IsFirst-from_position _ _ _ (λ o. ext ≤ o.0) (λ o. o.0 < ext) c.position-above.ensures.ran
     (YieldsList-from_slice others c.iter.ensures.rest) (λ x q k. search (rules, tests))
     (λ x q k. search (rules, tests))))

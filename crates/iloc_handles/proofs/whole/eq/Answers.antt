@@ -1,9 +1,9 @@
 -- Equal are locales of which neither comes first.
-use Rattle.iloc_handles.specs.Held.{meaning_of}
+use Rattle.iloc_handles.specs.Held.{held_locale}
 use Rattle.iloc_handles.proofs.Settings.{equal_by_order}
 use Rattle.iloc_handles.proofs.whole.eq.Goals as goal
 
 pub returns-clause-answered : goal.returns-clause-answered
 returns-clause-answered c =
-    equal_by_order (meaning_of c.args.handle.now.value) (meaning_of c.args.other.now.value) c.order_of.result
+    equal_by_order (held_locale c.args.handle.now.value) (held_locale c.args.other.now.value) c.order_of.result
     c.is_eq.result c.order_of.ensures.answered c.is_eq.ensures

@@ -12,10 +12,10 @@ use Rattle.iloc_lines.proofs.PlainAnswers.{plain_normal}
 use Rattle.iloc_lines.proofs.PlainLemmas.{normal_reply, refused_reply}
 use Rattle.iloc_lines.proofs.FrontAnswers.{no_language_refused}
 use Rattle.iloc_subtags.specs.declared.parse_error.ParseError.TheVariants.{InvalidLanguage}
-use Rattle.iloc_lines.specs.Output.{output, reply}
 use Rattle.iloc_lines.specs.ReplyBlock.{held}
 use Rattle.iloc_lines.proofs.lines.feed_lines.Goals as goal
 use Rattle.iloc_lines.proofs.lines.feed_lines.Goals.{then-rest-end-lt16+in_ok-reply, else-rest-end-lt16+then-not-may_begin+in_ok-write_refusal, else-rest-end-lt16+else-not-may_begin+in-Some+in_ok-push_plain, else-rest-end-lt16+else-not-may_begin+in_default+in_ok-reply_to}
+use Rattle.iloc_lines.specs.Answers.{reply, output}
 
 pub lines-preserved : goal.lines-preserved
 lines-preserved g c =
@@ -26,9 +26,9 @@ lines-preserved g c =
     let later = drop (end + 1) rest in
     let ends = c.line_end-end.ensures in
     let less : end < length rest = omega (arith, ends.within, c.if-end-rest.false) in
-    let replied : held c.if-rest-end-lt16.replies ≡ held c.lines.replies ++ reply mode line = elim c.if-rest-end-lt16.branch [
+    let replied : held c.if-rest-end-lt16.replies ≡ held c.lines.replies ++ reply languages mode line = elim c.if-rest-end-lt16.branch [
       | then-rest-end-lt16+in_ok-reply w ↦
-          ap held w.replies-is ∙ w.in_ok-reply.ensures ∙ ap (λ (t : List ℕ). held c.lines.replies ++ reply mode t) c.split_at.ensures.front
+          ap held w.replies-is ∙ w.in_ok-reply.ensures ∙ ap (λ (t : List ℕ). held c.lines.replies ++ reply languages mode t) c.split_at.ensures.front
       | else-rest-end-lt16+then-not-may_begin+in_ok-write_refusal w ↦
           ap held w.replies-is ∙ w.in_ok-write_refusal.ensures.text
           ∙ ap (λ (t : List ℕ). held c.lines.replies ++ t) (refused_reply mode line InvalidLanguage (no_language_refused mode line (w.may_begin.ensures w.if-not-may_begin.true)))
@@ -44,8 +44,8 @@ lines-preserved g c =
       ahead = λ next. c.lines.invariant.ahead next
           ∙ ap (λ (t : List ℕ). held c.lines.replies ++ t)
           (output-cut languages mode [] rest line later next (All-nil (λ (b : ℕ). b ≢ 10)) ends.before (ends.newline less))
-          ∙ sym (append_assoc (held c.lines.replies) (reply mode line) (output mode (later ++ next)))
-          ∙ (λ j. sym replied j ++ output mode (sym next_is j ++ next));
+          ∙ sym (append_assoc (held c.lines.replies) (reply languages mode line) (output languages mode (later ++ next)))
+          ∙ (λ j. sym replied j ++ output languages mode (sym next_is j ++ next));
     }
 
 pub returns-clause-one_line : goal.returns-clause-one_line

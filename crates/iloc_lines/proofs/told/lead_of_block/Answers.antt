@@ -1,13 +1,13 @@
 use Rattle.std.proofs.Common.{subst, sym}
 use Rattle.iloc_subtags.specs.declared.parse_error.ParseError.TheVariants.{InvalidSubtag}
-use Rattle.iloc_lines.specs.Told.{IsLead, IsRefused}
+use Rattle.iloc_lines.specs.Told.{IsLead, HasRefusal}
 use Rattle.iloc_lines.specs.declared.Mode.{Mode}
 use Rattle.iloc_lines.proofs.FrontAnswers.{block_is_refused}
 use Rattle.iloc_lines.proofs.told.lead_of_block.Goals as goal
 
 pub returns-in-Langid : goal.returns-in-Langid
 returns-in-Langid c =
-    subst (λ (m : Mode). IsRefused m c.args.text.now InvalidSubtag) (sym c.in-Langid.is) (block_is_refused c.args.text.now c.args.block c.requires)
+    subst (λ (m : Mode). HasRefusal m c.args.text.now InvalidSubtag) (sym c.in-Langid.is) (block_is_refused c.args.text.now c.args.block c.requires)
 
 pub returns-in-Locale : goal.returns-in-Locale
 returns-in-Locale c =

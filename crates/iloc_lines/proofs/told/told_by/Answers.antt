@@ -2,7 +2,7 @@ use Rattle.std.proofs.Common.{sym, subst}
 use Rattle.iloc_subtags.specs.declared.parse_error.ParseError.{ParseError}
 use Rattle.iloc_blocks.specs.Ordered.{IsReading}
 use Rattle.iloc_blocks.specs.declared.ordered.Reading.{Reading}
-use Rattle.iloc_lines.specs.Told.{IsRefused}
+use Rattle.iloc_lines.specs.Told.{HasRefusal}
 use Rattle.iloc_lines.specs.declared.Mode.TheVariants.{Locale}
 use Rattle.iloc_lines.proofs.PlainLemmas.{bad_refused}
 use Rattle.iloc_lines.proofs.PlainAnswers.{ordered_in_order}
@@ -13,5 +13,5 @@ returns-in-Ordered c = λ t r. ordered_in_order t c.in-Ordered.line (subst (λ (
 
 pub returns-in-BadBlock : goal.returns-in-BadBlock
 returns-in-BadBlock c = λ t r.
-    subst (λ (e : ParseError). IsRefused Locale t e) (sym c.error_of.ensures)
+    subst (λ (e : ParseError). HasRefusal Locale t e) (sym c.error_of.ensures)
     (bad_refused t c.in-BadBlock.bad (subst (λ (g : Reading). IsReading t g) c.in-BadBlock.is r))

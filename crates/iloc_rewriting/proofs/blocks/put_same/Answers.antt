@@ -1,10 +1,10 @@
 use Rattle.std.proofs.Common.{◌≡◌, ◌∷◌, ◌++◌, take, refl, ap, ◌∙◌, subst, arith}
 use Rattle.iloc_spec_grammar.specs.Syntax.{dashes}
-use Rattle.iloc_blocks.specs.Blocks.{left_of}
 use Rattle.iloc_rewriting.specs.Rewriting.{IsShorter}
 use Rattle.iloc_rewriting.proofs.BodyLemmas.{bytes_before, hyphen_before, whole_bytes}
 use Rattle.iloc_rewriting.proofs.blocks.put_same.Goals as goal
 use Rattle.iloc_rewriting.proofs.blocks.put_same.Goals.{in-Some, in-None}
+use Rattle.iloc_fronts.specs.Walk.{left_of}
 
 pub returns : goal.returns
 returns c = λ body cut.

@@ -1,6 +1,5 @@
 use Rattle.std.proofs.Common.{Option, sym, subst, take, arith}
 use Rattle.std.proofs.lemmas.List.{length-take-le}
-use Rattle.iloc_blocks.specs.Blocks.{left_of}
 use Rattle.iloc_fronts.specs.Left.{pieces_of}
 use Rattle.iloc_fronts.specs.declared.left.Left.{Left}
 use Rattle.iloc_rewriting.specs.Rewriting.{AreFieldsInOrder}
@@ -8,6 +7,7 @@ use Rattle.iloc_rewriting.specs.declared.keywords.KeyKind.TheVariants as kind
 use Rattle.iloc_rewriting.proofs.UnicodeLemmas.{no_fields, unicode_in_order}
 use Rattle.iloc_rewriting.proofs.blocks.put_unicode.Goals as goal
 use Rattle.iloc_rewriting.proofs.blocks.put_unicode.Goals.{in-Some+in_ok-stored-in-Some, in-None}
+use Rattle.iloc_fronts.specs.Walk.{left_of}
 
 pub returns : goal.returns
 returns c =

@@ -1,6 +1,6 @@
 use Rattle.std.proofs.Common.{◌≤◌}
 use Rattle.iloc_fronts.specs.Left.{IsLeft, pieces_of}
-use Rattle.iloc_rewriting.specs.Rewriting.{IsPlace}
+use Rattle.iloc_rewriting.specs.Rewriting.{IsFieldPlace}
 use Rattle.iloc_rewriting.specs.declared.keywords.Place.{Place}
 use Rattle.iloc_rewriting.proofs.keywords.place_of.Given as goal
 
@@ -9,7 +9,7 @@ abbrev pub invariant-fields : goal.invariant-fields
 invariant-fields l = record {
   left : IsLeft l.at;
   shorter : l.at.len ≤ l.fn.left.len;
-  goes : (p : Place) → IsPlace l.kind l.number (pieces_of l.at) l.at.len p → IsPlace l.fn.kind l.fn.number (pieces_of l.fn.left) l.fn.left.len p;
+  goes : (p : Place) → IsFieldPlace l.kind l.number (pieces_of l.at) l.at.len p → IsFieldPlace l.fn.kind l.fn.number (pieces_of l.fn.left) l.fn.left.len p;
 }
 
 abbrev pub decreases-fields : goal.decreases-fields

@@ -18,13 +18,13 @@ keys-init c = record {
   far = fields_none c.args.kind c.args.room.now c.args.start c.args.left (omega (arith, c.requires.room));
 }
 
-pub number_of_two-requires-clause-first : goal.number_of_two-requires-clause-first
-number_of_two-requires-clause-first c =
+pub number_of_two-number-requires-clause-first : goal.number_of_two-number-requires-clause-first
+number_of_two-number-requires-clause-first c =
     let l = c.keys.at in
     (window_begins l.window.now l.n (omega (arith, c.keys.invariant.left.room, c.keys.invariant.left.first.few)) (begins_two c.args.kind _ (sym c.is_key_of.ensures ∙ c.keys-test.true))).0
 
-pub number_of_two-requires-clause-second : goal.number_of_two-requires-clause-second
-number_of_two-requires-clause-second c =
+pub number_of_two-number-requires-clause-second : goal.number_of_two-number-requires-clause-second
+number_of_two-number-requires-clause-second c =
     let l = c.keys.at in
     (window_begins l.window.now l.n (omega (arith, c.keys.invariant.left.room, c.keys.invariant.left.first.few)) (begins_two c.args.kind _ (sym c.is_key_of.ensures ∙ c.keys-test.true))).1
 
@@ -35,12 +35,12 @@ returns-in_default c =
     let s = c.in_ok-stored.stored in
     let word : IsWord (key_kind c.args.kind) (piece_of l) = sym c.is_key_of.ensures ∙ c.keys-test.true in
     let two : 2 ≤ l.n = omega (arith, length-key c.args.kind (piece_of l) word, length-piece l h.left) in
-    let number : c.number_of_two.result ≡ two_number (piece_of l) = c.number_of_two.ensures ∙ number_in l.window.now l.n two in
+    let number : c.number_of_two-number.result ≡ two_number (piece_of l) = c.number_of_two-number.ensures ∙ number_in l.window.now l.n two in
     let text = take c.args.start c.args.room.now in
     let inserted = c.in_ok-stored.ensures text h.far.kept h.far.stored h.far.up_to in
     fields_end c.args.kind text (pieces_of c.args.left) c.args.start c.max-last.result c.put_among.new.room s inserted.stored.more (subst BeginsBlock (sym c.in_default.is) tt)
     (one_more c.args.kind text (piece_of l) c.keys.room c.put_among.new.room (pieces_of c.args.left) c.args.start c.keys.end c.keys.last c.max-last.result l.len l s h.far inserted
-    (omega (arith, c.max-last.ensures, max_first c.keys.last c.number_of_two.result)) (omega (arith, c.max-last.ensures, max_second c.keys.last c.number_of_two.result, number)))
+    (omega (arith, c.max-last.ensures, max_first c.keys.last c.number_of_two-number.result)) (omega (arith, c.max-last.ensures, max_second c.keys.last c.number_of_two-number.result, number)))
 
 pub returns : goal.returns
 returns c =
@@ -54,7 +54,7 @@ keys-preserved c =
     let s = c.in_ok-stored.stored in
     let word : IsWord (key_kind c.args.kind) (piece_of l) = sym c.is_key_of.ensures ∙ c.keys-test.true in
     let two : 2 ≤ l.n = omega (arith, length-key c.args.kind (piece_of l) word, length-piece l h.left) in
-    let number : c.number_of_two.result ≡ two_number (piece_of l) = c.number_of_two.ensures ∙ number_in l.window.now l.n two in
+    let number : c.number_of_two-number.result ≡ two_number (piece_of l) = c.number_of_two-number.ensures ∙ number_in l.window.now l.n two in
     let text = take c.args.start c.args.room.now in
     let inserted = c.in_ok-stored.ensures text h.far.kept h.far.stored h.far.up_to in
     record {
@@ -63,5 +63,11 @@ keys-preserved c =
       start = behind_start c.args.kind text (piece_of l) c.keys.room c.put_among.new.room (pieces_of c.args.left) c.args.start c.keys.end c.keys.last c.max-last.result l.len l s h.far inserted;
       far = subst (λ (o : Option Left). AreFieldsSoFar c.args.kind text (pieces_of c.args.left) c.args.start c.max-last.result c.put_among.new.room (record { end = s.end; next = o })) c.in-Some.is
           (one_more c.args.kind text (piece_of l) c.keys.room c.put_among.new.room (pieces_of c.args.left) c.args.start c.keys.end c.keys.last c.max-last.result l.len l s h.far inserted
-          (omega (arith, c.max-last.ensures, max_first c.keys.last c.number_of_two.result)) (omega (arith, c.max-last.ensures, max_second c.keys.last c.number_of_two.result, number)));
+          (omega (arith, c.max-last.ensures, max_first c.keys.last c.number_of_two-number.result)) (omega (arith, c.max-last.ensures, max_second c.keys.last c.number_of_two-number.result, number)));
     }
+
+pub put_among-requires-clause-number : goal.put_among-requires-clause-number
+put_among-requires-clause-number c =
+    let l = c.keys.at in
+    let word : IsWord (key_kind c.args.kind) (piece_of l) = sym c.is_key_of.ensures ∙ c.keys-test.true in
+    c.number_of_two-number.ensures ∙ number_in l.window.now l.n (omega (arith, length-key c.args.kind (piece_of l) word, length-piece l c.keys.invariant.left))

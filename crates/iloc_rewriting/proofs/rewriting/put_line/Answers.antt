@@ -1,24 +1,30 @@
 use Rattle.std.proofs.Common.{◌≡◌, ◌+◌, ◌-◌, List, ℕ, length, take, drop, ap, ◌∙◌, subst, arith}
 use Rattle.std.proofs.lemmas.List.{take-take}
 use Rattle.iloc_spec_grammar.specs.Syntax.{pieces}
+use Rattle.iloc_blocks.specs.Transform.{IsRest}
 use Rattle.iloc_fronts.specs.Left.{pieces_of}
-use Rattle.iloc_rewriting.specs.Sorting.{LeadsToBlock, after_byte}
+use Rattle.iloc_rewriting.specs.Words.{AreWordsStored}
+use Rattle.iloc_rewriting.specs.declared.words.WordKind.TheVariants as kind
+use Rattle.iloc_rewriting.specs.Sorting.{after_byte}
 use Rattle.iloc_rewriting.proofs.LineLemmas.{bad_line, line_stored}
 use Rattle.iloc_rewriting.proofs.SortingLemmas.{err_then, ok_then}
 use Rattle.iloc_rewriting.proofs.rewriting.put_line.Goals as goal
 
-pub returns : goal.returns
-returns c =
+pub returns-in-Some-next : goal.returns-in-Some-next
+returns-in-Some-next c =
     let w = c.args.window.now in
     let len = c.args.len in
     let at = c.args.at in
-    let b = c.in-Some.block in
-    let tail : pieces_of c.left_in.result ≡ pieces (after_byte w len at) =
-    (λ j. pieces (take (c.left_in.ensures.len j) (c.left_in.ensures.window j))) ∙ ap pieces (take-take (len - at - 1) (length w - (at + 1)) (drop (at + 1) w) (omega (arith, c.requires.window))) in
-    let leads : LeadsToBlock (pieces (after_byte w len at)) (len - at - 1) b =
-    subst (λ (n : ℕ). LeadsToBlock (pieces (after_byte w len at)) n b) c.left_in.ensures.len (subst (λ (ps : List (List ℕ)). LeadsToBlock ps c.left_in.result.len b) tail c.in-Some.ensures) in
+    let l = c.left_in-variants.result in
+    let ps = pieces (after_byte w len at) in
+    let tail : pieces_of l ≡ ps =
+    (λ j. pieces (take (c.left_in-variants.ensures.len j) (c.left_in-variants.ensures.window j))) ∙ ap pieces (take-take (len - at - 1) (length w - (at + 1)) (drop (at + 1) w) (omega (arith, c.requires.window))) in
+    let k : AreWordsStored kind.Variant (take c.in-Some.start c.put_bytes.new.room) ps l.len c.put_words.new.room c.in-Ok.stored =
+    subst (λ (qs : List (List ℕ)). AreWordsStored kind.Variant (take c.in-Some.start c.put_bytes.new.room) qs l.len c.put_words.new.room c.in-Ok.stored) tail c.in-Ok.ensures.ok in
     record {
       ok = ok_then c.put_blocks.result c.put_blocks.ensures.ok
-          (λ n. line_stored w len at c.requires.window c.requires.less c.requires.hyphen b leads c.put_bytes.new.room c.put_blocks.new.room c.in-Some-put_bytes.end n c.in-Some-put_bytes.ensures);
-      err = err_then c.put_blocks.result c.put_blocks.ensures.err (bad_line w len at c.requires.window c.requires.less c.requires.hyphen b leads);
+          (line_stored w len at c.requires.window c.requires.less c.requires.hyphen ps c.put_bytes.new.room c.put_words.new.room c.in-Some.start l.len c.in-Some.ensures c.in-Ok.stored k
+          c.in-Some-next.block c.in-Some-next.is (subst (IsRest l.len) c.in-Some-next.is k.left).0 c.if-block-eq1.true c.put_blocks.new.room);
+      err = err_then c.put_blocks.result c.put_blocks.ensures.err
+          (bad_line w len at c.requires.window c.requires.less c.requires.hyphen ps c.put_bytes.new.room c.put_words.new.room c.in-Some.start l.len c.in-Some.ensures c.in-Ok.stored k c.in-Some-next.block c.in-Some-next.is);
     }

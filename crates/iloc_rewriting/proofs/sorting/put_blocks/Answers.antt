@@ -2,7 +2,6 @@ use Rattle.std.proofs.Common.{◌≡◌, ℕ, [], ◌∷◌, ◌++◌, List, get
 use Rattle.std.specs.Char.{is_ascii_alphanumeric}
 use Rattle.std.proofs.lemmas.Result.{err_from_is_err_and}
 use Rattle.iloc_spec_grammar.specs.Reading.{rest_of}
-use Rattle.iloc_blocks.specs.Blocks.{left_of}
 use Rattle.iloc_blocks.specs.Bodies.{HaveBad}
 use Rattle.iloc_blocks.specs.declared.bad_block.BadBlock.TheVariants as bad
 use Rattle.iloc_blocks.proofs.BadBlocks.{lower_letter}
@@ -15,6 +14,7 @@ use Rattle.iloc_rewriting.proofs.BodyLemmas.{shorter}
 use Rattle.iloc_rewriting.proofs.RewritingLemmas.{cut_left}
 use Rattle.iloc_rewriting.proofs.SortingLemmas.{bad_so_far, behind, blocks_last, blocks_more, blocks_none, err_then, ok_then, private_end, unseen_x}
 use Rattle.iloc_rewriting.proofs.StoredLemmas.{max_first, max_second}
+use Rattle.iloc_fronts.specs.Walk.{left_of}
 use Rattle.iloc_rewriting.proofs.sorting.put_blocks.Goals as goal
 
 pub following-init : goal.following-init

@@ -1,8 +1,8 @@
 use Rattle.std.proofs.Common.{◌≡◌, ℕ, List, ◌∷◌, ◌++◌, take, IfSome, ap, ◌∙◌, subst, sym}
 use Rattle.iloc_spec_grammar.specs.Syntax.{dashes}
-use Rattle.iloc_blocks.specs.Blocks.{left_of}
 use Rattle.iloc_rewriting.specs.Rewriting.{AreStored}
 use Rattle.iloc_rewriting.proofs.RewritingLemmas.{dashes_pieces}
+use Rattle.iloc_fronts.specs.Walk.{left_of}
 use Rattle.iloc_rewriting.proofs.variants.put_remaining.Goals as goal
 
 pub returns-in-Some : goal.returns-in-Some

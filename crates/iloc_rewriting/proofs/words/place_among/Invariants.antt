@@ -1,5 +1,7 @@
-use Rattle.std.proofs.Common.{◌≤◌}
-use Rattle.iloc_fronts.specs.Left.{IsLeft, piece_of, pieces_of}
+use Rattle.std.proofs.Common.{◌≡◌, ◌≤◌, ℕ, List}
+use Rattle.std.specs.List.{AllByRecursion}
+use Rattle.iloc_fronts.specs.Words.{IsUpToEight, word_number}
+use Rattle.iloc_fronts.specs.Left.{IsLeft, pieces_of}
 use Rattle.iloc_rewriting.specs.Words.{IsPlaceAmong}
 use Rattle.iloc_rewriting.specs.declared.keywords.Place.{Place}
 use Rattle.iloc_rewriting.proofs.words.place_among.Given as goal
@@ -8,8 +10,9 @@ use Rattle.iloc_rewriting.proofs.words.place_among.Given as goal
 abbrev pub invariant-words : goal.invariant-words
 invariant-words l = record {
   left : IsLeft l.at;
+  words : AllByRecursion IsUpToEight (pieces_of l.at);
   shorter : l.at.len ≤ l.fn.left.len;
-  goes : (p : Place) → IsPlaceAmong (piece_of l.word) (pieces_of l.at) l.at.len p → IsPlaceAmong (piece_of l.word) (pieces_of l.fn.left) l.fn.left.len p;
+  goes : (w : List ℕ) → l.number ≡ word_number w → (p : Place) → IsPlaceAmong w (pieces_of l.at) l.at.len p → IsPlaceAmong w (pieces_of l.fn.left) l.fn.left.len p;
 }
 
 abbrev pub decreases-words : goal.decreases-words

@@ -5,16 +5,13 @@ use Rattle.iloc_fronts.specs.Left.{piece_of}
 use Rattle.iloc_fronts.specs.Words.{word_number}
 use Rattle.iloc_rewriting.specs.declared.words.Unsorted.TheVariants as unsorted
 use Rattle.iloc_rewriting.proofs.SortingLemmas.{ok_or_then}
-use Rattle.iloc_rewriting.proofs.WordLemmas.{kind_fits, word_appended}
+use Rattle.iloc_rewriting.proofs.WordLemmas.{word_appended}
 use Rattle.iloc_rewriting.proofs.words.put_word.Goals as goal
 
-pub number_of_word-requires-clause-word : goal.number_of_word-requires-clause-word
-number_of_word-requires-clause-word c = kind_fits c.args.kind _ c.requires.word
-
-pub returns-then-number_of_word-last-clause-ok : goal.returns-then-number_of_word-last-clause-ok
-returns-then-number_of_word-last-clause-ok c = λ t ws a up.
+pub returns-then-number-last-clause-ok : goal.returns-then-number-last-clause-ok
+returns-then-number-last-clause-ok c = λ t ws a up.
     let s = c.args.kind in
     let p = piece_of c.args.left in
     let less : AllByRecursion (λ w. word_number w < word_number p) ws =
-    all_weaker (λ w. word_number w ≤ c.args.last) (λ w. word_number w < word_number p) (λ w le. omega (arith, le, c.number_of_word.ensures, c.if-number_of_word-last.true)) ws up in
+    all_weaker (λ w. word_number w ≤ c.args.last) (λ w. word_number w < word_number p) (λ w le. omega (arith, le, c.requires.number, c.if-number-last.true)) ws up in
     ok_or_then c.put_piece.result unsorted.Other c.ok_or.result c.ok_or.ensures.value c.put_piece.ensures (word_appended s t c.args.room.now p c.args.start c.args.end ws a c.requires.word less c.put_piece.new.room)

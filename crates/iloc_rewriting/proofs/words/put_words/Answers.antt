@@ -29,8 +29,8 @@ returns-then-at-clause-ok c =
     word_last c.args.kind text c.words.room (piece_of l) (pieces_of c.args.left) c.args.start c.words.end c.words.last l h.far word c.put_word.new.room c.in_ok-end.end stored c.args.left.len
     (last_left l h.left (word_left l h.left (word_kind c.args.kind) (short_word c.args.kind) word) c.if-at.true)
 
-pub number_of_word-requires-clause-word : goal.number_of_word-requires-clause-word
-number_of_word-requires-clause-word c = kind_fits c.args.kind _ (sym c.is_word_of.ensures ∙ c.words-test.true)
+pub number_of_word-number-requires-clause-word : goal.number_of_word-number-requires-clause-word
+number_of_word-number-requires-clause-word c = kind_fits c.args.kind _ (sym c.is_word_of.ensures ∙ c.words-test.true)
 
 pub returns-in_err-end-clause-err : goal.returns-in_err-end-clause-err
 returns-in_err-end-clause-err c =
@@ -57,6 +57,9 @@ words-preserved c =
       more = stored.stored.more;
       start = word_behind c.args.kind text c.words.room (piece_of l) (pieces_of c.args.left) c.args.start c.words.end c.words.last l h.far word c.put_word.new.room c.in_ok-end.end stored;
       far = word_more c.args.kind text c.words.room (piece_of l) (pieces_of c.args.left) c.args.start c.words.end c.words.last l h.far word c.put_word.new.room c.in_ok-end.end stored c.max-last.result next
-          (omega (arith, c.max-last.ensures, max_first c.words.last c.number_of_word.result)) (omega (arith, c.max-last.ensures, max_second c.words.last c.number_of_word.result, c.number_of_word.ensures))
+          (omega (arith, c.max-last.ensures, max_first c.words.last c.number_of_word-number.result)) (omega (arith, c.max-last.ensures, max_second c.words.last c.number_of_word-number.result, c.number_of_word-number.ensures))
           (c.after_piece-at.ensures.pieces (word_left l h.left (word_kind c.args.kind) (short_word c.args.kind) word));
     }
+
+pub put_word-requires-clause-held : goal.put_word-requires-clause-held
+put_word-requires-clause-held c = let h = c.words.invariant.far in record { text = take c.args.start c.args.room.now; words = h.kept; held = h.held }

@@ -1,6 +1,6 @@
 use Rattle.std.proofs.Common.{◌∷◌, length, ap, sym, ◌∙◌, subst, arith}
 use Rattle.iloc_spec_grammar.specs.Meaning.{set_of}
-use Rattle.iloc_word_set.specs.Collected.{words_of, IsCollected}
+use Rattle.iloc_word_set.specs.Collected.{collected_words, IsCollected}
 use Rattle.iloc_word_set.proofs.CollectorLaws.{many_after, set_grows}
 use Rattle.iloc_word_set.proofs.word_collector.WordCollector.push.Goals as goal
 
@@ -12,5 +12,5 @@ invariant_of-self g c =
 pub returns-in-Many-clause-succeeds : goal.returns-in-Many-clause-succeeds
 returns-in-Many-clause-succeeds g c few =
     let was = subst IsCollected c.in-Many.is c.self.invariant in
-    let same = ap (λ ws. length (set_of (c.args.word ∷ ws))) (sym (ap words_of c.in-Many.is) ∙ c.self.view_is) in
+    let same = ap (λ ws. length (set_of (c.args.word ∷ ws))) (sym (ap collected_words c.in-Many.is) ∙ c.self.view_is) in
     absurd (omega (arith, few, was.0, same, set_grows c.args.word c.in-Many.words.items))
