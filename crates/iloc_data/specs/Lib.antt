@@ -1,5 +1,6 @@
 pub mod DataValue
 pub mod DataEquality
+pub mod DataEqualityLaws
 pub mod Reads
 pub mod WithKeywords
 pub mod FormatterValues

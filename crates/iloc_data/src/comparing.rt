@@ -38,7 +38,8 @@ impl DataLocale {
 impl PartialEq for DataLocale {
     ghost use Rattle.std.specs.Cmp.{partial_equiv_from_equiv};
     ghost use Rattle.iloc_data.specs.DataValue.{value_of};
-    ghost use Rattle.iloc_data.specs.DataEquality.{same_key, same_key_equiv};
+    ghost use Rattle.iloc_data.specs.DataEquality.{same_key};
+    ghost use Rattle.iloc_data.specs.DataEqualityLaws.{same_key_equiv};
 
     ghost eq = { same_key };
 
@@ -55,7 +56,7 @@ impl PartialEq for DataLocale {
 }
 
 impl Eq for DataLocale {
-    ghost use Rattle.iloc_data.specs.DataEquality.{same_key_equiv};
+    ghost use Rattle.iloc_data.specs.DataEqualityLaws.{same_key_equiv};
 
     ghost laws = { same_key_equiv };
 }
@@ -64,7 +65,7 @@ impl Eq for DataLocale {
 impl Hash for DataLocale {
     ghost use Rattle.iloc_spec_preferences.specs.DataHashes.{data_locale_fed};
     ghost use Rattle.iloc_data.specs.DataValue.{value_of};
-    ghost use Rattle.iloc_data.specs.DataEquality.{fed_alike};
+    ghost use Rattle.iloc_data.specs.DataEqualityLaws.{fed_alike};
 
     ghost hash_input = { λ d. data_locale_fed (value_of d) };
 

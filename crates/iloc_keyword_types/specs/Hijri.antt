@@ -1,19 +1,9 @@
 -- The place of each kind of Hijri calendar: its number from 0 in the order of the enum.
 use denote.Enum.Declared.{tag_of}
-use Rattle.std.specs.Prelude.{◌≡◌, ℕ, Some, slice_get, refl}
-use Rattle.iloc_spec_preferences.specs.Keywords.{hijri_kinds}
-use Rattle.iloc_keyword_types.specs.WordTables.{word_at}
+use Rattle.std.specs.Prelude.{ℕ}
 use Rattle.iloc_keyword_types.specs.declared.hijri.HijriCalendarAlgorithm.{HijriCalendarAlgorithm}
 use Rattle.iloc_keyword_types.specs.contracts.hijri.HijriCalendarAlgorithm.{the_type}
-use Rattle.iloc_keyword_types.specs.declared.hijri.HijriCalendarAlgorithm.TheVariants.{Umalqura, Tbla, Civil, Rgsa}
 
 -- The place of a kind among the texts of all.
 abbrev pub kind_place : HijriCalendarAlgorithm → ℕ
 kind_place x = tag_of the_type x
-
-pub kind_placed : (x : HijriCalendarAlgorithm)
-    → slice_get hijri_kinds (kind_place x) ≡ Some (word_at hijri_kinds (kind_place x))
-kind_placed Umalqura = refl
-kind_placed Tbla = refl
-kind_placed Civil = refl
-kind_placed Rgsa = refl

@@ -1,7 +1,9 @@
 pub mod Reads
 pub mod WordTables
 pub mod Hijri
+pub mod HijriLaws
 pub mod Calendars
+pub mod CalendarLaws
 pub mod CalendarReading
 pub mod Scripts
 pub mod Cut

@@ -3,7 +3,8 @@ ghost use Rattle.std.specs.Prelude.{◌≡◌, Some, None, option_map};
 ghost use Rattle.iloc_spec_preferences.specs.Keywords.{CalendarAlgorithm as the_keyword, variants};
 ghost use Rattle.iloc_keyword_types.specs.WordTables.{word_at};
 ghost use Rattle.iloc_keyword_types.specs.Hijri.{kind_place};
-ghost use Rattle.iloc_keyword_types.specs.Calendars.{place, kind, placed_at, value_of, enum_text};
+ghost use Rattle.iloc_keyword_types.specs.Calendars.{place, kind, value_of, enum_text};
+ghost use Rattle.iloc_keyword_types.specs.CalendarLaws.{placed_at};
 
 use crate::WordEnum;
 use crate::hijri::HijriCalendarAlgorithm;

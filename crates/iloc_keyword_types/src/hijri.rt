@@ -2,7 +2,8 @@
 ghost use Rattle.std.specs.Prelude.{◌≡◌};
 ghost use Rattle.iloc_spec_preferences.specs.Keywords.{hijri_kinds};
 ghost use Rattle.iloc_keyword_types.specs.WordTables.{word_at};
-ghost use Rattle.iloc_keyword_types.specs.Hijri.{kind_place, kind_placed};
+ghost use Rattle.iloc_keyword_types.specs.Hijri.{kind_place};
+ghost use Rattle.iloc_keyword_types.specs.HijriLaws.{kind_placed};
 
 use crate::WordEnum;
 

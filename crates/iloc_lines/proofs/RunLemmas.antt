@@ -11,7 +11,7 @@ use Rattle.iloc_spec_grammar.specs.Syntax.{languages}
 use Rattle.iloc_lines.specs.Answers.{IsOutput, output}
 use Rattle.iloc_lines.proofs.OutputLaws.{is_output}
 use Rattle.iloc_lines.specs.Output.{BeginsOutput, WritesAll, WritesBeginning}
-use Rattle.iloc_writeable.specs.Growth.{appends_nothing, appends_both}
+use Rattle.iloc_writeable.specs.GrowthLaws.{appends_nothing, appends_both}
 use Rattle.iloc_lines.proofs.KnownLemmas.{Consumes-kept, Consumes-nothing, Consumes-then}
 
 -- whatever comes next, the answer to all goes on from what is written with the answer to what is pending and that

@@ -172,7 +172,8 @@ impl ReplyBlock {
 
 /// It holds its text exactly, and after a failure all that was written before it.
 impl Sink for ReplyBlock {
-    ghost use Rattle.iloc_lines.specs.ReplyBlock.{ReplyAdded, added_nothing, added_both};
+    ghost use Rattle.iloc_lines.specs.ReplyBlock.{ReplyAdded};
+    ghost use Rattle.iloc_lines.specs.ReplyBlockLaws.{added_nothing, added_both};
 
     ghost took = { ReplyAdded };
 

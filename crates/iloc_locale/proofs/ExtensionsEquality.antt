@@ -3,7 +3,7 @@ use Rattle.std.proofs.Common.{◌≡◌, Bool, ◌&&◌, nat_eq, ap}
 use Rattle.std.specs.Bool.{Decides}
 use Rattle.std.proofs.lemmas.Bool.Decides.{Decides-and, Decides-like}
 use lib.Pointwise.{pointwise, pointwise_decides}
-use Rattle.iloc_unicode.specs.Equality.{unicode_exact}
+use Rattle.iloc_unicode.specs.EqualityLaws.{unicode_exact}
 use Rattle.iloc_unicode.specs.UnicodeValue as unicode
 use Rattle.iloc_transform.specs.TransformReading as transform
 use Rattle.iloc_transform.specs.declared.transform.Transform.{Transform}

@@ -7,3 +7,4 @@ pub mod Place
 pub mod Whole
 pub mod LocaleReading
 pub mod Order
+pub mod OrderLaws

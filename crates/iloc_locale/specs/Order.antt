@@ -1,11 +1,7 @@
 -- The order of locales as keys.
-use Rattle.std.specs.Prelude.{◌≡◌, ◌↔◌}
 use Rattle.std.specs.declared.cmp.Ordering.{Ordering}
-use Rattle.std.specs.declared.cmp.Ordering.TheVariants.{Equal}
-use Rattle.std.specs.Cmp.{IsTotalOrder, on_total}
 use Rattle.iloc_spec_grammar.specs.Meaning.{Locale}
 use Rattle.iloc_spec_parts.specs.Orders.{locale_cmp}
-use Rattle.iloc_spec_parts.proofs.OrderLaws.{locale_exact}
 use Rattle.iloc_locale.specs.LocaleReading as locale
 use Rattle.iloc_locale.specs.declared.ordered.OrderedLocale.{OrderedLocale}
 
@@ -16,9 +12,3 @@ value_of k = locale.value_of k.locale
 -- by identifier, then by extensions
 abbrev pub order : OrderedLocale → OrderedLocale → Ordering
 order a b = locale_cmp (value_of a) (value_of b)
-
-pub order_total : IsTotalOrder order
-order_total = on_total value_of locale_exact.total
-
-pub order_exact : (a b : OrderedLocale) → (order a b ≡ Equal) ↔ (value_of a ≡ value_of b)
-order_exact a b = locale_exact.exact (value_of a) (value_of b)

@@ -5,7 +5,8 @@
 ghost use Rattle.std.specs.Prelude.{◌≡◌, ◌↔◌, IsTrue, refl};
 ghost use Rattle.std.specs.Cmp.{eq_by_cmp_equiv, partial_equiv_from_equiv, partial_order_from_total};
 ghost use Rattle.std.specs.Ordering.{eq_by_cmp, as_partial_cmp};
-ghost use Rattle.iloc_locale.specs.Order.{value_of, order, order_total};
+ghost use Rattle.iloc_locale.specs.Order.{value_of, order};
+ghost use Rattle.iloc_locale.specs.OrderLaws.{order_total};
 
 use crate::locale::Locale;
 use std::cmp::Ordering;

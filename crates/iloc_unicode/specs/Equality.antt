@@ -1,40 +1,17 @@
--- The equality tests of keywords and of the whole extension find exactly equal values equal.
-use Rattle.std.proofs.Common.{ℕ, Bool, ◌&&◌, List, ap, nat_eq}
-use Rattle.std.proofs.lemmas.Bool.{and_parts, and_from}
+-- The equality tests of keywords and of the whole extension.
+use Rattle.std.proofs.Common.{ℕ, Bool, ◌&&◌, List, nat_eq}
 use Rattle.iloc_spec_grammar.specs.Syntax.{Text, Fields, Unicode}
 use lib.Pointwise.{pointwise}
-use Rattle.iloc_word_list.specs.Equality.{IsExactTest, word_exact, words_eq, words_exact, lists_exact}
+use Rattle.iloc_word_list.specs.Equality.{words_eq}
 
 -- the key, and then the value
 abbrev pub pair_eq : Text × List Text → Text × List Text → Bool
 pair_eq x y = pointwise nat_eq x.0 y.0 && words_eq x.1 y.1
 
-pair_exact : IsExactTest pair_eq
-pair_exact x y = (
-  λ h. let parts = and_parts _ _ h in
-      λ i. ((word_exact x.0 y.0).0 parts.0 i, (words_exact x.1 y.1).0 parts.1 i),
-  λ e. and_from _ _
-      ((word_exact x.0 y.0).1 (ap (λ p. p.0) e)) ((words_exact x.1 y.1).1 (ap (λ p. p.1) e)),
-)
-
 -- the equality test of keywords
 abbrev pub fields_eq : Fields → Fields → Bool
 fields_eq = pointwise pair_eq
 
-pub fields_exact : IsExactTest fields_eq
-fields_exact = lists_exact pair_eq pair_exact
-
 -- the equality test of extensions
 abbrev pub unicode_eq : Unicode → Unicode → Bool
 unicode_eq u v = fields_eq u.keywords v.keywords && words_eq u.attributes v.attributes
-
-pub unicode_exact : IsExactTest unicode_eq
-unicode_exact u v = (
-  λ h. let parts = and_parts _ _ h in
-      λ i. record {
-        attributes = (words_exact u.attributes v.attributes).0 parts.1 i;
-        keywords = (fields_exact u.keywords v.keywords).0 parts.0 i;
-      },
-  λ e. and_from _ _ ((fields_exact u.keywords v.keywords).1 (ap (λ w. w.keywords) e))
-      ((words_exact u.attributes v.attributes).1 (ap (λ w. w.attributes) e)),
-)

@@ -32,7 +32,8 @@ ghost use Rattle.iloc_spec_grammar.specs.Values.{IsNormal, IsAscending};
 ghost use Rattle.iloc_spec_parts.specs.Parts.{AttributesText};
 ghost use Rattle.iloc_subtags.specs.Judging.{Accepts, RunsOutOnlyIf};
 ghost use Rattle.iloc_unicode.specs.Reads.{AttributesTextReads, AttributesWantMemory};
-ghost use Rattle.iloc_word_list.specs.Equality.{words_eq, words_exact};
+ghost use Rattle.iloc_word_list.specs.Equality.{words_eq};
+ghost use Rattle.iloc_word_list.specs.EqualityLaws.{words_exact};
 ghost use Rattle.iloc_word_set.specs.Ascending.{ascends};
 
 use iloc_subtags::{Attribute, AttributeKind, ParseError, SubtagIterator};

@@ -123,7 +123,8 @@ impl Unicode {
 
 /// Equal are extensions of the same attributes and the same keywords.
 impl PartialEq for Unicode {
-    ghost use Rattle.iloc_unicode.specs.UnicodeValue.{value_of, shown_eq, shown_exact};
+    ghost use Rattle.iloc_unicode.specs.UnicodeValue.{value_of, shown_eq};
+    ghost use Rattle.iloc_unicode.specs.UnicodeValueLaws.{shown_exact};
 
     ghost eq = { shown_eq };
 
@@ -139,14 +140,15 @@ impl PartialEq for Unicode {
 
 #[derived]
 impl Eq for Unicode {
-    ghost use Rattle.iloc_unicode.specs.UnicodeValue.{shown_eq, shown_exact};
+    ghost use Rattle.iloc_unicode.specs.UnicodeValue.{shown_eq};
+    ghost use Rattle.iloc_unicode.specs.UnicodeValueLaws.{shown_exact};
 
     ghost laws = { decided shown_eq shown_exact };
 }
 
 #[derived]
 impl Hash for Unicode {
-    ghost use Rattle.iloc_unicode.specs.UnicodeValue.{shown_exact};
+    ghost use Rattle.iloc_unicode.specs.UnicodeValueLaws.{shown_exact};
 
     ghost respects_eq = { (same_Alike _ shown_exact).fed };
 }

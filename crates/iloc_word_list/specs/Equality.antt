@@ -1,27 +1,12 @@
--- The equality test of lists, item by item, finds exactly equal lists equal.
-use Rattle.std.proofs.Common.{◌≡◌, ◌↔◌, ℕ, Bool, true, List, ap, nat_eq}
+-- The equality test of lists, item by item.
+use Rattle.std.proofs.Common.{◌≡◌, ◌↔◌, ℕ, Bool, true, List, nat_eq}
 use Rattle.iloc_spec_grammar.specs.Syntax.{Text}
-use lib.Pointwise.{pointwise, pointwise_decides, bytes_decides}
+use lib.Pointwise.{pointwise}
 
 -- the test answers true exactly at equal values
 abbrev pub IsExactTest : {X : Type 0} → (X → X → Bool) → Type 0
 IsExactTest {X} test = (x y : X) → (test x y ≡ true) ↔ (x ≡ y)
 
-pub lists_exact : {X : Type 0} (test : X → X → Bool) → IsExactTest test
-    → IsExactTest (pointwise test)
-lists_exact test exact = pointwise_decides exact
-
-pub word_exact : IsExactTest (pointwise nat_eq)
-word_exact = bytes_decides
-
 -- the equality test of lists of words
 abbrev pub words_eq : List Text → List Text → Bool
 words_eq = pointwise (pointwise nat_eq)
-
-pub words_exact : IsExactTest words_eq
-words_exact = lists_exact (pointwise nat_eq) word_exact
-
--- what an exact test finds equal is alike under each function, as under the writes of a hash
-pub alike : {X Y : Type 0} (F : X → Y) {test : X → X → Bool} → IsExactTest test → (x y : X)
-    → test x y ≡ true → F x ≡ F y
-alike F exact x y h = ap F ((exact x y).0 h)

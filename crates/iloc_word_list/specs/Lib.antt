@@ -1,4 +1,5 @@
 pub mod Equality
+pub mod EqualityLaws
 pub mod Reads
 pub mod Refusals
 pub mod Values

@@ -38,7 +38,7 @@ pub fn orders()
 {}
 
 /// `==` tells whether two values are the same.
-#[tactic(auto, using(crate::specs::Equality::words_exact))]
+#[tactic(auto, using(crate::specs::EqualityLaws::words_exact))]
 pub fn equality()
     ensures { (v w : List Text) → IsTrue (⟦<Value as PartialEq>⟧.eq v w) ↔ (v ≡ w) }
 {}

@@ -8,7 +8,8 @@ ghost use Rattle.std.proofs.Common.{rules};
 ghost use Rattle.iloc_spec_grammar.specs.Syntax.{Text, Subtag, is_true};
 ghost use Rattle.iloc_spec_grammar.specs.Values.{IsNormal};
 ghost use Rattle.iloc_shortvec.specs.ShortList.{only_of};
-ghost use Rattle.iloc_word_list.specs.Equality.{words_eq, words_exact, alike};
+ghost use Rattle.iloc_word_list.specs.Equality.{words_eq};
+ghost use Rattle.iloc_word_list.specs.EqualityLaws.{words_exact, alike};
 ghost use Rattle.iloc_word_list.specs.Values.{without_true, with_subtag};
 
 use crate::word_list::WordList;

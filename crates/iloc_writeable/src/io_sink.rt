@@ -58,13 +58,13 @@ impl<W: io::Write> Sink for IoSink<W> {
         }
     }
 
-    ghost use Rattle.iloc_writeable.specs.Growth.{added_nothing, added_both};
+    ghost use Rattle.iloc_writeable.specs.GrowthLaws.{added_nothing, added_both};
 
     ghost took_nothing = { λ s. added_nothing _ _ };
 
     ghost took_then_took = { λ a b c s t p q. added_both _ _ _ _ _ _ s t p q };
 
-    ghost use Rattle.iloc_writeable.specs.Growth.{broken_after, broken_more};
+    ghost use Rattle.iloc_writeable.specs.GrowthLaws.{broken_after, broken_more};
 
     ghost took_then_failed = { λ a b c s t u p q. broken_after _ _ _ _ _ _ s t u p q };
 

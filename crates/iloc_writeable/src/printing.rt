@@ -36,14 +36,14 @@ impl<'a, W: Write> Sink for Lent<'a, W> {
     }
 
     ghost use Rattle.std.proofs.Common.{refl, ◌∙◌};
-    ghost use Rattle.iloc_writeable.specs.Growth.{added_nothing, added_both};
+    ghost use Rattle.iloc_writeable.specs.GrowthLaws.{added_nothing, added_both};
 
     ghost took_nothing = { λ s. (refl, added_nothing _ _) };
 
     ghost took_then_took = { λ a b c s t p q.
         (q.0 ∙ p.0, added_both _ _ _ _ _ _ s t p.1 q.1) };
 
-    ghost use Rattle.iloc_writeable.specs.Growth.{broken_after, broken_more};
+    ghost use Rattle.iloc_writeable.specs.GrowthLaws.{broken_after, broken_more};
 
     ghost took_then_failed = { λ a b c s t u p q.
         (q.0 ∙ p.0, broken_after _ _ _ _ _ _ s t u p.1 q.1) };

@@ -1,5 +1,5 @@
-use Rattle.iloc_word_list.specs.Equality.{words_exact}
-use Rattle.iloc_unicode.specs.Equality.{fields_exact, unicode_exact}
+use Rattle.iloc_word_list.specs.EqualityLaws.{words_exact}
+use Rattle.iloc_unicode.specs.EqualityLaws.{fields_exact, unicode_exact}
 use Rattle.iloc_unicode.specs.UnicodeValue.{value_of}
 use Rattle.iloc_unicode.proofs.equality.Goals as goal
 

@@ -1,5 +1,6 @@
 use Rattle.std.specs.Cmp.{Equal-is}
-use Rattle.iloc_locale.specs.Order.{order, order_exact}
+use Rattle.iloc_locale.specs.Order.{order}
+use Rattle.iloc_locale.specs.OrderLaws.{order_exact}
 use Rattle.iloc_locale.proofs.ordered.equality.Goals as goal
 
 pub returns : goal.returns

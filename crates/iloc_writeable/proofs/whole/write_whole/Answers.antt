@@ -1,6 +1,6 @@
 use Rattle.std.proofs.Common.{◌≡◌, ℕ, List, ◌++◌, take, ap, ◌∙◌, sym, append_assoc}
 use Rattle.std.proofs.lemmas.List.{take-append-drop}
-use Rattle.iloc_writeable.specs.Growth.{appends_both}
+use Rattle.iloc_writeable.specs.GrowthLaws.{appends_both}
 use Rattle.iloc_writeable.proofs.whole.write_whole.Goals as goal
 
 pub writes-preserved : goal.writes-preserved

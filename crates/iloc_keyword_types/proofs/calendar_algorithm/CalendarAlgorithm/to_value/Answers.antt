@@ -6,7 +6,8 @@ use Rattle.iloc_spec_preferences.specs.Keywords.{variants, hijri_kinds}
 use Rattle.iloc_word_list.specs.Values.{without_true}
 use Rattle.iloc_keyword_types.specs.WordTables.{word_at}
 use Rattle.iloc_keyword_types.proofs.EnumLemmas.{normal_word}
-use Rattle.iloc_keyword_types.specs.Calendars.{place, placed_at}
+use Rattle.iloc_keyword_types.specs.Calendars.{place}
+use Rattle.iloc_keyword_types.specs.CalendarLaws.{placed_at}
 use Rattle.iloc_keyword_types.specs.Hijri.{kind_place}
 use Rattle.iloc_keyword_types.proofs.GivenLemmas.{reads_back, kind_normal, given_kind, given_plain, hijri_place}
 use Rattle.iloc_keyword_types.proofs.calendar_algorithm.CalendarAlgorithm.to_value.Goals as goal

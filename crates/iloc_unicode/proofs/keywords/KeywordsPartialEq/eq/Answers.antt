@@ -1,5 +1,6 @@
 use Rattle.std.proofs.Common.{rules, ◌≡◌}
-use Rattle.iloc_unicode.specs.Equality.{fields_eq, fields_exact}
+use Rattle.iloc_unicode.specs.Equality.{fields_eq}
+use Rattle.iloc_unicode.specs.EqualityLaws.{fields_exact}
 use Rattle.iloc_unicode.proofs.keywords.KeywordsPartialEq.eq.Goals as goal
 
 pub returns-clause-equality : goal.returns-clause-equality

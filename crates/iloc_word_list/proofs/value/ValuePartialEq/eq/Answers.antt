@@ -1,5 +1,6 @@
 use Rattle.std.proofs.Common.{rules, ◌≡◌}
-use Rattle.iloc_word_list.specs.Equality.{words_eq, words_exact}
+use Rattle.iloc_word_list.specs.Equality.{words_eq}
+use Rattle.iloc_word_list.specs.EqualityLaws.{words_exact}
 use Rattle.iloc_word_list.proofs.value.ValuePartialEq.eq.Goals as goal
 
 pub returns-clause-equality : goal.returns-clause-equality
