@@ -6,6 +6,7 @@ A part stands between `<!-- trusted: WHAT -->` and `<!-- /trusted -->`, where WH
 - `clause CALL NAME`: a clause of a contract, word for word;
 - `files PATH ..`: the definitions of these files on which the headline rests, word for word; after
   a path may stand the names of the first and of the last one;
+- `definition PATH NAME`: one that only laws cite, word for word;
 - `types`: the types and views through which its contracts see values;
 - `memory`: what only the clauses on memory cite;
 - `outside`: how much of specs/ the headline does not rest on."""
@@ -134,6 +135,13 @@ class Page:
             shown.append(f"`{path}`: {many}, {'1 line' if lines == 1 else f'{lines} lines'}.")
             shown.append("```text\n" + "\n\n".join(quoted(it) for it in found) + "\n```")
         return "\n\n".join(shown)
+
+    def part_definition(self, path, name):
+        found = [it for module in self.sources.modules.values() for it in module.definitions]
+        found = [it for it in found if (it.module.path, it.name) == (path, name)]
+        if len(found) != 1:
+            raise Wrong(f"{path} has {len(found)} definitions {name}: name one that it has")
+        return f"`{path}`:\n\n```text\n{quoted(found[0])}\n```"
 
     def part_types(self):
         """Says how the types on the way are seen, but for those that are seen as they are."""

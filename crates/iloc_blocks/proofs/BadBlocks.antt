@@ -5,10 +5,10 @@ use Rattle.std.specs.Char.{is_ascii_alphanumeric, to_ascii_lowercase}
 use Rattle.std.specs.Ordering.{nat_cmp, eq_by_cmp}
 use Rattle.std.proofs.lemmas.Bool.{cases_Bool, cases_eq, cases_lt}
 use Rattle.std.proofs.lemmas.Bool.Decides.{nat_tests}
-use Rattle.iloc_spec_grammar.specs.Syntax.{pieces, Variant, UnicodeKey, Attribute, PrivateSubtag, is_word, IsWord, languages, Identifier, Fields, Unicode, Transform, identifier_pieces, fields_pieces, unicode_pieces, transform_pieces, optional_pieces, IsIdentifier, IsOther, is_other_singleton, front, blocks, head, tail_blocks, lower, IsPrivate}
+use Rattle.iloc_spec_grammar.specs.Syntax.{pieces, Variant, UnicodeKey, Attribute, PrivateSubtag, is_word, IsWord, languages, Identifier, Fields, Unicode, Transform, identifier_pieces, fields_pieces, unicode_pieces, transform_pieces, optional_pieces, IsIdentifier, IsOther, is_other_singleton, front, blocks, head, tail_blocks, lower, IsPrivate, word_cmp, HasWords, AllDifferent}
 use Rattle.iloc_spec_grammar.specs.Tree.{Extension, unicode, transform, other, extension_pieces, IsUnicodeBlock, IsTransformBlock, IsExtension, IsBlock, TreeBlockFault, no_singleton, breaks_rule, duplicated, FirstBadBlock, here, later}
 use Rattle.iloc_spec_grammar.specs.Meaning.{Fault, InvalidExtension, RepeatsVariant, HasFault, in_block}
-use Rattle.iloc_spec_grammar.specs.Values.{IsAscending}
+use Rattle.iloc_spec_grammar.specs.Values.{StrictlyAscends}
 use Rattle.iloc_spec_grammar.proofs.PiecesLaws.{at_pieces}
 use Rattle.iloc_spec_grammar.proofs.ReadBack.{all_append, fields_each}
 use Rattle.iloc_spec_grammar.proofs.SameFaults.{fault_of_first}
@@ -24,15 +24,18 @@ use Rattle.iloc_blocks.specs.declared.bad_block.BadBlock.TheVariants as bad
 use Rattle.iloc_blocks.specs.declared.ordered.Ordered.{Ordered}
 use Rattle.iloc_blocks.specs.Ordered.{IsBefore, IsBadTail, IsFaultyTail, IsTailOf}
 use Rattle.iloc_fronts.specs.Left.{pieces_of}
-use Rattle.iloc_blocks.specs.Blocks.{AreBlocksOf, AreSeen, BeginBadly, IsBlockAs, IsBodyAs, IsNewAfter, IsNoUnicode, IsNoOther, IsPrivateAs, ArePrinted}
+use Rattle.iloc_blocks.specs.Blocks.{AreBlocksOf, AreSeen, BeginBadly, IsBlockAs, IsBlockPartAs, IsBodyAs, IsPartAs, IsUnicodeWord, IsNewAfter, IsNoUnicode, IsNoOther, IsPrivateAs, ArePrinted}
 use Rattle.iloc_blocks.specs.declared.blocks.Rest.{Rest}
 use Rattle.iloc_blocks.specs.declared.blocks.Rest.TheVariants as rest
 use Rattle.iloc_blocks.specs.declared.body.Body.{Body}
 use Rattle.iloc_blocks.specs.declared.body.Body.TheVariants as body
+use Rattle.iloc_blocks.specs.declared.body.Part.{Part}
+use Rattle.iloc_blocks.specs.declared.body.Part.TheVariants as part
 use Rattle.iloc_blocks.specs.Transform.{IsNoTransform}
-use Rattle.iloc_blocks.specs.Bodies.{IsBodyOf, IsNoBodyOf, IsUnseen}
+use Rattle.iloc_blocks.specs.Bodies.{IsBodyOf, IsNoBodyOf, IsUnseen, IsValued}
 use Rattle.iloc_blocks.proofs.BlockLemmas.{front_past, blocks_past, first_block, private_block}
 use Rattle.iloc_blocks.proofs.PrintedBlocks.{IsGood, good_body, other_letter, printed_private, printed_none}
+use Rattle.iloc_blocks.proofs.LastTrue.{but_after, printed_but}
 use Rattle.iloc_blocks.proofs.OrderedLemmas.{after, cut_there, rest_is}
 
 -- ---- singletons that no earlier block has
@@ -94,7 +97,8 @@ blocks_after : (c : ℕ) (ps : List (List ℕ)) → IsGood c ps → (last : ℕ)
 blocks_after c ps g last less qs rest.Printed h = g.printed last less qs h
 blocks_after c ps g last less qs rest.Misfit h = bad_after c ps g last less qs bad.Misfit h
 blocks_after c ps g last less qs rest.Duplicated h = bad_after c ps g last less qs bad.Duplicated h
-blocks_after c ps g last less qs (rest.Unordered n) h = tt
+blocks_after c ps g last less qs rest.LastTrue h = but_after c ps g last less qs h
+blocks_after c ps g last less qs rest.Unordered h = tt
 blocks_after c ps g last less qs rest.Other h = tt
 
 -- what is told of a body is told of its block
@@ -171,9 +175,6 @@ module _ (last c : ℕ) (letter : is_ascii_alphanumeric c ≡ true) (new : (last
   -- all that follows `x`
   to_the_end : (ps : List (List ℕ)) → to_ascii_lowercase c ≡ 120 → Refuted c ps → BeginBadly last ((c ∷ []) ∷ ps) bad.Misfit
   to_the_end ps e r = begin bad.Misfit last c ps ps [] (private_block c ps e) (λ seen all. fault_of c ps letter r seen (new_after last (to_ascii_lowercase c) new seen all))
-
-abbrev pub IsUnicodeWord : List ℕ → Type 0
-IsUnicodeWord p = IsWord Attribute p ⊎ IsWord UnicodeKey p
 
 unicode_words : (u : Unicode) → IsUnicodeBlock u → AllByRecursion IsUnicodeWord (unicode_pieces u)
 unicode_words u h =
@@ -279,15 +280,21 @@ nothing_after last c new = elim (cases_Bool (is_ascii_alphanumeric c)) [
 ]
 
 module _ (last c len : ℕ) (new : IsNewAfter last (to_ascii_lowercase c)) where
-  pub body_block : (ps : List (List ℕ)) → is_ascii_alphanumeric c ≡ true → to_ascii_lowercase c ≢ 120 → (w : Body) → IsBodyAs (IsBodyOf (to_ascii_lowercase c)) (IsNoBodyOf (to_ascii_lowercase c)) len ps w
-      → IsBlockAs last (to_ascii_lowercase c) len ((c ∷ []) ∷ ps) w
-  body_block ps letter x w h = block_as (IsBodyOf (to_ascii_lowercase c)) (IsNoBodyOf (to_ascii_lowercase c)) c last len ps less (good_body c letter x) misfit w h
-    where
-      less : last < to_ascii_lowercase c
-      less = above last (to_ascii_lowercase c) (lower_letter c ∙ letter) x new
+  less : is_ascii_alphanumeric c ≡ true → to_ascii_lowercase c ≢ 120 → last < to_ascii_lowercase c
+  less letter x = above last (to_ascii_lowercase c) (lower_letter c ∙ letter) x new
 
+  body_block : (ps : List (List ℕ)) → is_ascii_alphanumeric c ≡ true → to_ascii_lowercase c ≢ 120 → (w : Body) → IsBodyAs (IsBodyOf (to_ascii_lowercase c)) (IsNoBodyOf (to_ascii_lowercase c)) len ps w
+      → IsBlockAs last (to_ascii_lowercase c) len ((c ∷ []) ∷ ps) w
+  body_block ps letter x w h = block_as (IsBodyOf (to_ascii_lowercase c)) (IsNoBodyOf (to_ascii_lowercase c)) c last len ps (less letter x) (good_body c letter x) misfit w h
+    where
       misfit : IsNoBodyOf (to_ascii_lowercase c) ps → BeginBadly last ((c ∷ []) ∷ ps) bad.Misfit
-      misfit n = until_next last c letter (inl less) ps x (body_refuted c ps letter x n)
+      misfit n = until_next last c letter (inl (less letter x)) ps x (body_refuted c ps letter x n)
+
+  pub part_block : (ps : List (List ℕ)) → is_ascii_alphanumeric c ≡ true → to_ascii_lowercase c ≢ 120 → (w : Part)
+      → IsPartAs (IsBodyOf (to_ascii_lowercase c)) (IsNoBodyOf (to_ascii_lowercase c)) (IsValued (to_ascii_lowercase c)) len ps w → IsBlockPartAs last (to_ascii_lowercase c) len ((c ∷ []) ∷ ps) w
+  part_block ps letter x (part.Body b) h = body_block ps letter x b h
+  part_block ps letter x part.LastTrue h =
+      printed_but last c h.is.0 (less letter x) ps (record { before = h.before; word = h.word; cut = h.cut; attribute = h.attribute; nothing = h.nothing; is = h.is.1 })
 
   pub private_as : (t : List ℕ) → to_ascii_lowercase c ≡ 120 → (w : Body) → IsPrivateAs (pieces t) w → IsBlockAs last (to_ascii_lowercase c) len ((c ∷ []) ∷ pieces t) w
   private_as t e body.End h = printed_private last c t e h
@@ -302,11 +309,12 @@ module _ (last c len : ℕ) (new : IsNewAfter last (to_ascii_lowercase c)) where
 -- ---- what follows the identifier
 
 -- ascending variants, and what is told of the pieces after them
-pub tail_of : (vs qs ps : List (List ℕ)) → ps ≡ vs ++ qs → AllByRecursion (IsWord Variant) vs → IsAscending (map lower vs) → (r : Rest) → AreBlocksOf 0 qs r → IsTailOf ps r
+pub tail_of : (vs qs ps : List (List ℕ)) → ps ≡ vs ++ qs → AllByRecursion (IsWord Variant) vs → StrictlyAscends word_cmp (map lower vs) → (r : Rest) → AreBlocksOf 0 qs r → IsTailOf ps r
 tail_of vs qs ps e each ascending rest.Printed h = record { variants = vs; rest = qs; cut = e; each = each; ascending = ascending; extensions = h }
 tail_of vs qs ps e each ascending rest.Misfit h = record { variants = vs; rest = qs; cut = e; each = each; ascending = ascending; bad = h }
 tail_of vs qs ps e each ascending rest.Duplicated h = record { variants = vs; rest = qs; cut = e; each = each; ascending = ascending; bad = h }
-tail_of vs qs ps e each ascending (rest.Unordered n) h = tt
+tail_of vs qs ps e each ascending rest.LastTrue h = record { variants = vs; rest = qs; cut = e; each = each; ascending = ascending; extensions = h }
+tail_of vs qs ps e each ascending rest.Unordered h = tt
 tail_of vs qs ps e each ascending rest.Other h = tt
 
 -- ---- the line
@@ -329,36 +337,40 @@ more_variants l (Some s) None vs ws e = ap (λ us. l ∷ s ∷ (us ++ ws)) (sym 
 more_variants l None (Some r) vs ws e = ap (λ us. l ∷ r ∷ (us ++ ws)) (sym e)
 more_variants l None None vs ws e = ap (λ us. l ∷ (us ++ ws)) (sym e)
 
-module _ (p : Plain) (start rest : List ℕ) (h : IsPlain start p) (f : Fault) (b : IsFaultyTail (pieces rest) f) where
-  abbrev written : Identifier
+-- variants and other pieces follow a plain identifier
+module _ (p : Plain) (start rest : List ℕ) (h : IsPlain start p) (vs qs : List (List ℕ)) (cut : pieces rest ≡ vs ++ qs) (each : AllByRecursion (IsWord Variant) vs) where
+  abbrev pub written : Identifier
   written = h.means.written
 
-  abbrev id : Identifier
-  id = record { language = written.language; script = written.script; region = written.region; variants = b.variants }
+  abbrev pub with_variants : Identifier
+  with_variants = record { language = written.language; script = written.script; region = written.region; variants = vs }
 
-  is_identifier : IsIdentifier languages id
-  is_identifier = let words = h.means.grammatical.words in record {
-    words = record { language = words.language; script = words.script; region = words.region; variants = b.each };
-    different = b.different;
-  }
+  words : HasWords languages with_variants
+  words = let before = h.means.grammatical.words in record { language = before.language; script = before.script; region = before.region; variants = each }
 
-  spelled : pieces (start ++ 45 ∷ rest) ≡ identifier_pieces id ++ b.rest
+  spelled : pieces (start ++ 45 ∷ rest) ≡ identifier_pieces with_variants ++ qs
   spelled =
-      pieces_both start rest ∙ (λ j. h.means.spelled j ++ b.cut j) ∙ sym (append_assoc (identifier_pieces written) b.variants b.rest)
-      ∙ ap (λ l. l ++ b.rest) (sym (more_variants written.language written.script written.region written.variants b.variants h.no_variant))
+      pieces_both start rest ∙ (λ j. h.means.spelled j ++ cut j) ∙ sym (append_assoc (identifier_pieces written) vs qs)
+      ∙ ap (λ l. l ++ qs) (sym (more_variants written.language written.script written.region written.variants vs h.no_variant))
 
-  long : AllByRecursion IsLong (after_language id)
-  long = long_after_language id is_identifier.words
+  long : AllByRecursion IsLong (after_language with_variants)
+  long = long_after_language with_variants words
 
-  head_is : head (pieces (start ++ 45 ∷ rest)) ≡ identifier_pieces id
-  head_is =
-      ap head spelled ∙ ap (λ l. id.language ∷ l) (front_past (after_language id) b.rest long ∙ ap (λ l. after_language id ++ l) b.none_before ∙ append-nil (after_language id))
+  -- they are the head of the line if a block comes next, or nothing
+  pub head_is : front qs ≡ [] → head (pieces (start ++ 45 ∷ rest)) ≡ identifier_pieces with_variants
+  head_is none =
+      ap head spelled ∙ ap (λ l. with_variants.language ∷ l) (front_past (after_language with_variants) qs long ∙ ap (λ l. after_language with_variants ++ l) none ∙ append-nil (after_language with_variants))
 
-  blocks_are : tail_blocks (pieces (start ++ 45 ∷ rest)) ≡ blocks b.rest
-  blocks_are = ap tail_blocks spelled ∙ blocks_past (after_language id) b.rest long
+  pub blocks_are : tail_blocks (pieces (start ++ 45 ∷ rest)) ≡ blocks qs
+  blocks_are = ap tail_blocks spelled ∙ blocks_past (after_language with_variants) qs long
 
-  pub has_fault : HasFault languages (start ++ 45 ∷ rest) f
-  has_fault = in_block (id, is_identifier, head_is) (fault_of_first (subst (λ bs. FirstBadBlock languages [] bs f) (sym blocks_are) b.first))
+  pub is_identifier : AllDifferent word_cmp (map lower vs) → IsIdentifier languages with_variants
+  is_identifier different = record { words = words; different = different }
+
+pub has_fault : (p : Plain) (start rest : List ℕ) → IsPlain start p → (f : Fault) → IsFaultyTail (pieces rest) f → HasFault languages (start ++ 45 ∷ rest) f
+has_fault p start rest h f b =
+    in_block (with_variants p start rest h b.variants b.rest b.cut b.each, is_identifier p start rest h b.variants b.rest b.cut b.each b.different, head_is p start rest h b.variants b.rest b.cut b.each b.none_before)
+    (fault_of_first (subst (λ bs. FirstBadBlock languages [] bs f) (sym (blocks_are p start rest h b.variants b.rest b.cut b.each)) b.first))
 
 pub told_fault : (f : Fault) (o : Ordered) (w : List ℕ) (len at : ℕ) → len + 16 ≤ length w → IsBefore w len at o → IsFaultyTail (pieces (take (len - at - 1) (take (length w - (at + 1)) (drop (at + 1) w)))) f
     → HasFault languages (take len w) f

@@ -5,9 +5,11 @@ use Rattle.iloc_spec_grammar.specs.Syntax.{front}
 use Rattle.iloc_spec_grammar.proofs.Readings.{IsLong}
 use Rattle.iloc_fronts.specs.Left.{pieces_of}
 use Rattle.iloc_blocks.proofs.BlockLemmas.{begins_with, front_long, front_past}
-use Rattle.iloc_blocks.specs.Blocks.{IsAtBlock, IsBodyAs, IsUnorderedAs}
+use Rattle.iloc_blocks.specs.Blocks.{IsAtBlock, IsBodyAs, IsPartAs, IsUnorderedAs}
 use Rattle.iloc_blocks.specs.declared.body.Body.{Body}
 use Rattle.iloc_blocks.specs.declared.body.Body.TheVariants as body
+use Rattle.iloc_blocks.specs.declared.body.Part.{Part}
+use Rattle.iloc_blocks.specs.declared.body.Part.TheVariants as part
 
 -- the same pieces, by weaker words
 pub body_as : (P Q B C : List (List ℕ) → Type 0) (m n : ℕ) (ps : List (List ℕ)) → m ≤ n → ((qs : List (List ℕ)) → P qs → Q qs) → (B ps → C ps) → (w : Body) → IsBodyAs P B m ps w → IsBodyAs Q C n ps w
@@ -26,6 +28,19 @@ body_after P Q B C m n p ps whole e le good bad (body.Next l) h =
 body_after P Q B C m n p ps whole e le good bad body.Bad h = subst C (sym e) (bad h)
 body_after P Q B C m n p ps whole e le good bad body.Unordered h = tt
 body_after P Q B C m n p ps whole e le good bad body.Other h = tt
+
+-- the same of a part: pieces before a last `true` are told of by words of their own
+pub part_as : (P Q B C R S : List (List ℕ) → Type 0) (m n : ℕ) (ps : List (List ℕ)) → m ≤ n → ((qs : List (List ℕ)) → P qs → Q qs) → (B ps → C ps) → ((qs : List (List ℕ)) → R qs → S qs)
+    → (w : Part) → IsPartAs P B R m ps w → IsPartAs Q C S n ps w
+part_as P Q B C R S m n ps le good bad more (part.Body b) h = body_as P Q B C m n ps le good bad b h
+part_as P Q B C R S m n ps le good bad more part.LastTrue h =
+    record { before = h.before; word = h.word; cut = h.cut; attribute = h.attribute; nothing = h.nothing; is = more h.before h.is }
+
+pub part_after : (P Q B C R S : List (List ℕ) → Type 0) (m n : ℕ) (p : List ℕ) (ps whole : List (List ℕ)) → whole ≡ p ∷ ps → m ≤ n
+    → ((qs : List (List ℕ)) → P qs → Q (p ∷ qs)) → (B ps → C (p ∷ ps)) → ((qs : List (List ℕ)) → R qs → S (p ∷ qs)) → (w : Part) → IsPartAs P B R m ps w → IsPartAs Q C S n whole w
+part_after P Q B C R S m n p ps whole e le good bad more (part.Body b) h = body_after P Q B C m n p ps whole e le good bad b h
+part_after P Q B C R S m n p ps whole e le good bad more part.LastTrue h =
+    record { before = p ∷ h.before; word = h.word; cut = e ∙ ap (λ l. p ∷ l) h.cut; attribute = h.attribute; nothing = h.nothing; is = more h.before h.is }
 
 -- several pieces more
 pub body_past : (P Q B C : List (List ℕ) → Type 0) (m n : ℕ) (xs ps whole : List (List ℕ)) → whole ≡ xs ++ ps → m ≤ n
@@ -46,7 +61,7 @@ unordered_body P B n ps false w h e = subst (IsBodyAs P B n ps) (sym e) tt
 
 -- ---- pieces up to the next block
 
-front_all : (ps : List (List ℕ)) → AllByRecursion IsLong ps → front ps ≡ ps
+pub front_all : (ps : List (List ℕ)) → AllByRecursion IsLong ps → front ps ≡ ps
 front_all [] h = refl
 front_all (p ∷ ps) h = front_long p ps h.0 ∙ ap (λ qs. p ∷ qs) (front_all ps h.1)
 

@@ -4,7 +4,9 @@ pub mod UnicodeLemmas
 pub mod OtherLemmas
 pub mod TransformLemmas
 pub mod PrintedBlocks
+pub mod LastTrue
 pub mod OrderedLemmas
 pub mod VariantLemmas
 pub mod BadBlocks
 pub mod FaultLemmas
+pub mod TrueLines

@@ -3,9 +3,9 @@ use Rattle.std.proofs.Common.{take, drop, ◌-◌, ◌≡◌, ℕ, zero, suc, �
 use Rattle.std.specs.Char.{to_ascii_lowercase}
 use Rattle.std.specs.List.{AllByRecursion}
 use Rattle.std.proofs.lemmas.List.{map-append, get_or-take, length-append, length-take-le, take-take, length-drop}
-use Rattle.iloc_spec_grammar.specs.Syntax.{pieces, join, dashes, Variant, IsWord, lower, title, upper, languages, Identifier, identifier_pieces}
+use Rattle.iloc_spec_grammar.specs.Syntax.{pieces, join, dashes, Variant, IsWord, lower, title, upper, languages, Identifier, identifier_pieces, word_cmp}
 use Rattle.iloc_spec_grammar.specs.Meaning.{Locale, IdentifierMeans, Means, normal_identifier}
-use Rattle.iloc_spec_grammar.specs.Values.{IsNormal, IsAscending, IsIdentifierValue, lower_identifier, identifier_text, text, extensions_spelling, TextStep, IdentifierTextStep}
+use Rattle.iloc_spec_grammar.specs.Values.{IsNormal, StrictlyAscends, IsIdentifierValue, lower_identifier, identifier_text, text, extensions_spelling, TextStep, IdentifierTextStep}
 use Rattle.iloc_spec_grammar.proofs.PiecesLaws.{at_pieces, join-pieces, pieces-join}
 use Rattle.iloc_spec_grammar.proofs.PartTexts.{join-append, join-dashes, dashes-append, text_of_parts}
 use Rattle.iloc_spec_grammar.proofs.WordsLaws.{lower-lower, lower-title, lower-upper, is_word-lower}
@@ -73,7 +73,7 @@ pub lower_variant : (p : List ℕ) → IsWord Variant p → IsNormal Variant (lo
 lower_variant p h = (is_word-lower Variant p ∙ h, lower-lower p)
 
 -- the pieces of a plain identifier, and variants after it
-abbrev with_variants : Identifier → List (List ℕ) → Identifier
+abbrev pub with_variants : Identifier → List (List ℕ) → Identifier
 with_variants i vs = record { language = i.language; script = i.script; region = i.region; variants = vs }
 
 with_pieces : (f : ℕ) (s : Bool) (r : ℕ) (t : List ℕ) (vs : List (List ℕ)) → identifier_pieces (with_variants (plain_identifier f s r t) vs) ≡ identifier_pieces (plain_identifier f s r t) ++ vs
@@ -84,7 +84,7 @@ with_pieces f false zero t vs = refl
 with_pieces f false (suc r) t vs = refl
 
 module _ (p : Plain) (front rest : List ℕ) (h : IsPlain front p) (tail : IsTail (pieces rest)) where
-  abbrev identifier : Identifier
+  abbrev pub identifier : Identifier
   identifier = with_variants (value_of p) (map lower tail.variants)
 
   pub value : IsIdentifierValue languages identifier
@@ -100,7 +100,7 @@ module _ (p : Plain) (front rest : List ℕ) (h : IsPlain front p) (tail : IsTai
   unfolding identifier_text
   identifier_is = ap join (with_pieces p.language p.has_script p.region p.bytes (map lower tail.variants)) ∙ join-append (value_of p).language _ (map lower tail.variants)
 
-  abbrev locale : Locale
+  abbrev pub locale : Locale
   locale = record { id = identifier; extensions = tail.extensions.extensions }
 
   -- in lower case the pieces of the rest are those that are printed
@@ -186,7 +186,7 @@ module _ (w : List ℕ) (len at : ℕ) (room : len + 16 ≤ length w) (less : at
       take-take (len - at - 1) (length w - (at + 1)) (drop (at + 1) w) (omega arith) ∙ ap (λ (m : ℕ). take (len - at - 1) (drop m w)) one_more
 
 -- a line of which the identifier before a hyphen was read, and what follows it
-is_cut : (o : Ordered) (w : List ℕ) (len at : ℕ) → len + 16 ≤ length w → IsBefore w len at o → IsCut (take len w) o
+unfoldable pub is_cut : (o : Ordered) (w : List ℕ) (len at : ℕ) → len + 16 ≤ length w → IsBefore w len at o → IsCut (take len w) o
 is_cut o w len at room b = record {
   stored = record { words = b.plain.words; room = omega (arith, b.long, ap length b.rest, room_there w len at room b.less b.hyphen) };
   some = omega (arith, b.long, b.less);
@@ -206,7 +206,7 @@ is_ordered t o c h = record {
 }
 
 -- a line of which no more than variants follow
-pub is_identifier : (t : List ℕ) (o : Ordered) (c : IsCut t o) (vs : List (List ℕ)) → AllByRecursion (IsWord Variant) vs → IsAscending (map lower vs) → pieces c.tail ≡ vs → IsOrderedIdentifier t o
+pub is_identifier : (t : List ℕ) (o : Ordered) (c : IsCut t o) (vs : List (List ℕ)) → AllByRecursion (IsWord Variant) vs → StrictlyAscends word_cmp (map lower vs) → pieces c.tail ≡ vs → IsOrderedIdentifier t o
 is_identifier t o c vs each ascending e = record {
   stored = c.stored;
   identifier = identifier o.plain c.front c.tail c.plain h;
@@ -269,6 +269,6 @@ module _ (w : List ℕ) (len n : ℕ) (room : len + 16 ≤ length w) (v : EndsIn
       let front_long : length c.front ≡ length v.front = length-take-le (len - n - 1) w (omega arith) ∙ there in
       let same : c.tail ≡ v.variant = tail_after c.front c.tail v.front v.variant front_long (sym c.cut ∙ v.cut) in
       record {
-        is = is_identifier (take len w) o c (v.variant ∷ []) (v.is, tt) refl (ap pieces same ∙ pieces_one v.variant v.is);
+        is = is_identifier (take len w) o c (v.variant ∷ []) (v.is, tt) (tt, tt) (ap pieces same ∙ pieces_one v.variant v.is);
         few = omega arith;
       }

@@ -122,7 +122,7 @@ first_other e c ws l some =
 
 value_of_parts : (ws : List (List ℕ)) → AllByRecursion (IsNormal PrivateSubtag) ws → IsExtensionsValue languages (record { unicode = no_unicode; transform = no_transform; private = ws; others = [] })
 value_of_parts ws k = record {
-  unicode = record { attributes = tt; ascending = refl; keywords = tt; keys_ascend = refl };
+  unicode = record { attributes = tt; ascending = tt; keywords = tt; keys_ascend = refl };
   transform = record { id = tt; fields = tt; keys_ascend = refl };
   private = k;
   others = tt;

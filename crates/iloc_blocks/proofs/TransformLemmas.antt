@@ -2,9 +2,9 @@
 use Rattle.std.proofs.Common.{inl, inr, take, ◌≡◌, ◌≢◌, ◌⊎◌, ℕ, ◌<◌, ◌≤◌, Bool, true, false, cond, not, ◌&&◌, List, [], ◌∷◌, ◌++◌, length, map, Option, Some, None, IfSome, refl, sym, ap, ◌∙◌, subst, arith, append_assoc, append-nil, true≢false, length-append}
 use Rattle.std.specs.List.{AllByRecursion}
 use Rattle.std.specs.FinMap.Entries.{below_all}
-use Rattle.std.proofs.lemmas.Bool.{and_parts, and_from, cases_Bool}
+use Rattle.std.proofs.lemmas.Bool.{and_parts, and_from, cases_Bool, both_ways}
 use Rattle.std.proofs.lemmas.Bool.Decides.{nat_tests}
-use Rattle.iloc_spec_grammar.specs.Syntax.{front, first_piece, Kind, Language, Script, Region, Variant, Attribute, TransformKey, is_word, IsWord, HasWords, IsIdentifier, IsField, Identifier, Fields, Transform, fields_pieces, identifier_pieces, optional_pieces, transform_pieces, AllDifferent, lower, is_true, word_cmp, languages}
+use Rattle.iloc_spec_grammar.specs.Syntax.{front, first_piece, Language, Script, Region, Variant, Attribute, TransformKey, is_word, IsWord, HasWords, IsIdentifier, IsField, Identifier, Fields, Transform, fields_pieces, identifier_pieces, optional_pieces, transform_pieces, AllDifferent, lower, is_true, word_cmp, languages}
 use Rattle.iloc_spec_grammar.specs.Tree.{IsTransformBlock}
 use Rattle.iloc_spec_grammar.specs.Meaning.{RepeatsVariant, normal_values}
 use Rattle.iloc_spec_grammar.specs.Values.{spelled_value}
@@ -24,7 +24,7 @@ use Rattle.iloc_blocks.specs.Transform.{AreValues, AreValuesAs, IsAsPrinted, IsF
 use Rattle.iloc_fronts.specs.declared.left.Left.{Left}
 use Rattle.iloc_blocks.specs.declared.body.Body.{Body}
 use Rattle.iloc_blocks.specs.declared.body.Body.TheVariants as body
-use Rattle.iloc_fronts.proofs.FrontLemmas.{IsShort, short_language, short_variant}
+use Rattle.iloc_fronts.proofs.FrontLemmas.{short_language, short_variant}
 use Rattle.iloc_fronts.proofs.LeftLemmas.{first_word}
 use Rattle.iloc_blocks.proofs.BlockLemmas.{front_long, front_past}
 use Rattle.iloc_blocks.proofs.UnicodeLemmas.{word_below}
@@ -253,14 +253,6 @@ later_fields p vs rest h v long e n r = n (record {
 
 -- ---- the identifier
 
--- what is left after a first piece that may fit
-pub skips : (k : Kind) → IsShort k → (l : Left) → IsLeft l → cond (is_word k (piece_of l)) (rest_of (pieces_of l)) (pieces_of l) ≡ skip_first (is_word k) (pieces_of l)
-skips k short l h = by (sym (first_word l h k short))
-  where
-    by : is_word k (piece_of l) ≡ is_word k (first_piece (pieces_of l)) → cond (is_word k (piece_of l)) (rest_of (pieces_of l)) (pieces_of l) ≡ skip_first (is_word k) (pieces_of l)
-    by e = ap (λ (b : Bool). cond b (rest_of (pieces_of l)) (pieces_of l)) e
-        ∙ at_pieces (λ ps. cond (is_word k (first_piece ps)) (rest_of ps) ps ≡ skip_first (is_word k) ps) (λ p ps. refl) (take l.len l.window.now)
-
 some_front : (rest : List (List ℕ)) → starts_block rest ≡ false → 0 < length (front rest)
 some_front [] long = absurd (true≢false long)
 some_front (q ∷ rest) long = omega (arith, ap length (front_long q rest long))
@@ -271,7 +263,7 @@ cases_empty (q ∷ qs) = inr (λ e. cc)
 
 pub few_different : (vs : List (List ℕ)) → length vs ≤ 1 → AllDifferent word_cmp (map lower vs)
 few_different [] l = tt
-few_different (v ∷ []) l = (refl, tt)
+few_different (v ∷ []) l = (both_ways _ refl, tt)
 few_different (v ∷ w ∷ vs) l = absurd (omega arith)
 
 skip_yes : (test : List ℕ → Bool) (p : List ℕ) (ps : List (List ℕ)) → test p ≡ true → skip_first test (p ∷ ps) ≡ ps

@@ -1,6 +1,7 @@
 -- Attributes and keywords in order.
-use Rattle.std.proofs.Common.{inl, inr, ◌≡◌, ◌≢◌, ◌⊎◌, ℕ, suc, ◌+◌, ◌*◌, ◌<◌, ◌≤◌, true, false, List, [], ◌∷◌, ◌++◌, length, map, refl, sym, ap, ◌∙◌, subst, arith, true≢false, Bool, ◌||◌}
-use Rattle.std.specs.List.{AllByRecursion}
+use Rattle.iloc_spec_grammar.proofs.MapLaws.{less}
+use Rattle.std.proofs.Common.{inl, inr, ◌≡◌, ◌≢◌, ◌⊎◌, ℕ, suc, ◌+◌, ◌*◌, ◌<◌, ◌≤◌, true, false, List, [], ◌∷◌, ◌++◌, length, map, refl, sym, ap, ◌∙◌, subst, arith, true≢false, Bool, ◌||◌, append-nil}
+use Rattle.std.specs.List.{AllByRecursion, list_any}
 use Rattle.std.specs.FinMap.Entries.{below_all}
 use Rattle.std.specs.Ordering.{is_lt, nat_cmp, ordering_then}
 use Rattle.std.specs.declared.cmp.Ordering.{Ordering}
@@ -8,11 +9,11 @@ use Rattle.std.specs.declared.cmp.Ordering.TheVariants.{Less, Equal}
 use Rattle.std.specs.Char.{is_ascii_alphanumeric, to_ascii_lowercase}
 use Rattle.std.proofs.lemmas.Bool.{and_from, cases_lt}
 use Rattle.std.proofs.lemmas.Bool.Decides.{nat_tests}
-use Rattle.iloc_spec_grammar.specs.Syntax.{UnicodeKey, Attribute, is_word, IsWord, lower, word_cmp, Fields, first_piece}
+use Rattle.iloc_spec_grammar.specs.Syntax.{UnicodeKey, Attribute, is_true, is_word, IsWord, lower, word_cmp, Fields, fields_pieces, first_piece}
 use Rattle.iloc_spec_grammar.specs.Reading.{starts_block}
 use Rattle.iloc_spec_grammar.proofs.ValuesLaws.{all_weaker}
-use Rattle.iloc_spec_grammar.proofs.WordsLaws.{length-attribute, length-unicode_key}
-use Rattle.iloc_blocks.specs.Blocks.{IsValuePiece, AreKeywords, AreKeywordsAt, Follows, IsNext, IsUnicodePart, IsUnicodeFrom, HaveStranger, lower_fields}
+use Rattle.iloc_spec_grammar.proofs.WordsLaws.{length-attribute, length-lower, length-unicode_key}
+use Rattle.iloc_blocks.specs.Blocks.{IsValuePiece, AreKeywords, AreKeywordsAt, Follows, IsNext, IsUnicodePart, IsUnicodeFrom, IsUnicodeWord, AreKeywordsWith, HaveStranger, lower_fields}
 use Rattle.iloc_fronts.specs.Words.{IsUpToEight, two_number, word_number}
 use Rattle.iloc_fronts.specs.Left.{pieces_of, piece_of, IsLeft}
 use Rattle.iloc_fronts.specs.declared.left.Left.{Left}
@@ -20,7 +21,7 @@ use Rattle.iloc_fronts.proofs.FrontLemmas.{short_attribute, short_key}
 use Rattle.iloc_fronts.proofs.LeftLemmas.{no_block_left, first_word}
 use Rattle.iloc_blocks.proofs.BlockLemmas.{front_long, long_key}
 use Rattle.iloc_spec_grammar.proofs.Readings.{IsLong, long_attribute}
-use Rattle.iloc_fronts.proofs.WordBytes.{BeginsTwo, key_begins}
+use Rattle.iloc_fronts.proofs.WordBytes.{true_word, BeginsTwo, key_begins}
 use Rattle.iloc_fronts.proofs.WordNumbers.{attribute_fits, lesser_below}
 
 -- ---- keys in order
@@ -103,7 +104,7 @@ next_is_short last p k (IsNext.key h less) = omega (arith, length-unicode_key p 
 -- ---- what may follow the singleton
 
 pub unicode_of_keywords : (n : ℕ) → n ≢ 1 → (ps : List (List ℕ)) → AreKeywordsAt n ps → IsUnicodePart ps
-unicode_of_keywords n more ps k = record { attributes = []; rest = ps; cut = refl; each = tt; ascending = refl; keywords = k.0; some = by k.1 }
+unicode_of_keywords n more ps k = record { attributes = []; rest = ps; cut = refl; each = tt; ascending = tt; keywords = k.0; some = by k.1 }
   where
     by : (n ≡ 1) ⊎ (0 < length k.0.fields) → 0 < 0 + length k.0.fields
     by (inl one) = absurd (more one)
@@ -111,13 +112,13 @@ unicode_of_keywords n more ps k = record { attributes = []; rest = ps; cut = ref
 
 -- one attribute, and keywords
 pub unicode_last : (p : List ℕ) (ps : List (List ℕ)) → IsWord Attribute p → AreKeywords ps → IsUnicodeFrom (word_number p) (p ∷ ps)
-unicode_last p ps h k = (record { attributes = p ∷ []; rest = ps; cut = refl; each = (h, tt); ascending = refl; keywords = k; some = omega arith }, (omega arith, tt))
+unicode_last p ps h k = (record { attributes = p ∷ []; rest = ps; cut = refl; each = (h, tt); ascending = (tt, tt); keywords = k; some = omega arith }, (omega arith, tt))
 
 -- a word is below those with greater numbers
 pub words_below : (p : List ℕ) → IsUpToEight p → (ws : List (List ℕ)) → AllByRecursion IsUpToEight ws → AllByRecursion (λ w. word_number p < word_number w) ws
-    → below_all word_cmp (lower p) (map (λ w. (w, tt {0})) (map lower ws)) ≡ true
-words_below p h [] each above = refl
-words_below p h (w ∷ ws) each above = and_from _ _ (lesser_below p w h each.0 above.0) (words_below p h ws each.1 above.1)
+    → AllByRecursion (λ w. word_cmp (lower p) w ≡ Less) (map lower ws)
+words_below p h [] each above = tt
+words_below p h (w ∷ ws) each above = (less _ (lesser_below p w h each.0 above.0), words_below p h ws each.1 above.1)
 
 -- one attribute more
 pub unicode_more : (p : List ℕ) (n : ℕ) → IsWord Attribute p → word_number p < n → (ps : List (List ℕ)) → IsUnicodeFrom n ps → IsUnicodeFrom (word_number p) (p ∷ ps)
@@ -127,8 +128,11 @@ unicode_more p n h l ps (u, above) = (
     rest = u.rest;
     cut = ap (λ l. p ∷ l) u.cut;
     each = (h, u.each);
-    ascending = and_from _ _ (words_below p (attribute_fits p h) u.attributes (all_weaker (IsWord Attribute) IsUpToEight attribute_fits u.attributes u.each)
-        (all_weaker (λ a. n ≤ word_number a) (λ a. word_number p < word_number a) (λ a m. omega arith) u.attributes above)) u.ascending;
+    ascending = (
+      words_below p (attribute_fits p h) u.attributes (all_weaker (IsWord Attribute) IsUpToEight attribute_fits u.attributes u.each)
+          (all_weaker (λ a. n ≤ word_number a) (λ a. word_number p < word_number a) (λ a m. omega arith) u.attributes above),
+      u.ascending,
+    );
     keywords = u.keywords;
     some = omega arith;
   },
@@ -159,9 +163,6 @@ follow_more last n p h e less ps f = elim (cases_lt 0 last) [
 
 -- ---- pieces that are neither attributes nor keys
 
-abbrev IsUnicodeWord : List ℕ → Type 0
-IsUnicodeWord p = IsWord Attribute p ⊎ IsWord UnicodeKey p
-
 pub long_word : (p : List ℕ) → IsUnicodeWord p → IsLong p
 long_word p (inl h) = long_attribute p h
 long_word p (inr h) = long_key p h
@@ -169,6 +170,13 @@ long_word p (inr h) = long_key p h
 -- one that comes after such a word
 pub stranger_after : (p : List ℕ) (ps : List (List ℕ)) → IsUnicodeWord p → HaveStranger ps → HaveStranger (p ∷ ps)
 stranger_after p ps h n all = n (subst (AllByRecursion IsUnicodeWord) (front_long p ps (long_word p h)) all).1
+
+-- ... and one that comes first is none
+pub stranger_later : (p : List ℕ) (ps : List (List ℕ)) → IsUnicodeWord p → HaveStranger (p ∷ ps) → HaveStranger ps
+stranger_later p ps h n all = n (subst (AllByRecursion IsUnicodeWord) (sym (front_long p ps (long_word p h))) (h, all))
+
+pub no_stranger : (p : List ℕ) → IsUnicodeWord p → HaveStranger (p ∷ []) → ⊥
+no_stranger p h n = stranger_later p [] h n tt
 
 pub next_word : (last : ℕ) (p : List ℕ) (k : ℕ) → IsNext last p k → IsUnicodeWord p
 next_word last p k (IsNext.value h) = inl h.0
@@ -188,16 +196,71 @@ pub stranger_left : (l : Left) → IsLeft l → l.n ≢ 1 → is_word Attribute 
 stranger_left l h more a k =
     stranger_first (pieces_of l) (no_block_left l h more) (first_word l h Attribute short_attribute ∙ a) (first_word l h UnicodeKey short_key ∙ k)
 
--- ---- words of `u`
+-- ---- a key among pieces
+
+abbrev pub HasKey : List (List ℕ) → Type 0
+HasKey ps = list_any (is_word UnicodeKey) ps ≡ true
+
+-- pieces that may follow attributes, with a key among them
+abbrev pub MayFollowWith : ℕ → List (List ℕ) → Type 0
+MayFollowWith last ps = MayFollow last ps × HasKey ps
 
 pub either : (a b : Bool) → (a || b) ≡ true → (a ≡ true) ⊎ (b ≡ true)
 either true b h = inl refl
 either false b h = inr h
 
+either_first : (a b : Bool) → a ≡ true → (a || b) ≡ true
+either_first true b h = refl
+either_first false b h = absurd (true≢false (sym h))
+
+either_later : (a b : Bool) → b ≡ true → (a || b) ≡ true
+either_later true b h = refl
+either_later false b h = h
+
+pub key_later : (p : List ℕ) (ps : List (List ℕ)) → HasKey ps → HasKey (p ∷ ps)
+key_later p ps h = either_later (is_word UnicodeKey p) _ h
+
+pub keywords_have_key : (ps : List (List ℕ)) → AreKeywordsWith ps → HasKey ps
+keywords_have_key ps (k, some) = by k.fields k.each k.spelled some
+  where
+    by : (fs : Fields) → AllByRecursion (λ f. IsWord UnicodeKey f.0 × AllByRecursion IsValuePiece f.1) fs → ps ≡ fields_pieces fs → 0 < length fs → HasKey ps
+    by [] each e l = absurd (omega arith)
+    by (f ∷ fs) each e l = subst HasKey (sym e) (either_first (is_word UnicodeKey f.0) _ each.0.0)
+
+no_key : (ws : List (List ℕ)) → AllByRecursion (IsWord Attribute) ws → HasKey ws → ⊥
+no_key [] each h = true≢false (sym h)
+no_key (w ∷ ws) each h = elim (either (is_word UnicodeKey w) _ h) [
+  | inl key ↦ omega (arith, length-unicode_key w key, (length-attribute w each.0).0)
+  | inr later ↦ no_key ws each.1 later
+]
+
+pub with_key : (ps : List (List ℕ)) (u : IsUnicodePart ps) → HasKey ps → 0 < length u.keywords.fields
+with_key ps u h = by u.keywords.fields (u.cut ∙ ap (λ l. u.attributes ++ l) u.keywords.spelled)
+  where
+    by : (fs : Fields) → ps ≡ u.attributes ++ fields_pieces fs → 0 < length fs
+    by [] e = absurd (no_key u.attributes u.each (subst HasKey (e ∙ append-nil u.attributes) h))
+    by (f ∷ fs) e = omega arith
+
+-- ---- words of `u`
+
 pub neither : (a b : Bool) → (a || b) ≡ false → (a ≡ false) × (b ≡ false)
 neither true b h = absurd (true≢false h)
 neither false b h = (refl, h)
 
-pub unicode_short : (p : List ℕ) → IsWord Attribute p ⊎ IsWord UnicodeKey p → length p ≤ 8
+-- what is left begins with one if its first piece is one
+pub first_unicode : (l : Left) → IsLeft l → IsUnicodeWord (piece_of l) → IsUnicodeWord (first_piece (pieces_of l))
+first_unicode l h (inl a) = inl (first_word l h Attribute short_attribute ∙ a)
+first_unicode l h (inr k) = inr (first_word l h UnicodeKey short_key ∙ k)
+
+pub unicode_first : (l : Left) → IsLeft l → IsUnicodeWord (first_piece (pieces_of l)) → IsUnicodeWord (piece_of l)
+unicode_first l h (inl a) = inl (sym (first_word l h Attribute short_attribute) ∙ a)
+unicode_first l h (inr k) = inr (sym (first_word l h UnicodeKey short_key) ∙ k)
+
+-- `true` is no key
+pub true_attribute : (p : List ℕ) → is_true (lower p) ≡ true → IsUnicodeWord p → IsWord Attribute p
+true_attribute p h (inl a) = a
+true_attribute p h (inr k) = absurd (omega (arith, length-unicode_key p k, length-lower p, ap length (true_word (lower p) h)))
+
+pub unicode_short : (p : List ℕ) → IsUnicodeWord p → length p ≤ 8
 unicode_short p (inl a) = (length-attribute p a).1
 unicode_short p (inr k) = omega (arith, length-unicode_key p k)

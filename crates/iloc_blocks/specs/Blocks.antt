@@ -1,14 +1,15 @@
 -- What is told of the blocks of a locale, from the first one on.
-use Rattle.std.specs.Prelude.{◌≡◌, ◌≢◌, ◌⊎◌, ⊤, ℕ, ◌+◌, ◌<◌, ◌≤◌, ◌&&◌, Bool, true, false, List, [], ◌++◌, length, map, Option, Some, None}
+use Rattle.std.specs.Prelude.{◌≡◌, ◌≢◌, ◌⊎◌, ⊤, ℕ, ◌+◌, ◌<◌, ◌≤◌, ◌&&◌, Bool, true, false, List, [], ◌∷◌, ◌++◌, length, map, Option, Some, None}
 use Rattle.std.specs.Int.{is_in_range}
 use Rattle.std.specs.List.{AllByRecursion, list_all, list_any}
 use Rattle.std.specs.FinMap.{is_sorted}
 use Rattle.std.specs.Ordering.{nat_cmp, eq_by_cmp}
 use Rattle.std.specs.Char.{is_ascii_alphanumeric}
-use Rattle.iloc_spec_grammar.specs.Syntax.{Text, Fields, code_t, code_u, code_x, front, blocks, PrivateSubtag, Subtag, UnicodeKey, Attribute, is_word, IsWord, IsOther, is_true, letters_or_digits, lower, word_cmp, fields_pieces, languages, first_piece}
+use Rattle.iloc_spec_grammar.specs.Syntax.{Text, Block, Fields, code_t, code_u, code_x, front, blocks, PrivateSubtag, Subtag, UnicodeKey, Attribute, is_word, IsWord, IsOther, is_true, letters_or_digits, lower, word_cmp, fields_pieces, languages, first_piece}
 use Rattle.iloc_spec_grammar.specs.Meaning.{Extensions, no_unicode, no_transform}
 use Rattle.iloc_spec_grammar.specs.Tree.{FirstBadBlock}
-use Rattle.iloc_spec_grammar.specs.Values.{AreWellFormed, IsAscending, IsExtensionsValue, extensions_spelling}
+use Rattle.iloc_spec_grammar.specs.Values.{AreWellFormed, StrictlyAscends, IsExtensionsValue, extensions_spelling}
+use Rattle.iloc_spec_grammar.specs.ByBlocks.{BlocksGive, grammar_rules}
 use Rattle.iloc_fronts.specs.Left.{pieces_of, piece_of, IsLeft}
 use Rattle.iloc_fronts.specs.declared.left.Left.{Left}
 use Rattle.iloc_blocks.specs.Bad.{fault_of}
@@ -18,6 +19,8 @@ use Rattle.iloc_blocks.specs.declared.blocks.Rest.{Rest}
 use Rattle.iloc_blocks.specs.declared.blocks.Rest.TheVariants as rest
 use Rattle.iloc_blocks.specs.declared.body.Body.{Body}
 use Rattle.iloc_blocks.specs.declared.body.Body.TheVariants as body
+use Rattle.iloc_blocks.specs.declared.body.Part.{Part}
+use Rattle.iloc_blocks.specs.declared.body.Part.TheVariants as part
 use Rattle.iloc_blocks.specs.declared.unicode.Next.{Next}
 use Rattle.iloc_blocks.specs.declared.unicode.Next.TheVariants as next
 use Rattle.iloc_fronts.specs.Walk.{left_of}
@@ -27,7 +30,7 @@ use Rattle.iloc_fronts.specs.Words.{two_number, word_number}
 
 -- no extension but the private one has a singleton up to this one
 pub record AreAbove (last : ℕ) (e : Extensions) : Type 0 where
-  pub others : AllByRecursion (λ o. last < o.0) e.others
+  pub others : AllByRecursion (λ (c, _). last < c) e.others
   pub transform : code_t ≤ last → e.transform ≡ no_transform
   pub unicode : code_u ≤ last → e.unicode ≡ no_unicode
 
@@ -38,6 +41,19 @@ pub record ArePrinted (last : ℕ) (ps : List Text) : Type 0 where
   pub well_formed : AreWellFormed extensions
   pub above : AreAbove last extensions
   pub printed : map lower ps ≡ extensions_spelling extensions
+
+-- without the last piece, which is `true`, they are such extensions, and it adds nothing to what the
+-- blocks give
+pub record ArePrintedBut (last : ℕ) (ps : List Text) : Type 0 where
+  pub singleton : ℕ
+  pub others : List Text
+  pub word : Text
+  pub cut : ps ≡ (singleton ∷ []) ∷ (others ++ (word ∷ []))
+  pub nothing : is_true (lower word) ≡ true
+  pub printed : ArePrinted last ((singleton ∷ []) ∷ others)
+  pub keeps : (bs : List Block) (e : Extensions)
+      → BlocksGive (grammar_rules languages) (bs ++ blocks ((singleton ∷ []) ∷ others)) e
+      → BlocksGive (grammar_rules languages) (bs ++ blocks ps) e
 
 -- these singletons are none of `x`, and the last one, unless it is zero, is the greatest of them
 pub record AreSeen (last : ℕ) (seen : Text) : Type 0 where
@@ -55,7 +71,8 @@ abbrev pub AreBlocksOf : ℕ → List Text → Rest → Type 0
 AreBlocksOf last ps rest.Printed = ArePrinted last ps
 AreBlocksOf last ps rest.Misfit = BeginBadly last ps bad.Misfit
 AreBlocksOf last ps rest.Duplicated = BeginBadly last ps bad.Duplicated
-AreBlocksOf last ps (rest.Unordered n) = ⊤
+AreBlocksOf last ps rest.LastTrue = ArePrintedBut last ps
+AreBlocksOf last ps rest.Unordered = ⊤
 AreBlocksOf last ps rest.Other = ⊤
 
 -- the singleton c is no letter or digit, or it may come after the last one
@@ -70,6 +87,11 @@ IsBlockAs last c len ps (body.Next l) = IsLeft l × (l.len ≤ len)
 IsBlockAs last c len ps body.Bad = BeginBadly last ps bad.Misfit
 IsBlockAs last c len ps body.Unordered = ⊤
 IsBlockAs last c len ps body.Other = ⊤
+
+-- the same, or a last `true` is told
+abbrev pub IsBlockPartAs : ℕ → ℕ → ℕ → List Text → Part → Type 0
+IsBlockPartAs last c len ps (part.Body b) = IsBlockAs last c len ps b
+IsBlockPartAs last c len ps part.LastTrue = ArePrintedBut last ps
 
 -- The pieces after a singleton, up to the next block.
 
@@ -86,6 +108,21 @@ IsBodyAs P B len ps (body.Next l) = IsLeft l × (l.len ≤ len) × IsCutAs P ps 
 IsBodyAs P B len ps body.Bad = B ps
 IsBodyAs P B len ps body.Unordered = ⊤
 IsBodyAs P B len ps body.Other = ⊤
+
+-- such pieces come before a last one, `true`
+pub record EndInTrue (Q : List Text → Type 0) (ps : List Text) : Type 0 where
+  pub before : List Text
+  pub word : Text
+  pub cut : ps ≡ before ++ (word ∷ [])
+  pub attribute : IsWord Attribute word
+  pub nothing : is_true (lower word) ≡ true
+  pub is : Q before
+
+-- the same as of a body, or such pieces come before a last `true`
+abbrev pub IsPartAs : (List Text → Type 0) → (List Text → Type 0) → (List Text → Type 0) → ℕ
+    → List Text → Part → Type 0
+IsPartAs P B Q len ps (part.Body b) = IsBodyAs P B len ps b
+IsPartAs P B Q len ps part.LastTrue = EndInTrue Q ps
 
 -- pieces that are not in order are told as bad, or as that
 abbrev pub IsUnorderedAs : Bool → Body → Type 0
@@ -167,7 +204,7 @@ ArePastStrays len ps (Some l) = AreStraysBefore len ps l
 
 -- fields in lower case
 abbrev pub lower_fields : Fields → Fields
-lower_fields fs = map (λ f. (lower f.0, map lower f.1)) fs
+lower_fields fs = map (λ (key, values). (lower key, map lower values)) fs
 
 -- a piece of a value other than `true`
 abbrev pub IsValuePiece : Text → Type 0
@@ -177,12 +214,17 @@ IsValuePiece p = IsWord Attribute p × (is_true (lower p) ≡ false)
 pub record AreKeywords (ps : List Text) : Type 0 where
   pub fields : Fields
   pub spelled : ps ≡ fields_pieces fields
-  pub each : AllByRecursion (λ f. IsWord UnicodeKey f.0 × AllByRecursion IsValuePiece f.1) fields
+  pub each : AllByRecursion
+      (λ (key, values). IsWord UnicodeKey key × AllByRecursion IsValuePiece values) fields
   pub ascending : is_sorted word_cmp (lower_fields fields) ≡ true
 
 -- they are such keywords, one at least unless a piece of so many bytes begins a block
 abbrev pub AreKeywordsAt : ℕ → List Text → Type 0
 AreKeywordsAt n ps = (k : AreKeywords ps) × ((n ≡ 1) ⊎ (0 < length k.fields))
+
+-- they are such keywords, one at least
+abbrev pub AreKeywordsWith : List Text → Type 0
+AreKeywordsWith ps = (k : AreKeywords ps) × (0 < length k.fields)
 
 -- they are pieces of the value of a key with this number, and keywords above it
 pub record Follows (key : ℕ) (ps : List Text) : Type 0 where
@@ -191,17 +233,21 @@ pub record Follows (key : ℕ) (ps : List Text) : Type 0 where
   pub cut : ps ≡ values ++ rest
   pub each : AllByRecursion IsValuePiece values
   pub keywords : AreKeywords rest
-  pub above : AllByRecursion (λ f. key < two_number f.0) keywords.fields
+  pub above : AllByRecursion (λ (k, _). key < two_number k) keywords.fields
 
 -- after the key with the number last, the piece is one of its value, or a greater key
 pub data IsNext (last : ℕ) (p : Text) : ℕ → Type 0 where
   value : IsValuePiece p → IsNext last p last
   key : IsWord UnicodeKey p → last < two_number p → IsNext last p (two_number p)
 
+-- an attribute, a piece of a value, or a key
+abbrev pub IsUnicodeWord : Text → Type 0
+IsUnicodeWord p = IsWord Attribute p ⊎ IsWord UnicodeKey p
+
 -- the piece after the key with the number last, or after one of its value
 abbrev pub IsNextAs : ℕ → Text → Next → Type 0
 IsNextAs last p (next.Piece k) = IsNext last p k
-IsNextAs last p next.Unordered = ⊤
+IsNextAs last p next.Unordered = IsUnicodeWord p
 IsNextAs last p next.Misfit = (is_word Attribute p ≡ false) × (is_word UnicodeKey p ≡ false)
 
 -- they are ascending attributes and keywords, one of both at least
@@ -210,9 +256,13 @@ pub record IsUnicodePart (ps : List Text) : Type 0 where
   pub rest : List Text
   pub cut : ps ≡ attributes ++ rest
   pub each : AllByRecursion (IsWord Attribute) attributes
-  pub ascending : IsAscending (map lower attributes)
+  pub ascending : StrictlyAscends word_cmp (map lower attributes)
   pub keywords : AreKeywords rest
   pub some : 0 < length attributes + length keywords.fields
+
+-- the same, with a keyword
+abbrev pub IsUnicodeWith : List Text → Type 0
+IsUnicodeWith ps = (u : IsUnicodePart ps) × (0 < length u.keywords.fields)
 
 -- the same, and so are the attributes from this number on
 abbrev pub IsUnicodeFrom : ℕ → List Text → Type 0
@@ -220,7 +270,7 @@ IsUnicodeFrom n ps = (u : IsUnicodePart ps) × AllByRecursion (λ a. n ≤ word_
 
 -- up to the next block a piece is neither an attribute nor a key
 abbrev pub HaveStranger : List Text → Type 0
-HaveStranger ps = ¬ (AllByRecursion (λ p. IsWord Attribute p ⊎ IsWord UnicodeKey p) (front ps))
+HaveStranger ps = ¬ (AllByRecursion IsUnicodeWord (front ps))
 
 -- what breaks the rule of `u`: nothing follows, or such a piece
 abbrev pub IsNoUnicode : List Text → Type 0

@@ -3,10 +3,10 @@ use Rattle.std.specs.Prelude.{◌≡◌, ◌⊎◌, ℕ, ◌<◌, true, false, L
 use Rattle.std.specs.Int.{is_in_range}
 use Rattle.std.specs.List.{AllByRecursion, list_any}
 use Rattle.std.specs.Ordering.{nat_cmp, eq_by_cmp}
-use Rattle.iloc_spec_grammar.specs.Syntax.{Text, UnicodeKey, Attribute, IsWord, code_t, code_u, is_other_singleton, front, blocks, languages}
+use Rattle.iloc_spec_grammar.specs.Syntax.{Text, code_t, code_u, is_other_singleton, front, blocks, languages}
 use Rattle.iloc_spec_grammar.specs.Tree.{FirstBadBlock}
 use Rattle.iloc_blocks.specs.Bad.{fault_of}
-use Rattle.iloc_blocks.specs.Blocks.{AreSubtags, IsNoOther, IsNoUnicode, IsUnicodePart}
+use Rattle.iloc_blocks.specs.Blocks.{AreSubtags, IsNoOther, IsNoUnicode, IsUnicodePart, IsUnicodeWith, IsUnicodeWord}
 use Rattle.iloc_blocks.specs.Transform.{IsNoTransform, IsTransformPart}
 use Rattle.iloc_blocks.specs.declared.bad_block.BadBlock.{BadBlock}
 
@@ -25,6 +25,10 @@ pub record IsNoBodyOf (c : ℕ) (ps : List Text) : Type 0 where
   pub transform : c ≡ code_t → IsNoTransform ps
   pub other : is_other_singleton c ≡ true → IsNoOther ps
 
+-- they are what follows the singleton `u`, with a keyword
+abbrev pub IsValued : ℕ → List Text → Type 0
+IsValued c ps = (c ≡ code_u) × IsUnicodeWith ps
+
 -- After blocks whose singletons are known.
 
 -- blocks come at once, and after such singletons the first bad one is as told
@@ -40,7 +44,7 @@ IsUnseen c seen = list_any (eq_by_cmp nat_cmp c) seen ≡ false
 
 -- attributes, keys and pieces of values
 abbrev pub AreUnicodeWords : List Text → Type 0
-AreUnicodeWords ps = AllByRecursion (λ p. IsWord Attribute p ⊎ IsWord UnicodeKey p) ps
+AreUnicodeWords ps = AllByRecursion IsUnicodeWord ps
 
 -- one at least, unless a piece of so many bytes begins a block
 abbrev pub AreUnicodeAt : ℕ → List Text → Type 0

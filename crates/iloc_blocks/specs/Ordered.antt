@@ -4,9 +4,9 @@ use Rattle.std.specs.List.{AllByRecursion}
 use Rattle.iloc_spec_grammar.specs.Syntax.{Text, pieces, front, blocks, Variant, IsWord, languages, lower, word_cmp, AllDifferent, Identifier}
 use Rattle.iloc_spec_grammar.specs.Meaning.{Locale, IdentifierMeans, Means, Fault}
 use Rattle.iloc_spec_grammar.specs.Tree.{FirstBadBlock}
-use Rattle.iloc_spec_grammar.specs.Values.{IsAscending, identifier_text, text}
+use Rattle.iloc_spec_grammar.specs.Values.{StrictlyAscends, identifier_text, text}
 use Rattle.iloc_plain.specs.Plain.{AreWords, IsPlain, value_of}
-use Rattle.iloc_blocks.specs.Blocks.{ArePrinted, BeginBadly}
+use Rattle.iloc_blocks.specs.Blocks.{ArePrinted, ArePrintedBut, BeginBadly}
 use Rattle.iloc_blocks.specs.Bad.{HasBadBlock}
 use Rattle.iloc_blocks.specs.declared.bad_block.BadBlock.{BadBlock}
 use Rattle.iloc_blocks.specs.declared.bad_block.BadBlock.TheVariants as bad
@@ -68,8 +68,17 @@ pub record IsTail (ps : List Text) : Type 0 where
   pub rest : List Text
   pub cut : ps ≡ variants ++ rest
   pub each : AllByRecursion (IsWord Variant) variants
-  pub ascending : IsAscending (map lower variants)
+  pub ascending : StrictlyAscends word_cmp (map lower variants)
   pub extensions : ArePrinted 0 rest
+
+-- the same, but for a last `true`
+pub record IsTailBut (ps : List Text) : Type 0 where
+  pub variants : List Text
+  pub rest : List Text
+  pub cut : ps ≡ variants ++ rest
+  pub each : AllByRecursion (IsWord Variant) variants
+  pub ascending : StrictlyAscends word_cmp (map lower variants)
+  pub extensions : ArePrintedBut 0 rest
 
 -- they are ascending variants, and blocks of which the first bad one is as told
 pub record IsBadTail (ps : List Text) (b : BadBlock) : Type 0 where
@@ -77,7 +86,7 @@ pub record IsBadTail (ps : List Text) (b : BadBlock) : Type 0 where
   pub rest : List Text
   pub cut : ps ≡ variants ++ rest
   pub each : AllByRecursion (IsWord Variant) variants
-  pub ascending : IsAscending (map lower variants)
+  pub ascending : StrictlyAscends word_cmp (map lower variants)
   pub bad : BeginBadly 0 rest b
 
 -- they are different variants, and blocks of which the first bad one has this fault
@@ -95,12 +104,13 @@ abbrev pub IsTailOf : List Text → Rest → Type 0
 IsTailOf ps rest.Printed = IsTail ps
 IsTailOf ps rest.Misfit = IsBadTail ps bad.Misfit
 IsTailOf ps rest.Duplicated = IsBadTail ps bad.Duplicated
-IsTailOf ps (rest.Unordered n) = ⊤
+IsTailOf ps rest.LastTrue = IsTailBut ps
+IsTailOf ps rest.Unordered = ⊤
 IsTailOf ps rest.Other = ⊤
 
 -- what is told of the line
 abbrev pub IsReading : Text → Reading → Type 0
 IsReading t (reading.Ordered o) = IsOrdered t o
 IsReading t (reading.BadBlock b) = HasBadBlock t b
-IsReading t (reading.Unordered n) = ⊤
+IsReading t reading.Unordered = ⊤
 IsReading t reading.Other = ⊤

@@ -47,9 +47,9 @@ AreValuesAs P ordered len ps body.Other = ¬ ⊤
 
 -- their keys ascend above a number, and their values are as they are printed
 pub record AreInOrder (last : ℕ) (fields : Fields) : Type 0 where
-  pub printed : AllByRecursion (λ f. IsAsPrinted f.1) fields
+  pub printed : AllByRecursion (λ (_, values). IsAsPrinted values) fields
   pub ascending : is_sorted word_cmp (lower_fields fields) ≡ true
-  pub above : AllByRecursion (λ f. last < two_number f.0) fields
+  pub above : AllByRecursion (λ (key, _). last < two_number key) fields
 
 -- they are fields, one at least; if order is asked, they are in order above a number
 pub record AreFields (ordered : Bool) (last : ℕ) (ps : List Text) : Type 0 where

@@ -3,10 +3,16 @@ ghost use Rattle.std.specs.Prelude.{◌≡◌, ◌≢◌, ◌↔◌, ◌∷◌, 
 ghost use Rattle.iloc_spec_grammar.specs.Syntax.{Text, code_x};
 ghost use Rattle.std.specs.Char.{is_ascii_alphanumeric, to_ascii_lowercase};
 ghost use Rattle.iloc_fronts.specs.Left.{IsLeft, pieces_of};
-ghost use Rattle.iloc_blocks.specs.Blocks.{AreBlocksOf, IsBlockAs, IsBodyAs, IsNewAfter};
-ghost use Rattle.iloc_blocks.specs.Bodies.{IsBodyOf, IsNoBodyOf};
+ghost use Rattle.iloc_blocks.specs.Blocks.{
+  AreBlocksOf,
+  IsBlockPartAs,
+  IsBodyAs,
+  IsNewAfter,
+  IsPartAs,
+};
+ghost use Rattle.iloc_blocks.specs.Bodies.{IsBodyOf, IsNoBodyOf, IsValued};
 
-use crate::body::Body;
+use crate::body::{Body, Part};
 use crate::other::{read_other, read_private};
 use crate::transform::read_transform;
 use crate::unicode::read_unicode;
@@ -21,9 +27,10 @@ pub(crate) enum Rest {
     Misfit,
     // Good blocks, then one with the singleton of an earlier one, and perhaps others after it.
     Duplicated,
-    // A good block comes that is not in order, or one with a lesser singleton than the last. The number is how many bytes
-    // are left from the first on; it is zero of the second.
-    Unordered(usize),
+    // What a value prints, but for the case, and a last piece that says nothing: `true`, of a value of `u`.
+    LastTrue,
+    // A good block comes that is not in order, or one with a lesser singleton than the last.
+    Unordered,
     // Nothing that is told.
     Other,
 }
@@ -43,11 +50,12 @@ pub(crate) fn read_blocks(left: Left<'_>) -> Rest
     }
     let singleton = left.window[0].to_ascii_lowercase();
     match read_block(singleton, after_piece(left)) {
-        Body::End => Rest::Printed,
-        Body::Next(next) => after_first(singleton, next),
-        Body::Bad => Rest::Misfit,
-        Body::Unordered => Rest::Unordered(left.len),
-        Body::Other => Rest::Other,
+        Part::LastTrue => Rest::LastTrue,
+        Part::Body(Body::End) => Rest::Printed,
+        Part::Body(Body::Next(next)) => after_first(singleton, next),
+        Part::Body(Body::Bad) => Rest::Misfit,
+        Part::Body(Body::Unordered) => Rest::Unordered,
+        Part::Body(Body::Other) => Rest::Other,
     }
 }
 
@@ -84,14 +92,15 @@ fn read_later(first: u8, left: Left<'_>) -> Rest
             return Rest::Misfit;
         }
         match read_block(singleton, after_piece(at)) {
-            Body::End => return Rest::Printed,
-            Body::Next(next) => {
+            Part::LastTrue => return Rest::LastTrue,
+            Part::Body(Body::End) => return Rest::Printed,
+            Part::Body(Body::Next(next)) => {
                 last = singleton;
                 at = next;
             }
-            Body::Bad => return Rest::Misfit,
-            Body::Unordered => return Rest::Unordered(at.len),
-            Body::Other => return Rest::Other,
+            Part::Body(Body::Bad) => return Rest::Misfit,
+            Part::Body(Body::Unordered) => return Rest::Unordered,
+            Part::Body(Body::Other) => return Rest::Other,
         }
     }
     Rest::Other
@@ -107,7 +116,7 @@ fn out_of_order(singleton: u8, last: u8) -> Rest
     if singleton == last {
         return Rest::Duplicated;
     }
-    Rest::Unordered(0)
+    Rest::Unordered
 }
 
 // Whether a block with this singleton may come after one with the last. A byte that is no letter or
@@ -124,19 +133,35 @@ fn may_follow(singleton: u8, last: u8) -> bool
 
 // What follows the singleton, up to the next block.
 #[inline(always)]
-fn read_block(singleton: u8, left: Left<'_>) -> Body<'_>
+fn read_block(singleton: u8, left: Left<'_>) -> Part<'_>
     requires { IsLeft left }
     ensures { (last c : ℕ) → to_ascii_lowercase c ≡ singleton → IsNewAfter last singleton
-        → IsBlockAs last singleton left.entry.len ((c ∷ []) ∷ pieces_of left.entry) result }
+        → IsBlockPartAs last singleton left.entry.len ((c ∷ []) ∷ pieces_of left.entry) result }
 {
     match singleton {
-        b'x' => read_private(left),
-        _ if !singleton.is_ascii_alphanumeric() => Body::Bad,
-        _ => read_body(singleton, left),
+        b'x' => Part::Body(read_private(left)),
+        _ if !singleton.is_ascii_alphanumeric() => Part::Body(Body::Bad),
+        _ => read_part(singleton, left),
     }
 }
 
-/// What follows a letter or digit in lower case that is no `x`, up to the next block.
+// What follows a letter or digit in lower case that is no `x`, up to the next block.
+#[inline(always)]
+fn read_part(singleton: u8, left: Left<'_>) -> Part<'_>
+    requires left { IsLeft left }
+    requires letter { is_ascii_alphanumeric singleton ≡ true }
+    requires no_private { singleton ≢ code_x }
+    ensures { IsPartAs (IsBodyOf singleton) (IsNoBodyOf singleton) (IsValued singleton)
+        left.entry.len (pieces_of left.entry) result }
+{
+    match singleton {
+        b'u' => read_unicode(left),
+        b't' => Part::Body(read_transform(left)),
+        _ => Part::Body(read_other(left)),
+    }
+}
+
+/// What follows a letter or digit in lower case that is no `x`, up to the next block. A last `true` is not in order.
 #[inline(always)]
 pub fn read_body(singleton: u8, left: Left<'_>) -> Body<'_>
     requires left { IsLeft left }
@@ -145,9 +170,8 @@ pub fn read_body(singleton: u8, left: Left<'_>) -> Body<'_>
     ensures { IsBodyAs (IsBodyOf singleton) (IsNoBodyOf singleton) left.entry.len
         (pieces_of left.entry) result }
 {
-    match singleton {
-        b'u' => read_unicode(left),
-        b't' => read_transform(left),
-        _ => read_other(left),
+    match read_part(singleton, left) {
+        Part::Body(body) => body,
+        Part::LastTrue => Body::Unordered,
     }
 }

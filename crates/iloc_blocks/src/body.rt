@@ -18,6 +18,15 @@ pub enum Body<'a> {
     Other,
 }
 
+// What they are, if a last piece that says nothing is told too.
+#[derive(Clone, Copy)]
+pub(crate) enum Part<'a> {
+    // What is told of a body.
+    Body(Body<'a>),
+    // In order, but for a piece `true` of a value of `u`, which ends the line.
+    LastTrue,
+}
+
 // What is told of pieces that are not in order.
 #[inline(always)]
 pub(crate) fn unordered<'a>(are_bad: bool) -> Body<'a>

@@ -31,9 +31,8 @@ pub enum Reading<'a> {
     /// An identifier, perhaps blocks in order, and then a bad one.
     BadBlock(BadBlock),
     /// Not in order: a good block is not, or one has a lesser singleton than the block before it, or variants are not.
-    /// `rewrite` may bring it into order. The number is how many bytes are left from that block on, or zero. Nothing is
-    /// claimed of the line.
-    Unordered(usize),
+    /// `rewrite` may bring it into order. Nothing is claimed of the line.
+    Unordered,
     /// Nothing that is told.
     Other,
 }
@@ -42,7 +41,8 @@ pub enum Reading<'a> {
 /// ascending variants.
 /// Blocks are in order if their singletons ascend, and one of `x` comes last: of `u` with attributes and keys that
 /// ascend and no `true`; of `t` with at most one variant, keys that ascend, and no `true` but as a whole value; and of
-/// words after another singleton. A bad block is told after such blocks.
+/// words after another singleton. A bad block is told after such blocks. So is a piece `true` that ends the line and a
+/// value of `u`: the normal text is without it.
 #[inline(always)]
 pub fn read_ordered(window: &[u8], len: usize, at: usize) -> Reading<'_>
     requires { len + 16 ≤ length window.now }
@@ -53,7 +53,7 @@ pub fn read_ordered(window: &[u8], len: usize, at: usize) -> Reading<'_>
     }
     let rest = read_tail(left_in(&window[at + 1..], len - at - 1));
     match rest {
-        Rest::Unordered(left) => return Reading::Unordered(left),
+        Rest::Unordered => return Reading::Unordered,
         Rest::Other => return Reading::Other,
         _ => (),
     }
@@ -62,9 +62,15 @@ pub fn read_ordered(window: &[u8], len: usize, at: usize) -> Reading<'_>
     };
     match rest {
         Rest::Printed => Reading::Ordered(line),
+        // (a hyphen and `true` are left out)
+        Rest::LastTrue => Reading::Ordered(Ordered {
+            plain: line.plain,
+            rest: line.rest,
+            len: line.len - 5,
+        }),
         Rest::Misfit => Reading::BadBlock(BadBlock::Misfit),
         Rest::Duplicated => Reading::BadBlock(BadBlock::Duplicated),
-        Rest::Unordered(left) => Reading::Unordered(left),
+        Rest::Unordered => Reading::Unordered,
         Rest::Other => Reading::Other,
     }
 }
@@ -132,7 +138,7 @@ fn read_variants_and_blocks(left: Left<'_>) -> Rest
     match past_ascending(left) {
         Body::End => Rest::Printed,
         Body::Next(next) => read_blocks(next),
-        Body::Unordered => Rest::Unordered(0),
+        Body::Unordered => Rest::Unordered,
         Body::Bad | Body::Other => Rest::Other,
     }
 }

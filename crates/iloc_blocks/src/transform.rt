@@ -9,23 +9,18 @@ ghost use Rattle.std.specs.Prelude.{
   IsTrue,
   true,
   false,
-  cond,
   length,
   take,
 };
 ghost use Rattle.iloc_spec_grammar.specs.Syntax.{
   Attribute,
   IsWord,
-  Language,
   is_true,
-  languages,
   lower,
   pieces,
 };
-ghost use Rattle.iloc_spec_grammar.specs.Reading.{after_region, rest_of};
 ghost use Rattle.iloc_fronts.specs.Left.{IsLeft, piece_of, pieces_of};
 ghost use Rattle.iloc_blocks.specs.Blocks.{IsAtBlock, IsBodyAs};
-ghost use Rattle.iloc_fronts.specs.Walk.{left_of};
 ghost use Rattle.iloc_blocks.specs.Transform.{
   AreFields,
   AreValues,
@@ -33,16 +28,15 @@ ghost use Rattle.iloc_blocks.specs.Transform.{
   IsFieldValue,
   IsHeadAs,
   IsNoTransform,
-  IsRest,
   IsTransformPart,
   NoFields,
 };
 
 use crate::body::{Body, unordered};
+use iloc_fronts::front::{after_identifier, past_one};
 use iloc_fronts::left::{Left, after_piece, left_in};
 use iloc_fronts::words::{
-    is_attribute, is_field_key, is_language, is_region, is_script, is_true, is_variant,
-    number_of_two,
+    is_attribute, is_field_key, is_language, is_true, is_variant, number_of_two,
 };
 
 // What the pieces are up to the next block.
@@ -82,41 +76,6 @@ pub fn past_identifier(left: Left<'_>) -> Body<'_>
         return Body::Other;
     }
     Body::Next(next)
-}
-
-// What follows a language, perhaps a script and a region; `None` if nothing does.
-#[inline(always)]
-fn after_identifier(left: Left<'_>) -> Option<Left<'_>>
-    requires left { IsLeft left }
-    requires language { IsWord (Language languages) (piece_of left) }
-    ensures rest { IsRest left.entry.len result }
-    ensures pieces { left_of result ≡ after_region (pieces_of left.entry) }
-{
-    let Some(at) = past_one(true, left) else {
-        return None;
-    };
-    let Some(next) = past_one(is_script(at.window, at.n), at) else {
-        return None;
-    };
-    past_one(is_region(next.window, next.n), next)
-}
-
-// Passes over the first piece, if it fits. What is left; `None` if nothing is.
-#[inline(always)]
-fn past_one(fits: bool, left: Left<'_>) -> Option<Left<'_>>
-    requires left { IsLeft left }
-    requires short { IsTrue fits → left.n < 16 }
-    ensures rest { IsRest left.entry.len result }
-    ensures pieces { left_of result
-        ≡ cond fits (rest_of (pieces_of left.entry)) (pieces_of left.entry) }
-{
-    if !fits {
-        return Some(left);
-    }
-    if left.n == left.len {
-        return None;
-    }
-    Some(after_piece(left))
 }
 
 // What the fields are in order, one at least.

@@ -13,7 +13,7 @@ use Rattle.iloc_fields.specs.ValueReading.{IsValueWord}
 
 -- what fields hold: a key with the words of a value
 abbrev pub IsFieldPair : Text × List Text → Type 0
-IsFieldPair f = IsNormal TransformKey f.0 × AllByRecursion IsValueWord f.1
+IsFieldPair (key, values) = IsNormal TransformKey key × AllByRecursion IsValueWord values
 
 -- the front spells fields, which mean m
 pub record FieldsRead (ps : List Text) (m : Fields) (rest : List Text) : Type 0 where

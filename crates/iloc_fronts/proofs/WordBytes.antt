@@ -1,9 +1,9 @@
 -- The bytes of words: the first two, and those of `true`.
-use Rattle.std.proofs.Common.{inl, inr, codes, take, ◌≡◌, ℕ, zero, suc, ◌<◌, ◌≤◌, true, false, List, [], ◌∷◌, length, map, get_or, bit_or, ◌==◌, refl, sym, ap, ◌∙◌, subst, arith}
+use Rattle.std.proofs.Common.{inl, inr, codes, take, ◌≡◌, ℕ, zero, suc, ◌<◌, ◌≤◌, true, false, List, [], ◌∷◌, length, map, get_or, bit_or, ◌==◌, refl, sym, ap, ◌∙◌, subst, arith, Bool, not, ◌||◌, nat_lt, ◌↔◌}
 use Rattle.std.specs.Cmp.{Equal-is}
 use Rattle.std.specs.Char.{is_ascii_alphanumeric, to_ascii_lowercase}
-use Rattle.std.proofs.lemmas.Bool.{and_parts, eqb-true, cases_Bool}
-use Rattle.std.proofs.lemmas.Bool.Decides.{nat_tests}
+use Rattle.std.proofs.lemmas.Bool.{and_parts, eqb-true, cases_Bool, eq-eqb, agree_below}
+use Rattle.std.proofs.lemmas.Bool.Decides.{nat_tests, Decides-ltb}
 use Rattle.std.proofs.lemmas.List.{length-map, length-take-le, get_or-take}
 use Rattle.iloc_spec_grammar.specs.Syntax.{UnicodeKey, is_word, IsWord, lower, is_same, is_true}
 use Rattle.iloc_spec_grammar.proofs.MapLaws.{same_words, same_itself}
@@ -26,6 +26,22 @@ low_bit c h = eqb-true _ _ (of_byte is_ascii_alphanumeric (λ b. bit_or b 32 == 
   where
     small : (c : ℕ) → is_ascii_alphanumeric c ≡ true → c < 256
     small c h = grind (arith, nat_tests)
+
+-- whether all bytes that pass the first test pass the second
+abbrev pub imply : (ℕ → Bool) → (ℕ → Bool) → Bool
+imply p q = agree_below (λ b. not (p b) || q b) (λ _. true) 256
+
+-- bit 5 makes a letter lower case, and no other byte that letter
+pub same_letter : (l : ℕ) → imply (λ b. bit_or b 32 == l) (λ b. to_ascii_lowercase b == l) ≡ true → imply (λ b. to_ascii_lowercase b == l) (λ b. bit_or b 32 == l) ≡ true
+    → (c : ℕ) → c < 256 → (bit_or c 32 ≡ l) ↔ (to_ascii_lowercase c ≡ l)
+same_letter l to from c small = (
+  λ e. eqb-true _ _ (of_byte (λ b. bit_or b 32 == l) (λ b. to_ascii_lowercase b == l) to c small (eq-eqb _ _ e)),
+  λ e. eqb-true _ _ (of_byte (λ b. to_ascii_lowercase b == l) (λ b. bit_or b 32 == l) from c small (eq-eqb _ _ e)),
+)
+
+-- it makes no byte greater than a byte
+pub folded_fits : (c : ℕ) → c < 256 → bit_or c 32 < 256
+folded_fits c small = (Decides-ltb (bit_or c 32) 256).0 (of_byte (λ b. true) (λ b. nat_lt (bit_or b 32) 256) refl c small refl)
 
 -- two letters or digits come first
 pub record BeginsTwo (p : List ℕ) : Type 0 where

@@ -118,12 +118,13 @@ pub fn read_front(window: &[u8], len: usize) -> Front<'_>
     }
 }
 
-// What follows a language, perhaps a script and a region; `None` if nothing does.
+/// What follows a language, perhaps a script and a region; `None` if nothing does.
 #[inline(always)]
-fn after_identifier(left: Left<'_>) -> Option<Left<'_>>
+pub fn after_identifier(left: Left<'_>) -> Option<Left<'_>>
     requires left { IsLeft left }
     requires language { IsWord (Language languages) (piece_of left) }
     ensures left { IfSome result IsLeft }
+    ensures few { IfSome result (λ rest. rest.len ≤ left.entry.len) }
     ensures pieces { left_of result ≡ region_past (pieces_of left.entry) }
 {
     let Some(at) = past_one(true, left) else {
@@ -135,12 +136,13 @@ fn after_identifier(left: Left<'_>) -> Option<Left<'_>>
     past_one(is_region(next.window, next.n), next)
 }
 
-// Passes over the first piece, if it fits. What is left; `None` if nothing is.
+/// Passes over the first piece, if it fits. What is left; `None` if nothing is.
 #[inline(always)]
-fn past_one(fits: bool, left: Left<'_>) -> Option<Left<'_>>
+pub fn past_one(fits: bool, left: Left<'_>) -> Option<Left<'_>>
     requires left { IsLeft left }
     requires short { IsTrue fits → left.n < 16 }
     ensures left { IfSome result IsLeft }
+    ensures few { IfSome result (λ rest. rest.len ≤ left.entry.len) }
     ensures pieces { left_of result
         ≡ cond fits (rest_of (pieces_of left.entry)) (pieces_of left.entry) }
 {

@@ -162,7 +162,7 @@ pub fn is_attribute(window: &[u8], n: usize) -> bool
     is_word_from(3, window, n)
 }
 
-/// Whether the first `n` bytes are `true`, in whatever case.
+/// Whether the first `n` bytes are `true`, in whatever case. Bit 5 makes a letter lower case.
 #[inline(always)]
 pub fn is_true(window: &[u8], n: usize) -> bool
     requires wide { 16 ≤ length window.now }
@@ -172,16 +172,9 @@ pub fn is_true(window: &[u8], n: usize) -> bool
     if n != 4 {
         return false;
     }
-    if window[0].to_ascii_lowercase() != b't' {
-        return false;
-    }
-    if window[1].to_ascii_lowercase() != b'r' {
-        return false;
-    }
-    if window[2].to_ascii_lowercase() != b'u' {
-        return false;
-    }
-    window[3].to_ascii_lowercase() == b'e'
+    let first = (window[0] | 32) as usize + 256 * ((window[1] | 32) as usize);
+    let last = (window[2] | 32) as usize + 256 * ((window[3] | 32) as usize);
+    first + 65_536 * last == 0x6575_7274
 }
 
 /// The number of the first two bytes, by which keys are ordered. Bit 5 makes a letter lower case, and digits have it.

@@ -1,4 +1,5 @@
 -- From what is read to whether it is a subtag.
+use Rattle.iloc_word_set.proofs.CollectorLaws.{ascending}
 use Rattle.std.proofs.Common.{◌≡◌, ◌↔◌, ℕ, ◌<◌, List, [], ◌∷◌, Bool, true, false, IsTrue, Result, length, remove, refl, sym, ap, subst, ◌∙◌, true≢false}
 use Rattle.std.specs.Prelude.{MatchResult, not, filter, is_some}
 use Rattle.std.specs.List.{list_any, HoldsAt}
@@ -9,7 +10,7 @@ use Rattle.std.specs.FinMap.Entries.{below_all}
 use Rattle.std.specs.Ordering.{is_lt}
 use Rattle.iloc_spec_grammar.proofs.SetLaws.{marked}
 use Rattle.iloc_spec_grammar.specs.Syntax.{Kind, IsWord, is_word, is_same, normal, read, word_cmp}
-use Rattle.iloc_spec_grammar.specs.Values.{IsAscending}
+use Rattle.iloc_spec_grammar.specs.Values.{StrictlyAscends}
 use Rattle.iloc_word_set.specs.Ascending.{ascends}
 use Rattle.iloc_word_set.proofs.SetLaws.{kept_all, search_old, search_removed, ascending-filter}
 use Rattle.iloc_subtags.specs.declared.parse_error.ParseError.{ParseError}
@@ -50,23 +51,13 @@ absent_key k t w ks e h p =
     let There : List ℕ → Type 0 = λ v. is_some (find word_cmp v ks) ≡ true in
     true≢false (sym (subst There (sym e) p.1) ∙ sym h)
 
--- what ascends passes the test for a set
-ascends_of : (ws : List (List ℕ)) → IsAscending ws → ascends word_cmp ws ≡ true
-ascends_of [] h = refl
-ascends_of (x ∷ []) h = refl
-ascends_of (x ∷ (y ∷ ws)) h =
-    let rest = marked ws in let later = marked (y ∷ ws) in
-    let parts = and_parts (below_all word_cmp x later) (is_sorted word_cmp later) h in
-    let next = and_parts (is_lt (word_cmp x y)) (below_all word_cmp x rest) parts.0 in
-    rw next.0 (ascends_of (y ∷ ws) parts.1)
-
--- and so does what is left of it
-pub removed_ascends : (x : List ℕ) (ws : List (List ℕ)) (i : ℕ) → IsAscending ws → i < length ws
+-- what is left of a set passes the test for one
+pub removed_ascends : (x : List ℕ) (ws : List (List ℕ)) (i : ℕ) → StrictlyAscends word_cmp ws → i < length ws
     → HoldsAt (λ y. word_cmp y x ≡ Equal) ws i → ascends word_cmp (remove ws i) ≡ true
 removed_ascends x ws i h l at =
     let p : List ℕ → Bool = λ w. not (is_same x w) in
     subst (λ vs. ascends word_cmp vs ≡ true) (sym (search_removed ws ws x i refl h l at))
-    (ascends_of (filter p ws) (ascending-filter p ws h))
+    (ascending (filter p ws) (ascending-filter p ws h))
 
 -- a subtag that is not found is not there
 pub absent_word : (k : Kind) (t w : List ℕ) (ws : List (List ℕ)) → w ≡ normal k t → list_any (is_same w) ws ≡ false
@@ -75,7 +66,7 @@ absent_word k t w ws e h p = true≢false (sym (subst (λ v. list_any (is_same v
 
 -- what a binary search found was there, and without it all others are left
 pub removed_word : (k : Kind) (t w : List ℕ) (slice ws kept : List (List ℕ)) (i : ℕ) → w ≡ normal k t → slice ≡ ws
-    → IsAscending ws → i < length slice → HoldsAt (λ y. word_cmp y w ≡ Equal) slice i → kept ≡ remove slice i
+    → StrictlyAscends word_cmp ws → i < length slice → HoldsAt (λ y. word_cmp y w ≡ Equal) slice i → kept ≡ remove slice i
     → (list_any (is_same (normal k t)) ws ≡ true) × (kept ≡ without_word k t ws)
 removed_word k t w slice ws kept i e same asc bound at is = (
   subst (λ v. list_any (is_same v) ws ≡ true) e (search_old slice ws w i same asc bound at).present,

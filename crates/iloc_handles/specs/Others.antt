@@ -43,4 +43,4 @@ SetsOther t = Sets
 -- no extension has the singleton any more
 abbrev pub RemovesOther : ℕ → Changing
 RemovesOther c = Removes (HasOther c)
-    (λ M. with_others (filter (λ o. not (o.0 == to_ascii_lowercase c)) M.extensions.others) M)
+    (λ M. with_others (filter (λ (s, _). not (s == to_ascii_lowercase c)) M.extensions.others) M)

@@ -21,11 +21,11 @@ pub record Map (V : Type 0) : Type 1 where
 
 -- the key at an index
 abbrev pub key_at : {V : Type 0} → ℕ → List (Text × V) → Option Text
-key_at i pairs = option_map (λ p. p.0) (slice_get pairs i)
+key_at i pairs = option_map (λ (key, _). key) (slice_get pairs i)
 
 -- the value at an index
 abbrev pub value_at : {V : Type 0} → ℕ → List (Text × V) → Option V
-value_at i pairs = option_map (λ p. p.1) (slice_get pairs i)
+value_at i pairs = option_map (λ (_, value). value) (slice_get pairs i)
 
 -- the value of the key that is the text: none if the text is no key
 abbrev pub value_of_key : {V : Type 0} → Kind → Text → List (Text × V) → Option V
@@ -37,7 +37,7 @@ HasKey kind k pairs = IsWord kind k × (is_some (find word_cmp (normal kind k) p
 
 -- all but the pair with this key
 abbrev pub without_key : {V : Type 0} → Text → List (Text × V) → List (Text × V)
-without_key k pairs = filter (λ p. not (is_same k p.0)) pairs
+without_key k pairs = filter (λ (key, _). not (is_same k key)) pairs
 
 -- the key is given the value in the map; or memory was wanted, and nothing changed
 abbrev pub HasSet : {V X E : Type 0} → Map V → Text → V → meaning.Locale → meaning.Locale

@@ -1,8 +1,8 @@
 //! Subtags of texts, and sets of subtags.
 ghost use Rattle.std.specs.Prelude.{◌≡◌, ◌↔◌, false, IsTrue, MatchResult};
 ghost use Rattle.std.specs.List.{list_any};
-ghost use Rattle.iloc_spec_grammar.specs.Syntax.{IsWord, is_same, is_word, normal};
-ghost use Rattle.iloc_spec_grammar.specs.Values.{IsAscending};
+ghost use Rattle.iloc_spec_grammar.specs.Syntax.{IsWord, is_same, is_word, normal, word_cmp};
+ghost use Rattle.iloc_spec_grammar.specs.Values.{StrictlyAscends};
 ghost use Rattle.iloc_handles.specs.Subtags.{HasWord, IsNeither, IsOptional};
 
 use iloc_subtags::{ParseError, WordKind, WordOf};
@@ -37,7 +37,7 @@ pub(crate) fn optional_word<K: WordKind<N>, const N: usize>(
 
 // Whether the subtag is one of these, which ascend.
 fn is_among<K: WordKind<N>, const N: usize>(words: &[WordOf<K, N>], word: &WordOf<K, N>) -> bool
-    requires { IsAscending words.now }
+    requires { StrictlyAscends word_cmp words.now }
     ensures { result ≡ list_any (is_same word.now) words.now }
 {
     match words.binary_search(word) {
@@ -48,7 +48,7 @@ fn is_among<K: WordKind<N>, const N: usize>(words: &[WordOf<K, N>], word: &WordO
 
 /// Whether the text is one of the subtags, which ascend.
 pub(crate) fn has_word<K: WordKind<N>, const N: usize>(words: &[WordOf<K, N>], text: &[u8]) -> bool
-    requires { IsAscending words.now }
+    requires { StrictlyAscends word_cmp words.now }
     ensures { IsTrue result ↔ HasWord K.kind text.now words.now }
 {
     match word_of::<K, N>(text) {

@@ -1,7 +1,8 @@
 //! The sets of subtags of a locale: its variants, and its attributes.
 ghost use Rattle.std.specs.Prelude.{◌≡◌, ◌↔◌, ℕ, List, IsTrue, length, slice_get};
 ghost use Rattle.iloc_spec_grammar.specs.Meaning as meaning;
-ghost use Rattle.iloc_spec_grammar.specs.Values.{IsAscending};
+ghost use Rattle.iloc_spec_grammar.specs.Syntax.{word_cmp};
+ghost use Rattle.iloc_spec_grammar.specs.Values.{StrictlyAscends};
 ghost use Rattle.iloc_locale.specs.LocaleReading.{value_of};
 ghost use Rattle.iloc_handles.specs.Subtags.{HasWord};
 
@@ -22,7 +23,7 @@ pub trait Words {
     /// The subtags, ascending.
     fn words(locale: &Locale) -> &[WordOf<Self::Kind, 8>]
         ensures value { result.now ≡ words (value_of locale.now) }
-        ensures ascending { IsAscending (words (value_of locale.now)) };
+        ensures ascending { StrictlyAscends word_cmp (words (value_of locale.now)) };
 }
 
 /// How many subtags there are.

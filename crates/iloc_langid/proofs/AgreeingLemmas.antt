@@ -7,11 +7,11 @@ use Rattle.std.specs.Ordering.{is_eq}
 use Rattle.std.specs.FinMap.{put}
 use Rattle.std.specs.declared.cmp.Ordering.{Ordering}
 use Rattle.std.specs.declared.cmp.Ordering.TheVariants.{Less, Equal, Greater}
-use Rattle.std.proofs.lemmas.Bool.{and_parts, and_from, or_parts}
+use Rattle.std.proofs.lemmas.Bool.{and_parts, and_from, or_parts, false_from_ne_true}
 use Rattle.std.proofs.lemmas.List.{length-map}
 use Rattle.iloc_spec_grammar.specs.Syntax.{Language, Script, Region, Variant, is_word, IsWord, lower, title, upper, word_cmp, is_same, languages, Identifier, AllDifferent, first_piece}
 use Rattle.iloc_spec_grammar.specs.Meaning.{IdentifierMeans, set_of, map_of}
-use Rattle.iloc_spec_grammar.specs.Values.{IsNormal, IsAscending, Reordered, none, front_kept, first_two, in_turn}
+use Rattle.iloc_spec_grammar.specs.Values.{IsNormal, StrictlyAscends, Reordered, none, front_kept, first_two, in_turn}
 use Rattle.iloc_spec_grammar.proofs.WordsLaws.{is_word-lower}
 use Rattle.iloc_spec_grammar.proofs.MapLaws.{word_cmp_total, same_itself, same_is}
 use Rattle.iloc_spec_grammar.proofs.Orders.{any_reordered, all_reordered, different_reordered, set_of_reordered}
@@ -70,7 +70,7 @@ all_there (w ∷ ws) qs d e h =
     let (rest, r) = taken_out w qs h.0 in
     let l = length_reordered r in
     let k : length rest ≡ length ws = omega (arith, e, l) in
-    in_turn r (front_kept (all_there ws rest d.1 k (still_there w qs rest r ws d.0 h.1)))
+    in_turn r (front_kept (all_there ws rest d.1 k (still_there w qs rest r ws (false_from_ne_true _ d.0) h.1)))
 
 -- a set of different words has these words
 put_reordered : (w : List ℕ) (es : List (List ℕ × Unit {0})) → list_any (is_same w) (map (λ e. e.0) es) ≡ false → Reordered (w ∷ map (λ e. e.0) es) (map (λ e. e.0) (put word_cmp w (tt {0}) es))
@@ -84,7 +84,7 @@ put_reordered w (e ∷ es) h = by (word_cmp w e.0) refl (put_reordered w es (or_
 
 set_reordered : (ws : List (List ℕ)) → AllDifferent word_cmp ws → Reordered ws (set_of ws)
 set_reordered [] d = none
-set_reordered (w ∷ ws) d = in_turn (front_kept (set_reordered ws d.1)) (put_reordered w (map_of word_cmp (map (λ w. (w, tt {0})) ws)) (any-set_of w ws ∙ d.0))
+set_reordered (w ∷ ws) d = in_turn (front_kept (set_reordered ws d.1)) (put_reordered w (map_of word_cmp (map (λ w. (w, tt {0})) ws)) (any-set_of w ws ∙ false_from_ne_true _ d.0))
 
 all_tests : (test : List ℕ → Bool) (ws : List (List ℕ)) → list_all test ws ≡ true → AllByRecursion (λ w. test w ≡ true) ws
 all_tests test [] h = tt
@@ -116,7 +116,7 @@ pub record AreThese (ps ws : List (List ℕ)) : Type 0 where
   pub different : AllDifferent word_cmp (map lower ps)
   pub set_is : ws ≡ set_of (map lower ps)
 
-pub are_these : (ps ws : List (List ℕ)) → IsAscending ws → AllByRecursion (IsNormal Variant) ws → length ps ≡ length ws → are_all_among ps ws ≡ true → AreThese ps ws
+pub are_these : (ps ws : List (List ℕ)) → StrictlyAscends word_cmp ws → AllByRecursion (IsNormal Variant) ws → length ps ≡ length ws → are_all_among ps ws ≡ true → AreThese ps ws
 are_these ps ws up n e h =
     let r = all_there ws (map lower ps) (ascending_different ws up) (length-map ps lower ∙ e) (among_all ps ws (all_tests (is_among ps) ws h)) in
     record {

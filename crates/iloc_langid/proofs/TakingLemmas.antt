@@ -1,14 +1,15 @@
 -- Variants that are taken one at a time.
+use Rattle.iloc_spec_grammar.proofs.FaultLaws.{some_repeat}
 use Rattle.std.proofs.Common.{◌≡◌, ℕ, ◌<◌, ◌≤◌, Bool, true, false, not, List, [], ◌∷◌, ◌++◌, length, map, refl, sym, ap, ◌∙◌, subst, arith, append_assoc, append-nil, length-append, Some, None, option_map, true≢false}
 use Rattle.std.specs.Prelude.{Result, Ok, Err}
 use Rattle.std.specs.List.{AllByRecursion, list_any}
 use Rattle.std.specs.List.Sorted.{IsPermutation}
 use Rattle.std.proofs.lemmas.List.{map-append, length-map}
-use Rattle.std.proofs.lemmas.Bool.{or_parts, or_from}
+use Rattle.std.proofs.lemmas.Bool.{or_parts, or_from, both_ways}
 use Rattle.std.proofs.lemmas.List.Sorted.{IsPermutation-refl, IsPermutation-sym, IsPermutation-push_more, IsPermutation-append_left, length_permutation, list_any-IsPermutation}
 use Rattle.iloc_spec_grammar.specs.Syntax.{Variant, is_word, IsWord, normal, lower, word_cmp, is_same, AllDifferent}
 use Rattle.iloc_spec_grammar.specs.Meaning.{set_of}
-use Rattle.iloc_spec_grammar.specs.Values.{IsNormal, IsAscending, Reordered, none, front_kept, first_two, in_turn}
+use Rattle.iloc_spec_grammar.specs.Values.{IsNormal, StrictlyAscends, Reordered, none, front_kept, first_two, in_turn}
 use Rattle.iloc_spec_grammar.specs.Reading.{EndsBefore, take_first, skip_first, passing, past}
 use Rattle.iloc_spec_grammar.proofs.MapLaws.{word_cmp_total}
 use Rattle.iloc_spec_grammar.proofs.Orders.{different_reordered}
@@ -37,14 +38,6 @@ back : {X : Type 0} (x : X) (xs : List X) → Reordered (xs ++ x ∷ []) (x ∷ 
 back x [] = front_kept none
 back x (y ∷ xs) = in_turn (front_kept (back x xs)) first_two
 
-any_front : {X : Type 0} (f : X → Bool) (xs ys : List X) → list_any f (xs ++ ys) ≡ false → list_any f xs ≡ false
-any_front f [] ys h = refl
-any_front f (x ∷ xs) ys h = let parts = or_parts _ _ h in or_from _ _ parts.0 (any_front f xs ys parts.1)
-
-different_front : (xs ys : List (List ℕ)) → AllDifferent word_cmp (xs ++ ys) → AllDifferent word_cmp xs
-different_front [] ys h = tt
-different_front (x ∷ xs) ys h = (any_front (is_same x) xs ys h.0, different_front xs ys h.1)
-
 map-last : (xs : List (List ℕ)) (p : List ℕ) → map lower (xs ++ p ∷ []) ≡ map lower xs ++ lower p ∷ []
 map-last xs p = map-append lower xs (p ∷ [])
 
@@ -64,9 +57,9 @@ module _ (before now words : List (List ℕ)) (t : Taking before now words) (p :
   repeats old d =
       let whole : map lower (passing (is_word Variant) before) ≡ (map lower t.taken ++ lower p ∷ []) ++ map lower (passing (is_word Variant) later) =
       ap (map lower) (keeps_more ∙ sym (append_assoc t.taken (p ∷ []) (passing (is_word Variant) later))) ∙ map-append lower (t.taken ++ p ∷ []) (passing (is_word Variant) later) ∙ ap (λ l. l ++ map lower (passing (is_word Variant) later)) (map-last t.taken p) in
-      let first = different_front _ _ (subst (AllDifferent word_cmp) whole d) in
+      let first = some_repeat word_cmp _ _ (subst (AllDifferent word_cmp) whole d) in
       let turned = different_reordered word_cmp word_cmp_total (back (lower p) (map lower t.taken)) first in
-      true≢false (sym old ∙ sym (list_any-IsPermutation (is_same (lower p)) (map lower t.taken) words t.permutes) ∙ turned.0)
+      turned.0 (list_any-IsPermutation (is_same (lower p)) (map lower t.taken) words t.permutes ∙ old)
 
 not_fewer : (m n : ℕ) → (m < n → ⊥) → m ≤ n → m ≡ n
 not_fewer m n h l = omega (arith, h, l)
@@ -173,14 +166,14 @@ below n l h = omega (arith, l, h)
 
 pub record TakingFew (before now set : List (List ℕ)) : Type 0 where
   pub taking : Taking before now set
-  pub ascending : IsAscending set
+  pub ascending : StrictlyAscends word_cmp set
   pub normal : AllByRecursion (IsNormal Variant) set
   pub short : length set < 4
 
 pub few_none : (ps : List (List ℕ)) → TakingFew ps ps []
-few_none ps = record { taking = taking_none ps; ascending = refl; normal = tt; short = omega arith }
+few_none ps = record { taking = taking_none ps; ascending = tt; normal = tt; short = omega arith }
 
-pub few_known : (ws ps : List (List ℕ)) → AllByRecursion (IsNormal Variant) ws → IsAscending ws → length ws < 4 → TakingFew (ws ++ ps) ps ws
+pub few_known : (ws ps : List (List ℕ)) → AllByRecursion (IsNormal Variant) ws → StrictlyAscends word_cmp ws → length ws < 4 → TakingFew (ws ++ ps) ps ws
 few_known ws ps n a l = record { taking = taking_few ws ps n; ascending = a; normal = n; short = l }
 
 module _ (before now set : List (List ℕ)) (t : TakingFew before now set) (w : List ℕ) (later : List (List ℕ)) (e : Some w ≡ option_map (normal Variant) (take_first (is_word Variant) now)) (l : later ≡ skip_first (is_word Variant) now)
@@ -200,7 +193,7 @@ module _ (before now set : List (List ℕ)) (t : TakingFew before now set) (w : 
   pub few_new : added ≡ true → (length more ≡ 4 → ⊥) → TakingFew before later more
   few_new new fewer = record {
     taking = few_taken new;
-    ascending = subst IsAscending (sym is) (set_of-ascending (w ∷ set));
+    ascending = subst (StrictlyAscends word_cmp) (sym is) (set_of-ascending (w ∷ set));
     normal = few_normal;
     short = below _ few_length fewer;
   }
@@ -230,4 +223,4 @@ one_variant ps rest v e r ends =
     let end = ended rest ends in
     let taken : passing (is_word Variant) ps ≡ p ∷ [] = ap (passing (is_word Variant)) whole ∙ rw h (ap (λ l. p ∷ l) end.0) in
     let after : past (is_word Variant) ps ≡ rest = ap (past (is_word Variant)) whole ∙ rw h end.1 in
-    (ap (λ w. w ∷ []) same ∙ ap (λ l. set_of (map lower l)) (sym taken), subst (λ l. AllDifferent word_cmp (map lower l)) (sym taken) (refl, tt), sym after)
+    (ap (λ w. w ∷ []) same ∙ ap (λ l. set_of (map lower l)) (sym taken), subst (λ l. AllDifferent word_cmp (map lower l)) (sym taken) (both_ways _ refl, tt), sym after)

@@ -1,17 +1,15 @@
 -- Walks over pieces that look for the variants of a set.
 use Rattle.std.proofs.Common.{◌≡◌, ℕ, zero, suc, ◌<◌, ◌≤◌, ◌==◌, Bool, true, false, ◌||◌, ◌&&◌, List, [], ◌∷◌, length, take, drop, replicate, slice_set, not, refl, sym, ap, ◌∙◌, subst, arith, true≢false}
 use Rattle.std.specs.List.{AllByRecursion, HoldsAt, list_any}
-use Rattle.std.specs.FinMap.Entries.{below_all}
-use Rattle.std.specs.declared.cmp.Ordering.TheVariants.{Equal}
+use Rattle.std.specs.declared.cmp.Ordering.TheVariants.{Less, Equal}
 use Rattle.std.proofs.Math.Dec.{eqb-suc-suc}
-use Rattle.std.proofs.lemmas.Bool.{and_parts, and_from, or_parts}
+use Rattle.std.proofs.lemmas.Bool.{or_parts, false_from_ne_true}
 use Rattle.std.proofs.lemmas.List.{take-append-drop}
 use Rattle.std.proofs.lemmas.List.Folds.{list_all-append}
 use Rattle.iloc_spec_grammar.specs.Syntax.{Variant, is_word, lower, word_cmp, is_same, AllDifferent}
 use Rattle.iloc_spec_grammar.specs.Values.{IsNormal}
 use Rattle.iloc_spec_grammar.proofs.WordsLaws.{is_word-lower}
 use Rattle.iloc_spec_grammar.proofs.MapLaws.{same_itself, same_is, same_words}
-use Rattle.iloc_spec_grammar.proofs.SetLaws.{marked}
 use Rattle.iloc_spec_grammar.proofs.ValuesLaws.{ascending_different}
 use Rattle.iloc_langid.specs.Agreeing.{is_among, are_all_among, are_just, AreVariants}
 
@@ -34,28 +32,27 @@ not_among p ps (w ∷ ws) h =
 pub first_equal : (p w : List ℕ) (ps ws : List (List ℕ)) → AreVariants (w ∷ ws) → lower p ≡ w → are_just (p ∷ ps) (w ∷ ws) ≡ are_just ps ws
 first_equal p w ps ws s e =
     let here : is_same w (lower p) ≡ true = subst (λ x. is_same w x ≡ true) (sym e) (same_itself w) in
-    let gone : list_any (is_same (lower p)) ws ≡ false = subst (λ x. list_any (is_same x) ws ≡ false) (sym e) (ascending_different (w ∷ ws) s.0).0 in
+    let gone : list_any (is_same (lower p)) ws ≡ false = subst (λ x. list_any (is_same x) ws ≡ false) (sym e) (false_from_ne_true _ (ascending_different (w ∷ ws) s.0).0) in
     rw (eqb-suc-suc (length ps) (length ws), here) (ap (λ b. (length ps == length ws) && b) (not_among p ps ws gone))
 
 -- parts of a set
 
-below_take : (x : List ℕ) (n : ℕ) (ws : List (List ℕ)) → below_all word_cmp x (marked ws) ≡ true → below_all word_cmp x (marked (take n ws)) ≡ true
-below_take x zero ws h = refl
-below_take x (suc n) [] h = refl
-below_take x (suc n) (w ∷ ws) h = let parts = and_parts _ _ h in and_from _ _ parts.0 (below_take x n ws parts.1)
+below_take : (x : List ℕ) (n : ℕ) (ws : List (List ℕ)) → AllByRecursion (λ w. word_cmp x w ≡ Less) ws → AllByRecursion (λ w. word_cmp x w ≡ Less) (take n ws)
+below_take x zero ws h = tt
+below_take x (suc n) [] h = tt
+below_take x (suc n) (w ∷ ws) h = (h.0, below_take x n ws h.1)
 
 pub front_set : (n : ℕ) (ws : List (List ℕ)) → AreVariants ws → AreVariants (take n ws)
-front_set zero ws s = (refl, tt)
+front_set zero ws s = (tt, tt)
 front_set (suc n) [] s = s
 front_set (suc n) (w ∷ ws) s =
-    let parts = and_parts _ _ s.0 in
-    let rest = front_set n ws (parts.1, s.1.1) in
-    (and_from _ _ (below_take w n ws parts.0) rest.0, (s.1.0, rest.1))
+    let rest = front_set n ws (s.0.1, s.1.1) in
+    ((below_take w n ws s.0.0, rest.0), (s.1.0, rest.1))
 
 pub back_set : (n : ℕ) (ws : List (List ℕ)) → AreVariants ws → AreVariants (drop n ws)
 back_set zero ws s = s
 back_set (suc n) [] s = s
-back_set (suc n) (w ∷ ws) s = back_set n ws ((and_parts _ _ s.0).1, s.1.1)
+back_set (suc n) (w ∷ ws) s = back_set n ws (s.0.1, s.1.1)
 
 pub among_parts : (ps ws : List (List ℕ)) (n : ℕ) → are_all_among ps ws ≡ (are_all_among ps (take n ws) && are_all_among ps (drop n ws))
 among_parts ps ws n = ap (are_all_among ps) (sym (take-append-drop n ws)) ∙ list_all-append (is_among ps) (take n ws) (drop n ws)
@@ -104,14 +101,14 @@ one_found p ps (w ∷ ws) [] at d l n h = absurd (omega (arith, n))
 one_found p ps (w ∷ ws) (b ∷ found) zero d l n h =
     let same : w ≡ lower p = same_words w (lower p) (h w) in
     let here : is_same w (lower p) ≡ true = subst (λ x. is_same w x ≡ true) same (same_itself w) in
-    let gone : list_any (is_same (lower p)) ws ≡ false = subst (λ x. list_any (is_same x) ws ≡ false) same d.0 in
+    let gone : list_any (is_same (lower p)) ws ≡ false = subst (λ x. list_any (is_same x) ws ≡ false) same (false_from_ne_true _ d.0) in
     rw here (found_now b ∙ other_found p ps ws found gone)
   where
     found_now : (b : Bool) → ((b || true) && are_found (p ∷ ps) ws found) ≡ are_found (p ∷ ps) ws found
     found_now true = refl
     found_now false = refl
 one_found p ps (w ∷ ws) (b ∷ found) (suc at) d l n h =
-    rw (apart _ _ (not_first p w ws at (omega (arith, l)) d.0 h)) (ap (λ c. (b || is_among ps w) && c) (one_found p ps ws found at d.1 (omega (arith, l)) (omega (arith, n)) h))
+    rw (apart _ _ (not_first p w ws at (omega (arith, l)) (false_from_ne_true _ d.0) h)) (ap (λ c. (b || is_among ps w) && c) (one_found p ps ws found at d.1 (omega (arith, l)) (omega (arith, n)) h))
 
 -- after the last piece all words are found where no mark is missing
 pub all_found : (is_missing : Bool → Bool) → is_missing true ≡ false → is_missing false ≡ true → (ws : List (List ℕ)) (found : List Bool)

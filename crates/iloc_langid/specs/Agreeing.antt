@@ -1,8 +1,8 @@
 -- Pieces and variants that are the same, in whatever order and case.
 use Rattle.std.specs.Prelude.{Bool, ◌==◌, ◌&&◌, List, length}
 use Rattle.std.specs.List.{AllByRecursion, list_any, list_all}
-use Rattle.iloc_spec_grammar.specs.Syntax.{Text, Variant, lower, is_same}
-use Rattle.iloc_spec_grammar.specs.Values.{IsNormal, IsAscending}
+use Rattle.iloc_spec_grammar.specs.Syntax.{Text, Variant, lower, is_same, word_cmp}
+use Rattle.iloc_spec_grammar.specs.Values.{IsNormal, StrictlyAscends}
 
 -- some piece is the word, in whatever case
 abbrev pub is_among : List Text → Text → Bool
@@ -18,4 +18,4 @@ are_just ps ws = (length ps == length ws) && are_all_among ps ws
 
 -- a set of variants
 abbrev pub AreVariants : List Text → Type 0
-AreVariants ws = IsAscending ws × AllByRecursion (IsNormal Variant) ws
+AreVariants ws = StrictlyAscends word_cmp ws × AllByRecursion (IsNormal Variant) ws

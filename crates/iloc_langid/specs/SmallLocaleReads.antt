@@ -15,9 +15,9 @@ LocaleParts = Text × Option Text × Option Text × Option Text × Option Keywor
 
 -- the small locale of the parts that are read
 abbrev pub small_locale_of : LocaleParts → SmallLocale
-small_locale_of p = record {
-  id = record { language = p.0; script = p.1; region = p.2; variant = p.3 };
-  keyword = p.4;
+small_locale_of (l, s, r, v, k) = record {
+  id = record { language = l; script = s; region = r; variant = v };
+  keyword = k;
 }
 
 -- what a text is read as, as a whole; it allocates nothing

@@ -13,7 +13,7 @@ Parts = Text × Option Text × Option Text × Option Text
 
 -- the small identifier of the parts that are read
 abbrev pub small_of : Parts → SmallIdentifier
-small_of p = record { language = p.0; script = p.1; region = p.2; variant = p.3 }
+small_of (l, s, r, v) = record { language = l; script = s; region = r; variant = v }
 
 -- what the pieces are read as, as a whole; it allocates nothing
 abbrev pub SmallReads : List Text → Result Parts ParseError → Type 0

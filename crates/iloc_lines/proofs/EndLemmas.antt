@@ -1,4 +1,4 @@
--- The first LF, told by a mask of 32 bytes.
+-- The first LF, told by masks of some bytes.
 use Rattle.std.proofs.Common.{◌≡◌, ◌≢◌, suc, ◌++◌, ◌∷◌, None, ℕ, ◌^◌, ◌<◌, ◌≤◌, Bool, true, false, not, List, length, map, get_or, take, drop, ◌+◌, ◌-◌, refl, sym, ap, ◌∙◌, subst, arith, inl, inr, Some}
 use Rattle.std.specs.List.{prefix_len}
 use Rattle.std.proofs.lemmas.Bool.{false≢true, cases_lt}
@@ -43,27 +43,27 @@ first_passes p hay n k within e few long =
       here,
     )
 
-module _ (hay : List ℕ) (long : 32 ≤ length hay) where
+module _ (n : ℕ) (hay : List ℕ) (long : n ≤ length hay) (few : n ≤ 64) (fits : 2 ^ n ≤ 2 ^ 64) where
   abbrev front : List ℕ
-  front = take 32 hay
+  front = take n hay
 
-  size : length front ≡ 32
-  size = length-take-le 32 hay long
+  size : length front ≡ n
+  size = length-take-le n hay long
 
-  -- a mask of 32 bytes that is not empty has its lowest bit where the first LF stands
+  -- a mask of so many bytes that is not empty has its lowest bit where the first LF stands
   pub first_end : (m : ℕ) → m ≡ mask_l (map (is_byte 10) front) → 0 < m → IsFirstByte (is_byte 10) hay (Some (count_trailing_zeros 64 m))
   first_end m e some =
       let p = is_byte 10 in
-      let lanes : length (map p front) ≡ 32 = length-map front p ∙ size in
-      let below : mask_l (map p front) < 2 ^ 32 = subst (λ (k : ℕ). mask_l (map p front) < 2 ^ k) lanes (mask_l-lt (map p front)) in
-      let small : m < 2 ^ 32 = omega arith in
+      let lanes : length (map p front) ≡ n = length-map front p ∙ size in
+      let below : mask_l (map p front) < 2 ^ n = subst (λ (k : ℕ). mask_l (map p front) < 2 ^ k) lanes (mask_l-lt (map p front)) in
+      let small : m < 2 ^ n = omega arith in
       let place = count_trailing_zeros 64 m in
       let lowest = bit_at-trailing_zeros w64 m some (omega arith) in
-      let within : place < 32 = elim (cases_lt place 32) [
+      let within : place < n = elim (cases_lt place n) [
         | inl less ↦ less
-        | inr more ↦ absurd (omega (arith, lowest.1, bit_at_above m 32 place small more))
+        | inr more ↦ absurd (omega (arith, lowest.1, bit_at_above m n place small more))
       ] in
-      first_passes p hay 32 place long
+      first_passes p hay n place long
       (ap (count_trailing_zeros 64) e ∙ trailing_mask_l p 64 front (omega (arith, size)) (subst (λ (k : ℕ). 0 < k) e some)) within size
 
 -- where the mask of the first n is empty, none of them passes
@@ -93,13 +93,24 @@ later_passes p hay part at k none long same f = (
   ap p (sym (same k f.0.high)) ∙ f.1,
 )
 
--- the first LF, told by a mask of the second 32 bytes
-pub second_end : (hay : List ℕ) → 64 ≤ length hay → Nowhere (Passes (is_byte 10) hay) 0 32 → (m : ℕ) → m ≡ mask_l (map (is_byte 10) (take 32 (drop 32 hay))) → 0 < m
-    → IsFirstByte (is_byte 10) hay (Some (32 + count_trailing_zeros 64 m))
-second_end hay long none m e some =
-    let size : length (drop 32 hay) ≡ length hay - 32 = length-drop 32 hay in
-    later_passes (is_byte 10) hay (drop 32 hay) 32 (count_trailing_zeros 64 m) none (omega (arith, size))
-    (λ i less. get_or-drop 32 hay i 0) (first_end (drop 32 hay) (omega (arith, size)) m e some)
+-- the first LF, told by a mask of the n bytes that follow, where none comes before
+pub later_end : (at n : ℕ) (hay : List ℕ) → at + n ≤ length hay → n ≤ 64 → 2 ^ n ≤ 2 ^ 64 → Nowhere (Passes (is_byte 10) hay) 0 at
+    → (m : ℕ) → m ≡ mask_l (map (is_byte 10) (take n (drop at hay))) → 0 < m → IsFirstByte (is_byte 10) hay (Some (at + count_trailing_zeros 64 m))
+later_end at n hay long few fits none m e some =
+    let size : length (drop at hay) ≡ length hay - at = length-drop at hay in
+    later_passes (is_byte 10) hay (drop at hay) at (count_trailing_zeros 64 m) none (omega (arith, size))
+    (λ i less. get_or-drop at hay i 0) (first_end n (drop at hay) (omega (arith, size)) few fits m e some)
+
+-- where that mask is empty too, none is among all of them
+pub none_later : (p : ℕ → Bool) (at n : ℕ) (hay : List ℕ) → at + n ≤ length hay → Nowhere (Passes p hay) 0 at → mask_l (map p (take n (drop at hay))) ≡ 0
+    → Nowhere (Passes p hay) 0 (at + n)
+none_later p at n hay long none e i low less passes = elim (cases_lt i at) [
+  | inl early ↦ none i low early passes
+  | inr late ↦
+      let there : at + (i - at) ≡ i = omega arith in
+      none_passes p (drop at hay) n (omega (arith, length-drop at hay)) e (i - at) (omega arith) (omega arith)
+      (ap p (get_or-drop at hay (i - at) 0 ∙ ap (λ j. get_or hay j 0) there) ∙ passes)
+]
 
 -- ---- where the line ends
 

@@ -1,7 +1,7 @@
 -- The normal text of a data locale with the keyword `sd`.
 use Rattle.std.proofs.Common.{◌≡◌, ◌⊎◌, inl, inr, ℕ, suc, ◌+◌, ◌-◌, ◌<◌, ◌≤◌, Bool, true, false, List, [], ◌∷◌, ◌++◌, length, map, get_or, take, drop, codes, Option, None, Some, refl, sym, ap, ◌∙◌, subst, arith, append_assoc, append-nil}
 use Rattle.std.specs.Prelude.{if◌then◌else◌, option_map, option_and_then, option_to_list, Ok, Result}
-use Rattle.std.proofs.lemmas.Bool.{cases_Bool, cases_lt, eqb-true}
+use Rattle.std.proofs.lemmas.Bool.{cases_Bool, cases_lt, eqb-true, both_ways}
 use Rattle.std.proofs.lemmas.List.{drop-append-le, drop-take, length-drop, length-take-le, map-append, take-take}
 use Rattle.std.specs.Char.{to_ascii_lowercase}
 use Rattle.std.specs.Result.{result_ok}
@@ -87,7 +87,7 @@ module _ (w : List ℕ) (len at end : ℕ) (o : Ordered) (room : len + 16 ≤ le
         rest = [];
         cut = one_piece p fits;
         each = (fits, tt);
-        ascending = refl;
+        ascending = (tt, tt);
         extensions = printed_none 0;
       } in
       record {
@@ -197,7 +197,7 @@ module _ (w : List ℕ) (len at start : ℕ) (o : Ordered) (room : len + 16 ≤ 
     grammatical = record {
       id = h.means.grammatical;
       extensions = ((eqb-true _ _ s.u, record { attributes = tt; keywords = ((key, (s.word, tt)), tt); nonempty = omega arith }), tt);
-      different = (refl, tt);
+      different = (both_ways _ refl, tt);
       private = tt;
     };
     spelled = parts ∙ ap (λ l. l ++ (singleton ∷ []) ∷ s.key ∷ value ∷ []) h.means.spelled;

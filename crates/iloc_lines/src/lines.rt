@@ -37,7 +37,7 @@ ghost use Rattle.memchr.specs.Find.{Nowhere, Passes, is_byte};
 use crate::replies::write_refusal;
 use crate::reply_block::ReplyBlock;
 use crate::subdivisions::tell_subdivision;
-use crate::told::{Lead, ROOM, Told, read_found, read_lead, tell_after_variants, tell_variants};
+use crate::told::{Lead, Told, read_found, read_lead, tell_after_variants, tell_variants};
 use crate::{Answers, RunError};
 use iloc_blocks::{BadBlock, Reading, read_ordered, read_varied};
 use iloc_fronts::may_begin;
@@ -52,6 +52,10 @@ use std::simd::prelude::*;
 // The bytes that are asked of the reader at once.
 const BLOCK: usize = 65536;
 
+// The room for a line that is brought into order. It is made once for all lines of a piece of the input, so that it may be
+// larger than that of a call.
+const LINE_ROOM: usize = 256;
+
 // Room for what one read gives.
 pub(crate) fn new_block(alloc: Global) -> Result<Vec<u8>, AllocError>
     ensures { IfOk result (λ block. 0 < vec_len block) }
@@ -59,23 +63,36 @@ pub(crate) fn new_block(alloc: Global) -> Result<Vec<u8>, AllocError>
     vec![in alloc; 0u8; BLOCK]
 }
 
-// A bit for each newline among these bytes.
+// A bit for each newline among sixteen bytes.
 #[inline(always)]
-fn line_ends(lanes: u8x32) -> u64
+fn line_ends(lanes: u8x16) -> u64
+    ensures { result ≡ mask_l (map (is_byte 10) lanes) }
+{
+    lanes.simd_eq(u8x16::splat(10)).to_bitmask()
+}
+
+// The same of 32 bytes.
+#[inline(always)]
+fn wide_line_ends(lanes: u8x32) -> u64
     ensures { result ≡ mask_l (map (is_byte 10) lanes) }
 {
     lanes.simd_eq(u8x32::splat(10)).to_bitmask()
 }
 
-// Where the first newline stands, or how many bytes there are if none does. Most lines end within 32 bytes.
+// Where the first newline stands, or how many bytes there are if none does. Most lines end within sixteen bytes, and
+// most others within 32.
 #[inline(always)]
 fn line_end(bytes: &[u8]) -> usize
     ensures { IsLineEnd bytes.now result }
 {
     if bytes.len() >= 32 {
-        let ends = line_ends(u8x32::from_slice(bytes));
+        let ends = line_ends(u8x16::from_slice(bytes));
         if ends > 0 {
             return ends.trailing_zeros() as usize;
+        }
+        let later = line_ends(u8x16::from_slice(&bytes[16..]));
+        if later > 0 {
+            return 16 + later.trailing_zeros() as usize;
         }
     }
     line_end_later(bytes)
@@ -88,7 +105,7 @@ fn line_end_later(bytes: &[u8]) -> usize
     ensures { IsLineEnd bytes.now result }
 {
     if bytes.len() >= 64 {
-        let ends = line_ends(u8x32::from_slice(&bytes[32..]));
+        let ends = wide_line_ends(u8x32::from_slice(&bytes[32..]));
         if ends > 0 {
             return 32 + ends.trailing_zeros() as usize;
         }
@@ -207,7 +224,7 @@ fn reply_told<A: Answers>(
 }
 
 // Adds the reply to a line that a variant of so many bytes ends, and that may begin with a plain identifier.
-#[inline(never)]
+#[inline(always)]
 fn reply_to_varied<A: Answers>(
     answers: &mut A,
     window: &[u8],
@@ -227,7 +244,7 @@ fn reply_to_varied<A: Answers>(
 }
 
 // The same of one that may be a plain identifier of so many bytes, and two variants or more. It is no data locale.
-#[inline(never)]
+#[inline(always)]
 fn reply_to_variants<A: Answers>(
     answers: &mut A,
     window: &[u8],
@@ -263,7 +280,7 @@ fn reply_to_blocks<A: Answers>(
     match read_ordered(window, len, at) {
         Reading::Ordered(line) => replies.push_ordered(&line),
         Reading::BadBlock(bad) => refuse(bad, replies),
-        Reading::Unordered(_) => reply_to_unordered(answers, window, len, at, room, replies),
+        Reading::Unordered => reply_to_unordered(answers, window, len, at, room, replies),
         Reading::Other => answers.reply(&window[..len], replies),
     }
 }
@@ -286,7 +303,7 @@ fn reply_to_unordered<A: Answers>(
     match rewrite(window, len, at, room) {
         Reading::Ordered(line) => replies.push_ordered(&line),
         Reading::BadBlock(bad) => refuse(bad, replies),
-        Reading::Unordered(_) | Reading::Other => answers.reply(&window[..len], replies),
+        Reading::Unordered | Reading::Other => answers.reply(&window[..len], replies),
     }
 }
 
@@ -351,15 +368,15 @@ fn feed_lines<A: Answers>(
         held replies.old ++ output languages A.mode (bytes.now ++ next)
         ≡ held replies.new ++ output languages A.mode (pending.new.items ++ next)) }
 {
-    let mut room = [0u8; ROOM];
+    let mut room = [0u8; LINE_ROOM];
     let mut rest = bytes;
     'lines: loop {
         let end = line_end(rest);
-        if end == rest.len() {
-            break 'lines;
-        }
         let (line, later) = rest.split_at(end);
-        if rest.len() - end < 16 {
+        if later.len() < 16 {
+            if later.is_empty() {
+                break 'lines;
+            }
             answers.reply(line, replies)?;
         } else if !may_begin(rest, end) {
             write_refusal(ParseError::InvalidLanguage, replies)?;

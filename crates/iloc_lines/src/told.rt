@@ -16,7 +16,7 @@ use iloc_plain::read_plain;
 use iloc_rewriting::{Unsorted, rewrite, sort_identifier, sort_variants};
 use iloc_subtags::ParseError;
 
-/// The room for a text that is brought into order. Longer ones are not told.
+/// The room of a call for a text that is brought into order. Longer ones are not told.
 pub const ROOM: usize = 128;
 
 /// What the front of a text tells.
@@ -317,7 +317,7 @@ pub fn tell_blocks<'a>(window: &'a [u8], len: usize, at: usize, room: &'a mut [u
     ensures { IsTold Mode.Locale (take len window.now) result }
 {
     match read_ordered(window, len, at) {
-        Reading::Unordered(_) => told_by(rewrite(window, len, at, room)),
+        Reading::Unordered => told_by(rewrite(window, len, at, room)),
         reading => told_by(reading),
     }
 }
@@ -330,7 +330,7 @@ fn told_by<'a>(reading: Reading<'a>) -> Told<'a>
     match reading {
         Reading::Ordered(line) => Told::Ordered(line),
         Reading::BadBlock(bad) => Told::Refused(error_of(bad)),
-        Reading::Unordered(_) | Reading::Other => Told::Nothing,
+        Reading::Unordered | Reading::Other => Told::Nothing,
     }
 }
 
@@ -347,7 +347,7 @@ pub fn tell_after_variants<'a>(
     ensures { IsTold Mode.Locale (take len window.now) result }
 {
     match read_after_variants(window, len, at) {
-        Reading::Unordered(_) => tell_resorted(window, len, at, room),
+        Reading::Unordered => tell_resorted(window, len, at, room),
         reading => told_by(reading),
     }
 }

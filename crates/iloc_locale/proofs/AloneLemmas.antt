@@ -33,7 +33,7 @@ unfolding identifier_text join
 text_of_language p = refl
 
 language_means : (p : List ℕ) → IsNormal (Language languages) p → Means languages p (without_extensions (just_language p))
-language_means p h = means_alone p (just_language p) (subst (λ (t : List ℕ). IdentifierMeans languages (pieces t) (just_language p)) (text_of_language p) (identifier_text_means (just_language p) (record { language = h; script = tt; region = tt; variants = tt; ascending = refl })))
+language_means p h = means_alone p (just_language p) (subst (λ (t : List ℕ). IdentifierMeans languages (pieces t) (just_language p)) (text_of_language p) (identifier_text_means (just_language p) (record { language = h; script = tt; region = tt; variants = tt; ascending = tt })))
 
 -- what its language alone means has nothing else
 pub is_language : (M : meaning.Locale) → Means languages M.id.language M → M ≡ without_extensions (just_language M.id.language)

@@ -5,7 +5,7 @@ use Rattle.std.specs.Char.{is_ascii_alphanumeric}
 use Rattle.std.specs.Ordering.{nat_cmp, eq_by_cmp}
 use Rattle.std.specs.Cmp.{nat_cmp_total}
 use Rattle.std.specs.FinMap.{find, nat_cmp-IsAntisymmetric}
-use Rattle.std.proofs.lemmas.Bool.{or_parts, or_from}
+use Rattle.std.proofs.lemmas.Bool.{or_parts, or_from, both_ways, false_from_ne_true}
 use Rattle.iloc_spec_grammar.specs.Syntax.{kept, AllDifferent, lower_singleton, is_other_singleton}
 use Rattle.iloc_spec_grammar.specs.Meaning.{Extensions, BlocksMean, no_unicode, no_transform}
 use Rattle.iloc_spec_grammar.specs.Tree.{by_singleton}
@@ -68,7 +68,7 @@ still_different : (test : ℕ × List (List ℕ) → Bool) (bs : List (ℕ × Li
 still_different test [] h = tt
 still_different test (b ∷ bs) h =
     elim (test b) as (λ t. AllDifferent nat_cmp (map (λ e. e.0) (cond t (b ∷ filter test bs) (filter test bs)))) [
-      | true ↦ (still_none test b.0 bs h.0, still_different test bs h.1)
+      | true ↦ (both_ways _ (still_none test b.0 bs (false_from_ne_true _ h.0)), still_different test bs h.1)
       | false ↦ still_different test bs h.1
     ]
 

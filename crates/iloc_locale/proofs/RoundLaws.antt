@@ -1,20 +1,20 @@
 -- One round of the reader of blocks: from the byte that begins a block to the next block, or to a refusal.
+use Rattle.std.proofs.lemmas.Bool.{false_from_ne_true}
 use Rattle.std.proofs.Common.{◌≡◌, ℕ, ◌≤◌, Bool, true, false, cond, ◌==◌, List, [], ◌∷◌, length, map, refl, sym, ap, ◌∙◌, subst, arith}
 use Rattle.std.specs.List.{AllByRecursion, list_any}
 use Rattle.std.specs.Char.{is_ascii_alphanumeric, to_ascii_lowercase}
 use Rattle.std.specs.Ordering.{nat_cmp, eq_by_cmp}
 use Rattle.std.specs.FinMap.{put}
 use Rattle.std.proofs.lemmas.Bool.Decides.{nat_tests}
-use Rattle.iloc_spec_grammar.specs.Syntax.{AreLengths, Unicode, Transform, IsOther, kept, AllDifferent, lower_singleton, is_other_singleton, front, blocks, IsPrivate}
+use Rattle.iloc_spec_grammar.specs.Syntax.{AreLengths, Unicode, Transform, IsOther, kept, AllDifferent, lower_singleton, is_other_singleton, front, blocks, IsPrivate, is_word, PrivateSubtag}
 use Rattle.iloc_spec_grammar.specs.Tree.{IsBlock, TreeBlockFault, no_singleton, duplicated, repeats_variant, breaks_rule, FirstBadBlock, here, later}
 use Rattle.iloc_spec_grammar.specs.Meaning.{Extensions, Fault, InvalidSubtag, InvalidExtension, DuplicatedExtension, HasBlockFault, RepeatsVariant}
 use Rattle.iloc_spec_grammar.specs.ByBlocks.{UnicodeMeans, TransformMeans, PrivateMeans, OtherMeans, grammar_rules, BlocksGive}
-use Rattle.iloc_spec_grammar.specs.Reading.{starts_block, from_block}
+use Rattle.iloc_spec_grammar.specs.Reading.{starts_block, from_block, passing}
 use Rattle.iloc_spec_grammar.proofs.ReadingLaws.{front-from_block, from_block_starts}
 use Rattle.iloc_spec_grammar.proofs.FaultLaws.{AreGood}
 use Rattle.iloc_spec_grammar.proofs.SameMeaning.{good_blocks, mean_give, give_mean}
 use Rattle.iloc_spec_grammar.proofs.SameFaults.{fault_of_first}
-use Rattle.iloc_spec_parts.specs.Fronts.{private_front}
 use Rattle.iloc_spec_parts.proofs.BlockRules.{unicode_rule, transform_rule, private_rule, other_rule}
 use Rattle.iloc_spec_parts.proofs.ShortFronts as long
 use Rattle.iloc_spec_parts.proofs.ShortFronts.{MeetsLongBlock, met_is_reached, short_unicode_front, short_transform_front}
@@ -64,7 +64,7 @@ after : {T : ℕ → Bool} (P : List ℕ → List (ℕ × List (List ℕ)) → T
     → ((seen : List ℕ) (b : ℕ × List (List ℕ)) (bs : List (ℕ × List (List ℕ))) → is_ascii_alphanumeric b.0 ≡ true → list_any (eq_by_cmp nat_cmp (lower_singleton b)) seen ≡ false → IsBlock T b → P (lower_singleton b ∷ seen) bs → P seen (b ∷ bs))
     → (ds bs : List (ℕ × List (List ℕ))) → AllByRecursion (λ b. is_ascii_alphanumeric b.0 ≡ true) ds → AllDifferent nat_cmp (map (λ b. lower_singleton b) ds) → AllByRecursion (IsBlock T) ds → P (map (λ b. lower_singleton b) ds) bs → P [] (onto ds bs)
 after P step [] bs l n r h = h
-after P step (d ∷ ds) bs l n r h = after P step ds (d ∷ bs) l.1 n.1 r.1 (step (map (λ b. lower_singleton b) ds) d bs l.0 n.0 r.0 h)
+after P step (d ∷ ds) bs l n r h = after P step ds (d ∷ bs) l.1 n.1 r.1 (step (map (λ b. lower_singleton b) ds) d bs l.0 (false_from_ne_true _ n.0) r.0 h)
 
 -- good blocks follow the rules of their singletons
 rules_of : (T : ℕ → Bool) (seen : List ℕ) (ds : List (ℕ × List (List ℕ))) → AreGood T seen ds → AllByRecursion (IsBlock T) ds
@@ -147,5 +147,5 @@ module _ {T : ℕ → Bool} {start : List (List ℕ)} {c : ℕ} {ps : List (List
     pub private_bad : to_ascii_lowercase c ≡ 120 → ¬ (IsPrivate ps) → HasBlockFault T (blocks start) InvalidExtension
     private_bad e n = breaks ps [] (block_of_x c ps e) (λ h. apart (to_ascii_lowercase c) 120 116 e h.0 refl) (λ r. n ((private_rule T (c, ps) e).0 r))
 
-    pub private_long : to_ascii_lowercase c ≡ 120 → ¬ (length (private_front ps) ≤ 4) → ReachesLongBlock T (blocks start)
+    pub private_long : to_ascii_lowercase c ≡ 120 → ¬ (length (passing (is_word PrivateSubtag) ps) ≤ 4) → ReachesLongBlock T (blocks start)
     private_long e n = long_here ps [] (block_of_x c ps e) (λ s. n (s.private e))

@@ -1,4 +1,5 @@
 -- One step of the reader of blocks: a block that is read, and a block that is refused.
+use Rattle.std.proofs.lemmas.Bool.{both_ways}
 use Rattle.std.proofs.Common.{◌≡◌, ◌⊎◌, inl, inr, ℕ, true, false, cond, ◌==◌, List, [], ◌∷◌, map, refl, sym, ap, ◌∙◌, subst, arith, Some}
 use Rattle.std.specs.List.{AllByRecursion, list_any}
 use Rattle.std.specs.Char.{is_ascii_alphanumeric}
@@ -89,7 +90,7 @@ module _ {R : Rules} {ds : List (ℕ × List (List ℕ))} {M : Extensions} (b : 
   pub unicode_added : lower_singleton b ≡ 117 → (v : Unicode) → R.unicode b.1 v → BlocksGive R (b ∷ ds) (record M { unicode = v })
   unicode_added e v h = record {
     letters = (l, m.letters);
-    different = (n, m.different);
+    different = (both_ways _ n, m.different);
     unicode = part_given R.unicode no_unicode v 117 e h;
     transform = part_kept R.transform no_transform M.transform 116 117 e refl m.transform;
     private = part_kept R.private [] M.private 120 117 e refl m.private;
@@ -100,7 +101,7 @@ module _ {R : Rules} {ds : List (ℕ × List (List ℕ))} {M : Extensions} (b : 
   pub transform_added : lower_singleton b ≡ 116 → (v : Transform) → R.transform b.1 v → BlocksGive R (b ∷ ds) (record M { transform = v })
   transform_added e v h = record {
     letters = (l, m.letters);
-    different = (n, m.different);
+    different = (both_ways _ n, m.different);
     unicode = part_kept R.unicode no_unicode M.unicode 117 116 e refl m.unicode;
     transform = part_given R.transform no_transform v 116 e h;
     private = part_kept R.private [] M.private 120 116 e refl m.private;
@@ -111,7 +112,7 @@ module _ {R : Rules} {ds : List (ℕ × List (List ℕ))} {M : Extensions} (b : 
   pub private_added : lower_singleton b ≡ 120 → (v : List (List ℕ)) → R.private b.1 v → BlocksGive R (b ∷ ds) (record M { private = v })
   private_added e v h = record {
     letters = (l, m.letters);
-    different = (n, m.different);
+    different = (both_ways _ n, m.different);
     unicode = part_kept R.unicode no_unicode M.unicode 117 120 e refl m.unicode;
     transform = part_kept R.transform no_transform M.transform 116 120 e refl m.transform;
     private = part_given R.private [] v 120 e h;
@@ -122,7 +123,7 @@ module _ {R : Rules} {ds : List (ℕ × List (List ℕ))} {M : Extensions} (b : 
   pub other_added : is_other_singleton (lower_singleton b) ≡ true → R.other b.1 (kept b.1) → BlocksGive R (b ∷ ds) (record M { others = put nat_cmp (lower_singleton b) (kept b.1) M.others })
   other_added o h = record {
     letters = (l, m.letters);
-    different = (n, m.different);
+    different = (both_ways _ n, m.different);
     unicode = part_beside R.unicode no_unicode M.unicode 117 o (inl refl) m.unicode;
     transform = part_beside R.transform no_transform M.transform 116 o (inr (inl refl)) m.transform;
     private = part_beside R.private [] M.private 120 o (inr (inr refl)) m.private;

@@ -31,7 +31,7 @@ is_read e c =
     then not ((length e.unicode.attributes == 0) && (length e.unicode.keywords == 0)) else
     if c == code_t then not (not (is_some e.transform.id) && (length e.transform.fields == 0)) else
     if c == code_x then not (length e.private == 0) else
-    list_any (λ o. o.0 == c) e.others
+    list_any (λ (s, _). s == c) e.others
 
 -- a block begins with the byte c, a letter or digit whose part wasn't read yet
 pub record BlockAt (T : LanguageLengths) (start : List Text) (c : ℕ) (ps : List Text)

@@ -5,4 +5,4 @@ use Rattle.iloc_spec_grammar.specs.Syntax.{Text}
 -- how many stand before the first greater one
 abbrev pub how_many_up_to : ℕ → List (ℕ × List Text) → ℕ
 how_many_up_to c [] = 0
-how_many_up_to c (o ∷ os) = if nat_lt c o.0 then 0 else suc (how_many_up_to c os)
+how_many_up_to c ((s, _) ∷ os) = if nat_lt c s then 0 else suc (how_many_up_to c os)

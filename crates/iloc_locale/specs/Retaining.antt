@@ -22,4 +22,4 @@ pub record RetainsByType {F : Type 0} (step : F → ExtensionType → Bool → F
   pub unicode : new.unicode ≡ (if keeps_unicode then old.unicode else no_unicode)
   pub transform : new.transform ≡ (if keeps_transform then old.transform else no_transform)
   pub private : new.private ≡ (if keeps_private then old.private else [])
-  pub others : IsFiltered (λ g o b h. step g (Other o.0) b h) after_private old.others new.others
+  pub others : IsFiltered (λ g (s, _) b h. step g (Other s) b h) after_private old.others new.others

@@ -8,8 +8,8 @@ use Rattle.iloc_spec_grammar.specs.Syntax.{Text, is_true, Fields, is_other_singl
 
 -- an other extension has a singleton of its own, and a word
 abbrev pub has_own_place : ℕ × List Text → Bool
-has_own_place o =
-    is_other_singleton o.0 && ((to_ascii_lowercase o.0 == o.0) && nat_lt 0 (length o.1))
+has_own_place (c, ws) =
+    is_other_singleton c && ((to_ascii_lowercase c == c) && nat_lt 0 (length ws))
 
 -- a subtag in a value is no `true`, and no key
 abbrev pub is_plain : Text → Bool
@@ -21,4 +21,4 @@ is_in_place os = is_sorted nat_cmp os && list_all has_own_place os
 
 -- no value has anything else
 abbrev pub is_read_back : Fields → Bool
-is_read_back fs = list_all (λ f. list_all is_plain f.1) fs
+is_read_back fs = list_all (λ (_, ws). list_all is_plain ws) fs

@@ -59,7 +59,7 @@ fn look_at_lang(lang: &Option<LanguageIdentifier>)
 }
 
 fn look_at_others(others: &[Other])
-    ensures { AllByRecursion (λ o. AllByRecursion (IsNormal the_kind) o.1) others.now }
+    ensures { AllByRecursion (λ (_, ws). AllByRecursion (IsNormal the_kind) ws) others.now }
 {
     for other in others {
         let _ = other.as_slice();

@@ -10,7 +10,7 @@ use iloc_subtags::ParseError;
 
 /// Whether one of the others has this singleton.
 pub(crate) fn has_other(others: &[Other], ext: u8) -> bool
-    ensures { result ≡ list_any (λ o. o.0 == ext) others.now }
+    ensures { result ≡ list_any (λ (c, _). c == ext) others.now }
 {
     others.iter().any(|other| other.get_ext_byte() == ext)
 }
@@ -25,7 +25,7 @@ fn place_of(others: &[Other], ext: u8) -> usize
 
 /// Puts an extension among the others, which have none of its singleton.
 pub(crate) fn insert_other(others: &mut Vec<Other>, other: Other) -> Result<(), ParseError>
-    requires { list_any (λ o. o.0 == other.0) others.old.items ≡ false }
+    requires { list_any (λ (c, _). c == other.0) others.old.items ≡ false }
     ensures ok { OnOk result (others.new.items ≡ put nat_cmp other.0 other.1 others.old.items) }
     ensures err { IfErr result (λ e. e ≡ ParseError.OutOfMemory) }
 {

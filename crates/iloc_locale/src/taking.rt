@@ -84,7 +84,7 @@ pub(crate) fn take_other(
     others: &mut Vec<Other>,
 ) -> Result<(), ParseError>
     requires other { is_other_singleton ext ≡ true }
-    requires new { list_any (λ o. o.0 == ext) others.old.items ≡ false }
+    requires new { list_any (λ (c, _). c == ext) others.old.items ≡ false }
     ensures reads { (start : List Text) (c : ℕ) (M : Parts)
         → BlockAt languages start c (left iter.old) M → to_ascii_lowercase c ≡ ext
         → M.others ≡ others.old.items

@@ -1,10 +1,11 @@
 -- Private words that are taken one at a time.
+use Rattle.iloc_spec_grammar.specs.Reading.{passing}
 use Rattle.std.proofs.Common.{◌≡◌, ◌↔◌, ℕ, suc, ◌+◌, ◌<◌, false, cond, List, [], ◌∷◌, ◌++◌, length, map, refl, sym, ap, ◌∙◌, subst, arith, append_assoc, append-nil, true≢false}
 use Rattle.std.specs.List.{AllByRecursion}
 use Rattle.std.proofs.lemmas.List.{length-map, length_push}
 use Rattle.iloc_spec_grammar.specs.Syntax.{PrivateSubtag, is_word, IsWord, lower}
 use Rattle.iloc_spec_grammar.specs.Meaning as faults
-use Rattle.iloc_spec_parts.specs.Fronts.{PrivateRead, PrivateFault, not_private, private_front}
+use Rattle.iloc_spec_parts.specs.Fronts.{PrivateRead, PrivateFault, not_private}
 
 abbrev AllWords : List (List ℕ) → Type 0
 AllWords ps = AllByRecursion (IsWord PrivateSubtag) ps
@@ -13,15 +14,15 @@ AllWords ps = AllByRecursion (IsWord PrivateSubtag) ps
 pub record TakingWords (before now ws : List (List ℕ)) : Type 0 where
   pub words : AllWords before ↔ AllWords now
   pub means : ws ++ map lower now ≡ map lower before
-  pub front : length ws + length (private_front now) ≡ length (private_front before)
+  pub front : length ws + length (passing (is_word PrivateSubtag) now) ≡ length (passing (is_word PrivateSubtag) before)
 
 pub takes_nothing : (ps : List (List ℕ)) → TakingWords ps ps []
 takes_nothing ps = record { words = (λ h. h, λ h. h); means = refl; front = omega arith }
 
 module _ (before now ws : List (List ℕ)) (t : TakingWords before now ws) where
   module _ (p : List ℕ) (more : List (List ℕ)) (e : now ≡ p ∷ more) where
-    word_first : IsWord PrivateSubtag p → length (private_front now) ≡ suc (length (private_front more))
-    word_first w = ap (λ l. length (private_front l)) e ∙ ap (λ b. length (cond b (p ∷ private_front more) [])) w
+    word_first : IsWord PrivateSubtag p → length (passing (is_word PrivateSubtag) now) ≡ suc (length (passing (is_word PrivateSubtag) more))
+    word_first w = ap (λ l. length (passing (is_word PrivateSubtag) l)) e ∙ ap (λ b. length (cond b (p ∷ passing (is_word PrivateSubtag) more) [])) w
 
     pub takes_word : (vs : List (List ℕ)) → IsWord PrivateSubtag p → vs ≡ ws ++ lower p ∷ [] → TakingWords before more vs
     takes_word vs w v = record {
@@ -35,7 +36,7 @@ module _ (before now ws : List (List ℕ)) (t : TakingWords before now ws) where
     refuses_piece w = not_private (λ i. true≢false (sym (subst AllWords e (t.words.0 i.words)).0 ∙ w))
 
     -- a fifth word
-    pub wants_memory : IsWord PrivateSubtag p → (length ws < 4 → ⊥) → 4 < length (private_front before)
+    pub wants_memory : IsWord PrivateSubtag p → (length ws < 4 → ⊥) → 4 < length (passing (is_word PrivateSubtag) before)
     wants_memory w n = omega (arith, word_first w, t.front, n)
 
   -- at the end

@@ -1,15 +1,15 @@
 -- What the readers of the private extension and of other extensions answer.
 use Rattle.std.specs.Prelude.{◌≡◌, ⊤, ℕ, ◌<◌, true, List, length, Result}
-use Rattle.iloc_spec_grammar.specs.Syntax.{Text, code_x, pieces, kept, is_other_singleton}
-use Rattle.iloc_spec_grammar.specs.Reading.{rest_of}
-use Rattle.iloc_spec_parts.specs.Fronts.{OtherRead, OtherFault, PrivateRead, PrivateFault, other_front, private_front}
+use Rattle.iloc_spec_grammar.specs.Syntax.{Text, code_x, pieces, kept, is_other_singleton, is_word, PrivateSubtag}
+use Rattle.iloc_spec_grammar.specs.Reading.{rest_of, passing}
+use Rattle.iloc_spec_parts.specs.Fronts.{OtherRead, OtherFault, PrivateRead, PrivateFault, other_front}
 use Rattle.iloc_spec_parts.specs.Parts.{begins_part, is_letter, OtherText, OtherTextFault, PrivateText, PrivateTextFault}
 use Rattle.iloc_subtags.specs.declared.parse_error.ParseError.{ParseError}
 use Rattle.iloc_subtags.specs.Judging.{Answers}
 
 -- for what memory may run out after `x`: a fifth word
 abbrev pub PrivateWantsMemory : List Text → Type 0
-PrivateWantsMemory ps = 4 < length (private_front ps)
+PrivateWantsMemory ps = 4 < length (passing (is_word PrivateSubtag) ps)
 
 -- what the pieces after `x` are read as, and the pieces that are left
 abbrev pub PrivateReads : List Text → List Text → Result (List Text) ParseError → Type 0
@@ -35,7 +35,7 @@ OtherWantsMemory ps = 4 < length (kept (other_front ps))
 
 -- what the pieces after the singleton ext are read as, and the pieces that are left
 abbrev pub OtherReads : ℕ → List Text → List Text → Result (ℕ × List Text) ParseError → Type 0
-OtherReads ext ps rest = Answers (λ o. (o.0 ≡ ext) × OtherRead ps o.1 rest) (OtherFault ps) ⊤
+OtherReads ext ps rest = Answers (λ (c, ws). (c ≡ ext) × OtherRead ps ws rest) (OtherFault ps) ⊤
 
 -- memory may run out on a text only after the singleton of such an extension
 abbrev pub OtherTextWants : Text → Type 0

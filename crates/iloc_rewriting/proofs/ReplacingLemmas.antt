@@ -5,7 +5,7 @@ use Rattle.std.specs.FinMap.{find, nat_cmp-IsAntisymmetric}
 use Rattle.std.specs.Ordering.{nat_cmp, eq_by_cmp}
 use Rattle.std.specs.Cmp.{nat_cmp_total}
 use Rattle.std.specs.Char.{is_ascii_alphanumeric, to_ascii_lowercase}
-use Rattle.std.proofs.lemmas.Bool.{or_parts, or_from}
+use Rattle.std.proofs.lemmas.Bool.{or_parts, or_from, both_ways, false_from_ne_true}
 use Rattle.std.proofs.lemmas.Simd.{map-map}
 use Rattle.iloc_spec_grammar.specs.Syntax.{Block, languages, is_other_singleton, lower_singleton, AllDifferent, kept}
 use Rattle.iloc_spec_grammar.specs.Meaning.{no_unicode, no_transform, map_of}
@@ -57,7 +57,7 @@ different_others [] d = tt
 different_others (b ∷ bs) d = at (is_other_singleton b.0) (different_others bs d.1)
   where
     at : (t : Bool) → AllDifferent nat_cmp (singletons (words_of (other_blocks bs))) → AllDifferent nat_cmp (singletons (words_of (cond t (b ∷ other_blocks bs) (other_blocks bs))))
-    at true rest = (none_among b.0 bs d.0, rest)
+    at true rest = (both_ways _ (none_among b.0 bs (false_from_ne_true _ d.0)), rest)
     at false rest = rest
 
 module _ (bs cs : List Block) (r : Reordered bs cs) (d : AllDifferent nat_cmp (map (λ b. lower_singleton b) bs)) where

@@ -30,14 +30,14 @@ use Rattle.iloc_blocks.proofs.PrintedBlocks.{IsGood, good_body, printed_none, pr
 use Rattle.iloc_fronts.specs.Left.{pieces_of, piece_of, IsLeft}
 use Rattle.iloc_fronts.specs.declared.left.Left.{Left}
 use Rattle.iloc_fronts.proofs.LeftLemmas.{block_left, byte_left, last_left, length-piece}
-use Rattle.iloc_rewriting.specs.Rewriting.{AreStored, BeginsBlock}
-use Rattle.iloc_rewriting.specs.Sorting.{AreAscending, AreBlocksPassed, AreBlocksSoFar, AreBlocksStored, AreLong, AreNoneAbove, HoldsBlocks, IsBadAfter, IsBlockAmong, IsBlockFor, IsBlockInOrder, IsBlockPlace, IsBlockStored, IsBodyStored, IsPlaceTaken, IsPrivateStored, IsSingletonOf, IsWrongBody, KeepsBlock, KeepsBlocks, StandsFor, pieces_in, singletons_of}
+use Rattle.iloc_rewriting.specs.Rewriting.{AreBroughtForward, AreStored, BeginsBlock}
+use Rattle.iloc_rewriting.specs.Sorting.{AreAscending, AreBlocksPassed, AreBlocksSoFar, AreBlocksStored, AreLater, AreLong, AreNoneAbove, HoldsBlocks, IsBadAfter, IsBlockAmong, IsBlockFor, IsBlockInOrder, IsBlockPlace, IsBlockStored, IsBodyStored, IsPlaceTaken, IsPrivateStored, IsSingletonOf, IsWrongBody, KeepsBlock, KeepsBlocks, StandsFor, pieces_in, singletons_of}
 use Rattle.iloc_rewriting.specs.declared.blocks.Failure.{Failure}
 use Rattle.iloc_rewriting.specs.declared.blocks.Failure.TheVariants as failure
 use Rattle.iloc_rewriting.specs.declared.keywords.Stored.{Stored}
 use Rattle.iloc_rewriting.proofs.RewritingLemmas.{all_split, cut_left, dashes_pieces, length-joined, piece_more}
 use Rattle.iloc_rewriting.proofs.ReplacingLemmas.{block_put}
-use Rattle.iloc_rewriting.proofs.StoredLemmas.{split_room, stored_none}
+use Rattle.iloc_rewriting.proofs.StoredLemmas.{brought, split_room, still, stored_none}
 use Rattle.iloc_fronts.specs.Walk.{left_of}
 
 -- ---- results
@@ -160,14 +160,11 @@ unseen_differ : (c : ℕ) (bs : List Block) → AllByRecursion (λ b. lower_sing
 unseen_differ c [] h = refl
 unseen_differ c (b ∷ bs) h = (λ j. untied c (lower_singleton b) h.0 j || list_any (eq_by_cmp nat_cmp c) (singletons_of bs)) ∙ unseen_differ c bs h.1
 
-pub unseen_between : (c : ℕ) (before after : List Block) → AllByRecursion (λ b. lower_singleton b < c) before → AllByRecursion (λ b. c < lower_singleton b) after → IsUnseen c (singletons_of (before ++ after))
+unseen_between : (c : ℕ) (before after : List Block) → AllByRecursion (λ b. lower_singleton b < c) before → AllByRecursion (λ b. c < lower_singleton b) after → IsUnseen c (singletons_of (before ++ after))
 unseen_between c before after l g =
     unseen_differ c (before ++ after) (all_append (λ b. lower_singleton b ≢ c) before after
     (all_weaker (λ b. lower_singleton b < c) (λ b. lower_singleton b ≢ c) (λ b h e. omega arith) before l)
     (all_weaker (λ b. c < lower_singleton b) (λ b. lower_singleton b ≢ c) (λ b h e. omega arith) after g))
-
-pub unseen_above : (last c : ℕ) (bs : List Block) → last < c → AreNoneAbove last bs → IsUnseen c (singletons_of bs)
-unseen_above last c bs less h = unseen_differ c bs (all_weaker (λ b. lower_singleton b ≤ last) (λ b. lower_singleton b ≢ c) (λ b le e. omega arith) bs h)
 
 -- both have the same bytes
 abbrev HaveSame : List ℕ → List ℕ → Type 0
@@ -343,43 +340,60 @@ module _ (room text : List ℕ) (k c : ℕ) (before after : List Block) (lesser 
           ∙ ap (λ t. dashes (pieces_in before) ++ t) (sym (dashes-append (block_pieces b.new) (pieces_in after)))
           ∙ sym (dashes-append (pieces_in before) (pieces_in (b.new ∷ after))) ∙ ap dashes (sym (pieces_append before (b.new ∷ after))))
 
--- the room holds no greater singleton
-pub block_appended : (room text : List ℕ) (start end c : ℕ) (bs : List Block) (ps : List (List ℕ)) → HoldsBlocks room start end text bs → AllByRecursion (λ b. lower_singleton b < c) bs
-    → (new : List ℕ) (s : Stored) → IsBlockStored c (take end room) ps new s → IsBlockAmong c text bs ps new s
-block_appended room text start end c bs ps a lesser new s b =
-    subst (λ l. IsBlockAmong c text l ps new s) (append-nil bs)
-    (block_among room text end c bs [] lesser tt a.stored ps new s b new s.end (stored_none new s.end b.stored.more))
+-- none of the blocks has a greater singleton
+pub later_none : (last c : ℕ) (bs : List Block) → last < c → AreNoneAbove last bs → AreLater c bs 0
+later_none last c bs less h = record {
+  before = bs;
+  after = [];
+  cut = sym (append-nil bs);
+  lesser = all_weaker (λ b. lower_singleton b ≤ last) (λ b. lower_singleton b < c) (λ b le. omega arith) bs h;
+  greater = tt;
+  long = refl;
+}
 
--- the bytes from the place on are laid aside
-module _ (room text : List ℕ) (start end n c : ℕ) (bs : List Block) (inside : end ≤ length room) (a : HoldsBlocks room start end text bs) (p : IsBlockPlace c bs n) where
-  pub all_greater : AllByRecursion (λ b. c < lower_singleton b) (p.next ∷ p.after)
-  all_greater = (p.greater, all_weaker (λ b. lower_singleton p.next < lower_singleton b) (λ b. c < lower_singleton b) (λ b less. omega (arith, p.greater)) p.after (ascend_later p.before p.after p.next (subst AreAscending p.cut a.ascending)))
+-- those from the place on have
+pub later_from : (n c : ℕ) (bs : List Block) → AreAscending bs → IsBlockPlace c bs n → AreLater c bs (n + 1)
+later_from n c bs ascending p = record {
+  before = p.before;
+  after = p.next ∷ p.after;
+  cut = p.cut;
+  lesser = p.lesser;
+  greater = (p.greater, all_weaker (λ b. lower_singleton p.next < lower_singleton b) (λ b. c < lower_singleton b) (λ b less. omega (arith, p.greater)) p.after (ascend_later p.before p.after p.next (subst AreAscending p.cut ascending)));
+  long = let l : length (dashes (pieces_in (p.next ∷ p.after))) ≡ suc (length (join (pieces_in (p.next ∷ p.after)))) = ap suc (ap length (sym (join-dashes (p.next.0 ∷ []) (p.next.1 ++ pieces_in p.after)))) in omega (arith, l, p.long);
+}
 
-  pub unseen_at : IsUnseen c (singletons_of bs)
-  unseen_at = subst (λ cs. IsUnseen c (singletons_of cs)) (sym p.cut) (unseen_between c p.before (p.next ∷ p.after) p.lesser all_greater)
+pub unseen_later : (n c : ℕ) (bs : List Block) → AreLater c bs n → IsUnseen c (singletons_of bs)
+unseen_later n c bs p = subst (λ cs. IsUnseen c (singletons_of cs)) (sym p.cut) (unseen_between c p.before p.after p.lesser p.greater)
 
-  abbrev pieces_after : List (List ℕ)
-  pieces_after = pieces_in (p.next ∷ p.after)
+-- the blocks are there still where one is stored behind them
+pub blocks_still : (room text : List ℕ) (start end c : ℕ) (bs : List Block) (ps : List (List ℕ)) → end ≤ length room → HoldsBlocks room start end text bs → (new : List ℕ) (s : Stored) → IsBlockStored c (take end room) ps new s
+    → HoldsBlocks new start end text bs × IsBlockStored c (take end new) ps new s
+blocks_still room text start end c bs ps inside a new s b =
+    let same = still room new (dashes (block_pieces b.new)) end s.end inside b.stored in
+    (record { before = a.before; stored = same ∙ a.stored; each = a.each; ascending = a.ascending }, subst (λ (t : List ℕ). IsBlockStored c t ps new s) (sym same) b)
 
-  pieces_after_long : length (dashes pieces_after) ≡ n + 1
-  pieces_after_long = let l : length (dashes pieces_after) ≡ suc (length (join pieces_after)) = ap suc (ap length (sym (join-dashes (p.next.0 ∷ []) (p.next.1 ++ pieces_in p.after)))) in omega (arith, l, p.long)
-
-  parts : take end room ≡ (text ++ dashes (pieces_in p.before)) ++ dashes pieces_after
+-- it was stored behind the blocks, and comes before those that belong behind it
+module _ (room text : List ℕ) (start end n c : ℕ) (bs : List Block) (inside : end ≤ length room) (a : HoldsBlocks room start end text bs) (p : AreLater c bs n) where
+  parts : take end room ≡ (text ++ dashes (pieces_in p.before)) ++ dashes (pieces_in p.after)
   parts =
-      a.stored ∙ ap (λ l. text ++ dashes (pieces_in l)) p.cut ∙ ap (λ l. text ++ dashes l) (pieces_append p.before (p.next ∷ p.after))
-      ∙ ap (λ t. text ++ t) (dashes-append (pieces_in p.before) pieces_after) ∙ sym (append_assoc text (dashes (pieces_in p.before)) (dashes pieces_after))
+      a.stored ∙ ap (λ l. text ++ dashes (pieces_in l)) p.cut ∙ ap (λ l. text ++ dashes l) (pieces_append p.before p.after)
+      ∙ ap (λ t. text ++ t) (dashes-append (pieces_in p.before) (pieces_in p.after)) ∙ sym (append_assoc text (dashes (pieces_in p.before)) (dashes (pieces_in p.after)))
 
-  halves : (take (end - n - 1) room ≡ text ++ dashes (pieces_in p.before)) × (take (n + 1) (drop (end - n - 1) room) ≡ dashes pieces_after)
-  halves =
-      let same : end - (n + 1) ≡ end - n - 1 = omega arith in
-      subst (λ (m : ℕ). (take m room ≡ text ++ dashes (pieces_in p.before)) × (take (n + 1) (drop m room) ≡ dashes pieces_after)) same
-      (split_room room (text ++ dashes (pieces_in p.before)) (dashes pieces_after) end (n + 1) inside parts pieces_after_long)
+  halves : (take (end - n) room ≡ text ++ dashes (pieces_in p.before)) × (take n (drop (end - n) room) ≡ dashes (pieces_in p.after))
+  halves = split_room room (text ++ dashes (pieces_in p.before)) (dashes (pieces_in p.after)) end n inside parts (sym p.long)
 
-  pub block_inserted : (ps : List (List ℕ)) (room' : List ℕ) (s : Stored) → IsBlockStored c (take (end - n - 1) room) ps room' s
-      → (new : List ℕ) (e : ℕ) → AreStored new (take s.end room' ++ take (n + 1) (drop (end - n - 1) room)) e → IsBlockAmong c text bs ps new (record { end = e; next = s.next })
-  block_inserted ps room' s b new e stored =
+  within : n ≤ end
+  within = omega (arith, length-take-le end room inside, ap length parts, length-append (text ++ dashes (pieces_in p.before)) (dashes (pieces_in p.after)), p.long)
+
+  pub block_brought : (ps : List (List ℕ)) (s : Stored) → IsBlockStored c (take end room) ps room s → (new : List ℕ) (e : ℕ) → AreBroughtForward room (end - n) end s.end new e → IsBlockAmong c text bs ps new (record { end = e; next = s.next })
+  block_brought ps s b new e m =
+      let two = brought room new (dashes (block_pieces b.new)) (end - n) end s.end e (omega arith) inside b.stored m in
+      let back : end - (end - n) ≡ n = omega (arith, within) in
+      let behind : take (end - (end - n)) (drop (end - n) room) ≡ dashes (pieces_in p.after) = ap (λ (i : ℕ). take i (drop (end - n) room)) back ∙ halves.1 in
       subst (λ l. IsBlockAmong c text l ps new (record { end = e; next = s.next })) (sym p.cut)
-      (block_among room text (end - n - 1) c p.before (p.next ∷ p.after) p.lesser all_greater halves.0 ps room' s b new e (subst (λ (t : List ℕ). AreStored new (take s.end room' ++ t) e) halves.1 stored))
+      (block_among room text (end - n) c p.before p.after p.lesser p.greater halves.0 ps new (record { end = (end - n) + length (dashes (block_pieces b.new)); next = s.next })
+      (record { new = b.new; block = b.block; stored = two.0 }) new e
+      (subst (λ (t : List ℕ). AreStored new (take ((end - n) + length (dashes (block_pieces b.new))) new ++ t) e) behind two.1))
 
 -- ---- the private part
 

@@ -15,7 +15,7 @@ use Rattle.iloc_blocks.specs.Blocks.{ArePast, IsValuePiece}
 use Rattle.iloc_fronts.specs.Words.{two_number}
 use Rattle.iloc_fronts.specs.Left.{pieces_of, piece_of, IsLeft}
 use Rattle.iloc_blocks.specs.Transform.{IsRest}
-use Rattle.iloc_rewriting.specs.Rewriting.{AreStored, IsShorter, IsValueStored, IsFieldOf, IsFieldStored, IsFieldKept, AreValuesKept, Ascend, AreUpTo, AreFieldsStored, HaveSame, IsInserted, IsFieldPlace, IsPrintedField, IsPrintedValue, AreFieldsSoFar, AreFieldsInOrder, BeginsBlock, key_kind, key_number}
+use Rattle.iloc_rewriting.specs.Rewriting.{AreBroughtForward, AreStored, IsShorter, IsValueStored, IsFieldOf, IsFieldStored, IsFieldKept, AreValuesKept, Ascend, AreUpTo, AreFieldsStored, HaveSame, IsInserted, IsFieldPlace, IsPrintedField, IsPrintedValue, AreFieldsSoFar, AreFieldsInOrder, BeginsBlock, key_kind, key_number}
 use Rattle.iloc_fronts.specs.declared.left.Left.{Left}
 use Rattle.iloc_rewriting.specs.declared.keywords.KeyKind.{KeyKind}
 use Rattle.iloc_rewriting.specs.declared.keywords.KeyKind.TheVariants as kind
@@ -354,6 +354,30 @@ begins_still room xs ys m e inside long is =
     whole [] = refl
     whole (c ∷ t) = ap (λ l. c ∷ l) (whole t)
 
+-- what comes before stays
+pub still : (room new ys : List ℕ) (m e : ℕ) → m ≤ length room → AreStored new (take m room ++ ys) e → take m new ≡ take m room
+still room new ys m e inside a = begins_still new (take m room) ys m e (omega (arith, a.more)) (length-take-le m room inside) a.begins
+
+-- a line that was stored behind another does not end before it
+pub ends_behind : (room new ys : List ℕ) (m e : ℕ) → m ≤ length room → AreStored new (take m room ++ ys) e → m ≤ e
+ends_behind room new ys m e inside a = omega (arith, length-take-le e new (omega (arith, a.more)), ap length a.begins, length-append (take m room) ys, length-take-le m room inside)
+
+-- what was stored behind the middle comes before what was there from the start on
+pub brought : (room new ys : List ℕ) (start middle end e : ℕ) → start ≤ middle → middle ≤ length room → AreStored room (take middle room ++ ys) end → AreBroughtForward room start middle end new e
+    → AreStored new (take start room ++ ys) (start + length ys) × AreStored new (take (start + length ys) new ++ take (middle - start) (drop start room)) e
+brought room new ys start middle end e before inside a b =
+    let room_end : end ≤ length room = omega (arith, a.more) in
+    let size : end ≡ middle + length ys = omega (arith, length-take-le end room room_end, ap length a.begins, length-append (take middle room) ys, length-take-le middle room inside) in
+    let back : end - (end - middle) ≡ middle = omega arith in
+    let same : take (end - middle) (drop middle room) ≡ ys =
+    ap (λ (m : ℕ). take (end - middle) (drop m room)) (sym back) ∙ (split_room room (take middle room) ys end (end - middle) room_end a.begins (omega arith)).1 in
+    let later = take (middle - start) (drop start room) in
+    let all : AreStored new ((take start room ++ ys) ++ later) e = subst (λ (t : List ℕ). AreStored new ((take start room ++ t) ++ later) e) same b in
+    let long : length (take start room ++ ys) ≡ start + length ys = omega (arith, length-append (take start room) ys, length-take-le start room (omega arith)) in
+    let first : take (start + length ys) new ≡ take start room ++ ys = begins_still new (take start room ++ ys) later (start + length ys) e (omega (arith, all.more)) long all.begins in
+    let less : start + length ys ≤ e = omega (arith, length-take-le e new (omega (arith, all.more)), ap length all.begins, length-append (take start room ++ ys) later, long) in
+    (record { begins = first; more = omega (arith, all.more) }, subst (λ (t : List ℕ). AreStored new (t ++ later) e) (sym first) all)
+
 module _ (k : KeyKind) (room text key : List ℕ) (start end n number : ℕ) (fs : Fields) (ps : List (List ℕ)) (room_end : end ≤ length room) (a : AreFieldsStored k room start end text fs)
     (w : IsWord (key_kind k) key) (is : number ≡ two_number key) (len : ℕ) (p : Place) (place : IsFieldPlace k number (fields_pieces fs) len p) where
   cut : IsFieldsCut fs place.before place.key place.rest
@@ -438,6 +462,23 @@ module _ (k : KeyKind) (room text key : List ℕ) (start end n number : ℕ) (fs
           (ap (λ l. fields_pieces (place.before ++ (key, h.kept) ∷ []) ++ l) (sym cut.pieces)
           ∙ sym (pieces_of_both (place.before ++ (key, h.kept) ∷ []) ((place.key, cut.value) ∷ cut.after))
           ∙ ap fields_pieces (append_assoc place.before ((key, h.kept) ∷ []) ((place.key, cut.value) ∷ cut.after)))
+
+  -- it was stored behind them, and comes before a greater one
+  pub field_brought : p.is_there ≡ false → p.len < end → (s : Stored) → IsFieldStored k (take end room) key ps n room s → (new : List ℕ) (e : ℕ) → AreBroughtForward room (end - p.len - 1) end s.end new e
+      → IsInserted k text fs key ps n new (record { end = e; next = s.next })
+  field_brought other less s h new e b =
+      let back : end - (end - p.len - 1) ≡ p.len + 1 = omega arith in
+      let two = brought room new (dashes (key ∷ h.kept)) (end - p.len - 1) end s.end e (omega arith) room_end h.stored b in
+      field_inserted other new new (record { end = (end - p.len - 1) + length (dashes (key ∷ h.kept)); next = s.next }) e
+      (record { values = h.values; kept = h.kept; cut = h.cut; words = h.words; stored = two.0; left = h.left })
+      (subst (λ (m : ℕ). AreStored new (take ((end - p.len - 1) + length (dashes (key ∷ h.kept))) new ++ take m (drop (end - p.len - 1) room)) e) back two.1)
+
+-- the fields are there still where one is stored behind them
+pub fields_still : (k : KeyKind) (room text key : List ℕ) (start end n : ℕ) (fs : Fields) (ps : List (List ℕ)) → end ≤ length room → AreFieldsStored k room start end text fs → (new : List ℕ) (s : Stored) → IsFieldStored k (take end room) key ps n new s
+    → AreFieldsStored k new start end text fs × IsFieldStored k (take end new) key ps n new s
+fields_still k room text key start end n fs ps inside a new s h =
+    let same = still room new (dashes (key ∷ h.kept)) end s.end inside h.stored in
+    (record { before = a.before; stored = same ∙ a.stored; each = a.each; ascend = a.ascend }, subst (λ (t : List ℕ). IsFieldStored k t key ps n new s) (sym same) h)
 
 -- ---- fields of a block
 

@@ -16,18 +16,18 @@ take_two zero b t = let same : 0 + b ≡ b = omega arith in ap (λ (m : ℕ). ta
 take_two (suc a) b [] = take_nothing (suc a + b) ∙ sym (take_nothing b)
 take_two (suc a) b (x ∷ t) = let one : suc a + b ≡ suc (a + b) = omega arith in ap (λ (m : ℕ). take m (x ∷ t)) one ∙ ap (λ l. x ∷ l) (take_two a b t)
 
--- of sixteen bytes that are stored the first count too
-pub first_stored : (room bytes : List ℕ) (at count : ℕ) → 16 ≤ length bytes → at + 16 ≤ length room → count ≤ 16
-    → take (at + count) (put_chunk at room (chunk 0 16 bytes)) ≡ take at room ++ take count bytes
-first_stored room bytes at count wide inside few =
-    let stored = chunk 0 16 bytes in
-    let long : length stored ≡ 16 = length-chunk 0 16 bytes (omega arith) in
+-- of so many bytes that are stored the first count too
+pub first_stored : (room bytes : List ℕ) (wide at count : ℕ) → wide ≤ length bytes → at + wide ≤ length room → count ≤ wide
+    → take (at + count) (put_chunk at room (chunk 0 wide bytes)) ≡ take at room ++ take count bytes
+first_stored room bytes wide at count enough inside few =
+    let stored = chunk 0 wide bytes in
+    let long : length stored ≡ wide = length-chunk 0 wide bytes (omega arith) in
     let after = drop (length stored) (drop at room) in
     let before : length (take at room) ≡ at = length-take-le at room (omega arith) in
     ap (take (at + count)) (put_chunk_is at room stored (omega arith))
     ∙ ap (λ (n : ℕ). take (n + count) (take at room ++ (stored ++ after))) (sym before)
     ∙ take-append-add (take at room) (stored ++ after) count
-    ∙ ap (λ t. take at room ++ t) (take-append-le count stored after (omega arith) ∙ take-take count 16 bytes few)
+    ∙ ap (λ t. take at room ++ t) (take-append-le count stored after (omega arith) ∙ take-take count wide bytes few)
 
 -- sixteen bytes, and those that are left
 pub sixteen_more : (bytes : List ℕ) (n : ℕ) → 16 < n → n + 16 ≤ length bytes

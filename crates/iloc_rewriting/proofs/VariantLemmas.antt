@@ -114,7 +114,7 @@ module _ (w : Identifier) (h : HasWords languages w) (none : w.variants ≡ []) 
     pub same_told : (r : Reading) → IsReading u r → IsReading t r
     same_told (reading.Ordered o) h = record { stored = h.stored; locale = h.locale; means = same_locales h.locale h.means; normal = h.normal }
     same_told (reading.BadBlock b) h = same_bad b h
-    same_told (reading.Unordered n) h = tt
+    same_told reading.Unordered h = tt
     same_told reading.Other h = tt
 
 -- ---- the line

@@ -3,13 +3,13 @@ use Rattle.std.proofs.Common.{take, drop, ◌≡◌, ◌≢◌, ℕ, suc, ◌+�
 use Rattle.std.specs.List.{AllByRecursion, list_any}
 use Rattle.std.specs.FinMap.{find}
 use Rattle.std.specs.Ordering.{eq_by_cmp}
-use Rattle.std.proofs.lemmas.Bool.{and_from, or_left, or_right, true≢false}
+use Rattle.std.proofs.lemmas.Bool.{and_from, or_left, or_right, true≢false, false_from_ne_true}
 use Rattle.std.proofs.lemmas.List.{length-take-le, map-append}
 use Rattle.std.proofs.lemmas.List.Folds.{list_any-append}
 use Rattle.iloc_spec_grammar.specs.Syntax.{pieces, join, dashes, IsWord, IsHyphenFree, AllDifferent, is_same, first_piece, lower, word_cmp}
 use Rattle.iloc_spec_grammar.specs.Meaning.{set_of}
 use Rattle.iloc_spec_grammar.specs.Reading.{rest_of}
-use Rattle.iloc_spec_grammar.specs.Values.{IsAscending, Reordered}
+use Rattle.iloc_spec_grammar.specs.Values.{StrictlyAscends, Reordered}
 use Rattle.iloc_spec_grammar.proofs.PartTexts.{join-dashes, dashes-append}
 use Rattle.iloc_spec_grammar.proofs.ReadBack.{all_append, word_hyphen_free}
 use Rattle.iloc_spec_grammar.proofs.ValuesLaws.{all_weaker}
@@ -46,10 +46,10 @@ kind_fits kind.Attribute = attribute_fits
 kind_fits kind.Variant = variant_fits
 
 -- with ascending numbers they ascend
-pub words_ascend : (s : WordKind) (ws : List (List ℕ)) → AllByRecursion (IsWord (word_kind s)) ws → Ascend word_number ws → IsAscending (map lower ws)
-words_ascend s [] each h = refl
+pub words_ascend : (s : WordKind) (ws : List (List ℕ)) → AllByRecursion (IsWord (word_kind s)) ws → Ascend word_number ws → StrictlyAscends word_cmp (map lower ws)
+words_ascend s [] each h = tt
 words_ascend s (w ∷ ws) each h =
-    and_from _ _ (words_below w (kind_fits s w each.0) ws (all_weaker (IsWord (word_kind s)) IsUpToEight (kind_fits s) ws each.1) h.0) (words_ascend s ws each.1 h.1)
+    (words_below w (kind_fits s w each.0) ws (all_weaker (IsWord (word_kind s)) IsUpToEight (kind_fits s) ws each.1) h.0, words_ascend s ws each.1 h.1)
 
 -- ---- the same words
 
@@ -333,7 +333,7 @@ module _ (s : WordKind) (text room p : List ℕ) (ps : List (List ℕ)) (start e
 
 -- a word that is there stands behind words that are different only if it is none of them
 none_behind : (p : List ℕ) (ws : List (List ℕ)) → AllDifferent word_cmp (map lower (ws ++ p ∷ [])) → list_any (is_same (lower p)) (map lower ws) ≡ false
-none_behind p ws d = (different_reordered word_cmp word_cmp_total (map_reordered lower (turned (first_last ws p))) d).0
+none_behind p ws d = false_from_ne_true _ (different_reordered word_cmp word_cmp_total (map_reordered lower (turned (first_last ws p))) d).0
 
 -- a variant that is among those so far repeats one
 pub variant_repeats : (s : WordKind) (text room p : List ℕ) (ps qs : List (List ℕ)) (start end last : ℕ) (at : Left) (h : AreWordsSoFar s text ps start end last room at) → IsWord (word_kind s) p → pieces_of at ≡ p ∷ qs

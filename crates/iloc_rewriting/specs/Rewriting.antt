@@ -1,5 +1,5 @@
 -- Lines that are brought into order.
-use Rattle.std.specs.Prelude.{◌≡◌, ⊤, ℕ, ◌+◌, ◌<◌, ◌≤◌, IsTrue, Bool, true, false, List, [], ◌∷◌, ◌++◌, length, map, take, Option, Some, None}
+use Rattle.std.specs.Prelude.{◌≡◌, ⊤, ℕ, ◌+◌, ◌-◌, ◌<◌, ◌≤◌, IsTrue, Bool, true, false, List, [], ◌∷◌, ◌++◌, length, map, take, drop, Option, Some, None}
 use Rattle.std.specs.List.{AllByRecursion}
 use Rattle.std.specs.FinMap.{find, is_sorted}
 use Rattle.iloc_spec_grammar.specs.Syntax.{Text, Field, Fields, Kind, UnicodeKey, TransformKey, Attribute, is_word, IsWord, IsKeyword, IsField, word_cmp, first_piece, lower, dashes, join, fields_pieces, languages}
@@ -23,6 +23,13 @@ IsRewritten t u = (M : Locale) → Means languages u M → Means languages t M
 pub record AreStored (room t : Text) (n : ℕ) : Type 0 where
   pub begins : take n room ≡ t
   pub more : n + 16 ≤ length room
+
+-- the first n bytes of the new room are those of the old one, but those from the middle to the end
+-- come before those between the start and the middle
+abbrev pub AreBroughtForward : (old : Text) (start middle end : ℕ) (new : Text) (n : ℕ) → Type 0
+AreBroughtForward old start middle end new n = AreStored new
+    ((take start old ++ take (end - middle) (drop middle old))
+    ++ take (middle - start) (drop start old)) n
 
 -- what is left is shorter than so many bytes
 abbrev pub IsShorter : ℕ → Option Left → Type 0
@@ -108,7 +115,7 @@ AreUpTo number last xs = AllByRecursion (λ x. number x ≤ last) xs
 
 -- the number of a key
 abbrev pub key_number : Field → ℕ
-key_number f = two_number f.0
+key_number (key, _) = two_number key
 
 -- fields with ascending keys are stored behind the text
 pub record AreFieldsStored (k : KeyKind) (room : Text) (start end : ℕ) (text : Text)
@@ -120,7 +127,7 @@ pub record AreFieldsStored (k : KeyKind) (room : Text) (start end : ℕ) (text :
 
 -- keys with their values in normal form
 abbrev pub entries : Fields → Fields
-entries fs = map (λ f. (lower f.0, normal_values f.1)) fs
+entries fs = map (λ (key, values). (lower key, normal_values values)) fs
 
 -- both have the same first value for each key
 abbrev pub HaveSame : Fields → Fields → Type 0
@@ -147,7 +154,7 @@ pub record IsFieldPlace (k : KeyKind) (number : ℕ) (ps : List Text) (len : ℕ
     (p : Place) : Type 0 where
   pub before : Fields
   pub each : AllByRecursion
-      (λ f. IsWord (key_kind k) f.0 × AllByRecursion (IsWord Attribute) f.1) before
+      (λ (key, values). IsWord (key_kind k) key × AllByRecursion (IsWord Attribute) values) before
   pub less : AllByRecursion (λ f. key_number f < number) before
   pub key : Text
   pub is_key : IsWord (key_kind k) key
@@ -158,6 +165,15 @@ pub record IsFieldPlace (k : KeyKind) (number : ℕ) (ps : List Text) (len : ℕ
   pub greater : p.is_there ≡ false → number < two_number key
   pub long : p.len ≡ length (join (key ∷ rest))
   pub within : p.len ≤ len
+
+-- a field between the middle and the end, behind others in order, is stored among them
+abbrev pub IsSettled : KeyKind → (number : ℕ) (old : Text) (start middle end : ℕ) (new : Text)
+    (n : ℕ) → Type 0
+IsSettled k number old start middle end new n = (text : Text) (fields : Fields) (key : Text)
+    (ps : List Text) (len : ℕ) (next : Option Left) → AreFieldsStored k old start middle text fields
+    → number ≡ two_number key
+    → IsFieldStored k (take middle old) key ps len old (record { end = end; next = next })
+    → IsInserted k text fields key ps len new (record { end = n; next = next })
 
 -- what is left begins a block
 abbrev pub BeginsBlock : Option Left → Type 0
@@ -175,7 +191,7 @@ pub record AreFieldsInOrder (k : KeyKind) (text : Text) (ps : List Text) (room :
   pub some : length kept ≤ length written
   pub same : HaveSame written kept
   pub ascending : is_sorted word_cmp (lower_fields kept) ≡ true
-  pub printed : AllByRecursion (λ f. IsPrintedValue k f.1) kept
+  pub printed : AllByRecursion (λ (_, values). IsPrintedValue k values) kept
   pub stored : AreStored room (text ++ dashes (fields_pieces kept)) s.end
   pub left : BeginsBlock s.next
 

@@ -1,5 +1,5 @@
 -- Blocks that are brought into order.
-use Rattle.std.specs.Prelude.{◌≡◌, ◌≢◌, ◌+◌, ◌-◌, ◌<◌, ◌≤◌, ⊤, ℕ, true, false, List, [], ◌∷◌, ◌++◌, filter, flat_map, get_or, length, map, take, drop, Option}
+use Rattle.std.specs.Prelude.{◌≡◌, ◌≢◌, ◌+◌, ◌-◌, ◌<◌, ◌≤◌, ⊤, ℕ, true, false, List, [], ◌∷◌, ◌++◌, filter, flat_map, get_or, length, map, take, drop, Option, Some, None}
 use Rattle.std.specs.Int.{is_in_range}
 use Rattle.std.specs.List.{AllByRecursion, list_any}
 use Rattle.std.specs.Ordering.{nat_cmp, eq_by_cmp}
@@ -21,6 +21,7 @@ use Rattle.iloc_fronts.specs.declared.left.Left.{Left}
 use Rattle.iloc_rewriting.specs.Rewriting.{AreStored, BeginsBlock}
 use Rattle.iloc_rewriting.specs.declared.keywords.Stored.{Stored}
 use Rattle.iloc_rewriting.specs.declared.blocks.Failure.{Failure}
+use Rattle.iloc_rewriting.specs.declared.blocks.Sorted.{Sorted}
 use Rattle.iloc_fronts.specs.Walk.{left_of}
 use Rattle.iloc_rewriting.specs.declared.blocks.Failure.TheVariants as failure
 
@@ -69,6 +70,40 @@ pub record IsBodyStored (R : List Text → List Text → Type 0) (text : Text) (
   pub means : R new body
   pub stored : AreStored room (text ++ dashes new) s.end
   pub left : BeginsBlock s.next
+
+-- how many bytes are left
+abbrev pub length_left : Option Left → ℕ
+length_left None = 0
+length_left (Some l) = l.len
+
+-- so much was stored, and so many bytes are left; the line ends where it began if nothing was
+abbrev pub IsSortedFrom : ℕ → Option Stored → Sorted → Type 0
+IsSortedFrom start None s = s.end ≡ start
+IsSortedFrom start (Some stored) s = (s.end ≡ stored.end) × (s.left ≡ length_left stored.next)
+
+-- pieces up to the next block are stored as others, which stand for them, and so much is told
+pub record AreSorted (c : ℕ) (text : Text) (ps : List Text) (room : Text)
+    (s : Sorted) : Type 0 where
+  pub next : Option Left
+  pub left : s.left ≡ length_left next
+  pub body : IsBodyStored (StandsFor c) text ps room (record { end = s.end; next = next })
+
+-- they are, or the line ends where it began
+abbrev pub IsSorted : ℕ → ℕ → Text → List Text → Text → Sorted → Type 0
+IsSorted c start text ps room s = s.end ≢ start → AreSorted c text ps room s
+
+-- so many bytes are the last ones of what is left, and begin with a piece of one byte
+pub record IsLastBlock (l : Left) (n : ℕ) (last : Left) : Type 0 where
+  pub len : last.len ≡ n
+  pub one : last.n ≡ 1
+  pub some : 0 < n
+  pub window : last.window.now
+      ≡ take (length l.window.now - (l.len - n)) (drop (l.len - n) l.window.now)
+
+-- the same, if there are any
+abbrev pub AreLast : Left → ℕ → Option Left → Type 0
+AreLast l n None = n ≡ 0
+AreLast l n (Some last) = IsLastBlock l n last
 
 -- the piece may stand in another extension
 abbrev pub MayStand : Text → Type 0
@@ -169,6 +204,16 @@ pub record IsBlockPlace (c : ℕ) (bs : List Block) (n : ℕ) : Type 0 where
   pub greater : c < lower_singleton next
   pub long : n ≡ length (join (pieces_in (next ∷ after)))
 
+-- so many bytes are those of the blocks with greater singletons, each with its hyphen; the others
+-- have lesser ones
+pub record AreLater (c : ℕ) (bs : List Block) (n : ℕ) : Type 0 where
+  pub before : List Block
+  pub after : List Block
+  pub cut : bs ≡ before ++ after
+  pub lesser : AllByRecursion (λ b. lower_singleton b < c) before
+  pub greater : AllByRecursion (λ b. c < lower_singleton b) after
+  pub long : n ≡ length (dashes (pieces_in after))
+
 -- one of them has the singleton
 abbrev pub IsPlaceTaken : ℕ → List Block → Failure → Type 0
 IsPlaceTaken c bs (failure.Bad bad.Duplicated)
@@ -225,8 +270,8 @@ pub record AreBlocksStored (text : Text) (ps : List Text) (room : Text) (n : ℕ
 abbrev pub after_byte : Text → ℕ → ℕ → Text
 after_byte w len at = take (len - at - 1) (drop (at + 1) w)
 
--- behind the text variants are stored in ascending order, and blocks as they are printed
-pub record IsLineStored (text : Text) (ps : List Text) (room : Text) (n : ℕ) : Type 0 where
+-- variants are stored in ascending order, and blocks as they are printed
+pub record IsLineStored (ps : List Text) (room : Text) (n : ℕ) : Type 0 where
   pub written : List Text
   pub variants : List Text
   pub rest : List Text
@@ -235,7 +280,7 @@ pub record IsLineStored (text : Text) (ps : List Text) (room : Text) (n : ℕ) :
   pub order : Reordered variants written
   pub ascending : AreVariantsInOrder variants
   pub starts : starts_block rest ≡ true
-  pub blocks : AreBlocksStored (text ++ dashes variants) rest room n
+  pub blocks : AreBlocksStored (dashes variants) rest room n
 
 -- the pieces after a plain identifier have the fault that is told
 abbrev pub IsBadLine : List Text → Failure → Type 0

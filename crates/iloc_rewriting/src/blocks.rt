@@ -9,17 +9,26 @@ ghost use Rattle.std.specs.Prelude.{
   IfOk,
   IfSome,
   List,
+  ℕ,
   length,
   take,
   true,
 };
 ghost use Rattle.std.specs.Char.{is_ascii_alphanumeric};
 ghost use Rattle.iloc_spec_grammar.specs.ByBlocks.{UnicodeMeans};
-ghost use Rattle.iloc_spec_grammar.specs.Syntax.{Text, code_x, dashes};
+ghost use Rattle.iloc_spec_grammar.specs.Syntax.{Text, code_t, code_u, code_x, dashes, pieces};
 ghost use Rattle.iloc_blocks.specs.Blocks.{IsUnicodePart};
 ghost use Rattle.iloc_fronts.specs.Left.{IsLeft, pieces_of};
 ghost use Rattle.iloc_rewriting.specs.Rewriting.{AreStored, IsShorter};
-ghost use Rattle.iloc_rewriting.specs.Sorting.{IsBodyStored, IsOrderOf, IsWrongBody, StandsFor};
+ghost use Rattle.iloc_rewriting.specs.Sorting.{
+  AreLast,
+  IsBodyStored,
+  IsOrderOf,
+  IsSorted,
+  IsSortedFrom,
+  IsWrongBody,
+  StandsFor,
+};
 ghost use Rattle.iloc_fronts.specs.Walk.{left_of};
 
 use crate::fields::put_transform;
@@ -30,7 +39,7 @@ use crate::words::{WordKind, put_words};
 use iloc_blocks::BadBlock;
 use iloc_blocks::blocks::read_body;
 use iloc_blocks::body::Body;
-use iloc_fronts::left::Left;
+use iloc_fronts::left::{Left, left_in};
 
 // Why a line is not brought into order.
 #[derive(Clone, Copy)]
@@ -39,6 +48,15 @@ pub(crate) enum Failure {
     Bad(BadBlock),
     // Nothing is told.
     Other,
+}
+
+// How far what follows a singleton was stored.
+#[derive(Clone, Copy)]
+pub(crate) struct Sorted {
+    // Where the new line ends. Nothing was stored if it ends where it began.
+    pub(crate) end: usize,
+    // How many bytes are left of the old one.
+    pub(crate) left: usize,
 }
 
 // Stores what follows a letter or digit in lower case that is no `x`, in order. Only if that fails it is read to see why.
@@ -57,10 +75,31 @@ pub(crate) fn put_body<'a>(
         (pieces_of left.entry) room.new) }
     ensures err { IfErr result (IsWrongBody singleton (pieces_of left.entry)) }
 {
-    match put_sorted(singleton, left, room, start) {
-        Some(stored) => Ok(stored),
-        None => Err(failure_of(singleton, left)),
+    let sorted = put_sorted(singleton, left.window, left.len, room, start);
+    if sorted.end == start {
+        return Err(failure_of(singleton, left));
     }
+    Ok(Stored {
+        end: sorted.end,
+        next: last_of(left, sorted.left),
+    })
+}
+
+// The last bytes of a line, which begin a block; `None` if there are none.
+#[inline(always)]
+fn last_of(left: Left<'_>, len: usize) -> Option<Left<'_>>
+    requires left { IsLeft left }
+    requires within { len ≤ left.len }
+    ensures { AreLast left.entry len result }
+{
+    if len == 0 {
+        return None;
+    }
+    Some(Left {
+        window: &left.window[left.len - len..],
+        len,
+        n: 1,
+    })
 }
 
 // Why it is not stored.
@@ -105,24 +144,73 @@ pub(crate) fn put_same<'a>(
 }
 
 // Stores what follows such a singleton in order.
-#[inline(never)]
-fn put_sorted<'a>(
-    singleton: u8,
-    left: Left<'a>,
-    room: &mut [u8],
-    start: usize,
-) -> Option<Stored<'a>>
-    requires left { IsLeft left }
+#[inline(always)]
+fn put_sorted(singleton: u8, window: &[u8], len: usize, room: &mut [u8], start: usize) -> Sorted
+    requires window { len + 16 ≤ length window.now }
     requires letter { is_ascii_alphanumeric singleton ≡ true }
     requires no_private { singleton ≢ code_x }
     requires room { start + 16 ≤ length room.old }
-    ensures { IfSome result (IsBodyStored (StandsFor singleton) (take start room.old)
-        (pieces_of left.entry) room.new) }
+    ensures { IsSorted singleton start (take start room.old) (pieces (take len window.now)) room.new
+        result }
 {
     match singleton {
-        b'u' => put_unicode(left, room, start),
-        b't' => put_transform(left, room, start),
-        _ => put_other(left, room, start),
+        b'u' => sort_unicode(window, len, room, start),
+        b't' => sort_transform(window, len, room, start),
+        _ => sort_other(window, len, room, start),
+    }
+}
+
+// Stores what follows `u`. It is a call, as the two below are, with no more than numbers to pass.
+#[inline(never)]
+fn sort_unicode(window: &[u8], len: usize, room: &mut [u8], start: usize) -> Sorted
+    requires window { len + 16 ≤ length window.now }
+    requires room { start + 16 ≤ length room.old }
+    ensures { IsSorted code_u start (take start room.old) (pieces (take len window.now)) room.new
+        result }
+{
+    sorted_from(put_unicode(left_in(window, len), room, start), start)
+}
+
+// Stores what follows `t`.
+#[inline(never)]
+fn sort_transform(window: &[u8], len: usize, room: &mut [u8], start: usize) -> Sorted
+    requires window { len + 16 ≤ length window.now }
+    requires room { start + 16 ≤ length room.old }
+    ensures { IsSorted code_t start (take start room.old) (pieces (take len window.now)) room.new
+        result }
+{
+    sorted_from(put_transform(left_in(window, len), room, start), start)
+}
+
+// Stores what follows any other singleton but `x`.
+#[inline(never)]
+fn sort_other(window: &[u8], len: usize, room: &mut [u8], start: usize) -> Sorted
+    requires window { len + 16 ≤ length window.now }
+    requires room { start + 16 ≤ length room.old }
+    ensures { (c : ℕ) → c ≢ code_u → c ≢ code_t → IsSorted c start (take start room.old)
+        (pieces (take len window.now)) room.new result }
+{
+    sorted_from(put_other(left_in(window, len), room, start), start)
+}
+
+// What was stored, in numbers alone.
+#[inline(always)]
+fn sorted_from(stored: Option<Stored<'_>>, start: usize) -> Sorted
+    ensures { IsSortedFrom start stored.entry result }
+{
+    let Some(stored) = stored else {
+        return Sorted {
+            end: start,
+            left: 0,
+        };
+    };
+    let left = match stored.next {
+        Some(next) => next.len,
+        None => 0,
+    };
+    Sorted {
+        end: stored.end,
+        left,
     }
 }
 

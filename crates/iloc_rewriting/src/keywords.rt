@@ -11,13 +11,14 @@ ghost use Rattle.iloc_rewriting.specs.Rewriting.{
   IsFieldStored,
   IsInserted,
   IsFieldPlace,
+  IsSettled,
   IsValueStored,
   key_kind,
   key_number,
   transform_or_unicode,
 };
 
-use crate::storing::{put_bytes, put_piece};
+use crate::storing::{bring_forward, put_piece};
 use iloc_blocks::other::past_words;
 use iloc_fronts::left::{Left, after_piece, left_in};
 use iloc_fronts::words::{is_attribute, is_field_key, is_key, is_true, number_of_two};
@@ -110,7 +111,8 @@ fn is_key_of(kind: KeyKind, window: &[u8], n: usize) -> bool
     }
 }
 
-// Stores a field among those that begin at `start`, of which no key has a number above the last.
+// Stores a field among those that begin at `start`, of which no key has a number above the last. It is stored behind
+// them, and then brought to its place.
 #[inline(always)]
 fn put_among<'a>(
     kind: KeyKind,
@@ -130,12 +132,36 @@ fn put_among<'a>(
         → AreUpTo key_number last fs → IfSome result (IsInserted kind t fs (piece_of left.entry)
         (pieces_of left.entry) left.entry.len room.new) }
 {
+    let stored = put_field(kind, left, room, end)?;
     if number > last {
-        return put_field(kind, left, room, end);
+        return Some(stored);
     }
+    let settled = settle(kind, number, room, start, end, stored.end)?;
+    Some(Stored {
+        end: settled,
+        next: stored.next,
+    })
+}
+
+// Brings the field between `middle` and `end` before the first whose key is greater, or leaves it out if its key is
+// there. The others begin at `start`. Where the new line ends then.
+#[inline(always)]
+fn settle(
+    kind: KeyKind,
+    number: usize,
+    room: &mut [u8],
+    start: usize,
+    middle: usize,
+    end: usize,
+) -> Option<usize>
+    requires start { start ≤ middle }
+    requires middle { middle ≤ end }
+    requires room { end + 16 ≤ length room.old }
+    ensures { IfSome result (IsSettled kind number room.old start middle end room.new) }
+{
     match kind {
-        KeyKind::Unicode => insert_field::<false>(left, room, start, end),
-        KeyKind::Transform => insert_field::<true>(left, room, start, end),
+        KeyKind::Unicode => settle_field::<false>(number, room, start, middle, end),
+        KeyKind::Transform => settle_field::<true>(number, room, start, middle, end),
     }
 }
 
@@ -228,46 +254,34 @@ fn put_values<'a>(left: Left<'a>, room: &mut [u8], start: usize) -> Option<Store
     }
 }
 
-// Stores a field before the first whose key is greater, unless its key is there. The fields begin at
-// `start`. Each kind has a function of its own, which does not ask for the kind.
+// The same. Each kind has a function of its own, which does not ask for the kind.
 #[inline(never)]
-fn insert_field<'a, const OF_T: bool>(
-    left: Left<'a>,
+fn settle_field<const OF_T: bool>(
+    number: usize,
     room: &mut [u8],
     start: usize,
+    middle: usize,
     end: usize,
-) -> Option<Stored<'a>>
-    requires left { IsLeft left }
-    requires key { IsWord (key_kind (transform_or_unicode OF_T)) (piece_of left) }
+) -> Option<usize>
+    requires start { start ≤ middle }
+    requires middle { middle ≤ end }
     requires room { end + 16 ≤ length room.old }
-    requires start { start ≤ end }
-    ensures { (t : Text) (fs : Fields)
-        → AreFieldsStored (transform_or_unicode OF_T) room.old start end t fs
-        → IfSome result (IsInserted (transform_or_unicode OF_T) t fs (piece_of left.entry)
-        (pieces_of left.entry) left.entry.len room.new) }
+    ensures { IfSome result
+        (IsSettled (transform_or_unicode OF_T) number room.old start middle end room.new) }
 {
-    if start == end {
+    if start == middle {
         return None;
     }
     let kind = transform_or_unicode(OF_T);
-    let number = number_of_two(left.window);
-    let place = place_of(kind, left_in(&room[start + 1..], end - start - 1), number)?;
+    let place = place_of(
+        kind,
+        left_in(&room[start + 1..], middle - start - 1),
+        number,
+    )?;
     if place.is_there {
-        let skipped = put_field(kind, left, room, end)?;
-        return Some(Stored {
-            end,
-            next: skipped.next,
-        });
+        return Some(middle);
     }
-    let before = end - place.len - 1;
-    let mut later = [0u8; 128];
-    let len = put_bytes(&room[before..], place.len + 1, &mut later, 0)?;
-    let stored = put_field(kind, left, room, before)?;
-    let end = put_bytes(&later, len, room, stored.end)?;
-    Some(Stored {
-        end,
-        next: stored.next,
-    })
+    bring_forward(room, middle - place.len - 1, middle, end)
 }
 
 // Where a field with a key of this number belongs among these fields.

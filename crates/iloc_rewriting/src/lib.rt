@@ -1,9 +1,9 @@
 //! Brings a line into the order of its normal text, without a value being built.
 //!
-//! `rewrite` stores another line in a room. Its blocks and what each holds are in the order of the normal text, and
-//! whatever it means the old one means (`IsRewritten`). So it answers as `read_ordered` of `iloc_blocks` does
-//! (`IsReading`): the normal text of the old line is the new one but for the case of letters. Of a line with a bad block
-//! it tells the first one, whatever the order of the blocks before it.
+//! `rewrite` makes another line, and stores what follows the identifier in a room. Its blocks and what each holds are in
+//! the order of the normal text, and whatever it means the old one means (`IsRewritten`). So it answers as `read_ordered`
+//! of `iloc_blocks` does (`IsReading`): the normal text of the old line is the new one but for the case of letters. Of a
+//! line with a bad block it tells the first one, whatever the order of the blocks before it.
 //!
 //! `sort_identifier` does the same with an identifier: its variants are stored in order (`IsOrderedIdentifier`).
 //! `sort_variants` stores a line with its variants in order, and what follows them as it stands. What is told of the new

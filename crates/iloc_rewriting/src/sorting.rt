@@ -1,8 +1,8 @@
 //! Stores blocks in the order of their singletons.
 ghost use Rattle.std.specs.Prelude.{
   ◌≡◌,
-  ◌≢◌,
   ◌+◌,
+  ◌-◌,
   ◌≤◌,
   [],
   IfErr,
@@ -19,6 +19,7 @@ ghost use Rattle.iloc_blocks.specs.Bodies.{IsUnseen};
 ghost use Rattle.iloc_fronts.specs.Left.{IsLeft, pieces_of};
 ghost use Rattle.iloc_rewriting.specs.Sorting.{
   AreBlocksStored,
+  AreLater,
   AreNoneAbove,
   HoldsBlocks,
   IsBadAfter,
@@ -35,7 +36,7 @@ ghost use Rattle.iloc_rewriting.specs.Sorting.{
 
 use crate::blocks::{Failure, put_body};
 use crate::keywords::Stored;
-use crate::storing::{put_bytes, put_left, put_piece};
+use crate::storing::{bring_forward, put_left, put_piece};
 use iloc_blocks::BadBlock;
 use iloc_blocks::body::Body;
 use iloc_blocks::other::read_private;
@@ -95,7 +96,8 @@ fn put_private(left: Left<'_>, room: &mut [u8], end: usize) -> Result<usize, Fai
     }
 }
 
-// Stores a block among those that begin at `start`, of which none has a singleton above the last.
+// Stores a block among those that begin at `start`, of which none has a singleton above the last. It is stored behind
+// them, and then brought before those with greater singletons.
 #[inline(always)]
 fn put_among<'a>(
     left: Left<'a>,
@@ -116,10 +118,42 @@ fn put_among<'a>(
         → AreNoneAbove last bs
         → IfErr result (IsBadAfter (singletons_of bs) (pieces_of left.entry)) }
 {
-    if singleton > last {
-        return put_behind(left, singleton, room, end);
+    let later = later_than(singleton, last, room, start, end)?;
+    let stored = put_behind(left, singleton, room, end)?;
+    match bring_forward(room, end - later, end, stored.end) {
+        Some(end) => Ok(Stored {
+            end,
+            next: stored.next,
+        }),
+        None => Err(Failure::Other),
     }
-    insert_block(left, singleton, room, start, end)
+}
+
+// How many bytes of these blocks belong behind one with this singleton; it is bad if its singleton is there.
+#[inline(always)]
+fn later_than(
+    singleton: u8,
+    last: u8,
+    room: &[u8],
+    start: usize,
+    end: usize,
+) -> Result<usize, Failure>
+    requires room { end + 16 ≤ length room.now }
+    requires start { start ≤ end }
+    ensures ok { (t : Text) (bs : List Block) → HoldsBlocks room.now start end t bs
+        → AreNoneAbove last bs → IfOk result (AreLater singleton bs) }
+    ensures within { IfOk result (λ n. n ≤ end - start) }
+    ensures err { (t : Text) (bs : List Block) → HoldsBlocks room.now start end t bs
+        → IfErr result (IsPlaceTaken singleton bs) }
+{
+    if singleton > last {
+        return Ok(0);
+    }
+    if start == end {
+        return Err(Failure::Other);
+    }
+    let len = place_of(left_in(&room[start + 1..], end - start - 1), singleton)?;
+    Ok(len + 1)
 }
 
 // Stores a block behind what is stored. It stands in place, since a call would pass what is left and the answer through
@@ -146,43 +180,6 @@ fn put_behind<'a>(
         return Err(Failure::Other);
     };
     put_body(singleton, after_piece(left), room, end)
-}
-
-// Stores a block before the first whose singleton is greater; it is bad if its singleton is there.
-#[inline(always)]
-fn insert_block<'a>(
-    left: Left<'a>,
-    singleton: u8,
-    room: &mut [u8],
-    start: usize,
-    end: usize,
-) -> Result<Stored<'a>, Failure>
-    requires left { IsLeft left }
-    requires singleton { IsSingletonOf left singleton }
-    requires room { end + 16 ≤ length room.old }
-    requires start { start ≤ end }
-    ensures ok { (t : Text) (bs : List Block) → HoldsBlocks room.old start end t bs
-        → IfOk result (IsBlockAmong singleton t bs (pieces_of left.entry) room.new) }
-    ensures err { (t : Text) (bs : List Block) → HoldsBlocks room.old start end t bs
-        → IfErr result (IsBadAfter (singletons_of bs) (pieces_of left.entry)) }
-{
-    if start == end {
-        return Err(Failure::Other);
-    }
-    let len = place_of(left_in(&room[start + 1..], end - start - 1), singleton)?;
-    let before = end - len - 1;
-    let mut later = [0u8; 128];
-    let Some(count) = put_bytes(&room[before..], len + 1, &mut later, 0) else {
-        return Err(Failure::Other);
-    };
-    let stored = put_behind(left, singleton, room, before)?;
-    let Some(end) = put_bytes(&later, count, room, stored.end) else {
-        return Err(Failure::Other);
-    };
-    Ok(Stored {
-        end,
-        next: stored.next,
-    })
 }
 
 // How many bytes there are from the first block on whose singleton is greater; a block with this singleton is bad.

@@ -3,7 +3,7 @@ use Rattle.std.proofs.Common.{◌≡◌, ◌≢◌, ◌⊎◌, inl, inr, ℕ, Bo
 use Rattle.std.specs.List.{AllByRecursion, list_any}
 use Rattle.std.specs.Ordering.{nat_cmp, eq_by_cmp}
 use Rattle.std.specs.FinMap.{find}
-use Rattle.std.proofs.lemmas.Bool.{or_parts}
+use Rattle.std.proofs.lemmas.Bool.{or_parts, false_from_ne_true}
 use Rattle.iloc_spec_grammar.specs.Syntax.{pieces, AreLengths, lower, Unicode, Transform, IsOther, kept, is_other_singleton, lower_singleton, AllDifferent, head, tail_blocks, IsPrivate}
 use Rattle.iloc_spec_grammar.specs.Tree.{Extension, unicode, transform, other, Written, extension_pieces, extension_block, blocks_of, IsExtension, IsWritten, TreeMeans, meaning, extensions_meaning, unicode_part, transform_part, private_part, other_part, by_singleton, IsBlock, HasSingleton}
 use Rattle.iloc_spec_grammar.specs.Meaning.{Locale, Extensions, SpellsIdentifier, map_of, no_unicode, no_transform, normal_unicode, normal_transform}
@@ -115,7 +115,7 @@ find_later P q b bs d h = (elim (eq_by_cmp nat_cmp q (lower_singleton b)) as (λ
 
 each_block : (P : ℕ → List (List ℕ) → Type 0) (bs : List (ℕ × List (List ℕ))) → AllDifferent nat_cmp (map (λ b. lower_singleton b) bs) → ((q : ℕ) → IfSome (find nat_cmp q (by_singleton bs)) (P q)) → AllByRecursion (λ b. P (lower_singleton b) b.1) bs
 each_block P [] d f = tt
-each_block P (b ∷ bs) d f = (subst (λ (t : Bool). IfSome (cond t (Some b.1) (find nat_cmp (lower_singleton b) (by_singleton bs))) (P (lower_singleton b))) (self_tied (lower_singleton b)) (f (lower_singleton b)), each_block P bs d.1 (λ q. find_later (P q) q b bs d.0 (f q)))
+each_block P (b ∷ bs) d f = (subst (λ (t : Bool). IfSome (cond t (Some b.1) (find nat_cmp (lower_singleton b) (by_singleton bs))) (P (lower_singleton b))) (self_tied (lower_singleton b)) (f (lower_singleton b)), each_block P bs d.1 (λ q. find_later (P q) q b bs (false_from_ne_true _ d.0) (f q)))
 
 -- only the rule of its singleton
 abbrev KnownAt : (ℕ → Bool) → ℕ → List (List ℕ) → Type 0

@@ -10,7 +10,7 @@ use Rattle.iloc_spec_grammar.specs.Values.{lower_identifier, spelled_value, spel
 use Rattle.iloc_spec_grammar.specs.TreeSteps.{TreeWithout, TreeLessTrue, keys_differ, Repeats, Trues, DroppedPieces, VariantOrder, AttributeOrder, FieldOrder, TreeIdentifierStep, ExtensionStep}
 use Rattle.iloc_spec_grammar.proofs.WordsLaws.{lower-lower, lower-title, lower-upper}
 use Rattle.iloc_spec_grammar.proofs.MapLaws.{map_of_sorted, word_cmp_total, same_words}
-use Rattle.iloc_spec_grammar.proofs.ValuesLaws.{set_of_ascending, lower_twice, spelled_transform, same_identifier, filter_all, all_weaker}
+use Rattle.iloc_spec_grammar.proofs.ValuesLaws.{set_of_ascending, lower_twice, spelled_transform, same_identifier, filter_all, all_weaker, ascend_as_keys}
 use Rattle.iloc_spec_grammar.proofs.Orders.{all_reordered, all_repeats}
 use Rattle.iloc_spec_grammar.proofs.CaseLaws.{low, low_fields, low_extension}
 use Rattle.iloc_spec_grammar.proofs.Sorting.{sort, reordered-sort, sorted-sort, dedup, without-dedup, different-dedup, without-filter, filter-passes}
@@ -163,7 +163,7 @@ IsCanonical (transform m) = transform (spelled_transform (normal_transform m)) �
 IsCanonical (other ps) = kept ps ≡ low ps
 
 sorted_set : (ws : List (List ℕ)) → AllDifferent word_cmp (map lower ws) → set_of (low (sort_words ws)) ≡ low (sort_words ws)
-sorted_set ws d = set_of_ascending (low (sort_words ws)) (ap (is_sorted word_cmp) (map-map {B = List ℕ} (λ w. (w, tt {0})) lower (sort_words ws)) ∙ sorted-sort word_cmp lower word_cmp_total (λ w. tt {0}) ws d)
+sorted_set ws d = set_of_ascending (low (sort_words ws)) (ascend_as_keys _ (ap (is_sorted word_cmp) (map-map {B = List ℕ} (λ w. (w, tt {0})) lower (sort_words ws)) ∙ sorted-sort word_cmp lower word_cmp_total (λ w. tt {0}) ws d))
 
 no_true_entries : (fs : Fields) → AllByRecursion (λ f. AllByRecursion (λ q. is_true (lower q) ≡ false) f.1) fs → map {B = List ℕ × List (List ℕ)} (λ f. (lower f.0, normal_values f.1)) fs ≡ low_fields fs
 no_true_entries fs h = map-same (λ f. (lower f.0, normal_values f.1)) (λ f. (lower f.0, low f.1)) fs (all_weaker (λ f. AllByRecursion (λ q. is_true (lower q) ≡ false) f.1) (λ f. (lower f.0, normal_values f.1) ≡ (lower f.0, low f.1)) (λ f n i. (lower f.0, no_true_means f.1 n i)) fs h)

@@ -1,4 +1,5 @@
 -- Worked examples, computed by the plain program.
+use Rattle.std.proofs.lemmas.Bool.{both_ways}
 use Rattle.std.proofs.Common.{◌≡◌, ℕ, List, [], ◌∷◌, refl, codes, Result, Ok, Err, arith, true≢false, None}
 use Rattle.iloc_spec_grammar.specs.Syntax.{pieces, join, is_word, lower, upper, title, is_true, languages, Identifier}
 use Rattle.iloc_spec_grammar.specs.Tree.{transform}
@@ -62,7 +63,7 @@ und = record { language = codes "und"; script = None; region = None; variants = 
 
 pub same_key_in_two_cases : keys_differ ((codes "ca", codes "foo" ∷ []) ∷ (codes "CA", codes "bar" ∷ []) ∷ []) → ⊥
 unfolding lower
-same_key_in_two_cases d = true≢false d.0
+same_key_in_two_cases d = d.0 refl
 
 one_true_of_tree : TreeTextStep languages (codes "und-t-m0-true-true") (codes "und-t-m0-true")
 unfolding pieces join is_word lower is_true languages
@@ -72,7 +73,7 @@ one_true_of_tree = TreeTextStep.rewritten
     (record {
       id = record { words = record { language = refl; script = tt; region = tt; variants = tt }; different = tt };
       extensions = ((refl, record { id = tt; fields = ((refl, (refl, (refl, tt)), omega arith), tt); nonempty = λ e. omega arith }), tt);
-      different = (refl, tt);
+      different = (both_ways _ refl, tt);
       private = tt;
     })
     refl

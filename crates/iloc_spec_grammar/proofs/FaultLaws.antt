@@ -4,7 +4,7 @@ use Rattle.std.specs.List.{AllByRecursion, list_any}
 use Rattle.std.specs.Char.{is_ascii_alphanumeric, to_ascii_lowercase}
 use Rattle.std.specs.Ordering.{nat_cmp, eq_by_cmp}
 use Rattle.std.specs.declared.cmp.Ordering.{Ordering}
-use Rattle.std.proofs.lemmas.Bool.{or_from, or_parts, cond_both, both_ways, eqb-false, cases_Bool}
+use Rattle.std.proofs.lemmas.Bool.{or_from, or_parts, cond_both, both_ways, eqb-false, cases_Bool, false_from_ne_true}
 use Rattle.std.proofs.lemmas.Bool.Decides.{nat_tests}
 use Rattle.std.proofs.lemmas.List.{map-append}
 use Rattle.std.proofs.lemmas.List.Folds.{list_any-append}
@@ -27,7 +27,7 @@ use Rattle.iloc_spec_grammar.proofs.ReadBack.{extension_singleton}
 
 pub some_repeat : {X : Type 0} (cmp : X → X → Ordering) (xs ys : List X) → AllDifferent cmp (xs ++ ys) → AllDifferent cmp xs
 some_repeat cmp [] ys h = tt
-some_repeat cmp (x ∷ xs) ys h = ((or_parts _ _ (sym (list_any-append (eq_by_cmp cmp x) xs ys) ∙ h.0)).0, some_repeat cmp xs ys h.1)
+some_repeat cmp (x ∷ xs) ys h = (both_ways _ (or_parts _ _ (sym (list_any-append (eq_by_cmp cmp x) xs ys) ∙ false_from_ne_true _ h.0)).0, some_repeat cmp xs ys h.1)
 
 -- the variants at the front of the pieces, and the pieces after them
 abbrev pub front_variants : List (List ℕ) → List (List ℕ)
@@ -167,7 +167,7 @@ letter c h = grind (arith, nat_tests)
 -- blocks that follow their rules are good where their singletons differ
 pub good_from : (T : ℕ → Bool) (seen : List ℕ) (bs : List (ℕ × List (List ℕ))) → AllByRecursion (λ b. HasSingleton b × IsBlock T b) bs → AllDifferent nat_cmp (map (λ b. lower_singleton b) bs) → NotSeen seen bs → AreGood T seen bs
 good_from T seen [] h d n = tt
-good_from T seen (b ∷ bs) h d n = ((h.0.0, n.0, h.0.1), good_from T (lower_singleton b ∷ seen) bs h.1 d.1 (see_one (lower_singleton b) seen bs d.0 n.1))
+good_from T seen (b ∷ bs) h d n = ((h.0.0, n.0, h.0.1), good_from T (lower_singleton b ∷ seen) bs h.1 d.1 (see_one (lower_singleton b) seen bs (false_from_ne_true _ d.0) n.1))
 
 pub block_rules : (T : ℕ → Bool) (es : List (ℕ × Extension)) (x : Option (ℕ × List (List ℕ))) → AllByRecursion (λ e. IsExtension T (lower_singleton e) e.1) es → IfSome x (λ e. (lower_singleton e ≡ 120) × IsPrivate e.1) → AllByRecursion (λ b. HasSingleton b × IsBlock T b) (map extension_block es ++ option_to_list x)
 block_rules T [] None h k = tt
@@ -184,8 +184,8 @@ any_by T c (e ∷ es) x n a k = let parts = or_parts _ _ a in or_from _ _ parts.
 
 pub different_by : (T : ℕ → Bool) (es : List (ℕ × Extension)) (x : Option (ℕ × List (List ℕ))) → AllByRecursion (λ e. IsExtension T (lower_singleton e) e.1) es → AllDifferent nat_cmp (map (λ e. lower_singleton e) es) → IfSome x (λ e. (lower_singleton e ≡ 120) × IsPrivate e.1) → AllDifferent nat_cmp (map (λ b. lower_singleton b) (map extension_block es ++ option_to_list x))
 different_by T [] None h d k = tt
-different_by T [] (Some b) h d k = (refl, tt)
-different_by T (e ∷ es) x h d k = (any_by T (lower_singleton e) es x (rule_no_x T (lower_singleton e) e.1 h.0) d.0 k, different_by T es x h.1 d.1 k)
+different_by T [] (Some b) h d k = (both_ways _ refl, tt)
+different_by T (e ∷ es) x h d k = (both_ways _ (any_by T (lower_singleton e) es x (rule_no_x T (lower_singleton e) e.1 h.0) (false_from_ne_true _ d.0) k), different_by T es x h.1 d.1 k)
 
 pub written_good : {T : ℕ → Bool} (w : Written) → IsWritten T w → AreGood T [] (blocks_of w)
 written_good {T = T} w h = good_from T [] (blocks_of w) (block_rules T w.extensions w.private h.extensions h.private) (different_by T w.extensions w.private h.extensions h.different h.private) (all_of _ (λ b. refl) (blocks_of w))
@@ -246,7 +246,7 @@ are_read T seen (b ∷ bs) g = at_block g.0.2 (are_read T (lower_singleton b ∷
     at_block (inl p) r = let t : (lower_singleton b == 120) ≡ true = rw p.0 in rw t (record { rules = tt; different = tt; unseen = tt; private = p })
     at_block (inr q) r =
         let parts = unsee_one (lower_singleton b) seen (extensions_in bs) r.unseen in
-        rw (is_no_x T (lower_singleton b) q.0 q.1) (record { rules = (extension_read T (lower_singleton b) b.1 q, r.rules); different = (parts.0, r.different); unseen = (g.0.1, parts.1); private = r.private })
+        rw (is_no_x T (lower_singleton b) q.0 q.1) (record { rules = (extension_read T (lower_singleton b) b.1 q, r.rules); different = (both_ways _ parts.0, r.different); unseen = (g.0.1, parts.1); private = r.private })
 
 -- good blocks make a locale
 

@@ -8,7 +8,7 @@ use Rattle.std.specs.Cmp.{IsTotalOrder, Equal-is, tied_itself}
 use Rattle.std.specs.Cmp.Lexicographic.{nat_list_cmp_total}
 use Rattle.std.specs.FinMap.{put, find, is_sorted, IsAntisymmetric, nat_cmp-IsAntisymmetric, slice_cmp-IsAntisymmetric}
 use Rattle.std.specs.FinMap.Entries.{by_order, below_all, is_sorted-put, find-put, same_entries}
-use Rattle.std.proofs.lemmas.Bool.{and_parts}
+use Rattle.std.proofs.lemmas.Bool.{and_parts, both_ways}
 use Rattle.iloc_spec_grammar.specs.Syntax.{word_cmp, is_same, AllDifferent}
 use Rattle.iloc_spec_grammar.specs.Meaning.{map_of}
 use Rattle.std.proofs.lemmas.Float.{T_from_true}
@@ -78,7 +78,7 @@ module _ {K X : Type 0} (R : K → K → Ordering) where
 
   pub sorted_different : (es : List (K × X)) → is_sorted R es ≡ true → AllDifferent R (map (λ e. e.0) es)
   sorted_different [] h = tt
-  sorted_different (e ∷ es) h = let parts = and_parts _ _ h in (below_differs e.0 es parts.0, sorted_different es parts.1)
+  sorted_different (e ∷ es) h = let parts = and_parts _ _ h in (both_ways _ (below_differs e.0 es parts.0), sorted_different es parts.1)
 
 -- words that are the same
 

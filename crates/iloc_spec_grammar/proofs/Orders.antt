@@ -42,8 +42,8 @@ any_reordered test (Reordered.in_turn r s) = any_reordered test r ∙ any_reorde
 
 pub different_reordered : {X : Type 0} (R : X → X → Ordering) → IsTotalOrder R → {xs ys : List X} → Reordered xs ys → AllDifferent R xs → AllDifferent R ys
 different_reordered R o Reordered.none h = tt
-different_reordered R o (Reordered.front_kept {x = x} r) h = (sym (any_reordered (eq_by_cmp R x) r) ∙ h.0, different_reordered R o r h.1)
-different_reordered R o (Reordered.first_two {x = x} {y = y}) h = let parts = or_parts _ _ h.0 in (or_from _ _ ((eq_by_cmp_equiv o).symm y x ∙ parts.0) h.1.0, (parts.1, h.1.1))
+different_reordered R o (Reordered.front_kept {x = x} r) h = (both_ways _ (sym (any_reordered (eq_by_cmp R x) r) ∙ false_from_ne_true _ h.0), different_reordered R o r h.1)
+different_reordered R o (Reordered.first_two {x = x} {y = y}) h = let parts = or_parts _ _ (false_from_ne_true _ h.0) in (both_ways _ (or_from _ _ ((eq_by_cmp_equiv o).symm y x ∙ parts.0) (false_from_ne_true _ h.1.0)), (both_ways _ parts.1, h.1.1))
 different_reordered R o (Reordered.in_turn r s) h = different_reordered R o s (different_reordered R o r h)
 
 -- a test that holds of one of two that differ fails at the other
@@ -58,7 +58,7 @@ swap_conds false b x y z h = refl
 pub find_reordered : {K X : Type 0} (R : K → K → Ordering) → IsTotalOrder R → (q : K) → {es fs : List (K × X)} → Reordered es fs → AllDifferent R (map (λ e. e.0) es) → find R q es ≡ find R q fs
 find_reordered R o q Reordered.none h = refl
 find_reordered R o q (Reordered.front_kept {x = x} r) h = ap (cond (eq_by_cmp R q x.0) (Some x.1)) (find_reordered R o q r h.1)
-find_reordered R o q (Reordered.first_two {x = x} {y = y}) h = swap_conds (eq_by_cmp R q x.0) (eq_by_cmp R q y.0) _ _ _ (apart R o q x.0 y.0 (or_parts _ _ h.0).0)
+find_reordered R o q (Reordered.first_two {x = x} {y = y}) h = swap_conds (eq_by_cmp R q x.0) (eq_by_cmp R q y.0) _ _ _ (apart R o q x.0 y.0 (or_parts _ _ (false_from_ne_true _ h.0)).0)
 find_reordered R o q (Reordered.in_turn r s) h = find_reordered R o q r h ∙ find_reordered R o q s (different_reordered R o (map_reordered (λ e. e.0) r) h)
 
 same_value : {A : Type 0} (a b : Bool) (x z : A) → cond a x (cond b x z) ≡ cond b x (cond a x z)

@@ -3,7 +3,7 @@ use Rattle.std.proofs.Common.{◌≡◌, ◌⊎◌, ℕ, ◌+◌, ◌<◌, Bool,
 use Rattle.std.specs.List.{AllByRecursion, list_all}
 use Rattle.std.specs.Int.{is_in_range}
 use Rattle.std.specs.declared.cmp.Ordering.{Ordering}
-use Rattle.std.proofs.lemmas.Bool.{false_from_ne_true, not-true, not_from_false}
+use Rattle.std.proofs.lemmas.Bool.{false_from_ne_true, not-true, not_from_false, both_ways}
 use Rattle.std.proofs.lemmas.Bool.Decides.{Decides-ltb, Decides-eqb, Decides-and, Decides-or}
 use Rattle.iloc_spec_grammar.specs.Syntax.{Kind, Language, Script, Region, Variant, UnicodeKey, TransformKey, Attribute, PrivateSubtag, is_word, IsWord, lower, word_cmp, Identifier, Unicode, Transform, kept, HasWords, IsIdentifier, IsKeyword, IsField, IsOther, lower_singleton, AllDifferent, IsPrivate}
 use Rattle.iloc_spec_grammar.specs.Tree.{Extension, unicode, transform, other, extension_pieces, IsUnicodeBlock, IsTransformBlock, IsExtension, IsBlock}
@@ -46,7 +46,7 @@ tests_if_some test P t (Some x) = t x
 
 pub tests_different : {X : Type 0} (cmp : X → X → Ordering) (xs : List X) → Tests (all_different cmp xs) (AllDifferent cmp xs)
 tests_different cmp [] = record { holds = λ e. tt; passes = λ h. refl }
-tests_different cmp (x ∷ xs) = tests_and (record { holds = not-true _; passes = not_from_false _ }) (tests_different cmp xs)
+tests_different cmp (x ∷ xs) = tests_and (record { holds = λ e. both_ways _ (not-true _ e); passes = λ n. not_from_false _ (false_from_ne_true _ n) }) (tests_different cmp xs)
 
 pub tests_positive : (n : ℕ) → Tests (nat_lt 0 n) (0 < n)
 tests_positive n = record { holds = (Decides-ltb 0 n).0; passes = (Decides-ltb 0 n).1 }

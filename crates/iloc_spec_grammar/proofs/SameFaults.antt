@@ -1,5 +1,5 @@
 -- The fault of a text is the same by its blocks as by its tree.
-use Rattle.std.proofs.Common.{◌≡◌, ◌⊎◌, inl, inr, ℕ, Bool, true, false, cond, ◌==◌, ◌||◌, List, [], ◌∷◌, ◌++◌, refl, sym, ap, ◌∙◌, subst, true≢false, append-nil, Result, Ok, Err, MatchResult, ◌↔◌}
+use Rattle.std.proofs.Common.{◌≡◌, ◌⊎◌, inl, inr, ℕ, Bool, true, false, cond, ◌==◌, ◌||◌, List, [], ◌∷◌, ◌++◌, refl, sym, ap, ◌∙◌, subst, true≢false, append-nil, Result, Ok, Err, MatchResult, ◌↔◌, map}
 use Rattle.std.specs.List.{list_any}
 use Rattle.std.specs.Char.{is_ascii_alphanumeric}
 use Rattle.std.specs.Cmp.{unsigned_tied}
@@ -12,7 +12,7 @@ use Rattle.iloc_spec_grammar.specs.Meaning.{Locale, Means, Fault, RepeatsVariant
 use Rattle.iloc_spec_grammar.specs.Computing.{locale_result}
 use Rattle.iloc_spec_grammar.proofs.FaultLaws as trees
 use Rattle.iloc_spec_grammar.proofs.FaultLaws.{AreGood, letter}
-use Rattle.iloc_spec_grammar.proofs.Singletons.{lower_letter}
+use Rattle.iloc_spec_grammar.proofs.Singletons.{lower_letter, tied}
 use Rattle.iloc_spec_grammar.proofs.SameMeaning.{good_blocks, blocks_spelled, good_text, tree_means}
 
 -- what was seen before a block are the singletons of the good blocks before it
@@ -27,11 +27,11 @@ shuffle true false z = refl
 shuffle false true z = refl
 shuffle false false z = refl
 
-any_seen : (c : ℕ) (seen : List ℕ) (bs : List (ℕ × List (List ℕ))) → list_any (eq_by_cmp nat_cmp c) (seen_after seen bs) ≡ (list_any (λ d. c == lower_singleton d) bs || list_any (eq_by_cmp nat_cmp c) seen)
+any_seen : (c : ℕ) (seen : List ℕ) (bs : List (ℕ × List (List ℕ))) → list_any (eq_by_cmp nat_cmp c) (seen_after seen bs) ≡ (list_any (eq_by_cmp nat_cmp c) (map (λ d. lower_singleton d) bs) || list_any (eq_by_cmp nat_cmp c) seen)
 any_seen c seen [] = refl
-any_seen c seen (b ∷ bs) = any_seen c (lower_singleton b ∷ seen) bs ∙ ap (λ t. list_any (λ d. c == lower_singleton d) bs || (t || list_any (eq_by_cmp nat_cmp c) seen)) (unsigned_tied c (lower_singleton b)) ∙ shuffle _ (c == lower_singleton b) _
+any_seen c seen (b ∷ bs) = any_seen c (lower_singleton b ∷ seen) bs ∙ shuffle _ (eq_by_cmp nat_cmp c (lower_singleton b)) _
 
-seen_is : (b : ℕ × List (List ℕ)) (good : List (ℕ × List (List ℕ))) → list_any (eq_by_cmp nat_cmp (lower_singleton b)) (seen_after [] good) ≡ list_any (λ c. lower_singleton b == lower_singleton c) good
+seen_is : (b : ℕ × List (List ℕ)) (good : List (ℕ × List (List ℕ))) → list_any (eq_by_cmp nat_cmp (lower_singleton b)) (seen_after [] good) ≡ list_any (eq_by_cmp nat_cmp (lower_singleton b)) (map (λ c. lower_singleton c) good)
 seen_is b good = any_seen (lower_singleton b) [] good ∙ or-false _
 
 is_new : (b : ℕ × List (List ℕ)) (good : List (ℕ × List (List ℕ))) → ¬ (IsSecond good b) → IsNew (seen_after [] good) b
@@ -42,8 +42,8 @@ no_second b good e s = true≢false (sym s ∙ sym (seen_is b good) ∙ e)
 
 second_letter : (T : ℕ → Bool) (seen : List ℕ) (b : ℕ × List (List ℕ)) (good : List (ℕ × List (List ℕ))) → AreGood T seen good → IsSecond good b → HasSingleton b
 second_letter T seen b [] g s = absurd (true≢false (sym s))
-second_letter T seen b (c ∷ cs) g s = elim (or_cases (lower_singleton b == lower_singleton c) _ s) [
-  | inl e ↦ letter b.0 (subst (λ (n : ℕ). is_ascii_alphanumeric n ≡ true) (sym (eqb-true (lower_singleton b) (lower_singleton c) e)) (lower_letter c.0 g.0.0))
+second_letter T seen b (c ∷ cs) g s = elim (or_cases (eq_by_cmp nat_cmp (lower_singleton b) (lower_singleton c)) _ s) [
+  | inl e ↦ letter b.0 (subst (λ (n : ℕ). is_ascii_alphanumeric n ≡ true) (tied (lower_singleton b) (lower_singleton c) e) (lower_letter c.0 g.0.0))
   | inr e ↦ second_letter T (lower_singleton c ∷ seen) b cs g.1 e
 ]
 

@@ -4,7 +4,7 @@ use Rattle.std.specs.List.{AllByRecursion, list_any}
 use Rattle.std.specs.Char.{is_ascii_alphanumeric}
 use Rattle.std.specs.Ordering.{nat_cmp, eq_by_cmp}
 use Rattle.std.specs.FinMap.{find}
-use Rattle.std.proofs.lemmas.Bool.{or_parts, cond_both}
+use Rattle.std.proofs.lemmas.Bool.{or_parts, cond_both, false_from_ne_true, both_ways}
 use Rattle.std.proofs.lemmas.Bool.Decides.{nat_tests}
 use Rattle.iloc_spec_grammar.specs.Syntax.{pieces, AreLengths, PrivateSubtag, IsWord, lower, Identifier, Fields, Unicode, Transform, fields_pieces, unicode_pieces, transform_pieces, IsUnicode, IsTransform, IsOther, kept, is_other_singleton, lower_singleton, AllDifferent, head, tail_blocks}
 use Rattle.iloc_spec_grammar.specs.Tree.{Extension, unicode, transform, other, extension_pieces, IsExtension, TreeMeans, meaning, by_singleton, IsBlock, HasSingleton}
@@ -34,7 +34,7 @@ none_after q (b ∷ bs) d = let parts = or_parts _ _ d in rw (same_test q (lower
 after_find : (q : ℕ) (bs : List (ℕ × List (List ℕ))) → AllDifferent nat_cmp (map (λ b. lower_singleton b) bs) → after q bs ≡ or_empty (find nat_cmp q (by_singleton bs))
 after_find q [] d = refl
 after_find q (b ∷ bs) d = ap (λ t. cond t b.1 [] ++ after q bs) (same_test q (lower_singleton b)) ∙ cond_both (eq_by_cmp nat_cmp q (lower_singleton b)) _ _ (λ o. cond (eq_by_cmp nat_cmp q (lower_singleton b)) b.1 [] ++ after q bs ≡ or_empty o)
-    (λ e. rw e (ap (λ l. b.1 ++ l) (none_after q bs (subst (λ (c : ℕ). list_any (eq_by_cmp nat_cmp c) (map (λ b. lower_singleton b) bs) ≡ false) (tied q (lower_singleton b) e) d.0)) ∙ append-nil b.1))
+    (λ e. rw e (ap (λ l. b.1 ++ l) (none_after q bs (subst (λ (c : ℕ). list_any (eq_by_cmp nat_cmp c) (map (λ b. lower_singleton b) bs) ≡ false) (tied q (lower_singleton b) e) (false_from_ne_true _ d.0))) ∙ append-nil b.1))
     (λ e. rw e (after_find q bs d.1))
 
 -- parts that are spelled by some piece, and by none
@@ -137,7 +137,7 @@ good_parts : (T : ℕ → Bool) (seen : List ℕ) (bs : List (ℕ × List (List 
 good_parts T seen [] g = record { rules = tt; different = tt; unseen = tt }
 good_parts T seen (b ∷ bs) g =
     let r = good_parts T (lower_singleton b ∷ seen) bs g.1 in let parts = unsee_one (lower_singleton b) seen bs r.unseen in
-    record { rules = ((g.0.0, g.0.2), r.rules); different = (parts.0, r.different); unseen = (g.0.1, parts.1) }
+    record { rules = ((g.0.0, g.0.2), r.rules); different = (both_ways _ parts.0, r.different); unseen = (g.0.1, parts.1) }
 
 -- a block has a piece
 rule_some : (T : ℕ → Bool) (q : ℕ) (ps : List (List ℕ)) → RuleAt T q ps → 0 < length ps

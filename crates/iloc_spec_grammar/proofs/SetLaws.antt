@@ -13,7 +13,7 @@ use Rattle.iloc_spec_grammar.specs.Syntax.{word_cmp, is_same, AllDifferent}
 use Rattle.iloc_spec_grammar.specs.Meaning.{map_of, set_of}
 use Rattle.iloc_spec_grammar.proofs.MapLaws.{word_cmp_total, same_words, find-map_of, sorted-map_of, map_of_same}
 use Rattle.iloc_spec_grammar.proofs.ValuesLaws.{unmarked}
-use Rattle.std.proofs.lemmas.Bool.{cond_both}
+use Rattle.std.proofs.lemmas.Bool.{cond_both, false_from_ne_true}
 
 module _ {K X : Type 0} (R : K → K → Ordering) where
   -- what is found in two lists, one after the other
@@ -84,4 +84,4 @@ length-set_of (w ∷ ws) = let h = length-set_of ws in rw (length-set_of-cons w 
 -- different words are as many in their set
 pub length-set_of-different : (ws : List (List ℕ)) → AllDifferent word_cmp ws → length (set_of ws) ≡ length ws
 length-set_of-different [] d = refl
-length-set_of-different (w ∷ ws) d = let h = length-set_of-different ws d.1 in let e : length (set_of (w ∷ ws)) ≡ length (set_of ws) + 1 = length-set_of-cons w ws ∙ ap (λ b. cond b (length (set_of ws)) (length (set_of ws) + 1)) d.0 in omega arith
+length-set_of-different (w ∷ ws) d = let h = length-set_of-different ws d.1 in let e : length (set_of (w ∷ ws)) ≡ length (set_of ws) + 1 = length-set_of-cons w ws ∙ ap (λ b. cond b (length (set_of ws)) (length (set_of ws) + 1)) (false_from_ne_true _ d.0) in omega arith

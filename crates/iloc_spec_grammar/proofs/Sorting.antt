@@ -72,7 +72,7 @@ module _ {K X : Type 0} (R : K → K → Ordering) (key : X → K) where
     -- items whose keys differ are in order once sorted
     pub sorted-sort : (xs : List X) → AllDifferent R (map key xs) → is_sorted R (listed value (sort xs)) ≡ true
     sorted-sort [] d = refl
-    sorted-sort (x ∷ xs) d = sorted-put_in x (sort xs) (any-sort (eq_by_cmp R (key x)) xs ∙ d.0) (sorted-sort xs d.1)
+    sorted-sort (x ∷ xs) d = sorted-put_in x (sort xs) (any-sort (eq_by_cmp R (key x)) xs ∙ false_from_ne_true _ d.0) (sorted-sort xs d.1)
 
 -- repeats
 
@@ -98,7 +98,7 @@ module _ {X : Type 0} (key : X → List ℕ) where
 
   pub different-dedup : (seen : List (List ℕ)) (xs : List X) → AllDifferent word_cmp (keys (dedup seen xs))
   different-dedup seen [] = tt
-  different-dedup seen (x ∷ xs) = cond_both (list_any (is_same (lower (key x))) seen) _ _ (λ l. AllDifferent word_cmp (keys l)) (λ _. different-dedup seen xs) (λ _. (unseen-dedup (lower (key x)) (lower (key x) ∷ seen) xs (or_left _ _ ((eq_by_cmp_equiv word_cmp_total).refl (lower (key x)))), different-dedup (lower (key x) ∷ seen) xs))
+  different-dedup seen (x ∷ xs) = cond_both (list_any (is_same (lower (key x))) seen) _ _ (λ l. AllDifferent word_cmp (keys l)) (λ _. different-dedup seen xs) (λ _. (both_ways _ (unseen-dedup (lower (key x)) (lower (key x) ∷ seen) xs (or_left _ _ ((eq_by_cmp_equiv word_cmp_total).refl (lower (key x))))), different-dedup (lower (key x) ∷ seen) xs))
 
 -- what doesn't pass
 

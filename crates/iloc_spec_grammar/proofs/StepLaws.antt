@@ -6,7 +6,7 @@ use Rattle.std.specs.Int.{is_in_range}
 use Rattle.std.specs.Ordering.{nat_cmp, eq_by_cmp}
 use Rattle.std.specs.Cmp.{nat_cmp_total}
 use Rattle.std.specs.FinMap.{find, nat_cmp-IsAntisymmetric}
-use Rattle.std.proofs.lemmas.Bool.{or_parts, or_from, not-true}
+use Rattle.std.proofs.lemmas.Bool.{or_parts, or_from, not-true, both_ways, false_from_ne_true}
 use Rattle.iloc_spec_grammar.specs.Syntax.{Variant, Subtag, UnicodeKey, TransformKey, Attribute, is_word, IsWord, lower, word_cmp, is_true, Identifier, Fields, IsIdentifier, IsKeyword, IsField, kept, lower_singleton, AllDifferent}
 use Rattle.iloc_spec_grammar.specs.Tree.{Extension, other, Written, IsExtension, IsWritten, unicode_part, transform_part, private_part, other_part, by_singleton, meaning}
 use Rattle.iloc_spec_grammar.specs.Meaning.{map_of, set_of, normal_identifier, normal_values, normal_fields}
@@ -180,7 +180,7 @@ different_others [] d = tt
 different_others (e ∷ es) d = at_kind e.1 (different_others es d.1)
   where
     at_kind : (x : Extension) → AllDifferent nat_cmp (map (λ (o : ℕ × List (List ℕ)). o.0) (filter_map other_part es)) → AllDifferent nat_cmp (map (λ (o : ℕ × List (List ℕ)). o.0) (filter_map other_part ((e.0, x) ∷ es)))
-    at_kind (other ps) rest = (none_among_others e.0 es d.0, rest)
+    at_kind (other ps) rest = (both_ways _ (none_among_others e.0 es (false_from_ne_true _ d.0)), rest)
     at_kind _ rest = rest
 
 others_reordered : {es fs : List (ℕ × Extension)} → Reordered es fs → AllDifferent nat_cmp (map (λ e. lower_singleton e) es) → map_of nat_cmp (filter_map other_part (by_singleton es)) ≡ map_of nat_cmp (filter_map other_part (by_singleton fs))

@@ -1,14 +1,18 @@
 -- A value is its own normal form, and its printed form means it.
 use Rattle.std.proofs.Common.{◌≡◌, ◌≢◌, ℕ, ◌+◌, ◌<◌, Bool, true, false, not, List, [], ◌∷◌, length, map, filter, refl, sym, ap, ap₂, ◌∙◌, subst, arith, Option, Some, None, IfSome, option_map}
 use Rattle.std.specs.List.{AllByRecursion}
+use Rattle.std.specs.Ordering.{is_lt}
+use Rattle.std.specs.declared.cmp.Ordering.TheVariants.{Less}
 use Rattle.std.specs.FinMap.{is_sorted}
+use Rattle.std.specs.FinMap.Entries.{below_all}
+use Rattle.std.proofs.lemmas.Bool.{and_parts, and_from}
 use Rattle.std.proofs.lemmas.Bool.Decides.{nat_tests}
 use Rattle.iloc_spec_grammar.specs.Syntax.{Kind, Language, Script, Region, Variant, Subtag, UnicodeKey, TransformKey, Attribute, is_word, IsWord, normal, lower, upper, title, word_cmp, is_true, Identifier, Fields, Unicode, Transform, identifier_pieces, HasWords, IsIdentifier, IsKeyword, IsField, AllDifferent}
 use Rattle.iloc_spec_grammar.specs.Tree.{IsUnicodeBlock, IsTransformBlock}
 use Rattle.iloc_spec_grammar.specs.Meaning.{map_of, set_of, normal_identifier, normal_unicode, normal_transform, normal_fields, normal_values, IdentifierMeans}
-use Rattle.iloc_spec_grammar.specs.Values.{IsNormal, IsAscending, IsIdentifierValue, IsUnicodeValue, IsTransformValue, lower_identifier, spelled_value, spelled_fields}
+use Rattle.iloc_spec_grammar.specs.Values.{IsNormal, StrictlyAscends, IsIdentifierValue, IsUnicodeValue, IsTransformValue, lower_identifier, spelled_value, spelled_fields}
 use Rattle.iloc_spec_grammar.proofs.WordsLaws.{lower-lower, title-lower, upper-lower, is_word-lower}
-use Rattle.iloc_spec_grammar.proofs.MapLaws.{map_of_sorted, sorted_different}
+use Rattle.iloc_spec_grammar.proofs.MapLaws.{map_of_sorted, sorted_different, less}
 use Rattle.iloc_spec_grammar.proofs.General.{all_mapped, some_mapped, map-then, option_map-then}
 use Rattle.std.proofs.lemmas.List.{length-map}
 use Rattle.std.proofs.lemmas.Option.{IfSome_then}
@@ -29,12 +33,30 @@ pub unmarked : (ws : List (List ℕ)) → map (λ (e : List ℕ × Unit {0}). e.
 unmarked [] = refl
 unmarked (w ∷ ws) = ap (λ l. w ∷ l) (unmarked ws)
 
--- words in order are their own set, and differ
-pub set_of_ascending : (ws : List (List ℕ)) → IsAscending ws → set_of ws ≡ ws
-set_of_ascending ws h = ap (map (λ (e : List ℕ × Unit {0}). e.0)) (map_of_sorted word_cmp _ h) ∙ unmarked ws
+-- Words in order are the keys of a map in order, and the other way round.
 
-pub ascending_different : (ws : List (List ℕ)) → IsAscending ws → AllDifferent word_cmp ws
-ascending_different ws h = subst (AllDifferent word_cmp) (unmarked ws) (sorted_different word_cmp _ h)
+all_below : (w : List ℕ) (ws : List (List ℕ)) → AllByRecursion (λ v. word_cmp w v ≡ Less) ws → below_all word_cmp w (map (λ w. (w, tt {0})) ws) ≡ true
+all_below w [] h = refl
+all_below w (v ∷ ws) h = and_from _ _ (ap is_lt h.0) (all_below w ws h.1)
+
+below_each : (w : List ℕ) (ws : List (List ℕ)) → below_all word_cmp w (map (λ w. (w, tt {0})) ws) ≡ true → AllByRecursion (λ v. word_cmp w v ≡ Less) ws
+below_each w [] h = tt
+below_each w (v ∷ ws) h = let parts = and_parts _ _ h in (less _ parts.0, below_each w ws parts.1)
+
+pub keys_ascend : (ws : List (List ℕ)) → StrictlyAscends word_cmp ws → is_sorted word_cmp (map (λ w. (w, tt {0})) ws) ≡ true
+keys_ascend [] h = refl
+keys_ascend (w ∷ ws) h = and_from _ _ (all_below w ws h.0) (keys_ascend ws h.1)
+
+pub ascend_as_keys : (ws : List (List ℕ)) → is_sorted word_cmp (map (λ w. (w, tt {0})) ws) ≡ true → StrictlyAscends word_cmp ws
+ascend_as_keys [] h = tt
+ascend_as_keys (w ∷ ws) h = let parts = and_parts _ _ h in (below_each w ws parts.0, ascend_as_keys ws parts.1)
+
+-- words in order are their own set, and differ
+pub set_of_ascending : (ws : List (List ℕ)) → StrictlyAscends word_cmp ws → set_of ws ≡ ws
+set_of_ascending ws h = ap (map (λ (e : List ℕ × Unit {0}). e.0)) (map_of_sorted word_cmp _ (keys_ascend ws h)) ∙ unmarked ws
+
+pub ascending_different : (ws : List (List ℕ)) → StrictlyAscends word_cmp ws → AllDifferent word_cmp ws
+ascending_different ws h = subst (AllDifferent word_cmp) (unmarked ws) (sorted_different word_cmp _ (keys_ascend ws h))
 
 -- identifiers
 

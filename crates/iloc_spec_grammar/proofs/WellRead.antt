@@ -10,10 +10,10 @@ use Rattle.std.proofs.lemmas.Str.Ascii.{lowercase-lowercase}
 use Rattle.iloc_spec_grammar.specs.Syntax.{Kind, Language, Script, Region, Variant, Subtag, UnicodeKey, TransformKey, Attribute, PrivateSubtag, is_word, IsWord, normal, lower, word_cmp, is_true, Identifier, Fields, Unicode, Transform, HasWords, IsIdentifier, IsKeyword, IsOther, kept, is_other_singleton, lower_singleton, IsPrivate}
 use Rattle.iloc_spec_grammar.specs.Tree.{Extension, unicode, transform, other, Written, IsUnicodeBlock, IsTransformBlock, IsExtension, IsWritten, unicode_part, transform_part, private_part, other_part, by_singleton, extensions_meaning, meaning, TreeMeans, IsTreeWellFormed}
 use Rattle.iloc_spec_grammar.specs.Meaning.{map_of, set_of, normal_identifier, normal_values, normal_fields, normal_unicode, normal_transform, Locale}
-use Rattle.iloc_spec_grammar.specs.Values.{IsNormal, IsAscending, IsIdentifierValue, IsUnicodeValue, IsTransformValue, IsValue}
+use Rattle.iloc_spec_grammar.specs.Values.{IsNormal, StrictlyAscends, IsIdentifierValue, IsUnicodeValue, IsTransformValue, IsValue}
 use Rattle.iloc_spec_grammar.proofs.WordsLaws.{length-attribute}
 use Rattle.iloc_spec_grammar.proofs.MapLaws.{is_sorted-map_of, all-map_of, word_cmp_total, same_words}
-use Rattle.iloc_spec_grammar.proofs.ValuesLaws.{all_weaker}
+use Rattle.iloc_spec_grammar.proofs.ValuesLaws.{all_weaker, ascend_as_keys}
 use Rattle.iloc_spec_grammar.proofs.SetLaws.{remarked}
 use Rattle.iloc_spec_grammar.proofs.ReadWords.{IsNormal-normal}
 use Rattle.iloc_spec_grammar.proofs.ReadBack.{plain_fields}
@@ -26,8 +26,8 @@ use Rattle.std.proofs.lemmas.Bool.{cond_both, not-true}
 pub all-set_of : (P : List ℕ → Type 0) (ws : List (List ℕ)) → AllByRecursion P ws → AllByRecursion P (set_of ws)
 all-set_of P ws h = all_mapped (λ (e : List ℕ × Unit {0}). P e.0) P (λ e. e.0) (λ e p. p) _ (all-map_of word_cmp same_words (λ e. P e.0) _ (all_mapped P (λ e. P e.0) (λ w. (w, tt {0})) (λ w p. p) ws h))
 
-pub set_of-ascending : (ws : List (List ℕ)) → IsAscending (set_of ws)
-set_of-ascending ws = let es = map (λ w. (w, tt {0})) ws in ap (is_sorted word_cmp) (remarked (map_of word_cmp es)) ∙ is_sorted-map_of word_cmp word_cmp_total es
+pub set_of-ascending : (ws : List (List ℕ)) → StrictlyAscends word_cmp (set_of ws)
+set_of-ascending ws = let es = map (λ w. (w, tt {0})) ws in ascend_as_keys _ (ap (is_sorted word_cmp) (remarked (map_of word_cmp es)) ∙ is_sorted-map_of word_cmp word_cmp_total es)
 
 -- parts
 
@@ -104,7 +104,7 @@ follows T c _ h = h.1
 
 part_unicode : (T : ℕ → Bool) (o : Option Extension) → IfSome o (FollowsRule T) → IsUnicodeValue (unicode_part o)
 part_unicode T (Some (unicode u)) h = unicode_value u h
-part_unicode T _ h = record { attributes = tt; ascending = refl; keywords = tt; keys_ascend = refl }
+part_unicode T _ h = record { attributes = tt; ascending = tt; keywords = tt; keys_ascend = refl }
 
 part_well : (T : ℕ → Bool) (o : Option Extension) → IfSome o (FollowsRule T) → AllByRecursion (λ f. AllByRecursion (λ w. (is_true w ≡ false) × (length w ≢ 2)) f.1) (unicode_part o).keywords
 part_well T (Some (unicode u)) h = unicode_well u h

@@ -54,7 +54,7 @@ grammar_rules T = record {
 
 -- the blocks of other extensions
 abbrev pub other_blocks : List Block → List Block
-other_blocks bs = filter (λ b. is_other_singleton b.0) bs
+other_blocks bs = filter (λ (c, _). is_other_singleton c) bs
 
 -- the block gives the part by its rule; an absent block gives the empty part
 abbrev pub PartIs : {X : Type 0} → (List Text → X → Type 0) → X → Option (List Text) → X → Type 0
@@ -63,15 +63,15 @@ PartIs Rule empty block v = MatchOption block (v ≡ empty) (λ ps. Rule ps v)
 -- Singletons are letters or digits and differ, the blocks of `u`, `t` and `x`
 -- give their parts, and each other one the words that it keeps.
 pub record BlocksGive (R : Rules) (bs : List Block) (e : Extensions) : Type 0 where
-  pub letters : AllByRecursion (λ b. is_ascii_alphanumeric b.0 ≡ true) bs
+  pub letters : AllByRecursion (λ (c, _). is_ascii_alphanumeric c ≡ true) bs
   pub different : AllDifferent nat_cmp (map (λ b. lower_singleton b) bs)
   pub unicode : PartIs R.unicode no_unicode (find nat_cmp code_u (by_singleton bs)) e.unicode
   pub transform : PartIs R.transform no_transform
       (find nat_cmp code_t (by_singleton bs)) e.transform
   pub private : PartIs R.private [] (find nat_cmp code_x (by_singleton bs)) e.private
-  pub each_other : AllByRecursion (λ b. R.other b.1 (kept b.1)) (other_blocks (by_singleton bs))
+  pub each_other : AllByRecursion (λ (_, ps). R.other ps (kept ps)) (other_blocks (by_singleton bs))
   pub others : e.others
-      ≡ map_of nat_cmp (map (λ b. (b.0, kept b.1)) (other_blocks (by_singleton bs)))
+      ≡ map_of nat_cmp (map (λ (c, ps). (c, kept ps)) (other_blocks (by_singleton bs)))
 
 -- The head is an identifier, and the blocks after it give the extensions.
 pub record MeansBy (R : Rules) (T : LanguageLengths) (t : Text) (M : Locale) : Type 0 where

@@ -2,7 +2,7 @@
 -- what Reading reads; the law `computed` says that the answers are those of `Means` and `HasFault`,
 -- so examples can be computed.
 use Rattle.std.specs.Prelude.{ℕ, ◌+◌, Bool, true, not, ◌&&◌, ◌||◌, ◌==◌, List, [], ◌∷◌, length, map, Option, Some, None, is_some, Result, Ok, Err, nat_lt, if◌then◌else◌}
-use Rattle.std.specs.Char.{is_ascii_alphanumeric}
+use Rattle.std.specs.Char.{is_ascii_alphanumeric, to_ascii_lowercase}
 use Rattle.std.specs.Int.{is_in_range}
 use Rattle.std.specs.List.{list_any, list_all}
 use Rattle.std.specs.Ordering.{nat_cmp, eq_by_cmp}
@@ -36,7 +36,7 @@ is_identifier T i = has_words T i && all_different word_cmp (map lower i.variant
 
 -- computes `IsKeyword`: a key and its values
 abbrev pub is_keyword : Field → Bool
-is_keyword f = is_word UnicodeKey f.0 && list_all (is_word Attribute) f.1
+is_keyword (key, values) = is_word UnicodeKey key && list_all (is_word Attribute) values
 
 -- computes `IsUnicodeBlock`: attributes and keywords, one at least
 abbrev pub is_unicode : Unicode → Bool
@@ -45,7 +45,8 @@ is_unicode u = (list_all (is_word Attribute) u.attributes && list_all is_keyword
 
 -- computes `IsField`: a key and one value or more
 abbrev pub is_field : Field → Bool
-is_field f = (is_word TransformKey f.0 && list_all (is_word Attribute) f.1) && nat_lt 0 (length f.1)
+is_field (key, values) = (is_word TransformKey key && list_all (is_word Attribute) values)
+    && nat_lt 0 (length values)
 
 -- computes `IsTransformBlock`: perhaps an identifier, and fields, not both absent
 abbrev pub is_transform : LanguageLengths → Transform → Bool
@@ -68,8 +69,8 @@ is_extension T c (other ps) = is_other_singleton c && is_other ps
 
 -- computes `IsBlock`: the block follows the rule of its singleton
 abbrev pub is_block : LanguageLengths → Block → Bool
-is_block T b = ((lower_singleton b == code_x) && is_private b.1)
-    || is_extension T (lower_singleton b) (extension_of (lower_singleton b) b.1)
+is_block T (c, ps) = ((to_ascii_lowercase c == code_x) && is_private ps)
+    || is_extension T (to_ascii_lowercase c) (extension_of (to_ascii_lowercase c) ps)
 
 -- computes `RepeatsVariant`: an identifier's front of which a variant stands twice
 abbrev pub repeats_variant : LanguageLengths → List Text → Bool

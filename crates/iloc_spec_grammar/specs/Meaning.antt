@@ -6,8 +6,8 @@ use Rattle.std.specs.Prelude.{◌≡◌, ℕ, ◌<◌, ◌==◌, length, flat_ma
 use Rattle.std.specs.Ordering.{nat_cmp}
 use Rattle.std.specs.declared.cmp.Ordering.{Ordering}
 use Rattle.std.specs.FinMap.{put}
-use Rattle.iloc_spec_grammar.specs.Syntax.{Text, LanguageLengths, Block, code_t, code_u, code_x, pieces, lower, upper, title, word_cmp, is_true, Language, PrivateSubtag, is_word, IsWord, Identifier, Fields, Unicode, Transform, identifier_pieces, kept, IsIdentifier, lower_singleton, HasWords, AllDifferent, IsUnicode, IsTransform, IsOther, unicode_pieces, transform_pieces, is_other_singleton}
-use Rattle.std.specs.Char.{is_ascii_alphanumeric}
+use Rattle.iloc_spec_grammar.specs.Syntax.{Text, LanguageLengths, Block, code_t, code_u, code_x, pieces, lower, upper, title, word_cmp, is_true, Language, PrivateSubtag, is_word, IsWord, Identifier, Fields, Unicode, Transform, identifier_pieces, kept, IsIdentifier, lower_singleton, HasWords, AllDifferent, IsUnicode, IsTransform, IsOther, unicode_pieces, transform_pieces, is_other_singleton, IsAmong}
+use Rattle.std.specs.Char.{is_ascii_alphanumeric, to_ascii_lowercase}
 use Rattle.std.specs.List.{list_any, AllByRecursion}
 pub use Rattle.iloc_spec_grammar.specs.Syntax.{is_one_byte, front, blocks, head, tail_blocks, first_piece}
 
@@ -15,11 +15,11 @@ pub use Rattle.iloc_spec_grammar.specs.Syntax.{is_one_byte, front, blocks, head,
 -- 6067, 2.1)
 abbrev pub map_of : {K X : Type 0} → (K → K → Ordering) → List (K × X) → List (K × X)
 map_of cmp [] = []
-map_of cmp (e ∷ es) = put cmp e.0 e.1 (map_of cmp es)
+map_of cmp ((key, x) ∷ es) = put cmp key x (map_of cmp es)
 
 -- the set of the words, ascending (UTS #35 3.2.1)
 abbrev pub set_of : List Text → List Text
-set_of ws = map (λ e. e.0) (map_of word_cmp (map (λ w. (w, tt {0})) ws))
+set_of ws = map (λ (w, _). w) (map_of word_cmp (map (λ w. (w, tt {0})) ws))
 
 -- Normal forms.
 
@@ -39,7 +39,7 @@ normal_values ps = filter (λ w. not (is_true w)) (map lower ps)
 
 -- the map of keys to values, both in lower case (UTS #35 3.2.1)
 abbrev pub normal_fields : Fields → Fields
-normal_fields fs = map_of word_cmp (map (λ f. (lower f.0, normal_values f.1)) fs)
+normal_fields fs = map_of word_cmp (map (λ (key, values). (lower key, normal_values values)) fs)
 
 -- what is written after `u`, with attributes as a set and keywords as a map (UTS #35 3.2.1)
 abbrev pub normal_unicode : Unicode → Unicode
@@ -70,7 +70,7 @@ normal_extensions e = record {
   unicode = normal_unicode e.unicode;
   transform = normal_transform e.transform;
   private = map lower e.private;
-  others = map_of nat_cmp (map (λ o. (o.0, kept o.1)) e.others);
+  others = map_of nat_cmp (map (λ (c, ps). (c, kept ps)) e.others);
 }
 
 -- Empty parts, and no extensions.
@@ -106,19 +106,20 @@ pub record IdentifierMeans (T : LanguageLengths) (ps : List Text) (i : Identifie
 
 -- the pieces after the singleton; none if no block has it
 abbrev pub after : ℕ → List Block → List Text
-after c bs = flat_map (λ b. if lower_singleton b == c then b.1 else []) bs
+after s bs = flat_map (λ (c, ps). if to_ascii_lowercase c == s then ps else []) bs
 
 -- What blocks spell: each has a letter or digit for its singleton, and pieces; no singleton stands
 -- twice; and the pieces after `u`, `t`, `x` and the others are those of parts that follow their
 -- rules (UTS #35 3.2, `extensions` and `pu_extensions`).
 pub record SpellsExtensions (T : LanguageLengths) (bs : List Block) (w : Extensions) : Type 0 where
-  pub blocks : AllByRecursion (λ b. (is_ascii_alphanumeric b.0 ≡ true) × (0 < length b.1)) bs
+  pub blocks : AllByRecursion (λ (c, ps). (is_ascii_alphanumeric c ≡ true) × (0 < length ps)) bs
   pub different : AllDifferent nat_cmp (map (λ b. lower_singleton b) bs)
   pub unicode : IsUnicode w.unicode × (after code_u bs ≡ unicode_pieces w.unicode)
   pub transform : IsTransform T w.transform × (after code_t bs ≡ transform_pieces w.transform)
   pub private : AllByRecursion (IsWord PrivateSubtag) w.private × (after code_x bs ≡ w.private)
-  pub others : AllByRecursion (λ o. IsOther o.1) w.others
-      × (filter (λ b. is_other_singleton b.0) (map (λ b. (lower_singleton b, b.1)) bs) ≡ w.others)
+  pub others : AllByRecursion (λ (_, ps). IsOther ps) w.others
+      × (filter (λ (c, _). is_other_singleton c) (map (λ (c, ps). (to_ascii_lowercase c, ps)) bs)
+      ≡ w.others)
 
 -- the blocks mean e: they spell extensions whose normal form it is
 abbrev pub BlocksMean : LanguageLengths → List Block → Extensions → Type 0
@@ -159,16 +160,16 @@ abbrev pub RepeatsVariant : LanguageLengths → List Text → Type 0
 RepeatsVariant T ps = (i : Identifier) × (rest : List Text) × HasWords T i
     × (ps ≡ identifier_pieces i ++ rest) × ¬ (AllDifferent word_cmp (map lower i.variants))
 
--- the blocks follow the rules of their singletons, which differ
+-- each block follows the rule of its singleton, and no two singletons are equal
 abbrev pub AreBlocks : LanguageLengths → List Block → Type 0
 AreBlocks T bs = (w : Extensions) × SpellsExtensions T bs w
 
 -- an earlier block has this singleton
 abbrev pub IsSecond : List Block → Block → Type 0
-IsSecond earlier b = list_any (λ c. lower_singleton b == lower_singleton c) earlier ≡ true
+IsSecond earlier b = IsAmong nat_cmp (lower_singleton b) (map (λ c. lower_singleton c) earlier)
 
 -- What is wrong with a block: an earlier one has its singleton; or else a variant is repeated after
--- `t`; or else the block alone breaks the rule of its singleton, or has none.
+-- `t`; or else the block alone breaks the rule of its singleton, or that is no letter or digit.
 pub data BlockFault (T : LanguageLengths) (earlier : List Block) (b : Block) : Fault → Type 0 where
   duplicated : IsSecond earlier b → BlockFault T earlier b DuplicatedExtension
   repeats_variant : ¬ (IsSecond earlier b) → RepeatsVariant T (after code_t (b ∷ []))

@@ -69,7 +69,7 @@ option_zip test (Some x) (Some y) = test x y
 
 -- the singletons are equal, and what follows them passes the test
 abbrev pub block_zip : {X : Type 0} → (X → X → Bool) → ℕ × X → ℕ × X → Bool
-block_zip test e f = (e.0 == f.0) && test e.1 f.1
+block_zip test (c, x) (d, y) = (c == d) && test x y
 
 -- Equality of parts.
 
@@ -77,7 +77,7 @@ abbrev pub same_words : List Text → List Text → Bool
 same_words vs ws = all_zip is_same vs ws
 
 abbrev pub same_field : Field → Field → Bool
-same_field f g = is_same f.0 g.0 && same_words f.1 g.1
+same_field (k, vs) (l, ws) = is_same k l && same_words vs ws
 
 abbrev pub same_fields : Fields → Fields → Bool
 same_fields fs gs = all_zip same_field fs gs
@@ -102,16 +102,16 @@ same_extension _ _ = false
 
 -- some values that are `true` are left out
 abbrev pub has_less_true : Field → Field → Bool
-has_less_true f g = is_same f.0 g.0 && is_without is_same (λ p. is_true (lower p)) f.1 g.1
+has_less_true (k, vs) (l, ws) = is_same k l && is_without is_same (λ p. is_true (lower p)) vs ws
 
 -- the fields in another order, if all keys differ
 abbrev pub are_fields_reordered : Fields → Fields → Bool
-are_fields_reordered fs gs = all_different word_cmp (map (λ f. lower f.0) fs)
+are_fields_reordered fs gs = all_different word_cmp (map (λ (key, _). lower key) fs)
     && is_reordered same_field fs gs
 
 -- some fields are left out, each with the key of one that is kept before it
 abbrev pub are_fields_without_repeats : Fields → Fields → Bool
-are_fields_without_repeats fs gs = is_without_repeats same_field (λ f. f.0) [] fs gs
+are_fields_without_repeats fs gs = is_without_repeats same_field (λ (key, _). key) [] fs gs
 
 -- one rule orders the variants, and the others leave an identifier as it is
 abbrev pub is_identifier_step : TreeRule → Identifier → Identifier → Bool

@@ -121,11 +121,7 @@ pub record AreLengths (T : LanguageLengths) : Type 0 where
   pub most : (n : ℕ) → T n ≡ true → n ≤ 8
   pub no_script : (n : ℕ) → T n ≡ true → n ≢ 4
 
--- the narrow lengths: 2 or 3 letters, as in the Rust crate
-abbrev pub two_or_three : ℕ → Bool
-two_or_three n = is_in_range 2 3 n
-
--- the wide lengths, which are those of this library: 2 to 8 letters, but not 4 (UTS #35 3.1)
+-- the lengths of this library: 2 to 8 letters, but not 4 (UTS #35 3.1)
 unfoldable pub languages : ℕ → Bool
 languages n = is_in_range 2 3 n || is_in_range 5 8 n
 
@@ -166,7 +162,7 @@ is_word CurrencyType p = (length p == 3) && letters p
 abbrev pub IsWord : Kind → Text → Type 0
 IsWord k p = is_word k p ≡ true
 
--- Their normal text.
+-- The case of letters.
 
 -- all letters in lower case (UTS #35 3.2.1)
 unfoldable pub lower : Text → Text
@@ -179,6 +175,22 @@ upper p = map to_ascii_uppercase p
 -- the first letter in upper case, the others in lower case (UTS #35 3.2.1)
 unfoldable pub title : Text → Text
 title p = upper (take 1 p) ++ lower (drop 1 p)
+
+-- Comparing words.
+
+-- the order of their bytes: the alphabetical order of UTS #35 3.2.1
+abbrev pub word_cmp : Text → Text → Ordering
+word_cmp v w = slice_cmp nat_cmp v w
+
+-- whether two words have the same bytes
+abbrev pub is_same : Text → Text → Bool
+is_same v w = eq_by_cmp word_cmp v w
+
+-- whether the word is `true`, which a value does not need (UTS #35 3.2.1)
+unfoldable pub is_true : Text → Bool
+is_true w = is_same (codes "true") w
+
+-- Words in their normal case.
 
 -- the piece in the case of the kind: `Latn`, `US`, and all else in lower case (UTS #35 3.2.1)
 abbrev pub normal : Kind → Text → Text
@@ -194,19 +206,11 @@ word k p = if is_word k p then Some (normal k p) else None
 abbrev pub read : {E : Type 0} → Kind → E → Text → Result Text E
 read k refusal p = if is_word k p then Ok (normal k p) else Err refusal
 
--- Comparing words.
+-- Narrow lengths of languages.
 
--- the order of their bytes: the alphabetical order of UTS #35 3.2.1
-abbrev pub word_cmp : Text → Text → Ordering
-word_cmp v w = slice_cmp nat_cmp v w
-
--- whether two words have the same bytes
-abbrev pub is_same : Text → Text → Bool
-is_same v w = eq_by_cmp word_cmp v w
-
--- whether the word is `true`, which a value does not need (UTS #35 3.2.1)
-unfoldable pub is_true : Text → Bool
-is_true w = is_same (codes "true") w
+-- the narrow lengths: 2 or 3 letters, as in the Rust crate
+abbrev pub two_or_three : ℕ → Bool
+two_or_three n = is_in_range 2 3 n
 
 -- Raw forms.
 
@@ -287,7 +291,7 @@ identifier_pieces i = i.language
 
 -- the pieces of fields: each key, and then its values (UTS #35 3.2, `ufield` and `tfield`)
 abbrev pub fields_pieces : Fields → List Text
-fields_pieces fs = flat_map (λ f. f.0 ∷ f.1) fs
+fields_pieces fs = flat_map (λ (key, values). key ∷ values) fs
 
 -- the pieces after `u`: attributes, then keywords (UTS #35 3.2, `unicode_locale_extensions`)
 abbrev pub unicode_pieces : Unicode → List Text
@@ -304,10 +308,14 @@ transform_pieces m = optional_pieces m.id ++ fields_pieces m.fields
 
 -- The rules that they follow.
 
--- no item ties with a later one: no variant and no singleton stands twice (UTS #35 3.1, 3.2)
+-- x is among the items, as the order tells which are the same
+abbrev pub IsAmong : {X : Type 0} → (X → X → Ordering) → X → List X → Type 0
+IsAmong cmp x xs = list_any (eq_by_cmp cmp x) xs ≡ true
+
+-- no item is among the later ones: no variant and no singleton stands twice (UTS #35 3.1, 3.2)
 abbrev pub AllDifferent : {X : Type 0} → (X → X → Ordering) → List X → Type 0
 AllDifferent cmp [] = ⊤
-AllDifferent cmp (x ∷ xs) = (list_any (eq_by_cmp cmp x) xs ≡ false) × AllDifferent cmp xs
+AllDifferent cmp (x ∷ xs) = ¬ (IsAmong cmp x xs) × AllDifferent cmp xs
 
 -- each piece is a word of its kind (UTS #35 3.1)
 pub record HasWords (T : LanguageLengths) (i : Identifier) : Type 0 where
@@ -323,11 +331,11 @@ pub record IsIdentifier (T : LanguageLengths) (i : Identifier) : Type 0 where
 
 -- a key of `u` with any number of values (UTS #35 3.2, `ufield`)
 abbrev pub IsKeyword : Field → Type 0
-IsKeyword f = IsWord UnicodeKey f.0 × AllByRecursion (IsWord Attribute) f.1
+IsKeyword (key, values) = IsWord UnicodeKey key × AllByRecursion (IsWord Attribute) values
 
 -- a key of `t` with one value or more (UTS #35 3.2, `tfield`)
 abbrev pub IsField : Field → Type 0
-IsField f = IsWord TransformKey f.0 × AllByRecursion (IsWord Attribute) f.1 × (0 < length f.1)
+IsField (key, ws) = IsWord TransformKey key × AllByRecursion (IsWord Attribute) ws × (0 < length ws)
 
 -- attributes and keywords (UTS #35 3.2, `unicode_locale_extensions`)
 pub record IsUnicode (u : Unicode) : Type 0 where
@@ -358,9 +366,8 @@ pub record IsPrivate (ps : List Text) : Type 0 where
 -- of a singleton in lower case: a letter or digit other than `t`, `u` and `x`, which have rules of
 -- their own (UTS #35 3.2)
 abbrev pub is_other_singleton : ℕ → Bool
-is_other_singleton c =
-    is_ascii_alphanumeric c && not (((c == code_t) || (c == code_u)) || (c == code_x))
+is_other_singleton c = is_ascii_alphanumeric c && not (c == code_t || c == code_u || c == code_x)
 
 -- the singleton of an extension or a block, in lower case (UTS #35 3.2.1)
 abbrev pub lower_singleton : {X : Type 0} → ℕ × X → ℕ
-lower_singleton e = to_ascii_lowercase e.0
+lower_singleton (c, _) = to_ascii_lowercase c

@@ -3,7 +3,7 @@
 -- since a tree can be taken apart case by case: SameMeaning, SameFaults and SameText show that it
 -- agrees with the definitions of Meaning and Values.
 use Rattle.std.specs.Prelude.{◌≡◌, ℕ, ◌+◌, ◌<◌, true, false, ◌||◌, List, [], ◌∷◌, ◌++◌, length, map, filter, filter_map, flat_map, Option, Some, None, IfSome, option_map, option_to_list, is_some, nat_le, nat_lt, if◌then◌else◌, ◌⊎◌}
-use Rattle.std.specs.Char.{is_ascii_alphanumeric}
+use Rattle.std.specs.Char.{is_ascii_alphanumeric, to_ascii_lowercase}
 use Rattle.std.specs.List.{AllByRecursion, list_any}
 use Rattle.std.specs.Ordering.{nat_cmp, eq_by_cmp}
 use Rattle.std.specs.FinMap.{find}
@@ -47,7 +47,7 @@ extension_pieces (other ps) = ps
 
 -- a block: its singleton, and the pieces after that
 abbrev pub extension_block : ℕ × Extension → Block
-extension_block e = (e.0, extension_pieces e.1)
+extension_block (c, x) = (c, extension_pieces x)
 
 -- the private part is the last block (UTS #35 3.2, `unicode_locale_id`)
 abbrev pub blocks_of : Written → List Block
@@ -55,7 +55,7 @@ blocks_of w = map extension_block w.extensions ++ option_to_list w.private
 
 -- the pieces of a block: its singleton is one of one byte
 abbrev pub block_pieces : Block → List Text
-block_pieces b = (b.0 ∷ []) ∷ b.1
+block_pieces (c, ps) = (c ∷ []) ∷ ps
 
 -- the pieces of the whole text; the singleton of a block is a piece of one byte
 abbrev pub spelling : Written → List Text
@@ -72,9 +72,9 @@ IsExtension T c (other ps) = (is_other_singleton c ≡ true) × IsOther ps
 -- `unicode_locale_id`)
 pub record IsWritten (T : LanguageLengths) (w : Written) : Type 0 where
   pub id : IsIdentifier T w.id
-  pub extensions : AllByRecursion (λ e. IsExtension T (lower_singleton e) e.1) w.extensions
+  pub extensions : AllByRecursion (λ (c, x). IsExtension T (to_ascii_lowercase c) x) w.extensions
   pub different : AllDifferent nat_cmp (map (λ e. lower_singleton e) w.extensions)
-  pub private : IfSome w.private (λ e. (lower_singleton e ≡ code_x) × IsPrivate e.1)
+  pub private : IfSome w.private (λ (c, ps). (to_ascii_lowercase c ≡ code_x) × IsPrivate ps)
 
 -- What it means.
 
@@ -91,7 +91,7 @@ transform_part _ = no_transform
 -- what the block of `x` means, if there is one: its words in lower case
 abbrev pub private_part : Option Block → List Text
 private_part None = []
-private_part (Some e) = map lower e.1
+private_part (Some (_, ps)) = map lower ps
 
 -- the words that another extension keeps
 abbrev pub other_part : ℕ × Extension → Option Block
@@ -100,7 +100,7 @@ other_part _ = None
 
 -- extensions by their singletons in lower case (UTS #35 3.2.1)
 abbrev pub by_singleton : {X : Type 0} → List (ℕ × X) → List (ℕ × X)
-by_singleton es = map (λ e. (lower_singleton e, e.1)) es
+by_singleton es = map (λ (c, x). (to_ascii_lowercase c, x)) es
 
 -- the parts are those of `u`, of `t`, of the private part and of the others
 abbrev pub extensions_meaning : Written → Extensions
@@ -127,12 +127,12 @@ pub record TreeMeans (T : LanguageLengths) (t : Text) (M : Locale) : Type 0 wher
 
 -- the block follows the rule of its singleton, which for `x` is that of the private part
 abbrev pub IsBlock : LanguageLengths → Block → Type 0
-IsBlock T b = ((lower_singleton b ≡ code_x) × IsPrivate b.1)
-    ⊎ ((e : Extension) × IsExtension T (lower_singleton b) e × (b.1 ≡ extension_pieces e))
+IsBlock T (c, ps) = ((to_ascii_lowercase c ≡ code_x) × IsPrivate ps)
+    ⊎ ((e : Extension) × IsExtension T (to_ascii_lowercase c) e × (ps ≡ extension_pieces e))
 
 -- the block's singleton is a letter or digit
 abbrev pub HasSingleton : Block → Type 0
-HasSingleton b = is_ascii_alphanumeric b.0 ≡ true
+HasSingleton (c, _) = is_ascii_alphanumeric c ≡ true
 
 -- no earlier block has this singleton; seen are those of the earlier blocks
 abbrev pub IsNew : Text → Block → Type 0
@@ -192,7 +192,7 @@ unicode_form u = if nat_lt 0 (length u.attributes + length u.keywords) then (cod
 
 -- the other extensions as they are printed: those with words
 abbrev pub others_form : List Block → List (ℕ × Extension)
-others_form os = map (λ o. (o.0, other o.1)) (filter (λ o. nat_lt 0 (length o.1)) os)
+others_form os = map (λ (c, ws). (c, other ws)) (filter (λ (_, ws). nat_lt 0 (length ws)) os)
 
 -- the private extension as it is printed: none if it has no words
 abbrev pub private_form : List Text → Option Block
@@ -202,12 +202,12 @@ private_form (w ∷ ws) = Some (code_x, w ∷ ws)
 -- the others before the first whose singleton is above `t`
 abbrev pub before_t : List Block → List Block
 before_t [] = []
-before_t (o ∷ os) = if nat_le o.0 code_t then o ∷ before_t os else []
+before_t ((c, ws) ∷ os) = if nat_le c code_t then (c, ws) ∷ before_t os else []
 
 -- the others from the first whose singleton is above `t` on
 abbrev pub after_t : List Block → List Block
 after_t [] = []
-after_t (o ∷ os) = if nat_le o.0 code_t then after_t os else o ∷ os
+after_t ((c, ws) ∷ os) = if nat_le c code_t then after_t os else (c, ws) ∷ os
 
 -- the extensions in the order in which they are printed (UTS #35 3.2.1): others up to `t`, `t`,
 -- `u`, other others

@@ -26,11 +26,11 @@ pub data WithoutRepeats {X : Type 0} (key : X → Text) : List Text → List X �
 
 -- some values that are `true` are left out
 abbrev pub TreeLessTrue : Field → Field → Type 0
-TreeLessTrue f g = (f.0 ≡ g.0) × TreeWithout (λ p. is_true (lower p)) f.1 g.1
+TreeLessTrue (k, vs) (l, ws) = (k ≡ l) × TreeWithout (λ p. is_true (lower p)) vs ws
 
 -- no two keys are equal without case
 abbrev pub keys_differ : Fields → Type 0
-keys_differ fs = AllDifferent word_cmp (map (λ f. lower f.0) fs)
+keys_differ fs = AllDifferent word_cmp (map (λ (key, _). lower key) fs)
 
 -- six of the eight change the inside of parts, everywhere at once
 pub data TreeRule : Type 0 where
@@ -73,10 +73,11 @@ pub data ExtensionStep : TreeRule → Extension → Extension → Type 0 where
       → ExtensionStep FieldOrder (transform_extension i fs) (transform_extension i gs)
   -- `u-foo-FOO-ca-foo-ca-bar` to `u-foo-ca-foo`
   unicode_repeats : {vs ws : List Text} {fs gs : Fields} → WithoutRepeats (λ a. a) [] vs ws
-      → WithoutRepeats (λ f. f.0) [] fs gs
+      → WithoutRepeats (λ (key, _). key) [] fs gs
       → ExtensionStep Repeats (unicode_extension vs fs) (unicode_extension ws gs)
   -- `t-m0-foo-m0-bar` to `t-m0-foo`
-  transform_repeats : {i : Option Identifier} {fs gs : Fields} → WithoutRepeats (λ f. f.0) [] fs gs
+  transform_repeats : {i : Option Identifier} {fs gs : Fields}
+      → WithoutRepeats (λ (key, _). key) [] fs gs
       → ExtensionStep Repeats (transform_extension i fs) (transform_extension i gs)
   -- `u-ca-foo-true` to `u-ca-foo`
   unicode_trues : {vs : List Text} {fs gs : Fields} → AllZip TreeLessTrue fs gs

@@ -2,11 +2,13 @@
 -- that of the canonical syntax of UTS #35, section 3.2.1: one case for each kind of word, variants,
 -- attributes, keys and singletons in ascending order, and no value `true` (but in a field of `t`,
 -- which has no other empty value). It is defined for values that are not well-formed too.
-use Rattle.std.specs.Prelude.{◌≡◌, ◌↔◌, ◌≢◌, ℕ, ◌<◌, ◌≤◌, true, false, List, [], ◌∷◌, ◌++◌, length, map, flat_map, IfSome, option_map, option_to_list, nat_le, codes, if◌then◌else◌, ◌⊎◌, zero, suc, Bool, not}
+use Rattle.std.specs.Prelude.{◌≡◌, ⊤, ◌↔◌, ◌≢◌, ℕ, ◌<◌, ◌≤◌, true, false, List, [], ◌∷◌, ◌++◌, length, map, flat_map, IfSome, option_map, option_to_list, nat_le, codes, if◌then◌else◌, ◌⊎◌, zero, suc, Bool, not}
 use Rattle.std.specs.Char.{to_ascii_lowercase}
 use Rattle.std.specs.List.{AllByRecursion, list_any, AllZip}
 use Rattle.std.specs.FinMap.{is_sorted}
 use Rattle.std.specs.Ordering.{nat_cmp}
+use Rattle.std.specs.declared.cmp.Ordering.{Ordering}
+use Rattle.std.specs.declared.cmp.Ordering.TheVariants.{Less}
 use Rattle.iloc_spec_grammar.specs.Syntax.{Text, LanguageLengths, Block, code_t, code_u, code_x, Field, join, pieces, head, tail_blocks, Kind, Language, Script, Region, Variant, Subtag, UnicodeKey, TransformKey, Attribute, PrivateSubtag, IsWord, normal, lower, word_cmp, is_true, is_word, is_same, languages, Identifier, Fields, Unicode, Transform, optional_pieces, unicode_pieces, transform_pieces, is_other_singleton, identifier_pieces, fields_pieces, AllDifferent, HasWords, IsIdentifier, IsUnicode, IsTransform}
 use Rattle.iloc_spec_grammar.specs.Meaning.{Locale, Extensions, Means}
 
@@ -16,9 +18,10 @@ use Rattle.iloc_spec_grammar.specs.Meaning.{Locale, Extensions, Means}
 abbrev pub IsNormal : Kind → Text → Type 0
 IsNormal k w = IsWord k w × (normal k w ≡ w)
 
--- each word is below the next (UTS #35 3.2.1)
-abbrev pub IsAscending : List Text → Type 0
-IsAscending ws = is_sorted word_cmp (map (λ w. (w, tt {0})) ws) ≡ true
+-- each item is below all later ones (UTS #35 3.2.1 of variants and attributes)
+abbrev pub StrictlyAscends : {X : Type 0} → (X → X → Ordering) → List X → Type 0
+StrictlyAscends cmp [] = ⊤
+StrictlyAscends cmp (x ∷ xs) = AllByRecursion (λ y. cmp x y ≡ Less) xs × StrictlyAscends cmp xs
 
 -- normal words, the variants a set (UTS #35 3.1, `unicode_language_id`)
 pub record IsIdentifierValue (T : LanguageLengths) (i : Identifier) : Type 0 where
@@ -26,15 +29,15 @@ pub record IsIdentifierValue (T : LanguageLengths) (i : Identifier) : Type 0 whe
   pub script : IfSome i.script (IsNormal Script)
   pub region : IfSome i.region (IsNormal Region)
   pub variants : AllByRecursion (IsNormal Variant) i.variants
-  pub ascending : IsAscending i.variants
+  pub ascending : StrictlyAscends word_cmp i.variants
 
 -- a set of attributes, and a map from keys to lists of subtags (UTS #35 3.2,
 -- `unicode_locale_extensions`)
 pub record IsUnicodeValue (u : Unicode) : Type 0 where
   pub attributes : AllByRecursion (IsNormal Attribute) u.attributes
-  pub ascending : IsAscending u.attributes
+  pub ascending : StrictlyAscends word_cmp u.attributes
   pub keywords : AllByRecursion
-      (λ f. IsNormal UnicodeKey f.0 × AllByRecursion (IsNormal Subtag) f.1) u.keywords
+      (λ (key, ws). IsNormal UnicodeKey key × AllByRecursion (IsNormal Subtag) ws) u.keywords
   pub keys_ascend : is_sorted word_cmp u.keywords ≡ true
 
 -- perhaps an identifier, and a map from keys to lists of subtags of three bytes or more other than
@@ -42,8 +45,8 @@ pub record IsUnicodeValue (u : Unicode) : Type 0 where
 pub record IsTransformValue (T : LanguageLengths) (m : Transform) : Type 0 where
   pub id : IfSome m.id (IsIdentifierValue T)
   pub fields : AllByRecursion
-      (λ f. IsNormal TransformKey f.0
-      × AllByRecursion (λ w. IsNormal Attribute w × (is_true w ≡ false)) f.1) m.fields
+      (λ (key, values). IsNormal TransformKey key
+      × AllByRecursion (λ w. IsNormal Attribute w × (is_true w ≡ false)) values) m.fields
   pub keys_ascend : is_sorted word_cmp m.fields ≡ true
 
 -- The others are a list in any order, with any bytes for singletons: callers may build what no text
@@ -52,7 +55,7 @@ pub record IsExtensionsValue (T : LanguageLengths) (e : Extensions) : Type 0 whe
   pub unicode : IsUnicodeValue e.unicode
   pub transform : IsTransformValue T e.transform
   pub private : AllByRecursion (IsNormal PrivateSubtag) e.private
-  pub others : AllByRecursion (λ o. AllByRecursion (IsNormal Subtag) o.1) e.others
+  pub others : AllByRecursion (λ (_, ws). AllByRecursion (IsNormal Subtag) ws) e.others
 
 -- what a locale in memory stands for: normal words, ascending sets and maps, in each part
 pub record IsValue (T : LanguageLengths) (M : Locale) : Type 0 where
@@ -75,7 +78,7 @@ spelled_value (w ∷ ws) = w ∷ ws
 
 -- fields as they are printed, with `true` for an empty value of `t`
 abbrev pub spelled_fields : Fields → Fields
-spelled_fields fs = map (λ f. (f.0, spelled_value f.1)) fs
+spelled_fields fs = map (λ (key, values). (key, spelled_value values)) fs
 
 -- The text.
 
@@ -84,10 +87,12 @@ abbrev pub transform_block : Transform → Block
 transform_block m =
     (code_t, map lower (optional_pieces m.id) ++ fields_pieces (spelled_fields m.fields))
 
--- the others, with the blocks bs before the first whose singleton is above `t` (UTS #35 3.2.1)
+-- the others, with the blocks bs before the first whose singleton is above `t`, or last if none is
+-- (UTS #35 3.2.1)
 abbrev pub before_above : List Block → List Block → List Block
 before_above bs [] = bs
-before_above bs (o ∷ os) = if nat_le o.0 code_t then o ∷ before_above bs os else bs ++ (o ∷ os)
+before_above bs ((c, ws) ∷ os) = if nat_le c code_t then (c, ws) ∷ before_above bs os
+    else bs ++ ((c, ws) ∷ os)
 
 -- the pieces of a block, its singleton first; an empty block gives none
 abbrev pub printed_pieces : Block → List Text
@@ -132,10 +137,10 @@ private_spelling ws = printed_pieces (code_x, ws)
 pub record AreWellFormed (e : Extensions) : Type 0 where
   pub ascending : is_sorted nat_cmp e.others ≡ true
   pub singletons : AllByRecursion
-      (λ o. (is_other_singleton o.0 ≡ true) × (to_ascii_lowercase o.0 ≡ o.0)) e.others
-  pub nonempty : AllByRecursion (λ o. 0 < length o.1) e.others
+      (λ (c, _). (is_other_singleton c ≡ true) × (to_ascii_lowercase c ≡ c)) e.others
+  pub nonempty : AllByRecursion (λ (_, ws). 0 < length ws) e.others
   pub values : AllByRecursion
-      (λ f. AllByRecursion (λ w. (is_true w ≡ false) × (length w ≢ 2)) f.1) e.unicode.keywords
+      (λ (_, ws). AllByRecursion (λ w. (is_true w ≡ false) × (length w ≢ 2)) ws) e.unicode.keywords
 
 -- The text of each part alone is the join of its share; of an empty part it is empty.
 
@@ -189,8 +194,8 @@ pub data Reordered {X : Type 0} : List X → List X → Type 0 where
   first_two : {x y : X} {xs : List X} → Reordered (x ∷ y ∷ xs) (y ∷ x ∷ xs)
   in_turn : {xs ys zs : List X} → Reordered xs ys → Reordered ys zs → Reordered xs zs
 
--- ys is xs with some items left out; an item may go if the test holds of what is kept before it,
--- last first, and of it
+-- ys is xs with some items left out; the test says of the items that are kept so far, the last one
+-- first, and of an item, whether it may go
 pub data Without {X : Type 0} (may_go : List X → X → Bool) : List X → List X → List X → Type 0 where
   none : {before : List X} → Without may_go before [] []
   kept : {before : List X} {x : X} {xs ys : List X} → Without may_go (x ∷ before) xs ys
@@ -205,13 +210,13 @@ pub data Without {X : Type 0} (may_go : List X → X → Bool) : List X → List
 pub data Rule : Type 0 where
   BlockOrder VariantOrder AttributeOrder FieldOrder Repeats Trues DroppedPieces : Rule
 
--- some items are left out whose key, given by k, an earlier one has, in whatever case
+-- some items are left out whose key, given by k, one that is kept before has, in whatever case
 abbrev pub LessRepeats : {X : Type 0} → (X → Text) → List X → List X → Type 0
 LessRepeats k = Without (λ before x. list_any (λ y. is_same (lower (k x)) (lower (k y))) before) []
 
 -- some values that are `true` are left out, and n stay at least
 abbrev pub LessTrue : ℕ → Field → Field → Type 0
-LessTrue n f g = (f.0 ≡ g.0) × Without (λ before w. is_true (lower w)) [] f.1 g.1 × (n ≤ length g.1)
+LessTrue n (k, vs) (l, ws) = (k ≡ l) × Without (λ _ w. is_true (lower w)) [] vs ws × (n ≤ length ws)
 
 -- the variants of an identifier: `posix-macos` to `macos-posix`
 abbrev pub VariantsStep : Rule → List Text → List Text → Type 0
@@ -227,8 +232,8 @@ AttributesStep r vs ws = vs ≡ ws
 -- the fields of a block, each with n values at least: `hc-h12-ca-foo` to `ca-foo-hc-h12` if all
 -- keys differ, `ca-foo-ca-bar` to `ca-foo`, or `ca-foo-true` to `ca-foo`
 abbrev pub FieldsStep : Rule → ℕ → Fields → Fields → Type 0
-FieldsStep FieldOrder n fs gs = AllDifferent word_cmp (map (λ f. lower f.0) fs) × Reordered fs gs
-FieldsStep Repeats n fs gs = LessRepeats (λ f. f.0) fs gs
+FieldsStep FieldOrder n fs gs = AllDifferent word_cmp (map (λ (k, _). lower k) fs) × Reordered fs gs
+FieldsStep Repeats n fs gs = LessRepeats (λ (key, _). key) fs gs
 FieldsStep Trues n fs gs = AllZip (LessTrue n) fs gs
 FieldsStep r n fs gs = fs ≡ gs
 
@@ -305,5 +310,5 @@ pub record IsNormalizedFrom {X : Type 0} (Says : Text → X → Type 0) (print :
   pub shortest : (u : Text) (M : X) → Says input M → Says u M → length t ≤ length u
   -- n steps of rewriting at most lead here
   pub steps : Leads Step n input t
-  -- so every accepted text means the same exactly if such steps lead both to one text
+  -- so u means what the input means exactly if n steps at most lead from each to one text
   pub together : (u : Text) (L M : X) → Says input L → Says u M → (L ≡ M) ↔ LeadToOne Step n input u

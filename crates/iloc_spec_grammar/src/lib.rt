@@ -19,7 +19,7 @@ ghost use Rattle.std.specs.List.{list_any};
 ghost use Rattle.iloc_spec_grammar.specs.Syntax.{Text, LanguageLengths, Block, code_t, code_u, code_x, pieces, join, dashes, ArePieces, Kind, Language, AreLengths, two_or_three, languages, IsWord, is_word, normal, lower, word, word_cmp, is_same, EndsAt, greatest, Bounds, raw, wide_raw, narrow_raw, before_zero, Identifier, Fields, Unicode, Transform, AllDifferent, HasWords, identifier_pieces, unicode_pieces, transform_pieces, head, IsUnicode, IsTransform};
 ghost use Rattle.iloc_spec_grammar.specs.Meaning.{map_of, set_of, Locale, Means, IdentifierMeans, Fault, InvalidLanguage, InvalidSubtag, InvalidExtension, DuplicatedExtension, HasFault, HasIdentifierFault};
 ghost use Rattle.iloc_spec_grammar.specs.Examples.{Normalises, IsRefused, NormalisesIdentifier, IsRefusedIdentifier};
-ghost use Rattle.iloc_spec_grammar.specs.Values.{Reordered, AreWellFormed, TextStep, IdentifierTextStep, Leads, LeadToOne, IsNormal, IsAscending, IsIdentifierValue, IsValue, IsWellFormed, lower_identifier, spelled_fields, text, unicode_spelling, transform_spelling, other_spelling, private_spelling, extensions_spelling, identifier_text};
+ghost use Rattle.iloc_spec_grammar.specs.Values.{Reordered, AreWellFormed, TextStep, IdentifierTextStep, Leads, LeadToOne, IsNormal, StrictlyAscends, IsIdentifierValue, IsValue, IsWellFormed, lower_identifier, spelled_fields, text, unicode_spelling, transform_spelling, other_spelling, private_spelling, extensions_spelling, identifier_text};
 
 /// Each text has exactly one list of pieces.
 #[tactic(auto, using(crate::proofs::PiecesLaws::pieces_are, crate::proofs::PiecesLaws::pieces_unique))]
@@ -61,9 +61,9 @@ pub fn raw_forms()
         → wide_raw (Language languages) w ≡ narrow_raw (Language two_or_three) w ++ replicate 5 0 }
 {}
 
-/// Both tables are tables, the wide one has each length of the narrow one, and they end at eight and at three.
+/// The narrow and the wide lengths may be those of languages. The wide ones have each narrow one. They end at three and at eight.
 #[tactic(auto, using(crate::proofs::RawLaws::narrow_table, crate::proofs::RawLaws::languages_table, crate::proofs::RawLaws::narrow_in_wide, crate::proofs::RawLaws::wide_ends, crate::proofs::RawLaws::narrow_ends))]
-pub fn tables()
+pub fn language_lengths()
     ensures narrow { AreLengths two_or_three }
     ensures wide { AreLengths languages }
     ensures wider { (n : ℕ) → two_or_three n ≡ true → languages n ≡ true }
@@ -93,10 +93,10 @@ pub fn maps()
 
 /// A set of words ascends, and has each word of the list once.
 pub fn sets()
-    ensures ascends { (ws : List Text) → IsAscending (set_of ws) }
+    ensures ascends { (ws : List Text) → StrictlyAscends word_cmp (set_of ws) }
     ensures contains { (w : Text) (ws : List Text)
         → list_any (is_same w) (set_of ws) ≡ list_any (is_same w) ws }
-    ensures itself { (ws : List Text) → IsAscending ws → set_of ws ≡ ws }
+    ensures itself { (ws : List Text) → StrictlyAscends word_cmp ws → set_of ws ≡ ws }
     ensures first { (vs ws : List Text) → set_of (set_of vs ++ ws) ≡ set_of (vs ++ ws) }
     ensures last { (vs ws : List Text) → set_of (vs ++ set_of ws) ≡ set_of (vs ++ ws) }
     ensures reordered { (vs ws : List Text) → Reordered vs ws → set_of vs ≡ set_of ws }
@@ -105,15 +105,15 @@ pub fn sets()
         → length (set_of ws) ≡ length ws }
 {}
 
-/// A value is well-formed, by what its text means, exactly if its extensions pass the tests of `AreWellFormed`; so too over each table.
+/// A value is well-formed, by what its text means, exactly if its extensions pass the tests of `AreWellFormed`; so too with other lengths of languages.
 pub fn well_formed()
     ensures tests { (M : Locale) → IsValue languages M
         → IsWellFormed M ↔ AreWellFormed M.extensions }
-    ensures each_table { (T : LanguageLengths) → AreLengths T → (M : Locale) → IsValue T M
+    ensures each_lengths { (T : LanguageLengths) → AreLengths T → (M : Locale) → IsValue T M
         → Means T (text M) M ↔ AreWellFormed M.extensions }
 {}
 
-/// The text of a well-formed value means the value, over each table; so the normal text of what a text means has the same meaning.
+/// The text of a well-formed value means the value, with whatever lengths of languages; so the normal text of what a text means has the same meaning.
 pub fn reads_back()
     ensures again { (T : LanguageLengths) → AreLengths T → (t : Text) (M : Locale) → Means T t M
         → Means T (text M) M }
@@ -168,7 +168,7 @@ pub fn chain()
         → (L ≡ M) ↔ LeadToOne (TextStep T) 8 t u }
 {}
 
-/// Over a wider table of languages each word, identifier and text keeps its meaning: what the narrow table accepts, this library accepts with the same locale, and so with the same normal text.
+/// With more lengths of languages each word, identifier and text keeps its meaning: what is accepted with the narrow lengths, this library accepts with the same locale, and so with the same normal text.
 pub fn wider()
     ensures words { (T U : LanguageLengths) → ((n : ℕ) → T n ≡ true → U n ≡ true) → (p : Text)
         → IsWord (Language T) p → IsWord (Language U) p }

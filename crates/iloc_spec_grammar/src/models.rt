@@ -12,7 +12,7 @@ ghost use Rattle.iloc_spec_grammar.specs.ByBlocks.{MeansByBlocks};
 ghost use Rattle.iloc_spec_grammar.specs.Reading.{front_of, after_front, identifier_of, unicode_of, transform_of};
 ghost use Rattle.iloc_spec_grammar.specs.Computing.{identifier_result, locale_result};
 
-/// A text means a value exactly if a tree that it spells does. From the tree, languages are those of a table.
+/// A text means a value exactly if a tree that it spells does. From the tree, languages have the given lengths.
 pub fn same_meaning()
     ensures tree { (T : LanguageLengths) (t : Text) (M : Locale) → Means T t M → TreeMeans T t M }
     ensures blocks { (T : LanguageLengths) → AreLengths T → (t : Text) (M : Locale)

@@ -18,7 +18,7 @@ use Rattle.iloc_spec_grammar.specs.Computing.{is_other, is_private}
 use Rattle.iloc_spec_grammar.proofs.RuleTests.{tests_other, tests_not}
 use Rattle.iloc_spec_grammar.proofs.RuleTests as rules
 use Rattle.iloc_spec_parts.specs.Readers.{IsReader, AgreesWithBlocks}
-use Rattle.iloc_spec_parts.specs.Fronts.{attributes_front, after_attributes, is_keyword_piece, keywords_front, after_keywords, is_bad_key, KeywordsRead, KeywordsFault, bad_key, UnicodeRead, UnicodeFault, in_keywords, both_absent, has_other_length, other_front, OtherRead, OtherFault, no_word, PrivateRead, PrivateFault, not_private, keywords_at, keywords_result, attributes_and, unicode_result, other_result, private_result}
+use Rattle.iloc_spec_parts.specs.Fronts.{attributes_front, after_attributes, is_keyword_piece, keywords_front, after_keywords, is_bad_key, KeywordsRead, KeywordsFault, bad_key, UnicodeRead, UnicodeFault, in_keywords, both_absent, has_other_length, other_front, OtherRead, OtherFault, no_word, PrivateRead, PrivateFault, not_private, keywords_result, attributes_and, unicode_result, other_result, private_result}
 use Rattle.iloc_spec_parts.proofs.FieldLaws.{passing_all, passing_stops, past_stops, all_from_pieces, passing_from_all, front_of_fields, fields_words, fields_stop, pieces_pass}
 use Rattle.iloc_spec_parts.proofs.ReaderLaws.{reader_of, agreeing, until_block, Answer, Answers}
 use Rattle.std.proofs.Math.Bool.{or-true, and-false}
@@ -54,9 +54,9 @@ keywords_no_fault (f ∷ fs) h = none_bad (f.0 ∷ f.1) (fields_pieces fs) (good
     none_bad [] ys h n = n
     none_bad (x ∷ xs) ys h n = ap₂ ◌||◌ h.0 (none_bad xs ys h.1 n)
 
-pub keywords_read_of : (ps : List (List ℕ)) → list_any is_bad_key (keywords_front ps) ≡ false → KeywordsRead ps (normal_fields (keywords_at ps)) (after_keywords ps)
+pub keywords_read_of : (ps : List (List ℕ)) → list_any is_bad_key (keywords_front ps) ≡ false → KeywordsRead ps (normal_fields (fields_from is_two (keywords_front ps))) (after_keywords ps)
 keywords_read_of ps e = record {
-  written = keywords_at ps;
+  written = fields_from is_two (keywords_front ps);
   keywords = (fields_words is_two (IsWord UnicodeKey) (IsWord Attribute) (keywords_front ps) (good_pieces _ (passing_from_all is_two is_keyword_piece ps) e)).1;
   spelled = front_of_fields is_two is_keyword_piece ps;
   means = refl;
@@ -193,7 +193,7 @@ unicode_taken w rest g e = record {
         none.keyword_piece none.two_bytes refl
 
 -- the keywords are those that were spelled
-pub keywords_taken : (w : Unicode) (rest : List (List ℕ)) → IsUnicode w → starts_block rest ≡ true → keywords_at (after_attributes (unicode_pieces w ++ rest)) ≡ w.keywords
+pub keywords_taken : (w : Unicode) (rest : List (List ℕ)) → IsUnicode w → starts_block rest ≡ true → fields_from is_two (keywords_front (after_attributes (unicode_pieces w ++ rest))) ≡ w.keywords
 keywords_taken w rest g e =
     let t = unicode_taken w rest g e in
     ap (fields_from is_two) (ap keywords_front t.after ∙ t.keywords) ∙ fields_read is_two w.keywords (keywords_pass w.keywords g.keywords)

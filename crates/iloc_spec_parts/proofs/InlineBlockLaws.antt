@@ -2,7 +2,7 @@
 use Rattle.std.proofs.Common.{◌≡◌, ℕ, ◌≤◌, Bool, true, false, cond, ◌==◌, List, [], ◌∷◌, ◌++◌, length, map, filter, refl, sym, ap, ◌∙◌, subst, arith, Option, Some, None, IfSome, option_map, true≢false, append-nil}
 use Rattle.std.specs.List.{AllByRecursion, list_any}
 use Rattle.std.specs.Ordering.{nat_cmp, eq_by_cmp}
-use Rattle.std.proofs.lemmas.Bool.{or_parts, eq-eqb}
+use Rattle.std.proofs.lemmas.Bool.{or_parts, eq-eqb, false_from_ne_true}
 use Rattle.std.proofs.lemmas.Bool.Decides.{nat_tests}
 use Rattle.std.proofs.lemmas.List.{length-map}
 use Rattle.iloc_spec_grammar.specs.Syntax.{pieces, AreLengths, PrivateSubtag, is_word, lower, word_cmp, Identifier, Fields, Unicode, Transform, identifier_pieces, fields_pieces, unicode_pieces, transform_pieces, IsIdentifier, IsUnicode, AllDifferent, is_other_singleton, lower_singleton, head, tail_blocks}
@@ -37,8 +37,8 @@ later_after d all (b ∷ bs) n h = let parts = or_parts _ _ n in (rw (differ (lo
 pub each_after : (bs : List (ℕ × List (List ℕ))) → AllDifferent nat_cmp (map (λ b. lower_singleton b) bs) → AllByRecursion (λ b. after (lower_singleton b) bs ≡ b.1) bs
 each_after [] d = tt
 each_after (b ∷ bs) d = (
-  ap (λ t. cond t b.1 [] ++ after (lower_singleton b) bs) (eq-eqb (lower_singleton b) (lower_singleton b) refl) ∙ ap (λ l. b.1 ++ l) (none_after (lower_singleton b) bs d.0) ∙ append-nil b.1,
-  later_after b bs bs d.0 (each_after bs d.1),
+  ap (λ t. cond t b.1 [] ++ after (lower_singleton b) bs) (eq-eqb (lower_singleton b) (lower_singleton b) refl) ∙ ap (λ l. b.1 ++ l) (none_after (lower_singleton b) bs (false_from_ne_true _ d.0)) ∙ append-nil b.1,
+  later_after b bs bs (false_from_ne_true _ d.0) (each_after bs d.1),
 )
 
 -- the parts
@@ -126,8 +126,8 @@ inline_by_blocks T table t h =
 
 -- no long block is reached where all are short
 pub none_long : {T : ℕ → Bool} {bs : List (ℕ × List (List ℕ))} → ReachesLongBlock T bs → AllByRecursion (IsShortBlock T) bs → ⊥
-none_long {T = T} (good, rest, b, e, blocks, l, n, x) h = x (at good (subst (AllByRecursion (IsShortBlock T)) e h))
+none_long {T = T} (good, rest, c, ps, e, blocks, l, n, x) h = x (at good (subst (AllByRecursion (IsShortBlock T)) e h))
   where
-    at : (good : List (ℕ × List (List ℕ))) → AllByRecursion (IsShortBlock T) (good ++ (b ∷ rest)) → IsShortBlock T b
+    at : (good : List (ℕ × List (List ℕ))) → AllByRecursion (IsShortBlock T) (good ++ ((c, ps) ∷ rest)) → IsShortBlock T (c, ps)
     at [] h = h.0
     at (d ∷ ds) h = at ds h.1

@@ -3,12 +3,12 @@ use Rattle.std.proofs.Common.{◌≡◌, ◌≤◌, ◌↔◌, ℕ, Bool, true, 
 use Rattle.std.specs.List.{AllByRecursion}
 use Rattle.std.specs.Cmp.{nat_cmp_total}
 use Rattle.std.specs.Ordering.{nat_cmp}
-use Rattle.std.proofs.lemmas.Bool.{eqb-true, leb-true, le-leb}
+use Rattle.std.proofs.lemmas.Bool.{eqb-true, leb-true, le-leb, false_from_ne_true}
 use Rattle.std.proofs.lemmas.List.{length-map}
 use Rattle.iloc_spec_grammar.specs.Syntax.{pieces, lower, Identifier, Fields, Unicode, unicode_pieces, IsUnicode, kept, AllDifferent, AreLengths, head, tail_blocks, lower_singleton, IsPrivate}
 use Rattle.iloc_spec_grammar.specs.Tree.{Extension, unicode, transform, other, Written, IsWritten, IsExtension, spelling, extension_pieces, extension_block, blocks_of, meaning}
 use Rattle.iloc_spec_grammar.specs.Meaning.{Locale, Extensions, Means, IdentifierMeans, SpellsExtensions, normal_identifier, normal_values, normal_fields, normal_extensions, after, Fault}
-use Rattle.iloc_spec_grammar.specs.Reading.{written_of}
+use Rattle.iloc_spec_grammar.specs.Reading.{written_of, fields_from, is_two}
 use Rattle.iloc_spec_grammar.specs.Computing.{locale_result}
 use Rattle.iloc_spec_grammar.proofs.RuleTests.{Tests, tests_and, tests_all, tests_if_some}
 use Rattle.iloc_spec_grammar.proofs.ReadBack.{all_append}
@@ -19,7 +19,7 @@ use Rattle.iloc_spec_grammar.proofs.Singletons.{no_u}
 use Rattle.iloc_spec_parts.specs.Small.{SmallLocale, identifier_of_small, keyword_of_small, IsSmall}
 use Rattle.iloc_spec_parts.specs.Inline.{IsInline}
 use Rattle.iloc_spec_parts.specs.SmallComputing.{has_few_values, has_few_words, few_where_read, is_inline}
-use Rattle.iloc_spec_parts.specs.Fronts.{after_attributes, keywords_at}
+use Rattle.iloc_spec_parts.specs.Fronts.{after_attributes, keywords_front}
 use Rattle.iloc_spec_parts.proofs.FrontLaws.{keywords_taken}
 use Rattle.iloc_spec_parts.proofs.InlineBlockLaws.{none_after, each_after}
 use Rattle.iloc_spec_parts.proofs.SmallShapes.{one_at_most, none_mapped, none_there, no_normal_fields}
@@ -126,11 +126,11 @@ after_holds P q [] d n h = n
 after_holds P q (b ∷ bs) d n h = at (lower_singleton b == q) refl (after_holds P q bs d.1 n h.1)
   where
     at : (t : Bool) → (lower_singleton b == q) ≡ t → P (after q bs) → P (cond t b.1 [] ++ after q bs)
-    at true e rest = let same = eqb-true (lower_singleton b) q e in subst P (sym (ap (λ l. b.1 ++ l) (subst (λ (c : ℕ). after c bs ≡ []) same (none_after (lower_singleton b) bs d.0)) ∙ append-nil b.1)) (h.0 same)
+    at true e rest = let same = eqb-true (lower_singleton b) q e in subst P (sym (ap (λ l. b.1 ++ l) (subst (λ (c : ℕ). after c bs ≡ []) same (none_after (lower_singleton b) bs (false_from_ne_true _ d.0))) ∙ append-nil b.1)) (h.0 same)
     at false e rest = rest
 
 same_keywords : (u v : Unicode) → IsUnicode u → IsUnicode v → unicode_pieces u ≡ unicode_pieces v → v.keywords ≡ u.keywords
-same_keywords u v g h e = sym (keywords_taken v [] h refl) ∙ ap (λ l. keywords_at (after_attributes (l ++ []))) (sym e) ∙ keywords_taken u [] g refl
+same_keywords u v g h e = sym (keywords_taken v [] h refl) ∙ ap (λ l. fields_from is_two (keywords_front (after_attributes (l ++ [])))) (sym e) ∙ keywords_taken u [] g refl
 
 all_left : {X : Type 0} (P : X → Type 0) (xs ys : List X) → AllByRecursion P (xs ++ ys) → AllByRecursion P xs
 all_left P [] ys h = tt

@@ -3,11 +3,11 @@
 use Rattle.std.proofs.Common.{◌≡◌, ◌↔◌, ℕ, ◌≤◌, Bool, true, false, cond, ◌==◌, ◌||◌, List, [], ◌∷◌, ◌++◌, length, map, refl, sym, ap, ◌∙◌, subst, arith, Option, true≢false}
 use Rattle.std.specs.List.{AllByRecursion, list_any}
 use Rattle.std.specs.Ordering.{nat_cmp, eq_by_cmp}
-use Rattle.std.proofs.lemmas.Bool.{cond_both, false_from_ne_true, eqb-true, or_parts}
+use Rattle.std.proofs.lemmas.Bool.{cond_both, false_from_ne_true, eqb-true, or_parts, both_ways, or_from}
 use Rattle.std.proofs.lemmas.Bool.Decides.{nat_tests}
 use Rattle.iloc_spec_grammar.specs.Syntax.{Kind, Language, Script, Region, Variant, Attribute, is_word, IsWord, AreLengths, lower, word_cmp, Identifier, Fields, lower_singleton, first_piece}
 use Rattle.iloc_spec_grammar.specs.Tree.{HasSingleton, IsNew, IsBlock}
-use Rattle.iloc_spec_grammar.specs.Meaning.{set_of, normal_fields, normal_values, RepeatsVariant}
+use Rattle.iloc_spec_grammar.specs.Meaning.{set_of, normal_fields, normal_values, RepeatsVariant, IsSecond}
 use Rattle.iloc_spec_grammar.specs.Reading.{passing, past, take_first, skip_first, EndsBefore, starts_block, is_two, after_script, after_region, front_of, after_front, IdentifierFront, fields_from}
 use Rattle.iloc_spec_grammar.specs.Computing.{all_different}
 use Rattle.iloc_spec_grammar.proofs.WordsLaws.{length-language, length-transform_key}
@@ -176,9 +176,6 @@ pub data MeetsLongBlock (T : ℕ → Bool) : List ℕ → List (ℕ × List (Lis
   here : {seen : List ℕ} {b : ℕ × List (List ℕ)} {bs : List (ℕ × List (List ℕ))} → HasSingleton b → IsNew seen b → ¬ (IsShortBlock T b) → MeetsLongBlock T seen (b ∷ bs)
   later : {seen : List ℕ} {b : ℕ × List (List ℕ)} {bs : List (ℕ × List (List ℕ))} → HasSingleton b → IsNew seen b → IsBlock T b → MeetsLongBlock T (lower_singleton b ∷ seen) bs → MeetsLongBlock T seen (b ∷ bs)
 
-same_test : (q c : ℕ) → (q == c) ≡ eq_by_cmp nat_cmp q c
-same_test q c = grind (arith, nat_tests)
-
 -- what was met, after good blocks
 record Met (T : ℕ → Bool) (seen : List ℕ) (bs : List (ℕ × List (List ℕ))) : Type 0 where
   good : List (ℕ × List (List ℕ))
@@ -188,21 +185,21 @@ record Met (T : ℕ → Bool) (seen : List ℕ) (bs : List (ℕ × List (List �
   good_before : AreGood T seen good
   letter : HasSingleton block
   new : IsNew seen block
-  first : list_any (λ c. lower_singleton block == lower_singleton c) good ≡ false
+  first : ¬ (IsSecond good block)
   long : ¬ (IsShortBlock T block)
 
 module _ {T : ℕ → Bool} where
-  after_good : (b : ℕ × List (List ℕ)) (rest : List (ℕ × List (List ℕ))) (seen : List ℕ) (good : List (ℕ × List (List ℕ))) → AreGood T seen good → HasSingleton b → IsNew seen b → list_any (λ c. lower_singleton b == lower_singleton c) good ≡ false → ¬ (IsShortBlock T b) → MeetsLongBlock T seen (good ++ (b ∷ rest))
+  after_good : (b : ℕ × List (List ℕ)) (rest : List (ℕ × List (List ℕ))) (seen : List ℕ) (good : List (ℕ × List (List ℕ))) → AreGood T seen good → HasSingleton b → IsNew seen b → ¬ (IsSecond good b) → ¬ (IsShortBlock T b) → MeetsLongBlock T seen (good ++ (b ∷ rest))
   after_good b rest seen [] g l k n x = here l k x
   after_good b rest seen (d ∷ ds) g l k n x =
-      let parts = or_parts _ _ n in
-      later g.0.0 g.0.1 g.0.2 (after_good b rest (lower_singleton d ∷ seen) ds g.1 l (λ i. (sym (same_test (lower_singleton b) (lower_singleton d)) ∙ parts.0) i || k i) parts.1 x)
+      let parts = or_parts _ _ (false_from_ne_true _ n) in
+      later g.0.0 g.0.1 g.0.2 (after_good b rest (lower_singleton d ∷ seen) ds g.1 l (λ i. parts.0 i || k i) (both_ways _ parts.1) x)
 
   pub reached_is_met : {bs : List (ℕ × List (List ℕ))} → ReachesLongBlock T bs → MeetsLongBlock T [] bs
-  reached_is_met (good, rest, b, e, blocks, l, n, x) = subst (MeetsLongBlock T []) (sym e) (after_good b rest [] good (good_blocks blocks.1) l refl (false_from_ne_true _ n) x)
+  reached_is_met (good, rest, c, ps, e, blocks, l, n, x) = subst (MeetsLongBlock T []) (sym e) (after_good (c, ps) rest [] good (good_blocks blocks.1) l refl n x)
 
   met : {seen : List ℕ} {bs : List (ℕ × List (List ℕ))} → MeetsLongBlock T seen bs → Met T seen bs
-  met (here {b = b} {bs = bs} l n x) = record { good = []; block = b; rest = bs; whole = refl; good_before = tt; letter = l; new = n; first = refl; long = x }
+  met (here {b = b} {bs = bs} l n x) = record { good = []; block = b; rest = bs; whole = refl; good_before = tt; letter = l; new = n; first = both_ways _ refl; long = x }
   met (later {b = d} l n r m) =
       let h = met m in
       let parts = or_parts _ _ h.new in
@@ -214,9 +211,9 @@ module _ {T : ℕ → Bool} where
         good_before = ((l, n, r), h.good_before);
         letter = h.letter;
         new = parts.1;
-        first = λ i. (same_test (lower_singleton h.block) (lower_singleton d) ∙ parts.0) i || h.first i;
+        first = both_ways _ (or_from _ _ parts.0 (false_from_ne_true _ h.first));
         long = h.long;
       }
 
   pub met_is_reached : {bs : List (ℕ × List (List ℕ))} → MeetsLongBlock T [] bs → ReachesLongBlock T bs
-  met_is_reached m = let h = met m in (h.good, h.rest, h.block, h.whole, blocks_spelled h.good_before, h.letter, (λ s. true≢false (sym s ∙ h.first)), h.long)
+  met_is_reached m = let h = met m in (h.good, h.rest, h.block.0, h.block.1, h.whole, blocks_spelled h.good_before, h.letter, h.first, h.long)

@@ -1,11 +1,11 @@
 -- A small value prints as a well-formed locale does, and its text is read as it.
 use Rattle.std.proofs.Common.{◌≡◌, ◌≤◌, ℕ, Bool, false, not, cond, List, [], ◌∷◌, length, map, filter, refl, sym, ap, ◌∙◌, subst, arith, Option, Some, None, IfSome, option_map, option_to_list}
 use Rattle.std.specs.List.{AllByRecursion}
-use Rattle.std.proofs.lemmas.Bool.{cond_both, not-true}
-use Rattle.iloc_spec_grammar.specs.Syntax.{pieces, join, AreLengths, Kind, Language, Script, Region, Variant, UnicodeKey, Attribute, IsWord, lower, normal, is_true, HasWords}
+use Rattle.std.proofs.lemmas.Bool.{both_ways, cond_both, not-true}
+use Rattle.iloc_spec_grammar.specs.Syntax.{pieces, join, AreLengths, Kind, Language, Script, Region, Variant, UnicodeKey, Attribute, IsWord, lower, normal, is_true, HasWords, word_cmp}
 use Rattle.iloc_spec_grammar.specs.Tree.{IsWritten, spelling, printed}
 use Rattle.iloc_spec_grammar.specs.Meaning.{normal_values}
-use Rattle.iloc_spec_grammar.specs.Values.{IsNormal, IsAscending, IsValue, IsWellFormed, IsIdentifierValue, text}
+use Rattle.iloc_spec_grammar.specs.Values.{IsNormal, StrictlyAscends, IsValue, IsWellFormed, IsIdentifierValue, text}
 use Rattle.iloc_spec_grammar.proofs.ReadBack.{pieces_spelled, OfWords}
 use Rattle.iloc_spec_grammar.proofs.ValuesLaws.{value_identifier}
 use Rattle.iloc_spec_grammar.proofs.WellRead.{option_normal}
@@ -25,9 +25,9 @@ pub one_normal : (k : Kind) (o : Option (List ℕ)) → IfSome o (IsNormal k) �
 one_normal k None h = tt
 one_normal k (Some w) h = (h, tt)
 
-pub one_ascends : (o : Option (List ℕ)) → IsAscending (option_to_list o)
-one_ascends None = refl
-one_ascends (Some w) = refl
+pub one_ascends : (o : Option (List ℕ)) → StrictlyAscends word_cmp (option_to_list o)
+one_ascends None = tt
+one_ascends (Some w) = (tt, tt)
 
 identifier_is : {T : ℕ → Bool} (r : SmallLocale) → IsSmallValue T r → IsIdentifierValue T (identifier_of_small r.id)
 identifier_is {T = T} r h = record { language = h.language; script = h.script; region = h.region; variants = one_normal Variant r.id.variant h.variant; ascending = one_ascends r.id.variant }
@@ -51,7 +51,7 @@ keyword_written {T = T} r h = from r.keyword h.key h.value
   where
     from : (k : Option (List ℕ × Option (List ℕ))) → IfSome k (λ k. IsNormal UnicodeKey k.0) → IfSome k (λ k. IfSome k.1 (λ w. IsNormal Attribute w × (is_true w ≡ false))) → IsWritten T (small_written (identifier_of_small r.id) (with_u k))
     from None a b = record { id = value_identifier _ (identifier_is r h); extensions = tt; different = tt; private = tt }
-    from (Some k) a b = record { id = value_identifier _ (identifier_is r h); extensions = ((refl, record { attributes = tt; keywords = ((a.0, words_of k.1 b), tt); nonempty = omega arith }), tt); different = (refl, tt); private = tt }
+    from (Some k) a b = record { id = value_identifier _ (identifier_is r h); extensions = ((refl, record { attributes = tt; keywords = ((a.0, words_of k.1 b), tt); nonempty = omega arith }), tt); different = (both_ways _ refl, tt); private = tt }
 
 printed_small : (r : SmallLocale) → printed (locale_of_small r) ≡ small_written (identifier_of_small r.id) (with_u r.keyword)
 printed_small r = elim r.keyword as (λ k. printed (locale_of_small (record { id = r.id; keyword = k })) ≡ small_written (identifier_of_small r.id) (with_u k)) [ None ↦ refl | Some k ↦ refl ]

@@ -7,7 +7,7 @@ use Rattle.std.specs.Ordering.{nat_cmp, eq_by_cmp, is_eq}
 use Rattle.std.specs.declared.cmp.Ordering.{Ordering}
 use Rattle.std.specs.Cmp.{IsTotalOrder, nat_cmp_total, tied_itself}
 use Rattle.std.specs.FinMap.{find}
-use Rattle.std.proofs.lemmas.Bool.{or_parts, eq-eqb, false_from_ne_true}
+use Rattle.std.proofs.lemmas.Bool.{or_parts, eq-eqb, false_from_ne_true, both_ways}
 use Rattle.std.proofs.lemmas.Bool.Decides.{nat_tests}
 use Rattle.std.proofs.lemmas.List.{length-map}
 use Rattle.iloc_spec_grammar.specs.Syntax.{pieces, UnicodeKey, Attribute, IsWord, lower, word_cmp, Identifier, Fields, Transform, identifier_pieces, fields_pieces, transform_pieces, IsIdentifier, AllDifferent, kept, is_other_singleton, lower_singleton, head, tail_blocks}
@@ -33,7 +33,7 @@ short_set (w ∷ v ∷ ws) h = absurd (omega arith)
 
 pub short_different : (ws : List (List ℕ)) → length ws ≤ 1 → AllDifferent word_cmp (map lower ws)
 short_different [] h = tt
-short_different (w ∷ []) h = (refl, tt)
+short_different (w ∷ []) h = (both_ways _ refl, tt)
 short_different (w ∷ v ∷ ws) h = absurd (omega arith)
 
 pub one_at_most : {X : Type 0} (o : Option X) → length (option_to_list o) ≤ 1
@@ -161,7 +161,7 @@ one_of_u ((c, ps) ∷ []) d h u (f ∷ []) k w l (Some q) e =
       means = λ i. Some (key i, (sym (first-option q.1) ∙ ap first_item value) i);
     }
 one_of_u bs d h u (f ∷ g ∷ fs) k w l o e = absurd (omega arith)
-one_of_u (b ∷ c ∷ bs) d h u fs k w l o e = absurd (true≢false (sym (ap (λ q. eq_by_cmp nat_cmp q (lower_singleton c)) u.0 ∙ ap (eq_by_cmp nat_cmp 117) u.1.0 ∙ self_tied 117) ∙ (or_parts _ _ d.0).0))
+one_of_u (b ∷ c ∷ bs) d h u fs k w l o e = absurd (true≢false (sym (ap (λ q. eq_by_cmp nat_cmp q (lower_singleton c)) u.0 ∙ ap (eq_by_cmp nat_cmp 117) u.1.0 ∙ self_tied 117) ∙ (or_parts _ _ (false_from_ne_true _ d.0)).0))
 
 pub keyword_spelled : {T : ℕ → Bool} (t : List ℕ) (r : SmallLocale) → IsSmall T t r → SpellsKeyword (tail_blocks (pieces t)) r.keyword
 keyword_spelled t r h =
@@ -195,7 +195,7 @@ spelled_keyword : {T : ℕ → Bool} (k : Option WrittenKeyword) → IfSome k Is
 spelled_keyword None g = record { blocks = tt; different = tt; unicode = (record { attributes = tt; keywords = tt }, refl); transform = (record { id = tt; fields = tt }, refl); private = (tt, refl); others = (tt, refl) }
 spelled_keyword (Some k) g = record {
   blocks = ((u_letter k.byte g.u, omega arith), tt);
-  different = (refl, tt);
+  different = (both_ways _ refl, tt);
   unicode = (record { attributes = tt; keywords = ((g.key, g.values), tt) }, rw g.u refl);
   transform = (record { id = tt; fields = tt }, rw g.u refl);
   private = (tt, rw g.u refl);

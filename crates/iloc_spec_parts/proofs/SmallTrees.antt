@@ -1,7 +1,7 @@
 -- Small texts by the trees that they spell.
 use Rattle.std.proofs.Common.{◌≡◌, ◌≢◌, ℕ, ◌≤◌, Bool, false, ◌==◌, List, [], ◌∷◌, ◌++◌, length, map, flat_map, refl, sym, ap, ◌∙◌, subst, arith, Option, Some, None, IfSome, option_map, true≢false, append-nil}
 use Rattle.std.specs.List.{AllByRecursion}
-use Rattle.std.proofs.lemmas.Bool.{ne_eqb}
+use Rattle.std.proofs.lemmas.Bool.{ne_eqb, both_ways}
 use Rattle.iloc_spec_grammar.specs.Syntax.{pieces, UnicodeKey, Attribute, IsWord, Identifier, HasWords, head, tail_blocks, blocks, lower_singleton}
 use Rattle.iloc_spec_grammar.specs.Tree.{Extension, unicode, Written, IsWritten, spelling, block_pieces, extension_block}
 use Rattle.iloc_spec_grammar.specs.Meaning.{normal_values}
@@ -88,7 +88,7 @@ small_is_tree {T = T} t r h =
   where
     rules : (k : Option WrittenKeyword) → IfSome k IsSmallKeyword → IsWritten T (small_written h.id.written k)
     rules None g = record { id = h.id.grammatical; extensions = tt; different = tt; private = tt }
-    rules (Some k) g = record { id = h.id.grammatical; extensions = ((g.u, record { attributes = tt; keywords = ((g.key, g.values), tt); nonempty = omega arith }), tt); different = (refl, tt); private = tt }
+    rules (Some k) g = record { id = h.id.grammatical; extensions = ((g.u, record { attributes = tt; keywords = ((g.key, g.values), tt); nonempty = omega arith }), tt); different = (both_ways _ refl, tt); private = tt }
 
     few : (k : Option WrittenKeyword) → IfSome k IsSmallKeyword → IfSome k (λ k. length (normal_values k.values) ≤ 1)
     few None g = tt

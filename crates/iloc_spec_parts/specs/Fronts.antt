@@ -145,10 +145,6 @@ pub data OtherFault (ps : List Text) : Fault → Type 0 where
 
 -- After `x`: all the rest, which is private words.
 
--- the longest front of private words
-abbrev pub private_front : List Text → List Text
-private_front ps = passing (is_word PrivateSubtag) ps
-
 -- after `x` all pieces are read, and nothing is left (UTS #35 3.2, `pu_extensions`)
 pub record PrivateRead (ps ws rest : List Text) : Type 0 where
   pub follows : IsPrivate ps
@@ -161,27 +157,22 @@ pub data PrivateFault (ps : List Text) : Fault → Type 0 where
 
 -- A plain program for each reader of a front: the value and what is left, or the fault.
 
--- the keywords and the fields at the front, as they are written
-
--- the keywords at the front, as they are spelled
-abbrev pub keywords_at : List Text → Fields
-keywords_at ps = fields_from is_two (keywords_front ps)
-
 -- the keywords before the first one whose key is none: a reader keeps these, and no more
 abbrev pub before_bad_key : Fields → Fields
 before_bad_key [] = []
-before_bad_key (f ∷ fs) = if is_word UnicodeKey f.0 then f ∷ before_bad_key fs else []
+before_bad_key ((k, ws) ∷ fs) = if is_word UnicodeKey k then (k, ws) ∷ before_bad_key fs else []
 
 -- the keywords that a reader keeps before a fault, or before the end
 abbrev pub keywords_kept : List Text → Fields
-keywords_kept ps = before_bad_key (keywords_at ps)
+keywords_kept ps = before_bad_key (fields_from is_two (keywords_front ps))
 
+-- the fields at the front, as they are spelled
 abbrev pub fields_at : List Text → Fields
 fields_at ps = fields_from (is_word TransformKey) (fields_front ps)
 
 abbrev pub keywords_result : List Text → Result (Fields × List Text) Fault
 keywords_result ps = if list_any is_bad_key (keywords_front ps) then Err InvalidExtension
-    else Ok (normal_fields (keywords_at ps), after_keywords ps)
+    else Ok (normal_fields (fields_from is_two (keywords_front ps)), after_keywords ps)
 
 -- the attributes of ps and the keywords after them
 abbrev pub attributes_and : List Text → Result (Fields × List Text) Fault

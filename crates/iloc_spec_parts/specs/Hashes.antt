@@ -31,7 +31,7 @@ identifier_fed i = word_fed i.language ++ option word_fed i.script ++ option wor
 
 -- Keywords, and fields after `t`, feed each key with its value.
 abbrev pub fields_fed : Fields → HashWrites
-fields_fed fs = slice (λ f. word_fed f.0 ++ words_fed f.1) fs
+fields_fed fs = slice (λ (key, ws). word_fed key ++ words_fed ws) fs
 
 -- A unicode extension feeds keywords and attributes.
 abbrev pub unicode_fed : Unicode → HashWrites
@@ -43,7 +43,7 @@ transform_fed m = option identifier_fed m.id ++ fields_fed m.fields
 
 -- Another extension feeds singleton and words.
 abbrev pub other_fed : Block → HashWrites
-other_fed o = u8 o.0 ++ words_fed o.1
+other_fed (c, ws) = u8 c ++ words_fed ws
 
 -- Extensions feed unicode, transform, private words and others.
 abbrev pub extensions_fed : Extensions → HashWrites

@@ -1,12 +1,12 @@
 -- Inline texts: locales of at most four words in each list and one keyword, which are read without
 -- memory, since so many are kept inline. Every small text is one. This project's rule.
-use Rattle.std.specs.Prelude.{◌≡◌, ◌≤◌, if◌then◌else◌, [], length, IfSome, true, List, ◌∷◌, ◌++◌}
+use Rattle.std.specs.Prelude.{◌≡◌, ℕ, ◌≤◌, if◌then◌else◌, [], length, IfSome, true, List, ◌∷◌, ◌++◌}
 use Rattle.std.specs.List.{AllByRecursion}
-use Rattle.std.specs.Char.{is_ascii_alphanumeric}
-use Rattle.iloc_spec_grammar.specs.Syntax.{Text, LanguageLengths, Block, code_t, code_u, code_x, pieces, Language, IsWord, is_word, first_piece, Identifier, identifier_pieces, IsIdentifier, IsOther, kept, is_other_singleton, lower_singleton}
+use Rattle.std.specs.Char.{is_ascii_alphanumeric, to_ascii_lowercase}
+use Rattle.iloc_spec_grammar.specs.Syntax.{Text, LanguageLengths, Block, code_t, code_u, code_x, pieces, Language, IsWord, is_word, PrivateSubtag, first_piece, Identifier, identifier_pieces, IsIdentifier, IsOther, kept, is_other_singleton}
 use Rattle.iloc_spec_grammar.specs.Meaning.{Extensions, IdentifierMeans, SpellsExtensions, normal_identifier, normal_unicode, normal_values, normal_fields, head, tail_blocks, AreBlocks, IsSecond, RepeatsVariant}
-use Rattle.iloc_spec_grammar.specs.Reading.{front_of, after_front}
-use Rattle.iloc_spec_parts.specs.Fronts.{attributes_read, after_attributes, BeginsField, other_front, private_front, keywords_kept}
+use Rattle.iloc_spec_grammar.specs.Reading.{passing, front_of, after_front}
+use Rattle.iloc_spec_parts.specs.Fronts.{attributes_read, after_attributes, BeginsField, other_front, keywords_kept}
 
 -- The text is a locale with few words: no transform fields, no other extensions, one keyword at
 -- most, and at most four values besides `true` at each key as it is written.
@@ -18,7 +18,7 @@ pub record IsInline (T : LanguageLengths) (t : Text) : Type 0 where
   pub variants : length id.variants ≤ 4
   pub attributes : length (normal_unicode extensions.unicode).attributes ≤ 4
   pub keywords : length (normal_unicode extensions.unicode).keywords ≤ 1
-  pub values : AllByRecursion (λ f. length (normal_values f.1) ≤ 4) extensions.unicode.keywords
+  pub values : AllByRecursion (λ (_, ws). length (normal_values ws) ≤ 4) extensions.unicode.keywords
   pub transform_variants : IfSome extensions.transform.id
       (λ i. length (normal_identifier i).variants ≤ 4)
   pub no_fields : extensions.transform.fields ≡ []
@@ -32,7 +32,7 @@ pub record IsInline (T : LanguageLengths) (t : Text) : Type 0 where
 pub record IsShortUnicode (ps : List Text) : Type 0 where
   pub attributes : length (attributes_read ps) ≤ 4
   pub keys : length (normal_fields (keywords_kept (after_attributes ps))) ≤ 1
-  pub values : AllByRecursion (λ f. length (normal_values f.1) ≤ 4)
+  pub values : AllByRecursion (λ (_, ws). length (normal_values ws) ≤ 4)
       (keywords_kept (after_attributes ps))
 
 -- after `t`: four variants at most after a language; and no key with a value follows, unless a
@@ -46,19 +46,24 @@ pub record IsShortTransform (T : LanguageLengths) (ps : List Text) : Type 0 wher
 abbrev pub IsShortOther : List Text → Type 0
 IsShortOther ps = (length (kept (other_front ps)) ≤ 4) × ¬ (IsOther ps)
 
--- the block holds few words up to the end of its part, or up to a fault; after `x`, four at most
-pub record IsShortBlock (T : LanguageLengths) (b : Block) : Type 0 where
-  pub unicode : lower_singleton b ≡ code_u → IsShortUnicode b.1
-  pub transform : lower_singleton b ≡ code_t → IsShortTransform T b.1
-  pub private : lower_singleton b ≡ code_x → length (private_front b.1) ≤ 4
-  pub other : is_other_singleton (lower_singleton b) ≡ true → IsShortOther b.1
+-- after the singleton s in lower case, the pieces hold few words up to the end of their part, or up
+-- to a fault; after `x`, four at most
+pub record IsShortBody (T : LanguageLengths) (s : ℕ) (ps : List Text) : Type 0 where
+  pub unicode : s ≡ code_u → IsShortUnicode ps
+  pub transform : s ≡ code_t → IsShortTransform T ps
+  pub private : s ≡ code_x → length (passing (is_word PrivateSubtag) ps) ≤ 4
+  pub other : is_other_singleton s ≡ true → IsShortOther ps
+
+-- the block has few words
+abbrev pub IsShortBlock : LanguageLengths → Block → Type 0
+IsShortBlock T (c, ps) = IsShortBody T (to_ascii_lowercase c) ps
 
 -- A block that isn't short is reached: those before it are good, and its own singleton is a letter
 -- or digit, and new. Only there may a reader of blocks allocate.
 abbrev pub ReachesLongBlock : LanguageLengths → List Block → Type 0
-ReachesLongBlock T bs = (good rest : List Block) × (b : Block) × (bs ≡ good ++ (b ∷ rest))
-    × AreBlocks T good × (is_ascii_alphanumeric b.0 ≡ true) × ¬ (IsSecond good b)
-    × ¬ (IsShortBlock T b)
+ReachesLongBlock T bs = (good rest : List Block) × (c : ℕ) × (ps : List Text)
+    × (bs ≡ good ++ ((c, ps) ∷ rest)) × AreBlocks T good × (is_ascii_alphanumeric c ≡ true)
+    × ¬ (IsSecond good (c, ps)) × ¬ (IsShortBody T (to_ascii_lowercase c) ps)
 
 -- the head has four variants at most, and each block after it is short
 pub record IsInlineByBlocks (T : LanguageLengths) (t : Text) : Type 0 where

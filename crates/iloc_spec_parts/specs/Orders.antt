@@ -19,7 +19,7 @@ pub record IsExactOrder {X : Type 0} (R : X → X → Ordering) : Type 0 where
 -- Pairs, first by the key.
 abbrev pub pair_cmp : {X Y : Type 0} → (X → X → Ordering) → (Y → Y → Ordering) → X × Y → X × Y
     → Ordering
-pair_cmp R S = then_cmp (on (λ p. p.0) R) (on (λ p. p.1) S)
+pair_cmp R S = then_cmp (on (λ (x, _). x) R) (on (λ (_, y). y) S)
 
 -- Lists of words, as short lists.
 abbrev pub words_cmp : List Text → List Text → Ordering

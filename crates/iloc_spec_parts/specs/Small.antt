@@ -35,7 +35,7 @@ identifier_of_small r = record {
 
 -- the keyword of the same key, with one value at most
 abbrev pub keyword_of_small : Text × Option Text → Field
-keyword_of_small k = (k.0, option_to_list k.1)
+keyword_of_small (key, value) = (key, option_to_list value)
 
 -- the locale of the same identifier and keyword, and of nothing else
 abbrev pub locale_of_small : SmallLocale → Locale
@@ -96,5 +96,6 @@ pub record IsSmallValue (T : LanguageLengths) (r : SmallLocale) : Type 0 where
   pub script : IfSome r.id.script (IsNormal Script)
   pub region : IfSome r.id.region (IsNormal Region)
   pub variant : IfSome r.id.variant (IsNormal Variant)
-  pub key : IfSome r.keyword (λ k. IsNormal UnicodeKey k.0)
-  pub value : IfSome r.keyword (λ k. IfSome k.1 (λ w. IsNormal Attribute w × (is_true w ≡ false)))
+  pub key : IfSome r.keyword (λ (key, _). IsNormal UnicodeKey key)
+  pub value : IfSome r.keyword
+      (λ (_, value). IfSome value (λ w. IsNormal Attribute w × (is_true w ≡ false)))

@@ -90,14 +90,14 @@ small_text (Err f) = Err f
 -- Inline texts.
 
 abbrev pub has_few_values : Extension → Bool
-has_few_values (unicode u) = list_all (λ f. nat_le (length (normal_values f.1)) 4) u.keywords
+has_few_values (unicode u) = list_all (λ (_, ws). nat_le (length (normal_values ws)) 4) u.keywords
 has_few_values _ = true
 
 -- few words in the lists of what the text means, and at each keyword as it is written
 abbrev pub has_few_words : Written → Locale → Bool
 has_few_words w M = let e = M.extensions in
     ((nat_le (length M.id.variants) 4 && nat_le (length e.unicode.attributes) 4)
-    && (nat_le (length e.unicode.keywords) 1 && list_all (λ e. has_few_values e.1) w.extensions))
+    && (nat_le (length e.unicode.keywords) 1 && list_all (λ (_, x). has_few_values x) w.extensions))
     && ((holds_if_some (λ i. nat_le (length i.variants) 4) e.transform.id
     && nat_le (length e.transform.fields) 0)
     && (nat_le (length e.private) 4 && nat_le (length e.others) 0))

@@ -26,7 +26,7 @@ ghost use Rattle.iloc_spec_parts.specs.ByReaders.{MeansByReaders};
 pub fn keywords_front()
     ensures reader { IsReader KeywordsRead KeywordsFault }
     ensures answer { (ps : List Text)
-        → MatchResult (keywords_result ps) (λ r. KeywordsRead ps r.0 r.1) (KeywordsFault ps) }
+        → MatchResult (keywords_result ps) (λ (m, rest). KeywordsRead ps m rest) (KeywordsFault ps) }
 {}
 
 /// What comes after `u` is read from the front, or has a fault; if nothing of the block is left it is what the block means.
@@ -34,7 +34,7 @@ pub fn keywords_front()
 pub fn unicode_front()
     ensures reader { IsReader UnicodeRead UnicodeFault }
     ensures answer { (ps : List Text)
-        → MatchResult (unicode_result ps) (λ r. UnicodeRead ps r.0 r.1) (UnicodeFault ps) }
+        → MatchResult (unicode_result ps) (λ (u, rest). UnicodeRead ps u rest) (UnicodeFault ps) }
     ensures blocks { AgreesWithBlocks UnicodeRead UnicodeFault UnicodeMeans }
 {}
 
@@ -43,7 +43,7 @@ pub fn transform_front()
     ensures reader { (T : LanguageLengths) → AreLengths T
         → IsReader (TransformRead T) (TransformFault T) }
     ensures answer { (T : LanguageLengths) → AreLengths T → (ps : List Text)
-        → MatchResult (transform_result T ps) (λ r. TransformRead T ps r.0 r.1)
+        → MatchResult (transform_result T ps) (λ (m, rest). TransformRead T ps m rest)
         (TransformFault T ps) }
     ensures blocks { (T : LanguageLengths) → AreLengths T
         → AgreesWithBlocks (TransformRead T) (TransformFault T) (TransformMeans T) }
@@ -56,7 +56,7 @@ pub fn transform_front()
 pub fn other_front()
     ensures reader { IsReader OtherRead OtherFault }
     ensures answer { (ps : List Text)
-        → MatchResult (other_result ps) (λ r. OtherRead ps r.0 r.1) (OtherFault ps) }
+        → MatchResult (other_result ps) (λ (ws, rest). OtherRead ps ws rest) (OtherFault ps) }
     ensures blocks { AgreesWithBlocks OtherRead OtherFault OtherMeans }
 {}
 

@@ -135,7 +135,7 @@ pub locale_is_value : {T : ℕ → Bool} (p : Preferences) → IsPreferences T p
 locale_is_value p h = record {
   id = record { language = h.language; script = h.script; region = region_is p.region h.region; variants = one_normal Variant p.variant h.variant; ascending = one_ascends p.variant };
   extensions = record {
-    unicode = record { attributes = tt; ascending = refl; keywords = all_weaker IsEntry (λ f. IsNormal UnicodeKey f.0 × AllByRecursion (IsNormal Subtag) f.1) (λ f e. e.0) _ (locale_entries p h); keys_ascend = entries_ascend p.region_override p.region };
+    unicode = record { attributes = tt; ascending = tt; keywords = all_weaker IsEntry (λ f. IsNormal UnicodeKey f.0 × AllByRecursion (IsNormal Subtag) f.1) (λ f e. e.0) _ (locale_entries p h); keys_ascend = entries_ascend p.region_override p.region };
     transform = record { id = tt; fields = tt; keys_ascend = refl };
     private = tt;
     others = tt;

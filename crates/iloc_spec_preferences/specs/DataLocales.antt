@@ -82,8 +82,8 @@ agreed (Some r) s = if is_same r s.region then s else whole_region r
 -- subdivision, or there is none.
 abbrev pub small_part : Option Text → Option (Text × Option Text) → Option (Option Subdivision)
 small_part region None = Some (option_map whole_region region)
-small_part region (Some k) = if is_same k.0 (codes "sd")
-    then option_map (λ s. Some (agreed region s)) (option_and_then named_subdivision k.1) else None
+small_part region (Some (key, value)) = if is_same key (codes "sd")
+    then option_map (λ s. Some (agreed region s)) (option_and_then named_subdivision value) else None
 
 -- The data locale of a small locale, if its keyword has one.
 abbrev pub data_of_small : SmallLocale → Option DataLocale

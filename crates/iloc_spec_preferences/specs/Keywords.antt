@@ -77,7 +77,7 @@ numbered n (x ∷ xs) = (x, n) ∷ numbered (n + 1) xs
 
 -- What is read beyond the variants, and as what: the kinds after `islamic`, and two old forms.
 abbrev pub further_readings : EnumKeyword → List (List Text × EnumValue)
-further_readings CalendarAlgorithm = map (λ e. (codes "islamic" ∷ e.0 ∷ [], (9, Some e.1)))
+further_readings CalendarAlgorithm = map (λ (w, n). (codes "islamic" ∷ w ∷ [], (9, Some n)))
     (numbered 0 hijri_kinds)
     ++ (codes "islamicc" ∷ [], (9, Some 2))
     ∷ (codes "ethiopic" ∷ codes "amete" ∷ codes "alem" ∷ [], (4, None)) ∷ []
@@ -85,7 +85,7 @@ further_readings _ = []
 
 -- All that is read, and as what.
 abbrev pub readings : EnumKeyword → List (List Text × EnumValue)
-readings k = map (λ e. (e.0 ∷ [], (e.1, None))) (numbered 0 (variants k)) ++ further_readings k
+readings k = map (λ (w, n). (w ∷ [], (n, None))) (numbered 0 (variants k)) ++ further_readings k
 
 -- A list as it is written: `true` alone is the empty list.
 abbrev pub unspelled_value : List Text → List Text
@@ -98,7 +98,7 @@ enum_reads k ws = find (slice_cmp word_cmp) (spelled_value ws) (readings k)
 
 -- The words of a value's text: of what is read as it, the first.
 abbrev pub enum_words : EnumKeyword → EnumValue → Option (List Text)
-enum_words k v = find (pair_cmp nat_cmp (option_cmp nat_cmp)) v (map (λ e. (e.1, e.0)) (readings k))
+enum_words k v = find (pair_cmp nat_cmp (option_cmp nat_cmp)) v (map (λ (ws, u). (u, ws)) (readings k))
 
 -- The list that a value is turned into.
 abbrev pub enum_gives : EnumKeyword → EnumValue → Option (List Text)
@@ -107,7 +107,7 @@ enum_gives k v = option_map unspelled_value (enum_words k v)
 -- Each value that some list is read as is read of the list that it gives.
 abbrev pub ReadsWhatItGives : EnumKeyword → Type 0
 ReadsWhatItGives k = AllByRecursion
-    (λ e. option_and_then (enum_reads k) (enum_gives k e.1) ≡ Some e.1) (readings k)
+    (λ (_, v). option_and_then (enum_reads k) (enum_gives k v) ≡ Some v) (readings k)
 
 -- Keywords whose values are words of a kind. `nu` and `tz` are read as their only subtag
 -- (`single`); `cu` stands in `SingleValues` of `iloc_spec_parts`.

@@ -33,7 +33,7 @@ Only g P f = (f ≡ g) × P
 -- that has a fault, by that fault. Out of memory is the only way out, and only if it may happen.
 -- This project's rule.
 
--- the answer to a text that means v: v, which `value` sees in the result, or out of memory
+-- the answer to a text that means v: something whose value is v, or out of memory
 abbrev pub Accepts : {X V : Type 0} → (X → V) → Type 0 → V → Result X ParseError → Type 0
 Accepts value MayRunOut v = Answers (λ x. value x ≡ v) (λ f. ⊥) MayRunOut
 

@@ -2,10 +2,10 @@
 use Rattle.std.proofs.Common.{◌≡◌, ℕ, ◌<◌, ◌≤◌, cond, List, [], ◌∷◌, ◌++◌, length, map, refl, sym, ap, ◌∙◌, subst, arith, append-nil, Some, None, option_map}
 use Rattle.std.specs.List.{AllByRecursion}
 use Rattle.std.proofs.lemmas.List.Sorted.{IsPermutation-sym, IsPermutation-middle}
-use Rattle.iloc_spec_grammar.specs.Syntax.{Attribute, is_word, lower}
+use Rattle.iloc_spec_grammar.specs.Syntax.{Attribute, is_word, lower, word_cmp}
 use Rattle.iloc_spec_grammar.specs.Meaning.{set_of}
 use Rattle.iloc_spec_grammar.specs.Reading.{take_first, skip_first, passing, past}
-use Rattle.iloc_spec_grammar.specs.Values.{IsNormal, IsAscending}
+use Rattle.iloc_spec_grammar.specs.Values.{IsNormal, StrictlyAscends}
 use Rattle.iloc_spec_grammar.proofs.ReadWords.{IsNormal-normal}
 use Rattle.iloc_spec_grammar.proofs.SetLaws.{set_of-first, set_of-set_of, length-set_of}
 use Rattle.iloc_spec_grammar.proofs.ValuesLaws.{set_of_ascending}
@@ -88,12 +88,12 @@ below n l h = omega (arith, l, h)
 
 pub record GatheredFew (before now set : List (List ℕ)) : Type 0 where
   pub gathered : Gathered before now set
-  pub ascending : IsAscending set
+  pub ascending : StrictlyAscends word_cmp set
   pub normal : AllByRecursion (IsNormal Attribute) set
   pub short : length set < 4
 
 pub few_none : (ps : List (List ℕ)) → GatheredFew ps ps []
-few_none ps = record { gathered = gathered_none ps; ascending = refl; normal = tt; short = omega arith }
+few_none ps = record { gathered = gathered_none ps; ascending = tt; normal = tt; short = omega arith }
 
 module _ (before now set : List (List ℕ)) (t : GatheredFew before now set) (w : List ℕ) (later : List (List ℕ)) (e : Some w ≡ option_map lower (take_first (is_word Attribute) now)) (l : later ≡ skip_first (is_word Attribute) now)
     (more : List (List ℕ)) (is : more ≡ set_of (w ∷ set)) where
@@ -112,7 +112,7 @@ module _ (before now set : List (List ℕ)) (t : GatheredFew before now set) (w 
   pub few_new : (length more ≡ 4 → ⊥) → GatheredFew before later more
   few_new fewer = record {
     gathered = few_gathered;
-    ascending = subst IsAscending (sym is) (set_of-ascending (w ∷ set));
+    ascending = subst (StrictlyAscends word_cmp) (sym is) (set_of-ascending (w ∷ set));
     normal = few_normal;
     short = below _ few_length fewer;
   }

@@ -12,7 +12,7 @@ use Rattle.iloc_spec_grammar.specs.Meaning.{map_of, normal_values, normal_fields
 use Rattle.iloc_spec_grammar.specs.Reading.{take_first, skip_first, passing, past, is_two, before_key, fields_from}
 use Rattle.iloc_spec_grammar.proofs.MapLaws.{word_cmp_total, same_words, find-map_of}
 use Rattle.iloc_spec_grammar.proofs.SetLaws.{find-append}
-use Rattle.iloc_spec_parts.specs.Fronts.{is_keyword_piece, keywords_front, after_keywords, is_bad_key, KeywordsRead, KeywordsFault, bad_key, keywords_at, before_bad_key, keywords_kept}
+use Rattle.iloc_spec_parts.specs.Fronts.{is_keyword_piece, keywords_front, after_keywords, is_bad_key, KeywordsRead, KeywordsFault, bad_key, before_bad_key, keywords_kept}
 use Rattle.iloc_spec_parts.proofs.KeptLaws.{HasKey, kept_append}
 use Rattle.iloc_spec_grammar.proofs.ReadBack.{all_append}
 use Rattle.iloc_spec_parts.proofs.FrontLaws.{not_two_bytes, two_bytes_of, good_value, good_key, value_goes_on, keywords_read_of}
@@ -95,7 +95,7 @@ values_first (q ∷ qs) more e = by (is_word Attribute q) refl (values_first qs 
     )
     by false h rest = (e, refl)
 
-fields_at : (p : List ℕ) (qs : List (List ℕ)) → is_two p ≡ true → keywords_at (p ∷ qs) ≡ (p, passing (is_word Attribute) qs) ∷ keywords_at (past (is_word Attribute) qs)
+fields_at : (p : List ℕ) (qs : List (List ℕ)) → is_two p ≡ true → fields_from is_two (keywords_front (p ∷ qs)) ≡ (p, passing (is_word Attribute) qs) ∷ fields_from is_two (keywords_front (past (is_word Attribute) qs))
 fields_at p qs h =
     let more = keywords_front (past (is_word Attribute) qs) in
     let first = values_first qs more (front_begins (past (is_word Attribute) qs)) in
@@ -119,7 +119,7 @@ bad_at p qs h = ap (list_any is_bad_key) (front_at p qs (two_bytes_of p h)) ∙ 
 pub record Filled (before now : List (List ℕ)) (m : Fields) : Type 0 where
   pub fields : Fields
   pub keys : AllByRecursion HasKey fields
-  pub all : keywords_at before ≡ fields ++ keywords_at now
+  pub all : fields_from is_two (keywords_front before) ≡ fields ++ fields_from is_two (keywords_front now)
   pub bad : list_any is_bad_key (keywords_front before) ≡ list_any is_bad_key (keywords_front now)
   pub rest : after_keywords before ≡ after_keywords now
   pub means : m ≡ normal_fields fields
@@ -149,13 +149,13 @@ module _ (before now : List (List ℕ)) (m : Fields) (t : Filled before now m) (
   now_is = let (p, h, same, cut) = took UnicodeKey now w e in (p, h, same, cut ∙ ap (λ ps. p ∷ ps) (sym l))
 
   -- all fields: those so far, the one at the key, and more
-  all_is : (p : List ℕ) → IsWord UnicodeKey p → now ≡ p ∷ later → keywords_at before ≡ t.fields ++ (p, passing (is_word Attribute) later) ∷ keywords_at (past (is_word Attribute) later)
-  all_is p h cut = t.all ∙ ap (λ ps. t.fields ++ keywords_at ps) cut ∙ ap (λ fs. t.fields ++ fs) (fields_at p later (two_bytes_of p h))
+  all_is : (p : List ℕ) → IsWord UnicodeKey p → now ≡ p ∷ later → fields_from is_two (keywords_front before) ≡ t.fields ++ (p, passing (is_word Attribute) later) ∷ fields_from is_two (keywords_front (past (is_word Attribute) later))
+  all_is p h cut = t.all ∙ ap (λ ps. t.fields ++ fields_from is_two (keywords_front ps)) cut ∙ ap (λ fs. t.fields ++ fs) (fields_at p later (two_bytes_of p h))
 
   -- those that are kept, which go on after it
   kept_is : (p : List ℕ) → IsWord UnicodeKey p → now ≡ p ∷ later → keywords_kept before ≡ t.fields ++ (p, passing (is_word Attribute) later) ∷ keywords_kept (past (is_word Attribute) later)
   kept_is p h cut =
-      let more : Fields = keywords_at (past (is_word Attribute) later) in
+      let more : Fields = fields_from is_two (keywords_front (past (is_word Attribute) later)) in
       let f : List ℕ × List (List ℕ) = (p, passing (is_word Attribute) later) in
       ap before_bad_key (all_is p h cut) ∙ kept_append t.fields (f ∷ more) t.keys ∙ ap (λ b. t.fields ++ cond b (f ∷ before_bad_key more) []) h
 
@@ -174,7 +174,7 @@ module _ (before now : List (List ℕ)) (m : Fields) (t : Filled before now m) (
       record {
         fields = t.fields ++ (p, passing (is_word Attribute) later) ∷ [];
         keys = all_append HasKey t.fields ((p, passing (is_word Attribute) later) ∷ []) t.keys (h, tt);
-        all = all_is p h cut ∙ sym (append_assoc t.fields ((p, passing (is_word Attribute) later) ∷ []) (keywords_at (past (is_word Attribute) later))) ∙ ap (λ ps. (t.fields ++ (p, passing (is_word Attribute) later) ∷ []) ++ keywords_at ps) (sym a);
+        all = all_is p h cut ∙ sym (append_assoc t.fields ((p, passing (is_word Attribute) later) ∷ []) (fields_from is_two (keywords_front (past (is_word Attribute) later)))) ∙ ap (λ ps. (t.fields ++ (p, passing (is_word Attribute) later) ∷ []) ++ fields_from is_two (keywords_front ps)) (sym a);
         bad = t.bad ∙ ap (λ ps. list_any is_bad_key (keywords_front ps)) cut ∙ bad_at p later h ∙ ap (λ ps. list_any is_bad_key (keywords_front ps)) (sym a);
         rest = t.rest ∙ ap after_keywords cut ∙ rest_at p later (two_bytes_of p h) ∙ ap after_keywords (sym a);
         means = is ∙ (λ i. cond (is_some (find word_cmp (same i) (t.means i))) (t.means i) (put word_cmp (same i) (v i) (t.means i)))
@@ -232,7 +232,7 @@ pub filled_all : (before now rest : List (List ℕ)) (m : Fields) → Filled bef
 filled_all before now rest m t stays h none =
     let same : rest ≡ now = stays ∙ (took_none UnicodeKey now none).2 in
     let ends = no_key now (ap (λ ps. is_two (first_piece ps)) (sym same) ∙ h) in
-    let all : keywords_at before ≡ t.fields = t.all ∙ ap (λ ps. t.fields ++ fields_from is_two ps) ends.0 ∙ append-nil t.fields in
+    let all : fields_from is_two (keywords_front before) ≡ t.fields = t.all ∙ ap (λ ps. t.fields ++ fields_from is_two ps) ends.0 ∙ append-nil t.fields in
     let read = keywords_read_of before (t.bad ∙ ap (list_any is_bad_key) ends.0) in
     subst (λ (r : Fields × List (List ℕ)). KeywordsRead before r.0 r.1) (λ i. ((ap normal_fields all ∙ sym t.means) i, (t.rest ∙ ends.1 ∙ sym same) i)) read
 

@@ -6,7 +6,7 @@ use Rattle.iloc_word_list.specs.Equality.{words_eq}
 
 -- the key, and then the value
 abbrev pub pair_eq : Text × List Text → Text × List Text → Bool
-pair_eq x y = pointwise nat_eq x.0 y.0 && words_eq x.1 y.1
+pair_eq (k, vs) (l, ws) = pointwise nat_eq k l && words_eq vs ws
 
 -- the equality test of keywords
 abbrev pub fields_eq : Fields → Fields → Bool

@@ -11,7 +11,7 @@ use Rattle.iloc_subtags.specs.Judging.{Answers}
 
 -- the field has more than four subtags besides `true`
 abbrev pub has_many_values : Text × List Text → Bool
-has_many_values f = nat_lt 4 (length (normal_values f.1))
+has_many_values (_, ws) = nat_lt 4 (length (normal_values ws))
 
 -- for what memory may run out: more than four different attributes
 abbrev pub AttributesWantMemory : List Text → Type 0

@@ -28,7 +28,7 @@ ghost use Rattle.std.specs.Slice.{IsItemAt};
 ghost use Rattle.std.specs.Slice.Iter.{iter_rest};
 ghost use Rattle.iloc_spec_grammar.specs.Syntax.{Text, pieces, join, Attribute, is_same, word_cmp};
 ghost use Rattle.iloc_spec_grammar.specs.Meaning.{set_of};
-ghost use Rattle.iloc_spec_grammar.specs.Values.{IsNormal, IsAscending};
+ghost use Rattle.iloc_spec_grammar.specs.Values.{IsNormal, StrictlyAscends};
 ghost use Rattle.iloc_spec_parts.specs.Parts.{AttributesText};
 ghost use Rattle.iloc_subtags.specs.Judging.{Accepts, RunsOutOnlyIf};
 ghost use Rattle.iloc_unicode.specs.Reads.{AttributesTextReads, AttributesWantMemory};
@@ -146,7 +146,7 @@ impl Attributes {
     /// The attributes, ascending.
     pub fn as_slice(&self) -> &[Attribute]
         ensures words { result.now ≡ self.now }
-        ensures ascending { IsAscending self.now }
+        ensures ascending { StrictlyAscends word_cmp self.now }
         ensures normal { AllByRecursion (IsNormal Attribute) self.now }
     {
         self.words.as_slice()

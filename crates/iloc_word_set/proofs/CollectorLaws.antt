@@ -10,13 +10,13 @@ use Rattle.std.specs.Ordering.{is_lt, is_eq, eq_by_cmp}
 use Rattle.std.specs.declared.cmp.Ordering.{Ordering}
 use Rattle.std.specs.declared.cmp.Ordering.TheVariants.{Less, Equal, Greater}
 use Rattle.std.specs.FinMap.{put}
-use Rattle.std.proofs.lemmas.Bool.{and_parts, and_from, or_parts}
+use Rattle.std.proofs.lemmas.Bool.{and_parts, and_from, or_parts, both_ways}
 use Rattle.std.proofs.lemmas.List.Sorted.{IsPermutation-refl, IsPermutation-sym, IsPermutation-cons, IsPermutation-trans, IsPermutation-middle, IsPermutation-to_front, list_any-IsPermutation}
 use Rattle.std.proofs.lemmas.List.Edits.{insert_end}
 use Rattle.std.proofs.lemmas.List.Kept.{IsStrictlySortedBy-dedup}
 use Rattle.iloc_spec_grammar.specs.Syntax.{word_cmp, is_same, AllDifferent}
 use Rattle.iloc_spec_grammar.specs.Meaning.{map_of, set_of}
-use Rattle.iloc_spec_grammar.specs.Values.{IsAscending}
+use Rattle.iloc_spec_grammar.specs.Values.{StrictlyAscends}
 use Rattle.iloc_spec_grammar.proofs.MapLaws.{word_cmp_total, same_words}
 use Rattle.iloc_spec_grammar.proofs.SetLaws.{marked, keys, set_of-set_of, length-set_of-cons, length-set_of}
 use Rattle.iloc_spec_grammar.proofs.ValuesLaws.{set_of_ascending}
@@ -36,9 +36,9 @@ pub differ : (ws : List (List ℕ)) → length (set_of ws) ≡ length ws → All
 differ [] e = tt
 differ (w ∷ ws) e = by (list_any (is_same w) ws) (sym e ∙ length-set_of-cons w ws) (length-set_of ws) (differ ws)
   where
-    by : (b : Bool) → suc (length ws) ≡ cond b (length (set_of ws)) (length (set_of ws) + 1) → length (set_of ws) ≤ length ws → (length (set_of ws) ≡ length ws → AllDifferent word_cmp ws) → (b ≡ false) × AllDifferent word_cmp ws
+    by : (b : Bool) → suc (length ws) ≡ cond b (length (set_of ws)) (length (set_of ws) + 1) → length (set_of ws) ≤ length ws → (length (set_of ws) ≡ length ws → AllDifferent word_cmp ws) → (b ≡ true → ⊥) × AllDifferent word_cmp ws
     by true e l more = absurd (omega (arith, e, l))
-    by false e l more = (refl, more (omega (arith, e)))
+    by false e l more = (both_ways _ refl, more (omega (arith, e)))
 
 -- the same words in another order have the same set
 pub permuted_set : (vs ws : List (List ℕ)) → IsPermutation vs ws → set_of vs ≡ set_of ws
@@ -67,14 +67,14 @@ put_permutes w (e ∷ es) h = by (word_cmp w e.0) refl (put_permutes w es (or_pa
     by Greater l more = rw l (IsPermutation-trans _ _ _ (swapped w e.0 (keys es)) (IsPermutation-cons e.0 _ _ more))
 
 -- a new word that is put in a set is one word more
-pub put_in : (w : List ℕ) (ws : List (List ℕ)) → IsAscending ws → list_any (is_same w) ws ≡ false → IsPermutation (w ∷ ws) (set_of (w ∷ ws))
+pub put_in : (w : List ℕ) (ws : List (List ℕ)) → StrictlyAscends word_cmp ws → list_any (is_same w) ws ≡ false → IsPermutation (w ∷ ws) (set_of (w ∷ ws))
 put_in w ws up new =
     let es = map_of word_cmp (marked ws) in
     let same : keys es ≡ ws = set_of_ascending ws up in
     subst (λ vs. IsPermutation (w ∷ vs) (set_of (w ∷ ws))) same (put_permutes w es (ap (list_any (is_same w)) same ∙ new))
 
 -- what a set's own answer says
-pub taken_in : (added : Bool) (w : List ℕ) (ws new : List (List ℕ)) → IsAscending ws → added ≡ not (list_any (is_same w) ws) → new ≡ set_of (w ∷ ws) → TakesIn w ws new added
+pub taken_in : (added : Bool) (w : List ℕ) (ws new : List (List ℕ)) → StrictlyAscends word_cmp ws → added ≡ not (list_any (is_same w) ws) → new ≡ set_of (w ∷ ws) → TakesIn w ws new added
 taken_in added w ws new up a e = by (list_any (is_same w) ws) refl
   where
     by : (b : Bool) → list_any (is_same w) ws ≡ b → TakesIn w ws new added
@@ -103,14 +103,14 @@ on_err (Err e) P p = p
 
 -- the fifth word
 
-pub one_longer : (w : List ℕ) (ws : List (List ℕ)) → IsAscending ws → list_any (is_same w) ws ≡ false → length (set_of (w ∷ ws)) ≡ length ws + 1
+pub one_longer : (w : List ℕ) (ws : List (List ℕ)) → StrictlyAscends word_cmp ws → list_any (is_same w) ws ≡ false → length (set_of (w ∷ ws)) ≡ length ws + 1
 one_longer w ws up new = length-set_of-cons w ws ∙ ap (λ b. cond b (length (set_of ws)) (length (set_of ws) + 1)) new ∙ ap (λ vs. length vs + 1) (set_of_ascending ws up)
 
-pub five : (w : List ℕ) (ws words : List (List ℕ)) → IsAscending ws → 4 ≤ length ws → list_any (is_same w) ws ≡ false → words ≡ set_of (w ∷ ws) → (4 < length (set_of words)) × (true ≡ true → IsAscending words)
+pub five : (w : List ℕ) (ws words : List (List ℕ)) → StrictlyAscends word_cmp ws → 4 ≤ length ws → list_any (is_same w) ws ≡ false → words ≡ set_of (w ∷ ws) → (4 < length (set_of words)) × (true ≡ true → StrictlyAscends word_cmp words)
 five w ws words up l new e =
     let longer = one_longer w ws up new in
     let same = ap (λ vs. length (set_of vs)) e ∙ ap length (set_of-set_of (w ∷ ws)) in
-    (omega (arith, l, longer, same), λ _. subst IsAscending (sym e) (set_of-ascending (w ∷ ws)))
+    (omega (arith, l, longer, same), λ _. subst (StrictlyAscends word_cmp) (sym e) (set_of-ascending (w ∷ ws)))
 
 -- more words
 
@@ -121,9 +121,9 @@ many_after (Err e) w ws new l t err = subst (λ vs. 4 < length (set_of vs)) (sym
 pub put_last : (w : List ℕ) (ws : List (List ℕ)) → IsPermutation (w ∷ ws) (ws ++ w ∷ [])
 put_last w ws = IsPermutation-sym _ _ (IsPermutation-to_front ws w)
 
-pub last_ascends : (w : List ℕ) (ws new : List (List ℕ)) (at : ℕ) → insert ws at w ≡ set_of (w ∷ ws) → at ≡ length ws → new ≡ ws ++ w ∷ [] → IsAscending new
+pub last_ascends : (w : List ℕ) (ws new : List (List ℕ)) (at : ℕ) → insert ws at w ≡ set_of (w ∷ ws) → at ≡ length ws → new ≡ ws ++ w ∷ [] → StrictlyAscends word_cmp new
 last_ascends w ws new at e l is =
-    subst IsAscending (sym (is ∙ sym (insert_end ws w) ∙ ap (λ i. insert ws i w) (sym l) ∙ e)) (set_of-ascending (w ∷ ws))
+    subst (StrictlyAscends word_cmp) (sym (is ∙ sym (insert_end ws w) ∙ ap (λ i. insert ws i w) (sym l) ∙ e)) (set_of-ascending (w ∷ ws))
 
 -- what is sorted, each word once
 
@@ -149,12 +149,11 @@ any-dedup : (p : List ℕ → Bool) (same : List ℕ → List ℕ → Bool) → 
 any-dedup p same is [] = refl
 any-dedup p same is (w ∷ ws) = any-dedup_from p same is w ws
 
-ascending : (ws : List (List ℕ)) → IsAscending ws → ascends word_cmp ws ≡ true
+-- what ascends passes the test for a set
+pub ascending : (ws : List (List ℕ)) → StrictlyAscends word_cmp ws → ascends word_cmp ws ≡ true
 ascending [] h = refl
 ascending (v ∷ []) h = refl
-ascending (v ∷ (w ∷ ws)) h =
-    let parts = and_parts _ _ h in
-    and_from _ _ (and_parts _ _ parts.0).0 (ascending (w ∷ ws) parts.1)
+ascending (v ∷ (w ∷ ws)) h = and_from _ _ (ap is_lt h.0.0) (ascending (w ∷ ws) h.1)
 
 -- the words in order, each once: they ascend, and are the set
 pub record IsSetOf (ws set : List (List ℕ)) : Type 0 where
@@ -172,5 +171,5 @@ sorted_out ws sorted set p up e =
       is = sym (set_of_ascending set (set_ascends set ascend)) ∙ same_set set ws (λ q. ap (list_any (is_same q)) e ∙ any-dedup (is_same q) (pointwise nat_eq) (λ v w h. same_words v w ((Equal-is _).0 (sym (ties v w) ∙ h))) sorted ∙ sym (list_any-IsPermutation (is_same q) ws sorted p));
     }
 
-pub in_order : (ws : List (List ℕ)) → IsAscending ws → IsSetOf ws ws
+pub in_order : (ws : List (List ℕ)) → StrictlyAscends word_cmp ws → IsSetOf ws ws
 in_order ws up = record { ascend = ascending ws up; is = sym (set_of_ascending ws up) }

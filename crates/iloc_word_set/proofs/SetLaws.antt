@@ -13,9 +13,9 @@ use Rattle.std.proofs.lemmas.List.{drop_all, drop_more}
 use Rattle.std.proofs.lemmas.List.Elements.{All-from_recursion}
 use Rattle.iloc_spec_grammar.specs.Syntax.{word_cmp, is_same}
 use Rattle.iloc_spec_grammar.specs.Meaning.{set_of}
-use Rattle.iloc_spec_grammar.specs.Values.{IsAscending}
+use Rattle.iloc_spec_grammar.specs.Values.{StrictlyAscends}
 use Rattle.iloc_spec_grammar.proofs.MapLaws.{word_cmp_total, same_words, to_T, less, map_of_same, map_of_sorted, from_T}
-use Rattle.iloc_spec_grammar.proofs.ValuesLaws.{unmarked, set_of_ascending}
+use Rattle.iloc_spec_grammar.proofs.ValuesLaws.{unmarked, set_of_ascending, keys_ascend, ascend_as_keys}
 use Rattle.iloc_word_set.specs.Ascending.{ascends}
 use Rattle.iloc_spec_grammar.proofs.SetLaws.{marked, keys, any-set_of}
 use Rattle.std.proofs.lemmas.List.Folds.{list_any-append}
@@ -24,16 +24,6 @@ use Rattle.std.proofs.lemmas.List.Folds.{list_any-append}
 
 turned : (x y : List ℕ) (r : Ordering) → word_cmp y x ≡ r → word_cmp x y ≡ ordering_reverse r
 turned x y r h = word_cmp_total.antisymm x y ∙ ap ordering_reverse h
-
-below : (w : List ℕ) (ws : List (List ℕ)) → below_all word_cmp w (marked ws) ≡ true → AllByRecursion (λ v. word_cmp w v ≡ Less) ws
-below w [] h = tt
-below w (v ∷ ws) h = let parts = and_parts _ _ h in (less _ parts.0, below w ws parts.1)
-
-rest_ascends : (w : List ℕ) (ws : List (List ℕ)) → IsAscending (w ∷ ws) → IsAscending ws
-rest_ascends w ws h = (and_parts _ _ h).1
-
-first_below : (w : List ℕ) (ws : List (List ℕ)) → IsAscending (w ∷ ws) → AllByRecursion (λ v. word_cmp w v ≡ Less) ws
-first_below w ws h = below w ws (and_parts _ _ h).0
 
 less_index : (a b x : List ℕ) → word_cmp a b ≡ Less → ordering_index (word_cmp a x) ≤ ordering_index (word_cmp b x)
 less_index a b x h = by (word_cmp b x) refl
@@ -49,17 +39,17 @@ less_index a b x h = by (word_cmp b x) refl
     by Greater e = top (word_cmp a x)
 
 -- the answers of a search rise along a set
-rising : (x : List ℕ) (ws : List (List ℕ)) → IsAscending ws → IsNonDecreasingBy (λ y. ordering_index (word_cmp y x)) ws
+rising : (x : List ℕ) (ws : List (List ℕ)) → StrictlyAscends word_cmp ws → IsNonDecreasingBy (λ y. ordering_index (word_cmp y x)) ws
 rising x [] s i j d le lt = absurd (omega (arith, lt))
 rising x (y ∷ ys) s zero zero d le lt = omega arith
-rising x (y ∷ ys) s zero (suc j) d le lt = less_index y (slice_index_or ys j d) x (All-from_recursion (λ z. word_cmp y z ≡ Less) ys (first_below y ys s) j d (omega (arith, lt)))
+rising x (y ∷ ys) s zero (suc j) d le lt = less_index y (slice_index_or ys j d) x (All-from_recursion (λ z. word_cmp y z ≡ Less) ys s.0 j d (omega (arith, lt)))
 rising x (y ∷ ys) s (suc i) zero d le lt = absurd (omega (arith, le))
-rising x (y ∷ ys) s (suc i) (suc j) d le lt = rising x ys (rest_ascends y ys s) i j d (omega (arith, le)) (omega (arith, lt))
+rising x (y ∷ ys) s (suc i) (suc j) d le lt = rising x ys s.1 i j d (omega (arith, le)) (omega (arith, lt))
 
 -- one word more
 
-set_of-put : (x : List ℕ) (ws : List (List ℕ)) → IsAscending ws → set_of (x ∷ ws) ≡ keys (put word_cmp x (tt {0}) (marked ws))
-set_of-put x ws h = ap (λ es. keys (put word_cmp x (tt {0}) es)) (map_of_sorted word_cmp (marked ws) h)
+set_of-put : (x : List ℕ) (ws : List (List ℕ)) → StrictlyAscends word_cmp ws → set_of (x ∷ ws) ≡ keys (put word_cmp x (tt {0}) (marked ws))
+set_of-put x ws h = ap (λ es. keys (put word_cmp x (tt {0}) es)) (map_of_sorted word_cmp (marked ws) (keys_ascend ws h))
 
 none_below : (x y : List ℕ) (ys : List (List ℕ)) → word_cmp x y ≡ Less → AllByRecursion (λ z. word_cmp y z ≡ Less) ys → list_any (is_same x) ys ≡ false
 none_below x y [] l s = refl
@@ -79,20 +69,20 @@ insert_is_put x (y ∷ ys) zero l p = rw (turned x y Greater (p.1 0 y (omega ari
 insert_is_put x (y ∷ ys) (suc i) l p =
     rw (turned x y Less (p.0 0 y (omega arith) (omega arith))) (ap (λ l. y ∷ l) (insert_is_put x ys i (omega (arith, l)) (place_later x y ys i p)))
 
-place_is_new : (x : List ℕ) (ws : List (List ℕ)) (i : ℕ) → i ≤ length ws → IsAscending ws → IsPlace x ws i → list_any (is_same x) ws ≡ false
+place_is_new : (x : List ℕ) (ws : List (List ℕ)) (i : ℕ) → i ≤ length ws → StrictlyAscends word_cmp ws → IsPlace x ws i → list_any (is_same x) ws ≡ false
 place_is_new x [] i l s p = refl
 place_is_new x (y ∷ ys) zero l s p =
     let e : word_cmp x y ≡ Less = turned x y Greater (p.1 0 y (omega arith) (omega arith)) in
-    rw e (none_below x y ys e (first_below y ys s))
+    rw e (none_below x y ys e s.0)
 place_is_new x (y ∷ ys) (suc i) l s p =
-    rw (turned x y Less (p.0 0 y (omega arith) (omega arith))) (place_is_new x ys i (omega (arith, l)) (rest_ascends y ys s) (place_later x y ys i p))
+    rw (turned x y Less (p.0 0 y (omega arith) (omega arith))) (place_is_new x ys i (omega (arith, l)) s.1 (place_later x y ys i p))
 
 -- what a binary search tells of a word that is not there
 pub record IsNew (x : List ℕ) (ws : List (List ℕ)) (i : ℕ) : Type 0 where
   pub absent : list_any (is_same x) ws ≡ false
   pub set : insert ws i x ≡ set_of (x ∷ ws)
 
-pub search_new : (slice ws : List (List ℕ)) (x : List ℕ) (i : ℕ) → slice ≡ ws → IsAscending ws → i ≤ length slice → (IsNonDecreasingBy (λ y. ordering_index (word_cmp y x)) slice → IsPlace x slice i) → IsNew x ws i
+pub search_new : (slice ws : List (List ℕ)) (x : List ℕ) (i : ℕ) → slice ≡ ws → StrictlyAscends word_cmp ws → i ≤ length slice → (IsNonDecreasingBy (λ y. ordering_index (word_cmp y x)) slice → IsPlace x slice i) → IsNew x ws i
 search_new slice ws x i e s l p =
     let here : IsPlace x slice i = p (rising x slice (rw e s)) in
     rw (← e) (record { absent = place_is_new x slice i l (rw e s) here; set = insert_is_put x slice i l here ∙ sym (set_of-put x slice (rw e s)) })
@@ -112,18 +102,18 @@ before_tied x y ys i l s h =
     let same : z ≡ x = same_words z x (h y) in
     turned x y Less (ap (word_cmp y) (sym same) ∙ down)
 
-put_there : (x : List ℕ) (ws : List (List ℕ)) (i : ℕ) → i < length ws → IsAscending ws → HoldsAt (λ y. word_cmp y x ≡ Equal) ws i → keys (put word_cmp x (tt {0}) (marked ws)) ≡ ws
+put_there : (x : List ℕ) (ws : List (List ℕ)) (i : ℕ) → i < length ws → StrictlyAscends word_cmp ws → HoldsAt (λ y. word_cmp y x ≡ Equal) ws i → keys (put word_cmp x (tt {0}) (marked ws)) ≡ ws
 put_there x [] i l s h = absurd (omega (arith, l))
 put_there x (y ∷ ys) zero l s h = rw (turned x y Equal (h y)) (ap (λ l. y ∷ l) (unmarked ys))
 put_there x (y ∷ ys) (suc i) l s h =
-    rw (before_tied x y ys i (omega (arith, l)) (first_below y ys s) h) (ap (λ l. y ∷ l) (put_there x ys i (omega (arith, l)) (rest_ascends y ys s) h))
+    rw (before_tied x y ys i (omega (arith, l)) s.0 h) (ap (λ l. y ∷ l) (put_there x ys i (omega (arith, l)) s.1 h))
 
 -- what a binary search tells of a word that is there
 pub record IsThere (x : List ℕ) (ws : List (List ℕ)) : Type 0 where
   pub present : list_any (is_same x) ws ≡ true
   pub set : ws ≡ set_of (x ∷ ws)
 
-pub search_old : (slice ws : List (List ℕ)) (x : List ℕ) (i : ℕ) → slice ≡ ws → IsAscending ws → i < length slice → HoldsAt (λ y. word_cmp y x ≡ Equal) slice i → IsThere x ws
+pub search_old : (slice ws : List (List ℕ)) (x : List ℕ) (i : ℕ) → slice ≡ ws → StrictlyAscends word_cmp ws → i < length slice → HoldsAt (λ y. word_cmp y x ≡ Equal) slice i → IsThere x ws
 search_old slice ws x i e s l h =
     rw (← e) (record { present = tied_is_there x slice i l h; set = sym (set_of-put x slice (rw e s) ∙ put_there x slice i l (rw e s) h) })
 
@@ -133,20 +123,20 @@ kept_above : (x : List ℕ) (ws : List (List ℕ)) → AllByRecursion (λ v. wor
 kept_above x [] h = refl
 kept_above x (w ∷ ws) h = rw h.0 (ap (λ l. w ∷ l) (kept_above x ws h.1))
 
-remove_is_filter : (x : List ℕ) (ws : List (List ℕ)) (i : ℕ) → i < length ws → IsAscending ws → HoldsAt (λ y. word_cmp y x ≡ Equal) ws i → remove ws i ≡ filter (λ w. not (is_same x w)) ws
+remove_is_filter : (x : List ℕ) (ws : List (List ℕ)) (i : ℕ) → i < length ws → StrictlyAscends word_cmp ws → HoldsAt (λ y. word_cmp y x ≡ Equal) ws i → remove ws i ≡ filter (λ w. not (is_same x w)) ws
 remove_is_filter x [] i l s h = absurd (omega (arith, l))
 remove_is_filter x (y ∷ ys) zero l s h =
     let same : y ≡ x = same_words y x (h y) in
-    rw (turned x y Equal (h y)) (sym (kept_above x ys (subst (λ z. AllByRecursion (λ v. word_cmp z v ≡ Less) ys) same (first_below y ys s))))
+    rw (turned x y Equal (h y)) (sym (kept_above x ys (subst (λ z. AllByRecursion (λ v. word_cmp z v ≡ Less) ys) same s.0)))
 remove_is_filter x (y ∷ ys) (suc i) l s h =
-    rw (before_tied x y ys i (omega (arith, l)) (first_below y ys s) h) (ap (λ l. y ∷ l) (remove_is_filter x ys i (omega (arith, l)) (rest_ascends y ys s) h))
+    rw (before_tied x y ys i (omega (arith, l)) s.0 h) (ap (λ l. y ∷ l) (remove_is_filter x ys i (omega (arith, l)) s.1 h))
 
 -- what is not there is not taken out
 pub kept_all : (x : List ℕ) (ws : List (List ℕ)) → list_any (is_same x) ws ≡ false → filter (λ w. not (is_same x w)) ws ≡ ws
 kept_all x [] h = refl
 kept_all x (w ∷ ws) h = let parts = or_parts (is_same x w) (list_any (is_same x) ws) h in rw parts.0 (ap (λ l. w ∷ l) (kept_all x ws parts.1))
 
-pub search_removed : (slice ws : List (List ℕ)) (x : List ℕ) (i : ℕ) → slice ≡ ws → IsAscending ws → i < length slice → HoldsAt (λ y. word_cmp y x ≡ Equal) slice i → remove ws i ≡ filter (λ w. not (is_same x w)) ws
+pub search_removed : (slice ws : List (List ℕ)) (x : List ℕ) (i : ℕ) → slice ≡ ws → StrictlyAscends word_cmp ws → i < length slice → HoldsAt (λ y. word_cmp y x ≡ Equal) slice i → remove ws i ≡ filter (λ w. not (is_same x w)) ws
 search_removed slice ws x i e s l h = rw (← e) (remove_is_filter x slice i l (rw e s) h)
 
 marked-filter : (p : List ℕ → Bool) (ws : List (List ℕ)) → where_key word_cmp p (marked ws) ≡ marked (filter p ws)
@@ -156,8 +146,8 @@ marked-filter p (w ∷ ws) = elim (p w) as (λ b. cond b ((w, tt {0}) ∷ where_
   | false ↦ marked-filter p ws
 ]
 
-pub ascending-filter : (p : List ℕ → Bool) (ws : List (List ℕ)) → IsAscending ws → IsAscending (filter p ws)
-ascending-filter p ws h = from_T _ (subst (λ es. T (is_sorted word_cmp es)) (marked-filter p ws) (is_sorted-where_key word_cmp p (marked ws) (to_T _ h)))
+pub ascending-filter : (p : List ℕ → Bool) (ws : List (List ℕ)) → StrictlyAscends word_cmp ws → StrictlyAscends word_cmp (filter p ws)
+ascending-filter p ws h = ascend_as_keys _ (from_T _ (subst (λ es. T (is_sorted word_cmp es)) (marked-filter p ws) (is_sorted-where_key word_cmp p (marked ws) (to_T _ (keys_ascend ws h)))))
 
 -- the words of two sets
 
@@ -190,22 +180,22 @@ union_step x ws rest = same_set _ _ (λ q.
 
 -- lists that ascend
 
-below_later : (x y : List ℕ) (ws : List (List ℕ)) → word_cmp x y ≡ Less → below_all word_cmp y (marked ws) ≡ true → below_all word_cmp x (marked ws) ≡ true
-below_later x y [] l h = refl
-below_later x y (w ∷ ws) l h = let parts = and_parts _ _ h in rw (word_cmp_total.trans x y w l (less _ parts.0)) (below_later x y ws l parts.1)
+below_later : (x y : List ℕ) (ws : List (List ℕ)) → word_cmp x y ≡ Less → AllByRecursion (λ w. word_cmp y w ≡ Less) ws → AllByRecursion (λ w. word_cmp x w ≡ Less) ws
+below_later x y [] l h = tt
+below_later x y (w ∷ ws) l h = (word_cmp_total.trans x y w l h.0, below_later x y ws l h.1)
 
 -- the test for a set is what a set keeps
-pub set_ascends : (ws : List (List ℕ)) → ascends word_cmp ws ≡ true → IsAscending ws
-set_ascends [] h = refl
-set_ascends (x ∷ []) h = refl
+pub set_ascends : (ws : List (List ℕ)) → ascends word_cmp ws ≡ true → StrictlyAscends word_cmp ws
+set_ascends [] h = tt
+set_ascends (x ∷ []) h = (tt, tt)
 set_ascends (x ∷ (y ∷ ws)) h =
     let parts = and_parts _ _ h in
     let later = set_ascends (y ∷ ws) parts.1 in
     let down = less _ parts.0 in
-    rw (down, below_later x y ws down (and_parts _ _ later).0) later
+    ((down, below_later x y ws down later.0), later)
 
 -- the end of a union
-pub union_done : (ws items all : List (List ℕ)) (i : ℕ) → length items ≤ i → IsAscending ws → set_of (ws ++ drop i items) ≡ set_of all → ws ≡ set_of all
+pub union_done : (ws items all : List (List ℕ)) (i : ℕ) → length items ≤ i → StrictlyAscends word_cmp ws → set_of (ws ++ drop i items) ≡ set_of all → ws ≡ set_of all
 union_done ws items all i l s e =
     sym (set_of_ascending ws s) ∙ ap set_of (sym (append-nil ws) ∙ ap (λ rest. ws ++ rest) (sym (drop_all i items l))) ∙ e
 

@@ -1,9 +1,9 @@
 //! Subtags that come in any order, to be a set in the end.
 ghost use Rattle.std.specs.Prelude.{◌≡◌, ◌≤◌, ◌∷◌, true, false, length, is_none, IfSome, IfOk, OnErr, IsOk};
 ghost use Rattle.std.specs.List.{list_any};
-ghost use Rattle.iloc_spec_grammar.specs.Syntax.{is_same};
+ghost use Rattle.iloc_spec_grammar.specs.Syntax.{is_same, word_cmp};
 ghost use Rattle.iloc_spec_grammar.specs.Meaning.{set_of};
-ghost use Rattle.iloc_spec_grammar.specs.Values.{IsAscending};
+ghost use Rattle.iloc_spec_grammar.specs.Values.{StrictlyAscends};
 ghost use Rattle.iloc_word_set.specs.TakingIn.{TakesIn};
 
 use crate::word_set::WordSet;
@@ -69,8 +69,8 @@ fn push_last<K: WordKind<N>, const N: usize>(
     ascend: &mut bool,
     word: WordOf<K, N>,
 ) -> Result<bool, AllocError>
-    requires { ascend.old ≡ true → IsAscending words.old.items }
-    ensures ascend { ascend.new ≡ true → IsAscending words.new.items }
+    requires { ascend.old ≡ true → StrictlyAscends word_cmp words.old.items }
+    ensures ascend { ascend.new ≡ true → StrictlyAscends word_cmp words.new.items }
     ensures taken { IfOk result (TakesIn word words.old.items words.new.items) }
     ensures err { OnErr result (words.new.items ≡ words.old.items) }
 {

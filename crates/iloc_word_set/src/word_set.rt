@@ -6,7 +6,7 @@ ghost use Rattle.std.specs.Slice.Iter.{iter_rest};
 ghost use Rattle.iloc_spec_grammar.specs.Syntax.{is_same, word_cmp};
 ghost use Rattle.iloc_word_set.specs.Ascending.{ascends};
 ghost use Rattle.iloc_spec_grammar.specs.Meaning.{set_of};
-ghost use Rattle.iloc_spec_grammar.specs.Values.{IsNormal, IsAscending};
+ghost use Rattle.iloc_spec_grammar.specs.Values.{IsNormal, StrictlyAscends};
 
 use iloc_subtags::{Variant, VariantKind, WordKind, WordOf};
 use iloc_word_list::WordList;
@@ -27,13 +27,14 @@ pub struct WordSet<K: WordKind<N>, const N: usize> {
 
 impl<K: WordKind<N>, const N: usize> Model for WordSet<K, N> {
     ghost use Rattle.std.specs.Prelude.{List, ℕ};
-    ghost use Rattle.iloc_spec_grammar.specs.Values.{IsAscending};
+    ghost use Rattle.iloc_spec_grammar.specs.Syntax.{word_cmp};
+    ghost use Rattle.iloc_spec_grammar.specs.Values.{StrictlyAscends};
 
     ghost Value = { List (List ℕ) };
 
     ghost view = { λ s. s.words };
 
-    ghost invariant = { λ s. IsAscending s.words };
+    ghost invariant = { λ s. StrictlyAscends word_cmp s.words };
 
     ghost inverse = { λ words. record { words = words } };
 }
@@ -90,7 +91,7 @@ impl<K: WordKind<N>, const N: usize> WordSet<K, N> {
     /// The subtags, ascending.
     pub fn as_slice(&self) -> &[WordOf<K, N>]
         ensures value { result.now ≡ self.now }
-        ensures ascending { IsAscending self.now }
+        ensures ascending { StrictlyAscends word_cmp self.now }
         ensures normal { AllByRecursion (IsNormal K.kind) self.now }
     {
         self.words.as_slice()

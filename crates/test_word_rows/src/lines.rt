@@ -155,7 +155,7 @@ fn with_blocks(window: &[u8], len: usize, at: usize, out: &mut String)
         Reading::Ordered(line) => in_order(&line, out),
         Reading::BadBlock(BadBlock::Misfit) => say(out, "bad block"),
         Reading::BadBlock(BadBlock::Duplicated) => say(out, "duplicated"),
-        Reading::Unordered(_) => say(out, "unordered"),
+        Reading::Unordered => say(out, "unordered"),
         Reading::Other => say(out, "not told"),
     }
 }
@@ -199,7 +199,7 @@ fn rewritten(window: &[u8], len: usize, out: &mut String) {
         Reading::Ordered(line) => in_order(&line, out),
         Reading::BadBlock(BadBlock::Misfit) => say(out, "misfit"),
         Reading::BadBlock(BadBlock::Duplicated) => say(out, "duplicated"),
-        Reading::Unordered(_) | Reading::Other => say(out, "not told"),
+        Reading::Unordered | Reading::Other => say(out, "not told"),
     }
 }
 

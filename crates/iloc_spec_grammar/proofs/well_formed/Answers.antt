@@ -3,4 +3,4 @@ use Rattle.iloc_spec_grammar.proofs.SameText.{well_formed_in, well_formed_is}
 use Rattle.iloc_spec_grammar.proofs.well_formed.Goals as goal
 
 pub returns : goal.returns
-returns c = record { tests = well_formed_is; each_table = λ T table M. well_formed_in table M }
+returns c = record { tests = well_formed_is; each_lengths = λ T lengths M. well_formed_in lengths M }

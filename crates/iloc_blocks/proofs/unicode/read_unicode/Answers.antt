@@ -5,10 +5,11 @@ use Rattle.iloc_fronts.specs.Left.{piece_of, pieces_of}
 use Rattle.iloc_fronts.proofs.FrontLemmas.{short_attribute}
 use Rattle.iloc_fronts.proofs.LeftLemmas.{last_left, word_left}
 use Rattle.iloc_fronts.proofs.WordNumbers.{attribute_fits}
-use Rattle.iloc_blocks.specs.Blocks.{AreKeywordsAt, HaveStranger, IsNoUnicode, IsUnicodePart}
+use Rattle.iloc_blocks.specs.Blocks.{AreKeywordsAt, AreKeywordsWith, HaveStranger, IsNoUnicode, IsUnicodePart, IsUnicodeWith}
 use Rattle.iloc_blocks.specs.declared.body.Body.TheVariants as body
-use Rattle.iloc_blocks.proofs.BodyLemmas.{body_after, body_as, unordered_body}
-use Rattle.iloc_blocks.proofs.UnicodeLemmas.{MayFollow, follow_more, follow_none, keywords_none, stranger_after, unicode_of_keywords}
+use Rattle.iloc_blocks.specs.declared.body.Part.TheVariants as part
+use Rattle.iloc_blocks.proofs.BodyLemmas.{part_after, part_as, unordered_body}
+use Rattle.iloc_blocks.proofs.UnicodeLemmas.{MayFollow, MayFollowWith, first_unicode, follow_more, follow_none, key_later, keywords_have_key, keywords_none, with_key, stranger_after, unicode_of_keywords}
 use Rattle.iloc_blocks.proofs.unicode.read_unicode.Goals as goal
 
 pub attributes-init : goal.attributes-init
@@ -18,7 +19,8 @@ attributes-init c =
       left = c.requires;
       shorter = omega arith;
       unmoved = λ _. refl;
-      goes = body_as (MayFollow 0) IsUnicodePart HaveStranger IsNoUnicode l.len l.len (pieces_of l) (omega arith) follow_none (λ n. inr n);
+      goes = part_as (MayFollow 0) IsUnicodePart HaveStranger IsNoUnicode (MayFollowWith 0) IsUnicodeWith l.len l.len (pieces_of l) (omega arith) follow_none (λ n. inr n)
+          (λ qs f. (follow_none qs f.0, with_key qs (follow_none qs f.0) f.1));
     }
 
 pub number_of_word-number-requires-clause-word : goal.number_of_word-number-requires-clause-word
@@ -27,7 +29,7 @@ number_of_word-number-requires-clause-word c = attribute_fits _ (sym c.is_attrib
 pub returns-then-number-last : goal.returns-then-number-last
 returns-then-number-last c =
     let l = c.attributes.at in
-    c.attributes.invariant.goes c.unordered.result
+    c.attributes.invariant.goes (part.Body c.unordered.result)
     (unordered_body (MayFollow c.attributes.last) HaveStranger l.len (pieces_of l) c.have_stranger.result c.unordered.result c.have_stranger.ensures.0 c.unordered.ensures)
 
 pub returns-then-at : goal.returns-then-at
@@ -36,7 +38,7 @@ returns-then-at c =
     let left = c.attributes.invariant.left in
     let word : IsWord Attribute (piece_of l) = sym c.is_attribute.ensures ∙ c.attributes-test.true in
     let less : c.attributes.last < c.number_of_word-number.result = omega (arith, c.if-number-last.false) in
-    c.attributes.invariant.goes body.End (subst (MayFollow c.attributes.last) (sym (last_left l left (word_left l left Attribute short_attribute word) c.if-at.true))
+    c.attributes.invariant.goes (part.Body body.End) (subst (MayFollow c.attributes.last) (sym (last_left l left (word_left l left Attribute short_attribute word) c.if-at.true))
     (follow_more c.attributes.last c.number_of_word-number.result (piece_of l) word c.number_of_word-number.ensures less [] (inr (omega (arith, less), inl keywords_none))))
 
 pub attributes-preserved : goal.attributes-preserved
@@ -52,9 +54,10 @@ attributes-preserved c =
       shorter = omega (arith, c.after_piece-at.ensures.less, c.attributes.invariant.shorter);
       unmoved = λ none. absurd (omega (arith, none, less));
       goes = λ w h. c.attributes.invariant.goes w
-          (body_after (MayFollow number) (MayFollow c.attributes.last) HaveStranger HaveStranger next.len l.len (piece_of l) (pieces_of next) (pieces_of l)
+          (part_after (MayFollow number) (MayFollow c.attributes.last) HaveStranger HaveStranger (MayFollowWith number) (MayFollowWith c.attributes.last) next.len l.len (piece_of l) (pieces_of next) (pieces_of l)
           (c.after_piece-at.ensures.pieces (word_left l left Attribute short_attribute word)) (omega (arith, c.after_piece-at.ensures.less))
-          (follow_more c.attributes.last number (piece_of l) word c.number_of_word-number.ensures less) (stranger_after (piece_of l) (pieces_of next) (inl word)) w h);
+          (follow_more c.attributes.last number (piece_of l) word c.number_of_word-number.ensures less) (stranger_after (piece_of l) (pieces_of next) (inl word))
+          (λ qs f. (follow_more c.attributes.last number (piece_of l) word c.number_of_word-number.ensures less qs f.0, key_later (piece_of l) qs f.1)) w h);
     }
 
 pub returns : goal.returns
@@ -69,4 +72,10 @@ returns c =
           inl (none, unicode_of_keywords l.n more qs k)
     ]) in
     c.attributes.invariant.goes c.read_keywords.result
-    (body_as (AreKeywordsAt l.n) (MayFollow c.attributes.last) HaveStranger HaveStranger l.len l.len (pieces_of l) (omega arith) follows (λ n. n) c.read_keywords.result c.read_keywords.ensures)
+    (part_as (AreKeywordsAt l.n) (MayFollow c.attributes.last) HaveStranger HaveStranger AreKeywordsWith (MayFollowWith c.attributes.last) l.len l.len (pieces_of l) (omega arith) follows (λ n. n)
+    (λ qs k. (follows qs (k.0, inr k.1), keywords_have_key qs k)) c.read_keywords.result c.read_keywords.ensures)
+
+pub have_stranger-requires-clause-first : goal.have_stranger-requires-clause-first
+have_stranger-requires-clause-first c =
+    let l = c.attributes.at in
+    first_unicode l c.attributes.invariant.left (inl (sym c.is_attribute.ensures ∙ c.attributes-test.true))

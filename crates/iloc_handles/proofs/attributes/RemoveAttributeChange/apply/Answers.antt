@@ -1,7 +1,7 @@
 -- A binary search finds the attribute exactly if it is there.
 use Rattle.std.proofs.Common.{refl, sym, ap, subst}
-use Rattle.iloc_spec_grammar.specs.Syntax.{Attribute}
-use Rattle.iloc_spec_grammar.specs.Values.{IsAscending}
+use Rattle.iloc_spec_grammar.specs.Syntax.{Attribute, word_cmp}
+use Rattle.iloc_spec_grammar.specs.Values.{StrictlyAscends}
 use Rattle.iloc_word_set.proofs.SetLaws.{search_new}
 use Rattle.iloc_locale.specs.LocaleReading.{value_of}
 use Rattle.iloc_handles.specs.Attributes.{with_attributes}
@@ -20,7 +20,7 @@ pub without-requires-clause-ascends : goal.without-requires-clause-ascends
 without-requires-clause-ascends c =
     let slice = c.as_slice-attributes in
     removed_ascends c.in-Ok.attribute slice.result.now c.in-Ok-binary_search.at
-    (subst IsAscending (sym slice.ensures.words) slice.ensures.ascending) c.in-Ok-binary_search.ensures.bound
+    (subst (StrictlyAscends word_cmp) (sym slice.ensures.words) slice.ensures.ascending) c.in-Ok-binary_search.ensures.bound
     c.in-Ok-binary_search.ensures.ok
 
 pub returns-in-Ok-without : goal.returns-in-Ok-without

@@ -1,6 +1,7 @@
 use Rattle.std.proofs.Common.{◌∷◌, ap, sym, subst, ◌∙◌, true≢false}
 use Rattle.std.specs.Prelude.{not, insert}
-use Rattle.iloc_spec_grammar.specs.Values.{IsAscending}
+use Rattle.iloc_spec_grammar.specs.Syntax.{word_cmp}
+use Rattle.iloc_spec_grammar.specs.Values.{StrictlyAscends}
 use Rattle.iloc_spec_grammar.proofs.WellRead.{set_of-ascending}
 use Rattle.iloc_word_set.proofs.SetLaws.{search_new, search_old}
 use Rattle.iloc_word_set.proofs.word_set.WordSet.push.Goals as goal
@@ -25,4 +26,4 @@ returns-in_err-insert-in-Err-clause-known g c = λ h.
 pub invariant_of-self-in-Err : goal.invariant_of-self-in-Err
 invariant_of-self-in-Err g c =
     let new = search_new _ _ c.args.word c.in-Err.at c.as_slice.ensures.value c.as_slice.ensures.ascending c.in-Err.ensures.bound c.in-Err.ensures.position in
-    subst IsAscending (sym (c.in_ok-insert-in-Err.ensures.ok ∙ ap (λ ws. insert ws c.in-Err.at c.args.word) c.self.view_is ∙ new.set)) (set_of-ascending (c.args.word ∷ c.args.self.now))
+    subst (StrictlyAscends word_cmp) (sym (c.in_ok-insert-in-Err.ensures.ok ∙ ap (λ ws. insert ws c.in-Err.at c.args.word) c.self.view_is ∙ new.set)) (set_of-ascending (c.args.word ∷ c.args.self.now))
