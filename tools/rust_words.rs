@@ -15,6 +15,10 @@ const DATA_LOCALES: [&str; 4] = ["en", "EN-us", "sr-latn-RS", "en-us-u-sd-ustx"]
 
 const NORMAL_IDENTIFIERS: [&str; 4] = ["en", "en-US", "sr-Latn-RS", "ca-ES-valencia"];
 const NORMAL_LOCALES: [&str; 4] = ["en-GB", "en-US", "ar-u-nu-latn", "zh-Hant-TW"];
+const NORMAL_BLOCKS: [&str; 4] = ["ar-SA-u-ca-islamic-civil", "en-GB-u-hc-h12", "de-t-en-m0-din", "en-a-foo-x-bar"];
+const OTHER_BLOCKS: [&str; 4] = ["EN-us-u-CA-buddhist", "en-u-nu-latn-ca-foo", "en-posix-1996", "en-u-kn-true"];
+
+const REFUSED: [&str; 4] = ["C", "en_US", "en_US.UTF-8", "en-FOO"];
 
 // The numbers that a call answers in each round, summed.
 fn sum(rounds: u32, call: impl Fn(u32) -> usize) -> usize {
@@ -29,7 +33,11 @@ fn printed_length<T: Writeable>(read: Result<T, ParseError>) -> usize {
     read.map_or(0, |value| value.write_to_string().len())
 }
 
-// The length of the normal text of one that is normal, so that it is borrowed.
+fn refused<T>(read: &Result<T, ParseError>) -> usize {
+    usize::from(read.is_err())
+}
+
+// The length of the normal text, which is borrowed if the text is normal.
 fn normal_length(normal: Result<Cow<'_, str>, ParseError>) -> usize {
     normal.map_or(0, |text| text.len())
 }
@@ -67,6 +75,11 @@ fn checksum(call: &str, rounds: u32) -> Option<usize> {
         "normalize_locale" => {
             sum(rounds, |round| normal_length(Locale::normalize(NORMAL_LOCALES[(round % 4) as usize])))
         }
+        "normalize_blocks" => sum(rounds, |round| normal_length(Locale::normalize(NORMAL_BLOCKS[(round % 4) as usize]))),
+        "normalize_others" => sum(rounds, |round| normal_length(Locale::normalize(OTHER_BLOCKS[(round % 4) as usize]))),
+        "refuse_langid" => sum(rounds, |round| refused(&LanguageIdentifier::try_from_str(REFUSED[(round % 4) as usize]))),
+        "refuse_locale" => sum(rounds, |round| refused(&Locale::try_from_str(REFUSED[(round % 4) as usize]))),
+        "refuse_data" => sum(rounds, |round| refused(&DataLocale::try_from_str(REFUSED[(round % 4) as usize]))),
         _ => return None,
     })
 }

@@ -33,13 +33,13 @@ use Rattle.iloc_data_parts.specs.declared.parts.DataParts.{DataParts}
 use Rattle.iloc_data.specs.DataValue as data_locale
 use Rattle.iloc_data.specs.Reads.{DataTextReads}
 use Rattle.iloc_data.specs.declared.data_locale.DataLocale as data_types
-use Rattle.iloc_lines.specs.declared.Mode.{Mode}
-use Rattle.iloc_lines.specs.declared.Mode.TheVariants.{Langid, Locale, Data}
+use Rattle.iloc_told.specs.declared.Mode.{Mode}
+use Rattle.iloc_told.specs.declared.Mode.TheVariants.{Langid, Locale, Data}
 use Rattle.iloc_calls.specs.Answers.{CallWantsMemory, JudgedAs, ComparesTo, WritesOrder, OrdersTo, MeanSame, RefusedTells, TellsSame, order_number}
 use Rattle.iloc_calls.specs.Numbers.{mode_number, number_of, status_of}
 use Rattle.iloc_calls.specs.declared.status.Status.{Status}
 use Rattle.iloc_calls.specs.declared.status.Status.TheVariants.{Done, InvalidLanguage, InvalidSubtag, InvalidExtension, DuplicatedExtension, OutOfMemory, BufferTooSmall, UnknownNumber, NotFound}
-use Rattle.iloc_lines.specs.Answers.{IsNormalText, IsFaulty}
+use Rattle.iloc_told.specs.Modes.{IsNormalText, IsFaulty}
 use Rattle.std.specs.Cmp.{Equal-is}
 
 -- no mode has a number above 2

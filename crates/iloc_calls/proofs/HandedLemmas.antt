@@ -5,16 +5,16 @@ use Rattle.iloc_spec_grammar.specs.Values.{identifier_text}
 use Rattle.iloc_writeable.specs.Hints.{saturated}
 use Rattle.iloc_plain.specs.Plain.{AreWords, IsPlain, value_of}
 use Rattle.iloc_plain.specs.declared.plain.Plain.{Plain}
-use Rattle.iloc_lines.proofs.PlainAnswers.{plain_normal}
+use Rattle.iloc_told.proofs.PlainAnswers.{plain_normal}
 use Rattle.iloc_subtags.specs.declared.parse_error.ParseError.{ParseError}
 use Rattle.iloc_subtags.specs.declared.parse_error.ParseError.TheVariants as refusals
-use Rattle.iloc_lines.specs.Told.{HasRefusal}
-use Rattle.iloc_lines.specs.declared.Mode.{Mode}
+use Rattle.iloc_told.specs.Told.{HasRefusal}
+use Rattle.iloc_told.specs.declared.Mode.{Mode}
 use Rattle.iloc_calls.specs.Answers.{HandsOut, JudgedAs, NormalizesTo}
 use Rattle.iloc_calls.specs.Numbers.{status_of}
 use Rattle.iloc_calls.specs.declared.status.Status.{Status}
 use Rattle.iloc_calls.specs.declared.status.Status.TheVariants.{Done, InvalidLanguage, InvalidSubtag, InvalidExtension, DuplicatedExtension, OutOfMemory, BufferTooSmall, UnknownNumber, NotFound}
-use Rattle.iloc_lines.specs.Answers.{IsNormalText}
+use Rattle.iloc_told.specs.Modes.{IsNormalText}
 use Rattle.iloc_spec_grammar.specs.Syntax.{languages}
 
 -- what hands out the normal text normalizes

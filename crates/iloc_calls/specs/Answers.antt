@@ -13,9 +13,10 @@ use Rattle.iloc_langid.specs.Reads as langid_reads
 use Rattle.iloc_locale.specs.LocaleReading as locale
 use Rattle.iloc_subtags.specs.declared.parse_error.ParseError.{ParseError}
 use Rattle.iloc_subtags.specs.declared.parse_error.ParseError.TheVariants as refusals
-use Rattle.iloc_lines.specs.Answers.{IsNormalText, IsFaulty}
-use Rattle.iloc_lines.specs.declared.Mode.{Mode}
-use Rattle.iloc_lines.specs.declared.Mode.TheVariants.{Langid, Locale, Data}
+use Rattle.iloc_told.specs.NormalTexts.{IsNotNormal}
+use Rattle.iloc_told.specs.Modes.{IsNormalText, IsFaulty}
+use Rattle.iloc_told.specs.declared.Mode.{Mode}
+use Rattle.iloc_told.specs.declared.Mode.TheVariants.{Langid, Locale, Data}
 use Rattle.iloc_calls.specs.Numbers.{EndsAs, mode_number, number_of}
 use Rattle.iloc_calls.specs.declared.status.Status.{Status}
 use Rattle.iloc_calls.specs.declared.status.Status.TheVariants.{Done, InvalidLanguage, InvalidSubtag, InvalidExtension, DuplicatedExtension, OutOfMemory, BufferTooSmall, UnknownNumber, NotFound}
@@ -92,10 +93,6 @@ abbrev pub ComparesTo : Mode → Text → Text → ℤ → ℤ → Status → Ty
 ComparesTo mode t other before after Done = (normal : Text) × IsNormalText languages mode t normal
     × (after ≡ order_number (slice_cmp nat_cmp normal other))
 ComparesTo mode t other before after status = JudgedAs mode t status × (after ≡ before)
-
--- the normal text of the other bytes is written out of place only if they are not that text
-abbrev pub IsNotNormal : Mode → Text → Type 0
-IsNotNormal mode t = (normal : Text) × IsNormalText languages mode t normal × ¬ (t ≡ normal)
 
 -- the order of two normal texts is written; or memory ran out for the second, which is not the
 -- bytes

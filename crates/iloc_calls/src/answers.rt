@@ -3,20 +3,20 @@ ghost use Rattle.std.specs.Prelude.{◌≡◌, ◌↔◌, ◌+◌, ◌<◌, ◌�
 ghost use Rattle.iloc_calls.specs.declared.status.Status.{Status};
 ghost use Rattle.iloc_calls.specs.Answers.{HandsOut, JudgedAs, Normalizes, NormalizesTo};
 ghost use Rattle.iloc_calls.specs.Numbers.{EndsAs, mode_number, number_of, status_of};
-ghost use Rattle.iloc_lines.specs.declared.Mode.{Mode};
-ghost use Rattle.iloc_lines.specs.declared.Mode.TheVariants as modes;
+ghost use Rattle.iloc_told.specs.declared.Mode.{Mode};
+ghost use Rattle.iloc_told.specs.declared.Mode.TheVariants as modes;
 
 use crate::filling::{hand_out_fitting_plain, hand_out_ordered, hand_out_within};
 use crate::status::Status;
-use crate::window::{MOST, WINDOW, put_in_front};
 use iloc_data_parts::DataParts;
 use iloc_langid::LanguageIdentifier;
 use iloc_langid::reader::read_into as read_identifier;
-use iloc_lines::told::{ROOM, Told, tell};
 use iloc_locale::Locale;
 use iloc_plain::read_plain_text;
-use iloc_program::Mode;
 use iloc_subtags::ParseError;
+use iloc_told::told::ROOM;
+use iloc_told::window::{WINDOW, tell_text};
+use iloc_told::{Mode, Told};
 use std::alloc::Global;
 
 /// The mode of that number.
@@ -56,13 +56,9 @@ pub(crate) fn judge(alloc: Global, mode: Mode, text: &[u8]) -> Status
 fn judge_other(alloc: Global, mode: Mode, text: &[u8]) -> Status
     ensures { JudgedAs mode text.now result }
 {
-    if text.len() > MOST {
-        return judge_parsed(alloc, mode, text);
-    }
     let mut window = [0u8; WINDOW];
-    put_in_front(text, &mut window);
     let mut room = [0u8; ROOM];
-    match tell(mode, &window, text.len(), &mut room) {
+    match tell_text(mode, text, &mut window, &mut room) {
         Told::Ordered(_) => Status::Done,
         Told::Refused(refusal) => Status::from(refusal),
         Told::Nothing => judge_parsed(alloc, mode, text),
@@ -222,13 +218,9 @@ fn normalize_told(
 ) -> u32
     ensures { EndsAs (NormalizesTo mode text.now buffer.old buffer.new needed.new) result }
 {
-    if text.len() > MOST {
-        return normalize_parsed(alloc, mode, text, buffer, needed).number();
-    }
     let mut window = [0u8; WINDOW];
-    put_in_front(text, &mut window);
     let mut room = [0u8; ROOM];
-    match tell(mode, &window, text.len(), &mut room) {
+    match tell_text(mode, text, &mut window, &mut room) {
         Told::Ordered(line) => hand_out_ordered(&line, buffer, needed).number(),
         Told::Refused(refusal) => refuse(Status::from(refusal), needed).number(),
         Told::Nothing => normalize_parsed(alloc, mode, text, buffer, needed).number(),

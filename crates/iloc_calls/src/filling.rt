@@ -7,10 +7,10 @@ ghost use Rattle.iloc_plain.specs.Plain.{AreWords, value_of};
 ghost use Rattle.iloc_calls.specs.declared.status.Status.{Status};
 ghost use Rattle.iloc_calls.specs.Answers.{HandsOut, Tells};
 
-use crate::copying::{copy_all, copy_ends, copy_lower};
 use crate::status::Status;
 use iloc_blocks::Ordered;
 use iloc_plain::Plain;
+use iloc_told::copying::{copy_all, copy_ends, copy_ordered};
 use iloc_writeable::{Sink, Writeable};
 use std::fmt;
 
@@ -130,21 +130,18 @@ pub(crate) fn hand_out_fitting_plain<const W: usize>(
 }
 
 /// The same of a text whose normal text is its own but for the case of letters.
-#[tactic(auto, using(crate::proofs::CopyLemmas::ordered_length, crate::proofs::CopyLemmas::ordered_needed))]
+#[tactic(auto, using(iloc_told::proofs::CopyLemmas::ordered_length, iloc_told::proofs::CopyLemmas::ordered_needed))]
 #[inline(always)]
 pub(crate) fn hand_out_ordered(line: &Ordered<'_>, buffer: &mut [u8], needed: &mut usize) -> Status
     requires { IsStored line.now }
     ensures { HandsOut (ordered_text line.now) buffer.old buffer.new needed.new result }
 {
-    let at = line.plain.len;
-    let end = at + line.len;
+    let end = line.plain.len + line.len;
     *needed = end;
     if end > buffer.len() {
         return Status::BufferTooSmall;
     }
-    let bytes = line.plain.bytes;
-    copy_all(&bytes.as_array()[..at], &mut buffer[..at]);
-    copy_lower(line.rest, line.len, &mut buffer[at..end]);
+    copy_ordered(line, &mut buffer[..end]);
     Status::Done
 }
 

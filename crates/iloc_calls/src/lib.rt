@@ -7,7 +7,7 @@
 #![tactic(auto)]
 
 ghost use Rattle.std.specs.Prelude.{◌≡◌, ◌+◌, ◌<◌, ◌≤◌, length};
-ghost use Rattle.iloc_lines.specs.declared.Mode.{Mode};
+ghost use Rattle.iloc_told.specs.declared.Mode.{Mode};
 ghost use Rattle.iloc_calls.specs.declared.status.Status.{Status};
 ghost use Rattle.iloc_calls.specs.Answers.{
   ComparesTo,
@@ -22,13 +22,11 @@ ghost use Rattle.iloc_calls.specs.Numbers.{EndsAs, mode_number, number_of, words
 
 mod answers;
 mod comparing;
-mod copying;
 mod data;
 mod filling;
 mod hashing;
 mod same;
 mod status;
-mod window;
 
 use answers::{judge, mode_of};
 pub use comparing::number;

@@ -64,6 +64,7 @@ impl DataLocale {
     /// Refuses with `InvalidLanguage` if the first piece is no language. With `InvalidExtension` it refuses a
     /// singleton that is no letter or digit, a `u` that neither a key nor an attribute follows, and one keyword that
     /// is not `sd` with a readable subdivision; and with `InvalidSubtag` everything else.
+    #[inline(always)]
     pub fn try_from_utf8(code_units: &[u8]) -> Result<Self, ParseError>
         ensures reads { DataTextReads code_units.now result }
         ensures accepted { (d : parts.DataLocale) → DataMeans languages code_units.now d
@@ -84,6 +85,7 @@ impl DataLocale {
     }
 
     /// Parses all of a `str`, as `try_from_utf8` parses bytes.
+    #[inline(always)]
     pub fn try_from_str(s: &str) -> Result<Self, ParseError>
         ensures reads { DataTextReads s.now result }
         ensures accepted { (d : parts.DataLocale) → DataMeans languages s.now d

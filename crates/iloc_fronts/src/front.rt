@@ -23,6 +23,7 @@ use crate::left::{Left, after_piece, left_in};
 use crate::run::{before_hyphen, before_singles};
 use crate::words::{is_language, is_region, is_script, is_variant};
 use iloc_plain::is_language_length;
+use std::simd::prelude::*;
 
 /// What a line goes on with at its first piece of one byte.
 #[derive(Clone, Copy)]
@@ -73,6 +74,16 @@ pub fn may_begin(window: &[u8], len: usize) -> bool
     ensures { result ≡ false → IsFront (take len window.now) front.NoLanguage }
 {
     is_language_length(first_len(window, len))
+}
+
+/// Whether the first `len` bytes begin with a language. If not, no language comes first.
+#[inline(always)]
+pub fn begins_with_language(v: u8x16, len: usize) -> bool
+    requires { len ≤ 16 }
+    ensures { result ≡ false → IsFront (take len v) front.NoLanguage }
+{
+    let window = v.as_array();
+    is_language(window, first_len(window, len))
 }
 
 /// The first block of a line that begins with a language, if its singleton stands among the first fifteen bytes and a

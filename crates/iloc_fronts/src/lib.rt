@@ -2,7 +2,7 @@
 //!
 //! Of any line `read_front` tells the front: no language, a piece that fits nowhere, variants, or the first
 //! block (`IsFront`). That is enough to refuse most lines that are no identifiers. `may_begin` tells the first
-//! of these by the length of the first piece alone. `find_block` finds the first piece of one byte, whatever comes
+//! of these by the length of the first piece alone, and `begins_with_language` tells it of a short text with no room behind it. `find_block` finds the first piece of one byte, whatever comes
 //! before it (`IsFound`). `read_keyword` tells what keyword follows the singleton of the first block (`IsKeywordOf`).
 //!
 //! `None`, `Front::Other` and `Keyword::Other` say nothing: the caller parses the text as it would without this crate. So
@@ -20,5 +20,5 @@ pub mod left;
 mod run;
 pub mod words;
 
-pub use front::{Block, Front, find_block, may_begin, read_front};
+pub use front::{Block, Front, begins_with_language, find_block, may_begin, read_front};
 pub use keyword::{Keyword, read_keyword};

@@ -88,10 +88,7 @@ pub fn is_script(window: &[u8], n: usize) -> bool
     requires few { n ≤ 16 }
     ensures { result ≡ is_word Script (take n window.now) }
 {
-    if n != 4 {
-        return false;
-    }
-    are_letters(window, n)
+    n == 4 && are_letters(window, n)
 }
 
 /// Whether the first `n` bytes are a region.

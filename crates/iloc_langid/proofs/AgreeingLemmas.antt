@@ -14,8 +14,7 @@ use Rattle.iloc_spec_grammar.specs.Meaning.{IdentifierMeans, set_of, map_of}
 use Rattle.iloc_spec_grammar.specs.Values.{IsNormal, StrictlyAscends, Reordered, none, front_kept, first_two, in_turn}
 use Rattle.iloc_spec_grammar.proofs.WordsLaws.{is_word-lower}
 use Rattle.iloc_spec_grammar.proofs.MapLaws.{word_cmp_total, same_itself, same_is}
-use Rattle.iloc_spec_grammar.proofs.Orders.{any_reordered, all_reordered, different_reordered, set_of_reordered}
-use Rattle.iloc_spec_grammar.proofs.Sorting.{itself}
+use Rattle.iloc_spec_grammar.proofs.Orders.{itself, turned, any_reordered, all_reordered, different_reordered, length_reordered, set_of_reordered}
 use Rattle.iloc_spec_grammar.proofs.ValuesLaws.{set_of_ascending, ascending_different}
 use Rattle.iloc_langid.proofs.WalkLemmas.{apart}
 use Rattle.iloc_langid.specs.Agreeing.{is_among, are_all_among}
@@ -26,18 +25,6 @@ use Rattle.iloc_langid.specs.Reads.{value_of}
 use Rattle.iloc_spec_grammar.proofs.SetLaws.{any-set_of}
 use Rattle.iloc_langid.proofs.FrontLemmas.{plain_front, plain_of, front_gives, whole_gives}
 use Rattle.iloc_langid.proofs.SmallLemmas.{parts_are, after_region-pieces, past_none}
-
-turned : {X : Type 0} {xs ys : List X} → Reordered xs ys → Reordered ys xs
-turned none = none
-turned (front_kept r) = front_kept (turned r)
-turned first_two = first_two
-turned (in_turn r s) = in_turn (turned s) (turned r)
-
-length_reordered : {X : Type 0} {xs ys : List X} → Reordered xs ys → length xs ≡ length ys
-length_reordered none = refl
-length_reordered (front_kept r) = let e = length_reordered r in omega (arith, e)
-length_reordered first_two = refl
-length_reordered (in_turn r s) = length_reordered r ∙ length_reordered s
 
 among-any : (ps : List (List ℕ)) (w : List ℕ) → is_among ps w ≡ list_any (is_same w) (map lower ps)
 among-any [] w = refl

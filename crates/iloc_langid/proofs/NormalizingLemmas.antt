@@ -1,16 +1,15 @@
 -- The normal text of an identifier.
-use Rattle.std.proofs.Common.{◌≡◌, ◌↔◌, inr, Ok, Err, ℕ, false, true, List, length, sym, ap, ◌∙◌, subst, true≢false, arith}
-use Rattle.std.specs.Cow.{cow_str_bytes}
-use Rattle.std.specs.declared.borrow.CowStr.{CowStr}
+use Rattle.std.proofs.Common.{◌≡◌, inr, ℕ, false, true, List, length, sym, ap, ◌∙◌, subst, true≢false, arith}
 use Rattle.iloc_spec_grammar.specs.Syntax.{pieces, languages, Identifier}
 use Rattle.iloc_spec_grammar.specs.Meaning.{IdentifierMeans}
 use Rattle.iloc_spec_grammar.specs.Values.{identifier_text, IdentifierTextStep, Leads}
 use Rattle.iloc_spec_grammar.proofs.IdentifierLaws.{one_meaning}
 use Rattle.iloc_spec_grammar.proofs.IdentifierTexts.{identifier_means_again, same_identifier_meaning}
 use Rattle.iloc_spec_grammar.proofs.AnySteps.{length-identifier_means, identifier_chain_to_text, identifiers_lead_to_one}
-use Rattle.iloc_writeable.specs.Writing.{IsLent}
 use Rattle.iloc_langid.specs.Normalizing.{IsNormalizedIdentifier, NormalizingIdentifierWantsMemory}
-use Rattle.iloc_langid.specs.PlainTexts.{IsNormalOfPlain}
+use Rattle.iloc_told.specs.Modes.{IsNormalText}
+use Rattle.iloc_told.specs.NormalTexts.{IsNotNormal}
+use Rattle.iloc_told.specs.declared.Mode.TheVariants.{Langid}
 
 -- the text of the meaning is the normal text
 pub is_normalized : (input : List ℕ) (i : Identifier) (t : List ℕ) → IdentifierMeans languages (pieces input) i → t ≡ identifier_text i → IsNormalizedIdentifier input t
@@ -39,10 +38,9 @@ is_normalized input i t m e =
 pub refuses_memory : (input : List ℕ) (i : Identifier) → IdentifierMeans languages (pieces input) i → (input ≡ identifier_text i → false ≡ true) → NormalizingIdentifierWantsMemory input
 refuses_memory input i m other = inr (i, m, λ e. absurd (true≢false (sym (other e))))
 
--- what a plain text is normalised to
+-- what is told at once is normalized so
+pub told_text : (t u : List ℕ) → IsNormalText languages Langid t u → IsNormalizedIdentifier t u
+told_text t u (i, m, e) = is_normalized t i u m e
 
-pub plain_normal : {Z E : Type 0} (t : List ℕ) (c : CowStr Z) → IsNormalOfPlain {E = E} t (Ok c) → IsNormalizedIdentifier t (cow_str_bytes c) × (IsLent c ↔ (t ≡ cow_str_bytes c))
-plain_normal t c h = (is_normalized t h.identifier (cow_str_bytes c) h.means h.text, (λ l. h.borrowed.0 l ∙ sym h.text, λ e. h.borrowed.1 (e ∙ h.text)))
-
-pub plain_refused : {Z E : Type 0} (t : List ℕ) (e : E) → IsNormalOfPlain {Z = Z} t (Err e) → NormalizingIdentifierWantsMemory t
-plain_refused t e h = refuses_memory t h.identifier h.means h.succeeds
+pub told_other : (t : List ℕ) → IsNotNormal Langid t → NormalizingIdentifierWantsMemory t
+told_other t (u, (i, m, e), other) = inr (i, m, λ s. other (s ∙ sym e))

@@ -1,18 +1,18 @@
 -- Variants that are taken one at a time.
 use Rattle.iloc_spec_grammar.proofs.FaultLaws.{some_repeat}
-use Rattle.std.proofs.Common.{◌≡◌, ℕ, ◌<◌, ◌≤◌, Bool, true, false, not, List, [], ◌∷◌, ◌++◌, length, map, refl, sym, ap, ◌∙◌, subst, arith, append_assoc, append-nil, length-append, Some, None, option_map, true≢false}
+use Rattle.std.proofs.Common.{◌≡◌, ℕ, ◌<◌, ◌≤◌, Bool, true, false, not, List, [], ◌∷◌, ◌++◌, length, map, refl, sym, ap, ◌∙◌, subst, arith, append_assoc, append-nil, length-append, Some, None, option_map}
 use Rattle.std.specs.Prelude.{Result, Ok, Err}
 use Rattle.std.specs.List.{AllByRecursion, list_any}
 use Rattle.std.specs.List.Sorted.{IsPermutation}
 use Rattle.std.proofs.lemmas.List.{map-append, length-map}
-use Rattle.std.proofs.lemmas.Bool.{or_parts, or_from, both_ways}
+use Rattle.std.proofs.lemmas.Bool.{both_ways}
 use Rattle.std.proofs.lemmas.List.Sorted.{IsPermutation-refl, IsPermutation-sym, IsPermutation-push_more, IsPermutation-append_left, length_permutation, list_any-IsPermutation}
 use Rattle.iloc_spec_grammar.specs.Syntax.{Variant, is_word, IsWord, normal, lower, word_cmp, is_same, AllDifferent}
 use Rattle.iloc_spec_grammar.specs.Meaning.{set_of}
-use Rattle.iloc_spec_grammar.specs.Values.{IsNormal, StrictlyAscends, Reordered, none, front_kept, first_two, in_turn}
+use Rattle.iloc_spec_grammar.specs.Values.{IsNormal, StrictlyAscends}
 use Rattle.iloc_spec_grammar.specs.Reading.{EndsBefore, take_first, skip_first, passing, past}
 use Rattle.iloc_spec_grammar.proofs.MapLaws.{word_cmp_total}
-use Rattle.iloc_spec_grammar.proofs.Orders.{different_reordered}
+use Rattle.iloc_spec_grammar.proofs.Orders.{turned, first_last, different_reordered}
 use Rattle.iloc_spec_grammar.proofs.SetLaws.{length-set_of, length-set_of-different}
 use Rattle.iloc_spec_grammar.proofs.ReadWords.{IsNormal-normal}
 use Rattle.iloc_spec_grammar.proofs.ValuesLaws.{set_of_ascending}
@@ -34,10 +34,6 @@ pub record Taking (before now words : List (List ℕ)) : Type 0 where
 pub taking_none : (ps : List (List ℕ)) → Taking ps ps []
 taking_none ps = record { taken = []; keeps = refl; skips = refl; permutes = IsPermutation-refl [] }
 
-back : {X : Type 0} (x : X) (xs : List X) → Reordered (xs ++ x ∷ []) (x ∷ xs)
-back x [] = front_kept none
-back x (y ∷ xs) = in_turn (front_kept (back x xs)) first_two
-
 map-last : (xs : List (List ℕ)) (p : List ℕ) → map lower (xs ++ p ∷ []) ≡ map lower xs ++ lower p ∷ []
 map-last xs p = map-append lower xs (p ∷ [])
 
@@ -58,8 +54,8 @@ module _ (before now words : List (List ℕ)) (t : Taking before now words) (p :
       let whole : map lower (passing (is_word Variant) before) ≡ (map lower t.taken ++ lower p ∷ []) ++ map lower (passing (is_word Variant) later) =
       ap (map lower) (keeps_more ∙ sym (append_assoc t.taken (p ∷ []) (passing (is_word Variant) later))) ∙ map-append lower (t.taken ++ p ∷ []) (passing (is_word Variant) later) ∙ ap (λ l. l ++ map lower (passing (is_word Variant) later)) (map-last t.taken p) in
       let first = some_repeat word_cmp _ _ (subst (AllDifferent word_cmp) whole d) in
-      let turned = different_reordered word_cmp word_cmp_total (back (lower p) (map lower t.taken)) first in
-      turned.0 (list_any-IsPermutation (is_same (lower p)) (map lower t.taken) words t.permutes ∙ old)
+      let front = different_reordered word_cmp word_cmp_total (turned (first_last (lower p) (map lower t.taken))) first in
+      front.0 (list_any-IsPermutation (is_same (lower p)) (map lower t.taken) words t.permutes ∙ old)
 
 not_fewer : (m n : ℕ) → (m < n → ⊥) → m ≤ n → m ≡ n
 not_fewer m n h l = omega (arith, h, l)

@@ -10,7 +10,7 @@ ghost use Rattle.iloc_spec_parts.specs.Orders.{identifier_cmp};
 ghost use Rattle.iloc_subtags.specs.Judging.{Accepts, Refuses, RunsOutOnlyIf};
 ghost use Rattle.iloc_langid.specs.Unknown.{unknown_identifier};
 
-use crate::reader::{read_head, read_whole};
+use crate::reader::{fill_short, fill_text, read_head};
 use iloc_subtags::{Language, ParseError, Region, Script, SubtagIterator, WordKind, WordOf};
 use iloc_word_set::Variants;
 use iloc_writeable::{Pieces, Sink, Writeable, cmp_utf8};
@@ -84,7 +84,11 @@ impl LanguageIdentifier {
         ensures narrow { (i : Identifier) → IdentifierMeans two_or_three (pieces code_units.now) i
             → Accepts value_of ⊤ i result }
     {
-        read_whole(alloc, &mut SubtagIterator::new(code_units))
+        let mut identifier = LanguageIdentifier::unknown();
+        if !fill_short(code_units, &mut identifier)? {
+            fill_text(alloc, code_units, &mut identifier)?;
+        }
+        Ok(identifier)
     }
 
     /// Leaves the unknown identifier, `und`.

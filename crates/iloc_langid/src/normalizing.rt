@@ -8,8 +8,8 @@ ghost use Rattle.iloc_writeable.specs.Writing.{IsLent};
 
 use crate::agreeing::has_variants;
 use crate::identifier::LanguageIdentifier;
-use crate::plain_text::normalize_plain;
 use iloc_subtags::{Language, ParseError, RegionKind, ScriptKind, SubtagIterator, take_word};
+use iloc_told::{Mode, normalize_short, normalize_told};
 use iloc_writeable::to_string_or_borrow;
 use std::alloc::Global;
 use std::borrow::CowStr;
@@ -23,14 +23,29 @@ impl LanguageIdentifier {
     /// Refuses as the parser does. It allocates nothing on a normal text with at most four variants.
     /// Normalizing twice is once; texts mean the same exactly if their normal texts are equal; each text
     /// of a meaning is as long; two steps, in case and in the order of variants, lead there.
+    #[inline(always)]
     pub fn normalize_utf8(alloc: Global, input: &[u8]) -> Result<CowStr<'_, Global>, ParseError>
         ensures ok { IfOk result (λ text. IsNormalizedIdentifier input.now (cow_str_bytes text)
             × (IsLent text ↔ (input.now ≡ cow_str_bytes text))) }
         ensures err { IfErr result (Refusal (HasIdentifierFault languages (pieces input.now)) ⊤) }
         ensures memory { RunsOutOnlyIf (NormalizingIdentifierWantsMemory input.now) result }
     {
-        match normalize_plain(alloc, input) {
-            Some(normal) => Ok(normal?),
+        match normalize_short(alloc, input) {
+            Some(normal) => normal,
+            None => Self::normalize_other(alloc, input),
+        }
+    }
+
+    // The same of a text that is not plain, by what is told of it, and else by parsing it.
+    #[inline(never)]
+    fn normalize_other(alloc: Global, input: &[u8]) -> Result<CowStr<'_, Global>, ParseError>
+        ensures ok { IfOk result (λ text. IsNormalizedIdentifier input.now (cow_str_bytes text)
+            × (IsLent text ↔ (input.now ≡ cow_str_bytes text))) }
+        ensures err { IfErr result (Refusal (HasIdentifierFault languages (pieces input.now)) ⊤) }
+        ensures memory { RunsOutOnlyIf (NormalizingIdentifierWantsMemory input.now) result }
+    {
+        match normalize_told(alloc, Mode::Langid, input) {
+            Some(normal) => normal,
             None => Self::normalize_parsed(alloc, input),
         }
     }
@@ -48,6 +63,7 @@ impl LanguageIdentifier {
     }
 
     /// Returns the normalized text of a `str`, as `normalize_utf8` does for bytes.
+    #[inline(always)]
     pub fn normalize(alloc: Global, input: &str) -> Result<CowStr<'_, Global>, ParseError>
         ensures ok { IfOk result (λ text. IsNormalizedIdentifier input.now (cow_str_bytes text)
             × (IsLent text ↔ (input.now ≡ cow_str_bytes text))) }

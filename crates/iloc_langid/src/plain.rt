@@ -1,12 +1,15 @@
 //! Takes what most identifiers are: a language, and perhaps a script and a region.
-ghost use Rattle.std.specs.Prelude.{◌≡◌, MatchOption, false};
-ghost use Rattle.iloc_spec_grammar.specs.Syntax.{first_piece, Language as language, is_word, languages};
+ghost use Rattle.std.specs.Prelude.{◌≡◌, ◌≤◌, [], IfSome, MatchOption, false, take};
+ghost use Rattle.iloc_spec_grammar.specs.Syntax.{first_piece, Language as language, is_word, languages, pieces};
 ghost use Rattle.iloc_subtags.specs.Left.{left};
 ghost use Rattle.iloc_langid.specs.PlainReads.{IsPlainFront};
 
+use iloc_plain::read_lanes;
 use iloc_subtags::{
-    Language, LanguageKind, Region, RegionKind, Script, ScriptKind, SubtagIterator, take_word,
+    Language, LanguageKind, Region, RegionKind, Script, ScriptKind, SubtagIterator,
+    subtag_of_normal, take_word,
 };
+use std::simd::prelude::*;
 
 /// A language, and perhaps a script and a region.
 #[derive(Clone, Copy)]
@@ -32,5 +35,19 @@ pub(crate) fn take_plain(iter: &mut SubtagIterator<'_>) -> Option<PlainParts>
         language,
         script,
         region,
+    })
+}
+
+/// The subtags of the first bytes if they are a plain text, told at once (`iloc_plain`). `None` says nothing of them.
+#[inline(always)]
+pub(crate) fn tell_plain(v: u8x16, len: usize) -> Option<PlainParts>
+    requires { len ≤ 16 }
+    ensures { IfSome result (IsPlainFront (pieces (take len v)) []) }
+{
+    let plain = read_lanes(v, len)?;
+    Some(PlainParts {
+        language: subtag_of_normal(plain.language()),
+        script: plain.script().map(subtag_of_normal),
+        region: plain.region().map(subtag_of_normal),
     })
 }

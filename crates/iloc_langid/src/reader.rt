@@ -1,15 +1,20 @@
 //! Parses identifiers from pieces.
-ghost use Rattle.std.specs.Prelude.{◌≡◌, ◌<◌, ◌++◌, [], length, Ok, OnOk, OnErr};
+ghost use Rattle.std.specs.Prelude.{◌≡◌, ◌<◌, ◌++◌, [], true, false, length, Ok, IfOk, IfErr, OnOk, OnErr};
 ghost use Rattle.std.specs.Result.{result_and};
-ghost use Rattle.iloc_spec_grammar.specs.Syntax.{pieces, head};
+ghost use Rattle.iloc_spec_grammar.specs.Syntax.{pieces, head, languages};
+ghost use Rattle.iloc_spec_grammar.specs.Meaning.{IdentifierMeans};
 ghost use Rattle.iloc_spec_grammar.specs.Reading.{after_head};
 ghost use Rattle.iloc_subtags.specs.Left.{left};
+ghost use Rattle.iloc_fronts.specs.Front.{IsFront};
+ghost use Rattle.iloc_fronts.specs.declared.front.Front.TheVariants as fronts;
 ghost use Rattle.iloc_subtags.specs.Judging.{RunsOutOnlyIf};
 ghost use Rattle.iloc_langid.specs.Reads.{value_of, VariantsReads, FrontComputed, FrontReads, IdentifierReads, IdentifierWantsMemory};
 ghost use Rattle.iloc_langid.specs.Unknown.{unknown_identifier};
 
 use crate::identifier::LanguageIdentifier;
-use crate::plain::take_plain;
+use crate::plain::{take_plain, tell_plain};
+use iloc_fronts::begins_with_language;
+use iloc_plain::load::load;
 use iloc_subtags::{
     ParseError, SubtagIterator, VariantKind, WordKind, WordOf, is_at_block, next_has_length,
     take_word,
@@ -132,21 +137,8 @@ pub fn fill_front(
     fill(alloc, iter, identifier)
 }
 
-/// Parses all the pieces as an identifier.
-pub fn read_whole(
-    alloc: Global,
-    iter: &mut SubtagIterator<'_>,
-) -> Result<LanguageIdentifier, ParseError>
-    ensures reads { IdentifierReads (left iter.old) result }
-    ensures memory { RunsOutOnlyIf (IdentifierWantsMemory (left iter.old)) result }
-    ensures rest { OnOk result (left iter.new ≡ []) }
-{
-    let mut identifier = LanguageIdentifier::unknown();
-    fill_whole(alloc, iter, &mut identifier)?;
-    Ok(identifier)
-}
-
-/// The same in place of what the identifier was. After a refusal it holds some of its subtags.
+/// Parses all the pieces in place of what the identifier was. After a refusal it holds some of its
+/// subtags.
 #[inline(always)]
 pub fn fill_whole(
     alloc: Global,
@@ -162,6 +154,49 @@ pub fn fill_whole(
         Some(_) => Err(ParseError::InvalidSubtag),
         None => Ok(()),
     }
+}
+
+/// The same of a text.
+#[inline(never)]
+pub(crate) fn fill_text(
+    alloc: Global,
+    code_units: &[u8],
+    identifier: &mut LanguageIdentifier,
+) -> Result<(), ParseError>
+    ensures reads { IdentifierReads (pieces code_units.now)
+        (result_and result (Ok identifier.new)) }
+    ensures memory { RunsOutOnlyIf (IdentifierWantsMemory (pieces code_units.now)) result }
+{
+    fill_whole(alloc, &mut SubtagIterator::new(code_units), identifier)
+}
+
+/// Turns an identifier without variants into that of a plain text, told at once: then it returns `true`. `false` says
+/// nothing of the text, and leaves the identifier as it was.
+///
+/// Refuses with `InvalidLanguage` a text of at most sixteen bytes that begins with no language.
+#[inline(always)]
+pub fn fill_short(text: &[u8], identifier: &mut LanguageIdentifier) -> Result<bool, ParseError>
+    requires { identifier.old.variants ≡ [] }
+    ensures told { IfOk result (λ told. told ≡ true
+        → IdentifierMeans languages (pieces text.now) (value_of identifier.new)) }
+    ensures not_told { IfOk result (λ told. told ≡ false → identifier.new ≡ identifier.old) }
+    ensures refused { IfErr result (λ e. (e ≡ ParseError.InvalidLanguage)
+        × IsFront text.now fronts.NoLanguage) }
+{
+    if text.len() > 16 {
+        return Ok(false);
+    }
+    let lanes = load(text);
+    if let Some(told) = tell_plain(lanes, text.len()) {
+        identifier.language = told.language;
+        identifier.script = told.script;
+        identifier.region = told.region;
+        return Ok(true);
+    }
+    if !begins_with_language(lanes, text.len()) {
+        return Err(ParseError::InvalidLanguage);
+    }
+    Ok(false)
 }
 
 /// Parses all of the text in place of what the identifier was, for programs that keep one identifier for many

@@ -11,7 +11,10 @@ ghost use Rattle.iloc_langid.specs.BlockReads.{
   value_result,
 };
 
+use crate::plain::tell_plain;
 use crate::small::read_small_front;
+use iloc_fronts::begins_with_language;
+use iloc_plain::load::load;
 use iloc_subtags::{
     Attribute, AttributeKind, Language, ParseError, Region, Script, Subtag, SubtagIterator,
     UnicodeKey, UnicodeKeyKind, Variant, is_at_block, subtag_of, take_byte, take_word,
@@ -36,7 +39,25 @@ pub type SmallLocaleParts = (
 /// head is otherwise no such identifier. After the head it refuses with `InvalidExtension` a singleton that
 /// is no letter or digit, and a `u` that neither a key nor an attribute follows; and with `InvalidSubtag`
 /// everything else.
+#[inline(always)]
 pub fn read_small_locale(code_units: &[u8]) -> Result<SmallLocaleParts, ParseError>
+    ensures { SmallLocaleTextReads code_units.now result }
+{
+    if code_units.len() <= 16 {
+        let lanes = load(code_units);
+        if let Some(plain) = tell_plain(lanes, code_units.len()) {
+            return Ok((plain.language, plain.script, plain.region, None, None));
+        }
+        if !begins_with_language(lanes, code_units.len()) {
+            return Err(ParseError::InvalidLanguage);
+        }
+    }
+    read_small_pieces(code_units)
+}
+
+// The same by the pieces.
+#[inline(never)]
+fn read_small_pieces(code_units: &[u8]) -> Result<SmallLocaleParts, ParseError>
     ensures { SmallLocaleTextReads code_units.now result }
 {
     let mut iter = SubtagIterator::new(code_units);

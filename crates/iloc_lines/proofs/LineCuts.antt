@@ -3,7 +3,7 @@ use Rattle.std.proofs.Common.{◌≡◌, ◌≢◌, ℕ, ◌<◌, Bool, false, e
 use Rattle.std.specs.List.{AllByRecursion}
 use Rattle.std.proofs.lemmas.List.Elements.{recursion_from_All, All-append}
 use Rattle.iloc_lines.specs.Answers.{output, reply}
-use Rattle.iloc_lines.specs.declared.Mode.{Mode}
+use Rattle.iloc_told.specs.declared.Mode.{Mode}
 use Rattle.iloc_lines.specs.Lines.{lines_of, onto_first, IsOneLine}
 
 from_recursion : (line rest : List ℕ) → AllByRecursion (λ c. c ≢ 10) line → lines_of (line ++ 10 ∷ rest) ≡ line ∷ lines_of rest

@@ -1,32 +1,19 @@
 -- What the program answers to a line, and writes for an input. This library's rule.
 use Rattle.std.specs.Prelude.{◌≡◌, ◌⊎◌, List, [], ◌∷◌, ◌++◌, codes, Result, Ok, Err}
 use Rattle.std.specs.List.{flat_map, AllZip}
-use Rattle.iloc_spec_grammar.specs.Syntax.{Text, LanguageLengths, pieces, Identifier}
-use Rattle.iloc_spec_grammar.specs.Meaning.{Means, IdentifierMeans, Fault, HasIdentifierFault, HasFault}
-use Rattle.iloc_spec_grammar.specs.Meaning as grammar
+use Rattle.iloc_spec_grammar.specs.Syntax.{Text, LanguageLengths, pieces}
+use Rattle.iloc_spec_grammar.specs.Meaning.{Fault}
 use Rattle.iloc_spec_grammar.specs.Values.{identifier_text, text}
 use Rattle.iloc_spec_grammar.specs.Computing.{identifier_result, locale_result}
-use Rattle.iloc_spec_preferences.specs.DataLocales.{DataLocale, DataMeans, HasDataFault, data_text}
+use Rattle.iloc_spec_preferences.specs.DataLocales.{data_text}
 use Rattle.iloc_spec_preferences.specs.DataComputing.{data_result}
 use Rattle.iloc_subtags.specs.declared.parse_error.ParseError.{ParseError}
 use Rattle.iloc_subtags.specs.Judging.{error_of}
 use Rattle.iloc_subtags.specs.ParseError.{words_of}
 use Rattle.iloc_lines.specs.Lines.{lines_of, ended}
-use Rattle.iloc_lines.specs.declared.Mode.{Mode}
-use Rattle.iloc_lines.specs.declared.Mode.TheVariants.{Langid, Locale, Data}
-
--- In the mode, the text is the normal text of what the line means.
-abbrev pub IsNormalText : LanguageLengths → Mode → Text → Text → Type 0
-IsNormalText T Langid line t = (i : Identifier) × IdentifierMeans T (pieces line) i
-    × (t ≡ identifier_text i)
-IsNormalText T Locale line t = (M : grammar.Locale) × Means T line M × (t ≡ text M)
-IsNormalText T Data line t = (d : DataLocale) × DataMeans T line d × (t ≡ data_text d)
-
--- The line means nothing in the mode, and has this fault.
-abbrev pub IsFaulty : LanguageLengths → Mode → Text → Fault → Type 0
-IsFaulty T Langid line f = HasIdentifierFault T (pieces line) f
-IsFaulty T Locale line f = HasFault T line f
-IsFaulty T Data line f = HasDataFault T line f
+use Rattle.iloc_told.specs.Modes.{IsNormalText, IsFaulty}
+use Rattle.iloc_told.specs.declared.Mode.{Mode}
+use Rattle.iloc_told.specs.declared.Mode.TheVariants.{Langid, Locale, Data}
 
 -- The answer to a line that is refused so.
 abbrev pub refusal_text : ParseError → Text

@@ -1,16 +1,8 @@
--- The words of the modes, and how the program ends. This library's rule.
+-- How the program ends. This library's rule.
 use Rattle.std.specs.Prelude.{ℕ, [], ◌∷◌, ◌++◌, codes, Option, Some, None, Result, Ok, Err}
 use Rattle.iloc_spec_grammar.specs.Syntax.{Text}
-use Rattle.iloc_lines.specs.declared.Mode.{Mode}
-use Rattle.iloc_lines.specs.declared.Mode.TheVariants.{Langid, Locale, Data}
 use Rattle.iloc_lines.specs.declared.RunError.{RunError}
 use Rattle.iloc_lines.specs.declared.RunError.TheVariants.{Read, Write, OutOfMemory}
-
--- The word that names a mode.
-abbrev pub word_of : Mode → Text
-word_of Langid = codes "langid"
-word_of Locale = codes "locale"
-word_of Data = codes "data"
 
 -- What stands on standard error: nothing after a success, and `None` is for bad arguments.
 abbrev pub ending_text : Option (Result (Unit {0}) RunError) → Text

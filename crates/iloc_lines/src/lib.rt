@@ -4,16 +4,15 @@
 //! (`laws`) say that there is one of each, and that it is computed. It promises that what `run_with` writes is the output
 //! of what it reads, if each line is answered as `Answers` says: that is what `iloc_program` adds.
 //!
-//! What is told of a text at once, in each mode, stands in one place (`told`), for the lines and for the calls of
-//! `iloc_calls`. It stands on `iloc_plain`, `iloc_fronts`, `iloc_blocks` and `iloc_rewriting`, and on no parser. Memory is
-//! as long as the longest line and its answer; reads and writes are in blocks of 64 KiB.
+//! Most lines are told at once, by the steps of `iloc_told`, so it stands on no parser. Memory is as long as the longest
+//! line and its answer; reads and writes are in blocks of 64 KiB.
 #![tactic(auto)]
 
-ghost use Rattle.std.specs.Prelude.{ℕ, List, ◌≡◌, ◌↔◌, ◌++◌, Some, OnOk, OnErr, option_copied};
+ghost use Rattle.std.specs.Prelude.{◌≡◌, ◌++◌, OnOk, OnErr, option_copied};
 ghost use Rattle.iloc_lines.specs.Output.{WritesAll, WritesBeginning};
 ghost use Rattle.iloc_lines.specs.ReplyBlock.{held};
 ghost use Rattle.iloc_lines.specs.declared.RunError.TheVariants.{OutOfMemory};
-ghost use Rattle.iloc_lines.specs.Ending.{ending_status, ending_text, word_of};
+ghost use Rattle.iloc_lines.specs.Ending.{ending_status, ending_text};
 ghost use Rattle.iloc_lines.specs.Answers.{reply};
 ghost use Rattle.iloc_spec_grammar.specs.Syntax.{languages};
 
@@ -21,39 +20,13 @@ pub mod laws;
 mod lines;
 pub mod replies;
 pub mod reply_block;
-mod subdivisions;
-pub mod told;
 
+pub use iloc_told::Mode;
 pub use replies::{write_refusal, write_text};
 pub use reply_block::ReplyBlock;
 use std::alloc::{AllocError, Global};
 use std::io::{Read, Write};
 use thiserror::Error;
-
-/// What each line is read as.
-#[derive(Clone, Copy, Debug, PartialEq, Eq)]
-pub enum Mode {
-    /// A language identifier.
-    Langid,
-    /// A locale.
-    Locale,
-    /// A data locale.
-    Data,
-}
-
-impl Mode {
-    /// The mode that the word names.
-    pub fn from_word(word: &str) -> Option<Mode>
-        ensures { (mode : Mode) → (result ≡ Some mode) ↔ (word.now ≡ word_of mode) }
-    {
-        match word {
-            "langid" => Some(Mode::Langid),
-            "locale" => Some(Mode::Locale),
-            "data" => Some(Mode::Data),
-            _ => None,
-        }
-    }
-}
 
 /// Why a run stopped before the input's end was answered.
 #[derive(Clone, Debug, Drop, Error, PartialEq, Eq)]
@@ -93,7 +66,7 @@ pub fn ending(outcome: Option<&Result<(), RunError>>) -> (&'static str, u8)
 
 /// What answers lines in one mode.
 pub trait Answers {
-    ghost use Rattle.iloc_lines.specs.declared.Mode.{Mode};
+    ghost use Rattle.iloc_told.specs.declared.Mode.{Mode};
 
     ghost mode: { Mode };
 

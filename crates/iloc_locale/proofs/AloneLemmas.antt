@@ -1,27 +1,19 @@
 -- A language alone: the text that means no more than it.
-use Rattle.std.proofs.Common.{◌≡◌, ℕ, List, [], None, refl, sym, ap, ◌∙◌, subst, append-nil}
-use Rattle.iloc_spec_grammar.specs.Syntax.{languages, pieces, join, Language, Identifier, identifier_pieces}
+use Rattle.std.proofs.Common.{◌≡◌, ℕ, List, [], None, refl, sym, ap, ◌∙◌, subst}
+use Rattle.iloc_spec_grammar.specs.Syntax.{languages, pieces, join, Language, Identifier}
 use Rattle.iloc_spec_grammar.specs.Meaning as meaning
 use Rattle.iloc_spec_grammar.specs.Meaning.{Extensions, IdentifierMeans, Means, no_extensions, without_extensions}
-use Rattle.iloc_spec_grammar.specs.Values.{IsNormal, text, identifier_text, extensions_spelling}
+use Rattle.iloc_spec_grammar.specs.Values.{IsNormal, text, identifier_text}
 use Rattle.iloc_spec_grammar.proofs.RawLaws.{languages_table}
 use Rattle.iloc_spec_grammar.proofs.Corollaries.{means_a_value}
 use Rattle.iloc_spec_grammar.proofs.IdentifierTexts.{identifier_text_means}
-use Rattle.iloc_spec_grammar.proofs.SameMeaning.{one_meaning, means_by_tree}
+use Rattle.iloc_spec_grammar.proofs.SameMeaning.{one_meaning}
+use Rattle.iloc_told.proofs.PlainAnswers as alone
+use Rattle.iloc_told.proofs.PlainAnswers.{means_alone}
 
 -- the text of an identifier alone
 pub text_alone : (i : Identifier) (e : Extensions) → e ≡ no_extensions → text (record { id = i; extensions = e }) ≡ identifier_text i
-unfolding identifier_text extensions_spelling
-text_alone i e n = ap (λ (x : Extensions). text (record { id = i; extensions = x })) n ∙ ap join (append-nil (identifier_pieces i))
-
--- an identifier alone is a locale without extensions
-pub means_alone : (t : List ℕ) (i : Identifier) → IdentifierMeans languages (pieces t) i → Means languages t (without_extensions i)
-means_alone t i m = means_by_tree languages_table t (without_extensions i) (record {
-  written = record { id = m.written; extensions = []; private = None };
-  grammatical = record { id = m.grammatical; extensions = tt; different = tt; private = tt };
-  spelled = m.spelled ∙ sym (append-nil (identifier_pieces m.written));
-  means = λ j. record { id = m.means j; extensions = no_extensions };
-})
+text_alone i e n = ap (λ (x : Extensions). text (record { id = i; extensions = x })) n ∙ alone.text_alone i
 
 -- a language and nothing else
 

@@ -10,34 +10,17 @@ use Rattle.iloc_spec_grammar.specs.Syntax.{kept, AllDifferent, lower_singleton, 
 use Rattle.iloc_spec_grammar.specs.Meaning.{Extensions, BlocksMean, no_unicode, no_transform}
 use Rattle.iloc_spec_grammar.specs.Tree.{by_singleton}
 use Rattle.iloc_spec_grammar.specs.ByBlocks.{Rules, other_blocks, PartIs, BlocksGive}
-use Rattle.iloc_spec_grammar.specs.Values.{Reordered, none, front_kept, first_two, in_turn}
-use Rattle.iloc_spec_grammar.proofs.Orders.{all_reordered, map_reordered, different_reordered, find_reordered}
+use Rattle.iloc_spec_grammar.specs.Values.{Reordered, in_turn}
+use Rattle.iloc_spec_grammar.proofs.Orders.{itself, moved, all_reordered, map_reordered, different_reordered, find_reordered, filter_reordered}
 use Rattle.iloc_spec_grammar.proofs.MapLaws.{map_of_same}
 use Rattle.iloc_spec_grammar.proofs.SameMeaning.{mean_give, give_mean}
-use Rattle.iloc_spec_grammar.proofs.Sorting.{itself}
 use Rattle.iloc_locale.specs.Blocks.{onto}
 
 -- the last one first
 
-moved : {X : Type 0} (x : X) (xs ys : List X) → Reordered (x ∷ (xs ++ ys)) (xs ++ (x ∷ ys))
-moved x [] ys = itself (x ∷ ys)
-moved x (z ∷ xs) ys = in_turn first_two (front_kept (moved x xs ys))
-
 onto_reordered : {X : Type 0} (xs ys : List X) → Reordered (xs ++ ys) (onto xs ys)
 onto_reordered [] ys = itself ys
 onto_reordered (x ∷ xs) ys = in_turn (moved x xs ys) (onto_reordered xs (x ∷ ys))
-
-filter_reordered : {X : Type 0} (test : X → Bool) {xs ys : List X} → Reordered xs ys → Reordered (filter test xs) (filter test ys)
-filter_reordered test none = none
-filter_reordered test (front_kept {x = x} {xs = xs} {ys = ys} r) = elim (test x) as (λ b. Reordered (cond b (x ∷ filter test xs) (filter test xs)) (cond b (x ∷ filter test ys) (filter test ys))) [ true ↦ front_kept (filter_reordered test r) | false ↦ filter_reordered test r ]
-filter_reordered {X = X} test (first_two {x = x} {y = y} {xs = xs}) = at (test x) (test y)
-  where
-    at : (a b : Bool) → Reordered (cond a (x ∷ cond b (y ∷ filter test xs) (filter test xs)) (cond b (y ∷ filter test xs) (filter test xs))) (cond b (y ∷ cond a (x ∷ filter test xs) (filter test xs)) (cond a (x ∷ filter test xs) (filter test xs)))
-    at true true = first_two
-    at true false = itself (x ∷ filter test xs)
-    at false true = itself (y ∷ filter test xs)
-    at false false = itself (filter test xs)
-filter_reordered test (in_turn r s) = in_turn (filter_reordered test r) (filter_reordered test s)
 
 -- keys of blocks
 

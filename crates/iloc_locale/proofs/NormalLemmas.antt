@@ -1,10 +1,8 @@
 -- From the locale that was read to its normal text.
 use Rattle.std.proofs.Common.{◌≡◌, inl, inr, ◌↔◌, IsTrue, ℕ, ◌≤◌, Bool, true, false, List, length, refl, sym, ap, ◌∙◌, subst, true≢false, IfOk, Err, Ok, Result}
-use Rattle.std.specs.Cow.{cow_str_bytes}
-use Rattle.std.specs.declared.borrow.CowStr.{CowStr}
 use Rattle.iloc_spec_grammar.specs.Syntax.{languages}
 use Rattle.iloc_spec_grammar.specs.Meaning as meaning
-use Rattle.iloc_spec_grammar.specs.Meaning.{Means, no_extensions, without_extensions}
+use Rattle.iloc_spec_grammar.specs.Meaning.{Means}
 use Rattle.iloc_spec_grammar.specs.Values.{IsWellFormed, text}
 use Rattle.iloc_spec_grammar.proofs.SameMeaning.{one_meaning}
 use Rattle.iloc_spec_grammar.proofs.SameFaults.{accepted_no_fault}
@@ -16,11 +14,11 @@ use Rattle.iloc_spec_grammar.proofs.Corollaries.{same_meaning, means_again}
 use Rattle.iloc_spec_grammar.proofs.AnySteps.{chain_to_text, shortest, texts_lead_to_one}
 use Rattle.iloc_subtags.specs.declared.parse_error.ParseError.{ParseError}
 use Rattle.iloc_subtags.specs.declared.parse_error.ParseError.TheVariants.{InvalidLanguage, InvalidSubtag, InvalidExtension, DuplicatedExtension, OutOfMemory}
-use Rattle.iloc_writeable.specs.Writing.{IsLent}
-use Rattle.iloc_langid.specs.PlainTexts.{IsNormalOfPlain}
+use Rattle.iloc_told.specs.Modes.{IsNormalText}
+use Rattle.iloc_told.specs.NormalTexts.{IsNotNormal}
+use Rattle.iloc_told.specs.declared.Mode.TheVariants.{Locale}
 use Rattle.iloc_locale.specs.LocaleReading.{LocaleTextReads, MeansOnly, IsTextOf, IsNormalizedLocale, NormalizingWantsMemory}
 use Rattle.iloc_locale.proofs.ReadLemmas.{inline_wants_none}
-use Rattle.iloc_locale.proofs.AloneLemmas.{text_alone, means_alone}
 use Rattle.iloc_spec_parts.specs.Inline.{IsInline}
 use Rattle.std.specs.Cmp.{Equal-is}
 
@@ -63,14 +61,9 @@ refusal_differs t M f (Err e) h d = tt
 pub text_means_only : (M : meaning.Locale) → IsWellFormed M → MeansOnly (text M) M
 text_means_only M w = (w, λ N n. one_meaning languages_table (text M) N M n w)
 
--- what a plain text is normalised to
+-- what is told at once is normalized so
+pub told_text : (t u : List ℕ) → IsNormalText languages Locale t u → IsNormalizedLocale t u
+told_text t u (M, m, e) = is_normalized t u M m e
 
-pub plain_normal : {Z E : Type 0} (t : List ℕ) (c : CowStr Z) → IsNormalOfPlain {E = E} t (Ok c) → IsNormalizedLocale t (cow_str_bytes c) × (IsLent c ↔ (t ≡ cow_str_bytes c))
-plain_normal t c h = (
-  is_normalized t (cow_str_bytes c) (without_extensions h.identifier) (means_alone t h.identifier h.means) (h.text ∙ sym (text_alone h.identifier no_extensions refl)),
-  (λ l. h.borrowed.0 l ∙ sym h.text, λ e. h.borrowed.1 (e ∙ h.text)),
-)
-
-pub plain_refused : {Z E : Type 0} (t : List ℕ) (e : E) → IsNormalOfPlain {Z = Z} t (Err e) → NormalizingWantsMemory t
-plain_refused t e h =
-    refuses_memory t (without_extensions h.identifier) (means_alone t h.identifier h.means) (λ s. h.succeeds (s ∙ text_alone h.identifier no_extensions refl))
+pub told_other : (t : List ℕ) → IsNotNormal Locale t → NormalizingWantsMemory t
+told_other t (u, (M, m, e), other) = inr (M, m, λ s. other (s ∙ sym e))

@@ -4,7 +4,7 @@ use Rattle.std.proofs.Common.{◌≡◌, inl, inr, ℕ, ◌<◌, true, List, [],
 use Rattle.std.specs.Result.{result_and}
 use Rattle.iloc_spec_grammar.specs.Syntax.{pieces, Language, IsWord, languages, two_or_three, identifier_pieces, head, blocks, tail_blocks, first_piece}
 use Rattle.iloc_spec_grammar.specs.Meaning as meaning
-use Rattle.iloc_spec_grammar.specs.Meaning.{Means, BlocksMean, Fault, HasFault, HasBlockFault, in_head, in_block, SpellsIdentifier}
+use Rattle.iloc_spec_grammar.specs.Meaning.{IdentifierMeans, Means, BlocksMean, Fault, HasFault, HasBlockFault, in_head, in_block, SpellsIdentifier}
 use Rattle.iloc_spec_grammar.specs.Values.{IsValue, IsWellFormed, TextStep, Leads}
 use Rattle.iloc_spec_grammar.specs.Reading.{rest_of, front_of, after_head, starts_block}
 use Rattle.iloc_spec_grammar.proofs.RawLaws.{languages_table}
@@ -23,6 +23,11 @@ use Rattle.iloc_langid.specs.Reads as langid
 use Rattle.iloc_langid.specs.Reads.{IdentifierReads}
 use Rattle.iloc_locale.specs.ExtensionsValue as extensions
 use Rattle.iloc_locale.specs.Whole.{BlocksReads}
+use Rattle.iloc_fronts.specs.Front.{IsFront}
+use Rattle.iloc_fronts.specs.declared.front.Front.TheVariants as fronts
+use Rattle.iloc_told.specs.declared.Mode.TheVariants as modes
+use Rattle.iloc_told.proofs.FrontAnswers.{no_language_refused}
+use Rattle.iloc_told.proofs.PlainAnswers.{means_alone}
 use Rattle.iloc_locale.proofs.RoundLaws.{blocks-from_block}
 use Rattle.iloc_locale.specs.declared.locale.Locale.{Locale}
 use Rattle.iloc_locale.specs.LocaleReading.{value_of, unknown_locale, LocaleWantsMemory, LocaleTextReads, LocaleTextAnswers}
@@ -90,6 +95,18 @@ blocks_read t l (Err e) h b = blocks_refused t l.id (extensions.value_of l.exten
 
 pub none_after_unknown : (l : Locale) → value_of l ≡ unknown_locale → extensions.value_of l.extensions ≡ meaning.no_extensions
 none_after_unknown l e = ap (λ (M : meaning.Locale). M.extensions) e
+
+-- what is told of a plain text at once: it is an identifier alone
+pub plain_means : (t : List ℕ) (l : Locale) → IdentifierMeans languages (pieces t) (langid.value_of l.id) → extensions.value_of l.extensions ≡ meaning.no_extensions → Means languages t (value_of l)
+plain_means t l m none = subst (λ (e : meaning.Extensions). Means languages t (record { id = langid.value_of l.id; extensions = e })) (sym none) (means_alone t (langid.value_of l.id) m)
+
+-- a text that begins with no language is refused so
+pub no_language_read : (t : List ℕ) (e : ParseError) → (e ≡ InvalidLanguage) × IsFront t fronts.NoLanguage → LocaleTextReads t (Err e)
+no_language_read t InvalidLanguage (is, h) = no_language_refused modes.Locale t h
+no_language_read t InvalidSubtag (is, h) = absurd (cc)
+no_language_read t InvalidExtension (is, h) = absurd (cc)
+no_language_read t DuplicatedExtension (is, h) = absurd (cc)
+no_language_read t OutOfMemory (is, h) = absurd (cc)
 
 -- what else is known of what is read
 

@@ -12,7 +12,7 @@ ghost use Rattle.iloc_locale.specs.LocaleReading.{value_of, unknown_locale, Loca
 
 use crate::{Extensions, read_blocks};
 use iloc_langid::LanguageIdentifier;
-use iloc_langid::reader::fill_head;
+use iloc_langid::reader::{fill_head, fill_short};
 use iloc_subtags::{ParseError, SubtagIterator};
 use std::alloc::Global;
 
@@ -57,6 +57,7 @@ impl Locale {
     /// no language, `InvalidSubtag` if the head is no identifier, and else the fault of the first bad block.
     /// `OutOfMemory` comes only if the front of the head has more than four variants, or a block is reached
     /// that is not short.
+    #[inline(always)]
     pub fn try_from_utf8(alloc: Global, code_units: &[u8]) -> Result<Self, ParseError>
         ensures reads { LocaleTextReads code_units.now result }
         ensures accepted { (M : meaning.Locale) → Means languages code_units.now M
@@ -71,6 +72,14 @@ impl Locale {
         ensures narrow { (M : meaning.Locale) → Means two_or_three code_units.now M
             → Accepts value_of ⊤ M result }
     {
+        let mut id = LanguageIdentifier::unknown();
+        // (a refusal comes before a locale is made)
+        if fill_short(code_units, &mut id)? {
+            return Ok(Locale {
+                id,
+                extensions: Extensions::new(alloc),
+            });
+        }
         let mut locale = Locale::unknown(alloc);
         locale.fill(alloc, code_units)?;
         Ok(locale)
@@ -84,7 +93,8 @@ impl Locale {
         self.extensions.clear();
     }
 
-    // Parses all of the text in place of an identifier.
+    // Parses all of the text in place of an identifier. It is a call, so that plain texts and refusals are inlined alone.
+    #[inline(never)]
     fn fill(&mut self, alloc: Global, code_units: &[u8]) -> Result<(), ParseError>
         requires { extensions.value_of self.old.extensions ≡ no_extensions }
         ensures { LocaleTextAnswers code_units.now (result_and result (Ok self.new)) }
@@ -95,6 +105,7 @@ impl Locale {
     }
 
     /// Parses all of a `str`, as `try_from_utf8` parses bytes.
+    #[inline(always)]
     pub fn try_from_str(alloc: Global, s: &str) -> Result<Self, ParseError>
         ensures reads { LocaleTextReads s.now result }
         ensures accepted { (M : meaning.Locale) → Means languages s.now M

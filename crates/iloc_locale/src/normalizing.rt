@@ -12,8 +12,9 @@ ghost use Rattle.iloc_langid.specs.SmallLocaleReads.{SmallLocaleTextReads, small
 
 use crate::is_well_formed;
 use crate::locale::Locale;
-use iloc_langid::{normalize_plain, read_small_locale};
+use iloc_langid::read_small_locale;
 use iloc_subtags::{Language, ParseError, Region, Script, Subtag, UnicodeKey, Variant};
+use iloc_told::{Mode, normalize_short, normalize_told};
 use iloc_writeable::to_string_or_borrow;
 use std::alloc::Global;
 use std::borrow::CowStr;
@@ -26,14 +27,29 @@ impl Locale {
     /// Refuses as the parser does. It allocates nothing on a normal text that is inline. Normalizing twice is
     /// once; texts mean the same exactly if their normal texts are equal; no text of a meaning is shorter;
     /// at most eight steps of rewriting lead there.
+    #[inline(always)]
     pub fn normalize_utf8(alloc: Global, input: &[u8]) -> Result<CowStr<'_, Global>, ParseError>
         ensures ok { IfOk result (λ text. IsNormalizedLocale input.now (cow_str_bytes text)
             × (IsLent text ↔ (input.now ≡ cow_str_bytes text))) }
         ensures err { IfErr result (Refusal (HasFault languages input.now) ⊤) }
         ensures memory { RunsOutOnlyIf (NormalizingWantsMemory input.now) result }
     {
-        match normalize_plain(alloc, input) {
-            Some(normal) => Ok(normal?),
+        match normalize_short(alloc, input) {
+            Some(normal) => normal,
+            None => Self::normalize_other(alloc, input),
+        }
+    }
+
+    // The same of a text that is not plain, by what is told of it, and else by parsing it.
+    #[inline(never)]
+    fn normalize_other(alloc: Global, input: &[u8]) -> Result<CowStr<'_, Global>, ParseError>
+        ensures ok { IfOk result (λ text. IsNormalizedLocale input.now (cow_str_bytes text)
+            × (IsLent text ↔ (input.now ≡ cow_str_bytes text))) }
+        ensures err { IfErr result (Refusal (HasFault languages input.now) ⊤) }
+        ensures memory { RunsOutOnlyIf (NormalizingWantsMemory input.now) result }
+    {
+        match normalize_told(alloc, Mode::Locale, input) {
+            Some(normal) => normal,
             None => Self::normalize_parsed(alloc, input),
         }
     }
@@ -51,6 +67,7 @@ impl Locale {
     }
 
     /// Returns the normalized text of a `str`, as `normalize_utf8` does for bytes.
+    #[inline(always)]
     pub fn normalize(alloc: Global, input: &str) -> Result<CowStr<'_, Global>, ParseError>
         ensures ok { IfOk result (λ text. IsNormalizedLocale input.now (cow_str_bytes text)
             × (IsLent text ↔ (input.now ≡ cow_str_bytes text))) }

@@ -2,7 +2,6 @@
 ghost use Rattle.std.specs.Prelude.{◌≡◌, ◌↔◌, ◌≤◌, IfSome, IsTrue, take};
 ghost use Rattle.iloc_plain.specs.Normal.{IsToldPlain};
 
-use crate::load::load;
 use crate::plain::Plain;
 use crate::read::read_lanes;
 use std::simd::prelude::*;
@@ -16,24 +15,21 @@ pub struct PlainText {
     pub is_normal: bool,
 }
 
-/// The plain identifier that a whole text is, and whether the text is its normal text already.
-/// `None` says nothing of it.
+/// The plain identifier that the first `len` bytes are, and whether they are its normal text already.
+/// `None` says nothing of them.
 #[inline(always)]
-pub fn tell_normal(text: &[u8]) -> Option<PlainText>
-    ensures { IfSome result (IsToldPlain text.now) }
+pub fn tell_normal(v: u8x16, len: usize) -> Option<PlainText>
+    requires { len ≤ 16 }
+    ensures { IfSome result (IsToldPlain (take len v)) }
 {
-    if text.len() > 16 {
-        return None;
-    }
-    let v = load(text);
-    let plain = read_lanes(v, text.len())?;
+    let plain = read_lanes(v, len)?;
     let is_normal = are_same(v, plain.bytes, plain.len);
     Some(PlainText { plain, is_normal })
 }
 
-// Whether the first bytes of both are the same.
+/// Whether the first bytes of both are the same.
 #[inline(always)]
-fn are_same(v: u8x16, w: u8x16, len: usize) -> bool
+pub fn are_same(v: u8x16, w: u8x16, len: usize) -> bool
     requires { len ≤ 16 }
     ensures { IsTrue result ↔ (take len v ≡ take len w) }
 {

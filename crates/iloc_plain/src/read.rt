@@ -20,9 +20,9 @@ pub fn read_plain(window: &[u8], len: usize) -> Option<Plain>
     read_lanes(u8x16::from_slice(window), len)
 }
 
-// The same of bytes that are loaded.
+/// The same of bytes that are loaded.
 #[inline(always)]
-pub(crate) fn read_lanes(v: u8x16, len: usize) -> Option<Plain>
+pub fn read_lanes(v: u8x16, len: usize) -> Option<Plain>
     requires { len ≤ 16 }
     ensures { IfSome result (IsPlain (take len v)) }
 {

@@ -25,7 +25,7 @@ impl Identifiers {
 }
 
 impl Answers for Identifiers {
-    ghost use Rattle.iloc_lines.specs.declared.Mode.TheVariants.{Langid};
+    ghost use Rattle.iloc_told.specs.declared.Mode.TheVariants.{Langid};
 
     ghost mode = { Langid };
 
@@ -61,7 +61,7 @@ impl Locales {
 }
 
 impl Answers for Locales {
-    ghost use Rattle.iloc_lines.specs.declared.Mode.TheVariants.{Locale};
+    ghost use Rattle.iloc_told.specs.declared.Mode.TheVariants.{Locale};
 
     ghost mode = { Locale };
 
@@ -91,7 +91,7 @@ impl Answers for Locales {
 pub(crate) struct DataLocales;
 
 impl Answers for DataLocales {
-    ghost use Rattle.iloc_lines.specs.declared.Mode.TheVariants.{Data};
+    ghost use Rattle.iloc_told.specs.declared.Mode.TheVariants.{Data};
 
     ghost mode = { Data };
 

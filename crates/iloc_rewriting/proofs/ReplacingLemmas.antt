@@ -1,5 +1,5 @@
 -- Blocks in another order, or one in place of another: what they give stays.
-use Rattle.std.proofs.Common.{◌≡◌, ◌≢◌, ℕ, Bool, true, false, cond, List, [], ◌∷◌, ◌++◌, map, filter, Some, refl, sym, ap, ◌∙◌, subst, append_assoc}
+use Rattle.std.proofs.Common.{◌≡◌, ◌≢◌, ℕ, Bool, true, false, cond, List, [], ◌∷◌, ◌++◌, map, Some, refl, sym, ap, ◌∙◌, subst, append_assoc}
 use Rattle.std.specs.List.{AllByRecursion, list_any}
 use Rattle.std.specs.FinMap.{find, nat_cmp-IsAntisymmetric}
 use Rattle.std.specs.Ordering.{nat_cmp, eq_by_cmp}
@@ -13,26 +13,11 @@ use Rattle.iloc_spec_grammar.specs.Tree.{by_singleton}
 use Rattle.iloc_spec_grammar.specs.ByBlocks.{UnicodeMeans, TransformMeans, PrivateMeans, OtherMeans, PartIs, BlocksGive, grammar_rules, other_blocks}
 use Rattle.iloc_spec_grammar.specs.Values.{Reordered}
 use Rattle.iloc_spec_grammar.proofs.MapLaws.{map_of_same}
-use Rattle.iloc_spec_grammar.proofs.Orders.{all_reordered, map_reordered, different_reordered, find_reordered, itself}
+use Rattle.iloc_spec_grammar.proofs.Orders.{all_reordered, map_reordered, different_reordered, find_reordered, reordered_before, moved, filter_reordered}
 use Rattle.iloc_spec_grammar.proofs.Singletons.{tied}
 use Rattle.iloc_rewriting.specs.Sorting.{KeepsBlock, KeepsBlocks}
 
 -- ---- in another order
-
-filter_reordered : {X : Type 0} (test : X → Bool) {xs ys : List X} → Reordered xs ys → Reordered (filter test xs) (filter test ys)
-filter_reordered test Reordered.none = Reordered.none
-filter_reordered test (Reordered.front_kept {x = x} {xs = xs} {ys = ys} r) = at (test x) (filter_reordered test r)
-  where
-    at : (b : Bool) → Reordered (filter test xs) (filter test ys) → Reordered (cond b (x ∷ filter test xs) (filter test xs)) (cond b (x ∷ filter test ys) (filter test ys))
-    at true s = Reordered.front_kept s
-    at false s = s
-filter_reordered test (Reordered.first_two {x = x} {y = y} {xs = xs}) = at (test x) (test y)
-  where
-    at : (b c : Bool) → Reordered (cond b (x ∷ cond c (y ∷ filter test xs) (filter test xs)) (cond c (y ∷ filter test xs) (filter test xs))) (cond c (y ∷ cond b (x ∷ filter test xs) (filter test xs)) (cond b (x ∷ filter test xs) (filter test xs)))
-    at true true = Reordered.first_two
-    at true false = itself (x ∷ filter test xs)
-    at false c = itself (cond c (y ∷ filter test xs) (filter test xs))
-filter_reordered test (Reordered.in_turn r s) = Reordered.in_turn (filter_reordered test r) (filter_reordered test s)
 
 -- the singletons of blocks
 abbrev singletons : List Block → List ℕ
@@ -162,17 +147,11 @@ module _ (cs : List Block) (c : ℕ) (new old : List (List ℕ)) where
 
 -- ---- one block more
 
--- a block among others, and the same at their end
-moved : {X : Type 0} (xs ys zs : List X) (x : X) → Reordered (xs ++ (x ∷ (ys ++ zs))) (xs ++ (ys ++ (x ∷ zs)))
-moved [] [] zs x = itself (x ∷ zs)
-moved [] (y ∷ ys) zs x = Reordered.in_turn Reordered.first_two (Reordered.front_kept (moved [] ys zs x))
-moved (z ∷ xs) ys zs x = Reordered.front_kept (moved xs ys zs x)
-
--- so one that stands for another may be put anywhere
+-- a block that stands for another may be put anywhere
 pub block_put : (xs ys written : List Block) (c : ℕ) (new old : List (List ℕ)) → to_ascii_lowercase c ≢ 120 → KeepsBlock (to_ascii_lowercase c) new old
     → ((bs : List Block) → KeepsBlocks ((xs ++ ys) ++ bs) (written ++ bs)) → (bs : List Block) → KeepsBlocks ((xs ++ ((c, new) ∷ ys)) ++ bs) ((written ++ (c, old) ∷ []) ++ bs)
 block_put xs ys written c new old no_x k f bs e m =
     let last : BlocksGive (grammar_rules languages) (xs ++ (ys ++ ((c, new) ∷ bs))) e =
-    reordered_give (xs ++ ((c, new) ∷ (ys ++ bs))) (xs ++ (ys ++ ((c, new) ∷ bs))) (moved xs ys bs (c, new)) e (subst (λ l. BlocksGive (grammar_rules languages) l e) (append_assoc xs ((c, new) ∷ ys) bs) m) in
+    reordered_give (xs ++ ((c, new) ∷ (ys ++ bs))) (xs ++ (ys ++ ((c, new) ∷ bs))) (reordered_before xs (moved (c, new) ys bs)) e (subst (λ l. BlocksGive (grammar_rules languages) l e) (append_assoc xs ((c, new) ∷ ys) bs) m) in
     let before : BlocksGive (grammar_rules languages) (written ++ ((c, new) ∷ bs)) e = f ((c, new) ∷ bs) e (subst (λ l. BlocksGive (grammar_rules languages) l e) (sym (append_assoc xs ys ((c, new) ∷ bs))) last) in
     subst (λ l. BlocksGive (grammar_rules languages) l e) (sym (append_assoc written ((c, old) ∷ []) bs)) (replaced_give bs c new old no_x k written e before)

@@ -10,7 +10,7 @@ use Rattle.iloc_spec_grammar.specs.TreeSteps.{TreeIdentifierStep, identifier_wit
 use Rattle.iloc_spec_grammar.specs.ByBlocks.{BlocksGive, grammar_rules, MeansByBlocks}
 use Rattle.iloc_spec_grammar.proofs.FaultLaws.{read_longer}
 use Rattle.iloc_spec_grammar.proofs.IdentifierLaws.{identifier_of-pieces}
-use Rattle.iloc_spec_grammar.proofs.Orders.{total_reordered}
+use Rattle.iloc_spec_grammar.proofs.Orders.{total_reordered, reordered_after}
 use Rattle.iloc_spec_grammar.proofs.PartTexts.{join-dashes, dashes-append}
 use Rattle.iloc_spec_grammar.proofs.PiecesLaws.{pieces-join, pieces_hyphen_free}
 use Rattle.iloc_spec_grammar.proofs.ReadBack.{all_append, word_hyphen_free}
@@ -34,7 +34,6 @@ use Rattle.iloc_rewriting.specs.Words.{AreWordsStored, IsSortedAs}
 use Rattle.iloc_rewriting.specs.declared.keywords.Stored.{Stored}
 use Rattle.iloc_rewriting.specs.declared.words.WordKind.TheVariants as kind
 use Rattle.iloc_rewriting.proofs.RewritingLemmas.{all_split}
-use Rattle.iloc_rewriting.proofs.WordLemmas.{reordered_after}
 use Rattle.iloc_fronts.specs.Walk.{left_of}
 
 -- ---- variants after an identifier without any

@@ -3,7 +3,7 @@ use Rattle.std.proofs.Common.{take, drop, ◌≡◌, ◌≢◌, ℕ, suc, ◌+�
 use Rattle.std.specs.List.{AllByRecursion, list_any}
 use Rattle.std.specs.FinMap.{find}
 use Rattle.std.specs.Ordering.{eq_by_cmp}
-use Rattle.std.proofs.lemmas.Bool.{and_from, or_left, or_right, true≢false, false_from_ne_true}
+use Rattle.std.proofs.lemmas.Bool.{or_left, or_right, true≢false, false_from_ne_true}
 use Rattle.std.proofs.lemmas.List.{length-take-le, map-append}
 use Rattle.std.proofs.lemmas.List.Folds.{list_any-append}
 use Rattle.iloc_spec_grammar.specs.Syntax.{pieces, join, dashes, IsWord, IsHyphenFree, AllDifferent, is_same, first_piece, lower, word_cmp}
@@ -13,7 +13,7 @@ use Rattle.iloc_spec_grammar.specs.Values.{StrictlyAscends, Reordered}
 use Rattle.iloc_spec_grammar.proofs.PartTexts.{join-dashes, dashes-append}
 use Rattle.iloc_spec_grammar.proofs.ReadBack.{all_append, word_hyphen_free}
 use Rattle.iloc_spec_grammar.proofs.ValuesLaws.{all_weaker}
-use Rattle.iloc_spec_grammar.proofs.Orders.{all_reordered, any_reordered, different_reordered, map_reordered, set_of_reordered, itself}
+use Rattle.iloc_spec_grammar.proofs.Orders.{itself, turned, reordered_before, reordered_after, first_last, all_reordered, any_reordered, different_reordered, map_reordered, set_of_reordered}
 use Rattle.iloc_spec_grammar.proofs.MapLaws.{map_of_same, same_itself, word_cmp_total, same_words}
 use Rattle.iloc_spec_grammar.proofs.SetLaws.{marked, keys, set_of-first}
 use Rattle.iloc_fronts.specs.Left.{pieces_of, piece_of, IsLeft}
@@ -52,27 +52,6 @@ words_ascend s (w ∷ ws) each h =
     (words_below w (kind_fits s w each.0) ws (all_weaker (IsWord (word_kind s)) IsUpToEight (kind_fits s) ws each.1) h.0, words_ascend s ws each.1 h.1)
 
 -- ---- the same words
-
-reordered_before : {X : Type 0} (xs : List X) {ys zs : List X} → Reordered ys zs → Reordered (xs ++ ys) (xs ++ zs)
-reordered_before [] r = r
-reordered_before (x ∷ xs) r = Reordered.front_kept (reordered_before xs r)
-
-pub reordered_after : {X : Type 0} {ys zs : List X} (xs : List X) → Reordered ys zs → Reordered (ys ++ xs) (zs ++ xs)
-reordered_after xs Reordered.none = itself xs
-reordered_after xs (Reordered.front_kept r) = Reordered.front_kept (reordered_after xs r)
-reordered_after xs Reordered.first_two = Reordered.first_two
-reordered_after xs (Reordered.in_turn r s) = Reordered.in_turn (reordered_after xs r) (reordered_after xs s)
-
-pub turned : {X : Type 0} {ys zs : List X} → Reordered ys zs → Reordered zs ys
-turned Reordered.none = Reordered.none
-turned (Reordered.front_kept r) = Reordered.front_kept (turned r)
-turned Reordered.first_two = Reordered.first_two
-turned (Reordered.in_turn r s) = Reordered.in_turn (turned s) (turned r)
-
--- the first comes last
-first_last : {X : Type 0} (xs : List X) (x : X) → Reordered (x ∷ xs) (xs ++ x ∷ [])
-first_last [] x = itself (x ∷ [])
-first_last (y ∷ xs) x = Reordered.in_turn Reordered.first_two (Reordered.front_kept (first_last xs x))
 
 keeps_itself : (s : WordKind) (ws : List (List ℕ)) → KeepsAll s ws ws
 keeps_itself kind.Attribute ws = tt
@@ -194,7 +173,7 @@ module _ (s : WordKind) (text room p : List ℕ) (start end len : ℕ) (ws : Lis
 
       order : Reordered (c.before ++ (p ∷ (c.first ∷ c.rest))) (ws ++ p ∷ [])
       order = subst (λ (l : List (List ℕ)). Reordered (c.before ++ (p ∷ (c.first ∷ c.rest))) l) (sym (append_assoc c.before (c.first ∷ c.rest) (p ∷ [])) ∙ ap (λ l. l ++ p ∷ []) (sym c.cut))
-          (reordered_before c.before (first_last (c.first ∷ c.rest) p))
+          (reordered_before c.before (first_last p (c.first ∷ c.rest)))
 
       long : length (dashes (c.first ∷ c.rest)) ≡ place.len + 1
       long = let l : length (dashes (c.first ∷ c.rest)) ≡ suc (length (join (c.first ∷ c.rest))) = ap suc (ap length (sym (join-dashes c.first c.rest))) in omega (arith, l, c.long)
@@ -333,7 +312,7 @@ module _ (s : WordKind) (text room p : List ℕ) (ps : List (List ℕ)) (start e
 
 -- a word that is there stands behind words that are different only if it is none of them
 none_behind : (p : List ℕ) (ws : List (List ℕ)) → AllDifferent word_cmp (map lower (ws ++ p ∷ [])) → list_any (is_same (lower p)) (map lower ws) ≡ false
-none_behind p ws d = false_from_ne_true _ (different_reordered word_cmp word_cmp_total (map_reordered lower (turned (first_last ws p))) d).0
+none_behind p ws d = false_from_ne_true _ (different_reordered word_cmp word_cmp_total (map_reordered lower (turned (first_last p ws))) d).0
 
 -- a variant that is among those so far repeats one
 pub variant_repeats : (s : WordKind) (text room p : List ℕ) (ps qs : List (List ℕ)) (start end last : ℕ) (at : Left) (h : AreWordsSoFar s text ps start end last room at) → IsWord (word_kind s) p → pieces_of at ≡ p ∷ qs

@@ -165,6 +165,36 @@ fn settle(
     }
 }
 
+// The same of one kind: each has a function of its own, which does not ask for the kind.
+#[inline(never)]
+fn settle_field<const OF_T: bool>(
+    number: usize,
+    room: &mut [u8],
+    start: usize,
+    middle: usize,
+    end: usize,
+) -> Option<usize>
+    requires start { start ≤ middle }
+    requires middle { middle ≤ end }
+    requires room { end + 16 ≤ length room.old }
+    ensures { IfSome result
+        (IsSettled (transform_or_unicode OF_T) number room.old start middle end room.new) }
+{
+    if start == middle {
+        return None;
+    }
+    let kind = transform_or_unicode(OF_T);
+    let place = place_of(
+        kind,
+        left_in(&room[start + 1..], middle - start - 1),
+        number,
+    )?;
+    if place.is_there {
+        return Some(middle);
+    }
+    bring_forward(room, middle - place.len - 1, middle, end)
+}
+
 // Stores a field behind what is stored: its key, and its value.
 #[inline(always)]
 fn put_field<'a>(kind: KeyKind, left: Left<'a>, room: &mut [u8], start: usize) -> Option<Stored<'a>>
@@ -252,36 +282,6 @@ fn put_values<'a>(left: Left<'a>, room: &mut [u8], start: usize) -> Option<Store
         }
         at = after_piece(at);
     }
-}
-
-// The same. Each kind has a function of its own, which does not ask for the kind.
-#[inline(never)]
-fn settle_field<const OF_T: bool>(
-    number: usize,
-    room: &mut [u8],
-    start: usize,
-    middle: usize,
-    end: usize,
-) -> Option<usize>
-    requires start { start ≤ middle }
-    requires middle { middle ≤ end }
-    requires room { end + 16 ≤ length room.old }
-    ensures { IfSome result
-        (IsSettled (transform_or_unicode OF_T) number room.old start middle end room.new) }
-{
-    if start == middle {
-        return None;
-    }
-    let kind = transform_or_unicode(OF_T);
-    let place = place_of(
-        kind,
-        left_in(&room[start + 1..], middle - start - 1),
-        number,
-    )?;
-    if place.is_there {
-        return Some(middle);
-    }
-    bring_forward(room, middle - place.len - 1, middle, end)
 }
 
 // Where a field with a key of this number belongs among these fields.

@@ -1,5 +1,5 @@
--- Lists in another order, and lists without some items: what stays.
-use Rattle.std.proofs.Common.{◌≡◌, ℕ, ◌+◌, ◌≤◌, Bool, true, false, cond, ◌||◌, List, [], ◌∷◌, ◌++◌, map, filter, refl, sym, ap, ◌∙◌, arith, Some, true≢false, le_refl}
+-- Lists in another order: how one is reached, and what stays. Lists without some items: what stays.
+use Rattle.std.proofs.Common.{◌≡◌, ℕ, suc, ◌+◌, ◌≤◌, Bool, true, false, cond, ◌||◌, List, [], ◌∷◌, ◌++◌, length, map, filter, refl, sym, ap, ◌∙◌, arith, Some, true≢false, le_refl}
 use Rattle.std.specs.List.{AllByRecursion, list_any, AllZip}
 use Rattle.std.specs.Ordering.{eq_by_cmp}
 use Rattle.std.specs.Cmp.{IsTotalOrder, eq_by_cmp_equiv}
@@ -28,6 +28,53 @@ map_reordered f (Reordered.in_turn r s) = Reordered.in_turn (map_reordered f r) 
 pub itself : {X : Type 0} (xs : List X) → Reordered xs xs
 itself [] = Reordered.none
 itself (x ∷ xs) = Reordered.front_kept (itself xs)
+
+pub turned : {X : Type 0} {xs ys : List X} → Reordered xs ys → Reordered ys xs
+turned Reordered.none = Reordered.none
+turned (Reordered.front_kept r) = Reordered.front_kept (turned r)
+turned Reordered.first_two = Reordered.first_two
+turned (Reordered.in_turn r s) = Reordered.in_turn (turned s) (turned r)
+
+-- the same list before both, and behind both
+pub reordered_before : {X : Type 0} (zs : List X) {xs ys : List X} → Reordered xs ys → Reordered (zs ++ xs) (zs ++ ys)
+reordered_before [] r = r
+reordered_before (z ∷ zs) r = Reordered.front_kept (reordered_before zs r)
+
+pub reordered_after : {X : Type 0} (zs : List X) {xs ys : List X} → Reordered xs ys → Reordered (xs ++ zs) (ys ++ zs)
+reordered_after zs Reordered.none = itself zs
+reordered_after zs (Reordered.front_kept r) = Reordered.front_kept (reordered_after zs r)
+reordered_after zs Reordered.first_two = Reordered.first_two
+reordered_after zs (Reordered.in_turn r s) = Reordered.in_turn (reordered_after zs r) (reordered_after zs s)
+
+-- the first item behind a list that follows it
+pub moved : {X : Type 0} (x : X) (xs ys : List X) → Reordered (x ∷ (xs ++ ys)) (xs ++ x ∷ ys)
+moved x [] ys = itself (x ∷ ys)
+moved x (z ∷ xs) ys = Reordered.in_turn Reordered.first_two (Reordered.front_kept (moved x xs ys))
+
+pub first_last : {X : Type 0} (x : X) (xs : List X) → Reordered (x ∷ xs) (xs ++ x ∷ [])
+first_last x [] = itself (x ∷ [])
+first_last x (y ∷ xs) = Reordered.in_turn Reordered.first_two (Reordered.front_kept (first_last x xs))
+
+pub length_reordered : {X : Type 0} {xs ys : List X} → Reordered xs ys → length xs ≡ length ys
+length_reordered Reordered.none = refl
+length_reordered (Reordered.front_kept r) = ap suc (length_reordered r)
+length_reordered Reordered.first_two = refl
+length_reordered (Reordered.in_turn r s) = length_reordered r ∙ length_reordered s
+
+pub filter_reordered : {X : Type 0} (test : X → Bool) {xs ys : List X} → Reordered xs ys → Reordered (filter test xs) (filter test ys)
+filter_reordered test Reordered.none = Reordered.none
+filter_reordered test (Reordered.front_kept {x = x} {xs = xs} {ys = ys} r) = at (test x) (filter_reordered test r)
+  where
+    at : (a : Bool) → Reordered (filter test xs) (filter test ys) → Reordered (cond a (x ∷ filter test xs) (filter test xs)) (cond a (x ∷ filter test ys) (filter test ys))
+    at true s = Reordered.front_kept s
+    at false s = s
+filter_reordered test (Reordered.first_two {x = x} {y = y} {xs = xs}) = at (test x) (test y)
+  where
+    at : (a b : Bool) → Reordered (cond a (x ∷ cond b (y ∷ filter test xs) (filter test xs)) (cond b (y ∷ filter test xs) (filter test xs))) (cond b (y ∷ cond a (x ∷ filter test xs) (filter test xs)) (cond a (x ∷ filter test xs) (filter test xs)))
+    at true true = Reordered.first_two
+    at true false = itself (x ∷ filter test xs)
+    at false b = itself (cond b (y ∷ filter test xs) (filter test xs))
+filter_reordered test (Reordered.in_turn r s) = Reordered.in_turn (filter_reordered test r) (filter_reordered test s)
 
 pub or_swap : (a b c : Bool) → (a || (b || c)) ≡ (b || (a || c))
 or_swap true true c = refl

@@ -53,7 +53,46 @@ module _ (P : List ℕ → Type 0) where
   fields_each k f g [] h = tt
   fields_each k f g (e ∷ fs) h = all_append P (e.0 ∷ e.1) (fields_pieces fs) (f e.0 h.0.0, all_weaker (IsWord Attribute) P g e.1 h.0.1) (fields_each k f g fs h.1)
 
--- words have no hyphen
+-- An extension of words alone. Only `other` can be another.
+abbrev pub OfWords : Extension → Type 0
+OfWords (other ps) = AllByRecursion (IsWord Subtag) ps
+OfWords _ = Unit {0}
+
+pub extension_singleton : (T : ℕ → Bool) (c : ℕ) (e : Extension) → IsExtension T c e → is_ascii_alphanumeric c ≡ true
+extension_singleton T c (other ps) h = (and_parts _ _ h.0).0
+extension_singleton T c _ h = rw h.0
+
+-- what holds of each word and of each singleton holds of each piece that is spelled
+module _ (P : List ℕ → Type 0) (word : (k : Kind) (p : List ℕ) → IsWord k p → P p) (singleton : (c : ℕ) → is_ascii_alphanumeric (to_ascii_lowercase c) ≡ true → P (c ∷ [])) where
+  words_each : (k : Kind) (ws : List (List ℕ)) → AllByRecursion (IsWord k) ws → AllByRecursion P ws
+  words_each k ws h = all_weaker (IsWord k) P (word k) ws h
+
+  pub identifier_each : {T : ℕ → Bool} (i : Identifier) → HasWords T i → AllByRecursion P (identifier_pieces i)
+  identifier_each {T = T} i h = (word (Language T) i.language h.language, after_language_each P (word Script) (word Region) (word Variant) i h)
+
+  any_fields_each : (k : Kind) (fs : Fields) → AllByRecursion (λ f. IsWord k f.0 × AllByRecursion (IsWord Attribute) f.1) fs → AllByRecursion P (fields_pieces fs)
+  any_fields_each k = fields_each P k (word k) (word Attribute)
+
+  extension_each : (T : ℕ → Bool) (c : ℕ) (e : Extension) → IsExtension T c e → OfWords e → AllByRecursion P (extension_pieces e)
+  extension_each T c (unicode u) h w = all_append P u.attributes _ (words_each Attribute u.attributes h.1.attributes) (any_fields_each UnicodeKey u.keywords h.1.keywords)
+  extension_each T c (transform m) h w = all_append P (optional_pieces m.id) _ (optional_each P T identifier_each m.id h.1.id) (any_fields_each TransformKey m.fields (plain_fields m.fields h.1.fields))
+  extension_each T c (other ps) h w = words_each Subtag ps w
+
+  extensions_each : (T : ℕ → Bool) (es : List (ℕ × Extension)) → AllByRecursion (λ e. IsExtension T (lower_singleton e) e.1 × OfWords e.1) es → AllByRecursion P (flat_map block_pieces (map extension_block es))
+  extensions_each T [] h = tt
+  extensions_each T (e ∷ es) h = (singleton e.0 (extension_singleton T _ e.1 h.0.0), all_append P (extension_pieces e.1) _ (extension_each T _ e.1 h.0.0 h.0.1) (extensions_each T es h.1))
+
+  private_each : (x : Option (ℕ × List (List ℕ))) → IfSome x (λ e. (lower_singleton e ≡ 120) × IsPrivate e.1) → AllByRecursion P (flat_map block_pieces (option_to_list x))
+  private_each None h = tt
+  private_each (Some e) h = (singleton e.0 (rw h.0), all_append P e.1 [] (words_each PrivateSubtag e.1 h.1.words) tt)
+
+  pub written_each : {T : ℕ → Bool} (w : Written) → IsWritten T w → AllByRecursion (λ e. OfWords e.1) w.extensions → AllByRecursion P (spelling w)
+  written_each {T = T} w h o =
+      all_append P (identifier_pieces w.id) _ (identifier_each w.id h.id.words)
+      (subst (AllByRecursion P) (sym (flat_map-append block_pieces (map extension_block w.extensions) (option_to_list w.private)))
+      (all_append P (flat_map block_pieces (map extension_block w.extensions)) _ (extensions_each T w.extensions (all_both _ _ w.extensions h.extensions o)) (private_each w.private h.private)))
+
+-- words and singletons have no hyphen
 
 either_no_hyphen : (c : ℕ) → is_ascii_alphanumeric c ≡ true → (c == 45) ≡ false
 either_no_hyphen c h = grind (arith, nat_tests)
@@ -61,47 +100,17 @@ either_no_hyphen c h = grind (arith, nat_tests)
 pub word_hyphen_free : (k : Kind) (p : List ℕ) → IsWord k p → IsHyphenFree p
 word_hyphen_free k p h = none_passes _ (λ b. b == 45) either_no_hyphen p (word_letters_or_digits k p h)
 
--- each piece of the parts is a word
-
-words_hyphen_free : (k : Kind) (ws : List (List ℕ)) → AllByRecursion (IsWord k) ws → AllByRecursion IsHyphenFree ws
-words_hyphen_free k ws h = all_weaker (IsWord k) IsHyphenFree (word_hyphen_free k) ws h
-
-pub identifier_hyphen_free : {T : ℕ → Bool} (i : Identifier) → HasWords T i → AllByRecursion IsHyphenFree (identifier_pieces i)
-identifier_hyphen_free {T = T} i h = (word_hyphen_free (Language T) i.language h.language, after_language_each IsHyphenFree (word_hyphen_free Script) (word_hyphen_free Region) (word_hyphen_free Variant) i h)
-
-fields_hyphen_free : (k : Kind) (fs : Fields) → AllByRecursion (λ f. IsWord k f.0 × AllByRecursion (IsWord Attribute) f.1) fs → AllByRecursion IsHyphenFree (fields_pieces fs)
-fields_hyphen_free k = fields_each IsHyphenFree k (word_hyphen_free k) (word_hyphen_free Attribute)
-
--- An extension of words alone. Only `other` can be another.
-abbrev pub OfWords : Extension → Type 0
-OfWords (other ps) = AllByRecursion (IsWord Subtag) ps
-OfWords _ = Unit {0}
-
-extension_hyphen_free : (T : ℕ → Bool) (c : ℕ) (e : Extension) → IsExtension T c e → OfWords e → AllByRecursion IsHyphenFree (extension_pieces e)
-extension_hyphen_free T c (unicode u) h w = all_append IsHyphenFree u.attributes _ (words_hyphen_free Attribute u.attributes h.1.attributes) (fields_hyphen_free UnicodeKey u.keywords h.1.keywords)
-extension_hyphen_free T c (transform m) h w = all_append IsHyphenFree (optional_pieces m.id) _ (optional_each IsHyphenFree T identifier_hyphen_free m.id h.1.id) (fields_hyphen_free TransformKey m.fields (plain_fields m.fields h.1.fields))
-extension_hyphen_free T c (other ps) h w = words_hyphen_free Subtag ps w
-
 hyphen_byte : (c : ℕ) → is_ascii_alphanumeric (to_ascii_lowercase c) ≡ true → (c == 45) ≡ false
 hyphen_byte c h = grind (arith, nat_tests)
 
-pub extension_singleton : (T : ℕ → Bool) (c : ℕ) (e : Extension) → IsExtension T c e → is_ascii_alphanumeric c ≡ true
-extension_singleton T c (other ps) h = (and_parts _ _ h.0).0
-extension_singleton T c _ h = rw h.0
+singleton_hyphen_free : (c : ℕ) → is_ascii_alphanumeric (to_ascii_lowercase c) ≡ true → IsHyphenFree (c ∷ [])
+singleton_hyphen_free c h = or_from _ _ (hyphen_byte c h) refl
 
-extensions_hyphen_free : (T : ℕ → Bool) (es : List (ℕ × Extension)) → AllByRecursion (λ e. IsExtension T (lower_singleton e) e.1 × OfWords e.1) es → AllByRecursion IsHyphenFree (flat_map block_pieces (map extension_block es))
-extensions_hyphen_free T [] h = tt
-extensions_hyphen_free T (e ∷ es) h = (or_from _ _ (hyphen_byte e.0 (extension_singleton T _ e.1 h.0.0)) refl, all_append IsHyphenFree (extension_pieces e.1) _ (extension_hyphen_free T _ e.1 h.0.0 h.0.1) (extensions_hyphen_free T es h.1))
-
-private_hyphen_free : (x : Option (ℕ × List (List ℕ))) → IfSome x (λ e. (lower_singleton e ≡ 120) × IsPrivate e.1) → AllByRecursion IsHyphenFree (flat_map block_pieces (option_to_list x))
-private_hyphen_free None h = tt
-private_hyphen_free (Some e) h = (or_from _ _ (hyphen_byte e.0 (rw h.0)) refl, all_append IsHyphenFree e.1 [] (words_hyphen_free PrivateSubtag e.1 h.1.words) tt)
+pub identifier_hyphen_free : {T : ℕ → Bool} (i : Identifier) → HasWords T i → AllByRecursion IsHyphenFree (identifier_pieces i)
+identifier_hyphen_free i h = identifier_each IsHyphenFree word_hyphen_free singleton_hyphen_free i h
 
 pub written_hyphen_free : {T : ℕ → Bool} (w : Written) → IsWritten T w → AllByRecursion (λ e. OfWords e.1) w.extensions → AllByRecursion IsHyphenFree (spelling w)
-written_hyphen_free {T = T} w h o =
-    all_append IsHyphenFree (identifier_pieces w.id) _ (identifier_hyphen_free w.id h.id.words)
-    (subst (AllByRecursion IsHyphenFree) (sym (flat_map-append block_pieces (map extension_block w.extensions) (option_to_list w.private)))
-    (all_append IsHyphenFree (flat_map block_pieces (map extension_block w.extensions)) _ (extensions_hyphen_free T w.extensions (all_both _ _ w.extensions h.extensions o)) (private_hyphen_free w.private h.private)))
+written_hyphen_free w h o = written_each IsHyphenFree word_hyphen_free singleton_hyphen_free w h o
 
 -- a text spelled without stray hyphens has the pieces that were spelled
 pub pieces_spelled : {T : ℕ → Bool} (w : Written) → IsWritten T w → AllByRecursion (λ e. OfWords e.1) w.extensions → pieces (join (spelling w)) ≡ spelling w
@@ -350,8 +359,15 @@ module _ {T : ℕ → Bool} (M : Locale) (h : IsValue T M) (g : IsTreeWellFormed
       keys_lower : (es : List (ℕ × Extension)) → by_singleton es ≡ es → map (λ e. e.0) es ≡ map (λ e. lower_singleton e) es
       keys_lower es e = ap (map (λ e. e.0)) (sym e) ∙ keys_twice es
 
+  of_words : AllByRecursion (λ e. OfWords e.1) (printed M).extensions
+  of_words = subst (AllByRecursion (λ e. OfWords e.1)) (sym extensions_are) (all_weaker (λ e. IsExtension T (lower_singleton e) e.1 × OfWords e.1) (λ e. OfWords e.1) (λ e x. x.1) extensions rules)
+
   spelled : pieces (tree_text M) ≡ spelling (printed M)
-  spelled = pieces_spelled (printed M) grammatical (subst (AllByRecursion (λ e. OfWords e.1)) (sym extensions_are) (all_weaker (λ e. IsExtension T (lower_singleton e) e.1 × OfWords e.1) (λ e. OfWords e.1) (λ e x. x.1) extensions rules))
+  spelled = pieces_spelled (printed M) grammatical of_words
+
+  -- what holds of each word and of each singleton holds of each piece of the text
+  pub printed_each : (P : List ℕ → Type 0) → ((k : Kind) (p : List ℕ) → IsWord k p → P p) → ((c : ℕ) → is_ascii_alphanumeric (to_ascii_lowercase c) ≡ true → P (c ∷ [])) → AllByRecursion P (spelling (printed M))
+  printed_each P word singleton = written_each P word singleton (printed M) grammatical of_words
 
   entries_are : by_singleton (printed M).extensions ≡ extensions
   entries_are = ap by_singleton extensions_are ∙ lower_singletons

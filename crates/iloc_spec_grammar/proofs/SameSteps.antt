@@ -1,5 +1,5 @@
 -- The steps of texts and of their blocks are those of the trees that they spell.
-use Rattle.std.proofs.Common.{◌≡◌, ◌≢◌, ◌⊎◌, inl, inr, ℕ, Bool, true, false, cond, not, ◌==◌, List, [], ◌∷◌, ◌++◌, map, filter, refl, sym, ap, ◌∙◌, subst, arith, Option, Some, None, option_to_list}
+use Rattle.std.proofs.Common.{◌≡◌, ◌≢◌, ◌⊎◌, inl, inr, ℕ, Bool, false, not, ◌==◌, List, [], ◌∷◌, ◌++◌, map, filter, refl, sym, ap, ◌∙◌, subst, arith, Option, Some, None, option_to_list}
 use Rattle.std.specs.List.{AllByRecursion, AllZip}
 use Rattle.std.proofs.lemmas.Bool.{cases_Bool, ne_eqb}
 use Rattle.iloc_spec_grammar.specs.Syntax.{pieces, join, head, tail_blocks, AreLengths, IsIdentifier, identifier_pieces, Identifier, Unicode, Transform, unicode_pieces, transform_pieces, IsUnicode, IsTransform, lower_singleton}
@@ -8,7 +8,7 @@ use Rattle.iloc_spec_grammar.specs.Meaning.{Locale, Means, AreBlocks, normal_ide
 use Rattle.iloc_spec_grammar.specs.Values.{Reordered, Rule, AttributesStep, FieldsStep, IdentifierStep, BlockStep, BlocksStep, TextStep, IdentifierTextStep, identifier_text}
 use Rattle.iloc_spec_grammar.specs.TreeSteps.{TreeRule, TreeIdentifierStep, ExtensionStep, Step, TreeTextStep, TreeIdentifierTextStep, written}
 use Rattle.iloc_spec_grammar.specs.Reading.{identifier_of, written_of, unicode_of, transform_of, extension_of, extensions_in, private_in}
-use Rattle.iloc_spec_grammar.proofs.Orders.{total_reordered, all_reordered, map_reordered, itself}
+use Rattle.iloc_spec_grammar.proofs.Orders.{total_reordered, all_reordered, map_reordered, reordered_after, filter_reordered}
 use Rattle.iloc_spec_grammar.proofs.RuleTests.{extension_read}
 use Rattle.iloc_spec_grammar.proofs.FaultLaws.{EndsAtX, tail_ends, AreGood, good_written, written_good, pieces-written_of}
 use Rattle.iloc_spec_grammar.proofs.Readings.{unicode_read, transform_read, head-spelling, blocks-spelling}
@@ -22,18 +22,6 @@ use Rattle.iloc_spec_grammar.proofs.PiecesLaws.{join-pieces}
 use Rattle.iloc_spec_grammar.proofs.IdentifierLaws.{identifier_of-pieces, one_identifier}
 
 -- blocks in another order
-
-filter_reordered : {X : Type 0} (test : X → Bool) {xs ys : List X} → Reordered xs ys → Reordered (filter test xs) (filter test ys)
-filter_reordered test Reordered.none = Reordered.none
-filter_reordered test (Reordered.front_kept {x = x} {xs = xs} {ys = ys} r) = elim (test x) as (λ b. Reordered (cond b (x ∷ filter test xs) (filter test xs)) (cond b (x ∷ filter test ys) (filter test ys))) [ true ↦ Reordered.front_kept (filter_reordered test r) | false ↦ filter_reordered test r ]
-filter_reordered test (Reordered.first_two {x = x} {y = y} {xs = xs}) = swapped (test x) (test y)
-  where
-    swapped : (a b : Bool) → Reordered (cond a (x ∷ cond b (y ∷ filter test xs) (filter test xs)) (cond b (y ∷ filter test xs) (filter test xs))) (cond b (y ∷ cond a (x ∷ filter test xs) (filter test xs)) (cond a (x ∷ filter test xs) (filter test xs)))
-    swapped true true = Reordered.first_two
-    swapped true false = itself _
-    swapped false true = itself _
-    swapped false false = itself _
-filter_reordered test (Reordered.in_turn r s) = Reordered.in_turn (filter_reordered test r) (filter_reordered test s)
 
 one_reordered : {X : Type 0} (a b : Option X) → Reordered (option_to_list a) (option_to_list b) → a ≡ b
 one_reordered None None r = refl
@@ -160,12 +148,6 @@ tree_step {T = T} t u (TextStep.rewritten r {i = i} {j = j} m h p q s z) =
 
 -- a step of what a text spells is one of its blocks
 
-reordered_before : {X : Type 0} {xs ys : List X} (zs : List X) → Reordered xs ys → Reordered (xs ++ zs) (ys ++ zs)
-reordered_before zs Reordered.none = itself zs
-reordered_before zs (Reordered.front_kept r) = Reordered.front_kept (reordered_before zs r)
-reordered_before zs Reordered.first_two = Reordered.first_two
-reordered_before zs (Reordered.in_turn r s) = Reordered.in_turn (reordered_before zs r) (reordered_before zs s)
-
 blocks_by_tree : (T : ℕ → Bool) (r : TreeRule) (es fs : List (ℕ × Extension)) (x : List (ℕ × List (List ℕ))) → AllZip (λ e f. (e.0 ≡ f.0) × ExtensionStep r e.1 f.1) es fs → AllByRecursion (λ e. IsExtension T (lower_singleton e) e.1) es → AllZip (BlockStep T (rule_of r)) (map extension_block es ++ x) (map extension_block fs ++ x)
 blocks_by_tree T r [] [] x z h = same_blocks x
   where
@@ -187,7 +169,7 @@ record StepOfBlocks (T : ℕ → Bool) (v w : Written) : Type 0 where
   blocks : BlocksStep T rule (blocks_of v) (blocks_of w)
 
 blocks_step : (T : ℕ → Bool) {v w : Written} → IsWritten T v → Step v w → StepOfBlocks T v w
-blocks_step T h (Step.block_order {i = i} {x = x} r) = record { rule = Rule.BlockOrder; id = same_rule Rule.BlockOrder i; blocks = reordered_before (option_to_list x) (map_reordered extension_block r) }
+blocks_step T h (Step.block_order {i = i} {x = x} r) = record { rule = Rule.BlockOrder; id = same_rule Rule.BlockOrder i; blocks = reordered_after (option_to_list x) (map_reordered extension_block r) }
 blocks_step T h (Step.inside r {es = es} {fs = fs} {x = x} s z) = record { rule = rule_of r; id = identifier_rule_by_tree s; blocks = inside_blocks T r _ _ (blocks_by_tree T r es fs (option_to_list x) z h.extensions) }
 
 -- if the blocks of both are those that they are made of

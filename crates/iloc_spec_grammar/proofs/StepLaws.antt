@@ -1,5 +1,5 @@
 -- A step keeps the rules, the meaning and the sums over the pieces.
-use Rattle.std.proofs.Common.{◌≡◌, ℕ, suc, ◌+◌, ◌<◌, Bool, true, false, cond, not, List, [], ◌∷◌, length, map, filter_map, refl, sym, ap, ◌∙◌, subst, arith, Option, Some, None, option_map, true≢false}
+use Rattle.std.proofs.Common.{◌≡◌, ℕ, ◌+◌, ◌<◌, Bool, true, false, cond, not, List, [], ◌∷◌, length, map, filter_map, refl, sym, ap, ◌∙◌, subst, arith, Option, Some, None, option_map, true≢false}
 use Rattle.std.specs.List.{AllByRecursion, list_any, AllZip, cons_option}
 use Rattle.std.specs.Char.{to_ascii_lowercase}
 use Rattle.std.specs.Int.{is_in_range}
@@ -13,7 +13,7 @@ use Rattle.iloc_spec_grammar.specs.Meaning.{map_of, set_of, normal_identifier, n
 use Rattle.iloc_spec_grammar.specs.Values.{Reordered}
 use Rattle.iloc_spec_grammar.specs.TreeSteps.{TreeWithout, WithoutRepeats, TreeLessTrue, keys_differ, TreeRule, TreeIdentifierStep, ExtensionStep, Step, unicode_extension, transform_extension}
 use Rattle.iloc_spec_grammar.proofs.MapLaws.{map_of_same, word_cmp_total, same_words}
-use Rattle.iloc_spec_grammar.proofs.Orders.{all_reordered, map_reordered, different_reordered, find_reordered, set_of_reordered, map_repeats, all_repeats, all_without, filter_without, itself}
+use Rattle.iloc_spec_grammar.proofs.Orders.{all_reordered, map_reordered, different_reordered, find_reordered, set_of_reordered, map_repeats, all_repeats, all_without, filter_without, itself, length_reordered}
 use Rattle.iloc_spec_grammar.proofs.General.{map-zip, all_zip, zip_weaker}
 use Rattle.std.proofs.lemmas.Simd.{map-map}
 use Rattle.std.proofs.lemmas.Slice.Zip.{AllZip-long}
@@ -52,14 +52,6 @@ LessKept f g = TreeLessTrue f g × (0 < length g.1)
 
 fields_less : (fs gs : Fields) → AllZip LessKept fs gs → AllByRecursion IsField fs → AllByRecursion IsField gs
 fields_less = all_zip LessKept IsField IsField (λ f g z h. (subst (IsWord TransformKey) z.0.0 h.0, all_without (IsWord Attribute) _ z.0.1 h.1, z.1))
-
--- lengths
-
-length_reordered : {X : Type 0} {xs ys : List X} → Reordered xs ys → length ys ≡ length xs
-length_reordered Reordered.none = refl
-length_reordered (Reordered.front_kept r) = ap suc (length_reordered r)
-length_reordered Reordered.first_two = refl
-length_reordered (Reordered.in_turn r s) = length_reordered s ∙ length_reordered r
 
 -- leaving out repeats leaves something, where nothing was seen
 some_left : {X : Type 0} (key : X → List ℕ) {xs ys : List X} → WithoutRepeats key [] xs ys → 0 < length xs → 0 < length ys

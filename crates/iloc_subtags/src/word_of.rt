@@ -164,12 +164,21 @@ impl<K: WordKind<N>, const N: usize> WordOf<K, N> {
     }
 }
 
+/// The subtag of a piece that is known to be normal.
+#[inline(always)]
+pub fn subtag_of_normal<K: WordKind<N>, const N: usize>(piece: ShortPiece) -> WordOf<K, N>
+    requires { IsNormal K.kind piece }
+    ensures { result ≡ piece }
+{
+    WordOf::from_known(TinyAsciiStr::from_piece(piece))
+}
+
 /// The subtag as one of any sort, for kinds whose subtags all are.
 pub fn subtag_of<K: WordKind<N>, const N: usize>(word: &WordOf<K, N>) -> Subtag
     requires { (w : Text) → IsNormal K.kind w → IsNormal the_kind w }
     ensures { result ≡ word.now }
 {
-    Subtag::from_known(TinyAsciiStr::from_piece(word.to_piece()))
+    subtag_of_normal(word.to_piece())
 }
 
 /// A subtag is in the normal case of its kind: for a proof that has only the subtag. It does nothing.

@@ -1,5 +1,5 @@
 -- Attributes that are taken one at a time.
-use Rattle.std.proofs.Common.{◌≡◌, ℕ, ◌<◌, ◌≤◌, cond, List, [], ◌∷◌, ◌++◌, length, map, refl, sym, ap, ◌∙◌, subst, arith, append-nil, Some, None, option_map}
+use Rattle.std.proofs.Common.{◌≡◌, ℕ, ◌<◌, ◌≤◌, false, cond, List, [], ◌∷◌, ◌++◌, length, map, refl, sym, ap, ◌∙◌, subst, arith, append-nil, Some, None, option_map}
 use Rattle.std.specs.List.{AllByRecursion}
 use Rattle.std.proofs.lemmas.List.Sorted.{IsPermutation-sym, IsPermutation-middle}
 use Rattle.iloc_spec_grammar.specs.Syntax.{Attribute, is_word, lower, word_cmp}
@@ -12,6 +12,9 @@ use Rattle.iloc_spec_grammar.proofs.ValuesLaws.{set_of_ascending}
 use Rattle.iloc_spec_grammar.proofs.WellRead.{set_of-ascending, all-set_of}
 use Rattle.iloc_word_set.proofs.CollectorLaws.{permuted_set, set_grows}
 use Rattle.iloc_spec_parts.specs.Fronts.{attributes_read, after_attributes}
+use Rattle.iloc_spec_parts.proofs.FieldLaws.{passing_stops, past_stops}
+use Rattle.iloc_subtags.specs.NextPiece.{next_has_length}
+use Rattle.iloc_subtags.proofs.PeekLemmas.{ends_before}
 use Rattle.iloc_subtags.proofs.TakingLemmas.{took, took_none}
 
 -- of the words before, those up to now are taken, as these words
@@ -122,3 +125,9 @@ module _ (before now set : List (List ℕ)) (t : GatheredFew before now set) (w 
 
 pub few_done : (before now set : List (List ℕ)) → GatheredFew before now set → None ≡ option_map lower (take_first (is_word Attribute) now) → (set ≡ attributes_read before) × (skip_first (is_word Attribute) now ≡ after_attributes before)
 few_done before now set t e = gathered_all before now set set t.gathered e (sym (set_of_ascending set t.ascending))
+
+-- a next piece that is too short or too long for an attribute: none stands at the front
+pub no_attributes : (ps : List (List ℕ)) → next_has_length Attribute ps ≡ false → (attributes_read ps ≡ []) × (after_attributes ps ≡ ps)
+no_attributes ps other =
+    let ends = ends_before Attribute ps other in
+    (ap (λ ws. set_of (map lower ws)) (passing_stops (is_word Attribute) [] ps tt ends), past_stops (is_word Attribute) [] ps tt ends)

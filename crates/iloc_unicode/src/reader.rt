@@ -1,5 +1,5 @@
 //! Parses attributes, keywords and the whole extension from pieces.
-ghost use Rattle.std.specs.Prelude.{◌≡◌, ◌≤◌, ◌++◌, [], length, Ok, IfOk, OnOk, IsOk};
+ghost use Rattle.std.specs.Prelude.{◌≡◌, ◌≤◌, ◌++◌, [], length, Ok, IfOk, OnOk, OnErr, IsOk};
 ghost use Rattle.std.specs.Result.{result_and};
 ghost use Rattle.iloc_spec_grammar.specs.Syntax.{code_u, Attribute, is_word};
 ghost use Rattle.iloc_spec_grammar.specs.Reading.{rest_of};
@@ -38,6 +38,35 @@ impl Attributes {
         }
         Ok(Attributes::from_set(attributes))
     }
+}
+
+// The same into the empty set. After a refusal it is still empty.
+#[inline(always)]
+fn fill_attributes(
+    alloc: Global,
+    iter: &mut SubtagIterator<'_>,
+    attributes: &mut Attributes,
+) -> Result<(), AllocError>
+    requires { attributes.old ≡ [] }
+    ensures value { OnOk result (attributes.new ≡ attributes_read (left iter.old)) }
+    ensures rest { OnOk result (left iter.new ≡ after_attributes (left iter.old)) }
+    ensures succeeds { length (attributes_read (left iter.old)) ≤ 4 → IsOk result }
+    ensures err { OnErr result (attributes.new ≡ []) }
+{
+    if next_has_length::<AttributeKind, 8>(iter) {
+        *attributes = read_attributes(alloc, iter)?;
+    }
+    Ok(())
+}
+
+// The same by value. It stands apart, so that an extension of keywords alone pays nothing for it.
+#[inline(never)]
+fn read_attributes(alloc: Global, iter: &mut SubtagIterator<'_>) -> Result<Attributes, AllocError>
+    ensures value { IfOk result (λ a. a ≡ attributes_read (left iter.old)) }
+    ensures rest { OnOk result (left iter.new ≡ after_attributes (left iter.old)) }
+    ensures succeeds { length (attributes_read (left iter.old)) ≤ 4 → IsOk result }
+{
+    Attributes::try_from_iter(alloc, iter)
 }
 
 // The same if these four attributes stood before.
@@ -117,7 +146,7 @@ pub fn fill_unicode(
     requires attributes { unicode.old.attributes ≡ [] }
     ensures { UnicodeFills (left iter.old) (left iter.new) (result_and result (Ok unicode.new)) }
 {
-    unicode.attributes = Attributes::try_from_iter(alloc, iter)?;
+    fill_attributes(alloc, iter, &mut unicode.attributes)?;
     fill_keywords(alloc, iter, &mut unicode.keywords)?;
     if unicode.is_empty() {
         return Err(ParseError::InvalidExtension);

@@ -30,6 +30,22 @@ const NORMAL_IDENTIFIERS: [&str; 4] = ["en", "en-US", "sr-Latn-RS", "ca-ES-valen
 
 const NORMAL_LOCALES: [&str; 4] = ["en-GB", "en-US", "ar-u-nu-latn", "zh-Hant-TW"];
 
+const NORMAL_BLOCKS: [&str; 4] = [
+    "ar-SA-u-ca-islamic-civil",
+    "en-GB-u-hc-h12",
+    "de-t-en-m0-din",
+    "en-a-foo-x-bar",
+];
+
+const OTHER_BLOCKS: [&str; 4] = [
+    "EN-us-u-CA-buddhist",
+    "en-u-nu-latn-ca-foo",
+    "en-posix-1996",
+    "en-u-kn-true",
+];
+
+const REFUSED: [&str; 4] = ["C", "en_US", "en_US.UTF-8", "en-FOO"];
+
 // The lengths of what is read, summed.
 fn read_languages(rounds: u32) -> usize {
     let mut sum = 0usize;
@@ -143,7 +159,7 @@ fn print_data_locales(alloc: Global, rounds: u32) -> usize {
     sum
 }
 
-// The lengths of the normal texts of texts that are normal, summed. None is copied.
+// The lengths of the normal texts, summed. Of texts that are normal none is copied.
 fn normalize_identifiers(alloc: Global, rounds: u32) -> usize {
     let mut sum = 0usize;
     for i in 0..rounds {
@@ -155,14 +171,45 @@ fn normalize_identifiers(alloc: Global, rounds: u32) -> usize {
     sum
 }
 
-fn normalize_locales(alloc: Global, rounds: u32) -> usize {
+fn normalize_locales(alloc: Global, rounds: u32, texts: &[&str; 4]) -> usize {
     let mut sum = 0usize;
     for i in 0..rounds {
-        if let Ok(normal) = Locale::normalize(alloc, NORMAL_LOCALES[(i % 4) as usize]) {
+        if let Ok(normal) = Locale::normalize(alloc, texts[(i % 4) as usize]) {
             sum = sum.wrapping_add(normal.len());
         }
     }
     sum
+}
+
+// How many texts are refused by value.
+fn refuse_identifiers(alloc: Global, rounds: u32) -> usize {
+    let mut refused = 0usize;
+    for i in 0..rounds {
+        if LanguageIdentifier::try_from_str(alloc, REFUSED[(i % 4) as usize]).is_err() {
+            refused = refused.wrapping_add(1);
+        }
+    }
+    refused
+}
+
+fn refuse_locales(alloc: Global, rounds: u32) -> usize {
+    let mut refused = 0usize;
+    for i in 0..rounds {
+        if Locale::try_from_str(alloc, REFUSED[(i % 4) as usize]).is_err() {
+            refused = refused.wrapping_add(1);
+        }
+    }
+    refused
+}
+
+fn refuse_data_locales(rounds: u32) -> usize {
+    let mut refused = 0usize;
+    for i in 0..rounds {
+        if DataLocale::try_from_str(REFUSED[(i % 4) as usize]).is_err() {
+            refused = refused.wrapping_add(1);
+        }
+    }
+    refused
 }
 
 // The checksum of so many calls.
@@ -177,7 +224,12 @@ fn checksum(alloc: Global, call: &str, rounds: u32) -> Option<usize> {
         "print_locale" => Some(print_locales(alloc, rounds)),
         "print_data" => Some(print_data_locales(alloc, rounds)),
         "normalize_langid" => Some(normalize_identifiers(alloc, rounds)),
-        "normalize_locale" => Some(normalize_locales(alloc, rounds)),
+        "normalize_locale" => Some(normalize_locales(alloc, rounds, &NORMAL_LOCALES)),
+        "normalize_blocks" => Some(normalize_locales(alloc, rounds, &NORMAL_BLOCKS)),
+        "normalize_others" => Some(normalize_locales(alloc, rounds, &OTHER_BLOCKS)),
+        "refuse_langid" => Some(refuse_identifiers(alloc, rounds)),
+        "refuse_locale" => Some(refuse_locales(alloc, rounds)),
+        "refuse_data" => Some(refuse_data_locales(rounds)),
         _ => None,
     }
 }

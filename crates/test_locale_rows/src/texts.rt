@@ -4,6 +4,7 @@ use iloc_keyword_types::SubdivisionId;
 use iloc_langid::{LanguageIdentifier, SmallLocaleParts, read_small_locale};
 use iloc_locale::Locale;
 use iloc_subtags::{Language, ParseError, Region, Script, Variant};
+use iloc_told::{Mode, normalize_short, normalize_told};
 use std::alloc::Global;
 use std::borrow::CowStr;
 use std::str;
@@ -15,6 +16,15 @@ fn normal(out: &mut String, text: Result<CowStr<'_, Global>, ParseError>) {
     match text {
         Ok(text) => lent(out, text),
         Err(error) => refuse(out, error),
+    }
+}
+
+// Says the same of a text that is told at once. No contract says that it is: a shape that silently went the old way would
+// show nowhere else.
+fn at_once(out: &mut String, told: Option<Result<CowStr<'_, Global>, ParseError>>) {
+    match told {
+        Some(text) => normal(out, text),
+        None => say(out, "not told"),
     }
 }
 
@@ -84,6 +94,9 @@ pub fn answer(what: &str, call: &Call<'_>, out: &mut String) {
     match what {
         "normal" => normal(out, Locale::normalize_utf8(alloc, text)),
         "normalid" => normal(out, LanguageIdentifier::normalize_utf8(alloc, text)),
+        "toldshort" => at_once(out, normalize_short(alloc, text)),
+        "toldid" => at_once(out, normalize_told(alloc, Mode::Langid, text)),
+        "told" => at_once(out, normalize_told(alloc, Mode::Locale, text)),
         "small" => small(
             out,
             Locale::try_from_utf8_with_single_variant_single_keyword_unicode_extension(text),

@@ -1,7 +1,7 @@
 -- The number is that of the mode, and of no other.
 use Rattle.std.proofs.Common.{sym, ap, subst, ◌∙◌}
 use Rattle.std.specs.Option.{unwrap_or}
-use Rattle.iloc_lines.specs.declared.Mode.{Mode}
+use Rattle.iloc_told.specs.declared.Mode.{Mode}
 use Rattle.iloc_calls.specs.Answers.{NormalizesTo}
 use Rattle.iloc_calls.specs.Numbers.{EndsAs}
 use Rattle.iloc_calls.proofs.AnswerLemmas.{no_mode}

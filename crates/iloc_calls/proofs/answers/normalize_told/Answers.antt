@@ -1,15 +1,12 @@
 -- What is handed out of a text in order is its normal text.
-use Rattle.std.proofs.Common.{subst}
 use Rattle.iloc_blocks.specs.Ordered.{ordered_text}
 use Rattle.iloc_calls.proofs.HandedLemmas.{handed_out}
-use Rattle.iloc_lines.specs.Answers.{IsNormalText}
-use Rattle.iloc_spec_grammar.specs.Syntax.{languages}
 use Rattle.iloc_calls.proofs.answers.normalize_told.Goals as goal
 
 pub returns-in-Ordered : goal.returns-in-Ordered
 returns-in-Ordered c = (
   c.hand_out_ordered.result,
-  c.number-in-Ordered.ensures,
+  c.number.ensures,
   handed_out c.args.mode c.args.text.now (ordered_text c.in-Ordered.line) c.args.buffer.now c.hand_out_ordered.new.buffer c.hand_out_ordered.new.needed c.hand_out_ordered.result
-      (subst (λ t. IsNormalText languages c.args.mode t (ordered_text c.in-Ordered.line)) c.put_in_front.ensures c.in-Ordered.ensures.normal) c.hand_out_ordered.ensures,
+      c.in-Ordered.ensures.normal c.hand_out_ordered.ensures,
 )

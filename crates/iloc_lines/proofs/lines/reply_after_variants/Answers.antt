@@ -1,6 +1,6 @@
 use Rattle.std.proofs.Common.{subst, sym, take}
-use Rattle.iloc_lines.specs.Told.{IsTold}
-use Rattle.iloc_lines.specs.declared.Mode.{Mode}
+use Rattle.iloc_told.specs.Told.{IsTold}
+use Rattle.iloc_told.specs.declared.Mode.{Mode}
 use Rattle.iloc_lines.proofs.lines.reply_after_variants.Goals as goal
 
 pub reply_told-requires-clause-told : goal.reply_told-requires-clause-told

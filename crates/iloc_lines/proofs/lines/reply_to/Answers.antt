@@ -1,8 +1,8 @@
 use Rattle.std.proofs.Common.{ℕ, List, ◌≡◌, ◌≢◌, ◌++◌, OnOk, subst, sym, ◌∙◌, take}
 use Rattle.iloc_lines.specs.ReplyBlock.{held}
-use Rattle.iloc_lines.specs.Told.{HasRefusal}
-use Rattle.iloc_lines.specs.declared.Mode.{Mode}
-use Rattle.iloc_lines.specs.declared.Mode.TheVariants.{Data}
+use Rattle.iloc_told.specs.Told.{HasRefusal}
+use Rattle.iloc_told.specs.declared.Mode.{Mode}
+use Rattle.iloc_told.specs.declared.Mode.TheVariants.{Data}
 use Rattle.iloc_lines.proofs.PlainLemmas.{refused_reply}
 use Rattle.iloc_lines.proofs.lines.reply_to.Goals as goal
 

@@ -1,10 +1,11 @@
 use Rattle.std.proofs.Common.{ℕ, List, ◌≡◌, ◌++◌, OnOk, subst, sym, take}
 use Rattle.iloc_blocks.specs.Ordered.{ordered_text}
 use Rattle.iloc_lines.specs.ReplyBlock.{held}
-use Rattle.iloc_lines.specs.Told.{IsInOrder, HasRefusal, refusal_of}
-use Rattle.iloc_lines.specs.declared.Mode.{Mode}
-use Rattle.iloc_lines.proofs.PlainAnswers.{ordered_in_order}
-use Rattle.iloc_lines.proofs.PlainLemmas.{normal_reply, refused_reply, bad_refused}
+use Rattle.iloc_told.specs.Told.{IsInOrder, HasRefusal, refusal_of}
+use Rattle.iloc_told.specs.declared.Mode.{Mode}
+use Rattle.iloc_told.proofs.PlainAnswers.{ordered_in_order}
+use Rattle.iloc_lines.proofs.PlainLemmas.{normal_reply, refused_reply}
+use Rattle.iloc_told.proofs.RefusalLemmas.{bad_refused}
 use Rattle.iloc_lines.proofs.lines.reply_to_unordered.Goals as goal
 
 pub returns-in-Ordered : goal.returns-in-Ordered

@@ -1,7 +1,7 @@
 use Rattle.std.proofs.Common.{ℕ, List, ◌≡◌, ◌++◌, OnOk, subst, take}
 use Rattle.iloc_blocks.specs.Ordered.{ordered_text}
 use Rattle.iloc_lines.specs.ReplyBlock.{held}
-use Rattle.iloc_lines.proofs.PlainAnswers.{varied_in_order}
+use Rattle.iloc_told.proofs.PlainAnswers.{varied_in_order}
 use Rattle.iloc_lines.proofs.PlainLemmas.{normal_reply}
 use Rattle.iloc_lines.proofs.lines.reply_to_varied.Goals as goal
 

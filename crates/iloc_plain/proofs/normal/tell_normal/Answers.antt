@@ -1,14 +1,13 @@
-use Rattle.std.proofs.Common.{◌≡◌, ℕ, List, take, sym, ap, subst, ◌∙◌}
-use Rattle.iloc_plain.specs.Plain.{IsPlain}
+use Rattle.std.proofs.Common.{◌≡◌, ℕ, take, sym, ap, ◌∙◌, arith, length-take-le}
 use Rattle.iloc_plain.proofs.normal.tell_normal.Goals as goal
 
 pub returns : goal.returns
 returns c =
-    let t = c.args.text.now in
+    let v = c.args.v in
     let p = c.in_ok-plain.plain in
-    let v = c.load-v.result in
-    let is : IsPlain t p = subst (λ (u : List ℕ). IsPlain u p) c.load-v.ensures c.in_ok-plain.ensures in
-    let whole : take p.len v ≡ t = ap (λ n. take n v) is.long ∙ c.load-v.ensures in
+    let is = c.in_ok-plain.ensures in
+    let as_long : p.len ≡ c.args.len = is.long ∙ length-take-le c.args.len v (omega (arith, c.requires, c.fits-v.0)) in
+    let whole : take p.len v ≡ take c.args.len v = ap (λ (n : ℕ). take n v) as_long in
     let same = c.are_same-is_normal.ensures in
     record {
       plain = is;

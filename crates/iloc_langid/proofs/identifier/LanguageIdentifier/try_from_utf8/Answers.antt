@@ -1,24 +1,39 @@
-use Rattle.std.proofs.Common.{ℕ, List, subst}
+-- each way out reads the text as the grammar says; the other clauses follow from that
+use Rattle.std.proofs.Common.{Ok, rules}
+use Rattle.std.proofs.lemmas.Result.{err_from_is_err_and}
 use Rattle.iloc_spec_grammar.specs.Syntax.{pieces}
-use Rattle.iloc_subtags.specs.Judging.{RunsOutOnlyIf}
-use Rattle.iloc_langid.specs.Reads.{IdentifierReads, IdentifierWantsMemory}
+use Rattle.iloc_langid.proofs.PlainLemmas.{no_language_read}
 use Rattle.iloc_langid.proofs.ReadLemmas.{reads_accepts, reads_refuses, reads_steps, reads_narrow}
 use Rattle.iloc_langid.proofs.identifier.LanguageIdentifier.try_from_utf8.Goals as goal
 
+pub returns-in_err-fill_short-clause-reads : goal.returns-in_err-fill_short-clause-reads
+returns-in_err-fill_short-clause-reads c =
+    let p = err_from_is_err_and c.from_residual.result c.from_residual.ensures.1 in
+    rw (p.1, p.2) (no_language_read c.args.code_units.now _ c.in_err-fill_short.ensures.refused)
+
+pub returns-in_err-fill_short-clause-accepted : goal.returns-in_err-fill_short-clause-accepted
+returns-in_err-fill_short-clause-accepted c = reads_accepts (pieces c.args.code_units.now) c.from_residual.result (returns-in_err-fill_short-clause-reads c)
+
+pub returns-in_err-fill_short-clause-refused : goal.returns-in_err-fill_short-clause-refused
+returns-in_err-fill_short-clause-refused c = reads_refuses (pieces c.args.code_units.now) c.from_residual.result (returns-in_err-fill_short-clause-reads c)
+
+pub returns-in_err-fill_short-clause-narrow : goal.returns-in_err-fill_short-clause-narrow
+returns-in_err-fill_short-clause-narrow c = reads_narrow c.args.code_units.now c.from_residual.result (returns-in_err-fill_short-clause-reads c)
+
+pub returns-in_err-fill_text-clause-reads : goal.returns-in_err-fill_text-clause-reads
+returns-in_err-fill_text-clause-reads c = search rules
+
+pub returns-in_err-fill_text-clause-narrow : goal.returns-in_err-fill_text-clause-narrow
+returns-in_err-fill_text-clause-narrow c = reads_narrow c.args.code_units.now c.from_residual-in_err-fill_text.result (returns-in_err-fill_text-clause-reads c)
+
 pub returns-clause-reads : goal.returns-clause-reads
-returns-clause-reads c = subst (λ (ps : List (List ℕ)). IdentifierReads ps c.read_whole.result) c.new.ensures c.read_whole.ensures.reads
+returns-clause-reads c = search rules
 
 pub returns-clause-accepted : goal.returns-clause-accepted
-returns-clause-accepted c = reads_accepts (pieces c.args.code_units.now) c.read_whole.result (returns-clause-reads c)
-
-pub returns-clause-refused : goal.returns-clause-refused
-returns-clause-refused c = reads_refuses (pieces c.args.code_units.now) c.read_whole.result (returns-clause-reads c)
+returns-clause-accepted c = reads_accepts (pieces c.args.code_units.now) (Ok c.if-not-branch.identifier) (returns-clause-reads c)
 
 pub returns-clause-steps : goal.returns-clause-steps
-returns-clause-steps c = reads_steps c.args.code_units.now c.read_whole.result (returns-clause-reads c)
+returns-clause-steps c = reads_steps c.args.code_units.now (Ok c.if-not-branch.identifier) (returns-clause-reads c)
 
 pub returns-clause-narrow : goal.returns-clause-narrow
-returns-clause-narrow c = reads_narrow c.args.code_units.now c.read_whole.result (returns-clause-reads c)
-
-pub returns-clause-memory : goal.returns-clause-memory
-returns-clause-memory c = subst (λ (ps : List (List ℕ)). RunsOutOnlyIf (IdentifierWantsMemory ps) c.read_whole.result) c.new.ensures c.read_whole.ensures.memory
+returns-clause-narrow c = reads_narrow c.args.code_units.now (Ok c.if-not-branch.identifier) (returns-clause-reads c)

@@ -2,7 +2,8 @@ use Rattle.std.proofs.Common.{◌-◌, ◌++◌, ℕ, List, length, take, drop, 
 use Rattle.std.proofs.lemmas.List.{length-drop, length-take-le}
 use Rattle.iloc_spec_grammar.specs.Syntax.{lower}
 use Rattle.iloc_lines.specs.ReplyBlock.{held}
-use Rattle.iloc_lines.proofs.LowerLemmas.{lower_end, lower_step}
+use Rattle.iloc_told.proofs.CopyLemmas.{lower_front}
+use Rattle.iloc_lines.proofs.LowerLemmas.{lower_step}
 use Rattle.iloc_lines.proofs.reply_block.ReplyBlock.put_lower.Goals as goal
 
 pub parts-preserved : goal.parts-preserved
@@ -24,4 +25,4 @@ returns-clause-held c =
     let r = c.parts.rest.now in
     let n = c.parts.left in
     c.put-2.ensures.held ∙ ap (λ (v : List ℕ). held c.parts.self ++ take n v) (c.as_array-2.ensures ∙ c.first_in_lower_case-2.ensures)
-    ∙ ap (λ l. held c.parts.self ++ l) (lower_end n r (omega arith)) ∙ c.parts.invariant.held
+    ∙ ap (λ l. held c.parts.self ++ l) (lower_front n 16 r (omega arith)) ∙ c.parts.invariant.held

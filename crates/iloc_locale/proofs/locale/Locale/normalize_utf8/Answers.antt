@@ -1,14 +1,17 @@
-use Rattle.std.proofs.Common.{subst}
-use Rattle.std.proofs.lemmas.Result.{err_from_is_err_and}
-use Rattle.iloc_langid.specs.PlainTexts.{IsNormalOfPlain}
-use Rattle.iloc_locale.proofs.NormalLemmas.{plain_normal, plain_refused}
+use Rattle.iloc_locale.specs.LocaleReading.{IsNormalizedLocale}
+use Rattle.iloc_locale.proofs.NormalLemmas.{told_text, told_other}
+use Rattle.iloc_told.proofs.NormalLemmas.{normal_text, refused, runs_out}
+use Rattle.iloc_told.specs.declared.Mode.TheVariants.{Locale}
 use Rattle.iloc_locale.proofs.locale.Locale.normalize_utf8.Goals as goal
 
-pub returns-in_ok-normal-in-Some-clause-ok : goal.returns-in_ok-normal-in-Some-clause-ok
-returns-in_ok-normal-in-Some-clause-ok c =
-    plain_normal c.args.input.now c.in_ok-normal-in-Some.field-0 (subst (IsNormalOfPlain c.args.input.now) c.in_ok-normal-in-Some.was c.in-Some.ensures)
+pub returns-in-Some-clause-ok : goal.returns-in-Some-clause-ok
+returns-in-Some-clause-ok c =
+    let t = c.args.input.now in
+    normal_text Locale t (IsNormalizedLocale t) (told_text t) c.in-Some.normal (c.in-Some.ensures Locale)
 
-pub returns-in_err-normal-in-Some-clause-memory : goal.returns-in_err-normal-in-Some-clause-memory
-returns-in_err-normal-in-Some-clause-memory c =
-    let p = err_from_is_err_and c.from_residual.result c.from_residual.ensures.1 in
-    rw (p.1, p.2) (plain_refused c.args.input.now c.in_err-normal-in-Some.field-0.0 (subst (IsNormalOfPlain c.args.input.now) c.in_err-normal-in-Some.was c.in-Some.ensures))
+pub returns-in-Some-clause-err : goal.returns-in-Some-clause-err
+returns-in-Some-clause-err c = refused Locale c.args.input.now c.in-Some.normal (c.in-Some.ensures Locale)
+
+pub returns-in-Some-clause-memory : goal.returns-in-Some-clause-memory
+returns-in-Some-clause-memory c =
+    runs_out Locale c.args.input.now (told_other c.args.input.now) c.in-Some.normal (c.in-Some.ensures Locale)

@@ -1,6 +1,0 @@
-use Rattle.std.proofs.Common.{take}
-use Rattle.iloc_lines.proofs.PlainAnswers.{varied_in_order}
-use Rattle.iloc_lines.proofs.told.tell_varied.Goals as goal
-
-pub returns-in-Some : goal.returns-in-Some
-returns-in-Some c = varied_in_order (take c.args.len c.args.window.now) c.in-Some.line c.in-Some.ensures

@@ -1,0 +1,77 @@
+-- Parts that are copied one after the other.
+use Rattle.std.proofs.Common.{◌≡◌, ℕ, ◌+◌, ◌-◌, ◌^◌, ◌<◌, ◌≤◌, List, ◌++◌, length, take, drop, sym, ap, ◌∙◌, arith, length-append, length-drop, length-take-le}
+use Rattle.std.proofs.lemmas.List.{take-take, take-map, map-append}
+use Rattle.std.proofs.lemmas.Slice.{take-put_mid}
+use borrow.Rule.Slice.PartMut.{put_mid, same_len_mid}
+use Rattle.std.specs.Char.{to_ascii_lowercase}
+use Rattle.iloc_spec_grammar.specs.Syntax.{lower}
+use Rattle.iloc_spec_grammar.specs.Values.{identifier_text}
+use Rattle.iloc_spec_grammar.proofs.WordsLaws.{length-lower}
+use Rattle.iloc_plain.specs.Plain.{value_of}
+use Rattle.iloc_writeable.specs.Hints.{saturated}
+use Rattle.std.proofs.lemmas.Bool.Decides.{nat_tests}
+use Rattle.iloc_rewriting.proofs.StoringLemmas.{take_two}
+use Rattle.iloc_blocks.specs.Ordered.{IsStored, ordered_text}
+use Rattle.iloc_blocks.specs.declared.ordered.Ordered.{Ordered}
+
+-- bytes in lower case, and more of them
+pub lower_two : (a b : ℕ) (t : List ℕ) → lower (take a t) ++ lower (take b (drop a t)) ≡ lower (take (a + b) t)
+unfolding lower
+lower_two a b t = sym (map-append to_ascii_lowercase (take a t) (take b (drop a t))) ∙ ap lower (sym (take_two a b t))
+
+-- the first of the first bytes
+pub lower_front : (n m : ℕ) (t : List ℕ) → n ≤ m → take n (lower (take m t)) ≡ lower (take n t)
+unfolding lower
+lower_front n m t few = take-map to_ascii_lowercase n (take m t) ∙ ap lower (take-take n m t few)
+
+-- the first of the sixteen bytes that stand at a place
+pub lower_part : (n a : ℕ) (t : List ℕ) → n ≤ 16 → a + 16 ≤ length t
+    → take n (lower (take 16 (take (length t - a) (drop a t)))) ≡ lower (take n (drop a t))
+unfolding lower
+lower_part n a t few room =
+    take-map to_ascii_lowercase n (take 16 (take (length t - a) (drop a t)))
+    ∙ ap lower (take-take n 16 (take (length t - a) (drop a t)) few ∙ take-take n (length t - a) (drop a t) (omega (arith, few, room)))
+
+-- how long the text of a line in order is
+pub ordered_length : (o : Ordered) → IsStored o → length (ordered_text o) ≡ o.plain.len + o.len
+ordered_length o h =
+    let a : length (ordered_text o) ≡ length (identifier_text (value_of o.plain)) + length (lower (take o.len o.rest.now)) = length-append _ _ in
+    let b : length (take o.plain.len o.plain.bytes) ≡ length (identifier_text (value_of o.plain)) = ap length h.words.normal in
+    let c : length (take o.plain.len o.plain.bytes) ≡ o.plain.len = length-take-le o.plain.len o.plain.bytes (omega (arith, h.words.wide, h.words.fits)) in
+    let d : length (lower (take o.len o.rest.now)) ≡ length (take o.len o.rest.now) = length-lower (take o.len o.rest.now) in
+    let e : length (take o.len o.rest.now) ≡ o.len = length-take-le o.len o.rest.now (omega (arith, h.room)) in
+    omega (arith, a, b, c, d, e)
+
+-- one part more, of k bytes up to the n-th
+module _ (at k n count : ℕ) (from to part : List ℕ) (few : k ≤ 16) (sum : n ≡ at + k) (fits : n ≤ count) (bytes : count + 16 ≤ length from)
+    (room : length to ≡ count) (is : part ≡ take k (lower (take 16 (take (length from - at) (drop at from))))) where
+  is_lower : part ≡ lower (take k (drop at from))
+  is_lower = is ∙ lower_part k at from few (omega (arith, sum, fits, bytes))
+
+  long : length part ≡ k
+  long =
+      ap length is_lower ∙ length-lower (take k (drop at from))
+      ∙ length-take-le k (drop at from) (omega (arith, length-drop at from, few, sum, fits, bytes))
+
+  pub same_room : length (put_mid at k to part) ≡ count
+  same_room =
+      same_len_mid at k to part (long ∙ sym (length-take-le k (drop at to) (omega (arith, length-drop at to, sum, room, fits)))) ∙ room
+
+  pub copied_more : take at to ≡ lower (take at from) → take n (put_mid at k to part) ≡ lower (take n from)
+  copied_more before =
+      take-put_mid at k to part n (sum ∙ ap (λ (m : ℕ). at + m) (sym long)) (omega (arith, sum, fits, room))
+      ∙ (λ j. before j ++ is_lower j) ∙ lower_two at k from ∙ ap (λ (m : ℕ). lower (take m from)) (sym sum)
+
+-- sixteen bytes are all of the sixteen
+pub sixteen : (k : ℕ) (t part : List ℕ) → k ≡ 16 → part ≡ lower (take 16 t) → part ≡ take k (lower (take 16 t))
+unfolding lower
+sixteen k t part e is =
+    is ∙ ap lower (sym (take-take 16 16 t (omega arith))) ∙ sym (take-map to_ascii_lowercase 16 (take 16 t))
+    ∙ ap (λ (m : ℕ). take m (lower (take 16 t))) (sym e)
+
+-- and the room that is asked for it
+pub ordered_needed : (o : Ordered) → IsStored o → o.plain.len + o.len < 2 ^ 64 → o.plain.len + o.len ≡ saturated (length (ordered_text o))
+ordered_needed o h fits =
+    let long = ordered_length o h in
+    let same : saturated (o.plain.len + o.len) ≡ o.plain.len + o.len = grind (arith, nat_tests) in
+    sym (ap saturated long ∙ same)

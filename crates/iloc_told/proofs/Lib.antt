@@ -1,0 +1,11 @@
+pub mod AsciiLemmas
+pub mod CopyLemmas
+mod CompareLemmas
+pub mod PlainAnswers
+pub mod RefusalLemmas
+pub mod FrontAnswers
+mod FoundAnswers
+mod KeywordAnswers
+mod SubdivisionBlocks
+mod SubdivisionAnswers
+pub mod NormalLemmas

@@ -1,0 +1,9 @@
+use Rattle.std.proofs.Common.{take}
+use Rattle.iloc_told.proofs.FrontAnswers.{no_language_refused, misfit_is_refused}
+use Rattle.iloc_told.proofs.told.read_lead.Goals as goal
+
+pub returns-in-NoLanguage : goal.returns-in-NoLanguage
+returns-in-NoLanguage c = no_language_refused c.args.mode (take c.args.len c.args.window.now) c.in-NoLanguage.ensures
+
+pub returns-in-Misfit : goal.returns-in-Misfit
+returns-in-Misfit c = misfit_is_refused c.args.mode (take c.args.len c.args.window.now) c.in-Misfit.ensures

@@ -1,0 +1,4 @@
+pub mod Modes
+pub mod Told
+pub mod Subdivisions
+pub mod NormalTexts

@@ -1,0 +1,70 @@
+//! Copies of bytes. Few are copied in place, without a call.
+ghost use Rattle.std.specs.Prelude.{◌≡◌, ◌+◌, ◌≤◌, length, take};
+ghost use Rattle.iloc_spec_grammar.specs.Syntax.{lower};
+ghost use Rattle.iloc_blocks.specs.Ordered.{IsStored, ordered_text};
+
+use iloc_blocks::Ordered;
+use iloc_plain::first_in_lower_case;
+
+/// Copies the first and the last `W` bytes, which together are all of them. All are loaded before any is stored.
+#[inline(always)]
+pub fn copy_ends<const W: usize>(from: &[u8], to: &mut [u8])
+    requires same { length to.old ≡ length from.now }
+    requires wide { W ≤ length from.now }
+    requires few { length from.now ≤ W + W }
+    ensures { to.new ≡ from.now }
+{
+    let last = from.len() - W;
+    let mut front = [0u8; W];
+    let mut back = [0u8; W];
+    front.copy_from_slice(&from[..W]);
+    back.copy_from_slice(&from[last..]);
+    to[..W].copy_from_slice(&front);
+    to[last..].copy_from_slice(&back);
+}
+
+/// Copies all bytes.
+#[inline(always)]
+pub fn copy_all(from: &[u8], to: &mut [u8])
+    requires { length to.old ≡ length from.now }
+    ensures { to.new ≡ from.now }
+{
+    match from.len() {
+        0 => (),
+        1 => to[0] = from[0],
+        2..=3 => copy_ends::<2>(from, to),
+        4..=7 => copy_ends::<4>(from, to),
+        8..=16 => copy_ends::<8>(from, to),
+        _ => to.copy_from_slice(from),
+    }
+}
+
+/// Copies the first `count` bytes, in lower case. The bytes after them are loaded too, and change nothing.
+pub fn copy_lower(from: &[u8], count: usize, to: &mut [u8])
+    requires bytes { count + 16 ≤ length from.now }
+    requires room { length to.old ≡ count }
+    ensures { to.new ≡ lower (take count from.now) }
+{
+    let mut at = 0;
+    'parts: while count - at > 16 {
+        let part = first_in_lower_case(&from[at..]);
+        copy_all(part.as_array(), &mut to[at..at + 16]);
+        at += 16;
+    }
+    let part = first_in_lower_case(&from[at..]);
+    copy_all(&part.as_array()[..count - at], &mut to[at..count]);
+}
+
+/// Copies the normal text of a text in order.
+#[tactic(auto, using(crate::proofs::CopyLemmas::ordered_length))]
+#[inline(always)]
+pub fn copy_ordered(line: &Ordered<'_>, to: &mut [u8])
+    requires stored { IsStored line.now }
+    requires room { length to.old ≡ line.now.plain.len + line.now.len }
+    ensures { to.new ≡ ordered_text line.now }
+{
+    let at = line.plain.len;
+    let bytes = line.plain.bytes;
+    copy_all(&bytes.as_array()[..at], &mut to[..at]);
+    copy_lower(line.rest, line.len, &mut to[at..]);
+}

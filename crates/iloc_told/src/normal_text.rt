@@ -1,0 +1,140 @@
+//! Normal texts that are told at once.
+ghost use Rattle.std.specs.Prelude.{◌≡◌, ◌≢◌, ◌+◌, ◌≤◌, IfOk, IfSome, length, take};
+ghost use Rattle.std.specs.Str.{IsUtf8};
+ghost use Rattle.std.specs.String.{string_bytes};
+ghost use Rattle.iloc_spec_grammar.specs.Syntax.{Text, languages};
+ghost use Rattle.iloc_blocks.specs.Ordered.{IsStored, ordered_text};
+ghost use Rattle.iloc_told.specs.Modes.{IsNormalText};
+ghost use Rattle.iloc_told.specs.NormalTexts.{IsNormalizedAs};
+
+use crate::Mode;
+use crate::comparing::is_text_of;
+use crate::copying::copy_ordered;
+use crate::told::{ROOM, Told, tell};
+use crate::window::{MOST, WINDOW, put_in_front};
+use iloc_blocks::Ordered;
+use iloc_fronts::begins_with_language;
+use iloc_plain::load::load;
+use iloc_plain::tell_normal;
+use iloc_subtags::ParseError;
+use std::alloc::{AllocError, Global};
+use std::borrow::CowStr;
+use std::simd::prelude::*;
+
+// The room for a normal text: that of a plain identifier, and of what is brought into order.
+const NORMAL: usize = 16 + ROOM;
+
+/// The normal text of a plain identifier, borrowed exactly if the text is that already; or the refusal of a text of at most
+/// sixteen bytes that begins with no language. Both are the same in each mode. `None` says nothing of the text. Out of
+/// memory comes only if the text is not normal.
+#[inline(always)]
+pub fn normalize_short(
+    alloc: Global,
+    input: &[u8],
+) -> Option<Result<CowStr<'_, Global>, ParseError>>
+    ensures { (mode : Mode) → IfSome result (IsNormalizedAs mode input.now) }
+{
+    if input.len() > 16 {
+        return None;
+    }
+    let lanes = load(input);
+    let Some(told) = tell_normal(lanes, input.len()) else {
+        return refuse_short(lanes, input.len());
+    };
+    if told.is_normal {
+        return Some(Ok(CowStr::Borrowed(unsafe { str::from_utf8_unchecked(input) })));
+    }
+    match own_front(alloc, told.plain.bytes, told.plain.len) {
+        Ok(text) => Some(Ok(CowStr::Owned(text))),
+        Err(AllocError) => Some(Err(ParseError::OutOfMemory)),
+    }
+}
+
+// The refusal of the first bytes, if they begin with no language.
+#[inline(always)]
+fn refuse_short<'a>(v: u8x16, len: usize) -> Option<Result<CowStr<'a, Global>, ParseError>>
+    requires { len ≤ 16 }
+    ensures { (mode : Mode) → IfSome result (IsNormalizedAs mode (take len v)) }
+{
+    if begins_with_language(v, len) {
+        return None;
+    }
+    Some(Err(ParseError::InvalidLanguage))
+}
+
+// The first bytes as a text of its own.
+#[inline(never)]
+fn own_front(alloc: Global, bytes: u8x16, len: usize) -> Result<String, AllocError>
+    requires within { len ≤ 16 }
+    requires utf8 { IsUtf8 (take len bytes) }
+    ensures { IfOk result (λ text. string_bytes text ≡ take len bytes) }
+{
+    let front = &bytes.as_array()[..len];
+    String::from_str(alloc, unsafe { str::from_utf8_unchecked(front) })
+}
+
+/// The normal text in the mode of what the text means, borrowed exactly if the text is that already, or why the text
+/// is refused. `None` says nothing of the text. Out of memory comes only if the text is not normal.
+#[inline(always)]
+pub fn normalize_told(
+    alloc: Global,
+    mode: Mode,
+    input: &[u8],
+) -> Option<Result<CowStr<'_, Global>, ParseError>>
+    requires { mode ≢ Mode.Data }
+    ensures { IfSome result (IsNormalizedAs mode input.now) }
+{
+    if input.len() > MOST {
+        return None;
+    }
+    let mut window = [0u8; WINDOW];
+    put_in_front(input, &mut window);
+    let mut room = [0u8; ROOM];
+    match tell(mode, &window, input.len(), &mut room) {
+        Told::Ordered(line) => text_of(alloc, input, &window, &line),
+        Told::Refused(refusal) => Some(Err(refusal)),
+        Told::Nothing => None,
+    }
+}
+
+// The normal text of an input that is told to be in order, and that stands in the front of the window: borrowed exactly if
+// it is the input. `None` if it is too long. It is a call, so that a refusal pays nothing for it.
+#[inline(never)]
+fn text_of<'a>(
+    alloc: Global,
+    input: &'a [u8],
+    window: &[u8],
+    line: &Ordered<'_>,
+) -> Option<Result<CowStr<'a, Global>, ParseError>>
+    requires stored { IsStored line.now }
+    requires utf8 { IsUtf8 (ordered_text line.now) }
+    requires front { take (length input.now) window.now ≡ input.now }
+    requires room { length input.now + 16 ≤ length window.now }
+    ensures { (mode : Mode) → IsNormalText languages mode input.now (ordered_text line.now)
+        → IfSome result (IsNormalizedAs mode input.now) }
+{
+    if is_text_of(line, window, input.len()) {
+        return Some(Ok(CowStr::Borrowed(unsafe { str::from_utf8_unchecked(input) })));
+    }
+    own_text(alloc, line)
+}
+
+// The same of an input that is not normal. It is a call, so that a normal input clears no room for a text.
+#[inline(never)]
+fn own_text<'a>(alloc: Global, line: &Ordered<'_>) -> Option<Result<CowStr<'a, Global>, ParseError>>
+    requires stored { IsStored line.now }
+    requires utf8 { IsUtf8 (ordered_text line.now) }
+    ensures { (mode : Mode) (t : Text) → IsNormalText languages mode t (ordered_text line.now)
+        → t ≢ ordered_text line.now → IfSome result (IsNormalizedAs mode t) }
+{
+    let len = line.plain.len + line.len;
+    if len > NORMAL {
+        return None;
+    }
+    let mut normal = [0u8; NORMAL];
+    copy_ordered(line, &mut normal[..len]);
+    match String::from_str(alloc, unsafe { str::from_utf8_unchecked(&normal[..len]) }) {
+        Ok(text) => Some(Ok(CowStr::Owned(text))),
+        Err(AllocError) => Some(Err(ParseError::OutOfMemory)),
+    }
+}

@@ -1,0 +1,45 @@
+//! A text with room behind it, so that it can be told at once.
+ghost use Rattle.std.specs.Prelude.{◌≡◌, ◌≤◌, length, take};
+ghost use Rattle.iloc_told.specs.Told.{IsTold};
+
+use crate::Mode;
+use crate::copying::{copy_all, copy_ends};
+use crate::told::{ROOM, Told, tell};
+
+/// How long a text may be that is looked at here.
+pub(crate) const MOST: usize = 48;
+
+/// How much room a text needs: that, and sixteen bytes more.
+pub const WINDOW: usize = 64;
+
+/// Puts the text in the front of the window. The bytes after it say nothing.
+#[inline(always)]
+pub(crate) fn put_in_front(text: &[u8], window: &mut [u8; WINDOW])
+    requires { length text.now ≤ MOST }
+    ensures { take (length text.now) window.new ≡ text.now }
+{
+    let front = &mut window[..text.len()];
+    match text.len() {
+        0..=16 => copy_all(text, front),
+        17..=32 => copy_ends::<16>(text, front),
+        _ => copy_ends::<32>(text, front),
+    }
+}
+
+/// What is told of a text in the mode: nothing of one that is longer than `MOST`. It is copied to the window, and brought
+/// into order in the room.
+#[inline(always)]
+pub fn tell_text<'a>(
+    mode: Mode,
+    text: &[u8],
+    window: &'a mut [u8; WINDOW],
+    room: &'a mut [u8; ROOM],
+) -> Told<'a>
+    ensures { IsTold mode text.now result }
+{
+    if text.len() > MOST {
+        return Told::Nothing;
+    }
+    put_in_front(text, window);
+    tell(mode, window, text.len(), room)
+}
