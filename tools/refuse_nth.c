@@ -2,6 +2,8 @@
  *
  * REFUSE_REQUEST=N: the Nth request is refused (from 1 on; without it none is).
  * COUNT_REQUESTS=1: as the program ends, the number of its requests is written to standard error, as its last line.
+ *
+ * A program that looks for refuse_request among its own names may also say itself which request is refused next.
  */
 #define _GNU_SOURCE
 #include <dlfcn.h>
@@ -12,6 +14,7 @@
 
 static unsigned long requests;
 static unsigned long refused;
+static int was_refused;
 
 static void *(*next_malloc)(size_t);
 static void *(*next_calloc)(size_t, size_t);
@@ -57,7 +60,20 @@ __attribute__((constructor)) static void look_up(void)
 /* Counts a request, and tells whether it is refused. */
 static int is_refused(void)
 {
-    return __atomic_add_fetch(&requests, 1, __ATOMIC_SEQ_CST) == refused;
+    int is_it = __atomic_add_fetch(&requests, 1, __ATOMIC_SEQ_CST) == refused;
+    was_refused |= is_it;
+    return is_it;
+}
+
+/* From now on the Nth request is refused, counted from this call; with 0 none is. Returns whether one was refused since
+ * the last such call. */
+int refuse_request(unsigned long number)
+{
+    int before = was_refused;
+    was_refused = 0;
+    requests = 0;
+    refused = number;
+    return before;
 }
 
 void *malloc(size_t size)

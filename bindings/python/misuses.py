@@ -73,6 +73,16 @@ def loading(path):
     return ran.stderr.strip().split("\n")[-1]
 
 
+def meanwhile():
+    """What is wrong where finalizers, signal handlers and threads call at the same time; also that it does not end."""
+    program = os.path.join(os.path.dirname(os.path.abspath(__file__)), "meanwhile.py")
+    try:
+        ran = subprocess.run([sys.executable, "-B", program], capture_output=True, text=True, timeout=60)
+    except subprocess.TimeoutExpired:
+        return "calls wait for each other"
+    return "" if ran.returncode == 0 and ran.stdout.endswith(" 0 wrong\n") else ran.stdout + ran.stderr
+
+
 def shared():
     """What threads find that read and compare the same locales, of which each would be wrong if two calls had it at once."""
     texts = ["en-GB-aaaaa-bbbbb-ccccc-ddddd-eeeee-u-ca-roc-x-a-b-c-d-e-f", "de-u-co-phonebk"]
@@ -157,8 +167,8 @@ CASES = [
     (with_part(keywords={"ca": True}), TypeError),
     (with_part(regions="US"), TypeError),
     (raised(setattr, HELD, "region", "GB"), AttributeError),
-    (raised(setattr, HELD, "_handle", None), AttributeError),
-    (raised(delattr, HELD, "_lock"), AttributeError),
+    (raised(setattr, HELD, "_handles", None), AttributeError),
+    (raised(delattr, HELD, "_handles"), AttributeError),
     (raised(HELD.keywords.__class__.__getitem__, HELD.keywords, "nu"), KeyError),
     (isinstance(HELD.keywords, collections.abc.Mapping) and not hasattr(HELD.keywords, "__setitem__"), True),
     (raised(HELD.data_locale, None), TypeError),
@@ -173,6 +183,7 @@ CASES = [
     (len({Locale("en-US"), Locale("EN-us"), Locale("en")}), 2),
     ([str(it) for it in sorted(map(Locale, ["und", "en-macos-posix", "en-posix", "de"]))], ["de", "en-posix", "en-macos-posix", "und"]),
     (shared(), []),
+    (meanwhile(), ""),
     ("run bindings/build" in loading("/dev/null"), True),
     ("of header" in loading(sys.executable) or "another library" in loading("libc.so.6"), True),
 ]

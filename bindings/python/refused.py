@@ -1,16 +1,20 @@
-"""Refuses each request of the library for memory in turn, for tools/try_bindings: ICU_LOCALE_LIBRARY names the library of
-tools/refusing.py.
+"""Refuses each request for memory in turn, for tools/try_bindings: first those of the library alone, then also those of
+Python itself. ICU_LOCALE_LIBRARY names the library of tools/refusing.py, and tools/refuse_nth.c is preloaded, for a
+Python that takes all memory from malloc (PYTHONMALLOC=malloc).
 
-A call that is refused raises MemoryError, leaves its locale as it was, and leaves no block behind. The requests of Python
-itself are not refused. It prints how many cases were as wanted; the status is 0 if all were."""
+A call that is refused raises MemoryError, leaves its locale as it was, and leaves no block behind. It prints how many
+cases were as wanted; the status is 0 if all were."""
 
 import ctypes
+import gc
 import os
 import pickle
 import sys
 
-from icu_locale_c import Locale, Mode, Priority, check, compare, normalize, normalizing_eq, strict_cmp
+from icu_locale_c import Locale, LocaleError, Mode, Priority, check, compare, normalize, normalizing_eq, strict_cmp
 
+PYTHON = ctypes.CDLL(None)
+PYTHON.refuse_request.argtypes = (ctypes.c_ulong,)
 HOOKS = ctypes.CDLL(os.environ["ICU_LOCALE_LIBRARY"])
 HOOKS.refusing_after.argtypes = (ctypes.c_long,)
 for name in ("refusing_refused", "refusing_requests", "refusing_live"):
@@ -24,10 +28,11 @@ STARTS = [
 ]
 LONG = "de-aaaaa-bbbbb-ccccc-ddddd-eeeee-b-foo-t-und-m0-abc-u-aaa-ca-aaa-bbb-ccc-ddd-eee-co-phonebk-x-a-b-c-d-e"
 OTHER = Locale(LONG)
+PICKLED = lambda it: pickle.loads(pickle.dumps(it))
 CALLS = [
+    PICKLED,
     lambda _: Locale(LONG),
     lambda it: it.normalizing_eq(LONG),
-    lambda it: pickle.loads(pickle.dumps(it)),
     lambda it: it.replace(language="fr", script="Latn", region="GB"),
     lambda it: it.replace(variants=["aaaaa", "bbbbb", "ccccc", "ddddd", "eeeee", "posix"]),
     lambda it: it.replace(keywords={"ca": "buddhist", "nu": "aaa-bbb-ccc-ddd-eee", "hc": "h12"}),
@@ -91,9 +96,59 @@ def ask_nothing(start, number, call):
     return 1, [f"quiet call {number} of {start} makes requests"] if requests else []
 
 
+# The calls that are tried with each request refused to Python too. By SystemError the interpreter says that it lost a
+# MemoryError of its own: it does so also in programs that load no library.
+FOR_PYTHON = [it for it in CALLS if it is not PICKLED]  # pickle makes another exception of each
+FOR_PYTHON += [lambda it, call=call: call(it, OTHER) for call in QUIET]
+FOR_PYTHON += [lambda _: Locale("en-a"), lambda _: normalize("en-"), lambda it: sorted([OTHER, it])]
+MAY_RAISE = {None, MemoryError, SystemError}
+
+
+def refusing(number, call, it):
+    """What the call raises when this request is refused, unless it refuses a text; and whether one was."""
+    kind, was_refused, is_over = None, False, False
+    try:
+        try:
+            PYTHON.refuse_request(number)
+            call(it)
+        except LocaleError:
+            pass
+        except Exception as error:
+            kind = type(error)
+    except MemoryError:  # it was refused to this function
+        kind = MemoryError
+    while not is_over:
+        try:
+            was_refused |= PYTHON.refuse_request(0) == 1
+            is_over = True
+        except (MemoryError, ctypes.ArgumentError):
+            was_refused = True
+    return kind, was_refused
+
+
+def refuse_python(start, number, call):
+    """Refuses each request of a call for memory, also those of Python, and returns how many there were, and what is wrong."""
+    it, at, is_refused = Locale(start), 0, True
+    while is_refused:
+        at += 1
+        str(it), str(OTHER)  # each has a handle then: a refusal may have lost it
+        held = HOOKS.refusing_live()
+        kind, is_refused = refusing(at, call, it)
+        told = f"call {number} of {start}, request {at} of Python refused"
+        if kind not in MAY_RAISE or str(it) != start:
+            return at, [f"{told}: {kind}, {it}"]
+        # What a failed __del__ could not free is freed before the next handle is made.
+        if Locale("en") == Locale("fr") or (str(OTHER), gc.collect(), HOOKS.refusing_live())[2] != held:
+            return at, [f"{told}: {HOOKS.refusing_live() - held} blocks more"]
+    return at - 1, []
+
+
 def main():
     tried = [refuse_each(start, at, call) for start in STARTS for at, call in enumerate(CALLS)]
     tried += [ask_nothing(start, at, call) for start in STARTS for at, call in enumerate(QUIET)]
+    gc.freeze()
+    if sys.version_info >= (3, 9):  # an earlier interpreter breaks its own heap
+        tried += [refuse_python(start, at, call) for start in STARTS[::3] for at, call in enumerate(FOR_PYTHON)]
     wrong = [it for _, told in tried for it in told]
     print("\n".join(wrong) or f"{sum(number for number, _ in tried)} cases as wanted")
     return bool(wrong)

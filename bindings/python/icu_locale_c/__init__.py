@@ -17,10 +17,12 @@ icu_locale_c.InvalidSubtag: Invalid subtag
 A text is a str, or bytes (or any bytes-like object) of any encoding. Anything else is a TypeError. A lone surrogate in
 a str is refused like any other character that no identifier has.
 
-Any number of threads may call at the same time, and share a Locale. A call on texts works on copies of its own. The
-library wants a locale for itself while it reads it, so each Locale has a lock, which a call holds while the library
-works. A call that compares two takes both locks, in an order that is the same in each thread. No call needs the lock of
-the interpreter.
+Any number of threads may call at the same time, and share a Locale; so may a finalizer and a signal handler. No call
+waits for another: there is no lock. A call on texts works on copies of its own. The library wants a locale for itself
+while it reads it, so a call takes the Locale's handle out, and puts it back. A call that comes meanwhile parses the
+text of the Locale anew. No call needs the lock of the interpreter.
+
+A call that is out of memory raises MemoryError, also where Python itself has none to pass an argument.
 
 The library is the one that the environment variable ICU_LOCALE_LIBRARY names, or the one beside this file (in a
 wheel), or the one that bindings/build made, or one that the system finds."""
@@ -34,7 +36,7 @@ import os
 import pathlib
 import threading
 import types
-from typing import Any, Callable, Dict, Iterable, Mapping, Optional, Tuple, Union
+from typing import Any, Callable, Dict, Iterable, List, Mapping, Optional, Tuple, Type, Union
 
 __all__ = [
     "Locale",
@@ -109,6 +111,7 @@ class DuplicatedExtension(LocaleError):
 class _Handle(ctypes.Structure):
     """icu_locale_t"""
 
+    __slots__ = ()
     _fields_ = [("at", ctypes.c_void_p)]
 
 
@@ -219,6 +222,14 @@ def _number(kind: Any, given: Any) -> Any:
     return kind(given)
 
 
+def _call(function: Any, *given: Any) -> Any:
+    """What the library answers. Each argument is of its type: one that cannot be passed tells that Python has no memory."""
+    try:
+        return function(*given)
+    except ctypes.ArgumentError:
+        raise MemoryError from None
+
+
 def _raise(status: int) -> None:
     """Raises what the status stands for, unless it is done."""
     if status == _DONE:
@@ -227,7 +238,7 @@ def _raise(status: int) -> None:
     if refusal is None:
         raise RuntimeError(f"the library gave status {status}, which this wrapper does not know: {_REMEDY}")
     words, needed = ctypes.create_string_buffer(64), ctypes.c_size_t()
-    _library.icu_locale_words(status, words, 64, ctypes.byref(needed))
+    _call(_library.icu_locale_words, status, words, 64, ctypes.byref(needed))
     raise refusal(words.raw[: needed.value].decode())
 
 
@@ -243,7 +254,7 @@ def normalize(text: Text, mode: Mode = Mode.LOCALE) -> str:
     given, mode = _bytes(text), _number(Mode, mode)
     room, needed = len(given) + 4, ctypes.c_size_t()
     buffer = ctypes.create_string_buffer(room)
-    _raise(_library.icu_locale_normalize(mode, given, len(given), buffer, room, ctypes.byref(needed)))
+    _raise(_call(_library.icu_locale_normalize, mode, given, len(given), buffer, room, ctypes.byref(needed)))
     return buffer.raw[: needed.value].decode("ascii")
 
 
@@ -256,7 +267,7 @@ def check(text: Text, mode: Mode = Mode.LOCALE) -> None:
     icu_locale_c.InvalidSubtag: Invalid subtag
     """
     given = _bytes(text)
-    _raise(_library.icu_locale_check(_number(Mode, mode), given, len(given)))
+    _raise(_call(_library.icu_locale_check, _number(Mode, mode), given, len(given)))
 
 
 def strict_cmp(text: Text, other: Text, mode: Mode = Mode.LOCALE) -> int:
@@ -266,7 +277,7 @@ def strict_cmp(text: Text, other: Text, mode: Mode = Mode.LOCALE) -> int:
     (0, 1)
     """
     given, against, order, mode = _bytes(text), _bytes(other), ctypes.c_int8(), _number(Mode, mode)
-    _raise(_library.icu_locale_strict_cmp(mode, given, len(given), against, len(against), ctypes.byref(order)))
+    _raise(_call(_library.icu_locale_strict_cmp, mode, given, len(given), against, len(against), ctypes.byref(order)))
     return order.value
 
 
@@ -277,7 +288,7 @@ def normalizing_eq(text: Text, other: Text, mode: Mode = Mode.LOCALE) -> bool:
     (True, False)
     """
     given, against, same, mode = _bytes(text), _bytes(other), ctypes.c_uint8(), _number(Mode, mode)
-    _raise(_library.icu_locale_normalizing_eq(mode, given, len(given), against, len(against), ctypes.byref(same)))
+    _raise(_call(_library.icu_locale_normalizing_eq, mode, given, len(given), against, len(against), ctypes.byref(same)))
     return same.value == 1
 
 
@@ -288,7 +299,7 @@ def compare(text: Text, other: Text, mode: Mode = Mode.LOCALE) -> int:
     (0, -1)
     """
     given, against, order, mode = _bytes(text), _bytes(other), ctypes.c_int8(), _number(Mode, mode)
-    _raise(_library.icu_locale_compare(mode, given, len(given), against, len(against), ctypes.byref(order)))
+    _raise(_call(_library.icu_locale_compare, mode, given, len(given), against, len(against), ctypes.byref(order)))
     return order.value
 
 
@@ -301,6 +312,103 @@ def _texts(given: Iterable[Text]) -> Tuple[Text, ...]:
     if isinstance(given, (str, bytes, bytearray, memoryview)):
         raise TypeError(f"several texts are wanted, such as a tuple, and not one {type(given).__name__}")
     return tuple(given)
+
+
+class _Waiting:
+    """The first of the handles that could not be freed when Python let them go."""
+
+    first: Optional["_Owned"] = None
+    lock = threading.Lock()
+
+
+def _free_waiting() -> None:
+    """Frees the handles that wait. It leaves that to another thread that is about it."""
+    if not _Waiting.lock.acquire(False):
+        return
+    try:
+        while _Waiting.first is not None:
+            _call(_library.icu_locale_free, _Waiting.first)
+            _Waiting.first = _Waiting.first.later
+    finally:
+        _Waiting.lock.release()
+
+
+class _Owned(_Handle):
+    """A handle that one call has, or that a Locale keeps for the next one.
+
+    Its block is freed when Python lets it go. If Python has no memory for that call, the handle waits in a chain, which
+    takes no memory, and is freed before the next one is made."""
+
+    __slots__ = ("later",)
+
+    later: Optional["_Owned"]
+
+    def __init__(self) -> None:
+        if _Waiting.first is not None:
+            _free_waiting()
+
+    def __del__(
+        self, _free: Callable[[_Handle], None] = _library.icu_locale_free, _waiting: Type[_Waiting] = _Waiting
+    ) -> None:
+        try:
+            _free(self)
+        except (MemoryError, ctypes.ArgumentError):
+            self.later = _waiting.first
+            _waiting.first = self
+
+    def read(self, function: Any, *given: Any) -> Optional[str]:
+        """The text that a call writes, or None if there is no such part."""
+        room, needed, status = 64, ctypes.c_size_t(), _BUFFER_TOO_SMALL
+        while status == _BUFFER_TOO_SMALL:
+            buffer = ctypes.create_string_buffer(room)
+            status = _call(function, self, *given, buffer, room, ctypes.byref(needed))
+            room = needed.value
+        if status == _NOT_FOUND:
+            return None
+        _raise(status)
+        return buffer.raw[: needed.value].decode("ascii")
+
+    def change(self, name: str, *texts: bytes) -> None:
+        """Has the call of this name change the locale by the texts."""
+        given: List[Any] = []
+        for text in texts:
+            given += text, len(text)
+        _raise(_call(getattr(_library, f"icu_locale_{name}"), self, *given))
+
+    def set(self, part: str, text: Optional[Text]) -> None:
+        if text is not _KEPT:
+            self.change(f"set_{part}", b"" if text is None else _bytes(text))
+
+    def fill(self, clear: str, add: str, texts: Iterable[Text]) -> None:
+        self.change(clear)
+        for given in map(_bytes, _texts(texts)):
+            self.change(add, given)
+
+    def fill_pairs(self, clear: str, put: str, pairs: Mapping[Any, Text]) -> None:
+        if not isinstance(pairs, Mapping):
+            raise TypeError(f"a mapping of keys to values is wanted, not {type(pairs).__name__}")
+        self.change(clear)
+        for key, value in pairs.items():
+            self.change(put, _bytes(key), _bytes(value))
+
+    def fill_others(self, others: Mapping[Any, Text]) -> None:
+        if not isinstance(others, Mapping):
+            raise TypeError(f"a mapping of singletons to subtags is wanted, not {type(others).__name__}")
+        for it in _SINGLETONS:
+            status = _call(_library.icu_locale_remove_other, self, ord(it))
+            _raise(_DONE if status == _NOT_FOUND else status)
+        for key, subtags in others.items():
+            singleton, text = _bytes(key), _bytes(subtags)
+            if len(singleton) != 1:
+                _raise(_INVALID_EXTENSION)
+            self.change("set_other", singleton + b"-" + text)
+
+
+def _parsed(text: bytes) -> _Owned:
+    """A handle of what the text means."""
+    made = _Owned()
+    made.change("parse", text)
+    return made
 
 
 class Locale:
@@ -318,23 +426,23 @@ class Locale:
     icu_locale_c.InvalidSubtag: Invalid subtag
     """
 
-    __slots__ = ("_handle", "_lock", "__weakref__")
+    __slots__ = ("_source", "_handles", "__weakref__")
 
-    _handle: _Handle
-    _lock: Any
+    _source: bytes
+    _handles: List["_Owned"]
 
     def __new__(cls, text: Text) -> "Locale":
-        given = _bytes(text)
-        made = cls._und()
-        _raise(_library.icu_locale_parse(made._handle, given, len(given)))
-        return made
+        source = _bytes(text)
+        return cls._of(_parsed(source), source)
 
     @classmethod
-    def _und(cls) -> "Locale":
+    def _of(cls, handle: "_Owned", source: Optional[bytes] = None) -> "Locale":
+        """The Locale of this handle, and of a text that means the same; without one it is asked for the normal form."""
         made = object.__new__(cls)
-        object.__setattr__(made, "_handle", _Handle())
-        # It may be taken twice, as a signal handler may call in between.
-        object.__setattr__(made, "_lock", threading.RLock())
+        if source is None:
+            source = (handle.read(_library.icu_locale_to_string) or "").encode()
+        object.__setattr__(made, "_source", source)
+        object.__setattr__(made, "_handles", [handle])
         return made
 
     def __setattr__(self, name: str, value: Any) -> None:
@@ -343,36 +451,59 @@ class Locale:
     def __delattr__(self, name: str) -> None:
         raise AttributeError(f"a Locale does not change: {name} stays")
 
-    def __del__(self, _free: Callable[[_Handle], None] = _library.icu_locale_free) -> None:
-        _free(self._handle)
+    def _take(self) -> "_Owned":
+        """A handle that no other call has. What a call does not put back is freed, and made anew."""
+        try:
+            return self._handles.pop()
+        except IndexError:
+            return _parsed(self._source)
 
-    def _read(self, call: Any, *given: Any) -> Optional[str]:
+    def _put(self, handle: "_Owned") -> None:
+        if not self._handles:
+            self._handles.append(handle)
+
+    def _ask(self, function: Any, *given: Any) -> Any:
+        """What a call answers of this locale."""
+        handle = self._take()
+        try:
+            return _call(function, handle, *given)
+        finally:
+            self._put(handle)
+
+    def _ask_second(self, function: Any, first: "_Owned", *given: Any) -> Any:
+        """What a call answers of this handle and this locale."""
+        handle = self._take()
+        try:
+            return _call(function, first, handle, *given)
+        finally:
+            self._put(handle)
+
+    def _ask_both(self, other: "Locale", function: Any, *given: Any) -> Any:
+        """What a call answers of both locales."""
+        handle = self._take()
+        try:
+            return other._ask_second(function, handle, *given)
+        finally:
+            self._put(handle)
+
+    def _read(self, function: Any, *given: Any) -> Optional[str]:
         """The text that a call writes, or None if there is no such part."""
-        room, needed, status = 64, ctypes.c_size_t(), _BUFFER_TOO_SMALL
-        while status == _BUFFER_TOO_SMALL:
-            buffer = ctypes.create_string_buffer(room)
-            with self._lock:
-                status = call(self._handle, *given, buffer, room, ctypes.byref(needed))
-            room = needed.value
-        if status == _NOT_FOUND:
-            return None
-        _raise(status)
-        return buffer.raw[: needed.value].decode("ascii")
+        handle = self._take()
+        try:
+            return handle.read(function, *given)
+        finally:
+            self._put(handle)
 
     def _part(self, call: Any, *given: Any) -> str:
         """The text of a part that is there."""
         return self._read(call, *given) or ""
 
     def _list(self, count: Any, call: Any) -> Tuple[str, ...]:
-        with self._lock:
-            number = count(self._handle)
-        return tuple(self._part(call, at) for at in range(number))
-
-    def _with(self, other: "Locale", call: Any) -> Any:
-        """What a call answers of both."""
-        first, second = (self, other) if id(self) < id(other) else (other, self)
-        with first._lock, second._lock:
-            return call(self._handle, other._handle)
+        # No generator and no lambda: Python 3.12 and 3.13 end where they have no memory for what those share.
+        found = []
+        for at in range(self._ask(count)):
+            found.append(self._part(call, at))
+        return tuple(found)
 
     @property
     def language(self) -> str:
@@ -466,8 +597,12 @@ class Locale:
         >>> dict(Locale("en-b-bar-a-foo-baz-x-a").others)
         {'a': 'foo-baz', 'b': 'bar'}
         """
-        found = ((it, self._read(_library.icu_locale_get_other, ord(it))) for it in _SINGLETONS)
-        return types.MappingProxyType({it: text[2:] for it, text in found if text})
+        found = {}
+        for it in _SINGLETONS:
+            text = self._read(_library.icu_locale_get_other, ord(it))
+            if text:
+                found[it] = text[2:]
+        return types.MappingProxyType(found)
 
     @property
     def calendar_algorithm(self) -> Optional[str]:
@@ -521,8 +656,7 @@ class Locale:
         >>> Locale("und").is_und, Locale("und-US").is_und
         (True, False)
         """
-        with self._lock:
-            return bool(_library.icu_locale_is_und(self._handle))
+        return bool(self._ask(_library.icu_locale_is_und))
 
     def replace(
         self,
@@ -560,60 +694,30 @@ class Locale:
         Traceback (most recent call last):
         icu_locale_c.InvalidSubtag: Invalid subtag
         """
-        made = self._und()
-        with self._lock:
-            _raise(_library.icu_locale_copy(made._handle, self._handle))
-        made._set("language", language)
-        made._set("script", script)
-        made._set("region", region)
-        made._set("transform_language", transform_language)
-        made._set("private", private)
+        made = self._copied()
+        made.set("language", language)
+        made.set("script", script)
+        made.set("region", region)
+        made.set("transform_language", transform_language)
+        made.set("private", private)
         if variants is not _KEPT:
-            made._fill("clear_variants", "add_variant", variants)
+            made.fill("clear_variants", "add_variant", variants)
         if attributes is not _KEPT:
-            made._fill("clear_attributes", "add_attribute", attributes)
+            made.fill("clear_attributes", "add_attribute", attributes)
         if keywords is not _KEPT:
-            made._fill_pairs("clear_keywords", "set_keyword", keywords)
+            made.fill_pairs("clear_keywords", "set_keyword", keywords)
         if fields is not _KEPT:
-            made._fill_pairs("clear_fields", "set_field", fields)
+            made.fill_pairs("clear_fields", "set_field", fields)
         if others is not _KEPT:
-            made._fill_others(others)
-        if not _library.icu_locale_is_well_formed(made._handle):
+            made.fill_others(others)
+        if not _call(_library.icu_locale_is_well_formed, made):
             _raise(_INVALID_SUBTAG)
+        return self._of(made)
+
+    def _copied(self) -> "_Owned":
+        made = _Owned()
+        _raise(self._ask_second(_library.icu_locale_copy, made))
         return made
-
-    # These four change a locale that no one else has yet.
-
-    def _set(self, part: str, text: Optional[Text]) -> None:
-        if text is not _KEPT:
-            given = b"" if text is None else _bytes(text)
-            _raise(getattr(_library, f"icu_locale_set_{part}")(self._handle, given, len(given)))
-
-    def _fill(self, clear: str, add: str, texts: Iterable[Text]) -> None:
-        _raise(getattr(_library, f"icu_locale_{clear}")(self._handle))
-        for given in map(_bytes, _texts(texts)):
-            _raise(getattr(_library, f"icu_locale_{add}")(self._handle, given, len(given)))
-
-    def _fill_pairs(self, clear: str, put: str, pairs: Mapping[Any, Text]) -> None:
-        if not isinstance(pairs, Mapping):
-            raise TypeError(f"a mapping of keys to values is wanted, not {type(pairs).__name__}")
-        _raise(getattr(_library, f"icu_locale_{clear}")(self._handle))
-        for key, value in pairs.items():
-            at, text = _bytes(key), _bytes(value)
-            _raise(getattr(_library, f"icu_locale_{put}")(self._handle, at, len(at), text, len(text)))
-
-    def _fill_others(self, others: Mapping[Any, Text]) -> None:
-        if not isinstance(others, Mapping):
-            raise TypeError(f"a mapping of singletons to subtags is wanted, not {type(others).__name__}")
-        for it in _SINGLETONS:
-            status = _library.icu_locale_remove_other(self._handle, ord(it))
-            _raise(_DONE if status == _NOT_FOUND else status)
-        for key, subtags in others.items():
-            singleton, text = _bytes(key), _bytes(subtags)
-            if len(singleton) != 1:
-                _raise(_INVALID_EXTENSION)
-            given = singleton + b"-" + text
-            _raise(_library.icu_locale_set_other(self._handle, given, len(given)))
 
     def extend_unicode(self, other: "Locale") -> "Locale":
         """Returns a locale that also has the attributes and keywords of the other one, whose values win.
@@ -623,10 +727,9 @@ class Locale:
         """
         if not isinstance(other, Locale):
             raise TypeError(f"a Locale is wanted, not {type(other).__name__}")
-        made = self.replace()
-        with other._lock:
-            _raise(_library.icu_locale_extend_unicode(made._handle, other._handle))
-        return made
+        made = self._copied()
+        _raise(other._ask_second(_library.icu_locale_extend_unicode, made))
+        return self._of(made)
 
     def data_strict_cmp(self, other: Text, priority: Priority = Priority.LANGUAGE) -> int:
         """Returns the byte order of the text of the data locale against the other text as it stands: -1, 0 or 1.
@@ -635,8 +738,7 @@ class Locale:
         (0, 1)
         """
         given, order, number = _bytes(other), ctypes.c_int8(), _number(Priority, priority)
-        with self._lock:
-            _raise(_library.icu_locale_data_cmp_bytes(self._handle, number, given, len(given), ctypes.byref(order)))
+        _raise(self._ask(_library.icu_locale_data_cmp_bytes, number, given, len(given), ctypes.byref(order)))
         return order.value
 
     def data_compare(self, other: "Locale", priority: Priority = Priority.LANGUAGE) -> int:
@@ -649,7 +751,7 @@ class Locale:
             raise TypeError(f"a Locale is wanted, not {type(other).__name__}")
         order, number = ctypes.c_int8(), _number(Priority, priority)
         if self is not other:
-            _raise(self._with(other, lambda one, two: _library.icu_locale_data_cmp(one, two, number, ctypes.byref(order))))
+            _raise(self._ask_both(other, _library.icu_locale_data_cmp, number, ctypes.byref(order)))
         return order.value
 
     def strict_cmp(self, other: Text) -> int:
@@ -659,8 +761,7 @@ class Locale:
         (0, 1)
         """
         given = _bytes(other)
-        with self._lock:
-            return int(_library.icu_locale_cmp_bytes(self._handle, given, len(given)))
+        return int(self._ask(_library.icu_locale_cmp_bytes, given, len(given)))
 
     def normalizing_eq(self, other: Text) -> bool:
         """Returns whether the text means this locale.
@@ -669,17 +770,16 @@ class Locale:
         (True, False)
         """
         given, same = _bytes(other), ctypes.c_uint8()
-        with self._lock:
-            _raise(_library.icu_locale_eq_text(self._handle, given, len(given), ctypes.byref(same)))
+        _raise(self._ask(_library.icu_locale_eq_text, given, len(given), ctypes.byref(same)))
         return same.value == 1
 
     def __eq__(self, other: object) -> bool:
         if not isinstance(other, Locale):
             return NotImplemented
-        return self is other or bool(self._with(other, _library.icu_locale_eq))
+        return self is other or bool(self._ask_both(other, _library.icu_locale_eq))
 
     def _cmp(self, other: "Locale") -> int:
-        return 0 if self is other else int(self._with(other, _library.icu_locale_cmp))
+        return 0 if self is other else int(self._ask_both(other, _library.icu_locale_cmp))
 
     def __lt__(self, other: "Locale") -> bool:
         return self._cmp(other) < 0 if isinstance(other, Locale) else NotImplemented
@@ -694,8 +794,7 @@ class Locale:
         return self._cmp(other) >= 0 if isinstance(other, Locale) else NotImplemented
 
     def __hash__(self) -> int:
-        with self._lock:
-            return int(_library.icu_locale_hash(self._handle))
+        return int(self._ask(_library.icu_locale_hash))
 
     def __str__(self) -> str:
         return self._part(_library.icu_locale_to_string)
