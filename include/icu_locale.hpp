@@ -10,7 +10,10 @@
  *     std::cout << locale;                                                // "en-GB-u-ca-buddhist"
  *
  * Functions whose names begin with try_ throw nothing but std::bad_alloc. The others throw icu_locale::error for a
- * refused text. Out of memory is std::bad_alloc in both. What threw has changed nothing.
+ * refused text, and for a number that is no mode and no priority. Out of memory is std::bad_alloc in both. What threw
+ * has changed nothing.
+ *
+ * No call here looks whether the library was made for this header: is_of_this_version() alone tells. Ask it once.
  *
  * Functions on texts may be called from any number of threads. A locale is used by one thread at a time, also by calls
  * that only read: guard one that threads share by a lock, or give each thread a copy. */
@@ -65,7 +68,7 @@ inline std::string words(status told)
     return std::string(reinterpret_cast<const char *>(bytes), length);
 }
 
-/* A refused text. */
+/* A refused text, or a refused number. */
 class error : public std::invalid_argument {
 public:
     explicit error(icu_locale::status told) : std::invalid_argument(words(told)), told_(told) {}
@@ -406,9 +409,9 @@ public:
     int data_compare(const locale &other, priority by = priority::language) const
     {
         std::int8_t order = 0;
-        if (this != &other)
-            accept(detail::told(
-                icu_locale_data_cmp(&held_, &other.held_, static_cast<icu_locale_priority>(by), &order)));
+        if (this == &other)
+            return data_strict_cmp({}, by), 0;  // an unknown priority is refused here too
+        accept(detail::told(icu_locale_data_cmp(&held_, &other.held_, static_cast<icu_locale_priority>(by), &order)));
         return order;
     }
 
@@ -443,7 +446,7 @@ private:
         return text && !text->empty() ? std::move(text) : std::nullopt;
     }
 
-    /* What a call writes to a buffer: at once if it is short, as subtags are. */
+    /* What a call writes to a buffer: at once if it is short, as subtags are. Nothing if there is no such part. */
     template <class Call> std::optional<std::string> read(Call call) const
     {
         std::uint8_t small[64];
@@ -451,11 +454,13 @@ private:
         icu_locale_status told = call(&held_, small, sizeof small, &needed);
         if (told == ICU_LOCALE_DONE)
             return std::string(reinterpret_cast<const char *>(small), needed);
-        if (told != ICU_LOCALE_BUFFER_TOO_SMALL)
+        if (told == ICU_LOCALE_NOT_FOUND)
             return std::nullopt;
+        if (told != ICU_LOCALE_BUFFER_TOO_SMALL)
+            throw error(static_cast<icu_locale::status>(told));
         std::string text(needed, '\0');
-        told = call(&held_, reinterpret_cast<std::uint8_t *>(text.data()), text.size(), &needed);
-        return told == ICU_LOCALE_DONE ? std::optional<std::string>(std::move(text)) : std::nullopt;
+        accept(detail::told(call(&held_, reinterpret_cast<std::uint8_t *>(text.data()), text.size(), &needed)));
+        return text;
     }
 
     template <class Call> std::optional<std::string> read_at(Call call, std::size_t at) const
@@ -501,7 +506,7 @@ private:
     mutable icu_locale_t held_ = ICU_LOCALE_UND;  // calls that only read also take a pointer that is not const
 };
 
-/* Whether the library that is linked or loaded was made for this header. */
+/* Whether the library that is linked or loaded was made for this header. If it was not, no other call may be made. */
 inline bool is_of_this_version() noexcept
 {
     return icu_locale_version() == ICU_LOCALE_VERSION;

@@ -1,0 +1,82 @@
+/* What callers may do wrong with icu_locale.hpp, for tools/try_bindings. The last line is the number of cases; the first
+ * that is not as wanted ends the program. */
+#include "icu_locale.hpp"
+
+#include <cstdlib>
+#include <iostream>
+
+static unsigned long cases;
+
+#define WANT(it)                                                                  \
+    do {                                                                          \
+        cases++;                                                                  \
+        if (!(it)) {                                                              \
+            std::cerr << "misuses.cpp:" << __LINE__ << ": not so: " << #it << '\n'; \
+            std::exit(1);                                                         \
+        }                                                                         \
+    } while (0)
+
+using icu_locale::locale;
+using icu_locale::mode;
+using icu_locale::priority;
+using icu_locale::status;
+
+/* The status with which the call is refused, or done. */
+template <class Call> static status refusal(Call call)
+{
+    try {
+        call();
+    } catch (const icu_locale::error &refused) {
+        return refused.status();
+    }
+    return status::done;
+}
+
+/* Numbers that are no priority and no mode. */
+static void unknown_numbers()
+{
+    const locale one("en-GB-u-rg-uszzzz"), other("de");
+    for (icu_locale_priority number : {2u, 7u, 256u, 0xffffffffu}) {
+        const priority by = static_cast<priority>(number);
+        WANT(refusal([&] { (void)one.data_locale(by); }) == status::unknown_number);
+        WANT(refusal([&] { (void)locale().data_locale(by); }) == status::unknown_number);
+        WANT(refusal([&] { (void)one.data_strict_cmp("en-GB", by); }) == status::unknown_number);
+        WANT(refusal([&] { (void)one.data_compare(other, by); }) == status::unknown_number);
+        WANT(refusal([&] { (void)one.data_compare(one, by); }) == status::unknown_number);
+    }
+    for (icu_locale_mode number : {3u, 7u, 256u, 0xffffffffu}) {
+        const mode as = static_cast<mode>(number);
+        WANT(icu_locale::check("en", as) == status::unknown_number);
+        WANT(refusal([&] { (void)icu_locale::normalize("en", as); }) == status::unknown_number);
+        WANT(refusal([&] { (void)icu_locale::strict_cmp("en", "en", as); }) == status::unknown_number);
+        WANT(refusal([&] { (void)icu_locale::normalizing_eq("en", "en", as); }) == status::unknown_number);
+        WANT(refusal([&] { (void)icu_locale::compare("en", "en", as); }) == status::unknown_number);
+    }
+    WANT(icu_locale::words(static_cast<status>(9)) == "Unknown status");
+}
+
+/* One object in both places of a call. */
+static void itself()
+{
+    locale it("en-GB-u-foo-ca-roc-x-a-b-c-d-e");
+    const std::string text = it.to_string();
+    const locale &same = it;
+    WANT(it == same && !(it != same) && !(it < same) && it <= same && it >= same && it.compare(same) == 0);
+    WANT(it.data_compare(same) == 0 && it.data_compare(same, priority::region) == 0);
+    it = same;
+    WANT(it.to_string() == text);
+    it = std::move(const_cast<locale &>(same));
+    WANT(it.to_string() == text);
+    it.swap(const_cast<locale &>(same));
+    WANT(it.to_string() == text);
+    it.extend_unicode(same);
+    WANT(it.to_string() == text);
+    WANT(icu_locale::is_of_this_version());
+}
+
+int main()
+{
+    unknown_numbers();
+    itself();
+    std::cout << cases << '\n';
+}
