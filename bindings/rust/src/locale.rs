@@ -12,8 +12,12 @@ use std::{fmt, ptr};
 
 /// A locale, such as `en-US-u-ca-buddhist`, with parts to read and to change.
 ///
-/// The calls have the names of those of the crate `icu_locale_core`. Parsing returns that it is out of memory. The other
-/// calls then end as the collections of the standard library do, by `handle_alloc_error`.
+/// The calls have the names of those of the crate `icu_locale_core`. A call that returns a `Result` returns
+/// `Refusal::OutOfMemory` if it is out of memory: parsing, [`set_field`](Self::set_field),
+/// [`set_other`](Self::set_other), [`set_private_extension`](Self::set_private_extension) and
+/// [`set_transform_language`](Self::set_transform_language). Any other call that allocates, also
+/// [`normalizing_eq`](Self::normalizing_eq), then ends as the collections of the standard library do, by
+/// `handle_alloc_error`.
 ///
 /// A locale can go to another thread. Two threads cannot use one at the same time, not even to read: the library has a
 /// locale for itself while it reads.
@@ -142,7 +146,7 @@ impl Locale {
         unsafe { sys::icu_locale_cmp(self.handle(), other.handle()) }.cmp(&0)
     }
 
-    /// Whether the text means this locale.
+    /// Whether the text means this locale. Parsing the text can allocate.
     pub fn normalizing_eq(&self, other: &str) -> bool {
         self.normalizing_eq_utf8(other.as_bytes())
     }
@@ -313,7 +317,8 @@ impl Locale {
         self.read(call, str::to_owned)
     }
 
-    /// Sets the identifier of the extension `t`; an empty text removes it.
+    /// Sets the identifier of the extension `t`; an empty text removes it. Any other text than an identifier is refused
+    /// as by [`check`](crate::check) for one.
     pub fn set_transform_language(&mut self, text: &str) -> Result<(), Refusal> {
         self.try_set(sys::icu_locale_set_transform_language, text)
     }
@@ -342,7 +347,7 @@ impl Locale {
         self.read(call, str::to_owned)
     }
 
-    /// Sets the value of a field.
+    /// Sets the value of a field. A key that is none and a value that is none are an `InvalidExtension`.
     pub fn set_field(&mut self, key: &str, value: &str) -> Result<(), Refusal> {
         // SAFETY: the handle is used by this call alone, and pointers and lengths are those of slices.
         result(unsafe {
@@ -367,7 +372,8 @@ impl Locale {
         self.part(sys::icu_locale_get_private, str::to_owned)
     }
 
-    /// Sets the private extension, with its `x`; an empty text removes it.
+    /// Sets the private extension, with its `x`; an empty text removes it. Any other text than such an extension is an
+    /// `InvalidExtension`.
     pub fn set_private_extension(&mut self, text: &str) -> Result<(), Refusal> {
         self.try_set(sys::icu_locale_set_private, text)
     }
@@ -390,7 +396,8 @@ impl Locale {
         self.read(call, str::to_owned)
     }
 
-    /// Sets the extension that the text is, such as `a-foo`, and leaves those with another singleton.
+    /// Sets the extension that the text is, such as `a-foo`, and leaves those with another singleton. Any other text is
+    /// an `InvalidExtension`.
     pub fn set_other(&mut self, text: &str) -> Result<(), Refusal> {
         self.try_set(sys::icu_locale_set_other, text)
     }

@@ -3,6 +3,7 @@
 
 use crate::locale::Locale;
 use crate::{sys, Refusal};
+use std::cmp::Ordering;
 use std::fmt;
 use std::str::FromStr;
 
@@ -49,6 +50,16 @@ macro_rules! subtag {
             /// The normal form.
             pub fn as_str(&self) -> &str {
                 self.0.as_str()
+            }
+
+            /// The byte order of the normal form against other bytes, as they stand.
+            pub fn strict_cmp(self, other: &[u8]) -> Ordering {
+                self.as_str().as_bytes().cmp(other)
+            }
+
+            /// Whether the text is this subtag, in any case.
+            pub fn normalizing_eq(self, other: &str) -> bool {
+                self.as_str().eq_ignore_ascii_case(other)
             }
 
             /// The subtag whose normal form this is.
@@ -139,7 +150,19 @@ impl Default for Language {
 }
 
 /// The value of a keyword: subtags, such as `islamic-civil`, or none, which stands for `true`.
-#[derive(Clone, Default, PartialEq, Eq, PartialOrd, Ord, Hash)]
+///
+/// The order is that of the crate `icu_locale_core`: by subtags, but values of several come after all others.
+///
+/// ```
+/// use icu_locale_c::extensions::unicode::Value;
+///
+/// # fn main() -> Result<(), icu_locale_c::ParseError> {
+/// let (one, two): (Value, Value) = ("zzz".parse()?, "aaa-bbb".parse()?);
+/// assert!(one < two && one == "zzz" && two == "aaa-bbb");
+/// # Ok(())
+/// # }
+/// ```
+#[derive(Clone, Default, PartialEq, Eq, Hash)]
 pub struct Value(String);
 
 impl Value {
@@ -172,6 +195,26 @@ impl Value {
 
     pub(crate) fn of_normal(text: &str) -> Self {
         Value(text.to_owned())
+    }
+}
+
+impl Ord for Value {
+    fn cmp(&self, other: &Self) -> Ordering {
+        let by_number = (self.subtag_count() > 1).cmp(&(other.subtag_count() > 1));
+        by_number.then_with(|| self.0.split('-').cmp(other.0.split('-')))
+    }
+}
+
+impl PartialOrd for Value {
+    fn partial_cmp(&self, other: &Self) -> Option<Ordering> {
+        Some(self.cmp(other))
+    }
+}
+
+/// The normal form is compared with the text as it stands.
+impl PartialEq<&str> for Value {
+    fn eq(&self, other: &&str) -> bool {
+        self.0 == *other
     }
 }
 
