@@ -9,7 +9,7 @@
  * Every function of the library is proved to meet its contract, if its caller keeps what this page asks. The proofs
  * cover no caller. docs/DEFINITIONS.md says what a text means, and why another is refused. The library is for Linux on
  * any x86-64 processor. It is linked as libicu_locale.a or libicu_locale.so: `bindings/build` makes both, and
- * docs/BINDINGS.md shows more of a program.
+ * docs/BINDINGS.md shows more of a program. This header is C99, and C++98 or later.
  *
  * A text is a pointer to bytes and their number. The bytes need no encoding and no closing zero. If the number is 0,
  * the pointer may be null: the text is empty. The same holds of a buffer and its room. This is tested at each call, by
@@ -30,7 +30,9 @@
  *  - A buffer and an out-pointer may be uninitialized: their old bytes change no answer.
  *  - malloc, realloc and free of the program are of one allocator, throw nothing, and align each block as C promises (a
  *    block of at least 16 bytes to 16).
- *  - No call comes from a signal handler, or from a forked child of a process with several threads. */
+ *  - No call comes from a signal handler, or from a forked child of a process with several threads.
+ *  - A handle may be given twice to one call by this header, read by GCC or Clang: it is equal to itself, and stays as it
+ *    is if it becomes itself or is extended by itself. With another compiler or from another language it may not. */
 #ifndef ICU_LOCALE_H
 #define ICU_LOCALE_H
 
@@ -48,11 +50,26 @@
 #if defined(__GNUC__)
 #define ICU_LOCALE_WRITES(n) __attribute__((nonnull(n))) extern
 #define ICU_LOCALE_TELLS __attribute__((warn_unused_result))
-#define ICU_LOCALE_TAKES(...) __attribute__((nonnull(__VA_ARGS__))) extern
+#define ICU_LOCALE_TAKES(n) __attribute__((nonnull n)) extern
 #else
 #define ICU_LOCALE_WRITES(n) extern
 #define ICU_LOCALE_TELLS
-#define ICU_LOCALE_TAKES(...) extern
+#define ICU_LOCALE_TAKES(n) extern
+#endif
+/* Of a call that takes two handles: its definition is at the end of this header. */
+#if defined(__GNUC__) && defined(__cplusplus)
+#define ICU_LOCALE_TAKES_BOTH(n) extern "C++" __attribute__((nonnull n, nothrow)) inline
+#elif defined(__GNUC__)
+#define ICU_LOCALE_TAKES_BOTH(n) __attribute__((nonnull n, nothrow)) static __inline__
+#else
+#define ICU_LOCALE_TAKES_BOTH(n) extern
+#endif
+#if defined(__cplusplus) && __cplusplus >= 201103L
+#define ICU_LOCALE_INLINE noexcept
+#define ICU_LOCALE_NAMED(name) noexcept __asm__(name)
+#else
+#define ICU_LOCALE_INLINE
+#define ICU_LOCALE_NAMED(name) __asm__(name) ICU_LOCALE_NOEXCEPT
 #endif
 
 #ifdef __cplusplus
@@ -102,8 +119,8 @@ enum {
  *  - more than four subtags after x;
  *  - a field after t, or an extension other than t, u and x.
  *
- * icu_locale_normalizing_eq and icu_locale_compare can also allocate for the other text: they say when. Only a call that
- * allocates can end with OUT_OF_MEMORY. */
+ * For some of these a call needs no memory all the same. icu_locale_normalizing_eq and icu_locale_compare can also
+ * allocate for the other text: they say when. Only a call that allocates can end with OUT_OF_MEMORY. */
 
 /* Writes the normal form of the text to the front of the buffer, and its length to *needed.
  *
@@ -164,9 +181,8 @@ icu_locale_status icu_locale_words(icu_locale_status status, uint8_t *buffer, si
  *
  *  - Only the calls of this header write a handle, and only they read or write what it points to. It is not copied by
  *    = or memcpy: use icu_locale_copy. It may be moved to another place if the old one is no longer used.
- *  - During a call, also one that only reads, no other call uses its handles, in any thread. Two handles of one call
- *    are not the same handle. A handle may go to another thread if a lock, the start or end of a thread, or a
- *    sequentially consistent atomic orders that.
+ *  - During a call, also one that only reads, no other call uses its handles, in any thread. A handle may go to another
+ *    thread if a lock, the start or end of a thread, or a sequentially consistent atomic orders that.
  *  - The pointer of a handle is not null. A handle is aligned as C aligns icu_locale_t, and overlaps no other argument.
  *
  * A call that changes a handle ends in one of three ways. DONE: the locale has changed as the call says. A refusal:
@@ -180,48 +196,50 @@ typedef struct icu_locale_t {
 /* What a handle starts as: icu_locale_t locale = ICU_LOCALE_UND; */
 #define ICU_LOCALE_UND {NULL}
 
-/* The locale becomes what the text means. Statuses and memory are those of icu_locale_check for a locale. */
-ICU_LOCALE_TAKES(1) ICU_LOCALE_TELLS
+/* The locale becomes what the text means. Statuses are those of icu_locale_check for a locale. Allocates for each part
+ * that is listed under "Memory" above, where icu_locale_check may do without; and for a handle that is {0}, if the text
+ * means another locale than und. Of other texts none ends with OUT_OF_MEMORY. */
+ICU_LOCALE_TAKES((1)) ICU_LOCALE_TELLS
 icu_locale_status icu_locale_parse(icu_locale_t *locale, const uint8_t *text, size_t length) ICU_LOCALE_NOEXCEPT;
 
 /* The locale becomes that of the other handle. DONE or OUT_OF_MEMORY. */
-ICU_LOCALE_TAKES(1, 2) ICU_LOCALE_TELLS
+ICU_LOCALE_TAKES_BOTH((1, 2)) ICU_LOCALE_TELLS
 icu_locale_status icu_locale_copy(icu_locale_t *locale, icu_locale_t *from) ICU_LOCALE_NOEXCEPT;
 
 /* Frees what the handle owns. It is {0} then, and stands for und. */
-ICU_LOCALE_TAKES(1)
+ICU_LOCALE_TAKES((1))
 void icu_locale_free(icu_locale_t *locale) ICU_LOCALE_NOEXCEPT;
 
 /* Whether the locale is und, with no other part. */
-ICU_LOCALE_TAKES(1) ICU_LOCALE_TELLS
+ICU_LOCALE_TAKES((1)) ICU_LOCALE_TELLS
 bool icu_locale_is_und(icu_locale_t *locale) ICU_LOCALE_NOEXCEPT;
 
 /* Whether the text of the locale has this locale as its meaning. True for each locale that was parsed. False, for
  * example, once a keyword was set to a value with a subtag of two characters, which would be parsed as a key. */
-ICU_LOCALE_TAKES(1) ICU_LOCALE_TELLS
+ICU_LOCALE_TAKES((1)) ICU_LOCALE_TELLS
 bool icu_locale_is_well_formed(icu_locale_t *locale) ICU_LOCALE_NOEXCEPT;
 
 /* The order of two locales by their parts: -1, 0 or 1. It is total: 0 exactly if both are equal. */
-ICU_LOCALE_TAKES(1, 2) ICU_LOCALE_TELLS
+ICU_LOCALE_TAKES_BOTH((1, 2)) ICU_LOCALE_TELLS
 int8_t icu_locale_cmp(icu_locale_t *locale, icu_locale_t *other) ICU_LOCALE_NOEXCEPT;
 
 /* Whether two locales are equal. */
-ICU_LOCALE_TAKES(1, 2) ICU_LOCALE_TELLS
+ICU_LOCALE_TAKES_BOTH((1, 2)) ICU_LOCALE_TELLS
 bool icu_locale_eq(icu_locale_t *locale, icu_locale_t *other) ICU_LOCALE_NOEXCEPT;
 
 /* The byte order of the normal form of the locale against other bytes, which are not normalized: -1, 0 or 1. */
-ICU_LOCALE_TAKES(1) ICU_LOCALE_TELLS
+ICU_LOCALE_TAKES((1)) ICU_LOCALE_TELLS
 int8_t icu_locale_cmp_bytes(icu_locale_t *locale, const uint8_t *other, size_t length) ICU_LOCALE_NOEXCEPT;
 
 /* Writes 1 to *same if the text means this locale, and else 0. Ends with DONE, or with OUT_OF_MEMORY if parsing the
  * text runs out of memory: *same is then as before. */
-ICU_LOCALE_TAKES(1, 4) ICU_LOCALE_TELLS
+ICU_LOCALE_TAKES((1, 4)) ICU_LOCALE_TELLS
 icu_locale_status icu_locale_eq_text(icu_locale_t *locale, const uint8_t *text, size_t length, uint8_t *same)
     ICU_LOCALE_NOEXCEPT;
 
 /* A number of 64 bits: FNV-1a of the bytes of the normal form. Equal locales have equal numbers. It is no protection
  * against someone who chooses locales so that their numbers collide. */
-ICU_LOCALE_TAKES(1) ICU_LOCALE_TELLS
+ICU_LOCALE_TAKES((1)) ICU_LOCALE_TELLS
 uint64_t icu_locale_hash(icu_locale_t *locale) ICU_LOCALE_NOEXCEPT;
 
 /* Reading parts. Each call writes a text to the front of the buffer, and its length to *needed. None allocates, and
@@ -235,75 +253,75 @@ uint64_t icu_locale_hash(icu_locale_t *locale) ICU_LOCALE_NOEXCEPT;
  * 8 bytes long. */
 
 /* The normal form: en-Latn-US-u-ca-buddhist. */
-ICU_LOCALE_TAKES(1, 4) ICU_LOCALE_TELLS
+ICU_LOCALE_TAKES((1, 4)) ICU_LOCALE_TELLS
 icu_locale_status icu_locale_to_string(icu_locale_t *locale, uint8_t *buffer, size_t room, size_t *needed)
     ICU_LOCALE_NOEXCEPT;
 
 /* The identifier alone, without extensions: en-Latn-US. */
-ICU_LOCALE_TAKES(1, 4) ICU_LOCALE_TELLS
+ICU_LOCALE_TAKES((1, 4)) ICU_LOCALE_TELLS
 icu_locale_status icu_locale_get_base_name(icu_locale_t *locale, uint8_t *buffer, size_t room, size_t *needed)
     ICU_LOCALE_NOEXCEPT;
 
 /* Language, script and region: en, Latn, US. The language is und if it is unknown. */
-ICU_LOCALE_TAKES(1, 4) ICU_LOCALE_TELLS
+ICU_LOCALE_TAKES((1, 4)) ICU_LOCALE_TELLS
 icu_locale_status icu_locale_get_language(icu_locale_t *locale, uint8_t *buffer, size_t room, size_t *needed)
     ICU_LOCALE_NOEXCEPT;
-ICU_LOCALE_TAKES(1, 4) ICU_LOCALE_TELLS
+ICU_LOCALE_TAKES((1, 4)) ICU_LOCALE_TELLS
 icu_locale_status icu_locale_get_script(icu_locale_t *locale, uint8_t *buffer, size_t room, size_t *needed)
     ICU_LOCALE_NOEXCEPT;
-ICU_LOCALE_TAKES(1, 4) ICU_LOCALE_TELLS
+ICU_LOCALE_TAKES((1, 4)) ICU_LOCALE_TELLS
 icu_locale_status icu_locale_get_region(icu_locale_t *locale, uint8_t *buffer, size_t room, size_t *needed)
     ICU_LOCALE_NOEXCEPT;
 
 /* Sets the language, script or region to the subtag that is the text, in any case. An empty text clears it: a cleared
  * language is und. A text that is no such subtag is refused with INVALID_LANGUAGE or INVALID_SUBTAG. No allocation. */
-ICU_LOCALE_TAKES(1) ICU_LOCALE_TELLS
+ICU_LOCALE_TAKES((1)) ICU_LOCALE_TELLS
 icu_locale_status icu_locale_set_language(icu_locale_t *locale, const uint8_t *text, size_t length)
     ICU_LOCALE_NOEXCEPT;
-ICU_LOCALE_TAKES(1) ICU_LOCALE_TELLS
+ICU_LOCALE_TAKES((1)) ICU_LOCALE_TELLS
 icu_locale_status icu_locale_set_script(icu_locale_t *locale, const uint8_t *text, size_t length) ICU_LOCALE_NOEXCEPT;
-ICU_LOCALE_TAKES(1) ICU_LOCALE_TELLS
+ICU_LOCALE_TAKES((1)) ICU_LOCALE_TELLS
 icu_locale_status icu_locale_set_region(icu_locale_t *locale, const uint8_t *text, size_t length) ICU_LOCALE_NOEXCEPT;
 
 /* Variants, ascending: how many there are, the one at an index, and whether one is among them, in any case. Indices
  * begin with 0. At an index that is too large, the variant is NOT_FOUND. */
-ICU_LOCALE_TAKES(1) ICU_LOCALE_TELLS
+ICU_LOCALE_TAKES((1)) ICU_LOCALE_TELLS
 size_t icu_locale_variant_count(icu_locale_t *locale) ICU_LOCALE_NOEXCEPT;
-ICU_LOCALE_TAKES(1, 5) ICU_LOCALE_TELLS
+ICU_LOCALE_TAKES((1, 5)) ICU_LOCALE_TELLS
 icu_locale_status icu_locale_get_variant(icu_locale_t *locale, size_t index, uint8_t *buffer, size_t room,
     size_t *needed) ICU_LOCALE_NOEXCEPT;
-ICU_LOCALE_TAKES(1) ICU_LOCALE_TELLS
+ICU_LOCALE_TAKES((1)) ICU_LOCALE_TELLS
 bool icu_locale_has_variant(icu_locale_t *locale, const uint8_t *text, size_t length) ICU_LOCALE_NOEXCEPT;
 
 /* Adds a variant, in any case; one that is there already stays. A text that is no variant is refused with
  * INVALID_SUBTAG. Allocates only if there are four variants or more. */
-ICU_LOCALE_TAKES(1) ICU_LOCALE_TELLS
+ICU_LOCALE_TAKES((1)) ICU_LOCALE_TELLS
 icu_locale_status icu_locale_add_variant(icu_locale_t *locale, const uint8_t *text, size_t length)
     ICU_LOCALE_NOEXCEPT;
 
 /* Removes a variant, in any case; NOT_FOUND if it is not there. */
-ICU_LOCALE_TAKES(1) ICU_LOCALE_TELLS
+ICU_LOCALE_TAKES((1)) ICU_LOCALE_TELLS
 icu_locale_status icu_locale_remove_variant(icu_locale_t *locale, const uint8_t *text, size_t length)
     ICU_LOCALE_NOEXCEPT;
 
 /* Removes all variants. */
-ICU_LOCALE_TAKES(1) ICU_LOCALE_TELLS
+ICU_LOCALE_TAKES((1)) ICU_LOCALE_TELLS
 icu_locale_status icu_locale_clear_variants(icu_locale_t *locale) ICU_LOCALE_NOEXCEPT;
 
 /* Keywords of the extension u, by ascending key: how many there are, and the key and the value at an index, or
  * NOT_FOUND. The value of a key that stands alone, such as kn in en-u-kn, is an empty text. */
-ICU_LOCALE_TAKES(1) ICU_LOCALE_TELLS
+ICU_LOCALE_TAKES((1)) ICU_LOCALE_TELLS
 size_t icu_locale_keyword_count(icu_locale_t *locale) ICU_LOCALE_NOEXCEPT;
-ICU_LOCALE_TAKES(1, 5) ICU_LOCALE_TELLS
+ICU_LOCALE_TAKES((1, 5)) ICU_LOCALE_TELLS
 icu_locale_status icu_locale_get_keyword_key(icu_locale_t *locale, size_t index, uint8_t *buffer, size_t room,
     size_t *needed) ICU_LOCALE_NOEXCEPT;
-ICU_LOCALE_TAKES(1, 5) ICU_LOCALE_TELLS
+ICU_LOCALE_TAKES((1, 5)) ICU_LOCALE_TELLS
 icu_locale_status icu_locale_get_keyword_value(icu_locale_t *locale, size_t index, uint8_t *buffer, size_t room,
     size_t *needed) ICU_LOCALE_NOEXCEPT;
 
 /* The value of the keyword with this key, in any case: buddhist of ca in en-u-ca-buddhist. NOT_FOUND if there is none,
  * also if the bytes are no key. */
-ICU_LOCALE_TAKES(1, 6) ICU_LOCALE_TELLS
+ICU_LOCALE_TAKES((1, 6)) ICU_LOCALE_TELLS
 icu_locale_status icu_locale_get_keyword(icu_locale_t *locale, const uint8_t *key, size_t key_length,
     uint8_t *buffer, size_t room, size_t *needed) ICU_LOCALE_NOEXCEPT;
 
@@ -311,50 +329,50 @@ icu_locale_status icu_locale_get_keyword(icu_locale_t *locale, const uint8_t *ke
  * key is judged: bytes that are no key are refused with INVALID_EXTENSION. Then the value is judged: one with another
  * subtag than 2 to 8 letters or digits is refused with INVALID_SUBTAG. Allocates only if there is another keyword, or
  * if the value has more than four subtags. */
-ICU_LOCALE_TAKES(1) ICU_LOCALE_TELLS
+ICU_LOCALE_TAKES((1)) ICU_LOCALE_TELLS
 icu_locale_status icu_locale_set_keyword(icu_locale_t *locale, const uint8_t *key, size_t key_length,
     const uint8_t *value, size_t value_length) ICU_LOCALE_NOEXCEPT;
 
 /* Removes the keyword with this key; NOT_FOUND if it is not there. */
-ICU_LOCALE_TAKES(1) ICU_LOCALE_TELLS
+ICU_LOCALE_TAKES((1)) ICU_LOCALE_TELLS
 icu_locale_status icu_locale_remove_keyword(icu_locale_t *locale, const uint8_t *text, size_t length)
     ICU_LOCALE_NOEXCEPT;
 
 /* Removes all keywords. */
-ICU_LOCALE_TAKES(1) ICU_LOCALE_TELLS
+ICU_LOCALE_TAKES((1)) ICU_LOCALE_TELLS
 icu_locale_status icu_locale_clear_keywords(icu_locale_t *locale) ICU_LOCALE_NOEXCEPT;
 
 /* Extends the extension u by that of the other handle: it then has the attributes of both, and the keywords of both.
  * At a key of both, the other handle's value wins. The other handle stays as it is. DONE or OUT_OF_MEMORY. */
-ICU_LOCALE_TAKES(1, 2) ICU_LOCALE_TELLS
+ICU_LOCALE_TAKES_BOTH((1, 2)) ICU_LOCALE_TELLS
 icu_locale_status icu_locale_extend_unicode(icu_locale_t *locale, icu_locale_t *from) ICU_LOCALE_NOEXCEPT;
 
 /* Attributes of the extension u, such as foo in en-u-foo. They are read and changed as variants are. Each is 3 to 8
  * letters or digits. A text that is no attribute is refused with INVALID_EXTENSION. Adding or removing one allocates.
  */
-ICU_LOCALE_TAKES(1) ICU_LOCALE_TELLS
+ICU_LOCALE_TAKES((1)) ICU_LOCALE_TELLS
 size_t icu_locale_attribute_count(icu_locale_t *locale) ICU_LOCALE_NOEXCEPT;
-ICU_LOCALE_TAKES(1, 5) ICU_LOCALE_TELLS
+ICU_LOCALE_TAKES((1, 5)) ICU_LOCALE_TELLS
 icu_locale_status icu_locale_get_attribute(icu_locale_t *locale, size_t index, uint8_t *buffer, size_t room,
     size_t *needed) ICU_LOCALE_NOEXCEPT;
-ICU_LOCALE_TAKES(1) ICU_LOCALE_TELLS
+ICU_LOCALE_TAKES((1)) ICU_LOCALE_TELLS
 bool icu_locale_has_attribute(icu_locale_t *locale, const uint8_t *text, size_t length) ICU_LOCALE_NOEXCEPT;
-ICU_LOCALE_TAKES(1) ICU_LOCALE_TELLS
+ICU_LOCALE_TAKES((1)) ICU_LOCALE_TELLS
 icu_locale_status icu_locale_add_attribute(icu_locale_t *locale, const uint8_t *text, size_t length)
     ICU_LOCALE_NOEXCEPT;
-ICU_LOCALE_TAKES(1) ICU_LOCALE_TELLS
+ICU_LOCALE_TAKES((1)) ICU_LOCALE_TELLS
 icu_locale_status icu_locale_remove_attribute(icu_locale_t *locale, const uint8_t *text, size_t length)
     ICU_LOCALE_NOEXCEPT;
-ICU_LOCALE_TAKES(1) ICU_LOCALE_TELLS
+ICU_LOCALE_TAKES((1)) ICU_LOCALE_TELLS
 icu_locale_status icu_locale_clear_attributes(icu_locale_t *locale) ICU_LOCALE_NOEXCEPT;
 
 /* The identifier of the extension t, which begins with a language: de-latn of en-t-de-latn, written as de-Latn.
  * NOT_FOUND if there is none. Setting an empty text removes it. A text that is no identifier is refused as by
  * icu_locale_check for an identifier. Setting allocates only if there are more than four variants. */
-ICU_LOCALE_TAKES(1, 4) ICU_LOCALE_TELLS
+ICU_LOCALE_TAKES((1, 4)) ICU_LOCALE_TELLS
 icu_locale_status icu_locale_get_transform_language(icu_locale_t *locale, uint8_t *buffer, size_t room,
     size_t *needed) ICU_LOCALE_NOEXCEPT;
-ICU_LOCALE_TAKES(1) ICU_LOCALE_TELLS
+ICU_LOCALE_TAKES((1)) ICU_LOCALE_TELLS
 icu_locale_status icu_locale_set_transform_language(icu_locale_t *locale, const uint8_t *text, size_t length)
     ICU_LOCALE_NOEXCEPT;
 
@@ -362,45 +380,45 @@ icu_locale_status icu_locale_set_transform_language(icu_locale_t *locale, const 
  * are, but an empty value is written as true. A key is a letter and a digit. Bytes that are no key are refused with
  * INVALID_EXTENSION. So is a value that is empty or has another subtag than 3 to 8 letters or digits. Setting allocates
  * only if the field is not there, or if the value has more than four subtags. */
-ICU_LOCALE_TAKES(1) ICU_LOCALE_TELLS
+ICU_LOCALE_TAKES((1)) ICU_LOCALE_TELLS
 size_t icu_locale_field_count(icu_locale_t *locale) ICU_LOCALE_NOEXCEPT;
-ICU_LOCALE_TAKES(1, 5) ICU_LOCALE_TELLS
+ICU_LOCALE_TAKES((1, 5)) ICU_LOCALE_TELLS
 icu_locale_status icu_locale_get_field_key(icu_locale_t *locale, size_t index, uint8_t *buffer, size_t room,
     size_t *needed) ICU_LOCALE_NOEXCEPT;
-ICU_LOCALE_TAKES(1, 5) ICU_LOCALE_TELLS
+ICU_LOCALE_TAKES((1, 5)) ICU_LOCALE_TELLS
 icu_locale_status icu_locale_get_field_value(icu_locale_t *locale, size_t index, uint8_t *buffer, size_t room,
     size_t *needed) ICU_LOCALE_NOEXCEPT;
-ICU_LOCALE_TAKES(1, 6) ICU_LOCALE_TELLS
+ICU_LOCALE_TAKES((1, 6)) ICU_LOCALE_TELLS
 icu_locale_status icu_locale_get_field(icu_locale_t *locale, const uint8_t *key, size_t key_length,
     uint8_t *buffer, size_t room, size_t *needed) ICU_LOCALE_NOEXCEPT;
-ICU_LOCALE_TAKES(1) ICU_LOCALE_TELLS
+ICU_LOCALE_TAKES((1)) ICU_LOCALE_TELLS
 icu_locale_status icu_locale_set_field(icu_locale_t *locale, const uint8_t *key, size_t key_length,
     const uint8_t *value, size_t value_length) ICU_LOCALE_NOEXCEPT;
 
 /* Removes the field with this key, in any case; NOT_FOUND if it is not there, also if the bytes are no key. */
-ICU_LOCALE_TAKES(1) ICU_LOCALE_TELLS
+ICU_LOCALE_TAKES((1)) ICU_LOCALE_TELLS
 icu_locale_status icu_locale_remove_field(icu_locale_t *locale, const uint8_t *key, size_t key_length)
     ICU_LOCALE_NOEXCEPT;
 
 /* Removes all fields. */
-ICU_LOCALE_TAKES(1) ICU_LOCALE_TELLS
+ICU_LOCALE_TAKES((1)) ICU_LOCALE_TELLS
 icu_locale_status icu_locale_clear_fields(icu_locale_t *locale) ICU_LOCALE_NOEXCEPT;
 
 /* The private extension with its x: x-a-b of en-x-a-b. It is an empty text if there is none. Setting an empty text
  * removes it. Any other text than x and subtags of 1 to 8 letters or digits is refused with INVALID_EXTENSION. Setting
  * allocates only if there are more than four subtags. */
-ICU_LOCALE_TAKES(1, 4) ICU_LOCALE_TELLS
+ICU_LOCALE_TAKES((1, 4)) ICU_LOCALE_TELLS
 icu_locale_status icu_locale_get_private(icu_locale_t *locale, uint8_t *buffer, size_t room, size_t *needed)
     ICU_LOCALE_NOEXCEPT;
-ICU_LOCALE_TAKES(1) ICU_LOCALE_TELLS
+ICU_LOCALE_TAKES((1)) ICU_LOCALE_TELLS
 icu_locale_status icu_locale_set_private(icu_locale_t *locale, const uint8_t *text, size_t length)
     ICU_LOCALE_NOEXCEPT;
 
 /* Other extensions, such as a-foo-bar of en-a-foo-bar, by their singleton: a letter or digit other than t, u and x, in
  * either case. The calls tell whether there is one, and its text with the singleton, or NOT_FOUND. */
-ICU_LOCALE_TAKES(1) ICU_LOCALE_TELLS
+ICU_LOCALE_TAKES((1)) ICU_LOCALE_TELLS
 bool icu_locale_has_other(icu_locale_t *locale, uint8_t singleton) ICU_LOCALE_NOEXCEPT;
-ICU_LOCALE_TAKES(1, 5) ICU_LOCALE_TELLS
+ICU_LOCALE_TAKES((1, 5)) ICU_LOCALE_TELLS
 icu_locale_status icu_locale_get_other(icu_locale_t *locale, uint8_t singleton, uint8_t *buffer, size_t room,
     size_t *needed) ICU_LOCALE_NOEXCEPT;
 
@@ -408,11 +426,11 @@ icu_locale_status icu_locale_get_other(icu_locale_t *locale, uint8_t singleton, 
  * a-foo-bar. The text is parsed as within a locale: pieces of 2 to 8 bytes follow the singleton. Pieces with other
  * bytes than letters and digits are left out, and at least one piece must stay. Any other text is refused with
  * INVALID_EXTENSION, also one that is empty or has two extensions. Allocates. */
-ICU_LOCALE_TAKES(1) ICU_LOCALE_TELLS
+ICU_LOCALE_TAKES((1)) ICU_LOCALE_TELLS
 icu_locale_status icu_locale_set_other(icu_locale_t *locale, const uint8_t *text, size_t length) ICU_LOCALE_NOEXCEPT;
 
 /* Removes the extension of a singleton; NOT_FOUND if it is not there. */
-ICU_LOCALE_TAKES(1) ICU_LOCALE_TELLS
+ICU_LOCALE_TAKES((1)) ICU_LOCALE_TELLS
 icu_locale_status icu_locale_remove_other(icu_locale_t *locale, uint8_t singleton) ICU_LOCALE_NOEXCEPT;
 
 /* The data locale of a locale, by which data is looked up: language, script, region or subdivision, and the first
@@ -422,13 +440,13 @@ icu_locale_status icu_locale_remove_other(icu_locale_t *locale, uint8_t singleto
  * order of the text against other bytes, which are not normalized. icu_locale_data_cmp writes the order of the data
  * locales of two handles by their parts, which is 0 exactly if both are equal. A number that is no priority is refused
  * with UNKNOWN_NUMBER: *needed is then 0, and the buffer or *order is as before. None allocates. */
-ICU_LOCALE_TAKES(1, 5) ICU_LOCALE_TELLS
+ICU_LOCALE_TAKES((1, 5)) ICU_LOCALE_TELLS
 icu_locale_status icu_locale_get_data_locale(icu_locale_t *locale, icu_locale_priority priority, uint8_t *buffer,
     size_t room, size_t *needed) ICU_LOCALE_NOEXCEPT;
-ICU_LOCALE_TAKES(1, 5) ICU_LOCALE_TELLS
+ICU_LOCALE_TAKES((1, 5)) ICU_LOCALE_TELLS
 icu_locale_status icu_locale_data_cmp_bytes(icu_locale_t *locale, icu_locale_priority priority, const uint8_t *other,
     size_t length, int8_t *order) ICU_LOCALE_NOEXCEPT;
-ICU_LOCALE_TAKES(1, 2, 4) ICU_LOCALE_TELLS
+ICU_LOCALE_TAKES_BOTH((1, 2, 4)) ICU_LOCALE_TELLS
 icu_locale_status icu_locale_data_cmp(icu_locale_t *locale, icu_locale_t *other, icu_locale_priority priority,
     int8_t *order) ICU_LOCALE_NOEXCEPT;
 
@@ -436,18 +454,68 @@ icu_locale_status icu_locale_data_cmp(icu_locale_t *locale, icu_locale_t *other,
  * of nu. The text is that of the value which the keyword stands for: islamic-civil of ca-islamicc. ca takes a calendar
  * of UTS #35; hc takes h12, h23, h11, c12 or c24; nu takes one subtag. NOT_FOUND if the keyword is absent, or if its
  * value is none of these. */
-ICU_LOCALE_TAKES(1, 4) ICU_LOCALE_TELLS
+ICU_LOCALE_TAKES((1, 4)) ICU_LOCALE_TELLS
 icu_locale_status icu_locale_get_calendar_algorithm(icu_locale_t *locale, uint8_t *buffer, size_t room,
     size_t *needed) ICU_LOCALE_NOEXCEPT;
-ICU_LOCALE_TAKES(1, 4) ICU_LOCALE_TELLS
+ICU_LOCALE_TAKES((1, 4)) ICU_LOCALE_TELLS
 icu_locale_status icu_locale_get_hour_cycle(icu_locale_t *locale, uint8_t *buffer, size_t room, size_t *needed)
     ICU_LOCALE_NOEXCEPT;
-ICU_LOCALE_TAKES(1, 4) ICU_LOCALE_TELLS
+ICU_LOCALE_TAKES((1, 4)) ICU_LOCALE_TELLS
 icu_locale_status icu_locale_get_numbering_system(icu_locale_t *locale, uint8_t *buffer, size_t room,
     size_t *needed) ICU_LOCALE_NOEXCEPT;
 
 /* ICU_LOCALE_VERSION of the header that the library was made for. */
 extern uint32_t icu_locale_version(void) ICU_LOCALE_NOEXCEPT;
+
+#if defined(__GNUC__)
+/* The calls that take two handles, where both may be one. The library wants two. So these functions, which are not
+ * proved, answer for one handle, and else ask the function of the library that has the name after __asm__. */
+extern icu_locale_status icu_locale_two_copy(icu_locale_t *, icu_locale_t *) ICU_LOCALE_NAMED("icu_locale_copy");
+extern icu_locale_status icu_locale_two_extend(icu_locale_t *, icu_locale_t *)
+    ICU_LOCALE_NAMED("icu_locale_extend_unicode");
+extern int8_t icu_locale_two_cmp(icu_locale_t *, icu_locale_t *) ICU_LOCALE_NAMED("icu_locale_cmp");
+extern bool icu_locale_two_eq(icu_locale_t *, icu_locale_t *) ICU_LOCALE_NAMED("icu_locale_eq");
+extern icu_locale_status icu_locale_two_data_cmp(icu_locale_t *, icu_locale_t *, icu_locale_priority, int8_t *)
+    ICU_LOCALE_NAMED("icu_locale_data_cmp");
+
+ICU_LOCALE_TAKES_BOTH((1, 2))
+icu_locale_status icu_locale_copy(icu_locale_t *locale, icu_locale_t *from) ICU_LOCALE_INLINE
+{
+    return locale == from ? (icu_locale_status)ICU_LOCALE_DONE : icu_locale_two_copy(locale, from);
+}
+
+ICU_LOCALE_TAKES_BOTH((1, 2))
+icu_locale_status icu_locale_extend_unicode(icu_locale_t *locale, icu_locale_t *from) ICU_LOCALE_INLINE
+{
+    return locale == from ? (icu_locale_status)ICU_LOCALE_DONE : icu_locale_two_extend(locale, from);
+}
+
+ICU_LOCALE_TAKES_BOTH((1, 2))
+int8_t icu_locale_cmp(icu_locale_t *locale, icu_locale_t *other) ICU_LOCALE_INLINE
+{
+    return (int8_t)(locale == other ? 0 : icu_locale_two_cmp(locale, other));
+}
+
+ICU_LOCALE_TAKES_BOTH((1, 2))
+bool icu_locale_eq(icu_locale_t *locale, icu_locale_t *other) ICU_LOCALE_INLINE
+{
+    return locale == other || icu_locale_two_eq(locale, other);
+}
+
+/* (an unknown priority of one handle is refused by the library) */
+ICU_LOCALE_TAKES_BOTH((1, 2, 4))
+icu_locale_status icu_locale_data_cmp(icu_locale_t *locale, icu_locale_t *other, icu_locale_priority priority,
+    int8_t *order) ICU_LOCALE_INLINE
+{
+    icu_locale_status status;
+    if (locale != other)
+        return icu_locale_two_data_cmp(locale, other, priority, order);
+    status = icu_locale_data_cmp_bytes(locale, priority, NULL, 0, order);
+    if (status == ICU_LOCALE_DONE)
+        *order = 0;
+    return status;
+}
+#endif
 
 #ifdef __cplusplus
 }

@@ -11,12 +11,14 @@ import threading
 from icu_locale_c import Locale
 
 ROUNDS = 2000
-FIRST, SECOND = Locale("en-GB-aaaaa-bbbbb-ccccc-ddddd-eeeee-u-ca-roc-x-a-b-c-d-e-f"), Locale("de-u-co-phonebk")
+TEXT = "en-GB-aaaaa-bbbbb-ccccc-ddddd-eeeee-u-ca-roc-x-a-b-c-d-e-f"
+FIRST = Locale(TEXT).extend_unicode(Locale("und-u-ca-roc"))
+SECOND = Locale("de").replace(keywords={"co": "phonebk"})
 ANSWERS = []
 
 
 def compare():
-    ANSWERS.append(FIRST != SECOND and SECOND < FIRST and FIRST.normalizing_eq(str(FIRST)))
+    ANSWERS.append(FIRST != SECOND and SECOND < FIRST and FIRST.normalizing_eq(TEXT) and str(FIRST) == TEXT)
 
 
 def read_first():

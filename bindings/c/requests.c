@@ -1,0 +1,112 @@
+/* Counts what calls on a text ask of malloc, for tools/try_bindings: nothing where the header says so. It is linked with
+ * the library of tools/refusing.py.
+ *
+ * The last line is the number of cases; the first that is not as wanted ends the program. */
+#include "icu_locale.h"
+#include "refusing.h"
+
+#include <stdio.h>
+#include <stdlib.h>
+#include <string.h>
+
+static unsigned long cases;
+
+#define WANT(it)                                                                          \
+    do {                                                                                  \
+        cases++;                                                                          \
+        if (!(it)) {                                                                      \
+            fprintf(stderr, "requests.c:%d: %s: not so: %s\n", __LINE__, text, #it);      \
+            exit(1);                                                                      \
+        }                                                                                 \
+    } while (0)
+
+/* Texts of locales. `may_ask`: the header lists what it has among what a locale allocates for. */
+static const struct {
+    const char *text;
+    int may_ask;
+} TEXTS[] = {
+    {"und", 0},
+    {"en", 0},
+    {"EN-latn-us", 0},
+    {"en-US-posix", 0},
+    {"en-aaaaa-bbbbb-ccccc-ddddd", 0},
+    {"en-aaaaa-bbbbb-ccccc-ddddd-eeeee", 1},
+    {"en-u-foo", 0},
+    {"en-u-aaa-bbb-ccc-ddd", 0},
+    {"en-u-aaa-bbb-ccc-ddd-eee", 1},
+    {"en-u-kn", 0},
+    {"en-u-ca-buddhist", 0},
+    {"en-u-ca-foo-nu-bar", 1},
+    {"en-u-ca-aaa-bbb-ccc-ddd", 0},
+    {"en-u-ca-aaa-bbb-ccc-ddd-eee", 1},
+    {"en-u-aaa-bbb-ccc-ddd-ca-buddhist", 0},
+    {"en-t-de-latn-at", 0},
+    {"en-t-de-aaaaa-bbbbb-ccccc-ddddd", 0},
+    {"en-t-de-aaaaa-bbbbb-ccccc-ddddd-eeeee", 1},
+    {"en-t-m0-foo", 1},
+    {"en-a-foo", 1},
+    {"en-x-a-b-c-d", 0},
+    {"en-x-a-b-c-d-e", 1},
+    {"en-posix-t-de-u-foo-ca-roc-x-a", 0},
+    /* refused */
+    {"e", 0},
+    {"en-", 0},
+    {"en-u", 0},
+    {"en-posix-posix", 0},
+    {"en-u-ca-roc-x", 0},
+};
+
+static const uint8_t *text_bytes(const char *text)
+{
+    return (const uint8_t *)text;
+}
+
+/* Counts from here on. */
+static void begin(void)
+{
+    refusing_after(-1);
+}
+
+/* What a call on the text alone asks. */
+static icu_locale_status look_at_check(const char *text, int may_ask)
+{
+    begin();
+    icu_locale_status status = icu_locale_check(ICU_LOCALE_LOCALE, text_bytes(text), strlen(text));
+    WANT(may_ask || refusing_requests() == 0);
+    uint8_t buffer[128];
+    size_t needed;
+    begin();
+    WANT(icu_locale_normalize(ICU_LOCALE_LOCALE, text_bytes(text), strlen(text), buffer, sizeof buffer, &needed) == status);
+    WANT(may_ask || refusing_requests() == 0);
+    begin();
+    (void)!icu_locale_check(ICU_LOCALE_DATA_LOCALE, text_bytes(text), strlen(text));
+    WANT(refusing_requests() == 0);
+    return status;
+}
+
+/* What parsing it asks: of a handle that is und for the locale itself, and else only for what the header lists. */
+static void look_at_parse(const char *text, int may_ask, icu_locale_status status)
+{
+    icu_locale_t it = ICU_LOCALE_UND, other = ICU_LOCALE_UND;
+    begin();
+    WANT(icu_locale_parse(&it, text_bytes(text), strlen(text)) == status);
+    long first = refusing_requests(), holds = status == ICU_LOCALE_DONE && !icu_locale_is_und(&it);
+    WANT(may_ask ? first >= 2 : first == holds);
+    WANT(icu_locale_parse(&other, text_bytes("de"), 2) == ICU_LOCALE_DONE);
+    begin();
+    WANT(icu_locale_parse(&other, text_bytes(text), strlen(text)) == status);
+    WANT(may_ask ? refusing_requests() >= 1 : refusing_requests() == 0);
+    icu_locale_free(&it);
+    icu_locale_free(&other);
+    WANT(refusing_live() == 0);
+}
+
+int main(void)
+{
+    for (size_t at = 0; at < sizeof TEXTS / sizeof *TEXTS; at++) {
+        icu_locale_status status = look_at_check(TEXTS[at].text, TEXTS[at].may_ask);
+        look_at_parse(TEXTS[at].text, TEXTS[at].may_ask, status);
+    }
+    printf("%lu\n", cases);
+    return 0;
+}
