@@ -478,6 +478,17 @@ extern bool icu_locale_two_eq(icu_locale_t *, icu_locale_t *) ICU_LOCALE_NAMED("
 extern icu_locale_status icu_locale_two_data_cmp(icu_locale_t *, icu_locale_t *, icu_locale_priority, int8_t *)
     ICU_LOCALE_NAMED("icu_locale_data_cmp");
 
+#if !defined(__cplusplus)
+/* In C both would have one name in the object file. */
+static __inline__ icu_locale_status icu_locale_copy(icu_locale_t *, icu_locale_t *) __asm__("icu_locale_both_copy");
+static __inline__ icu_locale_status icu_locale_extend_unicode(icu_locale_t *, icu_locale_t *)
+    __asm__("icu_locale_both_extend");
+static __inline__ int8_t icu_locale_cmp(icu_locale_t *, icu_locale_t *) __asm__("icu_locale_both_cmp");
+static __inline__ bool icu_locale_eq(icu_locale_t *, icu_locale_t *) __asm__("icu_locale_both_eq");
+static __inline__ icu_locale_status icu_locale_data_cmp(icu_locale_t *, icu_locale_t *, icu_locale_priority, int8_t *)
+    __asm__("icu_locale_both_data_cmp");
+#endif
+
 ICU_LOCALE_TAKES_BOTH((1, 2))
 icu_locale_status icu_locale_copy(icu_locale_t *locale, icu_locale_t *from) ICU_LOCALE_INLINE
 {

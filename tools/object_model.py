@@ -260,10 +260,11 @@ class Script:
     """Random steps on locales, each with what is wanted of it. Where values must be readable, one whose text would be
     parsed as something else is refused."""
 
-    def __init__(self, seed, known, keeps_well_formed=False):
+    def __init__(self, seed, known, keeps_well_formed=False, normals=None):
+        """Of texts that are known as locales; `normals` has what some mean as identifiers (else those of the vectors)."""
         self.random, self.known, self.keeps = random.Random(seed), known, keeps_well_formed
         self.texts = [it for it in known if b"\t" not in it and b"\r" not in it]
-        normals = dict(zip(lines("texts.in"), (it.decode() for it in lines("langid.out"))))
+        normals = normals or dict(zip(lines("texts.in"), (it.decode() for it in lines("langid.out"))))
         self.identifiers = {it: normals[it] for it in self.texts if it in normals}
         self.some = [*sorted(self.identifiers)[::7], *[b""] * 40]
         self.slots = [Model() for _ in range(SLOTS)]
@@ -487,9 +488,9 @@ class Script:
         self.step(*pick(ways)())
 
 
-def script_wanted(seed, steps, known, keeps_well_formed=False):
+def script_wanted(seed, steps, known, keeps_well_formed=False, normals=None):
     """Steps, and what is wanted of each."""
-    made = Script(seed, known, keeps_well_formed)
+    made = Script(seed, known, keeps_well_formed, normals)
     for _ in range(steps):
         made.any_step()
     return made.steps, made.wanted

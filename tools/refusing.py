@@ -1,5 +1,6 @@
 """Makes the C library once more for tests: with bindings/c/refusing.c between it and malloc, so that its requests for
-memory can be refused; or as one that says that it is of another header.
+memory can be refused; with bindings/c/guarding.c there, so that no byte beside a block can be touched; or as one that says
+that it is of another header.
 
 The code of the library is the same: of libicu_locale.a only names are changed."""
 import os
@@ -38,6 +39,12 @@ def make_refusing(folder):
     """Makes the library whose requests a test can refuse (bindings/c/refusing.h)."""
     renamed = {it: f"refusing_{it}" for it in ("malloc", "realloc", "free")}
     return make_with(folder, TOP / "bindings" / "c" / "refusing.c", renamed)
+
+
+def make_guarding(folder):
+    """Makes the library whose blocks stand beside pages that end the program (bindings/c/guarding.h)."""
+    renamed = {it: f"guarding_{it}" for it in ("malloc", "realloc", "free")}
+    return make_with(folder, TOP / "bindings" / "c" / "guarding.c", renamed)
 
 
 def make_another(folder):

@@ -22,6 +22,15 @@ static const char *const TEXTS[] = {"und", "en", "en-Latn-US-posix", "de-u-foo-c
     "en-aaaaa-bbbbb-ccccc-ddddd-eeeee-a-foo-t-de-m0-abc-abcdefgh-u-aaa-bbb-ca-roc-rg-gbzzzz-x-a-b-c-d-e"};
 enum { COUNT = sizeof TEXTS / sizeof *TEXTS };
 
+/* The same functions, which a compiler cannot put in the place of their calls. */
+static struct {
+    bool (*volatile eq)(icu_locale_t *, icu_locale_t *);
+    int8_t (*volatile cmp)(icu_locale_t *, icu_locale_t *);
+    icu_locale_status (*volatile copy)(icu_locale_t *, icu_locale_t *);
+    icu_locale_status (*volatile extend)(icu_locale_t *, icu_locale_t *);
+    icu_locale_status (*volatile data_cmp)(icu_locale_t *, icu_locale_t *, icu_locale_priority, int8_t *);
+} BY_POINTER = {icu_locale_eq, icu_locale_cmp, icu_locale_copy, icu_locale_extend_unicode, icu_locale_data_cmp};
+
 static icu_locale_t parsed(const char *text)
 {
     icu_locale_t made = ICU_LOCALE_UND;
@@ -43,13 +52,16 @@ static void itself(const char *text)
     for (uint32_t by = ICU_LOCALE_BY_LANGUAGE; by <= ICU_LOCALE_BY_REGION; by++) {
         int8_t order = 9;
         WANT(icu_locale_data_cmp(&it, &it, by, &order) == ICU_LOCALE_DONE && order == 0);
+        order = 9;
+        WANT(BY_POINTER.data_cmp(&it, &it, by, &order) == ICU_LOCALE_DONE && order == 0);
     }
     for (uint32_t by = 2; by < 10; by++) {
         int8_t order = 9;
         WANT(icu_locale_data_cmp(&it, &it, by, &order) == ICU_LOCALE_UNKNOWN_NUMBER && order == 9);
     }
-    bool (*eq)(icu_locale_t *, icu_locale_t *) = icu_locale_eq;
-    WANT(icu_locale_eq(&it, &it) && eq(&it, &it));
+    WANT(icu_locale_eq(&it, &it) && BY_POINTER.eq(&it, &it));
+    WANT(BY_POINTER.cmp(&it, &it) == 0);
+    WANT(BY_POINTER.copy(&it, &it) == ICU_LOCALE_DONE && BY_POINTER.extend(&it, &it) == ICU_LOCALE_DONE);
     WANT(icu_locale_cmp(&it, &it) == 0);
     WANT(icu_locale_copy(&it, &it) == ICU_LOCALE_DONE);
     WANT(is_text(&it, text));
@@ -77,8 +89,27 @@ static void sorting(void)
         icu_locale_free(&all[at]);
 }
 
+/* Two handles, of the same locale and of another one. */
+static void two(const char *text, const char *other)
+{
+    icu_locale_t it = parsed(text), like = parsed(text), unlike = parsed(other), made = ICU_LOCALE_UND;
+    int8_t order = 9;
+    WANT(icu_locale_eq(&it, &like) && BY_POINTER.eq(&it, &like) && BY_POINTER.cmp(&it, &like) == 0);
+    WANT(!icu_locale_eq(&it, &unlike) && !BY_POINTER.eq(&it, &unlike));
+    WANT(icu_locale_cmp(&it, &unlike) == -icu_locale_cmp(&unlike, &it) && icu_locale_cmp(&it, &unlike) != 0);
+    WANT(BY_POINTER.cmp(&it, &unlike) == icu_locale_cmp(&it, &unlike));
+    WANT(BY_POINTER.data_cmp(&it, &like, ICU_LOCALE_BY_REGION, &order) == ICU_LOCALE_DONE && order == 0);
+    WANT(BY_POINTER.copy(&made, &it) == ICU_LOCALE_DONE && is_text(&made, text));
+    WANT(BY_POINTER.extend(&made, &it) == ICU_LOCALE_DONE && is_text(&made, text));
+    icu_locale_t *all[] = {&it, &like, &unlike, &made};
+    for (size_t at = 0; at < 4; at++)
+        icu_locale_free(all[at]);
+}
+
 int main(void)
 {
+    for (size_t at = 0; at < COUNT; at++)
+        two(TEXTS[at], TEXTS[(at + 1) % COUNT]);
     for (size_t at = 0; at < COUNT; at++)
         itself(TEXTS[at]);
     sorting();

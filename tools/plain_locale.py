@@ -1,0 +1,173 @@
+"""What a text means as a locale, by docs/DEFINITIONS.md, and random texts: for scripts of calls whose answers come from
+nothing that the library has.
+
+It is written from that page alone, as one function for each rule there. The texts of vectors/ are no part of it, and are
+answered alike (tools/try_bindings sees to that)."""
+import random
+import re
+
+LANGUAGE, SCRIPT, REGION = b"[A-Za-z]{2,3}|[A-Za-z]{5,8}", b"[A-Za-z]{4}", b"[A-Za-z]{2}|[0-9]{3}"
+VARIANT, SUBTAG = b"[A-Za-z0-9]{5,8}|[0-9][A-Za-z0-9]{3}", b"[A-Za-z0-9]{2,8}"
+KEY, FIELD, WORD, PRIVATE = b"[A-Za-z0-9][A-Za-z]", b"[A-Za-z][0-9]", b"[A-Za-z0-9]{3,8}", b"[A-Za-z0-9]{1,8}"
+
+
+class Refused(Exception):
+    """A fault, by its words."""
+
+
+BAD_LANGUAGE, BAD_SUBTAG, BAD_EXTENSION, TWICE = (
+    "The given language subtag is invalid", "Invalid subtag", "Invalid extension", "Duplicated extension",
+)
+
+
+def is_word(kind, piece):
+    return re.fullmatch(kind, piece) is not None
+
+
+def identifier(pieces, fault):
+    """Language, script, region and ascending variants of all these pieces; of a variant that stands twice InvalidSubtag,
+    and of any other breach this fault."""
+    language, rest, script, region = pieces[0].lower(), list(pieces[1:]), b"", b""
+    if not is_word(LANGUAGE, language):
+        raise Refused(BAD_LANGUAGE)
+    if rest and is_word(SCRIPT, rest[0]):
+        script = rest.pop(0).capitalize()
+    if rest and is_word(REGION, rest[0]):
+        region = rest.pop(0).upper()
+    variants = [it.lower() for it in rest]
+    taken = next((at for at, it in enumerate(variants) if not is_word(VARIANT, it)), len(variants))
+    if len({*variants[:taken]}) < taken:
+        raise Refused(BAD_SUBTAG)
+    if taken < len(variants):
+        raise Refused(fault)
+    return [it for it in (language, script, region, *sorted(variants)) if it]
+
+
+def fields(pieces, key, needs_value):
+    """The map of the pieces, which begin with a key: of equal keys the first stays, and `true` is no value."""
+    found, at = {}, 0
+    while at < len(pieces):
+        if not is_word(key, pieces[at]):
+            raise Refused(BAD_EXTENSION)
+        values = []
+        name, at = pieces[at].lower(), at + 1
+        while at < len(pieces) and is_word(WORD, pieces[at]):
+            values.append(pieces[at].lower())
+            at += 1
+        if needs_value and not values:
+            raise Refused(BAD_EXTENSION)
+        found.setdefault(name, [it for it in values if it != b"true"])
+    return found
+
+
+def unicode(pieces):
+    split = next((at for at, it in enumerate(pieces) if not is_word(WORD, it)), len(pieces))
+    attributes, keywords = {it.lower() for it in pieces[:split]}, fields(pieces[split:], KEY, False)
+    return [*sorted(attributes), *(it for key in sorted(keywords) for it in (key, *keywords[key]))]
+
+
+def transform(pieces):
+    split = next((at for at, it in enumerate(pieces) if is_word(FIELD, it)), len(pieces))
+    front = [it.lower() for it in identifier(pieces[:split], BAD_EXTENSION)] if split and is_word(LANGUAGE, pieces[0]) else []
+    if split and not front:
+        raise Refused(BAD_EXTENSION)
+    pairs = fields(pieces[split:], FIELD, True)
+    return [*front, *(it for key in sorted(pairs) for it in (key, *(pairs[key] or [b"true"])))]
+
+
+def private(pieces):
+    if not all(is_word(PRIVATE, it) for it in pieces):
+        raise Refused(BAD_EXTENSION)
+    return [it.lower() for it in pieces]
+
+
+def other(pieces):
+    kept = [it.lower() for it in pieces if is_word(SUBTAG, it)]
+    if not kept or not all(2 <= len(it) <= 8 for it in pieces):
+        raise Refused(BAD_EXTENSION)
+    return kept
+
+
+def blocks(pieces):
+    """The blocks of the pieces, each as its singleton and what it holds."""
+    at = 0
+    while at < len(pieces):
+        is_private = pieces[at].lower() == b"x"
+        end = len(pieces) if is_private else next((n for n in range(at + 1, len(pieces)) if len(pieces[n]) == 1), len(pieces))
+        yield pieces[at].lower(), pieces[at + 1 : end]
+        at = end
+
+
+def locale(text):
+    """The normal text, in bytes, or Refused."""
+    pieces = text.split(b"-")
+    head = next((at for at, it in enumerate(pieces) if len(it) == 1), len(pieces))
+    if not is_word(LANGUAGE, pieces[0]):
+        raise Refused(BAD_LANGUAGE)
+    base, found = identifier(pieces[:head], BAD_SUBTAG), {}
+    for singleton, held in blocks(pieces[head:]):
+        if singleton in found:
+            raise Refused(TWICE)
+        if not is_word(b"[a-z0-9]", singleton) or not held:
+            raise Refused(BAD_EXTENSION)
+        found[singleton] = {b"u": unicode, b"t": transform, b"x": private}.get(singleton, other)(held)
+    last = [b"x", *found.pop(b"x")] if b"x" in found else []
+    words = [*base, *(it for key in sorted(found) for it in (key, *found[key])), *last]
+    return b"-".join(words)
+
+
+def answered(text, is_identifier=False):
+    """The normal text of a locale or of an identifier, or `! ` and the words of the fault."""
+    try:
+        return (b"-".join(identifier(text.split(b"-"), BAD_SUBTAG)) if is_identifier else locale(text)).decode()
+    except Refused as fault:
+        return f"! {fault}"
+
+
+# What random texts are made of: words of each kind, some of each length, some in upper case.
+HEADS = [[b"en", b"EN", b"und", b"gsw", b"english", b"e", b"abcd"], [b"Latn", b"latn", b"CYRL"], [b"US", b"gb", b"419"]]
+VARIANTS = [b"posix", b"POSIX", b"1994", b"macos", b"valencia", b"fonipa", b"rozaj", b"biske", b"1abc"]
+ATTRIBUTES, KEYS = [b"foo", b"BAR", b"attr", b"zzz", b"aaa"], [b"ca", b"CA", b"nu", b"kn", b"hc", b"co", b"rg", b"sd", b"1c"]
+VALUES = [b"true", b"TRUE", b"buddhist", b"islamic", b"civil", b"islamicc", b"h12", b"latn", b"uszzzz", b"gbeng", b"false"]
+FIELDS, WORDS = [b"m0", b"M0", b"h0", b"k0", b"s0"], [b"foo", b"hybrid", b"true", b"din", b"12345678"]
+PRIVATES, SINGLES = [b"a", b"x", b"u", b"foo", b"12345678", b"ab"], [b"a", b"A", b"b", b"1", b"y", b"z", b"w", b"t", b"u"]
+SPOILS = [b"", b"!", b"!!", b"a8", b"x", b"toolongword", b"\xc3\xa9a", b"u", b"en", b"posix", b"true", b"abcd", b"_"]
+
+
+class Texts:
+    """Random texts: most of a locale, some of them spoiled at one place."""
+
+    def __init__(self, seed):
+        self.random = random.Random(seed)
+
+    def some(self, words, most=5):
+        return [self.random.choice(words) for _ in range(self.random.choice([0, 0, 1, 1, 2, 3, most]))]
+
+    def head(self):
+        language, *optional = HEADS
+        words = [self.random.choice(language[:5] if self.random.randrange(20) else language)]
+        words += [self.random.choice(it) for it in optional if self.random.randrange(2)]
+        return words + [*dict.fromkeys(self.some(VARIANTS))]
+
+    def block(self):
+        kind = self.random.choice([b"u", b"u", b"U", b"t", b"T", b"x", b"other", b"other"])
+        if kind in b"uU":
+            return [kind, *self.some(ATTRIBUTES), *(it for key in self.some(KEYS) for it in (key, *self.some(VALUES)))]
+        if kind in b"tT":
+            pairs = (it for key in self.some(FIELDS) for it in (key, self.random.choice(WORDS), *self.some(WORDS)))
+            return [kind, *(self.head() if self.random.randrange(2) else []), *pairs]
+        if kind == b"x":
+            return [kind, *self.some(PRIVATES, 6)]
+        return [self.random.choice(SINGLES), *self.some([*WORDS, b"ab", b"cd"])]
+
+    def one(self):
+        words = self.head()
+        for _ in range(self.random.choice([0, 0, 1, 1, 2, 3, 4])):
+            words += self.block()
+        if self.random.randrange(4) == 0:
+            at = self.random.randrange(len(words) + 1)
+            words[at : at + self.random.randrange(2)] = [self.random.choice(SPOILS)]
+        return b"-".join(words)
+
+    def many(self, number):
+        return [self.one() for _ in range(number)]
