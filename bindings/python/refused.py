@@ -119,7 +119,7 @@ def refusing(number, call, it):
         kind = MemoryError
     while not is_over:
         try:
-            was_refused |= PYTHON.refuse_request(0) == 1
+            was_refused = PYTHON.refuse_request(0) == 1 or was_refused
             is_over = True
         except (MemoryError, ctypes.ArgumentError):
             was_refused = True
