@@ -76,8 +76,8 @@
 extern "C" {
 #endif
 
-/* Changes whenever a declaration here changes. icu_locale_version() gives the number of the header that the library was
- * made for. */
+/* Changes whenever a function of the library changes its form. icu_locale_version() gives the number of the header that
+ * the library was made for. */
 #define ICU_LOCALE_VERSION 4
 
 /* How a text is parsed. Any other number is refused with ICU_LOCALE_UNKNOWN_NUMBER. */

@@ -327,8 +327,10 @@ def _free_waiting() -> None:
         return
     try:
         while _Waiting.first is not None:
-            _call(_library.icu_locale_free, _Waiting.first)
-            _Waiting.first = _Waiting.first.later
+            freed = _Waiting.first
+            _call(_library.icu_locale_free, freed)
+            if _Waiting.first is freed:  # else another one came meanwhile, and is next
+                _Waiting.first = freed.later
     finally:
         _Waiting.lock.release()
 
