@@ -9,9 +9,10 @@ from common import ROOT, without_suffix
 
 DECLARED = re.compile(
     r"^(?:\s*(?:abbrev |unfoldable )|\s*(?=pub record |pub data )|(?=pub ))"
-    r"pub (?:record |data )?([\w']+)"
+    r"pub (?:record |data )?([\w']+(?:-[\w']+)*)"
 )
-CASES = re.compile(r"^  (?:pub )?([\w'\s]+?) :", re.M)
+TYPE = re.compile(r"^( *)(?:abbrev |unfoldable )?pub (record|data) ([\w']+)")
+CASES = re.compile(r"(?:pub )?([\w']+(?: [\w']+)*) :(?= |$)")
 USED = re.compile(r"use Rattle\.((?:[\w']+\.)+)\{([^}]*)\}|use Rattle\.([\w.']+) as ([\w']+)")
 WORDS = "docs/DEFINITIONS.md"
 
@@ -23,11 +24,29 @@ class Block:
         self.text, self.name, self.number = text, name, number
 
     def names(self):
-        """Returns the names that the block declares: its own, and its cases or fields."""
-        found = [DECLARED.match(line).group(1) for line in self.text.split("\n") if DECLARED.match(line)]
-        for cases in CASES.findall(self.text):
-            found += [it for it in cases.split() if it != "pub"]
+        """Returns the names that the block declares, without the cases and fields of its types."""
+        found = [DECLARED.match(line) for line in self.text.split("\n")]
+        return list(dict.fromkeys(it.group(1) for it in found if it))
+
+    def members(self):
+        """Returns each case or field of a type that the block declares: the type, whether it is a record, the name."""
+        found, owner = [], None
+        for line in self.text.split("\n"):
+            depth = len(line) - len(line.lstrip())
+            if declared := TYPE.match(line):
+                owner = declared
+            elif owner and line.strip() and depth <= len(owner.group(1)):
+                owner = None
+            elif owner and depth == len(owner.group(1)) + 2 and (cases := CASES.match(line, depth)):
+                found += [(owner.group(3), owner.group(2) == "record", it) for it in cases.group(1).split()]
         return list(dict.fromkeys(found))
+
+    def anchors(self):
+        """Returns the places of the block on its page."""
+        return self.names() + [f"{owner}.{name}" for owner, _, name in self.members()]
+
+    def fields(self):
+        return {name for _, is_record, name in self.members() if is_record}
 
 
 class Definitions:
@@ -37,8 +56,22 @@ class Definitions:
         self.crate, self.module, self.path = crate, module, path
         self.text = read(path)
         self.blocks = list(blocks_of(self.text))
-        self.own = {name for block in self.blocks for name in block.names()}
+        self.cases = self.read_cases()
+        self.own = {**self.cases, **{name: name for block in self.blocks for name in block.names()}}
         self.used = names_used(self.text)
+
+    def read_cases(self):
+        """Returns the place of each case of a type, by its name, if only one type has it."""
+        cases = [it for block in self.blocks for it in block.members() if not it[1]]
+        named = [name for _, _, name in cases]
+        return {name: f"{owner}.{name}" for owner, _, name in cases if named.count(name) == 1}
+
+    def is_case(self, name):
+        """Returns whether a name in a pattern is a case, which the pattern does not bind."""
+        if name not in self.used:
+            return name in self.cases
+        crate, module, made = self.used[name]
+        return (crate, module) not in files() or made in files()[crate, module].cases
 
     def page(self):
         return f"spec.{self.crate}.{self.module}.html"
@@ -92,7 +125,7 @@ def address(crate, module, name):
     if not name:
         return it.page()
     if name in it.own:
-        return f"{it.page()}#{name}"
+        return f"{it.page()}#{it.own[name]}"
     return address(*it.used[name]) if name in it.used and it.used[name][:2] != (crate, module) else ""
 
 
@@ -100,7 +133,7 @@ def within(definitions, token):
     """Returns the address of a name in a file of definitions."""
     first, _, rest = token.partition(".")
     if first in definitions.own and not rest:
-        return f"#{first}"
+        return f"#{definitions.own[first]}"
     if first in definitions.used:
         crate, module, name = definitions.used[first]
         return address(crate, module, name or rest.split(".")[0])

@@ -1,7 +1,6 @@
 """The public items as HTML: a page for each module and for each file of definitions, with search.
 
 The pages need no network. What a clause cites is linked to its definition."""
-import html
 import json
 import os
 import re
@@ -9,17 +8,19 @@ import shutil
 
 import api_definitions
 import api_markup
+import api_search
+from api_bound import TOKEN, bound_in, bound_in_block, of_function, of_module
 from api_definitions import files, slug, told, within
 from api_examples import examples, remark, tried
 from api_markdown import LAWS, json_types, trait_homes
-from api_markup import code, dim, esc, items, leads, marked, tag
+from api_markup import code, dim, esc, items, leads, marked, source, tag
 from api_model import model
+from api_names import Sources, call_at, entry_at, field_id, module_file, short, shown_entries
 from api_source import CORE, USED, place, read
 from common import ROOT, without_prefix, without_suffix
 
 BESIDE = os.path.dirname(os.path.realpath(__file__))
 SIGNS = re.compile(r"[λ→×≡↔≢≤⊎¬∷⊥⊤∥]|\+\+")
-TOKEN = re.compile(r"[A-Za-z_][\w']*(?:\.[A-Za-z_][\w']*)*")
 PAGE = """<!doctype html>
 <html lang="en"><head><meta charset="utf-8">
 <meta name="viewport" content="width=device-width, initial-scale=1">
@@ -37,26 +38,6 @@ FOREWORD = """<h1>icu_locale_core in Rattle</h1>
 <p>Parse, change, compare and print Unicode locale identifiers. Each call is shown with its contract,
 which is proved. Each name in a contract leads to its definition.</p>
 <p>Press <code>/</code> to search. The arrow keys choose, Enter opens, Escape closes.</p>"""
-
-
-def module_file(path):
-    """Returns the page of a module."""
-    return f"module.{short(path) or CORE}.html".replace("::", ".")
-
-
-def short(path):
-    return without_prefix(without_prefix(path, CORE), "::")
-
-
-def entry_at(path):
-    """Returns the address of an entry."""
-    module, _, name = path.rpartition("::")
-    return f"{module_file(module)}#{name}"
-
-
-def shown_entries():
-    """Returns the entries that are described, and not only named."""
-    return [it for module in model() for it in module.entries if not it.see]
 
 
 def of_type(crate, name):
@@ -101,12 +82,14 @@ class Meanings:
         return api_definitions.address(crate, module, name or rest.split(".")[0])
 
 
-def coloured(text, address):
-    """Returns a fact or a definition with its names linked and its signs marked."""
+def coloured(text, address, bound=(), start=0):
+    """Returns a fact or a line of a definition with its signs marked, and its names linked but for those that are
+    bound, by their places. The line begins at `start`."""
     out, at = [], 0
     for found in TOKEN.finditer(text):
+        is_bound = start + found.start() in bound
         out.append(signs(text[at : found.start()]))
-        out.append(leads(address(found.group(0)), esc(found.group(0))))
+        out.append(leads("" if is_bound else address(found.group(0)), esc(found.group(0))))
         at = found.end()
     return "".join(out + [signs(text[at:])])
 
@@ -116,7 +99,9 @@ def signs(text):
 
 
 def clause_html(clause, item):
-    fact = coloured(clause.fact, lambda token: Meanings.of(item.path).address(token, item.number))
+    meanings = Meanings.of(item.path)
+    bound = bound_in(clause.fact, of_function(item.signature))
+    fact = coloured(clause.fact, lambda token: meanings.address(token, item.number), bound)
     label = " " + tag("b", clause.label, kind="l") if clause.label else ""
     return f"{tag('b', clause.kind, kind='k')}{label} {{ {fact} }}"
 
@@ -126,7 +111,7 @@ def contract_html(item):
     if not item.clauses:
         return ""
     lines = "\n".join(clause_html(it, item) for it in item.clauses)
-    head = tag("summary", f"Contract ({esc(item.path)}:{item.number})")
+    head = tag("summary", f"Contract ({source(item.path, item.number)})")
     return tag("details", head + tag("pre", lines), open="")
 
 
@@ -134,7 +119,7 @@ def tried_html(path):
     """Returns rows that the gate runs of a reader."""
     rows = []
     for file, number, given, answer in tried(short(path)):
-        where = tag("span", f"{file}:{number}", kind="rust")
+        where = tag("span", source(file, number), kind="rust")
         rows.append(f"{code(given)} is answered {code(answer)} {where}")
     return items(rows) + marked(remark(short(path))) if rows else ""
 
@@ -145,16 +130,16 @@ def example_html(call):
     if not found:
         return ""
     path, number, line = found
-    return f"{code(line)} {tag('span', f'{path}:{number}', kind='rust')}"
+    return f"{code(line)} {tag('span', source(path, number), kind='rust')}"
 
 
 def facts_html(call, module):
     """Returns what a call needs, refuses and takes, with examples and its name in Rust."""
-    refusals = [f"{code(name)} if {marked(when)}." for name, when in call.refuses]
-    rows = [("Needs", marked(it)) for it in call.needs]
+    refusals = [f"{marked(f'`{name}`', module)} if {marked(when, module)}." for name, when in call.refuses]
+    rows = [("Needs", marked(it, module)) for it in call.needs]
     rows += [
         ("Refuses", items(refusals)),
-        ("Memory", marked(call.memory)),
+        ("Memory", marked(call.memory, module)),
         ("Tried", tried_html(f"{module}::{call.title}")),
         ("Example", example_html(call)),
         ("In Rust", code(call.rust) if call.rust else ""),
@@ -162,8 +147,8 @@ def facts_html(call, module):
     return tag("dl", "".join(tag("dt", head) + tag("dd", said) for head, said in rows if said))
 
 
-def paragraphs(sentence, details):
-    return "".join(tag("p", marked(it)) for it in [sentence, *details] if it)
+def paragraphs(sentence, details, module):
+    return "".join(tag("p", marked(it, module)) for it in [sentence, *details] if it)
 
 
 def heading(level, anchor, inner):
@@ -189,7 +174,7 @@ def call_html(call, module, level="h3"):
     rows = [
         heading(level, anchor, code(call.title)),
         tag("pre", signature_html(call.signature, module)),
-        paragraphs(call.sentence, call.details),
+        paragraphs(call.sentence, call.details, module),
         facts_html(call, module),
         contract_html(call.item),
     ]
@@ -206,7 +191,7 @@ def given_html(entry):
     homes, rows = trait_homes(), []
     for it in entry.given:
         link = leads(entry_at(homes[it.trait]) if it.trait in homes else "", code(it.trait))
-        rows.append(link + (f": {marked(it.said)}" if it.said else ""))
+        rows.append(link + (f": {marked(it.said, entry.module)}" if it.said else ""))
     return folded(f"Traits ({len(rows)})", rows)
 
 
@@ -215,20 +200,33 @@ def ghosts_html(entry):
     inner = entry.item.inner() if entry.kind == "trait" else []
     first = [(it, " ".join(" ".join(it.lines).split())) for it in inner]
     ghosts = [(it, text) for it, text in first if re.match(r"ghost (?!use)", text)]
-    return folded("What contracts say of it", [f"{code(text)} {marked(it.sentence())}" for it, text in ghosts])
+    said = [f"{code(text)} {marked(it.sentence(), entry.module)}" for it, text in ghosts]
+    return folded("What contracts say of it", said)
+
+
+def base_of(entry):
+    """Returns the generic type that an alias names."""
+    return next((it for it in shown_entries() if it.name == entry.base), None) if entry.base else None
 
 
 def base_html(entry):
-    """Returns the generic type that an alias names."""
-    if not entry.base:
-        return ""
-    home = next(it for it in shown_entries() if it.name == entry.base)
-    return tag("p", f"It is a {leads(entry_at(home.path), code(entry.base))}, and has its calls and traits.")
+    """Returns the generic type that an alias names, with a link."""
+    home = base_of(entry)
+    return tag("p", f"It is a {leads(entry_at(home.path), code(home.name))}, and has its traits.") if home else ""
 
 
-def field_html(text, said, module):
+def calls_html(entry):
+    """Returns the names of a type's calls, and of those of the generic type that it names."""
+    home = base_of(entry)
+    calls = [(it, entry.module) for it in entry.calls] + [(it, home.module) for it in (home.calls if home else [])]
+    names = [leads(call_at(it, module), code(it.name)) for it, module in calls]
+    return tag("p", f"Calls: {', '.join(names)}.", kind="names") if names else ""
+
+
+def field_html(entry, text, said):
     """Returns a field or a variant, with what is said of it."""
-    return tag("code", signature_html(text, module)) + (f" {marked(said)}" if said else "")
+    declared = tag("code", signature_html(text, entry.module))
+    return tag("span", declared, id=field_id(entry, text)) + (f" {marked(said, entry.module)}" if said else "")
 
 
 def entry_html(entry):
@@ -240,21 +238,26 @@ def entry_html(entry):
     head += tag("pre", signature_html(without_prefix(entry.signature, "pub "), entry.module))
     if entry.see:
         return head + tag("p", f"Described at {leads(entry_at(entry.see), code(entry.see))}.")
+    return "\n".join([head, *about_type(entry)] + [call_html(it, entry.module) for it in entry.calls])
+
+
+def about_type(entry):
+    """Returns what is said of a type before its calls: their names first."""
     has = [leads(entry_at(it), code(short(it))) for it in json_types()] if entry.name == "JsonText" else []
-    tries = tried_html(entry.path)
-    rows = [
-        head,
-        paragraphs(entry.sentence, entry.details),
+    tries, refusal = tried_html(entry.path), marked(f"`{entry.refusal}`", entry.module)
+    return [
+        tag("p", marked(entry.sentence, entry.module)),
+        calls_html(entry),
+        items([field_html(entry, text, said) for text, said in entry.fields]),
+        paragraphs("", entry.details, entry.module),
         tag("p", "Tried:") + tries if tries else "",
-        tag("p", f"Its refusal is {code(entry.refusal)}.") if entry.refusal else "",
+        tag("p", f"Its refusal is {refusal}.") if entry.refusal else "",
         base_html(entry),
         dim(f"In Rust: {code(entry.rust)}" if entry.rust else "The Rust crate has no such item."),
-        items([field_html(text, said, entry.module) for text, said in entry.fields]),
         tag("p", f"Types that have it: {', '.join(has)}.") if has else "",
         ghosts_html(entry),
         given_html(entry),
     ]
-    return "\n".join(rows + [call_html(it, entry.module) for it in entry.calls])
 
 
 def module_html(module):
@@ -262,19 +265,22 @@ def module_html(module):
     items = [it for it in module.entries if not it.is_law]
     names = ", ".join(leads(f"#{it.name}", code(it.name)) for it in items)
     names = "; ".join(filter(None, [names, leads("#laws", "laws") if laws else ""]))
-    head = tag("h1", code(module.path)) + tag("p", marked(module.comment)) + tag("p", names, kind="names")
+    head = tag("h1", code(module.path)) + tag("p", marked(module.comment, module.path)) + tag("p", names, kind="names")
     told = [tag("h1", "Laws", id="laws") + tag("p", LAWS)] if laws else []
     return head + "\n".join([entry_html(it) for it in items] + told + [entry_html(it) for it in laws])
 
 
 def block_html(block, definitions):
     """Returns a definition, its names linked, with the part of the page that tells it in words."""
-    lines = []
+    names = of_module(definitions.text) | block.fields()
+    bound = bound_in_block(block.text, names, definitions.own, definitions.is_case)
+    lines, start = [], 0
     for line in block.text.split("\n"):
         text, dash, said = line.partition("--")
-        linked = coloured(text, lambda token: within(definitions, token))
+        linked = coloured(text, lambda token: within(definitions, token), bound, start)
         lines.append(linked + (tag("span", f"--{marked(said)}", kind="c") if dash else ""))
-    anchors = "".join(tag("span", "", id=name) for name in block.names())
+        start += len(line) + 1
+    anchors = "".join(tag("span", "", id=name) for name in block.anchors())
     title = told().get(block.name)
     words = dim(f"In words: {leads(f'definitions.html#{slug(title)}', esc(title))}") if title else ""
     return anchors + tag("pre", "\n".join(lines)) + words
@@ -292,7 +298,7 @@ def index_html():
     for module in model():
         items = [it for it in module.entries if not it.is_law]
         names = ", ".join(leads(entry_at(it.see or it.path), code(it.name)) for it in items)
-        said = f"{marked(module.comment)} {names}"
+        said = f"{marked(module.comment, module.path)} {names}"
         name = tag("code", esc(module.short).replace("::", "<wbr>::"))
         rows.append(tag("td", leads(module_file(module.path), name)) + tag("td", said))
     specs = [leads(it.page(), f"{it.crate}: {it.module}") for it in files().values()]
@@ -301,19 +307,15 @@ def index_html():
     return FOREWORD + tag("table", "".join(tag("tr", it) for it in rows)) + below
 
 
-def search_items():
-    """Returns what search finds: title, address and what is said."""
-    found = []
-    for entry in shown_entries():
-        home = short(entry.module)
-        found.append([f"{home}::{entry.name}", entry_at(entry.path), entry.sentence])
-        for call in entry.calls if entry.kind != "fn" else []:
-            at = f"{module_file(entry.module)}#{call.title.replace('::', '.')}"
-            found.append([f"{home}::{call.title}", at, call.sentence])
-    for it in files().values():
-        for name in [block.name for block in it.blocks if block.name]:
-            found.append([f"{name} (definition)", f"{it.page()}#{name}", f"{it.crate}: {it.module}"])
-    return [[title, at, said.replace("`", "")] for title, at, said in found]
+def source_html(path):
+    """Returns the lines of a file that other pages name."""
+    lines, before = [], 0
+    for number, line in Sources.shown(path):
+        lines += [tag("span", "     ..", kind="c")] if number != before + 1 else []
+        said = tag("span", f"{number:5}", kind="c") + f" {esc(line)}"
+        lines.append(tag("span", said, id=f"L{number}") if number in Sources.cited[path] else said)
+        before = number
+    return tag("h1", code(path)) + tag("pre", "\n".join(lines), kind="source")
 
 
 def pages():
@@ -324,6 +326,8 @@ def pages():
         made[module_file(module.path)] = (module.path, module_html(module))
     for it in files().values():
         made[it.page()] = (f"{it.crate}: {it.module}", definitions_html(it))
+    for path in sorted(Sources.cited):
+        made[Sources.page(path)] = (path, source_html(path))
     return made
 
 
@@ -332,7 +336,7 @@ def write(folder):
     os.makedirs(folder, exist_ok=True)
     for name, (title, body) in pages().items():
         put(f"{folder}/{name}", PAGE.format(title=esc(title), body=body))
-    found = json.dumps(search_items(), ensure_ascii=False, separators=(",", ":"))
+    found = json.dumps(api_search.items(), ensure_ascii=False, separators=(",", ":"))
     with open(f"{BESIDE}/api_page.js", encoding="utf-8") as it:
         put(f"{folder}/search.js", f"var ITEMS = {found};\n{it.read()}")
     shutil.copyfile(f"{BESIDE}/api_page.css", f"{folder}/page.css")
@@ -343,30 +347,3 @@ def write(folder):
 def put(path, text):
     with open(path, "w", encoding="utf-8") as it:
         it.write(text)
-
-
-def links_of(folder):
-    """Returns the places of each page, and each link with the page that has it."""
-    places, links = {}, [("search.js", at) for _, at, _ in search_items()]
-    for name in sorted(os.listdir(folder)):
-        if name.endswith(".html"):
-            with open(f"{folder}/{name}", encoding="utf-8") as it:
-                text = it.read()
-            places[name] = set(re.findall(r'\bid="([^"]*)"', text))
-            links += [(name, html.unescape(it)) for it in re.findall(r'\b(?:href|src)="([^"]*)"', text)]
-    return places, dict.fromkeys(links)
-
-
-def broken_links(folder):
-    """Returns each link of the pages that leads nowhere, or to the network."""
-    places, links = links_of(folder)
-    faults = []
-    for name, target in links:
-        page, _, anchor = target.partition("#")
-        if target.startswith("http"):
-            faults.append(f"{name}: {target} leads to the network")
-        elif not os.path.isfile(f"{folder}/{page or name}"):
-            faults.append(f"{name}: no page {page}")
-        elif anchor and anchor not in places.get(page or name, ()):
-            faults.append(f"{name}: no place {anchor} in {page or name}")
-    return faults

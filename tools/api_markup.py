@@ -5,12 +5,14 @@ import re
 
 import api_definitions
 from api_definitions import files, slug
+from api_names import Sources, is_line, public
 
 PARTS = re.compile(r"(`[^`]+`|!?\[[^\]]*\]\([^)]*\))")
 LINK = re.compile(r"(!?)\[([^\]]*)\]\(([^)]*)\)$")
 OF_SPECS = re.compile(r"\.\./crates/(\w+)/specs(?:/(\w+)\.antt)?$")
 BOLD, SLANTED = re.compile(r"\*\*(.+?)\*\*"), re.compile(r"(?<!\*)\*([^* ][^*]*)\*(?!\*)")
 CELLS, RULE = re.compile(r"(?<!\\)\|"), re.compile(r"\|[-| :]+\|?$")
+PLACE = re.compile(r"(?<![\w/])(crates/[\w./-]+\.(?:rt|antt)|crates/\w+/std\w+)(?::([0-9]+))?")
 BULLET = re.compile(r"^([-*]|[0-9]+[.]) ")
 
 
@@ -45,19 +47,32 @@ def dim(inner):
     return tag("p", inner, kind="rust")
 
 
-def marked(text):
-    """Returns text with its inline code and links as HTML."""
-    return "".join(inline(it) for it in PARTS.split(text))
+def marked(text, module=""):
+    """Returns text with its inline code and links as HTML. A name leads to the public item, which is sought first
+    in this module, or to the definition; a line of a file leads to it."""
+    return "".join(inline(it, module) for it in PARTS.split(text))
 
 
-def inline(part):
+def inline(part, module):
     if part.startswith("`"):
         name = part.strip("`")
         is_name = re.search(r"[A-Z_]", name)
-        return leads(api_definitions.by_name().get(name, "") if is_name else "", code(name))
+        target = public(name, module) or api_definitions.by_name().get(name, "") if is_name else ""
+        return leads(target, code(name)) if target or not PLACE.fullmatch(name) else places(code(name))
     if found := LINK.match(part):
         return linked(*found.groups())
-    return SLANTED.sub(r"<i>\1</i>", BOLD.sub(r"<b>\1</b>", esc(part)))
+    return places(SLANTED.sub(r"<i>\1</i>", BOLD.sub(r"<b>\1</b>", esc(part))))
+
+
+def places(text):
+    """Returns the text with the files and lines that it names as links."""
+    return PLACE.sub(lambda it: source(it.group(1), int(it.group(2) or 0)), text)
+
+
+def source(path, number=0):
+    """Returns a file's name, and perhaps a line of it, as a link to where that is shown."""
+    said = f"{path}:{number}" if number else path
+    return leads(Sources.address(path, number or 1), esc(said)) if is_line(path, number or 1) else esc(said)
 
 
 def linked(is_image, said, target):

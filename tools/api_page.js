@@ -1,17 +1,20 @@
-// Search over ITEMS, a list of [title, page, what it says], which stands before this script.
+// Search over ITEMS, a list of [title, page, what it says, kind, what else is sought in], which stands before this
+// script. tools/api_search.py ranks as this does.
 (function () {
   "use strict";
   var box = document.getElementById("q"), list = document.getElementById("found"), on = -1;
 
   // How well an item fits: the fewer the better, -1 if a word of the query is not in it.
   function rank(item, words) {
-    var title = item[0].toLowerCase(), all = title + " " + item[2].toLowerCase(), sum = 0;
+    var title = item[0].toLowerCase().replace(/ \((definition|in words)\)$/, ""), last = title.split("::").pop(), sum = 0;
     for (var i = 0; i < words.length; i++) {
-      var word = words[i], last = title.split("::").pop();
-      if (all.indexOf(word) < 0) { return -1; }
-      sum += last === word ? 0 : last.indexOf(word) === 0 ? 1 : title.indexOf(word) >= 0 ? 2 : 6;
+      var word = words[i];
+      if (title.indexOf(word) >= 0) { sum += last === word ? 0 : last.indexOf(word) === 0 ? 1 : 2; }
+      else if (item[2].toLowerCase().indexOf(word) >= 0) { sum += 6; }
+      else if (item[4].toLowerCase().indexOf(word) >= 0) { sum += 9; }
+      else { return -1; }
     }
-    return sum * 100 + (/\(definition\)$/.test(title) ? 150 : 0) + title.length;
+    return sum * 100 + item[3] + title.length;
   }
 
   function line(item) {

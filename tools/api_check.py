@@ -1,0 +1,71 @@
+"""Checks the HTML pages of public items: links, ids, names that are bound, and what search finds."""
+import collections
+import html
+import os
+import re
+
+import api_search
+
+# Words of the language, which declare and are no names.
+NO_NAMES = {"abbrev", "let", "in", "pub", "record", "data", "module", "use", "where", "unfoldable"}
+LAMBDA = re.compile(r'<i class="s">λ</i> ((?:(?!\. ).)*)\. ')
+
+
+def texts_of(folder):
+    """Returns the text of each page."""
+    found = {}
+    for name in sorted(os.listdir(folder)):
+        if name.endswith(".html"):
+            with open(f"{folder}/{name}", encoding="utf-8") as it:
+                found[name] = it.read()
+    return found
+
+
+def broken_links(texts, folder, places, found):
+    """Yields each link of the pages and of search that leads nowhere, or to the network."""
+    links = [("search.js", it[1]) for it in found]
+    for name, text in texts.items():
+        links += [(name, html.unescape(it)) for it in re.findall(r'\b(?:href|src)="([^"]*)"', text)]
+    for name, target in dict.fromkeys(links):
+        page, _, anchor = target.partition("#")
+        if target.startswith("http"):
+            yield f"{name}: {target} leads to the network"
+        elif not os.path.isfile(f"{folder}/{page or name}"):
+            yield f"{name}: no page {page}"
+        elif anchor and anchor not in places.get(page or name, ()):
+            yield f"{name}: no place {anchor} in {page or name}"
+
+
+def wrong_ids(places):
+    """Yields each id that stands twice on a page, or that is no name."""
+    for name, ids in places.items():
+        for it, number in ids.items():
+            if number > 1:
+                yield f"{name}: {number} places are named {it}"
+            if not it or it in NO_NAMES:
+                yield f"{name}: a place is named '{it}', which is no name"
+
+
+def bound_links(texts):
+    """Yields each name that a lambda binds and that leads to a definition."""
+    for name, text in texts.items():
+        for pattern in LAMBDA.findall(text):
+            names = re.sub(r":[^()]*", "", pattern)
+            yield from (f"{name}: the bound {it} is a link" for it in re.findall(r"<a [^>]*>([^<]*)</a>", names))
+
+
+def not_found(found):
+    """Yields each query whose first three results are not those that a reader wants."""
+    titles = {it[0] for it in found}
+    for query, wanted in api_search.WANTED.items():
+        first = api_search.found_by(query, found)[:3]
+        if wanted not in titles or wanted not in first:
+            yield f"search for '{query}' does not find {wanted} first: {', '.join(first) or 'nothing'}"
+
+
+def faults(folder):
+    """Returns what is wrong with the pages in a folder, each as a line; and how many things were looked at."""
+    texts, found = texts_of(folder), api_search.items()
+    places = {name: collections.Counter(re.findall(r'\bid="([^"]*)"', text)) for name, text in texts.items()}
+    told = [*broken_links(texts, folder, places, found), *wrong_ids(places), *bound_links(texts), *not_found(found)]
+    return told, len(texts) + len(api_search.WANTED)

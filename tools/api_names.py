@@ -1,0 +1,106 @@
+"""Finds the public items that a name in prose or in a signature means, and the lines of files that the pages name."""
+import functools
+import os
+import re
+
+from api_model import model
+from api_source import CORE, read
+from common import ROOT, without_prefix
+
+FIELD = re.compile(r"(?:pub )?(\w+)(?=:|\(|$| )")
+
+
+def module_file(path):
+    """Returns the page of a module."""
+    return f"module.{short(path) or CORE}.html".replace("::", ".")
+
+
+def short(path):
+    return without_prefix(without_prefix(path, CORE), "::")
+
+
+def entry_at(path):
+    """Returns the address of an entry."""
+    module, _, name = path.rpartition("::")
+    return f"{module_file(module)}#{name}"
+
+
+def call_at(call, module):
+    """Returns the address of a call of an entry of the module."""
+    return f"{module_file(module)}#{call.title.replace('::', '.')}"
+
+
+@functools.lru_cache(maxsize=None)
+def shown_entries():
+    """Returns the entries that are described, and not only named."""
+    return [it for module in model() for it in module.entries if not it.see]
+
+
+def field_name(text):
+    """Returns the name of a field or of a variant, as it is declared."""
+    return FIELD.match(text).group(1)
+
+
+def field_id(entry, text):
+    """Returns the anchor of a field or of a variant on the page of its type."""
+    return f"{entry.name}.{field_name(text)}" if entry.kind == "enum" else f"{entry.name}.field.{field_name(text)}"
+
+
+@functools.lru_cache(maxsize=None)
+def addresses():
+    """Returns the places that each name means: types, calls and variants, by the modules that have them."""
+    found = {}
+
+    def put(name, module, address):
+        found.setdefault(name, {}).setdefault(module, address)
+
+    for entry in shown_entries():
+        put(entry.name, entry.module, entry_at(entry.path))
+        put(f"{short(entry.module)}::{entry.name}", entry.module, entry_at(entry.path))
+        for call in entry.calls if entry.kind != "fn" else []:
+            put(call.title, entry.module, call_at(call, entry.module))
+        for text, _ in entry.fields if entry.kind == "enum" else []:
+            at = f"{module_file(entry.module)}#{field_id(entry, text)}"
+            put(f"{entry.name}::{field_name(text)}", entry.module, at)
+            put(field_name(text), entry.module, at)
+    return found
+
+
+def public(name, module):
+    """Returns where the public item of this name is shown: of this module, or of the only one that has it."""
+    places = addresses().get(without_prefix(name, f"{CORE}::").split("(")[0], {})
+    if module in places:
+        return places[module]
+    return next(iter(places.values())) if len(places) == 1 else ""
+
+
+class Sources:
+    """The lines of files that the pages name, each of which is shown on the page of its file."""
+
+    cited = {}
+    WHOLE, AROUND = 1500, 4
+
+    @classmethod
+    def address(cls, path, number):
+        """Returns where a line of a file is shown."""
+        cls.cited.setdefault(path, set()).add(number)
+        return f"{cls.page(path)}#L{number}"
+
+    @staticmethod
+    def page(path):
+        return f"source.{path.replace('/', '.')}.html"
+
+    @classmethod
+    def shown(cls, path):
+        """Yields each line of the file that its page shows, with its number: all of a short file, and of a long one
+        what stands around the lines that are named."""
+        lines, cited = read(path).split("\n"), cls.cited[path]
+        near = {at for it in cited for at in range(it - cls.AROUND, it + cls.AROUND + 1)}
+        for number, line in enumerate(lines, 1):
+            if len(lines) <= cls.WHOLE or number in near:
+                yield number, line
+
+
+def is_line(path, number):
+    """Returns whether the repository has this file, and this line in it."""
+    return os.path.isfile(f"{ROOT}/{path}") and 1 <= number <= read(path).count("\n") + 1

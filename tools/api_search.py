@@ -1,0 +1,96 @@
+"""What the search of the HTML pages finds: types, calls, variants, laws, definitions, and prose."""
+import re
+
+from api_definitions import WORDS, files, slug
+from api_names import call_at, entry_at, field_id, field_name, module_file, shown_entries, short
+from api_source import read
+
+# What is found is in this order, where the words of a query fit alike.
+TYPE, CALL, VARIANT, PROSE, LAW, DEFINITION = 0, 30, 40, 120, 150, 200
+# Modules that few programs use come after the others.
+RARE = {"bench": 20, "json": 20, "program": 20}
+
+
+def said_of(call):
+    """Returns what else is said of a call: details, conditions and refusals."""
+    return " ".join([*call.details, *call.needs, *(f"{name} if {when}" for name, when in call.refuses)])
+
+
+def of_entry(entry):
+    """Yields what is found of a type, a trait or a function."""
+    home, is_call = short(entry.module), entry.kind == "fn"
+    rare = RARE.get(home, 0)
+    kind = rare + (LAW if entry.is_law else CALL if is_call else TYPE)
+    more = said_of(entry.calls[0]) if is_call else " ".join(entry.details)
+    yield f"{home}::{entry.name}", entry_at(entry.path), entry.sentence, kind, more
+    for text, said in entry.fields:
+        at = f"{module_file(entry.module)}#{field_id(entry, text)}"
+        yield f"{home}::{entry.name}::{field_name(text)}", at, said or entry.sentence, VARIANT + rare, text
+    for call in [] if is_call else entry.calls:
+        yield f"{home}::{call.title}", call_at(call, entry.module), call.sentence, CALL + rare, said_of(call)
+    for base in shown_entries() if entry.base else []:
+        for call in base.calls if base.name == entry.base else []:
+            yield f"{home}::{entry.name}::{call.name}", call_at(call, base.module), call.sentence, CALL + 1, ""
+
+
+def of_words():
+    """Yields the parts of docs/DEFINITIONS.md, with their text."""
+    for part in re.split(r"(?m)^#+ ", read(WORDS))[1:]:
+        title, _, text = part.partition("\n")
+        told = re.sub(r"[|*\s]+", " ", text).strip()
+        yield f"{title} (in words)", f"definitions.html#{slug(title)}", told[:160], PROSE, told
+
+
+def items():
+    """Returns what search finds: title, address, what is said, its kind, and what else is sought in."""
+    found = [it for entry in shown_entries() for it in of_entry(entry)]
+    found += of_words()
+    for it in files().values():
+        for block in it.blocks:
+            if block.name:
+                where = f"{it.crate}: {it.module}"
+                found.append((f"{block.name} (definition)", f"{it.page()}#{block.name}", where, DEFINITION, ""))
+    return [[title, at, said.replace("`", ""), kind, more.replace("`", "")] for title, at, said, kind, more in found]
+
+
+def rank(item, words):
+    """Returns how well an item fits, as tools/api_page.js does."""
+    title = item[0].lower().replace(" (definition)", "").replace(" (in words)", "")
+    last, total = title.split("::")[-1], 0
+    for word in words:
+        if word in title:
+            total += 0 if last == word else 1 if last.startswith(word) else 2
+        elif word in item[2].lower():
+            total += 6
+        elif word in item[4].lower():
+            total += 9
+        else:
+            return -1
+    return total * 100 + item[3] + len(title)
+
+
+def found_by(query, among):
+    """Returns the titles that a query finds, the best first."""
+    words = query.lower().split()
+    ranked = [(rank(it, words), it[0]) for it in among]
+    return [title for at, title in sorted((it for it in ranked if it[0] >= 0), key=lambda it: it[0])]
+
+
+# Words that readers type, and what they are to find among the first three.
+WANTED = {
+    "InvalidSubtag": "parser::ParseError::InvalidSubtag",
+    "parseerror": "parser::ParseError",
+    "locale": "locale::Locale",
+    "region": "subtags::Region",
+    "variants": "subtags::Variants",
+    "keywords": "extensions::unicode::Keywords",
+    "normalize_utf8": "locale::Locale::normalize_utf8",
+    "locale normalize": "locale::Locale::normalize",
+    "language as_str": "subtags::Language::as_str",
+    "outofmemory": "parser::ParseError::OutOfMemory",
+    "try_from_str": "locale::Locale::try_from_str",
+    "h12": "preferences::extensions::unicode::keywords::HourCycle::H12",
+    "retain": "litemap::LiteMap::retain",
+    "IsNormalizedLocale": "IsNormalizedLocale (definition)",
+    "without memory": "Texts that are parsed without memory (in words)",
+}
