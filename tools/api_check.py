@@ -1,9 +1,10 @@
-"""Checks the HTML pages of public items: links, ids, names that are bound, and what search finds."""
+"""Checks the HTML pages of public items: links, ids, names that are bound, what search finds, and examples."""
 import collections
 import html
 import os
 import re
 
+import api_examples
 import api_search
 
 # Words of the language, which declare and are no names.
@@ -63,9 +64,17 @@ def not_found(found):
             yield f"search for '{query}' does not find {wanted} first: {', '.join(first) or 'nothing'}"
 
 
+def parts_of_statements():
+    """Yields each example that is the rest of a statement, or the beginning of one."""
+    for (_, *names), (path, number, line) in api_examples.examples().items():
+        if not api_examples.is_whole(line):
+            yield f"the example of {'::'.join(names)} is part of a statement: {line} ({path}:{number})"
+
+
 def faults(folder):
     """Returns what is wrong with the pages in a folder, each as a line; and how many things were looked at."""
     texts, found = texts_of(folder), api_search.items()
     places = {name: collections.Counter(re.findall(r'\bid="([^"]*)"', text)) for name, text in texts.items()}
     told = [*broken_links(texts, folder, places, found), *wrong_ids(places), *bound_links(texts), *not_found(found)]
+    told += parts_of_statements()
     return told, len(texts) + len(api_search.WANTED)

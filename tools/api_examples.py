@@ -9,9 +9,11 @@ import re
 
 import api_words
 from api_model import entries
-from api_source import CORE, home_of, libraries, read
+from api_source import CORE, home_of, joined, libraries, read
 from common import ROOT, without_prefix, without_suffix
 
+# The longest statement that is shown.
+LONGEST = 120
 FIRST = ("crates/example_first_locale", "crates/example_recipes")
 FUNCTION = re.compile(
     r"^( *)(?:pub(?:\([a-z]+\))? )?(?:final )?fn (\w+)([^(]*)\((.*?)\)"
@@ -221,21 +223,60 @@ def written_by(line, macros):
         yield number, re.sub(r"\$(\w+)", lambda it: given.get(it.group(1), it.group(0)), text).strip()
 
 
+def is_whole(text):
+    """Returns whether each bracket in a text is closed there, and it is not the rest of a statement."""
+    bare = re.sub(r"\"[^\"]*\"|'.'", "", text)
+    return not text.startswith((".", "?", ")", "}")) and all(bare.count(it[0]) == bare.count(it[1]) for it in ("()", "[]", "{}"))
+
+
+def whole(path, number, line):
+    """Returns the statement that a line is part of, in one line; if that is too long, the line itself."""
+    if line.endswith("{") and is_whole(line[:-1]):
+        return f"{line} .. }}"
+    if is_whole(line) and line.endswith((";", ",", "}")):
+        return line
+    lines = read(path).split("\n")
+    first = last = number - 1
+    while first and lines[first].strip().startswith((".", "?", ")", "}")) and number - first < 8:
+        first -= 1
+    depth = len(lines[first]) - len(lines[first].lstrip())
+    while last + 1 < len(lines) and last - first < 8 and (said := lines[last + 1].strip()):
+        if len(lines[last + 1]) - len(lines[last + 1].lstrip()) <= depth and not said.startswith((")", "}", "]")):
+            break
+        last += 1
+        if said.endswith(";") and is_whole(joined(lines[first : last + 1])):
+            break
+    text = re.sub(r" (?=[.?])", "", joined(lines[first : last + 1]))
+    return text if is_whole(text) and len(text) <= LONGEST else line
+
+
+def worth(path, line):
+    """Returns how little a line says to a reader: least one within the library, then a part of a statement, a call on
+    `self`, and an arm of a `match`."""
+    is_part = not is_whole(without_suffix(line, "{ .. }"))
+    return path.split("/")[1].startswith("iloc_"), is_part, "self." in line, "=>" in line
+
+
 @functools.lru_cache(maxsize=None)
 def examples():
-    """Returns for each call's key the path, the number and the text of a line that makes it. What is told by the
-    name alone counts only if no line is told by the type."""
+    """Returns for each call's key the path, the number and the text of a statement that makes it. A whole statement
+    comes before a part of one. What is told by the name alone counts only if no line is told by the type."""
     found, guessed = {}, {}
     for path in files():
         for number, line, known, types in lines_of(path):
             if line.startswith("//") or "fn " in line:
                 continue
             for key, name in made_on(line, known, types):
-                if key:
-                    found.setdefault(key, (path, number, line))
-                elif name in only_ones():
-                    guessed.setdefault(only_ones()[name], (path, number, line))
-    return {**guessed, **found}
+                into = found if key else guessed if name in only_ones() else None
+                if into is not None:
+                    into.setdefault(key or only_ones()[name], []).append((path, number, line))
+    return {key: best(lines) for key, lines in {**guessed, **found}.items()}
+
+
+def best(lines):
+    """Returns the first of the lines that say most, as a whole statement where it is short."""
+    told = [(path, number, whole(path, number, re.sub(r" // .*| \} else \{$", "", line))) for path, number, line in lines[:40]]
+    return min(told, key=lambda it: worth(it[0], it[2]))
 
 
 @functools.lru_cache(maxsize=None)

@@ -135,11 +135,12 @@ def example_html(call):
 
 def facts_html(call, module):
     """Returns what a call needs, refuses and takes, with examples and its name in Rust."""
-    refusals = [f"{marked(f'`{name}`', module)} if {marked(when, module)}." for name, when in call.refuses]
-    rows = [("Needs", marked(it, module)) for it in call.needs]
+    near = f"{module}::{call.owner}"
+    refusals = [f"{marked(f'`{name}`', near)} if {marked(when, near)}." for name, when in call.refuses]
+    rows = [("Needs", marked(it, near)) for it in call.needs]
     rows += [
         ("Refuses", items(refusals)),
-        ("Memory", marked(call.memory, module)),
+        ("Memory", marked(call.memory, near)),
         ("Tried", tried_html(f"{module}::{call.title}")),
         ("Example", example_html(call)),
         ("In Rust", code(call.rust) if call.rust else ""),
@@ -147,8 +148,8 @@ def facts_html(call, module):
     return tag("dl", "".join(tag("dt", head) + tag("dd", said) for head, said in rows if said))
 
 
-def paragraphs(sentence, details, module):
-    return "".join(tag("p", marked(it, module)) for it in [sentence, *details] if it)
+def paragraphs(sentence, details, near):
+    return "".join(tag("p", marked(it, near)) for it in [sentence, *details] if it)
 
 
 def heading(level, anchor, inner):
@@ -174,7 +175,7 @@ def call_html(call, module, level="h3"):
     rows = [
         heading(level, anchor, code(call.title)),
         tag("pre", signature_html(call.signature, module)),
-        paragraphs(call.sentence, call.details, module),
+        paragraphs(call.sentence, call.details, f"{module}::{call.owner}"),
         facts_html(call, module),
         contract_html(call.item),
     ]
@@ -191,7 +192,7 @@ def given_html(entry):
     homes, rows = trait_homes(), []
     for it in entry.given:
         link = leads(entry_at(homes[it.trait]) if it.trait in homes else "", code(it.trait))
-        rows.append(link + (f": {marked(it.said, entry.module)}" if it.said else ""))
+        rows.append(link + (f": {marked(it.said, entry.path)}" if it.said else ""))
     return folded(f"Traits ({len(rows)})", rows)
 
 
@@ -200,7 +201,7 @@ def ghosts_html(entry):
     inner = entry.item.inner() if entry.kind == "trait" else []
     first = [(it, " ".join(" ".join(it.lines).split())) for it in inner]
     ghosts = [(it, text) for it, text in first if re.match(r"ghost (?!use)", text)]
-    said = [f"{code(text)} {marked(it.sentence(), entry.module)}" for it, text in ghosts]
+    said = [f"{code(text)} {marked(it.sentence(), entry.path)}" for it, text in ghosts]
     return folded("What contracts say of it", said)
 
 
@@ -226,7 +227,7 @@ def calls_html(entry):
 def field_html(entry, text, said):
     """Returns a field or a variant, with what is said of it."""
     declared = tag("code", signature_html(text, entry.module))
-    return tag("span", declared, id=field_id(entry, text)) + (f" {marked(said, entry.module)}" if said else "")
+    return tag("span", declared, id=field_id(entry, text)) + (f" {marked(said, entry.path)}" if said else "")
 
 
 def entry_html(entry):
@@ -244,12 +245,12 @@ def entry_html(entry):
 def about_type(entry):
     """Returns what is said of a type before its calls: their names first."""
     has = [leads(entry_at(it), code(short(it))) for it in json_types()] if entry.name == "JsonText" else []
-    tries, refusal = tried_html(entry.path), marked(f"`{entry.refusal}`", entry.module)
+    tries, refusal = tried_html(entry.path), marked(f"`{entry.refusal}`", entry.path)
     return [
-        tag("p", marked(entry.sentence, entry.module)),
+        tag("p", marked(entry.sentence, entry.path)),
         calls_html(entry),
         items([field_html(entry, text, said) for text, said in entry.fields]),
-        paragraphs("", entry.details, entry.module),
+        paragraphs("", entry.details, entry.path),
         tag("p", "Tried:") + tries if tries else "",
         tag("p", f"Its refusal is {refusal}.") if entry.refusal else "",
         base_html(entry),
@@ -265,7 +266,8 @@ def module_html(module):
     items = [it for it in module.entries if not it.is_law]
     names = ", ".join(leads(f"#{it.name}", code(it.name)) for it in items)
     names = "; ".join(filter(None, [names, leads("#laws", "laws") if laws else ""]))
-    head = tag("h1", code(module.path)) + tag("p", marked(module.comment, module.path)) + tag("p", names, kind="names")
+    told = tag("p", marked(module.comment, f"{module.path}::"))
+    head = tag("h1", code(module.path)) + told + tag("p", names, kind="names")
     told = [tag("h1", "Laws", id="laws") + tag("p", LAWS)] if laws else []
     return head + "\n".join([entry_html(it) for it in items] + told + [entry_html(it) for it in laws])
 
@@ -298,7 +300,7 @@ def index_html():
     for module in model():
         items = [it for it in module.entries if not it.is_law]
         names = ", ".join(leads(entry_at(it.see or it.path), code(it.name)) for it in items)
-        said = f"{marked(module.comment, module.path)} {names}"
+        said = marked(module.comment, f"{module.path}::") + f" {names}"
         name = tag("code", esc(module.short).replace("::", "<wbr>::"))
         rows.append(tag("td", leads(module_file(module.path), name)) + tag("td", said))
     specs = [leads(it.page(), f"{it.crate}: {it.module}") for it in files().values()]

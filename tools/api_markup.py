@@ -47,17 +47,17 @@ def dim(inner):
     return tag("p", inner, kind="rust")
 
 
-def marked(text, module=""):
+def marked(text, near=""):
     """Returns text with its inline code and links as HTML. A name leads to the public item, which is sought first
-    in this module, or to the definition; a line of a file leads to it."""
-    return "".join(inline(it, module) for it in PARTS.split(text))
+    in the type at the path `near`, or to the definition; a line of a file leads to it."""
+    return "".join(inline(it, near) for it in PARTS.split(text))
 
 
-def inline(part, module):
+def inline(part, near):
     if part.startswith("`"):
         name = part.strip("`")
         is_name = re.search(r"[A-Z_]", name)
-        target = public(name, module) or api_definitions.by_name().get(name, "") if is_name else ""
+        target = public(name, near) or api_definitions.by_name().get(name, "") if is_name else ""
         return leads(target, code(name)) if target or not PLACE.fullmatch(name) else places(code(name))
     if found := LINK.match(part):
         return linked(*found.groups())

@@ -66,9 +66,14 @@ def addresses():
     return found
 
 
-def public(name, module):
-    """Returns where the public item of this name is shown: of this module, or of the only one that has it."""
-    places = addresses().get(without_prefix(name, f"{CORE}::").split("(")[0], {})
+def public(name, near):
+    """Returns where the public item of this name is shown: of the type at the path `near`, of its module, or of the
+    only module that has it."""
+    module, _, owner = near.rpartition("::")
+    name = without_prefix(name, f"{CORE}::").split("(")[0]
+    if at := addresses().get(f"{owner}::{name}", {}).get(module):
+        return at
+    places = addresses().get(name, {})
     if module in places:
         return places[module]
     return next(iter(places.values())) if len(places) == 1 else ""
