@@ -274,7 +274,7 @@ def module_html(module):
 
 def block_html(block, definitions):
     """Returns a definition, its names linked, with the part of the page that tells it in words."""
-    names = of_module(definitions.text) | block.fields()
+    names = of_module(definitions.text).union(block.fields())
     bound = bound_in_block(block.text, names, definitions.own, definitions.is_case)
     lines, start = [], 0
     for line in block.text.split("\n"):
