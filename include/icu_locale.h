@@ -181,6 +181,8 @@ icu_locale_status icu_locale_words(icu_locale_status status, uint8_t *buffer, si
  *
  *  - Only the calls of this header write a handle, and only they read or write what it points to. It is not copied by
  *    = or memcpy: use icu_locale_copy. It may be moved to another place if the old one is no longer used.
+ *  - A call that only reads takes const icu_locale_t *, and leaves the handle as it was. But it takes the locale out of
+ *    the handle meanwhile, and puts it back. So no handle is itself defined const: it lies where it can be written.
  *  - During a call, also one that only reads, no other call uses its handles, in any thread. A handle may go to another
  *    thread if a lock, the start or end of a thread, or a sequentially consistent atomic orders that.
  *  - The pointer of a handle is not null. A handle is aligned as C aligns icu_locale_t, and overlaps no other argument.
@@ -204,7 +206,7 @@ icu_locale_status icu_locale_parse(icu_locale_t *locale, const uint8_t *text, si
 
 /* The locale becomes that of the other handle. DONE or OUT_OF_MEMORY. */
 ICU_LOCALE_TAKES_BOTH((1, 2)) ICU_LOCALE_TELLS
-icu_locale_status icu_locale_copy(icu_locale_t *locale, icu_locale_t *from) ICU_LOCALE_NOEXCEPT;
+icu_locale_status icu_locale_copy(icu_locale_t *locale, const icu_locale_t *from) ICU_LOCALE_NOEXCEPT;
 
 /* Frees what the handle owns. It is {0} then, and stands for und. */
 ICU_LOCALE_TAKES((1))
@@ -212,35 +214,35 @@ void icu_locale_free(icu_locale_t *locale) ICU_LOCALE_NOEXCEPT;
 
 /* Whether the locale is und, with no other part. */
 ICU_LOCALE_TAKES((1)) ICU_LOCALE_TELLS
-bool icu_locale_is_und(icu_locale_t *locale) ICU_LOCALE_NOEXCEPT;
+bool icu_locale_is_und(const icu_locale_t *locale) ICU_LOCALE_NOEXCEPT;
 
 /* Whether the text of the locale has this locale as its meaning. True for each locale that was parsed. False, for
  * example, once a keyword was set to a value with a subtag of two characters, which would be parsed as a key. */
 ICU_LOCALE_TAKES((1)) ICU_LOCALE_TELLS
-bool icu_locale_is_well_formed(icu_locale_t *locale) ICU_LOCALE_NOEXCEPT;
+bool icu_locale_is_well_formed(const icu_locale_t *locale) ICU_LOCALE_NOEXCEPT;
 
 /* The order of two locales by their parts: -1, 0 or 1. It is total: 0 exactly if both are equal. */
 ICU_LOCALE_TAKES_BOTH((1, 2)) ICU_LOCALE_TELLS
-int8_t icu_locale_cmp(icu_locale_t *locale, icu_locale_t *other) ICU_LOCALE_NOEXCEPT;
+int8_t icu_locale_cmp(const icu_locale_t *locale, const icu_locale_t *other) ICU_LOCALE_NOEXCEPT;
 
 /* Whether two locales are equal. */
 ICU_LOCALE_TAKES_BOTH((1, 2)) ICU_LOCALE_TELLS
-bool icu_locale_eq(icu_locale_t *locale, icu_locale_t *other) ICU_LOCALE_NOEXCEPT;
+bool icu_locale_eq(const icu_locale_t *locale, const icu_locale_t *other) ICU_LOCALE_NOEXCEPT;
 
 /* The byte order of the normal form of the locale against other bytes, which are not normalized: -1, 0 or 1. */
 ICU_LOCALE_TAKES((1)) ICU_LOCALE_TELLS
-int8_t icu_locale_cmp_bytes(icu_locale_t *locale, const uint8_t *other, size_t length) ICU_LOCALE_NOEXCEPT;
+int8_t icu_locale_cmp_bytes(const icu_locale_t *locale, const uint8_t *other, size_t length) ICU_LOCALE_NOEXCEPT;
 
 /* Writes 1 to *same if the text means this locale, and else 0. Ends with DONE, or with OUT_OF_MEMORY if parsing the
  * text runs out of memory: *same is then as before. */
 ICU_LOCALE_TAKES((1, 4)) ICU_LOCALE_TELLS
-icu_locale_status icu_locale_eq_text(icu_locale_t *locale, const uint8_t *text, size_t length, uint8_t *same)
+icu_locale_status icu_locale_eq_text(const icu_locale_t *locale, const uint8_t *text, size_t length, uint8_t *same)
     ICU_LOCALE_NOEXCEPT;
 
 /* A number of 64 bits: FNV-1a of the bytes of the normal form. Equal locales have equal numbers. It is no protection
  * against someone who chooses locales so that their numbers collide. */
 ICU_LOCALE_TAKES((1)) ICU_LOCALE_TELLS
-uint64_t icu_locale_hash(icu_locale_t *locale) ICU_LOCALE_NOEXCEPT;
+uint64_t icu_locale_hash(const icu_locale_t *locale) ICU_LOCALE_NOEXCEPT;
 
 /* Reading parts. Each call writes a text to the front of the buffer, and its length to *needed. None allocates, and
  * the locale is as before.
@@ -254,23 +256,23 @@ uint64_t icu_locale_hash(icu_locale_t *locale) ICU_LOCALE_NOEXCEPT;
 
 /* The normal form: en-Latn-US-u-ca-buddhist. */
 ICU_LOCALE_TAKES((1, 4)) ICU_LOCALE_TELLS
-icu_locale_status icu_locale_to_string(icu_locale_t *locale, uint8_t *buffer, size_t room, size_t *needed)
+icu_locale_status icu_locale_to_string(const icu_locale_t *locale, uint8_t *buffer, size_t room, size_t *needed)
     ICU_LOCALE_NOEXCEPT;
 
 /* The identifier alone, without extensions: en-Latn-US. */
 ICU_LOCALE_TAKES((1, 4)) ICU_LOCALE_TELLS
-icu_locale_status icu_locale_get_base_name(icu_locale_t *locale, uint8_t *buffer, size_t room, size_t *needed)
+icu_locale_status icu_locale_get_base_name(const icu_locale_t *locale, uint8_t *buffer, size_t room, size_t *needed)
     ICU_LOCALE_NOEXCEPT;
 
 /* Language, script and region: en, Latn, US. The language is und if it is unknown. */
 ICU_LOCALE_TAKES((1, 4)) ICU_LOCALE_TELLS
-icu_locale_status icu_locale_get_language(icu_locale_t *locale, uint8_t *buffer, size_t room, size_t *needed)
+icu_locale_status icu_locale_get_language(const icu_locale_t *locale, uint8_t *buffer, size_t room, size_t *needed)
     ICU_LOCALE_NOEXCEPT;
 ICU_LOCALE_TAKES((1, 4)) ICU_LOCALE_TELLS
-icu_locale_status icu_locale_get_script(icu_locale_t *locale, uint8_t *buffer, size_t room, size_t *needed)
+icu_locale_status icu_locale_get_script(const icu_locale_t *locale, uint8_t *buffer, size_t room, size_t *needed)
     ICU_LOCALE_NOEXCEPT;
 ICU_LOCALE_TAKES((1, 4)) ICU_LOCALE_TELLS
-icu_locale_status icu_locale_get_region(icu_locale_t *locale, uint8_t *buffer, size_t room, size_t *needed)
+icu_locale_status icu_locale_get_region(const icu_locale_t *locale, uint8_t *buffer, size_t room, size_t *needed)
     ICU_LOCALE_NOEXCEPT;
 
 /* Sets the language, script or region to the subtag that is the text, in any case. An empty text clears it: a cleared
@@ -286,12 +288,12 @@ icu_locale_status icu_locale_set_region(icu_locale_t *locale, const uint8_t *tex
 /* Variants, ascending: how many there are, the one at an index, and whether one is among them, in any case. Indices
  * begin with 0. At an index that is too large, the variant is NOT_FOUND. */
 ICU_LOCALE_TAKES((1)) ICU_LOCALE_TELLS
-size_t icu_locale_variant_count(icu_locale_t *locale) ICU_LOCALE_NOEXCEPT;
+size_t icu_locale_variant_count(const icu_locale_t *locale) ICU_LOCALE_NOEXCEPT;
 ICU_LOCALE_TAKES((1, 5)) ICU_LOCALE_TELLS
-icu_locale_status icu_locale_get_variant(icu_locale_t *locale, size_t index, uint8_t *buffer, size_t room,
+icu_locale_status icu_locale_get_variant(const icu_locale_t *locale, size_t index, uint8_t *buffer, size_t room,
     size_t *needed) ICU_LOCALE_NOEXCEPT;
 ICU_LOCALE_TAKES((1)) ICU_LOCALE_TELLS
-bool icu_locale_has_variant(icu_locale_t *locale, const uint8_t *text, size_t length) ICU_LOCALE_NOEXCEPT;
+bool icu_locale_has_variant(const icu_locale_t *locale, const uint8_t *text, size_t length) ICU_LOCALE_NOEXCEPT;
 
 /* Adds a variant, in any case; one that is there already stays. A text that is no variant is refused with
  * INVALID_SUBTAG. Allocates only if there are four variants or more. */
@@ -311,18 +313,18 @@ icu_locale_status icu_locale_clear_variants(icu_locale_t *locale) ICU_LOCALE_NOE
 /* Keywords of the extension u, by ascending key: how many there are, and the key and the value at an index, or
  * NOT_FOUND. The value of a key that stands alone, such as kn in en-u-kn, is an empty text. */
 ICU_LOCALE_TAKES((1)) ICU_LOCALE_TELLS
-size_t icu_locale_keyword_count(icu_locale_t *locale) ICU_LOCALE_NOEXCEPT;
+size_t icu_locale_keyword_count(const icu_locale_t *locale) ICU_LOCALE_NOEXCEPT;
 ICU_LOCALE_TAKES((1, 5)) ICU_LOCALE_TELLS
-icu_locale_status icu_locale_get_keyword_key(icu_locale_t *locale, size_t index, uint8_t *buffer, size_t room,
+icu_locale_status icu_locale_get_keyword_key(const icu_locale_t *locale, size_t index, uint8_t *buffer, size_t room,
     size_t *needed) ICU_LOCALE_NOEXCEPT;
 ICU_LOCALE_TAKES((1, 5)) ICU_LOCALE_TELLS
-icu_locale_status icu_locale_get_keyword_value(icu_locale_t *locale, size_t index, uint8_t *buffer, size_t room,
+icu_locale_status icu_locale_get_keyword_value(const icu_locale_t *locale, size_t index, uint8_t *buffer, size_t room,
     size_t *needed) ICU_LOCALE_NOEXCEPT;
 
 /* The value of the keyword with this key, in any case: buddhist of ca in en-u-ca-buddhist. NOT_FOUND if there is none,
  * also if the bytes are no key. */
 ICU_LOCALE_TAKES((1, 6)) ICU_LOCALE_TELLS
-icu_locale_status icu_locale_get_keyword(icu_locale_t *locale, const uint8_t *key, size_t key_length,
+icu_locale_status icu_locale_get_keyword(const icu_locale_t *locale, const uint8_t *key, size_t key_length,
     uint8_t *buffer, size_t room, size_t *needed) ICU_LOCALE_NOEXCEPT;
 
 /* Sets the value of the keyword with this key; both may be in any case. The value true is the empty value. First the
@@ -345,18 +347,18 @@ icu_locale_status icu_locale_clear_keywords(icu_locale_t *locale) ICU_LOCALE_NOE
 /* Extends the extension u by that of the other handle: it then has the attributes of both, and the keywords of both.
  * At a key of both, the other handle's value wins. The other handle stays as it is. DONE or OUT_OF_MEMORY. */
 ICU_LOCALE_TAKES_BOTH((1, 2)) ICU_LOCALE_TELLS
-icu_locale_status icu_locale_extend_unicode(icu_locale_t *locale, icu_locale_t *from) ICU_LOCALE_NOEXCEPT;
+icu_locale_status icu_locale_extend_unicode(icu_locale_t *locale, const icu_locale_t *from) ICU_LOCALE_NOEXCEPT;
 
 /* Attributes of the extension u, such as foo in en-u-foo. They are read and changed as variants are. Each is 3 to 8
  * letters or digits. A text that is no attribute is refused with INVALID_EXTENSION. Adding or removing one allocates.
  */
 ICU_LOCALE_TAKES((1)) ICU_LOCALE_TELLS
-size_t icu_locale_attribute_count(icu_locale_t *locale) ICU_LOCALE_NOEXCEPT;
+size_t icu_locale_attribute_count(const icu_locale_t *locale) ICU_LOCALE_NOEXCEPT;
 ICU_LOCALE_TAKES((1, 5)) ICU_LOCALE_TELLS
-icu_locale_status icu_locale_get_attribute(icu_locale_t *locale, size_t index, uint8_t *buffer, size_t room,
+icu_locale_status icu_locale_get_attribute(const icu_locale_t *locale, size_t index, uint8_t *buffer, size_t room,
     size_t *needed) ICU_LOCALE_NOEXCEPT;
 ICU_LOCALE_TAKES((1)) ICU_LOCALE_TELLS
-bool icu_locale_has_attribute(icu_locale_t *locale, const uint8_t *text, size_t length) ICU_LOCALE_NOEXCEPT;
+bool icu_locale_has_attribute(const icu_locale_t *locale, const uint8_t *text, size_t length) ICU_LOCALE_NOEXCEPT;
 ICU_LOCALE_TAKES((1)) ICU_LOCALE_TELLS
 icu_locale_status icu_locale_add_attribute(icu_locale_t *locale, const uint8_t *text, size_t length)
     ICU_LOCALE_NOEXCEPT;
@@ -370,7 +372,7 @@ icu_locale_status icu_locale_clear_attributes(icu_locale_t *locale) ICU_LOCALE_N
  * NOT_FOUND if there is none. Setting an empty text removes it. A text that is no identifier is refused as by
  * icu_locale_check for an identifier. Setting allocates only if there are more than four variants. */
 ICU_LOCALE_TAKES((1, 4)) ICU_LOCALE_TELLS
-icu_locale_status icu_locale_get_transform_language(icu_locale_t *locale, uint8_t *buffer, size_t room,
+icu_locale_status icu_locale_get_transform_language(const icu_locale_t *locale, uint8_t *buffer, size_t room,
     size_t *needed) ICU_LOCALE_NOEXCEPT;
 ICU_LOCALE_TAKES((1)) ICU_LOCALE_TELLS
 icu_locale_status icu_locale_set_transform_language(icu_locale_t *locale, const uint8_t *text, size_t length)
@@ -381,15 +383,15 @@ icu_locale_status icu_locale_set_transform_language(icu_locale_t *locale, const 
  * INVALID_EXTENSION. So is a value that is empty or has another subtag than 3 to 8 letters or digits. Setting allocates
  * only if the field is not there, or if the value has more than four subtags. */
 ICU_LOCALE_TAKES((1)) ICU_LOCALE_TELLS
-size_t icu_locale_field_count(icu_locale_t *locale) ICU_LOCALE_NOEXCEPT;
+size_t icu_locale_field_count(const icu_locale_t *locale) ICU_LOCALE_NOEXCEPT;
 ICU_LOCALE_TAKES((1, 5)) ICU_LOCALE_TELLS
-icu_locale_status icu_locale_get_field_key(icu_locale_t *locale, size_t index, uint8_t *buffer, size_t room,
+icu_locale_status icu_locale_get_field_key(const icu_locale_t *locale, size_t index, uint8_t *buffer, size_t room,
     size_t *needed) ICU_LOCALE_NOEXCEPT;
 ICU_LOCALE_TAKES((1, 5)) ICU_LOCALE_TELLS
-icu_locale_status icu_locale_get_field_value(icu_locale_t *locale, size_t index, uint8_t *buffer, size_t room,
+icu_locale_status icu_locale_get_field_value(const icu_locale_t *locale, size_t index, uint8_t *buffer, size_t room,
     size_t *needed) ICU_LOCALE_NOEXCEPT;
 ICU_LOCALE_TAKES((1, 6)) ICU_LOCALE_TELLS
-icu_locale_status icu_locale_get_field(icu_locale_t *locale, const uint8_t *key, size_t key_length,
+icu_locale_status icu_locale_get_field(const icu_locale_t *locale, const uint8_t *key, size_t key_length,
     uint8_t *buffer, size_t room, size_t *needed) ICU_LOCALE_NOEXCEPT;
 ICU_LOCALE_TAKES((1)) ICU_LOCALE_TELLS
 icu_locale_status icu_locale_set_field(icu_locale_t *locale, const uint8_t *key, size_t key_length,
@@ -408,7 +410,7 @@ icu_locale_status icu_locale_clear_fields(icu_locale_t *locale) ICU_LOCALE_NOEXC
  * removes it. Any other text than x and subtags of 1 to 8 letters or digits is refused with INVALID_EXTENSION. Setting
  * allocates only if there are more than four subtags. */
 ICU_LOCALE_TAKES((1, 4)) ICU_LOCALE_TELLS
-icu_locale_status icu_locale_get_private(icu_locale_t *locale, uint8_t *buffer, size_t room, size_t *needed)
+icu_locale_status icu_locale_get_private(const icu_locale_t *locale, uint8_t *buffer, size_t room, size_t *needed)
     ICU_LOCALE_NOEXCEPT;
 ICU_LOCALE_TAKES((1)) ICU_LOCALE_TELLS
 icu_locale_status icu_locale_set_private(icu_locale_t *locale, const uint8_t *text, size_t length)
@@ -417,9 +419,9 @@ icu_locale_status icu_locale_set_private(icu_locale_t *locale, const uint8_t *te
 /* Other extensions, such as a-foo-bar of en-a-foo-bar, by their singleton: a letter or digit other than t, u and x, in
  * either case. The calls tell whether there is one, and its text with the singleton, or NOT_FOUND. */
 ICU_LOCALE_TAKES((1)) ICU_LOCALE_TELLS
-bool icu_locale_has_other(icu_locale_t *locale, uint8_t singleton) ICU_LOCALE_NOEXCEPT;
+bool icu_locale_has_other(const icu_locale_t *locale, uint8_t singleton) ICU_LOCALE_NOEXCEPT;
 ICU_LOCALE_TAKES((1, 5)) ICU_LOCALE_TELLS
-icu_locale_status icu_locale_get_other(icu_locale_t *locale, uint8_t singleton, uint8_t *buffer, size_t room,
+icu_locale_status icu_locale_get_other(const icu_locale_t *locale, uint8_t singleton, uint8_t *buffer, size_t room,
     size_t *needed) ICU_LOCALE_NOEXCEPT;
 
 /* Sets the extension of a singleton to the text, which is the singleton and its subtags, in any case: A-Foo-bar sets
@@ -441,27 +443,27 @@ icu_locale_status icu_locale_remove_other(icu_locale_t *locale, uint8_t singleto
  * locales of two handles by their parts, which is 0 exactly if both are equal. A number that is no priority is refused
  * with UNKNOWN_NUMBER: *needed is then 0, and the buffer or *order is as before. None allocates. */
 ICU_LOCALE_TAKES((1, 5)) ICU_LOCALE_TELLS
-icu_locale_status icu_locale_get_data_locale(icu_locale_t *locale, icu_locale_priority priority, uint8_t *buffer,
+icu_locale_status icu_locale_get_data_locale(const icu_locale_t *locale, icu_locale_priority priority, uint8_t *buffer,
     size_t room, size_t *needed) ICU_LOCALE_NOEXCEPT;
 ICU_LOCALE_TAKES((1, 5)) ICU_LOCALE_TELLS
-icu_locale_status icu_locale_data_cmp_bytes(icu_locale_t *locale, icu_locale_priority priority, const uint8_t *other,
-    size_t length, int8_t *order) ICU_LOCALE_NOEXCEPT;
+icu_locale_status icu_locale_data_cmp_bytes(const icu_locale_t *locale, icu_locale_priority priority,
+    const uint8_t *other, size_t length, int8_t *order) ICU_LOCALE_NOEXCEPT;
 ICU_LOCALE_TAKES_BOTH((1, 2, 4)) ICU_LOCALE_TELLS
-icu_locale_status icu_locale_data_cmp(icu_locale_t *locale, icu_locale_t *other, icu_locale_priority priority,
-    int8_t *order) ICU_LOCALE_NOEXCEPT;
+icu_locale_status icu_locale_data_cmp(const icu_locale_t *locale, const icu_locale_t *other,
+    icu_locale_priority priority, int8_t *order) ICU_LOCALE_NOEXCEPT;
 
 /* What formatters take from a locale: the calendar of the keyword ca, the hour cycle of hc and the numbering system
  * of nu. The text is that of the value which the keyword stands for: islamic-civil of ca-islamicc. ca takes a calendar
  * of UTS #35; hc takes h12, h23, h11, c12 or c24; nu takes one subtag. NOT_FOUND if the keyword is absent, or if its
  * value is none of these. */
 ICU_LOCALE_TAKES((1, 4)) ICU_LOCALE_TELLS
-icu_locale_status icu_locale_get_calendar_algorithm(icu_locale_t *locale, uint8_t *buffer, size_t room,
+icu_locale_status icu_locale_get_calendar_algorithm(const icu_locale_t *locale, uint8_t *buffer, size_t room,
     size_t *needed) ICU_LOCALE_NOEXCEPT;
 ICU_LOCALE_TAKES((1, 4)) ICU_LOCALE_TELLS
-icu_locale_status icu_locale_get_hour_cycle(icu_locale_t *locale, uint8_t *buffer, size_t room, size_t *needed)
+icu_locale_status icu_locale_get_hour_cycle(const icu_locale_t *locale, uint8_t *buffer, size_t room, size_t *needed)
     ICU_LOCALE_NOEXCEPT;
 ICU_LOCALE_TAKES((1, 4)) ICU_LOCALE_TELLS
-icu_locale_status icu_locale_get_numbering_system(icu_locale_t *locale, uint8_t *buffer, size_t room,
+icu_locale_status icu_locale_get_numbering_system(const icu_locale_t *locale, uint8_t *buffer, size_t room,
     size_t *needed) ICU_LOCALE_NOEXCEPT;
 
 /* ICU_LOCALE_VERSION of the header that the library was made for. */
@@ -470,53 +472,54 @@ extern uint32_t icu_locale_version(void) ICU_LOCALE_NOEXCEPT;
 #if defined(__GNUC__)
 /* The calls that take two handles, where both may be one. The library wants two. So these functions, which are not
  * proved, answer for one handle, and else ask the function of the library that has the name after __asm__. */
-extern icu_locale_status icu_locale_two_copy(icu_locale_t *, icu_locale_t *) ICU_LOCALE_NAMED("icu_locale_copy");
-extern icu_locale_status icu_locale_two_extend(icu_locale_t *, icu_locale_t *)
+extern icu_locale_status icu_locale_two_copy(icu_locale_t *, const icu_locale_t *) ICU_LOCALE_NAMED("icu_locale_copy");
+extern icu_locale_status icu_locale_two_extend(icu_locale_t *, const icu_locale_t *)
     ICU_LOCALE_NAMED("icu_locale_extend_unicode");
-extern int8_t icu_locale_two_cmp(icu_locale_t *, icu_locale_t *) ICU_LOCALE_NAMED("icu_locale_cmp");
-extern bool icu_locale_two_eq(icu_locale_t *, icu_locale_t *) ICU_LOCALE_NAMED("icu_locale_eq");
-extern icu_locale_status icu_locale_two_data_cmp(icu_locale_t *, icu_locale_t *, icu_locale_priority, int8_t *)
-    ICU_LOCALE_NAMED("icu_locale_data_cmp");
+extern int8_t icu_locale_two_cmp(const icu_locale_t *, const icu_locale_t *) ICU_LOCALE_NAMED("icu_locale_cmp");
+extern bool icu_locale_two_eq(const icu_locale_t *, const icu_locale_t *) ICU_LOCALE_NAMED("icu_locale_eq");
+extern icu_locale_status icu_locale_two_data_cmp(const icu_locale_t *, const icu_locale_t *, icu_locale_priority,
+    int8_t *) ICU_LOCALE_NAMED("icu_locale_data_cmp");
 
 #if !defined(__cplusplus)
 /* In C both would have one name in the object file. */
-static __inline__ icu_locale_status icu_locale_copy(icu_locale_t *, icu_locale_t *) __asm__("icu_locale_both_copy");
-static __inline__ icu_locale_status icu_locale_extend_unicode(icu_locale_t *, icu_locale_t *)
+static __inline__ icu_locale_status icu_locale_copy(icu_locale_t *, const icu_locale_t *)
+    __asm__("icu_locale_both_copy");
+static __inline__ icu_locale_status icu_locale_extend_unicode(icu_locale_t *, const icu_locale_t *)
     __asm__("icu_locale_both_extend");
-static __inline__ int8_t icu_locale_cmp(icu_locale_t *, icu_locale_t *) __asm__("icu_locale_both_cmp");
-static __inline__ bool icu_locale_eq(icu_locale_t *, icu_locale_t *) __asm__("icu_locale_both_eq");
-static __inline__ icu_locale_status icu_locale_data_cmp(icu_locale_t *, icu_locale_t *, icu_locale_priority, int8_t *)
-    __asm__("icu_locale_both_data_cmp");
+static __inline__ int8_t icu_locale_cmp(const icu_locale_t *, const icu_locale_t *) __asm__("icu_locale_both_cmp");
+static __inline__ bool icu_locale_eq(const icu_locale_t *, const icu_locale_t *) __asm__("icu_locale_both_eq");
+static __inline__ icu_locale_status icu_locale_data_cmp(const icu_locale_t *, const icu_locale_t *,
+    icu_locale_priority, int8_t *) __asm__("icu_locale_both_data_cmp");
 #endif
 
 ICU_LOCALE_TAKES_BOTH((1, 2))
-icu_locale_status icu_locale_copy(icu_locale_t *locale, icu_locale_t *from) ICU_LOCALE_INLINE
+icu_locale_status icu_locale_copy(icu_locale_t *locale, const icu_locale_t *from) ICU_LOCALE_INLINE
 {
     return locale == from ? (icu_locale_status)ICU_LOCALE_DONE : icu_locale_two_copy(locale, from);
 }
 
 ICU_LOCALE_TAKES_BOTH((1, 2))
-icu_locale_status icu_locale_extend_unicode(icu_locale_t *locale, icu_locale_t *from) ICU_LOCALE_INLINE
+icu_locale_status icu_locale_extend_unicode(icu_locale_t *locale, const icu_locale_t *from) ICU_LOCALE_INLINE
 {
     return locale == from ? (icu_locale_status)ICU_LOCALE_DONE : icu_locale_two_extend(locale, from);
 }
 
 ICU_LOCALE_TAKES_BOTH((1, 2))
-int8_t icu_locale_cmp(icu_locale_t *locale, icu_locale_t *other) ICU_LOCALE_INLINE
+int8_t icu_locale_cmp(const icu_locale_t *locale, const icu_locale_t *other) ICU_LOCALE_INLINE
 {
     return (int8_t)(locale == other ? 0 : icu_locale_two_cmp(locale, other));
 }
 
 ICU_LOCALE_TAKES_BOTH((1, 2))
-bool icu_locale_eq(icu_locale_t *locale, icu_locale_t *other) ICU_LOCALE_INLINE
+bool icu_locale_eq(const icu_locale_t *locale, const icu_locale_t *other) ICU_LOCALE_INLINE
 {
     return locale == other || icu_locale_two_eq(locale, other);
 }
 
 /* (an unknown priority of one handle is refused by the library) */
 ICU_LOCALE_TAKES_BOTH((1, 2, 4))
-icu_locale_status icu_locale_data_cmp(icu_locale_t *locale, icu_locale_t *other, icu_locale_priority priority,
-    int8_t *order) ICU_LOCALE_INLINE
+icu_locale_status icu_locale_data_cmp(const icu_locale_t *locale, const icu_locale_t *other,
+    icu_locale_priority priority, int8_t *order) ICU_LOCALE_INLINE
 {
     icu_locale_status status;
     if (locale != other)

@@ -231,9 +231,9 @@ static bool change_list(struct text *list, const char *item, size_t length, bool
 
 /* Reading. */
 
-typedef icu_locale_status (*reading)(icu_locale_t *, uint8_t *, size_t, size_t *);
-typedef icu_locale_status (*reading_at)(icu_locale_t *, size_t, uint8_t *, size_t, size_t *);
-typedef icu_locale_status (*reading_by)(icu_locale_t *, const uint8_t *, size_t, uint8_t *, size_t, size_t *);
+typedef icu_locale_status (*reading)(const icu_locale_t *, uint8_t *, size_t, size_t *);
+typedef icu_locale_status (*reading_at)(const icu_locale_t *, size_t, uint8_t *, size_t, size_t *);
+typedef icu_locale_status (*reading_by)(const icu_locale_t *, const uint8_t *, size_t, uint8_t *, size_t, size_t *);
 
 static bool ended(struct text *to, icu_locale_status status, size_t needed)
 {

@@ -39,7 +39,7 @@ static const uint8_t *bytes(const char *text)
 static char last[ROOM];
 
 /* What a call that reads wrote, as a C string; "?" if there is no such part. It tries a buffer that is too small too. */
-typedef icu_locale_status (*reading)(icu_locale_t *, uint8_t *, size_t, size_t *);
+typedef icu_locale_status (*reading)(const icu_locale_t *, uint8_t *, size_t, size_t *);
 
 static const char *ended(icu_locale_status status, size_t needed)
 {
@@ -74,7 +74,7 @@ static const char *read_part(icu_locale_t *locale, reading call)
     return text;
 }
 
-typedef icu_locale_status (*reading_at)(icu_locale_t *, size_t, uint8_t *, size_t, size_t *);
+typedef icu_locale_status (*reading_at)(const icu_locale_t *, size_t, uint8_t *, size_t, size_t *);
 
 static const char *read_at(icu_locale_t *locale, reading_at call, size_t index)
 {

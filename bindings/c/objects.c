@@ -23,8 +23,8 @@ struct line {
 static struct line first, second;
 static uint8_t reply[LINE];
 
-typedef icu_locale_status (*reading)(icu_locale_t *, uint8_t *, size_t, size_t *);
-typedef icu_locale_status (*reading_at)(icu_locale_t *, size_t, uint8_t *, size_t, size_t *);
+typedef icu_locale_status (*reading)(const icu_locale_t *, uint8_t *, size_t, size_t *);
+typedef icu_locale_status (*reading_at)(const icu_locale_t *, size_t, uint8_t *, size_t, size_t *);
 
 static void stop(const char *why)
 {
@@ -254,7 +254,7 @@ static const struct {
 
 static const struct {
     const char *name;
-    bool (*call)(icu_locale_t *, const uint8_t *, size_t);
+    bool (*call)(const icu_locale_t *, const uint8_t *, size_t);
 } questions[] = {
     {"has-variant", icu_locale_has_variant},
     {"has-attribute", icu_locale_has_attribute},
@@ -263,7 +263,7 @@ static const struct {
 static const struct {
     const char *set, *get;
     icu_locale_status (*setting)(icu_locale_t *, const uint8_t *, size_t, const uint8_t *, size_t);
-    icu_locale_status (*getting)(icu_locale_t *, const uint8_t *, size_t, uint8_t *, size_t, size_t *);
+    icu_locale_status (*getting)(const icu_locale_t *, const uint8_t *, size_t, uint8_t *, size_t, size_t *);
 } maps[] = {
     {"set-keyword", "get-keyword", icu_locale_set_keyword, icu_locale_get_keyword},
     {"set-field", "get-field", icu_locale_set_field, icu_locale_get_field},
