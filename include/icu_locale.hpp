@@ -20,6 +20,10 @@
 #ifndef ICU_LOCALE_HPP
 #define ICU_LOCALE_HPP
 
+#if __cplusplus < 201703L && (!defined(_MSVC_LANG) || _MSVC_LANG < 201703L)
+#error "icu_locale.hpp needs C++17: compile with -std=c++17, or include icu_locale.h"
+#endif
+
 #include "icu_locale.h"
 
 #include <cstdint>
@@ -68,15 +72,47 @@ inline std::string words(status told)
     return std::string(reinterpret_cast<const char *>(bytes), length);
 }
 
-/* A refused text, or a refused number. */
+namespace detail {
+
+/* A text as a message shows it: in quotes, at most 64 bytes of it, and what is no printable ASCII as \xNN. */
+inline std::string shown(std::string_view text)
+{
+    const char digits[] = "0123456789abcdef";
+    std::string said = "'";
+    for (const char it : text.substr(0, 64)) {
+        const auto byte = static_cast<unsigned char>(it);
+        if (byte >= 32 && byte < 127 && it != '\'' && it != '\\')
+            said += it;
+        else
+            said.append("\\x").append(1, digits[byte >> 4]).append(1, digits[byte & 15]);
+    }
+    return said + (text.size() > 64 ? "'..." : "'");
+}
+
+} // namespace detail
+
+#if defined(__clang__)
+#pragma clang diagnostic push
+#pragma clang diagnostic ignored "-Wweak-vtables" // a header has no other file for its table
+#endif
+
+/* A refused text, or a refused number. what() has the words of the status, and the text: Invalid subtag: 'en-'. */
 class error : public std::invalid_argument {
 public:
     explicit error(icu_locale::status told) : std::invalid_argument(words(told)), told_(told) {}
+    error(icu_locale::status told, std::string_view text)
+        : std::invalid_argument(words(told) + ": " + detail::shown(text)), told_(told)
+    {
+    }
     icu_locale::status status() const noexcept { return told_; }
 
 private:
     icu_locale::status told_;
 };
+
+#if defined(__clang__)
+#pragma clang diagnostic pop
+#endif
 
 /* A value, or why there is none. value() throws icu_locale::error if there is none. */
 template <class T> class [[nodiscard]] result {
@@ -122,6 +158,18 @@ inline status told(icu_locale_status number)
 
 } // namespace detail
 
+namespace detail {
+
+/* The value, or the error with the text that was refused. */
+template <class T> T value_of(result<T> made, std::string_view text)
+{
+    if (!made)
+        throw error(made.status(), text);
+    return std::move(made).value();
+}
+
+} // namespace detail
+
 /* The normal form of the text, or why it has none. */
 inline result<std::string> try_normalize(std::string_view text, mode as = mode::locale)
 {
@@ -137,7 +185,7 @@ inline result<std::string> try_normalize(std::string_view text, mode as = mode::
 
 inline std::string normalize(std::string_view text, mode as = mode::locale)
 {
-    return try_normalize(text, as).value();
+    return detail::value_of(try_normalize(text, as), text);
 }
 
 /* status::done if the text has a meaning; otherwise why it has none. */
@@ -157,7 +205,7 @@ inline result<int> try_strict_cmp(std::string_view text, std::string_view other,
 
 inline int strict_cmp(std::string_view text, std::string_view other, mode as = mode::locale)
 {
-    return try_strict_cmp(text, other, as).value();
+    return detail::value_of(try_strict_cmp(text, other, as), text);
 }
 
 /* Whether both texts have the same meaning. */
@@ -171,7 +219,7 @@ inline result<bool> try_normalizing_eq(std::string_view text, std::string_view o
 
 inline bool normalizing_eq(std::string_view text, std::string_view other, mode as = mode::locale)
 {
-    return try_normalizing_eq(text, other, as).value();
+    return detail::value_of(try_normalizing_eq(text, other, as), text);
 }
 
 /* The byte order of the normal forms of both texts: -1, 0 or 1. */
@@ -185,7 +233,8 @@ inline result<int> try_compare(std::string_view text, std::string_view other, mo
 
 inline int compare(std::string_view text, std::string_view other, mode as = mode::locale)
 {
-    return try_compare(text, other, as).value();
+    const auto order = try_compare(text, other, as);
+    return order ? *order : detail::value_of(order, check(text, as) == status::done ? other : text);
 }
 
 /* A locale, with parts to read and to change. It starts as und, the unknown locale, and is und once it was moved from.
@@ -196,7 +245,7 @@ public:
     locale() noexcept = default;
 
     /* What the text means. */
-    explicit locale(std::string_view text) { accept(try_assign(text)); }
+    explicit locale(std::string_view text) { accept(try_assign(text), text); }
 
     static result<locale> try_parse(std::string_view text)
     {
@@ -235,7 +284,11 @@ public:
         return detail::told(icu_locale_parse(&held_, detail::bytes(text), text.size()));
     }
 
-    locale &assign(std::string_view text) { return accept(try_assign(text)), *this; }
+    locale &assign(std::string_view text)
+    {
+        accept(try_assign(text), text);
+        return *this;
+    }
 
     /* The whole. base_name is the identifier alone, without extensions. */
     std::string to_string() const { return *read(icu_locale_to_string); }
@@ -274,9 +327,9 @@ public:
     }
     [[nodiscard]] icu_locale::status try_set_script(std::string_view text) { return set(icu_locale_set_script, text); }
     [[nodiscard]] icu_locale::status try_set_region(std::string_view text) { return set(icu_locale_set_region, text); }
-    void set_language(std::string_view text) { accept(try_set_language(text)); }
-    void set_script(std::string_view text) { accept(try_set_script(text)); }
-    void set_region(std::string_view text) { accept(try_set_region(text)); }
+    void set_language(std::string_view text) { accept(try_set_language(text), text); }
+    void set_script(std::string_view text) { accept(try_set_script(text), text); }
+    void set_region(std::string_view text) { accept(try_set_region(text), text); }
 
     /* Variants, ascending. Removing tells whether there was one. */
     std::vector<std::string> variants() const { return list(icu_locale_variant_count, icu_locale_get_variant); }
@@ -288,7 +341,7 @@ public:
     {
         return set(icu_locale_add_variant, text);
     }
-    void add_variant(std::string_view text) { accept(try_add_variant(text)); }
+    void add_variant(std::string_view text) { accept(try_add_variant(text), text); }
     bool remove_variant(std::string_view text) { return is_done(set(icu_locale_remove_variant, text)); }
     void clear_variants() { accept(detail::told(icu_locale_clear_variants(&held_))); }
 
@@ -307,7 +360,10 @@ public:
             &held_, detail::bytes(key), key.size(), detail::bytes(value), value.size()));
     }
 
-    void set_keyword(std::string_view key, std::string_view value = {}) { accept(try_set_keyword(key, value)); }
+    void set_keyword(std::string_view key, std::string_view value = {})
+    {
+        accept(try_set_keyword(key, value), key, value);
+    }
     bool remove_keyword(std::string_view key) { return is_done(set(icu_locale_remove_keyword, key)); }
     void clear_keywords() { accept(detail::told(icu_locale_clear_keywords(&held_))); }
 
@@ -321,7 +377,7 @@ public:
     {
         return set(icu_locale_add_attribute, text);
     }
-    void add_attribute(std::string_view text) { accept(try_add_attribute(text)); }
+    void add_attribute(std::string_view text) { accept(try_add_attribute(text), text); }
     bool remove_attribute(std::string_view text) { return is_done(set(icu_locale_remove_attribute, text)); }
     void clear_attributes() { accept(detail::told(icu_locale_clear_attributes(&held_))); }
 
@@ -331,7 +387,7 @@ public:
     {
         return set(icu_locale_set_transform_language, text);
     }
-    void set_transform_language(std::string_view text) { accept(try_set_transform_language(text)); }
+    void set_transform_language(std::string_view text) { accept(try_set_transform_language(text), text); }
 
     /* Fields of the extension t, as pairs of key and value, by ascending key. */
     std::vector<std::pair<std::string, std::string>> fields() const
@@ -348,7 +404,7 @@ public:
             icu_locale_set_field(&held_, detail::bytes(key), key.size(), detail::bytes(value), value.size()));
     }
 
-    void set_field(std::string_view key, std::string_view value) { accept(try_set_field(key, value)); }
+    void set_field(std::string_view key, std::string_view value) { accept(try_set_field(key, value), key, value); }
     bool remove_field(std::string_view key) { return is_done(set(icu_locale_remove_field, key)); }
     void clear_fields() { accept(detail::told(icu_locale_clear_fields(&held_))); }
 
@@ -358,7 +414,7 @@ public:
     {
         return set(icu_locale_set_private, text);
     }
-    void set_private_extension(std::string_view text) { accept(try_set_private_extension(text)); }
+    void set_private_extension(std::string_view text) { accept(try_set_private_extension(text), text); }
 
     /* Other extensions, such as a-foo of en-a-foo, by their singleton, in either case. set_other takes the whole text,
      * which begins with the singleton. */
@@ -375,7 +431,7 @@ public:
     }
 
     [[nodiscard]] icu_locale::status try_set_other(std::string_view text) { return set(icu_locale_set_other, text); }
-    void set_other(std::string_view text) { accept(try_set_other(text)); }
+    void set_other(std::string_view text) { accept(try_set_other(text), text); }
     bool remove_other(char singleton)
     {
         return is_done(detail::told(icu_locale_remove_other(&held_, static_cast<std::uint8_t>(singleton))));
@@ -437,6 +493,18 @@ private:
     {
         if (told != icu_locale::status::done)
             throw error(told);
+    }
+
+    static void accept(icu_locale::status told, std::string_view text)
+    {
+        if (told != icu_locale::status::done)
+            throw error(told, text);
+    }
+
+    static void accept(icu_locale::status told, std::string_view key, std::string_view value)
+    {
+        if (told != icu_locale::status::done)
+            throw error(told, std::string(key) + (value.empty() ? "" : "-") + std::string(value));
     }
 
     static bool is_done(icu_locale::status told) noexcept { return told == icu_locale::status::done; }
@@ -503,7 +571,7 @@ private:
         return detail::told(call(&held_, detail::bytes(text), text.size()));
     }
 
-    mutable icu_locale_t held_ = ICU_LOCALE_UND;  // calls that only read also take a pointer that is not const
+    mutable icu_locale_t held_ = ICU_LOCALE_UND;  // calls that only read also write to the handle meanwhile
 };
 
 /* Whether the library that is linked or loaded was made for this header. If it was not, no other call may be made. */

@@ -272,16 +272,41 @@ static void try_objects()
     static_assert(std::is_nothrow_move_assignable_v<locale> && std::is_nothrow_default_constructible_v<locale>);
 }
 
-/* An error says why: the words are those of the status, and an empty view may be of a null pointer. */
-static void try_errors()
+/* What the error of a call says, which is to throw one. */
+template <class Call> static std::string said(Call call)
 {
     try {
-        icu_locale::normalize(std::string_view());
-        std::abort();
+        call();
     } catch (const icu_locale::error &refused) {
-        if (refused.status() != icu_locale::status::invalid_language || refused.what() != icu_locale::words(refused.status()))
-            std::abort();
+        const std::string what = refused.what(), words = icu_locale::words(refused.status());
+        return what.compare(0, words.size(), words) == 0 ? what.substr(words.size()) : what;
     }
+    std::abort();
+}
+
+/* An error says why and of which text, of which it shows 64 bytes. An empty view may be of a null pointer. */
+static void try_errors()
+{
+    locale held("en");
+    const std::string long_text(65, 'a');
+    const std::pair<std::string, std::string> cases[] = {
+        {said([] { icu_locale::normalize(std::string_view()); }), ": ''"},
+        {said([] { icu_locale::strict_cmp("e", "en"); }), ": 'e'"},
+        {said([] { icu_locale::normalizing_eq("e\n'", "en"); }), ": 'e\\x0a\\x27'"},
+        {said([] { icu_locale::compare("e", "x"); }), ": 'e'"},
+        {said([] { icu_locale::compare("en", "x"); }), ": 'x'"},
+        {said([&] { locale made(long_text); }), ": '" + long_text.substr(1) + "'..."},
+        {said([&] { held.assign("en-"); }), ": 'en-'"},
+        {said([&] { held.set_region("USA"); }), ": 'USA'"},
+        {said([&] { held.add_variant("pos"); }), ": 'pos'"},
+        {said([&] { held.set_keyword("ca", "r"); }), ": 'ca-r'"},
+        {said([&] { held.set_keyword("c1"); }), ": 'c1'"},
+        {said([&] { held.set_field("m", "din"); }), ": 'm-din'"},
+        {said([] { icu_locale::try_normalize("e").value(); }), ""},
+    };
+    for (const auto &[got, wanted] : cases)
+        if (got != wanted)
+            std::abort();
 }
 
 int main(int count, char **words)

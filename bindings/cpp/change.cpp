@@ -2,7 +2,7 @@
  *
  *     $ change en-us en-
  *     en-GB-u-ca-buddhist
- *     en-: Invalid subtag
+ *     Invalid subtag: 'en-'
  */
 #include "icu_locale.hpp"
 
@@ -18,7 +18,7 @@ int main(int count, char **words)
             locale.set_keyword("ca", "buddhist");
             std::cout << locale << '\n';
         } catch (const icu_locale::error &refused) {
-            std::cout << words[i] << ": " << refused.what() << '\n';
+            std::cout << refused.what() << '\n';
             failed = true;
         }
     }

@@ -12,7 +12,7 @@ def main():
             locale = Locale(text)
             print(locale.replace(region="GB", keywords={**locale.keywords, "ca": "buddhist"}))
         except LocaleError as refusal:
-            print(f"{text}: {refusal}")
+            print(refusal)
             failed = True
     return failed
 

@@ -11,7 +11,7 @@ def main():
         try:
             print(normalize(text))
         except LocaleError as refusal:
-            print(f"{text}: {refusal}")
+            print(refusal)
             failed = True
     return failed
 
