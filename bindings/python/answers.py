@@ -21,7 +21,7 @@ def answered(call, *words):
     try:
         return call(*words)
     except LocaleError as refusal:
-        return f"! {refusal}"
+        return f"! {refusal.words}"
 
 
 def checked(line, mode):

@@ -22,11 +22,11 @@ def compare():
 
 
 def read_first():
-    ANSWERS.append(FIRST.region == "GB")
+    ANSWERS.append(FIRST.data_locale() == "en-GB-aaaaa")
 
 
 def read_second():
-    ANSWERS.append(SECOND.language == "de")
+    ANSWERS.append(SECOND.data_locale() == "de")
 
 
 class Knot:

@@ -6,6 +6,7 @@ import array
 import collections.abc
 import copy
 import doctest
+import inspect
 import os
 import pickle
 import subprocess
@@ -62,6 +63,30 @@ def raised(call, *words):
         return type(error)
 
 
+def told(call, *words):
+    """What the refusal of a call says, after it was pickled; or what the call returns."""
+    try:
+        return call(*words)
+    except LocaleError as refusal:
+        return str(pickle.loads(pickle.dumps(refusal)))
+
+
+def at_once():
+    """What threads find that normalize texts of their own at the same time, of which each would be wrong if two shared room."""
+    wrong = []
+
+    def look(number):
+        text = f"EN-x-{number}" + "-abcdefgh" * number
+        wrong.extend(it for it in (normalize(text) for _ in range(3000)) if it != text.replace("EN", "en"))
+
+    threads = [threading.Thread(target=look, args=(it,)) for it in range(8)]
+    for it in threads:
+        it.start()
+    for it in threads:
+        it.join()
+    return wrong
+
+
 def loading(path):
     """What importing the package says, with this library named."""
     ran = subprocess.run(
@@ -90,7 +115,7 @@ def shared():
 
     def look(first, second):
         for _ in range(2000):
-            if str(locales[first]) != texts[first] or (locales[first] < locales[second]) != (first > second):
+            if locales[first].strict_cmp(texts[first]) or (locales[first] < locales[second]) != (first > second):
                 wrong.append(str(locales[first]))
 
     threads = [threading.Thread(target=look, args=it) for it in ((0, 1), (1, 0)) * 4]
@@ -184,6 +209,30 @@ CASES = [
     ([str(it) for it in sorted(map(Locale, ["und", "en-macos-posix", "en-posix", "de"]))], ["de", "en-posix", "en-macos-posix", "und"]),
     (shared(), []),
     (meanwhile(), ""),
+    (at_once(), []),
+    (told(normalize, "en-"), "Invalid subtag: 'en-'"),
+    (told(check, b"en-\xff"), "Invalid extension: b'en-\\xff'"),
+    (told(normalize, memoryview(b"en-")), "Invalid subtag: 'en-'"),
+    (told(normalize, "en-" + "x" * 99), f"Invalid subtag: 'en-{'x' * 61}'..."),
+    (told(normalize, FalseText("en-")), "Invalid subtag: 'en-'"),
+    (told(normalize, "\ud800"), "The given language subtag is invalid: '\\ud800'"),
+    (told(strict_cmp, "e", "en"), "The given language subtag is invalid: 'e'"),
+    (told(normalizing_eq, "e", "en"), "The given language subtag is invalid: 'e'"),
+    (told(compare, "e", "x"), "The given language subtag is invalid: 'e'"),
+    (told(compare, "en", "x"), "The given language subtag is invalid: 'x'"),
+    (told(Locale, "en-"), "Invalid subtag: 'en-'"),
+    (told(lambda: HELD.replace(region="USA")), "Invalid subtag: 'USA'"),
+    (told(lambda: HELD.replace(variants=["posix", "pos"])), "Invalid subtag: 'pos'"),
+    (told(lambda: HELD.replace(keywords={"ca": "r"})), "Invalid subtag: 'ca-r'"),
+    (told(lambda: HELD.replace(keywords={b"ca": b"ab"})), "Invalid subtag: 'en-US-posix-u-foo-ca-ab'"),
+    (told(lambda: HELD.replace(fields={"m": "din"})), "Invalid extension: 'm-din'"),
+    (told(lambda: HELD.replace(others={"a": "b"})), "Invalid extension: 'a-b'"),
+    (told(lambda: HELD.replace(others={"ab": "cd"})), "Invalid extension: 'ab-cd'"),
+    (LocaleError().words, ""),
+    (str(inspect.signature(Locale.replace)).count("= unchanged"), 10),
+    ("0x" in str(inspect.signature(Locale.replace)), False),
+    (len({id(HELD.keywords) for _ in range(3)}), 1),
+    ((HELD.replace(region="GB").region, HELD.region, HELD.replace(region=None).region), ("GB", "US", None)),
     ("run bindings/build" in loading("/dev/null"), True),
     ("of header" in loading(sys.executable) or "another library" in loading("libc.so.6"), True),
 ]

@@ -12,7 +12,7 @@ en-GB-u-ca-buddhist
 'en-US-u-ca-buddhist'
 >>> normalize("en-", Mode.IDENTIFIER)
 Traceback (most recent call last):
-icu_locale_c.InvalidSubtag: Invalid subtag
+icu_locale_c.InvalidSubtag: Invalid subtag: 'en-'
 
 A text is a str, or bytes (or any bytes-like object) of any encoding. Anything else is a TypeError. A lone surrogate in
 a str is refused like any other character that no identifier has.
@@ -29,14 +29,16 @@ wheel), or the one that bindings/build made, or one that the system finds."""
 
 from __future__ import annotations
 
+import collections
 import ctypes
 import ctypes.util
 import enum
+import functools
 import os
 import pathlib
 import threading
 import types
-from typing import Any, Callable, Dict, Iterable, List, Mapping, Optional, Tuple, Type, Union
+from typing import Any, Callable, Deque, Dict, Iterable, List, Mapping, Optional, Tuple, Type, TypeVar, Union
 
 __all__ = [
     "Locale",
@@ -89,7 +91,16 @@ class Priority(enum.IntEnum):
 
 
 class LocaleError(ValueError):
-    """A refused text. Its message has the words of the refusal."""
+    """A refused text: `words` says why it is refused, and `text` is the text, as bytes if it is no UTF-8. It prints both."""
+
+    def __init__(self, words: str = "", text: Union[str, bytes, None] = None) -> None:
+        super().__init__(words, text)
+        self.words, self.text = words, text
+
+    def __str__(self) -> str:
+        if self.text is None:
+            return self.words
+        return f"{self.words}: {self.text[:64]!r}" + ("..." if len(self.text) > 64 else "")
 
 
 class InvalidLanguage(LocaleError):
@@ -119,8 +130,9 @@ _DONE, _INVALID_SUBTAG, _INVALID_EXTENSION, _BUFFER_TOO_SMALL, _NOT_FOUND = 0, 2
 _REFUSALS = {1: InvalidLanguage, 2: InvalidSubtag, 3: InvalidExtension, 4: DuplicatedExtension, 5: MemoryError}
 _NUMBER, _BYTES, _SIZE, _BYTE = ctypes.c_uint32, ctypes.c_char_p, ctypes.c_size_t, ctypes.c_uint8
 _ORDER, _SAME = ctypes.POINTER(ctypes.c_int8), ctypes.POINTER(ctypes.c_uint8)
-_NEEDED, _LOCALE, _TRUTH = ctypes.POINTER(_SIZE), ctypes.POINTER(_Handle), ctypes.c_bool
-_TEXT, _BUFFER = (_BYTES, _SIZE), (_BYTES, _SIZE, _NEEDED)
+_LOCALE, _TRUTH = ctypes.POINTER(_Handle), ctypes.c_bool
+# (a place to write to is given by its address, which takes half the time)
+_TEXT, _BUFFER = (_BYTES, _SIZE), (ctypes.c_void_p, _SIZE, ctypes.c_void_p)
 # Of each function its arguments, and what it returns, if that is no status.
 _FORMS = {
     "normalize": (_NUMBER, *_TEXT, *_BUFFER),
@@ -217,6 +229,8 @@ def _bytes(text: Any) -> bytes:
 
 def _number(kind: Any, given: Any) -> Any:
     """The mode or priority of this number. Another number is a ValueError, and another type a TypeError."""
+    if type(given) is kind:
+        return given
     if not isinstance(given, int):
         raise TypeError(f"a {kind.__name__} is wanted, not {type(given).__name__}")
     return kind(given)
@@ -230,8 +244,8 @@ def _call(function: Any, *given: Any) -> Any:
         raise MemoryError from None
 
 
-def _raise(status: int) -> None:
-    """Raises what the status stands for, unless it is done."""
+def _raise(status: int, text: Optional[bytes] = None) -> None:
+    """Raises what the status stands for, unless it is done, with the text that was refused."""
     if status == _DONE:
         return
     refusal = _REFUSALS.get(status)
@@ -239,7 +253,50 @@ def _raise(status: int) -> None:
         raise RuntimeError(f"the library gave status {status}, which this wrapper does not know: {_REMEDY}")
     words, needed = ctypes.create_string_buffer(64), ctypes.c_size_t()
     _call(_library.icu_locale_words, status, words, 64, ctypes.byref(needed))
-    raise refusal(words.raw[: needed.value].decode())
+    said = words.raw[: needed.value].decode()
+    if text is None or refusal is MemoryError:
+        raise refusal(said)
+    raise refusal(said, _shown(text))
+
+
+def _shown(text: bytes) -> Union[str, bytes]:
+    """The bytes as a str, if they are the UTF-8 of one."""
+    try:
+        return text.decode("utf-8", "surrogatepass")
+    except UnicodeDecodeError:
+        return text
+
+
+class _Buffer:
+    """Room for an answer and for its length, with the addresses of both."""
+
+    __slots__ = ("bytes", "needed", "at", "needed_at", "room")
+
+    def __init__(self, room: int) -> None:
+        self.bytes, self.needed, self.room = ctypes.create_string_buffer(room), ctypes.c_size_t(), room
+        self.at, self.needed_at = ctypes.addressof(self.bytes), ctypes.addressof(self.needed)
+
+
+# Buffers that no call has now. A call has one for itself, also while another begins within it or in another thread.
+_free_buffers: Deque[_Buffer] = collections.deque(maxlen=8)
+_normalize = _library.icu_locale_normalize
+
+
+def _taken(room: int) -> _Buffer:
+    """A buffer with at least this room, which is the caller's alone."""
+    try:
+        buffer = _free_buffers.pop()
+    except IndexError:
+        return _Buffer(max(room, 256))
+    return buffer if room <= buffer.room else _Buffer(room)
+
+
+def _given_back(buffer: _Buffer) -> str:
+    """The text that was written to a buffer, which another call may have then, unless it is long."""
+    text = ctypes.string_at(buffer.at, buffer.needed.value).decode("ascii")
+    if buffer.room <= 256:
+        _free_buffers.append(buffer)
+    return text
 
 
 def normalize(text: Text, mode: Mode = Mode.LOCALE) -> str:
@@ -252,10 +309,12 @@ def normalize(text: Text, mode: Mode = Mode.LOCALE) -> str:
     TypeError: a text is str or bytes-like, not int
     """
     given, mode = _bytes(text), _number(Mode, mode)
-    room, needed = len(given) + 4, ctypes.c_size_t()
-    buffer = ctypes.create_string_buffer(room)
-    _raise(_call(_library.icu_locale_normalize, mode, given, len(given), buffer, room, ctypes.byref(needed)))
-    return buffer.raw[: needed.value].decode("ascii")
+    room = len(given) + 4
+    buffer = _taken(room)
+    status = _call(_normalize, mode, given, room - 4, buffer.at, room, buffer.needed_at)
+    if status:
+        _raise(status, given)
+    return _given_back(buffer)
 
 
 def check(text: Text, mode: Mode = Mode.LOCALE) -> None:
@@ -264,10 +323,10 @@ def check(text: Text, mode: Mode = Mode.LOCALE) -> None:
     >>> check("en-US-u-ca-buddhist")
     >>> check("en-US-u-ca-buddhist", Mode.IDENTIFIER)
     Traceback (most recent call last):
-    icu_locale_c.InvalidSubtag: Invalid subtag
+    icu_locale_c.InvalidSubtag: Invalid subtag: 'en-US-u-ca-buddhist'
     """
     given = _bytes(text)
-    _raise(_call(_library.icu_locale_check, _number(Mode, mode), given, len(given)))
+    _raise(_call(_library.icu_locale_check, _number(Mode, mode), given, len(given)), given)
 
 
 def strict_cmp(text: Text, other: Text, mode: Mode = Mode.LOCALE) -> int:
@@ -277,7 +336,8 @@ def strict_cmp(text: Text, other: Text, mode: Mode = Mode.LOCALE) -> int:
     (0, 1)
     """
     given, against, order, mode = _bytes(text), _bytes(other), ctypes.c_int8(), _number(Mode, mode)
-    _raise(_call(_library.icu_locale_strict_cmp, mode, given, len(given), against, len(against), ctypes.byref(order)))
+    status = _call(_library.icu_locale_strict_cmp, mode, given, len(given), against, len(against), ctypes.byref(order))
+    _raise(status, given)
     return order.value
 
 
@@ -288,7 +348,8 @@ def normalizing_eq(text: Text, other: Text, mode: Mode = Mode.LOCALE) -> bool:
     (True, False)
     """
     given, against, same, mode = _bytes(text), _bytes(other), ctypes.c_uint8(), _number(Mode, mode)
-    _raise(_call(_library.icu_locale_normalizing_eq, mode, given, len(given), against, len(against), ctypes.byref(same)))
+    status = _call(_library.icu_locale_normalizing_eq, mode, given, len(given), against, len(against), ctypes.byref(same))
+    _raise(status, given)
     return same.value == 1
 
 
@@ -299,11 +360,21 @@ def compare(text: Text, other: Text, mode: Mode = Mode.LOCALE) -> int:
     (0, -1)
     """
     given, against, order, mode = _bytes(text), _bytes(other), ctypes.c_int8(), _number(Mode, mode)
-    _raise(_call(_library.icu_locale_compare, mode, given, len(given), against, len(against), ctypes.byref(order)))
+    status = _call(_library.icu_locale_compare, mode, given, len(given), against, len(against), ctypes.byref(order))
+    if status:
+        # The first text is refused first.
+        _raise(status, given if _call(_library.icu_locale_check, mode, given, len(given)) else against)
     return order.value
 
 
-_KEPT: Any = object()
+class _Unchanged:
+    """What replace is given of a part that stays."""
+
+    def __repr__(self) -> str:
+        return "unchanged"
+
+
+_KEPT: Any = _Unchanged()
 _SINGLETONS = "0123456789abcdefghijklmnopqrsvwyz"
 
 
@@ -375,7 +446,7 @@ class _Owned(_Handle):
         given: List[Any] = []
         for text in texts:
             given += text, len(text)
-        _raise(_call(getattr(_library, f"icu_locale_{name}"), self, *given))
+        _raise(_call(getattr(_library, f"icu_locale_{name}"), self, *given), b"-".join(texts))
 
     def set(self, part: str, text: Optional[Text]) -> None:
         if text is not _KEPT:
@@ -402,7 +473,7 @@ class _Owned(_Handle):
         for key, subtags in others.items():
             singleton, text = _bytes(key), _bytes(subtags)
             if len(singleton) != 1:
-                _raise(_INVALID_EXTENSION)
+                _raise(_INVALID_EXTENSION, singleton + b"-" + text)
             self.change("set_other", singleton + b"-" + text)
 
 
@@ -411,6 +482,24 @@ def _parsed(text: bytes) -> _Owned:
     made = _Owned()
     made.change("parse", text)
     return made
+
+
+_T = TypeVar("_T")
+
+
+def _once(read: Callable[["Locale"], _T]) -> Callable[["Locale"], _T]:
+    """Has a part be read from the library the first time alone: a Locale does not change."""
+    name = read.__name__
+
+    @functools.wraps(read)
+    def part(self: "Locale") -> Any:
+        parts = self._parts
+        try:
+            return parts[name]
+        except KeyError:
+            return parts.setdefault(name, read(self))
+
+    return part
 
 
 class Locale:
@@ -425,13 +514,14 @@ class Locale:
     (True, True)
     >>> Locale("en-")
     Traceback (most recent call last):
-    icu_locale_c.InvalidSubtag: Invalid subtag
+    icu_locale_c.InvalidSubtag: Invalid subtag: 'en-'
     """
 
-    __slots__ = ("_source", "_handles", "__weakref__")
+    __slots__ = ("_source", "_handles", "_parts", "__weakref__")
 
     _source: bytes
     _handles: List["_Owned"]
+    _parts: Dict[str, Any]
 
     def __new__(cls, text: Text) -> "Locale":
         source = _bytes(text)
@@ -445,6 +535,7 @@ class Locale:
             source = (handle.read(_library.icu_locale_to_string) or "").encode()
         object.__setattr__(made, "_source", source)
         object.__setattr__(made, "_handles", [handle])
+        object.__setattr__(made, "_parts", {})
         return made
 
     def __setattr__(self, name: str, value: Any) -> None:
@@ -508,6 +599,7 @@ class Locale:
         return tuple(found)
 
     @property
+    @_once
     def language(self) -> str:
         """The language; 'und' if it is unknown.
 
@@ -517,6 +609,7 @@ class Locale:
         return self._part(_library.icu_locale_get_language)
 
     @property
+    @_once
     def script(self) -> Optional[str]:
         """The script, if there is one.
 
@@ -526,6 +619,7 @@ class Locale:
         return self._read(_library.icu_locale_get_script) or None
 
     @property
+    @_once
     def region(self) -> Optional[str]:
         """The region, if there is one.
 
@@ -535,6 +629,7 @@ class Locale:
         return self._read(_library.icu_locale_get_region) or None
 
     @property
+    @_once
     def variants(self) -> Tuple[str, ...]:
         """The variants, ascending.
 
@@ -544,6 +639,7 @@ class Locale:
         return self._list(_library.icu_locale_variant_count, _library.icu_locale_get_variant)
 
     @property
+    @_once
     def keywords(self) -> Mapping[str, str]:
         """The keywords of the extension u, by ascending key. It does not change.
 
@@ -555,6 +651,7 @@ class Locale:
         return types.MappingProxyType(dict(zip(keys, values)))
 
     @property
+    @_once
     def attributes(self) -> Tuple[str, ...]:
         """The attributes of the extension u, ascending.
 
@@ -564,6 +661,7 @@ class Locale:
         return self._list(_library.icu_locale_attribute_count, _library.icu_locale_get_attribute)
 
     @property
+    @_once
     def transform_language(self) -> Optional[str]:
         """The identifier of the extension t, if there is one.
 
@@ -573,6 +671,7 @@ class Locale:
         return self._read(_library.icu_locale_get_transform_language)
 
     @property
+    @_once
     def fields(self) -> Mapping[str, str]:
         """The fields of the extension t, by ascending key. It does not change.
 
@@ -584,6 +683,7 @@ class Locale:
         return types.MappingProxyType(dict(zip(keys, values)))
 
     @property
+    @_once
     def private(self) -> Optional[str]:
         """The private extension with its x, if there is one.
 
@@ -593,6 +693,7 @@ class Locale:
         return self._read(_library.icu_locale_get_private) or None
 
     @property
+    @_once
     def others(self) -> Mapping[str, str]:
         """The other extensions, by ascending singleton. It does not change.
 
@@ -607,6 +708,7 @@ class Locale:
         return types.MappingProxyType(found)
 
     @property
+    @_once
     def calendar_algorithm(self) -> Optional[str]:
         """The calendar of the keyword ca, as formatters parse it, if it names one.
 
@@ -616,6 +718,7 @@ class Locale:
         return self._read(_library.icu_locale_get_calendar_algorithm)
 
     @property
+    @_once
     def hour_cycle(self) -> Optional[str]:
         """The hour cycle of the keyword hc, if it names one.
 
@@ -625,6 +728,7 @@ class Locale:
         return self._read(_library.icu_locale_get_hour_cycle)
 
     @property
+    @_once
     def numbering_system(self) -> Optional[str]:
         """The numbering system of the keyword nu, if it is one subtag.
 
@@ -643,6 +747,7 @@ class Locale:
         return self._part(_library.icu_locale_get_data_locale, _number(Priority, priority))
 
     @property
+    @_once
     def base_name(self) -> str:
         """The identifier alone, without extensions.
 
@@ -652,6 +757,7 @@ class Locale:
         return self._part(_library.icu_locale_get_base_name)
 
     @property
+    @_once
     def is_und(self) -> bool:
         """Whether this is und, with no other part.
 
@@ -688,13 +794,13 @@ class Locale:
         Locale('en-US-posix')
         >>> locale.replace(region="USA")
         Traceback (most recent call last):
-        icu_locale_c.InvalidSubtag: Invalid subtag
+        icu_locale_c.InvalidSubtag: Invalid subtag: 'USA'
 
         A value is refused if its text would not be parsed back as this value:
 
         >>> locale.replace(keywords={"ca": "ab"})
         Traceback (most recent call last):
-        icu_locale_c.InvalidSubtag: Invalid subtag
+        icu_locale_c.InvalidSubtag: Invalid subtag: 'en-US-u-ca-ab'
         """
         made = self._copied()
         made.set("language", language)
@@ -713,7 +819,7 @@ class Locale:
         if others is not _KEPT:
             made.fill_others(others)
         if not _call(_library.icu_locale_is_well_formed, made):
-            _raise(_INVALID_SUBTAG)
+            _raise(_INVALID_SUBTAG, (made.read(_library.icu_locale_to_string) or "").encode())
         return self._of(made)
 
     def _copied(self) -> "_Owned":
@@ -795,9 +901,11 @@ class Locale:
     def __ge__(self, other: "Locale") -> bool:
         return self._cmp(other) >= 0 if isinstance(other, Locale) else NotImplemented
 
+    @_once
     def __hash__(self) -> int:
         return int(self._ask(_library.icu_locale_hash))
 
+    @_once
     def __str__(self) -> str:
         return self._part(_library.icu_locale_to_string)
 
