@@ -1,13 +1,12 @@
 """Builds the wheel of icu_locale_c for pip, with the library inside. It needs no package and no network.
 
-The library is out/bindings/libicu_locale.so, or the one that ICU_LOCALE_LIBRARY names. If there is none,
-bindings/build makes it, which needs the toolchain."""
+The library is out/bindings/libicu_locale.so, or the one that ICU_LOCALE_LIBRARY names. If there is none, it says what to
+run: making it can take an hour, which an installation is not to begin by itself."""
 
 import base64
 import hashlib
 import os
 import pathlib
-import subprocess
 import sys
 import zipfile
 
@@ -34,13 +33,12 @@ def version():
 
 
 def library():
-    """The bytes of the library, which is built first if it is not there."""
+    """The bytes of the library, which is to be there."""
     named = os.environ.get("ICU_LOCALE_LIBRARY")
     path = pathlib.Path(named) if named else TOP / "out" / "bindings" / "libicu_locale.so"
-    if not named and not path.is_file():
-        subprocess.run([str(TOP / "bindings" / "build")])
     if not path.is_file():
-        sys.exit(f"icu_locale_c: there is no {path}: run bindings/build in the repository, or name the library by ICU_LOCALE_LIBRARY")
+        print(f"icu_locale_c: there is no {path}", file=sys.stderr)
+        sys.exit(f"icu_locale_c: run {TOP}/bindings/build, or name the library by ICU_LOCALE_LIBRARY")
     return path.read_bytes()
 
 

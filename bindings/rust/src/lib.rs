@@ -134,6 +134,47 @@ impl fmt::Display for Refusal {
 
 impl std::error::Error for Refusal {}
 
+impl Refusal {
+    /// The refusal with the text that was refused, for a message that names it.
+    ///
+    /// ```
+    /// use icu_locale_c::Locale;
+    ///
+    /// let text = "en-";
+    /// let refused = text.parse::<Locale>().map_err(|it| it.of(text)).unwrap_err();
+    /// assert_eq!(refused.to_string(), "Invalid subtag: 'en-'");
+    /// ```
+    pub fn of(self, text: impl AsRef<[u8]>) -> Refused {
+        Refused {
+            refusal: self,
+            text: text.as_ref().to_vec(),
+        }
+    }
+}
+
+/// A refusal with its text, made by [`Refusal::of`]. It prints both: the words, and at most 64 bytes of the text.
+#[derive(Clone, Debug, PartialEq, Eq, Hash)]
+pub struct Refused {
+    /// Why the text is refused.
+    pub refusal: Refusal,
+    /// The text.
+    pub text: Vec<u8>,
+}
+
+impl fmt::Display for Refused {
+    fn fmt(&self, f: &mut fmt::Formatter<'_>) -> fmt::Result {
+        let first = &self.text[..self.text.len().min(64)];
+        let rest = if first.len() < self.text.len() { "..." } else { "" };
+        f.pad(&format!("{}: '{}'{rest}", self.refusal.words(), first.escape_ascii()))
+    }
+}
+
+impl std::error::Error for Refused {
+    fn source(&self) -> Option<&(dyn std::error::Error + 'static)> {
+        Some(&self.refusal)
+    }
+}
+
 /// A status, as a result. The functions here pass the numbers and the room that the others ask for.
 fn result(status: u32) -> Result<(), Refusal> {
     match status {
@@ -257,6 +298,16 @@ mod tests {
     fn a_refusal_honors_the_width() {
         assert_eq!(format!("{:>16}|", Refusal::InvalidSubtag), "  Invalid subtag|");
         assert_eq!(format!("{:-<16}|", Refusal::OutOfMemory), "Out of memory---|");
+    }
+
+    #[test]
+    fn a_refused_text_is_named() {
+        let said = |text: &[u8]| normalize(Mode::Locale, text).map_err(|it| it.of(text).to_string()).unwrap_err();
+        assert_eq!(said(b"en-"), "Invalid subtag: 'en-'");
+        assert_eq!(said(b"e\n'\xff"), "The given language subtag is invalid: 'e\\n\\'\\xff'");
+        let long = [b'a'; 65];
+        assert_eq!(said(&long), format!("The given language subtag is invalid: '{}'...", "a".repeat(64)));
+        assert_eq!(format!("{:>24}|", Refusal::InvalidSubtag.of("e")), "     Invalid subtag: 'e'|");
     }
 
     #[test]
