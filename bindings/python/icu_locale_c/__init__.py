@@ -91,7 +91,7 @@ class Priority(enum.IntEnum):
 
 
 class LocaleError(ValueError):
-    """A refused text: `words` says why it is refused, and `text` is the text, as bytes if it is no UTF-8. It prints both."""
+    """A refused text: `words` says why, and `text` is the text, as bytes if it is no UTF-8. It prints both."""
 
     def __init__(self, words: str = "", text: Union[str, bytes, None] = None) -> None:
         super().__init__(words, text)
@@ -293,7 +293,7 @@ def _taken(room: int) -> _Buffer:
 
 def _given_back(buffer: _Buffer) -> str:
     """The text that was written to a buffer, which another call may have then, unless it is long."""
-    text = ctypes.string_at(buffer.at, buffer.needed.value).decode("ascii")
+    text = buffer.bytes.raw[: buffer.needed.value].decode("ascii")
     if buffer.room <= 256:
         _free_buffers.append(buffer)
     return text
