@@ -34,6 +34,7 @@ import ctypes
 import ctypes.util
 import enum
 import functools
+import importlib
 import os
 import pathlib
 import threading
@@ -282,6 +283,20 @@ _free_buffers: Deque[_Buffer] = collections.deque(maxlen=8)
 _normalize = _library.icu_locale_normalize
 
 
+def _quicker() -> Optional[Callable[[Any, Any], Optional[str]]]:
+    """The module _quick for this library, if the wheel has it: it answers what it can, and else None."""
+    try:
+        quick: Any = importlib.import_module(f"{__name__}._quick")
+    except ImportError:
+        return None
+    quick.use(ctypes.cast(_normalize, ctypes.c_void_p).value)
+    found: Callable[[Any, Any], Optional[str]] = quick.normalize
+    return found
+
+
+_quick_normalize = _quicker()
+
+
 def _taken(room: int) -> _Buffer:
     """A buffer with at least this room, which is the caller's alone."""
     try:
@@ -308,6 +323,10 @@ def normalize(text: Text, mode: Mode = Mode.LOCALE) -> str:
     Traceback (most recent call last):
     TypeError: a text is str or bytes-like, not int
     """
+    if _quick_normalize is not None:
+        quickly = _quick_normalize(text, mode)
+        if quickly is not None:
+            return quickly
     given, mode = _bytes(text), _number(Mode, mode)
     room = len(given) + 4
     buffer = _taken(room)

@@ -1,0 +1,60 @@
+/* A quicker way to call icu_locale_normalize than ctypes, for short texts. A wheel has it if Python.h and a C compiler
+ * were there. What it does not answer, it leaves to __init__.py: long texts, refusals, and arguments of another type. */
+#define PY_SSIZE_T_CLEAN
+#define Py_LIMITED_API 0x03080000
+#include <Python.h>
+
+#include <stddef.h>
+#include <stdint.h>
+
+enum { LONGEST = 252, MORE = 4 }; /* a normal form is at most four bytes longer than its text */
+
+typedef uint32_t (*call)(uint32_t mode, const uint8_t *text, size_t length, uint8_t *buffer, size_t room, size_t *needed);
+
+static call normalize_at;
+
+static PyObject *nothing(void)
+{
+    PyErr_Clear();
+    Py_RETURN_NONE;
+}
+
+/* normalize(text, mode): the normal form, or None. */
+static PyObject *quick_normalize(PyObject *self, PyObject *given)
+{
+    const char *text;
+    Py_ssize_t length;
+    int mode;
+    uint8_t room[LONGEST + MORE];
+    size_t needed = 0;
+    (void)self;
+    if (!PyArg_ParseTuple(given, "s#i", &text, &length, &mode) || length > LONGEST || normalize_at == NULL)
+        return nothing();
+    if (normalize_at((uint32_t)mode, (const uint8_t *)text, (size_t)length, room, (size_t)length + MORE, &needed) != 0)
+        return nothing();
+    return PyUnicode_DecodeASCII((const char *)room, (Py_ssize_t)needed, NULL);
+}
+
+/* use(address): where icu_locale_normalize of the library stands. */
+static PyObject *quick_use(PyObject *self, PyObject *address)
+{
+    void *at = PyLong_AsVoidPtr(address);
+    (void)self;
+    if (at == NULL && PyErr_Occurred())
+        return NULL;
+    normalize_at = (call)(uintptr_t)at;
+    Py_RETURN_NONE;
+}
+
+static PyMethodDef methods[] = {
+    {"normalize", quick_normalize, METH_VARARGS, NULL},
+    {"use", quick_use, METH_O, NULL},
+    {NULL, NULL, 0, NULL},
+};
+
+static struct PyModuleDef module = {PyModuleDef_HEAD_INIT, "_quick", NULL, -1, methods, NULL, NULL, NULL, NULL};
+
+PyMODINIT_FUNC PyInit__quick(void)
+{
+    return PyModule_Create(&module);
+}
