@@ -465,8 +465,10 @@ public:
     int data_compare(const locale &other, priority by = priority::language) const
     {
         std::int8_t order = 0;
-        if (this == &other)
-            return data_strict_cmp({}, by), 0;  // an unknown priority is refused here too
+        if (this == &other) {
+            data_strict_cmp({}, by);  // an unknown priority is refused here too
+            return 0;
+        }
         accept(detail::told(icu_locale_data_cmp(&held_, &other.held_, static_cast<icu_locale_priority>(by), &order)));
         return order;
     }
