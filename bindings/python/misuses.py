@@ -109,14 +109,15 @@ def meanwhile():
 
 
 def shared():
-    """What threads find that read and compare the same locales, of which each would be wrong if two calls had it at once."""
-    texts = ["en-GB-aaaaa-bbbbb-ccccc-ddddd-eeeee-u-ca-roc-x-a-b-c-d-e-f", "de-u-co-phonebk"]
+    """What threads find that read and compare the same locales, of which each would be wrong if two calls had it at once.
+    The locales are long, so that a call is likely to run while another does."""
+    texts = [f"{it}{'-abcdefgh' * 2000}" for it in ("en-GB-aaaaa-bbbbb-u-ca-roc-x", "de-u-co-phonebk-x")]
     locales, wrong = [Locale(it) for it in texts], []
 
     def look(first, second):
-        for _ in range(2000):
+        for _ in range(200):
             if locales[first].strict_cmp(texts[first]) or (locales[first] < locales[second]) != (first > second):
-                wrong.append(str(locales[first]))
+                wrong.append(texts[first][:5])
 
     threads = [threading.Thread(target=look, args=it) for it in ((0, 1), (1, 0)) * 4]
     for it in threads:
