@@ -89,8 +89,8 @@ static void look_at_two(icu_locale_mode mode, struct text text, struct text othe
     WANT(status != ICU_LOCALE_DONE || (*order == 0) == (*same == 1));
 }
 
-typedef icu_locale_status (*reading)(icu_locale_t *, uint8_t *, size_t, size_t *);
-typedef icu_locale_status (*reading_at)(icu_locale_t *, size_t, uint8_t *, size_t, size_t *);
+typedef icu_locale_status (*reading)(const icu_locale_t *, uint8_t *, size_t, size_t *);
+typedef icu_locale_status (*reading_at)(const icu_locale_t *, size_t, uint8_t *, size_t, size_t *);
 typedef icu_locale_status (*setting)(icu_locale_t *, const uint8_t *, size_t);
 
 /* The text of a part, read into a buffer that just fits, and then placed. */

@@ -24,11 +24,11 @@ enum { COUNT = sizeof TEXTS / sizeof *TEXTS };
 
 /* The same functions, which a compiler cannot put in the place of their calls. */
 static struct {
-    bool (*volatile eq)(icu_locale_t *, icu_locale_t *);
-    int8_t (*volatile cmp)(icu_locale_t *, icu_locale_t *);
-    icu_locale_status (*volatile copy)(icu_locale_t *, icu_locale_t *);
-    icu_locale_status (*volatile extend)(icu_locale_t *, icu_locale_t *);
-    icu_locale_status (*volatile data_cmp)(icu_locale_t *, icu_locale_t *, icu_locale_priority, int8_t *);
+    bool (*volatile eq)(const icu_locale_t *, const icu_locale_t *);
+    int8_t (*volatile cmp)(const icu_locale_t *, const icu_locale_t *);
+    icu_locale_status (*volatile copy)(icu_locale_t *, const icu_locale_t *);
+    icu_locale_status (*volatile extend)(icu_locale_t *, const icu_locale_t *);
+    icu_locale_status (*volatile data_cmp)(const icu_locale_t *, const icu_locale_t *, icu_locale_priority, int8_t *);
 } BY_POINTER = {icu_locale_eq, icu_locale_cmp, icu_locale_copy, icu_locale_extend_unicode, icu_locale_data_cmp};
 
 static icu_locale_t parsed(const char *text)
