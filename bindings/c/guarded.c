@@ -110,7 +110,7 @@ static struct text part(icu_locale_t *it, reading call)
 static reading_at now_call;
 static size_t now_index;
 
-static icu_locale_status at_index(icu_locale_t *it, uint8_t *buffer, size_t room, size_t *length)
+static icu_locale_status at_index(const icu_locale_t *it, uint8_t *buffer, size_t room, size_t *length)
 {
     return now_call(it, now_index, buffer, room, length);
 }
