@@ -56,11 +56,10 @@ def bound_links(texts):
 
 
 def not_found(found):
-    """Yields each query whose first three results are not those that a reader wants."""
-    titles = {it[0] for it in found}
+    """Yields each query whose first result is not the one that a reader wants."""
     for query, wanted in api_search.WANTED.items():
         first = api_search.found_by(query, found)[:3]
-        if wanted not in titles or wanted not in first:
+        if first[:1] != [wanted]:
             yield f"search for '{query}' does not find {wanted} first: {', '.join(first) or 'nothing'}"
 
 

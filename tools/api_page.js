@@ -6,7 +6,7 @@
 
   // How well an item fits: the fewer the better, -1 if a word of the query is not in it.
   function rank(item, words) {
-    var title = item[0].toLowerCase().replace(/ \((definition|in words)\)$/, ""), last = title.split("::").pop(), sum = 0;
+    var title = item[0].toLowerCase().replace(/ \((definition|in words|module)\)$/, ""), last = title.split("::").pop(), sum = 0;
     for (var i = 0; i < words.length; i++) {
       var word = words[i];
       if (title.indexOf(word) >= 0) { sum += last === word ? 0 : last.indexOf(word) === 0 ? 1 : 2; }

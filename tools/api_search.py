@@ -2,11 +2,13 @@
 import re
 
 from api_definitions import WORDS, files, slug
+from api_model import model
 from api_names import call_at, entry_at, field_id, field_name, module_file, shown_entries, short
 from api_source import read
 
 # What is found is in this order, where the words of a query fit alike.
-TYPE, CALL, VARIANT, PROSE, LAW, DEFINITION = 0, 30, 40, 120, 150, 200
+TYPE, MODULE, CALL, VARIANT, PROSE, LAW, DEFINITION = 0, 20, 30, 40, 120, 150, 200
+SUFFIX = re.compile(r" \((definition|in words|module)\)$")
 # Modules that few programs use come after the others.
 RARE = {"bench": 20, "json": 20, "program": 20}
 
@@ -43,7 +45,8 @@ def of_words():
 
 def items():
     """Returns what search finds: title, address, what is said, its kind, and what else is sought in."""
-    found = [it for entry in shown_entries() for it in of_entry(entry)]
+    found = [(f"{it.short} (module)", module_file(it.path), it.comment, MODULE, "") for it in model()]
+    found += [it for entry in shown_entries() for it in of_entry(entry)]
     found += of_words()
     for it in files().values():
         for block in it.blocks:
@@ -55,7 +58,7 @@ def items():
 
 def rank(item, words):
     """Returns how well an item fits, as tools/api_page.js does."""
-    title = item[0].lower().replace(" (definition)", "").replace(" (in words)", "")
+    title = SUFFIX.sub("", item[0].lower())
     last, total = title.split("::")[-1], 0
     for word in words:
         if word in title:
@@ -76,7 +79,7 @@ def found_by(query, among):
     return [title for at, title in sorted((it for it in ranked if it[0] >= 0), key=lambda it: it[0])]
 
 
-# Words that readers type, and what they are to find among the first three.
+# Words that readers type, and what they are to find first.
 WANTED = {
     "InvalidSubtag": "parser::ParseError::InvalidSubtag",
     "parseerror": "parser::ParseError",
@@ -92,5 +95,9 @@ WANTED = {
     "h12": "preferences::extensions::unicode::keywords::HourCycle::H12",
     "retain": "litemap::LiteMap::retain",
     "IsNormalizedLocale": "IsNormalizedLocale (definition)",
+    "data": "data (module)",
+    "subtags": "subtags (module)",
+    "extensions": "extensions::Extensions",
+    "hashes": "laws::hashes",
     "without memory": "Texts that are parsed without memory (in words)",
 }

@@ -798,7 +798,7 @@ class Locale:
         fields: Mapping[Any, Text] = _KEPT,
         others: Mapping[Any, Text] = _KEPT,
         private: Optional[Text] = _KEPT,
-    ) -> "Locale":
+    ) -> Locale:
         """Returns a locale that has these parts instead, and else those of this one.
 
         None clears a language, script, region, transform_language or private. All variants, keywords, attributes,
@@ -846,7 +846,7 @@ class Locale:
         _raise(self._ask_second(_library.icu_locale_copy, made))
         return made
 
-    def extend_unicode(self, other: "Locale") -> "Locale":
+    def extend_unicode(self, other: Locale) -> Locale:
         """Returns a locale that also has the attributes and keywords of the other one, whose values win.
 
         >>> Locale("en-u-foo-ca-roc-hc-h12").extend_unicode(Locale("de-u-bar-ca-buddhist"))
