@@ -3,7 +3,7 @@
 The room has the program's crate and the crates below it, without their mutants. What `rt ci`
 proves there is kept at once, crate by crate, so that a run which is cut off loses only the proofs under
 way. Some toolchains' `rt ci` keeps it beside the toolchain, and takes it from there in any checkout. With
-the others tools/prove_keeping runs `rt ci`, and keeps it in out/proof."""
+the others tools/prove_keeping runs `rt ci`, and keeps it in a folder, as out/proof."""
 import os
 import re
 import shutil
@@ -16,7 +16,6 @@ import time
 from common import ROOT, below, crates_of
 
 PREFIX = "icu-locale-proof-"
-KEPT_IN = f"{ROOT}/out/proof"
 LEFT_OUT = shutil.ignore_patterns("out", "edits", "*.in")
 PROVED = re.compile(r"rt: (\w+) proved$")
 # (a toolchain says so of what it keeps, and tools/prove_keeping of what was kept before)
@@ -33,17 +32,20 @@ def sweep():
             shutil.rmtree(f"{at}/{name}", ignore_errors=True)
 
 
-def command():
-    """Returns the command that proves a room and keeps what it proves."""
+def command(store):
+    """Returns the command that proves a room and keeps what it proves, beside the toolchain or in the store."""
     with open(shutil.which("rt"), encoding="utf-8", errors="replace") as it:
         keeps = " is kept: " in it.read()
-    return ["rt", "ci"] if keeps else [f"{ROOT}/tools/prove_keeping", KEPT_IN]
+    return ["rt", "ci"] if keeps else [f"{ROOT}/tools/prove_keeping", store]
 
 
 def furnish(room, names, lines):
-    """Copies the crates into the room, which is the top of a repository of its own."""
+    """Copies the crates into the room, which is the top of a repository of its own and can be written."""
     for name in names:
-        shutil.copytree(f"{ROOT}/crates/{name}", f"{room}/crates/{name}", ignore=LEFT_OUT)
+        copy = f"{room}/crates/{name}"
+        shutil.copytree(f"{ROOT}/crates/{name}", copy, ignore=LEFT_OUT, copy_function=shutil.copyfile)
+        for at, _, _ in os.walk(copy):
+            os.chmod(at, 0o755)
     with open(f"{room}/crates.txt", "w", encoding="utf-8") as it:
         it.writelines(f"{lines[name]}\n" for name in names)
     if os.path.isfile(f"{ROOT}/HANDLES"):
@@ -54,7 +56,7 @@ def furnish(room, names, lines):
 class Proof:
     """A run of `rt ci` in a room. `say` is told how far it is."""
 
-    def __init__(self, name, say):
+    def __init__(self, name, say, store):
         lines = crates_of(f"{ROOT}/crates.txt")
         self.name, self.say, self.names = name, say, below(name, lines)
         self.done, self.before, self.failed, self.said = set(), set(), [], []
@@ -69,7 +71,7 @@ class Proof:
             furnish(self.room, self.names, lines)
             # (what is ended leaves its temporary files, some 100 MB for each crate)
             self.process = subprocess.Popen(
-                command(), cwd=self.room, stdin=subprocess.DEVNULL, stdout=subprocess.PIPE,
+                command(store), cwd=self.room, stdin=subprocess.DEVNULL, stdout=subprocess.PIPE,
                 stderr=subprocess.STDOUT, text=True, errors="replace", start_new_session=True,
                 preexec_fn=lambda: os.nice(5), env={**os.environ, "TMPDIR": beside},
             )
