@@ -1,6 +1,6 @@
-"""Proves and builds a program by `rt ci` in a folder of its own, beside which all else goes on.
+"""Proves crates by `rt ci` in a folder of its own, beside which all else goes on, and builds a program.
 
-The room has the program's crate and the crates below it, without their mutants. What `rt ci`
+The room has these crates and those below them, without their mutants. What `rt ci`
 proves there is kept at once, crate by crate, so that a run which is cut off loses only the proofs under
 way. Some toolchains' `rt ci` keeps it beside the toolchain, and takes it from there in any checkout. With
 the others tools/prove_keeping runs `rt ci`, and keeps it in a folder, as out/proof."""
@@ -54,11 +54,11 @@ def furnish(room, names, lines):
 
 
 class Proof:
-    """A run of `rt ci` in a room. `say` is told how far it is."""
+    """A run of `rt ci` in a room. `say` is told how far it is; the store is for a toolchain that keeps nothing."""
 
-    def __init__(self, name, say, store):
+    def __init__(self, tops, say, store=f"{ROOT}/out/proof"):
         lines = crates_of(f"{ROOT}/crates.txt")
-        self.name, self.say, self.names = name, say, below(name, lines)
+        self.say, self.names = say, list(dict.fromkeys(it for name in tops for it in below(name, lines)))
         self.done, self.before, self.failed, self.said = set(), set(), [], []
         sweep()
         self.top = tempfile.mkdtemp(prefix=f"{PREFIX}{os.getpid()}-")
@@ -103,11 +103,11 @@ class Proof:
     def is_running(self):
         return self.process.poll() is None
 
-    def program(self):
+    def program(self, name):
         """Waits, and returns the path of the proved program, or None if it is not proved."""
         self.process.wait()
         self.reader.join()
-        made = f"{self.room}/crates/{self.name}/out/{self.name}"
+        made = f"{self.room}/crates/{name}/out/{name}"
         return made if self.process.returncode == 0 and os.path.isfile(made) else None
 
     def why(self):
