@@ -95,6 +95,7 @@ impl Cleaner {
             }
             b'.' | b'@' => {
                 self.is_past = true;
+                self.is_blank = false;
                 return None;
             }
             _ => self.is_start = false,
