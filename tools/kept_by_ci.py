@@ -2,6 +2,7 @@
 
 What it keeps of a crate it finds by a sum of the crate's text, of the toolchain, and of the libraries below as
 they were built. So these are taken all together, lowest first, in the place of what else stands in crates/*/out.
+They get the mark of a built library, which rt ci leaves out since they fit no others: so rt check takes them too.
 A toolchain that keeps nothing has no class Kept; then nothing is found."""
 import hashlib
 import json
@@ -49,14 +50,19 @@ class KeptByCi:
                 os.close(it)
 
     def give(self, crate):
-        """Gives the crate its library, unless it was given it before."""
+        """Gives the crate its library, unless it was given it before, and the mark by which rt check knows it."""
+        stamp = crate.stamp()
         if self.is_given(crate):
             # (the folder's time says when it came: libraries.is_fresh)
             os.utime(crate.rlib)
-            return True
-        # (what is given is refused, and no longer kept, if another file stands there)
-        shutil.rmtree(f"{crate.folder}/out/rlib", ignore_errors=True)
-        return self.kept.give(crate, False, self.keys[crate.name])
+        else:
+            # (what is given is refused, and no longer kept, if another file stands there)
+            shutil.rmtree(f"{crate.folder}/out/rlib", ignore_errors=True)
+            if not self.kept.give(crate, False, self.keys[crate.name]):
+                return False
+        with open(f"{crate.folder}/out/rlib/stamp", "w", encoding="utf-8") as it:
+            it.write(stamp)
+        return True
 
     def is_given(self, crate):
         """Returns whether the files in the crate's out/ are those that are kept, by another name."""

@@ -44,10 +44,9 @@ def fits(crate):
     return all(over.get(it.name) in (None, sum_of(f"{it.rlib}/format")) for it in crate.below())
 
 
-def lacking(crates):
-    """Returns the libraries below these crates that are not built of their present text."""
-    below = {it.name: it for crate in crates for it in crate.below()}
-    return [it for it in below.values() if not it.is_built()]
+def is_usable(crate):
+    """Returns whether rt check takes the crate's library."""
+    return crate.is_built() and fits(crate)
 
 
 def seconds(crate):
@@ -129,11 +128,11 @@ def with_below(crates):
     return sorted(every.values(), key=lambda it: len(it.below()))
 
 
-def have(crates, say, until=None):
+def have(crates, say, until=None, is_there=is_fresh):
     """Has these libraries, and all below them, be in crates/*/out. Returns whether they are, and the names of those
     that are not proved: none if only the time was out."""
     needed = with_below(crates)
-    if all(map(is_fresh, needed)):
+    if all(map(is_there, needed)):
         return True, []
     kept = KeptByCi(needed)
     if kept.is_used and kept.lacking():

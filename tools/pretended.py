@@ -110,7 +110,8 @@ class rtlib:
             return True
 
         def is_built(self):
-            return False
+            mark = self.folder + "/out/rlib/stamp"
+            return os.path.isfile(mark) and text_of(mark) == self.stamp()
 
         def count(self, what):
             return 1
