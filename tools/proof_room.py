@@ -127,3 +127,19 @@ class Proof:
                 self.process.wait()
         self.reader.join(5)
         shutil.rmtree(self.top, ignore_errors=True)
+
+
+def build_program(name, to, say):
+    """Has a proved program be there, as rt ci kept it or else makes it. Returns why it is not, or nothing."""
+    proof = Proof([name], say)
+    try:
+        made = proof.program(name)
+        if not made:
+            return proof.why()
+        os.makedirs(os.path.dirname(to), exist_ok=True)
+        if os.path.lexists(to):
+            os.remove(to)
+        shutil.copy(made, to)
+        return ""
+    finally:
+        proof.end()
