@@ -13,25 +13,6 @@ pub enum Origin<R, F> {
     File(F),
 }
 
-/// Lines from there, cleaned if that is asked for.
-#[derive(Drop)]
-pub struct Source<R, F> {
-    from: Origin<R, F>,
-    cleaner: Option<Cleaner>,
-    /// Why a read failed.
-    pub error: Option<io::Error>,
-}
-
-impl<R: Read + Drop, F: Read + Drop> Source<R, F> {
-    pub fn new(from: Origin<R, F>, cleans: bool) -> Source<R, F> {
-        Source {
-            from,
-            cleaner: if cleans { Some(Cleaner::new()) } else { None },
-            error: None,
-        }
-    }
-}
-
 impl<R: Read + Drop, F: Read + Drop> Read for Origin<R, F> {
     fn read(&mut self, buf: &mut [u8]) -> io::Result<usize> {
         match self {
@@ -41,16 +22,51 @@ impl<R: Read + Drop, F: Read + Drop> Read for Origin<R, F> {
     }
 }
 
-impl<R: Read + Drop, F: Read + Drop> Read for Source<R, F> {
+/// Lines as they come. What it gives is what the reader below gives.
+#[derive(Drop)]
+pub struct Source<R> {
+    from: R,
+    /// Why a read failed.
+    pub error: Option<io::Error>,
+}
+
+impl<R: Read + Drop> Source<R> {
+    pub fn new(from: R) -> Source<R> {
+        Source { from, error: None }
+    }
+}
+
+impl<R: Read + Drop> Read for Source<R> {
+    ghost remaining = { λ source. R.remaining source.from };
+
     fn read(&mut self, buf: &mut [u8]) -> io::Result<usize> {
-        let given = match &mut self.cleaner {
-            Some(cleaner) => read_clean(&mut self.from, cleaner, buf),
-            None => self.from.read(buf),
-        };
+        let given = self.from.read(buf);
         if let Err(error) = &given {
             self.error = Some(*error);
         }
         given
+    }
+}
+
+/// Lines that are cleaned.
+#[derive(Drop)]
+pub struct Cleaned<R> {
+    pub from: R,
+    cleaner: Cleaner,
+}
+
+impl<R: Read + Drop> Cleaned<R> {
+    pub fn new(from: R) -> Cleaned<R> {
+        Cleaned {
+            from,
+            cleaner: Cleaner::new(),
+        }
+    }
+}
+
+impl<R: Read + Drop> Read for Cleaned<R> {
+    fn read(&mut self, buf: &mut [u8]) -> io::Result<usize> {
+        read_clean(&mut self.from, &mut self.cleaner, buf)
     }
 }
 
@@ -74,27 +90,21 @@ fn read_clean<R: Read>(from: &mut R, cleaner: &mut Cleaner, buf: &mut [u8]) -> i
     Err(io::Error::from(ErrorKind::TimedOut))
 }
 
-/// Takes answers.
-#[derive(Drop)]
-pub struct Target<W> {
-    to: W,
+/// What is seen of answers: whether one is that of a refused line.
+#[derive(Clone, Copy)]
+pub struct Seen {
     // Whether refused lines are looked for.
     looks: bool,
     is_start: bool,
-    /// Whether a line was refused.
     pub is_refused: bool,
-    /// Why a write failed.
-    pub error: Option<io::Error>,
 }
 
-impl<W: Write + Drop> Target<W> {
-    pub fn new(to: W, looks: bool) -> Target<W> {
-        Target {
-            to,
+impl Seen {
+    fn new(looks: bool) -> Seen {
+        Seen {
             looks,
             is_start: true,
             is_refused: false,
-            error: None,
         }
     }
 
@@ -109,11 +119,32 @@ impl<W: Write + Drop> Target<W> {
     }
 }
 
+/// Takes answers. What it holds is what the writer below holds.
+#[derive(Drop)]
+pub struct Target<W> {
+    to: W,
+    pub seen: Seen,
+    /// Why a write failed.
+    pub error: Option<io::Error>,
+}
+
+impl<W: Write + Drop> Target<W> {
+    pub fn new(to: W, looks: bool) -> Target<W> {
+        Target {
+            to,
+            seen: Seen::new(looks),
+            error: None,
+        }
+    }
+}
+
 impl<W: Write + Drop> Write for Target<W> {
+    ghost contents = { λ target. W.contents target.to };
+
     fn write(&mut self, buf: &[u8]) -> io::Result<usize> {
         let taken = self.to.write(buf);
         match &taken {
-            Ok(count) if self.looks => self.look(&buf[..*count]),
+            Ok(count) if self.seen.looks => self.seen.look(&buf[..*count]),
             Ok(_) => {}
             Err(error) => self.error = Some(*error),
         }
