@@ -25,7 +25,7 @@ impl<R: Read + Drop, F: Read + Drop> Read for Origin<R, F> {
 /// Lines as they come. What it gives is what the reader below gives.
 #[derive(Drop)]
 pub struct Source<R> {
-    from: R,
+    pub from: R,
     /// Why a read failed.
     pub error: Option<io::Error>,
 }
@@ -51,7 +51,7 @@ impl<R: Read + Drop> Read for Source<R> {
 /// Lines that are cleaned.
 #[derive(Drop)]
 pub struct Cleaned<R> {
-    pub from: R,
+    from: R,
     cleaner: Cleaner,
 }
 
@@ -122,7 +122,7 @@ impl Seen {
 /// Takes answers. What it holds is what the writer below holds.
 #[derive(Drop)]
 pub struct Target<W> {
-    to: W,
+    pub to: W,
     pub seen: Seen,
     /// Why a write failed.
     pub error: Option<io::Error>,
