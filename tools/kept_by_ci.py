@@ -17,12 +17,14 @@ class KeptByCi:
     """What `rt ci` kept of these libraries, which come lowest first, each after those below it."""
 
     def __init__(self, crates):
-        self.crates, self.keys, self.is_used = crates, {}, hasattr(rt, "Kept")
-        if not self.is_used:
+        self.crates, self.keys, self.keeps = crates, {}, False
+        if not hasattr(rt, "Kept"):
             return
         rt.Crate.allowed = rt.handles_of(ROOT)
         self.kept = rt.Kept(crates)
         if self.kept.at:
+            # (whether it would keep more: the disk may have no room)
+            self.keeps = self.kept.has_room()
             self.plan()
 
     def plan(self):

@@ -135,12 +135,12 @@ def have(crates, say, until=None, is_there=is_fresh):
     if all(map(is_there, needed)):
         return True, []
     kept = KeptByCi(needed)
-    if kept.is_used and kept.lacking():
+    if kept.keeps and kept.lacking():
         is_over, failed = prove_by_ci(kept.lacking(), say, until)
         if is_over or failed:
             return False, failed
         kept = KeptByCi(needed)
-    if kept.is_used and not kept.lacking() and kept.take():
+    if not kept.lacking() and kept.take():
         return True, []
     # (rt ci keeps nothing here, or the disk has no room for it)
     left = [it for it in needed if not it.is_built()]
