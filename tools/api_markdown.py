@@ -4,7 +4,7 @@ import re
 
 import api_words
 from api_examples import examples, remark, tried
-from api_model import error_of, is_law, model
+from api_model import KEYS_BY_NAME, error_of, is_law, model
 from api_source import CORE
 from common import ROOT, without_prefix
 
@@ -251,7 +251,7 @@ def from_rust_table():
     rows = ["| Rust crate 2.4.0 | Here | As it is | Change | Rust's form: here |", "|---|---|---|---|---|"]
     own = []
     for module in model():
-        if module.short == "extensions::unicode::key":
+        if module.short == KEYS_BY_NAME:
             rows.append(KEYS)
             continue
         for entry in module.entries:

@@ -19,6 +19,8 @@ RESULT = re.compile(r"-> (?:[\w:]+::)?Result<.*?(?:, (\w+))?>(?: where .*)?$")
 UNCHANGED = re.compile(r"OnErr result \((?:pairs )?self\.new ≡ (?:pairs )?self\.old\)")
 # What stands for the refusals of a parser whose relation has no words.
 UNTOLD = "`UNTOLD`"
+# The module of keys by name, all of which stand only here.
+KEYS_BY_NAME = "extensions::unicode::key"
 OF_PREFERENCES = "Its key, what its value reads as, and the value that it is turned into."
 GIVERS = {
     "Sink": "the sink",
@@ -124,6 +126,20 @@ def unworded():
     found = [f"{it.title} needs {need}" for it, need in pairs if re.match(r"`[^`]*[ ≡][^`]*`\.$", need)]
     calls = [it for entry in entries() for it in entry.calls]
     return found + [f"the refusals of {it.title}" for it in calls if it.memory.startswith(UNTOLD)]
+
+
+def unplaced():
+    """Returns the paths of items of which nobody has said whether the Rust crate has them."""
+    found = []
+    for module in model():
+        known = api_words.IN_RUST.get(module.short, "").split()
+        for entry in module.entries:
+            name = entry.path.rpartition("::")[2]
+            is_same = entry.rust and entry.rust.rpartition("::")[2] == name
+            is_told = entry.see or name in known or f"{module.short}::{name}" in api_words.OWN
+            if is_same and not is_told and module.short != KEYS_BY_NAME:
+                found.append(f"{module.short}::{name}")
+    return found
 
 
 def enough(item):

@@ -186,6 +186,32 @@ GIVEN = {
 # Modules that are crates of their own in Rust.
 CRATES_OF_RUST = {"tinystr": "tinystr", "writeable": "writeable", "litemap": "litemap"}
 
+# The items of the Rust crate, and of the crates beside it, that stand here under the same name, by module.
+IN_RUST = {
+    "tinystr": "TinyAsciiStr",
+    "writeable": "LengthHint Writeable cmp_utf8 to_string_or_borrow",
+    "shortvec": "ShortBoxSlice ShortBoxSliceIntoIter",
+    "litemap": "LiteMap",
+    "subtags": "Language Region Script Subtag Variant Variants",
+    "parser": "ParseError",
+    "langid": "LanguageIdentifier",
+    "extensions": "ExtensionType Extensions",
+    "extensions::unicode": "SubdivisionId Attribute SubdivisionSuffix Key Attributes Keywords Unicode Value",
+    "extensions::transform": "Fields Key Transform Value",
+    "extensions::other": "Other",
+    "extensions::private": "Private Subtag",
+    "locale": "Locale",
+    "data": "DataLocale",
+    "preferences": "LocalePreferences PreferenceKey",
+    "preferences::extensions::unicode::errors": "PreferencesParseError",
+    "preferences::extensions::unicode::keywords": (
+        "CollationCaseFirst CollationNumericOrdering CollationType CommonVariantType CurrencyFormatStyle "
+        "EmojiPresentationStyle FirstDay HourCycle LineBreakStyle LineBreakWordHandling MeasurementSystem "
+        "MeasurementUnitOverride SentenceBreakSupressions CalendarAlgorithm DictionaryBreakScriptExclusions "
+        "HijriCalendarAlgorithm NumberingSystem RegionOverride RegionalSubdivision TimeZoneShortId CurrencyType"
+    ),
+}
+
 # Own items: what the Rust crate does not have, or has by another name (the value; empty: nothing).
 OWN = {
     "writeable::Sink": "core::fmt::Write",

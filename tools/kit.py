@@ -1,7 +1,7 @@
 """The toolchain's command rt, loaded as a module: `rt` itself and `rtlib`, on which it stands.
 
 What the tools use of them: rt.read_edit, rt.checked, rt.unread, rt.must_fail, rt.in_lanes, rt.need,
-rt.processors, rt.KIT, rt.Crate, rt.handles_of, rt.ci, rt.share_work if it is there, and rtlib's Crate,
+rt.processors, rt.KIT, rt.Crate, rt.handles_of, rt.ci, rt.share_work and rt.Kept if they are there, and rtlib's Crate,
 blanked, crates_below, kit_sources, guarded, lock, STALE. A new toolchain may change them;
 tools/test_scripts says which of them are gone.
 

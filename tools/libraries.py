@@ -1,16 +1,21 @@
-"""Proves the libraries that some crates stand on, side by side, lowest and longest chain first."""
+"""Has the libraries be there that some crates stand on: as `rt ci` kept them, or else proved.
+
+With a toolchain whose `rt ci` keeps what it proves, what is lacking is proved by `rt ci`, so that ./run, ./test and
+every other checkout take it too. With others it is proved here, side by side, lowest and longest chain first."""
 import copy
 import os
 import re
 import tempfile
 import time
 
+from kept_by_ci import KeptByCi
 from kit import lanes, read, rt, rtlib
+from proof_room import Proof
 from sources import sum_of
 
 # About what the proof of a library from nothing takes, in processor seconds: for reading what it
-# stands on, and for each line of its source.
-EACH, A_LINE = 20, 0.25
+# stands on, and for each line of its source. (The 25 of the program took 43 to 52 processor minutes.)
+EACH, A_LINE = 10, 0.13
 KEY = "proof"
 
 
@@ -39,10 +44,9 @@ def fits(crate):
     return all(over.get(it.name) in (None, sum_of(f"{it.rlib}/format")) for it in crate.below())
 
 
-def lacking(crates):
-    """Returns the libraries below these crates that are not built of their present text."""
-    below = {it.name: it for crate in crates for it in crate.below()}
-    return [it for it in below.values() if not it.is_built()]
+def is_usable(crate):
+    """Returns whether rt check takes the crate's library."""
+    return crate.is_built() and fits(crate)
 
 
 def seconds(crate):
@@ -111,3 +115,62 @@ class Proofs:
             call = lambda given, jobs, crate=crate: self.prove(crate, given, jobs)
             tasks[crate.name, KEY] = waits, crate.count(rb"\n"), rt.need(crate), call
         return all(rt.in_lanes(tasks).values())
+
+
+def minutes_of(crates):
+    """Returns in words how long these proofs take."""
+    return f"about {max(estimate(crates), 1):.0f} minutes on {lanes()} processors, once"
+
+
+def with_below(crates):
+    """Returns these crates and all below them, each after those below it."""
+    every = {it.name: it for crate in crates for it in [*crate.below(), crate]}
+    return sorted(every.values(), key=lambda it: len(it.below()))
+
+
+def have(crates, say, until=None, is_there=is_fresh):
+    """Has these libraries, and all below them, be in crates/*/out. Returns whether they are, and the names of those
+    that are not proved: none if only the time was out."""
+    needed = with_below(crates)
+    if all(map(is_there, needed)):
+        return True, []
+    kept = KeptByCi(needed)
+    if kept.keeps and kept.lacking():
+        is_over, failed = prove_by_ci(kept.lacking(), say, until)
+        if is_over or failed:
+            return False, failed
+        kept = KeptByCi(needed)
+    if not kept.lacking() and kept.take():
+        return True, []
+    # (rt ci keeps nothing here, or the disk has no room for it)
+    left = [it for it in needed if not it.is_built()]
+    say(f"proving {len(left)} libraries, for this checkout alone: {minutes_of(left)}")
+    proofs = Proofs(left, say, until)
+    return proofs.run(), proofs.failed
+
+
+def take(crates):
+    """Puts into crates/*/out what rt ci kept of these libraries, if it kept all that lies below them."""
+    wanted = [it for it in crates if not is_fresh(it)]
+    kept = KeptByCi(with_below(wanted))
+    if wanted and all(it in wanted for it in kept.lacking()):
+        kept.take()
+
+
+def prove_by_ci(crates, say, until=None):
+    """Proves the libraries by rt ci, which keeps them. Returns whether the time was out, and the names of those that
+    are not proved."""
+    say(f"proving {len(crates)} libraries by rt ci, which keeps them for all checkouts: {minutes_of(crates)}")
+    names = [it.name for it in crates]
+    proof = Proof(names, say)
+    try:
+        while proof.is_running():
+            if until and time.time() > until:
+                return True, []
+            time.sleep(0.1)
+        if not proof.process.returncode:
+            return False, []
+        say(f"NOT PROVED: {' '.join(proof.failed) or 'rt ci failed'}\n{proof.why()}")
+        return False, proof.failed or names
+    finally:
+        proof.end()

@@ -1,9 +1,9 @@
-"""Proves and builds a program by `rt ci` in a folder of its own, beside which all else goes on.
+"""Proves crates by `rt ci` in a folder of its own, beside which all else goes on, and builds a program.
 
-The room has the program's crate and the crates below it, without their mutants. What `rt ci`
+The room has these crates and those below them, without their mutants. What `rt ci`
 proves there is kept at once, crate by crate, so that a run which is cut off loses only the proofs under
 way. Some toolchains' `rt ci` keeps it beside the toolchain, and takes it from there in any checkout. With
-the others tools/prove_keeping runs `rt ci`, and keeps it in out/proof."""
+the others tools/prove_keeping runs `rt ci`, and keeps it in a folder, as out/proof."""
 import os
 import re
 import shutil
@@ -16,7 +16,6 @@ import time
 from common import ROOT, below, crates_of
 
 PREFIX = "icu-locale-proof-"
-KEPT_IN = f"{ROOT}/out/proof"
 LEFT_OUT = shutil.ignore_patterns("out", "edits", "*.in")
 PROVED = re.compile(r"rt: (\w+) proved$")
 # (a toolchain says so of what it keeps, and tools/prove_keeping of what was kept before)
@@ -33,17 +32,20 @@ def sweep():
             shutil.rmtree(f"{at}/{name}", ignore_errors=True)
 
 
-def command():
-    """Returns the command that proves a room and keeps what it proves."""
+def command(store):
+    """Returns the command that proves a room and keeps what it proves, beside the toolchain or in the store."""
     with open(shutil.which("rt"), encoding="utf-8", errors="replace") as it:
         keeps = " is kept: " in it.read()
-    return ["rt", "ci"] if keeps else [f"{ROOT}/tools/prove_keeping", KEPT_IN]
+    return ["rt", "ci"] if keeps else [f"{ROOT}/tools/prove_keeping", store]
 
 
 def furnish(room, names, lines):
-    """Copies the crates into the room, which is the top of a repository of its own."""
+    """Copies the crates into the room, which is the top of a repository of its own and can be written."""
     for name in names:
-        shutil.copytree(f"{ROOT}/crates/{name}", f"{room}/crates/{name}", ignore=LEFT_OUT)
+        copy = f"{room}/crates/{name}"
+        shutil.copytree(f"{ROOT}/crates/{name}", copy, ignore=LEFT_OUT, copy_function=shutil.copyfile)
+        for at, _, _ in os.walk(copy):
+            os.chmod(at, 0o755)
     with open(f"{room}/crates.txt", "w", encoding="utf-8") as it:
         it.writelines(f"{lines[name]}\n" for name in names)
     if os.path.isfile(f"{ROOT}/HANDLES"):
@@ -52,11 +54,11 @@ def furnish(room, names, lines):
 
 
 class Proof:
-    """A run of `rt ci` in a room. `say` is told how far it is."""
+    """A run of `rt ci` in a room. `say` is told how far it is; the store is for a toolchain that keeps nothing."""
 
-    def __init__(self, name, say):
+    def __init__(self, tops, say, store=f"{ROOT}/out/proof"):
         lines = crates_of(f"{ROOT}/crates.txt")
-        self.name, self.say, self.names = name, say, below(name, lines)
+        self.say, self.names = say, list(dict.fromkeys(it for name in tops for it in below(name, lines)))
         self.done, self.before, self.failed, self.said = set(), set(), [], []
         sweep()
         self.top = tempfile.mkdtemp(prefix=f"{PREFIX}{os.getpid()}-")
@@ -69,7 +71,7 @@ class Proof:
             furnish(self.room, self.names, lines)
             # (what is ended leaves its temporary files, some 100 MB for each crate)
             self.process = subprocess.Popen(
-                command(), cwd=self.room, stdin=subprocess.DEVNULL, stdout=subprocess.PIPE,
+                command(store), cwd=self.room, stdin=subprocess.DEVNULL, stdout=subprocess.PIPE,
                 stderr=subprocess.STDOUT, text=True, errors="replace", start_new_session=True,
                 preexec_fn=lambda: os.nice(5), env={**os.environ, "TMPDIR": beside},
             )
@@ -101,11 +103,11 @@ class Proof:
     def is_running(self):
         return self.process.poll() is None
 
-    def program(self):
+    def program(self, name):
         """Waits, and returns the path of the proved program, or None if it is not proved."""
         self.process.wait()
         self.reader.join()
-        made = f"{self.room}/crates/{self.name}/out/{self.name}"
+        made = f"{self.room}/crates/{name}/out/{name}"
         return made if self.process.returncode == 0 and os.path.isfile(made) else None
 
     def why(self):
@@ -125,3 +127,19 @@ class Proof:
                 self.process.wait()
         self.reader.join(5)
         shutil.rmtree(self.top, ignore_errors=True)
+
+
+def build_program(name, to, say):
+    """Has a proved program be there, as rt ci kept it or else makes it. Returns why it is not, or nothing."""
+    proof = Proof([name], say)
+    try:
+        made = proof.program(name)
+        if not made:
+            return proof.why()
+        os.makedirs(os.path.dirname(to), exist_ok=True)
+        if os.path.lexists(to):
+            os.remove(to)
+        shutil.copy(made, to)
+        return ""
+    finally:
+        proof.end()

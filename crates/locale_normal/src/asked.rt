@@ -1,0 +1,110 @@
+//! What the arguments ask for.
+
+use iloc_program::Mode;
+use std::env::FillError;
+use std::rt::Env;
+use std::str;
+
+// Room for the longest word that is no file.
+const WORD: usize = 16;
+
+/// How lines are answered.
+#[derive(Clone, Copy)]
+pub struct Options {
+    pub mode: Mode,
+    /// Whether lines are cleaned before they are answered.
+    pub cleans: bool,
+    /// Whether the status says that a line was refused.
+    pub tells: bool,
+    /// The place of the first file among the arguments.
+    pub first: usize,
+}
+
+/// What the program is to do.
+#[derive(Clone, Copy)]
+pub enum Asked {
+    Help,
+    Version,
+    Lines(Options),
+    /// The arguments are wrong.
+    Nothing,
+}
+
+#[derive(Clone, Copy)]
+enum Word {
+    Clean,
+    ExitStatus,
+    Help,
+    Version,
+    End,
+    Mode(Mode),
+    // Another option.
+    Unknown,
+    // A file, or no argument.
+    Other,
+}
+
+fn word_of(text: &str) -> Word {
+    match text {
+        "-c" | "--clean" => Word::Clean,
+        "-e" | "--exit-status" => Word::ExitStatus,
+        "-h" | "--help" => Word::Help,
+        "-V" | "--version" => Word::Version,
+        "--" => Word::End,
+        "-" => Word::Other,
+        _ => match Mode::from_word(text) {
+            Some(mode) => Word::Mode(mode),
+            None if text.starts_with('-') => Word::Unknown,
+            None => Word::Other,
+        },
+    }
+}
+
+// The argument at that place. What is longer than any word is a file.
+fn word_at(rt: &impl Env, at: usize) -> Word {
+    let mut word = [0u8; WORD];
+    match rt.arg(at, &mut word) {
+        Ok(count) => match str::from_utf8(&word[..count]) {
+            Ok(text) => word_of(text),
+            Err(_) => Word::Other,
+        },
+        Err(_) => Word::Other,
+    }
+}
+
+/// What the arguments ask for: options, a mode, more options, files. It allocates nothing.
+pub fn read_arguments(rt: &impl Env) -> Asked {
+    let mut mode = None;
+    let (mut cleans, mut tells) = (false, false);
+    for at in 1..usize::MAX {
+        let first = match (word_at(rt, at), mode) {
+            (Word::Help, _) => return Asked::Help,
+            (Word::Version, _) => return Asked::Version,
+            (Word::Clean, _) => {
+                cleans = true;
+                continue;
+            }
+            (Word::ExitStatus, _) => {
+                tells = true;
+                continue;
+            }
+            (Word::Mode(found), None) => {
+                mode = Some(found);
+                continue;
+            }
+            (Word::Unknown, _) => return Asked::Nothing,
+            (Word::End, _) => at.saturating_add(1),
+            (Word::Mode(_) | Word::Other, _) => at,
+        };
+        return match mode {
+            Some(mode) => Asked::Lines(Options {
+                mode,
+                cleans,
+                tells,
+                first,
+            }),
+            None => Asked::Nothing,
+        };
+    }
+    Asked::Nothing
+}
