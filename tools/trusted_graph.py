@@ -401,8 +401,14 @@ class Sources:
         """Returns, for a ghost member of a trait, what each `impl` of the trait gives for it: `S.pairs` may be any."""
         if not member.owner or member.owner.kind != "trait":
             return []
-        impls = [it.item for it in self.impls if it.trait and self.trait(it.item.module, it.trait) is member.owner]
+        near = self.under("icu_locale_core") or set(self.crates)
+        impls = [it.item for it in self.impls if it.item.crate in near and it.trait and self.trait(it.item.module, it.trait) is member.owner]
         return [one for it in impls for one in it.inner if one.kind == "ghost" and one.name == member.name]
+
+    @functools.lru_cache(maxsize=None)
+    def under(self, crate):
+        """Returns the crates that a crate stands on."""
+        return {one for it in self.below.get(crate, ()) if it in self.below for one in (it, *self.under(it))}
 
     # Where names stand.
 
