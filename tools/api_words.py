@@ -302,6 +302,8 @@ OWN_CALLS_OF = {
     "Other::try_from_iter": "",
     "Private::try_from_iter": "",
     "Value::extend": "Extend<Subtag>",
+    "Fields::empty": "",
+    "WordSet::extend": "",
     "LiteMap::extend": "Extend",
     "Fields::as_slice": "",
     "Other::as_slice": "",

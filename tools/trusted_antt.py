@@ -248,15 +248,13 @@ class Names:
 
     def name(self, path, bound):
         names = path.split(".")
-        if names[0] in bound or names[0] in WORDS or re.fullmatch(r"[0-9][0-9a-fA-F_xob]*", names[0]):
-            return
-        if names[0].startswith("⟦"):
+        if names[0] in bound or re.fullmatch(r"[0-9][0-9a-fA-F_xob]*", names[0]) or names[0].startswith("⟦"):
             return
         meant = self.found(names)
-        if meant is None:
+        if meant is not None:
+            self.cited += meant  # a definition may be named as a word of the prelude, and counts before it
+        elif names[0] not in WORDS:
             self.unknown(path)
-        else:
-            self.cited += meant
 
     def pattern(self, nodes, bound):
         """Binds the variables of patterns, and cites their constructors."""
@@ -266,10 +264,10 @@ class Names:
                 if it[0] == "{" and "=" in inner:
                     inner = inner[inner.index("=") + 1 :]
                 self.pattern([n for n in inner if n not in (",", ";")], bound)
-            elif it in WORDS or re.fullmatch(r"[0-9].*", it):
-                continue
             elif self.is_constructor(it.split(".")):
                 self.name(it, set())
+            elif it in WORDS or re.fullmatch(r"[0-9].*", it):
+                continue
             else:
                 bound.add(it.split(".")[0])
 

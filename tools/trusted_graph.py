@@ -9,6 +9,7 @@ import re
 import trusted_antt as antt
 import trusted_rt as rt
 
+SEEN = ("Value", "view", "invariant")  # the members of `Model` by which contracts see a type, and what it always keeps
 PRIMITIVE = set("u8 u16 u32 u64 u128 usize i8 i16 i32 i64 i128 isize bool char str f32 f64".split())
 QUOTE = re.compile(r"⟦<(.+?) as (\w+)(?:<[^⟧]*?>)?>⟧(?:\.(\w+))?")
 
@@ -393,8 +394,55 @@ class Sources:
         found = self.types_in(item.module, text, bounds)
         for it in self.impls_of(item) if item.kind != "type" else []:
             if it.trait == "Model":
-                found += [one for one in it.item.inner if one.name in ("Value", "view")]
+                found += [one for one in it.item.inner if one.kind == "ghost" and one.name in SEEN]
         return [it for it in found if it is not item]
+
+    def given_for(self, member):
+        """Returns, for a ghost member of a trait, what each `impl` of the trait gives for it: `S.pairs` may be any."""
+        if not member.owner or member.owner.kind != "trait":
+            return []
+        near = self.under("icu_locale_core") or set(self.crates)
+        impls = [it.item for it in self.impls if it.item.crate in near and it.trait and self.trait(it.item.module, it.trait) is member.owner]
+        return [one for it in impls for one in it.inner if one.kind == "ghost" and one.name == member.name]
+
+    @functools.lru_cache(maxsize=None)
+    def under(self, crate):
+        """Returns the crates that a crate stands on."""
+        return {one for it in self.below.get(crate, ()) if it in self.below for one in (it, *self.under(it))}
+
+    # Where names stand.
+
+    def origin(self, module, word):
+        """Returns (path, name) of what a word of a `use` line means, through what modules pass on; name is None for a module."""
+        head = module.operators().get(word, word)
+        if head in module.declared:
+            return None
+        if head in module.items:
+            path, name = module.items[head]
+            return self.stands(self.full(module, path), name)
+        return (self.full(module, module.modules[head]), None) if head in module.modules else None
+
+    def stands(self, path, name):
+        path = self.passed_on(path) if len(path) > 3 else path
+        module = self.modules.get(path)
+        if module and name not in module.declared and name in module.passed and name in module.items:
+            return self.stands(self.full(module, module.items[name][0]), module.items[name][1])
+        return path, name
+
+    def brought_in(self, item, text):
+        """Yields (word, path, name) for each word of a text that a `use` line in the item's scope brings in."""
+        module = item.module if isinstance(item, antt.Definition) else self.scope(item)
+        text = re.sub(r"(?m)(^|\s)--.*$", "", text)
+        for word in dict.fromkeys(re.findall(r"\"[^\"]*\"|«[^»]*»|[^\s(){};,⟦⟧]+", text)):
+            head, _, rest = word.partition(".")
+            found = self.origin(module, head.strip("«»"))
+            if found:
+                yield module.operators().get(head, head), *found
+                last = rest.partition(".")[0]
+                if found[1] is None and last:
+                    path, name = self.stands(found[0], last)
+                    if name != last:
+                        yield f"{head}.{last}", path, name
 
     @functools.lru_cache(maxsize=None)
     def cites(self, item):
@@ -405,7 +453,7 @@ class Sources:
             elif item.kind in ("struct", "enum", "type"):
                 found = self.cited_by_type(item)
             elif item.kind == "ghost":
-                found = self.cited_by_text(item, item.body, ())
+                found = self.cited_by_text(item, item.body, ()) + self.given_for(item)
             else:
                 found = []
         except Unknown as why:
@@ -429,10 +477,10 @@ class Contract:
         return "::".join(filter(None, (self.item.crate, *self.item.module.path_names, named, self.item.name)))
 
     def clauses(self, wanted=()):
-        """Yields (name, text, where it stands) of the clauses, or of those that are wanted."""
+        """Yields (name, text, where it stands) of the clauses, or of those that are wanted, as `reads` or `ensures reads`."""
         for stated in self.all_stated:
             for (kind, name), (text, _) in stated.clauses.items():
-                if not wanted or (name or kind) in wanted or kind in wanted:
+                if not wanted or (name or kind) in wanted or f"{kind} {name}".strip() in wanted:
                     yield f"{kind} {name}".strip(), text, stated
 
     def parameters(self, stated):

@@ -7,8 +7,9 @@ A part stands between `<!-- trusted: WHAT -->` and `<!-- /trusted -->`, where WH
 - `files PATH ..`: the definitions of these files on which the headline rests, word for word; after
   a path may stand the names of the first and of the last one;
 - `definition PATH NAME`: one that only laws cite, word for word;
-- `types`: the types and views through which its contracts see values;
-- `memory`: what only the clauses on memory cite;
+- `types`: the types and views through which its contracts see values, word for word;
+- `names`: which names come from std, and which stand for others;
+- `memory`: the clauses on memory, word for word, and what only they cite;
 - `outside`: how much of specs/ the headline does not rest on."""
 import difflib
 import os
@@ -17,10 +18,11 @@ import sys
 import textwrap
 
 import trusted_graph as graph
+import trusted_types as types
 from common import without_prefix
 
 HEADLINE = ("Locale::try_from_utf8", "Locale::normalize_utf8", "Locale::is_well_formed", "Locale::write_to_string")
-ON_MEMORY = ("memory", "succeeds")
+ON_MEMORY = "ensures memory"  # the one kind of clause that stands apart: it says when memory may run out
 # what several types have, each its own: its value, its place in an enum, the items of its list, the
 # list with others, the words of an error, how a value of a map is lent
 ALIKE = ("value_of", "place", "items_of", "with_list", "words_of", "lends_value", "lends_slice", "lends_item")
@@ -41,8 +43,8 @@ def without_memory(sources, contracts):
     kept = []
     for it, wanted in contracts:
         if isinstance(it, graph.Contract):
-            names = [name.split()[-1] for name, _, _ in it.clauses(wanted)]
-            kept.append((it, tuple(name for name in names if name not in ON_MEMORY) or ("",)))
+            names = [name for name, _, _ in it.clauses(wanted)]
+            kept.append((it, tuple(name for name in names if name != ON_MEMORY) or ("",)))
         else:
             kept.append((it, wanted))
     return graph.closure_of(sources, kept)
@@ -93,18 +95,19 @@ class Page:
 
     def part_counts(self):
         meaning = graph.named(self.sources, HEADLINE[0])
-        names = [name.split()[-1] for name, _, _ in meaning[0].clauses()]
-        kept = tuple(it for it in ("reads", "accepted", "refused") if it in names)
-        named = ", ".join(f"`{it}`" for it in kept)
+        names = [name for name, _, _ in meaning[0].clauses()]
+        kept = tuple(it for it in ("ensures reads", "ensures accepted", "ensures refused") if it in names)
+        named = ", ".join(f"`{it.split()[1]}`" for it in kept)
         rows = [
             (f"parsing: {named} of `Locale::try_from_utf8`", without_memory(self.sources, [(meaning[0], kept)])),
             ("the whole headline", self.plain),
-            ("with its clauses on memory, which are not on this page", self.whole),
+            ("with its clauses on memory", self.whole),
         ]
-        lines = ["| Contracts | Definitions | Lines | Files |", "|---|---|---|---|"]
+        lines = ["| Contracts | Definitions | Lines | Files | Types, views and what these cite | Lines |", "|---|---|---|---|---|---|"]
         for label, it in rows:
             files = {one.module.path for one in it.definitions}
-            numbers = (len(it.definitions), lines_of(it.definitions), len(files))
+            beside = [*it.types, *it.members, *it.behind]
+            numbers = (len(it.definitions), lines_of(it.definitions), len(files), len(beside), lines_of(beside))
             lines.append(f"| {label} | " + " | ".join(f"{one:,}" for one in numbers) + " |")
         return "\n".join(lines)
 
@@ -113,7 +116,7 @@ class Page:
         if len(found) != 1:
             raise Wrong(f"{call} names {len(found)} functions: name one in full")
         for kind, text, stated in found[0].clauses():
-            if kind.split()[1:] == ([name] if name else []):
+            if kind == f"ensures {name}".strip():
                 self.shown.add((call, name))
                 where = f"{stated.module.path}, `{stated.name}`"
                 return f"{where}:\n\n```text\n{kind} {{ {dedented(text)} }}\n```"
@@ -144,19 +147,14 @@ class Page:
         return f"`{path}`:\n\n```text\n{quoted(found[0])}\n```"
 
     def part_types(self):
-        """Says how the types on the way are seen, but for those that are seen as they are."""
-        rows, fields = ["| Type | Seen as |", "|---|---|"], []
-        views = {(one.crate, of_type(one)): one for one in self.plain.members if one.name == "view"}
-        for it in sorted(self.plain.types, key=self.place):
-            view = views.get((it.crate, it.name))
-            if view and re.fullmatch(r"\s*λ (\w+)\. \1\.\w+\s*", view.body):
-                fields.append(f"`{it.name}`")
-            elif view and it.kind in ("struct", "enum") and not it.name.endswith("Kind"):
-                rows.append(f"| `{it.name}` ({it.module.path}) | `{' '.join(view.body.split())}` |")
-        made = f"Seen as their one field: {', '.join(dict.fromkeys(fields))}. Seen otherwise:\n\n" + "\n".join(rows)
+        """Shows the types on the way: what they hold, how contracts see them, and what they always keep."""
+        made = types.types_part(self.sources, self.plain, self.place)
         if self.plain.behind:
             made += "\n\n```text\n" + "\n\n".join(quoted(it) for it in self.plain.behind) + "\n```"
         return made
+
+    def part_names(self):
+        return types.names_part(self.sources, self.whole, headline(self.sources))
 
     def place(self, item):
         return self.sources.crates.index(item.crate), item.module.path, item.line
@@ -164,7 +162,11 @@ class Page:
     def part_memory(self):
         plain = set(self.plain.definitions)
         only = [it for it in self.whole.definitions if it not in plain]
-        lines = [f"{len(only)} definitions, {sum(it.count() for it in only)} lines.", ""]
+        lines = ["```text"]
+        for call, kind, text in self.clauses():
+            if kind == ON_MEMORY:
+                lines.append(f"{call}: {kind} {{ {' '.join(text.split())} }}")
+        lines += ["```", "", f"They cite {len(only)} definitions of {sum(it.count() for it in only)} lines that no other clause cites:", ""]
         for path, found in self.whole.ordered(only):
             lines.append(f"- `{path}`: {', '.join(f'`{it.name}`' for it in found)}")
         return "\n".join(lines)
@@ -193,19 +195,22 @@ class Page:
         for it in self.plain.definitions:
             if it not in self.placed:
                 wrong.append(f"{PAGE}: {it.where}: {it.name} is at no stop: name it in a part 'files'")
-        for call, name in self.clauses():
-            if (call, name) not in self.shown:
+        for call, kind, _ in self.clauses():
+            word, _, name = kind.partition(" ")
+            if word != "ensures":
+                wrong.append(f"{PAGE}: {call} has a clause '{kind}': a call of the headline asks nothing of its callers")
+            elif kind != ON_MEMORY and (call, name) not in self.shown:
                 wrong.append(f"{PAGE}: the clause {name!r} of {call} is not shown: add a part 'clause {call} {name}'")
+        for it, name in types.prelude_names(self.sources):
+            wrong.append(f"{it.where}: {name} is a word of antt or of its prelude: name it otherwise")
         return made, wrong
 
     def clauses(self):
-        """Yields (call, name) of each clause of the headline but those on memory."""
+        """Yields (call, kind and name, text) of each clause of the headline."""
         for call in HEADLINE:
             for it in graph.named(self.sources, call):
-                for kind, _, _ in it.clauses():
-                    name = " ".join(kind.split()[1:])
-                    if name not in ON_MEMORY:
-                        yield call, name
+                for kind, text, _ in it.clauses():
+                    yield call, kind, text
 
 
 def between(definitions, first, last):
@@ -218,11 +223,6 @@ def quoted(definition):
     lines = ["-- " + it for it in definition.comment]
     lines += [re.sub(r"^(\s*)((abbrev|unfoldable|pub) )+", r"\1", it) for it in definition.lines]
     return "\n".join(lines).rstrip()
-
-
-def of_type(member):
-    """Returns the name of the type whose `impl` a member stands in."""
-    return member.owner.name.split(" for ")[-1].split("<")[0]
 
 
 def dedented(text):

@@ -75,4 +75,29 @@ pub use Rattle.iloc_keyword_types.specs.WordTables
 pub use Rattle.iloc_json.specs.Errors as JsonErrors
 pub use Rattle.iloc_json.specs.CarryError as CarryErrors
 pub use Rattle.iloc_lines.specs.Ending as ProgramEnding
+pub use Rattle.iloc_keyword_types.specs.Hijri
+pub use Rattle.iloc_lines.specs.Lines as ProgramLines
+pub use Rattle.iloc_shortvec.specs.Items as ShortItems
+pub use Rattle.iloc_shortvec.specs.Kept as ShortKept
+pub use Rattle.iloc_shortvec.specs.Rest as ShortRest
+pub use Rattle.iloc_spec_grammar.specs.ByBlocks
+pub use Rattle.iloc_spec_grammar.specs.Computing
+pub use Rattle.iloc_spec_grammar.specs.Examples as GrammarExamples
+pub use Rattle.iloc_spec_grammar.specs.StepTests
+pub use Rattle.iloc_spec_grammar.specs.Tree
+pub use Rattle.iloc_spec_grammar.specs.TreeSteps
+pub use Rattle.iloc_spec_parts.specs.ByReaders
+pub use Rattle.iloc_spec_parts.specs.Examples as PartExamples
+pub use Rattle.iloc_spec_parts.specs.PartComputing
+pub use Rattle.iloc_spec_parts.specs.Readers
+pub use Rattle.iloc_spec_parts.specs.SmallComputing
+pub use Rattle.iloc_spec_preferences.specs.DataComputing
+pub use Rattle.iloc_spec_preferences.specs.DataExamples
+pub use Rattle.iloc_spec_preferences.specs.PreferenceExamples
+pub use Rattle.iloc_subtags.specs.Lengths
+pub use Rattle.iloc_told.specs.Modes
+pub use Rattle.iloc_transform.specs.LangReading
+pub use Rattle.iloc_unicode.specs.Equality as UnicodePartEquality
+pub use Rattle.iloc_word_list.specs.Equality as UnicodeValueEquality
+pub use Rattle.iloc_writeable.specs.Pieces as PiecePrinting
 pub mod Together

@@ -75,7 +75,7 @@ pub mod litemap {
 /// The subtags of identifiers, and sets of variants.
 pub mod subtags {
     pub use iloc_subtags::{Language, Region, Script, Subtag, Variant, Word, WordKind, WordOf};
-    pub use iloc_word_set::{Variants, hashes, is_strictly_ascending};
+    pub use iloc_word_set::{Variants, WordSet, hashes, is_strictly_ascending};
 
     /// The kinds of subtags by name, for code that is generic over them: each subtag is a `WordOf<Kind, N>`.
     pub mod kinds {
@@ -182,7 +182,8 @@ pub mod preferences {
                 };
                 pub use iloc_keyword_types::{
                     CalendarAlgorithm, DictionaryBreakScriptExclusions, HijriCalendarAlgorithm,
-                    NumberingSystem, RegionOverride, RegionalSubdivision, TimeZoneShortId,
+                    NumberingSystem, RegionOverride, RegionalSubdivision, SingleKeyword,
+                    TimeZoneShortId,
                 };
                 pub use iloc_subtags::CurrencyType;
             }
@@ -205,6 +206,75 @@ pub mod bench {
 pub mod laws {
     pub use iloc_spec_parts::orders::{hashes, orders};
     pub use iloc_spec_preferences::regions::{data_hashes, data_orders};
+
+    /// The grammar: words, meanings, faults, normal texts, and the steps that lead to them.
+    pub mod grammar {
+        pub use iloc_spec_grammar::{
+            accepted_or_one_fault, by_example, chain, identifier_chain, identifier_or_one_fault,
+            identifier_steps, identifier_texts, joins, language_lengths, maps, normal_words,
+            one_identifier, one_list_of_pieces, one_meaning, printing, raw_forms,
+            read_is_well_formed, reads_back, sets, steps, texts_of_parts, well_formed, wider,
+            words_read,
+        };
+    }
+
+    /// Other ways to say the same: by trees, block by block, and by plain programs.
+    pub mod models {
+        pub use iloc_spec_grammar::models::{
+            by_blocks, computed, same_faults, same_meaning, same_text, whole_readings,
+        };
+    }
+
+    /// Any number of rewriting steps, and plain programs that tell whether a step leads to a text.
+    pub mod rewriting {
+        pub use iloc_spec_grammar::rewriting::{
+            any_identifier_steps, any_steps, by_example, same_steps, tests_by_example,
+            tests_of_lists, tests_of_parts, tests_of_texts,
+        };
+    }
+
+    /// What the parsers of parts take of a text.
+    pub mod fronts {
+        pub use iloc_spec_parts::fronts::{
+            block_rules, by_example, by_readers, extending, keywords_front, other_front,
+            part_answers, parts, parts_by_example, private_front, transform_front, unicode_front,
+            values,
+        };
+    }
+
+    /// The orders of values, and what is fed to a hasher.
+    pub mod ordering {
+        pub use iloc_spec_parts::orders::{by_example, hashes, orders};
+    }
+
+    /// Texts of at most one variant and one keyword, and short blocks.
+    pub mod small {
+        pub use iloc_spec_parts::small::{
+            broken_blocks, by_blocks, by_example, inline_texts, short_blocks, small_identifiers,
+            small_is_inline, small_or_one_fault, small_texts, wider_small,
+        };
+    }
+
+    /// Keyword types, and how preferences are merged.
+    pub mod preferences {
+        pub use iloc_spec_preferences::preferences::{
+            by_example, data_locales_of_locales, keywords, keywords_by_example, merging,
+            merging_formatters, preferences_of_locales,
+        };
+    }
+
+    /// Subdivisions and data locales.
+    pub mod regions {
+        pub use iloc_spec_preferences::regions::{
+            by_example, data_hashes, data_locale_or_one_fault, data_locales, data_orders,
+            subdivisions, wider_data_locales,
+        };
+    }
+
+    /// What the program writes.
+    pub mod program {
+        pub use iloc_lines::laws::{by_example, line_answers, lines, outputs};
+    }
 }
 
 /// The library of the program `locale_normal`.

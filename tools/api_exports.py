@@ -1,0 +1,50 @@
+"""Checks that users of icu_locale_core need no other crate: it passes on each law of the crates of definitions
+and of the program, and each module of definitions that a contract cites which it passes on."""
+import trusted_graph as graph
+from common import ROOT
+
+CORE = "icu_locale_core"
+PROGRAM = "iloc_lines"
+
+
+def laws(sources):
+    """Returns the laws of the crates of definitions and of the program: public functions with no body."""
+    found = []
+    for crate in [it for it in sources.crates if it.startswith("iloc_spec_") or it == PROGRAM]:
+        for path, source in sources.rust[crate].items():
+            functions = [it for it in source.items if it.kind == "fn" and it.is_public and path[-1:] != ("tests",)]
+            found += [it for it in functions if "".join(it.text.split()).endswith("}{}")]
+    return found
+
+
+def cited(sources):
+    """Returns the definitions that contracts of users cite, and all that these rest on: of clauses, members and views."""
+    found = []
+    for it, wanted in graph.public(sources):
+        found += it.cites(wanted) if isinstance(it, graph.Contract) else sources.cites(it)
+    for item in graph.passed_on(sources, CORE):
+        kind = sources.struct_of(item) if item.kind in ("struct", "enum", "type") else None
+        seen = [it for it in sources.cites(kind) if it.kind == "ghost"] if kind else []
+        found += [one for it in seen for one in sources.cites(it)]
+    closed, waiting = {}, [it for it in found if isinstance(it, graph.antt.Definition)]
+    while waiting:
+        it = waiting.pop()
+        if it not in closed:
+            closed[it] = True
+            waiting += [one for one in sources.cites(it) if isinstance(one, graph.antt.Definition)]
+    return closed
+
+
+def faults():
+    """Returns what is not passed on, each as a line; and how many laws and modules were looked at."""
+    sources = graph.Sources(ROOT)
+    passed = set(graph.passed_on(sources, CORE))
+    wanted = laws(sources)
+    lib = sources.modules[("Rattle", CORE, "specs")]
+    there = {path for name, path in lib.modules.items() if name in lib.passed}
+    modules = dict.fromkeys(it.module.name for it in cited(sources))
+    told = [f"{it.where}: the law {it.name} is not passed on by {CORE}: name it in a module of `laws`" for it in wanted if it not in passed]
+    for name in modules:
+        if name not in there and name[1] != CORE:
+            told.append(f"{lib.path}: no `pub use {'.'.join(name)}`, on whose definitions a contract rests")
+    return told, len(wanted) + len(modules)

@@ -1,0 +1,93 @@
+"""How contracts see types, and where names stand: the parts of docs/REVIEW.md on types and on imports.
+
+All of it is printed from the sources, so that no field, view, invariant or import can change unseen."""
+import re
+
+import trusted_antt as antt
+import trusted_graph as graph
+import trusted_rt as rt
+
+
+def bare(text):
+    """Returns a text of src/ on one line, without comments and attributes."""
+    text = re.sub(r"#\[[^\]]*\]", " ", re.sub(r"//[^\n]*", " ", text))
+    return re.sub(r"\(\s+|\s+\)", lambda it: it[0].strip(), " ".join(text.split()))
+
+
+def shape(item):
+    """Returns what a type holds: its fields, its variants, or the type that it is another name of."""
+    text = re.sub(r"\bpub(\([^)]*\))?\s+", "", bare(item.text))
+    if item.kind in ("type", "const"):
+        return text.rstrip(";")
+    flat = re.sub(r"<[^{;]*>(?=[^>]*[{(;])", lambda it: "." * len(it[0]), text.partition("{")[0] + "{")
+    opened = re.search(r"[{(;]", flat).start()
+    inner = text[opened : rt.closing(text, opened)] if text[opened] != ";" else ""
+    inner = inner.strip("{} ").rstrip(",").replace(", }", " }")
+    head = text[:opened].strip().partition(" where ")[0]
+    return f"{head} {{ {inner} }}" if inner else head
+
+
+def member(sources, item):
+    """Returns a line for a ghost member, with the names of its text that stand for others."""
+    body = " ".join(item.body.split())
+    renamed = sorted(f"{word} is {name or '.'.join(path)}" for word, path, name in sources.brought_in(item, body) if word != (name or path[-1]))
+    return f"{item.name} = {body}" + (f"  ({', '.join(renamed)})" if renamed else "")
+
+
+def own(item):
+    """Returns the name of the type in whose `impl` of `Model` a member stands, or nothing."""
+    found = re.search(r"\bModel for ([\w:]+)", item.owner.name) if item.owner else None
+    return found[1].split("::")[-1] if found else ""
+
+
+def types_part(sources, closure, place):
+    """Returns the lines of the types and their members, by the files in which they stand."""
+    blocks = {}
+    for it in sorted([*closure.types, *closure.members], key=place):
+        lines = blocks.setdefault(it.module.path, [])
+        if it.kind != "ghost":
+            lines.append(shape(it))
+        elif not own(it):
+            owner = " ".join(it.owner.name.split())
+            said = member(sources, it) if it.owner.kind == "impl" else f"{it.name} : {' '.join(it.body.split())}"
+            lines.append(f"{owner}: {said}")
+        elif it.name != "Value":
+            kind = next((one.body for one in closure.members if one.owner is it.owner and one.name == "Value"), "")
+            lines.append(f"    {own(it)}: {member(sources, it)}" + (f" : {' '.join(kind.split())}" if it.name == "view" else ""))
+    said = [f"// {path}\n" + "\n".join(lines) for path, lines in blocks.items()]
+    return "```text\n" + "\n\n".join(said) + "\n```"
+
+
+def texts(closure, contracts):
+    """Yields (item, its text) of all that a closure holds: clauses, definitions and members."""
+    for it, wanted in contracts:
+        for _, text, stated in it.clauses(wanted) if isinstance(it, graph.Contract) else ():
+            yield stated, text
+    for it in [*closure.definitions, *closure.behind]:
+        yield it, "\n".join(part[0] for part in it.parts)
+    for it in closure.members:
+        yield it, it.body
+
+
+def names_part(sources, closure, contracts):
+    """Returns which module of std each name comes from, and which names stand for others, by files."""
+    from_std, renamed = {}, {}
+    for item, text in texts(closure, contracts):
+        for word, path, name in sources.brought_in(item, text):
+            outside = len(path) < 2 or path[0] != "Rattle" or path[1] not in sources.rust
+            if name is not None and outside:
+                from_std.setdefault(".".join(path), set()).add(name)
+            if word != (name or path[-1]):
+                meant = ".".join([*path, *([name] if name else [])])
+                renamed.setdefault(item.module.path, set()).add(f"`{word}` is `{meant}`")
+    lines = ["Names of other libraries, by the modules that they are taken from:", ""]
+    lines += [f"- `{path}`: {' '.join(f'`{it}`' for it in sorted(names))}" for path, names in sorted(from_std.items())]
+    lines += ["", "Names that stand for others, by the files in which they do:", ""]
+    lines += [f"- `{path}`: {', '.join(sorted(names))}" for path, names in sorted(renamed.items())]
+    return "\n".join(lines)
+
+
+def prelude_names(sources):
+    """Returns the definitions, constructors and fields named as a word that antt or its prelude provides."""
+    every = [it for module in sources.modules.values() for it in module.definitions]
+    return [(it, name) for it in every for name in (it.name, *it.members) if name in antt.WORDS]
