@@ -17,7 +17,7 @@ use Rattle.iloc_langid.specs.Reads.{value_of, IdentifierReads, KeepsThroughSteps
 wide : (t : List ℕ) (i : Identifier) → IdentifierMeans two_or_three (pieces t) i → IdentifierMeans languages (pieces t) i
 wide t i m = identifier_means_wider narrow_in_wide (pieces t) i m
 
-identifiers_judge : (ps : List (List ℕ)) → Judges (IdentifierMeans languages ps) (HasIdentifierFault languages ps)
+pub identifiers_judge : (ps : List (List ℕ)) → Judges (IdentifierMeans languages ps) (HasIdentifierFault languages ps)
 identifiers_judge ps = record { one = one_meaning ps; apart = identifier_apart ps; one_fault = λ f g. one_identifier_fault ps }
 
 pub reads_accepts : (ps : List (List ℕ)) (r : Result LanguageIdentifier ParseError) → IdentifierReads ps r → (i : Identifier) → IdentifierMeans languages ps i → Accepts value_of ⊤ i r

@@ -223,13 +223,14 @@ impl LanguageIdentifier {
     /// Returns the printed text, borrowed exactly if the identifier is a language alone.
     ///
     /// The text parses as this identifier and as no other. Allocates once, unless the text is borrowed;
-    /// `AllocError` if that fails.
+    /// `AllocError` if that fails, and so never for a language alone.
     pub fn write_to_string(&self, alloc: Global) -> Result<CowStr<'_, Global>, AllocError>
         ensures text { IfOk result (λ t. cow_str_bytes t ≡ identifier_text (value_of self.now)) }
         ensures back { IfOk result
             (λ t. IdentifierMeansOnly (cow_str_bytes t) (value_of self.now)) }
         ensures lent { IsIdentifierLanguageAlone self.now → IsOkAnd result IsLent }
         ensures owned { IfOk result (λ t. IsLent t → IsIdentifierLanguageAlone self.now) }
+        ensures memory { OnErr result (¬ (IsIdentifierLanguageAlone self.now)) }
     {
         // (it states that every identifier is a value, without which `back` would not be known)
         let _ = self.is_unknown();

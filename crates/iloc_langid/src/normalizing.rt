@@ -1,9 +1,10 @@
 //! Normal texts of identifiers, and whether a text means an identifier.
 ghost use Rattle.std.specs.Prelude.{◌≡◌, ◌↔◌, ⊤, IsTrue, IfOk, IfErr};
 ghost use Rattle.std.specs.Cow.{cow_str_bytes};
-ghost use Rattle.iloc_spec_grammar.specs.Syntax.{pieces, languages};
-ghost use Rattle.iloc_spec_grammar.specs.Meaning.{IdentifierMeans, HasIdentifierFault};
-ghost use Rattle.iloc_subtags.specs.Judging.{Refusal, RunsOutOnlyIf};
+ghost use Rattle.iloc_spec_grammar.specs.Syntax.{pieces, languages, Identifier};
+ghost use Rattle.iloc_spec_grammar.specs.Meaning.{IdentifierMeans, Fault, HasIdentifierFault};
+ghost use Rattle.iloc_spec_grammar.specs.Values.{identifier_text};
+ghost use Rattle.iloc_subtags.specs.Judging.{Refusal, Accepts, Refuses, RunsOutOnlyIf};
 ghost use Rattle.iloc_writeable.specs.Writing.{IsLent};
 
 use crate::agreeing::has_variants;
@@ -28,6 +29,10 @@ impl LanguageIdentifier {
         ensures ok { IfOk result (λ text. IsNormalizedIdentifier input.now (cow_str_bytes text)
             × (IsLent text ↔ (input.now ≡ cow_str_bytes text))) }
         ensures err { IfErr result (Refusal (HasIdentifierFault languages (pieces input.now)) ⊤) }
+        ensures accepted { (i : Identifier) → IdentifierMeans languages (pieces input.now) i
+            → Accepts cow_str_bytes ⊤ (identifier_text i) result }
+        ensures refused { (f : Fault) → HasIdentifierFault languages (pieces input.now) f
+            → Refuses ⊤ f result }
         ensures memory { RunsOutOnlyIf (NormalizingIdentifierWantsMemory input.now) result }
     {
         match normalize_short(alloc, input) {
@@ -68,6 +73,10 @@ impl LanguageIdentifier {
         ensures ok { IfOk result (λ text. IsNormalizedIdentifier input.now (cow_str_bytes text)
             × (IsLent text ↔ (input.now ≡ cow_str_bytes text))) }
         ensures err { IfErr result (Refusal (HasIdentifierFault languages (pieces input.now)) ⊤) }
+        ensures accepted { (i : Identifier) → IdentifierMeans languages (pieces input.now) i
+            → Accepts cow_str_bytes ⊤ (identifier_text i) result }
+        ensures refused { (f : Fault) → HasIdentifierFault languages (pieces input.now) f
+            → Refuses ⊤ f result }
         ensures memory { RunsOutOnlyIf (NormalizingIdentifierWantsMemory input.now) result }
     {
         Self::normalize_utf8(alloc, input.as_bytes())
