@@ -1,0 +1,240 @@
+-- Fields are passed one after another, and each is put where it belongs.
+use Rattle.std.proofs.Common.{◌≡◌, ◌≢◌, ◌⊎◌, ℕ, ◌+◌, ◌-◌, ◌<◌, ◌≤◌, Bool, false, List, [], ◌∷◌, ◌++◌, length, map, refl, sym, ap, ◌∙◌, subst, arith, inl, inr, append-nil, length-append, Option, Some, None}
+use Rattle.std.specs.List.{AllByRecursion}
+use Rattle.std.proofs.lemmas.List.{map-append, length-map}
+use Rattle.std.proofs.lemmas.List.Concat.{flat_map-append}
+use Rattle.iloc_spec_grammar.specs.Syntax.{Text, Field, Fields, Attribute, IsWord, is_word, join, fields_pieces, first_piece}
+use Rattle.iloc_spec_grammar.proofs.ReadBack.{all_append}
+use Rattle.iloc_outline.specs.Fields.{IsAfterValues, PrintsAsItIs, IsValueRead}
+use Rattle.iloc_outline.specs.Inserting.{IsPutFrom}
+use Rattle.iloc_outline.specs.Left.{IsRemainder, IsLater, IsPast, IsSpanned, piece_left, pieces_left, bytes_left, whole_text}
+use Rattle.iloc_fronts.specs.Words.{IsUpToEight, word_number}
+use Rattle.iloc_outline.specs.Parts.{Part, field_part}
+use Rattle.iloc_outline.specs.Reading.{EndsInKey, IsFieldOfRole, IsTooMuch, ReadsFields, role_key}
+use Rattle.iloc_outline.specs.Spans.{IsSpan}
+use Rattle.iloc_outline.specs.declared.fields.Value.{Value}
+use Rattle.iloc_outline.specs.declared.left.Left.{Left}
+use Rattle.iloc_outline.specs.declared.sorting.Inserted.{Inserted}
+use Rattle.iloc_outline.specs.declared.sorting.Inserted.TheVariants.{Put, There, Full}
+use Rattle.iloc_outline.specs.declared.span.Role.{Role}
+use Rattle.iloc_outline.specs.declared.span.Role.TheVariants as roles
+use Rattle.iloc_outline.specs.declared.span.Span.{Span}
+use Rattle.iloc_outline.specs.declared.spans.Spans.{Spans}
+use Rattle.iloc_outline.proofs.GatherLemmas.{Gathers, gathers_few, gathers_full, gathers_none, gathers_put, gathers_puts, gathers_there, pieces_in}
+use Rattle.iloc_outline.proofs.LeftLemmas.{length_rest, length_text, past_none, past_past, spanned_none}
+use Rattle.iloc_outline.proofs.SpansLemmas.{field_short}
+use Rattle.iloc_outline.proofs.WordLemmas.{length-pieces_of}
+use Rattle.iloc_outline.proofs.WordNumbers.{field_key_fits, key_fits}
+
+-- ---- keys and fields
+
+-- a key has a number
+pub key_kind_fits : (r : Role) (p : Text) → IsWord (role_key r) p → IsUpToEight p
+key_kind_fits roles.Field p h = field_key_fits p h
+key_kind_fits roles.Variant p h = key_fits p h
+key_kind_fits roles.Singleton p h = key_fits p h
+key_kind_fits roles.Attribute p h = key_fits p h
+key_kind_fits roles.Keyword p h = key_fits p h
+
+-- a key and its values
+field_of : (r : Role) (key : Text) (vs : List Text) → IsWord (role_key r) key
+    → AllByRecursion (IsWord Attribute) vs → (r ≡ roles.Field → 0 < length vs) → IsFieldOfRole r (key, vs)
+field_of roles.Field key vs h each some = (h, each, some refl)
+field_of roles.Variant key vs h each some = (h, each)
+field_of roles.Singleton key vs h each some = (h, each)
+field_of roles.Attribute key vs h each some = (h, each)
+field_of roles.Keyword key vs h each some = (h, each)
+
+-- the pieces of one field more
+pieces_more : (fs : Fields) (f : Field) → fields_pieces (fs ++ (f ∷ [])) ≡ fields_pieces fs ++ (f.0 ∷ f.1)
+pieces_more fs f =
+    flat_map-append (λ (g : Field). g.0 ∷ g.1) fs (f ∷ [])
+    ∙ ap (λ ps. fields_pieces fs ++ ps) (append-nil (f.0 ∷ f.1))
+
+-- each field has a piece
+pub length-fields_pieces : (fs : Fields) → length fs ≤ length (fields_pieces fs)
+length-fields_pieces [] = omega arith
+length-fields_pieces (f ∷ fs) =
+    omega (arith, length-append (f.0 ∷ f.1) (fields_pieces fs), length-fields_pieces fs)
+
+no_values : (vs : List Text) → length vs ≡ 0 → vs ≡ []
+no_values [] l = refl
+no_values (v ∷ vs) l = absurd (omega arith)
+
+pieces_fields : (r : Role) (fs : Fields) → pieces_in (map (field_part r) fs) ≡ fields_pieces fs
+pieces_fields r [] = refl
+pieces_fields r (f ∷ fs) = ap (λ ps. (f.0 ∷ f.1) ++ ps) (pieces_fields r fs)
+
+-- ---- the fields that come first
+
+-- from l on these fields were passed and put in order
+pub record Takes (r : Role) (l at : Left) (old new : Spans) (last : ℕ) (o n : Bool) : Type 0 where
+  pub fields : Fields
+  pub past : IsPast l at (fields_pieces fields)
+  pub each : AllByRecursion (IsFieldOfRole r) fields
+  pub ends : (fields ≡ []) ⊎ (is_word Attribute (piece_left at) ≡ false)
+  pub gathers : Gathers (whole_text l) (map (field_part r) fields) old new last o n
+
+-- none
+pub takes_none : (r : Role) (l : Left) → IsRemainder l → IsLater l → (s : Spans) (o : Bool)
+    → Takes r l l s s 0 o o
+takes_none r l h later s o = record {
+  fields = [];
+  past = past_none h later;
+  each = tt;
+  ends = inl refl;
+  gathers = gathers_none (whole_text l) s 0 o;
+}
+
+-- fields that were put in order are read
+taken : (r : Role) (l : Left) (fs : Fields) (old new : Spans) (last : ℕ) (o n : Bool)
+    → AllByRecursion (IsFieldOfRole r) fs → Gathers (whole_text l) (map (field_part r) fs) old new last o n
+    → ReadsFields r l fs old new o n
+taken r l fs old new last o n each g =
+    let few : length (map (field_part r) fs) ≤ length (fields_pieces fs) =
+    omega (arith, length-map fs (field_part r), length-fields_pieces fs) in
+    record {
+      each = each;
+      puts = gathers_puts _ _ _ _ _ _ _ g (fields_pieces fs) (pieces_fields r fs) few;
+    }
+
+module _ (r : Role) (l at : Left) (old mid : Spans) (last : ℕ) (o n : Bool)
+    (w : Takes r l at old mid last o n) where
+  -- where no key comes next
+  pub takes_past : ReadsFields r l w.fields old mid o n
+  takes_past = taken r l w.fields old mid last o n w.each w.gathers
+
+  module _ (v : Value) (h : IsValueRead at v) where
+    spanned : IsSpanned (whole_text at) (at.at - 1) v.end (piece_left at ∷ h.values)
+    spanned = h.end (at.at - 1) [] (spanned_none w.past.left w.past.later)
+
+    -- the field lies within the text
+    pub field_within : v.end ≤ l.at + l.len
+    field_within = omega (arith, spanned.inside, length_text w.past.left, w.past.end)
+
+    after : (next : Option Left) → v.next ≡ next → IsAfterValues at h.values next
+    after next e = subst (IsAfterValues at h.values) e h.next
+
+    -- what follows is shorter
+    pub field_less : (next : Left) → v.next ≡ Some next → next.len < at.len
+    field_less next e =
+        let k = after (Some next) e in
+        omega (
+          arith,
+          length_rest w.past.left,
+          length_rest k.0.left,
+          ap length (k.0.rest (λ none. cc)),
+          length-append (join (piece_left at ∷ h.values)) (45 ∷ bytes_left next),
+        )
+
+    -- a key of `t` without a value
+    pub ends_in_key : r ≡ roles.Field → IsWord (role_key r) (piece_left at) → v.count ≡ 0
+        → EndsInKey (pieces_left l)
+    unfolding is_word
+    ends_in_key e key zero = cut v.next h.next
+      where
+        alone : h.values ≡ []
+        alone = no_values h.values (omega (arith, h.count))
+
+        ends : (rest : List Text) → pieces_left at ≡ piece_left at ∷ (h.values ++ rest)
+            → is_word Attribute (first_piece rest) ≡ false → EndsInKey (pieces_left l)
+        ends rest is none = record {
+          fields = w.fields;
+          each = subst (λ q. AllByRecursion (IsFieldOfRole q) w.fields) e w.each;
+          key = piece_left at;
+          is_key = subst (λ q. IsWord (role_key q) (piece_left at)) e key;
+          rest = rest;
+          cut = w.past.pieces ∙ ap (λ ps. fields_pieces w.fields ++ ps) is
+              ∙ ap (λ vs. fields_pieces w.fields ++ (piece_left at ∷ (vs ++ rest))) alone;
+          none = none;
+        }
+
+        cut : (next : Option Left) → IsAfterValues at h.values next → EndsInKey (pieces_left l)
+        cut None k = ends [] (k ∙ ap (λ vs. piece_left at ∷ vs) (sym (append-nil h.values))) refl
+        cut (Some m) k = ends (pieces_left m) k.0.pieces k.1
+
+    module _ (key : IsWord (role_key r) (piece_left at)) (some : r ≡ roles.Field → v.count ≢ 0) (new : Spans)
+        (k edited : Bool) (m now : ℕ) (e : m ≡ word_number (piece_left at))
+        (plain : edited ≡ false → PrintsAsItIs r v.count v.has_true) where
+      abbrev field : Field
+      field = (piece_left at, h.values)
+
+      abbrev more : Fields
+      more = w.fields ++ (field ∷ [])
+
+      abbrev parts : List Part
+      parts = map (field_part r) w.fields
+
+      abbrev span : Span
+      span = record { word = m; start = at.at - 1; end = v.end; role = r; edited = edited }
+
+      abbrev IsNow : Inserted → Type 0
+      IsNow i = IsPutFrom old.count span mid new last now n k i
+
+      is_field : IsFieldOfRole r field
+      is_field = field_of r (piece_left at) h.values key h.each (λ t. let l = some t in omega (arith, h.count))
+
+      field_span : IsSpan (whole_text at) span (field_part r field)
+      field_span = record {
+        role = refl;
+        word = e;
+        spanned = spanned;
+        same = λ t. plain t field is_field h.count h.trues;
+        short = λ t. field_short r field is_field;
+      }
+
+      is_span : IsSpan (whole_text l) span (field_part r field)
+      is_span = subst (λ t. IsSpan t span (field_part r field)) w.past.text field_span
+
+      -- where there is no room
+      pub takes_full : (i : Inserted) → IsNow i → i ≡ Full → IsTooMuch old (length (pieces_left l))
+      takes_full i h is =
+          let full = gathers_full _ parts old mid last o n w.gathers new now k span _ is_span
+          (subst IsNow is h) in
+          omega (
+            arith,
+            full,
+            gathers_few _ _ _ _ _ _ _ w.gathers,
+            length-map w.fields (field_part r),
+            ap length w.past.pieces,
+            length-append (fields_pieces w.fields) (pieces_left at),
+            length-pieces_of at,
+            length-fields_pieces w.fields,
+          )
+
+      module _ (i : Inserted) (is : IsNow i) (room : i ≢ Full) where
+        each_more : AllByRecursion (IsFieldOfRole r) more
+        each_more = all_append (IsFieldOfRole r) w.fields (field ∷ []) w.each (is_field, tt)
+
+        put : (j : Inserted) → IsNow j → j ≢ Full
+            → Gathers (whole_text l) (parts ++ (field_part r field ∷ [])) old new now o k
+        put Put h t = (gathers_put _ parts old mid last o n w.gathers new now k span _ is_span h).0
+        put There h t = (gathers_there _ parts old mid last o n w.gathers new now k span _ is_span h).0
+        put Full h t = absurd (t refl)
+
+        gathered : Gathers (whole_text l) (map (field_part r) more) old new now o k
+        gathered =
+            subst (λ ps. Gathers (whole_text l) ps old new now o k)
+            (sym (map-append (field_part r) w.fields (field ∷ []))) (put i is room)
+
+        -- one field more
+        pub takes_more : (next : Left) → v.next ≡ Some next → Takes r l next old new now o k
+        takes_more next t =
+            let a = after (Some next) t in
+            record {
+              fields = more;
+              past = subst (IsPast l next) (sym (pieces_more w.fields field)) (past_past w.past a.0);
+              each = each_more;
+              ends = inr a.1;
+              gathers = gathered;
+            }
+
+        -- the last one
+        pub takes_end : v.next ≡ None
+            → (fs : Fields) × (pieces_left l ≡ fields_pieces fs) × ReadsFields r l fs old new o k
+        takes_end t = (
+          more,
+          w.past.pieces ∙ ap (λ ps. fields_pieces w.fields ++ ps) (after None t)
+              ∙ sym (pieces_more w.fields field),
+          taken r l more old new now o k each_more gathered,
+        )

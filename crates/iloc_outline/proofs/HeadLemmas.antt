@@ -1,0 +1,274 @@
+-- What the reader of a head says: an identifier that is all of a text, or ends at a block, or why it is none.
+use Rattle.std.proofs.Common.{◌≡◌, ◌≢◌, ◌≤◌, Bool, true, false, List, [], ◌∷◌, ◌++◌, length, map, flat_map, take, drop, None, Some, refl, sym, ap, ◌∙◌, subst, arith, append_assoc, append-nil, length-append, true≢false}
+use Rattle.std.specs.List.{AllZip}
+use Rattle.std.proofs.lemmas.List.{append_cancel_left, take-append-drop, length-take-le}
+use Rattle.iloc_spec_grammar.specs.Syntax.{Text, Identifier, Language, AllDifferent, IsWord, dashes, first_piece, front, head, identifier_pieces, is_one_byte, is_word, join, languages, lower, pieces, word_cmp}
+use Rattle.iloc_spec_grammar.specs.Meaning.{IdentifierMeans, SpellsIdentifier, normal_identifier, not_an_identifier}
+use Rattle.iloc_spec_grammar.specs.Reading.{after_front, after_head, from_block, front_of, starts_block}
+use Rattle.iloc_spec_grammar.proofs.PartTexts.{join-append}
+use Rattle.iloc_spec_grammar.proofs.PiecesLaws.{at_pieces}
+use Rattle.iloc_spec_grammar.proofs.ReadingLaws.{from_block_starts, front-from_block, refuses_more, refuses_repeat, starts_ends}
+use Rattle.iloc_spec_grammar.proofs.Readings.{after_language}
+use Rattle.iloc_outline.specs.Identifier.{IsAfterFront, IsFrontRead, front_text}
+use Rattle.iloc_outline.specs.Left.{IsRemainder, IsPast, piece_left, pieces_left, bytes_left, whole_text}
+use Rattle.iloc_outline.specs.Outlines.{AreHeadRead, ReadsHead, parts_text}
+use Rattle.iloc_outline.specs.Parts.{front_pieces, printed_part, variant_parts}
+use Rattle.iloc_outline.specs.Reading.{AreWordsRead, ReadsWords}
+use Rattle.iloc_outline.specs.Spans.{IsSpan, Spell, held_spans}
+use Rattle.iloc_outline.specs.declared.identifier.Front.{Front}
+use Rattle.iloc_outline.specs.declared.left.Left.{Left}
+use Rattle.iloc_outline.specs.declared.outline.Head.TheVariants as heads
+use Rattle.iloc_outline.specs.declared.outline.Outline.{Outline}
+use Rattle.iloc_outline.specs.declared.reading.Reading.{Reading}
+use Rattle.iloc_outline.specs.declared.reading.Reading.TheVariants.{End, Next, Bad, Repeated, Full}
+use Rattle.iloc_outline.specs.declared.span.Role.TheVariants as roles
+use Rattle.iloc_outline.specs.declared.spans.Spans.{Spans}
+use Rattle.iloc_subtags.specs.declared.parse_error.ParseError.TheVariants.{InvalidSubtag}
+use Rattle.iloc_outline.proofs.BlocksLemmas.{plain_variants}
+use Rattle.iloc_outline.proofs.BodyLemmas.{front_all}
+use Rattle.iloc_outline.proofs.Fronts.{begins_text, front_text-append}
+use Rattle.iloc_outline.proofs.LeftLemmas.{length_text, past_past}
+use Rattle.iloc_outline.proofs.Meanings.{parts_dashes}
+use Rattle.iloc_outline.proofs.OutlineLemmas.{lower-append, lower-dashes}
+use Rattle.iloc_outline.proofs.SpansLemmas.{spell_length}
+use Rattle.iloc_outline.proofs.TransformLemmas.{at_language, long_front, pieces_front_of, variants_of, words_front}
+use Rattle.iloc_outline.proofs.TransformReading.{pieces_front}
+
+-- ---- heads that are no identifier
+
+-- what is left over is not where a block begins
+more_left : (ps : List Text) → IsWord (Language languages) (first_piece ps) → after_front ps ≢ after_head ps
+    → ¬ (SpellsIdentifier languages (head ps))
+more_left = at_language _ (λ p ps h.
+    subst (λ qs. after_front (p ∷ qs) ≢ from_block ps → ¬ (SpellsIdentifier languages (p ∷ front ps)))
+    (front-from_block ps)
+    (refuses_more languages p (front ps) (from_block ps)
+    (starts_ends (from_block ps) (from_block_starts ps))))
+
+-- a variant comes twice
+one_twice : (ps : List Text) → IsWord (Language languages) (first_piece ps)
+    → ¬ (AllDifferent word_cmp (map lower (front_of ps).variants)) → ¬ (SpellsIdentifier languages (head ps))
+one_twice = at_language _ (λ p ps h.
+    subst (λ qs. ¬ (AllDifferent word_cmp (map lower (front_of (p ∷ qs)).variants))
+    → ¬ (SpellsIdentifier languages (p ∷ front ps))) (front-from_block ps)
+    (refuses_repeat languages p (front ps) (from_block ps)
+    (starts_ends (from_block ps) (from_block_starts ps))))
+
+pub head_first : (ps : List Text) → first_piece (head ps) ≡ first_piece ps
+head_first [] = refl
+head_first (p ∷ ps) = refl
+
+-- behind a head a block begins
+after_starts : (ps : List Text) → starts_block (after_head ps) ≡ true
+after_starts [] = refl
+after_starts (p ∷ ps) = from_block_starts ps
+
+starts_single : (t : Text) → starts_block (pieces t) ≡ true → is_one_byte (first_piece (pieces t)) ≡ true
+starts_single t = at_pieces (λ ps. starts_block ps ≡ true → is_one_byte (first_piece ps) ≡ true)
+    (λ p ps e. e) t
+
+single_starts : (t : Text) → is_one_byte (first_piece (pieces t)) ≡ true → starts_block (pieces t) ≡ true
+single_starts t = at_pieces (λ ps. is_one_byte (first_piece ps) ≡ true → starts_block ps ≡ true)
+    (λ p ps e. e) t
+
+-- ---- heads that are
+
+-- the words of an identifier at the front, up to a block, are the head
+head_words : (ps rest : List Text) → IsWord (Language languages) (first_piece ps)
+    → ps ≡ identifier_pieces (front_of ps) ++ rest → starts_block rest ≡ true
+    → (head ps ≡ identifier_pieces (front_of ps)) × (after_head ps ≡ rest)
+head_words ps rest word cut s =
+    let i = front_of ps in
+    let after : List Text = after_language i in
+    let whole : front (after ++ rest) ≡ after = front_all after rest (long_front ps word).1 s in (
+      ap head cut ∙ ap (λ qs. i.language ∷ qs) whole,
+      ap after_head cut ∙ append_cancel_left after _ _
+          (ap (λ qs. qs ++ from_block (after ++ rest)) (sym whole) ∙ front-from_block (after ++ rest)),
+    )
+
+no_items : (xs ys : List Text) → xs ++ ys ≡ [] → (xs ≡ []) × (ys ≡ [])
+no_items [] ys h = (refl, h)
+no_items (x ∷ xs) ys h = cc
+
+-- ---- what is read from the beginning of a text on
+
+-- the outline that begins so
+abbrev pub outline_of : Front → Outline
+outline_of f = record { front = f.end; script = f.script; region = f.region }
+
+module _ (l : Left) (f : Front) (is : IsRemainder l) (first : l.at ≡ 0)
+    (word : IsWord (Language languages) (piece_left l)) (read : IsFrontRead l f) where
+  abbrev i : Identifier
+  i = front_of (pieces_left l)
+
+  whole : whole_text l ≡ bytes_left l
+  whole = begins_text l first
+
+  begins : IsWord (Language languages) (first_piece (head (pieces_left l)))
+  begins = ap (is_word (Language languages)) (head_first (pieces_left l)) ∙ word
+
+  pieces_i : identifier_pieces i ≡ front_pieces i ++ i.variants
+  pieces_i = pieces_front (Some i)
+
+  meant : (ps : List Text) → AllDifferent word_cmp (map lower i.variants) → ps ≡ identifier_pieces i
+      → IdentifierMeans languages ps (normal_identifier i)
+  meant ps different same = record {
+    written = i;
+    grammatical = record { words = words_front (pieces_left l) word; different = different };
+    spelled = same;
+    means = refl;
+  }
+
+  inside : f.end ≤ length (bytes_left l)
+  inside = subst (λ t. f.end ≤ length t) whole (omega (arith, read.inside, length_text is))
+
+  front_bytes : take f.end (bytes_left l) ≡ join (front_pieces i)
+  front_bytes = subst (λ t. take f.end t ≡ join (front_pieces i)) whole (read.text first)
+
+  front_printed : front_text f.script f.region (take f.end (bytes_left l))
+      ≡ join (front_pieces (normal_identifier i))
+  front_printed = subst (λ t. front_text f.script f.region (take f.end t)
+      ≡ join (front_pieces (normal_identifier i))) whole (read.printed first)
+
+  behind : (rest : Text) → bytes_left l ≡ join (identifier_pieces i) ++ rest
+      → drop f.end (bytes_left l) ≡ dashes i.variants ++ rest
+  behind rest e = append_cancel_left (join (front_pieces i)) _ _
+      (ap (λ x. x ++ drop f.end (bytes_left l)) (sym front_bytes) ∙ take-append-drop f.end (bytes_left l) ∙ e
+      ∙ ap (λ ps. join ps ++ rest) pieces_i
+      ∙ ap (λ x. x ++ rest) (join-append i.language _ i.variants)
+      ∙ append_assoc (join (front_pieces i)) (dashes i.variants) rest)
+
+  stands : (rest : Text) → bytes_left l ≡ join (identifier_pieces i) ++ rest
+      → flat_map printed_part (variant_parts i.variants) ≡ map lower i.variants
+      → front_text f.script f.region (bytes_left l) ≡ join (front_pieces (normal_identifier i))
+      ++ (parts_text (variant_parts i.variants) ++ lower rest)
+  stands rest e same =
+      let long : length (take f.end (bytes_left l)) ≡ f.end = length-take-le f.end (bytes_left l) inside in
+      let within = read.within first in
+      ap (front_text f.script f.region) (sym (take-append-drop f.end (bytes_left l)))
+      ∙ front_text-append f.script f.region (take f.end (bytes_left l)) (drop f.end (bytes_left l))
+      (omega arith) (omega arith)
+      ∙ ap (λ x. x ++ lower (drop f.end (bytes_left l))) front_printed
+      ∙ ap (λ x. join (front_pieces (normal_identifier i)) ++ x)
+      (ap lower (behind rest e) ∙ lower-append (dashes i.variants) rest
+      ∙ ap (λ x. x ++ lower rest) (lower-dashes i.variants ∙ ap dashes (sym same)
+      ∙ parts_dashes (variant_parts i.variants)))
+
+  reads : (ps : List Text) (spans : Spans) (n : Bool) → AllDifferent word_cmp (map lower i.variants)
+      → ps ≡ identifier_pieces i → Spell (bytes_left l) spans (variant_parts i.variants)
+      → length (held_spans spans) ≤ length ps
+      → (n ≡ true → flat_map printed_part (variant_parts i.variants) ≡ map lower i.variants)
+      → ReadsHead (bytes_left l) ps (outline_of f) spans n
+  reads ps spans n different same spell few order = record {
+    written = i;
+    means = meant ps different same;
+    inside = inside;
+    front = front_printed;
+    variants = spell;
+    few = omega (arith, few, spell_length (bytes_left l) spans (variant_parts i.variants) spell);
+    order = λ e rest t. stands rest (t ∙ ap (λ qs. join qs ++ rest) same) (order e);
+  }
+
+  -- a language, a script and a region are all of the text
+  pub head_front : (spans : Spans) → held_spans spans ≡ [] → IsAfterFront l None
+      → AreHeadRead (bytes_left l) spans true (heads.All (outline_of f))
+  head_front spans none cut =
+      let left = no_items i.variants (after_front (pieces_left l)) (append_cancel_left (front_pieces i) _ []
+      (sym (append_assoc (front_pieces i) i.variants (after_front (pieces_left l)))
+      ∙ ap (λ ps. ps ++ after_front (pieces_left l)) (sym pieces_i)
+      ∙ pieces_front_of (pieces_left l) word ∙ cut ∙ sym (append-nil (front_pieces i)))) in
+      let nothing = left.0 in
+      let all : pieces_left l ≡ identifier_pieces i =
+      cut ∙ sym (append-nil (front_pieces i)) ∙ ap (λ vs. front_pieces i ++ vs) (sym nothing)
+      ∙ sym pieces_i in
+      reads (pieces_left l) spans true (subst (λ vs. AllDifferent word_cmp (map lower vs)) (sym nothing) tt) all
+      (subst (λ vs. Spell (bytes_left l) spans (variant_parts vs)) (sym nothing)
+      (subst (λ ss. AllZip (IsSpan (bytes_left l)) ss []) (sym none) tt))
+      (omega (arith, ap length none))
+      (λ _. subst (λ vs. flat_map printed_part (variant_parts vs) ≡ map lower vs) (sym nothing) refl)
+
+  -- variants follow, or something else
+  module _ (m : Left) (after : IsAfterFront l (Some m)) (old : Spans) (none : held_spans old ≡ []) where
+    module _ (vs : List Text) (new : Spans) (n : Bool)
+        (h : ReadsWords roles.Variant m vs old new true n) where
+      same_words : vs ≡ i.variants
+      same_words = h.words ∙ variants_of (pieces_left l) (pieces_left m) after.1
+
+      differ : AllDifferent word_cmp (map lower i.variants)
+      differ = subst (λ ws. AllDifferent word_cmp (map lower ws)) same_words h.may_be
+
+      spelled : Spell (bytes_left l) new (variant_parts i.variants)
+      spelled = subst (λ ws. Spell (bytes_left l) new (variant_parts ws)) same_words
+          (subst (λ t. Spell t new (variant_parts vs)) (after.0.text ∙ whole)
+          (h.puts.adds [] (subst (λ ss. AllZip (IsSpan (whole_text m)) ss []) (sym none) tt)))
+
+      read_up_to : (ps : List Text) → ps ≡ identifier_pieces i → ReadsHead (bytes_left l) ps (outline_of f) new n
+      read_up_to ps same = reads ps new n differ same spelled
+          (omega (
+            arith,
+            h.puts.few,
+            ap length none,
+            ap length same_words,
+            ap length same,
+            ap length pieces_i,
+            length-append (front_pieces i) i.variants,
+          ))
+          (λ e. subst (λ ws. flat_map printed_part (variant_parts ws) ≡ map lower ws) same_words
+          (h.puts.order e).1)
+
+    -- variants are the rest of the text
+    pub head_variants : (new : Spans) (n : Bool) → AreWordsRead roles.Variant m old new true n End
+        → AreHeadRead (bytes_left l) new n (heads.All (outline_of f))
+    head_variants new n h = read_up_to (pieces_left m) new n h (pieces_left l)
+        (after.0.pieces ∙ ap (λ ws. front_pieces i ++ ws) (same_words (pieces_left m) new n h) ∙ sym pieces_i)
+
+    module _ (k : Left) (new : Spans) (n : Bool)
+        (h : AreWordsRead roles.Variant m old new true n (Next k)) where
+      before : IsPast l k (identifier_pieces i)
+      before = subst (IsPast l k) (ap (λ ws. front_pieces i ++ ws) (same_words h.0 new n h.3) ∙ sym pieces_i)
+          (past_past after.0 h.1)
+
+      -- a block follows
+      pub head_block : is_one_byte (piece_left k) ≡ true
+          → AreHeadRead (bytes_left l) new n (heads.Block (outline_of f) k)
+      head_block single =
+          let both = head_words (pieces_left l) (pieces_left k) word before.pieces
+          (single_starts (bytes_left k) single) in (
+            before.left,
+            before.later,
+            before.text ∙ whole,
+            single,
+            before.pieces ∙ ap (λ ps. ps ++ pieces_left k) (sym both.0),
+            both.1,
+            (variant_parts i.variants, plain_variants i.variants, spelled h.0 new n h.3),
+            read_up_to h.0 new n h.3 (head (pieces_left l)) both.0,
+          )
+
+      -- something else follows
+      pub head_stranger : is_one_byte (piece_left k) ≡ false
+          → AreHeadRead (bytes_left l) new n (heads.Refused InvalidSubtag)
+      head_stranger longer = not_an_identifier begins
+          (more_left (pieces_left l) word (λ e. true≢false
+          (sym (starts_single (bytes_left k) (ap starts_block (sym left_over ∙ e) ∙ after_starts (pieces_left l)))
+          ∙ longer)))
+        where
+          left_over : after_front (pieces_left l) ≡ pieces_left k
+          left_over = append_cancel_left (identifier_pieces i) _ _
+              (pieces_front_of (pieces_left l) word ∙ before.pieces)
+
+    -- a variant comes twice
+    head_repeated : (new : Spans) (n : Bool) → AreWordsRead roles.Variant m old new true n Repeated
+        → AreHeadRead (bytes_left l) new n (heads.Refused InvalidSubtag)
+    head_repeated new n h = not_an_identifier begins
+        (one_twice (pieces_left l) word (subst (λ ws. ¬ (AllDifferent word_cmp (map lower ws)))
+        (variants_of (pieces_left l) (pieces_left m) after.1) h.1))
+
+    -- neither of these
+    pub head_other : (new : Spans) (n : Bool) (r : Reading) → AreWordsRead roles.Variant m old new true n r
+        → r ≢ End → ((k : Left) → r ≢ Next k) → r ≢ Full
+        → AreHeadRead (bytes_left l) new n (heads.Refused InvalidSubtag)
+    head_other new n End h e x f = absurd (e refl)
+    head_other new n (Next k) h e x f = absurd (x k refl)
+    head_other new n Bad h e x f = absurd (h tt)
+    head_other new n Repeated h e x f = head_repeated new n h
+    head_other new n Full h e x f = absurd (f refl)

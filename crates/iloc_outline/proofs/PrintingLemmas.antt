@@ -1,0 +1,523 @@
+-- What is printed of spans, piece by piece.
+use Rattle.std.proofs.Common.{◌≡◌, ◌≢◌, ℕ, zero, suc, ◌+◌, ◌-◌, ◌<◌, ◌≤◌, Bool, true, false, true≢false, cond, not, List, [], ◌∷◌, ◌++◌, length, take, drop, map, flat_map, filter, refl, sym, ap, ◌∙◌, subst, arith, add-zero, append_assoc, append-nil, slice_index, slice_index_or, slice_set, add-one}
+use Rattle.std.specs.Prelude.{codes, if◌then◌else◌}
+use Rattle.std.specs.Char.{to_ascii_lowercase, to_ascii_uppercase}
+use Rattle.std.specs.List.{AllByRecursion, AllZip}
+use Rattle.std.proofs.Math.Seq.{take-suc}
+use Rattle.std.proofs.lemmas.Grind.{flat_map-append}
+use Rattle.std.proofs.lemmas.List.{drop-drop, drop-take, get_or-drop, get_or-take, map-append, take-append-drop, length-append, length-map, length-drop, length-take-le, take-take, take_more_set}
+use Rattle.iloc_spec_grammar.specs.Syntax.{Text, dashes, first_piece, is_other_singleton, is_true, kept, lower, pieces, upper}
+use Rattle.iloc_spec_grammar.specs.Values.{spelled_value}
+use Rattle.iloc_spec_grammar.proofs.PiecesLaws.{at_pieces, pieces-join}
+use Rattle.iloc_spec_grammar.proofs.PartTexts.{join-dashes}
+use Rattle.iloc_spec_grammar.proofs.WordsLaws.{length-lower}
+use Rattle.iloc_outline.specs.Left.{IsEnd, IsRemainder, IsNextPiece, IsShortPiece, piece_left, pieces_left, bytes_left}
+use Rattle.iloc_outline.specs.Printing.{bytes_from, edited_text, is_kept, kept_pieces, printed_role, span_text}
+use Rattle.iloc_spec_grammar.specs.Reading.{rest_of}
+use Rattle.iloc_outline.specs.Outlines.{Gives, parts_text}
+use Rattle.iloc_outline.specs.Spans.{AreShort, IsSpan, Spell, held_spans}
+use Rattle.iloc_outline.specs.Identifier.{front_text, raised}
+use Rattle.iloc_outline.specs.declared.outline.Outline.{Outline}
+use Rattle.iloc_outline.specs.declared.spans.Spans.{Spans}
+use Rattle.iloc_outline.proofs.SpansLemmas.{length-held}
+use Rattle.iloc_outline.specs.declared.span.Span.{Span}
+use Rattle.iloc_outline.specs.Parts.{Part, printed_part, printed_by}
+use Rattle.iloc_outline.specs.declared.span.Role.{Role}
+use Rattle.iloc_outline.specs.declared.span.Role.TheVariants as roles
+use Rattle.iloc_outline.specs.contracts.span.Role.{the_type}
+use denote.Enum.Bare.{sameb}
+use Rattle.iloc_outline.specs.declared.left.Left.{Left}
+use Rattle.iloc_outline.proofs.LeftLemmas.{begins, first_within, length_piece, length_rest}
+
+-- a short piece lies within the window, and its bytes are those from its place on
+module _ (l : Left) (h : IsRemainder l) (short : IsShortPiece (piece_left l)) where
+  pub piece_within : l.n ≤ l.len
+  piece_within = omega (arith, length_piece h short, first_within (bytes_left l), length_rest h)
+
+  pub piece_inside : l.at + l.n ≤ length l.window.now
+  piece_inside = omega (arith, piece_within, h.inside)
+
+  pub piece_bytes : take l.n (drop l.at l.window.now) ≡ piece_left l
+  piece_bytes =
+      sym (take-take l.n l.len (drop l.at l.window.now) piece_within)
+      ∙ ap (λ n. take n (bytes_left l)) (length_piece h short) ∙ begins (bytes_left l)
+
+  pub piece_first : l.n ≢ 0 → slice_index (piece_left l) 0 ≡ slice_index l.window.now l.at
+  piece_first some =
+      ap (λ p. slice_index p 0) (sym piece_bytes) ∙ get_or-take l.n (drop l.at l.window.now) 0 0 (omega arith)
+      ∙ get_or-drop l.at l.window.now 0 0 ∙ ap (slice_index l.window.now) (add-zero l.at)
+
+  pub piece_none : l.n ≡ 0 → slice_index (piece_left l) 0 ≡ 0
+  piece_none none = ap (λ p. slice_index p 0) (sym piece_bytes
+      ∙ ap (λ n. take n (drop l.at l.window.now)) none)
+
+-- a hyphen and the piece are put behind what was there
+pub piece_put : (to news : Text) (start n : ℕ) (p : Text) → start < length to → take (start + 1 + n) news
+    ≡ take (start + 1) (slice_set to start 45) ++ lower p
+    → take (start + 1 + n) news ≡ take start to ++ 45 ∷ lower p
+piece_put to news start n p l e =
+    e ∙ ap (λ t. t ++ lower p) (take_more_set to start 45 l)
+    ∙ append_assoc (take start to) (45 ∷ []) (lower p)
+
+-- ---- pieces that are kept
+
+pub pieces_behind : (t : Text) → pieces t ≡ first_piece (pieces t) ∷ rest_of (pieces t)
+pieces_behind t = at_pieces (λ ps. ps ≡ first_piece ps ∷ rest_of ps) (λ p ps. refl) t
+
+pub first_short : (t : Text) → AllByRecursion IsShortPiece (pieces t) → IsShortPiece (first_piece (pieces t))
+first_short t = at_pieces (λ ps. AllByRecursion IsShortPiece ps → IsShortPiece (first_piece ps)) (λ p ps h. h.0) t
+
+pub next_short : (l m : Left) → IsNextPiece l m → AllByRecursion IsShortPiece (pieces_left l)
+    → AllByRecursion IsShortPiece (pieces_left m)
+next_short l m next h = (subst (AllByRecursion IsShortPiece) next.pieces h).1
+
+-- a piece that is kept, and the others
+kept_more : (r : Role) (p : Text) (ps : List Text) → is_kept r p ≡ true → dashes (kept_pieces r (p ∷ ps))
+    ≡ (45 ∷ lower p) ++ dashes (kept_pieces r ps)
+kept_more r p ps e = ap (λ b. dashes (map lower (cond b (p ∷ filter (is_kept r) ps) (filter (is_kept r) ps))))
+    e
+
+module _ (r : Role) (l m : Left) (next : IsNextPiece l m) (kept : is_kept r (piece_left m) ≡ true) where
+  pub kept_next : dashes (kept_pieces r (rest_of (pieces_left l)))
+      ≡ (45 ∷ lower (piece_left m)) ++ dashes (kept_pieces r (rest_of (pieces_left m)))
+  kept_next =
+      ap (λ ps. dashes (kept_pieces r (rest_of ps))) next.pieces
+      ∙ ap (λ ps. dashes (kept_pieces r ps)) (pieces_behind (bytes_left m))
+      ∙ kept_more r (piece_left m) (rest_of (pieces_left m)) kept
+
+  module _ (F T to : Text) (end : ℕ) (inside : end ≤ length to)
+      (all : take end to ++ dashes (kept_pieces r (rest_of (pieces_left l))) ≡ F ++ T) where
+    pub kept_room : end + length (piece_left m) + 1 ≤ length F + length T
+    kept_room =
+        omega (
+          arith,
+          ap length all,
+          ap length kept_next,
+          length-append (take end to)
+              (dashes (kept_pieces r (rest_of (pieces_left l)))),
+          length-append F T,
+          length-append (45 ∷ lower (piece_left m)) (dashes (kept_pieces r (rest_of (pieces_left m)))),
+          length-lower
+              (piece_left m),
+          length-take-le end to inside,
+        )
+
+    pub kept_put : (news : Text) (more : ℕ) → take more news ≡ take end to ++ 45 ∷ lower (piece_left m)
+        → take more news ++ dashes (kept_pieces r (rest_of (pieces_left m))) ≡ F ++ T
+    kept_put news more e =
+        ap (λ t. t ++ dashes (kept_pieces r (rest_of (pieces_left m)))) e
+        ∙ append_assoc (take end to) (45 ∷ lower (piece_left m)) (dashes (kept_pieces r (rest_of (pieces_left m))))
+        ∙ ap (λ t. take end to ++ t) (sym kept_next) ∙ all
+
+-- nothing is left behind the last piece
+module _ (r : Role) (l : Left) (end : IsEnd l) (F T to : Text) (n : ℕ)
+    (all : take n to ++ dashes (kept_pieces r (rest_of (pieces_left l))) ≡ F ++ T) where
+  pub kept_all : take n to ≡ F ++ T
+  kept_all = sym (append-nil (take n to))
+      ∙ ap (λ ps. take n to ++ dashes (kept_pieces r (rest_of ps))) (sym end.one) ∙ all
+
+-- ---- an edited part
+
+-- the value of a field is `true` if nothing else is left
+abbrev pub closing : Role → List Text → List Text
+closing roles.Field ps = spelled_value ps
+closing _ ps = ps
+
+-- the pieces that are kept behind the first
+abbrev pub kept_of : Role → Text → List Text
+kept_of r p = kept_pieces (printed_role r (first_piece (pieces p))) (rest_of (pieces p))
+
+filter_lowered : (ps : List Text) → filter (λ w. not (is_true w)) (map lower ps)
+    ≡ map lower (filter (λ p. not (is_true (lower p))) ps)
+filter_lowered [] = refl
+filter_lowered (p ∷ ps) =
+    elim (is_true (lower p)) as (λ b. cond (not b) (lower p ∷ filter (λ w. not (is_true w)) (map lower ps))
+    (filter (λ w. not (is_true w)) (map lower ps))
+    ≡ map lower (cond (not b) (p ∷ filter (λ p. not (is_true (lower p))) ps)
+    (filter (λ p. not (is_true (lower p))) ps))) [
+      | true ↦ filter_lowered ps
+      | false ↦ ap (λ l. lower p ∷ l) (filter_lowered ps)
+    ]
+
+filter_all : (ps : List Text) → filter (λ (p : Text). true) ps ≡ ps
+filter_all [] = refl
+filter_all (p ∷ ps) = ap (λ l. p ∷ l) (filter_all ps)
+
+printed_is : (r : Role) (p : Text) (ps : List Text) → printed_by r (p ∷ ps)
+    ≡ lower p ∷ closing (printed_role r p) (kept_pieces (printed_role r p) ps)
+printed_is roles.Variant p ps = ap (λ l. lower p ∷ map lower l) (sym (filter_all ps))
+printed_is roles.Attribute p ps = ap (λ l. lower p ∷ map lower l) (sym (filter_all ps))
+printed_is roles.Keyword p ps = ap (λ l. lower p ∷ l) (filter_lowered ps)
+printed_is roles.Field p ps = ap (λ l. lower p ∷ spelled_value l) (filter_lowered ps)
+printed_is roles.Singleton p ps =
+    elim (is_other_singleton (to_ascii_lowercase (slice_index p 0))) as
+    (λ b. lower p ∷ (if b then kept ps else map lower ps)
+    ≡ lower p ∷ closing (cond b roles.Singleton roles.Variant)
+    (kept_pieces (cond b roles.Singleton roles.Variant) ps)) [
+      | true ↦ refl
+      | false ↦ ap (λ l. lower p ∷ map lower l) (sym (filter_all ps))
+    ]
+
+pub edited_is : (r : Role) (p : Text)
+    → edited_text r p ≡ (45 ∷ lower (first_piece (pieces p))) ++ dashes
+    (closing (printed_role r (first_piece (pieces p))) (kept_of r p))
+edited_is r p = ap (λ ps. dashes (printed_by r ps)) (pieces_behind p)
+    ∙ ap dashes (printed_is r (first_piece (pieces p)) (rest_of (pieces p)))
+
+-- no byte is printed for no pieces only
+no_dashes : (ps : List Text) → length (dashes ps) ≡ 0 → ps ≡ []
+no_dashes [] e = refl
+no_dashes (p ∷ ps) e = absurd (omega (arith, length-append (45 ∷ p) (dashes ps)))
+
+closing_some : (r : Role) (ps : List Text) → (r ≡ roles.Field → length (dashes ps) ≢ 0) → closing r ps ≡ ps
+closing_some roles.Variant ps h = refl
+closing_some roles.Singleton ps h = refl
+closing_some roles.Attribute ps h = refl
+closing_some roles.Keyword ps h = refl
+closing_some roles.Field [] h = absurd (h refl refl)
+closing_some roles.Field (p ∷ ps) h = refl
+
+closing_longer : (r : Role) (ps : List Text) → length (dashes ps) ≤ length (dashes (closing r ps))
+closing_longer roles.Variant ps = omega arith
+closing_longer roles.Singleton ps = omega arith
+closing_longer roles.Attribute ps = omega arith
+closing_longer roles.Keyword ps = omega arith
+closing_longer roles.Field [] = omega arith
+closing_longer roles.Field (p ∷ ps) = omega arith
+
+module _ (r : Role) (p : Text) where
+  pub edited_longer : length (first_piece (pieces p)) + 1 + length (dashes (kept_of r p)) ≤ length
+      (edited_text r p)
+  edited_longer =
+      omega (
+        arith,
+        ap length (edited_is r p),
+        length-append (45 ∷ lower (first_piece (pieces p)))
+            (dashes (closing (printed_role r (first_piece (pieces p))) (kept_of r p))),
+        length-lower (first_piece (pieces p)),
+        closing_longer (printed_role r (first_piece (pieces p)))
+            (kept_of r p),
+      )
+
+  -- the first piece and those that are kept are all
+  pub edited_kept : (printed_role r (first_piece (pieces p)) ≡ roles.Field
+      → length (dashes (kept_of r p)) ≢ 0)
+      → edited_text r p ≡ (45 ∷ lower (first_piece (pieces p))) ++ dashes (kept_of r p)
+  edited_kept h = edited_is r p ∙ ap (λ ps. (45 ∷ lower (first_piece (pieces p))) ++ dashes ps)
+      (closing_some (printed_role r (first_piece (pieces p))) (kept_of r p) h)
+
+  -- or `true` is behind the first
+  pub edited_true : printed_role r (first_piece (pieces p)) ≡ roles.Field → length (dashes (kept_of r p)) ≡ 0
+      → edited_text r p ≡ (45 ∷ lower (first_piece (pieces p))) ++ codes "-true"
+  edited_true e h = edited_is r p
+      ∙ (λ j. (45 ∷ lower (first_piece (pieces p))) ++ dashes (closing (e j) (no_dashes (kept_of r p) h j)))
+
+-- whether it is a field, as the code asks it
+pub field_told : (r : Role) → sameb the_type r roles.Field ≡ true → r ≡ roles.Field
+field_told roles.Variant h = absurd (true≢false (sym h))
+field_told roles.Singleton h = absurd (true≢false (sym h))
+field_told roles.Attribute h = absurd (true≢false (sym h))
+field_told roles.Keyword h = absurd (true≢false (sym h))
+field_told roles.Field h = refl
+
+pub no_field_told : (r : Role) → sameb the_type r roles.Field ≡ false → r ≢ roles.Field
+no_field_told r h e = true≢false (sym (ap (λ q. sameb the_type q roles.Field) e) ∙ h)
+
+-- the bytes behind the hyphen of a span, as the cursor has them
+pub bytes_here : (w rest : Text) (from end : ℕ) → end ≤ length w → rest
+    ≡ take (end - from) (take (length w - from) (drop from w)) → rest ≡ bytes_from w from end
+bytes_here w rest from end l e = e ∙ take-take (end - from) (length w - from) (drop from w) (omega arith)
+
+-- what was written is what is printed of the part
+module _ (r role : Role) (rest p : Text) (is : rest ≡ p) (e : role
+    ≡ printed_role r (first_piece (pieces rest))) (F : Text) where
+  kept_here : kept_pieces role (rest_of (pieces rest)) ≡ kept_of r p
+  kept_here = (λ j. kept_pieces (e j) (rest_of (pieces rest))) ∙ ap (kept_of r) is
+
+  role_here : role ≡ printed_role r (first_piece (pieces p))
+  role_here = e ∙ ap (λ t. printed_role r (first_piece (pieces t))) is
+
+  pub written_room : length (first_piece (pieces rest)) + 1 + length
+      (dashes (kept_pieces role (rest_of (pieces rest)))) ≤ length (edited_text r p)
+  written_room = omega (
+    arith,
+    edited_longer r p,
+    ap (λ t. length (first_piece (pieces t))) is,
+    ap
+        (λ ps. length (dashes ps)) kept_here,
+  )
+
+  pub written_true : role ≡ roles.Field → length (dashes (kept_pieces role (rest_of (pieces rest)))) ≡ 0
+      → ((F ++ 45 ∷ lower (first_piece (pieces rest))) ++ dashes
+      (kept_pieces role (rest_of (pieces rest)))) ++ codes "-true" ≡ F ++ edited_text r p
+  written_true f none =
+      let K = dashes (kept_pieces role (rest_of (pieces rest))) in
+      let P = 45 ∷ lower (first_piece (pieces rest)) in
+      (λ j. ((F ++ P) ++ dashes (no_dashes (kept_pieces role (rest_of (pieces rest))) none j)) ++ codes
+      "-true") ∙ ap (λ t. t ++ codes "-true") (append-nil (F ++ P)) ∙ append_assoc F P (codes "-true")
+      ∙ ap (λ t. F ++ ((45 ∷ lower (first_piece (pieces t))) ++ codes "-true")) is
+      ∙ ap (λ t. F ++ t) (sym (edited_true r p (sym role_here ∙ f)
+      (ap (λ ps. length (dashes ps)) (sym kept_here) ∙ none)))
+
+  pub written_kept : (role ≡ roles.Field → length (dashes (kept_pieces role (rest_of (pieces rest)))) ≢ 0)
+      → (F ++ 45 ∷ lower (first_piece (pieces rest))) ++ dashes (kept_pieces role (rest_of (pieces rest)))
+      ≡ F ++ edited_text r p
+  written_kept some =
+      append_assoc F (45 ∷ lower (first_piece (pieces rest)))
+      (dashes (kept_pieces role (rest_of (pieces rest))))
+      ∙ (λ j. F ++ ((45 ∷ lower (first_piece (pieces (is j)))) ++ dashes (kept_here j)))
+      ∙ ap (λ t. F ++ t) (sym (edited_kept r p
+      (λ f none. some (role_here ∙ f) (ap (λ ps. length (dashes ps)) kept_here ∙ none))))
+
+-- ---- all spans
+
+lower_dashes : (ps : List Text) → dashes (map lower ps) ≡ lower (dashes ps)
+unfolding lower
+lower_dashes [] = refl
+lower_dashes (p ∷ ps) = ap (λ t. (45 ∷ map to_ascii_lowercase p) ++ t) (lower_dashes ps)
+    ∙ sym (map-append to_ascii_lowercase (45 ∷ p) (dashes ps))
+
+-- the bytes behind the first of those from one place to another
+bytes_after : (t : Text) (start end : ℕ) → start < end → drop 1 (bytes_from t start end)
+    ≡ bytes_from t (start + 1) end
+bytes_after t start end l =
+    let n : end - start ≡ 1 + (end - (start + 1)) = omega arith in
+    ap (λ k. drop 1 (take k (drop start t))) n ∙ drop-take 1 (end - (start + 1)) (drop start t)
+    ∙ ap (take (end - (start + 1))) (drop-drop 1 start t)
+
+module _ (t : Text) (s : Span) (p : Part) (is : IsSpan t s p) where
+  pub span_long : length (bytes_from t s.start s.end) ≡ s.end - s.start
+  span_long = length-take-le (s.end - s.start) (drop s.start t)
+      (omega (arith, length-drop s.start t, is.spanned.inside))
+
+  pub span_some : s.edited ≡ true → s.start < s.end
+  span_some e = more p.pieces (is.short e).some (ap length is.spanned.bytes)
+    where
+      more : (ps : List Text) → ps ≢ [] → length (bytes_from t s.start s.end) ≡ length (dashes ps)
+          → s.start < s.end
+      more [] some h = absurd (some refl)
+      more (q ∷ qs) some h = omega (arith, span_long, h, length-append (45 ∷ q) (dashes qs))
+
+  span_pieces : s.edited ≡ true → pieces (bytes_from t (s.start + 1) s.end) ≡ p.pieces
+  span_pieces e = ap pieces (sym (bytes_after t s.start s.end (span_some e)) ∙ ap (drop 1) is.spanned.bytes)
+      ∙ cut p.pieces (is.short e)
+    where
+      cut : (ps : List Text) → AreShort ps → pieces (drop 1 (dashes ps)) ≡ ps
+      cut [] h = absurd (h.some refl)
+      cut (q ∷ qs) h = ap pieces (sym (join-dashes q qs)) ∙ pieces-join q qs h.hyphen_free
+
+  pub span_short : s.edited ≡ true → AllByRecursion IsShortPiece (pieces (bytes_from t (s.start + 1) s.end))
+  span_short e = subst (AllByRecursion IsShortPiece) (sym (span_pieces e)) (is.short e).short
+
+  -- what is printed of the span is what is printed of the part
+  pub span_is : span_text t s ≡ dashes (printed_part p)
+  span_is = at s.edited refl
+    where
+      at : (b : Bool) → s.edited ≡ b → span_text t s ≡ dashes (printed_part p)
+      at true e =
+          ap (λ b. cond b (edited_text s.role (bytes_from t (s.start + 1) s.end))
+          (lower (bytes_from t s.start s.end))) e
+          ∙ (λ j. dashes (printed_by (is.role j) (span_pieces e j)))
+      at false e =
+          ap (λ b. cond b (edited_text s.role (bytes_from t (s.start + 1) s.end))
+          (lower (bytes_from t s.start s.end))) e
+          ∙ ap lower is.spanned.bytes ∙ sym (lower_dashes p.pieces) ∙ ap dashes (sym (is.same e))
+
+pub spans_are : (t : Text) (ss : List Span) (ps : List Part) → AllZip (IsSpan t) ss ps
+    → flat_map (span_text t) ss ≡ parts_text ps
+spans_are t [] [] h = refl
+spans_are t [] (p ∷ ps) h = absurd h
+spans_are t (s ∷ ss) [] h = absurd h
+spans_are t (s ∷ ss) (p ∷ ps) h = λ j. span_is t s p h.0 j ++ spans_are t ss ps h.1 j
+
+-- one of the spans is a part
+pub span_at : (t : Text) (ss : List Span) (ps : List Part) (i : ℕ) (d : Span) → AllZip (IsSpan t) ss ps
+    → i < length ss → (p : Part) × IsSpan t (slice_index_or ss i d) p
+span_at t [] ps i d h l = absurd (omega arith)
+span_at t (s ∷ ss) [] i d h l = absurd h
+span_at t (s ∷ ss) (p ∷ ps) zero d h l = (p, h.0)
+span_at t (s ∷ ss) (p ∷ ps) (suc i) d h l = span_at t ss ps i d h.1 (omega arith)
+
+-- what is printed of the first spans and of one more
+module _ {X : Type 0} (f : X → Text) (xs : List X) (i : ℕ) (d : X) (l : i < length xs) where
+  pub flat_more : flat_map f (take (i + 1) xs) ≡ flat_map f (take i xs) ++ f (slice_index_or xs i d)
+  flat_more =
+      ap (λ n. flat_map f (take n xs)) (add-one i) ∙ ap (flat_map f) (take-suc xs i d l)
+      ∙ flat_map-append f (take i xs) (slice_index_or xs i d ∷ [])
+      ∙ ap (λ t. flat_map f (take i xs) ++ t) (append-nil (f (slice_index_or xs i d)))
+
+  pub flat_room : length (flat_map f (take i xs)) + length (f (slice_index_or xs i d)) ≤ length
+      (flat_map f xs)
+  flat_room =
+      let whole : flat_map f (take (i + 1) xs) ++ flat_map f (drop (i + 1) xs) ≡ flat_map f xs =
+      sym (flat_map-append f (take (i + 1) xs) (drop (i + 1) xs))
+      ∙ ap (flat_map f) (take-append-drop (i + 1) xs) in
+      omega (
+        arith,
+        ap length whole,
+        ap length flat_more,
+        length-append (flat_map f (take (i + 1) xs))
+            (flat_map f (drop (i + 1) xs)),
+        length-append (flat_map f (take i xs)) (f (slice_index_or xs i d)),
+      )
+
+-- a span of the first bytes is one of all
+pub span_wider : (w : Text) (len : ℕ) → len ≤ length w → (s : Span) (p : Part) → IsSpan (take len w) s p
+    → IsSpan w s p
+span_wider w len l s p is =
+    let inside : s.end ≤ len = omega (arith, is.spanned.inside, length-take-le len w l) in
+    let n : len ≡ s.start + (len - s.start) = omega (arith, is.spanned.ascends) in
+    record {
+      role = is.role;
+      word = is.word;
+      same = is.same;
+      short = is.short;
+      spanned = record {
+        ascends = is.spanned.ascends;
+        inside = omega (arith, is.spanned.inside, length-take-le len w l);
+        bytes = sym (take-take (s.end - s.start) (len - s.start) (drop s.start w) (omega arith))
+            ∙ ap (take (s.end - s.start)) (sym (drop-take s.start (len - s.start) w)
+            ∙ ap (λ k. drop s.start (take k w)) (sym n))
+            ∙ is.spanned.bytes;
+      };
+    }
+
+pub spell_wider : (w : Text) (len : ℕ) → len ≤ length w → (ss : List Span) (ps : List Part)
+    → AllZip (IsSpan (take len w)) ss ps → AllZip (IsSpan w) ss ps
+spell_wider w len l [] [] h = tt
+spell_wider w len l [] (p ∷ ps) h = absurd h
+spell_wider w len l (s ∷ ss) [] h = absurd h
+spell_wider w len l (s ∷ ss) (p ∷ ps) h = (span_wider w len l s p h.0, spell_wider w len l ss ps h.1)
+
+pub spell_span : (t : Text) (spans : Spans) (ps : List Part) → Spell t spans ps → (i : ℕ) (d : Span)
+    → i < spans.count
+    → (p : Part) × IsSpan t (slice_index_or spans.list i d) p
+spell_span t spans ps h i d l =
+    let there = span_at t (held_spans spans) ps i d h (omega (arith, length-held spans)) in
+    (there.0, subst (λ (s : Span). IsSpan t s there.0) (get_or-take spans.count spans.list i d l) there.1)
+
+-- there is room for one span more
+pub span_room : (w : Text) (spans : Spans) (ps : List Part) → Spell w spans ps
+    → (F to : Text) (i : ℕ) (d : Span) (end : ℕ) → i < spans.count → end ≤ length to
+    → take end to ≡ F ++ flat_map (span_text w) (take i (held_spans spans))
+    → end + length (span_text w (slice_index_or spans.list i d)) ≤ length F + length (parts_text ps)
+span_room w spans ps h F to i d end l inside e =
+    let there : i < length (held_spans spans) = omega (arith, length-held spans) in
+    omega (
+      arith,
+      ap length e,
+      length-take-le end to inside,
+      length-append F
+          (flat_map (span_text w) (take i (held_spans spans))),
+      flat_room (span_text w) (held_spans spans) i d there,
+      ap length (spans_are w (held_spans spans) ps h),
+      ap (λ s. length (span_text w s))
+          (get_or-take spans.count spans.list i d l),
+    )
+
+-- ---- the front
+
+pub length-upper : (t : Text) → length (upper t) ≡ length t
+unfolding upper
+length-upper t = length-map t to_ascii_uppercase
+
+pub length-raised : (n at : ℕ) (t : Text) → length (raised n at t) ≡ length t
+length-raised n zero t = refl
+length-raised n (suc k) t =
+    let all : take (suc k) t ++ (take n (drop (suc k) t) ++ drop (suc k + n) t) ≡ t =
+    ap (λ u. take (suc k) t ++ (take n (drop (suc k) t) ++ u)) (sym (drop-drop n (suc k) t))
+    ∙ ap (λ u. take (suc k) t ++ u) (take-append-drop n (drop (suc k) t))
+    ∙ take-append-drop (suc k) t in
+    omega (
+      arith,
+      ap length all,
+      length-append (take (suc k) t)
+          (take n (drop (suc k) t) ++ drop (suc k + n) t),
+      length-append (take n (drop (suc k) t))
+          (drop (suc k + n) t),
+      length-append (take (suc k) t) (upper (take n (drop (suc k) t)) ++ drop (suc k + n) t),
+      length-append
+          (upper (take n (drop (suc k) t))) (drop (suc k + n) t),
+      length-upper (take n (drop (suc k) t)),
+    )
+
+pub length-front_text : (script region : ℕ) (t : Text) → length (front_text script region t) ≡ length t
+length-front_text script region t =
+    length-raised 2 region (raised 1 script (lower t)) ∙ length-raised 1 script (lower t) ∙ length-lower t
+
+-- the text of an outline of the first bytes
+module _ (w : Text) (len : ℕ) (l : len ≤ length w) (o : Outline) (spans : Spans) (normal : Text)
+    (g : Gives (take len w) o spans normal) where
+  pub front_within : o.front ≤ len
+  front_within = omega (arith, g.inside, length-take-le len w l)
+
+  pub gives_text : normal ≡ front_text o.script o.region (take o.front w) ++ parts_text g.parts
+  gives_text = g.text ∙ ap (λ t. front_text o.script o.region t ++ parts_text g.parts)
+      (take-take o.front len w front_within)
+
+  pub gives_length : length normal ≡ o.front + length (parts_text g.parts)
+  gives_length =
+      omega (
+        arith,
+        ap length gives_text,
+        length-append (front_text o.script o.region (take o.front w))
+            (parts_text g.parts),
+        length-front_text o.script o.region (take o.front w),
+        length-take-le o.front w
+            (omega (arith, front_within)),
+      )
+
+-- what comes behind the pieces that are kept
+abbrev pub closing_rest : Role → List Text → Text
+closing_rest roles.Field [] = codes "-true"
+closing_rest roles.Field (p ∷ ps) = []
+closing_rest _ ps = []
+
+closing_is : (r : Role) (ps : List Text) → dashes (closing r ps) ≡ dashes ps ++ closing_rest r ps
+closing_is roles.Variant ps = sym (append-nil (dashes ps))
+closing_is roles.Singleton ps = sym (append-nil (dashes ps))
+closing_is roles.Attribute ps = sym (append-nil (dashes ps))
+closing_is roles.Keyword ps = sym (append-nil (dashes ps))
+closing_is roles.Field [] = refl
+closing_is roles.Field (p ∷ ps) = sym (append-nil (dashes (p ∷ ps)))
+
+pub rest_true : (r : Role) (ps : List Text) → r ≡ roles.Field → length (dashes ps) ≡ 0 → closing_rest r ps
+    ≡ codes "-true"
+rest_true r ps e h = λ j. closing_rest (e j) (no_dashes ps h j)
+
+pub rest_none : (r : Role) (ps : List Text) → (r ≡ roles.Field → length (dashes ps) ≢ 0) → closing_rest r ps
+    ≡ []
+rest_none roles.Variant ps h = refl
+rest_none roles.Singleton ps h = refl
+rest_none roles.Attribute ps h = refl
+rest_none roles.Keyword ps h = refl
+rest_none roles.Field [] h = absurd (h refl refl)
+rest_none roles.Field (p ∷ ps) h = refl
+
+-- the first piece, those that are kept, and what comes behind them
+pub parts_here : (r role : Role) (rest p : Text) → rest ≡ p → role
+    ≡ printed_role r (first_piece (pieces rest))
+    → edited_text r p ≡ (45 ∷ lower (first_piece (pieces rest))) ++ (dashes
+    (kept_pieces role (rest_of (pieces rest))) ++ closing_rest role
+    (kept_pieces role (rest_of (pieces rest))))
+parts_here r role rest p is e =
+    ap (edited_text r) (sym is) ∙ edited_is r rest
+    ∙ ap (λ t. (45 ∷ lower (first_piece (pieces rest))) ++ t)
+    (ap (λ q. dashes (closing q (kept_pieces q (rest_of (pieces rest))))) (sym e)
+    ∙ closing_is role (kept_pieces role (rest_of (pieces rest))))
+
+-- what is printed of a span that is not edited
+pub plain_text : (t : Text) (s : Span) → s.edited ≡ false → span_text t s ≡ lower (bytes_from t s.start s.end)
+plain_text t s e = ap (λ b. cond b (edited_text s.role (bytes_from t (s.start + 1) s.end))
+    (lower (bytes_from t s.start s.end))) e
+
+pub plain_long : (t : Text) (s : Span) → s.edited ≡ false → s.end ≤ length t → length (span_text t s)
+    ≡ s.end - s.start
+plain_long t s e l =
+    ap length (plain_text t s e) ∙ length-lower (bytes_from t s.start s.end)
+    ∙ length-take-le (s.end - s.start) (drop s.start t) (omega (arith, length-drop s.start t))
+
+pub edited_is_text : (t : Text) (s : Span) → s.edited ≡ true → span_text t s
+    ≡ edited_text s.role (bytes_from t (s.start + 1) s.end)
+edited_is_text t s e = ap (λ b. cond b (edited_text s.role (bytes_from t (s.start + 1) s.end))
+    (lower (bytes_from t s.start s.end))) e

@@ -1,0 +1,427 @@
+-- What the reader of `t` says.
+use Rattle.std.proofs.Common.{◌≡◌, ◌≢◌, ◌⊎◌, inl, inr, ℕ, ◌+◌, ◌-◌, ◌<◌, Bool, true, false, cond, List, [], ◌∷◌, ◌++◌, length, map, refl, sym, ap, ◌∙◌, subst, arith, Option, Some, None, option_to_list, append_assoc, append-nil, length-append}
+use Rattle.std.specs.List.{AllByRecursion}
+use Rattle.std.specs.Char.{to_ascii_lowercase}
+use Rattle.std.proofs.lemmas.List.{append_cancel_left}
+use Rattle.iloc_spec_grammar.specs.Syntax.{Text, code_t, Language, Variant, TransformKey, Attribute, is_word, IsWord, IsField, Fields, Identifier, Transform, AllDifferent, fields_pieces, identifier_pieces, optional_pieces, transform_pieces, languages, is_one_byte, is_other_singleton, first_piece, front, lower, word_cmp}
+use Rattle.iloc_spec_grammar.specs.Tree.{IsTransformBlock}
+use Rattle.iloc_spec_grammar.specs.Reading.{after_front, after_region, front_of, passing, transform_of}
+use Rattle.iloc_spec_grammar.proofs.PiecesLaws.{pieces_nonempty}
+use Rattle.iloc_spec_grammar.proofs.Readings.{IsLong, long_attribute}
+use Rattle.iloc_spec_grammar.proofs.ReadBack.{all_append, fields_each, plain_fields}
+use Rattle.iloc_spec_grammar.proofs.WordsLaws.{length-transform_key}
+use Rattle.iloc_outline.specs.Left.{IsPast, IsSpanned, piece_left, pieces_left, bytes_left, whole_text}
+use Rattle.iloc_outline.specs.Parts.{block_parts, field_part, front_pieces, in_order, optional_front, optional_variants, rank, singleton_part, transform_parts, variant_parts}
+use Rattle.iloc_outline.specs.Reading.{AreFieldsRead, AreWordsRead, EndsAtBlock, EndsInKey, IsBody, IsReadAs, Puts, ReadsBlock, ReadsFields, ReadsWords, block_span}
+use Rattle.iloc_outline.specs.Spans.{held_spans}
+use Rattle.iloc_outline.specs.declared.left.Left.{Left}
+use Rattle.iloc_outline.specs.declared.reading.Reading.{Reading}
+use Rattle.iloc_outline.specs.declared.reading.Reading.TheVariants.{End, Next, Bad, Repeated, Full}
+use Rattle.iloc_outline.specs.declared.span.Role.{Role}
+use Rattle.iloc_outline.specs.declared.span.Role.TheVariants as roles
+use Rattle.iloc_outline.specs.declared.span.Role.TheVariants.{Singleton}
+use Rattle.iloc_outline.specs.declared.spans.Spans.{Spans}
+use Rattle.iloc_outline.proofs.LeftLemmas.{past_past}
+use Rattle.iloc_outline.proofs.BodyLemmas.{front_ends, front_first, front_goes_on, front_past, front_single, front_whole, puts_none, puts_singleton, puts_then, some_passed}
+use Rattle.iloc_outline.proofs.TransformLemmas.{AreFields, after_front_body, alone_bad, first_body, front_bad, long_front, no_repeat, pieces_front_of, repeats, variants_of, words_front, no_fields_first, no_fields_key, no_fields_later, none_repeats, transform_good}
+
+-- what is left after fields is a piece of a text
+pub fields_left : (r : Role) (l : Left) (old new : Spans) (o n : Bool) (s : Reading)
+    → AreFieldsRead r l old new o n s → IsReadAs s
+fields_left r l old new o n (Next m) h = h.1.left
+fields_left r l old new o n _ h = tt
+
+-- ---- good blocks
+
+-- the pieces of an identifier
+pub pieces_front : (o : Option Identifier) → optional_pieces o ≡ optional_front o ++ optional_variants o
+pieces_front None = refl
+pieces_front (Some i) =
+    ap (λ ps. i.language ∷ ps)
+    (sym (append_assoc (option_to_list i.script) (option_to_list i.region) i.variants))
+
+-- the parts of the block
+parts_of_t : (c : ℕ) (ps : List Text) (m : Transform) → to_ascii_lowercase c ≡ code_t → transform_of ps ≡ m
+    → block_parts (c, ps) ≡ singleton_part c (optional_front m.id) ∷ transform_parts m
+parts_of_t c ps m e h = rw (e, h)
+
+-- the singleton with the front of an identifier, variants and fields were put
+good_block : (c start end : ℕ) (l : Left) (id : Option Identifier) (fs : Fields) (old mid mid' new : Spans)
+    (o o' n : Bool) → to_ascii_lowercase c ≡ code_t
+    → IsSpanned (whole_text l) start end ((c ∷ []) ∷ optional_front id)
+    → held_spans mid ≡ held_spans old ++ block_span code_t start end false ∷ []
+    → Puts (whole_text l) (variant_parts (optional_variants id)) (optional_variants id) mid mid' o o'
+    → Puts (whole_text l) (in_order (map (field_part roles.Field) fs)) (fields_pieces fs) mid' new o' n
+    → IsTransformBlock languages (record { id = id; fields = fs })
+    → front (pieces_left l) ≡ transform_pieces (record { id = id; fields = fs })
+    → ReadsBlock c l (transform_pieces (record { id = id; fields = fs })) old new o n
+good_block c start end l id fs old mid mid' new o o' n e spanned put variants fields rule body =
+    let m : Transform = record { id = id; fields = fs } in
+    let known : is_other_singleton (to_ascii_lowercase c) ≡ false = ap is_other_singleton e in
+    let place = subst (λ (w : ℕ). held_spans mid ≡ held_spans old ++ block_span w start end false ∷ []) (sym (ap rank e))
+    put in
+    let singleton = puts_singleton (whole_text l) c start end (optional_front id) old mid o spanned known place
+    in
+    let rest = puts_then (whole_text l) (variant_parts (optional_variants id))
+    (in_order (map (field_part roles.Field) fs)) (optional_variants id) (fields_pieces fs) mid mid' new o
+    o' n variants fields in
+    let all = puts_then (whole_text l) (singleton_part c (optional_front id) ∷ []) (transform_parts m)
+    ((c ∷ []) ∷ optional_front id) (optional_variants id ++ fields_pieces fs) old mid new o o n singleton
+    rest in
+    let pieces : optional_front id ++ (optional_variants id ++ fields_pieces fs) ≡ transform_pieces m =
+    sym (append_assoc (optional_front id) (optional_variants id) (fields_pieces fs))
+    ∙ ap (λ ps. ps ++ fields_pieces fs) (sym (pieces_front id)) in
+    let good = transform_good c m e rule in
+    record {
+      body = body;
+      good = good.0;
+      puts = subst (λ parts. Puts (whole_text l) parts ((c ∷ []) ∷ transform_pieces m) old new o n)
+          (sym (parts_of_t c (transform_pieces m) m e good.1))
+          (subst (λ ps. Puts (whole_text l) (singleton_part c (optional_front id) ∷ transform_parts m)
+          ((c ∷ []) ∷ ps) old new o n) pieces all);
+    }
+
+long_fields : (fs : Fields) → AllByRecursion IsField fs → AllByRecursion IsLong (fields_pieces fs)
+long_fields fs h = fields_each IsLong TransformKey long_key long_attribute fs (plain_fields fs h)
+  where
+    long_key : (p : Text) → IsWord TransformKey p → IsLong p
+    long_key p h = let l = length-transform_key p h in rw l
+
+-- a key without a value in the body
+body_ends_in_key : (ps : List Text) → EndsInKey ps → EndsInKey (front ps)
+unfolding is_word
+body_ends_in_key ps k = record {
+  fields = k.fields;
+  each = k.each;
+  key = k.key;
+  is_key = k.is_key;
+  rest = front k.rest;
+  cut = ap front k.cut ∙ front_past (fields_pieces k.fields) (k.key ∷ k.rest) (long_fields k.fields k.each)
+      ∙ ap (λ qs. fields_pieces k.fields ++ qs)
+      (front_first k.key k.rest (let l = length-transform_key k.key k.is_key in rw l));
+  none = none k.rest k.none;
+}
+  where
+    none : (qs : List Text) → is_word Attribute (first_piece qs) ≡ false
+        → is_word Attribute (first_piece (front qs)) ≡ false
+    none [] h = h
+    none (q ∷ qs) h = elim (is_one_byte q) as
+        (λ b. is_word Attribute (first_piece (cond b [] (q ∷ front qs))) ≡ false) [ true ↦ refl | false ↦ h ]
+
+-- ---- fields without an identifier
+
+module _ (c start : ℕ) (l : Left) (e : to_ascii_lowercase c ≡ code_t)
+    (none : is_word (Language languages) (piece_left l) ≡ false) where
+  body_none : is_word (Language languages) (first_piece (front (pieces_left l))) ≡ false
+  unfolding is_word languages
+  body_none = by (pieces_left l) none
+    where
+      by : (ps : List Text) → is_word (Language languages) (first_piece ps) ≡ false
+          → is_word (Language languages) (first_piece (front ps)) ≡ false
+      by [] h = h
+      by (p ∷ ps) h = elim (is_one_byte p) as
+          (λ b. is_word (Language languages) (first_piece (cond b [] (p ∷ front ps))) ≡ false)
+          [ true ↦ refl | false ↦ h ]
+
+  bad_alone : (old new : Spans) (o n : Bool)
+      → (front (pieces_left l) ≢ [] → ¬ (AreFields (front (pieces_left l)))) → IsBody c l old new o n Bad
+  bad_alone old new o n bad = (
+    alone_bad c (front (pieces_left l)) e body_none bad,
+    λ h. none_repeats (front (pieces_left l)) body_none h.1,
+  )
+
+  pub transform_single : (old new : Spans) (o n : Bool) → is_one_byte (piece_left l) ≡ true
+      → IsBody c l old new o n Bad
+  transform_single old new o n single =
+      bad_alone old new o n (λ some. absurd (some (front_single (pieces_left l) single)))
+
+  module _ (spanned : IsSpanned (whole_text l) start (l.at - 1) ((c ∷ []) ∷ []))
+      (long : is_one_byte (piece_left l) ≡ false) (old mid : Spans) (o : Bool)
+      (put : held_spans mid ≡ held_spans old ++ block_span code_t start (l.at - 1) false ∷ []) where
+    good_alone : (new : Spans) (n : Bool) (fs : Fields) → AllByRecursion IsField fs → fs ≢ []
+        → Puts (whole_text l) (in_order (map (field_part roles.Field) fs)) (fields_pieces fs) mid new o n
+        → front (pieces_left l) ≡ fields_pieces fs → ReadsBlock c l (fields_pieces fs) old new o n
+    good_alone new n fs h some puts body =
+        good_block c start (l.at - 1) l None fs old mid mid new o o n e spanned put
+        (puts_none (whole_text l) mid o) puts
+        (record { id = tt; fields = h; nonempty = λ _. nonempty fs some }) body
+      where
+        nonempty : (fs : Fields) → fs ≢ [] → 0 < length fs
+        nonempty [] some = absurd (some refl)
+        nonempty (f ∷ fs) some = omega arith
+
+    alone_end : (new : Spans) (n : Bool) → AreFieldsRead roles.Field l mid new o n End
+        → IsBody c l old new o n End
+    alone_end new n (fs, cut, h) =
+        subst (λ ps. ReadsBlock c l ps old new o n) (sym cut)
+        (good_alone new n fs h.each (λ empty. pieces_nonempty (bytes_left l) (cut ∙ ap fields_pieces empty))
+        h.puts (ap front cut ∙ front_whole (fields_pieces fs) (long_fields fs h.each)))
+
+    alone_next : (new : Spans) (n : Bool) (k : Left) → AreFieldsRead roles.Field l mid new o n (Next k)
+        → is_one_byte (piece_left k) ≡ true → IsBody c l old new o n (Next k)
+    alone_next new n k (fs, past, no_key, either, h) one = (
+      fields_pieces fs,
+      past,
+      one,
+      good_alone new n fs h.each
+          (λ empty. some_passed l k (fields_pieces fs) past.pieces long one (ap fields_pieces empty)) h.puts
+          (front_ends l k (fields_pieces fs) past.pieces (long_fields fs h.each) one),
+    )
+
+    alone_stranger : (new : Spans) (n : Bool) (k : Left) → AreFieldsRead roles.Field l mid new o n (Next k)
+        → is_one_byte (piece_left k) ≡ false → IsBody c l old new o n Bad
+    alone_stranger new n k (fs, past, no_key, either, h) longer =
+        let body = front_goes_on l k (fields_pieces fs) past.pieces (long_fields fs h.each) longer in
+        bad_alone old new o n (λ _ f. no_fields either (subst AreFields body.1 f))
+      where
+        more : List Text
+        more = (front_goes_on l k (fields_pieces fs) past.pieces (long_fields fs h.each) longer).0
+
+        no_fields : (fs ≡ []) ⊎ (is_word Attribute (piece_left k) ≡ false)
+            → ¬ (AreFields (fields_pieces fs ++ (piece_left k ∷ more)))
+        no_fields (inl empty) f =
+            no_fields_first (piece_left k) more no_key
+            (subst AreFields (ap (λ gs. fields_pieces gs ++ (piece_left k ∷ more)) empty) f)
+        no_fields (inr odd) f = no_fields_later (fields_pieces fs) (piece_left k) more no_key odd f
+
+    pub alone_read : (new : Spans) (n : Bool) (r s : Reading) → AreFieldsRead roles.Field l mid new o n r
+        → EndsAtBlock r s → IsBody c l old new o n s
+    alone_read new n End s h k = subst (IsBody c l old new o n) k (alone_end new n h)
+    alone_read new n (Next i) (Next j) h k =
+        subst (λ (i : Left). IsBody c l old new o n (Next i)) k.0 (alone_next new n i h k.1)
+    alone_read new n (Next i) Bad h k = alone_stranger new n i h k
+    alone_read new n (Next i) _ h k = absurd (k tt)
+    alone_read new n Bad s h k =
+        subst (IsBody c l old new o n) k
+        (bad_alone old new o n
+        (λ _ f. no_fields_key (front (pieces_left l)) (body_ends_in_key (pieces_left l) h.1) f))
+    alone_read new n Repeated s h k = absurd (h tt)
+    alone_read new n Full s h k =
+        subst (IsBody c l old new o n) k
+        (omega (
+          arith,
+          ap length put,
+          length-append (held_spans old) (block_span code_t start (l.at - 1) false ∷ []),
+          h,
+        ))
+
+-- ---- an identifier, and fields
+
+module _ (c start end : ℕ) (l : Left) (e : to_ascii_lowercase c ≡ code_t)
+    (word : IsWord (Language languages) (piece_left l))
+    (spanned : IsSpanned (whole_text l) start end ((c ∷ []) ∷ front_pieces (front_of (pieces_left l))))
+    (old mid : Spans) (o : Bool)
+    (put : held_spans mid ≡ held_spans old ++ block_span code_t start end false ∷ []) where
+  one_more : length (held_spans mid) ≡ length (held_spans old) + 1
+  one_more = ap length put ∙ length-append (held_spans old) _
+
+  bad_after : (new : Spans) (n : Bool) → AllDifferent word_cmp (map lower (front_of (pieces_left l)).variants)
+      → ¬ (AreFields (front (after_front (pieces_left l)))) → IsBody c l old new o n Bad
+  bad_after new n different bad = (
+    front_bad c (front (pieces_left l)) e (first_body (pieces_left l) word)
+        (λ f. bad (subst AreFields (after_front_body (pieces_left l) word) f)),
+    λ h. no_repeat (pieces_left l) word different h.1,
+  )
+
+  good_id : (mid' new : Spans) (o' n : Bool) (fs : Fields)
+      → AllDifferent word_cmp (map lower (front_of (pieces_left l)).variants) → AllByRecursion IsField fs
+      → Puts (whole_text l) (variant_parts (front_of (pieces_left l)).variants) (front_of (pieces_left l)).variants
+      mid mid' o o'
+      → Puts (whole_text l) (in_order (map (field_part roles.Field) fs)) (fields_pieces fs) mid' new o' n
+      → front (pieces_left l) ≡ identifier_pieces (front_of (pieces_left l)) ++ fields_pieces fs
+      → ReadsBlock c l (identifier_pieces (front_of (pieces_left l)) ++ fields_pieces fs) old new o n
+  good_id mid' new o' n fs different h variants fields body =
+      good_block c start end l (Some (front_of (pieces_left l))) fs old mid mid' new o o' n e spanned put
+      variants fields
+      (record {
+        id = record { words = words_front (pieces_left l) word; different = different };
+        fields =
+            h;
+        nonempty = λ none. cc;
+      }) body
+
+  -- language, script and region alone
+  pub front_alone : pieces_left l ≡ front_pieces (front_of (pieces_left l)) → IsBody c l old mid o o End
+  front_alone cut =
+      let i = front_of (pieces_left l) in
+      let none : i.variants ≡ [] =
+      no_items i.variants (after_front (pieces_left l)) (append_cancel_left (front_pieces i) _ []
+      (sym (append_assoc (front_pieces i) i.variants (after_front (pieces_left l)))
+      ∙ ap (λ ps. ps ++ after_front (pieces_left l)) (sym (pieces_front (Some i)))
+      ∙ pieces_front_of (pieces_left l) word ∙ cut ∙ sym (append-nil (front_pieces i)))) in
+      let all : pieces_left l ≡ identifier_pieces i ++ [] =
+      cut ∙ sym (pieces_front (Some i) ∙ ap (λ vs. front_pieces i ++ vs) none ∙ append-nil (front_pieces i))
+      ∙ sym (append-nil (identifier_pieces i)) in
+      let body : front (pieces_left l) ≡ identifier_pieces i ++ [] =
+      ap front (all ∙ append-nil (identifier_pieces i))
+      ∙ front_whole (identifier_pieces i) (long_front (pieces_left l) word)
+      ∙ sym (append-nil (identifier_pieces i)) in
+      subst (λ ps. ReadsBlock c l ps old mid o o) (sym all)
+      (good_id mid mid o o [] (subst (λ vs. AllDifferent word_cmp (map lower vs)) (sym none) tt) tt
+      (subst (λ vs. Puts (whole_text l) (variant_parts vs) vs mid mid o o) (sym none)
+      (puts_none (whole_text l) mid o)) (puts_none (whole_text l) mid o) body)
+    where
+      no_items : (xs ys : List Text) → xs ++ ys ≡ [] → xs ≡ []
+      no_items [] ys h = refl
+      no_items (x ∷ xs) ys h = cc
+
+  -- variants were put
+  module _ (m : Left) (first : IsPast l m (front_pieces (front_of (pieces_left l))))
+      (after : pieces_left m ≡ after_region (pieces_left l)) where
+    variants_all : (vs : List Text) (mid' : Spans) (o' : Bool) → ReadsWords roles.Variant m vs mid mid' o o'
+        → vs ≡ (front_of (pieces_left l)).variants
+    variants_all vs mid' o' h = h.words ∙ variants_of (pieces_left l) (pieces_left m) after
+
+    all_different : (vs : List Text) (mid' : Spans) (o' : Bool) → ReadsWords roles.Variant m vs mid mid' o o'
+        → AllDifferent word_cmp (map lower (front_of (pieces_left l)).variants)
+    all_different vs mid' o' h =
+        subst (λ ws. AllDifferent word_cmp (map lower ws)) (variants_all vs mid' o' h) h.may_be
+
+    variants_put : (vs : List Text) (mid' : Spans) (o' : Bool) → ReadsWords roles.Variant m vs mid mid' o o'
+        → Puts (whole_text l) (variant_parts (front_of (pieces_left l)).variants) (front_of (pieces_left l)).variants
+        mid mid' o o'
+    variants_put vs mid' o' h =
+        subst (λ ws. Puts (whole_text l) (variant_parts ws) ws mid mid' o o') (variants_all vs mid' o' h)
+        (subst (λ t. Puts t (variant_parts vs) vs mid mid' o o') first.text h.puts)
+
+    identifier_all : (vs : List Text) (mid' : Spans) (o' : Bool) → ReadsWords roles.Variant m vs mid mid' o o'
+        → front_pieces (front_of (pieces_left l)) ++ vs ≡ identifier_pieces (front_of (pieces_left l))
+    identifier_all vs mid' o' h =
+        ap (λ ws. front_pieces (front_of (pieces_left l)) ++ ws) (variants_all vs mid' o' h)
+        ∙ sym (pieces_front (Some (front_of (pieces_left l))))
+
+    pub variants_end : (new : Spans) (n : Bool) → ReadsWords roles.Variant m (pieces_left m) mid new o n
+        → IsBody c l old new o n End
+    variants_end new n h =
+        let i = front_of (pieces_left l) in
+        let all : pieces_left l ≡ identifier_pieces i ++ [] =
+        first.pieces ∙ identifier_all (pieces_left m) new n h ∙ sym (append-nil (identifier_pieces i)) in
+        let body : front (pieces_left l) ≡ identifier_pieces i ++ [] =
+        ap front (all ∙ append-nil (identifier_pieces i))
+        ∙ front_whole (identifier_pieces i) (long_front (pieces_left l) word)
+        ∙ sym (append-nil (identifier_pieces i)) in
+        subst (λ ps. ReadsBlock c l ps old new o n) (sym all)
+        (good_id new new n n [] (all_different (pieces_left m) new n h) tt (variants_put (pieces_left m) new n h)
+        (puts_none (whole_text l) new n) body)
+
+    pub variants_repeated : (old new : Spans) (n : Bool)
+        → ¬ (AllDifferent word_cmp (map lower (passing (is_word Variant) (pieces_left m))))
+        → IsBody c l old new o n Repeated
+    variants_repeated old new n h = (
+      e,
+      repeats (pieces_left l) word
+          (subst (λ ws. ¬ (AllDifferent word_cmp (map lower ws)))
+          (variants_of (pieces_left l) (pieces_left m) after) h),
+    )
+
+    -- ... and then fields
+    module _ (k : Left) (vs : List Text) (past : IsPast m k vs) (odd : is_word Variant (piece_left k) ≡ false)
+        (mid' : Spans) (o' : Bool) (words : ReadsWords roles.Variant m vs mid mid' o o') where
+      before : IsPast l k (identifier_pieces (front_of (pieces_left l)))
+      before = subst (IsPast l k) (identifier_all vs mid' o' words) (past_past first past)
+
+      -- where all that is left over after the identifier is known
+      left_over : after_front (pieces_left l) ≡ pieces_left k
+      left_over = append_cancel_left (identifier_pieces (front_of (pieces_left l))) _ _
+          (pieces_front_of (pieces_left l) word ∙ before.pieces)
+
+      fields_put : (new : Spans) (n : Bool) (fs : Fields) → ReadsFields roles.Field k fs mid' new o' n
+          → Puts (whole_text l) (in_order (map (field_part roles.Field) fs)) (fields_pieces fs) mid' new o' n
+      fields_put new n fs h =
+          subst (λ t. Puts t (in_order (map (field_part roles.Field) fs)) (fields_pieces fs) mid' new o' n)
+          before.text h.puts
+
+      good_fields : (new : Spans) (n : Bool) (fs : Fields) → ReadsFields roles.Field k fs mid' new o' n
+          → front (pieces_left l) ≡ identifier_pieces (front_of (pieces_left l)) ++ fields_pieces fs
+          → ReadsBlock c l (identifier_pieces (front_of (pieces_left l)) ++ fields_pieces fs) old new o n
+      good_fields new n fs h body =
+          good_id mid' new o' n fs (all_different vs mid' o' words) h.each (variants_put vs mid' o' words)
+          (fields_put new n fs h) body
+
+      long_all : (fs : Fields) → AllByRecursion IsField fs
+          → AllByRecursion IsLong (identifier_pieces (front_of (pieces_left l)) ++ fields_pieces fs)
+      long_all fs h = all_append IsLong (identifier_pieces (front_of (pieces_left l))) (fields_pieces fs)
+          (long_front (pieces_left l) word) (long_fields fs h)
+
+      fields_end : (new : Spans) (n : Bool) → AreFieldsRead roles.Field k mid' new o' n End
+          → IsBody c l old new o n End
+      fields_end new n (fs, cut, h) =
+          let ids = identifier_pieces (front_of (pieces_left l)) in
+          let all : pieces_left l ≡ ids ++ fields_pieces fs = before.pieces ∙ ap (λ ps. ids ++ ps) cut in
+          subst (λ ps. ReadsBlock c l ps old new o n) (sym all)
+          (good_fields new n fs h
+          (ap front all ∙ front_whole (ids ++ fields_pieces fs) (long_all fs h.each)))
+
+      fields_next : (new : Spans) (n : Bool) (j : Left) → AreFieldsRead roles.Field k mid' new o' n (Next j)
+          → is_one_byte (piece_left j) ≡ true → IsBody c l old new o n (Next j)
+      fields_next new n j (fs, later, no_key, either, h) one =
+          let both = past_past before later in (
+            identifier_pieces (front_of (pieces_left l)) ++ fields_pieces fs,
+            both,
+            one,
+            good_fields new n fs h (front_ends l j _ both.pieces (long_all fs h.each) one),
+          )
+
+      fields_stranger : (new : Spans) (n : Bool) (j : Left)
+          → AreFieldsRead roles.Field k mid' new o' n (Next j) → is_one_byte (piece_left j) ≡ false
+          → IsBody c l old new o n Bad
+      fields_stranger new n j (fs, later, no_key, either, h) longer =
+          bad_after new n (all_different vs mid' o' words)
+          (λ f. no_fields either (subst AreFields (ap front left_over ∙ body.1) f))
+        where
+          body : (more : List Text) × (front (pieces_left k) ≡ fields_pieces fs ++ (piece_left j ∷ more))
+          body = front_goes_on k j (fields_pieces fs) later.pieces (long_fields fs h.each) longer
+
+          no_fields : (fs ≡ []) ⊎ (is_word Attribute (piece_left j) ≡ false)
+              → ¬ (AreFields (fields_pieces fs ++ (piece_left j ∷ body.0)))
+          no_fields (inl empty) f =
+              no_fields_first (piece_left j) body.0 no_key
+              (subst AreFields (ap (λ gs. fields_pieces gs ++ (piece_left j ∷ body.0)) empty) f)
+          no_fields (inr odd) f = no_fields_later (fields_pieces fs) (piece_left j) body.0 no_key odd f
+
+      fields_read : (new : Spans) (n : Bool) (r s : Reading) → AreFieldsRead roles.Field k mid' new o' n r
+          → EndsAtBlock r s → IsBody c l old new o n s
+      fields_read new n End s h ends = subst (IsBody c l old new o n) ends (fields_end new n h)
+      fields_read new n (Next i) (Next j) h ends =
+          subst (λ (i : Left). IsBody c l old new o n (Next i)) ends.0 (fields_next new n i h ends.1)
+      fields_read new n (Next i) Bad h ends = fields_stranger new n i h ends
+      fields_read new n (Next i) _ h ends = absurd (ends tt)
+      fields_read new n Bad s h ends =
+          subst (IsBody c l old new o n) ends
+          (bad_after new n (all_different vs mid' o' words)
+          (λ f. no_fields_key (front (pieces_left k)) (body_ends_in_key (pieces_left k) h.1)
+          (subst AreFields (ap front left_over) f)))
+      fields_read new n Repeated s h ends = absurd (h tt)
+      fields_read new n Full s h ends =
+          subst (IsBody c l old new o n) ends
+          (omega (
+            arith,
+            one_more,
+            words.puts.few,
+            h,
+            ap length first.pieces,
+            length-append (front_pieces (front_of (pieces_left l))) (pieces_left m),
+            ap length past.pieces,
+            length-append vs (pieces_left k),
+          ))
+
+    pub variants_read : (mid' new : Spans) (o' n : Bool) (k : Left) (r s : Reading)
+        → AreWordsRead roles.Variant m mid mid' o o' (Next k) → AreFieldsRead roles.Field k mid' new o' n r
+        → EndsAtBlock r s → IsBody c l old new o n s
+    variants_read mid' new o' n k r s (vs, past, odd, words) =
+        fields_read k vs past odd mid' o' words new n r s
+
+    pub variants_alone : (new : Spans) (n : Bool) (r : Reading) → AreWordsRead roles.Variant m mid new o n r
+        → ((k : Left) → r ≢ Next k) → IsBody c l old new o n r
+    variants_alone new n End h ends = variants_end new n h
+    variants_alone new n (Next k) h ends = absurd (ends k refl)
+    variants_alone new n Bad h ends = absurd (h tt)
+    variants_alone new n Repeated h ends = variants_repeated old new n h.1
+    variants_alone new n Full h ends =
+        omega (
+          arith,
+          one_more,
+          h,
+          ap length first.pieces,
+          length-append (front_pieces (front_of (pieces_left l))) (pieces_left m),
+        )

@@ -1,0 +1,258 @@
+-- Which pieces may follow `u`: attributes and keys, one at least.
+use Rattle.std.proofs.Common.{◌≡◌, ◌≢◌, ◌⊎◌, inl, inr, ℕ, ◌+◌, ◌-◌, ◌<◌, Bool, true, false, List, [], ◌∷◌, ◌++◌, length, map, refl, sym, ap, ◌∙◌, subst, arith, append-nil, length-append, true≢false}
+use Rattle.std.specs.List.{AllByRecursion}
+use Rattle.std.specs.Char.{to_ascii_lowercase}
+use Rattle.iloc_spec_grammar.specs.Syntax.{Text, code_t, code_u, UnicodeKey, Attribute, is_word, IsWord, IsKeyword, Fields, Unicode, fields_pieces, unicode_pieces, languages, is_one_byte, is_other_singleton, first_piece, front}
+use Rattle.iloc_spec_grammar.specs.Tree.{Extension, unicode, transform, other, IsBlock, IsExtension, IsUnicodeBlock, extension_pieces}
+use Rattle.iloc_spec_grammar.specs.Reading.{unicode_of}
+use Rattle.iloc_spec_grammar.specs.Computing.{is_block}
+use Rattle.iloc_spec_grammar.proofs.PiecesLaws.{pieces_nonempty}
+use Rattle.iloc_spec_grammar.proofs.ReadingLaws.{keep_while_passes}
+use Rattle.iloc_spec_grammar.proofs.Readings.{IsLong, long_attribute, unicode_of-pieces}
+use Rattle.iloc_spec_grammar.proofs.ReadBack.{all_append, fields_each}
+use Rattle.iloc_spec_grammar.proofs.RuleTests.{tests_block, tests_fails}
+use Rattle.iloc_spec_grammar.proofs.Singletons.{no_u}
+use Rattle.iloc_spec_grammar.proofs.ValuesLaws.{all_weaker}
+use Rattle.iloc_spec_grammar.proofs.WordsLaws.{length-unicode_key}
+use Rattle.iloc_outline.specs.Left.{IsPast, IsSpanned, piece_left, pieces_left, bytes_left, whole_text}
+use Rattle.iloc_outline.specs.Parts.{block_parts, field_part, in_order, rank, singleton_part, unicode_parts, word_part}
+use Rattle.iloc_outline.specs.Reading.{AreFieldsRead, AreWordsRead, EndsAtBlock, IsBody, Puts, ReadsBlock, ReadsFields, ReadsWords, block_span}
+use Rattle.iloc_outline.specs.Spans.{held_spans}
+use Rattle.iloc_outline.specs.declared.left.Left.{Left}
+use Rattle.iloc_outline.specs.declared.reading.Reading.{Reading}
+use Rattle.iloc_outline.specs.declared.reading.Reading.TheVariants.{End, Next, Bad, Repeated, Full}
+use Rattle.iloc_outline.specs.declared.span.Role.TheVariants as roles
+use Rattle.iloc_outline.specs.declared.span.Role.TheVariants.{Singleton}
+use Rattle.iloc_outline.specs.declared.spans.Spans.{Spans}
+use Rattle.iloc_outline.proofs.LeftLemmas.{past_past}
+use Rattle.iloc_outline.proofs.BodyLemmas.{front_ends, front_goes_on, front_single, front_whole, puts_singleton, puts_then, some_passed}
+
+-- an attribute or a key
+abbrev pub IsUnicodeWord : Text → Type 0
+IsUnicodeWord p = IsWord Attribute p ⊎ IsWord UnicodeKey p
+
+pub all_words : (ws : List Text) (fs : Fields) → AllByRecursion (IsWord Attribute) ws
+    → AllByRecursion IsKeyword fs → AllByRecursion IsUnicodeWord (ws ++ fields_pieces fs)
+all_words ws fs h k =
+    all_append IsUnicodeWord ws _ (all_weaker (IsWord Attribute) IsUnicodeWord (λ p a. inl a) ws h)
+    (fields_each IsUnicodeWord UnicodeKey (λ p a. inr a) (λ p a. inl a) fs k)
+
+pub long_unicode : (p : Text) → IsUnicodeWord p → IsLong p
+long_unicode p (inl h) = long_attribute p h
+long_unicode p (inr h) = let l = length-unicode_key p h in rw l
+
+some_part : (ws : List Text) (fs : Fields) → ws ++ fields_pieces fs ≢ [] → 0 < length ws + length fs
+some_part [] [] h = absurd (h refl)
+some_part [] (f ∷ fs) h = omega arith
+some_part (w ∷ ws) fs h = omega arith
+
+-- attributes and keywords are a good block, and are read
+pub unicode_good : (c : ℕ) (ws : List Text) (fs : Fields) → to_ascii_lowercase c ≡ code_u
+    → AllByRecursion (IsWord Attribute) ws → AllByRecursion IsKeyword fs → ws ++ fields_pieces fs ≢ []
+    → (is_block languages (c, ws ++ fields_pieces fs) ≡ true)
+    × (unicode_of (ws ++ fields_pieces fs) ≡ record { attributes = ws; keywords = fs })
+unicode_good c ws fs e h k some =
+    let u : Unicode = record { attributes = ws; keywords = fs } in
+    let good : IsUnicodeBlock u =
+    record { attributes = h; keywords = k; nonempty = some_part ws fs some } in (
+      (tests_block languages (c, unicode_pieces u)).passes (inr (unicode u, (e, good), refl)),
+      unicode_of-pieces u good,
+    )
+
+-- other pieces are a bad one
+pub unicode_bad : (c : ℕ) (ps : List Text) → to_ascii_lowercase c ≡ code_u
+    → (ps ≢ [] → ¬ (AllByRecursion IsUnicodeWord ps)) → is_block languages (c, ps) ≡ false
+unicode_bad c ps e bad = tests_fails (tests_block languages (c, ps)) none
+  where
+    words : (u : Unicode) → IsUnicodeBlock u → ps ≡ unicode_pieces u → ⊥
+    words u h cut = bad (λ none. nonempty u.attributes u.keywords h.nonempty (sym cut ∙ none))
+        (subst (AllByRecursion IsUnicodeWord) (sym cut)
+        (all_words u.attributes u.keywords h.attributes h.keywords))
+      where
+        nonempty : (ws : List Text) (fs : Fields) → 0 < length ws + length fs → ws ++ fields_pieces fs ≢ []
+        nonempty [] [] l none = omega arith
+        nonempty [] (f ∷ fs) l none = cc
+        nonempty (w ∷ ws) fs l none = cc
+
+    extension : (x : Extension) → IsExtension languages (to_ascii_lowercase c) x → ps ≡ extension_pieces x → ⊥
+    extension (unicode u) h cut = words u h.1 cut
+    extension (transform m) h cut = omega (arith, e, h.0)
+    extension (other qs) h cut = no_u (to_ascii_lowercase c) e h.0
+
+    none : ¬ (IsBlock languages (c, ps))
+    none (inl h) = omega (arith, e, h.0)
+    none (inr (x, h, cut)) = extension x h cut
+
+-- a piece that is neither, after some
+pub no_word_after : (ps qs : List Text) (q : Text) → is_word Attribute q ≡ false
+    → is_word UnicodeKey q ≡ false → ¬ (AllByRecursion IsUnicodeWord (ps ++ (q ∷ qs)))
+no_word_after [] qs q a k h = first h.0
+  where
+    first : IsUnicodeWord q → ⊥
+    first (inl w) = true≢false (sym w ∙ a)
+    first (inr w) = true≢false (sym w ∙ k)
+no_word_after (p ∷ ps) qs q a k h = no_word_after ps qs q a k h.1
+
+-- ---- what the reader says
+
+single_empty : (c : ℕ) → to_ascii_lowercase c ≡ code_u → is_block languages (c, []) ≡ false
+single_empty c e = unicode_bad c [] e (λ some. absurd (some refl))
+
+no_t_of_u : (c : ℕ) (P : Type 0) → to_ascii_lowercase c ≡ code_u → ¬ ((to_ascii_lowercase c ≡ code_t) × P)
+no_t_of_u c P e h = omega (arith, e, h.0)
+
+-- a singleton follows
+pub unicode_single : (c : ℕ) (l : Left) (old new : Spans) (o n : Bool) → to_ascii_lowercase c ≡ code_u
+    → is_one_byte (piece_left l) ≡ true → IsBody c l old new o n Bad
+unicode_single c l old new o n e single = (
+  ap (λ ps. is_block languages (c, ps)) (front_single (pieces_left l) single) ∙ single_empty c e,
+  no_t_of_u c _ e,
+)
+
+-- the parts of the block
+parts_of_u : (c : ℕ) (ps : List Text) (u : Unicode) → to_ascii_lowercase c ≡ code_u → unicode_of ps ≡ u
+    → block_parts (c, ps) ≡ singleton_part c [] ∷ unicode_parts u
+parts_of_u c ps u e h = rw (e, h)
+
+abbrev unicode_pair : List Text → Fields → Unicode
+unicode_pair ws fs = record { attributes = ws; keywords = fs }
+
+module _ (c start : ℕ) (l : Left) (e : to_ascii_lowercase c ≡ code_u)
+    (spanned : IsSpanned (whole_text l) start (l.at - 1) ((c ∷ []) ∷ []))
+    (long : is_one_byte (piece_left l) ≡ false) (old mid : Spans) (o : Bool)
+    (put : held_spans mid ≡ held_spans old ++ block_span code_u start (l.at - 1) false ∷ []) where
+  one_more : length (held_spans mid) ≡ length (held_spans old) + 1
+  one_more = ap length put ∙ length-append (held_spans old) _
+
+  -- attributes and keywords were put
+  good_block : (new : Spans) (n : Bool) (ws : List Text) (fs : Fields) → AllByRecursion (IsWord Attribute) ws
+      → AllByRecursion IsKeyword fs → ws ++ fields_pieces fs ≢ []
+      → front (pieces_left l) ≡ ws ++ fields_pieces fs
+      → Puts (whole_text l) (unicode_parts (unicode_pair ws fs)) (ws ++ fields_pieces fs) mid new o n
+      → ReadsBlock c l (ws ++ fields_pieces fs) old new o n
+  good_block new n ws fs h k some body puts =
+      let u = unicode_pair ws fs in
+      let known : is_other_singleton (to_ascii_lowercase c) ≡ false = ap is_other_singleton e in
+      let place = subst (λ (w : ℕ). held_spans mid ≡ held_spans old ++ block_span w start (l.at - 1) false ∷ [])
+      (sym (ap rank e)) put in
+      let both = puts_then (whole_text l) (singleton_part c [] ∷ []) (unicode_parts u) ((c ∷ []) ∷ [])
+      (ws ++ fields_pieces fs) old mid new o o n
+      (puts_singleton (whole_text l) c start (l.at - 1) [] old mid o spanned known place) puts in
+      let good = unicode_good c ws fs e h k some in
+      record {
+        body = body;
+        good = good.0;
+        puts = subst (λ qs. Puts (whole_text l) qs ((c ∷ []) ∷ (ws ++ fields_pieces fs)) old new o n)
+            (sym (parts_of_u c (ws ++ fields_pieces fs) u e good.1)) both;
+      }
+
+  long_words : (ws : List Text) (fs : Fields) → AllByRecursion (IsWord Attribute) ws
+      → AllByRecursion IsKeyword fs → AllByRecursion IsLong (ws ++ fields_pieces fs)
+  long_words ws fs h k =
+      all_weaker IsUnicodeWord IsLong long_unicode (ws ++ fields_pieces fs) (all_words ws fs h k)
+
+  -- all pieces are attributes
+  attributes_alone : (new : Spans) (n : Bool) → ReadsWords roles.Attribute l (pieces_left l) mid new o n
+      → IsBody c l old new o n End
+  attributes_alone new n h =
+      let ws = pieces_left l in
+      let all : AllByRecursion (IsWord Attribute) ws =
+      subst (AllByRecursion (IsWord Attribute)) (sym h.words) (keep_while_passes (is_word Attribute) ws)
+      in
+      let same : ws ≡ ws ++ [] = sym (append-nil ws) in
+      let parts = in_order (map (word_part roles.Attribute) ws) in
+      let puts : Puts (whole_text l) (parts ++ []) (ws ++ []) mid new o n =
+      subst (λ qs. Puts (whole_text l) qs (ws ++ []) mid new o n) (sym (append-nil parts))
+      (subst (λ qs. Puts (whole_text l) parts qs mid new o n) same h.puts) in
+      subst (λ qs. ReadsBlock c l qs old new o n) (append-nil ws)
+      (good_block new n ws [] all tt (λ none. pieces_nonempty (bytes_left l) (same ∙ none))
+      (front_whole ws (subst (AllByRecursion IsLong) (append-nil ws) (long_words ws [] all tt)) ∙ same)
+      puts)
+
+  -- attributes were put, and then keywords
+  module _ (m : Left) (ws : List Text) (past : IsPast l m ws) (none : is_word Attribute (piece_left m) ≡ false)
+      (mid' : Spans) (o' : Bool) (words : ReadsWords roles.Attribute l ws mid mid' o o') where
+    all_attributes : AllByRecursion (IsWord Attribute) ws
+    all_attributes = subst (AllByRecursion (IsWord Attribute)) (sym words.words)
+        (keep_while_passes (is_word Attribute) (pieces_left l))
+
+    both_put : (new : Spans) (n : Bool) (fs : Fields) → ReadsFields roles.Keyword m fs mid' new o' n
+        → Puts (whole_text l) (unicode_parts (unicode_pair ws fs)) (ws ++ fields_pieces fs) mid new o n
+    both_put new n fs h =
+        puts_then (whole_text l) (in_order (map (word_part roles.Attribute) ws))
+        (in_order (map (field_part roles.Keyword) fs)) ws (fields_pieces fs) mid mid' new o o' n words.puts
+        (subst (λ t. Puts t (in_order (map (field_part roles.Keyword) fs)) (fields_pieces fs) mid' new o' n)
+        past.text h.puts)
+
+    pub keywords_end : (new : Spans) (n : Bool) → AreFieldsRead roles.Keyword m mid' new o' n End
+        → IsBody c l old new o n End
+    keywords_end new n (fs, cut, h) =
+        let all : pieces_left l ≡ ws ++ fields_pieces fs = past.pieces ∙ ap (λ ps. ws ++ ps) cut in
+        let long = long_words ws fs all_attributes h.each in
+        subst (λ qs. ReadsBlock c l qs old new o n) (sym all)
+        (good_block new n ws fs all_attributes h.each (λ empty. pieces_nonempty (bytes_left l) (all ∙ empty))
+        (ap front all ∙ front_whole (ws ++ fields_pieces fs) long) (both_put new n fs h))
+
+    pub keywords_next : (new : Spans) (n : Bool) (k : Left)
+        → AreFieldsRead roles.Keyword m mid' new o' n (Next k) → is_one_byte (piece_left k) ≡ true
+        → IsBody c l old new o n (Next k)
+    keywords_next new n k (fs, later, no_key, either, h) one =
+        let both = past_past past later in
+        let each = long_words ws fs all_attributes h.each in (
+          ws ++ fields_pieces fs,
+          both,
+          one,
+          good_block new n ws fs all_attributes h.each (some_passed l k _ both.pieces long one)
+              (front_ends l k (ws ++ fields_pieces fs) both.pieces each one) (both_put new n fs h),
+        )
+
+    pub keywords_bad : (new : Spans) (n : Bool) (k : Left)
+        → AreFieldsRead roles.Keyword m mid' new o' n (Next k) → is_one_byte (piece_left k) ≡ false
+        → IsBody c l old new o n Bad
+    keywords_bad new n k (fs, later, no_key, either, h) long =
+        let both = past_past past later in
+        let body = front_goes_on l k (ws ++ fields_pieces fs) both.pieces
+        (long_words ws fs all_attributes h.each) long in (
+          ap (λ ps. is_block languages (c, ps)) body.1
+              ∙ unicode_bad c _ e (λ some. no_word_after (ws ++ fields_pieces fs) body.0 (piece_left k)
+              (no_attribute either) no_key),
+          no_t_of_u c _ e,
+        )
+      where
+        no_attribute : (fs ≡ []) ⊎ (is_word Attribute (piece_left k) ≡ false)
+            → is_word Attribute (piece_left k) ≡ false
+        no_attribute (inl no_fields) =
+            ap (λ ps. is_word Attribute (first_piece ps))
+            (sym (later.pieces ∙ ap (λ gs. fields_pieces gs ++ pieces_left k) no_fields)) ∙ none
+        no_attribute (inr odd) = odd
+
+    pub keywords_full : (new : Spans) (n : Bool) → AreFieldsRead roles.Keyword m mid' new o' n Full
+        → IsBody c l old new o n Full
+    keywords_full new n h =
+        omega (arith, one_more, words.puts.few, h, ap length past.pieces, length-append ws (pieces_left m))
+
+    keywords_read : (new : Spans) (n : Bool) (r s : Reading) → AreFieldsRead roles.Keyword m mid' new o' n r
+        → EndsAtBlock r s → IsBody c l old new o n s
+    keywords_read new n End s h k = subst (IsBody c l old new o n) k (keywords_end new n h)
+    keywords_read new n (Next i) (Next j) h k =
+        subst (λ (i : Left). IsBody c l old new o n (Next i)) k.0 (keywords_next new n i h k.1)
+    keywords_read new n (Next i) Bad h k = keywords_bad new n i h k
+    keywords_read new n (Next i) _ h k = absurd (k tt)
+    keywords_read new n Bad s h k = cc h.0
+    keywords_read new n Repeated s h k = absurd (h tt)
+    keywords_read new n Full s h k = subst (IsBody c l old new o n) k (keywords_full new n h)
+
+  -- the same where no attribute is left out
+  pub words_read : (mid' new : Spans) (o' n : Bool) (m : Left) (r s : Reading)
+      → AreWordsRead roles.Attribute l mid mid' o o' (Next m) → AreFieldsRead roles.Keyword m mid' new o' n r
+      → EndsAtBlock r s → IsBody c l old new o n s
+  words_read mid' new o' n m r s (ws, past, none, words) =
+      keywords_read m ws past none mid' o' words new n r s
+
+  pub words_alone : (new : Spans) (n : Bool) (r s : Reading) → AreWordsRead roles.Attribute l mid new o n r
+      → ((m : Left) → r ≢ Next m) → EndsAtBlock r s → IsBody c l old new o n s
+  words_alone new n End s h ends k = subst (IsBody c l old new o n) k (attributes_alone new n h)
+  words_alone new n (Next m) s h ends k = absurd (ends m refl)
+  words_alone new n Bad s h ends k = absurd (h tt)
+  words_alone new n Repeated s h ends k = cc h.0
+  words_alone new n Full s h ends k = subst (IsBody c l old new o n) k (omega (arith, one_more, h))

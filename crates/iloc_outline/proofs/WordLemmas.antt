@@ -1,0 +1,101 @@
+-- Words and their spans.
+use Rattle.std.proofs.Common.{◌≡◌, ℕ, ◌+◌, ◌-◌, ◌<◌, ◌≤◌, Bool, true, false, cond, List, [], ◌∷◌, ◌++◌, length, refl, ap, ◌∙◌, subst, arith, append-nil}
+use Rattle.std.specs.List.{AllByRecursion}
+use Rattle.iloc_spec_grammar.specs.Syntax.{Text, Kind, IsWord, is_word, lower, first_piece}
+use Rattle.iloc_spec_grammar.specs.Reading.{passing, EndsBefore}
+use Rattle.iloc_spec_grammar.proofs.PiecesLaws.{at_pieces}
+use Rattle.iloc_outline.specs.Left.{IsRemainder, IsLater, IsPast, IsShortPiece, IsSpanned, piece_left, pieces_left, bytes_left, whole_text}
+use Rattle.iloc_fronts.specs.Words.{IsUpToEight, word_number}
+use Rattle.iloc_outline.specs.Parts.{word_part, printed_part}
+use Rattle.iloc_outline.specs.Reading.{IsOfWord, role_kind}
+use Rattle.iloc_outline.specs.Spans.{IsSpan}
+use Rattle.iloc_outline.specs.declared.left.Left.{Left}
+use Rattle.iloc_outline.specs.declared.span.Role.{Role}
+use Rattle.iloc_outline.specs.declared.span.Role.TheVariants as roles
+use Rattle.iloc_outline.specs.declared.span.Span.{Span}
+use Rattle.iloc_outline.proofs.LeftLemmas.{length_piece, length_text, short_kind, spanned_piece}
+use Rattle.iloc_outline.proofs.WordNumbers.{attribute_fits, variant_fits}
+use Rattle.iloc_outline.proofs.SpansLemmas.{not_edited}
+
+-- ---- words
+
+-- a word has a number
+pub word_fits : (r : Role) (p : Text) → IsWord (role_kind r) p → IsUpToEight p
+word_fits roles.Variant p h = variant_fits p h
+word_fits roles.Attribute p h = attribute_fits p h
+word_fits roles.Singleton p h = attribute_fits p h
+word_fits roles.Keyword p h = attribute_fits p h
+word_fits roles.Field p h = attribute_fits p h
+
+-- a word is printed in lower case
+printed_word : (r : Role) → IsOfWord r → (p : Text) → printed_part (word_part r p) ≡ lower p ∷ []
+printed_word roles.Variant h p = refl
+printed_word roles.Attribute h p = refl
+printed_word roles.Singleton h p = absurd (h tt)
+printed_word roles.Keyword h p = absurd (h tt)
+printed_word roles.Field h p = absurd (h tt)
+
+-- what passes the test comes first
+pub passing_more : (test : Text → Bool) (ps rest : List Text) → AllByRecursion (λ p. test p ≡ true) ps
+    → passing test (ps ++ rest) ≡ ps ++ passing test rest
+passing_more test [] rest h = refl
+passing_more test (p ∷ ps) rest h =
+    ap (λ b. cond b (p ∷ passing test (ps ++ rest)) []) h.0
+    ∙ ap (λ l. p ∷ l) (passing_more test ps rest h.1)
+
+-- up to what does not
+pub passing_cut : (test : Text → Bool) (ps rest : List Text) → AllByRecursion (λ p. test p ≡ true) ps
+    → EndsBefore test rest → passing test (ps ++ rest) ≡ ps
+passing_cut test ps rest h e = passing_more test ps rest h ∙ ap (λ qs. ps ++ qs) (none rest e) ∙ append-nil ps
+  where
+    none : (rest : List Text) → EndsBefore test rest → passing test rest ≡ []
+    none [] e = refl
+    none (q ∷ rest) e = ap (λ b. cond b (q ∷ passing test rest) []) e
+
+-- ---- pieces
+
+-- some pieces are left
+pub length-pieces_of : (l : Left) → 0 < length (pieces_left l)
+length-pieces_of l = at_pieces (λ ps. 0 < length ps) (λ p ps. omega arith) (bytes_left l)
+
+pub ends_before : (k : Kind) (l : Left) → is_word k (piece_left l) ≡ false
+    → EndsBefore (is_word k) (pieces_left l)
+ends_before k l =
+    at_pieces (λ ps. is_word k (first_piece ps) ≡ false → EndsBefore (is_word k) ps) (λ p ps e. e) (bytes_left l)
+
+-- a word that comes first
+pub word_next : (k : Kind) (l : Left) → is_word k (piece_left l) ≡ true
+    → (rest : List Text) × (passing (is_word k) (pieces_left l) ≡ piece_left l ∷ rest)
+word_next k l =
+    at_pieces
+    (λ ps. is_word k (first_piece ps) ≡ true
+    → (rest : List Text) × (passing (is_word k) ps ≡ first_piece ps ∷ rest))
+    (λ p ps e. (passing (is_word k) ps, ap (λ b. cond b (p ∷ passing (is_word k) ps) []) e)) (bytes_left l)
+
+-- a short piece after its hyphen
+pub short_piece : (l : Left) → IsRemainder l → IsLater l → IsShortPiece (piece_left l)
+    → IsSpanned (whole_text l) (l.at - 1) (l.at + l.n) (piece_left l ∷ [])
+short_piece l h later short =
+    let long : l.at + length (piece_left l) ≡ l.at + l.n = omega (arith, length_piece h short) in
+    subst (λ (n : ℕ). IsSpanned (whole_text l) (l.at - 1) n (piece_left l ∷ [])) long (spanned_piece l h later)
+
+-- it ends within the text
+pub end_within : (l at : Left) (ps : List Text) → IsPast l at ps → IsShortPiece (piece_left at)
+    → at.at + at.n ≤ l.at + l.len
+end_within l at ps past short =
+    omega (arith, (short_piece at past.left past.later short).inside, length_text past.left, past.end)
+
+-- the span of a word
+abbrev pub span_of : Role → ℕ → Left → Span
+span_of r n l = record { word = n; start = l.at - 1; end = l.at + l.n; role = r; edited = false }
+
+-- it is that part of the text
+pub word_span : (r : Role) → IsOfWord r → (l : Left) → IsRemainder l → IsLater l → IsWord (role_kind r) (piece_left l)
+    → (n : ℕ) → n ≡ word_number (piece_left l) → IsSpan (whole_text l) (span_of r n l) (word_part r (piece_left l))
+word_span r role l h k word n e = record {
+  role = refl;
+  word = e;
+  spanned = short_piece l h k (short_kind r (piece_left l) word);
+  same = λ _. printed_word r role (piece_left l);
+  short = not_edited;
+}

@@ -1,0 +1,345 @@
+-- The numbers of words: how they are computed, and that they have the order of the words.
+use Rattle.std.proofs.Common.{◌≡◌, ℕ, zero, suc, ◌+◌, ◌-◌, ◌*◌, ◌/◌, ◌%◌, ◌^◌, ◌<◌, ◌≤◌, ◌==◌, true, List, [], ◌∷◌, length, map, get_or, take, drop, replicate, ◌++◌, bit_or, refl, sym, ap, ◌∙◌, subst, arith, inl, inr, pow-suc}
+use Rattle.std.specs.Int.{w64, swap_bytes, from_be_bytes, from_le_bytes}
+use Rattle.std.specs.List.{AllByRecursion}
+use Rattle.std.specs.Ordering.{is_lt, nat_cmp, ordering_then}
+use Rattle.std.specs.Cmp.{nat_cmp_is}
+use Rattle.std.specs.Cmp.Lexicographic.{slice_cmp}
+use Rattle.std.specs.declared.cmp.Ordering.TheVariants.{Less, Equal, Greater}
+use Rattle.std.specs.Char.{is_ascii_alphanumeric, to_ascii_lowercase}
+use Rattle.std.proofs.Math.Seq.{take-append_seam}
+use Rattle.std.proofs.lemmas.Bool.{and_parts, cases_lt, eqb-true}
+use Rattle.std.proofs.lemmas.Bool.Decides.{nat_tests}
+use Rattle.std.proofs.lemmas.Nat.{le_bytes_8, or_block, or_of_8, pow-add}
+use Rattle.std.proofs.Math.Nat.{mul-add-div_right, mul-le-mul_right, zero-mul, mul_assoc, add-mul, div-eq_of_lt, mod-eq_of_lt}
+use Rattle.std.specs.List.{take-map}
+use Rattle.std.proofs.lemmas.List.{length-append, length-replicate, get_or-drop}
+use Rattle.iloc_spec_grammar.specs.Syntax.{Attribute, Variant, UnicodeKey, TransformKey, IsWord, letters_or_digits, lower, word_cmp}
+use Rattle.iloc_spec_grammar.proofs.MapLaws.{same_words}
+use Rattle.iloc_spec_grammar.proofs.WordsLaws.{length-attribute, length-variant, length-unicode_key, length-transform_key, length-lower, word_letters_or_digits}
+use Rattle.iloc_tinystr.specs.Number.{number}
+use Rattle.iloc_plain.proofs.LaneLemmas.{of_byte}
+use Rattle.iloc_fronts.specs.Words.{IsUpToEight, high_first, word_number}
+
+-- ---- eight bytes as one number
+
+abbrev pub Bytes : List ℕ → Type 0
+Bytes p = (i : ℕ) → get_or p i 0 < 256
+
+-- parts of bytes are bytes
+pub bytes_take : (k : ℕ) (p : List ℕ) → Bytes p → Bytes (take k p)
+bytes_take zero p h i = omega arith
+bytes_take (suc k) [] h i = h i
+bytes_take (suc k) (b ∷ p) h zero = h 0
+bytes_take (suc k) (b ∷ p) h (suc i) = bytes_take k p (λ j. h (suc j)) i
+
+pub bytes_drop : (k : ℕ) (p : List ℕ) → Bytes p → Bytes (drop k p)
+bytes_drop k p h i = subst (λ (b : ℕ). b < 256) (sym (get_or-drop k p i 0)) (h (k + i))
+
+-- eight bytes, the first highest
+pub highest_first : (z : List ℕ) → length z ≡ 8
+    → get_or z 0 0 * 72057594037927936 + get_or z 1 0 * 281474976710656 + get_or z 2 0 * 1099511627776
+    + get_or z 3 0 * 4294967296 + get_or z 4 0 * 16777216 + get_or z 5 0 * 65536
+    + get_or z 6 0 * 256 + get_or z 7 0 ≡ high_first 8 z
+unfolding high_first
+highest_first (a ∷ b ∷ c ∷ d ∷ e ∷ f ∷ g ∷ h ∷ []) long = omega arith
+highest_first z long = absurd (omega arith)
+
+-- or the first lowest, swapped
+swapped : (z : List ℕ) → length z ≡ 8 → Bytes z → swap_bytes w64 (number z) ≡ high_first 8 z
+unfolding high_first
+swapped (a ∷ b ∷ c ∷ d ∷ e ∷ f ∷ g ∷ h ∷ []) long small =
+    let bs : List ℕ = a ∷ b ∷ c ∷ d ∷ e ∷ f ∷ g ∷ h ∷ [] in
+    let low : number bs % 2 ^ 64 ≡ from_le_bytes w64 bs =
+    omega (arith, small 0, small 1, small 2, small 3, small 4, small 5, small 6, small 7) in
+    let fits : number bs < 2 ^ 64 =
+    omega (arith, small 0, small 1, small 2, small 3, small 4, small 5, small 6, small 7) in
+    ap (swap_bytes w64) (sym (mod-eq_of_lt fits)) ∙ ap (from_be_bytes w64) (le_bytes_8 bs _ refl small low)
+    ∙ omega arith
+swapped z long small = absurd (omega arith)
+
+-- ---- the first of them, with zeros behind
+
+pow_some : (n : ℕ) → 0 < 256 ^ n
+pow_some zero = omega arith
+pow_some (suc n) = omega (arith, pow-suc 256 n, pow_some n)
+
+number_fits : (n : ℕ) (p : List ℕ) → Bytes p → high_first n p < 256 ^ n
+unfolding high_first
+number_fits zero p h = omega arith
+number_fits (suc n) [] h = pow_some (suc n)
+number_fits (suc n) (b ∷ p) h =
+    let few : b ≤ 255 = omega (arith, h 0) in
+    omega (arith, pow-suc 256 n, number_fits n p (λ i. h (suc i)), mul-le-mul_right (256 ^ n) few)
+
+no_bytes : (n : ℕ) → high_first n [] ≡ 0
+unfolding high_first
+no_bytes zero = refl
+no_bytes (suc n) = refl
+
+nothing_left : (n k : ℕ) → n < k → n / k * k ≡ 0
+nothing_left n k l = ap (λ m. m * k) (div-eq_of_lt l) ∙ zero-mul k
+
+split_power : (m n : ℕ) → n ≤ m → 256 ^ m ≡ 256 ^ n * 256 ^ (m - n)
+split_power m n l = let all : n + (m - n) ≡ m =
+    omega arith in ap (λ k. 256 ^ k) (sym all) ∙ pow-add 256 n (m - n)
+
+cut_number : (m n : ℕ) (p : List ℕ) → n ≤ m → Bytes p
+    → high_first m p / 256 ^ (m - n) * 256 ^ (m - n) ≡ high_first m (take n p)
+unfolding high_first
+cut_number m zero p l h =
+    let whole : m - 0 ≡ m = omega arith in
+    ap (λ k. high_first m p / 256 ^ k * 256 ^ k) whole
+    ∙ nothing_left (high_first m p) (256 ^ m) (number_fits m p h) ∙ sym (no_bytes m)
+cut_number zero (suc n) p l h = absurd (omega arith)
+cut_number (suc m) (suc n) [] l h = nothing_left 0 (256 ^ (suc m - suc n)) (pow_some (suc m - suc n))
+cut_number (suc m) (suc n) (b ∷ p) l h =
+    let k : ℕ = 256 ^ (m - n) in
+    let same : suc m - suc n ≡ m - n = omega arith in
+    let first : b * 256 ^ m ≡ b * 256 ^ n * k =
+    ap (λ w. b * w) (split_power m n (omega arith)) ∙ sym (mul_assoc b (256 ^ n) k) in
+    let rest : (b * 256 ^ n * k + high_first m p) / k ≡ b * 256 ^ n + high_first m p / k =
+    mul-add-div_right (pow_some (m - n)) (b * 256 ^ n) (high_first m p) in
+    (λ j. (first j + high_first m p) / 256 ^ same j * 256 ^ same j) ∙ ap (λ w. w * k) rest
+    ∙ add-mul (b * 256 ^ n) (high_first m p / k) k
+    ∙ (λ j. sym first j + cut_number m n p (omega arith) (λ i. h (suc i)) j)
+
+-- ---- the number of a word
+
+-- bit 5 makes a letter lower case, and digits have it
+pub low_bit : (c : ℕ) → is_ascii_alphanumeric c ≡ true → bit_or c 32 ≡ to_ascii_lowercase c
+low_bit c h =
+    eqb-true _ _
+    (of_byte is_ascii_alphanumeric (λ b. bit_or b 32 == to_ascii_lowercase b) refl c (small c h) h)
+  where
+    small : (c : ℕ) → is_ascii_alphanumeric c ≡ true → c < 256
+    small c h = grind (arith, nat_tests)
+
+low_bits : (p : List ℕ) → letters_or_digits p ≡ true → map (λ b. bit_or b 32) p ≡ lower p
+unfolding lower
+low_bits [] h = refl
+low_bits (b ∷ p) h = let parts = and_parts _ _ h in λ j. low_bit b parts.0 j ∷ low_bits p parts.1 j
+
+bytes_or : (p : List ℕ) → Bytes p → Bytes (map (λ b. bit_or b 32) p)
+bytes_or [] h i = h i
+bytes_or (b ∷ p) h zero = or_of_8 b 32 (h 0) (omega arith)
+bytes_or (b ∷ p) h (suc i) = bytes_or p (λ j. h (suc j)) i
+
+fits_replicate : (n c : ℕ) → c < 256 → Bytes (replicate n c)
+fits_replicate zero c l i = omega arith
+fits_replicate (suc n) c l zero = l
+fits_replicate (suc n) c l (suc i) = fits_replicate n c l i
+
+power_of : (k : ℕ) → 2 ^ (8 * k) ≡ 256 ^ k
+power_of zero = refl
+power_of (suc k) =
+    let more : 8 * suc k ≡ 8 + 8 * k = omega arith in
+    ap (λ j. 2 ^ j) more ∙ pow-add 2 8 (8 * k) ∙ ap (λ m. 256 * m) (power_of k) ∙ omega (arith, pow-suc 256 k)
+
+-- bit 5 of each byte
+or_bytes : (n : ℕ) (z : List ℕ) → length z ≡ n → Bytes z
+    → bit_or (high_first n z) (high_first n (replicate n 32)) ≡ high_first n (map (λ b. bit_or b 32) z)
+unfolding high_first
+or_bytes zero [] long small = refl
+or_bytes zero (b ∷ z) long small = absurd (omega arith)
+or_bytes (suc n) [] long small = absurd (omega arith)
+or_bytes (suc n) (b ∷ z) long small =
+    let rest : Bytes z = λ i. small (suc i) in
+    let spaces : Bytes (replicate n 32) = fits_replicate n 32 (omega arith) in
+    let x : high_first n z < 2 ^ (8 * n) =
+    subst (λ (k : ℕ). high_first n z < k) (sym (power_of n)) (number_fits n z rest) in
+    let y : high_first n (replicate n 32) < 2 ^ (8 * n) =
+    subst (λ (k : ℕ). high_first n (replicate n 32) < k) (sym (power_of n))
+    (number_fits n (replicate n 32) spaces) in
+    (λ j. bit_or (b * sym (power_of n) j + high_first n z)
+    (32 * sym (power_of n) j + high_first n (replicate n 32)))
+    ∙ or_block (8 * n) b 32 (high_first n z) (high_first n (replicate n 32)) x y
+    ∙ (λ j. bit_or b 32 * power_of n j + or_bytes n z (omega arith) rest j)
+
+-- the number of eight bytes with bit 5, cut behind n letters and digits
+pub number_is : (z : List ℕ) (n x : ℕ) → length z ≡ 8 → n ≤ 8 → Bytes z → letters_or_digits (take n z) ≡ true
+    → x ≡ high_first 8 z
+    → bit_or x 2314885530818453536 / 2 ^ (64 - 8 * n) * 2 ^ (64 - 8 * n) % 2 ^ 64 ≡ word_number (take n z)
+unfolding word_number high_first
+number_is z n x long few small word e =
+    let low = map (λ b. bit_or b 32) z in
+    let bytes : Bytes low = bytes_or z small in
+    let eight : bit_or x 2314885530818453536 ≡ high_first 8 low =
+    ap (λ k. bit_or k 2314885530818453536) e ∙ or_bytes 8 z long small in
+    let bits : 64 - 8 * n ≡ 8 * (8 - n) = omega arith in
+    let power : 2 ^ (64 - 8 * n) ≡ 256 ^ (8 - n) = ap (λ j. 2 ^ j) bits ∙ power_of (8 - n) in
+    let first : take n low ≡ lower (take n z) = take-map (λ b. bit_or b 32) n z ∙ low_bits (take n z) word in
+    let cut : high_first 8 low / 256 ^ (8 - n) * 256 ^ (8 - n) ≡ high_first 8 (lower (take n z)) =
+    cut_number 8 n low few bytes ∙ ap (high_first 8) first in
+    let fits : high_first 8 (lower (take n z)) < 2 ^ 64 =
+    subst (λ (p : List ℕ). high_first 8 p < 256 ^ 8) first
+    (number_fits 8 (take n low) (bytes_take n low bytes)) in
+    (λ j. eight j / power j * power j % 2 ^ 64) ∙ ap (λ m. m % 2 ^ 64) cut ∙ mod-eq_of_lt fits
+
+-- zeros behind fewer bytes
+no_number : (k : ℕ) → number (replicate k 0) ≡ 0
+no_number zero = refl
+no_number (suc k) = ap (λ m. 0 + 256 * m) (no_number k)
+
+number-zeros : (p : List ℕ) (k : ℕ) → number (p ++ replicate k 0) ≡ number p
+number-zeros [] k = no_number k
+number-zeros (b ∷ p) k = ap (λ m. b + 256 * m) (number-zeros p k)
+
+bytes_zeros : (p : List ℕ) (k : ℕ) → Bytes p → Bytes (p ++ replicate k 0)
+bytes_zeros [] k h i = fits_replicate k 0 (omega arith) i
+bytes_zeros (b ∷ p) k h zero = h 0
+bytes_zeros (b ∷ p) k h (suc i) = bytes_zeros p k (λ j. h (suc j)) i
+
+-- the number of a word, the first byte lowest, swapped
+pub short_number_is : (p : List ℕ) (x : ℕ) → length p ≤ 8 → Bytes p → letters_or_digits p ≡ true
+    → x ≡ swap_bytes w64 (number p)
+    → bit_or x 2314885530818453536 / 2 ^ (64 - 8 * length p) * 2 ^ (64 - 8 * length p) % 2 ^ 64
+    ≡ word_number p
+short_number_is p x few small word e =
+    let z : List ℕ = p ++ replicate (8 - length p) 0 in
+    let long : length z ≡ 8 =
+    omega (
+      arith,
+      length-append p (replicate (8 - length p) 0),
+      length-replicate {A = ℕ} (8 - length p) 0,
+    ) in
+    let bytes : Bytes z = bytes_zeros p (8 - length p) small in
+    let front : take (length p) z ≡ p = take-append_seam p (replicate (8 - length p) 0) in
+    number_is z (length p) x long few bytes (ap letters_or_digits front ∙ word)
+    (e ∙ ap (swap_bytes w64) (sym (number-zeros p (8 - length p))) ∙ swapped z long bytes)
+    ∙ ap word_number front
+
+-- ---- the order of words
+
+-- bytes above zero
+abbrev AreAbove : List ℕ → Type 0
+AreAbove p = AllByRecursion (λ b. (0 < b) × (b < 256)) p
+
+above_bytes : (p : List ℕ) → AreAbove p → Bytes p
+above_bytes [] h i = omega arith
+above_bytes (b ∷ p) h zero = h.0.1
+above_bytes (b ∷ p) h (suc i) = above_bytes p h.1 i
+
+above_word : (p : List ℕ) → letters_or_digits p ≡ true → AreAbove (lower p)
+unfolding lower
+above_word [] h = tt
+above_word (b ∷ p) h = let parts = and_parts _ _ h in (byte b parts.0, above_word p parts.1)
+  where
+    byte : (b : ℕ) → is_ascii_alphanumeric b ≡ true
+        → (0 < to_ascii_lowercase b) × (to_ascii_lowercase b < 256)
+    byte b e = (grind (arith, nat_tests), grind (arith, nat_tests))
+
+is_less : (x y : ℕ) → x < y → nat_cmp x y ≡ Less
+is_less x y l = sym (nat_cmp_is x y Less l)
+
+is_equal : (x y : ℕ) → x ≡ y → nat_cmp x y ≡ Equal
+is_equal x y e = sym (nat_cmp_is x y Equal e)
+
+is_greater : (x y : ℕ) → y < x → nat_cmp x y ≡ Greater
+is_greater x y l = sym (nat_cmp_is x y Greater l)
+
+first_counts : (a b w x y : ℕ) → a < b → x < w → a * w + x < b * w + y
+first_counts a b w x y l f = let next : suc a ≤ b = omega arith in omega (arith, mul-le-mul_right w next)
+
+rest_counts : (w x y : ℕ) → nat_cmp (w + x) (w + y) ≡ nat_cmp x y
+rest_counts w x y = elim (cases_lt x y) [
+  | inl less ↦
+      (let more : w + x < w + y = omega arith in is_less (w + x) (w + y) more ∙ sym (is_less x y less))
+  | inr other ↦ elim (cases_lt y x) [
+    | inl less ↦
+        (let more : w + y < w + x =
+        omega arith in is_greater (w + x) (w + y) more ∙ sym (is_greater x y less))
+    | inr same ↦
+        (let one : x ≡ y =
+        omega arith in is_equal (w + x) (w + y) (ap (λ n. w + n) one) ∙ sym (is_equal x y one))
+  ]
+]
+
+order : (n : ℕ) (p q : List ℕ) → length p ≤ n → length q ≤ n → AreAbove p → AreAbove q
+    → nat_cmp (high_first n p) (high_first n q) ≡ slice_cmp nat_cmp p q
+unfolding high_first
+order zero [] [] l m h k = refl
+order zero (a ∷ p) q l m h k = absurd (omega arith)
+order zero [] (b ∷ q) l m h k = absurd (omega arith)
+order (suc n) [] [] l m h k = refl
+order (suc n) [] (b ∷ q) l m h k =
+    is_less 0 (b * 256 ^ n + high_first n q)
+    (omega (arith, first_counts 0 b (256 ^ n) 0 (high_first n q) k.0.0 (pow_some n)))
+order (suc n) (a ∷ p) [] l m h k =
+    is_greater (a * 256 ^ n + high_first n p) 0
+    (omega (arith, first_counts 0 a (256 ^ n) 0 (high_first n p) h.0.0 (pow_some n)))
+order (suc n) (a ∷ p) (b ∷ q) l m h k =
+    elim (cases_lt a b) [
+      | inl less ↦ is_less _ _
+          (first_counts a b (256 ^ n) (high_first n p) (high_first n q) less
+          (number_fits n p (above_bytes p h.1)))
+          ∙ sym (ap (λ o. ordering_then o (slice_cmp nat_cmp p q)) (is_less a b less))
+      | inr other ↦ elim (cases_lt b a) [
+        | inl less ↦ is_greater _ _
+            (first_counts b a (256 ^ n) (high_first n q) (high_first n p) less
+            (number_fits n q (above_bytes q k.1)))
+            ∙ sym (ap (λ o. ordering_then o (slice_cmp nat_cmp p q)) (is_greater a b less))
+        | inr same ↦ (
+            let one : a ≡ b = omega arith in
+            ap (λ c. nat_cmp (c * 256 ^ n + high_first n p) (b * 256 ^ n + high_first n q)) one
+            ∙ rest_counts (b * 256 ^ n) (high_first n p) (high_first n q)
+            ∙ order n p q (omega arith) (omega arith) h.1 k.1
+            ∙ sym (ap (λ o. ordering_then o (slice_cmp nat_cmp p q)) (is_equal a b one)))
+      ]
+    ]
+
+-- words are ordered as their numbers are
+pub word_order : (p q : List ℕ) → IsUpToEight p → IsUpToEight q
+    → nat_cmp (word_number p) (word_number q) ≡ word_cmp (lower p) (lower q)
+unfolding word_number
+word_order p q h k =
+    order 8 (lower p) (lower q) (omega (arith, length-lower p, h.few)) (omega (arith, length-lower q, k.few))
+    (above_word p h.bytes) (above_word q k.bytes)
+
+-- a word with a lesser number is below
+pub lesser_below : (p q : List ℕ) → IsUpToEight p → IsUpToEight q → word_number p < word_number q
+    → is_lt (word_cmp (lower p) (lower q)) ≡ true
+lesser_below p q h k l = ap is_lt (sym (word_order p q h k) ∙ is_less (word_number p) (word_number q) l)
+
+-- words with one number are the same but for the case
+pub equal_same : (p q : List ℕ) → IsUpToEight p → IsUpToEight q → word_number p ≡ word_number q
+    → lower p ≡ lower q
+equal_same p q h k e =
+    same_words (lower p) (lower q) (sym (word_order p q h k) ∙ is_equal (word_number p) (word_number q) e)
+
+-- words of these kinds have numbers
+pub attribute_fits : (p : List ℕ) → IsWord Attribute p → IsUpToEight p
+attribute_fits p h =
+    record {
+      some = omega (arith, (length-attribute p h).0);
+      few = (length-attribute p h).1;
+      bytes =
+          word_letters_or_digits Attribute p h;
+    }
+
+pub variant_fits : (p : List ℕ) → IsWord Variant p → IsUpToEight p
+variant_fits p h =
+    record {
+      some = omega (arith, (length-variant p h).0);
+      few = (length-variant p h).1;
+      bytes =
+          word_letters_or_digits Variant p h;
+    }
+
+pub key_fits : (p : List ℕ) → IsWord UnicodeKey p → IsUpToEight p
+key_fits p h =
+    record {
+      some = omega (arith, length-unicode_key p h);
+      few =
+          omega (arith, length-unicode_key p h);
+      bytes = word_letters_or_digits UnicodeKey p h;
+    }
+
+pub field_key_fits : (p : List ℕ) → IsWord TransformKey p → IsUpToEight p
+field_key_fits p h =
+    record {
+      some = omega (arith, length-transform_key p h);
+      few =
+          omega (arith, length-transform_key p h);
+      bytes = word_letters_or_digits TransformKey p h;
+    }

@@ -1,0 +1,153 @@
+use Rattle.std.proofs.Common.{◌≡◌, inl, inr, ℕ, List, [], true, sym, ap, ◌∙◌, subst}
+use Rattle.std.specs.Char.{is_ascii_alphanumeric}
+use Rattle.iloc_spec_grammar.specs.Syntax.{Text}
+use Rattle.iloc_outline.specs.Blocks.{IsBlockRead}
+use Rattle.iloc_outline.specs.Left.{piece_left, pieces_left, whole_text}
+use Rattle.iloc_outline.specs.Parts.{rank}
+use Rattle.iloc_outline.specs.declared.reading.Reading.{Reading}
+use Rattle.iloc_outline.specs.declared.reading.Reading.TheVariants.{Bad, End, Full, Next, Repeated}
+use Rattle.iloc_outline.specs.declared.spans.Spans.{Spans}
+use Rattle.iloc_outline.proofs.BlocksLemmas.{IsDone, IsRead, all_done}
+use Rattle.iloc_outline.proofs.LeftLemmas.{last_piece, single_short}
+use Rattle.iloc_outline.proofs.SingletonSteps as at
+use Rattle.iloc_outline.proofs.blocks.read_blocks.Goals as goal
+use Rattle.iloc_outline.proofs.blocks.read_blocks.Goals.{After-read_body-reading, Joined-rank-last-2, else-rank-last, else-rank-last-2, then-rank-last+else-has_block, then-rank-last-2}
+
+pub singletons-init : goal.singletons-init
+singletons-init c =
+    at.starts_at c.args.left c.args.spans.now c.args.in_order.now
+    c.requires.left c.requires.later c.requires.single
+
+pub returns-then-not-is_alphanumeric : goal.returns-then-not-is_alphanumeric
+returns-then-not-is_alphanumeric c =
+    at.refuses_letter c.singletons.invariant (sym c.is_alphanumeric.ensures ∙ c.if-not-is_alphanumeric.true)
+
+pub returns-then-has_block : goal.returns-then-has_block
+returns-then-has_block c =
+    let h = c.singletons.invariant in
+    let letter : is_ascii_alphanumeric (at.byte_at h) ≡ true = sym c.is_alphanumeric.ensures
+    ∙ c.if-not-is_alphanumeric.false in
+    at.refuses_second h letter
+    (at.seen h letter c.requires.begun c.rank_of-rank.result
+    (c.rank_of-rank.ensures ∙ ap rank c.singleton-byte.ensures)
+    c.has_block.result c.has_block.ensures ∙ c.if-has_block.true)
+
+pub returns-then-is_last : goal.returns-then-is_last
+returns-then-is_last c =
+    let h = c.singletons.invariant in
+    let letter : is_ascii_alphanumeric (at.byte_at h) ≡ true = sym c.is_alphanumeric.ensures
+    ∙ c.if-not-is_alphanumeric.false in
+    let rank_is : c.rank_of-rank.result ≡ at.rank_at h = c.rank_of-rank.ensures
+    ∙ ap rank c.singleton-byte.ensures in
+    let fresh : at.IsFresh h letter c.if-rank-last.in_order = elim c.if-rank-last.branch [
+      | then-rank-last+else-has_block w ↦
+          at.fresh_told h letter c.requires.begun c.rank_of-rank.result rank_is
+          w.has_block.result w.if-has_block.false w.has_block.ensures c.if-rank-last.in_order w.in_order-is
+      | else-rank-last w ↦ at.fresh_above h letter c.rank_of-rank.result rank_is w.if-rank-last.false
+          c.if-rank-last.in_order w.in_order-is
+    ] in
+    at.refuses_end h letter fresh.new
+    (last_piece c.singletons.at h.left (c.is_last.ensures.0 c.if-is_last.true)
+    (single_short (piece_left c.singletons.at) h.single))
+
+-- what was read behind the singleton, if the reading is r
+abbrev IsReadAs : After-read_body-reading → Reading → Type 0
+IsReadAs c r = IsBlockRead (at.byte_at c.singletons.invariant) c.next.result c.singletons.spans
+    c.read_body-reading.new.spans c.if-rank-last.in_order c.read_body-reading.new.in_order r
+
+read_as : (c : After-read_body-reading) (r : Reading) → c.read_body-reading.result ≡ r → IsReadAs c r
+read_as c r e = subst (IsReadAs c) e
+    (c.read_body-reading.ensures (at.byte_at c.singletons.invariant) (sym c.singleton-byte.ensures)
+    (at.spanned_at c.singletons.invariant c.next.ensures))
+
+rank_is : (c : After-read_body-reading) → c.rank_of-rank.result ≡ at.rank_at c.singletons.invariant
+rank_is c = c.rank_of-rank.ensures ∙ ap rank c.singleton-byte.ensures
+
+-- the singleton is passed
+passed : (c : After-read_body-reading)
+    → at.Passed c.singletons.invariant c.next.result c.read_body-reading.new.spans
+    c.if-rank-last.in_order c.read_body-reading.new.in_order
+passed c =
+    let h = c.singletons.invariant in
+    let letter : is_ascii_alphanumeric (at.byte_at h) ≡ true = sym c.is_alphanumeric.ensures
+    ∙ c.if-not-is_alphanumeric.false in
+    let fresh : at.IsFresh h letter c.if-rank-last.in_order = elim c.if-rank-last.branch [
+      | then-rank-last+else-has_block w ↦ at.fresh_told h letter c.requires.begun c.rank_of-rank.result
+          (rank_is c)
+          w.has_block.result w.if-has_block.false w.has_block.ensures c.if-rank-last.in_order w.in_order-is
+      | else-rank-last w ↦ at.fresh_above h letter c.rank_of-rank.result (rank_is c) w.if-rank-last.false
+          c.if-rank-last.in_order w.in_order-is
+    ] in
+    record { letter = letter; fresh = fresh; next = c.next.ensures }
+
+pub returns-in-Bad : goal.returns-in-Bad
+returns-in-Bad c =
+    let p = (goal.at.returns-in-Bad c).After-read_body-reading in
+    at.refuses_bad c.singletons.invariant (passed p) (read_as p Bad c.in-Bad.is)
+
+pub returns-in-Repeated : goal.returns-in-Repeated
+returns-in-Repeated c =
+    let p = (goal.at.returns-in-Repeated c).After-read_body-reading in
+    at.refuses_repeated c.singletons.invariant (passed p) (read_as p Repeated c.in-Repeated.is)
+
+pub returns-in-Full : goal.returns-in-Full
+returns-in-Full c =
+    let p = (goal.at.returns-in-Full c).After-read_body-reading in
+    at.too_many c.singletons.invariant (passed p) (read_as p Full c.in-Full.is)
+
+pub place_block-requires : goal.place_block-requires
+place_block-requires c =
+    let p = (goal.at.place_block-requires c).After-read_body-reading in
+    let h = c.singletons.invariant in
+    elim c.in-End.is [
+      | inl e ↦ at.grows h (passed p) c.requires.begun [] (at.ends_here h (passed p) (read_as p End e))
+      | inr x ↦ at.grows h (passed p) c.requires.begun (pieces_left x.0)
+          (at.goes_on h (passed p) x.0 (read_as p (Next x.0) x.1))
+    ]
+
+-- the block was put, and rest follows
+abbrev IsPut : Joined-rank-last-2 → List Text → ℕ → Spans → Type 0
+IsPut c rest last spans =
+    IsDone c.args.left c.args.spans.now c.args.in_order.now rest last spans c.read_body-reading.new.in_order
+
+put : (c : Joined-rank-last-2) → at.Passed c.singletons.invariant c.next.result c.read_body-reading.new.spans
+    c.if-rank-last.in_order c.read_body-reading.new.in_order
+    → c.rank_of-rank.result ≡ at.rank_at c.singletons.invariant → (rest : List Text)
+    → IsRead (at.byte_at c.singletons.invariant) (whole_text c.args.left) (at.behind c.singletons.invariant) rest
+    c.singletons.spans c.read_body-reading.new.spans c.if-rank-last.in_order c.read_body-reading.new.in_order
+    → IsPut c rest c.if-rank-last-2.last c.if-rank-last-2.spans
+put c x e rest r = elim c.if-rank-last-2.branch [
+  | then-rank-last-2 w ↦
+      subst (λ top. IsPut c rest top c.if-rank-last-2.spans) (sym w.last-is)
+      (subst (IsPut c rest c.singletons.last) (sym w.spans-is)
+      (at.comes_before c.singletons.invariant x rest r c.rank_of-rank.result e w.if-rank-last-2.true
+      w.place_block.new.spans w.place_block.ensures.same w.place_block.ensures.placed))
+  | else-rank-last-2 w ↦
+      subst (λ top. IsPut c rest top c.if-rank-last-2.spans) (sym w.last-is)
+      (subst (IsPut c rest c.rank_of-rank.result) (sym w.spans-is)
+      (at.stays_last c.singletons.invariant x rest r c.rank_of-rank.result e w.if-rank-last-2.false))
+]
+
+pub singletons-smaller : goal.singletons-smaller
+singletons-smaller c =
+    let p = (goal.at.singletons-smaller c).After-read_body-reading in
+    at.less_at c.singletons.invariant (passed p) c.in-Next.next (read_as p (Next c.in-Next.next) c.in-Next.is)
+
+pub singletons-preserved : goal.singletons-preserved
+singletons-preserved c =
+    let p = (goal.at.singletons-preserved c).After-read_body-reading in
+    let h = c.singletons.invariant in
+    let r = read_as p (Next c.in-Next.next) c.in-Next.is in
+    at.next_at h (passed p) c.in-Next.next r c.if-rank-last-2.last c.if-rank-last-2.spans
+    (put (goal.at.singletons-preserved c).Joined-rank-last-2 (passed p) (rank_is p) (pieces_left c.in-Next.next)
+    (at.goes_on h (passed p) c.in-Next.next r))
+
+pub returns-in_default : goal.returns-in_default
+returns-in_default c =
+    let p = (goal.at.returns-in_default c).After-read_body-reading in
+    let ends : c.read_body-reading.result ≡ End =
+    elim c.in-End.is [ inl e ↦ e | inr x ↦ absurd (c.in_default.not-Next x.0 x.1) ] in
+    all_done c.args.left c.args.spans.now c.args.in_order.now c.if-rank-last-2.last c.if-rank-last-2.spans
+    c.read_body-reading.new.in_order
+    (put (goal.at.returns-in_default c).Joined-rank-last-2 (passed p) (rank_is p) []
+    (at.ends_here c.singletons.invariant (passed p) (read_as p End ends)))

@@ -1,0 +1,107 @@
+use Rattle.std.proofs.Common.{◌≡◌, ◌≢◌, ◌∙◌, rules, sym, arith}
+use denote.Enum.Bare.{same_false, same_true}
+use Rattle.iloc_outline.specs.contracts.span.Role.{the_type}
+use Rattle.iloc_outline.specs.declared.span.Role.TheVariants.{Field}
+use Rattle.iloc_outline.proofs.FieldLemmas.{ends_in_key, field_less, field_within, key_kind_fits, takes_end, takes_full, takes_more, takes_none, takes_past}
+use Rattle.iloc_outline.proofs.GatherLemmas.{gathers_from}
+use Rattle.iloc_outline.proofs.LeftLemmas.{short_key_kind}
+use Rattle.iloc_outline.proofs.fields.read_fields.Goals as goal
+use Rattle.iloc_outline.proofs.fields.read_fields.Goals.{else-eq-via-then-eq+else-value-eq0, else-eq-via-else-eq}
+
+pub keys-init : goal.keys-init
+keys-init c =
+    takes_none c.args.role c.args.left c.requires.left c.requires.later c.args.spans.now c.args.in_order.now
+
+pub is_key_of-requires : goal.is_key_of-requires
+is_key_of-requires c = c.keys.invariant.past.left
+
+pub read_value-value-requires-clause-left : goal.read_value-value-requires-clause-left
+read_value-value-requires-clause-left c = c.keys.invariant.past.left
+
+pub read_value-value-requires-clause-later : goal.read_value-value-requires-clause-later
+read_value-value-requires-clause-later c = c.keys.invariant.past.later
+
+pub read_value-value-requires-clause-short : goal.read_value-value-requires-clause-short
+read_value-value-requires-clause-short c =
+    short_key_kind c.args.role _ (sym c.is_key_of.ensures ∙ c.keys-test.true)
+
+pub returns-then-value-eq0 : goal.returns-then-value-eq0
+returns-then-value-eq0 c =
+    let v = c.read_value-value in
+    let field = same_true the_type (search rules) _ _ (sym c.if-eq.ensures) in (
+      field,
+      ends_in_key c.args.role c.args.left c.keys.at _ _ _ _ _ c.keys.invariant v.result v.ensures
+          field (sym c.is_key_of.ensures ∙ c.keys-test.true) c.if-value-eq0.true,
+    )
+
+pub word_number-requires-clause-left : goal.word_number-requires-clause-left
+word_number-requires-clause-left c = c.keys.invariant.past.left
+
+pub word_number-requires-clause-word : goal.word_number-requires-clause-word
+word_number-requires-clause-word c =
+    key_kind_fits c.args.role _ (sym c.is_key_of.ensures ∙ c.keys-test.true)
+
+pub overflow_cast-span : goal.overflow_cast-span
+overflow_cast-span c = omega (arith, c.keys.invariant.past.end, c.requires.few)
+
+pub overflow_cast-span-in-keys : goal.overflow_cast-span-in-keys
+overflow_cast-span-in-keys c =
+    let v = c.read_value-value in
+    let inside =
+    field_within c.args.role c.args.left c.keys.at _ _ _ _ _ c.keys.invariant v.result v.ensures in
+    omega (arith, c.requires.few)
+
+pub put_from-requires : goal.put_from-requires
+put_from-requires c = gathers_from _ _ _ _ _ _ _ c.keys.invariant.gathers
+
+pub returns-in-Full : goal.returns-in-Full
+returns-in-Full c =
+    let v = c.read_value-value in
+    let key = sym c.is_key_of.ensures ∙ c.keys-test.true in
+    let some : c.args.role ≡ Field → c.read_value-value.result.count ≢ 0 = λ t. elim c.else-eq.branch [
+      | else-eq-via-then-eq+else-value-eq0 b ↦ b.if-value-eq0.false
+      | else-eq-via-else-eq b ↦ absurd (same_false the_type _ _ (sym b.if-eq.ensures) t)
+    ] in
+    takes_full _ c.args.left c.keys.at _ _ _ _ _ c.keys.invariant v.result v.ensures key some
+    c.put_from.new.spans _ _ _ _ c.word_number.ensures c.is_edited.ensures c.put_from.result
+    c.put_from.ensures c.in-Full.is
+
+pub keys-preserved : goal.keys-preserved
+keys-preserved c =
+    let v = c.read_value-value in
+    let key = sym c.is_key_of.ensures ∙ c.keys-test.true in
+    let some : c.args.role ≡ Field → c.read_value-value.result.count ≢ 0 = λ t. elim c.else-eq.branch [
+      | else-eq-via-then-eq+else-value-eq0 b ↦ b.if-value-eq0.false
+      | else-eq-via-else-eq b ↦ absurd (same_false the_type _ _ (sym b.if-eq.ensures) t)
+    ] in
+    takes_more _ c.args.left c.keys.at _ _ _ _ _ c.keys.invariant v.result v.ensures key some
+    c.put_from.new.spans _ _ _ _ c.word_number.ensures c.is_edited.ensures c.put_from.result
+    c.put_from.ensures c.in_default.not-Full c.in-Some.next c.in-Some.is
+
+pub returns-in-None : goal.returns-in-None
+returns-in-None c =
+    let v = c.read_value-value in
+    let key = sym c.is_key_of.ensures ∙ c.keys-test.true in
+    let some : c.args.role ≡ Field → c.read_value-value.result.count ≢ 0 = λ t. elim c.else-eq.branch [
+      | else-eq-via-then-eq+else-value-eq0 b ↦ b.if-value-eq0.false
+      | else-eq-via-else-eq b ↦ absurd (same_false the_type _ _ (sym b.if-eq.ensures) t)
+    ] in
+    takes_end _ c.args.left c.keys.at _ _ _ _ _ c.keys.invariant v.result v.ensures key some
+    c.put_from.new.spans _ _ _ _ c.word_number.ensures c.is_edited.ensures c.put_from.result
+    c.put_from.ensures c.in_default.not-Full c.in-None.is
+
+pub keys-smaller : goal.keys-smaller
+keys-smaller c =
+    let v = c.read_value-value in
+    field_less c.args.role c.args.left c.keys.at _ _ _ _ _ c.keys.invariant v.result v.ensures
+    c.in-Some.next c.in-Some.is
+
+pub returns : goal.returns
+returns c =
+    let w = c.keys.invariant in (
+      w.fields,
+      w.past,
+      sym c.is_key_of.ensures ∙ c.keys-test.false,
+      w.ends,
+      takes_past c.args.role c.args.left c.keys.at _ _ _ _ _ w,
+    )

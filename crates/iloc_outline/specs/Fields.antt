@@ -1,0 +1,30 @@
+-- What the values of a key are.
+use Rattle.std.specs.Prelude.{◌≡◌, ℕ, ◌-◌, Bool, false, List, ◌∷◌, ◌++◌, length, map, Option, Some, None}
+use Rattle.std.specs.List.{AllByRecursion, list_any}
+use Rattle.iloc_spec_grammar.specs.Syntax.{Text, Field, Attribute, is_word, IsWord, is_true, lower}
+use Rattle.iloc_outline.specs.Left.{IsPast, IsSpanned, piece_left, pieces_left, whole_text}
+use Rattle.iloc_outline.specs.Parts.{printed_part, field_part}
+use Rattle.iloc_outline.specs.Reading.{IsFieldOfRole}
+use Rattle.iloc_outline.specs.declared.fields.Value.{Value}
+use Rattle.iloc_outline.specs.declared.left.Left.{Left}
+use Rattle.iloc_outline.specs.declared.span.Role.{Role}
+
+-- after a key its values were passed, and a piece that is none is left, or nothing
+abbrev pub IsAfterValues : Left → List Text → Option Left → Type 0
+IsAfterValues key vs None = pieces_left key ≡ piece_left key ∷ vs
+IsAfterValues key vs (Some m) = IsPast key m (piece_left key ∷ vs) × (is_word Attribute (piece_left m) ≡ false)
+
+-- the values after a key
+pub record IsValueRead (key : Left) (v : Value) : Type 0 where
+  pub values : List Text
+  pub each : AllByRecursion (IsWord Attribute) values
+  pub next : IsAfterValues key values v.next
+  pub count : v.count ≡ length values
+  pub trues : v.has_true ≡ list_any (λ w. is_true (lower w)) values
+  pub end : (start : ℕ) (qs : List Text) → IsSpanned (whole_text key) start (key.at - 1) qs
+      → IsSpanned (whole_text key) start v.end (qs ++ (piece_left key ∷ values))
+
+-- so many values, of which one is `true` if so, are printed as they are
+abbrev pub PrintsAsItIs : Role → ℕ → Bool → Type 0
+PrintsAsItIs r n t = (f : Field) → IsFieldOfRole r f → n ≡ length f.1 → t ≡ list_any (λ w. is_true (lower w)) f.1
+    → printed_part (field_part r f) ≡ map lower (f.0 ∷ f.1)

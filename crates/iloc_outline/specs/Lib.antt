@@ -1,0 +1,13 @@
+pub mod Marks
+pub mod Shape
+pub mod Left
+pub mod Parts
+pub mod Spans
+pub mod Inserting
+pub mod Groups
+pub mod Reading
+pub mod Fields
+pub mod Identifier
+pub mod Blocks
+pub mod Outlines
+pub mod Printing

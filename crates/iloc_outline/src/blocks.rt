@@ -1,0 +1,108 @@
+//! Reads the blocks of a locale.
+ghost use Rattle.std.specs.Prelude.{◌≡◌, ◌<◌, ◌+◌, ◌-◌, ◌^◌, ℕ, [], ◌∷◌, true};
+ghost use Rattle.std.specs.Char.{is_ascii_alphanumeric, to_ascii_lowercase};
+ghost use Rattle.iloc_spec_grammar.specs.Syntax.{is_one_byte};
+ghost use Rattle.iloc_outline.specs.Blocks.{AreBegun, AreBlocksRead, IsBlockRead};
+ghost use Rattle.iloc_outline.specs.Left.{IsRemainder, IsLater, IsSpanned, piece_left, whole_text};
+ghost use Rattle.iloc_outline.specs.Parts.{rank};
+
+use crate::left::{Left, is_alphanumeric, is_last, next, singleton};
+use crate::other::{read_other, read_private};
+use crate::reading::Reading;
+use crate::sorting::{has_block, place_block};
+use crate::spans::Spans;
+use crate::transform::read_transform;
+use crate::unicode::read_unicode;
+use iloc_subtags::ParseError;
+
+/// What the blocks of a text are.
+#[derive(Drop)]
+pub enum Blocks {
+    /// Good, and in their order.
+    Good,
+    /// The first bad one is refused so.
+    Refused(ParseError),
+    /// More than there is room for.
+    Full,
+}
+
+// Its place among the blocks: that of `x` comes last.
+#[inline(always)]
+fn rank_of(byte: u8) -> u64
+    ensures { result ≡ rank byte }
+{
+    if byte == b'x' { 255 } else { byte as u64 }
+}
+
+// What follows the singleton, whose byte in lower case is given.
+#[inline(always)]
+fn read_body<'a>(
+    byte: u8,
+    start: usize,
+    left: Left<'a>,
+    spans: &mut Spans,
+    in_order: &mut bool,
+) -> Reading<'a>
+    requires left { IsRemainder left }
+    requires later { IsLater left }
+    requires few { left.at + left.len < 2 ^ 16 }
+    requires before { start < left.at }
+    requires letter { is_ascii_alphanumeric byte ≡ true }
+    ensures { (c : ℕ) → to_ascii_lowercase c ≡ byte
+        → IsSpanned (whole_text left.entry) start (left.entry.at - 1) ((c ∷ []) ∷ [])
+        → IsBlockRead c left.entry spans.old spans.new in_order.old in_order.new result }
+{
+    match byte {
+        b'u' => read_unicode(start, left, spans, in_order),
+        b't' => read_transform(start, left, spans, in_order),
+        b'x' => read_private(start, left, spans),
+        _ => read_other(byte, start, left, spans, in_order),
+    }
+}
+
+/// Reads the blocks from a singleton on, and puts them in the order of their singletons.
+#[inline(always)]
+pub fn read_blocks(left: Left<'_>, spans: &mut Spans, in_order: &mut bool) -> Blocks
+    requires left { IsRemainder left }
+    requires later { IsLater left }
+    requires few { left.at + left.len < 2 ^ 16 }
+    requires single { is_one_byte (piece_left left) ≡ true }
+    requires begun { AreBegun (whole_text left) spans.old }
+    ensures { AreBlocksRead left.entry spans.old spans.new in_order.old in_order.new result }
+{
+    let mut at = left;
+    let mut last = 0;
+    'singletons: loop {
+        if !is_alphanumeric(at) {
+            return Blocks::Refused(ParseError::InvalidExtension);
+        }
+        let byte = singleton(at);
+        let rank = rank_of(byte);
+        if rank <= last {
+            if has_block(spans, rank) {
+                return Blocks::Refused(ParseError::DuplicatedExtension);
+            }
+            *in_order = false;
+        }
+        if is_last(at) {
+            return Blocks::Refused(ParseError::InvalidExtension);
+        }
+        let from = spans.count;
+        let reading = read_body(byte, at.at - 1, next(at), spans, in_order);
+        match reading {
+            Reading::Bad => return Blocks::Refused(ParseError::InvalidExtension),
+            Reading::Repeated => return Blocks::Refused(ParseError::InvalidSubtag),
+            Reading::Full => return Blocks::Full,
+            Reading::End | Reading::Next(_) => (),
+        }
+        if rank < last {
+            place_block(spans, from, rank);
+        } else {
+            last = rank;
+        }
+        match reading {
+            Reading::Next(next) => at = next,
+            _ => return Blocks::Good,
+        }
+    }
+}

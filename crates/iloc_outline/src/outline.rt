@@ -1,0 +1,143 @@
+//! The outline of a text, as an identifier or as a locale.
+ghost use Rattle.std.specs.Prelude.{◌≡◌, ◌↔◌, ◌≤◌, ◌<◌, ◌+◌, ◌^◌, [], IsTrue, length, take};
+ghost use Rattle.iloc_outline.specs.Outlines.{AreHeadRead, BeginsWithLanguage, IsFinished, IsIdentifierOutlined, IsLocaleOutlined};
+
+use crate::blocks::{Blocks, read_blocks};
+use crate::identifier::read_front;
+use crate::left::{Left, is_language, is_single, left_in};
+use crate::reading::Reading;
+use crate::span::Role;
+use crate::spans::Spans;
+use crate::words::read_words;
+use iloc_subtags::ParseError;
+
+/// The first bytes of a text in lower case, but for the first letter of a script and a region of two letters. Spans follow.
+#[derive(Clone, Copy)]
+pub struct Outline {
+    /// How many bytes of the text come first.
+    pub front: usize,
+    /// Where the script begins; 0 if there is none.
+    pub script: usize,
+    /// Where a region of two letters begins; 0 if there is none.
+    pub region: usize,
+}
+
+/// What a text is.
+#[derive(Drop)]
+pub enum Outlined {
+    /// Its normal text is that of the outline, and then of the spans.
+    Normal(Outline),
+    /// It is refused.
+    Refused(ParseError),
+    /// It has more pieces than there is room for.
+    Full,
+}
+
+/// The identifier that comes first: language, script, region and variants.
+#[derive(Drop)]
+pub enum Head<'a> {
+    /// It is all of the text.
+    All(Outline),
+    /// A block follows.
+    Block(Outline, Left<'a>),
+    /// It is refused.
+    Refused(ParseError),
+    /// More variants than there is room for.
+    Full,
+}
+
+/// Whether the first `len` bytes begin with a language.
+#[inline(always)]
+pub fn begins_with_language(window: &[u8], len: usize) -> bool
+    requires { len ≤ length window.now }
+    ensures { IsTrue result ↔ BeginsWithLanguage (take len window.now) }
+{
+    is_language(left_in(window, len))
+}
+
+/// Reads the identifier at the beginning of a text. In `in_order` it says whether its variants are in order.
+#[inline(always)]
+pub fn read_head<'a>(
+    window: &'a [u8],
+    len: usize,
+    spans: &mut Spans,
+    in_order: &mut bool,
+) -> Head<'a>
+    requires inside { len ≤ length window.now }
+    requires few { len < 2 ^ 16 }
+    requires begins { BeginsWithLanguage (take len window.now) }
+    ensures { AreHeadRead (take len window.now) spans.new in_order.new result }
+{
+    spans.clear();
+    *in_order = true;
+    let front = read_front(left_in(window, len));
+    let outline = Outline {
+        front: front.end,
+        script: front.script,
+        region: front.region,
+    };
+    let Some(next) = front.next else {
+        return Head::All(outline);
+    };
+    match read_words(Role::Variant, next, spans, in_order) {
+        Reading::End => Head::All(outline),
+        Reading::Next(next) if is_single(next) => Head::Block(outline, next),
+        Reading::Full => Head::Full,
+        _ => Head::Refused(ParseError::InvalidSubtag),
+    }
+}
+
+/// The outline of a text that is in order up to `end`: so much comes first, and no span follows. Of another text, as it is.
+#[inline(always)]
+pub fn finished(outline: Outline, end: usize, spans: &mut Spans, in_order: bool) -> Outline
+    ensures { IsFinished outline end in_order spans.old spans.new result }
+{
+    if !in_order {
+        return outline;
+    }
+    spans.clear();
+    Outline {
+        front: end,
+        script: outline.script,
+        region: outline.region,
+    }
+}
+
+/// The outline of the first `len` bytes as an identifier.
+#[inline(always)]
+pub fn outline_identifier(window: &[u8], len: usize, spans: &mut Spans) -> Outlined
+    requires inside { len ≤ length window.now }
+    requires few { len < 2 ^ 16 }
+    requires begins { BeginsWithLanguage (take len window.now) }
+    ensures { IsIdentifierOutlined (take len window.now) spans.new result }
+{
+    let mut in_order = true;
+    match read_head(window, len, spans, &mut in_order) {
+        Head::All(outline) => Outlined::Normal(finished(outline, len, spans, in_order)),
+        Head::Block(_, _) => Outlined::Refused(ParseError::InvalidSubtag),
+        Head::Refused(error) => Outlined::Refused(error),
+        Head::Full => Outlined::Full,
+    }
+}
+
+/// The outline of the first `len` bytes as a locale.
+#[inline(always)]
+pub fn outline_locale(window: &[u8], len: usize, spans: &mut Spans) -> Outlined
+    requires inside { len ≤ length window.now }
+    requires few { len < 2 ^ 16 }
+    requires begins { BeginsWithLanguage (take len window.now) }
+    ensures { IsLocaleOutlined (take len window.now) spans.new result }
+{
+    let mut in_order = true;
+    let (outline, next) = match read_head(window, len, spans, &mut in_order) {
+        Head::All(outline) => return Outlined::Normal(finished(outline, len, spans, in_order)),
+        Head::Block(outline, next) => (outline, next),
+        Head::Refused(error) => return Outlined::Refused(error),
+        Head::Full => return Outlined::Full,
+    };
+    match read_blocks(next, spans, &mut in_order) {
+        Blocks::Good => Outlined::Normal(finished(outline, len, spans, in_order)),
+        Blocks::Refused(error) => Outlined::Refused(error),
+        Blocks::Full => Outlined::Full,
+    }
+}

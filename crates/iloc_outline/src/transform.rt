@@ -1,0 +1,89 @@
+//! Reads what follows the singleton `t`.
+ghost use Rattle.std.specs.Prelude.{◌≡◌, ◌-◌, ◌<◌, ◌+◌, ◌^◌, ℕ, [], ◌∷◌, false};
+ghost use Rattle.std.specs.Char.{to_ascii_lowercase};
+ghost use Rattle.iloc_spec_grammar.specs.Syntax.{Language, code_t, is_word, languages};
+ghost use Rattle.iloc_outline.specs.Left.{IsRemainder, IsLater, IsSpanned, piece_left, whole_text};
+ghost use Rattle.iloc_outline.specs.Reading.{IsBody, block_span};
+
+use crate::fields::read_fields;
+use crate::identifier::read_front;
+use crate::left::{Left, is_language, is_single};
+use crate::reading::Reading;
+use crate::span::{Role, Span};
+use crate::spans::Spans;
+use crate::words::read_words;
+
+// The span of the singleton from one hyphen up to another.
+#[inline(always)]
+fn singleton(start: usize, end: usize) -> Span
+    requires start { start < 2 ^ 16 }
+    requires end { end < 2 ^ 16 }
+    ensures { result ≡ block_span code_t start end false }
+{
+    Span {
+        word: b't' as u64,
+        start: start as u16,
+        end: end as u16,
+        role: Role::Singleton,
+        edited: false,
+    }
+}
+
+/// Reads an identifier and fields, one of both at least, up to the next block. The singleton begins at the hyphen at
+/// `start`.
+#[inline(always)]
+pub fn read_transform<'a>(
+    start: usize,
+    left: Left<'a>,
+    spans: &mut Spans,
+    in_order: &mut bool,
+) -> Reading<'a>
+    requires left { IsRemainder left }
+    requires later { IsLater left }
+    requires few { left.at + left.len < 2 ^ 16 }
+    requires before { start < left.at }
+    ensures { (c : ℕ) → to_ascii_lowercase c ≡ code_t
+        → IsSpanned (whole_text left.entry) start (left.entry.at - 1) ((c ∷ []) ∷ [])
+        → IsBody c left.entry spans.old spans.new in_order.old in_order.new result }
+{
+    if !is_language(left) {
+        return read_fields_alone(start, left, spans, in_order);
+    }
+    let front = read_front(left);
+    if !spans.put(singleton(start, front.end)) {
+        return Reading::Full;
+    }
+    let Some(next) = front.next else {
+        return Reading::End;
+    };
+    match read_words(Role::Variant, next, spans, in_order) {
+        Reading::Next(next) => read_fields(Role::Field, next, spans, in_order).at_block(),
+        reading => reading,
+    }
+}
+
+// Reads fields, one at least.
+#[inline(always)]
+fn read_fields_alone<'a>(
+    start: usize,
+    left: Left<'a>,
+    spans: &mut Spans,
+    in_order: &mut bool,
+) -> Reading<'a>
+    requires left { IsRemainder left }
+    requires later { IsLater left }
+    requires few { left.at + left.len < 2 ^ 16 }
+    requires before { start < left.at }
+    requires alone { is_word (Language languages) (piece_left left) ≡ false }
+    ensures { (c : ℕ) → to_ascii_lowercase c ≡ code_t
+        → IsSpanned (whole_text left.entry) start (left.entry.at - 1) ((c ∷ []) ∷ [])
+        → IsBody c left.entry spans.old spans.new in_order.old in_order.new result }
+{
+    if is_single(left) {
+        return Reading::Bad;
+    }
+    if !spans.put(singleton(start, left.at - 1)) {
+        return Reading::Full;
+    }
+    read_fields(Role::Field, left, spans, in_order).at_block()
+}

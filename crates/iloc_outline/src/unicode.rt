@@ -1,0 +1,49 @@
+//! Reads what follows the singleton `u`.
+ghost use Rattle.std.specs.Prelude.{◌≡◌, ◌-◌, ◌<◌, ◌+◌, ◌^◌, ℕ, [], ◌∷◌};
+ghost use Rattle.std.specs.Char.{to_ascii_lowercase};
+ghost use Rattle.iloc_spec_grammar.specs.Syntax.{code_u};
+ghost use Rattle.iloc_outline.specs.Left.{IsRemainder, IsLater, IsSpanned, whole_text};
+ghost use Rattle.iloc_outline.specs.Reading.{IsBody};
+
+use crate::fields::read_fields;
+use crate::left::{Left, is_single};
+use crate::reading::Reading;
+use crate::span::{Role, Span};
+use crate::spans::Spans;
+use crate::words::read_words;
+
+/// Reads attributes and keywords, one at least, up to the next block. The singleton begins at the hyphen at `start`.
+#[inline(always)]
+pub fn read_unicode<'a>(
+    start: usize,
+    left: Left<'a>,
+    spans: &mut Spans,
+    in_order: &mut bool,
+) -> Reading<'a>
+    requires left { IsRemainder left }
+    requires later { IsLater left }
+    requires few { left.at + left.len < 2 ^ 16 }
+    requires before { start < left.at }
+    ensures { (c : ℕ) → to_ascii_lowercase c ≡ code_u
+        → IsSpanned (whole_text left.entry) start (left.entry.at - 1) ((c ∷ []) ∷ [])
+        → IsBody c left.entry spans.old spans.new in_order.old in_order.new result }
+{
+    if is_single(left) {
+        return Reading::Bad;
+    }
+    let singleton = Span {
+        word: b'u' as u64,
+        start: start as u16,
+        end: (left.at - 1) as u16,
+        role: Role::Singleton,
+        edited: false,
+    };
+    if !spans.put(singleton) {
+        return Reading::Full;
+    }
+    let reading = match read_words(Role::Attribute, left, spans, in_order) {
+        Reading::Next(next) => read_fields(Role::Keyword, next, spans, in_order),
+        reading => reading,
+    };
+    reading.at_block()
+}
